@@ -1,0 +1,10 @@
+pub mod Values
+pub mod Types
+pub mod FlatOrder
+pub mod Outcome
+pub mod Walk
+pub mod Assignments
+pub mod Allowed
+pub mod Sound
+pub mod Conflicts
+pub mod formers
