@@ -4,11 +4,12 @@ ghost use Rattle.std.specs.Io.{WritesAtMost};
 ghost use Rattle.std.specs.Io.KnownBytes.{WriteAppends, Appends};
 ghost use Rattle.smv_io.specs.Causes.{Rose};
 ghost use Rattle.smv_io.specs.Transfers.{TookFront};
+ghost use Rattle.smv_io.specs.declared.sink.WriteError.TheVariants.{WriteFault};
 
 use crate::source::Failed;
 use thiserror::Error;
 
-/// Why not all bytes were written.
+/// Why not all bytes were written: the sink failed.
 #[derive(Clone, Copy, Debug, PartialEq, Eq, Error)]
 pub enum WriteError {
     #[error("the sink failed")]
@@ -16,11 +17,14 @@ pub enum WriteError {
 }
 
 impl From<Failed> for WriteError {
+    ghost from_gives = { λ _ e. e ≡ WriteFault };
+
     fn from(_: Failed) -> Self {
         WriteError::WriteFault
     }
 }
 
+/// Where bytes go, a piece at a time. It counts its faults.
 pub trait Sink {
     /// The bytes that the sink took, where it tells them.
     ghost taken: { Self → Option (List ℕ) };
@@ -28,7 +32,9 @@ pub trait Sink {
     /// How often the sink has failed, a number that stays at 2 ^ 64 - 1.
     ghost faults: { Self → ℕ };
 
-    /// Takes a front of the piece, and at least one byte of a piece that is not empty.
+    /// Takes a front of the piece, at least one byte of a piece that is not empty, and says how many bytes.
+    ///
+    /// It fails only where its count of faults rises or stands at its last value, and then takes nothing.
     fn write(&mut self, piece: &[u8]) -> Result<usize, Failed>
         ensures bound { WritesAtMost result piece.now }
         ensures some { IfOk result (λ count. 0 < length piece.now → 0 < count) }
@@ -37,7 +43,7 @@ pub trait Sink {
         ensures cause { OnErr result (Rose (faults self.old) (faults self.new)) };
 }
 
-/// Writes the whole piece, or a front of it where the sink failed.
+/// Writes the whole piece. Where the sink fails it took a front of the piece, and not all of it.
 pub fn write_all<K: Sink>(sink: &mut K, piece: &[u8]) -> Result<(), WriteError>
     ensures all { OnOk result (Appends (K.taken sink.old) (K.taken sink.new) piece.now) }
     ensures nothing { length piece.now ≡ 0 → IsOk result }

@@ -9,11 +9,11 @@ ghost use Rattle.smv_io.specs.declared.source.ReadError.TheVariants.{ReadFault, 
 use std::alloc::{AllocError, Global};
 use thiserror::Error;
 
-/// A call of a source or a sink that moved no byte.
+/// A call of a source or a sink that failed and moved no byte.
 #[derive(Clone, Copy, Debug, PartialEq, Eq)]
 pub struct Failed;
 
-/// Why not all bytes were read.
+/// Why not all bytes were read: the source failed, more than the limit came, or no memory was left for them.
 #[derive(Clone, Copy, Debug, PartialEq, Eq, Error)]
 pub enum ReadError {
     #[error("the source failed")]
@@ -40,6 +40,7 @@ impl From<AllocError> for ReadError {
     }
 }
 
+/// Where bytes come from, a call at a time. It counts its faults.
 pub trait Source {
     /// The bytes that are left, where the source tells them.
     ghost left: { Self → Option (List ℕ) };
@@ -50,7 +51,9 @@ pub trait Source {
     /// A number that a call raises by at most one.
     ghost calls: { Self → ℕ };
 
-    /// Gives the next bytes. It gives none into a buffer that is not empty only at the end.
+    /// Writes the next bytes to the front of `into`, and says how many. It gives none to a buffer that is not empty only at the end.
+    ///
+    /// It fails only where its count of faults rises or stands at its last value, and then keeps its bytes.
     fn read(&mut self, into: &mut [u8]) -> Result<usize, Failed>
         ensures bound { ReadsAtMost result into.new }
         ensures bytes { ReadConsumes (left self.old) (left self.new) result into.new }
@@ -59,9 +62,13 @@ pub trait Source {
         ensures call { calls self.new ≤ calls self.old + 1 };
 }
 
+// How many bytes one call asks for.
 const CHUNK: usize = 4096;
 
-/// Reads up to the end.
+/// Reads all bytes up to the end, at most `limit` of them, in at most `limit + 2` calls of the source.
+///
+/// An error is the source's fault, more than `limit` bytes, or want of memory. After a fault or want of memory at most `limit` bytes are
+/// gone from the source.
 pub fn read_all<S: Source>(
     alloc: Global,
     source: &mut S,
