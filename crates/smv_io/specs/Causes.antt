@@ -1,5 +1,5 @@
 -- Why a call answers a fault: the object's own count of faults has risen.
-use Rattle.std.specs.Prelude.{ℕ, ◌+◌, ◌-◌, ◌^◌, ◌≤◌, min, Result, MatchResult, Ok, Err}
+use Rattle.std.specs.Prelude.{ℕ, ◌+◌, ◌-◌, ◌^◌, ◌≤◌, min, Result, Ok, Err}
 
 -- the count after one more: a count stays at its last value, 2 ^ 64 - 1
 abbrev pub next_count : ℕ → ℕ

@@ -89,7 +89,7 @@ pub fn read_all<S: Source>(
     ensures later { S.faults source.old ≤ S.faults source.new }
     ensures cause { IsErrOf result ReadError.ReadFault → Rose (S.faults source.old) (S.faults source.new) }
 
-    // Each turn takes a byte.
+    // Each call but the last gives a byte.
     ensures turns { S.calls source.new ≤ S.calls source.old + limit + 2 }
 {
     let mut bytes = Vec::new(alloc);
