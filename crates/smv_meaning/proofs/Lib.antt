@@ -1,5 +1,6 @@
 pub mod AtMostOne
 mod Built
+mod ByTest
 pub mod ConflictLaws
 pub mod Exchanged
 pub mod NeverEmpty
@@ -7,4 +8,6 @@ pub mod Symmetry
 mod WorkedConflicts
 mod WorkedDesigns
 mod WorkedExpressions
+mod WorkedRuns
 mod WorkedSound
+mod WorkedStatements

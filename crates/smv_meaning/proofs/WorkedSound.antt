@@ -1,4 +1,4 @@
--- Two designs: the claim of the first holds in every run, that of the second does not.
+-- One machine and two claims: the first holds in every run of it, the second does not.
 use Rattle.std.proofs.Common.{◌≡◌, List, [], ◌∷◌, refl, Some, None, Option, false, All, Contains, arith}
 use Rattle.std.proofs.lemmas.List.Elements.{All-nil, All-cons, All-head, All-tail, All-contains}
 use Rattle.smv_core.specs.Values.{Value, number, Sizes, range, not_of, disjunction, truth, bit, values_of}
@@ -47,6 +47,7 @@ module _ (sizes : Sizes) where
   along before [] all = tt
   along before (t ∷ ss) all = (here t (All-head (IsTyped (design_of always) sizes) t ss all), along (Some t) ss (All-tail (IsTyped (design_of always) sizes) t ss all))
 
+-- the claim `G (x | ~x)` holds in every run: x has a value of its type at each time
 always-sound : IsSound always
 unfolding computing
 always-sound sizes sized [] isrun = absurd isrun
@@ -79,6 +80,7 @@ in_one v = (0, omega arith, refl)
 of_x : (P : Family → List Value → Type 0) → P x_family [] → All (λ f. All (P f) (indexes_in ones f)) (x_family ∷ [])
 of_x P p = all_one (λ f. All (P f) (indexes_in ones f)) x_family (all_one (P x_family) [] p)
 
+-- x is 0 and then 1: a run
 once-run : IsRun (design_of once) ones (at_0 ∷ at_1 ∷ [])
 unfolding computing
 once-run = (
@@ -96,6 +98,7 @@ once-run = (
 zero≢one : Some (number 0) ≡ Some (number 1) → ⊥
 zero≢one h = cc
 
+-- in it `G ~x` fails at time 1
 once-unsound : IsSound once → ⊥
 unfolding computing
 once-unsound sound =
