@@ -130,7 +130,7 @@ pub enum FlatMember {
 }
 
 /// A type of one value: a range of numbers, an enumeration by its place among the enumerations, or a set type by its place among the set types.
-#[derive(Clone, Copy, Debug, PartialEq, Eq)]
+#[derive(Clone, Copy, PartialEq, Eq)]
 pub enum Simple {
     Range { low: u8, high: u8 },
     Enum { list: u16 },
@@ -314,7 +314,7 @@ pub struct Cell {
 }
 
 /// What is to be proved: a refinement map, by the place of its definition in the design, or a claim by its place.
-#[derive(Clone, Copy, Debug, PartialEq, Eq)]
+#[derive(Clone, Copy)]
 pub enum Unit {
     Map { def: u16 },
     Claim { claim: u16 },
@@ -348,7 +348,7 @@ pub struct Choice {
 }
 
 /// The definition that is chosen for a family: that of a layer, or none, so that the family is free. An early use says nothing of the present time.
-#[derive(Clone, Copy, Debug, PartialEq, Eq)]
+#[derive(Clone, Copy)]
 pub struct Pick {
     pub family: u16,
     pub layer: Option<u16>,
@@ -356,7 +356,7 @@ pub struct Pick {
 }
 
 /// A claim that is assumed, by its place. An early use says nothing of the present time.
-#[derive(Clone, Copy, Debug, PartialEq, Eq)]
+#[derive(Clone, Copy)]
 pub struct Assumed {
     pub claim: u16,
     pub early: bool,
@@ -370,7 +370,7 @@ pub struct Keep {
 }
 
 /// Whether a use holds up to the present time, or up to the time before.
-#[derive(Clone, Copy, Debug, PartialEq, Eq)]
+#[derive(Clone, Copy)]
 pub enum Timing {
     Now,
     Before,
@@ -384,7 +384,7 @@ pub struct Timed {
 }
 
 /// What stands for a value in a case: a number, a named value of a set type, or the rest of a set type, which in an ordset is one of the gaps.
-#[derive(Clone, Copy, Debug, PartialEq, Eq)]
+#[derive(Clone, Copy, PartialEq, Eq)]
 pub enum Class {
     Number { value: u8 },
     Named { class: u8 },
