@@ -155,7 +155,7 @@ pub struct Family {
     pub at: u32,
 }
 
-/// The flattened text: its set types, enumerations and layers in the order in which they are first met, its families and its items in flat order.
+/// The flattened text: its set types, enumerations and layers, each at the place where it is first met, and its families and items in flat order.
 #[derive(Drop)]
 pub struct Raw {
     pub sets: Seq<SetInfo>,
@@ -175,7 +175,7 @@ pub enum FlatItem {
     Using { using: FlatUsing },
 }
 
-/// A statement of the flattened text. A `for` is the block of its bodies; a `switch` is a chain of `If`; a missing `else` is an empty block.
+/// A statement of the flattened text. Loops are written out as blocks, a `switch` as one `If` inside another, and what is missing as an empty block.
 #[derive(Drop)]
 pub enum FlatStmt {
     /// An assignment to an element of a family, by its indexes, at its first byte.
@@ -306,7 +306,7 @@ pub struct Design {
     pub uses: Seq<FlatUsing>,
 }
 
-/// A family with a value for each index over a range, for the order without zero-delay loops. An index over a set type has none.
+/// A family where indexes over ranges have values and indexes over set types have none, for the order without zero-delay loops.
 #[derive(Drop)]
 pub struct Cell {
     pub family: u16,
@@ -329,7 +329,7 @@ pub struct Guard {
     pub at: u32,
 }
 
-/// The end of a unit's chain of splits: the unit's place, the last split's name or else the unit's, the unit's parameters and then the new ones, and the guards.
+/// What is proved of a unit: its last split, or the unit itself where it has none. The unit's place, the name, the parameters of the unit and of its splits, and the guards.
 #[derive(Drop)]
 pub struct Leaf {
     pub unit: u16,

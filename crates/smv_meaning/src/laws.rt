@@ -26,7 +26,7 @@ pub fn allowed_is_never_empty()
     ensures { (d : Design) (sizes : Sizes) (layer : Option Name) (x : Element) (before : Option State) (now : State) → IsFilled (every_value d sizes x) → IsFilled (allowed d sizes layer x before now) }
 {}
 
-/// Where no assignments conflict and each left side has its `forall` variables, at most one value of a `forall` variable gives a result.
+/// Where no assignments conflict and each left side has its `forall` variables, no two values of a `forall` variable give an element a result.
 pub fn at_most_one_value_gives_a_result()
     ensures { (scene : Scene) (s : State) (kind : Kind) (x : Element) (every : List Value) (var : Word) (body : Stmt) (around : Around) (b : Bindings) → Agrees around b →
         HasNoConflict scene.instance body ((var.name, any) ∷ around) →
