@@ -312,6 +312,20 @@ set_types-each : base_allows set_types (record { path = dotted (y ∷ []); index
 unfolding computing
 set_types-each = refl
 
+-- f : array 0..1 of 0..2; forall (i in 0..1) next(f[i]) := f[i]; an unknown function
+abbrev unknown_function : Text
+unknown_function = module_main (declare f (Array (span 0 1) (span 0 2)) ∷ item.Forall (w i) (span 0 1) (act (next (at f (sig i)) (Signal (at f (sig i))))) 0 ∷ [])
+
+-- at time 0 its value at 1 is any
+unknown_function-first : base_allows unknown_function (element (f ∷ []) (1 ∷ [])) None (state []) ≡ numbers (0 ∷ 1 ∷ 2 ∷ [])
+unfolding computing
+unknown_function-first = refl
+
+-- and it stays so
+unknown_function-later : base_allows unknown_function (element (f ∷ []) (1 ∷ [])) (Some (state ((f ∷ [], 2) ∷ []))) (state []) ≡ numbers (2 ∷ [])
+unfolding computing
+unknown_function-later = refl
+
 -- abstract s : boolean; nothing defines it
 abbrev undefined_abstract : Text
 undefined_abstract = module_main (Declare Abstract (w s ∷ []) Boolean 0 ∷ [])
