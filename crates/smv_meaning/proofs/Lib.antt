@@ -8,6 +8,7 @@ pub mod Symmetry
 mod WorkedConflicts
 mod WorkedDesigns
 mod WorkedExpressions
+mod WorkedFlat
 mod WorkedRuns
 mod WorkedSound
 mod WorkedStatements
