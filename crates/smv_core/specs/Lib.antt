@@ -7,6 +7,7 @@ pub mod Assignments
 pub mod Allowed
 pub mod Sound
 pub mod Conflicts
+pub mod Flat
 pub mod First
 pub mod Verdict
 pub mod formers
