@@ -8,3 +8,8 @@ pub mod Allowed
 pub mod Sound
 pub mod Conflicts
 pub mod formers
+pub mod Signs
+pub mod Notation
+pub mod OpenIf
+pub mod Grammar
+pub mod Spelling
