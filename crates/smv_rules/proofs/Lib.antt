@@ -5,3 +5,5 @@ pub mod Opening
 pub mod Choice
 pub mod Ahead
 pub mod Many
+pub mod Marks
+pub mod Forms

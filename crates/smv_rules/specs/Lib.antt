@@ -1,2 +1,4 @@
 pub mod Parsing
 pub mod Lawful
+pub mod Marks
+pub mod Readers
