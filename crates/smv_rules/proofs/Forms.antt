@@ -4,11 +4,12 @@ use Rattle.smv_core.specs.declared.token.Token.{Token}
 use Rattle.smv_core.specs.declared.token.TokenKind.{TokenKind}
 use Rattle.smv_core.specs.declared.token.TokenKind.TheVariants.{Ident, Number, Sign, Reserved}
 use Rattle.smv_core.specs.declared.tree.Word.{Word}
-use Rattle.smv_core.specs.Notation.{Tokens, Rule, nothing, ◌>>=◌, ◌>>◌, ◌/◌, many, one, token, name, number, one_of, opener, same_kind, found, with_place, name_of, number_of}
+use Rattle.smv_core.specs.Signs.{comma}
+use Rattle.smv_core.specs.Notation.{Tokens, Rule, nothing, ◌>>=◌, ◌>>◌, ◌/◌, many, separated, one, token, name, number, one_of, opener, same_kind, found, with_place, name_of, number_of}
 use Rattle.smv_rules.specs.Parsing.{Parser, bind, pure, take, take_open, starts, fork, loop}
 use Rattle.smv_rules.specs.Lawful.{Levels, first, Law, Lawful}
 use Rattle.smv_rules.specs.Marks.{Mark, any_name, any_number, exactly, is_mark, has_mark, begins, stops_by}
-use Rattle.smv_rules.specs.Readers.{a_token, a_name, a_number, an_entry, maybe}
+use Rattle.smv_rules.specs.Readers.{a_token, a_name, a_number, an_entry, maybe, read_separated}
 use Rattle.smv_rules.proofs.Sequence.{followed}
 use Rattle.smv_rules.proofs.Tokens.{Sample, nothing-lawful, one-lawful, stopped}
 use Rattle.smv_rules.proofs.Opening.{opened-lawful}
@@ -225,3 +226,56 @@ alternative xs ys f g f-begins g-begins e =
 -- more tokens go on with it
 pub continued : {C A : Type 0} {F : Levels A} {n : ℕ} {p : Parser A} (ys zs : A → List Mark) → ((a : A) → covered (ys a) (zs a) ≡ true) → Lawful C F n p (stops_by ys) → Lawful C F n p (stops_by zs)
 continued ys zs within f = stopped (λ a t e. stops-more ys zs a a t (within a) e) f
+
+-- X | Y, where Y may be empty
+pub alternative-led : {C A : Type 0} {F G : Levels A} {n : ℕ} {p q : Parser A} (xs ys : List Mark) (zs : A → List Mark) → Lawful C F n p (stops_by zs) → Lawful C G n q (stops_by zs)
+    → Begins xs F → Leads ys G → apart ys xs ≡ true → ((a : A) → covered xs (zs a) ≡ true) → Lawful C (λ floor m. F floor m / G floor m) n (fork (begins xs) p q) (stops_by zs)
+alternative-led {A = A} {G = G} xs ys zs f g f-begins g-leads e inside = chosen (begins xs) f g f-begins.holds others
+  where
+    others : (floor : ℕ → ℕ) (m : ℕ) (ts : Tokens) (a : A) (rest : Tokens) → G floor m ts a rest → stops_by zs a (first rest) ≡ true → starts (begins xs) ts ≡ false
+    others floor m ts a rest h stop = go (g-leads.holds floor m ts a rest h)
+      where
+        go : (starts (begins ys) ts ≡ true) ⊎ (ts ≡ rest) → starts (begins xs) ts ≡ false
+        go (inl q) = starts-not ys xs ts e q
+        go (inr q) = rw q (stops-not zs a xs rest (inside a) stop)
+
+-- [ X ] as an Option
+pub optionally : {C A : Type 0} {F : Levels A} {n : ℕ} {p : Parser A} (xs : List Mark) (ys : A → List Mark) (zs : Option A → List Mark) → Lawful C F n p (stops_by ys) → Begins xs F
+    → covered xs (zs None) ≡ true → ((a : A) → covered (ys a) (zs (Some a)) ≡ true)
+    → Lawful C (λ floor m. (F floor m >>= λ a. nothing (Some a)) / nothing None) n (maybe xs (bind p (λ a. pure (Some a))) None) (stops_by zs)
+optionally {C = C} {A = A} {F = F} {n = n} {p = p} xs ys zs f starts-so inside within =
+    chosen (begins xs) some (nothing-lawful None) (begins-then starts-so).holds
+        (λ floor m ts a rest h stop. let e = h.0 in let q = h.1 in stops-not zs None xs ts inside (rw q (rw e stop)))
+  where
+    some : Lawful C (λ floor m. F floor m >>= λ a. nothing (Some a)) n (bind p (λ a. pure (Some a))) (stops_by zs)
+    some = followed f (λ a. nothing-lawful (Some a)) (λ floor m a b middle rest h stop.
+        let e = h.0 in let q = h.1 in stops-more ys (λ (i : A). zs (Some i)) a a (first middle) (within a) (rw q (let P : Option A → Type 0 = λ o. stops_by zs o (first rest) ≡ true in subst P (sym e) stop)))
+
+pub stops-alike : {A B : Type 0} (zs : List Mark) (a : A) (b : B) (t : Option Token) → stops_by (λ (b : B). zs) b t ≡ true → stops_by (λ (a : A). zs) a t ≡ true
+stops-alike zs a b None e = refl
+stops-alike zs a b (Some t) e = e
+
+-- X, of which a tree is made
+pub made : {C A B : Type 0} {F : Levels A} {n : ℕ} {p : Parser A} (zs : List Mark) (make : A → B) → Lawful C F n p (stops_by (λ a. zs))
+    → Lawful C (λ floor m. F floor m >>= λ a. nothing (make a)) n (bind p (λ a. pure (make a))) (stops_by (λ b. zs))
+made zs make f = followed f (λ a. nothing-lawful (make a)) (λ floor m a b middle rest h stop. let q = h.1 in rw q (stops-alike zs a b (first rest) stop))
+
+-- X { ',' X }
+pub separated-lawful : {C A : Type 0} {F : Levels A} {n : ℕ} {p : Parser A} (ys : A → List Mark) (zs : List Mark) → Lawful C F n p (stops_by ys)
+    → ((a : A) → apart (exactly comma ∷ []) (ys a) ≡ true) → covered (exactly comma ∷ []) zs ≡ true → ((a : A) → covered (ys a) zs ≡ true)
+    → Lawful C (λ floor m. separated (F floor m)) n (read_separated p) (stops_by (λ items. zs))
+separated-lawful ys zs f ap_art inside within =
+    next-led (exactly comma ∷ []) ys (λ items. zs) f
+        (λ x. made zs (λ more. x ∷ more) (repeated (exactly comma ∷ []) ys zs (next (token-lawful comma refl) (λ _. f)) (begins-then (token-begins comma)) ap_art inside within))
+        (λ x. leads-then (leads-many (begins-then (token-begins comma))) (λ more. leads-nothing (x ∷ more))) ap_art (λ a items. within a)
+
+-- X Y, where Y begins with the marks
+pub next-begun : {C A B : Type 0} {F : Levels A} {S : A → Levels B} {n : ℕ} {p : Parser A} {q : A → Parser B} {st : B → Option Token → Bool} (xs : List Mark) (ys : A → List Mark)
+    → Lawful C F n p (stops_by ys) → ((a : A) → Lawful C (S a) n (q a) st) → ((a : A) → Begins xs (S a)) → ((a : A) → apart xs (ys a) ≡ true)
+    → Lawful C (λ floor m. F floor m >>= λ a. S a floor m) n (bind p q) st
+next-begun xs ys f s begun ap_art = followed f s (λ floor m a b middle rest h stop. stops-starts ys a xs middle (ap_art a) ((begun a).holds floor m middle b rest h))
+
+-- X and then a token, of which a tree is made
+pub ended : {C A B : Type 0} {F : Levels A} {n : ℕ} {p : Parser A} {st : B → Option Token → Bool} (ys : List Mark) (k : TokenKind) (make : A → B) → same_kind k k ≡ true → apart (exactly k ∷ []) ys ≡ true
+    → Lawful C F n p (stops_by (λ a. ys)) → Lawful C (λ floor m. F floor m >>= λ a. token k >> nothing (make a)) n (bind p (λ a. bind (take (a_token k)) (λ _. pure (make a)))) st
+ended ys k make self ap_art f = next-begun (exactly k ∷ []) (λ a. ys) f (λ a. next (token-lawful k self) (λ _. nothing-lawful (make a))) (λ a. begins-then (token-begins k)) (λ a. ap_art)

@@ -7,3 +7,4 @@ pub mod Ahead
 pub mod Many
 pub mod Marks
 pub mod Forms
+pub mod Expressions

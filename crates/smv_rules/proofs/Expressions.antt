@@ -1,0 +1,251 @@
+-- The laws of expressions.
+use Rattle.std.proofs.Common.{◌≡◌, ◌-◌, ◌<◌, ◌≤◌, ◌+◌, ℕ, zero, suc, Bool, true, false, cond, List, [], ◌∷◌, ◌++◌, length, Option, Some, None, Ok, Err, ◌⊎◌, inl, inr, refl, sym, ◌∙◌, ap, subst, arith}
+use Rattle.std.specs.Str.{bytes_eq}
+use Rattle.smv_core.specs.declared.token.Token.{Token}
+use Rattle.smv_core.specs.declared.token.TokenKind.{TokenKind}
+use Rattle.smv_core.specs.declared.token.TokenKind.TheVariants.{Ident, Number, Sign, Reserved}
+use Rattle.smv_core.specs.declared.tree.Word.{Word}
+use Rattle.smv_core.specs.declared.tree.Span.{Span}
+use Rattle.smv_core.specs.declared.tree.Expr.{Expr}
+use Rattle.smv_core.specs.declared.tree.Expr.TheVariants as expr
+use Rattle.smv_core.specs.declared.tree.Signed.{Signed, roll-Signed}
+use Rattle.smv_core.specs.declared.tree.Member.{Member}
+use Rattle.smv_core.specs.declared.tree.Member.TheVariants as member
+use Rattle.smv_core.specs.declared.tree.Part.{Part}
+use Rattle.smv_core.specs.declared.tree.Part.TheVariants as part
+use Rattle.smv_core.specs.declared.tree.Path.{Path}
+use Rattle.smv_core.specs.declared.tree.Op.{Op}
+use Rattle.smv_core.specs.declared.tree.Op.TheVariants as op
+use Rattle.smv_core.specs.declared.tree.TypeExpr.{TypeExpr}
+use Rattle.smv_core.specs.declared.tree.TypeExpr.TheVariants as type
+use Rattle.smv_core.specs.Signs.{open_paren, close_paren, open_bracket, close_bracket, open_brace, close_brace, colon, semicolon, comma, dot, dots, becomes}
+use Rattle.smv_core.specs.Signs.{equal, differ, less, at_most, greater, at_least, plus, minus, tilde, ampersand, bar, arrow, double_arrow, question}
+use Rattle.smv_core.specs.Signs as w
+use Rattle.smv_core.specs.Notation.{Tokens, Rule, nothing, ◌>>=◌, ◌>>◌, ◌/◌, many, one, token, name, number, one_of, separated, same_name, same_kind}
+use Rattle.smv_core.specs.Grammar as g
+use Rattle.smv_core.specs.Grammar.{Rules, below, named, chain, sum_of}
+use Rattle.smv_rules.specs.Parsing.{Parser, bind, pure, take, take_open, starts, fork, fork2, loop}
+use Rattle.smv_rules.specs.Lawful.{Levels, first, Law, Lawful}
+use Rattle.smv_rules.specs.Marks.{Mark, any_name, any_number, exactly, begins, stops_by}
+use Rattle.smv_rules.specs.Readers.{a_token, a_name, a_number, an_entry, a_same_name, maybe, read_separated}
+use Rattle.smv_rules.specs.Expressions.{ExprReaders, reductions, additions, comparisons}
+use Rattle.smv_rules.specs.Expressions as p
+use Rattle.smv_rules.proofs.Tokens.{nothing-lawful, one-lawful, same-lawful}
+use Rattle.smv_rules.proofs.Sequence.{followed}
+use Rattle.smv_rules.proofs.Marks.{apart, covered, stops-starts}
+use Rattle.smv_rules.proofs.Forms.{Begins, Leads, begins-then, begins-either, begins-wider, leads-begins, leads-nothing, leads-many, leads-maybe, leads-either, leads-then, token-begins, opener-begins, token-lawful, level, name-begins, name-lawful, number-begins, number-lawful, marks_of, entry-begins, entry-lawful, closed, next, next-led, repeated, at-most-once, alternative, alternative-led, continued, optionally, made, separated-lawful, next-begun, ended}
+
+-- a production at each floor and number of levels
+abbrev pub At : {A : Type 0} → ((ℕ → ℕ) → ℕ → Rules → Rule A) → Levels A
+At rule floor m = rule floor m (below floor m)
+
+-- ---- what goes on with a value
+
+abbrev pub after_path : List Mark
+after_path = exactly dot ∷ exactly open_bracket ∷ []
+
+abbrev pub after_sum : List Mark
+after_sum = exactly plus ∷ exactly minus ∷ after_path
+
+abbrev pub after_modulo : List Mark
+after_modulo = exactly w.word_mod ∷ after_sum
+
+abbrev pub operators : List Mark
+operators = exactly equal ∷ exactly differ ∷ exactly less ∷ exactly at_most ∷ exactly greater ∷ exactly at_least ∷ []
+
+abbrev pub after_comparison : List Mark
+after_comparison = exactly equal ∷ exactly differ ∷ exactly less ∷ exactly at_most ∷ exactly greater ∷ exactly at_least ∷ exactly w.word_in ∷ after_modulo
+
+abbrev pub after_conjunction : List Mark
+after_conjunction = exactly ampersand ∷ after_comparison
+
+abbrev pub after_disjunction : List Mark
+after_disjunction = exactly bar ∷ after_conjunction
+
+abbrev pub after_implication : List Mark
+after_implication = exactly arrow ∷ after_disjunction
+
+abbrev pub after_equivalence : List Mark
+after_equivalence = exactly double_arrow ∷ after_implication
+
+abbrev pub after_expr : List Mark
+after_expr = exactly question ∷ after_equivalence
+
+-- a member is also no number before two dots
+abbrev pub after_member : List Mark
+after_member = exactly dots ∷ after_expr
+
+-- ---- what opens no level
+
+pub span-lawful : {C : Type 0} {n : ℕ} → Lawful C (λ floor m. g.span) n p.read_span (stops_by closed)
+unfolding p.read_span
+span-lawful = next number-lawful (λ low. next (token-lawful dots refl) (λ _. next number-lawful (λ high. nothing-lawful _)))
+
+pub span-begins : Begins (any_number ∷ []) (λ floor m. g.span)
+span-begins = begins-then number-begins
+
+pub index-lawful : {C : Type 0} {n : ℕ} → Lawful C (λ floor m. g.index) n p.read_index (stops_by closed)
+unfolding p.read_index
+index-lawful = alternative (exactly w.word_boolean ∷ []) (any_number ∷ any_name ∷ []) (next (token-lawful w.word_boolean refl) (λ _. nothing-lawful _))
+    (alternative (any_number ∷ []) (any_name ∷ []) (next span-lawful (λ s. nothing-lawful _)) (next name-lawful (λ x. nothing-lawful _)) (begins-then span-begins) (begins-then name-begins) refl)
+    (begins-then (token-begins w.word_boolean))
+    (begins-either (begins-wider (any_number ∷ []) _ refl (begins-then span-begins)) (begins-wider (any_name ∷ []) _ refl (begins-then name-begins))) refl
+
+-- the laws of what stands inside an opened level, where there is one
+pub record InnerLaws (n : ℕ) (inner : ExprReaders) : Type 0 where
+  pub expr : Lawful (0 < n) (At g.expr_rule) (n - 1) inner.expr (stops_by (λ x. after_expr))
+  pub negation : Lawful (0 < n) (At g.negation_rule) (n - 1) inner.negation (stops_by (λ x. after_comparison))
+  pub member : Lawful (0 < n) (At g.member_rule) (n - 1) inner.member (stops_by (λ x. after_member))
+
+-- ---- how expressions begin
+
+part-begins : Begins after_path (At g.part_rule)
+part-begins = begins-either (begins-wider (exactly dot ∷ []) _ refl (begins-then (token-begins dot))) (begins-wider (exactly open_bracket ∷ []) _ refl (begins-then (opener-begins open_bracket)))
+
+pub path-begins : Begins (any_name ∷ []) (At g.path_rule)
+path-begins = begins-then name-begins
+
+condition-begins : Begins (exactly open_paren ∷ []) (At g.condition_rule)
+condition-begins = begins-then (opener-begins open_paren)
+
+set-begins : Begins (exactly open_brace ∷ []) (At g.set)
+set-begins = begins-either (begins-then (opener-begins open_brace)) (begins-then (opener-begins open_brace))
+
+reduction-begins : Begins (exactly ampersand ∷ exactly bar ∷ []) (At g.reduction)
+reduction-begins = begins-then (entry-begins reductions)
+
+fourth-begins : Begins (exactly open_brace ∷ exactly ampersand ∷ exactly bar ∷ []) (λ floor m. At g.set floor m / At g.reduction floor m)
+fourth-begins = begins-either (begins-wider (exactly open_brace ∷ []) _ refl set-begins) (begins-wider (exactly ampersand ∷ exactly bar ∷ []) _ refl reduction-begins)
+
+third-begins : Begins (exactly open_paren ∷ exactly open_brace ∷ exactly ampersand ∷ exactly bar ∷ []) (λ floor m. At g.condition_rule floor m / At g.set floor m / At g.reduction floor m)
+third-begins = begins-either (begins-wider (exactly open_paren ∷ []) _ refl condition-begins) (begins-wider (exactly open_brace ∷ exactly ampersand ∷ exactly bar ∷ []) _ refl fourth-begins)
+
+second-begins : Begins (any_name ∷ exactly open_paren ∷ exactly open_brace ∷ exactly ampersand ∷ exactly bar ∷ [])
+    (λ floor m. (At g.path_rule floor m >>= λ p. nothing (expr.Signal p)) / At g.condition_rule floor m / At g.set floor m / At g.reduction floor m)
+second-begins = begins-either (begins-wider (any_name ∷ []) _ refl (begins-then path-begins)) (begins-wider (exactly open_paren ∷ exactly open_brace ∷ exactly ampersand ∷ exactly bar ∷ []) _ refl third-begins)
+
+abbrev pub prim_marks : List Mark
+prim_marks = any_number ∷ any_name ∷ exactly open_paren ∷ exactly open_brace ∷ exactly ampersand ∷ exactly bar ∷ []
+
+prim-begins : Begins prim_marks (At g.prim)
+prim-begins = begins-either (begins-wider (any_number ∷ []) _ refl (begins-then number-begins)) (begins-wider (any_name ∷ exactly open_paren ∷ exactly open_brace ∷ exactly ampersand ∷ exactly bar ∷ []) _ refl second-begins)
+
+signed-begins : Begins (exactly plus ∷ exactly minus ∷ []) (At g.signed)
+signed-begins = begins-then (entry-begins additions)
+
+pub sum-begins : Begins prim_marks (At g.sum)
+sum-begins = begins-then prim-begins
+
+comparison-begins : Begins prim_marks (At g.comparison)
+comparison-begins = begins-then (begins-then sum-begins)
+
+abbrev pub expr_marks : List Mark
+expr_marks = exactly tilde ∷ prim_marks
+
+negation-begins : Begins expr_marks (At g.negation_rule)
+negation-begins = begins-either (begins-wider (exactly tilde ∷ []) _ refl (begins-then (opener-begins tilde))) (begins-wider prim_marks _ refl comparison-begins)
+
+pub expr-begins : Begins expr_marks (At g.expr_rule)
+expr-begins = begins-then (begins-then (begins-then (begins-then (begins-then negation-begins))))
+
+module _ (C : Type 0) (n : ℕ) (inner : ExprReaders) (law : InnerLaws n inner) where
+  part-lawful : Lawful C (At g.part_rule) n (p.read_part n inner) (stops_by closed)
+  unfolding p.read_part
+  part-lawful = alternative (exactly dot ∷ []) (exactly open_bracket ∷ []) (next (token-lawful dot refl) (λ _. next name-lawful (λ x. nothing-lawful _)))
+      (level open_bracket refl (λ _. ended after_expr close_bracket part.At refl refl law.expr)) (begins-then (token-begins dot)) (begins-then (opener-begins open_bracket)) refl
+
+  pub path-lawful : Lawful C (At g.path_rule) n (p.read_path n inner) (stops_by (λ x. after_path))
+  unfolding p.read_path
+  path-lawful = next name-lawful (λ x. made after_path (named x) (repeated after_path closed after_path part-lawful part-begins (λ a. refl) refl (λ a. refl)))
+
+  pub condition-lawful : Lawful C (At g.condition_rule) n (p.read_condition n inner) (stops_by closed)
+  unfolding p.read_condition
+  condition-lawful = level open_paren refl (λ _. ended after_expr close_paren (λ x. x) refl refl law.expr)
+
+  reduction-lawful : Lawful C (At g.reduction) n (p.read_reduction n inner) (stops_by closed)
+  unfolding p.read_reduction
+  reduction-lawful = next (entry-lawful ampersand expr.All ((bar, expr.Any) ∷ []) refl) (λ make. level open_bracket refl (λ _.
+      next-begun (exactly colon ∷ []) (λ x. after_expr) law.expr
+          (λ x. next (token-lawful colon refl) (λ _. next name-lawful (λ v. next (token-lawful w.word_in refl) (λ _. next index-lawful (λ over. next (token-lawful close_bracket refl) (λ _. nothing-lawful _))))))
+          (λ x. begins-then (token-begins colon)) (λ x. refl)))
+
+  set-lawful : Lawful C (At g.set) n (p.read_set n inner) (stops_by closed)
+  set-lawful = ?
+
+  prim-lawful : Lawful C (At g.prim) n (p.read_prim n inner) (stops_by (λ x. after_path))
+  unfolding p.read_prim
+  prim-lawful = alternative (any_number ∷ []) (any_name ∷ exactly open_paren ∷ exactly open_brace ∷ exactly ampersand ∷ exactly bar ∷ []) (next number-lawful (λ k. nothing-lawful _))
+      (alternative (any_name ∷ []) (exactly open_paren ∷ exactly open_brace ∷ exactly ampersand ∷ exactly bar ∷ []) (made after_path expr.Signal path-lawful)
+      (alternative (exactly open_paren ∷ []) (exactly open_brace ∷ exactly ampersand ∷ exactly bar ∷ []) (continued closed (λ x. after_path) (λ x. refl) condition-lawful)
+      (alternative (exactly open_brace ∷ []) (exactly ampersand ∷ exactly bar ∷ []) (continued closed (λ x. after_path) (λ x. refl) set-lawful) (continued closed (λ x. after_path) (λ x. refl) reduction-lawful)
+          set-begins reduction-begins refl) condition-begins fourth-begins refl)
+          (begins-then path-begins) third-begins refl) (begins-then number-begins) second-begins refl
+
+  signed-lawful : Lawful C (At g.signed) n (p.read_signed n inner) (stops_by (λ x. after_path))
+  unfolding p.read_signed
+  signed-lawful = next (entry-lawful plus false ((minus, true) ∷ []) refl) (λ sign. made after_path _ prim-lawful)
+
+  pub sum-lawful : Lawful C (At g.sum) n (p.read_sum n inner) (stops_by (λ x. after_sum))
+  unfolding p.read_sum
+  sum-lawful = next-led (exactly plus ∷ exactly minus ∷ []) (λ x. after_path) (λ x. after_sum) prim-lawful
+      (λ x. made after_sum (sum_of x) (repeated (exactly plus ∷ exactly minus ∷ []) (λ x. after_path) after_sum signed-lawful signed-begins (λ a. refl) refl (λ a. refl)))
+      (λ x. leads-then (leads-many signed-begins) (λ more. leads-nothing _)) (λ x. refl) (λ x b. refl)
+
+  modulo-lawful : Lawful C (At g.modulo) n (p.read_modulo n inner) (stops_by (λ x. after_modulo))
+  unfolding p.read_modulo
+  modulo-lawful = next-led (exactly w.word_mod ∷ []) (λ x. after_sum) (λ x. after_modulo) sum-lawful
+      (λ x. at-most-once (exactly w.word_mod ∷ []) closed (λ x. after_modulo) x (next (token-lawful w.word_mod refl) (λ _. next number-lawful (λ k. nothing-lawful _)))
+          (begins-then (token-begins w.word_mod)) refl (λ a. refl))
+      (λ x. leads-maybe x (begins-then (token-begins w.word_mod))) (λ x. refl) (λ x b. refl)
+
+  comparison-lawful : Lawful C (At g.comparison) n (p.read_comparison n inner) (stops_by (λ x. after_comparison))
+  unfolding p.read_comparison
+  comparison-lawful = next-led (exactly w.word_in ∷ operators) (λ x. after_modulo) (λ x. after_comparison) modulo-lawful
+      (λ x. alternative-led operators (exactly w.word_in ∷ []) (λ x. after_comparison)
+          (next (entry-lawful equal op.Equal ((differ, op.Differ) ∷ (less, op.Less) ∷ (at_most, op.AtMost) ∷ (greater, op.Greater) ∷ (at_least, op.AtLeast) ∷ []) refl) (λ o. continued (λ x. after_modulo) (λ x. after_comparison) (λ x. refl) (made after_modulo (expr.Compare o.0 x) modulo-lawful)))
+          (at-most-once (exactly w.word_in ∷ []) closed (λ x. after_comparison) x (next (token-lawful w.word_in refl) (λ _. made [] (expr.Within x) set-lawful)) (begins-then (token-begins w.word_in)) refl (λ a. refl))
+          (begins-then (entry-begins comparisons)) (leads-maybe x (begins-then (token-begins w.word_in))) refl (λ x. refl))
+      (λ x. leads-either (leads-begins (begins-wider operators _ refl (begins-then (entry-begins comparisons)))) (leads-maybe x (begins-wider (exactly w.word_in ∷ []) _ refl (begins-then (token-begins w.word_in)))))
+      (λ x. refl) (λ x b. refl)
+
+  pub negation-lawful : Lawful C (At g.negation_rule) n (p.read_negation n inner) (stops_by (λ x. after_comparison))
+  unfolding p.read_negation
+  negation-lawful = alternative (exactly tilde ∷ []) prim_marks (level tilde refl (λ at. made after_comparison (λ x. expr.Not x at) law.negation)) comparison-lawful
+      (begins-then (opener-begins tilde)) comparison-begins refl
+
+  -- X { sign X }
+  chained-lawful : {F : Levels Expr} {q : Parser Expr} (k : TokenKind) (make : List Expr → Expr) (ys : List Mark) → same_kind k k ≡ true → apart (exactly k ∷ []) ys ≡ true
+      → covered (exactly k ∷ []) (exactly k ∷ ys) ≡ true → covered ys (exactly k ∷ ys) ≡ true → Lawful C F n q (stops_by (λ x. ys))
+      → Lawful C (λ floor m. F floor m >>= λ x. many (token k >> F floor m) >>= λ more. nothing (chain make x more)) n (p.read_chained n inner k make q) (stops_by (λ x. exactly k ∷ ys))
+  chained-lawful k make ys self ap_art inside within f =
+      next-led (exactly k ∷ []) (λ x. ys) (λ x. exactly k ∷ ys) f
+          (λ x. made (exactly k ∷ ys) (chain make x) (repeated (exactly k ∷ []) (λ x. ys) (exactly k ∷ ys) (next (token-lawful k self) (λ _. f)) (begins-then (token-begins k)) (λ a. ap_art) inside (λ a. within)))
+          (λ x. leads-then (leads-many (begins-then (token-begins k))) (λ more. leads-nothing _)) (λ x. ap_art) (λ x b. within)
+
+  conjunction-lawful : Lawful C (At g.conjunction) n (p.read_conjunction n inner) (stops_by (λ x. after_conjunction))
+  unfolding p.read_conjunction
+  conjunction-lawful = chained-lawful ampersand expr.And after_comparison refl refl refl refl negation-lawful
+
+  disjunction-lawful : Lawful C (At g.disjunction) n (p.read_disjunction n inner) (stops_by (λ x. after_disjunction))
+  unfolding p.read_disjunction
+  disjunction-lawful = chained-lawful bar expr.Or after_conjunction refl refl refl refl conjunction-lawful
+
+  implication-lawful : Lawful C (At g.implication) n (p.read_implication n inner) (stops_by (λ x. after_implication))
+  unfolding p.read_implication
+  implication-lawful = chained-lawful arrow expr.Implies after_disjunction refl refl refl refl disjunction-lawful
+
+  equivalence-lawful : Lawful C (At g.equivalence) n (p.read_equivalence n inner) (stops_by (λ x. after_equivalence))
+  unfolding p.read_equivalence
+  equivalence-lawful = next-led (exactly double_arrow ∷ []) (λ x. after_implication) (λ x. after_equivalence) implication-lawful
+      (λ x. at-most-once (exactly double_arrow ∷ []) (λ x. after_implication) (λ x. after_equivalence) x
+          (next (token-lawful double_arrow refl) (λ _. made after_implication (expr.Iff x) implication-lawful)) (begins-then (token-begins double_arrow)) refl (λ a. refl))
+      (λ x. leads-maybe x (begins-then (token-begins double_arrow))) (λ x. refl) (λ x b. refl)
+
+  pub expr-lawful : Lawful C (At g.expr_rule) n (p.read_expr n inner) (stops_by (λ x. after_expr))
+  unfolding p.read_expr
+  expr-lawful = next-led (exactly question ∷ []) (λ x. after_equivalence) (λ x. after_expr) equivalence-lawful
+      (λ c. at-most-once (exactly question ∷ []) (λ x. after_expr) (λ x. after_expr) c
+          (level question refl (λ _. next-begun (exactly colon ∷ []) (λ x. after_expr) law.expr (λ x. next (token-lawful colon refl) (λ _. made after_expr (expr.Choose c x) law.expr))
+              (λ x. begins-then (token-begins colon)) (λ x. refl)))
+          (begins-then (opener-begins question)) refl (λ a. refl))
+      (λ c. leads-maybe c (begins-then (opener-begins question))) (λ x. refl) (λ x b. refl)
