@@ -21,19 +21,22 @@ use Rattle.smv_core.specs.declared.tree.TypeExpr.TheVariants as type
 use Rattle.smv_core.specs.Signs.{open_paren, close_paren, open_bracket, close_bracket, open_brace, close_brace, colon, semicolon, comma, dot, dots, becomes}
 use Rattle.smv_core.specs.Signs.{equal, differ, less, at_most, greater, at_least, plus, minus, tilde, ampersand, bar, arrow, double_arrow, question}
 use Rattle.smv_core.specs.Signs as w
-use Rattle.smv_core.specs.Notation.{Tokens, Rule, nothing, ◌>>=◌, ◌>>◌, ◌/◌, many, one, token, name, number, one_of, separated, same_name, same_kind}
+use Rattle.smv_core.specs.Notation.{Tokens, Rule, nothing, ◌>>=◌, ◌>>◌, ◌/◌, many, one, token, name, number, one_of, opener, optional, separated, same_name, same_kind, name_of, number_of, with_place}
 use Rattle.smv_core.specs.Grammar as g
 use Rattle.smv_core.specs.Grammar.{Rules, below, named, chain, sum_of}
-use Rattle.smv_rules.specs.Parsing.{Parser, bind, pure, take, take_open, starts, fork, fork2, loop}
+use Rattle.smv_rules.specs.Parsing.{Parser, bind, pure, take, take_open, starts, starts2, fork, fork2, loop}
 use Rattle.smv_rules.specs.Lawful.{Levels, first, Law, Lawful}
-use Rattle.smv_rules.specs.Marks.{Mark, any_name, any_number, exactly, begins, stops_by}
-use Rattle.smv_rules.specs.Readers.{a_token, a_name, a_number, an_entry, a_same_name, maybe, read_separated}
+use Rattle.smv_rules.specs.Marks.{Mark, any_name, any_number, exactly, has_mark, begins, stops_by}
+use Rattle.smv_rules.specs.Readers.{a_token, a_name, a_number, an_entry, a_same_name, same_word, maybe, read_separated}
 use Rattle.smv_rules.specs.Expressions.{ExprReaders, reductions, additions, comparisons}
 use Rattle.smv_rules.specs.Expressions as p
-use Rattle.smv_rules.proofs.Tokens.{nothing-lawful, one-lawful, same-lawful}
+use Rattle.smv_rules.proofs.Tokens.{Includes, nothing-lawful, one-lawful, same-lawful}
+use Rattle.std.proofs.lemmas.Slice.Eq.{bytes_eq-Decides}
+use Rattle.smv_rules.proofs.Second.{Then, Second, second-one, second-then, second-either, second-other, second-wider, Begins2, begins2-one, begins2-then, not-so-then, not-so, accepts-take, accepts-law}
+use Rattle.smv_rules.proofs.Ahead.{Accepts, chosen-ahead}
 use Rattle.smv_rules.proofs.Sequence.{followed}
 use Rattle.smv_rules.proofs.Marks.{apart, covered, stops-starts}
-use Rattle.smv_rules.proofs.Forms.{Begins, Leads, begins-then, begins-either, begins-wider, leads-begins, leads-nothing, leads-many, leads-maybe, leads-either, leads-then, token-begins, opener-begins, token-lawful, level, name-begins, name-lawful, number-begins, number-lawful, marks_of, entry-begins, entry-lawful, closed, next, next-led, repeated, at-most-once, alternative, alternative-led, continued, optionally, made, separated-lawful, next-begun, ended}
+use Rattle.smv_rules.proofs.Forms.{Begins, Leads, begins-then, begins-either, begins-wider, leads-begins, leads-nothing, leads-many, leads-maybe, leads-either, leads-then, token-begins, opener-begins, token-lawful, level, name-begins, name-lawful, number-begins, number-lawful, marks_of, entry-begins, entry-lawful, closed, next, next-led, repeated, at-most-once, alternative, alternative-led, continued, optionally, made, separated-lawful, next-begun, ended, factored, swapped}
 
 -- a production at each floor and number of levels
 abbrev pub At : {A : Type 0} → ((ℕ → ℕ) → ℕ → Rules → Rule A) → Levels A
@@ -148,6 +151,155 @@ negation-begins = begins-either (begins-wider (exactly tilde ∷ []) _ refl (beg
 pub expr-begins : Begins expr_marks (At g.expr_rule)
 expr-begins = begins-then (begins-then (begins-then (begins-then (begins-then negation-begins))))
 
+-- ---- what stands behind a number or a name that begins an expression
+
+abbrev pub words : List Mark
+words = any_number ∷ any_name ∷ []
+
+abbrev pub names : List Mark
+names = any_name ∷ []
+
+module _ (fs : List Mark) (apart3 : apart (exactly open_paren ∷ exactly open_brace ∷ exactly ampersand ∷ exactly bar ∷ []) fs ≡ true) (apart1 : apart (exactly tilde ∷ []) fs ≡ true) where
+  prim-second : Second fs after_expr (At g.prim)
+  prim-second = second-either (second-then (second-one a_number) (λ k. leads-nothing _))
+      (second-either (second-then (second-then (second-one a_name) (λ x. leads-then (leads-many (begins-wider after_path after_expr refl part-begins)) (λ more. leads-nothing _))) (λ p. leads-nothing _))
+      (second-other _ third-begins apart3))
+
+  sum-second : Second fs after_expr (At g.sum)
+  sum-second = second-then prim-second (λ x. leads-then (leads-many (begins-wider (exactly plus ∷ exactly minus ∷ []) after_expr refl signed-begins)) (λ more. leads-nothing _))
+
+  modulo-second : Second fs after_expr (At g.modulo)
+  modulo-second = second-then sum-second (λ x. leads-maybe x (begins-wider (exactly w.word_mod ∷ []) after_expr refl (begins-then (token-begins w.word_mod))))
+
+  comparison-second : Second fs after_expr (At g.comparison)
+  comparison-second = second-then modulo-second (λ x. leads-either (leads-begins (begins-wider operators after_expr refl (begins-then (entry-begins comparisons))))
+      (leads-maybe x (begins-wider (exactly w.word_in ∷ []) after_expr refl (begins-then (token-begins w.word_in)))))
+
+  negation-second : Second fs after_expr (At g.negation_rule)
+  negation-second = second-either (second-other (exactly tilde ∷ []) (begins-then (opener-begins tilde)) apart1) comparison-second
+
+  chained-second : {F : Levels Expr} (k : TokenKind) (make : List Expr → Expr) → covered (exactly k ∷ []) after_expr ≡ true → Second fs after_expr F
+      → Second fs after_expr (λ floor m. F floor m >>= λ x. many (token k >> F floor m) >>= λ more. nothing (chain make x more))
+  chained-second k make e f = second-then f (λ x. leads-then (leads-many (begins-wider (exactly k ∷ []) after_expr e (begins-then (token-begins k)))) (λ more. leads-nothing _))
+
+  implication-second : Second fs after_expr (At g.implication)
+  implication-second = chained-second arrow expr.Implies refl (chained-second bar expr.Or refl (chained-second ampersand expr.And refl negation-second))
+
+  equivalence-second : Second fs after_expr (At g.equivalence)
+  equivalence-second = second-then implication-second (λ x. leads-maybe x (begins-wider (exactly double_arrow ∷ []) after_expr refl (begins-then (token-begins double_arrow))))
+
+  pub expr-second : Second fs after_expr (At g.expr_rule)
+  expr-second = second-then equivalence-second (λ x. leads-maybe x (begins-wider (exactly question ∷ []) after_expr refl (begins-then (opener-begins question))))
+
+-- ---- primaries are expressions
+
+prim-comparison : (floor : ℕ → ℕ) (m : ℕ) (ts : Tokens) (x : Expr) (rest : Tokens) → At g.prim floor m ts x rest → At g.comparison floor m ts x rest
+prim-comparison floor m ts x rest h = (x, rest, (x, rest, (x, rest, h, ([], rest, refl, (refl, refl))), inr (refl, refl)), inr (inr (refl, refl)))
+
+pub prim-expr : (floor : ℕ → ℕ) (m : ℕ) (ts : Tokens) (x : Expr) (rest : Tokens) → At g.prim floor m ts x rest → At g.expr_rule floor m ts x rest
+prim-expr floor m ts x rest h =
+    (x, rest, (x, rest, (x, rest, (x, rest, (x, rest, inr (prim-comparison floor m ts x rest h), ([], rest, refl, (refl, refl))), ([], rest, refl, (refl, refl))), ([], rest, refl, (refl, refl))), inr (refl, refl)), inr (refl, refl))
+
+-- ---- the second name of a comprehension
+
+same-read : (x : Word) (t : Token) (o : Option Word) (v : Word) → a_name t ≡ o → same_word x o ≡ Some v → (a_name t ≡ Some v) × (v.name ≡ x.name)
+same-read x t None v q e = absurd cc
+same-read x t (Some u) v q e = go (bytes_eq u.name x.name) refl e
+  where
+    go : (b : Bool) → bytes_eq u.name x.name ≡ b → cond b (Some u) None ≡ Some v → (a_name t ≡ Some v) × (v.name ≡ x.name)
+    go false r e = absurd cc
+    go true r e = let i : u ≡ v = cc in (q ∙ e, let P : Word → Type 0 = λ z. z.name ≡ x.name in subst P i ((bytes_eq-Decides u.name x.name).0 r))
+
+same-to : (x : Word) (ts : Tokens) (v : Word) (rest : Tokens) → one (a_same_name x) ts v rest → same_name x ts v rest
+same-to x [] v rest h = absurd h
+same-to x (t ∷ ts) v rest h = let u = same-read x t (a_name t) v refl h.0 in (v, ts, (u.0, refl), (u.1, (refl, h.1)))
+
+same-from : (x : Word) (ts : Tokens) (v : Word) (rest : Tokens) → same_name x ts v rest → one (a_same_name x) ts v rest
+same-from x [] v rest h = absurd h.2
+same-from x (t ∷ ts) v rest h =
+    let e : bytes_eq h.0.name x.name ≡ true = (bytes_eq-Decides h.0.name x.name).1 h.3.0 in
+    (rw h.2.0 (rw e (ap Some h.3.1.0)), h.2.1 ∙ h.3.1.1)
+
+pub same-name-lawful : {C : Type 0} {n : ℕ} {st : Word → Option Token → Bool} (x : Word) → Lawful C (λ floor m. same_name x) n (take (a_same_name x)) st
+same-name-lawful x = same-lawful (λ floor m ts v rest h. same-to x ts v rest h) (λ floor m ts v rest h. same-from x ts v rest h) (λ a t e. e)
+    (one-lawful (a_same_name x) (record { token = record { kind = Ident x.name; at = 0 }; value = record { name = x.name; at = 0 }; reads = let e = (bytes_eq-Decides x.name x.name).1 refl in rw e refl }))
+
+-- ---- what stands behind the brace of a set
+
+abbrev listed_tail : ℕ → Levels Expr
+listed_tail at floor m = separated (below floor m).member >>= λ members. token close_brace >> nothing (expr.List members at)
+
+abbrev each_rest : ℕ → Word → Levels Expr
+each_rest at x floor m = token colon >> same_name x >> token w.word_in >> g.index >>= λ over. optional (token comma >> (below floor m).expr) >>= λ cond. token close_brace >> nothing (expr.Each x over cond at)
+
+abbrev each_tail : ℕ → Levels Expr
+each_tail at floor m = name >>= λ x. each_rest at x floor m
+
+each-begins2 : (at : ℕ) → Begins2 names (exactly colon ∷ []) (λ floor m. each_tail at floor (suc m))
+each-begins2 at = begins2-one a_name name-begins (λ x. begins-then (token-begins colon))
+
+-- a list, or a comma or a closing brace, goes on with a member
+abbrev in_list : List Mark
+in_list = exactly comma ∷ exactly close_brace ∷ after_expr
+
+member-begins : Begins expr_marks (At g.member_rule)
+member-begins = begins-either (begins-then expr-begins) (begins-wider (any_number ∷ []) _ refl (begins-then span-begins))
+
+member-second : Second names in_list (At g.member_rule)
+member-second = second-wider after_expr in_list refl (second-either (second-then (expr-second names refl refl) (λ x. leads-nothing _)) (second-other (any_number ∷ []) (begins-then span-begins) refl))
+
+listed-begins : (at : ℕ) → Begins expr_marks (λ floor m. listed_tail at floor (suc m))
+listed-begins at = begins-then (begins-then member-begins)
+
+listed-not : (at : ℕ) (floor : ℕ → ℕ) (m : ℕ) (ts : Tokens) (x : Expr) (rest : Tokens) → listed_tail at floor (suc m) ts x rest → starts2 (begins names) (begins (exactly colon ∷ [])) ts ≡ false
+listed-not at = not-so-then {S = λ members floor m. token close_brace >> nothing (expr.List members at)} (exactly colon ∷ [])
+    (second-then member-second (λ x. leads-then (leads-many (begins-wider (exactly comma ∷ []) in_list refl (begins-then (token-begins comma)))) (λ more. leads-nothing _)))
+    (λ members. begins-wider (exactly close_brace ∷ []) in_list refl (begins-then (token-begins close_brace))) refl
+
+name-token : (t : Token) → begins names t ≡ true → (x : Word) × (a_name t ≡ Some x)
+name-token t e = go t.kind e
+  where
+    go : (kind : TokenKind) → has_mark names kind ≡ true → (x : Word) × (name_of t.at kind ≡ Some x)
+    go (Ident bytes) e = (record { name = bytes; at = t.at }, refl)
+    go (Number value) e = absurd cc
+    go (Sign i) e = absurd cc
+    go (Reserved i) e = absurd cc
+
+name-prim : (floor : ℕ → ℕ) (m : ℕ) (t : Token) (x : Word) (rest : Tokens) → a_name t ≡ Some x → At g.prim floor m (t ∷ rest) (expr.Signal (named x [])) rest
+name-prim floor m t x rest e = inr (inl (named x [], rest, (x, rest, (e, refl), ([], rest, refl, (refl, refl))), (refl, refl)))
+
+module _ (n : ℕ) (inner : ExprReaders) (law : InnerLaws n inner) where
+  where-lawful : Lawful (0 < n) (λ floor m. optional (token comma >> (below floor (suc m)).expr)) (n - 1) (p.read_where n inner) (stops_by (λ o. exactly comma ∷ after_expr))
+  unfolding p.read_where
+  where-lawful = optionally (exactly comma ∷ []) (λ x. after_expr) (λ o. exactly comma ∷ after_expr) (next (token-lawful comma refl) (λ _. law.expr)) (begins-then (token-begins comma)) refl (λ a. refl)
+
+  each-rest-lawful : (at : ℕ) (x : Word) → Lawful (0 < n) (λ floor m. each_rest at x floor (suc m)) (n - 1)
+      (bind (take (a_token colon)) (λ _. bind (take (a_same_name x)) (λ _. bind (take (a_token w.word_in)) (λ _. bind p.read_index (λ over. bind (p.read_where n inner) (λ cond. bind (take (a_token close_brace)) (λ _. pure (expr.Each x over cond at))))))))
+      (stops_by closed)
+  each-rest-lawful at x = next (token-lawful colon refl) (λ _. next (same-name-lawful x) (λ _. next (token-lawful w.word_in refl) (λ _. next index-lawful (λ over.
+      ended (exactly comma ∷ after_expr) close_brace (λ cond. expr.Each x over cond at) refl refl where-lawful))))
+
+  each-lawful : (at : ℕ) → Lawful (0 < n) (λ floor m. each_tail at floor (suc m)) (n - 1) (p.read_each n inner at) (stops_by closed)
+  unfolding p.read_each
+  each-lawful at = next name-lawful (λ x. each-rest-lawful at x)
+
+  each-accepts : (at : ℕ) → 0 < n → (t : Token) → begins names t ≡ true → Accepts (p.read_each n inner at) t
+  unfolding p.read_each
+  each-accepts at c t e = let x = name-token t e in accepts-take a_name (λ x. (each-rest-lawful at x).law c) t x.0 x.1
+
+  listed-lawful : (at : ℕ) → Lawful (0 < n) (λ floor m. listed_tail at floor (suc m)) (n - 1) (p.read_listed n inner at) (stops_by closed)
+  unfolding p.read_listed
+  listed-lawful at = ended (exactly comma ∷ after_member) close_brace (λ members. expr.List members at) refl refl (separated-lawful (λ x. after_member) (exactly comma ∷ after_member) law.member (λ x. refl) refl (λ x. refl))
+
+  listed-accepts : (at : ℕ) → 0 < n → (t : Token) → begins names t ≡ true → Accepts (p.read_listed n inner at) t
+  listed-accepts at c t e =
+      let x = name-token t e in
+      let brace : Token = record { kind = close_brace; at = 0 } in
+      accepts-law expr_marks ((listed-lawful at).law c) (listed-begins at) t (brace ∷ []) (expr.List (member.One (expr.Signal (named x.0 [])) ∷ []) at)
+          (member.One (expr.Signal (named x.0 [])) ∷ [], brace ∷ [],
+           (member.One (expr.Signal (named x.0 [])), brace ∷ [], inl (_, brace ∷ [], prim-expr (λ i. 0) 0 (t ∷ brace ∷ []) _ (brace ∷ []) (name-prim (λ i. 0) 0 t x.0 (brace ∷ []) x.1), (refl, refl)), ([], brace ∷ [], refl, (refl, refl))),
+           (0, [], (refl, refl), (refl, refl))) refl
+
 module _ (C : Type 0) (n : ℕ) (inner : ExprReaders) (law : InnerLaws n inner) where
   part-lawful : Lawful C (At g.part_rule) n (p.read_part n inner) (stops_by closed)
   unfolding p.read_part
@@ -170,7 +322,10 @@ module _ (C : Type 0) (n : ℕ) (inner : ExprReaders) (law : InnerLaws n inner) 
           (λ x. begins-then (token-begins colon)) (λ x. refl)))
 
   set-lawful : Lawful C (At g.set) n (p.read_set n inner) (stops_by closed)
-  set-lawful = ?
+  unfolding p.read_set
+  set-lawful = factored {S = listed_tail} {T = each_tail} (level open_brace refl {S = λ at floor m. each_tail at floor m / listed_tail at floor m}
+      (λ at. chosen-ahead (begins names) (begins (exactly colon ∷ [])) (each-lawful n inner law at) (listed-lawful n inner law at) (each-begins2 at).holds
+          (λ floor m ts a rest h stop. listed-not at floor m ts a rest h) (λ c t e. each-accepts n inner law at c t e) (λ c t e. listed-accepts n inner law at c t e)))
 
   prim-lawful : Lawful C (At g.prim) n (p.read_prim n inner) (stops_by (λ x. after_path))
   unfolding p.read_prim

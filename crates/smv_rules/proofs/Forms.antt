@@ -11,7 +11,7 @@ use Rattle.smv_rules.specs.Lawful.{Levels, first, Law, Lawful}
 use Rattle.smv_rules.specs.Marks.{Mark, any_name, any_number, exactly, is_mark, has_mark, begins, stops_by}
 use Rattle.smv_rules.specs.Readers.{a_token, a_name, a_number, an_entry, maybe, read_separated}
 use Rattle.smv_rules.proofs.Sequence.{followed}
-use Rattle.smv_rules.proofs.Tokens.{Sample, nothing-lawful, one-lawful, stopped}
+use Rattle.smv_rules.proofs.Tokens.{Includes, Sample, nothing-lawful, one-lawful, same-lawful, stopped}
 use Rattle.smv_rules.proofs.Opening.{opened-lawful}
 use Rattle.smv_rules.proofs.Choice.{chosen}
 use Rattle.smv_rules.proofs.Many.{Takes, looped}
@@ -27,7 +27,7 @@ pub record Begins {A : Type 0} (xs : List Mark) (F : Levels A) : Type 0 where
 pub record Leads {A : Type 0} (xs : List Mark) (F : Levels A) : Type 0 where
   pub holds : (floor : ℕ → ℕ) (m : ℕ) (ts : Tokens) (a : A) (rest : Tokens) → F floor m ts a rest → (starts (begins xs) ts ≡ true) ⊎ (ts ≡ rest)
 
-starts-wider : (xs ys : List Mark) (ts : Tokens) → covered xs ys ≡ true → starts (begins xs) ts ≡ true → starts (begins ys) ts ≡ true
+pub starts-wider : (xs ys : List Mark) (ts : Tokens) → covered xs ys ≡ true → starts (begins xs) ts ≡ true → starts (begins ys) ts ≡ true
 starts-wider xs ys [] e h = absurd cc
 starts-wider xs ys (t ∷ ts) e h = covered-begins xs ys t.kind e h
 
@@ -279,3 +279,31 @@ next-begun xs ys f s begun ap_art = followed f s (λ floor m a b middle rest h s
 pub ended : {C A B : Type 0} {F : Levels A} {n : ℕ} {p : Parser A} {st : B → Option Token → Bool} (ys : List Mark) (k : TokenKind) (make : A → B) → same_kind k k ≡ true → apart (exactly k ∷ []) ys ≡ true
     → Lawful C F n p (stops_by (λ a. ys)) → Lawful C (λ floor m. F floor m >>= λ a. token k >> nothing (make a)) n (bind p (λ a. bind (take (a_token k)) (λ _. pure (make a)))) st
 ended ys k make self ap_art f = next-begun (exactly k ∷ []) (λ a. ys) f (λ a. next (token-lawful k self) (λ _. nothing-lawful (make a))) (λ a. begins-then (token-begins k)) (λ a. ap_art)
+
+-- X Y | X Z, as X and then Z or Y
+pub factored : {C A B : Type 0} {F : Levels A} {S T : A → Levels B} {n : ℕ} {p : Parser B} {st : B → Option Token → Bool} → Lawful C (λ floor m. F floor m >>= λ a. T a floor m / S a floor m) n p st
+    → Lawful C (λ floor m. (F floor m >>= λ a. S a floor m) / (F floor m >>= λ a. T a floor m)) n p st
+factored {A = A} {B = B} {F = F} {S = S} {T = T} f = same-lawful to from (λ a t e. e) f
+  where
+    go : (floor : ℕ → ℕ) (m : ℕ) (ts : Tokens) (b : B) (rest : Tokens) (a : A) (middle : Tokens) → F floor m ts a middle → (T a floor m / S a floor m) middle b rest
+        → ((F floor m >>= λ a. S a floor m) / (F floor m >>= λ a. T a floor m)) ts b rest
+    go floor m ts b rest a middle f (inl h) = inr (a, middle, f, h)
+    go floor m ts b rest a middle f (inr h) = inl (a, middle, f, h)
+
+    to : (floor : ℕ → ℕ) (m : ℕ) (ts : Tokens) (b : B) (rest : Tokens) → (F floor m >>= λ a. T a floor m / S a floor m) ts b rest → ((F floor m >>= λ a. S a floor m) / (F floor m >>= λ a. T a floor m)) ts b rest
+    to floor m ts b rest h = go floor m ts b rest h.0 h.1 h.2 h.3
+
+    from : (floor : ℕ → ℕ) (m : ℕ) (ts : Tokens) (b : B) (rest : Tokens) → ((F floor m >>= λ a. S a floor m) / (F floor m >>= λ a. T a floor m)) ts b rest → (F floor m >>= λ a. T a floor m / S a floor m) ts b rest
+    from floor m ts b rest (inl h) = (h.0, h.1, h.2, inr h.3)
+    from floor m ts b rest (inr h) = (h.0, h.1, h.2, inl h.3)
+
+pub swapped : {C A : Type 0} {F G : Levels A} {n : ℕ} {p : Parser A} {st : A → Option Token → Bool} → Lawful C (λ floor m. F floor m / G floor m) n p st → Lawful C (λ floor m. G floor m / F floor m) n p st
+swapped {A = A} {F = F} {G = G} f = same-lawful to from (λ a t e. e) f
+  where
+    to : (floor : ℕ → ℕ) (m : ℕ) (ts : Tokens) (a : A) (rest : Tokens) → (F floor m / G floor m) ts a rest → (G floor m / F floor m) ts a rest
+    to floor m ts a rest (inl h) = inr h
+    to floor m ts a rest (inr h) = inl h
+
+    from : (floor : ℕ → ℕ) (m : ℕ) (ts : Tokens) (a : A) (rest : Tokens) → (G floor m / F floor m) ts a rest → (F floor m / G floor m) ts a rest
+    from floor m ts a rest (inl h) = inr h
+    from floor m ts a rest (inr h) = inl h

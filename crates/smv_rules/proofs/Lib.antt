@@ -8,3 +8,4 @@ pub mod Many
 pub mod Marks
 pub mod Forms
 pub mod Expressions
+pub mod Second
