@@ -25,14 +25,14 @@ use Rattle.smv_core.specs.Notation.{Tokens, Rule, nothing, ◌>>=◌, ◌>>◌, 
 use Rattle.smv_core.specs.Grammar as g
 use Rattle.smv_core.specs.Grammar.{Rules, below, named, chain, sum_of}
 use Rattle.smv_rules.specs.Parsing.{Parser, bind, pure, take, take_open, starts, starts2, fork, fork2, loop}
-use Rattle.smv_rules.specs.Lawful.{Levels, first, Law, Lawful}
+use Rattle.smv_rules.specs.Lawful.{Levels, first, Finishes, Law, Lawful}
 use Rattle.smv_rules.specs.Marks.{Mark, any_name, any_number, exactly, has_mark, begins, stops_by}
 use Rattle.smv_rules.specs.Readers.{a_token, a_name, a_number, an_entry, a_same_name, same_word, maybe, read_separated}
 use Rattle.smv_rules.specs.Expressions.{ExprReaders, reductions, additions, comparisons}
 use Rattle.smv_rules.specs.Expressions as p
-use Rattle.smv_rules.proofs.Tokens.{Includes, nothing-lawful, one-lawful, same-lawful}
+use Rattle.smv_rules.proofs.Tokens.{Includes, pure-law, nothing-lawful, one-lawful, same-lawful}
 use Rattle.std.proofs.lemmas.Slice.Eq.{bytes_eq-Decides}
-use Rattle.smv_rules.proofs.Second.{Then, Second, second-one, second-then, second-either, second-other, second-wider, Begins2, begins2-one, begins2-then, not-so-then, not-so, accepts-take, accepts-law}
+use Rattle.smv_rules.proofs.Second.{Then, Second, second-one, second-then, second-either, second-other, second-wider, Begins2, begins2-one, begins2-then, not-so-then, not-so, accepts-take, accepts-law, accepts-then}
 use Rattle.smv_rules.proofs.Ahead.{Accepts, chosen-ahead}
 use Rattle.smv_rules.proofs.Sequence.{followed}
 use Rattle.smv_rules.proofs.Marks.{apart, covered, stops-starts}
@@ -265,6 +265,24 @@ name-token t e = go t.kind e
     go (Sign i) e = absurd cc
     go (Reserved i) e = absurd cc
 
+abbrev numbers : List Mark
+numbers = any_number ∷ []
+
+number-token : (t : Token) → begins numbers t ≡ true → (k : ℕ × ℕ) × (a_number t ≡ Some k)
+number-token t e = go t.kind e
+  where
+    go : (kind : TokenKind) → has_mark numbers kind ≡ true → (k : ℕ × ℕ) × (with_place t.at (number_of kind) ≡ Some k)
+    go (Number value) e = ((value, t.at), refl)
+    go (Ident bytes) e = absurd cc
+    go (Sign i) e = absurd cc
+    go (Reserved i) e = absurd cc
+
+abbrev made_span : ℕ × ℕ → ℕ × ℕ → Span × ℕ
+made_span low high = (record { low = low.0; high = high.0 }, low.1)
+
+span-begins2 : Begins2 numbers (exactly dots ∷ []) (λ floor m. g.span)
+span-begins2 = begins2-one a_number number-begins (λ low. begins-then (token-begins dots))
+
 name-prim : (floor : ℕ → ℕ) (m : ℕ) (t : Token) (x : Word) (rest : Tokens) → a_name t ≡ Some x → At g.prim floor m (t ∷ rest) (expr.Signal (named x [])) rest
 name-prim floor m t x rest e = inr (inl (named x [], rest, (x, rest, (e, refl), ([], rest, refl, (refl, refl))), (refl, refl)))
 
@@ -404,3 +422,76 @@ module _ (C : Type 0) (n : ℕ) (inner : ExprReaders) (law : InnerLaws n inner) 
               (λ x. begins-then (token-begins colon)) (λ x. refl)))
           (begins-then (opener-begins question)) refl (λ a. refl))
       (λ c. leads-maybe c (begins-then (opener-begins question))) (λ x. refl) (λ x b. refl)
+
+  -- a span, as a member
+  span-member : Lawful C (λ floor m. g.span >>= λ s. nothing (member.Span s.0 s.1)) n (bind p.read_span (λ s. pure (member.Span s.0 s.1))) (stops_by (λ x. after_member))
+  span-member = next span-lawful (λ s. nothing-lawful _)
+
+  one-member : Lawful C (λ floor m. At g.expr_rule floor m >>= λ x. nothing (member.One x)) n (bind (p.read_expr n inner) (λ x. pure (member.One x))) (stops_by (λ x. after_member))
+  one-member = continued (λ x. after_expr) (λ x. after_member) (λ x. refl) (made after_expr member.One expr-lawful)
+
+  span-accepts : C → (t : Token) → begins numbers t ≡ true → Accepts (bind p.read_span (λ s. pure (member.Span s.0 s.1))) t
+  unfolding p.read_span
+  span-accepts c t e =
+      let k = number-token t e in
+      accepts-then {S = λ s floor m. nothing (member.Span s.0 s.1)} {n = n} {st = λ x o. true} (λ s. pure-law n (member.Span s.0 s.1) (λ x o. true)) t
+          (accepts-take {S = λ low floor m. token dots >> number >>= λ high. nothing (made_span low high)} {n = n} {st = stops_by closed} a_number
+              (λ low. (span-rest low).law c) t k.0 k.1)
+    where
+      span-rest : (low : ℕ × ℕ) → Lawful C (λ floor m. token dots >> number >>= λ high. nothing (made_span low high)) n
+          (bind (take (a_token dots)) (λ _. bind (take a_number) (λ high. pure (made_span low high)))) (stops_by closed)
+      span-rest low = next (token-lawful dots refl) (λ _. next number-lawful (λ high. nothing-lawful _))
+
+  one-accepts : C → (t : Token) → begins numbers t ≡ true → Accepts (bind (p.read_expr n inner) (λ x. pure (member.One x))) t
+  one-accepts c t e =
+      let k = number-token t e in
+      accepts-law expr_marks (one-member.law c) (begins-then expr-begins) t [] (member.One (expr.Number k.0.0 k.0.1))
+          (expr.Number k.0.0 k.0.1, [], prim-expr (λ i. 0) 0 (t ∷ []) _ [] (inl (k.0, [], (k.1, refl), (refl, refl))), (refl, refl)) refl
+
+  pub member-lawful : Lawful C (At g.member_rule) n (p.read_member n inner) (stops_by (λ x. after_member))
+  unfolding p.read_member
+  member-lawful = swapped (chosen-ahead (begins numbers) (begins (exactly dots ∷ [])) span-member one-member
+      (begins2-then span-begins2).holds
+      (not-so (exactly dots ∷ []) (λ x. after_member) (second-then (expr-second numbers refl refl) (λ x. leads-nothing _)) refl (λ x. refl)) span-accepts one-accepts)
+
+-- ---- for each number of levels
+
+pub expr-finishes : (place : ℕ) → Finishes (At g.expr_rule) place
+expr-finishes place = record {
+  more = record { kind = Number 0; at = place } ∷ [];
+  value = expr.Number 0 place;
+  enough = 0;
+  spelled = λ floor m z e r. prim-expr floor m (record { kind = Number 0; at = place } ∷ r) (expr.Number 0 place) r (inl ((0, place), r, (refl, refl), (refl, refl)));
+}
+
+negation-finishes : (place : ℕ) → Finishes (At g.negation_rule) place
+negation-finishes place = record {
+  more = record { kind = Number 0; at = place } ∷ [];
+  value = expr.Number 0 place;
+  enough = 0;
+  spelled = λ floor m z e r. inr (prim-comparison floor m (record { kind = Number 0; at = place } ∷ r) (expr.Number 0 place) r (inl ((0, place), r, (refl, refl), (refl, refl))));
+}
+
+member-finishes : (place : ℕ) → Finishes (At g.member_rule) place
+member-finishes place = let x = expr-finishes place in record { more = x.more; value = member.One x.value; enough = x.enough; spelled = λ floor m z e r. inl (x.value, r, x.spelled floor m z e r, (refl, refl)) }
+
+pub inner-laws : (n : ℕ) → InnerLaws n (p.expr_readers n)
+inner-laws zero = record {
+  expr = record { finishes = expr-finishes; law = λ c. absurd (omega arith) };
+  negation = record { finishes = negation-finishes; law = λ c. absurd (omega arith) };
+  member = record { finishes = member-finishes; law = λ c. absurd (omega arith) };
+}
+inner-laws (suc n) =
+    let x = inner-laws n in
+    let e : n ≡ suc n - 1 = omega arith in
+    record {
+      expr = let P : ℕ → Type 0 = λ k. Lawful (0 < suc n) (At g.expr_rule) k (p.read_expr n (p.expr_readers n)) (stops_by (λ x. after_expr)) in subst P e (expr-lawful (0 < suc n) n (p.expr_readers n) x);
+      negation = let P : ℕ → Type 0 = λ k. Lawful (0 < suc n) (At g.negation_rule) k (p.read_negation n (p.expr_readers n)) (stops_by (λ x. after_comparison)) in
+          subst P e (negation-lawful (0 < suc n) n (p.expr_readers n) x);
+      member = let P : ℕ → Type 0 = λ k. Lawful (0 < suc n) (At g.member_rule) k (p.read_member n (p.expr_readers n)) (stops_by (λ x. after_member)) in
+          subst P e (member-lawful (0 < suc n) n (p.expr_readers n) x);
+    }
+
+-- the parser of expressions within n levels has its law
+pub expressions : (n : ℕ) → Lawful (Unit {0}) (At g.expr_rule) n (p.read_expr n (p.expr_readers n)) (stops_by (λ x. after_expr))
+expressions n = expr-lawful (Unit {0}) n (p.expr_readers n) (inner-laws n)

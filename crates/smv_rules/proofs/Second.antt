@@ -2,7 +2,7 @@
 use Rattle.std.proofs.Common.{◌≡◌, ℕ, zero, suc, ◌<◌, ◌≤◌, ◌+◌, Bool, true, false, ◌&&◌, List, [], ◌∷◌, ◌++◌, length, length-append, Option, Some, None, Ok, Err, ◌⊎◌, inl, inr, refl, sym, ◌∙◌, ap, subst, arith}
 use Rattle.smv_core.specs.declared.token.Token.{Token}
 use Rattle.smv_core.specs.Notation.{Tokens, Rule, nothing, one, ◌>>=◌, ◌/◌}
-use Rattle.smv_rules.specs.Parsing.{Halts, Parser, bind, take, taken, starts, starts2}
+use Rattle.smv_rules.specs.Parsing.{Halts, Outcome, Parser, and_then, bind, take, taken, starts, starts2}
 use Rattle.smv_rules.specs.Lawful.{Levels, first, Law, IsDeep}
 use Rattle.smv_rules.specs.Marks.{Mark, begins, stops_by}
 use Rattle.smv_rules.proofs.Marks.{apart, covered, starts-not, stops-not}
@@ -174,3 +174,17 @@ accepts-law {A = A} {F = F} {n = n} {p = p} xs law begun t more a f end = record
     halted : (ts : Tokens) (deep : Bool) (bad front : Tokens) → t ∷ ts ≡ front ++ bad → ((other : Tokens) → first other ≡ first bad → p (front ++ other) ≡ Err (Halts deep other)) → length bad < length (t ∷ ts)
     halted ts deep bad [] split again = absurd (by deep (again (t ∷ more) (ap first split)) (law.complete (λ i. 0) 0 (t ∷ more) a [] f end))
     halted ts deep bad (x ∷ front) split again = let l = ap length split in let k : length (x ∷ front ++ bad) ≡ suc (length front + length bad) = ap suc (length-append front bad) in omega arith
+
+pub accepts-then : {A B : Type 0} {p : Parser A} {S : A → Levels B} {n : ℕ} {q : A → Parser B} {st : B → Option Token → Bool} → ((a : A) → Law (S a) n (q a) st) → (t : Token) → Accepts p t → Accepts (bind p q) t
+accepts-then {A = A} {B = B} {p = p} {q = q} law t x = record {
+  reads = λ ts b rest h. read ts b rest (p (t ∷ ts)) refl h;
+  halts = λ ts deep bad h. halted ts deep bad (p (t ∷ ts)) refl h;
+}
+  where
+    read : (ts : Tokens) (b : B) (rest : Tokens) (o : Outcome A) → p (t ∷ ts) ≡ o → and_then o q ≡ Ok (b, rest) → length rest < length (t ∷ ts)
+    read ts b rest (Err y) e h = absurd cc
+    read ts b rest (Ok (a, middle)) e h = let l = x.reads ts a middle e in let u = (law a).reads middle b rest h in let k = shorter middle u.front rest u.split in omega arith
+
+    halted : (ts : Tokens) (deep : Bool) (bad : Tokens) (o : Outcome A) → p (t ∷ ts) ≡ o → and_then o q ≡ Err (Halts deep bad) → length bad < length (t ∷ ts)
+    halted ts deep bad (Err y) e h = x.halts ts deep bad (e ∙ cc)
+    halted ts deep bad (Ok (a, middle)) e h = let l = x.reads ts a middle e in let u = (law a).halts middle deep bad h in let k = shorter middle u.front bad u.split in omega arith
