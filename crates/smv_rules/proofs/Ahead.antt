@@ -1,10 +1,9 @@
 -- The law of a choice by the next two tokens, where both rules take the first.
-use Rattle.std.proofs.Common.{◌≡◌, ℕ, zero, suc, ◌<◌, ◌≤◌, ◌+◌, Bool, true, false, ◌&&◌, cond, List, [], ◌∷◌, ◌++◌, length, Option, Some, None, Ok, Err, ◌⊎◌, inl, inr, refl, sym, ◌∙◌, ap, length-append, arith}
+use Rattle.std.proofs.Common.{◌≡◌, ℕ, ◌<◌, Bool, true, false, ◌&&◌, cond, [], ◌∷◌, ◌++◌, length, Option, Ok, Err, ◌⊎◌, inl, inr, refl, sym, ◌∙◌, ap, arith}
 use Rattle.smv_core.specs.declared.token.Token.{Token}
-use Rattle.smv_core.specs.Notation.{Tokens, Rule, ◌/◌}
-use Rattle.smv_rules.specs.Parsing.{Halt, Halts, Outcome, Parser, starts, starts2, fork2}
-use Rattle.smv_rules.specs.Lawful.{Levels, first, Finishes, Completes, Reads, kept, Stuck, IsDeep, Law, Lawful}
-use Rattle.smv_rules.proofs.Lists.{first-append}
+use Rattle.smv_core.specs.Notation.{Tokens, ◌/◌}
+use Rattle.smv_rules.specs.Parsing.{Halts, Parser, starts, starts2, fork2}
+use Rattle.smv_rules.specs.Lawful.{Levels, first, Reads, Stuck, IsDeep, Law, Lawful}
 use Rattle.smv_rules.proofs.Tokens.{same-finish, includes-completes}
 use Rattle.smv_rules.proofs.Choice.{choice}
 

@@ -1,9 +1,9 @@
 -- The law of a choice by the next token.
-use Rattle.std.proofs.Common.{◌≡◌, ℕ, Bool, true, false, cond, List, [], ◌∷◌, ◌++◌, Option, Some, None, Ok, Err, ◌⊎◌, inl, inr, refl, sym, ◌∙◌, ap}
+use Rattle.std.proofs.Common.{◌≡◌, ℕ, Bool, true, false, cond, ◌++◌, Option, Ok, Err, ◌⊎◌, inl, inr, refl, sym, ◌∙◌, ap}
 use Rattle.smv_core.specs.declared.token.Token.{Token}
-use Rattle.smv_core.specs.Notation.{Tokens, Rule, ◌/◌}
-use Rattle.smv_rules.specs.Parsing.{Halt, Halts, Outcome, Parser, starts, fork}
-use Rattle.smv_rules.specs.Lawful.{Levels, first, Finishes, Completes, Reads, kept, Stuck, IsDeep, Law, Lawful}
+use Rattle.smv_core.specs.Notation.{Tokens, ◌/◌}
+use Rattle.smv_rules.specs.Parsing.{Halts, Parser, starts, fork}
+use Rattle.smv_rules.specs.Lawful.{Levels, first, Reads, Stuck, IsDeep, Law, Lawful}
 use Rattle.smv_rules.proofs.Lists.{first-append, starts-same}
 use Rattle.smv_rules.proofs.Tokens.{same-finish, includes-completes}
 

@@ -1,5 +1,5 @@
 -- The laws of expressions.
-use Rattle.std.proofs.Common.{◌≡◌, ◌-◌, ◌<◌, ◌≤◌, ◌+◌, ℕ, zero, suc, Bool, true, false, cond, List, [], ◌∷◌, ◌++◌, length, Option, Some, None, Ok, Err, ◌⊎◌, inl, inr, refl, sym, ◌∙◌, ap, subst, arith}
+use Rattle.std.proofs.Common.{◌≡◌, ◌-◌, ◌<◌, ℕ, zero, suc, Bool, true, false, cond, List, [], ◌∷◌, Option, Some, None, inl, inr, refl, ◌∙◌, ap, subst, arith}
 use Rattle.std.specs.Str.{bytes_eq}
 use Rattle.smv_core.specs.declared.token.Token.{Token}
 use Rattle.smv_core.specs.declared.token.TokenKind.{TokenKind}
@@ -8,35 +8,27 @@ use Rattle.smv_core.specs.declared.tree.Word.{Word}
 use Rattle.smv_core.specs.declared.tree.Span.{Span}
 use Rattle.smv_core.specs.declared.tree.Expr.{Expr}
 use Rattle.smv_core.specs.declared.tree.Expr.TheVariants as expr
-use Rattle.smv_core.specs.declared.tree.Signed.{Signed, roll-Signed}
-use Rattle.smv_core.specs.declared.tree.Member.{Member}
 use Rattle.smv_core.specs.declared.tree.Member.TheVariants as member
-use Rattle.smv_core.specs.declared.tree.Part.{Part}
 use Rattle.smv_core.specs.declared.tree.Part.TheVariants as part
-use Rattle.smv_core.specs.declared.tree.Path.{Path}
-use Rattle.smv_core.specs.declared.tree.Op.{Op}
 use Rattle.smv_core.specs.declared.tree.Op.TheVariants as op
-use Rattle.smv_core.specs.declared.tree.TypeExpr.{TypeExpr}
-use Rattle.smv_core.specs.declared.tree.TypeExpr.TheVariants as type
 use Rattle.smv_core.specs.Signs.{open_paren, close_paren, open_bracket, close_bracket, open_brace, close_brace, colon, semicolon, comma, dot, dots, becomes}
 use Rattle.smv_core.specs.Signs.{equal, differ, less, at_most, greater, at_least, plus, minus, tilde, ampersand, bar, arrow, double_arrow, question}
 use Rattle.smv_core.specs.Signs as w
-use Rattle.smv_core.specs.Notation.{Tokens, Rule, nothing, ◌>>=◌, ◌>>◌, ◌/◌, many, one, token, name, number, one_of, opener, optional, separated, same_name, same_kind, name_of, number_of, with_place}
+use Rattle.smv_core.specs.Notation.{Tokens, Rule, nothing, ◌>>=◌, ◌>>◌, ◌/◌, many, one, token, name, number, optional, separated, same_name, same_kind, name_of, number_of, with_place}
 use Rattle.smv_core.specs.Grammar as g
 use Rattle.smv_core.specs.Grammar.{Rules, below, named, chain, sum_of}
-use Rattle.smv_rules.specs.Parsing.{Parser, bind, pure, take, take_open, starts, starts2, fork, fork2, loop}
-use Rattle.smv_rules.specs.Lawful.{Levels, first, Finishes, Law, Lawful}
+use Rattle.smv_rules.specs.Parsing.{Parser, bind, pure, take, starts2}
+use Rattle.smv_rules.specs.Lawful.{Levels, Finishes, Lawful}
 use Rattle.smv_rules.specs.Marks.{Mark, any_name, any_number, exactly, has_mark, begins, stops_by}
-use Rattle.smv_rules.specs.Readers.{a_token, a_name, a_number, an_entry, a_same_name, same_word, maybe, read_separated}
+use Rattle.smv_rules.specs.Readers.{a_token, a_name, a_number, a_same_name, same_word}
 use Rattle.smv_rules.specs.Expressions.{ExprReaders, reductions, additions, comparisons}
 use Rattle.smv_rules.specs.Expressions as p
-use Rattle.smv_rules.proofs.Tokens.{Includes, pure-law, nothing-lawful, one-lawful, same-lawful}
+use Rattle.smv_rules.proofs.Tokens.{pure-law, nothing-lawful, one-lawful, same-lawful}
 use Rattle.std.proofs.lemmas.Slice.Eq.{bytes_eq-Decides}
-use Rattle.smv_rules.proofs.Second.{Then, Second, second-one, second-then, second-either, second-other, second-wider, Begins2, begins2-one, begins2-then, not-so-then, not-so, accepts-take, accepts-law, accepts-then}
+use Rattle.smv_rules.proofs.Second.{Second, second-one, second-then, second-either, second-other, second-wider, Begins2, begins2-one, begins2-then, not-so-then, not-so, accepts-take, accepts-law, accepts-then}
 use Rattle.smv_rules.proofs.Ahead.{Accepts, chosen-ahead}
-use Rattle.smv_rules.proofs.Sequence.{followed}
-use Rattle.smv_rules.proofs.Marks.{apart, covered, stops-starts}
-use Rattle.smv_rules.proofs.Forms.{Begins, Leads, begins-then, begins-either, begins-wider, leads-begins, leads-nothing, leads-many, leads-maybe, leads-either, leads-then, token-begins, opener-begins, token-lawful, level, name-begins, name-lawful, number-begins, number-lawful, marks_of, entry-begins, entry-lawful, closed, next, next-led, repeated, at-most-once, alternative, alternative-led, continued, optionally, made, separated-lawful, next-begun, ended, factored, swapped}
+use Rattle.smv_rules.proofs.Marks.{apart, covered}
+use Rattle.smv_rules.proofs.Forms.{Begins, begins-then, begins-either, begins-wider, leads-begins, leads-nothing, leads-many, leads-maybe, leads-either, leads-then, token-begins, opener-begins, token-lawful, level, name-begins, name-lawful, number-begins, number-lawful, entry-begins, entry-lawful, closed, next, next-led, repeated, at-most-once, alternative, alternative-led, continued, optionally, made, separated-lawful, next-begun, ended, factored, swapped}
 
 -- a production at each floor and number of levels
 abbrev pub At : {A : Type 0} → ((ℕ → ℕ) → ℕ → Rules → Rule A) → Levels A
@@ -313,10 +305,12 @@ module _ (n : ℕ) (inner : ExprReaders) (law : InnerLaws n inner) where
   listed-accepts at c t e =
       let x = name-token t e in
       let brace : Token = record { kind = close_brace; at = 0 } in
-      accepts-law expr_marks ((listed-lawful at).law c) (listed-begins at) t (brace ∷ []) (expr.List (member.One (expr.Signal (named x.0 [])) ∷ []) at)
-          (member.One (expr.Signal (named x.0 [])) ∷ [], brace ∷ [],
-           (member.One (expr.Signal (named x.0 [])), brace ∷ [], inl (_, brace ∷ [], prim-expr (λ i. 0) 0 (t ∷ brace ∷ []) _ (brace ∷ []) (name-prim (λ i. 0) 0 t x.0 (brace ∷ []) x.1), (refl, refl)), ([], brace ∷ [], refl, (refl, refl))),
-           (0, [], (refl, refl), (refl, refl))) refl
+      accepts-law expr_marks ((listed-lawful at).law c) (listed-begins at) t (brace ∷ []) (expr.List (member.One (expr.Signal (named x.0 [])) ∷ []) at) (
+        member.One (expr.Signal (named x.0 [])) ∷ [],
+        brace ∷ [],
+        (member.One (expr.Signal (named x.0 [])), brace ∷ [], inl (_, brace ∷ [], prim-expr (λ i. 0) 0 (t ∷ brace ∷ []) _ (brace ∷ []) (name-prim (λ i. 0) 0 t x.0 (brace ∷ []) x.1), (refl, refl)), ([], brace ∷ [], refl, (refl, refl))),
+        (0, [], (refl, refl), (refl, refl)),
+      ) refl
 
 module _ (C : Type 0) (n : ℕ) (inner : ExprReaders) (law : InnerLaws n inner) where
   part-lawful : Lawful C (At g.part_rule) n (p.read_part n inner) (stops_by closed)
@@ -336,14 +330,14 @@ module _ (C : Type 0) (n : ℕ) (inner : ExprReaders) (law : InnerLaws n inner) 
   unfolding p.read_reduction
   reduction-lawful = next (entry-lawful ampersand expr.All ((bar, expr.Any) ∷ []) refl) (λ make. level open_bracket refl (λ _.
       next-begun (exactly colon ∷ []) (λ x. after_expr) law.expr
-          (λ x. next (token-lawful colon refl) (λ _. next name-lawful (λ v. next (token-lawful w.word_in refl) (λ _. next index-lawful (λ over. next (token-lawful close_bracket refl) (λ _. nothing-lawful _))))))
-          (λ x. begins-then (token-begins colon)) (λ x. refl)))
+      (λ x. next (token-lawful colon refl) (λ _. next name-lawful (λ v. next (token-lawful w.word_in refl) (λ _. next index-lawful (λ over. next (token-lawful close_bracket refl) (λ _. nothing-lawful _))))))
+      (λ x. begins-then (token-begins colon)) (λ x. refl)))
 
   set-lawful : Lawful C (At g.set) n (p.read_set n inner) (stops_by closed)
   unfolding p.read_set
   set-lawful = factored {S = listed_tail} {T = each_tail} (level open_brace refl {S = λ at floor m. each_tail at floor m / listed_tail at floor m}
       (λ at. chosen-ahead (begins names) (begins (exactly colon ∷ [])) (each-lawful n inner law at) (listed-lawful n inner law at) (each-begins2 at).holds
-          (λ floor m ts a rest h stop. listed-not at floor m ts a rest h) (λ c t e. each-accepts n inner law at c t e) (λ c t e. listed-accepts n inner law at c t e)))
+      (λ floor m ts a rest h stop. listed-not at floor m ts a rest h) (λ c t e. each-accepts n inner law at c t e) (λ c t e. listed-accepts n inner law at c t e)))
 
   prim-lawful : Lawful C (At g.prim) n (p.read_prim n inner) (stops_by (λ x. after_path))
   unfolding p.read_prim
@@ -351,8 +345,8 @@ module _ (C : Type 0) (n : ℕ) (inner : ExprReaders) (law : InnerLaws n inner) 
       (alternative (any_name ∷ []) (exactly open_paren ∷ exactly open_brace ∷ exactly ampersand ∷ exactly bar ∷ []) (made after_path expr.Signal path-lawful)
       (alternative (exactly open_paren ∷ []) (exactly open_brace ∷ exactly ampersand ∷ exactly bar ∷ []) (continued closed (λ x. after_path) (λ x. refl) condition-lawful)
       (alternative (exactly open_brace ∷ []) (exactly ampersand ∷ exactly bar ∷ []) (continued closed (λ x. after_path) (λ x. refl) set-lawful) (continued closed (λ x. after_path) (λ x. refl) reduction-lawful)
-          set-begins reduction-begins refl) condition-begins fourth-begins refl)
-          (begins-then path-begins) third-begins refl) (begins-then number-begins) second-begins refl
+      set-begins reduction-begins refl) condition-begins fourth-begins refl)
+      (begins-then path-begins) third-begins refl) (begins-then number-begins) second-begins refl
 
   signed-lawful : Lawful C (At g.signed) n (p.read_signed n inner) (stops_by (λ x. after_path))
   unfolding p.read_signed
@@ -368,16 +362,16 @@ module _ (C : Type 0) (n : ℕ) (inner : ExprReaders) (law : InnerLaws n inner) 
   unfolding p.read_modulo
   modulo-lawful = next-led (exactly w.word_mod ∷ []) (λ x. after_sum) (λ x. after_modulo) sum-lawful
       (λ x. at-most-once (exactly w.word_mod ∷ []) closed (λ x. after_modulo) x (next (token-lawful w.word_mod refl) (λ _. next number-lawful (λ k. nothing-lawful _)))
-          (begins-then (token-begins w.word_mod)) refl (λ a. refl))
+      (begins-then (token-begins w.word_mod)) refl (λ a. refl))
       (λ x. leads-maybe x (begins-then (token-begins w.word_mod))) (λ x. refl) (λ x b. refl)
 
   comparison-lawful : Lawful C (At g.comparison) n (p.read_comparison n inner) (stops_by (λ x. after_comparison))
   unfolding p.read_comparison
   comparison-lawful = next-led (exactly w.word_in ∷ operators) (λ x. after_modulo) (λ x. after_comparison) modulo-lawful
       (λ x. alternative-led operators (exactly w.word_in ∷ []) (λ x. after_comparison)
-          (next (entry-lawful equal op.Equal ((differ, op.Differ) ∷ (less, op.Less) ∷ (at_most, op.AtMost) ∷ (greater, op.Greater) ∷ (at_least, op.AtLeast) ∷ []) refl) (λ o. continued (λ x. after_modulo) (λ x. after_comparison) (λ x. refl) (made after_modulo (expr.Compare o.0 x) modulo-lawful)))
-          (at-most-once (exactly w.word_in ∷ []) closed (λ x. after_comparison) x (next (token-lawful w.word_in refl) (λ _. made [] (expr.Within x) set-lawful)) (begins-then (token-begins w.word_in)) refl (λ a. refl))
-          (begins-then (entry-begins comparisons)) (leads-maybe x (begins-then (token-begins w.word_in))) refl (λ x. refl))
+      (next (entry-lawful equal op.Equal ((differ, op.Differ) ∷ (less, op.Less) ∷ (at_most, op.AtMost) ∷ (greater, op.Greater) ∷ (at_least, op.AtLeast) ∷ []) refl) (λ o. continued (λ x. after_modulo) (λ x. after_comparison) (λ x. refl) (made after_modulo (expr.Compare o.0 x) modulo-lawful)))
+      (at-most-once (exactly w.word_in ∷ []) closed (λ x. after_comparison) x (next (token-lawful w.word_in refl) (λ _. made [] (expr.Within x) set-lawful)) (begins-then (token-begins w.word_in)) refl (λ a. refl))
+      (begins-then (entry-begins comparisons)) (leads-maybe x (begins-then (token-begins w.word_in))) refl (λ x. refl))
       (λ x. leads-either (leads-begins (begins-wider operators _ refl (begins-then (entry-begins comparisons)))) (leads-maybe x (begins-wider (exactly w.word_in ∷ []) _ refl (begins-then (token-begins w.word_in)))))
       (λ x. refl) (λ x b. refl)
 
@@ -392,8 +386,8 @@ module _ (C : Type 0) (n : ℕ) (inner : ExprReaders) (law : InnerLaws n inner) 
       → Lawful C (λ floor m. F floor m >>= λ x. many (token k >> F floor m) >>= λ more. nothing (chain make x more)) n (p.read_chained n inner k make q) (stops_by (λ x. exactly k ∷ ys))
   chained-lawful k make ys self ap_art inside within f =
       next-led (exactly k ∷ []) (λ x. ys) (λ x. exactly k ∷ ys) f
-          (λ x. made (exactly k ∷ ys) (chain make x) (repeated (exactly k ∷ []) (λ x. ys) (exactly k ∷ ys) (next (token-lawful k self) (λ _. f)) (begins-then (token-begins k)) (λ a. ap_art) inside (λ a. within)))
-          (λ x. leads-then (leads-many (begins-then (token-begins k))) (λ more. leads-nothing _)) (λ x. ap_art) (λ x b. within)
+      (λ x. made (exactly k ∷ ys) (chain make x) (repeated (exactly k ∷ []) (λ x. ys) (exactly k ∷ ys) (next (token-lawful k self) (λ _. f)) (begins-then (token-begins k)) (λ a. ap_art) inside (λ a. within)))
+      (λ x. leads-then (leads-many (begins-then (token-begins k))) (λ more. leads-nothing _)) (λ x. ap_art) (λ x b. within)
 
   conjunction-lawful : Lawful C (At g.conjunction) n (p.read_conjunction n inner) (stops_by (λ x. after_conjunction))
   unfolding p.read_conjunction
@@ -411,16 +405,16 @@ module _ (C : Type 0) (n : ℕ) (inner : ExprReaders) (law : InnerLaws n inner) 
   unfolding p.read_equivalence
   equivalence-lawful = next-led (exactly double_arrow ∷ []) (λ x. after_implication) (λ x. after_equivalence) implication-lawful
       (λ x. at-most-once (exactly double_arrow ∷ []) (λ x. after_implication) (λ x. after_equivalence) x
-          (next (token-lawful double_arrow refl) (λ _. made after_implication (expr.Iff x) implication-lawful)) (begins-then (token-begins double_arrow)) refl (λ a. refl))
+      (next (token-lawful double_arrow refl) (λ _. made after_implication (expr.Iff x) implication-lawful)) (begins-then (token-begins double_arrow)) refl (λ a. refl))
       (λ x. leads-maybe x (begins-then (token-begins double_arrow))) (λ x. refl) (λ x b. refl)
 
   pub expr-lawful : Lawful C (At g.expr_rule) n (p.read_expr n inner) (stops_by (λ x. after_expr))
   unfolding p.read_expr
   expr-lawful = next-led (exactly question ∷ []) (λ x. after_equivalence) (λ x. after_expr) equivalence-lawful
       (λ c. at-most-once (exactly question ∷ []) (λ x. after_expr) (λ x. after_expr) c
-          (level question refl (λ _. next-begun (exactly colon ∷ []) (λ x. after_expr) law.expr (λ x. next (token-lawful colon refl) (λ _. made after_expr (expr.Choose c x) law.expr))
-              (λ x. begins-then (token-begins colon)) (λ x. refl)))
-          (begins-then (opener-begins question)) refl (λ a. refl))
+      (level question refl (λ _. next-begun (exactly colon ∷ []) (λ x. after_expr) law.expr (λ x. next (token-lawful colon refl) (λ _. made after_expr (expr.Choose c x) law.expr))
+      (λ x. begins-then (token-begins colon)) (λ x. refl)))
+      (begins-then (opener-begins question)) refl (λ a. refl))
       (λ c. leads-maybe c (begins-then (opener-begins question))) (λ x. refl) (λ x b. refl)
 
   -- a span, as a member
@@ -435,8 +429,8 @@ module _ (C : Type 0) (n : ℕ) (inner : ExprReaders) (law : InnerLaws n inner) 
   span-accepts c t e =
       let k = number-token t e in
       accepts-then {S = λ s floor m. nothing (member.Span s.0 s.1)} {n = n} {st = λ x o. true} (λ s. pure-law n (member.Span s.0 s.1) (λ x o. true)) t
-          (accepts-take {S = λ low floor m. token dots >> number >>= λ high. nothing (made_span low high)} {n = n} {st = stops_by closed} a_number
-              (λ low. (span-rest low).law c) t k.0 k.1)
+      (accepts-take {S = λ low floor m. token dots >> number >>= λ high. nothing (made_span low high)} {n = n} {st = stops_by closed} a_number
+      (λ low. (span-rest low).law c) t k.0 k.1)
     where
       span-rest : (low : ℕ × ℕ) → Lawful C (λ floor m. token dots >> number >>= λ high. nothing (made_span low high)) n
           (bind (take (a_token dots)) (λ _. bind (take a_number) (λ high. pure (made_span low high)))) (stops_by closed)
@@ -446,7 +440,7 @@ module _ (C : Type 0) (n : ℕ) (inner : ExprReaders) (law : InnerLaws n inner) 
   one-accepts c t e =
       let k = number-token t e in
       accepts-law expr_marks (one-member.law c) (begins-then expr-begins) t [] (member.One (expr.Number k.0.0 k.0.1))
-          (expr.Number k.0.0 k.0.1, [], prim-expr (λ i. 0) 0 (t ∷ []) _ [] (inl (k.0, [], (k.1, refl), (refl, refl))), (refl, refl)) refl
+      (expr.Number k.0.0 k.0.1, [], prim-expr (λ i. 0) 0 (t ∷ []) _ [] (inl (k.0, [], (k.1, refl), (refl, refl))), (refl, refl)) refl
 
   pub member-lawful : Lawful C (At g.member_rule) n (p.read_member n inner) (stops_by (λ x. after_member))
   unfolding p.read_member

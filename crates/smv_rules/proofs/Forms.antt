@@ -1,17 +1,17 @@
 -- The laws in the forms of the grammar, with conditions on marks that are seen by computing.
-use Rattle.std.proofs.Common.{◌≡◌, ℕ, zero, suc, ◌<◌, ◌≤◌, ◌+◌, ◌-◌, Bool, true, false, not, ◌||◌, cond, List, [], ◌∷◌, ◌++◌, length, length-append, Option, Some, None, Ok, Err, ◌⊎◌, inl, inr, refl, sym, ◌∙◌, ap, subst, arith}
+use Rattle.std.proofs.Common.{◌≡◌, ℕ, suc, ◌<◌, ◌-◌, Bool, true, false, ◌||◌, cond, List, [], ◌∷◌, ◌++◌, length, length-append, Option, Some, None, ◌⊎◌, inl, inr, refl, sym, ◌∙◌, subst, arith}
 use Rattle.smv_core.specs.declared.token.Token.{Token}
 use Rattle.smv_core.specs.declared.token.TokenKind.{TokenKind}
 use Rattle.smv_core.specs.declared.token.TokenKind.TheVariants.{Ident, Number, Sign, Reserved}
 use Rattle.smv_core.specs.declared.tree.Word.{Word}
 use Rattle.smv_core.specs.Signs.{comma}
-use Rattle.smv_core.specs.Notation.{Tokens, Rule, nothing, ◌>>=◌, ◌>>◌, ◌/◌, many, separated, one, token, name, number, one_of, opener, same_kind, found, with_place, name_of, number_of}
+use Rattle.smv_core.specs.Notation.{Tokens, nothing, ◌>>=◌, ◌>>◌, ◌/◌, many, separated, token, name, number, one_of, opener, same_kind, found, with_place, name_of, number_of}
 use Rattle.smv_rules.specs.Parsing.{Parser, bind, pure, take, take_open, starts, fork, loop}
-use Rattle.smv_rules.specs.Lawful.{Levels, first, Law, Lawful}
-use Rattle.smv_rules.specs.Marks.{Mark, any_name, any_number, exactly, is_mark, has_mark, begins, stops_by}
+use Rattle.smv_rules.specs.Lawful.{Levels, first, Lawful}
+use Rattle.smv_rules.specs.Marks.{Mark, any_name, any_number, exactly, has_mark, begins, stops_by}
 use Rattle.smv_rules.specs.Readers.{a_token, a_name, a_number, an_entry, maybe, read_separated}
 use Rattle.smv_rules.proofs.Sequence.{followed}
-use Rattle.smv_rules.proofs.Tokens.{Includes, Sample, nothing-lawful, one-lawful, same-lawful, stopped}
+use Rattle.smv_rules.proofs.Tokens.{nothing-lawful, one-lawful, same-lawful, stopped}
 use Rattle.smv_rules.proofs.Opening.{opened-lawful}
 use Rattle.smv_rules.proofs.Choice.{chosen}
 use Rattle.smv_rules.proofs.Many.{Takes, looped}
@@ -197,7 +197,7 @@ pub repeated : {C A : Type 0} {F : Levels A} {n : ℕ} {p : Parser A} (xs : List
     → ((a : A) → apart xs (ys a) ≡ true) → covered xs zs ≡ true → ((a : A) → covered (ys a) zs ≡ true) → Lawful C (λ floor m. many (F floor m)) n (loop (begins xs) p) (stops_by (λ items. zs))
 repeated {C = C} {A = A} {F = F} {n = n} {p = p} xs ys zs f starts-so ap_art inside within =
     stopped at (looped (begins xs) (λ t. stops_by (λ (i : ℕ). zs) 0 t) f starts-so.holds takes (λ floor m ts a rest h e. stops-starts ys a xs rest (ap_art a) e)
-        (λ ts e. stops-not (λ (i : ℕ). zs) 0 xs ts inside e) (λ floor m ts a rest h e. stops-more ys (λ (i : ℕ). zs) a 0 (first rest) (within a) e))
+    (λ ts e. stops-not (λ (i : ℕ). zs) 0 xs ts inside e) (λ floor m ts a rest h e. stops-more ys (λ (i : ℕ). zs) a 0 (first rest) (within a) e))
   where
     at : (items : List A) (t : Option Token) → stops_by (λ (items : List A). zs) items t ≡ true → stops_by (λ (i : ℕ). zs) 0 t ≡ true
     at items None e = refl
@@ -215,7 +215,7 @@ pub at-most-once : {C A : Type 0} {F : Levels A} {n : ℕ} {p : Parser A} (xs : 
     → covered xs (zs b) ≡ true → ((a : A) → covered (ys a) (zs a) ≡ true) → Lawful C (λ floor m. F floor m / nothing b) n (maybe xs p b) (stops_by zs)
 at-most-once xs ys zs b f starts-so inside within =
     chosen (begins xs) (stopped (λ a t e. stops-more ys zs a a t (within a) e) f) (nothing-lawful b) starts-so.holds
-        (λ floor m ts a rest h stop. let e = h.0 in let q = h.1 in stops-not zs b xs ts inside (rw q (rw e stop)))
+    (λ floor m ts a rest h stop. let e = h.0 in let q = h.1 in stops-not zs b xs ts inside (rw q (rw e stop)))
 
 -- X | Y
 pub alternative : {C A : Type 0} {F G : Levels A} {n : ℕ} {p q : Parser A} {st : A → Option Token → Bool} (xs ys : List Mark) → Lawful C F n p st → Lawful C G n q st
@@ -245,7 +245,7 @@ pub optionally : {C A : Type 0} {F : Levels A} {n : ℕ} {p : Parser A} (xs : Li
     → Lawful C (λ floor m. (F floor m >>= λ a. nothing (Some a)) / nothing None) n (maybe xs (bind p (λ a. pure (Some a))) None) (stops_by zs)
 optionally {C = C} {A = A} {F = F} {n = n} {p = p} xs ys zs f starts-so inside within =
     chosen (begins xs) some (nothing-lawful None) (begins-then starts-so).holds
-        (λ floor m ts a rest h stop. let e = h.0 in let q = h.1 in stops-not zs None xs ts inside (rw q (rw e stop)))
+    (λ floor m ts a rest h stop. let e = h.0 in let q = h.1 in stops-not zs None xs ts inside (rw q (rw e stop)))
   where
     some : Lawful C (λ floor m. F floor m >>= λ a. nothing (Some a)) n (bind p (λ a. pure (Some a))) (stops_by zs)
     some = followed f (λ a. nothing-lawful (Some a)) (λ floor m a b middle rest h stop.
@@ -266,8 +266,8 @@ pub separated-lawful : {C A : Type 0} {F : Levels A} {n : ℕ} {p : Parser A} (y
     → Lawful C (λ floor m. separated (F floor m)) n (read_separated p) (stops_by (λ items. zs))
 separated-lawful ys zs f ap_art inside within =
     next-led (exactly comma ∷ []) ys (λ items. zs) f
-        (λ x. made zs (λ more. x ∷ more) (repeated (exactly comma ∷ []) ys zs (next (token-lawful comma refl) (λ _. f)) (begins-then (token-begins comma)) ap_art inside within))
-        (λ x. leads-then (leads-many (begins-then (token-begins comma))) (λ more. leads-nothing (x ∷ more))) ap_art (λ a items. within a)
+    (λ x. made zs (λ more. x ∷ more) (repeated (exactly comma ∷ []) ys zs (next (token-lawful comma refl) (λ _. f)) (begins-then (token-begins comma)) ap_art inside within))
+    (λ x. leads-then (leads-many (begins-then (token-begins comma))) (λ more. leads-nothing (x ∷ more))) ap_art (λ a items. within a)
 
 -- X Y, where Y begins with the marks
 pub next-begun : {C A B : Type 0} {F : Levels A} {S : A → Levels B} {n : ℕ} {p : Parser A} {q : A → Parser B} {st : B → Option Token → Bool} (xs : List Mark) (ys : A → List Mark)

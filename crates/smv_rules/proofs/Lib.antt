@@ -9,3 +9,4 @@ pub mod Marks
 pub mod Forms
 pub mod Expressions
 pub mod Second
+pub mod One

@@ -1,5 +1,5 @@
 -- Facts on lists of tokens and on outcomes.
-use Rattle.std.proofs.Common.{◌≡◌, ℕ, Bool, true, false, List, [], ◌∷◌, ◌++◌, Option, Some, None, Ok, refl, ap, append_assoc}
+use Rattle.std.proofs.Common.{◌≡◌, Bool, [], ◌∷◌, ◌++◌, Ok, refl, ap, append_assoc}
 use Rattle.smv_core.specs.declared.token.Token.{Token}
 use Rattle.smv_core.specs.Notation.{Tokens}
 use Rattle.smv_rules.specs.Parsing.{Outcome, starts}

@@ -1,10 +1,10 @@
 -- The law of what stands any number of times.
-use Rattle.std.proofs.Common.{◌≡◌, ℕ, zero, suc, ◌<◌, ◌≤◌, ◌+◌, Bool, true, false, cond, List, [], ◌∷◌, ◌++◌, length, Option, Some, None, Result, Ok, Err, ◌⊎◌, inl, inr, refl, sym, ◌∙◌, ap, subst, append_assoc, arith}
+use Rattle.std.proofs.Common.{◌≡◌, ℕ, zero, suc, ◌<◌, ◌≤◌, Bool, true, false, cond, List, [], ◌∷◌, ◌++◌, length, Option, Ok, Err, ◌⊎◌, inl, inr, refl, sym, ◌∙◌, ap, subst, append_assoc, arith}
 use Rattle.smv_core.specs.declared.token.Token.{Token}
-use Rattle.smv_core.specs.Notation.{Tokens, Rule, many}
+use Rattle.smv_core.specs.Notation.{Tokens, many}
 use Rattle.smv_rules.specs.Parsing.{Halt, Halts, Outcome, Parser, and_then, starts, turns, loop}
 use Rattle.smv_rules.specs.Lawful.{Levels, first, Above, Finishes, Completes, Reads, kept, AtToken, IsPlaceOf, Stuck, IsDeep, Law, Lawful}
-use Rattle.smv_rules.proofs.Lists.{same_ok, first-append, starts-same, regroup, regroup-end}
+use Rattle.smv_rules.proofs.Lists.{same_ok, first-append, starts-same, regroup}
 
 -- a parser that reads a value takes a token
 abbrev pub Takes : {A : Type 0} → Parser A → Type 0
@@ -65,12 +65,16 @@ module _ {A : Type 0} (F : Levels A) where
               where
                 e1 : first (v.front ++ other) ≡ first middle
                 e1 = first-append v.front other rest same ∙ ap first (sym v.split)
+
                 e2 : p ((u.front ++ v.front) ++ other) ≡ Ok (a, v.front ++ other)
                 e2 = rw append_assoc (u.again (v.front ++ other) e1)
+
                 e3 : starts test ((u.front ++ v.front) ++ other) ≡ true
                 e3 = rw append_assoc (same-head ts u.front middle (v.front ++ other) u.split e1 ∙ e)
+
                 less : length (v.front ++ other) < length ((u.front ++ v.front) ++ other)
                 less = shrinks _ a _ e2
+
                 go : (k : ℕ) → length ((u.front ++ v.front) ++ other) ≤ k → turns test p k ((u.front ++ v.front) ++ other) ≡ Ok (a ∷ more, other)
                 go zero le = absurd (let l = less in omega arith)
                 go (suc k) le =
@@ -165,6 +169,7 @@ module _ {A : Type 0} (F : Levels A) where
               where
                 e3 : starts test (u.front ++ other) ≡ true
                 e3 = same-head ts u.front bad other u.split same ∙ e
+
                 go : (x : Tokens) → u.front ++ other ≡ x → (k : ℕ) → length (u.front ++ other) ≤ k → turns test p k (u.front ++ other) ≡ Err (Halts deep other)
                 go [] ex k le = absurd (let e4 : starts test [] ≡ true = rw ex at e3 in cc)
                 go (t ∷ x) ex zero le = absurd (let l = ap length ex in omega arith)
@@ -184,9 +189,11 @@ module _ {A : Type 0} (F : Levels A) where
                 more = g.more;
                 value = a ∷ g.value;
                 enough = g.enough;
-                spelled = λ floor m w z l r.
-                    (((v.front ++ kept deep bad) ++ g.more) ++ r, rw (regroup u.front v.front (kept deep bad) g.more r) (u.spelled floor m w (((v.front ++ kept deep bad) ++ g.more) ++ r)),
-                     g.spelled floor m w z l r);
+                spelled = λ floor m w z l r. (
+                  ((v.front ++ kept deep bad) ++ g.more) ++ r,
+                  rw (regroup u.front v.front (kept deep bad) g.more r) (u.spelled floor m w (((v.front ++ kept deep bad) ++ g.more) ++ r)),
+                  g.spelled floor m w z l r,
+                );
               };
           again = again;
         }
@@ -196,12 +203,16 @@ module _ {A : Type 0} (F : Levels A) where
               where
                 e1 : first (v.front ++ other) ≡ first middle
                 e1 = first-append v.front other bad same ∙ ap first (sym v.split)
+
                 e2 : p ((u.front ++ v.front) ++ other) ≡ Ok (a, v.front ++ other)
                 e2 = rw append_assoc (u.again (v.front ++ other) e1)
+
                 e3 : starts test ((u.front ++ v.front) ++ other) ≡ true
                 e3 = rw append_assoc (same-head ts u.front middle (v.front ++ other) u.split e1 ∙ e)
+
                 less : length (v.front ++ other) < length ((u.front ++ v.front) ++ other)
                 less = shrinks _ a _ e2
+
                 go : (k : ℕ) → length ((u.front ++ v.front) ++ other) ≤ k → turns test p k ((u.front ++ v.front) ++ other) ≡ Err (Halts deep other)
                 go zero le = absurd (let l = less in omega arith)
                 go (suc k) le =

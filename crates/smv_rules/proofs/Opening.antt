@@ -1,10 +1,9 @@
 -- The law of a token that opens a level, and of what stands in it.
-use Rattle.std.proofs.Common.{◌≡◌, ℕ, zero, suc, ◌<◌, ◌≤◌, ◌+◌, ◌-◌, max, Bool, true, false, List, [], ◌∷◌, ◌++◌, Option, Some, None, Ok, Err, ◌⊎◌, inl, inr, refl, sym, ◌∙◌, ap, subst, append_assoc, arith}
+use Rattle.std.proofs.Common.{◌≡◌, ℕ, zero, suc, ◌<◌, ◌≤◌, ◌+◌, ◌-◌, Bool, true, false, [], ◌∷◌, ◌++◌, Option, Some, None, Ok, Err, ◌⊎◌, inl, inr, refl, sym, ◌∙◌, ap, subst, arith}
 use Rattle.smv_core.specs.declared.token.Token.{Token}
-use Rattle.smv_core.specs.Notation.{Tokens, Rule, nothing, one, ◌>>=◌, ◌>>◌, opens}
-use Rattle.smv_rules.specs.Parsing.{Halt, Halts, Outcome, Parser, take, opened, take_open}
-use Rattle.smv_rules.specs.Lawful.{Levels, first, Above, Finishes, Completes, Reads, kept, AtToken, IsPlaceOf, Stuck, IsDeep, Law, Lawful}
-use Rattle.smv_rules.proofs.Tokens.{first-end, first-none}
+use Rattle.smv_core.specs.Notation.{Tokens, nothing, one, ◌>>=◌, ◌>>◌, opens}
+use Rattle.smv_rules.specs.Parsing.{Halts, Parser, opened, take_open}
+use Rattle.smv_rules.specs.Lawful.{Levels, first, Above, Finishes, Completes, Reads, kept, Stuck, IsDeep, Law, Lawful}
 
 module _ {A : Type 0} (read : Token → Option ℕ) (S : ℕ → Levels A) where
   -- the token, and what comes after it, which knows how many levels were left before it

@@ -1,8 +1,8 @@
 -- What stands behind the first token.
-use Rattle.std.proofs.Common.{◌≡◌, ℕ, zero, suc, ◌<◌, ◌≤◌, ◌+◌, Bool, true, false, ◌&&◌, List, [], ◌∷◌, ◌++◌, length, length-append, Option, Some, None, Ok, Err, ◌⊎◌, inl, inr, refl, sym, ◌∙◌, ap, subst, arith}
+use Rattle.std.proofs.Common.{◌≡◌, ℕ, suc, ◌<◌, ◌≤◌, ◌+◌, Bool, true, false, ◌&&◌, List, [], ◌∷◌, ◌++◌, length, length-append, Option, Some, None, Ok, Err, ◌⊎◌, inl, inr, refl, sym, ◌∙◌, ap, subst, arith}
 use Rattle.smv_core.specs.declared.token.Token.{Token}
-use Rattle.smv_core.specs.Notation.{Tokens, Rule, nothing, one, ◌>>=◌, ◌/◌}
-use Rattle.smv_rules.specs.Parsing.{Halts, Outcome, Parser, and_then, bind, take, taken, starts, starts2}
+use Rattle.smv_core.specs.Notation.{Tokens, one, ◌>>=◌, ◌/◌}
+use Rattle.smv_rules.specs.Parsing.{Halts, Outcome, Parser, and_then, bind, take, starts, starts2}
 use Rattle.smv_rules.specs.Lawful.{Levels, first, Law, IsDeep}
 use Rattle.smv_rules.specs.Marks.{Mark, begins, stops_by}
 use Rattle.smv_rules.proofs.Marks.{apart, covered, starts-not, stops-not}

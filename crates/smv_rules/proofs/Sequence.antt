@@ -1,10 +1,10 @@
 -- The law of one parser after another.
-use Rattle.std.proofs.Common.{◌≡◌, ℕ, zero, suc, ◌<◌, ◌≤◌, ◌+◌, max, Bool, true, false, List, [], ◌∷◌, ◌++◌, Option, Some, None, Ok, Err, ◌⊎◌, inl, inr, refl, sym, ◌∙◌, ap, subst, append_assoc, arith}
+use Rattle.std.proofs.Common.{◌≡◌, ℕ, max, Bool, true, ◌++◌, Option, Ok, Err, ◌⊎◌, inl, inr, refl, sym, ◌∙◌, ap, append_assoc, arith}
 use Rattle.std.proofs.Math.Nat.{le-max_left, le-max_right}
 use Rattle.smv_core.specs.declared.token.Token.{Token}
-use Rattle.smv_core.specs.Notation.{Tokens, Rule, ◌>>=◌}
-use Rattle.smv_rules.specs.Parsing.{Halt, Halts, Outcome, Parser, and_then, bind}
-use Rattle.smv_rules.specs.Lawful.{Levels, first, Above, Finishes, Completes, Reads, kept, AtToken, IsPlaceOf, Stuck, IsDeep, Law, Lawful}
+use Rattle.smv_core.specs.Notation.{Tokens, ◌>>=◌}
+use Rattle.smv_rules.specs.Parsing.{Halts, Outcome, Parser, and_then, bind}
+use Rattle.smv_rules.specs.Lawful.{Levels, first, Finishes, Reads, kept, Stuck, IsDeep, Law, Lawful}
 use Rattle.smv_rules.proofs.Lists.{first-append, regroup, regroup-end}
 
 module _ {A B : Type 0} (F : Levels A) (S : A → Levels B) where
@@ -86,9 +86,12 @@ module _ {A B : Type 0} (F : Levels A) (S : A → Levels B) where
                 more = g.more;
                 value = g.value;
                 enough = g.enough;
-                spelled = λ floor m w z e r.
-                    (a, ((v.front ++ kept deep bad) ++ g.more) ++ r, rw (regroup u.front v.front (kept deep bad) g.more r) (u.spelled floor m w (((v.front ++ kept deep bad) ++ g.more) ++ r)),
-                     g.spelled floor m w z e r);
+                spelled = λ floor m w z e r. (
+                  a,
+                  ((v.front ++ kept deep bad) ++ g.more) ++ r,
+                  rw (regroup u.front v.front (kept deep bad) g.more r) (u.spelled floor m w (((v.front ++ kept deep bad) ++ g.more) ++ r)),
+                  g.spelled floor m w z e r,
+                );
               };
           again = λ other same.
               let e1 : first (v.front ++ other) ≡ first middle = first-append v.front other bad same ∙ ap first (sym v.split) in

@@ -1,9 +1,9 @@
 -- The laws of no token, of one token, and of a law in another form.
-use Rattle.std.proofs.Common.{◌≡◌, ℕ, zero, suc, ◌<◌, ◌≤◌, Bool, true, false, List, [], ◌∷◌, ◌++◌, Option, Some, None, Ok, Err, ◌⊎◌, inl, inr, refl, sym, ◌∙◌, ap, subst, arith}
+use Rattle.std.proofs.Common.{◌≡◌, ℕ, Bool, true, false, [], ◌∷◌, ◌++◌, Option, Some, None, Ok, Err, inl, refl, sym, ◌∙◌, ap, subst}
 use Rattle.smv_core.specs.declared.token.Token.{Token}
-use Rattle.smv_core.specs.Notation.{Tokens, Rule, nothing, one}
-use Rattle.smv_rules.specs.Parsing.{Halt, Halts, Outcome, Parser, pure, taken, take}
-use Rattle.smv_rules.specs.Lawful.{Levels, first, Above, Finishes, Completes, Reads, kept, AtToken, IsPlaceOf, Stuck, IsDeep, Law, Lawful}
+use Rattle.smv_core.specs.Notation.{Tokens, nothing, one}
+use Rattle.smv_rules.specs.Parsing.{Halts, Parser, pure, taken, take}
+use Rattle.smv_rules.specs.Lawful.{Levels, first, Finishes, Completes, Reads, Stuck, Law, Lawful}
 use Rattle.smv_rules.proofs.Lists.{same_ok}
 
 -- whatever follows

@@ -1,7 +1,5 @@
 -- The parser of expressions, rule by rule.
-use Rattle.std.specs.Prelude.{ℕ, zero, suc, Bool, true, false, if◌then◌else◌, List, [], ◌∷◌, Option, Some, None, Result, Ok, Err}
-use Rattle.std.specs.Str.{bytes_eq}
-use Rattle.smv_core.specs.declared.token.Token.{Token}
+use Rattle.std.specs.Prelude.{ℕ, zero, suc, Bool, true, false, List, [], ◌∷◌, Option, Some, None, Err}
 use Rattle.smv_core.specs.declared.token.TokenKind.{TokenKind}
 use Rattle.smv_core.specs.declared.tree.Word.{Word}
 use Rattle.smv_core.specs.declared.tree.Span.{Span}
@@ -20,10 +18,9 @@ use Rattle.smv_core.specs.declared.tree.TypeExpr.TheVariants as type
 use Rattle.smv_core.specs.Signs.{open_paren, close_paren, open_bracket, close_bracket, open_brace, close_brace, colon, semicolon, comma, dot, dots, becomes}
 use Rattle.smv_core.specs.Signs.{equal, differ, less, at_most, greater, at_least, plus, minus, tilde, ampersand, bar, arrow, double_arrow, question}
 use Rattle.smv_core.specs.Signs as w
-use Rattle.smv_core.specs.Notation.{Tokens}
 use Rattle.smv_core.specs.Grammar.{named, chain, sum_of}
 use Rattle.smv_rules.specs.Parsing.{Halts, Parser, bind, pure, take, take_open, fork, fork2, loop}
-use Rattle.smv_rules.specs.Marks.{Mark, any_name, any_number, exactly, begins}
+use Rattle.smv_rules.specs.Marks.{any_name, any_number, exactly, begins}
 use Rattle.smv_rules.specs.Readers.{a_token, a_name, a_number, an_entry, a_same_name, maybe, read_separated}
 
 -- ---- what opens no level
@@ -99,8 +96,8 @@ module _ (n : ℕ) (inner : ExprReaders) where
   unfoldable pub read_comparison : Parser Expr
   read_comparison = bind read_modulo (λ x.
       fork (begins (exactly equal ∷ exactly differ ∷ exactly less ∷ exactly at_most ∷ exactly greater ∷ exactly at_least ∷ []))
-          (bind (take (an_entry comparisons)) (λ o. bind read_modulo (λ y. pure (expr.Compare o.0 x y))))
-          (maybe (exactly w.word_in ∷ []) (bind (take (a_token w.word_in)) (λ _. bind read_set (λ s. pure (expr.Within x s)))) x))
+      (bind (take (an_entry comparisons)) (λ o. bind read_modulo (λ y. pure (expr.Compare o.0 x y))))
+      (maybe (exactly w.word_in ∷ []) (bind (take (a_token w.word_in)) (λ _. bind read_set (λ s. pure (expr.Within x s)))) x))
 
   unfoldable pub read_negation : Parser Expr
   read_negation = fork (begins (exactly tilde ∷ [])) (take_open (a_token tilde) n (λ at. bind inner.negation (λ x. pure (expr.Not x at)))) read_comparison

@@ -3,3 +3,5 @@ pub mod Lawful
 pub mod Marks
 pub mod Readers
 pub mod Expressions
+pub mod Laws
+pub mod Worked

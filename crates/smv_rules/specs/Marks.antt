@@ -1,8 +1,8 @@
 -- Which tokens begin a value, and which go on with it.
-use Rattle.std.specs.Prelude.{ℕ, Bool, true, false, not, ◌||◌, ◌==◌, List, [], ◌∷◌, Option, Some, None}
+use Rattle.std.specs.Prelude.{Bool, true, false, not, ◌||◌, List, [], ◌∷◌, Option, Some, None}
 use Rattle.smv_core.specs.declared.token.Token.{Token}
 use Rattle.smv_core.specs.declared.token.TokenKind.{TokenKind}
-use Rattle.smv_core.specs.declared.token.TokenKind.TheVariants.{Ident, Number, Sign, Reserved}
+use Rattle.smv_core.specs.declared.token.TokenKind.TheVariants.{Ident, Number}
 use Rattle.smv_core.specs.Notation.{same_kind}
 
 -- any name, any number, or this sign or reserved word
