@@ -11,3 +11,8 @@ pub mod Flat
 pub mod First
 pub mod Verdict
 pub mod formers
+pub mod Signs
+pub mod Notation
+pub mod OpenIf
+pub mod Grammar
+pub mod Spelling

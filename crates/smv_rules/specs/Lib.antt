@@ -1,0 +1,7 @@
+pub mod Parsing
+pub mod Lawful
+pub mod Marks
+pub mod Readers
+pub mod Expressions
+pub mod Laws
+pub mod Worked
