@@ -109,13 +109,13 @@ pub initial_none : (at : ℕ) (ts mid : List Token) → at ≡ offset ts → Beg
 initial_none at ts mid same is none =
     neither by_name (initial (offset ts) / following (offset ts)) ts (init_no_name ts mid is)
     (neither (initial (offset ts)) (following (offset ts)) ts (behind_none (init_word ∷ open_round ∷ []) (IsTimed Init (offset ts)) ts mid is (subst (λ k. NoneIsSpelled (IsTimed Init k mid)) same none))
-      (init_no_next (offset ts) ts mid is))
+    (init_no_next (offset ts) ts mid is))
 
 pub following_none : (at : ℕ) (ts mid : List Token) → at ≡ offset ts → Begins (next_word ∷ open_round ∷ []) ts mid → NoneIsSpelled (IsTimed Next at mid) → NoneIsSpelled (IsItem ts)
 following_none at ts mid same is none =
     neither by_name (initial (offset ts) / following (offset ts)) ts (next_no_name ts mid is)
     (neither (initial (offset ts)) (following (offset ts)) ts (next_no_init (offset ts) ts mid is)
-      (behind_none (next_word ∷ open_round ∷ []) (IsTimed Next (offset ts)) ts mid is (subst (λ k. NoneIsSpelled (IsTimed Next k mid)) same none)))
+    (behind_none (next_word ∷ open_round ∷ []) (IsTimed Next (offset ts)) ts mid is (subst (λ k. NoneIsSpelled (IsTimed Next k mid)) same none)))
 
 no_word : (ts : List Token) → IsNotThere (init_word ∷ open_round ∷ []) ts → IsNotThere (next_word ∷ open_round ∷ []) ts → NoneIsSpelled ((initial (offset ts) / following (offset ts)) ts)
 no_word ts never never' =

@@ -96,6 +96,7 @@ named_unique x =
   where
     claims_apart : (ts : List Token) (a b : Item) (rest other : List Token) → IsClaim x ts a rest → IsDeclaration x ts b other → ⊥
     claims_apart ts a b rest other d e = let p = behind_in (colon ∷ assert_word ∷ globally ∷ []) (IsClaimed x) ts a rest d in no_declaration_claimed x ts p.0 p.1 b other e
+
     definitions_apart : (ts : List Token) (a b : Item) (rest other : List Token) → IsDefinition x ts a rest → (IsClaim x / IsDeclaration x) ts b other → ⊥
     definitions_apart ts a b rest other d e = let p = behind_in (becomes ∷ []) _ ts a rest d in neither (IsClaim x) (IsDeclaration x) ts (no_claim x ts p.0 p.1) (no_declaration x ts p.0 p.1) b other e
 
@@ -132,6 +133,7 @@ item_at_unique at =
   where
     timed_apart : (ts : List Token) (a b : Item) (rest other : List Token) → initial at ts a rest → following at ts b other → ⊥
     timed_apart ts a b rest other d e = let p = behind_in (init_word ∷ open_round ∷ []) (IsTimed Init at) ts a rest d in init_no_next at ts p.0 p.1 b other e
+
     names_first : (ts : List Token) (a b : Item) (rest other : List Token) → by_name ts a rest → (initial at / following at) ts b other → ⊥
     names_first ts a b rest other d (inl e) = let p = behind_in (init_word ∷ open_round ∷ []) (IsTimed Init at) ts b other e in init_no_name ts p.0 p.1 a rest d
     names_first ts a b rest other d (inr e) = let p = behind_in (next_word ∷ open_round ∷ []) (IsTimed Next at) ts b other e in next_no_name ts p.0 p.1 a rest d
