@@ -13,9 +13,9 @@ use Rattle.smv_core.specs.declared.tree.Text.{Text}
 use Rattle.smv_parse.specs.Answers.{NoneIsSpelled}
 use Rattle.smv_parse.specs.Tokens.{open_round, close_round, open_curly, close_curly, colon, semicolon, becomes, assert_word, globally, init_word, module_word, next_word, tokens_of}
 use Rattle.smv_parse.specs.Spelling.{SpellsSmall}
-use Rattle.smv_parse.specs.Grammar.{◌>>=◌, ◌>>◌, ◌/◌, gives, Begins, until, levels, offset, one_module, IsExpr, IsName, IsNext, typed, IsEnded, IsAssigned, IsDefinition, IsClaimed, IsClaim, IsDeclaration, IsNamed, IsTimed, IsItem, IsMain, IsBody, IsModule}
+use Rattle.smv_parse.specs.Grammar.{◌>>◌, ◌/◌, gives, Begins, until, levels, offset, one_module, IsExpr, IsName, IsNext, typed, IsEnded, IsAssigned, IsDefinition, IsClaimed, IsClaim, IsDeclaration, IsNamed, IsTimed, IsItem, IsMain, IsBody, IsModule}
 use Rattle.smv_parse.proofs.Rules.{Continues, continues_on, behind_found, behind_none, none_behind, then_none, none_then, neither}
-use Rattle.smv_parse.proofs.Productions.{expr_unique, name_unique, main_unique, items_unique, module_unique, next_name_unique, next_name_apart, no_claim, no_declaration, no_declaration_claimed, by_name, initial, following, init_no_name, next_no_name, init_no_next, next_no_init, in_braces}
+use Rattle.smv_parse.proofs.Productions.{expr_unique, name_unique, main_unique, module_unique, next_name_unique, next_name_apart, no_claim, no_declaration, no_declaration_claimed, by_name, initial, following, init_no_name, next_no_name, init_no_next, next_no_init, in_braces}
 
 abbrev pub IsNotThere : List TokenKind → List Token → Type 0
 IsNotThere kinds ts = (rest : List Token) → Begins kinds ts rest → ⊥

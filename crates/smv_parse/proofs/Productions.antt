@@ -1,23 +1,19 @@
 -- Laws of the productions: each spells one tree at most, and no two that stand beside each other begin alike.
-use Rattle.std.proofs.Common.{◌≡◌, ℕ, List, [], ◌∷◌, ◌++◌, refl, sym, ap, ◌∙◌, subst, inl, inr, Some}
+use Rattle.std.proofs.Common.{◌≡◌, ℕ, List, [], ◌∷◌, refl, sym, ap, ◌∙◌, subst, inl, inr, Some}
 use Rattle.smv_core.specs.declared.token.Token.{Token}
 use Rattle.smv_core.specs.declared.token.TokenKind.{TokenKind}
 use Rattle.smv_core.specs.declared.token.TokenKind.TheVariants.{Ident}
 use Rattle.smv_core.specs.declared.tree.Word.{Word}
-use Rattle.smv_core.specs.declared.tree.Expr.{Expr}
-use Rattle.smv_core.specs.declared.tree.Item.{Item, Declare, Claim, Act}
-use Rattle.smv_core.specs.declared.tree.Stmt.{Assign}
+use Rattle.smv_core.specs.declared.tree.Item.{Item}
 use Rattle.smv_core.specs.declared.tree.Kind.{Kind}
 use Rattle.smv_core.specs.declared.tree.Kind.TheVariants.{Init, Next}
-use Rattle.smv_core.specs.declared.tree.Role.TheVariants.{Plain}
-use Rattle.smv_core.specs.declared.tree.TypeExpr.{Boolean}
 use Rattle.smv_core.specs.declared.tree.Text.{Text}
 use Rattle.smv_parse.specs.Answers.{NoneIsSpelled}
 use Rattle.smv_parse.specs.Tokens.{open_round, close_round, open_curly, close_curly, colon, semicolon, comma, becomes, assert_word, boolean_word, globally, init_word, module_word, next_word}
 use Rattle.smv_parse.specs.Spelling.{SpellsSmall}
-use Rattle.smv_parse.specs.Grammar.{Rule, ◌>>=◌, ◌>>◌, ◌/◌, gives, Begins, until, join, implication, levels, offset, path_of, one_module, IsExpr, IsName, IsEnded, IsAssigned, IsDefinition, IsClaimed, IsClaim, IsNext, typed, IsDeclaration, IsNamed, IsTimed, IsItem, IsMain, IsBody, IsModule}
-use Rattle.smv_parse.proofs.Unique.{Same, operands-unique}
-use Rattle.smv_parse.proofs.Rules.{Continues, continues_on, behind_found, then_none, behind_none, IsUnique, IsApart, behind, behind_unique, behind_apart, begins_apart, behind_in, none_behind, none_then, neither, then_unique, gives_unique, either_unique, until_unique}
+use Rattle.smv_parse.specs.Grammar.{Rule, ◌>>=◌, ◌>>◌, ◌/◌, gives, Begins, until, join, implication, levels, offset, one_module, IsExpr, IsName, IsEnded, IsAssigned, IsDefinition, IsClaimed, IsClaim, IsNext, typed, IsDeclaration, IsNamed, IsTimed, IsItem, IsMain, IsBody, IsModule}
+use Rattle.smv_parse.proofs.Unique.{operands-unique}
+use Rattle.smv_parse.proofs.Rules.{IsUnique, IsApart, behind_unique, behind_apart, begins_apart, behind_in, none_then, neither, then_unique, gives_unique, either_unique, until_unique}
 
 -- ---- one tree at most
 

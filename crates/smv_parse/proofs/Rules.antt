@@ -1,5 +1,5 @@
 -- Laws of rules: what they spell, where they spell nothing, and that they spell one tree at most.
-use Rattle.std.proofs.Common.{◌≡◌, ℕ, List, [], ◌∷◌, ◌++◌, refl, sym, ap, ◌∙◌, subst, append_assoc, append-nil, inl, inr}
+use Rattle.std.proofs.Common.{◌≡◌, List, [], ◌∷◌, ◌++◌, refl, sym, ap, ◌∙◌, subst, append_assoc, append-nil, inl, inr}
 use Rattle.smv_core.specs.declared.token.Token.{Token}
 use Rattle.smv_core.specs.declared.token.TokenKind.{TokenKind}
 use Rattle.smv_parse.specs.Answers.{NoneIsSpelled}

@@ -1,6 +1,6 @@
 -- How a small text is spelled, by one rule for each production. A rule holds of some tokens, a tree and a rest where the tokens begin with a spelling
 -- of the tree, and the rest follows. Where a rule has a number k, at most k levels are opened in it: one by each `(`, and one by each `~` for its operand.
-use Rattle.std.specs.Prelude.{◌≡◌, ◌≢◌, ◌⊎◌, ℕ, zero, suc, ◌-◌, List, [], ◌∷◌, codes}
+use Rattle.std.specs.Prelude.{◌≡◌, ◌≢◌, ◌⊎◌, ℕ, suc, List, [], ◌∷◌, codes}
 use Rattle.smv_parse.specs.Tokens.{open_round, close_round, open_curly, close_curly, colon, semicolon, comma, becomes, tilde, ampersand, bar, arrow, assert_word, boolean_word, globally, init_word, module_word, next_word}
 use Rattle.smv_core.specs.declared.token.Token.{Token}
 use Rattle.smv_core.specs.declared.token.TokenKind.{TokenKind}
@@ -10,14 +10,13 @@ use Rattle.smv_core.specs.declared.tree.Word.{Word}
 use Rattle.smv_core.specs.declared.tree.Path.{Path, roll-Path}
 use Rattle.smv_core.specs.declared.tree.Part.{Field}
 use Rattle.smv_core.specs.declared.tree.Expr.{Expr, Number, Signal, Not, And, Or, Implies}
-use Rattle.smv_core.specs.declared.tree.Stmt.{Stmt, Assign}
+use Rattle.smv_core.specs.declared.tree.Stmt.{Assign}
 use Rattle.smv_core.specs.declared.tree.Item.{Item, Declare, Claim, Act}
 use Rattle.smv_core.specs.declared.tree.Kind.{Kind}
 use Rattle.smv_core.specs.declared.tree.Kind.TheVariants.{Comb, Init, Next}
 use Rattle.smv_core.specs.declared.tree.Role.TheVariants.{Plain}
-use Rattle.smv_core.specs.declared.tree.TypeExpr.{TypeExpr, Boolean}
+use Rattle.smv_core.specs.declared.tree.TypeExpr.{Boolean}
 use Rattle.smv_core.specs.declared.tree.Text.{Text}
-use Rattle.smv_core.specs.declared.tree.Top.{Top}
 use Rattle.smv_core.specs.declared.tree.Top.TheVariants.{Module}
 
 -- which trees the front of a list of tokens spells, and what comes after it

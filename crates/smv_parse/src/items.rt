@@ -1,11 +1,11 @@
 // Tokens to items and to the module.
-ghost use Rattle.std.specs.Prelude.{◌≡◌, ◌<◌, ◌≤◌, ◌↔◌, length, map, codes, IfOk, IfErr, IsTrue, IfSome, IfNone, List, [], ◌∷◌};
+ghost use Rattle.std.specs.Prelude.{◌≡◌, ◌<◌, ◌≤◌, ◌↔◌, length, map, IfOk, IsTrue, IfSome, IfNone, List, [], ◌∷◌};
 ghost use Rattle.smv_core.specs.declared.token.Token.{Token};
 ghost use Rattle.smv_core.specs.declared.tree.Word.{Word};
 ghost use Rattle.smv_core.specs.declared.tree.Item.{Item};
 ghost use Rattle.smv_core.specs.declared.tree.Stmt.{Stmt};
 ghost use Rattle.smv_parse.specs.Tokens.{close_curly};
-ghost use Rattle.smv_parse.specs.Grammar.{Begins, until, offset, path_of, one_module, levels, IsNext, typed, IsName, IsEnded, IsAssigned, IsDefinition, IsClaim, IsDeclaration, IsNamed, IsTimed, IsItem, IsMain, IsBody, IsModule, IsClaimed};
+ghost use Rattle.smv_parse.specs.Grammar.{Begins, until, offset, path_of, one_module, IsNext, typed, IsName, IsEnded, IsAssigned, IsDeclaration, IsNamed, IsTimed, IsItem, IsMain, IsBody, IsModule, IsClaimed};
 ghost use Rattle.smv_parse.specs.Answers.{RefusesOnly, NoneIsSpelled};
 ghost use Rattle.smv_parse.specs.Operators.{kind_of};
 
