@@ -7,4 +7,6 @@ pub mod Assignments
 pub mod Allowed
 pub mod Sound
 pub mod Conflicts
+pub mod First
+pub mod Verdict
 pub mod formers

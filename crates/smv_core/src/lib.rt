@@ -4,6 +4,7 @@
 pub mod boxed;
 pub mod fault;
 pub mod name;
+pub mod report;
 pub mod seq;
 pub mod token;
 pub mod tree;
@@ -11,4 +12,5 @@ pub mod tree;
 pub use boxed::Boxed;
 pub use fault::{Fault, Refusal};
 pub use name::Name;
+pub use report::{Report, UnitResult, Verdict};
 pub use seq::Seq;
