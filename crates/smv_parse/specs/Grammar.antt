@@ -102,9 +102,9 @@ abbrev pub ◌>>◌ : {A : Type 0} → TokenKind → Rule A → Rule A
 ◌>>◌ kind r (t ∷ ts) a rest = (t.kind ≡ kind) × r ts a rest
 
 -- one of two rules
-infixr 8 ◌/◌
-abbrev pub ◌/◌ : {A : Type 0} → Rule A → Rule A → Rule A
-◌/◌ r s ts a rest = r ts a rest ⊎ s ts a rest
+infixr 8 ◌<|>◌
+abbrev pub ◌<|>◌ : {A : Type 0} → Rule A → Rule A → Rule A
+◌<|>◌ r s ts a rest = r ts a rest ⊎ s ts a rest
 
 -- this tree, and no token
 abbrev pub gives : {A : Type 0} → A → Rule A
@@ -171,7 +171,7 @@ IsDeclaration x = until IsNext typed >>= λ others. gives (Declare Plain (x ∷ 
 
 -- an item that begins with a name, behind it
 abbrev pub IsNamed : Word → Rule Item
-IsNamed x = IsDefinition x / IsClaim x / IsDeclaration x
+IsNamed x = IsDefinition x <|> IsClaim x <|> IsDeclaration x
 
 -- `x) := e ;`
 abbrev pub IsTimed : Kind → ℕ → Rule Item
@@ -181,8 +181,8 @@ IsTimed kind at = IsName >>= λ x. close_round >> becomes >> IsAssigned kind at 
 abbrev pub IsItem : Rule Item
 IsItem ts =
     ((IsName >>= λ x. IsNamed x)
-    / (init_word >> open_round >> IsTimed Init (offset ts))
-    / (next_word >> open_round >> IsTimed Next (offset ts))) ts
+    <|> (init_word >> open_round >> IsTimed Init (offset ts))
+    <|> (next_word >> open_round >> IsTimed Next (offset ts))) ts
 
 -- the name `main`
 abbrev pub IsMain : Rule Word
