@@ -1,0 +1,5 @@
+pub mod ValueLaws
+pub mod Fronts
+pub mod Stable
+pub mod VerdictLaws
+pub mod DesignLaws

@@ -1,0 +1,16 @@
+// Which trees are first designs.
+ghost use Rattle.std.specs.Prelude.{◌≡◌};
+ghost use Rattle.smv_two_states.specs.Table.{first_of};
+
+use smv_core::tree::Expr;
+use smv_core::Name;
+
+/// The parts of a first design, borrowed from its tree: one boolean signal with its `init` and its `next`, and one claim.
+#[derive(Clone, Copy)]
+pub struct FirstDesign<'a> {
+    pub signal: &'a Name,
+    pub initial: &'a Expr,
+    pub following: &'a Expr,
+    pub claim: &'a Name,
+    pub claimed: &'a Expr,
+}

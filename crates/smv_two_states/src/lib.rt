@@ -1,0 +1,8 @@
+//! Designs of one boolean signal, decided by the table of its two values.
+#![tactic(auto)]
+
+pub mod evaluate;
+pub mod first;
+pub mod laws;
+
+pub use first::FirstDesign;
