@@ -8,7 +8,7 @@ use Rattle.smv_core.specs.Types.{Family, names_of, shape_of, one_value}
 use Rattle.smv_core.specs.FlatOrder.{Design, design_of, Met, said, claimed, Said, Claimed, Body, families_of_item, item_met, declared_as}
 use Rattle.smv_core.specs.Outcome.{State, Scene, same_path, fields_of, allowed_by}
 use Rattle.smv_core.specs.Walk.{Element, Walk, walk, first, first_of, same_kind}
-use Rattle.smv_core.specs.Allowed.{said_in, is_layer, assignments_in}
+use Rattle.smv_core.specs.Allowed.{said_in, is_layer, assignments_in, scene_at}
 use Rattle.smv_core.specs.Assignments.{concerns}
 use Rattle.smv_core.specs.Sound.{ProofUnit, claim_of, units_met}
 use Rattle.smv_core.specs.First.{is_plain, declared_in, claims_in, assigned_in, assigned_by}
@@ -16,7 +16,7 @@ use Rattle.smv_core.specs.declared.tree.Word.{Word}
 use Rattle.smv_core.specs.declared.tree.Role.TheVariants.{Plain}
 use Rattle.smv_core.specs.declared.tree.Kind.{Kind}
 use Rattle.smv_core.specs.declared.tree.TypeExpr.{Boolean}
-use Rattle.smv_core.specs.declared.tree.Path.{out-Path}
+use Rattle.smv_core.specs.declared.tree.Path.{out-Path, Path as TreePath}
 use Rattle.smv_core.specs.declared.tree.Part.{Part, Field}
 use Rattle.smv_core.specs.declared.tree.Expr.{Expr}
 use Rattle.smv_core.specs.declared.tree.Stmt.{Stmt, Assign}
@@ -54,3 +54,78 @@ module _ (bodies : List (Name × Body)) where
   families-plain inside (Act (Assign kind left value at) ∷ items) h = families-plain inside items (both_true _ _ h).1
   families-plain inside (Claim word [] body at ∷ items) h = families-plain inside items h
   families-plain inside (_ ∷ items) h = absurd (true≢false (sym h))
+
+  pub said-plain : (inside : Path → Name → List Met) (items : List Item) → list_all is_plain items ≡ true → flat_map said_in (flat_map (item_met [] bodies inside []) items) ≡ map said_here (acts_in items)
+  said-plain inside [] h = refl
+  said-plain inside (Declare Plain words Boolean at ∷ items) h = said-plain inside items h
+  said-plain inside (Act (Assign kind left value at) ∷ items) h = ap (λ l. said_here (Assign kind left value at) ∷ l) (said-plain inside items (both_true _ _ h).1)
+  said-plain inside (Claim word [] body at ∷ items) h = said-plain inside items h
+  said-plain inside (_ ∷ items) h = absurd (true≢false (sym h))
+
+  pub units-plain : (d : Design) (inside : Path → Name → List Met) (items : List Item) → list_all is_plain items ≡ true →
+      flat_map (units_met d) (flat_map (item_met [] bodies inside []) items) ≡ map (λ c. claim_of (claimed_here c)) (claims_in items)
+  units-plain d inside [] h = refl
+  units-plain d inside (Declare Plain words Boolean at ∷ items) h = units-plain d inside items h
+  units-plain d inside (Act (Assign kind left value at) ∷ items) h = units-plain d inside items (both_true _ _ h).1
+  units-plain d inside (Claim word [] body at ∷ items) h = ap (λ l. claim_of (claimed_here (word.name, body)) ∷ l) (units-plain d inside items h)
+  units-plain d inside (_ ∷ items) h = absurd (true≢false (sym h))
+
+pub outside-layers : (acts : List Stmt) → filter (λ x. is_layer x.layer None) (map said_here acts) ≡ map said_here acts
+outside-layers [] = refl
+outside-layers (act ∷ acts) = ap (λ l. said_here act ∷ l) (outside-layers acts)
+
+-- the left side of a plain assignment is a name
+named_left : (kind : Kind) (left : TreePath) (value : Expr) (at : ℕ) (parts : List Part) → (out-Path left).parts ≡ parts → is_plain (Act (Assign kind left value at)) ≡ true →
+    (word : Word) × ((out-Path left).parts ≡ Field word ∷ [])
+named_left kind left value at (Field word ∷ []) e h = (word, e)
+named_left kind left value at _ e h = absurd (true≢false (sym (rw e at h)))
+
+module _ (name : Name) (kind : Kind) where
+  abbrev pub element : Element
+  element = record { path = name ∷ []; indexes = [] }
+
+  -- an assignment of the kind to the name
+  abbrev concerns_it : Said → Bool
+  concerns_it act = list_any (concerns kind element) (assignments_in act)
+
+  concerned-step : (k b : Bool) (other : Name) (value : Expr) (rest : List (Name × Expr)) → bytes_eq other name ≡ b →
+      (((k && ((b && true) && true)) || false) || list_any (λ (p : Name × Expr). bytes_eq p.0 name) rest) ≡ list_any (λ (p : Name × Expr). bytes_eq p.0 name) ((if k then (other, value) ∷ [] else []) ++ rest)
+  concerned-step false b other value rest e = refl
+  concerned-step true false other value rest e = rw e refl
+  concerned-step true true other value rest e = rw e refl
+
+  pub concerned-plain : (items : List Item) → list_all is_plain items ≡ true →
+      list_any concerns_it (map said_here (acts_in items)) ≡ list_any (λ (p : Name × Expr). bytes_eq p.0 name) (assigned_in kind items)
+  concerned-plain [] h = refl
+  concerned-plain (Declare Plain words Boolean at ∷ items) h = concerned-plain items h
+  concerned-plain (Act (Assign which left value at) ∷ items) h =
+      let both = both_true _ _ h in
+      let named = named_left which left value at _ refl both.0 in
+      rw (named.1, concerned-plain items both.1) (concerned-step (same_kind which kind) (bytes_eq named.0.name name) named.0.name value (assigned_in kind items) refl)
+  concerned-plain (Claim word [] body at ∷ items) h = concerned-plain items h
+  concerned-plain (_ ∷ items) h = absurd (true≢false (sym h))
+
+  module _ (d : Design) (sizes : Sizes) (s : State) (every : List Value) where
+    abbrev walk_it : Said → Walk
+    walk_it act = walk (scene_at d sizes act.instance) s kind element every act.act []
+
+    -- what the first of these assignments that is to the name allows
+    abbrev pub first_named : List (Name × Expr) → Walk
+    first_named [] = None
+    first_named ((other, value) ∷ more) = if bytes_eq other name then Some (allowed_by (scene_at d sizes []) s every value []) else first_named more
+
+    walk-step : (k b : Bool) (other : Name) (value : Expr) (rest : List (Name × Expr)) → bytes_eq other name ≡ b →
+        first_of (if k && (b && true) then Some (allowed_by (scene_at d sizes []) s every value []) else None) (first_named rest) ≡ first_named ((if k then (other, value) ∷ [] else []) ++ rest)
+    walk-step false b other value rest e = refl
+    walk-step true false other value rest e = rw e refl
+    walk-step true true other value rest e = rw e refl
+
+    pub walk-plain : (items : List Item) → list_all is_plain items ≡ true → first (map walk_it (map said_here (acts_in items))) ≡ first_named (assigned_in kind items)
+    walk-plain [] h = refl
+    walk-plain (Declare Plain words Boolean at ∷ items) h = walk-plain items h
+    walk-plain (Act (Assign which left value at) ∷ items) h =
+        let both = both_true _ _ h in
+        let named = named_left which left value at _ refl both.0 in
+        rw (named.1, walk-plain items both.1) (walk-step (same_kind which kind) (bytes_eq named.0.name name) named.0.name value (assigned_in kind items) refl)
+    walk-plain (Claim word [] body at ∷ items) h = walk-plain items h
+    walk-plain (_ ∷ items) h = absurd (true≢false (sym h))

@@ -3,3 +3,4 @@ pub mod Fronts
 pub mod Stable
 pub mod VerdictLaws
 pub mod DesignLaws
+pub mod OutcomeLaws

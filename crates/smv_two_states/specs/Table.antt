@@ -1,8 +1,11 @@
 -- The table of a first design: the value of its signal at time 0, the value after each value, and the values that break its claim.
-use Rattle.std.specs.Prelude.{◌≡◌, ℕ, List, [], ◌∷◌, Bool, true, false, not, ◌&&◌, ◌||◌, nat_eq, if◌then◌else◌}
+use Rattle.std.specs.Prelude.{◌≡◌, ℕ, List, [], ◌∷◌, map, Bool, true, false, not, ◌&&◌, ◌||◌, nat_eq, if◌then◌else◌}
 use Rattle.std.specs.List.{list_all, list_any}
 use Rattle.smv_core.specs.First.{First}
 use Rattle.smv_core.specs.declared.tree.Expr.{Expr, Number, Signal', Not', And', Or', Implies', Row_of-Expr, end_of-Expr, more_of-Expr}
+use Rattle.smv_core.specs.declared.report.Verdict.{Verdict}
+use Rattle.smv_core.specs.declared.report.Verdict.TheVariants.{True, False}
+use Rattle.smv_core.specs.declared.report.UnitResult.{UnitResult}
 use Rattle.smv_two_states.specs.declared.first.FirstDesign.{FirstDesign}
 
 -- what contracts see of the parts that are borrowed
@@ -41,3 +44,23 @@ after f x = value_of x f.following
 -- the claim does not hold at a value
 abbrev pub breaks : First → Bool → Bool
 breaks f x = not (value_of x f.claimed)
+
+-- 0 and 1 stand for false and true
+abbrev pub digit : Bool → ℕ
+digit false = 0
+digit true = 1
+
+-- the claim is broken at these values in turn
+abbrev pub shown_at : First → List Bool → Verdict
+shown_at f run = False (f.signal ∷ []) (map (λ x. digit x ∷ []) run)
+
+-- the claim is broken at time 0, or else at time 1, or else at no time, since no further value comes later
+abbrev pub verdict_of : First → Verdict
+verdict_of f =
+    if breaks f (start f) then shown_at f (start f ∷ [])
+    else if breaks f (after f (start f)) then shown_at f (start f ∷ after f (start f) ∷ [])
+    else True
+
+-- the result of the one claim
+abbrev pub result_of : First → UnitResult
+result_of f = record { name = f.claim; verdict = verdict_of f }

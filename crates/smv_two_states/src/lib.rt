@@ -4,5 +4,7 @@
 pub mod evaluate;
 pub mod first;
 pub mod laws;
+pub mod table;
 
 pub use first::FirstDesign;
+pub use table::decide;
