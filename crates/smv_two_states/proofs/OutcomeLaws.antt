@@ -2,7 +2,7 @@
 use Rattle.std.proofs.Common.{◌≡◌, ℕ, zero, suc, List, [], ◌∷◌, ◌++◌, map, Option, Some, None, Bool, true, false, not, ◌&&◌, ◌||◌, nat_eq, nat_le, if◌then◌else◌, refl, sym, ap, ◌∙◌, subst, true≢false, arith}
 use Rattle.std.specs.List.{list_any, list_all}
 use Rattle.std.specs.Str.{bytes_eq}
-use Rattle.std.proofs.lemmas.Slice.Eq.{bytes_eq-Decides}
+use Rattle.std.proofs.lemmas.Bool.{leb-true}
 use Rattle.smv_core.specs.Values.{Name, Value, number, range, Sizes, Outcome, Truth, truth, bit, not_of, and_of, or_of, implies_of, conjunction, disjunction, implication, values_of as type_values}
 use Rattle.smv_core.specs.FlatOrder.{Design, Met}
 use Rattle.smv_core.specs.Outcome.{State, Scene, outcome, truths, indexes, read, fields_of, allowed_by, fit}
@@ -62,7 +62,7 @@ implication-some u (v ∷ us) = ap (implies_of (Some u)) (implication-some v us)
 number-bit : (n : ℕ) → nat_le n 1 ≡ true → Some (number n) ≡ bit (Some (nat_eq n 1))
 number-bit zero h = refl
 number-bit (suc zero) h = refl
-number-bit (suc (suc n)) h = absurd (omega (arith, (Decides-nat_le (suc (suc n)) 1).0 h))
+number-bit (suc (suc n)) h = absurd (omega (arith, leb-true (suc (suc n)) 1 h))
 
 -- what holds of all names holds of fewer
 mutual

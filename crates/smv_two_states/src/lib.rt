@@ -4,6 +4,7 @@
 pub mod evaluate;
 pub mod first;
 pub mod laws;
+pub mod parts;
 pub mod table;
 
 pub use first::FirstDesign;
