@@ -80,13 +80,14 @@ named_left : (kind : Kind) (left : TreePath) (value : Expr) (at : ℕ) (parts : 
 named_left kind left value at (Field word ∷ []) e h = (word, e)
 named_left kind left value at _ e h = absurd (true≢false (sym (rw e at h)))
 
-module _ (name : Name) (kind : Kind) where
-  abbrev pub element : Element
-  element = record { path = name ∷ []; indexes = [] }
+-- the one element of a boolean signal
+abbrev pub element : Name → Element
+element name = record { path = name ∷ []; indexes = [] }
 
+module _ (name : Name) (kind : Kind) where
   -- an assignment of the kind to the name
-  abbrev concerns_it : Said → Bool
-  concerns_it act = list_any (concerns kind element) (assignments_in act)
+  abbrev pub concerns_it : Said → Bool
+  concerns_it act = list_any (concerns kind (element name)) (assignments_in act)
 
   concerned-step : (k b : Bool) (other : Name) (value : Expr) (rest : List (Name × Expr)) → bytes_eq other name ≡ b →
       (((k && ((b && true) && true)) || false) || list_any (λ (p : Name × Expr). bytes_eq p.0 name) rest) ≡ list_any (λ (p : Name × Expr). bytes_eq p.0 name) ((if k then (other, value) ∷ [] else []) ++ rest)
@@ -106,8 +107,8 @@ module _ (name : Name) (kind : Kind) where
   concerned-plain (_ ∷ items) h = absurd (true≢false (sym h))
 
   module _ (d : Design) (sizes : Sizes) (s : State) (every : List Value) where
-    abbrev walk_it : Said → Walk
-    walk_it act = walk (scene_at d sizes act.instance) s kind element every act.act []
+    abbrev pub walk_it : Said → Walk
+    walk_it act = walk (scene_at d sizes act.instance) s kind (element name) every act.act []
 
     -- what the first of these assignments that is to the name allows
     abbrev pub first_named : List (Name × Expr) → Walk

@@ -7,3 +7,4 @@ pub mod VerdictLaws
 pub mod DesignLaws
 pub mod OutcomeLaws
 pub mod RunLaws
+pub mod ReportLaws

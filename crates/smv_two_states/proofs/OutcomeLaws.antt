@@ -104,13 +104,16 @@ mutual
       let both = both_true (is_logic [] e) (are_logic [] rest) h in
       ap (λ u. u ∷ values_of v rest) (value-none v w e both.0) ∙ ap (λ us. value_of w e ∷ us) (values-none v w rest both.1)
 
-module _ (x : Name) (met : List Met) (sizes : Sizes) (s : State) (v : Bool) (is : s (x ∷ []) [] ≡ shown v) where
-  -- a design of one boolean signal
-  abbrev one : Design
-  one = record { types = []; families = boolean x ∷ []; met = met }
+-- a design of one boolean signal
+abbrev pub one : Name → List Met → Design
+one x met = record { types = []; families = boolean x ∷ []; met = met }
 
+abbrev pub every : List Value
+every = number 0 ∷ number 1 ∷ []
+
+module _ (x : Name) (met : List Met) (sizes : Sizes) (s : State) (v : Bool) (is : s (x ∷ []) [] ≡ shown v) where
   abbrev scene : Scene
-  scene = scene_at one sizes []
+  scene = scene_at (one x met) sizes []
 
   read-one : (parts : List Part) (us : List Outcome) → is_one_of (x ∷ []) parts ≡ true → read scene s [] (fields_of parts) us ≡ bit (Some v)
   read-one (Field word ∷ []) us h = read-name (bytes_eq x word.name) refl h
@@ -141,9 +144,6 @@ module _ (x : Name) (met : List Met) (sizes : Sizes) (s : State) (v : Bool) (is 
     truths-are (more_of-Expr e rest) h =
         let both = both_true (is_logic (x ∷ []) e) (are_logic (x ∷ []) rest) h in
         ap (λ u. truth u ∷ truths scene s rest []) (outcome-is e both.0) ∙ ap (λ t. t ∷ truths scene s rest []) (truth_of_bit (value_of v e)) ∙ ap (λ l. Some (value_of v e) ∷ l) (truths-are rest both.1)
-
-  abbrev pub every : List Value
-  every = number 0 ∷ number 1 ∷ []
 
   fit-bit : (u : Bool) → fit every (bit (Some u) ∷ []) ≡ shown u ∷ []
   fit-bit false = refl

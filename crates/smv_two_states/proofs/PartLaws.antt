@@ -17,7 +17,7 @@ use Rattle.smv_core.specs.declared.tree.Item.{Item, Declare}
 use Rattle.smv_two_states.specs.Parts.{only, main_items, HaveParts, are_logical}
 use Rattle.smv_two_states.proofs.Stable.{both_true}
 
-append_nil : {X : Type 0} (xs : List X) → xs ++ [] ≡ xs
+pub append_nil : {X : Type 0} (xs : List X) → xs ++ [] ≡ xs
 append_nil [] = refl
 append_nil (x ∷ xs) = ap (λ l. x ∷ l) (append_nil xs)
 

@@ -2,6 +2,7 @@
 use Rattle.std.specs.Prelude.{◌≡◌, ℕ, List, [], ◌∷◌, map, Bool, true, false, not, ◌&&◌, ◌||◌, nat_eq, if◌then◌else◌}
 use Rattle.std.specs.List.{list_all, list_any}
 use Rattle.smv_core.specs.First.{First}
+use Rattle.smv_core.specs.Sound.{ProofUnit, claim_of}
 use Rattle.smv_core.specs.declared.tree.Expr.{Expr, Number, Signal', Not', And', Or', Implies', Row_of-Expr, end_of-Expr, more_of-Expr}
 use Rattle.smv_core.specs.declared.report.Verdict.{Verdict}
 use Rattle.smv_core.specs.declared.report.Verdict.TheVariants.{True, False}
@@ -60,6 +61,10 @@ verdict_of f =
     if breaks f (start f) then shown_at f (start f ∷ [])
     else if breaks f (after f (start f)) then shown_at f (start f ∷ after f (start f) ∷ [])
     else True
+
+-- the one unit of a first design is its claim
+abbrev pub unit_of : First → ProofUnit
+unit_of f = claim_of (record { instance = []; name = f.claim; params = []; body = f.claimed })
 
 -- the result of the one claim
 abbrev pub result_of : First → UnitResult

@@ -1,10 +1,13 @@
 // What the definitions say of verdicts. The functions do nothing: their contracts are the laws.
-ghost use Rattle.std.specs.Prelude.{◌≡◌, List, ℕ, map, All};
-ghost use Rattle.smv_core.specs.Sound.{ProofUnit, IsSound};
+ghost use Rattle.std.specs.Prelude.{◌≡◌, ◌∷◌, [], List, ℕ, map, All};
+ghost use Rattle.smv_core.specs.FlatOrder.{design_of};
+ghost use Rattle.smv_core.specs.First.{First, IsFirst};
+ghost use Rattle.smv_core.specs.Sound.{ProofUnit, IsSound, units};
 ghost use Rattle.smv_core.specs.Verdict.{IsVerdict, IsReport};
 ghost use Rattle.smv_core.specs.declared.tree.Text.{Text};
 ghost use Rattle.smv_core.specs.declared.report.UnitResult.{UnitResult};
 ghost use Rattle.smv_core.specs.declared.report.Verdict.TheVariants.{True, False};
+ghost use Rattle.smv_two_states.specs.Table.{unit_of, verdict_of};
 ghost use Rattle.smv_two_states.specs.Verdicts.{IsTrueResult, path_length};
 
 /// A design is sound where each result of its report is true.
@@ -23,5 +26,17 @@ pub fn one_verdict()
 pub fn reports_agree()
     ensures { (text : Text) (results others : List UnitResult) → IsReport text results → IsReport text others →
         map (λ r. path_length r.verdict) results ≡ map (λ r. path_length r.verdict) others }
+{
+}
+
+/// The one unit of a first design is its claim.
+pub fn one_unit()
+    ensures { (text : Text) (f : First) → IsFirst text f → units (design_of text) ≡ unit_of f ∷ [] }
+{
+}
+
+/// The table of a first design gives the verdict of its claim.
+pub fn the_table_decides()
+    ensures { (text : Text) (f : First) → IsFirst text f → IsVerdict text (unit_of f) (verdict_of f) }
 {
 }
