@@ -10,3 +10,4 @@ pub mod Forms
 pub mod Expressions
 pub mod Second
 pub mod One
+pub mod Types

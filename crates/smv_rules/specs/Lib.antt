@@ -5,3 +5,4 @@ pub mod Readers
 pub mod Expressions
 pub mod Laws
 pub mod Worked
+pub mod Types
