@@ -133,12 +133,11 @@ fn main_of(alloc: Global, body: Seq<Item>) -> Result<Text, AllocError> {
     Ok(Text { tops })
 }
 
-// The claim stands before what it reads.
-fn items(alloc: Global, init: Expr, next: Expr, claimed: Expr) -> Result<Seq<Item>, AllocError> {
-    let mut items = seq(alloc, claim(alloc, b"p", claimed)?)?;
-    items.push(assign(alloc, Kind::Next, next)?)?;
+// An `init` and a `next` at each place, and then the declaration.
+fn assigned(alloc: Global, i: usize, j: usize) -> Result<Seq<Item>, AllocError> {
+    let mut items = seq(alloc, assign(alloc, Kind::Init, initial(alloc, i)?)?)?;
+    items.push(assign(alloc, Kind::Next, following(alloc, j)?)?)?;
     items.push(declared(alloc)?)?;
-    items.push(assign(alloc, Kind::Init, init)?)?;
     Ok(items)
 }
 
@@ -166,10 +165,27 @@ fn decided(alloc: Global, items: Seq<Item>) -> Result<usize, AllocError> {
 
 // What is decided of the design with this `init`, this `next` and this claim.
 fn decided_at(alloc: Global, i: usize, j: usize, k: usize) -> Result<usize, AllocError> {
-    let init = initial(alloc, i)?;
-    let next = following(alloc, j)?;
-    let claimed = claimed(alloc, k)?;
-    let items = items(alloc, init, next, claimed)?;
+    let mut items = assigned(alloc, i, j)?;
+    items.push(claim(alloc, b"p", claimed(alloc, k)?)?)?;
+    decided(alloc, items)
+}
+
+// The same with a second `init`.
+fn decided_twice(alloc: Global) -> Result<usize, AllocError> {
+    let mut items = assigned(alloc, 0, 0)?;
+    items.push(assign(alloc, Kind::Init, number(0))?)?;
+    items.push(claim(alloc, b"p", number(1))?)?;
+    decided(alloc, items)
+}
+
+// A claim of so many ones, joined by `&`.
+fn decided_chain(alloc: Global, count: u32) -> Result<usize, AllocError> {
+    let mut parts = Seq::new(alloc);
+    for _ in 0..count {
+        parts.push(number(1))?;
+    }
+    let mut items = assigned(alloc, 0, 0)?;
+    items.push(claim(alloc, b"p", Expr::And { parts })?)?;
     decided(alloc, items)
 }
 
@@ -200,21 +216,12 @@ fn each_small_design_has_its_verdict(rt: HostRuntime) -> Result<(), Fail> {
 
 #[test]
 fn a_second_init_makes_no_first_design(rt: HostRuntime) -> Result<(), Fail> {
-    let alloc = rt.alloc();
-    let mut twice = items(alloc, number(0), number(0), number(1))?;
-    twice.push(assign(alloc, Kind::Init, number(0))?)?;
-    assert_eq!(rt; decided(alloc, twice)?, 9);
+    assert_eq!(rt; decided_twice(rt.alloc())?, 9);
     Ok(())
 }
 
 #[test]
 fn a_long_chain_is_no_deep_recursion(rt: HostRuntime) -> Result<(), Fail> {
-    let alloc = rt.alloc();
-    let mut parts = Seq::new(alloc);
-    for _ in 0..100_000 {
-        parts.push(number(1))?;
-    }
-    let items = items(alloc, number(0), number(0), Expr::And { parts })?;
-    assert_eq!(rt; decided(alloc, items)?, 0);
+    assert_eq!(rt; decided_chain(rt.alloc(), 100_000)?, 0);
     Ok(())
 }
