@@ -35,7 +35,7 @@ pub several : (all found : List Name) (item : Item) (rest : List Item) (words : 
 several all found item rest words e of h =
     let split : all ≡ found ++ (names_of words ++ declared_in rest) = e ∙ ap (λ l. found ++ l) (declared-cons item rest ∙ ap (λ l. l ++ declared_in rest) of) in
     let long : length all ≡ length found + (length words + length (declared_in rest)) =
-        ap length split ∙ length-append found (names_of words ++ declared_in rest) ∙ ap (λ n. length found + n) (length-append (names_of words) (declared_in rest) ∙ ap (λ n. n + length (declared_in rest)) (length-map words _)) in
+    ap length split ∙ length-append found (names_of words ++ declared_in rest) ∙ ap (λ n. length found + n) (length-append (names_of words) (declared_in rest) ∙ ap (λ n. n + length (declared_in rest)) (length-map words _)) in
     only-several all (omega arith)
 
 pub only-some : {X : Type 0} (xs : List X) (x : X) → Some x ≡ only xs → xs ≡ x ∷ []

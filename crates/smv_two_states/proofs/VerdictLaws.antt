@@ -34,8 +34,8 @@ module _ (text : Text) where
   true_units-sound results report each sizes sized run isrun =
       let d = design_of text in
       All-weaker (IsTrueUnit text) (λ unit. All (λ vs. AtEachTime (Holds d sizes unit vs) None run) (instances d sizes unit))
-          (λ unit true_unit. All-weaker (Contains (instances d sizes unit)) (λ vs. AtEachTime (Holds d sizes unit vs) None run) (λ vs among. true_unit-holds unit true_unit sizes sized run isrun vs among) (instances d sizes unit) (All-contains_itself (instances d sizes unit)))
-          (units d) (all_true (units d) results report each)
+      (λ unit true_unit. All-weaker (Contains (instances d sizes unit)) (λ vs. AtEachTime (Holds d sizes unit vs) None run) (λ vs among. true_unit-holds unit true_unit sizes sized run isrun vs among) (instances d sizes unit) (All-contains_itself (instances d sizes unit)))
+      (units d) (all_true (units d) results report each)
 
   pub not-both : (unit : ProofUnit) (shown : List (List ℕ)) (path : List (List ℕ)) → IsVerdict text unit True → IsVerdict text unit (False shown path) → ⊥
   not-both unit shown path holds (sizes, run, shortest, shows) = holds sizes run shortest.sized shortest.violates

@@ -7,10 +7,9 @@ ghost use Rattle.smv_core.specs.declared.tree.Path.{out-Path};
 ghost use Rattle.smv_two_states.specs.Table.{first_of};
 ghost use Rattle.smv_two_states.specs.Parts.{HaveParts, are_logical};
 
-use smv_core::tree::{Expr, Item, Kind, Part, Path, Text};
-use smv_core::Name;
-
 use crate::parts::{are_plain, are_without, main_items, only_assigned, only_claim, only_signal};
+use smv_core::Name;
+use smv_core::tree::{Expr, Item, Kind, Part, Path, Text};
 
 /// The parts of a first design, borrowed from its tree: one boolean signal with its `init` and its `next`, and one claim.
 #[derive(Clone, Copy)]

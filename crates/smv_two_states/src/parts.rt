@@ -9,8 +9,8 @@ ghost use Rattle.smv_core.specs.declared.tree.Kind.TheVariants.{Comb};
 ghost use Rattle.smv_core.specs.declared.tree.Path.{out-Path};
 ghost use Rattle.smv_two_states.specs.Parts.{only, main_items, named_of};
 
-use smv_core::tree::{Expr, Item, Kind, Part, Path, Role, Stmt, Text, Top, TypeExpr, Word};
 use smv_core::Name;
+use smv_core::tree::{Expr, Item, Kind, Part, Path, Role, Stmt, Text, Top, TypeExpr, Word};
 
 /// A name with an expression: the signal of an assignment and its right side, or a claim and what it says.
 #[derive(Clone, Copy)]
@@ -93,7 +93,8 @@ fn declared(item: &Item) -> &[Word]
 {
     match item {
         Item::Declare { names, .. } => names.as_slice(),
-        Item::Instance { .. } | Item::Layer { .. } | Item::Forall { .. } | Item::Block { .. } => &[],
+        Item::Instance { .. } | Item::Layer { .. } | Item::Forall { .. } | Item::Block { .. } =>
+            &[],
         Item::Claim { .. } | Item::Split { .. } | Item::Using { .. } | Item::Act { .. } => &[],
     }
 }

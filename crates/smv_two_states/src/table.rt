@@ -5,12 +5,10 @@ ghost use Rattle.smv_core.specs.Verdict.{IsReport};
 ghost use Rattle.smv_core.specs.declared.tree.Text.{Text};
 ghost use Rattle.smv_two_states.specs.Table.{first_of, digit, shown_at, verdict_of, result_of};
 
-use std::alloc::{AllocError, Global};
-
-use smv_core::{Name, Report, Seq, UnitResult, Verdict};
-
 use crate::evaluate::value;
 use crate::first::FirstDesign;
+use smv_core::{Name, Report, Seq, UnitResult, Verdict};
+use std::alloc::{AllocError, Global};
 
 /// Decides a first design: a report with one result, whose violating path, if there is one, ends at time 0 or 1. Fails where memory is refused.
 pub fn decide(alloc: Global, design: &FirstDesign<'_>) -> Result<Report, AllocError>

@@ -1,11 +1,9 @@
 // First designs are built, recognised and decided. The expected verdicts were worked out by hand.
-use std::alloc::{AllocError, Global};
-use std::test::Fail;
-
+use crate::{decide, first_design};
 use smv_core::tree::{Expr, Item, Kind, Part, Path, Role, Stmt, Text, Top, TypeExpr, Word};
 use smv_core::{Boxed, Name, Report, Seq, Verdict};
-
-use crate::{decide, first_design};
+use std::alloc::{AllocError, Global};
+use std::test::Fail;
 
 fn word(alloc: Global, letter: &[u8]) -> Result<Word, AllocError> {
     let name = Name::from_vec(letter.to_vec(alloc)?);
@@ -209,7 +207,11 @@ fn each_small_design_has_its_verdict(rt: HostRuntime) -> Result<(), Fail> {
     for place in 0..60_usize {
         let (row, k) = (place / 5, place % 5);
         let length = decided_at(rt.alloc(), row / 4, row % 4, k)?;
-        assert_eq!(rt; length, lengths[row][k], "init {row} / 4, next {row} % 4, claim {k}");
+        assert_eq!(rt;
+            length,
+            lengths[row][k],
+            "init {row} / 4, next {row} % 4, claim {k}"
+        );
     }
     Ok(())
 }
