@@ -36,7 +36,7 @@ use Rattle.smv_core.specs.declared.token.TokenKind.{TokenKind}
 use Rattle.smv_core.specs.Signs.{open_paren, close_paren, open_bracket, close_bracket, open_brace, close_brace, colon, semicolon, comma, dot, dots, becomes}
 use Rattle.smv_core.specs.Signs.{equal, differ, less, at_most, greater, at_least, plus, minus, tilde, ampersand, bar, arrow, double_arrow, question, slashes}
 use Rattle.smv_core.specs.Signs as w
-use Rattle.smv_core.specs.Notation.{Rule, never, nothing, ◌>>=◌, ◌>>◌, ◌/◌, many, optional, placed, one_of, token, name, number, same_name, positive, separated, separated_or_none, opener}
+use Rattle.smv_core.specs.Notation.{Rule, never, nothing, ◌>>=◌, ◌>>◌, ◌<|>◌, many, optional, placed, one_of, token, name, number, same_name, positive, separated, separated_or_none, opener}
 use Rattle.smv_core.specs.OpenIf.{ends_in_open_if}
 
 -- ---- parts of trees
@@ -91,12 +91,12 @@ span = number >>= λ low. token dots >> number >>= λ high. nothing (record { lo
 abbrev pub index : Rule TypeExpr
 index =
     (token w.word_boolean >> nothing type.Boolean)
-    / (span >>= λ s. nothing (type.Range s.0 s.1))
-    / (name >>= λ x. nothing (type.Named x x.at))
+    <|> (span >>= λ s. nothing (type.Range s.0 s.1))
+    <|> (name >>= λ x. nothing (type.Named x x.at))
 
 -- Label := number | name
 abbrev pub label : Rule Expr
-label = (number >>= λ k. nothing (expr.Number k.0 k.1)) / (name >>= λ x. nothing (expr.Signal (named x [])))
+label = (number >>= λ k. nothing (expr.Number k.0 k.1)) <|> (name >>= λ x. nothing (expr.Signal (named x [])))
 
 -- what stands behind the `//` of a Ref: name, and in a Use also 'free'
 abbrev pub layer_name : Rule (Option Word × Bool)
@@ -107,7 +107,7 @@ free = token w.word_free >> nothing (None, true)
 
 -- 'undefined' | number '..' number
 abbrev pub extent : Rule (Option Span × ℕ)
-extent = (token w.word_undefined >>= λ at. nothing (None, at)) / (span >>= λ s. nothing (Some s.0, s.1))
+extent = (token w.word_undefined >>= λ at. nothing (None, at)) <|> (span >>= λ s. nothing (Some s.0, s.1))
 
 -- ---- the levels
 
@@ -167,7 +167,7 @@ module _ (floor : ℕ → ℕ) (n : ℕ) (inner : Rules) where
 
   -- Type := Index | '{' .. '}' | 'array' .. | 'struct' ..
   abbrev pub type_rule : Rule TypeExpr
-  type_rule = index / enumeration / array / structure
+  type_rule = index <|> enumeration <|> array <|> structure
 
   -- Field := name { ',' name } ':' Type ';'
   abbrev pub field_rule : Rule Field
@@ -179,7 +179,7 @@ module _ (floor : ℕ → ℕ) (n : ℕ) (inner : Rules) where
   abbrev pub part_rule : Rule Part
   part_rule =
       (token dot >> name >>= λ x. nothing (part.Field x))
-      / (opening open_bracket >> inner.expr >>= λ x. token close_bracket >> nothing (part.At x))
+      <|> (opening open_bracket >> inner.expr >>= λ x. token close_bracket >> nothing (part.At x))
 
   -- Path := name { '.' name | '[' Expr ']' }
   abbrev pub path_rule : Rule Path
@@ -202,7 +202,7 @@ module _ (floor : ℕ → ℕ) (n : ℕ) (inner : Rules) where
 
   -- Set := '{' Member { ',' Member } '}' | '{' name ':' name 'in' Index [ ',' Expr ] '}'
   abbrev pub set : Rule Expr
-  set = listed / comprehension
+  set = listed <|> comprehension
 
   -- ( '&' | '|' ) '[' Expr ':' name 'in' Index ']'
   abbrev pub reduction : Rule Expr
@@ -213,8 +213,8 @@ module _ (floor : ℕ → ℕ) (n : ℕ) (inner : Rules) where
   abbrev pub prim : Rule Expr
   prim =
       (number >>= λ k. nothing (expr.Number k.0 k.1))
-      / (path_rule >>= λ p. nothing (expr.Signal p))
-      / condition_rule / set / reduction
+      <|> (path_rule >>= λ p. nothing (expr.Signal p))
+      <|> condition_rule <|> set <|> reduction
 
   -- ( '+' | '-' ) Prim
   abbrev pub signed : Rule Signed
@@ -226,19 +226,19 @@ module _ (floor : ℕ → ℕ) (n : ℕ) (inner : Rules) where
 
   -- Mod := Sum [ 'mod' number ]
   abbrev pub modulo : Rule Expr
-  modulo = sum >>= λ x. (token w.word_mod >> number >>= λ k. nothing (expr.Modulo x k.0 k.1)) / nothing x
+  modulo = sum >>= λ x. (token w.word_mod >> number >>= λ k. nothing (expr.Modulo x k.0 k.1)) <|> nothing x
 
   -- Cmp := Mod [ ( '=' | '~=' | '<' | '<=' | '>' | '>=' ) Mod | 'in' Set ]
   abbrev pub comparison : Rule Expr
   comparison = modulo >>= λ x.
       (one_of ((equal, op.Equal) ∷ (differ, op.Differ) ∷ (less, op.Less) ∷ (at_most, op.AtMost) ∷ (greater, op.Greater) ∷ (at_least, op.AtLeast) ∷ []) >>= λ o.
       modulo >>= λ y. nothing (expr.Compare o.0 x y))
-      / (token w.word_in >> set >>= λ s. nothing (expr.Within x s))
-      / nothing x
+      <|> (token w.word_in >> set >>= λ s. nothing (expr.Within x s))
+      <|> nothing x
 
   -- Not := '~' Not | Cmp
   abbrev pub negation_rule : Rule Expr
-  negation_rule = (opening tilde >>= λ at. inner.negation >>= λ x. nothing (expr.Not x at)) / comparison
+  negation_rule = (opening tilde >>= λ at. inner.negation >>= λ x. nothing (expr.Not x at)) <|> comparison
 
   -- X { sign X }
   abbrev pub chained : TokenKind → (List Expr → Expr) → Rule Expr → Rule Expr
@@ -258,15 +258,15 @@ module _ (floor : ℕ → ℕ) (n : ℕ) (inner : Rules) where
 
   -- Iff := Imp [ '<->' Imp ]
   abbrev pub equivalence : Rule Expr
-  equivalence = implication >>= λ x. (token double_arrow >> implication >>= λ y. nothing (expr.Iff x y)) / nothing x
+  equivalence = implication >>= λ x. (token double_arrow >> implication >>= λ y. nothing (expr.Iff x y)) <|> nothing x
 
   -- Expr := Iff [ '?' Expr ':' Expr ]
   abbrev pub expr_rule : Rule Expr
-  expr_rule = equivalence >>= λ c. (opening question >> inner.expr >>= λ x. token colon >> inner.expr >>= λ y. nothing (expr.Choose c x y)) / nothing c
+  expr_rule = equivalence >>= λ c. (opening question >> inner.expr >>= λ x. token colon >> inner.expr >>= λ y. nothing (expr.Choose c x y)) <|> nothing c
 
   -- Member := Expr | number '..' number
   abbrev pub member_rule : Rule Member
-  member_rule = (expr_rule >>= λ x. nothing (member.One x)) / (span >>= λ s. nothing (member.Span s.0 s.1))
+  member_rule = (expr_rule >>= λ x. nothing (member.One x)) <|> (span >>= λ s. nothing (member.Span s.0 s.1))
 
   -- ---- statements
 
@@ -324,14 +324,14 @@ module _ (floor : ℕ → ℕ) (n : ℕ) (inner : Rules) where
 
   -- Simple
   abbrev pub simple : Rule Stmt
-  simple = assignment / timed / if_rule / switch / default / for
+  simple = assignment <|> timed <|> if_rule <|> switch <|> default <|> for
 
   -- Stmt := Binder Stmt | '{' { Stmt } '}' | Simple
   abbrev pub stmt_rule : Rule Stmt
   stmt_rule =
       (opening w.word_forall >>= λ at. inner.binder >>= λ b. inner.stmt >>= λ body. nothing (stmt.Forall b.0 b.1 body at))
-      / (opening open_brace >> many inner.stmt >>= λ parts. token close_brace >> nothing (stmt.Block parts))
-      / simple
+      <|> (opening open_brace >> many inner.stmt >>= λ parts. token close_brace >> nothing (stmt.Block parts))
+      <|> simple
 
   -- ---- references
 
@@ -341,7 +341,7 @@ module _ (floor : ℕ → ℕ) (n : ℕ) (inner : Rules) where
 
   -- '.' name | '[' name ']'
   abbrev pub ref_part : Rule RefPart
-  ref_part = (token dot >> name >>= λ x. nothing (Dotted x)) / (in_brackets >>= λ x. nothing (Bracketed x))
+  ref_part = (token dot >> name >>= λ x. nothing (Dotted x)) <|> (in_brackets >>= λ x. nothing (Bracketed x))
 
   -- name { '.' name | '[' name ']' }, and then a layer or none, or `free`
   abbrev pub ref_by : Rule (Option Word × Bool) → Rule Ref
@@ -350,18 +350,18 @@ module _ (floor : ℕ → ℕ) (n : ℕ) (inner : Rules) where
 
   -- Ref := name { '.' name | '[' name ']' } [ '//' name ], where no `free` may stand
   abbrev pub ref : Rule Ref
-  ref = ref_by ((token slashes >> layer_name) / nothing (None, false))
+  ref = ref_by ((token slashes >> layer_name) <|> nothing (None, false))
 
   -- Ref := name { '.' name | '[' name ']' } [ '//' ( name | 'free' ) ], in a Use
   abbrev pub ref_rule : Rule Ref
-  ref_rule = ref_by ((token slashes >> layer_name / free) / nothing (None, false))
+  ref_rule = ref_by ((token slashes >> layer_name <|> free) <|> nothing (None, false))
 
   -- Use := Ref | '(' Ref ')' | name '->' '{' [ name { ',' name } ] '}'
   abbrev pub use_rule : Rule Use
   use_rule =
       (ref_rule >>= λ r. nothing (uses.Plain r))
-      / (opening open_paren >> inner.ref >>= λ r. token close_paren >> nothing (uses.Early r))
-      / (name >>= λ x. token arrow >> opening open_brace >> separated_or_none name >>= λ names. token close_brace >> nothing (uses.Keep x names x.at))
+      <|> (opening open_paren >> inner.ref >>= λ r. token close_paren >> nothing (uses.Early r))
+      <|> (name >>= λ x. token arrow >> opening open_brace >> separated_or_none name >>= λ names. token close_brace >> nothing (uses.Keep x names x.at))
 
   -- ---- items
 
@@ -387,9 +387,9 @@ module _ (floor : ℕ → ℕ) (n : ℕ) (inner : Rules) where
   abbrev pub item_rule : Rule Item
   item_rule =
       (opening w.word_forall >>= λ at. inner.binder >>= λ b. inner.item >>= λ body. nothing (item.Forall b.0 b.1 body at))
-      / (opening open_brace >> many inner.item >>= λ items. token close_brace >> nothing (item.Block items))
-      / claim / split / using
-      / (simple >>= λ x. nothing (item.Act x))
+      <|> (opening open_brace >> many inner.item >>= λ items. token close_brace >> nothing (item.Block items))
+      <|> claim <|> split <|> using
+      <|> (simple >>= λ x. nothing (item.Act x))
 
   -- name { ',' name } ':' Type ';', with a role and a place that depends on the names
   abbrev pub declared : Role → (List Word → ℕ) → Rule Item
@@ -399,7 +399,7 @@ module _ (floor : ℕ → ℕ) (n : ℕ) (inner : Rules) where
   abbrev pub declaration : Rule Item
   declaration =
       (one_of ((w.word_abstract, role.Abstract) ∷ (w.word_input, role.Input) ∷ (w.word_output, role.Output) ∷ []) >>= λ r. declared r.0 (λ names. r.1))
-      / declared role.Plain place_of
+      <|> declared role.Plain place_of
 
   -- name { ',' name } ':' name '(' [ Expr { ',' Expr } ] ')' ';'
   abbrev pub instance : Rule Item
@@ -412,7 +412,7 @@ module _ (floor : ℕ → ℕ) (n : ℕ) (inner : Rules) where
 
   -- Body := a declaration | an instance | a layer | Item
   abbrev pub body_rule : Rule Item
-  body_rule = declaration / instance / layer / item_rule
+  body_rule = declaration <|> instance <|> layer <|> item_rule
 
   -- ---- the text
 
@@ -421,9 +421,9 @@ module _ (floor : ℕ → ℕ) (n : ℕ) (inner : Rules) where
   abbrev pub top_rule : Rule Top
   top_rule =
       (token w.word_scalarset >> name >>= λ x. extent >>= λ s. token semicolon >> nothing (top.SetType x false s.0 s.1))
-      / (token w.word_ordset >> name >>= λ x. token w.word_undefined >>= λ at. token semicolon >> nothing (top.SetType x true None at))
-      / (token w.word_typedef >>= λ at. name >>= λ x. type_rule >>= λ of. token semicolon >> nothing (top.Alias x of at))
-      / (token w.word_module >>= λ at. name >>= λ x. opening open_paren >> separated_or_none name >>= λ formals. token close_paren >>
+      <|> (token w.word_ordset >> name >>= λ x. token w.word_undefined >>= λ at. token semicolon >> nothing (top.SetType x true None at))
+      <|> (token w.word_typedef >>= λ at. name >>= λ x. type_rule >>= λ of. token semicolon >> nothing (top.Alias x of at))
+      <|> (token w.word_module >>= λ at. name >>= λ x. opening open_paren >> separated_or_none name >>= λ formals. token close_paren >>
       opening open_brace >> many inner.body >>= λ items. token close_brace >> nothing (top.Module x formals items at))
 
   abbrev pub rules : Rules

@@ -34,9 +34,9 @@ abbrev pub ◌>>◌ : {A B : Type 0} → Rule A → Rule B → Rule B
 r >> s = r >>= λ _. s
 
 -- one of two rules
-infixr 9 ◌/◌
-abbrev pub ◌/◌ : {A : Type 0} → Rule A → Rule A → Rule A
-◌/◌ r s ts a rest = r ts a rest ⊎ s ts a rest
+infixr 9 ◌<|>◌
+abbrev pub ◌<|>◌ : {A : Type 0} → Rule A → Rule A → Rule A
+◌<|>◌ r s ts a rest = r ts a rest ⊎ s ts a rest
 
 -- any number of times
 abbrev pub many : {A : Type 0} → Rule A → Rule (List A)
@@ -45,7 +45,7 @@ many r ts (a ∷ more) rest = (middle : Tokens) × r ts a middle × many r middl
 
 -- at most once
 abbrev pub optional : {A : Type 0} → Rule A → Rule (Option A)
-optional r = (r >>= λ a. nothing (Some a)) / nothing None
+optional r = (r >>= λ a. nothing (Some a)) <|> nothing None
 
 -- a rule, with the offset of the first token
 abbrev pub placed : {A : Type 0} → Rule A → Rule (A × ℕ)
@@ -114,7 +114,7 @@ separated r = r >>= λ x. many (token comma >> r) >>= λ more. nothing (x ∷ mo
 
 -- [ X { ',' X } ]
 abbrev pub separated_or_none : {A : Type 0} → Rule A → Rule (List A)
-separated_or_none r = separated r / nothing []
+separated_or_none r = separated r <|> nothing []
 
 -- ---- levels
 

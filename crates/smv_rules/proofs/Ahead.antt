@@ -1,7 +1,7 @@
 -- The law of a choice by the next two tokens, where both rules take the first.
 use Rattle.std.proofs.Common.{◌≡◌, ℕ, ◌<◌, Bool, true, false, ◌&&◌, cond, [], ◌∷◌, ◌++◌, length, Option, Ok, Err, ◌⊎◌, inl, inr, refl, sym, ◌∙◌, ap, arith}
 use Rattle.smv_core.specs.declared.token.Token.{Token}
-use Rattle.smv_core.specs.Notation.{Tokens, ◌/◌}
+use Rattle.smv_core.specs.Notation.{Tokens, ◌<|>◌}
 use Rattle.smv_rules.specs.Parsing.{Halts, Parser, starts, starts2, fork2}
 use Rattle.smv_rules.specs.Lawful.{Levels, first, Reads, Stuck, IsDeep, Law, Lawful}
 use Rattle.smv_rules.proofs.Tokens.{same-finish, includes-completes}
@@ -128,7 +128,7 @@ pub chosen-ahead : {C A : Type 0} {F G : Levels A} {n : ℕ} {p q : Parser A} {s
     → ((floor : ℕ → ℕ) (m : ℕ) (ts : Tokens) (a : A) (rest : Tokens) → F floor m ts a rest → starts2 test1 test2 ts ≡ true)
     → ((floor : ℕ → ℕ) (m : ℕ) (ts : Tokens) (a : A) (rest : Tokens) → G floor m ts a rest → st a (first rest) ≡ true → starts2 test1 test2 ts ≡ false)
     → (C → (t : Token) → test1 t ≡ true → Accepts p t) → (C → (t : Token) → test1 t ≡ true → Accepts q t)
-    → Lawful C (λ floor m. F floor m / G floor m) n (fork2 test1 test2 p q) st
+    → Lawful C (λ floor m. F floor m <|> G floor m) n (fork2 test1 test2 p q) st
 chosen-ahead {F = F} {G = G} test1 test2 f g heads others p-accepts q-accepts = record {
   finishes = same-finish F _ (λ floor m ts a rest h. inl h) f.finishes;
   law = λ c. ahead-law F G test1 test2 (f.law c) (g.law c) heads others (p-accepts c) (q-accepts c);

@@ -1,7 +1,7 @@
 -- The law of a choice by the next token.
 use Rattle.std.proofs.Common.{◌≡◌, ℕ, Bool, true, false, cond, ◌++◌, Option, Ok, Err, ◌⊎◌, inl, inr, refl, sym, ◌∙◌, ap}
 use Rattle.smv_core.specs.declared.token.Token.{Token}
-use Rattle.smv_core.specs.Notation.{Tokens, ◌/◌}
+use Rattle.smv_core.specs.Notation.{Tokens, ◌<|>◌}
 use Rattle.smv_rules.specs.Parsing.{Halts, Parser, starts, fork}
 use Rattle.smv_rules.specs.Lawful.{Levels, first, Reads, Stuck, IsDeep, Law, Lawful}
 use Rattle.smv_rules.proofs.Lists.{first-append, starts-same}
@@ -9,7 +9,7 @@ use Rattle.smv_rules.proofs.Tokens.{same-finish, includes-completes}
 
 module _ {A : Type 0} (F G : Levels A) where
   abbrev pub choice : Levels A
-  choice floor m = F floor m / G floor m
+  choice floor m = F floor m <|> G floor m
 
   module _ {n : ℕ} {test : Token → Bool} {p q : Parser A} {st : A → Option Token → Bool} (f : Law F n p st) (g : Law G n q st)
       (heads : (floor : ℕ → ℕ) (m : ℕ) (ts : Tokens) (a : A) (rest : Tokens) → F floor m ts a rest → starts test ts ≡ true)
@@ -71,7 +71,7 @@ module _ {A : Type 0} (F G : Levels A) where
 pub chosen : {C A : Type 0} {F G : Levels A} {n : ℕ} {p q : Parser A} {st : A → Option Token → Bool} (test : Token → Bool) → Lawful C F n p st → Lawful C G n q st
     → ((floor : ℕ → ℕ) (m : ℕ) (ts : Tokens) (a : A) (rest : Tokens) → F floor m ts a rest → starts test ts ≡ true)
     → ((floor : ℕ → ℕ) (m : ℕ) (ts : Tokens) (a : A) (rest : Tokens) → G floor m ts a rest → st a (first rest) ≡ true → starts test ts ≡ false)
-    → Lawful C (λ floor m. F floor m / G floor m) n (fork test p q) st
+    → Lawful C (λ floor m. F floor m <|> G floor m) n (fork test p q) st
 chosen {F = F} {G = G} test f g heads others = record {
   finishes = same-finish F _ (λ floor m ts a rest h. inl h) f.finishes;
   law = λ c. choice-law F G (f.law c) (g.law c) heads others;

@@ -14,7 +14,7 @@ use Rattle.smv_core.specs.declared.tree.Op.TheVariants as op
 use Rattle.smv_core.specs.Signs.{open_paren, close_paren, open_bracket, close_bracket, open_brace, close_brace, colon, semicolon, comma, dot, dots, becomes}
 use Rattle.smv_core.specs.Signs.{equal, differ, less, at_most, greater, at_least, plus, minus, tilde, ampersand, bar, arrow, double_arrow, question}
 use Rattle.smv_core.specs.Signs as w
-use Rattle.smv_core.specs.Notation.{Tokens, Rule, nothing, ◌>>=◌, ◌>>◌, ◌/◌, many, one, token, name, number, optional, separated, same_name, same_kind, name_of, number_of, with_place}
+use Rattle.smv_core.specs.Notation.{Tokens, Rule, nothing, ◌>>=◌, ◌>>◌, ◌<|>◌, many, one, token, name, number, optional, separated, same_name, same_kind, name_of, number_of, with_place}
 use Rattle.smv_core.specs.Grammar as g
 use Rattle.smv_core.specs.Grammar.{Rules, below, named, chain, sum_of}
 use Rattle.smv_rules.specs.Parsing.{Parser, bind, pure, take, starts2}
@@ -109,14 +109,14 @@ set-begins = begins-either (begins-then (opener-begins open_brace)) (begins-then
 reduction-begins : Begins (exactly ampersand ∷ exactly bar ∷ []) (At g.reduction)
 reduction-begins = begins-then (entry-begins reductions)
 
-fourth-begins : Begins (exactly open_brace ∷ exactly ampersand ∷ exactly bar ∷ []) (λ floor m. At g.set floor m / At g.reduction floor m)
+fourth-begins : Begins (exactly open_brace ∷ exactly ampersand ∷ exactly bar ∷ []) (λ floor m. At g.set floor m <|> At g.reduction floor m)
 fourth-begins = begins-either (begins-wider (exactly open_brace ∷ []) _ refl set-begins) (begins-wider (exactly ampersand ∷ exactly bar ∷ []) _ refl reduction-begins)
 
-third-begins : Begins (exactly open_paren ∷ exactly open_brace ∷ exactly ampersand ∷ exactly bar ∷ []) (λ floor m. At g.condition_rule floor m / At g.set floor m / At g.reduction floor m)
+third-begins : Begins (exactly open_paren ∷ exactly open_brace ∷ exactly ampersand ∷ exactly bar ∷ []) (λ floor m. At g.condition_rule floor m <|> At g.set floor m <|> At g.reduction floor m)
 third-begins = begins-either (begins-wider (exactly open_paren ∷ []) _ refl condition-begins) (begins-wider (exactly open_brace ∷ exactly ampersand ∷ exactly bar ∷ []) _ refl fourth-begins)
 
 second-begins : Begins (any_name ∷ exactly open_paren ∷ exactly open_brace ∷ exactly ampersand ∷ exactly bar ∷ [])
-    (λ floor m. (At g.path_rule floor m >>= λ p. nothing (expr.Signal p)) / At g.condition_rule floor m / At g.set floor m / At g.reduction floor m)
+    (λ floor m. (At g.path_rule floor m >>= λ p. nothing (expr.Signal p)) <|> At g.condition_rule floor m <|> At g.set floor m <|> At g.reduction floor m)
 second-begins = begins-either (begins-wider (any_name ∷ []) _ refl (begins-then path-begins)) (begins-wider (exactly open_paren ∷ exactly open_brace ∷ exactly ampersand ∷ exactly bar ∷ []) _ refl third-begins)
 
 abbrev pub prim_marks : List Mark
@@ -335,7 +335,7 @@ module _ (C : Type 0) (n : ℕ) (inner : ExprReaders) (law : InnerLaws n inner) 
 
   set-lawful : Lawful C (At g.set) n (p.read_set n inner) (stops_by closed)
   unfolding p.read_set
-  set-lawful = factored {S = listed_tail} {T = each_tail} (level open_brace refl {S = λ at floor m. each_tail at floor m / listed_tail at floor m}
+  set-lawful = factored {S = listed_tail} {T = each_tail} (level open_brace refl {S = λ at floor m. each_tail at floor m <|> listed_tail at floor m}
       (λ at. chosen-ahead (begins names) (begins (exactly colon ∷ [])) (each-lawful n inner law at) (listed-lawful n inner law at) (each-begins2 at).holds
       (λ floor m ts a rest h stop. listed-not at floor m ts a rest h) (λ c t e. each-accepts n inner law at c t e) (λ c t e. listed-accepts n inner law at c t e)))
 

@@ -5,7 +5,7 @@ use Rattle.smv_core.specs.declared.token.TokenKind.{TokenKind}
 use Rattle.smv_core.specs.declared.token.TokenKind.TheVariants.{Ident, Number, Sign, Reserved}
 use Rattle.smv_core.specs.declared.tree.Word.{Word}
 use Rattle.smv_core.specs.Signs.{comma}
-use Rattle.smv_core.specs.Notation.{Tokens, nothing, ◌>>=◌, ◌>>◌, ◌/◌, many, separated, token, name, number, one_of, opener, same_kind, found, with_place, name_of, number_of}
+use Rattle.smv_core.specs.Notation.{Tokens, nothing, ◌>>=◌, ◌>>◌, ◌<|>◌, many, separated, token, name, number, one_of, opener, same_kind, found, with_place, name_of, number_of}
 use Rattle.smv_rules.specs.Parsing.{Parser, bind, pure, take, take_open, starts, fork, loop}
 use Rattle.smv_rules.specs.Lawful.{Levels, first, Lawful}
 use Rattle.smv_rules.specs.Marks.{Mark, any_name, any_number, exactly, has_mark, begins, stops_by}
@@ -37,10 +37,10 @@ begins-wider xs ys e f = record { holds = λ floor m ts a rest h. starts-wider x
 pub begins-then : {A B : Type 0} {xs : List Mark} {F : Levels A} {S : A → Levels B} → Begins xs F → Begins xs (λ floor m. F floor m >>= λ a. S a floor m)
 begins-then f = record { holds = λ floor m ts b rest h. f.holds floor m ts h.0 h.1 h.2 }
 
-pub begins-either : {A : Type 0} {xs : List Mark} {F G : Levels A} → Begins xs F → Begins xs G → Begins xs (λ floor m. F floor m / G floor m)
+pub begins-either : {A : Type 0} {xs : List Mark} {F G : Levels A} → Begins xs F → Begins xs G → Begins xs (λ floor m. F floor m <|> G floor m)
 begins-either {A = A} {xs = xs} {F = F} {G = G} f g = record { holds = by }
   where
-    by : (floor : ℕ → ℕ) (m : ℕ) (ts : Tokens) (a : A) (rest : Tokens) → (F floor m / G floor m) ts a rest → starts (begins xs) ts ≡ true
+    by : (floor : ℕ → ℕ) (m : ℕ) (ts : Tokens) (a : A) (rest : Tokens) → (F floor m <|> G floor m) ts a rest → starts (begins xs) ts ≡ true
     by floor m ts a rest (inl h) = f.holds floor m ts a rest h
     by floor m ts a rest (inr h) = g.holds floor m ts a rest h
 
@@ -57,14 +57,14 @@ leads-many {A = A} {xs = xs} {F = F} f = record { holds = by }
     by floor m ts [] rest h = inr h
     by floor m ts (a ∷ items) rest h = inl (f.holds floor m ts a h.0 h.1)
 
-pub leads-either : {A : Type 0} {xs : List Mark} {F G : Levels A} → Leads xs F → Leads xs G → Leads xs (λ floor m. F floor m / G floor m)
+pub leads-either : {A : Type 0} {xs : List Mark} {F G : Levels A} → Leads xs F → Leads xs G → Leads xs (λ floor m. F floor m <|> G floor m)
 leads-either {A = A} {xs = xs} {F = F} {G = G} f g = record { holds = by }
   where
-    by : (floor : ℕ → ℕ) (m : ℕ) (ts : Tokens) (a : A) (rest : Tokens) → (F floor m / G floor m) ts a rest → (starts (begins xs) ts ≡ true) ⊎ (ts ≡ rest)
+    by : (floor : ℕ → ℕ) (m : ℕ) (ts : Tokens) (a : A) (rest : Tokens) → (F floor m <|> G floor m) ts a rest → (starts (begins xs) ts ≡ true) ⊎ (ts ≡ rest)
     by floor m ts a rest (inl h) = f.holds floor m ts a rest h
     by floor m ts a rest (inr h) = g.holds floor m ts a rest h
 
-pub leads-maybe : {A : Type 0} {xs : List Mark} {F : Levels A} (b : A) → Begins xs F → Leads xs (λ floor m. F floor m / nothing b)
+pub leads-maybe : {A : Type 0} {xs : List Mark} {F : Levels A} (b : A) → Begins xs F → Leads xs (λ floor m. F floor m <|> nothing b)
 leads-maybe b f = leads-either (leads-begins f) (leads-nothing b)
 
 pub leads-then : {A B : Type 0} {xs : List Mark} {F : Levels A} {S : A → Levels B} → Leads xs F → ((a : A) → Leads xs (S a)) → Leads xs (λ floor m. F floor m >>= λ a. S a floor m)
@@ -212,14 +212,14 @@ repeated {C = C} {A = A} {F = F} {n = n} {p = p} xs ys zs f starts-so ap_art ins
 
 -- [ X ]
 pub at-most-once : {C A : Type 0} {F : Levels A} {n : ℕ} {p : Parser A} (xs : List Mark) (ys zs : A → List Mark) (b : A) → Lawful C F n p (stops_by ys) → Begins xs F
-    → covered xs (zs b) ≡ true → ((a : A) → covered (ys a) (zs a) ≡ true) → Lawful C (λ floor m. F floor m / nothing b) n (maybe xs p b) (stops_by zs)
+    → covered xs (zs b) ≡ true → ((a : A) → covered (ys a) (zs a) ≡ true) → Lawful C (λ floor m. F floor m <|> nothing b) n (maybe xs p b) (stops_by zs)
 at-most-once xs ys zs b f starts-so inside within =
     chosen (begins xs) (stopped (λ a t e. stops-more ys zs a a t (within a) e) f) (nothing-lawful b) starts-so.holds
     (λ floor m ts a rest h stop. let e = h.0 in let q = h.1 in stops-not zs b xs ts inside (rw q (rw e stop)))
 
 -- X | Y
 pub alternative : {C A : Type 0} {F G : Levels A} {n : ℕ} {p q : Parser A} {st : A → Option Token → Bool} (xs ys : List Mark) → Lawful C F n p st → Lawful C G n q st
-    → Begins xs F → Begins ys G → apart ys xs ≡ true → Lawful C (λ floor m. F floor m / G floor m) n (fork (begins xs) p q) st
+    → Begins xs F → Begins ys G → apart ys xs ≡ true → Lawful C (λ floor m. F floor m <|> G floor m) n (fork (begins xs) p q) st
 alternative xs ys f g f-begins g-begins e =
     chosen (begins xs) f g f-begins.holds (λ floor m ts a rest h stop. starts-not ys xs ts e (g-begins.holds floor m ts a rest h))
 
@@ -229,7 +229,7 @@ continued ys zs within f = stopped (λ a t e. stops-more ys zs a a t (within a) 
 
 -- X | Y, where Y may be empty
 pub alternative-led : {C A : Type 0} {F G : Levels A} {n : ℕ} {p q : Parser A} (xs ys : List Mark) (zs : A → List Mark) → Lawful C F n p (stops_by zs) → Lawful C G n q (stops_by zs)
-    → Begins xs F → Leads ys G → apart ys xs ≡ true → ((a : A) → covered xs (zs a) ≡ true) → Lawful C (λ floor m. F floor m / G floor m) n (fork (begins xs) p q) (stops_by zs)
+    → Begins xs F → Leads ys G → apart ys xs ≡ true → ((a : A) → covered xs (zs a) ≡ true) → Lawful C (λ floor m. F floor m <|> G floor m) n (fork (begins xs) p q) (stops_by zs)
 alternative-led {A = A} {G = G} xs ys zs f g f-begins g-leads e inside = chosen (begins xs) f g f-begins.holds others
   where
     others : (floor : ℕ → ℕ) (m : ℕ) (ts : Tokens) (a : A) (rest : Tokens) → G floor m ts a rest → stops_by zs a (first rest) ≡ true → starts (begins xs) ts ≡ false
@@ -242,7 +242,7 @@ alternative-led {A = A} {G = G} xs ys zs f g f-begins g-leads e inside = chosen 
 -- [ X ] as an Option
 pub optionally : {C A : Type 0} {F : Levels A} {n : ℕ} {p : Parser A} (xs : List Mark) (ys : A → List Mark) (zs : Option A → List Mark) → Lawful C F n p (stops_by ys) → Begins xs F
     → covered xs (zs None) ≡ true → ((a : A) → covered (ys a) (zs (Some a)) ≡ true)
-    → Lawful C (λ floor m. (F floor m >>= λ a. nothing (Some a)) / nothing None) n (maybe xs (bind p (λ a. pure (Some a))) None) (stops_by zs)
+    → Lawful C (λ floor m. (F floor m >>= λ a. nothing (Some a)) <|> nothing None) n (maybe xs (bind p (λ a. pure (Some a))) None) (stops_by zs)
 optionally {C = C} {A = A} {F = F} {n = n} {p = p} xs ys zs f starts-so inside within =
     chosen (begins xs) some (nothing-lawful None) (begins-then starts-so).holds
     (λ floor m ts a rest h stop. let e = h.0 in let q = h.1 in stops-not zs None xs ts inside (rw q (rw e stop)))
@@ -281,29 +281,29 @@ pub ended : {C A B : Type 0} {F : Levels A} {n : ℕ} {p : Parser A} {st : B →
 ended ys k make self ap_art f = next-begun (exactly k ∷ []) (λ a. ys) f (λ a. next (token-lawful k self) (λ _. nothing-lawful (make a))) (λ a. begins-then (token-begins k)) (λ a. ap_art)
 
 -- X Y | X Z, as X and then Z or Y
-pub factored : {C A B : Type 0} {F : Levels A} {S T : A → Levels B} {n : ℕ} {p : Parser B} {st : B → Option Token → Bool} → Lawful C (λ floor m. F floor m >>= λ a. T a floor m / S a floor m) n p st
-    → Lawful C (λ floor m. (F floor m >>= λ a. S a floor m) / (F floor m >>= λ a. T a floor m)) n p st
+pub factored : {C A B : Type 0} {F : Levels A} {S T : A → Levels B} {n : ℕ} {p : Parser B} {st : B → Option Token → Bool} → Lawful C (λ floor m. F floor m >>= λ a. T a floor m <|> S a floor m) n p st
+    → Lawful C (λ floor m. (F floor m >>= λ a. S a floor m) <|> (F floor m >>= λ a. T a floor m)) n p st
 factored {A = A} {B = B} {F = F} {S = S} {T = T} f = same-lawful to from (λ a t e. e) f
   where
-    go : (floor : ℕ → ℕ) (m : ℕ) (ts : Tokens) (b : B) (rest : Tokens) (a : A) (middle : Tokens) → F floor m ts a middle → (T a floor m / S a floor m) middle b rest
-        → ((F floor m >>= λ a. S a floor m) / (F floor m >>= λ a. T a floor m)) ts b rest
+    go : (floor : ℕ → ℕ) (m : ℕ) (ts : Tokens) (b : B) (rest : Tokens) (a : A) (middle : Tokens) → F floor m ts a middle → (T a floor m <|> S a floor m) middle b rest
+        → ((F floor m >>= λ a. S a floor m) <|> (F floor m >>= λ a. T a floor m)) ts b rest
     go floor m ts b rest a middle f (inl h) = inr (a, middle, f, h)
     go floor m ts b rest a middle f (inr h) = inl (a, middle, f, h)
 
-    to : (floor : ℕ → ℕ) (m : ℕ) (ts : Tokens) (b : B) (rest : Tokens) → (F floor m >>= λ a. T a floor m / S a floor m) ts b rest → ((F floor m >>= λ a. S a floor m) / (F floor m >>= λ a. T a floor m)) ts b rest
+    to : (floor : ℕ → ℕ) (m : ℕ) (ts : Tokens) (b : B) (rest : Tokens) → (F floor m >>= λ a. T a floor m <|> S a floor m) ts b rest → ((F floor m >>= λ a. S a floor m) <|> (F floor m >>= λ a. T a floor m)) ts b rest
     to floor m ts b rest h = go floor m ts b rest h.0 h.1 h.2 h.3
 
-    from : (floor : ℕ → ℕ) (m : ℕ) (ts : Tokens) (b : B) (rest : Tokens) → ((F floor m >>= λ a. S a floor m) / (F floor m >>= λ a. T a floor m)) ts b rest → (F floor m >>= λ a. T a floor m / S a floor m) ts b rest
+    from : (floor : ℕ → ℕ) (m : ℕ) (ts : Tokens) (b : B) (rest : Tokens) → ((F floor m >>= λ a. S a floor m) <|> (F floor m >>= λ a. T a floor m)) ts b rest → (F floor m >>= λ a. T a floor m <|> S a floor m) ts b rest
     from floor m ts b rest (inl h) = (h.0, h.1, h.2, inr h.3)
     from floor m ts b rest (inr h) = (h.0, h.1, h.2, inl h.3)
 
-pub swapped : {C A : Type 0} {F G : Levels A} {n : ℕ} {p : Parser A} {st : A → Option Token → Bool} → Lawful C (λ floor m. F floor m / G floor m) n p st → Lawful C (λ floor m. G floor m / F floor m) n p st
+pub swapped : {C A : Type 0} {F G : Levels A} {n : ℕ} {p : Parser A} {st : A → Option Token → Bool} → Lawful C (λ floor m. F floor m <|> G floor m) n p st → Lawful C (λ floor m. G floor m <|> F floor m) n p st
 swapped {A = A} {F = F} {G = G} f = same-lawful to from (λ a t e. e) f
   where
-    to : (floor : ℕ → ℕ) (m : ℕ) (ts : Tokens) (a : A) (rest : Tokens) → (F floor m / G floor m) ts a rest → (G floor m / F floor m) ts a rest
+    to : (floor : ℕ → ℕ) (m : ℕ) (ts : Tokens) (a : A) (rest : Tokens) → (F floor m <|> G floor m) ts a rest → (G floor m <|> F floor m) ts a rest
     to floor m ts a rest (inl h) = inr h
     to floor m ts a rest (inr h) = inl h
 
-    from : (floor : ℕ → ℕ) (m : ℕ) (ts : Tokens) (a : A) (rest : Tokens) → (G floor m / F floor m) ts a rest → (F floor m / G floor m) ts a rest
+    from : (floor : ℕ → ℕ) (m : ℕ) (ts : Tokens) (a : A) (rest : Tokens) → (G floor m <|> F floor m) ts a rest → (F floor m <|> G floor m) ts a rest
     from floor m ts a rest (inl h) = inr h
     from floor m ts a rest (inr h) = inl h

@@ -1,7 +1,7 @@
 -- What stands behind the first token.
 use Rattle.std.proofs.Common.{◌≡◌, ℕ, suc, ◌<◌, ◌≤◌, ◌+◌, Bool, true, false, ◌&&◌, List, [], ◌∷◌, ◌++◌, length, length-append, Option, Some, None, Ok, Err, ◌⊎◌, inl, inr, refl, sym, ◌∙◌, ap, subst, arith}
 use Rattle.smv_core.specs.declared.token.Token.{Token}
-use Rattle.smv_core.specs.Notation.{Tokens, one, ◌>>=◌, ◌/◌}
+use Rattle.smv_core.specs.Notation.{Tokens, one, ◌>>=◌, ◌<|>◌}
 use Rattle.smv_rules.specs.Parsing.{Halts, Outcome, Parser, and_then, bind, take, starts, starts2}
 use Rattle.smv_rules.specs.Lawful.{Levels, first, Law, IsDeep}
 use Rattle.smv_rules.specs.Marks.{Mark, begins, stops_by}
@@ -38,10 +38,10 @@ second-then {zs = zs} f s = record { holds = λ floor m ts b rest h e. go ts h.1
     go : (ts middle rest : Tokens) → Then zs ts middle → (starts (begins zs) middle ≡ true) ⊎ (middle ≡ rest) → Then zs ts rest
     go ts middle rest u y = record { token = u.token; more = u.more; split = u.split; goes = by u.more middle rest u.goes y }
 
-pub second-either : {A : Type 0} {fs zs : List Mark} {F G : Levels A} → Second fs zs F → Second fs zs G → Second fs zs (λ floor m. F floor m / G floor m)
+pub second-either : {A : Type 0} {fs zs : List Mark} {F G : Levels A} → Second fs zs F → Second fs zs G → Second fs zs (λ floor m. F floor m <|> G floor m)
 second-either {A = A} {fs = fs} {zs = zs} {F = F} {G = G} f g = record { holds = by }
   where
-    by : (floor : ℕ → ℕ) (m : ℕ) (ts : Tokens) (a : A) (rest : Tokens) → (F floor m / G floor m) ts a rest → starts (begins fs) ts ≡ true → Then zs ts rest
+    by : (floor : ℕ → ℕ) (m : ℕ) (ts : Tokens) (a : A) (rest : Tokens) → (F floor m <|> G floor m) ts a rest → starts (begins fs) ts ≡ true → Then zs ts rest
     by floor m ts a rest (inl h) e = f.holds floor m ts a rest h e
     by floor m ts a rest (inr h) e = g.holds floor m ts a rest h e
 

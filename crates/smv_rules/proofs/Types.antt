@@ -6,7 +6,7 @@ use Rattle.smv_core.specs.declared.tree.TypeExpr.TheVariants as type
 use Rattle.smv_core.specs.declared.tree.Field.{roll-Field}
 use Rattle.smv_core.specs.Signs.{open_brace, close_brace, colon, semicolon, comma}
 use Rattle.smv_core.specs.Signs as w
-use Rattle.smv_core.specs.Notation.{Tokens, ◌/◌}
+use Rattle.smv_core.specs.Notation.{Tokens, ◌<|>◌}
 use Rattle.smv_core.specs.Grammar as g
 use Rattle.smv_core.specs.Grammar.{below, place_of}
 use Rattle.smv_rules.specs.Lawful.{Finishes, Lawful}
@@ -42,10 +42,10 @@ array-begins = begins-then (token-begins w.word_array)
 structure-begins : Begins (exactly w.word_struct ∷ []) (At g.structure)
 structure-begins = begins-then (token-begins w.word_struct)
 
-last-begins : Begins (exactly w.word_array ∷ exactly w.word_struct ∷ []) (λ floor m. At g.array floor m / At g.structure floor m)
+last-begins : Begins (exactly w.word_array ∷ exactly w.word_struct ∷ []) (λ floor m. At g.array floor m <|> At g.structure floor m)
 last-begins = begins-either (begins-wider (exactly w.word_array ∷ []) _ refl array-begins) (begins-wider (exactly w.word_struct ∷ []) _ refl structure-begins)
 
-later-begins : Begins (exactly open_brace ∷ exactly w.word_array ∷ exactly w.word_struct ∷ []) (λ floor m. At g.enumeration floor m / At g.array floor m / At g.structure floor m)
+later-begins : Begins (exactly open_brace ∷ exactly w.word_array ∷ exactly w.word_struct ∷ []) (λ floor m. At g.enumeration floor m <|> At g.array floor m <|> At g.structure floor m)
 later-begins = begins-either (begins-wider (exactly open_brace ∷ []) _ refl enumeration-begins) (begins-wider (exactly w.word_array ∷ exactly w.word_struct ∷ []) _ refl last-begins)
 
 field-begins : Begins (any_name ∷ []) (At g.field_rule)
