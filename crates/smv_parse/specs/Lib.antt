@@ -1,3 +1,5 @@
 pub mod Tokens
 pub mod Grammar
 pub mod Spelling
+pub mod Answers
+pub mod Operators
