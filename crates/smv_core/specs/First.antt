@@ -24,7 +24,11 @@ abbrev pub is_one_of : List Name → List Part → Bool
 is_one_of names (Field word ∷ []) = list_any (λ name. bytes_eq name word.name) names
 is_one_of names _ = false
 
--- the expression is made of 0, 1, these signals, `~`, `&`, `|` and `->`
+abbrev pub has_part : {m : _} → Row_of-Expr m → Bool
+has_part end_of-Expr = false
+has_part (more_of-Expr e rest) = true
+
+-- the expression is made of 0, 1, these signals, `~`, `&`, `|` and `->`; without parts an implication would be Undefined
 abbrev mutual
   pub is_logic : List Name → Expr → Bool
   is_logic names (Number value at) = nat_le value 1
@@ -32,7 +36,7 @@ abbrev mutual
   is_logic names (Not' shape (more_of-Expr e end_of-Expr) at) = is_logic names e
   is_logic names (And' shape parts) = are_logic names parts
   is_logic names (Or' shape parts) = are_logic names parts
-  is_logic names (Implies' shape parts) = are_logic names parts
+  is_logic names (Implies' shape parts) = has_part parts && are_logic names parts
   is_logic names _ = false
 
   pub are_logic : {m : _} → List Name → Row_of-Expr m → Bool

@@ -1,0 +1,10 @@
+pub mod ValueLaws
+pub mod LogicLaws
+pub mod PartLaws
+pub mod Fronts
+pub mod Stable
+pub mod VerdictLaws
+pub mod DesignLaws
+pub mod OutcomeLaws
+pub mod RunLaws
+pub mod ReportLaws
