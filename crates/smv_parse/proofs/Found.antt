@@ -13,9 +13,9 @@ use Rattle.smv_core.specs.declared.tree.Text.{Text}
 use Rattle.smv_parse.specs.Answers.{NoneIsSpelled}
 use Rattle.smv_parse.specs.Tokens.{open_round, close_round, open_curly, close_curly, colon, semicolon, becomes, assert_word, globally, init_word, module_word, next_word, tokens_of}
 use Rattle.smv_parse.specs.Spelling.{SpellsSmall}
-use Rattle.smv_parse.specs.Grammar.{◌>>=◌, ◌>>◌, ◌/◌, gives, Begins, until, levels, offset, one_module, IsExpr, IsName, IsNext, typed, IsEnded, IsAssigned, IsDefinition, IsClaimed, IsClaim, IsDeclaration, IsNamed, IsTimed, IsItem, IsMain, IsBody, IsModule}
+use Rattle.smv_parse.specs.Grammar.{◌>>◌, ◌<|>◌, gives, Begins, until, levels, offset, one_module, IsExpr, IsName, IsNext, typed, IsEnded, IsAssigned, IsDefinition, IsClaimed, IsClaim, IsDeclaration, IsNamed, IsTimed, IsItem, IsMain, IsBody, IsModule}
 use Rattle.smv_parse.proofs.Rules.{Continues, continues_on, behind_found, behind_none, none_behind, then_none, none_then, neither}
-use Rattle.smv_parse.proofs.Productions.{expr_unique, name_unique, main_unique, items_unique, module_unique, next_name_unique, next_name_apart, no_claim, no_declaration, no_declaration_claimed, by_name, initial, following, init_no_name, next_no_name, init_no_next, next_no_init, in_braces}
+use Rattle.smv_parse.proofs.Productions.{expr_unique, name_unique, main_unique, module_unique, next_name_unique, next_name_apart, no_claim, no_declaration, no_declaration_claimed, by_name, initial, following, init_no_name, next_no_name, init_no_next, next_no_init, in_braces}
 
 abbrev pub IsNotThere : List TokenKind → List Token → Type 0
 IsNotThere kinds ts = (rest : List Token) → Begins kinds ts rest → ⊥
@@ -79,17 +79,17 @@ named_declaration x ts rest item d = inr (inr d)
 
 pub definition_none : (x : Word) (ts mid : List Token) → Begins (becomes ∷ []) ts mid → NoneIsSpelled (IsAssigned Comb x.at x mid) → NoneIsSpelled (IsNamed x ts)
 definition_none x ts mid is none =
-    neither (IsDefinition x) (IsClaim x / IsDeclaration x) ts (behind_none (becomes ∷ []) (IsAssigned Comb x.at x) ts mid is none)
+    neither (IsDefinition x) (IsClaim x <|> IsDeclaration x) ts (behind_none (becomes ∷ []) (IsAssigned Comb x.at x) ts mid is none)
     (neither (IsClaim x) (IsDeclaration x) ts (no_claim x ts mid is) (no_declaration x ts mid is))
 
 pub claim_none : (x : Word) (ts mid : List Token) → IsNotThere (becomes ∷ []) ts → Begins claims ts mid → NoneIsSpelled (IsClaimed x mid) → NoneIsSpelled (IsNamed x ts)
 claim_none x ts mid never is none =
-    neither (IsDefinition x) (IsClaim x / IsDeclaration x) ts (none_behind (becomes ∷ []) (IsAssigned Comb x.at x) ts never)
+    neither (IsDefinition x) (IsClaim x <|> IsDeclaration x) ts (none_behind (becomes ∷ []) (IsAssigned Comb x.at x) ts never)
     (neither (IsClaim x) (IsDeclaration x) ts (behind_none claims (IsClaimed x) ts mid is none) (no_declaration_claimed x ts mid is))
 
 pub declaration_none : (x : Word) (ts : List Token) → IsNotThere (becomes ∷ []) ts → IsNotThere claims ts → NoneIsSpelled (IsDeclaration x ts) → NoneIsSpelled (IsNamed x ts)
 declaration_none x ts never never' none =
-    neither (IsDefinition x) (IsClaim x / IsDeclaration x) ts (none_behind (becomes ∷ []) (IsAssigned Comb x.at x) ts never)
+    neither (IsDefinition x) (IsClaim x <|> IsDeclaration x) ts (none_behind (becomes ∷ []) (IsAssigned Comb x.at x) ts never)
     (neither (IsClaim x) (IsDeclaration x) ts (none_behind claims (IsClaimed x) ts never') none)
 
 -- ---- items
@@ -107,28 +107,28 @@ by_name_found x ts mid rest item is d = inl (x, mid, is, d)
 
 pub initial_none : (at : ℕ) (ts mid : List Token) → at ≡ offset ts → Begins (init_word ∷ open_round ∷ []) ts mid → NoneIsSpelled (IsTimed Init at mid) → NoneIsSpelled (IsItem ts)
 initial_none at ts mid same is none =
-    neither by_name (initial (offset ts) / following (offset ts)) ts (init_no_name ts mid is)
+    neither by_name (initial (offset ts) <|> following (offset ts)) ts (init_no_name ts mid is)
     (neither (initial (offset ts)) (following (offset ts)) ts (behind_none (init_word ∷ open_round ∷ []) (IsTimed Init (offset ts)) ts mid is (subst (λ k. NoneIsSpelled (IsTimed Init k mid)) same none))
-      (init_no_next (offset ts) ts mid is))
+    (init_no_next (offset ts) ts mid is))
 
 pub following_none : (at : ℕ) (ts mid : List Token) → at ≡ offset ts → Begins (next_word ∷ open_round ∷ []) ts mid → NoneIsSpelled (IsTimed Next at mid) → NoneIsSpelled (IsItem ts)
 following_none at ts mid same is none =
-    neither by_name (initial (offset ts) / following (offset ts)) ts (next_no_name ts mid is)
+    neither by_name (initial (offset ts) <|> following (offset ts)) ts (next_no_name ts mid is)
     (neither (initial (offset ts)) (following (offset ts)) ts (next_no_init (offset ts) ts mid is)
-      (behind_none (next_word ∷ open_round ∷ []) (IsTimed Next (offset ts)) ts mid is (subst (λ k. NoneIsSpelled (IsTimed Next k mid)) same none)))
+    (behind_none (next_word ∷ open_round ∷ []) (IsTimed Next (offset ts)) ts mid is (subst (λ k. NoneIsSpelled (IsTimed Next k mid)) same none)))
 
-no_word : (ts : List Token) → IsNotThere (init_word ∷ open_round ∷ []) ts → IsNotThere (next_word ∷ open_round ∷ []) ts → NoneIsSpelled ((initial (offset ts) / following (offset ts)) ts)
+no_word : (ts : List Token) → IsNotThere (init_word ∷ open_round ∷ []) ts → IsNotThere (next_word ∷ open_round ∷ []) ts → NoneIsSpelled ((initial (offset ts) <|> following (offset ts)) ts)
 no_word ts never never' =
     neither (initial (offset ts)) (following (offset ts)) ts (none_behind (init_word ∷ open_round ∷ []) (IsTimed Init (offset ts)) ts never)
     (none_behind (next_word ∷ open_round ∷ []) (IsTimed Next (offset ts)) ts never')
 
 pub no_item : (ts : List Token) → IsNotThere (init_word ∷ open_round ∷ []) ts → IsNotThere (next_word ∷ open_round ∷ []) ts → NoneIsSpelled (IsName ts) → NoneIsSpelled (IsItem ts)
-no_item ts never never' none = neither by_name (initial (offset ts) / following (offset ts)) ts (none_then IsName (λ x. IsNamed x) ts none) (no_word ts never never')
+no_item ts never never' none = neither by_name (initial (offset ts) <|> following (offset ts)) ts (none_then IsName (λ x. IsNamed x) ts none) (no_word ts never never')
 
 pub by_name_none : (x : Word) (ts mid : List Token) → IsNotThere (init_word ∷ open_round ∷ []) ts → IsNotThere (next_word ∷ open_round ∷ []) ts → IsName ts x mid → NoneIsSpelled (IsNamed x mid) →
     NoneIsSpelled (IsItem ts)
 by_name_none x ts mid never never' is none =
-    neither by_name (initial (offset ts) / following (offset ts)) ts (then_none IsName (λ x. IsNamed x) ts x mid name_unique is none) (no_word ts never never')
+    neither by_name (initial (offset ts) <|> following (offset ts)) ts (then_none IsName (λ x. IsNamed x) ts x mid name_unique is none) (no_word ts never never')
 
 -- ---- the module
 

@@ -1,6 +1,6 @@
 -- What the parser has found, and what there is not.
-use Rattle.std.proofs.Common.{◌≡◌, ◌≢◌, ◌↔◌, ℕ, suc, ◌<◌, List, [], ◌∷◌, ◌++◌, length, IsTrue, Result, Ok, Err, IfOk, refl, sym, ap, ◌∙◌, subst, append_assoc, arith, Bool, true, false, true≢false, Option, Some, None, MatchOption}
-use Rattle.smv_parse.specs.Grammar.{Operator, conjunction, disjunction, implication, sign_of, join, path_at, StopsBefore, IsPrim, number, signal, parens, IsNot, negated, plain, IsOperand, in_and, in_or, in_implies, AreOperands, last, more}
+use Rattle.std.proofs.Common.{◌≡◌, ℕ, suc, List, [], ◌∷◌, ◌++◌, length, IsTrue, Result, Ok, Err, IfOk, refl, sym, ap, ◌∙◌, subst, append_assoc, arith, Bool, false, true≢false, Option, Some, None, MatchOption}
+use Rattle.smv_parse.specs.Grammar.{Operator, conjunction, disjunction, implication, sign_of, join, path_at, StopsBefore, IsPrim, number, signal, parens, IsNot, negated, IsOperand, in_or, in_implies, AreOperands, last, more}
 use Rattle.smv_parse.proofs.Unique.{operand-unique, operands-unique}
 use Rattle.smv_parse.specs.Tokens.{open_round, close_round, tilde}
 use Rattle.smv_core.specs.declared.token.Token.{Token}

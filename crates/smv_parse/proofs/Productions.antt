@@ -1,23 +1,19 @@
 -- Laws of the productions: each spells one tree at most, and no two that stand beside each other begin alike.
-use Rattle.std.proofs.Common.{◌≡◌, ℕ, List, [], ◌∷◌, ◌++◌, refl, sym, ap, ◌∙◌, subst, inl, inr, Some}
+use Rattle.std.proofs.Common.{◌≡◌, ℕ, List, [], ◌∷◌, refl, sym, ap, ◌∙◌, subst, inl, inr, Some}
 use Rattle.smv_core.specs.declared.token.Token.{Token}
 use Rattle.smv_core.specs.declared.token.TokenKind.{TokenKind}
 use Rattle.smv_core.specs.declared.token.TokenKind.TheVariants.{Ident}
 use Rattle.smv_core.specs.declared.tree.Word.{Word}
-use Rattle.smv_core.specs.declared.tree.Expr.{Expr}
-use Rattle.smv_core.specs.declared.tree.Item.{Item, Declare, Claim, Act}
-use Rattle.smv_core.specs.declared.tree.Stmt.{Assign}
+use Rattle.smv_core.specs.declared.tree.Item.{Item}
 use Rattle.smv_core.specs.declared.tree.Kind.{Kind}
 use Rattle.smv_core.specs.declared.tree.Kind.TheVariants.{Init, Next}
-use Rattle.smv_core.specs.declared.tree.Role.TheVariants.{Plain}
-use Rattle.smv_core.specs.declared.tree.TypeExpr.{Boolean}
 use Rattle.smv_core.specs.declared.tree.Text.{Text}
 use Rattle.smv_parse.specs.Answers.{NoneIsSpelled}
 use Rattle.smv_parse.specs.Tokens.{open_round, close_round, open_curly, close_curly, colon, semicolon, comma, becomes, assert_word, boolean_word, globally, init_word, module_word, next_word}
 use Rattle.smv_parse.specs.Spelling.{SpellsSmall}
-use Rattle.smv_parse.specs.Grammar.{Rule, ◌>>=◌, ◌>>◌, ◌/◌, gives, Begins, until, join, implication, levels, offset, path_of, one_module, IsExpr, IsName, IsEnded, IsAssigned, IsDefinition, IsClaimed, IsClaim, IsNext, typed, IsDeclaration, IsNamed, IsTimed, IsItem, IsMain, IsBody, IsModule}
-use Rattle.smv_parse.proofs.Unique.{Same, operands-unique}
-use Rattle.smv_parse.proofs.Rules.{Continues, continues_on, behind_found, then_none, behind_none, IsUnique, IsApart, behind, behind_unique, behind_apart, begins_apart, behind_in, none_behind, none_then, neither, then_unique, gives_unique, either_unique, until_unique}
+use Rattle.smv_parse.specs.Grammar.{Rule, ◌>>=◌, ◌>>◌, ◌<|>◌, gives, Begins, until, join, implication, levels, offset, one_module, IsExpr, IsName, IsEnded, IsAssigned, IsDefinition, IsClaimed, IsClaim, IsNext, typed, IsDeclaration, IsNamed, IsTimed, IsItem, IsMain, IsBody, IsModule}
+use Rattle.smv_parse.proofs.Unique.{operands-unique}
+use Rattle.smv_parse.proofs.Rules.{IsUnique, IsApart, behind_unique, behind_apart, begins_apart, behind_in, none_then, neither, then_unique, gives_unique, either_unique, until_unique}
 
 -- ---- one tree at most
 
@@ -92,11 +88,12 @@ begins_no_name kind kinds (t ∷ ts) mid other is w rest d = other w.name (sym i
 
 pub named_unique : (x : Word) → IsUnique (IsNamed x)
 named_unique x =
-    either_unique (IsDefinition x) (IsClaim x / IsDeclaration x) (definition_unique x) (either_unique (IsClaim x) (IsDeclaration x) (claim_unique x) (declaration_unique x) claims_apart) definitions_apart
+    either_unique (IsDefinition x) (IsClaim x <|> IsDeclaration x) (definition_unique x) (either_unique (IsClaim x) (IsDeclaration x) (claim_unique x) (declaration_unique x) claims_apart) definitions_apart
   where
     claims_apart : (ts : List Token) (a b : Item) (rest other : List Token) → IsClaim x ts a rest → IsDeclaration x ts b other → ⊥
     claims_apart ts a b rest other d e = let p = behind_in (colon ∷ assert_word ∷ globally ∷ []) (IsClaimed x) ts a rest d in no_declaration_claimed x ts p.0 p.1 b other e
-    definitions_apart : (ts : List Token) (a b : Item) (rest other : List Token) → IsDefinition x ts a rest → (IsClaim x / IsDeclaration x) ts b other → ⊥
+
+    definitions_apart : (ts : List Token) (a b : Item) (rest other : List Token) → IsDefinition x ts a rest → (IsClaim x <|> IsDeclaration x) ts b other → ⊥
     definitions_apart ts a b rest other d e = let p = behind_in (becomes ∷ []) _ ts a rest d in neither (IsClaim x) (IsDeclaration x) ts (no_claim x ts p.0 p.1) (no_declaration x ts p.0 p.1) b other e
 
 -- ---- items
@@ -125,14 +122,15 @@ init_no_next at ts mid is = behind_apart init_word next_word (open_round ∷ [])
 pub next_no_init : (at : ℕ) (ts mid : List Token) → Begins (next_word ∷ open_round ∷ []) ts mid → NoneIsSpelled (initial at ts)
 next_no_init at ts mid is = behind_apart next_word init_word (open_round ∷ []) (open_round ∷ []) (IsTimed Init at) ts mid (λ same. cc) is
 
-item_at_unique : (at : ℕ) → IsUnique (by_name / initial at / following at)
+item_at_unique : (at : ℕ) → IsUnique (by_name <|> initial at <|> following at)
 item_at_unique at =
-    either_unique by_name (initial at / following at) (then_unique IsName _ name_unique named_unique)
+    either_unique by_name (initial at <|> following at) (then_unique IsName _ name_unique named_unique)
     (either_unique (initial at) (following at) (behind_unique (init_word ∷ open_round ∷ []) _ (timed_unique Init at)) (behind_unique (next_word ∷ open_round ∷ []) _ (timed_unique Next at)) timed_apart) names_first
   where
     timed_apart : (ts : List Token) (a b : Item) (rest other : List Token) → initial at ts a rest → following at ts b other → ⊥
     timed_apart ts a b rest other d e = let p = behind_in (init_word ∷ open_round ∷ []) (IsTimed Init at) ts a rest d in init_no_next at ts p.0 p.1 b other e
-    names_first : (ts : List Token) (a b : Item) (rest other : List Token) → by_name ts a rest → (initial at / following at) ts b other → ⊥
+
+    names_first : (ts : List Token) (a b : Item) (rest other : List Token) → by_name ts a rest → (initial at <|> following at) ts b other → ⊥
     names_first ts a b rest other d (inl e) = let p = behind_in (init_word ∷ open_round ∷ []) (IsTimed Init at) ts b other e in init_no_name ts p.0 p.1 a rest d
     names_first ts a b rest other d (inr e) = let p = behind_in (next_word ∷ open_round ∷ []) (IsTimed Next at) ts b other e in next_no_name ts p.0 p.1 a rest d
 

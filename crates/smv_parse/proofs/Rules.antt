@@ -1,9 +1,9 @@
 -- Laws of rules: what they spell, where they spell nothing, and that they spell one tree at most.
-use Rattle.std.proofs.Common.{◌≡◌, ℕ, List, [], ◌∷◌, ◌++◌, refl, sym, ap, ◌∙◌, subst, append_assoc, append-nil, inl, inr}
+use Rattle.std.proofs.Common.{◌≡◌, List, [], ◌∷◌, ◌++◌, refl, sym, ap, ◌∙◌, subst, append_assoc, append-nil, inl, inr}
 use Rattle.smv_core.specs.declared.token.Token.{Token}
 use Rattle.smv_core.specs.declared.token.TokenKind.{TokenKind}
 use Rattle.smv_parse.specs.Answers.{NoneIsSpelled}
-use Rattle.smv_parse.specs.Grammar.{Rule, ◌>>=◌, ◌>>◌, ◌/◌, gives, Begins, until}
+use Rattle.smv_parse.specs.Grammar.{Rule, ◌>>=◌, ◌>>◌, ◌<|>◌, gives, Begins, until}
 use Rattle.smv_parse.proofs.Unique.{Same}
 
 -- tokens begin with one spelling at most
@@ -78,13 +78,13 @@ then_none r s ts a mid one is none b rest d =
 
 -- ---- one of two rules
 
-pub either_unique : {A : Type 0} (r s : Rule A) → IsUnique r → IsUnique s → ((ts : List Token) (a b : A) (rest other : List Token) → r ts a rest → s ts b other → ⊥) → IsUnique (r / s)
+pub either_unique : {A : Type 0} (r s : Rule A) → IsUnique r → IsUnique s → ((ts : List Token) (a b : A) (rest other : List Token) → r ts a rest → s ts b other → ⊥) → IsUnique (r <|> s)
 either_unique r s one two apart ts a b rest other (inl x) (inl y) = one ts a b rest other x y
 either_unique r s one two apart ts a b rest other (inl x) (inr y) = absurd (apart ts a b rest other x y)
 either_unique r s one two apart ts a b rest other (inr x) (inl y) = absurd (apart ts b a other rest y x)
 either_unique r s one two apart ts a b rest other (inr x) (inr y) = two ts a b rest other x y
 
-pub neither : {A : Type 0} (r s : Rule A) (ts : List Token) → NoneIsSpelled (r ts) → NoneIsSpelled (s ts) → NoneIsSpelled ((r / s) ts)
+pub neither : {A : Type 0} (r s : Rule A) (ts : List Token) → NoneIsSpelled (r ts) → NoneIsSpelled (s ts) → NoneIsSpelled ((r <|> s) ts)
 neither r s ts none none' a rest (inl d) = none a rest d
 neither r s ts none none' a rest (inr d) = none' a rest d
 

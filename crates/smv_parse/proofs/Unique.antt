@@ -1,9 +1,9 @@
 -- Tokens begin with one spelling at most.
-use Rattle.std.proofs.Common.{◌≡◌, ◌≢◌, ℕ, List, [], ◌∷◌, refl, sym, ap, ◌∙◌, subst}
-use Rattle.smv_parse.specs.Grammar.{Operator, conjunction, disjunction, implication, sign_of, join, StopsBefore, IsPrim, number, signal, parens, IsNot, negated, plain, IsOperand, in_and, in_or, in_implies, AreOperands, last, more}
+use Rattle.std.proofs.Common.{◌≡◌, ℕ, List, ◌∷◌, refl, sym, ap, subst}
+use Rattle.smv_parse.specs.Grammar.{Operator, conjunction, disjunction, implication, join, StopsBefore, IsPrim, number, signal, parens, IsNot, negated, plain, IsOperand, in_and, in_or, in_implies, AreOperands, last, more}
 use Rattle.smv_core.specs.declared.token.Token.{Token}
 use Rattle.smv_core.specs.declared.token.TokenKind.{TokenKind}
-use Rattle.smv_core.specs.declared.tree.Expr.{Expr, Not}
+use Rattle.smv_core.specs.declared.tree.Expr.{Expr}
 
 -- the same tree and the same rest
 pub record Same {T : Type 0} (e f : T) (rest other : List Token) : Type 0 where

@@ -1,5 +1,6 @@
--- How a small text is spelled, by one rule for each production. In `rule k` at most k levels are opened: each `(`, and each `~` before its operand, opens one.
-use Rattle.std.specs.Prelude.{◌≡◌, ◌≢◌, ◌⊎◌, ℕ, zero, suc, ◌-◌, List, [], ◌∷◌, codes}
+-- How a small text is spelled, by one rule for each production. A rule holds of some tokens, a tree and a rest where the tokens begin with a spelling
+-- of the tree, and the rest follows. Where a rule has a number k, at most k levels are opened in it: one by each `(`, and one by each `~` for its operand.
+use Rattle.std.specs.Prelude.{◌≡◌, ◌≢◌, ◌⊎◌, ℕ, suc, List, [], ◌∷◌, codes}
 use Rattle.smv_parse.specs.Tokens.{open_round, close_round, open_curly, close_curly, colon, semicolon, comma, becomes, tilde, ampersand, bar, arrow, assert_word, boolean_word, globally, init_word, module_word, next_word}
 use Rattle.smv_core.specs.declared.token.Token.{Token}
 use Rattle.smv_core.specs.declared.token.TokenKind.{TokenKind}
@@ -9,14 +10,13 @@ use Rattle.smv_core.specs.declared.tree.Word.{Word}
 use Rattle.smv_core.specs.declared.tree.Path.{Path, roll-Path}
 use Rattle.smv_core.specs.declared.tree.Part.{Field}
 use Rattle.smv_core.specs.declared.tree.Expr.{Expr, Number, Signal, Not, And, Or, Implies}
-use Rattle.smv_core.specs.declared.tree.Stmt.{Stmt, Assign}
+use Rattle.smv_core.specs.declared.tree.Stmt.{Assign}
 use Rattle.smv_core.specs.declared.tree.Item.{Item, Declare, Claim, Act}
 use Rattle.smv_core.specs.declared.tree.Kind.{Kind}
 use Rattle.smv_core.specs.declared.tree.Kind.TheVariants.{Comb, Init, Next}
 use Rattle.smv_core.specs.declared.tree.Role.TheVariants.{Plain}
-use Rattle.smv_core.specs.declared.tree.TypeExpr.{TypeExpr, Boolean}
+use Rattle.smv_core.specs.declared.tree.TypeExpr.{Boolean}
 use Rattle.smv_core.specs.declared.tree.Text.{Text}
-use Rattle.smv_core.specs.declared.tree.Top.{Top}
 use Rattle.smv_core.specs.declared.tree.Top.TheVariants.{Module}
 
 -- which trees the front of a list of tokens spells, and what comes after it
@@ -43,6 +43,7 @@ pub data Operator : Type 0 where
   disjunction : Operator
   implication : Operator
 
+-- the sign between the parts
 abbrev pub sign_of : Operator → TokenKind
 sign_of conjunction = ampersand
 sign_of disjunction = bar
@@ -53,6 +54,7 @@ abbrev pub chain : (List Expr → Expr) → List Expr → Expr
 chain join (e ∷ []) = e
 chain join es = join es
 
+-- the tree of a chain
 abbrev pub join : Operator → List Expr → Expr
 join conjunction = chain And
 join disjunction = chain Or
@@ -82,6 +84,7 @@ mutual
     more : {op : Operator} {k : ℕ} {t : Token} {ts us rest : List Token} {e : Expr} {es : List Expr} → t.kind ≡ sign_of op → IsOperand op k ts e (t ∷ us) → AreOperands op k us es rest →
         AreOperands op k ts (e ∷ es) rest
 
+-- an expression is a chain of implications
 abbrev pub IsExpr : ℕ → Rule Expr
 IsExpr k ts e rest = (es : List Expr) × AreOperands implication k ts es rest × (e ≡ join implication es)
 
@@ -99,9 +102,9 @@ abbrev pub ◌>>◌ : {A : Type 0} → TokenKind → Rule A → Rule A
 ◌>>◌ kind r (t ∷ ts) a rest = (t.kind ≡ kind) × r ts a rest
 
 -- one of two rules
-infixr 8 ◌/◌
-abbrev pub ◌/◌ : {A : Type 0} → Rule A → Rule A → Rule A
-◌/◌ r s ts a rest = r ts a rest ⊎ s ts a rest
+infixr 8 ◌<|>◌
+abbrev pub ◌<|>◌ : {A : Type 0} → Rule A → Rule A → Rule A
+◌<|>◌ r s ts a rest = r ts a rest ⊎ s ts a rest
 
 -- this tree, and no token
 abbrev pub gives : {A : Type 0} → A → Rule A
@@ -130,7 +133,7 @@ abbrev pub offset : List Token → ℕ
 offset [] = 0
 offset (t ∷ ts) = t.at
 
--- The braces of the module open one of the 64 levels, and leave the others to an expression.
+-- The braces of the module open the first of the 64 levels, and leave the others to an expression in it.
 abbrev pub levels : ℕ
 levels = 63
 
@@ -168,22 +171,24 @@ IsDeclaration x = until IsNext typed >>= λ others. gives (Declare Plain (x ∷ 
 
 -- an item that begins with a name, behind it
 abbrev pub IsNamed : Word → Rule Item
-IsNamed x = IsDefinition x / IsClaim x / IsDeclaration x
+IsNamed x = IsDefinition x <|> IsClaim x <|> IsDeclaration x
 
 -- `x) := e ;`
 abbrev pub IsTimed : Kind → ℕ → Rule Item
 IsTimed kind at = IsName >>= λ x. close_round >> becomes >> IsAssigned kind at x
 
+-- an item of the module
 abbrev pub IsItem : Rule Item
 IsItem ts =
     ((IsName >>= λ x. IsNamed x)
-     / (init_word >> open_round >> IsTimed Init (offset ts))
-     / (next_word >> open_round >> IsTimed Next (offset ts))) ts
+    <|> (init_word >> open_round >> IsTimed Init (offset ts))
+    <|> (next_word >> open_round >> IsTimed Next (offset ts))) ts
 
 -- the name `main`
 abbrev pub IsMain : Rule Word
 IsMain ts word rest = IsName ts word rest × (word.name ≡ codes "main")
 
+-- a text that is one module without formals
 abbrev pub one_module : Word → List Item → ℕ → Text
 one_module main items at = record { tops = Module main [] items at ∷ [] }
 

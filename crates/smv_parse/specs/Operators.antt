@@ -1,5 +1,4 @@
 -- The code's operators and marks are those of the grammar.
-use Rattle.std.specs.Prelude.{ℕ}
 use Rattle.smv_parse.specs.Grammar as grammar
 use Rattle.smv_core.specs.declared.token.TokenKind.{TokenKind}
 use Rattle.smv_core.specs.declared.token.TokenKind.TheVariants as kind

@@ -19,7 +19,7 @@ reserved =
     ∷ codes "output" ∷ codes "prove" ∷ codes "scalarset" ∷ codes "struct" ∷ codes "subcase" ∷ codes "switch" ∷ codes "typedef" ∷ codes "U" ∷ codes "undefined"
     ∷ codes "using" ∷ codes "W" ∷ codes "X" ∷ []
 
--- the places of the signs and words that small texts use
+-- the signs and words that small texts use, by their places in the lists
 abbrev pub open_round : TokenKind
 open_round = Sign 0
 
@@ -140,3 +140,12 @@ tokens_from at zero (b ∷ bytes) =
 -- The tokens of a text without comments, or none where it has a byte that begins no token, a number above 511 or a name above 64 bytes.
 abbrev pub tokens_of : List ℕ → Option (List Token)
 tokens_of text = tokens_from 0 0 text
+
+-- those signs and words, with their spelling
+abbrev pub marks : List (TokenKind × List ℕ)
+marks =
+    (open_round, codes "(") ∷ (close_round, codes ")") ∷ (open_curly, codes "{") ∷ (close_curly, codes "}") ∷
+    (colon, codes ":") ∷ (semicolon, codes ";") ∷ (comma, codes ",") ∷ (becomes, codes ":=") ∷
+    (tilde, codes "~") ∷ (ampersand, codes "&") ∷ (bar, codes "|") ∷ (arrow, codes "->") ∷
+    (assert_word, codes "assert") ∷ (boolean_word, codes "boolean") ∷ (globally, codes "G") ∷ (init_word, codes "init") ∷
+    (module_word, codes "module") ∷ (next_word, codes "next") ∷ []

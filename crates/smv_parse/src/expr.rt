@@ -1,8 +1,7 @@
 // Tokens to expressions.
-ghost use Rattle.std.specs.Prelude.{◌≡◌, ◌<◌, ◌↔◌, length, IfOk, IsTrue, IfSome, IfNone, List, [], ◌∷◌};
+ghost use Rattle.std.specs.Prelude.{◌≡◌, ◌<◌, ◌↔◌, length, IfOk, IsTrue};
 ghost use Rattle.smv_parse.specs.Grammar.{IsPrim, IsNot, IsOperand, AreOperands, IsExpr, join, sign_of, path_at};
 ghost use Rattle.smv_core.specs.declared.token.TokenKind.TheVariants.{Sign};
-ghost use Rattle.smv_core.specs.declared.token.Token.{Token};
 ghost use Rattle.smv_parse.specs.Answers.{RefusesOnly, NoneIsSpelled};
 ghost use Rattle.smv_parse.specs.Operators.{operator};
 

@@ -1,11 +1,11 @@
 // Tokens to items and to the module.
-ghost use Rattle.std.specs.Prelude.{◌≡◌, ◌<◌, ◌≤◌, ◌↔◌, length, map, codes, IfOk, IfErr, IsTrue, IfSome, IfNone, List, [], ◌∷◌};
+ghost use Rattle.std.specs.Prelude.{◌≡◌, ◌<◌, ◌≤◌, ◌↔◌, length, map, IfOk, IsTrue, IfSome, IfNone, List, [], ◌∷◌};
 ghost use Rattle.smv_core.specs.declared.token.Token.{Token};
 ghost use Rattle.smv_core.specs.declared.tree.Word.{Word};
 ghost use Rattle.smv_core.specs.declared.tree.Item.{Item};
 ghost use Rattle.smv_core.specs.declared.tree.Stmt.{Stmt};
 ghost use Rattle.smv_parse.specs.Tokens.{close_curly};
-ghost use Rattle.smv_parse.specs.Grammar.{Begins, until, offset, path_of, one_module, levels, IsNext, typed, IsName, IsEnded, IsAssigned, IsDefinition, IsClaim, IsDeclaration, IsNamed, IsTimed, IsItem, IsMain, IsBody, IsModule, IsClaimed};
+ghost use Rattle.smv_parse.specs.Grammar.{Begins, until, offset, path_of, one_module, IsNext, typed, IsName, IsEnded, IsAssigned, IsDeclaration, IsNamed, IsTimed, IsItem, IsMain, IsBody, IsModule, IsClaimed};
 ghost use Rattle.smv_parse.specs.Answers.{RefusesOnly, NoneIsSpelled};
 ghost use Rattle.smv_parse.specs.Operators.{kind_of};
 
@@ -148,11 +148,7 @@ fn assigned(
 }
 
 // What a claim says and a semicolon.
-fn claimed(
-    alloc: Global,
-    name: Word,
-    tokens: &[Token],
-) -> Result<(Item, &[Token]), ParseError>
+fn claimed(alloc: Global, name: Word, tokens: &[Token]) -> Result<(Item, &[Token]), ParseError>
     ensures found { IfOk result (λ found. IsClaimed name tokens.now found.0 found.1.now) }
     ensures none { RefusesOnly result (NoneIsSpelled (IsClaimed name tokens.now)) }
     ensures shorter { IfOk result (λ found. length found.1.now < length tokens.now) }
@@ -210,11 +206,7 @@ fn declared(
 }
 
 // A declaration, of which the first name was read.
-fn declaration(
-    alloc: Global,
-    first: Word,
-    tokens: &[Token],
-) -> Result<(Item, &[Token]), ParseError>
+fn declaration(alloc: Global, first: Word, tokens: &[Token]) -> Result<(Item, &[Token]), ParseError>
     ensures found { IfOk result (λ found. IsDeclaration first tokens.now found.0 found.1.now) }
     ensures none { RefusesOnly result (NoneIsSpelled (IsDeclaration first tokens.now)) }
     ensures shorter { IfOk result (λ found. length found.1.now ≤ length tokens.now) }
@@ -315,12 +307,7 @@ fn main_name(alloc: Global, tokens: &[Token]) -> Result<(Word, &[Token]), ParseE
     Ok((word, rest))
 }
 
-fn one_module_of(
-    alloc: Global,
-    name: Word,
-    items: Vec<Item>,
-    at: u32,
-) -> Result<Text, AllocError>
+fn one_module_of(alloc: Global, name: Word, items: Vec<Item>, at: u32) -> Result<Text, AllocError>
     ensures { IfOk result (λ text. text ≡ one_module name items.items at) }
 {
     let formals = Seq::new(alloc);

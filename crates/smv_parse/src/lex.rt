@@ -1,5 +1,5 @@
 // Bytes to tokens.
-ghost use Rattle.std.specs.Prelude.{◌≡◌, ◌<◌, ◌≤◌, length, List, ℕ, map, Some, position, IfSome, take_while, true, min, ◌^◌, All, IfOk, OnOk, slice_index};
+ghost use Rattle.std.specs.Prelude.{◌≡◌, ◌<◌, ◌≤◌, length, position, IfSome, take_while, true, min, ◌^◌, All, IfOk};
 ghost use Rattle.std.specs.Str.{bytes_eq};
 ghost use Rattle.smv_parse.specs.Tokens.{signs, reserved, place_in, is_letter, is_digit, is_blank, is_name_byte, word_token, number_token, longest_sign, token_at, tokens_of, number_of};
 ghost use Rattle.smv_parse.specs.Answers.{Gives, map_ok};

@@ -1,9 +1,10 @@
 //! From the bytes of a small text to its tree.
 #![tactic(auto)]
 
-ghost use Rattle.std.specs.Prelude.{◌≡◌, ◌<◌, ◌^◌, List, ℕ, length, IfOk, IfSome, IfNone};
+ghost use Rattle.std.specs.Prelude.{◌≡◌, ◌<◌, ◌^◌, List, ℕ, length, map, IfOk, IfSome, IfNone};
 ghost use Rattle.smv_core.specs.declared.tree.Text.{Text};
 ghost use Rattle.smv_parse.specs.Answers.{RefusesOnly};
+ghost use Rattle.smv_parse.specs.Tokens.{marks, token_at};
 ghost use Rattle.smv_parse.specs.Spelling.{SpellsSmall};
 
 mod expr;
@@ -11,6 +12,8 @@ mod items;
 mod lex;
 mod marks;
 mod refusal;
+#[cfg(test)]
+mod tests;
 
 use refusal::ParseError;
 use smv_core::tree::Text;
@@ -45,5 +48,9 @@ fn tree_of(alloc: Global, text: &[u8]) -> Result<Text, ParseError>
 /// A text spells at most one tree.
 pub fn one_tree()
     ensures { (text : List ℕ) (tree other : Text) → SpellsSmall text tree → SpellsSmall text other → tree ≡ other }
-{
-}
+{}
+
+/// Each sign and word that the grammar names is the token of its spelling.
+pub fn marks_are_spelled()
+    ensures { map (λ mark. token_at mark.1) marks ≡ map (λ mark. Some (mark.0, length mark.1)) marks }
+{}

@@ -1,4 +1,4 @@
-use Rattle.std.proofs.Common.{arith, rules}
+use Rattle.std.proofs.Common.{arith}
 use Rattle.smv_parse.proofs.Found.{goes_past}
 use Rattle.smv_parse.proofs.tree_of.Goals as goal
 

@@ -1,7 +1,7 @@
 use Rattle.std.proofs.Common.{◌≡◌, ◌-◌, ◌∷◌, [], suc, refl, sym, ap, ◌∙◌, arith, ℕ, List}
 use Rattle.std.proofs.lemmas.Bool.Decides.{nat_tests}
 use Rattle.std.proofs.lemmas.Result.{err_from_is_err_and}
-use Rattle.smv_parse.specs.Grammar.{plain, in_and, in_or, in_implies, last, sign_of, StopsBefore, AreOperands, IsOperand}
+use Rattle.smv_parse.specs.Grammar.{plain, in_and, last, sign_of, StopsBefore, AreOperands, IsOperand}
 use Rattle.smv_parse.specs.declared.expr.Operator.{Operator}
 use Rattle.smv_parse.specs.declared.expr.Operator.TheVariants.{Conjunction, Disjunction, Implication}
 use Rattle.smv_core.specs.declared.token.Token.{Token}

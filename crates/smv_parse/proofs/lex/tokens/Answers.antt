@@ -1,6 +1,5 @@
-use Rattle.std.proofs.Common.{◌≡◌, ◌∙◌, ap, sym, arith, refl, Some, append-nil, subst, drop, length}
+use Rattle.std.proofs.Common.{◌∙◌, ap, sym, arith, Some, append-nil, length}
 use Rattle.std.proofs.lemmas.Result.{err_from_is_err_and}
-use Rattle.smv_parse.specs.Tokens.{token_at}
 use Rattle.smv_parse.proofs.Lexing.{with_front, tokens_from-blank, tokens_from-end, tokens-fail, one_more}
 use Rattle.smv_parse.proofs.lex.tokens.Goals as goal
 
