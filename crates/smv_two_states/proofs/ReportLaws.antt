@@ -3,22 +3,23 @@ use Rattle.std.proofs.Common.{◌≡◌, ◌≤◌, ℕ, zero, suc, List, [], �
 use Rattle.std.specs.Str.{bytes_eq}
 use Rattle.std.proofs.lemmas.Slice.Eq.{bytes_eq-Decides}
 use Rattle.std.proofs.lemmas.List.Elements.{All-nil, All-cons, All-same}
-use Rattle.smv_core.specs.Values.{Name, Path, Sizes}
+use Rattle.smv_core.specs.Values.{Name, Path, Sizes, number, bit}
 use Rattle.smv_core.specs.Types.{Family, IsSizedTop}
 use Rattle.smv_core.specs.FlatOrder.{Design, design_of, Met, Body, main, met_in, families_in, families_of_item, item_met, body_of}
-use Rattle.smv_core.specs.Allowed.{said_in}
-use Rattle.smv_core.specs.Outcome.{State}
+use Rattle.smv_core.specs.Allowed.{said_in, scene_at}
+use Rattle.smv_core.specs.Outcome.{State, outcome}
 use Rattle.smv_core.specs.Sound.{ProofUnit, claim_of, units, units_met, once, AreSizes}
 use Rattle.smv_core.specs.Verdict.{IsViolating, IsShortest, IsTrueUnit, IsVerdict, IsReport, AreResults, Shows, elements, written_element, number_in}
-use Rattle.smv_core.specs.First.{First, IsFirst}
+use Rattle.smv_core.specs.First.{First, IsFirst, is_logic}
+use Rattle.smv_core.specs.declared.tree.Expr.{Expr}
 use Rattle.smv_core.specs.declared.tree.Text.{Text}
 use Rattle.smv_core.specs.declared.tree.Top.{Top}
 use Rattle.smv_core.specs.declared.tree.Top.TheVariants.{Module}
 use Rattle.smv_core.specs.declared.report.Verdict.TheVariants.{True, False}
-use Rattle.smv_two_states.specs.Table.{unit_of, start, after, breaks, digit, shown_at, verdict_of, result_of}
+use Rattle.smv_two_states.specs.Table.{unit_of, value_of, start, after, breaks, digit, shown_at, verdict_of, result_of}
 use Rattle.smv_two_states.proofs.PartLaws.{append_nil}
 use Rattle.smv_two_states.proofs.DesignLaws.{boolean, said_here, acts_in, claimed_here, families-plain, said-plain, units-plain}
-use Rattle.smv_two_states.proofs.OutcomeLaws.{one}
+use Rattle.smv_two_states.proofs.OutcomeLaws.{one, outcome-is}
 use Rattle.smv_two_states.proofs.RunLaws.{state_of, no-violating, at-least-one, at-least-two, violating-first, violating-next}
 
 path-shown : (x : Name) (met : List Met) (sizes : Sizes) (run : List Bool) → map (λ v. digit v ∷ []) run ≡ map (λ s. map (number_in s) (elements (one x met) sizes)) (map state_of run)
@@ -49,6 +50,9 @@ module _ (text : Text) (f : First) (first : IsFirst text f) where
   design-is =
       ap (λ (tops : List Top). design_of (record { tops = tops })) first.whole ∙ ap built body-is ∙
       ap (λ (fs : List Family). record { types = []; families = fs; met = met }) (families-plain bodies (families_in [] bodies 0) first.items first.plain ∙ ap (map boolean) first.signals)
+
+  pub outcome-value : (sizes : Sizes) (s : State) (v : Bool) → s (f.signal ∷ []) [] ≡ number (digit v) → (e : Expr) → is_logic (f.signal ∷ []) e ≡ true → outcome (scene_at (design_of text) sizes []) s e [] ≡ bit (Some (value_of v e))
+  outcome-value sizes s v is e logic = subst (λ d. outcome (scene_at d sizes []) s e [] ≡ bit (Some (value_of v e))) (sym design-is) (outcome-is f.signal met sizes s v is e logic)
 
   pub units-are : units (design_of text) ≡ unit_of f ∷ []
   units-are = ap units design-is ∙ ap once (units-plain bodies (one f.signal met) inside first.items first.plain ∙ ap (map (λ c. claim_of (claimed_here c))) first.claims)

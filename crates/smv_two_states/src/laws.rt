@@ -1,13 +1,17 @@
 // What the definitions say of verdicts. The functions do nothing: their contracts are the laws.
-ghost use Rattle.std.specs.Prelude.{◌≡◌, ◌∷◌, [], List, ℕ, map, All};
+ghost use Rattle.std.specs.Prelude.{◌≡◌, ◌∷◌, [], List, ℕ, Bool, true, map, All};
+ghost use Rattle.smv_core.specs.Allowed.{scene_at};
 ghost use Rattle.smv_core.specs.FlatOrder.{design_of};
-ghost use Rattle.smv_core.specs.First.{First, IsFirst};
+ghost use Rattle.smv_core.specs.First.{First, IsFirst, is_logic};
+ghost use Rattle.smv_core.specs.Outcome.{State, outcome};
 ghost use Rattle.smv_core.specs.Sound.{ProofUnit, IsSound, units};
+ghost use Rattle.smv_core.specs.Values.{Sizes, number, bit};
 ghost use Rattle.smv_core.specs.Verdict.{IsVerdict, IsReport};
+ghost use Rattle.smv_core.specs.declared.tree.Expr.{Expr};
 ghost use Rattle.smv_core.specs.declared.tree.Text.{Text};
 ghost use Rattle.smv_core.specs.declared.report.UnitResult.{UnitResult};
 ghost use Rattle.smv_core.specs.declared.report.Verdict.TheVariants.{True, False};
-ghost use Rattle.smv_two_states.specs.Table.{unit_of, verdict_of};
+ghost use Rattle.smv_two_states.specs.Table.{digit, value_of, unit_of, verdict_of};
 ghost use Rattle.smv_two_states.specs.Verdicts.{IsTrueResult, path_length};
 
 /// A design is sound where each result of its report is true.
@@ -38,5 +42,12 @@ pub fn one_unit()
 /// The table of a first design gives the verdict of its claim.
 pub fn the_table_decides()
     ensures { (text : Text) (f : First) → IsFirst text f → IsVerdict text (unit_of f) (verdict_of f) }
+{
+}
+
+/// The outcome of a logic expression, in a state of a first design, is its value at the value of the signal.
+pub fn values_are_outcomes()
+    ensures { (text : Text) (f : First) → IsFirst text f → (sizes : Sizes) (s : State) (x : Bool) → s (f.signal ∷ []) [] ≡ number (digit x) →
+        (e : Expr) → is_logic (f.signal ∷ []) e ≡ true → outcome (scene_at (design_of text) sizes []) s e [] ≡ bit (Some (value_of x e)) }
 {
 }

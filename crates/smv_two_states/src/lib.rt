@@ -1,11 +1,14 @@
-//! Designs of one boolean signal, decided by the table of its two values.
+//! Designs of one boolean signal with one claim: which trees they are, and their verdicts by the table of the signal's two values.
 #![tactic(auto)]
 
-pub mod evaluate;
+mod evaluate;
 pub mod first;
 pub mod laws;
-pub mod parts;
+mod parts;
 pub mod table;
 
-pub use first::FirstDesign;
+pub use first::{FirstDesign, first_design};
 pub use table::decide;
+
+#[cfg(test)]
+mod tests;
