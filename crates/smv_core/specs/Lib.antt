@@ -7,6 +7,12 @@ pub mod Assignments
 pub mod Allowed
 pub mod Sound
 pub mod Conflicts
+pub mod Flat
 pub mod First
 pub mod Verdict
 pub mod formers
+pub mod Signs
+pub mod Notation
+pub mod OpenIf
+pub mod Grammar
+pub mod Spelling

@@ -3,6 +3,7 @@
 
 pub mod boxed;
 pub mod fault;
+pub mod flat;
 pub mod name;
 pub mod report;
 pub mod seq;

@@ -1,0 +1,4 @@
+//! Worked designs and laws of what a design means.
+#![tactic(auto)]
+
+pub mod laws;

@@ -1,0 +1,13 @@
+pub mod Lists
+pub mod Sequence
+pub mod Tokens
+pub mod Opening
+pub mod Choice
+pub mod Ahead
+pub mod Many
+pub mod Marks
+pub mod Forms
+pub mod Expressions
+pub mod Second
+pub mod One
+pub mod Types
