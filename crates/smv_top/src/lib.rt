@@ -13,10 +13,12 @@ use smv_core::{Fault, Report, UnitResult, Verdict};
 use smv_io::{ReadError, Sink, Source, read_all, write_all};
 use smv_parse::{one_tree, parse};
 use smv_report::{fault_line, lines};
-use smv_two_states::decide;
-use smv_two_states::first::first_design;
 use smv_two_states::laws::{reports_agree, true_units_are_sound};
+use smv_two_states::{decide, first_design};
 use std::alloc::{AllocError, Global};
+
+#[cfg(test)]
+mod tests;
 
 /// How a call ended.
 #[derive(Clone, Copy, Debug, PartialEq, Eq)]
