@@ -1,0 +1,91 @@
+-- The answer that a call owes: its status and its bytes, as the command's words and the text call for them.
+use Rattle.std.specs.Prelude.{◌≡◌, ℕ, ◌≤◌, ◌<◌, List, [], ◌∷◌, ◌++◌, length, codes, Option, IfSome, ◌⊎◌, Bool, true, false}
+use Rattle.std.specs.List.{list_all}
+use Rattle.std.specs.Io.KnownBytes.{Appends, Keeps}
+use Rattle.smv_io.specs.Transfers.{TookFront}
+use Rattle.smv_core.specs.Sound.{IsSound}
+use Rattle.smv_core.specs.First.{First, IsFirst}
+use Rattle.smv_core.specs.Verdict.{IsReport}
+use Rattle.smv_core.specs.declared.tree.Text.{Text}
+use Rattle.smv_core.specs.declared.report.UnitResult.{UnitResult}
+use Rattle.smv_parse.specs.Spelling.{SpellsSmall}
+use Rattle.smv_report.specs.Lines.{is_true_verdict, report_lines, fault_text}
+use Rattle.smv_top.specs.declared.Status.{Status}
+use Rattle.smv_top.specs.declared.Status.TheVariants.{AllProved, SomeFalse, Refused, Usage, ReadFault, WriteFault, OutOfMemory}
+
+-- the words are the one command
+abbrev pub IsProve : List (List ℕ) → Type 0
+IsProve words = words ≡ codes "prove" ∷ []
+
+-- the most bytes that a text has
+abbrev pub limit : ℕ
+limit = 1048576
+
+-- the text is within the limit and spells this tree, which is a design that is decided
+pub record IsDesign (text : List ℕ) (tree : Text) : Type 0 where
+  pub within : length text ≤ limit
+  pub spelled : SpellsSmall text tree
+  pub parts : First
+  pub first : IsFirst tree parts
+
+abbrev pub IsNoDesign : List ℕ → Type 0
+IsNoDesign text = (tree : Text) → ¬ IsDesign text tree
+
+-- the headline: every unit of the design that the text spells holds at every time of every run, for all sizes
+abbrev pub IsSoundDesign : List ℕ → Type 0
+IsSoundDesign text = (tree : Text) × IsDesign text tree × IsSound tree
+
+-- the text spells a design with this report
+abbrev pub HasReport : List ℕ → List UnitResult → Type 0
+HasReport text results = (tree : Text) × IsDesign text tree × IsReport tree results
+
+abbrev pub all_true : List UnitResult → Bool
+all_true results = list_all (λ result. is_true_verdict result.verdict) results
+
+-- the first fault of a text that is no design, by its number: the size, or else the form; both stand at the beginning of the text
+pub data IsFault : List ℕ → ℕ → Type 0 where
+  too_long : {text : List ℕ} → limit < length text → IsFault text 31
+  undecided : {text : List ℕ} → length text ≤ limit → IsNoDesign text → IsFault text 32
+
+-- the status and the whole answer that a text calls for under the command
+abbrev pub IsAnswer : Status → List ℕ → List ℕ → Type 0
+IsAnswer AllProved text answer = (results : List UnitResult) × HasReport text results × (all_true results ≡ true) × (answer ≡ report_lines results)
+IsAnswer SomeFalse text answer = (results : List UnitResult) × HasReport text results × (all_true results ≡ false) × (answer ≡ report_lines results)
+IsAnswer Refused text answer = (number : ℕ) × IsFault text number × (answer ≡ fault_text text number 0)
+IsAnswer _ text answer = ⊥
+
+abbrev pub usage_line : List ℕ
+usage_line = codes "usage: smv prove|only|print|generated" ++ 10 ∷ []
+
+-- the status and the whole answer that the words and the text call for
+abbrev pub IsDue : Status → List (List ℕ) → List ℕ → List ℕ → Type 0
+IsDue Usage words text answer = (¬ IsProve words) × (answer ≡ usage_line)
+IsDue status words text answer = IsProve words × IsAnswer status text answer
+
+-- what the source gave: the bytes that it told, or any where it tells none
+abbrev pub Gave : Option (List ℕ) → List ℕ → Type 0
+Gave left text = IfSome left (λ told. text ≡ told)
+
+-- How a call ends. The whole answer was taken under the status to which it is due; under a fault of the sink a front of the answer that was due,
+-- and not all of it; and nothing where the text was not read, which only a command that reads can meet, or where memory ran out.
+abbrev pub Ends : Status → List (List ℕ) → List ℕ → Option (List ℕ) → Option (List ℕ) → Type 0
+Ends ReadFault words text old new = IsProve words × Keeps old new
+Ends OutOfMemory words text old new = Keeps old new
+Ends WriteFault words text old new = (due : Status) × (answer : List ℕ) × IsDue due words text answer × TookFront old new answer
+Ends status words text old new = (answer : List ℕ) × IsDue status words text answer × Appends old new answer
+
+-- the status that a text calls for under the command, unless memory ran out
+pub record Completes (status : Status) (text : List ℕ) : Type 0 where
+  pub proved : (results : List UnitResult) → HasReport text results → all_true results ≡ true → (status ≡ AllProved) ⊎ (status ≡ OutOfMemory)
+  pub falsified : (results : List UnitResult) → HasReport text results → all_true results ≡ false → (status ≡ SomeFalse) ⊎ (status ≡ OutOfMemory)
+  pub refused : IsNoDesign text → (status ≡ Refused) ⊎ (status ≡ OutOfMemory)
+
+-- the exit status of the program
+abbrev pub number_of : Status → ℕ
+number_of AllProved = 0
+number_of SomeFalse = 1
+number_of Refused = 3
+number_of Usage = 4
+number_of ReadFault = 5
+number_of WriteFault = 6
+number_of OutOfMemory = 7

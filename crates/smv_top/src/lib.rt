@@ -1,0 +1,207 @@
+//! The top call: from the words of the command and the bytes of a source to a status and the bytes of a sink.
+#![tactic(auto)]
+
+ghost use Rattle.std.specs.Prelude.{◌≡◌, ◌≢◌, ◌≤◌, ◌↔◌, ◌⊎◌, List, ℕ, map, length, IsTrue, IfSome, IfNone, IfOk};
+ghost use Rattle.std.specs.String.{string_bytes};
+ghost use Rattle.std.specs.Io.KnownBytes.{Appends};
+ghost use Rattle.smv_io.specs.Causes.{Rose};
+ghost use Rattle.smv_io.specs.Transfers.{TookFront};
+ghost use Rattle.smv_top.specs.Answers.{IsProve, IsSoundDesign, IsNoDesign, IsAnswer, HasReport, Gave, Ends, Completes, all_true, limit, number_of};
+ghost use Rattle.smv_report.specs.Lines.{is_true_verdict};
+
+use smv_core::{Fault, Report, UnitResult, Verdict};
+use smv_io::{ReadError, Sink, Source, read_all, write_all};
+use smv_parse::{one_tree, parse};
+use smv_report::{fault_line, lines};
+use smv_two_states::laws::{reports_agree, true_units_are_sound};
+use smv_two_states::{decide, first_design};
+use std::alloc::{AllocError, Global};
+
+#[cfg(test)]
+mod tests;
+
+/// How a call ended.
+#[derive(Clone, Copy, Debug, PartialEq, Eq)]
+pub enum Status {
+    /// Every unit is true.
+    AllProved,
+    /// A unit is false.
+    SomeFalse,
+    /// The text has a fault.
+    Refused,
+    /// The words are no command.
+    Usage,
+    /// The source failed in this call.
+    ReadFault,
+    /// The sink failed in this call.
+    WriteFault,
+    /// Memory ran out.
+    OutOfMemory,
+}
+
+impl Status {
+    /// The exit status of the program.
+    pub fn number(self) -> u8
+        ensures { result ≡ number_of self }
+    {
+        match self {
+            Status::AllProved => 0,
+            Status::SomeFalse => 1,
+            Status::Refused => 3,
+            Status::Usage => 4,
+            Status::ReadFault => 5,
+            Status::WriteFault => 6,
+            Status::OutOfMemory => 7,
+        }
+    }
+}
+
+// The most bytes that a text has.
+const LIMIT: usize = 1_048_576;
+
+const USAGE: &[u8] = b"usage: smv prove|only|print|generated\n";
+
+const TOO_LONG: &[u8] = b"fault 31 at line 1 column 1\n";
+
+/// Reads a design from the source where the words are `prove`, decides it, and then writes the whole answer.
+///
+/// The words are those behind the program's name. Under `ReadFault` and `OutOfMemory` nothing is written, and under `WriteFault` a front of
+/// the answer.
+pub fn run<S: Source, K: Sink>(
+    alloc: Global,
+    words: &[String],
+    source: &mut S,
+    sink: &mut K,
+) -> Status
+    // The headline: where all is proved, every unit holds at every time of every run.
+    ensures sound { result ≡ Status.AllProved → IfSome (S.left source.old) IsSoundDesign }
+
+    // The status is the one to which the answer is due, and the sink took that answer.
+    ensures ends { (text : List ℕ) × Gave (S.left source.old) text × Ends result (map string_bytes words.now) text (K.taken sink.old) (K.taken sink.new) }
+
+    // A fault comes only where the count rose in this call.
+    ensures read_fault { result ≡ Status.ReadFault → Rose (S.faults source.old) (S.faults source.new) }
+    ensures write_fault { result ≡ Status.WriteFault → Rose (K.faults sink.old) (K.faults sink.new) }
+
+    // Without faults the status is that of the text, or memory ran out.
+    ensures complete { IsProve (map string_bytes words.now) → ¬ Rose (S.faults source.old) (S.faults source.new) → ¬ Rose (K.faults sink.old) (K.faults sink.new) →
+        IfSome (S.left source.old) (Completes result) }
+
+    // Words that are no command are answered by the usage line, and the source is left alone.
+    ensures usage { ¬ IsProve (map string_bytes words.now) → ¬ Rose (K.faults sink.old) (K.faults sink.new) → result ≡ Status.Usage }
+    ensures unread { ¬ IsProve (map string_bytes words.now) → source.new ≡ source.old }
+{
+    one_tree();
+    reports_agree();
+    true_units_are_sound();
+    answered(alloc, words, source, sink)
+}
+
+// The same, by its causes alone.
+fn answered<S: Source, K: Sink>(
+    alloc: Global,
+    words: &[String],
+    source: &mut S,
+    sink: &mut K,
+) -> Status
+    ensures ends { (text : List ℕ) × Gave (S.left source.old) text × Ends result (map string_bytes words.now) text (K.taken sink.old) (K.taken sink.new) }
+    ensures read_fault { result ≡ Status.ReadFault → Rose (S.faults source.old) (S.faults source.new) }
+    ensures write_fault { result ≡ Status.WriteFault → Rose (K.faults sink.old) (K.faults sink.new) }
+    ensures usage { ¬ IsProve (map string_bytes words.now) → ¬ Rose (K.faults sink.old) (K.faults sink.new) → result ≡ Status.Usage }
+    ensures unread { ¬ IsProve (map string_bytes words.now) → source.new ≡ source.old }
+{
+    if !is_prove(words) {
+        return finish(sink, USAGE, Status::Usage);
+    }
+    match read_all(alloc, source, LIMIT) {
+        Err(ReadError::ReadFault) => Status::ReadFault,
+        Err(ReadError::OutOfMemory) => Status::OutOfMemory,
+        Err(ReadError::TooLong) => finish(sink, TOO_LONG, Status::Refused),
+        Ok(text) => match answer_to(alloc, &text) {
+            Ok(due) => finish(sink, &due.bytes, due.status),
+            Err(_) => Status::OutOfMemory,
+        },
+    }
+}
+
+// Writes the whole answer, and gives its status where the sink took it.
+fn finish<K: Sink>(sink: &mut K, answer: &[u8], status: Status) -> Status
+    requires { status ≢ Status.WriteFault }
+    ensures taken { result ≡ status → Appends (K.taken sink.old) (K.taken sink.new) answer.now }
+    ensures front { result ≡ Status.WriteFault → TookFront (K.taken sink.old) (K.taken sink.new) answer.now }
+    ensures cause { result ≡ Status.WriteFault → Rose (K.faults sink.old) (K.faults sink.new) }
+    ensures either { (result ≡ status) ⊎ (result ≡ Status.WriteFault) }
+{
+    match write_all(sink, answer) {
+        Ok(()) => status,
+        Err(_) => Status::WriteFault,
+    }
+}
+
+fn is_prove(words: &[String]) -> bool
+    ensures { IsTrue result ↔ IsProve (map string_bytes words.now) }
+{
+    match words {
+        [word] => word.as_str() == "prove",
+        _ => false,
+    }
+}
+
+// A status with the bytes that are written under it.
+#[derive(Drop)]
+struct Answer {
+    status: Status,
+    bytes: Vec<u8>,
+}
+
+// The answer that a text calls for under the command.
+fn answer_to(alloc: Global, text: &[u8]) -> Result<Answer, AllocError>
+    requires { length text.now ≤ limit }
+    ensures { IfOk result (λ answer. IsAnswer answer.status text.now answer.bytes.items) }
+{
+    match report_of(alloc, text)? {
+        Some(report) => {
+            let bytes = lines(alloc, &report)?;
+            let status = if are_all_true(&report) {
+                Status::AllProved
+            } else {
+                Status::SomeFalse
+            };
+            Ok(Answer { status, bytes })
+        }
+        None => {
+            let fault = Fault { number: 32, at: 0 };
+            let bytes = fault_line(alloc, text, fault)?;
+            let status = Status::Refused;
+            Ok(Answer { status, bytes })
+        }
+    }
+}
+
+fn are_all_true(report: &Report) -> bool
+    ensures { result ≡ all_true report.now.units }
+{
+    report.units.as_slice().iter().all(is_true)
+}
+
+fn is_true(unit: &UnitResult) -> bool
+    ensures { result ≡ is_true_verdict unit.now.verdict }
+{
+    matches!(unit.verdict, Verdict::True)
+}
+
+// The report of a text, or None where the text is no design.
+fn report_of(alloc: Global, text: &[u8]) -> Result<Option<Report>, AllocError>
+    requires { length text.now ≤ limit }
+    ensures some { IfOk result (λ answer. IfSome answer (λ report. HasReport text.now report.units)) }
+    ensures none { IfOk result (λ answer. IfNone answer (IsNoDesign text.now)) }
+{
+    one_tree();
+    match parse(alloc, text)? {
+        None => Ok(None),
+        Some(tree) => match first_design(&tree) {
+            None => Ok(None),
+            Some(design) => Ok(Some(decide(alloc, &design)?)),
+        },
+    }
+}
