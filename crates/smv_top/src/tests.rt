@@ -64,35 +64,51 @@ const RISES: &str = "p: false at 1\n time 0: x = 0\n time 1: x = 1\nproved 0 of 
 
 const FALLS: &str = "p: false at 1\n time 0: x = 1\n time 1: x = 0\nproved 0 of 1\n";
 
+const CLAIMS: &[&str] = &["x", "~x", "x | ~x", "x & ~x", "x -> ~x"];
+
+// The answers where x is 0 or 1 at time 0, and then 0 or 1.
+const AT_00: &[&str] = &[LOW, TRUE, TRUE, LOW, TRUE];
+
+const AT_01: &[&str] = &[LOW, RISES, TRUE, LOW, RISES];
+
+const AT_10: &[&str] = &[FALLS, HIGH, TRUE, HIGH, HIGH];
+
+const AT_11: &[&str] = &[TRUE, HIGH, TRUE, HIGH, HIGH];
+
+const NONE: &[&str] = &[NOT_DECIDED; 5];
+
 #[test]
 fn all_small_toggles(rt: HostRuntime) -> Result<(), Fail> {
     let alloc = rt.alloc();
-    let claims = ["x", "~x", "x | ~x", "x & ~x", "x -> ~x"];
     let rows = [
-        ("0", "0", [LOW, TRUE, TRUE, LOW, TRUE]),
-        ("0", "1", [LOW, RISES, TRUE, LOW, RISES]),
-        ("0", "x", [LOW, TRUE, TRUE, LOW, TRUE]),
-        ("0", "~x", [LOW, RISES, TRUE, LOW, RISES]),
-        ("1", "0", [FALLS, HIGH, TRUE, HIGH, HIGH]),
-        ("1", "1", [TRUE, HIGH, TRUE, HIGH, HIGH]),
-        ("1", "x", [TRUE, HIGH, TRUE, HIGH, HIGH]),
-        ("1", "~x", [FALLS, HIGH, TRUE, HIGH, HIGH]),
-        ("~0 & 1", "0", [FALLS, HIGH, TRUE, HIGH, HIGH]),
-        ("~0 & 1", "1", [TRUE, HIGH, TRUE, HIGH, HIGH]),
-        ("~0 & 1", "x", [TRUE, HIGH, TRUE, HIGH, HIGH]),
-        ("~0 & 1", "~x", [FALLS, HIGH, TRUE, HIGH, HIGH]),
-        ("x", "~x", [NOT_DECIDED; 5]),
+        ("0", "0", AT_00),
+        ("0", "1", AT_01),
+        ("0", "x", AT_00),
+        ("0", "~x", AT_01),
+        ("1", "0", AT_10),
+        ("1", "1", AT_11),
+        ("1", "x", AT_11),
+        ("1", "~x", AT_10),
+        ("~0 & 1", "0", AT_10),
+        ("~0 & 1", "1", AT_11),
+        ("~0 & 1", "x", AT_11),
+        ("~0 & 1", "~x", AT_10),
+        ("x", "~x", NONE),
     ];
     for (init, next, answers) in rows {
-        for (claim, answer) in claims.iter().zip(answers.iter()) {
-            let text = format!(in alloc;
-                "module main() {{ x : boolean; init(x) := {init}; next(x) := {next}; p : assert G ({claim}); }}"
-            )?;
+        for (claim, answer) in CLAIMS.iter().zip(answers) {
+            let text = toggle(alloc, init, next, claim)?;
             let (_, written) = answered(alloc, "prove", text.as_bytes())?;
             assert_eq!(rt; written.as_slice(), answer.as_bytes(), "{text}");
         }
     }
     Ok(())
+}
+
+fn toggle(alloc: Global, init: &str, next: &str, claim: &str) -> Result<String, AllocError> {
+    format!(in alloc;
+        "module main() {{ x : boolean; init(x) := {init}; next(x) := {next}; p : assert G ({claim}); }}"
+    )
 }
 
 #[test]
