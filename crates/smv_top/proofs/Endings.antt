@@ -7,7 +7,7 @@ use Rattle.std.specs.Fmt.{digits}
 use Rattle.std.specs.List.{list_all}
 use Rattle.std.specs.Str.{bytes_eq}
 use Rattle.std.proofs.lemmas.Slice.Eq.{bytes_eq-Decides}
-use Rattle.std.specs.Io.KnownBytes.{Appends, Keeps}
+use Rattle.std.specs.Io.KnownBytes.{Appends}
 use Rattle.smv_io.specs.Transfers.{TookFront}
 use Rattle.smv_core.specs.Sound.{IsSound}
 use Rattle.smv_core.specs.Verdict.{IsReport}
@@ -18,7 +18,7 @@ use Rattle.smv_core.specs.declared.report.Verdict.TheVariants.{True, False}
 use Rattle.smv_parse.specs.Spelling.{SpellsSmall}
 use Rattle.smv_report.specs.Lines.{is_true_verdict, fault_text}
 use Rattle.smv_two_states.specs.Verdicts.{IsTrueResult, path_length}
-use Rattle.smv_top.specs.Answers.{IsProve, limit, IsDesign, IsNoDesign, IsSoundDesign, HasReport, all_true, IsFault, too_long, undecided, IsAnswer, IsDue, Gave, Ends, Completes}
+use Rattle.smv_top.specs.Answers.{IsProve, IsNoDesign, IsSoundDesign, HasReport, all_true, IsFault, too_long, undecided, IsAnswer, IsDue, Gave, Ends, Completes}
 use Rattle.smv_top.specs.declared.Status.{Status}
 use Rattle.smv_top.specs.declared.Status.TheVariants.{AllProved, SomeFalse, Refused, Usage, ReadFault, WriteFault, OutOfMemory}
 

@@ -67,10 +67,10 @@ abbrev pub Gave : Option (List ℕ) → List ℕ → Type 0
 Gave left text = IfSome left (λ told. text ≡ told)
 
 -- How a call ends. The whole answer was taken under the status to which it is due; under a fault of the sink a front of the answer that was due,
--- and not all of it; and nothing where the text was not read, which only a command that reads can meet, or where memory ran out.
+-- and not all of it; and nothing where the text was not read or memory ran out, which only the command can meet.
 abbrev pub Ends : Status → List (List ℕ) → List ℕ → Option (List ℕ) → Option (List ℕ) → Type 0
 Ends ReadFault words text old new = IsProve words × Keeps old new
-Ends OutOfMemory words text old new = Keeps old new
+Ends OutOfMemory words text old new = IsProve words × Keeps old new
 Ends WriteFault words text old new = (due : Status) × (answer : List ℕ) × IsDue due words text answer × TookFront old new answer
 Ends status words text old new = (answer : List ℕ) × IsDue status words text answer × Appends old new answer
 

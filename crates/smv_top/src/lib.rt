@@ -87,9 +87,10 @@ pub fn run<S: Source, K: Sink>(
     ensures complete { IsProve (map string_bytes words.now) → ¬ Rose (S.faults source.old) (S.faults source.new) → ¬ Rose (K.faults sink.old) (K.faults sink.new) →
         IfSome (S.left source.old) (Completes result) }
 
-    // Words that are no command are answered by the usage line, and the source is left alone.
+    // Words that are no command are answered by the usage line, and the source is left alone. Without an answer the sink is left alone.
     ensures usage { ¬ IsProve (map string_bytes words.now) → ¬ Rose (K.faults sink.old) (K.faults sink.new) → result ≡ Status.Usage }
     ensures unread { ¬ IsProve (map string_bytes words.now) → source.new ≡ source.old }
+    ensures unwritten { (result ≡ Status.ReadFault) ⊎ (result ≡ Status.OutOfMemory) → sink.new ≡ sink.old }
 {
     one_tree();
     reports_agree();
@@ -109,6 +110,7 @@ fn answered<S: Source, K: Sink>(
     ensures write_fault { result ≡ Status.WriteFault → Rose (K.faults sink.old) (K.faults sink.new) }
     ensures usage { ¬ IsProve (map string_bytes words.now) → ¬ Rose (K.faults sink.old) (K.faults sink.new) → result ≡ Status.Usage }
     ensures unread { ¬ IsProve (map string_bytes words.now) → source.new ≡ source.old }
+    ensures unwritten { (result ≡ Status.ReadFault) ⊎ (result ≡ Status.OutOfMemory) → sink.new ≡ sink.old }
 {
     if !is_prove(words) {
         return finish(sink, USAGE, Status::Usage);

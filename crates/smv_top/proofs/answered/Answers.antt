@@ -1,6 +1,6 @@
-use Rattle.std.proofs.Common.{ap, sym, refl, subst, Err, length, ◌<◌, ◌∙◌}
+use Rattle.std.proofs.Common.{ap, sym, refl, Err, length, ◌<◌}
 use Rattle.std.proofs.KnownBytes.{Keeps-refl}
-use Rattle.smv_top.specs.Answers.{limit, too_long, IsAnswer, Ends}
+use Rattle.smv_top.specs.Answers.{limit, too_long}
 use Rattle.smv_top.proofs.Endings.{no_command, longer, some_given, given, finished, line_31, due_under}
 use Rattle.smv_top.proofs.answered.Goals as goal
 
@@ -18,7 +18,7 @@ returns-in-Err-ReadFault-clause-ends g c =
 pub returns-in-Err-OutOfMemory-clause-ends : goal.returns-in-Err-OutOfMemory-clause-ends
 returns-in-Err-OutOfMemory-clause-ends g c =
     let text = some_given _ in
-    (text.0, text.1, Keeps-refl _)
+    (text.0, text.1, (c.is_prove.ensures.0 c.if-not-is_prove.false, Keeps-refl _))
 
 pub returns-in-Err-TooLong-clause-ends : goal.returns-in-Err-TooLong-clause-ends
 returns-in-Err-TooLong-clause-ends g c =
