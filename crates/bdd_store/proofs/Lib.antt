@@ -1,0 +1,9 @@
+pub mod Walks
+pub mod Canonical
+pub mod Tables
+pub mod Sets
+pub mod Reach
+pub mod Laws
+pub mod Blocks
+pub mod Counts
+pub mod Few

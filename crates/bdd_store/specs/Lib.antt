@@ -1,0 +1,5 @@
+pub mod Diagram
+pub mod Beads
+pub mod Graph
+pub mod Seen
+pub mod Chains
