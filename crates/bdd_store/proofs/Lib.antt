@@ -7,3 +7,7 @@ pub mod Laws
 pub mod Blocks
 pub mod Counts
 pub mod Few
+pub mod ChainLaws
+pub mod Links
+pub mod Writes
+pub mod Puts
