@@ -5,7 +5,7 @@ use Rattle.std.proofs.lemmas.List.{get_or_default}
 use Rattle.bdd_store.specs.declared.chains.Node.{Node}
 use Rattle.bdd_store.specs.Graph.{no_node, node_at, var_at, low_at, high_at, next_at}
 use Rattle.bdd_store.specs.Chains.{home, start, InChain, IsFalling, AllOf, AllBut, Chained, SameGraph}
-use Rattle.bdd_store.proofs.ChainLaws.{cases_eq, chain_falling}
+use Rattle.bdd_store.proofs.ChainLaws.{cases_eq, chain_falling, start_in}
 use Rattle.bdd_store.proofs.Links.{link_head, link_behind}
 
 pub same_graph_self : (ns : List Node) → SameGraph ns ns
@@ -101,3 +101,20 @@ pub link_ready : (n : ℕ) (ns : List Node) (heads : List ℕ) (free f b : ℕ) 
 link_ready n ns heads free f b ok lt two =
     let e : start heads free b ≡ get_or heads b 0 = get_or_default heads b free 0 lt in
     (subst (λ x. IsFalling ns x) e (chain_falling n ns heads free (AllBut ns f) ok (λ r is. is.0) b (omega arith)), λ chain. (ok.only b f (omega arith) (omega arith) (subst (λ x. InChain ns x f) (sym e) chain)).1.1 refl)
+
+-- chains over the places below m begin there
+pub start_below : (n : ℕ) (ns : List Node) (heads : List ℕ) (free m : ℕ) → Chained n ns heads free (λ r. r < m) → 0 < m → (c : ℕ) → c ≤ length heads → start heads free c < m
+start_below n ns heads free m ok pos c le = elim (cases_eq (start heads free c) 0) [
+  | inl at ↦ omega arith
+  | inr ne ↦ start_in n ns heads free (λ r. r < m) ok c le (omega arith)
+]
+
+pub head_below : (n : ℕ) (ns : List Node) (heads : List ℕ) (free m : ℕ) → Chained n ns heads free (λ r. r < m) → 0 < m → (b : ℕ) → b < length heads → get_or heads b 0 < m
+head_below n ns heads free m ok pos b lt = subst (λ x. x < m) (get_or_default heads b free 0 lt) (start_below n ns heads free m ok pos b (omega arith))
+
+pub free_below : (n : ℕ) (ns : List Node) (heads : List ℕ) (free m : ℕ) → Chained n ns heads free (λ r. r < m) → 0 < m → free < m
+free_below n ns heads free m ok pos = subst (λ x. x < m) (past heads) (start_below n ns heads free m ok pos (length heads) (omega arith))
+  where
+    past : (xs : List ℕ) → get_or xs (length xs) free ≡ free
+    past [] = refl
+    past (x ∷ xs) = past xs
