@@ -11,3 +11,6 @@ pub mod ChainLaws
 pub mod Links
 pub mod Writes
 pub mod Puts
+pub mod Seen
+pub mod CountLaws
+pub mod NodeLaws

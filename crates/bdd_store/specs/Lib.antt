@@ -3,3 +3,4 @@ pub mod Beads
 pub mod Graph
 pub mod Seen
 pub mod Chains
+pub mod Steps

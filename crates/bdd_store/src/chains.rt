@@ -117,6 +117,23 @@ pub fn link_all(nodes: &mut Vec<Node>, heads: &mut Vec<u32>, vars: u32) -> u32
     free
 }
 
+/// Doubles the chains, where there is memory for that, and gives the first place of the free list.
+pub fn grow(nodes: &mut Vec<Node>, heads: &mut Vec<u32>, free: u32, vars: u32) -> u32
+    requires chained { Chained vars nodes.old.items heads.old.items free (AllOf nodes.old.items) }
+    requires some { 2 ≤ vec_len nodes.old }
+    requires few { vec_len nodes.old ≤ 0x1_0000_0000 }
+    ensures same { SameGraph nodes.old.items nodes.new.items }
+    ensures chained { Chained vars nodes.new.items heads.new.items result (AllOf nodes.new.items) }
+    ensures room { vec_capacity nodes.new ≡ vec_capacity nodes.old }
+    ensures len { vec_len nodes.new ≡ vec_len nodes.old }
+{
+    let len = heads.len();
+    if len < 0x8000_0000 && heads.resize(2 * len, 0).is_ok() {
+        return link_all(nodes, heads, vars);
+    }
+    free
+}
+
 // Puts a node at the end, where there is room for its mark too.
 fn append(nodes: &mut Vec<Node>, marks: &mut Vec<bool>, node: Node) -> Result<u32, AllocError>
     requires flags { vec_len marks.old ≡ vec_len nodes.old }

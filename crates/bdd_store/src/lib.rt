@@ -4,6 +4,7 @@
 ghost use Rattle.std.specs.Prelude.{◌≡◌, ◌≢◌, ◌↔◌, ◌⊎◌, ℕ, ◌+◌, ◌-◌, ◌<◌, ◌≤◌, Bool, true, false, IfOk, OnOk, OnErr, IfSome, IfNone, IsNone, if◌then◌else◌, is_ok, min, length, slice_index, vec_len, vec_capacity};
 ghost use Rattle.std.specs.Prelude.{List, [], ◌∷◌, ◌++◌, count_by};
 ghost use Rattle.bdd_store.specs.Diagram.{Diagram, IsLive, AreLive, table, tables_of, IsSound, IsCanonical, first_var, IsConstant, IsProper, DependsFrom, Reaches, held, Keeps, HasMarks, KeepsMarks, IsKept, Sweeps};
+ghost use Rattle.bdd_store.specs.Steps.{Grows, Stays, Gives, IsFound};
 ghost use Rattle.bdd_store.specs.Beads.{bead_count};
 ghost use Rattle.bdd_store.specs.Graph.{with_at};
 ghost use Rattle.bdd_store.specs.declared.Ref.{Ref};
@@ -13,7 +14,7 @@ use std::marker::Model;
 
 mod chains;
 
-use chains::{Node, bucket_of, find};
+use chains::{Node, add, bucket_of, find, grow};
 
 /// A function of the store that gave it, of which it says nothing: a Ref means in each store what stands at its place.
 #[derive(Clone, Copy, Debug, PartialEq, Eq, PartialOrd, Ord, Hash)]
@@ -164,9 +165,58 @@ impl Store {
         ensures spare { self.old.spare ≤ self.new.spare + 1 }
         ensures refused { OnErr result (self.old.spare ≡ 0) }
     {
-        let _ = find(&self.nodes, 0, bucket_of(var, 0, 0, 1) as u32, 0, 0);
-        let _ = high;
-        Ok(low)
+        let answer = self.find_or_add(var, low, high);
+        self.make_room();
+        answer
+    }
+
+    // Doubles the chains where there are more nodes than chains.
+    fn make_room(&mut self)
+        ensures stays { Stays self.old self.new }
+        ensures calls { self.new.calls ≡ self.old.calls }
+        ensures spare { self.new.spare ≡ self.old.spare }
+    {
+        if self.nodes.len() > self.heads.len() {
+            self.free = grow(&mut self.nodes, &mut self.heads, self.free, self.vars);
+        }
+    }
+
+    // The node, which is found in the chain of its hash or put there.
+    fn find_or_add(&mut self, var: u32, low: Ref, high: Ref) -> Result<Ref, AllocError>
+        requires var_in { var < self.old.vars }
+        requires low_live { IsLive self.old low }
+        requires high_live { IsLive self.old high }
+        requires low_later { var < first_var self.old low }
+        requires high_later { var < first_var self.old high }
+        ensures grows { Grows self.old self.new }
+        ensures gives { IfOk result (λ r. Gives self.old self.new var low high r) }
+        ensures none_fresh { OnErr result ((q : Ref) → IsLive self.new q → IsLive self.old q) }
+        ensures held { held self.new ≤ held self.old + (if is_ok result then 1 else 0) }
+        ensures held_found { (q : Ref) → IsLive self.old q → IsFound self.old var low high q → held self.new ≡ held self.old }
+        ensures calls { self.new.calls ≡ (if is_ok result then min (self.old.calls + 1) 0xFFFF_FFFF_FFFF_FFFF else self.old.calls) }
+        ensures spare { self.old.spare ≤ self.new.spare + 1 }
+        ensures refused { OnErr result (self.old.spare ≡ 0) }
+    {
+        if low.place == high.place {
+            self.calls = self.calls.saturating_add(1);
+            return Ok(low);
+        }
+        let node = Node {
+            var,
+            low: low.place as u32,
+            high: high.place as u32,
+            next: 0,
+        };
+        let bucket = bucket_of(var, node.low, node.high, self.heads.len());
+        let found = find(&self.nodes, self.heads[bucket], var, node.low, node.high);
+        if found != 0 {
+            self.calls = self.calls.saturating_add(1);
+            return Ok(Ref { place: found as usize });
+        }
+        let place = add(&mut self.nodes, &mut self.marks, &mut self.heads, &mut self.free, self.vars, bucket, node)?;
+        self.held += 1;
+        self.calls = self.calls.saturating_add(1);
+        Ok(Ref { place: place as usize })
     }
 
     /// The value that the function has everywhere, if there is one.
