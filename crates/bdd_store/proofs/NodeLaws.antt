@@ -1,6 +1,7 @@
 -- What stays of a diagram where its nodes stay, and what a node that is put adds.
 use Rattle.std.proofs.Common.{◌≡◌, ◌≢◌, ℕ, ◌+◌, ◌<◌, ◌≤◌, ◌⊎◌, Bool, true, false, eqb, cond, List, [], ◌∷◌, ◌++◌, length, get_or, refl, sym, ◌∙◌, ap, subst, arith, inl, inr}
 use Rattle.std.specs.List.{flat_map}
+use Rattle.std.specs.Prelude.{Result, Ok, Err, OnErr}
 use Rattle.bdd_store.specs.declared.Ref.{Ref}
 use Rattle.bdd_store.specs.declared.chains.Node.{Node}
 use Rattle.bdd_store.specs.Graph.{node_at, var_at, low_at, high_at, Live, step, walk, below, Reduced}
@@ -302,3 +303,14 @@ gives_stays d e f var lo hi r grows gives stays = record {
 
 pub stays_from : (d f e : Diagram) → d ≡ f → Stays d e → Stays f e
 stays_from d f e same stays = subst (λ x. Stays x e) same stays
+
+-- the same nodes, and the same flags one by one
+pub flags_grows : (d e : Diagram) → IsSound d → e.vars ≡ d.vars → e.nodes ≡ d.nodes → ((q : ℕ) → flag e.marks q ≡ flag d.marks q) → Grows d e
+flags_grows d e ok same_vars same_nodes same = record { sound = same_sound d e ok same_vars same_nodes; keeps = same_keeps d e ok same_vars same_nodes; marks = extends_marks d e ok same_vars (same_extends d.vars d.nodes e.nodes same_nodes) same }
+
+pub on_err : {A E : Type 0} (r : Result A E) (P : Type 0) → P → OnErr r P
+on_err (Ok x) P p = tt
+on_err (Err e) P p = p
+
+pub le_more : (a b k : ℕ) → a ≡ b → a ≤ b + k
+le_more a b k e = omega arith
