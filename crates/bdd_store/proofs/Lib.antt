@@ -14,3 +14,4 @@ pub mod Puts
 pub mod Seen
 pub mod CountLaws
 pub mod NodeLaws
+pub mod NewLaws

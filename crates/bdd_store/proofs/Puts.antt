@@ -79,10 +79,10 @@ pub count_cons : (n : ℕ) (x : Node) (xs : List Node) → node_count n (x ∷ x
 unfolding node_count
 count_cons n x xs = sum_by-cons (λ (y : Node). cond (nat_lt y.var n) 1 0) x xs
 
-node_one : (n : ℕ) (x : Node) → x.var < n → one_if (nat_lt x.var n) ≡ 1
+pub node_one : (n : ℕ) (x : Node) → x.var < n → one_if (nat_lt x.var n) ≡ 1
 node_one n x lt = let test : nat_lt x.var n ≡ true = grind (arith, nat_tests) in ap (λ t. cond t 1 0) test
 
-node_none : (n : ℕ) (x : Node) → n ≤ x.var → one_if (nat_lt x.var n) ≡ 0
+pub node_none : (n : ℕ) (x : Node) → n ≤ x.var → one_if (nat_lt x.var n) ≡ 0
 node_none n x le = let test : nat_lt x.var n ≡ false = grind (arith, nat_tests) in ap (λ t. cond t 1 0) test
 
 count_append : (n : ℕ) (ns : List Node) (nd : Node) → nd.var < n → node_count n (ns ++ nd ∷ []) ≡ node_count n ns + 1

@@ -13,8 +13,10 @@ use std::alloc::{AllocError, Global};
 use std::marker::Model;
 
 mod chains;
+mod visits;
 
 use chains::{Node, add, bucket_of, find, grow};
+use visits::{clear, count_below, visit};
 
 /// A function of the store that gave it, of which it says nothing: a Ref means in each store what stands at its place.
 #[derive(Clone, Copy, Debug, PartialEq, Eq, PartialOrd, Ord, Hash)]
@@ -64,10 +66,13 @@ impl Store {
             high: 0,
             next: 0,
         };
+        let mut nodes = Vec::new(alloc);
+        nodes.push(last)?;
+        nodes.push(last)?;
         Ok(Store {
             vars,
             calls: 0,
-            nodes: vec![in alloc; last; 2]?,
+            nodes,
             heads: vec![in alloc; 0; 1]?,
             free: 0,
             held: 0,
@@ -279,8 +284,8 @@ impl Store {
         requires { AreLive self.now roots.now }
         ensures { IfOk result (λ n. n ≡ bead_count self.now.vars (tables_of self.now roots.now)) }
     {
-        let _ = &self.vars;
-        Ok(roots.len())
+        let mut seen = vec![in *self.nodes.allocator(); false; self.nodes.len()]?;
+        Ok(count_below(&self.nodes, &mut seen, self.vars, roots))
     }
 
     /// Takes the marks away.
@@ -294,6 +299,7 @@ impl Store {
         ensures calls { self.new.calls ≡ self.old.calls }
         ensures spare { self.new.spare ≡ self.old.spare }
     {
+        clear(&mut self.marks);
         self.marked = 0;
     }
 
@@ -310,8 +316,8 @@ impl Store {
         ensures calls { self.new.calls ≡ self.old.calls }
         ensures spare { self.new.spare ≡ self.old.spare }
     {
-        self.marked = r.place;
-        0
+        self.marked = visit(&self.nodes, &mut self.marks, self.vars, r.place as u32, self.marked);
+        self.marked
     }
 
     /// Gives back each node that no root reaches, and takes the marks away.
