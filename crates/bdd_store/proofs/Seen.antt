@@ -2,6 +2,7 @@
 use Rattle.std.proofs.Common.{◌≡◌, ◌≢◌, ℕ, zero, suc, ◌+◌, ◌-◌, ◌<◌, ◌≤◌, Bool, true, false, ◌||◌, eqb, cond, List, [], ◌∷◌, ◌++◌, length, get_or, set, refl, sym, ◌∙◌, ap, arith, inl, inr, get_or-set_other, get_or-set_same}
 use Rattle.std.specs.List.{count_by, sum_by}
 use Rattle.std.proofs.lemmas.Bool.{cases_lt}
+use Rattle.std.proofs.lemmas.List.{get_or_default}
 use Rattle.std.proofs.lemmas.List.Sums.{sum_by-cons}
 use Rattle.std.proofs.lemmas.Bool.Decides.{nat_tests}
 use Rattle.bdd_store.specs.declared.chains.Node.{Node}
@@ -225,3 +226,8 @@ count_set (x ∷ xs) (suc r) lt e = count_by_step x (set xs r true) ∙ ap (λ m
     more : (y : Bool) → cond y (suc (count_by (λ (s : Bool). s) xs + 1)) (count_by (λ (s : Bool). s) xs + 1) ≡ cond y (suc (count_by (λ s. s) xs)) (count_by (λ s. s) xs) + 1
     more true = omega arith
     more false = refl
+
+-- a flag that was read
+pub flag_read : (seen : List Bool) (r : ℕ) (x : Bool) → r < length seen → x ≡ get_or seen r x → x ≡ true → flag seen r ≡ true
+unfolding flag
+flag_read seen r x lt read is = sym (get_or_default seen r x false lt) ∙ sym read ∙ is

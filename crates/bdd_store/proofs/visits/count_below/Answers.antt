@@ -8,7 +8,7 @@ use Rattle.bdd_store.proofs.CountLaws.{closed_all, seen_more, places_append, eac
 use Rattle.bdd_store.proofs.visits.count_below.Goals as goal
 
 pub loop-root-init : goal.loop-root-init
-loop-root-init c = record { room = c.requires.room; counted = none_counted c.args.seen.now c.requires.clear; is = c.requires.clear }
+loop-root-init c = record { room = omega (arith, c.requires.room, c.args.seen.now.ok.0); counted = none_counted c.args.seen.now.items c.requires.clear; is = c.requires.clear }
 
 pub loop-root-preserved : goal.loop-root-preserved
 loop-root-preserved c =
@@ -20,10 +20,10 @@ loop-root-preserved c =
     let so_far = places_of (take i roots) in
     let live = each_place n ns roots i c.requires.live in
     let seen = c.visit-count.ensures.seen (flat_map (below ns n 0) so_far) (closed_all n ns c.requires.reduced so_far live) c.loop-root.invariant.is in
-    let more = seen_more n ns c.visit-count.new.seen so_far root.place seen in
+    let more = seen_more n ns c.visit-count.new.seen.items so_far root.place seen in
     let next : places_of (take (i + 1) roots) ≡ so_far ++ root.place ∷ [] = ap places_of (take_more roots i (record { place = 0 }) c.loop-root-test.true) ∙ places_append (take i roots) root in
     record {
-      room = omega (arith, c.visit-count.auto.seen, c.loop-root.invariant.room);
+      room = omega (arith, c.visit-count.ensures.room, c.visit-count.new.seen.ok.0);
       counted = c.visit-count.ensures.counted;
-      is = subst (λ ps. SeenIs c.visit-count.new.seen (flat_map (below ns n 0) ps)) (sym next) more;
+      is = subst (λ ps. SeenIs c.visit-count.new.seen.items (flat_map (below ns n 0) ps)) (sym next) more;
     }
