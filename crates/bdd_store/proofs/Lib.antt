@@ -15,3 +15,4 @@ pub mod Seen
 pub mod CountLaws
 pub mod NodeLaws
 pub mod NewLaws
+pub mod HeldLaws

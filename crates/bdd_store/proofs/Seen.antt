@@ -168,7 +168,7 @@ seen_again n ns ok seen l r live lt was is q =
     turn false false c = refl
 
 -- the places of the set flags, from place i on
-trues : ℕ → List Bool → List ℕ
+pub trues : ℕ → List Bool → List ℕ
 trues i [] = []
 trues i (x ∷ xs) = cond x (i ∷ trues (suc i) xs) (trues (suc i) xs)
 
@@ -189,7 +189,7 @@ trues_first_step : (x : Bool) (i : ℕ) (l : List ℕ) → member i l ≡ false 
 trues_first_step true i l e = or_left (eqb i i) (member i l) (eqb_same i)
 trues_first_step false i l e = e
 
-trues_at : (i j : ℕ) (xs : List Bool) → member (i + j) (trues i xs) ≡ get_or xs j false
+pub trues_at : (i j : ℕ) (xs : List Bool) → member (i + j) (trues i xs) ≡ get_or xs j false
 unfolding trues
 trues_at i j [] = refl
 trues_at i zero (x ∷ xs) = let e : i + 0 ≡ i = omega arith in rw e (trues_first_step x i (trues (suc i) xs) (trues_before (suc i) i xs (omega arith)))
@@ -202,11 +202,11 @@ unfolding count_distinct
 count_trues_step true i xs e = ap (λ m. cond m (count_distinct eqb (trues (suc i) xs)) (suc (count_distinct eqb (trues (suc i) xs)))) (trues_before (suc i) i xs (omega arith)) ∙ ap suc e
 count_trues_step false i xs e = e
 
-count_by_step : (x : Bool) (xs : List Bool) → count_by (λ (s : Bool). s) (x ∷ xs) ≡ cond x (suc (count_by (λ s. s) xs)) (count_by (λ s. s) xs)
+pub count_by_step : (x : Bool) (xs : List Bool) → count_by (λ (s : Bool). s) (x ∷ xs) ≡ cond x (suc (count_by (λ s. s) xs)) (count_by (λ s. s) xs)
 count_by_step true xs = sum_by-cons (λ (s : Bool). cond s 1 0) true xs ∙ (let e : 1 + sum_by (λ (s : Bool). cond s 1 0) xs ≡ suc (sum_by (λ s. cond s 1 0) xs) = omega arith in e)
 count_by_step false xs = sum_by-cons (λ (s : Bool). cond s 1 0) false xs ∙ (let e : 0 + sum_by (λ (s : Bool). cond s 1 0) xs ≡ sum_by (λ s. cond s 1 0) xs = omega arith in e)
 
-count_trues : (i : ℕ) (xs : List Bool) → count_distinct eqb (trues i xs) ≡ count_by (λ s. s) xs
+pub count_trues : (i : ℕ) (xs : List Bool) → count_distinct eqb (trues i xs) ≡ count_by (λ s. s) xs
 unfolding trues
 count_trues i [] = unfold count_distinct in refl
 count_trues i (x ∷ xs) = count_trues_step x i xs (count_trues (suc i) xs) ∙ sym (count_by_step x xs)
@@ -231,3 +231,10 @@ count_set (x ∷ xs) (suc r) lt e = count_by_step x (set xs r true) ∙ ap (λ m
 pub flag_read : (seen : List Bool) (r : ℕ) (x : Bool) → r < length seen → x ≡ get_or seen r x → x ≡ true → flag seen r ≡ true
 unfolding flag
 flag_read seen r x lt read is = sym (get_or_default seen r x false lt) ∙ sym read ∙ is
+
+-- no flag is set
+pub none_set : (seen : List Bool) → ((k : ℕ) → k < length seen → get_or seen k false ≡ false) → SeenIs seen []
+unfolding flag
+none_set [] clear q = refl
+none_set (x ∷ xs) clear zero = clear 0 (omega arith)
+none_set (x ∷ xs) clear (suc q) = unfold flag in none_set xs (λ k lt. clear (suc k) (omega arith)) q

@@ -1,8 +1,9 @@
 -- How a Store keeps its nodes: each place past the constants stands once, in the chain that is its home. That of a
 -- node is named by its hash; that of a place that was given back is the free list. Places fall along each chain.
-use Rattle.std.specs.Prelude.{◌≡◌, ◌≢◌, ℕ, zero, suc, ◌+◌, ◌*◌, ◌-◌, ◌%◌, ◌/◌, ◌^◌, ◌<◌, ◌≤◌, ◌⊎◌, Bool, List, length, slice_index_or, bit_and, nat_lt, if◌then◌else◌}
+use Rattle.std.specs.Prelude.{◌≡◌, ◌≢◌, ℕ, zero, suc, ◌+◌, ◌*◌, ◌-◌, ◌%◌, ◌/◌, ◌^◌, ◌<◌, ◌≤◌, ◌⊎◌, Bool, true, false, List, length, slice_index_or, bit_and, nat_lt, if◌then◌else◌}
 use Rattle.std.specs.List.{count_by}
 use Rattle.bdd_store.specs.declared.chains.Node.{Node}
+use Rattle.bdd_store.specs.Seen.{flag}
 use Rattle.bdd_store.specs.Graph.{node_at, var_at, low_at, high_at, next_at, Live, Reduced}
 
 -- a number that depends on all digits of its three
@@ -74,6 +75,12 @@ pub record Puts (n : ℕ) (old new : List Node) (f var low high : ℕ) : Type 0 
   pub here : Matches new f var low high
   pub same : (r : ℕ) → Live n old r → Live n new r × Matches new r (var_at old r) (low_at old r) (high_at old r)
   pub only : (r : ℕ) → Live n new r → Live n old r ⊎ (r ≡ f)
+
+-- the nodes that are not marked were given back
+pub record GivesBack (n : ℕ) (old new : List Node) (marks : List Bool) : Type 0 where
+  pub count : length new ≡ length old
+  pub kept : (r : ℕ) → (r < 2) ⊎ (flag marks r ≡ true) → node_at new r ≡ node_at old r
+  pub gone : (r : ℕ) → 2 ≤ r → r < length old → flag marks r ≡ false → var_at new r ≡ n
 
 -- what the fields of a Store keep
 pub record Stored (n : ℕ) (ns : List Node) (heads : List ℕ) (free held : ℕ) (marks : List Bool) (marked : ℕ) : Type 0 where

@@ -2,7 +2,7 @@
 
 ghost use Rattle.std.specs.Prelude.{◌≡◌, ◌≢◌, ℕ, Bool, false, List, [], ◌∷◌, ◌++◌, if◌then◌else◌, is_ok, ◌+◌, ◌<◌, ◌≤◌, ◌^◌, IfOk, OnErr, length, slice_index, vec_len, vec_capacity, min, count_by};
 ghost use Rattle.bdd_store.specs.Graph.{var_at, low_at, high_at, next_at};
-ghost use Rattle.bdd_store.specs.Chains.{bucket_of, home, start, InChain, IsFalling, Matches, AllOf, AllBut, IsPower, Chained, SameGraph, Puts, node_count};
+ghost use Rattle.bdd_store.specs.Chains.{bucket_of, home, start, InChain, IsFalling, Matches, AllOf, AllBut, IsPower, Chained, SameGraph, Puts, GivesBack, node_count};
 ghost use Rattle.bdd_store.specs.Seen.{flag};
 
 use std::alloc::AllocError;
@@ -186,4 +186,19 @@ pub fn add(nodes: &mut Vec<Node>, marks: &mut Vec<bool>, heads: &mut Vec<u32>, f
     let place = append(nodes, marks, node)?;
     link(nodes, heads, bucket, place);
     Ok(place)
+}
+
+/// Gives back each node that is not marked.
+pub fn give_back(nodes: &mut Vec<Node>, marks: &[bool], vars: u32)
+    requires room { length marks.now ≡ vec_len nodes.old }
+    ensures gives_back { GivesBack vars nodes.old.items nodes.new.items marks.now }
+    ensures room { vec_capacity nodes.new ≡ vec_capacity nodes.old }
+    ensures len { vec_len nodes.new ≡ vec_len nodes.old }
+{
+    for place in 2..nodes.len() {
+        if !marks[place] {
+            let node = nodes[place];
+            nodes[place] = Node { var: vars, ..node };
+        }
+    }
 }

@@ -15,7 +15,7 @@ use std::marker::Model;
 mod chains;
 mod visits;
 
-use chains::{Node, add, bucket_of, find, grow};
+use chains::{Node, add, bucket_of, find, give_back, grow, link_all};
 use visits::{clear, count_below, visit};
 
 /// A function of the store that gave it, of which it says nothing: a Ref means in each store what stands at its place.
@@ -333,6 +333,11 @@ impl Store {
         ensures calls { self.new.calls ≡ self.old.calls }
         ensures spare { self.old.spare ≤ self.new.spare }
     {
-        self.marked = roots.len();
+        clear(&mut self.marks);
+        self.held = count_below(&self.nodes, &mut self.marks, self.vars, roots);
+        give_back(&mut self.nodes, &self.marks, self.vars);
+        self.free = link_all(&mut self.nodes, &mut self.heads, self.vars);
+        clear(&mut self.marks);
+        self.marked = 0;
     }
 }
