@@ -19,7 +19,7 @@ use Rattle.bdd_store.proofs.Few.{beads_are}
 use Rattle.bdd_store.proofs.Puts.{count_cons}
 use Rattle.bdd_store.proofs.NodeLaws.{held_is}
 
-each_member : (P : ℕ → Type 0) (xs : List ℕ) (q : ℕ) → Each P xs → member q xs ≡ true → P q
+pub each_member : (P : ℕ → Type 0) (xs : List ℕ) (q : ℕ) → Each P xs → member q xs ≡ true → P q
 each_member P [] q each is = absurd (let f : false ≡ true = is in cc)
 each_member P (x ∷ xs) q each is = elim (or_true (eqb q x) (member q xs) is) [ inl e ↦ subst P (sym (eqb_is q x e)) each.0 | inr later ↦ each_member P xs q each.1 later ]
 

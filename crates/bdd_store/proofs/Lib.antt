@@ -16,3 +16,4 @@ pub mod CountLaws
 pub mod NodeLaws
 pub mod NewLaws
 pub mod HeldLaws
+pub mod SweepLaws
