@@ -17,3 +17,4 @@ pub mod NodeLaws
 pub mod NewLaws
 pub mod HeldLaws
 pub mod SweepLaws
+pub mod Functions
