@@ -1,12 +1,12 @@
 -- Steps along a chain.
-use Rattle.std.proofs.Common.{◌≡◌, ◌≢◌, ℕ, zero, suc, ◌<◌, ◌≤◌, ◌⊎◌, Bool, true, false, cond, List, length, get_or, refl, sym, ◌∙◌, ap, subst, arith, inl, inr}
+use Rattle.std.proofs.Common.{◌≡◌, ◌≢◌, ℕ, zero, suc, ◌<◌, ◌≤◌, ◌⊎◌, true, false, cond, List, length, refl, sym, ◌∙◌, ap, arith, inl, inr}
 use Rattle.std.proofs.lemmas.Bool.{cases_lt}
 use Rattle.std.proofs.lemmas.Bool.Decides.{nat_tests}
 use Rattle.std.proofs.lemmas.Nat.{and_le_r, pow_pos}
-use Rattle.std.specs.Prelude.{nat_lt, bit_and, ◌/◌, ◌^◌, ◌-◌}
+use Rattle.std.specs.Prelude.{nat_lt, ◌/◌, ◌^◌, ◌-◌}
 use Rattle.bdd_store.specs.declared.chains.Node.{Node}
-use Rattle.bdd_store.specs.Graph.{node_at, var_at, low_at, high_at, next_at}
-use Rattle.bdd_store.specs.Chains.{mixed_of, bucket_of, home, start, after, InChain, IsFalling, IsPower, Chained, SameGraph}
+use Rattle.bdd_store.specs.Graph.{var_at, low_at, high_at, next_at}
+use Rattle.bdd_store.specs.Chains.{mixed_of, bucket_of, home, start, after, InChain, IsFalling, IsPower, Chained}
 
 pub cases_eq : (k b : ℕ) → (k ≡ b) ⊎ (k ≢ b)
 cases_eq k b = elim (cases_lt k b) [ inl below ↦ inr (λ e. omega arith) | inr above ↦ elim (cases_lt b k) [ inl over ↦ inr (λ e. omega arith) | inr le ↦ inl (omega arith) ] ]

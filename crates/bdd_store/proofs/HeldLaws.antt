@@ -1,17 +1,16 @@
 -- How many nodes a diagram holds.
-use Rattle.std.proofs.Common.{◌≡◌, ◌≢◌, ℕ, zero, suc, ◌+◌, ◌<◌, ◌≤◌, ◌⊎◌, Bool, true, false, ◌||◌, eqb, cond, List, [], ◌∷◌, ◌++◌, length, map, get_or, refl, sym, ◌∙◌, ap, subst, arith, inl, inr}
+use Rattle.std.proofs.Common.{◌≡◌, ℕ, zero, suc, ◌+◌, ◌<◌, ◌≤◌, ◌⊎◌, Bool, true, false, eqb, cond, List, [], ◌∷◌, ◌++◌, length, map, get_or, refl, sym, ◌∙◌, ap, subst, arith, inl, inr}
 use Rattle.std.specs.Prelude.{nat_lt}
-use Rattle.std.specs.List.{flat_map, count_by, sum_by}
-use Rattle.std.proofs.lemmas.Bool.{cases_lt}
+use Rattle.std.specs.List.{flat_map, count_by}
 use Rattle.std.proofs.lemmas.Bool.Decides.{nat_tests}
 use Rattle.bdd_store.specs.declared.Ref.{Ref}
 use Rattle.bdd_store.specs.declared.chains.Node.{Node}
-use Rattle.bdd_store.specs.Graph.{no_node, node_at, var_at, Live, below, Reduced}
-use Rattle.bdd_store.specs.Diagram.{Diagram, IsLive, AreLive, IsSound, IsProper, first_var, Reaches, Keeps, beads, held, tables_of}
+use Rattle.bdd_store.specs.Graph.{var_at, Live, below, Reduced}
+use Rattle.bdd_store.specs.Diagram.{Diagram, IsLive, AreLive, IsSound, first_var, Reaches, Keeps, beads, held, tables_of}
 use Rattle.bdd_store.specs.Beads.{bead_count, count_distinct}
 use Rattle.bdd_store.specs.Chains.{node_count}
-use Rattle.bdd_store.specs.Seen.{flag, SeenIs, places_of}
-use Rattle.bdd_store.proofs.Sets.{member, Subset, subset_count, member_append, eqb_is, or_true, or_left, or_right}
+use Rattle.bdd_store.specs.Seen.{places_of}
+use Rattle.bdd_store.proofs.Sets.{member, subset_count, member_append, eqb_is, or_true, or_left, or_right}
 use Rattle.bdd_store.proofs.Counts.{Each, IsNode, below_all_nodes, beads_below}
 use Rattle.bdd_store.proofs.CountLaws.{places_live, tables_are}
 use Rattle.bdd_store.proofs.Seen.{trues, trues_at, count_trues, count_by_step}
@@ -75,9 +74,13 @@ nodes_are n ns q is =
 -- the nodes below some places are no more than all nodes
 pub below_most : (n : ℕ) (ns : List Node) → Reduced n ns → (ps : List ℕ) → Each (Live n ns) ps → count_distinct eqb (flat_map (below ns n 0) ps) ≤ node_count n ns
 below_most n ns ok ps live =
-    omega (arith, nodes_count n ns, subset_count (flat_map (below ns n 0) ps) (nodes_of n ns) (λ q is.
-    let node = each_member (IsNode n ns) (flat_map (below ns n 0) ps) q (below_all_nodes n ns ok ps live) is in
-    nodes_have n ns q node.0.0 node.1))
+    omega (
+      arith,
+      nodes_count n ns,
+      subset_count (flat_map (below ns n 0) ps) (nodes_of n ns) (λ q is.
+          let node = each_member (IsNode n ns) (flat_map (below ns n 0) ps) q (below_all_nodes n ns ok ps live) is in
+          nodes_have n ns q node.0.0 node.1),
+    )
 
 -- so beads are no more than the nodes that are held
 pub beads_most : (d : Diagram) → IsSound d → (rs : List Ref) → AreLive d rs → bead_count d.vars (tables_of d rs) ≤ held d

@@ -3,7 +3,7 @@ use Rattle.std.proofs.Common.{◌≡◌, ◌≢◌, ℕ, zero, suc, ◌+◌, ◌
 use Rattle.std.proofs.Math.ListN.{get_or-append, length-set}
 use Rattle.std.proofs.lemmas.List.{get_or_default}
 use Rattle.bdd_store.specs.declared.chains.Node.{Node}
-use Rattle.bdd_store.specs.Graph.{no_node, node_at, var_at, low_at, high_at, next_at}
+use Rattle.bdd_store.specs.Graph.{no_node, node_at, var_at, next_at}
 use Rattle.bdd_store.specs.Chains.{home, start, after, InChain, IsFalling, IsPower, AllOf, AllBut, Chained, SameGraph}
 use Rattle.bdd_store.proofs.ChainLaws.{cases_eq, at_start, longer, ahead, next_ahead, one_more, chain_falling, none_at_end, chain_kept, chain_back, falling_le, power_pos, home_same, free_home, home_le}
 

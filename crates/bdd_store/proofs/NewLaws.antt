@@ -1,12 +1,11 @@
 -- A diagram of the two constants alone.
-use Rattle.std.proofs.Common.{◌≡◌, ◌≢◌, ℕ, zero, suc, ◌^◌, ◌<◌, ◌≤◌, Bool, true, false, List, [], ◌∷◌, length, get_or, refl, sym, ◌∙◌, ap, subst, arith}
-use Rattle.std.specs.List.{count_by}
+use Rattle.std.proofs.Common.{◌≡◌, ℕ, zero, suc, ◌^◌, ◌<◌, false, [], ◌∷◌, length, get_or, refl, sym, ◌∙◌, ap, subst, arith}
 use Rattle.bdd_store.specs.declared.Ref.{Ref}
 use Rattle.bdd_store.specs.declared.chains.Node.{Node}
-use Rattle.bdd_store.specs.Graph.{node_at, var_at, Live, Reduced}
+use Rattle.bdd_store.specs.Graph.{var_at, Live, Reduced}
 use Rattle.bdd_store.specs.Chains.{Stored, node_count}
 use Rattle.bdd_store.specs.Diagram.{Diagram, IsLive, IsSound, IsProper, first_var, held, HasMarks}
-use Rattle.bdd_store.specs.Seen.{flag, SeenIs}
+use Rattle.bdd_store.specs.Seen.{flag}
 use Rattle.bdd_store.proofs.Puts.{count_cons, node_none}
 use Rattle.bdd_store.proofs.NodeLaws.{held_is}
 use Rattle.bdd_store.proofs.Links.{none_linked}

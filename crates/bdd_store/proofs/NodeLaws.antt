@@ -1,13 +1,13 @@
 -- What stays of a diagram where its nodes stay, and what a node that is put adds.
-use Rattle.std.proofs.Common.{◌≡◌, ◌≢◌, ℕ, ◌+◌, ◌<◌, ◌≤◌, ◌⊎◌, Bool, true, false, eqb, cond, List, [], ◌∷◌, ◌++◌, length, get_or, refl, sym, ◌∙◌, ap, subst, arith, inl, inr}
+use Rattle.std.proofs.Common.{◌≡◌, ◌≢◌, ℕ, ◌+◌, ◌<◌, ◌≤◌, ◌⊎◌, Bool, true, false, eqb, cond, List, [], ◌∷◌, ◌++◌, length, refl, sym, ◌∙◌, ap, subst, arith, inl, inr}
 use Rattle.std.specs.List.{flat_map}
 use Rattle.std.specs.Prelude.{Result, Ok, Err, OnErr}
 use Rattle.bdd_store.specs.declared.Ref.{Ref}
 use Rattle.bdd_store.specs.declared.chains.Node.{Node}
-use Rattle.bdd_store.specs.Graph.{node_at, var_at, low_at, high_at, Live, step, walk, below, Reduced}
-use Rattle.bdd_store.specs.Diagram.{Diagram, IsLive, AreLive, ref_at, table, IsSound, first_var, IsProper, Reaches, held, Keeps, HasMarks, KeepsMarks}
+use Rattle.bdd_store.specs.Graph.{var_at, low_at, high_at, Live, step, walk, below, Reduced}
+use Rattle.bdd_store.specs.Diagram.{Diagram, IsLive, ref_at, table, IsSound, first_var, IsProper, Reaches, held, Keeps, HasMarks, KeepsMarks}
 use Rattle.bdd_store.specs.Steps.{Grows, Stays, Gives, IsFound}
-use Rattle.bdd_store.specs.Seen.{flag, SeenIs, places_of}
+use Rattle.bdd_store.specs.Seen.{flag, places_of}
 use Rattle.bdd_store.specs.Chains.{bucket_of, home, start, InChain, AllOf, Chained, Matches, SameGraph, Puts, node_count}
 use Rattle.bdd_store.proofs.Walks.{step_here, step_live}
 use Rattle.bdd_store.proofs.Seen.{closed_below}
@@ -16,8 +16,8 @@ use Rattle.bdd_store.proofs.Sets.{member}
 use Rattle.bdd_store.proofs.Reach.{below_kept, below_self, below_branch}
 use Rattle.bdd_store.proofs.Counts.{Each}
 use Rattle.bdd_store.proofs.CountLaws.{places_live}
-use Rattle.bdd_store.proofs.Laws.{reaches_self, equal_refs}
-use Rattle.bdd_store.proofs.ChainLaws.{power_pos, home_node}
+use Rattle.bdd_store.proofs.Laws.{equal_refs}
+use Rattle.bdd_store.proofs.ChainLaws.{home_node}
 use Rattle.bdd_store.proofs.Puts.{live_graph, graph_live, counted_graph}
 
 -- each live place is live after, with its node

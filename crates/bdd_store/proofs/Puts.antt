@@ -1,6 +1,6 @@
 -- A node that is put, and how many there are then.
-use Rattle.std.proofs.Common.{◌≡◌, ◌≢◌, ℕ, zero, suc, ◌+◌, ◌-◌, ◌<◌, ◌≤◌, ◌⊎◌, Bool, true, false, cond, List, [], ◌∷◌, ◌++◌, length, get_or, set, refl, sym, ◌∙◌, ap, subst, arith, inl, inr, length-append, get_or-set_other, get_or-set_same}
-use Rattle.std.specs.List.{count_by, sum_by}
+use Rattle.std.proofs.Common.{◌≡◌, ◌≢◌, ℕ, zero, suc, ◌+◌, ◌<◌, ◌≤◌, Bool, true, false, cond, List, [], ◌∷◌, ◌++◌, length, get_or, set, refl, sym, ◌∙◌, ap, subst, arith, inl, inr, length-append}
+use Rattle.std.specs.List.{count_by}
 use Rattle.std.specs.Prelude.{nat_lt}
 use Rattle.std.proofs.Math.ListN.{get_or-append, length-set}
 use Rattle.std.proofs.Math.Seq.{get_or-append_seam}
@@ -8,7 +8,7 @@ use Rattle.std.proofs.lemmas.List.Sums.{sum_by-cons, sum_by-append, count_by-le-
 use Rattle.std.proofs.lemmas.Bool.{cases_lt}
 use Rattle.std.proofs.lemmas.Bool.Decides.{nat_tests}
 use Rattle.bdd_store.specs.declared.chains.Node.{Node}
-use Rattle.bdd_store.specs.Graph.{no_node, node_at, var_at, low_at, high_at, Live}
+use Rattle.bdd_store.specs.Graph.{no_node, node_at, var_at, Live}
 use Rattle.bdd_store.specs.Chains.{Matches, SameGraph, Puts, node_count, home, bucket_of, start, InChain, AllOf, Chained}
 use Rattle.bdd_store.specs.Seen.{flag}
 use Rattle.bdd_store.proofs.ChainLaws.{cases_eq, home_node, home_free, none_at_end}
@@ -110,7 +110,7 @@ counted_graph n ns ms graph = counted_alike n ns ms graph.count graph.vars
 pub counted_few : (n : ℕ) (ns : List Node) → 2 ≤ length ns → var_at ns 0 ≡ n → var_at ns 1 ≡ n → node_count n ns + 2 ≤ length ns
 counted_few n [] two zero_last one_last = absurd (omega arith)
 counted_few n (x ∷ []) two zero_last one_last = absurd (omega arith)
-counted_few n (x ∷ y ∷ ns) two zero_last one_last = 
+counted_few n (x ∷ y ∷ ns) two zero_last one_last =
     omega (arith, count_cons n x (y ∷ ns), count_cons n y ns, node_none n x (omega arith), node_none n y (omega arith), at_most ns)
   where
     at_most : (l : List Node) → node_count n l ≤ length l

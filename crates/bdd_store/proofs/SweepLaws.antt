@@ -1,5 +1,5 @@
 -- What a sweep leaves: the nodes that are marked, and the constants.
-use Rattle.std.proofs.Common.{◌≡◌, ◌≢◌, ℕ, zero, suc, ◌+◌, ◌<◌, ◌≤◌, ◌⊎◌, Bool, true, false, ◌||◌, eqb, cond, List, [], ◌∷◌, ◌++◌, length, get_or, refl, sym, ◌∙◌, ap, subst, arith, inl, inr}
+use Rattle.std.proofs.Common.{◌≡◌, ℕ, zero, suc, ◌+◌, ◌<◌, ◌≤◌, ◌⊎◌, Bool, true, false, cond, List, [], ◌∷◌, length, get_or, refl, sym, ◌∙◌, ap, subst, arith, inl, inr}
 use Rattle.std.specs.Prelude.{nat_lt}
 use Rattle.std.specs.List.{flat_map, count_by}
 use Rattle.std.proofs.Math.Path.{fun_ext}
@@ -7,11 +7,11 @@ use Rattle.std.proofs.lemmas.Bool.{cases_lt}
 use Rattle.std.proofs.lemmas.Bool.Decides.{nat_tests}
 use Rattle.bdd_store.specs.declared.Ref.{Ref}
 use Rattle.bdd_store.specs.declared.chains.Node.{Node}
-use Rattle.bdd_store.specs.Graph.{no_node, node_at, var_at, low_at, high_at, Live, step, walk, below, Reduced}
+use Rattle.bdd_store.specs.Graph.{var_at, low_at, high_at, Live, step, below, Reduced}
 use Rattle.bdd_store.specs.Beads.{truth_table, bead_count}
-use Rattle.bdd_store.specs.Diagram.{Diagram, IsLive, AreLive, ref_at, table, tables_of, IsSound, IsProper, first_var, Reaches, Keeps, IsKept, Sweeps, held}
-use Rattle.bdd_store.specs.Chains.{GivesBack, SameGraph, Matches, node_count}
-use Rattle.bdd_store.specs.Seen.{flag, IsClosed, SeenIs, places_of}
+use Rattle.bdd_store.specs.Diagram.{Diagram, IsLive, AreLive, ref_at, table, tables_of, IsSound, first_var, Reaches, Keeps, IsKept, Sweeps, held}
+use Rattle.bdd_store.specs.Chains.{GivesBack, SameGraph, node_count}
+use Rattle.bdd_store.specs.Seen.{flag, SeenIs, places_of}
 use Rattle.bdd_store.proofs.Walks.{step_here}
 use Rattle.bdd_store.proofs.Sets.{member, member_append, or_true, or_left, or_right}
 use Rattle.bdd_store.proofs.Reach.{below_kept}
@@ -195,10 +195,13 @@ module _ (d e : Diagram) (ms : List Node) (marks : List Bool) (roots : List Ref)
 
   stands_kept : (r : Ref) → IsLive d r → Stands marks r.place → IsKept d roots r
   unfolding IsSound first_var Reaches
-  stands_kept r live_r stands = (live_r, elim stands [
-    | inl small ↦ inl (λ lt. not_small r.place small lt)
-    | inr is ↦ let root = root_of d.nodes d.vars roots r.place (sym (seen r.place) ∙ is) in inr (root.0, root.1, λ proper. root.2)
-  ])
+  stands_kept r live_r stands = (
+    live_r,
+    elim stands [
+      | inl small ↦ inl (λ lt. not_small r.place small lt)
+      | inr is ↦ let root = root_of d.nodes d.vars roots r.place (sym (seen r.place) ∙ is) in inr (root.0, root.1, λ proper. root.2)
+    ],
+  )
     where
       not_small : (q : ℕ) → q < 2 → var_at d.nodes q < d.vars → ⊥
       not_small zero small lt = omega (arith, ok.zero_last)
@@ -242,10 +245,13 @@ module _ (d e : Diagram) (ms : List Node) (marks : List Bool) (roots : List Ref)
   roots_live i lt = swept.live (ref_at roots i) (live i lt, inr (i, lt, reaches_self d (ref_at roots i)))
 
   pub swept_kept : (r : Ref) → IsLive e r → IsKept e roots r
-  swept_kept r live_r = (live_r, elim (swept.only r live_r).1 [
-    | inl constant ↦ inl (λ proper. constant (omega (arith, proper, swept_back.firsts r live_r, same_vars)))
-    | inr root ↦ inr (root.0, root.1, reached_e (ref_at roots root.0) r (roots_live root.0 root.1) live_r root.2)
-  ])
+  swept_kept r live_r = (
+    live_r,
+    elim (swept.only r live_r).1 [
+      | inl constant ↦ inl (λ proper. constant (omega (arith, proper, swept_back.firsts r live_r, same_vars)))
+      | inr root ↦ inr (root.0, root.1, reached_e (ref_at roots root.0) r (roots_live root.0 root.1) live_r root.2)
+    ],
+  )
 
   pub swept_tables : tables_of d roots ≡ tables_of e roots
   swept_tables = tables_kept e d swept_back roots roots_live

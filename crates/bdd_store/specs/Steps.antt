@@ -1,5 +1,5 @@
 -- What a call of `node` does, in parts that its steps share.
-use Rattle.std.specs.Prelude.{◌≡◌, ℕ, ◌+◌, ◌≤◌, ◌⊎◌, Bool, if◌then◌else◌}
+use Rattle.std.specs.Prelude.{◌≡◌, ℕ, ◌≤◌, ◌⊎◌, Bool, if◌then◌else◌}
 use Rattle.bdd_store.specs.declared.Ref.{Ref}
 use Rattle.bdd_store.specs.Diagram.{Diagram, IsLive, table, IsSound, first_var, Reaches, held, Keeps, KeepsMarks}
 

@@ -83,8 +83,14 @@ fn link(nodes: &mut Vec<Node>, heads: &mut Vec<u32>, bucket: usize, place: u32)
     } else {
         let before = last_above(nodes, head, place);
         let above = nodes[before as usize];
-        nodes[place as usize] = Node { next: above.next, ..node };
-        nodes[before as usize] = Node { next: place, ..above };
+        nodes[place as usize] = Node {
+            next: above.next,
+            ..node
+        };
+        nodes[before as usize] = Node {
+            next: place,
+            ..above
+        };
     }
 }
 
@@ -107,7 +113,10 @@ pub fn link_all(nodes: &mut Vec<Node>, heads: &mut Vec<u32>, vars: u32) -> u32
         let node = nodes[place];
         if node.var < vars {
             let bucket = bucket_of(node.var, node.low, node.high, heads.len());
-            nodes[place] = Node { next: heads[bucket], ..node };
+            nodes[place] = Node {
+                next: heads[bucket],
+                ..node
+            };
             heads[bucket] = place as u32;
         } else {
             nodes[place] = Node { next: free, ..node };
@@ -155,7 +164,15 @@ fn append(nodes: &mut Vec<Node>, marks: &mut Vec<bool>, node: Node) -> Result<u3
 }
 
 /// Puts a node that stands nowhere: at a place that was given back, or else at the end.
-pub fn add(nodes: &mut Vec<Node>, marks: &mut Vec<bool>, heads: &mut Vec<u32>, free: &mut u32, vars: u32, bucket: usize, node: Node) -> Result<u32, AllocError>
+pub fn add(
+    nodes: &mut Vec<Node>,
+    marks: &mut Vec<bool>,
+    heads: &mut Vec<u32>,
+    free: &mut u32,
+    vars: u32,
+    bucket: usize,
+    node: Node,
+) -> Result<u32, AllocError>
     requires chained { Chained vars nodes.old.items heads.old.items free.old (AllOf nodes.old.items) }
     requires some { 2 ≤ vec_len nodes.old }
     requires few { vec_len nodes.old ≤ 0x1_0000_0000 }

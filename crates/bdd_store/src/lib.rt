@@ -216,12 +216,24 @@ impl Store {
         let found = find(&self.nodes, self.heads[bucket], var, node.low, node.high);
         if found != 0 {
             self.calls = self.calls.saturating_add(1);
-            return Ok(Ref { place: found as usize });
+            return Ok(Ref {
+                place: found as usize,
+            });
         }
-        let place = add(&mut self.nodes, &mut self.marks, &mut self.heads, &mut self.free, self.vars, bucket, node)?;
+        let place = add(
+            &mut self.nodes,
+            &mut self.marks,
+            &mut self.heads,
+            &mut self.free,
+            self.vars,
+            bucket,
+            node,
+        )?;
         self.held += 1;
         self.calls = self.calls.saturating_add(1);
-        Ok(Ref { place: place as usize })
+        Ok(Ref {
+            place: place as usize,
+        })
     }
 
     /// The value that the function has everywhere, if there is one.
@@ -316,7 +328,13 @@ impl Store {
         ensures calls { self.new.calls ≡ self.old.calls }
         ensures spare { self.new.spare ≡ self.old.spare }
     {
-        self.marked = visit(&self.nodes, &mut self.marks, self.vars, r.place as u32, self.marked);
+        self.marked = visit(
+            &self.nodes,
+            &mut self.marks,
+            self.vars,
+            r.place as u32,
+            self.marked,
+        );
         self.marked
     }
 

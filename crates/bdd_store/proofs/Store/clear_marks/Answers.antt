@@ -1,12 +1,8 @@
-use Rattle.std.proofs.Common.{◌≡◌, ◌≤◌, ◌<◌, ℕ, Bool, List, [], ◌∷◌, length, refl, sym, ◌∙◌, ap, subst, arith}
-use Rattle.std.specs.List.{flat_map, count_by}
-use Rattle.bdd_store.specs.declared.chains.Node.{Node}
+use Rattle.std.proofs.Common.{ap, subst, arith}
 use Rattle.bdd_store.specs.contracts.Store.{the_view}
-use Rattle.bdd_store.specs.Graph.{Live, below, var_at}
-use Rattle.bdd_store.specs.Seen.{SeenIs, IsClosed, places_of}
-use Rattle.bdd_store.specs.Diagram.{Diagram, IsLive, IsSound, HasMarks}
+use Rattle.bdd_store.specs.Diagram.{Diagram, IsSound, HasMarks}
 use Rattle.bdd_store.proofs.Laws.{equal_refs}
-use Rattle.bdd_store.proofs.CountLaws.{none_counted, closed_all, places_live, count_is}
+use Rattle.bdd_store.proofs.CountLaws.{none_counted}
 use Rattle.bdd_store.proofs.NodeLaws.{same_keeps, same_live, same_held}
 use Rattle.bdd_store.proofs.Store.clear_marks.Goals as goal
 

@@ -1,10 +1,8 @@
-use Rattle.std.proofs.Common.{◌≡◌, ◌≢◌, ℕ, ◌+◌, ◌<◌, ◌≤◌, List, length, get_or, refl, sym, ◌∙◌, ap, subst, arith}
+use Rattle.std.proofs.Common.{◌≡◌, ℕ, ◌+◌, ◌<◌, List, length, sym, ◌∙◌, ap, subst, arith}
 use Rattle.std.proofs.lemmas.List.{get_or_default}
-use Rattle.bdd_store.specs.declared.Ref.{Ref}
 use Rattle.bdd_store.specs.declared.chains.Node.{Node}
 use Rattle.bdd_store.specs.contracts.Store.{the_view}
-use Rattle.bdd_store.specs.Graph.{Live}
-use Rattle.bdd_store.specs.Chains.{bucket_of, start, InChain, IsFalling, AllOf, Matches, Chained, Puts, node_count}
+use Rattle.bdd_store.specs.Chains.{bucket_of, start, InChain, IsFalling, AllOf, Matches, Chained, Puts}
 use Rattle.bdd_store.specs.Diagram.{Diagram, IsLive, IsSound, held}
 use Rattle.bdd_store.specs.Seen.{flag}
 use Rattle.bdd_store.proofs.ChainLaws.{chain_falling}

@@ -1,5 +1,5 @@
-use Rattle.std.proofs.Common.{◌≡◌, ◌≤◌, ◌<◌, sym, ◌∙◌, ap, subst, arith}
-use Rattle.bdd_store.specs.Diagram.{Diagram, IsSound, held}
+use Rattle.std.proofs.Common.{sym, ◌∙◌, ap, subst, arith}
+use Rattle.bdd_store.specs.Diagram.{IsSound, held}
 use Rattle.bdd_store.proofs.NodeLaws.{held_is}
 use Rattle.bdd_store.proofs.HeldLaws.{beads_most}
 use Rattle.bdd_store.specs.contracts.Store.{the_view}

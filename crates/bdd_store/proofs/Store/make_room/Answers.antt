@@ -1,6 +1,5 @@
-use Rattle.std.proofs.Common.{◌≡◌, refl, sym, ◌∙◌, ap, subst, arith}
-use Rattle.bdd_store.specs.Diagram.{Diagram, IsSound}
-use Rattle.bdd_store.specs.Steps.{Stays}
+use Rattle.std.proofs.Common.{refl, sym, ◌∙◌, subst, arith}
+use Rattle.bdd_store.specs.Diagram.{IsSound}
 use Rattle.bdd_store.specs.contracts.Store.{the_view}
 use Rattle.bdd_store.proofs.NodeLaws.{reduced_graph, graph_stays, same_stays, stays_from}
 use Rattle.bdd_store.proofs.Puts.{counted_graph}

@@ -1,12 +1,12 @@
-use Rattle.std.proofs.Common.{◌≡◌, ◌≤◌, ◌<◌, ℕ, Bool, List, [], ◌∷◌, ◌++◌, length, refl, sym, ◌∙◌, ap, subst, arith}
-use Rattle.std.specs.List.{flat_map, count_by}
+use Rattle.std.proofs.Common.{ℕ, List, ◌∷◌, ◌++◌, length, sym, ◌∙◌, ap, subst, arith}
+use Rattle.std.specs.List.{flat_map}
 use Rattle.bdd_store.specs.declared.chains.Node.{Node}
 use Rattle.bdd_store.specs.contracts.Store.{the_view}
-use Rattle.bdd_store.specs.Graph.{Live, below, var_at}
+use Rattle.bdd_store.specs.Graph.{Live, below}
 use Rattle.bdd_store.specs.Seen.{SeenIs, IsClosed, places_of}
 use Rattle.bdd_store.specs.Diagram.{Diagram, IsLive, IsSound, HasMarks}
 use Rattle.bdd_store.proofs.Laws.{equal_refs}
-use Rattle.bdd_store.proofs.CountLaws.{none_counted, closed_all, places_live, count_is}
+use Rattle.bdd_store.proofs.CountLaws.{closed_all, places_live, count_is}
 use Rattle.bdd_store.proofs.NodeLaws.{same_keeps, same_live, same_held}
 use Rattle.bdd_store.proofs.Store.mark.Goals as goal
 

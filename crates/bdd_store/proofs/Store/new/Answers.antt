@@ -1,8 +1,7 @@
-use Rattle.std.proofs.Common.{◌≡◌, false, List, [], ◌∷◌, ◌++◌, replicate, refl, sym, ◌∙◌, ap, subst}
+use Rattle.std.proofs.Common.{◌≡◌, false, [], ◌∷◌, ◌++◌, refl, ◌∙◌, ap}
 use Rattle.bdd_store.specs.declared.chains.Node.{Node}
 use Rattle.bdd_store.specs.contracts.Store.{the_view}
 use Rattle.bdd_store.specs.Diagram.{Diagram}
-use Rattle.bdd_store.specs.Chains.{Stored}
 use Rattle.bdd_store.proofs.Laws.{equal_refs}
 use Rattle.bdd_store.proofs.NewLaws.{new_stored, new_sound, new_empty, new_held, new_marks}
 use Rattle.bdd_store.proofs.Store.new.Goals as goal

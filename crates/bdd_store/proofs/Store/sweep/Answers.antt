@@ -1,12 +1,12 @@
-use Rattle.std.proofs.Common.{◌≡◌, ◌≤◌, ◌<◌, ℕ, Bool, List, [], ◌∷◌, length, min, refl, sym, ◌∙◌, ap, subst, arith}
+use Rattle.std.proofs.Common.{◌≡◌, ◌<◌, ℕ, Bool, List, length, min, sym, ◌∙◌, ap, subst, arith}
 use Rattle.std.specs.Prelude.{vec_capacity}
-use Rattle.std.specs.List.{flat_map, count_by}
+use Rattle.std.specs.List.{flat_map}
 use Rattle.bdd_store.specs.declared.chains.Node.{Node}
 use Rattle.bdd_store.specs.contracts.Store.{the_view}
 use Rattle.bdd_store.specs.Graph.{Live, below}
 use Rattle.bdd_store.specs.Beads.{bead_count}
 use Rattle.bdd_store.specs.Seen.{SeenIs, places_of}
-use Rattle.bdd_store.specs.Chains.{GivesBack, node_count}
+use Rattle.bdd_store.specs.Chains.{GivesBack}
 use Rattle.bdd_store.specs.Diagram.{Diagram, IsLive, AreLive, ref_at, IsSound, HasMarks, tables_of, held}
 use Rattle.bdd_store.proofs.Laws.{equal_refs}
 use Rattle.bdd_store.proofs.CountLaws.{none_counted, count_is}

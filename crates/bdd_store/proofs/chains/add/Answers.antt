@@ -1,9 +1,8 @@
-use Rattle.std.proofs.Common.{◌≡◌, ◌≢◌, ℕ, ◌<◌, ◌≤◌, List, [], ◌∷◌, ◌++◌, false, length, get_or, set, refl, sym, ◌∙◌, ap, subst, arith}
-use Rattle.std.proofs.Math.ListN.{get_or-append, length-set}
+use Rattle.std.proofs.Common.{◌≡◌, ◌<◌, List, [], ◌∷◌, ◌++◌, length, set, sym, ◌∙◌, ap, subst, arith}
 use Rattle.std.proofs.Math.Seq.{get_or-append_seam}
 use Rattle.bdd_store.specs.declared.chains.Node.{Node}
-use Rattle.bdd_store.specs.Graph.{no_node, node_at, var_at, next_at}
-use Rattle.bdd_store.specs.Chains.{InChain, IsFalling, AllOf, AllBut, Chained, home, Puts, node_count}
+use Rattle.bdd_store.specs.Graph.{no_node, node_at, next_at}
+use Rattle.bdd_store.specs.Chains.{AllOf, AllBut, Chained, node_count}
 use Rattle.bdd_store.specs.Seen.{flag}
 use Rattle.std.specs.Prelude.{vec_len}
 use Rattle.bdd_store.proofs.ChainLaws.{bucket_lt, power_pos}

@@ -1,7 +1,7 @@
-use Rattle.std.proofs.Common.{◌≡◌, ◌≢◌, ℕ, ◌+◌, ◌<◌, ◌≤◌, ◌⊎◌, Bool, true, false, List, length, set, refl, sym, ◌∙◌, ap, subst, arith, inl, inr}
+use Rattle.std.proofs.Common.{◌≡◌, ◌<◌, ◌≤◌, Bool, true, false, length, set, sym, ◌∙◌, ap, arith, inl, inr}
 use Rattle.std.proofs.Math.ListN.{length-set}
 use Rattle.bdd_store.specs.declared.chains.Node.{Node}
-use Rattle.bdd_store.specs.Graph.{node_at, var_at}
+use Rattle.bdd_store.specs.Graph.{var_at}
 use Rattle.bdd_store.specs.Seen.{flag}
 use Rattle.bdd_store.proofs.ChainLaws.{cases_eq}
 use Rattle.bdd_store.proofs.Writes.{written_here, written_other}

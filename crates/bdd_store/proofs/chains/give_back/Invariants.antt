@@ -1,4 +1,4 @@
-use Rattle.std.proofs.Common.{◌≡◌, ◌≢◌, ℕ, ◌<◌, ◌≤◌, ◌⊎◌, true, false, length}
+use Rattle.std.proofs.Common.{◌≡◌, ℕ, ◌<◌, ◌≤◌, ◌⊎◌, true, false, length}
 use Rattle.bdd_store.specs.Graph.{node_at, var_at}
 use Rattle.bdd_store.specs.Seen.{flag}
 use Rattle.bdd_store.proofs.chains.give_back.Given as goal

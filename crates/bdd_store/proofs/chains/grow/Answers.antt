@@ -1,4 +1,4 @@
-use Rattle.std.proofs.Common.{◌≡◌, ◌+◌, ◌*◌, ℕ, suc, Bool, true, cond, sym, ◌∙◌, ap, arith}
+use Rattle.std.proofs.Common.{◌≡◌, ◌*◌, suc, cond, sym, ◌∙◌, ap, arith}
 use Rattle.std.specs.Prelude.{vec_len}
 use Rattle.std.proofs.Math.Nat.{pow-suc}
 use Rattle.bdd_store.proofs.chains.grow.Goals as goal

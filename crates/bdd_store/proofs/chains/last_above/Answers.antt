@@ -1,4 +1,4 @@
-use Rattle.std.proofs.Common.{◌≡◌, ◌≢◌, ◌<◌, refl, sym, subst, arith}
+use Rattle.std.proofs.Common.{◌≢◌, refl, subst, arith}
 use Rattle.bdd_store.specs.Graph.{next_at}
 use Rattle.bdd_store.specs.Chains.{InChain}
 use Rattle.bdd_store.proofs.ChainLaws.{at_start, one_more}

@@ -1,10 +1,10 @@
-use Rattle.std.proofs.Common.{◌≡◌, ◌≢◌, ℕ, ◌+◌, ◌<◌, ◌≤◌, ◌⊎◌, List, ◌++◌, length, get_or, set, take, drop, refl, sym, ◌∙◌, ap, subst, arith, inl, inr}
+use Rattle.std.proofs.Common.{◌≡◌, ℕ, ◌+◌, ◌<◌, ◌≤◌, ◌⊎◌, List, ◌++◌, length, get_or, set, take, refl, sym, ◌∙◌, ap, subst, arith, inl, inr}
 use Rattle.std.proofs.Math.Seq.{take-append_seam}
 use Rattle.std.proofs.lemmas.List.{get_or_default}
 use Rattle.bdd_store.specs.declared.chains.Node.{Node}
 use Rattle.bdd_store.specs.Graph.{node_at}
-use Rattle.bdd_store.specs.Chains.{IsPower, AllOf, Chained, SameGraph, home, bucket_of}
-use Rattle.bdd_store.proofs.ChainLaws.{cases_eq, bucket_lt, power_pos, home_node, home_free, start_in}
+use Rattle.bdd_store.specs.Chains.{IsPower, Chained, home, bucket_of}
+use Rattle.bdd_store.proofs.ChainLaws.{cases_eq, power_pos, home_free}
 use Rattle.bdd_store.proofs.Links.{none_linked}
 use Rattle.bdd_store.proofs.Writes.{read_at, same_graph_self, graph_trans, link_written, node_linked, free_linked, head_below, free_below}
 use Rattle.bdd_store.proofs.Puts.{home_put}
@@ -28,7 +28,7 @@ loop-place-init c =
     record {
       same = same_graph_self c.args.nodes.now.items;
       chained = subst (λ hs. Chained c.args.vars c.args.nodes.now.items hs 0 (λ r. r < 2)) (sym (seam c.args.heads.now.len zs _ len))
-        (none_linked c.args.vars c.args.nodes.now.items zs (subst IsPower (sym (len ∙ c.args.heads.now.ok.0)) c.requires.power) c.requires.ends (λ k lt. c.loop-head.invariant k (omega (arith, lt, c.loop-head.auto.head-items, c.loop-head-test.false))));
+          (none_linked c.args.vars c.args.nodes.now.items zs (subst IsPower (sym (len ∙ c.args.heads.now.ok.0)) c.requires.power) c.requires.ends (λ k lt. c.loop-head.invariant k (omega (arith, lt, c.loop-head.auto.head-items, c.loop-head-test.false))));
     }
 
 pub loop-place-preserved : goal.loop-place-preserved

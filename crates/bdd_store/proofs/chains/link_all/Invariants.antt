@@ -1,5 +1,5 @@
-use Rattle.std.proofs.Common.{◌≡◌, ℕ, ◌<◌, length, get_or}
-use Rattle.bdd_store.specs.Chains.{IsPower, SameGraph, Chained}
+use Rattle.std.proofs.Common.{◌≡◌, ℕ, ◌<◌, get_or}
+use Rattle.bdd_store.specs.Chains.{SameGraph, Chained}
 use Rattle.bdd_store.proofs.chains.link_all.Given as goal
 
 -- the heads so far are empty
