@@ -13,6 +13,8 @@ use std::alloc::{AllocError, Global};
 use std::marker::Model;
 
 mod chains;
+#[cfg(test)]
+mod tests;
 mod visits;
 
 use chains::{Node, add, bucket_of, find, give_back, grow, link_all};
