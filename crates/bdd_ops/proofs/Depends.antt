@@ -106,7 +106,7 @@ free_not n v f free =
     let same : (λ (a : ℕ → Bool). f (with_at a v false)) ≡ (λ a. f (with_at a v true)) = λ i a. free a i in
     ap (λ g. not (same_block (truth_table n 0 (λ a. f (with_at a v false))) (truth_table n 0 g))) (sym same) ∙ ap not (same_block-refl _)
 
-clash : {A : Type 0} (x : Bool) → x ≡ true → x ≡ false → A
+pub clash : {A : Type 0} (x : Bool) → x ≡ true → x ≡ false → A
 clash x e f = absurd (let same : true ≡ false = sym e ∙ f in cc)
 
 -- a constant depends on nothing

@@ -51,6 +51,25 @@ module _ (d : Diagram) (f lo hi : Ref) (w first : ℕ) (same : w ≡ first)
   pub dep_own : ((a c : ℕ → Bool) → ((v : ℕ) → w ≤ v → a v ≡ c v) → table d f a ≡ table d f c) → (((a c : ℕ → Bool) → ((v : ℕ) → w + 1 ≤ v → a v ≡ c v) → table d f a ≡ table d f c) → ⊥) → depends d.vars (table d f) w ≡ true
   dep_own = own_depends d.vars w (table d f) (table d lo) (table d hi) (table_reads d f) (table_reads d lo) (table_reads d hi) lo_at hi_at
 
+  -- what is flagged after the own variable and the low branch, and after the high branch too
+  module _ (flags one : List Bool) (from : (a c : ℕ → Bool) → ((v : ℕ) → w ≤ v → a v ≡ c v) → table d f a ≡ table d f c) (least : ((a c : ℕ → Bool) → ((v : ℕ) → w + 1 ≤ v → a v ≡ c v) → table d f a ≡ table d f c) → ⊥)
+      (only_one : (v : ℕ) → bit_at one v ≡ true → (bit_at (set flags w true) v ≡ true) ⊎ (depends d.vars (table d lo) v ≡ true)) where
+    pub flagged_low : (v : ℕ) → bit_at one v ≡ true → (bit_at flags v ≡ true) ⊎ (depends d.vars (table d f) v ≡ true)
+    flagged_low v e = elim (only_one v e) [
+      | inl before ↦ elim (bit_only flags w v before) [ inl was ↦ inl was | inr is ↦ inr (ap (depends d.vars (table d f)) is ∙ dep_own from least) ]
+      | inr low ↦ inr (dep_low v low)
+    ]
+
+    pub flagged_high : (two : List Bool) → ((v : ℕ) → bit_at two v ≡ true → (bit_at one v ≡ true) ⊎ (depends d.vars (table d hi) v ≡ true)) → (v : ℕ) → bit_at two v ≡ true → (bit_at flags v ≡ true) ⊎ (depends d.vars (table d f) v ≡ true)
+    flagged_high two only_two v e = elim (only_two v e) [ inl before ↦ flagged_low v before | inr high ↦ inr (dep_high v high) ]
+
+  pub all_flagged : (flags one two : List Bool) → w < length flags → ((v : ℕ) → bit_at (set flags w true) v ≡ true → bit_at one v ≡ true) → ((v : ℕ) → bit_at one v ≡ true → bit_at two v ≡ true)
+      → ((v : ℕ) → depends d.vars (table d lo) v ≡ true → bit_at one v ≡ true) → ((v : ℕ) → depends d.vars (table d hi) v ≡ true → bit_at two v ≡ true) → (v : ℕ) → depends d.vars (table d f) v ≡ true → bit_at two v ≡ true
+  all_flagged flags one two lt kept_one kept_two all_one all_two v dep = elim (dep_cases v dep) [
+    | inl is ↦ kept_two v (kept_one v (bit_here flags w v true lt is))
+    | inr deeper ↦ elim deeper [ inl low ↦ kept_two v (all_one v low) | inr high ↦ all_two v high ]
+  ]
+
 -- the way to an assignment with value 1: what was set so far leads from F to T, and the next variable leads on to U
 module _ (F T U : (ℕ → Bool) → Bool) (bits : List Bool) (w first next : ℕ) (x : Bool) (same : w ≡ first) (lt : w < length bits)
     (is_next : (a : ℕ → Bool) → U a ≡ T (with_at a first x))
