@@ -15,6 +15,7 @@ use std::collections::{HashMap, HashSet};
 
 /// The results of an operation, by its two operands or its one.
 type Pairs = HashMap<(Ref, Ref), Ref>;
+
 type Ones = HashMap<Ref, Ref>;
 
 /// The function with the variable at 0, and with it at 1. It depends on no earlier variable.
@@ -426,6 +427,23 @@ fn flag_support(
     flag_support(store, seen, flags, high)?;
     seen.insert(f)?;
     Ok(())
+}
+
+/// The function's value at an assignment.
+pub fn value(store: &Store, f: Ref, bits: &[bool]) -> bool
+    requires live { IsLive store.now f }
+    requires length { length bits.now ≡ store.now.vars }
+    ensures value { result ≡ table store.now f (bit_at bits.now) }
+{
+    if let Some(x) = store.is_constant(f) {
+        return x;
+    }
+    let low = store.low(f);
+    let high = store.high(f);
+    if bits[store.var(f) as usize] {
+        return value(store, high, bits);
+    }
+    value(store, low, bits)
 }
 
 /// For each variable whether the function depends on it.

@@ -15,5 +15,5 @@ loop-rest-preserved c =
       some = λ never. next.ensures.some way.some never;
       size = length-set c.loop-rest.bits.items c.var.result next.result.0 ∙ way.size;
       leads = leads_on (table d c.args.f) (table d c.loop-rest.rest) (table d next.result.1) c.loop-rest.bits.items c.var.result (first_var d c.loop-rest.rest) (first_var d next.result.1) next.result.0
-        c.var.ensures.var lt next.ensures.table way.leads next.ensures.first;
+          c.var.ensures.var lt next.ensures.table way.leads next.ensures.first;
     }
