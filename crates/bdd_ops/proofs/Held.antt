@@ -7,7 +7,7 @@ use Rattle.bdd_store.specs.declared.Ref.{Ref}
 use Rattle.bdd_store.specs.declared.chains.Node.{Node}
 use Rattle.bdd_store.specs.Graph.{var_at, below}
 use Rattle.bdd_store.specs.Beads.{count_distinct}
-use Rattle.bdd_store.specs.Diagram.{Diagram, IsLive, IsSound, IsProper, Reaches, Keeps, first_var, held, beads}
+use Rattle.bdd_store.specs.Diagram.{Diagram, IsLive, IsSound, Reaches, Keeps, first_var, held, beads}
 use Rattle.bdd_store.proofs.Few.{beads_are}
 use Rattle.bdd_store.proofs.Laws.{reaches_self}
 use Rattle.bdd_store.proofs.Sets.{member, Subset, subset_count, member_append, eqb_is, eqb_same, or_true, or_left, or_right}

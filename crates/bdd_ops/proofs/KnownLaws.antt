@@ -1,5 +1,5 @@
 -- What holds of the keys of a set, as it grows, and of functions that imply each other.
-use Rattle.std.proofs.Common.{◌≡◌, ℕ, Bool, true, false, not, cond, List, [], refl, sym, ◌∙◌, ap, subst}
+use Rattle.std.proofs.Common.{◌≡◌, ℕ, Bool, true, false, not, cond, [], refl, sym, ◌∙◌, ap, subst}
 use Rattle.std.specs.List.{list_any}
 use Rattle.std.specs.HashSet.{contains, Updates}
 use Rattle.bdd_store.specs.Graph.{with_at}

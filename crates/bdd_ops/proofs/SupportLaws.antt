@@ -6,7 +6,7 @@ use Rattle.bdd_store.specs.declared.Ref.{Ref}
 use Rattle.bdd_store.specs.Graph.{with_at}
 use Rattle.bdd_store.specs.Diagram.{Diagram, table}
 use Rattle.bdd_ops.specs.Functions.{depends, bit_at}
-use Rattle.bdd_ops.specs.Memo.{Known, same_one, AreFlagged}
+use Rattle.bdd_ops.specs.Memo.{Known, AreFlagged}
 use Rattle.bdd_ops.proofs.Depends.{own, table_reads, low_depends, high_depends, depends_cases, own_depends}
 
 pub bit_here : (flags : List Bool) (w v : ℕ) (x : Bool) → w < length flags → v ≡ w → bit_at (set flags w x) v ≡ x

@@ -6,7 +6,7 @@ use Rattle.std.specs.HashMap.{get, HashMap}
 use Rattle.std.specs.HashSet.{contains, HashSet}
 use Rattle.bdd_store.specs.declared.Ref.{Ref}
 use Rattle.bdd_store.specs.Diagram.{Diagram, IsLive, IsProper, Reaches, table, first_var}
-use Rattle.bdd_ops.specs.Functions.{Function, some_at, depends, bit_at}
+use Rattle.bdd_ops.specs.Functions.{Function, depends, bit_at}
 
 -- conjunction where its unit is true, and disjunction where it is false
 abbrev pub joined : Bool → Bool → Bool → Bool

@@ -3,10 +3,9 @@ use Rattle.std.specs.HashMap.{get, hash_map_len}
 use Rattle.bdd_store.specs.declared.Ref.{Ref}
 use Rattle.bdd_store.specs.Graph.{with_at}
 use Rattle.bdd_store.specs.Diagram.{IsLive, table, first_var, Reaches, Keeps}
-use Rattle.bdd_ops.specs.Functions.{some_at}
-use Rattle.bdd_ops.specs.Memo.{changed, same_one, IsImage, IsJoin, OnesBelow}
-use Rattle.bdd_ops.proofs.MemoLaws.{keeps_after, same_table, first_within, images_kept, joins_kept, ones_kept, one_test, holds_put, holds_same, put_other}
-use Rattle.bdd_ops.proofs.Tables.{split_at, changed_cond, some_cond, some_constant, flip_constant, free_before, or_same_both}
+use Rattle.bdd_ops.specs.Memo.{changed, same_one, IsImage, OnesBelow}
+use Rattle.bdd_ops.proofs.MemoLaws.{keeps_after, same_table, first_within, images_kept, ones_kept, one_test, holds_put, holds_same, put_other}
+use Rattle.bdd_ops.proofs.Tables.{split_at, changed_cond}
 use Rattle.bdd_ops.proofs.Held.{fresh_node}
 use Rattle.bdd_ops.proofs.+change_from.Goals as goal
 

@@ -1,12 +1,11 @@
-use Rattle.std.proofs.Common.{◌≡◌, ℕ, ◌+◌, ◌-◌, ◌<◌, ◌≤◌, Bool, cond, Option, None, IfSome, is_some, sym, ap, ◌∙◌, subst, arith, false, true}
-use Rattle.std.specs.HashMap.{get, hash_map_len}
+use Rattle.std.proofs.Common.{◌≡◌, ℕ, Bool, cond, Option, IfSome, sym, ap, ◌∙◌, subst, arith, false, true}
 use Rattle.bdd_store.specs.declared.Ref.{Ref}
 use Rattle.bdd_store.specs.Graph.{with_at}
-use Rattle.bdd_store.specs.Diagram.{IsLive, table, first_var, Reaches, Keeps}
+use Rattle.bdd_store.specs.Diagram.{table, Keeps}
 use Rattle.bdd_ops.specs.Functions.{some_at}
-use Rattle.bdd_ops.specs.Memo.{changed, same_one, IsImage, IsJoin, OnesBelow}
-use Rattle.bdd_ops.proofs.MemoLaws.{keeps_after, same_table, first_within, images_kept, joins_kept, ones_kept, one_test, holds_put, holds_same, put_other}
-use Rattle.bdd_ops.proofs.Tables.{split_at, changed_cond, some_cond, some_constant, flip_constant, free_before, or_same_both}
+use Rattle.bdd_ops.specs.Memo.{same_one, IsImage}
+use Rattle.bdd_ops.proofs.MemoLaws.{keeps_after, same_table, images_kept, joins_kept, one_test, holds_put, holds_same}
+use Rattle.bdd_ops.proofs.Tables.{split_at, some_cond, free_before, or_same_both}
 use Rattle.bdd_ops.proofs.Held.{fresh_node}
 use Rattle.bdd_ops.proofs.+exists_from.Goals as goal
 

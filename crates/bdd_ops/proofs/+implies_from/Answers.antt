@@ -1,4 +1,4 @@
-use Rattle.std.proofs.Common.{◌≡◌, ℕ, true, false, refl, sym, ◌∙◌, ap}
+use Rattle.std.proofs.Common.{ℕ, false, refl, sym, ◌∙◌}
 use Rattle.bdd_store.specs.Diagram.{table}
 use Rattle.bdd_ops.specs.Memo.{same_pair, Implies}
 use Rattle.bdd_ops.proofs.MemoLaws.{pair_test}

@@ -1,4 +1,4 @@
-use Rattle.std.proofs.Common.{◌≡◌, ℕ, ◌+◌, ◌≤◌, Bool, not, true, false, ◌∙◌, ap, arith}
+use Rattle.std.proofs.Common.{◌≡◌, ℕ, ◌+◌, ◌≤◌, Bool, not, true, ◌∙◌, ap, arith}
 use Rattle.bdd_store.specs.Diagram.{IsLive, Reaches, held, beads, table}
 use Rattle.bdd_store.proofs.Laws.{reaches_self}
 use Rattle.bdd_store.proofs.Few.{beads_kept}

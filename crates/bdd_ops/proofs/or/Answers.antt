@@ -1,4 +1,4 @@
-use Rattle.std.proofs.Common.{◌≡◌, ℕ, ◌+◌, ◌*◌, ◌≤◌, true, false, arith}
+use Rattle.std.proofs.Common.{◌+◌, ◌≤◌, false, arith}
 use Rattle.bdd_store.specs.Diagram.{IsLive, Reaches, held, beads}
 use Rattle.bdd_store.proofs.Laws.{reaches_self}
 use Rattle.bdd_store.proofs.Few.{beads_kept}

@@ -1,10 +1,10 @@
-use Rattle.std.proofs.Common.{◌≡◌, ℕ, ◌+◌, ◌≤◌, Bool, not, true, false, ◌∙◌, ap, arith}
-use Rattle.bdd_store.specs.Diagram.{IsLive, Reaches, held, beads, table}
+use Rattle.std.proofs.Common.{◌+◌, ◌≤◌, false, arith}
+use Rattle.bdd_store.specs.Diagram.{IsLive, Reaches, held, beads}
 use Rattle.bdd_store.proofs.Laws.{reaches_self}
 use Rattle.bdd_store.proofs.Few.{beads_kept}
 use Rattle.bdd_ops.specs.Functions.{IsFreshBelow}
 use Rattle.bdd_ops.specs.Memo.{same_one, changed}
-use Rattle.bdd_ops.proofs.Tables.{if_ok_both, if_ok_then, no_change}
+use Rattle.bdd_ops.proofs.Tables.{if_ok_both}
 use Rattle.bdd_ops.proofs.MemoLaws.{few_images, one_test, holds_empty, one_bound}
 use Rattle.bdd_ops.proofs.Held.{held_bound}
 use Rattle.bdd_ops.proofs.rename.Goals as goal

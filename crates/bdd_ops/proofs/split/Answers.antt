@@ -1,4 +1,4 @@
-use Rattle.std.proofs.Common.{sym, true, false, arith}
+use Rattle.std.proofs.Common.{true, false, arith}
 use Rattle.bdd_store.specs.Diagram.{table}
 use Rattle.bdd_ops.proofs.Tables.{free_before}
 use Rattle.bdd_ops.proofs.split.Goals as goal
