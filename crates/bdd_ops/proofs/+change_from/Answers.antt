@@ -1,0 +1,176 @@
+use Rattle.std.proofs.Common.{◌≡◌, ℕ, ◌+◌, ◌-◌, ◌<◌, ◌≤◌, Bool, cond, Option, None, IfSome, is_some, sym, ap, ◌∙◌, subst, arith, false, true}
+use Rattle.std.specs.HashMap.{get, hash_map_len}
+use Rattle.bdd_store.specs.declared.Ref.{Ref}
+use Rattle.bdd_store.specs.Graph.{with_at}
+use Rattle.bdd_store.specs.Diagram.{IsLive, table, first_var, Reaches, Keeps}
+use Rattle.bdd_ops.specs.Memo.{changed, same_one, IsImage, OnesBelow}
+use Rattle.bdd_ops.proofs.MemoLaws.{keeps_after, same_table, first_within, images_kept, ones_kept, one_test, holds_put, holds_same, put_other}
+use Rattle.bdd_ops.proofs.Tables.{split_at, changed_cond}
+use Rattle.bdd_ops.proofs.Held.{fresh_node}
+use Rattle.bdd_ops.proofs.+change_from.Goals as goal
+
+-- a result that is kept is right
+kept_answer : (t : ℕ) (c : goal.After-result-1 t) → IsImage (changed c.args.back c.args.flip) c.args.back c.args.store.now c.args.f c.in-Some-get.r.now
+kept_answer t c =
+    let right : Option Ref → Type 0 = λ o. IfSome o (IsImage (changed c.args.back c.args.flip) c.args.back c.args.store.now c.args.f) in
+    subst right (sym c.in-Some-get.ensures.value) (c.requires.memo c.args.f)
+
+pub returns-in-Some-get-clause-live : goal.returns-in-Some-get-clause-live
+returns-in-Some-get-clause-live t c = (kept_answer t c).live
+
+pub returns-in-Some-get-clause-first : goal.returns-in-Some-get-clause-first
+returns-in-Some-get-clause-first t c = (kept_answer t c).first
+
+pub returns-in-Some-get-clause-table : goal.returns-in-Some-get-clause-table
+returns-in-Some-get-clause-table t c = (kept_answer t c).table
+
+pub returns-in_err-low-clause-reached : goal.returns-in_err-low-clause-reached
+returns-in_err-low-clause-reached t c top live_top reach ones = c.in_err-low.ensures.reached top live_top (c.low-f_low.ensures.reached top live_top reach) ones
+
+pub returns-in_err-high-clause-reached : goal.returns-in_err-high-clause-reached
+returns-in_err-high-clause-reached t c top live_top reach ones =
+    c.in_err-high.ensures.reached top (c.in_ok-low.ensures.keeps.live top live_top)
+    (c.in_ok-low.ensures.keeps.reached top c.high-f_high.result live_top c.high-f_high.ensures.live (c.high-f_high.ensures.reached top live_top reach))
+    (c.in_ok-low.ensures.reached top live_top (c.low-f_low.ensures.reached top live_top reach) ones)
+
+-- after both branches
+both_keep_no_node : (t : ℕ) (c : goal.After-from_residual-in_err-r t) → Keeps c.args.store.now c.change_from-2.new.store
+both_keep_no_node t c = keeps_after c.args.store.now c.change_from.new.store c.change_from-2.new.store c.in_ok-low.ensures.keeps c.in_ok-high.ensures.keeps
+
+all_keep_no_node : (t : ℕ) (c : goal.After-from_residual-in_err-r t) → Keeps c.args.store.now c.node.new.self
+all_keep_no_node t c = keeps_after c.args.store.now c.change_from-2.new.store c.node.new.self (both_keep_no_node t c) c.in_err-r.ensures.keeps
+
+ones_no_node : (t : ℕ) (c : goal.After-from_residual-in_err-r t) (top : Ref) → IsLive c.args.store.now top → Reaches c.args.store.now top c.args.f → OnesBelow c.args.store.now top c.args.memo.now → OnesBelow c.node.new.self top c.change_from-2.new.memo
+ones_no_node t c top live_top reach ones =
+    ones_kept (changed c.args.back c.args.flip) c.args.back c.change_from-2.new.store c.node.new.self c.change_from-2.new.memo top c.in_err-r.ensures.keeps c.in_ok-high.ensures.memo ((both_keep_no_node t c).live top live_top)
+    (c.in_ok-high.ensures.reached top (c.in_ok-low.ensures.keeps.live top live_top)
+    (c.in_ok-low.ensures.keeps.reached top c.high-f_high.result live_top c.high-f_high.ensures.live (c.high-f_high.ensures.reached top live_top reach))
+    (c.in_ok-low.ensures.reached top live_top (c.low-f_low.ensures.reached top live_top reach) ones))
+
+pub returns-in_err-r-clause-keeps : goal.returns-in_err-r-clause-keeps
+returns-in_err-r-clause-keeps t c = all_keep_no_node t c
+
+pub returns-in_err-r-clause-memo : goal.returns-in_err-r-clause-memo
+returns-in_err-r-clause-memo t c = images_kept (changed c.args.back c.args.flip) c.args.back c.change_from-2.new.store c.node.new.self c.change_from-2.new.memo c.in_err-r.ensures.keeps c.in_ok-high.ensures.memo
+
+pub returns-in_err-r-clause-reached : goal.returns-in_err-r-clause-reached
+returns-in_err-r-clause-reached t c = ones_no_node t c
+
+-- after both branches
+both_keep_no_room : (t : ℕ) (c : goal.After-from_residual-in_err-insert t) → Keeps c.args.store.now c.change_from-2.new.store
+both_keep_no_room t c = keeps_after c.args.store.now c.change_from.new.store c.change_from-2.new.store c.in_ok-low.ensures.keeps c.in_ok-high.ensures.keeps
+
+all_keep_no_room : (t : ℕ) (c : goal.After-from_residual-in_err-insert t) → Keeps c.args.store.now c.node.new.self
+all_keep_no_room t c = keeps_after c.args.store.now c.change_from-2.new.store c.node.new.self (both_keep_no_room t c) c.in_ok-r.ensures.keeps
+
+ones_no_room : (t : ℕ) (c : goal.After-from_residual-in_err-insert t) (top : Ref) → IsLive c.args.store.now top → Reaches c.args.store.now top c.args.f → OnesBelow c.args.store.now top c.args.memo.now → OnesBelow c.node.new.self top c.change_from-2.new.memo
+ones_no_room t c top live_top reach ones =
+    ones_kept (changed c.args.back c.args.flip) c.args.back c.change_from-2.new.store c.node.new.self c.change_from-2.new.memo top c.in_ok-r.ensures.keeps c.in_ok-high.ensures.memo ((both_keep_no_room t c).live top live_top)
+    (c.in_ok-high.ensures.reached top (c.in_ok-low.ensures.keeps.live top live_top)
+    (c.in_ok-low.ensures.keeps.reached top c.high-f_high.result live_top c.high-f_high.ensures.live (c.high-f_high.ensures.reached top live_top reach))
+    (c.in_ok-low.ensures.reached top live_top (c.low-f_low.ensures.reached top live_top reach) ones))
+
+pub returns-in_err-insert-clause-keeps : goal.returns-in_err-insert-clause-keeps
+returns-in_err-insert-clause-keeps t c = all_keep_no_room t c
+
+pub returns-in_err-insert-clause-memo : goal.returns-in_err-insert-clause-memo
+returns-in_err-insert-clause-memo t c =
+    holds_same same_one one_test (IsImage (changed c.args.back c.args.flip) c.args.back c.node.new.self) c.change_from-2.new.memo c.insert.new.self c.in_err-insert.ensures.err
+    (images_kept (changed c.args.back c.args.flip) c.args.back c.change_from-2.new.store c.node.new.self c.change_from-2.new.memo c.in_ok-r.ensures.keeps c.in_ok-high.ensures.memo)
+
+pub returns-in_err-insert-clause-reached : goal.returns-in_err-insert-clause-reached
+returns-in_err-insert-clause-reached t c top live_top reach ones =
+    holds_same same_one one_test (λ p r. Reaches c.node.new.self top p) c.change_from-2.new.memo c.insert.new.self c.in_err-insert.ensures.err (ones_no_room t c top live_top reach ones)
+
+-- after both branches
+both_keep_done : (t : ℕ) (c : goal.In_ok-insert t) → Keeps c.args.store.now c.change_from-2.new.store
+both_keep_done t c = keeps_after c.args.store.now c.change_from.new.store c.change_from-2.new.store c.in_ok-low.ensures.keeps c.in_ok-high.ensures.keeps
+
+all_keep_done : (t : ℕ) (c : goal.In_ok-insert t) → Keeps c.args.store.now c.node.new.self
+all_keep_done t c = keeps_after c.args.store.now c.change_from-2.new.store c.node.new.self (both_keep_done t c) c.in_ok-r.ensures.keeps
+
+ones_done : (t : ℕ) (c : goal.In_ok-insert t) (top : Ref) → IsLive c.args.store.now top → Reaches c.args.store.now top c.args.f → OnesBelow c.args.store.now top c.args.memo.now → OnesBelow c.node.new.self top c.change_from-2.new.memo
+ones_done t c top live_top reach ones =
+    ones_kept (changed c.args.back c.args.flip) c.args.back c.change_from-2.new.store c.node.new.self c.change_from-2.new.memo top c.in_ok-r.ensures.keeps c.in_ok-high.ensures.memo ((both_keep_done t c).live top live_top)
+    (c.in_ok-high.ensures.reached top (c.in_ok-low.ensures.keeps.live top live_top)
+    (c.in_ok-low.ensures.keeps.reached top c.high-f_high.result live_top c.high-f_high.ensures.live (c.high-f_high.ensures.reached top live_top reach))
+    (c.in_ok-low.ensures.reached top live_top (c.low-f_low.ensures.reached top live_top reach) ones))
+
+pub returns-clause-keeps : goal.returns-clause-keeps
+returns-clause-keeps t c = all_keep_done t c
+
+pub returns-clause-fresh : goal.returns-clause-fresh
+returns-clause-fresh t c =
+    fresh_node c.args.store.now c.change_from.new.store c.change_from-2.new.store c.node.new.self c.in_ok-low.low c.in_ok-high.high c.in_ok-r.r
+    c.in_ok-low.ensures.fresh c.in_ok-high.ensures.fresh c.in_ok-high.ensures.keeps c.in_ok-low.ensures.live c.in_ok-r.ensures.fresh c.in_ok-r.ensures.reached
+
+-- the table of the new result
+table_done : (t : ℕ) (c : goal.In_ok-insert t) (a : ℕ → Bool) → table c.node.new.self c.in_ok-r.r a ≡ changed c.args.back c.args.flip (table c.args.store.now c.args.f) a
+table_done t c a =
+    let before = c.args.store.now in
+    let middle = c.change_from.new.store in
+    let last = c.change_from-2.new.store in
+    let v = c.var-var.result in
+    let split = split_at (table before c.args.f) (table before c.low-f_low.result) (table before c.high-f_high.result) v
+    (λ e. c.low-f_low.ensures.table e ∙ ap (λ y. table before c.args.f (with_at e y false)) (sym c.var-var.ensures.var))
+    (λ e. c.high-f_high.ensures.table e ∙ ap (λ y. table before c.args.f (with_at e y true)) (sym c.var-var.ensures.var)) in
+    let low_is = c.in_ok-high.ensures.keeps.tables c.in_ok-low.low c.in_ok-low.ensures.live a ∙ c.in_ok-low.ensures.table a in
+    let high_is = c.in_ok-high.ensures.table a ∙ ap (λ T. changed c.args.back c.args.flip T a) (same_table before middle c.in_ok-low.ensures.keeps c.high-f_high.result c.high-f_high.ensures.live) in
+    c.in_ok-r.ensures.table a
+    ∙ ap (λ y. cond (a (v - c.args.back)) y (table last c.in_ok-low.low a)) high_is
+    ∙ ap (λ y. cond (a (v - c.args.back)) (changed c.args.back c.args.flip (table before c.high-f_high.result) a) y) low_is
+    ∙ changed_cond c.args.back c.args.flip (table before c.args.f) (table before c.high-f_high.result) (table before c.low-f_low.result) v a split
+
+pub returns-clause-table : goal.returns-clause-table
+returns-clause-table t c = table_done t c
+
+-- the new result is right
+answer_done : (t : ℕ) (c : goal.In_ok-insert t) → IsImage (changed c.args.back c.args.flip) c.args.back c.node.new.self c.args.f c.in_ok-r.r
+answer_done t c =
+    let keeps = all_keep_done t c in
+    let f_first = keeps.firsts c.args.f c.requires.live in
+    record {
+      from_live = keeps.live c.args.f c.requires.live;
+      from_proper = omega (arith, f_first, keeps.vars, c.var-var.ensures.within, c.var-var.ensures.var);
+      live = c.in_ok-r.ensures.live;
+      first = omega (arith, c.in_ok-r.ensures.first, c.var-var.ensures.var, f_first);
+      table = λ a. table_done t c a ∙ ap (λ T. changed c.args.back c.args.flip T a) (sym (same_table c.args.store.now c.node.new.self keeps c.args.f c.requires.live));
+    }
+
+pub returns-clause-memo : goal.returns-clause-memo
+returns-clause-memo t c =
+    holds_put same_one one_test (IsImage (changed c.args.back c.args.flip) c.args.back c.node.new.self) c.change_from-2.new.memo c.insert.new.self c.args.f c.in_ok-r.r c.in_ok-insert.ensures.updates
+    (images_kept (changed c.args.back c.args.flip) c.args.back c.change_from-2.new.store c.node.new.self c.change_from-2.new.memo c.in_ok-r.ensures.keeps c.in_ok-high.ensures.memo) (answer_done t c)
+
+-- neither branch touches a node of an earlier variable
+low_untouched : (t : ℕ) (c : goal.In_ok-insert t) (p : Ref) → IsLive c.args.store.now p → first_var c.args.store.now p ≤ first_var c.args.store.now c.args.f → get same_one c.change_from-2.new.memo p ≡ get same_one c.args.memo.now p
+low_untouched t c p live le =
+    let k = c.in_ok-low.ensures.keeps in
+    let first_p = k.firsts p live in
+    let f_high = k.firsts c.high-f_high.result c.high-f_high.ensures.live in
+    let lt_low : first_var c.args.store.now p < first_var c.args.store.now c.low-f_low.result = omega (arith, le, c.low-f_low.ensures.first) in
+    let lt_high : first_var c.change_from.new.store p < first_var c.change_from.new.store c.high-f_high.result = omega (arith, le, first_p, f_high, c.high-f_high.ensures.first) in
+    c.in_ok-high.ensures.untouched p (k.live p live) lt_high ∙ c.in_ok-low.ensures.untouched p live lt_low
+
+pub returns-clause-untouched : goal.returns-clause-untouched
+returns-clause-untouched t c p live lt =
+    let le : first_var c.args.store.now p ≤ first_var c.args.store.now c.args.f = omega (arith, lt) in
+    let apart : c.args.f ≡ p → ⊥ = λ e. let same = ap (first_var c.args.store.now) e in omega (arith, lt, same) in
+    put_other same_one one_test c.change_from-2.new.memo c.insert.new.self c.args.f p c.in_ok-r.r c.in_ok-insert.ensures.updates apart ∙ low_untouched t c p live le
+
+pub returns-clause-reached : goal.returns-clause-reached
+returns-clause-reached t c top live_top reach ones =
+    holds_put same_one one_test (λ p r. Reaches c.node.new.self top p) c.change_from-2.new.memo c.insert.new.self c.args.f c.in_ok-r.r c.in_ok-insert.ensures.updates
+    (ones_done t c top live_top reach ones) ((all_keep_done t c).reached top c.args.f live_top c.requires.live reach)
+
+pub returns-clause-calls : goal.returns-clause-calls
+returns-clause-calls t c =
+    let le : first_var c.args.store.now c.args.f ≤ first_var c.args.store.now c.args.f = omega arith in
+    let stays = low_untouched t c c.args.f c.requires.live le in
+    let absent : get same_one c.args.memo.now c.args.f ≡ None = sym c.in-None.ensures.value in
+    let is_none : c.in_ok-insert.field-0 ≡ None = c.in_ok-insert.ensures.old ∙ stays ∙ absent in
+    let longer : hash_map_len c.insert.new.self ≡ hash_map_len c.change_from-2.new.memo + 1 = subst (λ o. hash_map_len c.insert.new.self ≡ hash_map_len c.change_from-2.new.memo + cond (is_some o) 0 1) is_none c.in_ok-insert.ensures.len in
+    omega (arith, longer, c.in_ok-low.ensures.calls, c.in_ok-high.ensures.calls, c.in_ok-r.ensures.calls)
+
+pub returns-in-Some-clause-first : goal.returns-in-Some-clause-first
+returns-in-Some-clause-first t c = let within = first_within c.args.store.now c.args.f c.requires.live in omega (arith, within, c.constant.ensures.first)

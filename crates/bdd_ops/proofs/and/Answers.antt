@@ -1,0 +1,27 @@
+use Rattle.std.proofs.Common.{◌+◌, ◌≤◌, true, arith}
+use Rattle.bdd_store.specs.Diagram.{IsLive, Reaches, held, beads}
+use Rattle.bdd_store.proofs.Laws.{reaches_self}
+use Rattle.bdd_store.proofs.Few.{beads_kept}
+use Rattle.bdd_ops.specs.Functions.{IsFreshBelow}
+use Rattle.bdd_ops.specs.Memo.{same_pair}
+use Rattle.bdd_ops.proofs.Tables.{if_ok_both}
+use Rattle.bdd_ops.proofs.MemoLaws.{few_joins, pair_test, holds_empty, pair_bound}
+use Rattle.bdd_ops.proofs.Held.{held_bound}
+use Rattle.bdd_ops.proofs.and.Goals as goal
+
+pub returns-clause-calls : goal.returns-clause-calls
+returns-clause-calls c =
+    let d = c.args.store.now in
+    let e = c.join_from-answer.new.store in
+    let f = c.args.f in
+    let g = c.args.g in
+    let keeps = c.join_from-answer.ensures.keeps in
+    let none = holds_empty same_pair pair_test (λ p r. Reaches d f p.0 × Reaches d g p.1) c.new-memo.result c.new-memo.ensures.empty in
+    let below = c.join_from-answer.ensures.reached f g c.requires.f_live c.requires.g_live (reaches_self d f) (reaches_self d g) none in
+    let few = few_joins true e c.join_from-answer.new.memo f g c.join_from-answer.ensures.sound (keeps.live f c.requires.f_live) (keeps.live g c.requires.g_live) c.join_from-answer.ensures.memo below c.len.ensures.unique in
+    pair_bound _ _ _ _ _ _ _ _ _ c.join_from-answer.ensures.calls few (beads_kept d e keeps f c.requires.f_live) (beads_kept d e keeps g c.requires.g_live) (omega (arith, c.new-memo.ensures.len))
+
+pub returns-clause-held : goal.returns-clause-held
+returns-clause-held c =
+    if_ok_both c.join_from-answer.result (IsLive c.join_from-answer.new.store) (IsFreshBelow c.args.store.now c.join_from-answer.new.store) (λ r. held c.join_from-answer.new.store ≤ held c.args.store.now + beads c.join_from-answer.new.store r)
+    (held_bound c.args.store.now c.join_from-answer.new.store c.join_from-answer.ensures.sound c.join_from-answer.ensures.keeps) c.join_from-answer.ensures.live c.join_from-answer.ensures.fresh

@@ -1,0 +1,26 @@
+use Rattle.std.proofs.Common.{◌+◌, ◌≤◌, false, arith}
+use Rattle.bdd_store.specs.Diagram.{IsLive, Reaches, held, beads}
+use Rattle.bdd_store.proofs.Laws.{reaches_self}
+use Rattle.bdd_store.proofs.Few.{beads_kept}
+use Rattle.bdd_ops.specs.Functions.{IsFreshBelow}
+use Rattle.bdd_ops.specs.Memo.{same_one, changed}
+use Rattle.bdd_ops.proofs.Tables.{if_ok_both}
+use Rattle.bdd_ops.proofs.MemoLaws.{few_images, one_test, holds_empty, one_bound}
+use Rattle.bdd_ops.proofs.Held.{held_bound}
+use Rattle.bdd_ops.proofs.rename.Goals as goal
+
+pub returns-clause-calls : goal.returns-clause-calls
+returns-clause-calls c =
+    let d = c.args.store.now in
+    let e = c.change_from-answer.new.store in
+    let f = c.args.f in
+    let keeps = c.change_from-answer.ensures.keeps in
+    let none = holds_empty same_one one_test (λ p r. Reaches d f p) c.new-memo.result c.new-memo.ensures.empty in
+    let below = c.change_from-answer.ensures.reached f c.requires.live (reaches_self d f) none in
+    let few = few_images (changed 1 false) 1 e c.change_from-answer.new.memo f c.change_from-answer.ensures.sound (keeps.live f c.requires.live) c.change_from-answer.ensures.memo below c.len.ensures.unique in
+    one_bound _ _ _ _ _ _ _ c.change_from-answer.ensures.calls few (beads_kept d e keeps f c.requires.live) (omega (arith, c.new-memo.ensures.len))
+
+pub returns-clause-held : goal.returns-clause-held
+returns-clause-held c =
+    if_ok_both c.change_from-answer.result (IsLive c.change_from-answer.new.store) (IsFreshBelow c.args.store.now c.change_from-answer.new.store) (λ r. held c.change_from-answer.new.store ≤ held c.args.store.now + beads c.change_from-answer.new.store r)
+    (held_bound c.args.store.now c.change_from-answer.new.store c.change_from-answer.ensures.sound c.change_from-answer.ensures.keeps) c.change_from-answer.ensures.live c.change_from-answer.ensures.fresh

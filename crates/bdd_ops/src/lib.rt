@@ -1,0 +1,459 @@
+//! Operations on the functions of a store.
+#![tactic(auto)]
+
+ghost use Rattle.std.specs.Prelude.{◌≡◌, ◌≢◌, ◌↔◌, ◌⊎◌, ℕ, ◌+◌, ◌-◌, ◌*◌, ◌<◌, ◌≤◌, Bool, true, false, IfOk, OnOk, OnErr, IfSome, IfNone, IsNone, IsTrue, if◌then◌else◌, is_ok, min, length, ◌&&◌, ◌||◌, not};
+ghost use Rattle.std.specs.HashMap.{get, hash_map_len};
+ghost use Rattle.bdd_store.specs.declared.Ref.{Ref};
+ghost use Rattle.bdd_store.specs.Graph.{with_at};
+ghost use Rattle.bdd_store.specs.Diagram.{Diagram, IsLive, table, IsSound, IsCanonical, first_var, IsConstant, IsProper, Reaches, Keeps, beads, held};
+ghost use Rattle.bdd_ops.specs.Functions.{Function, some_at, lowered, depends, bit_at, IsFreshBelow};
+ghost use Rattle.bdd_ops.specs.Memo.{joined, changed, same_pair, same_one, AreJoins, AreImages, PairsBelow, OnesBelow, pair_first, Implies, AreImplied, AreFlagged};
+
+use bdd_store::{Ref, Store};
+use std::alloc::{AllocError, Global};
+use std::collections::{HashMap, HashSet};
+
+/// The results of an operation, by its two operands or its one.
+type Pairs = HashMap<(Ref, Ref), Ref>;
+
+type Ones = HashMap<Ref, Ref>;
+
+/// The function with the variable at 0, and with it at 1. It depends on no earlier variable.
+fn split(store: &Store, f: Ref, var: u32) -> (Ref, Ref)
+    requires live { IsLive store.now f }
+    requires from { var ≤ first_var store.now f }
+    requires var_in { var < store.now.vars }
+    ensures low_live { IsLive store.now result.0 }
+    ensures high_live { IsLive store.now result.1 }
+    ensures low_first { var < first_var store.now result.0 }
+    ensures high_first { var < first_var store.now result.1 }
+    ensures low_later { first_var store.now f ≤ first_var store.now result.0 }
+    ensures high_later { first_var store.now f ≤ first_var store.now result.1 }
+    ensures low_reached { (t : Ref) → IsLive store.now t → Reaches store.now t f → Reaches store.now t result.0 }
+    ensures high_reached { (t : Ref) → IsLive store.now t → Reaches store.now t f → Reaches store.now t result.1 }
+    ensures low_table { (a : ℕ → Bool) → table store.now result.0 a ≡ table store.now f (with_at a var false) }
+    ensures high_table { (a : ℕ → Bool) → table store.now result.1 a ≡ table store.now f (with_at a var true) }
+{
+    if store.is_constant(f).is_none() {
+        let first = store.var(f);
+        if first == var {
+            return (store.low(f), store.high(f));
+        }
+    }
+    (f, f)
+}
+
+/// The conjunction where `unit` is true, and else the disjunction.
+fn join_from(
+    store: &mut Store,
+    memo: &mut Pairs,
+    unit: bool,
+    f: Ref,
+    g: Ref,
+) -> Result<Ref, AllocError>
+    requires f_live { IsLive store.old f }
+    requires g_live { IsLive store.old g }
+    requires sound { IsSound store.old }
+    requires memo { AreJoins unit store.old memo.old }
+    ensures live { IfOk result (λ r. IsLive store.new r) }
+    ensures first { IfOk result (λ r. min (first_var store.old f) (first_var store.old g) ≤ first_var store.new r) }
+    ensures table { IfOk result (λ r. (a : ℕ → Bool) → table store.new r a ≡ joined unit (table store.old f a) (table store.old g a)) }
+    ensures fresh { IfOk result (IsFreshBelow store.old store.new) }
+    ensures keeps { Keeps store.old store.new }
+    ensures sound { IsSound store.new }
+    ensures memo { AreJoins unit store.new memo.new }
+    ensures untouched { (p : _) → IsLive store.old p.0 → IsLive store.old p.1 → pair_first store.old p < min (first_var store.old f) (first_var store.old g) → get same_pair memo.new p ≡ get same_pair memo.old p }
+    ensures reached { (t u : Ref) → IsLive store.old t → IsLive store.old u → Reaches store.old t f → Reaches store.old u g → PairsBelow store.old t u memo.old → PairsBelow store.new t u memo.new }
+    ensures calls { store.new.calls + hash_map_len memo.old ≤ store.old.calls + hash_map_len memo.new + (if is_ok result then 0 else 1) }
+{
+    if let Some(x) = store.is_constant(f) {
+        return Ok(if x == unit { g } else { f });
+    }
+    if let Some(x) = store.is_constant(g) {
+        return Ok(if x == unit { f } else { g });
+    }
+    if f == g {
+        return Ok(f);
+    }
+    match memo.get(&(f, g)) {
+        Some(r) => return Ok(*r),
+        None => {}
+    }
+    let f_var = store.var(f);
+    let g_var = store.var(g);
+    let var = f_var.min(g_var);
+    let (f_low, f_high) = split(store, f, var);
+    let (g_low, g_high) = split(store, g, var);
+    let low = join_from(store, memo, unit, f_low, g_low)?;
+    let high = join_from(store, memo, unit, f_high, g_high)?;
+    let r = store.node(var, low, high)?;
+    memo.insert((f, g), r)?;
+    Ok(r)
+}
+
+/// The function with each variable replaced by that which stands `back` before it, and negated where `flip` is true.
+fn change_from(
+    store: &mut Store,
+    memo: &mut Ones,
+    back: u32,
+    flip: bool,
+    f: Ref,
+) -> Result<Ref, AllocError>
+    requires live { IsLive store.old f }
+    requires later { IsProper store.old f → back ≤ first_var store.old f }
+    requires sound { IsSound store.old }
+    requires memo { AreImages (changed back flip) back store.old memo.old }
+    ensures live { IfOk result (λ r. IsLive store.new r) }
+    ensures first { IfOk result (λ r. first_var store.old f ≤ first_var store.new r + back) }
+    ensures table { IfOk result (λ r. (a : ℕ → Bool) → table store.new r a ≡ changed back flip (table store.old f) a) }
+    ensures fresh { IfOk result (IsFreshBelow store.old store.new) }
+    ensures keeps { Keeps store.old store.new }
+    ensures sound { IsSound store.new }
+    ensures memo { AreImages (changed back flip) back store.new memo.new }
+    ensures untouched { (p : Ref) → IsLive store.old p → first_var store.old p < first_var store.old f → get same_one memo.new p ≡ get same_one memo.old p }
+    ensures reached { (t : Ref) → IsLive store.old t → Reaches store.old t f → OnesBelow store.old t memo.old → OnesBelow store.new t memo.new }
+    ensures calls { store.new.calls + hash_map_len memo.old ≤ store.old.calls + hash_map_len memo.new + (if is_ok result then 0 else 1) }
+{
+    if let Some(x) = store.is_constant(f) {
+        return Ok(store.constant(x != flip));
+    }
+    match memo.get(&f) {
+        Some(r) => return Ok(*r),
+        None => {}
+    }
+    let var = store.var(f);
+    let f_low = store.low(f);
+    let f_high = store.high(f);
+    let low = change_from(store, memo, back, flip, f_low)?;
+    let high = change_from(store, memo, back, flip, f_high)?;
+    let r = store.node(var - back, low, high)?;
+    memo.insert(f, r)?;
+    Ok(r)
+}
+
+/// The disjunction of the function with the variable at 0 and with it at 1.
+fn exists_from(
+    store: &mut Store,
+    joins: &mut Pairs,
+    memo: &mut Ones,
+    var: u32,
+    f: Ref,
+) -> Result<Ref, AllocError>
+    requires live { IsLive store.old f }
+    requires sound { IsSound store.old }
+    requires joins { AreJoins false store.old joins.old }
+    requires memo { AreImages (some_at var) 0 store.old memo.old }
+    ensures live { IfOk result (λ r. IsLive store.new r) }
+    ensures first { IfOk result (λ r. first_var store.old f ≤ first_var store.new r) }
+    ensures table { IfOk result (λ r. (a : ℕ → Bool) → table store.new r a ≡ some_at var (table store.old f) a) }
+    ensures fresh { IfOk result (IsFreshBelow store.old store.new) }
+    ensures keeps { Keeps store.old store.new }
+    ensures sound { IsSound store.new }
+    ensures joins { AreJoins false store.new joins.new }
+    ensures memo { AreImages (some_at var) 0 store.new memo.new }
+{
+    if let Some(_) = store.is_constant(f) {
+        return Ok(f);
+    }
+    let first = store.var(f);
+    if var < first {
+        return Ok(f);
+    }
+    let f_low = store.low(f);
+    let f_high = store.high(f);
+    if first == var {
+        return join_from(store, joins, false, f_low, f_high);
+    }
+    match memo.get(&f) {
+        Some(r) => return Ok(*r),
+        None => {}
+    }
+    let low = exists_from(store, joins, memo, var, f_low)?;
+    let high = exists_from(store, joins, memo, var, f_high)?;
+    let r = store.node(first, low, high)?;
+    memo.insert(f, r)?;
+    Ok(r)
+}
+
+/// The conjunction.
+pub fn and(alloc: Global, store: &mut Store, f: Ref, g: Ref) -> Result<Ref, AllocError>
+    requires f_live { IsLive store.old f }
+    requires g_live { IsLive store.old g }
+    ensures live { IfOk result (λ r. IsLive store.new r) }
+    ensures first { IfOk result (λ r. min (first_var store.old f) (first_var store.old g) ≤ first_var store.new r) }
+    ensures table { IfOk result (λ r. (a : ℕ → Bool) → table store.new r a ≡ (table store.old f a && table store.old g a)) }
+    ensures keeps { Keeps store.old store.new }
+    ensures sound { IsSound store.new }
+    ensures canonical { IsCanonical store.new }
+    ensures calls { store.new.calls ≤ store.old.calls + (beads store.old f + 2) * (beads store.old g + 2) }
+    ensures fresh { IfOk result (IsFreshBelow store.old store.new) }
+    ensures held { IfOk result (λ r. held store.new ≤ held store.old + beads store.new r) }
+{
+    let _ = store.vars();
+    let mut memo = HashMap::new(alloc);
+    let answer = join_from(store, &mut memo, true, f, g);
+    let _ = memo.len();
+    let _ = store.vars();
+    answer
+}
+
+/// The disjunction.
+pub fn or(alloc: Global, store: &mut Store, f: Ref, g: Ref) -> Result<Ref, AllocError>
+    requires f_live { IsLive store.old f }
+    requires g_live { IsLive store.old g }
+    ensures live { IfOk result (λ r. IsLive store.new r) }
+    ensures first { IfOk result (λ r. min (first_var store.old f) (first_var store.old g) ≤ first_var store.new r) }
+    ensures table { IfOk result (λ r. (a : ℕ → Bool) → table store.new r a ≡ (table store.old f a || table store.old g a)) }
+    ensures keeps { Keeps store.old store.new }
+    ensures sound { IsSound store.new }
+    ensures canonical { IsCanonical store.new }
+    ensures calls { store.new.calls ≤ store.old.calls + (beads store.old f + 2) * (beads store.old g + 2) }
+    ensures fresh { IfOk result (IsFreshBelow store.old store.new) }
+    ensures held { IfOk result (λ r. held store.new ≤ held store.old + beads store.new r) }
+{
+    let _ = store.vars();
+    let mut memo = HashMap::new(alloc);
+    let answer = join_from(store, &mut memo, false, f, g);
+    let _ = memo.len();
+    let _ = store.vars();
+    answer
+}
+
+/// The negation.
+pub fn not(alloc: Global, store: &mut Store, f: Ref) -> Result<Ref, AllocError>
+    requires live { IsLive store.old f }
+    ensures live { IfOk result (λ r. IsLive store.new r) }
+    ensures first { IfOk result (λ r. first_var store.old f ≤ first_var store.new r) }
+    ensures table { IfOk result (λ r. (a : ℕ → Bool) → table store.new r a ≡ not (table store.old f a)) }
+    ensures keeps { Keeps store.old store.new }
+    ensures sound { IsSound store.new }
+    ensures canonical { IsCanonical store.new }
+    ensures calls { store.new.calls ≤ store.old.calls + (beads store.old f + 2) }
+    ensures fresh { IfOk result (IsFreshBelow store.old store.new) }
+    ensures held { IfOk result (λ r. held store.new ≤ held store.old + beads store.new r) }
+{
+    let _ = store.vars();
+    let mut memo = HashMap::new(alloc);
+    let answer = change_from(store, &mut memo, 0, true, f);
+    let _ = memo.len();
+    let _ = store.vars();
+    answer
+}
+
+/// Each variable is replaced by the one before it. The function does not depend on the first variable of all.
+pub fn rename(alloc: Global, store: &mut Store, f: Ref) -> Result<Ref, AllocError>
+    requires live { IsLive store.old f }
+    requires later { IsProper store.old f → 0 < first_var store.old f }
+    ensures live { IfOk result (λ r. IsLive store.new r) }
+    ensures first { IfOk result (λ r. first_var store.old f ≤ first_var store.new r + 1) }
+    ensures table { IfOk result (λ r. (a : ℕ → Bool) → table store.new r a ≡ lowered (table store.old f) a) }
+    ensures keeps { Keeps store.old store.new }
+    ensures sound { IsSound store.new }
+    ensures canonical { IsCanonical store.new }
+    ensures calls { store.new.calls ≤ store.old.calls + (beads store.old f + 2) }
+    ensures fresh { IfOk result (IsFreshBelow store.old store.new) }
+    ensures held { IfOk result (λ r. held store.new ≤ held store.old + beads store.new r) }
+{
+    let _ = store.vars();
+    let mut memo = HashMap::new(alloc);
+    let answer = change_from(store, &mut memo, 1, false, f);
+    let _ = memo.len();
+    let _ = store.vars();
+    answer
+}
+
+/// The disjunction of the function with the variable at 0 and with it at 1.
+pub fn exists(alloc: Global, store: &mut Store, f: Ref, var: u32) -> Result<Ref, AllocError>
+    requires live { IsLive store.old f }
+    requires var_in { var < store.old.vars }
+    ensures live { IfOk result (λ r. IsLive store.new r) }
+    ensures first { IfOk result (λ r. first_var store.old f ≤ first_var store.new r) }
+    ensures table { IfOk result (λ r. (a : ℕ → Bool) → table store.new r a ≡ some_at var (table store.old f) a) }
+    ensures keeps { Keeps store.old store.new }
+    ensures sound { IsSound store.new }
+    ensures canonical { IsCanonical store.new }
+    ensures fresh { IfOk result (IsFreshBelow store.old store.new) }
+    ensures held { IfOk result (λ r. held store.new ≤ held store.old + beads store.new r) }
+{
+    let _ = store.vars();
+    let mut joins = HashMap::new(alloc);
+    let mut memo = HashMap::new(alloc);
+    let answer = exists_from(store, &mut joins, &mut memo, var, f);
+    let _ = store.vars();
+    answer
+}
+
+/// The function is 1 everywhere.
+fn is_always(store: &Store, f: Ref) -> bool
+    requires { IsLive store.now f }
+    ensures { IsTrue result ↔ IsConstant store.now f true }
+{
+    match store.is_constant(f) {
+        Some(x) => x,
+        None => false,
+    }
+}
+
+/// No assignment has f at 1 and g at 0.
+fn implies_from(
+    store: &Store,
+    known: &mut HashSet<(Ref, Ref)>,
+    f: Ref,
+    g: Ref,
+) -> Result<bool, AllocError>
+    requires f_live { IsLive store.now f }
+    requires g_live { IsLive store.now g }
+    requires known { AreImplied store.now known.old }
+    ensures means { IfOk result (λ x. IsTrue x ↔ Implies store.now f g) }
+    ensures known { AreImplied store.now known.new }
+{
+    if let Some(x) = store.is_constant(f) {
+        if x {
+            return Ok(is_always(store, g));
+        }
+        return Ok(true);
+    }
+    if let Some(x) = store.is_constant(g) {
+        return Ok(x);
+    }
+    if f == g {
+        return Ok(true);
+    }
+    if known.contains(&(f, g)) {
+        return Ok(true);
+    }
+    let f_var = store.var(f);
+    let g_var = store.var(g);
+    let var = f_var.min(g_var);
+    let (f_low, f_high) = split(store, f, var);
+    let (g_low, g_high) = split(store, g, var);
+    let low = implies_from(store, known, f_low, g_low)?;
+    if !low {
+        return Ok(false);
+    }
+    let high = implies_from(store, known, f_high, g_high)?;
+    if !high {
+        return Ok(false);
+    }
+    known.insert((f, g))?;
+    Ok(true)
+}
+
+/// No assignment has f at 1 and g at 0.
+pub fn implies(alloc: Global, store: &Store, f: Ref, g: Ref) -> Result<bool, AllocError>
+    requires f_live { IsLive store.now f }
+    requires g_live { IsLive store.now g }
+    ensures means { IfOk result (λ x. IsTrue x ↔ ((a : ℕ → Bool) → table store.now f a ≡ true → table store.now g a ≡ true)) }
+{
+    let mut known = HashSet::new(alloc);
+    implies_from(store, &mut known, f, g)
+}
+
+/// An assignment of all variables at which the function is 1, if there is one.
+pub fn pick(alloc: Global, store: &Store, f: Ref) -> Result<Option<Vec<bool>>, AllocError>
+    requires live { IsLive store.now f }
+    ensures none { IfOk result (λ o. IsNone o ↔ IsConstant store.now f false) }
+    ensures length { IfOk result (λ o. IfSome o (λ bits. length bits.items ≡ store.now.vars)) }
+    ensures value { IfOk result (λ o. IfSome o (λ bits. table store.now f (bit_at bits.items) ≡ true)) }
+{
+    if is_never(store, f) {
+        return Ok(None);
+    }
+    let mut bits = vec![in alloc; false; store.vars() as usize]?;
+    let mut rest = f;
+    while store.is_constant(rest).is_none() {
+        let (value, branch) = toward_one(store, rest);
+        bits[store.var(rest) as usize] = value;
+        rest = branch;
+    }
+    Ok(Some(bits))
+}
+
+/// A value of the first variable with which the function is not 0 everywhere, and the function with it.
+fn toward_one(store: &Store, f: Ref) -> (bool, Ref)
+    requires live { IsLive store.now f }
+    requires proper { IsProper store.now f }
+    ensures live { IsLive store.now result.1 }
+    ensures first { first_var store.now f < first_var store.now result.1 }
+    ensures table { (a : ℕ → Bool) → table store.now result.1 a ≡ table store.now f (with_at a (first_var store.now f) result.0) }
+    ensures some { (IsConstant store.now f false → ⊥) → IsConstant store.now result.1 false → ⊥ }
+{
+    let low = store.low(f);
+    let high = store.high(f);
+    if is_never(store, low) {
+        return (true, high);
+    }
+    (false, low)
+}
+
+/// The function is 0 everywhere.
+fn is_never(store: &Store, f: Ref) -> bool
+    requires { IsLive store.now f }
+    ensures { IsTrue result ↔ IsConstant store.now f false }
+{
+    match store.is_constant(f) {
+        Some(x) => !x,
+        None => false,
+    }
+}
+
+/// Flags the variables on which the function depends, and looks at no function that was seen.
+fn flag_support(
+    store: &Store,
+    seen: &mut HashSet<Ref>,
+    flags: &mut Vec<bool>,
+    f: Ref,
+) -> Result<(), AllocError>
+    requires live { IsLive store.now f }
+    requires length { length flags.old.items ≡ store.now.vars }
+    requires seen { AreFlagged store.now seen.old flags.old.items }
+    ensures length { length flags.new.items ≡ store.now.vars }
+    ensures seen { AreFlagged store.now seen.new flags.new.items }
+    ensures kept { (v : ℕ) → bit_at flags.old.items v ≡ true → bit_at flags.new.items v ≡ true }
+    ensures only { (v : ℕ) → bit_at flags.new.items v ≡ true → (bit_at flags.old.items v ≡ true) ⊎ (depends store.now.vars (table store.now f) v ≡ true) }
+    ensures all { OnOk result ((v : ℕ) → depends store.now.vars (table store.now f) v ≡ true → bit_at flags.new.items v ≡ true) }
+{
+    if let Some(_) = store.is_constant(f) {
+        return Ok(());
+    }
+    if seen.contains(&f) {
+        return Ok(());
+    }
+    let var = store.var(f);
+    let low = store.low(f);
+    let high = store.high(f);
+    flags[var as usize] = true;
+    flag_support(store, seen, flags, low)?;
+    flag_support(store, seen, flags, high)?;
+    seen.insert(f)?;
+    Ok(())
+}
+
+/// The function's value at an assignment.
+pub fn value(store: &Store, f: Ref, bits: &[bool]) -> bool
+    requires live { IsLive store.now f }
+    requires length { length bits.now ≡ store.now.vars }
+    ensures value { result ≡ table store.now f (bit_at bits.now) }
+{
+    if let Some(x) = store.is_constant(f) {
+        return x;
+    }
+    let low = store.low(f);
+    let high = store.high(f);
+    if bits[store.var(f) as usize] {
+        return value(store, high, bits);
+    }
+    value(store, low, bits)
+}
+
+/// For each variable whether the function depends on it.
+pub fn support(alloc: Global, store: &Store, f: Ref) -> Result<Vec<bool>, AllocError>
+    requires live { IsLive store.now f }
+    ensures length { IfOk result (λ flags. length flags.items ≡ store.now.vars) }
+    ensures depends { IfOk result (λ flags. (v : ℕ) → v < store.now.vars → bit_at flags.items v ≡ depends store.now.vars (table store.now f) v) }
+{
+    let mut seen = HashSet::new(alloc);
+    let mut flags = vec![in alloc; false; store.vars() as usize]?;
+    flag_support(store, &mut seen, &mut flags, f)?;
+    Ok(flags)
+}

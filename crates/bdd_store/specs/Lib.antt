@@ -1,0 +1,6 @@
+pub mod Diagram
+pub mod Beads
+pub mod Graph
+pub mod Seen
+pub mod Chains
+pub mod Steps
