@@ -11,3 +11,7 @@ pub mod Expressions
 pub mod Second
 pub mod One
 pub mod Types
+pub mod Shift
+pub mod Greedy
+pub mod OpenIf
+pub mod Statements

@@ -6,3 +6,4 @@ pub mod Expressions
 pub mod Laws
 pub mod Worked
 pub mod Types
+pub mod Statements
