@@ -14,4 +14,6 @@ pub mod Types
 pub mod Shift
 pub mod Greedy
 pub mod OpenIf
+pub mod Noted
 pub mod Statements
+pub mod References

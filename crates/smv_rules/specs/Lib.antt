@@ -7,3 +7,5 @@ pub mod Laws
 pub mod Worked
 pub mod Types
 pub mod Statements
+pub mod References
+pub mod Items
