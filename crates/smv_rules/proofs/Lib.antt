@@ -17,3 +17,5 @@ pub mod OpenIf
 pub mod Noted
 pub mod Statements
 pub mod References
+pub mod Marked
+pub mod Items
