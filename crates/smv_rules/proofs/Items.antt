@@ -43,7 +43,7 @@ use Rattle.smv_rules.proofs.Expressions.{At, after_path, after_expr, names, name
 -- ---- what stands behind the name of a claim or an assignment
 
 -- a claim from its `assert` on
-abbrev claim_tail : Word → List Word → Levels Item
+abbrev pub claim_tail : Word → List Word → Levels Item
 claim_tail x vars floor m = token w.word_assert >> token w.word_G >> At g.expr_rule floor m >>= λ body. token semicolon >> nothing (item.Claim x vars body x.at)
 
 -- an assignment from its `:=` on
@@ -54,7 +54,7 @@ abbrev tail : Word → List MarkedPart → Option (List Word) → Levels Item
 tail x ms None floor m = assign_tail x (parts_of ms) floor m
 tail x ms (Some vars) floor m = (token colon >> claim_tail x vars floor m) / assign_tail x (parts_of ms) floor m
 
-abbrev behind : (List MarkedPart → Option (List Word)) → Word → Levels Item
+abbrev pub behind : (List MarkedPart → Option (List Word)) → Word → Levels Item
 behind vars x floor m = many (marked floor m) >>= λ ms. tail x ms (vars ms) floor m
 
 module _ (C : Type 0) (n : ℕ) where
@@ -79,37 +79,41 @@ module _ (C : Type 0) (n : ℕ) where
   tail-begins x ms None = begins-wider (exactly becomes ∷ []) _ refl (assign-tail-begins x (parts_of ms))
   tail-begins x ms (Some vars) = begins-either (begins-wider (exactly colon ∷ []) _ refl (begins-then (token-begins colon))) (begins-wider (exactly becomes ∷ []) _ refl (assign-tail-begins x (parts_of ms)))
 
-  behind-lawful : (vars : List MarkedPart → Option (List Word)) (x : Word) → Lawful C (behind vars x) n (p.read_behind n vars x) (stops_by (λ i. else_marks))
+  pub behind-lawful : (vars : List MarkedPart → Option (List Word)) (x : Word) → Lawful C (behind vars x) n (p.read_behind n vars x) (stops_by (λ i. else_marks))
   unfolding p.read_behind
   behind-lawful vars x = next-begun (exactly colon ∷ exactly becomes ∷ []) (λ ms. after_path) (repeated after_path closed after_path (marked-lawful n) marked-begins (λ a. refl) refl (λ a. refl))
       (λ ms. tail-lawful x ms (vars ms)) (λ ms. tail-begins x ms (vars ms)) (λ ms. refl)
 
 -- ---- declarations and instances
 
-abbrev declared_tail : Role → List Word → ℕ → Levels Item
+abbrev pub declared_tail : Role → List Word → ℕ → Levels Item
 declared_tail how names at floor m = At g.type_rule floor m >>= λ of. token semicolon >> nothing (item.Declare how names of at)
 
 abbrev instance_args : List Word → Word → Levels Item
 instance_args names x floor m = g.opening floor m (below floor m) open_paren >> separated_or_none (below floor m).expr >>= λ args. token close_paren >> token semicolon >> nothing (item.Instance names x args (place_of names))
 
-abbrev instance_tail : List Word → Levels Item
+abbrev pub instance_tail : List Word → Levels Item
 instance_tail names floor m = name >>= λ x. instance_args names x floor m
 
-abbrev of_names : List Word → Levels Item
+abbrev pub of_names : List Word → Levels Item
 of_names names floor m = instance_tail names floor m / declared_tail role.Plain names (place_of names) floor m
 
-abbrev behind_colon : Word → List Word → Levels Item
+abbrev pub behind_colon : Word → List Word → Levels Item
 behind_colon x [] floor m = claim_tail x [] floor m / of_names (x ∷ []) floor m
 behind_colon x (y ∷ more) floor m = of_names (x ∷ y ∷ more) floor m
 
-abbrev listed : Word → Levels Item
+abbrev pub listed : Word → Levels Item
 listed x floor m = many (token comma >> name) >>= λ more. token colon >> behind_colon x more floor m
 
-abbrev named_body : Levels Item
+abbrev pub named_body : Levels Item
 named_body floor m = name >>= λ x. listed x floor m / behind vars_of_some x floor m
 
-abbrev named_item : Levels Item
+abbrev pub named_item : Levels Item
 named_item floor m = name >>= λ x. behind vars_of x floor m
+
+-- a declaration with a role
+abbrev pub with_role : Levels Item
+with_role floor m = one_of roles >>= λ r. g.declared floor m (below floor m) r.0 (λ names. r.1)
 
 abbrev args_marks : List Mark
 args_marks = any_number ∷ any_name ∷ exactly open_paren ∷ exactly open_brace ∷ exactly w.tilde ∷ exactly comma ∷ after_expr
@@ -183,23 +187,20 @@ module _ (C : Type 0) (n : ℕ) where
       go floor m ts middle a rest [] h e = rw h (starts-wider (exactly becomes ∷ []) (exactly becomes ∷ after_path) middle refl ((assign-tail-begins C n x []).holds floor m middle a rest e))
       go floor m ts middle a rest (u ∷ ms) h e = starts-wider after_path (exactly becomes ∷ after_path) ts refl (marked-begins.holds floor m ts u h.0 h.1)
 
-  named-body-lawful : Lawful C named_body n (p.read_named_body n) (stops_by (λ i. else_marks))
+  pub named-body-lawful : Lawful C named_body n (p.read_named_body n) (stops_by (λ i. else_marks))
   unfolding p.read_named_body
   named-body-lawful = next name-lawful (λ x. alternative (exactly comma ∷ exactly colon ∷ []) (exactly becomes ∷ after_path) (listed-lawful x) (behind-lawful C n vars_of_some x) (listed-begins x) (some-begins x) refl)
 
-  named-lawful : Lawful C named_item n (p.read_named n) (stops_by (λ i. else_marks))
+  pub named-lawful : Lawful C named_item n (p.read_named n) (stops_by (λ i. else_marks))
   unfolding p.read_named
   named-lawful = next name-lawful (behind-lawful C n vars_of)
 
-  abbrev with_role : Levels Item
-  with_role floor m = one_of roles >>= λ r. g.declared floor m (below floor m) r.0 (λ names. r.1)
-
-  with-role-lawful : Lawful C with_role n (p.read_with_role n) (stops_by (λ i. else_marks))
+  pub with-role-lawful : Lawful C with_role n (p.read_with_role n) (stops_by (λ i. else_marks))
   unfolding p.read_with_role
   with-role-lawful = next (entry-lawful w.word_abstract role.Abstract ((w.word_input, role.Input) ∷ (w.word_output, role.Output) ∷ []) refl)
       (λ r. next-begun (exactly colon ∷ []) (λ ws. exactly comma ∷ []) names-lawful (λ ws. next (token-lawful colon refl) (λ _. declared-lawful r.0 ws r.1)) (λ ws. begins-then (token-begins colon)) (λ ws. refl))
 
-  layer-lawful : Lawful C (At g.layer) n (p.read_layer n) (stops_by (λ i. else_marks))
+  pub layer-lawful : Lawful C (At g.layer) n (p.read_layer n) (stops_by (λ i. else_marks))
   unfolding p.read_layer
   layer-lawful = next (token-lawful w.word_layer refl) (λ at. next name-lawful (λ x. next (token-lawful colon refl) (λ _. level open_brace refl (λ _.
       ended (exactly w.word_else ∷ stmt_marks) close_brace (λ body. item.Layer x body at) refl refl
@@ -208,44 +209,44 @@ module _ (C : Type 0) (n : ℕ) where
 
 -- ---- items that begin with no name
 
-abbrev forall_item : Levels Item
+abbrev pub forall_item : Levels Item
 forall_item floor m = g.opening floor m (below floor m) w.word_forall >>= λ at. (below floor m).binder >>= λ b. (below floor m).item >>= λ body. nothing (item.Forall b.0 b.1 body at)
 
-abbrev block_item : Levels Item
+abbrev pub block_item : Levels Item
 block_item floor m = g.opening floor m (below floor m) open_brace >> many (below floor m).item >>= λ items. token close_brace >> nothing (item.Block items)
 
 -- a statement that begins with a reserved word
-abbrev worded : Levels Stmt
+abbrev pub worded : Levels Stmt
 worded floor m = At g.timed floor m / At g.if_rule floor m / At g.switch floor m / At g.default floor m / At g.for floor m
 
-abbrev acted : Levels Item
+abbrev pub acted : Levels Item
 acted floor m = worded floor m >>= λ x. nothing (item.Act x)
 
-abbrev other_item : Levels Item
+abbrev pub other_item : Levels Item
 other_item floor m = forall_item floor m / block_item floor m / At g.split floor m / At g.using floor m / acted floor m
 
-abbrev factored_item : Levels Item
+abbrev pub factored_item : Levels Item
 factored_item floor m = named_item floor m / other_item floor m
 
-abbrev from_using : List Mark
+abbrev pub from_using : List Mark
 from_using = exactly w.word_using ∷ worded_marks
 
-abbrev from_split : List Mark
+abbrev pub from_split : List Mark
 from_split = exactly w.word_subcase ∷ from_using
 
-abbrev from_block : List Mark
+abbrev pub from_block : List Mark
 from_block = exactly open_brace ∷ from_split
 
-from-using-begins : Begins from_using (λ floor m. At g.using floor m / acted floor m)
+pub from-using-begins : Begins from_using (λ floor m. At g.using floor m / acted floor m)
 from-using-begins = begins-either (begins-wider (exactly w.word_using ∷ []) _ refl (begins-then (token-begins w.word_using))) (begins-wider worded_marks _ refl (begins-then worded-begins))
 
-from-split-begins : Begins from_split (λ floor m. At g.split floor m / At g.using floor m / acted floor m)
+pub from-split-begins : Begins from_split (λ floor m. At g.split floor m / At g.using floor m / acted floor m)
 from-split-begins = begins-either (begins-wider (exactly w.word_subcase ∷ []) _ refl (begins-then (token-begins w.word_subcase))) (begins-wider from_using _ refl from-using-begins)
 
-from-block-begins : Begins from_block (λ floor m. block_item floor m / At g.split floor m / At g.using floor m / acted floor m)
+pub from-block-begins : Begins from_block (λ floor m. block_item floor m / At g.split floor m / At g.using floor m / acted floor m)
 from-block-begins = begins-either (begins-wider (exactly open_brace ∷ []) _ refl (begins-then (opener-begins open_brace))) (begins-wider from_split _ refl from-split-begins)
 
-other-begins : Begins other_marks other_item
+pub other-begins : Begins other_marks other_item
 other-begins = begins-either (begins-wider (exactly w.word_forall ∷ []) _ refl (begins-then (opener-begins w.word_forall))) (begins-wider from_block _ refl from-block-begins)
 
 named-item-begins : Begins names named_item
@@ -257,7 +258,7 @@ factored-item-begins = begins-either (begins-wider names _ refl named-item-begin
 -- ---- an item, name first
 
 module _ (x : Word) (floor : ℕ → ℕ) (m : ℕ) where
-  abbrev assigned : Item → Tokens → Tokens → Type 0
+  abbrev pub assigned : Item → Tokens → Tokens → Type 0
   assigned a ts rest = (At g.simple floor m >>= λ s. nothing (item.Act s)) ts a rest
 
   -- an assignment whose path has these parts
@@ -271,7 +272,7 @@ module _ (x : Word) (floor : ℕ → ℕ) (m : ℕ) where
       → (token colon >> claim_tail x vs floor m) middle a rest → At g.claim floor m start a rest
   to-claim ts middle ms vs a rest start nm e h t = (x, ts, nm, (vs, middle, marked-brackets floor m ts ms vs middle e h, t))
 
-  to-either : (ts middle : Tokens) (ms : List MarkedPart) (o : Option (List Word)) → ((vs : List Word) → o ≡ Some vs → vars_of ms ≡ Some vs) → (a : Item) (rest start : Tokens) → name start x ts
+  pub to-either : (ts middle : Tokens) (ms : List MarkedPart) (o : Option (List Word)) → ((vs : List Word) → o ≡ Some vs → vars_of ms ≡ Some vs) → (a : Item) (rest start : Tokens) → name start x ts
       → many (marked floor m) ts ms middle → tail x ms o floor m middle a rest → At g.claim floor m start a rest ⊎ assigned a start rest
   to-either ts middle ms None k a rest start nm h t = inr (to-assignment ts middle ms a rest start nm h t)
   to-either ts middle ms (Some vs) k a rest start nm h (inl t) = inl (to-claim ts middle ms vs a rest start nm (k vs refl) h t)
@@ -289,7 +290,7 @@ module _ (x : Word) (floor : ℕ → ℕ) (m : ℕ) where
       (u.items, middle, u.spelled, assign-any u.items (vars u.items) middle a rest (subst P (sym u.same) t))
 
   -- what stands behind the name of a claim
-  from-brackets : (vars : List MarkedPart → Option (List Word)) (ts middle : Tokens) (vs : List Word) (a : Item) (rest : Tokens) → ((ms : List MarkedPart) → vars_of ms ≡ Some vs → vars ms ≡ Some vs)
+  pub from-brackets : (vars : List MarkedPart → Option (List Word)) (ts middle : Tokens) (vs : List Word) (a : Item) (rest : Tokens) → ((ms : List MarkedPart) → vars_of ms ≡ Some vs → vars ms ≡ Some vs)
       → many (At g.in_brackets floor m) ts vs middle → (token colon >> claim_tail x vs floor m) middle a rest → behind vars x floor m ts a rest
   from-brackets vars ts middle vs a rest k h t =
       let u = brackets-marked floor m ts vs middle h in
@@ -297,7 +298,7 @@ module _ (x : Word) (floor : ℕ → ℕ) (m : ℕ) where
       (u.items, middle, u.spelled, subst P (sym (k u.items u.same)) (inl t))
 
 -- what stands behind the first name of an assignment
-assigned-behind : (vars : List MarkedPart → Option (List Word)) (floor : ℕ → ℕ) (m : ℕ) (ts : Tokens) (s : Stmt) (middle : Tokens) (a : Item) (rest : Tokens) → At g.assignment floor m ts s middle → item.Act s ≡ a → middle ≡ rest
+pub assigned-behind : (vars : List MarkedPart → Option (List Word)) (floor : ℕ → ℕ) (m : ℕ) (ts : Tokens) (s : Stmt) (middle : Tokens) (a : Item) (rest : Tokens) → At g.assignment floor m ts s middle → item.Act s ≡ a → middle ≡ rest
     → (name >>= λ x. behind vars x floor m) ts a rest
 assigned-behind vars floor m ts s middle a rest h e q =
     -- h.2 is the path, and h.3 the value
@@ -308,7 +309,7 @@ assigned-behind vars floor m ts s middle a rest h e q =
     let made_so : make (named path.0 path.3.0) ≡ a = ap make same ∙ (ap (λ (z : Stmt). item.Act z) h.3.3.0 ∙ e) in
     (path.0, path.1, path.2, from-parts path.0 floor m vars path.1 path.3.1 path.3.0 a rest path.3.2 (h.3.0, h.3.1, subst P (sym path.3.3.1) h.3.2, (made_so, h.3.3.1 ∙ q)))
 
-item-to : (floor : ℕ → ℕ) (m : ℕ) (ts : Tokens) (a : Item) (rest : Tokens) → factored_item floor m ts a rest → At g.item_rule floor m ts a rest
+pub item-to : (floor : ℕ → ℕ) (m : ℕ) (ts : Tokens) (a : Item) (rest : Tokens) → factored_item floor m ts a rest → At g.item_rule floor m ts a rest
 item-to floor m ts a rest (inr (inl h)) = inl h
 item-to floor m ts a rest (inr (inr (inl h))) = inr (inl h)
 item-to floor m ts a rest (inr (inr (inr (inl h)))) = inr (inr (inr (inl h)))
@@ -320,7 +321,7 @@ item-to floor m ts a rest (inl h) = go (to-either h.0 floor m h.1 h.3.1 h.3.0 (v
     go (inl t) = inr (inr (inl t))
     go (inr t) = inr (inr (inr (inr (inr t))))
 
-item-from : (floor : ℕ → ℕ) (m : ℕ) (ts : Tokens) (a : Item) (rest : Tokens) → At g.item_rule floor m ts a rest → factored_item floor m ts a rest
+pub item-from : (floor : ℕ → ℕ) (m : ℕ) (ts : Tokens) (a : Item) (rest : Tokens) → At g.item_rule floor m ts a rest → factored_item floor m ts a rest
 item-from floor m ts a rest (inl h) = inr (inl h)
 item-from floor m ts a rest (inr (inl h)) = inr (inr (inl h))
 item-from floor m ts a rest (inr (inr (inl h))) = inl (h.0, h.1, h.2, from-brackets h.0 floor m vars_of h.1 h.3.1 h.3.0 a rest (λ ms e. e) h.3.2 h.3.3)

@@ -19,3 +19,4 @@ pub mod Statements
 pub mod References
 pub mod Marked
 pub mod Items
+pub mod Bodies
