@@ -20,3 +20,4 @@ pub mod References
 pub mod Marked
 pub mod Items
 pub mod Bodies
+pub mod Texts

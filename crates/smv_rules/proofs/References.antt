@@ -121,7 +121,7 @@ plain_rule floor m = At g.ref_rule floor m >>= λ r. nothing (uses.Plain r)
 abbrev early_rule : Levels Use
 early_rule floor m = g.opening floor m (below floor m) open_paren >> (below floor m).ref >>= λ r. token close_paren >> nothing (uses.Early r)
 
-names-or-none-lawful : {C : Type 0} {n : ℕ} → Lawful C (λ floor m. separated_or_none name) n (read_separated_or_none (any_name ∷ []) (take a_name)) (stops_by (λ names. any_name ∷ exactly comma ∷ []))
+pub names-or-none-lawful : {C : Type 0} {n : ℕ} → Lawful C (λ floor m. separated_or_none name) n (read_separated_or_none (any_name ∷ []) (take a_name)) (stops_by (λ names. any_name ∷ exactly comma ∷ []))
 names-or-none-lawful = at-most-once (any_name ∷ []) (λ names. exactly comma ∷ []) (λ names. any_name ∷ exactly comma ∷ []) [] names-lawful (begins-then name-begins) refl (λ a. refl)
 
 module _ (C : Type 0) (n : ℕ) (inner : Parser Ref) (law : Lawful (0 < n) (At g.ref_rule) (n - 1) inner (stops_by (λ r. after_ref))) where
