@@ -21,3 +21,5 @@ pub mod Marked
 pub mod Items
 pub mod Bodies
 pub mod Texts
+pub mod Whole
+pub mod Only

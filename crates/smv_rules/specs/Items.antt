@@ -1,5 +1,5 @@
 -- The parser of items and texts, rule by rule.
-use Rattle.std.specs.Prelude.{ℕ, zero, suc, true, false, if◌then◌else◌, List, [], ◌∷◌, Option, Some, None}
+use Rattle.std.specs.Prelude.{ℕ, zero, suc, true, false, if◌then◌else◌, List, [], ◌∷◌, Option, Some, None, Result, Ok, Err}
 use Rattle.smv_core.specs.declared.token.TokenKind.{TokenKind}
 use Rattle.smv_core.specs.declared.tree.Word.{Word}
 use Rattle.smv_core.specs.declared.tree.Span.{Span}
@@ -19,7 +19,8 @@ use Rattle.smv_core.specs.Signs.{open_paren, close_paren, open_bracket, close_br
 use Rattle.smv_core.specs.Signs as w
 use Rattle.smv_core.specs.Notation.{Tokens, same_kind}
 use Rattle.smv_core.specs.Grammar.{named, place_of}
-use Rattle.smv_rules.specs.Parsing.{Parser, bind, pure, take, take_open, fork, fork2, loop}
+use Rattle.smv_core.specs.declared.tree.Text.{Text}
+use Rattle.smv_rules.specs.Parsing.{Halt, Halts, Outcome, Parser, bind, pure, take, take_open, fork, fork2, loop}
 use Rattle.smv_rules.specs.Marks.{Mark, any_name, exactly, begins}
 use Rattle.smv_rules.specs.Readers.{a_token, a_name, an_entry, read_separated, read_separated_or_none, noting}
 use Rattle.smv_rules.specs.Expressions.{expr_marks, read_span, read_expr, expr_readers, no_level}
@@ -206,3 +207,16 @@ item_readers (suc n) = record { ref = read_used n; item = read_item n (item_read
 -- as many tops as stand one after another
 unfoldable pub read_tops : ℕ → Parser (List Top)
 read_tops n = loop (begins top_marks) (read_top n (item_readers n))
+
+-- the text, where no token is left
+abbrev pub ended : List Top → Tokens → Result Text Halt
+ended tops [] = Ok (record { tops = tops })
+ended tops (t ∷ rest) = Err (Halts false (t ∷ rest))
+
+abbrev pub whole : Outcome (List Top) → Result Text Halt
+whole (Ok p) = ended p.0 p.1
+whole (Err h) = Err h
+
+-- a whole list of tokens as a text, or where it halts
+unfoldable pub read_text : ℕ → Tokens → Result Text Halt
+read_text n ts = whole (read_tops n ts)
