@@ -23,3 +23,4 @@ pub mod Bodies
 pub mod Texts
 pub mod Whole
 pub mod Only
+pub mod Computing

@@ -9,3 +9,4 @@ pub mod References
 pub mod Items
 pub mod Laws
 pub mod Worked
+pub mod WorkedTexts
