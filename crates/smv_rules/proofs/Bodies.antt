@@ -3,15 +3,14 @@ use Rattle.std.proofs.Common.{◌≡◌, ◌-◌, ◌<◌, ℕ, zero, suc, List,
 use Rattle.smv_core.specs.declared.tree.Word.{Word}
 use Rattle.smv_core.specs.declared.tree.Item.{Item}
 use Rattle.smv_core.specs.declared.tree.Item.TheVariants as item
-use Rattle.smv_core.specs.declared.tree.Role.TheVariants as role
 use Rattle.smv_core.specs.Signs.{open_brace, close_brace, colon, comma}
 use Rattle.smv_core.specs.Signs as w
-use Rattle.smv_core.specs.Notation.{Tokens, ◌>>=◌, ◌>>◌, ◌/◌, many, token, name, separated}
+use Rattle.smv_core.specs.Notation.{Tokens, ◌>>◌, ◌/◌, many, token, name, separated}
 use Rattle.smv_core.specs.Grammar as g
 use Rattle.smv_core.specs.Grammar.{place_of}
 use Rattle.smv_core.specs.OpenIf.{ends_in_open_if}
 use Rattle.smv_rules.specs.Lawful.{Levels, Finishes, Lawful}
-use Rattle.smv_rules.specs.Marks.{Mark, any_name, exactly, stops_by}
+use Rattle.smv_rules.specs.Marks.{exactly, stops_by}
 use Rattle.smv_rules.specs.Statements.{stmt_readers}
 use Rattle.smv_rules.specs.Items.{ItemReaders, vars_of_some, role_marks, roles, other_marks, item_marks, body_marks}
 use Rattle.smv_rules.specs.Items as p
@@ -21,7 +20,7 @@ use Rattle.smv_rules.proofs.Forms.{Begins, begins-then, begins-either, begins-wi
 use Rattle.smv_rules.proofs.Statements.{else_marks, after_stmt, open-covered, worded_marks, worded-begins, worded-lawful, stmt-laws}
 use Rattle.smv_rules.proofs.References.{after_ref, split-lawful, using-lawful, used-lawful}
 use Rattle.smv_rules.proofs.Marked.{some-vars, vars-some}
-use Rattle.smv_rules.proofs.Items.{claim_tail, listed, with_role, of_names, behind, behind_colon, named_body, named_item, forall_item, block_item, acted, other_item, factored_item, assigned, assigned-behind, to-either, from-brackets}
+use Rattle.smv_rules.proofs.Items.{claim_tail, listed, with_role, of_names, behind, behind_colon, named_body, forall_item, block_item, other_item, assigned, assigned-behind, to-either, from-brackets}
 use Rattle.smv_rules.proofs.Items.{from_using, from_split, from_block, from-using-begins, from-split-begins, from-block-begins, other-begins, item-begins, item-to, item-from, named-lawful, named-body-lawful, with-role-lawful, layer-lawful}
 use Rattle.smv_rules.proofs.Expressions.{At, names}
 

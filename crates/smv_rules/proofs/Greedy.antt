@@ -1,10 +1,10 @@
 -- What a parser reads is stopped by what follows it.
-use Rattle.std.proofs.Common.{◌≡◌, ℕ, zero, suc, Bool, true, false, not, cond, List, [], ◌∷◌, Option, Some, None, Ok, Err, refl, sym, ◌∙◌, subst}
+use Rattle.std.proofs.Common.{◌≡◌, ℕ, zero, suc, Bool, true, false, cond, List, [], ◌∷◌, Option, Some, None, Ok, Err, refl, subst}
 use Rattle.smv_core.specs.declared.token.Token.{Token}
 use Rattle.smv_core.specs.Notation.{Tokens}
-use Rattle.smv_rules.specs.Parsing.{Outcome, Parser, and_then, bind, pure, taken, take, when_left, opened, take_open, starts, fork}
+use Rattle.smv_rules.specs.Parsing.{Outcome, Parser, and_then, bind, pure, opened, take_open, starts, fork}
 use Rattle.smv_rules.specs.Lawful.{first}
-use Rattle.smv_rules.specs.Marks.{Mark, has_mark, begins, stops_by}
+use Rattle.smv_rules.specs.Marks.{Mark, begins, stops_by}
 use Rattle.smv_rules.specs.Readers.{maybe}
 use Rattle.smv_rules.proofs.Lists.{same_ok}
 

@@ -1,9 +1,7 @@
 -- The laws of items: what begins with a name is read name first, and then by what follows it.
-use Rattle.std.proofs.Common.{◌≡◌, ◌-◌, ◌<◌, ℕ, zero, suc, Bool, true, false, List, [], ◌∷◌, Option, Some, None, ◌⊎◌, inl, inr, refl, sym, ◌∙◌, ap, subst, arith}
+use Rattle.std.proofs.Common.{◌≡◌, ◌-◌, ◌<◌, ℕ, true, false, List, [], ◌∷◌, Option, Some, None, ◌⊎◌, inl, inr, refl, sym, ◌∙◌, ap, subst}
 use Rattle.smv_core.specs.declared.token.Token.{Token}
-use Rattle.smv_core.specs.declared.token.TokenKind.TheVariants.{Ident, Number}
 use Rattle.smv_core.specs.declared.tree.Word.{Word}
-use Rattle.smv_core.specs.declared.tree.Expr.{Expr}
 use Rattle.smv_core.specs.declared.tree.TypeExpr.TheVariants as type
 use Rattle.smv_core.specs.declared.tree.Part.{Part}
 use Rattle.smv_core.specs.declared.tree.Path.{Path, out-Path}
@@ -16,28 +14,25 @@ use Rattle.smv_core.specs.declared.tree.Role.{Role}
 use Rattle.smv_core.specs.declared.tree.Role.TheVariants as role
 use Rattle.smv_core.specs.Signs.{open_paren, close_paren, open_brace, close_brace, colon, semicolon, comma, becomes, open_bracket, dot}
 use Rattle.smv_core.specs.Signs as w
-use Rattle.smv_core.specs.Notation.{Tokens, nothing, ◌>>=◌, ◌>>◌, ◌/◌, many, token, name, one_of, separated, separated_or_none}
+use Rattle.smv_core.specs.Notation.{Tokens, nothing, ◌>>=◌, ◌>>◌, ◌/◌, many, token, name, one_of, separated_or_none}
 use Rattle.smv_core.specs.Grammar as g
 use Rattle.smv_core.specs.Grammar.{below, named, place_of}
-use Rattle.smv_rules.specs.Parsing.{Parser, bind, pure, take, take_open, starts, starts2}
-use Rattle.smv_rules.specs.Lawful.{Levels, Finishes, Lawful}
+use Rattle.smv_rules.specs.Parsing.{bind, pure, take, take_open, starts, starts2}
+use Rattle.smv_rules.specs.Lawful.{Levels, Lawful}
 use Rattle.smv_rules.specs.Marks.{Mark, any_name, any_number, exactly, begins, stops_by}
 use Rattle.smv_rules.specs.Readers.{a_token, a_name, read_separated_or_none}
 use Rattle.smv_rules.specs.Expressions.{expr_marks, expr_readers}
-use Rattle.smv_rules.specs.Statements.{stmt_marks, stmt_readers}
+use Rattle.smv_rules.specs.Statements.{stmt_marks}
 use Rattle.smv_rules.specs.Items.{ItemReaders, MarkedPart, parts_of, vars_of, vars_of_some, roles, role_marks, other_marks, item_marks, body_marks}
 use Rattle.smv_rules.specs.Items as p
-use Rattle.smv_rules.specs.References as r
-use Rattle.smv_rules.proofs.Tokens.{nothing-lawful, same-lawful}
-use Rattle.smv_rules.proofs.Marks.{apart, covered}
-use Rattle.smv_rules.proofs.Forms.{Begins, begins-then, begins-either, begins-wider, starts-wider, token-begins, opener-begins, token-lawful, level, name-begins, name-lawful, entry-begins, entry-lawful, closed, next, repeated, at-most-once, alternative, continued, made, separated-lawful, next-begun, ended}
-use Rattle.smv_rules.proofs.Second.{Second, second-wider, Begins2, begins2-one, not-so-then, accepts-take, accepts-law}
+use Rattle.smv_rules.proofs.Tokens.{nothing-lawful}
+use Rattle.smv_rules.proofs.Forms.{Begins, begins-then, begins-either, begins-wider, starts-wider, token-begins, opener-begins, token-lawful, level, name-begins, name-lawful, entry-lawful, closed, next, repeated, at-most-once, alternative, separated-lawful, next-begun, ended}
+use Rattle.smv_rules.proofs.Second.{begins2-one, not-so-then, accepts-take, accepts-law}
 use Rattle.smv_rules.proofs.Ahead.{Accepts, chosen-ahead}
-use Rattle.smv_rules.proofs.Types.{names-lawful, names-begins, types, type_marks, type-begins, type-second}
-use Rattle.smv_rules.proofs.Statements.{else_marks, after_stmt, open-covered, apart-open, value-lawful, worded_marks, worded-begins, worded-lawful, stmt-begins, stmt-laws}
+use Rattle.smv_rules.proofs.Types.{names-lawful, types, type_marks, type-begins, type-second}
+use Rattle.smv_rules.proofs.Statements.{else_marks, after_stmt, open-covered, apart-open, value-lawful, worded_marks, worded-begins, stmt-begins, stmt-laws}
 use Rattle.smv_core.specs.OpenIf.{ends_in_open_if}
-use Rattle.smv_rules.proofs.References.{after_ref, split-lawful, using-lawful, used-lawful}
-use Rattle.smv_rules.proofs.Marked.{marked, marked-begins, marked-lawful, Parts, parts-marked, marked-parts, Vars, brackets-marked, marked-brackets, some-vars, vars-some}
+use Rattle.smv_rules.proofs.Marked.{marked, marked-begins, marked-lawful, parts-marked, marked-parts, brackets-marked, marked-brackets}
 use Rattle.smv_rules.proofs.Expressions.{At, after_path, after_expr, names, name-token, expr-begins, expr-lawful, inner-laws}
 
 -- ---- what stands behind the name of a claim or an assignment

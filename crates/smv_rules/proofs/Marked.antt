@@ -1,5 +1,5 @@
 -- Parts of a path, and which of them are names in brackets.
-use Rattle.std.proofs.Common.{◌≡◌, ◌<◌, ◌≤◌, ◌+◌, ℕ, zero, suc, Bool, true, false, ◌||◌, cond, List, [], ◌∷◌, ◌++◌, length, length-append, Option, Some, None, Ok, ◌⊎◌, inl, inr, refl, sym, ◌∙◌, ap, subst, arith}
+use Rattle.std.proofs.Common.{◌≡◌, ◌<◌, ℕ, zero, suc, Bool, true, false, ◌||◌, cond, List, [], ◌∷◌, ◌++◌, length, length-append, Option, Some, None, Ok, ◌⊎◌, inl, inr, refl, sym, ◌∙◌, ap, subst, arith}
 use Rattle.smv_core.specs.declared.token.Token.{Token}
 use Rattle.smv_core.specs.declared.tree.Word.{Word}
 use Rattle.smv_core.specs.declared.tree.Expr.{Expr}
@@ -10,9 +10,9 @@ use Rattle.smv_core.specs.Signs.{open_bracket, close_bracket, dot}
 use Rattle.smv_core.specs.Notation.{Tokens, nothing, ◌>>=◌, ◌>>◌, ◌/◌, many, token, name, same_kind}
 use Rattle.smv_core.specs.Grammar as g
 use Rattle.smv_core.specs.Grammar.{below, named}
-use Rattle.smv_rules.specs.Parsing.{Parser, starts}
+use Rattle.smv_rules.specs.Parsing.{starts}
 use Rattle.smv_rules.specs.Lawful.{Levels, first, Reads, IsDeep, Lawful}
-use Rattle.smv_rules.specs.Marks.{Mark, any_name, exactly, begins, stops_by}
+use Rattle.smv_rules.specs.Marks.{exactly, begins, stops_by}
 use Rattle.smv_rules.specs.Readers.{a_name}
 use Rattle.smv_rules.specs.Expressions.{expr_marks, read_expr, expr_readers}
 use Rattle.smv_rules.specs.Items.{MarkedPart, name_alone, parts_of, put_before, vars_of, vars_of_some}
@@ -123,10 +123,15 @@ bracket-marked floor (suc k) ts x rest h =
     let i = h.3 in
     let e : i.0 ≡ x = i.3.3.0 in
     let f : Word → Part = λ w. part.At (expr.Signal (named w [])) in
-    inr (h.0, h.1, h.2, (
-      (expr.Signal (named i.0 []), i.1, name-expr floor k h.1 i.0 i.1 i.2, (i.3.0, i.3.1, i.3.2, (ap f e, i.3.3.1))),
-      sym (is-alone h.1 i.1 i.0 i.3.0 i.3.1 i.2 i.3.2 ∙ ap Some e),
-    ))
+    inr (
+      h.0,
+      h.1,
+      h.2,
+      (
+        (expr.Signal (named i.0 []), i.1, name-expr floor k h.1 i.0 i.1 i.2, (i.3.0, i.3.1, i.3.2, (ap f e, i.3.3.1))),
+        sym (is-alone h.1 i.1 i.0 i.3.0 i.3.1 i.2 i.3.2 ∙ ap Some e),
+      ),
+    )
 
 marked-bracket : (floor : ℕ → ℕ) (m : ℕ) (ts : Tokens) (v : MarkedPart) (x : Word) (rest : Tokens) → v.1 ≡ Some x → marked floor m ts v rest → At g.in_brackets floor m ts x rest
 marked-bracket floor m ts v x rest s (inl h) = absurd (let f : MarkedPart → Option Word = λ u. u.1 in let e : None ≡ v.1 = ap f h.3.3.0 in let q : None ≡ Some x = e ∙ s in cc)
@@ -143,7 +148,7 @@ marked-bracket floor (suc k) ts v x rest s (inr h) = go h.1 h.2 h.3.0 (sym h.3.1
         by true q e =
             let c : token close_bracket (u ∷ ms) u.at ms = (rw q refl, refl) in
             let same = expr-same floor k (t ∷ u ∷ ms) i.0 (expr.Signal (named x [])) i.1 (u ∷ ms) i.2 (closes i.1 i.3.0 i.3.1 i.0 i.3.2)
-                (name-expr floor k (t ∷ u ∷ ms) x (u ∷ ms) (e, refl)) (closes (u ∷ ms) u.at ms (expr.Signal (named x [])) c) in
+            (name-expr floor k (t ∷ u ∷ ms) x (u ∷ ms) (e, refl)) (closes (u ∷ ms) u.at ms (expr.Signal (named x [])) c) in
             let P : Tokens → Type 0 = λ z. token close_bracket z i.3.0 i.3.1 in
             (h.0, t ∷ u ∷ ms, o, (x, u ∷ ms, (e, refl), (i.3.0, i.3.1, subst P same.1 i.3.2, (refl, i.3.3.1))))
 

@@ -1,9 +1,9 @@
 -- The law of what is read together with what is seen in the tokens ahead of it.
-use Rattle.std.proofs.Common.{◌≡◌, ℕ, Bool, true, [], ◌++◌, Option, Ok, Err, ◌⊎◌, inl, inr, refl, sym, ◌∙◌, ap, subst, append_assoc, arith}
+use Rattle.std.proofs.Common.{◌≡◌, ℕ, Bool, true, [], ◌++◌, Option, Ok, Err, ◌⊎◌, inl, inr, refl, sym, ◌∙◌, ap, subst, arith}
 use Rattle.smv_core.specs.declared.token.Token.{Token}
 use Rattle.smv_core.specs.Notation.{Tokens, Rule}
 use Rattle.smv_rules.specs.Parsing.{Halts, Outcome, Parser, and_then}
-use Rattle.smv_rules.specs.Lawful.{Levels, first, Finishes, Completes, Reads, kept, Stuck, IsDeep, Law, Lawful}
+use Rattle.smv_rules.specs.Lawful.{Levels, first, Finishes, Reads, kept, Stuck, IsDeep, Law, Lawful}
 use Rattle.smv_rules.specs.Readers.{noting}
 use Rattle.smv_rules.proofs.Lists.{same_ok}
 

@@ -1,5 +1,5 @@
 -- No answer but the reader's is right.
-use Rattle.std.proofs.Common.{◌≡◌, ◌<◌, ◌≤◌, ◌+◌, ℕ, zero, suc, Bool, true, false, List, [], ◌∷◌, ◌++◌, Option, Some, None, Result, Ok, Err, ◌⊎◌, inl, inr, refl, sym, ◌∙◌, ap, subst, append_assoc, arith}
+use Rattle.std.proofs.Common.{◌≡◌, ◌<◌, ◌≤◌, ◌+◌, ℕ, suc, Bool, true, false, List, [], ◌∷◌, ◌++◌, Some, Result, Ok, Err, refl, sym, ◌∙◌, ap, subst, append_assoc, arith}
 use Rattle.smv_core.specs.declared.token.Token.{Token}
 use Rattle.smv_core.specs.declared.tree.Top.{Top}
 use Rattle.smv_core.specs.declared.tree.Text.{Text}
@@ -10,9 +10,8 @@ use Rattle.smv_rules.specs.Parsing.{Halt, Halts, Outcome}
 use Rattle.smv_rules.specs.Lawful.{first, Completes, IsDeep}
 use Rattle.smv_rules.specs.Items.{read_tops, whole, read_text}
 use Rattle.smv_rules.specs.Laws.{IsRight, Rise, HaltsAt, IsOneText, IsOnlyText, IsOnlyUnexpected, IsOnlyTooDeep}
-use Rattle.smv_rules.proofs.Texts.{texts}
 use Rattle.smv_rules.proofs.One.{all-read, at-most-one}
-use Rattle.smv_rules.proofs.Whole.{law, Refusal, refusal, answered, within, never-deep, too-deep-at, reorder, no-nil, kept-none, kept-all, kept-above}
+use Rattle.smv_rules.proofs.Whole.{law, Refusal, refusal, answered, never-deep, too-deep-at, reorder, no-nil, kept-none, kept-all, kept-above}
 
 -- ---- texts
 

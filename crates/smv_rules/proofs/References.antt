@@ -1,5 +1,5 @@
 -- The laws of references, splits and uses.
-use Rattle.std.proofs.Common.{◌≡◌, ◌-◌, ◌<◌, ℕ, zero, suc, Bool, true, false, List, [], ◌∷◌, ◌++◌, Option, Some, None, ◌⊎◌, inl, inr, refl, ◌∙◌}
+use Rattle.std.proofs.Common.{◌≡◌, ◌-◌, ◌<◌, ℕ, Bool, true, false, List, [], ◌∷◌, ◌++◌, Option, Some, None, inl, inr, refl}
 use Rattle.smv_core.specs.declared.token.Token.{Token}
 use Rattle.smv_core.specs.declared.tree.Word.{Word}
 use Rattle.smv_core.specs.declared.tree.Expr.{Expr}
@@ -9,19 +9,18 @@ use Rattle.smv_core.specs.declared.tree.Use.{Use}
 use Rattle.smv_core.specs.declared.tree.Use.TheVariants as uses
 use Rattle.smv_core.specs.Signs.{open_paren, close_paren, open_bracket, close_bracket, open_brace, close_brace, semicolon, comma, dot, equal, arrow, slashes}
 use Rattle.smv_core.specs.Signs as w
-use Rattle.smv_core.specs.Notation.{Tokens, Rule, nothing, ◌>>=◌, ◌>>◌, ◌/◌, many, token, name, placed, separated, separated_or_none}
+use Rattle.smv_core.specs.Notation.{Tokens, Rule, nothing, ◌>>=◌, ◌>>◌, ◌/◌, many, token, name, placed, separated_or_none}
 use Rattle.smv_core.specs.Grammar as g
 use Rattle.smv_core.specs.Grammar.{below, Dotted, Bracketed, dotted, bracketed}
 use Rattle.smv_rules.specs.Parsing.{Parser, bind, pure, take, take_open, loop, starts}
 use Rattle.smv_rules.specs.Lawful.{Levels, Lawful}
 use Rattle.smv_rules.specs.Marks.{Mark, any_name, exactly, begins, stops_by}
-use Rattle.smv_rules.specs.Readers.{a_token, a_name, maybe, first_at, noting, read_separated, read_separated_or_none}
+use Rattle.smv_rules.specs.Readers.{a_token, a_name, maybe, first_at, noting, read_separated_or_none}
 use Rattle.smv_rules.specs.Expressions.{prim_marks, expr_readers, read_sum}
 use Rattle.smv_rules.specs.References as p
 use Rattle.smv_rules.proofs.Tokens.{pure-law, nothing-lawful, same-lawful}
-use Rattle.smv_rules.proofs.Marks.{apart, covered}
-use Rattle.smv_rules.proofs.Forms.{Begins, begins-then, begins-either, begins-wider, begins-after, leads-begins, leads-nothing, leads-many, leads-maybe, leads-then, token-begins, opener-begins, token-lawful, level, name-begins, name-lawful, closed, next, next-led, repeated, at-most-once, alternative, continued, made, separated-lawful, next-begun, ended, swapped}
-use Rattle.smv_rules.proofs.Second.{Second, second-one, second-then, Begins2, begins2-one, not-so, accepts-take, accepts-then}
+use Rattle.smv_rules.proofs.Forms.{Begins, begins-then, begins-either, begins-wider, leads-nothing, leads-many, leads-maybe, leads-then, token-begins, opener-begins, token-lawful, level, name-begins, name-lawful, closed, next, next-led, repeated, at-most-once, alternative, continued, made, separated-lawful, next-begun, ended}
+use Rattle.smv_rules.proofs.Second.{Second, second-one, second-then, begins2-one, not-so, accepts-take, accepts-then}
 use Rattle.smv_rules.proofs.Ahead.{Accepts, chosen-ahead}
 use Rattle.smv_rules.proofs.Noted.{noted, noted-lawful}
 use Rattle.smv_rules.proofs.Types.{names-lawful}

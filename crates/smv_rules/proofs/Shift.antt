@@ -1,9 +1,9 @@
 -- The law of what comes after a token that opens a level, and stands outside that level.
-use Rattle.std.proofs.Common.{◌≡◌, ℕ, zero, suc, ◌<◌, ◌≤◌, ◌-◌, ◌+◌, Bool, true, ◌++◌, Option, Ok, Err, ◌⊎◌, inl, inr, subst, arith}
+use Rattle.std.proofs.Common.{◌≡◌, ℕ, zero, suc, ◌<◌, ◌-◌, Bool, true, Option, Ok, Err, ◌⊎◌, inl, inr, subst, arith}
 use Rattle.smv_core.specs.declared.token.Token.{Token}
 use Rattle.smv_core.specs.Notation.{Tokens}
 use Rattle.smv_rules.specs.Parsing.{Halts, Parser}
-use Rattle.smv_rules.specs.Lawful.{Levels, first, Finishes, Completes, Reads, kept, IsPlaceOf, Stuck, IsDeep, Law, Lawful}
+use Rattle.smv_rules.specs.Lawful.{Levels, first, Finishes, Reads, Stuck, IsDeep, Law, Lawful}
 
 module _ {A : Type 0} (F : Levels A) where
   -- the same, where a level less is counted

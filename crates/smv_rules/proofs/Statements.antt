@@ -1,19 +1,16 @@
 -- The laws of statements.
-use Rattle.std.proofs.Common.{◌≡◌, ◌-◌, ◌<◌, ℕ, zero, suc, Bool, true, false, cond, List, [], ◌∷◌, Option, Some, None, Ok, Err, ◌⊎◌, inl, inr, refl, sym, ◌∙◌, ap, subst, arith}
+use Rattle.std.proofs.Common.{◌≡◌, ◌-◌, ◌<◌, ℕ, zero, suc, Bool, true, false, cond, List, [], ◌∷◌, Option, Some, None, Ok, Err, inl, inr, refl, sym, ◌∙◌, ap, subst, arith}
 use Rattle.smv_core.specs.declared.token.Token.{Token}
 use Rattle.smv_core.specs.declared.token.TokenKind.TheVariants.{Ident, Number}
 use Rattle.smv_core.specs.declared.tree.Word.{Word}
 use Rattle.smv_core.specs.declared.tree.Expr.{Expr}
-use Rattle.smv_core.specs.declared.tree.Expr.TheVariants as expr
-use Rattle.smv_core.specs.declared.tree.Path.{out-Path}
 use Rattle.smv_core.specs.declared.tree.Stmt.{Stmt}
 use Rattle.smv_core.specs.declared.tree.Stmt.TheVariants as stmt
-use Rattle.smv_core.specs.declared.tree.Arm.{Arm, roll-Arm}
-use Rattle.smv_core.specs.declared.tree.TypeExpr.TheVariants as type
+use Rattle.smv_core.specs.declared.tree.Arm.{roll-Arm}
 use Rattle.smv_core.specs.declared.tree.Kind.TheVariants as kind
 use Rattle.smv_core.specs.Signs.{open_paren, close_paren, open_brace, close_brace, colon, semicolon, comma, becomes, equal, less, at_most, plus, dot}
 use Rattle.smv_core.specs.Signs as w
-use Rattle.smv_core.specs.Notation.{Tokens, nothing, ◌>>=◌, ◌>>◌, ◌/◌, many, one, token, name, number, number_of, with_place, optional, positive, same_name, separated}
+use Rattle.smv_core.specs.Notation.{Tokens, nothing, ◌>>=◌, ◌>>◌, ◌/◌, many, one, token, number_of, with_place, optional, positive}
 use Rattle.smv_core.specs.Grammar as g
 use Rattle.smv_core.specs.Grammar.{Turns, below, named}
 use Rattle.smv_core.specs.OpenIf.{ends_in_open_if}
@@ -21,17 +18,17 @@ use Rattle.smv_rules.specs.Parsing.{Outcome, Parser, and_then, bind, pure, take,
 use Rattle.smv_rules.specs.Lawful.{Levels, first, Finishes, Lawful}
 use Rattle.smv_rules.specs.Marks.{Mark, any_name, any_number, exactly, begins, stops_by}
 use Rattle.smv_rules.specs.Readers.{a_token, an_entry}
-use Rattle.smv_rules.specs.Expressions.{read_expr, read_path, read_condition, expr_readers}
+use Rattle.smv_rules.specs.Expressions.{read_path, read_condition, expr_readers}
 use Rattle.smv_rules.specs.Statements.{StmtReaders, at_least_one, a_positive, moments, bounds, simple_marks, stmt_marks}
 use Rattle.smv_rules.specs.Statements as p
 use Rattle.smv_rules.proofs.Sequence.{followed}
 use Rattle.smv_rules.proofs.Tokens.{nothing-lawful, one-lawful, same-law, same-lawful}
-use Rattle.smv_rules.proofs.Marks.{apart, covered, stops-not, stops-more}
-use Rattle.smv_rules.proofs.Forms.{Begins, Leads, begins-then, begins-either, begins-wider, begins-after, leads-begins, leads-maybe, leads-then, leads-nothing, token-begins, opener-begins, token-lawful, level, name-begins, name-lawful, number-begins, number-lawful, entry-begins, entry-lawful, closed, next, next-led, repeated, alternative, continued, optionally, made, separated-lawful, next-begun, ended}
+use Rattle.smv_rules.proofs.Marks.{apart, covered, stops-not}
+use Rattle.smv_rules.proofs.Forms.{Begins, begins-then, begins-either, begins-wider, begins-after, leads-maybe, token-begins, opener-begins, token-lawful, level, name-begins, name-lawful, number-begins, number-lawful, entry-begins, entry-lawful, closed, next, repeated, alternative, continued, optionally, made, separated-lawful, next-begun, ended}
 use Rattle.smv_rules.proofs.Shift.{outside}
 use Rattle.smv_rules.proofs.Greedy.{Greedy, greedy-pure, greedy-then, greedy-made, greedy-open, greedy-fork, greedy-maybe}
 use Rattle.smv_rules.proofs.OpenIf.{if-alone, if-else, default-open, for-open, forall-open, assign-closed, block-closed, switch-closed}
-use Rattle.smv_rules.proofs.Expressions.{At, after_path, after_expr, index-lawful, path-begins, path-lawful, condition-lawful, expr-lawful, same-name-lawful, inner-laws, prim-expr}
+use Rattle.smv_rules.proofs.Expressions.{At, after_path, after_expr, index-lawful, path-begins, path-lawful, condition-lawful, expr-lawful, same-name-lawful, inner-laws}
 
 -- ---- what goes on with a statement
 
@@ -451,7 +448,6 @@ path-finishes : (place : ℕ) → Finishes (At g.path_rule) place
 path-finishes place =
     let x : Word = record { name = []; at = place } in
     record { more = record { kind = Ident []; at = place } ∷ []; value = named x []; enough = 0; spelled = λ floor m z e r. (x, r, (refl, refl), ([], r, refl, (refl, refl))) }
-
 
 stmt-finishes : (place : ℕ) → Finishes (At g.stmt_rule) place
 stmt-finishes place =

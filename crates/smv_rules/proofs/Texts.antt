@@ -1,5 +1,5 @@
 -- The laws of texts.
-use Rattle.std.proofs.Common.{◌≡◌, ◌-◌, ◌<◌, ℕ, Bool, true, false, List, [], ◌∷◌, Option, Some, None, refl}
+use Rattle.std.proofs.Common.{◌<◌, ℕ, true, false, List, [], ◌∷◌, None, refl}
 use Rattle.smv_core.specs.declared.tree.Word.{Word}
 use Rattle.smv_core.specs.declared.tree.Top.{Top}
 use Rattle.smv_core.specs.declared.tree.Top.TheVariants as top
@@ -9,11 +9,11 @@ use Rattle.smv_core.specs.Notation.{nothing, ◌>>=◌, ◌>>◌, ◌/◌, many,
 use Rattle.smv_core.specs.Grammar as g
 use Rattle.smv_core.specs.Grammar.{below}
 use Rattle.smv_rules.specs.Lawful.{Levels, Lawful}
-use Rattle.smv_rules.specs.Marks.{Mark, any_name, any_number, exactly, stops_by}
+use Rattle.smv_rules.specs.Marks.{any_name, any_number, exactly, stops_by}
 use Rattle.smv_rules.specs.Items.{ItemReaders, body_marks, top_marks}
 use Rattle.smv_rules.specs.Items as p
 use Rattle.smv_rules.proofs.Tokens.{nothing-lawful}
-use Rattle.smv_rules.proofs.Forms.{Begins, begins-then, begins-either, begins-wider, token-begins, token-lawful, level, name-lawful, closed, next, repeated, alternative, made, next-begun, ended}
+use Rattle.smv_rules.proofs.Forms.{Begins, begins-then, begins-either, begins-wider, token-begins, token-lawful, level, name-lawful, closed, next, repeated, alternative, next-begun, ended}
 use Rattle.smv_rules.proofs.Shift.{outside}
 use Rattle.smv_rules.proofs.Types.{types}
 use Rattle.smv_rules.proofs.Statements.{else_marks}

@@ -1,17 +1,16 @@
 -- The whole list of tokens: the reader's answer is right, and no other is.
-use Rattle.std.proofs.Common.{◌≡◌, ◌<◌, ◌≤◌, ◌+◌, ℕ, zero, suc, nat_lt, Bool, true, false, cond, List, [], ◌∷◌, ◌++◌, Option, Some, None, Result, Ok, Err, ◌⊎◌, inl, inr, refl, sym, ◌∙◌, ap, subst, append_assoc, arith}
+use Rattle.std.proofs.Common.{◌≡◌, ◌<◌, ◌≤◌, ◌+◌, ℕ, zero, suc, nat_lt, Bool, true, false, cond, List, [], ◌∷◌, ◌++◌, Some, Ok, Err, ◌⊎◌, inl, inr, refl, sym, ◌∙◌, ap, subst, append_assoc, arith}
 use Rattle.std.proofs.lemmas.Bool.{ltb-true, lt-ltb}
 use Rattle.smv_core.specs.declared.token.Token.{Token}
 use Rattle.smv_core.specs.declared.tree.Top.{Top}
-use Rattle.smv_core.specs.declared.tree.Text.{Text}
 use Rattle.smv_core.specs.Notation.{Tokens}
 use Rattle.smv_core.specs.Grammar as g
 use Rattle.smv_core.specs.Spelling.{Spells, CanGoOn, GoesOnWithin, kept_before, place_of_rest, IsRefusedAfter, IsUnexpected, IsTooDeep}
-use Rattle.smv_rules.specs.Parsing.{Halt, Halts, Outcome}
+use Rattle.smv_rules.specs.Parsing.{Halts, Outcome}
 use Rattle.smv_rules.specs.Lawful.{first, Above, Completes, Reads, kept, AtToken, IsPlaceOf, Stuck, IsDeep, Law}
 use Rattle.smv_rules.specs.Marks.{stops_by}
-use Rattle.smv_rules.specs.Items.{read_tops, ended, whole, top_marks, read_text}
-use Rattle.smv_rules.specs.Laws.{IsRight, Rise, HaltsAt}
+use Rattle.smv_rules.specs.Items.{read_tops, whole, top_marks, read_text}
+use Rattle.smv_rules.specs.Laws.{IsRight}
 use Rattle.smv_rules.proofs.Lists.{same_ok}
 use Rattle.smv_rules.proofs.Texts.{texts}
 

@@ -18,7 +18,6 @@ use Rattle.smv_core.specs.declared.tree.Item.TheVariants as item
 use Rattle.smv_core.specs.declared.tree.Role.TheVariants as role
 use Rattle.smv_core.specs.declared.tree.Ref.{Ref}
 use Rattle.smv_core.specs.declared.tree.Use.TheVariants as uses
-use Rattle.smv_core.specs.declared.tree.Top.{Top}
 use Rattle.smv_core.specs.declared.tree.Top.TheVariants as top
 use Rattle.smv_core.specs.declared.tree.Text.{Text}
 use Rattle.smv_core.specs.Signs as w
@@ -97,18 +96,18 @@ y_at_i at = named (word (codes "y") at) (part.At (a_signal (codes "i") (at + 2))
 abbrev pub items_tree : Text
 items_tree = record {
   tops = top.Module (word (codes "m") 1) (word (codes "a") 3 ∷ word (codes "b") 5 ∷ []) (
-    item.Declare role.Input (word (codes "a") 9 ∷ []) type.Boolean 8 ∷
-    item.Declare role.Plain (word (codes "x") 13 ∷ word (codes "y") 15 ∷ []) (type.Range (record { low = 0; high = 1 }) 17) 13 ∷
-    item.Instance (word (codes "u") 21 ∷ []) (word (codes "k") 23) (a_signal (codes "x") 25 ∷ expr.Number 1 27 ∷ []) 21 ∷
-    item.Layer (word (codes "l") 31) (stmt.Assign kind.Comb (path (codes "x") 34) (expr.Number 0 36) 34 ∷ []) 30 ∷
-    item.Forall (word (codes "i") 41) (type.Named (word (codes "s") 43) 43) (item.Block (item.Act (stmt.Assign kind.Next (y_at_i 48) (expr.Number 1 54) 46) ∷ [])) 39 ∷
-    item.Claim (word (codes "c") 57) (word (codes "i") 59 ∷ []) (expr.Compare op.Equal (a_signal (codes "x") 64) (expr.Number 1 66)) 57 ∷
-    item.Split (word (codes "d") 69) (word (codes "i") 71 ∷ []) (name_ref (codes "c") 74) (record { left = a_signal (codes "x") 76; right = word (codes "i") 78; at = 76 } ∷ []) 68 ∷
-    item.Using (
+      item.Declare role.Input (word (codes "a") 9 ∷ []) type.Boolean 8 ∷
+      item.Declare role.Plain (word (codes "x") 13 ∷ word (codes "y") 15 ∷ []) (type.Range (record { low = 0; high = 1 }) 17) 13 ∷
+      item.Instance (word (codes "u") 21 ∷ []) (word (codes "k") 23) (a_signal (codes "x") 25 ∷ expr.Number 1 27 ∷ []) 21 ∷
+      item.Layer (word (codes "l") 31) (stmt.Assign kind.Comb (path (codes "x") 34) (expr.Number 0 36) 34 ∷ []) 30 ∷
+      item.Forall (word (codes "i") 41) (type.Named (word (codes "s") 43) 43) (item.Block (item.Act (stmt.Assign kind.Next (y_at_i 48) (expr.Number 1 54) 46) ∷ [])) 39 ∷
+      item.Claim (word (codes "c") 57) (word (codes "i") 59 ∷ []) (expr.Compare op.Equal (a_signal (codes "x") 64) (expr.Number 1 66)) 57 ∷
+      item.Split (word (codes "d") 69) (word (codes "i") 71 ∷ []) (name_ref (codes "c") 74) (record { left = a_signal (codes "x") 76; right = word (codes "i") 78; at = 76 } ∷ []) 68 ∷
+      item.Using (
       uses.Plain (record { path = word (codes "x") 81 ∷ []; names = []; layer = None; free = true; at = 81 }) ∷ uses.Early (name_ref (codes "c") 86) ∷ uses.Keep (word (codes "s") 89) (word (codes "i") 92 ∷ []) 89 ∷ []
-    ) (name_ref (codes "d") 95 ∷ []) 80 ∷
-    item.Act (stmt.Assign kind.Comb (y_at_i 97) (a_signal (codes "x") 102) 97) ∷ []
-  ) 0 ∷ [];
+      ) (name_ref (codes "d") 95 ∷ []) 80 ∷
+      item.Act (stmt.Assign kind.Comb (y_at_i 97) (a_signal (codes "x") 102) 97) ∷ []
+      ) 0 ∷ [];
 }
 
 abbrev pub ItemsSpelled : Type 0
@@ -132,9 +131,9 @@ statements_text = in_module (w.word_switch ∷ open_paren ∷ Ident (codes "x") 
 
 abbrev pub statements_tree : Text
 statements_tree = module_of (
-  item.Act (stmt.Switch (a_signal (codes "x") 7) (roll-Arm (record { labels = expr.Number 0 10 ∷ a_signal (codes "k") 12 ∷ []; body = set_x 14 (expr.Number 1 16) }) ∷ []) (Some (stmt.Block [])) 5) ∷
-  item.Act (stmt.Default (set_x 24 (expr.Number 0 26)) (stmt.For (word (codes "i") 31) 0 3 false 2 (set_x 45 (a_signal (codes "i") 47)) 29) 23) ∷ []
-)
+    item.Act (stmt.Switch (a_signal (codes "x") 7) (roll-Arm (record { labels = expr.Number 0 10 ∷ a_signal (codes "k") 12 ∷ []; body = set_x 14 (expr.Number 1 16) }) ∷ []) (Some (stmt.Block [])) 5) ∷
+    item.Act (stmt.Default (set_x 24 (expr.Number 0 26)) (stmt.For (word (codes "i") 31) 0 3 false 2 (set_x 45 (a_signal (codes "i") 47)) 29) 23) ∷ []
+    )
 
 abbrev pub StatementsSpelled : Type 0
 StatementsSpelled = Spells 64 statements_text statements_tree

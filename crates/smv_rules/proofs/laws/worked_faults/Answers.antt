@@ -4,7 +4,7 @@ use Rattle.smv_core.specs.declared.tree.Text.{Text}
 use Rattle.smv_core.specs.declared.tree.Expr.TheVariants as expr
 use Rattle.smv_core.specs.declared.tree.Item.TheVariants as item
 use Rattle.smv_core.specs.Notation.{Tokens}
-use Rattle.smv_core.specs.Spelling.{Spells, IsUnexpected, IsTooDeep, place_of_rest}
+use Rattle.smv_core.specs.Spelling.{IsUnexpected, IsTooDeep, place_of_rest}
 use Rattle.smv_rules.specs.Parsing.{Halt, Halts}
 use Rattle.smv_rules.specs.Laws.{IsRight}
 use Rattle.smv_rules.specs.Items.{read_text}
