@@ -5,7 +5,7 @@ use Rattle.smv_core.specs.declared.tree.Item.{Item}
 use Rattle.smv_core.specs.declared.tree.Item.TheVariants as item
 use Rattle.smv_core.specs.Signs.{open_brace, close_brace, colon, comma}
 use Rattle.smv_core.specs.Signs as w
-use Rattle.smv_core.specs.Notation.{Tokens, ◌>>◌, ◌/◌, many, token, name, separated}
+use Rattle.smv_core.specs.Notation.{Tokens, ◌>>◌, ◌<|>◌, many, token, name, separated}
 use Rattle.smv_core.specs.Grammar as g
 use Rattle.smv_core.specs.Grammar.{place_of}
 use Rattle.smv_core.specs.OpenIf.{ends_in_open_if}
@@ -27,7 +27,7 @@ use Rattle.smv_rules.proofs.Expressions.{At, names}
 -- ---- a body, name first
 
 abbrev factored_body : Levels Item
-factored_body floor m = with_role floor m / At g.layer floor m / named_body floor m / other_item floor m
+factored_body floor m = with_role floor m <|> At g.layer floor m <|> named_body floor m <|> other_item floor m
 
 module _ (floor : ℕ → ℕ) (m : ℕ) (a : Item) (rest : Tokens) where
   -- names, a colon, and a declaration or an instance
@@ -64,7 +64,7 @@ body-to floor m ts a rest (inr (inl h)) = inr (inr (inl h))
 body-to floor m ts a rest (inr (inr (inr h))) = inr (inr (inr (item-to floor m ts a rest (inr h))))
 body-to floor m ts a rest (inr (inr (inl h))) = go h.3
   where
-    go : (listed h.0 floor m / behind vars_of_some h.0 floor m) h.1 a rest → At g.body_rule floor m ts a rest
+    go : (listed h.0 floor m <|> behind vars_of_some h.0 floor m) h.1 a rest → At g.body_rule floor m ts a rest
     go (inl l) = let c = l.3 in listed-to floor m a rest ts h.1 l.1 c.1 h.0 l.0 c.0 h.2 l.2 c.2 c.3
     go (inr b) = by (to-either h.0 floor m h.1 b.1 b.0 (vars_of_some b.0) (λ vs e. vars-some b.0 vs e) a rest ts h.2 b.2 b.3)
       where
@@ -94,10 +94,10 @@ body-from floor m ts a rest (inr (inr (inr h))) = go h
 with-role-begins : Begins role_marks with_role
 with-role-begins = begins-then (entry-begins roles)
 
-from-name-begins : Begins item_marks (λ floor m. named_body floor m / other_item floor m)
+from-name-begins : Begins item_marks (λ floor m. named_body floor m <|> other_item floor m)
 from-name-begins = begins-either (begins-wider names _ refl (begins-then name-begins)) (begins-wider other_marks _ refl other-begins)
 
-from-layer-begins : Begins (exactly w.word_layer ∷ item_marks) (λ floor m. At g.layer floor m / named_body floor m / other_item floor m)
+from-layer-begins : Begins (exactly w.word_layer ∷ item_marks) (λ floor m. At g.layer floor m <|> named_body floor m <|> other_item floor m)
 from-layer-begins = begins-either (begins-wider (exactly w.word_layer ∷ []) _ refl (begins-then (token-begins w.word_layer))) (begins-wider item_marks _ refl from-name-begins)
 
 pub body-begins : Begins body_marks (At g.body_rule)

@@ -14,7 +14,7 @@ use Rattle.smv_core.specs.declared.tree.Role.{Role}
 use Rattle.smv_core.specs.declared.tree.Role.TheVariants as role
 use Rattle.smv_core.specs.Signs.{open_paren, close_paren, open_brace, close_brace, colon, semicolon, comma, becomes, open_bracket, dot}
 use Rattle.smv_core.specs.Signs as w
-use Rattle.smv_core.specs.Notation.{Tokens, nothing, ◌>>=◌, ◌>>◌, ◌/◌, many, token, name, one_of, separated_or_none}
+use Rattle.smv_core.specs.Notation.{Tokens, nothing, ◌>>=◌, ◌>>◌, ◌<|>◌, many, token, name, one_of, separated_or_none}
 use Rattle.smv_core.specs.Grammar as g
 use Rattle.smv_core.specs.Grammar.{below, named, place_of}
 use Rattle.smv_rules.specs.Parsing.{bind, pure, take, take_open, starts, starts2}
@@ -47,7 +47,7 @@ assign_tail x more floor m = At g.value floor m >>= λ v. nothing (item.Act (stm
 
 abbrev tail : Word → List MarkedPart → Option (List Word) → Levels Item
 tail x ms None floor m = assign_tail x (parts_of ms) floor m
-tail x ms (Some vars) floor m = (token colon >> claim_tail x vars floor m) / assign_tail x (parts_of ms) floor m
+tail x ms (Some vars) floor m = (token colon >> claim_tail x vars floor m) <|> assign_tail x (parts_of ms) floor m
 
 abbrev pub behind : (List MarkedPart → Option (List Word)) → Word → Levels Item
 behind vars x floor m = many (marked floor m) >>= λ ms. tail x ms (vars ms) floor m
@@ -91,17 +91,17 @@ abbrev pub instance_tail : List Word → Levels Item
 instance_tail names floor m = name >>= λ x. instance_args names x floor m
 
 abbrev pub of_names : List Word → Levels Item
-of_names names floor m = instance_tail names floor m / declared_tail role.Plain names (place_of names) floor m
+of_names names floor m = instance_tail names floor m <|> declared_tail role.Plain names (place_of names) floor m
 
 abbrev pub behind_colon : Word → List Word → Levels Item
-behind_colon x [] floor m = claim_tail x [] floor m / of_names (x ∷ []) floor m
+behind_colon x [] floor m = claim_tail x [] floor m <|> of_names (x ∷ []) floor m
 behind_colon x (y ∷ more) floor m = of_names (x ∷ y ∷ more) floor m
 
 abbrev pub listed : Word → Levels Item
 listed x floor m = many (token comma >> name) >>= λ more. token colon >> behind_colon x more floor m
 
 abbrev pub named_body : Levels Item
-named_body floor m = name >>= λ x. listed x floor m / behind vars_of_some x floor m
+named_body floor m = name >>= λ x. listed x floor m <|> behind vars_of_some x floor m
 
 abbrev pub named_item : Levels Item
 named_item floor m = name >>= λ x. behind vars_of x floor m
@@ -212,16 +212,16 @@ block_item floor m = g.opening floor m (below floor m) open_brace >> many (below
 
 -- a statement that begins with a reserved word
 abbrev pub worded : Levels Stmt
-worded floor m = At g.timed floor m / At g.if_rule floor m / At g.switch floor m / At g.default floor m / At g.for floor m
+worded floor m = At g.timed floor m <|> At g.if_rule floor m <|> At g.switch floor m <|> At g.default floor m <|> At g.for floor m
 
 abbrev pub acted : Levels Item
 acted floor m = worded floor m >>= λ x. nothing (item.Act x)
 
 abbrev pub other_item : Levels Item
-other_item floor m = forall_item floor m / block_item floor m / At g.split floor m / At g.using floor m / acted floor m
+other_item floor m = forall_item floor m <|> block_item floor m <|> At g.split floor m <|> At g.using floor m <|> acted floor m
 
 abbrev pub factored_item : Levels Item
-factored_item floor m = named_item floor m / other_item floor m
+factored_item floor m = named_item floor m <|> other_item floor m
 
 abbrev pub from_using : List Mark
 from_using = exactly w.word_using ∷ worded_marks
@@ -232,13 +232,13 @@ from_split = exactly w.word_subcase ∷ from_using
 abbrev pub from_block : List Mark
 from_block = exactly open_brace ∷ from_split
 
-pub from-using-begins : Begins from_using (λ floor m. At g.using floor m / acted floor m)
+pub from-using-begins : Begins from_using (λ floor m. At g.using floor m <|> acted floor m)
 from-using-begins = begins-either (begins-wider (exactly w.word_using ∷ []) _ refl (begins-then (token-begins w.word_using))) (begins-wider worded_marks _ refl (begins-then worded-begins))
 
-pub from-split-begins : Begins from_split (λ floor m. At g.split floor m / At g.using floor m / acted floor m)
+pub from-split-begins : Begins from_split (λ floor m. At g.split floor m <|> At g.using floor m <|> acted floor m)
 from-split-begins = begins-either (begins-wider (exactly w.word_subcase ∷ []) _ refl (begins-then (token-begins w.word_subcase))) (begins-wider from_using _ refl from-using-begins)
 
-pub from-block-begins : Begins from_block (λ floor m. block_item floor m / At g.split floor m / At g.using floor m / acted floor m)
+pub from-block-begins : Begins from_block (λ floor m. block_item floor m <|> At g.split floor m <|> At g.using floor m <|> acted floor m)
 from-block-begins = begins-either (begins-wider (exactly open_brace ∷ []) _ refl (begins-then (opener-begins open_brace))) (begins-wider from_split _ refl from-split-begins)
 
 pub other-begins : Begins other_marks other_item

@@ -7,7 +7,7 @@ use Rattle.smv_core.specs.declared.tree.Expr.TheVariants as expr
 use Rattle.smv_core.specs.declared.tree.Part.{Part}
 use Rattle.smv_core.specs.declared.tree.Part.TheVariants as part
 use Rattle.smv_core.specs.Signs.{open_bracket, close_bracket, dot}
-use Rattle.smv_core.specs.Notation.{Tokens, nothing, ◌>>=◌, ◌>>◌, ◌/◌, many, token, name, same_kind}
+use Rattle.smv_core.specs.Notation.{Tokens, nothing, ◌>>=◌, ◌>>◌, ◌<|>◌, many, token, name, same_kind}
 use Rattle.smv_core.specs.Grammar as g
 use Rattle.smv_core.specs.Grammar.{below, named}
 use Rattle.smv_rules.specs.Parsing.{starts}
@@ -63,7 +63,7 @@ index_tail floor m = At g.expr_rule floor m >>= λ x. token close_bracket >> not
 -- a part of a path, and the name that it is in brackets, where it is one
 abbrev pub marked : Levels MarkedPart
 marked floor m = (token dot >> name >>= λ x. nothing (part.Field x, None))
-    / (g.opening floor m (below floor m) open_bracket >> noted name_alone ((below floor m).expr >>= λ x. token close_bracket >> nothing (part.At x)))
+    <|> (g.opening floor m (below floor m) open_bracket >> noted name_alone ((below floor m).expr >>= λ x. token close_bracket >> nothing (part.At x)))
 
 closes : (ts : Tokens) (at : ℕ) (rest : Tokens) (x : Expr) → token close_bracket ts at rest → stops_by (λ (x : Expr). after_expr) x (first ts) ≡ true
 closes ts at rest x h = stops-starts (λ (x : Expr). after_expr) x (exactly close_bracket ∷ []) ts refl ((token-begins close_bracket).holds (λ i. 0) 0 ts at rest h)

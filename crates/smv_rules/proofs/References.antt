@@ -9,7 +9,7 @@ use Rattle.smv_core.specs.declared.tree.Use.{Use}
 use Rattle.smv_core.specs.declared.tree.Use.TheVariants as uses
 use Rattle.smv_core.specs.Signs.{open_paren, close_paren, open_bracket, close_bracket, open_brace, close_brace, semicolon, comma, dot, equal, arrow, slashes}
 use Rattle.smv_core.specs.Signs as w
-use Rattle.smv_core.specs.Notation.{Tokens, Rule, nothing, ◌>>=◌, ◌>>◌, ◌/◌, many, token, name, placed, separated_or_none}
+use Rattle.smv_core.specs.Notation.{Tokens, Rule, nothing, ◌>>=◌, ◌>>◌, ◌<|>◌, many, token, name, placed, separated_or_none}
 use Rattle.smv_core.specs.Grammar as g
 use Rattle.smv_core.specs.Grammar.{below, Dotted, Bracketed, dotted, bracketed}
 use Rattle.smv_rules.specs.Parsing.{Parser, bind, pure, take, take_open, loop, starts}
@@ -39,7 +39,7 @@ layer-name-lawful : {C : Type 0} {n : ℕ} → Lawful C (λ floor m. g.layer_nam
 unfolding p.read_layer_name
 layer-name-lawful = next name-lawful (λ l. nothing-lawful _)
 
-layer-or-free-lawful : {C : Type 0} {n : ℕ} → Lawful C (λ floor m. g.layer_name / g.free) n p.read_layer_or_free (stops_by closed)
+layer-or-free-lawful : {C : Type 0} {n : ℕ} → Lawful C (λ floor m. g.layer_name <|> g.free) n p.read_layer_or_free (stops_by closed)
 unfolding p.read_layer_or_free
 layer-or-free-lawful = alternative (any_name ∷ []) (exactly w.word_free ∷ []) layer-name-lawful (next (token-lawful w.word_free refl) (λ _. nothing-lawful _)) (begins-then name-begins) (begins-then (token-begins w.word_free)) refl
 
@@ -58,14 +58,14 @@ ref-part-lawful n = alternative (exactly dot ∷ []) (exactly open_bracket ∷ [
 
 -- a reference with such a layer
 abbrev ref_with : Rule (Option Word × Bool) → Levels Ref
-ref_with layer floor m = g.ref_by floor m (below floor m) ((token slashes >> layer) / nothing (None, false))
+ref_with layer floor m = g.ref_by floor m (below floor m) ((token slashes >> layer) <|> nothing (None, false))
 
 abbrev ref_of : Word → List g.RefPart → Option Word × Bool → Ref
 ref_of x parts l = record { path = x ∷ dotted parts; names = bracketed parts; layer = l.0; free = l.1; at = x.at }
 
 module _ (C : Type 0) (n : ℕ) (layer : Rule (Option Word × Bool)) (q : Parser (Option Word × Bool)) (f : Lawful C (λ floor m. layer) n q (stops_by closed)) where
   abbrev behind_name : Word → Levels Ref
-  behind_name x floor m = many (At g.ref_part floor m) >>= λ parts. ((token slashes >> layer) / nothing (None, false)) >>= λ l. nothing (ref_of x parts l)
+  behind_name x floor m = many (At g.ref_part floor m) >>= λ parts. ((token slashes >> layer) <|> nothing (None, false)) >>= λ l. nothing (ref_of x parts l)
 
   behind-lawful : (x : Word) → Lawful C (behind_name x) n
       (bind (loop (begins after_path) (p.read_ref_part n)) (λ parts.
@@ -96,11 +96,11 @@ ref-lawful {C = C} n = ref-by-lawful C n g.layer_name p.read_layer_name layer-na
 
 pub used-lawful : {C : Type 0} (n : ℕ) → Lawful C (At g.ref_rule) n (p.read_used n) (stops_by (λ r. after_ref))
 unfolding p.read_used
-used-lawful {C = C} n = ref-by-lawful C n (g.layer_name / g.free) p.read_layer_or_free layer-or-free-lawful
+used-lawful {C = C} n = ref-by-lawful C n (g.layer_name <|> g.free) p.read_layer_or_free layer-or-free-lawful
 
 used-accepts : {C : Type 0} (n : ℕ) → C → (t : Token) → begins names t ≡ true → Accepts (p.read_used n) t
 unfolding p.read_used
-used-accepts {C = C} n c t e = ref-by-accepts C n (g.layer_name / g.free) p.read_layer_or_free layer-or-free-lawful c t e
+used-accepts {C = C} n c t e = ref-by-accepts C n (g.layer_name <|> g.free) p.read_layer_or_free layer-or-free-lawful c t e
 
 -- ---- uses
 
@@ -147,25 +147,25 @@ module _ (C : Type 0) (n : ℕ) (inner : Parser Ref) (law : Lawful (0 < n) (At g
   unfolding p.read_early
   early-lawful = level open_paren refl (λ _. ended after_ref close_paren uses.Early refl refl law)
 
-  named-begins : Begins names (λ floor m. keep_rule floor m / plain_rule floor m)
+  named-begins : Begins names (λ floor m. keep_rule floor m <|> plain_rule floor m)
   named-begins = begins-either (begins-then name-begins) (begins-then (begins-then name-begins))
 
-  arranged : Lawful C (λ floor m. early_rule floor m / keep_rule floor m / plain_rule floor m) n (p.read_use n inner) (stops_by (λ u. after_use))
+  arranged : Lawful C (λ floor m. early_rule floor m <|> keep_rule floor m <|> plain_rule floor m) n (p.read_use n inner) (stops_by (λ u. after_use))
   unfolding p.read_use
   arranged = alternative (exactly open_paren ∷ []) names early-lawful
       (chosen-ahead (begins names) (begins (exactly arrow ∷ [])) keep-lawful plain-lawful (begins2-one a_name name-begins (λ x. begins-then (token-begins arrow))).holds
-      (not-so (exactly arrow ∷ []) (λ u. after_use) (second-then (ref-second (g.layer_name / g.free)) (λ r. leads-nothing _)) refl (λ u. refl)) keep-accepts plain-accepts)
+      (not-so (exactly arrow ∷ []) (λ u. after_use) (second-then (ref-second (g.layer_name <|> g.free)) (λ r. leads-nothing _)) refl (λ u. refl)) keep-accepts plain-accepts)
       (begins-then (opener-begins open_paren)) named-begins refl
 
   pub use-lawful : Lawful C (At g.use_rule) n (p.read_use n inner) (stops_by (λ u. after_use))
   use-lawful = same-lawful to from (λ a t e. e) arranged
     where
-      to : (floor : ℕ → ℕ) (m : ℕ) (ts : Tokens) (u : Use) (rest : Tokens) → (early_rule floor m / keep_rule floor m / plain_rule floor m) ts u rest → At g.use_rule floor m ts u rest
+      to : (floor : ℕ → ℕ) (m : ℕ) (ts : Tokens) (u : Use) (rest : Tokens) → (early_rule floor m <|> keep_rule floor m <|> plain_rule floor m) ts u rest → At g.use_rule floor m ts u rest
       to floor m ts u rest (inl h) = inr (inl h)
       to floor m ts u rest (inr (inl h)) = inr (inr h)
       to floor m ts u rest (inr (inr h)) = inl h
 
-      from : (floor : ℕ → ℕ) (m : ℕ) (ts : Tokens) (u : Use) (rest : Tokens) → At g.use_rule floor m ts u rest → (early_rule floor m / keep_rule floor m / plain_rule floor m) ts u rest
+      from : (floor : ℕ → ℕ) (m : ℕ) (ts : Tokens) (u : Use) (rest : Tokens) → At g.use_rule floor m ts u rest → (early_rule floor m <|> keep_rule floor m <|> plain_rule floor m) ts u rest
       from floor m ts u rest (inl h) = inr (inr h)
       from floor m ts u rest (inr (inl h)) = inl h
       from floor m ts u rest (inr (inr h)) = inr (inl h)

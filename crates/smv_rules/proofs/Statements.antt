@@ -10,7 +10,7 @@ use Rattle.smv_core.specs.declared.tree.Arm.{roll-Arm}
 use Rattle.smv_core.specs.declared.tree.Kind.TheVariants as kind
 use Rattle.smv_core.specs.Signs.{open_paren, close_paren, open_brace, close_brace, colon, semicolon, comma, becomes, equal, less, at_most, plus, dot}
 use Rattle.smv_core.specs.Signs as w
-use Rattle.smv_core.specs.Notation.{Tokens, nothing, ◌>>=◌, ◌>>◌, ◌/◌, many, one, token, number_of, with_place, optional, positive}
+use Rattle.smv_core.specs.Notation.{Tokens, nothing, ◌>>=◌, ◌>>◌, ◌<|>◌, many, one, token, number_of, with_place, optional, positive}
 use Rattle.smv_core.specs.Grammar as g
 use Rattle.smv_core.specs.Grammar.{Turns, below, named}
 use Rattle.smv_core.specs.OpenIf.{ends_in_open_if}
@@ -164,16 +164,16 @@ from_if = exactly w.word_if ∷ from_switch
 abbrev pub worded_marks : List Mark
 worded_marks = exactly w.word_init ∷ exactly w.word_next ∷ from_if
 
-from-default-begins : Begins from_default (λ floor m. At g.default floor m / At g.for floor m)
+from-default-begins : Begins from_default (λ floor m. At g.default floor m <|> At g.for floor m)
 from-default-begins = begins-either (begins-wider (exactly w.word_default ∷ []) _ refl default-begins) (begins-wider (exactly w.word_for ∷ []) _ refl for-begins)
 
-from-switch-begins : Begins from_switch (λ floor m. At g.switch floor m / At g.default floor m / At g.for floor m)
+from-switch-begins : Begins from_switch (λ floor m. At g.switch floor m <|> At g.default floor m <|> At g.for floor m)
 from-switch-begins = begins-either (begins-wider (exactly w.word_switch ∷ []) _ refl switch-begins) (begins-wider from_default _ refl from-default-begins)
 
-from-if-begins : Begins from_if (λ floor m. At g.if_rule floor m / At g.switch floor m / At g.default floor m / At g.for floor m)
+from-if-begins : Begins from_if (λ floor m. At g.if_rule floor m <|> At g.switch floor m <|> At g.default floor m <|> At g.for floor m)
 from-if-begins = begins-either (begins-wider (exactly w.word_if ∷ []) _ refl if-begins) (begins-wider from_switch _ refl from-switch-begins)
 
-pub worded-begins : Begins worded_marks (λ floor m. At g.timed floor m / At g.if_rule floor m / At g.switch floor m / At g.default floor m / At g.for floor m)
+pub worded-begins : Begins worded_marks (λ floor m. At g.timed floor m <|> At g.if_rule floor m <|> At g.switch floor m <|> At g.default floor m <|> At g.for floor m)
 worded-begins = begins-either (begins-wider (exactly w.word_init ∷ exactly w.word_next ∷ []) _ refl timed-begins) (begins-wider from_if _ refl from-if-begins)
 
 assignment-begins : Begins (any_name ∷ []) (At g.assignment)
@@ -188,7 +188,7 @@ forall_rule floor m = g.opening floor m (below floor m) w.word_forall >>= λ at.
 abbrev block_rule : Levels Stmt
 block_rule floor m = g.opening floor m (below floor m) open_brace >> many (below floor m).stmt >>= λ parts. token close_brace >> nothing (stmt.Block parts)
 
-block-begins : Begins (exactly open_brace ∷ simple_marks) (λ floor m. block_rule floor m / At g.simple floor m)
+block-begins : Begins (exactly open_brace ∷ simple_marks) (λ floor m. block_rule floor m <|> At g.simple floor m)
 block-begins = begins-either (begins-wider (exactly open_brace ∷ []) _ refl (begins-then (opener-begins open_brace))) (begins-wider simple_marks _ refl simple-begins)
 
 pub stmt-begins : Begins stmt_marks (At g.stmt_rule)
@@ -373,7 +373,7 @@ module _ (C : Type 0) (n : ℕ) (inner : StmtReaders) (law : StmtLaws n inner) w
   shut : {F : Levels Stmt} {q : Parser Stmt} → Lawful C F n q (stops_by closed) → Lawful C F n q (stops_by after_stmt)
   shut f = continued closed after_stmt (λ x. refl) f
 
-  pub worded-lawful : Lawful C (λ floor m. At g.timed floor m / At g.if_rule floor m / At g.switch floor m / At g.default floor m / At g.for floor m) n (p.read_worded n inner) (stops_by after_stmt)
+  pub worded-lawful : Lawful C (λ floor m. At g.timed floor m <|> At g.if_rule floor m <|> At g.switch floor m <|> At g.default floor m <|> At g.for floor m) n (p.read_worded n inner) (stops_by after_stmt)
   unfolding p.read_worded
   worded-lawful = alternative (exactly w.word_init ∷ exactly w.word_next ∷ []) from_if (shut timed-lawful)
       (alternative (exactly w.word_if ∷ []) from_switch if-lawful

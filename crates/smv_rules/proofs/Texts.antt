@@ -5,7 +5,7 @@ use Rattle.smv_core.specs.declared.tree.Top.{Top}
 use Rattle.smv_core.specs.declared.tree.Top.TheVariants as top
 use Rattle.smv_core.specs.Signs.{open_paren, close_paren, open_brace, close_brace, semicolon, comma}
 use Rattle.smv_core.specs.Signs as w
-use Rattle.smv_core.specs.Notation.{nothing, ◌>>=◌, ◌>>◌, ◌/◌, many, token, name, separated_or_none}
+use Rattle.smv_core.specs.Notation.{nothing, ◌>>=◌, ◌>>◌, ◌<|>◌, many, token, name, separated_or_none}
 use Rattle.smv_core.specs.Grammar as g
 use Rattle.smv_core.specs.Grammar.{below}
 use Rattle.smv_rules.specs.Lawful.{Levels, Lawful}
@@ -37,10 +37,10 @@ module_body at x formals floor m = g.opening floor m (below floor m) open_brace 
 abbrev module_rule : Levels Top
 module_rule floor m = token w.word_module >>= λ at. name >>= λ x. g.opening floor m (below floor m) open_paren >> separated_or_none name >>= λ formals. token close_paren >> module_body at x formals floor m
 
-from-typedef-begins : Begins (exactly w.word_typedef ∷ exactly w.word_module ∷ []) (λ floor m. typedef_rule floor m / module_rule floor m)
+from-typedef-begins : Begins (exactly w.word_typedef ∷ exactly w.word_module ∷ []) (λ floor m. typedef_rule floor m <|> module_rule floor m)
 from-typedef-begins = begins-either (begins-wider (exactly w.word_typedef ∷ []) _ refl (begins-then (token-begins w.word_typedef))) (begins-wider (exactly w.word_module ∷ []) _ refl (begins-then (token-begins w.word_module)))
 
-from-ordset-begins : Begins (exactly w.word_ordset ∷ exactly w.word_typedef ∷ exactly w.word_module ∷ []) (λ floor m. ordset_rule floor m / typedef_rule floor m / module_rule floor m)
+from-ordset-begins : Begins (exactly w.word_ordset ∷ exactly w.word_typedef ∷ exactly w.word_module ∷ []) (λ floor m. ordset_rule floor m <|> typedef_rule floor m <|> module_rule floor m)
 from-ordset-begins = begins-either (begins-wider (exactly w.word_ordset ∷ []) _ refl (begins-then (token-begins w.word_ordset))) (begins-wider (exactly w.word_typedef ∷ exactly w.word_module ∷ []) _ refl from-typedef-begins)
 
 top-begins : Begins top_marks (At g.top_rule)
