@@ -24,3 +24,4 @@ pub mod Texts
 pub mod Whole
 pub mod Only
 pub mod Computing
+pub mod Steps
