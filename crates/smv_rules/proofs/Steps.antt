@@ -1,8 +1,8 @@
 -- What the code of a parser goes by: the steps of a loop, and the readers of the next level.
-use Rattle.std.proofs.Common.{◌≡◌, ◌-◌, ◌<◌, ◌≤◌, ℕ, zero, suc, Bool, true, false, cond, List, [], ◌∷◌, ◌++◌, length, length-append, Option, Ok, Err, refl, sym, ap, append_assoc, append-nil, arith}
+use Rattle.std.proofs.Common.{◌≡◌, ◌-◌, ◌<◌, ◌≤◌, ℕ, zero, suc, Bool, true, false, cond, List, [], ◌∷◌, ◌++◌, length, length-append, Option, Some, None, Ok, Err, refl, sym, ap, append_assoc, append-nil, arith}
 use Rattle.smv_core.specs.declared.token.Token.{Token}
 use Rattle.smv_core.specs.Notation.{Tokens}
-use Rattle.smv_rules.specs.Parsing.{Halt, Outcome, Parser, and_then, starts, turns, loop}
+use Rattle.smv_rules.specs.Parsing.{Halt, Outcome, Parser, and_then, pure, opened, take_open, starts, turns, loop}
 use Rattle.smv_rules.specs.Lawful.{Levels, Reads, Law}
 use Rattle.smv_rules.specs.Marks.{Mark, begins}
 use Rattle.smv_rules.specs.Expressions.{read_expr, read_negation, read_member, read_path, read_condition, expr_readers}
@@ -56,15 +56,15 @@ module _ {A : Type 0} (test : Token → Bool) (p : Parser A) (shrinks : Takes p)
   first-turn [] e = absurd cc
   first-turn (t ∷ ts) e = let l : length ts ≡ length (t ∷ ts) - 1 = omega arith in rw e (ap (λ (k : ℕ). after (p (t ∷ ts)) k) l)
 
-  pub loop-ends : (items : List A) (ts : Tokens) → starts test ts ≡ false → resumed items (loop test p ts) ≡ Ok (items, ts)
-  loop-ends items [] e = rw append-nil refl
-  loop-ends items (t ∷ ts) e = rw e (rw append-nil refl)
+  pub loop_ends : (items : List A) (ts : Tokens) → starts test ts ≡ false → resumed items (loop test p ts) ≡ Ok (items, ts)
+  loop_ends items [] e = rw append-nil refl
+  loop_ends items (t ∷ ts) e = rw e (rw append-nil refl)
 
-  pub loop-halts : (items : List A) (ts : Tokens) (h : Halt) → starts test ts ≡ true → p ts ≡ Err h → resumed items (loop test p ts) ≡ Err h
-  loop-halts items ts h e q = rw (first-turn ts e) (rw q refl)
+  pub loop_halts : (items : List A) (ts : Tokens) (h : Halt) → starts test ts ≡ true → p ts ≡ Err h → resumed items (loop test p ts) ≡ Err h
+  loop_halts items ts h e q = rw (first-turn ts e) (rw q refl)
 
-  pub loop-goes-on : (items : List A) (ts : Tokens) (a : A) (rest : Tokens) → starts test ts ≡ true → p ts ≡ Ok (a, rest) → resumed items (loop test p ts) ≡ resumed (items ++ a ∷ []) (loop test p rest)
-  loop-goes-on items ts a rest e q = rw (first-turn ts e) (rw q (rw same (go (loop test p rest))))
+  pub loop_goes_on : (items : List A) (ts : Tokens) (a : A) (rest : Tokens) → starts test ts ≡ true → p ts ≡ Ok (a, rest) → resumed items (loop test p ts) ≡ resumed (items ++ a ∷ []) (loop test p rest)
+  loop_goes_on items ts a rest e q = rw (first-turn ts e) (rw q (rw same (go (loop test p rest))))
     where
       same : turns test p (length ts - 1) rest ≡ loop test p rest
       same = let less = shrinks ts a rest q in enough (length ts - 1) (length rest) rest (omega arith) (omega arith)
@@ -75,58 +75,70 @@ module _ {A : Type 0} (test : Token → Bool) (p : Parser A) (shrinks : Takes p)
 
 -- ---- the readers of the next level
 
-pub next-expr : (n : ℕ) → 0 < n → (expr_readers n).expr ≡ read_expr (n - 1) (expr_readers (n - 1))
-next-expr zero l = absurd (omega arith)
-next-expr (suc n) l = let e : n ≡ suc n - 1 = omega arith in rw (← e) refl
+pub next_expr : (n : ℕ) → 0 < n → (expr_readers n).expr ≡ read_expr (n - 1) (expr_readers (n - 1))
+next_expr zero l = absurd (omega arith)
+next_expr (suc n) l = let e : n ≡ suc n - 1 = omega arith in rw (← e) refl
 
-pub next-negation : (n : ℕ) → 0 < n → (expr_readers n).negation ≡ read_negation (n - 1) (expr_readers (n - 1))
-next-negation zero l = absurd (omega arith)
-next-negation (suc n) l = let e : n ≡ suc n - 1 = omega arith in rw (← e) refl
+pub next_negation : (n : ℕ) → 0 < n → (expr_readers n).negation ≡ read_negation (n - 1) (expr_readers (n - 1))
+next_negation zero l = absurd (omega arith)
+next_negation (suc n) l = let e : n ≡ suc n - 1 = omega arith in rw (← e) refl
 
-pub next-member : (n : ℕ) → 0 < n → (expr_readers n).member ≡ read_member (n - 1) (expr_readers (n - 1))
-next-member zero l = absurd (omega arith)
-next-member (suc n) l = let e : n ≡ suc n - 1 = omega arith in rw (← e) refl
+pub next_member : (n : ℕ) → 0 < n → (expr_readers n).member ≡ read_member (n - 1) (expr_readers (n - 1))
+next_member zero l = absurd (omega arith)
+next_member (suc n) l = let e : n ≡ suc n - 1 = omega arith in rw (← e) refl
 
-pub next-type : (n : ℕ) → 0 < n → (type_readers n).type ≡ read_type (n - 1) (type_readers (n - 1))
-next-type zero l = absurd (omega arith)
-next-type (suc n) l = let e : n ≡ suc n - 1 = omega arith in rw (← e) refl
+pub next_type : (n : ℕ) → 0 < n → (type_readers n).type ≡ read_type (n - 1) (type_readers (n - 1))
+next_type zero l = absurd (omega arith)
+next_type (suc n) l = let e : n ≡ suc n - 1 = omega arith in rw (← e) refl
 
-pub next-field : (n : ℕ) → 0 < n → (type_readers n).field ≡ read_field (n - 1) (type_readers (n - 1))
-next-field zero l = absurd (omega arith)
-next-field (suc n) l = let e : n ≡ suc n - 1 = omega arith in rw (← e) refl
+pub next_field : (n : ℕ) → 0 < n → (type_readers n).field ≡ read_field (n - 1) (type_readers (n - 1))
+next_field zero l = absurd (omega arith)
+next_field (suc n) l = let e : n ≡ suc n - 1 = omega arith in rw (← e) refl
 
-pub next-path : (n : ℕ) → 0 < n → (stmt_readers n).path ≡ read_path (n - 1) (expr_readers (n - 1))
-next-path zero l = absurd (omega arith)
-next-path (suc n) l = let e : n ≡ suc n - 1 = omega arith in rw (← e) refl
+pub next_path : (n : ℕ) → 0 < n → (stmt_readers n).path ≡ read_path (n - 1) (expr_readers (n - 1))
+next_path zero l = absurd (omega arith)
+next_path (suc n) l = let e : n ≡ suc n - 1 = omega arith in rw (← e) refl
 
-pub next-condition : (n : ℕ) → 0 < n → (stmt_readers n).condition ≡ read_condition (n - 1) (expr_readers (n - 1))
-next-condition zero l = absurd (omega arith)
-next-condition (suc n) l = let e : n ≡ suc n - 1 = omega arith in rw (← e) refl
+pub next_condition : (n : ℕ) → 0 < n → (stmt_readers n).condition ≡ read_condition (n - 1) (expr_readers (n - 1))
+next_condition zero l = absurd (omega arith)
+next_condition (suc n) l = let e : n ≡ suc n - 1 = omega arith in rw (← e) refl
 
-pub next-binder : (n : ℕ) → 0 < n → (stmt_readers n).binder ≡ read_binder (n - 1)
-next-binder zero l = absurd (omega arith)
-next-binder (suc n) l = let e : n ≡ suc n - 1 = omega arith in rw (← e) refl
+pub next_binder : (n : ℕ) → 0 < n → (stmt_readers n).binder ≡ read_binder (n - 1)
+next_binder zero l = absurd (omega arith)
+next_binder (suc n) l = let e : n ≡ suc n - 1 = omega arith in rw (← e) refl
 
-pub next-stmt : (n : ℕ) → 0 < n → (stmt_readers n).stmt ≡ read_stmt (n - 1) (stmt_readers (n - 1))
-next-stmt zero l = absurd (omega arith)
-next-stmt (suc n) l = let e : n ≡ suc n - 1 = omega arith in rw (← e) refl
+pub next_stmt : (n : ℕ) → 0 < n → (stmt_readers n).stmt ≡ read_stmt (n - 1) (stmt_readers (n - 1))
+next_stmt zero l = absurd (omega arith)
+next_stmt (suc n) l = let e : n ≡ suc n - 1 = omega arith in rw (← e) refl
 
-pub next-arms : (n : ℕ) → 0 < n → (stmt_readers n).arms ≡ read_arms (n - 1) (stmt_readers (n - 1))
-next-arms zero l = absurd (omega arith)
-next-arms (suc n) l = let e : n ≡ suc n - 1 = omega arith in rw (← e) refl
+pub next_arms : (n : ℕ) → 0 < n → (stmt_readers n).arms ≡ read_arms (n - 1) (stmt_readers (n - 1))
+next_arms zero l = absurd (omega arith)
+next_arms (suc n) l = let e : n ≡ suc n - 1 = omega arith in rw (← e) refl
 
-pub next-turns : (n : ℕ) → 0 < n → (stmt_readers n).turns ≡ read_turns (n - 1)
-next-turns zero l = absurd (omega arith)
-next-turns (suc n) l = let e : n ≡ suc n - 1 = omega arith in rw (← e) refl
+pub next_turns : (n : ℕ) → 0 < n → (stmt_readers n).turns ≡ read_turns (n - 1)
+next_turns zero l = absurd (omega arith)
+next_turns (suc n) l = let e : n ≡ suc n - 1 = omega arith in rw (← e) refl
 
-pub next-ref : (n : ℕ) → 0 < n → (item_readers n).ref ≡ read_used (n - 1)
-next-ref zero l = absurd (omega arith)
-next-ref (suc n) l = let e : n ≡ suc n - 1 = omega arith in rw (← e) refl
+pub next_ref : (n : ℕ) → 0 < n → (item_readers n).ref ≡ read_used (n - 1)
+next_ref zero l = absurd (omega arith)
+next_ref (suc n) l = let e : n ≡ suc n - 1 = omega arith in rw (← e) refl
 
-pub next-item : (n : ℕ) → 0 < n → (item_readers n).item ≡ read_item (n - 1) (item_readers (n - 1))
-next-item zero l = absurd (omega arith)
-next-item (suc n) l = let e : n ≡ suc n - 1 = omega arith in rw (← e) refl
+pub next_item : (n : ℕ) → 0 < n → (item_readers n).item ≡ read_item (n - 1) (item_readers (n - 1))
+next_item zero l = absurd (omega arith)
+next_item (suc n) l = let e : n ≡ suc n - 1 = omega arith in rw (← e) refl
 
-pub next-body : (n : ℕ) → 0 < n → (item_readers n).body ≡ read_body (n - 1) (item_readers (n - 1))
-next-body zero l = absurd (omega arith)
-next-body (suc n) l = let e : n ≡ suc n - 1 = omega arith in rw (← e) refl
+pub next_body : (n : ℕ) → 0 < n → (item_readers n).body ≡ read_body (n - 1) (item_readers (n - 1))
+next_body zero l = absurd (omega arith)
+next_body (suc n) l = let e : n ≡ suc n - 1 = omega arith in rw (← e) refl
+
+-- ---- a level
+
+-- a token that opens a level, and then what stands in it
+pub open_then : {X A : Type 0} (read : Token → Option X) (n : ℕ) (f : X → Parser A) (ts : Tokens) → take_open read n f ts ≡ and_then (take_open read n (λ x. pure x) ts) f
+open_then {X = X} read n f [] = refl
+open_then {X = X} read n f (t ∷ ts) = go (read t) n
+  where
+    go : (o : Option X) (n : ℕ) → opened o n (t ∷ ts) f ts ≡ and_then (opened o n (t ∷ ts) (λ x. pure x) ts) f
+    go None n = refl
+    go (Some x) zero = refl
+    go (Some x) (suc n) = refl
