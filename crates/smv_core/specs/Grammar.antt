@@ -354,7 +354,7 @@ module _ (floor : ℕ → ℕ) (n : ℕ) (inner : Rules) where
 
   -- Ref := name { '.' name | '[' name ']' } [ '//' ( name | 'free' ) ], in a Use
   abbrev pub ref_rule : Rule Ref
-  ref_rule = ref_by ((token slashes >> layer_name <|> free) <|> nothing (None, false))
+  ref_rule = ref_by ((token slashes >> (layer_name <|> free)) <|> nothing (None, false))
 
   -- Use := Ref | '(' Ref ')' | name '->' '{' [ name { ',' name } ] '}'
   abbrev pub use_rule : Rule Use

@@ -21,7 +21,7 @@ use Rattle.smv_rules.specs.Parsing.{Parser, bind, pure, take, starts2}
 use Rattle.smv_rules.specs.Lawful.{Levels, Finishes, Lawful}
 use Rattle.smv_rules.specs.Marks.{Mark, any_name, any_number, exactly, has_mark, begins, stops_by}
 use Rattle.smv_rules.specs.Readers.{a_token, a_name, a_number, a_same_name, same_word}
-use Rattle.smv_rules.specs.Expressions.{ExprReaders, reductions, additions, comparisons}
+use Rattle.smv_rules.specs.Expressions.{ExprReaders, reductions, additions, comparisons, prim_marks, expr_marks}
 use Rattle.smv_rules.specs.Expressions as p
 use Rattle.smv_rules.proofs.Tokens.{pure-law, nothing-lawful, one-lawful, same-lawful}
 use Rattle.std.proofs.lemmas.Slice.Eq.{bytes_eq-Decides}
@@ -119,9 +119,6 @@ second-begins : Begins (any_name ∷ exactly open_paren ∷ exactly open_brace �
     (λ floor m. (At g.path_rule floor m >>= λ p. nothing (expr.Signal p)) <|> At g.condition_rule floor m <|> At g.set floor m <|> At g.reduction floor m)
 second-begins = begins-either (begins-wider (any_name ∷ []) _ refl (begins-then path-begins)) (begins-wider (exactly open_paren ∷ exactly open_brace ∷ exactly ampersand ∷ exactly bar ∷ []) _ refl third-begins)
 
-abbrev pub prim_marks : List Mark
-prim_marks = any_number ∷ any_name ∷ exactly open_paren ∷ exactly open_brace ∷ exactly ampersand ∷ exactly bar ∷ []
-
 prim-begins : Begins prim_marks (At g.prim)
 prim-begins = begins-either (begins-wider (any_number ∷ []) _ refl (begins-then number-begins)) (begins-wider (any_name ∷ exactly open_paren ∷ exactly open_brace ∷ exactly ampersand ∷ exactly bar ∷ []) _ refl second-begins)
 
@@ -133,9 +130,6 @@ sum-begins = begins-then prim-begins
 
 comparison-begins : Begins prim_marks (At g.comparison)
 comparison-begins = begins-then (begins-then sum-begins)
-
-abbrev pub expr_marks : List Mark
-expr_marks = exactly tilde ∷ prim_marks
 
 negation-begins : Begins expr_marks (At g.negation_rule)
 negation-begins = begins-either (begins-wider (exactly tilde ∷ []) _ refl (begins-then (opener-begins tilde))) (begins-wider prim_marks _ refl comparison-begins)
@@ -248,7 +242,7 @@ listed-not at = not-so-then {S = λ members floor m. token close_brace >> nothin
     (second-then member-second (λ x. leads-then (leads-many (begins-wider (exactly comma ∷ []) in_list refl (begins-then (token-begins comma)))) (λ more. leads-nothing _)))
     (λ members. begins-wider (exactly close_brace ∷ []) in_list refl (begins-then (token-begins close_brace))) refl
 
-name-token : (t : Token) → begins names t ≡ true → (x : Word) × (a_name t ≡ Some x)
+pub name-token : (t : Token) → begins names t ≡ true → (x : Word) × (a_name t ≡ Some x)
 name-token t e = go t.kind e
   where
     go : (kind : TokenKind) → has_mark names kind ≡ true → (x : Word) × (name_of t.at kind ≡ Some x)
@@ -275,7 +269,7 @@ made_span low high = (record { low = low.0; high = high.0 }, low.1)
 span-begins2 : Begins2 numbers (exactly dots ∷ []) (λ floor m. g.span)
 span-begins2 = begins2-one a_number number-begins (λ low. begins-then (token-begins dots))
 
-name-prim : (floor : ℕ → ℕ) (m : ℕ) (t : Token) (x : Word) (rest : Tokens) → a_name t ≡ Some x → At g.prim floor m (t ∷ rest) (expr.Signal (named x [])) rest
+pub name-prim : (floor : ℕ → ℕ) (m : ℕ) (t : Token) (x : Word) (rest : Tokens) → a_name t ≡ Some x → At g.prim floor m (t ∷ rest) (expr.Signal (named x [])) rest
 name-prim floor m t x rest e = inr (inl (named x [], rest, (x, rest, (e, refl), ([], rest, refl, (refl, refl))), (refl, refl)))
 
 module _ (n : ℕ) (inner : ExprReaders) (law : InnerLaws n inner) where

@@ -307,3 +307,11 @@ swapped {A = A} {F = F} {G = G} f = same-lawful to from (λ a t e. e) f
     from : (floor : ℕ → ℕ) (m : ℕ) (ts : Tokens) (a : A) (rest : Tokens) → (G floor m <|> F floor m) ts a rest → (F floor m <|> G floor m) ts a rest
     from floor m ts a rest (inl h) = inr h
     from floor m ts a rest (inr h) = inl h
+
+-- X Y, where X may be empty
+pub begins-after : {A B : Type 0} {xs : List Mark} {F : Levels A} {S : A → Levels B} → Leads xs F → ((a : A) → Begins xs (S a)) → Begins xs (λ floor m. F floor m >>= λ a. S a floor m)
+begins-after {xs = xs} f s = record { holds = λ floor m ts b rest h. go ts h.1 (f.holds floor m ts h.0 h.1 h.2) ((s h.0).holds floor m h.1 b rest h.3) }
+  where
+    go : (ts middle : Tokens) → (starts (begins xs) ts ≡ true) ⊎ (ts ≡ middle) → starts (begins xs) middle ≡ true → starts (begins xs) ts ≡ true
+    go ts middle (inl x) y = x
+    go ts middle (inr e) y = rw e y

@@ -11,3 +11,17 @@ pub mod Expressions
 pub mod Second
 pub mod One
 pub mod Types
+pub mod Shift
+pub mod Greedy
+pub mod OpenIf
+pub mod Noted
+pub mod Statements
+pub mod References
+pub mod Marked
+pub mod Items
+pub mod Bodies
+pub mod Texts
+pub mod Whole
+pub mod Only
+pub mod Computing
+pub mod Steps

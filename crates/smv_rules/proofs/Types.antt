@@ -15,7 +15,8 @@ use Rattle.smv_rules.specs.Readers.{read_separated, a_name}
 use Rattle.smv_rules.specs.Parsing.{take}
 use Rattle.smv_rules.specs.Types.{TypeReaders}
 use Rattle.smv_rules.specs.Types as p
-use Rattle.smv_rules.proofs.Forms.{Begins, begins-then, begins-either, begins-wider, token-begins, opener-begins, token-lawful, level, name-begins, name-lawful, closed, next, next-begun, repeated, alternative, made, ended, separated-lawful}
+use Rattle.smv_rules.proofs.Second.{Second, second-one, second-then, second-either, second-other}
+use Rattle.smv_rules.proofs.Forms.{leads-nothing, Begins, begins-then, begins-either, begins-wider, token-begins, opener-begins, token-lawful, level, name-begins, name-lawful, closed, next, next-begun, repeated, alternative, made, ended, separated-lawful}
 use Rattle.smv_rules.proofs.Expressions.{At, index-lawful, span-begins}
 use Rattle.smv_core.specs.Notation.{separated, name}
 
@@ -47,6 +48,18 @@ last-begins = begins-either (begins-wider (exactly w.word_array ∷ []) _ refl a
 
 later-begins : Begins (exactly open_brace ∷ exactly w.word_array ∷ exactly w.word_struct ∷ []) (λ floor m. At g.enumeration floor m <|> At g.array floor m <|> At g.structure floor m)
 later-begins = begins-either (begins-wider (exactly open_brace ∷ []) _ refl enumeration-begins) (begins-wider (exactly w.word_array ∷ exactly w.word_struct ∷ []) _ refl last-begins)
+
+abbrev pub type_marks : List Mark
+type_marks = exactly w.word_boolean ∷ any_number ∷ any_name ∷ exactly open_brace ∷ exactly w.word_array ∷ exactly w.word_struct ∷ []
+
+pub type-begins : Begins type_marks (At g.type_rule)
+type-begins = begins-either (begins-wider index_marks _ refl index-begins) (begins-wider (exactly open_brace ∷ exactly w.word_array ∷ exactly w.word_struct ∷ []) _ refl later-begins)
+
+-- the first token of a type is all of it, where it is a name
+pub type-second : (zs : List Mark) → Second (any_name ∷ []) zs (At g.type_rule)
+type-second zs = second-either (second-either (second-other (exactly w.word_boolean ∷ []) (begins-then (token-begins w.word_boolean)) refl)
+    (second-either (second-other (any_number ∷ []) (begins-then span-begins) refl) (second-then (second-one a_name) (λ x. leads-nothing _))))
+    (second-other (exactly open_brace ∷ exactly w.word_array ∷ exactly w.word_struct ∷ []) later-begins refl)
 
 field-begins : Begins (any_name ∷ []) (At g.field_rule)
 field-begins = begins-then names-begins

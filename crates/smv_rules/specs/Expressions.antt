@@ -20,8 +20,16 @@ use Rattle.smv_core.specs.Signs.{equal, differ, less, at_most, greater, at_least
 use Rattle.smv_core.specs.Signs as w
 use Rattle.smv_core.specs.Grammar.{named, chain, sum_of}
 use Rattle.smv_rules.specs.Parsing.{Halts, Parser, bind, pure, take, take_open, fork, fork2, loop}
-use Rattle.smv_rules.specs.Marks.{any_name, any_number, exactly, begins}
+use Rattle.smv_rules.specs.Marks.{Mark, any_name, any_number, exactly, begins}
 use Rattle.smv_rules.specs.Readers.{a_token, a_name, a_number, an_entry, a_same_name, maybe, read_separated}
+
+-- ---- what begins an expression
+
+abbrev pub prim_marks : List Mark
+prim_marks = any_number ∷ any_name ∷ exactly open_paren ∷ exactly open_brace ∷ exactly ampersand ∷ exactly bar ∷ []
+
+abbrev pub expr_marks : List Mark
+expr_marks = exactly tilde ∷ prim_marks
 
 -- ---- what opens no level
 

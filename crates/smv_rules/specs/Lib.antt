@@ -3,6 +3,10 @@ pub mod Lawful
 pub mod Marks
 pub mod Readers
 pub mod Expressions
+pub mod Types
+pub mod Statements
+pub mod References
+pub mod Items
 pub mod Laws
 pub mod Worked
-pub mod Types
+pub mod WorkedTexts

@@ -1,11 +1,11 @@
 -- What a parser reads from single tokens, and the forms that it is built in.
-use Rattle.std.specs.Prelude.{ℕ, if◌then◌else◌, List, [], ◌∷◌, Option, Some, None}
+use Rattle.std.specs.Prelude.{ℕ, if◌then◌else◌, List, [], ◌∷◌, Option, Some, None, Ok}
 use Rattle.std.specs.Str.{bytes_eq}
 use Rattle.smv_core.specs.declared.token.Token.{Token}
 use Rattle.smv_core.specs.declared.token.TokenKind.{TokenKind}
 use Rattle.smv_core.specs.declared.tree.Word.{Word}
-use Rattle.smv_core.specs.Notation.{same_kind, found, with_place, name_of, number_of}
-use Rattle.smv_rules.specs.Parsing.{Parser, bind, pure, take, fork, loop}
+use Rattle.smv_core.specs.Notation.{Tokens, same_kind, found, with_place, name_of, number_of}
+use Rattle.smv_rules.specs.Parsing.{Parser, and_then, bind, pure, take, fork, loop}
 use Rattle.smv_core.specs.Signs.{comma}
 use Rattle.smv_rules.specs.Marks.{Mark, exactly, begins}
 
@@ -39,3 +39,16 @@ a_same_name w t = same_word w (a_name t)
 -- X { ',' X }
 abbrev pub read_separated : {A : Type 0} → Parser A → Parser (List A)
 read_separated p = bind p (λ x. bind (loop (begins (exactly comma ∷ [])) (bind (take (a_token comma)) (λ _. p))) (λ more. pure (x ∷ more)))
+
+-- [ X { ',' X } ], where X begins with one of the marks
+abbrev pub read_separated_or_none : {A : Type 0} → List Mark → Parser A → Parser (List A)
+read_separated_or_none xs p = maybe xs (read_separated p) []
+
+-- what is read, and what is seen in the tokens ahead of it
+abbrev pub noting : {A B : Type 0} → (Tokens → B) → Parser A → Parser (A × B)
+noting f p ts = and_then (p ts) (λ a rest. Ok ((a, f ts), rest))
+
+-- where the tokens begin
+abbrev pub first_at : Tokens → ℕ
+first_at [] = 0
+first_at (t ∷ ts) = t.at
