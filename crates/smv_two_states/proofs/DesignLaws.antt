@@ -1,17 +1,16 @@
 -- What a list of plain items declares and says, outside layers and in no instance.
-use Rattle.std.proofs.Common.{◌≡◌, ℕ, zero, suc, List, [], ◌∷◌, ◌++◌, map, flat_map, filter, find, Option, Some, None, Bool, true, false, not, ◌&&◌, ◌||◌, if◌then◌else◌, refl, sym, ap, ◌∙◌, subst, true≢false, append_assoc}
+use Rattle.std.proofs.Common.{◌≡◌, ℕ, List, [], ◌∷◌, ◌++◌, map, flat_map, filter, Some, None, Bool, true, false, ◌&&◌, ◌||◌, if◌then◌else◌, refl, sym, ap, ◌∙◌, true≢false}
 use Rattle.std.specs.List.{list_any, list_all}
 use Rattle.std.specs.Str.{bytes_eq}
-use Rattle.std.proofs.lemmas.Slice.Eq.{bytes_eq-Decides}
-use Rattle.smv_core.specs.Values.{Name, Path, Value, number, Simple, range, Sizes, values_of}
-use Rattle.smv_core.specs.Types.{Family, names_of, shape_of, one_value}
-use Rattle.smv_core.specs.FlatOrder.{Design, design_of, Met, said, claimed, Said, Claimed, Body, families_of_item, item_met, declared_as}
-use Rattle.smv_core.specs.Outcome.{State, Scene, same_path, fields_of, allowed_by}
+use Rattle.smv_core.specs.Values.{Name, Path, Value, range, Sizes}
+use Rattle.smv_core.specs.Types.{Family, names_of, shape_of}
+use Rattle.smv_core.specs.FlatOrder.{Design, Met, Said, Claimed, Body, families_of_item, item_met, declared_as}
+use Rattle.smv_core.specs.Outcome.{State, allowed_by}
 use Rattle.smv_core.specs.Walk.{Element, Walk, walk, first, first_of, same_kind}
 use Rattle.smv_core.specs.Allowed.{said_in, is_layer, assignments_in, scene_at}
 use Rattle.smv_core.specs.Assignments.{concerns}
-use Rattle.smv_core.specs.Sound.{ProofUnit, claim_of, units_met}
-use Rattle.smv_core.specs.First.{is_plain, declared_in, claims_in, assigned_in, assigned_by}
+use Rattle.smv_core.specs.Sound.{claim_of, units_met}
+use Rattle.smv_core.specs.First.{is_plain, declared_in, claims_in, assigned_in}
 use Rattle.smv_core.specs.declared.tree.Word.{Word}
 use Rattle.smv_core.specs.declared.tree.Role.TheVariants.{Plain}
 use Rattle.smv_core.specs.declared.tree.Kind.{Kind}

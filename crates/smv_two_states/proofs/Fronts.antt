@@ -1,7 +1,7 @@
 -- The front of a run is a run, and what no front breaks at its last time holds at each time.
-use Rattle.std.proofs.Common.{◌≡◌, ℕ, zero, suc, List, [], ◌∷◌, take, Option, Some, None, All, Contains, ◌⊎◌, inl, inr, refl}
+use Rattle.std.proofs.Common.{ℕ, zero, suc, List, [], ◌∷◌, take, Option, Some, None}
 use Rattle.std.proofs.lemmas.List.Elements.{All-take}
-use Rattle.smv_core.specs.Values.{Value, Sizes}
+use Rattle.smv_core.specs.Values.{Sizes}
 use Rattle.smv_core.specs.FlatOrder.{Design}
 use Rattle.smv_core.specs.Outcome.{State}
 use Rattle.smv_core.specs.Sound.{AtEachTime, IsRun, IsTyped, MeetsBase}

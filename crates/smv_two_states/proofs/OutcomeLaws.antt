@@ -1,14 +1,14 @@
 -- In a design of one boolean signal the outcome of a logic expression is its value, and a right side allows that value alone.
-use Rattle.std.proofs.Common.{◌≡◌, ℕ, zero, suc, List, [], ◌∷◌, ◌++◌, map, Option, Some, None, Bool, true, false, not, ◌&&◌, ◌||◌, nat_eq, nat_le, if◌then◌else◌, refl, sym, ap, ◌∙◌, subst, true≢false, arith}
+use Rattle.std.proofs.Common.{◌≡◌, ℕ, zero, suc, List, [], ◌∷◌, map, Some, Bool, true, false, not, ◌&&◌, ◌||◌, nat_eq, nat_le, refl, sym, ap, ◌∙◌, true≢false, arith}
 use Rattle.std.specs.List.{list_any, list_all}
 use Rattle.std.specs.Str.{bytes_eq}
 use Rattle.std.proofs.lemmas.Bool.{leb-true}
-use Rattle.smv_core.specs.Values.{Name, Value, number, range, Sizes, Outcome, Truth, truth, bit, not_of, and_of, or_of, implies_of, conjunction, disjunction, implication, values_of as type_values}
+use Rattle.smv_core.specs.Values.{Name, Value, number, Sizes, Outcome, Truth, truth, bit, not_of, and_of, or_of, implies_of, conjunction, disjunction, implication}
 use Rattle.smv_core.specs.FlatOrder.{Design, Met}
 use Rattle.smv_core.specs.Outcome.{State, Scene, outcome, truths, indexes, read, fields_of, allowed_by, fit}
 use Rattle.smv_core.specs.Allowed.{scene_at}
 use Rattle.smv_core.specs.First.{is_logic, are_logic, is_one_of, has_part}
-use Rattle.smv_core.specs.declared.tree.Part.{Part, Field, At}
+use Rattle.smv_core.specs.declared.tree.Part.{Part, Field}
 use Rattle.smv_core.specs.declared.tree.Expr.{Expr, Number, Signal', Not', And', Or', Implies', Row_of-Expr, end_of-Expr, more_of-Expr, items-the_row-Part}
 use Rattle.smv_two_states.specs.Table.{value_of, values_of, implied, digit}
 use Rattle.smv_two_states.proofs.Stable.{both_true}

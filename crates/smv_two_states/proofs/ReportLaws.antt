@@ -1,6 +1,5 @@
 -- The one unit of a first design, and its verdict.
-use Rattle.std.proofs.Common.{◌≡◌, ◌≤◌, ℕ, zero, suc, List, [], ◌∷◌, ◌++◌, map, flat_map, length, Option, Some, None, Bool, true, false, if◌then◌else◌, All, refl, sym, ap, ◌∙◌, subst, arith}
-use Rattle.std.specs.Str.{bytes_eq}
+use Rattle.std.proofs.Common.{◌≡◌, List, [], ◌∷◌, map, flat_map, Some, Bool, true, false, if◌then◌else◌, refl, sym, ap, ◌∙◌, subst}
 use Rattle.std.proofs.lemmas.Slice.Eq.{bytes_eq-Decides}
 use Rattle.std.proofs.lemmas.List.Elements.{All-nil, All-cons, All-same}
 use Rattle.smv_core.specs.Values.{Name, Path, Sizes, number, bit}
@@ -8,14 +7,14 @@ use Rattle.smv_core.specs.Types.{Family, IsSizedTop}
 use Rattle.smv_core.specs.FlatOrder.{Design, design_of, Met, Body, main, met_in, families_in, families_of_item, item_met, body_of}
 use Rattle.smv_core.specs.Allowed.{said_in, scene_at}
 use Rattle.smv_core.specs.Outcome.{State, outcome}
-use Rattle.smv_core.specs.Sound.{ProofUnit, claim_of, units, units_met, once, AreSizes}
-use Rattle.smv_core.specs.Verdict.{IsViolating, IsShortest, IsTrueUnit, IsVerdict, IsReport, AreResults, Shows, elements, written_element, number_in}
+use Rattle.smv_core.specs.Sound.{claim_of, units, once, AreSizes}
+use Rattle.smv_core.specs.Verdict.{IsViolating, IsShortest, IsTrueUnit, IsVerdict, IsReport, AreResults, Shows, elements, number_in}
 use Rattle.smv_core.specs.First.{First, IsFirst, is_logic}
 use Rattle.smv_core.specs.declared.tree.Expr.{Expr}
 use Rattle.smv_core.specs.declared.tree.Text.{Text}
 use Rattle.smv_core.specs.declared.tree.Top.{Top}
 use Rattle.smv_core.specs.declared.tree.Top.TheVariants.{Module}
-use Rattle.smv_core.specs.declared.report.Verdict.TheVariants.{True, False}
+use Rattle.smv_core.specs.declared.report.Verdict.TheVariants.{True}
 use Rattle.smv_two_states.specs.Table.{unit_of, value_of, start, after, breaks, digit, shown_at, verdict_of, result_of}
 use Rattle.smv_two_states.proofs.PartLaws.{append_nil}
 use Rattle.smv_two_states.proofs.DesignLaws.{boolean, said_here, acts_in, claimed_here, families-plain, said-plain, units-plain}

@@ -1,25 +1,25 @@
 -- The runs of a design of one boolean signal, and which of them break its claim.
-use Rattle.std.proofs.Common.{◌≡◌, ◌≤◌, ◌⊎◌, inl, inr, ℕ, zero, suc, List, [], ◌∷◌, ◌++◌, map, length, flat_map, Option, Some, None, Bool, true, false, not, if◌then◌else◌, All, Contains, refl, sym, ap, ◌∙◌, subst, true≢false, arith, unwrap_or}
+use Rattle.std.proofs.Common.{◌≡◌, ◌≤◌, ◌⊎◌, inl, inr, List, [], ◌∷◌, map, length, flat_map, Option, Some, None, Bool, true, false, not, if◌then◌else◌, All, Contains, refl, sym, ap, ◌∙◌, subst, true≢false, arith, unwrap_or}
 use Rattle.std.specs.Str.{bytes_eq}
 use Rattle.std.specs.List.{list_all, list_any}
 use Rattle.std.proofs.lemmas.Slice.Eq.{bytes_eq-Decides}
-use Rattle.std.proofs.lemmas.List.Elements.{All-nil, All-cons, All-head, All-tail, All-contains}
-use Rattle.smv_core.specs.Values.{Name, Value, number, bit, range, Sizes, values_of as type_values}
+use Rattle.std.proofs.lemmas.List.Elements.{All-nil, All-cons, All-head, All-contains}
+use Rattle.smv_core.specs.Values.{Name, Value, number, bit, Sizes, values_of as type_values}
 use Rattle.smv_core.specs.Types.{Family}
-use Rattle.smv_core.specs.FlatOrder.{Design, Met, said, claimed, Claimed}
-use Rattle.smv_core.specs.Outcome.{State, Scene, outcome, allowed_by, same_path}
-use Rattle.smv_core.specs.Walk.{Element, Walk, walk, first}
+use Rattle.smv_core.specs.FlatOrder.{Design, Met}
+use Rattle.smv_core.specs.Outcome.{State, outcome, allowed_by}
+use Rattle.smv_core.specs.Walk.{Element, Walk, first}
 use Rattle.smv_core.specs.Allowed.{allowed, allowed_by_base, scene_at, definition_set, said_in, is_concerned, every_value, walk_set}
-use Rattle.smv_core.specs.Sound.{ProofUnit, indexes_in, claim_of, EachElement, IsTyped, MeetsBase, IsRun, Holds, AtEachTime, instances}
+use Rattle.smv_core.specs.Sound.{indexes_in, EachElement, IsTyped, MeetsBase, AtEachTime, instances}
 use Rattle.smv_core.specs.Verdict.{AtLastTime, IsViolating}
 use Rattle.smv_core.specs.First.{First, is_plain, is_logic, assigned_in}
 use Rattle.smv_core.specs.declared.tree.Kind.{Kind}
 use Rattle.smv_core.specs.declared.tree.Kind.TheVariants.{Comb, Init, Next}
 use Rattle.smv_core.specs.declared.tree.Expr.{Expr}
 use Rattle.smv_core.specs.declared.tree.Item.{Item}
-use Rattle.smv_two_states.specs.Table.{unit_of, value_of, start, after, breaks, digit}
-use Rattle.smv_two_states.proofs.DesignLaws.{concerns_it, walk_it, first_named, boolean, said_here, claimed_here, acts_in, outside-layers, concerned-plain, walk-plain, element}
-use Rattle.smv_two_states.proofs.OutcomeLaws.{shown, one, every, outcome-is, allowed-is, bit_is_shown, logic-none, value-none}
+use Rattle.smv_two_states.specs.Table.{unit_of, value_of, start, after, breaks}
+use Rattle.smv_two_states.proofs.DesignLaws.{concerns_it, walk_it, first_named, boolean, said_here, acts_in, outside-layers, concerned-plain, walk-plain, element}
+use Rattle.smv_two_states.proofs.OutcomeLaws.{shown, one, every, outcome-is, allowed-is, logic-none, value-none}
 
 all_one : {X : Type 0} (P : X → Type 0) (v : X) → P v → All P (v ∷ [])
 all_one P v p = All-cons P v [] p (All-nil P)

@@ -1,5 +1,5 @@
 -- The equations of the value of an expression, over lists of parts.
-use Rattle.std.proofs.Common.{◌≡◌, ℕ, List, [], ◌∷◌, map, refl, ap, ◌∙◌, Bool, true, false, not, ◌||◌, ◌<◌, ◌+◌, suc, drop, length, get_or, drop-cons, add-one, arith}
+use Rattle.std.proofs.Common.{◌≡◌, ℕ, List, [], ◌∷◌, map, refl, ap, ◌∙◌, Bool, false, not, length, arith}
 use Rattle.std.specs.List.{list_all, list_any}
 use mathlib.Core.Former.{Count}
 use Rattle.smv_two_states.specs.Table.{value_of, values_of, implied}

@@ -1,12 +1,12 @@
 -- What verdicts say: a design whose units are all true is sound, and a unit has one verdict.
-use Rattle.std.proofs.Common.{◌≡◌, ◌≤◌, ℕ, zero, suc, List, [], ◌∷◌, take, map, length, Option, Some, None, All, Contains, refl, sym, ap, ◌∙◌, subst, arith}
+use Rattle.std.proofs.Common.{◌≡◌, ◌≤◌, ℕ, suc, List, [], ◌∷◌, take, map, length, Some, None, All, Contains, refl, ap, ◌∙◌, subst, arith}
 use Rattle.std.proofs.lemmas.List.Elements.{All-nil, All-cons, All-head, All-tail, All-contains_itself, All-weaker}
 use Rattle.std.proofs.lemmas.List.{length-map}
 use Rattle.smv_core.specs.Values.{Value, Sizes}
-use Rattle.smv_core.specs.FlatOrder.{Design, design_of}
+use Rattle.smv_core.specs.FlatOrder.{design_of}
 use Rattle.smv_core.specs.Outcome.{State}
 use Rattle.smv_core.specs.Sound.{ProofUnit, AtEachTime, AreSizes, IsRun, Holds, IsSound, instances, units}
-use Rattle.smv_core.specs.Verdict.{AtLastTime, IsViolating, IsShortest, IsTrueUnit, IsVerdict, AreResults, IsReport}
+use Rattle.smv_core.specs.Verdict.{IsTrueUnit, IsVerdict, AreResults, IsReport}
 use Rattle.smv_core.specs.declared.tree.Text.{Text}
 use Rattle.smv_core.specs.declared.report.Verdict.{Verdict}
 use Rattle.smv_core.specs.declared.report.Verdict.TheVariants.{True, False}

@@ -1,6 +1,6 @@
 -- The table of a first design: the value of its signal at time 0, the value after each value, and the values that break its claim.
 -- The laws `values_are_outcomes` and `the_table_decides` tie it to what the language means, so that nothing here has to be believed.
-use Rattle.std.specs.Prelude.{◌≡◌, ℕ, List, [], ◌∷◌, map, Bool, true, false, not, ◌&&◌, ◌||◌, nat_eq, if◌then◌else◌}
+use Rattle.std.specs.Prelude.{ℕ, List, [], ◌∷◌, map, Bool, true, false, not, ◌||◌, nat_eq, if◌then◌else◌}
 use Rattle.std.specs.List.{list_all, list_any}
 use Rattle.smv_core.specs.First.{First}
 use Rattle.smv_core.specs.Sound.{ProofUnit, claim_of}

@@ -1,5 +1,5 @@
 -- What two reports of one design have in common.
-use Rattle.std.specs.Prelude.{◌≡◌, ℕ, Option, Some, None, List, length}
+use Rattle.std.specs.Prelude.{◌≡◌, ℕ, Option, Some, None, length}
 use Rattle.smv_core.specs.declared.report.Verdict.{Verdict}
 use Rattle.smv_core.specs.declared.report.Verdict.TheVariants.{True, False}
 use Rattle.smv_core.specs.declared.report.UnitResult.{UnitResult}

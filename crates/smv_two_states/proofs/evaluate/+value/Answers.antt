@@ -1,5 +1,4 @@
-use Rattle.std.proofs.Common.{◌≡◌, length, refl, sym, subst}
-use Rattle.smv_two_states.specs.Table.{value_of}
+use Rattle.std.proofs.Common.{◌≡◌, length, refl, subst}
 use Rattle.smv_two_states.proofs.ValueLaws.{value_of-Not, value_of-no_parts}
 use Rattle.smv_two_states.proofs.evaluate.+value.Goals as goal
 

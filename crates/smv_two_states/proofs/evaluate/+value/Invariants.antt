@@ -1,4 +1,4 @@
-use Rattle.std.proofs.Common.{◌≡◌, map, drop, not, ◌++◌, [], ◌∷◌}
+use Rattle.std.proofs.Common.{◌≡◌, map, drop, ◌++◌, [], ◌∷◌}
 use Rattle.std.specs.List.{list_all, list_any}
 use Rattle.smv_two_states.specs.Table.{value_of, implied}
 use Rattle.smv_two_states.proofs.evaluate.+value.Given as goal

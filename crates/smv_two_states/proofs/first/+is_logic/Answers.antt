@@ -1,5 +1,4 @@
-use Rattle.std.proofs.Common.{◌≡◌, refl}
-use Rattle.smv_core.specs.First.{is_logic}
+use Rattle.std.proofs.Common.{refl}
 use Rattle.smv_two_states.proofs.LogicLaws.{is_logic-Not}
 use Rattle.smv_two_states.proofs.first.+is_logic.Goals as goal
 

@@ -1,5 +1,4 @@
-use Rattle.std.proofs.Common.{◌≡◌, ◌∙◌, sym, refl}
-use Rattle.smv_core.specs.First.{IsFirst}
+use Rattle.std.proofs.Common.{◌∙◌, sym, refl}
 use Rattle.smv_two_states.specs.Table.{first_of}
 use Rattle.smv_two_states.proofs.PartLaws.{is_first}
 use Rattle.smv_two_states.proofs.first.first_design.Goals as goal

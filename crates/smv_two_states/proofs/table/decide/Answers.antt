@@ -1,5 +1,4 @@
-use Rattle.std.proofs.Common.{◌≡◌, subst, sym}
-use Rattle.smv_core.specs.First.{IsFirst}
+use Rattle.std.proofs.Common.{subst, sym}
 use Rattle.smv_core.specs.Verdict.{IsReport}
 use Rattle.smv_two_states.specs.Table.{first_of}
 use Rattle.smv_two_states.proofs.ReportLaws.{report-right}
