@@ -94,7 +94,7 @@ pub record InnerLaws (n : ℕ) (inner : ExprReaders) : Type 0 where
 
 -- ---- how expressions begin
 
-part-begins : Begins after_path (At g.part_rule)
+pub part-begins : Begins after_path (At g.part_rule)
 part-begins = begins-either (begins-wider (exactly dot ∷ []) _ refl (begins-then (token-begins dot))) (begins-wider (exactly open_bracket ∷ []) _ refl (begins-then (opener-begins open_bracket)))
 
 pub path-begins : Begins (any_name ∷ []) (At g.path_rule)
@@ -122,7 +122,7 @@ second-begins = begins-either (begins-wider (any_name ∷ []) _ refl (begins-the
 prim-begins : Begins prim_marks (At g.prim)
 prim-begins = begins-either (begins-wider (any_number ∷ []) _ refl (begins-then number-begins)) (begins-wider (any_name ∷ exactly open_paren ∷ exactly open_brace ∷ exactly ampersand ∷ exactly bar ∷ []) _ refl second-begins)
 
-signed-begins : Begins (exactly plus ∷ exactly minus ∷ []) (At g.signed)
+pub signed-begins : Begins (exactly plus ∷ exactly minus ∷ []) (At g.signed)
 signed-begins = begins-then (entry-begins additions)
 
 pub sum-begins : Begins prim_marks (At g.sum)
@@ -307,7 +307,7 @@ module _ (n : ℕ) (inner : ExprReaders) (law : InnerLaws n inner) where
       ) refl
 
 module _ (C : Type 0) (n : ℕ) (inner : ExprReaders) (law : InnerLaws n inner) where
-  part-lawful : Lawful C (At g.part_rule) n (p.read_part n inner) (stops_by closed)
+  pub part-lawful : Lawful C (At g.part_rule) n (p.read_part n inner) (stops_by closed)
   unfolding p.read_part
   part-lawful = alternative (exactly dot ∷ []) (exactly open_bracket ∷ []) (next (token-lawful dot refl) (λ _. next name-lawful (λ x. nothing-lawful _)))
       (level open_bracket refl (λ _. ended after_expr close_bracket part.At refl refl law.expr)) (begins-then (token-begins dot)) (begins-then (opener-begins open_bracket)) refl
@@ -342,7 +342,7 @@ module _ (C : Type 0) (n : ℕ) (inner : ExprReaders) (law : InnerLaws n inner) 
       set-begins reduction-begins refl) condition-begins fourth-begins refl)
       (begins-then path-begins) third-begins refl) (begins-then number-begins) second-begins refl
 
-  signed-lawful : Lawful C (At g.signed) n (p.read_signed n inner) (stops_by (λ x. after_path))
+  pub signed-lawful : Lawful C (At g.signed) n (p.read_signed n inner) (stops_by (λ x. after_path))
   unfolding p.read_signed
   signed-lawful = next (entry-lawful plus false ((minus, true) ∷ []) refl) (λ sign. made after_path _ prim-lawful)
 

@@ -25,3 +25,4 @@ pub mod Whole
 pub mod Only
 pub mod Computing
 pub mod Steps
+pub mod Taken

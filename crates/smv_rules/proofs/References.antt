@@ -48,10 +48,10 @@ layer-or-free-lawful = alternative (any_name ∷ []) (exactly w.word_free ∷ []
 abbrev pub after_ref : List Mark
 after_ref = exactly slashes ∷ after_path
 
-ref-part-begins : Begins after_path (At g.ref_part)
+pub ref-part-begins : Begins after_path (At g.ref_part)
 ref-part-begins = begins-either (begins-wider (exactly dot ∷ []) _ refl (begins-then (token-begins dot))) (begins-wider (exactly open_bracket ∷ []) _ refl (begins-then in-brackets-begins))
 
-ref-part-lawful : {C : Type 0} (n : ℕ) → Lawful C (At g.ref_part) n (p.read_ref_part n) (stops_by closed)
+pub ref-part-lawful : {C : Type 0} (n : ℕ) → Lawful C (At g.ref_part) n (p.read_ref_part n) (stops_by closed)
 unfolding p.read_ref_part
 ref-part-lawful n = alternative (exactly dot ∷ []) (exactly open_bracket ∷ []) (next (token-lawful dot refl) (λ _. next name-lawful (λ x. nothing-lawful _)))
     (next (in-brackets-lawful n) (λ x. nothing-lawful _)) (begins-then (token-begins dot)) (begins-then in-brackets-begins) refl

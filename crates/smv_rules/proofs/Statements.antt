@@ -308,14 +308,14 @@ module _ (n : ℕ) (inner : StmtReaders) (law : StmtLaws n inner) where
 
   -- ---- statements, of which the readers of the next level are given
 
-  arm-lawful : Lawful (0 < n) (λ floor m. At g.arm floor (suc m)) (n - 1) (p.read_arm n inner) (stops_by (λ x. else_marks))
+  pub arm-lawful : Lawful (0 < n) (λ floor m. At g.arm floor (suc m)) (n - 1) (p.read_arm n inner) (stops_by (λ x. else_marks))
   unfolding p.read_arm
   arm-lawful = next-begun (exactly colon ∷ []) (λ x. exactly comma ∷ []) (separated-lawful closed (exactly comma ∷ []) label-lawful (λ x. refl) refl (λ x. refl))
       (λ labels. next (token-lawful colon refl) (λ _. made else_marks (λ body. roll-Arm (record { labels = labels; body = body }))
       (continued after_stmt (λ x. else_marks) (λ x. open-covered else_marks refl (ends_in_open_if x)) law.stmt)))
       (λ labels. begins-then (token-begins colon)) (λ labels. refl)
 
-  arm-begins : Begins (any_number ∷ any_name ∷ []) (λ floor m. At g.arm floor (suc m))
+  pub arm-begins : Begins (any_number ∷ any_name ∷ []) (λ floor m. At g.arm floor (suc m))
   arm-begins = begins-then (begins-then label-begins)
 
   other-lawful : Lawful (0 < n) (λ floor m. optional (token w.word_default >> token colon >> (below floor (suc m)).stmt)) (n - 1) (p.read_other n inner) (stops_by (λ o. exactly w.word_default ∷ else_marks))

@@ -43,7 +43,7 @@ from-typedef-begins = begins-either (begins-wider (exactly w.word_typedef ∷ []
 from-ordset-begins : Begins (exactly w.word_ordset ∷ exactly w.word_typedef ∷ exactly w.word_module ∷ []) (λ floor m. ordset_rule floor m <|> typedef_rule floor m <|> module_rule floor m)
 from-ordset-begins = begins-either (begins-wider (exactly w.word_ordset ∷ []) _ refl (begins-then (token-begins w.word_ordset))) (begins-wider (exactly w.word_typedef ∷ exactly w.word_module ∷ []) _ refl from-typedef-begins)
 
-top-begins : Begins top_marks (At g.top_rule)
+pub top-begins : Begins top_marks (At g.top_rule)
 top-begins = begins-either (begins-wider (exactly w.word_scalarset ∷ []) _ refl (begins-then (token-begins w.word_scalarset)))
     (begins-wider (exactly w.word_ordset ∷ exactly w.word_typedef ∷ exactly w.word_module ∷ []) _ refl from-ordset-begins)
 

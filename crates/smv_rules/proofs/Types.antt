@@ -61,7 +61,7 @@ type-second zs = second-either (second-either (second-other (exactly w.word_bool
     (second-either (second-other (any_number ∷ []) (begins-then span-begins) refl) (second-then (second-one a_name) (λ x. leads-nothing _))))
     (second-other (exactly open_brace ∷ exactly w.word_array ∷ exactly w.word_struct ∷ []) later-begins refl)
 
-field-begins : Begins (any_name ∷ []) (At g.field_rule)
+pub field-begins : Begins (any_name ∷ []) (At g.field_rule)
 field-begins = begins-then names-begins
 
 -- the laws of what stands inside an opened level, where there is one

@@ -1,6 +1,8 @@
 -- The whole list of tokens: the reader's answer is right, and no other is.
 use Rattle.std.proofs.Common.{◌≡◌, ◌<◌, ◌≤◌, ◌+◌, ℕ, zero, suc, nat_lt, Bool, true, false, cond, List, [], ◌∷◌, ◌++◌, Some, Ok, Err, ◌⊎◌, inl, inr, refl, sym, ◌∙◌, ap, subst, append_assoc, arith}
 use Rattle.std.proofs.lemmas.Bool.{ltb-true, lt-ltb}
+use Rattle.std.proofs.Common.{◌-◌, drop, length, length-append}
+use Rattle.std.proofs.Math.Seq.{drop-append_seam}
 use Rattle.smv_core.specs.declared.token.Token.{Token}
 use Rattle.smv_core.specs.declared.tree.Top.{Top}
 use Rattle.smv_core.specs.Notation.{Tokens}
@@ -174,3 +176,13 @@ answered n length ts = go (read_tops n ts) refl
     go (Err (Halts false bad)) q = unexpected n length ts bad (halted n ts false bad q)
     go (Err (Halts true [])) q = absurd (halted n ts true [] q).at_token
     go (Err (Halts true (t ∷ rest))) q = too-deep n length ts t rest (halted n ts true (t ∷ rest) q)
+
+-- the tokens where the reader halts are the last ones, as many as are left
+pub halts_at_last : (n : ℕ) (ts : Tokens) (deep : Bool) (bad : Tokens) → read_text n ts ≡ Err (Halts deep bad) → (length bad ≤ length ts) × (drop (length ts - length bad) ts ≡ bad)
+halts_at_last n ts deep bad e = go (refusal n ts deep bad e)
+  where
+    go : Refusal n ts deep bad → (length bad ≤ length ts) × (drop (length ts - length bad) ts ≡ bad)
+    go u =
+        let s : length ts ≡ length u.front + length bad = ap length u.split ∙ length-append u.front bad in
+        let k : length ts - length bad ≡ length u.front = omega arith in
+        (omega arith, rw k (rw u.split (drop-append_seam u.front bad)))
