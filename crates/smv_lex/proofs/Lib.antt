@@ -1,0 +1,4 @@
+pub mod Numbered
+pub mod Fronts
+pub mod Lexing
+pub mod Longest
