@@ -2,3 +2,4 @@ pub mod Numbered
 pub mod Fronts
 pub mod Lexing
 pub mod Longest
+pub mod Comments

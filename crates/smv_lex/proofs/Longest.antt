@@ -45,7 +45,7 @@ broken-right text number one two three four = (one, two, three, four)
 
 -- ---- fronts of which all bytes pass
 
-all-taken : (p : ℕ → Bool) (bytes : List ℕ) → list_all p (take_while p bytes) ≡ true
+pub all-taken : (p : ℕ → Bool) (bytes : List ℕ) → list_all p (take_while p bytes) ≡ true
 all-taken p [] = refl
 all-taken p (b ∷ bytes) = rw (take_while-cons p b bytes) (by (p b) refl (all-taken p bytes))
   where
@@ -56,7 +56,7 @@ all-taken p (b ∷ bytes) = rw (take_while-cons p b bytes) (by (p b) refl (all-t
 cons-taken : (p : ℕ → Bool) (b : ℕ) (bytes : List ℕ) → p b ≡ true → take_while p (b ∷ bytes) ≡ b ∷ take_while p bytes
 cons-taken p b bytes passes = take_while-cons p b bytes ∙ ap (λ r. cond r (b ∷ take_while p bytes) []) passes
 
-taken : (p : ℕ → Bool) (bytes : List ℕ) → take (length (take_while p bytes)) bytes ≡ take_while p bytes
+pub taken : (p : ℕ → Bool) (bytes : List ℕ) → take (length (take_while p bytes)) bytes ≡ take_while p bytes
 taken p bytes = ap (λ n. take n bytes) (length-prefix_len p bytes)
 
 -- a front of which all bytes pass is no longer than the one that is taken

@@ -2,3 +2,4 @@ pub mod Spellings
 pub mod Lexing
 pub mod Answers
 pub mod Longest
+pub mod Comments

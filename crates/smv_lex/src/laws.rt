@@ -4,6 +4,7 @@ ghost use Rattle.smv_core.specs.declared.token.TokenKind.{TokenKind};
 ghost use Rattle.smv_core.specs.declared.token.TokenKind.TheVariants.{Number};
 ghost use Rattle.smv_lex.specs.declared.front.Front.TheVariants.{Passed, Whole, Broken};
 ghost use Rattle.smv_lex.specs.Lexing.{front_of, lexed_from, with_token, lexed};
+ghost use Rattle.smv_lex.specs.Comments.{PassesBlock, PassesLine};
 ghost use Rattle.smv_lex.specs.Longest.{IsLongest, is_word, HasNoToken, HasGreatNumber, HasLongWord, HasOpenComment};
 ghost use Rattle.smv_lex.specs.Spellings.{signs, reserved_words};
 
@@ -33,4 +34,10 @@ pub fn faults_of_a_place()
 pub fn spellings_are_tokens()
     ensures signs { map (λ entry. lexed entry.1) signs ≡ map (λ entry. Ok (record { kind = entry.0; at = 0 } ∷ [])) signs }
     ensures words { map (λ entry. lexed entry.1) reserved_words ≡ map (λ entry. Ok (record { kind = entry.0; at = 0 } ∷ [])) reserved_words }
+{}
+
+/// What a comment is: up to the first `*/` behind its `/*`, or up to the end of its line.
+pub fn comments_are_passed()
+    ensures block { (text : List ℕ) → PassesBlock text }
+    ensures line { (text : List ℕ) → PassesLine text }
 {}
