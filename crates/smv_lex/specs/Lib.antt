@@ -1,0 +1,5 @@
+pub mod Spellings
+pub mod Lexing
+pub mod Answers
+pub mod Longest
+pub mod Comments

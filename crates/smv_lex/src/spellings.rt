@@ -1,0 +1,91 @@
+// The signs and the reserved words by their bytes.
+ghost use Rattle.std.specs.Prelude.{◌≡◌, ◌<◌, length, map, position, IfSome};
+ghost use Rattle.std.specs.Str.{bytes_eq};
+ghost use Rattle.smv_lex.specs.Spellings.{signs, reserved_words, spelled_in};
+
+use smv_core::token::TokenKind;
+
+// Each at its place in the list of the language.
+const SIGNS: [&[u8]; 27] = [
+    b"(", b")", b"[", b"]", b"{", b"}", b":", b";", b",", b".", b"..", b":=", b"=", b"~=", b"<",
+    b"<=", b">", b">=", b"+", b"-", b"~", b"&", b"|", b"->", b"<->", b"?", b"//",
+];
+
+const RESERVED: [&[u8]; 33] = [
+    b"abstract",
+    b"array",
+    b"assert",
+    b"boolean",
+    b"default",
+    b"else",
+    b"F",
+    b"for",
+    b"forall",
+    b"free",
+    b"G",
+    b"if",
+    b"in",
+    b"init",
+    b"input",
+    b"layer",
+    b"mod",
+    b"module",
+    b"next",
+    b"of",
+    b"ordset",
+    b"output",
+    b"prove",
+    b"scalarset",
+    b"struct",
+    b"subcase",
+    b"switch",
+    b"typedef",
+    b"U",
+    b"undefined",
+    b"using",
+    b"W",
+    b"X",
+];
+
+/// The sign that has these bytes.
+#[tactic(auto, using(crate::proofs::Numbered::signs_by_place))]
+pub fn sign_of(bytes: &[u8]) -> Option<TokenKind>
+    ensures { result ≡ spelled_in signs bytes.now }
+{
+    match sign_place(bytes) {
+        Some(place) => Some(TokenKind::Sign(place as u8)),
+        None => None,
+    }
+}
+
+/// The reserved word that has these bytes.
+#[tactic(auto, using(crate::proofs::Numbered::words_by_place))]
+pub fn reserved_of(bytes: &[u8]) -> Option<TokenKind>
+    ensures { result ≡ spelled_in reserved_words bytes.now }
+{
+    match reserved_place(bytes) {
+        Some(place) => Some(TokenKind::Reserved(place as u8)),
+        None => None,
+    }
+}
+
+fn sign_place(bytes: &[u8]) -> Option<usize>
+    ensures place { result ≡ position (λ word. bytes_eq word bytes.now) (map (λ entry. entry.1) signs) }
+    ensures small { IfSome result (λ place. place < 27) }
+{
+    place_of(&SIGNS, bytes)
+}
+
+fn reserved_place(bytes: &[u8]) -> Option<usize>
+    ensures place { result ≡ position (λ word. bytes_eq word bytes.now) (map (λ entry. entry.1) reserved_words) }
+    ensures small { IfSome result (λ place. place < 33) }
+{
+    place_of(&RESERVED, bytes)
+}
+
+fn place_of(words: &[&[u8]], bytes: &[u8]) -> Option<usize>
+    ensures place { result ≡ position (λ word. bytes_eq word.now bytes.now) words.now }
+    ensures small { IfSome result (λ place. place < length words.now) }
+{
+    words.iter().position(|word| *word == bytes)
+}
