@@ -186,7 +186,7 @@ impl Store {
         answer
     }
 
-    // Doubles the chains where there are more nodes than chains.
+    // Makes more chains where there are more nodes than chains.
     fn make_room(&mut self)
         ensures stays { Stays self.old self.new }
         ensures calls { self.new.calls ≡ self.old.calls }

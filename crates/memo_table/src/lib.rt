@@ -138,7 +138,7 @@ fn put(
     Ok(())
 }
 
-// Twice as many chains, with each entry in its own; and room for as many entries.
+// Four times as many chains, with each entry in its own; and room for more entries.
 fn grow(entries: &mut Vec<Entry>, heads: &Vec<u32>) -> Result<Vec<u32>, AllocError>
     requires table { IsTable entries.old.items heads.now.items }
     ensures table { IfOk result (λ fresh. IsTable entries.new.items fresh.items) }
@@ -147,12 +147,12 @@ fn grow(entries: &mut Vec<Entry>, heads: &Vec<u32>) -> Result<Vec<u32>, AllocErr
     ensures err { OnErr result (entries.new.items ≡ entries.old.items) }
 {
     let len = heads.len();
-    if len >= 0x8000_0000 {
+    if len >= 0x4000_0000 {
         return Err(AllocError);
     }
-    let wide = if len == 0 { 16 } else { 2 * len };
+    let wide = if len == 0 { 16 } else { 4 * len };
     let mut fresh = vec![in *heads.allocator(); 0; wide]?;
-    entries.reserve(wide - entries.len())?;
+    entries.reserve(len + 16)?;
     link_all(entries, &mut fresh);
     Ok(fresh)
 }
