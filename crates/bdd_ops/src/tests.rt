@@ -97,8 +97,14 @@ fn asks_of_functions(rt: HostRuntime) -> Result<(), Fail> {
     assert!(rt; !implies(rt.alloc(), &store, f, second)?);
     assert!(rt; pick(rt.alloc(), &store, never)?.is_none());
     assert!(rt; pick(rt.alloc(), &store, f)?.is_some());
-    assert_eq!(rt; support(rt.alloc(), &store, f)?.as_slice(), [true, true].as_slice());
-    assert_eq!(rt; support(rt.alloc(), &store, second)?.as_slice(), [false, true].as_slice());
+    assert_eq!(rt;
+        support(rt.alloc(), &store, f)?.as_slice(),
+        [true, true].as_slice()
+    );
+    assert_eq!(rt;
+        support(rt.alloc(), &store, second)?.as_slice(),
+        [false, true].as_slice()
+    );
     Ok(())
 }
 

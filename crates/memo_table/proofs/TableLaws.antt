@@ -61,6 +61,7 @@ module _ (len : ℕ) (old new : List Entry) (heads : List ℕ) (n b : ℕ) (chai
           let e = get_or-set_other heads b c (n + 1) 0 ne in
           let past = leads_past len new c n (head_at heads c) (λ is. ne (sym is ∙ is_b)) (leads_kept len n old new c n (head_at heads c) agree (omega arith) (chained.starts c lt)) in
           subst (LeadsTo len new c (n + 1)) (sym e) past
+
       here : c ≡ b → LeadsTo len new c (n + 1) (head_at (set heads b (n + 1)) c)
       here e =
           let h : head_at (set heads b (n + 1)) b ≡ n + 1 = get_or-set_same heads b (n + 1) 0 (omega (arith, within, is_len)) in
@@ -193,5 +194,6 @@ set_same_results es i x lt same j = elim (cases_lt j i) [
   where
     other : j ≢ i → result_at (set es i x) j ≡ result_at es j
     other ne = ap (λ (y : Entry). ((y.first, y.second), y.answer)) (get_or-set_other es i j x no_entry ne)
+
     here : j ≡ i → result_at (set es i x) j ≡ result_at es j
     here e = subst (λ k. result_at (set es i x) k ≡ result_at es k) (sym e) (ap (λ (y : Entry). ((y.first, y.second), y.answer)) (get_or-set_same es i x no_entry lt) ∙ same)
