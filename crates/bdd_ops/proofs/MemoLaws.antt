@@ -3,13 +3,13 @@ use Rattle.std.proofs.Common.{◌≡◌, ℕ, suc, ◌+◌, ◌*◌, ◌≤◌, 
 use Rattle.std.proofs.Math.Path.{fun_ext}
 use Rattle.std.specs.List.{IsDistinct, AllByRecursion}
 use Rattle.std.specs.Map.{lookup, keys_of}
-use Rattle.std.specs.HashMap.{get, Updates}
 use Rattle.std.proofs.lemmas.Bool.Decides.{nat_tests}
 use Rattle.bdd_store.specs.declared.Ref.{Ref}
 use Rattle.bdd_store.specs.Diagram.{Diagram, IsLive, IsSound, IsProper, Reaches, Keeps, table, first_var, beads}
 use Rattle.bdd_store.proofs.Few.{IsPairBelow, few_pairs_below}
 use Rattle.bdd_ops.specs.Functions.{Function}
-use Rattle.bdd_ops.specs.Memo.{joined, Results, same_one, same_pair, IsJoin, IsImage, AreJoins, AreImages, PairsBelow, OnesBelow}
+use Rattle.memo_table.specs.Results.{Results, same_pair, result_of}
+use Rattle.bdd_ops.specs.Memo.{joined, same_one, IsJoin, IsImage, AreJoins, AreImages, AreOnce, PairsBelow, OnesBelow}
 use Rattle.bdd_ops.proofs.FewOnes.{IsBelow, few_ones_below}
 
 pub keeps_after : (a b c : Diagram) → Keeps a b → Keeps b c → Keeps a c
@@ -74,29 +74,50 @@ if_some_both (Some x) P Q R f is other = f x is other
 
 module _ {K : Type 0} (same : K → K → Bool) (test : IsTest same) where
   -- P holds of each key that is kept and its result
-  abbrev pub Holds : (K → Ref → Type 0) → Results K → Type 0
-  Holds P m = (p : K) → IfSome (get same m p) (P p)
+  abbrev pub Holds : (K → Ref → Type 0) → List (K × Ref) → Type 0
+  Holds P m = (p : K) → IfSome (lookup (same p) m) (P p)
 
   -- the memo after a result is put at a key
-  put_cases : (m n : Results K) (k q : K) (r : Ref) → get same n q ≡ cond (same k q) (Some r) (get same m q) → (P : Option Ref → Type 0) → (k ≡ q → P (Some r)) → P (get same m q) → P (get same n q)
-  put_cases m n k q r e P at_key other = subst P (sym e) (by_test (same k q) refl)
+  put_cases : (m n : List (K × Ref)) (k q : K) (r : Ref) → n ≡ (k, r) ∷ m → (P : Option Ref → Type 0) → (k ≡ q → P (Some r)) → P (lookup (same q) m) → P (lookup (same q) n)
+  put_cases m n k q r e P at_key other = subst P (sym (ap (lookup (same q)) e)) (by_test (same q k) refl)
     where
-      by_test : (t : Bool) → same k q ≡ t → P (cond t (Some r) (get same m q))
-      by_test true is = at_key (test.is k q is)
+      by_test : (t : Bool) → same q k ≡ t → P (cond t (Some r) (lookup (same q) m))
+      by_test true is = at_key (sym (test.is q k is))
       by_test false is = other
 
-  pub holds_put : (P : K → Ref → Type 0) (m n : Results K) (k : K) (r : Ref) → Updates same m n k (Some r) → Holds P m → P k r → Holds P n
-  holds_put P m n k r updates holds answer q = put_cases m n k q r (updates.0 q) (λ o. IfSome o (P q)) (λ e. subst (λ p. P p r) e answer) (holds q)
+  pub holds_put : (P : K → Ref → Type 0) (m n : List (K × Ref)) (k : K) (r : Ref) → n ≡ (k, r) ∷ m → Holds P m → P k r → Holds P n
+  holds_put P m n k r put holds answer q = put_cases m n k q r put (λ o. IfSome o (P q)) (λ e. subst (λ p. P p r) e answer) (holds q)
 
   -- another key keeps its result
-  pub put_other : (m n : Results K) (k q : K) (r : Ref) → Updates same m n k (Some r) → (k ≡ q → ⊥) → get same n q ≡ get same m q
-  put_other m n k q r updates apart = put_cases m n k q r (updates.0 q) (λ o. o ≡ get same m q) (λ e. absurd (apart e)) refl
+  pub put_other : (m n : List (K × Ref)) (k q : K) (r : Ref) → n ≡ (k, r) ∷ m → (k ≡ q → ⊥) → lookup (same q) n ≡ lookup (same q) m
+  put_other m n k q r put apart = put_cases m n k q r put (λ o. o ≡ lookup (same q) m) (λ e. absurd (apart e)) refl
 
-  pub holds_same : (P : K → Ref → Type 0) (m n : Results K) → n.entries ≡ m.entries → Holds P m → Holds P n
-  holds_same P m n e holds p = subst (λ es. IfSome (lookup (same p) es) (P p)) (sym e) (holds p)
+  pub holds_same : (P : K → Ref → Type 0) (m n : List (K × Ref)) → n ≡ m → Holds P m → Holds P n
+  holds_same P m n e holds = subst (Holds P) (sym e) holds
 
-  pub holds_empty : (P : K → Ref → Type 0) (m : Results K) → m.entries ≡ [] → Holds P m
-  holds_empty P m empty p = subst (λ (es : List (K × Ref)). IfSome {T = Ref} (lookup (same p) es) (P p)) (sym empty) tt
+  pub holds_empty : (P : K → Ref → Type 0) (m : List (K × Ref)) → m ≡ [] → Holds P m
+  holds_empty P m empty = subst (Holds P) (sym empty) (λ p. tt)
+
+  -- a key that is not found is no key
+  none_same : (k : K) (m : List (K × Ref)) → lookup (same k) m ≡ None → AllByRecursion (λ y. same k y ≡ false) (keys_of m)
+  none_same k [] e = tt
+  none_same k (x ∷ xs) e = by_test (same k x.0) refl e (none_same k xs)
+    where
+      by_test : (t : Bool) → same k x.0 ≡ t → cond t (Some x.1) (lookup (same k) xs) ≡ None → (lookup (same k) xs ≡ None → AllByRecursion (λ y. same k y ≡ false) (keys_of xs)) → AllByRecursion (λ y. same k y ≡ false) (keys_of (x ∷ xs))
+      by_test true is e rest = absurd (let f : Some x.1 ≡ None = e in cc)
+      by_test false is e rest = (is, rest e)
+
+  -- keys stay distinct where one is added that was not found
+  pub once_put : (m n : List (K × Ref)) (k : K) (r : Ref) → n ≡ (k, r) ∷ m → lookup (same k) m ≡ None → IsDistinct same (keys_of m) → IsDistinct same (keys_of n)
+  unfolding IsDistinct
+  once_put m n k r put absent once = subst (λ es. IsDistinct same (keys_of es)) (sym put) (none_same k m absent, once)
+
+  pub once_same : (m n : List (K × Ref)) → n ≡ m → IsDistinct same (keys_of m) → IsDistinct same (keys_of n)
+  once_same m n e once = subst (λ es. IsDistinct same (keys_of es)) (sym e) once
+
+  pub once_empty : (m : List (K × Ref)) → m ≡ [] → IsDistinct same (keys_of m)
+  unfolding IsDistinct
+  once_empty m empty = subst (λ es. IsDistinct same (keys_of es)) (sym empty) tt
 
   -- what holds at each key that is found holds of each key
   pub each_key : (B : K → Type 0) (es : List (K × Ref)) → ((q : K) → IfSome (lookup (same q) es) (λ r. B q)) → AllByRecursion B (keys_of es)
@@ -118,6 +139,16 @@ pub length_keys : {K : Type 0} (es : List (K × Ref)) → length (keys_of es) �
 length_keys [] = refl
 length_keys (e ∷ es) = ap suc (length_keys es)
 
+-- what is found is right
+pub join_found : (unit : Bool) (d : Diagram) (m : Results) (p : Ref × Ref) (r : Ref) → Some r ≡ result_of m p → AreJoins unit d m → IsJoin unit d p r
+join_found unit d m p r e are = subst (λ o. IfSome {T = Ref} o (IsJoin unit d p)) (sym e) (are p)
+
+pub image_found : (T : Function → Function) (back : ℕ) (d : Diagram) (m : Results) (p : Ref × Ref) (r : Ref) → Some r ≡ result_of m p → AreImages T back d m → IsImage T back d p r
+image_found T back d m p r e are = subst (λ o. IfSome {T = Ref} o (IsImage T back d p)) (sym e) (are p)
+
+pub one_longer : (m n : Results) (x : (Ref × Ref) × Ref) → n ≡ x ∷ m → length n ≡ length m + 1
+one_longer m n x e = ap length e ∙ let f : suc (length m) ≡ length m + 1 = omega arith in f
+
 -- results stay right as the store grows
 join_kept : (unit : Bool) (d e : Diagram) → Keeps d e → (p : Ref × Ref) (r : Ref) → IsJoin unit d p r → IsJoin unit e p r
 join_kept unit d e keeps p r is = record {
@@ -130,48 +161,83 @@ join_kept unit d e keeps p r is = record {
   table = λ a. keeps.tables r is.live a ∙ is.table a ∙ ap (λ x. joined unit x (table d p.1 a)) (sym (keeps.tables p.0 is.first_live a)) ∙ ap (λ x. joined unit (table e p.0 a) x) (sym (keeps.tables p.1 is.second_live a));
 }
 
-pub joins_kept : (unit : Bool) (d e : Diagram) (m : Results (Ref × Ref)) → Keeps d e → AreJoins unit d m → AreJoins unit e m
-joins_kept unit d e m keeps are p = if_some_map (get same_pair m p) (IsJoin unit d p) (IsJoin unit e p) (join_kept unit d e keeps p) (are p)
+pub joins_kept : (unit : Bool) (d e : Diagram) (m : Results) → Keeps d e → AreJoins unit d m → AreJoins unit e m
+joins_kept unit d e m keeps are p = if_some_map (result_of m p) (IsJoin unit d p) (IsJoin unit e p) (join_kept unit d e keeps p) (are p)
 
-image_kept : (T : Function → Function) (back : ℕ) (d e : Diagram) → Keeps d e → (p r : Ref) → IsImage T back d p r → IsImage T back e p r
+image_kept : (T : Function → Function) (back : ℕ) (d e : Diagram) → Keeps d e → (p : Ref × Ref) (r : Ref) → IsImage T back d p r → IsImage T back e p r
 image_kept T back d e keeps p r is = record {
-  from_live = keeps.live p is.from_live;
-  from_proper = proper_kept d e keeps p is.from_live is.from_proper;
+  twice = is.twice;
+  from_live = keeps.live p.0 is.from_live;
+  from_proper = proper_kept d e keeps p.0 is.from_live is.from_proper;
   live = keeps.live r is.live;
-  first = rw (keeps.firsts p is.from_live, keeps.firsts r is.live) is.first;
-  table = λ a. keeps.tables r is.live a ∙ is.table a ∙ ap (λ t. T t a) (sym (same_table d e keeps p is.from_live));
+  first = rw (keeps.firsts p.0 is.from_live, keeps.firsts r is.live) is.first;
+  table = λ a. keeps.tables r is.live a ∙ is.table a ∙ ap (λ t. T t a) (sym (same_table d e keeps p.0 is.from_live));
 }
 
-pub images_kept : (T : Function → Function) (back : ℕ) (d e : Diagram) (m : Results Ref) → Keeps d e → AreImages T back d m → AreImages T back e m
-images_kept T back d e m keeps are p = if_some_map (get same_one m p) (IsImage T back d p) (IsImage T back e p) (image_kept T back d e keeps p) (are p)
+pub images_kept : (T : Function → Function) (back : ℕ) (d e : Diagram) (m : Results) → Keeps d e → AreImages T back d m → AreImages T back e m
+images_kept T back d e m keeps are p = if_some_map (result_of m p) (IsImage T back d p) (IsImage T back e p) (image_kept T back d e keeps p) (are p)
 
 -- and their operands below what they were below
-pub pairs_kept : (unit : Bool) (d e : Diagram) (m : Results (Ref × Ref)) (t u : Ref) → Keeps d e → AreJoins unit d m → IsLive d t → IsLive d u → PairsBelow d t u m → PairsBelow e t u m
+pub pairs_kept : (unit : Bool) (d e : Diagram) (m : Results) (t u : Ref) → Keeps d e → AreJoins unit d m → IsLive d t → IsLive d u → PairsBelow d t u m → PairsBelow e t u m
 pairs_kept unit d e m t u keeps are live_t live_u below p =
-    if_some_both (get same_pair m p) (IsJoin unit d p) (λ r. Reaches d t p.0 × Reaches d u p.1) (λ r. Reaches e t p.0 × Reaches e u p.1)
+    if_some_both (result_of m p) (IsJoin unit d p) (λ r. Reaches d t p.0 × Reaches d u p.1) (λ r. Reaches e t p.0 × Reaches e u p.1)
     (λ r join reached. (keeps.reached t p.0 live_t join.first_live reached.0, keeps.reached u p.1 live_u join.second_live reached.1)) (are p) (below p)
 
-pub ones_kept : (T : Function → Function) (back : ℕ) (d e : Diagram) (m : Results Ref) (t : Ref) → Keeps d e → AreImages T back d m → IsLive d t → OnesBelow d t m → OnesBelow e t m
+pub ones_kept : (T : Function → Function) (back : ℕ) (d e : Diagram) (m : Results) (t : Ref) → Keeps d e → AreImages T back d m → IsLive d t → OnesBelow d t m → OnesBelow e t m
 ones_kept T back d e m t keeps are live_t below p =
-    if_some_both (get same_one m p) (IsImage T back d p) (λ r. Reaches d t p) (λ r. Reaches e t p) (λ r image. keeps.reached t p live_t image.from_live) (are p) (below p)
+    if_some_both (result_of m p) (IsImage T back d p) (λ r. Reaches d t p.0) (λ r. Reaches e t p.0) (λ r image. keeps.reached t p.0 live_t image.from_live) (are p) (below p)
 
 -- a memo has at most as many results as there are pairs of nodes
-pub few_joins : (unit : Bool) (d : Diagram) (m : Results (Ref × Ref)) (f g : Ref) → IsSound d → IsLive d f → IsLive d g → AreJoins unit d m → PairsBelow d f g m → IsDistinct same_pair (keys_of m.entries) → length m.entries ≤ beads d f * beads d g
+pub few_joins : (unit : Bool) (d : Diagram) (m : Results) (f g : Ref) → IsSound d → IsLive d f → IsLive d g → AreJoins unit d m → PairsBelow d f g m → AreOnce m → length m ≤ beads d f * beads d g
 few_joins unit d m f g ok live_f live_g are below distinct =
-    let all : AllByRecursion (IsPairBelow d f g) (keys_of m.entries) = each_key same_pair pair_test (IsPairBelow d f g) m.entries (λ q.
-    if_some_both (get same_pair m q) (IsJoin unit d q) (λ r. Reaches d f q.0 × Reaches d g q.1) (λ r. IsPairBelow d f g q)
+    let all : AllByRecursion (IsPairBelow d f g) (keys_of m) = each_key same_pair pair_test (IsPairBelow d f g) m (λ q.
+    if_some_both (result_of m q) (IsJoin unit d q) (λ r. Reaches d f q.0 × Reaches d g q.1) (λ r. IsPairBelow d f g q)
     (λ r join reached. record { first = reached.0; first_proper = join.first_proper; second = reached.1; second_proper = join.second_proper }) (are q) (below q)) in
-    let few = few_pairs_below d ok f g live_f live_g (keys_of m.entries) distinct all in
-    omega (arith, few, length_keys m.entries)
+    let few = few_pairs_below d ok f g live_f live_g (keys_of m) distinct all in
+    omega (arith, few, length_keys m)
 
--- or nodes
-pub few_images : (T : Function → Function) (back : ℕ) (d : Diagram) (m : Results Ref) (f : Ref) → IsSound d → IsLive d f → AreImages T back d m → OnesBelow d f m → IsDistinct same_one (keys_of m.entries) → length m.entries ≤ beads d f
+-- or nodes, where each is both operands
+pub record IsTwiceBelow (d : Diagram) (f : Ref) (p : Ref × Ref) : Type 0 where
+  pub twice : p.0 ≡ p.1
+  pub below : IsBelow d f p.0
+
+abbrev firsts : List (Ref × Ref) → List Ref
+firsts [] = []
+firsts (p ∷ ps) = p.0 ∷ firsts ps
+
+length_firsts : (ps : List (Ref × Ref)) → length (firsts ps) ≡ length ps
+length_firsts [] = refl
+length_firsts (p ∷ ps) = ap suc (length_firsts ps)
+
+both_false : (s : Bool) → s && s ≡ false → s ≡ false
+both_false true e = e
+both_false false e = e
+
+apart_firsts : (p q : Ref × Ref) → p.0 ≡ p.1 → q.0 ≡ q.1 → same_pair p q ≡ false → same_one p.0 q.0 ≡ false
+apart_firsts p q twice_p twice_q e =
+    let same : same_one p.0 q.0 ≡ same_one p.1 q.1 = ap (λ x. same_one x q.0) twice_p ∙ ap (λ x. same_one p.1 x) twice_q in
+    both_false (same_one p.0 q.0) (ap (λ t. same_one p.0 q.0 && t) same ∙ e)
+
+all_apart : (d : Diagram) (f : Ref) (p : Ref × Ref) (ps : List (Ref × Ref)) → p.0 ≡ p.1 → AllByRecursion (IsTwiceBelow d f) ps → AllByRecursion (λ q. same_pair p q ≡ false) ps → AllByRecursion (λ q. same_one p.0 q ≡ false) (firsts ps)
+all_apart d f p [] twice all apart = tt
+all_apart d f p (q ∷ qs) twice all apart = (apart_firsts p q twice all.0.twice apart.0, all_apart d f p qs twice all.1 apart.1)
+
+distinct_firsts : (d : Diagram) (f : Ref) (ps : List (Ref × Ref)) → AllByRecursion (IsTwiceBelow d f) ps → IsDistinct same_pair ps → IsDistinct same_one (firsts ps)
+unfolding IsDistinct
+distinct_firsts d f [] all distinct = tt
+distinct_firsts d f (p ∷ ps) all distinct = (all_apart d f p ps all.0.twice all.1 distinct.0, distinct_firsts d f ps all.1 distinct.1)
+
+firsts_below : (d : Diagram) (f : Ref) (ps : List (Ref × Ref)) → AllByRecursion (IsTwiceBelow d f) ps → AllByRecursion (IsBelow d f) (firsts ps)
+firsts_below d f [] all = tt
+firsts_below d f (p ∷ ps) all = (all.0.below, firsts_below d f ps all.1)
+
+pub few_images : (T : Function → Function) (back : ℕ) (d : Diagram) (m : Results) (f : Ref) → IsSound d → IsLive d f → AreImages T back d m → OnesBelow d f m → AreOnce m → length m ≤ beads d f
 few_images T back d m f ok live_f are below distinct =
-    let all : AllByRecursion (IsBelow d f) (keys_of m.entries) = each_key same_one one_test (IsBelow d f) m.entries (λ q.
-    if_some_both (get same_one m q) (IsImage T back d q) (λ r. Reaches d f q) (λ r. IsBelow d f q)
-    (λ r image reached. record { reached = reached; proper = image.from_proper }) (are q) (below q)) in
-    let few = few_ones_below d ok f live_f (keys_of m.entries) distinct all in
-    omega (arith, few, length_keys m.entries)
+    let all : AllByRecursion (IsTwiceBelow d f) (keys_of m) = each_key same_pair pair_test (IsTwiceBelow d f) m (λ q.
+    if_some_both (result_of m q) (IsImage T back d q) (λ r. Reaches d f q.0) (λ r. IsTwiceBelow d f q)
+    (λ r image reached. record { twice = image.twice; below = record { reached = reached; proper = image.from_proper } }) (are q) (below q)) in
+    let few = few_ones_below d ok f live_f (firsts (keys_of m)) (distinct_firsts d f (keys_of m) all distinct) (firsts_below d f (keys_of m) all) in
+    omega (arith, few, length_keys m, length_firsts (keys_of m))
 
 pub joined_cond : (unit x : Bool) (f1 f0 g1 g0 : Bool) → cond x (joined unit f1 g1) (joined unit f0 g0) ≡ joined unit (cond x f1 f0) (cond x g1 g0)
 joined_cond unit true f1 f0 g1 g0 = refl

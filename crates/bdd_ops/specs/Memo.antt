@@ -2,10 +2,12 @@
 use Rattle.std.specs.Prelude.{◌≡◌, ℕ, ◌-◌, ◌+◌, ◌≤◌, Bool, true, ◌&&◌, ◌||◌, ◌==◌, not, if◌then◌else◌, min, IfSome, List}
 use Rattle.std.specs.declared.hash.FoldHasher.{FoldHasher}
 use Rattle.std.specs.declared.hash.BuildHasherDefault.{BuildHasherDefault}
-use Rattle.std.specs.HashMap.{get, HashMap}
+use Rattle.std.specs.List.{IsDistinct}
+use Rattle.std.specs.Map.{keys_of}
 use Rattle.std.specs.HashSet.{contains, HashSet}
 use Rattle.bdd_store.specs.declared.Ref.{Ref}
 use Rattle.bdd_store.specs.Diagram.{Diagram, IsLive, IsProper, Reaches, table, first_var}
+use Rattle.memo_table.specs.Results.{Results, same_pair, result_of}
 use Rattle.bdd_ops.specs.Functions.{Function, depends, bit_at}
 
 -- conjunction where its unit is true, and disjunction where it is false
@@ -16,17 +18,11 @@ joined unit x y = if unit then x && y else (x || y)
 abbrev pub changed : ℕ → Bool → Function → Function
 changed back flip f a = if flip then not (f (λ v. a (v - back))) else f (λ v. a (v - back))
 
-abbrev pub Results : Type 0 → Type 0
-Results K = HashMap K Ref (BuildHasherDefault FoldHasher)
-
 abbrev pub Known : Type 0 → Type 0
 Known K = HashSet K (BuildHasherDefault FoldHasher)
 
 abbrev pub same_one : Ref → Ref → Bool
 same_one p q = p.place == q.place
-
-abbrev pub same_pair : Ref × Ref → Ref × Ref → Bool
-same_pair p q = p.0.place == q.0.place && p.1.place == q.1.place
 
 -- the result that is kept for a pair is right
 pub record IsJoin (unit : Bool) (d : Diagram) (p : Ref × Ref) (r : Ref) : Type 0 where
@@ -38,27 +34,33 @@ pub record IsJoin (unit : Bool) (d : Diagram) (p : Ref × Ref) (r : Ref) : Type 
   pub first : min (first_var d p.0) (first_var d p.1) ≤ first_var d r
   pub table : (a : ℕ → Bool) → table d r a ≡ joined unit (table d p.0 a) (table d p.1 a)
 
--- the result that is kept for a Ref is right: what T makes of its table, and at most so many variables before it
-pub record IsImage (T : Function → Function) (back : ℕ) (d : Diagram) (p r : Ref) : Type 0 where
-  pub from_live : IsLive d p
-  pub from_proper : IsProper d p
+-- the result that is kept for a Ref, as both operands, is right: what T makes of its table, and at most so many
+-- variables before it
+pub record IsImage (T : Function → Function) (back : ℕ) (d : Diagram) (p : Ref × Ref) (r : Ref) : Type 0 where
+  pub twice : p.0 ≡ p.1
+  pub from_live : IsLive d p.0
+  pub from_proper : IsProper d p.0
   pub live : IsLive d r
-  pub first : first_var d p ≤ first_var d r + back
-  pub table : (a : ℕ → Bool) → table d r a ≡ T (table d p) a
+  pub first : first_var d p.0 ≤ first_var d r + back
+  pub table : (a : ℕ → Bool) → table d r a ≡ T (table d p.0) a
 
 -- each result that is kept is right
-abbrev pub AreJoins : Bool → Diagram → Results (Ref × Ref) → Type 0
-AreJoins unit d m = (p : Ref × Ref) → IfSome (get same_pair m p) (IsJoin unit d p)
+abbrev pub AreJoins : Bool → Diagram → Results → Type 0
+AreJoins unit d m = (p : Ref × Ref) → IfSome (result_of m p) (IsJoin unit d p)
 
-abbrev pub AreImages : (Function → Function) → ℕ → Diagram → Results Ref → Type 0
-AreImages T back d m = (p : Ref) → IfSome (get same_one m p) (IsImage T back d p)
+abbrev pub AreImages : (Function → Function) → ℕ → Diagram → Results → Type 0
+AreImages T back d m = (p : Ref × Ref) → IfSome (result_of m p) (IsImage T back d p)
 
 -- the operands that are kept are reached from f and g
-abbrev pub PairsBelow : Diagram → Ref → Ref → Results (Ref × Ref) → Type 0
-PairsBelow d f g m = (p : Ref × Ref) → IfSome (get same_pair m p) (λ r. Reaches d f p.0 × Reaches d g p.1)
+abbrev pub PairsBelow : Diagram → Ref → Ref → Results → Type 0
+PairsBelow d f g m = (p : Ref × Ref) → IfSome (result_of m p) (λ r. Reaches d f p.0 × Reaches d g p.1)
 
-abbrev pub OnesBelow : Diagram → Ref → Results Ref → Type 0
-OnesBelow d f m = (p : Ref) → IfSome (get same_one m p) (λ r. Reaches d f p)
+abbrev pub OnesBelow : Diagram → Ref → Results → Type 0
+OnesBelow d f m = (p : Ref × Ref) → IfSome (result_of m p) (λ r. Reaches d f p.0)
+
+-- no two results are kept for one pair
+abbrev pub AreOnce : Results → Type 0
+AreOnce m = IsDistinct same_pair (keys_of m)
 
 -- the earlier variable of two
 abbrev pub pair_first : Diagram → Ref × Ref → ℕ

@@ -2,21 +2,20 @@
 #![tactic(auto)]
 
 ghost use Rattle.std.specs.Prelude.{◌≡◌, ◌≢◌, ◌↔◌, ◌⊎◌, ℕ, ◌+◌, ◌-◌, ◌*◌, ◌<◌, ◌≤◌, Bool, true, false, IfOk, OnOk, OnErr, IfSome, IfNone, IsNone, IsTrue, if◌then◌else◌, is_ok, min, length, ◌&&◌, ◌||◌, not};
-ghost use Rattle.std.specs.HashMap.{get, hash_map_len};
+ghost use Rattle.memo_table.specs.Results.{Results, result_of};
 ghost use Rattle.bdd_store.specs.declared.Ref.{Ref};
 ghost use Rattle.bdd_store.specs.Graph.{with_at};
 ghost use Rattle.bdd_store.specs.Diagram.{Diagram, IsLive, table, IsSound, IsCanonical, first_var, IsConstant, IsProper, Reaches, Keeps, beads, held};
 ghost use Rattle.bdd_ops.specs.Functions.{Function, some_at, lowered, depends, bit_at, IsFreshBelow};
-ghost use Rattle.bdd_ops.specs.Memo.{joined, changed, same_pair, same_one, AreJoins, AreImages, PairsBelow, OnesBelow, pair_first, Implies, AreImplied, AreFlagged};
+ghost use Rattle.bdd_ops.specs.Memo.{joined, changed, AreJoins, AreImages, PairsBelow, OnesBelow, pair_first, Implies, AreImplied, AreFlagged, AreOnce};
 
 use bdd_store::{Ref, Store};
+use memo_table::Memo;
 use std::alloc::{AllocError, Global};
-use std::collections::{HashMap, HashSet};
+use std::collections::HashSet;
 
-/// The results of an operation, by its two operands or its one.
-type Pairs = HashMap<(Ref, Ref), Ref>;
-
-type Ones = HashMap<Ref, Ref>;
+#[cfg(test)]
+mod tests;
 
 /// The function with the variable at 0, and with it at 1. It depends on no earlier variable.
 fn split(store: &Store, f: Ref, var: u32) -> (Ref, Ref)
@@ -46,7 +45,7 @@ fn split(store: &Store, f: Ref, var: u32) -> (Ref, Ref)
 /// The conjunction where `unit` is true, and else the disjunction.
 fn join_from(
     store: &mut Store,
-    memo: &mut Pairs,
+    memo: &mut Memo,
     unit: bool,
     f: Ref,
     g: Ref,
@@ -62,9 +61,10 @@ fn join_from(
     ensures keeps { Keeps store.old store.new }
     ensures sound { IsSound store.new }
     ensures memo { AreJoins unit store.new memo.new }
-    ensures untouched { (p : _) → IsLive store.old p.0 → IsLive store.old p.1 → pair_first store.old p < min (first_var store.old f) (first_var store.old g) → get same_pair memo.new p ≡ get same_pair memo.old p }
+    ensures untouched { (p : Ref × Ref) → IsLive store.old p.0 → IsLive store.old p.1 → pair_first store.old p < min (first_var store.old f) (first_var store.old g) → result_of memo.new p ≡ result_of memo.old p }
     ensures reached { (t u : Ref) → IsLive store.old t → IsLive store.old u → Reaches store.old t f → Reaches store.old u g → PairsBelow store.old t u memo.old → PairsBelow store.new t u memo.new }
-    ensures calls { store.new.calls + hash_map_len memo.old ≤ store.old.calls + hash_map_len memo.new + (if is_ok result then 0 else 1) }
+    ensures once { AreOnce memo.old → AreOnce memo.new }
+    ensures calls { store.new.calls + length memo.old ≤ store.old.calls + length memo.new + (if is_ok result then 0 else 1) }
 {
     if let Some(x) = store.is_constant(f) {
         return Ok(if x == unit { g } else { f });
@@ -75,8 +75,8 @@ fn join_from(
     if f == g {
         return Ok(f);
     }
-    match memo.get(&(f, g)) {
-        Some(r) => return Ok(*r),
+    match memo.get(f, g) {
+        Some(r) => return Ok(r),
         None => {}
     }
     let f_var = store.var(f);
@@ -87,14 +87,14 @@ fn join_from(
     let low = join_from(store, memo, unit, f_low, g_low)?;
     let high = join_from(store, memo, unit, f_high, g_high)?;
     let r = store.node(var, low, high)?;
-    memo.insert((f, g), r)?;
+    memo.insert(f, g, r)?;
     Ok(r)
 }
 
 /// The function with each variable replaced by that which stands `back` before it, and negated where `flip` is true.
 fn change_from(
     store: &mut Store,
-    memo: &mut Ones,
+    memo: &mut Memo,
     back: u32,
     flip: bool,
     f: Ref,
@@ -110,15 +110,16 @@ fn change_from(
     ensures keeps { Keeps store.old store.new }
     ensures sound { IsSound store.new }
     ensures memo { AreImages (changed back flip) back store.new memo.new }
-    ensures untouched { (p : Ref) → IsLive store.old p → first_var store.old p < first_var store.old f → get same_one memo.new p ≡ get same_one memo.old p }
+    ensures untouched { (p : Ref) → IsLive store.old p → first_var store.old p < first_var store.old f → result_of memo.new (p, p) ≡ result_of memo.old (p, p) }
     ensures reached { (t : Ref) → IsLive store.old t → Reaches store.old t f → OnesBelow store.old t memo.old → OnesBelow store.new t memo.new }
-    ensures calls { store.new.calls + hash_map_len memo.old ≤ store.old.calls + hash_map_len memo.new + (if is_ok result then 0 else 1) }
+    ensures once { AreOnce memo.old → AreOnce memo.new }
+    ensures calls { store.new.calls + length memo.old ≤ store.old.calls + length memo.new + (if is_ok result then 0 else 1) }
 {
     if let Some(x) = store.is_constant(f) {
         return Ok(store.constant(x != flip));
     }
-    match memo.get(&f) {
-        Some(r) => return Ok(*r),
+    match memo.get(f, f) {
+        Some(r) => return Ok(r),
         None => {}
     }
     let var = store.var(f);
@@ -127,15 +128,15 @@ fn change_from(
     let low = change_from(store, memo, back, flip, f_low)?;
     let high = change_from(store, memo, back, flip, f_high)?;
     let r = store.node(var - back, low, high)?;
-    memo.insert(f, r)?;
+    memo.insert(f, f, r)?;
     Ok(r)
 }
 
 /// The disjunction of the function with the variable at 0 and with it at 1.
 fn exists_from(
     store: &mut Store,
-    joins: &mut Pairs,
-    memo: &mut Ones,
+    joins: &mut Memo,
+    memo: &mut Memo,
     var: u32,
     f: Ref,
 ) -> Result<Ref, AllocError>
@@ -164,14 +165,14 @@ fn exists_from(
     if first == var {
         return join_from(store, joins, false, f_low, f_high);
     }
-    match memo.get(&f) {
-        Some(r) => return Ok(*r),
+    match memo.get(f, f) {
+        Some(r) => return Ok(r),
         None => {}
     }
     let low = exists_from(store, joins, memo, var, f_low)?;
     let high = exists_from(store, joins, memo, var, f_high)?;
     let r = store.node(first, low, high)?;
-    memo.insert(f, r)?;
+    memo.insert(f, f, r)?;
     Ok(r)
 }
 
@@ -190,9 +191,8 @@ pub fn and(alloc: Global, store: &mut Store, f: Ref, g: Ref) -> Result<Ref, Allo
     ensures held { IfOk result (λ r. held store.new ≤ held store.old + beads store.new r) }
 {
     let _ = store.vars();
-    let mut memo = HashMap::new(alloc);
+    let mut memo = Memo::new(alloc);
     let answer = join_from(store, &mut memo, true, f, g);
-    let _ = memo.len();
     let _ = store.vars();
     answer
 }
@@ -212,9 +212,8 @@ pub fn or(alloc: Global, store: &mut Store, f: Ref, g: Ref) -> Result<Ref, Alloc
     ensures held { IfOk result (λ r. held store.new ≤ held store.old + beads store.new r) }
 {
     let _ = store.vars();
-    let mut memo = HashMap::new(alloc);
+    let mut memo = Memo::new(alloc);
     let answer = join_from(store, &mut memo, false, f, g);
-    let _ = memo.len();
     let _ = store.vars();
     answer
 }
@@ -233,9 +232,8 @@ pub fn not(alloc: Global, store: &mut Store, f: Ref) -> Result<Ref, AllocError>
     ensures held { IfOk result (λ r. held store.new ≤ held store.old + beads store.new r) }
 {
     let _ = store.vars();
-    let mut memo = HashMap::new(alloc);
+    let mut memo = Memo::new(alloc);
     let answer = change_from(store, &mut memo, 0, true, f);
-    let _ = memo.len();
     let _ = store.vars();
     answer
 }
@@ -255,9 +253,8 @@ pub fn rename(alloc: Global, store: &mut Store, f: Ref) -> Result<Ref, AllocErro
     ensures held { IfOk result (λ r. held store.new ≤ held store.old + beads store.new r) }
 {
     let _ = store.vars();
-    let mut memo = HashMap::new(alloc);
+    let mut memo = Memo::new(alloc);
     let answer = change_from(store, &mut memo, 1, false, f);
-    let _ = memo.len();
     let _ = store.vars();
     answer
 }
@@ -276,8 +273,8 @@ pub fn exists(alloc: Global, store: &mut Store, f: Ref, var: u32) -> Result<Ref,
     ensures held { IfOk result (λ r. held store.new ≤ held store.old + beads store.new r) }
 {
     let _ = store.vars();
-    let mut joins = HashMap::new(alloc);
-    let mut memo = HashMap::new(alloc);
+    let mut joins = Memo::new(alloc);
+    let mut memo = Memo::new(alloc);
     let answer = exists_from(store, &mut joins, &mut memo, var, f);
     let _ = store.vars();
     answer

@@ -23,7 +23,16 @@ use visits::{clear, count_below, visit};
 /// A function of the store that gave it, of which it says nothing: a Ref means in each store what stands at its place.
 #[derive(Clone, Copy, Debug, PartialEq, Eq, PartialOrd, Ord, Hash)]
 pub struct Ref {
-    place: usize,
+    place: u32,
+}
+
+impl Ref {
+    /// The number by which equal Refs are told from others: a key for tables.
+    pub fn place(self) -> u32
+        ensures { result ≡ self.place }
+    {
+        self.place
+    }
 }
 
 /// Functions of a fixed number of variables. It holds fewer than 2^32 nodes.
@@ -177,7 +186,7 @@ impl Store {
         answer
     }
 
-    // Doubles the chains where there are more nodes than chains.
+    // Makes more chains where there are more nodes than chains.
     fn make_room(&mut self)
         ensures stays { Stays self.old self.new }
         ensures calls { self.new.calls ≡ self.old.calls }
@@ -210,17 +219,15 @@ impl Store {
         }
         let node = Node {
             var,
-            low: low.place as u32,
-            high: high.place as u32,
+            low: low.place,
+            high: high.place,
             next: 0,
         };
         let bucket = bucket_of(var, node.low, node.high, self.heads.len());
         let found = find(&self.nodes, self.heads[bucket], var, node.low, node.high);
         if found != 0 {
             self.calls = self.calls.saturating_add(1);
-            return Ok(Ref {
-                place: found as usize,
-            });
+            return Ok(Ref { place: found });
         }
         let place = add(
             &mut self.nodes,
@@ -233,9 +240,7 @@ impl Store {
         )?;
         self.held += 1;
         self.calls = self.calls.saturating_add(1);
-        Ok(Ref {
-            place: place as usize,
-        })
+        Ok(Ref { place })
     }
 
     /// The value that the function has everywhere, if there is one.
@@ -262,7 +267,7 @@ impl Store {
         ensures from { DependsFrom self.now r result }
         ensures first { DependsFrom self.now r (result + 1) → ⊥ }
     {
-        self.nodes[r.place].var
+        self.nodes[r.place as usize].var
     }
 
     /// The function with its first variable at 0.
@@ -275,7 +280,7 @@ impl Store {
         ensures reached { (f : Ref) → IsLive self.now f → Reaches self.now f r → Reaches self.now f result }
     {
         Ref {
-            place: self.nodes[r.place].low as usize,
+            place: self.nodes[r.place as usize].low,
         }
     }
 
@@ -289,7 +294,7 @@ impl Store {
         ensures reached { (f : Ref) → IsLive self.now f → Reaches self.now f r → Reaches self.now f result }
     {
         Ref {
-            place: self.nodes[r.place].high as usize,
+            place: self.nodes[r.place as usize].high,
         }
     }
 
@@ -334,7 +339,7 @@ impl Store {
             &self.nodes,
             &mut self.marks,
             self.vars,
-            r.place as u32,
+            r.place,
             self.marked,
         );
         self.marked

@@ -47,7 +47,7 @@ pub fn count_below(nodes: &[Node], seen: &mut Vec<bool>, vars: u32, roots: &[Ref
 {
     let mut count = 0;
     for root in roots {
-        count = visit(nodes, seen, vars, root.place as u32, count);
+        count = visit(nodes, seen, vars, root.place, count);
     }
     count
 }

@@ -1,28 +1,23 @@
-use Rattle.std.proofs.Common.{◌≡◌, ℕ, ◌+◌, ◌-◌, ◌<◌, ◌≤◌, Bool, cond, Option, None, IfSome, is_some, sym, ap, ◌∙◌, subst, arith, false, true}
-use Rattle.std.specs.HashMap.{get, hash_map_len}
+use Rattle.std.proofs.Common.{◌≡◌, ℕ, ◌+◌, ◌-◌, ◌<◌, ◌≤◌, Bool, cond, Option, None, IfSome, length, refl, sym, ap, ◌∙◌, subst, arith, false, true}
+use Rattle.memo_table.specs.Results.{same_pair, result_of}
 use Rattle.bdd_store.specs.declared.Ref.{Ref}
 use Rattle.bdd_store.specs.Graph.{with_at}
 use Rattle.bdd_store.specs.Diagram.{IsLive, table, first_var, Reaches, Keeps}
-use Rattle.bdd_ops.specs.Memo.{changed, same_one, IsImage, OnesBelow}
-use Rattle.bdd_ops.proofs.MemoLaws.{keeps_after, same_table, first_within, images_kept, ones_kept, one_test, holds_put, holds_same, put_other}
+use Rattle.bdd_ops.specs.Memo.{changed, IsImage, OnesBelow}
+use Rattle.bdd_ops.proofs.MemoLaws.{keeps_after, image_found, one_longer, same_table, first_within, images_kept, ones_kept, pair_test, holds_put, holds_same, put_other, once_put, once_same}
 use Rattle.bdd_ops.proofs.Tables.{split_at, changed_cond}
 use Rattle.bdd_ops.proofs.Held.{fresh_node}
 use Rattle.bdd_ops.proofs.+change_from.Goals as goal
 
 -- a result that is kept is right
-kept_answer : (t : ℕ) (c : goal.After-result-1 t) → IsImage (changed c.args.back c.args.flip) c.args.back c.args.store.now c.args.f c.in-Some-get.r.now
-kept_answer t c =
-    let right : Option Ref → Type 0 = λ o. IfSome o (IsImage (changed c.args.back c.args.flip) c.args.back c.args.store.now c.args.f) in
-    subst right (sym c.in-Some-get.ensures.value) (c.requires.memo c.args.f)
-
 pub returns-in-Some-get-clause-live : goal.returns-in-Some-get-clause-live
-returns-in-Some-get-clause-live t c = (kept_answer t c).live
+returns-in-Some-get-clause-live t c = (image_found (changed c.args.back c.args.flip) c.args.back c.args.store.now c.args.memo.now (c.args.f, c.args.f) c.in-Some-get.r c.in-Some-get.ensures.value c.requires.memo).live
 
 pub returns-in-Some-get-clause-first : goal.returns-in-Some-get-clause-first
-returns-in-Some-get-clause-first t c = (kept_answer t c).first
+returns-in-Some-get-clause-first t c = (image_found (changed c.args.back c.args.flip) c.args.back c.args.store.now c.args.memo.now (c.args.f, c.args.f) c.in-Some-get.r c.in-Some-get.ensures.value c.requires.memo).first
 
 pub returns-in-Some-get-clause-table : goal.returns-in-Some-get-clause-table
-returns-in-Some-get-clause-table t c = (kept_answer t c).table
+returns-in-Some-get-clause-table t c = (image_found (changed c.args.back c.args.flip) c.args.back c.args.store.now c.args.memo.now (c.args.f, c.args.f) c.in-Some-get.r c.in-Some-get.ensures.value c.requires.memo).table
 
 pub returns-in_err-low-clause-reached : goal.returns-in_err-low-clause-reached
 returns-in_err-low-clause-reached t c top live_top reach ones = c.in_err-low.ensures.reached top live_top (c.low-f_low.ensures.reached top live_top reach) ones
@@ -75,12 +70,12 @@ returns-in_err-insert-clause-keeps t c = all_keep_no_room t c
 
 pub returns-in_err-insert-clause-memo : goal.returns-in_err-insert-clause-memo
 returns-in_err-insert-clause-memo t c =
-    holds_same same_one one_test (IsImage (changed c.args.back c.args.flip) c.args.back c.node.new.self) c.change_from-2.new.memo c.insert.new.self c.in_err-insert.ensures.err
+    holds_same same_pair pair_test (IsImage (changed c.args.back c.args.flip) c.args.back c.node.new.self) c.change_from-2.new.memo c.insert.new.self c.in_err-insert.ensures.err
     (images_kept (changed c.args.back c.args.flip) c.args.back c.change_from-2.new.store c.node.new.self c.change_from-2.new.memo c.in_ok-r.ensures.keeps c.in_ok-high.ensures.memo)
 
 pub returns-in_err-insert-clause-reached : goal.returns-in_err-insert-clause-reached
 returns-in_err-insert-clause-reached t c top live_top reach ones =
-    holds_same same_one one_test (λ p r. Reaches c.node.new.self top p) c.change_from-2.new.memo c.insert.new.self c.in_err-insert.ensures.err (ones_no_room t c top live_top reach ones)
+    holds_same same_pair pair_test (λ p r. Reaches c.node.new.self top p.0) c.change_from-2.new.memo c.insert.new.self c.in_err-insert.ensures.err (ones_no_room t c top live_top reach ones)
 
 -- after both branches
 both_keep_done : (t : ℕ) (c : goal.In_ok-insert t) → Keeps c.args.store.now c.change_from-2.new.store
@@ -125,11 +120,12 @@ pub returns-clause-table : goal.returns-clause-table
 returns-clause-table t c = table_done t c
 
 -- the new result is right
-answer_done : (t : ℕ) (c : goal.In_ok-insert t) → IsImage (changed c.args.back c.args.flip) c.args.back c.node.new.self c.args.f c.in_ok-r.r
+answer_done : (t : ℕ) (c : goal.In_ok-insert t) → IsImage (changed c.args.back c.args.flip) c.args.back c.node.new.self (c.args.f, c.args.f) c.in_ok-r.r
 answer_done t c =
     let keeps = all_keep_done t c in
     let f_first = keeps.firsts c.args.f c.requires.live in
     record {
+      twice = refl;
       from_live = keeps.live c.args.f c.requires.live;
       from_proper = omega (arith, f_first, keeps.vars, c.var-var.ensures.within, c.var-var.ensures.var);
       live = c.in_ok-r.ensures.live;
@@ -139,11 +135,11 @@ answer_done t c =
 
 pub returns-clause-memo : goal.returns-clause-memo
 returns-clause-memo t c =
-    holds_put same_one one_test (IsImage (changed c.args.back c.args.flip) c.args.back c.node.new.self) c.change_from-2.new.memo c.insert.new.self c.args.f c.in_ok-r.r c.in_ok-insert.ensures.updates
+    holds_put same_pair pair_test (IsImage (changed c.args.back c.args.flip) c.args.back c.node.new.self) c.change_from-2.new.memo c.insert.new.self (c.args.f, c.args.f) c.in_ok-r.r c.in_ok-insert.ensures.ok
     (images_kept (changed c.args.back c.args.flip) c.args.back c.change_from-2.new.store c.node.new.self c.change_from-2.new.memo c.in_ok-r.ensures.keeps c.in_ok-high.ensures.memo) (answer_done t c)
 
 -- neither branch touches a node of an earlier variable
-low_untouched : (t : ℕ) (c : goal.In_ok-insert t) (p : Ref) → IsLive c.args.store.now p → first_var c.args.store.now p ≤ first_var c.args.store.now c.args.f → get same_one c.change_from-2.new.memo p ≡ get same_one c.args.memo.now p
+low_untouched : (t : ℕ) (c : goal.In_ok-insert t) (p : Ref) → IsLive c.args.store.now p → first_var c.args.store.now p ≤ first_var c.args.store.now c.args.f → result_of c.change_from-2.new.memo (p, p) ≡ result_of c.args.memo.now (p, p)
 low_untouched t c p live le =
     let k = c.in_ok-low.ensures.keeps in
     let first_p = k.firsts p live in
@@ -155,21 +151,31 @@ low_untouched t c p live le =
 pub returns-clause-untouched : goal.returns-clause-untouched
 returns-clause-untouched t c p live lt =
     let le : first_var c.args.store.now p ≤ first_var c.args.store.now c.args.f = omega (arith, lt) in
-    let apart : c.args.f ≡ p → ⊥ = λ e. let same = ap (first_var c.args.store.now) e in omega (arith, lt, same) in
-    put_other same_one one_test c.change_from-2.new.memo c.insert.new.self c.args.f p c.in_ok-r.r c.in_ok-insert.ensures.updates apart ∙ low_untouched t c p live le
+    let apart : (c.args.f, c.args.f) ≡ (p, p) → ⊥ = λ e. let same = ap (λ (q : Ref × Ref). first_var c.args.store.now q.0) e in omega (arith, lt, same) in
+    put_other same_pair pair_test c.change_from-2.new.memo c.insert.new.self (c.args.f, c.args.f) (p, p) c.in_ok-r.r c.in_ok-insert.ensures.ok apart ∙ low_untouched t c p live le
 
 pub returns-clause-reached : goal.returns-clause-reached
 returns-clause-reached t c top live_top reach ones =
-    holds_put same_one one_test (λ p r. Reaches c.node.new.self top p) c.change_from-2.new.memo c.insert.new.self c.args.f c.in_ok-r.r c.in_ok-insert.ensures.updates
+    holds_put same_pair pair_test (λ p r. Reaches c.node.new.self top p.0) c.change_from-2.new.memo c.insert.new.self (c.args.f, c.args.f) c.in_ok-r.r c.in_ok-insert.ensures.ok
     (ones_done t c top live_top reach ones) ((all_keep_done t c).reached top c.args.f live_top c.requires.live reach)
+
+-- the Ref is not kept yet
+still_absent : (t : ℕ) (c : goal.In_ok-insert t) → result_of c.change_from-2.new.memo (c.args.f, c.args.f) ≡ None
+still_absent t c =
+    let le : first_var c.args.store.now c.args.f ≤ first_var c.args.store.now c.args.f = omega arith in
+    low_untouched t c c.args.f c.requires.live le ∙ sym c.in-None.ensures.value
+
+pub returns-clause-once : goal.returns-clause-once
+returns-clause-once t c once =
+    once_put same_pair pair_test c.change_from-2.new.memo c.insert.new.self (c.args.f, c.args.f) c.in_ok-r.r c.in_ok-insert.ensures.ok (still_absent t c) (c.in_ok-high.ensures.once (c.in_ok-low.ensures.once once))
+
+pub returns-in_err-insert-clause-once : goal.returns-in_err-insert-clause-once
+returns-in_err-insert-clause-once t c once =
+    once_same same_pair pair_test c.change_from-2.new.memo c.insert.new.self c.in_err-insert.ensures.err (c.in_ok-high.ensures.once (c.in_ok-low.ensures.once once))
 
 pub returns-clause-calls : goal.returns-clause-calls
 returns-clause-calls t c =
-    let le : first_var c.args.store.now c.args.f ≤ first_var c.args.store.now c.args.f = omega arith in
-    let stays = low_untouched t c c.args.f c.requires.live le in
-    let absent : get same_one c.args.memo.now c.args.f ≡ None = sym c.in-None.ensures.value in
-    let is_none : c.in_ok-insert.field-0 ≡ None = c.in_ok-insert.ensures.old ∙ stays ∙ absent in
-    let longer : hash_map_len c.insert.new.self ≡ hash_map_len c.change_from-2.new.memo + 1 = subst (λ o. hash_map_len c.insert.new.self ≡ hash_map_len c.change_from-2.new.memo + cond (is_some o) 0 1) is_none c.in_ok-insert.ensures.len in
+    let longer = one_longer c.change_from-2.new.memo c.insert.new.self _ c.in_ok-insert.ensures.ok in
     omega (arith, longer, c.in_ok-low.ensures.calls, c.in_ok-high.ensures.calls, c.in_ok-r.ensures.calls)
 
 pub returns-in-Some-clause-first : goal.returns-in-Some-clause-first

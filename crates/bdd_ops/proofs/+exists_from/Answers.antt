@@ -1,10 +1,11 @@
-use Rattle.std.proofs.Common.{◌≡◌, ℕ, Bool, cond, Option, IfSome, sym, ap, ◌∙◌, subst, arith, false, true}
+use Rattle.std.proofs.Common.{◌≡◌, ℕ, Bool, cond, Option, IfSome, refl, sym, ap, ◌∙◌, subst, arith, false, true}
 use Rattle.bdd_store.specs.declared.Ref.{Ref}
 use Rattle.bdd_store.specs.Graph.{with_at}
 use Rattle.bdd_store.specs.Diagram.{table, Keeps}
 use Rattle.bdd_ops.specs.Functions.{some_at}
-use Rattle.bdd_ops.specs.Memo.{same_one, IsImage}
-use Rattle.bdd_ops.proofs.MemoLaws.{keeps_after, same_table, images_kept, joins_kept, one_test, holds_put, holds_same}
+use Rattle.memo_table.specs.Results.{same_pair}
+use Rattle.bdd_ops.specs.Memo.{IsImage}
+use Rattle.bdd_ops.proofs.MemoLaws.{keeps_after, image_found, same_table, images_kept, joins_kept, pair_test, holds_put, holds_same}
 use Rattle.bdd_ops.proofs.Tables.{split_at, some_cond, free_before, or_same_both}
 use Rattle.bdd_ops.proofs.Held.{fresh_node}
 use Rattle.bdd_ops.proofs.+exists_from.Goals as goal
@@ -15,19 +16,14 @@ returns-then-var-first-clause-table t c a =
     or_same_both (table c.args.store.now c.args.f a) (table c.args.store.now c.args.f (with_at a c.args.var false)) (table c.args.store.now c.args.f (with_at a c.args.var true)) (free false) (free true)
 
 -- a result that is kept is right
-kept_answer : (t : ℕ) (c : goal.After-result-1 t) → IsImage (some_at c.args.var) 0 c.args.store.now c.args.f c.in-Some-get.r.now
-kept_answer t c =
-    let right : Option Ref → Type 0 = λ o. IfSome o (IsImage (some_at c.args.var) 0 c.args.store.now c.args.f) in
-    subst right (sym c.in-Some-get.ensures.value) (c.requires.memo c.args.f)
-
 pub returns-in-Some-get-clause-live : goal.returns-in-Some-get-clause-live
-returns-in-Some-get-clause-live t c = (kept_answer t c).live
+returns-in-Some-get-clause-live t c = (image_found (some_at c.args.var) 0 c.args.store.now c.args.memo.now (c.args.f, c.args.f) c.in-Some-get.r c.in-Some-get.ensures.value c.requires.memo).live
 
 pub returns-in-Some-get-clause-first : goal.returns-in-Some-get-clause-first
-returns-in-Some-get-clause-first t c = omega (arith, (kept_answer t c).first)
+returns-in-Some-get-clause-first t c = omega (arith, (image_found (some_at c.args.var) 0 c.args.store.now c.args.memo.now (c.args.f, c.args.f) c.in-Some-get.r c.in-Some-get.ensures.value c.requires.memo).first)
 
 pub returns-in-Some-get-clause-table : goal.returns-in-Some-get-clause-table
-returns-in-Some-get-clause-table t c = (kept_answer t c).table
+returns-in-Some-get-clause-table t c = (image_found (some_at c.args.var) 0 c.args.store.now c.args.memo.now (c.args.f, c.args.f) c.in-Some-get.r c.in-Some-get.ensures.value c.requires.memo).table
 
 -- after both branches
 both_keep_no_node : (t : ℕ) (c : goal.After-from_residual-in_err-r t) → Keeps c.args.store.now c.exists_from-2.new.store
@@ -60,7 +56,7 @@ returns-in_err-insert-clause-joins t c = joins_kept false c.exists_from-2.new.st
 
 pub returns-in_err-insert-clause-memo : goal.returns-in_err-insert-clause-memo
 returns-in_err-insert-clause-memo t c =
-    holds_same same_one one_test (IsImage (some_at c.args.var) 0 c.node.new.self) c.exists_from-2.new.memo c.insert.new.self c.in_err-insert.ensures.err
+    holds_same same_pair pair_test (IsImage (some_at c.args.var) 0 c.node.new.self) c.exists_from-2.new.memo c.insert.new.self c.in_err-insert.ensures.err
     (images_kept (some_at c.args.var) 0 c.exists_from-2.new.store c.node.new.self c.exists_from-2.new.memo c.in_ok-r.ensures.keeps c.in_ok-high.ensures.memo)
 
 -- after both branches
@@ -102,11 +98,12 @@ pub returns-clause-table : goal.returns-clause-table
 returns-clause-table t c = table_done t c
 
 -- the new result is right
-answer_done : (t : ℕ) (c : goal.In_ok-insert t) → IsImage (some_at c.args.var) 0 c.node.new.self c.args.f c.in_ok-r.r
+answer_done : (t : ℕ) (c : goal.In_ok-insert t) → IsImage (some_at c.args.var) 0 c.node.new.self (c.args.f, c.args.f) c.in_ok-r.r
 answer_done t c =
     let keeps = all_keep_done t c in
     let f_first = keeps.firsts c.args.f c.requires.live in
     record {
+      twice = refl;
       from_live = keeps.live c.args.f c.requires.live;
       from_proper = omega (arith, f_first, keeps.vars, c.var-first.ensures.within, c.var-first.ensures.var);
       live = c.in_ok-r.ensures.live;
@@ -116,5 +113,5 @@ answer_done t c =
 
 pub returns-clause-memo : goal.returns-clause-memo
 returns-clause-memo t c =
-    holds_put same_one one_test (IsImage (some_at c.args.var) 0 c.node.new.self) c.exists_from-2.new.memo c.insert.new.self c.args.f c.in_ok-r.r c.in_ok-insert.ensures.updates
+    holds_put same_pair pair_test (IsImage (some_at c.args.var) 0 c.node.new.self) c.exists_from-2.new.memo c.insert.new.self (c.args.f, c.args.f) c.in_ok-r.r c.in_ok-insert.ensures.ok
     (images_kept (some_at c.args.var) 0 c.exists_from-2.new.store c.node.new.self c.exists_from-2.new.memo c.in_ok-r.ensures.keeps c.in_ok-high.ensures.memo) (answer_done t c)

@@ -1,6 +1,7 @@
 use Rattle.std.proofs.Common.{ℕ, false, refl, sym, ◌∙◌}
 use Rattle.bdd_store.specs.Diagram.{table}
-use Rattle.bdd_ops.specs.Memo.{same_pair, Implies}
+use Rattle.memo_table.specs.Results.{same_pair}
+use Rattle.bdd_ops.specs.Memo.{Implies}
 use Rattle.bdd_ops.proofs.MemoLaws.{pair_test}
 use Rattle.bdd_ops.proofs.KnownLaws.{all_put, imp_both, imp_const}
 use Rattle.bdd_ops.proofs.+implies_from.Goals as goal

@@ -1,27 +1,22 @@
-use Rattle.std.proofs.Common.{◌≡◌, ℕ, ◌+◌, ◌<◌, ◌≤◌, Bool, cond, Option, None, IfSome, is_some, min, sym, ap, ◌∙◌, subst, arith}
-use Rattle.std.specs.HashMap.{get, hash_map_len}
+use Rattle.std.proofs.Common.{◌≡◌, ℕ, ◌+◌, ◌<◌, ◌≤◌, Bool, cond, Option, None, IfSome, length, min, sym, ap, ◌∙◌, subst, arith}
+use Rattle.memo_table.specs.Results.{same_pair, result_of}
 use Rattle.bdd_store.specs.declared.Ref.{Ref}
 use Rattle.bdd_store.specs.Diagram.{IsLive, table, first_var, Reaches, Keeps}
-use Rattle.bdd_ops.specs.Memo.{joined, same_pair, IsJoin, PairsBelow, pair_first}
-use Rattle.bdd_ops.proofs.MemoLaws.{keeps_after, joins_kept, pairs_kept, pair_test, holds_put, holds_same, put_other, joined_cond}
+use Rattle.bdd_ops.specs.Memo.{joined, IsJoin, PairsBelow, pair_first}
+use Rattle.bdd_ops.proofs.MemoLaws.{keeps_after, join_found, one_longer, joins_kept, pairs_kept, pair_test, holds_put, holds_same, put_other, once_put, once_same, joined_cond}
 use Rattle.bdd_ops.proofs.Tables.{split_at}
 use Rattle.bdd_ops.proofs.Held.{fresh_node}
 use Rattle.bdd_ops.proofs.+join_from.Goals as goal
 
 -- a result that is kept is right
-kept_answer : (t : ℕ) (c : goal.After-result-1 t) → IsJoin c.args.unit c.args.store.now (c.args.f, c.args.g) c.in-Some-get.r.now
-kept_answer t c =
-    let none_or : Option Ref → Type 0 = λ o. IfSome o (IsJoin c.args.unit c.args.store.now (c.args.f, c.args.g)) in
-    subst none_or (sym c.in-Some-get.ensures.value) (c.requires.memo (c.args.f, c.args.g))
-
 pub returns-in-Some-get-clause-live : goal.returns-in-Some-get-clause-live
-returns-in-Some-get-clause-live t c = (kept_answer t c).live
+returns-in-Some-get-clause-live t c = (join_found c.args.unit c.args.store.now c.args.memo.now (c.args.f, c.args.g) c.in-Some-get.r c.in-Some-get.ensures.value c.requires.memo).live
 
 pub returns-in-Some-get-clause-first : goal.returns-in-Some-get-clause-first
-returns-in-Some-get-clause-first t c = (kept_answer t c).first
+returns-in-Some-get-clause-first t c = (join_found c.args.unit c.args.store.now c.args.memo.now (c.args.f, c.args.g) c.in-Some-get.r c.in-Some-get.ensures.value c.requires.memo).first
 
 pub returns-in-Some-get-clause-table : goal.returns-in-Some-get-clause-table
-returns-in-Some-get-clause-table t c = (kept_answer t c).table
+returns-in-Some-get-clause-table t c = (join_found c.args.unit c.args.store.now c.args.memo.now (c.args.f, c.args.g) c.in-Some-get.r c.in-Some-get.ensures.value c.requires.memo).table
 
 pub returns-in_err-low-clause-reached : goal.returns-in_err-low-clause-reached
 returns-in_err-low-clause-reached t c top up live_top live_up reach_f reach_g keys =
@@ -153,11 +148,11 @@ answer_done t c =
 
 pub returns-clause-memo : goal.returns-clause-memo
 returns-clause-memo t c =
-    holds_put same_pair pair_test (IsJoin c.args.unit c.node.new.self) c.join_from-2.new.memo c.insert.new.self (c.args.f, c.args.g) c.in_ok-r.r c.in_ok-insert.ensures.updates
+    holds_put same_pair pair_test (IsJoin c.args.unit c.node.new.self) c.join_from-2.new.memo c.insert.new.self (c.args.f, c.args.g) c.in_ok-r.r c.in_ok-insert.ensures.ok
     (joins_kept c.args.unit c.join_from-2.new.store c.node.new.self c.join_from-2.new.memo c.in_ok-r.ensures.keeps c.in_ok-high.ensures.memo) (answer_done t c)
 
 -- neither branch touches a pair of an earlier variable
-low_untouched : (t : ℕ) (c : goal.In_ok-insert t) (p : Ref × Ref) → IsLive c.args.store.now p.0 → IsLive c.args.store.now p.1 → pair_first c.args.store.now p ≤ c.min-var.result → get same_pair c.join_from-2.new.memo p ≡ get same_pair c.args.memo.now p
+low_untouched : (t : ℕ) (c : goal.In_ok-insert t) (p : Ref × Ref) → IsLive c.args.store.now p.0 → IsLive c.args.store.now p.1 → pair_first c.args.store.now p ≤ c.min-var.result → result_of c.join_from-2.new.memo p ≡ result_of c.args.memo.now p
 low_untouched t c p live_0 live_1 le =
     let k = c.in_ok-low.ensures.keeps in
     let first_0 = k.firsts p.0 live_0 in
@@ -172,20 +167,30 @@ pub returns-clause-untouched : goal.returns-clause-untouched
 returns-clause-untouched t c p live_0 live_1 lt =
     let le : pair_first c.args.store.now p ≤ c.min-var.result = omega (arith, lt, c.min-var.ensures, c.var-f_var.ensures.var, c.var-g_var.ensures.var) in
     let apart : (c.args.f, c.args.g) ≡ p → ⊥ = λ e. let same = ap (pair_first c.args.store.now) e in omega (arith, lt, same) in
-    put_other same_pair pair_test c.join_from-2.new.memo c.insert.new.self (c.args.f, c.args.g) p c.in_ok-r.r c.in_ok-insert.ensures.updates apart ∙ low_untouched t c p live_0 live_1 le
+    put_other same_pair pair_test c.join_from-2.new.memo c.insert.new.self (c.args.f, c.args.g) p c.in_ok-r.r c.in_ok-insert.ensures.ok apart ∙ low_untouched t c p live_0 live_1 le
 
 pub returns-clause-reached : goal.returns-clause-reached
 returns-clause-reached t c top up live_top live_up reach_f reach_g keys =
     let keeps = all_keep_done t c in
-    holds_put same_pair pair_test (λ p r. Reaches c.node.new.self top p.0 × Reaches c.node.new.self up p.1) c.join_from-2.new.memo c.insert.new.self (c.args.f, c.args.g) c.in_ok-r.r c.in_ok-insert.ensures.updates
+    holds_put same_pair pair_test (λ p r. Reaches c.node.new.self top p.0 × Reaches c.node.new.self up p.1) c.join_from-2.new.memo c.insert.new.self (c.args.f, c.args.g) c.in_ok-r.r c.in_ok-insert.ensures.ok
     (keys_done t c top up live_top live_up reach_f reach_g keys)
     (keeps.reached top c.args.f live_top c.requires.f_live reach_f, keeps.reached up c.args.g live_up c.requires.g_live reach_g)
 
+-- the pair is not kept yet
+still_absent : (t : ℕ) (c : goal.In_ok-insert t) → result_of c.join_from-2.new.memo (c.args.f, c.args.g) ≡ None
+still_absent t c =
+    let le : pair_first c.args.store.now (c.args.f, c.args.g) ≤ c.min-var.result = omega (arith, c.min-var.ensures, c.var-f_var.ensures.var, c.var-g_var.ensures.var) in
+    low_untouched t c (c.args.f, c.args.g) c.requires.f_live c.requires.g_live le ∙ sym c.in-None.ensures.value
+
+pub returns-clause-once : goal.returns-clause-once
+returns-clause-once t c once =
+    once_put same_pair pair_test c.join_from-2.new.memo c.insert.new.self (c.args.f, c.args.g) c.in_ok-r.r c.in_ok-insert.ensures.ok (still_absent t c) (c.in_ok-high.ensures.once (c.in_ok-low.ensures.once once))
+
+pub returns-in_err-insert-clause-once : goal.returns-in_err-insert-clause-once
+returns-in_err-insert-clause-once t c once =
+    once_same same_pair pair_test c.join_from-2.new.memo c.insert.new.self c.in_err-insert.ensures.err (c.in_ok-high.ensures.once (c.in_ok-low.ensures.once once))
+
 pub returns-clause-calls : goal.returns-clause-calls
 returns-clause-calls t c =
-    let le : pair_first c.args.store.now (c.args.f, c.args.g) ≤ c.min-var.result = omega (arith, c.min-var.ensures, c.var-f_var.ensures.var, c.var-g_var.ensures.var) in
-    let stays = low_untouched t c (c.args.f, c.args.g) c.requires.f_live c.requires.g_live le in
-    let absent : get same_pair c.args.memo.now (c.args.f, c.args.g) ≡ None = sym c.in-None.ensures.value in
-    let is_none : c.in_ok-insert.field-0 ≡ None = c.in_ok-insert.ensures.old ∙ stays ∙ absent in
-    let longer : hash_map_len c.insert.new.self ≡ hash_map_len c.join_from-2.new.memo + 1 = subst (λ o. hash_map_len c.insert.new.self ≡ hash_map_len c.join_from-2.new.memo + cond (is_some o) 0 1) is_none c.in_ok-insert.ensures.len in
+    let longer = one_longer c.join_from-2.new.memo c.insert.new.self _ c.in_ok-insert.ensures.ok in
     omega (arith, longer, c.in_ok-low.ensures.calls, c.in_ok-high.ensures.calls, c.in_ok-r.ensures.calls)

@@ -1,11 +1,11 @@
-use Rattle.std.proofs.Common.{◌+◌, ◌≤◌, false, arith}
+use Rattle.std.proofs.Common.{◌+◌, ◌≤◌, false, length, ap, arith}
 use Rattle.bdd_store.specs.Diagram.{IsLive, Reaches, held, beads}
 use Rattle.bdd_store.proofs.Laws.{reaches_self}
 use Rattle.bdd_store.proofs.Few.{beads_kept}
 use Rattle.bdd_ops.specs.Functions.{IsFreshBelow}
-use Rattle.bdd_ops.specs.Memo.{same_pair}
+use Rattle.memo_table.specs.Results.{same_pair}
 use Rattle.bdd_ops.proofs.Tables.{if_ok_both}
-use Rattle.bdd_ops.proofs.MemoLaws.{few_joins, pair_test, holds_empty, pair_bound}
+use Rattle.bdd_ops.proofs.MemoLaws.{few_joins, pair_test, holds_empty, once_empty, pair_bound}
 use Rattle.bdd_ops.proofs.Held.{held_bound}
 use Rattle.bdd_ops.proofs.or.Goals as goal
 
@@ -18,8 +18,8 @@ returns-clause-calls c =
     let keeps = c.join_from-answer.ensures.keeps in
     let none = holds_empty same_pair pair_test (λ p r. Reaches d f p.0 × Reaches d g p.1) c.new-memo.result c.new-memo.ensures.empty in
     let below = c.join_from-answer.ensures.reached f g c.requires.f_live c.requires.g_live (reaches_self d f) (reaches_self d g) none in
-    let few = few_joins false e c.join_from-answer.new.memo f g c.join_from-answer.ensures.sound (keeps.live f c.requires.f_live) (keeps.live g c.requires.g_live) c.join_from-answer.ensures.memo below c.len.ensures.unique in
-    pair_bound _ _ _ _ _ _ _ _ _ c.join_from-answer.ensures.calls few (beads_kept d e keeps f c.requires.f_live) (beads_kept d e keeps g c.requires.g_live) (omega (arith, c.new-memo.ensures.len))
+    let few = few_joins false e c.join_from-answer.new.memo f g c.join_from-answer.ensures.sound (keeps.live f c.requires.f_live) (keeps.live g c.requires.g_live) c.join_from-answer.ensures.memo below (c.join_from-answer.ensures.once (once_empty same_pair pair_test c.new-memo.result c.new-memo.ensures.empty)) in
+    pair_bound _ _ _ _ _ _ _ _ _ c.join_from-answer.ensures.calls few (beads_kept d e keeps f c.requires.f_live) (beads_kept d e keeps g c.requires.g_live) (ap length c.new-memo.ensures.empty)
 
 pub returns-clause-held : goal.returns-clause-held
 returns-clause-held c =

@@ -45,17 +45,6 @@ returns-then-low-high-clause-held_found c q live is =
     let same_nodes = ap (λ (x : Diagram). x.nodes) c.self.view_is in
     same_held d _ same_vars same_nodes
 
--- places are small numbers
-pub overflow_cast-node : goal.overflow_cast-node
-unfolding IsLive
-overflow_cast-node c =
-    omega (arith, c.requires.low_live.0, ap (λ (x : Diagram). length x.nodes) c.self.view_is, c.self.invariant.few)
-
-pub overflow_cast-node-2 : goal.overflow_cast-node-2
-unfolding IsLive
-overflow_cast-node-2 c =
-    omega (arith, c.requires.high_live.0, ap (λ (x : Diagram). length x.nodes) c.self.view_is, c.self.invariant.few)
-
 pub find-found-requires-clause-falling : goal.find-found-requires-clause-falling
 find-found-requires-clause-falling c =
     let lt_b : c.bucket_of-bucket.result < length c.self.inside.heads.items = omega (arith, c.bucket_of-bucket.ensures.within, c.len.ensures, c.self.inside.heads.ok.0) in

@@ -10,11 +10,6 @@ use Rattle.bdd_store.proofs.CountLaws.{closed_all, places_live, count_is}
 use Rattle.bdd_store.proofs.NodeLaws.{same_keeps, same_live, same_held}
 use Rattle.bdd_store.proofs.Store.mark.Goals as goal
 
-pub overflow_cast-r : goal.overflow_cast-r
-unfolding IsLive
-overflow_cast-r c =
-    omega (arith, c.requires.0, ap (λ (x : Diagram). length x.nodes) c.self.view_is, c.self.invariant.few)
-
 pub visit-self-inside-requires-clause-live : goal.visit-self-inside-requires-clause-live
 unfolding IsLive
 visit-self-inside-requires-clause-live c =
