@@ -383,11 +383,11 @@ module _ (C : Type 0) (n : ℕ) (inner : ExprReaders) (law : InnerLaws n inner) 
       (λ x. made (exactly k ∷ ys) (chain make x) (repeated (exactly k ∷ []) (λ x. ys) (exactly k ∷ ys) (next (token-lawful k self) (λ _. f)) (begins-then (token-begins k)) (λ a. ap_art) inside (λ a. within)))
       (λ x. leads-then (leads-many (begins-then (token-begins k))) (λ more. leads-nothing _)) (λ x. ap_art) (λ x b. within)
 
-  conjunction-lawful : Lawful C (At g.conjunction) n (p.read_conjunction n inner) (stops_by (λ x. after_conjunction))
+  pub conjunction-lawful : Lawful C (At g.conjunction) n (p.read_conjunction n inner) (stops_by (λ x. after_conjunction))
   unfolding p.read_conjunction
   conjunction-lawful = chained-lawful ampersand expr.And after_comparison refl refl refl refl negation-lawful
 
-  disjunction-lawful : Lawful C (At g.disjunction) n (p.read_disjunction n inner) (stops_by (λ x. after_disjunction))
+  pub disjunction-lawful : Lawful C (At g.disjunction) n (p.read_disjunction n inner) (stops_by (λ x. after_disjunction))
   unfolding p.read_disjunction
   disjunction-lawful = chained-lawful bar expr.Or after_conjunction refl refl refl refl conjunction-lawful
 

@@ -200,7 +200,7 @@ placed-sum {C = C} n = same-lawful to from stops (noted-lawful first_at first-st
     stops v None e = refl
     stops v (Some t) e = e
 
-pair-lawful : {C : Type 0} (n : ℕ) → Lawful C (At g.pair) n (p.read_pair n) (stops_by closed)
+pub pair-lawful : {C : Type 0} (n : ℕ) → Lawful C (At g.pair) n (p.read_pair n) (stops_by closed)
 unfolding p.read_pair
 pair-lawful n = next-begun (exactly equal ∷ []) (λ x. after_sum) (placed-sum n) (λ x. next (token-lawful equal refl) (λ _. next name-lawful (λ y. nothing-lawful _))) (λ x. begins-then (token-begins equal)) (λ x. refl)
 

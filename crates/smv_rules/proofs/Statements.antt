@@ -77,7 +77,7 @@ made-as {A = A} {B = B} ys zs make e f = followed f (λ a. nothing-lawful (make 
 
 -- ---- small pieces
 
-label-lawful : {C : Type 0} {n : ℕ} → Lawful C (λ floor m. g.label) n p.read_label (stops_by closed)
+pub label-lawful : {C : Type 0} {n : ℕ} → Lawful C (λ floor m. g.label) n p.read_label (stops_by closed)
 unfolding p.read_label
 label-lawful = alternative (any_number ∷ []) (any_name ∷ []) (next number-lawful (λ k. nothing-lawful _)) (next name-lawful (λ x. nothing-lawful _)) (begins-then number-begins) (begins-then name-begins) refl
 
