@@ -1,0 +1,4 @@
+pub mod Loops
+pub mod Marked
+pub mod Names
+pub mod ByLaws

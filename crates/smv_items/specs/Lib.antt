@@ -1,0 +1,4 @@
+pub mod Answer
+pub mod Nests
+pub mod Pieces
+pub mod Reading
