@@ -1,0 +1,8 @@
+use Rattle.std.proofs.Common.{◌≡◌, ◌++◌, map, drop}
+use Rattle.smv_core.specs.Signs.{comma}
+use Rattle.smv_print.specs.Written.{written, preceded}
+use Rattle.smv_print.specs.Items.{use_kinds}
+use Rattle.smv_print.proofs.items.all_uses.Given as goal
+
+abbrev pub invariant-loop-x : goal.invariant-loop-x
+invariant-loop-x l = l.out.items ++ written (preceded comma (map use_kinds (drop l.x-index l.more))) ≡ l.initial.out.items ++ written (preceded comma (map use_kinds l.more))

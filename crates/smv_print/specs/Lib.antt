@@ -1,0 +1,7 @@
+pub mod Spellings
+pub mod Written
+pub mod Types
+pub mod Expressions
+pub mod Statements
+pub mod Items
+pub mod Canonical

@@ -1,0 +1,14 @@
+//! The canonical spelling of a text.
+#![tactic(auto)]
+
+mod expressions;
+mod items;
+mod marks;
+mod statements;
+#[cfg(test)]
+mod tests;
+mod text;
+mod types;
+mod write;
+
+pub use text::print;

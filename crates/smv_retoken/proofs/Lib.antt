@@ -1,0 +1,11 @@
+pub mod Fronts
+pub mod Reading
+pub mod Good
+pub mod Keeping
+pub mod Types
+pub mod Expressions
+pub mod Statements
+pub mod Items
+pub mod Walk
+pub mod Lexed
+pub mod Canonical
