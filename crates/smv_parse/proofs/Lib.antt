@@ -1,7 +1,3 @@
-pub mod Unique
-pub mod Lexing
-pub mod Parsing
-pub mod Rules
-pub mod Productions
-pub mod Found
-pub mod Ranks
+pub mod Rising
+pub mod Answers
+pub mod Only

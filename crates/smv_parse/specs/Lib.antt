@@ -1,5 +1,3 @@
-pub mod Tokens
-pub mod Grammar
 pub mod Spelling
+pub mod Laws
 pub mod Answers
-pub mod Operators

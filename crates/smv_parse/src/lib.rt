@@ -1,56 +1,51 @@
-//! From the bytes of a small text to its tree.
+//! From the bytes of a text to its tree.
 #![tactic(auto)]
 
-ghost use Rattle.std.specs.Prelude.{◌≡◌, ◌<◌, ◌^◌, List, ℕ, length, map, IfOk, IfSome, IfNone};
+ghost use Rattle.std.specs.Prelude.{◌≡◌, ◌<◌, ◌^◌, ℕ, length, Ok, Err, IfOk};
 ghost use Rattle.smv_core.specs.declared.tree.Text.{Text};
-ghost use Rattle.smv_parse.specs.Answers.{RefusesOnly};
-ghost use Rattle.smv_parse.specs.Tokens.{marks, token_at};
-ghost use Rattle.smv_parse.specs.Spelling.{SpellsSmall};
+ghost use Rattle.smv_lex.specs.Answers.{IfFault};
+ghost use Rattle.smv_items.specs.Answer.{fault};
+ghost use Rattle.smv_parse.specs.Answers.{UnlessMemory};
+ghost use Rattle.smv_parse.specs.Laws.{IsOneTree, IsOneFault, IsNotBoth, IsEither, IsWithin};
+ghost use Rattle.smv_parse.specs.Spelling.{SpellsText, HasFault};
 
-mod expr;
-mod items;
-mod lex;
-mod marks;
-mod refusal;
+use smv_core::Refusal;
+use smv_core::tree::Text;
+use smv_items::parse::parse_tokens;
+use smv_lex::tokens;
+use std::alloc::Global;
+
 #[cfg(test)]
 mod tests;
 
-use refusal::ParseError;
-use smv_core::tree::Text;
-use std::alloc::{AllocError, Global};
-
-/// The tree of a small text, or None where the text is none.
-pub fn parse(alloc: Global, text: &[u8]) -> Result<Option<Text>, AllocError>
+/// The tree that a text spells, or else its first fault, one of 1 to 6, with the offset of the byte where it stands.
+pub fn parse(alloc: Global, text: &[u8]) -> Result<Text, Refusal>
     requires within { length text.now < 2 ^ 32 }
-    ensures spelled { IfOk result (λ answer. IfSome answer (λ tree. SpellsSmall text.now tree)) }
-    ensures none { IfOk result (λ answer. IfNone answer ((tree : Text) → SpellsSmall text.now tree → ⊥)) }
+    ensures tree { IfOk result (λ tree. SpellsText text.now tree) }
+    ensures only_tree { (tree : Text) → SpellsText text.now tree → UnlessMemory result (Ok tree) }
+    ensures fault { IfFault result (λ fault. HasFault text.now fault.number fault.at) }
+    ensures only_fault { (number at : ℕ) → HasFault text.now number at → UnlessMemory result (Err (fault number at)) }
 {
-    match tree_of(alloc, text) {
-        Ok(tree) => Ok(Some(tree)),
-        Err(ParseError::NotSpelled) => Ok(None),
-        Err(ParseError::OutOfMemory) => Err(AllocError),
+    one_answer();
+    answer(alloc, text)
+}
+
+fn answer(alloc: Global, text: &[u8]) -> Result<Text, Refusal>
+    requires within { length text.now < 2 ^ 32 }
+    ensures tree { IfOk result (λ tree. SpellsText text.now tree) }
+    ensures fault { IfFault result (λ fault. HasFault text.now fault.number fault.at) }
+{
+    match tokens(alloc, text) {
+        Ok(tokens) => parse_tokens(alloc, text.len() as u32, tokens.as_slice()),
+        Err(refusal) => Err(refusal),
     }
 }
 
-fn tree_of(alloc: Global, text: &[u8]) -> Result<Text, ParseError>
-    requires within { length text.now < 2 ^ 32 }
-    ensures spelled { IfOk result (λ tree. SpellsSmall text.now tree) }
-    ensures none { RefusesOnly result ((tree : Text) → SpellsSmall text.now tree → ⊥) }
-{
-    let tokens = lex::tokens(alloc, text)?;
-    let (tree, rest) = items::module(alloc, tokens.as_slice())?;
-    if !rest.is_empty() {
-        return Err(ParseError::NotSpelled);
-    }
-    Ok(tree)
-}
-
-/// A text spells at most one tree.
-pub fn one_tree()
-    ensures { (text : List ℕ) (tree other : Text) → SpellsSmall text tree → SpellsSmall text other → tree ≡ other }
-{}
-
-/// Each sign and word that the grammar names is the token of its spelling.
-pub fn marks_are_spelled()
-    ensures { map (λ mark. token_at mark.1) marks ≡ map (λ mark. Some (mark.0, length mark.1)) marks }
+/// A text spells one tree, or has one fault, which is one of 1 to 6 and stands in the text or at its end.
+pub fn one_answer()
+    ensures tree { IsOneTree }
+    ensures fault { IsOneFault }
+    ensures not_both { IsNotBoth }
+    ensures either { IsEither }
+    ensures within { IsWithin }
 {}

@@ -9,6 +9,18 @@ const TOGGLE: &str =
 const TOGGLE_FALSE: &str =
     "module main() { x : boolean; init(x) := 0; next(x) := ~x; p : assert G ~x; }";
 
+const COMMENTED: &str =
+    "module main() { x : boolean; -- one signal\n init(x) := 0; next(x) := ~x; /* and its claim */ p : assert G (x | ~x); }";
+
+const OPEN: &str = "module main() { /* x";
+
+const DEEP: &str =
+    "module main() { p : assert G ((((((((((((((((((((((((((((((((((((((((((((((((((((((((((((((((";
+
+const BRACKETS: &str = "module main(){x:boolean;p:assert G (x|(~x));}";
+
+const PLAIN: &str = "module main ( ) { x : boolean ;\np : assert G x | ~ x ;\n}\n";
+
 const NOT_DECIDED: &str = "fault 32 at line 1 column 1\n";
 
 // The words, parted by blanks.
@@ -24,7 +36,7 @@ fn words(alloc: Global, line: &str) -> Result<Vec<String>, AllocError> {
 fn answered(alloc: Global, line: &str, text: &[u8]) -> Result<(u8, Vec<u8>), AllocError> {
     let words = words(alloc, line)?;
     let mut source = Never::new(text.to_vec(alloc)?);
-    let mut sink = Taken::with_room(alloc, 200, Vec::new(alloc))?;
+    let mut sink = Taken::with_room(alloc, 600, Vec::new(alloc))?;
     let status = run(alloc, &words, &mut source, &mut sink);
     Ok((status.number(), sink.taken().to_vec(alloc)?))
 }
@@ -37,12 +49,25 @@ fn a_status_and_an_answer(rt: HostRuntime) -> Result<(), Fail> {
     let table = [
         ("prove", TOGGLE, 0, "p: true\nproved 1 of 1\n"),
         ("prove", TOGGLE_FALSE, 1, falsified),
+        ("prove", COMMENTED, 0, "p: true\nproved 1 of 1\n"),
         ("prove", "", 3, NOT_DECIDED),
-        ("prove", "module main() { } -- a comment", 3, NOT_DECIDED),
+        ("prove", "module main() { }", 3, NOT_DECIDED),
+        ("prove", OPEN, 3, "fault 4 at line 1 column 17\n"),
+        ("print", OPEN, 3, "fault 4 at line 1 column 17\n"),
+        ("prove", DEEP, 3, "fault 6 at line 1 column 93\n"),
+        (
+            "print",
+            "module main() {\n x boolean; }",
+            3,
+            "fault 5 at line 2 column 4\n",
+        ),
+        ("print", "", 0, ""),
+        ("print", BRACKETS, 0, PLAIN),
+        ("print", PLAIN, 0, PLAIN),
         ("", TOGGLE, 4, usage),
         ("proves", TOGGLE, 4, usage),
-        ("prove prove", TOGGLE, 4, usage),
-        ("print", TOGGLE, 4, usage),
+        ("prove print", TOGGLE, 4, usage),
+        ("only", TOGGLE, 4, usage),
     ];
     for (line, text, want, answer) in table {
         let (status, written) = answered(alloc, line, text.as_bytes())?;
@@ -134,6 +159,77 @@ fn faults_of_the_source_and_the_sink(rt: HostRuntime) -> Result<(), Fail> {
         let status = run(alloc, &words, &mut source, &mut sink);
         assert_eq!(rt; status.number(), want, "room {room}");
         assert_eq!(rt; sink.taken(), answer.as_bytes(), "room {room}");
+    }
+    Ok(())
+}
+
+// Each production, as it may be written and as it is printed.
+const PRODUCTIONS: &[(&str, &str)] = &[
+    ("scalarset A 0..03;", "scalarset A 0 .. 3 ;\n"),
+    (
+        "ordset O undefined;scalarset S undefined;",
+        "ordset O undefined ;\nscalarset S undefined ;\n",
+    ),
+    (
+        "typedef t array 0..1 of struct{a,b:boolean;c:{x,y};};",
+        "typedef t array 0 .. 1 of struct { a , b : boolean ;\nc : { x , y } ;\n} ;\n",
+    ),
+    ("module m(a,b){}", "module m ( a , b ) { }\n"),
+    (
+        "module main(){output a,b:T;i:m(a,1);init(x):=0;next(x.y[0]):=~~x;}",
+        "module main ( ) { output a , b : T ;\ni : m ( a , 1 ) ;\ninit ( x ) := 0 ;\nnext ( x . y [ 0 ] ) := ~ ~ x ;\n}\n",
+    ),
+    (
+        "module main(){layer L:{if(a){x:=1;}else if(b)y:=0;}}",
+        "module main ( ) { layer L : { if ( a ) { x := 1 ;\n} else if ( b ) y := 0 ;\n} }\n",
+    ),
+    (
+        "module main(){switch(s){0,red:x:=1;default:x:=2;}}",
+        "module main ( ) { switch ( s ) { 0 , red : x := 1 ;\ndefault : x := 2 ;\n} }\n",
+    ),
+    (
+        "module main(){default x:=1;in for(i=00;i<=3;i=i+1)y[i]:=i;}",
+        "module main ( ) { default x := 1 ;\nin for ( i = 0 ;\ni <= 3 ;\ni = i + 1 ) y [ i ] := i ;\n}\n",
+    ),
+    (
+        "module main(){x:=(((a)));y:=(a->b)->c;z:=a->(b->c);w:=a<->(b<->c);}",
+        "module main ( ) { x := a ;\ny := ( a -> b ) -> c ;\nz := a -> ( b -> c ) ;\nw := a <-> ( b <-> c ) ;\n}\n",
+    ),
+    (
+        "module main(){x:=~(a&b);y:=(~a)&b;z:=((a&b))|c;w:=(a|b)&c;}",
+        "module main ( ) { x := ~ ( a & b ) ;\ny := ~ a & b ;\nz := a & b | c ;\nw := ( a | b ) & c ;\n}\n",
+    ),
+    (
+        "module main(){x:=(a?b:c)?(d?e:f):(g?h:i);}",
+        "module main ( ) { x := ( a ? b : c ) ? d ? e : f : g ? h : i ;\n}\n",
+    ),
+    (
+        "module main(){x:={1..2,a,{b}};y:={i:i in 0..3,i>1};z:=&[a[i]:i in T];}",
+        "module main ( ) { x := { 1 .. 2 , a , { b } } ;\ny := { i : i in 0 .. 3 , i > 1 } ;\nz := & [ a [ i ] : i in T ] ;\n}\n",
+    ),
+    (
+        "module main(){x:=(a+b-1)mod 4;y:=a+(b-1);z:=(a=b)~=c;w:=a in{1};}",
+        "module main ( ) { x := a + b - 1 mod 4 ;\ny := a + ( b - 1 ) ;\nz := ( a = b ) ~= c ;\nw := a in { 1 } ;\n}\n",
+    ),
+    (
+        "module main(){p[i][j]:assert G(a);forall(i in T)subcase q[i]of p for a=i,b.c[2]=i;}",
+        "module main ( ) { p [ i ] [ j ] : assert G a ;\nforall ( i in T ) subcase q [ i ] of p for a = i , b . c [ 2 ] = i ;\n}\n",
+    ),
+    (
+        "module main(){using q//L,(r.s[i]),v//free,t->{a,b},u->{} prove p,q//L;}",
+        "module main ( ) { using q // L , ( r . s [ i ] ) , v // free , t -> { a , b } , u -> { } prove p , q // L ;\n}\n",
+    ),
+];
+
+#[test]
+fn what_is_printed_is_printed_again(rt: HostRuntime) -> Result<(), Fail> {
+    let alloc = rt.alloc();
+    for (text, printed) in PRODUCTIONS {
+        for text in [text, printed] {
+            let (status, written) = answered(alloc, "print", text.as_bytes())?;
+            assert_eq!(rt; status, 0, "{text}");
+            assert_eq!(rt; written.as_slice(), printed.as_bytes(), "{text}");
+        }
     }
     Ok(())
 }

@@ -7,6 +7,6 @@ returns-clause-sound g c proved =
     of_told _ (λ text. Ends _ _ text _ _) IsSoundDesign c.answered.ensures.ends (λ text. all_proved_is_sound c.true_units_are_sound.ensures _ _ text _ _ proved)
 
 pub returns-clause-complete : goal.returns-clause-complete
-returns-clause-complete g c is no_read no_write =
-    of_told _ (λ text. Ends _ _ text _ _) (Completes _) c.answered.ensures.ends
-    (λ text. completed c.one_tree.ensures c.reports_agree.ensures _ _ text _ _ is (λ e. no_read (c.answered.ensures.read_fault e)) (λ e. no_write (c.answered.ensures.write_fault e)))
+returns-clause-complete g c no_read no_write =
+    of_told _ (λ text. Ends _ _ text _ _) (Completes _ _) c.answered.ensures.ends
+    (λ text. completed c.one_answer.ensures.tree c.one_answer.ensures.not_both c.reports_agree.ensures _ text _ _ _ (λ e. no_read (c.answered.ensures.read_fault e)) (λ e. no_write (c.answered.ensures.write_fault e)))

@@ -1,9 +1,0 @@
-use Rattle.std.proofs.lemmas.Result.{err_from_is_err_and}
-use Rattle.smv_parse.proofs.Parsing.{refuses}
-use Rattle.smv_parse.proofs.Found.{no_assigned}
-use Rattle.smv_parse.proofs.items.assigned.Goals as goal
-
-pub returns-in_err-value-clause-none : goal.returns-in_err-value-clause-none
-returns-in_err-value-clause-none c =
-    let p = err_from_is_err_and c.from_residual.result c.from_residual.ensures.1 in
-    rw (p.1, p.2) (refuses _ _ _ c.in_err-value.ensures.none (no_assigned _ _ _ _))

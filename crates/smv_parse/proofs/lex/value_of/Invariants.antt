@@ -1,6 +1,0 @@
-use Rattle.std.proofs.Common.{◌≡◌, take, min}
-use Rattle.smv_parse.specs.Tokens.{number_of}
-use Rattle.smv_parse.proofs.lex.value_of.Given as goal
-
-abbrev pub invariant-loop-digit : goal.invariant-loop-digit
-invariant-loop-digit l = l.value ≡ min (number_of (take l.digit-index l.digits)) 512
