@@ -1,0 +1,5 @@
+pub mod Verdict
+pub mod Keeping
+pub mod Runs
+pub mod Answers
+pub mod Laws

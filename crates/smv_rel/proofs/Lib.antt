@@ -1,0 +1,13 @@
+pub mod Tables
+pub mod Early
+pub mod Turns
+pub mod Image
+pub mod Rings
+pub mod Firsts
+pub mod Whole
+pub mod Few
+pub mod Rels
+pub mod PathLaws
+pub mod Refs
+pub mod Plans
+pub mod Fits
