@@ -1,0 +1,15 @@
+-- Guards of splits in a state: `e = i` holds where the outcome of e is i, or is no value of the type of i.
+use Rattle.std.specs.Prelude.{List, Option, Some, None, Bool, true, false, not, ◌||◌}
+use Rattle.smv_core.specs.Values.{Value, Outcome, same, is_in}
+use Rattle.smv_core.specs.Flat.{Numbered, FlatState, FlatBindings, values_in, flat_outcome}
+use Rattle.smv_core.specs.declared.flat.FlatExpr.{FlatExpr}
+use Rattle.smv_core.specs.declared.flat.Simple.{Simple as FlatSimple}
+
+-- an outcome is the value, or none of these values
+abbrev pub is_or_outside : List Value → Outcome → Value → Bool
+is_or_outside values None i = true
+is_or_outside values (Some u) i = not (is_in values u) || same u i
+
+-- the guard holds at the value i of its parameter (`subcase`: SMV language manual; the time at which it is read is this project's)
+abbrev pub guard_holds : Numbered → FlatState → FlatSimple → FlatExpr → FlatBindings → Value → Bool
+guard_holds n s over e b i = is_or_outside (values_in n over) (flat_outcome n s e b) i

@@ -1,0 +1,109 @@
+-- The laws: what the crate's public functions say.
+use Rattle.std.specs.Prelude.{◌≡◌, ◌<◌, ℕ, List, map, length, slice_get, Option, Some, option_map, Bool, true, false}
+use Rattle.smv_core.specs.Values.{Name, Value, number, range, choice, scalarset, ordset, Sizes}
+use Rattle.smv_core.specs.Flat.{Numbered, FlatState, values_in, flat_outcome, flat_allowed_by, flat_allowed}
+use Rattle.smv_core.specs.declared.flat.FlatExpr.{FlatExpr}
+use Rattle.smv_core.specs.declared.flat.Def.{Def}
+use Rattle.smv_core.specs.declared.flat.Family.{Family}
+use Rattle.smv_core.specs.declared.flat.Simple.{Simple as FlatSimple}
+use Rattle.smv_abs.specs.declared.abstract_type.AbsType.{AbsType}
+use Rattle.smv_abs.specs.declared.abstract_type.Rest.TheVariants as beside
+use Rattle.smv_abs.specs.Sets.{Has}
+use Rattle.smv_abs.specs.Places.{World, world, places_in}
+use Rattle.smv_abs.specs.May.{AbsState, Kept, may}
+use Rattle.smv_abs.specs.Right.{may_allow, must_allow}
+use Rattle.smv_abs.specs.Demands.{is_defined, is_broken_map, is_assumed, is_broken_claim, may_guard}
+use Rattle.smv_abs.specs.Guards.{guard_holds}
+use Rattle.smv_abs.specs.Bound.{AreAtClasses, IsSingle}
+use Rattle.smv_abs.specs.Pictures.{Placing, placed, IsPlaced, ArePlaced, AreOfTypes, IsState, IsPicture, ArePictured, AreValues, KeepsNamed}
+use Rattle.smv_abs.specs.Placings.{spot_by, spot_between, AreDistinct, AreBelow, AreRising, AreIn, HasRoom}
+use Rattle.smv_abs.specs.Cases.{grow, used}
+use Rattle.smv_abs.specs.Circular.{Circle, ShowsFailures, HasNoViolation, AlwaysHolds}
+use Rattle.smv_abs.specs.Uses.{is_now, rank_of}
+
+-- a rank that falls along the uses that are now
+abbrev pub FallsAlong : (ℕ → ℕ → Bool) → (ℕ → ℕ) → Type 0
+FallsAlong uses rank = (u v : ℕ) → uses u v ≡ true → rank v < rank u
+
+-- where failures are shown, no case has a violating path and the uses that are now hold no cycle, every unit always holds: by time, and at one time in the order of the uses that are now
+abbrev pub CircularInduction : Type 0 → Type 0 → Type 0 → Type 0 → Type 0
+CircularInduction State Instance Case Picture =
+    (circle : Circle State Instance Case Picture) (rank : ℕ → ℕ) → FallsAlong circle.uses_now rank → ShowsFailures circle → HasNoViolation circle → AlwaysHolds circle
+
+-- the uses that are now hold no cycle: a rank falls along each
+abbrev pub NowUsesFall : Type 0
+NowUsesFall = (uses : ℕ → ℕ → Bool) (n u v : ℕ) → u < n → v < n → is_now uses n u v ≡ true → rank_of uses n v < rank_of uses n u
+
+-- the three facts of ranges and enumerations, whose values are their own classes
+abbrev pub PlainTypesArePlaced : Type 0
+PlainTypesArePlaced = (sizes : Sizes) (w : World) (spots : Placing) →
+    ((low high : ℕ) → IsPlaced sizes w (placed spots) (range low high)) × ((names : List Name) → IsPlaced sizes w (placed spots) (choice names))
+
+-- the three facts of a scalarset: distinct values below its size are the classes, and all others, if there may be any, are at the rest
+abbrev pub ScalarsetsArePlaced : Type 0
+ScalarsetsArePlaced = (sizes : Sizes) (w : World) (spots : Placing) (t : Name) (values : List ℕ) → AreDistinct values → AreBelow (sizes t) values →
+    HasRoom (w.rests t) (sizes t) values → w.classes.sizes t ≡ length values → ((k : ℕ) → spots t k ≡ spot_by values k) → IsPlaced sizes w (placed spots) (scalarset t)
+
+-- the three facts of an ordset: rising values below its size are the classes, and each other is in the gap between the classes around it
+abbrev pub OrdsetsArePlaced : Type 0
+OrdsetsArePlaced = (sizes : Sizes) (w : World) (spots : Placing) (t : Name) (values : List ℕ) → AreRising (sizes t) values →
+    w.rests t ≡ beside.Gaps → w.classes.sizes t ≡ length values → ((k : ℕ) → spots t k ≡ spot_between values k) → IsPlaced sizes w (placed spots) (ordset t)
+
+-- what holds of every state of a design, under every placing that has the three facts of each of its types, in each of its pictures
+abbrev pub InEachPicture : (Numbered → World → Placing → FlatState → Kept → AbsState → Type 0) → Type 0
+InEachPicture Keeps =
+    (n : Numbered) (types : Name → AbsType) (spots : Placing) → ArePlaced n (world n types) spots →
+    (s : FlatState) → IsState n s → (kept : Kept) (a : AbsState) → IsPicture n spots kept s a → Keeps n (world n types) spots s kept a
+
+-- what an expression has as its outcome in a state, it may have in the state's picture: for all sizes, also where nothing lies at a rest or in a gap
+abbrev pub MayKeepsOutcomes : Type 0
+MayKeepsOutcomes = InEachPicture (λ n w spots s kept a. (e : FlatExpr) (b : List Value) → AreValues n b →
+    Has (may w kept a e (map (placed spots) b)) (option_map (placed spots) (flat_outcome n s e b)))
+
+-- a value that a right side allows a target may be allowed in the picture
+abbrev pub MayKeepsRightSides : Type 0
+MayKeepsRightSides = InEachPicture (λ n w spots s kept a. (t : FlatSimple) (e : FlatExpr) (b : List Value) → AreValues n b → (v : Value) →
+    Has (flat_allowed_by n s (values_in n t) e b) v → may_allow w kept a (places_in w t) e (map (placed spots) b) (placed spots v) ≡ true)
+
+-- a value that is allowed in the picture for certain is allowed
+abbrev pub MustKeepsRightSides : Type 0
+MustKeepsRightSides = InEachPicture (λ n w spots s kept a. (t : FlatSimple) (e : FlatExpr) (b : List Value) → AreValues n b → (v : Value) → Has (values_in n t) v →
+    must_allow w kept a (places_in w t) e (map (placed spots) b) (placed spots v) ≡ true → Has (flat_allowed_by n s (values_in n t) e b) v)
+
+-- a definition that allows the value of an element at numbers, constants and classes is met in the picture, and a map that is not broken in the picture allows it
+abbrev pub MapsAreKept : Type 0
+MapsAreKept =
+    (n : Numbered) (types : Name → AbsType) (spots : Placing) → ArePlaced n (world n types) spots → (kept : Kept) →
+    (def : Def) (f : Family) → slice_get n.families def.family ≡ Some f → (indexes : List Value) → AreOfTypes n f.over indexes → AreAtClasses n spots indexes →
+    kept def.family (map (placed spots) indexes) ≡ true → IsSingle n def indexes (values_in n f.value) →
+    (now : FlatState) → IsState n now → (a : AbsState) → IsPicture n spots kept now a → (before : Option FlatState) (old : Option AbsState) → ArePictured n spots kept before old →
+    (Has (flat_allowed n def (record { family = def.family; indexes = indexes }) (values_in n f.value) before now) (now def.family indexes) →
+    is_defined (world n types) kept def (map (placed spots) indexes) old a ≡ true)
+    × (is_broken_map (world n types) kept def (map (placed spots) indexes) old a ≡ false →
+    Has (flat_allowed n def (record { family = def.family; indexes = indexes }) (values_in n f.value) before now) (now def.family indexes))
+
+-- a claim that holds is met in the picture, and one that is not broken in the picture holds
+abbrev pub ClaimsAreKept : Type 0
+ClaimsAreKept = InEachPicture (λ n w spots s kept a. (body : FlatExpr) (b : List Value) → AreValues n b →
+    (flat_outcome n s body b ≡ Some (number 1) → is_assumed w kept body (map (placed spots) b) a ≡ true)
+    × (is_broken_claim w kept body (map (placed spots) b) a ≡ false → flat_outcome n s body b ≡ Some (number 1)))
+
+-- for each state some value of a split's parameter meets the guard, where its type has a value at all
+abbrev pub GuardsCover : Type 0
+GuardsCover = (n : Numbered) (s : FlatState) (over : FlatSimple) (e : FlatExpr) (b : List Value) (v : Value) → Has (values_in n over) v →
+    (i : Value) × Has (values_in n over) i × (guard_holds n s over e b i ≡ true)
+
+-- a guard that holds may hold in the picture
+abbrev pub GuardsAreKept : Type 0
+GuardsAreKept = InEachPicture (λ n w spots s kept a. (over : FlatSimple) (e : FlatExpr) (b : List Value) → AreValues n b → (i : Value) → Has (values_in n over) i →
+    guard_holds n s over e b i ≡ true → may_guard w kept over e (map (placed spots) b) (placed spots i) a ≡ true)
+
+-- every state has a picture
+abbrev pub PicturesExist : Type 0
+PicturesExist = (n : Numbered) (types : Name → AbsType) (spots : Placing) → ArePlaced n (world n types) spots →
+    (kept : Kept) → KeepsNamed (world n types) kept → (s : FlatState) → (a : AbsState) × IsPicture n spots kept s a
+
+-- for all values of the listed parameters of a scalarset, however many it has, some classes that grow as the rules want have a placing that puts each parameter at its class
+abbrev pub GrowingClassesCover : Type 0
+GrowingClassesCover = (size : ℕ) (vs : List ℕ) → AreBelow size vs →
+    (classes : List ℕ) × (grow 0 classes ≡ true) × (values : List ℕ) × AreDistinct values × AreBelow size values × (used classes ≡ length values) × AreIn values vs classes

@@ -1,0 +1,42 @@
+-- Worked cases.
+use Rattle.std.specs.Prelude.{◌≡◌, ℕ, List, [], ◌∷◌, map, Some, None, Bool, true, false}
+use Rattle.smv_core.specs.declared.flat.Simple.TheVariants.{Range, Set}
+use Rattle.smv_core.specs.declared.flat.Class.{Class}
+use Rattle.smv_core.specs.declared.flat.Class.TheVariants.{Number, Named, Rest}
+use Rattle.smv_abs.specs.declared.abstract_type.Rest.TheVariants as beside
+use Rattle.smv_abs.specs.Cases.{Parameter, whole, reduced, ordered, cases, type_in}
+
+-- a parameter over the first set type, listed or not
+abbrev pub listed : Parameter
+listed = record { over = Set 0; listed = true }
+
+abbrev pub unlisted : Parameter
+unlisted = record { over = Set 0; listed = false }
+
+abbrev pub named : List ℕ → List Class
+named cs = map Named cs
+
+-- three parameters of one undeclared scalarset: 000, 001, 010, 011, 012; of a declared one of two values that is not reduced, without the last
+abbrev pub ScalarsetCases : Type 0
+ScalarsetCases = (cases (reduced None ∷ []) (listed ∷ listed ∷ listed ∷ []) ≡ map named ((0 ∷ 0 ∷ 0 ∷ []) ∷ (0 ∷ 0 ∷ 1 ∷ []) ∷ (0 ∷ 1 ∷ 0 ∷ []) ∷ (0 ∷ 1 ∷ 1 ∷ []) ∷ (0 ∷ 1 ∷ 2 ∷ []) ∷ []))
+    × (cases (whole 2 ∷ []) (listed ∷ unlisted ∷ listed ∷ []) ≡ map named ((0 ∷ 0 ∷ 0 ∷ []) ∷ (0 ∷ 0 ∷ 1 ∷ []) ∷ (0 ∷ 1 ∷ 0 ∷ []) ∷ (0 ∷ 1 ∷ 1 ∷ []) ∷ []))
+    × (cases (whole 1 ∷ []) (listed ∷ listed ∷ []) ≡ named (0 ∷ 0 ∷ []) ∷ [])
+
+-- with one listed parameter of a scalarset of four values there is one case, with one class and a rest
+abbrev pub ReducedCases : Type 0
+ReducedCases = (cases (reduced (Some 4) ∷ []) (listed ∷ []) ≡ named (0 ∷ []) ∷ [])
+    × (type_in (reduced (Some 4)) 0 (listed ∷ []) (named (0 ∷ [])) ≡ record { named = 1; rest = beside.One })
+    × (cases (reduced (Some 4) ∷ []) (unlisted ∷ listed ∷ []) ≡ named (0 ∷ 0 ∷ []) ∷ (Rest 0 ∷ Named 0 ∷ []) ∷ [])
+    × (cases (reduced (Some 1) ∷ []) (unlisted ∷ listed ∷ []) ≡ named (0 ∷ 0 ∷ []) ∷ [])
+    × (type_in (reduced (Some 1)) 0 (unlisted ∷ listed ∷ []) (named (0 ∷ 0 ∷ [])) ≡ record { named = 1; rest = beside.None })
+    × (cases (reduced None ∷ []) (unlisted ∷ []) ≡ (Rest 0 ∷ []) ∷ [])
+
+-- in an ordset the listed parameters stand in any order; another one is at a class or in a gap
+abbrev pub OrdsetCases : Type 0
+OrdsetCases = (cases (ordered ∷ []) (listed ∷ listed ∷ []) ≡ map named ((0 ∷ 0 ∷ []) ∷ (0 ∷ 1 ∷ []) ∷ (1 ∷ 0 ∷ []) ∷ []))
+    × (cases (ordered ∷ []) (listed ∷ unlisted ∷ []) ≡ named (0 ∷ 0 ∷ []) ∷ (Named 0 ∷ Rest 0 ∷ []) ∷ (Named 0 ∷ Rest 1 ∷ []) ∷ [])
+    × (type_in ordered 0 (listed ∷ listed ∷ []) (named (1 ∷ 0 ∷ [])) ≡ record { named = 2; rest = beside.Gaps })
+
+-- a parameter over a range has any of its values
+abbrev pub RangeCases : Type 0
+RangeCases = cases (reduced None ∷ []) (record { over = Range 2 3; listed = true } ∷ listed ∷ []) ≡ (Number 2 ∷ Named 0 ∷ []) ∷ (Number 3 ∷ Named 0 ∷ []) ∷ []
