@@ -1,0 +1,6 @@
+pub mod Computing
+pub mod Notes
+pub mod TypeLaws
+pub mod ExpressionLaws
+pub mod StatementLaws
+pub mod ItemLaws

@@ -1,0 +1,4 @@
+pub mod Worked
+pub mod WorkedNames
+pub mod Tomasulo
+pub mod Limits
