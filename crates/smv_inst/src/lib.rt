@@ -3,3 +3,4 @@
 
 pub mod expressions;
 pub mod mentions;
+pub mod pieces;
