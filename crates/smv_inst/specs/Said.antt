@@ -1,8 +1,9 @@
 -- What the program notes of a text, as what the text says.
-use Rattle.std.specs.Prelude.{List, [], flat_map, map, Option, option_map}
+use Rattle.std.specs.Prelude.{◌≡◌, List, [], flat_map, map, Option, option_map}
 use Rattle.std.proofs.Common.{Bor}
 use Rattle.smv_core.specs.declared.tree.Word.{Word}
 use Rattle.smv_core.specs.declared.tree.Top.{Top}
+use Rattle.smv_core.specs.declared.tree.Text.{Text}
 use Rattle.smv_core.specs.declared.tree.Field.{out-Field}
 use Rattle.smv_inst.specs.declared.mentions.What.{What as NotedWhat}
 use Rattle.smv_inst.specs.declared.mentions.What.TheVariants.{Signal, Instance, Goal}
@@ -39,3 +40,7 @@ told_by top =
 -- the same of what the program noted of a top
 abbrev pub told : NotedPiece → Word × Option (List Word) × List Mention
 told piece = (piece.word.now, option_map (λ (formals : Bor (List Word)). formals.now) piece.formals, map said piece.mentions.items)
+
+-- what was noted of a text's tops, in their order
+abbrev pub AreNoted : List NotedPiece → Text → Type 0
+AreNoted pieces text = map told pieces ≡ map told_by text.tops

@@ -1,6 +1,6 @@
 // The tops of a text, each with what it says about names.
-ghost use Rattle.std.specs.Prelude.{◌≡◌, map, IfOk};
-ghost use Rattle.smv_inst.specs.Said.{told, told_by};
+ghost use Rattle.std.specs.Prelude.{IfOk};
+ghost use Rattle.smv_inst.specs.Said.{AreNoted};
 
 use crate::mentions::Mention;
 use smv_core::tree::{Text, Word};
@@ -16,7 +16,7 @@ pub struct Piece<'a> {
 
 /// The tops of a text in their order, each with what it says about names.
 pub fn pieces<'a>(alloc: Global, text: &'a Text) -> Result<Vec<Piece<'a>>, AllocError>
-    ensures { IfOk result (λ pieces. map told pieces.items ≡ map told_by text.now.tops) }
+    ensures { IfOk result (λ pieces. AreNoted pieces.items text.now) }
 {
     Err(AllocError)
 }
