@@ -6,3 +6,5 @@ pub mod items;
 pub mod mentions;
 pub mod pieces;
 pub mod statements;
+#[cfg(test)]
+mod tests;
