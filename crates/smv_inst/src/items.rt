@@ -57,6 +57,7 @@ fn item<'a>(
     }
 }
 
+// The values of a `forall`.
 #[cycle(items)]
 #[tactic(auto, using(crate::proofs::Notes::noting))]
 fn each_value<'a>(
@@ -91,6 +92,7 @@ pub fn items<'a>(
     Ok(())
 }
 
+// Instances of a module, each with these arguments.
 #[tactic(auto, using(crate::proofs::Notes::noting))]
 fn instances<'a>(
     alloc: Global,
@@ -113,6 +115,7 @@ fn instances<'a>(
     expressions(alloc, out, vars, args)
 }
 
+// The left sides of all of these equations.
 #[tactic(auto, using(crate::proofs::Notes::noting))]
 fn all_pairs<'a>(
     alloc: Global,
@@ -143,6 +146,7 @@ fn declare<'a>(
     Ok(())
 }
 
+// A claim or a split of this name.
 #[tactic(auto, using(crate::proofs::Notes::noting))]
 fn declare_goal<'a>(out: &mut Vec<Mention<'a>>, word: &'a Word) -> Result<(), AllocError>
     ensures { OnOk result (map said out.new.items ≡ map said out.old.items ++ declares word.now goal ∷ []) }

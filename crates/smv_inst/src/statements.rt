@@ -1,11 +1,11 @@
 // What statements say about names.
 ghost use Rattle.std.specs.Prelude.{◌≡◌, [], ◌∷◌, ◌++◌, map, flat_map, OnOk};
-ghost use Rattle.smv_inst.specs.Mentions.{in_type, in_stmt, in_arm, binder_in};
+ghost use Rattle.smv_inst.specs.Mentions.{in_stmt, in_arm};
 ghost use Rattle.smv_inst.specs.Said.{said, words_at};
 
 use crate::expressions::{expression, expressions, path};
 use crate::mentions::{Mention, binder, binder_over, inside};
-use smv_core::tree::{Arm, Stmt, TypeExpr, Word};
+use smv_core::tree::{Arm, Stmt, Word};
 use std::alloc::{AllocError, Global};
 
 // A statement inside these variables, the innermost last.
@@ -50,51 +50,39 @@ pub fn statement<'a>(
             statement(alloc, out, vars, first.get())?;
             statement(alloc, out, vars, second.get())
         }
-        Stmt::For { var, body, .. } => turns(alloc, out, vars, body.get(), var),
+        Stmt::For { var, body, .. } => {
+            binder(out, vars, var)?;
+            body_inside(alloc, out, vars, body.get(), var)
+        }
         Stmt::Forall {
             var,
             over,
             body,
             ..
-        } => each_value(alloc, out, vars, body.get(), var, over),
+        } => {
+            binder_over(out, vars, var, over)?;
+            body_inside(alloc, out, vars, body.get(), var)
+        }
     }
 }
 
-// The turns of a `for`.
+// The body of a `for` or a `forall`, inside its variable as well.
 #[cycle(statements)]
 #[tactic(auto, using(crate::proofs::Notes::noting))]
-fn turns<'a>(
+fn body_inside<'a>(
     alloc: Global,
     out: &mut Vec<Mention<'a>>,
     vars: &[&'a Word],
     body: &'a Stmt,
     var: &'a Word,
 ) -> Result<(), AllocError>
-    ensures { OnOk result (map said out.new.items ≡ map said out.old.items ++ (binder_in (words_at vars.now) var.now ∷ in_stmt (words_at vars.now ++ var.now ∷ []) body.now)) }
+    ensures { OnOk result (map said out.new.items ≡ map said out.old.items ++ in_stmt (words_at vars.now ++ var.now ∷ []) body.now) }
 {
-    binder(out, vars, var)?;
     let inner = inside(alloc, vars, var)?;
     statement(alloc, out, inner.as_slice(), body)
 }
 
-// The values of a `forall`.
-#[cycle(statements)]
-#[tactic(auto, using(crate::proofs::Notes::noting))]
-fn each_value<'a>(
-    alloc: Global,
-    out: &mut Vec<Mention<'a>>,
-    vars: &[&'a Word],
-    body: &'a Stmt,
-    var: &'a Word,
-    over: &'a TypeExpr,
-) -> Result<(), AllocError>
-    ensures { OnOk result (map said out.new.items ≡ map said out.old.items ++ (binder_in (words_at vars.now) var.now ∷ in_type over.now ++ in_stmt (words_at vars.now ++ var.now ∷ []) body.now)) }
-{
-    binder_over(out, vars, var, over)?;
-    let inner = inside(alloc, vars, var)?;
-    statement(alloc, out, inner.as_slice(), body)
-}
-
+// All of these statements.
 #[cycle(statements)]
 #[tactic(auto, using(crate::proofs::Notes::noting))]
 pub fn block<'a>(
@@ -111,6 +99,7 @@ pub fn block<'a>(
     Ok(())
 }
 
+// The labels and statements of all of these arms.
 #[cycle(statements)]
 #[tactic(auto, using(crate::proofs::Notes::noting))]
 fn all_arms<'a>(
