@@ -1,5 +1,5 @@
 // Small texts are noted. What they say was written out by hand.
-use crate::mentions::{Mention, What};
+use crate::mentions::Mention;
 use crate::pieces::pieces;
 use smv_core::tree::{Item, Role, Text, Top, TypeExpr, Word};
 use smv_core::{Boxed, Name, Seq};
@@ -71,26 +71,22 @@ fn a_module_says_what_it_declares(rt: HostRuntime) -> Result<(), Fail> {
     let alloc = rt.alloc();
     let text = module(alloc)?;
     let noted = pieces(alloc, &text)?;
-    assert_eq!(rt; noted.len(), 1);
-    assert!(rt; noted[0].formals.is_some());
-    assert!(rt; is_one_signal(noted[0].mentions.as_slice()));
+    let mut places = Vec::new(alloc);
+    for piece in &noted {
+        for mention in &piece.mentions {
+            places.push(place_of(mention))?;
+        }
+    }
+    assert_eq!(rt; places.as_slice(), [17, 22, 25].as_slice());
     Ok(())
 }
 
-// A variable over a type, and a signal inside it.
-fn is_one_signal(mentions: &[Mention]) -> bool {
-    match mentions {
-        [
-            Mention::Binds { around: None, var },
-            Mention::NamesType { word: over },
-            Mention::Declares {
-                word,
-                what: What::Signal {
-                    role: Role::Plain,
-                    of: TypeExpr::Boolean,
-                },
-            },
-        ] => var.at == 17 && over.at == 22 && word.at == 25,
-        _ => false,
+// Where a variable, a type or a signal stands.
+fn place_of(mention: &Mention) -> u32 {
+    match mention {
+        Mention::Binds { var, .. } => var.at,
+        Mention::NamesType { word } => word.at,
+        Mention::Declares { word, .. } => word.at,
+        _ => 0,
     }
 }
