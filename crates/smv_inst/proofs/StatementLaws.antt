@@ -6,11 +6,11 @@ use Rattle.smv_core.specs.declared.tree.TypeExpr.{TypeExpr}
 use Rattle.smv_core.specs.declared.tree.Kind.{Kind}
 use Rattle.smv_core.specs.declared.tree.Path.{Path}
 use Rattle.smv_core.specs.declared.tree.Expr.{Expr}
-use Rattle.smv_core.specs.declared.tree.Arm.{Arm, out-Arm}
+use Rattle.smv_core.specs.declared.tree.Arm.{Arm}
 use Rattle.smv_core.specs.declared.tree.Stmt.{Stmt, Assign, Block, Block', If, Switch, Switch', Default, For, Forall, Held-Stmt-If-2, None', Row_of-Stmt, end_of-Stmt, more_of-Stmt, Row_of-Arm, end_of-Arm, more_of-Arm}
 use Rattle.smv_core.specs.declared.tree.Stmt.{items-the_row-Stmt, items-the_row-Arm, items_hidden-the_row-Stmt-0, items_hidden-the_row-Arm-2}
 use mathlib.Core.Former.{Count}
-use Rattle.smv_inst.specs.Mentions.{Mention, in_type, in_expr, in_stmt, in_block, in_arms, in_branch, in_arm, in_other, in_path, binder_in}
+use Rattle.smv_inst.specs.Mentions.{in_type, in_expr, in_stmt, in_block, in_arms, in_branch, in_arm, in_other, in_path, binder_in}
 use Rattle.smv_inst.proofs.Computing.{computing}
 
 module _ (vars : List Word) where
