@@ -24,7 +24,7 @@ indexes =
     -- a variable over a set type, over a range
     (codes "scalarset P undefined; module main() { y : array 0..1 of boolean; forall (i in P) y[i] := 0; }", fault 12 84) ∷
     -- a sum over a range, in parentheses
-    (codes "module main() { y : array 0..1 of boolean; x : boolean; c : {red}; p : assert G (y[(x + 1)] = y[((c))]); }", fault 12 97) ∷
+    (codes "module main() { y : array 0..1 of boolean; x : boolean; c : {red}; p : assert G (y[(x + 1)] = y[((c))]); }", fault 12 98) ∷
     -- a number over a set type is left to the rules of set types
     (codes "scalarset P undefined; module main() { a : P; y : array P of boolean; y[0] := 0; y[a] := 1; next(y[1 + 1]) := 0; }", valid) ∷
     -- a `for` variable over a range and over a set type
@@ -350,7 +350,7 @@ statements =
     -- a variable over a set type
     (codes "scalarset P undefined; module main() { y : array P of boolean; forall (i in P) if (y[i]) y[i] := i; }", fault 12 97) ∷
     -- a `forall` around items
-    (codes "scalarset P undefined; module main() { y : array P of boolean; forall (i in P) { y[i] := 0; { q[i] : assert G (y[i] = i); } } }", fault 12 118) ∷
+    (codes "scalarset P undefined; module main() { y : array P of boolean; forall (i in P) { y[i] := 0; { q[i] : assert G (y[i] = i); } } }", valid) ∷
     -- a `for` variable beside a value of a set type is left to the rules of set types
     (codes "scalarset P undefined; module main() { a : P; x : boolean; for (n = 0; n < 4; n = n + 1) if (a = n) x := n; }", valid) ∷ []
 
