@@ -107,9 +107,8 @@ module _ (scope : Scope) where
 
   -- ---- items
 
-  -- The expression of a split's equation has some kind, which is compared with its parameter later.
   abbrev mutual
-    -- the faults in an item
+    -- The faults in an item. A claim is a number. The kinds of a split's expressions are compared with its parameters later.
     pub in_item : Vars → Item → List Fault
     in_item vars (Declare role words of at) = flat_map (formal_faults scope.here.types role of) words ++ type_faults scope.here.types of
     in_item vars (Instance words name args at) = in_arguments (find_name scope.modules name.name) args

@@ -393,3 +393,119 @@ whole_text =
     (codes "module m() { c : {red, green}; } module main() { d : {red, green}; n : m(); p : assert G (n.c = d); }", valid) ∷
     -- two scalarsets of one size
     (codes "scalarset P 0..1; scalarset Q 0..1; module main() { a : P; b : Q; b := a; }", fault 12 71) ∷ []
+
+-- a number and a value of a set type, where the rules of set types decide
+abbrev pub left_to_set_types : List (List ℕ × Answer)
+left_to_set_types =
+    -- sides
+    (codes "scalarset P undefined; module main() { a : P; p : assert G (0 = a); q : assert G (a ~= 1 + 1); }", valid) ∷
+    -- sides of an order
+    (codes "scalarset P undefined; module main() { a : P; x : 0..3; p : assert G (a < x); q : assert G (x mod 2 >= a); }", valid) ∷
+    -- the left part and a member
+    (codes "scalarset P undefined; module main() { a : P; x : 0..3; p : assert G (x in {a}); q : assert G (a in {x, 2..3}); }", valid) ∷
+    -- members of one set
+    (codes "scalarset P undefined; module main() { a : P; x : 0..3; a := {x, a}; p : assert G (a in {a, x}); }", valid) ∷
+    -- the value and a label
+    (codes "scalarset P undefined; module main() { a : P; x : 0..3; switch (a) { 1 : x := 0; } switch (x) { a : next(x) := 0; } }", valid) ∷
+    -- branches
+    (codes "scalarset P undefined; module main() { a : P; x : 0..3; a := x ? x : a; p : assert G (a = (x ? a : 1)); }", valid) ∷
+    -- the value of a target
+    (codes "scalarset P undefined; module main() { a : P; x : 0..3; a := x; init(a) := {i : i in 0..1}; }", valid) ∷
+    -- an index
+    (codes "scalarset P undefined; module main() { x : 0..3; y : array P of boolean; p : assert G y[x]; y[x + 1] := 0; }", valid) ∷
+    -- variables over a range
+    (codes "scalarset P undefined; module main() { y : array P of boolean; a : P; forall (i in 0..1) { p[i] : assert G (y[i] | a = i); } }", valid) ∷
+    -- nothing is left where a constant meets a value of a set type
+    (codes "scalarset P undefined; module main() { a : P; c : {red}; p : assert G (a = 0 | a = red); }", fault 12 83) ∷ []
+
+-- a `for` variable is a number
+abbrev pub for_variables : List (List ℕ × Answer)
+for_variables =
+    -- beside a value of a set type
+    (codes "scalarset P undefined; module main() { a : P; x : boolean; for (n = 0; n < 2; n = n + 1) if (n = a | a in {n} | a < n) x := 0; }", valid) ∷
+    -- as a value, a branch, a member and a label
+    (codes "scalarset P undefined; module main() { a, b : P; x : boolean; for (n = 0; n < 2; n = n + 1) { a := n; b := x ? {n, a} : n; switch (a) { n : x := n; } } }", valid) ∷
+    -- as an index over a set type
+    (codes "scalarset P undefined; module main() { y : array P of boolean; for (n = 0; n < 2; n = n + 1) y[n] := n; }", valid) ∷
+    -- beside a constant
+    (codes "module main() { x : boolean; c : {red}; for (n = 0; n < 2; n = n + 1) if (c = n) x := 0; }", fault 12 78) ∷
+    -- for a constant
+    (codes "module main() { y : array 0..1 of {red}; for (n = 0; n <= 1; n = n + 1) y[n] := n + 1; }", fault 12 80) ∷
+    -- as a label beside a constant
+    (codes "module main() { x : boolean; c : {red}; for (n = 0; n < 2; n = n + 1) switch (c) { n : x := 0; } }", fault 12 83) ∷
+    -- with an index
+    (codes "module main() { x : boolean; for (n = 0; n < 2; n = n + 1) x := n[0]; }", fault 12 64) ∷ []
+
+-- each part of an expression is looked at
+abbrev pub parts_of_expressions : List (List ℕ × Answer)
+parts_of_expressions =
+    -- both sides of `<->`
+    (codes "module main() { c : {red}; p : assert G (~c <-> 1); q : assert G (1 <-> ~c); }", fault 12 42) ∷
+    -- the right side of `<->`
+    (codes "module main() { c : {red}; p : assert G (1 <-> ~c); }", fault 12 48) ∷
+    -- the left side of `=`
+    (codes "module main() { c : {red}; p : assert G (1 + c = 1); }", fault 12 45) ∷
+    -- the right side of an order
+    (codes "module main() { c : {red}; p : assert G (1 < 1 + c); }", fault 12 49) ∷
+    -- the left part of `in`
+    (codes "module main() { c : {red}; p : assert G (1 + c in {1}); }", fault 12 45) ∷
+    -- a member
+    (codes "module main() { c : {red}; p : assert G (1 in {1, 1 + c}); }", fault 12 54) ∷
+    -- the condition of a `?:`
+    (codes "module main() { c : {red}; p : assert G ((~c ? 0 : 1) = 1); }", fault 12 43) ∷
+    -- the second branch
+    (codes "module main() { c : {red}; p : assert G ((1 ? 0 : 1 - c) = 1); }", fault 12 54) ∷
+    -- the branches of a value
+    (codes "module main() { x : boolean; c : {red}; x := x ? {x, ~c} : 1; }", fault 12 54) ∷
+    -- the condition of a value
+    (codes "module main() { x : boolean; c : {red}; x := ~c ? {x} : 1; }", fault 12 46) ∷
+    -- a remainder in a quantifier in a quantifier
+    (codes "module main() { c : {red}; p : assert G &[ |[ 1 = c mod 2 : j in 0..1 ] : i in 0..1 ]; }", fault 12 50) ∷
+    -- the condition of a comprehension, with its variable
+    (codes "scalarset P undefined; module main() { a : P; a := {i : i in P, i = a & ~i}; }", fault 12 73) ∷ []
+
+-- each part of a statement and of an item is looked at
+abbrev pub parts_of_statements : List (List ℕ × Answer)
+parts_of_statements =
+    -- an index on the left
+    (codes "module main() { y : array 0..1 of boolean; c : {red}; next(y[1 - c]) := 0; }", fault 12 65) ∷
+    -- the condition of an `if`
+    (codes "module main() { x : boolean; c : {red}; if (~c) x := 0; }", fault 12 45) ∷
+    -- the first branch of an `if`
+    (codes "module main() { x : boolean; c : {red}; if (x) x := ~c; else x := ~c; }", fault 12 53) ∷
+    -- the value of a `switch`
+    (codes "module main() { x : boolean; c : {red}; switch (1 + c) { 0 : x := 0; } }", fault 12 52) ∷
+    -- the second arm, without labels of another kind
+    (codes "module main() { x : boolean; c : {red}; switch (x) { 0 : { } 1 : { x := 0; x := ~c; } } }", fault 12 81) ∷
+    -- the body of a `for` in a `forall` in a `default`
+    (codes "module main() { y : array 0..1 of boolean; c : {red}; default { } in forall (i in 0..1) for (n = 0; n < 1; n = n + 1) y[i] := n + c; }", fault 12 130) ∷
+    -- a `forall` around a claim in braces
+    (codes "module main() { c : {red}; forall (i in 0..1) { { p[i] : assert G (i = 1 | ~c); } } }", fault 12 76) ∷
+    -- a later statement of a layer
+    (codes "module main() { x : boolean; c : {red}; layer L : { x := 0; next(x) := ~c; } }", fault 12 72) ∷
+    -- a later argument of a later instance
+    (codes "module m(a, b) { input a, b : boolean; } module main() { c : {red}; n : m(0, 1); k : m({0, 1}, ~c); }", fault 12 96) ∷
+    -- a variable over a set type in the condition of its body
+    (codes "scalarset P undefined; module main() { y : array P of boolean; forall (i in P) if (i) y[i] := 0; }", fault 12 83) ∷ []
+
+-- names behind an instance are read in its module, with the types that it may name
+abbrev pub instances : List (List ℕ × Answer)
+instances =
+    -- a type that stands behind the module of the instance
+    (codes "module main() { n : m(); p : assert G (n.s.f[1] = red); } typedef t struct { f : array 0..1 of boolean; }; module m() { s : t; c : {red}; }", fault 12 50) ∷
+    -- an instance of an instance
+    (codes "module k() { x : {red}; } module m() { n : k(); } module main() { n : m(); p : assert G (n.n.x = 1); }", fault 12 97) ∷
+    -- an instance of an instance as a whole
+    (codes "module k() { x : {red}; } module m() { n : k(); } module main() { n : m(); p : assert G (n.n.x = n.n); }", fault 12 97) ∷
+    -- an assignment behind an instance
+    (codes "module k() { x : {red}; } module main() { n : k(); n.x := 0; }", fault 12 58) ∷
+    -- a signal of the same name in another module
+    (codes "module k() { x : {red}; } module main() { x : boolean; n : k(); n.x := red; x := n.x; }", fault 12 81) ∷
+    -- an input from the output of another instance
+    (codes "module k(b) { output b : {red}; } module m(a) { input a : boolean; } module main() { c : {red}; n : k(c); l : m(n.b); }", fault 12 112) ∷
+    -- an output into an input of another instance
+    (codes "module k(b) { output b : {red}; } module m(a) { input a : boolean; } module main() { l : m(0); n : k(l.a); }", fault 12 101) ∷
+    -- a formal of `main` that is a struct
+    (codes "module main(a, b) { input a : {red}; output b : struct { f : boolean; }; }", fault 12 44) ∷
+    -- formals of `main` are signals
+    (codes "module main(a, b) { input a : {red}; output b : boolean; b := a; }", fault 12 62) ∷ []

@@ -34,5 +34,10 @@ pub fn worked_kinds()
     ensures statements { AreFound places.statements }
     ensures splits { AreFound places.splits }
     ensures whole_text { AreFound places.whole_text }
+    ensures left_to_set_types { AreFound places.left_to_set_types }
+    ensures for_variables { AreFound places.for_variables }
+    ensures parts_of_expressions { AreFound places.parts_of_expressions }
+    ensures parts_of_statements { AreFound places.parts_of_statements }
+    ensures instances { AreFound places.instances }
     ensures tomasulo { AreFound machine.rows }
 {}

@@ -87,5 +87,20 @@ returns-clause-splits c = places.splits
 pub returns-clause-whole_text : goal.returns-clause-whole_text
 returns-clause-whole_text c = places.whole_text
 
+pub returns-clause-left_to_set_types : goal.returns-clause-left_to_set_types
+returns-clause-left_to_set_types c = places.left_to_set_types
+
+pub returns-clause-for_variables : goal.returns-clause-for_variables
+returns-clause-for_variables c = places.for_variables
+
+pub returns-clause-parts_of_expressions : goal.returns-clause-parts_of_expressions
+returns-clause-parts_of_expressions c = places.parts_of_expressions
+
+pub returns-clause-parts_of_statements : goal.returns-clause-parts_of_statements
+returns-clause-parts_of_statements c = places.parts_of_statements
+
+pub returns-clause-instances : goal.returns-clause-instances
+returns-clause-instances c = places.instances
+
 pub returns-clause-tomasulo : goal.returns-clause-tomasulo
 returns-clause-tomasulo c = machine.rows
