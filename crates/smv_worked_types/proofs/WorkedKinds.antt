@@ -51,3 +51,23 @@ mixes = refl
 pub targets : AreFound w.targets
 unfolding computing
 targets = refl
+
+pub left_to_set_types : AreFound w.left_to_set_types
+unfolding computing
+left_to_set_types = refl
+
+pub for_variables : AreFound w.for_variables
+unfolding computing
+for_variables = refl
+
+pub parts_of_expressions : AreFound w.parts_of_expressions
+unfolding computing
+parts_of_expressions = refl
+
+pub designs : AreFound w.designs
+unfolding computing
+designs = refl
+
+pub earlier_passes : AreFound w.earlier_passes
+unfolding computing
+earlier_passes = refl

@@ -68,18 +68,6 @@ pub whole_text : AreFound w.whole_text
 unfolding computing
 whole_text = refl
 
-pub left_to_set_types : AreFound w.left_to_set_types
-unfolding computing
-left_to_set_types = refl
-
-pub for_variables : AreFound w.for_variables
-unfolding computing
-for_variables = refl
-
-pub parts_of_expressions : AreFound w.parts_of_expressions
-unfolding computing
-parts_of_expressions = refl
-
 pub parts_of_statements : AreFound w.parts_of_statements
 unfolding computing
 parts_of_statements = refl

@@ -288,3 +288,109 @@ targets =
     (codes "scalarset P undefined; module main() { s : struct { f : {red}; g : P; }; s.f := red; s.g := red; }", fault 12 92) ∷
     -- a range takes every number
     (codes "module main() { x : 0..3; x := 511; next(x) := x + 9; }", valid) ∷ []
+
+-- a number and a value of a set type, where the rules of set types decide
+abbrev pub left_to_set_types : List (List ℕ × Answer)
+left_to_set_types =
+    -- sides
+    (codes "scalarset P undefined; module main() { a : P; p : assert G (0 = a); q : assert G (a ~= 1 + 1); }", valid) ∷
+    -- sides of an order
+    (codes "scalarset P undefined; module main() { a : P; x : 0..3; p : assert G (a < x); q : assert G (x mod 2 >= a); }", valid) ∷
+    -- the left part and a member
+    (codes "scalarset P undefined; module main() { a : P; x : 0..3; p : assert G (x in {a}); q : assert G (a in {x, 2..3}); }", valid) ∷
+    -- members of one set
+    (codes "scalarset P undefined; module main() { a : P; x : 0..3; a := {x, a}; p : assert G (a in {a, x}); }", valid) ∷
+    -- the value and a label
+    (codes "scalarset P undefined; module main() { a : P; x : 0..3; switch (a) { 1 : x := 0; } switch (x) { a : next(x) := 0; } }", valid) ∷
+    -- branches
+    (codes "scalarset P undefined; module main() { a : P; x : 0..3; a := x ? x : a; p : assert G (a = (x ? a : 1)); }", valid) ∷
+    -- the value of a target
+    (codes "scalarset P undefined; module main() { a : P; x : 0..3; a := x; init(a) := {i : i in 0..1}; }", valid) ∷
+    -- an index
+    (codes "scalarset P undefined; module main() { x : 0..3; y : array P of boolean; p : assert G y[x]; y[x + 1] := 0; }", valid) ∷
+    -- variables over a range
+    (codes "scalarset P undefined; module main() { y : array P of boolean; a : P; forall (i in 0..1) { p[i] : assert G (y[i] | a = i); } }", valid) ∷
+    -- nothing is left where a constant meets a value of a set type
+    (codes "scalarset P undefined; module main() { a : P; c : {red}; p : assert G (a = 0 | a = red); }", fault 12 83) ∷ []
+
+-- a `for` variable is a number
+abbrev pub for_variables : List (List ℕ × Answer)
+for_variables =
+    -- beside a value of a set type
+    (codes "scalarset P undefined; module main() { a : P; x : boolean; for (n = 0; n < 2; n = n + 1) if (n = a | a in {n} | a < n) x := 0; }", valid) ∷
+    -- as a value, a branch, a member and a label
+    (codes "scalarset P undefined; module main() { a, b : P; x : boolean; for (n = 0; n < 2; n = n + 1) { a := n; b := x ? {n, a} : n; switch (a) { n : x := n; } } }", valid) ∷
+    -- as an index over a set type
+    (codes "scalarset P undefined; module main() { y : array P of boolean; for (n = 0; n < 2; n = n + 1) y[n] := n; }", valid) ∷
+    -- beside a constant
+    (codes "module main() { x : boolean; c : {red}; for (n = 0; n < 2; n = n + 1) if (c = n) x := 0; }", fault 12 78) ∷
+    -- for a constant
+    (codes "module main() { y : array 0..1 of {red}; for (n = 0; n <= 1; n = n + 1) y[n] := n + 1; }", fault 12 80) ∷
+    -- as a label beside a constant
+    (codes "module main() { x : boolean; c : {red}; for (n = 0; n < 2; n = n + 1) switch (c) { n : x := 0; } }", fault 12 83) ∷
+    -- with an index
+    (codes "module main() { x : boolean; for (n = 0; n < 2; n = n + 1) x := n[0]; }", fault 12 64) ∷ []
+
+-- each part of an expression is looked at
+abbrev pub parts_of_expressions : List (List ℕ × Answer)
+parts_of_expressions =
+    -- both sides of `<->`
+    (codes "module main() { c : {red}; p : assert G (~c <-> 1); q : assert G (1 <-> ~c); }", fault 12 42) ∷
+    -- the right side of `<->`
+    (codes "module main() { c : {red}; p : assert G (1 <-> ~c); }", fault 12 48) ∷
+    -- the left side of `=`
+    (codes "module main() { c : {red}; p : assert G (1 + c = 1); }", fault 12 45) ∷
+    -- the right side of an order
+    (codes "module main() { c : {red}; p : assert G (1 < 1 + c); }", fault 12 49) ∷
+    -- the left part of `in`
+    (codes "module main() { c : {red}; p : assert G (1 + c in {1}); }", fault 12 45) ∷
+    -- a member
+    (codes "module main() { c : {red}; p : assert G (1 in {1, 1 + c}); }", fault 12 54) ∷
+    -- the condition of a `?:`
+    (codes "module main() { c : {red}; p : assert G ((~c ? 0 : 1) = 1); }", fault 12 43) ∷
+    -- the second branch
+    (codes "module main() { c : {red}; p : assert G ((1 ? 0 : 1 - c) = 1); }", fault 12 54) ∷
+    -- the branches of a value
+    (codes "module main() { x : boolean; c : {red}; x := x ? {x, ~c} : 1; }", fault 12 54) ∷
+    -- the condition of a value
+    (codes "module main() { x : boolean; c : {red}; x := ~c ? {x} : 1; }", fault 12 46) ∷
+    -- a remainder in a quantifier in a quantifier
+    (codes "module main() { c : {red}; p : assert G &[ |[ 1 = c mod 2 : j in 0..1 ] : i in 0..1 ]; }", fault 12 50) ∷
+    -- the condition of a comprehension, with its variable
+    (codes "scalarset P undefined; module main() { a : P; a := {i : i in P, i = a & ~i}; }", fault 12 73) ∷ []
+
+-- designs without a fault of kinds
+abbrev pub designs : List (List ℕ × Answer)
+designs =
+    -- a register
+    (codes "module main() { x : boolean; init(x) := 0; next(x) := ~x; p : assert G (x | ~x); }", valid) ∷
+    -- a counter
+    (codes "module main() { x : 0..7; init(x) := 0; next(x) := (x + 1) mod 8; p : assert G (x <= 7); }", valid) ∷
+    -- two registers with a layer
+    (codes "module main() { a, b : boolean; init(a) := 0; init(b) := 0; next(a) := b; next(b) := a; layer spec : { a := 0; b := 0; } using b//spec prove a//spec; using a//spec prove b//spec; }", valid) ∷
+    -- claims that use each other
+    (codes "module main() { x : boolean; p : assert G x; q : assert G x; using q prove p; using p prove q; }", valid) ∷
+    -- a split over a set type
+    (codes "scalarset P undefined; module main() { a, b : P; p : assert G (a = b -> a = b); forall (i in P) subcase s[i] of p for a = i; }", valid) ∷
+    -- an index outside its range is no fault
+    (codes "module main() { x : array 0..1 of 0..0; n : 0..2; p : assert G (x[n] = 0); }", valid) ∷
+    -- an order
+    (codes "ordset I undefined; module main() { forall (i in I) forall (j in I) p[i][j] : assert G (i < j | i = j | j < i); }", valid) ∷
+    -- a module
+    (codes "module inverter(a, b) { input a : boolean; output b : boolean; b := ~a; } module main() { x, y : boolean; n : inverter(x, y); }", valid) ∷
+    -- an unknown function
+    (codes "scalarset WORD undefined; module main() { f : array WORD of WORD; forall (a in WORD) next(f[a]) := f[a]; }", valid) ∷ []
+
+-- a fault of names or size comes first, wherever it stands
+abbrev pub earlier_passes : List (List ℕ × Answer)
+earlier_passes =
+    -- a name that is not declared
+    (codes "module main() { x : boolean; c : {red}; x := red; c := y; }", fault 7 55) ∷
+    -- a missing field beside a missing index
+    (codes "module main() { s : array 0..1 of struct { f : boolean; }; x : boolean; x := s.f & s.g; }", fault 7 85) ∷
+    -- a type as a signal
+    (codes "typedef t boolean; module main() { x : boolean; x := {0} + t; }", fault 7 59) ∷
+    -- a wrong number of arguments
+    (codes "module m(a) { input a : array 0..1 of boolean; } module main() { n : m(); }", fault 11 69) ∷
+    -- a family with five indexes
+    (codes "module main() { x : array 3..2 of array 0..1 of array 0..1 of array 0..1 of array 0..1 of boolean; }", fault 25 7) ∷ []

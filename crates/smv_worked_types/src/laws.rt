@@ -18,6 +18,11 @@ pub fn worked_kinds()
     ensures branches { AreFound kinds.branches }
     ensures mixes { AreFound kinds.mixes }
     ensures targets { AreFound kinds.targets }
+    ensures left_to_set_types { AreFound kinds.left_to_set_types }
+    ensures for_variables { AreFound kinds.for_variables }
+    ensures parts_of_expressions { AreFound kinds.parts_of_expressions }
+    ensures designs { AreFound kinds.designs }
+    ensures earlier_passes { AreFound kinds.earlier_passes }
     ensures indexes { AreFound places.indexes }
     ensures whole_references { AreFound places.whole_references }
     ensures no_signals { AreFound places.no_signals }
@@ -34,9 +39,6 @@ pub fn worked_kinds()
     ensures statements { AreFound places.statements }
     ensures splits { AreFound places.splits }
     ensures whole_text { AreFound places.whole_text }
-    ensures left_to_set_types { AreFound places.left_to_set_types }
-    ensures for_variables { AreFound places.for_variables }
-    ensures parts_of_expressions { AreFound places.parts_of_expressions }
     ensures parts_of_statements { AreFound places.parts_of_statements }
     ensures instances { AreFound places.instances }
     ensures tomasulo { AreFound machine.rows }

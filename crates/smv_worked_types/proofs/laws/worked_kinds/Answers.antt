@@ -39,6 +39,21 @@ returns-clause-mixes c = kinds.mixes
 pub returns-clause-targets : goal.returns-clause-targets
 returns-clause-targets c = kinds.targets
 
+pub returns-clause-left_to_set_types : goal.returns-clause-left_to_set_types
+returns-clause-left_to_set_types c = kinds.left_to_set_types
+
+pub returns-clause-for_variables : goal.returns-clause-for_variables
+returns-clause-for_variables c = kinds.for_variables
+
+pub returns-clause-parts_of_expressions : goal.returns-clause-parts_of_expressions
+returns-clause-parts_of_expressions c = kinds.parts_of_expressions
+
+pub returns-clause-designs : goal.returns-clause-designs
+returns-clause-designs c = kinds.designs
+
+pub returns-clause-earlier_passes : goal.returns-clause-earlier_passes
+returns-clause-earlier_passes c = kinds.earlier_passes
+
 pub returns-clause-indexes : goal.returns-clause-indexes
 returns-clause-indexes c = places.indexes
 
@@ -86,15 +101,6 @@ returns-clause-splits c = places.splits
 
 pub returns-clause-whole_text : goal.returns-clause-whole_text
 returns-clause-whole_text c = places.whole_text
-
-pub returns-clause-left_to_set_types : goal.returns-clause-left_to_set_types
-returns-clause-left_to_set_types c = places.left_to_set_types
-
-pub returns-clause-for_variables : goal.returns-clause-for_variables
-returns-clause-for_variables c = places.for_variables
-
-pub returns-clause-parts_of_expressions : goal.returns-clause-parts_of_expressions
-returns-clause-parts_of_expressions c = places.parts_of_expressions
 
 pub returns-clause-parts_of_statements : goal.returns-clause-parts_of_statements
 returns-clause-parts_of_statements c = places.parts_of_statements
