@@ -1,5 +1,5 @@
 -- What types are, as far as kinds go, and the faults in them. Each type name stands for what is declared before.
-use Rattle.std.specs.Prelude.{ℕ, List, [], ◌∷◌, ◌++◌, Option, Some, None, Bool, true, false, ◌||◌, option_map, option_and_then, nat_lt, if◌then◌else◌}
+use Rattle.std.specs.Prelude.{ℕ, List, [], ◌∷◌, ◌++◌, Option, Some, None, Bool, true, false, not, ◌||◌, option_map, option_and_then, nat_lt, if◌then◌else◌}
 use Rattle.smv_core.specs.Values.{Name}
 use Rattle.smv_core.specs.Types.{find_name, names_of}
 use Rattle.smv_core.specs.declared.fault.Fault.{Fault}
@@ -39,11 +39,6 @@ abbrev pub value_kind : Option Whole → Kind
 value_kind None = no_kind
 value_kind (Some w) = w.value
 
--- an index type is a range or a set type; there is no other
-abbrev pub as_index : Kind → Kind
-as_index (enumeration names) = no_kind
-as_index kind = kind
-
 -- ---- types
 
 -- the type names that are declared so far
@@ -59,7 +54,7 @@ module _ (types : Types) where
     leads (Enum names at) parts = single (enumeration (names_of names)) parts
     leads (Named word at) parts = option_and_then (λ named. named parts) (find_name types word.name)
     leads (Array' i (more_of-TypeExpr index end_of-TypeExpr) o (more_of-TypeExpr of end_of-TypeExpr)) (At e ∷ parts) =
-        option_map (under (as_index (value_kind (leads index [])))) (leads of parts)
+        option_map (under (value_kind (leads index []))) (leads of parts)
     leads (Struct' shape fields) (Field word ∷ parts) = leads_field fields word parts
     leads _ _ = None
 
@@ -69,7 +64,7 @@ module _ (types : Types) where
 
   -- the kind of an index of this type, or of a variable that runs over it
   abbrev pub index_kind : TypeExpr → Kind
-  index_kind t = as_index (value_kind (leads t []))
+  index_kind t = value_kind (leads t [])
 
   -- the type names after one more top
   abbrev pub types_after : Top → Types
@@ -92,15 +87,17 @@ abbrev pub size_faults : Option Span → ℕ → List Fault
 size_faults None at = []
 size_faults (Some span) at = range_faults span at
 
-abbrev pub is_no_kind : Kind → Bool
-is_no_kind no_kind = true
-is_no_kind _ = false
+-- an index type is a range or a set type
+abbrev pub is_index : Kind → Bool
+is_index number = true
+is_index (set_type name) = true
+is_index _ = false
 
 module _ (types : Types) where
   -- fault 12 at the name of a type that is no index type, and fault 13 in a range
   abbrev pub index_faults : TypeExpr → List Fault
   index_faults (Range span at) = range_faults span at
-  index_faults (Named word at) = faults_at (12, place_if (is_no_kind (index_kind types (Named word at))) at)
+  index_faults (Named word at) = faults_at (12, place_if (not (is_index (index_kind types (Named word at)))) at)
   index_faults _ = []
 
   abbrev mutual

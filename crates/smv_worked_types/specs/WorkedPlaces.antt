@@ -225,10 +225,16 @@ index_types =
     (codes "typedef t {red}; module main() { p : assert G &[ 1 : i in t ]; }", fault 12 58) ∷
     -- a comprehension
     (codes "typedef t {red}; module main() { c : t; c := {i : i in t}; }", fault 12 55) ∷
-    -- a variable over such a type fits everything
-    (codes "typedef t {red}; module main() { p : assert G &[ i & i = red & i = 0 : i in t ]; }", fault 12 76) ∷
-    -- an index over such a type fits everything
-    (codes "typedef t {red}; module main() { p : assert G (y[0] & y[red]); y : array t of boolean; }", fault 12 73) ∷
+    -- a variable over an enumeration is a constant all the same
+    (codes "typedef t {red}; module main() { p : assert G &[ i = red : i in t ]; }", fault 12 64) ∷
+    -- and so it does not fit a number, which stands before the type
+    (codes "typedef t {red}; module main() { p : assert G &[ i = 0 : i in t ]; }", fault 12 53) ∷
+    -- an index over an enumeration is a constant
+    (codes "typedef t {red}; module main() { p : assert G y[red]; y : array t of boolean; }", fault 12 64) ∷
+    -- and no number
+    (codes "typedef t {red}; module main() { p : assert G (y[red] | y[0]); y : array t of boolean; }", fault 12 58) ∷
+    -- a variable and an index over an array type fit everything
+    (codes "typedef t array 0..1 of boolean; module main() { c : {red}; p : assert G &[ i & i = red & y[red] & y[0] : i in t ]; y : array t of boolean; }", fault 12 111) ∷
     -- ranges and set types by name
     (codes "scalarset P 0..3; ordset O undefined; typedef p P; typedef b boolean; typedef r 0..3; module main() { y : array p of array b of array O of array r of boolean; forall (i in p) forall (j in O) forall (k in r) y[i][k = 0][j][k] := 0; }", valid) ∷ []
 
