@@ -19,3 +19,8 @@ pub mod DemandsKeep
 pub mod GuardsKeep
 pub mod PicturesExist
 pub mod CasesCover
+pub mod ScopesKeep
+pub mod OneOfEach
+pub mod GuardsChosen
+pub mod CaseKeeps
+pub mod Joined

@@ -20,6 +20,7 @@ use Rattle.smv_abs.specs.Placings.{spot_by, spot_between, AreDistinct, AreBelow,
 use Rattle.smv_abs.specs.Cases.{grow, used}
 use Rattle.smv_abs.specs.Circular.{Circle, ShowsFailures, HasNoViolation, AlwaysHolds}
 use Rattle.smv_abs.specs.Uses.{is_now, rank_of}
+use Rattle.smv_abs.specs.Soundness.{Plan, IsPlan, HasNoViolatingPath, IsSound}
 
 -- a rank that falls along the uses that are now
 abbrev pub FallsAlong : (ℕ → ℕ → Bool) → (ℕ → ℕ) → Type 0
@@ -107,3 +108,7 @@ PicturesExist = (n : Numbered) (types : Name → AbsType) (spots : Placing) → 
 abbrev pub GrowingClassesCover : Type 0
 GrowingClassesCover = (size : ℕ) (vs : List ℕ) → AreBelow size vs →
     (classes : List ℕ) × (grow 0 classes ≡ true) × (values : List ℕ) × AreDistinct values × AreBelow size values × (used classes ≡ length values) × AreIn values vs classes
+
+-- where no case of any leaf has a violating path, every unit holds at every time of every run, for all sizes
+abbrev pub NoViolatingPathIsSound : Type 0
+NoViolatingPathIsSound = (plan : Plan) → IsPlan plan → HasNoViolatingPath plan → IsSound plan

@@ -11,6 +11,8 @@ pub mod Guards
 pub mod Obligations
 pub mod Cases
 pub mod Bound
+pub mod Scopes
+pub mod Soundness
 pub mod Placings
 pub mod Worked
 pub mod WorkedRights

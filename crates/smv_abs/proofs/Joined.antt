@@ -1,0 +1,167 @@
+-- The joined law: the circular rule over the states of a design and the instances of its units.
+use Rattle.std.proofs.Common.{◌≡◌, ℕ, zero, suc, ◌+◌, ◌<◌, ◌≤◌, List, [], ◌∷◌, ◌++◌, map, take, length, get_or, Bool, true, false, ◌&&◌, if◌then◌else◌, refl, sym, ap, subst, ◌∙◌, ◌⊎◌, inl, inr, arith, Option, Some, None, option_map, nat_eq}
+use Rattle.std.specs.List.{list_all, slice_get}
+use Rattle.smv_core.specs.Values.{Value, number, Sizes}
+use Rattle.smv_core.specs.Flat.{Numbered, FlatState, values_in}
+use Rattle.smv_core.specs.declared.flat.Def.{Def}
+use Rattle.smv_core.specs.declared.flat.Guard.{Guard}
+use Rattle.smv_core.specs.declared.flat.Simple.{Simple as FlatSimple}
+use Rattle.smv_abs.specs.Sets.{Has, first, later, one_of_each}
+use Rattle.smv_abs.specs.Places.{Place, named, is_named}
+use Rattle.smv_abs.specs.May.{AbsState}
+use Rattle.smv_abs.specs.Pictures.{Placing, placed, ArePlaced, IsState}
+use Rattle.smv_abs.specs.Guards.{guard_holds}
+use Rattle.smv_abs.specs.Circular.{Demand, Obligation, always, Circle, AreHeld, IsShown, ShowsFailures, HasNoViolation}
+use Rattle.smv_abs.specs.Obligations.{Demanded, Problem, is_met, is_broken, may_hold, obligation}
+use Rattle.smv_abs.specs.Soundness.{FlatUnit, map_of, claim_of, LeafProof, Plan, at_sizes, AreSizes, params_of, values_over, is_held, meets_base, IsRun, HasCase, IsSound, HasNoViolatingPath, said_at, IsKept, IsGranted, by_base, by_use, IsCase, AreGuards, IsPlanAt, IsPlan}
+use Rattle.smv_abs.proofs.Tests.{and_both}
+use Rattle.smv_abs.proofs.Members.{all-each, all-holds}
+use Rattle.smv_abs.proofs.Same.{nat_eq-itself, nat_eq-is}
+use Rattle.smv_abs.proofs.OneOfEach.{AreOf, are_of, one_of, are_long, are_joined, map_joined, map_long, take_front, get_Has, Has_get}
+use Rattle.smv_abs.proofs.GuardsChosen.{Added, choose}
+use Rattle.smv_abs.proofs.CaseKeeps.{Known, state_of, values_are, picture, demand_met, target_broken, guard_may}
+use Rattle.smv_abs.proofs.Induction.{always_holds}
+
+-- demands along a run
+always_mapped : {X Y : Type 0} (f : X → Y) (D : Demand Y) (old : Option X) (xs : List X) → always (λ old x. D (option_map f old) (f x)) old xs ≡ always D (option_map f old) (map f xs)
+always_mapped f D old [] = refl
+always_mapped f D old (x ∷ xs) = ap (λ b. D (option_map f old) (f x) && b) (always_mapped f D (Some x) xs)
+
+always_same : {X : Type 0} (D E : Demand X) → ((old : Option X) (x : X) → D old x ≡ E old x) → (old : Option X) (xs : List X) → always D old xs ≡ always E old xs
+always_same D E h old [] = refl
+always_same D E h old (x ∷ xs) = ap (λ b. b && always D (Some x) xs) (h old x) ∙ ap (λ b. E old x && b) (always_same D E h (Some x) xs)
+
+known : (n : Numbered) (run : List FlatState) → ((s : FlatState) → Has run s → IsState n s) → List (Known n)
+known n [] h = []
+known n (s ∷ run) h = record { state = s; is_state = h s first } ∷ known n run (λ t k. h t (later k))
+
+known_are : (n : Numbered) (run : List FlatState) (h : (s : FlatState) → Has run s → IsState n s) → map state_of (known n run h) ≡ run
+unfolding known
+known_are n [] h = refl
+known_are n (s ∷ run) h = ap (λ ss. s ∷ ss) (known_are n run (λ t k. h t (later k)))
+
+of_its_type : (n : Numbered) (types : List FlatSimple) (ys : List Value) (k : ℕ) (t : FlatSimple) → AreOf (map (values_in n) types) ys → slice_get types k ≡ Some t → Has (values_in n t) (get_or ys k (number 0))
+of_its_type n [] ys k t h e = absurd (cc)
+of_its_type n (u ∷ types) [] k t h e = elim h [ ]
+of_its_type n (u ∷ types) (y ∷ ys) zero t h e = subst (λ u. Has (values_in n u) y) (inner e) h.0
+  where
+    inner : {u t : FlatSimple} → Some u ≡ Some t → u ≡ t
+    inner e = cc
+of_its_type n (u ∷ types) (y ∷ ys) (suc k) t h e = of_its_type n types ys k t h.1 e
+
+module _ (plan : Plan) (sizes : Sizes) where
+  abbrev n : Numbered
+  n = at_sizes plan.names sizes
+
+  -- an instance of the unit at this place
+  record Instance : Type 0 where
+    place : ℕ
+    leaf : LeafProof
+    is_leaf : slice_get plan.leaves place ≡ Some leaf
+    values : List Value
+    are_values : Has (values_over n (params_of plan.names leaf.unit)) values
+
+  -- a case of it
+  record CaseOf : Type 0 where
+    place : ℕ
+    leaf : LeafProof
+    is_leaf : slice_get plan.leaves place ≡ Some leaf
+    case : Problem
+    is_case : Has leaf.cases case
+
+  abbrev held : Instance → Demand (Known n)
+  held i old s = is_held n i.leaf.unit i.values (option_map state_of old) s.state
+
+  abbrev circle : Circle (Known n) Instance CaseOf AbsState
+  circle = record {
+    base = λ old s. meets_base n plan.base (option_map state_of old) s.state;
+    holds = λ u i old s. if nat_eq u i.place then held i old s else true;
+    uses_now = plan.uses_now;
+    uses_before = plan.uses_before;
+    is_case = λ u c. nat_eq u c.place;
+    obligation = λ u c. obligation c.case;
+  }
+
+  module _ (is_plan : IsPlan plan) (at : IsPlanAt plan sizes) where
+    -- what is granted is met in the pictures of a case
+    module _ (p : Problem) (u : ℕ) (leaf : LeafProof) (is_case : IsCase plan u leaf p) (cover : (spots : Placing) × ArePlaced n p.world spots) where
+      abbrev seen : Known n → AbsState
+      seen = picture plan sizes p is_case.types is_case.is_world cover.0 cover.1 is_case.keeps_named
+
+      granted : (uses : ℕ → Bool) (d : Demanded) → IsGranted plan uses p d → (old : Option (Known n)) (s : Known n) → circle.base old s ≡ true → AreHeld circle uses old s →
+          is_met p (option_map seen old) (seen s) d ≡ true
+      granted uses d (by_base def h of) old s base used =
+          demand_met plan sizes p is_case.types is_case.is_world cover.0 cover.1 is_case.keeps_named (map_of def) (at.base def h) d of old s
+          (λ xs k. all-each (λ xs. is_held n (map_of def) xs (option_map state_of old) s.state)
+          (all-each (λ def. list_all (λ xs. is_held n (map_of def) xs (option_map state_of old) s.state) (values_over n (params_of n (map_of def)))) base h) k)
+      granted uses d (by_use v is_used leaf is_leaf of) old s base used =
+          demand_met plan sizes p is_case.types is_case.is_world cover.0 cover.1 is_case.keeps_named leaf.unit (at.units leaf (get_Has plan.leaves v leaf is_leaf)) d of old s
+          (λ xs k. subst (λ b. (if b then is_held n leaf.unit xs (option_map state_of old) s.state else true) ≡ true) (nat_eq-itself v)
+          (used v (record { place = v; leaf = leaf; is_leaf = is_leaf; values = xs; are_values = k }) is_used))
+
+      all_granted : (uses : ℕ → Bool) (ds : List Demanded) → ((d : Demanded) → Has ds d → IsGranted plan uses p d) → (old : Option (Known n)) (s : Known n) → circle.base old s ≡ true → AreHeld circle uses old s →
+          list_all (is_met p (option_map seen old) (seen s)) ds ≡ true
+      all_granted uses ds h old s base used = all-holds (is_met p (option_map seen old) (seen s)) ds (λ d k. granted uses d (h d k) old s base used)
+
+    -- an instance that fails is shown by the case that covers its values and some values of the added parameters at which the guards hold
+    shown : (i : Instance) (old : Option (Known n)) (s : Known n) → held i old s ≡ false → IsShown circle i.place old s
+    shown i old s fails =
+        let is_leaf = get_Has plan.leaves i.place i.leaf i.is_leaf in
+        let own = params_of plan.names i.leaf.unit in
+        let guards = is_plan.are_guards i.leaf is_leaf in
+        let are = are_of (map (values_in n) own) i.values i.are_values in
+        let long : length i.values ≡ length own = are_long (map (values_in n) own) i.values are ∙ map_long (values_in n) own in
+        let r = choose n s.state i.leaf.guards (own ++ i.leaf.added) guards.of_type guards.reads_before guards.one_each i.leaf.added own refl (at.have_values i.leaf is_leaf) i.values long in
+        let ys = i.values ++ r.added in
+        let ys_are : AreOf (map (values_in n) (own ++ i.leaf.added)) ys = subst (λ xss. AreOf xss ys) (sym (map_joined (values_in n) own i.leaf.added))
+        (are_joined (map (values_in n) own) (map (values_in n) i.leaf.added) i.values r.added are r.are) in
+        let c = at.covers i.leaf is_leaf ys (one_of (map (values_in n) (own ++ i.leaf.added)) ys ys_are) in
+        let case = is_plan.are_cases i.place i.leaf i.is_leaf c.case c.is_case in
+        let pictured = seen c.case i.place i.leaf case (c.spots, c.are_placed) in
+        let front : map (placed c.spots) i.values ≡ take (length own) c.case.params =
+        sym (ap (take (length own)) (sym c.stands ∙ map_joined (placed c.spots) i.values r.added)
+        ∙ take_front (map (placed c.spots) i.values) (map (placed c.spots) r.added) (length own) (map_long (placed c.spots) i.values ∙ long)) in
+        record {
+          case = record { place = i.place; leaf = i.leaf; is_leaf = i.is_leaf; case = c.case; is_case = c.is_case };
+          is_case = nat_eq-itself i.place;
+          picture = pictured;
+          keeps_now = λ old s base used. all_granted c.case i.place i.leaf case (c.spots, c.are_placed) (plan.uses_now i.place) c.case.now case.now old s base used;
+          keeps_before = λ old s base used. all_granted c.case i.place i.leaf case (c.spots, c.are_placed) (plan.uses_before i.place) c.case.before case.before old s base used;
+          breaks = and_both
+              (subst (λ gs. list_all (may_hold c.case (pictured s)) gs ≡ true) (sym case.are_guards) (all-holds (may_hold c.case (pictured s)) i.leaf.guards
+              (λ g h. guard_may plan sizes c.case case.types case.is_world c.spots c.are_placed case.keeps_named g ys (values_are n (own ++ i.leaf.added) ys ys_are) c.stands
+              (of_its_type n (own ++ i.leaf.added) ys g.var g.over ys_are (guards.of_type g h)) s
+              (r.hold g h (subst (λ k. k ≤ g.var) (sym long) (guards.is_added g h))))))
+              (subst (λ d. is_broken c.case (option_map pictured old) (pictured s) d ≡ true) (sym case.is_target)
+              (subst (λ ps. is_broken c.case (option_map pictured old) (pictured s) (said_at i.leaf.unit ps) ≡ true) front
+              (target_broken plan sizes c.case case.types case.is_world c.spots c.are_placed case.keeps_named i.leaf.unit (at.units i.leaf is_leaf) i.values i.are_values
+              (λ e. subst (IsKept c.case i.leaf.unit) (sym front) (case.keeps_target (subst (λ ps. list_all is_named ps ≡ true) front e))) old s fails)));
+        }
+
+    shows : ShowsFailures circle
+    shows u i old s base fails = at_place (nat_eq u i.place) refl fails
+      where
+        at_place : (b : Bool) → nat_eq u i.place ≡ b → (if b then held i old s else true) ≡ false → IsShown circle u old s
+        at_place true e f = subst (λ u. IsShown circle u old s) (sym (nat_eq-is u i.place e)) (shown i old s f)
+        at_place false e f = absurd (cc)
+
+    none : HasNoViolatingPath plan → HasNoViolation circle
+    none h u c e path = h c.leaf (get_Has plan.leaves c.place c.leaf c.is_leaf) c.case c.is_case path
+
+    everything : HasNoViolatingPath plan → (run : List FlatState) → IsRun n plan.base run → (i : Instance) → always (is_held n i.leaf.unit i.values) None run ≡ true
+    everything h run is_run i =
+        let states = known n run is_run.are_states in
+        let same = known_are n run is_run.are_states in
+        let runs : always circle.base None states ≡ true =
+        always_mapped state_of (meets_base n plan.base) None states ∙ (ap (always (meets_base n plan.base) None) same ∙ is_run.keeps_base) in
+        let holds : always (circle.holds i.place i) None states ≡ true = always_holds circle is_plan.order is_plan.falls shows (none h) states runs i.place i in
+        sym (ap (always (is_held n i.leaf.unit i.values) None) same)
+        ∙ (sym (always_mapped state_of (is_held n i.leaf.unit i.values) None states)
+        ∙ (always_same (held i) (circle.holds i.place i) (λ old s. ap (λ b. if b then held i old s else true) (sym (nat_eq-itself i.place))) None states
+        ∙ holds))
+
+-- where no case of any leaf has a violating path, every unit holds at every time of every run, for all sizes
+pub sound : (plan : Plan) → IsPlan plan → HasNoViolatingPath plan → IsSound plan
+sound plan is_plan none sizes are_sizes run is_run leaf is_leaf values are_values =
+    let at = Has_get is_leaf in
+    everything plan sizes is_plan (is_plan.at_each sizes are_sizes) none run is_run (record { place = at.0; leaf = leaf; is_leaf = at.1; values = values; are_values = are_values })

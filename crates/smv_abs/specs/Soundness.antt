@@ -1,0 +1,173 @@
+-- Soundness: a plan of proof of a design, what a plan has to be, and that every unit holds in every run where no case has a violating path.
+use Rattle.std.specs.Prelude.{◌≡◌, ◌<◌, ◌≤◌, ◌⊎◌, ℕ, List, [], ◌++◌, map, take, length, slice_get, get_or, Option, Some, None, Bool, true, false}
+use Rattle.std.specs.List.{list_all}
+use Rattle.smv_core.specs.Values.{Name, Value, number, Sizes, truth, is_in}
+use Rattle.smv_core.specs.Outcome.{is_true}
+use Rattle.smv_core.specs.Flat.{Numbered, FlatState, values_in, flat_outcome, flat_allowed}
+use Rattle.smv_core.specs.declared.flat.Claim.{Claim}
+use Rattle.smv_core.specs.declared.flat.Def.{Def}
+use Rattle.smv_core.specs.declared.flat.Family.{Family}
+use Rattle.smv_core.specs.declared.flat.Guard.{Guard}
+use Rattle.smv_core.specs.declared.flat.SetInfo.{SetInfo}
+use Rattle.smv_core.specs.declared.flat.Simple.{Simple as FlatSimple}
+use Rattle.smv_abs.specs.declared.abstract_type.AbsType.{AbsType}
+use Rattle.smv_abs.specs.Sets.{Has, one_of_each}
+use Rattle.smv_abs.specs.Places.{Place, is_named, World, world, named_in}
+use Rattle.smv_abs.specs.Pictures.{Placing, placed, ArePlaced, IsState, KeepsNamed}
+use Rattle.smv_abs.specs.Bound.{IsSingle}
+use Rattle.smv_abs.specs.Circular.{Demand, always, is_violating}
+use Rattle.smv_abs.specs.Obligations.{Demanded, defined, holds, Problem, obligation}
+use Rattle.smv_abs.specs.Scopes.{ReadsOnly, before}
+
+-- a unit: a refinement map, by the definition of a family in a layer, or a claim
+pub data FlatUnit : Type 0 where
+  map_of : Def → FlatUnit
+  claim_of : Claim → FlatUnit
+
+-- the end of a unit's chain of splits, with the problems of its cases: the unit, the types of the parameters that the splits add, and their guards
+pub record LeafProof : Type 0 where
+  pub unit : FlatUnit
+  pub added : List FlatSimple
+  pub guards : List Guard
+  pub cases : List Problem
+
+-- a plan of proof of a design: its names, its base definitions, the leaf of each unit in flat order, and which unit uses which now and before, by their places
+pub record Plan : Type 0 where
+  pub names : Numbered
+  pub base : List Def
+  pub leaves : List LeafProof
+  pub uses_now : ℕ → ℕ → Bool
+  pub uses_before : ℕ → ℕ → Bool
+
+-- a design at these sizes
+abbrev pub at_sizes : Numbered → Sizes → Numbered
+at_sizes n sizes = record n { sizes = sizes }
+
+-- each set type has a value, and one of a declared size has its size
+abbrev pub AreSizes : Numbered → Sizes → Type 0
+AreSizes n sizes = (info : SetInfo) → Has n.sets info → (0 < sizes info.name) × HasSize info.size (sizes info.name)
+  where
+    HasSize : Option ℕ → ℕ → Type 0
+    HasSize None size = Unit {0}
+    HasSize (Some declared) size = size ≡ declared
+
+-- the types of the indexes of a family, and its values
+abbrev pub over_of : Option Family → List FlatSimple
+over_of (Some f) = f.over
+over_of None = []
+
+abbrev pub values_of_family : Numbered → Option Family → List Value
+values_of_family n (Some f) = values_in n f.value
+values_of_family n None = []
+
+module _ (n : Numbered) where
+  -- the types of a unit's parameters: of a map the indexes of its family
+  abbrev pub params_of : FlatUnit → List FlatSimple
+  params_of (map_of def) = over_of (slice_get n.families def.family)
+  params_of (claim_of claim) = map (λ p. p.over) claim.params
+
+  -- one value for each parameter, in all ways
+  abbrev pub values_over : List FlatSimple → List (List Value)
+  values_over types = one_of_each (map (values_in n) types)
+
+  -- an instance of a unit holds: of a map where the definition allows the element's value, of a claim where its body is 1
+  abbrev pub is_held : FlatUnit → List Value → Demand FlatState
+  is_held (map_of def) indexes before now =
+      is_in (flat_allowed n def (record { family = def.family; indexes = indexes }) (values_of_family n (slice_get n.families def.family)) before now) (now def.family indexes)
+  is_held (claim_of claim) values before now = is_true (truth (flat_outcome n now claim.body values))
+
+  -- each base definition allows each element of its family its value
+  abbrev pub meets_base : List Def → Demand FlatState
+  meets_base base before now = list_all (λ def. list_all (λ indexes. is_held (map_of def) indexes before now) (values_over (params_of (map_of def)))) base
+
+  -- states of the design, the earliest first, that keep to the base definitions at each time
+  pub record IsRun (base : List Def) (run : List FlatState) : Type 0 where
+    pub are_states : (s : FlatState) → Has run s → IsState n s
+    pub keeps_base : always (meets_base base) None run ≡ true
+
+  -- a definition is one of a family, and at most one value of each of its `forall` variables gives an element a result
+  pub record IsDefinition (def : Def) : Type 0 where
+    pub family : Family
+    pub is_family : slice_get n.families def.family ≡ Some family
+    pub is_single : (indexes : List Value) → Has (values_over family.over) indexes → IsSingle n def indexes (values_in n family.value)
+
+  -- so is that of a map
+  abbrev pub IsUnit : FlatUnit → Type 0
+  IsUnit (map_of def) = IsDefinition def
+  IsUnit (claim_of claim) = Unit {0}
+
+  -- values of the parameters have a case: a placing with the three facts of each type puts each of them where the case has it
+  pub record HasCase (cases : List Problem) (values : List Value) : Type 0 where
+    pub case : Problem
+    pub is_case : Has cases case
+    pub spots : Placing
+    pub are_placed : ArePlaced n case.world spots
+    pub stands : map (placed spots) values ≡ case.params
+
+-- every unit holds at every time of every run, for all sizes
+abbrev pub IsSound : Plan → Type 0
+IsSound plan = (sizes : Sizes) → AreSizes plan.names sizes → (run : List FlatState) → IsRun (at_sizes plan.names sizes) plan.base run →
+    (leaf : LeafProof) → Has plan.leaves leaf → (values : List Value) → Has (values_over (at_sizes plan.names sizes) (params_of plan.names leaf.unit)) values →
+    always (is_held (at_sizes plan.names sizes) leaf.unit values) None run ≡ true
+
+-- no case of any leaf has a violating path
+abbrev pub HasNoViolatingPath : Plan → Type 0
+HasNoViolatingPath plan = (leaf : LeafProof) → Has plan.leaves leaf → (case : Problem) → Has leaf.cases case → (path : List _) → is_violating (obligation case) path ≡ false
+
+-- what a unit says at places of its parameters
+abbrev pub said_at : FlatUnit → List Place → Demanded
+said_at (map_of def) places = defined def places
+said_at (claim_of claim) places = holds claim.body places
+
+-- an element of a map is kept; a claim keeps none of its own
+abbrev pub IsKept : Problem → FlatUnit → List Place → Type 0
+IsKept p (map_of def) places = p.kept def.family places ≡ true
+IsKept p (claim_of claim) places = Unit {0}
+
+module _ (plan : Plan) where
+  -- a demand is what the unit says of one instance at numbers, constants and classes; the element of a map is kept
+  pub record IsOf (p : Problem) (unit : FlatUnit) (d : Demanded) : Type 0 where
+    pub places : List Place
+    pub are_named : Has (one_of_each (map (named_in p.world) (params_of plan.names unit))) places
+    pub is_kept : IsKept p unit places
+    pub is_said : d ≡ said_at unit places
+
+  -- a demand is granted by a base definition, or by a unit that is used
+  pub data IsGranted (uses : ℕ → Bool) (p : Problem) (d : Demanded) : Type 0 where
+    by_base : (def : Def) → Has plan.base def → IsOf p (map_of def) d → IsGranted uses p d
+    by_use : (v : ℕ) → uses v ≡ true → (used : LeafProof) → slice_get plan.leaves v ≡ Some used → IsOf p used.unit d → IsGranted uses p d
+
+  -- the problem is one of the leaf at this place: it sees the design in some abstract types, keeps elements at numbers, constants and classes, has the unit at its own
+  -- parameters as its target, with the element of a map if that may be kept, has the leaf's guards, and demands no more than base definitions and what the unit uses
+  pub record IsCase (u : ℕ) (leaf : LeafProof) (p : Problem) : Type 0 where
+    pub types : Name → AbsType
+    pub is_world : p.world ≡ world plan.names types
+    pub keeps_named : KeepsNamed p.world p.kept
+    pub is_target : p.target ≡ said_at leaf.unit (take (length (params_of plan.names leaf.unit)) p.params)
+    pub keeps_target : list_all is_named (take (length (params_of plan.names leaf.unit)) p.params) ≡ true → IsKept p leaf.unit (take (length (params_of plan.names leaf.unit)) p.params)
+    pub are_guards : p.guards ≡ leaf.guards
+    pub now : (d : Demanded) → Has p.now d → IsGranted (plan.uses_now u) p d
+    pub before : (d : Demanded) → Has p.before d → IsGranted (plan.uses_before u) p d
+
+  -- each guard is that of a parameter of its type that a split adds, and reads only the parameters before it; no two guards are of one parameter
+  pub record AreGuards (leaf : LeafProof) : Type 0 where
+    pub is_added : (g : Guard) → Has leaf.guards g → length (params_of plan.names leaf.unit) ≤ g.var
+    pub of_type : (g : Guard) → Has leaf.guards g → slice_get (params_of plan.names leaf.unit ++ leaf.added) g.var ≡ Some g.over
+    pub reads_before : (g : Guard) → Has leaf.guards g → ReadsOnly (before g.var) g.expr
+    pub one_each : (g h : Guard) → Has leaf.guards g → Has leaf.guards h → g.var ≡ h.var → g ≡ h
+
+  -- what the passes before the search give of a plan, at each of the sizes that the design may have
+  pub record IsPlanAt (sizes : Sizes) : Type 0 where
+    pub base : (def : Def) → Has plan.base def → IsDefinition (at_sizes plan.names sizes) def
+    pub units : (leaf : LeafProof) → Has plan.leaves leaf → IsUnit (at_sizes plan.names sizes) leaf.unit
+    pub have_values : (leaf : LeafProof) → Has plan.leaves leaf → (t : FlatSimple) → Has leaf.added t → (v : Value) × Has (values_in (at_sizes plan.names sizes) t) v
+    pub covers : (leaf : LeafProof) → Has plan.leaves leaf → (values : List Value) → Has (values_over (at_sizes plan.names sizes) (params_of plan.names leaf.unit ++ leaf.added)) values →
+        HasCase (at_sizes plan.names sizes) leaf.cases values
+
+  -- what they give of a plan: an order in which the uses that are now fall, the cases and the guards of each leaf, and what holds at all sizes
+  pub record IsPlan : Type 0 where
+    pub order : ℕ → ℕ
+    pub falls : (u v : ℕ) → plan.uses_now u v ≡ true → order v < order u
+    pub are_cases : (u : ℕ) (leaf : LeafProof) → slice_get plan.leaves u ≡ Some leaf → (p : Problem) → Has leaf.cases p → IsCase u leaf p
+    pub are_guards : (leaf : LeafProof) → Has plan.leaves leaf → AreGuards leaf
+    pub at_each : (sizes : Sizes) → AreSizes plan.names sizes → IsPlanAt sizes
