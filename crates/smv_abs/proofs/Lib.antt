@@ -22,5 +22,6 @@ pub mod CasesCover
 pub mod ScopesKeep
 pub mod OneOfEach
 pub mod GuardsChosen
+pub mod OneGives
 pub mod CaseKeeps
 pub mod Joined

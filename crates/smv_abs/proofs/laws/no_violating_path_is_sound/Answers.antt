@@ -1,3 +1,4 @@
+use Rattle.smv_abs.proofs.OneGives as one
 use Rattle.smv_abs.proofs.Joined.{sound}
 use Rattle.smv_abs.proofs.laws.no_violating_path_is_sound.Goals as goal
 
