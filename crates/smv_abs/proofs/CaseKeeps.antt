@@ -16,15 +16,17 @@ use Rattle.smv_abs.specs.May.{AbsState}
 use Rattle.smv_abs.specs.Guards.{guard_holds}
 use Rattle.smv_abs.specs.Demands.{is_defined, is_broken_map, is_assumed, is_broken_claim, may_guard, must_be, places_of_family}
 use Rattle.smv_abs.specs.Obligations.{Demanded, defined, holds, Problem, is_met, is_broken, may_hold}
-use Rattle.smv_abs.specs.Pictures.{Placing, placed, ArePlaced, AreOfTypes, IsState, IsPicture, ArePictured, AreValues, KeepsNamed}
-use Rattle.smv_abs.specs.Bound.{AreAtClasses}
+use Rattle.smv_abs.specs.Pictures.{Placing, placed, ArePlaced, AreOfTypes, IsState, IsPicture, ArePictured, AreValues, KeepsNamed, IsAbsState}
+use Rattle.smv_abs.specs.Bound.{AreAtClasses, IsSingle}
+use Rattle.smv_abs.specs.FlatConflicts.{IsConflictFree}
 use Rattle.smv_abs.specs.Soundness.{FlatUnit, map_of, claim_of, Plan, at_sizes, over_of, values_of_family, params_of, values_over, is_held, IsDefinition, IsUnit, said_at, IsKept, IsOf}
 use Rattle.smv_abs.proofs.Tests.{true_or_false, left_of, right_of}
 use Rattle.smv_abs.proofs.Members.{Has-from_map}
 use Rattle.smv_abs.proofs.Same.{is_in-Has, Has-is_in}
 use Rattle.smv_abs.proofs.Facts.{of_type}
-use Rattle.smv_abs.proofs.OneOfEach.{AreOf, are_of, one_of}
-use Rattle.smv_abs.proofs.PicturesExist.{pictured}
+use Rattle.smv_abs.proofs.OneOfEach.{AreOf, are_of, one_of, are_long, map_long}
+use Rattle.smv_abs.proofs.PicturesExist.{state_pictured}
+use Rattle.smv_abs.proofs.OneGives.{is_single}
 use Rattle.smv_abs.proofs.DemandsKeep.{map_may, map_must}
 use Rattle.smv_abs.proofs.GuardsKeep.{is_one, guard_kept, claim_may, claim_must}
 
@@ -75,15 +77,20 @@ module _ (plan : Plan) (sizes : Sizes) (p : Problem) (types : Name → AbsType) 
   facts : ArePlaced n (world n types) spots
   facts = subst (λ w. ArePlaced n w spots) is_world are_placed
 
-  some_picture : (s : FlatState) → (a : AbsState) × IsPicture n spots p.kept s a
-  some_picture s = pictured n types spots facts p.kept (subst (λ w. KeepsNamed w p.kept) is_world keeps_named) s
+  some_picture : (s : Known n) → (a : AbsState) × IsPicture n spots p.kept s.state a × IsAbsState (world n types) p.kept a
+  some_picture s = state_pictured n types spots facts p.kept (subst (λ w. KeepsNamed w p.kept) is_world keeps_named) s.state s.is_state
 
   pub picture : Known n → AbsState
-  picture s = (some_picture s.state).0
+  picture s = (some_picture s).0
 
   pictures : (s : Known n) → IsPicture n spots p.kept s.state (picture s)
   unfolding picture
-  pictures s = (some_picture s.state).1
+  pictures s = (some_picture s).1
+
+  -- a picture is an abstract state of the case
+  pub picture_is : (s : Known n) → IsAbsState p.world p.kept (picture s)
+  unfolding picture
+  picture_is s = subst (λ w. IsAbsState w p.kept (some_picture s).0) (sym is_world) (some_picture s).2
 
   pictures_before : (old : Option (Known n)) → ArePictured n spots p.kept (option_map state_of old) (option_map picture old)
   pictures_before None = tt
@@ -113,8 +120,11 @@ module _ (plan : Plan) (sizes : Sizes) (p : Problem) (types : Name → AbsType) 
   in_world : (over : List FlatSimple) (ps : List Place) → Has (one_of_each (map (named_in p.world) over)) ps → AreOf (map (named_in (world n types)) over) ps
   in_world over ps h = are_of (map (named_in (world n types)) over) ps (subst (λ w. Has (one_of_each (map (named_in w) over)) ps) is_world h)
 
+  single : (def : Def) (f : Family) (xs : List Value) → AreOf (map (values_in n) f.over) xs → IsConflictFree (length f.over) def → IsSingle n def xs (values_in n f.value)
+  single def f xs are free = is_single n def xs (values_in n f.value) (subst (λ k. IsConflictFree k def) (sym (are_long (map (values_in n) f.over) xs are ∙ map_long (values_in n) f.over)) free)
+
   -- what holds of all instances is met
-  pub demand_met : (unit : FlatUnit) → IsUnit n unit → (d : Demanded) → IsOf plan p unit d → (old : Option (Known n)) (s : Known n) →
+  pub demand_met : (unit : FlatUnit) → IsUnit plan unit → (d : Demanded) → IsOf plan p unit d → (old : Option (Known n)) (s : Known n) →
       ((xs : List Value) → Has (values_over n (params_of plan.names unit)) xs → is_held n unit xs (option_map state_of old) s.state ≡ true) → is_met p (option_map picture old) (picture s) d ≡ true
   demand_met (map_of def) unit d of old s held =
       let f = unit.family in
@@ -125,7 +135,7 @@ module _ (plan : Plan) (sizes : Sizes) (p : Problem) (types : Name → AbsType) 
       subst (λ o. is_in (flat_allowed n def x (values_of_family n o) (option_map state_of old) s.state) (s.state def.family r.values) ≡ true) unit.is_family
       (held r.values (subst (λ o. Has (values_over n (over_of o)) r.values) (sym unit.is_family) among)) in
       let met = map_may n types spots facts p.kept def f unit.is_family r.values (types_are n f.over r.values r.are) r.classes (subst (λ qs. p.kept def.family qs ≡ true) (sym r.lie) of.is_kept)
-      (unit.is_single r.values among) s.state s.is_state (picture s) (pictures s) (option_map state_of old) (option_map picture old) (pictures_before old)
+      (single def f r.values r.are unit.is_conflict_free) s.state s.is_state (picture s) (pictures s) (option_map state_of old) (option_map picture old) (pictures_before old)
       (Has-is_in (flat_allowed n def x (values_in n f.value) (option_map state_of old) s.state) (s.state def.family r.values) allowed) in
       subst (λ d. is_met p (option_map picture old) (picture s) d ≡ true) (sym of.is_said)
       (subst (λ w. is_defined w p.kept def of.places (option_map picture old) (picture s) ≡ true) (sym is_world)
@@ -140,7 +150,7 @@ module _ (plan : Plan) (sizes : Sizes) (p : Problem) (types : Name → AbsType) 
       (subst (λ qs. is_assumed (world n types) p.kept claim.body qs (picture s) ≡ true) r.lie met))
 
   -- an instance that fails is broken
-  pub target_broken : (unit : FlatUnit) → IsUnit n unit → (xs : List Value) → Has (values_over n (params_of plan.names unit)) xs →
+  pub target_broken : (unit : FlatUnit) → IsUnit plan unit → (xs : List Value) → Has (values_over n (params_of plan.names unit)) xs →
       (list_all is_named (map (placed spots) xs) ≡ true → IsKept p unit (map (placed spots) xs)) → (old : Option (Known n)) (s : Known n) →
       is_held n unit xs (option_map state_of old) s.state ≡ false → is_broken p (option_map picture old) (picture s) (said_at unit (map (placed spots) xs)) ≡ true
   target_broken (map_of def) unit xs h kept old s fails = subst (λ w. is_broken_map w p.kept def (map (placed spots) xs) (option_map picture old) (picture s) ≡ true) (sym is_world) (at (true_or_false (list_all is_named (map (placed spots) xs))))
@@ -155,7 +165,7 @@ module _ (plan : Plan) (sizes : Sizes) (p : Problem) (types : Name → AbsType) 
             let among = subst (λ o. Has (values_over n (over_of o)) xs) unit.is_family h in
             let are = are_of (map (values_in n) f.over) xs among in
             let allowed = map_must n types spots facts p.kept def f unit.is_family xs (types_are n f.over xs are) (classes_are n spots f.over xs are e) (kept e)
-            (unit.is_single xs among) s.state s.is_state (picture s) (pictures s) (option_map state_of old) (option_map picture old) (pictures_before old) b in
+            (single def f xs are unit.is_conflict_free) s.state s.is_state (picture s) (pictures s) (option_map state_of old) (option_map picture old) (pictures_before old) b in
             absurd (clash (subst (λ o. is_in (flat_allowed n def x (values_of_family n o) (option_map state_of old) s.state) (s.state def.family xs) ≡ true) (sym unit.is_family) (is_in-Has allowed)) fails)
       ]
   target_broken (claim_of claim) unit xs h kept old s fails = subst (λ w. is_broken_claim w p.kept claim.body (map (placed spots) xs) (picture s) ≡ true) (sym is_world)

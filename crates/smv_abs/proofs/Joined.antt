@@ -9,17 +9,18 @@ use Rattle.smv_core.specs.declared.flat.Simple.{Simple as FlatSimple}
 use Rattle.smv_abs.specs.Sets.{Has, first, later, one_of_each}
 use Rattle.smv_abs.specs.Places.{Place, named, is_named}
 use Rattle.smv_abs.specs.May.{AbsState}
-use Rattle.smv_abs.specs.Pictures.{Placing, placed, ArePlaced, IsState}
+use Rattle.smv_abs.specs.Pictures.{Placing, placed, ArePlaced, IsState, IsAbsState}
 use Rattle.smv_abs.specs.Guards.{guard_holds}
-use Rattle.smv_abs.specs.Circular.{Demand, Obligation, always, Circle, AreHeld, IsShown, ShowsFailures, HasNoViolation}
+use Rattle.smv_abs.specs.Circular.{Demand, Obligation, always, is_violating_after, Circle, AreHeld, IsShown, ShowsFailures, HasNoViolation}
 use Rattle.smv_abs.specs.Obligations.{Demanded, Problem, is_met, is_broken, may_hold, obligation}
-use Rattle.smv_abs.specs.Soundness.{FlatUnit, map_of, claim_of, LeafProof, Plan, at_sizes, AreSizes, params_of, values_over, is_held, meets_base, IsRun, HasCase, IsSound, HasNoViolatingPath, said_at, IsKept, IsGranted, by_base, by_use, IsCase, AreGuards, IsPlanAt, IsPlan}
+use Rattle.smv_abs.specs.Soundness.{FlatUnit, map_of, claim_of, LeafProof, Plan, at_sizes, AreSizes, over_of, params_of, values_over, is_held, meets_base, IsTyped, IsRun, HasValue, HasCase, IsDefinition, IsUnit, IsSound, HasNoViolatingPath, said_at, IsKept, IsGranted, by_base, by_use, IsCase, AreGuards, IsPlanAt, IsPlan}
 use Rattle.smv_abs.proofs.Tests.{and_both}
-use Rattle.smv_abs.proofs.Members.{all-each, all-holds}
+use Rattle.smv_abs.proofs.Members.{Has-from_map, all-each, all-holds}
 use Rattle.smv_abs.proofs.Same.{nat_eq-itself, nat_eq-is}
 use Rattle.smv_abs.proofs.OneOfEach.{AreOf, are_of, one_of, are_long, are_joined, map_joined, map_long, take_front, get_Has, Has_get}
 use Rattle.smv_abs.proofs.GuardsChosen.{Added, choose}
-use Rattle.smv_abs.proofs.CaseKeeps.{Known, state_of, values_are, picture, demand_met, target_broken, guard_may}
+use Rattle.smv_abs.proofs.CaseKeeps.{Known, state_of, values_are, picture, picture_is, demand_met, target_broken, guard_may}
+use Rattle.smv_abs.proofs.TypedRuns.{patched, patched_state, map_same, claim_same}
 use Rattle.smv_abs.proofs.Induction.{always_holds}
 
 -- demands along a run
@@ -30,6 +31,23 @@ always_mapped f D old (x ∷ xs) = ap (λ b. D (option_map f old) (f x) && b) (a
 always_same : {X : Type 0} (D E : Demand X) → ((old : Option X) (x : X) → D old x ≡ E old x) → (old : Option X) (xs : List X) → always D old xs ≡ always E old xs
 always_same D E h old [] = refl
 always_same D E h old (x ∷ xs) = ap (λ b. b && always D (Some x) xs) (h old x) ∙ ap (λ b. E old x && b) (always_same D E h (Some x) xs)
+
+all_same : {X : Type 0} (f g : X → Bool) (xs : List X) → ((x : X) → Has xs x → f x ≡ g x) → list_all f xs ≡ list_all g xs
+all_same f g [] h = refl
+all_same f g (x ∷ xs) h = ap (λ b. b && list_all f xs) (h x first) ∙ ap (λ b. g x && b) (all_same f g xs (λ y k. h y (later k)))
+
+-- an obligation of states, as one of what has such a state
+abbrev pulled : {X Y : Type 0} → (X → Y) → Obligation Y → Obligation X
+pulled f o = record { now = λ old x. o.now (option_map f old) (f x); before = λ old x. o.before (option_map f old) (f x); broken = λ old x. o.broken (option_map f old) (f x) }
+
+pulled_violates : {X Y : Type 0} (f : X → Y) (o : Obligation Y) (old : Option X) (path : List X) → is_violating_after (pulled f o) old path ≡ is_violating_after o (option_map f old) (map f path)
+pulled_violates f o old [] = refl
+pulled_violates f o old (x ∷ []) = refl
+pulled_violates f o old (x ∷ y ∷ path) = ap (λ b. o.now (option_map f old) (f x) && (o.before (option_map f old) (f x) && b)) (pulled_violates f o (Some x) (y ∷ path))
+
+twice : {X Y Z : Type 0} (f : X → Y) (g : Y → Z) (h : X → Z) → ((x : X) → h x ≡ g (f x)) → (o : Option X) → option_map h o ≡ option_map g (option_map f o)
+twice f g h e None = refl
+twice f g h e (Some x) = ap Some (e x)
 
 known : (n : Numbered) (run : List FlatState) → ((s : FlatState) → Has run s → IsState n s) → List (Known n)
 known n [] h = []
@@ -69,17 +87,25 @@ module _ (plan : Plan) (sizes : Sizes) where
     case : Problem
     is_case : Has leaf.cases case
 
+  -- an abstract state of a case
+  record Seen (c : CaseOf) : Type 0 where
+    state : AbsState
+    is_state : IsAbsState c.case.world c.case.kept state
+
+  abbrev seen_state : {c : CaseOf} → Seen c → AbsState
+  seen_state s = s.state
+
   abbrev held : Instance → Demand (Known n)
   held i old s = is_held n i.leaf.unit i.values (option_map state_of old) s.state
 
-  abbrev circle : Circle (Known n) Instance CaseOf AbsState
+  abbrev circle : Circle (Known n) Instance CaseOf Seen
   circle = record {
     base = λ old s. meets_base n plan.base (option_map state_of old) s.state;
     holds = λ u i old s. if nat_eq u i.place then held i old s else true;
     uses_now = plan.uses_now;
     uses_before = plan.uses_before;
     is_case = λ u c. nat_eq u c.place;
-    obligation = λ u c. obligation c.case;
+    obligation = λ u c. pulled seen_state (obligation c.case);
   }
 
   module _ (is_plan : IsPlan plan) (at : IsPlanAt plan sizes) where
@@ -91,11 +117,11 @@ module _ (plan : Plan) (sizes : Sizes) where
       granted : (uses : ℕ → Bool) (d : Demanded) → IsGranted plan uses p d → (old : Option (Known n)) (s : Known n) → circle.base old s ≡ true → AreHeld circle uses old s →
           is_met p (option_map seen old) (seen s) d ≡ true
       granted uses d (by_base def h of) old s base used =
-          demand_met plan sizes p is_case.types is_case.is_world cover.0 cover.1 is_case.keeps_named (map_of def) (at.base def h) d of old s
+          demand_met plan sizes p is_case.types is_case.is_world cover.0 cover.1 is_case.keeps_named (map_of def) (is_plan.base def h) d of old s
           (λ xs k. all-each (λ xs. is_held n (map_of def) xs (option_map state_of old) s.state)
           (all-each (λ def. list_all (λ xs. is_held n (map_of def) xs (option_map state_of old) s.state) (values_over n (params_of n (map_of def)))) base h) k)
       granted uses d (by_use v is_used leaf is_leaf of) old s base used =
-          demand_met plan sizes p is_case.types is_case.is_world cover.0 cover.1 is_case.keeps_named leaf.unit (at.units leaf (get_Has plan.leaves v leaf is_leaf)) d of old s
+          demand_met plan sizes p is_case.types is_case.is_world cover.0 cover.1 is_case.keeps_named leaf.unit (is_plan.units leaf (get_Has plan.leaves v leaf is_leaf)) d of old s
           (λ xs k. subst (λ b. (if b then is_held n leaf.unit xs (option_map state_of old) s.state else true) ≡ true) (nat_eq-itself v)
           (used v (record { place = v; leaf = leaf; is_leaf = is_leaf; values = xs; are_values = k }) is_used))
 
@@ -111,7 +137,7 @@ module _ (plan : Plan) (sizes : Sizes) where
         let guards = is_plan.are_guards i.leaf is_leaf in
         let are = are_of (map (values_in n) own) i.values i.are_values in
         let long : length i.values ≡ length own = are_long (map (values_in n) own) i.values are ∙ map_long (values_in n) own in
-        let r = choose n s.state i.leaf.guards (own ++ i.leaf.added) guards.of_type guards.reads_before guards.one_each i.leaf.added own refl (at.have_values i.leaf is_leaf) i.values long in
+        let r = choose n s.state i.leaf.guards (own ++ i.leaf.added) guards.of_type guards.reads_before guards.one_each i.leaf.added own refl (at.added_have_values i.leaf is_leaf) i.values long in
         let ys = i.values ++ r.added in
         let ys_are : AreOf (map (values_in n) (own ++ i.leaf.added)) ys = subst (λ xss. AreOf xss ys) (sym (map_joined (values_in n) own i.leaf.added))
         (are_joined (map (values_in n) own) (map (values_in n) i.leaf.added) i.values r.added are r.are) in
@@ -121,21 +147,26 @@ module _ (plan : Plan) (sizes : Sizes) where
         let front : map (placed c.spots) i.values ≡ take (length own) c.case.params =
         sym (ap (take (length own)) (sym c.stands ∙ map_joined (placed c.spots) i.values r.added)
         ∙ take_front (map (placed c.spots) i.values) (map (placed c.spots) r.added) (length own) (map_long (placed c.spots) i.values ∙ long)) in
+        let here : CaseOf = record { place = i.place; leaf = i.leaf; is_leaf = i.is_leaf; case = c.case; is_case = c.is_case } in
+        let whole : Known n → Seen here = λ s. record { state = pictured s; is_state = picture_is plan sizes c.case case.types case.is_world c.spots c.are_placed case.keeps_named s } in
         record {
-          case = record { place = i.place; leaf = i.leaf; is_leaf = i.is_leaf; case = c.case; is_case = c.is_case };
+          case = here;
           is_case = nat_eq-itself i.place;
-          picture = pictured;
-          keeps_now = λ old s base used. all_granted c.case i.place i.leaf case (c.spots, c.are_placed) (plan.uses_now i.place) c.case.now case.now old s base used;
-          keeps_before = λ old s base used. all_granted c.case i.place i.leaf case (c.spots, c.are_placed) (plan.uses_before i.place) c.case.before case.before old s base used;
+          picture = whole;
+          keeps_now = λ old s base used. subst (λ o. list_all (is_met c.case o (pictured s)) c.case.now ≡ true) (twice whole seen_state pictured (λ s. refl) old)
+              (all_granted c.case i.place i.leaf case (c.spots, c.are_placed) (plan.uses_now i.place) c.case.now case.now old s base used);
+          keeps_before = λ old s base used. subst (λ o. list_all (is_met c.case o (pictured s)) c.case.before ≡ true) (twice whole seen_state pictured (λ s. refl) old)
+              (all_granted c.case i.place i.leaf case (c.spots, c.are_placed) (plan.uses_before i.place) c.case.before case.before old s base used);
           breaks = and_both
               (subst (λ gs. list_all (may_hold c.case (pictured s)) gs ≡ true) (sym case.are_guards) (all-holds (may_hold c.case (pictured s)) i.leaf.guards
               (λ g h. guard_may plan sizes c.case case.types case.is_world c.spots c.are_placed case.keeps_named g ys (values_are n (own ++ i.leaf.added) ys ys_are) c.stands
               (of_its_type n (own ++ i.leaf.added) ys g.var g.over ys_are (guards.of_type g h)) s
               (r.hold g h (subst (λ k. k ≤ g.var) (sym long) (guards.is_added g h))))))
+              (subst (λ o. is_broken c.case o (pictured s) c.case.target ≡ true) (twice whole seen_state pictured (λ s. refl) old)
               (subst (λ d. is_broken c.case (option_map pictured old) (pictured s) d ≡ true) (sym case.is_target)
               (subst (λ ps. is_broken c.case (option_map pictured old) (pictured s) (said_at i.leaf.unit ps) ≡ true) front
-              (target_broken plan sizes c.case case.types case.is_world c.spots c.are_placed case.keeps_named i.leaf.unit (at.units i.leaf is_leaf) i.values i.are_values
-              (λ e. subst (IsKept c.case i.leaf.unit) (sym front) (case.keeps_target (subst (λ ps. list_all is_named ps ≡ true) front e))) old s fails)));
+              (target_broken plan sizes c.case case.types case.is_world c.spots c.are_placed case.keeps_named i.leaf.unit (is_plan.units i.leaf is_leaf) i.values i.are_values
+              (λ e. subst (IsKept c.case i.leaf.unit) (sym front) (case.keeps_target (subst (λ ps. list_all is_named ps ≡ true) front e))) old s fails))));
         }
 
     shows : ShowsFailures circle
@@ -146,22 +177,52 @@ module _ (plan : Plan) (sizes : Sizes) where
         at_place false e f = absurd (cc)
 
     none : HasNoViolatingPath plan → HasNoViolation circle
-    none h u c e path = h c.leaf (get_Has plan.leaves c.place c.leaf c.is_leaf) c.case c.is_case path
+    none h u c e path = pulled_violates seen_state (obligation c.case) None path
+        ∙ h c.leaf (get_Has plan.leaves c.place c.leaf c.is_leaf) c.case c.is_case (map seen_state path)
+        (λ a k. let r = Has-from_map seen_state path k in subst (IsAbsState c.case.world c.case.kept) (sym r.2) r.0.is_state)
 
-    everything : HasNoViolatingPath plan → (run : List FlatState) → IsRun n plan.base run → (i : Instance) → always (is_held n i.leaf.unit i.values) None run ≡ true
-    everything h run is_run i =
-        let states = known n run is_run.are_states in
-        let same = known_are n run is_run.are_states in
+    everything : HasNoViolatingPath plan → (run : List FlatState) → ((s : FlatState) → Has run s → IsState n s) → always (meets_base n plan.base) None run ≡ true → (i : Instance) →
+        always (is_held n i.leaf.unit i.values) None run ≡ true
+    everything h run are_states keeps_base i =
+        let states = known n run are_states in
+        let same = known_are n run are_states in
         let runs : always circle.base None states ≡ true =
-        always_mapped state_of (meets_base n plan.base) None states ∙ (ap (always (meets_base n plan.base) None) same ∙ is_run.keeps_base) in
+        always_mapped state_of (meets_base n plan.base) None states ∙ (ap (always (meets_base n plan.base) None) same ∙ keeps_base) in
         let holds : always (circle.holds i.place i) None states ≡ true = always_holds circle is_plan.order is_plan.falls shows (none h) states runs i.place i in
         sym (ap (always (is_held n i.leaf.unit i.values) None) same)
         ∙ (sym (always_mapped state_of (is_held n i.leaf.unit i.values) None states)
         ∙ (always_same (held i) (circle.holds i.place i) (λ old s. ap (λ b. if b then held i old s else true) (sym (nat_eq-itself i.place))) None states
         ∙ holds))
 
+    abbrev fixed : FlatState → FlatState
+    fixed = patched n at.families_have_values
+
+    unit_same : (unit : FlatUnit) → IsUnit plan unit → (xs : List Value) → Has (values_over n (params_of plan.names unit)) xs → (old : Option FlatState) (s : FlatState) →
+        is_held n unit xs (option_map fixed old) (fixed s) ≡ is_held n unit xs old s
+    unit_same (map_of def) unit xs h old s =
+        map_same n at.families_have_values def unit.family unit.is_family unit.is_whole xs (subst (λ o. Has (values_over n (over_of o)) xs) unit.is_family h) old s
+    unit_same (claim_of claim) unit xs h old s = claim_same n at.families_have_values claim xs old s unit
+
+    base_same : (old : Option FlatState) (s : FlatState) → meets_base n plan.base (option_map fixed old) (fixed s) ≡ meets_base n plan.base old s
+    base_same old s = all_same (λ def. list_all (λ xs. is_held n (map_of def) xs (option_map fixed old) (fixed s)) (values_over n (params_of n (map_of def))))
+        (λ def. list_all (λ xs. is_held n (map_of def) xs old s) (values_over n (params_of n (map_of def)))) plan.base
+        (λ def h. all_same (λ xs. is_held n (map_of def) xs (option_map fixed old) (fixed s)) (λ xs. is_held n (map_of def) xs old s) (values_over n (params_of n (map_of def)))
+        (λ xs k. unit_same (map_of def) (is_plan.base def h) xs k old s))
+
+    -- a run of typed states holds what the run of the patched states holds
+    in_run : HasNoViolatingPath plan → (run : List FlatState) → IsRun n plan.base run → (i : Instance) → always (is_held n i.leaf.unit i.values) None run ≡ true
+    in_run h run is_run i =
+        let holds : always (is_held n i.leaf.unit i.values) None (map fixed run) ≡ true =
+        everything h (map fixed run)
+        (λ s k. let r = Has-from_map fixed run k in subst (IsState n) (sym r.2) (patched_state n at.families_have_values r.0 (is_run.are_typed r.0 r.1)))
+        (sym (always_mapped fixed (meets_base n plan.base) None run)
+        ∙ (always_same (λ old s. meets_base n plan.base (option_map fixed old) (fixed s)) (meets_base n plan.base) base_same None run ∙ is_run.keeps_base)) i in
+        sym (always_same (λ old s. is_held n i.leaf.unit i.values (option_map fixed old) (fixed s)) (is_held n i.leaf.unit i.values)
+        (λ old s. unit_same i.leaf.unit (is_plan.units i.leaf (get_Has plan.leaves i.place i.leaf i.is_leaf)) i.values i.are_values old s) None run)
+        ∙ (always_mapped fixed (is_held n i.leaf.unit i.values) None run ∙ holds)
+
 -- where no case of any leaf has a violating path, every unit holds at every time of every run, for all sizes
 pub sound : (plan : Plan) → IsPlan plan → HasNoViolatingPath plan → IsSound plan
 sound plan is_plan none sizes are_sizes run is_run leaf is_leaf values are_values =
     let at = Has_get is_leaf in
-    everything plan sizes is_plan (is_plan.at_each sizes are_sizes) none run is_run (record { place = at.0; leaf = leaf; is_leaf = at.1; values = values; are_values = are_values })
+    in_run plan sizes is_plan (is_plan.at_each sizes are_sizes) none run is_run (record { place = at.0; leaf = leaf; is_leaf = at.1; values = values; are_values = are_values })

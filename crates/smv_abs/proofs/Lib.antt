@@ -23,5 +23,7 @@ pub mod ScopesKeep
 pub mod OneOfEach
 pub mod GuardsChosen
 pub mod OneGives
+pub mod Patched
+pub mod TypedRuns
 pub mod CaseKeeps
 pub mod Joined

@@ -43,7 +43,7 @@ agree_under scope var v b c h = record {
   alike = λ k is. bind_alike b c var v k h.long (λ l. h.alike k (in_scope scope var k is l));
 }
 
-map_alike : {X Y : Type 0} (f g : X → Y) → ((x : X) → f x ≡ g x) → (xs : List X) → map f xs ≡ map g xs
+pub map_alike : {X Y : Type 0} (f g : X → Y) → ((x : X) → f x ≡ g x) → (xs : List X) → map f xs ≡ map g xs
 map_alike f g h [] = refl
 map_alike f g h (x ∷ xs) = rw (h x) (ap (λ ys. g x ∷ ys) (map_alike f g h xs))
 

@@ -29,7 +29,7 @@ FallsAlong uses rank = (u v : ℕ) → uses u v ≡ true → rank v < rank u
 -- where failures are shown, no case has a violating path and the uses that are now hold no cycle, every unit always holds: by time, and at one time in the order of the uses that are now
 abbrev pub CircularInduction : Type 0 → Type 0 → Type 0 → Type 0 → Type 0
 CircularInduction State Instance Case Picture =
-    (circle : Circle State Instance Case Picture) (rank : ℕ → ℕ) → FallsAlong circle.uses_now rank → ShowsFailures circle → HasNoViolation circle → AlwaysHolds circle
+    (circle : Circle State Instance Case (λ case. Picture)) (rank : ℕ → ℕ) → FallsAlong circle.uses_now rank → ShowsFailures circle → HasNoViolation circle → AlwaysHolds circle
 
 -- the uses that are now hold no cycle: a rank falls along each
 abbrev pub NowUsesFall : Type 0

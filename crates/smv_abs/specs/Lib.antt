@@ -12,6 +12,7 @@ pub mod Obligations
 pub mod Cases
 pub mod Bound
 pub mod Scopes
+pub mod Whole
 pub mod FlatConflicts
 pub mod Soundness
 pub mod Placings

@@ -13,11 +13,13 @@ use Rattle.smv_core.specs.declared.flat.Simple.{Simple as FlatSimple}
 use Rattle.smv_abs.specs.declared.abstract_type.AbsType.{AbsType}
 use Rattle.smv_abs.specs.Sets.{Has, one_of_each}
 use Rattle.smv_abs.specs.Places.{Place, is_named, World, world, named_in}
-use Rattle.smv_abs.specs.Pictures.{Placing, placed, ArePlaced, IsState, KeepsNamed}
-use Rattle.smv_abs.specs.Bound.{IsSingle}
+use Rattle.smv_abs.specs.May.{AbsState}
+use Rattle.smv_abs.specs.Pictures.{Placing, placed, ArePlaced, KeepsNamed, IsAbsState}
 use Rattle.smv_abs.specs.Circular.{Demand, always, is_violating}
 use Rattle.smv_abs.specs.Obligations.{Demanded, defined, holds, Problem, obligation}
 use Rattle.smv_abs.specs.Scopes.{ReadsOnly, before}
+use Rattle.smv_abs.specs.Whole.{IsWhole, IsWholeDef}
+use Rattle.smv_abs.specs.FlatConflicts.{IsConflictFree}
 
 -- a unit: a refinement map, by the definition of a family in a layer, or a claim
 pub data FlatUnit : Type 0 where
@@ -80,21 +82,18 @@ module _ (n : Numbered) where
   abbrev pub meets_base : List Def → Demand FlatState
   meets_base base before now = list_all (λ def. list_all (λ indexes. is_held (map_of def) indexes before now) (values_over (params_of (map_of def)))) base
 
+  -- a state gives each element a value of its type
+  abbrev pub IsTyped : FlatState → Type 0
+  IsTyped s = (family : ℕ) (f : Family) → slice_get n.families family ≡ Some f → (indexes : List Value) → Has (values_over f.over) indexes → Has (values_in n f.value) (s family indexes)
+
   -- states of the design, the earliest first, that keep to the base definitions at each time
   pub record IsRun (base : List Def) (run : List FlatState) : Type 0 where
-    pub are_states : (s : FlatState) → Has run s → IsState n s
+    pub are_typed : (s : FlatState) → Has run s → IsTyped s
     pub keeps_base : always (meets_base base) None run ≡ true
 
-  -- a definition is one of a family, and at most one value of each of its `forall` variables gives an element a result
-  pub record IsDefinition (def : Def) : Type 0 where
-    pub family : Family
-    pub is_family : slice_get n.families def.family ≡ Some family
-    pub is_single : (indexes : List Value) → Has (values_over family.over) indexes → IsSingle n def indexes (values_in n family.value)
-
-  -- so is that of a map
-  abbrev pub IsUnit : FlatUnit → Type 0
-  IsUnit (map_of def) = IsDefinition def
-  IsUnit (claim_of claim) = Unit {0}
+  -- a type has a value
+  abbrev pub HasValue : FlatSimple → Type 0
+  HasValue t = (v : Value) × Has (values_in n t) v
 
   -- values of the parameters have a case: a placing with the three facts of each type puts each of them where the case has it
   pub record HasCase (cases : List Problem) (values : List Value) : Type 0 where
@@ -110,9 +109,10 @@ IsSound plan = (sizes : Sizes) → AreSizes plan.names sizes → (run : List Fla
     (leaf : LeafProof) → Has plan.leaves leaf → (values : List Value) → Has (values_over (at_sizes plan.names sizes) (params_of plan.names leaf.unit)) values →
     always (is_held (at_sizes plan.names sizes) leaf.unit values) None run ≡ true
 
--- no case of any leaf has a violating path
+-- no case of any leaf has a violating path of abstract states
 abbrev pub HasNoViolatingPath : Plan → Type 0
-HasNoViolatingPath plan = (leaf : LeafProof) → Has plan.leaves leaf → (case : Problem) → Has leaf.cases case → (path : List _) → is_violating (obligation case) path ≡ false
+HasNoViolatingPath plan = (leaf : LeafProof) → Has plan.leaves leaf → (case : Problem) → Has leaf.cases case →
+    (path : List AbsState) → ((a : AbsState) → Has path a → IsAbsState case.world case.kept a) → is_violating (obligation case) path ≡ false
 
 -- what a unit says at places of its parameters
 abbrev pub said_at : FlatUnit → List Place → Demanded
@@ -156,18 +156,31 @@ module _ (plan : Plan) where
     pub reads_before : (g : Guard) → Has leaf.guards g → ReadsOnly (before g.var) g.expr
     pub one_each : (g h : Guard) → Has leaf.guards g → Has leaf.guards h → g.var ≡ h.var → g ≡ h
 
-  -- what the passes before the search give of a plan, at each of the sizes that the design may have
+  -- a definition is one of a family, no two of its assignments conflict, and it reads whole elements
+  pub record IsDefinition (def : Def) : Type 0 where
+    pub family : Family
+    pub is_family : slice_get plan.names.families def.family ≡ Some family
+    pub is_conflict_free : IsConflictFree (length family.over) def
+    pub is_whole : IsWholeDef plan.names.families def
+
+  -- so is that of a map; a claim reads whole elements
+  abbrev pub IsUnit : FlatUnit → Type 0
+  IsUnit (map_of def) = IsDefinition def
+  IsUnit (claim_of claim) = IsWhole plan.names.families claim.body
+
+  -- what the passes before the search give of a plan at sizes of the design: the types have values, and all values of the parameters of a leaf have a case
   pub record IsPlanAt (sizes : Sizes) : Type 0 where
-    pub base : (def : Def) → Has plan.base def → IsDefinition (at_sizes plan.names sizes) def
-    pub units : (leaf : LeafProof) → Has plan.leaves leaf → IsUnit (at_sizes plan.names sizes) leaf.unit
-    pub have_values : (leaf : LeafProof) → Has plan.leaves leaf → (t : FlatSimple) → Has leaf.added t → (v : Value) × Has (values_in (at_sizes plan.names sizes) t) v
+    pub families_have_values : (f : Family) → Has plan.names.families f → HasValue (at_sizes plan.names sizes) f.value
+    pub added_have_values : (leaf : LeafProof) → Has plan.leaves leaf → (t : FlatSimple) → Has leaf.added t → HasValue (at_sizes plan.names sizes) t
     pub covers : (leaf : LeafProof) → Has plan.leaves leaf → (values : List Value) → Has (values_over (at_sizes plan.names sizes) (params_of plan.names leaf.unit ++ leaf.added)) values →
         HasCase (at_sizes plan.names sizes) leaf.cases values
 
-  -- what they give of a plan: an order in which the uses that are now fall, the cases and the guards of each leaf, and what holds at all sizes
+  -- what they give of it besides: the definitions, an order in which the uses that are now fall, and the guards and the cases of each leaf
   pub record IsPlan : Type 0 where
+    pub base : (def : Def) → Has plan.base def → IsDefinition def
+    pub units : (leaf : LeafProof) → Has plan.leaves leaf → IsUnit leaf.unit
     pub order : ℕ → ℕ
     pub falls : (u v : ℕ) → plan.uses_now u v ≡ true → order v < order u
-    pub are_cases : (u : ℕ) (leaf : LeafProof) → slice_get plan.leaves u ≡ Some leaf → (p : Problem) → Has leaf.cases p → IsCase u leaf p
     pub are_guards : (leaf : LeafProof) → Has plan.leaves leaf → AreGuards leaf
+    pub are_cases : (u : ℕ) (leaf : LeafProof) → slice_get plan.leaves u ≡ Some leaf → (p : Problem) → Has leaf.cases p → IsCase u leaf p
     pub at_each : (sizes : Sizes) → AreSizes plan.names sizes → IsPlanAt sizes

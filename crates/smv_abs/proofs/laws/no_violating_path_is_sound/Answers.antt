@@ -1,4 +1,3 @@
-use Rattle.smv_abs.proofs.OneGives as one
 use Rattle.smv_abs.proofs.Joined.{sound}
 use Rattle.smv_abs.proofs.laws.no_violating_path_is_sound.Goals as goal
 
