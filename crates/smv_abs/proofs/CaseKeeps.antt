@@ -1,25 +1,24 @@
 -- One case of a leaf under one placing: what holds of a state is met in its picture, and what fails is broken there.
-use Rattle.std.proofs.Common.{◌≡◌, ℕ, zero, suc, List, [], ◌∷◌, ◌++◌, map, take, length, get_or, Bool, true, false, not, ◌||◌, refl, sym, ap, subst, ◌∙◌, ◌⊎◌, inl, inr, Option, Some, None, option_map}
-use Rattle.std.specs.List.{list_all, slice_get}
-use Rattle.smv_core.specs.Values.{Name, Value, number, Sizes, Outcome, truth, is_in, values_of}
+use Rattle.std.proofs.Common.{◌≡◌, ℕ, zero, suc, List, [], ◌∷◌, map, length, get_or, Bool, true, false, refl, sym, ap, subst, ◌∙◌, ◌⊎◌, inl, inr, Option, Some, None, option_map}
+use Rattle.std.specs.List.{list_all}
+use Rattle.smv_core.specs.Values.{Name, Value, number, Sizes, truth, is_in, values_of}
 use Rattle.smv_core.specs.Outcome.{is_true}
 use Rattle.smv_core.specs.Flat.{Numbered, FlatState, FlatElement, values_in, simple_in, flat_outcome, flat_allowed}
 use Rattle.smv_core.specs.declared.flat.Def.{Def}
-use Rattle.smv_core.specs.declared.flat.Claim.{Claim}
 use Rattle.smv_core.specs.declared.flat.Family.{Family}
 use Rattle.smv_core.specs.declared.flat.Guard.{Guard}
 use Rattle.smv_core.specs.declared.flat.Simple.{Simple as FlatSimple}
 use Rattle.smv_abs.specs.declared.abstract_type.AbsType.{AbsType}
-use Rattle.smv_abs.specs.Sets.{Has, first, later, one_of_each}
+use Rattle.smv_abs.specs.Sets.{Has, one_of_each}
 use Rattle.smv_abs.specs.Places.{Place, named, is_named, World, world, named_in}
 use Rattle.smv_abs.specs.May.{AbsState}
 use Rattle.smv_abs.specs.Guards.{guard_holds}
-use Rattle.smv_abs.specs.Demands.{is_defined, is_broken_map, is_assumed, is_broken_claim, may_guard, must_be, places_of_family}
-use Rattle.smv_abs.specs.Obligations.{Demanded, defined, holds, Problem, is_met, is_broken, may_hold}
+use Rattle.smv_abs.specs.Demands.{is_defined, is_broken_map, is_assumed, is_broken_claim, may_guard}
+use Rattle.smv_abs.specs.Obligations.{Demanded, Problem, is_met, is_broken, may_hold}
 use Rattle.smv_abs.specs.Pictures.{Placing, placed, ArePlaced, AreOfTypes, IsState, IsPicture, ArePictured, AreValues, KeepsNamed, IsAbsState}
 use Rattle.smv_abs.specs.Bound.{AreAtClasses, IsSingle}
 use Rattle.smv_abs.specs.FlatConflicts.{IsConflictFree}
-use Rattle.smv_abs.specs.Soundness.{FlatUnit, map_of, claim_of, Plan, at_sizes, over_of, values_of_family, params_of, values_over, is_held, IsDefinition, IsUnit, said_at, IsKept, IsOf}
+use Rattle.smv_abs.specs.Soundness.{FlatUnit, map_of, claim_of, Plan, at_sizes, over_of, values_of_family, params_of, values_over, is_held, IsUnit, said_at, IsKept, IsOf}
 use Rattle.smv_abs.proofs.Tests.{true_or_false, left_of, right_of}
 use Rattle.smv_abs.proofs.Members.{Has-from_map}
 use Rattle.smv_abs.proofs.Same.{is_in-Has, Has-is_in}

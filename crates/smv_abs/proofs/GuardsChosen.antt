@@ -1,5 +1,5 @@
 -- Values of the parameters that splits add, at which each guard holds: one after the other, since a guard reads only the parameters before its own.
-use Rattle.std.proofs.Common.{◌≡◌, ℕ, zero, suc, ◌+◌, ◌<◌, ◌≤◌, List, [], ◌∷◌, ◌++◌, map, length, get_or, Bool, true, false, refl, sym, ap, subst, ◌∙◌, ◌⊎◌, inl, inr, arith, Option, Some, None, nat_eq, nat_lt}
+use Rattle.std.proofs.Common.{◌≡◌, ℕ, suc, ◌+◌, ◌<◌, ◌≤◌, List, [], ◌∷◌, ◌++◌, map, length, get_or, true, false, refl, sym, ap, subst, ◌∙◌, ◌⊎◌, inl, inr, arith, Some, nat_eq}
 use Rattle.std.specs.List.{slice_get}
 use Rattle.smv_core.specs.Values.{Value, number}
 use Rattle.smv_core.specs.Flat.{Numbered, FlatState, values_in, flat_outcome}
@@ -10,7 +10,7 @@ use Rattle.smv_abs.specs.Scopes.{before, ReadsOnly}
 use Rattle.smv_abs.specs.Guards.{is_or_outside, guard_holds}
 use Rattle.smv_abs.proofs.Tests.{true_or_false}
 use Rattle.smv_abs.proofs.Same.{nat_eq-is}
-use Rattle.smv_abs.proofs.OneOfEach.{AreOf, are_long, map_long, joined_long, get_after, value_after, get_before, get_past, joined_again}
+use Rattle.smv_abs.proofs.OneOfEach.{AreOf, are_long, joined_long, get_after, value_after, get_before, get_past, joined_again}
 use Rattle.smv_abs.proofs.ScopesKeep.{Agree, outcome_alike}
 use Rattle.smv_abs.proofs.GuardsKeep.{guard_met}
 

@@ -1,24 +1,21 @@
 -- The joined law: the circular rule over the states of a design and the instances of its units.
-use Rattle.std.proofs.Common.{◌≡◌, ℕ, zero, suc, ◌+◌, ◌<◌, ◌≤◌, List, [], ◌∷◌, ◌++◌, map, take, length, get_or, Bool, true, false, ◌&&◌, if◌then◌else◌, refl, sym, ap, subst, ◌∙◌, ◌⊎◌, inl, inr, arith, Option, Some, None, option_map, nat_eq}
+use Rattle.std.proofs.Common.{◌≡◌, ℕ, zero, suc, ◌≤◌, List, [], ◌∷◌, ◌++◌, map, take, length, get_or, Bool, true, false, ◌&&◌, if◌then◌else◌, refl, sym, ap, subst, ◌∙◌, Option, Some, None, option_map, nat_eq}
 use Rattle.std.specs.List.{list_all, slice_get}
 use Rattle.smv_core.specs.Values.{Value, number, Sizes}
 use Rattle.smv_core.specs.Flat.{Numbered, FlatState, values_in}
-use Rattle.smv_core.specs.declared.flat.Def.{Def}
-use Rattle.smv_core.specs.declared.flat.Guard.{Guard}
 use Rattle.smv_core.specs.declared.flat.Simple.{Simple as FlatSimple}
-use Rattle.smv_abs.specs.Sets.{Has, first, later, one_of_each}
-use Rattle.smv_abs.specs.Places.{Place, named, is_named}
+use Rattle.smv_abs.specs.Sets.{Has, first, later}
+use Rattle.smv_abs.specs.Places.{is_named}
 use Rattle.smv_abs.specs.May.{AbsState}
 use Rattle.smv_abs.specs.Pictures.{Placing, placed, ArePlaced, IsState, IsAbsState}
-use Rattle.smv_abs.specs.Guards.{guard_holds}
 use Rattle.smv_abs.specs.Circular.{Demand, Obligation, always, is_violating_after, Circle, AreHeld, IsShown, ShowsFailures, HasNoViolation}
 use Rattle.smv_abs.specs.Obligations.{Demanded, Problem, is_met, is_broken, may_hold, obligation}
-use Rattle.smv_abs.specs.Soundness.{FlatUnit, map_of, claim_of, LeafProof, Plan, at_sizes, AreSizes, over_of, params_of, values_over, is_held, meets_base, IsTyped, IsRun, HasValue, HasCase, IsDefinition, IsUnit, IsSound, HasNoViolatingPath, said_at, IsKept, IsGranted, by_base, by_use, IsCase, AreGuards, IsPlanAt, IsPlan}
+use Rattle.smv_abs.specs.Soundness.{FlatUnit, map_of, claim_of, LeafProof, Plan, at_sizes, over_of, params_of, values_over, is_held, meets_base, IsRun, IsUnit, IsSound, HasNoViolatingPath, said_at, IsKept, IsGranted, by_base, by_use, IsCase, IsPlanAt, IsPlan}
 use Rattle.smv_abs.proofs.Tests.{and_both}
 use Rattle.smv_abs.proofs.Members.{Has-from_map, all-each, all-holds}
 use Rattle.smv_abs.proofs.Same.{nat_eq-itself, nat_eq-is}
 use Rattle.smv_abs.proofs.OneOfEach.{AreOf, are_of, one_of, are_long, are_joined, map_joined, map_long, take_front, get_Has, Has_get}
-use Rattle.smv_abs.proofs.GuardsChosen.{Added, choose}
+use Rattle.smv_abs.proofs.GuardsChosen.{choose}
 use Rattle.smv_abs.proofs.CaseKeeps.{Known, state_of, values_are, picture, picture_is, demand_met, target_broken, guard_may}
 use Rattle.smv_abs.proofs.TypedRuns.{patched, patched_state, map_same, claim_same}
 use Rattle.smv_abs.proofs.Induction.{always_holds}

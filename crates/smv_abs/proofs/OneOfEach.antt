@@ -1,5 +1,5 @@
 -- One member of each list, by position.
-use Rattle.std.proofs.Common.{◌≡◌, ℕ, zero, suc, ◌+◌, ◌<◌, ◌≤◌, List, [], ◌∷◌, ◌++◌, map, take, length, get_or, refl, sym, ap, subst, ◌∙◌, ◌⊎◌, inl, inr, arith, Option, Some, None}
+use Rattle.std.proofs.Common.{◌≡◌, ℕ, zero, suc, ◌+◌, ◌<◌, List, [], ◌∷◌, ◌++◌, map, take, length, get_or, refl, sym, ap, subst, inl, inr, arith, Some}
 use Rattle.std.specs.List.{flat_map, slice_get}
 use Rattle.smv_abs.specs.Sets.{Has, first, later, one_of_each}
 use Rattle.smv_abs.proofs.Members.{Has-cases, Has-from_map, Picks, Has-choices}

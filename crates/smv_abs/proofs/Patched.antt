@@ -1,8 +1,8 @@
 -- A whole expression says the same of two states that give each element of the design one value; so does a whole definition.
-use Rattle.std.proofs.Common.{◌≡◌, ℕ, zero, suc, ◌+◌, ◌-◌, ◌<◌, List, [], ◌∷◌, ◌++◌, map, filter, length, Bool, true, false, ◌&&◌, ◌||◌, if◌then◌else◌, refl, sym, ap, subst, ◌∙◌, arith, Option, Some, None, option_map, unwrap_or, nat_eq}
+use Rattle.std.proofs.Common.{◌≡◌, ℕ, suc, ◌+◌, ◌-◌, List, [], ◌∷◌, ◌++◌, map, filter, length, Bool, true, false, if◌then◌else◌, refl, ap, ◌∙◌, Option, Some, None, option_map, unwrap_or}
 use Rattle.std.specs.List.{list_any, slice_get, zip}
 use Rattle.std.specs.Option.{is_none}
-use Rattle.smv_core.specs.Values.{Value, number, Outcome, Truth, truth, bit, value_in, all_defined, compare, equal, add, modulo, numbers_from, not_of, iff_of, conjunction, disjunction, implication}
+use Rattle.smv_core.specs.Values.{Value, number, Outcome, truth, bit, value_in, all_defined, compare, equal, add, modulo, numbers_from, not_of, iff_of, conjunction, disjunction, implication}
 use Rattle.smv_core.specs.Outcome.{branch, fit, is_true}
 use Rattle.smv_core.specs.Walk as walk
 use Rattle.smv_core.specs.Walk.{Walk, if_walk, is_other}

@@ -1,19 +1,17 @@
 -- A run of states that give each element a value of its type is one of states that do so also where indexes are missing.
-use Rattle.std.proofs.Common.{◌≡◌, ℕ, zero, suc, List, [], ◌∷◌, map, length, Bool, true, false, ◌&&◌, if◌then◌else◌, refl, sym, ap, subst, ◌∙◌, ◌⊎◌, inl, inr, arith, Option, Some, None, option_map, nat_eq}
-use Rattle.std.specs.List.{list_all, slice_get}
-use Rattle.smv_core.specs.Values.{Value, number, truth, is_in}
+use Rattle.std.proofs.Common.{◌≡◌, ℕ, List, [], ◌∷◌, map, length, Bool, true, false, if◌then◌else◌, refl, sym, ap, subst, ◌∙◌, arith, Option, Some, None, option_map, nat_eq}
+use Rattle.std.specs.List.{slice_get}
+use Rattle.smv_core.specs.Values.{Value, truth, is_in}
 use Rattle.smv_core.specs.Outcome.{is_true}
-use Rattle.smv_core.specs.Flat.{Numbered, FlatState, values_in, flat_outcome, flat_allowed}
+use Rattle.smv_core.specs.Flat.{Numbered, FlatState, values_in, flat_allowed}
 use Rattle.smv_core.specs.declared.flat.Claim.{Claim}
 use Rattle.smv_core.specs.declared.flat.Def.{Def}
 use Rattle.smv_core.specs.declared.flat.Family.{Family}
 use Rattle.smv_core.specs.declared.flat.Simple.{Simple as FlatSimple}
-use Rattle.smv_abs.specs.Sets.{Has, first, later, one_of_each}
+use Rattle.smv_abs.specs.Sets.{Has}
 use Rattle.smv_abs.specs.Pictures.{AreOfTypes, IsState}
 use Rattle.smv_abs.specs.Whole.{IsWhole, IsWholeDef}
-use Rattle.smv_abs.specs.Circular.{Demand, always}
-use Rattle.smv_abs.specs.Soundness.{FlatUnit, map_of, claim_of, over_of, values_of_family, params_of, values_over, is_held, meets_base, IsTyped, HasValue}
-use Rattle.smv_abs.proofs.Tests.{true_or_false}
+use Rattle.smv_abs.specs.Soundness.{map_of, claim_of, values_of_family, values_over, is_held, IsTyped, HasValue}
 use Rattle.smv_abs.proofs.Same.{nat_eq-itself, nat_eq-is}
 use Rattle.smv_abs.proofs.OneOfEach.{AreOf, are_of, one_of, are_long, map_long, get_Has}
 use Rattle.smv_abs.proofs.Patched.{AreSame, AreSameBefore, outcome_same, definition_same}

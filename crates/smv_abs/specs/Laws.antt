@@ -20,6 +20,8 @@ use Rattle.smv_abs.specs.Placings.{spot_by, spot_between, AreDistinct, AreBelow,
 use Rattle.smv_abs.specs.Cases.{grow, used}
 use Rattle.smv_abs.specs.Circular.{Circle, ShowsFailures, HasNoViolation, AlwaysHolds}
 use Rattle.smv_abs.specs.Uses.{is_now, rank_of}
+use Rattle.smv_abs.specs.Scopes.{ReadsOnly}
+use Rattle.smv_abs.specs.FlatConflicts.{IsConflictFree}
 use Rattle.smv_abs.specs.Soundness.{Plan, IsPlan, HasNoViolatingPath, IsSound}
 
 -- a rank that falls along the uses that are now
@@ -108,6 +110,15 @@ PicturesExist = (n : Numbered) (types : Name → AbsType) (spots : Placing) → 
 abbrev pub GrowingClassesCover : Type 0
 GrowingClassesCover = (size : ℕ) (vs : List ℕ) → AreBelow size vs →
     (classes : List ℕ) × (grow 0 classes ≡ true) × (values : List ℕ) × AreDistinct values × AreBelow size values × (used classes ≡ length values) × AreIn values vs classes
+
+-- an outcome depends on no variable but those that the expression reads, among so many values
+abbrev pub OutcomesKeepScopes : Type 0
+OutcomesKeepScopes = (n : Numbered) (s : FlatState) (e : FlatExpr) (scope : ℕ → Bool) (b c : List Value) → ReadsOnly scope e → length b ≡ length c →
+    ((k : ℕ) → scope k ≡ true → slice_get b k ≡ slice_get c k) → flat_outcome n s e b ≡ flat_outcome n s e c
+
+-- where no two assignments of a definition conflict, at most one value of each `forall` variable gives an element a result
+abbrev pub ConflictsLeaveOneResult : Type 0
+ConflictsLeaveOneResult = (n : Numbered) (def : Def) (indexes every : List Value) → IsConflictFree (length indexes) def → IsSingle n def indexes every
 
 -- where no case of any leaf has a violating path, every unit holds at every time of every run, for all sizes
 abbrev pub NoViolatingPathIsSound : Type 0

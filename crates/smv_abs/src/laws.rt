@@ -1,5 +1,5 @@
 // Laws of the definitions, each the contract of a function that does nothing.
-ghost use Rattle.smv_abs.specs.Laws.{CircularInduction, NowUsesFall, PlainTypesArePlaced, ScalarsetsArePlaced, OrdsetsArePlaced, MayKeepsOutcomes, MayKeepsRightSides, MustKeepsRightSides, MapsAreKept, ClaimsAreKept, GuardsCover, GuardsAreKept, PicturesExist, GrowingClassesCover, NoViolatingPathIsSound};
+ghost use Rattle.smv_abs.specs.Laws.{CircularInduction, NowUsesFall, PlainTypesArePlaced, ScalarsetsArePlaced, OrdsetsArePlaced, MayKeepsOutcomes, MayKeepsRightSides, MustKeepsRightSides, MapsAreKept, ClaimsAreKept, GuardsCover, GuardsAreKept, PicturesExist, GrowingClassesCover, OutcomesKeepScopes, ConflictsLeaveOneResult, NoViolatingPathIsSound};
 ghost use Rattle.smv_abs.specs.WorkedRights.{BitTargets, SetTargets, OutsideTargets, Assignments};
 ghost use Rattle.smv_abs.specs.WorkedCases.{ScalarsetCases, ReducedCases, OrdsetCases, RangeCases};
 ghost use Rattle.smv_abs.specs.WorkedObligations.{SplitHelps, OrderIsTotal, SplitOrders, Reductions, WrittenIndex, EachOther, MutualMaps, CertainMaps};
@@ -93,6 +93,16 @@ pub fn worked_obligations()
     ensures each_other { EachOther }
     ensures mutual_maps { MutualMaps }
     ensures certain_maps { CertainMaps }
+{}
+
+/// An outcome depends on no variable but those that its expression reads.
+pub fn outcomes_keep_scopes()
+    ensures { OutcomesKeepScopes }
+{}
+
+/// The rule of conflicts leaves each `forall` variable at most one value that gives an element a result.
+pub fn conflicts_leave_one_result()
+    ensures { ConflictsLeaveOneResult }
 {}
 
 /// The joined law: where no case of any leaf has a violating path, every unit holds at every time of every run, for all sizes.
