@@ -1,5 +1,5 @@
 -- The laws: what the crate's public functions say.
-use Rattle.std.specs.Prelude.{◌≡◌, ◌<◌, ℕ, List, map, length, slice_get, Option, Some, option_map, Bool, true, false}
+use Rattle.std.specs.Prelude.{◌≡◌, ◌<◌, ℕ, List, map, length, slice_get, Option, Some, option_map, Bool, true, false, All}
 use Rattle.smv_core.specs.Values.{Name, Value, number, range, choice, scalarset, ordset, Sizes}
 use Rattle.smv_core.specs.Flat.{Numbered, FlatState, values_in, flat_outcome, flat_allowed_by, flat_allowed}
 use Rattle.smv_core.specs.declared.flat.FlatExpr.{FlatExpr}
@@ -17,7 +17,8 @@ use Rattle.smv_abs.specs.Guards.{guard_holds}
 use Rattle.smv_abs.specs.Bound.{AreAtClasses, IsSingle}
 use Rattle.smv_abs.specs.Pictures.{Placing, placed, IsPlaced, ArePlaced, AreOfTypes, IsState, IsPicture, ArePictured, AreValues, KeepsNamed}
 use Rattle.smv_abs.specs.Placings.{spot_by, spot_between, AreDistinct, AreBelow, AreRising, AreIn, HasRoom}
-use Rattle.smv_abs.specs.Cases.{grow, used}
+use Rattle.smv_abs.specs.Cases.{grow, used, Treatment, Parameter}
+use Rattle.smv_abs.specs.Covers.{AreApart, AreTreated, IsIndexed, Covered}
 use Rattle.smv_abs.specs.Circular.{Circle, ShowsFailures, HasNoViolation, AlwaysHolds}
 use Rattle.smv_abs.specs.Uses.{is_now, rank_of}
 
@@ -107,3 +108,10 @@ PicturesExist = (n : Numbered) (types : Name → AbsType) (spots : Placing) → 
 abbrev pub GrowingClassesCover : Type 0
 GrowingClassesCover = (size : ℕ) (vs : List ℕ) → AreBelow size vs →
     (classes : List ℕ) × (grow 0 classes ≡ true) × (values : List ℕ) × AreDistinct values × AreBelow size values × (used classes ≡ length values) × AreIn values vs classes
+
+-- for all sizes and all values of a leaf's parameters, however many its set types have, the list of cases has one under which each value stands at its class
+abbrev pub CasesCover : Type 0
+CasesCover =
+    (n : Numbered) (treatments : List Treatment) → AreApart n.sets → AreTreated n.sizes n.sets treatments →
+    (params : List Parameter) → All (λ p. IsIndexed p.over) params → (values : List Value) → AreOfTypes n (map (λ p. p.over) params) values → length values ≡ length params →
+    Covered n treatments params values

@@ -12,6 +12,7 @@ pub mod Obligations
 pub mod Cases
 pub mod Bound
 pub mod Placings
+pub mod Covers
 pub mod Worked
 pub mod WorkedRights
 pub mod WorkedCases
