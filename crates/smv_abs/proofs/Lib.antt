@@ -19,3 +19,8 @@ pub mod DemandsKeep
 pub mod GuardsKeep
 pub mod PicturesExist
 pub mod CasesCover
+pub mod CoverLists
+pub mod CoverScalarsets
+pub mod CoverOrdsets
+pub mod CoverNames
+pub mod CoverParams

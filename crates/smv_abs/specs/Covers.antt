@@ -1,5 +1,5 @@
 -- What the list of cases has to give: for all values of the parameters a case, and a placing under which each value stands at its class.
-use Rattle.std.specs.Prelude.{◌≡◌, ◌≢◌, ℕ, List, [], ◌∷◌, map, length, Option, Some, None, Bool, true, false, if◌then◌else◌, All}
+use Rattle.std.specs.Prelude.{◌≡◌, ◌≢◌, ℕ, List, [], ◌∷◌, map, length, Option, Some, None, Bool, true, false, if◌then◌else◌}
 use Rattle.std.specs.Str.{bytes_eq}
 use Rattle.smv_core.specs.Values.{Name, Value, number, scalar, ordinal, Simple, scalarset, ordset, Sizes}
 use Rattle.smv_core.specs.Flat.{Numbered, simple_in}
@@ -44,7 +44,7 @@ types_at sets treatments params classes = by_name (record { named = 0; rest = be
 -- no two of these set types have one name
 abbrev pub AreApart : List SetInfo → Type 0
 AreApart [] = Unit {0}
-AreApart (info ∷ sets) = All (λ other. info.name ≢ other.name) sets × AreApart sets
+AreApart (info ∷ sets) = ((other : SetInfo) → Has sets other → info.name ≢ other.name) × AreApart sets
 
 -- how a set type of this size may be treated: a number of values that the treatment names is its size
 abbrev pub IsTreated : Bool → ℕ → Treatment → Type 0

@@ -1,5 +1,5 @@
 -- The laws: what the crate's public functions say.
-use Rattle.std.specs.Prelude.{◌≡◌, ◌<◌, ℕ, List, map, length, slice_get, Option, Some, option_map, Bool, true, false, All}
+use Rattle.std.specs.Prelude.{◌≡◌, ◌<◌, ℕ, List, map, length, slice_get, Option, Some, option_map, Bool, true, false}
 use Rattle.smv_core.specs.Values.{Name, Value, number, range, choice, scalarset, ordset, Sizes}
 use Rattle.smv_core.specs.Flat.{Numbered, FlatState, values_in, flat_outcome, flat_allowed_by, flat_allowed}
 use Rattle.smv_core.specs.declared.flat.FlatExpr.{FlatExpr}
@@ -8,7 +8,7 @@ use Rattle.smv_core.specs.declared.flat.Family.{Family}
 use Rattle.smv_core.specs.declared.flat.Simple.{Simple as FlatSimple}
 use Rattle.smv_abs.specs.declared.abstract_type.AbsType.{AbsType}
 use Rattle.smv_abs.specs.declared.abstract_type.Rest.TheVariants as beside
-use Rattle.smv_abs.specs.Sets.{Has}
+use Rattle.smv_abs.specs.Sets.{Has, one_of_each}
 use Rattle.smv_abs.specs.Places.{World, world, places_in}
 use Rattle.smv_abs.specs.May.{AbsState, Kept, may}
 use Rattle.smv_abs.specs.Right.{may_allow, must_allow}
@@ -113,5 +113,5 @@ GrowingClassesCover = (size : ℕ) (vs : List ℕ) → AreBelow size vs →
 abbrev pub CasesCover : Type 0
 CasesCover =
     (n : Numbered) (treatments : List Treatment) → AreApart n.sets → AreTreated n.sizes n.sets treatments →
-    (params : List Parameter) → All (λ p. IsIndexed p.over) params → (values : List Value) → AreOfTypes n (map (λ p. p.over) params) values → length values ≡ length params →
-    Covered n treatments params values
+    (params : List Parameter) → ((p : Parameter) → Has params p → IsIndexed p.over) →
+    (values : List Value) → Has (one_of_each (map (values_in n) (map (λ p. p.over) params))) values → Covered n treatments params values
