@@ -2,7 +2,7 @@
 use Rattle.std.proofs.Common.{◌≡◌, ℕ, zero, suc, ◌+◌, ◌<◌, ◌≤◌, List, [], ◌∷◌, ◌++◌, map, length, Bool, true, false, if◌then◌else◌, ◌&&◌, refl, sym, ap, subst, ◌∙◌, ◌⊎◌, inl, inr, arith, nat_eq}
 use Rattle.std.specs.List.{flat_map}
 use Rattle.smv_core.specs.Values.{Value}
-use Rattle.smv_core.specs.Flat.{Numbered, values_in}
+use Rattle.smv_core.specs.Flat.{Numbered, values_in, simple_in}
 use Rattle.smv_core.specs.declared.flat.Simple.{Simple}
 use Rattle.smv_core.specs.declared.flat.Simple.TheVariants.{Range, Enum, Set}
 use Rattle.smv_core.specs.declared.flat.Class.{Class}
@@ -51,6 +51,10 @@ of_its_type n (q ∷ params) [] picks p v s = elim s [ ]
 of_its_type n (q ∷ params) (u ∷ values) (more h picks) _ _ here = h
 of_its_type n (q ∷ params) (u ∷ values) (more h picks) p v (there s) = of_its_type n params values picks p v s
 
+pub Stands-Has : {params : List Parameter} {values : List Value} {p : Parameter} {v : Value} → Stands params values p v → Has params p
+Stands-Has here = first
+Stands-Has (there s) = later (Stands-Has s)
+
 is_set-is : (set : ℕ) (over : Simple) → is_set set over ≡ true → over ≡ Set set
 is_set-is set (Set other) e = ap Set (nat_eq-is other set e)
 is_set-is set (Range low high) e = absurd (cc)
@@ -73,6 +77,10 @@ those_of-few test set (p ∷ params) (x ∷ xs) = let r = those_of-few test set 
       | inl e ↦ rw e (omega (arith, r))
       | inr e ↦ rw e (omega (arith, r))
     ]
+
+pub length-map : {X Y : Type 0} (f : X → Y) (xs : List X) → length (map f xs) ≡ length xs
+length-map f [] = refl
+length-map f (x ∷ xs) = ap suc (length-map f xs)
 
 -- a value at a parameter of a set type that is listed so
 pub those_of-Has : (test : Bool → Bool) (set : ℕ) (params : List Parameter) (values : List Value) (p : Parameter) (v : Value) → Stands params values p v →
@@ -113,7 +121,7 @@ picked n candidates f (p ∷ params) (v ∷ values) (more h picks) each = more (
 -- each value stands at its class
 pub all_stand : (n : Numbered) (place : Value → Place) (f : Value → Class) (params : List Parameter) (values : List Value) →
     Picks (map (values_in n) (map (λ p. p.over) params)) values →
-    ((p : Parameter) (v : Value) → Stands params values p v → place v ≡ place_at n p.over (f v)) → map place values ≡ places_at n params (map f values)
+    ((p : Parameter) (v : Value) → Stands params values p v → place v ≡ place_at (simple_in n p.over) (f v)) → map place values ≡ places_at n params (map f values)
 all_stand n place f [] [] none each = refl
 all_stand n place f [] (v ∷ values) picks each = elim picks [ ]
 all_stand n place f (p ∷ params) [] picks each = elim picks [ ]

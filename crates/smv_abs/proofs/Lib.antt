@@ -24,3 +24,5 @@ pub mod CoverScalarsets
 pub mod CoverOrdsets
 pub mod CoverNames
 pub mod CoverParams
+pub mod CoverClasses
+pub mod CoverCases

@@ -21,15 +21,15 @@ value_at (scalarset t) k = scalar t k
 value_at (ordset t) k = ordinal t k
 value_at _ k = number k
 
--- where a parameter of this type stands that has this class
-abbrev pub place_at : Numbered → FlatSimple → Class → Place
-place_at n over (Number k) = named (number k)
-place_at n over (Named c) = named (value_at (simple_in n over) c)
-place_at n over (Rest g) = rest (value_at (simple_in n over) g)
+-- where a value of a type is that has this class
+abbrev pub place_at : Simple → Class → Place
+place_at t (Number k) = named (number k)
+place_at t (Named c) = named (value_at t c)
+place_at t (Rest g) = rest (value_at t g)
 
 -- where the parameters stand in a case
 abbrev pub places_at : Numbered → List Parameter → List Class → List Place
-places_at n (p ∷ params) (c ∷ classes) = place_at n p.over c ∷ places_at n params classes
+places_at n (p ∷ params) (c ∷ classes) = place_at (simple_in n p.over) c ∷ places_at n params classes
 places_at n _ _ = []
 
 -- what a list has for the set type of this name
@@ -61,12 +61,12 @@ AreTreated sizes (info ∷ sets) (t ∷ treatments) = IsTreated info.ordered (si
 AreTreated sizes _ _ = ⊥
 
 -- ranges and set types, over which alone a parameter may be
-abbrev pub IsIndexed : FlatSimple → Type 0
-IsIndexed (Enum list) = ⊥
-IsIndexed _ = Unit {0}
+abbrev pub IsIndexType : FlatSimple → Type 0
+IsIndexType (Enum list) = ⊥
+IsIndexType _ = Unit {0}
 
 -- a case of these parameters, and a placing of each set type under which each of these values stands at the class that the case gives its parameter
-pub record Covered (n : Numbered) (treatments : List Treatment) (params : List Parameter) (values : List Value) : Type 0 where
+pub record AreCovered (n : Numbered) (treatments : List Treatment) (params : List Parameter) (values : List Value) : Type 0 where
   pub classes : List Class
   pub is_case : Has (cases treatments params) classes
   pub spots : Placing

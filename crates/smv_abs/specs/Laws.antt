@@ -18,7 +18,7 @@ use Rattle.smv_abs.specs.Bound.{AreAtClasses, IsSingle}
 use Rattle.smv_abs.specs.Pictures.{Placing, placed, IsPlaced, ArePlaced, AreOfTypes, IsState, IsPicture, ArePictured, AreValues, KeepsNamed}
 use Rattle.smv_abs.specs.Placings.{spot_by, spot_between, AreDistinct, AreBelow, AreRising, AreIn, HasRoom}
 use Rattle.smv_abs.specs.Cases.{grow, used, Treatment, Parameter}
-use Rattle.smv_abs.specs.Covers.{AreApart, AreTreated, IsIndexed, Covered}
+use Rattle.smv_abs.specs.Covers.{AreApart, AreTreated, IsIndexType, AreCovered}
 use Rattle.smv_abs.specs.Circular.{Circle, ShowsFailures, HasNoViolation, AlwaysHolds}
 use Rattle.smv_abs.specs.Uses.{is_now, rank_of}
 
@@ -113,5 +113,5 @@ GrowingClassesCover = (size : ℕ) (vs : List ℕ) → AreBelow size vs →
 abbrev pub CasesCover : Type 0
 CasesCover =
     (n : Numbered) (treatments : List Treatment) → AreApart n.sets → AreTreated n.sizes n.sets treatments →
-    (params : List Parameter) → ((p : Parameter) → Has params p → IsIndexed p.over) →
-    (values : List Value) → Has (one_of_each (map (values_in n) (map (λ p. p.over) params))) values → Covered n treatments params values
+    (params : List Parameter) → ((p : Parameter) → Has params p → IsIndexType p.over) →
+    (values : List Value) → Has (one_of_each (map (values_in n) (map (λ p. p.over) params))) values → AreCovered n treatments params values

@@ -1,8 +1,5 @@
-use Rattle.smv_abs.proofs.CoverScalarsets.{whole_suits}
-use Rattle.smv_abs.proofs.CoverOrdsets.{ordset_suits}
-use Rattle.smv_abs.proofs.CoverNames.{by_name-at}
-use Rattle.smv_abs.proofs.CoverParams.{picked}
+use Rattle.smv_abs.proofs.CoverCases.{cases_cover}
 use Rattle.smv_abs.proofs.laws.cases_cover.Goals as goal
 
 pub returns : goal.returns
-returns c = ?
+returns c n treatments apart treated params indexed values typed = cases_cover n treatments apart treated params indexed values typed
