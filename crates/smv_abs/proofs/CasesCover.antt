@@ -1,10 +1,9 @@
 -- For all values of listed parameters of a scalarset some case has classes that put each at its own.
-use Rattle.std.proofs.Common.{◌≡◌, ℕ, zero, suc, ◌+◌, ◌<◌, ◌≤◌, max, List, [], ◌∷◌, ◌++◌, length, get_or, Bool, true, false, if◌then◌else◌, ◌&&◌, refl, sym, ap, subst, ◌∙◌, arith, nat_eq, nat_le, Option, Some, None, option_map, append_assoc}
+use Rattle.std.proofs.Common.{◌≡◌, ℕ, suc, ◌<◌, ◌≤◌, max, List, [], ◌∷◌, ◌++◌, length, Bool, true, false, if◌then◌else◌, refl, sym, ap, subst, ◌∙◌, arith, nat_eq, nat_le, Option, Some, None, option_map, append_assoc}
 use Rattle.smv_abs.specs.Cases.{used, grow}
-use Rattle.smv_abs.specs.Pictures.{Spot, class}
-use Rattle.smv_abs.specs.Placings.{place_in, or_rest, spot_by, AreDistinct, AreBelow, AreIn}
+use Rattle.smv_abs.specs.Placings.{place_in, or_rest, AreDistinct, AreBelow, AreIn}
 use Rattle.smv_abs.proofs.Tests.{and_both}
-use Rattle.smv_abs.proofs.Same.{nat_eq-itself, nat_eq-is}
+use Rattle.smv_abs.proofs.Same.{nat_eq-itself}
 use Rattle.smv_abs.proofs.Scalarsets.{found}
 
 pub not_in_longer : (v w : ℕ) (xs : List ℕ) → place_in v xs ≡ None → nat_eq v w ≡ false → place_in v (xs ++ w ∷ []) ≡ None

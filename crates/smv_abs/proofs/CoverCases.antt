@@ -1,22 +1,20 @@
 -- The list of cases covers: all values of the parameters have a case, and a placing under which each stands at its class.
-use Rattle.std.proofs.Common.{◌≡◌, ℕ, zero, suc, ◌+◌, ◌-◌, ◌<◌, ◌≤◌, List, [], ◌∷◌, ◌++◌, map, length, get_or, Bool, true, false, if◌then◌else◌, ◌&&◌, refl, sym, ap, subst, ◌∙◌, ◌⊎◌, inl, inr, arith, nat_eq, slice_get, Option, Some, None}
+use Rattle.std.proofs.Common.{◌≡◌, ℕ, zero, suc, ◌+◌, ◌-◌, ◌<◌, ◌≤◌, List, [], ◌∷◌, map, length, get_or, Bool, true, false, refl, sym, ap, subst, ◌∙◌, arith, slice_get, Option, Some, None}
 use Rattle.std.specs.List.{list_all}
-use Rattle.smv_core.specs.Values.{Name, Value, number, Simple, choice, scalarset, ordset, Sizes, values_of, numbers_from}
+use Rattle.smv_core.specs.Values.{Value, number, values_of, numbers_from}
 use Rattle.smv_core.specs.Flat.{Numbered, values_in, simple_in, set_type}
 use Rattle.smv_core.specs.declared.flat.Simple.{Simple as FlatSimple}
 use Rattle.smv_core.specs.declared.flat.Simple.TheVariants.{Range, Enum, Set}
 use Rattle.smv_core.specs.declared.flat.SetInfo.{SetInfo}
 use Rattle.smv_core.specs.declared.flat.Class.{Class}
-use Rattle.smv_core.specs.declared.flat.Class.TheVariants.{Number, Named, Rest}
+use Rattle.smv_core.specs.declared.flat.Class.TheVariants.{Number, Named}
 use Rattle.smv_abs.specs.declared.abstract_type.Rest.TheVariants as beside
-use Rattle.smv_abs.specs.declared.abstract_type.AbsType.{AbsType}
 use Rattle.smv_abs.specs.Sets.{Has, first, later, one_of_each}
-use Rattle.smv_abs.specs.Places.{Place, named, World, world}
+use Rattle.smv_abs.specs.Places.{world}
 use Rattle.smv_abs.specs.Pictures.{Spot, class, Placing, placed, IsPlaced, ArePlaced}
 use Rattle.smv_abs.specs.Placings.{AreBelow}
-use Rattle.smv_abs.specs.Cases.{Treatment, whole, reduced, ordered, Parameter, used, abstract_type, is_of, is_set, those_of, type_in, is_allowed, candidates, numbered, cases}
-use Rattle.smv_abs.specs.Covers.{value_at, place_at, places_at, by_name, types_at, AreApart, IsTreated, AreTreated, IsIndexType, AreCovered}
-use Rattle.smv_abs.proofs.Tests.{true_or_false}
+use Rattle.smv_abs.specs.Cases.{Treatment, whole, reduced, ordered, Parameter, used, abstract_type, is_of, is_set, those_of, type_in, is_allowed, candidates, numbered}
+use Rattle.smv_abs.specs.Covers.{value_at, place_at, by_name, types_at, AreApart, IsTreated, AreTreated, IsIndexType, AreCovered}
 use Rattle.smv_abs.proofs.Members.{Picks, Has-choices, Has-map, Has-from_map, all-holds}
 use Rattle.smv_abs.proofs.RightKeeps.{Has-filter}
 use Rattle.smv_abs.proofs.Plain.{range_is_placed, choice_is_placed}

@@ -1,7 +1,6 @@
 -- The class of a value under a placing, and what a case is allowed for one set type.
-use Rattle.std.proofs.Common.{◌≡◌, ℕ, zero, suc, ◌+◌, ◌<◌, ◌≤◌, List, [], ◌∷◌, ◌++◌, map, length, Bool, true, false, not, if◌then◌else◌, ◌&&◌, refl, sym, ap, subst, ◌∙◌, ◌⊎◌, inl, inr, arith, nat_eq, nat_lt}
-use Rattle.std.specs.List.{list_any, list_all}
-use Rattle.smv_core.specs.Values.{Name, Value, number, constant, scalar, ordinal, Simple, range, choice, scalarset, ordset, Sizes, values_of, numbers_from}
+use Rattle.std.proofs.Common.{◌≡◌, ℕ, suc, ◌+◌, ◌<◌, ◌≤◌, List, [], ◌∷◌, ◌++◌, map, length, Bool, true, false, not, refl, sym, ap, subst, ◌∙◌, inl, inr, arith, nat_eq, nat_lt}
+use Rattle.smv_core.specs.Values.{Name, Value, number, constant, scalar, ordinal, Sizes, values_of, numbers_from}
 use Rattle.smv_core.specs.declared.flat.Class.{Class}
 use Rattle.smv_core.specs.declared.flat.Class.TheVariants.{Number, Named, Rest}
 use Rattle.smv_abs.specs.declared.abstract_type.Rest.{Rest as Beside}
@@ -9,7 +8,7 @@ use Rattle.smv_abs.specs.declared.abstract_type.Rest.TheVariants as beside
 use Rattle.smv_abs.specs.declared.abstract_type.AbsType.{AbsType}
 use Rattle.smv_abs.specs.Sets.{Has, first, later}
 use Rattle.smv_abs.specs.Places.{Place, named, rest, rests_beside}
-use Rattle.smv_abs.specs.Pictures.{Spot, class, other, Placing, at_spot, placed}
+use Rattle.smv_abs.specs.Pictures.{Spot, class, other, Placing, placed}
 use Rattle.smv_abs.specs.Cases.{Treatment, whole, reduced, ordered, Parameter, used, named_among, are_named, abstract_type, is_of, is_orderly, those_of, listed_classes, unlisted_classes, type_in, is_allowed}
 use Rattle.smv_abs.specs.Covers.{value_at, place_at}
 use Rattle.smv_abs.proofs.Tests.{and_both}

@@ -1,5 +1,5 @@
 -- How long lists of different numbers are.
-use Rattle.std.proofs.Common.{◌≡◌, ℕ, zero, suc, ◌+◌, ◌<◌, ◌≤◌, List, [], ◌∷◌, ◌++◌, map, length, Bool, true, false, if◌then◌else◌, refl, sym, ap, subst, ◌∙◌, ◌⊎◌, inl, inr, arith, nat_eq, Option, Some, None, option_map, append_assoc}
+use Rattle.std.proofs.Common.{◌≡◌, ℕ, zero, suc, ◌+◌, ◌<◌, ◌≤◌, List, [], ◌∷◌, ◌++◌, length, Bool, true, false, refl, sym, ap, subst, ◌⊎◌, inl, inr, arith, nat_eq, Option, Some, None, option_map, append_assoc}
 use Rattle.smv_core.specs.Values.{numbers_from}
 use Rattle.smv_abs.specs.Sets.{Has, first, later}
 use Rattle.smv_abs.specs.Placings.{place_in, AreDistinct, AreBelow}

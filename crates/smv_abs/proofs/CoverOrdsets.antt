@@ -1,16 +1,15 @@
 -- The values of the listed parameters of an ordset, once each and in their order, suit it.
-use Rattle.std.proofs.Common.{◌≡◌, ℕ, zero, suc, ◌+◌, ◌<◌, ◌≤◌, List, [], ◌∷◌, map, length, get_or, Bool, true, false, if◌then◌else◌, refl, sym, ap, subst, ◌∙◌, ◌⊎◌, inl, inr, arith, nat_eq, nat_lt}
-use Rattle.std.specs.List.{list_any, list_all}
+use Rattle.std.proofs.Common.{◌≡◌, ℕ, zero, suc, ◌+◌, ◌<◌, ◌≤◌, List, [], ◌∷◌, map, length, get_or, true, if◌then◌else◌, refl, sym, subst, ◌∙◌, ◌⊎◌, inl, inr, arith, nat_eq, nat_lt}
+use Rattle.std.specs.List.{list_any}
 use Rattle.smv_core.specs.Values.{numbers_from}
-use Rattle.smv_abs.specs.declared.abstract_type.Rest.TheVariants as beside
 use Rattle.smv_abs.specs.Sets.{Has, first, later}
-use Rattle.smv_abs.specs.Pictures.{Spot, class}
-use Rattle.smv_abs.specs.Placings.{spot_from, spot_between, AreBelow, AreRising}
-use Rattle.smv_abs.specs.Cases.{ordered, used, fill}
+use Rattle.smv_abs.specs.Pictures.{class}
+use Rattle.smv_abs.specs.Placings.{spot_between, AreBelow, AreRising}
+use Rattle.smv_abs.specs.Cases.{ordered, used}
 use Rattle.smv_abs.proofs.Members.{any-found, all-holds}
 use Rattle.smv_abs.proofs.Same.{nat_eq-itself}
 use Rattle.smv_abs.proofs.Spots.{AreSpotted, numbers-Has}
-use Rattle.smv_abs.proofs.Ordsets.{Beside, on, under, over, beside_it, rising_tail, at_own, spotted_between, ordset_is_placed}
+use Rattle.smv_abs.proofs.Ordsets.{on, under, over, beside_it, rising_tail, at_own, spotted_between, ordset_is_placed}
 use Rattle.smv_abs.proofs.CoverScalarsets.{Suits, below_used}
 
 -- one more value among rising values

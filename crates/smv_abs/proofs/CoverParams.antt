@@ -1,5 +1,5 @@
 -- The parameters of a leaf with their values.
-use Rattle.std.proofs.Common.{◌≡◌, ℕ, zero, suc, ◌+◌, ◌<◌, ◌≤◌, List, [], ◌∷◌, ◌++◌, map, length, Bool, true, false, if◌then◌else◌, ◌&&◌, refl, sym, ap, subst, ◌∙◌, ◌⊎◌, inl, inr, arith, nat_eq}
+use Rattle.std.proofs.Common.{◌≡◌, ℕ, suc, ◌≤◌, List, [], ◌∷◌, map, length, Bool, true, ◌&&◌, refl, sym, ap, subst, inl, inr, arith}
 use Rattle.std.specs.List.{flat_map}
 use Rattle.smv_core.specs.Values.{Value}
 use Rattle.smv_core.specs.Flat.{Numbered, values_in, simple_in}
@@ -10,7 +10,7 @@ use Rattle.smv_abs.specs.Sets.{Has, first, later, one_of_each}
 use Rattle.smv_abs.specs.Places.{Place}
 use Rattle.smv_abs.specs.Cases.{Parameter, is_set, those_of}
 use Rattle.smv_abs.specs.Covers.{place_at, places_at}
-use Rattle.smv_abs.proofs.Tests.{true_or_false, and_both, left_of, right_of}
+use Rattle.smv_abs.proofs.Tests.{true_or_false, and_both, left_of}
 use Rattle.smv_abs.proofs.Members.{Picks, none, more, Has-cases, Has-from_map}
 use Rattle.smv_abs.proofs.Same.{nat_eq-is}
 

@@ -1,21 +1,19 @@
 -- A set type under a placing that suits the values of its listed parameters; scalarsets, whole and reduced.
-use Rattle.std.proofs.Common.{◌≡◌, ℕ, zero, suc, ◌+◌, ◌<◌, ◌≤◌, max, List, [], ◌∷◌, ◌++◌, map, length, Bool, true, false, if◌then◌else◌, ◌&&◌, refl, sym, ap, subst, ◌∙◌, ◌⊎◌, inl, inr, arith, nat_eq, nat_lt, nat_le, Option, Some, None}
+use Rattle.std.proofs.Common.{◌≡◌, ℕ, suc, ◌+◌, ◌<◌, ◌≤◌, max, List, [], ◌∷◌, ◌++◌, map, length, Bool, true, false, if◌then◌else◌, refl, sym, ap, subst, ◌∙◌, arith, nat_lt, nat_le, Some, None}
 use Rattle.std.specs.List.{list_all}
-use Rattle.smv_core.specs.Values.{Name, Simple, scalarset, ordset, Sizes, numbers_from}
-use Rattle.smv_abs.specs.declared.abstract_type.Rest.{Rest}
+use Rattle.smv_core.specs.Values.{Name, Simple, scalarset, ordset, Sizes}
 use Rattle.smv_abs.specs.declared.abstract_type.Rest.TheVariants as beside
-use Rattle.smv_abs.specs.declared.abstract_type.AbsType.{AbsType}
 use Rattle.smv_abs.specs.Sets.{Has, first, later}
 use Rattle.smv_abs.specs.Places.{World, rests_beside}
-use Rattle.smv_abs.specs.Pictures.{Spot, class, other, Placing, placed, IsPlaced}
+use Rattle.smv_abs.specs.Pictures.{Spot, class, Placing, placed, IsPlaced}
 use Rattle.smv_abs.specs.Placings.{place_in, spot_by, AreDistinct, AreBelow, HasRoom, AreIn}
-use Rattle.smv_abs.specs.Cases.{Treatment, whole, reduced, ordered, used, grow, are_below, is_orderly, abstract_type}
-use Rattle.smv_abs.proofs.Tests.{and_both, left_of, right_of, true_or_false}
+use Rattle.smv_abs.specs.Cases.{Treatment, whole, reduced, used, grow, is_orderly, abstract_type}
+use Rattle.smv_abs.proofs.Tests.{and_both, left_of, right_of}
 use Rattle.smv_abs.proofs.Members.{all-holds}
 use Rattle.smv_abs.proofs.Scalarsets.{by_class, spotted_by, scalarset_is_placed}
 use Rattle.smv_abs.proofs.Spots.{AreSpotted}
 use Rattle.smv_abs.proofs.CasesCover.{stays, classes_cover}
-use Rattle.smv_abs.proofs.CoverLists.{at_most_size, all_there, no_fewer, fill_up, Filled}
+use Rattle.smv_abs.proofs.CoverLists.{at_most_size, all_there, no_fewer, fill_up}
 
 -- the set type of a name
 abbrev pub named_set : Bool → Name → Simple

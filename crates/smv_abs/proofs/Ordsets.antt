@@ -1,15 +1,14 @@
 -- The values of an ordset: classes by rising values, and the gaps around them.
-use Rattle.std.proofs.Common.{◌≡◌, ℕ, zero, suc, ◌+◌, ◌*◌, ◌<◌, ◌≤◌, List, [], ◌∷◌, ◌++◌, map, length, get_or, Bool, true, false, not, if◌then◌else◌, refl, sym, ap, subst, ◌∙◌, ◌⊎◌, inl, inr, arith, nat_eq, nat_lt, Option, Some, None}
-use Rattle.std.specs.Str.{bytes_eq}
+use Rattle.std.proofs.Common.{◌≡◌, ℕ, zero, suc, ◌+◌, ◌*◌, ◌<◌, ◌≤◌, List, [], ◌∷◌, ◌++◌, map, length, get_or, Bool, true, false, not, if◌then◌else◌, refl, sym, ap, subst, ◌∙◌, ◌⊎◌, inl, inr, arith, nat_eq, nat_lt, Some}
 use Rattle.std.proofs.lemmas.Slice.Eq.{bytes_eq-Decides}
-use Rattle.smv_core.specs.Values.{Name, Value, ordinal, Simple, ordset, Sizes, Truth, values_of, numbers_from, same, below, not_of}
+use Rattle.smv_core.specs.Values.{Name, ordinal, ordset, Sizes, numbers_from, below, not_of}
 use Rattle.smv_abs.specs.declared.abstract_type.Rest.TheVariants as beside
 use Rattle.smv_abs.specs.Sets.{Has, first, later}
-use Rattle.smv_abs.specs.Places.{World, named, rest, unsure, below_places, rests_beside}
+use Rattle.smv_abs.specs.Places.{World, unsure, below_places, rests_beside}
 use Rattle.smv_abs.specs.Pictures.{Spot, class, other, Placing, at_spot, placed, IsPlaced}
 use Rattle.smv_abs.specs.Placings.{spot_from, spot_between, AreRising}
 use Rattle.smv_abs.proofs.Members.{Has-left, Has-right, Has-map}
-use Rattle.smv_abs.proofs.Same.{nat_eq-itself, nat_eq-is}
+use Rattle.smv_abs.proofs.Same.{nat_eq-itself}
 use Rattle.smv_abs.proofs.Spots.{Has-numbers, AreSpotted, is_somewhere, class_has_value, class_has_one, equality, order}
 use Rattle.smv_abs.proofs.Scalarsets.{same_ordinal}
 

@@ -1,5 +1,5 @@
 -- What the list of cases has to give: for all values of the parameters a case, and a placing under which each value stands at its class.
-use Rattle.std.specs.Prelude.{◌≡◌, ◌≢◌, ℕ, List, [], ◌∷◌, map, length, Option, Some, None, Bool, true, false, if◌then◌else◌}
+use Rattle.std.specs.Prelude.{◌≡◌, ◌≢◌, ℕ, List, [], ◌∷◌, map, Some, None, Bool, true, false, if◌then◌else◌}
 use Rattle.std.specs.Str.{bytes_eq}
 use Rattle.smv_core.specs.Values.{Name, Value, number, scalar, ordinal, Simple, scalarset, ordset, Sizes}
 use Rattle.smv_core.specs.Flat.{Numbered, simple_in}
@@ -12,7 +12,7 @@ use Rattle.smv_abs.specs.declared.abstract_type.Rest.TheVariants as beside
 use Rattle.smv_abs.specs.declared.abstract_type.AbsType.{AbsType}
 use Rattle.smv_abs.specs.Sets.{Has}
 use Rattle.smv_abs.specs.Places.{Place, named, rest, world}
-use Rattle.smv_abs.specs.Pictures.{Placing, placed, ArePlaced, AreOfTypes}
+use Rattle.smv_abs.specs.Pictures.{Placing, placed, ArePlaced}
 use Rattle.smv_abs.specs.Cases.{Treatment, whole, reduced, ordered, Parameter, numbered, type_in, cases}
 
 -- the value of a set type by its number

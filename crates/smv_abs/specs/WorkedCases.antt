@@ -1,8 +1,7 @@
 -- Worked cases.
-use Rattle.std.specs.Prelude.{◌≡◌, ℕ, List, [], ◌∷◌, map, Some, None, Bool, true, false, codes}
+use Rattle.std.specs.Prelude.{◌≡◌, ℕ, List, [], ◌∷◌, map, Some, None, true, false, codes}
 use Rattle.smv_core.specs.Values.{number, scalar, ordinal}
 use Rattle.smv_core.specs.Flat.{Numbered}
-use Rattle.smv_core.specs.declared.flat.SetInfo.{SetInfo}
 use Rattle.smv_core.specs.declared.flat.Simple.TheVariants.{Range, Set}
 use Rattle.smv_core.specs.declared.flat.Class.{Class}
 use Rattle.smv_core.specs.declared.flat.Class.TheVariants.{Number, Named, Rest}
