@@ -1,5 +1,5 @@
 -- The circular induction: by time, and at one time by the order of the uses that are now.
-use Rattle.std.proofs.Common.{◌≡◌, ℕ, zero, suc, ◌+◌, ◌<◌, ◌≤◌, arith, List, [], ◌∷◌, length, map, take, Option, Some, None, option_map, Bool, true, false, ◌&&◌, refl, sym, subst, ◌⊎◌, inl, inr}
+use Rattle.std.proofs.Common.{◌≡◌, ℕ, zero, suc, ◌<◌, ◌≤◌, arith, List, [], ◌∷◌, length, map, take, Option, Some, None, option_map, Bool, true, false, refl, sym, subst, ◌⊎◌, inl, inr}
 use Rattle.smv_abs.specs.Circular.{Demand, Obligation, always, is_violating_after, Circle, AreHeld, IsShown, ShowsFailures, HasNoViolation, AlwaysHolds}
 use Rattle.smv_abs.proofs.Tests.{and_both, left_of, right_of, true_or_false}
 

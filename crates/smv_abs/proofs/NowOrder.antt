@@ -1,5 +1,5 @@
 -- The uses that are now hold no cycle: each of them falls in rank.
-use Rattle.std.proofs.Common.{◌≡◌, ℕ, zero, suc, ◌+◌, ◌*◌, ◌<◌, ◌≤◌, Bool, true, false, not, ◌&&◌, ◌||◌, if◌then◌else◌, refl, sym, ap, subst, ◌⊎◌, inl, inr, arith, nat_eq, nat_lt}
+use Rattle.std.proofs.Common.{◌≡◌, ℕ, zero, suc, ◌+◌, ◌*◌, ◌<◌, ◌≤◌, Bool, true, false, not, if◌then◌else◌, refl, ap, subst, ◌⊎◌, inl, inr, arith, nat_eq, nat_lt}
 use Rattle.std.proofs.Math.Nat.{mul-le-mul_left}
 use Rattle.smv_abs.specs.Uses.{reaches_through, is_now, count_below, rank_of}
 use Rattle.smv_abs.proofs.Tests.{or_left, or_right, or_cases, and_both, left_of, right_of, not_true}

@@ -7,7 +7,7 @@ use Rattle.smv_core.specs.declared.flat.Family.{Family}
 use Rattle.smv_core.specs.declared.flat.Simple.{Simple as FlatSimple}
 use Rattle.smv_abs.specs.declared.abstract_type.AbsType.{AbsType}
 use Rattle.smv_abs.specs.Sets.{Has}
-use Rattle.smv_abs.specs.Places.{Place, named, World, world, named_in, is_among}
+use Rattle.smv_abs.specs.Places.{Place, named, world, named_in, is_among}
 use Rattle.smv_abs.specs.May.{AbsState, Kept}
 use Rattle.smv_abs.specs.Pictures.{Placing, placed, ArePlaced, AreOfTypes, IsPicture, AreNamedOf, KeepsNamed}
 use Rattle.smv_abs.proofs.Same.{Has-is_among, is_among-Has}
