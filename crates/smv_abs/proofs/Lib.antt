@@ -19,6 +19,13 @@ pub mod DemandsKeep
 pub mod GuardsKeep
 pub mod PicturesExist
 pub mod CasesCover
+pub mod CoverLists
+pub mod CoverScalarsets
+pub mod CoverOrdsets
+pub mod CoverNames
+pub mod CoverParams
+pub mod CoverClasses
+pub mod CoverCases
 pub mod ScopesKeep
 pub mod OneOfEach
 pub mod GuardsChosen

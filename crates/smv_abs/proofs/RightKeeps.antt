@@ -22,7 +22,7 @@ use Rattle.smv_abs.proofs.Operators.{seen_placed}
 use Rattle.smv_abs.proofs.Fitted.{IsOut, GivesValue, itself, outside, SomeGives, Given, fit_is, given_fits}
 use Rattle.smv_abs.proofs.MayKeeps.{bind_are, bind_placed, outcome_is, members_are, keeps, keeps_members}
 
-Has-filter : {X : Type 0} (f : X → Bool) {xs : List X} {x : X} → Has xs x → f x ≡ true → Has (filter f xs) x
+pub Has-filter : {X : Type 0} (f : X → Bool) {xs : List X} {x : X} → Has xs x → f x ≡ true → Has (filter f xs) x
 Has-filter f first e = rw e first
 Has-filter f (later {y = y} {xs = xs} h) e = past (f y) (Has-filter f h e)
   where

@@ -53,7 +53,7 @@ spot_is beside.One size values room k l None p = Has-right (map class (numbers_f
 spot_is beside.None size values room k l None p = absurd (room k l p)
 spot_is beside.Gaps size values room k l None p = absurd room
 
-by_class : (k c : ℕ) (o : Option ℕ) → or_rest o ≡ class c → o ≡ Some c
+pub by_class : (k c : ℕ) (o : Option ℕ) → or_rest o ≡ class c → o ≡ Some c
 by_class k c None e = absurd (cc)
 by_class k c (Some d) e = let same : d ≡ c = cc in ap Some same
 

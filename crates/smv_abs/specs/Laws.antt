@@ -8,7 +8,7 @@ use Rattle.smv_core.specs.declared.flat.Family.{Family}
 use Rattle.smv_core.specs.declared.flat.Simple.{Simple as FlatSimple}
 use Rattle.smv_abs.specs.declared.abstract_type.AbsType.{AbsType}
 use Rattle.smv_abs.specs.declared.abstract_type.Rest.TheVariants as beside
-use Rattle.smv_abs.specs.Sets.{Has}
+use Rattle.smv_abs.specs.Sets.{Has, one_of_each}
 use Rattle.smv_abs.specs.Places.{World, world, places_in}
 use Rattle.smv_abs.specs.May.{AbsState, Kept, may}
 use Rattle.smv_abs.specs.Right.{may_allow, must_allow}
@@ -17,7 +17,8 @@ use Rattle.smv_abs.specs.Guards.{guard_holds}
 use Rattle.smv_abs.specs.Bound.{AreAtClasses, IsSingle}
 use Rattle.smv_abs.specs.Pictures.{Placing, placed, IsPlaced, ArePlaced, AreOfTypes, IsState, IsPicture, ArePictured, AreValues, KeepsNamed}
 use Rattle.smv_abs.specs.Placings.{spot_by, spot_between, AreDistinct, AreBelow, AreRising, AreIn, HasRoom}
-use Rattle.smv_abs.specs.Cases.{grow, used}
+use Rattle.smv_abs.specs.Cases.{grow, used, Treatment, Parameter}
+use Rattle.smv_abs.specs.Covers.{AreApart, AreTreated, IsIndexType, AreCovered}
 use Rattle.smv_abs.specs.Circular.{Circle, ShowsFailures, HasNoViolation, AlwaysHolds}
 use Rattle.smv_abs.specs.Uses.{is_now, rank_of}
 use Rattle.smv_abs.specs.Scopes.{ReadsOnly}
@@ -110,6 +111,13 @@ PicturesExist = (n : Numbered) (types : Name → AbsType) (spots : Placing) → 
 abbrev pub GrowingClassesCover : Type 0
 GrowingClassesCover = (size : ℕ) (vs : List ℕ) → AreBelow size vs →
     (classes : List ℕ) × (grow 0 classes ≡ true) × (values : List ℕ) × AreDistinct values × AreBelow size values × (used classes ≡ length values) × AreIn values vs classes
+
+-- for all sizes and all values of a leaf's parameters, however many its set types have, the list of cases has one under which each value stands at its class
+abbrev pub CasesCover : Type 0
+CasesCover =
+    (n : Numbered) (treatments : List Treatment) → AreApart n.sets → AreTreated n.sizes n.sets treatments →
+    (params : List Parameter) → ((p : Parameter) → Has params p → IsIndexType p.over) →
+    (values : List Value) → Has (one_of_each (map (values_in n) (map (λ p. p.over) params))) values → AreCovered n treatments params values
 
 -- an outcome depends on no variable but those that the expression reads, among so many values
 abbrev pub OutcomesKeepScopes : Type 0

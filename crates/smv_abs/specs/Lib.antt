@@ -16,6 +16,7 @@ pub mod Whole
 pub mod FlatConflicts
 pub mod Soundness
 pub mod Placings
+pub mod Covers
 pub mod Worked
 pub mod WorkedRights
 pub mod WorkedCases

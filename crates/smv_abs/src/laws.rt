@@ -1,7 +1,7 @@
 // Laws of the definitions, each the contract of a function that does nothing.
-ghost use Rattle.smv_abs.specs.Laws.{CircularInduction, NowUsesFall, PlainTypesArePlaced, ScalarsetsArePlaced, OrdsetsArePlaced, MayKeepsOutcomes, MayKeepsRightSides, MustKeepsRightSides, MapsAreKept, ClaimsAreKept, GuardsCover, GuardsAreKept, PicturesExist, GrowingClassesCover, OutcomesKeepScopes, ConflictsLeaveOneResult, NoViolatingPathIsSound};
+ghost use Rattle.smv_abs.specs.Laws.{CircularInduction, NowUsesFall, PlainTypesArePlaced, ScalarsetsArePlaced, OrdsetsArePlaced, MayKeepsOutcomes, MayKeepsRightSides, MustKeepsRightSides, MapsAreKept, ClaimsAreKept, GuardsCover, GuardsAreKept, PicturesExist, GrowingClassesCover, CasesCover, OutcomesKeepScopes, ConflictsLeaveOneResult, NoViolatingPathIsSound};
 ghost use Rattle.smv_abs.specs.WorkedRights.{BitTargets, SetTargets, OutsideTargets, Assignments};
-ghost use Rattle.smv_abs.specs.WorkedCases.{ScalarsetCases, ReducedCases, OrdsetCases, RangeCases};
+ghost use Rattle.smv_abs.specs.WorkedCases.{ScalarsetCases, ReducedCases, OrdsetCases, RangeCases, SeveralTypes};
 ghost use Rattle.smv_abs.specs.WorkedObligations.{SplitHelps, OrderIsTotal, SplitOrders, Reductions, WrittenIndex, EachOther, MutualMaps, CertainMaps};
 ghost use Rattle.smv_abs.specs.Worked.{RestsCompare, GapsCompare, ReadsAtRests, Quantifiers, Memberships, Operators};
 
@@ -67,6 +67,12 @@ pub fn growing_classes_cover()
     ensures { GrowingClassesCover }
 {}
 
+/// Every instance of a leaf has a case with a placing: for all sizes of the set types and all values of the parameters, the list of cases
+/// has one, and each set type a placing, under which each parameter's value stands at the class that the case gives it.
+pub fn cases_cover()
+    ensures { CasesCover }
+{}
+
 /// Worked right sides and definitions: what they may allow and what they allow for certain.
 pub fn worked_right_sides()
     ensures bit_targets { BitTargets }
@@ -75,12 +81,13 @@ pub fn worked_right_sides()
     ensures assignments { Assignments }
 {}
 
-/// Worked cases: of scalarsets, whole and reduced, of ordsets and of ranges.
+/// Worked cases: of scalarsets, whole and reduced, of ordsets, of ranges, and of several types side by side.
 pub fn worked_cases()
     ensures scalarsets { ScalarsetCases }
     ensures reduced { ReducedCases }
     ensures ordsets { OrdsetCases }
     ensures ranges { RangeCases }
+    ensures several { SeveralTypes }
 {}
 
 /// Worked obligations: cases that have, or have not, a violating path.
