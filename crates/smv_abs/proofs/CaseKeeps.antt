@@ -69,12 +69,9 @@ number_placed spots (x ∷ xs) zero = refl
 number_placed spots (x ∷ xs) (suc k) = number_placed spots xs k
 
 module _ (plan : Plan) (sizes : Sizes) (p : Problem) (types : Name → AbsType) (is_world : p.world ≡ world plan.names types) (spots : Placing)
-    (are_placed : ArePlaced (at_sizes plan.names sizes) p.world spots) (keeps_named : KeepsNamed p.world p.kept) where
+    (facts : ArePlaced (at_sizes plan.names sizes) (world plan.names types) spots) (keeps_named : KeepsNamed p.world p.kept) where
   abbrev n : Numbered
   n = at_sizes plan.names sizes
-
-  facts : ArePlaced n (world n types) spots
-  facts = subst (λ w. ArePlaced n w spots) is_world are_placed
 
   some_picture : (s : Known n) → (a : AbsState) × IsPicture n spots p.kept s.state a × IsAbsState (world n types) p.kept a
   some_picture s = state_pictured n types spots facts p.kept (subst (λ w. KeepsNamed w p.kept) is_world keeps_named) s.state s.is_state

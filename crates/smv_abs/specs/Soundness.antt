@@ -5,6 +5,7 @@ use Rattle.smv_core.specs.Values.{Name, Value, Sizes, truth, is_in}
 use Rattle.smv_core.specs.Outcome.{is_true}
 use Rattle.smv_core.specs.Flat.{Numbered, FlatState, values_in, flat_outcome, flat_allowed}
 use Rattle.smv_core.specs.declared.flat.Claim.{Claim}
+use Rattle.smv_core.specs.declared.flat.Class.{Class}
 use Rattle.smv_core.specs.declared.flat.Def.{Def}
 use Rattle.smv_core.specs.declared.flat.Family.{Family}
 use Rattle.smv_core.specs.declared.flat.Guard.{Guard}
@@ -17,6 +18,8 @@ use Rattle.smv_abs.specs.May.{AbsState}
 use Rattle.smv_abs.specs.Pictures.{Placing, placed, ArePlaced, KeepsNamed, IsAbsState}
 use Rattle.smv_abs.specs.Circular.{Demand, always, is_violating}
 use Rattle.smv_abs.specs.Obligations.{Demanded, defined, holds, Problem, obligation}
+use Rattle.smv_abs.specs.Cases.{Treatment, Parameter, cases}
+use Rattle.smv_abs.specs.Covers.{types_at, places_at, AreApart, AreTreated, IsIndexType}
 use Rattle.smv_abs.specs.Scopes.{ReadsOnly, before}
 use Rattle.smv_abs.specs.Whole.{IsWhole, IsWholeDef}
 use Rattle.smv_abs.specs.FlatConflicts.{IsConflictFree}
@@ -26,12 +29,14 @@ pub data FlatUnit : Type 0 where
   map_of : Def → FlatUnit
   claim_of : Claim → FlatUnit
 
--- the end of a unit's chain of splits, with the problems of its cases: the unit, the types of the parameters that the splits add, and their guards
+-- The proof of a leaf, the end of a unit's chain of splits: the unit, its parameters and then those that the splits add, the guards of the
+-- splits, how each set type is treated, and the problem of each case.
 pub record LeafProof : Type 0 where
   pub unit : FlatUnit
-  pub added : List FlatSimple
+  pub params : List Parameter
   pub guards : List Guard
-  pub cases : List Problem
+  pub treatments : List Treatment
+  pub problem : List Class → Problem
 
 -- a plan of proof of a design: its names, its base definitions, the leaf of each unit in flat order, and which unit uses which now and before, by their places
 pub record Plan : Type 0 where
@@ -95,14 +100,6 @@ module _ (n : Numbered) where
   abbrev pub HasValue : FlatSimple → Type 0
   HasValue t = (v : Value) × Has (values_in n t) v
 
-  -- values of the parameters have a case: a placing with the three facts of each type puts each of them where the case has it
-  pub record HasCase (cases : List Problem) (values : List Value) : Type 0 where
-    pub case : Problem
-    pub is_case : Has cases case
-    pub spots : Placing
-    pub are_placed : ArePlaced n case.world spots
-    pub stands : map (placed spots) values ≡ case.params
-
 -- every unit holds at every time of every run, for all sizes
 abbrev pub IsSound : Plan → Type 0
 IsSound plan = (sizes : Sizes) → AreSizes plan.names sizes → (run : List FlatState) → IsRun (at_sizes plan.names sizes) plan.base run →
@@ -111,8 +108,8 @@ IsSound plan = (sizes : Sizes) → AreSizes plan.names sizes → (run : List Fla
 
 -- no case of any leaf has a violating path of abstract states
 abbrev pub HasNoViolatingPath : Plan → Type 0
-HasNoViolatingPath plan = (leaf : LeafProof) → Has plan.leaves leaf → (case : Problem) → Has leaf.cases case →
-    (path : List AbsState) → ((a : AbsState) → Has path a → IsAbsState case.world case.kept a) → is_violating (obligation case) path ≡ false
+HasNoViolatingPath plan = (leaf : LeafProof) → Has plan.leaves leaf → (classes : List Class) → Has (cases leaf.treatments leaf.params) classes →
+    (path : List AbsState) → ((a : AbsState) → Has path a → IsAbsState (leaf.problem classes).world (leaf.problem classes).kept a) → is_violating (obligation (leaf.problem classes)) path ≡ false
 
 -- what a unit says at places of its parameters
 abbrev pub said_at : FlatUnit → List Place → Demanded
@@ -137,24 +134,22 @@ module _ (plan : Plan) where
     by_base : (def : Def) → Has plan.base def → IsOf p (map_of def) d → IsGranted uses p d
     by_use : (v : ℕ) → uses v ≡ true → (used : LeafProof) → slice_get plan.leaves v ≡ Some used → IsOf p used.unit d → IsGranted uses p d
 
-  -- the problem is one of the leaf at this place: it sees the design in some abstract types, keeps elements at numbers, constants and classes, has the unit at its own
-  -- parameters as its target, with the element of a map if that may be kept, has the leaf's guards, and demands no more than base definitions and what the unit uses
-  pub record IsCase (u : ℕ) (leaf : LeafProof) (p : Problem) : Type 0 where
-    pub types : Name → AbsType
-    pub is_world : p.world ≡ world plan.names types
+  -- where the parameters of the unit itself stand
+  abbrev pub own_places : LeafProof → Problem → List Place
+  own_places leaf p = take (length (params_of plan.names leaf.unit)) p.params
+
+  -- The problem of a case of the leaf at this place. It sees the design in the abstract types of the case, and the parameters at its classes.
+  -- It keeps elements at numbers, constants and classes alone. Its target is the unit at its own parameters; the element of a map is kept if
+  -- it is at numbers, constants and classes. Its guards are the leaf's. It demands no more than base definitions and what the unit uses.
+  pub record IsCase (u : ℕ) (leaf : LeafProof) (classes : List Class) (p : Problem) : Type 0 where
+    pub is_world : p.world ≡ world plan.names (types_at plan.names.sets leaf.treatments leaf.params classes)
+    pub are_params : p.params ≡ places_at plan.names leaf.params classes
     pub keeps_named : KeepsNamed p.world p.kept
-    pub is_target : p.target ≡ said_at leaf.unit (take (length (params_of plan.names leaf.unit)) p.params)
-    pub keeps_target : list_all is_named (take (length (params_of plan.names leaf.unit)) p.params) ≡ true → IsKept p leaf.unit (take (length (params_of plan.names leaf.unit)) p.params)
+    pub is_target : p.target ≡ said_at leaf.unit (own_places leaf p)
+    pub keeps_target : list_all is_named (own_places leaf p) ≡ true → IsKept p leaf.unit (own_places leaf p)
     pub are_guards : p.guards ≡ leaf.guards
     pub now : (d : Demanded) → Has p.now d → IsGranted (plan.uses_now u) p d
     pub before : (d : Demanded) → Has p.before d → IsGranted (plan.uses_before u) p d
-
-  -- each guard is that of a parameter of its type that a split adds, and reads only the parameters before it; no two guards are of one parameter
-  pub record AreGuards (leaf : LeafProof) : Type 0 where
-    pub is_added : (g : Guard) → Has leaf.guards g → length (params_of plan.names leaf.unit) ≤ g.var
-    pub of_type : (g : Guard) → Has leaf.guards g → slice_get (params_of plan.names leaf.unit ++ leaf.added) g.var ≡ Some g.over
-    pub reads_before : (g : Guard) → Has leaf.guards g → ReadsOnly (before g.var) g.expr
-    pub one_each : (g h : Guard) → Has leaf.guards g → Has leaf.guards h → g.var ≡ h.var → g ≡ h
 
   -- a definition is one of a family, no two of its assignments conflict, and it reads whole elements
   pub record IsDefinition (def : Def) : Type 0 where
@@ -168,19 +163,31 @@ module _ (plan : Plan) where
   IsUnit (map_of def) = IsDefinition def
   IsUnit (claim_of claim) = IsWhole plan.names.families claim.body
 
-  -- what the passes before the search give of a plan at sizes of the design: the types have values, and all values of the parameters of a leaf have a case
-  pub record IsPlanAt (sizes : Sizes) : Type 0 where
-    pub families_have_values : (f : Family) → Has plan.names.families f → HasValue (at_sizes plan.names sizes) f.value
-    pub added_have_values : (leaf : LeafProof) → Has plan.leaves leaf → (t : FlatSimple) → Has leaf.added t → HasValue (at_sizes plan.names sizes) t
-    pub covers : (leaf : LeafProof) → Has plan.leaves leaf → (values : List Value) → Has (values_over (at_sizes plan.names sizes) (params_of plan.names leaf.unit ++ leaf.added)) values →
-        HasCase (at_sizes plan.names sizes) leaf.cases values
+  -- The parameters of a leaf are the unit's and then those that are added, over ranges and set types. Each guard is that of an added parameter
+  -- and of its type, and reads only the parameters before it; no two guards are of one parameter.
+  pub record IsLeaf (leaf : LeafProof) : Type 0 where
+    pub is_unit : IsUnit leaf.unit
+    pub added : List FlatSimple
+    pub are_params : map (λ p. p.over) leaf.params ≡ params_of plan.names leaf.unit ++ added
+    pub are_index_types : (p : Parameter) → Has leaf.params p → IsIndexType p.over
+    pub is_added : (g : Guard) → Has leaf.guards g → length (params_of plan.names leaf.unit) ≤ g.var
+    pub is_of_type : (g : Guard) → Has leaf.guards g → slice_get (map (λ p. p.over) leaf.params) g.var ≡ Some g.over
+    pub reads_before : (g : Guard) → Has leaf.guards g → ReadsOnly (before g.var) g.expr
+    pub one_each : (g h : Guard) → Has leaf.guards g → Has leaf.guards h → g.var ≡ h.var → g ≡ h
 
-  -- what they give of it besides: the definitions, an order in which the uses that are now fall, and the guards and the cases of each leaf
+  -- at sizes of the design the types of families and parameters have values, and each set type may be treated as it is
+  pub record IsSized (sizes : Sizes) : Type 0 where
+    pub families_have_values : (f : Family) → Has plan.names.families f → HasValue (at_sizes plan.names sizes) f.value
+    pub params_have_values : (leaf : LeafProof) → Has plan.leaves leaf → (p : Parameter) → Has leaf.params p → HasValue (at_sizes plan.names sizes) p.over
+    pub are_treated : (leaf : LeafProof) → Has plan.leaves leaf → AreTreated sizes plan.names.sets leaf.treatments
+
+  -- what the passes before the search give of a plan; the uses that are now fall in some order
   pub record IsPlan : Type 0 where
     pub base : (def : Def) → Has plan.base def → IsDefinition def
-    pub units : (leaf : LeafProof) → Has plan.leaves leaf → IsUnit leaf.unit
+    pub leaves : (leaf : LeafProof) → Has plan.leaves leaf → IsLeaf leaf
     pub order : ℕ → ℕ
     pub falls : (u v : ℕ) → plan.uses_now u v ≡ true → order v < order u
-    pub are_guards : (leaf : LeafProof) → Has plan.leaves leaf → AreGuards leaf
-    pub are_cases : (u : ℕ) (leaf : LeafProof) → slice_get plan.leaves u ≡ Some leaf → (p : Problem) → Has leaf.cases p → IsCase u leaf p
-    pub at_each : (sizes : Sizes) → AreSizes plan.names sizes → IsPlanAt sizes
+    pub are_cases : (u : ℕ) (leaf : LeafProof) → slice_get plan.leaves u ≡ Some leaf → (classes : List Class) → Has (cases leaf.treatments leaf.params) classes →
+        IsCase u leaf classes (leaf.problem classes)
+    pub are_apart : AreApart plan.names.sets
+    pub at_each : (sizes : Sizes) → AreSizes plan.names sizes → IsSized sizes
