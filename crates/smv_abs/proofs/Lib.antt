@@ -34,3 +34,4 @@ pub mod Patched
 pub mod TypedRuns
 pub mod CaseKeeps
 pub mod Joined
+pub mod WorkedPlans

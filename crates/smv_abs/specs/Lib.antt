@@ -21,4 +21,5 @@ pub mod Worked
 pub mod WorkedRights
 pub mod WorkedCases
 pub mod WorkedObligations
+pub mod WorkedSoundness
 pub mod Laws

@@ -3,6 +3,7 @@ ghost use Rattle.smv_abs.specs.Laws.{CircularInduction, NowUsesFall, PlainTypesA
 ghost use Rattle.smv_abs.specs.WorkedRights.{BitTargets, SetTargets, OutsideTargets, Assignments};
 ghost use Rattle.smv_abs.specs.WorkedCases.{ScalarsetCases, ReducedCases, OrdsetCases, RangeCases, SeveralTypes};
 ghost use Rattle.smv_abs.specs.WorkedObligations.{SplitHelps, OrderIsTotal, SplitOrders, Reductions, WrittenIndex, EachOther, MutualMaps, CertainMaps};
+ghost use Rattle.smv_abs.specs.WorkedSoundness.{SplitPlan};
 ghost use Rattle.smv_abs.specs.Worked.{RestsCompare, GapsCompare, ReadsAtRests, Quantifiers, Memberships, Operators};
 
 /// The circular rule: where each failure of an instance is shown by a case, no case has a violating path and the uses that are now hold no cycle,
@@ -115,4 +116,9 @@ pub fn conflicts_leave_one_result()
 /// The joined law: where no case of any leaf has a violating path, every unit holds at every time of every run, for all sizes.
 pub fn no_violating_path_is_sound()
     ensures { NoViolatingPathIsSound }
+{}
+
+/// A worked plan of proof, which the joined law speaks of.
+pub fn worked_plans()
+    ensures { SplitPlan }
 {}
