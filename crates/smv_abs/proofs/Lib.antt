@@ -35,3 +35,4 @@ pub mod TypedRuns
 pub mod CaseKeeps
 pub mod Joined
 pub mod WorkedPlans
+pub mod WorkedMutual

@@ -28,11 +28,11 @@ use Rattle.smv_abs.proofs.Members.{Has-map}
 use Rattle.smv_abs.proofs.OneOfEach.{get_Has}
 use Rattle.smv_abs.proofs.Computing.{computing}
 
-one_of_one : {X : Type 0} {x y : X} → Has (x ∷ []) y → y ≡ x
+pub one_of_one : {X : Type 0} {x y : X} → Has (x ∷ []) y → y ≡ x
 one_of_one first = refl
 one_of_one (later h) = elim h [ ]
 
-one_of_two : {X : Type 0} {x y z : X} → Has (x ∷ y ∷ []) z → (z ≡ x) ⊎ (z ≡ y)
+pub one_of_two : {X : Type 0} {x y z : X} → Has (x ∷ y ∷ []) z → (z ≡ x) ⊎ (z ≡ y)
 one_of_two first = inl refl
 one_of_two (later first) = inr refl
 one_of_two (later (later h)) = elim h [ ]

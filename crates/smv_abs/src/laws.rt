@@ -3,7 +3,7 @@ ghost use Rattle.smv_abs.specs.Laws.{CircularInduction, NowUsesFall, PlainTypesA
 ghost use Rattle.smv_abs.specs.WorkedRights.{BitTargets, SetTargets, OutsideTargets, Assignments};
 ghost use Rattle.smv_abs.specs.WorkedCases.{ScalarsetCases, ReducedCases, OrdsetCases, RangeCases, SeveralTypes};
 ghost use Rattle.smv_abs.specs.WorkedObligations.{SplitHelps, OrderIsTotal, SplitOrders, Reductions, WrittenIndex, EachOther, MutualMaps, CertainMaps};
-ghost use Rattle.smv_abs.specs.WorkedSoundness.{SplitPlan};
+ghost use Rattle.smv_abs.specs.WorkedSoundness.{SplitPlan, MutualPlan};
 ghost use Rattle.smv_abs.specs.Worked.{RestsCompare, GapsCompare, ReadsAtRests, Quantifiers, Memberships, Operators};
 
 /// The circular rule: where each failure of an instance is shown by a case, no case has a violating path and the uses that are now hold no cycle,
@@ -118,7 +118,8 @@ pub fn no_violating_path_is_sound()
     ensures { NoViolatingPathIsSound }
 {}
 
-/// A worked plan of proof, which the joined law speaks of.
+/// Worked plans of proof, of which the joined law speaks: a claim that is split, and two maps that use each other.
 pub fn worked_plans()
-    ensures { SplitPlan }
+    ensures split { SplitPlan }
+    ensures mutual { MutualPlan }
 {}
