@@ -9,7 +9,7 @@ use Rattle.smv_core.specs.declared.flat.Simple.TheVariants.{Range, Enum, Set}
 use Rattle.smv_core.specs.declared.flat.Simple.{Simple as FlatSimple}
 use Rattle.smv_abs.specs.declared.abstract_type.AbsType.{AbsType}
 use Rattle.smv_abs.specs.Sets.{Has, first, later}
-use Rattle.smv_abs.specs.Places.{Place, is_named, world}
+use Rattle.smv_abs.specs.Places.{is_named, world}
 use Rattle.smv_abs.specs.May.{AbsState}
 use Rattle.smv_abs.specs.Pictures.{Placing, placed, ArePlaced, IsState, AreValues, IsAbsState}
 use Rattle.smv_abs.specs.Guards.{guard_holds}

@@ -1,19 +1,18 @@
 -- The worked plan of two maps that use each other has what a plan has to have, and no violating path.
-use Rattle.std.proofs.Common.{◌≡◌, ℕ, zero, suc, ◌<◌, ◌≤◌, arith, List, [], ◌∷◌, Bool, true, false, ◌&&◌, refl, sym, subst, ◌⊎◌, inl, inr, Option, Some, None}
+use Rattle.std.proofs.Common.{◌≡◌, ℕ, zero, suc, arith, List, [], ◌∷◌, Bool, true, false, ◌&&◌, refl, sym, subst, inl, inr, Option, Some, None}
 use Rattle.std.specs.List.{slice_get}
 use Rattle.smv_core.specs.Values.{number, Sizes}
 use Rattle.smv_core.specs.declared.flat.Class.{Class}
-use Rattle.smv_core.specs.declared.flat.Def.{Def}
 use Rattle.smv_core.specs.declared.flat.Family.{Family}
 use Rattle.smv_abs.specs.Sets.{Has, first, later}
-use Rattle.smv_abs.specs.Places.{Place, named}
+use Rattle.smv_abs.specs.Places.{named}
 use Rattle.smv_abs.specs.May.{AbsState}
 use Rattle.smv_abs.specs.Pictures.{IsAbsState, KeepsNamed}
 use Rattle.smv_abs.specs.Cases.{cases}
 use Rattle.smv_abs.specs.Covers.{AreTreated}
 use Rattle.smv_abs.specs.Circular.{is_violating_after}
 use Rattle.smv_abs.specs.Obligations.{Problem, obligation}
-use Rattle.smv_abs.specs.Soundness.{at_sizes, AreSizes, HasValue, LeafProof, by_base, by_use, IsCase, IsDefinition, IsLeaf, IsSized, IsPlan, HasNoViolatingPath}
+use Rattle.smv_abs.specs.Soundness.{at_sizes, HasValue, LeafProof, by_base, by_use, IsCase, IsDefinition, IsLeaf, IsSized, IsPlan, HasNoViolatingPath}
 use Rattle.smv_abs.specs.WorkedObligations.{stepping, zeroed}
 use Rattle.smv_abs.specs.WorkedSoundness.{of_bits, bit_problem, bit_leaf, mutual_plan}
 use Rattle.smv_abs.proofs.WorkedPlans.{one_of_one, one_of_two}

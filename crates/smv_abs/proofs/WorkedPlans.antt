@@ -1,17 +1,12 @@
 -- The worked plan has what a plan has to have, and no violating path.
-use Rattle.std.proofs.Common.{◌≡◌, ℕ, zero, suc, ◌+◌, ◌<◌, ◌≤◌, arith, List, [], ◌∷◌, map, Bool, true, false, refl, sym, ap, subst, ◌∙◌, ◌⊎◌, inl, inr, Option, Some, None}
+use Rattle.std.proofs.Common.{◌≡◌, ℕ, zero, suc, ◌<◌, arith, List, [], ◌∷◌, false, refl, sym, subst, ◌∙◌, ◌⊎◌, inl, inr, Option, Some, None}
 use Rattle.std.specs.List.{slice_get}
-use Rattle.smv_core.specs.Values.{Value, scalar, Sizes, numbers_from}
-use Rattle.smv_core.specs.Flat.{values_in}
-use Rattle.smv_core.specs.declared.flat.Simple.{Simple as FlatSimple}
+use Rattle.smv_core.specs.Values.{scalar, Sizes, numbers_from}
 use Rattle.smv_core.specs.declared.flat.Simple.TheVariants.{Set}
 use Rattle.smv_core.specs.declared.flat.Class.{Class}
 use Rattle.smv_core.specs.declared.flat.Class.TheVariants.{Named}
-use Rattle.smv_core.specs.declared.flat.Family.{Family}
 use Rattle.smv_core.specs.declared.flat.Guard.{Guard}
-use Rattle.smv_core.specs.declared.flat.SetInfo.{SetInfo}
 use Rattle.smv_abs.specs.Sets.{Has, first, later}
-use Rattle.smv_abs.specs.Places.{Place, named, rest, places_in}
 use Rattle.smv_abs.specs.May.{AbsState}
 use Rattle.smv_abs.specs.Pictures.{IsAbsState, KeepsNamed}
 use Rattle.smv_abs.specs.Cases.{Parameter, cases}

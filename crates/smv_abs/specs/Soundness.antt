@@ -1,7 +1,7 @@
 -- Soundness: a plan of proof of a design, what a plan has to be, and that every unit holds in every run where no case has a violating path.
 use Rattle.std.specs.Prelude.{◌≡◌, ◌<◌, ◌≤◌, ℕ, List, [], ◌++◌, map, take, length, slice_get, Option, Some, None, Bool, true, false}
 use Rattle.std.specs.List.{list_all}
-use Rattle.smv_core.specs.Values.{Name, Value, Sizes, truth, is_in}
+use Rattle.smv_core.specs.Values.{Value, Sizes, truth, is_in}
 use Rattle.smv_core.specs.Outcome.{is_true}
 use Rattle.smv_core.specs.Flat.{Numbered, FlatState, values_in, flat_outcome, flat_allowed}
 use Rattle.smv_core.specs.declared.flat.Claim.{Claim}
@@ -11,11 +11,10 @@ use Rattle.smv_core.specs.declared.flat.Family.{Family}
 use Rattle.smv_core.specs.declared.flat.Guard.{Guard}
 use Rattle.smv_core.specs.declared.flat.SetInfo.{SetInfo}
 use Rattle.smv_core.specs.declared.flat.Simple.{Simple as FlatSimple}
-use Rattle.smv_abs.specs.declared.abstract_type.AbsType.{AbsType}
 use Rattle.smv_abs.specs.Sets.{Has, one_of_each}
 use Rattle.smv_abs.specs.Places.{Place, is_named, world, named_in}
 use Rattle.smv_abs.specs.May.{AbsState}
-use Rattle.smv_abs.specs.Pictures.{Placing, placed, ArePlaced, KeepsNamed, IsAbsState}
+use Rattle.smv_abs.specs.Pictures.{KeepsNamed, IsAbsState}
 use Rattle.smv_abs.specs.Circular.{Demand, always, is_violating}
 use Rattle.smv_abs.specs.Obligations.{Demanded, defined, holds, Problem, obligation}
 use Rattle.smv_abs.specs.Cases.{Treatment, Parameter, cases}

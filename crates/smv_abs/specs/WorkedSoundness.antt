@@ -1,14 +1,14 @@
 -- Worked plans of proof: a claim that is split, over a scalarset of any size, and two maps that use each other.
 use Rattle.std.specs.Prelude.{ℕ, List, [], ◌∷◌, None, Bool, true, false, not, nat_eq, codes}
 use Rattle.smv_core.specs.Flat.{Numbered}
-use Rattle.smv_core.specs.declared.flat.Simple.TheVariants.{Range, Set}
+use Rattle.smv_core.specs.declared.flat.Simple.TheVariants.{Range}
 use Rattle.smv_core.specs.declared.flat.Class.{Class}
 use Rattle.smv_core.specs.declared.flat.Claim.{Claim}
 use Rattle.smv_abs.specs.Places.{Place, world}
-use Rattle.smv_abs.specs.Cases.{Treatment, Parameter, reduced}
+use Rattle.smv_abs.specs.Cases.{Treatment, reduced}
 use Rattle.smv_abs.specs.Covers.{types_at, places_at}
 use Rattle.smv_abs.specs.Obligations.{Problem, defined, holds}
-use Rattle.smv_abs.specs.Soundness.{map_of, claim_of, LeafProof, Plan, IsPlan, HasNoViolatingPath}
+use Rattle.smv_abs.specs.Soundness.{map_of, claim_of, LeafProof, Plan, IsPlan, HasNoViolatingPath, IsSound}
 use Rattle.smv_abs.specs.Worked.{family, signal}
 use Rattle.smv_abs.specs.WorkedCases.{listed}
 use Rattle.smv_abs.specs.WorkedObligations.{design, two_of_P, twice_equal, guard, stepping, zeroed}
@@ -45,9 +45,9 @@ split_leaf = record { unit = claim_of split_claim; params = listed ∷ []; guard
 abbrev pub split_plan : Plan
 split_plan = record { names = of_two; base = []; leaves = split_leaf ∷ []; uses_now = λ u v. false; uses_before = λ u v. false }
 
--- it is a plan, and its one case has no violating path
+-- it is a plan, its one case has no violating path, and so the claim holds for all sizes of P
 abbrev pub SplitPlan : Type 0
-SplitPlan = IsPlan split_plan × HasNoViolatingPath split_plan
+SplitPlan = IsPlan split_plan × HasNoViolatingPath split_plan × IsSound split_plan
 
 -- a, b : boolean; next(a) := b, next(b) := a, both 0 at first; a layer says a := 0 and b := 0, and each map is proved with the other before
 abbrev pub of_bits : Numbered
@@ -76,6 +76,6 @@ mutual_plan = record {
   uses_before = λ u v. not (nat_eq u v);
 }
 
--- it is a plan, and the one case of each map has no violating path
+-- it is a plan, the one case of each map has no violating path, and so both hold
 abbrev pub MutualPlan : Type 0
-MutualPlan = IsPlan mutual_plan × HasNoViolatingPath mutual_plan
+MutualPlan = IsPlan mutual_plan × HasNoViolatingPath mutual_plan × IsSound mutual_plan
