@@ -1,5 +1,5 @@
 -- The laws: what the crate's public functions say.
-use Rattle.std.specs.Prelude.{◌≡◌, ◌<◌, ℕ, List, map, length, slice_get, Option, Some, option_map, Bool, true, false}
+use Rattle.std.specs.Prelude.{◌≡◌, ◌<◌, ℕ, List, map, length, slice_get, Option, Some, option_map, Bool, true, false, ◌&&◌, nat_lt}
 use Rattle.smv_core.specs.Values.{Name, Value, number, range, choice, scalarset, ordset, Sizes}
 use Rattle.smv_core.specs.Flat.{Numbered, FlatState, values_in, flat_outcome, flat_allowed_by, flat_allowed}
 use Rattle.smv_core.specs.declared.flat.FlatExpr.{FlatExpr}
@@ -37,6 +37,10 @@ CircularInduction State Instance Case Picture =
 -- the uses that are now hold no cycle: a rank falls along each
 abbrev pub NowUsesFall : Type 0
 NowUsesFall = (uses : ℕ → ℕ → Bool) (n u v : ℕ) → u < n → v < n → is_now uses n u v ≡ true → rank_of uses n v < rank_of uses n u
+
+-- so of so many units the uses that are now fall in this order
+abbrev pub NowUsesHaveOrder : Type 0
+NowUsesHaveOrder = (uses : ℕ → ℕ → Bool) (n : ℕ) → FallsAlong (λ u v. nat_lt u n && (nat_lt v n && is_now uses n u v)) (rank_of uses n)
 
 -- the three facts of ranges and enumerations, whose values are their own classes
 abbrev pub PlainTypesArePlaced : Type 0

@@ -1,5 +1,5 @@
 // Laws of the definitions, each the contract of a function that does nothing.
-ghost use Rattle.smv_abs.specs.Laws.{CircularInduction, NowUsesFall, PlainTypesArePlaced, ScalarsetsArePlaced, OrdsetsArePlaced, MayKeepsOutcomes, MayKeepsRightSides, MustKeepsRightSides, MapsAreKept, ClaimsAreKept, GuardsCover, GuardsAreKept, PicturesExist, GrowingClassesCover, CasesCover, OutcomesKeepScopes, ConflictsLeaveOneResult, NoViolatingPathIsSound};
+ghost use Rattle.smv_abs.specs.Laws.{CircularInduction, NowUsesFall, NowUsesHaveOrder, PlainTypesArePlaced, ScalarsetsArePlaced, OrdsetsArePlaced, MayKeepsOutcomes, MayKeepsRightSides, MustKeepsRightSides, MapsAreKept, ClaimsAreKept, GuardsCover, GuardsAreKept, PicturesExist, GrowingClassesCover, CasesCover, OutcomesKeepScopes, ConflictsLeaveOneResult, NoViolatingPathIsSound};
 ghost use Rattle.smv_abs.specs.WorkedRights.{BitTargets, SetTargets, OutsideTargets, Assignments};
 ghost use Rattle.smv_abs.specs.WorkedCases.{ScalarsetCases, ReducedCases, OrdsetCases, RangeCases, SeveralTypes};
 ghost use Rattle.smv_abs.specs.WorkedObligations.{SplitHelps, OrderIsTotal, SplitOrders, Reductions, WrittenIndex, EachOther, MutualMaps, CertainMaps};
@@ -14,7 +14,8 @@ pub fn circular_induction<State, Instance, Case, Picture>()
 
 /// The uses that are now hold no cycle.
 pub fn now_uses_hold_no_cycle()
-    ensures { NowUsesFall }
+    ensures fall { NowUsesFall }
+    ensures order { NowUsesHaveOrder }
 {}
 
 /// Worked expressions in a small case: rests, gaps, elements at a rest, quantifiers, `in`, and the operators.
