@@ -36,3 +36,4 @@ pub mod CaseKeeps
 pub mod Joined
 pub mod WorkedPlans
 pub mod WorkedMutual
+pub mod WorkedRules

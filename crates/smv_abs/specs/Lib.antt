@@ -22,4 +22,5 @@ pub mod WorkedRights
 pub mod WorkedCases
 pub mod WorkedObligations
 pub mod WorkedSoundness
+pub mod WorkedConflicts
 pub mod Laws

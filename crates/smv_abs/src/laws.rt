@@ -3,6 +3,7 @@ ghost use Rattle.smv_abs.specs.Laws.{CircularInduction, NowUsesFall, NowUsesHave
 ghost use Rattle.smv_abs.specs.WorkedRights.{BitTargets, SetTargets, OutsideTargets, Assignments};
 ghost use Rattle.smv_abs.specs.WorkedCases.{ScalarsetCases, ReducedCases, OrdsetCases, RangeCases, SeveralTypes};
 ghost use Rattle.smv_abs.specs.WorkedObligations.{SplitHelps, OrderIsTotal, SplitOrders, Reductions, WrittenIndex, EachOther, MutualMaps, CertainMaps};
+ghost use Rattle.smv_abs.specs.WorkedConflicts.{PairsShare, NonePairs, NoneStands, PartsStand};
 ghost use Rattle.smv_abs.specs.WorkedSoundness.{SplitPlan, MutualPlan};
 ghost use Rattle.smv_abs.specs.Worked.{RestsCompare, GapsCompare, ReadsAtRests, Quantifiers, Memberships, Operators};
 
@@ -117,6 +118,14 @@ pub fn conflicts_leave_one_result()
 /// The joined law: where no case of any leaf has a violating path, every unit holds at every time of every run, for all sizes.
 pub fn no_violating_path_is_sound()
     ensures { NoViolatingPathIsSound }
+{}
+
+/// Worked definitions, with and without conflicts.
+pub fn worked_conflicts()
+    ensures pairs_share { PairsShare }
+    ensures none_pairs { NonePairs }
+    ensures none_stands { NoneStands }
+    ensures parts_stand { PartsStand }
 {}
 
 /// Worked plans of proof, of which the joined law speaks: a claim that is split, and two maps that use each other.
