@@ -26,3 +26,4 @@ pub mod CoverNames
 pub mod CoverParams
 pub mod CoverClasses
 pub mod CoverCases
+pub mod CoverLeaf

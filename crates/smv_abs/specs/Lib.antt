@@ -13,6 +13,7 @@ pub mod Cases
 pub mod Bound
 pub mod Placings
 pub mod Covers
+pub mod LeafCases
 pub mod Worked
 pub mod WorkedRights
 pub mod WorkedCases
