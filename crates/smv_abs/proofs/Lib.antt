@@ -26,6 +26,7 @@ pub mod CoverNames
 pub mod CoverParams
 pub mod CoverClasses
 pub mod CoverCases
+pub mod CoverLeaf
 pub mod ScopesKeep
 pub mod OneOfEach
 pub mod GuardsChosen

@@ -1,10 +1,13 @@
 -- The laws: what the crate's public functions say.
-use Rattle.std.specs.Prelude.{◌≡◌, ◌<◌, ℕ, List, map, length, slice_get, Option, Some, option_map, Bool, true, false, ◌&&◌, nat_lt}
+use Rattle.std.specs.Prelude.{◌≡◌, ◌<◌, ℕ, List, map, length, slice_get, Option, Some, option_map, IfSome, Bool, true, false, ◌&&◌, nat_lt}
 use Rattle.smv_core.specs.Values.{Name, Value, number, range, choice, scalarset, ordset, Sizes}
 use Rattle.smv_core.specs.Flat.{Numbered, FlatState, values_in, flat_outcome, flat_allowed_by, flat_allowed}
 use Rattle.smv_core.specs.declared.flat.FlatExpr.{FlatExpr}
 use Rattle.smv_core.specs.declared.flat.Def.{Def}
 use Rattle.smv_core.specs.declared.flat.Family.{Family}
+use Rattle.smv_core.specs.declared.flat.SetInfo.{SetInfo}
+use Rattle.smv_core.specs.declared.flat.Param.{Param}
+use Rattle.smv_core.specs.declared.flat.Keep.{Keep}
 use Rattle.smv_core.specs.declared.flat.Simple.{Simple as FlatSimple}
 use Rattle.smv_abs.specs.declared.abstract_type.AbsType.{AbsType}
 use Rattle.smv_abs.specs.declared.abstract_type.Rest.TheVariants as beside
@@ -18,6 +21,7 @@ use Rattle.smv_abs.specs.Bound.{AreAtClasses, IsSingle}
 use Rattle.smv_abs.specs.Pictures.{Placing, placed, IsPlaced, ArePlaced, AreOfTypes, IsState, IsPicture, ArePictured, AreValues, KeepsNamed}
 use Rattle.smv_abs.specs.Placings.{spot_by, spot_between, AreDistinct, AreBelow, AreRising, AreIn, HasRoom}
 use Rattle.smv_abs.specs.Cases.{grow, used, Treatment, Parameter}
+use Rattle.smv_abs.specs.LeafCases.{treatments_of, parameters_of}
 use Rattle.smv_abs.specs.Covers.{AreApart, AreTreated, IsIndexType, AreCovered}
 use Rattle.smv_abs.specs.Circular.{Circle, ShowsFailures, HasNoViolation, AlwaysHolds}
 use Rattle.smv_abs.specs.Uses.{is_now, rank_of}
@@ -122,6 +126,14 @@ CasesCover =
     (n : Numbered) (treatments : List Treatment) → AreApart n.sets → AreTreated n.sizes n.sets treatments →
     (params : List Parameter) → ((p : Parameter) → Has params p → IsIndexType p.over) →
     (values : List Value) → Has (one_of_each (map (values_in n) (map (λ p. p.over) params))) values → AreCovered n treatments params values
+
+-- so has the list of a leaf, by what its choice keeps, for all sizes that the set types of the design may have
+abbrev pub LeafCasesCover : Type 0
+LeafCasesCover =
+    (n : Numbered) → AreApart n.sets → ((info : SetInfo) → Has n.sets info → IfSome info.size (λ size. n.sizes info.name ≡ size)) →
+    (params : List Param) → ((p : Param) → Has params p → IsIndexType p.over) → (keeps : List Keep) →
+    (values : List Value) → Has (one_of_each (map (values_in n) (map (λ p. p.over) params))) values →
+    AreCovered n (treatments_of keeps 0 n.sets) (parameters_of keeps params) values
 
 -- an outcome depends on no variable but those that the expression reads, among so many values
 abbrev pub OutcomesKeepScopes : Type 0

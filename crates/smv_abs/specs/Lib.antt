@@ -17,6 +17,7 @@ pub mod FlatConflicts
 pub mod Soundness
 pub mod Placings
 pub mod Covers
+pub mod LeafCases
 pub mod Worked
 pub mod WorkedRights
 pub mod WorkedCases

@@ -1,7 +1,7 @@
 // Laws of the definitions, each the contract of a function that does nothing.
-ghost use Rattle.smv_abs.specs.Laws.{CircularInduction, NowUsesFall, NowUsesHaveOrder, PlainTypesArePlaced, ScalarsetsArePlaced, OrdsetsArePlaced, MayKeepsOutcomes, MayKeepsRightSides, MustKeepsRightSides, MapsAreKept, ClaimsAreKept, GuardsCover, GuardsAreKept, PicturesExist, GrowingClassesCover, CasesCover, OutcomesKeepScopes, ConflictsLeaveOneResult, NoViolatingPathIsSound};
+ghost use Rattle.smv_abs.specs.Laws.{CircularInduction, NowUsesFall, NowUsesHaveOrder, PlainTypesArePlaced, ScalarsetsArePlaced, OrdsetsArePlaced, MayKeepsOutcomes, MayKeepsRightSides, MustKeepsRightSides, MapsAreKept, ClaimsAreKept, GuardsCover, GuardsAreKept, PicturesExist, GrowingClassesCover, CasesCover, LeafCasesCover, OutcomesKeepScopes, ConflictsLeaveOneResult, NoViolatingPathIsSound};
 ghost use Rattle.smv_abs.specs.WorkedRights.{BitTargets, SetTargets, OutsideTargets, Assignments};
-ghost use Rattle.smv_abs.specs.WorkedCases.{ScalarsetCases, ReducedCases, OrdsetCases, RangeCases, SeveralTypes};
+ghost use Rattle.smv_abs.specs.WorkedCases.{ScalarsetCases, ReducedCases, OrdsetCases, RangeCases, SeveralTypes, KeptParameters};
 ghost use Rattle.smv_abs.specs.WorkedObligations.{SplitHelps, OrderIsTotal, SplitOrders, Reductions, WrittenIndex, EachOther, MutualMaps, CertainMaps};
 ghost use Rattle.smv_abs.specs.WorkedConflicts.{PairsShare, NonePairs, NoneStands, PartsStand};
 ghost use Rattle.smv_abs.specs.WorkedSoundness.{SplitPlan, MutualPlan};
@@ -76,6 +76,11 @@ pub fn cases_cover()
     ensures { CasesCover }
 {}
 
+/// The same of the cases of a leaf, by what its choice keeps.
+pub fn leaf_cases_cover()
+    ensures { LeafCasesCover }
+{}
+
 /// Worked right sides and definitions: what they may allow and what they allow for certain.
 pub fn worked_right_sides()
     ensures bit_targets { BitTargets }
@@ -84,13 +89,14 @@ pub fn worked_right_sides()
     ensures assignments { Assignments }
 {}
 
-/// Worked cases: of scalarsets, whole and reduced, of ordsets, of ranges, and of several types side by side.
+/// Worked cases: of scalarsets, whole and reduced, of ordsets, of ranges, of several types side by side, and by what a choice keeps.
 pub fn worked_cases()
     ensures scalarsets { ScalarsetCases }
     ensures reduced { ReducedCases }
     ensures ordsets { OrdsetCases }
     ensures ranges { RangeCases }
     ensures several { SeveralTypes }
+    ensures kept { KeptParameters }
 {}
 
 /// Worked obligations: cases that have, or have not, a violating path.
