@@ -1,5 +1,5 @@
 -- Worked plans of proof: a claim that is split, over a scalarset of any size, and two maps that use each other.
-use Rattle.std.specs.Prelude.{ℕ, List, [], ◌∷◌, None, Bool, true, false, not, nat_eq, codes}
+use Rattle.std.specs.Prelude.{ℕ, List, [], ◌∷◌, Bool, true, false, not, nat_eq, codes}
 use Rattle.smv_core.specs.Flat.{Numbered}
 use Rattle.smv_core.specs.declared.flat.Simple.TheVariants.{Range, Set}
 use Rattle.smv_core.specs.declared.flat.Class.{Class}
