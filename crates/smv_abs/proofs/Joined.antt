@@ -156,7 +156,7 @@ module _ (plan : Plan) (sizes : Sizes) where
         let filled : (t : FlatSimple) → Has leaf.added t → HasValue n t = λ t h.
         let p = Has-from_map (λ p. p.over) i.leaf.params (subst (λ ts. Has ts t) (sym leaf.are_params) (Has-right own h)) in
         subst (HasValue n) (sym p.2) ((is_plan.have_values sizes are_sizes).params i.leaf (is_one i) p.0 p.1) in
-        let r = choose n s i.leaf.guards types leaf.is_of_type leaf.reads_before leaf.one_each leaf.added own (sym leaf.are_params) filled i.values (is_long i) in
+        let r = choose n s i.leaf.guards types leaf.are_guards.is_of_type leaf.are_guards.reads_before leaf.are_guards.one_each leaf.added own (sym leaf.are_params) filled i.values (is_long i) in
         let ys = i.values ++ r.added in
         let are : AreOf (map (values_in n) types) ys = subst (λ ts. AreOf (map (values_in n) ts) ys) (sym leaf.are_params) (subst (λ xss. AreOf xss ys) (sym (map_joined (values_in n) own leaf.added))
         (are_joined (map (values_in n) own) (map (values_in n) leaf.added) i.values r.added (are_of (map (values_in n) own) i.values i.are_values) r.are)) in
@@ -169,8 +169,8 @@ module _ (plan : Plan) (sizes : Sizes) where
           are_placed = c.are_placed;
           are_values = values_are n types ys are;
           stand = c.stands ∙ places_same plan.names sizes (parameters_of i.leaf.keeps i.leaf.params) c.classes;
-          of_types = λ g h. of_its_type n types ys g.var g.over are (leaf.is_of_type g h);
-          hold = λ g h. r.hold g h (subst (λ k. k ≤ g.var) (sym (is_long i)) (leaf.is_added g h));
+          of_types = λ g h. of_its_type n types ys g.var g.over are (leaf.are_guards.is_of_type g h);
+          hold = λ g h. r.hold g h (subst (λ k. k ≤ g.var) (sym (is_long i)) (leaf.are_guards.is_added g h));
         }
 
     -- what is granted is met in the pictures of a case

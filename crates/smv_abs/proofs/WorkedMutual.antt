@@ -79,10 +79,12 @@ is_leaf own other f e none = record {
   added = [];
   are_params = rw (e, none) refl;
   are_index_types = λ q h. elim h [ ];
-  is_added = λ g h. elim h [ ];
-  is_of_type = λ g h. elim h [ ];
-  reads_before = λ g h. elim h [ ];
-  one_each = λ g i h k e. elim h [ ];
+  are_guards = record {
+    is_added = λ g h. elim h [ ];
+    is_of_type = λ g h. elim h [ ];
+    reads_before = λ g h. elim h [ ];
+    one_each = λ g i h k e. elim h [ ];
+  };
 }
 
 each_of_two : {X : Type 0} {x y : X} (P : X → Type 0) → P x → P y → (z : X) → Has (x ∷ y ∷ []) z → P z

@@ -69,10 +69,12 @@ is_leaf = record {
   added = Set 0 ∷ [];
   are_params = refl;
   are_index_types = λ q h. only_param (λ q. IsIndexType q.over) q h tt;
-  is_added = λ g h. omega arith;
-  is_of_type = λ g h. one_guard (λ g. slice_get (Set 0 ∷ []) g.var ≡ Some g.over) g h refl;
-  reads_before = λ g h. one_guard (λ g. ReadsOnly (before g.var) g.expr) g h tt;
-  one_each = λ g h i j e. one_of_one i ∙ sym (one_of_one j);
+  are_guards = record {
+    is_added = λ g h. omega arith;
+    is_of_type = λ g h. one_guard (λ g. slice_get (Set 0 ∷ []) g.var ≡ Some g.over) g h refl;
+    reads_before = λ g h. one_guard (λ g. ReadsOnly (before g.var) g.expr) g h tt;
+    one_each = λ g h i j e. one_of_one i ∙ sym (one_of_one j);
+  };
 }
 
 have_values : (sizes : Sizes) → AreSizes of_two sizes → HaveValues split_plan sizes

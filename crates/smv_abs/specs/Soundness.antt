@@ -21,7 +21,7 @@ use Rattle.smv_abs.specs.Circular.{Demand, always, is_violating}
 use Rattle.smv_abs.specs.Obligations.{Demanded, defined, holds, Problem, obligation}
 use Rattle.smv_abs.specs.LeafCases.{treatments_of, parameters_of, leaf_cases}
 use Rattle.smv_abs.specs.Covers.{types_at, places_at, AreApart, IsIndexType}
-use Rattle.smv_abs.specs.Scopes.{ReadsOnly, before}
+use Rattle.smv_abs.specs.Guards.{AreGuards}
 use Rattle.smv_abs.specs.Whole.{IsWhole, IsWholeDef}
 use Rattle.smv_abs.specs.FlatConflicts.{IsConflictFree}
 
@@ -160,17 +160,13 @@ module _ (plan : Plan) where
   IsUnit (map_of def) = IsDefinition def
   IsUnit (claim_of claim) = IsWhole plan.names.families claim.body
 
-  -- The parameters of a leaf are the unit's and then those that are added, over ranges and set types. Each guard is that of an added parameter
-  -- and of its type, and reads only the parameters before it; no two guards are of one parameter.
+  -- the parameters of a leaf are the unit's and then those that are added, over ranges and set types, and its guards are of those that are added
   pub record IsLeaf (leaf : LeafProof) : Type 0 where
     pub is_unit : IsUnit leaf.unit
     pub added : List FlatSimple
     pub are_params : map (λ p. p.over) leaf.params ≡ params_of plan.names leaf.unit ++ added
     pub are_index_types : (p : Param) → Has leaf.params p → IsIndexType p.over
-    pub is_added : (g : Guard) → Has leaf.guards g → length (params_of plan.names leaf.unit) ≤ g.var
-    pub is_of_type : (g : Guard) → Has leaf.guards g → slice_get (map (λ p. p.over) leaf.params) g.var ≡ Some g.over
-    pub reads_before : (g : Guard) → Has leaf.guards g → ReadsOnly (before g.var) g.expr
-    pub one_each : (g h : Guard) → Has leaf.guards g → Has leaf.guards h → g.var ≡ h.var → g ≡ h
+    pub are_guards : AreGuards (length (params_of plan.names leaf.unit)) (map (λ p. p.over) leaf.params) leaf.guards
 
   -- at sizes of the design the types of families and parameters have values
   pub record HaveValues (sizes : Sizes) : Type 0 where

@@ -1,5 +1,5 @@
 // Laws of the definitions, each the contract of a function that does nothing.
-ghost use Rattle.smv_abs.specs.Laws.{CircularInduction, NowUsesFall, NowUsesHaveOrder, PlainTypesArePlaced, ScalarsetsArePlaced, OrdsetsArePlaced, MayKeepsOutcomes, MayKeepsRightSides, MustKeepsRightSides, MapsAreKept, ClaimsAreKept, GuardsCover, GuardsAreKept, PicturesExist, GrowingClassesCover, CasesCover, LeafCasesCover, OutcomesKeepScopes, ConflictsLeaveOneResult, NoViolatingPathIsSound};
+ghost use Rattle.smv_abs.specs.Laws.{CircularInduction, NowUsesFall, NowUsesHaveOrder, PlainTypesArePlaced, ScalarsetsArePlaced, OrdsetsArePlaced, MayKeepsOutcomes, MayKeepsRightSides, MustKeepsRightSides, MapsAreKept, ClaimsAreKept, GuardsCover, LeavesCover, GuardsAreKept, PicturesExist, GrowingClassesCover, CasesCover, LeafCasesCover, OutcomesKeepScopes, ConflictsLeaveOneResult, NoViolatingPathIsSound};
 ghost use Rattle.smv_abs.specs.WorkedRights.{BitTargets, SetTargets, OutsideTargets, Assignments};
 ghost use Rattle.smv_abs.specs.WorkedCases.{ScalarsetCases, ReducedCases, OrdsetCases, RangeCases, SeveralTypes, KeptParameters};
 ghost use Rattle.smv_abs.specs.WorkedObligations.{SplitHelps, OrderIsTotal, SplitOrders, Reductions, WrittenIndex, EachOther, MutualMaps, CertainMaps};
@@ -54,9 +54,10 @@ pub fn demands_are_kept()
     ensures claims { ClaimsAreKept }
 {}
 
-/// Guards cover the unit, and are kept in the picture.
+/// Guards cover the unit, each alone and all of a leaf together, and are kept in the picture.
 pub fn guards_are_kept()
     ensures cover { GuardsCover }
+    ensures leaves { LeavesCover }
     ensures kept { GuardsAreKept }
 {}
 
