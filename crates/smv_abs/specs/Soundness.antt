@@ -1,5 +1,5 @@
 -- Soundness: a plan of proof of a design, what a plan has to be, and that every unit holds in every run where no case has a violating path.
-use Rattle.std.specs.Prelude.{◌≡◌, ◌<◌, ◌≤◌, ℕ, List, [], ◌++◌, map, take, length, slice_get, Option, Some, None, IfSome, Bool, true, false}
+use Rattle.std.specs.Prelude.{◌≡◌, ◌<◌, ℕ, List, [], ◌++◌, map, take, length, slice_get, Option, Some, None, IfSome, Bool, true, false}
 use Rattle.std.specs.List.{list_all}
 use Rattle.smv_core.specs.Values.{Value, Sizes, truth, is_in}
 use Rattle.smv_core.specs.Outcome.{is_true}
