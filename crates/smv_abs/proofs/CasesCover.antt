@@ -1,13 +1,12 @@
 -- For all values of listed parameters of a scalarset some case has classes that put each at its own.
-use Rattle.std.proofs.Common.{◌≡◌, ℕ, zero, suc, ◌+◌, ◌<◌, ◌≤◌, max, List, [], ◌∷◌, ◌++◌, length, get_or, Bool, true, false, if◌then◌else◌, ◌&&◌, refl, sym, ap, subst, ◌∙◌, arith, nat_eq, nat_le, Option, Some, None, option_map, append_assoc}
+use Rattle.std.proofs.Common.{◌≡◌, ℕ, suc, ◌<◌, ◌≤◌, max, List, [], ◌∷◌, ◌++◌, length, Bool, true, false, if◌then◌else◌, refl, sym, ap, subst, ◌∙◌, arith, nat_eq, nat_le, Option, Some, None, option_map, append_assoc}
 use Rattle.smv_abs.specs.Cases.{used, grow}
-use Rattle.smv_abs.specs.Pictures.{Spot, class}
-use Rattle.smv_abs.specs.Placings.{place_in, or_rest, spot_by, AreDistinct, AreBelow, AreIn}
+use Rattle.smv_abs.specs.Placings.{place_in, or_rest, AreDistinct, AreBelow, AreIn}
 use Rattle.smv_abs.proofs.Tests.{and_both}
-use Rattle.smv_abs.proofs.Same.{nat_eq-itself, nat_eq-is}
+use Rattle.smv_abs.proofs.Same.{nat_eq-itself}
 use Rattle.smv_abs.proofs.Scalarsets.{found}
 
-not_in_longer : (v w : ℕ) (xs : List ℕ) → place_in v xs ≡ None → nat_eq v w ≡ false → place_in v (xs ++ w ∷ []) ≡ None
+pub not_in_longer : (v w : ℕ) (xs : List ℕ) → place_in v xs ≡ None → nat_eq v w ≡ false → place_in v (xs ++ w ∷ []) ≡ None
 not_in_longer v w [] e n = rw n refl
 not_in_longer v w (x ∷ xs) e n = at (nat_eq v x) (place_in v xs) refl e (λ p. not_in_longer v w xs p n)
   where
@@ -17,7 +16,7 @@ not_in_longer v w (x ∷ xs) e n = at (nat_eq v x) (place_in v xs) refl e (λ p.
     at false None p e ih = ap (option_map (λ c. suc c)) (ih p)
     at false (Some c) p e ih = absurd (cc)
 
-none_of_either : (b : Bool) (o : Option ℕ) → (if b then Some 0 else option_map (λ c. suc c) o) ≡ None → (b ≡ false) × (o ≡ None)
+pub none_of_either : (b : Bool) (o : Option ℕ) → (if b then Some 0 else option_map (λ c. suc c) o) ≡ None → (b ≡ false) × (o ≡ None)
 none_of_either true o e = absurd (cc)
 none_of_either false None e = (refl, refl)
 none_of_either false (Some c) e = absurd (cc)
@@ -25,12 +24,12 @@ none_of_either false (Some c) e = absurd (cc)
 turned : (v x : ℕ) → nat_eq v x ≡ false → nat_eq x v ≡ false
 turned v x e = grind arith
 
-longer_distinct : (xs : List ℕ) (v : ℕ) → AreDistinct xs → place_in v xs ≡ None → AreDistinct (xs ++ v ∷ [])
+pub longer_distinct : (xs : List ℕ) (v : ℕ) → AreDistinct xs → place_in v xs ≡ None → AreDistinct (xs ++ v ∷ [])
 longer_distinct [] v d n = (refl, tt)
 longer_distinct (x ∷ xs) v d n = let r = none_of_either (nat_eq v x) (place_in v xs) n in (not_in_longer x v xs d.0 (turned v x r.0), longer_distinct xs v d.1 r.1)
 
 -- what is found stays where it is when the list grows
-stays : (v : ℕ) (xs ys : List ℕ) (c : ℕ) → place_in v xs ≡ Some c → place_in v (xs ++ ys) ≡ Some c
+pub stays : (v : ℕ) (xs ys : List ℕ) (c : ℕ) → place_in v xs ≡ Some c → place_in v (xs ++ ys) ≡ Some c
 stays v [] ys c e = absurd (cc)
 stays v (x ∷ xs) ys c e = at (nat_eq v x) (place_in v xs) refl (λ d f. stays v xs ys d f) e
   where
@@ -40,7 +39,7 @@ stays v (x ∷ xs) ys c e = at (nat_eq v x) (place_in v xs) refl (λ d f. stays 
     at false None p ih e = absurd (cc)
     at false (Some d) p ih e = rw (ih d p) e
 
-at_end : (xs : List ℕ) (v : ℕ) → place_in v xs ≡ None → place_in v (xs ++ v ∷ []) ≡ Some (length xs)
+pub at_end : (xs : List ℕ) (v : ℕ) → place_in v xs ≡ None → place_in v (xs ++ v ∷ []) ≡ Some (length xs)
 at_end [] v n = rw (nat_eq-itself v) refl
 at_end (x ∷ xs) v n = at (nat_eq v x) (place_in v xs) refl n (λ p. at_end xs v p)
   where
@@ -50,7 +49,7 @@ at_end (x ∷ xs) v n = at (nat_eq v x) (place_in v xs) refl n (λ p. at_end xs 
     at false None p e ih = ap (option_map (λ c. suc c)) (ih p)
     at false (Some c) p e ih = absurd (cc)
 
-below_longer : (size : ℕ) (xs : List ℕ) (v : ℕ) → AreBelow size xs → v < size → AreBelow size (xs ++ v ∷ [])
+pub below_longer : (size : ℕ) (xs : List ℕ) (v : ℕ) → AreBelow size xs → v < size → AreBelow size (xs ++ v ∷ [])
 below_longer size [] v h l = (l, tt)
 below_longer size (x ∷ xs) v h l = (h.0, below_longer size xs v h.1 l)
 
@@ -70,7 +69,7 @@ max_again m c u l = omega arith
 max_next : (m u : ℕ) → max m (max (suc m) u) ≡ max (suc m) u
 max_next m u = omega arith
 
-nil_right : (xs : List ℕ) → xs ++ [] ≡ xs
+pub nil_right : (xs : List ℕ) → xs ++ [] ≡ xs
 nil_right [] = refl
 nil_right (x ∷ xs) = ap (λ z. x ∷ z) (nil_right xs)
 

@@ -1,24 +1,23 @@
 -- What a definition allows in a run is met in the picture, and what is not broken there is allowed.
-use Rattle.std.proofs.Common.{◌≡◌, ℕ, zero, suc, ◌+◌, ◌-◌, List, [], ◌∷◌, ◌++◌, map, length, Bool, true, false, not, if◌then◌else◌, ◌&&◌, ◌||◌, refl, sym, ap, subst, ◌∙◌, ◌⊎◌, inl, inr, Option, Some, None, unwrap_or}
+use Rattle.std.proofs.Common.{◌≡◌, ℕ, zero, suc, ◌+◌, ◌-◌, List, [], ◌∷◌, map, length, Bool, true, false, not, if◌then◌else◌, ◌&&◌, ◌||◌, refl, sym, ap, subst, inl, inr, Option, Some, None, unwrap_or}
 use Rattle.std.specs.List.{list_any, list_all, slice_get, zip}
-use Rattle.smv_core.specs.Values.{Name, Value, number, constant, scalar, ordinal, Outcome, same, add, modulo}
+use Rattle.smv_core.specs.Values.{Name, Value, number, constant, scalar, ordinal}
 use Rattle.smv_core.specs.Walk.{Walk}
 use Rattle.smv_core.specs.Assignments.{Index, fixed, bare, computed, add_fixed, modulo_fixed, fits}
-use Rattle.smv_core.specs.Flat.{Numbered, FlatState, FlatElement, values_in, simple_in, flat_index, flat_index_sum, indexes_assigned, indexes_assigned_in, is_concerned_by, flat_result, flat_kept, flat_stepped, flat_allowed, flat_allowed_by}
+use Rattle.smv_core.specs.Flat.{Numbered, FlatState, FlatElement, values_in, simple_in, flat_index, flat_index_sum, indexes_assigned, indexes_assigned_in, is_concerned_by, flat_result, flat_kept, flat_stepped, flat_allowed}
 use Rattle.smv_core.specs.declared.flat.Def.{Def}
 use Rattle.smv_core.specs.declared.flat.Family.{Family}
 use Rattle.smv_core.specs.declared.flat.FlatExpr.{FlatExpr, Number, Var, Loop, Sum', Modulo', Row_of-FlatSigned, end_of-FlatSigned, more_of-FlatSigned, more_of-FlatExpr, end_of-FlatExpr}
 use Rattle.smv_core.specs.declared.flat.Flat.{Flat, Nothing, Assign, If', First', Forall', Row_of-Flat, end_of-Flat, more_of-Flat}
 use Rattle.smv_abs.specs.declared.abstract_type.AbsType.{AbsType}
 use Rattle.smv_abs.specs.Sets.{Has, first, later}
-use Rattle.smv_abs.specs.Places.{Place, named, rest, World, world, named_of, places_in, same_place, is_named, is_among}
+use Rattle.smv_abs.specs.Places.{Place, world, places_in, same_place, is_named, is_among}
 use Rattle.smv_abs.specs.May.{AbsState, Kept}
 use Rattle.smv_abs.specs.Right.{may_allow, must_allow}
-use Rattle.smv_abs.specs.Results.{results}
 use Rattle.smv_abs.specs.Demands.{fits_place, concerns_place, or_else, may_give, must_give, may_keep, must_keep, may_step, must_step, may_be, must_be, places_of_family, is_defined, is_broken_map}
-use Rattle.smv_abs.specs.Pictures.{Spot, class, other, Placing, at_spot, placed, ArePlaced, AreOfTypes, IsState, IsPicture, ArePictured, IsValue}
+use Rattle.smv_abs.specs.Pictures.{Spot, class, other, Placing, at_spot, placed, ArePlaced, AreOfTypes, IsState, IsPicture, ArePictured}
 use Rattle.smv_abs.specs.Bound.{IsBound, OneGives, AreAtClasses, IsSingle}
-use Rattle.smv_abs.proofs.Tests.{left_of, right_of, not_true, true_or_false}
+use Rattle.smv_abs.proofs.Tests.{left_of, right_of}
 use Rattle.smv_abs.proofs.Members.{Has-from_map, Has-cases, any-found, all-each}
 use Rattle.smv_abs.proofs.Same.{same_place-itself, same_place-is, is_among-Has}
 use Rattle.smv_abs.proofs.RightKeeps.{named_here, right_may, right_must}

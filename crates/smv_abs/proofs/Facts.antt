@@ -1,18 +1,18 @@
 -- What the three facts of each type say of the values of a design.
-use Rattle.std.proofs.Common.{◌≡◌, ℕ, zero, suc, ◌+◌, ◌-◌, List, [], ◌∷◌, ◌++◌, map, Bool, true, false, if◌then◌else◌, ◌&&◌, refl, sym, ap, subst, ◌∙◌, ◌⊎◌, inl, inr, Option, Some, None, option_map, nat_eq, nat_lt}
+use Rattle.std.proofs.Common.{◌≡◌, ℕ, ◌+◌, ◌-◌, List, [], ◌∷◌, map, Bool, true, false, if◌then◌else◌, ◌&&◌, refl, sym, ap, subst, ◌∙◌, inl, inr, Some, None, option_map, nat_eq, nat_lt}
 use Rattle.std.specs.Str.{bytes_eq}
 use Rattle.std.proofs.lemmas.Slice.Eq.{bytes_eq-Decides}
-use Rattle.smv_core.specs.Values.{Name, Value, number, constant, scalar, ordinal, Simple, range, choice, scalarset, ordset, Sizes, Outcome, Truth, values_of, numbers_from, same, below, equal, compare, not_of, is_in}
+use Rattle.smv_core.specs.Values.{Name, Value, number, constant, scalar, ordinal, Simple, range, choice, scalarset, ordset, Sizes, Outcome, values_of, numbers_from, same, below, equal, compare, not_of, is_in}
 use Rattle.smv_core.specs.Flat.{Numbered, values_in, simple_in}
 use Rattle.smv_core.specs.declared.tree.Op.{Op}
 use Rattle.smv_core.specs.declared.tree.Op.TheVariants.{Equal, Differ, Less, AtMost, Greater, AtLeast}
 use Rattle.smv_core.specs.declared.flat.Simple.{Simple as FlatSimple}
 use Rattle.smv_abs.specs.declared.abstract_type.AbsType.{AbsType}
-use Rattle.smv_abs.specs.Sets.{Has, first, later}
-use Rattle.smv_abs.specs.Places.{Place, named, rest, World, world, rests_beside, named_of, rests_of, places_of, named_in, rests_in, places_in, is_among, AbsOutcome, unsure, equal_places, below_places, where_defined, may_compare}
-use Rattle.smv_abs.specs.Pictures.{Spot, class, other, Placing, at_spot, placed, IsPlaced, ArePlaced, IsValue}
+use Rattle.smv_abs.specs.Sets.{Has, first}
+use Rattle.smv_abs.specs.Places.{Place, named, rest, World, world, rests_beside, named_of, rests_of, places_of, places_in, is_among, AbsOutcome, unsure, equal_places, below_places, where_defined, may_compare}
+use Rattle.smv_abs.specs.Pictures.{Spot, class, other, Placing, at_spot, placed, ArePlaced, IsValue}
 use Rattle.smv_abs.proofs.Tests.{same_tests, true_or_false}
-use Rattle.smv_abs.proofs.Members.{Has-left, Has-right, Has-cases, Has-map, Has-from_map}
+use Rattle.smv_abs.proofs.Members.{Has-cases, Has-map, Has-from_map}
 use Rattle.smv_abs.proofs.Same.{is_in-Has, Has-is_in, is_among-Has, Has-is_among}
 
 -- the sort of values that a type has

@@ -1,5 +1,5 @@
 -- What values a list of outcomes gives a target.
-use Rattle.std.proofs.Common.{◌≡◌, ℕ, List, [], ◌∷◌, map, Bool, true, false, if◌then◌else◌, refl, sym, ap, subst, ◌∙◌, ◌⊎◌, inl, inr, Option, Some, None, option_map, unwrap_or}
+use Rattle.std.proofs.Common.{◌≡◌, List, [], ◌∷◌, map, Bool, true, false, if◌then◌else◌, refl, sym, ap, subst, ◌⊎◌, inl, inr, Option, Some, None, option_map, unwrap_or}
 use Rattle.smv_core.specs.Values.{Value, Outcome, value_in, all_defined, is_in}
 use Rattle.smv_core.specs.Outcome.{fit}
 use Rattle.smv_abs.specs.Sets.{Has, first, later}

@@ -1,19 +1,19 @@
 -- Guards cover the unit and are kept in the picture; so are claims.
-use Rattle.std.proofs.Common.{◌≡◌, ℕ, zero, suc, List, [], ◌∷◌, map, Bool, true, false, not, ◌||◌, refl, sym, ap, subst, ◌∙◌, ◌⊎◌, inl, inr, Option, Some, None}
-use Rattle.std.specs.List.{list_any, list_all}
-use Rattle.smv_core.specs.Values.{Name, Value, number, constant, scalar, ordinal, Outcome, Truth, truth, same, is_in}
+use Rattle.std.proofs.Common.{◌≡◌, zero, suc, List, map, Bool, true, false, not, ◌||◌, refl, sym, ap, subst, ◌∙◌, inl, inr, Some, None}
+use Rattle.std.specs.List.{list_all}
+use Rattle.smv_core.specs.Values.{Name, Value, number, constant, scalar, ordinal, Outcome, truth, same, is_in}
 use Rattle.smv_core.specs.Outcome.{is_true}
 use Rattle.smv_core.specs.Flat.{Numbered, FlatState, values_in, flat_outcome}
 use Rattle.smv_core.specs.declared.flat.FlatExpr.{FlatExpr}
 use Rattle.smv_core.specs.declared.flat.Simple.{Simple as FlatSimple}
 use Rattle.smv_abs.specs.declared.abstract_type.AbsType.{AbsType}
 use Rattle.smv_abs.specs.Sets.{Has}
-use Rattle.smv_abs.specs.Places.{Place, world, places_in, is_among, equal_places}
+use Rattle.smv_abs.specs.Places.{world, places_in, is_among, equal_places}
 use Rattle.smv_abs.specs.May.{AbsState, Kept, seen, may}
 use Rattle.smv_abs.specs.Right.{is_outside}
 use Rattle.smv_abs.specs.Demands.{is_assumed, is_broken_claim, may_equal, may_guard}
 use Rattle.smv_abs.specs.Guards.{is_or_outside, guard_holds}
-use Rattle.smv_abs.specs.Pictures.{Placing, placed, ArePlaced, IsState, IsPicture, IsValue, AreValues}
+use Rattle.smv_abs.specs.Pictures.{Placing, placed, ArePlaced, IsState, IsPicture, AreValues}
 use Rattle.smv_abs.proofs.Tests.{or_left, or_right, or_cases, not_true, true_or_false}
 use Rattle.smv_abs.proofs.Members.{any-found, all-each}
 use Rattle.smv_abs.proofs.Same.{same-itself, Has-is_in}
@@ -32,7 +32,7 @@ guard_met n s over e b v h = at (flat_outcome n s e b)
       | inr e ↦ (v, h, or_left (same u v) (ap not e))
     ]
 
-is_one : (u : Outcome) → is_true (truth u) ≡ true → u ≡ Some (number 1)
+pub is_one : (u : Outcome) → is_true (truth u) ≡ true → u ≡ Some (number 1)
 is_one None e = absurd (cc)
 is_one (Some (number zero)) e = absurd (cc)
 is_one (Some (number (suc zero))) e = refl

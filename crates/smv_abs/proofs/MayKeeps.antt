@@ -1,22 +1,21 @@
 -- What an expression has as its outcome in a state, it may have in the state's picture.
-use Rattle.std.proofs.Common.{◌≡◌, ℕ, zero, suc, ◌+◌, ◌-◌, List, [], ◌∷◌, ◌++◌, map, take, get_or, Bool, true, false, if◌then◌else◌, refl, sym, ap, subst, ◌∙◌, ◌⊎◌, inl, inr, Option, Some, None, option_map}
+use Rattle.std.proofs.Common.{◌≡◌, ℕ, zero, suc, ◌+◌, ◌-◌, List, [], ◌∷◌, ◌++◌, map, get_or, Bool, true, false, if◌then◌else◌, refl, sym, ap, subst, ◌∙◌, inl, inr, Option, Some, None, option_map}
 use Rattle.std.specs.List.{flat_map, slice_get, zip}
-use Rattle.smv_core.specs.Values.{Name, Value, number, constant, scalar, ordinal, Outcome, Truth, truth, bit, values_of, value_in, all_defined, equal, compare, add, modulo, numbers_from, not_of, iff_of, conjunction, disjunction, implication, is_in}
+use Rattle.smv_core.specs.Values.{Name, Value, number, constant, scalar, ordinal, Outcome, Truth, truth, bit, value_in, all_defined, equal, compare, add, modulo, numbers_from, not_of, iff_of, conjunction, disjunction, implication, is_in}
 use Rattle.smv_core.specs.Outcome.{branch}
-use Rattle.smv_core.specs.Flat.{Numbered, FlatState, bind, values_in, simple_in, flat_element_at, flat_outcome, flat_outcomes, flat_sum, flat_listed, flat_members}
-use Rattle.smv_core.specs.declared.tree.Op.{Op}
+use Rattle.smv_core.specs.Flat.{Numbered, FlatState, bind, values_in, flat_element_at, flat_outcome, flat_outcomes, flat_sum, flat_listed, flat_members}
 use Rattle.smv_core.specs.declared.flat.Simple.{Simple as FlatSimple}
 use Rattle.smv_core.specs.declared.flat.Family.{Family}
 use Rattle.smv_core.specs.declared.flat.FlatMember.{One, Span as SpanOf}
 use Rattle.smv_core.specs.declared.flat.FlatExpr.{FlatExpr, Number, Read', Var, Loop, Constant, Not', And', Or', Implies', Iff', Compare', Within', Sum', Modulo', Choose', All', Any', List', Each', Row_of-FlatExpr, end_of-FlatExpr, more_of-FlatExpr, Row_of-FlatMember, end_of-FlatMember, more_of-FlatMember, Row_of-FlatSigned, end_of-FlatSigned, more_of-FlatSigned}
 use Rattle.smv_abs.specs.declared.abstract_type.AbsType.{AbsType}
-use Rattle.smv_abs.specs.Sets.{Has, first, later, one_of_each, parts, pairs, all_there}
-use Rattle.smv_abs.specs.Places.{Place, named, rest, World, world, named_of, rests_of, places_of, named_in, rests_in, places_in, is_among, AbsOutcome, valued, as_place, equal_places, where_defined, may_compare, bind_place}
+use Rattle.smv_abs.specs.Sets.{Has, first, one_of_each, parts, pairs, all_there}
+use Rattle.smv_abs.specs.Places.{Place, named, world, named_in, rests_in, places_in, is_among, AbsOutcome, valued, as_place, equal_places, where_defined, may_compare, bind_place}
 use Rattle.smv_abs.specs.May.{AbsState, Kept, seen, shown, place_within, quantified, places_at, may_read, may, may_each, may_sum, may_listed, may_members}
-use Rattle.smv_abs.specs.Pictures.{Placing, placed, IsPlaced, ArePlaced, AreOfTypes, IsState, IsPicture, IsValue, AreValues}
+use Rattle.smv_abs.specs.Pictures.{Placing, placed, ArePlaced, AreOfTypes, IsState, IsPicture, IsValue, AreValues}
 use Rattle.smv_abs.proofs.Members.{Has-left, Has-right, Has-cases, Has-map, Has-from_map, Has-flat_map, Has-pairs, Picks, Has-choices, Chosen, choose_each, HaveSame, kept_by, Has-kept, Has-from_kept, part_with}
 use Rattle.smv_abs.proofs.Members.Picks.{none as no_pick, more as one_more}
-use Rattle.smv_abs.proofs.Same.{same_outcome, same_outcome-itself, same_outcome-is, is_in-Has, Has-is_in, is_among-Has, Has-is_among}
+use Rattle.smv_abs.proofs.Same.{same_outcome, same_outcome-itself, same_outcome-is, Has-is_in, is_among-Has, Has-is_among}
 use Rattle.smv_abs.proofs.Facts.{IsOutcome, AreOutcomes, placed_outcome, of_type, same_in, equal_may, compare_may}
 use Rattle.smv_abs.proofs.Operators.{seen_placed, seen_each, shown_placed, added_placed, modulo_placed, conjunction_same, disjunction_same, branch_may}
 

@@ -1,5 +1,5 @@
 -- Members of lists: of a map, of choices, of parts.
-use Rattle.std.proofs.Common.{◌≡◌, ℕ, zero, suc, ◌+◌, ◌<◌, ◌≤◌, List, [], ◌∷◌, ◌++◌, map, Bool, true, false, ◌&&◌, ◌||◌, refl, sym, ap, subst, ◌∙◌, ◌⊎◌, inl, inr, arith}
+use Rattle.std.proofs.Common.{◌≡◌, List, [], ◌∷◌, ◌++◌, map, Bool, true, false, ◌||◌, refl, sym, ap, subst, ◌∙◌, ◌⊎◌, inl, inr}
 use Rattle.std.specs.List.{flat_map, list_any, list_all}
 use Rattle.smv_abs.specs.Sets.{Has, first, later, one_of_each, parts, pairs}
 use Rattle.smv_abs.proofs.Tests.{left_of, right_of, same_tests}

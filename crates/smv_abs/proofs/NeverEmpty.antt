@@ -1,18 +1,17 @@
 -- What an expression may be is never empty, whatever the places of its variables, since each type has a value.
-use Rattle.std.proofs.Common.{◌≡◌, ℕ, ◌+◌, ◌-◌, List, [], ◌∷◌, ◌++◌, map, get_or, Bool, true, false, if◌then◌else◌, refl, sym, ap, subst, ◌∙◌, Option, Some, None, option_map}
+use Rattle.std.proofs.Common.{◌≡◌, ℕ, ◌+◌, ◌-◌, List, [], ◌∷◌, ◌++◌, map, Bool, true, false, if◌then◌else◌, refl, Option, Some, None}
 use Rattle.std.specs.List.{flat_map, slice_get, zip}
-use Rattle.smv_core.specs.Values.{Name, Value, number, Truth, add, modulo, numbers_from, not_of, iff_of, conjunction, disjunction, implication, same, below}
+use Rattle.smv_core.specs.Values.{Name, number, Truth, add, modulo, numbers_from, not_of, iff_of, conjunction, disjunction, implication, same, below}
 use Rattle.smv_core.specs.Outcome.{branch}
-use Rattle.smv_core.specs.Flat.{Numbered, FlatState, values_in}
+use Rattle.smv_core.specs.Flat.{Numbered, FlatState}
 use Rattle.smv_core.specs.declared.tree.Op.{Op}
 use Rattle.smv_core.specs.declared.tree.Op.TheVariants.{Equal, Differ, Less, AtMost, Greater, AtLeast}
-use Rattle.smv_core.specs.declared.flat.Simple.{Simple as FlatSimple}
 use Rattle.smv_core.specs.declared.flat.Family.{Family}
 use Rattle.smv_core.specs.declared.flat.FlatMember.{One, Span as SpanOf}
 use Rattle.smv_core.specs.declared.flat.FlatExpr.{FlatExpr, Number, Read', Var, Loop, Constant, Not', And', Or', Implies', Iff', Compare', Within', Sum', Modulo', Choose', All', Any', List', Each', Row_of-FlatExpr, end_of-FlatExpr, more_of-FlatExpr, Row_of-FlatMember, end_of-FlatMember, more_of-FlatMember, Row_of-FlatSigned, end_of-FlatSigned, more_of-FlatSigned}
 use Rattle.smv_abs.specs.declared.abstract_type.AbsType.{AbsType}
-use Rattle.smv_abs.specs.Sets.{Has, first, later, one_of_each, parts, pairs, all_there}
-use Rattle.smv_abs.specs.Places.{Place, named, rest, World, world, named_in, rests_in, places_in, AbsOutcome, valued, as_place, unsure, equal_places, below_places, where_defined, may_compare, bind_place}
+use Rattle.smv_abs.specs.Sets.{Has, first, one_of_each, parts, pairs, all_there}
+use Rattle.smv_abs.specs.Places.{Place, named, rest, world, named_in, rests_in, places_in, AbsOutcome, valued, as_place, unsure, equal_places, below_places, where_defined, may_compare, bind_place}
 use Rattle.smv_abs.specs.May.{AbsState, Kept, seen, shown, place_within, quantified, places_at, may_read, may, may_each, may_sum, may_listed, may_members}
 use Rattle.smv_abs.specs.Pictures.{Placing, placed, ArePlaced, IsState}
 use Rattle.smv_abs.proofs.Members.{Has-map, Has-flat_map, Has-pairs, Picks, Has-choices, Has-parts, kept_by}

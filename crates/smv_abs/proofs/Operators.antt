@@ -1,12 +1,12 @@
 -- The operators of logic and arithmetic see the same of an outcome and of its place.
-use Rattle.std.proofs.Common.{◌≡◌, ℕ, zero, suc, ◌+◌, ◌-◌, ◌%◌, ◌≤◌, List, [], ◌∷◌, map, Bool, true, false, ◌&&◌, ◌||◌, if◌then◌else◌, refl, sym, ap, subst, ◌∙◌, nat_le, Option, Some, None, option_map}
+use Rattle.std.proofs.Common.{◌≡◌, ℕ, zero, suc, ◌+◌, ◌-◌, List, [], ◌∷◌, map, Bool, true, false, ◌&&◌, ◌||◌, if◌then◌else◌, refl, sym, ap, ◌∙◌, nat_le, Some, None}
 use Rattle.std.specs.List.{list_any, list_all}
-use Rattle.smv_core.specs.Values.{Value, number, constant, scalar, ordinal, Outcome, Truth, truth, bit, add, modulo, and_of, or_of, conjunction, disjunction}
+use Rattle.smv_core.specs.Values.{number, constant, scalar, ordinal, Outcome, Truth, truth, bit, add, modulo, and_of, or_of, conjunction, disjunction}
 use Rattle.smv_core.specs.Outcome.{branch}
 use Rattle.smv_abs.specs.Sets.{Has, first}
-use Rattle.smv_abs.specs.Places.{Place, named, rest, AbsOutcome, valued, as_place}
+use Rattle.smv_abs.specs.Places.{AbsOutcome, valued, as_place}
 use Rattle.smv_abs.specs.May.{seen, shown}
-use Rattle.smv_abs.specs.Pictures.{Spot, class, other, Placing, at_spot, placed}
+use Rattle.smv_abs.specs.Pictures.{Spot, class, other, Placing, at_spot}
 use Rattle.smv_abs.proofs.Members.{HaveSame, any-same, all-same}
 use Rattle.smv_abs.proofs.Facts.{placed_outcome}
 

@@ -1,25 +1,24 @@
 -- The values of an ordset: classes by rising values, and the gaps around them.
-use Rattle.std.proofs.Common.{◌≡◌, ℕ, zero, suc, ◌+◌, ◌*◌, ◌<◌, ◌≤◌, List, [], ◌∷◌, ◌++◌, map, length, get_or, Bool, true, false, not, if◌then◌else◌, refl, sym, ap, subst, ◌∙◌, ◌⊎◌, inl, inr, arith, nat_eq, nat_lt, Option, Some, None}
-use Rattle.std.specs.Str.{bytes_eq}
+use Rattle.std.proofs.Common.{◌≡◌, ℕ, zero, suc, ◌+◌, ◌*◌, ◌<◌, ◌≤◌, List, [], ◌∷◌, ◌++◌, map, length, get_or, Bool, true, false, not, if◌then◌else◌, refl, sym, ap, subst, ◌∙◌, ◌⊎◌, inl, inr, arith, nat_eq, nat_lt, Some}
 use Rattle.std.proofs.lemmas.Slice.Eq.{bytes_eq-Decides}
-use Rattle.smv_core.specs.Values.{Name, Value, ordinal, Simple, ordset, Sizes, Truth, values_of, numbers_from, same, below, not_of}
+use Rattle.smv_core.specs.Values.{Name, ordinal, ordset, Sizes, numbers_from, below, not_of}
 use Rattle.smv_abs.specs.declared.abstract_type.Rest.TheVariants as beside
 use Rattle.smv_abs.specs.Sets.{Has, first, later}
-use Rattle.smv_abs.specs.Places.{World, named, rest, unsure, below_places, rests_beside}
+use Rattle.smv_abs.specs.Places.{World, unsure, below_places, rests_beside}
 use Rattle.smv_abs.specs.Pictures.{Spot, class, other, Placing, at_spot, placed, IsPlaced}
 use Rattle.smv_abs.specs.Placings.{spot_from, spot_between, AreRising}
 use Rattle.smv_abs.proofs.Members.{Has-left, Has-right, Has-map}
-use Rattle.smv_abs.proofs.Same.{nat_eq-itself, nat_eq-is}
+use Rattle.smv_abs.proofs.Same.{nat_eq-itself}
 use Rattle.smv_abs.proofs.Spots.{Has-numbers, AreSpotted, is_somewhere, class_has_value, class_has_one, equality, order}
 use Rattle.smv_abs.proofs.Scalarsets.{same_ordinal}
 
 -- where a number stands beside another
-data Beside (k x : ℕ) : Type 0 where
+pub data Beside (k x : ℕ) : Type 0 where
   under : k < x → nat_eq k x ≡ false → nat_lt k x ≡ true → Beside k x
   on : k ≡ x → nat_eq k x ≡ true → Beside k x
   over : x < k → nat_eq k x ≡ false → nat_lt k x ≡ false → Beside k x
 
-beside_it : (k x : ℕ) → Beside k x
+pub beside_it : (k x : ℕ) → Beside k x
 beside_it k x = elim (three k x) [
   | inl l ↦ under l (apart k x l) (less k x l)
   | inr g ↦ elim g [ inl e ↦ on e (same_one k x e) | inr l ↦ over l (apart_over k x l) (not_less k x l) ]
@@ -215,7 +214,7 @@ once g (x ∷ xs) k l c p q = elim (beside_it k x) [
     higher {g} {c} p q (class_from d l) = let same_one : d ≡ c = cc in let same_two : g ≡ c = cc in omega arith
     higher p q (gap_from d l) = cc
 
-rising_tail : (size x : ℕ) (xs : List ℕ) → AreRising size (x ∷ xs) → AreRising size xs
+pub rising_tail : (size x : ℕ) (xs : List ℕ) → AreRising size (x ∷ xs) → AreRising size xs
 rising_tail size x [] h = tt
 rising_tail size x (y ∷ xs) h = h.1
 
@@ -231,7 +230,7 @@ rising_below size (x ∷ []) (suc c) h l = absurd (omega arith)
 rising_below size (x ∷ (y ∷ xs)) zero h l = let q = h.0 in let r = rising_below size (y ∷ xs) 0 h.1 (omega arith) in omega (arith, r, q)
 rising_below size (x ∷ (y ∷ xs)) (suc c) h l = rising_below size (y ∷ xs) c h.1 (omega arith)
 
-at_own : (size g : ℕ) (xs : List ℕ) (c d : ℕ) → AreRising size xs → c < length xs → d ≡ g + c → spot_from g xs (get_or xs c 0) ≡ class d
+pub at_own : (size g : ℕ) (xs : List ℕ) (c d : ℕ) → AreRising size xs → c < length xs → d ≡ g + c → spot_from g xs (get_or xs c 0) ≡ class d
 at_own size g [] c d h l e = absurd (omega arith)
 at_own size g (x ∷ xs) zero d h l e = rw (nat_eq-itself x) (ap class (omega arith))
 at_own size g (x ∷ xs) (suc c) d h l e = let above = rising_above size x xs c h (omega arith) in
@@ -241,7 +240,7 @@ at_own size g (x ∷ xs) (suc c) d h l e = let above = rising_above size x xs c 
       | over m e' t ↦ rw (e', t) (at_own size (suc g) xs c d (rising_tail size x xs h) (omega arith) (omega arith))
     ]
 
-spotted_between : (size : ℕ) (values : List ℕ) → AreRising size values → AreSpotted size (length values) (numbers_from 0 (length values + 1)) (spot_between values)
+pub spotted_between : (size : ℕ) (values : List ℕ) → AreRising size values → AreSpotted size (length values) (numbers_from 0 (length values + 1)) (spot_between values)
 spotted_between size values h = record {
   somewhere = λ k l. is_spot (length values) (spot_between values k) (within 0 values k);
   has_value = λ c l. (get_or values c 0, rising_below size values c h l, at_own size 0 values c c h l (omega arith));

@@ -1,8 +1,8 @@
 -- Ranges and enumerations: every value is its own class.
-use Rattle.std.proofs.Common.{◌≡◌, ℕ, ◌+◌, ◌-◌, List, [], ◌∷◌, ◌++◌, map, refl, sym, ap, subst, ◌∙◌, ◌⊎◌, inl, inr, Some, nat_eq, nat_lt}
-use Rattle.smv_core.specs.Values.{Name, Value, number, constant, Simple, range, choice, Sizes, values_of, numbers_from, same, below}
-use Rattle.smv_abs.specs.Sets.{Has, first, later}
-use Rattle.smv_abs.specs.Places.{Place, named, rest, World, equal_places, below_places}
+use Rattle.std.proofs.Common.{◌≡◌, ℕ, ◌+◌, ◌-◌, List, [], ◌++◌, map, refl, sym, subst, ◌∙◌, Some}
+use Rattle.smv_core.specs.Values.{Name, Value, number, constant, range, choice, Sizes, values_of, numbers_from, same, below}
+use Rattle.smv_abs.specs.Sets.{Has, first}
+use Rattle.smv_abs.specs.Places.{Place, named, World, equal_places, below_places}
 use Rattle.smv_abs.specs.Pictures.{Placing, placed, IsPlaced}
 use Rattle.smv_abs.proofs.Members.{Has-left, Has-map, Has-from_map}
 

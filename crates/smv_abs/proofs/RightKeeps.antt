@@ -1,28 +1,28 @@
 -- What a right side allows, it may allow in the picture; and what it allows there for certain, it allows.
-use Rattle.std.proofs.Common.{◌≡◌, ℕ, ◌+◌, ◌-◌, List, [], ◌∷◌, ◌++◌, map, Bool, true, false, not, if◌then◌else◌, ◌&&◌, ◌||◌, refl, sym, ap, subst, ◌∙◌, ◌⊎◌, inl, inr, Option, Some, None, option_map}
-use Rattle.std.specs.List.{flat_map, list_any, list_all, filter}
-use Rattle.smv_core.specs.Values.{Name, Value, number, Outcome, Truth, truth, values_of, numbers_from, is_in, Simple, range, choice, scalarset, ordset}
+use Rattle.std.proofs.Common.{◌≡◌, ℕ, ◌+◌, ◌-◌, List, [], ◌∷◌, ◌++◌, map, Bool, true, false, not, if◌then◌else◌, ◌&&◌, ◌||◌, refl, sym, ap, subst, ◌∙◌, inl, inr, Some, None}
+use Rattle.std.specs.List.{list_any, list_all, filter}
+use Rattle.smv_core.specs.Values.{Name, Value, number, Outcome, Truth, truth, numbers_from, is_in, Simple, range, choice, scalarset, ordset}
 use Rattle.smv_core.specs.Outcome.{branch, fit, is_true}
 use Rattle.smv_core.specs.Flat.{Numbered, FlatState, bind, values_in, simple_in, flat_outcome, flat_members, flat_meets, flat_allowed_by}
 use Rattle.smv_core.specs.declared.flat.Simple.{Simple as FlatSimple}
 use Rattle.smv_core.specs.declared.flat.FlatMember.{One, Span as SpanOf}
-use Rattle.smv_core.specs.declared.flat.FlatExpr.{FlatExpr, Choose', List', Each', Held-FlatExpr-Each-2, None', Some', Row_of-FlatExpr, end_of-FlatExpr, more_of-FlatExpr, Row_of-FlatMember, end_of-FlatMember, more_of-FlatMember}
+use Rattle.smv_core.specs.declared.flat.FlatExpr.{FlatExpr, Choose', List', Each', Held-FlatExpr-Each-2, None', Some', end_of-FlatExpr, more_of-FlatExpr, Row_of-FlatMember, end_of-FlatMember, more_of-FlatMember}
 use Rattle.smv_abs.specs.declared.abstract_type.AbsType.{AbsType}
 use Rattle.smv_abs.specs.Sets.{Has, first, later}
-use Rattle.smv_abs.specs.Places.{Place, named, rest, World, world, named_of, rests_of, places_of, named_in, rests_in, places_in, same_place, is_named, is_among, AbsOutcome, bind_place}
+use Rattle.smv_abs.specs.Places.{Place, named, rest, World, world, named_of, rests_of, places_of, named_in, places_in, same_place, is_named, is_among, AbsOutcome, bind_place}
 use Rattle.smv_abs.specs.May.{AbsState, Kept, seen, may, may_members}
 use Rattle.smv_abs.specs.Right.{gives, is_outside, gives_surely, same_outcome, gives_only, may_give_some, is_false, is_neither, chosen_surely, may_meet, must_meet, may_allow, must_allow, must_give_some}
 use Rattle.smv_abs.specs.Pictures.{Placing, placed, ArePlaced, IsState, IsPicture, IsValue, AreValues}
 use Rattle.smv_abs.proofs.Tests.{left_of, right_of, or_left, or_right, or_cases, and_both, true_or_false, not_true}
-use Rattle.smv_abs.proofs.Members.{Has-left, Has-right, Has-cases, Has-uncons, Has-map, Has-from_map, Picks, any-found, any-some, all-each, all-holds}
-use Rattle.smv_abs.proofs.Members.Picks.{none as no_pick, more as one_more}
-use Rattle.smv_abs.proofs.Same.{same_place-itself, same_place-is, is_in-Has, Has-is_in, is_among-Has, Has-is_among}
+use Rattle.smv_abs.proofs.Members.{Has-right, Has-cases, Has-uncons, Has-map, Has-from_map, Picks, any-found, any-some, all-each, all-holds}
+use Rattle.smv_abs.proofs.Members.Picks.{more as one_more}
+use Rattle.smv_abs.proofs.Same.{same_place-itself, same_place-is, Has-is_in, is_among-Has}
 use Rattle.smv_abs.proofs.Facts.{IsOutcome, AreOutcomes, placed_outcome, of_type, same_in, back}
 use Rattle.smv_abs.proofs.Operators.{seen_placed}
-use Rattle.smv_abs.proofs.Fitted.{IsOut, GivesValue, itself, outside, is_of_type, SomeGives, Given, fit_is, given_fits}
+use Rattle.smv_abs.proofs.Fitted.{IsOut, GivesValue, itself, outside, SomeGives, Given, fit_is, given_fits}
 use Rattle.smv_abs.proofs.MayKeeps.{bind_are, bind_placed, outcome_is, members_are, keeps, keeps_members}
 
-Has-filter : {X : Type 0} (f : X → Bool) {xs : List X} {x : X} → Has xs x → f x ≡ true → Has (filter f xs) x
+pub Has-filter : {X : Type 0} (f : X → Bool) {xs : List X} {x : X} → Has xs x → f x ≡ true → Has (filter f xs) x
 Has-filter f first e = rw e first
 Has-filter f (later {y = y} {xs = xs} h) e = past (f y) (Has-filter f h e)
   where

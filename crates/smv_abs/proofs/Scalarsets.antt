@@ -1,17 +1,16 @@
 -- The values of a scalarset: classes by distinct values, and a rest.
-use Rattle.std.proofs.Common.{◌≡◌, ℕ, zero, suc, ◌+◌, ◌<◌, ◌≤◌, List, [], ◌∷◌, ◌++◌, map, length, get_or, Bool, true, false, if◌then◌else◌, ◌&&◌, refl, sym, ap, subst, ◌∙◌, ◌⊎◌, inl, inr, arith, nat_eq, Option, Some, None, option_map}
-use Rattle.std.specs.Str.{bytes_eq}
+use Rattle.std.proofs.Common.{◌≡◌, ℕ, zero, suc, ◌<◌, List, [], ◌∷◌, ◌++◌, map, length, get_or, Bool, true, false, if◌then◌else◌, refl, sym, ap, subst, ◌∙◌, inl, inr, arith, nat_eq, Option, Some, None, option_map}
 use Rattle.std.proofs.lemmas.Slice.Eq.{bytes_eq-Decides}
-use Rattle.smv_core.specs.Values.{Name, Value, number, constant, scalar, ordinal, Simple, range, choice, scalarset, ordset, Sizes, values_of, numbers_from, same}
+use Rattle.smv_core.specs.Values.{Name, scalar, ordinal, scalarset, Sizes, numbers_from, same}
 use Rattle.smv_abs.specs.declared.abstract_type.Rest.{Rest}
 use Rattle.smv_abs.specs.declared.abstract_type.Rest.TheVariants as beside
-use Rattle.smv_abs.specs.Sets.{Has, first, later}
-use Rattle.smv_abs.specs.Places.{World, named, rests_beside, named_of, rests_of, places_of}
-use Rattle.smv_abs.specs.Pictures.{Spot, class, other, Placing, at_spot, placed, IsPlaced}
+use Rattle.smv_abs.specs.Sets.{Has, first}
+use Rattle.smv_abs.specs.Places.{World, rests_beside}
+use Rattle.smv_abs.specs.Pictures.{class, other, Placing, at_spot, placed, IsPlaced}
 use Rattle.smv_abs.specs.Placings.{place_in, or_rest, spot_by, AreDistinct, AreBelow, HasRoom}
 use Rattle.smv_abs.proofs.Tests.{true_or_false}
-use Rattle.smv_abs.proofs.Members.{Has-left, Has-right, Has-map, Has-from_map}
-use Rattle.smv_abs.proofs.Same.{nat_eq-itself, nat_eq-is, same-itself}
+use Rattle.smv_abs.proofs.Members.{Has-left, Has-right, Has-map}
+use Rattle.smv_abs.proofs.Same.{nat_eq-itself, nat_eq-is}
 use Rattle.smv_abs.proofs.Facts.{unordered}
 use Rattle.smv_abs.proofs.Spots.{Has-numbers, AreSpotted, is_somewhere, class_has_value, class_has_one, equality, order}
 
@@ -54,7 +53,7 @@ spot_is beside.One size values room k l None p = Has-right (map class (numbers_f
 spot_is beside.None size values room k l None p = absurd (room k l p)
 spot_is beside.Gaps size values room k l None p = absurd room
 
-by_class : (k c : ℕ) (o : Option ℕ) → or_rest o ≡ class c → o ≡ Some c
+pub by_class : (k c : ℕ) (o : Option ℕ) → or_rest o ≡ class c → o ≡ Some c
 by_class k c None e = absurd (cc)
 by_class k c (Some d) e = let same : d ≡ c = cc in ap Some same
 

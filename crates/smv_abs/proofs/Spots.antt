@@ -1,8 +1,8 @@
 -- From spots to places: the three facts of a set type, where each class has one value.
-use Rattle.std.proofs.Common.{◌≡◌, ℕ, zero, suc, ◌+◌, ◌<◌, ◌≤◌, List, [], ◌∷◌, ◌++◌, map, Bool, true, false, if◌then◌else◌, not, refl, sym, ap, subst, ◌∙◌, ◌⊎◌, inl, inr, arith, nat_eq, nat_lt, Option, Some, None}
-use Rattle.smv_core.specs.Values.{Value, Truth, numbers_from, same, below}
+use Rattle.std.proofs.Common.{◌≡◌, ℕ, zero, suc, ◌+◌, ◌<◌, ◌≤◌, List, [], ◌∷◌, ◌++◌, map, Bool, true, false, refl, sym, ap, subst, ◌∙◌, ◌⊎◌, inl, inr, arith, nat_eq, Some}
+use Rattle.smv_core.specs.Values.{Value, numbers_from, same, below}
 use Rattle.smv_abs.specs.Sets.{Has, first, later}
-use Rattle.smv_abs.specs.Places.{Place, named, rest, unsure, equal_places, below_places}
+use Rattle.smv_abs.specs.Places.{Place, named, rest, equal_places, below_places}
 use Rattle.smv_abs.specs.Pictures.{Spot, class, other, at_spot}
 use Rattle.smv_abs.proofs.Tests.{same_tests, true_or_false}
 use Rattle.smv_abs.proofs.Members.{Has-left, Has-right, Has-cases, Has-map, Has-from_map}

@@ -1,9 +1,8 @@
 -- What a definition gives an element at numbers and classes is among its possible results in the picture.
-use Rattle.std.proofs.Common.{◌≡◌, ℕ, zero, suc, ◌+◌, ◌<◌, ◌≤◌, List, [], ◌∷◌, ◌++◌, map, length, take, Bool, true, false, not, ◌||◌, if◌then◌else◌, refl, sym, ap, subst, ◌∙◌, ◌⊎◌, inl, inr, arith, Option, Some, None, option_map}
-use Rattle.std.specs.List.{flat_map, list_any, slice_get, zip}
+use Rattle.std.proofs.Common.{◌≡◌, ℕ, zero, suc, ◌<◌, List, [], ◌∷◌, map, length, Bool, true, false, not, ◌||◌, if◌then◌else◌, refl, sym, ap, subst, ◌∙◌, ◌⊎◌, inl, inr, arith, Option, Some, None}
+use Rattle.std.specs.List.{list_any, slice_get, zip}
 use Rattle.std.specs.Option.{is_none}
-use Rattle.smv_core.specs.Values.{Name, Value, number, Outcome, Truth, truth, same, values_of, Simple, range, choice, scalarset, ordset}
-use Rattle.smv_core.specs.Outcome.{branch}
+use Rattle.smv_core.specs.Values.{Name, Value, Outcome, Truth, truth, same, Simple, range, choice, scalarset, ordset}
 use Rattle.smv_core.specs.Walk as walk
 use Rattle.smv_core.specs.Walk.{Walk, if_walk, unless_nothing, is_other}
 use Rattle.smv_core.specs.Flat.{Numbered, FlatState, FlatElement, bind, values_in, simple_in, flat_outcome, flat_allowed_by, flat_assigned, flat_result, flat_results}
@@ -12,19 +11,19 @@ use Rattle.smv_core.specs.declared.flat.FlatExpr.{FlatExpr, Var}
 use Rattle.smv_core.specs.declared.flat.Flat.{Flat, Nothing, Assign, If', First', Forall', Row_of-Flat, end_of-Flat, more_of-Flat}
 use Rattle.smv_abs.specs.declared.abstract_type.AbsType.{AbsType}
 use Rattle.smv_abs.specs.Sets.{Has, first, later, one_of_each, pairs}
-use Rattle.smv_abs.specs.Places.{Place, named, rest, World, world, named_of, rests_of, named_in, rests_in, places_in, same_place, is_named, AbsOutcome, equal_places, bind_place}
+use Rattle.smv_abs.specs.Places.{Place, named, rest, World, world, rests_of, named_in, rests_in, places_in, same_place, is_named, AbsOutcome, equal_places, bind_place}
 use Rattle.smv_abs.specs.May.{AbsState, Kept, seen, may}
-use Rattle.smv_abs.specs.Results.{first_of, first_result, unless_both_nothing, taken, is_elsewhere, assigned, results, results_each}
+use Rattle.smv_abs.specs.Results.{first_of, first_result, taken, is_elsewhere, assigned, results, results_each}
 use Rattle.smv_abs.specs.Pictures.{Placing, placed, ArePlaced, IsState, IsPicture, IsValue, AreValues}
 use Rattle.smv_abs.specs.Bound.{HasVariable, HaveVariable, IsBound, AreBound, OneGives, OneOfEachGives, AreAtClasses}
 use Rattle.smv_abs.proofs.Tests.{or_left, or_right, true_or_false}
-use Rattle.smv_abs.proofs.Members.{Has-left, Has-right, Has-cases, Has-uncons, Has-map, Has-from_map, Has-flat_map, Has-pairs, Picks, Has-choices, Chosen, choose_each}
+use Rattle.smv_abs.proofs.Members.{Has-cases, Has-uncons, Has-map, Has-from_map, Has-flat_map, Has-pairs, Picks, Has-choices, Chosen, choose_each}
 use Rattle.smv_abs.proofs.Members.Picks.{none as no_pick, more as one_more}
-use Rattle.smv_abs.proofs.Same.{same-itself, same-is}
+use Rattle.smv_abs.proofs.Same.{same-is}
 use Rattle.smv_abs.proofs.Facts.{IsOutcome, placed_outcome, of_type, equal_values}
 use Rattle.smv_abs.proofs.Operators.{seen_placed}
 use Rattle.smv_abs.proofs.MayKeeps.{bind_are, bind_placed, outcome_is, keeps}
-use Rattle.smv_abs.proofs.NeverEmpty.{Filled, has_choice, filled_each, may_filled}
+use Rattle.smv_abs.proofs.NeverEmpty.{has_choice, filled_each, may_filled}
 
 clash : {b : Bool} → b ≡ true → b ≡ false → ⊥
 clash p q = cc
@@ -39,7 +38,7 @@ place_kept (x ∷ b) zero var p q e l = absurd (omega arith)
 place_kept (x ∷ b) (suc other) zero p q e l = e
 place_kept (x ∷ b) (suc other) (suc var) p q e l = place_kept b other var p q e (omega arith)
 
-value_kept : (b : List Value) (other var : ℕ) (u v : Value) → slice_get b var ≡ Some v → var < other → slice_get (bind b other u) var ≡ Some v
+pub value_kept : (b : List Value) (other var : ℕ) (u v : Value) → slice_get b var ≡ Some v → var < other → slice_get (bind b other u) var ≡ Some v
 value_kept [] other var u v e l = absurd (cc)
 value_kept (x ∷ b) zero var u v e l = absurd (omega arith)
 value_kept (x ∷ b) (suc other) zero u v e l = e
@@ -51,7 +50,7 @@ place_bound [] (suc var) p e = absurd (omega arith)
 place_bound (x ∷ b) zero p e = absurd (omega arith)
 place_bound (x ∷ b) (suc var) p e = place_bound b var p (omega arith)
 
-value_bound : (b : List Value) (var : ℕ) (v : Value) → length b ≡ var → slice_get (bind b var v) var ≡ Some v
+pub value_bound : (b : List Value) (var : ℕ) (v : Value) → length b ≡ var → slice_get (bind b var v) var ≡ Some v
 value_bound [] zero v e = refl
 value_bound [] (suc var) v e = absurd (omega arith)
 value_bound (x ∷ b) zero v e = absurd (omega arith)

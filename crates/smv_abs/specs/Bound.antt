@@ -1,9 +1,9 @@
 -- What the laws of definitions need: each `forall` variable is an index of each left side under it, and at most one of its values gives a result.
-use Rattle.std.specs.Prelude.{◌≡◌, ◌<◌, ℕ, suc, List, [], ◌∷◌, length, slice_get, is_none, Some, Bool, true, false}
+use Rattle.std.specs.Prelude.{◌≡◌, ◌<◌, ℕ, suc, List, [], ◌∷◌, length, slice_get, is_none, Some, true, false}
 use Rattle.smv_core.specs.Values.{Value}
 use Rattle.smv_core.specs.Flat.{Numbered, FlatState, FlatElement, bind, values_in, flat_result}
 use Rattle.smv_core.specs.declared.flat.Def.{Def}
-use Rattle.smv_core.specs.declared.flat.FlatExpr.{FlatExpr, Var}
+use Rattle.smv_core.specs.declared.flat.FlatExpr.{Var}
 use Rattle.smv_core.specs.declared.flat.Flat.{Flat, Nothing, Assign, If', First', Forall', Row_of-Flat, end_of-Flat, more_of-Flat}
 use Rattle.smv_abs.specs.Sets.{Has}
 use Rattle.smv_abs.specs.Places.{is_named}

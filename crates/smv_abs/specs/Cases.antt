@@ -1,12 +1,11 @@
 -- The cases of a leaf: which classes its parameters may have.
-use Rattle.std.specs.Prelude.{ℕ, zero, suc, ◌+◌, ◌-◌, List, [], ◌∷◌, ◌++◌, map, flat_map, filter, length, max, Option, Some, None, Bool, true, false, not, ◌&&◌, ◌||◌, if◌then◌else◌, nat_eq, nat_lt, nat_le}
+use Rattle.std.specs.Prelude.{ℕ, suc, ◌+◌, ◌-◌, List, [], ◌∷◌, ◌++◌, map, flat_map, filter, length, max, Option, Some, None, Bool, true, false, not, ◌&&◌, if◌then◌else◌, nat_eq, nat_lt, nat_le}
 use Rattle.std.specs.List.{list_any, list_all}
 use Rattle.smv_core.specs.Values.{numbers_from}
 use Rattle.smv_core.specs.declared.flat.Simple.{Simple}
 use Rattle.smv_core.specs.declared.flat.Simple.TheVariants.{Range, Enum, Set}
 use Rattle.smv_core.specs.declared.flat.Class.{Class}
 use Rattle.smv_core.specs.declared.flat.Class.TheVariants.{Number, Named, Rest}
-use Rattle.smv_abs.specs.declared.abstract_type.Rest.{Rest as Beside}
 use Rattle.smv_abs.specs.declared.abstract_type.Rest.TheVariants as beside
 use Rattle.smv_abs.specs.declared.abstract_type.AbsType.{AbsType}
 use Rattle.smv_abs.specs.Places.{rests_beside}
@@ -42,14 +41,15 @@ abbrev pub are_below : Option ℕ → List ℕ → Bool
 are_below None cs = true
 are_below (Some n) cs = list_all (λ c. nat_lt c n) cs
 
--- the classes of the parameters of a set type, of those that are listed so
-abbrev pub classes_of : (Bool → Bool) → ℕ → List Parameter → List Class → List Class
-classes_of test set (p ∷ params) (c ∷ classes) = if is_over p.over && test p.listed then c ∷ classes_of test set params classes else classes_of test set params classes
-  where
-    is_over : Simple → Bool
-    is_over (Set other) = nat_eq other set
-    is_over _ = false
-classes_of test set _ _ = []
+-- a type is this set type
+abbrev pub is_set : ℕ → Simple → Bool
+is_set set (Set other) = nat_eq other set
+is_set set _ = false
+
+-- what stands at the parameters of a set type, of those that are listed so: their classes or their values
+abbrev pub those_of : {X : Type 0} → (Bool → Bool) → ℕ → List Parameter → List X → List X
+those_of test set (p ∷ params) (x ∷ xs) = if is_set set p.over && test p.listed then x ∷ those_of test set params xs else those_of test set params xs
+those_of test set _ _ = []
 
 -- the numbers of named classes
 abbrev pub named_among : List Class → List ℕ
@@ -84,12 +84,12 @@ is_orderly ordered cs = fill cs
 
 -- in a scalarset that is not reduced each parameter counts as listed
 abbrev pub listed_classes : Treatment → ℕ → List Parameter → List Class → List Class
-listed_classes (whole n) set params classes = classes_of (λ listed. true) set params classes
-listed_classes _ set params classes = classes_of (λ listed. listed) set params classes
+listed_classes (whole n) set params classes = those_of (λ listed. true) set params classes
+listed_classes _ set params classes = those_of (λ listed. listed) set params classes
 
 abbrev pub unlisted_classes : Treatment → ℕ → List Parameter → List Class → List Class
 unlisted_classes (whole n) set params classes = []
-unlisted_classes _ set params classes = classes_of (λ listed. not listed) set params classes
+unlisted_classes _ set params classes = those_of (λ listed. not listed) set params classes
 
 -- the abstract type of a set type in a case
 abbrev pub type_in : Treatment → ℕ → List Parameter → List Class → AbsType

@@ -1,7 +1,7 @@
 -- Demands in a case: when the definition of an element or an assumed claim is met, and when a target is broken.
-use Rattle.std.specs.Prelude.{ℕ, List, [], ◌∷◌, map, zip, slice_get, Option, Some, None, Bool, true, false, not, ◌&&◌, ◌||◌, if◌then◌else◌}
+use Rattle.std.specs.Prelude.{List, [], zip, slice_get, Option, Some, None, Bool, true, false, not, ◌&&◌, ◌||◌, if◌then◌else◌}
 use Rattle.std.specs.List.{list_any, list_all}
-use Rattle.smv_core.specs.Assignments.{Index, fixed, bare, computed, fits}
+use Rattle.smv_core.specs.Assignments.{Index, fixed, fits}
 use Rattle.smv_core.specs.Outcome.{is_true}
 use Rattle.smv_core.specs.Flat.{indexes_assigned}
 use Rattle.smv_core.specs.declared.flat.Def.{Def}

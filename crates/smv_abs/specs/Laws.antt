@@ -1,25 +1,34 @@
 -- The laws: what the crate's public functions say.
-use Rattle.std.specs.Prelude.{◌≡◌, ◌<◌, ℕ, List, map, length, slice_get, Option, Some, option_map, Bool, true, false}
+use Rattle.std.specs.Prelude.{◌≡◌, ◌<◌, ℕ, List, map, length, slice_get, Option, Some, option_map, IfSome, Bool, true, false, ◌&&◌, nat_lt, ◌++◌, get_or}
 use Rattle.smv_core.specs.Values.{Name, Value, number, range, choice, scalarset, ordset, Sizes}
 use Rattle.smv_core.specs.Flat.{Numbered, FlatState, values_in, flat_outcome, flat_allowed_by, flat_allowed}
 use Rattle.smv_core.specs.declared.flat.FlatExpr.{FlatExpr}
 use Rattle.smv_core.specs.declared.flat.Def.{Def}
 use Rattle.smv_core.specs.declared.flat.Family.{Family}
+use Rattle.smv_core.specs.declared.flat.SetInfo.{SetInfo}
+use Rattle.smv_core.specs.declared.flat.Guard.{Guard}
+use Rattle.smv_core.specs.declared.flat.Param.{Param}
+use Rattle.smv_core.specs.declared.flat.Keep.{Keep}
 use Rattle.smv_core.specs.declared.flat.Simple.{Simple as FlatSimple}
 use Rattle.smv_abs.specs.declared.abstract_type.AbsType.{AbsType}
 use Rattle.smv_abs.specs.declared.abstract_type.Rest.TheVariants as beside
-use Rattle.smv_abs.specs.Sets.{Has}
+use Rattle.smv_abs.specs.Sets.{Has, one_of_each}
 use Rattle.smv_abs.specs.Places.{World, world, places_in}
 use Rattle.smv_abs.specs.May.{AbsState, Kept, may}
 use Rattle.smv_abs.specs.Right.{may_allow, must_allow}
 use Rattle.smv_abs.specs.Demands.{is_defined, is_broken_map, is_assumed, is_broken_claim, may_guard}
-use Rattle.smv_abs.specs.Guards.{guard_holds}
+use Rattle.smv_abs.specs.Guards.{guard_holds, AreGuards}
 use Rattle.smv_abs.specs.Bound.{AreAtClasses, IsSingle}
 use Rattle.smv_abs.specs.Pictures.{Placing, placed, IsPlaced, ArePlaced, AreOfTypes, IsState, IsPicture, ArePictured, AreValues, KeepsNamed}
 use Rattle.smv_abs.specs.Placings.{spot_by, spot_between, AreDistinct, AreBelow, AreRising, AreIn, HasRoom}
-use Rattle.smv_abs.specs.Cases.{grow, used}
+use Rattle.smv_abs.specs.Cases.{grow, used, Treatment, Parameter}
+use Rattle.smv_abs.specs.LeafCases.{treatments_of, parameters_of}
+use Rattle.smv_abs.specs.Covers.{AreApart, AreTreated, IsIndexType, AreCovered}
 use Rattle.smv_abs.specs.Circular.{Circle, ShowsFailures, HasNoViolation, AlwaysHolds}
 use Rattle.smv_abs.specs.Uses.{is_now, rank_of}
+use Rattle.smv_abs.specs.Scopes.{ReadsOnly}
+use Rattle.smv_abs.specs.FlatConflicts.{IsConflictFree}
+use Rattle.smv_abs.specs.Soundness.{Plan, IsPlan, HasNoViolatingPath, IsSound}
 
 -- a rank that falls along the uses that are now
 abbrev pub FallsAlong : (ℕ → ℕ → Bool) → (ℕ → ℕ) → Type 0
@@ -28,11 +37,15 @@ FallsAlong uses rank = (u v : ℕ) → uses u v ≡ true → rank v < rank u
 -- where failures are shown, no case has a violating path and the uses that are now hold no cycle, every unit always holds: by time, and at one time in the order of the uses that are now
 abbrev pub CircularInduction : Type 0 → Type 0 → Type 0 → Type 0 → Type 0
 CircularInduction State Instance Case Picture =
-    (circle : Circle State Instance Case Picture) (rank : ℕ → ℕ) → FallsAlong circle.uses_now rank → ShowsFailures circle → HasNoViolation circle → AlwaysHolds circle
+    (circle : Circle State Instance Case (λ case. Picture)) (rank : ℕ → ℕ) → FallsAlong circle.uses_now rank → ShowsFailures circle → HasNoViolation circle → AlwaysHolds circle
 
 -- the uses that are now hold no cycle: a rank falls along each
 abbrev pub NowUsesFall : Type 0
 NowUsesFall = (uses : ℕ → ℕ → Bool) (n u v : ℕ) → u < n → v < n → is_now uses n u v ≡ true → rank_of uses n v < rank_of uses n u
+
+-- so of so many units the uses that are now fall in this order
+abbrev pub NowUsesHaveOrder : Type 0
+NowUsesHaveOrder = (uses : ℕ → ℕ → Bool) (n : ℕ) → FallsAlong (λ u v. nat_lt u n && (nat_lt v n && is_now uses n u v)) (rank_of uses n)
 
 -- the three facts of ranges and enumerations, whose values are their own classes
 abbrev pub PlainTypesArePlaced : Type 0
@@ -93,6 +106,13 @@ abbrev pub GuardsCover : Type 0
 GuardsCover = (n : Numbered) (s : FlatState) (over : FlatSimple) (e : FlatExpr) (b : List Value) (v : Value) → Has (values_in n over) v →
     (i : Value) × Has (values_in n over) i × (guard_holds n s over e b i ≡ true)
 
+-- for each state and all values of a unit's parameters some values of those that its splits add meet every guard
+abbrev pub LeavesCover : Type 0
+LeavesCover = (n : Numbered) (own added : List FlatSimple) (guards : List Guard) → AreGuards (length own) (own ++ added) guards →
+    ((t : FlatSimple) → Has added t → (v : Value) × Has (values_in n t) v) → (s : FlatState) (values : List Value) → Has (one_of_each (map (values_in n) own)) values →
+    (more : List Value) × Has (one_of_each (map (values_in n) added)) more
+    × ((g : Guard) → Has guards g → guard_holds n s g.over g.expr (values ++ more) (get_or (values ++ more) g.var (number 0)) ≡ true)
+
 -- a guard that holds may hold in the picture
 abbrev pub GuardsAreKept : Type 0
 GuardsAreKept = InEachPicture (λ n w spots s kept a. (over : FlatSimple) (e : FlatExpr) (b : List Value) → AreValues n b → (i : Value) → Has (values_in n over) i →
@@ -107,3 +127,31 @@ PicturesExist = (n : Numbered) (types : Name → AbsType) (spots : Placing) → 
 abbrev pub GrowingClassesCover : Type 0
 GrowingClassesCover = (size : ℕ) (vs : List ℕ) → AreBelow size vs →
     (classes : List ℕ) × (grow 0 classes ≡ true) × (values : List ℕ) × AreDistinct values × AreBelow size values × (used classes ≡ length values) × AreIn values vs classes
+
+-- for all sizes and all values of a leaf's parameters, however many its set types have, the list of cases has one under which each value stands at its class
+abbrev pub CasesCover : Type 0
+CasesCover =
+    (n : Numbered) (treatments : List Treatment) → AreApart n.sets → AreTreated n.sizes n.sets treatments →
+    (params : List Parameter) → ((p : Parameter) → Has params p → IsIndexType p.over) →
+    (values : List Value) → Has (one_of_each (map (values_in n) (map (λ p. p.over) params))) values → AreCovered n treatments params values
+
+-- so has the list of a leaf, by what its choice keeps, for all sizes that the set types of the design may have
+abbrev pub LeafCasesCover : Type 0
+LeafCasesCover =
+    (n : Numbered) → AreApart n.sets → ((info : SetInfo) → Has n.sets info → IfSome info.size (λ size. n.sizes info.name ≡ size)) →
+    (params : List Param) → ((p : Param) → Has params p → IsIndexType p.over) → (keeps : List Keep) →
+    (values : List Value) → Has (one_of_each (map (values_in n) (map (λ p. p.over) params))) values →
+    AreCovered n (treatments_of keeps 0 n.sets) (parameters_of keeps params) values
+
+-- an outcome depends on no variable but those that the expression reads, among so many values
+abbrev pub OutcomesKeepScopes : Type 0
+OutcomesKeepScopes = (n : Numbered) (s : FlatState) (e : FlatExpr) (scope : ℕ → Bool) (b c : List Value) → ReadsOnly scope e → length b ≡ length c →
+    ((k : ℕ) → scope k ≡ true → slice_get b k ≡ slice_get c k) → flat_outcome n s e b ≡ flat_outcome n s e c
+
+-- where no two assignments of a definition conflict, at most one value of each `forall` variable gives an element a result
+abbrev pub ConflictsLeaveOneResult : Type 0
+ConflictsLeaveOneResult = (n : Numbered) (def : Def) (indexes every : List Value) → IsConflictFree (length indexes) def → IsSingle n def indexes every
+
+-- where no case of any leaf has a violating path, every unit holds at every time of every run, for all sizes
+abbrev pub NoViolatingPathIsSound : Type 0
+NoViolatingPathIsSound = (plan : Plan) → IsPlan plan → HasNoViolatingPath plan → IsSound plan

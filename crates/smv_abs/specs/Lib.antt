@@ -11,9 +11,17 @@ pub mod Guards
 pub mod Obligations
 pub mod Cases
 pub mod Bound
+pub mod Scopes
+pub mod Whole
+pub mod FlatConflicts
+pub mod Soundness
 pub mod Placings
+pub mod Covers
+pub mod LeafCases
 pub mod Worked
 pub mod WorkedRights
 pub mod WorkedCases
 pub mod WorkedObligations
+pub mod WorkedSoundness
+pub mod WorkedConflicts
 pub mod Laws

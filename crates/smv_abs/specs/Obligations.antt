@@ -1,5 +1,5 @@
 -- The obligation of a case: the demands, the target and the guards over one abstract state after another.
-use Rattle.std.specs.Prelude.{ℕ, List, get_or, Option, Bool, ◌&&◌}
+use Rattle.std.specs.Prelude.{List, get_or, Option, Bool, ◌&&◌}
 use Rattle.std.specs.List.{list_all}
 use Rattle.smv_core.specs.Values.{number}
 use Rattle.smv_core.specs.declared.flat.Def.{Def}

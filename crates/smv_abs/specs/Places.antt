@@ -1,7 +1,7 @@
 -- Where values lie in a case: numbers and constants as they are, and of a set type the classes and what is beside them.
 use Rattle.std.specs.Prelude.{ℕ, ◌+◌, List, [], ◌∷◌, ◌++◌, map, take, Option, Some, None, option_map, Bool, true, false, if◌then◌else◌}
 use Rattle.std.specs.List.{list_any}
-use Rattle.smv_core.specs.Values.{Name, Value, number, constant, scalar, ordinal, Simple, range, choice, scalarset, ordset, Sizes, Outcome, Truth, values_of, numbers_from, same, below, not_of}
+use Rattle.smv_core.specs.Values.{Name, Value, scalar, ordinal, Simple, range, choice, scalarset, ordset, Outcome, Truth, values_of, numbers_from, same, below, not_of}
 use Rattle.smv_core.specs.Flat.{Numbered, simple_in}
 use Rattle.smv_core.specs.declared.tree.Op.{Op}
 use Rattle.smv_core.specs.declared.tree.Op.TheVariants.{Equal, Differ, Less, AtMost, Greater, AtLeast}

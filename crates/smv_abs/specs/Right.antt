@@ -1,11 +1,11 @@
 -- What a right side may allow a target, and what it allows for certain.
-use Rattle.std.specs.Prelude.{List, [], ◌∷◌, map, Option, Some, None, Bool, true, false, not, ◌&&◌, ◌||◌, if◌then◌else◌}
+use Rattle.std.specs.Prelude.{List, [], ◌∷◌, map, Some, None, Bool, true, false, not, ◌&&◌, ◌||◌, if◌then◌else◌}
 use Rattle.std.specs.List.{list_any, list_all}
-use Rattle.smv_core.specs.Values.{Truth, truth}
+use Rattle.smv_core.specs.Values.{Truth}
 use Rattle.smv_core.specs.Outcome.{branch, is_true}
 use Rattle.smv_core.specs.declared.flat.FlatMember.{One, Span as SpanOf}
 use Rattle.smv_core.specs.declared.flat.FlatExpr.{FlatExpr, Choose', List', Each', Held-FlatExpr-Each-2, None', Some', end_of-FlatExpr, more_of-FlatExpr, Row_of-FlatMember, end_of-FlatMember, more_of-FlatMember}
-use Rattle.smv_abs.specs.Places.{Place, named, rest, same_place, is_named, is_among, World, named_in, places_in, AbsOutcome, valued, bind_place}
+use Rattle.smv_abs.specs.Places.{Place, same_place, is_named, is_among, World, named_in, places_in, AbsOutcome, bind_place}
 use Rattle.smv_abs.specs.May.{AbsState, Kept, seen, may, may_members}
 
 -- an outcome gives its own place, and every place of the type where it is Undefined or outside the type

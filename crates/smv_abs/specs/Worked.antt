@@ -1,21 +1,18 @@
 -- Worked examples: expressions in a small case, with the outcomes that were worked out by hand.
-use Rattle.std.specs.Prelude.{◌≡◌, ℕ, zero, suc, List, [], ◌∷◌, map, Option, Some, None, Bool, true, false, if◌then◌else◌, codes}
+use Rattle.std.specs.Prelude.{◌≡◌, ℕ, zero, suc, List, [], ◌∷◌, map, Some, None, true, false, if◌then◌else◌, codes}
 use Rattle.std.specs.Str.{bytes_eq}
 use Rattle.std.specs.List.{list_all}
 use Rattle.smv_core.specs.Values.{Name, Value, number, constant, scalar, ordinal}
 use Rattle.smv_core.specs.Flat.{Numbered}
-use Rattle.smv_core.specs.declared.tree.Op.{Op}
 use Rattle.smv_core.specs.declared.tree.Op.TheVariants.{Equal, Differ, Less, AtMost, Greater, AtLeast}
-use Rattle.smv_core.specs.declared.tree.Span.{Span}
 use Rattle.smv_core.specs.declared.flat.Simple.{Simple}
 use Rattle.smv_core.specs.declared.flat.Simple.TheVariants.{Range, Enum, Set}
 use Rattle.smv_core.specs.declared.flat.Family.{Family}
 use Rattle.smv_core.specs.declared.flat.FlatExpr.{FlatExpr, Number, Read, Var, Constant, Not, And, Implies, Compare, Within, Choose, All, Any, List as Listed, Sum, Modulo}
 use Rattle.smv_core.specs.declared.flat.FlatMember.{One, Span as SpanOf}
 use Rattle.smv_core.specs.declared.flat.FlatSigned.{roll-FlatSigned}
-use Rattle.smv_abs.specs.declared.abstract_type.AbsType.{AbsType}
 use Rattle.smv_abs.specs.declared.abstract_type.Rest.TheVariants as beside
-use Rattle.smv_abs.specs.Places.{Place, named, rest, is_named, World, world, AbsOutcome, places_in}
+use Rattle.smv_abs.specs.Places.{Place, named, rest, is_named, World, world, AbsOutcome}
 use Rattle.smv_abs.specs.May.{AbsState, Kept, may}
 
 abbrev pub family : Name → List Simple → Simple → Family

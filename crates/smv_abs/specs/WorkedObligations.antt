@@ -1,24 +1,21 @@
 -- Worked obligations of small designs: cases that have, or have not, a violating path.
-use Rattle.std.specs.Prelude.{◌≡◌, ℕ, zero, suc, List, [], ◌∷◌, map, get_or, Option, Some, None, Bool, true, false, codes}
-use Rattle.std.specs.List.{list_any, flat_map}
-use Rattle.smv_core.specs.Values.{Value, number, scalar, ordinal}
+use Rattle.std.specs.Prelude.{◌≡◌, ℕ, List, [], ◌∷◌, map, get_or, Some, None, Bool, true, false, codes}
+use Rattle.std.specs.List.{list_any}
+use Rattle.smv_core.specs.Values.{number}
 use Rattle.smv_core.specs.Flat.{Numbered}
 use Rattle.smv_core.specs.declared.tree.Op.TheVariants.{Equal, Less}
-use Rattle.smv_core.specs.declared.flat.Simple.{Simple}
 use Rattle.smv_core.specs.declared.flat.Simple.TheVariants.{Range, Set}
-use Rattle.smv_core.specs.declared.flat.SetInfo.{SetInfo}
 use Rattle.smv_core.specs.declared.flat.Family.{Family}
 use Rattle.smv_core.specs.declared.flat.Def.{Def}
 use Rattle.smv_core.specs.declared.flat.Guard.{Guard}
-use Rattle.smv_core.specs.declared.flat.Flat.{Flat, Nothing, Assign, Forall}
-use Rattle.smv_core.specs.declared.flat.FlatExpr.{FlatExpr, Number, Read, Var, Not, And, Or, Implies, Compare, All, Any}
-use Rattle.smv_abs.specs.declared.abstract_type.Rest.{Rest}
+use Rattle.smv_core.specs.declared.flat.Flat.{Nothing, Assign, Forall}
+use Rattle.smv_core.specs.declared.flat.FlatExpr.{FlatExpr, Read, Var, Not, And, Or, Implies, Compare, All, Any}
 use Rattle.smv_abs.specs.declared.abstract_type.Rest.TheVariants as beside
 use Rattle.smv_abs.specs.Sets.{one_of_each}
 use Rattle.smv_abs.specs.Circular.{is_violating}
 use Rattle.smv_abs.specs.Places.{Place, named, rest, World, world, places_in}
 use Rattle.smv_abs.specs.May.{AbsState}
-use Rattle.smv_abs.specs.Obligations.{Demanded, defined, holds, Problem, obligation}
+use Rattle.smv_abs.specs.Obligations.{defined, holds, Problem, obligation}
 use Rattle.smv_abs.specs.Worked.{family, all_kept, p, i, signal, variable, num}
 
 -- one set type and these families, in a case with so many classes

@@ -1,16 +1,15 @@
 -- Worked right sides and definitions, in the small case of the worked expressions.
-use Rattle.std.specs.Prelude.{◌≡◌, ℕ, zero, suc, List, [], ◌∷◌, map, Option, Some, None, Bool, true, false}
+use Rattle.std.specs.Prelude.{◌≡◌, ℕ, List, [], ◌∷◌, map, Option, Some, None, Bool, true, false}
 use Rattle.smv_core.specs.declared.tree.Op.TheVariants.{Equal, AtLeast}
 use Rattle.smv_core.specs.declared.flat.Simple.{Simple}
 use Rattle.smv_core.specs.declared.flat.Simple.TheVariants.{Range, Set}
-use Rattle.smv_core.specs.declared.flat.FlatExpr.{FlatExpr, Number, Read, Var, Compare, Choose, List as Listed, Each, Sum}
+use Rattle.smv_core.specs.declared.flat.FlatExpr.{FlatExpr, Number, Read, Var, Compare, Choose, List as Listed, Each}
 use Rattle.smv_core.specs.declared.flat.FlatMember.{FlatMember, One}
-use Rattle.smv_core.specs.declared.flat.FlatSigned.{roll-FlatSigned}
 use Rattle.smv_core.specs.declared.flat.Flat.{Flat, Nothing, Assign, If, First, Forall}
-use Rattle.smv_abs.specs.Places.{Place, named, rest, places_in}
+use Rattle.smv_abs.specs.Places.{Place, named, places_in}
 use Rattle.smv_abs.specs.Right.{may_allow, must_allow}
 use Rattle.smv_abs.specs.Results.{results}
-use Rattle.smv_abs.specs.Worked.{small_world, all_kept, at_rests, p, i, signal, variable, num}
+use Rattle.smv_abs.specs.Worked.{small_world, all_kept, at_rests, p, signal, variable, num}
 
 -- what a right side may allow, and what it allows for certain, at each place of the target's type in turn
 abbrev pub BothWays : Simple → FlatExpr → List Bool → List Bool → Type 0

@@ -1,8 +1,10 @@
 // Laws of the definitions, each the contract of a function that does nothing.
-ghost use Rattle.smv_abs.specs.Laws.{CircularInduction, NowUsesFall, PlainTypesArePlaced, ScalarsetsArePlaced, OrdsetsArePlaced, MayKeepsOutcomes, MayKeepsRightSides, MustKeepsRightSides, MapsAreKept, ClaimsAreKept, GuardsCover, GuardsAreKept, PicturesExist, GrowingClassesCover};
+ghost use Rattle.smv_abs.specs.Laws.{CircularInduction, NowUsesFall, NowUsesHaveOrder, PlainTypesArePlaced, ScalarsetsArePlaced, OrdsetsArePlaced, MayKeepsOutcomes, MayKeepsRightSides, MustKeepsRightSides, MapsAreKept, ClaimsAreKept, GuardsCover, LeavesCover, GuardsAreKept, PicturesExist, GrowingClassesCover, CasesCover, LeafCasesCover, OutcomesKeepScopes, ConflictsLeaveOneResult, NoViolatingPathIsSound};
 ghost use Rattle.smv_abs.specs.WorkedRights.{BitTargets, SetTargets, OutsideTargets, Assignments};
-ghost use Rattle.smv_abs.specs.WorkedCases.{ScalarsetCases, ReducedCases, OrdsetCases, RangeCases};
+ghost use Rattle.smv_abs.specs.WorkedCases.{ScalarsetCases, ReducedCases, OrdsetCases, RangeCases, SeveralTypes, KeptParameters};
 ghost use Rattle.smv_abs.specs.WorkedObligations.{SplitHelps, OrderIsTotal, SplitOrders, Reductions, WrittenIndex, EachOther, MutualMaps, CertainMaps};
+ghost use Rattle.smv_abs.specs.WorkedConflicts.{PairsShare, NonePairs, NoneStands, PartsStand};
+ghost use Rattle.smv_abs.specs.WorkedSoundness.{SplitPlan, MutualPlan};
 ghost use Rattle.smv_abs.specs.Worked.{RestsCompare, GapsCompare, ReadsAtRests, Quantifiers, Memberships, Operators};
 
 /// The circular rule: where each failure of an instance is shown by a case, no case has a violating path and the uses that are now hold no cycle,
@@ -13,7 +15,8 @@ pub fn circular_induction<State, Instance, Case, Picture>()
 
 /// The uses that are now hold no cycle.
 pub fn now_uses_hold_no_cycle()
-    ensures { NowUsesFall }
+    ensures fall { NowUsesFall }
+    ensures order { NowUsesHaveOrder }
 {}
 
 /// Worked expressions in a small case: rests, gaps, elements at a rest, quantifiers, `in`, and the operators.
@@ -51,9 +54,10 @@ pub fn demands_are_kept()
     ensures claims { ClaimsAreKept }
 {}
 
-/// Guards cover the unit, and are kept in the picture.
+/// Guards cover the unit, each alone and all of a leaf together, and are kept in the picture.
 pub fn guards_are_kept()
     ensures cover { GuardsCover }
+    ensures leaves { LeavesCover }
     ensures kept { GuardsAreKept }
 {}
 
@@ -67,6 +71,17 @@ pub fn growing_classes_cover()
     ensures { GrowingClassesCover }
 {}
 
+/// Every instance of a leaf has a case with a placing: for all sizes of the set types and all values of the parameters, the list of cases
+/// has one, and each set type a placing, under which each parameter's value stands at the class that the case gives it.
+pub fn cases_cover()
+    ensures { CasesCover }
+{}
+
+/// The same of the cases of a leaf, by what its choice keeps.
+pub fn leaf_cases_cover()
+    ensures { LeafCasesCover }
+{}
+
 /// Worked right sides and definitions: what they may allow and what they allow for certain.
 pub fn worked_right_sides()
     ensures bit_targets { BitTargets }
@@ -75,12 +90,14 @@ pub fn worked_right_sides()
     ensures assignments { Assignments }
 {}
 
-/// Worked cases: of scalarsets, whole and reduced, of ordsets and of ranges.
+/// Worked cases: of scalarsets, whole and reduced, of ordsets, of ranges, of several types side by side, and by what a choice keeps.
 pub fn worked_cases()
     ensures scalarsets { ScalarsetCases }
     ensures reduced { ReducedCases }
     ensures ordsets { OrdsetCases }
     ensures ranges { RangeCases }
+    ensures several { SeveralTypes }
+    ensures kept { KeptParameters }
 {}
 
 /// Worked obligations: cases that have, or have not, a violating path.
@@ -93,4 +110,33 @@ pub fn worked_obligations()
     ensures each_other { EachOther }
     ensures mutual_maps { MutualMaps }
     ensures certain_maps { CertainMaps }
+{}
+
+/// An outcome depends on no variable but those that its expression reads.
+pub fn outcomes_keep_scopes()
+    ensures { OutcomesKeepScopes }
+{}
+
+/// The rule of conflicts leaves each `forall` variable at most one value that gives an element a result.
+pub fn conflicts_leave_one_result()
+    ensures { ConflictsLeaveOneResult }
+{}
+
+/// The joined law: where no case of any leaf has a violating path, every unit holds at every time of every run, for all sizes.
+pub fn no_violating_path_is_sound()
+    ensures { NoViolatingPathIsSound }
+{}
+
+/// Worked definitions, with and without conflicts.
+pub fn worked_conflicts()
+    ensures pairs_share { PairsShare }
+    ensures none_pairs { NonePairs }
+    ensures none_stands { NoneStands }
+    ensures parts_stand { PartsStand }
+{}
+
+/// Worked plans of proof, of which the joined law speaks: a claim that is split, and two maps that use each other.
+pub fn worked_plans()
+    ensures split { SplitPlan }
+    ensures mutual { MutualPlan }
 {}
