@@ -1,7 +1,7 @@
 //! The lines that the program writes: a report, and the place of a fault.
 #![tactic(auto)]
 
-ghost use Rattle.std.specs.Prelude.{◌≡◌, ◌≤◌, ◌<◌, ◌+◌, ◌^◌, ℕ, ◌++◌, length, codes, decimal, IfOk, OnOk, [], Bool, if◌then◌else◌};
+ghost use Rattle.std.specs.Prelude.{◌≡◌, ◌≤◌, ◌<◌, ◌+◌, ◌^◌, ℕ, ◌++◌, length, take, codes, decimal, IfOk, OnOk, [], Bool, if◌then◌else◌};
 ghost use Rattle.smv_report.specs.Lines.{line_at, column_at, fault_text, report_lines, time_lines, values_line, verdict_lines, is_true_verdict};
 
 use itoa::Buffer;
@@ -16,30 +16,36 @@ fn push_number(out: &mut Vec<u8>, number: usize) -> Result<(), AllocError>
     out.extend_from_slice(buffer.format(number).as_bytes())
 }
 
+// What stands before an offset.
+#[tactic(auto, using(std::proofs::lemmas::List::take_min))]
+fn before(text: &[u8], at: usize) -> &[u8]
+    ensures { result.now ≡ take at text.now }
+{
+    &text[..at.min(text.len())]
+}
+
 // The line of an offset, from 1.
 fn line_of(text: &[u8], at: usize) -> usize
-    requires { at ≤ length text.now }
     ensures { result ≡ line_at text.now at }
 {
-    let before = &text[..at];
-    before.iter().filter(|b| **b == b'\n').count() + 1
+    let front = before(text, at);
+    front.iter().filter(|b| **b == b'\n').count() + 1
 }
 
 // The column of an offset, from 1.
 fn column_of(text: &[u8], at: usize) -> usize
-    requires { at ≤ length text.now }
     ensures { result ≡ column_at text.now at }
 {
     let mut column = 1;
-    for byte in &text[..at] {
+    for byte in before(text, at) {
         column = if *byte == b'\n' { 1 } else { column + 1 };
     }
     column
 }
 
-/// The line `fault N at line L column C` of a fault of the text. Lines and columns count from 1, and a column counts bytes.
+/// The line `fault N at line L column C` of a fault of the text. Lines and columns count from 1, and a column counts bytes. A place behind the
+/// text is read as its end.
 pub fn fault_line(alloc: Global, text: &[u8], fault: Fault) -> Result<Vec<u8>, AllocError>
-    requires { fault.at ≤ length text.now }
     ensures { IfOk result (λ line. line.items ≡ fault_text text.now fault.number fault.at) }
 {
     let at = fault.at as usize;

@@ -1,9 +1,10 @@
 //! The top call: from the words of the command and the bytes of a source to a status and the bytes of a sink.
 #![tactic(auto)]
 
-ghost use Rattle.std.specs.Prelude.{◌≡◌, ◌≢◌, ◌≤◌, ◌⊎◌, List, ℕ, map, length, if◌then◌else◌, IfSome, IfNone, IfOk};
+ghost use Rattle.std.specs.Prelude.{◌≡◌, ◌≢◌, ◌≤◌, ◌⊎◌, List, ℕ, map, length, if◌then◌else◌, IfSome, IfNone, IfOk, None};
 ghost use Rattle.std.specs.String.{string_bytes};
 ghost use Rattle.std.specs.Io.KnownBytes.{Appends};
+ghost use Rattle.smv_inst.specs.FirstFault as inst;
 ghost use Rattle.smv_io.specs.Causes.{Rose};
 ghost use Rattle.smv_io.specs.Transfers.{TookFront};
 ghost use Rattle.smv_report.specs.Lines.{is_true_verdict, fault_text};
@@ -13,6 +14,7 @@ ghost use Rattle.smv_top.specs.Commands.{AsksFor, names};
 use smv_core::tree::Text;
 use smv_core::{Fault, Refusal, Report, UnitResult, Verdict};
 use smv_io::{ReadError, Sink, Source, read_all, write_all};
+use smv_names::first_fault;
 use smv_parse::{one_answer, parse};
 use smv_print::print;
 use smv_report::{fault_line, lines};
@@ -194,7 +196,7 @@ fn answer_to(alloc: Global, command: Command, text: &[u8]) -> Result<Answer, All
     one_answer();
     match parse(alloc, text) {
         Ok(tree) => match command {
-            Command::Prove => decided(alloc, text, &tree),
+            Command::Prove => checked(alloc, text, &tree),
             Command::Print => printed(alloc, text, &tree),
         },
         Err(Refusal::Fault(fault)) => refused(alloc, text, fault),
@@ -212,9 +214,21 @@ fn printed(alloc: Global, text: &[u8], tree: &Text) -> Result<Answer, AllocError
     Ok(Answer { status, bytes })
 }
 
+// The answer to a text whose names and size are to have no fault.
+fn checked(alloc: Global, text: &[u8], tree: &Text) -> Result<Answer, AllocError>
+    requires { IsTree text.now tree.now }
+    ensures { IfOk result (λ answer. (words : List (List ℕ)) → IsProve words → IsDue answer.status words text.now answer.bytes.items) }
+{
+    match first_fault(alloc, tree)? {
+        None => decided(alloc, text, tree),
+        Some(fault) => refused(alloc, text, fault),
+    }
+}
+
 // The answer to a text that is decided, where it is a design that is.
 fn decided(alloc: Global, text: &[u8], tree: &Text) -> Result<Answer, AllocError>
-    requires { IsTree text.now tree.now }
+    requires tree { IsTree text.now tree.now }
+    requires named { inst.first_fault tree.now ≡ None }
     ensures { IfOk result (λ answer. (words : List (List ℕ)) → IsProve words → IsDue answer.status words text.now answer.bytes.items) }
 {
     match first_design(tree) {
@@ -230,7 +244,6 @@ fn decided(alloc: Global, text: &[u8], tree: &Text) -> Result<Answer, AllocError
 
 // The answer to a text that has a fault.
 fn refused(alloc: Global, text: &[u8], fault: Fault) -> Result<Answer, AllocError>
-    requires { fault.at ≤ length text.now }
     ensures status { IfOk result (λ answer. answer.status ≡ Status.Refused) }
     ensures bytes { IfOk result (λ answer. answer.bytes.items ≡ fault_text text.now fault.number fault.at) }
 {

@@ -21,6 +21,16 @@ const BRACKETS: &str = "module main(){x:boolean;p:assert G (x|(~x));}";
 
 const PLAIN: &str = "module main ( ) { x : boolean ;\np : assert G x | ~ x ;\n}\n";
 
+const UNDECLARED: &str = "module main() { x : boolean;\nx := y; }";
+
+const TWICE: &str = "module main() { x : boolean; x : boolean; }";
+
+const WITHIN_ITSELF: &str = "module main() { a : main(); }";
+
+const MISCOUNTED: &str = "module m(a) { input a : boolean; } module main() { x : m(); }";
+
+const FIVE_INDEXES: &str = "module main() { x : array 0..1 of array 0..1 of array 0..1 of array 0..1 of array 0..1 of boolean; }";
+
 const NOT_DECIDED: &str = "fault 32 at line 1 column 1\n";
 
 // The words, parted by blanks.
@@ -50,7 +60,12 @@ fn a_status_and_an_answer(rt: HostRuntime) -> Result<(), Fail> {
         ("prove", TOGGLE, 0, "p: true\nproved 1 of 1\n"),
         ("prove", TOGGLE_FALSE, 1, falsified),
         ("prove", COMMENTED, 0, "p: true\nproved 1 of 1\n"),
-        ("prove", "", 3, NOT_DECIDED),
+        ("prove", "", 3, "fault 9 at line 1 column 1\n"),
+        ("prove", UNDECLARED, 3, "fault 7 at line 2 column 6\n"),
+        ("prove", TWICE, 3, "fault 8 at line 1 column 30\n"),
+        ("prove", WITHIN_ITSELF, 3, "fault 10 at line 1 column 21\n"),
+        ("prove", MISCOUNTED, 3, "fault 11 at line 1 column 56\n"),
+        ("prove", FIVE_INDEXES, 3, "fault 25 at line 1 column 8\n"),
         ("prove", "module main() { }", 3, NOT_DECIDED),
         ("prove", OPEN, 3, "fault 4 at line 1 column 17\n"),
         ("print", OPEN, 3, "fault 4 at line 1 column 17\n"),
