@@ -1,0 +1,4 @@
+//! Graphs with numbered nodes: which nodes are reached from a node, and which are on no cycle.
+#![tactic(auto)]
+
+pub mod reach;
