@@ -1,8 +1,8 @@
 -- The places of names, as they are noted.
-use Rattle.std.proofs.Common.{◌≡◌, ℕ, suc, ◌+◌, Option, Bool, true, false, cond, List, [], ◌∷◌, ◌++◌, map, length, refl, ap, sym, ◌∙◌, arith, rules, Bor}
-use Rattle.std.specs.Prelude.{option_map, Some, None}
+use Rattle.std.proofs.Common.{◌≡◌, ℕ, suc, Option, Bool, true, false, cond, List, [], ◌∷◌, ◌++◌, map, length, refl, ap, sym, ◌∙◌, Bor}
+use Rattle.std.specs.Prelude.{option_map, is_some, Some, None}
 use Rattle.std.specs.Str.{bytes_eq}
-use Rattle.std.specs.HashMap.{HashMap, get_by, UpdatesBy}
+use Rattle.std.specs.HashMap.{HashMap, UpdatesBy}
 use Rattle.std.proofs.lemmas.Map.Text.{hash_map_updates_str}
 use Rattle.std.proofs.lemmas.Slice.Eq.{bytes_eq-Decides}
 use Rattle.smv_core.specs.Values.{Name}
@@ -13,18 +13,24 @@ option_map-found_or (Some i) b n = refl
 option_map-found_or None true n = refl
 option_map-found_or None false n = refl
 
+option_map-either : (b : Bool) (o : Option ℕ) (c : Bool) (n : ℕ) → cond b (Some 0) (option_map suc (found_or o c n)) ≡ found_or (cond b (Some 0) (option_map suc o)) c (suc n)
+option_map-either true o c n = refl
+option_map-either false o c n = option_map-found_or o c n
+
+found_or-none : (b : Bool) → cond b (Some 0) (option_map suc None) ≡ found_or None b 0
+found_or-none true = refl
+found_or-none false = refl
+
 -- one more name at the end
-pub position-push : (names : List Name) (x q : Name) → position (names ++ x ∷ []) q ≡ found_or (position names q) (bytes_eq x q) (length names)
-position-push [] x q = by (bytes_eq x q)
-  where
-    by : (b : Bool) → cond b (Some 0) (option_map suc None) ≡ found_or None b 0
-    by true = refl
-    by false = refl
-position-push (y ∷ names) x q = by (bytes_eq y q)
-  where
-    by : (b : Bool) → cond b (Some 0) (option_map suc (position (names ++ x ∷ []) q)) ≡ found_or (cond b (Some 0) (option_map suc (position names q))) (bytes_eq x q) (suc (length names))
-    by true = refl
-    by false = ap (option_map suc) (position-push names x q) ∙ option_map-found_or (position names q) (bytes_eq x q) (length names)
+pub position-push : (names : List (Bor Name)) (x : Bor Name) (q : Name) → position (map (λ name. name.now) (names ++ x ∷ [])) q ≡ found_or (position (map (λ name. name.now) names) q) (bytes_eq x.now q) (length names)
+position-push [] x q = found_or-none (bytes_eq x.now q)
+position-push (y ∷ names) x q =
+    ap (λ o. cond (bytes_eq y.now q) (Some 0) (option_map suc o)) (position-push names x q) ∙ option_map-either (bytes_eq y.now q) (position (map (λ name. name.now) names) q) (bytes_eq x.now q) (length names)
+
+-- no place was found
+pub none_from_test : (o : Option ℕ) (b : Bool) → b ≡ is_some o → b ≡ false → o ≡ None
+none_from_test None b e n = refl
+none_from_test (Some i) b e n = cc
 
 -- a name that has a place keeps it
 pub found_or-known : {S : Type 0} (m : HashMap (Bor (List ℕ)) ℕ S) (x : Name) (n i : ℕ) → noted m x ≡ Some i → (q : Name) → noted m q ≡ found_or (noted m q) (bytes_eq x q) n
@@ -56,3 +62,11 @@ found_or-new m m' x n absent updates q = hash_map_updates_str x m m' (Some n) up
         other : (o : Option ℕ) → o ≡ found_or o false n
         other (Some j) = refl
         other None = refl
+
+-- what is noted stays right where a name is put at the end
+pub pushed : {S : Type 0} (names names' : List (Bor Name)) (x : Bor Name) (m m' : HashMap (Bor (List ℕ)) ℕ S) (bytes : Name) (place : ℕ)
+    → ((q : Name) → noted m q ≡ position (map (λ name. name.now) names) q) → names' ≡ names ++ x ∷ [] → bytes ≡ x.now → place ≡ length names
+    → ((q : Name) → noted m' q ≡ found_or (noted m q) (bytes_eq bytes q) place) → (q : Name) → noted m' q ≡ position (map (λ name. name.now) names') q
+pushed names names' x m m' bytes place known more same long now q =
+    now q ∙ ap (λ o. found_or o (bytes_eq bytes q) place) (known q) ∙ ap (λ b. found_or (position (map (λ name. name.now) names) q) (bytes_eq b q) place) same
+    ∙ ap (found_or (position (map (λ name. name.now) names) q) (bytes_eq x.now q)) long ∙ sym (position-push names x q) ∙ ap (λ ns. position (map (λ name. name.now) ns) q) (sym more)

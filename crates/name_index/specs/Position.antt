@@ -1,5 +1,5 @@
 -- Where a name stands in a list of names.
-use Rattle.std.specs.Prelude.{ℕ, suc, List, [], ◌∷◌, map, Option, Some, None, Bool, if◌then◌else◌, option_map}
+use Rattle.std.specs.Prelude.{ℕ, suc, List, [], ◌∷◌, Option, Some, None, Bool, if◌then◌else◌, option_map}
 use Rattle.std.specs.Str.{bytes_eq}
 use Rattle.std.specs.HashMap.{HashMap, get_by}
 use Rattle.std.proofs.Common.{Bor}
@@ -16,3 +16,5 @@ found_or (Some found) is_it place = Some found
 found_or None is_it place = if is_it then Some place else None
 
 -- the place that is noted of a name
+abbrev pub noted : {S : Type 0} → HashMap (Bor (List ℕ)) ℕ S → Name → Option ℕ
+noted places name = get_by (λ key. bytes_eq name key.now) places

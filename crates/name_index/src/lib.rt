@@ -1,10 +1,13 @@
 //! Names in their order, each found by its first place.
 #![tactic(auto)]
 
-ghost use Rattle.std.specs.Prelude.{◌≡◌, [], ◌∷◌, ◌++◌, OnOk, OnErr};
+ghost use Rattle.std.specs.Prelude.{◌≡◌, List, [], ◌∷◌, ◌++◌, OnOk, OnErr, map, option_map, option_and_then, slice_get};
+ghost use Rattle.smv_core.specs.Types.{find_name};
 ghost use Rattle.name_index.specs.Position.{position, found_or, noted};
 ghost use Rattle.std.specs.Str.{bytes_eq};
 ghost use Rattle.smv_core.specs.Values.{Name};
+
+pub mod map;
 
 use smv_core::name::Name;
 use std::alloc::{AllocError, Global};
@@ -78,3 +81,8 @@ fn note_place<'a>(
     }
     Ok(())
 }
+
+/// What stands beside a name in a list of pairs is what stands at the name's first place.
+pub fn found_at_first_place<T>()
+    ensures { (pairs : List (Name × T)) (name : Name) → find_name pairs name ≡ option_and_then (λ place. option_map (λ pair. pair.1) (slice_get pairs place)) (position (map (λ pair. pair.0) pairs) name) }
+{}

@@ -1,4 +1,4 @@
 //! A module that contains itself, and the size of a text.
 #![tactic(auto)]
 
-pub mod graph;
+pub mod recursion;
