@@ -18,9 +18,9 @@ or_none a b e f = cc
 any_weaker : (p q : ℕ → Bool) (xs : List ℕ) → ((x : ℕ) → p x ≡ true → q x ≡ true) → list_any p xs ≡ true → list_any q xs ≡ true
 any_weaker p q [] weaker e = e
 any_weaker p q (x ∷ xs) weaker e = elim (or_cases (p x) (list_any p xs) e) [
-    | inl here ↦ ap (λ b. b || list_any q xs) (weaker x here)
-    | inr there ↦ or_right (q x) (list_any q xs) (any_weaker p q xs weaker there)
-  ]
+  | inl here ↦ ap (λ b. b || list_any q xs) (weaker x here)
+  | inr there ↦ or_right (q x) (list_any q xs) (any_weaker p q xs weaker there)
+]
 
 -- a test that no element passes
 any_none : (p : ℕ → Bool) (xs : List ℕ) → ((i : ℕ) → i < length xs → p (get_or xs i 0) ≡ false) → list_any p xs ≡ false
@@ -45,9 +45,9 @@ module _ (graph : List (List ℕ)) where
   reaches-suc : (n target x : ℕ) → reaches graph n target x ≡ true → reaches graph (suc n) target x ≡ true
   reaches-suc zero target x e = ap (λ b. b || list_any (reaches graph zero target) (next graph x)) e
   reaches-suc (suc n) target x e = elim (or_cases (nat_eq x target) (list_any (reaches graph n target) (next graph x)) e) [
-      | inl here ↦ ap (λ b. b || list_any (reaches graph (suc n) target) (next graph x)) here
-      | inr there ↦ or_right (nat_eq x target) (list_any (reaches graph (suc n) target) (next graph x)) (any_weaker (reaches graph n target) (reaches graph (suc n) target) (next graph x) (λ y f. reaches-suc n target y f) there)
-    ]
+    | inl here ↦ ap (λ b. b || list_any (reaches graph (suc n) target) (next graph x)) here
+    | inr there ↦ or_right (nat_eq x target) (list_any (reaches graph (suc n) target) (next graph x)) (any_weaker (reaches graph n target) (reaches graph (suc n) target) (next graph x) (λ y f. reaches-suc n target y f) there)
+  ]
 
   pub reaches-at_most : (more n target x : ℕ) → reaches graph n target x ≡ true → reaches graph (more + n) target x ≡ true
   reaches-at_most zero n target x e = rw zero-add e
@@ -60,18 +60,18 @@ module _ (graph : List (List ℕ)) where
       let same : start ≡ x = nat_eq_is start x e in
       subst (λ z. reaches graph 1 y z ≡ true) (sym same) (or_right (nat_eq x y) (list_any (reaches graph zero y) (next graph x)) (list_any_at (reaches graph zero y) (next graph x) i 0 h (reaches-same zero y)))
   reaches-more (suc n) x start i h e = elim (or_cases (nat_eq start x) (list_any (reaches graph n x) (next graph start)) e) [
-      | inl here ↦
-          let y = get_or (next graph x) i 0 in
-          let same : start ≡ x = nat_eq_is start x here in
-          subst (λ z. reaches graph (suc (suc n)) y z ≡ true) (sym same) (or_right (nat_eq x y) (list_any (reaches graph (suc n) y) (next graph x)) (list_any_at (reaches graph (suc n) y) (next graph x) i 0 h (reaches-same (suc n) y)))
-      | inr there ↦
-          let y = get_or (next graph x) i 0 in
-          or_right (nat_eq start y) (list_any (reaches graph (suc n) y) (next graph start)) (any_weaker (reaches graph n x) (reaches graph (suc n) y) (next graph start) (λ z f. reaches-more n x z i h f) there)
-    ]
+    | inl here ↦
+        let y = get_or (next graph x) i 0 in
+        let same : start ≡ x = nat_eq_is start x here in
+        subst (λ z. reaches graph (suc (suc n)) y z ≡ true) (sym same) (or_right (nat_eq x y) (list_any (reaches graph (suc n) y) (next graph x)) (list_any_at (reaches graph (suc n) y) (next graph x) i 0 h (reaches-same (suc n) y)))
+    | inr there ↦
+        let y = get_or (next graph x) i 0 in
+        or_right (nat_eq start y) (list_any (reaches graph (suc n) y) (next graph start)) (any_weaker (reaches graph n x) (reaches graph (suc n) y) (next graph start) (λ z f. reaches-more n x z i h f) there)
+  ]
 
   -- what is closed under edges reaches only its own
   pub reaches-closed : (P : ℕ → Type 0) (target : ℕ) → ((x : ℕ) → P x → x ≢ target) → ((x : ℕ) → P x → (i : ℕ) → i < length (next graph x) → P (get_or (next graph x) i 0)) → (n x : ℕ) → P x → reaches graph n target x ≡ false
   reaches-closed P target other closed zero x p = nat_eq_other x target (other x p)
   reaches-closed P target other closed (suc n) x p =
       or_none (nat_eq x target) (list_any (reaches graph n target) (next graph x)) (nat_eq_other x target (other x p))
-        (any_none (reaches graph n target) (next graph x) (λ i h. reaches-closed P target other closed n (get_or (next graph x) i 0) (closed x p i h)))
+      (any_none (reaches graph n target) (next graph x) (λ i h. reaches-closed P target other closed n (get_or (next graph x) i 0) (closed x p i h)))

@@ -23,9 +23,9 @@ seen_new seen node h = grind (arith, common_steps)
 -- what is seen then is the node or was seen
 seen_which : (seen : List Bool) (node x : ℕ) → IsSeen (set seen node true) x → (x ≡ node) ⊎ IsSeen seen x
 seen_which seen node x e = elim (cases_eq x node) [
-    | inl same ↦ inl same
-    | inr other ↦ inr (sym (get_or-set_other seen node x true false other) ∙ e)
-  ]
+  | inl same ↦ inl same
+  | inr other ↦ inr (sym (get_or-set_other seen node x true false other) ∙ e)
+]
 
 counted_step : (seen : List Bool) (node : ℕ) → node < length seen → get_or seen node false ≡ false → count_by (λ flag. flag) (set seen node true) ≡ count_by (λ flag. flag) seen + 1
 counted_step seen node h e = grind (arith, common_steps, sum_by-set (λ (flag : Bool). cond flag 1 0) seen node true false h)
@@ -33,9 +33,9 @@ counted_step seen node h e = grind (arith, common_steps, sum_by-set (λ (flag : 
 -- what is seen is a node
 seen_within : (seen : List Bool) (x : ℕ) → IsSeen seen x → x < length seen
 seen_within seen x e = elim (cases_lt x (length seen)) [
-    | inl below ↦ below
-    | inr above ↦ absurd (false≢true (sym (get_or_past seen x false above) ∙ e))
-  ]
+  | inl below ↦ below
+  | inr above ↦ absurd (false≢true (sym (get_or_past seen x false above) ∙ e))
+]
 
 -- the queue with one more
 queue_front : (queue : List ℕ) (node k : ℕ) → k < length queue → get_or (queue ++ node ∷ []) k 0 ≡ get_or queue k 0
@@ -50,26 +50,26 @@ queue_longer queue node = grind (arith, common_steps)
 module _ (graph : List (List ℕ)) (start target turn most : ℕ) (seen : List Bool) (queue : List ℕ) (node : ℕ) (within : node < length seen) (fresh : get_or seen node false ≡ false) (before : turn ≤ length queue) (is_reached : reaches graph most node start ≡ true) (s : Search graph start target turn most seen queue) where
   new_queued : (k : ℕ) → k < length (queue ++ node ∷ []) → IsSeen (set seen node true) (get_or (queue ++ node ∷ []) k 0)
   new_queued k h = elim (cases_lt k (length queue)) [
-      | inl below ↦ ap (λ x. get_or (set seen node true) x false) (queue_front queue node k below) ∙ seen_kept seen node (get_or queue k 0) (s.queued k below)
-      | inr above ↦
-          let last : k ≡ length queue = omega (arith, queue_longer queue node) in
-          ap (λ j. get_or (set seen node true) (get_or (queue ++ node ∷ []) j 0) false) last ∙ ap (λ x. get_or (set seen node true) x false) (queue_last queue node) ∙ seen_new seen node within
-    ]
+    | inl below ↦ ap (λ x. get_or (set seen node true) x false) (queue_front queue node k below) ∙ seen_kept seen node (get_or queue k 0) (s.queued k below)
+    | inr above ↦
+        let last : k ≡ length queue = omega (arith, queue_longer queue node) in
+        ap (λ j. get_or (set seen node true) (get_or (queue ++ node ∷ []) j 0) false) last ∙ ap (λ x. get_or (set seen node true) x false) (queue_last queue node) ∙ seen_new seen node within
+  ]
 
   new_reached : (x : ℕ) → IsSeen (set seen node true) x → reaches graph most x start ≡ true
   new_reached x e = elim (seen_which seen node x e) [
-      | inl same ↦ ap (λ y. reaches graph most y start) same ∙ is_reached
-      | inr old ↦ s.reached x old
-    ]
+    | inl same ↦ ap (λ y. reaches graph most y start) same ∙ is_reached
+    | inr old ↦ s.reached x old
+  ]
 
   new_waits : (x : ℕ) → IsSeen (set seen node true) x → Waits turn (queue ++ node ∷ []) x ⊎ ((x ≢ target) × IsPassed graph (set seen node true) x)
   new_waits x e = elim (seen_which seen node x e) [
-      | inl same ↦ inl (length queue, before, omega (arith, queue_longer queue node), queue_last queue node ∙ sym same)
-      | inr old ↦ elim (s.waits x old) [
-          | inl w ↦ inl (w.0, w.1, omega (arith, w.2, queue_longer queue node), queue_front queue node w.0 w.2 ∙ w.3)
-          | inr p ↦ inr (p.0, λ i h. seen_kept seen node (get_or (next graph x) i 0) (p.1 i h))
-        ]
+    | inl same ↦ inl (length queue, before, omega (arith, queue_longer queue node), queue_last queue node ∙ sym same)
+    | inr old ↦ elim (s.waits x old) [
+      | inl w ↦ inl (w.0, w.1, omega (arith, w.2, queue_longer queue node), queue_front queue node w.0 w.2 ∙ w.3)
+      | inr p ↦ inr (p.0, λ i h. seen_kept seen node (get_or (next graph x) i 0) (p.1 i h))
     ]
+  ]
 
   new_search : Search graph start target turn most (set seen node true) (queue ++ node ∷ [])
   new_search = record {
@@ -130,18 +130,18 @@ saw_more nodes i seen mid after queue longer longest h first last = record {
   each = λ k b.
       let at = front_at nodes (i + 1) k (omega arith) b in
       subst (λ x. IsSeen after x) (sym at.1) (elim (cases_lt k i) [
-          | inl below ↦
-              let short : k < length (take i nodes) = omega (arith, length-take i nodes) in
-              last.kept (get_or nodes k 0) (subst (λ x. IsSeen mid x) (front_at nodes i k (omega arith) short).1 (first.each k short))
-          | inr above ↦ let same : i ≡ k = omega (arith, at.0) in subst (λ j. IsSeen after (get_or nodes j 0)) same (last.each 0 (omega arith))
-        ]);
+        | inl below ↦
+            let short : k < length (take i nodes) = omega (arith, length-take i nodes) in
+            last.kept (get_or nodes k 0) (subst (λ x. IsSeen mid x) (front_at nodes i k (omega arith) short).1 (first.each k short))
+        | inr above ↦ let same : i ≡ k = omega (arith, at.0) in subst (λ j. IsSeen after (get_or nodes j 0)) same (last.each 0 (omega arith))
+      ]);
   search = λ graph start target turn most before reached s.
       let all : (k : ℕ) → k < i + 1 → reaches graph most (get_or nodes k 0) start ≡ true = λ k b.
-            let short : k < length (take (i + 1) nodes) = omega (arith, length-take (i + 1) nodes) in
-            subst (λ x. reaches graph most x start ≡ true) (front_at nodes (i + 1) k (omega arith) short).1 (reached k short)
-          in
+      let short : k < length (take (i + 1) nodes) = omega (arith, length-take (i + 1) nodes) in
+      subst (λ x. reaches graph most x start ≡ true) (front_at nodes (i + 1) k (omega arith) short).1 (reached k short)
+      in
       last.search graph start target turn most (omega (arith, first.grows)) (λ k b. let zero_at : 0 ≡ k = omega arith in subst (λ j. reaches graph most (get_or (get_or nodes i 0 ∷ []) j 0) start ≡ true) zero_at (all i (omega arith)))
-        (first.search graph start target turn most before (λ k b. let at = front_at nodes i k (omega arith) b in subst (λ x. reaches graph most x start ≡ true) (sym at.1) (all k (omega (arith, at.0)))) s);
+      (first.search graph start target turn most before (λ k b. let at = front_at nodes i k (omega arith) b in subst (λ x. reaches graph most x start ≡ true) (sym at.1) (all k (omega (arith, at.0)))) s);
 }
 
 -- all nodes
@@ -174,13 +174,13 @@ module _ (graph : List (List ℕ)) (start target turn : ℕ) (seen after : List 
   search_turn other saw =
       let here = get_or queue turn 0 in
       let started : Search graph start target turn (turn + 1) seen queue = record {
-            room = s.room;
-            counted = s.counted;
-            queued = s.queued;
-            reached = λ x e. one_more x (s.reached x e);
-            waits = s.waits;
-          }
-          in
+        room = s.room;
+        counted = s.counted;
+        queued = s.queued;
+        reached = λ x e. one_more x (s.reached x e);
+        waits = s.waits;
+      }
+      in
       let next_reached : (k : ℕ) → k < length (next graph here) → reaches graph (turn + 1) (get_or (next graph here) k 0) start ≡ true = λ k b. subst (λ n. reaches graph n (get_or (next graph here) k 0) start ≡ true) (sym (add-one turn)) (reaches-more graph turn here start k b (s.reached here (s.queued turn before))) in
       let seen_all : Search graph start target turn (turn + 1) after longer = saw.search graph start target turn (turn + 1) (omega arith) next_reached started in
       record {
@@ -189,14 +189,14 @@ module _ (graph : List (List ℕ)) (start target turn : ℕ) (seen after : List 
         queued = seen_all.queued;
         reached = seen_all.reached;
         waits = λ x e. elim (seen_all.waits x e) [
-            | inl w ↦ elim (cases_eq w.0 turn) [
-                | inl same ↦
-                    let is_here : x ≡ here = sym w.3 ∙ (ap (λ k. get_or longer k 0) same ∙ saw.front turn before) in
-                    inr (λ met. other (sym is_here ∙ met), subst (λ y. IsPassed graph after y) (sym is_here) saw.each)
-                | inr apart ↦ inl (w.0, omega (arith, w.1, apart), w.2, w.3)
-              ]
-            | inr p ↦ inr p
-          ];
+          | inl w ↦ elim (cases_eq w.0 turn) [
+            | inl same ↦
+                let is_here : x ≡ here = sym w.3 ∙ (ap (λ k. get_or longer k 0) same ∙ saw.front turn before) in
+                inr (λ met. other (sym is_here ∙ met), subst (λ y. IsPassed graph after y) (sym is_here) saw.each)
+            | inr apart ↦ inl (w.0, omega (arith, w.1, apart), w.2, w.3)
+          ]
+          | inr p ↦ inr p
+        ];
       }
     where
       one_more : (x : ℕ) → reaches graph turn x start ≡ true → reaches graph (turn + 1) x start ≡ true
@@ -209,9 +209,9 @@ search_over graph start target turn seen queue s over e =
   where
     passed : (x : ℕ) → IsSeen seen x → (x ≢ target) × IsPassed graph seen x
     passed x h = elim (s.waits x h) [
-        | inl w ↦ absurd (omega (arith, w.1, w.2))
-        | inr p ↦ p
-      ]
+      | inl w ↦ absurd (omega (arith, w.1, w.2))
+      | inr p ↦ p
+    ]
 
 -- the target is reached where it is met
 pub search_found : (graph : List (List ℕ)) (start target turn : ℕ) (seen : List Bool) (queue : List ℕ) → Search graph start target turn turn seen queue → turn < length queue → turn < length graph → get_or queue turn 0 ≡ target → reaches graph (length graph) target start ≡ true
@@ -231,4 +231,4 @@ length_held graph = simp length-map
 pub search_begun : (graph : List (List ℕ)) (start target : ℕ) (seen after : List Bool) (queue longer : List ℕ) → seen ≡ replicate (length graph) false → queue ≡ [] → Saw (start ∷ []) seen after queue longer → Search graph start target 0 0 after longer
 search_begun graph start target seen after queue longer e f saw =
     saw.search graph start target 0 0 (omega arith) (λ k b. let zero_at : 0 ≡ k = omega arith in subst (λ j. reaches graph 0 (get_or (start ∷ []) j 0) start ≡ true) zero_at (reaches-same graph 0 start))
-      (subst (λ q. Search graph start target 0 0 seen q) (sym f) (subst (λ s. Search graph start target 0 0 s []) (sym e) (search_none graph start target)))
+    (subst (λ q. Search graph start target 0 0 seen q) (sym f) (subst (λ s. Search graph start target 0 0 s []) (sym e) (search_none graph start target)))

@@ -103,11 +103,7 @@ pub fn order(alloc: Global, graph: &[Vec<usize>]) -> Result<Vec<usize>, AllocErr
 }
 
 // One edge less is open for each of these nodes, and a node with none left comes next.
-fn close(
-    open: &mut Vec<usize>,
-    order: &mut Vec<usize>,
-    users: &[usize],
-) -> Result<(), AllocError> {
+fn close(open: &mut Vec<usize>, order: &mut Vec<usize>, users: &[usize]) -> Result<(), AllocError> {
     for user in users {
         if let Some(count) = open.get_mut(*user) {
             *count = count.saturating_sub(1);

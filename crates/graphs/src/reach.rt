@@ -49,11 +49,7 @@ pub fn edges<'a>(graph: &'a [Vec<usize>], node: usize) -> &'a [usize]
 }
 
 // These nodes wait in the queue, unless they were seen before.
-fn see_all(
-    seen: &mut Vec<bool>,
-    queue: &mut Vec<usize>,
-    nodes: &[usize],
-) -> Result<(), AllocError>
+fn see_all(seen: &mut Vec<bool>, queue: &mut Vec<usize>, nodes: &[usize]) -> Result<(), AllocError>
     requires { (k : ℕ) → k < length nodes.now → slice_index nodes.now k < vec_len seen.old }
     ensures { OnOk result (Saw nodes.now seen.old.items seen.new.items queue.old.items queue.new.items) }
 {

@@ -1,10 +1,11 @@
 -- Steps over lists.
-use Rattle.std.proofs.Common.{◌≡◌, ℕ, ◌+◌, ◌<◌, ◌≤◌, Option, Bool, true, false, cond, List, [], ◌∷◌, ◌++◌, map, drop, length, get_or, refl, ap, sym, ◌∙◌, arith}
+use Rattle.std.proofs.Common.{◌≡◌, ℕ, ◌+◌, ◌<◌, ◌≤◌, Option, Bool, true, false, cond, List, [], ◌∷◌, ◌++◌, map, drop, length, get_or, refl, ap, sym, ◌∙◌, arith, suc, add-one, drop-cons}
 use Rattle.std.specs.Prelude.{Some, None, fold, flat_map, min, nat_le}
 use Rattle.std.specs.List.{filter_map}
 use Rattle.std.proofs.lemmas.Bool.Decides.{nat_tests}
 use Rattle.std.proofs.lemmas.List.{append-nil, append_assoc, map-append}
 use Rattle.std.proofs.lemmas.List.Sums.{fold-append}
+use Rattle.std.proofs.lemmas.List.Elements.{filter_map-append}
 use Rattle.std.proofs.lemmas.Grind.{flat_map-append}
 use Rattle.name_index.specs.Position.{position}
 use Rattle.name_index.proofs.Finding.{position-within}
@@ -23,9 +24,6 @@ used_in-cons (names_type word) mentions = refl
 used_in-cons (lists_constants words) mentions = refl
 used_in-cons (has_fields words) mentions = refl
 
-pub filter_map-append : (f : Name → Option ℕ) (xs ys : List Name) → filter_map f (xs ++ ys) ≡ filter_map f xs ++ filter_map f ys
-filter_map-append f xs ys = ?
-
 -- a place that is not before the first changes nothing
 pub least-kept : (first : Option ℕ) (found : Bool) (at : ℕ) → is_at_most first at ≡ true → least_from first (place_if found at) ≡ first
 least-kept None found at e = cc
@@ -38,5 +36,14 @@ least-found first false at e is = cc
 least-found None true at e is = refl
 least-found (Some g) true at e is = let h : min at g ≡ at = grind (arith, nat_tests) in ap Some h
 
+-- one element more in a loop
+pub least-turn : {A B : Type 0} (f : B → List ℕ) (t : A → B) (xs : List A) (i : ℕ) (x : A) (first least start : Option ℕ) → i < length xs → x ≡ get_or xs i x → least ≡ least_from first (f (t x))
+    → least_from first (flat_map f (map t (drop i xs))) ≡ start → least_from least (flat_map f (map t (drop (i + 1) xs))) ≡ start
+least-turn {A} f t xs i x first least start h at is e =
+    let rest : drop i xs ≡ x ∷ drop (i + 1) xs = drop-cons xs i x h ∙ ap (λ (y : A). y ∷ drop (suc i) xs) (sym at) ∙ ap (λ k. x ∷ drop k xs) (sym (add-one i)) in
+    let parts = fold-append (λ (o : Option ℕ) (at : ℕ). Some (first_place at o)) first (f (t x)) (flat_map f (map t (drop (i + 1) xs))) in
+    ap (λ o. least_from o (flat_map f (map t (drop (i + 1) xs)))) is ∙ sym parts ∙ sym (ap (λ l. least_from first (flat_map f (map t l))) rest) ∙ e
+
 pub ruleset steps = (append-nil, append_assoc, map-append, fold-append, flat_map-append, used_in-cons, filter_map-append)
+
 pub ruleset firsts = (least-kept, least-found, position-within)

@@ -1,5 +1,5 @@
 -- A module that contains itself, found in the graph of the modules and their instances.
-use Rattle.std.specs.Prelude.{ℕ, List, [], ◌∷◌, ◌++◌, map, flat_map, fold, length, Option, Some, None, Bool, false, nat_le}
+use Rattle.std.specs.Prelude.{ℕ, List, [], ◌∷◌, ◌++◌, map, flat_map, fold, length, Option, Some, None, Bool, false, nat_le, option_map}
 use Rattle.std.specs.List.{filter_map}
 use Rattle.name_index.specs.Position.{position}
 use Rattle.graphs.specs.Graph.{reaches}
@@ -15,6 +15,10 @@ use Rattle.smv_inst.specs.FirstFault.{first_of, faults_at}
 -- the first fault of a module that contains itself, at an instance from whose module its own is reached
 abbrev pub first_recursion : Text → Option Fault
 first_recursion text = first_of (faults_at (10, flat_map (recursive_in (pieces text)) (pieces text)))
+
+-- the fault at a place
+abbrev pub recursion_at : Option ℕ → Option Fault
+recursion_at at = option_map (λ (at : ℕ). record { number = 10; at = at }) at
 
 -- the least of a place and others
 abbrev pub least_from : Option ℕ → List ℕ → Option ℕ

@@ -1,5 +1,5 @@
 // A module that contains itself.
-ghost use Rattle.std.specs.Prelude.{◌≡◌, ℕ, ◌<◌, [], ◌∷◌, ◌++◌, map, flat_map, length, List, Option, OnOk, IfOk, IfSome};
+ghost use Rattle.std.specs.Prelude.{◌≡◌, ℕ, ◌<◌, [], ◌∷◌, ◌++◌, map, flat_map, length, List, Option, None, OnOk, IfOk, IfSome};
 ghost use Rattle.std.specs.List.{filter_map};
 ghost use Rattle.name_index.specs.Position.{position};
 ghost use Rattle.graphs.specs.Graph.{lists, IsGraph};
@@ -7,7 +7,7 @@ ghost use Rattle.graphs.specs.Ranks.{Descends};
 ghost use Rattle.smv_inst.specs.Said.{AreNoted, said, told};
 ghost use Rattle.smv_inst.specs.NameFaults.{used_in};
 ghost use Rattle.smv_size.specs.Recursion as spec;
-ghost use Rattle.smv_size.specs.Recursion.{first_recursion, least_from, module_graph, names_told, places_used, recursive_at, recursive_told};
+ghost use Rattle.smv_size.specs.Recursion.{first_recursion, recursion_at, least_from, module_graph, names_told, places_used, recursive_at, recursive_told};
 
 use graphs::ranks;
 use name_index::NameIndex;
@@ -29,20 +29,46 @@ pub fn recursion_fault(
 {
     let _ = text;
     let at = first_recursive(alloc, pieces)?;
-    Ok(at.map(|at| Fault { number: 10, at }))
+    Ok(fault_at(at))
+}
+
+// The fault at a place.
+fn fault_at(at: Option<u32>) -> Option<Fault>
+    ensures { result ≡ recursion_at at }
+{
+    match at {
+        None => None,
+        Some(at) => Some(Fault { number: 10, at }),
+    }
 }
 
 // The least place of an instance on a cycle.
-#[tactic(auto, using(crate::proofs::Steps::steps))]
 fn first_recursive(alloc: Global, pieces: &[Piece]) -> Result<Option<u32>, AllocError>
     ensures { IfOk result (λ at. at ≡ spec.least_recursive (map told pieces.now)) }
 {
     let names = names(alloc, pieces)?;
     let graph = graph(alloc, &names, pieces)?;
     let ranks = ranks::ranks(alloc, graph.as_slice())?;
+    first_in_all(alloc, &names, graph.as_slice(), ranks.as_slice(), pieces)
+}
+
+// The same, with the names, the graph and its ranks.
+#[tactic(auto, using(crate::proofs::Steps::steps))]
+fn first_in_all(
+    alloc: Global,
+    names: &NameIndex,
+    graph: &[Vec<usize>],
+    ranks: &[usize],
+    pieces: &[Piece],
+) -> Result<Option<u32>, AllocError>
+    requires edges { IsGraph (lists graph.now) }
+    requires ranks { Descends (lists graph.now) ranks.now }
+    requires nodes { length names.now ≡ length graph.now }
+    ensures { IfOk result (λ at. at ≡ least_from None (flat_map (recursive_told names.now (lists graph.now)) (map told pieces.now))) }
+{
     let mut first = None;
     for piece in pieces {
-        first = first_in(alloc, &names, graph.as_slice(), ranks.as_slice(), piece, first)?;
+        first = first_in(alloc, names, graph, ranks, piece, first)?;
     }
     Ok(first)
 }
@@ -61,11 +87,7 @@ fn names<'a>(alloc: Global, pieces: &[Piece<'a>]) -> Result<NameIndex<'a>, Alloc
 
 // An edge from each module to those of its instances.
 #[tactic(auto, using(crate::proofs::Steps::steps))]
-fn graph(
-    alloc: Global,
-    names: &NameIndex,
-    pieces: &[Piece],
-) -> Result<Vec<Vec<usize>>, AllocError>
+fn graph(alloc: Global, names: &NameIndex, pieces: &[Piece]) -> Result<Vec<Vec<usize>>, AllocError>
     ensures { IfOk result (λ graph. lists graph.items ≡ module_graph names.now (map told pieces.now)) }
 {
     let mut graph = Vec::new(alloc);
@@ -103,11 +125,7 @@ fn instances(
 
 // The module of an instance.
 #[tactic(auto, using(crate::proofs::Steps::steps))]
-fn note(
-    places: &mut Vec<usize>,
-    names: &NameIndex,
-    mention: &Mention,
-) -> Result<(), AllocError>
+fn note(places: &mut Vec<usize>, names: &NameIndex, mention: &Mention) -> Result<(), AllocError>
     ensures { OnOk result (places.new.items ≡ places.old.items ++ filter_map (position names.now) (used_in (said mention.now ∷ []))) }
 {
     if let Mention::Instantiates { module, .. } = mention

@@ -9,7 +9,7 @@ use Rattle.graphs.proofs.reach.reaches.Goals as goal
 pub loop-turn-init : goal.loop-turn-init
 loop-turn-init c = record {
   search = search_begun (lists c.args.graph.now) c.args.start c.args.target c.in_ok-seen.seen.items c.see.new.seen.items c.new-queue.result.items c.see.new.queue.items
-    (c.in_ok-seen.ensures ∙ ap (λ n. replicate n false) (sym (length_held c.args.graph.now))) c.new-queue.ensures.items c.in_ok-see.ensures;
+      (c.in_ok-seen.ensures ∙ ap (λ n. replicate n false) (sym (length_held c.args.graph.now))) c.new-queue.ensures.items c.in_ok-see.ensures;
   begun = c.in_ok-see.ensures.each 0 (omega arith);
 }
 
@@ -17,7 +17,7 @@ pub returns-then-turn-len : goal.returns-then-turn-len
 returns-then-turn-len c =
     let graph = lists c.args.graph.now in
     sym (search_over graph c.args.start c.args.target c.loop-turn.turn c.loop-turn.seen.items c.loop-turn.queue.items c.loop-turn.invariant.search (omega (arith, c.loop-turn.queue.ok.0)) c.loop-turn.invariant.begun)
-     ∙ ap (λ n. reaches graph n c.args.target c.args.start) (length_held c.args.graph.now)
+    ∙ ap (λ n. reaches graph n c.args.target c.args.start) (length_held c.args.graph.now)
 
 pub returns-then-node-target : goal.returns-then-node-target
 returns-then-node-target c =
@@ -26,7 +26,7 @@ returns-then-node-target c =
     let before : c.loop-turn.turn < length c.loop-turn.queue.items = omega (arith, c.loop-turn.queue.ok.0) in
     let node = get_or_read c.loop-turn.queue.items c.loop-turn.turn c.index-node.result.now before c.index-node.ensures 0 in
     sym (search_found graph c.args.start c.args.target c.loop-turn.turn c.loop-turn.seen.items c.loop-turn.queue.items c.loop-turn.invariant.search before few (sym node ∙ c.if-node-target.true))
-     ∙ ap (λ n. reaches graph n c.args.target c.args.start) (length_held c.args.graph.now)
+    ∙ ap (λ n. reaches graph n c.args.target c.args.start) (length_held c.args.graph.now)
 
 pub edges-requires : goal.edges-requires
 edges-requires c =
@@ -49,7 +49,7 @@ loop-turn-preserved c =
     let saw = subst (λ l. Saw l c.loop-turn.seen.items c.see_all.new.seen.items c.loop-turn.queue.items c.see_all.new.queue.items) (c.edges.ensures ∙ ap (λ x. next graph x) node) c.in_ok-see_all.ensures in
     record {
       search = search_turn graph c.args.start c.args.target c.loop-turn.turn c.loop-turn.seen.items c.see_all.new.seen.items c.loop-turn.queue.items c.see_all.new.queue.items before c.loop-turn.invariant.search
-        (λ met. c.if-node-target.false (node ∙ met)) saw;
+          (λ met. c.if-node-target.false (node ∙ met)) saw;
       begun = saw.kept c.args.start c.loop-turn.invariant.begun;
     }
 
@@ -59,4 +59,4 @@ returns c =
     let s = c.loop-turn.invariant.search in
     let over : length c.loop-turn.queue.items ≤ c.loop-turn.turn = omega (arith, s.counted, count_by-le-length (λ flag. flag) c.loop-turn.seen.items, s.room, length_held c.args.graph.now) in
     sym (search_over graph c.args.start c.args.target c.loop-turn.turn c.loop-turn.seen.items c.loop-turn.queue.items s over c.loop-turn.invariant.begun)
-     ∙ ap (λ n. reaches graph n c.args.target c.args.start) (length_held c.args.graph.now)
+    ∙ ap (λ n. reaches graph n c.args.target c.args.start) (length_held c.args.graph.now)

@@ -11,7 +11,7 @@ loop-node-init c = saw_none c.args.seen.now.items c.args.queue.now.items
 pub loop-node-preserved : goal.loop-node-preserved
 loop-node-preserved c =
     saw_more c.args.nodes.now c.loop-node.node-index c.args.seen.now.items c.loop-node.seen.items c.see.new.seen.items c.args.queue.now.items c.loop-node.queue.items c.see.new.queue.items
-      c.loop-node-test.true c.loop-node.invariant c.in_ok-see.ensures
+    c.loop-node-test.true c.loop-node.invariant c.in_ok-see.ensures
 
 pub returns : goal.returns
 returns c = saw_all c.args.nodes.now c.loop-node.node-index c.args.seen.now.items c.loop-node.seen.items c.args.queue.now.items c.loop-node.queue.items c.loop-node-test.false c.loop-node.invariant
