@@ -2,3 +2,4 @@
 #![tactic(auto)]
 
 pub mod recursion;
+pub mod statements;
