@@ -25,10 +25,10 @@ use Rattle.smv_size.specs.Recursion.{first_recursion, recursion_at, least_from, 
 
 -- ---- places of names
 
-bytes_eq-is : (a b : Name) → bytes_eq a b ≡ true → a ≡ b
+pub bytes_eq-is : (a b : Name) → bytes_eq a b ≡ true → a ≡ b
 bytes_eq-is a b e = (bytes_eq-Decides a b).0 e
 
-bytes_eq-same : (a b : Name) → a ≡ b → bytes_eq a b ≡ true
+pub bytes_eq-same : (a b : Name) → a ≡ b → bytes_eq a b ≡ true
 bytes_eq-same a b e = (bytes_eq-Decides a b).1 e
 
 bytes_eq-other : (a b : Name) → (bytes_eq a b ≡ true → ⊥) → bytes_eq a b ≡ false
@@ -77,7 +77,7 @@ same_place (x ∷ names) a b t e = by (bytes_eq x a) (bytes_eq x b) refl refl (p
 
 -- ---- tops
 
-abbrev tell : Piece → Told
+abbrev pub tell : Piece → Told
 tell piece = (piece.word, piece.formals, piece.mentions)
 
 tell_of : (known : Known) (top : Top) → tell (piece_of known top) ≡ told_by top
@@ -85,7 +85,7 @@ tell_of known (SetType word ordered span at) = refl
 tell_of known (Alias word of at) = refl
 tell_of known (Module word formals body at) = refl
 
-tell_all : (known : Known) (tops : List Top) → map tell (pieces_from known tops) ≡ map told_by tops
+pub tell_all : (known : Known) (tops : List Top) → map tell (pieces_from known tops) ≡ map told_by tops
 tell_all known [] = refl
 tell_all known (top ∷ tops) = let e = tell_of known top in let f = tell_all (known_after known top) tops in cc
 

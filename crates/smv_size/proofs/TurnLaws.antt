@@ -33,7 +33,7 @@ steps : (from to step bound : ℕ) (closed : Bool) → ((k : ℕ) → k < to + 1
 steps from to step bound closed test =
     passing (λ n. nat_lt n to || (closed && nat_eq n to)) (λ k. from + k * step) bound (to + 1) 0 (λ k h. meets to closed (from + k * step) ∙ test k (omega arith)) ∙ (omega arith)
 
-lt_same : (a b c d : ℕ) → (a < b → c < d) → (c < d → a < b) → nat_lt a b ≡ nat_lt c d
+pub lt_same : (a b c d : ℕ) → (a < b → c < d) → (c < d → a < b) → nat_lt a b ≡ nat_lt c d
 lt_same a b c d there back = by (nat_lt a b) (nat_lt c d) refl refl
   where
     by : (s t : Bool) → nat_lt a b ≡ s → nat_lt c d ≡ t → nat_lt a b ≡ nat_lt c d

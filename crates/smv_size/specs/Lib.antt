@@ -1,2 +1,3 @@
 pub mod Recursion
 pub mod Limits
+pub mod Constants
