@@ -1,14 +1,12 @@
 -- Steps of a search.
-use Rattle.std.proofs.Common.{◌≡◌, ◌≢◌, ℕ, zero, suc, ◌+◌, ◌-◌, ◌<◌, ◌≤◌, ◌⊎◌, inl, inr, Bool, true, false, ◌||◌, List, [], ◌∷◌, ◌++◌, take, length, get_or, replicate, set, count_by, cond, eqb, refl, sym, subst, ap, ◌∙◌, arith, add-one, add_comm, map}
-use Rattle.std.specs.Prelude.{nat_eq}
+use Rattle.std.proofs.Common.{◌≡◌, ◌≢◌, ℕ, ◌+◌, ◌-◌, ◌<◌, ◌≤◌, ◌⊎◌, inl, inr, Bool, true, false, List, [], ◌∷◌, ◌++◌, take, length, get_or, replicate, set, count_by, cond, refl, sym, subst, ap, ◌∙◌, arith, add-one, add_comm}
 use Rattle.std.proofs.lemmas.Grind.{common_steps}
-use Rattle.std.proofs.lemmas.List.Sums.{sum_by-set, count_by-le-length}
+use Rattle.std.proofs.lemmas.List.Sums.{sum_by-set}
 use Rattle.std.proofs.lemmas.List.Folds.{sum_by-replicate}
 use Rattle.std.proofs.lemmas.List.{get_or_past, get_or-map, length-map, length-set, length-replicate, length-take, get_or-take, take_all}
-use Rattle.std.proofs.lemmas.Grind.{get_or-set_at}
 use Rattle.std.proofs.lemmas.Bool.{false≢true, cases_eq, cases_lt}
 use Rattle.std.proofs.lemmas.List.{get_or-set_other}
-use Rattle.graphs.specs.Graph.{next, reaches, IsGraph, lists}
+use Rattle.graphs.specs.Graph.{next, reaches, lists}
 use Rattle.std.specs.Global.{Vec}
 use Rattle.graphs.specs.Search.{IsSeen, Waits, IsPassed, Search, Saw}
 use Rattle.graphs.proofs.ReachLaws.{reaches-closed, reaches-more, reaches-at_most, reaches-same}

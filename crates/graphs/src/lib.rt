@@ -3,3 +3,5 @@
 
 pub mod ranks;
 pub mod reach;
+#[cfg(test)]
+mod tests;

@@ -1,4 +1,4 @@
-use Rattle.std.proofs.Common.{length, sym, subst, arith, ◌<◌}
+use Rattle.std.proofs.Common.{length, sym, arith, ◌<◌}
 use Rattle.graphs.specs.Graph.{lists}
 use Rattle.graphs.specs.Ranks.{rank}
 use Rattle.graphs.proofs.RankLaws.{none_higher}

@@ -1,8 +1,8 @@
-use Rattle.std.proofs.Common.{ℕ, ◌≡◌, ◌<◌, ◌≤◌, List, length, replicate, count_by, true, false, get_or, sym, ap, subst, ◌∙◌, arith}
+use Rattle.std.proofs.Common.{◌≡◌, ◌<◌, ◌≤◌, length, replicate, false, get_or, sym, ap, subst, ◌∙◌, arith}
 use Rattle.std.proofs.lemmas.List.{get_or_read}
 use Rattle.std.proofs.lemmas.List.Sums.{count_by-le-length}
 use Rattle.graphs.specs.Graph.{lists, next, reaches}
-use Rattle.graphs.specs.Search.{IsSeen, Search, Saw}
+use Rattle.graphs.specs.Search.{Saw}
 use Rattle.graphs.proofs.SearchLaws.{search_begun, search_turn, search_over, search_found, turn_within, length_held}
 use Rattle.graphs.proofs.reach.reaches.Goals as goal
 

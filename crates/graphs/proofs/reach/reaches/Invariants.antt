@@ -1,4 +1,3 @@
-use Rattle.std.proofs.Common.{◌≡◌}
 use Rattle.graphs.specs.Graph.{lists}
 use Rattle.graphs.specs.Search.{Search, IsSeen}
 use Rattle.graphs.proofs.reach.reaches.Given as goal
