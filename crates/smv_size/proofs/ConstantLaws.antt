@@ -1,12 +1,11 @@
 -- Counting names that are different.
-use Rattle.std.proofs.Common.{◌≡◌, ℕ, zero, suc, ◌+◌, ◌<◌, ◌≤◌, Option, Bool, true, false, cond, ◌||◌, List, [], ◌∷◌, ◌++◌, map, take, length, length-append, get_or, refl, ap, sym, subst, ◌∙◌, arith}
-use Rattle.std.specs.Prelude.{Some, None, flat_map, is_some, min, nat_lt}
+use Rattle.std.proofs.Common.{◌≡◌, ℕ, ◌+◌, ◌<◌, Bool, true, false, cond, ◌||◌, List, [], ◌∷◌, ◌++◌, map, take, length, length-append, get_or, refl, ap, sym, subst, ◌∙◌, arith}
+use Rattle.std.specs.Prelude.{Some, None, is_some, min, nat_lt}
 use Rattle.smv_size.proofs.TurnLaws.{lt_same}
 use Rattle.std.specs.List.{list_any}
 use Rattle.std.specs.Str.{bytes_eq}
 use Rattle.std.proofs.lemmas.List.{append_assoc, append-nil, map-append}
 use Rattle.std.proofs.lemmas.List.Folds.{list_any-append}
-use Rattle.std.proofs.lemmas.Slice.Eq.{bytes_eq-Decides}
 use Rattle.name_index.specs.Position.{position}
 use Rattle.name_index.proofs.Finding.{position-known}
 use Rattle.smv_core.specs.Values.{Name}

@@ -1,5 +1,5 @@
 -- The graph of the modules says which of them contain themselves.
-use Rattle.std.proofs.Common.{◌≡◌, ◌≢◌, ℕ, zero, suc, ◌+◌, ◌<◌, ◌≤◌, Option, Bool, true, false, cond, ◌||◌, ◌&&◌, List, [], ◌∷◌, ◌++◌, map, length, get_or, refl, ap, sym, subst, ◌∙◌, arith}
+use Rattle.std.proofs.Common.{◌≡◌, ℕ, zero, suc, ◌<◌, Option, Bool, true, false, cond, ◌||◌, ◌&&◌, List, [], ◌∷◌, ◌++◌, map, length, get_or, refl, ap, sym, subst, ◌∙◌, arith}
 use Rattle.std.specs.Prelude.{Some, None, flat_map, min, nat_eq, nat_lt, is_some, option_map, option_and_then, slice_get}
 use Rattle.std.specs.List.{filter_map, cons_option, list_any}
 use Rattle.std.specs.Str.{bytes_eq}
@@ -10,14 +10,13 @@ use Rattle.name_index.specs.Position.{position}
 use Rattle.name_index.proofs.Finding.{position-within, find_name-place}
 use Rattle.graphs.specs.Graph.{reaches, next, IsGraph}
 use Rattle.smv_core.specs.Values.{Name}
-use Rattle.smv_core.specs.Types.{find_name}
 use Rattle.smv_core.specs.declared.fault.Fault.{Fault}
 use Rattle.smv_core.specs.declared.tree.Word.{Word}
 use Rattle.smv_core.specs.declared.tree.Text.{Text}
 use Rattle.smv_core.specs.declared.tree.Top.{Top}
 use Rattle.smv_core.specs.declared.tree.Top.TheVariants.{SetType, Alias, Module}
 use Rattle.smv_inst.specs.Mentions.{Mention, declares, binds, follows, names_type, lists_constants, has_fields, instantiates, first_place}
-use Rattle.smv_inst.specs.Scopes.{Known, known_after, Piece, Body, piece_of, pieces_from, pieces, body_if_module, module_named}
+use Rattle.smv_inst.specs.Scopes.{Known, known_after, Piece, piece_of, pieces_from, pieces, body_if_module, module_named}
 use Rattle.smv_inst.specs.NameFaults.{used_in, used_if_module, contains, recursive, recursive_in, place_if}
 use Rattle.smv_inst.specs.FirstFault.{comes_before, earlier, first_of, faults_at}
 use Rattle.smv_inst.specs.Said.{told_by}

@@ -1,15 +1,12 @@
 -- Steps over lists.
 use Rattle.std.proofs.Common.{◌≡◌, ℕ, ◌+◌, ◌<◌, ◌≤◌, Option, Bool, true, false, cond, List, [], ◌∷◌, ◌++◌, map, drop, length, get_or, refl, ap, sym, ◌∙◌, arith, suc, add-one, drop-cons}
-use Rattle.std.specs.Prelude.{Some, None, fold, flat_map, min, nat_le}
-use Rattle.std.specs.List.{filter_map}
+use Rattle.std.specs.Prelude.{Some, None, flat_map, min}
 use Rattle.std.proofs.lemmas.Bool.Decides.{nat_tests}
 use Rattle.std.proofs.lemmas.List.{append-nil, append_assoc, map-append}
 use Rattle.std.proofs.lemmas.List.Sums.{fold-append}
 use Rattle.std.proofs.lemmas.List.Elements.{filter_map-append}
 use Rattle.std.proofs.lemmas.Grind.{flat_map-append}
-use Rattle.name_index.specs.Position.{position}
 use Rattle.name_index.proofs.Finding.{position-within}
-use Rattle.smv_core.specs.Values.{Name}
 use Rattle.smv_inst.specs.Mentions.{Mention, declares, binds, follows, names_type, lists_constants, has_fields, instantiates, first_place}
 use Rattle.smv_inst.specs.NameFaults.{used_in, place_if}
 use Rattle.smv_size.specs.Recursion.{least_from, is_at_most}

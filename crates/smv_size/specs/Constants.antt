@@ -1,5 +1,5 @@
 -- The constants of all enumerations of a text, by what its tops say.
-use Rattle.std.specs.Prelude.{◌≡◌, ℕ, ◌+◌, List, ◌++◌, map, flat_map, length}
+use Rattle.std.specs.Prelude.{◌≡◌, ◌+◌, List, ◌++◌, map, flat_map, length}
 use Rattle.smv_core.specs.Values.{Name}
 use Rattle.smv_inst.specs.Mentions.{Mention}
 use Rattle.smv_inst.specs.Scopes.{constants_in}

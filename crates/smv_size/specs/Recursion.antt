@@ -1,5 +1,5 @@
 -- A module that contains itself, found in the graph of the modules and their instances.
-use Rattle.std.specs.Prelude.{ℕ, List, [], ◌∷◌, ◌++◌, map, flat_map, fold, length, Option, Some, None, Bool, false, nat_le, option_map}
+use Rattle.std.specs.Prelude.{ℕ, List, [], map, flat_map, fold, length, Option, Some, None, Bool, false, nat_le, option_map}
 use Rattle.std.specs.List.{filter_map}
 use Rattle.name_index.specs.Position.{position}
 use Rattle.graphs.specs.Graph.{reaches}
@@ -8,7 +8,7 @@ use Rattle.smv_core.specs.declared.fault.Fault.{Fault}
 use Rattle.smv_core.specs.declared.tree.Word.{Word}
 use Rattle.smv_core.specs.declared.tree.Text.{Text}
 use Rattle.smv_inst.specs.Mentions.{Mention, instantiates, first_place}
-use Rattle.smv_inst.specs.Scopes.{Piece, pieces}
+use Rattle.smv_inst.specs.Scopes.{pieces}
 use Rattle.smv_inst.specs.NameFaults.{used_in, recursive_in, place_if}
 use Rattle.smv_inst.specs.FirstFault.{first_of, faults_at}
 

@@ -16,11 +16,7 @@ use std::alloc::{AllocError, Global};
 const MOST: usize = 4096;
 
 /// Whether a text has too many constants.
-pub fn too_many_constants(
-    alloc: Global,
-    text: &Text,
-    pieces: &[Piece],
-) -> Result<bool, AllocError>
+pub fn too_many_constants(alloc: Global, text: &Text, pieces: &[Piece]) -> Result<bool, AllocError>
     requires { AreNoted pieces.now text.now }
     ensures { IfOk result (λ many. many ≡ nat_lt 4096 (count_different [] (constant_names text.now))) }
 {
@@ -82,11 +78,7 @@ fn in_words<'a>(
 }
 
 // One constant more, unless it was there before.
-fn note<'a>(
-    names: &mut NameIndex<'a>,
-    total: &mut usize,
-    name: &'a Name,
-) -> Result<(), AllocError>
+fn note<'a>(names: &mut NameIndex<'a>, total: &mut usize, name: &'a Name) -> Result<(), AllocError>
     requires { total.old ≡ min 4097 (length names.old) }
     ensures total { OnOk result (total.new ≡ min 4097 (length names.new)) }
     ensures names { OnOk result (Counts (name.now ∷ []) names.old names.new) }

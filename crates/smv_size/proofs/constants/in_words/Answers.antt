@@ -1,8 +1,7 @@
-use Rattle.std.proofs.Common.{subst, map}
+use Rattle.std.proofs.Common.{subst}
 use Rattle.std.proofs.lemmas.List.{take_all}
 use Rattle.smv_core.specs.Types.{names_of}
-use Rattle.smv_inst.specs.Said.{said}
-use Rattle.smv_size.specs.Constants.{Counts, constants_said}
+use Rattle.smv_size.specs.Constants.{Counts}
 use Rattle.smv_size.proofs.ConstantLaws.{counts-word, counts-none}
 use Rattle.smv_size.proofs.constants.in_words.Goals as goal
 

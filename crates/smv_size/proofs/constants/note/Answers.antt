@@ -1,4 +1,4 @@
-use Rattle.std.proofs.Common.{[], ◌∷◌, ◌++◌, sym, subst, ◌∙◌}
+use Rattle.std.proofs.Common.{[], ◌∷◌, sym, subst, ◌∙◌}
 use Rattle.smv_size.specs.Constants.{Counts}
 use Rattle.smv_size.proofs.ConstantLaws.{counts-known, counts-new}
 use Rattle.smv_size.proofs.constants.note.Goals as goal

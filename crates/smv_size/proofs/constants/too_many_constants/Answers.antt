@@ -18,7 +18,7 @@ pub loop-piece-preserved : goal.loop-piece-preserved
 loop-piece-preserved c = record {
   total = c.in_ok-in_mentions.ensures.total;
   names = counts-piece c.args.pieces.now c.loop-piece.piece-index c.piece-item.result [] c.loop-piece.names c.in_mentions.new.names c.loop-piece-test.true c.piece-item.is c.loop-piece.invariant.names
-    (subst (λ l. Counts (constants_said (map said l)) c.loop-piece.names c.in_mentions.new.names) c.as_slice.ensures.value c.in_ok-in_mentions.ensures.names);
+      (subst (λ l. Counts (constants_said (map said l)) c.loop-piece.names c.in_mentions.new.names) c.as_slice.ensures.value c.in_ok-in_mentions.ensures.names);
 }
 
 pub returns : goal.returns

@@ -1,4 +1,4 @@
-use Rattle.std.proofs.Common.{map, drop, None}
+use Rattle.std.proofs.Common.{map, None}
 use Rattle.std.specs.List.{flat_map}
 use Rattle.graphs.specs.Graph.{lists}
 use Rattle.smv_inst.specs.Said.{told}
