@@ -2,5 +2,6 @@
 #![tactic(auto)]
 
 pub mod constants;
+pub mod place;
 pub mod recursion;
 pub mod statements;
