@@ -1,0 +1,4 @@
+pub mod Recursion
+pub mod Limits
+pub mod Constants
+pub mod Place
