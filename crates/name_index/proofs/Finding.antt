@@ -1,6 +1,6 @@
 -- What a first place says of a list.
-use Rattle.std.proofs.Common.{◌≡◌, ℕ, zero, suc, ◌<◌, Option, Bool, true, false, cond, ◌||◌, List, [], ◌∷◌, map, length, refl, ap, sym, ◌∙◌, arith}
-use Rattle.std.specs.Prelude.{option_map, option_and_then, is_some, Some, None, slice_get, take, nat_lt}
+use Rattle.std.proofs.Common.{◌++◌, ◌≡◌, ℕ, zero, suc, ◌<◌, Option, Bool, true, false, cond, ◌||◌, List, [], ◌∷◌, map, length, refl, ap, sym, ◌∙◌, arith}
+use Rattle.std.specs.Prelude.{zip, option_map, option_and_then, is_some, Some, None, slice_get, take, nat_lt}
 use Rattle.std.specs.List.{list_any}
 use Rattle.std.proofs.lemmas.Bool.Decides.{nat_tests}
 use Rattle.std.specs.Str.{bytes_eq}
@@ -84,3 +84,39 @@ position-known (x ∷ names) name = by (bytes_eq x name) (position names name) �
     by true o = refl
     by false None = refl
     by false (Some i) = refl
+
+-- ---- names beside values
+
+-- what stands beside a name is the value at its first place
+pub find_name-zip : {X : Type 0} (names : List Name) (values : List X) (name : Name) → length names ≡ length values
+    → find_name (zip names values) name ≡ option_and_then (λ i. slice_get values i) (position names name)
+find_name-zip [] values name long = refl
+find_name-zip (x ∷ names) [] name long = cc
+find_name-zip {X} (x ∷ names) (v ∷ values) name long = by (bytes_eq x name) (position names name) (find_name-zip names values name (omega arith))
+  where
+    by : (b : Bool) (o : Option ℕ) → find_name (zip names values) name ≡ option_and_then (λ i. slice_get values i) o
+        → cond b (Some v) (find_name (zip names values) name) ≡ option_and_then (λ i. slice_get (v ∷ values) i) (cond b (Some 0) (option_map suc o))
+    by true o rest = refl
+    by false None rest = rest
+    by false (Some j) rest = rest
+
+-- one more pair at the end
+pub zip-push : {X : Type 0} (names : List Name) (values : List X) (name : Name) (v : X) → length names ≡ length values
+    → zip (names ++ name ∷ []) (values ++ v ∷ []) ≡ zip names values ++ (name, v) ∷ []
+zip-push [] [] name v long = refl
+zip-push [] (w ∷ values) name v long = cc
+zip-push (x ∷ names) [] name v long = cc
+zip-push (x ∷ names) (w ∷ values) name v long = ap (λ l. (x, w) ∷ l) (zip-push names values name v (omega arith))
+
+-- the same, where the new lists are known
+pub zip-pushed : {X : Type 0} (names names' : List Name) (values values' : List X) (name : Name) (v : X) (pairs : List (Name × X)) → length names ≡ length values
+    → zip names values ≡ pairs → (names' ≡ names ++ name ∷ []) × (values' ≡ values ++ v ∷ []) → zip names' values' ≡ pairs ++ (name, v) ∷ []
+zip-pushed names names' values values' name v pairs long view new =
+    ap (λ ns. zip ns values') new.0 ∙ ap (λ vs. zip (names ++ name ∷ []) vs) new.1 ∙ zip-push names values name v long ∙ ap (λ l. l ++ (name, v) ∷ []) view
+
+-- what is found at a place that was found
+pub zip-found : {X : Type 0} (names : List Name) (values : List X) (name : Name) (place : Option ℕ) (items : List X) (pairs : List (Name × X)) (found : Option X)
+    → length names ≡ length values → zip names values ≡ pairs → place ≡ position names name → items ≡ values → found ≡ option_and_then (λ i. slice_get items i) place
+    → found ≡ find_name pairs name
+zip-found names values name place items pairs found long view at same is =
+    is ∙ ap (λ l. option_and_then (λ i. slice_get l i) place) same ∙ ap (λ o. option_and_then (λ i. slice_get values i) o) at ∙ sym (find_name-zip names values name long) ∙ ap (λ l. find_name l name) view

@@ -7,6 +7,8 @@ ghost use Rattle.name_index.specs.Position.{position, found_or, noted};
 ghost use Rattle.std.specs.Str.{bytes_eq};
 ghost use Rattle.smv_core.specs.Values.{Name};
 
+pub mod map;
+
 use smv_core::name::Name;
 use std::alloc::{AllocError, Global};
 use std::collections::HashMap;
