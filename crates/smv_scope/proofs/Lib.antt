@@ -1,0 +1,3 @@
+mod FieldLaws
+pub mod Numbers
+pub mod PieceLaws

@@ -1,0 +1,3 @@
+pub mod ScopeFault
+pub mod Numbered
+pub mod Held

@@ -1,0 +1,5 @@
+//! The first fault of a text's scopes: names that are not declared or declared twice, no module `main`, wrong numbers of arguments.
+#![tactic(auto)]
+
+pub mod fields;
+pub mod tables;
