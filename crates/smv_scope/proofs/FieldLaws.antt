@@ -1,5 +1,5 @@
 -- The fields of types that are made of lists and values.
-use Rattle.std.proofs.Common.{◌≡◌, ℕ, List, [], ◌∷◌, Bool, true, false, cond, refl, ap, sym, ◌∙◌}
+use Rattle.std.proofs.Common.{◌≡◌, ℕ, List, [], ◌∷◌, Bool, true, false, cond, ◌≤◌, ◌-◌, zero, suc, length, get_or, drop, take, arith, refl, ap, sym, ◌∙◌}
 use Rattle.std.specs.Prelude.{Option, Some, None, option_map, slice_get}
 use Rattle.smv_core.specs.Types.{find_name}
 use Rattle.smv_core.specs.declared.tree.Word.{Word}
@@ -14,6 +14,8 @@ use Rattle.smv_scope.specs.declared.tables.Led.{Led}
 use Rattle.smv_scope.proofs.Numbers.{named-fields, fields_of_number}
 use Rattle.smv_core.specs.declared.tree.Text.{Text}
 use denote.Ref.{Bor}
+use Rattle.smv_inst.specs.Said.{words_at}
+use Rattle.smv_scope.specs.ScopeFault.{least}
 use Rattle.smv_inst.proofs.Computing.{computing}
 
 module _ (known : Known) where
@@ -74,3 +76,37 @@ module _ (text : Text) (k : ℕ) where
   leads-Struct of fields held is same [] = ap (λ t. fields_of (known_before text k) t []) is
   leads-Struct of fields held is same (word ∷ more) =
       ap (λ t. fields_of (known_before text k) t (word ∷ more)) is ∙ fields-Struct (known_before text k) fields word more ∙ ap (λ l. field_in (known_before text k) l word more) (sym same)
+
+-- ---- names behind a struct
+
+uncons : {A : Type 0} (xs : List A) (x : A) → 1 ≤ length xs → x ≡ get_or xs 0 x → xs ≡ x ∷ drop 1 xs
+uncons [] x h e = absurd (omega arith)
+uncons (y ∷ xs) x h e = ap (λ z. z ∷ xs) (sym e)
+
+take-long : {A : Type 0} (xs : List A) (n : ℕ) → length xs ≤ n → take n xs ≡ xs
+take-long [] zero h = refl
+take-long [] (suc n) h = refl
+take-long (x ∷ xs) zero h = absurd (omega arith)
+take-long (x ∷ xs) (suc n) h = ap (λ l. x ∷ l) (take-long xs n (omega arith))
+
+-- what is left behind a first item
+pub rest-is : {A : Type 0} (xs : List A) → take (length xs - 1) (drop 1 xs) ≡ drop 1 xs
+rest-is [] = refl
+rest-is (x ∷ xs) = take-long xs (suc (length xs) - 1) (omega arith)
+
+module _ (text : Text) (o : Option Led) (led : Led) (same : o ≡ Some led) (words : List (Bor Word)) (w : Bor Word) (long : 1 ≤ length words) (head : w ≡ get_or words 0 w)
+    (found : Option (Bor Field)) (named : option_map (λ (f : Bor Field). f.now) found ≡ field_named led.fields.now w.now.name) where
+  behind-found : fields_led text o (words_at words) ≡ behind_field (known_before text led.place) (option_map (λ (f : Bor Field). f.now) found) w.now (words_at (drop 1 words))
+  behind-found =
+      ap (λ l. fields_led text o (words_at l)) (uncons words w long head) ∙ ap (λ p. fields_led text p (w.now ∷ words_at (drop 1 words))) same
+      ∙ field_in-named (known_before text led.place) led.fields.now w.now (words_at (drop 1 words))
+      ∙ ap (λ p. behind_field (known_before text led.place) p w.now (words_at (drop 1 words))) (sym named)
+
+  pub field-missing : found ≡ None → Some w.now.at ≡ least (fields_led text o (words_at words))
+  field-missing none = sym (ap least (behind-found ∙ ap (λ p. behind_field (known_before text led.place) (option_map (λ (f : Bor Field). f.now) p) w.now (words_at (drop 1 words))) none))
+
+  pub field-there : (field : Bor Field) (of : TypeExpr) (inner : Option Led) (result : Option ℕ) → found ≡ Some field → of ≡ (out-Field field.now).of → LeadsTo text led.place of inner
+      → result ≡ least (fields_led text inner (words_at (drop 1 words))) → result ≡ least (fields_led text o (words_at words))
+  field-there field of inner result some is leads at =
+      at ∙ ap least (sym (leads (words_at (drop 1 words))) ∙ ap (λ t. fields_of (known_before text led.place) t (words_at (drop 1 words))) is
+      ∙ sym (behind-found ∙ ap (λ p. behind_field (known_before text led.place) (option_map (λ (f : Bor Field). f.now) p) w.now (words_at (drop 1 words))) some))

@@ -1,3 +1,4 @@
 mod FieldLaws
 pub mod Numbers
 pub mod PieceLaws
+mod PathLaws

@@ -15,6 +15,7 @@ use Rattle.smv_scope.specs.declared.tables.Own.{Own as HeldOwn}
 use Rattle.smv_scope.specs.declared.tables.Constant.{Constant as HeldConstant}
 use Rattle.smv_scope.specs.declared.tables.Module.{Module as HeldModule}
 use Rattle.smv_scope.specs.declared.tables.Tables.{Tables}
+use Rattle.smv_scope.specs.declared.paths.Inner.{Inner}
 
 -- what is wrong with field names behind a type that leads to this struct or to none
 abbrev pub fields_led : Text → Option Led → Fields
@@ -52,3 +53,7 @@ pub record AreTables (tables : Tables) : Type 0 where
   pub all_led : length tables.structs.items ≡ length tables.text.now.tops
   pub own : map (map own_beside) tables.own.items ≡ map (λ piece. own_names piece.mentions) (pieces tables.text.now)
   pub constants : map (constant_beside tables.lists.items) tables.constants ≡ all_constants (pieces tables.text.now)
+
+-- a name in a module, with the types that this module may name
+abbrev pub inner_of : Text → Inner → Known × Own
+inner_of text inner = (known_before text inner.place, own_of inner.own)

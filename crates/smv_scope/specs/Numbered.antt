@@ -8,8 +8,10 @@ use Rattle.smv_core.specs.declared.tree.Text.{Text}
 use Rattle.smv_core.specs.declared.tree.Top.{Top}
 use Rattle.smv_core.specs.declared.tree.Top.TheVariants.{SetType, Alias, Module}
 use Rattle.smv_core.specs.declared.tree.Field.{Field, out-Field}
+use Rattle.smv_core.specs.declared.tree.Part.{Part, Field as PartField, At}
+use Rattle.smv_core.specs.Types.{find_name}
 use Rattle.smv_inst.specs.Mentions.{Mention}
-use Rattle.smv_inst.specs.Scopes.{Fields, Known, Piece, Scope, known_after, pieces, constants, own_names, no_field, has_name, fields_of, fields_if_type}
+use Rattle.smv_inst.specs.Scopes.{Fields, Known, Piece, Body, Own, Scope, known_after, pieces, constants, own_names, no_field, has_name, fields_of, fields_if_type}
 
 -- what is known after these tops
 abbrev pub known_from : Known → List Top → Known
@@ -67,3 +69,13 @@ type_number text k name = option_and_then (λ i. if nat_lt i k && is_type_top (s
 abbrev pub field_named : List Field → Name → Option Field
 field_named [] name = None
 field_named (field ∷ fields) name = if has_name (out-Field field).names name then Some field else field_named fields name
+
+-- a name in a module, with the types that this module may name
+abbrev pub inside_of : Option Body → Name → Option (Known × Own)
+inside_of None name = None
+inside_of (Some body) name = option_map (λ own. (body.known, own)) (find_name (own_names body.mentions) name)
+
+-- the name of a part of a path
+abbrev pub word_in : Part → List Word
+word_in (PartField word) = word ∷ []
+word_in (At index) = []

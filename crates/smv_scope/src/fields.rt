@@ -6,9 +6,9 @@ ghost use Rattle.smv_inst.specs.Said.{words_at};
 ghost use Rattle.smv_scope.specs.ScopeFault.{least};
 ghost use Rattle.smv_scope.specs.Numbered as spec;
 ghost use Rattle.smv_scope.specs.Numbered.{known_before, top_names, type_number, is_type_top};
-ghost use Rattle.smv_scope.specs.Held.{AreLed, fields_led};
+ghost use Rattle.smv_scope.specs.Held.{AreLed, AreTables, fields_led};
 
-use crate::tables::Led;
+use crate::tables::{Led, Tables};
 use name_index::NameIndex;
 use smv_core::name::Name;
 use smv_core::tree::{Field, Text, Top, TypeExpr, Word};
@@ -88,4 +88,46 @@ pub fn led<'a>(
         TypeExpr::Range { .. } => None,
         TypeExpr::Enum { .. } => None,
     }
+}
+
+// The struct to which a type leads that stands in the top of a number.
+fn led_in<'a>(tables: &Tables<'a, '_>, place: usize, of: &'a TypeExpr) -> Option<Led<'a>>
+    requires { AreTables tables.now }
+    ensures { (words : List Word) → scopes.fields_of (known_before tables.now.text.now place) of.now words ≡ fields_led tables.now.text.now result words }
+{
+    led(tables.text, &tables.names, tables.structs.as_slice(), place, of)
+}
+
+// What is wrong with field names behind a type that leads to this struct or to none.
+fn behind_led<'a>(
+    tables: &Tables<'a, '_>,
+    led: Option<Led<'a>>,
+    words: &[&Word],
+) -> Option<u32>
+    requires { AreTables tables.now }
+    ensures { result ≡ least (fields_led tables.now.text.now led.entry (words_at words.now)) }
+{
+    match words {
+        [] => None,
+        [word, more @ ..] => match led {
+            None => Some(word.at),
+            Some(led) => match field_named(led.fields, &word.name) {
+                None => Some(word.at),
+                Some(field) => behind_led(tables, led_in(tables, led.place, &field.of), more),
+            },
+        },
+    }
+}
+
+/// What is wrong with field names behind a type that stands in the top of a number.
+pub fn fields_of<'a>(
+    tables: &Tables<'a, '_>,
+    place: usize,
+    of: &'a TypeExpr,
+    words: &[&Word],
+) -> Option<u32>
+    requires { AreTables tables.now }
+    ensures { result ≡ least (scopes.fields_of (known_before tables.now.text.now place) of.now (words_at words.now)) }
+{
+    behind_led(tables, led_in(tables, place, of), words)
 }

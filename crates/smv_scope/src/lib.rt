@@ -2,4 +2,6 @@
 #![tactic(auto)]
 
 pub mod fields;
+pub mod paths;
+pub mod places;
 pub mod tables;
