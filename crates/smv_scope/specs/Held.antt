@@ -8,6 +8,7 @@ use Rattle.smv_core.specs.declared.tree.Word.{Word}
 use Rattle.smv_core.specs.declared.tree.Text.{Text}
 use Rattle.smv_core.specs.declared.tree.Top.{Top}
 use Rattle.smv_inst.specs.Scopes.{Fields, Known, Own, Constant, Body, no_field, own_names, constants as all_constants, pieces}
+use Rattle.smv_inst.specs.Mentions.{Mention, lists_constants}
 use Rattle.smv_inst.specs.Said.{said_of, AreNoted}
 use Rattle.smv_scope.specs.Numbered.{known_before, field_in, fields_at, top_names, mentions_at}
 use Rattle.smv_scope.specs.declared.tables.Led.{Led}
@@ -57,3 +58,12 @@ pub record AreTables (tables : Tables) : Type 0 where
 -- a name in a module, with the types that this module may name
 abbrev pub inner_of : Text → Inner → Known × Own
 inner_of text inner = (known_before text inner.place, own_of inner.own)
+
+-- the constants that are listed
+abbrev pub lists_of : Mention → List (List Word)
+lists_of (lists_constants words) = words ∷ []
+lists_of _ = []
+
+-- the constants of a list, each with where it is first listed and that list
+abbrev pub constants_of_list : List Word → List (Name × Constant)
+constants_of_list words = map (λ word. (word.name, record { at = word.at; names = names_of words })) words

@@ -1,6 +1,7 @@
 //! The first fault of a text's scopes: names that are not declared or declared twice, no module `main`, wrong numbers of arguments.
 #![tactic(auto)]
 
+pub mod build;
 pub mod fields;
 pub mod paths;
 pub mod places;
