@@ -1,4 +1,7 @@
-mod FieldLaws
+pub mod FieldLaws
+pub mod LeastLaws
 pub mod Numbers
+pub mod PathLaws
 pub mod PieceLaws
-mod PathLaws
+pub mod TableLaws
+pub mod NameLaws

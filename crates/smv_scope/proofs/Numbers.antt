@@ -189,3 +189,5 @@ number-within text k name number found same some = by (position (top_names text)
         → (found < k) × (found < length text.tops)
     by None h e = cc
     by (Some i) h e = test i (nat_lt i k) (is_type_top (slice_get text.tops i)) (λ b. grind (arith, nat_tests)) (h i refl) e
+
+pub ruleset numbered = (named-type)

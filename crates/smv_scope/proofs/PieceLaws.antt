@@ -21,7 +21,7 @@ use Rattle.smv_scope.specs.Held.{own_beside, own_of, body_of, constant_beside, c
 use Rattle.smv_scope.specs.declared.tables.Own.{Own as HeldOwn}
 use Rattle.smv_scope.specs.declared.tables.Constant.{Constant as HeldConstant}
 
-abbrev Told : Type 0
+abbrev pub Told : Type 0
 Told = Word × Option (List Word) × List Mention
 
 -- a top, by what it says and what is known before it

@@ -17,6 +17,7 @@ use Rattle.smv_scope.specs.declared.tables.Constant.{Constant as HeldConstant}
 use Rattle.smv_scope.specs.declared.tables.Module.{Module as HeldModule}
 use Rattle.smv_scope.specs.declared.tables.Tables.{Tables}
 use Rattle.smv_scope.specs.declared.paths.Inner.{Inner}
+use Rattle.smv_scope.specs.declared.undeclared.Formals.{Formals}
 
 -- what is wrong with field names behind a type that leads to this struct or to none
 abbrev pub fields_led : Text → Option Led → Fields
@@ -67,3 +68,7 @@ lists_of _ = []
 -- the constants of a list, each with where it is first listed and that list
 abbrev pub constants_of_list : List Word → List (Name × Constant)
 constants_of_list words = map (λ word. (word.name, record { at = word.at; names = names_of words })) words
+
+-- the names of the formals are in the index
+abbrev pub AreFormals : Formals → Type 0
+AreFormals formals = formals.index ≡ names_of formals.words.now

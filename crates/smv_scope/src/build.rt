@@ -186,3 +186,44 @@ fn add_constants<'a>(
     }
     Ok(())
 }
+
+// The constants of all enumerations, each with the number of its list.
+fn all_constants<'a>(
+    alloc: Global,
+    lists: &[&'a [Word]],
+) -> Result<NameMap<'a, Constant>, AllocError>
+    ensures { IfOk result (λ constants. map (constant_beside lists.now) constants ≡ flat_map (λ words. constants_of_list words.now) lists.now) }
+{
+    let mut constants = NameMap::new(alloc);
+    for number in 0..lists.len() {
+        let words = lists[number];
+        add_constants(&mut constants, number, words)?;
+    }
+    Ok(constants)
+}
+
+/// The tables of a text whose tops were noted.
+pub fn tables<'a, 'p>(
+    alloc: Global,
+    text: &'a Text,
+    pieces: &'p [Piece<'a>],
+) -> Result<Tables<'a, 'p>, AllocError>
+    requires { AreNoted pieces.now text.now }
+    ensures text { IfOk result (λ tables. tables.text.now ≡ text.now) }
+    ensures tables { IfOk result (λ tables. AreTables tables) }
+{
+    let names = names_of_tops(alloc, text.tops.as_slice())?;
+    let structs = structs_of(alloc, text, &names)?;
+    let own = all_own(alloc, pieces)?;
+    let lists = all_lists(alloc, pieces)?;
+    let constants = all_constants(alloc, lists.as_slice())?;
+    Ok(Tables {
+        text,
+        pieces,
+        names,
+        structs,
+        own,
+        constants,
+        lists,
+    })
+}

@@ -6,3 +6,4 @@ pub mod fields;
 pub mod paths;
 pub mod places;
 pub mod tables;
+pub mod undeclared;
