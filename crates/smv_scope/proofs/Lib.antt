@@ -5,3 +5,4 @@ pub mod PathLaws
 pub mod PieceLaws
 pub mod TableLaws
 pub mod NameLaws
+pub mod RuleLaws

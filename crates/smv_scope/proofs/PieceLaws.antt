@@ -12,12 +12,12 @@ use Rattle.smv_core.specs.declared.tree.Top.{Top}
 use Rattle.smv_core.specs.declared.tree.Top.TheVariants.{SetType, Alias, Module}
 use Rattle.smv_inst.specs.declared.pieces.Piece.{Piece as NotedPiece}
 use Rattle.smv_inst.specs.Mentions.{Mention}
-use Rattle.smv_inst.specs.Scopes.{Known, Piece, Body, Own, Constant, piece_of, known_after, pieces_from, pieces, body_if_module, module_named, own_names, constants}
+use Rattle.smv_inst.specs.Scopes.{Known, Piece, Body, Own, Constant, piece_of, known_after, pieces_from, pieces, body_if_module, module_named, own_names, constants, Scope, scope_of}
 use Rattle.smv_inst.specs.Said.{said, told, told_by, AreNoted}
 use Rattle.name_index.specs.Position.{position}
 use Rattle.name_index.proofs.Finding.{find_name-place}
-use Rattle.smv_scope.specs.Numbered.{known_from, known_before, top_word, top_names, mentions_at}
-use Rattle.smv_scope.specs.Held.{own_beside, own_of, body_of, constant_beside, constant_of}
+use Rattle.smv_scope.specs.Numbered.{known_from, known_before, top_word, top_names, mentions_at, scope_at}
+use Rattle.smv_scope.specs.Held.{own_beside, own_of, body_of, piece_noted, constant_beside, constant_of}
 use Rattle.smv_scope.specs.declared.tables.Own.{Own as HeldOwn}
 use Rattle.smv_scope.specs.declared.tables.Constant.{Constant as HeldConstant}
 
@@ -37,10 +37,6 @@ pieces-from : (known : Known) (tops : List Top) (i : ℕ) → slice_get (pieces_
 pieces-from known [] i = refl
 pieces-from known (top ∷ tops) zero = ap Some (untold-by known top)
 pieces-from known (top ∷ tops) (suc i) = pieces-from (known_after known top) tops i
-
--- the top of a number, as it was noted
-abbrev pub piece_noted : Text → ℕ → NotedPiece → Piece
-piece_noted text i piece = untold (known_before text i) (told piece)
 
 pub piece-at : (text : Text) (noted : List NotedPiece) → AreNoted noted text → (i : ℕ) → slice_get (pieces text) i ≡ option_map (piece_noted text i) (slice_get noted i)
 piece-at text noted same i =
@@ -148,3 +144,15 @@ module _ (text : Text) where
   module _ (lists : List (Bor (List Word))) (held : List (Name × HeldConstant)) (same : map (constant_beside lists) held ≡ constants (pieces text)) (name : Name) where
     pub constant-found : (found : Option HeldConstant) → found ≡ find_name held name → find_name (constants (pieces text)) name ≡ option_map (constant_of lists) found
     constant-found found at = ap (λ l. find_name l name) (sym same) ∙ find_name-map (constant_of lists) held name ∙ ap (option_map (constant_of lists)) (sym at)
+
+-- ---- the scope of a top
+
+module _ (text : Text) (noted : List NotedPiece) (known : AreNoted noted text) (i : ℕ) (piece : NotedPiece) (here : slice_get noted i ≡ Some piece) where
+  pub piece-here : slice_get (pieces text) i ≡ Some (piece_noted text i piece)
+  piece-here = piece-at text noted known i ∙ ap (option_map (piece_noted text i)) here
+
+  pub scope-here : scope_at text i ≡ scope_of (pieces text) (piece_noted text i piece)
+  scope-here = ap (λ (o : Option Piece). with_own (own_names (option_map_or (λ p. p.mentions) o []))) piece-here
+    where
+      with_own : List (Name × Own) → Scope
+      with_own own = record { tops = pieces text; constants = constants (pieces text); known = known_before text i; own = own }

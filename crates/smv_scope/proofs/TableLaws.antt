@@ -58,7 +58,7 @@ constants-step lists old new n words below here more known =
 
 -- ---- tops
 
-abbrev tell : Piece → Told
+abbrev pub tell : Piece → Told
 tell piece = (piece.word, piece.formals, piece.mentions)
 
 told-from : (known : Known) (tops : List Top) → map tell (pieces_from known tops) ≡ map told_by tops
@@ -67,11 +67,11 @@ told-from known (SetType word ordered span at ∷ tops) = ap (λ l. told_by (Set
 told-from known (Alias word of at ∷ tops) = ap (λ l. told_by (Alias word of at) ∷ l) (told-from (known_after known (Alias word of at)) tops)
 told-from known (Module word formals body at ∷ tops) = ap (λ l. told_by (Module word formals body at) ∷ l) (told-from (known_after known (Module word formals body at)) tops)
 
-map-twice : {A B C : Type 0} (f : B → C) (g : A → B) (xs : List A) → map f (map g xs) ≡ map (λ x. f (g x)) xs
+pub map-twice : {A B C : Type 0} (f : B → C) (g : A → B) (xs : List A) → map f (map g xs) ≡ map (λ x. f (g x)) xs
 map-twice f g [] = refl
 map-twice f g (x ∷ xs) = ap (λ l. f (g x) ∷ l) (map-twice f g xs)
 
-flat-twice : {A B C : Type 0} (f : B → List C) (g : A → B) (xs : List A) → flat_map f (map g xs) ≡ flat_map (λ x. f (g x)) xs
+pub flat-twice : {A B C : Type 0} (f : B → List C) (g : A → B) (xs : List A) → flat_map f (map g xs) ≡ flat_map (λ x. f (g x)) xs
 flat-twice f g [] = refl
 flat-twice f g (x ∷ xs) = ap (λ l. f (g x) ++ l) (flat-twice f g xs)
 
@@ -120,7 +120,7 @@ constants-flat (mention ∷ mentions) =
     ∙ sym (flat-append constants_of_list (lists_of (said mention)) (flat_map (λ mention. lists_of (said mention)) mentions))
 
 module _ (text : Text) (noted : List NotedPiece) (same : AreNoted noted text) where
-  told-same : map tell (pieces text) ≡ map told noted
+  pub told-same : map tell (pieces text) ≡ map told noted
   told-same = told-from [] text.tops ∙ sym same
 
   pub own-all : map (λ piece. flat_map (λ mention. own_names (said mention ∷ [])) piece.mentions.items) noted ≡ map (λ piece. own_names piece.mentions) (pieces text)

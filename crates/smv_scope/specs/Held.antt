@@ -7,9 +7,10 @@ use Rattle.smv_core.specs.Types.{names_of}
 use Rattle.smv_core.specs.declared.tree.Word.{Word}
 use Rattle.smv_core.specs.declared.tree.Text.{Text}
 use Rattle.smv_core.specs.declared.tree.Top.{Top}
-use Rattle.smv_inst.specs.Scopes.{Fields, Known, Own, Constant, Body, no_field, own_names, constants as all_constants, pieces}
+use Rattle.smv_inst.specs.Scopes.{Fields, Known, Piece, Own, Constant, Body, no_field, own_names, constants as all_constants, pieces}
 use Rattle.smv_inst.specs.Mentions.{Mention, lists_constants}
-use Rattle.smv_inst.specs.Said.{said_of, AreNoted}
+use Rattle.smv_inst.specs.declared.pieces.Piece.{Piece as NotedPiece}
+use Rattle.smv_inst.specs.Said.{said, said_of, AreNoted}
 use Rattle.smv_scope.specs.Numbered.{known_before, field_in, fields_at, top_names, mentions_at}
 use Rattle.smv_scope.specs.declared.tables.Led.{Led}
 use Rattle.smv_scope.specs.declared.tables.Own.{Own as HeldOwn}
@@ -72,3 +73,8 @@ constants_of_list words = map (λ word. (word.name, record { at = word.at; names
 -- the names of the formals are in the index
 abbrev pub AreFormals : Formals → Type 0
 AreFormals formals = formals.index ≡ names_of formals.words.now
+
+-- the top of a number, as it was noted
+abbrev pub piece_noted : Text → ℕ → NotedPiece → Piece
+piece_noted text i piece =
+    record { word = piece.word.now; formals = option_map (λ (words : Bor (List Word)). words.now) piece.formals; known = known_before text i; mentions = map said piece.mentions.items }

@@ -1,5 +1,5 @@
 // Names that are not declared.
-ghost use Rattle.std.specs.Prelude.{◌≡◌, Some, IfOk, slice_get, not, is_none};
+ghost use Rattle.std.specs.Prelude.{◌≡◌, [], Some, IfOk, slice_get, not, is_none, option_map, unwrap_or};
 ghost use Rattle.smv_core.specs.Types.{find_name};
 ghost use Rattle.std.specs.List.{flat_map};
 ghost use Rattle.smv_core.specs.Types.{names_of};
@@ -9,12 +9,12 @@ ghost use Rattle.smv_inst.specs.Said.{said, said_of};
 ghost use Rattle.smv_inst.specs.NameFaults as faults;
 ghost use Rattle.smv_scope.specs.ScopeFault.{least};
 ghost use Rattle.smv_scope.specs.Numbered.{scope_at, known_before};
-ghost use Rattle.smv_scope.specs.Held.{AreTables, AreFormals};
+ghost use Rattle.smv_scope.specs.Held.{AreTables, AreFormals, piece_noted};
 
 use crate::fields::type_named;
 use crate::paths::path_place;
 use crate::places::{first_of, place_if};
-use crate::tables::{Tables, item_at, module_named, own_name};
+use crate::tables::{Tables, module_named, own_name};
 use name_index::NameIndex;
 use smv_core::name::Name;
 use smv_core::tree::{Role, Word};
@@ -146,4 +146,33 @@ fn undeclared_mentions<'a>(
         first = first_of(first, at);
     }
     Ok(first)
+}
+
+/// The formals of a top, none where it is no module.
+pub fn formals_of<'a>(piece: &Piece<'a>) -> &'a [Word]
+    ensures { result.now ≡ unwrap_or (option_map (λ words. words.now) piece.now.formals) [] }
+{
+    match piece.formals {
+        Some(words) => words,
+        None => &[],
+    }
+}
+
+/// The first thing that is not declared in the top of a number.
+pub fn undeclared_in<'a>(
+    alloc: Global,
+    tables: &Tables<'a, '_>,
+    place: usize,
+    piece: &Piece<'a>,
+) -> Result<Option<u32>, AllocError>
+    requires tables { AreTables tables.now }
+    requires here { slice_get tables.now.pieces.now place ≡ Some piece.now }
+    ensures { IfOk result (λ at. at ≡ least (faults.undeclared_in (pieces tables.now.text.now) (piece_noted tables.now.text.now place piece.now))) }
+{
+    let words = formals_of(piece);
+    let index = index_of(alloc, words)?;
+    let formals = Formals { words, index };
+    let first = undeclared_formals(tables, place, words);
+    let second = undeclared_mentions(alloc, tables, place, &formals, piece.mentions.as_slice())?;
+    Ok(first_of(first, second))
 }
