@@ -6,3 +6,4 @@ pub mod PieceLaws
 pub mod TableLaws
 pub mod NameLaws
 pub mod RuleLaws
+pub mod FirstLaws

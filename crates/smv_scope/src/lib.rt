@@ -2,8 +2,11 @@
 #![tactic(auto)]
 
 pub mod build;
+pub mod doubled;
 pub mod fields;
 pub mod paths;
 pub mod places;
+pub mod rules;
+pub mod scope;
 pub mod tables;
 pub mod undeclared;
