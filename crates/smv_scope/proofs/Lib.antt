@@ -7,3 +7,5 @@ pub mod TableLaws
 pub mod NameLaws
 pub mod RuleLaws
 pub mod FirstLaws
+pub mod RepeatedLaws
+pub mod DoubledLaws

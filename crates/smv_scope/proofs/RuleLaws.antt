@@ -22,7 +22,7 @@ from_got [] n x h = cc
 from_got (y ∷ xs) zero x h = let e : y ≡ x = cc in ap (λ z. z ∷ xs) e
 from_got (y ∷ xs) (suc n) x h = from_got xs n x h
 
-drop-past : {A : Type 0} (xs : List A) (n : ℕ) → length xs ≤ n → drop n xs ≡ []
+pub drop-past : {A : Type 0} (xs : List A) (n : ℕ) → length xs ≤ n → drop n xs ≡ []
 drop-past [] zero h = refl
 drop-past [] (suc n) h = refl
 drop-past (x ∷ xs) zero h = absurd (omega arith)
