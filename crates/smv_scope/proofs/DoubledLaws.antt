@@ -1,5 +1,5 @@
 -- What is declared twice in the top of a number.
-use Rattle.std.proofs.Common.{◌≡◌, ℕ, List, [], ◌∷◌, ◌++◌, map, refl, ap, sym, ◌∙◌}
+use Rattle.std.proofs.Common.{◌≡◌, ℕ, List, [], ◌∷◌, ◌++◌, map, refl, ap, sym, ◌∙◌, append_assoc}
 use Rattle.std.specs.Prelude.{Option, Some, None, slice_get}
 use Rattle.std.specs.List.{flat_map}
 use Rattle.smv_core.specs.declared.tree.Word.{Word}
@@ -46,3 +46,4 @@ doubled-whole text noted known i piece here words a b c d new same first second 
     ∙ ap (λ (s : Scope). least (flat_map (doubled s) (map said piece.mentions.items))) (scope-here text noted known i piece here))
     ∙ sym (least-append (repeated [] (declared_words (map said piece.mentions.items))) (flat_map (doubled (scope_of (pieces text) (piece_noted text i piece))) (map said piece.mentions.items))))
     ∙ sym (least-append (repeated [] (formals_of (piece_noted text i piece))) (repeated [] (declared_words (map said piece.mentions.items)) ++ flat_map (doubled (scope_of (pieces text) (piece_noted text i piece))) (map said piece.mentions.items)))
+    ∙ ap least (sym (append_assoc (repeated [] (formals_of (piece_noted text i piece))) (repeated [] (declared_words (map said piece.mentions.items))) (flat_map (doubled (scope_of (pieces text) (piece_noted text i piece))) (map said piece.mentions.items))))
