@@ -32,7 +32,7 @@ pub earlier-comm : (f g : Option Fault) → earlier_of f g ≡ earlier_of g f
 earlier-comm None None = refl
 earlier-comm None (Some g) = refl
 earlier-comm (Some f) None = refl
-earlier-comm (Some f) (Some g) = by (comes_before g f) (comes_before f g) (before-apart f g) (λ a b. same-fault f g (before-same f g a b)) 
+earlier-comm (Some f) (Some g) = by (comes_before g f) (comes_before f g) (before-apart f g) (λ a b. same-fault f g (before-same f g a b))
   where
     by : (a b : Bool) → (a ≡ true → b ≡ true → ⊥) → (a ≡ false → b ≡ false → f ≡ g) → cond a (Some g) (Some f) ≡ cond b (Some f) (Some g)
     by true true apart same = absurd (apart refl refl)

@@ -46,7 +46,7 @@ repeated-same seen names same [] = refl
 repeated-same seen names same (word ∷ words) =
     ap (λ b. place_if b word.at ++ repeated (word.name ∷ seen) words) (same word.name)
     ∙ ap (λ l. place_if (is_some (position names word.name)) word.at ++ l)
-      (repeated-same (word.name ∷ seen) (names ++ word.name ∷ []) (λ q. ap (λ b. bytes_eq q word.name || b) (same q) ∙ sym (known-push names word.name q)) words)
+    (repeated-same (word.name ∷ seen) (names ++ word.name ∷ []) (λ q. ap (λ b. bytes_eq q word.name || b) (same q) ∙ sym (known-push names word.name q)) words)
 
 map-drop : (xs : List (Bor Word)) (n : ℕ) (x : Bor Word) → n < length xs → x ≡ get_or xs n x → words_at (drop n xs) ≡ x.now ∷ words_at (drop (n + 1) xs)
 map-drop xs n x below here = ap words_at (from_here xs n x below here)

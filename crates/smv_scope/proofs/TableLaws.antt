@@ -50,7 +50,7 @@ pub constants-step : (lists : List (Bor (List Word))) (old new : List (Name × H
 constants-step lists old new n words below here more known =
     let got : slice_get lists n ≡ Some words = slice_get_read lists (length lists) n words refl below here in
     let new_ones : map (constant_beside lists) (map (λ word. (word.name, record { at = word.at; list = n })) words.now) ≡ constants_of_list words.now =
-        listed lists n words.now (ap (λ o. option_map_or (λ (l : Bor (List Word)). names_of l.now) o []) got) words.now in
+    listed lists n words.now (ap (λ o. option_map_or (λ (l : Bor (List Word)). names_of l.now) o []) got) words.now in
     ap (λ l. map (constant_beside lists) l ++ flat_map col (drop (n + 1) lists)) more
     ∙ ap (λ l. l ++ flat_map col (drop (n + 1) lists)) (map-append (constant_beside lists) old (map (λ word. (word.name, record { at = word.at; list = n })) words.now) ∙ ap (λ l. map (constant_beside lists) old ++ l) new_ones)
     ∙ append_assoc (map (constant_beside lists) old) (constants_of_list words.now) (flat_map col (drop (n + 1) lists))

@@ -94,10 +94,7 @@ fn add_own<'a>(own: &mut NameMap<'a, Own<'a>>, mention: &Mention<'a>) -> Result<
 
 // The names that are declared.
 #[tactic(auto, using(smv_inst::proofs::Notes::noting))]
-fn own_in<'a>(
-    alloc: Global,
-    mentions: &[Mention<'a>],
-) -> Result<NameMap<'a, Own<'a>>, AllocError>
+fn own_in<'a>(alloc: Global, mentions: &[Mention<'a>]) -> Result<NameMap<'a, Own<'a>>, AllocError>
     ensures { IfOk result (λ own. map own_beside own ≡ flat_map (λ mention. own_names (said mention ∷ [])) mentions.now) }
 {
     let mut own = NameMap::new(alloc);
@@ -109,10 +106,7 @@ fn own_in<'a>(
 
 // For each top the names that it declares.
 #[tactic(auto, using(smv_inst::proofs::Notes::noting))]
-fn all_own<'a>(
-    alloc: Global,
-    pieces: &[Piece<'a>],
-) -> Result<Vec<NameMap<'a, Own<'a>>>, AllocError>
+fn all_own<'a>(alloc: Global, pieces: &[Piece<'a>]) -> Result<Vec<NameMap<'a, Own<'a>>>, AllocError>
     ensures { IfOk result (λ all. map (λ own. map own_beside own) all.items ≡ map (λ piece. flat_map (λ mention. own_names (said mention ∷ [])) piece.mentions.items) pieces.now) }
 {
     let mut all = Vec::new(alloc);
@@ -139,10 +133,7 @@ fn add_list<'a>(lists: &mut Vec<&'a [Word]>, mention: &Mention<'a>) -> Result<()
 
 // The lists of these enumerations more.
 #[tactic(auto, using(smv_inst::proofs::Notes::noting))]
-fn add_lists<'a>(
-    lists: &mut Vec<&'a [Word]>,
-    mentions: &[Mention<'a>],
-) -> Result<(), AllocError>
+fn add_lists<'a>(lists: &mut Vec<&'a [Word]>, mentions: &[Mention<'a>]) -> Result<(), AllocError>
     ensures { OnOk result (map (λ words. words.now) lists.new.items ≡ map (λ words. words.now) lists.old.items ++ flat_map (λ mention. lists_of (said mention)) mentions.now) }
 {
     for mention in mentions {
@@ -153,10 +144,7 @@ fn add_lists<'a>(
 
 // The lists of all enumerations.
 #[tactic(auto, using(smv_inst::proofs::Notes::noting))]
-fn all_lists<'a>(
-    alloc: Global,
-    pieces: &[Piece<'a>],
-) -> Result<Vec<&'a [Word]>, AllocError>
+fn all_lists<'a>(alloc: Global, pieces: &[Piece<'a>]) -> Result<Vec<&'a [Word]>, AllocError>
     ensures { IfOk result (λ lists. map (λ words. words.now) lists.items ≡ flat_map (λ piece. flat_map (λ mention. lists_of (said mention)) piece.mentions.items) pieces.now) }
 {
     let mut lists = Vec::new(alloc);

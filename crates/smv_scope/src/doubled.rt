@@ -102,10 +102,7 @@ fn add_declared<'a>(out: &mut Vec<&'a Word>, mention: &Mention<'a>) -> Result<()
 
 // The words that are declared.
 #[tactic(auto, using(smv_inst::proofs::Notes::noting))]
-fn declared_words<'a>(
-    alloc: Global,
-    mentions: &[Mention<'a>],
-) -> Result<Vec<&'a Word>, AllocError>
+fn declared_words<'a>(alloc: Global, mentions: &[Mention<'a>]) -> Result<Vec<&'a Word>, AllocError>
     ensures { IfOk result (λ words. words_at words.items ≡ flat_map (λ mention. faults.declared_words (said mention ∷ [])) mentions.now) }
 {
     let mut out = Vec::new(alloc);
@@ -147,11 +144,7 @@ pub fn doubled_tops(alloc: Global, tables: &Tables) -> Result<Option<u32>, Alloc
 // ---- names of several sorts
 
 // The first constant of a list that belongs to another list.
-fn other_constant(
-    alloc: Global,
-    tables: &Tables,
-    names: &[Word],
-) -> Result<Option<u32>, AllocError>
+fn other_constant(alloc: Global, tables: &Tables, names: &[Word]) -> Result<Option<u32>, AllocError>
     requires { AreTables tables.now }
     ensures { IfOk result (λ at. at ≡ least (others tables.now.text.now names.now)) }
 {
@@ -186,12 +179,7 @@ fn own_at(tables: &Tables, place: usize, word: &Word) -> Option<u32>
 
 // A variable that is declared before or after as something else.
 #[tactic(auto, using(crate::proofs::LeastLaws::leasts))]
-fn doubled_variable(
-    tables: &Tables,
-    place: usize,
-    around: Option<u32>,
-    var: &Word,
-) -> Option<u32>
+fn doubled_variable(tables: &Tables, place: usize, around: Option<u32>, var: &Word) -> Option<u32>
     requires { AreTables tables.now }
     ensures { result ≡ least (faults.later around var.now.at ++ faults.later (scopes.constant_at (scope_at tables.now.text.now place) var.now.name) var.now.at ++ faults.later (faults.own_at (scope_at tables.now.text.now place) var.now.name) var.now.at) }
 {
@@ -213,9 +201,7 @@ fn doubled<'a>(
     match *mention {
         Mention::HasFields { fields } => doubled_field(alloc, fields),
         Mention::ListsConstants { names } => doubled_constant(alloc, tables, names),
-        Mention::Declares { word, .. } => {
-            Ok(later(constant_at(tables, &word.name), word.at))
-        }
+        Mention::Declares { word, .. } => { Ok(later(constant_at(tables, &word.name), word.at)) }
         Mention::Binds { around, var } => Ok(doubled_variable(tables, place, around, var)),
         _ => Ok(None),
     }

@@ -95,15 +95,17 @@ fn led_in<'a>(tables: &Tables<'a, '_>, place: usize, of: &'a TypeExpr) -> Option
     requires { AreTables tables.now }
     ensures { (words : List Word) → scopes.fields_of (known_before tables.now.text.now place) of.now words ≡ fields_led tables.now.text.now result words }
 {
-    led(tables.text, &tables.names, tables.structs.as_slice(), place, of)
+    led(
+        tables.text,
+        &tables.names,
+        tables.structs.as_slice(),
+        place,
+        of,
+    )
 }
 
 // What is wrong with field names behind a type that leads to this struct or to none.
-fn behind_led<'a>(
-    tables: &Tables<'a, '_>,
-    led: Option<Led<'a>>,
-    words: &[&Word],
-) -> Option<u32>
+fn behind_led<'a>(tables: &Tables<'a, '_>, led: Option<Led<'a>>, words: &[&Word]) -> Option<u32>
     requires { AreTables tables.now }
     ensures { result ≡ least (fields_led tables.now.text.now led.entry (words_at words.now)) }
 {

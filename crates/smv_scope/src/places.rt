@@ -22,11 +22,7 @@ pub fn first_of(place: Option<u32>, other: Option<u32>) -> Option<u32>
 pub fn place_if(broken: bool, at: u32) -> Option<u32>
     ensures { result ≡ least (faults.place_if broken at) }
 {
-    if broken {
-        Some(at)
-    } else {
-        None
-    }
+    if broken { Some(at) } else { None }
 }
 
 /// The later of two declarations of one name, where there is another.

@@ -75,11 +75,7 @@ fn broken_in<'a>(
 }
 
 /// The first place in all tops where the rule is broken.
-pub fn first_broken(
-    alloc: Global,
-    tables: &Tables,
-    rule: Rule,
-) -> Result<Option<u32>, AllocError>
+pub fn first_broken(alloc: Global, tables: &Tables, rule: Rule) -> Result<Option<u32>, AllocError>
     requires { AreTables tables.now }
     ensures { IfOk result (λ at. at ≡ least (flat_map (broken rule (pieces tables.now.text.now)) (pieces tables.now.text.now))) }
 {

@@ -55,8 +55,14 @@ fn is_port(what: &What) -> bool
     ensures { result ≡ faults.is_port (said_of what.now) }
 {
     match what {
-        What::Signal { role: Role::Input, .. } => true,
-        What::Signal { role: Role::Output, .. } => true,
+        What::Signal {
+            role: Role::Input,
+            ..
+        } => true,
+        What::Signal {
+            role: Role::Output,
+            ..
+        } => true,
         _ => false,
     }
 }

@@ -7,5 +7,5 @@ pub returns : goal.returns
 unfolding first_scope_fault
 returns c =
     let h = scope-first (pieces c.args.tables.now.text.now) c.in_ok-undeclared.undeclared c.in_ok-doubled.doubled c.in_ok-missing.missing c.in_ok-miscounted.miscounted
-        c.in_ok-undeclared.ensures c.in_ok-doubled.ensures c.in_ok-missing.ensures c.in_ok-miscounted.ensures in
+    c.in_ok-undeclared.ensures c.in_ok-doubled.ensures c.in_ok-missing.ensures c.in_ok-miscounted.ensures in
     cc (h)
