@@ -9,3 +9,4 @@ pub mod RuleLaws
 pub mod FirstLaws
 pub mod RepeatedLaws
 pub mod DoubledLaws
+pub mod ConstantLaws

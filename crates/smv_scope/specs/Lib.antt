@@ -2,3 +2,4 @@ pub mod ScopeFault
 pub mod Numbered
 pub mod Held
 pub mod Rules
+pub mod Compared

@@ -12,6 +12,7 @@ ghost use Rattle.smv_scope.specs.Numbered.{scope_at};
 ghost use Rattle.smv_scope.specs.Held.{AreTables, piece_noted};
 ghost use Rattle.smv_scope.specs.Rules.{others};
 
+use crate::constants::other_constant;
 use crate::places::{first_of, later, place_if};
 use crate::tables::{Tables, constant_at, own_name};
 use crate::undeclared::formals_of;
@@ -143,14 +144,6 @@ pub fn doubled_tops(alloc: Global, tables: &Tables) -> Result<Option<u32>, Alloc
 
 // ---- names of several sorts
 
-// The first constant of a list that belongs to another list.
-fn other_constant(alloc: Global, tables: &Tables, names: &[Word]) -> Result<Option<u32>, AllocError>
-    requires { AreTables tables.now }
-    ensures { IfOk result (λ at. at ≡ least (others tables.now.text.now names.now)) }
-{
-    Err(AllocError)
-}
-
 // The first constant of a list that is listed twice.
 #[tactic(auto, using(crate::proofs::LeastLaws::leasts))]
 fn doubled_constant(
@@ -162,7 +155,7 @@ fn doubled_constant(
     ensures { IfOk result (λ at. at ≡ least (faults.repeated [] names.now ++ others tables.now.text.now names.now)) }
 {
     let first = repeated_in(alloc, names)?;
-    let second = other_constant(alloc, tables, names)?;
+    let second = other_constant(tables, names);
     Ok(first_of(first, second))
 }
 

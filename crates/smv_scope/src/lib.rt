@@ -2,6 +2,7 @@
 #![tactic(auto)]
 
 pub mod build;
+pub mod constants;
 pub mod doubled;
 pub mod fields;
 pub mod paths;
