@@ -1,5 +1,5 @@
 -- Results that are known stay right where tables stay.
-use Rattle.std.proofs.Common.{◌≡◌, ℕ, ◌-◌, ◌<◌, Bool, true, false, ◌&&◌, ◌||◌, not, List, length, get_or, set, take, drop, ◌++◌, ◌+◌, refl, sym, ◌∙◌, ap, subst, arith, inl, inr, get_or-set_other, get_or-set_same}
+use Rattle.std.proofs.Common.{◌≡◌, ℕ, ◌-◌, ◌<◌, Bool, true, false, ◌&&◌, ◌||◌, not, List, length, get_or, set, take, ◌++◌, ◌+◌, refl, sym, ◌∙◌, ap, subst, arith, inl, inr, get_or-set_other, get_or-set_same}
 use Rattle.std.proofs.Math.Seq.{take-append_seam}
 use Rattle.std.proofs.lemmas.Bool.{cases_lt}
 use Rattle.bdd_store.specs.declared.Ref.{Ref}
@@ -8,7 +8,7 @@ use Rattle.bdd_store.specs.declared.Operation.TheVariants.{And, Or, Not, Rename,
 use Rattle.bdd_store.specs.declared.results.Entry.{Entry}
 use Rattle.bdd_store.specs.declared.chains.Node.{Node}
 use Rattle.bdd_store.specs.Graph.{Reduced, with_at}
-use Rattle.bdd_store.specs.Diagram.{Diagram, IsLive, table, IsSound, Keeps}
+use Rattle.bdd_store.specs.Diagram.{Diagram, table, IsSound, Keeps}
 use Rattle.bdd_store.specs.Results.{AreOperands, made, IsResult, entry_at, no_entry, AreResults, diagram_of}
 use Rattle.bdd_store.proofs.Laws.{zero_constant}
 use Rattle.bdd_store.proofs.NodeLaws.{Extends, extends_keeps, same_keeps}

@@ -13,8 +13,8 @@ pub struct Entry {
     pub answer: Ref,
 }
 
-// The most entries of a table.
-const MOST: usize = 0x4_0000;
+// The most places of a table: what a processor keeps close by.
+const MOST: usize = 0x2000;
 
 // An entry that is right in every store: the conjunction of the constant 0 with itself.
 fn never() -> Entry
@@ -70,12 +70,13 @@ pub fn put(results: &mut Vec<Entry>, operation: Operation, answer: Ref)
     }
 }
 
-/// Makes so many places, where there is memory for that.
+/// Makes so many places, or the most, where there is memory for that.
 pub fn widen(results: &mut Vec<Entry>, len: usize)
     ensures { (d : Diagram) → IsSound d → AreResults d results.old.items → AreResults d results.new.items }
 {
-    if len > results.len() && len <= MOST {
-        let _ = results.resize(len, never());
+    let places = len.min(MOST);
+    if places > results.len() {
+        let _ = results.resize(places, never());
     }
 }
 

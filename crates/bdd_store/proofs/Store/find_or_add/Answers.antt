@@ -3,7 +3,7 @@ use Rattle.std.proofs.lemmas.List.{get_or_default}
 use Rattle.bdd_store.specs.declared.chains.Node.{Node}
 use Rattle.bdd_store.specs.contracts.Store.{the_view}
 use Rattle.bdd_store.specs.Chains.{bucket_of, start, InChain, IsFalling, AllOf, Matches, Chained, Puts}
-use Rattle.bdd_store.specs.Diagram.{Diagram, IsLive, IsSound, held}
+use Rattle.bdd_store.specs.Diagram.{Diagram, IsSound, held}
 use Rattle.bdd_store.specs.Seen.{flag}
 use Rattle.bdd_store.proofs.ChainLaws.{chain_falling}
 use Rattle.bdd_store.proofs.Puts.{counted_few, counted_full}
