@@ -77,9 +77,6 @@ fn recalls_a_result(rt: HostRuntime) -> Result<(), Fail> {
     let again = and(rt.alloc(), &mut store, x, y)?;
     assert_eq!(rt; again, first);
     assert_eq!(rt; store.calls(), calls);
-    store.sweep(&[x, y]);
-    let _ = and(rt.alloc(), &mut store, x, y)?;
-    assert!(rt; store.calls() > calls);
     Ok(())
 }
 
