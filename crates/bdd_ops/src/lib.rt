@@ -6,10 +6,11 @@ ghost use Rattle.memo_table.specs.Results.{Results, result_of};
 ghost use Rattle.bdd_store.specs.declared.Ref.{Ref};
 ghost use Rattle.bdd_store.specs.Graph.{with_at};
 ghost use Rattle.bdd_store.specs.Diagram.{Diagram, IsLive, table, IsSound, IsCanonical, first_var, IsConstant, IsProper, Reaches, Keeps, beads, held};
+ghost use Rattle.bdd_store.specs.Results.{AreOperands, made};
 ghost use Rattle.bdd_ops.specs.Functions.{Function, some_at, lowered, depends, bit_at, IsFreshBelow};
 ghost use Rattle.bdd_ops.specs.Memo.{joined, changed, AreJoins, AreImages, PairsBelow, OnesBelow, pair_first, Implies, AreImplied, AreFlagged, AreOnce};
 
-use bdd_store::{Ref, Store};
+use bdd_store::{Operation, Ref, Store};
 use memo_table::Memo;
 use std::alloc::{AllocError, Global};
 use std::collections::HashSet;
@@ -40,6 +41,65 @@ fn split(store: &Store, f: Ref, var: u32) -> (Ref, Ref)
         }
     }
     (f, f)
+}
+
+/// A node that is the result of an operation, which the store comes to know.
+fn result_node(
+    store: &mut Store,
+    operation: Operation,
+    var: u32,
+    low: Ref,
+    high: Ref,
+) -> Result<Ref, AllocError>
+    requires var_in { var < store.old.vars }
+    requires low_live { IsLive store.old low }
+    requires high_live { IsLive store.old high }
+    requires low_later { var < first_var store.old low }
+    requires high_later { var < first_var store.old high }
+    requires operands { AreOperands store.old operation }
+    requires made { (a : ℕ → Bool) → (if a var then table store.old high a else table store.old low a) ≡ made store.old operation a }
+    ensures live { IfOk result (λ r. IsLive store.new r) }
+    ensures first { IfOk result (λ r. var ≤ first_var store.new r) }
+    ensures table { IfOk result (λ r. (a : ℕ → Bool) → table store.new r a ≡ (if a var then table store.old high a else table store.old low a)) }
+    ensures reached { IfOk result (λ r. (q : Ref) → IsLive store.old q → Reaches store.old low q ⊎ Reaches store.old high q → Reaches store.new r q) }
+    ensures fresh { IfOk result (λ r. (q : Ref) → IsLive store.new q → IsLive store.old q ⊎ (q ≡ r)) }
+    ensures keeps { Keeps store.old store.new }
+    ensures sound { IsSound store.new }
+    ensures calls { store.new.calls ≤ store.old.calls + (if is_ok result then 1 else 0) }
+{
+    match store.node(var, low, high) {
+        Ok(r) => {
+            store.remember(operation, r);
+            Ok(r)
+        }
+        Err(e) => Err(e),
+    }
+}
+
+/// The operation of a join.
+fn joining(unit: bool, f: Ref, g: Ref) -> Operation
+    ensures operands { (d : Diagram) → IsLive d f → IsLive d g → AreOperands d result }
+    ensures made { (d : Diagram) (a : ℕ → Bool) → made d result a ≡ joined unit (table d f a) (table d g a) }
+{
+    if unit {
+        Operation::And(f, g)
+    } else {
+        Operation::Or(f, g)
+    }
+}
+
+/// The operation of a change.
+fn changing(back: u32, flip: bool, f: Ref) -> Operation
+    requires { back ≡ (if flip then 0 else 1) }
+    ensures operands { (d : Diagram) → IsLive d f → AreOperands d result }
+    ensures made { (d : Diagram) (a : ℕ → Bool) → made d result a ≡ changed back flip (table d f) a }
+{
+    let _ = back;
+    if flip {
+        Operation::Not(f)
+    } else {
+        Operation::Rename(f)
+    }
 }
 
 /// The conjunction where `unit` is true, and else the disjunction.
@@ -75,6 +135,11 @@ fn join_from(
     if f == g {
         return Ok(f);
     }
+    let operation = joining(unit, f, g);
+    match store.recall(operation) {
+        Some(r) => return Ok(r),
+        None => {}
+    }
     match memo.get(f, g) {
         Some(r) => return Ok(r),
         None => {}
@@ -86,7 +151,7 @@ fn join_from(
     let (g_low, g_high) = split(store, g, var);
     let low = join_from(store, memo, unit, f_low, g_low)?;
     let high = join_from(store, memo, unit, f_high, g_high)?;
-    let r = store.node(var, low, high)?;
+    let r = result_node(store, operation, var, low, high)?;
     memo.insert(f, g, r)?;
     Ok(r)
 }
@@ -99,6 +164,7 @@ fn change_from(
     flip: bool,
     f: Ref,
 ) -> Result<Ref, AllocError>
+    requires back { back ≡ (if flip then 0 else 1) }
     requires live { IsLive store.old f }
     requires later { IsProper store.old f → back ≤ first_var store.old f }
     requires sound { IsSound store.old }
@@ -118,6 +184,11 @@ fn change_from(
     if let Some(x) = store.is_constant(f) {
         return Ok(store.constant(x != flip));
     }
+    let operation = changing(back, flip, f);
+    match store.recall(operation) {
+        Some(r) => return Ok(r),
+        None => {}
+    }
     match memo.get(f, f) {
         Some(r) => return Ok(r),
         None => {}
@@ -127,7 +198,7 @@ fn change_from(
     let f_high = store.high(f);
     let low = change_from(store, memo, back, flip, f_low)?;
     let high = change_from(store, memo, back, flip, f_high)?;
-    let r = store.node(var - back, low, high)?;
+    let r = result_node(store, operation, var - back, low, high)?;
     memo.insert(f, f, r)?;
     Ok(r)
 }
@@ -165,13 +236,18 @@ fn exists_from(
     if first == var {
         return join_from(store, joins, false, f_low, f_high);
     }
+    let operation = Operation::Exists(f, var);
+    match store.recall(operation) {
+        Some(r) => return Ok(r),
+        None => {}
+    }
     match memo.get(f, f) {
         Some(r) => return Ok(r),
         None => {}
     }
     let low = exists_from(store, joins, memo, var, f_low)?;
     let high = exists_from(store, joins, memo, var, f_high)?;
-    let r = store.node(first, low, high)?;
+    let r = result_node(store, operation, first, low, high)?;
     memo.insert(f, f, r)?;
     Ok(r)
 }

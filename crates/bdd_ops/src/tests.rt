@@ -68,6 +68,19 @@ fn joins_opposites(rt: HostRuntime) -> Result<(), Fail> {
 }
 
 #[test]
+fn recalls_a_result(rt: HostRuntime) -> Result<(), Fail> {
+    let mut store = Store::new(rt.alloc(), 2)?;
+    let x = literal(&mut store, 0)?;
+    let y = literal(&mut store, 1)?;
+    let first = and(rt.alloc(), &mut store, x, y)?;
+    let calls = store.calls();
+    let again = and(rt.alloc(), &mut store, x, y)?;
+    assert_eq!(rt; again, first);
+    assert_eq!(rt; store.calls(), calls);
+    Ok(())
+}
+
+#[test]
 fn takes_a_variable_out(rt: HostRuntime) -> Result<(), Fail> {
     let mut store = Store::new(rt.alloc(), 2)?;
     let f = differ(rt.alloc(), &mut store)?;

@@ -18,3 +18,4 @@ pub mod NewLaws
 pub mod HeldLaws
 pub mod SweepLaws
 pub mod Functions
+pub mod ResultLaws

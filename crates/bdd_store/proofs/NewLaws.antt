@@ -35,7 +35,7 @@ module _ (n : ℕ) (nd : Node) (is_last : nd.var ≡ n) (ends : nd.next ≡ 0) w
       none : node_count n [] ≡ 0
       none = unfold node_count in refl
 
-  pub new_stored : Stored n (nd ∷ nd ∷ []) (0 ∷ []) 0 0 (false ∷ false ∷ []) 0
+  pub new_stored : Stored n (nd ∷ nd ∷ []) (0 ∷ []) 0 0 (false ∷ false ∷ []) 0 []
   new_stored = record {
     reduced = new_reduced;
     chained = none_linked n (nd ∷ nd ∷ []) (0 ∷ []) (0, one) ends first;
@@ -43,6 +43,7 @@ module _ (n : ℕ) (nd : Node) (is_last : nd.var ≡ n) (ends : nd.next ≡ 0) w
     held_counted = new_counted;
     flags = refl;
     marks_counted = refl;
+    known = λ i lt. absurd (omega arith);
   }
     where
       one : length {A = ℕ} (0 ∷ []) ≡ 2 ^ 0

@@ -3,7 +3,9 @@
 use Rattle.std.specs.Prelude.{◌≡◌, ◌≢◌, ℕ, zero, suc, ◌+◌, ◌*◌, ◌-◌, ◌%◌, ◌/◌, ◌^◌, ◌<◌, ◌≤◌, ◌⊎◌, Bool, true, false, List, length, slice_index_or, bit_and, nat_lt, if◌then◌else◌}
 use Rattle.std.specs.List.{count_by}
 use Rattle.bdd_store.specs.declared.chains.Node.{Node}
+use Rattle.bdd_store.specs.declared.results.Entry.{Entry}
 use Rattle.bdd_store.specs.Seen.{flag}
+use Rattle.bdd_store.specs.Results.{AreResults, diagram_of}
 use Rattle.bdd_store.specs.Graph.{node_at, var_at, low_at, high_at, next_at, Live, Reduced}
 
 -- a number that depends on all digits of its three
@@ -83,10 +85,11 @@ pub record GivesBack (n : ℕ) (old new : List Node) (marks : List Bool) : Type 
   pub gone : (r : ℕ) → 2 ≤ r → r < length old → flag marks r ≡ false → var_at new r ≡ n
 
 -- what the fields of a Store keep
-pub record Stored (n : ℕ) (ns : List Node) (heads : List ℕ) (free held : ℕ) (marks : List Bool) (marked : ℕ) : Type 0 where
+pub record Stored (n : ℕ) (ns : List Node) (heads : List ℕ) (free held : ℕ) (marks : List Bool) (marked : ℕ) (results : List Entry) : Type 0 where
   pub reduced : Reduced n ns
   pub chained : Chained n ns heads free (AllOf ns)
   pub few : length ns ≤ 0x1_0000_0000
   pub held_counted : held ≡ node_count n ns
   pub flags : length marks ≡ length ns
   pub marks_counted : marked ≡ count_by (λ (s : Bool). s) marks
+  pub known : AreResults (diagram_of n ns) results

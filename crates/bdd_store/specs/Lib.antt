@@ -4,3 +4,4 @@ pub mod Graph
 pub mod Seen
 pub mod Chains
 pub mod Steps
+pub mod Results

@@ -5,6 +5,7 @@ ghost use Rattle.std.specs.Prelude.{◌≡◌, ◌≢◌, ◌↔◌, ◌⊎◌, 
 ghost use Rattle.std.specs.Prelude.{List, [], ◌∷◌, ◌++◌, count_by};
 ghost use Rattle.bdd_store.specs.Diagram.{Diagram, IsLive, AreLive, table, tables_of, IsSound, IsCanonical, first_var, IsConstant, IsProper, DependsFrom, Reaches, held, Keeps, HasMarks, KeepsMarks, IsKept, Sweeps};
 ghost use Rattle.bdd_store.specs.Steps.{Grows, Stays, Gives, IsFound};
+ghost use Rattle.bdd_store.specs.Results.{IsResult};
 ghost use Rattle.bdd_store.specs.Beads.{bead_count};
 ghost use Rattle.bdd_store.specs.Graph.{with_at};
 ghost use Rattle.bdd_store.specs.declared.Ref.{Ref};
@@ -13,11 +14,13 @@ use std::alloc::{AllocError, Global};
 use std::marker::Model;
 
 mod chains;
+mod results;
 #[cfg(test)]
 mod tests;
 mod visits;
 
 use chains::{Node, add, bucket_of, find, give_back, grow, link_all};
+use results::{Entry, forget, put, widen};
 use visits::{clear, count_below, visit};
 
 /// A function of the store that gave it, of which it says nothing: a Ref means in each store what stands at its place.
@@ -35,6 +38,18 @@ impl Ref {
     }
 }
 
+/// An operation and its operands.
+#[derive(Clone, Copy, PartialEq, Eq)]
+pub enum Operation {
+    And(Ref, Ref),
+    Or(Ref, Ref),
+    Not(Ref),
+    /// Each variable is replaced by the one before it.
+    Rename(Ref),
+    /// The disjunction of the function with the variable at 0 and with it at 1.
+    Exists(Ref, u32),
+}
+
 /// Functions of a fixed number of variables. It holds fewer than 2^32 nodes.
 #[derive(Drop)]
 pub struct Store {
@@ -46,6 +61,7 @@ pub struct Store {
     held: usize,
     marks: Vec<bool>,
     marked: usize,
+    results: Vec<Entry>,
 }
 
 impl Model for Store {
@@ -57,7 +73,7 @@ impl Model for Store {
 
     ghost view = { λ s. record { vars = s.vars; calls = s.calls; spare = min (min (vec_capacity s.nodes) (vec_capacity s.marks)) 0x1_0000_0000 - (s.held + 2); nodes = s.nodes.items; marks = s.marks.items } };
 
-    ghost invariant = { λ s. Stored s.vars s.nodes.items s.heads.items s.free s.held s.marks.items s.marked };
+    ghost invariant = { λ s. Stored s.vars s.nodes.items s.heads.items s.free s.held s.marks.items s.marked s.results.items };
 }
 
 impl Store {
@@ -89,6 +105,7 @@ impl Store {
             held: 0,
             marks: vec![in alloc; false; 2]?,
             marked: 0,
+            results: Vec::new(alloc),
         })
     }
 
@@ -186,7 +203,7 @@ impl Store {
         answer
     }
 
-    // Makes more chains where there are more nodes than chains.
+    // Makes more chains where there are more nodes than chains, and so many places for results.
     fn make_room(&mut self)
         ensures stays { Stays self.old self.new }
         ensures calls { self.new.calls ≡ self.old.calls }
@@ -194,6 +211,7 @@ impl Store {
     {
         if self.nodes.len() > self.heads.len() {
             self.free = grow(&mut self.nodes, &mut self.heads, self.free, self.vars);
+            widen(&mut self.results, self.heads.len());
         }
     }
 
@@ -364,5 +382,21 @@ impl Store {
         self.free = link_all(&mut self.nodes, &mut self.heads, self.vars);
         clear(&mut self.marks);
         self.marked = 0;
+        forget(&mut self.results);
+    }
+
+    /// The result of an operation, if it is known.
+    pub fn recall(&self, operation: Operation) -> Option<Ref>
+        ensures { IfSome result (IsResult self.now operation) }
+    {
+        results::find(&self.results, operation)
+    }
+
+    /// Keeps the result of an operation, until another takes its place or a sweep forgets all.
+    pub fn remember(&mut self, operation: Operation, answer: Ref)
+        requires { IsResult self.old operation answer }
+        ensures { self.new ≡ self.old }
+    {
+        put(&mut self.results, operation, answer);
     }
 }

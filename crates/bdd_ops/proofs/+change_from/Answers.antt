@@ -6,6 +6,7 @@ use Rattle.bdd_store.specs.Diagram.{IsLive, table, first_var, Reaches, Keeps}
 use Rattle.bdd_ops.specs.Memo.{changed, IsImage, OnesBelow}
 use Rattle.bdd_ops.proofs.MemoLaws.{keeps_after, image_found, one_longer, same_table, first_within, images_kept, ones_kept, pair_test, holds_put, holds_same, put_other, once_put, once_same}
 use Rattle.bdd_ops.proofs.Tables.{split_at, changed_cond}
+use Rattle.bdd_ops.proofs.Recalled.{change_first}
 use Rattle.bdd_ops.proofs.Held.{fresh_node}
 use Rattle.bdd_ops.proofs.+change_from.Goals as goal
 
@@ -28,16 +29,40 @@ returns-in_err-high-clause-reached t c top live_top reach ones =
     (c.in_ok-low.ensures.keeps.reached top c.high-f_high.result live_top c.high-f_high.ensures.live (c.high-f_high.ensures.reached top live_top reach))
     (c.in_ok-low.ensures.reached top live_top (c.low-f_low.ensures.reached top live_top reach) ones)
 
+pub returns-in-Some-recall-clause-first : goal.returns-in-Some-recall-clause-first
+returns-in-Some-recall-clause-first t c =
+    let d = c.args.store.now in
+    let is = c.in-Some-recall.ensures in
+    change_first d c.requires.sound c.in-Some-recall.r is.live c.args.back c.args.flip c.args.f c.requires.live (λ a. is.table a ∙ c.changing-operation.ensures.made d a)
+
+-- what the store comes to know is right
+pub result_node-requires-clause-made : goal.result_node-requires-clause-made
+result_node-requires-clause-made t c a =
+    let before = c.args.store.now in
+    let middle = c.change_from.new.store in
+    let last = c.change_from-2.new.store in
+    let v = c.var-var.result in
+    let split = split_at (table before c.args.f) (table before c.low-f_low.result) (table before c.high-f_high.result) v
+    (λ e. c.low-f_low.ensures.table e ∙ ap (λ y. table before c.args.f (with_at e y false)) (sym c.var-var.ensures.var))
+    (λ e. c.high-f_high.ensures.table e ∙ ap (λ y. table before c.args.f (with_at e y true)) (sym c.var-var.ensures.var)) in
+    let low_is = c.in_ok-high.ensures.keeps.tables c.in_ok-low.low c.in_ok-low.ensures.live a ∙ c.in_ok-low.ensures.table a in
+    let high_is = c.in_ok-high.ensures.table a ∙ ap (λ T. changed c.args.back c.args.flip T a) (same_table before middle c.in_ok-low.ensures.keeps c.high-f_high.result c.high-f_high.ensures.live) in
+    ap (λ y. cond (a (v - c.args.back)) y (table last c.in_ok-low.low a)) high_is
+    ∙ ap (λ y. cond (a (v - c.args.back)) (changed c.args.back c.args.flip (table before c.high-f_high.result) a) y) low_is
+    ∙ changed_cond c.args.back c.args.flip (table before c.args.f) (table before c.high-f_high.result) (table before c.low-f_low.result) v a split
+    ∙ ap (λ (T : (ℕ → Bool) → Bool). changed c.args.back c.args.flip T a) (sym (same_table before last (keeps_after before middle last c.in_ok-low.ensures.keeps c.in_ok-high.ensures.keeps) c.args.f c.requires.live))
+    ∙ sym (c.changing-operation.ensures.made last a)
+
 -- after both branches
 both_keep_no_node : (t : ℕ) (c : goal.After-from_residual-in_err-r t) → Keeps c.args.store.now c.change_from-2.new.store
 both_keep_no_node t c = keeps_after c.args.store.now c.change_from.new.store c.change_from-2.new.store c.in_ok-low.ensures.keeps c.in_ok-high.ensures.keeps
 
-all_keep_no_node : (t : ℕ) (c : goal.After-from_residual-in_err-r t) → Keeps c.args.store.now c.node.new.self
-all_keep_no_node t c = keeps_after c.args.store.now c.change_from-2.new.store c.node.new.self (both_keep_no_node t c) c.in_err-r.ensures.keeps
+all_keep_no_node : (t : ℕ) (c : goal.After-from_residual-in_err-r t) → Keeps c.args.store.now c.result_node.new.store
+all_keep_no_node t c = keeps_after c.args.store.now c.change_from-2.new.store c.result_node.new.store (both_keep_no_node t c) c.in_err-r.ensures.keeps
 
-ones_no_node : (t : ℕ) (c : goal.After-from_residual-in_err-r t) (top : Ref) → IsLive c.args.store.now top → Reaches c.args.store.now top c.args.f → OnesBelow c.args.store.now top c.args.memo.now → OnesBelow c.node.new.self top c.change_from-2.new.memo
+ones_no_node : (t : ℕ) (c : goal.After-from_residual-in_err-r t) (top : Ref) → IsLive c.args.store.now top → Reaches c.args.store.now top c.args.f → OnesBelow c.args.store.now top c.args.memo.now → OnesBelow c.result_node.new.store top c.change_from-2.new.memo
 ones_no_node t c top live_top reach ones =
-    ones_kept (changed c.args.back c.args.flip) c.args.back c.change_from-2.new.store c.node.new.self c.change_from-2.new.memo top c.in_err-r.ensures.keeps c.in_ok-high.ensures.memo ((both_keep_no_node t c).live top live_top)
+    ones_kept (changed c.args.back c.args.flip) c.args.back c.change_from-2.new.store c.result_node.new.store c.change_from-2.new.memo top c.in_err-r.ensures.keeps c.in_ok-high.ensures.memo ((both_keep_no_node t c).live top live_top)
     (c.in_ok-high.ensures.reached top (c.in_ok-low.ensures.keeps.live top live_top)
     (c.in_ok-low.ensures.keeps.reached top c.high-f_high.result live_top c.high-f_high.ensures.live (c.high-f_high.ensures.reached top live_top reach))
     (c.in_ok-low.ensures.reached top live_top (c.low-f_low.ensures.reached top live_top reach) ones))
@@ -46,7 +71,7 @@ pub returns-in_err-r-clause-keeps : goal.returns-in_err-r-clause-keeps
 returns-in_err-r-clause-keeps t c = all_keep_no_node t c
 
 pub returns-in_err-r-clause-memo : goal.returns-in_err-r-clause-memo
-returns-in_err-r-clause-memo t c = images_kept (changed c.args.back c.args.flip) c.args.back c.change_from-2.new.store c.node.new.self c.change_from-2.new.memo c.in_err-r.ensures.keeps c.in_ok-high.ensures.memo
+returns-in_err-r-clause-memo t c = images_kept (changed c.args.back c.args.flip) c.args.back c.change_from-2.new.store c.result_node.new.store c.change_from-2.new.memo c.in_err-r.ensures.keeps c.in_ok-high.ensures.memo
 
 pub returns-in_err-r-clause-reached : goal.returns-in_err-r-clause-reached
 returns-in_err-r-clause-reached t c = ones_no_node t c
@@ -55,12 +80,12 @@ returns-in_err-r-clause-reached t c = ones_no_node t c
 both_keep_no_room : (t : ℕ) (c : goal.After-from_residual-in_err-insert t) → Keeps c.args.store.now c.change_from-2.new.store
 both_keep_no_room t c = keeps_after c.args.store.now c.change_from.new.store c.change_from-2.new.store c.in_ok-low.ensures.keeps c.in_ok-high.ensures.keeps
 
-all_keep_no_room : (t : ℕ) (c : goal.After-from_residual-in_err-insert t) → Keeps c.args.store.now c.node.new.self
-all_keep_no_room t c = keeps_after c.args.store.now c.change_from-2.new.store c.node.new.self (both_keep_no_room t c) c.in_ok-r.ensures.keeps
+all_keep_no_room : (t : ℕ) (c : goal.After-from_residual-in_err-insert t) → Keeps c.args.store.now c.result_node.new.store
+all_keep_no_room t c = keeps_after c.args.store.now c.change_from-2.new.store c.result_node.new.store (both_keep_no_room t c) c.in_ok-r.ensures.keeps
 
-ones_no_room : (t : ℕ) (c : goal.After-from_residual-in_err-insert t) (top : Ref) → IsLive c.args.store.now top → Reaches c.args.store.now top c.args.f → OnesBelow c.args.store.now top c.args.memo.now → OnesBelow c.node.new.self top c.change_from-2.new.memo
+ones_no_room : (t : ℕ) (c : goal.After-from_residual-in_err-insert t) (top : Ref) → IsLive c.args.store.now top → Reaches c.args.store.now top c.args.f → OnesBelow c.args.store.now top c.args.memo.now → OnesBelow c.result_node.new.store top c.change_from-2.new.memo
 ones_no_room t c top live_top reach ones =
-    ones_kept (changed c.args.back c.args.flip) c.args.back c.change_from-2.new.store c.node.new.self c.change_from-2.new.memo top c.in_ok-r.ensures.keeps c.in_ok-high.ensures.memo ((both_keep_no_room t c).live top live_top)
+    ones_kept (changed c.args.back c.args.flip) c.args.back c.change_from-2.new.store c.result_node.new.store c.change_from-2.new.memo top c.in_ok-r.ensures.keeps c.in_ok-high.ensures.memo ((both_keep_no_room t c).live top live_top)
     (c.in_ok-high.ensures.reached top (c.in_ok-low.ensures.keeps.live top live_top)
     (c.in_ok-low.ensures.keeps.reached top c.high-f_high.result live_top c.high-f_high.ensures.live (c.high-f_high.ensures.reached top live_top reach))
     (c.in_ok-low.ensures.reached top live_top (c.low-f_low.ensures.reached top live_top reach) ones))
@@ -70,23 +95,23 @@ returns-in_err-insert-clause-keeps t c = all_keep_no_room t c
 
 pub returns-in_err-insert-clause-memo : goal.returns-in_err-insert-clause-memo
 returns-in_err-insert-clause-memo t c =
-    holds_same same_pair pair_test (IsImage (changed c.args.back c.args.flip) c.args.back c.node.new.self) c.change_from-2.new.memo c.insert.new.self c.in_err-insert.ensures.err
-    (images_kept (changed c.args.back c.args.flip) c.args.back c.change_from-2.new.store c.node.new.self c.change_from-2.new.memo c.in_ok-r.ensures.keeps c.in_ok-high.ensures.memo)
+    holds_same same_pair pair_test (IsImage (changed c.args.back c.args.flip) c.args.back c.result_node.new.store) c.change_from-2.new.memo c.insert.new.self c.in_err-insert.ensures.err
+    (images_kept (changed c.args.back c.args.flip) c.args.back c.change_from-2.new.store c.result_node.new.store c.change_from-2.new.memo c.in_ok-r.ensures.keeps c.in_ok-high.ensures.memo)
 
 pub returns-in_err-insert-clause-reached : goal.returns-in_err-insert-clause-reached
 returns-in_err-insert-clause-reached t c top live_top reach ones =
-    holds_same same_pair pair_test (λ p r. Reaches c.node.new.self top p.0) c.change_from-2.new.memo c.insert.new.self c.in_err-insert.ensures.err (ones_no_room t c top live_top reach ones)
+    holds_same same_pair pair_test (λ p r. Reaches c.result_node.new.store top p.0) c.change_from-2.new.memo c.insert.new.self c.in_err-insert.ensures.err (ones_no_room t c top live_top reach ones)
 
 -- after both branches
 both_keep_done : (t : ℕ) (c : goal.In_ok-insert t) → Keeps c.args.store.now c.change_from-2.new.store
 both_keep_done t c = keeps_after c.args.store.now c.change_from.new.store c.change_from-2.new.store c.in_ok-low.ensures.keeps c.in_ok-high.ensures.keeps
 
-all_keep_done : (t : ℕ) (c : goal.In_ok-insert t) → Keeps c.args.store.now c.node.new.self
-all_keep_done t c = keeps_after c.args.store.now c.change_from-2.new.store c.node.new.self (both_keep_done t c) c.in_ok-r.ensures.keeps
+all_keep_done : (t : ℕ) (c : goal.In_ok-insert t) → Keeps c.args.store.now c.result_node.new.store
+all_keep_done t c = keeps_after c.args.store.now c.change_from-2.new.store c.result_node.new.store (both_keep_done t c) c.in_ok-r.ensures.keeps
 
-ones_done : (t : ℕ) (c : goal.In_ok-insert t) (top : Ref) → IsLive c.args.store.now top → Reaches c.args.store.now top c.args.f → OnesBelow c.args.store.now top c.args.memo.now → OnesBelow c.node.new.self top c.change_from-2.new.memo
+ones_done : (t : ℕ) (c : goal.In_ok-insert t) (top : Ref) → IsLive c.args.store.now top → Reaches c.args.store.now top c.args.f → OnesBelow c.args.store.now top c.args.memo.now → OnesBelow c.result_node.new.store top c.change_from-2.new.memo
 ones_done t c top live_top reach ones =
-    ones_kept (changed c.args.back c.args.flip) c.args.back c.change_from-2.new.store c.node.new.self c.change_from-2.new.memo top c.in_ok-r.ensures.keeps c.in_ok-high.ensures.memo ((both_keep_done t c).live top live_top)
+    ones_kept (changed c.args.back c.args.flip) c.args.back c.change_from-2.new.store c.result_node.new.store c.change_from-2.new.memo top c.in_ok-r.ensures.keeps c.in_ok-high.ensures.memo ((both_keep_done t c).live top live_top)
     (c.in_ok-high.ensures.reached top (c.in_ok-low.ensures.keeps.live top live_top)
     (c.in_ok-low.ensures.keeps.reached top c.high-f_high.result live_top c.high-f_high.ensures.live (c.high-f_high.ensures.reached top live_top reach))
     (c.in_ok-low.ensures.reached top live_top (c.low-f_low.ensures.reached top live_top reach) ones))
@@ -96,11 +121,11 @@ returns-clause-keeps t c = all_keep_done t c
 
 pub returns-clause-fresh : goal.returns-clause-fresh
 returns-clause-fresh t c =
-    fresh_node c.args.store.now c.change_from.new.store c.change_from-2.new.store c.node.new.self c.in_ok-low.low c.in_ok-high.high c.in_ok-r.r
+    fresh_node c.args.store.now c.change_from.new.store c.change_from-2.new.store c.result_node.new.store c.in_ok-low.low c.in_ok-high.high c.in_ok-r.r
     c.in_ok-low.ensures.fresh c.in_ok-high.ensures.fresh c.in_ok-high.ensures.keeps c.in_ok-low.ensures.live c.in_ok-r.ensures.fresh c.in_ok-r.ensures.reached
 
 -- the table of the new result
-table_done : (t : ℕ) (c : goal.In_ok-insert t) (a : ℕ → Bool) → table c.node.new.self c.in_ok-r.r a ≡ changed c.args.back c.args.flip (table c.args.store.now c.args.f) a
+table_done : (t : ℕ) (c : goal.In_ok-insert t) (a : ℕ → Bool) → table c.result_node.new.store c.in_ok-r.r a ≡ changed c.args.back c.args.flip (table c.args.store.now c.args.f) a
 table_done t c a =
     let before = c.args.store.now in
     let middle = c.change_from.new.store in
@@ -120,7 +145,7 @@ pub returns-clause-table : goal.returns-clause-table
 returns-clause-table t c = table_done t c
 
 -- the new result is right
-answer_done : (t : ℕ) (c : goal.In_ok-insert t) → IsImage (changed c.args.back c.args.flip) c.args.back c.node.new.self (c.args.f, c.args.f) c.in_ok-r.r
+answer_done : (t : ℕ) (c : goal.In_ok-insert t) → IsImage (changed c.args.back c.args.flip) c.args.back c.result_node.new.store (c.args.f, c.args.f) c.in_ok-r.r
 answer_done t c =
     let keeps = all_keep_done t c in
     let f_first = keeps.firsts c.args.f c.requires.live in
@@ -130,13 +155,13 @@ answer_done t c =
       from_proper = omega (arith, f_first, keeps.vars, c.var-var.ensures.within, c.var-var.ensures.var);
       live = c.in_ok-r.ensures.live;
       first = omega (arith, c.in_ok-r.ensures.first, c.var-var.ensures.var, f_first);
-      table = λ a. table_done t c a ∙ ap (λ T. changed c.args.back c.args.flip T a) (sym (same_table c.args.store.now c.node.new.self keeps c.args.f c.requires.live));
+      table = λ a. table_done t c a ∙ ap (λ T. changed c.args.back c.args.flip T a) (sym (same_table c.args.store.now c.result_node.new.store keeps c.args.f c.requires.live));
     }
 
 pub returns-clause-memo : goal.returns-clause-memo
 returns-clause-memo t c =
-    holds_put same_pair pair_test (IsImage (changed c.args.back c.args.flip) c.args.back c.node.new.self) c.change_from-2.new.memo c.insert.new.self (c.args.f, c.args.f) c.in_ok-r.r c.in_ok-insert.ensures.ok
-    (images_kept (changed c.args.back c.args.flip) c.args.back c.change_from-2.new.store c.node.new.self c.change_from-2.new.memo c.in_ok-r.ensures.keeps c.in_ok-high.ensures.memo) (answer_done t c)
+    holds_put same_pair pair_test (IsImage (changed c.args.back c.args.flip) c.args.back c.result_node.new.store) c.change_from-2.new.memo c.insert.new.self (c.args.f, c.args.f) c.in_ok-r.r c.in_ok-insert.ensures.ok
+    (images_kept (changed c.args.back c.args.flip) c.args.back c.change_from-2.new.store c.result_node.new.store c.change_from-2.new.memo c.in_ok-r.ensures.keeps c.in_ok-high.ensures.memo) (answer_done t c)
 
 -- neither branch touches a node of an earlier variable
 low_untouched : (t : ℕ) (c : goal.In_ok-insert t) (p : Ref) → IsLive c.args.store.now p → first_var c.args.store.now p ≤ first_var c.args.store.now c.args.f → result_of c.change_from-2.new.memo (p, p) ≡ result_of c.args.memo.now (p, p)
@@ -156,14 +181,14 @@ returns-clause-untouched t c p live lt =
 
 pub returns-clause-reached : goal.returns-clause-reached
 returns-clause-reached t c top live_top reach ones =
-    holds_put same_pair pair_test (λ p r. Reaches c.node.new.self top p.0) c.change_from-2.new.memo c.insert.new.self (c.args.f, c.args.f) c.in_ok-r.r c.in_ok-insert.ensures.ok
+    holds_put same_pair pair_test (λ p r. Reaches c.result_node.new.store top p.0) c.change_from-2.new.memo c.insert.new.self (c.args.f, c.args.f) c.in_ok-r.r c.in_ok-insert.ensures.ok
     (ones_done t c top live_top reach ones) ((all_keep_done t c).reached top c.args.f live_top c.requires.live reach)
 
 -- the Ref is not kept yet
 still_absent : (t : ℕ) (c : goal.In_ok-insert t) → result_of c.change_from-2.new.memo (c.args.f, c.args.f) ≡ None
 still_absent t c =
     let le : first_var c.args.store.now c.args.f ≤ first_var c.args.store.now c.args.f = omega arith in
-    low_untouched t c c.args.f c.requires.live le ∙ sym c.in-None.ensures.value
+    low_untouched t c c.args.f c.requires.live le ∙ sym c.in-None-get.ensures.value
 
 pub returns-clause-once : goal.returns-clause-once
 returns-clause-once t c once =

@@ -16,6 +16,7 @@ invariant_of-self c =
       held_counted = is.held_counted;
       flags = omega (arith, is.flags, c.clear.ensures.room, c.clear.new.seen.ok.0, c.self.inside.marks.ok.0);
       marks_counted = none_counted c.clear.new.seen.items c.clear.ensures.clear;
+      known = is.known;
     }
 
 pub returns-clause-marks : goal.returns-clause-marks

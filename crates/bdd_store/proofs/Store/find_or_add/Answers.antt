@@ -3,11 +3,12 @@ use Rattle.std.proofs.lemmas.List.{get_or_default}
 use Rattle.bdd_store.specs.declared.chains.Node.{Node}
 use Rattle.bdd_store.specs.contracts.Store.{the_view}
 use Rattle.bdd_store.specs.Chains.{bucket_of, start, InChain, IsFalling, AllOf, Matches, Chained, Puts}
-use Rattle.bdd_store.specs.Diagram.{Diagram, IsLive, IsSound, held}
+use Rattle.bdd_store.specs.Diagram.{Diagram, IsSound, held}
 use Rattle.bdd_store.specs.Seen.{flag}
 use Rattle.bdd_store.proofs.ChainLaws.{chain_falling}
 use Rattle.bdd_store.proofs.Puts.{counted_few, counted_full}
 use Rattle.bdd_store.proofs.NodeLaws.{same_grows, flags_grows, same_held, same_live, child_gives, found_gives, IsPut, put_gives, absent_everywhere, held_is, on_err, le_more}
+use Rattle.bdd_store.proofs.ResultLaws.{known_extends}
 use Rattle.bdd_store.proofs.Store.find_or_add.Goals as goal
 
 -- both children are one
@@ -165,6 +166,7 @@ invariant_of-self-2 c =
       held_counted = omega (arith, is.held_counted, after.counted);
       flags = omega (arith, after.flags, c.add.new.nodes.ok.0, c.add.new.marks.ok.0);
       marks_counted = is.marks_counted ∙ sym after.marked;
+      known = known_extends c.self.inside.vars c.self.inside.nodes.items c.add.new.nodes.items c.self.inside.results.items is.reduced after.puts.same is.known;
     }
 
 pub returns-clause-grows : goal.returns-clause-grows

@@ -7,6 +7,7 @@ use Rattle.bdd_store.specs.Graph.{Live, below}
 use Rattle.bdd_store.specs.Beads.{bead_count}
 use Rattle.bdd_store.specs.Seen.{SeenIs, places_of}
 use Rattle.bdd_store.specs.Chains.{GivesBack}
+use Rattle.bdd_store.specs.Results.{diagram_of}
 use Rattle.bdd_store.specs.Diagram.{Diagram, IsLive, AreLive, ref_at, IsSound, HasMarks, tables_of, held}
 use Rattle.bdd_store.proofs.Laws.{equal_refs}
 use Rattle.bdd_store.proofs.CountLaws.{none_counted, count_is}
@@ -31,7 +32,7 @@ invariant_of-self c =
     let marks = c.count_below-self-inside.new.seen.items in
     let seen = subst (λ (x : Diagram). SeenIs marks (flat_map (below x.nodes x.vars 0) (places_of roots))) c.self.view_is (subst (λ (ns : List Node). SeenIs marks (flat_map (below ns c.self.inside.vars 0) (places_of roots))) c.deref.ensures.value c.count_below-self-inside.ensures.seen) in
     let gives = subst (λ (x : Diagram). GivesBack x.vars x.nodes ms marks) c.self.view_is (subst (λ (l : List Bool). GivesBack c.self.inside.vars c.self.inside.nodes.items ms l) c.deref-2.ensures.value c.give_back.ensures.gives_back) in
-    let e : Diagram = the_view (record c.self.inside { nodes = c.link_all-self-inside.new.nodes; heads = c.link_all-self-inside.new.heads; free = c.link_all-self-inside.result; held = c.count_below-self-inside.result; marks = c.clear-2.new.seen; marked = 0 }) in
+    let e : Diagram = the_view (record c.self.inside { nodes = c.link_all-self-inside.new.nodes; heads = c.link_all-self-inside.new.heads; free = c.link_all-self-inside.result; held = c.count_below-self-inside.result; marks = c.clear-2.new.seen; marked = 0; results = c.forget.new.results }) in
     let len : length marks ≡ length d.nodes = omega (arith, ap (λ (x : Diagram). length x.nodes) c.self.view_is, c.count_below-self-inside.ensures.room, c.deref.ensures.len, ap (λ (l : List Node). length l) c.deref.ensures.value, c.count_below-self-inside.new.seen.ok.0) in
     let graph = c.link_all-self-inside.ensures.same in
     record {
@@ -41,6 +42,7 @@ invariant_of-self c =
       held_counted = c.count_below-self-inside.ensures.counted ∙ sym (swept_counted d e ms marks roots ok same_vars gives c.link_all-self-inside.ensures.same c.requires seen len);
       flags = omega (arith, c.clear-2.ensures.room, c.clear-2.new.seen.ok.0, c.count_below-self-inside.new.seen.ok.0, len, ap (λ (x : Diagram). length x.nodes) c.self.view_is, graph.count, c.give_back.ensures.gives_back.count);
       marks_counted = none_counted c.clear-2.new.seen.items c.clear-2.ensures.clear;
+      known = c.forget.ensures (diagram_of c.self.inside.vars c.link_all-self-inside.new.nodes.items) (swept_sound d e ms marks roots ok same_vars gives c.link_all-self-inside.ensures.same c.requires seen);
     }
 
 pub returns-clause-sweeps : goal.returns-clause-sweeps
@@ -54,7 +56,7 @@ returns-clause-sweeps c =
     let marks = c.count_below-self-inside.new.seen.items in
     let seen = subst (λ (x : Diagram). SeenIs marks (flat_map (below x.nodes x.vars 0) (places_of roots))) c.self.view_is (subst (λ (ns : List Node). SeenIs marks (flat_map (below ns c.self.inside.vars 0) (places_of roots))) c.deref.ensures.value c.count_below-self-inside.ensures.seen) in
     let gives = subst (λ (x : Diagram). GivesBack x.vars x.nodes ms marks) c.self.view_is (subst (λ (l : List Bool). GivesBack c.self.inside.vars c.self.inside.nodes.items ms l) c.deref-2.ensures.value c.give_back.ensures.gives_back) in
-    let e : Diagram = the_view (record c.self.inside { nodes = c.link_all-self-inside.new.nodes; heads = c.link_all-self-inside.new.heads; free = c.link_all-self-inside.result; held = c.count_below-self-inside.result; marks = c.clear-2.new.seen; marked = 0 }) in
+    let e : Diagram = the_view (record c.self.inside { nodes = c.link_all-self-inside.new.nodes; heads = c.link_all-self-inside.new.heads; free = c.link_all-self-inside.result; held = c.count_below-self-inside.result; marks = c.clear-2.new.seen; marked = 0; results = c.forget.new.results }) in
     let len : length marks ≡ length d.nodes = omega (arith, ap (λ (x : Diagram). length x.nodes) c.self.view_is, c.count_below-self-inside.ensures.room, c.deref.ensures.len, ap (λ (l : List Node). length l) c.deref.ensures.value, c.count_below-self-inside.new.seen.ok.0) in
     swept d e ms marks roots ok same_vars gives c.link_all-self-inside.ensures.same c.requires seen
 
@@ -69,7 +71,7 @@ returns-clause-kept c =
     let marks = c.count_below-self-inside.new.seen.items in
     let seen = subst (λ (x : Diagram). SeenIs marks (flat_map (below x.nodes x.vars 0) (places_of roots))) c.self.view_is (subst (λ (ns : List Node). SeenIs marks (flat_map (below ns c.self.inside.vars 0) (places_of roots))) c.deref.ensures.value c.count_below-self-inside.ensures.seen) in
     let gives = subst (λ (x : Diagram). GivesBack x.vars x.nodes ms marks) c.self.view_is (subst (λ (l : List Bool). GivesBack c.self.inside.vars c.self.inside.nodes.items ms l) c.deref-2.ensures.value c.give_back.ensures.gives_back) in
-    let e : Diagram = the_view (record c.self.inside { nodes = c.link_all-self-inside.new.nodes; heads = c.link_all-self-inside.new.heads; free = c.link_all-self-inside.result; held = c.count_below-self-inside.result; marks = c.clear-2.new.seen; marked = 0 }) in
+    let e : Diagram = the_view (record c.self.inside { nodes = c.link_all-self-inside.new.nodes; heads = c.link_all-self-inside.new.heads; free = c.link_all-self-inside.result; held = c.count_below-self-inside.result; marks = c.clear-2.new.seen; marked = 0; results = c.forget.new.results }) in
     let len : length marks ≡ length d.nodes = omega (arith, ap (λ (x : Diagram). length x.nodes) c.self.view_is, c.count_below-self-inside.ensures.room, c.deref.ensures.len, ap (λ (l : List Node). length l) c.deref.ensures.value, c.count_below-self-inside.new.seen.ok.0) in
     swept_kept d e ms marks roots ok same_vars gives c.link_all-self-inside.ensures.same c.requires seen
 
@@ -84,7 +86,7 @@ returns-clause-beads c =
     let marks = c.count_below-self-inside.new.seen.items in
     let seen = subst (λ (x : Diagram). SeenIs marks (flat_map (below x.nodes x.vars 0) (places_of roots))) c.self.view_is (subst (λ (ns : List Node). SeenIs marks (flat_map (below ns c.self.inside.vars 0) (places_of roots))) c.deref.ensures.value c.count_below-self-inside.ensures.seen) in
     let gives = subst (λ (x : Diagram). GivesBack x.vars x.nodes ms marks) c.self.view_is (subst (λ (l : List Bool). GivesBack c.self.inside.vars c.self.inside.nodes.items ms l) c.deref-2.ensures.value c.give_back.ensures.gives_back) in
-    let e : Diagram = the_view (record c.self.inside { nodes = c.link_all-self-inside.new.nodes; heads = c.link_all-self-inside.new.heads; free = c.link_all-self-inside.result; held = c.count_below-self-inside.result; marks = c.clear-2.new.seen; marked = 0 }) in
+    let e : Diagram = the_view (record c.self.inside { nodes = c.link_all-self-inside.new.nodes; heads = c.link_all-self-inside.new.heads; free = c.link_all-self-inside.result; held = c.count_below-self-inside.result; marks = c.clear-2.new.seen; marked = 0; results = c.forget.new.results }) in
     let len : length marks ≡ length d.nodes = omega (arith, ap (λ (x : Diagram). length x.nodes) c.self.view_is, c.count_below-self-inside.ensures.room, c.deref.ensures.len, ap (λ (l : List Node). length l) c.deref.ensures.value, c.count_below-self-inside.new.seen.ok.0) in
     swept_held d e ms marks roots ok same_vars gives c.link_all-self-inside.ensures.same c.requires seen len
 
@@ -99,7 +101,7 @@ returns-clause-held c =
     let marks = c.count_below-self-inside.new.seen.items in
     let seen = subst (λ (x : Diagram). SeenIs marks (flat_map (below x.nodes x.vars 0) (places_of roots))) c.self.view_is (subst (λ (ns : List Node). SeenIs marks (flat_map (below ns c.self.inside.vars 0) (places_of roots))) c.deref.ensures.value c.count_below-self-inside.ensures.seen) in
     let gives = subst (λ (x : Diagram). GivesBack x.vars x.nodes ms marks) c.self.view_is (subst (λ (l : List Bool). GivesBack c.self.inside.vars c.self.inside.nodes.items ms l) c.deref-2.ensures.value c.give_back.ensures.gives_back) in
-    let e : Diagram = the_view (record c.self.inside { nodes = c.link_all-self-inside.new.nodes; heads = c.link_all-self-inside.new.heads; free = c.link_all-self-inside.result; held = c.count_below-self-inside.result; marks = c.clear-2.new.seen; marked = 0 }) in
+    let e : Diagram = the_view (record c.self.inside { nodes = c.link_all-self-inside.new.nodes; heads = c.link_all-self-inside.new.heads; free = c.link_all-self-inside.result; held = c.count_below-self-inside.result; marks = c.clear-2.new.seen; marked = 0; results = c.forget.new.results }) in
     let len : length marks ≡ length d.nodes = omega (arith, ap (λ (x : Diagram). length x.nodes) c.self.view_is, c.count_below-self-inside.ensures.room, c.deref.ensures.len, ap (λ (l : List Node). length l) c.deref.ensures.value, c.count_below-self-inside.new.seen.ok.0) in
     swept_held d e ms marks roots ok same_vars gives c.link_all-self-inside.ensures.same c.requires seen len ∙ ap (bead_count d.vars) (swept_tables d e ms marks roots ok same_vars gives c.link_all-self-inside.ensures.same c.requires seen) ∙ ap (λ m. bead_count m (tables_of e roots)) (sym same_vars)
 
@@ -119,7 +121,7 @@ returns-clause-sound c =
     let marks = c.count_below-self-inside.new.seen.items in
     let seen = subst (λ (x : Diagram). SeenIs marks (flat_map (below x.nodes x.vars 0) (places_of roots))) c.self.view_is (subst (λ (ns : List Node). SeenIs marks (flat_map (below ns c.self.inside.vars 0) (places_of roots))) c.deref.ensures.value c.count_below-self-inside.ensures.seen) in
     let gives = subst (λ (x : Diagram). GivesBack x.vars x.nodes ms marks) c.self.view_is (subst (λ (l : List Bool). GivesBack c.self.inside.vars c.self.inside.nodes.items ms l) c.deref-2.ensures.value c.give_back.ensures.gives_back) in
-    let e : Diagram = the_view (record c.self.inside { nodes = c.link_all-self-inside.new.nodes; heads = c.link_all-self-inside.new.heads; free = c.link_all-self-inside.result; held = c.count_below-self-inside.result; marks = c.clear-2.new.seen; marked = 0 }) in
+    let e : Diagram = the_view (record c.self.inside { nodes = c.link_all-self-inside.new.nodes; heads = c.link_all-self-inside.new.heads; free = c.link_all-self-inside.result; held = c.count_below-self-inside.result; marks = c.clear-2.new.seen; marked = 0; results = c.forget.new.results }) in
     let len : length marks ≡ length d.nodes = omega (arith, ap (λ (x : Diagram). length x.nodes) c.self.view_is, c.count_below-self-inside.ensures.room, c.deref.ensures.len, ap (λ (l : List Node). length l) c.deref.ensures.value, c.count_below-self-inside.new.seen.ok.0) in
     swept_sound d e ms marks roots ok same_vars gives c.link_all-self-inside.ensures.same c.requires seen
 
@@ -134,7 +136,7 @@ returns-clause-canonical c =
     let marks = c.count_below-self-inside.new.seen.items in
     let seen = subst (λ (x : Diagram). SeenIs marks (flat_map (below x.nodes x.vars 0) (places_of roots))) c.self.view_is (subst (λ (ns : List Node). SeenIs marks (flat_map (below ns c.self.inside.vars 0) (places_of roots))) c.deref.ensures.value c.count_below-self-inside.ensures.seen) in
     let gives = subst (λ (x : Diagram). GivesBack x.vars x.nodes ms marks) c.self.view_is (subst (λ (l : List Bool). GivesBack c.self.inside.vars c.self.inside.nodes.items ms l) c.deref-2.ensures.value c.give_back.ensures.gives_back) in
-    let e : Diagram = the_view (record c.self.inside { nodes = c.link_all-self-inside.new.nodes; heads = c.link_all-self-inside.new.heads; free = c.link_all-self-inside.result; held = c.count_below-self-inside.result; marks = c.clear-2.new.seen; marked = 0 }) in
+    let e : Diagram = the_view (record c.self.inside { nodes = c.link_all-self-inside.new.nodes; heads = c.link_all-self-inside.new.heads; free = c.link_all-self-inside.result; held = c.count_below-self-inside.result; marks = c.clear-2.new.seen; marked = 0; results = c.forget.new.results }) in
     let len : length marks ≡ length d.nodes = omega (arith, ap (λ (x : Diagram). length x.nodes) c.self.view_is, c.count_below-self-inside.ensures.room, c.deref.ensures.len, ap (λ (l : List Node). length l) c.deref.ensures.value, c.count_below-self-inside.new.seen.ok.0) in
     equal_refs e (swept_sound d e ms marks roots ok same_vars gives c.link_all-self-inside.ensures.same c.requires seen)
 
@@ -149,7 +151,7 @@ returns-clause-spare c =
     let marks = c.count_below-self-inside.new.seen.items in
     let seen = subst (λ (x : Diagram). SeenIs marks (flat_map (below x.nodes x.vars 0) (places_of roots))) c.self.view_is (subst (λ (ns : List Node). SeenIs marks (flat_map (below ns c.self.inside.vars 0) (places_of roots))) c.deref.ensures.value c.count_below-self-inside.ensures.seen) in
     let gives = subst (λ (x : Diagram). GivesBack x.vars x.nodes ms marks) c.self.view_is (subst (λ (l : List Bool). GivesBack c.self.inside.vars c.self.inside.nodes.items ms l) c.deref-2.ensures.value c.give_back.ensures.gives_back) in
-    let e : Diagram = the_view (record c.self.inside { nodes = c.link_all-self-inside.new.nodes; heads = c.link_all-self-inside.new.heads; free = c.link_all-self-inside.result; held = c.count_below-self-inside.result; marks = c.clear-2.new.seen; marked = 0 }) in
+    let e : Diagram = the_view (record c.self.inside { nodes = c.link_all-self-inside.new.nodes; heads = c.link_all-self-inside.new.heads; free = c.link_all-self-inside.result; held = c.count_below-self-inside.result; marks = c.clear-2.new.seen; marked = 0; results = c.forget.new.results }) in
     let len : length marks ≡ length d.nodes = omega (arith, ap (λ (x : Diagram). length x.nodes) c.self.view_is, c.count_below-self-inside.ensures.room, c.deref.ensures.len, ap (λ (l : List Node). length l) c.deref.ensures.value, c.count_below-self-inside.new.seen.ok.0) in
     let count : c.count_below-self-inside.result ≡ bead_count d.vars (tables_of d roots) = c.count_below-self-inside.ensures.counted ∙ count_is d ok roots (each_root d e ms marks roots ok same_vars gives c.link_all-self-inside.ensures.same c.requires seen) marks seen in
     let most = beads_most d ok roots c.requires in

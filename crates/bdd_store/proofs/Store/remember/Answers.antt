@@ -1,0 +1,23 @@
+use Rattle.std.proofs.Common.{ap, subst}
+use Rattle.bdd_store.specs.Diagram.{Diagram, IsSound}
+use Rattle.bdd_store.specs.Results.{diagram_of}
+use Rattle.bdd_store.proofs.ResultLaws.{result_there}
+use Rattle.bdd_store.proofs.Store.remember.Goals as goal
+
+pub invariant_of-self : goal.invariant_of-self
+unfolding IsSound
+invariant_of-self c =
+    let is = c.self.invariant in
+    let d = c.args.self.now in
+    let ok : IsSound d = subst IsSound c.self.view_is is.reduced in
+    let same_vars = ap (λ (x : Diagram). x.vars) c.self.view_is in
+    let same_nodes = ap (λ (x : Diagram). x.nodes) c.self.view_is in
+    record {
+      reduced = is.reduced;
+      chained = is.chained;
+      few = is.few;
+      held_counted = is.held_counted;
+      flags = is.flags;
+      marks_counted = is.marks_counted;
+      known = c.put.ensures (diagram_of c.self.inside.vars c.self.inside.nodes.items) is.known (result_there _ _ d c.args.operation c.args.answer ok same_vars same_nodes c.requires);
+    }
