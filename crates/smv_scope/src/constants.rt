@@ -64,12 +64,7 @@ fn compare(tables: &Tables, names: &[Word], last: Option<Compared>, list: usize)
 }
 
 // Whether a constant of this list belongs to another one.
-fn is_of_other(
-    tables: &Tables,
-    names: &[Word],
-    last: &mut Option<Compared>,
-    word: &Word,
-) -> bool
+fn is_of_other(tables: &Tables, names: &[Word], last: &mut Option<Compared>, word: &Word) -> bool
     requires tables { AreTables tables.now }
     requires last { IsCompared tables.now.lists.items names.now last.old }
     ensures other { result ≡ is_of_other_list names.now (find_name (constants (pieces tables.now.text.now)) word.now.name) }

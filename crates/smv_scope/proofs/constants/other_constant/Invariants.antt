@@ -10,5 +10,5 @@ use Rattle.smv_scope.proofs.constants.other_constant.Given as goal
 abbrev pub invariant-loop-word : goal.invariant-loop-word
 invariant-loop-word l =
     (first_of_places l.first (least (flat_map (λ word. place_if (is_of_other_list l.names (find_name (constants (pieces l.tables.text.now)) word.name)) word.at) (drop l.word-index l.names)))
-      ≡ least (flat_map (λ word. place_if (is_of_other_list l.names (find_name (constants (pieces l.tables.text.now)) word.name)) word.at) l.names))
+    ≡ least (flat_map (λ word. place_if (is_of_other_list l.names (find_name (constants (pieces l.tables.text.now)) word.name)) word.at) l.names))
     × IsCompared l.tables.lists.items l.names l.last
