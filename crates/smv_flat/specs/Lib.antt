@@ -1,0 +1,4 @@
+pub mod Numbers
+pub mod Statements
+pub mod Entries
+pub mod Flattening
