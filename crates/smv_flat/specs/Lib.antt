@@ -2,3 +2,4 @@ pub mod Numbers
 pub mod Statements
 pub mod Entries
 pub mod Flattening
+pub mod Agreement
