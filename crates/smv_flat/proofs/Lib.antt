@@ -1,2 +1,3 @@
 pub mod FlatLists
 pub mod Lookups
+pub mod SameReads
