@@ -1,15 +1,17 @@
 -- What flattened expressions and statements mean that are made of lists and values.
-use Rattle.std.proofs.Common.{◌≡◌, ℕ, ◌+◌, ◌-◌, Bool, List, [], ◌∷◌, ◌++◌, map, Option, Some, None, slice_get, refl, ap, ◌∙◌}
+use Rattle.std.proofs.Common.{◌≡◌, ℕ, ◌+◌, ◌-◌, Bool, List, [], ◌∷◌, ◌++◌, map, filter, Option, Some, None, slice_get, true, refl, ap, ◌∙◌}
 use Rattle.std.specs.List.{flat_map}
-use Rattle.smv_core.specs.Values.{Value, Outcome, number, numbers_from, truth, bit, add, conjunction, disjunction, implication, equal}
-use Rattle.smv_core.specs.Outcome.{branch}
+use Rattle.smv_core.specs.Values.{Value, Outcome, number, numbers_from, truth, bit, add, modulo, not_of, iff_of, conjunction, disjunction, implication, equal, compare}
+use Rattle.smv_core.specs.Outcome.{branch, fit, is_true}
 use Rattle.smv_core.specs.Walk.{Walk, first, first_of, if_walk}
-use Rattle.smv_core.specs.Flat.{Numbered, FlatState, FlatBindings, FlatElement, bind, values_in, flat_element_at, flat_outcome, flat_outcomes, flat_sum, flat_listed, flat_members, flat_walk, flat_walks}
+use Rattle.smv_core.specs.Flat.{Numbered, FlatState, FlatBindings, FlatElement, bind, values_in, flat_element_at, flat_outcome, flat_outcomes, flat_sum, flat_listed, flat_members, flat_allowed_by, flat_walk, flat_walks}
 use Rattle.smv_core.specs.declared.tree.Kind.{Kind}
+use Rattle.smv_core.specs.declared.tree.Op.{Op}
+use Rattle.smv_core.specs.declared.flat.Simple.{Simple}
 use Rattle.smv_core.specs.declared.flat.FlatSigned.{FlatSigned, out-FlatSigned}
 use Rattle.smv_core.specs.declared.flat.FlatMember.{FlatMember, One, Span as SpanOf}
-use Rattle.smv_core.specs.declared.flat.FlatExpr.{FlatExpr, Read, Read', And, And', Or, Or', Implies, Implies', Sum, Sum', List as ListOf, List', Row_of-FlatExpr, end_of-FlatExpr, more_of-FlatExpr, Row_of-FlatMember, end_of-FlatMember, more_of-FlatMember, Row_of-FlatSigned, end_of-FlatSigned, more_of-FlatSigned, items-the_row-FlatExpr, items-the_row-FlatMember, items-the_row-FlatSigned, items_hidden-the_row-FlatExpr-0, items_hidden-the_row-FlatSigned-2, items_hidden-the_row-FlatMember-3}
-use Rattle.smv_core.specs.declared.flat.FlatStmt.{FlatStmt, Block, Block', Row_of-FlatStmt, end_of-FlatStmt, more_of-FlatStmt, items-the_row-FlatStmt, items_hidden-the_row-FlatStmt-1}
+use Rattle.smv_core.specs.declared.flat.FlatExpr.{FlatExpr, Not, Iff, Compare, Within, Modulo, Choose, All, Any, Each, Read, Read', And, And', Or, Or', Implies, Implies', Sum, Sum', List as ListOf, List', Row_of-FlatExpr, end_of-FlatExpr, more_of-FlatExpr, Row_of-FlatMember, end_of-FlatMember, more_of-FlatMember, Row_of-FlatSigned, end_of-FlatSigned, more_of-FlatSigned, items-the_row-FlatExpr, items-the_row-FlatMember, items-the_row-FlatSigned, items_hidden-the_row-FlatExpr-0, items_hidden-the_row-FlatSigned-2, items_hidden-the_row-FlatMember-3}
+use Rattle.smv_core.specs.declared.flat.FlatStmt.{FlatStmt, If, Default, Forall, Block, Block', Row_of-FlatStmt, end_of-FlatStmt, more_of-FlatStmt, items-the_row-FlatStmt, items_hidden-the_row-FlatStmt-1}
 use mathlib.Core.Former.{Count}
 
 -- what lets a box of a flattened expression or statement compute
@@ -90,6 +92,62 @@ module _ (n : Numbered) (s : FlatState) where
       let row : (k : Count) × Row_of-FlatSigned k = signed_in (Sum head more) in
       sum-row row.0 row.1 (flat_outcome n s head b) b ∙ ap (λ l. sum_of b l (flat_outcome n s head b)) (items_hidden-the_row-FlatSigned-2 more)
 
+  -- ---- boxes
+
+  pub outcome-Not : (e : FlatExpr) (at : ℕ) (b : FlatBindings) → flat_outcome n s (Not e at) b ≡ bit (not_of (truth (flat_outcome n s e b)))
+  unfolding boxes
+  outcome-Not e at b = refl
+
+  pub outcome-Iff : (l r : FlatExpr) (b : FlatBindings) → flat_outcome n s (Iff l r) b ≡ bit (iff_of (truth (flat_outcome n s l b)) (truth (flat_outcome n s r b)))
+  unfolding boxes
+  outcome-Iff l r b = refl
+
+  pub outcome-Compare : (op : Op) (l r : FlatExpr) (b : FlatBindings) → flat_outcome n s (Compare op l r) b ≡ bit (compare op (flat_outcome n s l b) (flat_outcome n s r b))
+  unfolding boxes
+  outcome-Compare op l r b = refl
+
+  pub outcome-Within : (l r : FlatExpr) (b : FlatBindings) → flat_outcome n s (Within l r) b ≡ bit (disjunction (map (equal (flat_outcome n s l b)) (flat_listed n s r b)))
+  unfolding boxes
+  outcome-Within l r b = refl
+
+  pub outcome-Modulo : (e : FlatExpr) (by at : ℕ) (b : FlatBindings) → flat_outcome n s (Modulo e by at) b ≡ modulo (flat_outcome n s e b) by
+  unfolding boxes
+  outcome-Modulo e by at b = refl
+
+  pub outcome-Choose : (c l r : FlatExpr) (b : FlatBindings) → flat_outcome n s (Choose c l r) b ≡ branch None (truth (flat_outcome n s c b)) (flat_outcome n s l b) (flat_outcome n s r b)
+  unfolding boxes
+  outcome-Choose c l r b = refl
+
+  pub outcome-All : (body : FlatExpr) (var : ℕ) (over : Simple) (at : ℕ) (b : FlatBindings) → flat_outcome n s (All body var over at) b ≡ bit (conjunction (map (λ v. truth (flat_outcome n s body (bind b var v))) (values_in n over)))
+  unfolding boxes
+  outcome-All body var over at b = refl
+
+  pub outcome-Any : (body : FlatExpr) (var : ℕ) (over : Simple) (at : ℕ) (b : FlatBindings) → flat_outcome n s (Any body var over at) b ≡ bit (disjunction (map (λ v. truth (flat_outcome n s body (bind b var v))) (values_in n over)))
+  unfolding boxes
+  outcome-Any body var over at b = refl
+
+  -- ---- right sides
+
+  pub allowed-List : (every : List Value) (ms : List FlatMember) (at : ℕ) (b : FlatBindings) → flat_allowed_by n s every (ListOf ms at) b ≡ fit every (flat_map (member_outcomes b) ms)
+  allowed-List every ms at b =
+      let row : (k : Count) × Row_of-FlatMember k = members_in (ListOf ms at) in
+      ap (fit every) (members-row row.0 row.1 b ∙ ap (flat_map (member_outcomes b)) (items_hidden-the_row-FlatMember-3 ms))
+
+  pub allowed-Choose : (every : List Value) (c l r : FlatExpr) (b : FlatBindings) → flat_allowed_by n s every (Choose c l r) b ≡ branch every (truth (flat_outcome n s c b)) (flat_allowed_by n s every l b) (flat_allowed_by n s every r b)
+  unfolding boxes
+  allowed-Choose every c l r b = refl
+
+  pub allowed-Each : (every : List Value) (var : ℕ) (over : Simple) (at : ℕ) (b : FlatBindings) → flat_allowed_by n s every (Each var over None at) b ≡ fit every (map Some (filter (λ v. true) (values_in n over)))
+  unfolding boxes
+  allowed-Each every var over at b = refl
+
+  pub allowed-Each_if : (every : List Value) (var : ℕ) (over : Simple) (cond : FlatExpr) (at : ℕ) (b : FlatBindings) →
+      flat_allowed_by n s every (Each var over (Some cond) at) b ≡ fit every (map Some (filter (λ v. is_true (truth (flat_outcome n s cond (bind b var v)))) (values_in n over)))
+  unfolding boxes
+  allowed-Each_if every var over cond at b = refl
+
+  -- ---- statements
+
   module _ (x : FlatElement) (every : List Value) (kind : Kind) where
     walks-row : (k : _) (row : Row_of-FlatStmt k) (b : FlatBindings) → flat_walks n s x every kind row b ≡ first (map (λ act. flat_walk n s x every kind act b) (items-the_row-FlatStmt k row))
     walks-row k end_of-FlatStmt b = refl
@@ -103,3 +161,15 @@ module _ (n : Numbered) (s : FlatState) where
     walk-Block acts b =
         let row : (k : Count) × Row_of-FlatStmt k = stmts_of (Block acts) in
         walks-row row.0 row.1 b ∙ ap (λ l. first (map (λ act. flat_walk n s x every kind act b) l)) (items_hidden-the_row-FlatStmt-1 acts)
+
+    pub walk-If : (cond : FlatExpr) (l r : FlatStmt) (b : FlatBindings) → flat_walk n s x every kind (If cond l r) b ≡ if_walk every (truth (flat_outcome n s cond b)) (flat_walk n s x every kind l b) (flat_walk n s x every kind r b)
+    unfolding boxes
+    walk-If cond l r b = refl
+
+    pub walk-Default : (l r : FlatStmt) (b : FlatBindings) → flat_walk n s x every kind (Default l r) b ≡ first_of (flat_walk n s x every kind r b) (flat_walk n s x every kind l b)
+    unfolding boxes
+    walk-Default l r b = refl
+
+    pub walk-Forall : (var : ℕ) (over : Simple) (body : FlatStmt) (b : FlatBindings) → flat_walk n s x every kind (Forall var over body) b ≡ first (map (λ v. flat_walk n s x every kind body (bind b var v)) (values_in n over))
+    unfolding boxes
+    walk-Forall var over body b = refl

@@ -1,3 +1,4 @@
 pub mod FlatLists
 pub mod Lookups
 pub mod SameReads
+pub mod SameOutcomes
