@@ -2,3 +2,4 @@ pub mod FlatLists
 pub mod Lookups
 pub mod SameReads
 pub mod SameOutcomes
+pub mod SameWalks
