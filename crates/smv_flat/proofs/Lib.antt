@@ -3,3 +3,5 @@ pub mod Lookups
 pub mod SameReads
 pub mod SameOutcomes
 pub mod SameWalks
+pub mod SameFamilies
+pub mod SameText

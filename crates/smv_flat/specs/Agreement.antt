@@ -17,7 +17,10 @@ use Rattle.smv_core.specs.declared.tree.Stmt.{Stmt, Assign, Block', If', Switch'
 use Rattle.smv_core.specs.declared.tree.Stmt as stmt
 use Rattle.smv_core.specs.declared.flat.FlatExpr.{FlatExpr}
 use Rattle.smv_core.specs.declared.flat.Raw.{Raw}
+use Rattle.smv_core.specs.FlatOrder.{design_of}
+use Rattle.smv_core.specs.declared.tree.Text.{Text}
 use Rattle.smv_flat.specs.Numbers.{Scope, flat_simple, family_number, variable_at}
+use Rattle.smv_flat.specs.Flattening.{scope_in, flatten}
 
 -- what the numbers in a flattened text stand for, at sizes
 abbrev pub numbers_of : Raw → Sizes → Numbered
@@ -133,3 +136,11 @@ module _ (scope : Scope) (n : Numbered) where
     pub ArmsAreRight : {m : _} → Around → Row_of-Arm m → Type 0
     ArmsAreRight vars end_of-Arm = Unit {0}
     ArmsAreRight vars (more_of-Arm labels body rest) = AreRight vars labels × StatementIsRight vars body × ArmsAreRight vars rest
+
+-- the numbers of a text's flattened form, and where its instances stand
+abbrev pub numbers_in : Text → Sizes → Numbered
+numbers_in text sizes = numbers_of (flatten text) sizes
+
+-- the index types of each family of a text have numbers
+abbrev pub AreNumbered : Text → Sizes → Type 0
+AreNumbered text sizes = All (HasNumbers (scope_in text []) (numbers_in text sizes)) (design_of text).families

@@ -1,1 +1,50 @@
 // Laws of flattening, each the contract of a function that does nothing.
+ghost use Rattle.std.specs.Prelude.{◌≡◌, List, Some};
+ghost use Rattle.smv_core.specs.Values.{Path, Value, Sizes};
+ghost use Rattle.smv_core.specs.Types.{Family};
+ghost use Rattle.smv_core.specs.FlatOrder.{design_of};
+ghost use Rattle.smv_core.specs.Outcome.{State, Bindings, outcome, allowed_by, family_at};
+ghost use Rattle.smv_core.specs.Walk.{Element, walk};
+ghost use Rattle.smv_core.specs.Allowed.{scene_at};
+ghost use Rattle.smv_core.specs.Assignments.{Around};
+ghost use Rattle.smv_core.specs.Conflicts.{Agrees};
+ghost use Rattle.smv_core.specs.Flat.{FlatState, flat_outcome, flat_allowed_by, flat_walk};
+ghost use Rattle.smv_core.specs.declared.tree.Kind.{Kind};
+ghost use Rattle.smv_core.specs.declared.tree.Text.{Text};
+ghost use Rattle.smv_core.specs.declared.tree.Expr.{Expr};
+ghost use Rattle.smv_core.specs.declared.tree.Stmt.{Stmt};
+ghost use Rattle.smv_flat.specs.Statements.{flat_expr, flat_stmt};
+ghost use Rattle.smv_flat.specs.Flattening.{scope_in};
+ghost use Rattle.smv_flat.specs.Agreement.{
+  AreNumbered,
+  AreSameStates,
+  IsRight,
+  StatementIsRight,
+  flat_element,
+  numbers_in,
+  values_bound,
+};
+
+/// The outcome of a flattened expression is that of the expression, in each instance, at all sizes and in each state,
+/// where the names in it are known and the types of families and binders have numbers.
+pub fn outcomes_are_the_same()
+    ensures { (text : Text) (sizes : Sizes) (s : State) (t : FlatState) → AreSameStates (design_of text).families s t → AreNumbered text sizes →
+        (instance : Path) (vars : Around) (e : Expr) (b : Bindings) → Agrees vars b → IsRight (scope_in text instance) (numbers_in text sizes) vars e →
+        flat_outcome (numbers_in text sizes) t (flat_expr (scope_in text instance) vars e) (values_bound vars b) ≡ outcome (scene_at (design_of text) sizes instance) s e b }
+{}
+
+/// A flattened right side allows the values that the right side allows.
+pub fn right_sides_are_the_same()
+    ensures { (text : Text) (sizes : Sizes) (s : State) (t : FlatState) → AreSameStates (design_of text).families s t → AreNumbered text sizes →
+        (instance : Path) (every : List Value) (vars : Around) (e : Expr) (b : Bindings) → Agrees vars b → IsRight (scope_in text instance) (numbers_in text sizes) vars e →
+        flat_allowed_by (numbers_in text sizes) t every (flat_expr (scope_in text instance) vars e) (values_bound vars b) ≡ allowed_by (scene_at (design_of text) sizes instance) s every e b }
+{}
+
+/// A flattened statement gives each element of each family what the statement gives it.
+pub fn walks_are_the_same()
+    ensures { (text : Text) (sizes : Sizes) (s : State) (t : FlatState) → AreSameStates (design_of text).families s t → AreNumbered text sizes →
+        (kind : Kind) (x : Element) (every : List Value) (f : Family) → family_at (design_of text).families x.path ≡ Some f →
+        (instance : Path) (vars : Around) (act : Stmt) (b : Bindings) → Agrees vars b → StatementIsRight (scope_in text instance) (numbers_in text sizes) vars act →
+        flat_walk (numbers_in text sizes) t (flat_element (scope_in text instance) (numbers_in text sizes) x) every kind (flat_stmt (scope_in text instance) vars act) (values_bound vars b)
+          ≡ walk (scene_at (design_of text) sizes instance) s kind x every act b }
+{}
