@@ -5,3 +5,4 @@ pub mod SameOutcomes
 pub mod SameWalks
 pub mod SameFamilies
 pub mod SameText
+pub mod Entries

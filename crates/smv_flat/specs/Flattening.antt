@@ -155,14 +155,14 @@ with_places k (other ∷ items) = other ∷ with_places k items
 
 -- ---- the whole
 
-module _ (text : Text) (layers : List Name) where
-  abbrev pub layer_number : Name → ℕ
-  layer_number name = position_or_len (bytes_eq name) layers
+abbrev pub layer_number : List Name → Name → ℕ
+layer_number layers name = position_or_len (bytes_eq name) layers
 
-  abbrev pub flat_entry : Entry → List FlatItem
-  flat_entry (layer name) = []
-  flat_entry (statement x) = item.Act (option_map layer_number x.layer) (flat_stmt (scope_in text x.instance) [] x.act) ∷ []
-  flat_entry (goal instance binders g) = flat_goal (scope_in text instance) binders g ∷ []
+-- an entry of a text with these layers
+abbrev pub flat_entry : Text → List Name → Entry → List FlatItem
+flat_entry text layers (layer name) = []
+flat_entry text layers (statement x) = item.Act (option_map (layer_number layers) x.layer) (flat_stmt (scope_in text x.instance) [] x.act) ∷ []
+flat_entry text layers (goal instance binders g) = flat_goal (scope_in text instance) binders g ∷ []
 
 -- The flattened text. For a text with a fault of names, kinds, ranges or sizes it may be anything.
 abbrev pub flatten : Text → Raw

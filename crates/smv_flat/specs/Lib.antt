@@ -3,3 +3,4 @@ pub mod Statements
 pub mod Entries
 pub mod Flattening
 pub mod Agreement
+pub mod WholeText
