@@ -6,3 +6,5 @@ pub mod SameWalks
 pub mod SameFamilies
 pub mod SameText
 pub mod Entries
+pub mod Layers
+pub mod SameSets

@@ -1,6 +1,7 @@
 -- What is found in lists by place and by test, and how two maps or filters agree.
-use Rattle.std.proofs.Common.{◌≡◌, ℕ, zero, suc, ◌+◌, ◌<◌, ◌≤◌, List, [], ◌∷◌, ◌++◌, map, filter, find, length, get_or, take, slice_get, Option, Some, None, option_map, All, Bool, true, false, cond, not, ◌||◌, refl, sym, ap, ◌∙◌, subst, arith}
+use Rattle.std.proofs.Common.{◌≡◌, ℕ, zero, suc, ◌+◌, ◌<◌, ◌≤◌, List, [], ◌∷◌, ◌++◌, map, filter, find, length, get_or, take, nat_eq, slice_get, Option, Some, None, option_map, All, Bool, true, false, cond, not, ◌||◌, refl, sym, ap, ◌∙◌, subst, arith}
 use Rattle.std.specs.List.{list_any, position_or_len}
+use Rattle.std.proofs.lemmas.Bool.{eq-eqb, eqb-true}
 
 pub map-same : {X Y : Type 0} (f g : X → Y) → ((x : X) → f x ≡ g x) → (xs : List X) → map f xs ≡ map g xs
 map-same f g h [] = refl
@@ -47,3 +48,43 @@ all-found {X} P p (y ∷ ys) x h e = by_test (p y) e (all-found P p ys x (all-ta
     by_test : (b : Bool) → cond b (Some y) (find p ys) ≡ Some x → (find p ys ≡ Some x → P x) → P x
     by_test true e rest = let q : y ≡ x = cc in subst P q (all-head P y ys h)
     by_test false e rest = rest e
+
+-- what is found passes, so some element passes
+pub found-any : {X : Type 0} (p : X → Bool) (xs : List X) (x : X) → find p xs ≡ Some x → list_any p xs ≡ true
+found-any p [] x e = absurd (cc)
+found-any {X} p (y ∷ ys) x e = by_test (p y) e (found-any p ys x)
+  where
+    by_test : (b : Bool) → cond b (Some y) (find p ys) ≡ Some x → (find p ys ≡ Some x → list_any p ys ≡ true) → (b || list_any p ys) ≡ true
+    by_test true e rest = refl
+    by_test false e rest = rest e
+
+-- ---- first places
+
+pub same_test : (p q : Bool) → (p ≡ true → q ≡ true) → (q ≡ true → p ≡ true) → p ≡ q
+same_test true q h k = sym (h refl)
+same_test false true h k = k refl
+same_test false false h k = refl
+
+pub nat_eq-shift : (a b : ℕ) → nat_eq (1 + a) (1 + b) ≡ nat_eq a b
+nat_eq-shift a b = same_test (nat_eq (1 + a) (1 + b)) (nat_eq a b)
+    (λ e. let g : 1 + a ≡ 1 + b = eqb-true (1 + a) (1 + b) e in eq-eqb a b (omega (arith, g)))
+    (λ e. eq-eqb (1 + a) (1 + b) (ap (λ k. 1 + k) (eqb-true a b e)))
+
+pub nat_eq-first : (a : ℕ) → nat_eq 0 (1 + a) ≡ false
+nat_eq-first a = same_test (nat_eq 0 (1 + a)) false (λ e. let g : 0 ≡ 1 + a = eqb-true 0 (1 + a) e in absurd (omega (arith, g))) (λ e. absurd (cc (e)))
+
+pub nat_eq-second : (a : ℕ) → nat_eq (1 + a) 0 ≡ false
+nat_eq-second a = same_test (nat_eq (1 + a) 0) false (λ e. let g : 1 + a ≡ 0 = eqb-true (1 + a) 0 e in absurd (omega (arith, g))) (λ e. absurd (cc (e)))
+
+-- Two tests have one first place exactly where r is true, if some element passes the second: where both pass r is true, and where one passes it is false.
+pub places-same : {X : Type 0} (p q : X → Bool) (r : Bool) → ((x : X) → p x ≡ true → q x ≡ true → r ≡ true) → ((x : X) → p x ≡ true → q x ≡ false → r ≡ false) → ((x : X) → p x ≡ false → q x ≡ true → r ≡ false) →
+    (xs : List X) → list_any q xs ≡ true → nat_eq (position_or_len p xs) (position_or_len q xs) ≡ r
+places-same p q r both one other [] e = absurd (cc)
+places-same {X} p q r both one other (x ∷ xs) e = by_tests (p x) (q x) refl refl e (places-same p q r both one other xs)
+  where
+    by_tests : (b c : Bool) → p x ≡ b → q x ≡ c → (c || list_any q xs) ≡ true → (list_any q xs ≡ true → nat_eq (position_or_len p xs) (position_or_len q xs) ≡ r) →
+        nat_eq (cond (not b) (1 + position_or_len p xs) 0) (cond (not c) (1 + position_or_len q xs) 0) ≡ r
+    by_tests true true h k e rest = sym (both x h k)
+    by_tests true false h k e rest = nat_eq-first (position_or_len q xs) ∙ sym (one x h k)
+    by_tests false true h k e rest = nat_eq-second (position_or_len p xs) ∙ sym (other x h k)
+    by_tests false false h k e rest = nat_eq-shift (position_or_len p xs) (position_or_len q xs) ∙ rest e

@@ -3,7 +3,6 @@ use Rattle.std.proofs.Common.{◌≡◌, ℕ, zero, suc, ◌+◌, List, [], ◌�
 use Rattle.std.specs.Option.{is_none}
 use Rattle.std.specs.Str.{bytes_eq}
 use Rattle.std.specs.List.{list_any, position_or_len, flat_map}
-use Rattle.std.proofs.lemmas.Bool.{eq-eqb, eqb-true}
 use Rattle.std.proofs.lemmas.Slice.Eq.{bytes_eq-Decides, slice_eq-Decides}
 use Rattle.smv_core.specs.Values.{Name, Path, Value, number, Sizes, Outcome, Truth, truth, bit, equal, disjunction}
 use Rattle.smv_core.specs.Types.{Types, Family, values_over}
@@ -25,7 +24,7 @@ use Rattle.smv_flat.specs.Numbers.{Scope, bound_in, flat_over, family_number}
 use Rattle.smv_flat.specs.Statements.{flat_expr, flat_stmt, flat_parts, flat_branch, flat_arms, first_label}
 use Rattle.smv_flat.specs.Agreement.{values_bound, flat_element, HasNumbers, RunsOver, AreSameStates, IsRight, AreRight, StatementIsRight, StatementsAreRight, BranchIsRight, ArmsAreRight}
 use Rattle.smv_flat.proofs.FlatLists.{each_outcome, member_outcomes, outcome-Within, listed-List, walk-Block, walk-If, walk-Default, walk-Forall}
-use Rattle.smv_flat.proofs.Lookups.{map-same}
+use Rattle.smv_flat.proofs.Lookups.{map-same, places-same, found-any}
 use Rattle.smv_flat.proofs.SameReads as reads
 use Rattle.smv_flat.proofs.SameReads.{bind-one_more, over-same}
 use Rattle.smv_flat.proofs.SameOutcomes.{outcome-same, allowed-same}
@@ -36,22 +35,6 @@ truth-bit (Some false) = refl
 truth-bit (Some true) = refl
 
 -- ---- families by number
-
-same_test : (p q : Bool) → (p ≡ true → q ≡ true) → (q ≡ true → p ≡ true) → p ≡ q
-same_test true q h k = sym (h refl)
-same_test false true h k = k refl
-same_test false false h k = refl
-
-nat_eq-shift : (a b : ℕ) → nat_eq (1 + a) (1 + b) ≡ nat_eq a b
-nat_eq-shift a b = same_test (nat_eq (1 + a) (1 + b)) (nat_eq a b)
-    (λ e. let g : 1 + a ≡ 1 + b = eqb-true (1 + a) (1 + b) e in eq-eqb a b (omega (arith, g)))
-    (λ e. eq-eqb (1 + a) (1 + b) (ap (λ k. 1 + k) (eqb-true a b e)))
-
-nat_eq-first : (a : ℕ) → nat_eq 0 (1 + a) ≡ false
-nat_eq-first a = same_test (nat_eq 0 (1 + a)) false (λ e. let g : 0 ≡ 1 + a = eqb-true 0 (1 + a) e in absurd (omega (arith, g))) (λ e. absurd (cc (e)))
-
-nat_eq-second : (a : ℕ) → nat_eq (1 + a) 0 ≡ false
-nat_eq-second a = same_test (nat_eq (1 + a) 0) false (λ e. let g : 1 + a ≡ 0 = eqb-true (1 + a) 0 e in absurd (omega (arith, g))) (λ e. absurd (cc (e)))
 
 path-equal : (p q : Path) → same_path p q ≡ true → p ≡ q
 path-equal p q = (slice_eq-Decides bytes_eq-Decides p q (same_path p q) refl).0
@@ -76,16 +59,9 @@ not_both-turned x p q e f = by_test (same_path p q) refl
 -- two paths have one number where they are the same, if the second is that of a family
 number-same : (families : List Family) (p q : Path) (f : Family) → family_at families q ≡ Some f →
     nat_eq (position_or_len (λ g. same_path g.path p) families) (position_or_len (λ g. same_path g.path q) families) ≡ same_path p q
-number-same [] p q f e = absurd (cc)
-number-same (g ∷ families) p q f e = by_tests (same_path g.path p) (same_path g.path q) refl refl e (number-same families p q f)
-  where
-    by_tests : (b c : Bool) → same_path g.path p ≡ b → same_path g.path q ≡ c → cond c (Some g) (family_at families q) ≡ Some f →
-        (family_at families q ≡ Some f → nat_eq (position_or_len (λ g. same_path g.path p) families) (position_or_len (λ g. same_path g.path q) families) ≡ same_path p q) →
-        nat_eq (cond (not b) (1 + position_or_len (λ g. same_path g.path p) families) 0) (cond (not c) (1 + position_or_len (λ g. same_path g.path q) families) 0) ≡ same_path p q
-    by_tests true true h k e rest = sym (path-same p q (sym (path-equal g.path p h) ∙ path-equal g.path q k))
-    by_tests true false h k e rest = nat_eq-first (position_or_len (λ g. same_path g.path q) families) ∙ sym (not_both g.path p q h k)
-    by_tests false true h k e rest = nat_eq-second (position_or_len (λ g. same_path g.path p) families) ∙ sym (not_both-turned g.path p q h k)
-    by_tests false false h k e rest = nat_eq-shift (position_or_len (λ g. same_path g.path p) families) (position_or_len (λ g. same_path g.path q) families) ∙ rest e
+number-same families p q f e = places-same (λ g. same_path g.path p) (λ g. same_path g.path q) (same_path p q)
+    (λ g h k. path-same p q (sym (path-equal g.path p h) ∙ path-equal g.path q k)) (λ g h k. not_both g.path p q h k) (λ g h k. not_both-turned g.path p q h k) families
+    (found-any (λ g. same_path g.path q) families f e)
 
 -- ---- statements
 
