@@ -44,7 +44,7 @@ AreAlike (goal i binders (split word vars of pairs at) ∷ es) ms = AreAlike es 
 AreAlike (goal i binders (using uses proves at) ∷ es) ms = AreAlike es ms
 AreAlike (goal i binders (claim word vars body at) ∷ es) [] = ⊥
 AreAlike (goal i binders (claim word vars body at) ∷ es) (said y ∷ ms) = ⊥
-AreAlike (goal i binders (claim word vars body at) ∷ es) (claimed c ∷ ms) = (i ≡ c.instance) × (params_of binders ≡ c.params) × (body ≡ c.body) × AreAlike es ms
+AreAlike (goal i binders (claim word vars body at) ∷ es) (claimed c ∷ ms) = (i ≡ c.instance) × (params_of binders ≡ c.params) × (body ≡ c.body) × (word.name ≡ c.name) × AreAlike es ms
 
 alike-append : (es fs : List Entry) (ms ns : List Met) → AreAlike es ms → AreAlike fs ns → AreAlike (es ++ fs) (ms ++ ns)
 alike-append [] fs [] ns h k = k
@@ -57,7 +57,7 @@ alike-append (goal i binders (split word vars of pairs at) ∷ es) fs ms ns h k 
 alike-append (goal i binders (using uses proves at) ∷ es) fs ms ns h k = alike-append es fs ms ns h k
 alike-append (goal i binders (claim word vars body at) ∷ es) fs [] ns h k = absurd h
 alike-append (goal i binders (claim word vars body at) ∷ es) fs (said y ∷ ms) ns h k = absurd h
-alike-append (goal i binders (claim word vars body at) ∷ es) fs (claimed c ∷ ms) ns h k = (h.0, h.1, h.2, alike-append es fs ms ns h.3 k)
+alike-append (goal i binders (claim word vars body at) ∷ es) fs (claimed c ∷ ms) ns h k = (h.0, h.1, h.2, h.3, alike-append es fs ms ns h.4 k)
 
 alike-flat_map : {X : Type 0} (f : X → List Entry) (g : X → List Met) → ((x : X) → AreAlike (f x) (g x)) → (xs : List X) → AreAlike (flat_map f xs) (flat_map g xs)
 alike-flat_map f g h [] = tt
@@ -89,7 +89,7 @@ alike-inside var over (goal i binders (split word vars of pairs at) ∷ es) ms h
 alike-inside var over (goal i binders (using uses proves at) ∷ es) ms h = alike-inside var over es ms h
 alike-inside var over (goal i binders (claim word vars body at) ∷ es) [] h = absurd h
 alike-inside var over (goal i binders (claim word vars body at) ∷ es) (said y ∷ ms) h = absurd h
-alike-inside var over (goal i binders (claim word vars body at) ∷ es) (claimed c ∷ ms) h = (h.0, ap (λ ps. (var.name, over) ∷ ps) h.1, h.2, alike-inside var over es ms h.3)
+alike-inside var over (goal i binders (claim word vars body at) ∷ es) (claimed c ∷ ms) h = (h.0, ap (λ ps. (var.name, over) ∷ ps) h.1, h.2, h.3, alike-inside var over es ms h.4)
 
 alike-statements : (l : Option Name) (here : Path) (as' cs : List Stmt) → EachIsAlike as' cs →
     AreAlike (map (λ act. statement (record { layer = l; instance = here; act = act })) as') (map (λ act. said (record { layer = l; instance = here; act = act })) cs)
@@ -146,7 +146,7 @@ module _ (types : Types) (bodies : List (Name × Body)) where
       item-alike (Layer name body at) = alike-statements (Some name.name) here body body (alike-itself body)
       item-alike (Forall' var over shape (more_of-Item body end_of-Item) at) = alike-inside var over (item_entries types bodies inside here body) (item_met types bodies own here body) (item-alike body)
       item-alike (Block' shape items) = items-alike items
-      item-alike (Claim name vars body at) = (refl, refl, refl, tt)
+      item-alike (Claim name vars body at) = (refl, refl, refl, refl, tt)
       item-alike (Split name vars of pairs at) = tt
       item-alike (Using uses proves at) = tt
       item-alike (Act act) = (refl, refl, λ scene s kind x every b. refl, tt)

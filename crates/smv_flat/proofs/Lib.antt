@@ -8,3 +8,4 @@ pub mod SameText
 pub mod Entries
 pub mod Layers
 pub mod SameSets
+pub mod SameClaims

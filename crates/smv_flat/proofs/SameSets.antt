@@ -1,6 +1,5 @@
--- The statements of a layer, and the claims, give in the flattened text what they give on the tree.
+-- The statements of a layer give an element in the flattened text what they give it on the tree.
 use Rattle.std.proofs.Common.{◌≡◌, ℕ, zero, suc, ◌+◌, List, [], ◌∷◌, ◌++◌, map, filter, flat_map, length, All, Option, Some, None, Bool, true, false, cond, option_map, refl, sym, ap, ◌∙◌, subst}
-use Rattle.std.specs.List.{AllZip}
 use Rattle.smv_core.specs.Values.{Name, Path, Value, Sizes}
 use Rattle.smv_core.specs.Types.{Family, values_over}
 use Rattle.smv_core.specs.FlatOrder.{Met, said, claimed, Said, Claimed, design_of}
@@ -65,7 +64,7 @@ module _ (text : Text) (sizes : Sizes) (s : State) (t : FlatState) (states : Are
   acts-same (goal i binders (using uses proves at) ∷ es) ms h right listed = acts-same es ms h (all-tail (EntryIsRight text sizes) (goal i binders (using uses proves at)) es right) listed
   acts-same (goal i binders (claim word vars body at) ∷ es) [] h right listed = absurd h
   acts-same (goal i binders (claim word vars body at) ∷ es) (said y ∷ ms) h right listed = absurd h
-  acts-same (goal i binders (claim word vars body at) ∷ es) (claimed c ∷ ms) h right listed = acts-same es ms h.3 (all-tail (EntryIsRight text sizes) (goal i binders (claim word vars body at)) es right) listed
+  acts-same (goal i binders (claim word vars body at) ∷ es) (claimed c ∷ ms) h right listed = acts-same es ms h.4 (all-tail (EntryIsRight text sizes) (goal i binders (claim word vars body at)) es right) listed
   acts-same (statement y ∷ es) [] h right listed = absurd h
   acts-same (statement y ∷ es) (claimed c ∷ ms) h right listed = absurd h
   acts-same (statement y ∷ es) (said z ∷ ms) h right listed =

@@ -82,6 +82,11 @@ scope_in text instance = record {
   instance = instance;
 }
 
+-- the variables that are bound inside binders, the innermost first
+abbrev pub within : Around → Binders → Around
+within vars [] = vars
+within vars ((word, over) ∷ binders) = within ((word.name, any) ∷ vars) binders
+
 module _ (scope : Scope) where
   -- a family by its dotted name, with its types
   abbrev pub flat_family : Family × ℕ → FlatFamily
@@ -89,12 +94,7 @@ module _ (scope : Scope) where
 
   -- ---- binders
 
-  -- the variables that are bound inside binders, the innermost first
-  abbrev pub within : Around → Binders → Around
-  within vars [] = vars
-  within vars ((word, over) ∷ binders) = within ((word.name, any) ∷ vars) binders
-
-  -- the parameters that binders bind, where so many variables are bound around
+  -- the parameters that binders bind, the first at this number
   abbrev pub params_from : ℕ → Binders → List Param
   params_from k [] = []
   params_from k ((word, over) ∷ binders) = record { var = k; over = flat_over scope over; name = word.name } ∷ params_from (k + 1) binders

@@ -1,9 +1,13 @@
 -- The statements and claims of a flattened text, and when those of a text are right.
-use Rattle.std.specs.Prelude.{◌≡◌, ℕ, List, [], ◌∷◌, map, All, Option, Some, None, Bool, true, false, if◌then◌else◌, nat_eq, option_map}
+use Rattle.std.specs.Prelude.{◌≡◌, ℕ, List, [], ◌∷◌, ◌++◌, length, map, All, Option, Some, None, Bool, true, false, if◌then◌else◌, nat_eq, option_map}
 use Rattle.smv_core.specs.Values.{Name, Value, Sizes}
-use Rattle.smv_core.specs.FlatOrder.{Met, said, claimed, Claimed, Said}
+use Rattle.smv_core.specs.Types.{values_over}
+use Rattle.smv_core.specs.FlatOrder.{Met, said, claimed, Claimed, Said, design_of}
+use Rattle.smv_core.specs.Outcome.{State, outcome}
+use Rattle.smv_core.specs.Allowed.{scene_at}
+use Rattle.smv_core.specs.Sound.{bound}
 use Rattle.smv_core.specs.Walk.{Walk, first}
-use Rattle.smv_core.specs.Flat.{FlatState, FlatElement, flat_walk}
+use Rattle.smv_core.specs.Flat.{FlatState, FlatElement, flat_walk, flat_outcome, values_in}
 use Rattle.smv_core.specs.declared.tree.Word.{Word}
 use Rattle.smv_core.specs.declared.tree.Kind.{Kind}
 use Rattle.smv_core.specs.declared.tree.Text.{Text}
@@ -14,7 +18,7 @@ use Rattle.smv_core.specs.declared.flat.FlatItem.{FlatItem}
 use Rattle.smv_core.specs.declared.flat.FlatItem.TheVariants as item
 use Rattle.smv_core.specs.declared.flat.Raw.{Raw}
 use Rattle.smv_flat.specs.Entries.{Binders, Goal, claim, split, using, Entry, layer, statement, goal, entries}
-use Rattle.smv_flat.specs.Flattening.{scope_in, layer_number, within}
+use Rattle.smv_flat.specs.Flattening.{scope_in, layer_number, within, dotted}
 use Rattle.smv_flat.specs.Agreement.{numbers_of, numbers_in, RunsOver, IsRight, StatementIsRight}
 
 -- two numbers of layers are one, or both are none
@@ -53,9 +57,17 @@ module _ (text : Text) (sizes : Sizes) where
   -- the names in a statement or claim are known where it stands, and the types of its binders have numbers
   abbrev pub EntryIsRight : Entry → Type 0
   EntryIsRight (statement x) = StatementIsRight (scope_in text x.instance) (numbers_in text sizes) [] x.act
-  EntryIsRight (goal instance binders (claim word vars body at)) = IsRight (scope_in text instance) (numbers_in text sizes) (within (scope_in text instance) [] binders) body × BindersAreRight binders
+  EntryIsRight (goal instance binders (claim word vars body at)) = IsRight (scope_in text instance) (numbers_in text sizes) (within [] binders) body × BindersAreRight binders
   EntryIsRight _ = Unit {0}
 
   -- so it is of each statement and claim of the text
   abbrev pub TextIsRight : Type 0
   TextIsRight = All EntryIsRight (entries text)
+
+  -- The flattened claim has the claim's name behind that of its instance, its parameters have the same values, and for each choice of them its body has the same
+  -- outcome.
+  abbrev pub IsSameClaim : State → FlatState → Claim → Claimed → Type 0
+  IsSameClaim s t c d =
+      (c.name ≡ dotted (d.instance ++ d.name ∷ []))
+      × (map (λ p. values_in (numbers_in text sizes) p.over) c.params ≡ map (λ (name, over). values_over (design_of text).types sizes over) d.params)
+      × ((vs : List Value) → length vs ≡ length d.params → flat_outcome (numbers_in text sizes) t c.body vs ≡ outcome (scene_at (design_of text) sizes d.instance) s d.body (bound d.params vs []))
