@@ -162,7 +162,7 @@ module _ (types : Types) (sets : List SetInfo) (enums : List (List Name)) (place
         by_place k (Some (g, at)) e here =
             let same : g ≡ f = cc in
             ap (λ x. option_map (t k) (all_defined (map (λ (u, o). value_in (values_in numbered u) o) (zip (map (flat_simple scope) x.over) us)))) same
-            ∙ ap (λ l. option_map (t k) (all_defined l)) (indexes-same f.over us h)
+            ∙ ap (λ l. option_map (t k) (all_defined l)) (indexes-same f.over us h.1)
             ∙ valued k here (all_defined (map (λ (u, o). value_in (values_of sizes u) o) (zip f.over us)))
 
     -- what a path reads

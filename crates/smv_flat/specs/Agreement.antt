@@ -20,7 +20,8 @@ use Rattle.smv_core.specs.declared.flat.Raw.{Raw}
 use Rattle.smv_core.specs.FlatOrder.{design_of}
 use Rattle.smv_core.specs.declared.tree.Text.{Text}
 use Rattle.smv_flat.specs.Numbers.{Scope, flat_simple, family_number, variable_at}
-use Rattle.smv_flat.specs.Flattening.{scope_in, flatten}
+use Rattle.smv_flat.specs.Flattening.{scope_in, flatten, dotted}
+use Rattle.smv_core.specs.declared.flat.Family.{Family as FlatFamily}
 
 -- what the numbers in a flattened text stand for, at sizes
 abbrev pub numbers_of : Raw → Sizes → Numbered
@@ -45,8 +46,9 @@ module _ (scope : Scope) (n : Numbered) where
   abbrev pub IsNumbered : Simple → Type 0
   IsNumbered t = simple_in n (flat_simple scope t) ≡ t
 
+  -- the types of a family have numbers
   abbrev pub HasNumbers : Family → Type 0
-  HasNumbers f = All IsNumbered f.over
+  HasNumbers f = IsNumbered f.value × All IsNumbered f.over
 
   abbrev pub IsNumberedOrNone : Option Simple → Type 0
   IsNumberedOrNone (Some t) = IsNumbered t
@@ -137,10 +139,14 @@ module _ (scope : Scope) (n : Numbered) where
     ArmsAreRight vars end_of-Arm = Unit {0}
     ArmsAreRight vars (more_of-Arm labels body rest) = AreRight vars labels × StatementIsRight vars body × ArmsAreRight vars rest
 
--- the numbers of a text's flattened form, and where its instances stand
+-- what the numbers in a text's flattened form stand for
 abbrev pub numbers_in : Text → Sizes → Numbered
 numbers_in text sizes = numbers_of (flatten text) sizes
 
--- the index types of each family of a text have numbers
+-- the types of each family of a text have numbers
 abbrev pub AreNumbered : Text → Sizes → Type 0
 AreNumbered text sizes = All (HasNumbers (scope_in text []) (numbers_in text sizes)) (design_of text).families
+
+-- a flattened family has the dotted name of the family, the same types and the same role
+abbrev pub IsSameFamily : Numbered → FlatFamily → Family → Type 0
+IsSameFamily n f g = (f.name ≡ dotted g.path) × (map (simple_in n) f.over ≡ g.over) × (simple_in n f.value ≡ g.value) × (f.is_abstract ≡ g.is_abstract)

@@ -1,11 +1,12 @@
 // Laws of flattening, each the contract of a function that does nothing.
-ghost use Rattle.std.specs.Prelude.{◌≡◌, List, Some};
-ghost use Rattle.smv_core.specs.Values.{Path, Value, Sizes};
+ghost use Rattle.std.specs.Prelude.{◌≡◌, [], List, Option, Some};
+ghost use Rattle.std.specs.List.{AllZip};
+ghost use Rattle.smv_core.specs.Values.{Name, Path, Value, Sizes};
 ghost use Rattle.smv_core.specs.Types.{Family};
 ghost use Rattle.smv_core.specs.FlatOrder.{design_of};
 ghost use Rattle.smv_core.specs.Outcome.{State, Bindings, outcome, allowed_by, family_at};
 ghost use Rattle.smv_core.specs.Walk.{Element, walk};
-ghost use Rattle.smv_core.specs.Allowed.{scene_at};
+ghost use Rattle.smv_core.specs.Allowed.{every_value, scene_at, walk_set};
 ghost use Rattle.smv_core.specs.Assignments.{Around};
 ghost use Rattle.smv_core.specs.Conflicts.{Agrees};
 ghost use Rattle.smv_core.specs.Flat.{FlatState, flat_outcome, flat_allowed_by, flat_walk};
@@ -14,16 +15,18 @@ ghost use Rattle.smv_core.specs.declared.tree.Text.{Text};
 ghost use Rattle.smv_core.specs.declared.tree.Expr.{Expr};
 ghost use Rattle.smv_core.specs.declared.tree.Stmt.{Stmt};
 ghost use Rattle.smv_flat.specs.Statements.{flat_expr, flat_stmt};
-ghost use Rattle.smv_flat.specs.Flattening.{scope_in};
+ghost use Rattle.smv_flat.specs.Flattening.{flatten, scope_in};
 ghost use Rattle.smv_flat.specs.Agreement.{
   AreNumbered,
   AreSameStates,
+  IsSameFamily,
   IsRight,
   StatementIsRight,
   flat_element,
   numbers_in,
   values_bound,
 };
+ghost use Rattle.smv_flat.specs.WholeText.{IsSameClaim, TextIsRight, claims_met, claims_of, raw_walk};
 
 /// The outcome of a flattened expression is that of the expression, in each instance, at all sizes and in each state,
 /// where the names in it are known and the types of families and binders have numbers.
@@ -47,4 +50,22 @@ pub fn walks_are_the_same()
         (instance : Path) (vars : Around) (act : Stmt) (b : Bindings) → Agrees vars b → StatementIsRight (scope_in text instance) (numbers_in text sizes) vars act →
         flat_walk (numbers_in text sizes) t (flat_element (scope_in text instance) (numbers_in text sizes) x) every kind (flat_stmt (scope_in text instance) vars act) (values_bound vars b)
           ≡ walk (scene_at (design_of text) sizes instance) s kind x every act b }
+{}
+
+/// The families of the flattened text are those of the text, one for one.
+pub fn families_are_the_same()
+    ensures { (text : Text) (sizes : Sizes) → AreNumbered text sizes → AllZip (IsSameFamily (numbers_in text sizes)) (flatten text).families (design_of text).families }
+{}
+
+/// The statements outside layers, or those of a layer, give each element of each family in the flattened text what they give it in the text.
+pub fn definition_sets_are_the_same()
+    ensures { (text : Text) (sizes : Sizes) (s : State) (t : FlatState) → AreSameStates (design_of text).families s t → AreNumbered text sizes → TextIsRight text sizes →
+        (layer : Option Name) (kind : Kind) (x : Element) (f : Family) → family_at (design_of text).families x.path ≡ Some f →
+        raw_walk (flatten text) sizes t layer (flat_element (scope_in text []) (numbers_in text sizes) x) (every_value (design_of text) sizes x) kind ≡ walk_set (design_of text) sizes layer x kind s }
+{}
+
+/// The claims of the flattened text are those of the text, one for one.
+pub fn claims_are_the_same()
+    ensures { (text : Text) (sizes : Sizes) (s : State) (t : FlatState) → AreSameStates (design_of text).families s t → AreNumbered text sizes → TextIsRight text sizes →
+        AllZip (IsSameClaim text sizes s t) (claims_of (flatten text).items) (claims_met (design_of text).met) }
 {}
