@@ -15,9 +15,8 @@ use Rattle.smv_core.specs.declared.tree.TypeExpr.{TypeExpr}
 use Rattle.smv_core.specs.declared.tree.Expr.{Expr, Signal'}
 use Rattle.smv_core.specs.declared.tree.Stmt.{Stmt, Forall}
 use Rattle.smv_core.specs.declared.tree.Item.{Item, Declare, Instance, Layer, Forall', Block', Claim, Split, Using, Act, Row_of-Item, end_of-Item, more_of-Item}
-use Rattle.smv_flat.specs.Entries.{Binders, Goal, claim, split, using, Entry, layer, statement, goal, inside_binder, connection, given_to, connections, item_entries, items_entries, entries_in, entries}
+use Rattle.smv_flat.specs.Entries.{Binders, claim, split, using, Entry, layer, statement, goal, inside_binder, connection, given_to, connections, item_entries, items_entries, entries_in, entries}
 use Rattle.smv_inst.proofs.Computing.{computing}
-use Rattle.smv_flat.proofs.SameFamilies.{map-flat_map}
 
 -- two statements give each element the same everywhere
 abbrev pub AreAlikeActs : Stmt → Stmt → Type 0
@@ -137,12 +136,12 @@ module _ (types : Types) (bodies : List (Name × Body)) where
       item-alike (Declare role words of at) = tt
       item-alike (Instance words name args at) =
           alike-flat_map (λ word. map (λ act. statement (record { layer = None; instance = here; act = act })) (connections (body_of types bodies name.name) word.name args) ++ inside (here ++ word.name ∷ []) name.name)
-            (λ word. map (λ act. said (record { layer = None; instance = here; act = act })) (tree.connections (body_of types bodies name.name) word.name args) ++ own (here ++ word.name ∷ []) name.name)
-            (λ word. alike-append (map (λ act. statement (record { layer = None; instance = here; act = act })) (connections (body_of types bodies name.name) word.name args)) (inside (here ++ word.name ∷ []) name.name)
-                (map (λ act. said (record { layer = None; instance = here; act = act })) (tree.connections (body_of types bodies name.name) word.name args)) (own (here ++ word.name ∷ []) name.name)
-                (alike-statements None here (connections (body_of types bodies name.name) word.name args) (tree.connections (body_of types bodies name.name) word.name args)
-                    (connections-alike word.name (body_of types bodies name.name).items (zip (body_of types bodies name.name).formals args)))
-                (h (here ++ word.name ∷ []) name.name)) words
+          (λ word. map (λ act. said (record { layer = None; instance = here; act = act })) (tree.connections (body_of types bodies name.name) word.name args) ++ own (here ++ word.name ∷ []) name.name)
+          (λ word. alike-append (map (λ act. statement (record { layer = None; instance = here; act = act })) (connections (body_of types bodies name.name) word.name args)) (inside (here ++ word.name ∷ []) name.name)
+          (map (λ act. said (record { layer = None; instance = here; act = act })) (tree.connections (body_of types bodies name.name) word.name args)) (own (here ++ word.name ∷ []) name.name)
+          (alike-statements None here (connections (body_of types bodies name.name) word.name args) (tree.connections (body_of types bodies name.name) word.name args)
+          (connections-alike word.name (body_of types bodies name.name).items (zip (body_of types bodies name.name).formals args)))
+          (h (here ++ word.name ∷ []) name.name)) words
       item-alike (Layer name body at) = alike-statements (Some name.name) here body body (alike-itself body)
       item-alike (Forall' var over shape (more_of-Item body end_of-Item) at) = alike-inside var over (item_entries types bodies inside here body) (item_met types bodies own here body) (item-alike body)
       item-alike (Block' shape items) = items-alike items
@@ -159,7 +158,7 @@ module _ (types : Types) (bodies : List (Name × Body)) where
   entries-in-alike zero here name = tt
   entries-in-alike (suc k) here name =
       alike-flat_map (item_entries types bodies (entries_in types bodies k) here) (item_met types bodies (met_in types bodies k) here)
-        (item-alike (entries_in types bodies k) (met_in types bodies k) (entries-in-alike k) here) (body_of types bodies name).items
+      (item-alike (entries_in types bodies k) (met_in types bodies k) (entries-in-alike k) here) (body_of types bodies name).items
 
 pub entries-alike : (text : Text) → AreAlike (entries text) (design_of text).met
 entries-alike text = entries-in-alike (types_from [] text.tops) (modules text.tops) (length (modules text.tops)) [] main

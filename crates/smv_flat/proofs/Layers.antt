@@ -1,7 +1,7 @@
 -- The layer of each statement is listed, and two layers have one number where they are the same.
-use Rattle.std.proofs.Common.{◌≡◌, ℕ, zero, suc, List, [], ◌∷◌, ◌++◌, map, filter, flat_map, length, zip, nat_eq, option_map, Option, Some, None, Bool, true, false, cond, not, ◌||◌, refl, sym, ap, ◌∙◌, subst}
+use Rattle.std.proofs.Common.{◌≡◌, ℕ, zero, suc, List, [], ◌∷◌, ◌++◌, map, filter, flat_map, length, option_map, Option, Some, None, Bool, true, false, cond, not, ◌||◌, refl, sym, ap, ◌∙◌, subst}
 use Rattle.std.specs.Str.{bytes_eq}
-use Rattle.std.specs.List.{list_any, position_or_len}
+use Rattle.std.specs.List.{list_any}
 use Rattle.std.proofs.lemmas.Slice.Eq.{bytes_eq-Decides}
 use Rattle.smv_core.specs.Values.{Name, Path}
 use Rattle.smv_core.specs.Types.{Types, types_from}
@@ -10,10 +10,9 @@ use Rattle.smv_core.specs.Allowed.{is_layer}
 use Rattle.smv_core.specs.declared.tree.Word.{Word}
 use Rattle.smv_core.specs.declared.tree.Text.{Text}
 use Rattle.smv_core.specs.declared.tree.TypeExpr.{TypeExpr}
-use Rattle.smv_core.specs.declared.tree.Expr.{Expr}
 use Rattle.smv_core.specs.declared.tree.Stmt.{Stmt}
 use Rattle.smv_core.specs.declared.tree.Item.{Item, Declare, Instance, Layer, Forall', Block', Claim, Split, Using, Act, Row_of-Item, end_of-Item, more_of-Item}
-use Rattle.smv_flat.specs.Entries.{Goal, Entry, layer, statement, goal, inside_binder, connections, item_entries, items_entries, instance_entries, entries_in, entries}
+use Rattle.smv_flat.specs.Entries.{Entry, layer, statement, goal, inside_binder, connections, item_entries, items_entries, instance_entries, entries_in, entries}
 use Rattle.smv_flat.specs.Flattening.{different, layer_of, layers_of, layer_number}
 use Rattle.smv_flat.specs.WholeText.{is_one_layer}
 use Rattle.smv_flat.proofs.Lookups.{same_test, places-same}
@@ -76,8 +75,8 @@ layers-append (statement x ∷ es) fs = layers-append es fs
 has-append : (es fs : List Entry) → HasLayers es → HasLayers fs → HasLayers (es ++ fs)
 has-append es fs h k = subst (λ names. AreListed names (es ++ fs)) (sym (layers-append es fs))
     (listed-append (flat_map layer_of es ++ flat_map layer_of fs) es fs
-      (all_listed-more (flat_map layer_of es) (flat_map layer_of es ++ flat_map layer_of fs) (λ a e. any-front a (flat_map layer_of es) (flat_map layer_of fs) e) es h)
-      (all_listed-more (flat_map layer_of fs) (flat_map layer_of es ++ flat_map layer_of fs) (λ a e. any-behind a (flat_map layer_of es) (flat_map layer_of fs) e) fs k))
+    (all_listed-more (flat_map layer_of es) (flat_map layer_of es ++ flat_map layer_of fs) (λ a e. any-front a (flat_map layer_of es) (flat_map layer_of fs) e) es h)
+    (all_listed-more (flat_map layer_of fs) (flat_map layer_of es ++ flat_map layer_of fs) (λ a e. any-behind a (flat_map layer_of es) (flat_map layer_of fs) e) fs k))
 
 has-flat_map : {X : Type 0} (f : X → List Entry) → ((x : X) → HasLayers (f x)) → (xs : List X) → HasLayers (flat_map f xs)
 has-flat_map f h [] = tt
@@ -112,8 +111,8 @@ module _ (types : Types) (bodies : List (Name × Body)) where
       item-has (Declare role words of at) = tt
       item-has (Instance words name args at) =
           has-flat_map (λ word. instance_entries types bodies inside here name.name args word.name)
-            (λ word. has-append (map (λ act. statement (record { layer = None; instance = here; act = act })) (connections (body_of types bodies name.name) word.name args)) (inside (here ++ word.name ∷ []) name.name)
-                (statements-listed _ None here (connections (body_of types bodies name.name) word.name args) tt) (h (here ++ word.name ∷ []) name.name)) words
+          (λ word. has-append (map (λ act. statement (record { layer = None; instance = here; act = act })) (connections (body_of types bodies name.name) word.name args)) (inside (here ++ word.name ∷ []) name.name)
+          (statements-listed _ None here (connections (body_of types bodies name.name) word.name args) tt) (h (here ++ word.name ∷ []) name.name)) words
       item-has (Layer name body at) = statements-listed (flat_map layer_of (layer name.name ∷ map (λ act. statement (record { layer = Some name.name; instance = here; act = act })) body)) (Some name.name) here body (own-listed name.name _)
       item-has (Forall' var over shape (more_of-Item body end_of-Item) at) = has-inside var over (item_entries types bodies inside here body) (item-has body)
       item-has (Block' shape items) = items-have items
@@ -158,7 +157,7 @@ different-keeps a (x ∷ xs) e = by_test (bytes_eq a x) refl e (different-keeps 
 pub layers-listed : (text : Text) → AreListed (layers_of (entries text)) (entries text)
 layers-listed text =
     all_listed-more (flat_map layer_of (entries text)) (layers_of (entries text)) (λ a e. different-keeps a (flat_map layer_of (entries text)) e) (entries text)
-      (entries_in-have (types_from [] text.tops) (modules text.tops) (length (modules text.tops)) [] main)
+    (entries_in-have (types_from [] text.tops) (modules text.tops) (length (modules text.tops)) [] main)
 
 -- ---- numbers of layers
 

@@ -1,9 +1,9 @@
 -- The claims of the flattened text are those of the tree.
-use Rattle.std.proofs.Common.{◌≡◌, ℕ, zero, suc, ◌+◌, List, [], ◌∷◌, ◌++◌, map, flat_map, length, All, Option, Some, None, refl, sym, ap, ◌∙◌, subst, append_assoc, append-nil, arith}
+use Rattle.std.proofs.Common.{◌≡◌, ℕ, suc, ◌+◌, List, [], ◌∷◌, ◌++◌, map, flat_map, length, All, refl, sym, ap, ◌∙◌, subst, append_assoc, append-nil, arith}
 use Rattle.std.specs.List.{AllZip}
 use Rattle.smv_core.specs.Values.{Name, Path, Value, Sizes}
-use Rattle.smv_core.specs.Types.{Family, values_over}
-use Rattle.smv_core.specs.FlatOrder.{Met, said, claimed, Said, Claimed, design_of}
+use Rattle.smv_core.specs.Types.{values_over}
+use Rattle.smv_core.specs.FlatOrder.{Met, said, claimed, Claimed, design_of}
 use Rattle.smv_core.specs.Outcome.{State, Bindings, outcome}
 use Rattle.smv_core.specs.Allowed.{scene_at}
 use Rattle.smv_core.specs.Sound.{bound}
@@ -12,10 +12,9 @@ use Rattle.smv_core.specs.Conflicts.{Agrees}
 use Rattle.smv_core.specs.Flat.{FlatState, flat_outcome, values_in}
 use Rattle.smv_core.specs.declared.tree.Word.{Word}
 use Rattle.smv_core.specs.declared.tree.Text.{Text}
-use Rattle.smv_core.specs.declared.tree.TypeExpr.{TypeExpr}
 use Rattle.smv_core.specs.declared.tree.Expr.{Expr}
 use Rattle.smv_flat.specs.Statements.{flat_expr, flat_stmt}
-use Rattle.smv_flat.specs.Entries.{Binders, Goal, claim, split, using, Entry, layer, statement, goal, entries, placed_families}
+use Rattle.smv_flat.specs.Entries.{Binders, claim, split, using, Entry, layer, statement, goal, entries, placed_families}
 use Rattle.smv_flat.specs.Flattening.{scope_in, flatten, flat_entry, with_places, assignments, layers_of, within, params_from, dotted}
 use Rattle.smv_flat.specs.Agreement.{AreNumbered, AreSameStates, IsRight, numbers_in, values_bound}
 use Rattle.smv_flat.specs.WholeText.{claims_of, claims_met, BindersAreRight, EntryIsRight, TextIsRight, IsSameClaim}
@@ -55,16 +54,16 @@ module _ (text : Text) (sizes : Sizes) (s : State) (t : FlatState) (states : Are
   body-same instance binders body right vs e =
       let same_length : length vs ≡ length binders = e ∙ params-length binders in
       subst (λ fb. flat_outcome (numbers_in text sizes) t (flat_expr (scope_in text instance) (within [] binders) body) fb ≡ outcome (scene_at (design_of text) sizes instance) s body (bound (params_of binders) vs []))
-        (values-within binders vs [] [] same_length)
-        (outcome_of_text text sizes s t states numbers instance (within [] binders) body (bound (params_of binders) vs []) (agrees-within binders vs [] [] tt same_length) right)
+      (values-within binders vs [] [] same_length)
+      (outcome_of_text text sizes s t states numbers instance (within [] binders) body (bound (params_of binders) vs []) (agrees-within binders vs [] [] tt same_length) right)
 
   claim-same : (instance : Path) (binders : Binders) (word : Word) (vars : List Word) (body : Expr) (at k : ℕ) (c : Claimed) → instance ≡ c.instance → params_of binders ≡ c.params → body ≡ c.body → word.name ≡ c.name →
       EntryIsRight text sizes (goal instance binders (claim word vars body at)) →
       IsSameClaim text sizes s t (record { name = dotted (instance ++ word.name ∷ []); vars = vars; params = params_from (scope_in text instance) 0 binders; body = flat_expr (scope_in text instance) (within [] binders) body; place = k; at = at }) c
   claim-same instance binders word vars body at k c e f g l right =
       subst (λ d. IsSameClaim text sizes s t (record { name = dotted (instance ++ word.name ∷ []); vars = vars; params = params_from (scope_in text instance) 0 binders; body = flat_expr (scope_in text instance) (within [] binders) body; place = k; at = at }) d)
-        (record-same c e f g l)
-        (refl, params-same instance 0 binders right.1, body-same instance binders body right.0)
+      (record-same c e f g l)
+      (refl, params-same instance 0 binders right.1, body-same instance binders body right.0)
     where
       record-same : (c : Claimed) → instance ≡ c.instance → params_of binders ≡ c.params → body ≡ c.body → word.name ≡ c.name →
           record { instance = instance; name = word.name; params = params_of binders; body = body } ≡ c
@@ -79,9 +78,10 @@ module _ (text : Text) (sizes : Sizes) (s : State) (t : FlatState) (states : Are
   claims-same k (goal i binders (using uses proves at) ∷ es) ms h right layers = claims-same k es ms h (all-tail (EntryIsRight text sizes) (goal i binders (using uses proves at)) es right) layers
   claims-same k (goal i binders (claim word vars body at) ∷ es) [] h right layers = absurd h
   claims-same k (goal i binders (claim word vars body at) ∷ es) (said y ∷ ms) h right layers = absurd h
-  claims-same k (goal i binders (claim word vars body at) ∷ es) (claimed c ∷ ms) h right layers =
-      (claim-same i binders word vars body at k c h.0 h.1 h.2 h.3 (all-head (EntryIsRight text sizes) (goal i binders (claim word vars body at)) es right),
-       claims-same (k + 1) es ms h.4 (all-tail (EntryIsRight text sizes) (goal i binders (claim word vars body at)) es right) layers)
+  claims-same k (goal i binders (claim word vars body at) ∷ es) (claimed c ∷ ms) h right layers = (
+    claim-same i binders word vars body at k c h.0 h.1 h.2 h.3 (all-head (EntryIsRight text sizes) (goal i binders (claim word vars body at)) es right),
+    claims-same (k + 1) es ms h.4 (all-tail (EntryIsRight text sizes) (goal i binders (claim word vars body at)) es right) layers,
+  )
   claims-same k (statement y ∷ es) [] h right layers = absurd h
   claims-same k (statement y ∷ es) (claimed c ∷ ms) h right layers = absurd h
   claims-same k (statement y ∷ es) (said z ∷ ms) h right layers = claims-same (k + assignments (flat_stmt (scope_in text y.instance) [] y.act)) es ms h.3 (all-tail (EntryIsRight text sizes) (statement y) es right) layers

@@ -1,14 +1,13 @@
 -- The families of the flattened text are those of the design, in the same order.
-use Rattle.std.proofs.Common.{◌≡◌, ℕ, zero, suc, List, [], ◌∷◌, ◌++◌, map, flat_map, length, All, refl, sym, ap, ◌∙◌, subst}
+use Rattle.std.proofs.Common.{◌≡◌, ℕ, zero, suc, List, [], ◌∷◌, ◌++◌, map, flat_map, length, All, refl, sym, ◌∙◌, subst}
 use Rattle.std.specs.List.{AllZip}
 use Rattle.std.proofs.lemmas.List.{map-append}
 use Rattle.smv_core.specs.Values.{Name, Path, Simple, Sizes}
 use Rattle.smv_core.specs.Flat.{simple_in}
 use Rattle.smv_core.specs.Types.{Types, Family, shape_of, types_from}
 use Rattle.smv_core.specs.FlatOrder.{Body, families_of_item, families_in, body_of, modules, main, declared_as, design_of}
-use Rattle.smv_core.specs.declared.tree.Word.{Word}
 use Rattle.smv_core.specs.declared.tree.Text.{Text}
-use Rattle.smv_core.specs.declared.tree.Item.{Item, Declare, Instance, Layer, Forall', Block', Claim, Split, Using, Act, end_of-Item, more_of-Item}
+use Rattle.smv_core.specs.declared.tree.Item.{Item, Declare, Instance}
 use Rattle.smv_flat.specs.Numbers.{flat_simple}
 use Rattle.smv_flat.specs.Entries.{placed_of_item, placed_in, placed_families}
 use Rattle.smv_flat.specs.Flattening.{scope_in, flatten, flat_family}
@@ -28,7 +27,7 @@ module _ (types : Types) (bodies : List (Name × Body)) where
       (here : Path) (item : Item) → map (λ (f, at). f) (placed_of_item types bodies inside here item) ≡ families_of_item types bodies own here item
   placed-item inside own h here (Declare role words of at) =
       map-flat_map (λ (f, at). f) (λ word. map (λ f. (declared_as role (here ++ word.name ∷ []) f, word.at)) (shape_of types of)) (λ word. map (declared_as role (here ++ word.name ∷ [])) (shape_of types of))
-        (λ word. map-map (λ (f, at). f) (λ f. (declared_as role (here ++ word.name ∷ []) f, word.at)) (declared_as role (here ++ word.name ∷ [])) (λ f. refl) (shape_of types of)) words
+      (λ word. map-map (λ (f, at). f) (λ f. (declared_as role (here ++ word.name ∷ []) f, word.at)) (declared_as role (here ++ word.name ∷ [])) (λ f. refl) (shape_of types of)) words
   placed-item inside own h here (Instance words name args at) =
       map-flat_map (λ (f, at). f) (λ word. inside (here ++ word.name ∷ []) name.name) (λ word. own (here ++ word.name ∷ []) name.name) (λ word. h (here ++ word.name ∷ []) name.name) words
   placed-item inside own h here _ = refl
@@ -37,7 +36,7 @@ module _ (types : Types) (bodies : List (Name × Body)) where
   placed-same zero here name = refl
   placed-same (suc k) here name =
       map-flat_map (λ (f, at). f) (placed_of_item types bodies (placed_in types bodies k) here) (families_of_item types bodies (families_in types bodies k) here)
-        (placed-item (placed_in types bodies k) (families_in types bodies k) (placed-same k) here) (body_of types bodies name).items
+      (placed-item (placed_in types bodies k) (families_in types bodies k) (placed-same k) here) (body_of types bodies name).items
 
 pub families-same : (text : Text) → map (λ (f, at). f) (placed_families text) ≡ (design_of text).families
 families-same text = placed-same (types_from [] text.tops) (modules text.tops) (length (modules text.tops)) [] main
@@ -63,4 +62,4 @@ module _ (text : Text) (sizes : Sizes) where
   pub families_of_text : AreNumbered text sizes → AllZip (IsSameFamily (numbers_in text sizes)) (flatten text).families (design_of text).families
   families_of_text numbers =
       subst (λ fs. AllZip (IsSameFamily (numbers_in text sizes)) (flatten text).families fs) (families-same text)
-        (each-same (placed_families text) (subst (λ fs. All IsFamilyNumbered fs) (sym (families-same text)) numbers))
+      (each-same (placed_families text) (subst (λ fs. All IsFamilyNumbered fs) (sym (families-same text)) numbers))

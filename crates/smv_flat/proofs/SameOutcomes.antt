@@ -1,28 +1,26 @@
 -- The outcome of a flattened expression is that of the tree's expression.
-use Rattle.std.proofs.Common.{◌≡◌, ℕ, ◌+◌, ◌-◌, List, [], ◌∷◌, ◌++◌, map, filter, Option, Some, None, All, Bool, true, false, refl, sym, ap, ◌∙◌, subst}
+use Rattle.std.proofs.Common.{◌≡◌, ℕ, ◌+◌, ◌-◌, List, [], ◌∷◌, ◌++◌, map, filter, Option, Some, None, All, Bool, true, false, refl, ap, ◌∙◌}
 use Rattle.std.specs.List.{flat_map}
-use Rattle.smv_core.specs.Values.{Name, Path, Value, number, numbers_from, Sizes, Outcome, Truth, truth, bit, not_of, iff_of, conjunction, disjunction, implication, equal, compare, add, modulo}
+use Rattle.smv_core.specs.Values.{Name, Path, Value, number, numbers_from, Sizes, Outcome, truth, bit, not_of, iff_of, conjunction, disjunction, implication, equal, compare, add, modulo}
 use Rattle.smv_core.specs.Types.{Types, Family, values_over}
-use Rattle.smv_core.specs.Outcome.{State, Bindings, Scene, outcome, truths, indexes, sum_with, listed, members_of, branch, fields_of, family_at, is_true, meets, fit, allowed_by}
+use Rattle.smv_core.specs.Outcome.{State, Bindings, Scene, outcome, truths, indexes, sum_with, listed, members_of, branch, fields_of, family_at, is_true, fit, allowed_by}
 use Rattle.smv_core.specs.Assignments.{Around, loop, any}
 use Rattle.smv_core.specs.Conflicts.{Agrees}
-use Rattle.smv_core.specs.Flat.{Numbered, FlatState, FlatBindings, bind, values_in, flat_outcome, flat_listed, flat_meets, flat_allowed_by}
+use Rattle.smv_core.specs.Flat.{Numbered, FlatState, FlatBindings, bind, values_in, flat_outcome, flat_listed, flat_allowed_by}
 use Rattle.smv_core.specs.declared.tree.Op.{Op}
 use Rattle.smv_core.specs.declared.tree.TypeExpr.{TypeExpr}
-use Rattle.smv_core.specs.declared.tree.Word.{Word}
 use Rattle.smv_core.specs.declared.tree.Part.{Field, At}
 use Rattle.smv_core.specs.declared.tree.Member.{One, Span as SpanOf}
-use Rattle.smv_core.specs.declared.tree.Expr.{Expr, Number, Signal', Not', And', Or', Implies', Iff', Compare', Within', Sum', Modulo', Choose', All', Any', List', Each', Held-Expr-Each-2, None', Some', Row_of-Expr, end_of-Expr, more_of-Expr, Row_of-Part, end_of-Part, more_of-Part, Row_of-Member, end_of-Member, more_of-Member, Row_of-Signed, end_of-Signed, more_of-Signed, items-the_row-Part}
+use Rattle.smv_core.specs.declared.tree.Expr.{Expr, Number, Signal', Not', And', Or', Implies', Iff', Compare', Within', Sum', Modulo', Choose', All', Any', List', Each', None', Some', Row_of-Expr, end_of-Expr, more_of-Expr, Row_of-Part, end_of-Part, more_of-Part, Row_of-Member, end_of-Member, more_of-Member, Row_of-Signed, end_of-Signed, more_of-Signed, items-the_row-Part}
 use Rattle.smv_core.specs.declared.flat.SetInfo.{SetInfo}
 use Rattle.smv_core.specs.declared.flat.FlatExpr.{FlatExpr}
-use Rattle.smv_core.specs.declared.flat.FlatExpr as flat
 use Rattle.smv_core.specs.declared.flat.FlatExpr.{Var, Loop}
 use Rattle.std.specs.Str.{bytes_eq}
 use Rattle.std.proofs.Common.{cond}
 use Rattle.smv_flat.specs.Numbers.{Scope, bound_in, variable, variable_at, flat_over, constant_in, or_signal, flat_path}
-use Rattle.smv_flat.specs.Statements.{flat_expr, flat_row, flat_indexes, flat_signed, flat_members, flat_condition}
-use Rattle.smv_flat.specs.Agreement.{values_bound, HasNumbers, RunsOver, AreSameStates, IsRight, PartsAreRight, IndexesAreRight, TermsAreRight, MembersAreRight, ConditionIsRight}
-use Rattle.smv_flat.proofs.FlatLists.{boxes, each_outcome, member_outcomes, sum_of, outcome-And, outcome-Or, outcome-Implies, listed-List, outcome-Sum, outcome-Not, outcome-Iff, outcome-Compare, outcome-Within, outcome-Modulo, outcome-Choose, outcome-All, outcome-Any, allowed-List, allowed-Choose, allowed-Each, allowed-Each_if}
+use Rattle.smv_flat.specs.Statements.{flat_expr, flat_row, flat_indexes, flat_signed, flat_members}
+use Rattle.smv_flat.specs.Agreement.{values_bound, HasNumbers, RunsOver, AreSameStates, IsRight, PartsAreRight, IndexesAreRight, TermsAreRight, MembersAreRight}
+use Rattle.smv_flat.proofs.FlatLists.{each_outcome, member_outcomes, sum_of, outcome-And, outcome-Or, outcome-Implies, listed-List, outcome-Sum, outcome-Not, outcome-Iff, outcome-Compare, outcome-Within, outcome-Modulo, outcome-Choose, outcome-All, outcome-Any, allowed-List, allowed-Choose, allowed-Each, allowed-Each_if}
 use Rattle.smv_flat.proofs.Lookups.{map-same, filter-same}
 use Rattle.smv_flat.proofs.SameReads as reads
 use Rattle.smv_flat.proofs.SameReads.{bind-one_more, over-same, read-same}

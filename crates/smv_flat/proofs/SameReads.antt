@@ -1,24 +1,23 @@
 -- What a path of the tree reads and what its flattened form reads.
-use Rattle.std.proofs.Common.{◌≡◌, ℕ, zero, suc, ◌+◌, ◌<◌, ◌≤◌, List, [], ◌∷◌, ◌++◌, map, zip, find, length, get_or, take, slice_get, Option, Some, None, option_map, All, Bool, true, false, cond, refl, sym, ap, ◌∙◌, subst, arith, append-nil, append_assoc, length-append}
+use Rattle.std.proofs.Common.{◌≡◌, ℕ, ◌+◌, List, [], ◌∷◌, ◌++◌, map, zip, find, length, get_or, take, slice_get, Option, Some, None, option_map, All, Bool, true, false, cond, refl, sym, ap, ◌∙◌, subst, arith, append-nil, append_assoc, length-append}
 use Rattle.std.specs.Str.{bytes_eq}
 use Rattle.std.specs.List.{list_any, position_or_len}
 use Rattle.std.proofs.Math.Seq.{take-length}
 use Rattle.std.proofs.lemmas.List.{get_or_past}
 use Rattle.std.proofs.lemmas.List.Folds.{find_at}
-use Rattle.std.proofs.lemmas.Option.{slice_get-map, get_or_from_slice_get, slice_get_past}
+use Rattle.std.proofs.lemmas.Option.{slice_get-map, get_or_from_slice_get}
 use Rattle.std.proofs.lemmas.Slice.Eq.{bytes_eq-Decides}
-use Rattle.smv_core.specs.Values.{Name, Path, Value, number, constant, Simple, choice, Sizes, Outcome, values_of, value_in, all_defined}
+use Rattle.smv_core.specs.Values.{Name, Path, Value, constant, Simple, choice, Sizes, Outcome, values_of, value_in, all_defined}
 use Rattle.smv_core.specs.Types.{Types, Family, find_name, simple, values_or_none, values_over}
 use Rattle.smv_core.specs.Outcome as tree
 use Rattle.smv_core.specs.Outcome.{State, Bindings, Scene, family_at, same_path, element_at, constant_at}
 use Rattle.smv_core.specs.Assignments.{Around, loop, any}
 use Rattle.smv_core.specs.Conflicts.{Agrees}
-use Rattle.smv_core.specs.Flat.{Numbered, FlatState, FlatBindings, bind, values_in, simple_in, flat_element_at, flat_outcome, flat_listed, flat_allowed_by}
+use Rattle.smv_core.specs.Flat.{Numbered, FlatState, FlatBindings, bind, values_in, flat_element_at, flat_outcome}
 use Rattle.smv_core.specs.Outcome.{fit}
 use Rattle.smv_core.specs.declared.tree.TypeExpr.{TypeExpr}
 use Rattle.smv_core.specs.declared.flat.SetInfo.{SetInfo}
-use Rattle.smv_core.specs.declared.flat.Simple.TheVariants.{Enum}
-use Rattle.smv_core.specs.declared.flat.FlatExpr.{FlatExpr, Read, Var, Loop, Constant}
+use Rattle.smv_core.specs.declared.flat.FlatExpr.{FlatExpr, Var, Loop}
 use Rattle.smv_flat.specs.Numbers.{Scope, bound_in, variable, variable_at, flat_simple, flat_over, simple_or_empty, constant_in, family_number, or_signal, flat_path}
 use Rattle.smv_flat.specs.Flattening.{flat_family}
 use Rattle.smv_flat.specs.Agreement.{values_bound, IsNumbered, HasNumbers, IsNumberedOrNone, RunsOver, IsConstant, IsKnown, AreSameStates}
@@ -63,7 +62,7 @@ module _ (n : Numbered) (t : FlatState) where
       by_test false rest = rest
   variable-same ((other, any) ∷ vars) ((own, v) ∷ b) name at more h =
       subst (λ o. IsSameVariable ((values_bound vars b ++ v ∷ []) ++ more) (cond (bytes_eq other name) (Some (Var (bound_in vars) at)) (variable vars name at)) (cond (bytes_eq o name) (Some v) (find_name b name))) (sym h.0)
-        (by_test (bytes_eq other name) (variable-same vars b name at (v ∷ more) h.1))
+      (by_test (bytes_eq other name) (variable-same vars b name at (v ∷ more) h.1))
     where
       seam : (values_bound vars b ++ v ∷ []) ++ more ≡ values_bound vars b ++ v ∷ more
       seam = append_assoc (values_bound vars b) (v ∷ []) more

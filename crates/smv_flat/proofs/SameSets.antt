@@ -1,24 +1,21 @@
 -- The statements of a layer give an element in the flattened text what they give it on the tree.
-use Rattle.std.proofs.Common.{◌≡◌, ℕ, zero, suc, ◌+◌, List, [], ◌∷◌, ◌++◌, map, filter, flat_map, length, All, Option, Some, None, Bool, true, false, cond, option_map, refl, sym, ap, ◌∙◌, subst}
-use Rattle.smv_core.specs.Values.{Name, Path, Value, Sizes}
-use Rattle.smv_core.specs.Types.{Family, values_over}
-use Rattle.smv_core.specs.FlatOrder.{Met, said, claimed, Said, Claimed, design_of}
-use Rattle.smv_core.specs.Outcome.{State, Bindings, outcome, family_at}
-use Rattle.smv_core.specs.Walk.{Element, Walk, walk, first, first_of}
-use Rattle.smv_core.specs.Allowed.{scene_at, is_layer, said_in, walk_set, definition_set}
-use Rattle.smv_core.specs.Sound.{bound}
-use Rattle.smv_core.specs.Assignments.{Around, any}
-use Rattle.smv_core.specs.Conflicts.{Agrees}
-use Rattle.smv_core.specs.Flat.{FlatState, FlatElement, flat_outcome, flat_walk, values_in}
+use Rattle.std.proofs.Common.{◌≡◌, ℕ, ◌+◌, List, [], ◌∷◌, map, filter, flat_map, All, Option, Some, Bool, true, false, cond, option_map, refl, ap, ◌∙◌, subst}
+use Rattle.smv_core.specs.Values.{Name, Value, Sizes}
+use Rattle.smv_core.specs.Types.{Family}
+use Rattle.smv_core.specs.FlatOrder.{Met, said, claimed, Said, design_of}
+use Rattle.smv_core.specs.Outcome.{State, family_at}
+use Rattle.smv_core.specs.Walk.{Element, Walk, walk, first}
+use Rattle.smv_core.specs.Allowed.{scene_at, is_layer, said_in, definition_set}
+use Rattle.smv_core.specs.Flat.{FlatState, FlatElement, flat_walk}
 use Rattle.smv_core.specs.declared.tree.Kind.{Kind}
 use Rattle.smv_core.specs.declared.tree.Text.{Text}
 use Rattle.smv_core.specs.declared.flat.FlatStmt.{FlatStmt}
 use Rattle.smv_core.specs.declared.flat.FlatItem.{FlatItem}
 use Rattle.smv_core.specs.declared.flat.FlatItem.TheVariants as item
-use Rattle.smv_flat.specs.Statements.{flat_expr, flat_stmt}
-use Rattle.smv_flat.specs.Entries.{Binders, Goal, claim, split, using, Entry, layer, statement, goal, entries}
-use Rattle.smv_flat.specs.Flattening.{scope_in, flatten, flat_entry, with_places, assignments, layers_of, layer_number, within}
-use Rattle.smv_flat.specs.Agreement.{AreNumbered, AreSameStates, flat_element, numbers_in, values_bound}
+use Rattle.smv_flat.specs.Statements.{flat_stmt}
+use Rattle.smv_flat.specs.Entries.{claim, split, using, Entry, layer, statement, goal, entries}
+use Rattle.smv_flat.specs.Flattening.{scope_in, flatten, flat_entry, with_places, assignments, layers_of, layer_number}
+use Rattle.smv_flat.specs.Agreement.{AreNumbered, AreSameStates, flat_element, numbers_in}
 use Rattle.smv_flat.specs.WholeText.{is_one_layer, acts_of, raw_walk, EntryIsRight, TextIsRight}
 use Rattle.smv_flat.proofs.Lookups.{all-head, all-tail}
 use Rattle.smv_flat.proofs.Entries.{AreAlike, entries-alike}
@@ -69,11 +66,11 @@ module _ (text : Text) (sizes : Sizes) (s : State) (t : FlatState) (states : Are
   acts-same (statement y ∷ es) (claimed c ∷ ms) h right listed = absurd h
   acts-same (statement y ∷ es) (said z ∷ ms) h right listed =
       chosen-same (is_one_layer (option_map (layer_number layers) wanted) (option_map (layer_number layers) y.layer)) (is_layer z.layer wanted)
-        (flat_stmt (scope_in text y.instance) [] y.act) (acts_of (option_map (layer_number layers) wanted) (flat_map (flat_entry text layers) es)) z (filter (λ w. is_layer w.layer wanted) (flat_map said_in ms))
-        (layer-same layers y.layer wanted listed.0 ∙ ap (λ l. is_layer l wanted) h.0)
-        (walk_of_text text sizes s t states numbers kind x every f found y.instance [] y.act [] tt (all-head (EntryIsRight text sizes) (statement y) es right)
-          ∙ h.2 (scene_at (design_of text) sizes y.instance) s kind x every [] ∙ ap (λ i. walk (scene_at (design_of text) sizes i) s kind x every z.act []) h.1)
-        (acts-same es ms h.3 (all-tail (EntryIsRight text sizes) (statement y) es right) listed.1)
+      (flat_stmt (scope_in text y.instance) [] y.act) (acts_of (option_map (layer_number layers) wanted) (flat_map (flat_entry text layers) es)) z (filter (λ w. is_layer w.layer wanted) (flat_map said_in ms))
+      (layer-same layers y.layer wanted listed.0 ∙ ap (λ l. is_layer l wanted) h.0)
+      (walk_of_text text sizes s t states numbers kind x every f found y.instance [] y.act [] tt (all-head (EntryIsRight text sizes) (statement y) es right)
+      ∙ h.2 (scene_at (design_of text) sizes y.instance) s kind x every [] ∙ ap (λ i. walk (scene_at (design_of text) sizes i) s kind x every z.act []) h.1)
+      (acts-same es ms h.3 (all-tail (EntryIsRight text sizes) (statement y) es right) listed.1)
 
   pub set-same : TextIsRight text sizes → raw_walk (flatten text) sizes t wanted flat_x every kind ≡ first (map tw (definition_set (design_of text) wanted))
   set-same right =

@@ -1,13 +1,11 @@
 -- The walk of a flattened statement is that of the tree's statement.
-use Rattle.std.proofs.Common.{◌≡◌, ℕ, zero, suc, ◌+◌, List, [], ◌∷◌, ◌++◌, map, zip, find, Option, Some, None, All, Bool, true, false, cond, not, ◌&&◌, nat_eq, refl, sym, ap, ◌∙◌, subst, arith}
-use Rattle.std.specs.Option.{is_none}
-use Rattle.std.specs.Str.{bytes_eq}
-use Rattle.std.specs.List.{list_any, position_or_len, flat_map}
+use Rattle.std.proofs.Common.{◌≡◌, ℕ, List, [], ◌∷◌, ◌++◌, map, Some, None, All, Bool, true, false, cond, ◌&&◌, nat_eq, refl, sym, ap, ◌∙◌}
+use Rattle.std.specs.List.{position_or_len, flat_map}
 use Rattle.std.proofs.lemmas.Slice.Eq.{bytes_eq-Decides, slice_eq-Decides}
 use Rattle.smv_core.specs.Values.{Name, Path, Value, number, Sizes, Outcome, Truth, truth, bit, equal, disjunction}
 use Rattle.smv_core.specs.Types.{Types, Family, values_over}
 use Rattle.smv_core.specs.Outcome.{State, Bindings, Scene, outcome, allowed_by, fields_of, family_at, same_path}
-use Rattle.smv_core.specs.Walk.{Element, Walk, walk, walk_parts, walk_held, walk_arms, first, first_of, if_walk, assigned, is_other, is_label, steps_of, same_kind, indexes_of}
+use Rattle.smv_core.specs.Walk.{Element, Walk, walk, walk_parts, walk_held, walk_arms, first, first_of, if_walk, assigned, is_label, steps_of, same_kind, indexes_of}
 use Rattle.smv_core.specs.Assignments.{Around, loop, any}
 use Rattle.smv_core.specs.Conflicts.{Agrees}
 use Rattle.smv_core.specs.Flat.{Numbered, FlatState, FlatBindings, FlatElement, bind, values_in, flat_outcome, flat_listed, flat_allowed_by, flat_assigned, flat_walk}
@@ -132,7 +130,7 @@ module _ (types : Types) (sets : List SetInfo) (enums : List (List Name)) (place
         if-same (nat_eq (family_number scope (instance ++ fields_of (out-Path left).parts)) (family_number scope x.path)) (same_path (instance ++ fields_of (out-Path left).parts) x.path) (same_kind which kind) _ _
         (number-same (reads.families types sets enums placed instance sizes) (instance ++ fields_of (out-Path left).parts) x.path f found)
         (assigned-same _ (map (λ e. outcome scene s e b) (indexes_of (out-Path left).parts)) (flat_expr scope vars value) value (values_bound vars b) b
-            (left-same vars (indexes_of (out-Path left).parts) b agree h.0) (allowed-same types sets enums placed instance sizes s t states numbers every vars value b agree h.1))
+        (left-same vars (indexes_of (out-Path left).parts) b agree h.0) (allowed-same types sets enums placed instance sizes s t states numbers every vars value b agree h.1))
     walk-same vars (Block' shape parts) b agree h = walk-Block n t flat_x every kind (flat_parts scope vars parts) (values_bound vars b) ∙ parts-same vars parts b agree h
     walk-same vars (If' test l (more_of-Stmt left end_of-Stmt) right at) b agree h =
         walk-If n t flat_x every kind (flat_expr scope vars test) (flat_stmt scope vars left) (flat_branch scope vars right) (values_bound vars b)
@@ -145,11 +143,11 @@ module _ (types : Types) (sets : List SetInfo) (enums : List (List Name)) (place
     walk-same vars (For' var from to closed step shape (more_of-Stmt body end_of-Stmt) at) b agree h =
         walk-Block n t flat_x every kind (map (λ k. flat_stmt scope ((var.name, loop k) ∷ vars) body) (steps_of from to closed step)) (values_bound vars b)
         ∙ ap first (turns-same (λ k. flat_stmt scope ((var.name, loop k) ∷ vars) body) (values_bound vars b) (λ k. walk scene s kind x every body ((var.name, number k) ∷ b))
-            (λ k. walk-same ((var.name, loop k) ∷ vars) body ((var.name, number k) ∷ b) (refl, refl, agree) (h k)) (steps_of from to closed step))
+        (λ k. walk-same ((var.name, loop k) ∷ vars) body ((var.name, number k) ∷ b) (refl, refl, agree) (h k)) (steps_of from to closed step))
     walk-same vars (Forall' var over shape (more_of-Stmt body end_of-Stmt) at) b agree h =
         walk-Forall n t flat_x every kind (bound_in vars) (flat_over scope over) (flat_stmt scope ((var.name, any) ∷ vars) body) (values_bound vars b)
         ∙ ap first (bound-same vars b agree (flat_stmt scope ((var.name, any) ∷ vars) body) (λ v. walk scene s kind x every body ((var.name, v) ∷ b)) over h.1
-            (λ v. walk-same ((var.name, any) ∷ vars) body ((var.name, v) ∷ b) (refl, agree) h.0))
+        (λ v. walk-same ((var.name, any) ∷ vars) body ((var.name, v) ∷ b) (refl, agree) h.0))
 
     parts-same : {m : _} (vars : Around) (parts : Row_of-Stmt m) (b : Bindings) → Agrees vars b → StatementsAreRight scope n vars parts → first (map (λ a. fw a (values_bound vars b)) (flat_parts scope vars parts)) ≡ walk_parts scene s kind x every parts b
     parts-same vars end_of-Stmt b agree h = refl
@@ -165,4 +163,4 @@ module _ (types : Types) (sets : List SetInfo) (enums : List (List Name)) (place
     arms-same vars (more_of-Arm labels body rest) b agree h on w e other v k =
         walk-If n t flat_x every kind (Within on (ListOf (map (λ label. One (flat_expr scope vars label)) labels) (first_label labels))) (flat_stmt scope vars body) (flat_arms scope vars rest on other) (values_bound vars b)
         ∙ if_walk-same every _ (is_label scene s kind x every w labels b) _ (walk scene s kind x every body b) _ (walk_arms scene s kind x every rest w v b)
-            (is_label-same vars on labels (first_label labels) b w agree h.0 e) (walk-same vars body b agree h.1) (arms-same vars rest b agree h.2 on w e other v k)
+        (is_label-same vars on labels (first_label labels) b w agree h.0 e) (walk-same vars body b agree h.1) (arms-same vars rest b agree h.2 on w e other v k)

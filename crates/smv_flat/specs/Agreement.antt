@@ -2,7 +2,7 @@
 use Rattle.std.specs.Prelude.{◌≡◌, ℕ, List, [], ◌∷◌, ◌++◌, map, All, Option, Some, None, true, slice_get}
 use Rattle.std.specs.Str.{bytes_eq}
 use Rattle.std.specs.List.{list_any}
-use Rattle.smv_core.specs.Values.{Name, Path, Value, Simple, Sizes}
+use Rattle.smv_core.specs.Values.{Path, Value, Simple, Sizes}
 use Rattle.smv_core.specs.Types.{Family, simple}
 use Rattle.smv_core.specs.Outcome.{State, Bindings, fields_of, family_at}
 use Rattle.smv_core.specs.Walk.{Element, indexes_of}

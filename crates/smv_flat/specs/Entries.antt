@@ -1,5 +1,5 @@
 -- What is met in flat order: families at their declarations, layers, statements, claims, splits and what is used, each in its instance.
-use Rattle.std.specs.Prelude.{ℕ, zero, suc, List, [], ◌∷◌, ◌++◌, map, flat_map, length, zip, Option, Some, None}
+use Rattle.std.specs.Prelude.{ℕ, zero, suc, List, [], ◌∷◌, ◌++◌, map, flat_map, length, zip, Some, None}
 use Rattle.smv_core.specs.Values.{Name, Path}
 use Rattle.smv_core.specs.Types.{Types, Family, shape_of, types_from}
 use Rattle.smv_core.specs.FlatOrder.{Body, Said, modules, main, role_of, declared_as, body_of}

@@ -1,17 +1,16 @@
 -- The flattened text.
-use Rattle.std.specs.Prelude.{ℕ, ◌+◌, ◌-◌, List, [], ◌∷◌, ◌++◌, map, flat_map, filter, Option, Some, None, Bool, not, option_map}
+use Rattle.std.specs.Prelude.{ℕ, ◌+◌, ◌-◌, List, [], ◌∷◌, ◌++◌, map, flat_map, filter, Bool, not, option_map}
 use Rattle.std.specs.Str.{bytes_eq}
 use Rattle.std.specs.List.{position_or_len, join_with_byte}
-use Rattle.smv_core.specs.Values.{Name, Path, Simple}
-use Rattle.smv_core.specs.Types.{Types, Family, types_from, names_of}
-use Rattle.smv_core.specs.FlatOrder.{Said}
+use Rattle.smv_core.specs.Values.{Name, Path}
+use Rattle.smv_core.specs.Types.{Family, types_from, names_of}
 use Rattle.smv_core.specs.Outcome.{same_path}
 use Rattle.smv_core.specs.Assignments.{Around, any}
 use Rattle.smv_core.specs.declared.tree.Word.{Word}
 use Rattle.smv_core.specs.declared.tree.Span.{Span}
 use Rattle.smv_core.specs.declared.tree.Text.{Text}
 use Rattle.smv_core.specs.declared.tree.Top.{Top}
-use Rattle.smv_core.specs.declared.tree.Top.TheVariants.{SetType, Alias, Module}
+use Rattle.smv_core.specs.declared.tree.Top.TheVariants.{SetType}
 use Rattle.smv_core.specs.declared.tree.Ref.{Ref}
 use Rattle.smv_core.specs.declared.tree.Use.{Use}
 use Rattle.smv_core.specs.declared.tree.Use.TheVariants.{Plain, Early, Keep}
@@ -26,7 +25,7 @@ use Rattle.smv_core.specs.declared.flat.FlatPair.{FlatPair}
 use Rattle.smv_core.specs.declared.flat.Raw.{Raw}
 use Rattle.smv_inst.specs.Mentions.{Mention, lists_constants}
 use Rattle.smv_inst.specs.Scopes.{pieces}
-use Rattle.smv_flat.specs.Numbers.{Scope, bound_in, flat_simple, flat_over}
+use Rattle.smv_flat.specs.Numbers.{Scope, flat_simple, flat_over}
 use Rattle.smv_flat.specs.Statements.{flat_expr, flat_stmt}
 use Rattle.smv_flat.specs.Entries.{Binders, Goal, claim, split, using, Entry, layer, statement, goal, placed_families, entries}
 

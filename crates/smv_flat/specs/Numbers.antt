@@ -1,5 +1,5 @@
 -- The numbers by which a flattened text speaks of set types, enumerations, families, constants and variables.
-use Rattle.std.specs.Prelude.{ℕ, ◌+◌, zero, List, [], ◌∷◌, ◌++◌, length, get_or, filter, Option, Some, None, Bool, not, if◌then◌else◌}
+use Rattle.std.specs.Prelude.{ℕ, ◌+◌, List, [], ◌∷◌, ◌++◌, length, get_or, Option, Some, None, if◌then◌else◌}
 use Rattle.std.specs.Str.{bytes_eq}
 use Rattle.std.specs.List.{list_any, position_or_len}
 use Rattle.smv_core.specs.Values.{Name, Path, Simple, range, choice, scalarset, ordset}

@@ -1,6 +1,5 @@
 -- Expressions and statements of the flattened text: paths are numbered, a `for` is written out, and a `switch` is one `If` inside another.
 use Rattle.std.specs.Prelude.{ℕ, List, [], ◌∷◌, ◌++◌, map, Option, Some, None}
-use Rattle.smv_core.specs.Values.{Name, Path}
 use Rattle.smv_core.specs.Outcome.{fields_of}
 use Rattle.smv_core.specs.Walk.{indexes_of, steps_of}
 use Rattle.smv_core.specs.Assignments.{Around, loop, any}

@@ -2,22 +2,20 @@
 use Rattle.std.specs.Prelude.{◌≡◌, ℕ, List, [], ◌∷◌, ◌++◌, length, map, All, Option, Some, None, Bool, true, false, if◌then◌else◌, nat_eq, option_map}
 use Rattle.smv_core.specs.Values.{Name, Value, Sizes}
 use Rattle.smv_core.specs.Types.{values_over}
-use Rattle.smv_core.specs.FlatOrder.{Met, said, claimed, Claimed, Said, design_of}
+use Rattle.smv_core.specs.FlatOrder.{Met, claimed, Claimed, design_of}
 use Rattle.smv_core.specs.Outcome.{State, outcome}
 use Rattle.smv_core.specs.Allowed.{scene_at}
 use Rattle.smv_core.specs.Sound.{bound}
 use Rattle.smv_core.specs.Walk.{Walk, first}
 use Rattle.smv_core.specs.Flat.{FlatState, FlatElement, flat_walk, flat_outcome, values_in}
-use Rattle.smv_core.specs.declared.tree.Word.{Word}
 use Rattle.smv_core.specs.declared.tree.Kind.{Kind}
 use Rattle.smv_core.specs.declared.tree.Text.{Text}
-use Rattle.smv_core.specs.declared.tree.TypeExpr.{TypeExpr}
 use Rattle.smv_core.specs.declared.flat.Claim.{Claim}
 use Rattle.smv_core.specs.declared.flat.FlatStmt.{FlatStmt}
 use Rattle.smv_core.specs.declared.flat.FlatItem.{FlatItem}
 use Rattle.smv_core.specs.declared.flat.FlatItem.TheVariants as item
 use Rattle.smv_core.specs.declared.flat.Raw.{Raw}
-use Rattle.smv_flat.specs.Entries.{Binders, Goal, claim, split, using, Entry, layer, statement, goal, entries}
+use Rattle.smv_flat.specs.Entries.{Binders, claim, Entry, statement, goal, entries}
 use Rattle.smv_flat.specs.Flattening.{scope_in, layer_number, within, dotted}
 use Rattle.smv_flat.specs.Agreement.{numbers_of, numbers_in, RunsOver, IsRight, StatementIsRight}
 

@@ -49,7 +49,7 @@ pub fn walks_are_the_same()
         (kind : Kind) (x : Element) (every : List Value) (f : Family) → family_at (design_of text).families x.path ≡ Some f →
         (instance : Path) (vars : Around) (act : Stmt) (b : Bindings) → Agrees vars b → StatementIsRight (scope_in text instance) (numbers_in text sizes) vars act →
         flat_walk (numbers_in text sizes) t (flat_element (scope_in text instance) (numbers_in text sizes) x) every kind (flat_stmt (scope_in text instance) vars act) (values_bound vars b)
-          ≡ walk (scene_at (design_of text) sizes instance) s kind x every act b }
+        ≡ walk (scene_at (design_of text) sizes instance) s kind x every act b }
 {}
 
 /// The families of the flattened text are those of the text, one for one.
