@@ -13,9 +13,10 @@ use Rattle.smv_core.specs.declared.tree.TypeExpr.{TypeExpr}
 use Rattle.smv_core.specs.declared.tree.Stmt.{Stmt}
 use Rattle.smv_core.specs.declared.tree.Item.{Item, Declare, Instance, Layer, Forall', Block', Claim, Split, Using, Act, Row_of-Item, end_of-Item, more_of-Item}
 use Rattle.smv_flat.specs.Entries.{Entry, layer, statement, goal, inside_binder, connections, item_entries, items_entries, instance_entries, entries_in, entries}
-use Rattle.smv_flat.specs.Flattening.{different, layer_of, layers_of, layer_number}
+use Rattle.smv_flat.specs.Flattening.{layer_of, layers_of, layer_number}
 use Rattle.smv_flat.specs.WholeText.{is_one_layer}
-use Rattle.smv_flat.proofs.Lookups.{same_test, places-same}
+use Rattle.smv_flat.proofs.Lookups.{same_test, places-same, any-front, any-behind}
+use Rattle.smv_flat.proofs.Different.{different-keeps}
 
 abbrev pub IsListed : List Name → Option Name → Type 0
 IsListed names None = Unit {0}
@@ -39,22 +40,6 @@ module _ (names others : List Name) (more : (a : Name) → list_any (bytes_eq a)
   all_listed-more (goal i binders g ∷ es) h = all_listed-more es h
   all_listed-more (statement x ∷ es) h = (listed-more x.layer h.0, all_listed-more es h.1)
 
-any-front : (a : Name) (xs ys : List Name) → list_any (bytes_eq a) xs ≡ true → list_any (bytes_eq a) (xs ++ ys) ≡ true
-any-front a [] ys e = absurd (cc)
-any-front a (x ∷ xs) ys e = by_test (bytes_eq a x) e (any-front a xs ys)
-  where
-    by_test : (b : Bool) → (b || list_any (bytes_eq a) xs) ≡ true → (list_any (bytes_eq a) xs ≡ true → list_any (bytes_eq a) (xs ++ ys) ≡ true) → (b || list_any (bytes_eq a) (xs ++ ys)) ≡ true
-    by_test true e rest = refl
-    by_test false e rest = rest e
-
-any-behind : (a : Name) (xs ys : List Name) → list_any (bytes_eq a) ys ≡ true → list_any (bytes_eq a) (xs ++ ys) ≡ true
-any-behind a [] ys e = e
-any-behind a (x ∷ xs) ys e = by_test (bytes_eq a x) (any-behind a xs ys e)
-  where
-    by_test : (b : Bool) → list_any (bytes_eq a) (xs ++ ys) ≡ true → (b || list_any (bytes_eq a) (xs ++ ys)) ≡ true
-    by_test true h = refl
-    by_test false h = h
-
 -- ---- each list of entries lists its layers
 
 abbrev HasLayers : List Entry → Type 0
@@ -75,8 +60,8 @@ layers-append (statement x ∷ es) fs = layers-append es fs
 has-append : (es fs : List Entry) → HasLayers es → HasLayers fs → HasLayers (es ++ fs)
 has-append es fs h k = subst (λ names. AreListed names (es ++ fs)) (sym (layers-append es fs))
     (listed-append (flat_map layer_of es ++ flat_map layer_of fs) es fs
-    (all_listed-more (flat_map layer_of es) (flat_map layer_of es ++ flat_map layer_of fs) (λ a e. any-front a (flat_map layer_of es) (flat_map layer_of fs) e) es h)
-    (all_listed-more (flat_map layer_of fs) (flat_map layer_of es ++ flat_map layer_of fs) (λ a e. any-behind a (flat_map layer_of es) (flat_map layer_of fs) e) fs k))
+    (all_listed-more (flat_map layer_of es) (flat_map layer_of es ++ flat_map layer_of fs) (λ a e. any-front (bytes_eq a) (flat_map layer_of es) (flat_map layer_of fs) e) es h)
+    (all_listed-more (flat_map layer_of fs) (flat_map layer_of es ++ flat_map layer_of fs) (λ a e. any-behind (bytes_eq a) (flat_map layer_of es) (flat_map layer_of fs) e) fs k))
 
 has-flat_map : {X : Type 0} (f : X → List Entry) → ((x : X) → HasLayers (f x)) → (xs : List X) → HasLayers (flat_map f xs)
 has-flat_map f h [] = tt
@@ -129,34 +114,10 @@ module _ (types : Types) (bodies : List (Name × Body)) where
   entries_in-have zero here name = tt
   entries_in-have (suc k) here name = has-flat_map (item_entries types bodies (entries_in types bodies k) here) (item-has (entries_in types bodies k) (entries_in-have k) here) (body_of types bodies name).items
 
--- ---- different names
-
-filter-keeps : (a x : Name) → bytes_eq a x ≡ false → (ys : List Name) → list_any (bytes_eq a) ys ≡ true → list_any (bytes_eq a) (filter (λ y. not (bytes_eq x y)) ys) ≡ true
-filter-keeps a x apart [] e = absurd (cc)
-filter-keeps a x apart (y ∷ ys) e = by_tests (bytes_eq a y) (bytes_eq x y) refl refl e (filter-keeps a x apart ys)
-  where
-    by_tests : (b c : Bool) → bytes_eq a y ≡ b → bytes_eq x y ≡ c → (b || list_any (bytes_eq a) ys) ≡ true → (list_any (bytes_eq a) ys ≡ true → list_any (bytes_eq a) (filter (λ y. not (bytes_eq x y)) ys) ≡ true) →
-        list_any (bytes_eq a) (cond (not c) (y ∷ filter (λ y. not (bytes_eq x y)) ys) (filter (λ y. not (bytes_eq x y)) ys)) ≡ true
-    by_tests true true h k e rest =
-        let same : bytes_eq a x ≡ true = (bytes_eq-Decides a x).1 ((bytes_eq-Decides a y).0 h ∙ sym ((bytes_eq-Decides x y).0 k)) in
-        absurd (cc (same, apart))
-    by_tests true false h k e rest = ap (λ b. b || list_any (bytes_eq a) (filter (λ y. not (bytes_eq x y)) ys)) h
-    by_tests false true h k e rest = rest e
-    by_tests false false h k e rest = ap (λ b. b || list_any (bytes_eq a) (filter (λ y. not (bytes_eq x y)) ys)) h ∙ rest e
-
-different-keeps : (a : Name) (xs : List Name) → list_any (bytes_eq a) xs ≡ true → list_any (bytes_eq a) (different bytes_eq xs) ≡ true
-different-keeps a [] e = e
-different-keeps a (x ∷ xs) e = by_test (bytes_eq a x) refl e (different-keeps a xs)
-  where
-    by_test : (b : Bool) → bytes_eq a x ≡ b → (b || list_any (bytes_eq a) xs) ≡ true → (list_any (bytes_eq a) xs ≡ true → list_any (bytes_eq a) (different bytes_eq xs) ≡ true) →
-        (b || list_any (bytes_eq a) (filter (λ y. not (bytes_eq x y)) (different bytes_eq xs))) ≡ true
-    by_test true h e rest = refl
-    by_test false h e rest = filter-keeps a x h (different bytes_eq xs) (rest e)
-
 -- the layer of each statement of a text is among its layers
 pub layers-listed : (text : Text) → AreListed (layers_of (entries text)) (entries text)
 layers-listed text =
-    all_listed-more (flat_map layer_of (entries text)) (layers_of (entries text)) (λ a e. different-keeps a (flat_map layer_of (entries text)) e) (entries text)
+    all_listed-more (flat_map layer_of (entries text)) (layers_of (entries text)) (λ a e. different-keeps bytes_eq bytes_eq-Decides a (flat_map layer_of (entries text)) e) (entries text)
     (entries_in-have (types_from [] text.tops) (modules text.tops) (length (modules text.tops)) [] main)
 
 -- ---- numbers of layers

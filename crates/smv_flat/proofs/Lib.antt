@@ -9,3 +9,5 @@ pub mod Entries
 pub mod Layers
 pub mod SameSets
 pub mod SameClaims
+pub mod Different
+pub mod TypeNumbers

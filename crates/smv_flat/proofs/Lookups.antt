@@ -58,6 +58,22 @@ found-any {X} p (y ∷ ys) x e = by_test (p y) e (found-any p ys x)
     by_test true e rest = refl
     by_test false e rest = rest e
 
+pub any-front : {X : Type 0} (p : X → Bool) (xs ys : List X) → list_any p xs ≡ true → list_any p (xs ++ ys) ≡ true
+any-front p [] ys e = absurd (cc)
+any-front {X} p (x ∷ xs) ys e = by_test (p x) e (any-front p xs ys)
+  where
+    by_test : (b : Bool) → (b || list_any p xs) ≡ true → (list_any p xs ≡ true → list_any p (xs ++ ys) ≡ true) → (b || list_any p (xs ++ ys)) ≡ true
+    by_test true e rest = refl
+    by_test false e rest = rest e
+
+pub any-behind : {X : Type 0} (p : X → Bool) (xs ys : List X) → list_any p ys ≡ true → list_any p (xs ++ ys) ≡ true
+any-behind p [] ys e = e
+any-behind {X} p (x ∷ xs) ys e = by_test (p x) (any-behind p xs ys e)
+  where
+    by_test : (b : Bool) → list_any p (xs ++ ys) ≡ true → (b || list_any p (xs ++ ys)) ≡ true
+    by_test true h = refl
+    by_test false h = h
+
 -- ---- first places
 
 pub same_test : (p q : Bool) → (p ≡ true → q ≡ true) → (q ≡ true → p ≡ true) → p ≡ q
