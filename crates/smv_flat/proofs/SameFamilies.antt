@@ -62,4 +62,4 @@ module _ (text : Text) (sizes : Sizes) where
   pub families_of_text : AreNumbered text sizes → AllZip (IsSameFamily (numbers_in text sizes)) (flatten text).families (design_of text).families
   families_of_text numbers =
       subst (λ fs. AllZip (IsSameFamily (numbers_in text sizes)) (flatten text).families fs) (families-same text)
-      (each-same (placed_families text) (subst (λ fs. All IsFamilyNumbered fs) (sym (families-same text)) numbers))
+      (each-same (placed_families text) (subst (λ fs. All IsFamilyNumbered fs) (sym (families-same text)) numbers.0))

@@ -19,7 +19,7 @@ use Rattle.std.specs.Str.{bytes_eq}
 use Rattle.std.proofs.Common.{cond}
 use Rattle.smv_flat.specs.Numbers.{Scope, bound_in, variable, variable_at, flat_over, constant_in, or_signal, flat_path}
 use Rattle.smv_flat.specs.Statements.{flat_expr, flat_row, flat_indexes, flat_signed, flat_members}
-use Rattle.smv_flat.specs.Agreement.{values_bound, HasNumbers, RunsOver, AreSameStates, IsRight, PartsAreRight, IndexesAreRight, TermsAreRight, MembersAreRight}
+use Rattle.smv_flat.specs.Agreement.{values_bound, HasNumbers, RunsOver, AreSameStates, IsIndexType, IsRight, PartsAreRight, IndexesAreRight, TermsAreRight, MembersAreRight}
 use Rattle.smv_flat.proofs.FlatLists.{each_outcome, member_outcomes, sum_of, outcome-And, outcome-Or, outcome-Implies, listed-List, outcome-Sum, outcome-Not, outcome-Iff, outcome-Compare, outcome-Within, outcome-Modulo, outcome-Choose, outcome-All, outcome-Any, allowed-List, allowed-Choose, allowed-Each, allowed-Each_if}
 use Rattle.smv_flat.proofs.Lookups.{map-same, filter-same}
 use Rattle.smv_flat.proofs.SameReads as reads
@@ -79,7 +79,8 @@ branch-same neither u w p q x y h k l = rw (h, k, l) refl
 
 module _ (types : Types) (sets : List SetInfo) (enums : List (List Name)) (placed : List (Family × ℕ)) (instance : Path) (sizes : Sizes) (s : State) (t : FlatState)
     (states : AreSameStates (reads.families types sets enums placed instance sizes) s t)
-    (numbers : All (HasNumbers (reads.scope types sets enums placed instance sizes) (reads.numbered types sets enums placed instance sizes)) (reads.families types sets enums placed instance sizes)) where
+    (numbers : All (HasNumbers (reads.scope types sets enums placed instance sizes) (reads.numbered types sets enums placed instance sizes)) (reads.families types sets enums placed instance sizes))
+    (runs : (over : TypeExpr) → IsIndexType over → RunsOver (reads.scope types sets enums placed instance sizes) (reads.numbered types sets enums placed instance sizes) over) where
   abbrev scope : Scope
   scope = reads.scope types sets enums placed instance sizes
 
@@ -94,14 +95,14 @@ module _ (types : Types) (sets : List SetInfo) (enums : List (List Name)) (place
       (v : Value) → flat_outcome n t body (bind (values_bound vars b) (bound_in vars) v) ≡ o v
   one_more vars b agree body o h v = ap (flat_outcome n t body) (bind-one_more vars b v agree) ∙ h v
 
-  quantified-same : (vars : Around) (b : Bindings) (agree : Agrees vars b) (body : FlatExpr) (o : Value → Outcome) (over : TypeExpr) → RunsOver scope n over → ((v : Value) → flat_outcome n t body (values_bound vars b ++ v ∷ []) ≡ o v) →
+  quantified-same : (vars : Around) (b : Bindings) (agree : Agrees vars b) (body : FlatExpr) (o : Value → Outcome) (over : TypeExpr) → IsIndexType over → ((v : Value) → flat_outcome n t body (values_bound vars b ++ v ∷ []) ≡ o v) →
       map (λ v. truth (flat_outcome n t body (bind (values_bound vars b) (bound_in vars) v))) (values_in n (flat_over scope over)) ≡ map (λ v. truth (o v)) (values_over types sizes over)
-  quantified-same vars b agree body o over runs h =
+  quantified-same vars b agree body o over lawful h =
       map-same (λ v. truth (flat_outcome n t body (bind (values_bound vars b) (bound_in vars) v))) (λ v. truth (o v)) (λ v. ap truth (one_more vars b agree body o h v)) (values_in n (flat_over scope over))
-      ∙ ap (map (λ v. truth (o v))) (over-same types sets enums placed instance sizes over runs)
+      ∙ ap (map (λ v. truth (o v))) (over-same types sets enums placed instance sizes over (runs over lawful))
 
   mutual
-    pub outcome-same : (vars : Around) (e : Expr) (b : Bindings) → Agrees vars b → IsRight scope n vars e → flat_outcome n t (flat_expr scope vars e) (values_bound vars b) ≡ outcome scene s e b
+    pub outcome-same : (vars : Around) (e : Expr) (b : Bindings) → Agrees vars b → IsRight scope vars e → flat_outcome n t (flat_expr scope vars e) (values_bound vars b) ≡ outcome scene s e b
     outcome-same vars (Number value at) b agree right = refl
     outcome-same vars (Signal' shape parts at) b agree right =
         read-same types sets enums placed instance sizes s t states vars b (fields_of (items-the_row-Part _ parts)) (flat_indexes scope vars parts) (indexes scene s parts b) at agree numbers right.0 (indexes-same vars parts b agree right.1)
@@ -136,21 +137,21 @@ module _ (types : Types) (sets : List SetInfo) (enums : List (List Name)) (place
     outcome-same vars (Each' var over None' at) b agree h = refl
     outcome-same vars (Each' var over (Some' shape (more_of-Expr test end_of-Expr)) at) b agree h = refl
 
-    truths-same : {m : _} (vars : Around) (parts : Row_of-Expr m) (b : Bindings) → Agrees vars b → PartsAreRight scope n vars parts → map truth (each_outcome n t (values_bound vars b) (flat_row scope vars parts)) ≡ truths scene s parts b
+    truths-same : {m : _} (vars : Around) (parts : Row_of-Expr m) (b : Bindings) → Agrees vars b → PartsAreRight scope vars parts → map truth (each_outcome n t (values_bound vars b) (flat_row scope vars parts)) ≡ truths scene s parts b
     truths-same vars end_of-Expr b agree h = refl
     truths-same vars (more_of-Expr e rest) b agree h = rw (outcome-same vars e b agree h.0, truths-same vars rest b agree h.1) refl
 
-    indexes-same : {m : _} (vars : Around) (parts : Row_of-Part m) (b : Bindings) → Agrees vars b → IndexesAreRight scope n vars parts → each_outcome n t (values_bound vars b) (flat_indexes scope vars parts) ≡ indexes scene s parts b
+    indexes-same : {m : _} (vars : Around) (parts : Row_of-Part m) (b : Bindings) → Agrees vars b → IndexesAreRight scope vars parts → each_outcome n t (values_bound vars b) (flat_indexes scope vars parts) ≡ indexes scene s parts b
     indexes-same vars end_of-Part b agree h = refl
     indexes-same vars (more_of-Part (Field word) rest) b agree h = indexes-same vars rest b agree h
     indexes-same vars (more_of-Part (At index) rest) b agree h = rw (outcome-same vars index b agree h.0, indexes-same vars rest b agree h.1) refl
 
-    sum-same : {m : _} (vars : Around) (more : Row_of-Signed m) (b : Bindings) → Agrees vars b → TermsAreRight scope n vars more → (u w : Outcome) → u ≡ w → sum_of n t (values_bound vars b) (flat_signed scope vars more) u ≡ sum_with scene s more w b
+    sum-same : {m : _} (vars : Around) (more : Row_of-Signed m) (b : Bindings) → Agrees vars b → TermsAreRight scope vars more → (u w : Outcome) → u ≡ w → sum_of n t (values_bound vars b) (flat_signed scope vars more) u ≡ sum_with scene s more w b
     sum-same vars end_of-Signed b agree h u w e = e
     sum-same vars (more_of-Signed minus x rest) b agree h u w e =
         sum-same vars rest b agree h.1 (add minus u (flat_outcome n t (flat_expr scope vars x) (values_bound vars b))) (add minus w (outcome scene s x b)) (rw (e, outcome-same vars x b agree h.0) refl)
 
-    listed-same : (vars : Around) (set : Expr) (b : Bindings) → Agrees vars b → IsRight scope n vars set → flat_listed n t (flat_expr scope vars set) (values_bound vars b) ≡ listed scene s set b
+    listed-same : (vars : Around) (set : Expr) (b : Bindings) → Agrees vars b → IsRight scope vars set → flat_listed n t (flat_expr scope vars set) (values_bound vars b) ≡ listed scene s set b
     listed-same vars (List' shape members at) b agree h = listed-List n t (flat_members scope vars members) at (values_bound vars b) ∙ members-same vars members b agree h
     listed-same vars (Signal' shape parts at) b agree h = (path-plain n t scope vars (fields_of (items-the_row-Part _ parts)) (flat_indexes scope vars parts) at (values_bound vars b)).0
     listed-same vars (Not' shape (more_of-Expr e end_of-Expr) at) b agree h = refl
@@ -169,22 +170,22 @@ module _ (types : Types) (sets : List SetInfo) (enums : List (List Name)) (place
     listed-same vars (Or' shape parts) b agree h = refl
     listed-same vars (Implies' shape parts) b agree h = refl
 
-    members-same : {m : _} (vars : Around) (members : Row_of-Member m) (b : Bindings) → Agrees vars b → MembersAreRight scope n vars members → flat_map (member_outcomes n t (values_bound vars b)) (flat_members scope vars members) ≡ members_of scene s members b
+    members-same : {m : _} (vars : Around) (members : Row_of-Member m) (b : Bindings) → Agrees vars b → MembersAreRight scope vars members → flat_map (member_outcomes n t (values_bound vars b)) (flat_members scope vars members) ≡ members_of scene s members b
     members-same vars end_of-Member b agree h = refl
     members-same vars (more_of-Member (One e) rest) b agree h = rw (outcome-same vars e b agree h.0, members-same vars rest b agree h.1) refl
     members-same vars (more_of-Member (SpanOf span at) rest) b agree h = ap (λ l. map (λ k. Some (number k)) (numbers_from span.low (span.high + 1 - span.low)) ++ l) (members-same vars rest b agree h)
 
   -- the values that a comprehension has
-  comprehended-same : (vars : Around) (b : Bindings) (agree : Agrees vars b) (body : FlatExpr) (o : Value → Outcome) (over : TypeExpr) → RunsOver scope n over → ((v : Value) → flat_outcome n t body (values_bound vars b ++ v ∷ []) ≡ o v) →
+  comprehended-same : (vars : Around) (b : Bindings) (agree : Agrees vars b) (body : FlatExpr) (o : Value → Outcome) (over : TypeExpr) → IsIndexType over → ((v : Value) → flat_outcome n t body (values_bound vars b ++ v ∷ []) ≡ o v) →
       filter (λ v. is_true (truth (flat_outcome n t body (bind (values_bound vars b) (bound_in vars) v)))) (values_in n (flat_over scope over)) ≡ filter (λ v. is_true (truth (o v))) (values_over types sizes over)
-  comprehended-same vars b agree body o over runs h =
+  comprehended-same vars b agree body o over lawful h =
       filter-same (λ v. is_true (truth (flat_outcome n t body (bind (values_bound vars b) (bound_in vars) v)))) (λ v. is_true (truth (o v))) (λ v. ap (λ u. is_true (truth u)) (one_more vars b agree body o h v)) (values_in n (flat_over scope over))
-      ∙ ap (filter (λ v. is_true (truth (o v)))) (over-same types sets enums placed instance sizes over runs)
+      ∙ ap (filter (λ v. is_true (truth (o v)))) (over-same types sets enums placed instance sizes over (runs over lawful))
 
-  pub allowed-same : (every : List Value) (vars : Around) (e : Expr) (b : Bindings) → Agrees vars b → IsRight scope n vars e → flat_allowed_by n t every (flat_expr scope vars e) (values_bound vars b) ≡ allowed_by scene s every e b
+  pub allowed-same : (every : List Value) (vars : Around) (e : Expr) (b : Bindings) → Agrees vars b → IsRight scope vars e → flat_allowed_by n t every (flat_expr scope vars e) (values_bound vars b) ≡ allowed_by scene s every e b
   allowed-same every vars (List' shape members at) b agree h = allowed-List n t every (flat_members scope vars members) at (values_bound vars b) ∙ ap (fit every) (members-same vars members b agree h)
   allowed-same every vars (Each' var over None' at) b agree h =
-      allowed-Each n t every (bound_in vars) (flat_over scope over) at (values_bound vars b) ∙ ap (λ vs. fit every (map Some (filter (λ v. true) vs))) (over-same types sets enums placed instance sizes over h.1)
+      allowed-Each n t every (bound_in vars) (flat_over scope over) at (values_bound vars b) ∙ ap (λ vs. fit every (map Some (filter (λ v. true) vs))) (over-same types sets enums placed instance sizes over (runs over h.1))
   allowed-same every vars (Each' var over (Some' shape (more_of-Expr test end_of-Expr)) at) b agree h =
       allowed-Each_if n t every (bound_in vars) (flat_over scope over) (flat_expr scope ((var.name, any) ∷ vars) test) at (values_bound vars b)
       ∙ ap (λ vs. fit every (map Some vs)) (comprehended-same vars b agree (flat_expr scope ((var.name, any) ∷ vars) test) (λ v. outcome scene s test ((var.name, v) ∷ b)) over h.1 (λ v. outcome-same ((var.name, any) ∷ vars) test ((var.name, v) ∷ b) (refl, agree) h.0))

@@ -124,7 +124,7 @@ module _ (types : Types) (sets : List SetInfo) (enums : List (List Name)) (place
       by_type (Some u) h = ap (values_of sizes) h
       by_type None h = ap (λ names. values_of sizes (choice names)) (get_or_past enums (length enums) [] (omega arith))
 
-  pub constant-same : (t : FlatState) (path : Path) (at : ℕ) (b : FlatBindings) → IsConstant scope numbered path → flat_outcome numbered t (constant_in scope path at) b ≡ constant_at path
+  pub constant-same : (t : FlatState) (path : Path) (at : ℕ) (b : FlatBindings) → IsConstant scope path → flat_outcome numbered t (constant_in scope path at) b ≡ constant_at path
   constant-same t [] at b h = ap (λ names. option_map constant (slice_get names 0)) (get_or_past enums (length enums) [] (omega arith))
   constant-same t (name ∷ other ∷ more) at b h = ap (λ names. option_map constant (slice_get names 0)) (get_or_past enums (length enums) [] (omega arith))
   constant-same t (name ∷ []) at b h =
@@ -166,12 +166,12 @@ module _ (types : Types) (sets : List SetInfo) (enums : List (List Name)) (place
 
     -- what a path reads
     pub read-same : (vars : Around) (b : Bindings) (path : Path) (es : List FlatExpr) (us : List Outcome) (at : ℕ) → Agrees vars b → All (HasNumbers scope numbered) families →
-        IsKnown scope numbered (variable_at vars path at) (family_at families (instance ++ path)) path → each_outcome numbered t (values_bound vars b) es ≡ us →
+        IsKnown scope (variable_at vars path at) (family_at families (instance ++ path)) path → each_outcome numbered t (values_bound vars b) es ≡ us →
         flat_outcome numbered t (flat_path scope vars path es at) (values_bound vars b) ≡ tree.read scene s b path us
     read-same vars b path es us at agree numbers known indexes =
         by_kind (variable_at vars path at) (family_at families (instance ++ path)) (tree.variable_at b path) refl (variable_at-same numbered t vars b path at agree) (variable_at-valued numbered t vars b path at agree) known
       where
-        by_kind : (x : Option FlatExpr) (o : Option Family) (u : Outcome) → family_at families (instance ++ path) ≡ o → IsSameVariable numbered t (values_bound vars b) x u → HasValue numbered t x u → IsKnown scope numbered x o path →
+        by_kind : (x : Option FlatExpr) (o : Option Family) (u : Outcome) → family_at families (instance ++ path) ≡ o → IsSameVariable numbered t (values_bound vars b) x u → HasValue numbered t x u → IsKnown scope x o path →
             flat_outcome numbered t (or_signal scope x o path es at) (values_bound vars b) ≡ tree.or_signal sizes s u o path us
         by_kind (Some x) o None e same valued known = absurd (cc (valued.1))
         by_kind (Some x) o (Some v) e same valued known = same

@@ -36,7 +36,7 @@ module _ (text : Text) (sizes : Sizes) (s : State) (t : FlatState) (states : Are
   layers = layers_of (entries text)
 
   abbrev flat_x : FlatElement
-  flat_x = flat_element (scope_in text []) (numbers_in text sizes) x
+  flat_x = flat_element (scope_in text []) x
 
   abbrev fw : FlatStmt → Walk
   fw act = flat_walk (numbers_in text sizes) t flat_x every kind act []
@@ -52,27 +52,27 @@ module _ (text : Text) (sizes : Sizes) (s : State) (t : FlatState) (states : Are
       by_test true = rw (h, k) refl
       by_test false = k
 
-  acts-same : (es : List Entry) (ms : List Met) → AreAlike es ms → All (EntryIsRight text sizes) es → AreListed layers es →
+  acts-same : (es : List Entry) (ms : List Met) → AreAlike es ms → All (EntryIsRight text) es → AreListed layers es →
       first (map fw (acts_of (option_map (layer_number layers) wanted) (flat_map (flat_entry text layers) es))) ≡ first (map tw (filter (λ y. is_layer y.layer wanted) (flat_map said_in ms)))
   acts-same [] [] h right listed = refl
   acts-same [] (m ∷ ms) h right listed = absurd h
-  acts-same (layer name ∷ es) ms h right listed = acts-same es ms h (all-tail (EntryIsRight text sizes) (layer name) es right) listed
-  acts-same (goal i binders (split word vars of pairs at) ∷ es) ms h right listed = acts-same es ms h (all-tail (EntryIsRight text sizes) (goal i binders (split word vars of pairs at)) es right) listed
-  acts-same (goal i binders (using uses proves at) ∷ es) ms h right listed = acts-same es ms h (all-tail (EntryIsRight text sizes) (goal i binders (using uses proves at)) es right) listed
+  acts-same (layer name ∷ es) ms h right listed = acts-same es ms h (all-tail (EntryIsRight text) (layer name) es right) listed
+  acts-same (goal i binders (split word vars of pairs at) ∷ es) ms h right listed = acts-same es ms h (all-tail (EntryIsRight text) (goal i binders (split word vars of pairs at)) es right) listed
+  acts-same (goal i binders (using uses proves at) ∷ es) ms h right listed = acts-same es ms h (all-tail (EntryIsRight text) (goal i binders (using uses proves at)) es right) listed
   acts-same (goal i binders (claim word vars body at) ∷ es) [] h right listed = absurd h
   acts-same (goal i binders (claim word vars body at) ∷ es) (said y ∷ ms) h right listed = absurd h
-  acts-same (goal i binders (claim word vars body at) ∷ es) (claimed c ∷ ms) h right listed = acts-same es ms h.4 (all-tail (EntryIsRight text sizes) (goal i binders (claim word vars body at)) es right) listed
+  acts-same (goal i binders (claim word vars body at) ∷ es) (claimed c ∷ ms) h right listed = acts-same es ms h.4 (all-tail (EntryIsRight text) (goal i binders (claim word vars body at)) es right) listed
   acts-same (statement y ∷ es) [] h right listed = absurd h
   acts-same (statement y ∷ es) (claimed c ∷ ms) h right listed = absurd h
   acts-same (statement y ∷ es) (said z ∷ ms) h right listed =
       chosen-same (is_one_layer (option_map (layer_number layers) wanted) (option_map (layer_number layers) y.layer)) (is_layer z.layer wanted)
       (flat_stmt (scope_in text y.instance) [] y.act) (acts_of (option_map (layer_number layers) wanted) (flat_map (flat_entry text layers) es)) z (filter (λ w. is_layer w.layer wanted) (flat_map said_in ms))
       (layer-same layers y.layer wanted listed.0 ∙ ap (λ l. is_layer l wanted) h.0)
-      (walk_of_text text sizes s t states numbers kind x every f found y.instance [] y.act [] tt (all-head (EntryIsRight text sizes) (statement y) es right)
+      (walk_of_text text sizes s t states numbers kind x every f found y.instance [] y.act [] tt (all-head (EntryIsRight text) (statement y) es right)
       ∙ h.2 (scene_at (design_of text) sizes y.instance) s kind x every [] ∙ ap (λ i. walk (scene_at (design_of text) sizes i) s kind x every z.act []) h.1)
-      (acts-same es ms h.3 (all-tail (EntryIsRight text sizes) (statement y) es right) listed.1)
+      (acts-same es ms h.3 (all-tail (EntryIsRight text) (statement y) es right) listed.1)
 
-  pub set-same : TextIsRight text sizes → raw_walk (flatten text) sizes t wanted flat_x every kind ≡ first (map tw (definition_set (design_of text) wanted))
+  pub set-same : TextIsRight text → raw_walk (flatten text) sizes t wanted flat_x every kind ≡ first (map tw (definition_set (design_of text) wanted))
   set-same right =
       ap (λ acts. first (map fw acts)) (acts-placed (option_map (layer_number layers) wanted) 0 (flat_map (flat_entry text layers) (entries text)))
       ∙ acts-same (entries text) (design_of text).met (entries-alike text) right (layers-listed text)

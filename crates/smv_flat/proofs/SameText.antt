@@ -32,30 +32,30 @@ module _ (text : Text) (sizes : Sizes) (s : State) (t : FlatState) (states : Are
   own_states = subst (λ fs. AreSameStates fs s t) (sym (families-same text)) states
 
   own_numbers : All (HasNumbers (scope_in text []) (numbers_in text sizes)) own
-  own_numbers = subst (λ fs. All (HasNumbers (scope_in text []) (numbers_in text sizes)) fs) (sym (families-same text)) numbers
+  own_numbers = subst (λ fs. All (HasNumbers (scope_in text []) (numbers_in text sizes)) fs) (sym (families-same text)) numbers.0
 
-  pub outcome_of_text : (instance : Path) (vars : Around) (e : Expr) (b : Bindings) → Agrees vars b → IsRight (scope_in text instance) (numbers_in text sizes) vars e →
+  pub outcome_of_text : (instance : Path) (vars : Around) (e : Expr) (b : Bindings) → Agrees vars b → IsRight (scope_in text instance) vars e →
       flat_outcome (numbers_in text sizes) t (flat_expr (scope_in text instance) vars e) (values_bound vars b) ≡ outcome (scene_at (design_of text) sizes instance) s e b
   outcome_of_text instance vars e b agree right =
       let scope = scope_in text instance in
       subst (λ fs. flat_outcome (numbers_in text sizes) t (flat_expr scope vars e) (values_bound vars b) ≡ outcome (scene_of instance fs) s e b) (families-same text)
-      (outcome-same scope.types scope.sets scope.enums (placed_families text) instance sizes s t own_states own_numbers vars e b agree right)
+      (outcome-same scope.types scope.sets scope.enums (placed_families text) instance sizes s t own_states own_numbers numbers.1 vars e b agree right)
 
-  pub allowed_of_text : (instance : Path) (every : List Value) (vars : Around) (e : Expr) (b : Bindings) → Agrees vars b → IsRight (scope_in text instance) (numbers_in text sizes) vars e →
+  pub allowed_of_text : (instance : Path) (every : List Value) (vars : Around) (e : Expr) (b : Bindings) → Agrees vars b → IsRight (scope_in text instance) vars e →
       flat_allowed_by (numbers_in text sizes) t every (flat_expr (scope_in text instance) vars e) (values_bound vars b) ≡ allowed_by (scene_at (design_of text) sizes instance) s every e b
   allowed_of_text instance every vars e b agree right =
       let scope = scope_in text instance in
       subst (λ fs. flat_allowed_by (numbers_in text sizes) t every (flat_expr scope vars e) (values_bound vars b) ≡ allowed_by (scene_of instance fs) s every e b) (families-same text)
-      (allowed-same scope.types scope.sets scope.enums (placed_families text) instance sizes s t own_states own_numbers every vars e b agree right)
+      (allowed-same scope.types scope.sets scope.enums (placed_families text) instance sizes s t own_states own_numbers numbers.1 every vars e b agree right)
 
   module _ (kind : Kind) (x : Element) (every : List Value) (f : Family) (found : family_at (design_of text).families x.path ≡ Some f) where
     own_found : family_at own x.path ≡ Some f
     own_found = subst (λ fs. family_at fs x.path ≡ Some f) (sym (families-same text)) found
 
-    pub walk_of_text : (instance : Path) (vars : Around) (act : Stmt) (b : Bindings) → Agrees vars b → StatementIsRight (scope_in text instance) (numbers_in text sizes) vars act →
-        flat_walk (numbers_in text sizes) t (flat_element (scope_in text instance) (numbers_in text sizes) x) every kind (flat_stmt (scope_in text instance) vars act) (values_bound vars b)
+    pub walk_of_text : (instance : Path) (vars : Around) (act : Stmt) (b : Bindings) → Agrees vars b → StatementIsRight (scope_in text instance) vars act →
+        flat_walk (numbers_in text sizes) t (flat_element (scope_in text instance) x) every kind (flat_stmt (scope_in text instance) vars act) (values_bound vars b)
         ≡ walk (scene_at (design_of text) sizes instance) s kind x every act b
     walk_of_text instance vars act b agree right =
         let scope = scope_in text instance in
-        subst (λ fs. flat_walk (numbers_in text sizes) t (flat_element scope (numbers_in text sizes) x) every kind (flat_stmt scope vars act) (values_bound vars b) ≡ walk (scene_of instance fs) s kind x every act b) (families-same text)
-        (walk-same scope.types scope.sets scope.enums (placed_families text) instance sizes s t own_states own_numbers kind x every f own_found vars act b agree right)
+        subst (λ fs. flat_walk (numbers_in text sizes) t (flat_element scope x) every kind (flat_stmt scope vars act) (values_bound vars b) ≡ walk (scene_of instance fs) s kind x every act b) (families-same text)
+        (walk-same scope.types scope.sets scope.enums (placed_families text) instance sizes s t own_states own_numbers numbers.1 kind x every f own_found vars act b agree right)

@@ -20,7 +20,7 @@ use Rattle.smv_core.specs.declared.flat.FlatMember.{One}
 use Rattle.smv_core.specs.declared.flat.FlatStmt.{FlatStmt}
 use Rattle.smv_flat.specs.Numbers.{Scope, bound_in, flat_over, family_number}
 use Rattle.smv_flat.specs.Statements.{flat_expr, flat_stmt, flat_parts, flat_branch, flat_arms, first_label}
-use Rattle.smv_flat.specs.Agreement.{values_bound, flat_element, HasNumbers, RunsOver, AreSameStates, IsRight, AreRight, StatementIsRight, StatementsAreRight, BranchIsRight, ArmsAreRight}
+use Rattle.smv_flat.specs.Agreement.{values_bound, flat_element, HasNumbers, RunsOver, AreSameStates, IsIndexType, IsRight, AreRight, StatementIsRight, StatementsAreRight, BranchIsRight, ArmsAreRight}
 use Rattle.smv_flat.proofs.FlatLists.{each_outcome, member_outcomes, outcome-Within, listed-List, walk-Block, walk-If, walk-Default, walk-Forall}
 use Rattle.smv_flat.proofs.Lookups.{map-same, places-same, found-any}
 use Rattle.smv_flat.proofs.SameReads as reads
@@ -72,6 +72,7 @@ first_of-same p q x y h k = rw (h, k) refl
 module _ (types : Types) (sets : List SetInfo) (enums : List (List Name)) (placed : List (Family × ℕ)) (instance : Path) (sizes : Sizes) (s : State) (t : FlatState)
     (states : AreSameStates (reads.families types sets enums placed instance sizes) s t)
     (numbers : All (HasNumbers (reads.scope types sets enums placed instance sizes) (reads.numbered types sets enums placed instance sizes)) (reads.families types sets enums placed instance sizes))
+    (runs : (over : TypeExpr) → IsIndexType over → RunsOver (reads.scope types sets enums placed instance sizes) (reads.numbered types sets enums placed instance sizes) over)
     (kind : Kind) (x : Element) (every : List Value) (f : Family) (found : family_at (reads.families types sets enums placed instance sizes) x.path ≡ Some f) where
   abbrev scope : Scope
   scope = reads.scope types sets enums placed instance sizes
@@ -83,15 +84,15 @@ module _ (types : Types) (sets : List SetInfo) (enums : List (List Name)) (place
   scene = reads.scene types sets enums placed instance sizes
 
   abbrev flat_x : FlatElement
-  flat_x = flat_element scope n x
+  flat_x = flat_element scope x
 
   abbrev fw : FlatStmt → FlatBindings → Walk
   fw act fb = flat_walk n t flat_x every kind act fb
 
-  value-same : (vars : Around) (e : Expr) (b : Bindings) → Agrees vars b → IsRight scope n vars e → flat_outcome n t (flat_expr scope vars e) (values_bound vars b) ≡ outcome scene s e b
-  value-same vars e b agree h = outcome-same types sets enums placed instance sizes s t states numbers vars e b agree h
+  value-same : (vars : Around) (e : Expr) (b : Bindings) → Agrees vars b → IsRight scope vars e → flat_outcome n t (flat_expr scope vars e) (values_bound vars b) ≡ outcome scene s e b
+  value-same vars e b agree h = outcome-same types sets enums placed instance sizes s t states numbers runs vars e b agree h
 
-  left-same : (vars : Around) (es : List Expr) (b : Bindings) → Agrees vars b → AreRight scope n vars es → each_outcome n t (values_bound vars b) (map (flat_expr scope vars) es) ≡ map (λ e. outcome scene s e b) es
+  left-same : (vars : Around) (es : List Expr) (b : Bindings) → Agrees vars b → AreRight scope vars es → each_outcome n t (values_bound vars b) (map (flat_expr scope vars) es) ≡ map (λ e. outcome scene s e b) es
   left-same vars [] b agree h = refl
   left-same vars (e ∷ es) b agree h = rw (value-same vars e b agree h.0, left-same vars es b agree h.1) refl
 
@@ -101,12 +102,12 @@ module _ (types : Types) (sets : List SetInfo) (enums : List (List Name)) (place
   if-same : (test left : Bool) (kinds : Bool) (v w : Walk) → test ≡ left → v ≡ w → cond (kinds && test) v None ≡ cond (kinds && left) w None
   if-same test left kinds v w h k = rw (h, k) refl
 
-  labels-same : (vars : Around) (labels : List Expr) (b : Bindings) (u w : Outcome) → Agrees vars b → AreRight scope n vars labels → u ≡ w →
+  labels-same : (vars : Around) (labels : List Expr) (b : Bindings) (u w : Outcome) → Agrees vars b → AreRight scope vars labels → u ≡ w →
       map (equal u) (flat_map (member_outcomes n t (values_bound vars b)) (map (λ label. One (flat_expr scope vars label)) labels)) ≡ map (λ label. equal w (outcome scene s label b)) labels
   labels-same vars [] b u w agree h e = refl
   labels-same vars (label ∷ labels) b u w agree h e = rw (value-same vars label b agree h.0, labels-same vars labels b u w agree h.1 e, e) refl
 
-  is_label-same : (vars : Around) (on : FlatExpr) (labels : List Expr) (at : ℕ) (b : Bindings) (w : Outcome) → Agrees vars b → AreRight scope n vars labels → flat_outcome n t on (values_bound vars b) ≡ w →
+  is_label-same : (vars : Around) (on : FlatExpr) (labels : List Expr) (at : ℕ) (b : Bindings) (w : Outcome) → Agrees vars b → AreRight scope vars labels → flat_outcome n t on (values_bound vars b) ≡ w →
       truth (flat_outcome n t (Within on (ListOf (map (λ label. One (flat_expr scope vars label)) labels) at)) (values_bound vars b)) ≡ is_label scene s kind x every w labels b
   is_label-same vars on labels at b w agree h e =
       ap truth (outcome-Within n t on (ListOf (map (λ label. One (flat_expr scope vars label)) labels) at) (values_bound vars b))
@@ -118,19 +119,19 @@ module _ (types : Types) (sets : List SetInfo) (enums : List (List Name)) (place
   turns-same act fb w h [] = refl
   turns-same act fb w h (k ∷ ks) = rw (h k, turns-same act fb w h ks) refl
 
-  bound-same : (vars : Around) (b : Bindings) (agree : Agrees vars b) (body : FlatStmt) (w : Value → Walk) (over : TypeExpr) → RunsOver scope n over → ((v : Value) → fw body (values_bound vars b ++ v ∷ []) ≡ w v) →
+  bound-same : (vars : Around) (b : Bindings) (agree : Agrees vars b) (body : FlatStmt) (w : Value → Walk) (over : TypeExpr) → IsIndexType over → ((v : Value) → fw body (values_bound vars b ++ v ∷ []) ≡ w v) →
       map (λ v. fw body (bind (values_bound vars b) (bound_in vars) v)) (values_in n (flat_over scope over)) ≡ map w (values_over types sizes over)
-  bound-same vars b agree body w over runs h =
+  bound-same vars b agree body w over lawful h =
       map-same (λ v. fw body (bind (values_bound vars b) (bound_in vars) v)) w (λ v. ap (fw body) (bind-one_more vars b v agree) ∙ h v) (values_in n (flat_over scope over))
-      ∙ ap (map w) (over-same types sets enums placed instance sizes over runs)
+      ∙ ap (map w) (over-same types sets enums placed instance sizes over (runs over lawful))
 
   mutual
-    pub walk-same : (vars : Around) (act : Stmt) (b : Bindings) → Agrees vars b → StatementIsRight scope n vars act → fw (flat_stmt scope vars act) (values_bound vars b) ≡ walk scene s kind x every act b
+    pub walk-same : (vars : Around) (act : Stmt) (b : Bindings) → Agrees vars b → StatementIsRight scope vars act → fw (flat_stmt scope vars act) (values_bound vars b) ≡ walk scene s kind x every act b
     walk-same vars (Assign which left value at) b agree h =
         if-same (nat_eq (family_number scope (instance ++ fields_of (out-Path left).parts)) (family_number scope x.path)) (same_path (instance ++ fields_of (out-Path left).parts) x.path) (same_kind which kind) _ _
         (number-same (reads.families types sets enums placed instance sizes) (instance ++ fields_of (out-Path left).parts) x.path f found)
         (assigned-same _ (map (λ e. outcome scene s e b) (indexes_of (out-Path left).parts)) (flat_expr scope vars value) value (values_bound vars b) b
-        (left-same vars (indexes_of (out-Path left).parts) b agree h.0) (allowed-same types sets enums placed instance sizes s t states numbers every vars value b agree h.1))
+        (left-same vars (indexes_of (out-Path left).parts) b agree h.0) (allowed-same types sets enums placed instance sizes s t states numbers runs every vars value b agree h.1))
     walk-same vars (Block' shape parts) b agree h = walk-Block n t flat_x every kind (flat_parts scope vars parts) (values_bound vars b) ∙ parts-same vars parts b agree h
     walk-same vars (If' test l (more_of-Stmt left end_of-Stmt) right at) b agree h =
         walk-If n t flat_x every kind (flat_expr scope vars test) (flat_stmt scope vars left) (flat_branch scope vars right) (values_bound vars b)
@@ -149,15 +150,15 @@ module _ (types : Types) (sets : List SetInfo) (enums : List (List Name)) (place
         ∙ ap first (bound-same vars b agree (flat_stmt scope ((var.name, any) ∷ vars) body) (λ v. walk scene s kind x every body ((var.name, v) ∷ b)) over h.1
         (λ v. walk-same ((var.name, any) ∷ vars) body ((var.name, v) ∷ b) (refl, agree) h.0))
 
-    parts-same : {m : _} (vars : Around) (parts : Row_of-Stmt m) (b : Bindings) → Agrees vars b → StatementsAreRight scope n vars parts → first (map (λ a. fw a (values_bound vars b)) (flat_parts scope vars parts)) ≡ walk_parts scene s kind x every parts b
+    parts-same : {m : _} (vars : Around) (parts : Row_of-Stmt m) (b : Bindings) → Agrees vars b → StatementsAreRight scope vars parts → first (map (λ a. fw a (values_bound vars b)) (flat_parts scope vars parts)) ≡ walk_parts scene s kind x every parts b
     parts-same vars end_of-Stmt b agree h = refl
     parts-same vars (more_of-Stmt part rest) b agree h = first_of-same _ (walk scene s kind x every part b) _ (walk_parts scene s kind x every rest b) (walk-same vars part b agree h.0) (parts-same vars rest b agree h.1)
 
-    held-same : (vars : Around) (branch : Held-Stmt-If-2) (b : Bindings) → Agrees vars b → BranchIsRight scope n vars branch → fw (flat_branch scope vars branch) (values_bound vars b) ≡ walk_held scene s kind x every branch b
+    held-same : (vars : Around) (branch : Held-Stmt-If-2) (b : Bindings) → Agrees vars b → BranchIsRight scope vars branch → fw (flat_branch scope vars branch) (values_bound vars b) ≡ walk_held scene s kind x every branch b
     held-same vars None' b agree h = walk-Block n t flat_x every kind [] (values_bound vars b)
     held-same vars (Some' shape (more_of-Stmt part end_of-Stmt)) b agree h = walk-same vars part b agree h
 
-    arms-same : {m : _} (vars : Around) (arms : Row_of-Arm m) (b : Bindings) → Agrees vars b → ArmsAreRight scope n vars arms → (on : FlatExpr) (w : Outcome) → flat_outcome n t on (values_bound vars b) ≡ w →
+    arms-same : {m : _} (vars : Around) (arms : Row_of-Arm m) (b : Bindings) → Agrees vars b → ArmsAreRight scope vars arms → (on : FlatExpr) (w : Outcome) → flat_outcome n t on (values_bound vars b) ≡ w →
         (other : FlatStmt) (v : Walk) → fw other (values_bound vars b) ≡ v → fw (flat_arms scope vars arms on other) (values_bound vars b) ≡ walk_arms scene s kind x every arms w v b
     arms-same vars end_of-Arm b agree h on w e other v k = k
     arms-same vars (more_of-Arm labels body rest) b agree h on w e other v k =

@@ -28,7 +28,7 @@ use Rattle.smv_core.specs.declared.tree.Span.{Span}
 use Rattle.std.specs.Option.{option_or}
 use Rattle.smv_flat.specs.Numbers.{Scope, flat_simple}
 use Rattle.smv_flat.specs.Flattening.{scope_in, enum_of, enums_of, set_of, different}
-use Rattle.smv_flat.specs.Agreement.{IsNumbered, IsNumberedOrNone, HasNumbers, AreNumbered, numbers_in}
+use Rattle.smv_flat.specs.Agreement.{IsNumbered, IsNumberedOrNone, IsIndexType, HasNumbers, AreNumbered, numbers_in}
 use Rattle.smv_flat.proofs.Lookups.{any-found, find-passes, any-behind}
 use Rattle.smv_flat.proofs.Different.{different-keeps}
 
@@ -203,6 +203,15 @@ module _ (scope : Scope) (n : Numbered) (same_enums : n.enums ≡ scope.enums) (
       families-numbered zero here name = tt
       families-numbered (suc k) here name = items-numbered (families_in types bodies k) (families-numbered k) here (body_of types bodies name).items (body-listed name bodies own)
 
+  -- a type over which a binder may run
+  index-numbered : (types : Types) → TableIsGood types → (over : TypeExpr) → IsIndexType over → IsNumberedOrNone scope n (simple types over)
+  index-numbered types good Boolean h = refl
+  index-numbered types good (Range span at) h = refl
+  index-numbered types good (Named word at) h = simple-numbered (shape_or_none (find_name types word.name)) (named-numbered types word.name good)
+  index-numbered types good (Enum names at) h = absurd h
+  index-numbered types good (Array' i index o of) h = absurd h
+  index-numbered types good (Struct' shape fields) h = absurd h
+
   -- ---- tops
 
   abbrev pub TopIsGood : Top → Type 0
@@ -338,6 +347,7 @@ types-of-text text e sizes =
     let lists : List (List Name) = flat_map (λ piece. flat_map enum_of piece.mentions) (pieces text) in
     let listed : AllByRecursion (λ l. list_any (same_path l) (different same_path lists) ≡ true) lists =
           each-more (λ l. list_any (same_path l) lists ≡ true) (λ l. list_any (same_path l) (different same_path lists) ≡ true) (λ l h. different-keeps same_path paths-decide l lists h) lists (own-listed [] lists) in
-    all-each (HasNumbers scope n) (design_of text).families
-      (each-more (IsGood scope n refl refl) (HasNumbers scope n) (λ f g. (g.0, all-each (IsNumbered scope n) f.over g.1)) (design_of text).families
-        (text-numbered scope n refl refl text.tops (tops-good scope n refl refl [] [] [] (λ name h. refl) text.tops refl (once-declared text e) listed)))
+    let good : AllByRecursion (TopIsGood scope n refl refl) text.tops = tops-good scope n refl refl [] [] [] (λ name h. refl) text.tops refl (once-declared text e) listed in
+    (all-each (HasNumbers scope n) (design_of text).families
+      (each-more (IsGood scope n refl refl) (HasNumbers scope n) (λ f g. (g.0, all-each (IsNumbered scope n) f.over g.1)) (design_of text).families (text-numbered scope n refl refl text.tops good)),
+     index-numbered scope n refl refl (types_from [] text.tops) (table-numbered scope n refl refl [] tt text.tops good))

@@ -8,7 +8,7 @@ use Rattle.smv_core.specs.Outcome.{State, Bindings, fields_of, family_at}
 use Rattle.smv_core.specs.Walk.{Element, indexes_of}
 use Rattle.smv_core.specs.Assignments.{Around, loop, any}
 use Rattle.smv_core.specs.Flat.{Numbered, FlatState, FlatBindings, FlatElement, simple_in}
-use Rattle.smv_core.specs.declared.tree.TypeExpr.{TypeExpr}
+use Rattle.smv_core.specs.declared.tree.TypeExpr.{TypeExpr, Boolean, Range, Named}
 use Rattle.smv_core.specs.declared.tree.Part.{Field, At}
 use Rattle.smv_core.specs.declared.tree.Path.{out-Path}
 use Rattle.smv_core.specs.declared.tree.Member.{One, Span as SpanOf}
@@ -38,10 +38,6 @@ values_bound ((name, loop n) ∷ vars) ((other, v) ∷ b) = values_bound vars b
 values_bound _ _ = []
 
 module _ (scope : Scope) (n : Numbered) where
-  -- the element of the same family
-  abbrev pub flat_element : Element → FlatElement
-  flat_element x = record { family = family_number scope x.path; indexes = x.indexes }
-
   -- the number of a type stands for this type again: its set type or enumeration is listed
   abbrev pub IsNumbered : Simple → Type 0
   IsNumbered t = simple_in n (flat_simple scope t) ≡ t
@@ -58,6 +54,18 @@ module _ (scope : Scope) (n : Numbered) where
   abbrev pub RunsOver : TypeExpr → Type 0
   RunsOver over = IsNumberedOrNone (simple scope.types over)
 
+-- a type as the grammar has it behind a binder
+abbrev pub IsIndexType : TypeExpr → Type 0
+IsIndexType Boolean = Unit {0}
+IsIndexType (Range span at) = Unit {0}
+IsIndexType (Named word at) = Unit {0}
+IsIndexType _ = ⊥
+
+module _ (scope : Scope) where
+  -- the element of the same family
+  abbrev pub flat_element : Element → FlatElement
+  flat_element x = record { family = family_number scope x.path; indexes = x.indexes }
+
   -- some enumeration lists the constant
   abbrev pub IsConstant : Path → Type 0
   IsConstant (name ∷ []) = list_any (list_any (bytes_eq name)) scope.enums ≡ true
@@ -69,7 +77,7 @@ module _ (scope : Scope) (n : Numbered) where
   IsKnown _ _ _ = Unit {0}
 
   abbrev mutual
-    -- each name that an expression reads inside these variables is known, and each of its binders runs over a type with a number
+    -- each name that an expression reads inside these variables is known, and each of its binders has a type as the grammar has it
     pub IsRight : Around → Expr → Type 0
     IsRight vars (Number value at) = Unit {0}
     IsRight vars (Signal' shape parts at) =
@@ -85,10 +93,10 @@ module _ (scope : Scope) (n : Numbered) where
     IsRight vars (Sum' f (more_of-Expr first end_of-Expr) shape more) = IsRight vars first × TermsAreRight vars more
     IsRight vars (Modulo' shape (more_of-Expr e end_of-Expr) by at) = IsRight vars e
     IsRight vars (Choose' c (more_of-Expr cond end_of-Expr) l (more_of-Expr left end_of-Expr) r (more_of-Expr right end_of-Expr)) = IsRight vars cond × IsRight vars left × IsRight vars right
-    IsRight vars (All' shape (more_of-Expr body end_of-Expr) var over at) = IsRight ((var.name, any) ∷ vars) body × RunsOver over
-    IsRight vars (Any' shape (more_of-Expr body end_of-Expr) var over at) = IsRight ((var.name, any) ∷ vars) body × RunsOver over
+    IsRight vars (All' shape (more_of-Expr body end_of-Expr) var over at) = IsRight ((var.name, any) ∷ vars) body × IsIndexType over
+    IsRight vars (Any' shape (more_of-Expr body end_of-Expr) var over at) = IsRight ((var.name, any) ∷ vars) body × IsIndexType over
     IsRight vars (List' shape members at) = MembersAreRight vars members
-    IsRight vars (Each' var over cond at) = ConditionIsRight ((var.name, any) ∷ vars) cond × RunsOver over
+    IsRight vars (Each' var over cond at) = ConditionIsRight ((var.name, any) ∷ vars) cond × IsIndexType over
 
     pub PartsAreRight : {m : _} → Around → Row_of-Expr m → Type 0
     PartsAreRight vars end_of-Expr = Unit {0}
@@ -125,7 +133,7 @@ module _ (scope : Scope) (n : Numbered) where
     StatementIsRight vars (Switch' on shape arms other at) = IsRight vars on × ArmsAreRight vars arms × BranchIsRight vars other
     StatementIsRight vars (Default' l (more_of-Stmt left end_of-Stmt) r (more_of-Stmt right end_of-Stmt) at) = StatementIsRight vars left × StatementIsRight vars right
     StatementIsRight vars (For' var from to closed step shape (more_of-Stmt body end_of-Stmt) at) = (k : ℕ) → StatementIsRight ((var.name, loop k) ∷ vars) body
-    StatementIsRight vars (Forall' var over shape (more_of-Stmt body end_of-Stmt) at) = StatementIsRight ((var.name, any) ∷ vars) body × RunsOver over
+    StatementIsRight vars (Forall' var over shape (more_of-Stmt body end_of-Stmt) at) = StatementIsRight ((var.name, any) ∷ vars) body × IsIndexType over
 
     pub StatementsAreRight : {m : _} → Around → Row_of-Stmt m → Type 0
     StatementsAreRight vars end_of-Stmt = Unit {0}
@@ -143,9 +151,10 @@ module _ (scope : Scope) (n : Numbered) where
 abbrev pub numbers_in : Text → Sizes → Numbered
 numbers_in text sizes = numbers_of (flatten text) sizes
 
--- the types of each family of a text have numbers
+-- the types of each family of a text have numbers, and so has each type over which a binder may run
 abbrev pub AreNumbered : Text → Sizes → Type 0
-AreNumbered text sizes = All (HasNumbers (scope_in text []) (numbers_in text sizes)) (design_of text).families
+AreNumbered text sizes =
+    All (HasNumbers (scope_in text []) (numbers_in text sizes)) (design_of text).families × ((over : TypeExpr) → IsIndexType over → RunsOver (scope_in text []) (numbers_in text sizes) over)
 
 -- a flattened family has the dotted name of the family, the same types and the same role
 abbrev pub IsSameFamily : Numbered → FlatFamily → Family → Type 0

@@ -17,7 +17,7 @@ use Rattle.smv_core.specs.declared.flat.FlatItem.TheVariants as item
 use Rattle.smv_core.specs.declared.flat.Raw.{Raw}
 use Rattle.smv_flat.specs.Entries.{Binders, claim, Entry, statement, goal, entries}
 use Rattle.smv_flat.specs.Flattening.{scope_in, layer_number, within, dotted}
-use Rattle.smv_flat.specs.Agreement.{numbers_of, numbers_in, RunsOver, IsRight, StatementIsRight}
+use Rattle.smv_flat.specs.Agreement.{numbers_of, numbers_in, IsIndexType, IsRight, StatementIsRight}
 
 -- two numbers of layers are one, or both are none
 abbrev pub is_one_layer : Option ℕ → Option ℕ → Bool
@@ -47,21 +47,23 @@ claims_met [] = []
 claims_met (claimed c ∷ met) = c ∷ claims_met met
 claims_met (_ ∷ met) = claims_met met
 
-module _ (text : Text) (sizes : Sizes) where
-  abbrev pub BindersAreRight : Binders → Type 0
-  BindersAreRight [] = Unit {0}
-  BindersAreRight ((word, over) ∷ binders) = RunsOver (scope_in text []) (numbers_in text sizes) over × BindersAreRight binders
+-- the types of binders are as the grammar has them
+abbrev pub BindersAreRight : Binders → Type 0
+BindersAreRight [] = Unit {0}
+BindersAreRight ((word, over) ∷ binders) = IsIndexType over × BindersAreRight binders
 
-  -- the names in a statement or claim are known where it stands, and the types of its binders have numbers
+module _ (text : Text) where
+  -- the names in a statement or claim are known where it stands
   abbrev pub EntryIsRight : Entry → Type 0
-  EntryIsRight (statement x) = StatementIsRight (scope_in text x.instance) (numbers_in text sizes) [] x.act
-  EntryIsRight (goal instance binders (claim word vars body at)) = IsRight (scope_in text instance) (numbers_in text sizes) (within [] binders) body × BindersAreRight binders
+  EntryIsRight (statement x) = StatementIsRight (scope_in text x.instance) [] x.act
+  EntryIsRight (goal instance binders (claim word vars body at)) = IsRight (scope_in text instance) (within [] binders) body × BindersAreRight binders
   EntryIsRight _ = Unit {0}
 
   -- so it is of each statement and claim of the text
   abbrev pub TextIsRight : Type 0
   TextIsRight = All EntryIsRight (entries text)
 
+module _ (text : Text) (sizes : Sizes) where
   -- The flattened claim has the claim's name behind that of its instance, its parameters have the same values, and for each choice of them its body has the same
   -- outcome.
   abbrev pub IsSameClaim : State → FlatState → Claim → Claimed → Type 0
