@@ -2,6 +2,7 @@
 ghost use Rattle.smv_worked_flat.specs.Worked.{AreFlattened, families, front, items};
 ghost use Rattle.smv_worked_flat.specs.WorkedTexts as texts;
 ghost use Rattle.smv_worked_flat.specs.Tomasulo as machine;
+ghost use Rattle.smv_worked_flat.specs.Right.{MeetsConditions, small};
 
 /// The flattened text of each worked text, or the part of it that its theme is about.
 pub fn worked_texts()
@@ -15,4 +16,9 @@ pub fn worked_texts()
     ensures expressions { AreFlattened items texts.expressions }
     ensures goals { AreFlattened items texts.goals }
     ensures tomasulo { AreFlattened families machine.rows }
+{}
+
+/// Some text meets the conditions of the laws of flattening: it has no fault of names, and each name in its statements and claims is known.
+pub fn conditions_are_met()
+    ensures { MeetsConditions small }
 {}
