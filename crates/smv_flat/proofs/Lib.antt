@@ -11,3 +11,4 @@ pub mod SameSets
 pub mod SameClaims
 pub mod Different
 pub mod TypeNumbers
+pub mod SameIndexes

@@ -15,7 +15,7 @@ use Rattle.smv_core.specs.declared.tree.Text.{Text}
 use Rattle.smv_core.specs.declared.tree.Expr.{Expr}
 use Rattle.smv_flat.specs.Statements.{flat_expr, flat_stmt}
 use Rattle.smv_flat.specs.Entries.{Binders, claim, split, using, Entry, layer, statement, goal, entries, placed_families}
-use Rattle.smv_flat.specs.Flattening.{scope_in, flatten, flat_entry, with_places, assignments, layers_of, within, params_from, dotted}
+use Rattle.smv_flat.specs.Flattening.{scope_in, flatten, flat_entry, with_places, flat_assignments, layers_of, within, params_from, dotted}
 use Rattle.smv_flat.specs.Agreement.{AreNumbered, AreSameStates, IsRight, numbers_in, values_bound}
 use Rattle.smv_flat.specs.WholeText.{claims_of, claims_met, BindersAreRight, EntryIsRight, TextIsRight, IsSameClaim}
 use Rattle.smv_flat.proofs.Lookups.{all-head, all-tail}
@@ -84,7 +84,7 @@ module _ (text : Text) (sizes : Sizes) (s : State) (t : FlatState) (states : Are
   )
   claims-same k (statement y ∷ es) [] h right layers = absurd h
   claims-same k (statement y ∷ es) (claimed c ∷ ms) h right layers = absurd h
-  claims-same k (statement y ∷ es) (said z ∷ ms) h right layers = claims-same (k + assignments (flat_stmt (scope_in text y.instance) [] y.act)) es ms h.3 (all-tail (EntryIsRight text) (statement y) es right) layers
+  claims-same k (statement y ∷ es) (said z ∷ ms) h right layers = claims-same (k + length (flat_assignments (flat_stmt (scope_in text y.instance) [] y.act))) es ms h.3 (all-tail (EntryIsRight text) (statement y) es right) layers
 
   pub claims-of-text : TextIsRight text → AllZip (IsSameClaim text sizes s t) (claims_of (flatten text).items) (claims_met (design_of text).met)
   claims-of-text right = claims-same 0 (entries text) (design_of text).met (entries-alike text) right (layers_of (entries text))

@@ -1,5 +1,5 @@
 -- The statements of a layer give an element in the flattened text what they give it on the tree.
-use Rattle.std.proofs.Common.{◌≡◌, ℕ, ◌+◌, List, [], ◌∷◌, map, filter, flat_map, All, Option, Some, Bool, true, false, cond, option_map, refl, ap, ◌∙◌, subst}
+use Rattle.std.proofs.Common.{◌≡◌, ℕ, ◌+◌, List, [], ◌∷◌, map, length, filter, flat_map, All, Option, Some, Bool, true, false, cond, option_map, refl, ap, ◌∙◌, subst}
 use Rattle.smv_core.specs.Values.{Name, Value, Sizes}
 use Rattle.smv_core.specs.Types.{Family}
 use Rattle.smv_core.specs.FlatOrder.{Met, said, claimed, Said, design_of}
@@ -14,7 +14,7 @@ use Rattle.smv_core.specs.declared.flat.FlatItem.{FlatItem}
 use Rattle.smv_core.specs.declared.flat.FlatItem.TheVariants as item
 use Rattle.smv_flat.specs.Statements.{flat_stmt}
 use Rattle.smv_flat.specs.Entries.{claim, split, using, Entry, layer, statement, goal, entries}
-use Rattle.smv_flat.specs.Flattening.{scope_in, flatten, flat_entry, with_places, assignments, layers_of, layer_number}
+use Rattle.smv_flat.specs.Flattening.{scope_in, flatten, flat_entry, with_places, flat_assignments, layers_of, layer_number}
 use Rattle.smv_flat.specs.Agreement.{AreNumbered, AreSameStates, flat_element, numbers_in}
 use Rattle.smv_flat.specs.WholeText.{is_one_layer, acts_of, raw_walk, EntryIsRight, TextIsRight}
 use Rattle.smv_flat.proofs.Lookups.{all-head, all-tail}
@@ -25,7 +25,7 @@ use Rattle.smv_flat.proofs.SameText.{walk_of_text}
 -- the places of claims are no part of statements
 acts-placed : (number : Option ℕ) (k : ℕ) (items : List FlatItem) → acts_of number (with_places k items) ≡ acts_of number items
 acts-placed number k [] = refl
-acts-placed number k (item.Act other act ∷ items) = ap (λ l. cond (is_one_layer number other) (act ∷ l) l) (acts-placed number (k + assignments act) items)
+acts-placed number k (item.Act other act ∷ items) = ap (λ l. cond (is_one_layer number other) (act ∷ l) l) (acts-placed number (k + length (flat_assignments act)) items)
 acts-placed number k (item.Claim c ∷ items) = acts-placed number (k + 1) items
 acts-placed number k (item.Split c ∷ items) = acts-placed number k items
 acts-placed number k (item.Using c ∷ items) = acts-placed number k items

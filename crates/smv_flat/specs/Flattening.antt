@@ -1,11 +1,13 @@
 -- The flattened text.
-use Rattle.std.specs.Prelude.{ℕ, ◌+◌, ◌-◌, List, [], ◌∷◌, ◌++◌, map, flat_map, filter, Bool, not, option_map}
+use Rattle.std.specs.Prelude.{ℕ, ◌+◌, ◌-◌, List, [], ◌∷◌, ◌++◌, map, length, flat_map, filter, Bool, not, option_map}
 use Rattle.std.specs.Str.{bytes_eq}
 use Rattle.std.specs.List.{position_or_len, join_with_byte}
 use Rattle.smv_core.specs.Values.{Name, Path}
 use Rattle.smv_core.specs.Types.{Family, types_from, names_of}
 use Rattle.smv_core.specs.Outcome.{same_path}
-use Rattle.smv_core.specs.Assignments.{Around, any}
+use Rattle.smv_core.specs.Assignments.{Around, any, Index}
+use Rattle.smv_core.specs.Flat.{flat_index}
+use Rattle.smv_core.specs.declared.tree.Kind.{Kind}
 use Rattle.smv_core.specs.declared.tree.Word.{Word}
 use Rattle.smv_core.specs.declared.tree.Span.{Span}
 use Rattle.smv_core.specs.declared.tree.Text.{Text}
@@ -130,25 +132,31 @@ module _ (scope : Scope) where
   flat_goal binders (using uses proves at) =
       item.Using (record { prefix = dotted scope.instance; bound = params_from 0 binders; uses = map whole_use uses; proves = map whole proves; at = at })
 
--- ---- places in flat order
+-- ---- assignments in flat order
+
+-- an assignment of the flattened text, by its kind, its family's number and its indexes
+pub record FlatAssigned : Type 0 where
+  pub kind : Kind
+  pub family : ℕ
+  pub indexes : List Index
 
 -- the assignments that stand in a statement
 abbrev mutual
-  pub assignments : FlatStmt → ℕ
-  assignments (Assign kind family left value at) = 1
-  assignments (If' cond l (more_of-FlatStmt left end_of-FlatStmt) r (more_of-FlatStmt right end_of-FlatStmt)) = assignments left + assignments right
-  assignments (Block' shape parts) = assignments_in parts
-  assignments (Default' l (more_of-FlatStmt left end_of-FlatStmt) r (more_of-FlatStmt right end_of-FlatStmt)) = assignments left + assignments right
-  assignments (Forall' var over shape (more_of-FlatStmt body end_of-FlatStmt)) = assignments body
+  pub flat_assignments : FlatStmt → List FlatAssigned
+  flat_assignments (Assign kind family left value at) = record { kind = kind; family = family; indexes = map flat_index left } ∷ []
+  flat_assignments (If' cond l (more_of-FlatStmt left end_of-FlatStmt) r (more_of-FlatStmt right end_of-FlatStmt)) = flat_assignments left ++ flat_assignments right
+  flat_assignments (Block' shape parts) = flat_assignments_in parts
+  flat_assignments (Default' l (more_of-FlatStmt left end_of-FlatStmt) r (more_of-FlatStmt right end_of-FlatStmt)) = flat_assignments left ++ flat_assignments right
+  flat_assignments (Forall' var over shape (more_of-FlatStmt body end_of-FlatStmt)) = flat_assignments body
 
-  pub assignments_in : {m : _} → Row_of-FlatStmt m → ℕ
-  assignments_in end_of-FlatStmt = 0
-  assignments_in (more_of-FlatStmt part rest) = assignments part + assignments_in rest
+  pub flat_assignments_in : {m : _} → Row_of-FlatStmt m → List FlatAssigned
+  flat_assignments_in end_of-FlatStmt = []
+  flat_assignments_in (more_of-FlatStmt part rest) = flat_assignments part ++ flat_assignments_in rest
 
 -- each claim with its place: how many assignments, connections and claims are met before it
 abbrev pub with_places : ℕ → List FlatItem → List FlatItem
 with_places k [] = []
-with_places k (item.Act number act ∷ items) = item.Act number act ∷ with_places (k + assignments act) items
+with_places k (item.Act number act ∷ items) = item.Act number act ∷ with_places (k + length (flat_assignments act)) items
 with_places k (item.Claim c ∷ items) = item.Claim (record c { place = k }) ∷ with_places (k + 1) items
 with_places k (other ∷ items) = other ∷ with_places k items
 

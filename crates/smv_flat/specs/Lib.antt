@@ -4,3 +4,4 @@ pub mod Entries
 pub mod Flattening
 pub mod Agreement
 pub mod WholeText
+pub mod RawAllowed
