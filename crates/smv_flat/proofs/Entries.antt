@@ -6,6 +6,7 @@ use Rattle.smv_core.specs.FlatOrder as tree
 use Rattle.smv_core.specs.FlatOrder.{Body, Said, Claimed, Met, said, claimed, within_binder, body_of, role_of, item_met, items_met, met_in, modules, main, design_of}
 use Rattle.smv_core.specs.Outcome.{State, Bindings, Scene}
 use Rattle.smv_core.specs.Walk.{Element, Walk, walk, first}
+use Rattle.smv_core.specs.Assignments.{Around, any, assignments}
 use Rattle.smv_core.specs.declared.tree.Kind.{Kind}
 use Rattle.smv_core.specs.declared.tree.Role.{Role}
 use Rattle.smv_core.specs.declared.tree.Role.TheVariants.{Plain, Abstract, Input, Output}
@@ -18,9 +19,11 @@ use Rattle.smv_core.specs.declared.tree.Item.{Item, Declare, Instance, Layer, Fo
 use Rattle.smv_flat.specs.Entries.{Binders, claim, split, using, Entry, layer, statement, goal, inside_binder, connection, given_to, connections, item_entries, items_entries, entries_in, entries}
 use Rattle.smv_inst.proofs.Computing.{computing}
 
--- two statements give each element the same everywhere
+-- two statements give each element the same everywhere, and have the same assignments
 abbrev pub AreAlikeActs : Stmt → Stmt → Type 0
-AreAlikeActs a c = (scene : Scene) (s : State) (kind : Kind) (x : Element) (every : List Value) (b : Bindings) → walk scene s kind x every a b ≡ walk scene s kind x every c b
+AreAlikeActs a c =
+    ((scene : Scene) (s : State) (kind : Kind) (x : Element) (every : List Value) (b : Bindings) → walk scene s kind x every a b ≡ walk scene s kind x every c b)
+    × ((instance : Path) (around : Around) → assignments instance a around ≡ assignments instance c around)
 
 abbrev pub EachIsAlike : List Stmt → List Stmt → Type 0
 EachIsAlike [] [] = Unit {0}
@@ -71,11 +74,16 @@ walks-alike : (vs : List Value) (f g : Value → Walk) → ((v : Value) → f v 
 walks-alike [] f g h = refl
 walks-alike (v ∷ vs) f g h = rw (h v, walks-alike vs f g h) refl
 
+assignments-Forall : (instance : Path) (var : Word) (over : TypeExpr) (a : Stmt) (around : Around) → assignments instance (Forall var over a 0) around ≡ assignments instance a ((var.name, any) ∷ around)
+unfolding computing
+assignments-Forall instance var over a around = refl
+
 forall-alike : (var : Word) (over : TypeExpr) (a c : Stmt) → AreAlikeActs a c → AreAlikeActs (Forall var over a 0) (Forall var over c 0)
-forall-alike var over a c h scene s kind x every b =
-    walk-Forall scene s kind x every var over a b
-    ∙ ap first (walks-alike (values_over scene.types scene.sizes over) (λ v. walk scene s kind x every a ((var.name, v) ∷ b)) (λ v. walk scene s kind x every c ((var.name, v) ∷ b)) (λ v. h scene s kind x every ((var.name, v) ∷ b)))
-    ∙ sym (walk-Forall scene s kind x every var over c b)
+forall-alike var over a c h =
+    (λ scene s kind x every b. walk-Forall scene s kind x every var over a b
+    ∙ ap first (walks-alike (values_over scene.types scene.sizes over) (λ v. walk scene s kind x every a ((var.name, v) ∷ b)) (λ v. walk scene s kind x every c ((var.name, v) ∷ b)) (λ v. h.0 scene s kind x every ((var.name, v) ∷ b)))
+    ∙ sym (walk-Forall scene s kind x every var over c b),
+    λ instance around. assignments-Forall instance var over a around ∙ h.1 instance ((var.name, any) ∷ around) ∙ sym (assignments-Forall instance var over c around))
 
 alike-inside : (var : Word) (over : TypeExpr) (es : List Entry) (ms : List Met) → AreAlike es ms → AreAlike (map (inside_binder var over) es) (map (within_binder var over) ms)
 alike-inside var over [] [] h = tt
@@ -99,7 +107,7 @@ alike-statements l here (a ∷ as') (c ∷ cs) h = (refl, refl, h.0, alike-state
 
 alike-itself : (as' : List Stmt) → EachIsAlike as' as'
 alike-itself [] = tt
-alike-itself (a ∷ as') = (λ scene s kind x every b. refl, alike-itself as')
+alike-itself (a ∷ as') = ((λ scene s kind x every b. refl, λ instance around. refl), alike-itself as')
 
 -- ---- connections
 
@@ -111,12 +119,12 @@ each-append (a ∷ as') bs (c ∷ cs) ds h k = (h.0, each-append as' bs cs ds h.
 
 given-alike : (n a : Name) (e : Expr) → EachIsAlike (given_to n a e) (tree.assigned_path n a e)
 unfolding computing
-given-alike n a (Signal' shape parts at) = (λ scene s kind x every b. refl, tt)
+given-alike n a (Signal' shape parts at) = ((λ scene s kind x every b. refl, λ instance around. refl), tt)
 given-alike n a _ = tt
 
 connection-alike : (role : Role) (n a : Name) (e : Expr) → EachIsAlike (connection role n a e) (tree.connection role n a e)
 unfolding computing
-connection-alike Input n a e = (λ scene s kind x every b. refl, tt)
+connection-alike Input n a e = ((λ scene s kind x every b. refl, λ instance around. refl), tt)
 connection-alike Output n a e = given-alike n a e
 connection-alike Plain n a e = tt
 connection-alike Abstract n a e = tt
@@ -148,7 +156,7 @@ module _ (types : Types) (bodies : List (Name × Body)) where
       item-alike (Claim name vars body at) = (refl, refl, refl, refl, tt)
       item-alike (Split name vars of pairs at) = tt
       item-alike (Using uses proves at) = tt
-      item-alike (Act act) = (refl, refl, λ scene s kind x every b. refl, tt)
+      item-alike (Act act) = (refl, refl, (λ scene s kind x every b. refl, λ instance around. refl), tt)
 
       items-alike : {m : _} (items : Row_of-Item m) → AreAlike (items_entries types bodies inside here items) (items_met types bodies own here items)
       items-alike end_of-Item = tt

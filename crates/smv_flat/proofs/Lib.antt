@@ -12,3 +12,4 @@ pub mod SameClaims
 pub mod Different
 pub mod TypeNumbers
 pub mod SameIndexes
+pub mod SameConcerns

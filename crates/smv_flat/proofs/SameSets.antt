@@ -23,7 +23,7 @@ use Rattle.smv_flat.proofs.Layers.{AreListed, layers-listed, layer-same}
 use Rattle.smv_flat.proofs.SameText.{walk_of_text}
 
 -- the places of claims are no part of statements
-acts-placed : (number : Option ℕ) (k : ℕ) (items : List FlatItem) → acts_of number (with_places k items) ≡ acts_of number items
+pub acts-placed : (number : Option ℕ) (k : ℕ) (items : List FlatItem) → acts_of number (with_places k items) ≡ acts_of number items
 acts-placed number k [] = refl
 acts-placed number k (item.Act other act ∷ items) = ap (λ l. cond (is_one_layer number other) (act ∷ l) l) (acts-placed number (k + length (flat_assignments act)) items)
 acts-placed number k (item.Claim c ∷ items) = acts-placed number (k + 1) items
@@ -69,7 +69,7 @@ module _ (text : Text) (sizes : Sizes) (s : State) (t : FlatState) (states : Are
       (flat_stmt (scope_in text y.instance) [] y.act) (acts_of (option_map (layer_number layers) wanted) (flat_map (flat_entry text layers) es)) z (filter (λ w. is_layer w.layer wanted) (flat_map said_in ms))
       (layer-same layers y.layer wanted listed.0 ∙ ap (λ l. is_layer l wanted) h.0)
       (walk_of_text text sizes s t states numbers kind x every f found y.instance [] y.act [] tt (all-head (EntryIsRight text) (statement y) es right)
-      ∙ h.2 (scene_at (design_of text) sizes y.instance) s kind x every [] ∙ ap (λ i. walk (scene_at (design_of text) sizes i) s kind x every z.act []) h.1)
+      ∙ h.2.0 (scene_at (design_of text) sizes y.instance) s kind x every [] ∙ ap (λ i. walk (scene_at (design_of text) sizes i) s kind x every z.act []) h.1)
       (acts-same es ms h.3 (all-tail (EntryIsRight text) (statement y) es right) listed.1)
 
   pub set-same : TextIsRight text → raw_walk (flatten text) sizes t wanted flat_x every kind ≡ first (map tw (definition_set (design_of text) wanted))

@@ -34,7 +34,7 @@ truth-bit (Some true) = refl
 
 -- ---- families by number
 
-path-equal : (p q : Path) → same_path p q ≡ true → p ≡ q
+pub path-equal : (p q : Path) → same_path p q ≡ true → p ≡ q
 path-equal p q = (slice_eq-Decides bytes_eq-Decides p q (same_path p q) refl).0
 
 path-same : (p q : Path) → p ≡ q → same_path p q ≡ true
@@ -55,7 +55,7 @@ not_both-turned x p q e f = by_test (same_path p q) refl
     by_test true h = let g : same_path x p ≡ true = path-same x p (path-equal x q f ∙ sym (path-equal p q h)) in absurd (cc (e, g))
 
 -- two paths have one number where they are the same, if the second is that of a family
-number-same : (families : List Family) (p q : Path) (f : Family) → family_at families q ≡ Some f →
+pub number-same : (families : List Family) (p q : Path) (f : Family) → family_at families q ≡ Some f →
     nat_eq (position_or_len (λ g. same_path g.path p) families) (position_or_len (λ g. same_path g.path q) families) ≡ same_path p q
 number-same families p q f e = places-same (λ g. same_path g.path p) (λ g. same_path g.path q) (same_path p q)
     (λ g h k. path-same p q (sym (path-equal g.path p h) ∙ path-equal g.path q k)) (λ g h k. not_both g.path p q h k) (λ g h k. not_both-turned g.path p q h k) families
