@@ -13,3 +13,4 @@ pub mod Different
 pub mod TypeNumbers
 pub mod SameIndexes
 pub mod SameConcerns
+pub mod SameAllowed

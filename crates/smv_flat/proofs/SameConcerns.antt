@@ -181,7 +181,7 @@ module _ (text : Text) (wanted : Option Name) (kind : Kind) (x : Element) (f : F
         (concerned-same (scope_in text y.instance) kind x f own_found [] y.act ∙ ap (list_any (concerns kind x)) (h.2.1 y.instance [] ∙ ap (λ i. assignments i z.act []) h.1))
         (acts-same es ms h.3 listed.1)
 
-  pub set-concerned : (every : List Value) → list_any cf (acts_of (option_map (layer_number layers) wanted) (flatten text).items) ≡ is_concerned (design_of text) wanted x kind
-  set-concerned every =
+  pub set-concerned : list_any cf (acts_of (option_map (layer_number layers) wanted) (flatten text).items) ≡ is_concerned (design_of text) wanted x kind
+  set-concerned =
       ap (list_any cf) (acts-placed (option_map (layer_number layers) wanted) 0 (flat_map (flat_entry text layers) (entries text)))
       ∙ acts-same (entries text) (design_of text).met (entries-alike text) (layers-listed text)

@@ -6,7 +6,7 @@ ghost use Rattle.smv_core.specs.Types.{Family};
 ghost use Rattle.smv_core.specs.FlatOrder.{design_of};
 ghost use Rattle.smv_core.specs.Outcome.{State, Bindings, outcome, allowed_by, family_at};
 ghost use Rattle.smv_core.specs.Walk.{Element, walk};
-ghost use Rattle.smv_core.specs.Allowed.{every_value, scene_at, walk_set};
+ghost use Rattle.smv_core.specs.Allowed.{allowed, every_value, scene_at, walk_set};
 ghost use Rattle.smv_core.specs.Assignments.{Around};
 ghost use Rattle.smv_core.specs.Conflicts.{Agrees};
 ghost use Rattle.smv_core.specs.Flat.{FlatState, flat_outcome, flat_allowed_by, flat_walk};
@@ -26,6 +26,7 @@ ghost use Rattle.smv_flat.specs.Agreement.{
   numbers_in,
   values_bound,
 };
+ghost use Rattle.smv_flat.specs.RawAllowed.{AreSameBefore, raw_allowed};
 ghost use Rattle.smv_flat.specs.WholeText.{IsSameClaim, TextIsRight, claims_met, claims_of, raw_walk};
 
 /// In a text without faults of names the outcome of a flattened expression is that of the expression, in each instance, at all sizes, in each state and with all
@@ -63,6 +64,13 @@ pub fn definition_sets_are_the_same()
     ensures { (text : Text) → first_fault text ≡ None → (sizes : Sizes) (s : State) (t : FlatState) → AreSameStates (design_of text).families s t → TextIsRight text →
         (layer : Option Name) (kind : Kind) (x : Element) (f : Family) → family_at (design_of text).families x.path ≡ Some f →
         raw_walk (flatten text) sizes t layer (flat_element (scope_in text []) x) (every_value (design_of text) sizes x) kind ≡ walk_set (design_of text) sizes layer x kind s }
+{}
+
+/// Under the same conditions the flattened text allows each element of each family, in a layer or outside layers, the values that the text allows it.
+pub fn allowed_values_are_the_same()
+    ensures { (text : Text) → first_fault text ≡ None → TextIsRight text → (sizes : Sizes) (layer : Option Name) (x : Element) (f : Family) → family_at (design_of text).families x.path ≡ Some f →
+        (before : Option State) (flat_before : Option FlatState) → AreSameBefore (design_of text).families before flat_before → (now : State) (flat_now : FlatState) → AreSameStates (design_of text).families now flat_now →
+        raw_allowed (flatten text) sizes layer (flat_element (scope_in text []) x) (every_value (design_of text) sizes x) flat_before flat_now ≡ allowed (design_of text) sizes layer x before now }
 {}
 
 /// Under the same conditions the claims of the flattened text are those of the text, one for one.
