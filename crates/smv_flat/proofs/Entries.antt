@@ -79,11 +79,12 @@ unfolding computing
 assignments-Forall instance var over a around = refl
 
 forall-alike : (var : Word) (over : TypeExpr) (a c : Stmt) → AreAlikeActs a c → AreAlikeActs (Forall var over a 0) (Forall var over c 0)
-forall-alike var over a c h =
-    (λ scene s kind x every b. walk-Forall scene s kind x every var over a b
-    ∙ ap first (walks-alike (values_over scene.types scene.sizes over) (λ v. walk scene s kind x every a ((var.name, v) ∷ b)) (λ v. walk scene s kind x every c ((var.name, v) ∷ b)) (λ v. h.0 scene s kind x every ((var.name, v) ∷ b)))
-    ∙ sym (walk-Forall scene s kind x every var over c b),
-    λ instance around. assignments-Forall instance var over a around ∙ h.1 instance ((var.name, any) ∷ around) ∙ sym (assignments-Forall instance var over c around))
+forall-alike var over a c h = (
+  λ scene s kind x every b. walk-Forall scene s kind x every var over a b
+      ∙ ap first (walks-alike (values_over scene.types scene.sizes over) (λ v. walk scene s kind x every a ((var.name, v) ∷ b)) (λ v. walk scene s kind x every c ((var.name, v) ∷ b)) (λ v. h.0 scene s kind x every ((var.name, v) ∷ b)))
+      ∙ sym (walk-Forall scene s kind x every var over c b),
+  λ instance around. assignments-Forall instance var over a around ∙ h.1 instance ((var.name, any) ∷ around) ∙ sym (assignments-Forall instance var over c around),
+)
 
 alike-inside : (var : Word) (over : TypeExpr) (es : List Entry) (ms : List Met) → AreAlike es ms → AreAlike (map (inside_binder var over) es) (map (within_binder var over) ms)
 alike-inside var over [] [] h = tt

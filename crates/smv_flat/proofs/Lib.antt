@@ -1,3 +1,4 @@
+pub mod Numbered
 pub mod FlatLists
 pub mod Lookups
 pub mod SameReads

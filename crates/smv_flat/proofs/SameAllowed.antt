@@ -1,7 +1,7 @@
 -- The flattened text allows an element the values that the text allows it.
-use Rattle.std.proofs.Common.{◌≡◌, ℕ, List, [], ◌∷◌, Option, Some, None, Bool, cond, unwrap_or, slice_get, refl, sym, ap, ◌∙◌, subst}
+use Rattle.std.proofs.Common.{◌≡◌, List, [], ◌∷◌, Option, Some, None, Bool, cond, unwrap_or, slice_get, refl, sym, ap, ◌∙◌, subst}
 use Rattle.std.proofs.lemmas.List.Folds.{find_at}
-use Rattle.smv_core.specs.Values.{Name, Path, Value, Sizes}
+use Rattle.smv_core.specs.Values.{Name, Value, Sizes}
 use Rattle.smv_core.specs.Types.{Family}
 use Rattle.smv_core.specs.FlatOrder.{design_of}
 use Rattle.smv_core.specs.Outcome.{State, family_at, same_path}
@@ -12,7 +12,8 @@ use Rattle.smv_core.specs.declared.tree.Kind.{Kind}
 use Rattle.smv_core.specs.declared.tree.Kind.TheVariants.{Comb, Init, Next}
 use Rattle.smv_core.specs.declared.tree.Text.{Text}
 use Rattle.smv_flat.specs.Flattening.{scope_in, flatten}
-use Rattle.smv_flat.specs.Agreement.{AreNumbered, AreSameStates, flat_element}
+use Rattle.smv_flat.specs.Agreement.{AreSameStates, flat_element}
+use Rattle.smv_flat.proofs.Numbered.{AreNumbered}
 use Rattle.smv_flat.specs.WholeText.{raw_walk, TextIsRight}
 use Rattle.smv_flat.specs.RawAllowed.{raw_is_concerned, raw_kept, raw_stepped, raw_allowed, AreSameBefore}
 use Rattle.smv_flat.proofs.Lookups.{find-passes}
@@ -44,14 +45,14 @@ module _ (text : Text) (sizes : Sizes) (numbers : AreNumbered text sizes) (right
   value-same : (s : State) (t : FlatState) → AreSameStates (design_of text).families s t → t flat_x.family x.indexes ≡ s x.path x.indexes
   value-same s t states =
       let here : slice_get (scope_in text []).families flat_x.family ≡ Some f =
-            sym (find_at (λ g. same_path g.path x.path) (scope_in text []).families) ∙ subst (λ fs. family_at fs x.path ≡ Some f) (sym (families-same text)) found in
+      sym (find_at (λ g. same_path g.path x.path) (scope_in text []).families) ∙ subst (λ fs. family_at fs x.path ≡ Some f) (sym (families-same text)) found in
       let same : f.path ≡ x.path = path-equal f.path x.path (find-passes (λ g. same_path g.path x.path) (design_of text).families f found) in
       subst (λ fs. AreSameStates fs s t) (sym (families-same text)) states flat_x.family f here x.indexes ∙ ap (λ path. s path x.indexes) same
 
   kept-same : (s : State) (t : FlatState) → AreSameStates (design_of text).families s t → raw_kept (flatten text) sizes layer flat_x every t ≡ kept (design_of text) sizes layer x s
   kept-same s t states =
       cond-same (raw_is_concerned (flatten text) sizes layer flat_x every Next) (is_concerned (design_of text) layer x Next) (t flat_x.family x.indexes ∷ []) (s x.path x.indexes ∷ []) every every
-        (concerned-same Next) (ap (λ v. v ∷ []) (value-same s t states)) refl
+      (concerned-same Next) (ap (λ v. v ∷ []) (value-same s t states)) refl
 
   stepped-same : (before : Option State) (flat_before : Option FlatState) → AreSameBefore (design_of text).families before flat_before → (s : State) (t : FlatState) → AreSameStates (design_of text).families s t →
       raw_stepped (flatten text) sizes layer flat_x every flat_before t ≡ stepped (design_of text) sizes layer x before s
@@ -68,6 +69,6 @@ module _ (text : Text) (sizes : Sizes) (numbers : AreNumbered text sizes) (right
       raw_allowed (flatten text) sizes layer flat_x every flat_before t ≡ allowed (design_of text) sizes layer x before s
   allowed-same before flat_before h s t states =
       cond-same (raw_is_concerned (flatten text) sizes layer flat_x every Comb) (is_concerned (design_of text) layer x Comb)
-        (unwrap_or (raw_walk (flatten text) sizes t layer flat_x every Comb) every) (unwrap_or (walk_set (design_of text) sizes layer x Comb s) every)
-        (raw_stepped (flatten text) sizes layer flat_x every flat_before t) (stepped (design_of text) sizes layer x before s)
-        (concerned-same Comb) (or_every every (raw_walk (flatten text) sizes t layer flat_x every Comb) (walk_set (design_of text) sizes layer x Comb s) (walk-same s t states Comb)) (stepped-same before flat_before h s t states)
+      (unwrap_or (raw_walk (flatten text) sizes t layer flat_x every Comb) every) (unwrap_or (walk_set (design_of text) sizes layer x Comb s) every)
+      (raw_stepped (flatten text) sizes layer flat_x every flat_before t) (stepped (design_of text) sizes layer x before s)
+      (concerned-same Comb) (or_every every (raw_walk (flatten text) sizes t layer flat_x every Comb) (walk_set (design_of text) sizes layer x Comb s) (walk-same s t states Comb)) (stepped-same before flat_before h s t states)

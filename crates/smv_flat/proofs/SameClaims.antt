@@ -16,7 +16,8 @@ use Rattle.smv_core.specs.declared.tree.Expr.{Expr}
 use Rattle.smv_flat.specs.Statements.{flat_expr, flat_stmt}
 use Rattle.smv_flat.specs.Entries.{Binders, claim, split, using, Entry, layer, statement, goal, entries, placed_families}
 use Rattle.smv_flat.specs.Flattening.{scope_in, flatten, flat_entry, with_places, flat_assignments, layers_of, within, params_from, dotted}
-use Rattle.smv_flat.specs.Agreement.{AreNumbered, AreSameStates, IsRight, numbers_in, values_bound}
+use Rattle.smv_flat.specs.Agreement.{AreSameStates, IsRight, numbers_in, values_bound}
+use Rattle.smv_flat.proofs.Numbered.{AreNumbered}
 use Rattle.smv_flat.specs.WholeText.{claims_of, claims_met, BindersAreRight, EntryIsRight, TextIsRight, IsSameClaim}
 use Rattle.smv_flat.proofs.Lookups.{all-head, all-tail}
 use Rattle.smv_flat.proofs.SameReads.{over-same}

@@ -1,14 +1,14 @@
 -- The assignments of a flattened statement concern the elements that the tree's concern.
-use Rattle.std.proofs.Common.{◌≡◌, ℕ, List, [], ◌∷◌, ◌++◌, map, zip, filter, flat_map, option_map, Option, Some, None, Bool, true, false, cond, ◌&&◌, ◌||◌, nat_eq, refl, sym, ap, ◌∙◌, subst}
+use Rattle.std.proofs.Common.{◌≡◌, ℕ, List, [], ◌∷◌, ◌++◌, map, zip, filter, flat_map, option_map, Option, Some, Bool, true, false, cond, ◌&&◌, ◌||◌, refl, sym, ap, ◌∙◌, subst}
 use Rattle.std.specs.List.{list_any, list_all}
 use Rattle.std.proofs.lemmas.List.Folds.{list_any-append}
-use Rattle.smv_core.specs.Values.{Name, Path, Value, number}
+use Rattle.smv_core.specs.Values.{Name, Path, Value}
 use Rattle.smv_core.specs.Types.{Family}
 use Rattle.smv_core.specs.FlatOrder.{Met, said, claimed, Said, design_of}
 use Rattle.smv_core.specs.Outcome.{fields_of, family_at, same_path}
 use Rattle.smv_core.specs.Walk.{Element, same_kind, indexes_of, steps_of}
-use Rattle.smv_core.specs.Allowed.{is_layer, said_in, definition_set, assignments_in, is_concerned}
-use Rattle.smv_core.specs.Assignments.{Around, loop, any, Index, index_of, fits, Assigned, assignments, assignments_of, assignments_held, assignments_arms, concerns}
+use Rattle.smv_core.specs.Allowed.{is_layer, said_in, assignments_in, is_concerned}
+use Rattle.smv_core.specs.Assignments.{Around, loop, any, index_of, fits, Assigned, assignments, assignments_of, assignments_held, assignments_arms, concerns}
 use Rattle.smv_core.specs.Flat.{FlatElement, flat_index}
 use Rattle.smv_core.specs.declared.tree.Kind.{Kind}
 use Rattle.smv_core.specs.declared.tree.Text.{Text}
@@ -20,13 +20,13 @@ use Rattle.smv_core.specs.declared.flat.FlatExpr.{FlatExpr, Within, List as List
 use Rattle.smv_core.specs.declared.flat.FlatMember.{One}
 use Rattle.smv_core.specs.declared.flat.FlatStmt.{FlatStmt, If, Default, Forall, Block, Block', Row_of-FlatStmt, end_of-FlatStmt, more_of-FlatStmt, items-the_row-FlatStmt, items_hidden-the_row-FlatStmt-1}
 use mathlib.Core.Former.{Count}
-use Rattle.smv_flat.specs.Numbers.{Scope, bound_in, flat_over, family_number}
+use Rattle.smv_flat.specs.Numbers.{Scope, bound_in, flat_over}
 use Rattle.smv_flat.specs.Statements.{flat_expr, flat_stmt, flat_parts, flat_branch, flat_arms, first_label}
-use Rattle.smv_flat.specs.Entries.{Goal, claim, split, using, Entry, layer, statement, goal, entries}
-use Rattle.smv_flat.specs.Flattening.{FlatAssigned, flat_assignments, flat_assignments_in, scope_in, flatten, flat_entry, layers_of, layer_number}
+use Rattle.smv_flat.specs.Entries.{claim, split, using, Entry, layer, statement, goal, entries}
+use Rattle.smv_flat.specs.Flattening.{flat_assignments, flat_assignments_in, scope_in, flatten, flat_entry, layers_of, layer_number}
 use Rattle.smv_flat.specs.Agreement.{flat_element}
 use Rattle.smv_flat.specs.WholeText.{is_one_layer, acts_of}
-use Rattle.smv_flat.specs.RawAllowed.{flat_concerns, raw_is_concerned}
+use Rattle.smv_flat.specs.RawAllowed.{flat_concerns}
 use Rattle.smv_flat.proofs.FlatLists.{boxes}
 use Rattle.smv_flat.proofs.SameWalks.{number-same}
 use Rattle.smv_flat.proofs.SameIndexes.{fits-same}
@@ -102,7 +102,7 @@ module _ (scope : Scope) (kind : Kind) (x : Element) (f : Family) (found : famil
     pub concerned-same : (vars : Around) (act : Stmt) → c (flat_stmt scope vars act) ≡ list_any p (assignments instance act vars)
     concerned-same vars (Assign which left value at) =
         assign-same (same_kind which kind) _ (same_path (instance ++ fields_of (out-Path left).parts) x.path) _ (list_all (λ (i, v). fits i v) (zip (map (index_of vars) (indexes_of (out-Path left).parts)) x.indexes))
-          (number-same scope.families (instance ++ fields_of (out-Path left).parts) x.path f found) (fits-each vars (indexes_of (out-Path left).parts) x.indexes)
+        (number-same scope.families (instance ++ fields_of (out-Path left).parts) x.path f found) (fits-each vars (indexes_of (out-Path left).parts) x.indexes)
     concerned-same vars (Block' shape parts) = fc-Block kind (flat_element scope x) (flat_parts scope vars parts) ∙ parts-same vars parts
     concerned-same vars (If' test l (more_of-Stmt left end_of-Stmt) right at) =
         fc-If kind (flat_element scope x) (flat_expr scope vars test) (flat_stmt scope vars left) (flat_branch scope vars right)
@@ -176,10 +176,10 @@ module _ (text : Text) (wanted : Option Name) (kind : Kind) (x : Element) (f : F
   acts-same (statement y ∷ es) (claimed d ∷ ms) h listed = absurd h
   acts-same (statement y ∷ es) (said z ∷ ms) h listed =
       chosen-same (is_one_layer (option_map (layer_number layers) wanted) (option_map (layer_number layers) y.layer)) (is_layer z.layer wanted)
-        (flat_stmt (scope_in text y.instance) [] y.act) (acts_of (option_map (layer_number layers) wanted) (flat_map (flat_entry text layers) es)) z (filter (λ w. is_layer w.layer wanted) (flat_map said_in ms))
-        (layer-same layers y.layer wanted listed.0 ∙ ap (λ l. is_layer l wanted) h.0)
-        (concerned-same (scope_in text y.instance) kind x f own_found [] y.act ∙ ap (list_any (concerns kind x)) (h.2.1 y.instance [] ∙ ap (λ i. assignments i z.act []) h.1))
-        (acts-same es ms h.3 listed.1)
+      (flat_stmt (scope_in text y.instance) [] y.act) (acts_of (option_map (layer_number layers) wanted) (flat_map (flat_entry text layers) es)) z (filter (λ w. is_layer w.layer wanted) (flat_map said_in ms))
+      (layer-same layers y.layer wanted listed.0 ∙ ap (λ l. is_layer l wanted) h.0)
+      (concerned-same (scope_in text y.instance) kind x f own_found [] y.act ∙ ap (list_any (concerns kind x)) (h.2.1 y.instance [] ∙ ap (λ i. assignments i z.act []) h.1))
+      (acts-same es ms h.3 listed.1)
 
   pub set-concerned : list_any cf (acts_of (option_map (layer_number layers) wanted) (flatten text).items) ≡ is_concerned (design_of text) wanted x kind
   set-concerned =

@@ -11,7 +11,8 @@ use Rattle.smv_core.specs.declared.tree.Item.{Item, Declare, Instance}
 use Rattle.smv_flat.specs.Numbers.{flat_simple}
 use Rattle.smv_flat.specs.Entries.{placed_of_item, placed_in, placed_families}
 use Rattle.smv_flat.specs.Flattening.{scope_in, flatten, flat_family}
-use Rattle.smv_flat.specs.Agreement.{IsNumbered, HasNumbers, AreNumbered, IsSameFamily, numbers_in}
+use Rattle.smv_flat.specs.Agreement.{IsSameFamily, numbers_in}
+use Rattle.smv_flat.proofs.Numbered.{IsNumbered, HasNumbers, AreNumbered}
 use Rattle.smv_flat.proofs.Lookups.{all-head, all-tail}
 
 pub map-flat_map : {X Y Z : Type 0} (g : Y → Z) (f : X → List Y) (h : X → List Z) → ((x : X) → map g (f x) ≡ h x) → (xs : List X) → map g (flat_map f xs) ≡ flat_map h xs

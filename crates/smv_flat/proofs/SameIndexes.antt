@@ -1,5 +1,5 @@
 -- An index of a flattened left side is a constant where the tree's is, and the same one.
-use Rattle.std.proofs.Common.{◌≡◌, ℕ, List, [], ◌∷◌, ◌++◌, map, Option, Some, None, Bool, true, false, cond, refl, sym, ap, ◌∙◌}
+use Rattle.std.proofs.Common.{◌≡◌, ℕ, List, [], ◌∷◌, ◌++◌, Option, Some, None, Bool, true, false, cond, refl, sym, ap, ◌∙◌}
 use Rattle.std.specs.Str.{bytes_eq}
 use Rattle.smv_core.specs.Values.{Name, Path, Value, number, Outcome, same, add, modulo}
 use Rattle.smv_core.specs.Types.{Family}
@@ -10,7 +10,7 @@ use Rattle.smv_core.specs.declared.tree.Expr.{Expr, Number, Signal', Not', And',
 use Rattle.smv_core.specs.declared.flat.FlatExpr.{FlatExpr, Loop, Var, Modulo, Sum, Sum', Row_of-FlatSigned, end_of-FlatSigned, more_of-FlatSigned, items-the_row-FlatSigned, items_hidden-the_row-FlatSigned-2}
 use Rattle.smv_core.specs.declared.flat.FlatSigned.{FlatSigned, out-FlatSigned}
 use mathlib.Core.Former.{Count}
-use Rattle.smv_flat.specs.Numbers.{Scope, bound_in, variable, variable_at, constant_in, or_signal, flat_path}
+use Rattle.smv_flat.specs.Numbers.{Scope, bound_in, variable, variable_at, constant_in, or_signal}
 use Rattle.smv_flat.specs.Statements.{flat_expr, flat_indexes, flat_signed}
 use Rattle.smv_flat.proofs.FlatLists.{boxes}
 
@@ -140,7 +140,7 @@ module _ (scope : Scope) where
     sum-same vars end_of-Signed i j h = h
     sum-same vars (more_of-Signed minus e rest) i j h =
         sum-same vars rest (add_fixed minus i (flat_index (flat_expr scope vars e))) (add_fixed minus j (index_of vars e))
-          (fixed-add minus i (flat_index (flat_expr scope vars e)) ∙ sums (index-same vars e) ∙ sym (fixed-add minus j (index_of vars e)))
+        (fixed-add minus i (flat_index (flat_expr scope vars e)) ∙ sums (index-same vars e) ∙ sym (fixed-add minus j (index_of vars e)))
       where
         sums : fixed_of (flat_index (flat_expr scope vars e)) ≡ fixed_of (index_of vars e) → add_of minus (fixed_of i) (fixed_of (flat_index (flat_expr scope vars e))) ≡ add_of minus (fixed_of j) (fixed_of (index_of vars e))
         sums g = rw (h, g) refl

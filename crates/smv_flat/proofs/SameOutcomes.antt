@@ -19,7 +19,8 @@ use Rattle.std.specs.Str.{bytes_eq}
 use Rattle.std.proofs.Common.{cond}
 use Rattle.smv_flat.specs.Numbers.{Scope, bound_in, variable, variable_at, flat_over, constant_in, or_signal, flat_path}
 use Rattle.smv_flat.specs.Statements.{flat_expr, flat_row, flat_indexes, flat_signed, flat_members}
-use Rattle.smv_flat.specs.Agreement.{values_bound, HasNumbers, RunsOver, AreSameStates, IsIndexType, IsRight, PartsAreRight, IndexesAreRight, TermsAreRight, MembersAreRight}
+use Rattle.smv_flat.specs.Agreement.{values_bound, AreSameStates, IsIndexType, IsRight, PartsAreRight, IndexesAreRight, TermsAreRight, MembersAreRight}
+use Rattle.smv_flat.proofs.Numbered.{HasNumbers, RunsOver}
 use Rattle.smv_flat.proofs.FlatLists.{each_outcome, member_outcomes, sum_of, outcome-And, outcome-Or, outcome-Implies, listed-List, outcome-Sum, outcome-Not, outcome-Iff, outcome-Compare, outcome-Within, outcome-Modulo, outcome-Choose, outcome-All, outcome-Any, allowed-List, allowed-Choose, allowed-Each, allowed-Each_if}
 use Rattle.smv_flat.proofs.Lookups.{map-same, filter-same}
 use Rattle.smv_flat.proofs.SameReads as reads

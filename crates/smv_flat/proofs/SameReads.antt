@@ -20,7 +20,8 @@ use Rattle.smv_core.specs.declared.flat.SetInfo.{SetInfo}
 use Rattle.smv_core.specs.declared.flat.FlatExpr.{FlatExpr, Var, Loop}
 use Rattle.smv_flat.specs.Numbers.{Scope, bound_in, variable, variable_at, flat_simple, flat_over, simple_or_empty, constant_in, family_number, or_signal, flat_path}
 use Rattle.smv_flat.specs.Flattening.{flat_family}
-use Rattle.smv_flat.specs.Agreement.{values_bound, IsNumbered, HasNumbers, IsNumberedOrNone, RunsOver, IsConstant, IsKnown, AreSameStates}
+use Rattle.smv_flat.specs.Agreement.{values_bound, IsConstant, IsKnown, AreSameStates}
+use Rattle.smv_flat.proofs.Numbered.{IsNumbered, HasNumbers, IsNumberedOrNone, RunsOver}
 use Rattle.smv_flat.proofs.FlatLists.{each_outcome, outcome-Read}
 use Rattle.smv_flat.proofs.Lookups.{slice_get-behind, find-passes, any-found, all-found, all-head, all-tail}
 

@@ -15,7 +15,8 @@ use Rattle.smv_core.specs.declared.flat.FlatItem.TheVariants as item
 use Rattle.smv_flat.specs.Statements.{flat_stmt}
 use Rattle.smv_flat.specs.Entries.{claim, split, using, Entry, layer, statement, goal, entries}
 use Rattle.smv_flat.specs.Flattening.{scope_in, flatten, flat_entry, with_places, flat_assignments, layers_of, layer_number}
-use Rattle.smv_flat.specs.Agreement.{AreNumbered, AreSameStates, flat_element, numbers_in}
+use Rattle.smv_flat.specs.Agreement.{AreSameStates, flat_element, numbers_in}
+use Rattle.smv_flat.proofs.Numbered.{AreNumbered}
 use Rattle.smv_flat.specs.WholeText.{is_one_layer, acts_of, raw_walk, EntryIsRight, TextIsRight}
 use Rattle.smv_flat.proofs.Lookups.{all-head, all-tail}
 use Rattle.smv_flat.proofs.Entries.{AreAlike, entries-alike}

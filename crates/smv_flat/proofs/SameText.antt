@@ -16,7 +16,8 @@ use Rattle.smv_core.specs.declared.tree.Stmt.{Stmt}
 use Rattle.smv_flat.specs.Statements.{flat_expr, flat_stmt}
 use Rattle.smv_flat.specs.Entries.{placed_families}
 use Rattle.smv_flat.specs.Flattening.{scope_in}
-use Rattle.smv_flat.specs.Agreement.{AreNumbered, AreSameStates, HasNumbers, IsRight, StatementIsRight, flat_element, numbers_in, values_bound}
+use Rattle.smv_flat.specs.Agreement.{AreSameStates, IsRight, StatementIsRight, flat_element, numbers_in, values_bound}
+use Rattle.smv_flat.proofs.Numbered.{AreNumbered, HasNumbers}
 use Rattle.smv_flat.proofs.SameFamilies.{families-same}
 use Rattle.smv_flat.proofs.SameOutcomes.{outcome-same, allowed-same}
 use Rattle.smv_flat.proofs.SameWalks.{walk-same}

@@ -20,7 +20,8 @@ use Rattle.smv_core.specs.declared.flat.FlatMember.{One}
 use Rattle.smv_core.specs.declared.flat.FlatStmt.{FlatStmt}
 use Rattle.smv_flat.specs.Numbers.{Scope, bound_in, flat_over, family_number}
 use Rattle.smv_flat.specs.Statements.{flat_expr, flat_stmt, flat_parts, flat_branch, flat_arms, first_label}
-use Rattle.smv_flat.specs.Agreement.{values_bound, flat_element, HasNumbers, RunsOver, AreSameStates, IsIndexType, IsRight, AreRight, StatementIsRight, StatementsAreRight, BranchIsRight, ArmsAreRight}
+use Rattle.smv_flat.specs.Agreement.{values_bound, flat_element, AreSameStates, IsIndexType, IsRight, AreRight, StatementIsRight, StatementsAreRight, BranchIsRight, ArmsAreRight}
+use Rattle.smv_flat.proofs.Numbered.{HasNumbers, RunsOver}
 use Rattle.smv_flat.proofs.FlatLists.{each_outcome, member_outcomes, outcome-Within, listed-List, walk-Block, walk-If, walk-Default, walk-Forall}
 use Rattle.smv_flat.proofs.Lookups.{map-same, places-same, found-any}
 use Rattle.smv_flat.proofs.SameReads as reads

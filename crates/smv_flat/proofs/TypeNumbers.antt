@@ -1,16 +1,16 @@
 -- In a text without faults of names the types of each family have numbers.
-use Rattle.std.proofs.Common.{◌≡◌, ℕ, zero, suc, ◌+◌, ◌-◌, ◌<◌, option_map, List, [], ◌∷◌, ◌++◌, map, filter, flat_map, find, length, slice_get, get_or, All, Option, Some, None, Bool, true, false, cond, ◌||◌, unwrap_or, Decides, refl, sym, ap, ◌∙◌, subst, append_assoc, append-nil, arith}
+use Rattle.std.proofs.Common.{◌≡◌, ℕ, zero, suc, ◌+◌, ◌-◌, ◌<◌, option_map, List, [], ◌∷◌, ◌++◌, map, flat_map, find, length, slice_get, get_or, All, Option, Some, None, Bool, true, false, cond, ◌||◌, unwrap_or, Decides, refl, sym, ap, ◌∙◌, subst, append_assoc, arith}
 use Rattle.std.specs.Str.{bytes_eq}
 use Rattle.std.specs.List.{list_any, position_or_len, AllByRecursion}
 use Rattle.std.proofs.lemmas.Slice.Eq.{bytes_eq-Decides, slice_eq-Decides}
 use Rattle.std.proofs.lemmas.List.Folds.{find_at, find-append}
 use Rattle.std.proofs.lemmas.Option.{get_or_from_slice_get}
 use Rattle.std.proofs.lemmas.Grind.{flat_map-append}
-use Rattle.smv_core.specs.Values.{Name, Path, Simple, range, choice, scalarset, ordset, Sizes}
-use Rattle.smv_core.specs.Types.{Types, Family, Shape, find_name, names_of, simple, simple_of, shape_of, shape_of_fields, shape_or_none, one_value, array_of, indexed, behind, types_after, types_from}
+use Rattle.smv_core.specs.Values.{Name, Path, Simple, choice, scalarset, ordset, Sizes}
+use Rattle.smv_core.specs.Types.{Types, Family, Shape, find_name, names_of, simple, simple_of, shape_of, shape_of_fields, shape_or_none, one_value, array_of, indexed, behind, types_from}
 use Rattle.smv_core.specs.FlatOrder.{Body, modules, main, body_of, families_of_item, families_in, declared_as, design_of}
 use Rattle.smv_core.specs.Outcome.{same_path}
-use Rattle.smv_core.specs.Flat.{Numbered, simple_in, set_type}
+use Rattle.smv_core.specs.Flat.{Numbered, set_type}
 use Rattle.smv_core.specs.declared.tree.Word.{Word}
 use Rattle.smv_core.specs.declared.tree.Text.{Text}
 use Rattle.smv_core.specs.declared.tree.Top.{Top}
@@ -20,15 +20,16 @@ use Rattle.smv_core.specs.declared.tree.Item.{Item, Declare, Instance, Layer, Fo
 use Rattle.smv_core.specs.declared.flat.SetInfo.{SetInfo}
 use Rattle.smv_inst.specs.Mentions.{Mention, in_type, in_fields, in_item}
 use Rattle.smv_inst.specs.Mentions as mentions
-use Rattle.smv_inst.specs.Scopes.{Piece, Known, pieces, pieces_from, piece_of, known_after}
+use Rattle.smv_inst.specs.Scopes.{Piece, Known, pieces, pieces_from, known_after}
 use Rattle.smv_inst.specs.NameFaults.{repeated, place_if, undeclared_in, doubled_in, without_main, recursive_in, miscounted_in}
 use Rattle.smv_inst.specs.FirstFault.{comes_before, earlier, first_of, faults_at, faults_of_names, fault_of_size, or_else, first_fault}
 use Rattle.smv_core.specs.declared.fault.Fault.{Fault}
 use Rattle.smv_core.specs.declared.tree.Span.{Span}
 use Rattle.std.specs.Option.{option_or}
-use Rattle.smv_flat.specs.Numbers.{Scope, flat_simple}
-use Rattle.smv_flat.specs.Flattening.{scope_in, enum_of, enums_of, set_of, different}
-use Rattle.smv_flat.specs.Agreement.{IsNumbered, IsNumberedOrNone, IsIndexType, HasNumbers, AreNumbered, numbers_in}
+use Rattle.smv_flat.specs.Numbers.{Scope}
+use Rattle.smv_flat.specs.Flattening.{scope_in, enum_of, set_of, different}
+use Rattle.smv_flat.specs.Agreement.{IsIndexType, numbers_in}
+use Rattle.smv_flat.proofs.Numbered.{IsNumbered, IsNumberedOrNone, HasNumbers, AreNumbered}
 use Rattle.smv_flat.proofs.Lookups.{any-found, find-passes, any-behind}
 use Rattle.smv_flat.proofs.Different.{different-keeps}
 
@@ -70,9 +71,10 @@ all-each {X} P (x ∷ xs) h = λ k d lt. by_place k lt d (all-each P xs h.1)
 -- each of a list is in it
 own-listed : (front ls : List (List Name)) → AllByRecursion (λ l. list_any (same_path l) (front ++ ls) ≡ true) ls
 own-listed front [] = tt
-own-listed front (l ∷ ls) =
-    (any-behind (same_path l) front (l ∷ ls) (ap (λ b. b || list_any (same_path l) ls) ((paths-decide l l).1 refl)),
-     subst (λ all. AllByRecursion (λ k. list_any (same_path k) all ≡ true) ls) (append_assoc front (l ∷ []) ls) (own-listed (front ++ l ∷ []) ls))
+own-listed front (l ∷ ls) = (
+  any-behind (same_path l) front (l ∷ ls) (ap (λ b. b || list_any (same_path l) ls) ((paths-decide l l).1 refl)),
+  subst (λ all. AllByRecursion (λ k. list_any (same_path k) all ≡ true) ls) (append_assoc front (l ∷ []) ls) (own-listed (front ++ l ∷ []) ls),
+)
 
 -- ---- types
 
@@ -151,6 +153,7 @@ module _ (scope : Scope) (n : Numbered) (same_enums : n.enums ≡ scope.enums) (
   module _ (types : Types) (good : TableIsGood types) where
     mutual
       unfolding in_type
+
       pub shape-numbered : (of : TypeExpr) → AreListed (in_type of) → AreGood (shape_of types of)
       shape-numbered Boolean h = ((refl, tt), tt)
       shape-numbered (Range span at) h = ((refl, tt), tt)
@@ -158,15 +161,15 @@ module _ (scope : Scope) (n : Numbered) (same_enums : n.enums ≡ scope.enums) (
       shape-numbered (Named word at) h = named-numbered types word.name good
       shape-numbered (Array' i (more_of-TypeExpr index end_of-TypeExpr) o (more_of-TypeExpr of end_of-TypeExpr)) h =
           array-numbered (simple_of (shape_of types index)) (shape_of types of)
-            (simple-numbered (shape_of types index) (shape-numbered index (listed-front (in_type index) (in_type of) h))) (shape-numbered of (listed-behind (in_type index) (in_type of) h))
+          (simple-numbered (shape_of types index) (shape-numbered index (listed-front (in_type index) (in_type of) h))) (shape-numbered of (listed-behind (in_type index) (in_type of) h))
       shape-numbered (Struct' shape fields) h = fields-numbered fields h
 
       fields-numbered : {m : _} (fields : Row_of-Field m) → AreListed (in_fields fields) → AreGood (shape_of_fields types fields)
       fields-numbered end_of-Field h = tt
       fields-numbered (more_of-Field names of at rest) h =
           each-append IsGood (flat_map (λ word. map (behind (word.name ∷ [])) (shape_of types of)) names) (shape_of_fields types rest)
-            (each-flat_map IsGood (λ word. map (behind (word.name ∷ [])) (shape_of types of)) (λ word. each-map IsGood IsGood (behind (word.name ∷ [])) (λ f g. g) (shape_of types of) (shape-numbered of (listed-front (in_type of) (in_fields rest) h))) names)
-            (fields-numbered rest (listed-behind (in_type of) (in_fields rest) h))
+          (each-flat_map IsGood (λ word. map (behind (word.name ∷ [])) (shape_of types of)) (λ word. each-map IsGood IsGood (behind (word.name ∷ [])) (λ f g. g) (shape_of types of) (shape-numbered of (listed-front (in_type of) (in_fields rest) h))) names)
+          (fields-numbered rest (listed-behind (in_type of) (in_fields rest) h))
 
     -- ---- families
 
@@ -175,7 +178,7 @@ module _ (scope : Scope) (n : Numbered) (same_enums : n.enums ≡ scope.enums) (
       unfolding in_item
       item-numbered inside h here (Declare role words of at) listed =
           each-flat_map IsGood (λ word. map (declared_as role (here ++ word.name ∷ [])) (shape_of types of))
-            (λ word. each-map IsGood IsGood (declared_as role (here ++ word.name ∷ [])) (λ f g. g) (shape_of types of) (shape-numbered of (declared-listed (mentions.signal role of) words (in_type of) listed))) words
+          (λ word. each-map IsGood IsGood (declared_as role (here ++ word.name ∷ [])) (λ f g. g) (shape_of types of) (shape-numbered of (declared-listed (mentions.signal role of) words (in_type of) listed))) words
       item-numbered inside h here (Instance words name args at) listed = each-flat_map IsGood (λ word. inside (here ++ word.name ∷ []) name.name) (λ word. h (here ++ word.name ∷ []) name.name) words
       item-numbered inside h here (Layer name body at) listed = tt
       item-numbered inside h here (Forall' var over shape body at) listed = tt
@@ -279,26 +282,33 @@ module _ (scope : Scope) (n : Numbered) (same_enums : n.enums ≡ scope.enums) (
   unplaced true at e = absurd (cc (e))
 
   set-first : (infos more : List SetInfo) (seen : List Name) (info : SetInfo) → IsSeen infos seen → scope.sets ≡ infos ++ info ∷ more → list_any (bytes_eq info.name) seen ≡ false → IsFoundSet info.name info.ordered
-  set-first infos more seen info h e k =
-      (info, ap (find (named info.name)) e ∙ find-append (named info.name) infos (info ∷ more) ∙ ap (λ o. option_or o (find (named info.name) (info ∷ more))) (h info.name k)
-        ∙ ap (λ b. cond b (Some info) (find (named info.name) more)) ((bytes_eq-Decides info.name info.name).1 refl), refl, refl)
+  set-first infos more seen info h e k = (
+    info,
+    ap (find (named info.name)) e ∙ find-append (named info.name) infos (info ∷ more) ∙ ap (λ o. option_or o (find (named info.name) (info ∷ more))) (h info.name k)
+        ∙ ap (λ b. cond b (Some info) (find (named info.name) more)) ((bytes_eq-Decides info.name info.name).1 refl),
+    refl,
+    refl,
+  )
 
   pub tops-good : (known : Known) (infos : List SetInfo) (seen : List Name) → IsSeen infos seen → (tops : List Top) → scope.sets ≡ infos ++ flat_map set_of tops →
       repeated seen (map (λ piece. piece.word) (pieces_from known tops)) ≡ [] → AllByRecursion IsListed (flat_map (λ piece. flat_map enum_of piece.mentions) (pieces_from known tops)) → AllByRecursion TopIsGood tops
   tops-good known infos seen h [] e k l = tt
   tops-good known infos seen h (SetType word ordered span at ∷ tops) e k l =
       let info : SetInfo = record { name = word.name; ordered = ordered; size = option_map (λ (s : Span). s.high + 1 - s.low) span } in
-      let parts : (place_if (list_any (bytes_eq word.name) seen) word.at ≡ []) × (repeated (word.name ∷ seen) (map (λ piece. piece.word) (pieces_from (known_after known (SetType word ordered span at)) tops)) ≡ []) = empty-front _ _ k in
-      (set-first infos (flat_map set_of tops) seen info h e (unplaced (list_any (bytes_eq word.name) seen) word.at parts.0),
-       tops-good (known_after known (SetType word ordered span at)) (infos ++ info ∷ []) (word.name ∷ seen) (seen-set infos seen info h) tops (e ∙ sym (append_assoc infos (info ∷ []) (flat_map set_of tops))) parts.1 l)
+      let parts : (place_if (list_any (bytes_eq word.name) seen) word.at ≡ []) × (repeated (word.name ∷ seen) (map (λ piece. piece.word) (pieces_from (known_after known (SetType word ordered span at)) tops)) ≡ []) = empty-front _ _ k in (
+        set-first infos (flat_map set_of tops) seen info h e (unplaced (list_any (bytes_eq word.name) seen) word.at parts.0),
+        tops-good (known_after known (SetType word ordered span at)) (infos ++ info ∷ []) (word.name ∷ seen) (seen-set infos seen info h) tops (e ∙ sym (append_assoc infos (info ∷ []) (flat_map set_of tops))) parts.1 l,
+      )
   tops-good known infos seen h (Alias word of at ∷ tops) e k l =
-      let parts : (place_if (list_any (bytes_eq word.name) seen) word.at ≡ []) × (repeated (word.name ∷ seen) (map (λ piece. piece.word) (pieces_from (known_after known (Alias word of at)) tops)) ≡ []) = empty-front _ _ k in
-      (each-front IsListed (flat_map enum_of (in_type of)) _ l,
-       tops-good (known_after known (Alias word of at)) infos (word.name ∷ seen) (seen-more infos seen word.name h) tops e parts.1 (each-behind IsListed (flat_map enum_of (in_type of)) _ l))
+      let parts : (place_if (list_any (bytes_eq word.name) seen) word.at ≡ []) × (repeated (word.name ∷ seen) (map (λ piece. piece.word) (pieces_from (known_after known (Alias word of at)) tops)) ≡ []) = empty-front _ _ k in (
+        each-front IsListed (flat_map enum_of (in_type of)) _ l,
+        tops-good (known_after known (Alias word of at)) infos (word.name ∷ seen) (seen-more infos seen word.name h) tops e parts.1 (each-behind IsListed (flat_map enum_of (in_type of)) _ l),
+      )
   tops-good known infos seen h (Module word formals body at ∷ tops) e k l =
-      let parts : (place_if (list_any (bytes_eq word.name) seen) word.at ≡ []) × (repeated (word.name ∷ seen) (map (λ piece. piece.word) (pieces_from (known_after known (Module word formals body at)) tops)) ≡ []) = empty-front _ _ k in
-      (body-items-listed body (each-front IsListed (flat_map enum_of (flat_map (in_item []) body)) _ l),
-       tops-good (known_after known (Module word formals body at)) infos (word.name ∷ seen) (seen-more infos seen word.name h) tops e parts.1 (each-behind IsListed (flat_map enum_of (flat_map (in_item []) body)) _ l))
+      let parts : (place_if (list_any (bytes_eq word.name) seen) word.at ≡ []) × (repeated (word.name ∷ seen) (map (λ piece. piece.word) (pieces_from (known_after known (Module word formals body at)) tops)) ≡ []) = empty-front _ _ k in (
+        body-items-listed body (each-front IsListed (flat_map enum_of (flat_map (in_item []) body)) _ l),
+        tops-good (known_after known (Module word formals body at)) infos (word.name ∷ seen) (seen-more infos seen word.name h) tops e parts.1 (each-behind IsListed (flat_map enum_of (flat_map (in_item []) body)) _ l),
+      )
 
 -- ---- the text
 
@@ -328,7 +338,7 @@ once-declared text e =
     let none : faults_of_names text ≡ [] = no_fault-in (faults_of_names text) (none-first (first_of (faults_of_names text)) (fault_of_size text) e) in
     let tops : List Piece = pieces text in
     let behind : flat_map faults_at ((8, repeated [] (map (λ piece. piece.word) tops) ++ flat_map (doubled_in tops) tops) ∷ (9, without_main tops) ∷ (10, flat_map (recursive_in tops) tops) ∷ (11, flat_map (miscounted_in tops) tops) ∷ []) ≡ []
-          = (empty (faults_at (7, flat_map (undeclared_in tops) tops)) _ none).1 in
+    = (empty (faults_at (7, flat_map (undeclared_in tops) tops)) _ none).1 in
     let doubled : faults_at (8, repeated [] (map (λ piece. piece.word) tops) ++ flat_map (doubled_in tops) tops) ≡ [] = (empty (faults_at (8, repeated [] (map (λ piece. piece.word) tops) ++ flat_map (doubled_in tops) tops)) _ behind).0 in
     (empty_names (repeated [] (map (λ piece. piece.word) tops)) (flat_map (doubled_in tops) tops) (no_places 8 (repeated [] (map (λ piece. piece.word) tops) ++ flat_map (doubled_in tops) tops) doubled)).0
   where
@@ -346,8 +356,9 @@ types-of-text text e sizes =
     let n = numbers_in text sizes in
     let lists : List (List Name) = flat_map (λ piece. flat_map enum_of piece.mentions) (pieces text) in
     let listed : AllByRecursion (λ l. list_any (same_path l) (different same_path lists) ≡ true) lists =
-          each-more (λ l. list_any (same_path l) lists ≡ true) (λ l. list_any (same_path l) (different same_path lists) ≡ true) (λ l h. different-keeps same_path paths-decide l lists h) lists (own-listed [] lists) in
-    let good : AllByRecursion (TopIsGood scope n refl refl) text.tops = tops-good scope n refl refl [] [] [] (λ name h. refl) text.tops refl (once-declared text e) listed in
-    (all-each (HasNumbers scope n) (design_of text).families
-      (each-more (IsGood scope n refl refl) (HasNumbers scope n) (λ f g. (g.0, all-each (IsNumbered scope n) f.over g.1)) (design_of text).families (text-numbered scope n refl refl text.tops good)),
-     index-numbered scope n refl refl (types_from [] text.tops) (table-numbered scope n refl refl [] tt text.tops good))
+    each-more (λ l. list_any (same_path l) lists ≡ true) (λ l. list_any (same_path l) (different same_path lists) ≡ true) (λ l h. different-keeps same_path paths-decide l lists h) lists (own-listed [] lists) in
+    let good : AllByRecursion (TopIsGood scope n refl refl) text.tops = tops-good scope n refl refl [] [] [] (λ name h. refl) text.tops refl (once-declared text e) listed in (
+      all-each (HasNumbers scope n) (design_of text).families
+          (each-more (IsGood scope n refl refl) (HasNumbers scope n) (λ f g. (g.0, all-each (IsNumbered scope n) f.over g.1)) (design_of text).families (text-numbered scope n refl refl text.tops good)),
+      index-numbered scope n refl refl (types_from [] text.tops) (table-numbered scope n refl refl [] tt text.tops good),
+    )

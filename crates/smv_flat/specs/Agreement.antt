@@ -1,9 +1,9 @@
 -- When the flattened text stands for the tree: the same numbers, the same state, the same values of variables.
-use Rattle.std.specs.Prelude.{◌≡◌, ℕ, List, [], ◌∷◌, ◌++◌, map, All, Option, Some, None, true, slice_get}
+use Rattle.std.specs.Prelude.{◌≡◌, ℕ, List, [], ◌∷◌, ◌++◌, map, Option, Some, None, true, slice_get}
 use Rattle.std.specs.Str.{bytes_eq}
 use Rattle.std.specs.List.{list_any}
-use Rattle.smv_core.specs.Values.{Path, Value, Simple, Sizes}
-use Rattle.smv_core.specs.Types.{Family, simple}
+use Rattle.smv_core.specs.Values.{Path, Value, Sizes}
+use Rattle.smv_core.specs.Types.{Family}
 use Rattle.smv_core.specs.Outcome.{State, Bindings, fields_of, family_at}
 use Rattle.smv_core.specs.Walk.{Element, indexes_of}
 use Rattle.smv_core.specs.Assignments.{Around, loop, any}
@@ -17,10 +17,9 @@ use Rattle.smv_core.specs.declared.tree.Stmt.{Stmt, Assign, Block', If', Switch'
 use Rattle.smv_core.specs.declared.tree.Stmt as stmt
 use Rattle.smv_core.specs.declared.flat.FlatExpr.{FlatExpr}
 use Rattle.smv_core.specs.declared.flat.Raw.{Raw}
-use Rattle.smv_core.specs.FlatOrder.{design_of}
 use Rattle.smv_core.specs.declared.tree.Text.{Text}
-use Rattle.smv_flat.specs.Numbers.{Scope, flat_simple, family_number, variable_at}
-use Rattle.smv_flat.specs.Flattening.{scope_in, flatten, dotted}
+use Rattle.smv_flat.specs.Numbers.{Scope, family_number, variable_at}
+use Rattle.smv_flat.specs.Flattening.{flatten, dotted}
 use Rattle.smv_core.specs.declared.flat.Family.{Family as FlatFamily}
 
 -- what the numbers in a flattened text stand for, at sizes
@@ -36,23 +35,6 @@ abbrev pub values_bound : Around → Bindings → FlatBindings
 values_bound ((name, any) ∷ vars) ((other, v) ∷ b) = values_bound vars b ++ v ∷ []
 values_bound ((name, loop n) ∷ vars) ((other, v) ∷ b) = values_bound vars b
 values_bound _ _ = []
-
-module _ (scope : Scope) (n : Numbered) where
-  -- the number of a type stands for this type again: its set type or enumeration is listed
-  abbrev pub IsNumbered : Simple → Type 0
-  IsNumbered t = simple_in n (flat_simple scope t) ≡ t
-
-  -- the types of a family have numbers
-  abbrev pub HasNumbers : Family → Type 0
-  HasNumbers f = IsNumbered f.value × All IsNumbered f.over
-
-  abbrev pub IsNumberedOrNone : Option Simple → Type 0
-  IsNumberedOrNone (Some t) = IsNumbered t
-  IsNumberedOrNone None = Unit {0}
-
-  -- the type over which a binder runs
-  abbrev pub RunsOver : TypeExpr → Type 0
-  RunsOver over = IsNumberedOrNone (simple scope.types over)
 
 -- a type as the grammar has it behind a binder
 abbrev pub IsIndexType : TypeExpr → Type 0
@@ -150,11 +132,6 @@ module _ (scope : Scope) where
 -- what the numbers in a text's flattened form stand for
 abbrev pub numbers_in : Text → Sizes → Numbered
 numbers_in text sizes = numbers_of (flatten text) sizes
-
--- the types of each family of a text have numbers, and so has each type over which a binder may run
-abbrev pub AreNumbered : Text → Sizes → Type 0
-AreNumbered text sizes =
-    All (HasNumbers (scope_in text []) (numbers_in text sizes)) (design_of text).families × ((over : TypeExpr) → IsIndexType over → RunsOver (scope_in text []) (numbers_in text sizes) over)
 
 -- a flattened family has the dotted name of the family, the same types and the same role
 abbrev pub IsSameFamily : Numbered → FlatFamily → Family → Type 0
