@@ -1,5 +1,5 @@
 -- By computing what has to be shown, and going through it.
-use Rattle.std.proofs.Common.{◌≡◌, ℕ, zero, suc, ◌<◌, List, [], ◌∷◌, length, get_or, All, None, unwrap_or, refl, arith}
+use Rattle.std.proofs.Common.{ℕ, zero, suc, ◌<◌, List, [], ◌∷◌, length, get_or, All, unwrap_or, refl, arith}
 use Rattle.smv_core.specs.declared.tree.Text.{Text}
 use Rattle.smv_flat.specs.Entries.{entries}
 use Rattle.smv_flat.specs.WholeText.{EntryIsRight}
@@ -22,18 +22,30 @@ entries-right : AllByRecursion (EntryIsRight tree) (entries tree)
 unfolding computing
 entries-right =
     -- n.a := x[q]
-    ((tt, (tt, ((tt, tt), tt))),
-    -- x[i] := c = red & n.a
-    (((((tt, tt), tt), (((tt, tt), (refl, tt)), ((tt, tt), tt))), tt),
-    -- layer L
-    (tt,
-    -- next(y) := {k, y, 2..3}
-    ((λ k. (tt, ((tt, tt), ((tt, tt), tt)))),
-    -- the switch
-    (((tt, tt), (((refl, tt), ((refl, tt), tt)), (tt, ((tt, ((tt, tt), tt)), tt)), tt), tt),
-    -- the claim
-    ((((((tt, ((tt, tt), tt)), ((tt, ((tt, tt), tt)), tt)), tt), (((tt, tt), (tt, (tt, tt))), tt)), (tt, tt)),
-    tt))))))
+    (
+      (tt, (tt, ((tt, tt), tt))),
+      -- x[i] := c = red & n.a
+      (
+        ((((tt, tt), tt), (((tt, tt), (refl, tt)), ((tt, tt), tt))), tt),
+        -- layer L
+        (
+          tt,
+          -- next(y) := {k, y, 2..3}
+          (
+            (λ k. (tt, ((tt, tt), ((tt, tt), tt)))),
+            -- the switch
+            (
+              ((tt, tt), (((refl, tt), ((refl, tt), tt)), (tt, ((tt, ((tt, tt), tt)), tt)), tt), tt),
+              -- the claim
+              (
+                (((((tt, ((tt, tt), tt)), ((tt, ((tt, tt), tt)), tt)), tt), (((tt, tt), (tt, (tt, tt))), tt)), (tt, tt)),
+                tt,
+              ),
+            ),
+          ),
+        ),
+      ),
+    )
 
 pub small-meets : MeetsConditions small
 unfolding computing

@@ -1,5 +1,5 @@
 -- How a worked text is stated: its bytes, and its flattened text or a part of it; and short words for flattened texts.
-use Rattle.std.specs.Prelude.{ℕ, List, [], ◌∷◌, ◌≡◌, map, Option, Some, None, Result, Ok, Err, Bool, true, false, option_map, codes}
+use Rattle.std.specs.Prelude.{ℕ, List, ◌≡◌, map, Option, Some, None, Result, Ok, Err, true, false, option_map}
 use Rattle.smv_core.specs.Values.{Name}
 use Rattle.smv_core.specs.declared.fault.Fault.{Fault}
 use Rattle.smv_core.specs.declared.tree.Text.{Text}
