@@ -15,3 +15,4 @@ pub mod TypeNumbers
 pub mod SameIndexes
 pub mod SameConcerns
 pub mod SameAllowed
+pub mod Constants

@@ -28,16 +28,13 @@ use Rattle.smv_flat.specs.Agreement.{flat_element}
 use Rattle.smv_flat.specs.WholeText.{is_one_layer, acts_of}
 use Rattle.smv_flat.specs.RawAllowed.{flat_concerns}
 use Rattle.smv_flat.proofs.FlatLists.{boxes}
+use Rattle.smv_flat.proofs.Lookups.{any-flat_map}
 use Rattle.smv_flat.proofs.SameWalks.{number-same}
 use Rattle.smv_flat.proofs.SameIndexes.{fits-same}
 use Rattle.smv_flat.proofs.SameFamilies.{families-same}
 use Rattle.smv_flat.proofs.SameSets.{acts-placed}
 use Rattle.smv_flat.proofs.Entries.{AreAlike, entries-alike}
 use Rattle.smv_flat.proofs.Layers.{AreListed, layers-listed, layer-same}
-
-any-flat_map : {X Y : Type 0} (p : Y → Bool) (f : X → List Y) (xs : List X) → list_any p (flat_map f xs) ≡ list_any (λ x. list_any p (f x)) xs
-any-flat_map p f [] = refl
-any-flat_map p f (x ∷ xs) = list_any-append p (f x) (flat_map f xs) ∙ ap (λ b. list_any p (f x) || b) (any-flat_map p f xs)
 
 or-same : (a b c d : Bool) → a ≡ b → c ≡ d → (a || c) ≡ (b || d)
 or-same a b c d h k = rw (h, k) refl

@@ -33,7 +33,7 @@ use Rattle.smv_flat.proofs.Numbered.{IsNumbered, IsNumberedOrNone, HasNumbers, A
 use Rattle.smv_flat.proofs.Lookups.{any-found, find-passes, any-behind}
 use Rattle.smv_flat.proofs.Different.{different-keeps}
 
-paths-decide : (p q : Path) → Decides (same_path p q) (p ≡ q)
+pub paths-decide : (p q : Path) → Decides (same_path p q) (p ≡ q)
 paths-decide p q = slice_eq-Decides bytes_eq-Decides p q (same_path p q) refl
 
 each-append : {X : Type 0} (P : X → Type 0) (xs ys : List X) → AllByRecursion P xs → AllByRecursion P ys → AllByRecursion P (xs ++ ys)

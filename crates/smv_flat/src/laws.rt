@@ -1,8 +1,8 @@
 // Laws of flattening, each the contract of a function that does nothing.
-ghost use Rattle.std.specs.Prelude.{◌≡◌, [], List, None, Option, Some};
+ghost use Rattle.std.specs.Prelude.{◌≡◌, [], ◌∷◌, List, None, Option, Some};
 ghost use Rattle.std.specs.List.{AllZip};
 ghost use Rattle.smv_core.specs.Values.{Name, Path, Value, Sizes};
-ghost use Rattle.smv_core.specs.Types.{Family};
+ghost use Rattle.smv_core.specs.Types.{Family, find_name};
 ghost use Rattle.smv_core.specs.FlatOrder.{design_of};
 ghost use Rattle.smv_core.specs.Outcome.{State, Bindings, outcome, allowed_by, family_at};
 ghost use Rattle.smv_core.specs.Walk.{Element, walk};
@@ -15,10 +15,12 @@ ghost use Rattle.smv_core.specs.declared.tree.Text.{Text};
 ghost use Rattle.smv_core.specs.declared.tree.Expr.{Expr};
 ghost use Rattle.smv_core.specs.declared.tree.Stmt.{Stmt};
 ghost use Rattle.smv_inst.specs.FirstFault.{first_fault};
+ghost use Rattle.smv_inst.specs.Scopes.{Constant, constants, pieces};
 ghost use Rattle.smv_flat.specs.Statements.{flat_expr, flat_stmt};
 ghost use Rattle.smv_flat.specs.Flattening.{flatten, scope_in};
 ghost use Rattle.smv_flat.specs.Agreement.{
   AreSameStates,
+  IsConstant,
   IsSameFamily,
   IsRight,
   StatementIsRight,
@@ -30,7 +32,8 @@ ghost use Rattle.smv_flat.specs.RawAllowed.{AreSameBefore, raw_allowed};
 ghost use Rattle.smv_flat.specs.WholeText.{IsSameClaim, TextIsRight, claims_met, claims_of, raw_walk};
 
 /// In a text without faults of names the outcome of a flattened expression is that of the expression, in each instance, at all sizes, in each state and with all
-/// values of the variables around it, where each name in it is a variable, a signal or a listed constant.
+/// values of the variables around it, where each name in it is a variable, a signal or a listed constant and each
+/// binder in it has a type as the grammar has it.
 pub fn outcomes_are_the_same()
     ensures { (text : Text) → first_fault text ≡ None → (sizes : Sizes) (s : State) (t : FlatState) → AreSameStates (design_of text).families s t →
         (instance : Path) (vars : Around) (e : Expr) (b : Bindings) → Agrees vars b → IsRight (scope_in text instance) vars e →
@@ -53,12 +56,17 @@ pub fn walks_are_the_same()
         ≡ walk (scene_at (design_of text) sizes instance) s kind x every act b }
 {}
 
+/// A constant that the rules of names know is listed by some enumeration of the flattened text.
+pub fn constants_are_listed()
+    ensures { (text : Text) (instance : Path) (name : Name) (c : Constant) → find_name (constants (pieces text)) name ≡ Some c → IsConstant (scope_in text instance) (name ∷ []) }
+{}
+
 /// The families of the flattened text are those of the text, one for one, where no name has a fault.
 pub fn families_are_the_same()
     ensures { (text : Text) → first_fault text ≡ None → (sizes : Sizes) → AllZip (IsSameFamily (numbers_in text sizes)) (flatten text).families (design_of text).families }
 {}
 
-/// In a text without faults of names, in whose statements and claims each name is a variable, a signal or a listed constant, the statements outside layers, or
+/// In a text without faults of names, whose statements and claims are right in this sense, the statements outside layers, or
 /// those of a layer, give each element of each family in the flattened text what they give it in the text.
 pub fn definition_sets_are_the_same()
     ensures { (text : Text) → first_fault text ≡ None → (sizes : Sizes) (s : State) (t : FlatState) → AreSameStates (design_of text).families s t → TextIsRight text →
