@@ -110,6 +110,7 @@ module _ (scope : Scope) where
   abbrev pub whole : Ref → Ref
   whole of = record of { path = prefix_at of.at ++ of.path }
 
+  -- what a `using` names; set types and the names in braces are no names of the instance
   abbrev pub whole_use : Use → Use
   whole_use (Plain of) = Plain (whole of)
   whole_use (Early of) = Early (whole of)
@@ -162,6 +163,7 @@ with_places k (other ∷ items) = other ∷ with_places k items
 
 -- ---- the whole
 
+-- a layer, by its place among the layers
 abbrev pub layer_number : List Name → Name → ℕ
 layer_number layers name = position_or_len (bytes_eq name) layers
 

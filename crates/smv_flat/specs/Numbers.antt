@@ -42,10 +42,11 @@ variable_at vars _ at = None
 module _ (scope : Scope) where
   -- ---- types of one value
 
+  -- a set type, by its place among the set types
   abbrev pub set_number : Name → ℕ
   set_number name = position_or_len (λ info. bytes_eq info.name name) scope.sets
 
-  -- an enumeration is the list of its constants, in their order
+  -- a type by its numbers; an enumeration is the list of its constants, in their order
   abbrev pub flat_simple : Simple → FlatSimple
   flat_simple (range low high) = Range low high
   flat_simple (choice names) = Enum (position_or_len (same_path names) scope.enums)
@@ -70,6 +71,7 @@ module _ (scope : Scope) where
       Constant list (position_or_len (bytes_eq name) (get_or scope.enums list [])) at
   constant_in _ at = Constant (length scope.enums) 0 at
 
+  -- a family, by its place among the families
   abbrev pub family_number : Path → ℕ
   family_number path = position_or_len (λ f. same_path f.path path) scope.families
 

@@ -72,6 +72,7 @@ module _ (scope : Scope) where
     flat_expr vars (List' shape members at) = flat.List (flat_members vars members) at
     flat_expr vars (Each' var over cond at) = flat.Each (bound_in vars) (flat_over scope over) (flat_condition ((var.name, any) ∷ vars) cond) at
 
+    -- the parts of a chain
     pub flat_row : {m : _} → Around → Row_of-Expr m → List FlatExpr
     flat_row vars end_of-Expr = []
     flat_row vars (more_of-Expr e rest) = flat_expr vars e ∷ flat_row vars rest
@@ -82,10 +83,12 @@ module _ (scope : Scope) where
     flat_indexes vars (more_of-Part (Field word) rest) = flat_indexes vars rest
     flat_indexes vars (more_of-Part (At index) rest) = flat_expr vars index ∷ flat_indexes vars rest
 
+    -- what a sum adds and takes away
     pub flat_signed : {m : _} → Around → Row_of-Signed m → List FlatSigned
     flat_signed vars end_of-Signed = []
     flat_signed vars (more_of-Signed minus e rest) = roll-FlatSigned (record { minus = minus; of = flat_expr vars e }) ∷ flat_signed vars rest
 
+    -- the members of a listed set
     pub flat_members : {m : _} → Around → Row_of-Member m → List FlatMember
     flat_members vars end_of-Member = []
     flat_members vars (more_of-Member (One e) rest) = member.One (flat_expr vars e) ∷ flat_members vars rest
@@ -114,6 +117,7 @@ module _ (scope : Scope) where
     flat_stmt vars (For' var from to closed step shape (more_of-Stmt body end_of-Stmt) at) = act.Block (map (λ n. flat_stmt ((var.name, loop n) ∷ vars) body) (steps_of from to closed step))
     flat_stmt vars (Forall' var over shape (more_of-Stmt body end_of-Stmt) at) = act.Forall (bound_in vars) (flat_over scope over) (flat_stmt ((var.name, any) ∷ vars) body)
 
+    -- the parts of a block
     pub flat_parts : {m : _} → Around → Row_of-Stmt m → List FlatStmt
     flat_parts vars end_of-Stmt = []
     flat_parts vars (more_of-Stmt part rest) = flat_stmt vars part ∷ flat_parts vars rest

@@ -5,6 +5,8 @@ use Rattle.smv_flat.specs.Entries.{entries}
 use Rattle.smv_flat.specs.WholeText.{EntryIsRight}
 use Rattle.std.specs.List.{AllByRecursion}
 use Rattle.smv_worked_flat.specs.Right.{small, tree_of, MeetsConditions}
+use Rattle.smv_worked.specs.Tomasulo.{machine}
+use Rattle.smv_worked_flat.proofs.Deciding.{text-is}
 use Rattle.smv_worked_flat.proofs.Computing.{computing}
 
 all-each : {X : Type 0} (P : X → Type 0) (xs : List X) → AllByRecursion P xs → All P xs
@@ -50,3 +52,10 @@ entries-right =
 pub small-meets : MeetsConditions small
 unfolding computing
 small-meets = (refl, all-each (EntryIsRight tree) (entries tree) entries-right)
+
+abbrev machine_tree : Text
+machine_tree = unwrap_or (tree_of machine) (record { tops = [] })
+
+pub machine-meets : MeetsConditions machine
+unfolding computing
+machine-meets = (refl, text-is machine_tree refl)

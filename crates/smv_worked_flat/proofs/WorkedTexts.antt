@@ -1,6 +1,6 @@
 -- By computing the flattened text of each text.
 use Rattle.std.proofs.Common.{refl}
-use Rattle.smv_worked_flat.specs.Worked.{AreFlattened, families, front, items}
+use Rattle.smv_worked_flat.specs.Worked.{AreFlattened, families, front, items, whole}
 use Rattle.smv_worked_flat.specs.WorkedTexts as w
 use Rattle.smv_worked_flat.proofs.Computing.{computing}
 
@@ -39,3 +39,7 @@ expressions-computed = refl
 pub goals-computed : AreFlattened items w.goals
 unfolding computing
 goals-computed = refl
+
+pub wholes-computed : AreFlattened whole w.wholes
+unfolding computing
+wholes-computed = refl

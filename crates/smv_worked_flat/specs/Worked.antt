@@ -57,6 +57,9 @@ Front = List SetInfo × List (List Name) × List Name
 abbrev pub front : Raw → Front
 front raw = (raw.sets, raw.enums, raw.layers)
 
+abbrev pub whole : Raw → Raw
+whole raw = raw
+
 -- ---- short words
 
 -- a family with these index types and this value, declared at this place

@@ -6,6 +6,7 @@ use Rattle.smv_core.specs.declared.tree.Use.TheVariants.{Plain, Early, Keep}
 use Rattle.smv_core.specs.declared.flat.Simple.TheVariants.{Range, Enum, Set}
 use Rattle.smv_core.specs.declared.flat.Family.{Family}
 use Rattle.smv_core.specs.declared.flat.FlatItem.{FlatItem}
+use Rattle.smv_core.specs.declared.flat.Raw.{Raw}
 use Rattle.smv_core.specs.declared.flat.FlatItem.TheVariants.{Claim as Claimed, Split as Splits, Using as Uses}
 use Rattle.smv_core.specs.declared.flat.FlatMember.{One, Span}
 use Rattle.smv_core.specs.declared.flat.FlatExpr.{Number, Read, Var, Loop, Constant, Not, And, Or, Implies, Iff, Compare, Within, Sum, Modulo, Choose, All, Any, List as ListOf, Each}
@@ -137,3 +138,19 @@ goals =
     (codes "module main() { x, y : array 0..1 of boolean; layer L : { } forall (k in 0..1) { forall (c in boolean) subcase r[k][c] of x[k].f//L for y[k] = c, k = k; using y//free prove r; } }", Splits (record { name = codes "r"; vars = word (codes "k") 113 ∷ word (codes "c") 116 ∷ []; of = record { path = word (codes "x") 122 ∷ word (codes "f") 127 ∷ []; names = word (codes "k") 124 ∷ []; layer = Some (word (codes "L") 130); free = false; at = 122 }; bound = param 0 (Range 0 1) (codes "k") ∷ param 1 (Range 0 1) (codes "c") ∷ []; pairs = record { left = Read 1 (Var 0 138 ∷ []) 136; right = word (codes "c") 143; at = 136 } ∷ record { left = Var 0 146; right = word (codes "k") 150; at = 146 } ∷ []; at = 103 }) ∷ Uses (record { prefix = []; bound = param 0 (Range 0 1) (codes "k") ∷ []; uses = Plain (record { path = word (codes "y") 159 ∷ []; names = []; layer = None; free = true; at = 159 }) ∷ []; proves = record { path = word (codes "r") 173 ∷ []; names = []; layer = None; free = false; at = 173 } ∷ []; at = 153 }) ∷ []) ∷
     -- an instance of an instance: names with both
     (codes "module k() { p : assert G 1; using p prove p; } module m() { n : k(); } module main() { o : m(); }", Claimed (record { name = codes "o.n.p"; vars = []; params = []; body = Number 1 26; place = 0; at = 13 }) ∷ Uses (record { prefix = codes "o.n"; bound = []; uses = Plain (record { path = word (codes "o") 35 ∷ word (codes "n") 35 ∷ word (codes "p") 35 ∷ []; names = []; layer = None; free = false; at = 35 }) ∷ []; proves = record { path = word (codes "o") 43 ∷ word (codes "n") 43 ∷ word (codes "p") 43 ∷ []; names = []; layer = None; free = false; at = 43 } ∷ []; at = 29 }) ∷ []) ∷ []
+
+-- a whole flattened text
+abbrev pub wholes : List (List ℕ × Raw)
+wholes =
+    -- a set type, a module with an input, an enumeration, a layer, an instance and a claim
+    (
+      codes "scalarset P undefined; module m(a) { input a : boolean; } module main() { x : {on, off}; y : boolean; layer L : { y := 1; } n : m(y); p : assert G (x = on); }",
+      record {
+        sets = unsized (codes "P") ∷ [];
+        enums = (codes "on" ∷ codes "off" ∷ []) ∷ [];
+        layers = codes "L" ∷ [];
+        families = of_type (codes "x") [] (Enum 0) 74 ∷ of_type (codes "y") [] (Range 0 1) 89 ∷ of_type (codes "n.a") [] (Range 0 1) 43 ∷ [];
+        items = in_layer 0 (Assign Comb 1 [] (Number 1 119) 114) ∷ outside (Assign Comb 2 [] (Read 1 [] 130) 130) ∷
+            Claimed (record { name = codes "p"; vars = []; params = []; body = Compare Equal (Read 0 [] 148) (Constant 0 0 152); place = 2; at = 134 }) ∷ [];
+      },
+    ) ∷ []

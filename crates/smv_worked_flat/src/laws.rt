@@ -1,7 +1,8 @@
 // Worked texts, each group a clause of a function that does nothing.
-ghost use Rattle.smv_worked_flat.specs.Worked.{AreFlattened, families, front, items};
+ghost use Rattle.smv_worked_flat.specs.Worked.{AreFlattened, families, front, items, whole};
 ghost use Rattle.smv_worked_flat.specs.WorkedTexts as texts;
 ghost use Rattle.smv_worked_flat.specs.Tomasulo as machine;
+ghost use Rattle.smv_worked.specs.Tomasulo as tomasulo;
 ghost use Rattle.smv_worked_flat.specs.Right.{MeetsConditions, small};
 
 /// The flattened text of each worked text, or the part of it that its theme is about.
@@ -15,10 +16,12 @@ pub fn worked_texts()
     ensures layers_and_binders { AreFlattened items texts.layers_and_binders }
     ensures expressions { AreFlattened items texts.expressions }
     ensures goals { AreFlattened items texts.goals }
+    ensures wholes { AreFlattened whole texts.wholes }
     ensures tomasulo { AreFlattened families machine.rows }
 {}
 
-/// Some text meets the conditions of the laws of flattening: it has no fault of names, and each name in its statements and claims is known.
+/// Texts meet the conditions of the laws of flattening: they have no fault of names, and each name in their statements and claims is known.
 pub fn conditions_are_met()
-    ensures { MeetsConditions small }
+    ensures small { MeetsConditions small }
+    ensures tomasulo { MeetsConditions tomasulo.machine }
 {}

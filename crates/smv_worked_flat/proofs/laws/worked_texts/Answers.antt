@@ -31,3 +31,6 @@ returns-clause-goals c = texts.goals-computed
 
 pub returns-clause-tomasulo : goal.returns-clause-tomasulo
 returns-clause-tomasulo c = machine.rows-computed
+
+pub returns-clause-wholes : goal.returns-clause-wholes
+returns-clause-wholes c = texts.wholes-computed
