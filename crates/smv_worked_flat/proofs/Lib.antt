@@ -1,0 +1,5 @@
+pub mod Computing
+pub mod WorkedTexts
+pub mod Tomasulo
+pub mod Deciding
+pub mod Right

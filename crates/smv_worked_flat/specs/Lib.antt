@@ -1,0 +1,4 @@
+pub mod Worked
+pub mod WorkedTexts
+pub mod Tomasulo
+pub mod Right
