@@ -6,8 +6,7 @@ use Rattle.smv_core.specs.declared.fault.Fault.{Fault}
 use Rattle.smv_core.specs.declared.tree.Text.{Text}
 use Rattle.smv_inst.specs.Scopes.{pieces}
 use Rattle.smv_inst.specs.NameFaults.{undeclared_in, doubled_in, repeated, without_main, recursive_in, miscounted_in}
-use Rattle.smv_inst.specs.FirstFault.{first_of, faults_at}
-use Rattle.smv_names.specs.Checked.{first_fault}
+use Rattle.smv_inst.specs.FirstFault.{first_of, faults_at, faults_of_names}
 use Rattle.smv_scope.specs.ScopeFault.{earlier_of, FirstOfBoth, AnyOrder, first_scope_fault}
 use Rattle.smv_size.specs.Recursion.{first_recursion}
 
@@ -22,7 +21,7 @@ taken_out both order a b c d e =
 
 -- the first fault of the names is the earlier of the first of its scopes and the first module that contains itself
 pub joined : FirstOfBoth → AnyOrder → (text : Text) (scope recursion result : Option Fault) → scope ≡ first_scope_fault text → recursion ≡ first_recursion text →
-    result ≡ earlier_of scope recursion → result ≡ first_fault text
+    result ≡ earlier_of scope recursion → result ≡ first_of (faults_of_names text)
 unfolding first_scope_fault
 joined both order text scope recursion result is_scope is_recursion is =
     let tops = pieces text in

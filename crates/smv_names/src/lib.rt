@@ -1,33 +1,38 @@
-//! The first fault of a text's names.
+//! The first fault of a text among those of its names and of its size.
 #![tactic(auto)]
 
 ghost use Rattle.std.specs.Prelude.{◌≡◌, IfOk};
+ghost use Rattle.smv_inst.specs.FirstFault as spec;
 ghost use Rattle.smv_inst.specs.Said.{AreNoted};
-ghost use Rattle.smv_names.specs.Checked as spec;
 
 use smv_core::Fault;
 use smv_core::tree::Text;
 use smv_inst::pieces::{Piece, pieces};
 use smv_scope::scope::{any_order, earlier, first_of_both, scope_fault};
 use smv_size::recursion::recursion_fault;
+use smv_size::size::size_fault;
 use std::alloc::{AllocError, Global};
 
-/// The first fault of a text among 7 to 11, by place and then by number, or none.
+/// The first fault of a text among 7 to 11, by place and then by number, and then 25; or none.
 pub fn first_fault(alloc: Global, text: &Text) -> Result<Option<Fault>, AllocError>
     ensures { IfOk result (λ fault. fault ≡ spec.first_fault text.now) }
 {
     let pieces = pieces(alloc, text)?;
-    name_fault(alloc, text, &pieces)
+    let named = name_fault(alloc, text, &pieces)?;
+    match named {
+        Some(fault) => Ok(Some(fault)),
+        None => size_fault(alloc, text, &pieces),
+    }
 }
 
-// The first fault of the names, where they are noted.
+// The first fault of the names, by place and then by number, where they are noted.
 fn name_fault<'a>(
     alloc: Global,
     text: &'a Text,
     pieces: &[Piece<'a>],
 ) -> Result<Option<Fault>, AllocError>
     requires { AreNoted pieces.now text.now }
-    ensures { IfOk result (λ fault. fault ≡ spec.first_fault text.now) }
+    ensures { IfOk result (λ fault. fault ≡ spec.first_of (spec.faults_of_names text.now)) }
 {
     first_of_both();
     any_order();

@@ -18,7 +18,7 @@ use Rattle.smv_core.specs.declared.tree.Text.{Text}
 use Rattle.smv_core.specs.declared.report.UnitResult.{UnitResult}
 use Rattle.smv_core.specs.declared.report.Verdict.{Verdict}
 use Rattle.smv_core.specs.declared.report.Verdict.TheVariants.{True, False}
-use Rattle.smv_names.specs.Checked.{first_fault}
+use Rattle.smv_inst.specs.FirstFault.{first_fault}
 use Rattle.smv_lex.specs.Answers.{IfFault}
 use Rattle.smv_parse.specs.Spelling.{HasFault}
 use Rattle.smv_parse.specs.Laws.{IsOneTree, IsNotBoth}
@@ -111,7 +111,7 @@ pub none_is_decided : (text : List ℕ) (tree : Text) (result : Result Answer Al
 none_is_decided text tree (Ok answer) is named none status bytes = λ words prove. due_fault words text 32 0 answer.status answer.bytes.items (inl prove) (undecided prove is named none) status bytes
 none_is_decided text tree (Err e) is named none status bytes = tt
 
--- a text whose names have a fault
+-- a text whose names or size have a fault
 pub names_are_due : (text : List ℕ) (tree : Text) (fault : Fault) (result : Result Answer AllocError) → IsTree text tree → first_fault tree ≡ Some fault →
     IfOk result (λ answer. answer.status ≡ Refused) → IfOk result (λ answer. answer.bytes.items ≡ fault_text text fault.number fault.at) →
     IfOk result (λ answer. (words : List (List ℕ)) → IsProve words → IsDue answer.status words text answer.bytes.items)

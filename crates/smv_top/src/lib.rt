@@ -4,7 +4,7 @@
 ghost use Rattle.std.specs.Prelude.{◌≡◌, ◌≢◌, ◌≤◌, ◌⊎◌, List, ℕ, map, length, if◌then◌else◌, IfSome, IfNone, IfOk, None};
 ghost use Rattle.std.specs.String.{string_bytes};
 ghost use Rattle.std.specs.Io.KnownBytes.{Appends};
-ghost use Rattle.smv_names.specs.Checked as checked_by;
+ghost use Rattle.smv_inst.specs.FirstFault as inst;
 ghost use Rattle.smv_io.specs.Causes.{Rose};
 ghost use Rattle.smv_io.specs.Transfers.{TookFront};
 ghost use Rattle.smv_report.specs.Lines.{is_true_verdict, fault_text};
@@ -214,7 +214,7 @@ fn printed(alloc: Global, text: &[u8], tree: &Text) -> Result<Answer, AllocError
     Ok(Answer { status, bytes })
 }
 
-// The answer to a text whose names are to have no fault.
+// The answer to a text whose names and size are to have no fault.
 fn checked(alloc: Global, text: &[u8], tree: &Text) -> Result<Answer, AllocError>
     requires { IsTree text.now tree.now }
     ensures { IfOk result (λ answer. (words : List (List ℕ)) → IsProve words → IsDue answer.status words text.now answer.bytes.items) }
@@ -228,7 +228,7 @@ fn checked(alloc: Global, text: &[u8], tree: &Text) -> Result<Answer, AllocError
 // The answer to a text that is decided, where it is a design that is.
 fn decided(alloc: Global, text: &[u8], tree: &Text) -> Result<Answer, AllocError>
     requires tree { IsTree text.now tree.now }
-    requires named { checked_by.first_fault tree.now ≡ None }
+    requires named { inst.first_fault tree.now ≡ None }
     ensures { IfOk result (λ answer. (words : List (List ℕ)) → IsProve words → IsDue answer.status words text.now answer.bytes.items) }
 {
     match first_design(tree) {

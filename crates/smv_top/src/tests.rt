@@ -29,6 +29,8 @@ const WITHIN_ITSELF: &str = "module main() { a : main(); }";
 
 const MISCOUNTED: &str = "module m(a) { input a : boolean; } module main() { x : m(); }";
 
+const FIVE_INDEXES: &str = "module main() { x : array 0..1 of array 0..1 of array 0..1 of array 0..1 of array 0..1 of boolean; }";
+
 const NOT_DECIDED: &str = "fault 32 at line 1 column 1\n";
 
 // The words, parted by blanks.
@@ -63,6 +65,7 @@ fn a_status_and_an_answer(rt: HostRuntime) -> Result<(), Fail> {
         ("prove", TWICE, 3, "fault 8 at line 1 column 30\n"),
         ("prove", WITHIN_ITSELF, 3, "fault 10 at line 1 column 21\n"),
         ("prove", MISCOUNTED, 3, "fault 11 at line 1 column 56\n"),
+        ("prove", FIVE_INDEXES, 3, "fault 25 at line 1 column 8\n"),
         ("prove", "module main() { }", 3, NOT_DECIDED),
         ("prove", OPEN, 3, "fault 4 at line 1 column 17\n"),
         ("print", OPEN, 3, "fault 4 at line 1 column 17\n"),
