@@ -32,7 +32,7 @@ guard_met n s over e b v h = at (flat_outcome n s e b)
       | inr e ↦ (v, h, or_left (same u v) (ap not e))
     ]
 
-is_one : (u : Outcome) → is_true (truth u) ≡ true → u ≡ Some (number 1)
+pub is_one : (u : Outcome) → is_true (truth u) ≡ true → u ≡ Some (number 1)
 is_one None e = absurd (cc)
 is_one (Some (number zero)) e = absurd (cc)
 is_one (Some (number (suc zero))) e = refl

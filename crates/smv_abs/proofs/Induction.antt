@@ -101,7 +101,7 @@ each Which D old [] t held = tt
 each Which D old (s ∷ path) zero held = λ w. held w
 each Which D old (s ∷ path) (suc t) held = each Which D (Some s) path t held
 
-module _ {State Instance Case Picture : Type 0} (circle : Circle State Instance Case Picture) (rank : ℕ → ℕ)
+module _ {State Instance Case : Type 0} {Picture : Case → Type 0} (circle : Circle State Instance Case Picture) (rank : ℕ → ℕ)
     (falls : (u v : ℕ) → circle.uses_now u v ≡ true → rank v < rank u) (shows : ShowsFailures circle) (none : HasNoViolation circle)
     (run : List State) (runs : (k : ℕ) → AtTime (Met circle.base) None run k)
   where
@@ -143,7 +143,7 @@ module _ {State Instance Case Picture : Type 0} (circle : Circle State Instance 
     everything : (u t : ℕ) → HoldsAt u t
     everything u t = circular rank (λ u v. circle.uses_now u v ≡ true) (λ u v. circle.uses_before u v ≡ true) HoldsAt falls one_step u t
 
-pub always_holds : {State Instance Case Picture : Type 0} (circle : Circle State Instance Case Picture) (rank : ℕ → ℕ) →
+pub always_holds : {State Instance Case : Type 0} {Picture : Case → Type 0} (circle : Circle State Instance Case Picture) (rank : ℕ → ℕ) →
     ((u v : ℕ) → circle.uses_now u v ≡ true → rank v < rank u) → ShowsFailures circle → HasNoViolation circle → AlwaysHolds circle
 always_holds circle rank falls shows none run is_run u i =
     from_each (circle.holds u i) None run (λ k. everything circle rank falls shows none run (at_each circle.base None run is_run) u k i)

@@ -27,3 +27,13 @@ pub mod CoverParams
 pub mod CoverClasses
 pub mod CoverCases
 pub mod CoverLeaf
+pub mod ScopesKeep
+pub mod OneOfEach
+pub mod GuardsChosen
+pub mod OneGives
+pub mod Patched
+pub mod TypedRuns
+pub mod CaseKeeps
+pub mod Joined
+pub mod WorkedPlans
+pub mod WorkedMutual

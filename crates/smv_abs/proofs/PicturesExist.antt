@@ -9,7 +9,7 @@ use Rattle.smv_abs.specs.declared.abstract_type.AbsType.{AbsType}
 use Rattle.smv_abs.specs.Sets.{Has}
 use Rattle.smv_abs.specs.Places.{Place, named, world, named_in, is_among}
 use Rattle.smv_abs.specs.May.{AbsState, Kept}
-use Rattle.smv_abs.specs.Pictures.{Placing, placed, ArePlaced, AreOfTypes, IsPicture, AreNamedOf, KeepsNamed}
+use Rattle.smv_abs.specs.Pictures.{Placing, placed, ArePlaced, AreOfTypes, IsState, IsPicture, AreNamedOf, KeepsNamed, IsAbsState}
 use Rattle.smv_abs.proofs.Same.{Has-is_among, is_among-Has}
 
 module _ (n : Numbered) (types : Name → AbsType) (spots : Placing) (facts : ArePlaced n (world n types) spots) where
@@ -53,4 +53,28 @@ module _ (n : Numbered) (types : Name → AbsType) (spots : Placing) (facts : Ar
   pictured kept keeps_named s = (
     λ family ps. picture_in s family (slice_get n.families family) ps,
     λ family f e vs h k. rw e (ap (λ us. placed spots (s family us)) (values_are f.over vs h (keeps_named family f e (map (placed spots) vs) k))),
+  )
+
+  -- the values of classes are of the types of these
+  values_typed : (over : List FlatSimple) (ps : List Place) → AreNamedOf (world n types) over ps → AreOfTypes n over (values_at over ps)
+  unfolding values_at
+  values_typed [] [] h = tt
+  values_typed [] (p ∷ ps) h = elim h [ ]
+  values_typed (t ∷ over) [] h = tt
+  values_typed (t ∷ over) (p ∷ ps) h = ((lies_at t p).of_type h.0, values_typed over ps h.1)
+
+  only_kept : Bool → Place → Place
+  only_kept true q = q
+  only_kept false q = named (number 0)
+
+  -- and one that is an abstract state
+  pub state_pictured : (kept : Kept) → KeepsNamed (world n types) kept → (s : FlatState) → IsState n s → (a : AbsState) × IsPicture n spots kept s a × IsAbsState (world n types) kept a
+  unfolding picture_in only_kept
+  state_pictured kept keeps_named s is_state = (
+    λ family ps. only_kept (kept family ps) (picture_in s family (slice_get n.families family) ps),
+    λ family f e vs h k. rw (k, e) (ap (λ us. placed spots (s family us)) (values_are f.over vs h (keeps_named family f e (map (placed spots) vs) k))),
+    record {
+      is_somewhere = λ family f e ps k. rw (k, e) ((facts f.value).is_somewhere (s family (values_at f.over ps)) (is_state family f e (values_at f.over ps) (values_typed f.over ps (keeps_named family f e ps k))));
+      is_unread = λ family ps k. rw k refl;
+    },
   )

@@ -38,7 +38,7 @@ place_kept (x ∷ b) zero var p q e l = absurd (omega arith)
 place_kept (x ∷ b) (suc other) zero p q e l = e
 place_kept (x ∷ b) (suc other) (suc var) p q e l = place_kept b other var p q e (omega arith)
 
-value_kept : (b : List Value) (other var : ℕ) (u v : Value) → slice_get b var ≡ Some v → var < other → slice_get (bind b other u) var ≡ Some v
+pub value_kept : (b : List Value) (other var : ℕ) (u v : Value) → slice_get b var ≡ Some v → var < other → slice_get (bind b other u) var ≡ Some v
 value_kept [] other var u v e l = absurd (cc)
 value_kept (x ∷ b) zero var u v e l = absurd (omega arith)
 value_kept (x ∷ b) (suc other) zero u v e l = e
@@ -50,7 +50,7 @@ place_bound [] (suc var) p e = absurd (omega arith)
 place_bound (x ∷ b) zero p e = absurd (omega arith)
 place_bound (x ∷ b) (suc var) p e = place_bound b var p (omega arith)
 
-value_bound : (b : List Value) (var : ℕ) (v : Value) → length b ≡ var → slice_get (bind b var v) var ≡ Some v
+pub value_bound : (b : List Value) (var : ℕ) (v : Value) → length b ≡ var → slice_get (bind b var v) var ≡ Some v
 value_bound [] zero v e = refl
 value_bound [] (suc var) v e = absurd (omega arith)
 value_bound (x ∷ b) zero v e = absurd (omega arith)

@@ -27,16 +27,16 @@ abbrev pub is_violating : {State : Type 0} → Obligation State → List State �
 is_violating o path = is_violating_after o None path
 
 -- Units by their numbers, each with its instances: what a run meets at each time, when an instance holds, what a unit uses now and
--- before, and the obligations of a unit, one for each of its cases.
-pub record Circle (State Instance Case Picture : Type 0) : Type 0 where
+-- before, and the obligations of a unit, one for each of its cases, over the pictures of the case.
+pub record Circle (State Instance Case : Type 0) (Picture : Case → Type 0) : Type 0 where
   pub base : Demand State
   pub holds : ℕ → Instance → Demand State
   pub uses_now : ℕ → ℕ → Bool
   pub uses_before : ℕ → ℕ → Bool
   pub is_case : ℕ → Case → Bool
-  pub obligation : ℕ → Case → Obligation Picture
+  pub obligation : ℕ → (c : Case) → Obligation (Picture c)
 
-module _ {State Instance Case Picture : Type 0} (circle : Circle State Instance Case Picture) where
+module _ {State Instance Case : Type 0} {Picture : Case → Type 0} (circle : Circle State Instance Case Picture) where
   -- each unit that is used holds at this time, in each instance
   abbrev pub AreHeld : (ℕ → Bool) → Option State → State → Type 0
   AreHeld uses old s = (v : ℕ) (j : Instance) → uses v ≡ true → circle.holds v j old s ≡ true
@@ -45,7 +45,7 @@ module _ {State Instance Case Picture : Type 0} (circle : Circle State Instance 
   pub record IsShown (u : ℕ) (old : Option State) (s : State) : Type 0 where
     pub case : Case
     pub is_case : circle.is_case u case ≡ true
-    pub picture : State → Picture
+    pub picture : State → Picture case
     pub keeps_now : (old : Option State) (s : State) → circle.base old s ≡ true → AreHeld (circle.uses_now u) old s → (circle.obligation u case).now (option_map picture old) (picture s) ≡ true
     pub keeps_before : (old : Option State) (s : State) → circle.base old s ≡ true → AreHeld (circle.uses_before u) old s → (circle.obligation u case).before (option_map picture old) (picture s) ≡ true
     pub breaks : (circle.obligation u case).broken (option_map picture old) (picture s) ≡ true
@@ -56,7 +56,7 @@ module _ {State Instance Case Picture : Type 0} (circle : Circle State Instance 
 
   -- no case of any unit has a violating path
   abbrev pub HasNoViolation : Type 0
-  HasNoViolation = (u : ℕ) (c : Case) → circle.is_case u c ≡ true → (path : List Picture) → is_violating (circle.obligation u c) path ≡ false
+  HasNoViolation = (u : ℕ) (c : Case) → circle.is_case u c ≡ true → (path : List (Picture c)) → is_violating (circle.obligation u c) path ≡ false
 
   -- every instance of every unit holds at every time of every run
   abbrev pub AlwaysHolds : Type 0

@@ -25,6 +25,9 @@ use Rattle.smv_abs.specs.LeafCases.{treatments_of, parameters_of}
 use Rattle.smv_abs.specs.Covers.{AreApart, AreTreated, IsIndexType, AreCovered}
 use Rattle.smv_abs.specs.Circular.{Circle, ShowsFailures, HasNoViolation, AlwaysHolds}
 use Rattle.smv_abs.specs.Uses.{is_now, rank_of}
+use Rattle.smv_abs.specs.Scopes.{ReadsOnly}
+use Rattle.smv_abs.specs.FlatConflicts.{IsConflictFree}
+use Rattle.smv_abs.specs.Soundness.{Plan, IsPlan, HasNoViolatingPath, IsSound}
 
 -- a rank that falls along the uses that are now
 abbrev pub FallsAlong : (ℕ → ℕ → Bool) → (ℕ → ℕ) → Type 0
@@ -33,7 +36,7 @@ FallsAlong uses rank = (u v : ℕ) → uses u v ≡ true → rank v < rank u
 -- where failures are shown, no case has a violating path and the uses that are now hold no cycle, every unit always holds: by time, and at one time in the order of the uses that are now
 abbrev pub CircularInduction : Type 0 → Type 0 → Type 0 → Type 0 → Type 0
 CircularInduction State Instance Case Picture =
-    (circle : Circle State Instance Case Picture) (rank : ℕ → ℕ) → FallsAlong circle.uses_now rank → ShowsFailures circle → HasNoViolation circle → AlwaysHolds circle
+    (circle : Circle State Instance Case (λ case. Picture)) (rank : ℕ → ℕ) → FallsAlong circle.uses_now rank → ShowsFailures circle → HasNoViolation circle → AlwaysHolds circle
 
 -- the uses that are now hold no cycle: a rank falls along each
 abbrev pub NowUsesFall : Type 0
@@ -127,3 +130,16 @@ LeafCasesCover =
     (params : List Param) → ((p : Param) → Has params p → IsIndexType p.over) → (keeps : List Keep) →
     (values : List Value) → Has (one_of_each (map (values_in n) (map (λ p. p.over) params))) values →
     AreCovered n (treatments_of keeps 0 n.sets) (parameters_of keeps params) values
+
+-- an outcome depends on no variable but those that the expression reads, among so many values
+abbrev pub OutcomesKeepScopes : Type 0
+OutcomesKeepScopes = (n : Numbered) (s : FlatState) (e : FlatExpr) (scope : ℕ → Bool) (b c : List Value) → ReadsOnly scope e → length b ≡ length c →
+    ((k : ℕ) → scope k ≡ true → slice_get b k ≡ slice_get c k) → flat_outcome n s e b ≡ flat_outcome n s e c
+
+-- where no two assignments of a definition conflict, at most one value of each `forall` variable gives an element a result
+abbrev pub ConflictsLeaveOneResult : Type 0
+ConflictsLeaveOneResult = (n : Numbered) (def : Def) (indexes every : List Value) → IsConflictFree (length indexes) def → IsSingle n def indexes every
+
+-- where no case of any leaf has a violating path, every unit holds at every time of every run, for all sizes
+abbrev pub NoViolatingPathIsSound : Type 0
+NoViolatingPathIsSound = (plan : Plan) → IsPlan plan → HasNoViolatingPath plan → IsSound plan

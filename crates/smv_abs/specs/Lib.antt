@@ -11,6 +11,10 @@ pub mod Guards
 pub mod Obligations
 pub mod Cases
 pub mod Bound
+pub mod Scopes
+pub mod Whole
+pub mod FlatConflicts
+pub mod Soundness
 pub mod Placings
 pub mod Covers
 pub mod LeafCases
@@ -18,4 +22,5 @@ pub mod Worked
 pub mod WorkedRights
 pub mod WorkedCases
 pub mod WorkedObligations
+pub mod WorkedSoundness
 pub mod Laws

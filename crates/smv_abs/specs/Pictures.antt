@@ -1,11 +1,11 @@
 -- Placings: where the values of a design lie in a case, and when an abstract state is the picture of a state.
-use Rattle.std.specs.Prelude.{◌≡◌, ℕ, List, [], ◌∷◌, map, slice_get, Option, Some, None, true}
+use Rattle.std.specs.Prelude.{◌≡◌, ℕ, List, [], ◌∷◌, map, slice_get, Option, Some, None, true, false}
 use Rattle.smv_core.specs.Values.{Name, Value, number, constant, scalar, ordinal, Simple, Sizes, values_of, same, below}
 use Rattle.smv_core.specs.Flat.{Numbered, FlatState, values_in, simple_in}
 use Rattle.smv_core.specs.declared.flat.Family.{Family}
 use Rattle.smv_core.specs.declared.flat.Simple.{Simple as FlatSimple}
 use Rattle.smv_abs.specs.Sets.{Has}
-use Rattle.smv_abs.specs.Places.{Place, named, rest, World, named_of, named_in, places_of, equal_places, below_places}
+use Rattle.smv_abs.specs.Places.{Place, named, rest, World, named_of, named_in, places_of, places_in, equal_places, below_places}
 use Rattle.smv_abs.specs.May.{AbsState, Kept}
 
 -- a class or a rest of a set type, by its number
@@ -66,6 +66,11 @@ AreNamedOf w (t ∷ types) (p ∷ ps) = Has (named_in w t) p × AreNamedOf w typ
 -- only elements whose indexes are numbers, constants and classes are kept
 abbrev pub KeepsNamed : World → Kept → Type 0
 KeepsNamed w kept = (family : ℕ) (f : Family) → slice_get w.classes.families family ≡ Some f → (ps : List Place) → kept family ps ≡ true → AreNamedOf w f.over ps
+
+-- an abstract state of a case: each kept element is at a place of its type, and what is not kept, which nothing reads, is 0
+pub record IsAbsState (w : World) (kept : Kept) (a : AbsState) : Type 0 where
+  pub is_somewhere : (family : ℕ) (f : Family) → slice_get w.classes.families family ≡ Some f → (ps : List Place) → kept family ps ≡ true → Has (places_in w f.value) (a family ps)
+  pub is_unread : (family : ℕ) (ps : List Place) → kept family ps ≡ false → a family ps ≡ named (number 0)
 
 -- a number, a constant, or a value of a set type of the design
 abbrev pub IsValue : Numbered → Value → Type 0

@@ -1,8 +1,9 @@
 // Laws of the definitions, each the contract of a function that does nothing.
-ghost use Rattle.smv_abs.specs.Laws.{CircularInduction, NowUsesFall, PlainTypesArePlaced, ScalarsetsArePlaced, OrdsetsArePlaced, MayKeepsOutcomes, MayKeepsRightSides, MustKeepsRightSides, MapsAreKept, ClaimsAreKept, GuardsCover, GuardsAreKept, PicturesExist, GrowingClassesCover, CasesCover, LeafCasesCover};
+ghost use Rattle.smv_abs.specs.Laws.{CircularInduction, NowUsesFall, PlainTypesArePlaced, ScalarsetsArePlaced, OrdsetsArePlaced, MayKeepsOutcomes, MayKeepsRightSides, MustKeepsRightSides, MapsAreKept, ClaimsAreKept, GuardsCover, GuardsAreKept, PicturesExist, GrowingClassesCover, CasesCover, LeafCasesCover, OutcomesKeepScopes, ConflictsLeaveOneResult, NoViolatingPathIsSound};
 ghost use Rattle.smv_abs.specs.WorkedRights.{BitTargets, SetTargets, OutsideTargets, Assignments};
 ghost use Rattle.smv_abs.specs.WorkedCases.{ScalarsetCases, ReducedCases, OrdsetCases, RangeCases, SeveralTypes, KeptParameters};
 ghost use Rattle.smv_abs.specs.WorkedObligations.{SplitHelps, OrderIsTotal, SplitOrders, Reductions, WrittenIndex, EachOther, MutualMaps, CertainMaps};
+ghost use Rattle.smv_abs.specs.WorkedSoundness.{SplitPlan, MutualPlan};
 ghost use Rattle.smv_abs.specs.Worked.{RestsCompare, GapsCompare, ReadsAtRests, Quantifiers, Memberships, Operators};
 
 /// The circular rule: where each failure of an instance is shown by a case, no case has a violating path and the uses that are now hold no cycle,
@@ -106,4 +107,25 @@ pub fn worked_obligations()
     ensures each_other { EachOther }
     ensures mutual_maps { MutualMaps }
     ensures certain_maps { CertainMaps }
+{}
+
+/// An outcome depends on no variable but those that its expression reads.
+pub fn outcomes_keep_scopes()
+    ensures { OutcomesKeepScopes }
+{}
+
+/// The rule of conflicts leaves each `forall` variable at most one value that gives an element a result.
+pub fn conflicts_leave_one_result()
+    ensures { ConflictsLeaveOneResult }
+{}
+
+/// The joined law: where no case of any leaf has a violating path, every unit holds at every time of every run, for all sizes.
+pub fn no_violating_path_is_sound()
+    ensures { NoViolatingPathIsSound }
+{}
+
+/// Worked plans of proof, of which the joined law speaks: a claim that is split, and two maps that use each other.
+pub fn worked_plans()
+    ensures split { SplitPlan }
+    ensures mutual { MutualPlan }
 {}
