@@ -1,0 +1,47 @@
+-- What the passes before the search give of an outline.
+use Rattle.std.specs.Prelude.{◌≡◌, ◌≤◌, ℕ, List, [], ◌++◌, map, length, get_or, slice_get, Some}
+use Rattle.smv_core.specs.Values.{Name}
+use Rattle.smv_core.specs.declared.flat.Design.{Design}
+use Rattle.smv_core.specs.declared.flat.Simple.{Simple}
+use Rattle.smv_core.specs.declared.flat.Simple.TheVariants.{Range, Enum, Set}
+use Rattle.smv_core.specs.declared.flat.SetInfo.{SetInfo}
+use Rattle.smv_core.specs.declared.flat.Family.{Family}
+use Rattle.smv_core.specs.declared.flat.Def.{Def}
+use Rattle.smv_core.specs.declared.flat.Claim.{Claim}
+use Rattle.smv_core.specs.declared.flat.Param.{Param}
+use Rattle.smv_core.specs.declared.flat.Guard.{Guard}
+use Rattle.smv_abs.specs.Sets.{Has}
+use Rattle.smv_abs.specs.Covers.{AreApart, IsIndexType}
+use Rattle.smv_abs.specs.Scopes.{ReadsOnly, before}
+use Rattle.smv_abs.specs.Whole.{IsWhole}
+use Rattle.smv_abs.specs.Soundness.{params_of, IsDefinition}
+use Rattle.smv_oblig.specs.Outlines.{Entry, Outline, names_of, unit_in}
+use Rattle.smv_oblig.specs.Problems.{plan_of}
+
+-- a type that is not empty: a range from low to high, an enumeration with a constant, or a set type of the design
+abbrev pub IsFilled : Design → Simple → Type 0
+IsFilled d (Range low high) = low ≤ high
+IsFilled d (Enum list) = (name : Name) × Has (get_or d.enums list []) name
+IsFilled d (Set set) = (info : SetInfo) × (slice_get d.sets set ≡ Some info)
+
+module _ (o : Outline) where
+  -- The parameters of a leaf are the unit's and then those that its splits add, over ranges and set types that are not empty. Each guard is
+  -- that of an added parameter and of its type, and reads only the parameters before it; no two guards are of one parameter.
+  pub record IsSplit (entry : Entry) : Type 0 where
+    pub added : List Simple
+    pub are_params : map (λ p. p.over) entry.leaf.params ≡ params_of (names_of o.design) (unit_in o.design entry.unit) ++ added
+    pub are_index_types : (p : Param) → Has entry.leaf.params p → IsIndexType p.over
+    pub are_filled : (p : Param) → Has entry.leaf.params p → IsFilled o.design p.over
+    pub is_added : (g : Guard) → Has entry.leaf.guards g → length (params_of (names_of o.design) (unit_in o.design entry.unit)) ≤ g.var
+    pub is_of_type : (g : Guard) → Has entry.leaf.guards g → slice_get (map (λ p. p.over) entry.leaf.params) g.var ≡ Some g.over
+    pub reads_before : (g : Guard) → Has entry.leaf.guards g → ReadsOnly (before g.var) g.expr
+    pub one_each : (g h : Guard) → Has entry.leaf.guards g → Has entry.leaf.guards h → g.var ≡ h.var → g ≡ h
+
+  -- Names: no two set types have one name. Kinds: the types are not empty, and claims read whole elements. Single assignment, and kinds again: each definition
+  -- is one of a family, no two of its assignments conflict, and it reads whole elements. Splits: as above.
+  pub record IsChecked : Type 0 where
+    pub are_apart : AreApart o.design.sets
+    pub are_filled : (f : Family) → Has o.design.families f → IsFilled o.design f.value
+    pub are_whole : (claim : Claim) → Has o.design.claims claim → IsWhole o.design.families claim.body
+    pub are_definitions : (def : Def) → Has o.design.defs def → IsDefinition (plan_of o) def
+    pub are_split : (entry : Entry) → Has o.entries entry → IsSplit entry
