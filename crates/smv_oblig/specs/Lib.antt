@@ -6,3 +6,5 @@ pub mod Cones
 pub mod Problems
 pub mod Checked
 pub mod Laws
+pub mod WorkedTomasulo
+pub mod WorkedTimes

@@ -1,5 +1,6 @@
 // Laws of the definitions, each the contract of a function that does nothing.
 ghost use Rattle.smv_oblig.specs.Laws.{NowUsesFall, OutlinesArePlans, ProvedIsSound};
+ghost use Rattle.smv_oblig.specs.WorkedTimes.{TomasuloTimes};
 
 /// The uses that are now hold no cycle.
 pub fn now_uses_fall()
@@ -14,4 +15,9 @@ pub fn outlines_are_plans()
 /// Where no case of any leaf has a violating path, every unit holds at every time of every run, for all sizes.
 pub fn proved_is_sound()
     ensures { ProvedIsSound }
+{}
+
+/// Worked times of uses.
+pub fn worked_times()
+    ensures { TomasuloTimes }
 {}
