@@ -1,5 +1,5 @@
 -- The cone of a case: which elements it keeps.
-use Rattle.std.specs.Prelude.{ℕ, List, [], ◌∷◌, ◌++◌, map, flat_map, filter, zip, take, length, slice_get, Option, Some, None, Bool, true, false, ◌&&◌, ◌||◌, if◌then◌else◌, nat_eq}
+use Rattle.std.specs.Prelude.{ℕ, List, [], ◌∷◌, ◌++◌, map, flat_map, filter, zip, take, length, slice_get, option_to_list, Option, Some, None, Bool, true, false, ◌&&◌, ◌||◌, if◌then◌else◌, nat_eq}
 use Rattle.std.specs.List.{list_any, list_all}
 use Rattle.smv_core.specs.Values.{numbers_from}
 use Rattle.smv_core.specs.Assignments.{Index, fixed, bare, computed}
@@ -74,11 +74,11 @@ module _ (w : World) where
   -- with what the cone of a case begins, where the leaf's parameters stand at these places: with what the target reads, the element of a map if its indexes are numbers and
   -- classes, and what the guards and the assumed claims read
   module _ (o : Outline) (entry : Entry) (params : List Place) where
+    abbrev pub own_elements : Def → List Place → List AbsElement
+    own_elements def indexes = (if list_all is_named indexes then element def.family indexes ∷ [] else []) ++ elements_of_def indexes def
+
     abbrev pub of_target : FlatUnit → List AbsElement
-    of_target (map_of def) = own_element (take (length (over_of (slice_get o.design.families def.family))) params)
-      where
-        own_element : List Place → List AbsElement
-        own_element indexes = (if list_all is_named indexes then element def.family indexes ∷ [] else []) ++ elements_of_def indexes def
+    of_target (map_of def) = own_elements def (take (length (over_of (slice_get o.design.families def.family))) params)
     of_target (claim_of claim) = elements_read claim.body (take (length claim.params) params)
 
     abbrev pub first_elements : List AbsElement
@@ -88,11 +88,7 @@ module _ (w : World) where
 
     -- what the chosen definition of an element reads
     abbrev pub next_elements : AbsElement → List AbsElement
-    next_elements x = by_def (chosen o entry.choice.picks x.family)
-      where
-        by_def : Option Def → List AbsElement
-        by_def None = []
-        by_def (Some def) = elements_of_def x.indexes def
+    next_elements x = flat_map (elements_of_def x.indexes) (option_to_list (chosen o entry.choice.picks x.family))
 
     -- the cone: the elements that are reached, in their order
     abbrev pub cone : List AbsElement

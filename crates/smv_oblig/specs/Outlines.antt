@@ -1,5 +1,5 @@
 -- Outlines of proofs: a design with its units, the leaf of each, and what each leaf's proof uses.
-use Rattle.std.specs.Prelude.{ℕ, suc, List, [], ◌∷◌, map, flat_map, filter, find, length, slice_get, option_to_list, is_none, Option, Some, None, option_map, Bool, true, false, ◌&&◌, ◌||◌, if◌then◌else◌, nat_eq, nat_lt}
+use Rattle.std.specs.Prelude.{ℕ, suc, List, [], ◌∷◌, map, flat_map, filter, find, length, slice_get, option_to_list, option_and_then, is_none, Option, Some, None, option_map, Bool, true, false, ◌&&◌, ◌||◌, if◌then◌else◌, nat_eq, nat_lt}
 use Rattle.smv_core.specs.Values.{numbers_from}
 use Rattle.smv_core.specs.Flat.{Numbered}
 use Rattle.smv_core.specs.declared.flat.Design.{Design}
@@ -55,6 +55,33 @@ earliest (def ∷ defs) = Some (earlier def (earliest defs))
 abbrev pub nothing_claimed : FlatClaim
 nothing_claimed = record { name = []; vars = []; params = []; body = Number 1 0; place = 0; at = 0 }
 
+abbrev pub as_map : Option Def → FlatUnit
+as_map (Some def) = map_of def
+as_map None = claim_of nothing_claimed
+
+abbrev pub as_claim : Option FlatClaim → FlatUnit
+as_claim (Some claim) = claim_of claim
+as_claim None = claim_of nothing_claimed
+
+-- the definition of a unit that is a map, and the claim of one that is a claim
+abbrev pub map_in : FlatUnit → Option Def
+map_in (map_of def) = Some def
+map_in (claim_of claim) = None
+
+abbrev pub claim_in : FlatUnit → Option FlatClaim
+claim_in (map_of def) = None
+claim_in (claim_of claim) = Some claim
+
+-- a definition of this family in this layer
+abbrev pub is_def : ℕ → ℕ → Option Def → Bool
+is_def family layer None = false
+is_def family layer (Some def) = nat_eq def.family family && is_in_layer layer def.layer
+
+-- the claim of this place among the claims
+abbrev pub is_claim : ℕ → Unit → Bool
+is_claim claim (Map def) = false
+is_claim claim (Claim other) = nat_eq other claim
+
 module _ (d : Design) where
   -- what the numbers in the design stand for
   abbrev pub names_of : Numbered
@@ -76,89 +103,55 @@ module _ (d : Design) where
   -- what a unit says
   abbrev pub unit_in : Unit → FlatUnit
   unit_in (Map def) = as_map (slice_get d.defs def)
-    where
-      as_map : Option Def → FlatUnit
-      as_map (Some def) = map_of def
-      as_map None = claim_of nothing_claimed
   unit_in (Claim claim) = as_claim (slice_get d.claims claim)
-    where
-      as_claim : Option FlatClaim → FlatUnit
-      as_claim (Some claim) = claim_of claim
-      as_claim None = claim_of nothing_claimed
 
   -- the map of a family in a layer
   abbrev pub is_map : ℕ → ℕ → Unit → Bool
+  is_map family layer (Map def) = is_def family layer (slice_get d.defs def)
   is_map family layer (Claim claim) = false
-  is_map family layer (Map def) = is_it (slice_get d.defs def)
-    where
-      is_it : Option Def → Bool
-      is_it None = false
-      is_it (Some def) = nat_eq def.family family && is_in_layer layer def.layer
-
--- the claim of this place among the claims
-abbrev pub is_claim : ℕ → Unit → Bool
-is_claim claim (Map def) = false
-is_claim claim (Claim other) = nat_eq other claim
 
 module _ (o : Outline) where
-  -- the unit of a map, by its place; a base definition is none
+  -- the unit of a map, and that of a claim, by its place; a base definition is none
   abbrev pub map_unit : ℕ → ℕ → Option ℕ
   map_unit family layer = place_of (λ entry. is_map o.design family layer entry.unit) o.entries
 
-  -- the unit of a claim, by its place
   abbrev pub claim_unit : ℕ → Option ℕ
   claim_unit claim = place_of (λ entry. is_claim claim entry.unit) o.entries
 
-  -- the unit that a pick names; the base definition of a family and `free` are none
-  abbrev pub picked_unit : Pick → Option ℕ
-  picked_unit p = in_layer p.layer
-    where
-      in_layer : Option ℕ → Option ℕ
-      in_layer None = None
-      in_layer (Some layer) = map_unit p.family layer
-
-  -- the definition of a unit
-  abbrev pub map_at : Option Entry → Option Def
-  map_at None = None
-  map_at (Some entry) = map_in (unit_in o.design entry.unit)
-    where
-      map_in : FlatUnit → Option Def
-      map_in (map_of def) = Some def
-      map_in (claim_of claim) = None
-
-  -- the claim of a unit
-  abbrev pub claim_at : Option Entry → Option FlatClaim
-  claim_at None = None
-  claim_at (Some entry) = claim_in (unit_in o.design entry.unit)
-    where
-      claim_in : FlatUnit → Option FlatClaim
-      claim_in (map_of def) = None
-      claim_in (claim_of claim) = Some claim
+  -- what the unit at a place says
+  abbrev pub said_by : Option Entry → Option FlatUnit
+  said_by None = None
+  said_by (Some entry) = Some (unit_in o.design entry.unit)
 
   -- a claim that is assumed
+  abbrev pub claim_by : Option ℕ → Option FlatClaim
+  claim_by None = None
+  claim_by (Some v) = option_and_then claim_in (said_by (slice_get o.entries v))
+
   abbrev pub assumed : Assumed → Option FlatClaim
-  assumed used = by_unit (claim_unit used.claim)
-    where
-      by_unit : Option ℕ → Option FlatClaim
-      by_unit None = None
-      by_unit (Some v) = claim_at (slice_get o.entries v)
+  assumed used = claim_by (claim_unit used.claim)
 
-  -- the definition that a pick chooses: none where the family is free, else that of the map that it names, or the base definition
-  abbrev pub picked : Pick → Option Def
-  picked p = by_layer p.layer
-    where
-      by_unit : Option ℕ → Option Def
-      by_unit None = base_of o.design p.family
-      by_unit (Some v) = map_at (slice_get o.entries v)
+  -- the definition that a pick of the family chooses: that of the unit which it names, or the base definition; none where the family is free
+  abbrev pub map_by : ℕ → Option ℕ → Option Def
+  map_by family None = base_of o.design family
+  map_by family (Some v) = option_and_then map_in (said_by (slice_get o.entries v))
 
-      by_layer : Option ℕ → Option Def
-      by_layer None = None
-      by_layer (Some layer) = by_unit (map_unit p.family layer)
+  abbrev pub map_in_layer : ℕ → Option ℕ → Option Def
+  map_in_layer family None = None
+  map_in_layer family (Some layer) = map_by family (map_unit family layer)
+
+  -- the unit that it names, if there is one
+  abbrev pub unit_in_layer : ℕ → Option ℕ → Option ℕ
+  unit_in_layer family None = None
+  unit_in_layer family (Some layer) = map_unit family layer
+
+  abbrev pub picked_unit : Pick → Option ℕ
+  picked_unit p = unit_in_layer p.family p.layer
 
   -- the definition of a family that a proof uses: by its pick, and else the base definition
+  abbrev pub map_by_pick : ℕ → Option Pick → Option Def
+  map_by_pick family None = base_of o.design family
+  map_by_pick family (Some p) = map_in_layer p.family p.layer
+
   abbrev pub chosen : List Pick → ℕ → Option Def
-  chosen picks family = by_pick (find (λ p. nat_eq p.family family) picks)
-    where
-      by_pick : Option Pick → Option Def
-      by_pick None = base_of o.design family
-      by_pick (Some p) = picked p
+  chosen picks family = map_by_pick family (find (λ p. nat_eq p.family family) picks)

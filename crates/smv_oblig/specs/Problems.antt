@@ -1,6 +1,7 @@
 -- The problem of a case, and the plan of proof of an outline.
 use Rattle.std.specs.Prelude.{ℕ, suc, List, [], ◌∷◌, ◌++◌, map, flat_map, zip, take, length, slice_get, Option, Some, None, option_to_list, Bool, true, false, ◌&&◌, ◌||◌, if◌then◌else◌, nat_eq}
 use Rattle.std.specs.List.{list_any}
+use Rattle.smv_core.specs.declared.flat.Def.{Def}
 use Rattle.smv_core.specs.declared.flat.Claim.{Claim}
 use Rattle.smv_core.specs.declared.flat.Class.{Class}
 use Rattle.smv_core.specs.declared.flat.Pick.{Pick}
@@ -15,7 +16,7 @@ use Rattle.smv_abs.specs.LeafCases.{treatments_of, parameters_of}
 use Rattle.smv_abs.specs.Covers.{types_at, places_at}
 use Rattle.smv_abs.specs.Obligations.{Demanded, defined, holds, Problem}
 use Rattle.smv_abs.specs.Soundness.{FlatUnit, map_of, claim_of, params_of, said_at, LeafProof, Plan}
-use Rattle.smv_oblig.specs.Outlines.{Entry, Outline, names_of, bases, unit_in, claim_unit, picked_unit, assumed, chosen}
+use Rattle.smv_oblig.specs.Outlines.{Entry, Outline, names_of, bases, unit_in, map_in, claim_unit, picked_unit, assumed, chosen}
 use Rattle.smv_oblig.specs.Times.{graph, timed}
 use Rattle.smv_oblig.specs.Cones.{AbsElement, element, same_element, cone, kept}
 
@@ -55,13 +56,13 @@ module _ (o : Outline) (entry : Entry) (times : Timed) (w : World) (own : List P
   element_demands time x =
       if is_at (family_time entry.choice.picks times.picks x.family) time then map (λ def. defined def x.indexes) (option_to_list (chosen o entry.choice.picks x.family)) else []
 
+  abbrev pub own_demands : AbsElement → Option Def → List Demanded
+  own_demands x None = []
+  own_demands x (Some def) = if same_element (element def.family own) x then defined def x.indexes ∷ [] else []
+
   -- where a map uses itself, its definition of the target's element holds before
   abbrev pub itself_demands : Timing → AbsElement → List Demanded
-  itself_demands time x = if is_at time Before && entry.choice.itself then of_unit (unit_in o.design entry.unit) else []
-    where
-      of_unit : FlatUnit → List Demanded
-      of_unit (map_of def) = if same_element (element def.family own) x then defined def x.indexes ∷ [] else []
-      of_unit (claim_of claim) = []
+  itself_demands time x = if is_at time Before && entry.choice.itself then own_demands x (map_in (unit_in o.design entry.unit)) else []
 
   -- the instances of an assumed claim at numbers and classes
   abbrev pub instances : Option Claim → List Demanded
@@ -97,19 +98,20 @@ abbrev pub names_unit : ℕ → Option ℕ → Bool
 names_unit v None = false
 names_unit v (Some other) = nat_eq other v
 
--- the leaf of the unit at this place uses another unit at this time
-abbrev pub uses_at : Outline → Timing → ℕ → ℕ → Bool
-uses_at o time u v = by_entry (slice_get o.entries u)
-  where
-    by_times : Entry → Timed → Bool
-    by_times entry times =
-        list_any (λ (p, t). is_at t time && names_unit v (picked_unit o p)) (zip entry.choice.picks times.picks)
-        || (list_any (λ (used, t). is_at t time && names_unit v (claim_unit o used.claim)) (zip entry.choice.claims times.claims)
-        || (is_at time Before && entry.choice.itself && nat_eq u v))
+module _ (o : Outline) where
+  -- the leaf of the unit at this place uses another unit at this time, by a pick, by a claim, or by itself
+  abbrev pub entry_uses : Entry → Timed → Timing → ℕ → ℕ → Bool
+  entry_uses entry times time u v =
+      list_any (λ (p, t). is_at t time && names_unit v (picked_unit o p)) (zip entry.choice.picks times.picks)
+      || (list_any (λ (used, t). is_at t time && names_unit v (claim_unit o used.claim)) (zip entry.choice.claims times.claims)
+      || (is_at time Before && (entry.choice.itself && nat_eq u v)))
 
-    by_entry : Option Entry → Bool
-    by_entry None = false
-    by_entry (Some entry) = by_times entry (timed o (graph o) u entry)
+  abbrev pub used_by : Timing → ℕ → ℕ → Option Entry → Bool
+  used_by time u v None = false
+  used_by time u v (Some entry) = entry_uses entry (timed o (graph o) u entry) time u v
+
+  abbrev pub uses_at : Timing → ℕ → ℕ → Bool
+  uses_at time u v = used_by time u v (slice_get o.entries u)
 
 -- the proof of a leaf
 abbrev pub proof_of : Outline → ℕ → Entry → LeafProof
