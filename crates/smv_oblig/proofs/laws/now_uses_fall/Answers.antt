@@ -1,5 +1,8 @@
-use Rattle.smv_oblig.proofs.OutlineFacts.{assumed-comes}
+use Rattle.std.proofs.Common.{length}
+use Rattle.smv_abs.specs.Uses.{rank_of}
+use Rattle.smv_oblig.specs.Times.{graph, has_edge}
+use Rattle.smv_oblig.proofs.UsesFall.{uses_fall}
 use Rattle.smv_oblig.proofs.laws.now_uses_fall.Goals as goal
 
 pub returns : goal.returns
-returns c = ?
+returns c o = (rank_of (has_edge (graph o)) (length (graph o)), uses_fall o)
