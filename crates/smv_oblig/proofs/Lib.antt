@@ -1,3 +1,6 @@
 pub mod Lookups
 pub mod OutlineFacts
 pub mod UsesFall
+pub mod CasePlaces
+pub mod ConeFacts
+pub mod Granted

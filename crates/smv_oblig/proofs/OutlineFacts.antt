@@ -57,7 +57,7 @@ bases-are d def h = let r = Has-from_flat_map (λ family. option_to_list (base_o
     let b = base-is d r.0 def (Has-option (base_of d r.0) r.2) in b.is_def_of
 
 -- units
-map_in-is : (unit : FlatUnit) (def : Def) → map_in unit ≡ Some def → unit ≡ map_of def
+pub map_in-is : (unit : FlatUnit) (def : Def) → map_in unit ≡ Some def → unit ≡ map_of def
 map_in-is (map_of other) def e = ap map_of (inner e)
 map_in-is (claim_of claim) def e = absurd (cc)
 

@@ -32,7 +32,7 @@ names-is : (v : ℕ) (ov : Option ℕ) → names_unit v ov ≡ true → ov ≡ S
 names-is v None e = absurd (cc)
 names-is v (Some other) e = ap Some (nat_eq-is other v e)
 
-at-is : (s t : Timing) → is_at s t ≡ true → s ≡ t
+pub at-is : (s t : Timing) → is_at s t ≡ true → s ≡ t
 at-is Now Now e = refl
 at-is Before Before e = refl
 at-is Now Before e = absurd (cc)
