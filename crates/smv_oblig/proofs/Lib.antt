@@ -4,3 +4,4 @@ pub mod UsesFall
 pub mod CasePlaces
 pub mod ConeFacts
 pub mod Granted
+pub mod Plans

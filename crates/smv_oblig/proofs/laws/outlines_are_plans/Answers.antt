@@ -1,7 +1,5 @@
-use Rattle.smv_oblig.proofs.CasePlaces.{case_places}
-use Rattle.smv_oblig.proofs.ConeFacts.{own_kept}
-use Rattle.smv_oblig.proofs.Granted.{granted}
+use Rattle.smv_oblig.proofs.Plans.{is_plan}
 use Rattle.smv_oblig.proofs.laws.outlines_are_plans.Goals as goal
 
 pub returns : goal.returns
-returns c = ?
+returns c o checked = is_plan o checked

@@ -1,0 +1,177 @@
+-- The reading of an outline is a plan of proof.
+use Rattle.std.proofs.Common.{◌≡◌, ℕ, zero, suc, ◌+◌, ◌-◌, ◌<◌, ◌≤◌, List, [], ◌∷◌, ◌++◌, map, length, take, get_or, Bool, true, false, if◌then◌else◌, refl, sym, ap, subst, ◌∙◌, inl, inr, Option, Some, None, IfSome, arith}
+use Rattle.std.specs.List.{slice_get, list_all}
+use Rattle.smv_core.specs.Values.{Name, Value, number, constant, scalar, ordinal, Sizes, values_of, numbers_from}
+use Rattle.smv_core.specs.Flat.{Numbered, set_type}
+use Rattle.smv_core.specs.declared.flat.Design.{Design}
+use Rattle.smv_core.specs.declared.flat.Simple.{Simple}
+use Rattle.smv_core.specs.declared.flat.Simple.TheVariants.{Range, Enum, Set}
+use Rattle.smv_core.specs.declared.flat.SetInfo.{SetInfo}
+use Rattle.smv_core.specs.declared.flat.Family.{Family}
+use Rattle.smv_core.specs.declared.flat.Def.{Def}
+use Rattle.smv_core.specs.declared.flat.Claim.{Claim as FlatClaim}
+use Rattle.smv_core.specs.declared.flat.Unit.{Unit}
+use Rattle.smv_core.specs.declared.flat.Unit.TheVariants.{Map, Claim}
+use Rattle.smv_core.specs.declared.flat.Param.{Param}
+use Rattle.smv_core.specs.declared.flat.Keep.{Keep}
+use Rattle.smv_core.specs.declared.flat.Guard.{Guard}
+use Rattle.smv_core.specs.declared.flat.Class.{Class}
+use Rattle.smv_core.specs.declared.flat.Timing.TheVariants.{Now, Before}
+use Rattle.smv_abs.specs.Sets.{Has, first, later}
+use Rattle.smv_abs.specs.Places.{Place, is_named, places_in}
+use Rattle.smv_abs.specs.Cases.{Parameter, cases}
+use Rattle.smv_abs.specs.LeafCases.{kept_of, treatment_of, treatments_of, stays}
+use Rattle.smv_abs.specs.Covers.{IsTreated, AreTreated, IsIndexType}
+use Rattle.smv_abs.specs.Soundness.{FlatUnit, map_of, claim_of, LeafProof, at_sizes, AreSizes, over_of, params_of, HasValue, IsKept, IsCase, IsDefinition, IsUnit, IsLeaf, IsSized, IsPlan}
+use Rattle.smv_abs.specs.Uses.{rank_of}
+use Rattle.smv_abs.proofs.Members.{Has-map, Has-from_map}
+use Rattle.smv_abs.proofs.Spots.{Has-numbers}
+use Rattle.smv_abs.proofs.OneOfEach.{AreOf, one_of, map_joined, map_long, get_Has, Has_get}
+use Rattle.smv_abs.proofs.CoverParams.{map-map}
+use Rattle.smv_abs.proofs.CoverScalarsets.{named_set}
+use Rattle.smv_oblig.specs.Outlines.{Entry, Outline, names_of, as_map, as_claim, bases, unit_in}
+use Rattle.smv_oblig.specs.Times.{graph, has_edge, timed}
+use Rattle.smv_oblig.specs.Problems.{leaf_params, leaf_treatments, world_of, params_at, own_params, problem_of, proof_of, proofs_from, plan_of}
+use Rattle.smv_oblig.specs.Checked.{IsFilled, IsSplit, IsChecked}
+use Rattle.smv_oblig.proofs.Lookups.{inner}
+use Rattle.smv_oblig.proofs.OutlineFacts.{bases-are, unit-def}
+use Rattle.smv_oblig.proofs.UsesFall.{uses_fall}
+use Rattle.smv_oblig.proofs.CasePlaces.{IsThere, case_places, treatment_there, take_of, named_there}
+use Rattle.smv_oblig.proofs.ConeFacts.{AreIndexes, keeps_named, own_kept}
+use Rattle.smv_oblig.proofs.Granted.{proofs-are, granted}
+
+-- a set type may be treated as it is
+is_treated : (is_ordered : Bool) (declared : Option ℕ) (kept : Option (List ℕ)) (size : ℕ) → IfSome declared (λ n. size ≡ n) → IsTreated is_ordered size (treatment_of is_ordered declared kept)
+is_treated true declared kept size e = tt
+is_treated false None kept size e = tt
+is_treated false (Some n) None size e = sym e
+is_treated false (Some n) (Some vars) size e = sym e
+
+are_treated : (sizes : Sizes) (keeps : List Keep) (k : ℕ) (sets : List SetInfo) → ((info : SetInfo) → Has sets info → IfSome info.size (λ n. sizes info.name ≡ n)) → AreTreated sizes sets (treatments_of keeps k sets)
+are_treated sizes keeps k [] each = tt
+are_treated sizes keeps k (info ∷ sets) each =
+    (is_treated info.ordered info.size (kept_of keeps k) (sizes info.name) (each info first), are_treated sizes keeps (k + 1) sets (λ other h. each other (later h)))
+
+-- a set type of a declared size has that size
+sized : (n : Numbered) (sizes : Sizes) → AreSizes n sizes → (name : Name) (is_ordered : Bool) (declared : Option ℕ) →
+    Has n.sets (record { name = name; ordered = is_ordered; size = declared }) → IfSome declared (λ size. sizes name ≡ size)
+sized n sizes each name is_ordered None h = tt
+sized n sizes each name is_ordered (Some size) h = (each (record { name = name; ordered = is_ordered; size = Some size }) h).1
+
+-- a type that is not empty has a value
+set_value : (sizes : Sizes) (is_ordered : Bool) (name : Name) → 0 < sizes name → (v : Value) × Has (values_of sizes (named_set is_ordered name)) v
+set_value sizes true name l = (ordinal name 0, Has-map (ordinal name) (Has-numbers 0 (sizes name) 0 (omega arith) (omega (arith, l))))
+set_value sizes false name l = (scalar name 0, Has-map (scalar name) (Has-numbers 0 (sizes name) 0 (omega arith) (omega (arith, l))))
+
+filled_value : (d : Design) (sizes : Sizes) → AreSizes (names_of d) sizes → (t : Simple) → IsFilled d t → HasValue (at_sizes (names_of d) sizes) t
+filled_value d sizes each (Range low high) l = (number low, Has-map number (Has-numbers low (high + 1 - low) low (omega arith) (omega (arith, l))))
+filled_value d sizes each (Enum list) f = (constant f.0, Has-map constant f.1)
+filled_value d sizes each (Set set) f =
+    subst (λ o. (v : Value) × Has (values_of sizes (set_type o)) v) (sym f.1) (set_value sizes f.0.ordered f.0.name (each f.0 (get_Has d.sets set f.0 f.1)).0)
+
+filled_there : (d : Design) (t : Simple) → IsFilled d t → IsThere d.sets t
+filled_there d (Range low high) f = tt
+filled_there d (Enum list) f = tt
+filled_there d (Set set) f = f
+
+module _ (o : Outline) (checked : IsChecked o) where
+  as_map-is : (od : Option Def) (k : ℕ) → slice_get o.design.defs k ≡ od → IsUnit (plan_of o) (as_map od)
+  as_map-is None k e = tt
+  as_map-is (Some def) k e = checked.are_definitions def (get_Has o.design.defs k def e)
+
+  as_claim-is : (oc : Option FlatClaim) (k : ℕ) → slice_get o.design.claims k ≡ oc → IsUnit (plan_of o) (as_claim oc)
+  as_claim-is None k e = tt
+  as_claim-is (Some claim) k e = checked.are_whole claim (get_Has o.design.claims k claim e)
+
+  unit-is : (unit : Unit) → IsUnit (plan_of o) (unit_in o.design unit)
+  unit-is (Map k) = as_map-is (slice_get o.design.defs k) k refl
+  unit-is (Claim k) = as_claim-is (slice_get o.design.claims k) k refl
+
+  abbrev parameter : Entry → Param → Parameter
+  parameter entry p = record { over = p.over; listed = stays entry.choice.keeps p.over p.var }
+
+  types_are : (entry : Entry) → map (λ p. p.over) (leaf_params entry) ≡ map (λ p. p.over) entry.leaf.params
+  types_are entry = map-map (λ p. p.over) (parameter entry) entry.leaf.params
+
+  index_types : (entry : Entry) → IsSplit o entry → (p : Parameter) → Has (leaf_params entry) p → IsIndexType p.over
+  index_types entry split p h = let r = Has-from_map (parameter entry) entry.leaf.params h in subst (λ (p : Parameter). IsIndexType p.over) (sym r.2) (split.are_index_types r.0 r.1)
+
+  filled_types : (entry : Entry) → IsSplit o entry → (p : Parameter) → Has (leaf_params entry) p → IsFilled o.design p.over
+  filled_types entry split p h = let r = Has-from_map (parameter entry) entry.leaf.params h in subst (λ (p : Parameter). IsFilled o.design p.over) (sym r.2) (split.are_filled r.0 r.1)
+
+  leaf-is : (u : ℕ) (entry : Entry) → IsSplit o entry → IsLeaf (plan_of o) (proof_of o u entry)
+  leaf-is u entry split = record {
+    is_unit = unit-is entry.unit;
+    added = split.added;
+    are_params = types_are entry ∙ split.are_params;
+    are_index_types = index_types entry split;
+    is_added = split.is_added;
+    is_of_type = λ g h. ap (λ types. slice_get types g.var) (types_are entry) ∙ split.is_of_type g h;
+    reads_before = split.reads_before;
+    one_each = split.one_each;
+  }
+
+  -- the target of a map at numbers and classes is kept
+  module _ (u : ℕ) (entry : Entry) (split : IsSplit o entry) (classes : List Class) (is_case : Has (cases (leaf_treatments o entry) (leaf_params entry)) classes) where
+    own_are : (def : Def) → unit_in o.design entry.unit ≡ map_of def → (own : List Place) → take (length (over_of (slice_get o.design.families def.family))) (params_at o entry classes) ≡ own →
+        list_all is_named own ≡ true → AreIndexes (world_of o entry classes) def.family own
+    own_are def is_map own is_own named =
+        let w = world_of o entry classes in
+        let over = over_of (slice_get o.design.families def.family) in
+        let are : AreOf (map (places_in w) (map (λ p. p.over) (leaf_params entry))) (params_at o entry classes) =
+        case_places (names_of o.design) (leaf_treatments o entry) (leaf_params entry) classes checked.are_apart (treatment_there entry.choice.keeps 0 o.design.sets) is_case
+        (index_types entry split) (λ p h. filled_there o.design p.over (filled_types entry split p h)) in
+        let types : map (λ p. p.over) (leaf_params entry) ≡ over ++ split.added = types_are entry ∙ (split.are_params ∙ ap (λ unit. params_of (names_of o.design) unit ++ split.added) is_map) in
+        let front : AreOf (map (places_in w) over ++ map (places_in w) split.added) (params_at o entry classes) =
+        subst (λ xss. AreOf xss (params_at o entry classes)) (map_joined (places_in w) over split.added) (subst (λ ts. AreOf (map (places_in w) ts) (params_at o entry classes)) types are) in
+        let taken : AreOf (map (places_in w) over) own =
+        subst (AreOf (map (places_in w) over)) (ap (λ k. take k (params_at o entry classes)) (map_long (places_in w) over) ∙ is_own) (take_of (map (places_in w) over) (map (places_in w) split.added) (params_at o entry classes) front) in
+        one_of _ own (named_there w over own taken named)
+
+    target_kept : (unit : FlatUnit) → unit_in o.design entry.unit ≡ unit → (own : List Place) → take (length (params_of (names_of o.design) unit)) (params_at o entry classes) ≡ own →
+        list_all is_named own ≡ true → IsKept (problem_of o entry (timed o (graph o) u entry) classes) unit own
+    target_kept (claim_of claim) e own is_own named = tt
+    target_kept (map_of def) e own is_own named =
+        let k = unit-def o.design entry.unit def e in
+        let d = checked.are_definitions def (get_Has o.design.defs k.0 def k.2) in
+        own_kept (world_of o entry classes) o entry (params_at o entry classes) def e d.family d.is_family own is_own (own_are def e own is_own named) named
+
+    case-is : slice_get o.entries u ≡ Some entry → IsCase (plan_of o) u (proof_of o u entry) classes (problem_of o entry (timed o (graph o) u entry) classes)
+    case-is there = record {
+      is_world = refl;
+      are_params = refl;
+      keeps_named = keeps_named (world_of o entry classes) o entry (params_at o entry classes);
+      is_target = refl;
+      keeps_target = target_kept (unit_in o.design entry.unit) refl (own_params o entry classes) refl;
+      are_guards = refl;
+      now = granted o u entry there classes Now;
+      before = granted o u entry there classes Before;
+    }
+
+  from_leaf : (P : LeafProof → Type 0) → ((u : ℕ) (entry : Entry) → slice_get o.entries u ≡ Some entry → P (proof_of o u entry)) → (leaf : LeafProof) → Has (proofs_from o 0 o.entries) leaf → P leaf
+  from_leaf P each leaf h = let g = Has_get h in let r = proofs-are o 0 g.0 o.entries g.0 leaf (omega arith) g.1 in subst P r.2 (each g.0 r.0 r.1)
+
+  split-is : (u : ℕ) (entry : Entry) → slice_get o.entries u ≡ Some entry → IsSplit o entry
+  split-is u entry e = checked.are_split entry (get_Has o.entries u entry e)
+
+  sized-is : (sizes : Sizes) → AreSizes (names_of o.design) sizes → IsSized (plan_of o) sizes
+  sized-is sizes each = record {
+    families_have_values = λ f h. filled_value o.design sizes each f.value (checked.are_filled f h);
+    params_have_values = from_leaf (λ leaf. (p : Parameter) → Has leaf.params p → HasValue (at_sizes (names_of o.design) sizes) p.over)
+        (λ u entry e p h. filled_value o.design sizes each p.over (filled_types entry (split-is u entry e) p h));
+    are_treated = from_leaf (λ leaf. AreTreated sizes o.design.sets leaf.treatments)
+        (λ u entry e. are_treated sizes entry.choice.keeps 0 o.design.sets (λ info h. sized (names_of o.design) sizes each info.name info.ordered info.size h));
+  }
+
+  pub is_plan : IsPlan (plan_of o)
+  is_plan = record {
+    base = λ def h. checked.are_definitions def (bases-are o.design def h);
+    leaves = from_leaf (IsLeaf (plan_of o)) (λ u entry e. leaf-is u entry (split-is u entry e));
+    order = rank_of (has_edge (graph o)) (length (graph o));
+    falls = uses_fall o;
+    are_cases = λ u leaf e classes h. let r = proofs-are o 0 u o.entries u leaf (omega arith) e in
+        subst (λ leaf. Has (cases leaf.treatments leaf.params) classes → IsCase (plan_of o) u leaf classes (leaf.problem classes)) r.2
+        (λ h. case-is u r.0 (split-is u r.0 r.1) classes h r.1) h;
+    are_apart = checked.are_apart;
+    at_each = sized-is;
+  }
