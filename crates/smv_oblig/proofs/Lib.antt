@@ -5,3 +5,4 @@ pub mod CasePlaces
 pub mod ConeFacts
 pub mod Granted
 pub mod Plans
+pub mod Sound

@@ -148,7 +148,8 @@ module _ (o : Outline) (checked : IsChecked o) where
       before = granted o u entry there classes Before;
     }
 
-  from_leaf : (P : LeafProof → Type 0) → ((u : ℕ) (entry : Entry) → slice_get o.entries u ≡ Some entry → P (proof_of o u entry)) → (leaf : LeafProof) → Has (proofs_from o 0 o.entries) leaf → P leaf
+  -- what holds of each leaf of the outline holds of each of the plan
+  pub from_leaf : (P : LeafProof → Type 0) → ((u : ℕ) (entry : Entry) → slice_get o.entries u ≡ Some entry → P (proof_of o u entry)) → (leaf : LeafProof) → Has (proofs_from o 0 o.entries) leaf → P leaf
   from_leaf P each leaf h = let g = Has_get h in let r = proofs-are o 0 g.0 o.entries g.0 leaf (omega arith) g.1 in subst P r.2 (each g.0 r.0 r.1)
 
   split-is : (u : ℕ) (entry : Entry) → slice_get o.entries u ≡ Some entry → IsSplit o entry

@@ -1,6 +1,7 @@
 -- What the passes before the search give of an outline.
-use Rattle.std.specs.Prelude.{◌≡◌, ◌≤◌, ℕ, List, [], ◌++◌, map, length, get_or, slice_get, Some}
-use Rattle.smv_core.specs.Values.{Name}
+use Rattle.std.specs.Prelude.{◌≡◌, ◌≤◌, ℕ, List, [], ◌++◌, map, length, get_or, slice_get, Some, None, true, false}
+use Rattle.smv_core.specs.Values.{Name, Value, Sizes}
+use Rattle.smv_core.specs.Flat.{Numbered, FlatState}
 use Rattle.smv_core.specs.declared.flat.Design.{Design}
 use Rattle.smv_core.specs.declared.flat.Simple.{Simple}
 use Rattle.smv_core.specs.declared.flat.Simple.TheVariants.{Range, Enum, Set}
@@ -10,13 +11,20 @@ use Rattle.smv_core.specs.declared.flat.Def.{Def}
 use Rattle.smv_core.specs.declared.flat.Claim.{Claim}
 use Rattle.smv_core.specs.declared.flat.Param.{Param}
 use Rattle.smv_core.specs.declared.flat.Guard.{Guard}
+use Rattle.smv_core.specs.declared.flat.Class.{Class}
 use Rattle.smv_abs.specs.Sets.{Has}
 use Rattle.smv_abs.specs.Covers.{AreApart, IsIndexType}
 use Rattle.smv_abs.specs.Scopes.{ReadsOnly, before}
 use Rattle.smv_abs.specs.Whole.{IsWhole}
-use Rattle.smv_abs.specs.Soundness.{params_of, IsDefinition}
-use Rattle.smv_oblig.specs.Outlines.{Entry, Outline, names_of, unit_in}
-use Rattle.smv_oblig.specs.Problems.{plan_of}
+use Rattle.smv_abs.specs.May.{AbsState}
+use Rattle.smv_abs.specs.Pictures.{IsAbsState}
+use Rattle.smv_abs.specs.Circular.{always, is_violating}
+use Rattle.smv_abs.specs.Obligations.{Problem, obligation}
+use Rattle.smv_abs.specs.LeafCases.{leaf_cases}
+use Rattle.smv_abs.specs.Soundness.{FlatUnit, at_sizes, AreSizes, params_of, values_over, is_held, IsRun, IsDefinition}
+use Rattle.smv_oblig.specs.Outlines.{Entry, Outline, names_of, bases, unit_in}
+use Rattle.smv_oblig.specs.Times.{graph, timed}
+use Rattle.smv_oblig.specs.Problems.{problem_of, plan_of}
 
 -- a type that is not empty: a range from low to high, an enumeration with a constant, or a set type of the design
 abbrev pub IsFilled : Design → Simple → Type 0
@@ -45,3 +53,17 @@ module _ (o : Outline) where
     pub are_whole : (claim : Claim) → Has o.design.claims claim → IsWhole o.design.families claim.body
     pub are_definitions : (def : Def) → Has o.design.defs def → IsDefinition (plan_of o) def
     pub are_split : (entry : Entry) → Has o.entries entry → IsSplit entry
+
+-- no case of any leaf has a violating path of abstract states
+abbrev pub IsProved : Outline → Type 0
+IsProved o = (u : ℕ) (entry : Entry) → slice_get o.entries u ≡ Some entry → (classes : List Class) → Has (leaf_cases o.design.sets entry.leaf.params entry.choice.keeps) classes → HasNone (problem_of o entry (timed o (graph o) u entry) classes)
+  where
+    HasNone : Problem → Type 0
+    HasNone p = (path : List AbsState) → ((a : AbsState) → Has path a → IsAbsState p.world p.kept a) → is_violating (obligation p) path ≡ false
+
+-- every instance of every unit holds at every time of every run, for all sizes
+abbrev pub IsSound : Outline → Type 0
+IsSound o = (sizes : Sizes) → AreSizes (names_of o.design) sizes → (run : List FlatState) → IsRun (at_sizes (names_of o.design) sizes) (bases o.design) run → (entry : Entry) → Has o.entries entry → Holds (at_sizes (names_of o.design) sizes) run (unit_in o.design entry.unit)
+  where
+    Holds : Numbered → List FlatState → FlatUnit → Type 0
+    Holds n run unit = (values : List Value) → Has (values_over n (params_of n unit)) values → always (is_held n unit values) None run ≡ true

@@ -51,9 +51,12 @@ module _ (w : World) where
   elements = flat_map elements_of (numbers_from 0 (length w.classes.families))
 
   -- the elements that a reference reads
+  abbrev pub elements_in : ℕ → List Index → List Place → Option Family → List AbsElement
+  elements_in family indexes b None = []
+  elements_in family indexes b (Some f) = map (element family) (one_of_each (map (λ (t, i). index_places b (named_in w t) i) (zip f.over indexes)))
+
   abbrev pub elements_at : ℕ → List Index → List Place → List AbsElement
-  elements_at family indexes b =
-      map (element family) (one_of_each (map (λ (t, i). index_places b (named_in w t) i) (zip (over_of (slice_get w.classes.families family)) indexes)))
+  elements_at family indexes b = elements_in family indexes b (slice_get w.classes.families family)
 
   -- those that an expression reads where its variables are bound to these places
   abbrev pub elements_read : FlatExpr → List Place → List AbsElement

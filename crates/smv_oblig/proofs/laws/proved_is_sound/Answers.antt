@@ -1,7 +1,5 @@
-use Rattle.smv_abs.proofs.Joined.{sound}
-use Rattle.smv_oblig.specs.Problems.{plan_of}
-use Rattle.smv_oblig.proofs.Plans.{is_plan}
+use Rattle.smv_oblig.proofs.Sound.{proved_is_sound}
 use Rattle.smv_oblig.proofs.laws.proved_is_sound.Goals as goal
 
 pub returns : goal.returns
-returns c o checked none sizes are_sizes run is_run leaf is_leaf values are_values = sound (plan_of o) (is_plan o checked) none sizes are_sizes run is_run leaf is_leaf values are_values
+returns c o checked proved sizes are_sizes run is_run entry h values are_values = proved_is_sound o checked proved sizes are_sizes run is_run entry h values are_values
