@@ -8,3 +8,5 @@ pub mod Checked
 pub mod Laws
 pub mod WorkedTomasulo
 pub mod WorkedTimes
+pub mod WorkedOutlines
+pub mod WorkedCones

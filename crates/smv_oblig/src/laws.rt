@@ -1,6 +1,7 @@
 // Laws of the definitions, each the contract of a function that does nothing.
 ghost use Rattle.smv_oblig.specs.Laws.{NowUsesFall, OutlinesArePlans, ProvedIsSound};
-ghost use Rattle.smv_oblig.specs.WorkedTimes.{TomasuloTimes};
+ghost use Rattle.smv_oblig.specs.WorkedTimes.{TomasuloTimes, ClaimTimes, MapTimes};
+ghost use Rattle.smv_oblig.specs.WorkedCones.{IndexedBySignals, RestsReadAsAll, FollowsIndexes, PicksCut, OtherConstants, TargetsAtRests, TomasuloCones};
 
 /// The uses that are now hold no cycle.
 pub fn now_uses_fall()
@@ -17,7 +18,20 @@ pub fn proved_is_sound()
     ensures { ProvedIsSound }
 {}
 
-/// Worked times of uses.
+/// Worked times of uses: of the Tomasulo machine, of claims that assume one another, and of two maps that use each other.
 pub fn worked_times()
-    ensures { TomasuloTimes }
+    ensures tomasulo { TomasuloTimes }
+    ensures claims { ClaimTimes }
+    ensures maps { MapTimes }
+{}
+
+/// Worked cones: indexes that are signals, rests, variables, picks, constants, a map at a rest, and the Tomasulo machine.
+pub fn worked_cones()
+    ensures signals { IndexedBySignals }
+    ensures rests { RestsReadAsAll }
+    ensures indexes { FollowsIndexes }
+    ensures picks { PicksCut }
+    ensures constants { OtherConstants }
+    ensures at_rests { TargetsAtRests }
+    ensures tomasulo { TomasuloCones }
 {}
