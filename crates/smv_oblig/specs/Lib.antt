@@ -10,3 +10,4 @@ pub mod WorkedTomasulo
 pub mod WorkedTimes
 pub mod WorkedOutlines
 pub mod WorkedCones
+pub mod WorkedProblems

@@ -2,6 +2,7 @@
 ghost use Rattle.smv_oblig.specs.Laws.{NowUsesFall, OutlinesArePlans, ProvedIsSound};
 ghost use Rattle.smv_oblig.specs.WorkedTimes.{TomasuloTimes, ClaimTimes, MapTimes};
 ghost use Rattle.smv_oblig.specs.WorkedCones.{IndexedBySignals, RestsReadAsAll, FollowsIndexes, PicksCut, OtherConstants, TargetsAtRests, TomasuloCones};
+ghost use Rattle.smv_oblig.specs.WorkedProblems.{SplitHelps, ClaimsAssumeEachOther, MapsBefore, MapsNowAndBefore, WrittenIndex, TomasuloDemands};
 
 /// The uses that are now hold no cycle.
 pub fn now_uses_fall()
@@ -34,4 +35,14 @@ pub fn worked_cones()
     ensures constants { OtherConstants }
     ensures at_rests { TargetsAtRests }
     ensures tomasulo { TomasuloCones }
+{}
+
+/// Worked problems: leaves whose cases have, or have not, a violating path, and the demands of two leaves of the Tomasulo machine.
+pub fn worked_problems()
+    ensures split { SplitHelps }
+    ensures claims { ClaimsAssumeEachOther }
+    ensures maps { MapsBefore }
+    ensures now_and_before { MapsNowAndBefore }
+    ensures written { WrittenIndex }
+    ensures demands { TomasuloDemands }
 {}
