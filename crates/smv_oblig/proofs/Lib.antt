@@ -6,3 +6,4 @@ pub mod ConeFacts
 pub mod Granted
 pub mod Plans
 pub mod Sound
+pub mod Least

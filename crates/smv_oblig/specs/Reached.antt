@@ -1,6 +1,7 @@
 -- What is reached from some members along edges: the least set that has these members and, with each member, those that follow it.
-use Rattle.std.specs.Prelude.{ℕ, zero, suc, List, [], ◌∷◌, ◌++◌, slice_get, Option, Some, None, Bool, if◌then◌else◌}
+use Rattle.std.specs.Prelude.{◌≡◌, ℕ, zero, suc, List, [], ◌∷◌, ◌++◌, slice_get, Option, Some, None, Bool, true, if◌then◌else◌}
 use Rattle.std.specs.List.{list_any}
+use Rattle.smv_abs.specs.Sets.{Has}
 
 module _ {X : Type 0} (same : X → X → Bool) (next : X → List X) where
   -- one of these
@@ -25,3 +26,9 @@ module _ {X : Type 0} (same : X → X → Bool) (next : X → List X) where
   -- what is reached from these, where it has at most so many members
   abbrev pub reached : ℕ → List X → List X
   reached count from = in_turn count 0 (with_all [] from)
+
+-- the least set that has these members and, with each member, those that follow it
+pub record IsLeast {X : Type 0} (next : X → List X) (from set : List X) : Type 0 where
+  pub begins : (x : X) → Has from x → Has set x
+  pub goes_on : (x y : X) → Has set x → Has (next x) y → Has set y
+  pub is_least : (other : X → Bool) → ((x : X) → Has from x → other x ≡ true) → ((x y : X) → other x ≡ true → Has (next x) y → other y ≡ true) → (x : X) → Has set x → other x ≡ true

@@ -1,8 +1,13 @@
 // Laws of the definitions, each the contract of a function that does nothing.
-ghost use Rattle.smv_oblig.specs.Laws.{NowUsesFall, OutlinesArePlans, ProvedIsSound};
+ghost use Rattle.smv_oblig.specs.Laws.{ReachedIsLeast, NowUsesFall, OutlinesArePlans, ProvedIsSound};
 ghost use Rattle.smv_oblig.specs.WorkedTimes.{TomasuloTimes, ClaimTimes, MapTimes};
 ghost use Rattle.smv_oblig.specs.WorkedCones.{IndexedBySignals, RestsReadAsAll, FollowsIndexes, PicksCut, OtherConstants, TargetsAtRests, TomasuloCones};
 ghost use Rattle.smv_oblig.specs.WorkedProblems.{SplitHelps, ClaimsAssumeEachOther, MapsBefore, MapsNowAndBefore, WrittenIndex, TomasuloDemands};
+
+/// What is reached from some members is the least set that has them and, with each member, those that follow it.
+pub fn reached_is_least<X>()
+    ensures { ReachedIsLeast X }
+{}
 
 /// The uses that are now hold no cycle.
 pub fn now_uses_fall()
