@@ -18,9 +18,9 @@ use Rattle.smv_abs.proofs.Members.{Has-cases, Has-from_map, any-found}
 use Rattle.smv_abs.proofs.Same.{nat_eq-itself}
 use Rattle.smv_abs.proofs.OneOfEach.{Has-from_flat_map}
 use Rattle.smv_oblig.specs.Outlines.{Entry, Outline, names_of, bases, unit_in, map_in, claim_unit, picked_unit, assumed, chosen}
-use Rattle.smv_oblig.specs.Times.{graph, same_time, pick_time, claim_time, timed}
+use Rattle.smv_oblig.specs.Times.{is_unit, graph, same_time, pick_time, claim_time, timed}
 use Rattle.smv_oblig.specs.Cones.{AbsElement, element, same_element, cone, kept}
-use Rattle.smv_oblig.specs.Problems.{is_at, family_time, world_of, params_at, own_params, element_demands, own_demands, itself_demands, instances, claim_demands, demands, problem_of, names_unit, entry_uses, used_by, uses_at, proof_of, proofs_from, plan_of}
+use Rattle.smv_oblig.specs.Problems.{is_at, family_time, world_of, params_at, own_params, element_demands, own_demands, itself_demands, instances, claim_demands, demands, problem_of, entry_uses, used_by, uses_at, proof_of, proofs_from, plan_of}
 use Rattle.smv_oblig.proofs.Lookups.{none_or_some, inner, Has-option, Has-tested, find-some, Has-zip}
 use Rattle.smv_oblig.proofs.OutlineFacts.{Says, Comes, from_base, from_unit, map_in-is, chosen-comes, assumed-comes}
 use Rattle.smv_oblig.proofs.UsesFall.{at-is}
@@ -51,7 +51,7 @@ family_time-is f (q ∷ picks) family p e = at (nat_eq q.family family) e (famil
     at true e goes = ap f (inner e)
     at false e goes = goes e
 
-names-itself : (v : ℕ) (ov : Option ℕ) → ov ≡ Some v → names_unit v ov ≡ true
+names-itself : (v : ℕ) (ov : Option ℕ) → ov ≡ Some v → is_unit v ov ≡ true
 names-itself v None e = absurd (cc)
 names-itself v (Some other) e = subst (λ z. nat_eq z v ≡ true) (sym (inner e)) (nat_eq-itself v)
 
@@ -74,10 +74,10 @@ module _ (o : Outline) (u : ℕ) (entry : Entry) (is_there : slice_get o.entries
   by_entry time v e = subst (λ oe. used_by o time u v oe ≡ true) (sym is_there) e
 
   by_pick : (q : Pick) → Has entry.choice.picks q → (v : ℕ) → picked_unit o q ≡ Some v → (time : Timing) → is_at (pick_time o (graph o) u (same_time o u entry) q) time ≡ true → uses_at o time u v ≡ true
-  by_pick q h v e time s = by_entry time v (or_left _ (any-found (λ (p, t). is_at t time && names_unit v (picked_unit o p)) (Has-zip (pick_time o (graph o) u (same_time o u entry)) h) (and_both s (names-itself v (picked_unit o q) e))))
+  by_pick q h v e time s = by_entry time v (or_left _ (any-found (λ (p, t). is_at t time && is_unit v (picked_unit o p)) (Has-zip (pick_time o (graph o) u (same_time o u entry)) h) (and_both s (names-itself v (picked_unit o q) e))))
 
   by_claim : (used : Assumed) (t : Timing) → Has (zip entry.choice.claims times.claims) (used, t) → (v : ℕ) → claim_unit o used.claim ≡ Some v → (time : Timing) → is_at t time ≡ true → uses_at o time u v ≡ true
-  by_claim used t h v e time s = by_entry time v (or_right _ (or_left _ (any-found (λ (used, t). is_at t time && names_unit v (claim_unit o used.claim)) h (and_both s (names-itself v (claim_unit o used.claim) e)))))
+  by_claim used t h v e time s = by_entry time v (or_right _ (or_left _ (any-found (λ (used, t). is_at t time && is_unit v (claim_unit o used.claim)) h (and_both s (names-itself v (claim_unit o used.claim) e)))))
 
   by_itself : (time : Timing) → is_at time Before ≡ true → entry.choice.itself ≡ true → uses_at o time u u ≡ true
   by_itself time s i = by_entry time u (or_right _ (or_right _ (and_both s (and_both i (nat_eq-itself u)))))

@@ -7,3 +7,4 @@ pub mod Granted
 pub mod Plans
 pub mod Sound
 pub mod Least
+pub mod ReadsWithin

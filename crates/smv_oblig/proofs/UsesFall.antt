@@ -13,8 +13,8 @@ use Rattle.smv_abs.proofs.Same.{nat_eq-is}
 use Rattle.smv_abs.proofs.OneOfEach.{get_past}
 use Rattle.smv_abs.proofs.NowOrder.{falls}
 use Rattle.smv_oblig.specs.Outlines.{Entry, Outline, is_claim, is_map, map_unit, claim_unit, unit_in_layer, picked_unit}
-use Rattle.smv_oblig.specs.Times.{open_uses, graph_from, graph, has_edge, time_of, unit_time, is_open_pick, same_time, pick_time, claim_time, timed}
-use Rattle.smv_oblig.specs.Problems.{is_at, names_unit, entry_uses, used_by, uses_at}
+use Rattle.smv_oblig.specs.Times.{is_unit, open_uses, graph_from, graph, has_edge, time_of, unit_time, is_open_pick, same_time, pick_time, claim_time, timed}
+use Rattle.smv_oblig.specs.Problems.{is_at, entry_uses, used_by, uses_at}
 use Rattle.smv_oblig.proofs.Lookups.{inner, place_of-is}
 
 graph-long : (o : Outline) (u : ℕ) (entries : List Entry) → length (graph_from o u entries) ≡ length entries
@@ -28,7 +28,7 @@ unit_in_layer-below o family (Some layer) v e = let r = place_of-is (λ entry. i
 claim_unit-below : (o : Outline) (claim v : ℕ) → claim_unit o claim ≡ Some v → v < length o.entries
 claim_unit-below o claim v e = let r = place_of-is (λ entry. is_claim claim entry.unit) o.entries v e in get_past o.entries v r.0 r.1
 
-names-is : (v : ℕ) (ov : Option ℕ) → names_unit v ov ≡ true → ov ≡ Some v
+names-is : (v : ℕ) (ov : Option ℕ) → is_unit v ov ≡ true → ov ≡ Some v
 names-is v None e = absurd (cc)
 names-is v (Some other) e = ap Some (nat_eq-is other v e)
 
@@ -73,12 +73,12 @@ module _ (o : Outline) (u : ℕ) (entry : Entry) where
   -- a use that is now is an edge that is now, to a unit
   uses-now : (v : ℕ) → entry_uses o entry (timed o (graph o) u entry) Now u v ≡ true → (is_now (has_edge edges) (length edges) u v ≡ true) × (v < length o.entries)
   uses-now v e = elim (or_cases _ _ e) [
-    | inl a ↦ let r = any-some (λ (p, t). is_at t Now && names_unit v (picked_unit o p)) (zip entry.choice.picks (map (pick_time o edges u families) entry.choice.picks)) a in
+    | inl a ↦ let r = any-some (λ (p, t). is_at t Now && is_unit v (picked_unit o p)) (zip entry.choice.picks (map (pick_time o edges u families) entry.choice.picks)) a in
         let n = names-is v (picked_unit o r.0.0) (right_of (is_at r.0.1 Now) _ r.2) in
         let t = sym (zip-is (pick_time o edges u families) entry.choice.picks r.1) ∙ at-is r.0.1 Now (left_of (is_at r.0.1 Now) _ r.2) in
         (pick-now r.0.0 v r.0.0.layer refl n (is_open_pick families r.0.0) t, unit_in_layer-below o r.0.0.family r.0.0.layer v n)
     | inr b ↦ elim (or_cases _ _ b) [
-        | inl a ↦ let r = any-some (λ (used, t). is_at t Now && names_unit v (claim_unit o used.claim)) (zip entry.choice.claims (map (claim_time o edges u) entry.choice.claims)) a in
+        | inl a ↦ let r = any-some (λ (used, t). is_at t Now && is_unit v (claim_unit o used.claim)) (zip entry.choice.claims (map (claim_time o edges u) entry.choice.claims)) a in
             let n = names-is v (claim_unit o r.0.0.claim) (right_of (is_at r.0.1 Now) _ r.2) in
             let t = sym (zip-is (claim_time o edges u) entry.choice.claims r.1) ∙ at-is r.0.1 Now (left_of (is_at r.0.1 Now) _ r.2) in
             (claim-now r.0.0 v n r.0.0.early t, claim_unit-below o r.0.0.claim v n)

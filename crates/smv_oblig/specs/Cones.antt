@@ -1,5 +1,5 @@
 -- The cone of a case: which elements it keeps.
-use Rattle.std.specs.Prelude.{ℕ, List, [], ◌∷◌, ◌++◌, map, flat_map, filter, zip, take, length, slice_get, option_to_list, Option, Some, None, Bool, true, false, ◌&&◌, ◌||◌, if◌then◌else◌, nat_eq}
+use Rattle.std.specs.Prelude.{ℕ, List, [], ◌∷◌, ◌++◌, map, flat_map, filter, take, length, slice_get, option_to_list, Option, Some, None, Bool, true, false, ◌&&◌, ◌||◌, if◌then◌else◌, nat_eq}
 use Rattle.std.specs.List.{list_any, list_all}
 use Rattle.smv_core.specs.Values.{numbers_from}
 use Rattle.smv_core.specs.Assignments.{Index, fixed, bare, computed}
@@ -35,12 +35,17 @@ same_places _ _ = false
 abbrev pub same_element : AbsElement → AbsElement → Bool
 same_element x y = nat_eq x.family y.family && same_places x.indexes y.indexes
 
--- the places of a type where an index of a reference may lie: that of a constant or of a bound variable, and any for another index
-abbrev pub index_places : List Place → List Place → Index → List Place
-index_places b ps (fixed None) = []
-index_places b ps (fixed (Some v)) = filter (same_place (named v)) ps
-index_places b ps (bare var) = filter (is_bound_to (slice_get b var)) ps
-index_places b ps computed = ps
+-- of these places those where an index of a reference may lie: that of a constant or of a bound variable, and any for another index
+abbrev pub index_places : List Place → Index → List Place → List Place
+index_places b (fixed None) ps = []
+index_places b (fixed (Some v)) ps = filter (same_place (named v)) ps
+index_places b (bare var) ps = filter (is_bound_to (slice_get b var)) ps
+index_places b computed ps = ps
+
+-- so for each type of a family; a missing index, which no text has, may lie anywhere
+abbrev pub each_index : List Place → List Index → List (List Place) → List (List Place)
+each_index b (i ∷ indexes) (ps ∷ pss) = index_places b i ps ∷ each_index b indexes pss
+each_index b _ pss = pss
 
 module _ (w : World) where
   -- the elements of a case: those whose indexes are all numbers and classes, in family order and then by their indexes
@@ -53,7 +58,7 @@ module _ (w : World) where
   -- the elements that a reference reads
   abbrev pub elements_in : ℕ → List Index → List Place → Option Family → List AbsElement
   elements_in family indexes b None = []
-  elements_in family indexes b (Some f) = map (element family) (one_of_each (map (λ (t, i). index_places b (named_in w t) i) (zip f.over indexes)))
+  elements_in family indexes b (Some f) = map (element family) (one_of_each (each_index b indexes (map (named_in w) f.over)))
 
   abbrev pub elements_at : ℕ → List Index → List Place → List AbsElement
   elements_at family indexes b = elements_in family indexes b (slice_get w.classes.families family)

@@ -17,7 +17,7 @@ use Rattle.smv_abs.specs.Covers.{types_at, places_at}
 use Rattle.smv_abs.specs.Obligations.{Demanded, defined, holds, Problem}
 use Rattle.smv_abs.specs.Soundness.{FlatUnit, map_of, claim_of, params_of, said_at, LeafProof, Plan}
 use Rattle.smv_oblig.specs.Outlines.{Entry, Outline, names_of, bases, unit_in, map_in, claim_unit, picked_unit, assumed, chosen}
-use Rattle.smv_oblig.specs.Times.{graph, timed}
+use Rattle.smv_oblig.specs.Times.{is_unit, graph, timed}
 use Rattle.smv_oblig.specs.Cones.{AbsElement, element, same_element, cone, kept}
 
 -- the same time
@@ -93,17 +93,12 @@ problem_of o entry times classes =
       params = params;
     }
 
--- this unit is named
-abbrev pub names_unit : ℕ → Option ℕ → Bool
-names_unit v None = false
-names_unit v (Some other) = nat_eq other v
-
 module _ (o : Outline) where
   -- the leaf of the unit at this place uses another unit at this time, by a pick, by a claim, or by itself
   abbrev pub entry_uses : Entry → Timed → Timing → ℕ → ℕ → Bool
   entry_uses entry times time u v =
-      list_any (λ (p, t). is_at t time && names_unit v (picked_unit o p)) (zip entry.choice.picks times.picks)
-      || (list_any (λ (used, t). is_at t time && names_unit v (claim_unit o used.claim)) (zip entry.choice.claims times.claims)
+      list_any (λ (p, t). is_at t time && is_unit v (picked_unit o p)) (zip entry.choice.picks times.picks)
+      || (list_any (λ (used, t). is_at t time && is_unit v (claim_unit o used.claim)) (zip entry.choice.claims times.claims)
       || (is_at time Before && (entry.choice.itself && nat_eq u v)))
 
   abbrev pub used_by : Timing → ℕ → ℕ → Option Entry → Bool

@@ -3,6 +3,7 @@ use Rattle.std.specs.Prelude.{ℕ, suc, List, [], ◌∷◌, ◌++◌, map, flat
 use Rattle.std.specs.List.{list_any}
 use Rattle.smv_core.specs.Values.{number}
 use Rattle.smv_core.specs.declared.flat.Design.{Design}
+use Rattle.smv_core.specs.declared.flat.Family.{Family}
 use Rattle.smv_core.specs.declared.flat.Def.{Def}
 use Rattle.smv_core.specs.declared.flat.Claim.{Claim}
 use Rattle.smv_core.specs.declared.flat.Guard.{Guard}
@@ -24,18 +25,30 @@ use Rattle.smv_oblig.specs.Outlines.{Entry, Outline, unit_in, claim_unit, picked
 abbrev pub is_member : List ℕ → ℕ → Bool
 is_member ks k = list_any (nat_eq k) ks
 
--- the families that an expression reads; each variable takes one place, as no family depends on it
-abbrev pub families_read : FlatExpr → List ℕ
-families_read e = reads (λ over. named (number 0) ∷ []) (λ family indexes b. family ∷ []) e []
+-- a family that is there
+abbrev pub if_there : ℕ → Option Family → List ℕ
+if_there family None = []
+if_there family (Some f) = family ∷ []
 
--- those that a part of a definition reads
-abbrev pub families_of_part : Flat → List ℕ
-families_of_part part = part_reads (λ over. named (number 0) ∷ []) (λ left b. true) (λ over. named (number 0) ∷ []) (λ family indexes b. family ∷ []) part []
+module _ (families : List Family) where
+  -- the families that an expression reads; each variable takes one place, as no family depends on it
+  abbrev pub families_read : FlatExpr → List ℕ
+  families_read e = reads (λ over. named (number 0) ∷ []) (λ family indexes b. if_there family (slice_get families family)) e []
 
--- those that it reads at the time of the value that it gives: in its parts `init` and `:=`
-abbrev pub families_at_once : Option Def → List ℕ
-families_at_once None = []
-families_at_once (Some def) = families_of_part def.init ++ families_of_part def.comb
+  -- those that a part of a definition reads
+  abbrev pub families_of_part : Flat → List ℕ
+  families_of_part part =
+      part_reads (λ over. named (number 0) ∷ []) (λ left b. true) (λ over. named (number 0) ∷ []) (λ family indexes b. if_there family (slice_get families family)) part []
+
+  -- those that a definition reads at the time of the value that it gives: in its parts `init` and `:=`
+  abbrev pub families_at_once : Option Def → List ℕ
+  families_at_once None = []
+  families_at_once (Some def) = families_of_part def.init ++ families_of_part def.comb
+
+-- this unit
+abbrev pub is_unit : ℕ → Option ℕ → Bool
+is_unit u None = false
+is_unit u (Some v) = nat_eq v u
 
 -- a use is open to be now: outside parentheses, of a family of the same-time set, and not of the unit itself
 abbrev pub is_open_pick : List ℕ → Pick → Bool
@@ -47,28 +60,25 @@ other_units u units = filter (λ v. not (nat_eq v u)) (flat_map option_to_list u
 module _ (o : Outline) where
   -- a claim that is used outside parentheses, other than the unit itself, is read at once
   abbrev pub families_assumed : ℕ → Assumed → List ℕ
-  families_assumed u used = if used.early || is_itself (claim_unit o used.claim) then [] else body_families (assumed o used)
-    where
-      is_itself : Option ℕ → Bool
-      is_itself None = false
-      is_itself (Some v) = nat_eq v u
+  families_assumed u used = if used.early || is_unit u (claim_unit o used.claim) then [] else flat_map (λ claim. families_read o.design.families claim.body) (option_to_list (assumed o used))
 
-      body_families : Option Claim → List ℕ
-      body_families None = []
-      body_families (Some claim) = families_read claim.body
+  -- of a map its family and what it reads at once, of a claim what it reads
+  abbrev pub families_of_unit : FlatUnit → List ℕ
+  families_of_unit (map_of def) = def.family ∷ families_at_once o.design.families (Some def)
+  families_of_unit (claim_of claim) = families_read o.design.families claim.body
 
-  -- with what the same-time set begins: of a map its family and what it reads at once, of a claim what it reads; what the guards and the assumed claims read
+  -- with what the same-time set begins: the unit, and what the guards and the assumed claims read
   abbrev pub first_families : ℕ → Entry → List ℕ
   first_families u entry =
-      of_unit (unit_in o.design entry.unit) ++ flat_map (λ g. families_read g.expr) entry.leaf.guards ++ flat_map (families_assumed u) entry.choice.claims
-    where
-      of_unit : FlatUnit → List ℕ
-      of_unit (map_of def) = def.family ∷ families_at_once (Some def)
-      of_unit (claim_of claim) = families_read claim.body
+      families_of_unit (unit_in o.design entry.unit) ++ flat_map (λ g. families_read o.design.families g.expr) entry.leaf.guards ++ flat_map (families_assumed u) entry.choice.claims
 
-  -- the same-time set of a leaf: with each family what its chosen definition reads at once
+  -- what the chosen definition of a family reads at once
+  abbrev pub next_families : Entry → ℕ → List ℕ
+  next_families entry family = families_at_once o.design.families (chosen o entry.choice.picks family)
+
+  -- the same-time set of a leaf
   abbrev pub same_time : ℕ → Entry → List ℕ
-  same_time u entry = reached nat_eq (λ family. families_at_once (chosen o entry.choice.picks family)) (length o.design.families) (first_families u entry)
+  same_time u entry = reached nat_eq (next_families entry) (length o.design.families) (first_families u entry)
 
   -- the units that the open uses of a leaf name
   abbrev pub open_uses : ℕ → Entry → List ℕ
