@@ -8,3 +8,4 @@ pub mod Plans
 pub mod Sound
 pub mod Least
 pub mod ReadsWithin
+pub mod LeastCones

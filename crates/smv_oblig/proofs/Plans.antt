@@ -113,7 +113,7 @@ module _ (o : Outline) (checked : IsChecked o) where
 
   -- the target of a map at numbers and classes is kept
   module _ (u : ℕ) (entry : Entry) (split : IsSplit o entry) (classes : List Class) (is_case : Has (cases (leaf_treatments o entry) (leaf_params entry)) classes) where
-    own_are : (def : Def) → unit_in o.design entry.unit ≡ map_of def → (own : List Place) → take (length (over_of (slice_get o.design.families def.family))) (params_at o entry classes) ≡ own →
+    pub own_are : (def : Def) → unit_in o.design entry.unit ≡ map_of def → (own : List Place) → take (length (over_of (slice_get o.design.families def.family))) (params_at o entry classes) ≡ own →
         list_all is_named own ≡ true → AreIndexes (world_of o entry classes) def.family own
     own_are def is_map own is_own named =
         let w = world_of o entry classes in

@@ -1,11 +1,16 @@
 -- The laws: what the crate's public functions say.
 use Rattle.std.specs.Prelude.{◌≡◌, ◌<◌, ℕ, List, length, Bool, true}
 use Rattle.smv_core.specs.declared.flat.Timing.TheVariants.{Now}
+use Rattle.smv_core.specs.declared.flat.Class.{Class}
 use Rattle.smv_abs.specs.Sets.{Has}
+use Rattle.smv_abs.specs.Places.{Place, World}
+use Rattle.smv_abs.specs.LeafCases.{leaf_cases}
 use Rattle.smv_abs.specs.Soundness.{IsPlan}
 use Rattle.smv_oblig.specs.Reached.{reached, IsLeast}
-use Rattle.smv_oblig.specs.Outlines.{Outline}
-use Rattle.smv_oblig.specs.Problems.{uses_at, plan_of}
+use Rattle.smv_oblig.specs.Outlines.{Entry, Outline}
+use Rattle.smv_oblig.specs.Times.{first_families, next_families, same_time}
+use Rattle.smv_oblig.specs.Cones.{first_elements, next_elements, cone}
+use Rattle.smv_oblig.specs.Problems.{world_of, params_at, uses_at, plan_of}
 use Rattle.smv_oblig.specs.Checked.{IsChecked, IsProved, IsSound}
 
 -- what is reached is the least set, where some list has all that may be reached
@@ -13,6 +18,17 @@ abbrev pub ReachedIsLeast : Type 0 → Type 0
 ReachedIsLeast X =
     (same : X → X → Bool) → ((x y : X) → same x y ≡ true → x ≡ y) → ((x : X) → same x x ≡ true) → (next : X → List X) (every from : List X) →
     ((x : X) → Has from x → Has every x) → ((x y : X) → Has every x → Has (next x) y → Has every y) → IsLeast next from (reached same next (length every) from)
+
+-- so the same-time set of a leaf, and the cone of each of its cases
+abbrev pub SameTimesAreLeast : Type 0
+SameTimesAreLeast = (o : Outline) → IsChecked o → (u : ℕ) (entry : Entry) → IsLeast (next_families o entry) (first_families o u entry) (same_time o u entry)
+
+abbrev pub ConesAreLeast : Type 0
+ConesAreLeast = (o : Outline) → IsChecked o → (entry : Entry) → Has o.entries entry → (classes : List Class) → Has (leaf_cases o.design.sets entry.leaf.params entry.choice.keeps) classes →
+    IsLeastCone (world_of o entry classes) o entry (params_at o entry classes)
+  where
+    IsLeastCone : World → Outline → Entry → List Place → Type 0
+    IsLeastCone w o entry params = IsLeast (next_elements w o entry params) (first_elements w o entry params) (cone w o entry params)
 
 -- along the uses that are now the units fall in some order, so they hold no cycle
 abbrev pub NowUsesFall : Type 0

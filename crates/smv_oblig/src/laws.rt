@@ -1,5 +1,5 @@
 // Laws of the definitions, each the contract of a function that does nothing.
-ghost use Rattle.smv_oblig.specs.Laws.{ReachedIsLeast, NowUsesFall, OutlinesArePlans, ProvedIsSound};
+ghost use Rattle.smv_oblig.specs.Laws.{ReachedIsLeast, SameTimesAreLeast, ConesAreLeast, NowUsesFall, OutlinesArePlans, ProvedIsSound};
 ghost use Rattle.smv_oblig.specs.WorkedTimes.{TomasuloTimes, ClaimTimes, MapTimes};
 ghost use Rattle.smv_oblig.specs.WorkedCones.{IndexedBySignals, RestsReadAsAll, FollowsIndexes, PicksCut, OtherConstants, TargetsAtRests, TomasuloCones};
 ghost use Rattle.smv_oblig.specs.WorkedProblems.{SplitHelps, ClaimsAssumeEachOther, MapsBefore, MapsNowAndBefore, WrittenIndex, TomasuloDemands};
@@ -7,6 +7,12 @@ ghost use Rattle.smv_oblig.specs.WorkedProblems.{SplitHelps, ClaimsAssumeEachOth
 /// What is reached from some members is the least set that has them and, with each member, those that follow it.
 pub fn reached_is_least<X>()
     ensures { ReachedIsLeast X }
+{}
+
+/// The same-time set of a leaf is the least set of families, and the cone of a case the least set of elements.
+pub fn sets_are_least()
+    ensures same_times { SameTimesAreLeast }
+    ensures cones { ConesAreLeast }
 {}
 
 /// The uses that are now hold no cycle.

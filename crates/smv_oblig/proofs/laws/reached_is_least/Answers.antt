@@ -1,5 +1,4 @@
 use Rattle.smv_oblig.proofs.Least.{reached_is_least}
-use Rattle.smv_oblig.proofs.ReadsWithin.{part_within}
 use Rattle.smv_oblig.proofs.laws.reached_is_least.Goals as goal
 
 pub returns : goal.returns
