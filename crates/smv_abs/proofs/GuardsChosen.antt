@@ -5,12 +5,12 @@ use Rattle.smv_core.specs.Values.{Value, number}
 use Rattle.smv_core.specs.Flat.{Numbered, FlatState, values_in, flat_outcome}
 use Rattle.smv_core.specs.declared.flat.Guard.{Guard}
 use Rattle.smv_core.specs.declared.flat.Simple.{Simple as FlatSimple}
-use Rattle.smv_abs.specs.Sets.{Has, first, later}
+use Rattle.smv_abs.specs.Sets.{Has, first, later, one_of_each}
 use Rattle.smv_abs.specs.Scopes.{before, ReadsOnly}
-use Rattle.smv_abs.specs.Guards.{is_or_outside, guard_holds}
+use Rattle.smv_abs.specs.Guards.{is_or_outside, guard_holds, AreGuards}
 use Rattle.smv_abs.proofs.Tests.{true_or_false}
 use Rattle.smv_abs.proofs.Same.{nat_eq-is}
-use Rattle.smv_abs.proofs.OneOfEach.{AreOf, are_long, joined_long, get_after, value_after, get_before, get_past, joined_again}
+use Rattle.smv_abs.proofs.OneOfEach.{AreOf, are_of, one_of, are_long, map_long, joined_long, get_after, value_after, get_before, get_past, joined_again}
 use Rattle.smv_abs.proofs.ScopesKeep.{Agree, outcome_alike}
 use Rattle.smv_abs.proofs.GuardsKeep.{guard_met}
 
@@ -132,3 +132,12 @@ module _ (n : Numbered) (s : FlatState) (guards : List Guard) (types : List Flat
       too_far g h l = let p = get_past types g.var g.over (of_type g h) in let q = ap length e in let r = nil_right done in omega arith
   choose (t ∷ left) done e filled vs long = one_step done left t e filled vs long
       (λ i. choose left (done ++ t ∷ []) (joined_again done left t ∙ e) (λ u k. filled u (later k)) (vs ++ i ∷ []) (longer vs i ∙ (ap suc long ∙ sym (one_longer done t))))
+
+-- for each state and all values of the unit's parameters some values of the added ones meet every guard
+pub guards_met : (n : Numbered) (own added : List FlatSimple) (guards : List Guard) → AreGuards (length own) (own ++ added) guards → ((t : FlatSimple) → Has added t → (v : Value) × Has (values_in n t) v) →
+    (s : FlatState) (values : List Value) → Has (one_of_each (map (values_in n) own)) values →
+    (more : List Value) × Has (one_of_each (map (values_in n) added)) more × ((g : Guard) → Has guards g → guard_holds n s g.over g.expr (values ++ more) (get_or (values ++ more) g.var (number 0)) ≡ true)
+guards_met n own added guards are filled s values h =
+    let long : length values ≡ length own = are_long (map (values_in n) own) values (are_of (map (values_in n) own) values h) ∙ map_long (values_in n) own in
+    let r = choose n s guards (own ++ added) are.is_of_type are.reads_before are.one_each added own refl filled values long in
+    (r.added, one_of (map (values_in n) added) r.added r.are, λ g k. r.hold g k (subst (λ m. m ≤ g.var) (sym long) (are.is_added g k)))

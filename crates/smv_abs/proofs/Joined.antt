@@ -9,21 +9,22 @@ use Rattle.smv_core.specs.declared.flat.Simple.TheVariants.{Range, Enum, Set}
 use Rattle.smv_core.specs.declared.flat.Simple.{Simple as FlatSimple}
 use Rattle.smv_abs.specs.declared.abstract_type.AbsType.{AbsType}
 use Rattle.smv_abs.specs.Sets.{Has, first, later}
-use Rattle.smv_abs.specs.Places.{Place, is_named, world}
+use Rattle.smv_abs.specs.Places.{is_named, world}
 use Rattle.smv_abs.specs.May.{AbsState}
 use Rattle.smv_abs.specs.Pictures.{Placing, placed, ArePlaced, IsState, AreValues, IsAbsState}
 use Rattle.smv_abs.specs.Guards.{guard_holds}
-use Rattle.smv_abs.specs.Cases.{Parameter, cases}
+use Rattle.smv_abs.specs.Cases.{Parameter}
+use Rattle.smv_abs.specs.LeafCases.{treatments_of, parameters_of, leaf_cases}
 use Rattle.smv_abs.specs.Covers.{place_at, places_at, types_at}
 use Rattle.smv_abs.specs.Circular.{Demand, Obligation, always, is_violating_after, Circle, AreHeld, IsShown, ShowsFailures, HasNoViolation}
 use Rattle.smv_abs.specs.Obligations.{Demanded, Problem, is_met, is_broken, may_hold, obligation}
-use Rattle.smv_abs.specs.Soundness.{FlatUnit, map_of, claim_of, LeafProof, Plan, at_sizes, over_of, params_of, values_over, is_held, meets_base, IsRun, HasValue, IsUnit, IsSound, HasNoViolatingPath, said_at, IsKept, IsGranted, by_base, by_use, own_places, IsCase, IsSized, IsPlan}
+use Rattle.smv_abs.specs.Soundness.{FlatUnit, map_of, claim_of, LeafProof, Plan, at_sizes, AreSizes, over_of, params_of, values_over, is_held, meets_base, IsRun, HasValue, IsUnit, IsSound, HasNoViolatingPath, said_at, IsKept, IsGranted, by_base, by_use, own_places, IsCase, IsPlan}
 use Rattle.smv_abs.proofs.Tests.{and_both}
 use Rattle.smv_abs.proofs.Members.{Has-right, Has-from_map, all-each, all-holds}
 use Rattle.smv_abs.proofs.Same.{nat_eq-itself, nat_eq-is}
 use Rattle.smv_abs.proofs.OneOfEach.{AreOf, are_of, one_of, are_long, are_joined, map_joined, map_long, take_front, get_Has, Has_get}
 use Rattle.smv_abs.proofs.GuardsChosen.{choose}
-use Rattle.smv_abs.proofs.CoverCases.{cases_cover}
+use Rattle.smv_abs.proofs.CoverLeaf.{leaf_cases_cover}
 use Rattle.smv_abs.proofs.CaseKeeps.{Known, state_of, values_are, picture, picture_is, demand_met, target_broken, guard_may}
 use Rattle.smv_abs.proofs.TypedRuns.{patched, patched_state, map_same, claim_same}
 use Rattle.smv_abs.proofs.Induction.{always_holds}
@@ -101,7 +102,7 @@ module _ (plan : Plan) (sizes : Sizes) where
     leaf : LeafProof
     is_leaf : slice_get plan.leaves place ≡ Some leaf
     classes : List Class
-    is_case : Has (cases leaf.treatments leaf.params) classes
+    is_case : Has (leaf_cases plan.names.sets leaf.params leaf.keeps) classes
 
   abbrev problem_of : CaseOf → Problem
   problem_of c = c.leaf.problem c.classes
@@ -131,15 +132,15 @@ module _ (plan : Plan) (sizes : Sizes) where
   record HasCase (i : Instance) (s : FlatState) : Type 0 where
     added : List Value
     classes : List Class
-    is_case : Has (cases i.leaf.treatments i.leaf.params) classes
+    is_case : Has (leaf_cases plan.names.sets i.leaf.params i.leaf.keeps) classes
     spots : Placing
-    are_placed : ArePlaced n (world plan.names (types_at plan.names.sets i.leaf.treatments i.leaf.params classes)) spots
+    are_placed : ArePlaced n (world plan.names (types_at plan.names.sets (treatments_of i.leaf.keeps 0 plan.names.sets) (parameters_of i.leaf.keeps i.leaf.params) classes)) spots
     are_values : AreValues n (i.values ++ added)
-    stand : map (placed spots) (i.values ++ added) ≡ places_at plan.names i.leaf.params classes
+    stand : map (placed spots) (i.values ++ added) ≡ places_at plan.names (parameters_of i.leaf.keeps i.leaf.params) classes
     of_types : (g : Guard) → Has i.leaf.guards g → Has (values_in n g.over) (get_or (i.values ++ added) g.var (number 0))
     hold : (g : Guard) → Has i.leaf.guards g → guard_holds n s g.over g.expr (i.values ++ added) (get_or (i.values ++ added) g.var (number 0)) ≡ true
 
-  module _ (is_plan : IsPlan plan) (at : IsSized plan sizes) where
+  module _ (is_plan : IsPlan plan) (are_sizes : AreSizes plan.names sizes) where
     is_one : (i : Instance) → Has plan.leaves i.leaf
     is_one i = get_Has plan.leaves i.place i.leaf i.is_leaf
 
@@ -154,12 +155,12 @@ module _ (plan : Plan) (sizes : Sizes) where
         let types = map (λ p. p.over) i.leaf.params in
         let filled : (t : FlatSimple) → Has leaf.added t → HasValue n t = λ t h.
         let p = Has-from_map (λ p. p.over) i.leaf.params (subst (λ ts. Has ts t) (sym leaf.are_params) (Has-right own h)) in
-        subst (HasValue n) (sym p.2) (at.params_have_values i.leaf (is_one i) p.0 p.1) in
-        let r = choose n s i.leaf.guards types leaf.is_of_type leaf.reads_before leaf.one_each leaf.added own (sym leaf.are_params) filled i.values (is_long i) in
+        subst (HasValue n) (sym p.2) ((is_plan.have_values sizes are_sizes).params i.leaf (is_one i) p.0 p.1) in
+        let r = choose n s i.leaf.guards types leaf.are_guards.is_of_type leaf.are_guards.reads_before leaf.are_guards.one_each leaf.added own (sym leaf.are_params) filled i.values (is_long i) in
         let ys = i.values ++ r.added in
         let are : AreOf (map (values_in n) types) ys = subst (λ ts. AreOf (map (values_in n) ts) ys) (sym leaf.are_params) (subst (λ xss. AreOf xss ys) (sym (map_joined (values_in n) own leaf.added))
         (are_joined (map (values_in n) own) (map (values_in n) leaf.added) i.values r.added (are_of (map (values_in n) own) i.values i.are_values) r.are)) in
-        let c = cases_cover n i.leaf.treatments is_plan.are_apart (at.are_treated i.leaf (is_one i)) i.leaf.params leaf.are_index_types ys (one_of (map (values_in n) types) ys are) in
+        let c = leaf_cases_cover n is_plan.are_apart (λ info h. (are_sizes info h).1) i.leaf.params leaf.are_index_types i.leaf.keeps ys (one_of (map (values_in n) types) ys are) in
         record {
           added = r.added;
           classes = c.classes;
@@ -167,16 +168,16 @@ module _ (plan : Plan) (sizes : Sizes) where
           spots = c.spots;
           are_placed = c.are_placed;
           are_values = values_are n types ys are;
-          stand = c.stands ∙ places_same plan.names sizes i.leaf.params c.classes;
-          of_types = λ g h. of_its_type n types ys g.var g.over are (leaf.is_of_type g h);
-          hold = λ g h. r.hold g h (subst (λ k. k ≤ g.var) (sym (is_long i)) (leaf.is_added g h));
+          stand = c.stands ∙ places_same plan.names sizes (parameters_of i.leaf.keeps i.leaf.params) c.classes;
+          of_types = λ g h. of_its_type n types ys g.var g.over are (leaf.are_guards.is_of_type g h);
+          hold = λ g h. r.hold g h (subst (λ k. k ≤ g.var) (sym (is_long i)) (leaf.are_guards.is_added g h));
         }
 
     -- what is granted is met in the pictures of a case
     module _ (p : Problem) (u : ℕ) (leaf : LeafProof) (classes : List Class) (is_case : IsCase plan u leaf classes p) (spots : Placing)
-        (facts : ArePlaced n (world plan.names (types_at plan.names.sets leaf.treatments leaf.params classes)) spots) where
+        (facts : ArePlaced n (world plan.names (types_at plan.names.sets (treatments_of leaf.keeps 0 plan.names.sets) (parameters_of leaf.keeps leaf.params) classes)) spots) where
       abbrev types : Name → AbsType
-      types = types_at plan.names.sets leaf.treatments leaf.params classes
+      types = types_at plan.names.sets (treatments_of leaf.keeps 0 plan.names.sets) (parameters_of leaf.keeps leaf.params) classes
 
       abbrev seen : Known n → AbsState
       seen = picture plan sizes p types is_case.is_world spots facts is_case.keeps_named
@@ -205,7 +206,7 @@ module _ (plan : Plan) (sizes : Sizes) where
       seen_in = seen p i.place i.leaf c.classes is_case c.spots c.are_placed
 
       abbrev types_in : Name → AbsType
-      types_in = types_at plan.names.sets i.leaf.treatments i.leaf.params c.classes
+      types_in = types_at plan.names.sets (treatments_of i.leaf.keeps 0 plan.names.sets) (parameters_of i.leaf.keeps i.leaf.params) c.classes
 
       stands : map (placed c.spots) (i.values ++ c.added) ≡ p.params
       stands = c.stand ∙ sym is_case.are_params
@@ -272,13 +273,13 @@ module _ (plan : Plan) (sizes : Sizes) where
         ∙ holds))
 
     abbrev fixed : FlatState → FlatState
-    fixed = patched n at.families_have_values
+    fixed = patched n (is_plan.have_values sizes are_sizes).families
 
     unit_same : (unit : FlatUnit) → IsUnit plan unit → (xs : List Value) → Has (values_over n (params_of plan.names unit)) xs → (old : Option FlatState) (s : FlatState) →
         is_held n unit xs (option_map fixed old) (fixed s) ≡ is_held n unit xs old s
     unit_same (map_of def) unit xs h old s =
-        map_same n at.families_have_values def unit.family unit.is_family unit.is_whole xs (subst (λ o. Has (values_over n (over_of o)) xs) unit.is_family h) old s
-    unit_same (claim_of claim) unit xs h old s = claim_same n at.families_have_values claim xs old s unit
+        map_same n (is_plan.have_values sizes are_sizes).families def unit.family unit.is_family unit.is_whole xs (subst (λ o. Has (values_over n (over_of o)) xs) unit.is_family h) old s
+    unit_same (claim_of claim) unit xs h old s = claim_same n (is_plan.have_values sizes are_sizes).families claim xs old s unit
 
     base_same : (old : Option FlatState) (s : FlatState) → meets_base n plan.base (option_map fixed old) (fixed s) ≡ meets_base n plan.base old s
     base_same old s = all_same (λ def. list_all (λ xs. is_held n (map_of def) xs (option_map fixed old) (fixed s)) (values_over n (params_of n (map_of def))))
@@ -291,7 +292,7 @@ module _ (plan : Plan) (sizes : Sizes) where
     in_run h run is_run i =
         let holds : always (is_held n i.leaf.unit i.values) None (map fixed run) ≡ true =
         everything h (map fixed run)
-        (λ s k. let r = Has-from_map fixed run k in subst (IsState n) (sym r.2) (patched_state n at.families_have_values r.0 (is_run.are_typed r.0 r.1)))
+        (λ s k. let r = Has-from_map fixed run k in subst (IsState n) (sym r.2) (patched_state n (is_plan.have_values sizes are_sizes).families r.0 (is_run.are_typed r.0 r.1)))
         (sym (always_mapped fixed (meets_base n plan.base) None run)
         ∙ (always_same (λ old s. meets_base n plan.base (option_map fixed old) (fixed s)) (meets_base n plan.base) base_same None run ∙ is_run.keeps_base)) i in
         sym (always_same (λ old s. is_held n i.leaf.unit i.values (option_map fixed old) (fixed s)) (is_held n i.leaf.unit i.values)
@@ -302,4 +303,4 @@ module _ (plan : Plan) (sizes : Sizes) where
 pub sound : (plan : Plan) → IsPlan plan → HasNoViolatingPath plan → IsSound plan
 sound plan is_plan none sizes are_sizes run is_run leaf is_leaf values are_values =
     let at = Has_get is_leaf in
-    in_run plan sizes is_plan (is_plan.at_each sizes are_sizes) none run is_run (record { place = at.0; leaf = leaf; is_leaf = at.1; values = values; are_values = are_values })
+    in_run plan sizes is_plan are_sizes none run is_run (record { place = at.0; leaf = leaf; is_leaf = at.1; values = values; are_values = are_values })

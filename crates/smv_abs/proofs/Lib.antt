@@ -37,3 +37,4 @@ pub mod CaseKeeps
 pub mod Joined
 pub mod WorkedPlans
 pub mod WorkedMutual
+pub mod WorkedRules

@@ -1,5 +1,5 @@
 -- The uses that are now hold no cycle: each of them falls in rank.
-use Rattle.std.proofs.Common.{◌≡◌, ℕ, zero, suc, ◌+◌, ◌*◌, ◌<◌, ◌≤◌, Bool, true, false, not, if◌then◌else◌, refl, ap, subst, ◌⊎◌, inl, inr, arith, nat_eq, nat_lt}
+use Rattle.std.proofs.Common.{◌≡◌, ℕ, zero, suc, ◌+◌, ◌*◌, ◌<◌, ◌≤◌, Bool, true, false, not, ◌&&◌, if◌then◌else◌, refl, ap, subst, ◌⊎◌, inl, inr, arith, nat_eq, nat_lt}
 use Rattle.std.proofs.Math.Nat.{mul-le-mul_left}
 use Rattle.smv_abs.specs.Uses.{reaches_through, is_now, count_below, rank_of}
 use Rattle.smv_abs.proofs.Tests.{or_left, or_right, or_cases, and_both, left_of, right_of, not_true}
@@ -87,3 +87,11 @@ falls edge n u v lu lv e =
   where
     less : (v u : ℕ) → nat_lt v u ≡ true → v < u
     less v u e = grind arith
+
+lower : (u n : ℕ) → nat_lt u n ≡ true → u < n
+lower u n e = grind arith
+
+pub falls_in_order : (edge : ℕ → ℕ → Bool) (n u v : ℕ) → (nat_lt u n && (nat_lt v n && is_now edge n u v)) ≡ true → rank_of edge n v < rank_of edge n u
+falls_in_order edge n u v e =
+    let rest = right_of (nat_lt u n) (nat_lt v n && is_now edge n u v) e in
+    falls edge n u v (lower u n (left_of (nat_lt u n) (nat_lt v n && is_now edge n u v) e)) (lower v n (left_of (nat_lt v n) (is_now edge n u v) rest)) (right_of (nat_lt v n) (is_now edge n u v) rest)

@@ -1,19 +1,17 @@
 -- The worked plan of two maps that use each other has what a plan has to have, and no violating path.
-use Rattle.std.proofs.Common.{◌≡◌, ℕ, zero, suc, ◌<◌, ◌≤◌, arith, List, [], ◌∷◌, Bool, true, false, ◌&&◌, refl, sym, subst, ◌⊎◌, inl, inr, Option, Some, None}
+use Rattle.std.proofs.Common.{◌≡◌, ℕ, zero, suc, arith, List, [], ◌∷◌, Bool, true, false, ◌&&◌, refl, sym, subst, inl, inr, Option, Some, None}
 use Rattle.std.specs.List.{slice_get}
 use Rattle.smv_core.specs.Values.{number, Sizes}
 use Rattle.smv_core.specs.declared.flat.Class.{Class}
-use Rattle.smv_core.specs.declared.flat.Def.{Def}
 use Rattle.smv_core.specs.declared.flat.Family.{Family}
 use Rattle.smv_abs.specs.Sets.{Has, first, later}
-use Rattle.smv_abs.specs.Places.{Place, named}
+use Rattle.smv_abs.specs.Places.{named}
 use Rattle.smv_abs.specs.May.{AbsState}
 use Rattle.smv_abs.specs.Pictures.{IsAbsState, KeepsNamed}
-use Rattle.smv_abs.specs.Cases.{cases}
-use Rattle.smv_abs.specs.Covers.{AreTreated}
+use Rattle.smv_abs.specs.LeafCases.{leaf_cases}
 use Rattle.smv_abs.specs.Circular.{is_violating_after}
 use Rattle.smv_abs.specs.Obligations.{Problem, obligation}
-use Rattle.smv_abs.specs.Soundness.{at_sizes, AreSizes, HasValue, LeafProof, by_base, by_use, IsCase, IsDefinition, IsLeaf, IsSized, IsPlan, HasNoViolatingPath}
+use Rattle.smv_abs.specs.Soundness.{at_sizes, HasValue, LeafProof, by_base, by_use, IsCase, IsDefinition, IsLeaf, HaveValues, IsPlan, HasNoViolatingPath}
 use Rattle.smv_abs.specs.WorkedObligations.{stepping, zeroed}
 use Rattle.smv_abs.specs.WorkedSoundness.{of_bits, bit_problem, bit_leaf, mutual_plan}
 use Rattle.smv_abs.proofs.WorkedPlans.{one_of_one, one_of_two}
@@ -81,20 +79,21 @@ is_leaf own other f e none = record {
   added = [];
   are_params = rw (e, none) refl;
   are_index_types = λ q h. elim h [ ];
-  is_added = λ g h. elim h [ ];
-  is_of_type = λ g h. elim h [ ];
-  reads_before = λ g h. elim h [ ];
-  one_each = λ g i h k e. elim h [ ];
+  are_guards = record {
+    is_added = λ g h. elim h [ ];
+    is_of_type = λ g h. elim h [ ];
+    reads_before = λ g h. elim h [ ];
+    one_each = λ g i h k e. elim h [ ];
+  };
 }
 
 each_of_two : {X : Type 0} {x y : X} (P : X → Type 0) → P x → P y → (z : X) → Has (x ∷ y ∷ []) z → P z
 each_of_two P p q z h = elim (one_of_two h) [ inl e ↦ subst P (sym e) p | inr e ↦ subst P (sym e) q ]
 
-is_sized : (sizes : Sizes) → IsSized mutual_plan sizes
-is_sized sizes = record {
-  families_have_values = each_of_two (λ f. HasValue (at_sizes of_bits sizes) f.value) (number 0, first) (number 0, first);
-  params_have_values = each_of_two (λ leaf. (q : _) → Has leaf.params q → HasValue (at_sizes of_bits sizes) q.over) (λ q h. elim h [ ]) (λ q h. elim h [ ]);
-  are_treated = each_of_two (λ leaf. AreTreated sizes of_bits.sets leaf.treatments) (tt, tt) (tt, tt);
+have_values : (sizes : Sizes) → HaveValues mutual_plan sizes
+have_values sizes = record {
+  families = each_of_two (λ f. HasValue (at_sizes of_bits sizes) f.value) (number 0, first) (number 0, first);
+  params = each_of_two (λ leaf. (q : _) → Has leaf.params q → HasValue (at_sizes of_bits sizes) q.over) (λ q h. elim h [ ]) (λ q h. elim h [ ]);
 }
 
 inner : {X : Type 0} {x y : X} → Some x ≡ Some y → x ≡ y
@@ -113,7 +112,7 @@ is_plan = record {
   falls = λ u v e. absurd (cc);
   are_cases = λ u leaf e classes h. are_cases u leaf e classes;
   are_apart = ((λ other h. elim h [ ]), tt);
-  at_each = λ sizes h. is_sized sizes;
+  have_values = λ sizes h. have_values sizes;
 }
 
 last_false : (a b : Bool) {c : Bool} → c ≡ false → (a && (b && c)) ≡ false
@@ -167,7 +166,7 @@ none_b old k (a ∷ b ∷ path) h =
     ]
 
 pub no_path : HasNoViolatingPath mutual_plan
-no_path = each_of_two (λ leaf. (classes : List Class) → Has (cases leaf.treatments leaf.params) classes → (path : List AbsState) → AreStates (leaf.problem classes) path →
+no_path = each_of_two (λ leaf. (classes : List Class) → Has (leaf_cases of_bits.sets leaf.params leaf.keeps) classes → (path : List AbsState) → AreStates (leaf.problem classes) path →
     is_violating_after (obligation (leaf.problem classes)) None path ≡ false)
     (λ classes k path. subst (λ classes. AreStates (bit_problem 0 1 classes) path → is_violating_after (obligation (bit_problem 0 1 classes)) None path ≡ false) (sym (one_of_one k)) (none_a None tt path))
     (λ classes k path. subst (λ classes. AreStates (bit_problem 1 0 classes) path → is_violating_after (obligation (bit_problem 1 0 classes)) None path ≡ false) (sym (one_of_one k)) (none_b None tt path))

@@ -1,29 +1,24 @@
 -- The worked plan has what a plan has to have, and no violating path.
-use Rattle.std.proofs.Common.{◌≡◌, ℕ, zero, suc, ◌+◌, ◌<◌, ◌≤◌, arith, List, [], ◌∷◌, map, Bool, true, false, refl, sym, ap, subst, ◌∙◌, ◌⊎◌, inl, inr, Option, Some, None}
+use Rattle.std.proofs.Common.{◌≡◌, ℕ, zero, suc, ◌<◌, arith, List, [], ◌∷◌, false, refl, sym, subst, ◌∙◌, ◌⊎◌, inl, inr, Option, Some, None}
 use Rattle.std.specs.List.{slice_get}
-use Rattle.smv_core.specs.Values.{Value, scalar, Sizes, numbers_from}
-use Rattle.smv_core.specs.Flat.{values_in}
-use Rattle.smv_core.specs.declared.flat.Simple.{Simple as FlatSimple}
+use Rattle.smv_core.specs.Values.{scalar, Sizes, numbers_from}
 use Rattle.smv_core.specs.declared.flat.Simple.TheVariants.{Set}
 use Rattle.smv_core.specs.declared.flat.Class.{Class}
 use Rattle.smv_core.specs.declared.flat.Class.TheVariants.{Named}
-use Rattle.smv_core.specs.declared.flat.Family.{Family}
 use Rattle.smv_core.specs.declared.flat.Guard.{Guard}
-use Rattle.smv_core.specs.declared.flat.SetInfo.{SetInfo}
+use Rattle.smv_core.specs.declared.flat.Param.{Param}
 use Rattle.smv_abs.specs.Sets.{Has, first, later}
-use Rattle.smv_abs.specs.Places.{Place, named, rest, places_in}
 use Rattle.smv_abs.specs.May.{AbsState}
 use Rattle.smv_abs.specs.Pictures.{IsAbsState, KeepsNamed}
-use Rattle.smv_abs.specs.Cases.{Parameter, cases}
+use Rattle.smv_abs.specs.LeafCases.{leaf_cases}
 use Rattle.smv_abs.specs.Scopes.{ReadsOnly, before}
 use Rattle.smv_abs.specs.Circular.{is_violating_after}
 use Rattle.smv_abs.specs.Obligations.{Problem, obligation}
-use Rattle.smv_abs.specs.Soundness.{at_sizes, AreSizes, HasValue, LeafProof, IsCase, IsLeaf, IsSized, IsPlan, HasNoViolatingPath}
-use Rattle.smv_abs.specs.Covers.{IsIndexType, AreTreated}
+use Rattle.smv_abs.specs.Soundness.{at_sizes, AreSizes, HasValue, LeafProof, IsCase, IsLeaf, HaveValues, IsPlan, HasNoViolatingPath}
+use Rattle.smv_abs.specs.Covers.{IsIndexType}
 use Rattle.smv_abs.specs.Worked.{p, signal}
-use Rattle.smv_abs.specs.WorkedCases.{listed}
 use Rattle.smv_abs.specs.WorkedObligations.{guard}
-use Rattle.smv_abs.specs.WorkedSoundness.{of_two, split_problem, split_leaf, split_plan}
+use Rattle.smv_abs.specs.WorkedSoundness.{index, of_two, split_problem, split_leaf, split_plan}
 use Rattle.smv_abs.proofs.Members.{Has-map}
 use Rattle.smv_abs.proofs.OneOfEach.{get_Has}
 use Rattle.smv_abs.proofs.Computing.{computing}
@@ -64,8 +59,8 @@ is_case u classes = record {
 one_guard : (P : Guard → Type 0) (g : Guard) → Has split_leaf.guards g → P (guard 0 (signal 0)) → P g
 one_guard P g h k = subst P (sym (one_of_one h)) k
 
-one_param : (P : Parameter → Type 0) (q : Parameter) → Has split_leaf.params q → P listed → P q
-one_param P q h k = subst P (sym (one_of_one h)) k
+only_param : (P : Param → Type 0) (q : Param) → Has split_leaf.params q → P index → P q
+only_param P q h k = subst P (sym (one_of_one h)) k
 
 is_leaf : IsLeaf split_plan split_leaf
 unfolding computing
@@ -73,22 +68,23 @@ is_leaf = record {
   is_unit = (((tt, tt), (tt, tt)), (((tt, tt), (tt, tt)), tt));
   added = Set 0 ∷ [];
   are_params = refl;
-  are_index_types = λ q h. one_param (λ q. IsIndexType q.over) q h tt;
-  is_added = λ g h. omega arith;
-  is_of_type = λ g h. one_guard (λ g. slice_get (Set 0 ∷ []) g.var ≡ Some g.over) g h refl;
-  reads_before = λ g h. one_guard (λ g. ReadsOnly (before g.var) g.expr) g h tt;
-  one_each = λ g h i j e. one_of_one i ∙ sym (one_of_one j);
+  are_index_types = λ q h. only_param (λ q. IsIndexType q.over) q h tt;
+  are_guards = record {
+    is_added = λ g h. omega arith;
+    is_of_type = λ g h. one_guard (λ g. slice_get (Set 0 ∷ []) g.var ≡ Some g.over) g h refl;
+    reads_before = λ g h. one_guard (λ g. ReadsOnly (before g.var) g.expr) g h tt;
+    one_each = λ g h i j e. one_of_one i ∙ sym (one_of_one j);
+  };
 }
 
-is_sized : (sizes : Sizes) → AreSizes of_two sizes → IsSized split_plan sizes
-is_sized sizes h = record {
-  families_have_values = λ f k. elim (one_of_two k) [
+have_values : (sizes : Sizes) → AreSizes of_two sizes → HaveValues split_plan sizes
+have_values sizes h = record {
+  families = λ f k. elim (one_of_two k) [
     | inl e ↦ subst (λ f. HasValue (at_sizes of_two sizes) f.value) (sym e) (value_of_P sizes h)
     | inr e ↦ subst (λ f. HasValue (at_sizes of_two sizes) f.value) (sym e) (value_of_P sizes h)
   ];
-  params_have_values = λ leaf k q i. subst (λ leaf. (q : Parameter) → Has leaf.params q → HasValue (at_sizes of_two sizes) q.over) (sym (one_of_one k))
-      (λ q i. one_param (λ q. HasValue (at_sizes of_two sizes) q.over) q i (value_of_P sizes h)) q i;
-  are_treated = λ leaf k. subst (λ leaf. AreTreated sizes of_two.sets leaf.treatments) (sym (one_of_one k)) (tt, tt);
+  params = λ leaf k q i. subst (λ leaf. (q : Param) → Has leaf.params q → HasValue (at_sizes of_two sizes) q.over) (sym (one_of_one k))
+      (λ q i. only_param (λ q. HasValue (at_sizes of_two sizes) q.over) q i (value_of_P sizes h)) q i;
 }
 
 pub is_plan : IsPlan split_plan
@@ -99,7 +95,7 @@ is_plan = record {
   falls = λ u v e. absurd (cc);
   are_cases = λ u leaf e classes h. subst (λ leaf. IsCase split_plan u leaf classes (leaf.problem classes)) (sym (one_of_one (get_Has split_plan.leaves u leaf e))) (is_case u classes);
   are_apart = ((λ other h. elim h [ ]), tt);
-  at_each = is_sized;
+  have_values = have_values;
 }
 
 -- the one case, with its class and the rest
@@ -125,9 +121,9 @@ none_after old (a ∷ b ∷ path) h = none_after (Some a) (b ∷ path) (λ c k. 
 pub no_path : HasNoViolatingPath split_plan
 no_path leaf h classes k path states = at leaf (one_of_one h) classes k path states
   where
-    at : (leaf : LeafProof) → leaf ≡ split_leaf → (classes : List Class) → Has (cases leaf.treatments leaf.params) classes → (path : List AbsState) →
+    at : (leaf : LeafProof) → leaf ≡ split_leaf → (classes : List Class) → Has (leaf_cases of_two.sets leaf.params leaf.keeps) classes → (path : List AbsState) →
         ((a : AbsState) → Has path a → IsAbsState (leaf.problem classes).world (leaf.problem classes).kept a) → is_violating_after (obligation (leaf.problem classes)) None path ≡ false
-    at leaf e = subst (λ leaf. (classes : List Class) → Has (cases leaf.treatments leaf.params) classes → (path : List AbsState) →
+    at leaf e = subst (λ leaf. (classes : List Class) → Has (leaf_cases of_two.sets leaf.params leaf.keeps) classes → (path : List AbsState) →
         ((a : AbsState) → Has path a → IsAbsState (leaf.problem classes).world (leaf.problem classes).kept a) → is_violating_after (obligation (leaf.problem classes)) None path ≡ false) (sym e)
         (λ classes k path. subst (λ classes. ((a : AbsState) → Has path a → IsAbsState (split_problem classes).world (split_problem classes).kept a) → is_violating_after (obligation (split_problem classes)) None path ≡ false)
         (sym (one_of_one k)) (none_after None path))

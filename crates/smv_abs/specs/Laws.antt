@@ -1,11 +1,12 @@
 -- The laws: what the crate's public functions say.
-use Rattle.std.specs.Prelude.{◌≡◌, ◌<◌, ℕ, List, map, length, slice_get, Option, Some, option_map, IfSome, Bool, true, false}
+use Rattle.std.specs.Prelude.{◌≡◌, ◌<◌, ℕ, List, map, length, slice_get, Option, Some, option_map, IfSome, Bool, true, false, ◌&&◌, nat_lt, ◌++◌, get_or}
 use Rattle.smv_core.specs.Values.{Name, Value, number, range, choice, scalarset, ordset, Sizes}
 use Rattle.smv_core.specs.Flat.{Numbered, FlatState, values_in, flat_outcome, flat_allowed_by, flat_allowed}
 use Rattle.smv_core.specs.declared.flat.FlatExpr.{FlatExpr}
 use Rattle.smv_core.specs.declared.flat.Def.{Def}
 use Rattle.smv_core.specs.declared.flat.Family.{Family}
 use Rattle.smv_core.specs.declared.flat.SetInfo.{SetInfo}
+use Rattle.smv_core.specs.declared.flat.Guard.{Guard}
 use Rattle.smv_core.specs.declared.flat.Param.{Param}
 use Rattle.smv_core.specs.declared.flat.Keep.{Keep}
 use Rattle.smv_core.specs.declared.flat.Simple.{Simple as FlatSimple}
@@ -16,7 +17,7 @@ use Rattle.smv_abs.specs.Places.{World, world, places_in}
 use Rattle.smv_abs.specs.May.{AbsState, Kept, may}
 use Rattle.smv_abs.specs.Right.{may_allow, must_allow}
 use Rattle.smv_abs.specs.Demands.{is_defined, is_broken_map, is_assumed, is_broken_claim, may_guard}
-use Rattle.smv_abs.specs.Guards.{guard_holds}
+use Rattle.smv_abs.specs.Guards.{guard_holds, AreGuards}
 use Rattle.smv_abs.specs.Bound.{AreAtClasses, IsSingle}
 use Rattle.smv_abs.specs.Pictures.{Placing, placed, IsPlaced, ArePlaced, AreOfTypes, IsState, IsPicture, ArePictured, AreValues, KeepsNamed}
 use Rattle.smv_abs.specs.Placings.{spot_by, spot_between, AreDistinct, AreBelow, AreRising, AreIn, HasRoom}
@@ -41,6 +42,10 @@ CircularInduction State Instance Case Picture =
 -- the uses that are now hold no cycle: a rank falls along each
 abbrev pub NowUsesFall : Type 0
 NowUsesFall = (uses : ℕ → ℕ → Bool) (n u v : ℕ) → u < n → v < n → is_now uses n u v ≡ true → rank_of uses n v < rank_of uses n u
+
+-- so of so many units the uses that are now fall in this order
+abbrev pub NowUsesHaveOrder : Type 0
+NowUsesHaveOrder = (uses : ℕ → ℕ → Bool) (n : ℕ) → FallsAlong (λ u v. nat_lt u n && (nat_lt v n && is_now uses n u v)) (rank_of uses n)
 
 -- the three facts of ranges and enumerations, whose values are their own classes
 abbrev pub PlainTypesArePlaced : Type 0
@@ -100,6 +105,13 @@ ClaimsAreKept = InEachPicture (λ n w spots s kept a. (body : FlatExpr) (b : Lis
 abbrev pub GuardsCover : Type 0
 GuardsCover = (n : Numbered) (s : FlatState) (over : FlatSimple) (e : FlatExpr) (b : List Value) (v : Value) → Has (values_in n over) v →
     (i : Value) × Has (values_in n over) i × (guard_holds n s over e b i ≡ true)
+
+-- for each state and all values of a unit's parameters some values of those that its splits add meet every guard
+abbrev pub LeavesCover : Type 0
+LeavesCover = (n : Numbered) (own added : List FlatSimple) (guards : List Guard) → AreGuards (length own) (own ++ added) guards →
+    ((t : FlatSimple) → Has added t → (v : Value) × Has (values_in n t) v) → (s : FlatState) (values : List Value) → Has (one_of_each (map (values_in n) own)) values →
+    (more : List Value) × Has (one_of_each (map (values_in n) added)) more
+    × ((g : Guard) → Has guards g → guard_holds n s g.over g.expr (values ++ more) (get_or (values ++ more) g.var (number 0)) ≡ true)
 
 -- a guard that holds may hold in the picture
 abbrev pub GuardsAreKept : Type 0

@@ -23,4 +23,5 @@ pub mod WorkedRights
 pub mod WorkedCases
 pub mod WorkedObligations
 pub mod WorkedSoundness
+pub mod WorkedConflicts
 pub mod Laws

@@ -1,7 +1,7 @@
 -- Soundness: a plan of proof of a design, what a plan has to be, and that every unit holds in every run where no case has a violating path.
-use Rattle.std.specs.Prelude.{◌≡◌, ◌<◌, ◌≤◌, ℕ, List, [], ◌++◌, map, take, length, slice_get, Option, Some, None, Bool, true, false}
+use Rattle.std.specs.Prelude.{◌≡◌, ◌<◌, ℕ, List, [], ◌++◌, map, take, length, slice_get, Option, Some, None, IfSome, Bool, true, false}
 use Rattle.std.specs.List.{list_all}
-use Rattle.smv_core.specs.Values.{Name, Value, Sizes, truth, is_in}
+use Rattle.smv_core.specs.Values.{Value, Sizes, truth, is_in}
 use Rattle.smv_core.specs.Outcome.{is_true}
 use Rattle.smv_core.specs.Flat.{Numbered, FlatState, values_in, flat_outcome, flat_allowed}
 use Rattle.smv_core.specs.declared.flat.Claim.{Claim}
@@ -9,18 +9,19 @@ use Rattle.smv_core.specs.declared.flat.Class.{Class}
 use Rattle.smv_core.specs.declared.flat.Def.{Def}
 use Rattle.smv_core.specs.declared.flat.Family.{Family}
 use Rattle.smv_core.specs.declared.flat.Guard.{Guard}
+use Rattle.smv_core.specs.declared.flat.Keep.{Keep}
+use Rattle.smv_core.specs.declared.flat.Param.{Param}
 use Rattle.smv_core.specs.declared.flat.SetInfo.{SetInfo}
 use Rattle.smv_core.specs.declared.flat.Simple.{Simple as FlatSimple}
-use Rattle.smv_abs.specs.declared.abstract_type.AbsType.{AbsType}
 use Rattle.smv_abs.specs.Sets.{Has, one_of_each}
 use Rattle.smv_abs.specs.Places.{Place, is_named, world, named_in}
 use Rattle.smv_abs.specs.May.{AbsState}
-use Rattle.smv_abs.specs.Pictures.{Placing, placed, ArePlaced, KeepsNamed, IsAbsState}
+use Rattle.smv_abs.specs.Pictures.{KeepsNamed, IsAbsState}
 use Rattle.smv_abs.specs.Circular.{Demand, always, is_violating}
 use Rattle.smv_abs.specs.Obligations.{Demanded, defined, holds, Problem, obligation}
-use Rattle.smv_abs.specs.Cases.{Treatment, Parameter, cases}
-use Rattle.smv_abs.specs.Covers.{types_at, places_at, AreApart, AreTreated, IsIndexType}
-use Rattle.smv_abs.specs.Scopes.{ReadsOnly, before}
+use Rattle.smv_abs.specs.LeafCases.{treatments_of, parameters_of, leaf_cases}
+use Rattle.smv_abs.specs.Covers.{types_at, places_at, AreApart, IsIndexType}
+use Rattle.smv_abs.specs.Guards.{AreGuards}
 use Rattle.smv_abs.specs.Whole.{IsWhole, IsWholeDef}
 use Rattle.smv_abs.specs.FlatConflicts.{IsConflictFree}
 
@@ -30,12 +31,12 @@ pub data FlatUnit : Type 0 where
   claim_of : Claim → FlatUnit
 
 -- The proof of a leaf, the end of a unit's chain of splits: the unit, its parameters and then those that the splits add, the guards of the
--- splits, how each set type is treated, and the problem of each case.
+-- splits, which parameters of each set type its choice keeps, and the problem of each case.
 pub record LeafProof : Type 0 where
   pub unit : FlatUnit
-  pub params : List Parameter
+  pub params : List Param
   pub guards : List Guard
-  pub treatments : List Treatment
+  pub keeps : List Keep
   pub problem : List Class → Problem
 
 -- a plan of proof of a design: its names, its base definitions, the leaf of each unit in flat order, and which unit uses which now and before, by their places
@@ -52,11 +53,7 @@ at_sizes n sizes = record n { sizes = sizes }
 
 -- each set type has a value, and one of a declared size has its size
 abbrev pub AreSizes : Numbered → Sizes → Type 0
-AreSizes n sizes = (info : SetInfo) → Has n.sets info → (0 < sizes info.name) × HasSize info.size (sizes info.name)
-  where
-    HasSize : Option ℕ → ℕ → Type 0
-    HasSize None size = Unit {0}
-    HasSize (Some declared) size = size ≡ declared
+AreSizes n sizes = (info : SetInfo) → Has n.sets info → (0 < sizes info.name) × IfSome info.size (λ size. sizes info.name ≡ size)
 
 -- the types of the indexes of a family, and its values
 abbrev pub over_of : Option Family → List FlatSimple
@@ -108,7 +105,7 @@ IsSound plan = (sizes : Sizes) → AreSizes plan.names sizes → (run : List Fla
 
 -- no case of any leaf has a violating path of abstract states
 abbrev pub HasNoViolatingPath : Plan → Type 0
-HasNoViolatingPath plan = (leaf : LeafProof) → Has plan.leaves leaf → (classes : List Class) → Has (cases leaf.treatments leaf.params) classes →
+HasNoViolatingPath plan = (leaf : LeafProof) → Has plan.leaves leaf → (classes : List Class) → Has (leaf_cases plan.names.sets leaf.params leaf.keeps) classes →
     (path : List AbsState) → ((a : AbsState) → Has path a → IsAbsState (leaf.problem classes).world (leaf.problem classes).kept a) → is_violating (obligation (leaf.problem classes)) path ≡ false
 
 -- what a unit says at places of its parameters
@@ -142,8 +139,8 @@ module _ (plan : Plan) where
   -- It keeps elements at numbers, constants and classes alone. Its target is the unit at its own parameters; the element of a map is kept if
   -- it is at numbers, constants and classes. Its guards are the leaf's. It demands no more than base definitions and what the unit uses.
   pub record IsCase (u : ℕ) (leaf : LeafProof) (classes : List Class) (p : Problem) : Type 0 where
-    pub is_world : p.world ≡ world plan.names (types_at plan.names.sets leaf.treatments leaf.params classes)
-    pub are_params : p.params ≡ places_at plan.names leaf.params classes
+    pub is_world : p.world ≡ world plan.names (types_at plan.names.sets (treatments_of leaf.keeps 0 plan.names.sets) (parameters_of leaf.keeps leaf.params) classes)
+    pub are_params : p.params ≡ places_at plan.names (parameters_of leaf.keeps leaf.params) classes
     pub keeps_named : KeepsNamed p.world p.kept
     pub is_target : p.target ≡ said_at leaf.unit (own_places leaf p)
     pub keeps_target : list_all is_named (own_places leaf p) ≡ true → IsKept p leaf.unit (own_places leaf p)
@@ -163,23 +160,18 @@ module _ (plan : Plan) where
   IsUnit (map_of def) = IsDefinition def
   IsUnit (claim_of claim) = IsWhole plan.names.families claim.body
 
-  -- The parameters of a leaf are the unit's and then those that are added, over ranges and set types. Each guard is that of an added parameter
-  -- and of its type, and reads only the parameters before it; no two guards are of one parameter.
+  -- the parameters of a leaf are the unit's and then those that are added, over ranges and set types, and its guards are of those that are added
   pub record IsLeaf (leaf : LeafProof) : Type 0 where
     pub is_unit : IsUnit leaf.unit
     pub added : List FlatSimple
     pub are_params : map (λ p. p.over) leaf.params ≡ params_of plan.names leaf.unit ++ added
-    pub are_index_types : (p : Parameter) → Has leaf.params p → IsIndexType p.over
-    pub is_added : (g : Guard) → Has leaf.guards g → length (params_of plan.names leaf.unit) ≤ g.var
-    pub is_of_type : (g : Guard) → Has leaf.guards g → slice_get (map (λ p. p.over) leaf.params) g.var ≡ Some g.over
-    pub reads_before : (g : Guard) → Has leaf.guards g → ReadsOnly (before g.var) g.expr
-    pub one_each : (g h : Guard) → Has leaf.guards g → Has leaf.guards h → g.var ≡ h.var → g ≡ h
+    pub are_index_types : (p : Param) → Has leaf.params p → IsIndexType p.over
+    pub are_guards : AreGuards (length (params_of plan.names leaf.unit)) (map (λ p. p.over) leaf.params) leaf.guards
 
-  -- at sizes of the design the types of families and parameters have values, and each set type may be treated as it is
-  pub record IsSized (sizes : Sizes) : Type 0 where
-    pub families_have_values : (f : Family) → Has plan.names.families f → HasValue (at_sizes plan.names sizes) f.value
-    pub params_have_values : (leaf : LeafProof) → Has plan.leaves leaf → (p : Parameter) → Has leaf.params p → HasValue (at_sizes plan.names sizes) p.over
-    pub are_treated : (leaf : LeafProof) → Has plan.leaves leaf → AreTreated sizes plan.names.sets leaf.treatments
+  -- at sizes of the design the types of families and parameters have values
+  pub record HaveValues (sizes : Sizes) : Type 0 where
+    pub families : (f : Family) → Has plan.names.families f → HasValue (at_sizes plan.names sizes) f.value
+    pub params : (leaf : LeafProof) → Has plan.leaves leaf → (p : Param) → Has leaf.params p → HasValue (at_sizes plan.names sizes) p.over
 
   -- what the passes before the search give of a plan; the uses that are now fall in some order
   pub record IsPlan : Type 0 where
@@ -187,7 +179,7 @@ module _ (plan : Plan) where
     pub leaves : (leaf : LeafProof) → Has plan.leaves leaf → IsLeaf leaf
     pub order : ℕ → ℕ
     pub falls : (u v : ℕ) → plan.uses_now u v ≡ true → order v < order u
-    pub are_cases : (u : ℕ) (leaf : LeafProof) → slice_get plan.leaves u ≡ Some leaf → (classes : List Class) → Has (cases leaf.treatments leaf.params) classes →
+    pub are_cases : (u : ℕ) (leaf : LeafProof) → slice_get plan.leaves u ≡ Some leaf → (classes : List Class) → Has (leaf_cases plan.names.sets leaf.params leaf.keeps) classes →
         IsCase u leaf classes (leaf.problem classes)
     pub are_apart : AreApart plan.names.sets
-    pub at_each : (sizes : Sizes) → AreSizes plan.names sizes → IsSized sizes
+    pub have_values : (sizes : Sizes) → AreSizes plan.names sizes → HaveValues sizes

@@ -1,8 +1,9 @@
 // Laws of the definitions, each the contract of a function that does nothing.
-ghost use Rattle.smv_abs.specs.Laws.{CircularInduction, NowUsesFall, PlainTypesArePlaced, ScalarsetsArePlaced, OrdsetsArePlaced, MayKeepsOutcomes, MayKeepsRightSides, MustKeepsRightSides, MapsAreKept, ClaimsAreKept, GuardsCover, GuardsAreKept, PicturesExist, GrowingClassesCover, CasesCover, LeafCasesCover, OutcomesKeepScopes, ConflictsLeaveOneResult, NoViolatingPathIsSound};
+ghost use Rattle.smv_abs.specs.Laws.{CircularInduction, NowUsesFall, NowUsesHaveOrder, PlainTypesArePlaced, ScalarsetsArePlaced, OrdsetsArePlaced, MayKeepsOutcomes, MayKeepsRightSides, MustKeepsRightSides, MapsAreKept, ClaimsAreKept, GuardsCover, LeavesCover, GuardsAreKept, PicturesExist, GrowingClassesCover, CasesCover, LeafCasesCover, OutcomesKeepScopes, ConflictsLeaveOneResult, NoViolatingPathIsSound};
 ghost use Rattle.smv_abs.specs.WorkedRights.{BitTargets, SetTargets, OutsideTargets, Assignments};
 ghost use Rattle.smv_abs.specs.WorkedCases.{ScalarsetCases, ReducedCases, OrdsetCases, RangeCases, SeveralTypes, KeptParameters};
 ghost use Rattle.smv_abs.specs.WorkedObligations.{SplitHelps, OrderIsTotal, SplitOrders, Reductions, WrittenIndex, EachOther, MutualMaps, CertainMaps};
+ghost use Rattle.smv_abs.specs.WorkedConflicts.{PairsShare, NonePairs, NoneStands, PartsStand};
 ghost use Rattle.smv_abs.specs.WorkedSoundness.{SplitPlan, MutualPlan};
 ghost use Rattle.smv_abs.specs.Worked.{RestsCompare, GapsCompare, ReadsAtRests, Quantifiers, Memberships, Operators};
 
@@ -14,7 +15,8 @@ pub fn circular_induction<State, Instance, Case, Picture>()
 
 /// The uses that are now hold no cycle.
 pub fn now_uses_hold_no_cycle()
-    ensures { NowUsesFall }
+    ensures fall { NowUsesFall }
+    ensures order { NowUsesHaveOrder }
 {}
 
 /// Worked expressions in a small case: rests, gaps, elements at a rest, quantifiers, `in`, and the operators.
@@ -52,9 +54,10 @@ pub fn demands_are_kept()
     ensures claims { ClaimsAreKept }
 {}
 
-/// Guards cover the unit, and are kept in the picture.
+/// Guards cover the unit, each alone and all of a leaf together, and are kept in the picture.
 pub fn guards_are_kept()
     ensures cover { GuardsCover }
+    ensures leaves { LeavesCover }
     ensures kept { GuardsAreKept }
 {}
 
@@ -122,6 +125,14 @@ pub fn conflicts_leave_one_result()
 /// The joined law: where no case of any leaf has a violating path, every unit holds at every time of every run, for all sizes.
 pub fn no_violating_path_is_sound()
     ensures { NoViolatingPathIsSound }
+{}
+
+/// Worked definitions, with and without conflicts.
+pub fn worked_conflicts()
+    ensures pairs_share { PairsShare }
+    ensures none_pairs { NonePairs }
+    ensures none_stands { NoneStands }
+    ensures parts_stand { PartsStand }
 {}
 
 /// Worked plans of proof, of which the joined law speaks: a claim that is split, and two maps that use each other.
