@@ -20,9 +20,9 @@ use Rattle.smv_core.specs.declared.flat.Timing.TheVariants.{Now, Before}
 use Rattle.smv_abs.specs.Sets.{Has, first, later}
 use Rattle.smv_abs.specs.Places.{Place, is_named, places_in}
 use Rattle.smv_abs.specs.Cases.{Parameter, cases}
-use Rattle.smv_abs.specs.LeafCases.{kept_of, treatment_of, treatments_of, stays}
-use Rattle.smv_abs.specs.Covers.{IsTreated, AreTreated, IsIndexType}
-use Rattle.smv_abs.specs.Soundness.{FlatUnit, map_of, claim_of, LeafProof, at_sizes, AreSizes, over_of, params_of, HasValue, IsKept, IsCase, IsDefinition, IsUnit, IsLeaf, IsSized, IsPlan}
+use Rattle.smv_abs.specs.LeafCases.{stays, leaf_cases}
+use Rattle.smv_abs.specs.Covers.{IsIndexType}
+use Rattle.smv_abs.specs.Soundness.{FlatUnit, map_of, claim_of, LeafProof, at_sizes, AreSizes, over_of, params_of, HasValue, IsKept, IsCase, IsDefinition, IsUnit, IsLeaf, IsPlan}
 use Rattle.smv_abs.specs.Uses.{rank_of}
 use Rattle.smv_abs.proofs.Members.{Has-map, Has-from_map}
 use Rattle.smv_abs.proofs.Spots.{Has-numbers}
@@ -39,24 +39,6 @@ use Rattle.smv_oblig.proofs.UsesFall.{uses_fall}
 use Rattle.smv_oblig.proofs.CasePlaces.{IsThere, case_places, treatment_there, take_of, named_there}
 use Rattle.smv_oblig.proofs.ConeFacts.{AreIndexes, keeps_named, own_kept}
 use Rattle.smv_oblig.proofs.Granted.{proofs-are, granted}
-
--- a set type may be treated as it is
-is_treated : (is_ordered : Bool) (declared : Option ℕ) (kept : Option (List ℕ)) (size : ℕ) → IfSome declared (λ n. size ≡ n) → IsTreated is_ordered size (treatment_of is_ordered declared kept)
-is_treated true declared kept size e = tt
-is_treated false None kept size e = tt
-is_treated false (Some n) None size e = sym e
-is_treated false (Some n) (Some vars) size e = sym e
-
-are_treated : (sizes : Sizes) (keeps : List Keep) (k : ℕ) (sets : List SetInfo) → ((info : SetInfo) → Has sets info → IfSome info.size (λ n. sizes info.name ≡ n)) → AreTreated sizes sets (treatments_of keeps k sets)
-are_treated sizes keeps k [] each = tt
-are_treated sizes keeps k (info ∷ sets) each =
-    (is_treated info.ordered info.size (kept_of keeps k) (sizes info.name) (each info first), are_treated sizes keeps (k + 1) sets (λ other h. each other (later h)))
-
--- a set type of a declared size has that size
-sized : (n : Numbered) (sizes : Sizes) → AreSizes n sizes → (name : Name) (is_ordered : Bool) (declared : Option ℕ) →
-    Has n.sets (record { name = name; ordered = is_ordered; size = declared }) → IfSome declared (λ size. sizes name ≡ size)
-sized n sizes each name is_ordered None h = tt
-sized n sizes each name is_ordered (Some size) h = (each (record { name = name; ordered = is_ordered; size = Some size }) h).1
 
 -- a type that is not empty has a value
 set_value : (sizes : Sizes) (is_ordered : Bool) (name : Name) → 0 < sizes name → (v : Value) × Has (values_of sizes (named_set is_ordered name)) v
@@ -103,12 +85,9 @@ module _ (o : Outline) (checked : IsChecked o) where
   leaf-is u entry split = record {
     is_unit = unit-is entry.unit;
     added = split.added;
-    are_params = types_are entry ∙ split.are_params;
-    are_index_types = index_types entry split;
-    is_added = split.is_added;
-    is_of_type = λ g h. ap (λ types. slice_get types g.var) (types_are entry) ∙ split.is_of_type g h;
-    reads_before = split.reads_before;
-    one_each = split.one_each;
+    are_params = split.are_params;
+    are_index_types = split.are_index_types;
+    are_guards = split.are_guards;
   }
 
   -- the target of a map at numbers and classes is kept
@@ -155,15 +134,6 @@ module _ (o : Outline) (checked : IsChecked o) where
   split-is : (u : ℕ) (entry : Entry) → slice_get o.entries u ≡ Some entry → IsSplit o entry
   split-is u entry e = checked.are_split entry (get_Has o.entries u entry e)
 
-  sized-is : (sizes : Sizes) → AreSizes (names_of o.design) sizes → IsSized (plan_of o) sizes
-  sized-is sizes each = record {
-    families_have_values = λ f h. filled_value o.design sizes each f.value (checked.are_filled f h);
-    params_have_values = from_leaf (λ leaf. (p : Parameter) → Has leaf.params p → HasValue (at_sizes (names_of o.design) sizes) p.over)
-        (λ u entry e p h. filled_value o.design sizes each p.over (filled_types entry (split-is u entry e) p h));
-    are_treated = from_leaf (λ leaf. AreTreated sizes o.design.sets leaf.treatments)
-        (λ u entry e. are_treated sizes entry.choice.keeps 0 o.design.sets (λ info h. sized (names_of o.design) sizes each info.name info.ordered info.size h));
-  }
-
   pub is_plan : IsPlan (plan_of o)
   is_plan = record {
     base = λ def h. checked.are_definitions def (bases-are o.design def h);
@@ -171,8 +141,12 @@ module _ (o : Outline) (checked : IsChecked o) where
     order = rank_of (has_edge (graph o)) (length (graph o));
     falls = uses_fall o;
     are_cases = λ u leaf e classes h. let r = proofs-are o 0 u o.entries u leaf (omega arith) e in
-        subst (λ leaf. Has (cases leaf.treatments leaf.params) classes → IsCase (plan_of o) u leaf classes (leaf.problem classes)) r.2
+        subst (λ leaf. Has (leaf_cases o.design.sets leaf.params leaf.keeps) classes → IsCase (plan_of o) u leaf classes (leaf.problem classes)) r.2
         (λ h. case-is u r.0 (split-is u r.0 r.1) classes h r.1) h;
     are_apart = checked.are_apart;
-    at_each = sized-is;
+    have_values = λ sizes each. record {
+      families = λ f h. filled_value o.design sizes each f.value (checked.are_filled f h);
+      params = from_leaf (λ leaf. (p : Param) → Has leaf.params p → HasValue (at_sizes (names_of o.design) sizes) p.over)
+          (λ u entry e p h. filled_value o.design sizes each p.over ((split-is u entry e).are_filled p h));
+    };
   }

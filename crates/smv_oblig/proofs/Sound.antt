@@ -7,7 +7,7 @@ use Rattle.smv_abs.specs.May.{AbsState}
 use Rattle.smv_abs.specs.Pictures.{IsAbsState}
 use Rattle.smv_abs.specs.Circular.{is_violating}
 use Rattle.smv_abs.specs.Obligations.{obligation}
-use Rattle.smv_abs.specs.Cases.{cases}
+use Rattle.smv_abs.specs.LeafCases.{leaf_cases}
 use Rattle.smv_abs.specs.Soundness.{LeafProof, HasNoViolatingPath}
 use Rattle.smv_abs.proofs.OneOfEach.{get_Has, Has_get}
 use Rattle.smv_abs.proofs.Joined.{sound}
@@ -23,6 +23,6 @@ proved_is_sound o checked proved sizes are_sizes run is_run entry h values are_v
     sound (plan_of o) (is_plan o checked) none sizes are_sizes run is_run (proof_of o g.0 entry) (get_Has (proofs_from o 0 o.entries) g.0 _ (proofs-get o 0 g.0 o.entries g.0 entry (omega arith) g.1)) values are_values
   where
     none : HasNoViolatingPath (plan_of o)
-    none leaf h classes is_case = from_leaf o checked (λ leaf. Has (cases leaf.treatments leaf.params) classes → (path : List AbsState) →
+    none leaf h classes is_case = from_leaf o checked (λ leaf. Has (leaf_cases o.design.sets leaf.params leaf.keeps) classes → (path : List AbsState) →
         ((a : AbsState) → Has path a → IsAbsState (leaf.problem classes).world (leaf.problem classes).kept a) → is_violating (obligation (leaf.problem classes)) path ≡ false)
         (λ u entry e c. proved u entry e classes c) leaf h is_case

@@ -10,11 +10,10 @@ use Rattle.smv_core.specs.declared.flat.Family.{Family}
 use Rattle.smv_core.specs.declared.flat.Def.{Def}
 use Rattle.smv_core.specs.declared.flat.Claim.{Claim}
 use Rattle.smv_core.specs.declared.flat.Param.{Param}
-use Rattle.smv_core.specs.declared.flat.Guard.{Guard}
 use Rattle.smv_core.specs.declared.flat.Class.{Class}
 use Rattle.smv_abs.specs.Sets.{Has}
 use Rattle.smv_abs.specs.Covers.{AreApart, IsIndexType}
-use Rattle.smv_abs.specs.Scopes.{ReadsOnly, before}
+use Rattle.smv_abs.specs.Guards.{AreGuards}
 use Rattle.smv_abs.specs.Whole.{IsWhole}
 use Rattle.smv_abs.specs.May.{AbsState}
 use Rattle.smv_abs.specs.Pictures.{IsAbsState}
@@ -33,17 +32,13 @@ IsFilled d (Enum list) = (name : Name) × Has (get_or d.enums list []) name
 IsFilled d (Set set) = (info : SetInfo) × (slice_get d.sets set ≡ Some info)
 
 module _ (o : Outline) where
-  -- The parameters of a leaf are the unit's and then those that its splits add, over ranges and set types that are not empty. Each guard is
-  -- that of an added parameter and of its type, and reads only the parameters before it; no two guards are of one parameter.
+  -- the parameters of a leaf are the unit's and then those that its splits add, over ranges and set types that are not empty, and its guards are of those that are added
   pub record IsSplit (entry : Entry) : Type 0 where
     pub added : List Simple
     pub are_params : map (λ p. p.over) entry.leaf.params ≡ params_of (names_of o.design) (unit_in o.design entry.unit) ++ added
     pub are_index_types : (p : Param) → Has entry.leaf.params p → IsIndexType p.over
     pub are_filled : (p : Param) → Has entry.leaf.params p → IsFilled o.design p.over
-    pub is_added : (g : Guard) → Has entry.leaf.guards g → length (params_of (names_of o.design) (unit_in o.design entry.unit)) ≤ g.var
-    pub is_of_type : (g : Guard) → Has entry.leaf.guards g → slice_get (map (λ p. p.over) entry.leaf.params) g.var ≡ Some g.over
-    pub reads_before : (g : Guard) → Has entry.leaf.guards g → ReadsOnly (before g.var) g.expr
-    pub one_each : (g h : Guard) → Has entry.leaf.guards g → Has entry.leaf.guards h → g.var ≡ h.var → g ≡ h
+    pub are_guards : AreGuards (length (params_of (names_of o.design) (unit_in o.design entry.unit))) (map (λ p. p.over) entry.leaf.params) entry.leaf.guards
 
   -- Names: no two set types have one name. Kinds: the types are not empty, and claims read whole elements. Single assignment, and kinds again: each definition
   -- is one of a family, no two of its assignments conflict, and it reads whole elements. Splits: as above.

@@ -112,9 +112,9 @@ module _ (o : Outline) where
 abbrev pub proof_of : Outline → ℕ → Entry → LeafProof
 proof_of o u entry = record {
   unit = unit_in o.design entry.unit;
-  params = leaf_params entry;
+  params = entry.leaf.params;
   guards = entry.leaf.guards;
-  treatments = leaf_treatments o entry;
+  keeps = entry.choice.keeps;
   problem = problem_of o entry (timed o (graph o) u entry);
 }
 
