@@ -9,3 +9,5 @@ pub mod Sound
 pub mod Least
 pub mod ReadsWithin
 pub mod LeastCones
+pub mod WorkedSplit
+pub mod WorkedMaps

@@ -11,3 +11,4 @@ pub mod WorkedTimes
 pub mod WorkedOutlines
 pub mod WorkedCones
 pub mod WorkedProblems
+pub mod WorkedSound
