@@ -22,7 +22,7 @@ use Rattle.smv_abs.proofs.OneOfEach.{AreOf, are_of, one_of, get_past, get_Has, H
 use Rattle.smv_abs.proofs.CoverLists.{length-numbers}
 use Rattle.smv_oblig.specs.Reached.{is_among, reached, IsLeast}
 use Rattle.smv_oblig.specs.Reads.{is_own, is_bound_to, reads, part_reads}
-use Rattle.smv_oblig.specs.Outlines.{Entry, Outline, unit_in, claim_unit, assumed, chosen}
+use Rattle.smv_oblig.specs.Outlines.{Entry, Outline, Script, outline_of, unit_in, claim_unit, assumed, chosen}
 use Rattle.smv_oblig.specs.Times.{if_there, families_read, families_of_part, families_at_once, is_unit, families_assumed, families_of_unit, first_families, next_families, same_time}
 use Rattle.smv_oblig.specs.Cones.{AbsElement, element, same_element, index_places, each_index, elements_of, elements, elements_in, elements_at, elements_read, elements_of_def, elements_assumed, own_elements, of_target, first_elements, next_elements, cone}
 use Rattle.smv_oblig.specs.Problems.{leaf_params, leaf_treatments, world_of, params_at}
@@ -136,12 +136,15 @@ module _ (w : World) where
       is_least = λ other b g x h. found_least.is_least other b g x (from_cone x h);
     }
 
-module _ (o : Outline) (checked : IsChecked o) where
-  pub cone_is_least : (entry : Entry) → Has o.entries entry → (classes : List Class) → Has (cases (leaf_treatments o entry) (leaf_params entry)) classes →
+module _ (s : Script) (checked : IsChecked s) where
+  abbrev o : Outline
+  o = outline_of s
+
+  pub cone_is_least : (entry : Entry) → Has s.entries entry → (classes : List Class) → Has (cases (leaf_treatments o entry) (leaf_params entry)) classes →
       IsLeast (next_elements (world_of o entry classes) o entry (params_at o entry classes)) (first_elements (world_of o entry classes) o entry (params_at o entry classes)) (cone (world_of o entry classes) o entry (params_at o entry classes))
   cone_is_least entry h classes is_case = cone_least (world_of o entry classes) o entry (params_at o entry classes)
       (λ def is_map named. let k = unit-def o.design entry.unit def is_map in let d = checked.are_definitions def (get_Has o.design.defs k.0 def k.2) in
-      element_there (world_of o entry classes) def.family d.family d.is_family _ (own_are o checked 0 entry (checked.are_split entry h) classes is_case def is_map _ refl named))
+      element_there (world_of o entry classes) def.family d.family d.is_family _ (own_are s checked 0 entry (checked.are_split entry h) classes is_case def is_map _ refl named))
 
   -- families
   abbrev all : List ℕ

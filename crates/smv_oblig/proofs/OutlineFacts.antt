@@ -17,7 +17,7 @@ use Rattle.smv_abs.proofs.Members.{Has-flat_map}
 use Rattle.smv_abs.proofs.Same.{nat_eq-is}
 use Rattle.smv_abs.proofs.Spots.{Has-numbers}
 use Rattle.smv_abs.proofs.OneOfEach.{Has-from_flat_map, get_past}
-use Rattle.smv_oblig.specs.Outlines.{Entry, Outline, earlier, earliest, as_map, as_claim, map_in, claim_in, is_def, is_claim, may_be_base, base_of, bases, unit_in, is_map, map_unit, claim_unit, said_by, claim_by, assumed, map_by, map_in_layer, unit_in_layer, picked_unit, map_by_pick, chosen}
+use Rattle.smv_oblig.specs.Outlines.{Outline, earlier, earliest, as_map, as_claim, map_in, claim_in, is_def, is_claim, may_be_base, base_of, bases, unit_in, is_map, map_unit, claim_unit, said_by, claim_by, assumed, map_by, map_in_layer, unit_in_layer, picked_unit, map_by_pick, chosen}
 use Rattle.smv_oblig.proofs.Lookups.{none_or_some, inner, Has-option, Has-from_filter, find-some, place_of-is}
 
 earliest-Has : (defs : List Def) {def : Def} → earliest defs ≡ Some def → Has defs def
@@ -91,18 +91,18 @@ is_map-family d family layer (Claim k) def t e = absurd (cc)
 
 module _ (o : Outline) where
   -- the unit at a place says so
-  pub record Says (v : ℕ) (unit : FlatUnit) : Type 0 where
-    pub entry : Entry
-    pub is_there : slice_get o.entries v ≡ Some entry
-    pub is_said : unit_in o.design entry.unit ≡ unit
+  pub record Says (v : ℕ) (said : FlatUnit) : Type 0 where
+    pub unit : Unit
+    pub is_there : slice_get o.units v ≡ Some unit
+    pub is_said : unit_in o.design unit ≡ said
 
-  says_map : (oe : Option Entry) (def : Def) → option_and_then map_in (said_by o oe) ≡ Some def → (entry : Entry) × (oe ≡ Some entry) × (unit_in o.design entry.unit ≡ map_of def)
+  says_map : (ou : Option Unit) (def : Def) → option_and_then map_in (said_by o ou) ≡ Some def → (unit : Unit) × (ou ≡ Some unit) × (unit_in o.design unit ≡ map_of def)
   says_map None def e = absurd (cc)
-  says_map (Some entry) def e = (entry, refl, map_in-is (unit_in o.design entry.unit) def e)
+  says_map (Some unit) def e = (unit, refl, map_in-is (unit_in o.design unit) def e)
 
-  says_claim : (oe : Option Entry) (claim : FlatClaim) → option_and_then claim_in (said_by o oe) ≡ Some claim → (entry : Entry) × (oe ≡ Some entry) × (unit_in o.design entry.unit ≡ claim_of claim)
+  says_claim : (ou : Option Unit) (claim : FlatClaim) → option_and_then claim_in (said_by o ou) ≡ Some claim → (unit : Unit) × (ou ≡ Some unit) × (unit_in o.design unit ≡ claim_of claim)
   says_claim None claim e = absurd (cc)
-  says_claim (Some entry) claim e = (entry, refl, claim_in-is (unit_in o.design entry.unit) claim e)
+  says_claim (Some unit) claim e = (unit, refl, claim_in-is (unit_in o.design unit) claim e)
 
   -- a definition that a proof uses is a base definition, or that of a unit which a pick names
   pub data Comes (picks : List Pick) (family : ℕ) (def : Def) : Type 0 where
@@ -113,11 +113,11 @@ module _ (o : Outline) where
       (ov : Option ℕ) → map_unit o p.family layer ≡ ov → map_by o p.family ov ≡ Some def → (def.family ≡ family) × Comes picks family def
   by_unit picks family def p i s layer l None m e = let b = base-is o.design p.family def e in (b.is_its ∙ s, from_base (bases-Has o.design p.family def e))
   by_unit picks family def p i s layer l (Some v) m e =
-      let r = says_map (slice_get o.entries v) def e in
-      let q = place_of-is (λ entry. is_map o.design p.family layer entry.unit) o.entries v m in
+      let r = says_map (slice_get o.units v) def e in
+      let q = place_of-is (is_map o.design p.family layer) o.units v m in
       let same : q.0 ≡ r.0 = inner (sym q.1 ∙ r.1) in
-      (is_map-family o.design p.family layer r.0.unit def (subst (λ entry. is_map o.design p.family layer entry.unit ≡ true) same q.2) r.2 ∙ s,
-      from_unit p i v (ap (unit_in_layer o p.family) l ∙ m) (record { entry = r.0; is_there = r.1; is_said = r.2 }))
+      (is_map-family o.design p.family layer r.0 def (subst (λ unit. is_map o.design p.family layer unit ≡ true) same q.2) r.2 ∙ s,
+      from_unit p i v (ap (unit_in_layer o p.family) l ∙ m) (record { unit = r.0; is_there = r.1; is_said = r.2 }))
 
   by_layer : (picks : List Pick) (family : ℕ) (def : Def) (p : Pick) → find (λ p. nat_eq p.family family) picks ≡ Some p → p.family ≡ family →
       (ol : Option ℕ) → p.layer ≡ ol → map_in_layer o p.family ol ≡ Some def → (def.family ≡ family) × Comes picks family def
@@ -133,7 +133,7 @@ module _ (o : Outline) where
 
   claim-comes : (claim : FlatClaim) (ov : Option ℕ) → claim_by o ov ≡ Some claim → (v : ℕ) × (ov ≡ Some v) × Says v (claim_of claim)
   claim-comes claim None e = absurd (cc)
-  claim-comes claim (Some v) e = let r = says_claim (slice_get o.entries v) claim e in (v, refl, record { entry = r.0; is_there = r.1; is_said = r.2 })
+  claim-comes claim (Some v) e = let r = says_claim (slice_get o.units v) claim e in (v, refl, record { unit = r.0; is_there = r.1; is_said = r.2 })
 
   pub assumed-comes : (used : Assumed) (claim : FlatClaim) → assumed o used ≡ Some claim → (v : ℕ) × (claim_unit o used.claim ≡ Some v) × Says v (claim_of claim)
   assumed-comes used claim e = claim-comes claim (claim_unit o used.claim) e

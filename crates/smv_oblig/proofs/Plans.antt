@@ -1,4 +1,4 @@
--- The reading of an outline is a plan of proof.
+-- The reading of a script is a plan of proof.
 use Rattle.std.proofs.Common.{◌≡◌, ℕ, zero, suc, ◌+◌, ◌-◌, ◌<◌, ◌≤◌, List, [], ◌∷◌, ◌++◌, map, length, take, get_or, Bool, true, false, if◌then◌else◌, refl, sym, ap, subst, ◌∙◌, inl, inr, Option, Some, None, IfSome, arith}
 use Rattle.std.specs.List.{slice_get, list_all}
 use Rattle.smv_core.specs.Values.{Name, Value, number, constant, scalar, ordinal, Sizes, values_of, numbers_from}
@@ -29,7 +29,7 @@ use Rattle.smv_abs.proofs.Spots.{Has-numbers}
 use Rattle.smv_abs.proofs.OneOfEach.{AreOf, one_of, map_joined, map_long, get_Has, Has_get}
 use Rattle.smv_abs.proofs.CoverParams.{map-map}
 use Rattle.smv_abs.proofs.CoverScalarsets.{named_set}
-use Rattle.smv_oblig.specs.Outlines.{Entry, Outline, names_of, as_map, as_claim, bases, unit_in}
+use Rattle.smv_oblig.specs.Outlines.{Entry, Outline, Script, outline_of, names_of, as_map, as_claim, bases, unit_in}
 use Rattle.smv_oblig.specs.Times.{graph, has_edge, timed}
 use Rattle.smv_oblig.specs.Problems.{leaf_params, leaf_treatments, world_of, params_at, own_params, problem_of, proof_of, proofs_from, plan_of}
 use Rattle.smv_oblig.specs.Checked.{IsFilled, IsSplit, IsChecked}
@@ -56,16 +56,19 @@ filled_there d (Range low high) f = tt
 filled_there d (Enum list) f = tt
 filled_there d (Set set) f = f
 
-module _ (o : Outline) (checked : IsChecked o) where
-  as_map-is : (od : Option Def) (k : ℕ) → slice_get o.design.defs k ≡ od → IsUnit (plan_of o) (as_map od)
+module _ (s : Script) (checked : IsChecked s) where
+  abbrev o : Outline
+  o = outline_of s
+
+  as_map-is : (od : Option Def) (k : ℕ) → slice_get o.design.defs k ≡ od → IsUnit (plan_of s) (as_map od)
   as_map-is None k e = tt
   as_map-is (Some def) k e = checked.are_definitions def (get_Has o.design.defs k def e)
 
-  as_claim-is : (oc : Option FlatClaim) (k : ℕ) → slice_get o.design.claims k ≡ oc → IsUnit (plan_of o) (as_claim oc)
+  as_claim-is : (oc : Option FlatClaim) (k : ℕ) → slice_get o.design.claims k ≡ oc → IsUnit (plan_of s) (as_claim oc)
   as_claim-is None k e = tt
   as_claim-is (Some claim) k e = checked.are_whole claim (get_Has o.design.claims k claim e)
 
-  unit-is : (unit : Unit) → IsUnit (plan_of o) (unit_in o.design unit)
+  unit-is : (unit : Unit) → IsUnit (plan_of s) (unit_in o.design unit)
   unit-is (Map k) = as_map-is (slice_get o.design.defs k) k refl
   unit-is (Claim k) = as_claim-is (slice_get o.design.claims k) k refl
 
@@ -75,13 +78,13 @@ module _ (o : Outline) (checked : IsChecked o) where
   types_are : (entry : Entry) → map (λ p. p.over) (leaf_params entry) ≡ map (λ p. p.over) entry.leaf.params
   types_are entry = map-map (λ p. p.over) (parameter entry) entry.leaf.params
 
-  index_types : (entry : Entry) → IsSplit o entry → (p : Parameter) → Has (leaf_params entry) p → IsIndexType p.over
+  index_types : (entry : Entry) → IsSplit s entry → (p : Parameter) → Has (leaf_params entry) p → IsIndexType p.over
   index_types entry split p h = let r = Has-from_map (parameter entry) entry.leaf.params h in subst (λ (p : Parameter). IsIndexType p.over) (sym r.2) (split.are_index_types r.0 r.1)
 
-  filled_types : (entry : Entry) → IsSplit o entry → (p : Parameter) → Has (leaf_params entry) p → IsFilled o.design p.over
+  filled_types : (entry : Entry) → IsSplit s entry → (p : Parameter) → Has (leaf_params entry) p → IsFilled o.design p.over
   filled_types entry split p h = let r = Has-from_map (parameter entry) entry.leaf.params h in subst (λ (p : Parameter). IsFilled o.design p.over) (sym r.2) (split.are_filled r.0 r.1)
 
-  leaf-is : (u : ℕ) (entry : Entry) → IsSplit o entry → IsLeaf (plan_of o) (proof_of o u entry)
+  leaf-is : (u : ℕ) (entry : Entry) → IsSplit s entry → IsLeaf (plan_of s) (proof_of s u entry)
   leaf-is u entry split = record {
     is_unit = unit-is entry.unit;
     added = split.added;
@@ -91,7 +94,7 @@ module _ (o : Outline) (checked : IsChecked o) where
   }
 
   -- the target of a map at numbers and classes is kept
-  module _ (u : ℕ) (entry : Entry) (split : IsSplit o entry) (classes : List Class) (is_case : Has (cases (leaf_treatments o entry) (leaf_params entry)) classes) where
+  module _ (u : ℕ) (entry : Entry) (split : IsSplit s entry) (classes : List Class) (is_case : Has (cases (leaf_treatments o entry) (leaf_params entry)) classes) where
     pub own_are : (def : Def) → unit_in o.design entry.unit ≡ map_of def → (own : List Place) → take (length (over_of (slice_get o.design.families def.family))) (params_at o entry classes) ≡ own →
         list_all is_named own ≡ true → AreIndexes (world_of o entry classes) def.family own
     own_are def is_map own is_own named =
@@ -108,14 +111,14 @@ module _ (o : Outline) (checked : IsChecked o) where
         one_of _ own (named_there w over own taken named)
 
     target_kept : (unit : FlatUnit) → unit_in o.design entry.unit ≡ unit → (own : List Place) → take (length (params_of (names_of o.design) unit)) (params_at o entry classes) ≡ own →
-        list_all is_named own ≡ true → IsKept (problem_of o entry (timed o (graph o) u entry) classes) unit own
+        list_all is_named own ≡ true → IsKept (problem_of o entry (timed o (graph s) u entry) classes) unit own
     target_kept (claim_of claim) e own is_own named = tt
     target_kept (map_of def) e own is_own named =
         let k = unit-def o.design entry.unit def e in
         let d = checked.are_definitions def (get_Has o.design.defs k.0 def k.2) in
         own_kept (world_of o entry classes) o entry (params_at o entry classes) def e d.family d.is_family own is_own (own_are def e own is_own named) named
 
-    case-is : slice_get o.entries u ≡ Some entry → IsCase (plan_of o) u (proof_of o u entry) classes (problem_of o entry (timed o (graph o) u entry) classes)
+    case-is : slice_get s.entries u ≡ Some entry → IsCase (plan_of s) u (proof_of s u entry) classes (problem_of o entry (timed o (graph s) u entry) classes)
     case-is there = record {
       is_world = refl;
       are_params = refl;
@@ -123,25 +126,25 @@ module _ (o : Outline) (checked : IsChecked o) where
       is_target = refl;
       keeps_target = target_kept (unit_in o.design entry.unit) refl (own_params o entry classes) refl;
       are_guards = refl;
-      now = granted o u entry there classes Now;
-      before = granted o u entry there classes Before;
+      now = granted s u entry there classes Now;
+      before = granted s u entry there classes Before;
     }
 
   -- what holds of each leaf of the outline holds of each of the plan
-  pub from_leaf : (P : LeafProof → Type 0) → ((u : ℕ) (entry : Entry) → slice_get o.entries u ≡ Some entry → P (proof_of o u entry)) → (leaf : LeafProof) → Has (proofs_from o 0 o.entries) leaf → P leaf
-  from_leaf P each leaf h = let g = Has_get h in let r = proofs-are o 0 g.0 o.entries g.0 leaf (omega arith) g.1 in subst P r.2 (each g.0 r.0 r.1)
+  pub from_leaf : (P : LeafProof → Type 0) → ((u : ℕ) (entry : Entry) → slice_get s.entries u ≡ Some entry → P (proof_of s u entry)) → (leaf : LeafProof) → Has (proofs_from s 0 s.entries) leaf → P leaf
+  from_leaf P each leaf h = let g = Has_get h in let r = proofs-are s 0 g.0 s.entries g.0 leaf (omega arith) g.1 in subst P r.2 (each g.0 r.0 r.1)
 
-  split-is : (u : ℕ) (entry : Entry) → slice_get o.entries u ≡ Some entry → IsSplit o entry
-  split-is u entry e = checked.are_split entry (get_Has o.entries u entry e)
+  split-is : (u : ℕ) (entry : Entry) → slice_get s.entries u ≡ Some entry → IsSplit s entry
+  split-is u entry e = checked.are_split entry (get_Has s.entries u entry e)
 
-  pub is_plan : IsPlan (plan_of o)
+  pub is_plan : IsPlan (plan_of s)
   is_plan = record {
     base = λ def h. checked.are_definitions def (bases-are o.design def h);
-    leaves = from_leaf (IsLeaf (plan_of o)) (λ u entry e. leaf-is u entry (split-is u entry e));
-    order = rank_of (has_edge (graph o)) (length (graph o));
-    falls = uses_fall o;
-    are_cases = λ u leaf e classes h. let r = proofs-are o 0 u o.entries u leaf (omega arith) e in
-        subst (λ leaf. Has (leaf_cases o.design.sets leaf.params leaf.keeps) classes → IsCase (plan_of o) u leaf classes (leaf.problem classes)) r.2
+    leaves = from_leaf (IsLeaf (plan_of s)) (λ u entry e. leaf-is u entry (split-is u entry e));
+    order = rank_of (has_edge (graph s)) (length (graph s));
+    falls = uses_fall s;
+    are_cases = λ u leaf e classes h. let r = proofs-are s 0 u s.entries u leaf (omega arith) e in
+        subst (λ leaf. Has (leaf_cases o.design.sets leaf.params leaf.keeps) classes → IsCase (plan_of s) u leaf classes (leaf.problem classes)) r.2
         (λ h. case-is u r.0 (split-is u r.0 r.1) classes h r.1) h;
     are_apart = checked.are_apart;
     have_values = λ sizes each. record {

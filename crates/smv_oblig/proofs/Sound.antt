@@ -11,18 +11,18 @@ use Rattle.smv_abs.specs.LeafCases.{leaf_cases}
 use Rattle.smv_abs.specs.Soundness.{LeafProof, HasNoViolatingPath}
 use Rattle.smv_abs.proofs.OneOfEach.{get_Has, Has_get}
 use Rattle.smv_abs.proofs.Joined.{sound}
-use Rattle.smv_oblig.specs.Outlines.{Outline}
+use Rattle.smv_oblig.specs.Outlines.{Script}
 use Rattle.smv_oblig.specs.Problems.{proof_of, proofs_from, plan_of}
 use Rattle.smv_oblig.specs.Checked.{IsChecked, IsProved, IsSound}
 use Rattle.smv_oblig.proofs.Granted.{proofs-get}
 use Rattle.smv_oblig.proofs.Plans.{from_leaf, is_plan}
 
-pub proved_is_sound : (o : Outline) → IsChecked o → IsProved o → IsSound o
-proved_is_sound o checked proved sizes are_sizes run is_run entry h values are_values =
+pub proved_is_sound : (s : Script) → IsChecked s → IsProved s → IsSound s
+proved_is_sound s checked proved sizes are_sizes run is_run entry h values are_values =
     let g = Has_get h in
-    sound (plan_of o) (is_plan o checked) none sizes are_sizes run is_run (proof_of o g.0 entry) (get_Has (proofs_from o 0 o.entries) g.0 _ (proofs-get o 0 g.0 o.entries g.0 entry (omega arith) g.1)) values are_values
+    sound (plan_of s) (is_plan s checked) none sizes are_sizes run is_run (proof_of s g.0 entry) (get_Has (proofs_from s 0 s.entries) g.0 _ (proofs-get s 0 g.0 s.entries g.0 entry (omega arith) g.1)) values are_values
   where
-    none : HasNoViolatingPath (plan_of o)
-    none leaf h classes is_case = from_leaf o checked (λ leaf. Has (leaf_cases o.design.sets leaf.params leaf.keeps) classes → (path : List AbsState) →
+    none : HasNoViolatingPath (plan_of s)
+    none leaf h classes is_case = from_leaf s checked (λ leaf. Has (leaf_cases s.design.sets leaf.params leaf.keeps) classes → (path : List AbsState) →
         ((a : AbsState) → Has path a → IsAbsState (leaf.problem classes).world (leaf.problem classes).kept a) → is_violating (obligation (leaf.problem classes)) path ≡ false)
         (λ u entry e c. proved u entry e classes c) leaf h is_case

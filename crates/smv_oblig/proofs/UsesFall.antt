@@ -10,9 +10,9 @@ use Rattle.smv_abs.specs.Uses.{is_now, rank_of}
 use Rattle.smv_abs.proofs.Tests.{left_of, right_of, or_cases}
 use Rattle.smv_abs.proofs.Members.{any-some}
 use Rattle.smv_abs.proofs.Same.{nat_eq-is}
-use Rattle.smv_abs.proofs.OneOfEach.{get_past}
+use Rattle.smv_abs.proofs.OneOfEach.{get_past, map_long}
 use Rattle.smv_abs.proofs.NowOrder.{falls}
-use Rattle.smv_oblig.specs.Outlines.{Entry, Outline, is_claim, is_map, map_unit, claim_unit, unit_in_layer, picked_unit}
+use Rattle.smv_oblig.specs.Outlines.{Entry, Outline, Script, outline_of, is_claim, is_map, map_unit, claim_unit, unit_in_layer, picked_unit}
 use Rattle.smv_oblig.specs.Times.{is_unit, open_uses, graph_from, graph, has_edge, time_of, unit_time, is_open_pick, same_time, pick_time, claim_time, timed}
 use Rattle.smv_oblig.specs.Problems.{is_at, entry_uses, used_by, uses_at}
 use Rattle.smv_oblig.proofs.Lookups.{inner, place_of-is}
@@ -21,12 +21,12 @@ graph-long : (o : Outline) (u : ℕ) (entries : List Entry) → length (graph_fr
 graph-long o u [] = refl
 graph-long o u (entry ∷ entries) = ap suc (graph-long o (suc u) entries)
 
-unit_in_layer-below : (o : Outline) (family : ℕ) (ol : Option ℕ) (v : ℕ) → unit_in_layer o family ol ≡ Some v → v < length o.entries
+unit_in_layer-below : (o : Outline) (family : ℕ) (ol : Option ℕ) (v : ℕ) → unit_in_layer o family ol ≡ Some v → v < length o.units
 unit_in_layer-below o family None v e = absurd (cc)
-unit_in_layer-below o family (Some layer) v e = let r = place_of-is (λ entry. is_map o.design family layer entry.unit) o.entries v e in get_past o.entries v r.0 r.1
+unit_in_layer-below o family (Some layer) v e = let r = place_of-is (is_map o.design family layer) o.units v e in get_past o.units v r.0 r.1
 
-claim_unit-below : (o : Outline) (claim v : ℕ) → claim_unit o claim ≡ Some v → v < length o.entries
-claim_unit-below o claim v e = let r = place_of-is (λ entry. is_claim claim entry.unit) o.entries v e in get_past o.entries v r.0 r.1
+claim_unit-below : (o : Outline) (claim v : ℕ) → claim_unit o claim ≡ Some v → v < length o.units
+claim_unit-below o claim v e = let r = place_of-is (is_claim claim) o.units v e in get_past o.units v r.0 r.1
 
 names-is : (v : ℕ) (ov : Option ℕ) → is_unit v ov ≡ true → ov ≡ Some v
 names-is v None e = absurd (cc)
@@ -52,9 +52,12 @@ zip-is f [] h = elim h [ ]
 zip-is f (x ∷ xs) first = refl
 zip-is f (x ∷ xs) (later h) = zip-is f xs h
 
-module _ (o : Outline) (u : ℕ) (entry : Entry) where
+module _ (s : Script) (u : ℕ) (entry : Entry) where
+  abbrev o : Outline
+  o = outline_of s
+
   abbrev edges : List (List ℕ)
-  edges = graph o
+  edges = graph s
 
   pick-now : (p : Pick) (v : ℕ) (ol : Option ℕ) → p.layer ≡ ol → picked_unit o p ≡ Some v →
       (b : Bool) → (if is_none ol then Now else if b then unit_time edges u (picked_unit o p) else Before) ≡ Now → is_now (has_edge edges) (length edges) u v ≡ true
@@ -71,7 +74,7 @@ module _ (o : Outline) (u : ℕ) (entry : Entry) where
   families = same_time o u entry
 
   -- a use that is now is an edge that is now, to a unit
-  uses-now : (v : ℕ) → entry_uses o entry (timed o (graph o) u entry) Now u v ≡ true → (is_now (has_edge edges) (length edges) u v ≡ true) × (v < length o.entries)
+  uses-now : (v : ℕ) → entry_uses s entry (timed o (graph s) u entry) Now u v ≡ true → (is_now (has_edge edges) (length edges) u v ≡ true) × (v < length o.units)
   uses-now v e = elim (or_cases _ _ e) [
     | inl a ↦ let r = any-some (λ (p, t). is_at t Now && is_unit v (picked_unit o p)) (zip entry.choice.picks (map (pick_time o edges u families) entry.choice.picks)) a in
         let n = names-is v (picked_unit o r.0.0) (right_of (is_at r.0.1 Now) _ r.2) in
@@ -87,14 +90,15 @@ module _ (o : Outline) (u : ℕ) (entry : Entry) where
   ]
 
 -- so the units fall along the uses that are now
-pub uses_fall : (o : Outline) (u v : ℕ) → uses_at o Now u v ≡ true → rank_of (has_edge (graph o)) (length (graph o)) v < rank_of (has_edge (graph o)) (length (graph o)) u
-uses_fall o u v e = at (slice_get o.entries u) refl e
+pub uses_fall : (s : Script) (u v : ℕ) → uses_at s Now u v ≡ true → rank_of (has_edge (graph s)) (length (graph s)) v < rank_of (has_edge (graph s)) (length (graph s)) u
+uses_fall s u v e = at (slice_get s.entries u) refl e
   where
-    at : (oe : Option Entry) → slice_get o.entries u ≡ oe → used_by o Now u v oe ≡ true → rank_of (has_edge (graph o)) (length (graph o)) v < rank_of (has_edge (graph o)) (length (graph o)) u
+    at : (oe : Option Entry) → slice_get s.entries u ≡ oe → used_by s Now u v oe ≡ true → rank_of (has_edge (graph s)) (length (graph s)) v < rank_of (has_edge (graph s)) (length (graph s)) u
     at None i e = absurd (cc)
     at (Some entry) i e =
-        let r = uses-now o u entry v e in
-        let long = graph-long o 0 o.entries in
-        let below = get_past o.entries u entry i in
+        let r = uses-now s u entry v e in
+        let long = graph-long (outline_of s) 0 s.entries in
+        let units = map_long (λ (entry : Entry). entry.unit) s.entries in
+        let below = get_past s.entries u entry i in
         let b = r.1 in
-        falls (has_edge (graph o)) (length (graph o)) u v (omega (arith, long, below)) (omega (arith, long, b)) r.0
+        falls (has_edge (graph s)) (length (graph s)) u v (omega (arith, long, below)) (omega (arith, long, units, b)) r.0

@@ -1,4 +1,4 @@
--- The worked outline of two maps that are proved by each other, one before and one now.
+-- The worked script of two maps that are proved by each other, one before and one now.
 use Rattle.std.proofs.Common.{◌≡◌, ℕ, zero, suc, ◌≤◌, List, [], ◌∷◌, Bool, true, false, ◌&&◌, refl, sym, subst, inl, inr, Option, Some, None, arith}
 use Rattle.std.specs.List.{slice_get}
 use Rattle.smv_core.specs.Values.{number}
@@ -16,17 +16,17 @@ use Rattle.smv_abs.specs.Obligations.{Problem, obligation}
 use Rattle.smv_abs.specs.Soundness.{IsDefinition}
 use Rattle.smv_abs.proofs.WorkedPlans.{one_of_one, one_of_two}
 use Rattle.smv_abs.proofs.Computing.{computing}
-use Rattle.smv_oblig.specs.Outlines.{Entry, Outline}
+use Rattle.smv_oblig.specs.Outlines.{Entry, Script, outline_of}
 use Rattle.smv_oblig.specs.Times.{graph, timed}
 use Rattle.smv_oblig.specs.Problems.{problem_of, plan_of}
 use Rattle.smv_oblig.specs.Checked.{IsFilled, IsSplit, IsChecked, IsProved}
 use Rattle.smv_oblig.specs.WorkedTomasulo.{one, num, set, always, stepwise, by_layer}
-use Rattle.smv_oblig.specs.WorkedOutlines.{picking, of_map}
+use Rattle.smv_oblig.specs.WorkedScripts.{picking, of_map}
 use Rattle.smv_oblig.specs.WorkedProblems.{one_steps}
 use Rattle.smv_oblig.proofs.Lookups.{inner}
 
-abbrev the_outline : Outline
-the_outline = one_steps (one 0)
+abbrev the_script : Script
+the_script = one_steps (one 0)
 
 abbrev base_a : Def
 base_a = stepwise 0 None (set (num 0)) (set (one 1)) 0
@@ -40,7 +40,7 @@ entry_a = of_map 2 [] (picking (by_layer 1 0 ∷ []))
 abbrev entry_b : Entry
 entry_b = of_map 3 [] (picking (by_layer 0 0 ∷ []))
 
-is_base_a : IsDefinition (plan_of the_outline) base_a
+is_base_a : IsDefinition (plan_of the_script) base_a
 unfolding computing
 is_base_a = record {
   family = _;
@@ -49,7 +49,7 @@ is_base_a = record {
   is_whole = record { init = ((λ e h. elim h [ ]), tt); next = ((λ e h. elim h [ ]), (tt, tt)); comb = tt };
 }
 
-is_base_b : IsDefinition (plan_of the_outline) base_b
+is_base_b : IsDefinition (plan_of the_script) base_b
 unfolding computing
 is_base_b = record {
   family = _;
@@ -58,7 +58,7 @@ is_base_b = record {
   is_whole = record { init = tt; next = tt; comb = ((λ e h. elim h [ ]), (tt, tt)) };
 }
 
-is_zeroed : (of place : ℕ) (f : Family) → slice_get the_outline.design.families of ≡ Some f → IsDefinition (plan_of the_outline) (always of (Some 0) (set (num 0)) place)
+is_zeroed : (of place : ℕ) (f : Family) → slice_get the_script.design.families of ≡ Some f → IsDefinition (plan_of the_script) (always of (Some 0) (set (num 0)) place)
 unfolding computing
 is_zeroed of place f e = record {
   family = f;
@@ -67,14 +67,14 @@ is_zeroed of place f e = record {
   is_whole = record { init = tt; next = tt; comb = ((λ e h. elim h [ ]), tt) };
 }
 
-are_definitions : (def : Def) → Has the_outline.design.defs def → IsDefinition (plan_of the_outline) def
+are_definitions : (def : Def) → Has the_script.design.defs def → IsDefinition (plan_of the_script) def
 are_definitions _ first = is_base_a
 are_definitions _ (later first) = is_base_b
 are_definitions _ (later (later first)) = is_zeroed 0 2 _ refl
 are_definitions _ (later (later (later first))) = is_zeroed 1 3 _ refl
 are_definitions def (later (later (later (later h)))) = elim h [ ]
 
-are_split : (entry : Entry) → Has the_outline.entries entry → IsSplit the_outline entry
+are_split : (entry : Entry) → Has the_script.entries entry → IsSplit the_script entry
 are_split _ first = record {
   added = []; are_params = refl; are_index_types = λ p h. elim h [ ]; are_filled = λ p h. elim h [ ];
   are_guards = record { is_added = λ g h. elim h [ ]; is_of_type = λ g h. elim h [ ]; reads_before = λ g h. elim h [ ]; one_each = λ g h i j e. elim i [ ] };
@@ -85,12 +85,12 @@ are_split _ (later first) = record {
 }
 are_split entry (later (later h)) = elim h [ ]
 
-are_filled : (f : Family) → Has the_outline.design.families f → IsFilled the_outline.design f.value
+are_filled : (f : Family) → Has the_script.design.families f → IsFilled the_script.design f.value
 are_filled _ first = omega arith
 are_filled _ (later first) = omega arith
 are_filled f (later (later h)) = elim h [ ]
 
-pub checked : IsChecked the_outline
+pub checked : IsChecked the_script
 checked = record {
   are_apart = ((λ other h. elim h [ ]), tt);
   are_filled = are_filled;
@@ -100,10 +100,10 @@ checked = record {
 }
 
 abbrev problem_a : Problem
-problem_a = problem_of the_outline entry_a (timed the_outline (graph the_outline) 0 entry_a) []
+problem_a = problem_of (outline_of the_script) entry_a (timed (outline_of the_script) (graph the_script) 0 entry_a) []
 
 abbrev problem_b : Problem
-problem_b = problem_of the_outline entry_b (timed the_outline (graph the_outline) 1 entry_b) []
+problem_b = problem_of (outline_of the_script) entry_b (timed (outline_of the_script) (graph the_script) 1 entry_b) []
 
 last_false : (a b : Bool) {c : Bool} → c ≡ false → (a && (b && c)) ≡ false
 last_false true true e = e
@@ -154,21 +154,21 @@ none_b old (a ∷ b ∷ path) h = let o = obligation problem_b in last_false (o.
 abbrev HasNone : Problem → Type 0
 HasNone p = (path : List AbsState) → AreStates p path → is_violating_after (obligation p) None path ≡ false
 
-at_a : (entry : Entry) → entry_a ≡ entry → (classes : List Class) → Has (leaf_cases the_outline.design.sets entry.leaf.params entry.choice.keeps) classes →
-    HasNone (problem_of the_outline entry (timed the_outline (graph the_outline) 0 entry) classes)
+at_a : (entry : Entry) → entry_a ≡ entry → (classes : List Class) → Has (leaf_cases the_script.design.sets entry.leaf.params entry.choice.keeps) classes →
+    HasNone (problem_of (outline_of the_script) entry (timed (outline_of the_script) (graph the_script) 0 entry) classes)
 unfolding computing
-at_a entry e = subst (λ entry. (classes : List Class) → Has (leaf_cases the_outline.design.sets entry.leaf.params entry.choice.keeps) classes →
-    HasNone (problem_of the_outline entry (timed the_outline (graph the_outline) 0 entry) classes)) e
-    (λ classes h. subst (λ classes. HasNone (problem_of the_outline entry_a (timed the_outline (graph the_outline) 0 entry_a) classes)) (sym (one_of_one h)) (none_a None tt))
+at_a entry e = subst (λ entry. (classes : List Class) → Has (leaf_cases the_script.design.sets entry.leaf.params entry.choice.keeps) classes →
+    HasNone (problem_of (outline_of the_script) entry (timed (outline_of the_script) (graph the_script) 0 entry) classes)) e
+    (λ classes h. subst (λ classes. HasNone (problem_of (outline_of the_script) entry_a (timed (outline_of the_script) (graph the_script) 0 entry_a) classes)) (sym (one_of_one h)) (none_a None tt))
 
-at_b : (entry : Entry) → entry_b ≡ entry → (classes : List Class) → Has (leaf_cases the_outline.design.sets entry.leaf.params entry.choice.keeps) classes →
-    HasNone (problem_of the_outline entry (timed the_outline (graph the_outline) 1 entry) classes)
+at_b : (entry : Entry) → entry_b ≡ entry → (classes : List Class) → Has (leaf_cases the_script.design.sets entry.leaf.params entry.choice.keeps) classes →
+    HasNone (problem_of (outline_of the_script) entry (timed (outline_of the_script) (graph the_script) 1 entry) classes)
 unfolding computing
-at_b entry e = subst (λ entry. (classes : List Class) → Has (leaf_cases the_outline.design.sets entry.leaf.params entry.choice.keeps) classes →
-    HasNone (problem_of the_outline entry (timed the_outline (graph the_outline) 1 entry) classes)) e
-    (λ classes h. subst (λ classes. HasNone (problem_of the_outline entry_b (timed the_outline (graph the_outline) 1 entry_b) classes)) (sym (one_of_one h)) (none_b None))
+at_b entry e = subst (λ entry. (classes : List Class) → Has (leaf_cases the_script.design.sets entry.leaf.params entry.choice.keeps) classes →
+    HasNone (problem_of (outline_of the_script) entry (timed (outline_of the_script) (graph the_script) 1 entry) classes)) e
+    (λ classes h. subst (λ classes. HasNone (problem_of (outline_of the_script) entry_b (timed (outline_of the_script) (graph the_script) 1 entry_b) classes)) (sym (one_of_one h)) (none_b None))
 
-pub proved : IsProved the_outline
+pub proved : IsProved the_script
 proved zero entry e classes h path states = at_a entry (inner e) classes h path states
 proved (suc zero) entry e classes h path states = at_b entry (inner e) classes h path states
 proved (suc (suc u)) entry e classes h path states = absurd (cc)

@@ -1,4 +1,4 @@
--- The worked outline of a claim that is split.
+-- The worked script of a claim that is split.
 use Rattle.std.proofs.Common.{◌≡◌, ℕ, zero, suc, ◌≤◌, List, [], ◌∷◌, Bool, true, false, refl, sym, ap, subst, ◌∙◌, inl, inr, Option, Some, None, arith}
 use Rattle.std.specs.List.{slice_get}
 use Rattle.smv_core.specs.declared.flat.Simple.TheVariants.{Set}
@@ -20,17 +20,17 @@ use Rattle.smv_abs.specs.Obligations.{Problem, obligation}
 use Rattle.smv_abs.specs.Whole.{IsWhole}
 use Rattle.smv_abs.proofs.WorkedPlans.{one_of_one, one_of_two}
 use Rattle.smv_abs.proofs.Computing.{computing}
-use Rattle.smv_oblig.specs.Outlines.{Entry, Outline}
+use Rattle.smv_oblig.specs.Outlines.{Entry, Script, outline_of}
 use Rattle.smv_oblig.specs.Times.{graph, timed}
 use Rattle.smv_oblig.specs.Problems.{problem_of}
 use Rattle.smv_oblig.specs.Checked.{IsFilled, IsSplit, IsChecked, IsProved}
 use Rattle.smv_oblig.specs.WorkedTomasulo.{params_from}
-use Rattle.smv_oblig.specs.WorkedOutlines.{over_P, one_of, claimed, picking, of_claim}
+use Rattle.smv_oblig.specs.WorkedScripts.{over_P, one_of, claimed, picking, of_claim}
 use Rattle.smv_oblig.specs.WorkedProblems.{twice_equal, split_by, a_is_i}
 use Rattle.smv_oblig.proofs.Lookups.{inner}
 
-abbrev the_outline : Outline
-the_outline = split_by (a_is_i ∷ [])
+abbrev the_script : Script
+the_script = split_by (a_is_i ∷ [])
 
 abbrev the_entry : Entry
 the_entry = of_claim 0 (Set 0 ∷ []) (a_is_i ∷ []) (picking [])
@@ -47,34 +47,34 @@ are_guards = record {
   one_each = λ g h i j e. one_of_one i ∙ sym (one_of_one j);
 }
 
-is_split : IsSplit the_outline the_entry
+is_split : IsSplit the_script the_entry
 is_split = record {
   added = Set 0 ∷ [];
   are_params = refl;
   are_index_types = λ p h. subst (λ (p : Param). IsIndexType p.over) (sym (one_of_one h)) tt;
-  are_filled = λ p h. subst (λ (p : Param). IsFilled the_outline.design p.over) (sym (one_of_one h)) (_, refl);
+  are_filled = λ p h. subst (λ (p : Param). IsFilled the_script.design p.over) (sym (one_of_one h)) (_, refl);
   are_guards = are_guards;
 }
 
-is_whole : IsWhole the_outline.design.families twice_equal
+is_whole : IsWhole the_script.design.families twice_equal
 unfolding computing
 is_whole = (((tt, tt), (tt, tt)), (((tt, tt), (tt, tt)), tt))
 
-pub checked : IsChecked the_outline
+pub checked : IsChecked the_script
 checked = record {
   are_apart = ((λ other h. elim h [ ]), tt);
   are_filled = λ f h. elim (one_of_two h) [
-    | inl e ↦ subst (λ (f : Family). IsFilled the_outline.design f.value) (sym e) (_, refl)
-    | inr e ↦ subst (λ (f : Family). IsFilled the_outline.design f.value) (sym e) (_, refl)
+    | inl e ↦ subst (λ (f : Family). IsFilled the_script.design f.value) (sym e) (_, refl)
+    | inr e ↦ subst (λ (f : Family). IsFilled the_script.design f.value) (sym e) (_, refl)
   ];
-  are_whole = λ claim h. subst (λ (claim : Claim). IsWhole the_outline.design.families claim.body) (sym (one_of_one h)) is_whole;
+  are_whole = λ claim h. subst (λ (claim : Claim). IsWhole the_script.design.families claim.body) (sym (one_of_one h)) is_whole;
   are_definitions = λ def h. elim h [ ];
-  are_split = λ entry h. subst (IsSplit the_outline) (sym (one_of_one h)) is_split;
+  are_split = λ entry h. subst (IsSplit the_script) (sym (one_of_one h)) is_split;
 }
 
 -- the one case, with its class and the rest
 abbrev the_problem : Problem
-the_problem = problem_of the_outline the_entry (timed the_outline (graph the_outline) 0 the_entry) (Named 0 ∷ [])
+the_problem = problem_of (outline_of the_script) the_entry (timed (outline_of the_script) (graph the_script) 0 the_entry) (Named 0 ∷ [])
 
 none_at : (old : Option AbsState) (a : AbsState) → IsAbsState the_problem.world the_problem.kept a → is_violating_after (obligation the_problem) old (a ∷ []) ≡ false
 unfolding computing
@@ -92,13 +92,13 @@ none_after old (a ∷ b ∷ path) h = none_after (Some a) (b ∷ path) (λ c k. 
 abbrev HasNone : Problem → Type 0
 HasNone p = (path : List AbsState) → ((a : AbsState) → Has path a → IsAbsState p.world p.kept a) → is_violating_after (obligation p) None path ≡ false
 
-at_entry : (entry : Entry) → the_entry ≡ entry → (classes : List Class) → Has (leaf_cases the_outline.design.sets entry.leaf.params entry.choice.keeps) classes →
-    HasNone (problem_of the_outline entry (timed the_outline (graph the_outline) 0 entry) classes)
+at_entry : (entry : Entry) → the_entry ≡ entry → (classes : List Class) → Has (leaf_cases the_script.design.sets entry.leaf.params entry.choice.keeps) classes →
+    HasNone (problem_of (outline_of the_script) entry (timed (outline_of the_script) (graph the_script) 0 entry) classes)
 unfolding computing
-at_entry entry e = subst (λ entry. (classes : List Class) → Has (leaf_cases the_outline.design.sets entry.leaf.params entry.choice.keeps) classes →
-    HasNone (problem_of the_outline entry (timed the_outline (graph the_outline) 0 entry) classes)) e
-    (λ classes h. subst (λ classes. HasNone (problem_of the_outline the_entry (timed the_outline (graph the_outline) 0 the_entry) classes)) (sym (one_of_one h)) (none_after None))
+at_entry entry e = subst (λ entry. (classes : List Class) → Has (leaf_cases the_script.design.sets entry.leaf.params entry.choice.keeps) classes →
+    HasNone (problem_of (outline_of the_script) entry (timed (outline_of the_script) (graph the_script) 0 entry) classes)) e
+    (λ classes h. subst (λ classes. HasNone (problem_of (outline_of the_script) the_entry (timed (outline_of the_script) (graph the_script) 0 the_entry) classes)) (sym (one_of_one h)) (none_after None))
 
-pub proved : IsProved the_outline
+pub proved : IsProved the_script
 proved zero entry e classes h path states = at_entry entry (inner e) classes h path states
 proved (suc u) entry e classes h path states = absurd (cc)

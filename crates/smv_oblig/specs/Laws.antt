@@ -7,7 +7,7 @@ use Rattle.smv_abs.specs.Places.{Place, World}
 use Rattle.smv_abs.specs.LeafCases.{leaf_cases}
 use Rattle.smv_abs.specs.Soundness.{IsPlan}
 use Rattle.smv_oblig.specs.Reached.{reached, IsLeast}
-use Rattle.smv_oblig.specs.Outlines.{Entry, Outline}
+use Rattle.smv_oblig.specs.Outlines.{Entry, Outline, Script, outline_of}
 use Rattle.smv_oblig.specs.Times.{first_families, next_families, same_time}
 use Rattle.smv_oblig.specs.Cones.{first_elements, next_elements, cone}
 use Rattle.smv_oblig.specs.Problems.{world_of, params_at, uses_at, plan_of}
@@ -21,23 +21,23 @@ ReachedIsLeast X =
 
 -- so the same-time set of a leaf, and the cone of each of its cases
 abbrev pub SameTimesAreLeast : Type 0
-SameTimesAreLeast = (o : Outline) → IsChecked o → (u : ℕ) (entry : Entry) → IsLeast (next_families o entry) (first_families o u entry) (same_time o u entry)
+SameTimesAreLeast = (s : Script) → IsChecked s → (u : ℕ) (entry : Entry) → IsLeast (next_families (outline_of s) entry) (first_families (outline_of s) u entry) (same_time (outline_of s) u entry)
 
 abbrev pub ConesAreLeast : Type 0
-ConesAreLeast = (o : Outline) → IsChecked o → (entry : Entry) → Has o.entries entry → (classes : List Class) → Has (leaf_cases o.design.sets entry.leaf.params entry.choice.keeps) classes →
-    IsLeastCone (world_of o entry classes) o entry (params_at o entry classes)
+ConesAreLeast = (s : Script) → IsChecked s → (entry : Entry) → Has s.entries entry → (classes : List Class) → Has (leaf_cases s.design.sets entry.leaf.params entry.choice.keeps) classes →
+    IsLeastCone (world_of (outline_of s) entry classes) (outline_of s) entry (params_at (outline_of s) entry classes)
   where
     IsLeastCone : World → Outline → Entry → List Place → Type 0
     IsLeastCone w o entry params = IsLeast (next_elements w o entry params) (first_elements w o entry params) (cone w o entry params)
 
 -- along the uses that are now the units fall in some order, so they hold no cycle
 abbrev pub NowUsesFall : Type 0
-NowUsesFall = (o : Outline) → (order : ℕ → ℕ) × ((u v : ℕ) → uses_at o Now u v ≡ true → order v < order u)
+NowUsesFall = (s : Script) → (order : ℕ → ℕ) × ((u v : ℕ) → uses_at s Now u v ≡ true → order v < order u)
 
--- the reading of an outline is a plan
-abbrev pub OutlinesArePlans : Type 0
-OutlinesArePlans = (o : Outline) → IsChecked o → IsPlan (plan_of o)
+-- the reading of a script is a plan
+abbrev pub ScriptsArePlans : Type 0
+ScriptsArePlans = (s : Script) → IsChecked s → IsPlan (plan_of s)
 
 -- where no case of any leaf has a violating path, every unit holds at every time of every run, for all sizes
 abbrev pub ProvedIsSound : Type 0
-ProvedIsSound = (o : Outline) → IsChecked o → IsProved o → IsSound o
+ProvedIsSound = (s : Script) → IsChecked s → IsProved s → IsSound s

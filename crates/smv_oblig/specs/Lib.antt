@@ -8,7 +8,7 @@ pub mod Checked
 pub mod Laws
 pub mod WorkedTomasulo
 pub mod WorkedTimes
-pub mod WorkedOutlines
+pub mod WorkedScripts
 pub mod WorkedCones
 pub mod WorkedProblems
 pub mod WorkedSound

@@ -1,4 +1,4 @@
--- Outlines of proofs: a design with its units, the leaf of each, and what each leaf's proof uses.
+-- Outlines and scripts of proofs: a design with its units; and with the leaf of each unit and what each leaf's proof uses.
 use Rattle.std.specs.Prelude.{ℕ, suc, List, [], ◌∷◌, map, flat_map, filter, find, length, slice_get, option_to_list, option_and_then, is_none, Option, Some, None, option_map, Bool, true, false, ◌&&◌, ◌||◌, if◌then◌else◌, nat_eq, nat_lt}
 use Rattle.smv_core.specs.Values.{numbers_from}
 use Rattle.smv_core.specs.Flat.{Numbered}
@@ -15,14 +15,19 @@ use Rattle.smv_core.specs.declared.flat.Assumed.{Assumed}
 use Rattle.smv_core.specs.declared.flat.FlatExpr.{Number}
 use Rattle.smv_abs.specs.Soundness.{FlatUnit, map_of, claim_of}
 
+-- a design with its units in flat order
+pub record Outline : Type 0 where
+  pub design : Design
+  pub units : List Unit
+
 -- a unit, its leaf, and what the leaf's proof uses
 pub record Entry : Type 0 where
   pub unit : Unit
   pub leaf : Leaf
   pub choice : Choice
 
--- a design with its units in flat order
-pub record Outline : Type 0 where
+-- a design with each unit, its leaf and what the leaf's proof uses, in flat order
+pub record Script : Type 0 where
   pub design : Design
   pub entries : List Entry
 
@@ -30,6 +35,10 @@ pub record Outline : Type 0 where
 abbrev pub entries_of : List Unit → List Leaf → List Choice → List Entry
 entries_of (unit ∷ units) (leaf ∷ leaves) (choice ∷ choices) = record { unit = unit; leaf = leaf; choice = choice } ∷ entries_of units leaves choices
 entries_of _ _ _ = []
+
+-- the design and its units
+abbrev pub outline_of : Script → Outline
+outline_of s = record { design = s.design; units = map (λ entry. entry.unit) s.entries }
 
 -- the place of the first that passes a test
 abbrev pub place_of : {X : Type 0} → (X → Bool) → List X → Option ℕ
@@ -113,20 +122,20 @@ module _ (d : Design) where
 module _ (o : Outline) where
   -- the unit of a map, and that of a claim, by its place; a base definition is none
   abbrev pub map_unit : ℕ → ℕ → Option ℕ
-  map_unit family layer = place_of (λ entry. is_map o.design family layer entry.unit) o.entries
+  map_unit family layer = place_of (is_map o.design family layer) o.units
 
   abbrev pub claim_unit : ℕ → Option ℕ
-  claim_unit claim = place_of (λ entry. is_claim claim entry.unit) o.entries
+  claim_unit claim = place_of (is_claim claim) o.units
 
   -- what the unit at a place says
-  abbrev pub said_by : Option Entry → Option FlatUnit
+  abbrev pub said_by : Option Unit → Option FlatUnit
   said_by None = None
-  said_by (Some entry) = Some (unit_in o.design entry.unit)
+  said_by (Some unit) = Some (unit_in o.design unit)
 
   -- a claim that is assumed
   abbrev pub claim_by : Option ℕ → Option FlatClaim
   claim_by None = None
-  claim_by (Some v) = option_and_then claim_in (said_by (slice_get o.entries v))
+  claim_by (Some v) = option_and_then claim_in (said_by (slice_get o.units v))
 
   abbrev pub assumed : Assumed → Option FlatClaim
   assumed used = claim_by (claim_unit used.claim)
@@ -134,7 +143,7 @@ module _ (o : Outline) where
   -- the definition that a pick of the family chooses: that of the unit which it names, or the base definition; none where the family is free
   abbrev pub map_by : ℕ → Option ℕ → Option Def
   map_by family None = base_of o.design family
-  map_by family (Some v) = option_and_then map_in (said_by (slice_get o.entries v))
+  map_by family (Some v) = option_and_then map_in (said_by (slice_get o.units v))
 
   abbrev pub map_in_layer : ℕ → Option ℕ → Option Def
   map_in_layer family None = None

@@ -1,4 +1,4 @@
--- The problem of a case, and the plan of proof of an outline.
+-- The problem of a case, and the plan of proof of a script.
 use Rattle.std.specs.Prelude.{ℕ, suc, List, [], ◌∷◌, ◌++◌, map, flat_map, zip, take, length, slice_get, Option, Some, None, option_to_list, Bool, true, false, ◌&&◌, ◌||◌, if◌then◌else◌, nat_eq}
 use Rattle.std.specs.List.{list_any}
 use Rattle.smv_core.specs.declared.flat.Def.{Def}
@@ -16,7 +16,7 @@ use Rattle.smv_abs.specs.LeafCases.{treatments_of, parameters_of}
 use Rattle.smv_abs.specs.Covers.{types_at, places_at}
 use Rattle.smv_abs.specs.Obligations.{Demanded, defined, holds, Problem}
 use Rattle.smv_abs.specs.Soundness.{FlatUnit, map_of, claim_of, params_of, said_at, LeafProof, Plan}
-use Rattle.smv_oblig.specs.Outlines.{Entry, Outline, names_of, bases, unit_in, map_in, claim_unit, picked_unit, assumed, chosen}
+use Rattle.smv_oblig.specs.Outlines.{Entry, Outline, Script, outline_of, names_of, bases, unit_in, map_in, claim_unit, picked_unit, assumed, chosen}
 use Rattle.smv_oblig.specs.Times.{is_unit, graph, timed}
 use Rattle.smv_oblig.specs.Cones.{AbsElement, element, same_element, cone, kept}
 
@@ -93,35 +93,35 @@ problem_of o entry times classes =
       params = params;
     }
 
-module _ (o : Outline) where
+module _ (s : Script) where
   -- the leaf of the unit at this place uses another unit at this time, by a pick, by a claim, or by itself
   abbrev pub entry_uses : Entry → Timed → Timing → ℕ → ℕ → Bool
   entry_uses entry times time u v =
-      list_any (λ (p, t). is_at t time && is_unit v (picked_unit o p)) (zip entry.choice.picks times.picks)
-      || (list_any (λ (used, t). is_at t time && is_unit v (claim_unit o used.claim)) (zip entry.choice.claims times.claims)
+      list_any (λ (p, t). is_at t time && is_unit v (picked_unit (outline_of s) p)) (zip entry.choice.picks times.picks)
+      || (list_any (λ (used, t). is_at t time && is_unit v (claim_unit (outline_of s) used.claim)) (zip entry.choice.claims times.claims)
       || (is_at time Before && (entry.choice.itself && nat_eq u v)))
 
   abbrev pub used_by : Timing → ℕ → ℕ → Option Entry → Bool
   used_by time u v None = false
-  used_by time u v (Some entry) = entry_uses entry (timed o (graph o) u entry) time u v
+  used_by time u v (Some entry) = entry_uses entry (timed (outline_of s) (graph s) u entry) time u v
 
   abbrev pub uses_at : Timing → ℕ → ℕ → Bool
-  uses_at time u v = used_by time u v (slice_get o.entries u)
+  uses_at time u v = used_by time u v (slice_get s.entries u)
 
 -- the proof of a leaf
-abbrev pub proof_of : Outline → ℕ → Entry → LeafProof
-proof_of o u entry = record {
-  unit = unit_in o.design entry.unit;
+abbrev pub proof_of : Script → ℕ → Entry → LeafProof
+proof_of s u entry = record {
+  unit = unit_in s.design entry.unit;
   params = entry.leaf.params;
   guards = entry.leaf.guards;
   keeps = entry.choice.keeps;
-  problem = problem_of o entry (timed o (graph o) u entry);
+  problem = problem_of (outline_of s) entry (timed (outline_of s) (graph s) u entry);
 }
 
-abbrev pub proofs_from : Outline → ℕ → List Entry → List LeafProof
-proofs_from o u [] = []
-proofs_from o u (entry ∷ entries) = proof_of o u entry ∷ proofs_from o (suc u) entries
+abbrev pub proofs_from : Script → ℕ → List Entry → List LeafProof
+proofs_from s u [] = []
+proofs_from s u (entry ∷ entries) = proof_of s u entry ∷ proofs_from s (suc u) entries
 
--- the plan of proof of an outline
-abbrev pub plan_of : Outline → Plan
-plan_of o = record { names = names_of o.design; base = bases o.design; leaves = proofs_from o 0 o.entries; uses_now = uses_at o Now; uses_before = uses_at o Before }
+-- the plan of proof of a script
+abbrev pub plan_of : Script → Plan
+plan_of s = record { names = names_of s.design; base = bases s.design; leaves = proofs_from s 0 s.entries; uses_now = uses_at s Now; uses_before = uses_at s Before }

@@ -19,7 +19,7 @@ use Rattle.smv_abs.specs.Soundness.{FlatUnit, map_of, claim_of}
 use Rattle.smv_abs.specs.Uses.{is_now}
 use Rattle.smv_oblig.specs.Reached.{reached}
 use Rattle.smv_oblig.specs.Reads.{reads, part_reads}
-use Rattle.smv_oblig.specs.Outlines.{Entry, Outline, unit_in, claim_unit, picked_unit, assumed, chosen}
+use Rattle.smv_oblig.specs.Outlines.{Entry, Outline, Script, outline_of, unit_in, claim_unit, picked_unit, assumed, chosen}
 
 -- a number among these
 abbrev pub is_member : List ℕ → ℕ → Bool
@@ -90,8 +90,8 @@ module _ (o : Outline) where
   graph_from u [] = []
   graph_from u (entry ∷ entries) = open_uses u entry ∷ graph_from (suc u) entries
 
-  abbrev pub graph : List (List ℕ)
-  graph = graph_from 0 o.entries
+abbrev pub graph : Script → List (List ℕ)
+graph s = graph_from (outline_of s) 0 s.entries
 
 -- an edge of a graph
 abbrev pub has_edge : List (List ℕ) → ℕ → ℕ → Bool
@@ -124,10 +124,10 @@ module _ (o : Outline) (edges : List (List ℕ)) (u : ℕ) where
       record { picks = map (pick_time families) entry.choice.picks; claims = map claim_time entry.choice.claims }
 
 -- the times of the uses of each leaf
-abbrev pub all_timed : Outline → List Timed
-all_timed o = timed_from 0 o.entries
-  where
-    timed_from : ℕ → List Entry → List Timed
-    timed_from u [] = []
-    timed_from u (entry ∷ entries) = timed o (graph o) u entry ∷ timed_from (suc u) entries
+abbrev pub timed_from : Script → ℕ → List Entry → List Timed
+timed_from s u [] = []
+timed_from s u (entry ∷ entries) = timed (outline_of s) (graph s) u entry ∷ timed_from s (suc u) entries
+
+abbrev pub all_timed : Script → List Timed
+all_timed s = timed_from s 0 s.entries
 

@@ -10,17 +10,17 @@ use Rattle.smv_core.specs.declared.flat.Flat.{Forall}
 use Rattle.smv_core.specs.declared.flat.FlatExpr.{Var, And, All}
 use Rattle.smv_abs.specs.Places.{named, rest}
 use Rattle.smv_abs.specs.May.{AbsState, may}
-use Rattle.smv_oblig.specs.Outlines.{Entry, Outline}
+use Rattle.smv_oblig.specs.Outlines.{Entry, Script, outline_of}
 use Rattle.smv_oblig.specs.Cones.{AbsElement, element, cone, kept}
 use Rattle.smv_oblig.specs.Problems.{world_of, params_at}
-use Rattle.smv_oblig.specs.WorkedTomasulo.{issue, slot, bt, rd, dst, iss, bv, res, bw, dout, ir_resvd, ir_tag, ir_val, st_valid, r, aux_res, rd1, val1, outline, signal, one, at, equal, i, num, set, set_at, always, by_layer, free}
-use Rattle.smv_oblig.specs.WorkedOutlines.{over_P, one_of, array_of, claimed, picking, of_claim, of_map, alone, bit}
+use Rattle.smv_oblig.specs.WorkedTomasulo.{issue, slot, bt, rd, dst, iss, bv, res, bw, dout, ir_resvd, ir_tag, ir_val, st_valid, r, aux_res, rd1, val1, machine_script, signal, one, at, equal, i, num, set, set_at, always, by_layer, free}
+use Rattle.smv_oblig.specs.WorkedScripts.{over_P, one_of, array_of, claimed, picking, of_claim, of_map, alone, bit}
 
 -- the cone of a case of the first leaf
-abbrev pub cone_of : Outline → Entry → List Class → List AbsElement
-cone_of o entry classes = cone (world_of o entry classes) o entry (params_at o entry classes)
+abbrev pub cone_of : Script → Entry → List Class → List AbsElement
+cone_of s entry classes = cone (world_of (outline_of s) entry classes) (outline_of s) entry (params_at (outline_of s) entry classes)
 
-abbrev pub first_cone : Outline → List Class → List AbsElement
+abbrev pub first_cone : Script → List Class → List AbsElement
 first_cone o classes = of_first o.entries
   where
     of_first : List Entry → List AbsElement
@@ -50,11 +50,11 @@ IndexedBySignals = (first_cone (alone arrays [] [] (at 1 (one 0)) (picking [])) 
 abbrev pub at_the_rest : AbsState
 at_the_rest family indexes = rest (scalar (codes "P") 0)
 
-abbrev pub of_v_at_d : Outline
+abbrev pub of_v_at_d : Script
 of_v_at_d = alone arrays [] [] (at 1 (one 0)) (picking [])
 
 abbrev pub RestsReadAsAll : Type 0
-RestsReadAsAll = may (world_of of_v_at_d (of_claim 0 [] [] (picking [])) []) (kept (first_cone of_v_at_d [])) at_the_rest (at 1 (one 0)) [] ≡ Some (named (number 0)) ∷ Some (named (number 1)) ∷ []
+RestsReadAsAll = may (world_of (outline_of of_v_at_d) (of_claim 0 [] [] (picking [])) []) (kept (first_cone of_v_at_d [])) at_the_rest (at 1 (one 0)) [] ≡ Some (named (number 0)) ∷ Some (named (number 1)) ∷ []
 
 -- `forall (i in P) v[i] := w[i]`, and the claim `v[k]` for all k and j, which are apart: w is read at k alone; `&[v[i] : i in P]` at both
 abbrev pub copies : List Def
@@ -83,7 +83,7 @@ abbrev pub OtherConstants : Type 0
 OtherConstants = first_cone (alone (signal (Range 0 1 ∷ []) bit false ∷ one_of bit ∷ []) (always 0 None (set_at (num 0) (one 1)) 0 ∷ []) [] (at 0 (num 1)) (picking [])) [] ≡ at_number 0 1 ∷ it 1 ∷ []
 
 -- a map of v whose element is at the rest: `forall (i in P) v[i] := w[i] & d = i` reads d, and neither v nor w at the rest
-abbrev pub at_rests : Outline
+abbrev pub at_rests : Script
 at_rests = record {
   design = over_P arrays (always 1 (Some 0) (Forall 0 (Set 0) (set_at i (And (at 2 i ∷ equal (one 0) i ∷ [])))) 0 ∷ []) [];
   entries = of_map 0 (Set 0 ∷ []) (record { picks = []; claims = []; itself = false; keeps = record { set = 0; params = [] } ∷ [] }) ∷ [];
@@ -100,6 +100,6 @@ abbrev pub at_reg : ℕ → AbsElement
 at_reg family = element family (named (scalar (codes "REG") 0) ∷ [])
 
 abbrev pub TomasuloCones : Type 0
-TomasuloCones = (cone_of outline rd1 (Named 0 ∷ Named 0 ∷ []) ≡ it rd ∷ it dout ∷ at_reg ir_resvd ∷ at_reg ir_val ∷ at_reg r ∷ [])
-    × (cone_of outline val1 (Named 0 ∷ Named 0 ∷ Named 0 ∷ [])
+TomasuloCones = (cone_of machine_script rd1 (Named 0 ∷ Named 0 ∷ []) ≡ it rd ∷ it dout ∷ at_reg ir_resvd ∷ at_reg ir_val ∷ at_reg r ∷ [])
+    × (cone_of machine_script val1 (Named 0 ∷ Named 0 ∷ Named 0 ∷ [])
     ≡ it issue ∷ it slot ∷ it bt ∷ it dst ∷ it iss ∷ it bv ∷ it res ∷ it bw ∷ at_reg ir_resvd ∷ at_reg ir_tag ∷ at_reg ir_val ∷ at_tag st_valid ∷ at_reg r ∷ at_tag aux_res ∷ [])

@@ -12,30 +12,30 @@ use Rattle.smv_abs.specs.LeafCases.{leaf_cases}
 use Rattle.smv_abs.specs.Obligations.{Demanded, defined, Problem}
 use Rattle.smv_abs.specs.Worked.{p}
 use Rattle.smv_abs.specs.WorkedObligations.{state, bit as at_bit, violates, some_state, some_step}
-use Rattle.smv_oblig.specs.Outlines.{Entry, Outline}
+use Rattle.smv_oblig.specs.Outlines.{Entry, Script, outline_of}
 use Rattle.smv_oblig.specs.Times.{graph, timed}
 use Rattle.smv_oblig.specs.Problems.{problem_of}
-use Rattle.smv_oblig.specs.WorkedTomasulo.{bw, dout, ir_val, ir_resvd, aux_res, r, rd, bt, bv, rd1, val1, outline, one, at, equal, not', i, num, set, set_at, always, stepwise, guard}
-use Rattle.smv_oblig.specs.WorkedOutlines.{over_P, one_of, claimed, picking, a_claim, of_claim, alone}
+use Rattle.smv_oblig.specs.WorkedTomasulo.{bw, dout, ir_val, ir_resvd, aux_res, r, rd, bt, bv, rd1, val1, machine_script, one, at, equal, not', i, num, set, set_at, always, stepwise, guard}
+use Rattle.smv_oblig.specs.WorkedScripts.{over_P, one_of, claimed, picking, a_claim, of_claim, alone}
 use Rattle.smv_oblig.specs.WorkedTimes.{claims_of_x, two_maps}
 use Rattle.smv_oblig.specs.WorkedCones.{arrays, at_reg}
 
 -- some case of the leaf at a place has a problem that passes a test
-abbrev pub some_case : Outline → ℕ → (Problem → Bool) → Bool
+abbrev pub some_case : Script → ℕ → (Problem → Bool) → Bool
 some_case o u test = in_leaf (slice_get o.entries u)
   where
     in_leaf : Option Entry → Bool
     in_leaf None = false
-    in_leaf (Some entry) = list_any (λ classes. test (problem_of o entry (timed o (graph o) u entry) classes)) (leaf_cases o.design.sets entry.leaf.params entry.choice.keeps)
+    in_leaf (Some entry) = list_any (λ classes. test (problem_of (outline_of o) entry (timed (outline_of o) (graph o) u entry) classes)) (leaf_cases o.design.sets entry.leaf.params entry.choice.keeps)
 
 -- some case is violated by a path, by some path of one state, and by some of two states, whose families have these values
-abbrev pub has_path : Outline → ℕ → List (List Place) → Bool
+abbrev pub has_path : Script → ℕ → List (List Place) → Bool
 has_path o u values = some_case o u (λ p. violates p (map state values))
 
-abbrev pub has_state : Outline → ℕ → List (List Place) → Bool
+abbrev pub has_state : Script → ℕ → List (List Place) → Bool
 has_state o u values = some_case o u (λ p. some_state p values)
 
-abbrev pub has_step : Outline → ℕ → List (List Place) → Bool
+abbrev pub has_step : Script → ℕ → List (List Place) → Bool
 has_step o u values = some_case o u (λ p. some_step p values)
 
 abbrev pub a_bit : List Place
@@ -45,7 +45,7 @@ a_bit = at_bit 0 ∷ at_bit 1 ∷ []
 abbrev pub twice_equal : FlatExpr
 twice_equal = Implies (equal (one 0) (one 1) ∷ equal (one 0) (one 1) ∷ [])
 
-abbrev pub split_by : List Guard → Outline
+abbrev pub split_by : List Guard → Script
 split_by guards = record { design = over_P (one_of (Set 0) ∷ one_of (Set 0) ∷ []) [] (claimed [] twice_equal 0 ∷ []); entries = of_claim 0 (map (λ g. g.over) guards) guards (picking []) ∷ [] }
 
 abbrev pub a_is_i : Guard
@@ -63,7 +63,7 @@ ClaimsAssumeEachOther = (has_path (claims_of_x ((a_claim 1 ∷ []) ∷ (a_claim 
     × (has_step (claims_of_x ((a_claim 1 ∷ []) ∷ (a_claim 0 ∷ []) ∷ [])) 1 (a_bit ∷ []) ≡ false)
 
 -- a and b step each other, both 0 at first: each map is proved by the other before. With a at 1 at first the map of a is violated at time 0, and that of b still is not
-abbrev pub both_step : ℕ → Outline
+abbrev pub both_step : ℕ → Script
 both_step first = two_maps (stepwise 0 None (set (num first)) (set (one 1)) 0) (stepwise 1 None (set (num 0)) (set (one 0)) 1)
 
 abbrev pub MapsBefore : Type 0
@@ -72,7 +72,7 @@ MapsBefore = (has_state (both_step 0) 0 (a_bit ∷ a_bit ∷ []) ≡ false) × (
     × (has_path (both_step 1) 0 ((at_bit 1 ∷ at_bit 0 ∷ []) ∷ []) ≡ true) × (has_step (both_step 1) 1 (a_bit ∷ a_bit ∷ []) ≡ false)
 
 -- a steps b, and `b := a`: the map of a has that of b before, and the map of b has that of a now. Neither is violated; where b is the other of a, that of b is
-abbrev pub one_steps : FlatExpr → Outline
+abbrev pub one_steps : FlatExpr → Script
 one_steps b = two_maps (stepwise 0 None (set (num 0)) (set (one 1)) 0) (always 1 None (set b) 1)
 
 abbrev pub MapsNowAndBefore : Type 0
@@ -81,7 +81,7 @@ MapsNowAndBefore = (has_state (one_steps (one 0)) 0 (a_bit ∷ a_bit ∷ []) ≡
     × (has_path (one_steps (not' (one 0))) 1 ((at_bit 0 ∷ at_bit 1 ∷ []) ∷ []) ≡ true)
 
 -- d : P; v : array P of boolean; v[j] 0 at first for all j, and `next(v[d]) := 1`; the claim ~v[k] for all k is violated at time 1, where d was #0, and not at time 0
-abbrev pub never_written : Outline
+abbrev pub never_written : Script
 never_written = alone arrays (stepwise 1 None (Forall 0 (Set 0) (set_at i (num 0))) (set_at (one 0) (num 1)) 0 ∷ []) (Set 0 ∷ []) (not' (at 1 i)) (picking [])
 
 abbrev pub WrittenIndex : Type 0
@@ -91,7 +91,7 @@ WrittenIndex = (has_path never_written 0 ((named (p 0) ∷ at_bit 0 ∷ []) ∷ 
 
 -- the demands of two leaves of the Tomasulo machine: the lemma of the register now, that of the bus before
 abbrev pub demanded : Entry → ℕ → List Class → (Problem → List Demanded) → List Demanded
-demanded entry u classes of_time = of_time (problem_of outline entry (timed outline (graph outline) u entry) classes)
+demanded entry u classes of_time = of_time (problem_of (outline_of machine_script) entry (timed (outline_of machine_script) (graph machine_script) u entry) classes)
 
 abbrev pub TomasuloDemands : Type 0
 TomasuloDemands = (demanded rd1 0 (Named 0 ∷ Named 0 ∷ []) (λ p. p.now)

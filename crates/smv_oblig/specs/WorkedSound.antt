@@ -1,12 +1,12 @@
 -- Worked outlines that are proved, for all sizes and paths of every length.
 use Rattle.std.specs.Prelude.{[], ◌∷◌}
-use Rattle.smv_oblig.specs.Outlines.{Outline}
+use Rattle.smv_oblig.specs.Outlines.{Script}
 use Rattle.smv_oblig.specs.Checked.{IsChecked, IsProved, IsSound}
 use Rattle.smv_oblig.specs.WorkedTomasulo.{one}
 use Rattle.smv_oblig.specs.WorkedProblems.{split_by, a_is_i, one_steps}
 
 -- an outline passes every premise, its cases have no violating path, and so its units hold in all runs
-abbrev pub AllIsWell : Outline → Type 0
+abbrev pub AllIsWell : Script → Type 0
 AllIsWell o = IsChecked o × IsProved o × IsSound o
 
 -- a, b : P; claim a = b -> a = b, split by a = i

@@ -13,7 +13,7 @@ use Rattle.smv_core.specs.declared.flat.Guard.{Guard}
 use Rattle.smv_core.specs.declared.flat.Pick.{Pick}
 use Rattle.smv_core.specs.declared.flat.Flat.{Flat, Nothing, Assign, If, First, Forall}
 use Rattle.smv_core.specs.declared.flat.FlatExpr.{FlatExpr, Number, Read, Var, Not, And, Or, Compare, Choose}
-use Rattle.smv_oblig.specs.Outlines.{Entry, Outline}
+use Rattle.smv_oblig.specs.Outlines.{Entry, Script}
 
 -- the types
 abbrev pub bit : Simple
@@ -222,5 +222,5 @@ bw1 = leaf_of 2 20 (tag ∷ word ∷ word ∷ []) (guard 0 tag (one bt) ∷ guar
 abbrev pub val1 : Entry
 val1 = leaf_of 3 21 (reg ∷ tag ∷ word ∷ []) (guard 1 tag (at ir_tag i) ∷ guard 2 word (at r i) ∷ []) (by_layer bw 1 ∷ free res ∷ free bv ∷ [])
 
-abbrev pub outline : Outline
-outline = record { design = tomasulo; entries = rd1 ∷ va1 ∷ bw1 ∷ val1 ∷ [] }
+abbrev pub machine_script : Script
+machine_script = record { design = tomasulo; entries = rd1 ∷ va1 ∷ bw1 ∷ val1 ∷ [] }

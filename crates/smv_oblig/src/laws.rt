@@ -1,5 +1,5 @@
 // Laws of the definitions, each the contract of a function that does nothing.
-ghost use Rattle.smv_oblig.specs.Laws.{ReachedIsLeast, SameTimesAreLeast, ConesAreLeast, NowUsesFall, OutlinesArePlans, ProvedIsSound};
+ghost use Rattle.smv_oblig.specs.Laws.{ReachedIsLeast, SameTimesAreLeast, ConesAreLeast, NowUsesFall, ScriptsArePlans, ProvedIsSound};
 ghost use Rattle.smv_oblig.specs.WorkedTimes.{TomasuloTimes, ClaimTimes, MapTimes};
 ghost use Rattle.smv_oblig.specs.WorkedCones.{IndexedBySignals, RestsReadAsAll, FollowsIndexes, PicksCut, OtherConstants, TargetsAtRests, TomasuloCones};
 ghost use Rattle.smv_oblig.specs.WorkedProblems.{SplitHelps, ClaimsAssumeEachOther, MapsBefore, MapsNowAndBefore, WrittenIndex, TomasuloDemands};
@@ -21,9 +21,9 @@ pub fn now_uses_fall()
     ensures { NowUsesFall }
 {}
 
-/// The reading of an outline is a plan of proof: its premises are what the passes before the search give.
-pub fn outlines_are_plans()
-    ensures { OutlinesArePlans }
+/// The reading of a script is a plan of proof: its premises are what the passes before the search give.
+pub fn scripts_are_plans()
+    ensures { ScriptsArePlans }
 {}
 
 /// Where no case of any leaf has a violating path, every unit holds at every time of every run, for all sizes.
@@ -59,8 +59,8 @@ pub fn worked_problems()
     ensures demands { TomasuloDemands }
 {}
 
-/// Worked outlines that pass every premise and are sound: a claim that is split, and two maps that are proved by each other.
-pub fn worked_outlines()
+/// Worked scripts that pass every premise and are sound: a claim that is split, and two maps that are proved by each other.
+pub fn worked_scripts()
     ensures split { SplitIsSound }
     ensures maps { MapsAreSound }
 {}

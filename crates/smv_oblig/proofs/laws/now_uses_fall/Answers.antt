@@ -5,4 +5,4 @@ use Rattle.smv_oblig.proofs.UsesFall.{uses_fall}
 use Rattle.smv_oblig.proofs.laws.now_uses_fall.Goals as goal
 
 pub returns : goal.returns
-returns c o = (rank_of (has_edge (graph o)) (length (graph o)), uses_fall o)
+returns c s = (rank_of (has_edge (graph s)) (length (graph s)), uses_fall s)

@@ -4,7 +4,7 @@ use Rattle.smv_oblig.specs.WorkedProblems.{split_by, a_is_i, one_steps}
 use Rattle.smv_oblig.proofs.Sound.{proved_is_sound}
 use Rattle.smv_oblig.proofs.WorkedSplit as split
 use Rattle.smv_oblig.proofs.WorkedMaps as maps
-use Rattle.smv_oblig.proofs.laws.worked_outlines.Goals as goal
+use Rattle.smv_oblig.proofs.laws.worked_scripts.Goals as goal
 
 pub returns-clause-split : goal.returns-clause-split
 returns-clause-split c = (split.checked, split.proved, proved_is_sound (split_by (a_is_i ∷ [])) split.checked split.proved)

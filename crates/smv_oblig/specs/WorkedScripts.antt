@@ -12,7 +12,7 @@ use Rattle.smv_core.specs.declared.flat.Pick.{Pick}
 use Rattle.smv_core.specs.declared.flat.Assumed.{Assumed}
 use Rattle.smv_core.specs.declared.flat.Choice.{Choice}
 use Rattle.smv_core.specs.declared.flat.FlatExpr.{FlatExpr}
-use Rattle.smv_oblig.specs.Outlines.{Entry, Outline}
+use Rattle.smv_oblig.specs.Outlines.{Entry, Script}
 use Rattle.smv_oblig.specs.WorkedTomasulo.{undeclared, signal, params_from}
 
 -- one scalarset P, with these families, definitions and claims
@@ -48,7 +48,7 @@ abbrev pub of_map : ℕ → List Simple → Choice → Entry
 of_map def types choice = record { unit = Map def; leaf = record { unit = def; name = []; params = params_from 0 types; guards = [] }; choice = choice }
 
 -- a claim alone
-abbrev pub alone : List Family → List Def → List Simple → FlatExpr → Choice → Outline
+abbrev pub alone : List Family → List Def → List Simple → FlatExpr → Choice → Script
 alone families defs types body choice = record { design = over_P families defs (claimed types body 0 ∷ []); entries = of_claim 0 types [] choice ∷ [] }
 
 abbrev pub bit : Simple
