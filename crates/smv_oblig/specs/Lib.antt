@@ -12,3 +12,5 @@ pub mod WorkedScripts
 pub mod WorkedCones
 pub mod WorkedProblems
 pub mod WorkedSound
+pub mod Units
+pub mod WorkedUnits

@@ -1,5 +1,6 @@
 // Laws of the definitions, each the contract of a function that does nothing.
 ghost use Rattle.smv_oblig.specs.Laws.{ReachedIsLeast, SameTimesAreLeast, ConesAreLeast, NowUsesFall, ScriptsArePlans, ProvedIsSound};
+ghost use Rattle.smv_oblig.specs.WorkedUnits.{UnitsInOrder};
 ghost use Rattle.smv_oblig.specs.WorkedTimes.{TomasuloTimes, ClaimTimes, MapTimes};
 ghost use Rattle.smv_oblig.specs.WorkedCones.{IndexedBySignals, RestsReadAsAll, FollowsIndexes, PicksCut, OtherConstants, TargetsAtRests, TomasuloCones};
 ghost use Rattle.smv_oblig.specs.WorkedProblems.{SplitHelps, ClaimsAssumeEachOther, MapsBefore, MapsNowAndBefore, WrittenIndex, TomasuloDemands};
@@ -29,6 +30,11 @@ pub fn scripts_are_plans()
 /// Where no case of any leaf has a violating path, every unit holds at every time of every run, for all sizes.
 pub fn proved_is_sound()
     ensures { ProvedIsSound }
+{}
+
+/// Worked units: the Tomasulo machine, and a map between two claims.
+pub fn worked_units()
+    ensures { UnitsInOrder }
 {}
 
 /// Worked times of uses: of the Tomasulo machine, of claims that assume one another, and of two maps that use each other.
