@@ -56,9 +56,13 @@ IsProved s = (u : ℕ) (entry : Entry) → slice_get s.entries u ≡ Some entry 
     HasNone : Problem → Type 0
     HasNone p = (path : List AbsState) → ((a : AbsState) → Has path a → IsAbsState p.world p.kept a) → is_violating (obligation p) path ≡ false
 
--- every instance of every unit holds at every time of every run, for all sizes
-abbrev pub IsSound : Script → Type 0
-IsSound s = (sizes : Sizes) → AreSizes (names_of s.design) sizes → (run : List FlatState) → IsRun (at_sizes (names_of s.design) sizes) (bases s.design) run → (entry : Entry) → Has s.entries entry → Holds (at_sizes (names_of s.design) sizes) run (unit_in s.design entry.unit)
+-- every instance of a unit holds at every time of every run, for all sizes
+abbrev pub HoldsAlways : Design → FlatUnit → Type 0
+HoldsAlways d unit = (sizes : Sizes) → AreSizes (names_of d) sizes → (run : List FlatState) → IsRun (at_sizes (names_of d) sizes) (bases d) run → Instances (at_sizes (names_of d) sizes) run
   where
-    Holds : Numbered → List FlatState → FlatUnit → Type 0
-    Holds n run unit = (values : List Value) → Has (values_over n (params_of n unit)) values → always (is_held n unit values) None run ≡ true
+    Instances : Numbered → List FlatState → Type 0
+    Instances n run = (values : List Value) → Has (values_over n (params_of n unit)) values → always (is_held n unit values) None run ≡ true
+
+-- so does each unit of a script
+abbrev pub IsSound : Script → Type 0
+IsSound s = (entry : Entry) → Has s.entries entry → HoldsAlways s.design (unit_in s.design entry.unit)

@@ -2,16 +2,21 @@
 use Rattle.std.specs.Prelude.{◌≡◌, ◌<◌, ℕ, List, length, Bool, true}
 use Rattle.smv_core.specs.declared.flat.Timing.TheVariants.{Now}
 use Rattle.smv_core.specs.declared.flat.Class.{Class}
+use Rattle.smv_core.specs.declared.flat.Design.{Design}
+use Rattle.smv_core.specs.declared.flat.Unit.{Unit}
+use Rattle.smv_core.specs.declared.flat.Leaf.{Leaf}
+use Rattle.smv_core.specs.declared.flat.Choice.{Choice}
 use Rattle.smv_abs.specs.Sets.{Has}
 use Rattle.smv_abs.specs.Places.{Place, World}
 use Rattle.smv_abs.specs.LeafCases.{leaf_cases}
 use Rattle.smv_abs.specs.Soundness.{IsPlan}
 use Rattle.smv_oblig.specs.Reached.{reached, IsLeast}
-use Rattle.smv_oblig.specs.Outlines.{Entry, Outline, Script, outline_of}
+use Rattle.smv_oblig.specs.Outlines.{Entry, Outline, Script, outline_of, unit_in}
+use Rattle.smv_oblig.specs.Units.{units_of, script_of}
 use Rattle.smv_oblig.specs.Times.{first_families, next_families, same_time}
 use Rattle.smv_oblig.specs.Cones.{first_elements, next_elements, cone}
 use Rattle.smv_oblig.specs.Problems.{world_of, params_at, uses_at, plan_of}
-use Rattle.smv_oblig.specs.Checked.{IsChecked, IsProved, IsSound}
+use Rattle.smv_oblig.specs.Checked.{IsChecked, IsProved, HoldsAlways, IsSound}
 
 -- what is reached is the least set, where some list has all that may be reached
 abbrev pub ReachedIsLeast : Type 0 → Type 0
@@ -41,3 +46,8 @@ ScriptsArePlans = (s : Script) → IsChecked s → IsPlan (plan_of s)
 -- where no case of any leaf has a violating path, every unit holds at every time of every run, for all sizes
 abbrev pub ProvedIsSound : Type 0
 ProvedIsSound = (s : Script) → IsChecked s → IsProved s → IsSound s
+
+-- so of a design, where each of its units has a leaf and a choice
+abbrev pub ProvedUnitsHold : Type 0
+ProvedUnitsHold = (d : Design) (leaves : List Leaf) (choices : List Choice) → length leaves ≡ length (units_of d) → length choices ≡ length (units_of d) →
+    IsChecked (script_of d leaves choices) → IsProved (script_of d leaves choices) → (unit : Unit) → Has (units_of d) unit → HoldsAlways d (unit_in d unit)

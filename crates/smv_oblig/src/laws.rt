@@ -1,5 +1,5 @@
 // Laws of the definitions, each the contract of a function that does nothing.
-ghost use Rattle.smv_oblig.specs.Laws.{ReachedIsLeast, SameTimesAreLeast, ConesAreLeast, NowUsesFall, ScriptsArePlans, ProvedIsSound};
+ghost use Rattle.smv_oblig.specs.Laws.{ReachedIsLeast, SameTimesAreLeast, ConesAreLeast, NowUsesFall, ScriptsArePlans, ProvedIsSound, ProvedUnitsHold};
 ghost use Rattle.smv_oblig.specs.WorkedUnits.{UnitsInOrder};
 ghost use Rattle.smv_oblig.specs.WorkedTimes.{TomasuloTimes, ClaimTimes, MapTimes};
 ghost use Rattle.smv_oblig.specs.WorkedCones.{IndexedBySignals, RestsReadAsAll, FollowsIndexes, PicksCut, OtherConstants, TargetsAtRests, TomasuloCones};
@@ -29,7 +29,8 @@ pub fn scripts_are_plans()
 
 /// Where no case of any leaf has a violating path, every unit holds at every time of every run, for all sizes.
 pub fn proved_is_sound()
-    ensures { ProvedIsSound }
+    ensures scripts { ProvedIsSound }
+    ensures designs { ProvedUnitsHold }
 {}
 
 /// Worked units: the Tomasulo machine, and a map between two claims.
