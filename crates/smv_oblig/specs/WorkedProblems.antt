@@ -15,7 +15,7 @@ use Rattle.smv_abs.specs.WorkedObligations.{state, bit as at_bit, violates, some
 use Rattle.smv_oblig.specs.Outlines.{Entry, Script, outline_of}
 use Rattle.smv_oblig.specs.Times.{graph, timed}
 use Rattle.smv_oblig.specs.Problems.{problem_of}
-use Rattle.smv_oblig.specs.WorkedTomasulo.{bw, dout, ir_val, ir_resvd, aux_res, r, rd, bt, bv, rd1, val1, machine_script, one, at, equal, not', i, num, set, set_at, always, stepwise, guard}
+use Rattle.smv_oblig.specs.WorkedTomasulo.{bw, dout, ir_val, ir_resvd, aux_res, r, rd, bt, bv, reg, word, rd1, va1, bw1, val1, machine_script, one, at, equal, not', i, num, set, set_at, always, stepwise, guard}
 use Rattle.smv_oblig.specs.WorkedScripts.{over_P, one_of, claimed, picking, a_claim, of_claim, alone}
 use Rattle.smv_oblig.specs.WorkedTimes.{claims_of_x, two_maps}
 use Rattle.smv_oblig.specs.WorkedCones.{arrays, at_reg}
@@ -98,3 +98,20 @@ TomasuloDemands = (demanded rd1 0 (Named 0 ∷ Named 0 ∷ []) (λ p. p.now)
     ≡ defined (always dout None (set (at ir_val (one rd))) 3) [] ∷ defined (always ir_val (Some 1) (Forall 0 (Set 1) (If (not' (at ir_resvd i)) (set_at i (at r i)) Nothing)) 28) (at_reg ir_val).indexes ∷ [])
     × (demanded rd1 0 (Named 0 ∷ Named 0 ∷ []) (λ p. p.before) ≡ [])
     × (demanded val1 3 (Named 0 ∷ Named 0 ∷ Named 0 ∷ []) (λ p. p.before) ≡ defined (always bw (Some 1) (If (one bv) (set (at aux_res (one bt))) Nothing) 27) [] ∷ [])
+
+-- the values of the elements of `rd1` in a case, for each family of the machine
+abbrev pub zero : List Place
+zero = at_bit 0 ∷ []
+
+abbrev pub rd1_values : Problem → List (List Place)
+rd1_values p = zero ∷ zero ∷ zero ∷ zero ∷ zero ∷ zero ∷ places_in p.world reg ∷ zero ∷ zero ∷ zero ∷ zero ∷ zero ∷ places_in p.world word ∷ a_bit ∷ zero ∷ places_in p.world word
+    ∷ zero ∷ zero ∷ zero ∷ zero ∷ places_in p.world word ∷ []
+
+-- what the machine shows at the output is the register: in the one case of `rd1` no state is violating, as the lemma of the register is now; without the split one is,
+-- where the words are at the rest
+abbrev pub unsplit : Script
+unsplit = record machine_script { entries = record rd1 { leaf = record rd1.leaf { guards = [] } } ∷ va1 ∷ bw1 ∷ val1 ∷ [] }
+
+abbrev pub TomasuloOutput : Type 0
+TomasuloOutput = (some_case machine_script 0 (λ p. some_state p (rd1_values p)) ≡ false)
+    × (some_case unsplit 0 (λ p. some_state p (rd1_values p)) ≡ true)

@@ -3,7 +3,7 @@ ghost use Rattle.smv_oblig.specs.Laws.{ReachedIsLeast, SameTimesAreLeast, ConesA
 ghost use Rattle.smv_oblig.specs.WorkedUnits.{UnitsInOrder};
 ghost use Rattle.smv_oblig.specs.WorkedTimes.{TomasuloTimes, ClaimTimes, MapTimes};
 ghost use Rattle.smv_oblig.specs.WorkedCones.{IndexedBySignals, RestsReadAsAll, FollowsIndexes, PicksCut, OtherConstants, TargetsAtRests, TomasuloCones};
-ghost use Rattle.smv_oblig.specs.WorkedProblems.{SplitHelps, ClaimsAssumeEachOther, MapsBefore, MapsNowAndBefore, WrittenIndex, TomasuloDemands};
+ghost use Rattle.smv_oblig.specs.WorkedProblems.{SplitHelps, ClaimsAssumeEachOther, MapsBefore, MapsNowAndBefore, WrittenIndex, TomasuloDemands, TomasuloOutput};
 ghost use Rattle.smv_oblig.specs.WorkedSound.{SplitIsSound, MapsAreSound};
 
 /// What is reached from some members is the least set that has them and, with each member, those that follow it.
@@ -64,6 +64,7 @@ pub fn worked_problems()
     ensures now_and_before { MapsNowAndBefore }
     ensures written { WrittenIndex }
     ensures demands { TomasuloDemands }
+    ensures output { TomasuloOutput }
 {}
 
 /// Worked scripts that pass every premise and are sound: a claim that is split, and two maps that are proved by each other.

@@ -26,3 +26,7 @@ returns-clause-written c = (refl, refl, refl)
 pub returns-clause-demands : goal.returns-clause-demands
 unfolding computing
 returns-clause-demands c = (refl, refl, refl)
+
+pub returns-clause-output : goal.returns-clause-output
+unfolding computing
+returns-clause-output c = (refl, refl)
