@@ -1,7 +1,7 @@
 -- In a case each parameter of a leaf stands at a place of its type.
-use Rattle.std.proofs.Common.{◌≡◌, ℕ, zero, suc, ◌+◌, ◌-◌, ◌<◌, ◌≤◌, List, [], ◌∷◌, ◌++◌, map, length, take, Bool, true, false, if◌then◌else◌, ◌&&◌, not, refl, sym, ap, subst, ◌∙◌, ◌⊎◌, inl, inr, Option, Some, None, nat_eq, nat_lt, arith}
+use Rattle.std.proofs.Common.{◌≡◌, ℕ, zero, suc, ◌+◌, ◌-◌, ◌<◌, ◌≤◌, List, [], ◌∷◌, ◌++◌, map, length, take, Bool, true, false, ◌&&◌, not, refl, sym, ap, subst, ◌∙◌, inl, inr, Option, Some, None, nat_eq, nat_lt, arith}
 use Rattle.std.specs.List.{slice_get, list_any, list_all}
-use Rattle.smv_core.specs.Values.{Name, Value, number, scalar, ordinal, numbers_from}
+use Rattle.smv_core.specs.Values.{Name, number, scalar, ordinal, numbers_from}
 use Rattle.smv_core.specs.Flat.{Numbered, simple_in, set_type}
 use Rattle.smv_core.specs.declared.flat.Simple.{Simple}
 use Rattle.smv_core.specs.declared.flat.Simple.TheVariants.{Range, Enum, Set}
@@ -13,17 +13,17 @@ use Rattle.smv_abs.specs.declared.abstract_type.Rest.TheVariants as beside
 use Rattle.smv_abs.specs.declared.abstract_type.AbsType.{AbsType}
 use Rattle.smv_abs.specs.Sets.{Has, first, later, one_of_each}
 use Rattle.smv_abs.specs.Places.{Place, named, rest, is_named, World, world, rests_beside, rests_of, places_of, named_in, rests_in, places_in}
-use Rattle.smv_abs.specs.Cases.{Treatment, whole, reduced, ordered, Parameter, used, is_set, those_of, named_among, are_named, abstract_type, is_of, is_orderly, grow, are_below, listed_classes, unlisted_classes, type_in, is_allowed, candidates, numbered, cases}
-use Rattle.smv_abs.specs.Covers.{value_at, place_at, places_at, types_at, AreApart, IsIndexType}
+use Rattle.smv_abs.specs.Cases.{Treatment, whole, reduced, ordered, Parameter, is_set, those_of, named_among, are_named, is_of, is_orderly, grow, listed_classes, type_in, is_allowed, candidates, numbered, cases}
+use Rattle.smv_abs.specs.Covers.{place_at, places_at, types_at, AreApart, IsIndexType}
 use Rattle.smv_abs.specs.LeafCases.{treatments_of}
 use Rattle.smv_abs.proofs.Tests.{true_or_false, and_both, left_of, right_of}
 use Rattle.smv_abs.proofs.Members.{Has-left, Has-right, Has-cases, Has-map, Has-from_map, any-some, all-each}
 use Rattle.smv_abs.proofs.Same.{nat_eq-is, nat_eq-itself}
-use Rattle.smv_abs.proofs.Spots.{Has-numbers, numbers-Has}
+use Rattle.smv_abs.proofs.Spots.{Has-numbers}
 use Rattle.smv_abs.proofs.OneOfEach.{AreOf, are_of, get_Has}
 use Rattle.smv_abs.proofs.CoverScalarsets.{named_set, below_used}
 use Rattle.smv_abs.proofs.CoverNames.{by_name-at, numbered-at}
-use Rattle.smv_oblig.proofs.Lookups.{inner, Has-from_filter}
+use Rattle.smv_oblig.proofs.Lookups.{Has-from_filter}
 
 -- a parameter with its class
 data Meets : List Parameter → List Class → Parameter → Class → Type 0 where

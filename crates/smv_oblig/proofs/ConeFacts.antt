@@ -1,19 +1,19 @@
 -- What a cone keeps: elements at numbers and classes alone, and the target's own if it is one of these.
-use Rattle.std.proofs.Common.{◌≡◌, ℕ, ◌+◌, ◌<◌, ◌≤◌, List, [], ◌∷◌, ◌++◌, map, length, take, Bool, true, false, if◌then◌else◌, ◌&&◌, refl, sym, ap, subst, ◌∙◌, inl, inr, Option, Some, None, nat_eq, arith}
-use Rattle.std.specs.List.{flat_map, slice_get, list_any, list_all}
+use Rattle.std.proofs.Common.{◌≡◌, ℕ, List, [], ◌∷◌, map, length, take, true, refl, sym, ap, subst, ◌∙◌, Some, nat_eq, arith}
+use Rattle.std.specs.List.{flat_map, slice_get, list_all}
 use Rattle.smv_core.specs.Values.{numbers_from}
 use Rattle.smv_core.specs.declared.flat.Simple.{Simple}
 use Rattle.smv_core.specs.declared.flat.Family.{Family}
 use Rattle.smv_core.specs.declared.flat.Def.{Def}
-use Rattle.smv_abs.specs.Sets.{Has, first, later, one_of_each}
+use Rattle.smv_abs.specs.Sets.{Has, first, one_of_each}
 use Rattle.smv_abs.specs.Places.{Place, same_place, is_named, World, named_in}
 use Rattle.smv_abs.specs.Pictures.{AreNamedOf, KeepsNamed}
-use Rattle.smv_abs.specs.Soundness.{FlatUnit, map_of, claim_of, over_of}
+use Rattle.smv_abs.specs.Soundness.{map_of, over_of}
 use Rattle.smv_abs.proofs.Tests.{and_both, left_of, right_of}
 use Rattle.smv_abs.proofs.Members.{Has-left, Has-map, Has-from_map, Has-flat_map, any-found, any-some}
 use Rattle.smv_abs.proofs.Same.{nat_eq-itself, nat_eq-is, same_place-itself, same_place-is}
 use Rattle.smv_abs.proofs.Spots.{Has-numbers}
-use Rattle.smv_abs.proofs.OneOfEach.{AreOf, are_of, one_of, get_past, Has-from_flat_map}
+use Rattle.smv_abs.proofs.OneOfEach.{AreOf, are_of, get_past, Has-from_flat_map}
 use Rattle.smv_oblig.specs.Reached.{is_among, reached}
 use Rattle.smv_oblig.specs.Outlines.{Entry, Outline, unit_in, assumed}
 use Rattle.smv_oblig.specs.Cones.{AbsElement, element, same_places, same_element, elements_of, elements, elements_read, elements_assumed, own_elements, of_target, first_elements, next_elements, cone, kept}

@@ -1,6 +1,6 @@
 -- What a problem demands is granted by base definitions and by what the leaf uses at that time.
-use Rattle.std.proofs.Common.{◌≡◌, ℕ, zero, suc, ◌+◌, List, [], ◌∷◌, ◌++◌, map, Bool, true, false, if◌then◌else◌, ◌&&◌, ◌||◌, refl, sym, ap, subst, ◌∙◌, ◌⊎◌, inl, inr, Option, Some, None, option_to_list, find, nat_eq, arith}
-use Rattle.std.specs.List.{flat_map, slice_get, list_any, zip}
+use Rattle.std.proofs.Common.{◌≡◌, ℕ, zero, suc, ◌+◌, List, [], ◌∷◌, ◌++◌, map, Bool, true, false, if◌then◌else◌, ◌&&◌, refl, sym, ap, subst, ◌∙◌, inl, inr, Option, Some, None, option_to_list, find, nat_eq, arith}
+use Rattle.std.specs.List.{flat_map, slice_get, zip}
 use Rattle.smv_core.specs.declared.flat.Def.{Def}
 use Rattle.smv_core.specs.declared.flat.Claim.{Claim}
 use Rattle.smv_core.specs.declared.flat.Class.{Class}
@@ -10,22 +10,21 @@ use Rattle.smv_core.specs.declared.flat.Assumed.{Assumed}
 use Rattle.smv_core.specs.declared.flat.Timing.{Timing}
 use Rattle.smv_core.specs.declared.flat.Timing.TheVariants.{Now, Before}
 use Rattle.smv_core.specs.declared.flat.Timed.{Timed}
-use Rattle.smv_abs.specs.Sets.{Has, first, later, one_of_each}
-use Rattle.smv_abs.specs.Places.{Place, World, named_in}
+use Rattle.smv_abs.specs.Sets.{Has, one_of_each}
+use Rattle.smv_abs.specs.Places.{named_in}
 use Rattle.smv_abs.specs.Obligations.{Demanded, defined, holds, Problem}
-use Rattle.smv_abs.specs.Soundness.{FlatUnit, map_of, claim_of, over_of, params_of, LeafProof, IsOf, IsGranted, by_base, by_use}
+use Rattle.smv_abs.specs.Soundness.{FlatUnit, map_of, claim_of, over_of, LeafProof, IsOf, IsGranted, by_base, by_use}
 use Rattle.smv_abs.proofs.Tests.{and_both, left_of, right_of, or_left, or_right}
 use Rattle.smv_abs.proofs.Members.{Has-cases, Has-from_map, any-found}
 use Rattle.smv_abs.proofs.Same.{nat_eq-itself}
 use Rattle.smv_abs.proofs.OneOfEach.{Has-from_flat_map}
-use Rattle.smv_oblig.specs.Outlines.{Entry, Outline, Script, outline_of, names_of, bases, unit_in, map_in, claim_unit, picked_unit, assumed, chosen}
-use Rattle.smv_oblig.specs.Times.{is_unit, graph, same_time, pick_time, claim_time, timed}
-use Rattle.smv_oblig.specs.Cones.{AbsElement, element, same_element, cone, kept}
+use Rattle.smv_oblig.specs.Outlines.{Entry, Outline, Script, outline_of, unit_in, map_in, claim_unit, picked_unit, assumed, chosen}
+use Rattle.smv_oblig.specs.Times.{is_unit, graph, same_time, pick_time, timed}
+use Rattle.smv_oblig.specs.Cones.{AbsElement, element, same_element, cone}
 use Rattle.smv_oblig.specs.Problems.{is_at, family_time, world_of, params_at, own_params, element_demands, own_demands, itself_demands, instances, claim_demands, demands, problem_of, entry_uses, used_by, uses_at, proof_of, proofs_from, plan_of}
-use Rattle.smv_oblig.proofs.Lookups.{none_or_some, inner, Has-option, Has-tested, find-some, Has-zip}
+use Rattle.smv_oblig.proofs.Lookups.{inner, Has-option, Has-tested, find-some, Has-zip}
 use Rattle.smv_oblig.proofs.OutlineFacts.{Says, Comes, from_base, from_unit, map_in-is, chosen-comes, assumed-comes}
-use Rattle.smv_oblig.proofs.UsesFall.{at-is}
-use Rattle.smv_oblig.proofs.ConeFacts.{in_cone-is, in_cone-kept, same_element-family, same_element-indexes}
+use Rattle.smv_oblig.proofs.ConeFacts.{in_cone-is, in_cone-kept, same_element-family}
 
 -- the leaves of the plan, by their places
 pub proofs-get : (s : Script) (k i : ℕ) (entries : List Entry) (v : ℕ) (entry : Entry) → i ≡ k + v → slice_get entries v ≡ Some entry → slice_get (proofs_from s k entries) v ≡ Some (proof_of s i entry)
@@ -157,10 +156,10 @@ module _ (s : Script) (u : ℕ) (entry : Entry) (is_there : slice_get s.entries 
   pub granted : (time : Timing) (d : Demanded) → Has (demands o entry times (world_of o entry classes) (own_params o entry classes) the_cone time) d → IsGranted (plan_of s) (uses_at s time u) p d
   granted time d k = elim (Has-cases (flat_map (λ x. element_demands o entry times (world_of o entry classes) (own_params o entry classes) time x ++ itself_demands o entry times (world_of o entry classes) (own_params o entry classes) time x) the_cone)
       (claim_demands o entry times (world_of o entry classes) (own_params o entry classes) time) k) [
-    | inl l ↦ let r = Has-from_flat_map (λ x. element_demands o entry times (world_of o entry classes) (own_params o entry classes) time x ++ itself_demands o entry times (world_of o entry classes) (own_params o entry classes) time x) the_cone l in
-        elim (Has-cases (element_demands o entry times (world_of o entry classes) (own_params o entry classes) time r.0) (itself_demands o entry times (world_of o entry classes) (own_params o entry classes) time r.0) r.2) [
-          | inl a ↦ element_granted time r.0 r.1 d a
-          | inr b ↦ itself_granted time r.0 r.1 d b
-        ]
-    | inr l ↦ claim_granted time d l
-  ]
+        | inl l ↦ let r = Has-from_flat_map (λ x. element_demands o entry times (world_of o entry classes) (own_params o entry classes) time x ++ itself_demands o entry times (world_of o entry classes) (own_params o entry classes) time x) the_cone l in
+            elim (Has-cases (element_demands o entry times (world_of o entry classes) (own_params o entry classes) time r.0) (itself_demands o entry times (world_of o entry classes) (own_params o entry classes) time r.0) r.2) [
+              | inl a ↦ element_granted time r.0 r.1 d a
+              | inr b ↦ itself_granted time r.0 r.1 d b
+            ]
+        | inr l ↦ claim_granted time d l
+      ]

@@ -1,12 +1,12 @@
 -- What is reached is the least set.
 use Rattle.std.proofs.Common.{◌≡◌, ℕ, zero, suc, ◌+◌, ◌<◌, ◌≤◌, List, [], ◌∷◌, ◌++◌, length, Bool, true, false, if◌then◌else◌, not, cond, filter, refl, sym, ap, subst, ◌∙◌, ◌⊎◌, inl, inr, Option, Some, None, arith}
-use Rattle.std.specs.List.{slice_get, list_any}
+use Rattle.std.specs.List.{slice_get}
 use Rattle.smv_abs.specs.Sets.{Has, first, later}
-use Rattle.smv_abs.proofs.Tests.{true_or_false, not_true}
-use Rattle.smv_abs.proofs.Members.{Has-uncons, Has-left, Has-right, Has-cases, any-found, any-some}
-use Rattle.smv_abs.proofs.OneOfEach.{get_Has, Has_get, get_past, joined_long}
+use Rattle.smv_abs.proofs.Tests.{true_or_false}
+use Rattle.smv_abs.proofs.Members.{Has-uncons, Has-cases, any-found, any-some}
+use Rattle.smv_abs.proofs.OneOfEach.{get_Has, Has_get, get_past}
 use Rattle.smv_oblig.specs.Reached.{is_among, with_all, following, in_turn, reached, IsLeast}
-use Rattle.smv_oblig.proofs.Lookups.{none_or_some, inner, Has-filter, with_all-keeps, with_all-has, in_turn-keeps}
+use Rattle.smv_oblig.proofs.Lookups.{inner, Has-filter, with_all-keeps, with_all-has, in_turn-keeps}
 
 clash : {b : Bool} → b ≡ true → b ≡ false → ⊥
 clash p q = cc

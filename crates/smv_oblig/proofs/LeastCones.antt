@@ -1,9 +1,8 @@
 -- A cone is the least set of elements, and a same-time set the least set of families.
-use Rattle.std.proofs.Common.{◌≡◌, ℕ, ◌+◌, ◌<◌, ◌≤◌, List, [], ◌∷◌, ◌++◌, map, length, take, Bool, true, false, if◌then◌else◌, ◌||◌, refl, sym, ap, subst, ◌∙◌, inl, inr, Option, Some, None, option_to_list, nat_eq, arith}
+use Rattle.std.proofs.Common.{◌≡◌, ℕ, List, [], ◌∷◌, ◌++◌, map, length, take, Bool, true, false, if◌then◌else◌, ◌||◌, refl, sym, ap, subst, ◌∙◌, inl, inr, Option, Some, None, option_to_list, nat_eq, arith}
 use Rattle.std.specs.List.{flat_map, slice_get, list_any, list_all}
 use Rattle.smv_core.specs.Values.{number, numbers_from}
 use Rattle.smv_core.specs.Assignments.{Index, fixed, bare, computed}
-use Rattle.smv_core.specs.declared.flat.Simple.{Simple}
 use Rattle.smv_core.specs.declared.flat.Family.{Family}
 use Rattle.smv_core.specs.declared.flat.Def.{Def}
 use Rattle.smv_core.specs.declared.flat.Claim.{Claim}
@@ -11,23 +10,23 @@ use Rattle.smv_core.specs.declared.flat.Flat.{Flat}
 use Rattle.smv_core.specs.declared.flat.FlatExpr.{FlatExpr}
 use Rattle.smv_core.specs.declared.flat.Class.{Class}
 use Rattle.smv_core.specs.declared.flat.Assumed.{Assumed}
-use Rattle.smv_abs.specs.Sets.{Has, first, later, one_of_each}
+use Rattle.smv_abs.specs.Sets.{Has, one_of_each}
 use Rattle.smv_abs.specs.Places.{Place, named, same_place, is_named, World, named_in, places_in}
 use Rattle.smv_abs.specs.Cases.{cases}
 use Rattle.smv_abs.specs.Soundness.{FlatUnit, map_of, claim_of, over_of}
 use Rattle.smv_abs.proofs.Members.{Has-map, Has-from_map, Has-flat_map, Has-cases, Has-uncons, any-found, any-some}
 use Rattle.smv_abs.proofs.Same.{nat_eq-itself, nat_eq-is}
 use Rattle.smv_abs.proofs.Spots.{Has-numbers}
-use Rattle.smv_abs.proofs.OneOfEach.{AreOf, are_of, one_of, get_past, get_Has, Has_get, Has-from_flat_map}
+use Rattle.smv_abs.proofs.OneOfEach.{AreOf, are_of, one_of, get_past, get_Has, Has-from_flat_map}
 use Rattle.smv_abs.proofs.CoverLists.{length-numbers}
 use Rattle.smv_oblig.specs.Reached.{is_among, reached, IsLeast}
-use Rattle.smv_oblig.specs.Reads.{is_own, is_bound_to, reads, part_reads}
+use Rattle.smv_oblig.specs.Reads.{is_own, is_bound_to, part_reads}
 use Rattle.smv_oblig.specs.Outlines.{Entry, Outline, Script, outline_of, unit_in, claim_unit, assumed, chosen}
 use Rattle.smv_oblig.specs.Times.{if_there, families_read, families_of_part, families_at_once, is_unit, families_assumed, families_of_unit, first_families, next_families, same_time}
 use Rattle.smv_oblig.specs.Cones.{AbsElement, element, same_element, index_places, each_index, elements_of, elements, elements_in, elements_at, elements_read, elements_of_def, elements_assumed, own_elements, of_target, first_elements, next_elements, cone}
 use Rattle.smv_oblig.specs.Problems.{leaf_params, leaf_treatments, world_of, params_at}
-use Rattle.smv_oblig.specs.Checked.{IsSplit, IsChecked}
-use Rattle.smv_oblig.proofs.Lookups.{Has-option, Has-tested, Has-filter, Has-from_filter}
+use Rattle.smv_oblig.specs.Checked.{IsChecked}
+use Rattle.smv_oblig.proofs.Lookups.{Has-tested, Has-filter, Has-from_filter}
 use Rattle.smv_oblig.proofs.OutlineFacts.{unit-def}
 use Rattle.smv_oblig.proofs.ConeFacts.{same_element-itself, same_element-family, same_element-indexes}
 use Rattle.smv_oblig.proofs.Least.{reached_is_least}

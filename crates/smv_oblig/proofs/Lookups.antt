@@ -1,9 +1,8 @@
 -- What lookups in lists give.
-use Rattle.std.proofs.Common.{◌≡◌, ℕ, zero, suc, List, [], ◌∷◌, ◌++◌, map, Bool, true, false, cond, if◌then◌else◌, refl, sym, ap, subst, ◌∙◌, ◌⊎◌, inl, inr, Option, Some, None, option_map, filter, find, option_to_list}
+use Rattle.std.proofs.Common.{◌≡◌, ℕ, zero, suc, List, [], ◌∷◌, ◌++◌, map, Bool, true, false, cond, if◌then◌else◌, refl, sym, subst, ◌⊎◌, inl, inr, Option, Some, None, option_map, filter, find, option_to_list}
 use Rattle.std.specs.List.{slice_get, list_any, zip}
 use Rattle.smv_abs.specs.Sets.{Has, first, later}
-use Rattle.smv_abs.proofs.Tests.{true_or_false, or_left, or_right, or_cases}
-use Rattle.smv_abs.proofs.Members.{Has-uncons, Has-left, Has-right, Has-cases, any-found, any-some}
+use Rattle.smv_abs.proofs.Members.{Has-uncons, Has-left, Has-right, any-found, any-some}
 use Rattle.smv_oblig.specs.Outlines.{place_of}
 use Rattle.smv_oblig.specs.Reached.{is_among, with_all, following, in_turn, reached}
 

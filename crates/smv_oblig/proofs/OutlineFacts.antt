@@ -1,5 +1,5 @@
 -- What an outline's lookups give: base definitions, units, and the definitions that a proof uses.
-use Rattle.std.proofs.Common.{◌≡◌, ℕ, zero, suc, ◌+◌, ◌<◌, ◌≤◌, List, [], ◌∷◌, length, Bool, true, false, cond, if◌then◌else◌, ◌&&◌, ◌||◌, refl, sym, ap, subst, ◌∙◌, ◌⊎◌, inl, inr, Option, Some, None, option_to_list, option_and_then, is_none, filter, find, nat_eq, nat_lt, arith}
+use Rattle.std.proofs.Common.{◌≡◌, ℕ, List, [], ◌∷◌, length, Bool, true, false, cond, ◌||◌, refl, sym, ap, subst, ◌∙◌, Option, Some, None, option_to_list, option_and_then, is_none, find, nat_eq, nat_lt, arith}
 use Rattle.std.specs.List.{slice_get}
 use Rattle.smv_core.specs.Values.{numbers_from}
 use Rattle.smv_core.specs.declared.flat.Design.{Design}
@@ -17,8 +17,8 @@ use Rattle.smv_abs.proofs.Members.{Has-flat_map}
 use Rattle.smv_abs.proofs.Same.{nat_eq-is}
 use Rattle.smv_abs.proofs.Spots.{Has-numbers}
 use Rattle.smv_abs.proofs.OneOfEach.{Has-from_flat_map, get_past}
-use Rattle.smv_oblig.specs.Outlines.{Outline, earlier, earliest, as_map, as_claim, map_in, claim_in, is_def, is_claim, may_be_base, base_of, bases, unit_in, is_map, map_unit, claim_unit, said_by, claim_by, assumed, map_by, map_in_layer, unit_in_layer, picked_unit, map_by_pick, chosen}
-use Rattle.smv_oblig.proofs.Lookups.{none_or_some, inner, Has-option, Has-from_filter, find-some, place_of-is}
+use Rattle.smv_oblig.specs.Outlines.{Outline, earlier, earliest, as_map, as_claim, map_in, claim_in, is_def, may_be_base, base_of, bases, unit_in, is_map, map_unit, claim_unit, said_by, claim_by, assumed, map_by, map_in_layer, unit_in_layer, picked_unit, map_by_pick, chosen}
+use Rattle.smv_oblig.proofs.Lookups.{inner, Has-option, Has-from_filter, find-some, place_of-is}
 
 earliest-Has : (defs : List Def) {def : Def} → earliest defs ≡ Some def → Has defs def
 earliest-Has [] e = absurd (cc)
@@ -115,9 +115,10 @@ module _ (o : Outline) where
   by_unit picks family def p i s layer l (Some v) m e =
       let r = says_map (slice_get o.units v) def e in
       let q = place_of-is (is_map o.design p.family layer) o.units v m in
-      let same : q.0 ≡ r.0 = inner (sym q.1 ∙ r.1) in
-      (is_map-family o.design p.family layer r.0 def (subst (λ unit. is_map o.design p.family layer unit ≡ true) same q.2) r.2 ∙ s,
-      from_unit p i v (ap (unit_in_layer o p.family) l ∙ m) (record { unit = r.0; is_there = r.1; is_said = r.2 }))
+      let same : q.0 ≡ r.0 = inner (sym q.1 ∙ r.1) in (
+        is_map-family o.design p.family layer r.0 def (subst (λ unit. is_map o.design p.family layer unit ≡ true) same q.2) r.2 ∙ s,
+        from_unit p i v (ap (unit_in_layer o p.family) l ∙ m) (record { unit = r.0; is_there = r.1; is_said = r.2 }),
+      )
 
   by_layer : (picks : List Pick) (family : ℕ) (def : Def) (p : Pick) → find (λ p. nat_eq p.family family) picks ≡ Some p → p.family ≡ family →
       (ol : Option ℕ) → p.layer ≡ ol → map_in_layer o p.family ol ≡ Some def → (def.family ≡ family) × Comes picks family def

@@ -1,39 +1,34 @@
 -- The reading of a script is a plan of proof.
-use Rattle.std.proofs.Common.{◌≡◌, ℕ, zero, suc, ◌+◌, ◌-◌, ◌<◌, ◌≤◌, List, [], ◌∷◌, ◌++◌, map, length, take, get_or, Bool, true, false, if◌then◌else◌, refl, sym, ap, subst, ◌∙◌, inl, inr, Option, Some, None, IfSome, arith}
+use Rattle.std.proofs.Common.{◌≡◌, ℕ, ◌+◌, ◌-◌, ◌<◌, List, ◌++◌, map, length, take, Bool, true, false, refl, sym, ap, subst, ◌∙◌, Option, Some, None, arith}
 use Rattle.std.specs.List.{slice_get, list_all}
-use Rattle.smv_core.specs.Values.{Name, Value, number, constant, scalar, ordinal, Sizes, values_of, numbers_from}
-use Rattle.smv_core.specs.Flat.{Numbered, set_type}
+use Rattle.smv_core.specs.Values.{Name, Value, number, constant, scalar, ordinal, Sizes, values_of}
+use Rattle.smv_core.specs.Flat.{set_type}
 use Rattle.smv_core.specs.declared.flat.Design.{Design}
 use Rattle.smv_core.specs.declared.flat.Simple.{Simple}
 use Rattle.smv_core.specs.declared.flat.Simple.TheVariants.{Range, Enum, Set}
-use Rattle.smv_core.specs.declared.flat.SetInfo.{SetInfo}
-use Rattle.smv_core.specs.declared.flat.Family.{Family}
 use Rattle.smv_core.specs.declared.flat.Def.{Def}
 use Rattle.smv_core.specs.declared.flat.Claim.{Claim as FlatClaim}
 use Rattle.smv_core.specs.declared.flat.Unit.{Unit}
 use Rattle.smv_core.specs.declared.flat.Unit.TheVariants.{Map, Claim}
 use Rattle.smv_core.specs.declared.flat.Param.{Param}
-use Rattle.smv_core.specs.declared.flat.Keep.{Keep}
-use Rattle.smv_core.specs.declared.flat.Guard.{Guard}
 use Rattle.smv_core.specs.declared.flat.Class.{Class}
 use Rattle.smv_core.specs.declared.flat.Timing.TheVariants.{Now, Before}
-use Rattle.smv_abs.specs.Sets.{Has, first, later}
+use Rattle.smv_abs.specs.Sets.{Has}
 use Rattle.smv_abs.specs.Places.{Place, is_named, places_in}
 use Rattle.smv_abs.specs.Cases.{Parameter, cases}
 use Rattle.smv_abs.specs.LeafCases.{stays, leaf_cases}
 use Rattle.smv_abs.specs.Covers.{IsIndexType}
-use Rattle.smv_abs.specs.Soundness.{FlatUnit, map_of, claim_of, LeafProof, at_sizes, AreSizes, over_of, params_of, HasValue, IsKept, IsCase, IsDefinition, IsUnit, IsLeaf, IsPlan}
+use Rattle.smv_abs.specs.Soundness.{FlatUnit, map_of, claim_of, LeafProof, at_sizes, AreSizes, over_of, params_of, HasValue, IsKept, IsCase, IsUnit, IsLeaf, IsPlan}
 use Rattle.smv_abs.specs.Uses.{rank_of}
 use Rattle.smv_abs.proofs.Members.{Has-map, Has-from_map}
 use Rattle.smv_abs.proofs.Spots.{Has-numbers}
 use Rattle.smv_abs.proofs.OneOfEach.{AreOf, one_of, map_joined, map_long, get_Has, Has_get}
 use Rattle.smv_abs.proofs.CoverParams.{map-map}
 use Rattle.smv_abs.proofs.CoverScalarsets.{named_set}
-use Rattle.smv_oblig.specs.Outlines.{Entry, Outline, Script, outline_of, names_of, as_map, as_claim, bases, unit_in}
+use Rattle.smv_oblig.specs.Outlines.{Entry, Outline, Script, outline_of, names_of, as_map, as_claim, unit_in}
 use Rattle.smv_oblig.specs.Times.{graph, has_edge, timed}
 use Rattle.smv_oblig.specs.Problems.{leaf_params, leaf_treatments, world_of, params_at, own_params, problem_of, proof_of, proofs_from, plan_of}
 use Rattle.smv_oblig.specs.Checked.{IsFilled, IsSplit, IsChecked}
-use Rattle.smv_oblig.proofs.Lookups.{inner}
 use Rattle.smv_oblig.proofs.OutlineFacts.{bases-are, unit-def}
 use Rattle.smv_oblig.proofs.UsesFall.{uses_fall}
 use Rattle.smv_oblig.proofs.CasePlaces.{IsThere, case_places, treatment_there, take_of, named_there}

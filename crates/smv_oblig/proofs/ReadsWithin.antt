@@ -1,5 +1,5 @@
 -- What holds of all that is made of references holds of all that an expression or a definition reads.
-use Rattle.std.proofs.Common.{◌≡◌, ℕ, List, [], ◌∷◌, ◌++◌, map, Bool, true, ◌||◌, if◌then◌else◌, inl, inr}
+use Rattle.std.proofs.Common.{ℕ, List, [], ◌++◌, map, Bool, ◌||◌, if◌then◌else◌, inl, inr}
 use Rattle.std.specs.List.{flat_map}
 use Rattle.smv_core.specs.Assignments.{Index}
 use Rattle.smv_core.specs.Flat.{flat_index}

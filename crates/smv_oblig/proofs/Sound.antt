@@ -1,7 +1,5 @@
 -- Where no case of any leaf has a violating path, every unit holds.
-use Rattle.std.proofs.Common.{◌≡◌, ℕ, zero, suc, ◌+◌, List, [], ◌∷◌, length, false, true, refl, sym, subst, inl, inr, None, Some, arith}
-use Rattle.std.specs.List.{slice_get}
-use Rattle.smv_core.specs.declared.flat.Class.{Class}
+use Rattle.std.proofs.Common.{◌≡◌, List, [], ◌∷◌, length, false, sym, subst, inl, inr, arith}
 use Rattle.smv_core.specs.declared.flat.Design.{Design}
 use Rattle.smv_core.specs.declared.flat.Unit.{Unit}
 use Rattle.smv_core.specs.declared.flat.Leaf.{Leaf}
@@ -12,7 +10,7 @@ use Rattle.smv_abs.specs.Pictures.{IsAbsState}
 use Rattle.smv_abs.specs.Circular.{is_violating}
 use Rattle.smv_abs.specs.Obligations.{obligation}
 use Rattle.smv_abs.specs.LeafCases.{leaf_cases}
-use Rattle.smv_abs.specs.Soundness.{LeafProof, HasNoViolatingPath}
+use Rattle.smv_abs.specs.Soundness.{HasNoViolatingPath}
 use Rattle.smv_abs.proofs.Members.{Has-uncons}
 use Rattle.smv_abs.proofs.OneOfEach.{get_Has, Has_get}
 use Rattle.smv_abs.proofs.Joined.{sound}

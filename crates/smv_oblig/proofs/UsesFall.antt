@@ -1,6 +1,6 @@
 -- The uses that are now fall in the order of the graph of the open uses.
-use Rattle.std.proofs.Common.{◌≡◌, ℕ, zero, suc, ◌<◌, ◌≤◌, List, [], ◌∷◌, map, length, get_or, Bool, true, false, if◌then◌else◌, ◌&&◌, ◌||◌, not, refl, sym, ap, subst, ◌∙◌, ◌⊎◌, inl, inr, Option, Some, None, is_none, nat_eq, arith}
-use Rattle.std.specs.List.{slice_get, list_any, zip}
+use Rattle.std.proofs.Common.{◌≡◌, ℕ, suc, ◌<◌, List, [], ◌∷◌, map, length, Bool, true, false, if◌then◌else◌, ◌&&◌, refl, sym, ap, subst, ◌∙◌, inl, inr, Option, Some, None, is_none, arith}
+use Rattle.std.specs.List.{slice_get, zip}
 use Rattle.smv_core.specs.declared.flat.Pick.{Pick}
 use Rattle.smv_core.specs.declared.flat.Assumed.{Assumed}
 use Rattle.smv_core.specs.declared.flat.Timing.{Timing}
@@ -12,8 +12,8 @@ use Rattle.smv_abs.proofs.Members.{any-some}
 use Rattle.smv_abs.proofs.Same.{nat_eq-is}
 use Rattle.smv_abs.proofs.OneOfEach.{get_past, map_long}
 use Rattle.smv_abs.proofs.NowOrder.{falls}
-use Rattle.smv_oblig.specs.Outlines.{Entry, Outline, Script, outline_of, is_claim, is_map, map_unit, claim_unit, unit_in_layer, picked_unit}
-use Rattle.smv_oblig.specs.Times.{is_unit, open_uses, graph_from, graph, has_edge, time_of, unit_time, is_open_pick, same_time, pick_time, claim_time, timed}
+use Rattle.smv_oblig.specs.Outlines.{Entry, Outline, Script, outline_of, is_claim, is_map, claim_unit, unit_in_layer, picked_unit}
+use Rattle.smv_oblig.specs.Times.{is_unit, graph_from, graph, has_edge, time_of, unit_time, is_open_pick, same_time, pick_time, claim_time, timed}
 use Rattle.smv_oblig.specs.Problems.{is_at, entry_uses, used_by, uses_at}
 use Rattle.smv_oblig.proofs.Lookups.{inner, place_of-is}
 
@@ -81,12 +81,12 @@ module _ (s : Script) (u : ℕ) (entry : Entry) where
         let t = sym (zip-is (pick_time o edges u families) entry.choice.picks r.1) ∙ at-is r.0.1 Now (left_of (is_at r.0.1 Now) _ r.2) in
         (pick-now r.0.0 v r.0.0.layer refl n (is_open_pick families r.0.0) t, unit_in_layer-below o r.0.0.family r.0.0.layer v n)
     | inr b ↦ elim (or_cases _ _ b) [
-        | inl a ↦ let r = any-some (λ (used, t). is_at t Now && is_unit v (claim_unit o used.claim)) (zip entry.choice.claims (map (claim_time o edges u) entry.choice.claims)) a in
-            let n = names-is v (claim_unit o r.0.0.claim) (right_of (is_at r.0.1 Now) _ r.2) in
-            let t = sym (zip-is (claim_time o edges u) entry.choice.claims r.1) ∙ at-is r.0.1 Now (left_of (is_at r.0.1 Now) _ r.2) in
-            (claim-now r.0.0 v n r.0.0.early t, claim_unit-below o r.0.0.claim v n)
-        | inr a ↦ absurd (cc)
-      ]
+      | inl a ↦ let r = any-some (λ (used, t). is_at t Now && is_unit v (claim_unit o used.claim)) (zip entry.choice.claims (map (claim_time o edges u) entry.choice.claims)) a in
+          let n = names-is v (claim_unit o r.0.0.claim) (right_of (is_at r.0.1 Now) _ r.2) in
+          let t = sym (zip-is (claim_time o edges u) entry.choice.claims r.1) ∙ at-is r.0.1 Now (left_of (is_at r.0.1 Now) _ r.2) in
+          (claim-now r.0.0 v n r.0.0.early t, claim_unit-below o r.0.0.claim v n)
+      | inr a ↦ absurd (cc)
+    ]
   ]
 
 -- so the units fall along the uses that are now

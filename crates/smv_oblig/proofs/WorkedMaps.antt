@@ -1,8 +1,7 @@
 -- The worked script of two maps that are proved by each other, one before and one now.
-use Rattle.std.proofs.Common.{◌≡◌, ℕ, zero, suc, ◌≤◌, List, [], ◌∷◌, Bool, true, false, ◌&&◌, refl, sym, subst, inl, inr, Option, Some, None, arith}
+use Rattle.std.proofs.Common.{◌≡◌, ℕ, zero, suc, List, [], ◌∷◌, Bool, true, false, ◌&&◌, refl, sym, subst, inl, inr, Option, Some, None, arith}
 use Rattle.std.specs.List.{slice_get}
 use Rattle.smv_core.specs.Values.{number}
-use Rattle.smv_core.specs.declared.flat.Simple.{Simple}
 use Rattle.smv_core.specs.declared.flat.Class.{Class}
 use Rattle.smv_core.specs.declared.flat.Family.{Family}
 use Rattle.smv_core.specs.declared.flat.Def.{Def}
@@ -76,11 +75,17 @@ are_definitions def (later (later (later (later h)))) = elim h [ ]
 
 are_split : (entry : Entry) → Has the_script.entries entry → IsSplit the_script entry
 are_split _ first = record {
-  added = []; are_params = refl; are_index_types = λ p h. elim h [ ]; are_filled = λ p h. elim h [ ];
+  added = [];
+  are_params = refl;
+  are_index_types = λ p h. elim h [ ];
+  are_filled = λ p h. elim h [ ];
   are_guards = record { is_added = λ g h. elim h [ ]; is_of_type = λ g h. elim h [ ]; reads_before = λ g h. elim h [ ]; one_each = λ g h i j e. elim i [ ] };
 }
 are_split _ (later first) = record {
-  added = []; are_params = refl; are_index_types = λ p h. elim h [ ]; are_filled = λ p h. elim h [ ];
+  added = [];
+  are_params = refl;
+  are_index_types = λ p h. elim h [ ];
+  are_filled = λ p h. elim h [ ];
   are_guards = record { is_added = λ g h. elim h [ ]; is_of_type = λ g h. elim h [ ]; reads_before = λ g h. elim h [ ]; one_each = λ g h i j e. elim i [ ] };
 }
 are_split entry (later (later h)) = elim h [ ]

@@ -1,5 +1,5 @@
 -- The worked script of a claim that is split.
-use Rattle.std.proofs.Common.{◌≡◌, ℕ, zero, suc, ◌≤◌, List, [], ◌∷◌, Bool, true, false, refl, sym, ap, subst, ◌∙◌, inl, inr, Option, Some, None, arith}
+use Rattle.std.proofs.Common.{◌≡◌, zero, suc, List, [], ◌∷◌, false, refl, sym, subst, ◌∙◌, inl, inr, Option, Some, None, arith}
 use Rattle.std.specs.List.{slice_get}
 use Rattle.smv_core.specs.declared.flat.Simple.TheVariants.{Set}
 use Rattle.smv_core.specs.declared.flat.Class.{Class}
@@ -24,8 +24,7 @@ use Rattle.smv_oblig.specs.Outlines.{Entry, Script, outline_of}
 use Rattle.smv_oblig.specs.Times.{graph, timed}
 use Rattle.smv_oblig.specs.Problems.{problem_of}
 use Rattle.smv_oblig.specs.Checked.{IsFilled, IsSplit, IsChecked, IsProved}
-use Rattle.smv_oblig.specs.WorkedTomasulo.{params_from}
-use Rattle.smv_oblig.specs.WorkedScripts.{over_P, one_of, claimed, picking, of_claim}
+use Rattle.smv_oblig.specs.WorkedScripts.{picking, of_claim}
 use Rattle.smv_oblig.specs.WorkedProblems.{twice_equal, split_by, a_is_i}
 use Rattle.smv_oblig.proofs.Lookups.{inner}
 

@@ -1,14 +1,11 @@
 -- The cone of a case: which elements it keeps.
-use Rattle.std.specs.Prelude.{ℕ, List, [], ◌∷◌, ◌++◌, map, flat_map, filter, take, length, slice_get, option_to_list, Option, Some, None, Bool, true, false, ◌&&◌, ◌||◌, if◌then◌else◌, nat_eq}
+use Rattle.std.specs.Prelude.{ℕ, List, [], ◌∷◌, ◌++◌, map, flat_map, filter, take, length, slice_get, option_to_list, Option, Some, None, Bool, true, false, ◌&&◌, if◌then◌else◌, nat_eq}
 use Rattle.std.specs.List.{list_any, list_all}
 use Rattle.smv_core.specs.Values.{numbers_from}
 use Rattle.smv_core.specs.Assignments.{Index, fixed, bare, computed}
-use Rattle.smv_core.specs.declared.flat.Design.{Design}
-use Rattle.smv_core.specs.declared.flat.Simple.{Simple}
 use Rattle.smv_core.specs.declared.flat.Family.{Family}
 use Rattle.smv_core.specs.declared.flat.Def.{Def}
 use Rattle.smv_core.specs.declared.flat.Claim.{Claim}
-use Rattle.smv_core.specs.declared.flat.Assumed.{Assumed}
 use Rattle.smv_core.specs.declared.flat.Flat.{Flat}
 use Rattle.smv_core.specs.declared.flat.FlatExpr.{FlatExpr}
 use Rattle.smv_abs.specs.Sets.{one_of_each}

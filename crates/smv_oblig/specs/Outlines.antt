@@ -1,5 +1,5 @@
 -- Outlines and scripts of proofs: a design with its units; and with the leaf of each unit and what each leaf's proof uses.
-use Rattle.std.specs.Prelude.{ℕ, suc, List, [], ◌∷◌, map, flat_map, filter, find, length, slice_get, option_to_list, option_and_then, is_none, Option, Some, None, option_map, Bool, true, false, ◌&&◌, ◌||◌, if◌then◌else◌, nat_eq, nat_lt}
+use Rattle.std.specs.Prelude.{ℕ, suc, List, [], ◌∷◌, map, flat_map, filter, find, length, slice_get, option_to_list, option_and_then, is_none, Option, Some, None, option_map, Bool, false, ◌&&◌, ◌||◌, if◌then◌else◌, nat_eq, nat_lt}
 use Rattle.smv_core.specs.Values.{numbers_from}
 use Rattle.smv_core.specs.Flat.{Numbered}
 use Rattle.smv_core.specs.declared.flat.Design.{Design}

@@ -5,7 +5,6 @@ use Rattle.smv_core.specs.declared.flat.Def.{Def}
 use Rattle.smv_core.specs.declared.flat.Claim.{Claim}
 use Rattle.smv_core.specs.declared.flat.Class.{Class}
 use Rattle.smv_core.specs.declared.flat.Pick.{Pick}
-use Rattle.smv_core.specs.declared.flat.Assumed.{Assumed}
 use Rattle.smv_core.specs.declared.flat.Timing.{Timing}
 use Rattle.smv_core.specs.declared.flat.Timing.TheVariants.{Now, Before}
 use Rattle.smv_core.specs.declared.flat.Timed.{Timed}
@@ -15,7 +14,7 @@ use Rattle.smv_abs.specs.Cases.{Treatment, Parameter}
 use Rattle.smv_abs.specs.LeafCases.{treatments_of, parameters_of}
 use Rattle.smv_abs.specs.Covers.{types_at, places_at}
 use Rattle.smv_abs.specs.Obligations.{Demanded, defined, holds, Problem}
-use Rattle.smv_abs.specs.Soundness.{FlatUnit, map_of, claim_of, params_of, said_at, LeafProof, Plan}
+use Rattle.smv_abs.specs.Soundness.{params_of, said_at, LeafProof, Plan}
 use Rattle.smv_oblig.specs.Outlines.{Entry, Outline, Script, outline_of, names_of, bases, unit_in, map_in, claim_unit, picked_unit, assumed, chosen}
 use Rattle.smv_oblig.specs.Times.{is_unit, graph, timed}
 use Rattle.smv_oblig.specs.Cones.{AbsElement, element, same_element, cone, kept}

@@ -1,12 +1,9 @@
 -- The times of uses: which uses of a proof are now and which before.
-use Rattle.std.specs.Prelude.{ℕ, suc, List, [], ◌∷◌, ◌++◌, map, flat_map, filter, filter_map, length, get_or, slice_get, is_none, Option, Some, None, option_to_list, Bool, true, false, not, ◌&&◌, ◌||◌, if◌then◌else◌, nat_eq}
+use Rattle.std.specs.Prelude.{ℕ, suc, List, [], ◌∷◌, ◌++◌, map, flat_map, filter, length, get_or, slice_get, is_none, Option, Some, None, option_to_list, Bool, true, false, not, ◌&&◌, ◌||◌, if◌then◌else◌, nat_eq}
 use Rattle.std.specs.List.{list_any}
 use Rattle.smv_core.specs.Values.{number}
-use Rattle.smv_core.specs.declared.flat.Design.{Design}
 use Rattle.smv_core.specs.declared.flat.Family.{Family}
 use Rattle.smv_core.specs.declared.flat.Def.{Def}
-use Rattle.smv_core.specs.declared.flat.Claim.{Claim}
-use Rattle.smv_core.specs.declared.flat.Guard.{Guard}
 use Rattle.smv_core.specs.declared.flat.Pick.{Pick}
 use Rattle.smv_core.specs.declared.flat.Assumed.{Assumed}
 use Rattle.smv_core.specs.declared.flat.Timing.{Timing}
@@ -14,7 +11,7 @@ use Rattle.smv_core.specs.declared.flat.Timing.TheVariants.{Now, Before}
 use Rattle.smv_core.specs.declared.flat.Timed.{Timed}
 use Rattle.smv_core.specs.declared.flat.FlatExpr.{FlatExpr}
 use Rattle.smv_core.specs.declared.flat.Flat.{Flat}
-use Rattle.smv_abs.specs.Places.{Place, named}
+use Rattle.smv_abs.specs.Places.{named}
 use Rattle.smv_abs.specs.Soundness.{FlatUnit, map_of, claim_of}
 use Rattle.smv_abs.specs.Uses.{is_now}
 use Rattle.smv_oblig.specs.Reached.{reached}
@@ -130,4 +127,3 @@ timed_from s u (entry ∷ entries) = timed (outline_of s) (graph s) u entry ∷ 
 
 abbrev pub all_timed : Script → List Timed
 all_timed s = timed_from s 0 s.entries
-

@@ -1,15 +1,12 @@
 -- Worked times of uses.
 use Rattle.std.specs.Prelude.{◌≡◌, ℕ, ◌+◌, List, [], ◌∷◌, map, Some, None, true}
-use Rattle.smv_core.specs.declared.flat.Flat.{Nothing}
 use Rattle.smv_core.specs.declared.flat.Def.{Def}
-use Rattle.smv_core.specs.declared.flat.Claim.{Claim}
-use Rattle.smv_core.specs.declared.flat.Pick.{Pick}
 use Rattle.smv_core.specs.declared.flat.Assumed.{Assumed}
 use Rattle.smv_core.specs.declared.flat.Timing.{Timing}
 use Rattle.smv_core.specs.declared.flat.Timing.TheVariants.{Now, Before}
 use Rattle.smv_oblig.specs.Outlines.{Entry, Script, outline_of}
 use Rattle.smv_oblig.specs.Times.{same_time, graph, all_timed}
-use Rattle.smv_oblig.specs.WorkedTomasulo.{iss, bv, bw, dout, ir_resvd, ir_val, rd, r, f, bt, st_va, rd1, va1, bw1, val1, machine_script, one, num, set, always, stepwise, by_layer, free}
+use Rattle.smv_oblig.specs.WorkedTomasulo.{dout, ir_resvd, ir_val, rd, r, rd1, machine_script, one, num, set, always, stepwise, by_layer}
 use Rattle.smv_oblig.specs.WorkedScripts.{over_P, one_of, claimed, picking, assuming, a_claim, of_claim, of_map, bit}
 
 abbrev pub pick_times : Script → List (List Timing)

@@ -34,52 +34,76 @@ signal over value is_abstract = record { name = []; over = over; value = value; 
 -- the families by their numbers
 abbrev pub issue : ℕ
 issue = 0
+
 abbrev pub go : ℕ
 go = 1
+
 abbrev pub slot : ℕ
 slot = 2
+
 abbrev pub bt : ℕ
 bt = 3
+
 abbrev pub src : ℕ
 src = 4
+
 abbrev pub dst : ℕ
 dst = 5
+
 abbrev pub rd : ℕ
 rd = 6
+
 abbrev pub iss : ℕ
 iss = 7
+
 abbrev pub bv : ℕ
 bv = 8
+
 abbrev pub opa : ℕ
 opa = 9
+
 abbrev pub res : ℕ
 res = 10
+
 abbrev pub bw : ℕ
 bw = 11
+
 abbrev pub dout : ℕ
 dout = 12
+
 abbrev pub ir_resvd : ℕ
 ir_resvd = 13
+
 abbrev pub ir_tag : ℕ
 ir_tag = 14
+
 abbrev pub ir_val : ℕ
 ir_val = 15
+
 abbrev pub st_valid : ℕ
 st_valid = 16
+
 abbrev pub st_ga : ℕ
 st_ga = 17
+
 abbrev pub st_ta : ℕ
 st_ta = 18
+
 abbrev pub st_va : ℕ
 st_va = 19
+
 abbrev pub r : ℕ
 r = 20
+
 abbrev pub aux_a : ℕ
 aux_a = 21
+
 abbrev pub aux_res : ℕ
 aux_res = 22
+
 abbrev pub aux_src : ℕ
 aux_src = 23
+
 abbrev pub f : ℕ
 f = 24
 
@@ -150,7 +174,7 @@ machine =
     ∷ stepwise ir_tag None Nothing (Forall 0 reg (when (issued (one dst)) (set_at i (one slot)))) 9
     ∷ stepwise st_valid None (Forall 0 tag (set_at i (num 0))) (Forall 0 tag (First (when (issued (one slot)) (set_at i (num 1)) ∷ when (one bv ∷ equal (one bt) i ∷ []) (set_at i (num 0)) ∷ []))) 10
     ∷ stepwise st_ga None Nothing (Forall 0 tag (First (when (issued (one slot)) (set_at i (Or (not' (at ir_resvd (one src)) ∷ And (one bv ∷ equal (at ir_tag (one src)) (one bt) ∷ []) ∷ [])))
-        ∷ when is_caught (set_at i (num 1)) ∷ []))) 12
+    ∷ when is_caught (set_at i (num 1)) ∷ []))) 12
     ∷ stepwise st_va None Nothing (Forall 0 tag (First (when (issued (one slot)) (set_at i (Choose (at ir_resvd (one src)) (one bw) (at ir_val (one src)))) ∷ when is_caught (set_at i (one bw)) ∷ []))) 13
     ∷ stepwise st_ta None Nothing (Forall 0 tag (when (issued (one slot)) (set_at i (at ir_tag (one src))))) 16 ∷ []
 
