@@ -51,14 +51,16 @@ module _ (s : Script) where
 
 -- no case of any leaf has a violating path of abstract states
 abbrev pub IsProved : Script → Type 0
-IsProved s = (u : ℕ) (entry : Entry) → slice_get s.entries u ≡ Some entry → (classes : List Class) → Has (leaf_cases s.design.sets entry.leaf.params entry.choice.keeps) classes → HasNone (problem_of (outline_of s) entry (timed (outline_of s) (graph s) u entry) classes)
+IsProved s = (u : ℕ) (entry : Entry) → slice_get s.entries u ≡ Some entry → (classes : List Class) →
+    Has (leaf_cases s.design.sets entry.leaf.params entry.choice.keeps) classes → HasNone (problem_of (outline_of s) entry (timed (outline_of s) (graph s) u entry) classes)
   where
     HasNone : Problem → Type 0
     HasNone p = (path : List AbsState) → ((a : AbsState) → Has path a → IsAbsState p.world p.kept a) → is_violating (obligation p) path ≡ false
 
 -- every instance of a unit holds at every time of every run, for all sizes
 abbrev pub HoldsAlways : Design → FlatUnit → Type 0
-HoldsAlways d unit = (sizes : Sizes) → AreSizes (names_of d) sizes → (run : List FlatState) → IsRun (at_sizes (names_of d) sizes) (bases d) run → Instances (at_sizes (names_of d) sizes) run
+HoldsAlways d unit = (sizes : Sizes) → AreSizes (names_of d) sizes → (run : List FlatState) → IsRun (at_sizes (names_of d) sizes) (bases d) run →
+    Instances (at_sizes (names_of d) sizes) run
   where
     Instances : Numbered → List FlatState → Type 0
     Instances n run = (values : List Value) → Has (values_over n (params_of n unit)) values → always (is_held n unit values) None run ≡ true

@@ -64,7 +64,8 @@ module _ (w : World) where
   abbrev pub elements_read : FlatExpr → List Place → List AbsElement
   elements_read e b = reads (named_in w) elements_at e b
 
-  -- those that a definition reads for an element of its family, at the values of its `forall` variables at which an assignment has the element's own indexes; a rest is read too
+  -- those that a definition reads for an element of its family: for each assignment, at the values of its `forall` variables at which its
+  -- left side has the element's own indexes, a rest too
   abbrev pub elements_of_def : List Place → Def → List AbsElement
   elements_of_def indexes def = of_part def.init ++ of_part def.next ++ of_part def.comb
     where
@@ -76,8 +77,8 @@ module _ (w : World) where
   elements_assumed None = []
   elements_assumed (Some claim) = flat_map (λ b. elements_read claim.body b) (one_of_each (map (λ p. named_in w p.over) claim.params))
 
-  -- with what the cone of a case begins, where the leaf's parameters stand at these places: with what the target reads, the element of a map if its indexes are numbers and
-  -- classes, and what the guards and the assumed claims read
+  -- With what the cone of a case begins, where the leaf's parameters stand at these places: what the target reads, the element of a map if its
+  -- indexes are numbers and classes, and what the guards and the assumed claims read.
   module _ (o : Outline) (entry : Entry) (params : List Place) where
     abbrev pub own_elements : Def → List Place → List AbsElement
     own_elements def indexes = (if list_all is_named indexes then element def.family indexes ∷ [] else []) ++ elements_of_def indexes def

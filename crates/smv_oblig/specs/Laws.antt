@@ -26,7 +26,8 @@ ReachedIsLeast X =
 
 -- so the same-time set of a leaf, and the cone of each of its cases
 abbrev pub SameTimesAreLeast : Type 0
-SameTimesAreLeast = (s : Script) → IsChecked s → (u : ℕ) (entry : Entry) → IsLeast (next_families (outline_of s) entry) (first_families (outline_of s) u entry) (same_time (outline_of s) u entry)
+SameTimesAreLeast = (s : Script) → IsChecked s → (u : ℕ) (entry : Entry) →
+    IsLeast (next_families (outline_of s) entry) (first_families (outline_of s) u entry) (same_time (outline_of s) u entry)
 
 abbrev pub ConesAreLeast : Type 0
 ConesAreLeast = (s : Script) → IsChecked s → (entry : Entry) → Has s.entries entry → (classes : List Class) → Has (leaf_cases s.design.sets entry.leaf.params entry.choice.keeps) classes →

@@ -75,7 +75,8 @@ module _ (o : Outline) (entry : Entry) (times : Timed) (w : World) (own : List P
   abbrev pub demands : List AbsElement → Timing → List Demanded
   demands elements time = flat_map (λ x. element_demands time x ++ itself_demands time x) elements ++ claim_demands time
 
--- The problem of a case: the elements of its cone, the base definitions and the uses that are now, those that are before, the target at the unit's own parameters, and the guards.
+-- the problem of a case: the elements of its cone, the base definitions and the uses that are now, the uses that are before, the target at
+-- the unit's own parameters, and the guards
 abbrev pub problem_of : Outline → Entry → Timed → List Class → Problem
 problem_of o entry times classes =
     let w = world_of o entry classes in

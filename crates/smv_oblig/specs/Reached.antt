@@ -31,4 +31,5 @@ module _ {X : Type 0} (same : X → X → Bool) (next : X → List X) where
 pub record IsLeast {X : Type 0} (next : X → List X) (from set : List X) : Type 0 where
   pub begins : (x : X) → Has from x → Has set x
   pub goes_on : (x y : X) → Has set x → Has (next x) y → Has set y
-  pub is_least : (other : X → Bool) → ((x : X) → Has from x → other x ≡ true) → ((x y : X) → other x ≡ true → Has (next x) y → other y ≡ true) → (x : X) → Has set x → other x ≡ true
+  pub is_least : (other : X → Bool) → ((x : X) → Has from x → other x ≡ true) → ((x y : X) → other x ≡ true → Has (next x) y → other y ≡ true) →
+      (x : X) → Has set x → other x ≡ true

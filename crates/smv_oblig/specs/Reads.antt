@@ -27,7 +27,7 @@ is_own indexes left b = list_all (λ (i, q). fits i q) (zip left indexes)
     fits (bare var) q = is_bound_to (slice_get b var) q
     fits _ q = true
 
--- What is made of each reference, where the variables of quantifiers and comprehensions take these places.
+-- An expression: what is made of each reference in it, where the variables of quantifiers and comprehensions take these places.
 module _ {X : Type 0} (places : Simple → List Place) (read : ℕ → List Index → List Place → List X) where
   abbrev mutual
     pub reads : FlatExpr → List Place → List X
@@ -69,7 +69,7 @@ module _ {X : Type 0} (places : Simple → List Place) (read : ℕ → List Inde
     reads_held None' b = []
     reads_held (Some' shape (more_of-FlatExpr cond end_of-FlatExpr)) b = reads cond b
 
--- Of a definition, where a `forall` variable takes these places, and an assignment counts if its left side passes a test.
+-- A definition: its `forall` variables take these places, and an assignment counts where its left side passes a test.
 module _ (every : Simple → List Place) (counts : List Index → List Place → Bool) where
   abbrev mutual
     -- some assignment counts
