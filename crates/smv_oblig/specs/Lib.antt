@@ -14,3 +14,4 @@ pub mod WorkedProblems
 pub mod WorkedSound
 pub mod Units
 pub mod WorkedUnits
+pub mod WorkedStates

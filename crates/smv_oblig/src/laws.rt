@@ -4,6 +4,7 @@ ghost use Rattle.smv_oblig.specs.WorkedUnits.{UnitsInOrder};
 ghost use Rattle.smv_oblig.specs.WorkedTimes.{TomasuloTimes, ClaimTimes, MapTimes};
 ghost use Rattle.smv_oblig.specs.WorkedCones.{IndexedBySignals, RestsReadAsAll, FollowsIndexes, PicksCut, OtherConstants, TargetsAtRests, TomasuloCones};
 ghost use Rattle.smv_oblig.specs.WorkedProblems.{SplitHelps, ClaimsAssumeEachOther, MapsBefore, MapsNowAndBefore, WrittenIndex, TomasuloDemands, TomasuloOutput};
+ghost use Rattle.smv_oblig.specs.WorkedStates.{MutualExclusion, OutsideTypes, Reductions, AsByHand, ReducedScalarset, Orders};
 ghost use Rattle.smv_oblig.specs.WorkedSound.{SplitIsSound, MapsAreSound};
 
 /// What is reached from some members is the least set that has them and, with each member, those that follow it.
@@ -65,6 +66,16 @@ pub fn worked_problems()
     ensures written { WrittenIndex }
     ensures demands { TomasuloDemands }
     ensures output { TomasuloOutput }
+{}
+
+/// Worked scripts whose cases are tried with all abstract states, at time 0 and at time 1.
+pub fn worked_states()
+    ensures exclusion { MutualExclusion }
+    ensures outside { OutsideTypes }
+    ensures reductions { Reductions }
+    ensures by_hand { AsByHand }
+    ensures reduced { ReducedScalarset }
+    ensures orders { Orders }
 {}
 
 /// Worked scripts that pass every premise and are sound: a claim that is split, and two maps that are proved by each other.
