@@ -11,3 +11,4 @@ pub mod ReadsWithin
 pub mod LeastCones
 pub mod WorkedSplit
 pub mod WorkedMaps
+pub mod WorkedMachine

@@ -5,7 +5,7 @@ ghost use Rattle.smv_oblig.specs.WorkedTimes.{TomasuloTimes, ClaimTimes, MapTime
 ghost use Rattle.smv_oblig.specs.WorkedCones.{IndexedBySignals, RestsReadAsAll, FollowsIndexes, PicksCut, OtherConstants, TargetsAtRests, TomasuloCones};
 ghost use Rattle.smv_oblig.specs.WorkedProblems.{SplitHelps, ClaimsAssumeEachOther, MapsBefore, MapsNowAndBefore, WrittenIndex, TomasuloDemands, TomasuloOutput};
 ghost use Rattle.smv_oblig.specs.WorkedStates.{MutualExclusion, OutsideTypes, Reductions, AsByHand, ReducedScalarset, Orders};
-ghost use Rattle.smv_oblig.specs.WorkedSound.{SplitIsSound, MapsAreSound};
+ghost use Rattle.smv_oblig.specs.WorkedSound.{SplitIsSound, MapsAreSound, MachineIsChecked};
 
 /// What is reached from some members is the least set that has them and, with each member, those that follow it.
 pub fn reached_is_least<X>()
@@ -78,8 +78,9 @@ pub fn worked_states()
     ensures orders { Orders }
 {}
 
-/// Worked scripts that pass every premise and are sound: a claim that is split, and two maps that are proved by each other.
+/// Worked scripts that pass every premise: a claim that is split and two maps that are proved by each other, which are sound, and the Tomasulo machine, which is where no case has a violating path.
 pub fn worked_scripts()
     ensures split { SplitIsSound }
     ensures maps { MapsAreSound }
+    ensures machine { MachineIsChecked }
 {}
