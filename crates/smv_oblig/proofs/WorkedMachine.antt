@@ -1,9 +1,8 @@
 -- The Tomasulo machine passes every premise.
-use Rattle.std.proofs.Common.{◌≡◌, ◌≢◌, codes, ℕ, zero, suc, ◌+◌, ◌<◌, ◌≤◌, List, [], ◌∷◌, ◌++◌, map, length, get_or, true, refl, sym, ap, subst, ◌∙◌, inl, inr, rules, Option, Some, None, arith}
+use Rattle.std.proofs.Common.{◌≡◌, ◌≢◌, codes, ℕ, zero, suc, ◌<◌, ◌≤◌, List, [], ◌∷◌, ◌++◌, map, length, get_or, true, refl, sym, ap, subst, inr, rules, Option, Some, None, arith}
 use Rattle.std.specs.List.{slice_get, list_any, zip}
 use Rattle.smv_core.specs.Assignments.{Index, bare}
 use Rattle.smv_core.specs.Conflicts.{are_both}
-use Rattle.smv_core.specs.Flat.{indexes_assigned}
 use Rattle.smv_core.specs.declared.flat.Simple.{Simple}
 use Rattle.smv_core.specs.declared.flat.Simple.TheVariants.{Set}
 use Rattle.smv_core.specs.declared.flat.SetInfo.{SetInfo}
@@ -11,11 +10,11 @@ use Rattle.smv_core.specs.declared.flat.Family.{Family}
 use Rattle.smv_core.specs.declared.flat.Def.{Def}
 use Rattle.smv_core.specs.declared.flat.Guard.{Guard}
 use Rattle.smv_core.specs.declared.flat.Param.{Param}
-use Rattle.smv_core.specs.declared.flat.Flat.{Flat, Nothing, Assign, If, First, Forall}
+use Rattle.smv_core.specs.declared.flat.Flat.{Flat, Nothing, If, First, Forall}
 use Rattle.smv_core.specs.declared.flat.FlatExpr.{FlatExpr, And, Or, Choose}
 use Rattle.smv_abs.specs.Sets.{Has, first, later}
 use Rattle.smv_abs.specs.Bound.{HasVariable}
-use Rattle.smv_abs.specs.FlatConflicts.{AreExcused, EachTwo, HasNoConflict, HaveNoConflict}
+use Rattle.smv_abs.specs.FlatConflicts.{AreExcused, HasNoConflict}
 use Rattle.smv_abs.specs.Whole.{IsWhole, IsWholeFlat}
 use Rattle.smv_abs.specs.Covers.{AreApart, IsIndexType}
 use Rattle.smv_abs.specs.Scopes.{ReadsOnly, before}
@@ -101,37 +100,80 @@ good_when c e v w = good_if 1 1 (And c) (set_at i e) v (good_set_at e w)
 are_definitions : AllOf (IsDefinition (plan_of machine_script)) tomasulo.defs
 unfolding computing
 are_definitions = (
-  by_set iss 0 None (And (one issue ∷ not' (at st_valid (one slot)) ∷ [])) _ refl (search rules), (
-  by_set bv 1 None (And (one go ∷ at st_valid (one bt) ∷ at st_ga (one bt) ∷ [])) _ refl (search rules), (
-  by_set bw 2 None (at f (at st_va (one bt))) _ refl (search rules), (
-  by_set dout 3 None (at ir_val (one rd)) _ refl (search rules), (
-  definition (stepwise f None Nothing (Forall 0 word (set_at i (at f i))) 4) _ refl (good_nothing 0 1) (good_forall word (set_at i (at f i)) (good_set_at (at f i) (search rules))) (good_nothing 0 1), (
-  definition (stepwise ir_resvd None (Forall 0 reg (set_at i (num 0))) (Forall 0 reg (First (when (issued (one dst)) (set_at i (num 1)) ∷ when is_returned (set_at i (num 0)) ∷ []))) 5) _ refl
-    (good_forall reg (set_at i (num 0)) (good_set_at (num 0) tt)) (good_forall reg _ (good_two (issued (one dst)) is_returned (num 1) (num 0) (good_when (issued (one dst)) (num 1) (search rules) tt) (good_when is_returned (num 0) (search rules) tt))) (good_nothing 0 1), (
-  definition (stepwise ir_val None Nothing (Forall 0 reg (when is_returned (set_at i (one bw)))) 7) _ refl (good_nothing 0 1) (good_forall reg _ (good_when is_returned (one bw) (search rules) (search rules))) (good_nothing 0 1), (
-  definition (stepwise ir_tag None Nothing (Forall 0 reg (when (issued (one dst)) (set_at i (one slot)))) 9) _ refl (good_nothing 0 1) (good_forall reg _ (good_when (issued (one dst)) (one slot) (search rules) (search rules))) (good_nothing 0 1), (
-  definition (stepwise st_valid None (Forall 0 tag (set_at i (num 0))) (Forall 0 tag (First (when (issued (one slot)) (set_at i (num 1)) ∷ when (one bv ∷ equal (one bt) i ∷ []) (set_at i (num 0)) ∷ []))) 10) _ refl
-    (good_forall tag (set_at i (num 0)) (good_set_at (num 0) tt))
-    (good_forall tag _ (good_two (issued (one slot)) (one bv ∷ equal (one bt) i ∷ []) (num 1) (num 0) (good_when (issued (one slot)) (num 1) (search rules) tt) (good_when (one bv ∷ equal (one bt) i ∷ []) (num 0) (search rules) tt))) (good_nothing 0 1), (
-  definition (stepwise st_ga None Nothing (Forall 0 tag (First (when (issued (one slot)) (set_at i (Or (not' (at ir_resvd (one src)) ∷ And (one bv ∷ equal (at ir_tag (one src)) (one bt) ∷ []) ∷ []))) ∷ when is_caught (set_at i (num 1)) ∷ []))) 12) _ refl
-    (good_nothing 0 1) (good_forall tag _ (good_two (issued (one slot)) is_caught (Or (not' (at ir_resvd (one src)) ∷ And (one bv ∷ equal (at ir_tag (one src)) (one bt) ∷ []) ∷ [])) (num 1)
-    (good_when (issued (one slot)) (Or (not' (at ir_resvd (one src)) ∷ And (one bv ∷ equal (at ir_tag (one src)) (one bt) ∷ []) ∷ [])) (search rules) (search rules)) (good_when is_caught (num 1) (search rules) tt))) (good_nothing 0 1), (
-  definition (stepwise st_va None Nothing (Forall 0 tag (First (when (issued (one slot)) (set_at i (Choose (at ir_resvd (one src)) (one bw) (at ir_val (one src)))) ∷ when is_caught (set_at i (one bw)) ∷ []))) 13) _ refl
-    (good_nothing 0 1) (good_forall tag _ (good_two (issued (one slot)) is_caught (Choose (at ir_resvd (one src)) (one bw) (at ir_val (one src))) (one bw)
-    (good_when (issued (one slot)) (Choose (at ir_resvd (one src)) (one bw) (at ir_val (one src))) (search rules) (search rules)) (good_when is_caught (one bw) (search rules) (search rules)))) (good_nothing 0 1), (
-  definition (stepwise st_ta None Nothing (Forall 0 tag (when (issued (one slot)) (set_at i (at ir_tag (one src))))) 16) _ refl (good_nothing 0 1) (good_forall tag _ (good_when (issued (one slot)) (at ir_tag (one src)) (search rules) (search rules))) (good_nothing 0 1), (
-  by_set opa 18 (Some 0) (at r (one src)) _ refl (search rules), (
-  by_set res 19 (Some 0) (at f (one opa)) _ refl (search rules), (
-  definition (stepwise r (Some 0) (Forall 0 reg (set_at i (at ir_val i))) (If (one iss) (set_at (one dst) (one res)) Nothing) 20) _ refl
-    (good_forall reg (set_at i (at ir_val i)) (good_set_at (at ir_val i) (search rules))) (good_if 0 1 (one iss) (set_at (one dst) (one res)) (search rules) (good_set_by (one dst) (one res) (search rules) (search rules))) (good_nothing 0 1), (
-  definition (stepwise aux_a (Some 0) Nothing (Forall 0 tag (when (issued (one slot)) (set_at i (one opa)))) 22) _ refl (good_nothing 0 1) (good_forall tag _ (good_when (issued (one slot)) (one opa) (search rules) (search rules))) (good_nothing 0 1), (
-  definition (stepwise aux_res (Some 0) Nothing (Forall 0 tag (when (issued (one slot)) (set_at i (one res)))) 23) _ refl (good_nothing 0 1) (good_forall tag _ (good_when (issued (one slot)) (one res) (search rules) (search rules))) (good_nothing 0 1), (
-  definition (stepwise aux_src (Some 0) Nothing (Forall 0 tag (when (issued (one slot)) (set_at i (one src)))) 24) _ refl (good_nothing 0 1) (good_forall tag _ (good_when (issued (one slot)) (one src) (search rules) (search rules))) (good_nothing 0 1), (
-  by_if dout 25 (Some 0) (not' (at ir_resvd (one rd))) (at r (one rd)) _ refl (search rules) (search rules), (
-  definition (always st_va (Some 1) (Forall 0 tag (when (at st_valid i ∷ at st_ga i ∷ []) (set_at i (at aux_a i)))) 26) _ refl (good_nothing 0 1) (good_nothing 0 1) (good_forall tag _ (good_when (at st_valid i ∷ at st_ga i ∷ []) (at aux_a i) (search rules) (search rules))), (
-  by_if bw 27 (Some 1) (one bv) (at aux_res (one bt)) _ refl (search rules) (search rules), (
-  definition (always ir_val (Some 1) (Forall 0 reg (If (not' (at ir_resvd i)) (set_at i (at r i)) Nothing)) 28) _ refl (good_nothing 0 1) (good_nothing 0 1) (good_forall reg _ (good_if 1 1 (not' (at ir_resvd i)) (set_at i (at r i)) (search rules) (good_set_at (at r i) (search rules)))),
-  tt))))))))))))))))))))))
+  by_set iss 0 None (And (one issue ∷ not' (at st_valid (one slot)) ∷ [])) _ refl (search rules),
+  (
+    by_set bv 1 None (And (one go ∷ at st_valid (one bt) ∷ at st_ga (one bt) ∷ [])) _ refl (search rules),
+    (
+      by_set bw 2 None (at f (at st_va (one bt))) _ refl (search rules),
+      (
+        by_set dout 3 None (at ir_val (one rd)) _ refl (search rules),
+        (
+          definition (stepwise f None Nothing (Forall 0 word (set_at i (at f i))) 4) _ refl (good_nothing 0 1) (good_forall word (set_at i (at f i)) (good_set_at (at f i) (search rules))) (good_nothing 0 1),
+          (
+            definition (stepwise ir_resvd None (Forall 0 reg (set_at i (num 0))) (Forall 0 reg (First (when (issued (one dst)) (set_at i (num 1)) ∷ when is_returned (set_at i (num 0)) ∷ []))) 5) _ refl
+                (good_forall reg (set_at i (num 0)) (good_set_at (num 0) tt)) (good_forall reg _ (good_two (issued (one dst)) is_returned (num 1) (num 0) (good_when (issued (one dst)) (num 1) (search rules) tt) (good_when is_returned (num 0) (search rules) tt))) (good_nothing 0 1),
+            (
+              definition (stepwise ir_val None Nothing (Forall 0 reg (when is_returned (set_at i (one bw)))) 7) _ refl (good_nothing 0 1) (good_forall reg _ (good_when is_returned (one bw) (search rules) (search rules))) (good_nothing 0 1),
+              (
+                definition (stepwise ir_tag None Nothing (Forall 0 reg (when (issued (one dst)) (set_at i (one slot)))) 9) _ refl (good_nothing 0 1) (good_forall reg _ (good_when (issued (one dst)) (one slot) (search rules) (search rules))) (good_nothing 0 1),
+                (
+                  definition (stepwise st_valid None (Forall 0 tag (set_at i (num 0))) (Forall 0 tag (First (when (issued (one slot)) (set_at i (num 1)) ∷ when (one bv ∷ equal (one bt) i ∷ []) (set_at i (num 0)) ∷ []))) 10) _ refl
+                      (good_forall tag (set_at i (num 0)) (good_set_at (num 0) tt))
+                      (good_forall tag _ (good_two (issued (one slot)) (one bv ∷ equal (one bt) i ∷ []) (num 1) (num 0) (good_when (issued (one slot)) (num 1) (search rules) tt) (good_when (one bv ∷ equal (one bt) i ∷ []) (num 0) (search rules) tt))) (good_nothing 0 1),
+                  (
+                    definition (stepwise st_ga None Nothing (Forall 0 tag (First (when (issued (one slot)) (set_at i (Or (not' (at ir_resvd (one src)) ∷ And (one bv ∷ equal (at ir_tag (one src)) (one bt) ∷ []) ∷ []))) ∷ when is_caught (set_at i (num 1)) ∷ []))) 12) _ refl
+                        (good_nothing 0 1) (good_forall tag _ (good_two (issued (one slot)) is_caught (Or (not' (at ir_resvd (one src)) ∷ And (one bv ∷ equal (at ir_tag (one src)) (one bt) ∷ []) ∷ [])) (num 1)
+                        (good_when (issued (one slot)) (Or (not' (at ir_resvd (one src)) ∷ And (one bv ∷ equal (at ir_tag (one src)) (one bt) ∷ []) ∷ [])) (search rules) (search rules)) (good_when is_caught (num 1) (search rules) tt))) (good_nothing 0 1),
+                    (
+                      definition (stepwise st_va None Nothing (Forall 0 tag (First (when (issued (one slot)) (set_at i (Choose (at ir_resvd (one src)) (one bw) (at ir_val (one src)))) ∷ when is_caught (set_at i (one bw)) ∷ []))) 13) _ refl
+                          (good_nothing 0 1) (good_forall tag _ (good_two (issued (one slot)) is_caught (Choose (at ir_resvd (one src)) (one bw) (at ir_val (one src))) (one bw)
+                          (good_when (issued (one slot)) (Choose (at ir_resvd (one src)) (one bw) (at ir_val (one src))) (search rules) (search rules)) (good_when is_caught (one bw) (search rules) (search rules)))) (good_nothing 0 1),
+                      (
+                        definition (stepwise st_ta None Nothing (Forall 0 tag (when (issued (one slot)) (set_at i (at ir_tag (one src))))) 16) _ refl (good_nothing 0 1) (good_forall tag _ (good_when (issued (one slot)) (at ir_tag (one src)) (search rules) (search rules))) (good_nothing 0 1),
+                        (
+                          by_set opa 18 (Some 0) (at r (one src)) _ refl (search rules),
+                          (
+                            by_set res 19 (Some 0) (at f (one opa)) _ refl (search rules),
+                            (
+                              definition (stepwise r (Some 0) (Forall 0 reg (set_at i (at ir_val i))) (If (one iss) (set_at (one dst) (one res)) Nothing) 20) _ refl
+                                  (good_forall reg (set_at i (at ir_val i)) (good_set_at (at ir_val i) (search rules))) (good_if 0 1 (one iss) (set_at (one dst) (one res)) (search rules) (good_set_by (one dst) (one res) (search rules) (search rules))) (good_nothing 0 1),
+                              (
+                                definition (stepwise aux_a (Some 0) Nothing (Forall 0 tag (when (issued (one slot)) (set_at i (one opa)))) 22) _ refl (good_nothing 0 1) (good_forall tag _ (good_when (issued (one slot)) (one opa) (search rules) (search rules))) (good_nothing 0 1),
+                                (
+                                  definition (stepwise aux_res (Some 0) Nothing (Forall 0 tag (when (issued (one slot)) (set_at i (one res)))) 23) _ refl (good_nothing 0 1) (good_forall tag _ (good_when (issued (one slot)) (one res) (search rules) (search rules))) (good_nothing 0 1),
+                                  (
+                                    definition (stepwise aux_src (Some 0) Nothing (Forall 0 tag (when (issued (one slot)) (set_at i (one src)))) 24) _ refl (good_nothing 0 1) (good_forall tag _ (good_when (issued (one slot)) (one src) (search rules) (search rules))) (good_nothing 0 1),
+                                    (
+                                      by_if dout 25 (Some 0) (not' (at ir_resvd (one rd))) (at r (one rd)) _ refl (search rules) (search rules),
+                                      (
+                                        definition (always st_va (Some 1) (Forall 0 tag (when (at st_valid i ∷ at st_ga i ∷ []) (set_at i (at aux_a i)))) 26) _ refl (good_nothing 0 1) (good_nothing 0 1) (good_forall tag _ (good_when (at st_valid i ∷ at st_ga i ∷ []) (at aux_a i) (search rules) (search rules))),
+                                        (
+                                          by_if bw 27 (Some 1) (one bv) (at aux_res (one bt)) _ refl (search rules) (search rules),
+                                          (
+                                            definition (always ir_val (Some 1) (Forall 0 reg (If (not' (at ir_resvd i)) (set_at i (at r i)) Nothing)) 28) _ refl (good_nothing 0 1) (good_nothing 0 1) (good_forall reg _ (good_if 1 1 (not' (at ir_resvd i)) (set_at i (at r i)) (search rules) (good_set_at (at r i) (search rules)))),
+                                            tt,
+                                          ),
+                                        ),
+                                      ),
+                                    ),
+                                  ),
+                                ),
+                              ),
+                            ),
+                          ),
+                        ),
+                      ),
+                    ),
+                  ),
+                ),
+              ),
+            ),
+          ),
+        ),
+      ),
+    ),
+  ),
+)
 
 are_filled : AllOf (λ (family : Family). IsFilled tomasulo family.value) signals
 are_filled = (omega arith, (omega arith, ((_, refl), ((_, refl), ((_, refl), ((_, refl), ((_, refl), (omega arith, (omega arith, ((_, refl), ((_, refl), ((_, refl), ((_, refl), (omega arith, ((_, refl), ((_, refl), (omega arith, (omega arith, ((_, refl), ((_, refl), ((_, refl), ((_, refl), ((_, refl), ((_, refl), ((_, refl), tt)))))))))))))))))))))))))
@@ -188,14 +230,21 @@ are_split : AllOf (IsSplit machine_script) machine_script.entries
 unfolding computing
 are_split = (
   split_is rd1 (reg ∷ word ∷ []) refl ((1, refl, omega arith), ((0, refl, omega arith), tt))
-    (guards_are 0 (reg ∷ word ∷ []) rd1.leaf.guards (omega arith, (omega arith, tt)) ((refl, search rules), ((refl, search rules), tt))), (
-  split_is va1 (tag ∷ reg ∷ word ∷ []) refl ((2, refl, omega arith), ((2, refl, omega arith), ((1, refl, omega arith), ((0, refl, omega arith), tt))))
-    (guards_are 1 (tag ∷ tag ∷ reg ∷ word ∷ []) va1.leaf.guards (omega arith, (omega arith, (omega arith, tt))) ((refl, search rules), ((refl, search rules), ((refl, search rules), tt)))), (
-  split_is bw1 (tag ∷ word ∷ word ∷ []) refl ((2, refl, omega arith), ((0, refl, omega arith), ((0, refl, omega arith), tt)))
-    (guards_are 0 (tag ∷ word ∷ word ∷ []) bw1.leaf.guards (omega arith, (omega arith, (omega arith, tt))) ((refl, search rules), ((refl, search rules), ((refl, search rules), tt)))), (
-  split_is val1 (tag ∷ word ∷ []) refl ((1, refl, omega arith), ((2, refl, omega arith), ((0, refl, omega arith), tt)))
-    (guards_are 1 (reg ∷ tag ∷ word ∷ []) val1.leaf.guards (omega arith, (omega arith, tt)) ((refl, search rules), ((refl, search rules), tt))),
-  tt))))
+      (guards_are 0 (reg ∷ word ∷ []) rd1.leaf.guards (omega arith, (omega arith, tt)) ((refl, search rules), ((refl, search rules), tt))),
+  (
+    split_is va1 (tag ∷ reg ∷ word ∷ []) refl ((2, refl, omega arith), ((2, refl, omega arith), ((1, refl, omega arith), ((0, refl, omega arith), tt))))
+        (guards_are 1 (tag ∷ tag ∷ reg ∷ word ∷ []) va1.leaf.guards (omega arith, (omega arith, (omega arith, tt))) ((refl, search rules), ((refl, search rules), ((refl, search rules), tt)))),
+    (
+      split_is bw1 (tag ∷ word ∷ word ∷ []) refl ((2, refl, omega arith), ((0, refl, omega arith), ((0, refl, omega arith), tt)))
+          (guards_are 0 (tag ∷ word ∷ word ∷ []) bw1.leaf.guards (omega arith, (omega arith, (omega arith, tt))) ((refl, search rules), ((refl, search rules), ((refl, search rules), tt)))),
+      (
+        split_is val1 (tag ∷ word ∷ []) refl ((1, refl, omega arith), ((2, refl, omega arith), ((0, refl, omega arith), tt)))
+            (guards_are 1 (reg ∷ tag ∷ word ∷ []) val1.leaf.guards (omega arith, (omega arith, tt)) ((refl, search rules), ((refl, search rules), tt))),
+        tt,
+      ),
+    ),
+  ),
+)
 
 -- WORD, REG and TAG are three names
 apart : AreApart tomasulo.sets
