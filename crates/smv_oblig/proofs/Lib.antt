@@ -1,0 +1,14 @@
+pub mod Lookups
+pub mod OutlineFacts
+pub mod UsesFall
+pub mod CasePlaces
+pub mod ConeFacts
+pub mod Granted
+pub mod Plans
+pub mod Sound
+pub mod Least
+pub mod ReadsWithin
+pub mod LeastCones
+pub mod WorkedSplit
+pub mod WorkedMaps
+pub mod WorkedMachine

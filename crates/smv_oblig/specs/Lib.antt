@@ -1,0 +1,17 @@
+pub mod Reached
+pub mod Outlines
+pub mod Reads
+pub mod Times
+pub mod Cones
+pub mod Problems
+pub mod Checked
+pub mod Laws
+pub mod WorkedTomasulo
+pub mod WorkedTimes
+pub mod WorkedScripts
+pub mod WorkedCones
+pub mod WorkedProblems
+pub mod WorkedSound
+pub mod Units
+pub mod WorkedUnits
+pub mod WorkedStates
