@@ -2,6 +2,9 @@
 #![tactic(auto)]
 
 pub mod constants;
+pub mod modules;
 pub mod place;
 pub mod recursion;
+pub mod size;
 pub mod statements;
+pub mod types;
