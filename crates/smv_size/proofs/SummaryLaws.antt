@@ -229,5 +229,5 @@ things-repeated {A} c inside (w ∷ words) xs times long none e count =
     let cut : min 4097 (inside.count + 1) ≡ min 4097 (length (instance ∷ xs)) = omega arith in
     same_things c (min 4097 (length all)) inside.wide (list_any is_too_wide all)
     (count ∙ sym (factor_first 4097 (inside.count + 1) times) ∙ ap (λ n. min 4097 (n * times)) cut ∙ factor_first 4097 (length (instance ∷ xs)) times
-     ∙ ap (λ n. min 4097 (length (instance ∷ xs) * n)) long ∙ ap (λ n. min 4097 n) (sym (length-repeated (w ∷ words) (instance ∷ xs))))
+    ∙ ap (λ n. min 4097 (length (instance ∷ xs) * n)) long ∙ ap (λ n. min 4097 n) (sym (length-repeated (w ∷ words) (instance ∷ xs))))
     (ap (λ (t : Things). t.wide) e ∙ sym (any-repeated is_too_wide w words (instance ∷ xs)))

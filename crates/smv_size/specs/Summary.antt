@@ -57,8 +57,8 @@ no_module = record { formals = 0; things = record { count = 0; wide = false }; s
 abbrev pub empty_of : List Word → ModuleSize
 empty_of formals = record { formals = capped (length formals); things = record { count = 0; wide = false }; statements = 0 }
 
-abbrev pub empty_told : Body → ModuleSize
-empty_told body = empty_of body.formals
+abbrev pub empty_told : Name × Body → ModuleSize
+empty_told (name, body) = empty_of body.formals
 
 -- what is told of the module of this name
 abbrev pub size_named : List Name → List ModuleSize → Name → ModuleSize
@@ -80,6 +80,9 @@ module _ (known : List (Name × Sized)) (bodies : List (Name × Body)) where
     things = things_told (flat_map (things_of_item known bodies (things_in known bodies n)) body.items);
     statements = capped (sum (map (statements_of_item known bodies (statements_in known bodies n)) body.items));
   }
+
+  abbrev pub top_told : ℕ → Name × Body → ModuleSize
+  top_told n (name, body) = body_told n body
 
   -- what is told of every module
   abbrev pub AreTold : List Name → List ModuleSize → ℕ → Type 0

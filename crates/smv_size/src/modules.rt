@@ -1,12 +1,12 @@
 // What is met in modules and in the modules of their instances: families, instances and statements.
-ghost use Rattle.std.specs.Prelude.{◌≡◌, ℕ, ◌+◌, ◌*◌, [], ◌∷◌, ◌++◌, List, map, flat_map, length, sum, IfOk};
+ghost use Rattle.std.specs.Prelude.{◌≡◌, ℕ, ◌+◌, ◌*◌, [], ◌∷◌, ◌++◌, List, map, flat_map, length, sum, OnOk, IfOk};
 ghost use Rattle.smv_core.specs.Values.{Name};
 ghost use Rattle.smv_core.specs.FlatOrder.{Body};
 ghost use Rattle.smv_core.specs.FlatOrder as flat;
 ghost use Rattle.smv_core.specs.declared.tree.Word.{Word};
 ghost use Rattle.smv_inst.specs.Sizes.{Extent, Sized, Thing, family, instance, things_of_item, things_in, statements_of_item, statements_in};
 ghost use Rattle.smv_size.specs.Limits.{capped};
-ghost use Rattle.smv_size.specs.Summary.{families_told, types_told, things_told, size_named, body_told, AreTold};
+ghost use Rattle.smv_size.specs.Summary.{families_told, types_told, things_told, size_named, body_told, empty_told, top_told, AreTold};
 ghost use Rattle.smv_size.specs.Summary as spec;
 
 use crate::statements::{in_all, plus, statements, times};
@@ -43,11 +43,20 @@ pub fn module_names<'a>(alloc: Global, tops: &'a [Top]) -> Result<NameIndex<'a>,
 {
     let mut names = NameIndex::new(alloc);
     for top in tops {
-        if let Top::Module { name, .. } = top {
-            names.push(&name.name)?;
-        }
+        note_name(&mut names, top)?;
     }
     Ok(names)
+}
+
+// The name of a module more, if this is one.
+fn note_name<'a>(names: &mut NameIndex<'a>, top: &'a Top) -> Result<(), AllocError>
+    ensures { OnOk result (names.new ≡ names.old ++ spec.module_names (flat.modules (top.now ∷ []))) }
+{
+    match top {
+        Top::SetType { .. } => Ok(()),
+        Top::Alias { .. } => Ok(()),
+        Top::Module { name, .. } => names.push(&name.name),
+    }
 }
 
 /// The modules, each with all that is met from it on. Each round follows all instances one module further; where it finds nothing new, nor does one after it.
@@ -73,15 +82,24 @@ pub fn module_sizes(
 
 // The modules, with nothing in them.
 fn empty_sizes(alloc: Global, tops: &[Top]) -> Result<Vec<ModuleSize>, AllocError>
-    ensures { IfOk result (λ sizes. sizes.items ≡ map (λ (top : Name × Body). spec.empty_told top.1) (flat.modules tops.now)) }
+    ensures { IfOk result (λ sizes. sizes.items ≡ map empty_told (flat.modules tops.now)) }
 {
     let mut sizes = Vec::new(alloc);
     for top in tops {
-        if let Top::Module { formals, .. } = top {
-            sizes.push(empty_size(formals.as_slice()))?;
-        }
+        note_empty(&mut sizes, top)?;
     }
     Ok(sizes)
+}
+
+// A module more with nothing in it, if this is one.
+fn note_empty(sizes: &mut Vec<ModuleSize>, top: &Top) -> Result<(), AllocError>
+    ensures { OnOk result (sizes.new.items ≡ sizes.old.items ++ map empty_told (flat.modules (top.now ∷ []))) }
+{
+    match top {
+        Top::SetType { .. } => Ok(()),
+        Top::Alias { .. } => Ok(()),
+        Top::Module { formals, .. } => sizes.push(empty_size(formals.as_slice())),
+    }
 }
 
 fn empty_size(formals: &[Word]) -> ModuleSize
@@ -102,15 +120,33 @@ fn next_sizes(
     names: &NameIndex,
     sizes: &[ModuleSize],
 ) -> Result<Vec<ModuleSize>, AllocError>
-    ensures { IfOk result (λ next. (known : List (Name × Sized)) (bodies : List (Name × Body)) (n : ℕ) → types.now ≡ types_told known → AreTold known bodies names.now sizes.now n → next.items ≡ map (λ (top : Name × Body). body_told known bodies n top.1) (flat.modules tops.now)) }
+    ensures { IfOk result (λ next. (known : List (Name × Sized)) (bodies : List (Name × Body)) (n : ℕ) → types.now ≡ types_told known → AreTold known bodies names.now sizes.now n → next.items ≡ map (top_told known bodies n) (flat.modules tops.now)) }
 {
     let mut next = Vec::new(alloc);
     for top in tops {
-        if let Top::Module { formals, body, .. } = top {
-            next.push(body_size(formals.as_slice(), body.as_slice(), types, names, sizes))?;
-        }
+        note_size(&mut next, top, types, names, sizes)?;
     }
     Ok(next)
+}
+
+// A module more, if this is one.
+fn note_size(
+    next: &mut Vec<ModuleSize>,
+    top: &Top,
+    types: &NameMap<TypeSize>,
+    names: &NameIndex,
+    sizes: &[ModuleSize],
+) -> Result<(), AllocError>
+    ensures { OnOk result ((known : List (Name × Sized)) (bodies : List (Name × Body)) (n : ℕ) → types.now ≡ types_told known → AreTold known bodies names.now sizes.now n → next.new.items ≡ next.old.items ++ map (top_told known bodies n) (flat.modules (top.now ∷ []))) }
+{
+    match top {
+        Top::SetType { .. } => Ok(()),
+        Top::Alias { .. } => Ok(()),
+        Top::Module { formals, body, .. } => {
+            let size = body_size(formals.as_slice(), body.as_slice(), types, names, sizes);
+            next.push(size)
+        }
+    }
 }
 
 // A module, by its formals and its body.
