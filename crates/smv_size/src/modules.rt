@@ -98,7 +98,10 @@ fn note_empty(sizes: &mut Vec<ModuleSize>, top: &Top) -> Result<(), AllocError>
     match top {
         Top::SetType { .. } => Ok(()),
         Top::Alias { .. } => Ok(()),
-        Top::Module { formals, .. } => sizes.push(empty_size(formals.as_slice())),
+        Top::Module { formals, .. } => {
+            sizes.push(empty_size(formals.as_slice()))?;
+            Ok(())
+        }
     }
 }
 
@@ -144,7 +147,8 @@ fn note_size(
         Top::Alias { .. } => Ok(()),
         Top::Module { formals, body, .. } => {
             let size = body_size(formals.as_slice(), body.as_slice(), types, names, sizes);
-            next.push(size)
+            next.push(size)?;
+            Ok(())
         }
     }
 }
