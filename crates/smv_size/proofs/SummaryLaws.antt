@@ -15,6 +15,7 @@ use Rattle.smv_size.specs.Summary.{greatest, families_told, size_or_one, type_to
 use Rattle.smv_size.specs.declared.types.Families.{Families}
 use Rattle.smv_size.specs.declared.types.TypeSize.{TypeSize}
 use Rattle.smv_size.specs.declared.modules.Things.{Things}
+use Rattle.smv_size.specs.declared.modules.ModuleSize.{ModuleSize}
 
 -- ---- numbers
 
@@ -231,3 +232,9 @@ things-repeated {A} c inside (w ∷ words) xs times long none e count =
     (count ∙ sym (factor_first 4097 (inside.count + 1) times) ∙ ap (λ n. min 4097 (n * times)) cut ∙ factor_first 4097 (length (instance ∷ xs)) times
     ∙ ap (λ n. min 4097 (length (instance ∷ xs) * n)) long ∙ ap (λ n. min 4097 n) (sym (length-repeated (w ∷ words) (instance ∷ xs))))
     (ap (λ (t : Things). t.wide) e ∙ sym (any-repeated is_too_wide w words (instance ∷ xs)))
+
+abbrev sized_as : ℕ → Things → ℕ → ModuleSize
+sized_as f t s = record { formals = f; things = t; statements = s }
+
+pub same_size : (f f' : ℕ) (t t' : Things) (s s' : ℕ) → f ≡ f' → t ≡ t' → s ≡ s' → sized_as f t s ≡ sized_as f' t' s'
+same_size f f' t t' s s' e g h = ap (λ n. sized_as n t s) e ∙ ap (λ x. sized_as f' x s) g ∙ ap (λ n. sized_as f' t' n) h

@@ -70,7 +70,7 @@ pub fn module_sizes(
     ensures { IfOk result (λ sizes. (known : List (Name × Sized)) → types.now ≡ types_told known → AreTold known (flat.modules tops.now) names.now sizes.items (length (flat.modules tops.now))) }
 {
     let mut sizes = empty_sizes(alloc, tops)?;
-    for _ in 0..sizes.len() {
+    for step in 0..sizes.len() {
         let next = next_sizes(alloc, tops, types, names, sizes.as_slice())?;
         if next.as_slice() == sizes.as_slice() {
             return Ok(sizes);
