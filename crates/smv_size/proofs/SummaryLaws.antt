@@ -11,6 +11,8 @@ use Rattle.std.proofs.Math.Nat.{mul-le-mul_left, mul_comm}
 use Rattle.smv_core.specs.Values.{Name}
 use Rattle.smv_core.specs.Types.{find_name}
 use Rattle.smv_inst.specs.Sizes.{Extent, Sized, sized, under, Thing, family, instance, is_too_wide}
+use Rattle.smv_size.specs.Limits.{capped}
+use Rattle.smv_size.proofs.TurnLaws.{lt_same}
 use Rattle.smv_size.specs.Summary.{greatest, families_told, size_or_one, type_told, types_told, things_told}
 use Rattle.smv_size.specs.declared.types.Families.{Families}
 use Rattle.smv_size.specs.declared.types.TypeSize.{TypeSize}
@@ -238,3 +240,15 @@ sized_as f t s = record { formals = f; things = t; statements = s }
 
 pub same_size : (f f' : ℕ) (t t' : Things) (s s' : ℕ) → f ≡ f' → t ≡ t' → s ≡ s' → sized_as f t s ≡ sized_as f' t' s'
 same_size f f' t t' s s' e g h = ap (λ n. sized_as n t s) e ∙ ap (λ x. sized_as f' x s) g ∙ ap (λ n. sized_as f' t' n) h
+
+-- a limit is passed where it is so when the number is cut off above it
+pub above : (size : ModuleSize) (f n : ℕ) (things : List Thing) (many many' : Bool) → size ≡ sized_as f (things_told things) (capped n) → many ≡ many'
+    → (nat_lt 4096 size.things.count || size.things.wide || many || nat_lt 65536 size.statements) ≡ (nat_lt 4096 (length things) || list_any is_too_wide things || many' || nat_lt 65536 n)
+above size f n things many many' e g =
+    let count : nat_lt 4096 (min 4097 (length things)) ≡ nat_lt 4096 (length things) = lt_same 4096 (min 4097 (length things)) 4096 (length things) (λ h. omega arith) (λ h. omega arith) in
+    let statements : nat_lt 65536 (capped n) ≡ nat_lt 65536 n = lt_same 65536 (capped n) 65536 n (λ h. omega arith) (λ h. omega arith) in
+    let w : Bool = list_any is_too_wide things in
+    ap (λ (s : ModuleSize). nat_lt 4096 s.things.count || s.things.wide || many || nat_lt 65536 s.statements) e
+    ∙ ap (λ (m : Bool). nat_lt 4096 (min 4097 (length things)) || w || m || nat_lt 65536 (capped n)) g
+    ∙ ap (λ (a : Bool). a || w || many' || nat_lt 65536 (capped n)) count
+    ∙ ap (λ (a : Bool). nat_lt 4096 (length things) || w || many' || a) statements

@@ -1,5 +1,5 @@
 // The fault of a text that is too large.
-ghost use Rattle.std.specs.Prelude.{◌≡◌, [], length, None, IfOk};
+ghost use Rattle.std.specs.Prelude.{◌≡◌, [], ◌||◌, length, nat_lt, None, IfOk};
 ghost use Rattle.smv_core.specs.FlatOrder.{main, modules};
 ghost use Rattle.smv_inst.specs.FirstFault.{first_of, faults_of_names, fault_of_size};
 ghost use Rattle.smv_inst.specs.Said.{AreNoted};
@@ -43,12 +43,14 @@ fn is_too_large(alloc: Global, text: &Text, pieces: &[Piece]) -> Result<bool, Al
 {
     let many = too_many_constants(alloc, text, pieces)?;
     let size = size_of_main(alloc, text.tops.as_slice())?;
-    Ok(
-        size.things.count > MOST_THINGS
-            || size.things.wide
-            || many
-            || size.statements > MOST_STATEMENTS,
-    )
+    Ok(is_above(size, many))
+}
+
+// Whether a limit is passed, that of the constants too where there are too many.
+fn is_above(size: ModuleSize, many: bool) -> bool
+    ensures { result ≡ (nat_lt 4096 size.things.count || size.things.wide || many || nat_lt 65536 size.statements) }
+{
+    size.things.count > MOST_THINGS || size.things.wide || many || size.statements > MOST_STATEMENTS
 }
 
 // What is met from `main` on.
