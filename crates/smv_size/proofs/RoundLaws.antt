@@ -49,7 +49,7 @@ module _ (known : List (Name × Sized)) (bodies : List (Name × Body)) (names : 
 
   -- where a round changes nothing, no later one does
   pub told-later : (sizes : List ModuleSize) → ((n : ℕ) → AreTold known bodies names sizes n → sizes ≡ map (top_told known bodies n) bodies) → (n more : ℕ) → AreTold known bodies names sizes n → AreTold known bodies names sizes (n + more)
-  told-later sizes stays n zero told = told
+  told-later sizes stays n zero told = let e : n ≡ n + zero = omega arith in subst (λ k. AreTold known bodies names sizes k) e told
   told-later sizes stays n (suc more) told =
       let later = told-later sizes stays n more told in
       let next = told-next sizes (n + more) (stays (n + more) later) in

@@ -220,7 +220,7 @@ named-none types known name e f = unfound (find_name known name) (f ∙ ap (λ l
 abbrev things : ℕ → Bool → Things
 things c w = record { count = c; wide = w }
 
-same_things : (c c' : ℕ) (w w' : Bool) → c ≡ c' → w ≡ w' → things c w ≡ things c' w'
+pub same_things : (c c' : ℕ) (w w' : Bool) → c ≡ c' → w ≡ w' → things c w ≡ things c' w'
 same_things c c' w w' e f = ap (λ n. things n w) e ∙ ap (λ b. things c' b) f
 
 pub things-repeated : {A : Type 0} (c : ℕ) (inside : Things) (words : List A) (xs : List Thing) (times : ℕ) → times ≡ length words → (times ≡ 0 → ⊥) → inside ≡ things_told xs
