@@ -1,12 +1,12 @@
 -- One round more follows all instances one module further.
-use Rattle.std.proofs.Common.{◌≡◌, ℕ, zero, suc, ◌+◌, ◌-◌, ◌<◌, ◌≤◌, Bool, true, false, cond, List, [], ◌∷◌, map, length, refl, ap, sym, subst, ◌∙◌, arith, add-one}
+use Rattle.std.proofs.Common.{◌≡◌, ℕ, zero, suc, ◌+◌, Bool, true, false, cond, List, [], ◌∷◌, map, refl, ap, sym, subst, ◌∙◌, arith, add-one}
 use Rattle.std.specs.Prelude.{Option, Some, None, option_map, option_and_then, slice_get, unwrap_or}
 use Rattle.std.specs.Str.{bytes_eq}
 use Rattle.name_index.specs.Position.{position}
 use Rattle.smv_core.specs.Values.{Name}
 use Rattle.smv_core.specs.Types.{find_name}
 use Rattle.smv_core.specs.FlatOrder.{Body}
-use Rattle.smv_inst.specs.Sizes.{Sized, body_named}
+use Rattle.smv_inst.specs.Sizes.{Sized}
 use Rattle.smv_size.specs.Summary.{module_names, no_module, size_named, module_told, body_told, top_told, empty_of, empty_told, AreTold}
 use Rattle.smv_size.specs.declared.modules.ModuleSize.{ModuleSize}
 

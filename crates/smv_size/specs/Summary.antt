@@ -1,12 +1,11 @@
 -- What is told of families, types and modules: each number up to one more than its limit.
-use Rattle.std.specs.Prelude.{◌≡◌, ℕ, zero, suc, min, max, List, [], ◌∷◌, map, length, sum, flat_map, Option, Some, None, false, option_and_then, slice_get, unwrap_or}
+use Rattle.std.specs.Prelude.{◌≡◌, ℕ, min, max, List, [], ◌∷◌, map, length, sum, flat_map, Option, false, option_and_then, slice_get, unwrap_or}
 use Rattle.std.specs.List.{list_any}
 use Rattle.name_index.specs.Position.{position}
 use Rattle.smv_core.specs.Values.{Name}
 use Rattle.smv_core.specs.FlatOrder.{Body}
 use Rattle.smv_core.specs.declared.tree.Word.{Word}
-use Rattle.smv_core.specs.declared.tree.Item.{Item}
-use Rattle.smv_inst.specs.Sizes.{Extent, Sized, Thing, family, is_too_wide, body_named, things_of_item, things_in, statements_of_item, statements_in}
+use Rattle.smv_inst.specs.Sizes.{Extent, Sized, Thing, is_too_wide, body_named, things_of_item, things_in, statements_of_item, statements_in}
 use Rattle.smv_size.specs.Limits.{capped}
 use Rattle.smv_size.specs.declared.types.Families.{Families}
 use Rattle.smv_size.specs.declared.types.TypeSize.{TypeSize}

@@ -1,4 +1,4 @@
-use Rattle.std.proofs.Common.{ℕ, ◌+◌, ◌*◌, ◌≡◌, List, map, take, refl, sum, ap, sym, length, ◌∙◌}
+use Rattle.std.proofs.Common.{◌+◌, ◌*◌, List, map, take, refl, sum, ap, sym, length, ◌∙◌}
 use Rattle.std.specs.List.{sum_by}
 use Rattle.smv_core.specs.declared.tree.Item.{Item}
 use Rattle.smv_inst.specs.Sizes.{body_named, statements_of_item, statements_in, statements}

@@ -1,8 +1,8 @@
-use Rattle.std.proofs.Common.{◌≡◌, ℕ, ◌+◌, ◌-◌, ◌<◌, ◌≤◌, Bool, List, map, length, sym, subst, ap, ◌∙◌, arith}
+use Rattle.std.proofs.Common.{◌≡◌, ℕ, ◌+◌, ◌-◌, List, length, sym, subst, ap, ◌∙◌, arith}
 use Rattle.std.proofs.lemmas.List.{length-map}
 use Rattle.std.proofs.lemmas.Slice.Eq.{slice_eq-Decides}
 use Rattle.smv_core.specs.FlatOrder.{modules}
-use Rattle.smv_size.specs.Summary.{AreTold, top_told, empty_told}
+use Rattle.smv_size.specs.Summary.{AreTold, empty_told}
 use Rattle.smv_size.specs.declared.modules.ModuleSize.{ModuleSize}
 use Rattle.smv_size.proofs.RoundLaws.{told-empty, told-next, told-later}
 use Rattle.smv_size.proofs.EqualLaws.{decides}

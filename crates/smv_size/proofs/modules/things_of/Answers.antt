@@ -1,4 +1,4 @@
-use Rattle.std.proofs.Common.{◌∷◌, ap, sym, ◌∙◌, flat_map}
+use Rattle.std.proofs.Common.{ap, sym, ◌∙◌, flat_map}
 use Rattle.smv_core.specs.declared.tree.Item.{Item}
 use Rattle.smv_core.specs.declared.tree.Word.{Word}
 use Rattle.smv_inst.specs.Sizes.{family, extents_of, things_of_item, things_in}

@@ -1,4 +1,4 @@
-use Rattle.std.proofs.Common.{◌≡◌, ap, sym, ◌∙◌, take}
+use Rattle.std.proofs.Common.{ap, sym, ◌∙◌, take}
 use Rattle.std.specs.List.{flat_map}
 use Rattle.smv_inst.specs.Sizes.{under, extents_of}
 use Rattle.smv_inst.specs.Sizes as sizes
