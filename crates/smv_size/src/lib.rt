@@ -7,4 +7,6 @@ pub mod place;
 pub mod recursion;
 pub mod size;
 pub mod statements;
+#[cfg(test)]
+mod tests;
 pub mod types;
