@@ -2,3 +2,4 @@ pub mod Recursion
 pub mod Limits
 pub mod Constants
 pub mod Place
+pub mod Summary

@@ -2,6 +2,11 @@
 #![tactic(auto)]
 
 pub mod constants;
+pub mod modules;
 pub mod place;
 pub mod recursion;
+pub mod size;
 pub mod statements;
+#[cfg(test)]
+mod tests;
+pub mod types;

@@ -78,20 +78,16 @@ fn in_arms(arms: &[Arm]) -> u64
 
 /// A sum, up to the limit.
 pub fn plus(a: u64, b: u64) -> u64
-    requires left { a ≤ 65537 }
-    requires right { b ≤ 65537 }
     ensures { result ≡ capped (a + b) }
 {
-    (a + b).min(MOST)
+    a.saturating_add(b).min(MOST)
 }
 
 /// A product, up to the limit.
 pub fn times(a: u64, b: u64) -> u64
-    requires left { a ≤ 65537 }
-    requires right { b ≤ 65537 }
     ensures { result ≡ capped (a * b) }
 {
-    (a * b).min(MOST)
+    a.saturating_mul(b).min(MOST)
 }
 
 // How often a `for` runs its body.

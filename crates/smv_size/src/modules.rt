@@ -1,0 +1,320 @@
+// What is met in modules and in the modules of their instances: families, instances and statements.
+ghost use Rattle.std.specs.Prelude.{◌≡◌, ℕ, ◌+◌, ◌*◌, [], ◌∷◌, ◌++◌, List, map, flat_map, length, sum, OnOk, IfOk};
+ghost use Rattle.smv_core.specs.Values.{Name};
+ghost use Rattle.smv_core.specs.FlatOrder.{Body};
+ghost use Rattle.smv_core.specs.FlatOrder as flat;
+ghost use Rattle.smv_core.specs.declared.tree.Word.{Word};
+ghost use Rattle.smv_inst.specs.Sizes.{Extent, Sized, Thing, family, instance, things_of_item, things_in, statements_of_item, statements_in};
+ghost use Rattle.smv_size.specs.Limits.{capped};
+ghost use Rattle.smv_size.specs.Summary.{families_told, types_told, things_told, size_named, body_told, empty_told, top_told, AreTold};
+ghost use Rattle.smv_size.specs.Summary as spec;
+
+use crate::statements::{in_all, plus, statements, times};
+use crate::types::{Families, TypeSize, families_of, is_wide, repeated};
+use name_index::NameIndex;
+use name_index::map::NameMap;
+use smv_core::name::Name;
+use smv_core::tree::{Item, Top, Word};
+use std::alloc::{AllocError, Global};
+
+// One more than the families and instances that a text may have, and than its statements.
+const MOST_THINGS: usize = 4097;
+
+const MOST_STATEMENTS: u64 = 65_537;
+
+/// Families and instances: how many, up to one more than their limit, and whether one is too wide.
+#[derive(Clone, Copy, PartialEq, Eq)]
+pub struct Things {
+    pub count: usize,
+    pub wide: bool,
+}
+
+/// A module: its formals, and what is met in it, each number up to one more than its limit.
+#[derive(Clone, Copy, PartialEq, Eq)]
+pub struct ModuleSize {
+    pub formals: u64,
+    pub things: Things,
+    pub statements: u64,
+}
+
+/// The names of the modules.
+pub fn module_names<'a>(alloc: Global, tops: &'a [Top]) -> Result<NameIndex<'a>, AllocError>
+    ensures { IfOk result (λ names. names ≡ spec.module_names (flat.modules tops.now)) }
+{
+    let mut names = NameIndex::new(alloc);
+    for top in tops {
+        note_name(&mut names, top)?;
+    }
+    Ok(names)
+}
+
+// The name of a module more, if this is one.
+fn note_name<'a>(names: &mut NameIndex<'a>, top: &'a Top) -> Result<(), AllocError>
+    ensures { OnOk result (names.new ≡ names.old ++ spec.module_names (flat.modules (top.now ∷ []))) }
+{
+    match top {
+        Top::SetType { .. } => Ok(()),
+        Top::Alias { .. } => Ok(()),
+        Top::Module { name, .. } => names.push(&name.name),
+    }
+}
+
+/// The modules, each with all that is met from it on. Each round follows all instances one module further; where it finds nothing new, nor does one after it.
+pub fn module_sizes(
+    alloc: Global,
+    tops: &[Top],
+    types: &NameMap<TypeSize>,
+    names: &NameIndex,
+) -> Result<Vec<ModuleSize>, AllocError>
+    requires { names.now ≡ spec.module_names (flat.modules tops.now) }
+    ensures { IfOk result (λ sizes. (known : List (Name × Sized)) → types.now ≡ types_told known → AreTold known (flat.modules tops.now) names.now sizes.items (length (flat.modules tops.now))) }
+{
+    let mut sizes = empty_sizes(alloc, tops)?;
+    for step in 0..sizes.len() {
+        let next = next_sizes(alloc, tops, types, names, sizes.as_slice())?;
+        if next.as_slice() == sizes.as_slice() {
+            return Ok(sizes);
+        }
+        sizes = next;
+    }
+    Ok(sizes)
+}
+
+// The modules, with nothing in them.
+fn empty_sizes(alloc: Global, tops: &[Top]) -> Result<Vec<ModuleSize>, AllocError>
+    ensures { IfOk result (λ sizes. sizes.items ≡ map empty_told (flat.modules tops.now)) }
+{
+    let mut sizes = Vec::new(alloc);
+    for top in tops {
+        note_empty(&mut sizes, top)?;
+    }
+    Ok(sizes)
+}
+
+// A module more with nothing in it, if this is one.
+fn note_empty(sizes: &mut Vec<ModuleSize>, top: &Top) -> Result<(), AllocError>
+    ensures { OnOk result (sizes.new.items ≡ sizes.old.items ++ map empty_told (flat.modules (top.now ∷ []))) }
+{
+    match top {
+        Top::SetType { .. } => Ok(()),
+        Top::Alias { .. } => Ok(()),
+        Top::Module { formals, .. } => {
+            sizes.push(empty_size(formals.as_slice()))?;
+            Ok(())
+        }
+    }
+}
+
+fn empty_size(formals: &[Word]) -> ModuleSize
+    ensures { result ≡ spec.empty_of formals.now }
+{
+    ModuleSize {
+        formals: number_of(formals.len()),
+        things: nothing(),
+        statements: 0,
+    }
+}
+
+// The modules, where instances are followed one module further.
+fn next_sizes(
+    alloc: Global,
+    tops: &[Top],
+    types: &NameMap<TypeSize>,
+    names: &NameIndex,
+    sizes: &[ModuleSize],
+) -> Result<Vec<ModuleSize>, AllocError>
+    ensures { IfOk result (λ next. (known : List (Name × Sized)) (bodies : List (Name × Body)) (n : ℕ) → types.now ≡ types_told known → AreTold known bodies names.now sizes.now n → next.items ≡ map (top_told known bodies n) (flat.modules tops.now)) }
+{
+    let mut next = Vec::new(alloc);
+    for top in tops {
+        note_size(&mut next, top, types, names, sizes)?;
+    }
+    Ok(next)
+}
+
+// A module more, if this is one.
+fn note_size(
+    next: &mut Vec<ModuleSize>,
+    top: &Top,
+    types: &NameMap<TypeSize>,
+    names: &NameIndex,
+    sizes: &[ModuleSize],
+) -> Result<(), AllocError>
+    ensures { OnOk result ((known : List (Name × Sized)) (bodies : List (Name × Body)) (n : ℕ) → types.now ≡ types_told known → AreTold known bodies names.now sizes.now n → next.new.items ≡ next.old.items ++ map (top_told known bodies n) (flat.modules (top.now ∷ []))) }
+{
+    match top {
+        Top::SetType { .. } => Ok(()),
+        Top::Alias { .. } => Ok(()),
+        Top::Module { formals, body, .. } => {
+            let size = body_size(formals.as_slice(), body.as_slice(), types, names, sizes);
+            next.push(size)?;
+            Ok(())
+        }
+    }
+}
+
+// A module, by its formals and its body.
+fn body_size(
+    formals: &[Word],
+    body: &[Item],
+    types: &NameMap<TypeSize>,
+    names: &NameIndex,
+    sizes: &[ModuleSize],
+) -> ModuleSize
+    ensures { (known : List (Name × Sized)) (bodies : List (Name × Body)) (n : ℕ) → types.now ≡ types_told known → AreTold known bodies names.now sizes.now n → result ≡ body_told known bodies n (record { formals = formals.now; items = body.now }) }
+{
+    ModuleSize {
+        formals: number_of(formals.len()),
+        things: things_of_items(body, types, names, sizes),
+        statements: statements_of_items(body, names, sizes),
+    }
+}
+
+// The families and instances of some items.
+fn things_of_items(
+    items: &[Item],
+    types: &NameMap<TypeSize>,
+    names: &NameIndex,
+    sizes: &[ModuleSize],
+) -> Things
+    ensures { (known : List (Name × Sized)) (bodies : List (Name × Body)) (n : ℕ) → types.now ≡ types_told known → AreTold known bodies names.now sizes.now n → result ≡ things_told (flat_map (things_of_item known bodies (things_in known bodies n)) items.now) }
+{
+    let mut all = nothing();
+    for item in items {
+        all = both(all, things_of(item, types, names, sizes));
+    }
+    all
+}
+
+// The families and instances of an item.
+fn things_of(x: &Item, types: &NameMap<TypeSize>, names: &NameIndex, sizes: &[ModuleSize]) -> Things
+    ensures { (known : List (Name × Sized)) (bodies : List (Name × Body)) (n : ℕ) → types.now ≡ types_told known → AreTold known bodies names.now sizes.now n → result ≡ things_told (things_of_item known bodies (things_in known bodies n) x.now) }
+{
+    match x {
+        Item::Declare {
+            names: words,
+            of,
+            ..
+        } => families(repeated(words.len(), families_of(of, types))),
+        Item::Instance {
+            names: words,
+            module,
+            ..
+        } => instances(words.len(), size_named(names, sizes, &module.name).things),
+        _ => nothing(),
+    }
+}
+
+fn nothing() -> Things
+    ensures { result ≡ things_told [] }
+{
+    Things {
+        count: 0,
+        wide: false,
+    }
+}
+
+fn both(a: Things, b: Things) -> Things
+    ensures { (xs : List Thing) (ys : List Thing) → a ≡ things_told xs → b ≡ things_told ys → result ≡ things_told (xs ++ ys) }
+{
+    Things {
+        count: a.count.saturating_add(b.count).min(MOST_THINGS),
+        wide: a.wide || b.wide,
+    }
+}
+
+fn families(of: Families) -> Things
+    ensures { (xs : List Extent) → of ≡ families_told xs → result ≡ things_told (map family xs) }
+{
+    Things {
+        count: of.count,
+        wide: is_wide(of),
+    }
+}
+
+// Instances of a module, each with what is met in it.
+fn instances(times: usize, inside: Things) -> Things
+    ensures { (words : List Word) (xs : List Thing) → times ≡ length words → inside ≡ things_told xs → result ≡ things_told (flat_map (λ word. instance ∷ xs) words) }
+{
+    Things {
+        count: inside
+            .count
+            .saturating_add(1)
+            .saturating_mul(times)
+            .min(MOST_THINGS),
+        wide: times != 0 && inside.wide,
+    }
+}
+
+/// What is known of the module of a name.
+pub fn size_named(names: &NameIndex, sizes: &[ModuleSize], name: &Name) -> ModuleSize
+    ensures { result ≡ spec.size_named names.now sizes.now name.now }
+{
+    match names.find(name) {
+        None => no_module(),
+        Some(place) => match sizes.get(place) {
+            None => no_module(),
+            Some(size) => *size,
+        },
+    }
+}
+
+fn no_module() -> ModuleSize
+    ensures { result ≡ spec.no_module }
+{
+    ModuleSize {
+        formals: 0,
+        things: nothing(),
+        statements: 0,
+    }
+}
+
+// A number, up to one more than the statements that a text may have.
+fn number_of(n: usize) -> u64
+    ensures { result ≡ capped n }
+{
+    (n as u64).min(MOST_STATEMENTS)
+}
+
+// The statements that are met in an item.
+#[cycle(items)]
+fn statements_of(x: &Item, names: &NameIndex, sizes: &[ModuleSize]) -> u64
+    ensures { (known : List (Name × Sized)) (bodies : List (Name × Body)) (n : ℕ) → AreTold known bodies names.now sizes.now n → result ≡ capped (statements_of_item known bodies (statements_in known bodies n) x.now) }
+{
+    match x {
+        Item::Declare { .. } => 0,
+        Item::Instance {
+            names: words,
+            module,
+            ..
+        } => connected(words.len(), size_named(names, sizes, &module.name)),
+        Item::Layer { body, .. } => plus(1, in_all(body.as_slice())),
+        Item::Forall { body, .. } => plus(1, statements_of(body.get(), names, sizes)),
+        Item::Block { items } => plus(1, statements_of_items(items.as_slice(), names, sizes)),
+        Item::Claim { .. } => 1,
+        Item::Split { .. } => 1,
+        Item::Using { .. } => 1,
+        Item::Act { act } => statements(act),
+    }
+}
+
+#[cycle(items)]
+fn statements_of_items(items: &[Item], names: &NameIndex, sizes: &[ModuleSize]) -> u64
+    ensures { (known : List (Name × Sized)) (bodies : List (Name × Body)) (n : ℕ) → AreTold known bodies names.now sizes.now n → result ≡ capped (sum (map (statements_of_item known bodies (statements_in known bodies n)) items.now)) }
+{
+    let mut total = 0;
+    for item in items {
+        total = plus(total, statements_of(item, names, sizes));
+    }
+    total
+}
+
+// The statements of some instances: the connections of each, and what is met in its module.
+fn connected(instances: usize, inside: ModuleSize) -> u64
+    ensures { (formals : ℕ) (inner : ℕ) → inside.formals ≡ capped formals → inside.statements ≡ capped inner → result ≡ capped (instances * (formals + inner)) }
+{
+    times(
+        number_of(instances),
+        plus(inside.formals, inside.statements),
+    )
+}
