@@ -29,7 +29,8 @@ const WITHIN_ITSELF: &str = "module main() { a : main(); }";
 
 const MISCOUNTED: &str = "module m(a) { input a : boolean; } module main() { x : m(); }";
 
-const FIVE_INDEXES: &str = "module main() { x : array 0..1 of array 0..1 of array 0..1 of array 0..1 of array 0..1 of boolean; }";
+const FIVE_INDEXES: &str =
+    "module main() { x : array 0..1 of array 0..1 of array 0..1 of array 0..1 of array 0..1 of boolean; }";
 
 const NOT_DECIDED: &str = "fault 32 at line 1 column 1\n";
 
