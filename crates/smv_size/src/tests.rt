@@ -75,7 +75,8 @@ fn doubled(alloc: Global, modules: u8) -> Result<Option<ModuleSize>, AllocError>
 }
 
 fn table_is_wide(alloc: Global, high: u16) -> Result<bool, AllocError> {
-    let types = type_sizes(alloc, [].as_slice())?;
+    let tops = Vec::new(alloc);
+    let types = type_sizes(alloc, tops.as_slice())?;
     let table = table(alloc, high)?;
     Ok(is_wide(families_of(&table, &types)))
 }

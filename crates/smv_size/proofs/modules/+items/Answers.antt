@@ -1,7 +1,11 @@
-use Rattle.std.proofs.Common.{◌+◌, ◌*◌, List, map, take, refl, sum, ap, sym, length, ◌∙◌}
+use Rattle.std.proofs.Common.{ℕ, ◌≡◌, ◌+◌, ◌*◌, List, map, take, refl, sum, ap, sym, length, ◌∙◌}
 use Rattle.std.specs.List.{sum_by}
-use Rattle.smv_core.specs.declared.tree.Item.{Item}
-use Rattle.smv_inst.specs.Sizes.{body_named, statements_of_item, statements_in, statements}
+use Rattle.smv_core.specs.Values.{Name}
+use Rattle.smv_core.specs.FlatOrder.{Body}
+use Rattle.smv_core.specs.declared.tree.Word.{Word}
+use Rattle.smv_core.specs.declared.tree.Expr.{Expr}
+use Rattle.smv_core.specs.declared.tree.Item.{Item, Instance}
+use Rattle.smv_inst.specs.Sizes.{Sized, body_named, statements_of_item, statements_in, statements}
 use Rattle.smv_size.specs.Limits.{capped}
 use Rattle.smv_size.specs.declared.modules.ModuleSize.{ModuleSize}
 use Rattle.smv_size.proofs.CountLaws.{sum_is}
@@ -31,14 +35,17 @@ statements_of-returns-in-Block t c known bodies n f =
     (c.statements_of_items.ensures known bodies n f ∙ ap (λ (l : List Item). capped (sum (map (statements_of_item known bodies inside) l))) c.as_slice-in-Block.ensures)
     ∙ ap capped (sym (met-Block known bodies inside items)) ∙ ap (λ (x : Item). capped (statements_of_item known bodies inside x)) (sym c.in-Block.is)
 
+counted : (known : List (Name × Sized)) (bodies : List (Name × Body)) (inside : Name → ℕ) (r n : ℕ) (words : List Word) (name : Word) (args : List Expr) (at : ℕ)
+    → r ≡ capped (n * (length (body_named known bodies name.name).formals + inside name.name)) → n ≡ length words → r ≡ capped (statements_of_item known bodies inside (Instance words name args at))
+counted known bodies inside r n words name args at e f = e ∙ ap (λ k. capped (k * (length (body_named known bodies name.name).formals + inside name.name))) f
+
 pub statements_of-returns-in-Instance : goal.statements_of-returns-in-Instance
 statements_of-returns-in-Instance t c known bodies n f =
     let inside = statements_in known bodies n in
     let name = c.in-Instance.module.name in
     let is = c.size_named.ensures ∙ f name in
-    let each = length (body_named known bodies name).formals + inside name in
-    c.connected.ensures (length (body_named known bodies name).formals) (inside name) (ap (λ (m : ModuleSize). m.formals) is) (ap (λ (m : ModuleSize). m.statements) is)
-    ∙ ap (λ k. capped (k * each)) c.len.ensures
+    let sum = c.connected.ensures (length (body_named known bodies name).formals) (inside name) (ap (λ (m : ModuleSize). m.formals) is) (ap (λ (m : ModuleSize). m.statements) is) in
+    counted known bodies inside c.connected.result c.len.result c.in-Instance.words c.in-Instance.module c.in-Instance.args c.in-Instance.at sum c.len.ensures
     ∙ ap (λ (x : Item). capped (statements_of_item known bodies inside x)) (sym c.in-Instance.is)
 
 pub statements_of_items-loop-item-preserved : goal.statements_of_items-loop-item-preserved
