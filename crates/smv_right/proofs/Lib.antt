@@ -1,0 +1,5 @@
+pub mod Faultless
+pub mod LeadTypes
+pub mod Expressions
+pub mod Statements
+pub mod OwnNames
