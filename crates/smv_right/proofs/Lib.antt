@@ -3,3 +3,4 @@ pub mod LeadTypes
 pub mod Expressions
 pub mod Statements
 pub mod OwnNames
+pub mod OwnFamilies

@@ -175,6 +175,10 @@ mutual
 
 -- ---- where a name is declared
 
+pub declared-own : (what : What) (words : List Word) (ms : List Mention) → IsQuiet ms → own_names (declared_as what words ++ ms) ≡ own_names (declared_as what words)
+declared-own what [] ms h = h
+declared-own what (word ∷ words) ms h = ap (λ l. (word.name, record { at = word.at; what = what }) ∷ l) (declared-own what words ms h)
+
 module _ (name : Name) where
   abbrev pub is_word : Word → Bool
   is_word word = bytes_eq word.name name
@@ -199,7 +203,3 @@ module _ (name : Name) where
           (((b || list_any is_word words) ≡ true) × (own.what ≡ what)) ⊎ (((b || list_any is_word words) ≡ false) × (find_name rest name ≡ Some own))
       by_test true e more = inl (refl, ap (λ (o : Own). o.what) (sym (some-same {X = Own} (record { at = word.at; what = what }) own e)))
       by_test false e more = more e
-
-  pub declared-own : (what : What) (words : List Word) (ms : List Mention) → IsQuiet ms → own_names (declared_as what words ++ ms) ≡ own_names (declared_as what words)
-  declared-own what [] ms h = h
-  declared-own what (word ∷ words) ms h = ap (λ l. (word.name, record { at = word.at; what = what }) ∷ l) (declared-own what words ms h)
