@@ -58,7 +58,7 @@ variable-bound ((other, own) ∷ vars) ((third, any) ∷ around) same name at ki
     by_test true e rest = (Var (bound_in around) at, refl)
     by_test false e rest = rest e
 
-known-anyway : (flat : Scope) (o : Option FlatExpr) (f : Option Family) (path : Path) → IsConstant flat path → IsKnown flat o f path
+pub known-anyway : (flat : Scope) (o : Option FlatExpr) (f : Option Family) (path : Path) → IsConstant flat path → IsKnown flat o f path
 known-anyway flat None None path h = h
 known-anyway flat None (Some f) path h = tt
 known-anyway flat (Some x) f path h = tt

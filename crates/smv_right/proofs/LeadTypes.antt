@@ -119,7 +119,7 @@ is-index-leads : (o : Option Whole) → is_index (value_kind o) ≡ true → (w 
 is-index-leads None h = absurd (cc (h))
 is-index-leads (Some w) h = (w, refl)
 
-not-false : (b : Bool) → not b ≡ false → b ≡ true
+pub not-false : (b : Bool) → not b ≡ false → b ≡ true
 not-false true h = refl
 not-false false h = absurd (cc (h))
 

@@ -4,3 +4,5 @@ pub mod Expressions
 pub mod Statements
 pub mod OwnNames
 pub mod OwnFamilies
+pub mod Modules
+pub mod Entries

@@ -67,11 +67,11 @@ module _ (name : Name) where
 
   -- ---- roles
 
-  abbrev role_in : What → Role
+  abbrev pub role_in : What → Role
   role_in (signal role of) = role
   role_in _ = Plain
 
-  abbrev IsSignal : What → Type 0
+  abbrev pub IsSignal : What → Type 0
   IsSignal (signal role of) = Unit {0}
   IsSignal _ = ⊥
 
