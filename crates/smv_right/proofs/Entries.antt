@@ -249,9 +249,11 @@ module _ (text : Text) where
           item-right : (part : Item) → ItemIsWritten part → in_item (scope_of m) [] part ≡ [] → Includes (families_of_item types bodies inside here part) → AllByRecursion (EntryIsRight text) (item_entries types bodies inside_entries here part)
           item-right (Declare role words of at) written fine includes = tt
           item-right (Instance words name args at) written fine includes = instance-right name args written fine words includes
-          item-right (Layer name acts at) written fine includes =
-              (tt, each-map (StatementIsRight (scope_in text here) []) (EntryIsRight text) (λ act. statement (record { layer = Some name.name; instance = here; act = act })) (λ act h. h) acts
-              (body-right (scope_of m) (scope_in text here) signals-count own-are-families constants-listed acts written fine))
+          item-right (Layer name acts at) written fine includes = (
+            tt,
+            each-map (StatementIsRight (scope_in text here) []) (EntryIsRight text) (λ act. statement (record { layer = Some name.name; instance = here; act = act })) (λ act h. h) acts
+                (body-right (scope_of m) (scope_in text here) signals-count own-are-families constants-listed acts written fine),
+          )
           item-right (item.Forall' var over shape part at) written fine includes = whole-right inside_entries (item.Forall' var over shape part at) written fine
           item-right (item.Block' shape items) written fine includes = whole-right inside_entries (item.Block' shape items) written fine
           item-right (Claim name brackets e at) written fine includes = whole-right inside_entries (Claim name brackets e at) written fine

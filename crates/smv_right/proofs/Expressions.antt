@@ -116,7 +116,7 @@ module _ (scope : kinds.Scope) (flat : Scope) (counted : SignalsCount scope) (ow
       IsKnownHere : Path → Type 0
       IsKnownHere path = IsKnown flat (variable_at around path at) (family_at flat.families (flat.instance ++ path)) path
 
-      by_case : fields_of parts ≡ [] → (kinds.variable_at scope vars (Field word ∷ parts) ≡ Some w) ⊎ ((signal_at scope (Field word ∷ parts) ≡ Some w) ⊎ (constant_at scope (Field word ∷ parts) ≡ Some w)) → 
+      by_case : fields_of parts ≡ [] → (kinds.variable_at scope vars (Field word ∷ parts) ≡ Some w) ⊎ ((signal_at scope (Field word ∷ parts) ≡ Some w) ⊎ (constant_at scope (Field word ∷ parts) ≡ Some w)) →
           IsKnown flat (variable around word.name at) (family_at flat.families (flat.instance ++ word.name ∷ [])) (word.name ∷ [])
       by_case e (inl g) =
           let x = chained (find_name vars word.name) parts w g in

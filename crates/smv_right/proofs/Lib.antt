@@ -6,3 +6,4 @@ pub mod OwnNames
 pub mod OwnFamilies
 pub mod Modules
 pub mod Entries
+pub mod RightText
