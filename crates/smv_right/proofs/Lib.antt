@@ -7,3 +7,4 @@ pub mod OwnFamilies
 pub mod Modules
 pub mod Entries
 pub mod RightText
+pub mod WrittenForms
