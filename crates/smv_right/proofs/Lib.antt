@@ -8,3 +8,4 @@ pub mod Modules
 pub mod Entries
 pub mod RightText
 pub mod WrittenForms
+pub mod WrittenRules
