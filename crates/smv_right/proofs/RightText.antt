@@ -12,6 +12,8 @@ use Rattle.smv_types.specs.KindFaults.{faults_of_kinds, first_fault_of_kinds}
 use Rattle.smv_flat.specs.Entries.{Entry, entries}
 use Rattle.smv_flat.specs.WholeText.{EntryIsRight, TextIsRight}
 use Rattle.smv_right.specs.Written.{TextIsWritten}
+use Rattle.smv_right.specs.WellKinded.{IsWellKinded}
+use Rattle.smv_right.proofs.WrittenRules.{spelled-written}
 use Rattle.smv_right.proofs.Faultless.{empty-both, empty-each, no_fault-in, none-first, no_places}
 use Rattle.smv_right.proofs.Modules.{tops-modules}
 use Rattle.smv_right.proofs.Entries.{text-right}
@@ -40,3 +42,7 @@ right-text text written names kinds =
     let declared : AllByRecursion (λ piece. undeclared_in tops piece ≡ []) tops = empty-each (undeclared_in tops) tops (no_places 7 places (empty-both (faults_at (7, places)) (flat_map faults_at (others tops)) none).0) in
     all-each (EntryIsRight text) (entries text)
     (text-right text (tops-modules (types_from [] text.tops) (modules_from [] text.tops) (constants tops) tops [] [] tt [] text.tops refl written (no_fault-in (faults_of_kinds text) kinds) declared))
+
+-- the same of a text that is spelled
+pub well_kinded-right : (text : Text) → IsWellKinded text → TextIsRight text
+well_kinded-right text h = right-text text (spelled-written h.0 h.1 text h.2) h.3 h.4
