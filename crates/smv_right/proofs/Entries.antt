@@ -1,16 +1,15 @@
 -- Each statement and claim of a text without faults is right.
-use Rattle.std.proofs.Common.{◌≡◌, ℕ, zero, suc, List, [], ◌∷◌, ◌++◌, map, flat_map, length, zip, Option, Some, None, option_and_then, unwrap_or, Bool, true, false, cond, refl, sym, ap, ◌∙◌, subst}
+use Rattle.std.proofs.Common.{◌≡◌, ℕ, zero, suc, List, [], ◌∷◌, ◌++◌, map, flat_map, length, zip, Option, Some, None, option_and_then, unwrap_or, Bool, true, false, cond, refl, sym, ◌∙◌, subst}
 use Rattle.std.specs.List.{AllByRecursion, list_any}
 use Rattle.smv_core.specs.Values.{Name, Path}
 use Rattle.smv_core.specs.Types as tree
 use Rattle.smv_core.specs.Types.{Family, find_name, types_from}
-use Rattle.smv_core.specs.FlatOrder.{Body, Said, modules, main, role_of, body_of, families_of_item, families_in, design_of}
-use Rattle.smv_core.specs.Outcome.{fields_of, family_at, same_path}
+use Rattle.smv_core.specs.FlatOrder.{Body, modules, main, role_of, body_of, families_of_item, families_in, design_of}
+use Rattle.smv_core.specs.Outcome.{family_at, same_path}
 use Rattle.smv_core.specs.Walk.{indexes_of}
 use Rattle.smv_core.specs.Assignments.{Around, any}
 use Rattle.smv_core.specs.declared.tree.Word.{Word}
 use Rattle.smv_core.specs.declared.tree.Text.{Text}
-use Rattle.smv_core.specs.declared.tree.Role.{Role}
 use Rattle.smv_core.specs.declared.tree.Role.TheVariants.{Plain, Abstract, Input, Output}
 use Rattle.smv_core.specs.declared.tree.TypeExpr.{TypeExpr}
 use Rattle.smv_core.specs.declared.tree.Part.{Part, Field, At}
@@ -22,18 +21,16 @@ use Rattle.smv_inst.specs.Mentions.{What, signal}
 use Rattle.smv_inst.specs.Mentions as mentions
 use Rattle.smv_inst.specs.Scopes.{Own, Constant, constants, pieces}
 use Rattle.smv_inst.specs.NameFaults.{is_port, is_port_if_own}
-use Rattle.smv_inst.specs.FirstFault.{faults_at}
 use Rattle.smv_inst.proofs.Computing.{computing}
 use Rattle.smv_types.specs.Kinds.{Kind, Operand, takes}
-use Rattle.smv_types.specs.Types.{Whole, Types, leads, value_kind, index_faults}
+use Rattle.smv_types.specs.Types.{leads, value_kind, index_faults}
 use Rattle.smv_types.specs.References as kinds
 use Rattle.smv_types.specs.References.{Module, Vars, modules_from, behind, signal_at, reference}
 use Rattle.smv_types.specs.Operands.{bind, operand, value}
-use Rattle.smv_types.specs.KindFaults.{assigned, are_constant, given, gives, connected, in_arguments, in_item, in_items, in_stmt}
-use Rattle.smv_flat.specs.Numbers.{Scope}
-use Rattle.smv_flat.specs.Entries.{Binders, claim, split, using, Entry, layer, statement, goal, inside_binder, connection, connections, instance_entries, item_entries, items_entries, entries_in, entries}
+use Rattle.smv_types.specs.KindFaults.{assigned, are_constant, gives, connected, in_arguments, in_item, in_items}
+use Rattle.smv_flat.specs.Entries.{claim, split, using, Entry, layer, statement, goal, inside_binder, connection, connections, instance_entries, item_entries, items_entries, entries_in, entries}
 use Rattle.smv_flat.specs.Flattening.{scope_in, within}
-use Rattle.smv_flat.specs.Agreement.{IsIndexType, IsRight, AreRight, StatementIsRight}
+use Rattle.smv_flat.specs.Agreement.{IsIndexType, IsRight, StatementIsRight}
 use Rattle.smv_flat.specs.WholeText.{BindersAreRight, EntryIsRight}
 use Rattle.smv_flat.proofs.Lookups.{any-found, any-front, any-behind}
 use Rattle.smv_flat.proofs.SameFamilies.{families-same}

@@ -1,34 +1,28 @@
 -- In a module an expression without faults of kinds is right.
-use Rattle.std.proofs.Common.{◌≡◌, ℕ, zero, suc, List, [], ◌∷◌, ◌++◌, map, flat_map, length, Option, Some, None, option_map, option_and_then, Bool, true, false, cond, nat_eq, ◌⊎◌, inl, inr, refl, sym, ap, ◌∙◌, subst, arith}
+use Rattle.std.proofs.Common.{◌≡◌, ℕ, List, [], ◌∷◌, ◌++◌, map, length, Option, Some, None, option_and_then, Bool, true, false, cond, nat_eq, ◌⊎◌, inl, inr, refl, sym, ◌∙◌, subst, arith}
 use Rattle.std.specs.Str.{bytes_eq}
-use Rattle.std.specs.List.{AllByRecursion}
 use Rattle.smv_core.specs.Values.{Name, Path}
 use Rattle.smv_core.specs.Types.{Family, find_name}
 use Rattle.smv_core.specs.Outcome.{fields_of, family_at}
 use Rattle.smv_core.specs.Walk.{indexes_of}
 use Rattle.smv_core.specs.Assignments.{Around, loop, any}
 use Rattle.smv_core.specs.declared.tree.Word.{Word}
-use Rattle.smv_core.specs.declared.tree.TypeExpr.{TypeExpr}
 use Rattle.smv_core.specs.declared.tree.Part.{Part, Field, At}
-use Rattle.smv_core.specs.declared.tree.Path.{out-Path}
 use Rattle.smv_core.specs.declared.tree.Member.{One, Span as SpanOf}
 use Rattle.smv_core.specs.declared.tree.Expr.{Expr, Number, Signal', Not', And', Or', Implies', Iff', Compare', Within', Sum', Modulo', Choose', All', Any', List', Each', Held-Expr-Each-2, None', Some', Row_of-Expr, end_of-Expr, more_of-Expr, Row_of-Part, end_of-Part, more_of-Part, Row_of-Member, end_of-Member, more_of-Member, Row_of-Signed, end_of-Signed, more_of-Signed, items-the_row-Part}
-use Rattle.smv_core.specs.declared.tree.Stmt.{Stmt, Assign, Block', If', Switch', Default', For', Forall', Held-Stmt-If-2, Row_of-Stmt, end_of-Stmt, more_of-Stmt, Row_of-Arm, end_of-Arm, more_of-Arm}
-use Rattle.smv_core.specs.declared.tree.Stmt as stmt
 use Rattle.smv_core.specs.declared.flat.FlatExpr.{FlatExpr, Var, Loop}
-use Rattle.smv_inst.specs.Scopes.{Own, Constant}
+use Rattle.smv_inst.specs.Scopes.{Constant}
 use Rattle.smv_inst.specs.NameFaults.{place_if}
 use Rattle.smv_inst.specs.FirstFault.{faults_at}
-use Rattle.smv_types.specs.Kinds.{Kind, Operand, number, enumeration, takes_number, takes, alike, of_numbers, stray_set}
-use Rattle.smv_types.specs.Types.{Whole, single, index_faults, index_kind}
+use Rattle.smv_types.specs.Kinds.{Kind, Operand, enumeration, takes_number, alike}
+use Rattle.smv_types.specs.Types.{Whole, single, index_faults}
 use Rattle.smv_types.specs.References as kinds
 use Rattle.smv_types.specs.References.{Vars, behind, signal_at, constant_at, reference_at, reference}
-use Rattle.smv_types.specs.Operands.{bind, operand, operands, indexes, summands, members, looked_through, condition_faults, value, target}
-use Rattle.smv_types.specs.KindFaults.{assigned, in_stmt, in_block, in_branch, in_arms, labels}
+use Rattle.smv_types.specs.Operands.{bind, operand, operands, indexes, summands, members, looked_through, condition_faults, value}
 use Rattle.smv_flat.specs.Numbers.{Scope, bound_in, variable, variable_at}
-use Rattle.smv_flat.specs.Agreement.{IsConstant, IsKnown, IsIndexType, IsRight, AreRight, PartsAreRight, IndexesAreRight, TermsAreRight, MembersAreRight, ConditionIsRight, StatementIsRight, StatementsAreRight, BranchIsRight, ArmsAreRight}
-use Rattle.smv_right.specs.Written.{IsSet, IsWritten, AreWritten, PartsAreWritten, IndexesAreWritten, TermsAreWritten, MembersAreWritten, ConditionIsWritten, StatementIsWritten, StatementsAreWritten, BranchIsWritten, ArmsAreWritten}
-use Rattle.smv_right.proofs.Faultless.{empty-both, each-front, each-behind, IsFine, AreFine, number-fine, taken-fine, numbers-fine, alike-fine, compared-fine, reference-fine}
+use Rattle.smv_flat.specs.Agreement.{IsConstant, IsKnown, IsRight, AreRight, PartsAreRight, IndexesAreRight, TermsAreRight, MembersAreRight, ConditionIsRight}
+use Rattle.smv_right.specs.Written.{IsSet, IsWritten, AreWritten, PartsAreWritten, IndexesAreWritten, TermsAreWritten, MembersAreWritten, ConditionIsWritten}
+use Rattle.smv_right.proofs.Faultless.{empty-both, IsFine, AreFine, number-fine, numbers-fine, alike-fine, compared-fine, reference-fine}
 use Rattle.smv_right.proofs.LeadTypes.{single-counts}
 
 -- ---- variables
@@ -113,9 +107,6 @@ module _ (scope : kinds.Scope) (flat : Scope) (counted : SignalsCount scope) (ow
   known vars around same (At e ∷ parts) at w h = absurd (cc (h))
   known vars around same (Field word ∷ parts) at w h = by_fields (fields_of parts) refl
     where
-      IsKnownHere : Path → Type 0
-      IsKnownHere path = IsKnown flat (variable_at around path at) (family_at flat.families (flat.instance ++ path)) path
-
       by_case : fields_of parts ≡ [] → (kinds.variable_at scope vars (Field word ∷ parts) ≡ Some w) ⊎ ((signal_at scope (Field word ∷ parts) ≡ Some w) ⊎ (constant_at scope (Field word ∷ parts) ≡ Some w)) →
           IsKnown flat (variable around word.name at) (family_at flat.families (flat.instance ++ word.name ∷ [])) (word.name ∷ [])
       by_case e (inl g) =

@@ -1,8 +1,7 @@
 -- Where a type leads to a single value without a field it has a family of its own, and a whole reference has a kind for each index.
-use Rattle.std.proofs.Common.{◌≡◌, ℕ, zero, suc, List, [], ◌∷◌, ◌++◌, map, flat_map, length, Option, Some, None, option_map, option_and_then, Bool, true, false, cond, not, ◌||◌, refl, sym, ap, ◌∙◌, subst, arith}
-use Rattle.std.specs.Str.{bytes_eq}
+use Rattle.std.proofs.Common.{◌≡◌, List, [], ◌∷◌, map, length, Option, Some, None, option_map, option_and_then, Bool, true, false, cond, not, ◌||◌, refl, sym, ap, ◌∙◌, subst, arith}
 use Rattle.std.specs.List.{AllByRecursion, list_any}
-use Rattle.smv_core.specs.Values.{Name, Path, Simple, range, choice}
+use Rattle.smv_core.specs.Values.{Name, Simple, range, choice}
 use Rattle.smv_core.specs.Types as tree
 use Rattle.smv_core.specs.Types.{Family, Shape, find_name, names_of, simple_of, shape_of, shape_or_none, one_value, array_of, indexed}
 use Rattle.smv_core.specs.Outcome.{fields_of, same_path}
@@ -12,9 +11,7 @@ use Rattle.smv_core.specs.declared.tree.Part.{Part, Field, At}
 use Rattle.smv_core.specs.declared.tree.TypeExpr.{TypeExpr, Boolean, Range, Enum, Named, Array', Struct', end_of-TypeExpr, more_of-TypeExpr, Row_of-Field, end_of-Field, more_of-Field}
 use Rattle.smv_inst.specs.Mentions.{What, signal, instance, goal}
 use Rattle.smv_inst.specs.Scopes.{Own, has_name}
-use Rattle.smv_inst.specs.NameFaults.{place_if}
-use Rattle.smv_inst.specs.FirstFault.{faults_at}
-use Rattle.smv_types.specs.Kinds.{Kind, number, enumeration, set_type, no_kind}
+use Rattle.smv_types.specs.Kinds.{Kind, number, enumeration}
 use Rattle.smv_types.specs.Types.{Whole, Leads, single, under, value_kind, Types, leads, leads_field, index_kind, is_index, index_faults, type_faults}
 use Rattle.smv_types.specs.References.{Module, behind}
 use Rattle.smv_flat.specs.Agreement.{IsIndexType}

@@ -1,5 +1,5 @@
 -- The modules of a text without faults, each beside its body.
-use Rattle.std.proofs.Common.{◌≡◌, ℕ, List, [], ◌∷◌, ◌++◌, map, flat_map, length, Option, Some, None, Bool, true, false, cond, not, refl, sym, ap, ◌∙◌, subst}
+use Rattle.std.proofs.Common.{◌≡◌, List, [], ◌∷◌, ◌++◌, flat_map, Option, Some, None, Bool, true, false, cond, not, refl, subst}
 use Rattle.std.specs.Str.{bytes_eq}
 use Rattle.std.specs.List.{AllByRecursion}
 use Rattle.smv_core.specs.Values.{Name, scalarset, ordset}
@@ -10,11 +10,10 @@ use Rattle.smv_core.specs.FlatOrder as order
 use Rattle.smv_core.specs.declared.tree.Word.{Word}
 use Rattle.smv_core.specs.declared.tree.Top.{Top}
 use Rattle.smv_core.specs.declared.tree.Top.TheVariants.{SetType, Alias, Module as ModuleOf}
-use Rattle.smv_core.specs.declared.tree.Item.{Item}
 use Rattle.smv_inst.specs.Scopes.{Known, Piece, Constant, piece_of, known_after, pieces_from, scope_of}
 use Rattle.smv_inst.specs.NameFaults.{is_port_if_own, formal_undeclared, formals_of, undeclared, undeclared_in}
 use Rattle.smv_types.specs.Kinds.{set_type}
-use Rattle.smv_types.specs.Types.{Leads, single, Types, leads, types_after}
+use Rattle.smv_types.specs.Types.{single, Types, leads, types_after}
 use Rattle.smv_types.specs.References.{Module, modules_from}
 use Rattle.smv_types.specs.KindFaults.{in_item, in_top, in_tops}
 use Rattle.smv_right.specs.Written.{ItemIsWritten, TopIsWritten}

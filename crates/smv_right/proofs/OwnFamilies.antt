@@ -1,5 +1,5 @@
 -- A signal of a module that is a single value is a family behind the path of each instance of the module.
-use Rattle.std.proofs.Common.{◌≡◌, ℕ, List, [], ◌∷◌, ◌++◌, map, flat_map, length, Option, Some, None, Bool, true, false, cond, ◌||◌, ◌⊎◌, inl, inr, refl, sym, ap, ◌∙◌, subst, append-nil}
+use Rattle.std.proofs.Common.{◌≡◌, ℕ, List, [], ◌∷◌, ◌++◌, map, flat_map, length, Some, Bool, true, false, cond, ◌||◌, ◌⊎◌, inl, inr, refl, ap, ◌∙◌, subst, append-nil}
 use Rattle.std.specs.Str.{bytes_eq}
 use Rattle.std.specs.List.{AllByRecursion, list_any}
 use Rattle.std.proofs.lemmas.Slice.Eq.{bytes_eq-Decides}
@@ -17,7 +17,7 @@ use Rattle.smv_core.specs.declared.tree.Item as item
 use Rattle.smv_inst.specs.Mentions as mentions
 use Rattle.smv_inst.specs.Mentions.{What, signal, instance, goal, in_type, in_expr, in_stmt, instantiates}
 use Rattle.smv_inst.specs.Scopes.{Own, own_names}
-use Rattle.smv_types.specs.Types.{Whole, Types, leads, type_faults}
+use Rattle.smv_types.specs.Types.{Whole, type_faults}
 use Rattle.smv_types.specs.References as kinds
 use Rattle.smv_types.specs.References.{behind}
 use Rattle.smv_types.specs.KindFaults.{in_item, formal_faults}
@@ -26,7 +26,7 @@ use Rattle.smv_flat.proofs.TypeNumbers.{paths-decide}
 use Rattle.smv_right.specs.Written.{InnerIsWritten, ItemIsWritten}
 use Rattle.smv_right.proofs.Faultless.{empty-both, found-each}
 use Rattle.smv_right.proofs.LeadTypes.{is_own, AreCovered, leads-cover}
-use Rattle.smv_right.proofs.OwnNames.{own-append, quiet-type, quiet-expr, quiet-stmt, quiet-flat_map, AreGoals, inner-goals, is_word, found-split, words-found, declared-own}
+use Rattle.smv_right.proofs.OwnNames.{own-append, quiet-type, quiet-expr, quiet-stmt, quiet-flat_map, inner-goals, is_word, found-split, words-found, declared-own}
 
 -- the names that items declare
 abbrev pub own_in : List Item → List (Name × Own)

@@ -1,5 +1,5 @@
 -- Which names a module declares, and by which item.
-use Rattle.std.proofs.Common.{◌≡◌, ℕ, List, [], ◌∷◌, ◌++◌, map, flat_map, length, Option, Some, None, Bool, true, false, cond, ◌||◌, ◌⊎◌, inl, inr, refl, sym, ap, ◌∙◌, subst, append_assoc}
+use Rattle.std.proofs.Common.{◌≡◌, List, [], ◌∷◌, ◌++◌, flat_map, Some, Bool, true, false, cond, ◌||◌, ◌⊎◌, inl, inr, refl, sym, ap, ◌∙◌, subst}
 use Rattle.std.specs.Str.{bytes_eq}
 use Rattle.std.specs.List.{AllByRecursion, list_any}
 use Rattle.smv_core.specs.Values.{Name}
@@ -15,10 +15,10 @@ use Rattle.smv_core.specs.declared.tree.Stmt as stmt
 use Rattle.smv_core.specs.declared.tree.Item.{Item, Declare, Instance, Layer, Claim, Split, Using, Act, Row_of-Item, end_of-Item, more_of-Item}
 use Rattle.smv_core.specs.declared.tree.Item as item
 use Rattle.smv_core.specs.declared.tree.Pair.{Pair}
-use Rattle.smv_inst.specs.Mentions.{What, signal, instance, goal, Mention, declares, binds, follows, names_type, lists_constants, has_fields, instantiates, path_in, in_type, in_fields, in_expr, in_row, in_parts, in_sum, in_members, in_held, in_part, in_path, in_stmt, in_block, in_branch, in_arms, declared_as, in_item, in_items}
+use Rattle.smv_inst.specs.Mentions.{What, goal, Mention, declares, binds, follows, names_type, lists_constants, has_fields, instantiates, path_in, in_type, in_fields, in_expr, in_row, in_parts, in_sum, in_members, in_held, in_part, in_path, in_stmt, in_block, in_branch, in_arms, declared_as, in_item, in_items}
 use Rattle.smv_inst.specs.Scopes.{Own, own_names}
 use Rattle.smv_right.specs.Written.{InnerIsWritten, InnersAreWritten}
-use Rattle.smv_right.proofs.Faultless.{each-append, found-each}
+use Rattle.smv_right.proofs.Faultless.{each-append}
 use Rattle.smv_right.proofs.LeadTypes.{some-same}
 
 pub own-append : (xs ys : List Mention) → own_names (xs ++ ys) ≡ own_names xs ++ own_names ys

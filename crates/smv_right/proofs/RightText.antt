@@ -3,13 +3,12 @@ use Rattle.std.proofs.Common.{◌≡◌, ℕ, zero, suc, ◌<◌, List, [], ◌�
 use Rattle.std.specs.List.{AllByRecursion}
 use Rattle.smv_core.specs.Types.{types_from}
 use Rattle.smv_core.specs.declared.tree.Text.{Text}
-use Rattle.smv_core.specs.declared.fault.Fault.{Fault}
 use Rattle.smv_inst.specs.Scopes.{Piece, constants, pieces}
 use Rattle.smv_inst.specs.NameFaults.{repeated, undeclared_in, doubled_in, without_main, recursive_in, miscounted_in}
 use Rattle.smv_inst.specs.FirstFault.{first_of, faults_at, faults_of_names, fault_of_size, first_fault}
 use Rattle.smv_types.specs.References.{modules_from}
 use Rattle.smv_types.specs.KindFaults.{faults_of_kinds, first_fault_of_kinds}
-use Rattle.smv_flat.specs.Entries.{Entry, entries}
+use Rattle.smv_flat.specs.Entries.{entries}
 use Rattle.smv_flat.specs.WholeText.{EntryIsRight, TextIsRight}
 use Rattle.smv_right.specs.Written.{TextIsWritten}
 use Rattle.smv_right.specs.WellKinded.{IsWellKinded}

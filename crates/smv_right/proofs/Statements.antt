@@ -1,20 +1,19 @@
 -- In a module a statement without faults of kinds is right.
-use Rattle.std.proofs.Common.{◌≡◌, ℕ, List, [], ◌∷◌, ◌++◌, map, flat_map, length, Option, Some, None, refl, sym, ap, ◌∙◌, subst, arith}
+use Rattle.std.proofs.Common.{◌≡◌, List, [], ◌∷◌, map, flat_map, length, refl, ◌∙◌, arith}
 use Rattle.std.specs.List.{AllByRecursion}
 use Rattle.smv_core.specs.Walk.{indexes_of}
 use Rattle.smv_core.specs.Assignments.{Around, loop, any}
 use Rattle.smv_core.specs.declared.tree.Path.{out-Path}
-use Rattle.smv_core.specs.declared.tree.Expr.{Expr}
 use Rattle.smv_core.specs.declared.tree.Stmt.{Stmt, Assign, Block', If', Switch', Default', For', Forall', Held-Stmt-If-2, Row_of-Stmt, end_of-Stmt, more_of-Stmt, Row_of-Arm, end_of-Arm, more_of-Arm}
 use Rattle.smv_core.specs.declared.tree.Stmt as stmt
-use Rattle.smv_types.specs.Kinds.{Kind, Operand, number, takes_number, takes, alike}
+use Rattle.smv_types.specs.Kinds.{Operand, number, takes_number, takes, alike}
 use Rattle.smv_types.specs.Types.{index_faults}
 use Rattle.smv_types.specs.References as kinds
 use Rattle.smv_types.specs.References.{Vars, signal_at}
 use Rattle.smv_types.specs.Operands.{bind, operand, value, target}
 use Rattle.smv_types.specs.KindFaults.{in_stmt, in_block, in_branch, in_arms, labels}
 use Rattle.smv_flat.specs.Numbers.{Scope}
-use Rattle.smv_flat.specs.Agreement.{AreRight, StatementIsRight, StatementsAreRight, BranchIsRight, ArmsAreRight}
+use Rattle.smv_flat.specs.Agreement.{StatementIsRight, StatementsAreRight, BranchIsRight, ArmsAreRight}
 use Rattle.smv_right.specs.Written.{StatementIsWritten, StatementsAreWritten, BranchIsWritten, ArmsAreWritten}
 use Rattle.smv_right.proofs.Faultless.{empty-both, empty-three, each-front, each-behind, AreFine, number-fine, taken-fine, alike-fine, reference-fine}
 use Rattle.smv_right.proofs.Expressions.{AreSameNames, SignalsCount, OwnAreFamilies, ConstantsAreListed, expression-right, are-right, value-right}

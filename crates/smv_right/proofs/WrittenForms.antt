@@ -1,5 +1,5 @@
 -- Trees that are made of trees as the grammar has them are so too.
-use Rattle.std.proofs.Common.{◌≡◌, ℕ, Bool, List, [], ◌∷◌, Option, Some, None, refl, sym, subst}
+use Rattle.std.proofs.Common.{ℕ, Bool, List, [], ◌∷◌, Option, Some, None, sym, subst}
 use Rattle.std.specs.List.{AllByRecursion}
 use Rattle.smv_core.specs.Walk.{indexes_of}
 use Rattle.smv_core.specs.declared.tree.Word.{Word}

@@ -1,32 +1,26 @@
 -- What the rules of the grammar spell is written as the grammar has it.
-use Rattle.std.proofs.Common.{◌≡◌, ℕ, zero, suc, Bool, true, false, cond, List, [], ◌∷◌, ◌⊎◌, inl, inr, Option, Some, None, refl, sym, ap, subst}
+use Rattle.std.proofs.Common.{◌≡◌, ℕ, zero, suc, Bool, true, false, cond, List, [], ◌∷◌, inl, inr, Option, Some, None, ap, subst}
 use Rattle.std.specs.List.{AllByRecursion}
 use Rattle.smv_core.specs.declared.token.TokenKind.{TokenKind}
 use Rattle.smv_core.specs.declared.tree.Word.{Word}
 use Rattle.smv_core.specs.declared.tree.Expr.{Expr}
 use Rattle.smv_core.specs.declared.tree.Expr.TheVariants as expr
-use Rattle.smv_core.specs.declared.tree.Signed.{Signed, roll-Signed}
-use Rattle.smv_core.specs.declared.tree.Member.{Member}
-use Rattle.smv_core.specs.declared.tree.Member.TheVariants as member
+use Rattle.smv_core.specs.declared.tree.Signed.{Signed}
 use Rattle.smv_core.specs.declared.tree.Part.{Part}
-use Rattle.smv_core.specs.declared.tree.Part.TheVariants as part
-use Rattle.smv_core.specs.declared.tree.Path.{Path, out-Path}
+use Rattle.smv_core.specs.declared.tree.Path.{out-Path}
 use Rattle.smv_core.specs.declared.tree.TypeExpr.{TypeExpr}
 use Rattle.smv_core.specs.declared.tree.TypeExpr.TheVariants as type
-use Rattle.smv_core.specs.declared.tree.Field.{Field, roll-Field}
 use Rattle.smv_core.specs.declared.tree.Stmt.{Stmt}
-use Rattle.smv_core.specs.declared.tree.Stmt.TheVariants as stmt
-use Rattle.smv_core.specs.declared.tree.Arm.{Arm, roll-Arm}
+use Rattle.smv_core.specs.declared.tree.Arm.{Arm}
 use Rattle.smv_core.specs.declared.tree.Kind.TheVariants as kind
 use Rattle.smv_core.specs.declared.tree.Item.{Item, Declare, Instance, Layer, Claim, Split, Using, Act}
 use Rattle.smv_core.specs.declared.tree.Item as item
 use Rattle.smv_core.specs.declared.tree.Role.{Role}
 use Rattle.smv_core.specs.declared.tree.Role.TheVariants as role
-use Rattle.smv_core.specs.declared.tree.Top.{Top}
 use Rattle.smv_core.specs.declared.tree.Text.{Text}
 use Rattle.smv_core.specs.Signs.{comma, ampersand, bar, arrow}
 use Rattle.smv_core.specs.Signs as w
-use Rattle.smv_core.specs.Notation.{Tokens, Rule, found, same_kind, with_place, one_of, nothing, ◌>>=◌, ◌>>◌, ◌<|>◌, many, optional, token, separated, separated_or_none}
+use Rattle.smv_core.specs.Notation.{Tokens, Rule, found, same_kind, with_place, ◌>>◌, many, optional, token, separated, separated_or_none}
 use Rattle.smv_core.specs.Grammar as g
 use Rattle.smv_core.specs.Grammar.{Rules, no_rules, rules, below, chain, sum_of, named}
 use Rattle.smv_core.specs.Spelling.{Spells}

@@ -1,5 +1,5 @@
 -- What the grammar gives of each tree: what stands as an index type, which sets stand right of `in`, and where names are declared.
-use Rattle.std.specs.Prelude.{List, [], ◌∷◌}
+use Rattle.std.specs.Prelude.{List}
 use Rattle.std.specs.List.{AllByRecursion}
 use Rattle.smv_core.specs.Walk.{indexes_of}
 use Rattle.smv_core.specs.declared.tree.Path.{out-Path}
