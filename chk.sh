@@ -1,1 +1,0 @@
-cd /work/h/l/crates/smv_right; date +%T; (time timeout ${1:-280} rt check --allow-holes) 2>&1 | grep -vE "^(library|statements|logic|rt:|note:|help:|    use|  names|  \| c)" | cut -c1-900 | head -${2:-60}
