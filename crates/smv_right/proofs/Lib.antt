@@ -1,0 +1,11 @@
+pub mod Faultless
+pub mod LeadTypes
+pub mod Expressions
+pub mod Statements
+pub mod OwnNames
+pub mod OwnFamilies
+pub mod Modules
+pub mod Entries
+pub mod RightText
+pub mod WrittenForms
+pub mod WrittenRules

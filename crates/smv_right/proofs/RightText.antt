@@ -1,0 +1,47 @@
+-- A text without faults of names, size and kinds is right.
+use Rattle.std.proofs.Common.{◌≡◌, ℕ, zero, suc, ◌<◌, List, [], ◌∷◌, ◌++◌, map, flat_map, length, get_or, All, None, refl, arith}
+use Rattle.std.specs.List.{AllByRecursion}
+use Rattle.smv_core.specs.Types.{types_from}
+use Rattle.smv_core.specs.declared.tree.Text.{Text}
+use Rattle.smv_inst.specs.Scopes.{Piece, constants, pieces}
+use Rattle.smv_inst.specs.NameFaults.{repeated, undeclared_in, doubled_in, without_main, recursive_in, miscounted_in}
+use Rattle.smv_inst.specs.FirstFault.{first_of, faults_at, faults_of_names, fault_of_size, first_fault}
+use Rattle.smv_types.specs.References.{modules_from}
+use Rattle.smv_types.specs.KindFaults.{faults_of_kinds, first_fault_of_kinds}
+use Rattle.smv_flat.specs.Entries.{entries}
+use Rattle.smv_flat.specs.WholeText.{EntryIsRight, TextIsRight}
+use Rattle.smv_right.specs.Written.{TextIsWritten}
+use Rattle.smv_right.specs.WellKinded.{IsWellKinded}
+use Rattle.smv_right.proofs.WrittenRules.{spelled-written}
+use Rattle.smv_right.proofs.Faultless.{empty-both, empty-each, no_fault-in, none-first, no_places}
+use Rattle.smv_right.proofs.Modules.{tops-modules}
+use Rattle.smv_right.proofs.Entries.{text-right}
+
+all-each : {X : Type 0} (P : X → Type 0) (xs : List X) → AllByRecursion P xs → All P xs
+all-each P [] h = λ k d lt. absurd (omega (arith, lt))
+all-each {X} P (x ∷ xs) h = λ k d lt. by_place k lt d (all-each P xs h.1)
+  where
+    by_place : (k : ℕ) → k < length (x ∷ xs) → (d : X) → All P xs → P (get_or (x ∷ xs) k d)
+    by_place zero lt d rest = h.0
+    by_place (suc k) lt d rest = rest k d (omega (arith, lt))
+
+-- the faults of names behind fault 7
+abbrev others : List Piece → List (ℕ × List ℕ)
+others tops =
+    (8, repeated [] (map (λ piece. piece.word) tops) ++ flat_map (doubled_in tops) tops)
+    ∷ (9, without_main tops)
+    ∷ (10, flat_map (recursive_in tops) tops)
+    ∷ (11, flat_map (miscounted_in tops) tops) ∷ []
+
+pub right-text : (text : Text) → TextIsWritten text → first_fault text ≡ None → first_fault_of_kinds text ≡ None → TextIsRight text
+right-text text written names kinds =
+    let tops : List Piece = pieces text in
+    let none : faults_of_names text ≡ [] = no_fault-in (faults_of_names text) (none-first (first_of (faults_of_names text)) (fault_of_size text) names) in
+    let places : List ℕ = flat_map (undeclared_in tops) tops in
+    let declared : AllByRecursion (λ piece. undeclared_in tops piece ≡ []) tops = empty-each (undeclared_in tops) tops (no_places 7 places (empty-both (faults_at (7, places)) (flat_map faults_at (others tops)) none).0) in
+    all-each (EntryIsRight text) (entries text)
+    (text-right text (tops-modules (types_from [] text.tops) (modules_from [] text.tops) (constants tops) tops [] [] tt [] text.tops refl written (no_fault-in (faults_of_kinds text) kinds) declared))
+
+-- the same of a text that is spelled
+pub well_kinded-right : (text : Text) → IsWellKinded text → TextIsRight text
+well_kinded-right text h = right-text text (spelled-written h.0 h.1 text h.2) h.3 h.4

@@ -1,0 +1,4 @@
+//! A text without a fault of names, size and kinds has right expressions, so its flattened text means what it means.
+#![tactic(auto)]
+
+pub mod laws;

@@ -1,0 +1,22 @@
+-- By computing the tree and its faults; the reader answers right, so tokens spell the tree.
+use Rattle.std.proofs.Common.{[], refl}
+use Rattle.smv_core.specs.Notation.{Tokens}
+use Rattle.smv_lex.specs.Lexing.{Lexed, lexed}
+use Rattle.std.specs.Prelude.{Ok, Err}
+use Rattle.smv_rules.proofs.Whole.{answered}
+use Rattle.smv_worked.specs.Tomasulo.{machine}
+use Rattle.smv_worked_flat.specs.Right.{small}
+use Rattle.smv_worked_flat.proofs.Computing.{computing}
+use Rattle.smv_worked_right.specs.Meets.{MeetsConditions}
+
+abbrev tokens_in : Lexed → Tokens
+tokens_in (Ok tokens) = tokens
+tokens_in (Err fault) = []
+
+pub small-meets : MeetsConditions small
+unfolding computing
+small-meets = (64, tokens_in (lexed small), answered 64 0 (tokens_in (lexed small)), refl, refl)
+
+pub machine-meets : MeetsConditions machine
+unfolding computing
+machine-meets = (64, tokens_in (lexed machine), answered 64 0 (tokens_in (lexed machine)), refl, refl)
