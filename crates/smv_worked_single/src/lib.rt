@@ -1,0 +1,2 @@
+//! Worked texts.
+#![tactic(auto)]
