@@ -1,1 +1,2 @@
-
+pub mod FlatParts
+pub mod SameResults

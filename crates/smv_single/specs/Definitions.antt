@@ -18,7 +18,7 @@ use Rattle.smv_core.specs.declared.flat.Raw.{Raw}
 use Rattle.smv_core.specs.declared.flat.Design.{Design}
 use Rattle.smv_flat.specs.Flattening.{different}
 use Rattle.smv_flat.specs.WholeText.{is_one_layer, claims_of}
-use Rattle.smv_single.specs.Standing.{count, Statement, statements_of, set_of, Standing, assigned_by}
+use Rattle.smv_single.specs.Standing.{count, Statement, statements_of, Standing, assigned_by}
 
 -- ---- parts of a definition
 
@@ -60,11 +60,15 @@ module _ (kind : Kind) (family : ℕ) where
     flats_of k end_of-FlatStmt = []
     flats_of k (more_of-FlatStmt part rest) = flat_of k part ∷ flats_of (k + count part) rest
 
-  -- a definition set, in flat order
+  -- some statements, in flat order
   abbrev pub part_of : List Statement → Flat
-  part_of set = first_part (map (λ s. flat_of s.place s.act) set)
+  part_of statements = first_part (map (λ s. flat_of s.place s.act) statements)
 
 -- ---- definitions
+
+-- a definition set: all statements of the layer of this number, or all those outside layers
+abbrev pub set_of : Raw → Option ℕ → List Statement
+set_of raw layer = filter (λ s. is_one_layer layer s.layer) (statements_of raw)
 
 -- an assignment by its layer and its family, with its place in flat order and its offset
 pub record Head : Type 0 where
@@ -73,12 +77,12 @@ pub record Head : Type 0 where
   pub place : ℕ
   pub at : ℕ
 
--- that of this place in a statement of a layer
-abbrev pub head : Option ℕ → Standing → ℕ → Head
-head layer a place = record { layer = layer; family = a.family; place = place; at = a.at }
+-- an assignment with its place
+abbrev pub head : Standing → ℕ → Head
+head a place = record { layer = a.layer; family = a.family; place = place; at = a.at }
 
 abbrev pub heads_of : Statement → List Head
-heads_of s = map (λ (a, k). head s.layer a k) (zip (assigned_by s) (numbers_from s.place (count s.act)))
+heads_of s = map (λ (a, k). head a k) (zip (assigned_by s) (numbers_from s.place (count s.act)))
 
 abbrev pub same_definition : Head → Head → Bool
 same_definition a b = is_one_layer a.layer b.layer && nat_eq a.family b.family

@@ -1,15 +1,12 @@
--- The statements of a flattened text by definition sets, and the assignments in them as the rules of single assignment see them.
-use Rattle.std.specs.Prelude.{ℕ, ◌+◌, List, [], ◌∷◌, ◌++◌, map, filter, length, Option, Some, None}
-use Rattle.smv_core.specs.Values.{numbers_from}
-use Rattle.smv_core.specs.Assignments.{Index}
-use Rattle.smv_core.specs.Flat.{flat_index}
+-- The statements of a flattened text in flat order, and the assignments in them as the rules of single assignment see them.
+use Rattle.std.specs.Prelude.{ℕ, ◌+◌, List, [], ◌∷◌, ◌++◌, length, Option}
 use Rattle.smv_core.specs.declared.tree.Kind.{Kind}
 use Rattle.smv_core.specs.declared.flat.Raw.{Raw}
 use Rattle.smv_core.specs.declared.flat.FlatItem.{FlatItem}
 use Rattle.smv_core.specs.declared.flat.FlatItem.TheVariants as item
+use Rattle.smv_core.specs.declared.flat.FlatExpr.{FlatExpr}
 use Rattle.smv_core.specs.declared.flat.FlatStmt.{FlatStmt, Assign, If', Block', Default', Forall', Row_of-FlatStmt, end_of-FlatStmt, more_of-FlatStmt}
 use Rattle.smv_flat.specs.Flattening.{flat_assignments}
-use Rattle.smv_flat.specs.WholeText.{is_one_layer}
 
 -- ---- statements
 
@@ -33,37 +30,31 @@ statements_from k (_ ∷ items) = statements_from k items
 abbrev pub statements_of : Raw → List Statement
 statements_of raw = statements_from 0 raw.items
 
--- a definition set: all statements of one layer, or all those outside layers
-abbrev pub set_of : Raw → Option ℕ → List Statement
-set_of raw layer = filter (λ s. is_one_layer layer s.layer) (statements_of raw)
-
--- that outside layers, and that of each layer
-abbrev pub sets_of : Raw → List (List Statement)
-sets_of raw = map (set_of raw) (None ∷ map Some (numbers_from 0 (length raw.layers)))
-
 -- ---- assignments
 
--- an assignment by its kind, its family, the indexes of its left side, the `forall` variables around it by their numbers, and its offset
+-- an assignment by its layer, its kind, its family, its left side's indexes, the `forall` variables around it by their numbers, and its offset
 pub record Standing : Type 0 where
+  pub layer : Option ℕ
   pub kind : Kind
   pub family : ℕ
-  pub indexes : List Index
+  pub left : List FlatExpr
   pub around : List ℕ
   pub at : ℕ
 
--- the assignments of a statement in flat order, inside these `forall` variables
-abbrev mutual
-  pub standing : List ℕ → FlatStmt → List Standing
-  standing around (Assign kind family left value at) = record { kind = kind; family = family; indexes = map flat_index left; around = around; at = at } ∷ []
-  standing around (If' cond l (more_of-FlatStmt left end_of-FlatStmt) r (more_of-FlatStmt right end_of-FlatStmt)) = standing around left ++ standing around right
-  standing around (Block' shape parts) = standing_in around parts
-  standing around (Default' l (more_of-FlatStmt left end_of-FlatStmt) r (more_of-FlatStmt right end_of-FlatStmt)) = standing around left ++ standing around right
-  standing around (Forall' var over shape (more_of-FlatStmt body end_of-FlatStmt)) = standing (var ∷ around) body
+module _ (layer : Option ℕ) where
+  abbrev mutual
+    -- the assignments of a statement of a layer in flat order, inside these `forall` variables
+    pub standing : List ℕ → FlatStmt → List Standing
+    standing around (Assign kind family left value at) = record { layer = layer; kind = kind; family = family; left = left; around = around; at = at } ∷ []
+    standing around (If' cond l (more_of-FlatStmt left end_of-FlatStmt) r (more_of-FlatStmt right end_of-FlatStmt)) = standing around left ++ standing around right
+    standing around (Block' shape parts) = standing_in around parts
+    standing around (Default' l (more_of-FlatStmt left end_of-FlatStmt) r (more_of-FlatStmt right end_of-FlatStmt)) = standing around left ++ standing around right
+    standing around (Forall' var over shape (more_of-FlatStmt body end_of-FlatStmt)) = standing (var ∷ around) body
 
-  pub standing_in : {m : _} → List ℕ → Row_of-FlatStmt m → List Standing
-  standing_in around end_of-FlatStmt = []
-  standing_in around (more_of-FlatStmt part rest) = standing around part ++ standing_in around rest
+    pub standing_in : {m : _} → List ℕ → Row_of-FlatStmt m → List Standing
+    standing_in around end_of-FlatStmt = []
+    standing_in around (more_of-FlatStmt part rest) = standing around part ++ standing_in around rest
 
--- the assignments of a statement that no binder is around
+-- the assignments of a statement of the text
 abbrev pub assigned_by : Statement → List Standing
-assigned_by s = standing [] s.act
+assigned_by s = standing s.layer [] s.act
