@@ -17,7 +17,8 @@ use Rattle.smv_core.specs.declared.flat.Raw.{Raw}
 use Rattle.smv_flat.specs.WholeText.{is_one_layer}
 use Rattle.smv_abs.specs.Sets.{Has, first, later}
 use Rattle.smv_abs.specs.Bound.{HasVariable}
-use Rattle.smv_abs.specs.FlatConflicts.{AreExcused, EachTwo, HasNoConflict, HaveNoConflict}
+use Rattle.smv_abs.specs.FlatConflicts.{AreExcused, EachTwo, HasNoConflict, HaveNoConflict, IsConflictFree}
+use Rattle.smv_abs.proofs.OneGives.{is_single}
 use Rattle.smv_abs.proofs.Tests.{or_cases, left_of, right_of, true_or_false, same_tests}
 use Rattle.smv_abs.proofs.Members.{Has-left, Has-right, Has-cases, all-each}
 use Rattle.smv_abs.proofs.Same.{nat_eq-is, nat_eq-itself, same-is, same-itself}
@@ -25,7 +26,7 @@ use Rattle.smv_single.specs.Standing.{count, Statement, statements_of, Standing,
 use Rattle.smv_single.specs.SingleFaults.{beside, differ, share, meet, cross, later_places, conflicts, conflicts_in, conflicting, is_variable, has_variables, first_fault_of_single}
 use Rattle.smv_single.specs.Definitions.{is_nothing, joined, first_part, branches, each_value, flat_of, flats_of, Head, def_of}
 use Rattle.smv_single.proofs.FlatParts.{boxes, rows_of, indexes-row, indexes-kept}
-use Rattle.smv_conflict_free.specs.Placed.{index_count, IsPlaced, ArePlaced, RawIsPlaced, IsFree}
+use Rattle.smv_conflict_free.specs.Placed.{index_count, IsPlaced, ArePlaced, RawIsPlaced, IsFree, OneValueGives}
 use Rattle.smv_conflict_free.proofs.Faultless.{nil-left, nil-right, no-clash, no-conflict, no-lack}
 use Rattle.smv_conflict_free.proofs.Comes.{Comes, comes, comes_in, comes_of, layer-is, part, chosen}
 use mathlib.Core.Former.{Count}
@@ -300,3 +301,6 @@ module _ (raw : Raw) (placed : RawIsPlaced raw) (faultless : first_fault_of_sing
 
   pub def_free : IsFree raw (def_of raw head)
   def_free = record { init = part_free Init; next = part_free Next; comb = part_free Comb }
+
+  pub def_single : OneValueGives raw (def_of raw head)
+  def_single n indexes every e = is_single n (def_of raw head) indexes every (subst (λ c. IsConflictFree c (def_of raw head)) (sym e) def_free)
