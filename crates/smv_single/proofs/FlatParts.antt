@@ -87,7 +87,7 @@ indexes-each_value var over body = by_test (is_nothing body) refl
 
 -- ---- results
 
-if_walk-none : (every : List Value) (u : Truth) → if_walk every u None None ≡ None
+pub if_walk-none : (every : List Value) (u : Truth) → if_walk every u None None ≡ None
 if_walk-none every None = refl
 if_walk-none every (Some true) = refl
 if_walk-none every (Some false) = refl
@@ -95,7 +95,7 @@ if_walk-none every (Some false) = refl
 if_walk-same : (every : List Value) (u : Truth) (v w x y : Walk) → v ≡ x → w ≡ y → if_walk every u v w ≡ if_walk every u x y
 if_walk-same every u v w x y h k = rw (h, k) refl
 
-first-none : {X : Type 0} (f : X → Walk) → ((y : X) → f y ≡ None) → (ys : List X) → first (map f ys) ≡ None
+pub first-none : {X : Type 0} (f : X → Walk) → ((y : X) → f y ≡ None) → (ys : List X) → first (map f ys) ≡ None
 first-none f h [] = refl
 first-none f h (y ∷ ys) = rw (h y) (first-none f h ys)
 

@@ -1,2 +1,3 @@
 pub mod FlatParts
 pub mod SameResults
+pub mod Undefined

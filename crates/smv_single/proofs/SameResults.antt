@@ -60,7 +60,7 @@ module _ (n : Numbered) (s : FlatState) (x : FlatElement) (every : List Value) (
 
 -- ---- which elements are concerned
 
-or-same : (a b c d : Bool) → a ≡ c → b ≡ d → (a || b) ≡ (c || d)
+pub or-same : (a b c d : Bool) → a ≡ c → b ≡ d → (a || b) ≡ (c || d)
 or-same a b c d h k = rw (h, k) refl
 
 or-false : (b : Bool) → (b || false) ≡ b
@@ -73,7 +73,7 @@ or-turned true false = refl
 or-turned false true = refl
 or-turned false false = refl
 
-any-append : {X : Type 0} (p : X → Bool) (xs ys : List X) → list_any p (xs ++ ys) ≡ (list_any p xs || list_any p ys)
+pub any-append : {X : Type 0} (p : X → Bool) (xs ys : List X) → list_any p (xs ++ ys) ≡ (list_any p xs || list_any p ys)
 any-append p [] ys = refl
 any-append p (x ∷ xs) ys = by_test (p x) (any-append p xs ys)
   where
@@ -123,7 +123,7 @@ module _ (x : FlatElement) (kind : Kind) where
 -- ---- definition sets
 
 -- those of the statements of a set, one for one
-set-acts : (layer : Option ℕ) (k : ℕ) (items : List FlatItem) → map (λ (s : Statement). s.act) (filter (λ s. is_one_layer layer s.layer) (statements_from k items)) ≡ acts_of layer items
+pub set-acts : (layer : Option ℕ) (k : ℕ) (items : List FlatItem) → map (λ (s : Statement). s.act) (filter (λ s. is_one_layer layer s.layer) (statements_from k items)) ≡ acts_of layer items
 set-acts layer k [] = refl
 set-acts layer k (item.Act other act ∷ items) = by_test (is_one_layer layer other) (set-acts layer (k + count act) items)
   where
