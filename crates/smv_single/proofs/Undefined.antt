@@ -91,7 +91,7 @@ module _ (layer : Option ℕ) where
 
 numbers-long : (k n : ℕ) → length (numbers_from k n) ≡ n
 numbers-long k zero = refl
-numbers-long k (suc n) = ap suc (numbers-long (suc k) n)
+numbers-long k (suc n) = ap suc (numbers-long (k + 1) n)
 
 module _ (number : Option ℕ) (family : ℕ) where
   -- an assignment, a definition or its first assignment is of this layer and family
@@ -116,3 +116,161 @@ module _ (number : Option ℕ) (family : ℕ) where
       any-append of_head (heads_of s) (flat_map heads_of set)
       ∙ or-same (list_any of_head (heads_of s)) (list_any of_head (flat_map heads_of set)) (list_any of_standing (assigned_by s)) (list_any of_standing (flat_map assigned_by set)) (heads-any s) (all-heads-any set)
       ∙ sym (any-append of_standing (assigned_by s) (flat_map assigned_by set))
+
+-- ---- statements without an assignment of the family
+
+module _ (n : Numbered) (s : FlatState) (x : FlatElement) (every : List Value) (kind : Kind) (number layer : Option ℕ) (here : is_one_layer number layer ≡ true) where
+  abbrev lacks : List Standing → Type 0
+  lacks all = list_any (of_standing number x.family) all ≡ false
+
+  left-lacks : (as' bs : List Standing) → lacks (as' ++ bs) → lacks as'
+  left-lacks as' bs e = or-left (list_any (of_standing number x.family) as') (list_any (of_standing number x.family) bs) (sym (any-append (of_standing number x.family) as' bs) ∙ e)
+
+  right-lacks : (as' bs : List Standing) → lacks (as' ++ bs) → lacks bs
+  right-lacks as' bs e = or-right (list_any (of_standing number x.family) as') (list_any (of_standing number x.family) bs) (sym (any-append (of_standing number x.family) as' bs) ∙ e)
+
+  other-family : (a b : Bool) → a ≡ true → ((a && b) || false) ≡ false → b ≡ false
+  other-family true true h e = absurd (cc (e))
+  other-family true false h e = refl
+  other-family false b h e = absurd (cc (h))
+
+  no-walk : (a b : Bool) (w : Walk) → b ≡ false → cond (a && b) w None ≡ None
+  no-walk true b w h = rw h refl
+  no-walk false b w h = refl
+
+  no-concern : (a b c : Bool) → b ≡ false → ((a && (b && c)) || false) ≡ false
+  no-concern true b c h = rw h refl
+  no-concern false b c h = refl
+
+  both-none : (u : Option Bool) (v w : Walk) → v ≡ None → w ≡ None → if_walk every u v w ≡ None
+  both-none u v w h k = rw (h, k) (if_walk-none every u)
+
+  first-of-nones : (v w : Walk) → v ≡ None → w ≡ None → first_of v w ≡ None
+  first-of-nones v w h k = rw (h, k) refl
+
+  mutual
+    walk-none : (around : List ℕ) (act : FlatStmt) → lacks (standing layer around act) → (b : FlatBindings) → flat_walk n s x every kind act b ≡ None
+    walk-none around (Assign which family left value at) e b = no-walk (same_kind which kind) (nat_eq family x.family) _ (other-family (is_one_layer number layer) (nat_eq family x.family) here e)
+    walk-none around (If' test l (more_of-FlatStmt left end_of-FlatStmt) r (more_of-FlatStmt right end_of-FlatStmt)) e b =
+        both-none (truth (flat_outcome n s test b)) (flat_walk n s x every kind left b) (flat_walk n s x every kind right b)
+        (walk-none around left (left-lacks (standing layer around left) (standing layer around right) e) b) (walk-none around right (right-lacks (standing layer around left) (standing layer around right) e) b)
+    walk-none around (Block' shape parts) e b = walks-none around parts e b
+    walk-none around (Default' l (more_of-FlatStmt left end_of-FlatStmt) r (more_of-FlatStmt right end_of-FlatStmt)) e b =
+        first-of-nones (flat_walk n s x every kind right b) (flat_walk n s x every kind left b)
+        (walk-none around right (right-lacks (standing layer around left) (standing layer around right) e) b) (walk-none around left (left-lacks (standing layer around left) (standing layer around right) e) b)
+    walk-none around (Forall' var over shape (more_of-FlatStmt body end_of-FlatStmt)) e b =
+        first-none (λ v. flat_walk n s x every kind body (bind b var v)) (λ v. walk-none (var ∷ around) body e (bind b var v)) (values_in n over)
+
+    walks-none : {m : _} (around : List ℕ) (parts : Row_of-FlatStmt m) → lacks (standing_in layer around parts) → (b : FlatBindings) → flat_walks n s x every kind parts b ≡ None
+    walks-none around end_of-FlatStmt e b = refl
+    walks-none around (more_of-FlatStmt part rest) e b =
+        first-of-nones (flat_walk n s x every kind part b) (flat_walks n s x every kind rest b)
+        (walk-none around part (left-lacks (standing layer around part) (standing_in layer around rest) e) b) (walks-none around rest (right-lacks (standing layer around part) (standing_in layer around rest) e) b)
+
+  two-none : (ps qs : List _) → list_any (flat_concerns kind x) ps ≡ false → list_any (flat_concerns kind x) qs ≡ false → list_any (flat_concerns kind x) (ps ++ qs) ≡ false
+  two-none ps qs h k = any-append (flat_concerns kind x) ps qs ∙ or-same (list_any (flat_concerns kind x) ps) (list_any (flat_concerns kind x) qs) false false h k
+
+  mutual
+    concerns-none : (around : List ℕ) (act : FlatStmt) → lacks (standing layer around act) → list_any (flat_concerns kind x) (flat_assignments act) ≡ false
+    concerns-none around (Assign which family left value at) e = no-concern (same_kind which kind) (nat_eq family x.family) _ (other-family (is_one_layer number layer) (nat_eq family x.family) here e)
+    concerns-none around (If' test l (more_of-FlatStmt left end_of-FlatStmt) r (more_of-FlatStmt right end_of-FlatStmt)) e =
+        two-none (flat_assignments left) (flat_assignments right)
+        (concerns-none around left (left-lacks (standing layer around left) (standing layer around right) e)) (concerns-none around right (right-lacks (standing layer around left) (standing layer around right) e))
+    concerns-none around (Block' shape parts) e = all-none around parts e
+    concerns-none around (Default' l (more_of-FlatStmt left end_of-FlatStmt) r (more_of-FlatStmt right end_of-FlatStmt)) e =
+        two-none (flat_assignments left) (flat_assignments right)
+        (concerns-none around left (left-lacks (standing layer around left) (standing layer around right) e)) (concerns-none around right (right-lacks (standing layer around left) (standing layer around right) e))
+    concerns-none around (Forall' var over shape (more_of-FlatStmt body end_of-FlatStmt)) e = concerns-none (var ∷ around) body e
+
+    all-none : {m : _} (around : List ℕ) (parts : Row_of-FlatStmt m) → lacks (standing_in layer around parts) → list_any (flat_concerns kind x) (flat_assignments_in parts) ≡ false
+    all-none around end_of-FlatStmt e = refl
+    all-none around (more_of-FlatStmt part rest) e =
+        two-none (flat_assignments part) (flat_assignments_in rest) (concerns-none around part (left-lacks (standing layer around part) (standing_in layer around rest) e))
+        (all-none around rest (right-lacks (standing layer around part) (standing_in layer around rest) e))
+
+-- ---- definition sets
+
+module _ (raw : Raw) (sizes : Sizes) (layer : Option Name) (x : FlatElement) (every : List Value) where
+  abbrev number : Option ℕ
+  number = option_map (layer_number raw.layers) layer
+
+  abbrev acts : List Statement → List FlatStmt
+  acts set = map (λ (s : Statement). s.act) (filter (λ s. is_one_layer number s.layer) set)
+
+  abbrev lacking : List Statement → Type 0
+  lacking set = list_any (of_standing number x.family) (flat_map assigned_by set) ≡ false
+
+  lacks-here : (s : Statement) (set : List Statement) → lacking (s ∷ set) → list_any (of_standing number x.family) (assigned_by s) ≡ false
+  lacks-here s set e =
+      or-left (list_any (of_standing number x.family) (assigned_by s)) (list_any (of_standing number x.family) (flat_map assigned_by set)) (sym (any-append (of_standing number x.family) (assigned_by s) (flat_map assigned_by set)) ∙ e)
+
+  lacks-behind : (s : Statement) (set : List Statement) → lacking (s ∷ set) → lacking set
+  lacks-behind s set e =
+      or-right (list_any (of_standing number x.family) (assigned_by s)) (list_any (of_standing number x.family) (flat_map assigned_by set)) (sym (any-append (of_standing number x.family) (assigned_by s) (flat_map assigned_by set)) ∙ e)
+
+  module _ (kind : Kind) where
+    set-walk : (t : FlatState) (set : List Statement) → lacking set → first (map (λ act. flat_walk (numbers_of raw sizes) t x every kind act []) (acts set)) ≡ None
+    set-walk t [] e = refl
+    set-walk t (s ∷ set) e = by_test (is_one_layer number s.layer) refl (set-walk t set (lacks-behind s set e))
+      where
+        by_test : (b : Bool) → is_one_layer number s.layer ≡ b → first (map (λ act. flat_walk (numbers_of raw sizes) t x every kind act []) (acts set)) ≡ None →
+            first (map (λ act. flat_walk (numbers_of raw sizes) t x every kind act []) (map (λ (s : Statement). s.act) (cond b (s ∷ filter (λ s. is_one_layer number s.layer) set) (filter (λ s. is_one_layer number s.layer) set)))) ≡ None
+        by_test true h rest =
+            ap (λ w. first_of w (first (map (λ act. flat_walk (numbers_of raw sizes) t x every kind act []) (acts set)))) (walk-none (numbers_of raw sizes) t x every kind number s.layer h [] s.act (lacks-here s set e) []) ∙ rest
+        by_test false h rest = rest
+
+    set-concern : (t : FlatState) (set : List Statement) → lacking set → list_any (λ act. list_any (flat_concerns kind x) (flat_assignments act)) (acts set) ≡ false
+    set-concern t [] e = refl
+    set-concern t (s ∷ set) e = by_test (is_one_layer number s.layer) refl (set-concern t set (lacks-behind s set e))
+      where
+        by_test : (b : Bool) → is_one_layer number s.layer ≡ b → list_any (λ act. list_any (flat_concerns kind x) (flat_assignments act)) (acts set) ≡ false →
+            list_any (λ act. list_any (flat_concerns kind x) (flat_assignments act)) (map (λ (s : Statement). s.act) (cond b (s ∷ filter (λ s. is_one_layer number s.layer) set) (filter (λ s. is_one_layer number s.layer) set))) ≡ false
+        by_test true h rest =
+            or-same (list_any (flat_concerns kind x) (flat_assignments s.act)) (list_any (λ act. list_any (flat_concerns kind x) (flat_assignments act)) (acts set)) false false
+            (concerns-none (numbers_of raw sizes) t x every kind number s.layer h [] s.act (lacks-here s set e)) rest
+        by_test false h rest = rest
+
+    raw-none : (t : FlatState) → lacking (statements_of raw) → raw_walk raw sizes t layer x every kind ≡ None
+    raw-none t e = sym (ap (λ l. first (map (λ act. flat_walk (numbers_of raw sizes) t x every kind act []) l)) (set-acts number 0 raw.items)) ∙ set-walk t (statements_of raw) e
+
+    raw-unconcerned : (t : FlatState) → lacking (statements_of raw) → raw_is_concerned raw sizes layer x every kind ≡ false
+    raw-unconcerned t e = sym (ap (list_any (λ act. list_any (flat_concerns kind x) (flat_assignments act))) (set-acts number 0 raw.items)) ∙ set-concern t (statements_of raw) e
+
+  stepped-free : (before : Option FlatState) (now : FlatState) → lacking (statements_of raw) → raw_stepped raw sizes layer x every before now ≡ every
+  stepped-free None now e = ap (λ w. unwrap_or w every) (raw-none Init now e)
+  stepped-free (Some old) now e =
+      ap (λ w. unwrap_or w (raw_kept raw sizes layer x every old)) (raw-none Next old e) ∙ ap (λ b. cond b (old x.family x.indexes ∷ []) every) (raw-unconcerned Next now e)
+
+  free : (before : Option FlatState) (now : FlatState) → lacking (statements_of raw) → raw_allowed raw sizes layer x every before now ≡ every
+  free before now e =
+      ap (λ b. cond b (unwrap_or (raw_walk raw sizes now layer x every Comb) every) (raw_stepped raw sizes layer x every before now)) (raw-unconcerned Comb now e) ∙ stepped-free before now e
+
+  heads-alike : (a b : Head) → same_definition a b ≡ true → of_head number x.family a ≡ of_head number x.family b
+  heads-alike a b e = by_parts (is_one_layer a.layer b.layer) (nat_eq a.family b.family) refl refl e
+    where
+      layer-is : (k l : Option ℕ) → is_one_layer k l ≡ true → k ≡ l
+      layer-is None None h = refl
+      layer-is (Some k) (Some l) h = ap Some (number-is k l h)
+        where
+          number-is : (k l : ℕ) → nat_eq k l ≡ true → k ≡ l
+          number-is k l h = grind arith
+      layer-is None (Some l) h = absurd (cc (h))
+      layer-is (Some k) None h = absurd (cc (h))
+
+      family-is : (k l : ℕ) → nat_eq k l ≡ true → k ≡ l
+      family-is k l h = grind arith
+
+      by_parts : (p q : Bool) → is_one_layer a.layer b.layer ≡ p → nat_eq a.family b.family ≡ q → (p && q) ≡ true → of_head number x.family a ≡ of_head number x.family b
+      by_parts true true h k e = ap (λ l. is_one_layer number l && nat_eq a.family x.family) (layer-is a.layer b.layer h) ∙ ap (λ f. is_one_layer number b.layer && nat_eq f x.family) (family-is a.family b.family k)
+      by_parts true false h k e = absurd (cc (e))
+      by_parts false q h k e = absurd (cc (e))
+
+  defs-any : (heads : List Head) → list_any (is_of_family number x.family) (map (def_of raw) heads) ≡ list_any (of_head number x.family) heads
+  defs-any [] = refl
+  defs-any (h ∷ heads) = ap (λ b. of_head number x.family h || b) (defs-any heads)
+
+  pub free-without : list_any (is_of_family number x.family) (design_of_raw raw).defs ≡ false → (before : Option FlatState) (now : FlatState) → raw_allowed raw sizes layer x every before now ≡ every
+  free-without e before now =
+      free before now
+      (sym (all-heads-any number x.family (statements_of raw))
+      ∙ none-before same_definition (of_head number x.family) heads-alike (flat_map heads_of (statements_of raw)) (sym (defs-any (first_heads raw)) ∙ e))

@@ -6,7 +6,7 @@ ghost use Rattle.smv_inst.specs.FirstFault.{first_fault};
 ghost use Rattle.smv_flat.specs.Flattening.{flatten};
 ghost use Rattle.smv_flat.specs.WholeText.{TextIsRight};
 ghost use Rattle.smv_single.specs.Definitions.{design_of_raw};
-ghost use Rattle.smv_single.specs.Laws.{AllowsAsTheText, AllowsTheSame};
+ghost use Rattle.smv_single.specs.Laws.{AllowsAsTheText, AllowsTheSame, IsFreeWithout};
 
 /// Each definition of a design allows each element of its family, at all sizes and in all states, the values that the flattened text allows it in the definition's
 /// layer, or outside layers.
@@ -17,4 +17,9 @@ pub fn definitions_allow_the_same()
 /// So each definition of the design of a text without faults of names, whose statements and claims are right in this sense, allows what the text allows.
 pub fn definitions_allow_as_the_text()
     ensures { (text : Text) → first_fault text ≡ None → TextIsRight text → All (AllowsAsTheText text) (design_of_raw (flatten text)).defs }
+{}
+
+/// And an element whose family has no definition in a layer, or outside layers, is free there.
+pub fn what_has_no_definition_is_free()
+    ensures { (raw : Raw) → IsFreeWithout raw (design_of_raw raw).defs }
 {}
