@@ -1,5 +1,5 @@
 -- In a flattened text each `forall` has the number of those around it.
-use Rattle.std.proofs.Common.{◌≡◌, ℕ, zero, suc, ◌+◌, ◌≤◌, List, [], ◌∷◌, ◌++◌, map, length, Option, Some, None, refl, sym, ap, ◌∙◌, subst, arith}
+use Rattle.std.proofs.Common.{◌≡◌, ℕ, zero, suc, ◌+◌, ◌≤◌, List, [], ◌∷◌, ◌++◌, map, length, Option, Some, None, Bool, true, nat_le, refl, sym, ap, ◌∙◌, subst, arith}
 use Rattle.std.specs.List.{flat_map}
 use Rattle.smv_core.specs.Values.{Name}
 use Rattle.smv_core.specs.Walk.{steps_of}
@@ -20,10 +20,11 @@ use Rattle.smv_flat.specs.Entries.{claim, split, using, Entry, layer, statement,
 use Rattle.smv_flat.specs.Flattening.{flat_assignments, flat_entry, layers_of, scope_in, with_places, flatten}
 use Rattle.smv_flat.proofs.FlatLists.{boxes}
 use Rattle.smv_abs.specs.Sets.{Has, first, later}
-use Rattle.smv_abs.proofs.Members.{Has-left, Has-right, Has-from_map, Has-flat_map}
+use Rattle.smv_abs.proofs.Members.{Has-left, Has-right, Has-from_map, Has-flat_map, all-each}
 use Rattle.smv_single.specs.Standing.{count, Statement, statements_from, statements_of, Standing, standing, standing_in, assigned_by}
 use Rattle.smv_single.specs.SingleFaults.{assigned_in}
-use Rattle.smv_conflict_free.specs.Placed.{index_count, IsPlaced, ArePlaced, RawIsPlaced, LeftSidesAreWhole}
+use Rattle.smv_single.specs.Laws.{index_count, left_sides_are_whole}
+use Rattle.smv_conflict_free.specs.Placed.{IsPlaced, ArePlaced, RawIsPlaced}
 use mathlib.Core.Former.{Count}
 
 abbrev mutual
@@ -156,8 +157,11 @@ module _ (counts : ℕ → ℕ) (layer : Option ℕ) where
     all-placed n around (more_of-FlatStmt p rest) h whole =
         (placed n around p h.0 (λ a q. whole a (Has-left (standing_in layer around rest) q)), all-placed n around rest h.1 (λ a q. whole a (Has-right (standing layer around p) q)))
 
-pub text_placed : (text : Text) → LeftSidesAreWhole (flatten text) → RawIsPlaced (flatten text)
+pub text_placed : (text : Text) → left_sides_are_whole (flatten text) ≡ true → RawIsPlaced (flatten text)
 text_placed text whole s h =
     placed (index_count (flatten text)) s.layer 0 [] s.act
     (statements-numbered 0 (flatten text).items (places-numbered 0 (flat_map (flat_entry text (layers_of (entries text))) (entries text)) (entries-numbered text (layers_of (entries text)) (entries text))) s h)
-    (λ a p. whole a (Has-flat_map assigned_by h p))
+    (λ a p. at_most (length a.left) (index_count (flatten text) a.family) (all-each (λ (a : Standing). nat_le (length a.left) (index_count (flatten text) a.family)) whole (Has-flat_map assigned_by h p)))
+  where
+    at_most : (k n : ℕ) → nat_le k n ≡ true → k ≤ n
+    at_most k n e = grind arith

@@ -26,7 +26,8 @@ use Rattle.smv_single.specs.Standing.{count, Statement, statements_of, Standing,
 use Rattle.smv_single.specs.SingleFaults.{beside, differ, share, meet, cross, later_places, conflicts, conflicts_in, conflicting, is_variable, has_variables, first_fault_of_single}
 use Rattle.smv_single.specs.Definitions.{is_nothing, joined, first_part, branches, each_value, flat_of, flats_of, Head, def_of}
 use Rattle.smv_single.proofs.FlatParts.{boxes, rows_of, indexes-row, indexes-kept}
-use Rattle.smv_conflict_free.specs.Placed.{index_count, IsPlaced, ArePlaced, RawIsPlaced, IsFree, OneValueGives}
+use Rattle.smv_single.specs.Laws.{index_count}
+use Rattle.smv_conflict_free.specs.Placed.{IsPlaced, ArePlaced, RawIsPlaced, IsFree, OneValueGives}
 use Rattle.smv_conflict_free.proofs.Faultless.{nil-left, nil-right, no-clash, no-conflict, no-lack}
 use Rattle.smv_conflict_free.proofs.Comes.{Comes, comes, comes_in, comes_of, layer-is, part, chosen}
 use mathlib.Core.Former.{Count}

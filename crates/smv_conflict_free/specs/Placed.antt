@@ -1,24 +1,15 @@
 -- A flattened text as flattening makes it, and what the law of conflicts says of it.
-use Rattle.std.specs.Prelude.{◌≡◌, ◌≤◌, ℕ, suc, List, length, slice_get, Option, Some, None}
+use Rattle.std.specs.Prelude.{◌≡◌, ◌≤◌, ℕ, suc, List, length}
 use Rattle.smv_core.specs.Values.{Value}
 use Rattle.smv_core.specs.Flat.{Numbered}
-use Rattle.smv_core.specs.declared.flat.Family.{Family}
 use Rattle.smv_core.specs.declared.flat.Raw.{Raw}
 use Rattle.smv_core.specs.declared.flat.Def.{Def}
 use Rattle.smv_core.specs.declared.flat.FlatStmt.{FlatStmt, Assign, If', Block', Default', Forall', Row_of-FlatStmt, end_of-FlatStmt, more_of-FlatStmt}
 use Rattle.smv_abs.specs.Sets.{Has}
 use Rattle.smv_abs.specs.Bound.{IsSingle}
 use Rattle.smv_abs.specs.FlatConflicts.{IsConflictFree}
-use Rattle.smv_single.specs.Standing.{Statement, statements_of, Standing}
-use Rattle.smv_single.specs.SingleFaults.{assigned_in}
-
--- how many indexes a family has
-abbrev pub index_count : Raw → ℕ → ℕ
-index_count raw family = of_family (slice_get raw.families family)
-  where
-    of_family : Option Family → ℕ
-    of_family (Some f) = length f.over
-    of_family None = 0
+use Rattle.smv_single.specs.Standing.{Statement, statements_of}
+use Rattle.smv_single.specs.Laws.{index_count}
 
 module _ (counts : ℕ → ℕ) where
   abbrev mutual
@@ -37,10 +28,6 @@ module _ (counts : ℕ → ℕ) where
 -- so it is for each statement of the text
 abbrev pub RawIsPlaced : Raw → Type 0
 RawIsPlaced raw = (s : Statement) → Has (statements_of raw) s → IsPlaced (index_count raw) 0 s.act
-
--- no left side of the text has more indexes than its family
-abbrev pub LeftSidesAreWhole : Raw → Type 0
-LeftSidesAreWhole raw = (a : Standing) → Has (assigned_in raw) a → length a.left ≤ index_count raw a.family
 
 -- no two assignments of a definition conflict
 abbrev pub IsFree : Raw → Def → Type 0

@@ -1,6 +1,6 @@
 -- What the laws of definitions say.
-use Rattle.std.specs.Prelude.{◌≡◌, ℕ, List, [], Option, Some, option_map, Bool, false, ◌&&◌, nat_eq}
-use Rattle.std.specs.List.{list_any}
+use Rattle.std.specs.Prelude.{◌≡◌, ℕ, List, [], length, slice_get, Option, Some, None, option_map, Bool, false, ◌&&◌, nat_eq, nat_le}
+use Rattle.std.specs.List.{list_any, list_all}
 use Rattle.smv_core.specs.Values.{Name, Sizes, Value}
 use Rattle.smv_core.specs.Types.{Family}
 use Rattle.smv_core.specs.FlatOrder.{design_of}
@@ -9,12 +9,15 @@ use Rattle.smv_core.specs.Walk.{Element}
 use Rattle.smv_core.specs.Allowed.{allowed, every_value}
 use Rattle.smv_core.specs.Flat.{FlatElement, FlatState, flat_allowed}
 use Rattle.smv_core.specs.declared.tree.Text.{Text}
+use Rattle.smv_core.specs.declared.flat.Family.{Family as FlatFamily}
 use Rattle.smv_core.specs.declared.flat.Raw.{Raw}
 use Rattle.smv_core.specs.declared.flat.Def.{Def}
 use Rattle.smv_flat.specs.Agreement.{AreSameStates, flat_element, numbers_in, numbers_of}
 use Rattle.smv_flat.specs.Flattening.{flatten, layer_number, scope_in}
 use Rattle.smv_flat.specs.WholeText.{is_one_layer}
 use Rattle.smv_flat.specs.RawAllowed.{AreSameBefore, raw_allowed}
+use Rattle.smv_single.specs.Standing.{Standing}
+use Rattle.smv_single.specs.SingleFaults.{assigned_in}
 
 -- the definition allows each element of its family, at all sizes and in all states, what the flattened text allows it in the definition's layer or outside layers
 abbrev pub AllowsTheSame : Raw → Def → Type 0
@@ -27,6 +30,18 @@ AllowsAsTheText text def = (sizes : Sizes) (layer : Option Name) → option_map 
     (x : Element) (f : Family) → family_at (design_of text).families x.path ≡ Some f → (flat_element (scope_in text []) x).family ≡ def.family →
     (before : Option State) (flat_before : Option FlatState) → AreSameBefore (design_of text).families before flat_before → (now : State) (flat_now : FlatState) → AreSameStates (design_of text).families now flat_now →
     flat_allowed (numbers_in text sizes) def (flat_element (scope_in text []) x) (every_value (design_of text) sizes x) flat_before flat_now ≡ allowed (design_of text) sizes layer x before now
+
+-- how many indexes a family has
+abbrev pub index_count : Raw → ℕ → ℕ
+index_count raw family = of_family (slice_get raw.families family)
+  where
+    of_family : Option FlatFamily → ℕ
+    of_family (Some f) = length f.over
+    of_family None = 0
+
+-- no left side of the text has more indexes than its family
+abbrev pub left_sides_are_whole : Raw → Bool
+left_sides_are_whole raw = list_all (λ (a : Standing). nat_le (length a.left) (index_count raw a.family)) (assigned_in raw)
 
 -- the definition is of this family, in the layer of this number or outside layers
 abbrev pub is_of_family : Option ℕ → ℕ → Def → Bool
