@@ -51,3 +51,7 @@ first-found = refl
 pub tomasulo-found : AreFound w.tomasulo
 unfolding computing
 tomasulo-found = refl
+
+pub other_passes-found : AreFound w.other_passes
+unfolding computing
+other_passes-found = refl

@@ -1,11 +1,12 @@
 -- How a worked text is stated: its bytes, and its first fault of single assignment, or its design or a part of it.
-use Rattle.std.specs.Prelude.{ℕ, List, ◌≡◌, map, Option, Some, None, option_map}
+use Rattle.std.specs.Prelude.{ℕ, List, ◌≡◌, map, Option, Some, None, true, option_map}
 use Rattle.smv_core.specs.declared.flat.Raw.{Raw}
 use Rattle.smv_core.specs.declared.flat.Def.{Def}
 use Rattle.smv_core.specs.declared.flat.Design.{Design}
 use Rattle.smv_worked.specs.Worked.{Answer, unread, answer_of}
 use Rattle.smv_worked_flat.specs.Worked.{flattened}
 use Rattle.smv_single.specs.SingleFaults.{first_fault_of_single}
+use Rattle.smv_single.specs.Laws.{left_sides_are_whole}
 use Rattle.smv_single.specs.Definitions.{design_of_raw}
 
 abbrev of_flattened : Option Raw → Answer
@@ -33,3 +34,7 @@ defs design = design.defs
 
 abbrev pub whole : Design → Design
 whole design = design
+
+-- no left side in these bytes has more indexes than its family
+abbrev pub HasWholeLeftSides : List ℕ → Type 0
+HasWholeLeftSides text = option_map left_sides_are_whole (flattened text) ≡ Some true

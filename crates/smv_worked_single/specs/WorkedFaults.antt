@@ -177,6 +177,22 @@ first =
     -- the least place may be that of a later statement
     (codes "module m() { y : boolean; y := 0; y := 1; } module main() { x, c : boolean; x := 0; x := 1; n : m(); }", fault 15 34) ∷ []
 
+-- texts whose first fault is of a later pass
+abbrev pub other_passes : List (List ℕ × Answer)
+other_passes =
+    -- a loop without delay
+    (codes "module main() { a, b : boolean; a := b; b := a; }", valid) ∷
+    -- a definition outside layers reads an abstract signal
+    (codes "module main() { abstract s : boolean; x : boolean; layer L : { s := 0; } x := s; }", valid) ∷
+    -- an abstract signal assigned outside layers
+    (codes "module main() { abstract s : boolean; s := 0; }", valid) ∷
+    -- a number met with a set type
+    (codes "scalarset P undefined; module main() { a : P; p : assert G (a = 0); }", valid) ∷
+    -- a `for` variable met with a set type
+    (codes "scalarset P undefined; module main() { x : array P of boolean; for (n = 0; n < 2; n = n + 1) x[n] := 0; }", valid) ∷
+    -- a split of no unit
+    (codes "module main() { x : boolean; forall (i in 0..1) subcase s[i] of q for x = i; }", valid) ∷ []
+
 -- the reduced Tomasulo machine
 abbrev pub tomasulo : List (List ℕ × Answer)
 tomasulo = (machine, valid) ∷ []

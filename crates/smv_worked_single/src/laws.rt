@@ -1,5 +1,7 @@
 // Worked texts, each group a clause of a function that does nothing.
-ghost use Rattle.smv_worked_single.specs.Worked.{AreDesigned, AreFound, defs, whole};
+ghost use Rattle.smv_worked_flat.specs.Right.{small};
+ghost use Rattle.smv_worked.specs.Tomasulo.{machine};
+ghost use Rattle.smv_worked_single.specs.Worked.{AreDesigned, AreFound, HasWholeLeftSides, defs, whole};
 ghost use Rattle.smv_worked_single.specs.WorkedDesigns as designs;
 ghost use Rattle.smv_worked_single.specs.WorkedFaults as texts;
 
@@ -16,6 +18,7 @@ pub fn worked_faults()
     ensures claims { AreFound texts.claims }
     ensures instances { AreFound texts.instances }
     ensures first { AreFound texts.first }
+    ensures other_passes { AreFound texts.other_passes }
     ensures tomasulo { AreFound texts.tomasulo }
 {}
 
@@ -23,4 +26,10 @@ pub fn worked_faults()
 pub fn worked_designs()
     ensures definitions { AreDesigned defs designs.definitions }
     ensures designs { AreDesigned whole designs.designs }
+{}
+
+/// Texts meet the condition of the laws of conflicts: no left side has more indexes than its family.
+pub fn conditions_are_met()
+    ensures small { HasWholeLeftSides small }
+    ensures tomasulo { HasWholeLeftSides machine }
 {}

@@ -36,3 +36,6 @@ returns-clause-first c = faults.first-found
 
 pub returns-clause-tomasulo : goal.returns-clause-tomasulo
 returns-clause-tomasulo c = faults.tomasulo-found
+
+pub returns-clause-other_passes : goal.returns-clause-other_passes
+returns-clause-other_passes c = faults.other_passes-found
