@@ -1,6 +1,6 @@
 -- By computing the design of each text.
 use Rattle.std.proofs.Common.{refl}
-use Rattle.smv_worked_single.specs.Worked.{AreDesigned, defs, whole}
+use Rattle.smv_worked_single.specs.Worked.{AreDesigned, defs, heads, whole}
 use Rattle.smv_worked_single.specs.WorkedDesigns as w
 use Rattle.smv_worked_single.proofs.Computing.{computing}
 
@@ -11,3 +11,7 @@ definitions-designed = refl
 pub designs-designed : AreDesigned whole w.designs
 unfolding computing
 designs-designed = refl
+
+pub heads-designed : AreDesigned heads w.heads
+unfolding computing
+heads-designed = refl

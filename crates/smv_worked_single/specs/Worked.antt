@@ -32,6 +32,10 @@ AreDesigned part rows = map (λ (text, x). option_map part (design_in text)) row
 abbrev pub defs : Design → List Def
 defs design = design.defs
 
+-- the definitions by their layers, families and places
+abbrev pub heads : Design → List (Option ℕ × ℕ × ℕ)
+heads design = map (λ (def : Def). (def.layer, def.family, def.place)) design.defs
+
 abbrev pub whole : Design → Design
 whole design = design
 

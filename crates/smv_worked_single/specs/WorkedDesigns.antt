@@ -7,6 +7,7 @@ use Rattle.smv_core.specs.declared.flat.FlatExpr.{Number, Read, Var, Loop, Not, 
 use Rattle.smv_core.specs.declared.flat.Flat.{Flat, Nothing, Assign, If, First, Forall}
 use Rattle.smv_core.specs.declared.flat.Def.{Def}
 use Rattle.smv_core.specs.declared.flat.Design.{Design}
+use Rattle.smv_worked.specs.Tomasulo.{machine}
 use Rattle.smv_worked_flat.specs.Worked.{of_type, unsized, word, param}
 
 -- the definition of a family in a layer or outside layers, by its parts and by the place and the offset of its first assignment
@@ -42,6 +43,15 @@ definitions =
     (codes "module m(a, b) { input a : boolean; output b : boolean; b := a; } module main() { x : boolean; n : m(1, x); }", comb_of None 1 0 101 (Assign [] (Number 1 101) 0 101) ∷ comb_of None 0 1 104 (Assign [] (Read 2 [] 104) 1 104) ∷ comb_of None 2 2 56 (Assign [] (Read 1 [] 61) 2 56) ∷ []) ∷
     -- no assignment, no definition
     (codes "module main() { x : boolean; layer L : { } { } if (x) { } for (k = 0; k < 0; k = k + 1) x := 0; }", []) ∷ []
+
+-- the definitions of the reduced Tomasulo machine, each by its layer, its family and the place of its first assignment
+abbrev pub heads : List (List ℕ × List (Option ℕ × ℕ × ℕ))
+heads = (
+  machine,
+  (None, 7, 0) ∷ (None, 8, 1) ∷ (None, 11, 2) ∷ (None, 12, 3) ∷ (None, 24, 4) ∷ (None, 13, 5) ∷ (None, 15, 7) ∷ (None, 14, 9) ∷ (None, 16, 10) ∷ (None, 17, 12) ∷ (None, 19, 13) ∷ (None, 18, 16) ∷
+      (Some 0, 9, 18) ∷ (Some 0, 10, 19) ∷ (Some 0, 20, 20) ∷ (Some 0, 21, 22) ∷ (Some 0, 22, 23) ∷ (Some 0, 23, 24) ∷ (Some 0, 12, 25) ∷
+      (Some 1, 19, 26) ∷ (Some 1, 11, 27) ∷ (Some 1, 15, 28) ∷ [],
+) ∷ []
 
 -- whole designs
 abbrev pub designs : List (List ℕ × Design)

@@ -1,7 +1,7 @@
 // Worked texts, each group a clause of a function that does nothing.
 ghost use Rattle.smv_worked_flat.specs.Right.{small};
 ghost use Rattle.smv_worked.specs.Tomasulo.{machine};
-ghost use Rattle.smv_worked_single.specs.Worked.{AreDesigned, AreFound, HasWholeLeftSides, defs, whole};
+ghost use Rattle.smv_worked_single.specs.Worked.{AreDesigned, AreFound, HasWholeLeftSides, defs, heads, whole};
 ghost use Rattle.smv_worked_single.specs.WorkedDesigns as designs;
 ghost use Rattle.smv_worked_single.specs.WorkedFaults as texts;
 
@@ -25,6 +25,7 @@ pub fn worked_faults()
 /// The definitions, or the whole design, of each worked text.
 pub fn worked_designs()
     ensures definitions { AreDesigned defs designs.definitions }
+    ensures heads { AreDesigned heads designs.heads }
     ensures designs { AreDesigned whole designs.designs }
 {}
 

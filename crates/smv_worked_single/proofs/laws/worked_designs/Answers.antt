@@ -6,3 +6,6 @@ returns-clause-definitions c = designs.definitions-designed
 
 pub returns-clause-designs : goal.returns-clause-designs
 returns-clause-designs c = designs.designs-designed
+
+pub returns-clause-heads : goal.returns-clause-heads
+returns-clause-heads c = designs.heads-designed
