@@ -1,5 +1,5 @@
 -- What a text without a fault of single assignment has: no place where a rule is broken.
-use Rattle.std.proofs.Common.{◌≡◌, ℕ, List, [], ◌∷◌, ◌++◌, map, filter, Option, Some, None, Bool, true, false, not, cond, refl, sym, ap, ◌∙◌}
+use Rattle.std.proofs.Common.{◌≡◌, ℕ, List, [], ◌∷◌, ◌++◌, map, filter, Option, Some, None, Bool, true, false, not, cond, refl}
 use Rattle.std.specs.List.{flat_map}
 use Rattle.smv_core.specs.declared.fault.Fault.{Fault}
 use Rattle.smv_core.specs.declared.flat.Raw.{Raw}
@@ -8,7 +8,7 @@ use Rattle.smv_inst.specs.FirstFault.{comes_before, earlier, first_of, faults_at
 use Rattle.smv_flat.specs.WholeText.{claims_of}
 use Rattle.smv_abs.specs.Sets.{Has, first, later}
 use Rattle.smv_single.specs.Standing.{statements_of, Standing}
-use Rattle.smv_single.specs.SingleFaults.{later_places, conflicting, mixed, has_variables, lacking, unnamed, assigned_in, single_faults, first_fault_of_single}
+use Rattle.smv_single.specs.SingleFaults.{later_places, conflicting, has_variables, lacking, unnamed, assigned_in, single_faults, first_fault_of_single}
 
 pub nil-left : {X : Type 0} (xs ys : List X) → xs ++ ys ≡ [] → xs ≡ []
 nil-left [] ys e = refl

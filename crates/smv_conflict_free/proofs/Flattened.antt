@@ -1,10 +1,9 @@
 -- In a flattened text each `forall` has the number of those around it.
-use Rattle.std.proofs.Common.{◌≡◌, ℕ, zero, suc, ◌+◌, ◌≤◌, List, [], ◌∷◌, ◌++◌, map, length, Option, Some, None, Bool, true, nat_le, refl, sym, ap, ◌∙◌, subst, arith}
+use Rattle.std.proofs.Common.{◌≡◌, ℕ, suc, ◌+◌, ◌≤◌, List, [], ◌∷◌, map, length, Option, true, nat_le, refl, sym, subst, arith}
 use Rattle.std.specs.List.{flat_map}
 use Rattle.smv_core.specs.Values.{Name}
 use Rattle.smv_core.specs.Walk.{steps_of}
 use Rattle.smv_core.specs.Assignments.{Around, loop, any}
-use Rattle.smv_core.specs.declared.tree.Kind.{Kind}
 use Rattle.smv_core.specs.declared.tree.Text.{Text}
 use Rattle.smv_core.specs.declared.tree.Stmt.{Stmt, Row_of-Stmt, end_of-Stmt, more_of-Stmt, Held-Stmt-If-2, None', Some', Row_of-Arm, end_of-Arm, more_of-Arm}
 use Rattle.smv_core.specs.declared.tree.Stmt as stmt
@@ -21,8 +20,7 @@ use Rattle.smv_flat.specs.Flattening.{flat_assignments, flat_entry, layers_of, s
 use Rattle.smv_flat.proofs.FlatLists.{boxes}
 use Rattle.smv_abs.specs.Sets.{Has, first, later}
 use Rattle.smv_abs.proofs.Members.{Has-left, Has-right, Has-from_map, Has-flat_map, all-each}
-use Rattle.smv_single.specs.Standing.{count, Statement, statements_from, statements_of, Standing, standing, standing_in, assigned_by}
-use Rattle.smv_single.specs.SingleFaults.{assigned_in}
+use Rattle.smv_single.specs.Standing.{count, Statement, statements_from, Standing, standing, standing_in, assigned_by}
 use Rattle.smv_single.specs.Laws.{index_count, left_sides_are_whole}
 use Rattle.smv_conflict_free.specs.Placed.{IsPlaced, ArePlaced, RawIsPlaced}
 use mathlib.Core.Former.{Count}

@@ -5,7 +5,7 @@ use Rattle.smv_core.specs.Values.{same}
 use Rattle.smv_core.specs.Walk.{same_kind}
 use Rattle.smv_core.specs.Assignments.{Index, fixed, bare, computed}
 use Rattle.smv_core.specs.Conflicts.{are_two_constants, are_both}
-use Rattle.smv_core.specs.Flat.{flat_index, indexes_assigned, indexes_assigned_in}
+use Rattle.smv_core.specs.Flat.{flat_index, indexes_assigned}
 use Rattle.smv_core.specs.declared.tree.Kind.{Kind}
 use Rattle.smv_core.specs.declared.tree.Kind.TheVariants.{Comb, Init, Next}
 use Rattle.smv_core.specs.declared.flat.Simple.{Simple}
@@ -19,11 +19,11 @@ use Rattle.smv_abs.specs.Sets.{Has, first, later}
 use Rattle.smv_abs.specs.Bound.{HasVariable}
 use Rattle.smv_abs.specs.FlatConflicts.{AreExcused, EachTwo, HasNoConflict, HaveNoConflict, IsConflictFree}
 use Rattle.smv_abs.proofs.OneGives.{is_single}
-use Rattle.smv_abs.proofs.Tests.{or_cases, left_of, right_of, true_or_false, same_tests}
+use Rattle.smv_abs.proofs.Tests.{or_cases, right_of, true_or_false, same_tests}
 use Rattle.smv_abs.proofs.Members.{Has-left, Has-right, Has-cases, all-each}
 use Rattle.smv_abs.proofs.Same.{nat_eq-is, nat_eq-itself, same-is, same-itself}
 use Rattle.smv_single.specs.Standing.{count, Statement, statements_of, Standing, standing, standing_in, assigned_by}
-use Rattle.smv_single.specs.SingleFaults.{beside, differ, share, meet, cross, later_places, conflicts, conflicts_in, conflicting, is_variable, has_variables, first_fault_of_single}
+use Rattle.smv_single.specs.SingleFaults.{differ, share, meet, cross, later_places, conflicts, conflicts_in, conflicting, is_variable, has_variables, first_fault_of_single}
 use Rattle.smv_single.specs.Definitions.{is_nothing, joined, first_part, branches, each_value, flat_of, flats_of, Head, def_of}
 use Rattle.smv_single.proofs.FlatParts.{boxes, rows_of, indexes-row, indexes-kept}
 use Rattle.smv_single.specs.Laws.{index_count}
@@ -247,13 +247,12 @@ module _ (counts : ℕ → ℕ) (layer : Option ℕ) (kind : Kind) (family : ℕ
         (comes layer kind family (down n) k left is h) (comes layer kind family (down n) (k + count left) right js g))
     free n k (Block' shape parts) placed e has = free-first_part n (counts family) (flats_of kind family k parts) (free_in n k parts placed e has)
     free n k (Default' l (more_of-FlatStmt left end_of-FlatStmt) r (more_of-FlatStmt right end_of-FlatStmt)) placed e has =
-        free-first_part n (counts family) (flat_of kind family (k + count left) right ∷ flat_of kind family k left ∷ [])
-        (
+        free-first_part n (counts family) (flat_of kind family (k + count left) right ∷ flat_of kind family k left ∷ []) (
           free n (k + count left) right placed.1 (nil-second (conflicts layer (down n) left) (conflicts layer (down n) right) (later_places (cross (down n)) (standing layer (down n) left) (standing layer (down n) right)) e) (λ a h. has a (Has-right (standing layer (down n) left) h)),
           (free n k left placed.0 (nil-first (conflicts layer (down n) left) (conflicts layer (down n) right) (later_places (cross (down n)) (standing layer (down n) left) (standing layer (down n) right)) e) (λ a h. has a (Has-left (standing layer (down n) right) h)), tt, λ is js h g. elim g [ ]),
           λ is js h g. excused-turned n js is
-          (crossing layer kind family n (standing layer (down n) left) (standing layer (down n) right) (nil-third (conflicts layer (down n) left) (conflicts layer (down n) right) (later_places (cross (down n)) (standing layer (down n) left) (standing layer (down n) right)) e) js is
-          (comes layer kind family (down n) k left js (elim (Has-cases (indexes_assigned (flat_of kind family k left)) [] g) [ inl q ↦ q | inr q ↦ elim q [ ] ])) (comes layer kind family (down n) (k + count left) right is h)),
+              (crossing layer kind family n (standing layer (down n) left) (standing layer (down n) right) (nil-third (conflicts layer (down n) left) (conflicts layer (down n) right) (later_places (cross (down n)) (standing layer (down n) left) (standing layer (down n) right)) e) js is
+              (comes layer kind family (down n) k left js (elim (Has-cases (indexes_assigned (flat_of kind family k left)) [] g) [ inl q ↦ q | inr q ↦ elim q [ ] ])) (comes layer kind family (down n) (k + count left) right is h)),
         )
     free n k (Forall' var over shape (more_of-FlatStmt body end_of-FlatStmt)) placed e has =
         let same : var ∷ down n ≡ down (suc n) = ap (λ v. v ∷ down n) placed.0 in
@@ -266,7 +265,7 @@ module _ (counts : ℕ → ℕ) (layer : Option ℕ) (kind : Kind) (family : ℕ
       free n k p placed.0 (nil-first (conflicts layer (down n) p) (conflicts_in layer (down n) rest) (later_places meet (standing layer (down n) p) (standing_in layer (down n) rest)) e) (λ a h. has a (Has-left (standing_in layer (down n) rest) h)),
       free_in n (k + count p) rest placed.1 (nil-second (conflicts layer (down n) p) (conflicts_in layer (down n) rest) (later_places meet (standing layer (down n) p) (standing_in layer (down n) rest)) e) (λ a h. has a (Has-right (standing layer (down n) p) h)),
       λ is js h g. apart layer kind family n (standing layer (down n) p) (standing_in layer (down n) rest) (nil-third (conflicts layer (down n) p) (conflicts_in layer (down n) rest) (later_places meet (standing layer (down n) p) (standing_in layer (down n) rest)) e) is js
-      (comes layer kind family (down n) k p is h) (comes_in layer kind family (down n) (k + count p) rest js g),
+          (comes layer kind family (down n) k p is h) (comes_in layer kind family (down n) (k + count p) rest js g),
     )
 
 -- ---- definition sets
@@ -289,8 +288,8 @@ module _ (counts : ℕ → ℕ) (layer : Option ℕ) (kind : Kind) (family : ℕ
         here,
         rest,
         λ is js p q. apart layer kind family 0 (assigned_by s) (flat_map assigned_by set)
-        (nil-third (conflicts s.layer [] s.act) (conflicting set) (later_places meet (assigned_by s) (flat_map assigned_by set)) e) is js
-        (subst (λ l. Comes l kind family (assigned_by s) is) (sym (layer-is layer s.layer h)) (comes s.layer kind family [] s.place s.act is p)) (comes_of layer kind family set js q),
+            (nil-third (conflicts s.layer [] s.act) (conflicting set) (later_places meet (assigned_by s) (flat_map assigned_by set)) e) is js
+            (subst (λ l. Comes l kind family (assigned_by s) is) (sym (layer-is layer s.layer h)) (comes s.layer kind family [] s.place s.act is p)) (comes_of layer kind family set js q),
       )
       by_test false h rest = rest
 

@@ -3,7 +3,6 @@ use Rattle.std.proofs.Common.{◌≡◌, ℕ, List, [], ◌∷◌, ◌++◌, map
 use Rattle.std.specs.List.{flat_map}
 use Rattle.smv_core.specs.Values.{Value, Truth, truth}
 use Rattle.smv_core.specs.Walk.{Walk, first, first_of, if_walk}
-use Rattle.smv_core.specs.Assignments.{Index}
 use Rattle.smv_core.specs.Flat.{Numbered, FlatState, FlatBindings, FlatElement, bind, values_in, flat_outcome, flat_result, flat_results, indexes_assigned, indexes_assigned_in}
 use Rattle.smv_core.specs.declared.flat.Simple.{Simple}
 use Rattle.smv_core.specs.declared.flat.FlatExpr.{FlatExpr}

@@ -18,7 +18,7 @@ use Rattle.smv_flat.specs.Flattening.{flat_assignments, flat_assignments_in, lay
 use Rattle.smv_flat.specs.Agreement.{numbers_of}
 use Rattle.smv_flat.specs.WholeText.{is_one_layer, acts_of, raw_walk}
 use Rattle.smv_flat.specs.RawAllowed.{flat_concerns, raw_is_concerned, raw_kept, raw_stepped, raw_allowed}
-use Rattle.smv_single.specs.Standing.{count, Statement, statements_from, statements_of}
+use Rattle.smv_single.specs.Standing.{count, Statement, statements_from}
 use Rattle.smv_single.specs.Definitions.{flat_of, flats_of, part_of, set_of, Head, def_of}
 use Rattle.smv_single.proofs.FlatParts.{first-same, indexes-first_part, indexes-branches, indexes-each_value, result-first_part, result-branches, result-each_value}
 

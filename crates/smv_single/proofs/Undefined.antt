@@ -3,19 +3,18 @@ use Rattle.std.proofs.Common.{◌≡◌, ℕ, zero, suc, ◌+◌, List, [], ◌�
 use Rattle.std.specs.List.{flat_map, list_any}
 use Rattle.smv_core.specs.Values.{Name, Value, Sizes, truth, numbers_from}
 use Rattle.smv_core.specs.Walk.{Walk, first, first_of, if_walk, same_kind}
-use Rattle.smv_core.specs.Flat.{Numbered, FlatState, FlatBindings, FlatElement, bind, values_in, flat_outcome, flat_assigned, flat_walk, flat_walks}
+use Rattle.smv_core.specs.Flat.{Numbered, FlatState, FlatBindings, FlatElement, bind, values_in, flat_outcome, flat_walk, flat_walks}
 use Rattle.smv_core.specs.declared.tree.Kind.{Kind}
 use Rattle.smv_core.specs.declared.tree.Kind.TheVariants.{Comb, Init, Next}
 use Rattle.smv_core.specs.declared.flat.FlatStmt.{FlatStmt, Assign, If', Block', Default', Forall', Row_of-FlatStmt, end_of-FlatStmt, more_of-FlatStmt}
 use Rattle.smv_core.specs.declared.flat.Raw.{Raw}
-use Rattle.smv_core.specs.declared.flat.Def.{Def}
 use Rattle.smv_flat.specs.Flattening.{different, flat_assignments, flat_assignments_in, layer_number}
 use Rattle.smv_flat.specs.Agreement.{numbers_of}
-use Rattle.smv_flat.specs.WholeText.{is_one_layer, acts_of, raw_walk}
+use Rattle.smv_flat.specs.WholeText.{is_one_layer, raw_walk}
 use Rattle.smv_flat.specs.RawAllowed.{flat_concerns, raw_is_concerned, raw_kept, raw_stepped, raw_allowed}
 use Rattle.smv_single.specs.Standing.{count, Statement, statements_of, Standing, standing, standing_in, assigned_by}
 use Rattle.smv_single.specs.Definitions.{Head, head, heads_of, same_definition, first_heads, def_of, design_of_raw}
-use Rattle.smv_single.specs.Laws.{is_of_family, IsFreeWithout}
+use Rattle.smv_single.specs.Laws.{is_of_family}
 use Rattle.smv_single.proofs.FlatParts.{if_walk-none, first-none}
 use Rattle.smv_single.proofs.SameResults.{or-same, any-append, set-acts}
 

@@ -1,5 +1,5 @@
 -- The design of a flattened text: its assignments are gathered into one definition for each family and definition set.
-use Rattle.std.specs.Prelude.{ℕ, ◌+◌, List, [], ◌∷◌, map, flat_map, filter, zip, length, Option, Bool, true, false, not, ◌&&◌, if◌then◌else◌, nat_eq}
+use Rattle.std.specs.Prelude.{ℕ, ◌+◌, List, [], ◌∷◌, map, flat_map, filter, zip, Option, Bool, true, false, not, ◌&&◌, if◌then◌else◌, nat_eq}
 use Rattle.smv_core.specs.Values.{numbers_from}
 use Rattle.smv_core.specs.Walk.{same_kind}
 use Rattle.smv_core.specs.declared.tree.Kind.{Kind}
