@@ -1,3 +1,4 @@
 pub mod FlatParts
 pub mod SameResults
 pub mod Undefined
+pub mod Apart

@@ -1,5 +1,5 @@
 -- What the laws of definitions say.
-use Rattle.std.specs.Prelude.{◌≡◌, ℕ, List, [], length, slice_get, Option, Some, None, option_map, Bool, false, ◌&&◌, nat_eq, nat_le}
+use Rattle.std.specs.Prelude.{◌≡◌, ℕ, List, [], ◌∷◌, length, slice_get, Option, Some, None, option_map, Bool, false, ◌&&◌, nat_eq, nat_le}
 use Rattle.std.specs.List.{list_any, list_all}
 use Rattle.smv_core.specs.Values.{Name, Sizes, Value}
 use Rattle.smv_core.specs.Types.{Family}
@@ -51,3 +51,8 @@ is_of_family number family def = is_one_layer number def.layer && nat_eq def.fam
 abbrev pub IsFreeWithout : Raw → List Def → Type 0
 IsFreeWithout raw defs = (sizes : Sizes) (layer : Option Name) (x : FlatElement) → list_any (is_of_family (option_map (layer_number raw.layers) layer) x.family) defs ≡ false →
     (every : List Value) (before : Option FlatState) (now : FlatState) → raw_allowed raw sizes layer x every before now ≡ every
+
+-- no two definitions are of one family in one definition set
+abbrev pub AreApart : List Def → Type 0
+AreApart [] = Unit {0}
+AreApart (def ∷ defs) = (list_any (is_of_family def.layer def.family) defs ≡ false) × AreApart defs
