@@ -50,6 +50,8 @@ constants =
     (codes "module main() { x : array 0..3 of boolean; y : 0..3; x[y] := 0; x[0] := 1; }", fault 15 64) ∷
     -- a `forall` variable is no constant
     (codes "module main() { x : array 0..3 of boolean; y : array 0..1 of array 0..1 of boolean; c : boolean; forall (i in 0..3) x[i] := 0; x[0] := 1; }", fault 15 127) ∷
+    -- also where no value of the variable is the constant
+    (codes "module main() { x : array 0..3 of boolean; y : array 0..1 of array 0..1 of boolean; c : boolean; forall (i in 0..1) x[i] := 0; x[3] := 1; }", fault 15 127) ∷
     -- which the parts of a `default` may have
     (codes "module main() { x : array 0..3 of boolean; y : array 0..1 of array 0..1 of boolean; c : boolean; default forall (i in 0..3) x[i] := 0; in x[0] := 1; }", valid) ∷ []
 
