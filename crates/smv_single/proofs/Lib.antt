@@ -2,3 +2,4 @@ pub mod FlatParts
 pub mod SameResults
 pub mod Undefined
 pub mod Apart
+pub mod InOrder

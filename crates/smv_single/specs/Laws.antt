@@ -1,5 +1,5 @@
 -- What the laws of definitions say.
-use Rattle.std.specs.Prelude.{◌≡◌, ℕ, List, [], ◌∷◌, length, slice_get, Option, Some, None, option_map, Bool, false, ◌&&◌, nat_eq, nat_le}
+use Rattle.std.specs.Prelude.{◌≡◌, ℕ, List, [], ◌∷◌, length, slice_get, Option, Some, None, option_map, Bool, false, true, ◌&&◌, nat_eq, nat_le, nat_lt}
 use Rattle.std.specs.List.{list_any, list_all}
 use Rattle.smv_core.specs.Values.{Name, Sizes, Value}
 use Rattle.smv_core.specs.Types.{Family}
@@ -56,3 +56,8 @@ IsFreeWithout raw defs = (sizes : Sizes) (layer : Option Name) (x : FlatElement)
 abbrev pub AreApart : List Def → Type 0
 AreApart [] = Unit {0}
 AreApart (def ∷ defs) = (list_any (is_of_family def.layer def.family) defs ≡ false) × AreApart defs
+
+-- the definitions stand in the order of their places
+abbrev pub AreInOrder : List Def → Type 0
+AreInOrder [] = Unit {0}
+AreInOrder (def ∷ defs) = (list_all (λ (other : Def). nat_lt def.place other.place) defs ≡ true) × AreInOrder defs

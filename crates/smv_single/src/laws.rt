@@ -6,7 +6,7 @@ ghost use Rattle.smv_inst.specs.FirstFault.{first_fault};
 ghost use Rattle.smv_flat.specs.Flattening.{flatten};
 ghost use Rattle.smv_flat.specs.WholeText.{TextIsRight};
 ghost use Rattle.smv_single.specs.Definitions.{design_of_raw};
-ghost use Rattle.smv_single.specs.Laws.{AllowsAsTheText, AllowsTheSame, AreApart, IsFreeWithout};
+ghost use Rattle.smv_single.specs.Laws.{AllowsAsTheText, AllowsTheSame, AreApart, AreInOrder, IsFreeWithout};
 
 /// Each definition of a design allows each element of its family, at all sizes and in all states, the values that the flattened text allows it in the definition's
 /// layer, or outside layers.
@@ -27,4 +27,9 @@ pub fn what_has_no_definition_is_free()
 /// No family has two definitions in one definition set.
 pub fn definitions_are_apart()
     ensures { (raw : Raw) → AreApart (design_of_raw raw).defs }
+{}
+
+/// The definitions stand in the order of their places in flat order.
+pub fn definitions_are_in_order()
+    ensures { (raw : Raw) → AreInOrder (design_of_raw raw).defs }
 {}
