@@ -1,0 +1,4 @@
+pub mod Faultless
+pub mod Comes
+pub mod Free
+pub mod Flattened

@@ -1,0 +1,5 @@
+pub mod FlatParts
+pub mod SameResults
+pub mod Undefined
+pub mod Apart
+pub mod InOrder

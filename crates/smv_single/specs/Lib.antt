@@ -1,0 +1,4 @@
+pub mod Standing
+pub mod SingleFaults
+pub mod Definitions
+pub mod Laws

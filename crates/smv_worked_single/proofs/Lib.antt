@@ -1,0 +1,4 @@
+pub mod Computing
+pub mod WorkedFaults
+pub mod WorkedDesigns
+pub mod Conditions
