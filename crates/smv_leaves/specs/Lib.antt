@@ -1,0 +1,4 @@
+pub mod Variables
+pub mod Leaves
+pub mod SplitFaults
+pub mod WorkedLeaves
