@@ -2,3 +2,4 @@ pub mod Variables
 pub mod Leaves
 pub mod SplitFaults
 pub mod WorkedLeaves
+pub mod WorkedFaults

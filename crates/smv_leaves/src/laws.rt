@@ -1,5 +1,6 @@
 // Laws of the definitions, each the contract of a function that does nothing.
 ghost use Rattle.smv_leaves.specs.WorkedLeaves.{TomasuloLeaves, Unsplit, SplitOfSplit, Renamed, NoBrackets, InnerVariables, SplitMap};
+ghost use Rattle.smv_leaves.specs.WorkedFaults.{WholeTexts, NoFaults, NoUnits, BaseIsNoUnit, SplitTwice, LeadNowhere, Counts, Unbound, Doubled, OtherTypes, Equations, Kinds, Strays, TheFirst};
 
 /// Worked leaves: of the Tomasulo machine, of units without a split, of splits of splits, with names that rename or are left out, with variables of binders, and of a map.
 pub fn worked_leaves()
@@ -10,4 +11,22 @@ pub fn worked_leaves()
     ensures unnamed { NoBrackets }
     ensures inner { InnerVariables }
     ensures maps { SplitMap }
+{}
+
+/// Worked faults of splits: two whole texts, what is split, the names in brackets and of equations, and the expressions.
+pub fn worked_faults()
+    ensures texts { WholeTexts }
+    ensures none { NoFaults }
+    ensures units { NoUnits }
+    ensures base { BaseIsNoUnit }
+    ensures twice { SplitTwice }
+    ensures nowhere { LeadNowhere }
+    ensures counts { Counts }
+    ensures unbound { Unbound }
+    ensures doubled { Doubled }
+    ensures types { OtherTypes }
+    ensures equations { Equations }
+    ensures kinds { Kinds }
+    ensures strays { Strays }
+    ensures first { TheFirst }
 {}
