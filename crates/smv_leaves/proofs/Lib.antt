@@ -1,0 +1,6 @@
+pub mod Lists
+pub mod RenamedReads
+pub mod Params
+pub mod OneCut
+pub mod Good
+pub mod Chains

@@ -3,3 +3,4 @@ pub mod Leaves
 pub mod SplitFaults
 pub mod WorkedLeaves
 pub mod WorkedFaults
+pub mod Laws
