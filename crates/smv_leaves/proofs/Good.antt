@@ -31,7 +31,7 @@ kept : (b : Bool) (at : ℕ) → (Has (place_if (not b) at) at → ⊥) → b �
 kept true at none = refl
 kept false at none = absurd (none first)
 
-some_or_none : (o : Option ℕ) → (k : ℕ) × (o ≡ Some k) ⊎ (is_none o ≡ true)
+some_or_none : (o : Option ℕ) → ((k : ℕ) × (o ≡ Some k)) ⊎ (is_none o ≡ true)
 some_or_none None = inr refl
 some_or_none (Some k) = inl (k, refl)
 
@@ -88,13 +88,14 @@ module _ (d : Design) (read : IsRead d) (none : faults_of_splits d ≡ []) where
   -- the chain of what has a name is among the splits that lead to it
   chain_in : (n : ℕ) (name : Name) (params : List Param) (c : Cut) → Has (chain d n name params) c → Has d.splits c.split × Has (cuts d n name params) c
   chain_in zero name params c h = elim h [ ]
-  chain_in (suc n) name params c h = at (find (λ s. bytes_eq (named_by s.of) name) d.splits) refl h
+  chain_in (suc n) name params c h = at (find (λ s. bytes_eq (named_by s.of) name) d.splits) refl h (λ name params c. chain_in n name params c)
     where
-      at : (o : Option FlatSplit) → find (λ s. bytes_eq (named_by s.of) name) d.splits ≡ o → Has (onward_if (chain d n) params o) c → Has d.splits c.split × Has (cuts d (suc n) name params) c
-      at None e h = elim h [ ]
-      at (Some s) e h = let f = find-some (λ s. bytes_eq (named_by s.of) name) d.splits e in let k = Has-filter (λ s. bytes_eq (named_by s.of) name) f.0 f.1 in elim (Has-uncons h) [
+      at : (o : Option FlatSplit) → find (λ s. bytes_eq (named_by s.of) name) d.splits ≡ o → Has (onward_if (chain d n) params o) c →
+          ((name : Name) (params : List Param) (c : Cut) → Has (chain d n name params) c → Has d.splits c.split × Has (cuts d n name params) c) → Has d.splits c.split × Has (cuts d (suc n) name params) c
+      at None e h goes = elim h [ ]
+      at (Some s) e h goes = let f = find-some (λ s. bytes_eq (named_by s.of) name) d.splits e in let k = Has-filter (λ s. bytes_eq (named_by s.of) name) f.0 f.1 in elim (Has-uncons h) [
         | inl i ↦ (subst (λ c. Has d.splits c.split) (sym i) f.0, Has-flat_map (onward (cuts d n) params) k (subst (Has (onward (cuts d n) params s)) (sym i) first))
-        | inr l ↦ let r = chain_in n s.name (all_params (cut params s)) c l in (r.0, Has-flat_map (onward (cuts d n) params) k (later r.1))
+        | inr l ↦ let r = goes s.name (all_params (cut params s)) c l in (r.0, Has-flat_map (onward (cuts d n) params) k (later r.1))
       ]
 
   pub good_chain : (unit : Unit) → Has (units_of d) unit → (c : Cut) → Has (chain d (length d.splits) (name_of d (unit_in d unit)) (own_params d (unit_in d unit))) c → IsGood d c

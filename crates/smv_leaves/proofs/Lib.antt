@@ -4,3 +4,4 @@ pub mod Params
 pub mod OneCut
 pub mod Good
 pub mod Chains
+pub mod Splits
