@@ -5,3 +5,4 @@ pub mod OneCut
 pub mod Good
 pub mod Chains
 pub mod Splits
+pub mod ValuesMet

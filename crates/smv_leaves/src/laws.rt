@@ -1,6 +1,18 @@
 // Laws of the definitions, each the contract of a function that does nothing.
+ghost use Rattle.smv_leaves.specs.Laws.{LeavesAreSplit, GuardsAreMet, OneLeafEach};
 ghost use Rattle.smv_leaves.specs.WorkedLeaves.{TomasuloLeaves, Unsplit, SplitOfSplit, Renamed, NoBrackets, InnerVariables, SplitMap};
 ghost use Rattle.smv_leaves.specs.WorkedFaults.{WholeTexts, NoFaults, NoUnits, BaseIsNoUnit, SplitTwice, LeadNowhere, Counts, Unbound, Doubled, OtherTypes, Equations, Kinds, Strays, TheFirst};
+
+/// Where a design has no fault of splits, each of its leaves has the unit's parameters and then those that the splits add, and guards of these, each reading only the parameters before its own.
+pub fn leaves_are_split()
+    ensures split { LeavesAreSplit }
+    ensures each { OneLeafEach }
+{}
+
+/// For each state and all values of a unit's parameters, some values of those that its splits add meet all guards of its leaf.
+pub fn guards_are_met()
+    ensures { GuardsAreMet }
+{}
 
 /// Worked leaves: of the Tomasulo machine, of units without a split, of splits of splits, with names that rename or are left out, with variables of binders, and of a map.
 pub fn worked_leaves()
