@@ -6,3 +6,4 @@ pub mod Good
 pub mod Chains
 pub mod Splits
 pub mod ValuesMet
+pub mod WorkedRead

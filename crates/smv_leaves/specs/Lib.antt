@@ -4,3 +4,4 @@ pub mod SplitFaults
 pub mod WorkedLeaves
 pub mod WorkedFaults
 pub mod Laws
+pub mod WorkedRead

@@ -1,5 +1,6 @@
 // Laws of the definitions, each the contract of a function that does nothing.
 ghost use Rattle.smv_leaves.specs.Laws.{LeavesAreSplit, GuardsAreMet, OneLeafEach};
+ghost use Rattle.smv_leaves.specs.WorkedRead.{MachineIsRead};
 ghost use Rattle.smv_leaves.specs.WorkedLeaves.{TomasuloLeaves, Unsplit, SplitOfSplit, Renamed, NoBrackets, InnerVariables, SplitMap};
 ghost use Rattle.smv_leaves.specs.WorkedFaults.{WholeTexts, NoFaults, NoUnits, BaseIsNoUnit, SplitTwice, LeadNowhere, Counts, Unbound, Doubled, OtherTypes, Equations, Kinds, Strays, TheFirst};
 
@@ -23,6 +24,11 @@ pub fn worked_leaves()
     ensures unnamed { NoBrackets }
     ensures inner { InnerVariables }
     ensures maps { SplitMap }
+{}
+
+/// The Tomasulo machine meets the premises of the laws.
+pub fn worked_machine()
+    ensures { MachineIsRead }
 {}
 
 /// Worked faults of splits: two whole texts, what is split, the names in brackets and of equations, and the expressions.
