@@ -7,3 +7,4 @@ pub mod Chains
 pub mod Splits
 pub mod ValuesMet
 pub mod WorkedRead
+pub mod RenamedOutcomes

@@ -16,7 +16,7 @@ is_less a b l = grind arith
 differ : (a b : ℕ) → nat_eq a b ≡ false → a ≡ b → ⊥
 differ a b e h = grind arith
 
-less_or_same : (v m : ℕ) → v < suc m → (nat_eq v m ≡ true) ⊎ (nat_eq v m ≡ false) → (v ≡ m) ⊎ (v < m)
+pub less_or_same : (v m : ℕ) → v < suc m → (nat_eq v m ≡ true) ⊎ (nat_eq v m ≡ false) → (v ≡ m) ⊎ (v < m)
 less_or_same v m l (inl e) = inl (nat_eq-is v m e)
 less_or_same v m l (inr e) = inr (let d = differ v m e in omega (arith, l, d))
 
