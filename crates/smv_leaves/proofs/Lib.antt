@@ -8,3 +8,4 @@ pub mod Splits
 pub mod ValuesMet
 pub mod WorkedRead
 pub mod RenamedOutcomes
+pub mod Equations

@@ -1,7 +1,7 @@
 -- The laws: what the crate's public functions say.
-use Rattle.std.specs.Prelude.{◌≡◌, ℕ, List, [], ◌++◌, map, zip, length, get_or, true}
+use Rattle.std.specs.Prelude.{◌≡◌, ◌<◌, ℕ, List, [], ◌++◌, map, zip, length, get_or, slice_get, Some, true, false}
 use Rattle.smv_core.specs.Values.{Value, number, Sizes}
-use Rattle.smv_core.specs.Flat.{FlatState}
+use Rattle.smv_core.specs.Flat.{Numbered, FlatState, flat_outcome}
 use Rattle.smv_core.specs.declared.flat.Simple.{Simple}
 use Rattle.smv_core.specs.declared.flat.Design.{Design}
 use Rattle.smv_core.specs.declared.flat.Family.{Family}
@@ -9,6 +9,7 @@ use Rattle.smv_core.specs.declared.flat.Claim.{Claim}
 use Rattle.smv_core.specs.declared.flat.Param.{Param}
 use Rattle.smv_core.specs.declared.flat.FlatSplit.{FlatSplit}
 use Rattle.smv_core.specs.declared.flat.FlatPair.{FlatPair}
+use Rattle.smv_core.specs.declared.flat.FlatExpr.{FlatExpr}
 use Rattle.smv_core.specs.declared.flat.Unit.{Unit}
 use Rattle.smv_core.specs.declared.flat.Guard.{Guard}
 use Rattle.smv_core.specs.declared.flat.Leaf.{Leaf}
@@ -20,9 +21,9 @@ use Rattle.smv_abs.specs.Soundness.{at_sizes, AreSizes, params_of, values_over}
 use Rattle.smv_oblig.specs.Outlines.{Entry, names_of, unit_in}
 use Rattle.smv_oblig.specs.Units.{units_of, script_of}
 use Rattle.smv_oblig.specs.Checked.{IsFilled, IsSplit}
-use Rattle.smv_leaves.specs.Variables.{IsNumbered}
-use Rattle.smv_leaves.specs.Leaves.{leaves_of}
-use Rattle.smv_leaves.specs.SplitFaults.{faults_of_splits}
+use Rattle.smv_leaves.specs.Variables.{Reading, readings, renamed, IsNumbered}
+use Rattle.smv_leaves.specs.Leaves.{stands_for, number_in, leaves_of}
+use Rattle.smv_leaves.specs.SplitFaults.{is_stray, faults_of_splits}
 
 -- a range or a set type that is not empty
 pub record IsIndex (d : Design) (t : Simple) : Type 0 where
@@ -49,6 +50,15 @@ GuardsAreMet = (d : Design) → IsRead d → faults_of_splits d ≡ [] → (size
     (s : FlatState) (values : List Value) → Has (values_over (at_sizes (names_of d) sizes) (params_of (names_of d) (unit_in d unit))) values →
     (more : List Value) × Has (values_over (at_sizes (names_of d) sizes) (map (λ p. p.over) leaf.params)) (values ++ more)
     × ((g : Guard) → Has leaf.guards g → guard_holds (at_sizes (names_of d) sizes) s g.over g.expr (values ++ more) (get_or (values ++ more) g.var (number 0)) ≡ true)
+
+-- these values of a leaf's parameters are those that the variables bound around a split have, where its brackets name them
+abbrev pub StandFor : FlatSplit → List Value → List Value → Type 0
+StandFor split own values = (length own ≡ length split.bound) × ((v k : ℕ) → v < length split.bound → stands_for split v ≡ Some k → slice_get values k ≡ slice_get own v)
+
+-- an equation that reads no other variable has in a leaf with so many parameters the outcome that it has at the split's own variables
+abbrev pub EquationsKeepOutcomes : Type 0
+EquationsKeepOutcomes = (n : Numbered) (s : FlatState) (split : FlatSplit) (e : FlatExpr) → IsNumbered (length split.bound) e → ((x : Reading) → Has (readings e) x → is_stray split x ≡ false) →
+    (own values : List Value) → StandFor split own values → flat_outcome n s (renamed (number_in split (length values)) e) values ≡ flat_outcome n s e own
 
 -- a leaf for each unit
 abbrev pub OneLeafEach : Type 0

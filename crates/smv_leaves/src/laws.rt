@@ -1,5 +1,5 @@
 // Laws of the definitions, each the contract of a function that does nothing.
-ghost use Rattle.smv_leaves.specs.Laws.{LeavesAreSplit, GuardsAreMet, OneLeafEach};
+ghost use Rattle.smv_leaves.specs.Laws.{LeavesAreSplit, GuardsAreMet, EquationsKeepOutcomes, OneLeafEach};
 ghost use Rattle.smv_leaves.specs.WorkedRead.{MachineIsRead};
 ghost use Rattle.smv_leaves.specs.WorkedLeaves.{TomasuloLeaves, Unsplit, SplitOfSplit, Renamed, NoBrackets, InnerVariables, SplitMap};
 ghost use Rattle.smv_leaves.specs.WorkedFaults.{WholeTexts, NoFaults, NoUnits, BaseIsNoUnit, SplitTwice, LeadNowhere, Counts, Unbound, Doubled, OtherTypes, Equations, Kinds, Strays, TheFirst};
@@ -13,6 +13,11 @@ pub fn leaves_are_split()
 /// For each state and all values of a unit's parameters, some values of those that its splits add meet all guards of its leaf.
 pub fn guards_are_met()
     ensures { GuardsAreMet }
+{}
+
+/// An equation has in the leaf the outcome that it has at the values of the split's own variables.
+pub fn equations_keep_outcomes()
+    ensures { EquationsKeepOutcomes }
 {}
 
 /// Worked leaves: of the Tomasulo machine, of units without a split, of splits of splits, with names that rename or are left out, with variables of binders, and of a map.
