@@ -76,8 +76,8 @@ chain_guards d params (c ∷ cuts) f good all e =
     let r = adds (all_params c) cuts f.1 in
     let is : all ≡ all_params c ++ r.more = sym e ∙ r.is in
     let here : AreBetween (length c.params) (length (all_params c)) (map (λ p. p.over) all) (guards_of (length all) c) =
-        subst (λ all. AreBetween (length c.params) (length (all_params c)) (map (λ p. p.over) all) (guards_of (length all) c)) (sym is) (are_between d c (good c first) r.more) in
+    subst (λ all. AreBetween (length c.params) (length (all_params c)) (map (λ p. p.over) all) (guards_of (length all) c)) (sym is) (are_between d c (good c first) r.more) in
     let long = joined_long c.params (new c) in
     let both = join (length c.params) (length (all_params c)) (map (λ p. p.over) all) (guards_of (length all) c) (flat_map (guards_of (length all)) cuts) (omega (arith, long)) here
-        (chain_guards d (all_params c) cuts f.1 (λ c k. good c (later k)) all e) in
+    (chain_guards d (all_params c) cuts f.1 (λ c k. good c (later k)) all e) in
     subst (λ ps. AreGuards (length ps) (map (λ p. p.over) all) (flat_map (guards_of (length all)) (c ∷ cuts))) f.0 both

@@ -9,12 +9,7 @@ use Rattle.smv_leaves.specs.Leaves.{stands_for, number_in}
 use Rattle.smv_leaves.specs.SplitFaults.{is_stray}
 use Rattle.smv_leaves.specs.Laws.{StandFor, EquationsKeepOutcomes}
 use Rattle.smv_leaves.proofs.RenamedOutcomes.{Alike, same}
-
-is_less : (a b : ℕ) → a < b → nat_lt a b ≡ true
-is_less a b l = grind arith
-
-is_not_less : (a b : ℕ) → b ≤ a → nat_lt a b ≡ false
-is_not_less a b l = grind arith
+use Rattle.smv_leaves.proofs.Lists.{is_less, is_not_less}
 
 -- a variable bound around a split that its brackets name
 abbrev IsFine : FlatSplit → ℕ → Type 0

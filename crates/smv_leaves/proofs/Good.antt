@@ -23,7 +23,7 @@ use Rattle.smv_leaves.specs.Variables.{Reading, readings}
 use Rattle.smv_leaves.specs.Leaves.{named_by, with_name, name_of, own_params, splits_of, Cut, cut, new, old, all_params, stands_for, onward, onward_if, chain}
 use Rattle.smv_leaves.specs.SplitFaults.{astray, split_again, unbound, doubled, bracketed, equations_of, not_in_one, not_new, other_kind, is_stray, strays, miscounted, other_type, misfits, mismatches, cuts, cuts_of, faults_of_splits}
 use Rattle.smv_leaves.specs.Laws.{IsRead}
-use Rattle.smv_leaves.proofs.Lists.{one_only, at_most_each, option_long}
+use Rattle.smv_leaves.proofs.Lists.{is_less, one_only, at_most_each, option_long}
 use Rattle.smv_leaves.proofs.OneCut.{IsGood}
 
 -- a place that is not there
@@ -34,9 +34,6 @@ kept false at none = absurd (none first)
 some_or_none : (o : Option ℕ) → ((k : ℕ) × (o ≡ Some k)) ⊎ (is_none o ≡ true)
 some_or_none None = inr refl
 some_or_none (Some k) = inl (k, refl)
-
-less_than : (a b : ℕ) → a < b → nat_lt a b ≡ true
-less_than a b l = grind arith
 
 module _ (d : Design) (read : IsRead d) (none : faults_of_splits d ≡ []) where
   no_fault : (f : Fault) → Has (faults_of_splits d) f → ⊥
@@ -60,7 +57,7 @@ module _ (d : Design) (read : IsRead d) (none : faults_of_splits d ≡ []) where
       | inl r ↦ r
       | inr e ↦ absurd (no_misfit x.at (Has-right (unbound s ++ doubled (bracketed s) ++ not_in_one s ++ not_new s ++ other_kind d.families s)
           (Has-flat_map (λ pair. map (λ reading. reading.at) (filter (is_stray s) (readings pair.left))) h
-          (Has-map (λ reading. reading.at) (Has-filter (is_stray s) k (and_both (less_than x.var (length s.bound) l) e))))))
+          (Has-map (λ reading. reading.at) (Has-filter (is_stray s) k (and_both (is_less x.var (length s.bound) l) e))))))
     ]
 
     in_one : (word : Word) → Has s.vars word → (a b : FlatPair) → Has (equations_of s.pairs word) a → Has (equations_of s.pairs word) b → a ≡ b

@@ -1,5 +1,5 @@
 -- Lists: places, and what is found in them.
-use Rattle.std.proofs.Common.{◌≡◌, ℕ, zero, suc, ◌+◌, ◌<◌, ◌≤◌, List, [], ◌∷◌, ◌++◌, map, length, Bool, true, false, refl, sym, ap, subst, ◌∙◌, ◌⊎◌, inl, inr, Option, Some, None, arith}
+use Rattle.std.proofs.Common.{◌≡◌, ℕ, zero, suc, ◌+◌, ◌<◌, ◌≤◌, List, [], ◌∷◌, ◌++◌, map, length, Bool, true, false, refl, sym, ap, subst, ◌∙◌, ◌⊎◌, inl, inr, Option, Some, None, arith, nat_lt}
 use Rattle.std.specs.List.{slice_get, flat_map, find}
 use Rattle.std.specs.Option.{option_map, option_to_list}
 use Rattle.smv_abs.specs.Sets.{Has, first, later}
@@ -7,6 +7,12 @@ use Rattle.smv_abs.proofs.WorkedPlans.{one_of_one}
 use Rattle.smv_abs.proofs.OneOfEach.{joined_long, get_past}
 use Rattle.smv_oblig.specs.Outlines.{place_of}
 use Rattle.smv_oblig.proofs.Lookups.{inner, place_of-is}
+
+pub is_less : (a b : ℕ) → a < b → nat_lt a b ≡ true
+is_less a b l = grind arith
+
+pub is_not_less : (a b : ℕ) → b ≤ a → nat_lt a b ≡ false
+is_not_less a b l = grind arith
 
 -- what stands at a place stands there with more behind it, and what is made of it in a map
 pub get_longer : {X : Type 0} (xs ys : List X) (k : ℕ) {x : X} → slice_get xs k ≡ Some x → slice_get (xs ++ ys) k ≡ Some x

@@ -20,7 +20,7 @@ use Rattle.smv_leaves.specs.Variables.{Reading, readings, renamed, IsNumbered}
 use Rattle.smv_leaves.specs.Leaves.{with_name, Cut, new, old, all_params, stands_for, number_in, guard_of, guards_of}
 use Rattle.smv_leaves.specs.SplitFaults.{equations_of}
 use Rattle.smv_leaves.specs.Laws.{IsIndex}
-use Rattle.smv_leaves.proofs.Lists.{get_longer, get_map, place_below}
+use Rattle.smv_leaves.proofs.Lists.{is_less, is_not_less, get_longer, get_map, place_below}
 use Rattle.smv_leaves.proofs.Params.{name_same, named, IsNew, from_new}
 use Rattle.smv_leaves.proofs.RenamedReads.{reads}
 
@@ -39,12 +39,6 @@ pub record AreBetween (count next : ℕ) (types : List Simple) (guards : List Gu
   pub is_of_type : (g : Guard) → Has guards g → slice_get types g.var ≡ Some g.over
   pub reads_before : (g : Guard) → Has guards g → ReadsOnly (before g.var) g.expr
   pub one_each : (g h : Guard) → Has guards g → Has guards h → g.var ≡ h.var → g ≡ h
-
-is_less : (a b : ℕ) → a < b → nat_lt a b ≡ true
-is_less a b l = grind arith
-
-is_not_less : (a b : ℕ) → b ≤ a → nat_lt a b ≡ false
-is_not_less a b l = grind arith
 
 module _ (d : Design) (c : Cut) (good : IsGood d c) (more : List Param) where
   abbrev all : List Param

@@ -9,9 +9,7 @@ use Rattle.smv_abs.proofs.Members.{Has-left, Has-right}
 use Rattle.smv_abs.proofs.Tests.{or_left, or_right, and_both, true_or_false}
 use Rattle.smv_abs.proofs.Same.{nat_eq-itself, nat_eq-is}
 use Rattle.smv_leaves.specs.Variables.{Reading, readings, readings_each, readings_signed, readings_members, readings_held, renamed, renamed_each, renamed_signed, renamed_members, renamed_held, IsNumbered, AreNumbered, AreSignedNumbered, AreMembersNumbered, IsHeldNumbered}
-
-is_less : (a b : ℕ) → a < b → nat_lt a b ≡ true
-is_less a b l = grind arith
+use Rattle.smv_leaves.proofs.Lists.{is_less}
 
 differ : (a b : ℕ) → nat_eq a b ≡ false → a ≡ b → ⊥
 differ a b e h = grind arith

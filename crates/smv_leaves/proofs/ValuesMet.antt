@@ -50,6 +50,6 @@ guards_are_met d read none sizes each unit leaf h s values k =
     let added = map (λ p. p.over) r.added in
     let guards : AreGuards (length own) (own ++ added) leaf.guards = subst (λ ts. AreGuards (length own) ts leaf.guards) r.are_types r.are_guards in
     let filled : (t : Simple) → Has added t → HasValue n t =
-        λ t l. let q = Has-from_map (λ (p : Param). p.over) r.added l in subst (HasValue n) (sym q.2) (index_value d sizes each q.0.over (r.added_indexes q.0 q.1)) in
+    λ t l. let q = Has-from_map (λ (p : Param). p.over) r.added l in subst (HasValue n) (sym q.2) (index_value d sizes each q.0.over (r.added_indexes q.0 q.1)) in
     let m = guards_met n own added leaf.guards guards filled s values k in
     (m.0, subst (λ ts. Has (values_over n ts) (values ++ m.0)) (sym r.are_types) (joined n own added values m.0 k m.1), m.2)

@@ -38,14 +38,14 @@ split name new of bound pairs = record { name = name; vars = new; of = of; bound
 -- module main() { x : boolean; forall (i in 0..1) subcase s[i] of q for x = i; }
 abbrev pub text_23 : Design
 text_23 = record (over_P (signal (codes "x") [] bit ∷ []) [] []) {
-  splits = split (codes "s") (word i' 58 ∷ []) (to (codes "q") 64 [] None) ((i', bit) ∷ []) (is (Read 0 [] 70) i' 74 ∷ []) ∷ []
+  splits = split (codes "s") (word i' 58 ∷ []) (to (codes "q") 64 [] None) ((i', bit) ∷ []) (is (Read 0 [] 70) i' 74 ∷ []) ∷ [];
 }
 
 -- module main() { x : {red}; p : assert G 1; forall (i in 0..1) subcase s[i] of p for x = i; }
 abbrev pub text_24 : Design
 text_24 = record (over_P (signal (codes "x") [] (Enum 0) ∷ []) [] (claim [] ∷ [])) {
   enums = (codes "red" ∷ []) ∷ [];
-  splits = split (codes "s") (word i' 72 ∷ []) (to p 78 [] None) ((i', bit) ∷ []) (is (Read 0 [] 84) i' 88 ∷ []) ∷ []
+  splits = split (codes "s") (word i' 72 ∷ []) (to p 78 [] None) ((i', bit) ∷ []) (is (Read 0 [] 84) i' 88 ∷ []) ∷ [];
 }
 
 abbrev pub WholeTexts : Type 0
