@@ -1,7 +1,7 @@
 -- The guards of a chain of splits.
-use Rattle.std.proofs.Common.{◌≡◌, ℕ, zero, suc, ◌+◌, ◌<◌, ◌≤◌, List, [], ◌∷◌, ◌++◌, map, length, append_assoc, refl, sym, ap, subst, ◌∙◌, ◌⊎◌, inl, inr, Option, Some, None, arith}
+use Rattle.std.proofs.Common.{◌≡◌, ℕ, zero, suc, ◌≤◌, List, [], ◌∷◌, ◌++◌, map, length, append_assoc, refl, sym, ap, subst, ◌∙◌, ◌⊎◌, inl, inr, Option, Some, None, arith}
 use Rattle.std.specs.Str.{bytes_eq}
-use Rattle.std.specs.List.{slice_get, flat_map, find}
+use Rattle.std.specs.List.{flat_map, find}
 use Rattle.smv_core.specs.Values.{Name}
 use Rattle.smv_core.specs.declared.flat.Design.{Design}
 use Rattle.smv_core.specs.declared.flat.Param.{Param}
@@ -14,7 +14,7 @@ use Rattle.smv_abs.proofs.Members.{Has-cases}
 use Rattle.smv_abs.proofs.OneOfEach.{joined_long}
 use Rattle.smv_leaves.specs.Leaves.{named_by, Cut, cut, new, all_params, guards_of, params_after, onward_if, chain}
 use Rattle.smv_leaves.specs.Laws.{IsIndex}
-use Rattle.smv_leaves.proofs.Params.{IsNew, from_new}
+use Rattle.smv_leaves.proofs.Params.{from_new}
 use Rattle.smv_leaves.proofs.OneCut.{IsGood, AreBetween, are_between}
 
 -- each split has the parameters of what is before it

@@ -1,14 +1,13 @@
 -- An equation in the leaf.
-use Rattle.std.proofs.Common.{◌≡◌, ℕ, ◌+◌, ◌-◌, ◌<◌, ◌≤◌, List, length, Bool, true, false, ◌&&◌, refl, sym, ap, ◌∙◌, Option, Some, None, arith, nat_lt}
+use Rattle.std.proofs.Common.{◌≡◌, ℕ, ◌+◌, ◌-◌, ◌<◌, ◌≤◌, length, false, ◌&&◌, refl, sym, ap, ◌∙◌, Option, Some, None, arith}
 use Rattle.std.specs.List.{slice_get}
 use Rattle.std.specs.Option.{is_none}
-use Rattle.smv_core.specs.Values.{Value}
 use Rattle.smv_core.specs.declared.flat.FlatSplit.{FlatSplit}
 use Rattle.smv_leaves.specs.Variables.{Reading}
 use Rattle.smv_leaves.specs.Leaves.{stands_for, number_in}
 use Rattle.smv_leaves.specs.SplitFaults.{is_stray}
-use Rattle.smv_leaves.specs.Laws.{StandFor, EquationsKeepOutcomes}
-use Rattle.smv_leaves.proofs.RenamedOutcomes.{Alike, same}
+use Rattle.smv_leaves.specs.Laws.{EquationsKeepOutcomes}
+use Rattle.smv_leaves.proofs.RenamedOutcomes.{same}
 use Rattle.smv_leaves.proofs.Lists.{is_less, is_not_less}
 
 -- a variable bound around a split that its brackets name

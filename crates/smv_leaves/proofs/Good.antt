@@ -1,8 +1,8 @@
 -- What the splits of a design without a fault of splits have.
-use Rattle.std.proofs.Common.{◌≡◌, ℕ, zero, suc, ◌+◌, ◌<◌, ◌≤◌, List, [], ◌∷◌, ◌++◌, map, zip, length, Bool, true, false, not, ◌&&◌, if◌then◌else◌, refl, sym, ap, subst, ◌∙◌, ◌⊎◌, inl, inr, Option, Some, None, arith, nat_eq, nat_lt}
+use Rattle.std.proofs.Common.{◌≡◌, ℕ, zero, suc, ◌<◌, ◌≤◌, List, [], ◌∷◌, ◌++◌, map, length, Bool, true, false, not, refl, sym, subst, ◌⊎◌, inl, inr, Option, Some, None, arith, nat_eq}
 use Rattle.std.specs.Str.{bytes_eq}
 use Rattle.std.specs.List.{flat_map, find, filter}
-use Rattle.std.specs.Option.{is_none, option_to_list}
+use Rattle.std.specs.Option.{is_none}
 use Rattle.smv_core.specs.Values.{Name}
 use Rattle.smv_core.specs.declared.fault.Fault.{Fault}
 use Rattle.smv_core.specs.declared.tree.Word.{Word}
@@ -14,13 +14,13 @@ use Rattle.smv_core.specs.declared.flat.Unit.{Unit}
 use Rattle.smv_inst.specs.NameFaults.{place_if}
 use Rattle.smv_abs.specs.Sets.{Has, first, later}
 use Rattle.smv_abs.proofs.Members.{Has-uncons, Has-left, Has-right, Has-map, Has-flat_map}
-use Rattle.smv_abs.proofs.Tests.{true_or_false, and_both}
+use Rattle.smv_abs.proofs.Tests.{and_both}
 use Rattle.smv_abs.proofs.Same.{nat_eq-is}
 use Rattle.smv_oblig.specs.Outlines.{unit_in}
 use Rattle.smv_oblig.specs.Units.{units_of}
 use Rattle.smv_oblig.proofs.Lookups.{Has-filter, find-some}
 use Rattle.smv_leaves.specs.Variables.{Reading, readings}
-use Rattle.smv_leaves.specs.Leaves.{named_by, with_name, name_of, own_params, splits_of, Cut, cut, new, old, all_params, stands_for, onward, onward_if, chain}
+use Rattle.smv_leaves.specs.Leaves.{named_by, with_name, name_of, own_params, Cut, cut, all_params, stands_for, onward, onward_if, chain}
 use Rattle.smv_leaves.specs.SplitFaults.{astray, split_again, unbound, doubled, bracketed, equations_of, not_in_one, not_new, other_kind, is_stray, strays, miscounted, other_type, misfits, mismatches, cuts, cuts_of, faults_of_splits}
 use Rattle.smv_leaves.specs.Laws.{IsRead}
 use Rattle.smv_leaves.proofs.Lists.{is_less, one_only, at_most_each, option_long}

@@ -1,8 +1,8 @@
 -- Lists: places, and what is found in them.
-use Rattle.std.proofs.Common.{◌≡◌, ℕ, zero, suc, ◌+◌, ◌<◌, ◌≤◌, List, [], ◌∷◌, ◌++◌, map, length, Bool, true, false, refl, sym, ap, subst, ◌∙◌, ◌⊎◌, inl, inr, Option, Some, None, arith, nat_lt}
-use Rattle.std.specs.List.{slice_get, flat_map, find}
-use Rattle.std.specs.Option.{option_map, option_to_list}
-use Rattle.smv_abs.specs.Sets.{Has, first, later}
+use Rattle.std.proofs.Common.{◌≡◌, ℕ, zero, suc, ◌+◌, ◌<◌, ◌≤◌, List, [], ◌∷◌, ◌++◌, map, length, Bool, true, false, sym, ap, ◌∙◌, Option, Some, None, arith, nat_lt}
+use Rattle.std.specs.List.{slice_get, flat_map}
+use Rattle.std.specs.Option.{option_to_list}
+use Rattle.smv_abs.specs.Sets.{Has}
 use Rattle.smv_abs.proofs.WorkedPlans.{one_of_one}
 use Rattle.smv_abs.proofs.OneOfEach.{joined_long, get_past}
 use Rattle.smv_oblig.specs.Outlines.{place_of}

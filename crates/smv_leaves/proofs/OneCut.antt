@@ -1,11 +1,9 @@
 -- The guards of one split.
-use Rattle.std.proofs.Common.{◌≡◌, ℕ, suc, ◌+◌, ◌-◌, ◌<◌, ◌≤◌, List, [], ◌∷◌, ◌++◌, map, length, Bool, true, false, if◌then◌else◌, refl, sym, ap, subst, ◌∙◌, ◌⊎◌, inl, inr, Option, Some, None, arith, nat_eq, nat_lt}
+use Rattle.std.proofs.Common.{◌≡◌, ℕ, ◌+◌, ◌-◌, ◌<◌, ◌≤◌, List, ◌++◌, map, length, true, refl, sym, ap, subst, ◌∙◌, Some, arith, nat_eq}
 use Rattle.std.specs.Str.{bytes_eq}
-use Rattle.std.specs.List.{slice_get, flat_map}
-use Rattle.std.specs.Option.{unwrap_or}
+use Rattle.std.specs.List.{slice_get}
 use Rattle.smv_core.specs.declared.tree.Word.{Word}
 use Rattle.smv_core.specs.declared.flat.Param.{Param}
-use Rattle.smv_core.specs.declared.flat.FlatSplit.{FlatSplit}
 use Rattle.smv_core.specs.declared.flat.FlatPair.{FlatPair}
 use Rattle.smv_core.specs.declared.flat.Guard.{Guard}
 use Rattle.smv_core.specs.declared.flat.Simple.{Simple}
@@ -14,7 +12,6 @@ use Rattle.smv_abs.specs.Sets.{Has}
 use Rattle.smv_abs.specs.Scopes.{ReadsOnly, before}
 use Rattle.smv_abs.proofs.Members.{Has-from_map}
 use Rattle.smv_abs.proofs.OneOfEach.{Has-from_flat_map, joined_long, get_past}
-use Rattle.smv_abs.proofs.Tests.{true_or_false}
 use Rattle.smv_oblig.proofs.Lookups.{inner, Has-filter}
 use Rattle.smv_leaves.specs.Variables.{Reading, readings, renamed, IsNumbered}
 use Rattle.smv_leaves.specs.Leaves.{with_name, Cut, new, old, all_params, stands_for, number_in, guard_of, guards_of}

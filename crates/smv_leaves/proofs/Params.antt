@@ -1,5 +1,5 @@
 -- The parameters that a split adds: where they stand, and of which variables they are.
-use Rattle.std.proofs.Common.{◌≡◌, ℕ, suc, ◌+◌, ◌<◌, ◌≤◌, List, [], ◌∷◌, ◌++◌, map, length, true, refl, sym, ap, subst, ◌∙◌, inl, inr, Some, arith}
+use Rattle.std.proofs.Common.{◌≡◌, ℕ, suc, ◌+◌, ◌≤◌, List, [], ◌∷◌, map, length, true, refl, sym, ap, subst, ◌∙◌, inl, inr, Some, arith}
 use Rattle.std.specs.Str.{bytes_eq}
 use Rattle.std.specs.List.{slice_get, flat_map, find}
 use Rattle.std.proofs.lemmas.Slice.Eq.{bytes_eq-Decides}
@@ -10,9 +10,9 @@ use Rattle.smv_core.specs.declared.flat.Param.{Param}
 use Rattle.smv_abs.specs.Sets.{Has, first, later}
 use Rattle.smv_abs.proofs.Members.{Has-uncons}
 use Rattle.smv_abs.proofs.OneOfEach.{Has-from_flat_map}
-use Rattle.smv_oblig.proofs.Lookups.{inner, Has-option, find-some}
+use Rattle.smv_oblig.proofs.Lookups.{Has-option, find-some}
 use Rattle.smv_leaves.specs.Leaves.{numbered, nameless, with_name, Cut, new, all_params}
-use Rattle.smv_leaves.proofs.Lists.{get_longer, get_behind}
+use Rattle.smv_leaves.proofs.Lists.{get_behind}
 
 pub same_name : (a b : Name) → bytes_eq a b ≡ true → a ≡ b
 same_name a b e = (bytes_eq-Decides a b).0 e

@@ -1,5 +1,5 @@
 -- An expression whose variables have other numbers has the same outcome where these numbers have the same values.
-use Rattle.std.proofs.Common.{◌≡◌, ℕ, zero, suc, ◌+◌, ◌-◌, ◌<◌, ◌≤◌, List, [], ◌∷◌, ◌++◌, map, take, length, true, false, refl, sym, ap, subst, ◌∙◌, ◌⊎◌, arith, inl, inr, Some, None, nat_eq}
+use Rattle.std.proofs.Common.{◌≡◌, ℕ, zero, suc, ◌+◌, ◌-◌, ◌<◌, ◌≤◌, List, [], ◌∷◌, ◌++◌, map, take, length, refl, sym, ap, subst, ◌∙◌, ◌⊎◌, arith, inl, inr, Some, None, nat_eq}
 use Rattle.std.specs.List.{slice_get}
 use Rattle.smv_core.specs.Values.{Value, number, Outcome, truth, bit, compare, equal, add, modulo, numbers_from, not_of, iff_of, conjunction, disjunction, implication}
 use Rattle.smv_core.specs.Outcome.{branch}

@@ -1,8 +1,6 @@
 -- The leaves of a design without a fault of splits.
 use Rattle.std.proofs.Common.{◌≡◌, ℕ, suc, List, [], ◌∷◌, ◌++◌, map, zip, length, refl, sym, ap, subst, ◌∙◌, inl, inr, Option, Some, None}
 use Rattle.std.specs.List.{slice_get}
-use Rattle.smv_core.specs.Values.{Value, Sizes, number}
-use Rattle.smv_core.specs.Flat.{FlatState}
 use Rattle.smv_core.specs.declared.flat.Design.{Design}
 use Rattle.smv_core.specs.declared.flat.Simple.{Simple}
 use Rattle.smv_core.specs.declared.flat.Family.{Family}
@@ -11,19 +9,17 @@ use Rattle.smv_core.specs.declared.flat.Claim.{Claim as FlatClaim}
 use Rattle.smv_core.specs.declared.flat.Param.{Param}
 use Rattle.smv_core.specs.declared.flat.Unit.{Unit}
 use Rattle.smv_core.specs.declared.flat.Unit.TheVariants.{Map, Claim}
-use Rattle.smv_core.specs.declared.flat.Guard.{Guard}
 use Rattle.smv_core.specs.declared.flat.Leaf.{Leaf}
 use Rattle.smv_core.specs.declared.flat.Choice.{Choice}
 use Rattle.smv_abs.specs.Sets.{Has, first, later}
-use Rattle.smv_abs.specs.Covers.{IsIndexType}
 use Rattle.smv_abs.specs.Guards.{AreGuards}
-use Rattle.smv_abs.specs.Soundness.{FlatUnit, map_of, claim_of, at_sizes, AreSizes, over_of, params_of, values_over, HasValue}
-use Rattle.smv_abs.proofs.Members.{Has-uncons, Has-map, Has-from_map, Has-right}
+use Rattle.smv_abs.specs.Soundness.{FlatUnit, map_of, claim_of, over_of, params_of}
+use Rattle.smv_abs.proofs.Members.{Has-uncons, Has-from_map, Has-right}
 use Rattle.smv_abs.proofs.OneOfEach.{map_joined, map_long, get_Has}
 use Rattle.smv_oblig.specs.Outlines.{Entry, entries_of, names_of, as_map, as_claim, unit_in}
 use Rattle.smv_oblig.specs.Units.{units_of, script_of}
-use Rattle.smv_oblig.specs.Checked.{IsFilled, IsSplit}
-use Rattle.smv_leaves.specs.Leaves.{numbered, nameless, name_of, own_params, Cut, chain_of, params_after, leaf_of, leaves_from, leaves_of}
+use Rattle.smv_oblig.specs.Checked.{IsSplit}
+use Rattle.smv_leaves.specs.Leaves.{nameless, name_of, own_params, Cut, chain_of, params_after, leaf_of, leaves_from, leaves_of}
 use Rattle.smv_leaves.specs.SplitFaults.{faults_of_splits}
 use Rattle.smv_leaves.specs.Laws.{IsIndex, IsRead}
 use Rattle.smv_leaves.proofs.Params.{numbered_types, nameless_types, from_numbered}

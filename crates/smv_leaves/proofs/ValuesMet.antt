@@ -1,16 +1,13 @@
 -- Values of the parameters that splits add, at which all guards of a leaf hold.
-use Rattle.std.proofs.Common.{◌≡◌, ℕ, ◌+◌, ◌-◌, ◌<◌, ◌≤◌, List, [], ◌∷◌, ◌++◌, map, zip, length, get_or, Bool, true, false, refl, sym, ap, subst, ◌∙◌, Some, arith}
+use Rattle.std.proofs.Common.{◌+◌, ◌-◌, ◌<◌, ◌≤◌, List, ◌++◌, map, length, Bool, true, false, sym, subst, arith}
 use Rattle.smv_core.specs.Values.{Name, Value, number, scalar, ordinal, Sizes, values_of}
-use Rattle.smv_core.specs.Flat.{Numbered, FlatState, values_in, set_type}
+use Rattle.smv_core.specs.Flat.{Numbered, values_in, set_type}
 use Rattle.smv_core.specs.declared.flat.Design.{Design}
 use Rattle.smv_core.specs.declared.flat.Simple.{Simple}
 use Rattle.smv_core.specs.declared.flat.Simple.TheVariants.{Range, Enum, Set}
-use Rattle.smv_core.specs.declared.flat.Unit.{Unit}
-use Rattle.smv_core.specs.declared.flat.Guard.{Guard}
-use Rattle.smv_core.specs.declared.flat.Leaf.{Leaf}
 use Rattle.smv_core.specs.declared.flat.Param.{Param}
 use Rattle.smv_abs.specs.Sets.{Has, one_of_each}
-use Rattle.smv_abs.specs.Guards.{AreGuards, guard_holds}
+use Rattle.smv_abs.specs.Guards.{AreGuards}
 use Rattle.smv_abs.specs.Soundness.{at_sizes, AreSizes, params_of, values_over, HasValue}
 use Rattle.smv_abs.proofs.Members.{Has-map, Has-from_map}
 use Rattle.smv_abs.proofs.Spots.{Has-numbers}
@@ -18,12 +15,8 @@ use Rattle.smv_abs.proofs.OneOfEach.{are_of, one_of, are_joined, map_joined, get
 use Rattle.smv_abs.proofs.CoverScalarsets.{named_set}
 use Rattle.smv_abs.proofs.GuardsChosen.{guards_met}
 use Rattle.smv_oblig.specs.Outlines.{names_of, unit_in}
-use Rattle.smv_oblig.specs.Units.{units_of}
-use Rattle.smv_oblig.specs.Checked.{IsFilled}
-use Rattle.smv_leaves.specs.Leaves.{leaves_of}
-use Rattle.smv_leaves.specs.SplitFaults.{faults_of_splits}
-use Rattle.smv_leaves.specs.Laws.{IsIndex, IsRead, GuardsAreMet}
-use Rattle.smv_leaves.proofs.Splits.{IsLeafOf, leaf_of_unit}
+use Rattle.smv_leaves.specs.Laws.{IsIndex, GuardsAreMet}
+use Rattle.smv_leaves.proofs.Splits.{leaf_of_unit}
 
 -- the types of parameters have values
 set_value : (sizes : Sizes) (is_ordered : Bool) (name : Name) → 0 < sizes name → (v : Value) × Has (values_of sizes (named_set is_ordered name)) v

@@ -1,6 +1,5 @@
 -- The Tomasulo machine with its splits, as earlier passes give it.
 use Rattle.std.proofs.Common.{List, [], ◌∷◌, length, refl, arith}
-use Rattle.smv_core.specs.declared.flat.Simple.{Simple}
 use Rattle.smv_core.specs.declared.flat.Family.{Family}
 use Rattle.smv_core.specs.declared.flat.Param.{Param}
 use Rattle.smv_core.specs.declared.flat.FlatSplit.{FlatSplit}

@@ -1,5 +1,5 @@
 -- Leaves: the ends of the chains of splits, one for each unit of a design.
-use Rattle.std.specs.Prelude.{ℕ, zero, suc, ◌+◌, ◌-◌, List, [], ◌∷◌, ◌++◌, map, flat_map, filter, find, length, slice_get, option_to_list, option_and_then, unwrap_or, Option, Some, None, Bool, if◌then◌else◌, nat_eq, nat_lt}
+use Rattle.std.specs.Prelude.{ℕ, zero, suc, ◌+◌, ◌-◌, List, [], ◌∷◌, ◌++◌, map, flat_map, filter, find, length, slice_get, option_to_list, option_and_then, unwrap_or, Option, Some, None, if◌then◌else◌, nat_eq, nat_lt}
 use Rattle.std.specs.Str.{bytes_eq}
 use Rattle.std.specs.List.{join_with_byte}
 use Rattle.smv_core.specs.Values.{Name}

@@ -1,5 +1,5 @@
 -- The faults of splits, each as the list of the places where its rule is broken.
-use Rattle.std.specs.Prelude.{ℕ, zero, suc, List, [], ◌∷◌, ◌++◌, map, flat_map, filter, zip, length, slice_get, is_none, Option, Some, None, Bool, true, false, not, ◌&&◌, ◌||◌, if◌then◌else◌, nat_eq, nat_lt}
+use Rattle.std.specs.Prelude.{ℕ, zero, suc, List, [], ◌∷◌, ◌++◌, map, flat_map, filter, zip, length, slice_get, is_none, Option, Some, None, Bool, true, false, not, ◌&&◌, ◌||◌, nat_eq, nat_lt}
 use Rattle.std.specs.Str.{bytes_eq}
 use Rattle.std.specs.List.{list_any}
 use Rattle.smv_core.specs.Values.{Name}
@@ -18,7 +18,7 @@ use Rattle.smv_inst.specs.FirstFault.{faults_at, first_of}
 use Rattle.smv_oblig.specs.Outlines.{unit_in}
 use Rattle.smv_oblig.specs.Units.{units_of}
 use Rattle.smv_leaves.specs.Variables.{Reading, readings}
-use Rattle.smv_leaves.specs.Leaves.{named_by, with_name, name_of, own_params, splits_of, Cut, new, stands_for, onward}
+use Rattle.smv_leaves.specs.Leaves.{named_by, with_name, name_of, own_params, splits_of, Cut, stands_for, onward}
 
 -- ---- fault 23: a split of nothing that is to be proved, or of what is split already
 

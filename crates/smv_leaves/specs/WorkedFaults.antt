@@ -6,9 +6,6 @@ use Rattle.smv_core.specs.declared.tree.Word.{Word}
 use Rattle.smv_core.specs.declared.tree.Ref.{Ref}
 use Rattle.smv_core.specs.declared.flat.Simple.{Simple}
 use Rattle.smv_core.specs.declared.flat.Simple.TheVariants.{Range, Enum}
-use Rattle.smv_core.specs.declared.flat.Def.{Def}
-use Rattle.smv_core.specs.declared.flat.Family.{Family}
-use Rattle.smv_core.specs.declared.flat.Claim.{Claim}
 use Rattle.smv_core.specs.declared.flat.Design.{Design}
 use Rattle.smv_core.specs.declared.flat.FlatSplit.{FlatSplit}
 use Rattle.smv_core.specs.declared.flat.FlatPair.{FlatPair}
@@ -16,7 +13,7 @@ use Rattle.smv_core.specs.declared.flat.FlatExpr.{FlatExpr, Read, Var, Choose, A
 use Rattle.smv_oblig.specs.WorkedTomasulo.{bit, one, at, equal, num, set, always}
 use Rattle.smv_oblig.specs.WorkedScripts.{over_P}
 use Rattle.smv_leaves.specs.SplitFaults.{faults_of_splits, first_fault_of_splits}
-use Rattle.smv_leaves.specs.WorkedLeaves.{variables, split_machine, P, signal, small, b, s, w, v, p, k, c, a, i', j, claim, map_x, splits, at_two, q_of_p, t_of_q, q_of_x, q_by_any}
+use Rattle.smv_leaves.specs.WorkedLeaves.{variables, split_machine, P, signal, small, b, s, w, v, p, k, c, a, i', j, claim, map_x, splits, q_of_p, t_of_q, q_of_x, q_by_any}
 
 abbrev pub fault : ℕ → ℕ → Fault
 fault number at = record { number = number; at = at }
