@@ -9,3 +9,4 @@ pub mod ValuesMet
 pub mod WorkedRead
 pub mod RenamedOutcomes
 pub mod Equations
+pub mod Ends

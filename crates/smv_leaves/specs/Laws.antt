@@ -1,5 +1,5 @@
 -- The laws: what the crate's public functions say.
-use Rattle.std.specs.Prelude.{◌≡◌, ◌<◌, ℕ, List, [], ◌++◌, map, zip, length, get_or, slice_get, Some, true, false}
+use Rattle.std.specs.Prelude.{◌≡◌, ◌≢◌, ◌<◌, ℕ, List, [], ◌++◌, map, zip, length, get_or, slice_get, Some, true, false}
 use Rattle.smv_core.specs.Values.{Value, number, Sizes}
 use Rattle.smv_core.specs.Flat.{Numbered, FlatState, flat_outcome}
 use Rattle.smv_core.specs.declared.flat.Simple.{Simple}
@@ -22,7 +22,7 @@ use Rattle.smv_oblig.specs.Outlines.{Entry, names_of, unit_in}
 use Rattle.smv_oblig.specs.Units.{units_of, script_of}
 use Rattle.smv_oblig.specs.Checked.{IsFilled, IsSplit}
 use Rattle.smv_leaves.specs.Variables.{Reading, readings, renamed, IsNumbered}
-use Rattle.smv_leaves.specs.Leaves.{stands_for, number_in, leaves_of}
+use Rattle.smv_leaves.specs.Leaves.{named_by, name_of, stands_for, number_in, leaves_of}
 use Rattle.smv_leaves.specs.SplitFaults.{is_stray, faults_of_splits}
 
 -- a range or a set type that is not empty
@@ -59,6 +59,15 @@ StandFor split own values = (length own ≡ length split.bound) × ((v k : ℕ) 
 abbrev pub EquationsKeepOutcomes : Type 0
 EquationsKeepOutcomes = (n : Numbered) (s : FlatState) (split : FlatSplit) (e : FlatExpr) → IsNumbered (length split.bound) e → ((x : Reading) → Has (readings e) x → is_stray split x ≡ false) →
     (own values : List Value) → StandFor split own values → flat_outcome n s (renamed (number_in split (length values)) e) values ≡ flat_outcome n s e own
+
+-- no two splits have one name, and no unit has that of a split
+pub record HasNamesApart (d : Design) : Type 0 where
+  pub splits : (j k : ℕ) (s t : FlatSplit) → slice_get d.splits j ≡ Some s → slice_get d.splits k ≡ Some t → s.name ≡ t.name → j ≡ k
+  pub units : (unit : Unit) → Has (units_of d) unit → (s : FlatSplit) → Has d.splits s → name_of d (unit_in d unit) ≢ s.name
+
+-- where names are apart, each leaf is the end of its chain: no split is of it
+abbrev pub LeavesAreEnds : Type 0
+LeavesAreEnds = (d : Design) → HasNamesApart d → (leaf : Leaf) → Has (leaves_of d) leaf → (s : FlatSplit) → Has d.splits s → named_by s.of ≢ leaf.name
 
 -- a leaf for each unit
 abbrev pub OneLeafEach : Type 0

@@ -100,7 +100,7 @@ is_of_kind families bound t _ = is_of_numbers t
 
 -- the expression is of another kind than its parameter
 abbrev pub other_kind : List Family → FlatSplit → List ℕ
-other_kind families s = flat_map (λ pair. place_if (list_any (λ p. not (is_of_kind families s.bound p.over pair.left)) (flat_map (with_name s.bound) (pair.right ∷ []))) pair.right.at) s.pairs
+other_kind families s = flat_map (λ pair. place_if (list_any (λ p. not (is_of_kind families s.bound p.over pair.left)) (with_name s.bound pair.right)) pair.right.at) s.pairs
 
 -- the expression reads a variable bound around the split that the brackets of its reference do not name
 abbrev pub is_stray : FlatSplit → Reading → Bool

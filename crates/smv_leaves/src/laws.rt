@@ -1,5 +1,5 @@
 // Laws of the definitions, each the contract of a function that does nothing.
-ghost use Rattle.smv_leaves.specs.Laws.{LeavesAreSplit, GuardsAreMet, EquationsKeepOutcomes, OneLeafEach};
+ghost use Rattle.smv_leaves.specs.Laws.{LeavesAreSplit, GuardsAreMet, EquationsKeepOutcomes, OneLeafEach, LeavesAreEnds};
 ghost use Rattle.smv_leaves.specs.WorkedRead.{MachineIsRead};
 ghost use Rattle.smv_leaves.specs.WorkedLeaves.{TomasuloLeaves, Unsplit, SplitOfSplit, Renamed, NoBrackets, InnerVariables, SplitMap};
 ghost use Rattle.smv_leaves.specs.WorkedFaults.{WholeTexts, NoFaults, NoUnits, BaseIsNoUnit, SplitTwice, LeadNowhere, Counts, Unbound, Doubled, OtherTypes, Equations, Kinds, Strays, TheFirst};
@@ -8,6 +8,11 @@ ghost use Rattle.smv_leaves.specs.WorkedFaults.{WholeTexts, NoFaults, NoUnits, B
 pub fn leaves_are_split()
     ensures split { LeavesAreSplit }
     ensures each { OneLeafEach }
+{}
+
+/// Where names are apart, no split is of a leaf.
+pub fn leaves_are_ends()
+    ensures { LeavesAreEnds }
 {}
 
 /// For each state and all values of a unit's parameters, some values of those that its splits add meet all guards of its leaf.
