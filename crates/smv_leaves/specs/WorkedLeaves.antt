@@ -174,6 +174,10 @@ abbrev pub Renamed : Type 0
 Renamed = (leaves_of (splits ((i', P) ∷ (a, P) ∷ []) (split (codes "q") (c ∷ []) (of_claim (p ∷ []) (k ∷ j ∷ [])) ((c, P) ∷ (j, P) ∷ (k, P) ∷ []) (is (at_two (v 1) (v 2)) c ∷ []) ∷ []))
     ≡ leaf 0 (codes "q") ((i', P) ∷ (a, P) ∷ (c, P) ∷ []) (guard 2 P (at_two (v 1) (v 0)) ∷ []) ∷ [])
 
+-- a guard stands where its equation does
+abbrev pub PlacesStay : Type 0
+PlacesStay = leaves_of (splits [] (record q_of_p { pairs = record (is (one s) i') { at = 7 } ∷ [] } ∷ [])) ≡ leaf 0 (codes "q") ((i', P) ∷ []) (record (guard 0 P (one s)) { at = 7 } ∷ []) ∷ []
+
 -- without brackets the parameters stay
 abbrev pub NoBrackets : Type 0
 NoBrackets = leaves_of (splits ((i', P) ∷ []) (split (codes "q") (c ∷ []) (of_claim (p ∷ []) []) ((c, P) ∷ []) (is (one s) c ∷ []) ∷ []))

@@ -1,7 +1,7 @@
 // Laws of the definitions, each the contract of a function that does nothing.
 ghost use Rattle.smv_leaves.specs.Laws.{LeavesAreSplit, GuardsAreMet, EquationsKeepOutcomes, OneLeafEach, LeavesAreEnds};
 ghost use Rattle.smv_leaves.specs.WorkedRead.{MachineIsRead};
-ghost use Rattle.smv_leaves.specs.WorkedLeaves.{TomasuloLeaves, Unsplit, SplitOfSplit, Renamed, NoBrackets, InnerVariables, SplitMap};
+ghost use Rattle.smv_leaves.specs.WorkedLeaves.{TomasuloLeaves, Unsplit, SplitOfSplit, Renamed, NoBrackets, PlacesStay, InnerVariables, SplitMap};
 ghost use Rattle.smv_leaves.specs.WorkedFaults.{WholeTexts, NoFaults, NoUnits, BaseIsNoUnit, SplitTwice, LeadNowhere, Counts, Unbound, Doubled, OtherTypes, Equations, Kinds, Strays, TheFirst};
 
 /// Where a design has no fault of splits, each of its leaves has the unit's parameters and then those that the splits add, and guards of these, each reading only the parameters before its own.
@@ -32,11 +32,12 @@ pub fn worked_leaves()
     ensures splits { SplitOfSplit }
     ensures renamed { Renamed }
     ensures unnamed { NoBrackets }
+    ensures places { PlacesStay }
     ensures inner { InnerVariables }
     ensures maps { SplitMap }
 {}
 
-/// The Tomasulo machine meets the premises of the laws.
+/// The Tomasulo machine meets the premises of the laws, so its leaves have the parameters and guards that its splits give.
 pub fn worked_machine()
     ensures { MachineIsRead }
 {}

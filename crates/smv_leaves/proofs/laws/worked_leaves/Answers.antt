@@ -30,3 +30,7 @@ returns-clause-inner c = (refl, refl)
 pub returns-clause-maps : goal.returns-clause-maps
 unfolding computing
 returns-clause-maps c = (refl, refl)
+
+pub returns-clause-places : goal.returns-clause-places
+unfolding computing
+returns-clause-places c = refl
