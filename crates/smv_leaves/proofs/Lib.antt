@@ -1,0 +1,12 @@
+pub mod Lists
+pub mod RenamedReads
+pub mod Params
+pub mod OneCut
+pub mod Good
+pub mod Chains
+pub mod Splits
+pub mod ValuesMet
+pub mod WorkedRead
+pub mod RenamedOutcomes
+pub mod Equations
+pub mod Ends
