@@ -1,0 +1,4 @@
+pub mod Reading
+pub mod Loops
+pub mod LayerFaults
+pub mod FirstFault
