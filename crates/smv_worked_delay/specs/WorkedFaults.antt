@@ -94,6 +94,8 @@ sets =
     (codes "scalarset P undefined; module main() { x : array 0..1 of array P of boolean; forall (i in P) x[0][i] := x[1][i]; }", valid) ∷
     -- in the other order of indexes
     (codes "scalarset P undefined; module main() { x : array P of array 0..1 of boolean; forall (i in P) x[i][0] := x[i][1]; forall (i in P) x[i][1] := x[i][0]; }", fault 18 129) ∷
+    -- a number concerns no element, nor is one read
+    (codes "scalarset P undefined; module main() { x : array P of boolean; for (k = 0; k < 2; k = k + 1) x[k] := x[k]; }", valid) ∷
     -- a reference as an index is read
     (codes "scalarset P undefined; module main() { x : array P of boolean; d, e : P; x[d] := 0; d := x[e] ? e : e; }", fault 18 84) ∷ []
 

@@ -1,5 +1,6 @@
 // Worked texts, each group a clause of a function that does nothing.
-ghost use Rattle.smv_worked_delay.specs.Worked.{AreFound};
+ghost use Rattle.smv_worked_delay.specs.Worked.{AreEdges, AreFound};
+ghost use Rattle.smv_worked_delay.specs.WorkedEdges as designs;
 ghost use Rattle.smv_worked_delay.specs.WorkedFaults as texts;
 
 /// The first fault of loops and layers of each worked text.
@@ -16,4 +17,9 @@ pub fn worked_faults()
     ensures assigning { AreFound texts.assigning }
     ensures passes { AreFound texts.passes }
     ensures tomasulo { AreFound texts.tomasulo }
+{}
+
+/// The edges of the design of each worked text.
+pub fn worked_edges()
+    ensures edges { AreEdges designs.edges }
 {}

@@ -1,4 +1,4 @@
-//! Worked texts, each with its first fault of loops and layers, as theorems.
+//! Worked texts, each with its first fault of loops and layers or its edges, as theorems.
 #![tactic(auto)]
 
 pub mod laws;

@@ -1,0 +1,9 @@
+-- By computing the edges of each text.
+use Rattle.std.proofs.Common.{refl}
+use Rattle.smv_worked_delay.specs.Worked.{AreEdges}
+use Rattle.smv_worked_delay.specs.WorkedEdges as w
+use Rattle.smv_worked_single.proofs.Computing.{computing}
+
+pub edges-found : AreEdges w.edges
+unfolding computing
+edges-found = refl
