@@ -4,6 +4,10 @@ use Rattle.smv_worked_delay.specs.Worked.{AreEdges}
 use Rattle.smv_worked_delay.specs.WorkedEdges as w
 use Rattle.smv_worked_single.proofs.Computing.{computing}
 
-pub edges-found : AreEdges w.edges
+pub assignments-found : AreEdges w.assignments
 unfolding computing
-edges-found = refl
+assignments-found = refl
+
+pub indexes-found : AreEdges w.indexes
+unfolding computing
+indexes-found = refl

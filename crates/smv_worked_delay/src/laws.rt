@@ -21,5 +21,6 @@ pub fn worked_faults()
 
 /// The edges of the design of each worked text.
 pub fn worked_edges()
-    ensures edges { AreEdges designs.edges }
+    ensures assignments { AreEdges designs.assignments }
+    ensures indexes { AreEdges designs.indexes }
 {}
