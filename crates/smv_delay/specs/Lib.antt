@@ -2,3 +2,4 @@ pub mod Reading
 pub mod Loops
 pub mod LayerFaults
 pub mod FirstFault
+pub mod Laws

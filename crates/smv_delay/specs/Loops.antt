@@ -72,18 +72,27 @@ module _ (d : Design) where
   abbrev pub edges_of : Reading → List Edge
   edges_of a = flat_map (λ from. map (λ to. (from, to)) (flat_map (λ (r : Reference). cells r.family r.indexes) a.reads)) (cells a.family a.left)
 
--- edges to cells from which an edge goes on
-abbrev pub going_on : List Edge → List Edge
-going_on edges = filter (λ (from, to). list_any (λ (other, next). same_cell to other) edges) edges
+-- an edge leads to a cell from which one of these edges goes on
+abbrev pub leads_on : List Edge → Edge → Bool
+leads_on edges (from, to) = list_any (λ (other, next). same_cell to other) edges
 
--- so many times only those edges are kept that go on
+-- the edges that lead on
+abbrev pub going_on : List Edge → List Edge
+going_on edges = filter (leads_on edges) edges
+
+-- so many times only those edges are kept that lead on
 abbrev pub kept : ℕ → List Edge → List Edge
 kept zero edges = edges
 kept (suc n) edges = kept n (going_on edges)
 
--- some edges hold a cycle where some edge goes on and on, for as many steps as there are edges
+-- at least one
+abbrev pub are_some : List Edge → Bool
+are_some [] = false
+are_some (edge ∷ edges) = true
+
+-- some edges hold a cycle where one of them leads on and on, for as many steps as there are edges
 abbrev pub hold_a_cycle : List Edge → Bool
-hold_a_cycle edges = not (nat_eq (length (kept (length edges) edges)) 0)
+hold_a_cycle edges = are_some (kept (length edges) edges)
 
 -- ---- fault 18: the assignment with which the edges first hold a cycle
 

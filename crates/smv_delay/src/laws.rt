@@ -1,0 +1,10 @@
+// Laws of loops, each the contract of a function that does nothing.
+ghost use Rattle.std.specs.Prelude.{◌≡◌, List, Bool, true};
+ghost use Rattle.smv_delay.specs.Laws.{IsCircular};
+ghost use Rattle.smv_delay.specs.Loops.{Edge, hold_a_cycle};
+
+/// Edges hold a cycle exactly where some of them, at least one, each lead on to one of them.
+pub fn cycles_are_found()
+    ensures none_is_missed { (edges : List Edge) (chosen : Edge → Bool) → IsCircular edges chosen → hold_a_cycle edges ≡ true }
+    ensures each_is_one { (edges : List Edge) → hold_a_cycle edges ≡ true → (chosen : Edge → Bool) × IsCircular edges chosen }
+{}
