@@ -1,10 +1,16 @@
 // Laws of loops, each the contract of a function that does nothing.
-ghost use Rattle.std.specs.Prelude.{◌≡◌, List, Bool, true};
-ghost use Rattle.smv_delay.specs.Laws.{IsCircular};
+ghost use Rattle.std.specs.Prelude.{◌≡◌, ℕ, List, Bool, true, false};
+ghost use Rattle.smv_core.specs.declared.flat.Cell.{Cell};
+ghost use Rattle.smv_delay.specs.Laws.{AreFalling, IsCircular};
 ghost use Rattle.smv_delay.specs.Loops.{Edge, hold_a_cycle};
 
 /// Edges hold a cycle exactly where some of them, at least one, each lead on to one of them.
 pub fn cycles_are_found()
     ensures none_is_missed { (edges : List Edge) (chosen : Edge → Bool) → IsCircular edges chosen → hold_a_cycle edges ≡ true }
     ensures each_is_one { (edges : List Edge) → hold_a_cycle edges ≡ true → (chosen : Edge → Bool) × IsCircular edges chosen }
+{}
+
+/// Where they hold none, the cells have an order: by it each edge leads from a later to an earlier cell.
+pub fn cells_have_an_order()
+    ensures { (edges : List Edge) → hold_a_cycle edges ≡ false → (rank : Cell → ℕ) × AreFalling rank edges }
 {}

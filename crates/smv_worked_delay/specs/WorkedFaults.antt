@@ -28,6 +28,8 @@ loops =
     (codes "module main() { a, b, c, d : boolean; a := b | c; b := d; c := d; }", valid) ∷
     -- a tail before a loop, and a second loop behind it
     (codes "module main() { a, b, c, d : boolean; a := b; b := c; c := b; d := d; }", fault 18 54) ∷
+    -- between assignments of another signal
+    (codes "module main() { x : array 0..1 of boolean; a : boolean; x[0] := 0; a := x[1]; x[1] := a; }", fault 18 78) ∷
     -- at time 0
     (codes "module main() { a, b : boolean; init(a) := b; init(b) := a; }", fault 18 46) ∷
     -- at time 0, through a signal that holds at each time
