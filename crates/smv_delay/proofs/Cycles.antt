@@ -4,13 +4,13 @@ use Rattle.std.specs.List.{list_any}
 use Rattle.smv_delay.specs.Loops.{Edge, same_cell, leads_on, going_on, kept, are_some, hold_a_cycle}
 use Rattle.smv_delay.specs.Laws.{IsCircular}
 
-clash : {b : Bool} → b ≡ true → b ≡ false → ⊥
+pub clash : {b : Bool} → b ≡ true → b ≡ false → ⊥
 clash p q = cc
 
 -- ---- what is left of a list
 
 module _ {X : Type 0} where
-  few : (p : X → Bool) (xs : List X) → length (filter p xs) ≤ length xs
+  pub few : (p : X → Bool) (xs : List X) → length (filter p xs) ≤ length xs
   few p [] = omega arith
   few p (x ∷ xs) = at (p x) (few p xs)
     where
@@ -57,11 +57,11 @@ module _ {X : Type 0} where
       at true e = ap (λ ys. cond (q x) (x ∷ ys) ys) e
       at false e = e
 
-  abbrev rest_of : List X → List X
+  abbrev pub rest_of : List X → List X
   rest_of [] = []
   rest_of (x ∷ xs) = xs
 
-  not_longer : (x : X) (ys zs : List X) → length ys ≤ length zs → ys ≡ x ∷ zs → ⊥
+  pub not_longer : (x : X) (ys zs : List X) → length ys ≤ length zs → ys ≡ x ∷ zs → ⊥
   not_longer x ys zs l e = let k = ap length e in absurd (omega (arith, l, k))
 
   -- where all chosen ones pass the one test, and with it the other, the other leaves all chosen ones
