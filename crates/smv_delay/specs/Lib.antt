@@ -1,0 +1,5 @@
+pub mod Reading
+pub mod Loops
+pub mod LayerFaults
+pub mod FirstFault
+pub mod Laws
