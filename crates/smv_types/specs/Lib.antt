@@ -1,0 +1,5 @@
+pub mod Kinds
+pub mod Types
+pub mod References
+pub mod Operands
+pub mod KindFaults

@@ -1,0 +1,2 @@
+//! The kinds of expressions, and the faults of kinds, ranges and sets.
+#![tactic(auto)]

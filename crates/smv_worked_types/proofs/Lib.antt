@@ -1,0 +1,4 @@
+pub mod Computing
+pub mod WorkedKinds
+pub mod WorkedPlaces
+pub mod Tomasulo

@@ -1,0 +1,4 @@
+pub mod Worked
+pub mod WorkedKinds
+pub mod WorkedPlaces
+pub mod Tomasulo
