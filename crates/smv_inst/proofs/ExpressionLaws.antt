@@ -1,19 +1,18 @@
 -- What expressions say, on expressions that are made of lists and values.
-use Rattle.std.proofs.Common.{◌≡◌, ℕ, Bool, List, [], ◌∷◌, ◌++◌, Option, Some, None, length, refl, ap, ◌∙◌}
+use Rattle.std.proofs.Common.{◌≡◌, ℕ, List, [], ◌∷◌, ◌++◌, Some, None, refl, ap, ◌∙◌}
 use Rattle.std.specs.List.{flat_map}
 use Rattle.smv_core.specs.declared.tree.Word.{Word}
-use Rattle.smv_core.specs.declared.tree.Span.{Span}
 use Rattle.smv_core.specs.declared.tree.TypeExpr.{TypeExpr}
 use Rattle.smv_core.specs.declared.tree.Op.{Op}
 use Rattle.smv_core.specs.declared.tree.Path.{Path, out-Path}
-use Rattle.smv_core.specs.declared.tree.Part.{Part, Field, At}
-use Rattle.smv_core.specs.declared.tree.Signed.{Signed, out-Signed}
+use Rattle.smv_core.specs.declared.tree.Part.{Field, At}
+use Rattle.smv_core.specs.declared.tree.Signed.{Signed}
 use Rattle.smv_core.specs.declared.tree.Member.{Member, One, Span as SpanOf}
 use Rattle.smv_core.specs.declared.tree.Expr.{Expr, Number, Signal, Signal', Not, And, And', Or, Or', Implies, Implies', Iff, Compare, Within, Sum, Sum', Modulo, Choose, All, Any, List as ListOf, List', Each}
 use Rattle.smv_core.specs.declared.tree.Expr.{Row_of-Expr, end_of-Expr, more_of-Expr, Row_of-Part, end_of-Part, more_of-Part, Row_of-Member, end_of-Member, more_of-Member, Row_of-Signed, end_of-Signed, more_of-Signed}
 use Rattle.smv_core.specs.declared.tree.Expr.{items-the_row-Part, items-the_row-Expr, items-the_row-Member, items-the_row-Signed, items_hidden-the_row-Part-0, items_hidden-the_row-Expr-2, items_hidden-the_row-Member-4, items_hidden-the_row-Signed-3}
 use mathlib.Core.Former.{Count}
-use Rattle.smv_inst.specs.Mentions.{Mention, in_type, in_expr, in_row, in_parts, in_sum, in_members, in_part, in_member, in_signed, in_path, path_in, binder_in}
+use Rattle.smv_inst.specs.Mentions.{in_type, in_expr, in_row, in_parts, in_sum, in_members, in_part, in_member, in_signed, in_path, path_in, binder_in}
 use Rattle.smv_inst.proofs.Computing.{computing}
 
 module _ (vars : List Word) where

@@ -11,7 +11,7 @@ use Rattle.smv_core.specs.declared.tree.Ref.{Ref}
 use Rattle.smv_core.specs.declared.tree.Use.{Use}
 use Rattle.smv_core.specs.declared.tree.Item.{Item, Declare, Instance, Layer, Forall, Block, Block', Claim, Split, Using, Act, Row_of-Item, end_of-Item, more_of-Item, items-the_row-Item, items_hidden-the_row-Item-1}
 use mathlib.Core.Former.{Count}
-use Rattle.smv_inst.specs.Mentions.{Mention, declares, instantiates, signal, instance, goal, declared_as, in_type, in_expr, in_stmt, in_item, in_items, binder_in}
+use Rattle.smv_inst.specs.Mentions.{declares, instantiates, signal, instance, goal, declared_as, in_type, in_expr, in_stmt, in_item, in_items, binder_in}
 use Rattle.smv_inst.proofs.Computing.{computing}
 
 module _ (vars : List Word) where

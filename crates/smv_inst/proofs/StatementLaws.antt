@@ -6,11 +6,11 @@ use Rattle.smv_core.specs.declared.tree.TypeExpr.{TypeExpr}
 use Rattle.smv_core.specs.declared.tree.Kind.{Kind}
 use Rattle.smv_core.specs.declared.tree.Path.{Path}
 use Rattle.smv_core.specs.declared.tree.Expr.{Expr}
-use Rattle.smv_core.specs.declared.tree.Arm.{Arm, out-Arm}
+use Rattle.smv_core.specs.declared.tree.Arm.{Arm}
 use Rattle.smv_core.specs.declared.tree.Stmt.{Stmt, Assign, Block, Block', If, Switch, Switch', Default, For, Forall, Held-Stmt-If-2, None', Row_of-Stmt, end_of-Stmt, more_of-Stmt, Row_of-Arm, end_of-Arm, more_of-Arm}
 use Rattle.smv_core.specs.declared.tree.Stmt.{items-the_row-Stmt, items-the_row-Arm, items_hidden-the_row-Stmt-0, items_hidden-the_row-Arm-2}
 use mathlib.Core.Former.{Count}
-use Rattle.smv_inst.specs.Mentions.{Mention, in_type, in_expr, in_stmt, in_block, in_arms, in_branch, in_arm, in_other, in_path, binder_in}
+use Rattle.smv_inst.specs.Mentions.{in_type, in_expr, in_stmt, in_block, in_arms, in_branch, in_arm, in_other, in_path, binder_in}
 use Rattle.smv_inst.proofs.Computing.{computing}
 
 module _ (vars : List Word) where
@@ -49,17 +49,26 @@ module _ (vars : List Word) where
   unfolding in_stmt
   stmt-Block parts = block-row (stmts_of (Block parts)).0 (stmts_of (Block parts)).1 ∙ ap (λ l. flat_map (in_stmt vars) l) (items_hidden-the_row-Stmt-0 parts)
 
-  pub stmt-If : (cond : Expr) (x : Stmt) (y : Option Stmt) (at : ℕ) → in_stmt vars (If cond x y at) ≡ in_expr vars cond ++ in_stmt vars x ++ in_other vars y
+  pub stmt-If : (cond : Expr) (x : Stmt) (at : ℕ) → in_stmt vars (If cond x None at) ≡ in_expr vars cond ++ in_stmt vars x ++ []
   unfolding in_stmt computing
-  stmt-If cond x None at = refl
-  stmt-If cond x (Some y) at = refl
+  stmt-If cond x at = refl
 
-  pub stmt-Switch : (on : Expr) (arms : List Arm) (y : Option Stmt) (at : ℕ) → in_stmt vars (Switch on arms y at) ≡ in_expr vars on ++ flat_map (in_arm vars) arms ++ in_other vars y
+  pub stmt-If_else : (cond : Expr) (x y : Stmt) (at : ℕ) → in_stmt vars (If cond x (Some y) at) ≡ in_expr vars cond ++ in_stmt vars x ++ in_stmt vars y
+  unfolding in_stmt computing
+  stmt-If_else cond x y at = refl
+
+  switch : (on : Expr) (arms : List Arm) (y : Option Stmt) (at : ℕ) → in_stmt vars (Switch on arms y at) ≡ in_expr vars on ++ flat_map (in_arm vars) arms ++ in_other vars y
   unfolding in_stmt
-  stmt-Switch on arms y at =
+  switch on arms y at =
       let row : (n : Count) × Row_of-Arm n = arms_of (Switch on arms y at) in
       let e : in_arms vars row.1 ≡ flat_map (in_arm vars) arms = arms-row row.0 row.1 ∙ ap (λ l. flat_map (in_arm vars) l) (items_hidden-the_row-Arm-2 arms) in
       ap (λ l. in_expr vars on ++ l ++ in_branch vars (other_of (Switch on arms y at))) e ∙ ap (λ l. in_expr vars on ++ flat_map (in_arm vars) arms ++ l) (other-held on arms y at)
+
+  pub stmt-Switch : (on : Expr) (arms : List Arm) (at : ℕ) → in_stmt vars (Switch on arms None at) ≡ in_expr vars on ++ flat_map (in_arm vars) arms ++ []
+  stmt-Switch on arms at = switch on arms None at
+
+  pub stmt-Switch_default : (on : Expr) (arms : List Arm) (y : Stmt) (at : ℕ) → in_stmt vars (Switch on arms (Some y) at) ≡ in_expr vars on ++ flat_map (in_arm vars) arms ++ in_stmt vars y
+  stmt-Switch_default on arms y at = switch on arms (Some y) at
 
   pub stmt-Default : (x y : Stmt) (at : ℕ) → in_stmt vars (Default x y at) ≡ in_stmt vars x ++ in_stmt vars y
   unfolding in_stmt computing
@@ -73,4 +82,4 @@ module _ (vars : List Word) where
   unfolding in_stmt computing
   stmt-Forall var over body at = refl
 
-pub ruleset equations = (stmt-Assign, stmt-Block, stmt-If, stmt-Switch, stmt-Default, stmt-For, stmt-Forall)
+pub ruleset equations = (stmt-Assign, stmt-Block, stmt-If, stmt-If_else, stmt-Switch, stmt-Switch_default, stmt-Default, stmt-For, stmt-Forall)

@@ -1,5 +1,5 @@
 -- Scopes: what a name stands for in each place of a text. Of several declarations of one name the first counts.
-use Rattle.std.specs.Prelude.{ℕ, List, [], ◌∷◌, ◌++◌, map, flat_map, filter, Option, Some, None, Bool, false, if◌then◌else◌, nat_lt, option_map, unwrap_or}
+use Rattle.std.specs.Prelude.{ℕ, List, [], ◌∷◌, ◌++◌, map, flat_map, Option, Some, None, Bool, false, if◌then◌else◌, nat_lt, option_map, unwrap_or}
 use Rattle.std.specs.Str.{bytes_eq}
 use Rattle.std.specs.List.{list_any}
 use Rattle.smv_core.specs.Values.{Name}

@@ -2,5 +2,9 @@
 #![tactic(auto)]
 
 pub mod expressions;
+pub mod items;
 pub mod mentions;
 pub mod pieces;
+pub mod statements;
+#[cfg(test)]
+mod tests;
