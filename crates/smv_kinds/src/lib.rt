@@ -1,0 +1,7 @@
+//! The first fault of kinds, ranges and sets.
+#![tactic(auto)]
+
+pub mod kinds;
+pub mod lookups;
+pub mod operands;
+pub mod types;

@@ -1,0 +1,452 @@
+// The kind of each expression, and the faults in it.
+ghost use Rattle.std.specs.Prelude.{◌≡◌, ◌++◌, ◌∷◌, [], map, flat_map, option_map, IfOk, OnOk};
+ghost use Rattle.smv_core.specs.Walk.{indexes_of};
+ghost use Rattle.smv_core.specs.declared.tree.Path.{out-Path};
+ghost use Rattle.smv_core.specs.declared.tree.Signed.{out-Signed};
+ghost use Rattle.smv_types.specs.Kinds as kinds;
+ghost use Rattle.smv_types.specs.References as references;
+ghost use Rattle.smv_types.specs.Operands as spec;
+ghost use Rattle.smv_kinds.specs.Found.{kind_of, vars_of, scope_of, whole_of, order_faults, kinds_left, left_behind, part_faults, index_faults_by, member as member_in};
+
+use crate::kinds::{Operand, ValueKind, fault_if, fits, joined, number_at, takes, takes_number, takes_order};
+use crate::lookups::{Scope, Var, Whole, whole_reference};
+use crate::types::{bind, index_faults};
+use smv_core::fault::Fault;
+use smv_core::tree::{Expr, Member, Op, Part, Path, Signed, TypeExpr, Word};
+use std::alloc::{AllocError, Global};
+
+/// An expression where no set may stand.
+#[cycle(operands)]
+#[tactic(auto, using(smv_inst::proofs::Notes::noting, crate::proofs::OperandLaws::equations))]
+pub fn operand<'a>(
+    x: &'a Expr,
+    scope: &Scope<'a, '_>,
+    vars: &[Var<'a>],
+    alloc: Global,
+    out: &mut Vec<Fault>,
+) -> Result<Operand<'a>, AllocError>
+    ensures kind { IfOk result (λ found. kind_of found.kind ≡ (spec.operand (scope_of scope.now) (vars_of vars.now) x.now).kind) }
+    ensures at { IfOk result (λ found. found.at ≡ (spec.operand (scope_of scope.now) (vars_of vars.now) x.now).at) }
+    ensures faults { OnOk result (out.new.items ≡ out.old.items ++ (spec.operand (scope_of scope.now) (vars_of vars.now) x.now).faults) }
+{
+    match x {
+        Expr::Number { at, .. } => Ok(number_at(*at)),
+        Expr::Signal { path } => {
+            let whole = whole_reference(path.parts.as_slice(), scope, vars, alloc)?;
+            referred(path, scope, vars, alloc, out, whole)
+        }
+        Expr::Not { of, at } => {
+            number(of.get(), scope, vars, alloc, out)?;
+            Ok(number_at(*at))
+        }
+        Expr::And { parts } => numbers(parts.as_slice(), scope, vars, alloc, out),
+        Expr::Or { parts } => numbers(parts.as_slice(), scope, vars, alloc, out),
+        Expr::Implies { parts } => numbers(parts.as_slice(), scope, vars, alloc, out),
+        Expr::Iff { left, right } => {
+            let at = number(left.get(), scope, vars, alloc, out)?;
+            number(right.get(), scope, vars, alloc, out)?;
+            Ok(number_at(at))
+        }
+        Expr::Compare { op, left, right } => {
+            let both = sides(left.get(), right.get(), scope, vars, alloc, out)?;
+            compared(*op, both, out)
+        }
+        Expr::Within { left, set } => {
+            let left = operand(left.get(), scope, vars, alloc, out)?;
+            looked_through(set.get(), scope, vars, alloc, out, left.kind)?;
+            Ok(number_at(left.at))
+        }
+        Expr::Sum { first, more } => {
+            let at = number(first.get(), scope, vars, alloc, out)?;
+            summands(more.as_slice(), scope, vars, alloc, out)?;
+            Ok(number_at(at))
+        }
+        Expr::Modulo { of, by, at } => {
+            let first = number(of.get(), scope, vars, alloc, out)?;
+            fault_if(out, *by == 0, 12, *at)?;
+            Ok(number_at(first))
+        }
+        Expr::Choose { cond, yes, no } => {
+            let at = number(cond.get(), scope, vars, alloc, out)?;
+            let both = sides(yes.get(), no.get(), scope, vars, alloc, out)?;
+            Ok(chosen(at, both))
+        }
+        Expr::All {
+            body,
+            var,
+            over,
+            at,
+        } => reduced(body.get(), var, over, scope, vars, alloc, out, *at),
+        Expr::Any {
+            body,
+            var,
+            over,
+            at,
+        } => reduced(body.get(), var, over, scope, vars, alloc, out, *at),
+        Expr::List { at, .. } => stray_set(*at, out),
+        Expr::Each { at, .. } => stray_set(*at, out),
+    }
+}
+
+/// An expression where a number is wanted, and where it begins.
+#[cycle(operands)]
+#[tactic(auto, using(smv_inst::proofs::Notes::noting))]
+pub fn number<'a>(
+    x: &'a Expr,
+    scope: &Scope<'a, '_>,
+    vars: &[Var<'a>],
+    alloc: Global,
+    out: &mut Vec<Fault>,
+) -> Result<u32, AllocError>
+    ensures at { IfOk result (λ at. at ≡ (spec.operand (scope_of scope.now) (vars_of vars.now) x.now).at) }
+    ensures faults { OnOk result (out.new.items ≡ out.old.items ++ kinds.takes_number (spec.operand (scope_of scope.now) (vars_of vars.now) x.now)) }
+{
+    let e = operand(x, scope, vars, alloc, out)?;
+    takes_number(out, e)?;
+    Ok(e.at)
+}
+
+// A number made of numbers.
+#[cycle(operands)]
+#[tactic(auto, using(smv_inst::proofs::Notes::noting))]
+fn numbers<'a>(
+    parts: &'a [Expr],
+    scope: &Scope<'a, '_>,
+    vars: &[Var<'a>],
+    alloc: Global,
+    out: &mut Vec<Fault>,
+) -> Result<Operand<'a>, AllocError>
+    ensures kind { IfOk result (λ found. kind_of found.kind ≡ (kinds.of_numbers (map (spec.operand (scope_of scope.now) (vars_of vars.now)) parts.now)).kind) }
+    ensures at { IfOk result (λ found. found.at ≡ (kinds.of_numbers (map (spec.operand (scope_of scope.now) (vars_of vars.now)) parts.now)).at) }
+    ensures faults { OnOk result (out.new.items ≡ out.old.items ++ (kinds.of_numbers (map (spec.operand (scope_of scope.now) (vars_of vars.now)) parts.now)).faults) }
+{
+    match parts {
+        [] => Ok(number_at(0)),
+        [first, more @ ..] => {
+            let at = number(first, scope, vars, alloc, out)?;
+            more_numbers(more, scope, vars, alloc, out)?;
+            Ok(number_at(at))
+        }
+    }
+}
+
+// Expressions where numbers are wanted.
+#[cycle(operands)]
+#[tactic(auto, using(smv_inst::proofs::Notes::noting))]
+fn more_numbers<'a>(
+    parts: &'a [Expr],
+    scope: &Scope<'a, '_>,
+    vars: &[Var<'a>],
+    alloc: Global,
+    out: &mut Vec<Fault>,
+) -> Result<(), AllocError>
+    ensures { OnOk result (out.new.items ≡ out.old.items ++ flat_map kinds.takes_number (map (spec.operand (scope_of scope.now) (vars_of vars.now)) parts.now)) }
+{
+    for x in parts {
+        number(x, scope, vars, alloc, out)?;
+    }
+    Ok(())
+}
+
+// What a sum adds.
+#[cycle(operands)]
+#[tactic(auto, using(smv_inst::proofs::Notes::noting))]
+fn summands<'a>(
+    more: &'a [Signed],
+    scope: &Scope<'a, '_>,
+    vars: &[Var<'a>],
+    alloc: Global,
+    out: &mut Vec<Fault>,
+) -> Result<(), AllocError>
+    ensures { OnOk result (out.new.items ≡ out.old.items ++ flat_map kinds.takes_number (map (λ x. spec.operand (scope_of scope.now) (vars_of vars.now) (out-Signed x).of) more.now)) }
+{
+    for x in more {
+        number(&x.of, scope, vars, alloc, out)?;
+    }
+    Ok(())
+}
+
+// Two sides of one kind.
+#[cycle(operands)]
+#[tactic(auto, using(smv_inst::proofs::Notes::noting))]
+fn sides<'a>(
+    left: &'a Expr,
+    right: &'a Expr,
+    scope: &Scope<'a, '_>,
+    vars: &[Var<'a>],
+    alloc: Global,
+    out: &mut Vec<Fault>,
+) -> Result<Sides<'a>, AllocError>
+    ensures left_kind { IfOk result (λ both. kind_of both.left.kind ≡ (spec.operand (scope_of scope.now) (vars_of vars.now) left.now).kind) }
+    ensures left_at { IfOk result (λ both. both.left.at ≡ (spec.operand (scope_of scope.now) (vars_of vars.now) left.now).at) }
+    ensures right_kind { IfOk result (λ both. kind_of both.right.kind ≡ (spec.operand (scope_of scope.now) (vars_of vars.now) right.now).kind) }
+    ensures right_at { IfOk result (λ both. both.right.at ≡ (spec.operand (scope_of scope.now) (vars_of vars.now) right.now).at) }
+    ensures faults { OnOk result (out.new.items ≡ out.old.items ++ kinds.alike (spec.operand (scope_of scope.now) (vars_of vars.now) left.now ∷ spec.operand (scope_of scope.now) (vars_of vars.now) right.now ∷ [])) }
+{
+    let left = operand(left, scope, vars, alloc, out)?;
+    let right = operand(right, scope, vars, alloc, out)?;
+    fits(out, left.kind, right)?;
+    Ok(Sides { left, right })
+}
+
+// A number made of a number at each value of a type.
+#[cycle(operands)]
+#[tactic(auto, using(smv_inst::proofs::Notes::noting))]
+fn reduced<'a>(
+    body: &'a Expr,
+    var: &'a Word,
+    over: &'a TypeExpr,
+    scope: &Scope<'a, '_>,
+    vars: &[Var<'a>],
+    alloc: Global,
+    out: &mut Vec<Fault>,
+    at: u32,
+) -> Result<Operand<'a>, AllocError>
+    ensures kind { IfOk result (λ found. kind_of found.kind ≡ (spec.reduced (scope_of scope.now) at (spec.operand (scope_of scope.now) (spec.bind (scope_of scope.now) (vars_of vars.now) var.now over.now) body.now) over.now).kind) }
+    ensures at { IfOk result (λ found. found.at ≡ (spec.reduced (scope_of scope.now) at (spec.operand (scope_of scope.now) (spec.bind (scope_of scope.now) (vars_of vars.now) var.now over.now) body.now) over.now).at) }
+    ensures faults { OnOk result (out.new.items ≡ out.old.items ++ (spec.reduced (scope_of scope.now) at (spec.operand (scope_of scope.now) (spec.bind (scope_of scope.now) (vars_of vars.now) var.now over.now) body.now) over.now).faults) }
+{
+    let inner = bind(over, var, scope, vars, alloc)?;
+    number(body, scope, inner.as_slice(), alloc, out)?;
+    index_faults(over, scope, out)?;
+    Ok(number_at(at))
+}
+
+// What stands right of `in`, beside this kind.
+#[cycle(operands)]
+#[tactic(auto, using(smv_inst::proofs::Notes::noting, crate::proofs::OperandLaws::equations))]
+fn looked_through<'a>(
+    set: &'a Expr,
+    scope: &Scope<'a, '_>,
+    vars: &[Var<'a>],
+    alloc: Global,
+    out: &mut Vec<Fault>,
+    kind: ValueKind<'a>,
+) -> Result<(), AllocError>
+    ensures { OnOk result (out.new.items ≡ out.old.items ++ kinds.alike_with (kind_of kind.entry) (spec.looked_through (scope_of scope.now) (vars_of vars.now) set.now)) }
+{
+    match set {
+        Expr::List { members, .. } => {
+            all_members(members.as_slice(), scope, vars, alloc, out, kind)?;
+            Ok(())
+        }
+        Expr::Each { at, .. } => {
+            stray_set(*at, out)?;
+            Ok(())
+        }
+        _ => Ok(()),
+    }
+}
+
+/// The members of a listed set, beside this kind, and the kind of all together.
+#[cycle(operands)]
+#[tactic(auto, using(smv_inst::proofs::Notes::noting))]
+pub fn all_members<'a>(
+    members: &'a [Member],
+    scope: &Scope<'a, '_>,
+    vars: &[Var<'a>],
+    alloc: Global,
+    out: &mut Vec<Fault>,
+    kind: ValueKind<'a>,
+) -> Result<ValueKind<'a>, AllocError>
+    ensures kind { IfOk result (λ all. kind_of all ≡ kinds.kind_with (kind_of kind.entry) (map (member_in (scope_of scope.now) (vars_of vars.now)) members.now)) }
+    ensures faults { OnOk result (out.new.items ≡ out.old.items ++ kinds.alike_with (kind_of kind.entry) (map (member_in (scope_of scope.now) (vars_of vars.now)) members.now)) }
+{
+    let mut all = kind;
+    for x in members {
+        all = member(x, scope, vars, alloc, out, all)?;
+    }
+    Ok(all)
+}
+
+// A member of a listed set, beside this kind, and the kind of both.
+#[cycle(operands)]
+#[tactic(auto, using(smv_inst::proofs::Notes::noting))]
+fn member<'a>(
+    x: &'a Member,
+    scope: &Scope<'a, '_>,
+    vars: &[Var<'a>],
+    alloc: Global,
+    out: &mut Vec<Fault>,
+    kind: ValueKind<'a>,
+) -> Result<ValueKind<'a>, AllocError>
+    ensures kind { IfOk result (λ all. kind_of all ≡ kinds.joined (kind_of kind.entry) (member_in (scope_of scope.now) (vars_of vars.now) x.now).kind) }
+    ensures faults { OnOk result (out.new.items ≡ out.old.items ++ (member_in (scope_of scope.now) (vars_of vars.now) x.now).faults ++ kinds.unless (kinds.joins (kind_of kind.entry) (member_in (scope_of scope.now) (vars_of vars.now) x.now).kind) (member_in (scope_of scope.now) (vars_of vars.now) x.now)) }
+{
+    match x {
+        Member::One { of } => fitting(of, scope, vars, alloc, out, kind),
+        Member::Span { span, at } => {
+            fault_if(out, span.high < span.low, 13, *at)?;
+            fits(out, kind, number_at(*at))
+        }
+    }
+}
+
+/// An expression beside this kind, and the kind of both.
+#[cycle(operands)]
+#[tactic(auto, using(smv_inst::proofs::Notes::noting))]
+pub fn fitting<'a>(
+    x: &'a Expr,
+    scope: &Scope<'a, '_>,
+    vars: &[Var<'a>],
+    alloc: Global,
+    out: &mut Vec<Fault>,
+    kind: ValueKind<'a>,
+) -> Result<ValueKind<'a>, AllocError>
+    ensures kind { IfOk result (λ all. kind_of all ≡ kinds.joined (kind_of kind.entry) (spec.operand (scope_of scope.now) (vars_of vars.now) x.now).kind) }
+    ensures faults { OnOk result (out.new.items ≡ out.old.items ++ (spec.operand (scope_of scope.now) (vars_of vars.now) x.now).faults ++ kinds.unless (kinds.joins (kind_of kind.entry) (spec.operand (scope_of scope.now) (vars_of vars.now) x.now).kind) (spec.operand (scope_of scope.now) (vars_of vars.now) x.now)) }
+{
+    let e = operand(x, scope, vars, alloc, out)?;
+    fits(out, kind, e)
+}
+
+/// A path that leads to this, or nowhere.
+#[cycle(operands)]
+#[tactic(auto, using(smv_inst::proofs::Notes::noting))]
+pub fn referred<'a>(
+    path: &'a Path,
+    scope: &Scope<'a, '_>,
+    vars: &[Var<'a>],
+    alloc: Global,
+    out: &mut Vec<Fault>,
+    whole: Option<Whole<'a>>,
+) -> Result<Operand<'a>, AllocError>
+    ensures kind { IfOk result (λ found. kind_of found.kind ≡ (references.reference (out-Path path.now).at (option_map whole_of whole.entry) (map (spec.operand (scope_of scope.now) (vars_of vars.now)) (indexes_of (out-Path path.now).parts))).kind) }
+    ensures at { IfOk result (λ found. found.at ≡ (references.reference (out-Path path.now).at (option_map whole_of whole.entry) (map (spec.operand (scope_of scope.now) (vars_of vars.now)) (indexes_of (out-Path path.now).parts))).at) }
+    ensures faults { OnOk result (out.new.items ≡ out.old.items ++ (references.reference (out-Path path.now).at (option_map whole_of whole.entry) (map (spec.operand (scope_of scope.now) (vars_of vars.now)) (indexes_of (out-Path path.now).parts))).faults) }
+{
+    let parts = path.parts.as_slice();
+    match whole {
+        None => {
+            fault_if(out, true, 12, path.at)?;
+            indexes(parts, scope, vars, alloc, out, None)?;
+            Ok(operand_at(ValueKind::Unknown, path.at))
+        }
+        Some(whole) => {
+            indexes(parts, scope, vars, alloc, out, Some(whole.over.as_slice()))?;
+            Ok(operand_at(whole.value, path.at))
+        }
+    }
+}
+
+// The indexes of a path, behind a reference over these kinds or one that leads nowhere.
+#[cycle(operands)]
+#[tactic(auto, using(smv_inst::proofs::Notes::noting))]
+fn indexes<'a>(
+    parts: &'a [Part],
+    scope: &Scope<'a, '_>,
+    vars: &[Var<'a>],
+    alloc: Global,
+    out: &mut Vec<Fault>,
+    over: Option<&[ValueKind<'a>]>,
+) -> Result<(), AllocError>
+    ensures { OnOk result (out.new.items ≡ out.old.items ++ index_faults_by (kinds_left over.entry) (map (spec.operand (scope_of scope.now) (vars_of vars.now)) (indexes_of parts.now))) }
+{
+    let mut left = over;
+    for part in parts {
+        index(part, scope, vars, alloc, out, left)?;
+        left = behind(part, left);
+    }
+    Ok(())
+}
+
+// A part of a path, where these kinds are left.
+#[cycle(operands)]
+#[tactic(auto, using(smv_inst::proofs::Notes::noting))]
+fn index<'a>(
+    part: &'a Part,
+    scope: &Scope<'a, '_>,
+    vars: &[Var<'a>],
+    alloc: Global,
+    out: &mut Vec<Fault>,
+    over: Option<&[ValueKind<'a>]>,
+) -> Result<(), AllocError>
+    ensures { OnOk result (out.new.items ≡ out.old.items ++ part_faults (scope_of scope.now) (vars_of vars.now) (kinds_left over.entry) part.now) }
+{
+    match part {
+        Part::Field { .. } => Ok(()),
+        Part::At { index } => match over {
+            None => {
+                operand(index, scope, vars, alloc, out)?;
+                Ok(())
+            }
+            Some([]) => Ok(()),
+            Some([kind, ..]) => {
+                let e = operand(index, scope, vars, alloc, out)?;
+                takes(out, *kind, e)
+            }
+        },
+    }
+}
+
+// What is left of these kinds behind a part of a path.
+fn behind<'k, 'a>(part: &Part, over: Option<&'k [ValueKind<'a>]>) -> Option<&'k [ValueKind<'a>]>
+    ensures { kinds_left result ≡ left_behind (kinds_left over.entry) part.now }
+{
+    match part {
+        Part::Field { .. } => over,
+        Part::At { .. } => match over {
+            None => None,
+            Some([]) => over,
+            Some([_, more @ ..]) => Some(more),
+        },
+    }
+}
+
+/// Two sides of one kind.
+#[derive(Clone, Copy)]
+pub struct Sides<'a> {
+    pub left: Operand<'a>,
+    pub right: Operand<'a>,
+}
+
+/// An operand of this kind at this place.
+pub fn operand_at<'a>(kind: ValueKind<'a>, at: u32) -> Operand<'a>
+    ensures kind { kind_of result.kind ≡ kind_of kind.entry }
+    ensures at { result.at ≡ at }
+{
+    Operand { kind, at }
+}
+
+/// The two branches of a choice whose condition begins at this place.
+pub fn chosen<'a>(at: u32, both: Sides<'a>) -> Operand<'a>
+    ensures kind { kind_of result.kind ≡ kinds.joined (kind_of both.entry.left.kind) (kind_of both.entry.right.kind) }
+    ensures at { result.at ≡ at }
+{
+    Operand {
+        kind: joined(both.left.kind, both.right.kind),
+        at,
+    }
+}
+
+// A comparison of these sides, which are of one kind.
+#[tactic(auto, using(smv_inst::proofs::Notes::noting))]
+fn compared<'a>(
+    op: Op,
+    both: Sides<'a>,
+    out: &mut Vec<Fault>,
+) -> Result<Operand<'a>, AllocError>
+    ensures kind { IfOk result (λ found. kind_of found.kind ≡ kinds.number) }
+    ensures at { IfOk result (λ found. found.at ≡ both.entry.left.at) }
+    ensures faults { OnOk result (out.new.items ≡ out.old.items ++ order_faults op (kind_of both.entry.left.kind) both.entry.left.at (kind_of both.entry.right.kind) both.entry.right.at) }
+{
+    match op {
+        Op::Equal => Ok(number_at(both.left.at)),
+        Op::Differ => Ok(number_at(both.left.at)),
+        Op::Less | Op::AtMost | Op::Greater | Op::AtLeast => {
+            takes_order(out, both.left)?;
+            takes_order(out, both.right)?;
+            Ok(number_at(both.left.at))
+        }
+    }
+}
+
+// Fault 14 at a set that may not stand where it does.
+fn stray_set<'a>(at: u32, out: &mut Vec<Fault>) -> Result<Operand<'a>, AllocError>
+    ensures kind { IfOk result (λ found. kind_of found.kind ≡ (kinds.stray_set at).kind) }
+    ensures at { IfOk result (λ found. found.at ≡ (kinds.stray_set at).at) }
+    ensures faults { OnOk result (out.new.items ≡ out.old.items ++ (kinds.stray_set at).faults) }
+{
+    fault_if(out, true, 14, at)?;
+    Ok(operand_at(ValueKind::Unknown, at))
+}
