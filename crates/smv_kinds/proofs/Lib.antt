@@ -1,3 +1,6 @@
 pub mod Computing
+pub mod KindLaws
 pub mod TypeLaws
 pub mod OperandLaws
+pub mod ValueLaws
+pub mod StatementLaws

@@ -40,7 +40,7 @@ module _ (scope : Scope) (vars : Vars) where
   signed-row n end_of-Signed = refl
   signed-row n (more_of-Signed minus e rest) = ap (λ l. operand scope vars e ∷ l) (signed-row _ rest)
 
-  members-row : (n : _) (row : Row_of-Member n) → members scope vars row ≡ map (member scope vars) (items-the_row-Member n row)
+  pub members-row : (n : _) (row : Row_of-Member n) → members scope vars row ≡ map (member scope vars) (items-the_row-Member n row)
   unfolding operand computing
   members-row n end_of-Member = refl
   members-row n (more_of-Member (One e) rest) = ap (λ l. operand scope vars e ∷ l) (members-row _ rest)

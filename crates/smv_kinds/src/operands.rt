@@ -48,7 +48,7 @@ pub fn operand<'a>(
             Ok(number_at(at))
         }
         Expr::Compare { op, left, right } => {
-            let both = sides(left.get(), right.get(), scope, vars, alloc, out)?;
+            let both = both_sides(left.get(), right.get(), scope, vars, alloc, out)?;
             compared(*op, both, out)
         }
         Expr::Within { left, set } => {
@@ -68,7 +68,7 @@ pub fn operand<'a>(
         }
         Expr::Choose { cond, yes, no } => {
             let at = number(cond.get(), scope, vars, alloc, out)?;
-            let both = sides(yes.get(), no.get(), scope, vars, alloc, out)?;
+            let both = both_sides(yes.get(), no.get(), scope, vars, alloc, out)?;
             Ok(chosen(at, both))
         }
         Expr::All {
@@ -169,7 +169,7 @@ fn summands<'a>(
 // Two sides of one kind.
 #[cycle(operands)]
 #[tactic(auto, using(smv_inst::proofs::Notes::noting))]
-fn sides<'a>(
+fn both_sides<'a>(
     left: &'a Expr,
     right: &'a Expr,
     scope: &Scope<'a, '_>,
