@@ -1,0 +1,88 @@
+//! Names in their order, each found by its first place.
+#![tactic(auto)]
+
+ghost use Rattle.std.specs.Prelude.{◌≡◌, List, [], ◌∷◌, ◌++◌, OnOk, OnErr, map, option_map, option_and_then, slice_get};
+ghost use Rattle.smv_core.specs.Types.{find_name};
+ghost use Rattle.name_index.specs.Position.{position, found_or, noted};
+ghost use Rattle.std.specs.Str.{bytes_eq};
+ghost use Rattle.smv_core.specs.Values.{Name};
+
+pub mod map;
+
+use smv_core::name::Name;
+use std::alloc::{AllocError, Global};
+use std::collections::HashMap;
+use std::marker::Model;
+
+/// Names in the order in which they were given, each found by its first place. Contracts see the list of the names.
+#[derive(Drop)]
+pub struct NameIndex<'a> {
+    names: Vec<&'a Name>,
+    places: HashMap<&'a [u8], usize>,
+}
+
+impl<'a> Model for NameIndex<'a> {
+    ghost use Rattle.std.specs.Prelude.{◌≡◌, ℕ, List, map};
+    ghost use Rattle.name_index.specs.Position.{position, noted};
+
+    ghost Value = { List (List ℕ) };
+
+    ghost view = { λ index. map (λ name. name.now) index.names.items };
+
+    ghost invariant = { λ index. (name : List ℕ) → noted index.places name ≡ position (map (λ name. name.now) index.names.items) name };
+}
+
+impl<'a> NameIndex<'a> {
+    /// No names.
+    pub fn new(alloc: Global) -> NameIndex<'a>
+        ensures { result ≡ [] }
+    {
+        NameIndex {
+            names: Vec::new(alloc),
+            places: HashMap::new(alloc),
+        }
+    }
+
+    /// Puts a name at the end. Where memory is refused, nothing changes.
+    pub fn push(&mut self, name: &'a Name) -> Result<(), AllocError>
+        ensures ok { OnOk result (self.new ≡ self.old ++ name.now ∷ []) }
+        ensures err { OnErr result (self.new ≡ self.old) }
+    {
+        let place = self.names.len();
+        self.names.push(name)?;
+        match note_place(&mut self.places, name.as_bytes(), place) {
+            Ok(()) => Ok(()),
+            Err(e) => {
+                let _ = self.names.pop();
+                Err(e)
+            }
+        }
+    }
+
+    /// The first place of a name.
+    pub fn find(&self, name: &Name) -> Option<usize>
+        ensures { result ≡ position self.now name.now }
+    {
+        self.places.get(name.as_bytes()).copied()
+    }
+}
+
+// A name has its place, unless it had one.
+fn note_place<'a>(
+    places: &mut HashMap<&'a [u8], usize>,
+    name: &'a [u8],
+    place: usize,
+) -> Result<(), AllocError>
+    ensures ok { OnOk result ((other : Name) → noted places.new other ≡ found_or (noted places.old other) (bytes_eq name.now other) place) }
+    ensures err { OnErr result ((other : Name) → noted places.new other ≡ noted places.old other) }
+{
+    if !places.contains_key(name) {
+        places.insert(name, place)?;
+    }
+    Ok(())
+}
+
+/// What stands beside a name in a list of pairs is what stands at the name's first place.
+pub fn found_at_first_place<T>()
+    ensures { (pairs : List (Name × T)) (name : Name) → find_name pairs name ≡ option_and_then (λ place. option_map (λ pair. pair.1) (slice_get pairs place)) (position (map (λ pair. pair.0) pairs) name) }
+{}

@@ -1,0 +1,13 @@
+use Rattle.std.proofs.Common.{◌≡◌, ◌++◌, [], ◌∷◌, map, drop, length}
+use Rattle.std.specs.List.{flat_map}
+use Rattle.smv_core.specs.declared.tree.Field.{out-Field}
+use Rattle.smv_inst.specs.Scopes.{first_of_places}
+use Rattle.smv_inst.specs.NameFaults as faults
+use Rattle.smv_inst.specs.Said.{said, words_at}
+use Rattle.smv_scope.specs.ScopeFault.{least}
+use Rattle.smv_scope.specs.Numbered.{scope_at}
+use Rattle.smv_scope.specs.Rules.{repeated_after}
+use Rattle.smv_scope.proofs.doubled.declared_words.Given as goal
+
+abbrev pub invariant-loop-mention : goal.invariant-loop-mention
+invariant-loop-mention l = words_at l.out.items ++ flat_map (λ mention. faults.declared_words (said mention ∷ [])) (drop l.mention-index l.mentions) ≡ flat_map (λ mention. faults.declared_words (said mention ∷ [])) l.mentions

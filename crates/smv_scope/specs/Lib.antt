@@ -1,0 +1,4 @@
+pub mod ScopeFault
+pub mod Numbered
+pub mod Held
+pub mod Rules

@@ -1,0 +1,56 @@
+// Places in a text.
+ghost use Rattle.std.specs.Prelude.{◌≡◌};
+ghost use Rattle.smv_inst.specs.Scopes as scopes;
+ghost use Rattle.smv_inst.specs.Said.{words_at};
+ghost use Rattle.smv_inst.specs.NameFaults as faults;
+ghost use Rattle.smv_scope.specs.ScopeFault.{least};
+
+use smv_core::tree::Word;
+
+/// The first of two places.
+pub fn first_of(place: Option<u32>, other: Option<u32>) -> Option<u32>
+    ensures { result ≡ scopes.first_of_places place other }
+{
+    match (place, other) {
+        (Some(at), Some(other)) => Some(at.min(other)),
+        (Some(at), None) => Some(at),
+        (None, other) => other,
+    }
+}
+
+/// The place, where a rule is broken.
+pub fn place_if(broken: bool, at: u32) -> Option<u32>
+    ensures { result ≡ least (faults.place_if broken at) }
+{
+    if broken { Some(at) } else { None }
+}
+
+/// The later of two declarations of one name, where there is another.
+pub fn later(other: Option<u32>, at: u32) -> Option<u32>
+    ensures { result ≡ least (faults.later other at) }
+{
+    match other {
+        Some(other) => Some(at.max(other)),
+        None => None,
+    }
+}
+
+/// Whether a place is before another.
+pub fn is_before(place: Option<u32>, at: u32) -> bool
+    ensures { result ≡ scopes.is_before place at }
+{
+    match place {
+        Some(place) => place < at,
+        None => false,
+    }
+}
+
+/// What is wrong with field names where nothing has a field.
+pub fn no_field(words: &[&Word]) -> Option<u32>
+    ensures { result ≡ least (scopes.no_field (words_at words.now)) }
+{
+    match words {
+        [word, ..] => Some(word.at),
+        [] => None,
+    }
+}
