@@ -2,5 +2,5 @@ pub mod Computing
 pub mod KindLaws
 pub mod TypeLaws
 pub mod OperandLaws
-pub mod ValueLaws
-pub mod StatementLaws
+pub mod PlaceLaws
+pub mod FormLaws

@@ -1,13 +1,14 @@
 -- What the program finds of kinds, as the definitions speak of it.
-use Rattle.std.specs.Prelude.{◌≡◌, ℕ, List, [], ◌∷◌, ◌++◌, map, flat_map, zip, take, slice_get, Option, Some, None, option_map, not}
+use Rattle.std.specs.Prelude.{◌≡◌, ℕ, List, [], ◌∷◌, ◌++◌, map, flat_map, zip, take, slice_get, Option, Some, None, option_map, not, Bool, true}
 use Rattle.std.proofs.Common.{Bor}
 use Rattle.smv_core.specs.Values.{Name}
 use Rattle.smv_core.specs.Types.{names_of}
-use Rattle.smv_core.specs.Walk.{indexes_of}
+use Rattle.smv_core.specs.Assignments.{index_of}
+use Rattle.smv_core.specs.declared.tree.Word.{Word}
 use Rattle.smv_core.specs.declared.fault.Fault.{Fault}
 use Rattle.smv_core.specs.declared.tree.Text.{Text}
 use Rattle.smv_core.specs.declared.tree.Top.{Top}
-use Rattle.smv_core.specs.declared.tree.Top.TheVariants.{SetType as SetTypeOf, Alias, Module as ModuleOf}
+use Rattle.smv_core.specs.declared.tree.Top.TheVariants.{Module as ModuleOf}
 use Rattle.smv_core.specs.declared.tree.Op.{Op}
 use Rattle.smv_core.specs.declared.tree.Op.TheVariants.{Equal, Differ}
 use Rattle.smv_core.specs.declared.tree.Part.{Part, Field, At}
@@ -17,27 +18,23 @@ use Rattle.smv_inst.specs.Scopes.{pieces, constants}
 use Rattle.smv_inst.specs.NameFaults.{place_if}
 use Rattle.smv_inst.specs.FirstFault.{faults_at}
 use Rattle.smv_types.specs.Kinds.{Kind, number, enumeration, set_type, no_kind, Operand, takes, number_at, has_order}
-use Rattle.smv_types.specs.Types.{Types, Whole, is_reversed, types_after}
-use Rattle.smv_types.specs.References.{Module, module_of, modules_from, Scope, Vars}
+use Rattle.smv_types.specs.Types.{Types, Whole, Leads, is_reversed, types_after}
+use Rattle.smv_types.specs.References.{modules_from, Scope, Vars, behind}
 use Rattle.smv_types.specs.Operands.{operand, value}
-use Rattle.smv_types.specs.KindFaults.{gives}
+use Rattle.smv_types.specs.KindFaults.{gives, is_fixed}
 use Rattle.smv_kinds.specs.declared.kinds.ValueKind.{ValueKind}
-use Rattle.smv_kinds.specs.declared.kinds.ValueKind.TheVariants.{Number, Enumeration, SetType, Unknown}
+use Rattle.smv_kinds.specs.Forms.{kind_of, misfit, types_before, module_in, form_leads}
+use Rattle.smv_kinds.specs.declared.paths.Whole.{Whole as HeldWhole}
+use Rattle.smv_kinds.specs.declared.paths.Reached.{Reached}
+use Rattle.smv_scope.specs.declared.paths.Inner.{Inner}
+use Rattle.smv_inst.specs.Said.{said_of}
 use Rattle.smv_kinds.specs.declared.lookups.Var.{Var}
-use Rattle.smv_kinds.specs.declared.lookups.Whole.{Whole as HeldWhole}
 use Rattle.smv_kinds.specs.declared.lookups.Scope.{Scope as HeldScope}
 use Rattle.smv_kinds.specs.declared.lookups.Formal.{Formal}
 use Rattle.smv_kinds.specs.declared.lookups.Formal.TheVariants.{Input, Output, Other}
 
--- a kind
-abbrev pub kind_of : ValueKind → Kind
-kind_of Number = number
-kind_of (Enumeration names) = enumeration (names_of names.now)
-kind_of (SetType name) = set_type name.now
-kind_of Unknown = no_kind
-
 -- the variables that are bound around, the innermost first
-abbrev pub vars_of : List Var → Vars
+unfoldable pub vars_of : List Var → Vars
 vars_of vars = map (λ var. (var.name.now, kind_of var.kind)) vars
 
 -- a whole reference to a single value
@@ -48,30 +45,38 @@ whole_of w = record { over = map kind_of w.over.items; value = kind_of w.value }
 abbrev pub order_faults : Op → Kind → ℕ → Kind → ℕ → List Fault
 order_faults Equal left at right other = []
 order_faults Differ left at right other = []
-order_faults op left at right other = faults_at (12, place_if (not (has_order left)) at) ++ faults_at (12, place_if (not (has_order right)) other)
+order_faults op left at right other = misfit (has_order left) at ++ misfit (has_order right) other
 
 -- ---- where something stands
-
--- the types that are declared by these tops
-abbrev pub types_from : Types → List Top → Types
-types_from types [] = types
-types_from types (top ∷ tops) = types_from (types_after types top) tops
-
--- the types that are declared before the top of a number
-abbrev pub types_before : Text → ℕ → Types
-types_before text place = types_from [] (take place text.tops)
-
--- the module that a top is, and else one without names
-abbrev pub module_in : Types → Option Top → Module
-module_in types (Some (ModuleOf word formals body at)) = module_of types formals body
-module_in types _ = record { formals = []; types = types; own = [] }
 
 -- where something stands in the top of a number
 abbrev pub scope_at : Text → ℕ → Scope
 scope_at text place = record { modules = modules_from [] text.tops; constants = constants (pieces text); here = module_in (types_before text place) (slice_get text.tops place) }
 
 unfoldable pub scope_of : HeldScope → Scope
-scope_of scope = scope_at scope.text.now scope.place
+scope_of scope = scope_at scope.tables.now.names.text.now scope.place
+
+-- the same tables, in the top of another number
+abbrev pub moved : HeldScope → ℕ → HeldScope
+moved scope place = record { tables = scope.tables; place = place }
+
+-- ---- paths
+
+-- a single value over these index kinds
+abbrev pub whole_in : List Kind → Kind → Whole
+whole_in over value = record { over = over; value = value }
+
+-- over these index kinds before
+abbrev pub behind_over : List Kind → Whole → Whole
+behind_over over w = record w { over = over ++ w.over }
+
+-- what stands behind some parts of a path
+abbrev pub reached_leads : Text → Reached → Leads
+reached_leads text reached parts = option_map (behind_over (map kind_of reached.over.items)) (form_leads text reached.form parts)
+
+-- what stands behind a name of a module
+abbrev pub inner_leads : Text → Inner → Leads
+inner_leads text inner parts = behind (modules_from [] text.tops) (types_before text inner.place) (said_of inner.own.what) parts
 
 -- ---- references
 
@@ -103,6 +108,20 @@ left_behind (Some (kind ∷ over)) (At index) = Some over
 left_behind over part = over
 
 -- ---- arguments
+
+-- an index that can be worked out from the text alone
+unfoldable pub is_constant : Expr → Bool
+is_constant e = is_fixed (index_of [] e)
+
+-- a part of a path, where it is an index
+abbrev pub part_constant : Part → Bool
+part_constant (Field word) = true
+part_constant (At index) = is_constant index
+
+-- all but the first
+abbrev pub words_left : List Word → List Word
+words_left [] = []
+words_left (word ∷ words) = words
 
 -- the faults in an argument of a formal
 abbrev pub argument_faults : Scope → Formal → Expr → List Fault

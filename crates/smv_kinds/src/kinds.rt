@@ -1,12 +1,12 @@
 // Kinds: what sort of value an operand has, and which fit together.
-ghost use Rattle.std.specs.Prelude.{◌≡◌, ◌++◌, not, IfOk, OnOk};
+ghost use Rattle.std.specs.Prelude.{◌≡◌, ◌++◌, IfOk, OnOk};
 ghost use Rattle.smv_core.specs.Types.{names_of};
 ghost use Rattle.smv_core.specs.Outcome.{same_path};
 ghost use Rattle.smv_inst.specs.NameFaults.{place_if};
 ghost use Rattle.smv_inst.specs.FirstFault.{faults_at};
 ghost use Rattle.smv_types.specs.Kinds as spec;
 ghost use Rattle.smv_types.specs.Types as types;
-ghost use Rattle.smv_kinds.specs.Found.{kind_of};
+ghost use Rattle.smv_kinds.specs.Forms.{kind_of, misfit};
 
 use smv_core::fault::Fault;
 use smv_core::name::Name;
@@ -49,6 +49,7 @@ fn same_names(names: &[Word], others: &[Word]) -> bool
 }
 
 // A number and a kind may stand side by side.
+#[tactic(auto, unfolding(smv_types::specs::Kinds::joins))]
 fn joins_number(other: ValueKind) -> bool
     ensures { result ≡ spec.joins spec.number (kind_of other.entry) }
 {
@@ -61,6 +62,7 @@ fn joins_number(other: ValueKind) -> bool
 }
 
 // A constant of an enumeration and a kind may stand side by side.
+#[tactic(auto, unfolding(smv_types::specs::Kinds::joins))]
 fn joins_enumeration(names: &[Word], other: ValueKind) -> bool
     ensures { result ≡ spec.joins (spec.enumeration (names_of names.now)) (kind_of other.entry) }
 {
@@ -73,6 +75,7 @@ fn joins_enumeration(names: &[Word], other: ValueKind) -> bool
 }
 
 // A value of a set type and a kind may stand side by side.
+#[tactic(auto, unfolding(smv_types::specs::Kinds::joins))]
 fn joins_set_type(name: &Name, other: ValueKind) -> bool
     ensures { result ≡ spec.joins (spec.set_type name.now) (kind_of other.entry) }
 {
@@ -85,6 +88,7 @@ fn joins_set_type(name: &Name, other: ValueKind) -> bool
 }
 
 /// Two kinds may stand side by side.
+#[tactic(auto, unfolding(smv_types::specs::Kinds::joins))]
 pub fn joins(kind: ValueKind, other: ValueKind) -> bool
     ensures { result ≡ spec.joins (kind_of kind.entry) (kind_of other.entry) }
 {
@@ -97,6 +101,7 @@ pub fn joins(kind: ValueKind, other: ValueKind) -> bool
 }
 
 /// The kind of two together.
+#[tactic(auto, unfolding(smv_types::specs::Kinds::joined))]
 pub fn joined<'a>(kind: ValueKind<'a>, other: ValueKind<'a>) -> ValueKind<'a>
     ensures { kind_of result ≡ spec.joined (kind_of kind.entry) (kind_of other.entry) }
 {
@@ -114,6 +119,7 @@ pub fn joined<'a>(kind: ValueKind<'a>, other: ValueKind<'a>) -> ValueKind<'a>
 }
 
 /// It may stand where a number is wanted.
+#[tactic(auto, unfolding(smv_types::specs::Kinds::is_number, smv_types::specs::Kinds::accepts, smv_types::specs::Kinds::joins))]
 pub fn is_number(kind: ValueKind) -> bool
     ensures { result ≡ spec.is_number (kind_of kind.entry) }
 {
@@ -126,6 +132,7 @@ pub fn is_number(kind: ValueKind) -> bool
 }
 
 /// What is of the first kind takes a value of the second.
+#[tactic(auto, unfolding(smv_types::specs::Kinds::accepts, smv_types::specs::Kinds::joins, smv_types::specs::Kinds::is_number))]
 pub fn accepts(target: ValueKind, kind: ValueKind) -> bool
     ensures { result ≡ spec.accepts (kind_of target.entry) (kind_of kind.entry) }
 {
@@ -138,6 +145,7 @@ pub fn accepts(target: ValueKind, kind: ValueKind) -> bool
 }
 
 /// It may stand beside an order.
+#[tactic(auto, unfolding(smv_types::specs::Kinds::has_order))]
 pub fn has_order(kind: ValueKind) -> bool
     ensures { result ≡ spec.has_order (kind_of kind.entry) }
 {
@@ -176,18 +184,26 @@ pub fn fault_if(
     Ok(())
 }
 
+// Fault 12 at a place, unless what stands there fits.
+#[tactic(auto, unfolding(crate::specs::Forms::misfit))]
+fn misfit_unless(out: &mut Vec<Fault>, fits: bool, at: u32) -> Result<(), AllocError>
+    ensures { OnOk result (out.new.items ≡ out.old.items ++ misfit fits at) }
+{
+    fault_if(out, !fits, 12, at)
+}
+
 /// Fault 12 at an operand that is no number.
 pub fn takes_number(out: &mut Vec<Fault>, e: Operand) -> Result<(), AllocError>
-    ensures { OnOk result (out.new.items ≡ out.old.items ++ faults_at (12, place_if (not (spec.is_number (kind_of e.entry.kind))) e.entry.at)) }
+    ensures { OnOk result (out.new.items ≡ out.old.items ++ misfit (spec.is_number (kind_of e.entry.kind)) e.entry.at) }
 {
-    fault_if(out, !is_number(e.kind), 12, e.at)
+    misfit_unless(out, is_number(e.kind), e.at)
 }
 
 /// Fault 12 at an operand that this kind does not take.
 pub fn takes(out: &mut Vec<Fault>, kind: ValueKind, e: Operand) -> Result<(), AllocError>
-    ensures { OnOk result (out.new.items ≡ out.old.items ++ faults_at (12, place_if (not (spec.accepts (kind_of kind.entry) (kind_of e.entry.kind))) e.entry.at)) }
+    ensures { OnOk result (out.new.items ≡ out.old.items ++ misfit (spec.accepts (kind_of kind.entry) (kind_of e.entry.kind)) e.entry.at) }
 {
-    fault_if(out, !accepts(kind, e.kind), 12, e.at)
+    misfit_unless(out, accepts(kind, e.kind), e.at)
 }
 
 /// Fault 12 at an operand that does not fit those before it, and the kind of all together.
@@ -197,17 +213,17 @@ pub fn fits<'a>(
     e: Operand<'a>,
 ) -> Result<ValueKind<'a>, AllocError>
     ensures kind { IfOk result (λ all. kind_of all ≡ spec.joined (kind_of kind.entry) (kind_of e.entry.kind)) }
-    ensures faults { OnOk result (out.new.items ≡ out.old.items ++ faults_at (12, place_if (not (spec.joins (kind_of kind.entry) (kind_of e.entry.kind))) e.entry.at)) }
+    ensures faults { OnOk result (out.new.items ≡ out.old.items ++ misfit (spec.joins (kind_of kind.entry) (kind_of e.entry.kind)) e.entry.at) }
 {
-    fault_if(out, !joins(kind, e.kind), 12, e.at)?;
+    misfit_unless(out, joins(kind, e.kind), e.at)?;
     Ok(joined(kind, e.kind))
 }
 
 /// Fault 12 at an operand that may not stand beside an order.
 pub fn takes_order(out: &mut Vec<Fault>, e: Operand) -> Result<(), AllocError>
-    ensures { OnOk result (out.new.items ≡ out.old.items ++ faults_at (12, place_if (not (spec.has_order (kind_of e.entry.kind))) e.entry.at)) }
+    ensures { OnOk result (out.new.items ≡ out.old.items ++ misfit (spec.has_order (kind_of e.entry.kind)) e.entry.at) }
 {
-    fault_if(out, !has_order(e.kind), 12, e.at)
+    misfit_unless(out, has_order(e.kind), e.at)
 }
 
 /// A number that begins at this place.

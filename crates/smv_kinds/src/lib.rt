@@ -4,6 +4,6 @@
 pub mod kinds;
 pub mod lookups;
 pub mod operands;
-pub mod statements;
+pub mod paths;
+pub mod tables;
 pub mod types;
-pub mod values;

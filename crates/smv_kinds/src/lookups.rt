@@ -1,16 +1,19 @@
-// What is looked up in a text.
-ghost use Rattle.std.specs.Prelude.{◌≡◌, ◌∷◌, [], is_some, option_map, IfOk};
+// What names lead to.
+ghost use Rattle.std.specs.Prelude.{◌≡◌, ◌∷◌, ◌++◌, [], is_some, map, option_map, IfOk};
 ghost use Rattle.smv_core.specs.Types.{find_name};
 ghost use Rattle.smv_core.specs.declared.tree.Expr.{Expr};
+ghost use Rattle.smv_inst.specs.Said.{said_of};
 ghost use Rattle.smv_types.specs.Types as types;
 ghost use Rattle.smv_types.specs.References as references;
 ghost use Rattle.smv_types.specs.KindFaults.{connected};
-ghost use Rattle.smv_kinds.specs.Found.{kind_of, vars_of, whole_of, scope_of, argument_faults};
+ghost use Rattle.smv_kinds.specs.Forms.{kind_of, form_leads, types_before, AreKindTables};
+ghost use Rattle.smv_kinds.specs.Found.{vars_of, whole_of, scope_of, argument_faults, moved, behind_over};
 
 use crate::kinds::ValueKind;
+use crate::tables::{Form, Tables, form_of};
 use smv_core::name::Name;
-use smv_core::tree::{Part, Text, TypeExpr, Word};
-use smv_inst::pieces::Piece;
+use smv_core::tree::{Part, TypeExpr, Word};
+use smv_inst::mentions::What;
 use std::alloc::{AllocError, Global};
 
 /// A variable that is bound, with its kind.
@@ -30,8 +33,7 @@ pub struct Whole<'a> {
 /// Where something stands: in the top of a number.
 #[derive(Clone, Copy)]
 pub struct Scope<'a, 't> {
-    pub text: &'a Text,
-    pub pieces: &'t [Piece<'a>],
+    pub tables: &'t Tables<'a, 't>,
     pub place: usize,
 }
 
@@ -53,6 +55,7 @@ pub fn whole_reference<'a>(
     vars: &[Var<'a>],
     alloc: Global,
 ) -> Result<Option<Whole<'a>>, AllocError>
+    requires { AreKindTables scope.now.tables.now }
     ensures { IfOk result (λ whole. option_map whole_of whole ≡ references.reference_at (scope_of scope.now) (vars_of vars.now) parts.now) }
 {
     Err(AllocError)
@@ -64,6 +67,7 @@ pub fn signal_reference<'a>(
     scope: &Scope<'a, '_>,
     alloc: Global,
 ) -> Result<Option<Whole<'a>>, AllocError>
+    requires { AreKindTables scope.now.tables.now }
     ensures { IfOk result (λ whole. option_map whole_of whole ≡ references.signal_at (scope_of scope.now) parts.now) }
 {
     Err(AllocError)
@@ -74,23 +78,23 @@ pub fn single_kind<'a>(
     of: &'a TypeExpr,
     scope: &Scope<'a, '_>,
 ) -> Result<Option<ValueKind<'a>>, AllocError>
+    requires { AreKindTables scope.now.tables.now }
     ensures { IfOk result (λ kind. option_map kind_of kind ≡ option_map (λ (w : types.Whole). w.value) (types.leads (scope_of scope.now).here.types of.now [])) }
 {
     Err(AllocError)
 }
 
-/// Where the module of a name stands.
-pub fn module_named<'a, 't>(
-    name: &Name,
-    scope: &Scope<'a, 't>,
-) -> Result<Option<Scope<'a, 't>>, AllocError>
-    ensures { IfOk result (λ found. option_map (λ m. (scope_of m).here) found ≡ find_name (scope_of scope.now).modules name.now) }
+/// The number of the top of the module of a name.
+pub fn module_named(name: &Name, scope: &Scope) -> Result<Option<usize>, AllocError>
+    requires { AreKindTables scope.now.tables.now }
+    ensures { IfOk result (λ found. option_map (λ place. (scope_of (moved scope.now place)).here) found ≡ find_name (scope_of scope.now).modules name.now) }
 {
     Err(AllocError)
 }
 
 /// The formals of a module.
 pub fn formals_of<'a>(scope: &Scope<'a, '_>) -> Result<&'a [Word], AllocError>
+    requires { AreKindTables scope.now.tables.now }
     ensures { IfOk result (λ formals. formals.now ≡ (scope_of scope.now).here.formals) }
 {
     Err(AllocError)
@@ -101,6 +105,7 @@ pub fn formal_named<'a>(
     name: &Name,
     scope: &Scope<'a, '_>,
 ) -> Result<Formal<'a>, AllocError>
+    requires { AreKindTables scope.now.tables.now }
     ensures { IfOk result (λ formal. (from : references.Scope) (e : Expr) → connected from (scope_of scope.now).here.types (find_name (scope_of scope.now).here.own name.now) e ≡ argument_faults from formal e) }
 {
     Err(AllocError)

@@ -6,7 +6,8 @@ ghost use Rattle.smv_core.specs.declared.tree.Signed.{out-Signed};
 ghost use Rattle.smv_types.specs.Kinds as kinds;
 ghost use Rattle.smv_types.specs.References as references;
 ghost use Rattle.smv_types.specs.Operands as spec;
-ghost use Rattle.smv_kinds.specs.Found.{kind_of, vars_of, scope_of, whole_of, order_faults, kinds_left, left_behind, part_faults, index_faults_by, member as member_in};
+ghost use Rattle.smv_kinds.specs.Forms.{kind_of, misfit, AreKindTables};
+ghost use Rattle.smv_kinds.specs.Found.{vars_of, scope_of, whole_of, order_faults, kinds_left, left_behind, part_faults, index_faults_by, member as member_in};
 
 use crate::kinds::{Operand, ValueKind, fault_if, fits, joined, number_at, takes, takes_number, takes_order};
 use crate::lookups::{Scope, Var, Whole, whole_reference};
@@ -17,7 +18,7 @@ use std::alloc::{AllocError, Global};
 
 /// An expression where no set may stand.
 #[cycle(operands)]
-#[tactic(auto, using(smv_inst::proofs::Notes::noting, crate::proofs::OperandLaws::equations))]
+#[tactic(auto, using(smv_inst::proofs::Notes::noting, crate::proofs::OperandLaws::kinds, crate::proofs::OperandLaws::ats, crate::proofs::OperandLaws::faults, crate::proofs::KindLaws::first_fits))]
 pub fn operand<'a>(
     x: &'a Expr,
     scope: &Scope<'a, '_>,
@@ -25,6 +26,7 @@ pub fn operand<'a>(
     alloc: Global,
     out: &mut Vec<Fault>,
 ) -> Result<Operand<'a>, AllocError>
+    requires { AreKindTables scope.now.tables.now }
     ensures kind { IfOk result (λ found. kind_of found.kind ≡ (spec.operand (scope_of scope.now) (vars_of vars.now) x.now).kind) }
     ensures at { IfOk result (λ found. found.at ≡ (spec.operand (scope_of scope.now) (vars_of vars.now) x.now).at) }
     ensures faults { OnOk result (out.new.items ≡ out.old.items ++ (spec.operand (scope_of scope.now) (vars_of vars.now) x.now).faults) }
@@ -90,7 +92,7 @@ pub fn operand<'a>(
 
 /// An expression where a number is wanted, and where it begins.
 #[cycle(operands)]
-#[tactic(auto, using(smv_inst::proofs::Notes::noting))]
+#[tactic(auto, using(smv_inst::proofs::Notes::noting, crate::proofs::KindLaws::number_fits))]
 pub fn number<'a>(
     x: &'a Expr,
     scope: &Scope<'a, '_>,
@@ -98,6 +100,7 @@ pub fn number<'a>(
     alloc: Global,
     out: &mut Vec<Fault>,
 ) -> Result<u32, AllocError>
+    requires { AreKindTables scope.now.tables.now }
     ensures at { IfOk result (λ at. at ≡ (spec.operand (scope_of scope.now) (vars_of vars.now) x.now).at) }
     ensures faults { OnOk result (out.new.items ≡ out.old.items ++ kinds.takes_number (spec.operand (scope_of scope.now) (vars_of vars.now) x.now)) }
 {
@@ -116,6 +119,7 @@ fn numbers<'a>(
     alloc: Global,
     out: &mut Vec<Fault>,
 ) -> Result<Operand<'a>, AllocError>
+    requires { AreKindTables scope.now.tables.now }
     ensures kind { IfOk result (λ found. kind_of found.kind ≡ (kinds.of_numbers (map (spec.operand (scope_of scope.now) (vars_of vars.now)) parts.now)).kind) }
     ensures at { IfOk result (λ found. found.at ≡ (kinds.of_numbers (map (spec.operand (scope_of scope.now) (vars_of vars.now)) parts.now)).at) }
     ensures faults { OnOk result (out.new.items ≡ out.old.items ++ (kinds.of_numbers (map (spec.operand (scope_of scope.now) (vars_of vars.now)) parts.now)).faults) }
@@ -140,6 +144,7 @@ fn more_numbers<'a>(
     alloc: Global,
     out: &mut Vec<Fault>,
 ) -> Result<(), AllocError>
+    requires { AreKindTables scope.now.tables.now }
     ensures { OnOk result (out.new.items ≡ out.old.items ++ flat_map kinds.takes_number (map (spec.operand (scope_of scope.now) (vars_of vars.now)) parts.now)) }
 {
     for x in parts {
@@ -158,6 +163,7 @@ fn summands<'a>(
     alloc: Global,
     out: &mut Vec<Fault>,
 ) -> Result<(), AllocError>
+    requires { AreKindTables scope.now.tables.now }
     ensures { OnOk result (out.new.items ≡ out.old.items ++ flat_map kinds.takes_number (map (λ x. spec.operand (scope_of scope.now) (vars_of vars.now) (out-Signed x).of) more.now)) }
 {
     for x in more {
@@ -168,7 +174,7 @@ fn summands<'a>(
 
 // Two sides of one kind.
 #[cycle(operands)]
-#[tactic(auto, using(smv_inst::proofs::Notes::noting))]
+#[tactic(auto, using(smv_inst::proofs::Notes::noting, crate::proofs::KindLaws::sides_fit))]
 fn both_sides<'a>(
     left: &'a Expr,
     right: &'a Expr,
@@ -177,6 +183,7 @@ fn both_sides<'a>(
     alloc: Global,
     out: &mut Vec<Fault>,
 ) -> Result<Sides<'a>, AllocError>
+    requires { AreKindTables scope.now.tables.now }
     ensures left_kind { IfOk result (λ both. kind_of both.left.kind ≡ (spec.operand (scope_of scope.now) (vars_of vars.now) left.now).kind) }
     ensures left_at { IfOk result (λ both. both.left.at ≡ (spec.operand (scope_of scope.now) (vars_of vars.now) left.now).at) }
     ensures right_kind { IfOk result (λ both. kind_of both.right.kind ≡ (spec.operand (scope_of scope.now) (vars_of vars.now) right.now).kind) }
@@ -191,7 +198,7 @@ fn both_sides<'a>(
 
 // A number made of a number at each value of a type.
 #[cycle(operands)]
-#[tactic(auto, using(smv_inst::proofs::Notes::noting))]
+#[tactic(auto, using(smv_inst::proofs::Notes::noting, crate::proofs::KindLaws::number_fits))]
 fn reduced<'a>(
     body: &'a Expr,
     var: &'a Word,
@@ -202,6 +209,7 @@ fn reduced<'a>(
     out: &mut Vec<Fault>,
     at: u32,
 ) -> Result<Operand<'a>, AllocError>
+    requires { AreKindTables scope.now.tables.now }
     ensures kind { IfOk result (λ found. kind_of found.kind ≡ (spec.reduced (scope_of scope.now) at (spec.operand (scope_of scope.now) (spec.bind (scope_of scope.now) (vars_of vars.now) var.now over.now) body.now) over.now).kind) }
     ensures at { IfOk result (λ found. found.at ≡ (spec.reduced (scope_of scope.now) at (spec.operand (scope_of scope.now) (spec.bind (scope_of scope.now) (vars_of vars.now) var.now over.now) body.now) over.now).at) }
     ensures faults { OnOk result (out.new.items ≡ out.old.items ++ (spec.reduced (scope_of scope.now) at (spec.operand (scope_of scope.now) (spec.bind (scope_of scope.now) (vars_of vars.now) var.now over.now) body.now) over.now).faults) }
@@ -214,7 +222,7 @@ fn reduced<'a>(
 
 // What stands right of `in`, beside this kind.
 #[cycle(operands)]
-#[tactic(auto, using(smv_inst::proofs::Notes::noting, crate::proofs::OperandLaws::equations))]
+#[tactic(auto, using(smv_inst::proofs::Notes::noting, crate::proofs::OperandLaws::through, crate::proofs::KindLaws::stray_fits))]
 fn looked_through<'a>(
     set: &'a Expr,
     scope: &Scope<'a, '_>,
@@ -223,6 +231,7 @@ fn looked_through<'a>(
     out: &mut Vec<Fault>,
     kind: ValueKind<'a>,
 ) -> Result<(), AllocError>
+    requires { AreKindTables scope.now.tables.now }
     ensures { OnOk result (out.new.items ≡ out.old.items ++ kinds.alike_with (kind_of kind.entry) (spec.looked_through (scope_of scope.now) (vars_of vars.now) set.now)) }
 {
     match set {
@@ -240,7 +249,7 @@ fn looked_through<'a>(
 
 /// The members of a listed set, beside this kind, and the kind of all together.
 #[cycle(operands)]
-#[tactic(auto, using(smv_inst::proofs::Notes::noting))]
+#[tactic(auto, using(smv_inst::proofs::Notes::noting, crate::proofs::KindLaws::in_turn))]
 pub fn all_members<'a>(
     members: &'a [Member],
     scope: &Scope<'a, '_>,
@@ -249,6 +258,7 @@ pub fn all_members<'a>(
     out: &mut Vec<Fault>,
     kind: ValueKind<'a>,
 ) -> Result<ValueKind<'a>, AllocError>
+    requires { AreKindTables scope.now.tables.now }
     ensures kind { IfOk result (λ all. kind_of all ≡ kinds.kind_with (kind_of kind.entry) (map (member_in (scope_of scope.now) (vars_of vars.now)) members.now)) }
     ensures faults { OnOk result (out.new.items ≡ out.old.items ++ kinds.alike_with (kind_of kind.entry) (map (member_in (scope_of scope.now) (vars_of vars.now)) members.now)) }
 {
@@ -270,8 +280,9 @@ fn member<'a>(
     out: &mut Vec<Fault>,
     kind: ValueKind<'a>,
 ) -> Result<ValueKind<'a>, AllocError>
+    requires { AreKindTables scope.now.tables.now }
     ensures kind { IfOk result (λ all. kind_of all ≡ kinds.joined (kind_of kind.entry) (member_in (scope_of scope.now) (vars_of vars.now) x.now).kind) }
-    ensures faults { OnOk result (out.new.items ≡ out.old.items ++ (member_in (scope_of scope.now) (vars_of vars.now) x.now).faults ++ kinds.unless (kinds.joins (kind_of kind.entry) (member_in (scope_of scope.now) (vars_of vars.now) x.now).kind) (member_in (scope_of scope.now) (vars_of vars.now) x.now)) }
+    ensures faults { OnOk result (out.new.items ≡ out.old.items ++ (member_in (scope_of scope.now) (vars_of vars.now) x.now).faults ++ misfit (kinds.joins (kind_of kind.entry) (member_in (scope_of scope.now) (vars_of vars.now) x.now).kind) (member_in (scope_of scope.now) (vars_of vars.now) x.now).at) }
 {
     match x {
         Member::One { of } => fitting(of, scope, vars, alloc, out, kind),
@@ -293,8 +304,9 @@ pub fn fitting<'a>(
     out: &mut Vec<Fault>,
     kind: ValueKind<'a>,
 ) -> Result<ValueKind<'a>, AllocError>
+    requires { AreKindTables scope.now.tables.now }
     ensures kind { IfOk result (λ all. kind_of all ≡ kinds.joined (kind_of kind.entry) (spec.operand (scope_of scope.now) (vars_of vars.now) x.now).kind) }
-    ensures faults { OnOk result (out.new.items ≡ out.old.items ++ (spec.operand (scope_of scope.now) (vars_of vars.now) x.now).faults ++ kinds.unless (kinds.joins (kind_of kind.entry) (spec.operand (scope_of scope.now) (vars_of vars.now) x.now).kind) (spec.operand (scope_of scope.now) (vars_of vars.now) x.now)) }
+    ensures faults { OnOk result (out.new.items ≡ out.old.items ++ (spec.operand (scope_of scope.now) (vars_of vars.now) x.now).faults ++ misfit (kinds.joins (kind_of kind.entry) (spec.operand (scope_of scope.now) (vars_of vars.now) x.now).kind) (spec.operand (scope_of scope.now) (vars_of vars.now) x.now).at) }
 {
     let e = operand(x, scope, vars, alloc, out)?;
     fits(out, kind, e)
@@ -311,6 +323,7 @@ pub fn referred<'a>(
     out: &mut Vec<Fault>,
     whole: Option<Whole<'a>>,
 ) -> Result<Operand<'a>, AllocError>
+    requires { AreKindTables scope.now.tables.now }
     ensures kind { IfOk result (λ found. kind_of found.kind ≡ (references.reference (out-Path path.now).at (option_map whole_of whole.entry) (map (spec.operand (scope_of scope.now) (vars_of vars.now)) (indexes_of (out-Path path.now).parts))).kind) }
     ensures at { IfOk result (λ found. found.at ≡ (references.reference (out-Path path.now).at (option_map whole_of whole.entry) (map (spec.operand (scope_of scope.now) (vars_of vars.now)) (indexes_of (out-Path path.now).parts))).at) }
     ensures faults { OnOk result (out.new.items ≡ out.old.items ++ (references.reference (out-Path path.now).at (option_map whole_of whole.entry) (map (spec.operand (scope_of scope.now) (vars_of vars.now)) (indexes_of (out-Path path.now).parts))).faults) }
@@ -331,7 +344,7 @@ pub fn referred<'a>(
 
 // The indexes of a path, behind a reference over these kinds or one that leads nowhere.
 #[cycle(operands)]
-#[tactic(auto, using(smv_inst::proofs::Notes::noting))]
+#[tactic(auto, using(smv_inst::proofs::Notes::noting, crate::proofs::KindLaws::indexes_in_turn))]
 fn indexes<'a>(
     parts: &'a [Part],
     scope: &Scope<'a, '_>,
@@ -340,6 +353,7 @@ fn indexes<'a>(
     out: &mut Vec<Fault>,
     over: Option<&[ValueKind<'a>]>,
 ) -> Result<(), AllocError>
+    requires { AreKindTables scope.now.tables.now }
     ensures { OnOk result (out.new.items ≡ out.old.items ++ index_faults_by (kinds_left over.entry) (map (spec.operand (scope_of scope.now) (vars_of vars.now)) (indexes_of parts.now))) }
 {
     let mut left = over;
@@ -352,7 +366,7 @@ fn indexes<'a>(
 
 // A part of a path, where these kinds are left.
 #[cycle(operands)]
-#[tactic(auto, using(smv_inst::proofs::Notes::noting))]
+#[tactic(auto, using(smv_inst::proofs::Notes::noting, crate::proofs::KindLaws::value_fits))]
 fn index<'a>(
     part: &'a Part,
     scope: &Scope<'a, '_>,
@@ -361,6 +375,7 @@ fn index<'a>(
     out: &mut Vec<Fault>,
     over: Option<&[ValueKind<'a>]>,
 ) -> Result<(), AllocError>
+    requires { AreKindTables scope.now.tables.now }
     ensures { OnOk result (out.new.items ≡ out.old.items ++ part_faults (scope_of scope.now) (vars_of vars.now) (kinds_left over.entry) part.now) }
 {
     match part {

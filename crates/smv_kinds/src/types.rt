@@ -5,7 +5,8 @@ ghost use Rattle.smv_inst.specs.NameFaults.{place_if};
 ghost use Rattle.smv_inst.specs.FirstFault.{faults_at};
 ghost use Rattle.smv_types.specs.Types as spec;
 ghost use Rattle.smv_types.specs.Operands as operands;
-ghost use Rattle.smv_kinds.specs.Found.{kind_of, vars_of, scope_of};
+ghost use Rattle.smv_kinds.specs.Forms.{kind_of, AreKindTables};
+ghost use Rattle.smv_kinds.specs.Found.{vars_of, scope_of};
 
 use crate::kinds::{ValueKind, fault_if, is_index};
 use crate::lookups::{Scope, Var, single_kind};
@@ -18,6 +19,7 @@ pub fn index_kind<'a>(
     of: &'a TypeExpr,
     scope: &Scope<'a, '_>,
 ) -> Result<ValueKind<'a>, AllocError>
+    requires { AreKindTables scope.now.tables.now }
     ensures { IfOk result (λ kind. kind_of kind ≡ spec.index_kind (scope_of scope.now).here.types of.now) }
 {
     match single_kind(of, scope)? {
@@ -27,6 +29,7 @@ pub fn index_kind<'a>(
 }
 
 /// One more variable inside these, of this kind.
+#[tactic(auto, unfolding(crate::specs::Found::vars_of))]
 pub fn inside<'a>(
     alloc: Global,
     vars: &[Var<'a>],
@@ -52,6 +55,7 @@ pub fn bind<'a>(
     vars: &[Var<'a>],
     alloc: Global,
 ) -> Result<Vec<Var<'a>>, AllocError>
+    requires { AreKindTables scope.now.tables.now }
     ensures { IfOk result (λ inner. vars_of inner.items ≡ operands.bind (scope_of scope.now) (vars_of vars.now) var.now over.now) }
 {
     let kind = index_kind(over, scope)?;
@@ -85,6 +89,7 @@ pub fn index_faults<'a>(
     scope: &Scope<'a, '_>,
     out: &mut Vec<Fault>,
 ) -> Result<(), AllocError>
+    requires { AreKindTables scope.now.tables.now }
     ensures { OnOk result (out.new.items ≡ out.old.items ++ spec.index_faults (scope_of scope.now).here.types over.now) }
 {
     match over {
@@ -108,6 +113,7 @@ pub fn type_faults<'a>(
     scope: &Scope<'a, '_>,
     out: &mut Vec<Fault>,
 ) -> Result<(), AllocError>
+    requires { AreKindTables scope.now.tables.now }
     ensures { OnOk result (out.new.items ≡ out.old.items ++ spec.type_faults (scope_of scope.now).here.types of.now) }
 {
     match of {
@@ -131,6 +137,7 @@ fn field_faults<'a>(
     scope: &Scope<'a, '_>,
     out: &mut Vec<Fault>,
 ) -> Result<(), AllocError>
+    requires { AreKindTables scope.now.tables.now }
     ensures { OnOk result (out.new.items ≡ out.old.items ++ flat_map (λ field. spec.type_faults (scope_of scope.now).here.types (out-Field field).of) fields.now) }
 {
     for field in fields {
@@ -147,6 +154,7 @@ pub fn formal_faults<'a>(
     scope: &Scope<'a, '_>,
     out: &mut Vec<Fault>,
 ) -> Result<(), AllocError>
+    requires { AreKindTables scope.now.tables.now }
     ensures { OnOk result (out.new.items ≡ out.old.items ++ flat_map (λ word. faults_at (12, place_if (is_none (spec.leads (scope_of scope.now).here.types of.now [])) word.at)) words.now) }
 {
     let kind = single_kind(of, scope)?;
