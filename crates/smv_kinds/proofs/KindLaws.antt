@@ -1,15 +1,20 @@
 -- Operands of one kind, from left to right.
 use Rattle.std.proofs.Common.{◌≡◌, ℕ, suc, Bool, true, List, [], ◌∷◌, ◌++◌, map, zip, refl, ap, ◌∙◌, sym}
-use Rattle.std.specs.Prelude.{Option, Some, None}
+use Rattle.std.specs.Prelude.{Option, Some, None, slice_get, unwrap_or}
 use Rattle.std.proofs.lemmas.List.{append_assoc, append-nil}
+use Rattle.std.specs.List.{flat_map}
+use Rattle.smv_inst.specs.FirstFault.{faults_at}
 use Rattle.smv_core.specs.declared.fault.Fault.{Fault}
 use Rattle.smv_core.specs.declared.tree.Part.{Part, Field, At}
 use Rattle.smv_core.specs.Walk.{indexes_of}
-use Rattle.smv_types.specs.Kinds.{Kind, number, enumeration, set_type, no_kind, joins, joined, is_number, accepts, has_order, Operand, unless, takes_number, takes, alike_with, kind_with, stray_set}
-use Rattle.smv_types.specs.References.{Scope, Vars}
+use Rattle.smv_types.specs.Kinds.{Kind, number, enumeration, set_type, no_kind, joins, joined, is_number, accepts, has_order, Operand, unless, takes_number, takes, alike_with, kind_with, first_at, stray_set}
+use Rattle.smv_types.specs.Types.{Whole}
+use Rattle.smv_types.specs.References.{Scope, Vars, reference}
 use Rattle.smv_types.specs.Operands.{operand}
-use Rattle.smv_kinds.specs.Forms.{misfit}
-use Rattle.smv_kinds.specs.Found.{vars_of, index_faults_by, part_faults, left_behind}
+use Rattle.smv_kinds.specs.declared.kinds.ValueKind.{ValueKind}
+use Rattle.smv_core.specs.declared.tree.Expr.{Expr}
+use Rattle.smv_kinds.specs.Forms.{kind_of, misfit}
+use Rattle.smv_kinds.specs.Found.{vars_of, begin, path_faults, part_faults}
 
 -- an operand that is itself at fault fits everywhere
 joins-none : (kind : Kind) → joins kind no_kind ≡ true
@@ -63,13 +68,14 @@ joins-first kind = refl
 pub alike-first : (e : Operand) (es : List Operand) → alike_with no_kind (e ∷ es) ≡ e.faults ++ alike_with e.kind es
 alike-first e es =
     alike-step no_kind e es ∙ ap (λ b. e.faults ++ misfit b e.at ++ alike_with (joined no_kind e.kind) es) (joins-first e.kind)
-    ∙ ap (λ l. e.faults ++ l ++ alike_with (joined no_kind e.kind) es) (fits-always e.at) ∙ ap (λ kind. e.faults ++ alike_with kind es) (joined-first e.kind)
+    ∙ ap (λ l. e.faults ++ l ++ alike_with (joined no_kind e.kind) es) (fits-always e.at) ∙ ap (λ l. l ++ alike_with (joined no_kind e.kind) es) (append-nil e.faults)
+    ∙ ap (λ kind. e.faults ++ alike_with kind es) (joined-first e.kind)
 
 pub alike-last : (kind : Kind) (e : Operand) → alike_with kind (e ∷ []) ≡ e.faults ++ misfit (joins kind e.kind) e.at
-alike-last kind e = alike-step kind e [] ∙ ap (λ l. e.faults ++ misfit (joins kind e.kind) e.at ++ l) (alike-none (joined kind e.kind)) ∙ ap (λ l. e.faults ++ l) (append-nil (misfit (joins kind e.kind) e.at))
+alike-last kind e = alike-step kind e [] ∙ ap (λ l. e.faults ++ misfit (joins kind e.kind) e.at ++ l) (alike-none (joined kind e.kind)) ∙ append-nil (e.faults ++ misfit (joins kind e.kind) e.at)
 
 -- two sides of one kind
-pub alike-both : (e f : Operand) → alike_with no_kind (e ∷ f ∷ []) ≡ e.faults ++ f.faults ++ misfit (joins e.kind f.kind) f.at
+pub alike-both : (e f : Operand) → alike_with no_kind (e ∷ f ∷ []) ≡ e.faults ++ (f.faults ++ misfit (joins e.kind f.kind) f.at)
 alike-both e f = alike-first e (f ∷ []) ∙ ap (λ l. e.faults ++ l) (alike-last e.kind f)
 
 -- a set that may not stand where it does fits
@@ -82,8 +88,7 @@ unfolding alike_with kind_with
 alike-append kind [] ys = refl
 alike-append kind (e ∷ xs) ys =
     ap (λ l. e.faults ++ unless (joins kind e.kind) e ++ l) (alike-append (joined kind e.kind) xs ys)
-    ∙ ap (λ l. e.faults ++ l) (sym (append_assoc (unless (joins kind e.kind) e) (alike_with (joined kind e.kind) xs) (alike_with (kind_with (joined kind e.kind) xs) ys)))
-    ∙ sym (append_assoc e.faults (unless (joins kind e.kind) e ++ alike_with (joined kind e.kind) xs) (alike_with (kind_with (joined kind e.kind) xs) ys))
+    ∙ sym (append_assoc (e.faults ++ unless (joins kind e.kind) e) (alike_with (joined kind e.kind) xs) (alike_with (kind_with (joined kind e.kind) xs) ys))
 
 pub kind-append : (kind : Kind) (xs ys : List Operand) → kind_with kind (xs ++ ys) ≡ kind_with (kind_with kind xs) ys
 unfolding kind_with
@@ -98,22 +103,70 @@ pub ruleset stray_fits = (alike-stray, alike-none)
 pub ruleset in_turn = (alike-none, alike-step, kind-none, kind-step)
 pub ruleset all_in_turn = (alike-none, alike-append, kind-none, kind-append)
 
--- the indexes of a path, one part after the other
-pub index-step : (scope : Scope) (vars : Vars) (over : Option (List Kind)) (part : Part) (parts : List Part)
-    → index_faults_by over (map (operand scope vars) (indexes_of (part ∷ parts))) ≡ part_faults scope vars over part ++ index_faults_by (left_behind over part) (map (operand scope vars) (indexes_of parts))
-index-step scope vars None (Field word) parts = refl
-index-step scope vars (Some []) (Field word) parts = refl
-index-step scope vars (Some (kind ∷ over)) (Field word) parts = refl
-index-step scope vars None (At index) parts = refl
-index-step scope vars (Some []) (At index) parts = refl
-index-step scope vars (Some (kind ∷ over)) (At index) parts = refl
+-- ---- references
 
-pub index-none : (over : Option (List Kind)) → index_faults_by over [] ≡ []
-index-none None = refl
-index-none (Some []) = refl
-index-none (Some (kind ∷ over)) = refl
+module _ (scope : Scope) (vars : Vars) where
+  path-none : (parts : List Part) → flat_map (λ (e : Operand). e.faults) (map (operand scope vars) (indexes_of parts)) ≡ path_faults scope vars None parts
+  path-none [] = refl
+  path-none (Field word ∷ parts) = path-none parts
+  path-none (At index ∷ parts) = ap (λ l. (operand scope vars index).faults ++ l) (path-none parts)
 
-pub ruleset indexes_in_turn = (index-step, index-none)
+  path-done : (parts : List Part) → path_faults scope vars (Some []) parts ≡ []
+  path-done [] = refl
+  path-done (Field word ∷ parts) = path-done parts
+  path-done (At index ∷ parts) = path-done parts
+
+  path-some : (over : List Kind) (parts : List Part) → flat_map {A = Kind × Operand} (λ (kind, e). takes kind e) (zip over (map (operand scope vars) (indexes_of parts))) ≡ path_faults scope vars (Some over) parts
+  path-some [] parts = sym (path-done parts)
+  path-some (kind ∷ over) [] = refl
+  path-some (kind ∷ over) (Field word ∷ parts) = path-some (kind ∷ over) parts
+  path-some (kind ∷ over) (At index ∷ parts) = ap (λ l. takes kind (operand scope vars index) ++ l) (path-some over parts)
+
+  pub faults-nowhere : (at : ℕ) (parts : List Part) → (reference at None (map (operand scope vars) (indexes_of parts))).faults ≡ faults_at (12, at ∷ []) ++ path_faults scope vars None parts
+  unfolding reference
+  faults-nowhere at parts = ap (λ l. faults_at (12, at ∷ []) ++ l) (path-none parts)
+
+  pub faults-whole : (at : ℕ) (w : Whole) (parts : List Part) → (reference at (Some w) (map (operand scope vars) (indexes_of parts))).faults ≡ path_faults scope vars (Some w.over) parts
+  unfolding reference
+  faults-whole at w parts = path-some w.over parts
+
+pub kind-nowhere : (at : ℕ) (es : List Operand) → (reference at None es).kind ≡ no_kind
+unfolding reference
+kind-nowhere at es = refl
+
+pub kind-whole : (at : ℕ) (w : Whole) (es : List Operand) → (reference at (Some w) es).kind ≡ w.value
+unfolding reference
+kind-whole at w es = refl
+
+pub reference-at : (at : ℕ) (o : Option Whole) (es : List Operand) → (reference at o es).at ≡ at
+unfolding reference
+reference-at at None es = refl
+reference-at at (Some w) es = refl
+
+pub ruleset references = (faults-nowhere, faults-whole, kind-nowhere, kind-whole, reference-at)
+
+-- the kind of the next index
+pub next-none : (kinds : List ValueKind) (scope : Scope) (vars : Vars) (e : Expr) → slice_get kinds 0 ≡ None → part_faults scope vars (Some (map kind_of kinds)) (At e) ≡ []
+next-none [] scope vars e h = refl
+next-none (kind ∷ kinds) scope vars e h = cc
+
+pub next-some : (kinds : List ValueKind) (kind : ValueKind) (scope : Scope) (vars : Vars) (e : Expr) → slice_get kinds 0 ≡ Some kind
+    → part_faults scope vars (Some (map kind_of kinds)) (At e) ≡ takes (kind_of kind) (operand scope vars e)
+next-some [] kind scope vars e h = cc
+next-some (other ∷ kinds) kind scope vars e h = let same : other ≡ kind = cc in ap (λ k. takes (kind_of k) (operand scope vars e)) same
+
+pub ruleset next_kinds = (next-none, next-some)
+
+-- the first of some places
+begin-at : (at : ℕ) (es : List Operand) → begin (Some at) es ≡ Some at
+begin-at at [] = refl
+begin-at at (e ∷ es) = begin-at at es
+
+pub begin-first : (es : List Operand) → first_at es ≡ unwrap_or (begin None es) 0
+begin-first [] = refl
+begin-first (e ∷ es) = sym (ap (λ o. unwrap_or o 0) (begin-at e.at es))
+
+pub ruleset begins = (begin-first)
 
 pub vars-none : vars_of [] ≡ []
 unfolding vars_of

@@ -15,14 +15,14 @@ use Rattle.smv_core.specs.declared.tree.Expr.{items-the_row-Part, items-the_row-
 use Rattle.std.specs.Prelude.{Option, Some, None, nat_eq}
 use mathlib.Core.Former.{Count}
 use Rattle.std.specs.List.{flat_map}
-use Rattle.std.proofs.lemmas.List.{append-nil}
+use Rattle.std.proofs.lemmas.List.{append-nil, append_assoc}
 use Rattle.smv_inst.specs.NameFaults.{place_if}
 use Rattle.smv_inst.specs.FirstFault.{faults_at}
 use Rattle.smv_types.specs.Kinds.{number, no_kind, joined, has_order, Operand, first_at, number_at, of_numbers, of_alike, takes_number, unless, alike_with, ordered, chosen, stray_set}
 use Rattle.smv_types.specs.References.{Scope, Vars, reference_at, reference}
 use Rattle.smv_types.specs.Operands.{operand, operands, indexes, summands, members, looked_through, compared, remainder, reduced, bind}
 use Rattle.smv_kinds.specs.Forms.{misfit}
-use Rattle.smv_kinds.specs.Found.{member, order_faults}
+use Rattle.smv_kinds.specs.Found.{member, addend, order_faults}
 use Rattle.smv_kinds.proofs.Computing.{computing}
 
 module _ (scope : Scope) (vars : Vars) where
@@ -37,12 +37,8 @@ module _ (scope : Scope) (vars : Vars) where
   parts-row n (more_of-Part (Field word) rest) = parts-row _ rest
   parts-row n (more_of-Part (At index) rest) = ap (λ l. operand scope vars index ∷ l) (parts-row _ rest)
 
-  -- what a sum adds
-  abbrev pub addend : Signed → Operand
-  addend x = operand scope vars (out-Signed x).of
-
-  signed-row : (n : _) (row : Row_of-Signed n) → summands scope vars row ≡ map addend (items-the_row-Signed n row)
-  unfolding operand computing
+  signed-row : (n : _) (row : Row_of-Signed n) → summands scope vars row ≡ map (addend scope vars) (items-the_row-Signed n row)
+  unfolding operand addend computing
   signed-row n end_of-Signed = refl
   signed-row n (more_of-Signed minus e rest) = ap (λ l. operand scope vars e ∷ l) (signed-row _ rest)
 
@@ -110,11 +106,11 @@ module _ (scope : Scope) (vars : Vars) where
   unfolding operand computing
   operand-Within x y = refl
 
-  pub operand-Sum : (first : Expr) (more : List Signed) → operand scope vars (Sum first more) ≡ of_numbers (operand scope vars first ∷ map addend more)
+  pub operand-Sum : (first : Expr) (more : List Signed) → operand scope vars (Sum first more) ≡ of_numbers (operand scope vars first ∷ map (addend scope vars) more)
   unfolding operand Rattle.smv_core.specs.declared.tree.Expr.TheBlock.hidden-the_row-Expr-1 Rattle.smv_core.specs.declared.tree.Expr.TheBlock.shape-the_row-Expr-1 denote.Hole.Carrier.hidden
   operand-Sum first more =
       let row : (n : Count) × Row_of-Signed n = signed_of (Sum first more) in
-      ap (λ l. of_numbers (operand scope vars first ∷ l)) (signed-row row.0 row.1 ∙ ap (map addend) (items_hidden-the_row-Signed-3 more))
+      ap (λ l. of_numbers (operand scope vars first ∷ l)) (signed-row row.0 row.1 ∙ ap (map (addend scope vars)) (items_hidden-the_row-Signed-3 more))
 
   pub operand-Modulo : (e : Expr) (by at : ℕ) → operand scope vars (Modulo e by at) ≡ remainder (operand scope vars e) by at
   unfolding operand computing
@@ -148,6 +144,62 @@ module _ (scope : Scope) (vars : Vars) where
   unfolding operand
   through-Each var over cond at = refl
 
+  pub through-Number : (value at : ℕ) → looked_through scope vars (Number value at) ≡ []
+  unfolding operand
+  through-Number value at = refl
+
+  pub through-Signal : (path : Path) → looked_through scope vars (Signal path) ≡ []
+  unfolding operand
+  through-Signal path = refl
+
+  pub through-Not : (e : Expr) (at : ℕ) → looked_through scope vars (Not e at) ≡ []
+  unfolding operand
+  through-Not e at = refl
+
+  pub through-And : (parts : List Expr) → looked_through scope vars (And parts) ≡ []
+  unfolding operand
+  through-And parts = refl
+
+  pub through-Or : (parts : List Expr) → looked_through scope vars (Or parts) ≡ []
+  unfolding operand
+  through-Or parts = refl
+
+  pub through-Implies : (parts : List Expr) → looked_through scope vars (Implies parts) ≡ []
+  unfolding operand
+  through-Implies parts = refl
+
+  pub through-Iff : (x y : Expr) → looked_through scope vars (Iff x y) ≡ []
+  unfolding operand
+  through-Iff x y = refl
+
+  pub through-Compare : (op : Op) (x y : Expr) → looked_through scope vars (Compare op x y) ≡ []
+  unfolding operand
+  through-Compare op x y = refl
+
+  pub through-Within : (x y : Expr) → looked_through scope vars (Within x y) ≡ []
+  unfolding operand
+  through-Within x y = refl
+
+  pub through-Sum : (first : Expr) (more : List Signed) → looked_through scope vars (Sum first more) ≡ []
+  unfolding operand
+  through-Sum first more = refl
+
+  pub through-Modulo : (e : Expr) (by at : ℕ) → looked_through scope vars (Modulo e by at) ≡ []
+  unfolding operand
+  through-Modulo e by at = refl
+
+  pub through-Choose : (c x y : Expr) → looked_through scope vars (Choose c x y) ≡ []
+  unfolding operand
+  through-Choose c x y = refl
+
+  pub through-All : (body : Expr) (var : Word) (over : TypeExpr) (at : ℕ) → looked_through scope vars (All body var over at) ≡ []
+  unfolding operand
+  through-All body var over at = refl
+
+  pub through-Any : (body : Expr) (var : Word) (over : TypeExpr) (at : ℕ) → looked_through scope vars (Any body var over at) ≡ []
+  unfolding operand
+  through-Any body var over at = refl
+
   compared-kind : (op : Op) (e f : Operand) → (compared op e f).kind ≡ number
   compared-kind Equal e f = refl
   compared-kind Differ e f = refl
@@ -164,9 +216,9 @@ module _ (scope : Scope) (vars : Vars) where
   compared-at Greater e f = refl
   compared-at AtLeast e f = refl
 
-  orders : (e f : Operand) → ordered e f ≡ alike_with no_kind (e ∷ f ∷ []) ++ misfit (has_order e.kind) e.at ++ misfit (has_order f.kind) f.at
+  orders : (e f : Operand) → ordered e f ≡ alike_with no_kind (e ∷ f ∷ []) ++ (misfit (has_order e.kind) e.at ++ misfit (has_order f.kind) f.at)
   unfolding unless misfit
-  orders e f = refl
+  orders e f = append_assoc (alike_with no_kind (e ∷ f ∷ [])) (misfit (has_order e.kind) e.at) (misfit (has_order f.kind) f.at)
 
   compared-faults : (op : Op) (e f : Operand) → (compared op e f).faults ≡ alike_with no_kind (e ∷ f ∷ []) ++ order_faults op e.kind e.at f.kind f.at
   compared-faults Equal e f = sym (append-nil (alike_with no_kind (e ∷ f ∷ [])))
@@ -236,7 +288,7 @@ module _ (scope : Scope) (vars : Vars) where
   pub at-Iff : (x y : Expr) → (operand scope vars (Iff x y)).at ≡ (operand scope vars x).at
   at-Iff x y = ap (λ (e : Operand). e.at) (operand-Iff x y)
 
-  pub faults-Iff : (x y : Expr) → (operand scope vars (Iff x y)).faults ≡ takes_number (operand scope vars x) ++ takes_number (operand scope vars y)
+  pub faults-Iff : (x y : Expr) → (operand scope vars (Iff x y)).faults ≡ takes_number (operand scope vars x) ++ (takes_number (operand scope vars y) ++ [])
   faults-Iff x y = ap (λ (e : Operand). e.faults) (operand-Iff x y)
 
   pub kind-Sum : (first : Expr) (more : List Signed) → (operand scope vars (Sum first more)).kind ≡ number
@@ -245,7 +297,7 @@ module _ (scope : Scope) (vars : Vars) where
   pub at-Sum : (first : Expr) (more : List Signed) → (operand scope vars (Sum first more)).at ≡ (operand scope vars first).at
   at-Sum first more = ap (λ (e : Operand). e.at) (operand-Sum first more)
 
-  pub faults-Sum : (first : Expr) (more : List Signed) → (operand scope vars (Sum first more)).faults ≡ takes_number (operand scope vars first) ++ flat_map takes_number (map (λ x. operand scope vars (out-Signed x).of) more)
+  pub faults-Sum : (first : Expr) (more : List Signed) → (operand scope vars (Sum first more)).faults ≡ takes_number (operand scope vars first) ++ flat_map takes_number (map (addend scope vars) more)
   faults-Sum first more = ap (λ (e : Operand). e.faults) (operand-Sum first more)
 
   pub kind-Modulo : (e : Expr) (by at : ℕ) → (operand scope vars (Modulo e by at)).kind ≡ number
@@ -323,4 +375,4 @@ module _ (scope : Scope) (vars : Vars) where
 pub ruleset kinds = (kind-Number, kind-Signal, kind-Not, kind-And, kind-Or, kind-Implies, kind-Iff, kind-Compare, kind-Within, kind-Sum, kind-Modulo, kind-Choose, kind-All, kind-Any, kind-List, kind-Each)
 pub ruleset ats = (at-Number, at-Signal, at-Not, at-And, at-Or, at-Implies, at-Iff, at-Compare, at-Within, at-Sum, at-Modulo, at-Choose, at-All, at-Any, at-List, at-Each)
 pub ruleset faults = (faults-Number, faults-Signal, faults-Not, faults-And, faults-Or, faults-Implies, faults-Iff, faults-Compare, faults-Within, faults-Sum, faults-Modulo, faults-Choose, faults-All, faults-Any, faults-List, faults-Each)
-pub ruleset through = (through-List, through-Each)
+pub ruleset through = (through-List, through-Each, through-Number, through-Signal, through-Not, through-And, through-Or, through-Implies, through-Iff, through-Compare, through-Within, through-Sum, through-Modulo, through-Choose, through-All, through-Any)

@@ -1,5 +1,5 @@
 -- What the program finds of kinds, as the definitions speak of it.
-use Rattle.std.specs.Prelude.{◌≡◌, ℕ, List, [], ◌∷◌, ◌++◌, map, flat_map, zip, take, slice_get, Option, Some, None, option_map, not, Bool, true}
+use Rattle.std.specs.Prelude.{◌≡◌, ℕ, List, [], ◌∷◌, ◌++◌, map, take, slice_get, Option, Some, None, option_map, not, Bool, true, unwrap_or}
 use Rattle.std.proofs.Common.{Bor}
 use Rattle.smv_core.specs.Values.{Name}
 use Rattle.smv_core.specs.Types.{names_of}
@@ -13,6 +13,7 @@ use Rattle.smv_core.specs.declared.tree.Op.{Op}
 use Rattle.smv_core.specs.declared.tree.Op.TheVariants.{Equal, Differ}
 use Rattle.smv_core.specs.declared.tree.Part.{Part, Field, At}
 use Rattle.smv_core.specs.declared.tree.Expr.{Expr}
+use Rattle.smv_core.specs.declared.tree.Signed.{Signed, out-Signed}
 use Rattle.smv_core.specs.declared.tree.Member.{Member, One, Span as SpanOf}
 use Rattle.smv_inst.specs.Scopes.{pieces, constants}
 use Rattle.smv_inst.specs.NameFaults.{place_if}
@@ -84,10 +85,10 @@ inner_leads text inner parts = behind (modules_from [] text.tops) (types_before 
 abbrev pub kinds_left : Option (Bor (List ValueKind)) → Option (List Kind)
 kinds_left over = option_map (λ kinds. map kind_of kinds.now) over
 
--- the faults in some indexes, behind a reference that leads nowhere or to a value over these
-abbrev pub index_faults_by : Option (List Kind) → List Operand → List Fault
-index_faults_by None indexes = flat_map (λ (e : Operand). e.faults) indexes
-index_faults_by (Some over) indexes = flat_map (λ (kind, e). takes kind e) (zip over indexes)
+-- what is left behind one part of a path
+abbrev pub left_behind : Option (List Kind) → Part → Option (List Kind)
+left_behind (Some (kind ∷ over)) (At index) = Some over
+left_behind over part = over
 
 module _ (scope : Scope) (vars : Vars) where
   -- the faults in one part of a path
@@ -97,15 +98,30 @@ module _ (scope : Scope) (vars : Vars) where
   part_faults (Some []) (At index) = []
   part_faults (Some (kind ∷ over)) (At index) = takes kind (operand scope vars index)
 
+  -- the faults in the indexes of a path, behind a reference that leads nowhere or to a value over these kinds
+  abbrev pub path_faults : Option (List Kind) → List Part → List Fault
+  path_faults over [] = []
+  path_faults over (part ∷ parts) = part_faults over part ++ path_faults (left_behind over part) parts
+
+  -- what a sum adds
+  unfoldable pub addend : Signed → Operand
+  addend x = operand scope vars (out-Signed x).of
+
   -- a member of a listed set
   abbrev pub member : Member → Operand
   member (One e) = operand scope vars e
   member (SpanOf span at) = number_at at (faults_at (13, place_if (is_reversed span) at))
 
--- what is left behind one part of a path
-abbrev pub left_behind : Option (List Kind) → Part → Option (List Kind)
-left_behind (Some (kind ∷ over)) (At index) = Some over
-left_behind over part = over
+-- the faults at an index: it has no type, it is one too many, or it fits a kind
+abbrev pub next_faults : Option (Option ValueKind) → Operand → List Fault
+next_faults None e = e.faults
+next_faults (Some None) e = []
+next_faults (Some (Some kind)) e = takes (kind_of kind) e
+
+-- where some operands begin, behind others that begin there
+abbrev pub begin : Option ℕ → List Operand → Option ℕ
+begin first [] = first
+begin first (e ∷ es) = begin (Some (unwrap_or first e.at)) es
 
 -- ---- arguments
 

@@ -1,19 +1,18 @@
 // What names lead to.
-ghost use Rattle.std.specs.Prelude.{◌≡◌, ◌∷◌, ◌++◌, [], is_some, map, option_map, IfOk};
+ghost use Rattle.std.specs.Prelude.{◌≡◌, [], option_map, IfOk};
 ghost use Rattle.smv_core.specs.Types.{find_name};
 ghost use Rattle.smv_core.specs.declared.tree.Expr.{Expr};
-ghost use Rattle.smv_inst.specs.Said.{said_of};
 ghost use Rattle.smv_types.specs.Types as types;
 ghost use Rattle.smv_types.specs.References as references;
 ghost use Rattle.smv_types.specs.KindFaults.{connected};
-ghost use Rattle.smv_kinds.specs.Forms.{kind_of, form_leads, types_before, AreKindTables};
-ghost use Rattle.smv_kinds.specs.Found.{vars_of, whole_of, scope_of, argument_faults, moved, behind_over};
+ghost use Rattle.smv_kinds.specs.Forms.{kind_of, AreKindTables};
+ghost use Rattle.smv_kinds.specs.Found.{vars_of, whole_of, scope_of, argument_faults, moved};
 
 use crate::kinds::ValueKind;
-use crate::tables::{Form, Tables, form_of};
+use crate::paths::Whole;
+use crate::tables::Tables;
 use smv_core::name::Name;
 use smv_core::tree::{Part, TypeExpr, Word};
-use smv_inst::mentions::What;
 use std::alloc::{AllocError, Global};
 
 /// A variable that is bound, with its kind.
@@ -21,13 +20,6 @@ use std::alloc::{AllocError, Global};
 pub struct Var<'a> {
     pub name: &'a Name,
     pub kind: ValueKind<'a>,
-}
-
-/// A whole reference to a single value: the kinds of its index types, in their order, and of the value.
-#[derive(Drop)]
-pub struct Whole<'a> {
-    pub over: Vec<ValueKind<'a>>,
-    pub value: ValueKind<'a>,
 }
 
 /// Where something stands: in the top of a number.

@@ -2,23 +2,26 @@
 ghost use Rattle.std.specs.Prelude.{◌≡◌, ◌++◌, ◌∷◌, [], map, flat_map, option_map, IfOk, OnOk};
 ghost use Rattle.smv_core.specs.Walk.{indexes_of};
 ghost use Rattle.smv_core.specs.declared.tree.Path.{out-Path};
-ghost use Rattle.smv_core.specs.declared.tree.Signed.{out-Signed};
 ghost use Rattle.smv_types.specs.Kinds as kinds;
 ghost use Rattle.smv_types.specs.References as references;
+ghost use Rattle.smv_core.specs.declared.tree.Part.{At};
+ghost use Rattle.smv_core.specs.declared.tree.Expr.{Expr};
 ghost use Rattle.smv_types.specs.Operands as spec;
 ghost use Rattle.smv_kinds.specs.Forms.{kind_of, misfit, AreKindTables};
-ghost use Rattle.smv_kinds.specs.Found.{vars_of, scope_of, whole_of, order_faults, kinds_left, left_behind, part_faults, index_faults_by, member as member_in};
+ghost use Rattle.smv_kinds.specs.Found.{vars_of, scope_of, whole_of, order_faults, kinds_left, left_behind, part_faults, next_faults, path_faults, addend, member as member_in};
 
-use crate::kinds::{Operand, ValueKind, fault_if, fits, joined, number_at, takes, takes_number, takes_order};
-use crate::lookups::{Scope, Var, Whole, whole_reference};
+use crate::kinds::{Operand, ValueKind, fault_if, fits, number_at, takes, takes_number, takes_order};
+use crate::lookups::{Scope, Var, whole_reference};
+use crate::paths::Whole;
 use crate::types::{bind, index_faults};
 use smv_core::fault::Fault;
 use smv_core::tree::{Expr, Member, Op, Part, Path, Signed, TypeExpr, Word};
+use smv_scope::tables::item_at;
 use std::alloc::{AllocError, Global};
 
 /// An expression where no set may stand.
 #[cycle(operands)]
-#[tactic(auto, using(smv_inst::proofs::Notes::noting, crate::proofs::OperandLaws::kinds, crate::proofs::OperandLaws::ats, crate::proofs::OperandLaws::faults, crate::proofs::KindLaws::first_fits))]
+#[tactic(auto, using(smv_inst::proofs::Notes::noting, crate::proofs::OperandLaws::kinds, crate::proofs::OperandLaws::ats, crate::proofs::OperandLaws::faults, crate::proofs::KindLaws::first_fits, crate::proofs::KindLaws::sides_fit))]
 pub fn operand<'a>(
     x: &'a Expr,
     scope: &Scope<'a, '_>,
@@ -50,8 +53,9 @@ pub fn operand<'a>(
             Ok(number_at(at))
         }
         Expr::Compare { op, left, right } => {
-            let both = both_sides(left.get(), right.get(), scope, vars, alloc, out)?;
-            compared(*op, both, out)
+            let left = operand(left.get(), scope, vars, alloc, out)?;
+            let right = operand(right.get(), scope, vars, alloc, out)?;
+            compared(*op, left, right, out)
         }
         Expr::Within { left, set } => {
             let left = operand(left.get(), scope, vars, alloc, out)?;
@@ -70,8 +74,9 @@ pub fn operand<'a>(
         }
         Expr::Choose { cond, yes, no } => {
             let at = number(cond.get(), scope, vars, alloc, out)?;
-            let both = both_sides(yes.get(), no.get(), scope, vars, alloc, out)?;
-            Ok(chosen(at, both))
+            let yes = operand(yes.get(), scope, vars, alloc, out)?;
+            let no = operand(no.get(), scope, vars, alloc, out)?;
+            chosen(at, yes, no, out)
         }
         Expr::All {
             body,
@@ -111,7 +116,7 @@ pub fn number<'a>(
 
 // A number made of numbers.
 #[cycle(operands)]
-#[tactic(auto, using(smv_inst::proofs::Notes::noting))]
+#[tactic(auto, using(smv_inst::proofs::Notes::noting, crate::proofs::KindLaws::begins))]
 fn numbers<'a>(
     parts: &'a [Expr],
     scope: &Scope<'a, '_>,
@@ -124,38 +129,17 @@ fn numbers<'a>(
     ensures at { IfOk result (λ found. found.at ≡ (kinds.of_numbers (map (spec.operand (scope_of scope.now) (vars_of vars.now)) parts.now)).at) }
     ensures faults { OnOk result (out.new.items ≡ out.old.items ++ (kinds.of_numbers (map (spec.operand (scope_of scope.now) (vars_of vars.now)) parts.now)).faults) }
 {
-    match parts {
-        [] => Ok(number_at(0)),
-        [first, more @ ..] => {
-            let at = number(first, scope, vars, alloc, out)?;
-            more_numbers(more, scope, vars, alloc, out)?;
-            Ok(number_at(at))
-        }
-    }
-}
-
-// Expressions where numbers are wanted.
-#[cycle(operands)]
-#[tactic(auto, using(smv_inst::proofs::Notes::noting))]
-fn more_numbers<'a>(
-    parts: &'a [Expr],
-    scope: &Scope<'a, '_>,
-    vars: &[Var<'a>],
-    alloc: Global,
-    out: &mut Vec<Fault>,
-) -> Result<(), AllocError>
-    requires { AreKindTables scope.now.tables.now }
-    ensures { OnOk result (out.new.items ≡ out.old.items ++ flat_map kinds.takes_number (map (spec.operand (scope_of scope.now) (vars_of vars.now)) parts.now)) }
-{
+    let mut first = None;
     for x in parts {
-        number(x, scope, vars, alloc, out)?;
+        let at = number(x, scope, vars, alloc, out)?;
+        first = Some(first.unwrap_or(at));
     }
-    Ok(())
+    Ok(number_at(first.unwrap_or(0)))
 }
 
 // What a sum adds.
 #[cycle(operands)]
-#[tactic(auto, using(smv_inst::proofs::Notes::noting))]
+#[tactic(auto, using(smv_inst::proofs::Notes::noting), unfolding(crate::specs::Found::addend))]
 fn summands<'a>(
     more: &'a [Signed],
     scope: &Scope<'a, '_>,
@@ -164,36 +148,12 @@ fn summands<'a>(
     out: &mut Vec<Fault>,
 ) -> Result<(), AllocError>
     requires { AreKindTables scope.now.tables.now }
-    ensures { OnOk result (out.new.items ≡ out.old.items ++ flat_map kinds.takes_number (map (λ x. spec.operand (scope_of scope.now) (vars_of vars.now) (out-Signed x).of) more.now)) }
+    ensures { OnOk result (out.new.items ≡ out.old.items ++ flat_map kinds.takes_number (map (addend (scope_of scope.now) (vars_of vars.now)) more.now)) }
 {
     for x in more {
         number(&x.of, scope, vars, alloc, out)?;
     }
     Ok(())
-}
-
-// Two sides of one kind.
-#[cycle(operands)]
-#[tactic(auto, using(smv_inst::proofs::Notes::noting, crate::proofs::KindLaws::sides_fit))]
-fn both_sides<'a>(
-    left: &'a Expr,
-    right: &'a Expr,
-    scope: &Scope<'a, '_>,
-    vars: &[Var<'a>],
-    alloc: Global,
-    out: &mut Vec<Fault>,
-) -> Result<Sides<'a>, AllocError>
-    requires { AreKindTables scope.now.tables.now }
-    ensures left_kind { IfOk result (λ both. kind_of both.left.kind ≡ (spec.operand (scope_of scope.now) (vars_of vars.now) left.now).kind) }
-    ensures left_at { IfOk result (λ both. both.left.at ≡ (spec.operand (scope_of scope.now) (vars_of vars.now) left.now).at) }
-    ensures right_kind { IfOk result (λ both. kind_of both.right.kind ≡ (spec.operand (scope_of scope.now) (vars_of vars.now) right.now).kind) }
-    ensures right_at { IfOk result (λ both. both.right.at ≡ (spec.operand (scope_of scope.now) (vars_of vars.now) right.now).at) }
-    ensures faults { OnOk result (out.new.items ≡ out.old.items ++ kinds.alike (spec.operand (scope_of scope.now) (vars_of vars.now) left.now ∷ spec.operand (scope_of scope.now) (vars_of vars.now) right.now ∷ [])) }
-{
-    let left = operand(left, scope, vars, alloc, out)?;
-    let right = operand(right, scope, vars, alloc, out)?;
-    fits(out, left.kind, right)?;
-    Ok(Sides { left, right })
 }
 
 // A number made of a number at each value of a type.
@@ -243,13 +203,26 @@ fn looked_through<'a>(
             stray_set(*at, out)?;
             Ok(())
         }
-        _ => Ok(()),
+        Expr::Number { .. } => Ok(()),
+        Expr::Signal { .. } => Ok(()),
+        Expr::Not { .. } => Ok(()),
+        Expr::And { .. } => Ok(()),
+        Expr::Or { .. } => Ok(()),
+        Expr::Implies { .. } => Ok(()),
+        Expr::Iff { .. } => Ok(()),
+        Expr::Compare { .. } => Ok(()),
+        Expr::Within { .. } => Ok(()),
+        Expr::Sum { .. } => Ok(()),
+        Expr::Modulo { .. } => Ok(()),
+        Expr::Choose { .. } => Ok(()),
+        Expr::All { .. } => Ok(()),
+        Expr::Any { .. } => Ok(()),
     }
 }
 
 /// The members of a listed set, beside this kind, and the kind of all together.
 #[cycle(operands)]
-#[tactic(auto, using(smv_inst::proofs::Notes::noting, crate::proofs::KindLaws::in_turn))]
+#[tactic(auto, using(smv_inst::proofs::Notes::noting), unfolding(smv_types::specs::Kinds::alike_with, smv_types::specs::Kinds::kind_with, smv_types::specs::Kinds::unless, crate::specs::Forms::misfit))]
 pub fn all_members<'a>(
     members: &'a [Member],
     scope: &Scope<'a, '_>,
@@ -314,7 +287,7 @@ pub fn fitting<'a>(
 
 /// A path that leads to this, or nowhere.
 #[cycle(operands)]
-#[tactic(auto, using(smv_inst::proofs::Notes::noting))]
+#[tactic(auto, using(smv_inst::proofs::Notes::noting, crate::proofs::KindLaws::references))]
 pub fn referred<'a>(
     path: &'a Path,
     scope: &Scope<'a, '_>,
@@ -344,7 +317,7 @@ pub fn referred<'a>(
 
 // The indexes of a path, behind a reference over these kinds or one that leads nowhere.
 #[cycle(operands)]
-#[tactic(auto, using(smv_inst::proofs::Notes::noting, crate::proofs::KindLaws::indexes_in_turn))]
+#[tactic(auto, using(smv_inst::proofs::Notes::noting))]
 fn indexes<'a>(
     parts: &'a [Part],
     scope: &Scope<'a, '_>,
@@ -354,7 +327,7 @@ fn indexes<'a>(
     over: Option<&[ValueKind<'a>]>,
 ) -> Result<(), AllocError>
     requires { AreKindTables scope.now.tables.now }
-    ensures { OnOk result (out.new.items ≡ out.old.items ++ index_faults_by (kinds_left over.entry) (map (spec.operand (scope_of scope.now) (vars_of vars.now)) (indexes_of parts.now))) }
+    ensures { OnOk result (out.new.items ≡ out.old.items ++ path_faults (scope_of scope.now) (vars_of vars.now) (kinds_left over.entry) parts.now) }
 {
     let mut left = over;
     for part in parts {
@@ -380,15 +353,15 @@ fn index<'a>(
 {
     match part {
         Part::Field { .. } => Ok(()),
-        Part::At { index } => match over {
+        Part::At { index } => match next_kind(over) {
             None => {
                 operand(index, scope, vars, alloc, out)?;
                 Ok(())
             }
-            Some([]) => Ok(()),
-            Some([kind, ..]) => {
+            Some(None) => Ok(()),
+            Some(Some(kind)) => {
                 let e = operand(index, scope, vars, alloc, out)?;
-                takes(out, *kind, e)
+                takes(out, kind, e)
             }
         },
     }
@@ -408,11 +381,18 @@ fn behind<'k, 'a>(part: &Part, over: Option<&'k [ValueKind<'a>]>) -> Option<&'k 
     }
 }
 
-/// Two sides of one kind.
-#[derive(Clone, Copy)]
-pub struct Sides<'a> {
-    pub left: Operand<'a>,
-    pub right: Operand<'a>,
+// The kind of the next index, if there is a whole reference and then if it has that many indexes.
+#[tactic(auto, using(crate::proofs::KindLaws::next_kinds))]
+fn next_kind<'a>(over: Option<&[ValueKind<'a>]>) -> Option<Option<ValueKind<'a>>>
+    ensures { (from : references.Scope) (around : references.Vars) (e : Expr) → part_faults from around (kinds_left over.entry) (At e) ≡ next_faults result (spec.operand from around e) }
+{
+    match over {
+        None => None,
+        Some(kinds) => match item_at(kinds, 0) {
+            None => Some(None),
+            Some(kind) => Some(Some(*kind)),
+        },
+    }
 }
 
 /// An operand of this kind at this place.
@@ -424,34 +404,54 @@ pub fn operand_at<'a>(kind: ValueKind<'a>, at: u32) -> Operand<'a>
 }
 
 /// The two branches of a choice whose condition begins at this place.
-pub fn chosen<'a>(at: u32, both: Sides<'a>) -> Operand<'a>
-    ensures kind { kind_of result.kind ≡ kinds.joined (kind_of both.entry.left.kind) (kind_of both.entry.right.kind) }
-    ensures at { result.at ≡ at }
+#[tactic(auto, using(smv_inst::proofs::Notes::noting))]
+pub fn chosen<'a>(
+    at: u32,
+    yes: Operand<'a>,
+    no: Operand<'a>,
+    out: &mut Vec<Fault>,
+) -> Result<Operand<'a>, AllocError>
+    ensures kind { IfOk result (λ found. kind_of found.kind ≡ kinds.joined (kind_of yes.entry.kind) (kind_of no.entry.kind)) }
+    ensures at { IfOk result (λ found. found.at ≡ at) }
+    ensures faults { OnOk result (out.new.items ≡ out.old.items ++ misfit (kinds.joins (kind_of yes.entry.kind) (kind_of no.entry.kind)) no.entry.at) }
 {
-    Operand {
-        kind: joined(both.left.kind, both.right.kind),
-        at,
-    }
+    let kind = fits(out, yes.kind, no)?;
+    Ok(operand_at(kind, at))
 }
 
-// A comparison of these sides, which are of one kind.
+// A comparison of these sides.
 #[tactic(auto, using(smv_inst::proofs::Notes::noting))]
 fn compared<'a>(
     op: Op,
-    both: Sides<'a>,
+    left: Operand<'a>,
+    right: Operand<'a>,
     out: &mut Vec<Fault>,
 ) -> Result<Operand<'a>, AllocError>
     ensures kind { IfOk result (λ found. kind_of found.kind ≡ kinds.number) }
-    ensures at { IfOk result (λ found. found.at ≡ both.entry.left.at) }
-    ensures faults { OnOk result (out.new.items ≡ out.old.items ++ order_faults op (kind_of both.entry.left.kind) both.entry.left.at (kind_of both.entry.right.kind) both.entry.right.at) }
+    ensures at { IfOk result (λ found. found.at ≡ left.entry.at) }
+    ensures faults { OnOk result (out.new.items ≡ out.old.items ++ misfit (kinds.joins (kind_of left.entry.kind) (kind_of right.entry.kind)) right.entry.at ++ order_faults op (kind_of left.entry.kind) left.entry.at (kind_of right.entry.kind) right.entry.at) }
+{
+    fits(out, left.kind, right)?;
+    ordered(op, left, right, out)?;
+    Ok(number_at(left.at))
+}
+
+// Both sides have an order, where there is one between them.
+#[tactic(auto, using(smv_inst::proofs::Notes::noting))]
+fn ordered<'a>(
+    op: Op,
+    left: Operand<'a>,
+    right: Operand<'a>,
+    out: &mut Vec<Fault>,
+) -> Result<(), AllocError>
+    ensures { OnOk result (out.new.items ≡ out.old.items ++ order_faults op (kind_of left.entry.kind) left.entry.at (kind_of right.entry.kind) right.entry.at) }
 {
     match op {
-        Op::Equal => Ok(number_at(both.left.at)),
-        Op::Differ => Ok(number_at(both.left.at)),
+        Op::Equal => Ok(()),
+        Op::Differ => Ok(()),
         Op::Less | Op::AtMost | Op::Greater | Op::AtLeast => {
-            takes_order(out, both.left)?;
-            takes_order(out, both.right)?;
-            Ok(number_at(both.left.at))
+            takes_order(out, left)?;
+            takes_order(out, right)
         }
     }
 }

@@ -161,13 +161,13 @@ pub fn own_in<'a>(name: &Name, tables: &Tables<'a, '_>, place: usize) -> Option<
 }
 
 // A name of the module of a name.
-fn inside<'a>(module: &Name, part: &Part, tables: &Tables<'a, '_>) -> Option<Inner<'a>>
+fn inside<'a>(named: &Name, part: &Part, tables: &Tables<'a, '_>) -> Option<Inner<'a>>
     requires { AreKindTables tables.now }
-    ensures { (types : Types) (word : Word) (parts : List Part) → word.name ≡ module.now → references.behind (modules_from [] tables.now.names.text.now.tops) types (instance word) (part.now ∷ parts) ≡ option_and_then (λ inner. inner_leads tables.now.names.text.now inner parts) result }
+    ensures { (types : Types) (word : Word) (parts : List Part) → word.name ≡ named.now → references.behind (modules_from [] tables.now.names.text.now.tops) types (instance word) (part.now ∷ parts) ≡ option_and_then (λ inner. inner_leads tables.now.names.text.now inner parts) result }
 {
     match part {
         Part::At { .. } => None,
-        Part::Field { name } => match tables.modules.find(module) {
+        Part::Field { name } => match tables.modules.find(named) {
             None => None,
             Some(place) => match own_in(&name.name, tables, *place) {
                 None => None,
