@@ -7,14 +7,14 @@ use Rattle.smv_inst.specs.FirstFault.{faults_at}
 use Rattle.smv_core.specs.declared.fault.Fault.{Fault}
 use Rattle.smv_core.specs.declared.tree.Part.{Part, Field, At}
 use Rattle.smv_core.specs.Walk.{indexes_of}
-use Rattle.smv_types.specs.Kinds.{Kind, number, enumeration, set_type, no_kind, joins, joined, is_number, accepts, has_order, Operand, unless, takes_number, takes, alike_with, kind_with, first_at, stray_set}
+use Rattle.smv_types.specs.Kinds.{Kind, number, enumeration, set_type, no_kind, joins, joined, is_number, accepts, has_order, Operand, unless, takes_number, takes, alike_with, kind_with, stray_set}
 use Rattle.smv_types.specs.Types.{Whole}
 use Rattle.smv_types.specs.References.{Scope, Vars, reference}
 use Rattle.smv_types.specs.Operands.{operand}
 use Rattle.smv_kinds.specs.declared.kinds.ValueKind.{ValueKind}
 use Rattle.smv_core.specs.declared.tree.Expr.{Expr}
 use Rattle.smv_kinds.specs.Forms.{kind_of, misfit}
-use Rattle.smv_kinds.specs.Found.{vars_of, begin, path_faults, part_faults}
+use Rattle.smv_kinds.specs.Found.{vars_of, begin, begins_at, path_faults, part_faults}
 
 -- an operand that is itself at fault fits everywhere
 joins-none : (kind : Kind) → joins kind no_kind ≡ true
@@ -116,7 +116,7 @@ module _ (scope : Scope) (vars : Vars) where
   path-done (Field word ∷ parts) = path-done parts
   path-done (At index ∷ parts) = path-done parts
 
-  path-some : (over : List Kind) (parts : List Part) → flat_map {A = Kind × Operand} (λ (kind, e). takes kind e) (zip over (map (operand scope vars) (indexes_of parts))) ≡ path_faults scope vars (Some over) parts
+  path-some : (over : List Kind) (parts : List Part) → flat_map (λ (kind, e). takes kind e) (zip over (map (operand scope vars) (indexes_of parts))) ≡ path_faults scope vars (Some over) parts
   path-some [] parts = sym (path-done parts)
   path-some (kind ∷ over) [] = refl
   path-some (kind ∷ over) (Field word ∷ parts) = path-some (kind ∷ over) parts
@@ -162,7 +162,8 @@ begin-at : (at : ℕ) (es : List Operand) → begin (Some at) es ≡ Some at
 begin-at at [] = refl
 begin-at at (e ∷ es) = begin-at at es
 
-pub begin-first : (es : List Operand) → first_at es ≡ unwrap_or (begin None es) 0
+pub begin-first : (es : List Operand) → begins_at es ≡ unwrap_or (begin None es) 0
+unfolding begins_at
 begin-first [] = refl
 begin-first (e ∷ es) = sym (ap (λ o. unwrap_or o 0) (begin-at e.at es))
 

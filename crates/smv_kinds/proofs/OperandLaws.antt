@@ -18,11 +18,11 @@ use Rattle.std.specs.List.{flat_map}
 use Rattle.std.proofs.lemmas.List.{append-nil, append_assoc}
 use Rattle.smv_inst.specs.NameFaults.{place_if}
 use Rattle.smv_inst.specs.FirstFault.{faults_at}
-use Rattle.smv_types.specs.Kinds.{number, no_kind, joined, has_order, Operand, first_at, number_at, of_numbers, of_alike, takes_number, unless, alike_with, ordered, chosen, stray_set}
+use Rattle.smv_types.specs.Kinds.{number, no_kind, joined, has_order, Operand, number_at, of_numbers, of_alike, takes_number, unless, alike_with, ordered, chosen, stray_set}
 use Rattle.smv_types.specs.References.{Scope, Vars, reference_at, reference}
 use Rattle.smv_types.specs.Operands.{operand, operands, indexes, summands, members, looked_through, compared, remainder, reduced, bind}
 use Rattle.smv_kinds.specs.Forms.{misfit}
-use Rattle.smv_kinds.specs.Found.{member, addend, order_faults}
+use Rattle.smv_kinds.specs.Found.{member, addend, begins_at, order_faults}
 use Rattle.smv_kinds.proofs.Computing.{computing}
 
 module _ (scope : Scope) (vars : Vars) where
@@ -258,7 +258,8 @@ module _ (scope : Scope) (vars : Vars) where
   pub kind-And : (parts : List Expr) → (operand scope vars (And parts)).kind ≡ number
   kind-And parts = ap (λ (e : Operand). e.kind) (operand-And parts)
 
-  pub at-And : (parts : List Expr) → (operand scope vars (And parts)).at ≡ first_at (map (operand scope vars) parts)
+  pub at-And : (parts : List Expr) → (operand scope vars (And parts)).at ≡ begins_at (map (operand scope vars) parts)
+  unfolding begins_at
   at-And parts = ap (λ (e : Operand). e.at) (operand-And parts)
 
   pub faults-And : (parts : List Expr) → (operand scope vars (And parts)).faults ≡ flat_map takes_number (map (operand scope vars) parts)
@@ -267,7 +268,8 @@ module _ (scope : Scope) (vars : Vars) where
   pub kind-Or : (parts : List Expr) → (operand scope vars (Or parts)).kind ≡ number
   kind-Or parts = ap (λ (e : Operand). e.kind) (operand-Or parts)
 
-  pub at-Or : (parts : List Expr) → (operand scope vars (Or parts)).at ≡ first_at (map (operand scope vars) parts)
+  pub at-Or : (parts : List Expr) → (operand scope vars (Or parts)).at ≡ begins_at (map (operand scope vars) parts)
+  unfolding begins_at
   at-Or parts = ap (λ (e : Operand). e.at) (operand-Or parts)
 
   pub faults-Or : (parts : List Expr) → (operand scope vars (Or parts)).faults ≡ flat_map takes_number (map (operand scope vars) parts)
@@ -276,7 +278,8 @@ module _ (scope : Scope) (vars : Vars) where
   pub kind-Implies : (parts : List Expr) → (operand scope vars (Implies parts)).kind ≡ number
   kind-Implies parts = ap (λ (e : Operand). e.kind) (operand-Implies parts)
 
-  pub at-Implies : (parts : List Expr) → (operand scope vars (Implies parts)).at ≡ first_at (map (operand scope vars) parts)
+  pub at-Implies : (parts : List Expr) → (operand scope vars (Implies parts)).at ≡ begins_at (map (operand scope vars) parts)
+  unfolding begins_at
   at-Implies parts = ap (λ (e : Operand). e.at) (operand-Implies parts)
 
   pub faults-Implies : (parts : List Expr) → (operand scope vars (Implies parts)).faults ≡ flat_map takes_number (map (operand scope vars) parts)

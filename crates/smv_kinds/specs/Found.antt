@@ -18,7 +18,7 @@ use Rattle.smv_core.specs.declared.tree.Member.{Member, One, Span as SpanOf}
 use Rattle.smv_inst.specs.Scopes.{pieces, constants}
 use Rattle.smv_inst.specs.NameFaults.{place_if}
 use Rattle.smv_inst.specs.FirstFault.{faults_at}
-use Rattle.smv_types.specs.Kinds.{Kind, number, enumeration, set_type, no_kind, Operand, takes, number_at, has_order}
+use Rattle.smv_types.specs.Kinds.{Kind, number, enumeration, set_type, no_kind, Operand, takes, number_at, has_order, first_at}
 use Rattle.smv_types.specs.Types.{Types, Whole, Leads, is_reversed, types_after}
 use Rattle.smv_types.specs.References.{modules_from, Scope, Vars, behind}
 use Rattle.smv_types.specs.Operands.{operand, value}
@@ -118,7 +118,11 @@ next_faults None e = e.faults
 next_faults (Some None) e = []
 next_faults (Some (Some kind)) e = takes (kind_of kind) e
 
--- where some operands begin, behind others that begin there
+-- where some operands begin
+unfoldable pub begins_at : List Operand → ℕ
+begins_at es = first_at es
+
+-- the same, behind others that begin there
 abbrev pub begin : Option ℕ → List Operand → Option ℕ
 begin first [] = first
 begin first (e ∷ es) = begin (Some (unwrap_or first e.at)) es

@@ -8,7 +8,7 @@ ghost use Rattle.smv_core.specs.declared.tree.Part.{At};
 ghost use Rattle.smv_core.specs.declared.tree.Expr.{Expr};
 ghost use Rattle.smv_types.specs.Operands as spec;
 ghost use Rattle.smv_kinds.specs.Forms.{kind_of, misfit, AreKindTables};
-ghost use Rattle.smv_kinds.specs.Found.{vars_of, scope_of, whole_of, order_faults, kinds_left, left_behind, part_faults, next_faults, path_faults, addend, member as member_in};
+ghost use Rattle.smv_kinds.specs.Found.{vars_of, scope_of, whole_of, order_faults, kinds_left, left_behind, part_faults, next_faults, path_faults, addend, begins_at, member as member_in};
 
 use crate::kinds::{Operand, ValueKind, fault_if, fits, number_at, takes, takes_number, takes_order};
 use crate::lookups::{Scope, Var, whole_reference};
@@ -126,7 +126,7 @@ fn numbers<'a>(
 ) -> Result<Operand<'a>, AllocError>
     requires { AreKindTables scope.now.tables.now }
     ensures kind { IfOk result (λ found. kind_of found.kind ≡ (kinds.of_numbers (map (spec.operand (scope_of scope.now) (vars_of vars.now)) parts.now)).kind) }
-    ensures at { IfOk result (λ found. found.at ≡ (kinds.of_numbers (map (spec.operand (scope_of scope.now) (vars_of vars.now)) parts.now)).at) }
+    ensures at { IfOk result (λ found. found.at ≡ begins_at (map (spec.operand (scope_of scope.now) (vars_of vars.now)) parts.now)) }
     ensures faults { OnOk result (out.new.items ≡ out.old.items ++ (kinds.of_numbers (map (spec.operand (scope_of scope.now) (vars_of vars.now)) parts.now)).faults) }
 {
     let mut first = None;
