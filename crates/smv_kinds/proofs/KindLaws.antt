@@ -14,7 +14,7 @@ use Rattle.smv_types.specs.Operands.{operand}
 use Rattle.smv_kinds.specs.declared.kinds.ValueKind.{ValueKind}
 use Rattle.smv_core.specs.declared.tree.Expr.{Expr}
 use Rattle.smv_kinds.specs.Forms.{kind_of, misfit}
-use Rattle.smv_kinds.specs.Found.{vars_of, begin, begins_at, path_faults, part_faults}
+use Rattle.smv_kinds.specs.Found.{vars_of, begin, begins_at, or_zero, path_faults, part_faults}
 
 -- an operand that is itself at fault fits everywhere
 joins-none : (kind : Kind) → joins kind no_kind ≡ true
@@ -162,8 +162,8 @@ begin-at : (at : ℕ) (es : List Operand) → begin (Some at) es ≡ Some at
 begin-at at [] = refl
 begin-at at (e ∷ es) = begin-at at es
 
-pub begin-first : (es : List Operand) → begins_at es ≡ unwrap_or (begin None es) 0
-unfolding begins_at
+pub begin-first : (es : List Operand) → begins_at es ≡ or_zero (begin None es)
+unfolding begins_at or_zero
 begin-first [] = refl
 begin-first (e ∷ es) = sym (ap (λ o. unwrap_or o 0) (begin-at e.at es))
 

@@ -122,6 +122,10 @@ next_faults (Some (Some kind)) e = takes (kind_of kind) e
 unfoldable pub begins_at : List Operand → ℕ
 begins_at es = first_at es
 
+-- a place, or 0 where there is none
+unfoldable pub or_zero : Option ℕ → ℕ
+or_zero place = unwrap_or place 0
+
 -- the same, behind others that begin there
 abbrev pub begin : Option ℕ → List Operand → Option ℕ
 begin first [] = first

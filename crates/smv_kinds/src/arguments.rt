@@ -60,9 +60,15 @@ fn are_constant_summands(more: &[Signed]) -> bool
 }
 
 // All indexes of a path can be worked out from the text alone.
-#[tactic(auto, using(crate::proofs::ConstantLaws::constant_parts))]
 fn are_constant(parts: &[Part]) -> bool
     ensures { result ≡ spec.are_constant parts.now }
+{
+    parts_are_constant(parts)
+}
+
+// The same, part by part.
+fn parts_are_constant(parts: &[Part]) -> bool
+    ensures { result ≡ list_all part_constant parts.now }
 {
     for part in parts {
         if !is_constant_part(part) {
@@ -83,7 +89,7 @@ fn is_constant_part(part: &Part) -> bool
 }
 
 // An output's argument is a path with constant indexes, which takes a value of this kind.
-#[tactic(auto, using(smv_inst::proofs::Notes::noting, crate::proofs::ArgumentLaws::equations, crate::proofs::ConstantLaws::constant_parts, crate::proofs::KindLaws::value_fits, crate::proofs::KindLaws::no_vars))]
+#[tactic(auto, using(smv_inst::proofs::Notes::noting, crate::proofs::ArgumentLaws::equations, crate::proofs::KindLaws::value_fits, crate::proofs::KindLaws::no_vars))]
 fn given<'a>(
     path: &'a Path,
     scope: &Scope<'a, '_>,

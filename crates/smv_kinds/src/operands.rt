@@ -8,7 +8,7 @@ ghost use Rattle.smv_core.specs.declared.tree.Part.{At};
 ghost use Rattle.smv_core.specs.declared.tree.Expr.{Expr};
 ghost use Rattle.smv_types.specs.Operands as spec;
 ghost use Rattle.smv_kinds.specs.Forms.{kind_of, misfit, AreKindTables};
-ghost use Rattle.smv_kinds.specs.Found.{vars_of, scope_of, whole_of, order_faults, kinds_left, left_behind, part_faults, next_faults, path_faults, addend, begins_at, member as member_in};
+ghost use Rattle.smv_kinds.specs.Found.{vars_of, scope_of, whole_of, order_faults, kinds_left, left_behind, part_faults, next_faults, path_faults, addend, begins_at, or_zero, member as member_in};
 
 use crate::kinds::{Operand, ValueKind, fault_if, fits, number_at, takes, takes_number, takes_order};
 use crate::lookups::{Scope, Var, whole_reference};
@@ -134,7 +134,7 @@ fn numbers<'a>(
         let at = number(x, scope, vars, alloc, out)?;
         first = Some(first.unwrap_or(at));
     }
-    Ok(number_at(first.unwrap_or(0)))
+    Ok(number_at(begin_of(first)))
 }
 
 // What a sum adds.
@@ -364,6 +364,17 @@ fn index<'a>(
                 takes(out, kind, e)
             }
         },
+    }
+}
+
+// A place, or 0 where there is none.
+#[tactic(auto, unfolding(crate::specs::Found::or_zero))]
+fn begin_of(place: Option<u32>) -> u32
+    ensures { result ≡ or_zero place }
+{
+    match place {
+        None => 0,
+        Some(at) => at,
     }
 }
 
