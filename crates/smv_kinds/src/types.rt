@@ -84,6 +84,7 @@ pub fn size_faults(
 }
 
 /// The faults in an index type.
+#[tactic(auto, unfolding(smv_types::specs::Types::index_faults))]
 pub fn index_faults<'a>(
     over: &'a TypeExpr,
     scope: &Scope<'a, '_>,

@@ -95,7 +95,7 @@ is_index _ = false
 
 module _ (types : Types) where
   -- fault 12 at the name of a type that is no index type, and fault 13 in a range
-  abbrev pub index_faults : TypeExpr → List Fault
+  unfoldable pub index_faults : TypeExpr → List Fault
   index_faults (Range span at) = range_faults span at
   index_faults (Named word at) = faults_at (12, place_if (not (is_index (index_kind types (Named word at)))) at)
   index_faults _ = []
