@@ -8,7 +8,7 @@ use Rattle.smv_core.specs.declared.tree.TypeExpr.{TypeExpr}
 use Rattle.smv_core.specs.declared.tree.Kind.{Kind}
 use Rattle.smv_core.specs.declared.tree.Path.{Path}
 use Rattle.smv_core.specs.declared.tree.Expr.{Expr}
-use Rattle.smv_core.specs.declared.tree.Arm.{Arm, out-Arm}
+use Rattle.smv_core.specs.declared.tree.Arm.{Arm}
 use Rattle.smv_core.specs.declared.tree.Stmt.{Stmt, Assign, Block, Block', If, Switch, Switch', Default, For, Forall, Held-Stmt-If-2, None', Row_of-Stmt, end_of-Stmt, more_of-Stmt, Row_of-Arm, end_of-Arm, more_of-Arm}
 use Rattle.smv_core.specs.declared.tree.Stmt.{items-the_row-Stmt, items-the_row-Arm, items_hidden-the_row-Stmt-0, items_hidden-the_row-Arm-2}
 use mathlib.Core.Former.{Count}
@@ -17,6 +17,7 @@ use Rattle.smv_types.specs.Types.{index_faults}
 use Rattle.smv_types.specs.References.{Scope, Vars}
 use Rattle.smv_types.specs.Operands.{operand, value, target, bind}
 use Rattle.smv_types.specs.KindFaults.{assigned, in_stmt, in_block, in_branch, in_arms, labels}
+use Rattle.smv_kinds.specs.Found.{labels_of, arm_faults}
 use Rattle.smv_kinds.proofs.Computing.{computing}
 
 module _ (scope : Scope) (vars : Vars) where
@@ -25,22 +26,18 @@ module _ (scope : Scope) (vars : Vars) where
   in_other None = []
   in_other (Some x) = in_stmt scope vars x
 
-  -- the labels of an arm
-  abbrev pub labels_of : Arm → List Operand
-  labels_of arm = map (operand scope vars) (out-Arm arm).labels
-
   block-row : (n : _) (row : Row_of-Stmt n) → in_block scope vars row ≡ flat_map (in_stmt scope vars) (items-the_row-Stmt n row)
   unfolding in_stmt
   block-row n end_of-Stmt = refl
   block-row n (more_of-Stmt part rest) = ap (λ l. in_stmt scope vars part ++ l) (block-row _ rest)
 
-  arms-row : (n : _) (row : Row_of-Arm n) → in_arms scope vars row ≡ flat_map (λ arm. in_stmt scope vars (out-Arm arm).body) (items-the_row-Arm n row)
-  unfolding in_stmt computing
+  arms-row : (n : _) (row : Row_of-Arm n) → in_arms scope vars row ≡ flat_map (arm_faults scope vars) (items-the_row-Arm n row)
+  unfolding in_stmt arm_faults computing
   arms-row n end_of-Arm = refl
   arms-row n (more_of-Arm words body rest) = ap (λ l. in_stmt scope vars body ++ l) (arms-row _ rest)
 
-  labels-row : (n : _) (row : Row_of-Arm n) → labels scope vars row ≡ flat_map labels_of (items-the_row-Arm n row)
-  unfolding in_stmt computing
+  labels-row : (n : _) (row : Row_of-Arm n) → labels scope vars row ≡ flat_map (labels_of scope vars) (items-the_row-Arm n row)
+  unfolding in_stmt labels_of computing
   labels-row n end_of-Arm = refl
   labels-row n (more_of-Arm words body rest) = ap (λ l. map (operand scope vars) words ++ l) (labels-row _ rest)
 
@@ -78,23 +75,23 @@ module _ (scope : Scope) (vars : Vars) where
   stmt-If_else cond x y at = refl
 
   switch : (on : Expr) (arms : List Arm) (y : Option Stmt) (at : ℕ)
-      → in_stmt scope vars (Switch on arms y at) ≡ alike (operand scope vars on ∷ flat_map labels_of arms) ++ flat_map (λ arm. in_stmt scope vars (out-Arm arm).body) arms ++ in_other y
+      → in_stmt scope vars (Switch on arms y at) ≡ alike (operand scope vars on ∷ flat_map (labels_of scope vars) arms) ++ flat_map (arm_faults scope vars) arms ++ in_other y
   unfolding in_stmt
   switch on arms y at =
       let row : (n : Count) × Row_of-Arm n = arms_of (Switch on arms y at) in
-      let e : in_arms scope vars row.1 ≡ flat_map (λ arm. in_stmt scope vars (out-Arm arm).body) arms =
-          arms-row row.0 row.1 ∙ ap (λ l. flat_map (λ arm. in_stmt scope vars (out-Arm arm).body) l) (items_hidden-the_row-Arm-2 arms) in
-      let f : labels scope vars row.1 ≡ flat_map labels_of arms = labels-row row.0 row.1 ∙ ap (λ l. flat_map labels_of l) (items_hidden-the_row-Arm-2 arms) in
+      let e : in_arms scope vars row.1 ≡ flat_map (arm_faults scope vars) arms =
+          arms-row row.0 row.1 ∙ ap (λ l. flat_map (arm_faults scope vars) l) (items_hidden-the_row-Arm-2 arms) in
+      let f : labels scope vars row.1 ≡ flat_map (labels_of scope vars) arms = labels-row row.0 row.1 ∙ ap (λ l. flat_map (labels_of scope vars) l) (items_hidden-the_row-Arm-2 arms) in
       ap (λ l. alike (operand scope vars on ∷ l) ++ in_arms scope vars row.1 ++ in_branch scope vars (other_of (Switch on arms y at))) f
-      ∙ ap (λ l. alike (operand scope vars on ∷ flat_map labels_of arms) ++ l ++ in_branch scope vars (other_of (Switch on arms y at))) e
-      ∙ ap (λ l. alike (operand scope vars on ∷ flat_map labels_of arms) ++ flat_map (λ arm. in_stmt scope vars (out-Arm arm).body) arms ++ l) (other-held on arms y at)
+      ∙ ap (λ l. alike (operand scope vars on ∷ flat_map (labels_of scope vars) arms) ++ l ++ in_branch scope vars (other_of (Switch on arms y at))) e
+      ∙ ap (λ l. alike (operand scope vars on ∷ flat_map (labels_of scope vars) arms) ++ flat_map (arm_faults scope vars) arms ++ l) (other-held on arms y at)
 
   pub stmt-Switch : (on : Expr) (arms : List Arm) (at : ℕ)
-      → in_stmt scope vars (Switch on arms None at) ≡ alike (operand scope vars on ∷ flat_map labels_of arms) ++ flat_map (λ arm. in_stmt scope vars (out-Arm arm).body) arms ++ []
+      → in_stmt scope vars (Switch on arms None at) ≡ alike (operand scope vars on ∷ flat_map (labels_of scope vars) arms) ++ flat_map (arm_faults scope vars) arms ++ []
   stmt-Switch on arms at = switch on arms None at
 
   pub stmt-Switch_default : (on : Expr) (arms : List Arm) (y : Stmt) (at : ℕ)
-      → in_stmt scope vars (Switch on arms (Some y) at) ≡ alike (operand scope vars on ∷ flat_map labels_of arms) ++ flat_map (λ arm. in_stmt scope vars (out-Arm arm).body) arms ++ in_stmt scope vars y
+      → in_stmt scope vars (Switch on arms (Some y) at) ≡ alike (operand scope vars on ∷ flat_map (labels_of scope vars) arms) ++ flat_map (arm_faults scope vars) arms ++ in_stmt scope vars y
   stmt-Switch_default on arms y at = switch on arms (Some y) at
 
   pub stmt-Default : (x y : Stmt) (at : ℕ) → in_stmt scope vars (Default x y at) ≡ in_stmt scope vars x ++ in_stmt scope vars y

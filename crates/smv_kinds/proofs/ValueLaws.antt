@@ -1,6 +1,7 @@
 -- The values of assignments, on expressions that are made of lists and values.
 use Rattle.std.proofs.Common.{◌≡◌, ℕ, List, [], ◌∷◌, ◌++◌, map, refl, ap, ◌∙◌}
 use Rattle.std.specs.Prelude.{Option, Some, None}
+use Rattle.std.proofs.lemmas.List.{append-nil}
 use Rattle.smv_core.specs.declared.tree.Word.{Word}
 use Rattle.smv_core.specs.declared.tree.TypeExpr.{TypeExpr}
 use Rattle.smv_core.specs.declared.tree.Op.{Op}
@@ -105,8 +106,8 @@ module _ (scope : Scope) (vars : Vars) where
   pub at-Each : (var : Word) (over : TypeExpr) (at : ℕ) → (value scope vars (Each var over None at)).at ≡ at
   at-Each var over at = ap (λ (e : Operand). e.at) (value-Each var over at)
 
-  pub faults-Each : (var : Word) (over : TypeExpr) (at : ℕ) → (value scope vars (Each var over None at)).faults ≡ index_faults scope.here.types over ++ []
-  faults-Each var over at = ap (λ (e : Operand). e.faults) (value-Each var over at)
+  pub faults-Each : (var : Word) (over : TypeExpr) (at : ℕ) → (value scope vars (Each var over None at)).faults ≡ index_faults scope.here.types over
+  faults-Each var over at = ap (λ (e : Operand). e.faults) (value-Each var over at) ∙ append-nil (index_faults scope.here.types over)
 
   pub kind-Each_if : (var : Word) (over : TypeExpr) (cond : Expr) (at : ℕ) → (value scope vars (Each var over (Some cond) at)).kind ≡ index_kind scope.here.types over
   kind-Each_if var over cond at = ap (λ (e : Operand). e.kind) (value-Each_if var over cond at)

@@ -22,7 +22,8 @@ use Rattle.smv_types.specs.Kinds.{Kind, number, enumeration, set_type, no_kind, 
 use Rattle.smv_types.specs.Types.{Types, Whole, Leads, is_reversed, types_after}
 use Rattle.smv_types.specs.References.{modules_from, Scope, Vars, behind}
 use Rattle.smv_types.specs.Operands.{operand, value}
-use Rattle.smv_types.specs.KindFaults.{gives, is_fixed}
+use Rattle.smv_core.specs.declared.tree.Arm.{Arm, out-Arm}
+use Rattle.smv_types.specs.KindFaults.{gives, is_fixed, in_stmt}
 use Rattle.smv_kinds.specs.declared.kinds.ValueKind.{ValueKind}
 use Rattle.smv_kinds.specs.Forms.{kind_of, misfit, types_before, module_in, form_leads}
 use Rattle.smv_kinds.specs.declared.paths.Whole.{Whole as HeldWhole}
@@ -111,6 +112,14 @@ module _ (scope : Scope) (vars : Vars) where
   abbrev pub member : Member → Operand
   member (One e) = operand scope vars e
   member (SpanOf span at) = number_at at (faults_at (13, place_if (is_reversed span) at))
+
+  -- the labels of an arm
+  unfoldable pub labels_of : Arm → List Operand
+  labels_of arm = map (operand scope vars) (out-Arm arm).labels
+
+  -- the faults in the body of an arm
+  unfoldable pub arm_faults : Arm → List Fault
+  arm_faults arm = in_stmt scope vars (out-Arm arm).body
 
 -- the faults at an index: it has no type, it is one too many, or it fits a kind
 abbrev pub next_faults : Option (Option ValueKind) → Operand → List Fault

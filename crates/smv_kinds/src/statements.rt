@@ -1,12 +1,11 @@
 // The faults in statements.
 ghost use Rattle.std.specs.Prelude.{◌≡◌, ◌++◌, ◌∷◌, [], map, flat_map, IfOk, OnOk};
-ghost use Rattle.smv_core.specs.declared.tree.Arm.{out-Arm};
 ghost use Rattle.smv_types.specs.Kinds as kinds;
 ghost use Rattle.smv_types.specs.Types as types;
 ghost use Rattle.smv_types.specs.Operands as operands;
 ghost use Rattle.smv_types.specs.KindFaults.{in_stmt};
 ghost use Rattle.smv_kinds.specs.Forms.{kind_of, AreKindTables};
-ghost use Rattle.smv_kinds.specs.Found.{vars_of, scope_of};
+ghost use Rattle.smv_kinds.specs.Found.{vars_of, scope_of, labels_of, arm_faults};
 
 use crate::kinds::ValueKind;
 use crate::lookups::{Scope, Var};
@@ -127,7 +126,7 @@ pub fn block<'a>(
 
 // The statements of all of these arms.
 #[cycle(statements)]
-#[tactic(auto, using(smv_inst::proofs::Notes::noting))]
+#[tactic(auto, using(smv_inst::proofs::Notes::noting), unfolding(crate::specs::Found::arm_faults))]
 fn all_arms<'a>(
     arms: &'a [Arm],
     scope: &Scope<'a, '_>,
@@ -136,7 +135,7 @@ fn all_arms<'a>(
     out: &mut Vec<Fault>,
 ) -> Result<(), AllocError>
     requires { AreKindTables scope.now.tables.now }
-    ensures { OnOk result (out.new.items ≡ out.old.items ++ flat_map (λ arm. in_stmt (scope_of scope.now) (vars_of vars.now) (out-Arm arm).body) arms.now) }
+    ensures { OnOk result (out.new.items ≡ out.old.items ++ flat_map (arm_faults (scope_of scope.now) (vars_of vars.now)) arms.now) }
 {
     for x in arms {
         statement(&x.body, scope, vars, alloc, out)?;
@@ -155,14 +154,14 @@ fn labels<'a>(
     out: &mut Vec<Fault>,
 ) -> Result<(), AllocError>
     requires { AreKindTables scope.now.tables.now }
-    ensures { OnOk result (out.new.items ≡ out.old.items ++ kinds.alike (operands.operand (scope_of scope.now) (vars_of vars.now) on.now ∷ flat_map (λ arm. map (operands.operand (scope_of scope.now) (vars_of vars.now)) (out-Arm arm).labels) arms.now)) }
+    ensures { OnOk result (out.new.items ≡ out.old.items ++ kinds.alike (operands.operand (scope_of scope.now) (vars_of vars.now) on.now ∷ flat_map (labels_of (scope_of scope.now) (vars_of vars.now)) arms.now)) }
 {
     let on = operand(on, scope, vars, alloc, out)?;
     labels_beside(arms, scope, vars, alloc, out, on.kind)
 }
 
 // The labels of these arms, beside this kind.
-#[tactic(auto, using(smv_inst::proofs::Notes::noting, crate::proofs::KindLaws::all_in_turn))]
+#[tactic(auto, using(smv_inst::proofs::Notes::noting, crate::proofs::KindLaws::all_in_turn), unfolding(crate::specs::Found::labels_of))]
 fn labels_beside<'a>(
     arms: &'a [Arm],
     scope: &Scope<'a, '_>,
@@ -172,7 +171,7 @@ fn labels_beside<'a>(
     kind: ValueKind<'a>,
 ) -> Result<(), AllocError>
     requires { AreKindTables scope.now.tables.now }
-    ensures { OnOk result (out.new.items ≡ out.old.items ++ kinds.alike_with (kind_of kind.entry) (flat_map (λ arm. map (operands.operand (scope_of scope.now) (vars_of vars.now)) (out-Arm arm).labels) arms.now)) }
+    ensures { OnOk result (out.new.items ≡ out.old.items ++ kinds.alike_with (kind_of kind.entry) (flat_map (labels_of (scope_of scope.now) (vars_of vars.now)) arms.now)) }
 {
     let mut all = kind;
     for x in arms {

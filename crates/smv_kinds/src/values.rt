@@ -32,17 +32,14 @@ pub fn value<'a>(
     match x {
         Expr::List { members, at } => listed(members.as_slice(), scope, vars, alloc, out, *at),
         Expr::Each {
-            cond: None,
-            over,
-            at,
-            ..
-        } => every_value(over, scope, out, *at),
-        Expr::Each {
-            cond: Some(cond),
             var,
             over,
+            cond,
             at,
-        } => chosen_values(cond.get(), var, over, scope, vars, alloc, out, *at),
+        } => match cond {
+            None => every_value(over, scope, out, *at),
+            Some(cond) => chosen_values(cond.get(), var, over, scope, vars, alloc, out, *at),
+        },
         Expr::Choose { cond, yes, no } => {
             let at = number(cond.get(), scope, vars, alloc, out)?;
             let yes = value(yes.get(), scope, vars, alloc, out)?;

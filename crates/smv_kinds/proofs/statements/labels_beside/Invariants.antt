@@ -1,13 +1,11 @@
-use Rattle.std.proofs.Common.{◌≡◌, ◌++◌, map, drop}
+use Rattle.std.proofs.Common.{◌≡◌, ◌++◌, drop}
 use Rattle.std.specs.List.{flat_map}
-use Rattle.smv_core.specs.declared.tree.Arm.{out-Arm}
 use Rattle.smv_types.specs.Kinds.{alike_with}
-use Rattle.smv_types.specs.Operands.{operand}
 use Rattle.smv_kinds.specs.Forms.{kind_of}
-use Rattle.smv_kinds.specs.Found.{vars_of, scope_of}
+use Rattle.smv_kinds.specs.Found.{vars_of, scope_of, labels_of}
 use Rattle.smv_kinds.proofs.statements.labels_beside.Given as goal
 
 abbrev pub invariant-loop-x : goal.invariant-loop-x
 invariant-loop-x l =
-    l.out.items ++ alike_with (kind_of l.all) (flat_map (λ arm. map (operand (scope_of l.scope) (vars_of l.vars)) (out-Arm arm).labels) (drop l.x-index l.arms))
-    ≡ l.initial.out.items ++ alike_with (kind_of l.initial.all) (flat_map (λ arm. map (operand (scope_of l.scope) (vars_of l.vars)) (out-Arm arm).labels) l.arms)
+    l.out.items ++ alike_with (kind_of l.all) (flat_map (labels_of (scope_of l.scope) (vars_of l.vars)) (drop l.x-index l.arms))
+    ≡ l.initial.out.items ++ alike_with (kind_of l.initial.all) (flat_map (labels_of (scope_of l.scope) (vars_of l.vars)) l.arms)
