@@ -1,5 +1,5 @@
 -- Operands of one kind, from left to right.
-use Rattle.std.proofs.Common.{◌≡◌, ℕ, zero, suc, ◌<◌, ◌≤◌, Bool, true, List, [], ◌∷◌, ◌++◌, map, zip, length, get_or, drop, drop-cons, refl, ap, ◌∙◌, sym, arith}
+use Rattle.std.proofs.Common.{◌≡◌, ℕ, zero, suc, ◌+◌, ◌<◌, ◌≤◌, Bool, true, List, [], ◌∷◌, ◌++◌, map, zip, length, get_or, drop, drop-cons, refl, ap, ◌∙◌, sym, arith}
 use Rattle.std.specs.Prelude.{Option, Some, None, slice_get, unwrap_or}
 use Rattle.std.proofs.lemmas.List.{append_assoc, append-nil}
 use Rattle.std.specs.List.{flat_map}
@@ -178,14 +178,16 @@ pub ruleset no_vars = (vars-none)
 -- ---- operands that come in lists
 
 module _ {A : Type 0} (f : A → List Operand) where
-  next-of : (xs : List A) (i : ℕ) (x : A) → i < length xs → x ≡ get_or xs i x → flat_map f (drop i xs) ≡ f x ++ flat_map f (drop (suc i) xs)
-  next-of xs i x lt is = ap (flat_map f) (drop-cons xs i x lt) ∙ ap (λ y. f y ++ flat_map f (drop (suc i) xs)) (sym is)
+  next-of : (xs : List A) (i : ℕ) (x : A) → i < length xs → x ≡ get_or xs i x → flat_map f (drop i xs) ≡ f x ++ flat_map f (drop (i + 1) xs)
+  next-of xs i x lt is =
+      let next : suc i ≡ i + 1 = omega arith in
+      ap (flat_map f) (drop-cons xs i x lt) ∙ ap (λ y. f y ++ flat_map f (drop (suc i) xs)) (sym is) ∙ ap (λ j. f x ++ flat_map f (drop j xs)) next
 
   pub lists-step : (xs : List A) (i : ℕ) (x : A) (all all' : Kind) (old new first : List Fault) → i < length xs → x ≡ get_or xs i x
       → old ++ alike_with all (flat_map f (drop i xs)) ≡ first → new ≡ old ++ alike_with all (f x) → all' ≡ kind_with all (f x)
-      → new ++ alike_with all' (flat_map f (drop (suc i) xs)) ≡ first
+      → new ++ alike_with all' (flat_map f (drop (i + 1) xs)) ≡ first
   lists-step xs i x all all' old new first lt is so_far faults kind =
-      let more : List Operand = flat_map f (drop (suc i) xs) in
+      let more : List Operand = flat_map f (drop (i + 1) xs) in
       ap (λ l. l ++ alike_with all' more) faults
       ∙ append_assoc old (alike_with all (f x)) (alike_with all' more)
       ∙ ap (λ k. old ++ (alike_with all (f x) ++ alike_with k more)) kind
