@@ -177,6 +177,12 @@ pub ruleset no_vars = (vars-none)
 
 -- ---- operands that come in lists
 
+pub drop-none : {A : Type 0} (xs : List A) (n : ℕ) → length xs ≤ n → drop n xs ≡ []
+drop-none [] zero h = refl
+drop-none [] (suc n) h = refl
+drop-none (x ∷ xs) zero h = absurd (omega arith)
+drop-none (x ∷ xs) (suc n) h = drop-none xs n (omega arith)
+
 module _ {A : Type 0} (f : A → List Operand) where
   next-of : (xs : List A) (i : ℕ) (x : A) → i < length xs → x ≡ get_or xs i x → flat_map f (drop i xs) ≡ f x ++ flat_map f (drop (i + 1) xs)
   next-of xs i x lt is =
@@ -194,12 +200,6 @@ module _ {A : Type 0} (f : A → List Operand) where
       ∙ ap (λ l. old ++ l) (sym (alike-append all (f x) more))
       ∙ sym (ap (λ l. old ++ alike_with all l) (next-of xs i x lt is))
       ∙ so_far
-
-  drop-none : (xs : List A) (n : ℕ) → length xs ≤ n → drop n xs ≡ []
-  drop-none [] zero h = refl
-  drop-none [] (suc n) h = refl
-  drop-none (x ∷ xs) zero h = absurd (omega arith)
-  drop-none (x ∷ xs) (suc n) h = drop-none xs n (omega arith)
 
   pub lists-done : (xs : List A) (i : ℕ) (all : Kind) (old first : List Fault) → length xs ≤ i → old ++ alike_with all (flat_map f (drop i xs)) ≡ first → old ≡ first
   lists-done xs i all old first past so_far =

@@ -1,17 +1,11 @@
-use Rattle.std.proofs.Common.{◌≡◌, ℕ, zero, suc, ◌≤◌, List, [], ◌∷◌, length, map, drop, refl, ap, sym, ◌∙◌, arith}
+use Rattle.std.proofs.Common.{map, ap, sym, ◌∙◌}
 use Rattle.std.specs.Prelude.{None}
 use Rattle.smv_types.specs.Kinds.{Operand}
 use Rattle.smv_core.specs.declared.tree.Expr.{Expr}
 use Rattle.smv_types.specs.Operands.{operand}
 use Rattle.smv_kinds.specs.Found.{begin, or_zero, vars_of, scope_of}
-use Rattle.smv_kinds.proofs.KindLaws.{begin-first}
+use Rattle.smv_kinds.proofs.KindLaws.{begin-first, drop-none}
 use Rattle.smv_kinds.proofs.operands.+operands.Goals as goal
-
-drop-none : {A : Type 0} (xs : List A) (n : ℕ) → length xs ≤ n → drop n xs ≡ []
-drop-none [] zero h = refl
-drop-none [] (suc n) h = refl
-drop-none (x ∷ xs) zero h = absurd (omega arith)
-drop-none (x ∷ xs) (suc n) h = drop-none xs n (omega arith)
 
 pub numbers-returns-clause-at : goal.numbers-returns-clause-at
 numbers-returns-clause-at t c =
