@@ -109,14 +109,14 @@ module _ (text : Text) (k : ℕ) where
   pub form-Enum : (of : TypeExpr) (names : List Word) (at : ℕ) (held : Bor (List Word)) → of ≡ Enum names at → held.now ≡ names → LeadsTo of (form.Single (kind.Enumeration held))
   form-Enum of names at held is same parts = ap (λ t. leads types t parts) is ∙ leads-Enum types names at parts ∙ ap (λ l. single (enumeration (names_of l)) parts) (sym same)
 
-  pub form-Named : (forms : List Form) (of : TypeExpr) (word : Word) (at found : ℕ) (number : Option ℕ) (f : Form) → AreForms text forms → of ≡ Named word at
-      → number ≡ type_before (types_in 0 text.tops) k word.name → number ≡ Some found → slice_get forms found ≡ Some f → LeadsTo of f
-  form-Named forms of word at found number f known is same some got parts =
+  pub form-Named : (forms : List Form) (of : TypeExpr) (word : Word) (at found : ℕ) (numbered : Option ℕ) (f : Form) → AreForms text forms → of ≡ Named word at
+      → numbered ≡ type_before (types_in 0 text.tops) k word.name → numbered ≡ Some found → slice_get forms found ≡ Some f → LeadsTo of f
+  form-Named forms of word at found numbered f known is same some got parts =
       ap (λ t. leads types t parts) is ∙ leads-Named types word at parts ∙ named-leads text k word.name parts
       ∙ ap (λ o. option_and_then (λ i. leads_at text i parts) o) (sym same ∙ some) ∙ known found f got parts
 
-  pub form-none : (of : TypeExpr) (word : Word) (at : ℕ) (number : Option ℕ) → of ≡ Named word at → number ≡ type_before (types_in 0 text.tops) k word.name → number ≡ None → LeadsTo of form.Nothing
-  form-none of word at number is same none parts =
+  pub form-none : (of : TypeExpr) (word : Word) (at : ℕ) (numbered : Option ℕ) → of ≡ Named word at → numbered ≡ type_before (types_in 0 text.tops) k word.name → numbered ≡ None → LeadsTo of form.Nothing
+  form-none of word at numbered is same none parts =
       ap (λ t. leads types t parts) is ∙ leads-Named types word at parts ∙ named-leads text k word.name parts ∙ ap (λ o. option_and_then (λ i. leads_at text i parts) o) (sym same ∙ none)
 
   pub form-Array : (of index inner : TypeExpr) (held : Bor TypeExpr) (index_held : TypeExpr) (f : Form) (found : ValueKind) → of ≡ Array index inner → index_held ≡ index → held.now ≡ inner

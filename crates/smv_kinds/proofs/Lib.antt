@@ -11,3 +11,4 @@ pub mod PlaceLaws
 pub mod FormLaws
 pub mod PathLaws
 pub mod TopLaws
+pub mod OwnLaws

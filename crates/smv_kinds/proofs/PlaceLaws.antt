@@ -29,19 +29,19 @@ pub ruleset steps = (types-step, modules-step)
 
 find-front : {X : Type 0} (l m : List (Name × X)) (name : Name) (x : X) → find_name l name ≡ Some x → find_name (l ++ m) name ≡ Some x
 find-front [] m name x h = cc
-find-front (pair ∷ l) m name x h = by (bytes_eq pair.0 name) h
+find-front (pair ∷ l) m name x h = by (bytes_eq pair.0 name) (find-front l m name x) h
   where
-    by : (b : Bool) → cond b (Some pair.1) (find_name l name) ≡ Some x → cond b (Some pair.1) (find_name (l ++ m) name) ≡ Some x
-    by true e = e
-    by false e = find-front l m name x e
+    by : (b : Bool) → (find_name l name ≡ Some x → find_name (l ++ m) name ≡ Some x) → cond b (Some pair.1) (find_name l name) ≡ Some x → cond b (Some pair.1) (find_name (l ++ m) name) ≡ Some x
+    by true ih e = e
+    by false ih e = ih e
 
 find-behind : {X : Type 0} (l m : List (Name × X)) (name : Name) → find_name l name ≡ None → find_name (l ++ m) name ≡ find_name m name
 find-behind [] m name h = refl
-find-behind (pair ∷ l) m name h = by (bytes_eq pair.0 name) h
+find-behind (pair ∷ l) m name h = by (bytes_eq pair.0 name) (find-behind l m name) h
   where
-    by : (b : Bool) → cond b (Some pair.1) (find_name l name) ≡ None → cond b (Some pair.1) (find_name (l ++ m) name) ≡ find_name m name
-    by true e = cc
-    by false e = find-behind l m name e
+    by : (b : Bool) → (find_name l name ≡ None → find_name (l ++ m) name ≡ find_name m name) → cond b (Some pair.1) (find_name l name) ≡ None → cond b (Some pair.1) (find_name (l ++ m) name) ≡ find_name m name
+    by true ih e = cc
+    by false ih e = ih e
 
 types-front : (types : Types) (tops : List Top) (name : Name) (x : Leads) → find_name types name ≡ Some x → find_name (types_from types tops) name ≡ Some x
 types-front types [] name x h = h
@@ -97,8 +97,16 @@ none-below types tops parts (Some i) = by (nat_lt i 0) (λ e. grind (arith, nat_
     by true h = absurd (let e : i < 0 = h refl in omega arith)
     by false h = refl
 
+same-test : (a b : Bool) → (a ≡ true → b ≡ true) → (b ≡ true → a ≡ true) → a ≡ b
+same-test true b h g = sym (h refl)
+same-test false true h g = g refl
+same-test false false h g = refl
+
 lt-suc : (i k : ℕ) → nat_lt (suc i) (suc k) ≡ nat_lt i k
-lt-suc i k = refl
+lt-suc i k = same-test (nat_lt (suc i) (suc k)) (nat_lt i k) (λ h. grind (arith, nat_tests)) (λ h. grind (arith, nat_tests))
+
+lt-zero : (k : ℕ) → nat_lt 0 (suc k) ≡ true
+lt-zero k = grind (arith, nat_tests)
 
 -- under one more top
 deeper : (types : Types) (top : Top) (tops : List Top) (k : ℕ) (parts : List Part) (o : Option ℕ)
@@ -114,7 +122,7 @@ type-here : (types : Types) (top : Top) (x : Leads) (word_name : Name) (tops : L
 type-here types top x word_name tops k name parts true is after leads_to none ih =
     let last : find_name ((word_name, x) ∷ []) name ≡ Some x = ap (λ b. cond b (Some x) None) (sym is) in
     let found : find_name (types_after types top) name ≡ Some x = ap (λ l. find_name l name) after ∙ find-behind types ((word_name, x) ∷ []) name none ∙ last in
-    ap (λ o. then o parts) (types-front (types_after types top) (take k tops) name x found) ∙ sym (leads_to parts)
+    ap (λ o. then o parts) (types-front (types_after types top) (take k tops) name x found) ∙ sym (leads_to parts) ∙ sym (ap (λ b. cond b (top_leads types (Some top) parts) None) (lt-zero k))
 type-here types top x word_name tops k name parts false is after leads_to none ih =
     let last : find_name ((word_name, x) ∷ []) name ≡ None = ap (λ b. cond b (Some x) None) (sym is) in
     let found : find_name (types_after types top) name ≡ None = ap (λ l. find_name l name) after ∙ find-behind types ((word_name, x) ∷ []) name none ∙ last in

@@ -45,7 +45,10 @@ fn all_faults(tables: &Tables, alloc: Global) -> Result<Vec<Fault>, AllocError>
     let tops = tables.names.text.tops.as_slice();
     let mut out = Vec::new(alloc);
     for place in 0..tops.len() {
-        let scope = Scope { tables, place };
+        let scope = Scope {
+            tables: &*tables,
+            place,
+        };
         top_faults(&tops[place], &scope, alloc, &mut out)?;
     }
     Ok(out)
