@@ -12,3 +12,4 @@ pub mod FormLaws
 pub mod PathLaws
 pub mod TopLaws
 pub mod OwnLaws
+pub mod ScopeLaws

@@ -21,7 +21,7 @@ use Rattle.smv_kinds.specs.declared.lookups.Scope.{Scope as HeldScope}
 use Rattle.smv_kinds.specs.Forms.{types_from, types_before, module_in}
 use Rattle.smv_kinds.specs.Found.{scope_of}
 
-module-types : (types : Types) (top : Option Top) → (module_in types top).types ≡ types
+pub module-types : (types : Types) (top : Option Top) → (module_in types top).types ≡ types
 module-types types None = refl
 module-types types (Some (SetType word ordered span at)) = refl
 module-types types (Some (Alias word of at)) = refl

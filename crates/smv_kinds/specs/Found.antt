@@ -68,6 +68,11 @@ moved scope place = record { tables = scope.tables; place = place }
 abbrev pub whole_in : List Kind → Kind → Whole
 whole_in over value = record { over = over; value = value }
 
+-- the name that a path is, where it is a name alone
+abbrev pub lone : List Part → Option Word
+lone (Field word ∷ []) = Some word
+lone _ = None
+
 -- over these index kinds before
 abbrev pub behind_over : List Kind → Whole → Whole
 behind_over over w = record w { over = over ++ w.over }

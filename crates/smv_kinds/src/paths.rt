@@ -46,8 +46,8 @@ pub fn form_in<'a>(of: &'a TypeExpr, tables: &Tables<'a, '_>, place: usize) -> F
     form_of(of, tables.names.text, &tables.types, tables.forms.as_slice(), place)
 }
 
-// A single value of this kind.
-fn single<'a>(over: Vec<ValueKind<'a>>, value: ValueKind<'a>) -> Whole<'a>
+/// A single value of this kind.
+pub fn single<'a>(over: Vec<ValueKind<'a>>, value: ValueKind<'a>) -> Whole<'a>
     ensures { whole_of result ≡ whole_in (map kind_of over.entry.items) (kind_of value.entry) }
 {
     Whole { over, value }
