@@ -51,6 +51,6 @@ field-none text over f fields place word found is named none parts =
 
 -- ---- parts, one after the other
 
-uncons : {A : Type 0} (xs : List A) (x : A) → 1 ≤ length xs → x ≡ get_or xs 0 x → xs ≡ x ∷ drop 1 xs
+pub uncons : {A : Type 0} (xs : List A) (x : A) → 1 ≤ length xs → x ≡ get_or xs 0 x → xs ≡ x ∷ drop 1 xs
 uncons [] x h e = absurd (omega arith)
 uncons (y ∷ xs) x h e = ap (λ z. z ∷ xs) (sym e)

@@ -1,9 +1,10 @@
 -- Where something stands, by the tops of a text.
-use Rattle.std.proofs.Common.{◌≡◌, ℕ, zero, suc, ◌+◌, List, [], ◌∷◌, ◌++◌, map, take, Bool, true, false, cond, refl, ap, sym, ◌∙◌, arith}
+use Rattle.std.proofs.Common.{◌≡◌, ℕ, zero, suc, ◌+◌, ◌≤◌, List, [], ◌∷◌, ◌++◌, map, take, drop, length, get_or, Bool, true, false, cond, Bor, refl, ap, sym, ◌∙◌, arith}
 use Rattle.std.specs.Prelude.{Option, Some, None, option_map, option_and_then, slice_get}
 use Rattle.std.specs.Str.{bytes_eq}
 use Rattle.smv_core.specs.Values.{Name}
-use Rattle.smv_core.specs.Types.{find_name}
+use Rattle.std.specs.Option.{option_map_or}
+use Rattle.smv_core.specs.Types.{find_name, names_of}
 use Rattle.smv_core.specs.declared.tree.Word.{Word}
 use Rattle.smv_core.specs.declared.tree.Text.{Text}
 use Rattle.smv_core.specs.declared.tree.Top.{Top}
@@ -15,9 +16,15 @@ use Rattle.smv_types.specs.Kinds.{Kind, enumeration}
 use Rattle.smv_types.specs.Types.{Types, Whole, single, types_after}
 use Rattle.smv_types.specs.References.{Module, modules_from, Scope, Vars, behind, signal_at, constant_at, variable_at, reference_at}
 use Rattle.smv_kinds.specs.declared.lookups.Scope.{Scope as HeldScope}
-use Rattle.smv_kinds.specs.Forms.{types_from, types_before, module_in, modules_in}
-use Rattle.smv_kinds.specs.Found.{scope_of, scope_at, moved, whole_in, lone}
+use Rattle.smv_scope.specs.Held.{own_of, constant_beside}
+use Rattle.smv_scope.proofs.PieceLaws.{constant-found}
+use Rattle.smv_scope.specs.declared.tables.Own.{Own as HeldOwn}
+use Rattle.smv_scope.specs.declared.tables.Constant.{Constant as HeldConstant}
+use Rattle.smv_kinds.specs.declared.kinds.ValueKind.{ValueKind}
+use Rattle.smv_kinds.specs.Forms.{kind_of, types_from, types_before, module_in, modules_in}
+use Rattle.smv_kinds.specs.Found.{scope_of, moved, whole_in, lone, inner_leads}
 use Rattle.smv_kinds.proofs.TopLaws.{here-types, module-types}
+use Rattle.smv_kinds.proofs.PathLaws.{uncons}
 
 pub ruleset here = (here-types)
 
@@ -41,7 +48,7 @@ module _ (scope : HeldScope) where
   unfolding scope_of
   signal-field word parts =
       ap (λ types. option_and_then (λ (own : Own). behind (modules_from [] scope.tables.now.names.text.now.tops) types own.what parts)
-          (find_name (module_in (types_before scope.tables.now.names.text.now scope.place) (slice_get scope.tables.now.names.text.now.tops scope.place)).own word.name)) here-types
+          (find_name (module_in (types_before scope.tables.now.names.text.now scope.place) (slice_get scope.tables.now.names.text.now.tops scope.place)).own word.name)) (here-types scope)
 
 -- ---- modules by their numbers
 
@@ -169,6 +176,55 @@ variable-lone scope vars (Field word ∷ part ∷ parts) = by (find_name vars wo
     by : (o : Option Kind) → option_and_then (λ kind. single kind (part ∷ parts)) o ≡ None
     by None = refl
     by (Some kind) = refl
+
+module _ (text : Text) (lists : List (Bor (List Word))) (held : List (Name × HeldConstant)) (same : map (constant_beside lists) held ≡ constants (pieces text)) (name : Name) where
+  abbrev enumerated : Option Constant → Option Kind
+  enumerated o = option_map (λ (c : Constant). enumeration c.names) o
+
+  pub constant-in : (constant : HeldConstant) (got : Option (Bor (List Word))) → find_name held name ≡ Some constant → slice_get lists constant.list ≡ got
+      → enumerated (find_name (constants (pieces text)) name) ≡ Some (enumeration (option_map_or (λ words. names_of words.now) got []))
+  constant-in constant got found at =
+      ap enumerated (constant-found text lists held same name (Some constant) (sym found)) ∙ ap (λ o. Some (enumeration (option_map_or (λ (words : Bor (List Word)). names_of words.now) o []))) at
+
+  pub constant-out : find_name held name ≡ None → enumerated (find_name (constants (pieces text)) name) ≡ None
+  constant-out none = ap enumerated (constant-found text lists held same name None (sym none))
+
+pub constant-alone : (scope : HeldScope) (parts : List Part) (word : Word) (kind : Option ValueKind) → lone parts ≡ Some word
+    → option_map kind_of kind ≡ option_map (λ (c : Constant). enumeration c.names) (find_name (constants (pieces scope.tables.now.names.text.now)) word.name)
+    → constant_at (scope_of scope) parts ≡ option_map (λ kind. whole_in [] (kind_of kind)) kind
+constant-alone scope parts word kind alone kinds =
+    constant-lone (scope_of scope) parts
+    ∙ ap (option_and_then (λ (word : Word). option_map (λ (c : Constant). whole_in [] (enumeration c.names)) (find_name (scope_of scope).constants word.name))) alone
+    ∙ ap (λ l. option_map (λ (c : Constant). whole_in [] (enumeration c.names)) (find_name l word.name)) (constants-are scope)
+    ∙ split (find_name (constants (pieces scope.tables.now.names.text.now)) word.name)
+    ∙ ap (option_map (whole_in [])) (sym kinds)
+    ∙ join kind
+  where
+    split : (o : Option Constant) → option_map (λ (c : Constant). whole_in [] (enumeration c.names)) o ≡ option_map (whole_in []) (option_map (λ (c : Constant). enumeration c.names) o)
+    split None = refl
+    split (Some c) = refl
+
+    join : (o : Option ValueKind) → option_map (whole_in []) (option_map kind_of o) ≡ option_map (λ kind. whole_in [] (kind_of kind)) o
+    join None = refl
+    join (Some kind) = refl
+
+-- ---- signals
+
+pub signal-is : (scope : HeldScope) (parts : List Part) (part : Part) (word : Word) (own : Option HeldOwn) → 1 ≤ length parts → part ≡ get_or parts 0 part → part ≡ Field word
+    → ((types : Types) → find_name (module_in types (slice_get scope.tables.now.names.text.now.tops scope.place)).own word.name ≡ option_map own_of own)
+    → signal_at (scope_of scope) parts ≡ option_and_then (λ (own : HeldOwn). inner_leads scope.tables.now.names.text.now (record { place = scope.place; own = own }) (drop 1 parts)) own
+signal-is scope parts part word own long first is owned =
+    ap (signal_at (scope_of scope)) (uncons parts part long first ∙ ap (λ p. p ∷ drop 1 parts) is)
+    ∙ signal-field scope word (drop 1 parts)
+    ∙ ap (option_and_then (λ (own : Own). behind (modules_from [] scope.tables.now.names.text.now.tops) (types_before scope.tables.now.names.text.now scope.place) own.what (drop 1 parts)))
+        (owned (types_before scope.tables.now.names.text.now scope.place))
+    ∙ by own
+  where
+    by : (o : Option HeldOwn)
+        → option_and_then (λ (own : Own). behind (modules_from [] scope.tables.now.names.text.now.tops) (types_before scope.tables.now.names.text.now scope.place) own.what (drop 1 parts)) (option_map own_of o)
+            ≡ option_and_then (λ (own : HeldOwn). inner_leads scope.tables.now.names.text.now (record { place = scope.place; own = own }) (drop 1 parts)) o
+    by None = refl
+    by (Some own) = refl
 
 -- ---- the first of three
 

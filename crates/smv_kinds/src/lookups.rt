@@ -197,7 +197,8 @@ pub fn formals_of<'a>(scope: &Scope<'a, '_>) -> Result<&'a [Word], AllocError>
     requires { AreKindTables scope.now.tables.now }
     ensures { IfOk result (λ formals. formals.now ≡ (scope_of scope.now).here.formals) }
 {
-    match item_at(scope.tables.names.text.tops.as_slice(), scope.place) {
+    let tables = scope.tables;
+    match item_at(tables.names.text.tops.as_slice(), scope.place) {
         Some(Top::Module { formals, .. }) => Ok(formals.as_slice()),
         Some(Top::SetType { .. }) => Ok(&[]),
         Some(Top::Alias { .. }) => Ok(&[]),
