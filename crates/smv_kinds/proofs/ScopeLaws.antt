@@ -33,6 +33,14 @@ module _ (scope : HeldScope) where
   unfolding scope_of
   here-is = refl
 
+  pub formals-are : (top : Option Top) → slice_get scope.tables.now.names.text.now.tops scope.place ≡ top
+      → (scope_of scope).here.formals ≡ (module_in (types_before scope.tables.now.names.text.now scope.place) top).formals
+  formals-are top is = ap (λ (m : Module). m.formals) here-is ∙ ap (λ o. (module_in (types_before scope.tables.now.names.text.now scope.place) o).formals) is
+
+  pub own-here : (name : Name) (own : Option HeldOwn) → ((types : Types) → find_name (module_in types (slice_get scope.tables.now.names.text.now.tops scope.place)).own name ≡ option_map own_of own)
+      → find_name (scope_of scope).here.own name ≡ option_map own_of own
+  own-here name own owned = ap (λ (m : Module). find_name m.own name) here-is ∙ owned (types_before scope.tables.now.names.text.now scope.place)
+
   pub modules-are : (scope_of scope).modules ≡ modules_from [] scope.tables.now.names.text.now.tops
   unfolding scope_of
   modules-are = refl

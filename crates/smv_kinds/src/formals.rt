@@ -1,5 +1,5 @@
 // The formals of modules.
-ghost use Rattle.std.specs.Prelude.{◌≡◌, ℕ, Some, IfOk};
+ghost use Rattle.std.specs.Prelude.{◌≡◌, Some, IfOk};
 ghost use Rattle.smv_core.specs.Types.{find_name};
 ghost use Rattle.smv_core.specs.declared.tree.Expr.{Expr};
 ghost use Rattle.smv_inst.specs.Mentions.{signal};
@@ -41,7 +41,7 @@ fn formal_of<'a>(
     scope: &Scope<'a, '_>,
 ) -> Result<Formal<'a>, AllocError>
     requires { AreKindTables scope.now.tables.now }
-    ensures { IfOk result (λ formal. (from : references.Scope) (at : ℕ) (e : Expr) → connected from (scope_of scope.now).here.types (Some (record { at = at; what = signal role of.now })) e ≡ argument_faults from formal e) }
+    ensures { IfOk result (λ formal. (from : references.Scope) (e : Expr) → connected from (scope_of scope.now).here.types (Some (record { at = 0; what = signal role of.now })) e ≡ argument_faults from formal e) }
 {
     match role {
         Role::Input => {
