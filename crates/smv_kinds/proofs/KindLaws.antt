@@ -96,11 +96,17 @@ kind-append kind [] ys = refl
 kind-append kind (e ∷ xs) ys = kind-append (joined kind e.kind) xs ys
 
 pub ruleset number_fits = (number-is)
+
 pub ruleset value_fits = (takes-is)
+
 pub ruleset sides_fit = (alike-both)
+
 pub ruleset first_fits = (alike-first)
+
 pub ruleset stray_fits = (alike-stray, alike-none)
+
 pub ruleset in_turn = (alike-none, alike-step, kind-none, kind-step)
+
 pub ruleset all_in_turn = (alike-none, alike-append, kind-none, kind-append)
 
 -- ---- references

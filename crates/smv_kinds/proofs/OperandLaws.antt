@@ -376,6 +376,9 @@ module _ (scope : Scope) (vars : Vars) where
   faults-Compare op x y = ap (λ (e : Operand). e.faults) (operand-Compare op x y) ∙ compared-faults op (operand scope vars x) (operand scope vars y)
 
 pub ruleset kinds = (kind-Number, kind-Signal, kind-Not, kind-And, kind-Or, kind-Implies, kind-Iff, kind-Compare, kind-Within, kind-Sum, kind-Modulo, kind-Choose, kind-All, kind-Any, kind-List, kind-Each)
+
 pub ruleset ats = (at-Number, at-Signal, at-Not, at-And, at-Or, at-Implies, at-Iff, at-Compare, at-Within, at-Sum, at-Modulo, at-Choose, at-All, at-Any, at-List, at-Each)
+
 pub ruleset faults = (faults-Number, faults-Signal, faults-Not, faults-And, faults-Or, faults-Implies, faults-Iff, faults-Compare, faults-Within, faults-Sum, faults-Modulo, faults-Choose, faults-All, faults-Any, faults-List, faults-Each)
+
 pub ruleset through = (through-List, through-Each, through-Number, through-Signal, through-Not, through-And, through-Or, through-Implies, through-Iff, through-Compare, through-Within, through-Sum, through-Modulo, through-Choose, through-All, through-Any)

@@ -134,10 +134,10 @@ type-leads types tops zero name parts none = ap (λ o. then o parts) none ∙ sy
 type-leads types [] (suc k) name parts none = ap (λ o. then o parts) none
 type-leads types (SetType word ordered span at ∷ tops) (suc k) name parts none =
     type-here types (SetType word ordered span at) _ word.name tops k name parts (bytes_eq word.name name) refl refl (λ qs. refl) none
-      (type-leads (types_after types (SetType word ordered span at)) tops k name parts)
+    (type-leads (types_after types (SetType word ordered span at)) tops k name parts)
 type-leads types (Alias word of at ∷ tops) (suc k) name parts none =
     type-here types (Alias word of at) _ word.name tops k name parts (bytes_eq word.name name) refl refl (λ qs. refl) none
-      (type-leads (types_after types (Alias word of at)) tops k name parts)
+    (type-leads (types_after types (Alias word of at)) tops k name parts)
 type-leads types (ModuleOf word formals body at ∷ tops) (suc k) name parts none =
     type-leads types tops k name parts none ∙ deeper types (ModuleOf word formals body at) tops k parts (type_place tops name)
 

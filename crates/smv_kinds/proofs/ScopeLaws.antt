@@ -51,12 +51,12 @@ module _ (scope : HeldScope) where
 
   pub signal-field : (word : Word) (parts : List Part)
       → signal_at (scope_of scope) (Field word ∷ parts)
-          ≡ option_and_then (λ (own : Own). behind (modules_from [] scope.tables.now.names.text.now.tops) (types_before scope.tables.now.names.text.now scope.place) own.what parts)
-              (find_name (module_in (types_before scope.tables.now.names.text.now scope.place) (slice_get scope.tables.now.names.text.now.tops scope.place)).own word.name)
+      ≡ option_and_then (λ (own : Own). behind (modules_from [] scope.tables.now.names.text.now.tops) (types_before scope.tables.now.names.text.now scope.place) own.what parts)
+      (find_name (module_in (types_before scope.tables.now.names.text.now scope.place) (slice_get scope.tables.now.names.text.now.tops scope.place)).own word.name)
   unfolding scope_of
   signal-field word parts =
       ap (λ types. option_and_then (λ (own : Own). behind (modules_from [] scope.tables.now.names.text.now.tops) types own.what parts)
-          (find_name (module_in (types_before scope.tables.now.names.text.now scope.place) (slice_get scope.tables.now.names.text.now.tops scope.place)).own word.name)) (here-types scope)
+      (find_name (module_in (types_before scope.tables.now.names.text.now scope.place) (slice_get scope.tables.now.names.text.now.tops scope.place)).own word.name)) (here-types scope)
 
 -- ---- modules by their numbers
 
@@ -225,12 +225,12 @@ signal-is scope parts part word own long first is owned =
     ap (signal_at (scope_of scope)) (uncons parts part long first ∙ ap (λ p. p ∷ drop 1 parts) is)
     ∙ signal-field scope word (drop 1 parts)
     ∙ ap (option_and_then (λ (own : Own). behind (modules_from [] scope.tables.now.names.text.now.tops) (types_before scope.tables.now.names.text.now scope.place) own.what (drop 1 parts)))
-        (owned (types_before scope.tables.now.names.text.now scope.place))
+    (owned (types_before scope.tables.now.names.text.now scope.place))
     ∙ by own
   where
     by : (o : Option HeldOwn)
         → option_and_then (λ (own : Own). behind (modules_from [] scope.tables.now.names.text.now.tops) (types_before scope.tables.now.names.text.now scope.place) own.what (drop 1 parts)) (option_map own_of o)
-            ≡ option_and_then (λ (own : HeldOwn). inner_leads scope.tables.now.names.text.now (record { place = scope.place; own = own }) (drop 1 parts)) o
+        ≡ option_and_then (λ (own : HeldOwn). inner_leads scope.tables.now.names.text.now (record { place = scope.place; own = own }) (drop 1 parts)) o
     by None = refl
     by (Some own) = refl
 

@@ -80,7 +80,7 @@ module _ (scope : Scope) (vars : Vars) where
   switch on arms y at =
       let row : (n : Count) × Row_of-Arm n = arms_of (Switch on arms y at) in
       let e : in_arms scope vars row.1 ≡ flat_map (arm_faults scope vars) arms =
-          arms-row row.0 row.1 ∙ ap (λ l. flat_map (arm_faults scope vars) l) (items_hidden-the_row-Arm-2 arms) in
+      arms-row row.0 row.1 ∙ ap (λ l. flat_map (arm_faults scope vars) l) (items_hidden-the_row-Arm-2 arms) in
       let f : labels scope vars row.1 ≡ flat_map (labels_of scope vars) arms = labels-row row.0 row.1 ∙ ap (λ l. flat_map (labels_of scope vars) l) (items_hidden-the_row-Arm-2 arms) in
       ap (λ l. alike (operand scope vars on ∷ l) ++ in_arms scope vars row.1 ++ in_branch scope vars (other_of (Switch on arms y at))) f
       ∙ ap (λ l. alike (operand scope vars on ∷ flat_map (labels_of scope vars) arms) ++ l ++ in_branch scope vars (other_of (Switch on arms y at))) e

@@ -34,7 +34,7 @@ module _ (scope : HeldScope) where
 
   pub top-Module : (top : Top) (word : Word) (formals : List Word) (body : List Item) (at : ℕ) → slice_get scope.tables.now.names.text.now.tops scope.place ≡ Some top → top ≡ ModuleOf word formals body at
       → flat_map (in_item (scope_of scope) []) body
-          ≡ in_top (modules_from [] scope.tables.now.names.text.now.tops) (constants (pieces scope.tables.now.names.text.now)) (types_before scope.tables.now.names.text.now scope.place) top
+      ≡ in_top (modules_from [] scope.tables.now.names.text.now.tops) (constants (pieces scope.tables.now.names.text.now)) (types_before scope.tables.now.names.text.now scope.place) top
   unfolding scope_of
   top-Module top word formals body at here is =
       ap (λ o. flat_map (in_item (record { modules = modules_from [] scope.tables.now.names.text.now.tops; constants = constants (pieces scope.tables.now.names.text.now); here = module_in (types_before scope.tables.now.names.text.now scope.place) o }) []) body) (here ∙ ap Some is)
@@ -42,7 +42,7 @@ module _ (scope : HeldScope) where
 
   pub top-Alias : (top : Top) (word : Word) (of : TypeExpr) (at : ℕ) → top ≡ Alias word of at
       → type_faults (scope_of scope).here.types of
-          ≡ in_top (modules_from [] scope.tables.now.names.text.now.tops) (constants (pieces scope.tables.now.names.text.now)) (types_before scope.tables.now.names.text.now scope.place) top
+      ≡ in_top (modules_from [] scope.tables.now.names.text.now.tops) (constants (pieces scope.tables.now.names.text.now)) (types_before scope.tables.now.names.text.now scope.place) top
   top-Alias top word of at is =
       ap (λ types. type_faults types of) here-types
       ∙ ap (in_top (modules_from [] scope.tables.now.names.text.now.tops) (constants (pieces scope.tables.now.names.text.now)) (types_before scope.tables.now.names.text.now scope.place)) (sym is)

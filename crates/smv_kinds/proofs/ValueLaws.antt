@@ -31,7 +31,7 @@ module _ (scope : Scope) (vars : Vars) where
 
   pub value-Each_if : (var : Word) (over : TypeExpr) (cond : Expr) (at : ℕ)
       → value scope vars (Each var over (Some cond) at)
-          ≡ record { kind = index_kind scope.here.types over; at = at; faults = index_faults scope.here.types over ++ takes_number (operand scope (bind scope vars var over) cond) }
+      ≡ record { kind = index_kind scope.here.types over; at = at; faults = index_faults scope.here.types over ++ takes_number (operand scope (bind scope vars var over) cond) }
   unfolding value computing
   value-Each_if var over cond at = refl
 
@@ -128,6 +128,9 @@ module _ (scope : Scope) (vars : Vars) where
   faults-Choose c x y = ap (λ (e : Operand). e.faults) (value-Choose c x y)
 
 pub ruleset same = (value-Number, value-Signal, value-Not, value-And, value-Or, value-Implies, value-Iff, value-Compare, value-Within, value-Sum, value-Modulo, value-All, value-Any)
+
 pub ruleset kinds = (kind-List, kind-Each, kind-Each_if, kind-Choose)
+
 pub ruleset ats = (at-List, at-Each, at-Each_if, at-Choose)
+
 pub ruleset faults = (faults-List, faults-Each, faults-Each_if, faults-Choose)

@@ -10,8 +10,8 @@ ghost use Rattle.smv_types.specs.KindFaults as spec;
 ghost use Rattle.smv_kinds.specs.Forms.{kind_of, AreKindTables};
 ghost use Rattle.smv_kinds.specs.Found.{scope_of, argument_faults, is_constant, part_constant, words_left};
 
-use crate::kinds::{ValueKind, fault_if, takes};
 use crate::formals::formal_named;
+use crate::kinds::{ValueKind, fault_if, takes};
 use crate::lookups::{Formal, Scope, formals_of, module_named};
 use crate::operands::{operand, operand_at};
 use crate::values::{target, value};
@@ -258,4 +258,3 @@ pub fn arguments<'a>(
         }
     }
 }
-

@@ -17,10 +17,7 @@ use smv_inst::mentions::What;
 use std::alloc::AllocError;
 
 /// A formal of a module.
-pub fn formal_named<'a>(
-    name: &Name,
-    scope: &Scope<'a, '_>,
-) -> Result<Formal<'a>, AllocError>
+pub fn formal_named<'a>(name: &Name, scope: &Scope<'a, '_>) -> Result<Formal<'a>, AllocError>
     requires { AreKindTables scope.now.tables.now }
     ensures { IfOk result (λ formal. (from : references.Scope) (e : Expr) → connected from (scope_of scope.now).here.types (find_name (scope_of scope.now).here.own name.now) e ≡ argument_faults from formal e) }
 {

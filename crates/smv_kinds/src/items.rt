@@ -40,7 +40,13 @@ fn item<'a>(
             declared(of, names.as_slice(), *role, scope, out)?;
             type_faults(of, scope, out)
         }
-        Item::Instance { module, args, .. } => arguments(args.as_slice(), module, scope, alloc, out),
+        Item::Instance { module, args, .. } => arguments(
+            args.as_slice(),
+            module,
+            scope,
+            alloc,
+            out,
+        ),
         Item::Layer { body, .. } => block(body.as_slice(), scope, vars, alloc, out),
         Item::Forall {
             var,
@@ -148,4 +154,3 @@ fn all_pairs<'a>(
     }
     Ok(())
 }
-

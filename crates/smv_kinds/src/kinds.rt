@@ -170,12 +170,7 @@ pub fn is_index(kind: ValueKind) -> bool
 }
 
 /// A fault of this number at a place, where its rule is broken there.
-pub fn fault_if(
-    out: &mut Vec<Fault>,
-    broken: bool,
-    number: u8,
-    at: u32,
-) -> Result<(), AllocError>
+pub fn fault_if(out: &mut Vec<Fault>, broken: bool, number: u8, at: u32) -> Result<(), AllocError>
     ensures { OnOk result (out.new.items ≡ out.old.items ++ faults_at (number, place_if broken at)) }
 {
     if broken {

@@ -95,11 +95,7 @@ fn variable_reference<'a>(parts: &[Part], vars: &[Var<'a>], alloc: Global) -> Op
 }
 
 // What a path leads to, where it is a constant.
-fn constant_reference<'a>(
-    parts: &[Part],
-    scope: &Scope<'a, '_>,
-    alloc: Global,
-) -> Option<Whole<'a>>
+fn constant_reference<'a>(parts: &[Part], scope: &Scope<'a, '_>, alloc: Global) -> Option<Whole<'a>>
     requires { AreKindTables scope.now.tables.now }
     ensures { option_map whole_of result ≡ references.constant_at (scope_of scope.now) parts.now }
 {

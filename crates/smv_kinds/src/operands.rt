@@ -10,7 +10,9 @@ ghost use Rattle.smv_types.specs.Operands as spec;
 ghost use Rattle.smv_kinds.specs.Forms.{kind_of, misfit, AreKindTables};
 ghost use Rattle.smv_kinds.specs.Found.{vars_of, scope_of, whole_of, order_faults, kinds_left, left_behind, part_faults, next_faults, path_faults, addend, begins_at, or_zero, member as member_in};
 
-use crate::kinds::{Operand, ValueKind, fault_if, fits, number_at, takes, takes_number, takes_order};
+use crate::kinds::{
+    Operand, ValueKind, fault_if, fits, number_at, takes, takes_number, takes_order,
+};
 use crate::lookups::{Scope, Var, whole_reference};
 use crate::paths::Whole;
 use crate::types::{bind, index_faults};

@@ -43,7 +43,13 @@ pub fn form_in<'a>(of: &'a TypeExpr, tables: &Tables<'a, '_>, place: usize) -> F
     requires { AreKindTables tables.now }
     ensures { (parts : List Part) → leads (types_before tables.now.names.text.now place) of.now parts ≡ form_leads tables.now.names.text.now result parts }
 {
-    form_of(of, tables.names.text, &tables.types, tables.forms.as_slice(), place)
+    form_of(
+        of,
+        tables.names.text,
+        &tables.types,
+        tables.forms.as_slice(),
+        place,
+    )
 }
 
 /// A single value of this kind.

@@ -200,4 +200,3 @@ fn all_fitting<'a>(
     }
     Ok(all)
 }
-

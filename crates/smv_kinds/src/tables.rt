@@ -19,7 +19,9 @@ use std::alloc::{AllocError, Global};
 #[derive(Clone, Copy)]
 pub enum Form<'a> {
     /// A single value of this kind.
-    Single { kind: ValueKind<'a> },
+    Single {
+        kind: ValueKind<'a>,
+    },
     /// For each index of this kind, what stands behind a type in the top of a number.
     Array {
         index: ValueKind<'a>,
@@ -27,7 +29,10 @@ pub enum Form<'a> {
         place: usize,
     },
     /// Fields, whose types stand in the top of a number.
-    Struct { fields: &'a [Field], place: usize },
+    Struct {
+        fields: &'a [Field],
+        place: usize,
+    },
     /// What is no type.
     Nothing,
 }
@@ -98,10 +103,7 @@ fn add_module<'a>(
 
 // The number of each module.
 #[tactic(auto, using(smv_inst::proofs::Notes::noting, crate::proofs::PlaceLaws::steps))]
-fn modules_of<'a>(
-    alloc: Global,
-    tops: &'a [Top],
-) -> Result<NameMap<'a, usize>, AllocError>
+fn modules_of<'a>(alloc: Global, tops: &'a [Top]) -> Result<NameMap<'a, usize>, AllocError>
     ensures { IfOk result (λ modules. modules ≡ modules_in 0 tops.now) }
 {
     let mut modules = NameMap::new(alloc);
@@ -116,13 +118,7 @@ fn type_named(types: &NameMap<usize>, place: usize, name: &Name) -> Option<usize
     ensures { result ≡ type_before types.now place name.now }
 {
     match types.find(name) {
-        Some(found) => {
-            if *found < place {
-                Some(*found)
-            } else {
-                None
-            }
-        }
+        Some(found) => { if *found < place { Some(*found) } else { None } }
         None => None,
     }
 }

@@ -15,10 +15,7 @@ use smv_core::tree::{Field, Span, TypeExpr, Word};
 use std::alloc::{AllocError, Global};
 
 /// The kind of an index of this type.
-pub fn index_kind<'a>(
-    of: &'a TypeExpr,
-    scope: &Scope<'a, '_>,
-) -> Result<ValueKind<'a>, AllocError>
+pub fn index_kind<'a>(of: &'a TypeExpr, scope: &Scope<'a, '_>) -> Result<ValueKind<'a>, AllocError>
     requires { AreKindTables scope.now.tables.now }
     ensures { IfOk result (λ kind. kind_of kind ≡ spec.index_kind (scope_of scope.now).here.types of.now) }
 {
@@ -70,11 +67,7 @@ pub fn range_faults(out: &mut Vec<Fault>, span: Span, at: u32) -> Result<(), All
 }
 
 /// The faults in the declared size of a set type.
-pub fn size_faults(
-    out: &mut Vec<Fault>,
-    span: Option<Span>,
-    at: u32,
-) -> Result<(), AllocError>
+pub fn size_faults(out: &mut Vec<Fault>, span: Option<Span>, at: u32) -> Result<(), AllocError>
     ensures { OnOk result (out.new.items ≡ out.old.items ++ spec.size_faults span at) }
 {
     match span {
@@ -164,11 +157,7 @@ pub fn formal_faults<'a>(
 
 // Fault 12 at each of these words, unless they are simple.
 #[tactic(auto, using(smv_inst::proofs::Notes::noting))]
-fn faults_unless(
-    out: &mut Vec<Fault>,
-    simple: bool,
-    words: &[Word],
-) -> Result<(), AllocError>
+fn faults_unless(out: &mut Vec<Fault>, simple: bool, words: &[Word]) -> Result<(), AllocError>
     ensures { OnOk result (out.new.items ≡ out.old.items ++ flat_map (λ word. faults_at (12, place_if (not simple) word.at)) words.now) }
 {
     for word in words {

@@ -157,4 +157,3 @@ pub fn assignment<'a>(
     let right = value(x, scope, vars, alloc, out)?;
     takes(out, left.kind, right)
 }
-

@@ -13,7 +13,7 @@ loop-x-preserved c =
     let inner = scope_of c.args.inner.now in
     let says : Word × Expr → List Fault = λ (word, e). connected (scope_of c.args.scope.now) inner.here.types (find_name inner.here.own word.name) e in
     args-step says c.args.args.now c.loop-x.x-index c.x-item.result c.loop-x.left.now c.behind_first-left.result.now c.loop-x.out.items c.connected.new.out.items _ c.loop-x-test.true c.x-item.is c.loop-x.invariant
-      c.in_ok-connected.ensures c.behind_first-left.ensures
+    c.in_ok-connected.ensures c.behind_first-left.ensures
 
 pub returns : goal.returns
 returns c =

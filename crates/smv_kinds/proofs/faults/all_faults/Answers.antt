@@ -11,4 +11,4 @@ loop-place-preserved c =
     let text = c.args.tables.now.names.text.now in
     let got : slice_get text.tops c.loop-place.place ≡ Some c.index-tops-place.result = grind (arith, slice_get_read) in
     tops-step (modules_from [] text.tops) (constants (pieces text)) text.tops c.loop-place.place c.index-tops-place.result c.loop-place.out.items c.top_faults.new.out.items _ got
-      c.in_ok-top_faults.ensures c.loop-place.invariant
+    c.in_ok-top_faults.ensures c.loop-place.invariant

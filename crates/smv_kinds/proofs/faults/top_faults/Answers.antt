@@ -12,11 +12,11 @@ pub returns-in-Alias : goal.returns-in-Alias
 returns-in-Alias c =
     let top = c.in-Alias in
     subst (λ (l : List Fault). OnOk c.type_faults.result (c.type_faults.new.out.items ≡ c.args.out.now.items ++ l))
-      (top-Alias c.args.scope.now c.args.top.now top.name top.of top.at top.is) c.type_faults.ensures
+    (top-Alias c.args.scope.now c.args.top.now top.name top.of top.at top.is) c.type_faults.ensures
 
 pub returns-in-Module : goal.returns-in-Module
 returns-in-Module c =
     let top = c.in-Module in
     subst (λ (l : List Fault). OnOk c.items.result (c.items.new.out.items ≡ c.args.out.now.items ++ l))
-      (ap (λ vars. flat_map (in_item (scope_of c.args.scope.now) vars) c.as_slice.result.now) vars-none ∙ ap (flat_map (in_item (scope_of c.args.scope.now) [])) c.as_slice.ensures
-      ∙ top-Module c.args.scope.now c.args.top.now top.name top.formals top.body top.at c.requires.here top.is) c.items.ensures
+    (ap (λ vars. flat_map (in_item (scope_of c.args.scope.now) vars) c.as_slice.result.now) vars-none ∙ ap (flat_map (in_item (scope_of c.args.scope.now) [])) c.as_slice.ensures
+    ∙ top-Module c.args.scope.now c.args.top.now top.name top.formals top.body top.at c.requires.here top.is) c.items.ensures

@@ -11,7 +11,7 @@ abbrev pub invariant-numbers-loop-x : goal.invariant-numbers-loop-x
 invariant-numbers-loop-x l = record {
   faults : l.out.items ++ flat_map takes_number (map (operand (scope_of l.scope) (vars_of l.vars)) (drop l.x-index l.parts))
       ≡ l.initial.out.items ++ flat_map takes_number (map (operand (scope_of l.scope) (vars_of l.vars)) l.parts);
-  at : begin l.first (map (operand (scope_of l.scope) (vars_of l.vars)) (drop l.x-index l.parts)) ≡ begin None (map (operand (scope_of l.scope) (vars_of l.vars)) l.parts)
+  at : begin l.first (map (operand (scope_of l.scope) (vars_of l.vars)) (drop l.x-index l.parts)) ≡ begin None (map (operand (scope_of l.scope) (vars_of l.vars)) l.parts);
 }
 
 abbrev pub invariant-summands-loop-x : goal.invariant-summands-loop-x
@@ -24,7 +24,7 @@ invariant-all_members-loop-x l = record {
   faults : l.out.items ++ alike_with (kind_of l.all) (map (member (scope_of l.scope) (vars_of l.vars)) (drop l.x-index l.members))
       ≡ l.initial.out.items ++ alike_with (kind_of l.initial.all) (map (member (scope_of l.scope) (vars_of l.vars)) l.members);
   kind : kind_with (kind_of l.all) (map (member (scope_of l.scope) (vars_of l.vars)) (drop l.x-index l.members))
-      ≡ kind_with (kind_of l.initial.all) (map (member (scope_of l.scope) (vars_of l.vars)) l.members)
+      ≡ kind_with (kind_of l.initial.all) (map (member (scope_of l.scope) (vars_of l.vars)) l.members);
 }
 
 abbrev pub invariant-indexes-loop-part : goal.invariant-indexes-loop-part

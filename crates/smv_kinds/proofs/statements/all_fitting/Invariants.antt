@@ -10,5 +10,5 @@ invariant-loop-x l = record {
   faults : l.out.items ++ alike_with (kind_of l.all) (map (operand (scope_of l.scope) (vars_of l.vars)) (drop l.x-index l.parts))
       ≡ l.initial.out.items ++ alike_with (kind_of l.initial.all) (map (operand (scope_of l.scope) (vars_of l.vars)) l.parts);
   kind : kind_with (kind_of l.all) (map (operand (scope_of l.scope) (vars_of l.vars)) (drop l.x-index l.parts))
-      ≡ kind_with (kind_of l.initial.all) (map (operand (scope_of l.scope) (vars_of l.vars)) l.parts)
+      ≡ kind_with (kind_of l.initial.all) (map (operand (scope_of l.scope) (vars_of l.vars)) l.parts);
 }

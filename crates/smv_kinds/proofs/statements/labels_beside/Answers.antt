@@ -16,8 +16,8 @@ loop-x-preserved c =
     let says : List Expr → List Operand = map (operand (scope_of c.args.scope.now) (vars_of c.args.vars.now)) in
     let all : Kind = kind_of c.loop-x.all in
     lists-step here c.args.arms.now c.loop-x.x-index c.x-item.result all (kind_of c.in_ok-all.all) c.loop-x.out.items c.all_fitting.new.out.items _ c.loop-x-test.true c.x-item.is c.loop-x.invariant
-      (c.in_ok-all.ensures.faults ∙ ap (λ l. c.loop-x.out.items ++ alike_with all (says l)) c.as_slice.ensures)
-      (c.in_ok-all.ensures.kind ∙ ap (λ l. kind_with all (says l)) c.as_slice.ensures)
+    (c.in_ok-all.ensures.faults ∙ ap (λ l. c.loop-x.out.items ++ alike_with all (says l)) c.as_slice.ensures)
+    (c.in_ok-all.ensures.kind ∙ ap (λ l. kind_with all (says l)) c.as_slice.ensures)
 
 pub returns : goal.returns
 returns c = lists-done (labels_of (scope_of c.args.scope.now) (vars_of c.args.vars.now)) c.args.arms.now c.loop-x.x-index (kind_of c.loop-x.all) c.loop-x.out.items _ c.loop-x-test.false c.loop-x.invariant

@@ -18,7 +18,7 @@ pub form_at-requires : goal.form_at-requires
 form_at-requires t c =
     let tops = c.args.text.now.tops in
     let named : type_before (types_in 0 tops) c.args.place c.in-Named.name.name ≡ Some c.in-Some.found =
-        ap (λ l. type_before l c.args.place c.in-Named.name.name) (sym c.requires.types) ∙ sym c.type_named.ensures ∙ c.in-Some.is in
+    ap (λ l. type_before l c.args.place c.in-Named.name.name) (sym c.requires.types) ∙ sym c.type_named.ensures ∙ c.in-Some.is in
     let within = before-within tops c.args.place c.in-Named.name.name c.in-Some.found named in
     let before : c.in-Some.found < c.args.place = within.0 in
     let inside : c.in-Some.found < length tops = within.1 in
@@ -28,17 +28,17 @@ form_at-requires t c =
 pub returns-in-None : goal.returns-in-None
 returns-in-None t c =
     form-none c.args.text.now c.args.place c.args.of.now c.in-Named.name c.in-Named.at c.type_named.result c.in-Named.is
-      (c.type_named.ensures ∙ ap (λ l. type_before l c.args.place c.in-Named.name.name) c.requires.types) c.in-None.is
+    (c.type_named.ensures ∙ ap (λ l. type_before l c.args.place c.in-Named.name.name) c.requires.types) c.in-None.is
 
 pub returns-in-Some : goal.returns-in-Some
 returns-in-Some t c =
     form-Named c.args.text.now c.args.place c.args.forms.now c.args.of.now c.in-Named.name c.in-Named.at c.in-Some.found c.type_named.result c.form_at.result c.requires.forms c.in-Named.is
-      (c.type_named.ensures ∙ ap (λ l. type_before l c.args.place c.in-Named.name.name) c.requires.types) c.in-Some.is c.form_at.ensures
+    (c.type_named.ensures ∙ ap (λ l. type_before l c.args.place c.in-Named.name.name) c.requires.types) c.in-Some.is c.form_at.ensures
 
 pub returns-in-Array : goal.returns-in-Array
 returns-in-Array t c =
     form-Array c.args.text.now c.args.place c.args.of.now c.in-Array.index c.in-Array.of c.get-in-Array.result c.get.result.now c.form_of.result c.kind_of_form.result c.in-Array.is
-      c.get.ensures c.get-in-Array.ensures c.form_of.ensures c.kind_of_form.ensures
+    c.get.ensures c.get-in-Array.ensures c.form_of.ensures c.kind_of_form.ensures
 
 pub returns-in-Struct : goal.returns-in-Struct
 returns-in-Struct t c = form-Struct c.args.text.now c.args.place c.args.of.now c.in-Struct.fields c.as_slice-in-Struct.result c.in-Struct.is c.as_slice-in-Struct.ensures
