@@ -1,16 +1,15 @@
 -- The arguments of instances.
 use Rattle.std.proofs.Common.{◌≡◌, ℕ, suc, ◌+◌, ◌<◌, ◌≤◌, List, [], ◌∷◌, ◌++◌, map, length, get_or, drop, drop-cons, refl, ap, ◌∙◌, sym, arith}
-use Rattle.std.specs.Prelude.{Option, Some, None, zip}
+use Rattle.std.specs.Prelude.{zip}
 use Rattle.std.specs.List.{flat_map}
 use Rattle.std.proofs.lemmas.List.{append-nil, append_assoc}
 use Rattle.smv_core.specs.Walk.{indexes_of}
 use Rattle.smv_core.specs.declared.fault.Fault.{Fault}
 use Rattle.smv_core.specs.declared.tree.Word.{Word}
 use Rattle.smv_core.specs.declared.tree.Path.{Path, out-Path}
-use Rattle.smv_core.specs.declared.tree.Expr.{Expr, Signal, Signal', Row_of-Part, end_of-Part, items-the_row-Part, items_hidden-the_row-Part-0}
+use Rattle.smv_core.specs.declared.tree.Expr.{Expr, Signal, Signal', Row_of-Part, end_of-Part, items_hidden-the_row-Part-0}
 use mathlib.Core.Former.{Count}
-use Rattle.smv_types.specs.Kinds.{Kind, Operand}
-use Rattle.smv_types.specs.Types.{Whole}
+use Rattle.smv_types.specs.Kinds.{Kind}
 use Rattle.smv_types.specs.References.{Scope, Vars, signal_at, reference}
 use Rattle.smv_types.specs.Operands.{operand, target}
 use Rattle.smv_types.specs.KindFaults.{given, gives}

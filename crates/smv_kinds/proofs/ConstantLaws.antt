@@ -1,15 +1,14 @@
 -- Which indexes can be worked out from the text alone.
-use Rattle.std.proofs.Common.{◌≡◌, ℕ, Bool, true, false, ◌&&◌, List, [], ◌∷◌, ◌++◌, refl, ap, ◌∙◌, sym}
-use Rattle.std.specs.Prelude.{Option, Some, None}
+use Rattle.std.proofs.Common.{◌≡◌, ℕ, Bool, true, false, ◌&&◌, List, [], ◌∷◌, refl, ap, ◌∙◌}
+use Rattle.std.specs.Prelude.{Option}
 use Rattle.std.specs.List.{list_all}
 use Rattle.smv_core.specs.Values.{Name}
-use Rattle.smv_core.specs.Walk.{indexes_of}
 use Rattle.smv_core.specs.Assignments.{Index, fixed, bare, computed, index_of, index_of_sum, index_of_path, modulo_fixed, add_fixed}
 use Rattle.smv_core.specs.Outcome.{fields_of}
 use Rattle.smv_core.specs.declared.tree.Word.{Word}
 use Rattle.smv_core.specs.declared.tree.TypeExpr.{TypeExpr}
 use Rattle.smv_core.specs.declared.tree.Op.{Op}
-use Rattle.smv_core.specs.declared.tree.Path.{Path, out-Path}
+use Rattle.smv_core.specs.declared.tree.Path.{Path}
 use Rattle.smv_core.specs.declared.tree.Part.{Part, Field, At}
 use Rattle.smv_core.specs.declared.tree.Signed.{Signed, out-Signed}
 use Rattle.smv_core.specs.declared.tree.Member.{Member}

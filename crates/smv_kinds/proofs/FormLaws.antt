@@ -1,5 +1,5 @@
 -- What types lead to, on types that are made of lists and values.
-use Rattle.std.proofs.Common.{◌≡◌, ℕ, ◌<◌, List, [], ◌∷◌, Bool, true, false, cond, length, refl, ap, sym, ◌∙◌, Bor}
+use Rattle.std.proofs.Common.{◌≡◌, ℕ, List, [], ◌∷◌, Bool, true, false, cond, refl, ap, sym, ◌∙◌, Bor}
 use Rattle.std.specs.Prelude.{Option, Some, None, option_map, option_and_then, slice_get}
 use Rattle.smv_core.specs.Types.{find_name, names_of}
 use Rattle.smv_core.specs.declared.tree.Word.{Word}
@@ -12,7 +12,7 @@ use Rattle.smv_core.specs.declared.tree.TypeExpr.{TypeExpr, Boolean, Range, Enum
 use mathlib.Core.Former.{Count}
 use Rattle.smv_inst.specs.Scopes.{has_name}
 use Rattle.smv_scope.specs.Numbered.{field_named}
-use Rattle.smv_types.specs.Kinds.{Kind, number, enumeration}
+use Rattle.smv_types.specs.Kinds.{number, enumeration}
 use Rattle.smv_types.specs.Types.{Types, Leads, Whole, single, under, value_kind, leads, leads_field}
 use Rattle.smv_kinds.specs.declared.kinds.ValueKind.{ValueKind}
 use Rattle.smv_kinds.specs.declared.kinds.ValueKind.TheVariants as kind

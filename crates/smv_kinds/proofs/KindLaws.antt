@@ -7,7 +7,7 @@ use Rattle.smv_inst.specs.FirstFault.{faults_at}
 use Rattle.smv_core.specs.declared.fault.Fault.{Fault}
 use Rattle.smv_core.specs.declared.tree.Part.{Part, Field, At}
 use Rattle.smv_core.specs.Walk.{indexes_of}
-use Rattle.smv_types.specs.Kinds.{Kind, number, enumeration, set_type, no_kind, joins, joined, is_number, accepts, has_order, Operand, unless, takes_number, takes, alike_with, kind_with, stray_set}
+use Rattle.smv_types.specs.Kinds.{Kind, number, enumeration, set_type, no_kind, joins, joined, is_number, accepts, Operand, unless, takes_number, takes, alike_with, kind_with, stray_set}
 use Rattle.smv_types.specs.Types.{Whole}
 use Rattle.smv_types.specs.References.{Scope, Vars, reference}
 use Rattle.smv_types.specs.Operands.{operand}

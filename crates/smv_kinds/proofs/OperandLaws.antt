@@ -7,12 +7,12 @@ use Rattle.smv_core.specs.declared.tree.Op.{Op}
 use Rattle.smv_core.specs.declared.tree.Op.TheVariants.{Equal, Differ, Less, AtMost, Greater, AtLeast}
 use Rattle.smv_core.specs.declared.tree.Path.{Path, out-Path}
 use Rattle.smv_core.specs.declared.tree.Part.{Field, At}
-use Rattle.smv_core.specs.declared.tree.Signed.{Signed, out-Signed}
+use Rattle.smv_core.specs.declared.tree.Signed.{Signed}
 use Rattle.smv_core.specs.declared.tree.Member.{Member, One, Span as SpanOf}
 use Rattle.smv_core.specs.declared.tree.Expr.{Expr, Number, Signal, Signal', Not, And, And', Or, Or', Implies, Implies', Iff, Compare, Within, Sum, Sum', Modulo, Choose, All, Any, List as ListOf, List', Each, Held-Expr-Each-2}
 use Rattle.smv_core.specs.declared.tree.Expr.{Row_of-Expr, end_of-Expr, more_of-Expr, Row_of-Part, end_of-Part, more_of-Part, Row_of-Member, end_of-Member, more_of-Member, Row_of-Signed, end_of-Signed, more_of-Signed}
 use Rattle.smv_core.specs.declared.tree.Expr.{items-the_row-Part, items-the_row-Expr, items-the_row-Member, items-the_row-Signed, items_hidden-the_row-Part-0, items_hidden-the_row-Expr-2, items_hidden-the_row-Member-4, items_hidden-the_row-Signed-3}
-use Rattle.std.specs.Prelude.{Option, Some, None, nat_eq}
+use Rattle.std.specs.Prelude.{Option, nat_eq}
 use mathlib.Core.Former.{Count}
 use Rattle.std.specs.List.{flat_map}
 use Rattle.std.proofs.lemmas.List.{append-nil, append_assoc}

@@ -1,7 +1,6 @@
 -- The names of a module, as its top says them.
 use Rattle.std.proofs.Common.{◌≡◌, ℕ, zero, suc, List, [], ◌∷◌, refl, ap, sym, ◌∙◌}
-use Rattle.std.specs.Prelude.{Option, Some, None, slice_get}
-use Rattle.std.specs.List.{flat_map}
+use Rattle.std.specs.Prelude.{Option, Some, slice_get}
 use Rattle.std.specs.Option.{option_map_or}
 use Rattle.smv_core.specs.Values.{Name}
 use Rattle.smv_core.specs.Types.{find_name}

@@ -1,5 +1,5 @@
 -- Types and modules by the numbers of their tops.
-use Rattle.std.proofs.Common.{◌≡◌, ℕ, zero, suc, ◌+◌, ◌<◌, ◌≤◌, List, [], ◌∷◌, ◌++◌, map, length, take, min, Bool, true, false, cond, refl, ap, sym, ◌∙◌, arith, rules}
+use Rattle.std.proofs.Common.{◌≡◌, ℕ, zero, suc, ◌+◌, ◌<◌, List, [], ◌∷◌, ◌++◌, length, take, Bool, true, false, cond, refl, ap, sym, ◌∙◌, arith}
 use Rattle.std.specs.Prelude.{Option, Some, None, option_map, option_and_then, slice_get, nat_lt}
 use Rattle.std.specs.Str.{bytes_eq}
 use Rattle.std.proofs.lemmas.Bool.Decides.{nat_tests}
@@ -9,8 +9,7 @@ use Rattle.smv_core.specs.declared.tree.Text.{Text}
 use Rattle.smv_core.specs.declared.tree.Top.{Top}
 use Rattle.smv_core.specs.declared.tree.Top.TheVariants.{SetType, Alias, Module as ModuleOf}
 use Rattle.smv_core.specs.declared.tree.Part.{Part}
-use Rattle.smv_types.specs.Types.{Types, Leads, Whole, leads, types_after}
-use Rattle.smv_types.specs.References.{Module, module_of, modules_from}
+use Rattle.smv_types.specs.Types.{Types, Leads, Whole, types_after}
 use Rattle.smv_kinds.specs.Forms.{types_from, types_before, top_leads, leads_at, types_in, modules_in, type_before}
 
 pub types-step : (n : ℕ) (top : Top) (tops : List Top) → types_in n (top ∷ tops) ≡ types_in n (top ∷ []) ++ types_in (n + 1) tops

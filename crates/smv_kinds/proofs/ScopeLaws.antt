@@ -1,5 +1,5 @@
 -- Where something stands, by the tops of a text.
-use Rattle.std.proofs.Common.{◌≡◌, ℕ, zero, suc, ◌+◌, ◌≤◌, List, [], ◌∷◌, ◌++◌, map, take, drop, length, get_or, Bool, true, false, cond, Bor, refl, ap, sym, ◌∙◌, arith}
+use Rattle.std.proofs.Common.{◌≡◌, ℕ, suc, ◌+◌, ◌≤◌, List, [], ◌∷◌, map, take, drop, length, get_or, Bool, true, false, cond, Bor, refl, ap, sym, ◌∙◌, arith}
 use Rattle.std.specs.Prelude.{Option, Some, None, option_map, option_and_then, slice_get}
 use Rattle.std.specs.Str.{bytes_eq}
 use Rattle.smv_core.specs.Values.{Name}

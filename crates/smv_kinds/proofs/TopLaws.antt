@@ -1,5 +1,5 @@
 -- The faults of a text's tops, one after the other, and the first of them.
-use Rattle.std.proofs.Common.{◌≡◌, ℕ, zero, suc, ◌+◌, ◌<◌, List, [], ◌∷◌, ◌++◌, take, drop, length, Bool, true, false, cond, refl, ap, sym, ◌∙◌, arith, add-one}
+use Rattle.std.proofs.Common.{◌≡◌, ℕ, zero, suc, ◌+◌, List, [], ◌∷◌, ◌++◌, take, drop, refl, ap, sym, ◌∙◌, add-one}
 use Rattle.std.specs.Prelude.{Option, Some, None, slice_get}
 use Rattle.std.specs.List.{flat_map}
 use Rattle.std.proofs.lemmas.List.{append_assoc}
@@ -11,7 +11,7 @@ use Rattle.smv_core.specs.declared.tree.TypeExpr.{TypeExpr}
 use Rattle.smv_core.specs.declared.tree.Top.{Top}
 use Rattle.smv_core.specs.declared.tree.Top.TheVariants.{SetType, Alias, Module as ModuleOf}
 use Rattle.smv_inst.specs.Scopes.{Constant, pieces, constants}
-use Rattle.smv_inst.specs.FirstFault.{earlier, first_of}
+use Rattle.smv_inst.specs.FirstFault.{first_of}
 use Rattle.smv_scope.specs.ScopeFault.{earlier_of}
 use Rattle.smv_scope.proofs.FirstLaws.{earlier-assoc}
 use Rattle.smv_types.specs.Types.{Types, types_after, type_faults}

@@ -13,12 +13,12 @@ use Rattle.smv_inst.specs.FirstFault.{faults_at}
 use Rattle.smv_scope.specs.Numbered.{field_named}
 use Rattle.smv_scope.specs.Held.{AreTables}
 use Rattle.smv_types.specs.Kinds.{Kind, number, enumeration, set_type, no_kind}
-use Rattle.smv_types.specs.Types.{Types, Leads, Whole, single, under, leads, types_after}
+use Rattle.smv_types.specs.Types.{Types, Leads, single, under, leads, types_after}
 use Rattle.smv_types.specs.References.{Module, module_of}
 use Rattle.smv_kinds.specs.declared.kinds.ValueKind.{ValueKind}
 use Rattle.smv_kinds.specs.declared.kinds.ValueKind.TheVariants.{Number, Enumeration, SetType, Unknown}
 use Rattle.smv_kinds.specs.declared.tables.Form.{Form}
-use Rattle.smv_kinds.specs.declared.tables.Form.TheVariants.{Single, Array, Struct, Nothing}
+use Rattle.smv_kinds.specs.declared.tables.Form.TheVariants.{Single, Array, Struct}
 use Rattle.smv_kinds.specs.declared.tables.Tables.{Tables}
 
 -- a kind

@@ -1,14 +1,10 @@
 -- What the program finds of kinds, as the definitions speak of it.
-use Rattle.std.specs.Prelude.{◌≡◌, ℕ, List, [], ◌∷◌, ◌++◌, map, take, slice_get, Option, Some, None, option_map, not, Bool, true, unwrap_or}
+use Rattle.std.specs.Prelude.{ℕ, List, [], ◌∷◌, ◌++◌, map, slice_get, Option, Some, None, option_map, Bool, true, unwrap_or}
 use Rattle.std.proofs.Common.{Bor}
-use Rattle.smv_core.specs.Values.{Name}
-use Rattle.smv_core.specs.Types.{names_of}
 use Rattle.smv_core.specs.Assignments.{index_of}
 use Rattle.smv_core.specs.declared.tree.Word.{Word}
 use Rattle.smv_core.specs.declared.fault.Fault.{Fault}
 use Rattle.smv_core.specs.declared.tree.Text.{Text}
-use Rattle.smv_core.specs.declared.tree.Top.{Top}
-use Rattle.smv_core.specs.declared.tree.Top.TheVariants.{Module as ModuleOf}
 use Rattle.smv_core.specs.declared.tree.Op.{Op}
 use Rattle.smv_core.specs.declared.tree.Op.TheVariants.{Equal, Differ}
 use Rattle.smv_core.specs.declared.tree.Part.{Part, Field, At}
@@ -18,8 +14,8 @@ use Rattle.smv_core.specs.declared.tree.Member.{Member, One, Span as SpanOf}
 use Rattle.smv_inst.specs.Scopes.{pieces, constants}
 use Rattle.smv_inst.specs.NameFaults.{place_if}
 use Rattle.smv_inst.specs.FirstFault.{faults_at}
-use Rattle.smv_types.specs.Kinds.{Kind, number, enumeration, set_type, no_kind, Operand, takes, number_at, has_order, first_at}
-use Rattle.smv_types.specs.Types.{Types, Whole, Leads, is_reversed, types_after}
+use Rattle.smv_types.specs.Kinds.{Kind, Operand, takes, number_at, has_order, first_at}
+use Rattle.smv_types.specs.Types.{Whole, Leads, is_reversed}
 use Rattle.smv_types.specs.References.{modules_from, Scope, Vars, behind}
 use Rattle.smv_types.specs.Operands.{operand, value}
 use Rattle.smv_core.specs.declared.tree.Arm.{Arm, out-Arm}

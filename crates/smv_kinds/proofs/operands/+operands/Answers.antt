@@ -1,5 +1,4 @@
 use Rattle.std.proofs.Common.{map, ap, sym, ◌∙◌}
-use Rattle.std.specs.Prelude.{None}
 use Rattle.smv_types.specs.Kinds.{Operand}
 use Rattle.smv_core.specs.declared.tree.Expr.{Expr}
 use Rattle.smv_types.specs.Operands.{operand}

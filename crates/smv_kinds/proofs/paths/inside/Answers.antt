@@ -1,9 +1,9 @@
-use Rattle.std.proofs.Common.{◌≡◌, ap, sym, ◌∙◌}
-use Rattle.std.specs.Prelude.{None, Some, option_map}
+use Rattle.std.proofs.Common.{ap, sym, ◌∙◌}
+use Rattle.std.specs.Prelude.{option_map}
 use Rattle.std.specs.Option.{option_copied}
 use Rattle.smv_core.specs.Types.{find_name}
 use Rattle.smv_scope.specs.Held.{own_of}
-use Rattle.smv_kinds.specs.Forms.{types_before, modules_in}
+use Rattle.smv_kinds.specs.Forms.{types_before}
 use Rattle.smv_kinds.proofs.ScopeLaws.{inside-no-module, inside-no-name, inside-name}
 use Rattle.smv_kinds.proofs.paths.inside.Goals as goal
 
