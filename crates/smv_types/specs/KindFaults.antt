@@ -34,7 +34,7 @@ abbrev pub assigned : Operand → Operand → List Fault
 assigned left right = left.faults ++ takes left.kind right
 
 module _ (scope : Scope) where
-  abbrev mutual
+  unfoldable mutual
     -- the faults in a statement
     pub in_stmt : Vars → Stmt → List Fault
     in_stmt vars (Assign kind left right at) = assigned (target scope vars left) (value scope vars right)
@@ -107,7 +107,7 @@ module _ (scope : Scope) where
 
   -- ---- items
 
-  abbrev mutual
+  unfoldable mutual
     -- The faults in an item. A claim is a number. The kinds of a split's expressions are compared with its parameters later.
     pub in_item : Vars → Item → List Fault
     in_item vars (Declare role words of at) = flat_map (formal_faults scope.here.types role of) words ++ type_faults scope.here.types of

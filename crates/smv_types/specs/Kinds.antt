@@ -17,7 +17,7 @@ pub data Kind : Type 0 where
   no_kind : Kind
 
 -- Two kinds that may stand side by side: equal ones. A number beside a value of a set type is left to the rules of set types.
-abbrev pub joins : Kind → Kind → Bool
+unfoldable pub joins : Kind → Kind → Bool
 joins no_kind _ = true
 joins _ no_kind = true
 joins number number = true
@@ -28,22 +28,22 @@ joins (enumeration a) (enumeration b) = same_path a b
 joins _ _ = false
 
 -- the kind of two together: the left one's, but that of the set type where a number meets one
-abbrev pub joined : Kind → Kind → Kind
+unfoldable pub joined : Kind → Kind → Kind
 joined no_kind kind = kind
 joined number (set_type name) = set_type name
 joined kind _ = kind
 
 -- What is of the first kind, a target or an index type, takes a value of the second. A number for a set type is left to the rules of set types.
-abbrev pub accepts : Kind → Kind → Bool
+unfoldable pub accepts : Kind → Kind → Bool
 accepts number (set_type name) = false
 accepts target kind = joins target kind
 
 -- it may stand where a number is wanted
-abbrev pub is_number : Kind → Bool
+unfoldable pub is_number : Kind → Bool
 is_number kind = accepts number kind
 
 -- it may stand beside an order; which set types have one is left to the rules of set types
-abbrev pub has_order : Kind → Bool
+unfoldable pub has_order : Kind → Bool
 has_order (enumeration names) = false
 has_order _ = true
 
@@ -56,19 +56,19 @@ pub record Operand : Type 0 where
   pub faults : List Fault
 
 -- fault 12 at an operand that does not fit
-abbrev pub unless : Bool → Operand → List Fault
+unfoldable pub unless : Bool → Operand → List Fault
 unless fits e = faults_at (12, place_if (not fits) e.at)
 
 -- logic, arithmetic and conditions take numbers
-abbrev pub takes_number : Operand → List Fault
+unfoldable pub takes_number : Operand → List Fault
 takes_number e = e.faults ++ unless (is_number e.kind) e
 
 -- an assignment's value has the target's kind, and an index has its type's
-abbrev pub takes : Kind → Operand → List Fault
+unfoldable pub takes : Kind → Operand → List Fault
 takes kind e = e.faults ++ unless (accepts kind e.kind) e
 
 -- sides, members, labels and branches have one kind, from left to right: each fits those before it
-abbrev pub alike_with : Kind → List Operand → List Fault
+unfoldable pub alike_with : Kind → List Operand → List Fault
 alike_with kind [] = []
 alike_with kind (e ∷ more) = e.faults ++ unless (joins kind e.kind) e ++ alike_with (joined kind e.kind) more
 
@@ -76,7 +76,7 @@ abbrev pub alike : List Operand → List Fault
 alike es = alike_with no_kind es
 
 -- the kind of some members or branches
-abbrev pub kind_with : Kind → List Operand → Kind
+unfoldable pub kind_with : Kind → List Operand → Kind
 kind_with kind [] = kind
 kind_with kind (e ∷ more) = kind_with (joined kind e.kind) more
 

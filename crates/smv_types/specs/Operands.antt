@@ -35,7 +35,7 @@ module _ (scope : Scope) where
   abbrev pub reduced : ℕ → Operand → TypeExpr → Operand
   reduced at body over = number_at at (takes_number body ++ index_faults scope.here.types over)
 
-  abbrev mutual
+  unfoldable mutual
     -- an expression where no set may stand
     pub operand : Vars → Expr → Operand
     operand vars (Number value at) = number_at at []
@@ -87,7 +87,7 @@ module _ (scope : Scope) where
   condition_faults vars (Some' shape (more_of-Expr cond end_of-Expr)) = takes_number (operand vars cond)
 
   -- the value of an assignment: a set may stand there, also as a branch of `?:`
-  abbrev pub value : Vars → Expr → Operand
+  unfoldable pub value : Vars → Expr → Operand
   value vars (List' shape parts at) = listed at (members vars parts)
   value vars (Each' var over cond at) =
       record { kind = index_kind scope.here.types over; at = at; faults = index_faults scope.here.types over ++ condition_faults (bind vars var over) cond }

@@ -74,6 +74,6 @@ module _ (scope : Scope) where
 -- ---- operands
 
 -- A reference is whole, and leads to a single value: else fault 12 stands at it. Each index fits its type.
-abbrev pub reference : ℕ → Option Whole → List Operand → Operand
+unfoldable pub reference : ℕ → Option Whole → List Operand → Operand
 reference at None indexes = record { kind = no_kind; at = at; faults = faults_at (12, at ∷ []) ++ flat_map (λ (e : Operand). e.faults) indexes }
 reference at (Some w) indexes = record { kind = w.value; at = at; faults = flat_map (λ (kind, e). takes kind e) (zip w.over indexes) }

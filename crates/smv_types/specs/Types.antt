@@ -46,7 +46,7 @@ abbrev pub Types : Type 0
 Types = List (Name × Leads)
 
 module _ (types : Types) where
-  abbrev mutual
+  unfoldable mutual
     -- what stands behind a signal of a type
     pub leads : TypeExpr → Leads
     leads Boolean parts = single number parts
@@ -95,12 +95,12 @@ is_index _ = false
 
 module _ (types : Types) where
   -- fault 12 at the name of a type that is no index type, and fault 13 in a range
-  abbrev pub index_faults : TypeExpr → List Fault
+  unfoldable pub index_faults : TypeExpr → List Fault
   index_faults (Range span at) = range_faults span at
   index_faults (Named word at) = faults_at (12, place_if (not (is_index (index_kind types (Named word at)))) at)
   index_faults _ = []
 
-  abbrev mutual
+  unfoldable mutual
     -- the faults in a type
     pub type_faults : TypeExpr → List Fault
     type_faults (Range span at) = range_faults span at

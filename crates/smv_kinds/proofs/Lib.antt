@@ -1,0 +1,15 @@
+pub mod Computing
+pub mod KindLaws
+pub mod TypeLaws
+pub mod OperandLaws
+pub mod ValueLaws
+pub mod StatementLaws
+pub mod ConstantLaws
+pub mod ArgumentLaws
+pub mod ItemLaws
+pub mod PlaceLaws
+pub mod FormLaws
+pub mod PathLaws
+pub mod TopLaws
+pub mod OwnLaws
+pub mod ScopeLaws

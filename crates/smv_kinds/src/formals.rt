@@ -1,0 +1,55 @@
+// The formals of modules.
+ghost use Rattle.std.specs.Prelude.{◌≡◌, Some, IfOk};
+ghost use Rattle.smv_core.specs.Types.{find_name};
+ghost use Rattle.smv_core.specs.declared.tree.Expr.{Expr};
+ghost use Rattle.smv_inst.specs.Mentions.{signal};
+ghost use Rattle.smv_types.specs.References as references;
+ghost use Rattle.smv_types.specs.KindFaults.{connected};
+ghost use Rattle.smv_kinds.specs.Forms.{AreKindTables};
+ghost use Rattle.smv_kinds.specs.Found.{scope_of, argument_faults};
+
+use crate::lookups::{Formal, Scope};
+use crate::paths::own_in;
+use crate::types::index_kind;
+use smv_core::name::Name;
+use smv_core::tree::{Role, TypeExpr};
+use smv_inst::mentions::What;
+use std::alloc::AllocError;
+
+/// A formal of a module.
+pub fn formal_named<'a>(name: &Name, scope: &Scope<'a, '_>) -> Result<Formal<'a>, AllocError>
+    requires { AreKindTables scope.now.tables.now }
+    ensures { IfOk result (λ formal. (from : references.Scope) (e : Expr) → connected from (scope_of scope.now).here.types (find_name (scope_of scope.now).here.own name.now) e ≡ argument_faults from formal e) }
+{
+    match own_in(name, scope.tables, scope.place) {
+        None => Ok(Formal::Other),
+        Some(own) => match own.what {
+            What::Signal { role, of } => formal_of(role, of, scope),
+            What::Instance { .. } => Ok(Formal::Other),
+            What::Goal => Ok(Formal::Other),
+        },
+    }
+}
+
+// A signal of a role and a type, as a formal.
+fn formal_of<'a>(
+    role: Role,
+    of: &'a TypeExpr,
+    scope: &Scope<'a, '_>,
+) -> Result<Formal<'a>, AllocError>
+    requires { AreKindTables scope.now.tables.now }
+    ensures { IfOk result (λ formal. (from : references.Scope) (e : Expr) → connected from (scope_of scope.now).here.types (Some (record { at = 0; what = signal role of.now })) e ≡ argument_faults from formal e) }
+{
+    match role {
+        Role::Input => {
+            let kind = index_kind(of, scope)?;
+            Ok(Formal::Input { kind })
+        }
+        Role::Output => {
+            let kind = index_kind(of, scope)?;
+            Ok(Formal::Output { kind })
+        }
+        Role::Plain => Ok(Formal::Other),
+        Role::Abstract => Ok(Formal::Other),
+    }
+}
