@@ -3,6 +3,7 @@
 
 pub mod arguments;
 pub mod faults;
+pub mod fields;
 pub mod formals;
 pub mod items;
 pub mod kinds;

@@ -14,12 +14,12 @@ ghost use Rattle.smv_types.specs.References.{modules_from};
 ghost use Rattle.smv_kinds.specs.Forms.{kind_of, form_leads, types_before, module_in, AreKindTables};
 ghost use Rattle.smv_kinds.specs.Found.{whole_of, behind_over, reached_leads, inner_leads, whole_in};
 
+use crate::fields::field_named;
 use crate::kinds::ValueKind;
 use crate::tables::{Form, Tables, form_of};
 use smv_core::name::Name;
 use smv_core::tree::{Part, Top, TypeExpr, Word};
 use smv_inst::mentions::What;
-use smv_scope::fields::field_named;
 use smv_scope::paths::Inner;
 use smv_scope::tables::{Own, item_at, own_name};
 use std::alloc::{AllocError, Global};

@@ -26,7 +26,7 @@ fn has_name(words: &[Word], name: &Name) -> bool
 }
 
 // The first field of a name.
-pub fn field_named<'a>(fields: &'a [Field], name: &Name) -> Option<&'a Field>
+fn field_named<'a>(fields: &'a [Field], name: &Name) -> Option<&'a Field>
     ensures { option_map (λ field. field.now) result ≡ spec.field_named fields.now name.now }
 {
     for field in fields {
