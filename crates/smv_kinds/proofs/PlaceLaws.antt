@@ -56,18 +56,18 @@ type_place (SetType word ordered span at ∷ tops) name = cond (bytes_eq word.na
 type_place (Alias word of at ∷ tops) name = cond (bytes_eq word.name name) (Some 0) (option_map suc (type_place tops name))
 type_place (ModuleOf word formals body at ∷ tops) name = option_map suc (type_place tops name)
 
-abbrev from : ℕ → Option ℕ → Option ℕ
+abbrev pub from : ℕ → Option ℕ → Option ℕ
 from n o = option_map (λ i. n + i) o
 
-from-suc : (n : ℕ) (o : Option ℕ) → from (n + 1) o ≡ from n (option_map suc o)
+pub from-suc : (n : ℕ) (o : Option ℕ) → from (n + 1) o ≡ from n (option_map suc o)
 from-suc n None = refl
 from-suc n (Some i) = ap Some (omega arith)
 
-from-zero : (o : Option ℕ) → from 0 o ≡ o
+pub from-zero : (o : Option ℕ) → from 0 o ≡ o
 from-zero None = refl
 from-zero (Some i) = ap Some (omega arith)
 
-here-or : (n : ℕ) (b : Bool) (o p : Option ℕ) → o ≡ from n p → cond b (Some n) o ≡ from n (cond b (Some 0) p)
+pub here-or : (n : ℕ) (b : Bool) (o p : Option ℕ) → o ≡ from n p → cond b (Some n) o ≡ from n (cond b (Some 0) p)
 here-or n true o p e = ap Some (omega arith)
 here-or n false o p e = e
 

@@ -25,6 +25,7 @@ use Rattle.smv_kinds.specs.Forms.{kind_of, types_from, types_before, module_in, 
 use Rattle.smv_kinds.specs.Found.{scope_of, moved, whole_in, lone, inner_leads}
 use Rattle.smv_kinds.proofs.TopLaws.{here-types, module-types}
 use Rattle.smv_kinds.proofs.PathLaws.{uncons}
+use Rattle.smv_kinds.proofs.PlaceLaws.{from, from-suc, from-zero, here-or}
 
 pub ruleset here = (here-types)
 
@@ -65,21 +66,6 @@ module_place [] name = None
 module_place (SetType word ordered span at ∷ tops) name = option_map suc (module_place tops name)
 module_place (Alias word of at ∷ tops) name = option_map suc (module_place tops name)
 module_place (ModuleOf word formals body at ∷ tops) name = cond (bytes_eq word.name name) (Some 0) (option_map suc (module_place tops name))
-
-abbrev from : ℕ → Option ℕ → Option ℕ
-from n o = option_map (λ i. n + i) o
-
-from-suc : (n : ℕ) (o : Option ℕ) → from (n + 1) o ≡ from n (option_map suc o)
-from-suc n None = refl
-from-suc n (Some i) = ap Some (omega arith)
-
-from-zero : (o : Option ℕ) → from 0 o ≡ o
-from-zero None = refl
-from-zero (Some i) = ap Some (omega arith)
-
-here-or : (n : ℕ) (b : Bool) (o p : Option ℕ) → o ≡ from n p → cond b (Some n) o ≡ from n (cond b (Some 0) p)
-here-or n true o p e = ap Some (omega arith)
-here-or n false o p e = e
 
 module-found : (n : ℕ) (tops : List Top) (name : Name) → find_name (modules_in n tops) name ≡ from n (module_place tops name)
 module-found n [] name = refl

@@ -196,7 +196,7 @@ fn connected<'a>(
     match formals {
         [] => Ok(()),
         [word, ..] => {
-            let formal = formal_named(&word.name, inner)?;
+            let formal = formal_named(&word.name, inner);
             argument(x, scope, alloc, out, formal)
         }
     }
@@ -246,14 +246,14 @@ pub fn arguments<'a>(
     requires { AreKindTables scope.now.tables.now }
     ensures { OnOk result (out.new.items ≡ out.old.items ++ spec.in_arguments (scope_of scope.now) (find_name (scope_of scope.now).modules name.now.name) args.now) }
 {
-    match module_named(&name.name, scope)? {
+    match module_named(&name.name, scope) {
         None => Ok(()),
         Some(place) => {
             let inner = Scope {
                 tables: scope.tables,
                 place,
             };
-            let formals = formals_of(&inner)?;
+            let formals = formals_of(&inner);
             all_connected(args, scope, alloc, out, &inner, formals)
         }
     }

@@ -1,5 +1,5 @@
 // The formals of modules.
-ghost use Rattle.std.specs.Prelude.{◌≡◌, Some, IfOk};
+ghost use Rattle.std.specs.Prelude.{◌≡◌, Some};
 ghost use Rattle.smv_core.specs.Types.{find_name};
 ghost use Rattle.smv_core.specs.declared.tree.Expr.{Expr};
 ghost use Rattle.smv_inst.specs.Mentions.{signal};
@@ -14,42 +14,37 @@ use crate::types::index_kind;
 use smv_core::name::Name;
 use smv_core::tree::{Role, TypeExpr};
 use smv_inst::mentions::What;
-use std::alloc::AllocError;
 
 /// A formal of a module.
-pub fn formal_named<'a>(name: &Name, scope: &Scope<'a, '_>) -> Result<Formal<'a>, AllocError>
+pub fn formal_named<'a>(name: &Name, scope: &Scope<'a, '_>) -> Formal<'a>
     requires { AreKindTables scope.now.tables.now }
-    ensures { IfOk result (λ formal. (from : references.Scope) (e : Expr) → connected from (scope_of scope.now).here.types (find_name (scope_of scope.now).here.own name.now) e ≡ argument_faults from formal e) }
+    ensures { (from : references.Scope) (e : Expr) → connected from (scope_of scope.now).here.types (find_name (scope_of scope.now).here.own name.now) e ≡ argument_faults from result e }
 {
     match own_in(name, scope.tables, scope.place) {
-        None => Ok(Formal::Other),
+        None => Formal::Other,
         Some(own) => match own.what {
             What::Signal { role, of } => formal_of(role, of, scope),
-            What::Instance { .. } => Ok(Formal::Other),
-            What::Goal => Ok(Formal::Other),
+            What::Instance { .. } => Formal::Other,
+            What::Goal => Formal::Other,
         },
     }
 }
 
 // A signal of a role and a type, as a formal.
-fn formal_of<'a>(
-    role: Role,
-    of: &'a TypeExpr,
-    scope: &Scope<'a, '_>,
-) -> Result<Formal<'a>, AllocError>
+fn formal_of<'a>(role: Role, of: &'a TypeExpr, scope: &Scope<'a, '_>) -> Formal<'a>
     requires { AreKindTables scope.now.tables.now }
-    ensures { IfOk result (λ formal. (from : references.Scope) (e : Expr) → connected from (scope_of scope.now).here.types (Some (record { at = 0; what = signal role of.now })) e ≡ argument_faults from formal e) }
+    ensures { (from : references.Scope) (e : Expr) → connected from (scope_of scope.now).here.types (Some (record { at = 0; what = signal role of.now })) e ≡ argument_faults from result e }
 {
     match role {
         Role::Input => {
-            let kind = index_kind(of, scope)?;
-            Ok(Formal::Input { kind })
+            let kind = index_kind(of, scope);
+            Formal::Input { kind }
         }
         Role::Output => {
-            let kind = index_kind(of, scope)?;
-            Ok(Formal::Output { kind })
+            let kind = index_kind(of, scope);
+            Formal::Output { kind }
         }
-        Role::Plain => Ok(Formal::Other),
-        Role::Abstract => Ok(Formal::Other),
+        Role::Plain => Formal::Other,
+        Role::Abstract => Formal::Other,
     }
 }

@@ -170,34 +170,31 @@ fn alone<'a>(form: Form<'a>) -> Option<ValueKind<'a>>
 
 /// The kind of a type of single values.
 #[tactic(auto, using(crate::proofs::ScopeLaws::here))]
-pub fn single_kind<'a>(
-    of: &'a TypeExpr,
-    scope: &Scope<'a, '_>,
-) -> Result<Option<ValueKind<'a>>, AllocError>
+pub fn single_kind<'a>(of: &'a TypeExpr, scope: &Scope<'a, '_>) -> Option<ValueKind<'a>>
     requires { AreKindTables scope.now.tables.now }
-    ensures { IfOk result (λ kind. option_map kind_of kind ≡ option_map (λ (w : types.Whole). w.value) (types.leads (scope_of scope.now).here.types of.now [])) }
+    ensures { option_map kind_of result ≡ option_map (λ (w : types.Whole). w.value) (types.leads (scope_of scope.now).here.types of.now []) }
 {
-    Ok(alone(form_in(of, scope.tables, scope.place)))
+    alone(form_in(of, scope.tables, scope.place))
 }
 
 /// The number of the top of the module of a name.
-pub fn module_named(name: &Name, scope: &Scope) -> Result<Option<usize>, AllocError>
+pub fn module_named(name: &Name, scope: &Scope) -> Option<usize>
     requires { AreKindTables scope.now.tables.now }
-    ensures { IfOk result (λ found. option_map (λ place. (scope_of (moved scope.now place)).here) found ≡ find_name (scope_of scope.now).modules name.now) }
+    ensures { option_map (λ place. (scope_of (moved scope.now place)).here) result ≡ find_name (scope_of scope.now).modules name.now }
 {
-    Ok(scope.tables.modules.find(name).copied())
+    scope.tables.modules.find(name).copied()
 }
 
 /// The formals of a module.
-pub fn formals_of<'a>(scope: &Scope<'a, '_>) -> Result<&'a [Word], AllocError>
+pub fn formals_of<'a>(scope: &Scope<'a, '_>) -> &'a [Word]
     requires { AreKindTables scope.now.tables.now }
-    ensures { IfOk result (λ formals. formals.now ≡ (scope_of scope.now).here.formals) }
+    ensures { result.now ≡ (scope_of scope.now).here.formals }
 {
     let tables = scope.tables;
     match item_at(tables.names.text.tops.as_slice(), scope.place) {
-        Some(Top::Module { formals, .. }) => Ok(formals.as_slice()),
-        Some(Top::SetType { .. }) => Ok(&[]),
-        Some(Top::Alias { .. }) => Ok(&[]),
-        None => Ok(&[]),
+        Some(Top::Module { formals, .. }) => formals.as_slice(),
+        Some(Top::SetType { .. }) => &[],
+        Some(Top::Alias { .. }) => &[],
+        None => &[],
     }
 }

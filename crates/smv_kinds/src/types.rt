@@ -15,13 +15,13 @@ use smv_core::tree::{Field, Span, TypeExpr, Word};
 use std::alloc::{AllocError, Global};
 
 /// The kind of an index of this type.
-pub fn index_kind<'a>(of: &'a TypeExpr, scope: &Scope<'a, '_>) -> Result<ValueKind<'a>, AllocError>
+pub fn index_kind<'a>(of: &'a TypeExpr, scope: &Scope<'a, '_>) -> ValueKind<'a>
     requires { AreKindTables scope.now.tables.now }
-    ensures { IfOk result (λ kind. kind_of kind ≡ spec.index_kind (scope_of scope.now).here.types of.now) }
+    ensures { kind_of result ≡ spec.index_kind (scope_of scope.now).here.types of.now }
 {
-    match single_kind(of, scope)? {
-        Some(kind) => Ok(kind),
-        None => Ok(ValueKind::Unknown),
+    match single_kind(of, scope) {
+        Some(kind) => kind,
+        None => ValueKind::Unknown,
     }
 }
 
@@ -55,7 +55,7 @@ pub fn bind<'a>(
     requires { AreKindTables scope.now.tables.now }
     ensures { IfOk result (λ inner. vars_of inner.items ≡ operands.bind (scope_of scope.now) (vars_of vars.now) var.now over.now) }
 {
-    let kind = index_kind(over, scope)?;
+    let kind = index_kind(over, scope);
     inside(alloc, vars, var, kind)
 }
 
@@ -91,7 +91,7 @@ pub fn index_faults<'a>(
         TypeExpr::Range { span, at } => range_faults(out, *span, *at),
         TypeExpr::Enum { .. } => Ok(()),
         TypeExpr::Named { at, .. } => {
-            let kind = index_kind(over, scope)?;
+            let kind = index_kind(over, scope);
             fault_if(out, !is_index(kind), 12, *at)
         }
         TypeExpr::Array { .. } => Ok(()),
@@ -151,7 +151,7 @@ pub fn formal_faults<'a>(
     requires { AreKindTables scope.now.tables.now }
     ensures { OnOk result (out.new.items ≡ out.old.items ++ flat_map (λ word. faults_at (12, place_if (is_none (spec.leads (scope_of scope.now).here.types of.now [])) word.at)) words.now) }
 {
-    let kind = single_kind(of, scope)?;
+    let kind = single_kind(of, scope);
     faults_unless(out, kind.is_some(), words)
 }
 

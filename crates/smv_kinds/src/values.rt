@@ -95,7 +95,7 @@ fn every_value<'a>(
     ensures faults { OnOk result (out.new.items ≡ out.old.items ++ types.index_faults (scope_of scope.now).here.types over.now) }
 {
     index_faults(over, scope, out)?;
-    let kind = index_kind(over, scope)?;
+    let kind = index_kind(over, scope);
     Ok(operand_at(kind, at))
 }
 

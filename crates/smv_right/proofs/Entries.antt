@@ -1,4 +1,5 @@
 -- Each statement and claim of a text without faults is right.
+use Rattle.smv_right.proofs.Opening.{opening}
 use Rattle.std.proofs.Common.{◌≡◌, ℕ, zero, suc, List, [], ◌∷◌, ◌++◌, map, flat_map, length, zip, Option, Some, None, option_and_then, unwrap_or, Bool, true, false, cond, refl, sym, ◌∙◌, subst}
 use Rattle.std.specs.List.{AllByRecursion, list_any}
 use Rattle.smv_core.specs.Values.{Name, Path}
@@ -44,11 +45,13 @@ use Rattle.smv_right.proofs.OwnFamilies.{own_in, role-same, own-family}
 use Rattle.smv_right.proofs.Modules.{IsModule, AreModules, AreFound, modules-found, modules-count}
 
 indexes-written : (m : _) (row : Row_of-Part m) → IndexesAreWritten row → AreWritten (indexes_of (items-the_row-Part m row))
+unfolding opening
 indexes-written m end_of-Part h = tt
 indexes-written m (more_of-Part (Field word) rest) h = indexes-written _ rest h
 indexes-written m (more_of-Part (At index) rest) h = (h.0, indexes-written _ rest h.1)
 
 chosen-fine : {X : Type 0} (b : Bool) (xs ys : List X) (y : X) → cond b xs (y ∷ ys) ≡ [] → xs ≡ []
+unfolding opening
 chosen-fine true xs ys y h = h
 chosen-fine false xs ys y h = absurd (cc (h))
 
@@ -85,6 +88,7 @@ module _ (text : Text) where
   EntryIsRightIn around _ = Unit {0}
 
   outside-right : (e : Entry) → EntryIsRightIn [] e → EntryIsRight text e
+  unfolding opening
   outside-right (layer name) h = tt
   outside-right (statement x) h = h
   outside-right (goal instance binders (claim word vars body at)) h = h
@@ -92,7 +96,7 @@ module _ (text : Text) where
   outside-right (goal instance binders (using uses proves at)) h = tt
 
   inside-right : (var : Word) (over : TypeExpr) → IsIndexType over → (around : Around) (e : Entry) → EntryIsRightIn ((var.name, any) ∷ around) e → EntryIsRightIn around (inside_binder var over e)
-  unfolding computing
+  unfolding opening computing
   inside-right var over index around (layer name) h = tt
   inside-right var over index around (statement x) h = (h, index)
   inside-right var over index around (goal instance binders (claim word vars body at)) h = (h.0, (index, h.1))
@@ -102,6 +106,7 @@ module _ (text : Text) where
   module _ (same_modules : AreModules types all_modules all_constants all_modules bodies) where
     module _ (m : Module) (body : Body) (good : IsModuleHere m body) (here : Path) where
       signals-count : SignalsCount (scope_of m)
+      unfolding opening
       signals-count [] w h = absurd (cc (h))
       signals-count (At e ∷ parts) w h = absurd (cc (h))
       signals-count (Field word ∷ parts) w h = by_own (find_name m.own word.name) h
@@ -111,10 +116,12 @@ module _ (text : Text) where
           by_own (Some own) h = behind-count all_modules (modules-count types all_modules all_constants all_modules bodies same_modules) m.types good.1 own.what parts w h
 
       constants-listed : ConstantsAreListed (scope_of m) (scope_in text here)
+      unfolding opening
       constants-listed name c e = constant-listed text here name c e
 
       module _ (inside : Path → Name → List Family) (includes : Includes (flat_map (families_of_item types bodies inside here) body.items)) where
         own-are-families : OwnAreFamilies (scope_of m) (scope_in text here)
+        unfolding opening
         own-are-families word parts w flat h = by_own (find_name m.own word.name) refl h
           where
             by_own : (o : Option Own) → find_name m.own word.name ≡ o → option_and_then (λ (own : Own). behind all_modules m.types own.what parts) o ≡ Some w → (f : Family) × (family_at (scope_in text here).families (here ++ word.name ∷ []) ≡ Some f)
@@ -129,6 +136,8 @@ module _ (text : Text) where
 
         module _ (inside_entries : Path → Name → List Entry) where
           mutual
+            unfolding opening
+
             inner-right : (vars : Vars) (around : Around) → AreSameNames vars around → (part : Item) → InnerIsWritten part → in_item (scope_of m) vars part ≡ [] → AllByRecursion (EntryIsRightIn around) (item_entries types bodies inside_entries here part)
             inner-right vars around same (Declare role words of at) written fine = absurd written
             inner-right vars around same (Instance words name args at) written fine = absurd written
@@ -151,12 +160,13 @@ module _ (text : Text) where
                 each-append (EntryIsRightIn around) (item_entries types bodies inside_entries here part) (items_entries types bodies inside_entries here rest) (inner-right vars around same part written.0 both.0) (inners-right vars around same rest written.1 both.1)
 
           whole-right : (part : Item) → InnerIsWritten part → in_item (scope_of m) [] part ≡ [] → AllByRecursion (EntryIsRight text) (item_entries types bodies inside_entries here part)
+          unfolding opening
           whole-right part written fine = each-more (EntryIsRightIn []) (EntryIsRight text) outside-right (item_entries types bodies inside_entries here part) (inner-right [] [] tt part written fine)
 
         -- ---- connections
 
         given-right : (n a : Name) (kind : Kind) (e : Expr) → IsWritten e → gives (scope_of m) kind e ≡ [] → AllByRecursion (StatementIsRight (scope_in text here) []) (connection Output n a e)
-        unfolding computing
+        unfolding opening computing
         given-right n a kind (Signal' shape parts at) written fine =
             let path : List Part = items-the_row-Part _ parts in
             let left : Operand = reference at (signal_at (scope_of m) path) (map (operand (scope_of m) []) (indexes_of path)) in
@@ -171,7 +181,7 @@ module _ (text : Text) where
         given-right n a kind _ written fine = tt
 
         input-right : (n a : Name) (kind : Kind) (e : Expr) → IsWritten e → takes kind (value (scope_of m) [] e) ≡ [] → AllByRecursion (StatementIsRight (scope_in text here) []) (connection Input n a e)
-        unfolding computing
+        unfolding opening computing
         input-right n a kind e written fine = ((tt, value-right (scope_of m) (scope_in text here) signals-count own-are-families constants-listed [] [] tt e written (taken-fine kind (value (scope_of m) [] e) fine)), tt)
 
         abbrev AreRightHere : List Stmt → Type 0
@@ -183,6 +193,7 @@ module _ (text : Text) where
 
           port-right : (a : Name) (e : Expr) → IsWritten e → (at : ℕ) (what : What) → find_name (own_in inner_body.items) a ≡ Some (record { at = at; what = what }) → is_port what ≡ true →
               connected (scope_of m) inner.types (Some (record { at = at; what = what })) e ≡ [] → AreRightHere (connection_of a e)
+          unfolding opening
           port-right a e written at (signal Input of) found port fine =
               subst (λ role. AreRightHere (connection role n a e)) (sym (role-same a inner_body.items inner_good.4 (record { at = at; what = signal Input of }) tt found)) (input-right n a (value_kind (leads inner.types of [])) e written fine)
           port-right a e written at (signal Output of) found port fine =
@@ -193,12 +204,14 @@ module _ (text : Text) where
           port-right a e written at mentions.goal found port fine = absurd (cc (port))
 
           connection-right : (a : Name) (e : Expr) → IsWritten e → (o : Option Own) → find_name (own_in inner_body.items) a ≡ o → is_port_if_own o ≡ true → connected (scope_of m) inner.types o e ≡ [] → AreRightHere (connection_of a e)
+          unfolding opening
           connection-right a e written None found port fine = absurd (cc (port))
           connection-right a e written (Some own) found port fine = port-right a e written own.at own.what found port fine
 
           zipped-right : (formals : List Word) (args : List Expr) → AllByRecursion (λ (word : Word). is_port_if_own (find_name (own_in inner_body.items) word.name) ≡ true) formals → AreWritten args →
               flat_map (λ (word, e). connected (scope_of m) inner.types (find_name (own_in inner_body.items) word.name) e) (zip formals args) ≡ [] →
               AreRightHere (flat_map (λ (word, e). connection (role_of inner_body.items word.name) n word.name e) (zip formals args))
+          unfolding opening
           zipped-right [] args ports written fine = tt
           zipped-right (word ∷ formals) [] ports written fine = tt
           zipped-right (word ∷ formals) (e ∷ args) ports written fine =
@@ -210,6 +223,7 @@ module _ (text : Text) where
         -- the connections of an instance
         found-right : (args : List Expr) → AreWritten args → (n : Name) (o : Option Module) (b : Option Body) → AreFound types all_modules all_constants o b → in_arguments (scope_of m) o args ≡ [] →
             AreRightHere (connections (unwrap_or b (record { formals = []; items = [] })) n args)
+        unfolding opening
         found-right args written n None None found fine = tt
         found-right args written n None (Some b) found fine = absurd found
         found-right args written n (Some inner) None found fine = absurd found
@@ -229,6 +243,7 @@ module _ (text : Text) where
         module _ (inside_entries : Path → Name → List Entry) (inside_right : (there : Path) (name : Name) → Includes (inside there name) → AllByRecursion (EntryIsRight text) (inside_entries there name)) where
           instance-right : (name : Word) (args : List Expr) → AreWritten args → in_arguments (scope_of m) (find_name all_modules name.name) args ≡ [] → (words : List Word) → Includes (flat_map (λ word. inside (here ++ word.name ∷ []) name.name) words) →
               AllByRecursion (EntryIsRight text) (flat_map (λ word. instance_entries types bodies inside_entries here name.name args word.name) words)
+          unfolding opening
           instance-right name args written fine [] includes = tt
           instance-right name args written fine (word ∷ words) includes =
               let acts : List Stmt = connections (body_of types bodies name.name) word.name args in
@@ -244,6 +259,7 @@ module _ (text : Text) where
               (instance-right name args written fine words (λ p e. includes p (any-behind p there others e)))
 
           item-right : (part : Item) → ItemIsWritten part → in_item (scope_of m) [] part ≡ [] → Includes (families_of_item types bodies inside here part) → AllByRecursion (EntryIsRight text) (item_entries types bodies inside_entries here part)
+          unfolding opening
           item-right (Declare role words of at) written fine includes = tt
           item-right (Instance words name args at) written fine includes = instance-right name args written fine words includes
           item-right (Layer name acts at) written fine includes = (
@@ -260,6 +276,7 @@ module _ (text : Text) where
 
           items-right : (items : List Item) → AllByRecursion ItemIsWritten items → flat_map (in_item (scope_of m) []) items ≡ [] → Includes (flat_map (families_of_item types bodies inside here) items) →
               AllByRecursion (EntryIsRight text) (flat_map (item_entries types bodies inside_entries here) items)
+          unfolding opening
           items-right [] written fine includes = tt
           items-right (part ∷ items) written fine includes =
               let both = empty-both (in_item (scope_of m) [] part) (flat_map (in_item (scope_of m) []) items) fine in
@@ -271,6 +288,7 @@ module _ (text : Text) where
     -- ---- instances
 
     entries-right : (k : ℕ) (here : Path) (name : Name) → Includes (families_in types bodies k here name) → AllByRecursion (EntryIsRight text) (entries_in types bodies k here name)
+    unfolding opening
     entries-right zero here name includes = tt
     entries-right (suc k) here name includes =
         by_found (find_name all_modules name) (find_name bodies name) (modules-found types all_modules all_constants all_modules bodies same_modules name) includes (entries-right k)
@@ -284,4 +302,5 @@ module _ (text : Text) where
         by_found (Some m) (Some body) found includes inner = items-right m body found here (families_in types bodies k) includes (entries_in types bodies k) inner body.items found.4 found.5 includes
 
     pub text-right : AllByRecursion (EntryIsRight text) (entries text)
+    unfolding opening
     text-right = entries-right (length bodies) [] main (λ p e. e)

@@ -1,4 +1,5 @@
 -- In a module an expression without faults of kinds is right.
+use Rattle.smv_right.proofs.Opening.{opening}
 use Rattle.std.proofs.Common.{◌≡◌, ℕ, List, [], ◌∷◌, ◌++◌, map, length, Option, Some, None, option_and_then, Bool, true, false, cond, nat_eq, ◌⊎◌, inl, inr, refl, sym, ◌∙◌, subst, arith}
 use Rattle.std.specs.Str.{bytes_eq}
 use Rattle.smv_core.specs.Values.{Name, Path}
@@ -34,6 +35,7 @@ AreSameNames ((name, kind) ∷ vars) ((other, bound) ∷ around) = (name ≡ oth
 AreSameNames _ _ = ⊥
 
 variable-bound : (vars : Vars) (around : Around) → AreSameNames vars around → (name : Name) (at : ℕ) (kind : Kind) → find_name vars name ≡ Some kind → (x : FlatExpr) × (variable around name at ≡ Some x)
+unfolding opening
 variable-bound [] [] same name at kind e = absurd (cc (e))
 variable-bound [] (b ∷ around) same name at kind e = absurd same
 variable-bound (v ∷ vars) [] same name at kind e = absurd same
@@ -53,15 +55,18 @@ variable-bound ((other, own) ∷ vars) ((third, any) ∷ around) same name at ki
     by_test false e rest = rest e
 
 pub known-anyway : (flat : Scope) (o : Option FlatExpr) (f : Option Family) (path : Path) → IsConstant flat path → IsKnown flat o f path
+unfolding opening
 known-anyway flat None None path h = h
 known-anyway flat None (Some f) path h = tt
 known-anyway flat (Some x) f path h = tt
 
 chained : (o : Option Kind) (parts : List Part) (w : Whole) → option_and_then (λ kind. single kind parts) o ≡ Some w → (kind : Kind) × (o ≡ Some kind) × (single kind parts ≡ Some w)
+unfolding opening
 chained None parts w h = absurd (cc (h))
 chained (Some kind) parts w h = (kind, refl, h)
 
 listed-constant : (o : Option Constant) (parts : List Part) (w : Whole) → option_and_then (λ (c : Constant). single (enumeration c.names) parts) o ≡ Some w → (c : Constant) × (o ≡ Some c) × (single (enumeration c.names) parts ≡ Some w)
+unfolding opening
 listed-constant None parts w h = absurd (cc (h))
 listed-constant (Some c) parts w h = (c, refl, h)
 
@@ -70,6 +75,7 @@ listed-constant (Some c) parts w h = (c, refl, h)
 module _ (scope : kinds.Scope) (vars : Vars) (parts : List Part) (w : Whole) where
   -- a reference is a variable, a signal or a constant
   reference-cases : reference_at scope vars parts ≡ Some w → (kinds.variable_at scope vars parts ≡ Some w) ⊎ ((signal_at scope parts ≡ Some w) ⊎ (constant_at scope parts ≡ Some w))
+  unfolding opening
   reference-cases h = by_cases (kinds.variable_at scope vars parts) (signal_at scope parts) refl refl
     where
       by_cases : (v s : Option Whole) → kinds.variable_at scope vars parts ≡ v → signal_at scope parts ≡ s → (kinds.variable_at scope vars parts ≡ Some w) ⊎ ((signal_at scope parts ≡ Some w) ⊎ (constant_at scope parts ≡ Some w))
@@ -92,6 +98,7 @@ ConstantsAreListed scope flat = (name : Name) (c : Constant) → find_name scope
 
 module _ (scope : kinds.Scope) (flat : Scope) (counted : SignalsCount scope) (own : OwnAreFamilies scope flat) (listed : ConstantsAreListed scope flat) where
   reference-count : (vars : Vars) (parts : List Part) (w : Whole) → reference_at scope vars parts ≡ Some w → length w.over ≡ length (indexes_of parts)
+  unfolding opening
   reference-count vars [] w h = absurd (cc (h))
   reference-count vars (At e ∷ parts) w h = absurd (cc (h))
   reference-count vars (Field word ∷ parts) w h = by_case (reference-cases scope vars (Field word ∷ parts) w h)
@@ -103,6 +110,7 @@ module _ (scope : kinds.Scope) (flat : Scope) (counted : SignalsCount scope) (ow
 
   known : (vars : Vars) (around : Around) → AreSameNames vars around → (parts : List Part) (at : ℕ) (w : Whole) → reference_at scope vars parts ≡ Some w →
       IsKnown flat (variable_at around (fields_of parts) at) (family_at flat.families (flat.instance ++ fields_of parts)) (fields_of parts)
+  unfolding opening
   known vars around same [] at w h = absurd (cc (h))
   known vars around same (At e ∷ parts) at w h = absurd (cc (h))
   known vars around same (Field word ∷ parts) at w h = by_fields (fields_of parts) refl
@@ -131,6 +139,7 @@ module _ (scope : kinds.Scope) (flat : Scope) (counted : SignalsCount scope) (ow
   -- ---- expressions
 
   indexes-length : (vars : Vars) (m : _) (row : Row_of-Part m) → length (indexes_of (items-the_row-Part m row)) ≡ length (indexes scope vars row)
+  unfolding opening
   indexes-length vars m end_of-Part = refl
   indexes-length vars m (more_of-Part (Field word) rest) = indexes-length vars _ rest
   indexes-length vars m (more_of-Part (At index) rest) = step (indexes_of (items-the_row-Part _ rest)) (indexes scope vars rest) (indexes-length vars _ rest)
@@ -139,6 +148,8 @@ module _ (scope : kinds.Scope) (flat : Scope) (counted : SignalsCount scope) (ow
       step es os h = omega (arith, h)
 
   mutual
+    unfolding opening
+
     pub expression-right : (vars : Vars) (around : Around) → AreSameNames vars around → (e : Expr) → IsWritten e → IsFine (operand scope vars e) → IsRight flat around e
     expression-right vars around same (Number value at) written fine = tt
     expression-right vars around same (Signal' shape parts at) written fine =
@@ -200,15 +211,18 @@ module _ (scope : kinds.Scope) (flat : Scope) (counted : SignalsCount scope) (ow
     set-right vars around same _ is written fine = absurd is
 
   pub are-right : (vars : Vars) (around : Around) → AreSameNames vars around → (es : List Expr) → AreWritten es → AreFine (map (operand scope vars) es) → AreRight flat around es
+  unfolding opening
   are-right vars around same [] written fine = tt
   are-right vars around same (e ∷ es) written fine = (expression-right vars around same e written.0 fine.0, are-right vars around same es written.1 fine.1)
 
   condition-right : (vars : Vars) (around : Around) → AreSameNames vars around → (cond : Held-Expr-Each-2) → ConditionIsWritten cond → condition_faults scope vars cond ≡ [] → ConditionIsRight flat around cond
+  unfolding opening
   condition-right vars around same None' written fine = tt
   condition-right vars around same (Some' shape (more_of-Expr cond end_of-Expr)) written fine = expression-right vars around same cond written (number-fine _ fine)
 
   -- a right side
   pub value-right : (vars : Vars) (around : Around) → AreSameNames vars around → (e : Expr) → IsWritten e → IsFine (value scope vars e) → IsRight flat around e
+  unfolding opening
   value-right vars around same (List' shape row at) written fine = members-right vars around same row written (alike-fine (members scope vars row) fine)
   value-right vars around same (Each' var over cond at) written fine =
       let both = empty-both (index_faults scope.here.types over) (condition_faults scope (bind scope vars var over) cond) fine in

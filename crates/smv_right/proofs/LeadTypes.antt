@@ -1,4 +1,5 @@
 -- Where a type leads to a single value without a field it has a family of its own, and a whole reference has a kind for each index.
+use Rattle.smv_right.proofs.Opening.{opening}
 use Rattle.std.proofs.Common.{◌≡◌, List, [], ◌∷◌, map, length, Option, Some, None, option_map, option_and_then, Bool, true, false, cond, not, ◌||◌, refl, sym, ap, ◌∙◌, subst, arith}
 use Rattle.std.specs.List.{AllByRecursion, list_any}
 use Rattle.smv_core.specs.Values.{Name, Simple, range, choice}
@@ -19,10 +20,12 @@ use Rattle.smv_right.specs.Written.{TypeIsWritten}
 use Rattle.smv_right.proofs.Faultless.{empty-both, unplaced, no_places, found-each}
 
 pub some-same : {X : Type 0} (a b : X) → Some a ≡ Some b → a ≡ b
+unfolding opening
 some-same a b h = cc
 
 -- what is mapped is there
 pub mapped : {X Y : Type 0} (f : X → Y) (o : Option X) (y : Y) → option_map f o ≡ Some y → (x : X) × (o ≡ Some x) × (f x ≡ y)
+unfolding opening
 mapped f None y h = absurd (cc (h))
 mapped f (Some x) y h = (x, refl, some-same (f x) y h)
 
@@ -33,6 +36,7 @@ abbrev pub CountsIndexes : Leads → Type 0
 CountsIndexes l = (parts : List Part) (w : Whole) → l parts ≡ Some w → length w.over ≡ length (indexes_of parts)
 
 pub single-counts : (kind : Kind) → CountsIndexes (single kind)
+unfolding opening
 single-counts kind [] w h = ap (λ v. length v.over) (sym (some-same {X = Whole} (record { over = []; value = kind }) w h))
 single-counts kind (part ∷ parts) w h = absurd (cc (h))
 
@@ -41,6 +45,8 @@ TypesCount types = AllByRecursion (λ (name, l). CountsIndexes l) types
 
 module _ (types : Types) (counted : TypesCount types) where
   mutual
+    unfolding opening
+
     pub leads-count : (of : TypeExpr) (parts : List Part) (w : Whole) → leads types of parts ≡ Some w → length w.over ≡ length (indexes_of parts)
     leads-count Boolean parts w h = single-counts number parts w h
     leads-count (Range span at) parts w h = single-counts number parts w h
@@ -73,6 +79,7 @@ module _ (types : Types) (counted : TypesCount types) where
 
 module _ (modules : List (Name × Module)) (all : AllByRecursion (λ (name, m). TypesCount m.types) modules) where
   pub behind-count : (types : Types) → TypesCount types → (what : What) (parts : List Part) (w : Whole) → behind modules types what parts ≡ Some w → length w.over ≡ length (indexes_of parts)
+  unfolding opening
   behind-count types counted (signal role of) parts w h = leads-count types counted of parts w h
   behind-count types counted goal parts w h = absurd (cc (h))
   behind-count types counted (instance name) [] w h = absurd (cc (h))
@@ -100,23 +107,28 @@ abbrev pub Covers : Leads → Shape → Type 0
 Covers l shape = ((parts : List Part) (w : Whole) → fields_of parts ≡ [] → l parts ≡ Some w → list_any is_own shape ≡ true) × ((w : Whole) → l [] ≡ Some w → (t : Simple) × (simple_of shape ≡ Some t))
 
 pub single-covers : (kind : Kind) (t : Simple) → Covers (single kind) (one_value t)
+unfolding opening
 single-covers kind t = (λ parts w e h. refl, λ w h. (t, refl))
 
 named-covers : (o : Option Leads) (s : Option Shape) → ((l : Leads) → o ≡ Some l → (shape : Shape) × (s ≡ Some shape) × Covers l shape) → Covers (λ parts. option_and_then (λ named. named parts) o) (shape_or_none s)
+unfolding opening
 named-covers None s h = (λ parts w e g. absurd (cc (g)), λ w g. absurd (cc (g)))
 named-covers (Some l) s h =
     let own : (shape : Shape) × (s ≡ Some shape) × Covers l shape = h l refl in
     subst (λ o. Covers l (shape_or_none o)) (sym own.1) own.2
 
 any-indexed : (t : Simple) (shape : Shape) → list_any is_own (map (indexed t) shape) ≡ list_any is_own shape
+unfolding opening
 any-indexed t [] = refl
 any-indexed t (f ∷ shape) = ap (λ b. is_own f || b) (any-indexed t shape)
 
 is-index-leads : (o : Option Whole) → is_index (value_kind o) ≡ true → (w : Whole) × (o ≡ Some w)
+unfolding opening
 is-index-leads None h = absurd (cc (h))
 is-index-leads (Some w) h = (w, refl)
 
 pub not-false : (b : Bool) → not b ≡ false → b ≡ true
+unfolding opening
 not-false true h = refl
 not-false false h = absurd (cc (h))
 
@@ -126,6 +138,7 @@ AreCovered kinds types = (name : Name) (l : Leads) → find_name kinds name ≡ 
 
 module _ (kinds : Types) (types : tree.Types) (known : AreCovered kinds types) where
   index-simple : (index : TypeExpr) → IsIndexType index → index_faults kinds index ≡ [] → (t : Simple) × (simple_of (shape_of types index) ≡ Some t)
+  unfolding opening
   index-simple Boolean i h = (range 0 1, refl)
   index-simple (Range span at) i h = (range span.low span.high, refl)
   index-simple (Named word at) i h =
@@ -137,6 +150,7 @@ module _ (kinds : Types) (types : tree.Types) (known : AreCovered kinds types) w
   index-simple (Struct' shape fields) i h = absurd i
 
   pub leads-cover : (of : TypeExpr) → TypeIsWritten of → type_faults kinds of ≡ [] → Covers (leads kinds of) (shape_of types of)
+  unfolding opening
   leads-cover Boolean written h = single-covers number (range 0 1)
   leads-cover (Range span at) written h = single-covers number (range span.low span.high)
   leads-cover (Enum names at) written h = single-covers (enumeration (names_of names)) (choice (names_of names))

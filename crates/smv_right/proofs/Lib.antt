@@ -1,3 +1,4 @@
+pub mod Opening
 pub mod Faultless
 pub mod LeadTypes
 pub mod Expressions

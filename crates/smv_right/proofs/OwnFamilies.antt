@@ -1,4 +1,5 @@
 -- A signal of a module that is a single value is a family behind the path of each instance of the module.
+use Rattle.smv_right.proofs.Opening.{opening}
 use Rattle.std.proofs.Common.{◌≡◌, ℕ, List, [], ◌∷◌, ◌++◌, map, flat_map, length, Some, Bool, true, false, cond, ◌||◌, ◌⊎◌, inl, inr, refl, ap, ◌∙◌, subst, append-nil}
 use Rattle.std.specs.Str.{bytes_eq}
 use Rattle.std.specs.List.{AllByRecursion, list_any}
@@ -158,6 +159,7 @@ module _ (name : Name) where
 
       -- a signal that leads to a single value without a field has its family
       pub own-family : (items : List Item) → AllByRecursion ItemIsWritten items → flat_map (in_item scope []) items ≡ [] → find_name (own_in items) name ≡ Some own → list_any is_named (families_here items) ≡ true
+      unfolding opening
       own-family [] written fine h = absurd (cc (h))
       own-family (Declare role words of at ∷ items) written fine h =
           let both = empty-both (in_item scope [] (Declare role words of at)) (flat_map (in_item scope []) items) fine in

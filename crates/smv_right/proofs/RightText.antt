@@ -1,4 +1,5 @@
 -- A text without faults of names, size and kinds is right.
+use Rattle.smv_right.proofs.Opening.{opening}
 use Rattle.std.proofs.Common.{◌≡◌, ℕ, zero, suc, ◌<◌, List, [], ◌∷◌, ◌++◌, map, flat_map, length, get_or, All, None, refl, arith}
 use Rattle.std.specs.List.{AllByRecursion}
 use Rattle.smv_core.specs.Types.{types_from}
@@ -18,6 +19,7 @@ use Rattle.smv_right.proofs.Modules.{tops-modules}
 use Rattle.smv_right.proofs.Entries.{text-right}
 
 all-each : {X : Type 0} (P : X → Type 0) (xs : List X) → AllByRecursion P xs → All P xs
+unfolding opening
 all-each P [] h = λ k d lt. absurd (omega (arith, lt))
 all-each {X} P (x ∷ xs) h = λ k d lt. by_place k lt d (all-each P xs h.1)
   where
@@ -34,6 +36,7 @@ others tops =
     ∷ (11, flat_map (miscounted_in tops) tops) ∷ []
 
 pub right-text : (text : Text) → TextIsWritten text → first_fault text ≡ None → first_fault_of_kinds text ≡ None → TextIsRight text
+unfolding opening
 right-text text written names kinds =
     let tops : List Piece = pieces text in
     let none : faults_of_names text ≡ [] = no_fault-in (faults_of_names text) (none-first (first_of (faults_of_names text)) (fault_of_size text) names) in
@@ -44,4 +47,5 @@ right-text text written names kinds =
 
 -- the same of a text that is spelled
 pub well_kinded-right : (text : Text) → IsWellKinded text → TextIsRight text
+unfolding opening
 well_kinded-right text h = right-text text (spelled-written h.0 h.1 text h.2) h.3 h.4

@@ -1,4 +1,5 @@
 -- In a module a statement without faults of kinds is right.
+use Rattle.smv_right.proofs.Opening.{opening}
 use Rattle.std.proofs.Common.{◌≡◌, List, [], ◌∷◌, map, flat_map, length, refl, ◌∙◌, arith}
 use Rattle.std.specs.List.{AllByRecursion}
 use Rattle.smv_core.specs.Walk.{indexes_of}
@@ -19,6 +20,7 @@ use Rattle.smv_right.proofs.Faultless.{empty-both, empty-three, each-front, each
 use Rattle.smv_right.proofs.Expressions.{AreSameNames, SignalsCount, OwnAreFamilies, ConstantsAreListed, expression-right, are-right, value-right}
 
 pub mapped-length : {X Y : Type 0} (f : X → Y) (xs : List X) → length xs ≡ length (map f xs)
+unfolding opening
 mapped-length f [] = refl
 mapped-length f (x ∷ xs) = step (mapped-length f xs)
   where
@@ -27,6 +29,8 @@ mapped-length f (x ∷ xs) = step (mapped-length f xs)
 
 module _ (scope : kinds.Scope) (flat : Scope) (counted : SignalsCount scope) (own : OwnAreFamilies scope flat) (listed : ConstantsAreListed scope flat) where
   mutual
+    unfolding opening
+
     pub statement-right : (vars : Vars) (around : Around) → AreSameNames vars around → (act : Stmt) → StatementIsWritten act → in_stmt scope vars act ≡ [] → StatementIsRight flat around act
     statement-right vars around same (Assign kind left right at) written fine =
         let both = empty-both (target scope vars left).faults (takes (target scope vars left).kind (value scope vars right)) fine in
@@ -77,6 +81,7 @@ module _ (scope : kinds.Scope) (flat : Scope) (counted : SignalsCount scope) (ow
         )
 
   pub body-right : (acts : List Stmt) → AllByRecursion StatementIsWritten acts → flat_map (in_stmt scope []) acts ≡ [] → AllByRecursion (StatementIsRight flat []) acts
+  unfolding opening
   body-right [] written fine = tt
   body-right (act ∷ acts) written fine =
       let both = empty-both (in_stmt scope [] act) (flat_map (in_stmt scope []) acts) fine in

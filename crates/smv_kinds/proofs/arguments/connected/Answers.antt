@@ -9,10 +9,10 @@ use Rattle.smv_kinds.specs.Found.{scope_of}
 use Rattle.smv_kinds.proofs.ArgumentLaws.{zip-first}
 use Rattle.smv_kinds.proofs.arguments.connected.Goals as goal
 
-pub returns-in_ok-formal-in-len1-up : goal.returns-in_ok-formal-in-len1-up
-returns-in_ok-formal-in-len1-up c =
+pub returns-in-len1-up : goal.returns-in-len1-up
+returns-in-len1-up c =
     let inner = scope_of c.args.inner.now in
     let says : Word × Expr → List Fault = λ (word, e). connected (scope_of c.args.scope.now) inner.here.types (find_name inner.here.own word.name) e in
     subst (λ (l : List Fault). OnOk c.argument.result (c.argument.new.out.items ≡ c.args.out.now.items ++ l))
-    (sym (c.in_ok-formal-in-len1-up.ensures (scope_of c.args.scope.now) c.args.x.now) ∙ zip-first says c.args.formals.now c.word-item.result c.args.x.now c.in-len1-up.len_at_least c.word-item.is)
+    (sym (c.formal_named-formal.ensures (scope_of c.args.scope.now) c.args.x.now) ∙ zip-first says c.args.formals.now c.word-item.result c.args.x.now c.in-len1-up.len_at_least c.word-item.is)
     c.argument.ensures

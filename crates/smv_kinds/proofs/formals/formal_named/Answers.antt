@@ -1,4 +1,4 @@
-use Rattle.std.proofs.Common.{◌≡◌, IfOk, ap, sym, ◌∙◌, subst}
+use Rattle.std.proofs.Common.{◌≡◌, ap, sym, ◌∙◌, subst}
 use Rattle.std.specs.Prelude.{Option, Some, option_map}
 use Rattle.smv_core.specs.declared.tree.Expr.{Expr}
 use Rattle.smv_inst.specs.Scopes.{Own}
@@ -8,7 +8,6 @@ use Rattle.smv_scope.specs.Held.{own_of}
 use Rattle.smv_types.specs.References.{Scope}
 use Rattle.smv_types.specs.KindFaults.{connected}
 use Rattle.smv_kinds.specs.Found.{scope_of, argument_faults}
-use Rattle.smv_kinds.specs.declared.lookups.Formal.{Formal}
 use Rattle.smv_kinds.proofs.ScopeLaws.{own-here}
 use Rattle.smv_kinds.proofs.formals.formal_named.Goals as goal
 
@@ -21,7 +20,7 @@ pub returns-in-Signal : goal.returns-in-Signal
 returns-in-Signal c =
     let types = (scope_of c.args.scope.now).here.types in
     let own = c.in-Some.own in
-    subst (λ (o : Option Own). IfOk c.formal_of.result (λ (formal : Formal). (from : Scope) (e : Expr) → connected from types o e ≡ argument_faults from formal e))
+    subst (λ (o : Option Own). (from : Scope) (e : Expr) → connected from types o e ≡ argument_faults from c.formal_of.result e)
     (sym (own-here c.args.scope.now c.args.name.now c.own_in.result c.own_in.ensures ∙ ap (option_map own_of) c.in-Some.is
     ∙ ap (λ (what : NotedWhat). Some (record { at = own.at; what = said_of what })) c.in-Signal.is))
     c.formal_of.ensures
