@@ -1,4 +1,5 @@
 -- By computing the tree and its faults; the reader answers right, so tokens spell the tree.
+use Rattle.smv_right.proofs.Opening.{opening}
 use Rattle.std.proofs.Common.{[], refl}
 use Rattle.smv_core.specs.Notation.{Tokens}
 use Rattle.smv_lex.specs.Lexing.{Lexed, lexed}
@@ -14,9 +15,9 @@ tokens_in (Ok tokens) = tokens
 tokens_in (Err fault) = []
 
 pub small-meets : MeetsConditions small
-unfolding computing
+unfolding opening computing
 small-meets = (64, tokens_in (lexed small), answered 64 0 (tokens_in (lexed small)), refl, refl)
 
 pub machine-meets : MeetsConditions machine
-unfolding computing
+unfolding opening computing
 machine-meets = (64, tokens_in (lexed machine), answered 64 0 (tokens_in (lexed machine)), refl, refl)
