@@ -11,10 +11,11 @@ use Rattle.smv_types.specs.Kinds.{Kind, number, enumeration, set_type, no_kind, 
 use Rattle.smv_types.specs.Types.{Whole}
 use Rattle.smv_types.specs.References.{Scope, Vars, reference}
 use Rattle.smv_types.specs.Operands.{operand}
-use Rattle.smv_kinds.specs.declared.kinds.ValueKind.{ValueKind}
+use Rattle.smv_forms.specs.declared.kinds.ValueKind.{ValueKind}
 use Rattle.smv_core.specs.declared.tree.Expr.{Expr}
-use Rattle.smv_kinds.specs.Forms.{kind_of, misfit}
-use Rattle.smv_kinds.specs.Found.{vars_of, begin, begins_at, or_zero, path_faults, part_faults}
+use Rattle.smv_forms.specs.Forms.{kind_of, misfit}
+use Rattle.smv_forms.specs.Found.{vars_of}
+use Rattle.smv_kinds.specs.Found.{begin, begins_at, or_zero, path_faults, part_faults}
 
 -- an operand that is itself at fault fits everywhere
 joins-none : (kind : Kind) → joins kind no_kind ≡ true

@@ -1,4 +1,3 @@
-pub mod Computing
 pub mod KindLaws
 pub mod TypeLaws
 pub mod OperandLaws
@@ -7,9 +6,4 @@ pub mod StatementLaws
 pub mod ConstantLaws
 pub mod ArgumentLaws
 pub mod ItemLaws
-pub mod PlaceLaws
-pub mod FormLaws
-pub mod PathLaws
 pub mod TopLaws
-pub mod OwnLaws
-pub mod ScopeLaws

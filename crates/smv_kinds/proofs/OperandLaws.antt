@@ -21,9 +21,9 @@ use Rattle.smv_inst.specs.FirstFault.{faults_at}
 use Rattle.smv_types.specs.Kinds.{number, no_kind, joined, has_order, Operand, number_at, of_numbers, of_alike, takes_number, unless, alike_with, ordered, chosen, stray_set}
 use Rattle.smv_types.specs.References.{Scope, Vars, reference_at, reference}
 use Rattle.smv_types.specs.Operands.{operand, operands, indexes, summands, members, looked_through, compared, remainder, reduced, bind}
-use Rattle.smv_kinds.specs.Forms.{misfit}
+use Rattle.smv_forms.specs.Forms.{misfit}
 use Rattle.smv_kinds.specs.Found.{member, addend, begins_at, order_faults}
-use Rattle.smv_kinds.proofs.Computing.{computing}
+use Rattle.smv_inst.proofs.Computing.{computing}
 
 module _ (scope : Scope) (vars : Vars) where
   exprs-row : (n : _) (row : Row_of-Expr n) → operands scope vars row ≡ map (operand scope vars) (items-the_row-Expr n row)

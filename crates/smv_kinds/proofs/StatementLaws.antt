@@ -18,7 +18,7 @@ use Rattle.smv_types.specs.References.{Scope, Vars}
 use Rattle.smv_types.specs.Operands.{operand, value, target, bind}
 use Rattle.smv_types.specs.KindFaults.{assigned, in_stmt, in_block, in_branch, in_arms, labels}
 use Rattle.smv_kinds.specs.Found.{labels_of, arm_faults}
-use Rattle.smv_kinds.proofs.Computing.{computing}
+use Rattle.smv_inst.proofs.Computing.{computing}
 
 module _ (scope : Scope) (vars : Vars) where
   -- an `else` or `default`, or none

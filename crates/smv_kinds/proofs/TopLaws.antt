@@ -9,7 +9,7 @@ use Rattle.smv_core.specs.declared.tree.Word.{Word}
 use Rattle.smv_core.specs.declared.tree.Item.{Item}
 use Rattle.smv_core.specs.declared.tree.TypeExpr.{TypeExpr}
 use Rattle.smv_core.specs.declared.tree.Top.{Top}
-use Rattle.smv_core.specs.declared.tree.Top.TheVariants.{SetType, Alias, Module as ModuleOf}
+use Rattle.smv_core.specs.declared.tree.Top.TheVariants.{Alias, Module as ModuleOf}
 use Rattle.smv_inst.specs.Scopes.{Constant, pieces, constants}
 use Rattle.smv_inst.specs.FirstFault.{first_of}
 use Rattle.smv_scope.specs.ScopeFault.{earlier_of}
@@ -17,21 +17,12 @@ use Rattle.smv_scope.proofs.FirstLaws.{earlier-assoc}
 use Rattle.smv_types.specs.Types.{Types, types_after, type_faults}
 use Rattle.smv_types.specs.References.{Module, modules_from}
 use Rattle.smv_types.specs.KindFaults.{in_item, in_top, in_tops}
-use Rattle.smv_kinds.specs.declared.lookups.Scope.{Scope as HeldScope}
-use Rattle.smv_kinds.specs.Forms.{types_from, types_before, module_in}
-use Rattle.smv_kinds.specs.Found.{scope_of}
-
-pub module-types : (types : Types) (top : Option Top) → (module_in types top).types ≡ types
-module-types types None = refl
-module-types types (Some (SetType word ordered span at)) = refl
-module-types types (Some (Alias word of at)) = refl
-module-types types (Some (ModuleOf word formals body at)) = refl
+use Rattle.smv_forms.specs.declared.lookups.Scope.{Scope as HeldScope}
+use Rattle.smv_forms.specs.Forms.{types_from, types_before, module_in}
+use Rattle.smv_forms.specs.Found.{scope_of}
+use Rattle.smv_forms.proofs.ScopeLaws.{here-types}
 
 module _ (scope : HeldScope) where
-  pub here-types : (scope_of scope).here.types ≡ types_before scope.tables.now.names.text.now scope.place
-  unfolding scope_of
-  here-types = module-types (types_before scope.tables.now.names.text.now scope.place) (slice_get scope.tables.now.names.text.now.tops scope.place)
-
   pub top-Module : (top : Top) (word : Word) (formals : List Word) (body : List Item) (at : ℕ) → slice_get scope.tables.now.names.text.now.tops scope.place ≡ Some top → top ≡ ModuleOf word formals body at
       → flat_map (in_item (scope_of scope) []) body
       ≡ in_top (modules_from [] scope.tables.now.names.text.now.tops) (constants (pieces scope.tables.now.names.text.now)) (types_before scope.tables.now.names.text.now scope.place) top
@@ -44,7 +35,7 @@ module _ (scope : HeldScope) where
       → type_faults (scope_of scope).here.types of
       ≡ in_top (modules_from [] scope.tables.now.names.text.now.tops) (constants (pieces scope.tables.now.names.text.now)) (types_before scope.tables.now.names.text.now scope.place) top
   top-Alias top word of at is =
-      ap (λ types. type_faults types of) here-types
+      ap (λ types. type_faults types of) (here-types scope)
       ∙ ap (in_top (modules_from [] scope.tables.now.names.text.now.tops) (constants (pieces scope.tables.now.names.text.now)) (types_before scope.tables.now.names.text.now scope.place)) (sym is)
 
 -- ---- one top after the other

@@ -16,7 +16,7 @@ use Rattle.smv_types.specs.References.{Scope, Vars}
 use Rattle.smv_types.specs.Operands.{operand, value, bind}
 use Rattle.smv_kinds.specs.Found.{member}
 use Rattle.smv_kinds.proofs.OperandLaws.{members_of, members-row}
-use Rattle.smv_kinds.proofs.Computing.{computing}
+use Rattle.smv_inst.proofs.Computing.{computing}
 
 module _ (scope : Scope) (vars : Vars) where
   pub value-List : (parts : List Member) (at : ℕ) → value scope vars (ListOf parts at) ≡ listed at (map (member scope vars) parts)

@@ -7,16 +7,17 @@ ghost use Rattle.smv_core.specs.declared.tree.Signed.{out-Signed};
 ghost use Rattle.smv_inst.specs.FirstFault.{faults_at};
 ghost use Rattle.smv_types.specs.Operands as operands;
 ghost use Rattle.smv_types.specs.KindFaults as spec;
-ghost use Rattle.smv_kinds.specs.Forms.{kind_of, AreKindTables};
-ghost use Rattle.smv_kinds.specs.Found.{scope_of, argument_faults, is_constant, part_constant, words_left};
+ghost use Rattle.smv_forms.specs.Forms.{kind_of, AreKindTables};
+ghost use Rattle.smv_forms.specs.Found.{scope_of};
+ghost use Rattle.smv_kinds.specs.Found.{argument_faults, is_constant, part_constant, words_left};
 
-use crate::formals::formal_named;
-use crate::kinds::{ValueKind, fault_if, takes};
-use crate::lookups::{Formal, Scope, formals_of, module_named};
+use crate::formals::{Formal, formal_named};
 use crate::operands::{operand, operand_at};
 use crate::values::{target, value};
 use smv_core::fault::Fault;
 use smv_core::tree::{Expr, Part, Path, Signed, Word};
+use smv_forms::kinds::{ValueKind, fault_if, takes};
+use smv_forms::lookups::{Scope, formals_of, module_named};
 use std::alloc::{AllocError, Global};
 
 // The index can be worked out from the text alone.

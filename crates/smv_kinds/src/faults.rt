@@ -5,14 +5,14 @@ ghost use Rattle.smv_inst.specs.Said.{AreNoted};
 ghost use Rattle.smv_inst.specs.FirstFault as first;
 ghost use Rattle.smv_types.specs.References.{modules_from};
 ghost use Rattle.smv_types.specs.KindFaults.{in_top, faults_of_kinds, first_fault_of_kinds};
-ghost use Rattle.smv_kinds.specs.Forms.{types_before, AreKindTables};
+ghost use Rattle.smv_forms.specs.Forms.{types_before, AreKindTables};
 
 use crate::items::items;
-use crate::lookups::Scope;
-use crate::tables::{Tables, tables_of};
 use crate::types::{size_faults, type_faults};
 use smv_core::fault::Fault;
 use smv_core::tree::{Text, Top};
+use smv_forms::lookups::Scope;
+use smv_forms::tables::{Tables, tables_of};
 use smv_inst::pieces::Piece;
 use smv_scope::scope::earlier;
 use std::alloc::{AllocError, Global};

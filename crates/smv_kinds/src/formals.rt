@@ -5,15 +5,28 @@ ghost use Rattle.smv_core.specs.declared.tree.Expr.{Expr};
 ghost use Rattle.smv_inst.specs.Mentions.{signal};
 ghost use Rattle.smv_types.specs.References as references;
 ghost use Rattle.smv_types.specs.KindFaults.{connected};
-ghost use Rattle.smv_kinds.specs.Forms.{AreKindTables};
-ghost use Rattle.smv_kinds.specs.Found.{scope_of, argument_faults};
+ghost use Rattle.smv_forms.specs.Forms.{AreKindTables};
+ghost use Rattle.smv_forms.specs.Found.{scope_of};
+ghost use Rattle.smv_kinds.specs.Found.{argument_faults};
 
-use crate::lookups::{Formal, Scope};
-use crate::paths::own_in;
 use crate::types::index_kind;
 use smv_core::name::Name;
 use smv_core::tree::{Role, TypeExpr};
+use smv_forms::kinds::ValueKind;
+use smv_forms::lookups::Scope;
+use smv_forms::paths::own_in;
 use smv_inst::mentions::What;
+
+/// A formal of a module, where it has a role.
+#[derive(Clone, Copy)]
+pub enum Formal<'a> {
+    /// An input of this kind.
+    Input { kind: ValueKind<'a> },
+    /// An output of this kind.
+    Output { kind: ValueKind<'a> },
+    /// A formal without a role.
+    Other,
+}
 
 /// A formal of a module.
 pub fn formal_named<'a>(name: &Name, scope: &Scope<'a, '_>) -> Formal<'a>

@@ -5,16 +5,16 @@ ghost use Rattle.smv_types.specs.Kinds as kinds;
 ghost use Rattle.smv_types.specs.Types as types;
 ghost use Rattle.smv_types.specs.Operands as operands;
 ghost use Rattle.smv_types.specs.KindFaults.{formal_faults as faults_of_formal, in_arguments, in_item};
-ghost use Rattle.smv_kinds.specs.Forms.{AreKindTables};
-ghost use Rattle.smv_kinds.specs.Found.{vars_of, scope_of};
+ghost use Rattle.smv_forms.specs.Forms.{AreKindTables};
+ghost use Rattle.smv_forms.specs.Found.{vars_of, scope_of};
 
 use crate::arguments::arguments;
-use crate::lookups::{Scope, Var};
 use crate::operands::{number, operand};
 use crate::statements::{block, statement};
 use crate::types::{bind, formal_faults, index_faults, type_faults};
 use smv_core::fault::Fault;
 use smv_core::tree::{Expr, Item, Pair, Role, TypeExpr, Word};
+use smv_forms::lookups::{Scope, Var};
 use std::alloc::{AllocError, Global};
 
 // The faults in an item.

@@ -3,14 +3,9 @@
 
 pub mod arguments;
 pub mod faults;
-pub mod fields;
 pub mod formals;
 pub mod items;
-pub mod kinds;
-pub mod lookups;
 pub mod operands;
-pub mod paths;
 pub mod statements;
-pub mod tables;
 pub mod types;
 pub mod values;

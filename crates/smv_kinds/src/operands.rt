@@ -7,17 +7,18 @@ ghost use Rattle.smv_types.specs.References as references;
 ghost use Rattle.smv_core.specs.declared.tree.Part.{At};
 ghost use Rattle.smv_core.specs.declared.tree.Expr.{Expr};
 ghost use Rattle.smv_types.specs.Operands as spec;
-ghost use Rattle.smv_kinds.specs.Forms.{kind_of, misfit, AreKindTables};
-ghost use Rattle.smv_kinds.specs.Found.{vars_of, scope_of, whole_of, order_faults, kinds_left, left_behind, part_faults, next_faults, path_faults, addend, begins_at, or_zero, member as member_in};
+ghost use Rattle.smv_forms.specs.Forms.{kind_of, misfit, AreKindTables};
+ghost use Rattle.smv_forms.specs.Found.{vars_of, scope_of, whole_of};
+ghost use Rattle.smv_kinds.specs.Found.{order_faults, kinds_left, left_behind, part_faults, next_faults, path_faults, addend, begins_at, or_zero, member as member_in};
 
-use crate::kinds::{
-    Operand, ValueKind, fault_if, fits, number_at, takes, takes_number, takes_order,
-};
-use crate::lookups::{Scope, Var, whole_reference};
-use crate::paths::Whole;
 use crate::types::{bind, index_faults};
 use smv_core::fault::Fault;
 use smv_core::tree::{Expr, Member, Op, Part, Path, Signed, TypeExpr, Word};
+use smv_forms::kinds::{
+    Operand, ValueKind, fault_if, fits, number_at, takes, takes_number, takes_order,
+};
+use smv_forms::lookups::{Scope, Var, whole_reference};
+use smv_forms::paths::Whole;
 use smv_scope::tables::item_at;
 use std::alloc::{AllocError, Global};
 
@@ -224,7 +225,7 @@ fn looked_through<'a>(
 
 /// The members of a listed set, beside this kind, and the kind of all together.
 #[cycle(operands)]
-#[tactic(auto, using(smv_inst::proofs::Notes::noting), unfolding(smv_types::specs::Kinds::alike_with, smv_types::specs::Kinds::kind_with, smv_types::specs::Kinds::unless, crate::specs::Forms::misfit))]
+#[tactic(auto, using(smv_inst::proofs::Notes::noting), unfolding(smv_types::specs::Kinds::alike_with, smv_types::specs::Kinds::kind_with, smv_types::specs::Kinds::unless, smv_forms::specs::Forms::misfit))]
 pub fn all_members<'a>(
     members: &'a [Member],
     scope: &Scope<'a, '_>,

@@ -4,16 +4,17 @@ ghost use Rattle.smv_types.specs.Kinds as kinds;
 ghost use Rattle.smv_types.specs.Types as types;
 ghost use Rattle.smv_types.specs.Operands as operands;
 ghost use Rattle.smv_types.specs.KindFaults.{in_stmt};
-ghost use Rattle.smv_kinds.specs.Forms.{kind_of, AreKindTables};
-ghost use Rattle.smv_kinds.specs.Found.{vars_of, scope_of, labels_of, arm_faults};
+ghost use Rattle.smv_forms.specs.Forms.{kind_of, AreKindTables};
+ghost use Rattle.smv_forms.specs.Found.{vars_of, scope_of};
+ghost use Rattle.smv_kinds.specs.Found.{labels_of, arm_faults};
 
-use crate::kinds::ValueKind;
-use crate::lookups::{Scope, Var};
 use crate::operands::{fitting, number, operand};
 use crate::types::{bind, index_faults, inside};
 use crate::values::assignment;
 use smv_core::fault::Fault;
 use smv_core::tree::{Arm, Expr, Stmt, TypeExpr, Word};
+use smv_forms::kinds::ValueKind;
+use smv_forms::lookups::{Scope, Var};
 use std::alloc::{AllocError, Global};
 
 /// The faults in a statement.
@@ -181,7 +182,7 @@ fn labels_beside<'a>(
 }
 
 // Expressions beside this kind, and the kind of all together.
-#[tactic(auto, using(smv_inst::proofs::Notes::noting), unfolding(smv_types::specs::Kinds::alike_with, smv_types::specs::Kinds::kind_with, smv_types::specs::Kinds::unless, crate::specs::Forms::misfit))]
+#[tactic(auto, using(smv_inst::proofs::Notes::noting), unfolding(smv_types::specs::Kinds::alike_with, smv_types::specs::Kinds::kind_with, smv_types::specs::Kinds::unless, smv_forms::specs::Forms::misfit))]
 fn all_fitting<'a>(
     parts: &'a [Expr],
     scope: &Scope<'a, '_>,

@@ -5,13 +5,13 @@ ghost use Rattle.smv_inst.specs.NameFaults.{place_if};
 ghost use Rattle.smv_inst.specs.FirstFault.{faults_at};
 ghost use Rattle.smv_types.specs.Types as spec;
 ghost use Rattle.smv_types.specs.Operands as operands;
-ghost use Rattle.smv_kinds.specs.Forms.{kind_of, AreKindTables};
-ghost use Rattle.smv_kinds.specs.Found.{vars_of, scope_of};
+ghost use Rattle.smv_forms.specs.Forms.{kind_of, AreKindTables};
+ghost use Rattle.smv_forms.specs.Found.{vars_of, scope_of};
 
-use crate::kinds::{ValueKind, fault_if, is_index};
-use crate::lookups::{Scope, Var, single_kind};
 use smv_core::fault::Fault;
 use smv_core::tree::{Field, Span, TypeExpr, Word};
+use smv_forms::kinds::{ValueKind, fault_if, is_index};
+use smv_forms::lookups::{Scope, Var, single_kind};
 use std::alloc::{AllocError, Global};
 
 /// The kind of an index of this type.
@@ -26,7 +26,7 @@ pub fn index_kind<'a>(of: &'a TypeExpr, scope: &Scope<'a, '_>) -> ValueKind<'a>
 }
 
 /// One more variable inside these, of this kind.
-#[tactic(auto, unfolding(crate::specs::Found::vars_of))]
+#[tactic(auto, unfolding(smv_forms::specs::Found::vars_of))]
 pub fn inside<'a>(
     alloc: Global,
     vars: &[Var<'a>],

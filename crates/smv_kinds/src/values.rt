@@ -4,15 +4,16 @@ ghost use Rattle.smv_types.specs.Kinds as kinds;
 ghost use Rattle.smv_types.specs.Types as types;
 ghost use Rattle.smv_types.specs.Operands as spec;
 ghost use Rattle.smv_types.specs.KindFaults.{assigned};
-ghost use Rattle.smv_kinds.specs.Forms.{kind_of, AreKindTables};
-ghost use Rattle.smv_kinds.specs.Found.{vars_of, scope_of, member as member_in};
+ghost use Rattle.smv_forms.specs.Forms.{kind_of, AreKindTables};
+ghost use Rattle.smv_forms.specs.Found.{vars_of, scope_of};
+ghost use Rattle.smv_kinds.specs.Found.{member as member_in};
 
-use crate::kinds::{Operand, ValueKind, takes};
-use crate::lookups::{Scope, Var, signal_reference};
 use crate::operands::{all_members, chosen, number, operand, operand_at, referred};
 use crate::types::{index_faults, index_kind, inside};
 use smv_core::fault::Fault;
 use smv_core::tree::{Expr, Member, Path, TypeExpr, Word};
+use smv_forms::kinds::{Operand, ValueKind, takes};
+use smv_forms::lookups::{Scope, Var, signal_reference};
 use std::alloc::{AllocError, Global};
 
 /// The value of an assignment: a set may stand there, also as a branch of `?:`.

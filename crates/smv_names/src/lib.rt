@@ -7,21 +7,25 @@ ghost use Rattle.smv_inst.specs.Said.{AreNoted};
 
 use smv_core::Fault;
 use smv_core::tree::Text;
-use smv_inst::pieces::{Piece, pieces};
+use smv_inst::pieces::Piece;
 use smv_scope::scope::{any_order, earlier, first_of_both, scope_fault};
 use smv_size::recursion::recursion_fault;
 use smv_size::size::size_fault;
 use std::alloc::{AllocError, Global};
 
-/// The first fault of a text among 7 to 11, by place and then by number, and then 25; or none.
-pub fn first_fault(alloc: Global, text: &Text) -> Result<Option<Fault>, AllocError>
+/// The first fault of a text whose tops were noted, among 7 to 11, by place and then by number, and then 25; or none.
+pub fn first_fault<'a>(
+    alloc: Global,
+    text: &'a Text,
+    pieces: &[Piece<'a>],
+) -> Result<Option<Fault>, AllocError>
+    requires { AreNoted pieces.now text.now }
     ensures { IfOk result (λ fault. fault ≡ spec.first_fault text.now) }
 {
-    let pieces = pieces(alloc, text)?;
-    let named = name_fault(alloc, text, &pieces)?;
+    let named = name_fault(alloc, text, pieces)?;
     match named {
         Some(fault) => Ok(Some(fault)),
-        None => size_fault(alloc, text, &pieces),
+        None => size_fault(alloc, text, pieces),
     }
 }
 

@@ -25,8 +25,8 @@ fn has_name(words: &[Word], name: &Name) -> bool
     false
 }
 
-// The first field of a name.
-fn field_named<'a>(fields: &'a [Field], name: &Name) -> Option<&'a Field>
+/// The first field of a name.
+pub fn field_named<'a>(fields: &'a [Field], name: &Name) -> Option<&'a Field>
     ensures { option_map (λ field. field.now) result ≡ spec.field_named fields.now name.now }
 {
     for field in fields {

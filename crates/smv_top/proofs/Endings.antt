@@ -18,13 +18,13 @@ use Rattle.smv_core.specs.declared.tree.Text.{Text}
 use Rattle.smv_core.specs.declared.report.UnitResult.{UnitResult}
 use Rattle.smv_core.specs.declared.report.Verdict.{Verdict}
 use Rattle.smv_core.specs.declared.report.Verdict.TheVariants.{True, False}
-use Rattle.smv_inst.specs.FirstFault.{first_fault}
+use Rattle.smv_front.specs.TextFault.{text_fault}
 use Rattle.smv_lex.specs.Answers.{IfFault}
 use Rattle.smv_parse.specs.Spelling.{HasFault}
 use Rattle.smv_parse.specs.Laws.{IsOneTree, IsNotBoth}
 use Rattle.smv_report.specs.Lines.{is_true_verdict, report_lines, fault_text}
 use Rattle.smv_two_states.specs.Verdicts.{IsTrueResult, path_length}
-use Rattle.smv_top.specs.Answers.{IsProve, IsPrint, IsCommand, limit, IsTree, IsDesign, IsSoundDesign, HasReport, all_true, IsFault, too_long, malformed, misnamed, undecided, IsDue, Gave, Ends, Completes}
+use Rattle.smv_top.specs.Answers.{IsProve, IsPrint, IsCommand, limit, IsTree, IsDesign, IsSoundDesign, HasReport, all_true, IsFault, too_long, malformed, faulty, undecided, IsDue, Gave, Ends, Completes}
 use Rattle.smv_top.specs.Commands.{AsksFor}
 use Rattle.smv_top.specs.declared.Answer.{Answer}
 use Rattle.std.specs.declared.alloc.AllocError.{AllocError}
@@ -105,19 +105,19 @@ pub no_design : (tree : Text) → ((f : First) → IsFirst tree f → ⊥) → �
 no_design tree none is = none is.1.0 is.1.1
 
 -- a text that spells no design that is decided
-pub none_is_decided : (text : List ℕ) (tree : Text) (result : Result Answer AllocError) → IsTree text tree → first_fault tree ≡ None → ¬ IsDesign tree →
+pub none_is_decided : (text : List ℕ) (tree : Text) (result : Result Answer AllocError) → IsTree text tree → text_fault tree ≡ None → ¬ IsDesign tree →
     IfOk result (λ answer. answer.status ≡ Refused) → IfOk result (λ answer. answer.bytes.items ≡ fault_text text 32 0) →
     IfOk result (λ answer. (words : List (List ℕ)) → IsProve words → IsDue answer.status words text answer.bytes.items)
-none_is_decided text tree (Ok answer) is named none status bytes = λ words prove. due_fault words text 32 0 answer.status answer.bytes.items (inl prove) (undecided prove is named none) status bytes
-none_is_decided text tree (Err e) is named none status bytes = tt
+none_is_decided text tree (Ok answer) is faultless none status bytes = λ words prove. due_fault words text 32 0 answer.status answer.bytes.items (inl prove) (undecided prove is faultless none) status bytes
+none_is_decided text tree (Err e) is faultless none status bytes = tt
 
--- a text whose names or size have a fault
-pub names_are_due : (text : List ℕ) (tree : Text) (fault : Fault) (result : Result Answer AllocError) → IsTree text tree → first_fault tree ≡ Some fault →
+-- a text that has a fault though it is spelled
+pub faults_are_due : (text : List ℕ) (tree : Text) (fault : Fault) (result : Result Answer AllocError) → IsTree text tree → text_fault tree ≡ Some fault →
     IfOk result (λ answer. answer.status ≡ Refused) → IfOk result (λ answer. answer.bytes.items ≡ fault_text text fault.number fault.at) →
     IfOk result (λ answer. (words : List (List ℕ)) → IsProve words → IsDue answer.status words text answer.bytes.items)
-names_are_due text tree fault (Ok answer) is first status bytes =
-    λ words prove. due_fault words text fault.number fault.at answer.status answer.bytes.items (inl prove) (misnamed prove is first) status bytes
-names_are_due text tree fault (Err e) is first status bytes = tt
+faults_are_due text tree fault (Ok answer) is first status bytes =
+    λ words prove. due_fault words text fault.number fault.at answer.status answer.bytes.items (inl prove) (faulty prove is first) status bytes
+faults_are_due text tree fault (Err e) is first status bytes = tt
 
 -- a text that has a fault of form
 pub form_is_due : (command : Command) (text : List ℕ) (number at : ℕ) (result : Result Answer AllocError) → length text ≤ limit → HasFault text number at →
@@ -175,10 +175,10 @@ all_agree one agree text results others has have =
 no_report : IsOneTree → IsNotBoth → (words : List (List ℕ)) (text : List ℕ) (number at : ℕ) (results : List UnitResult) → IsFault words text number at → HasReport text results → ⊥
 no_report one both words text number at results (too_long long) has = let within = has.1.within in omega (arith, long, within)
 no_report one both words text number at results (malformed within bad) has = both text has.0 number at has.1.spelled bad
-no_report one both words text number at results (misnamed {tree = tree} {fault = fault} prove is first) has =
-    let named = (subst IsDesign (one text has.0 tree has.1.spelled is.spelled) has.2).0 in
-    none-some fault (sym named ∙ first)
-no_report one both words text number at results (undecided {tree = tree} prove is named none) has = none (subst IsDesign (one text has.0 tree has.1.spelled is.spelled) has.2)
+no_report one both words text number at results (faulty {tree = tree} {fault = fault} prove is first) has =
+    let faultless = (subst IsDesign (one text has.0 tree has.1.spelled is.spelled) has.2).0 in
+    none-some fault (sym faultless ∙ first)
+no_report one both words text number at results (undecided {tree = tree} prove is faultless none) has = none (subst IsDesign (one text has.0 tree has.1.spelled is.spelled) has.2)
 
 -- the two commands have different names
 not_both_commands : (words : List (List ℕ)) → IsProve words → IsPrint words → ⊥
@@ -190,8 +190,8 @@ not_both_commands words prove print = let e : codes "prove" ∷ [] ≡ codes "pr
 no_tree : IsNotBoth → (words : List (List ℕ)) (text : List ℕ) (number at : ℕ) (tree : Text) → IsPrint words → IsFault words text number at → IsTree text tree → ⊥
 no_tree both words text number at tree print (too_long long) is = let within = is.within in omega (arith, long, within)
 no_tree both words text number at tree print (malformed within bad) is = both text tree number at is.spelled bad
-no_tree both words text number at tree print (misnamed prove other first) is = not_both_commands words prove print
-no_tree both words text number at tree print (undecided prove other named none) is = not_both_commands words prove print
+no_tree both words text number at tree print (faulty prove other first) is = not_both_commands words prove print
+no_tree both words text number at tree print (undecided prove other faultless none) is = not_both_commands words prove print
 
 pub all_proved_is_sound : TrueUnitsAreSound → (r : Status) (words : List (List ℕ)) (text : List ℕ) (old new : Option (List ℕ)) → r ≡ AllProved → Ends r words text old new → IsSoundDesign text
 all_proved_is_sound law r words text old new is ends =

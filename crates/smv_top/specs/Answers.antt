@@ -8,7 +8,7 @@ use Rattle.smv_core.specs.First.{First, IsFirst}
 use Rattle.smv_core.specs.Verdict.{IsReport}
 use Rattle.smv_core.specs.declared.fault.Fault.{Fault}
 use Rattle.smv_core.specs.declared.tree.Text.{Text}
-use Rattle.smv_inst.specs.FirstFault.{first_fault}
+use Rattle.smv_front.specs.TextFault.{text_fault}
 use Rattle.smv_core.specs.declared.report.UnitResult.{UnitResult}
 use Rattle.smv_parse.specs.Spelling.{SpellsText, HasFault}
 use Rattle.smv_print.specs.Canonical.{canonical}
@@ -38,9 +38,9 @@ pub record IsTree (text : List ℕ) (tree : Text) : Type 0 where
   pub within : length text ≤ limit
   pub spelled : SpellsText text tree
 
--- the tree is a design that is decided: without a fault of its names or its size, and of the form that tables decide
+-- the tree is a design that is decided: without a fault of its names, its size or its kinds, and of the form that tables decide
 abbrev pub IsDesign : Text → Type 0
-IsDesign tree = (first_fault tree ≡ None) × ((parts : First) × IsFirst tree parts)
+IsDesign tree = (text_fault tree ≡ None) × ((parts : First) × IsFirst tree parts)
 
 -- the headline: every unit of the design that the text spells holds at every time of every run, for all sizes
 abbrev pub IsSoundDesign : List ℕ → Type 0
@@ -54,12 +54,12 @@ abbrev pub all_true : List UnitResult → Bool
 all_true results = list_all (λ result. is_true_verdict result.verdict) results
 
 -- The first fault of a text under the command, by its number and its offset: its length, or else its form, or else, where it is to be decided, the
--- first of its names and then of its size, or else that it spells no design that is decided.
+-- first of its names, its size and its kinds, pass by pass, or else that it spells no design that is decided.
 pub data IsFault : List (List ℕ) → List ℕ → ℕ → ℕ → Type 0 where
   too_long : {words : List (List ℕ)} {text : List ℕ} → limit < length text → IsFault words text 31 0
   malformed : {words : List (List ℕ)} {text : List ℕ} {number at : ℕ} → length text ≤ limit → HasFault text number at → IsFault words text number at
-  misnamed : {words : List (List ℕ)} {text : List ℕ} {tree : Text} {fault : Fault} → IsProve words → IsTree text tree → first_fault tree ≡ Some fault → IsFault words text fault.number fault.at
-  undecided : {words : List (List ℕ)} {text : List ℕ} {tree : Text} → IsProve words → IsTree text tree → first_fault tree ≡ None → ¬ IsDesign tree → IsFault words text 32 0
+  faulty : {words : List (List ℕ)} {text : List ℕ} {tree : Text} {fault : Fault} → IsProve words → IsTree text tree → text_fault tree ≡ Some fault → IsFault words text fault.number fault.at
+  undecided : {words : List (List ℕ)} {text : List ℕ} {tree : Text} → IsProve words → IsTree text tree → text_fault tree ≡ None → ¬ IsDesign tree → IsFault words text 32 0
 
 -- ---- the answer
 

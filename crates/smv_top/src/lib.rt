@@ -4,7 +4,7 @@
 ghost use Rattle.std.specs.Prelude.{◌≡◌, ◌≢◌, ◌≤◌, ◌⊎◌, List, ℕ, map, length, if◌then◌else◌, IfSome, IfNone, IfOk, None};
 ghost use Rattle.std.specs.String.{string_bytes};
 ghost use Rattle.std.specs.Io.KnownBytes.{Appends};
-ghost use Rattle.smv_inst.specs.FirstFault as inst;
+ghost use Rattle.smv_front.specs.TextFault as front;
 ghost use Rattle.smv_io.specs.Causes.{Rose};
 ghost use Rattle.smv_io.specs.Transfers.{TookFront};
 ghost use Rattle.smv_report.specs.Lines.{is_true_verdict, fault_text};
@@ -13,8 +13,8 @@ ghost use Rattle.smv_top.specs.Commands.{AsksFor, names};
 
 use smv_core::tree::Text;
 use smv_core::{Fault, Refusal, Report, UnitResult, Verdict};
+use smv_front::text_fault;
 use smv_io::{ReadError, Sink, Source, read_all, write_all};
-use smv_names::first_fault;
 use smv_parse::{one_answer, parse};
 use smv_print::print;
 use smv_report::{fault_line, lines};
@@ -214,12 +214,12 @@ fn printed(alloc: Global, text: &[u8], tree: &Text) -> Result<Answer, AllocError
     Ok(Answer { status, bytes })
 }
 
-// The answer to a text whose names and size are to have no fault.
+// The answer to a text whose names, size and kinds are to have no fault.
 fn checked(alloc: Global, text: &[u8], tree: &Text) -> Result<Answer, AllocError>
     requires { IsTree text.now tree.now }
     ensures { IfOk result (λ answer. (words : List (List ℕ)) → IsProve words → IsDue answer.status words text.now answer.bytes.items) }
 {
-    match first_fault(alloc, tree)? {
+    match text_fault(alloc, tree)? {
         None => decided(alloc, text, tree),
         Some(fault) => refused(alloc, text, fault),
     }
@@ -228,7 +228,7 @@ fn checked(alloc: Global, text: &[u8], tree: &Text) -> Result<Answer, AllocError
 // The answer to a text that is decided, where it is a design that is.
 fn decided(alloc: Global, text: &[u8], tree: &Text) -> Result<Answer, AllocError>
     requires tree { IsTree text.now tree.now }
-    requires named { inst.first_fault tree.now ≡ None }
+    requires faultless { front.text_fault tree.now ≡ None }
     ensures { IfOk result (λ answer. (words : List (List ℕ)) → IsProve words → IsDue answer.status words text.now answer.bytes.items) }
 {
     match first_design(tree) {

@@ -34,7 +34,130 @@ const FIVE_INDEXES: &str =
 
 const NOT_DECIDED: &str = "fault 32 at line 1 column 1\n";
 
+const TOO_LARGE: &str = "fault 25 at line 1 column 8\n";
+
+// Texts whose first fault is of kinds, with its number and its column; and well-kinded ones, which have none.
+const KINDS: &[(&str, &str)] = &[
+    (
+        "module main() { x : boolean; c : {red}; p : assert G (x = red); }",
+        "fault 12 at line 1 column 59\n",
+    ),
+    (
+        "module main() { x : 3..2; }",
+        "fault 13 at line 1 column 21\n",
+    ),
+    (
+        "module main() { x : boolean; p : assert G (x = {0, 1}); }",
+        "fault 14 at line 1 column 48\n",
+    ),
+    (
+        "module main() { x : boolean; c : {red}; switch (x) { 0, red : x := 1; } }",
+        "fault 12 at line 1 column 57\n",
+    ),
+    (
+        "scalarset P undefined; module main() { a : P; y : array 0..1 of boolean; p : assert G y[a]; }",
+        "fault 12 at line 1 column 89\n",
+    ),
+    (
+        "module main() { y : array 0..1 of boolean; c : {red}; p : assert G y[{red}]; }",
+        "fault 14 at line 1 column 70\n",
+    ),
+    // The first by its place.
+    (
+        "module main() { x : boolean; p : assert G (x = {0, 1}); y : 3..2; }",
+        "fault 14 at line 1 column 48\n",
+    ),
+    // Names come first, and then the size.
+    (
+        "module main() { x : 3..2; x := z; }",
+        "fault 7 at line 1 column 32\n",
+    ),
+    (
+        "module main() { x : 3..2; y : array 0..255 of array 0..1 of boolean; }",
+        TOO_LARGE,
+    ),
+    (
+        "scalarset P undefined; module main() { a : P; y : array P of boolean; y[0] := 0; y[a] := 1; next(y[1 + 1]) := 0; }",
+        "fault 15 at line 1 column 82\n",
+    ),
+    (
+        "module inverter(a, b) { input a : boolean; output b : boolean; b := ~a; } module main() { x, y : boolean; n : inverter(x, y); }",
+        NOT_DECIDED,
+    ),
+];
+
 // The words, parted by blanks.
+// Texts whose first fault is of single assignment, loops or layers, with its number and its column; and texts that have none.
+const FLAT: &[(&str, &str)] = &[
+    (
+        "module main() { x : boolean; x := 0; x := 1; }",
+        "fault 15 at line 1 column 38\n",
+    ),
+    (
+        "module main() { x : boolean; x := 0; init(x) := 0; }",
+        "fault 16 at line 1 column 38\n",
+    ),
+    (
+        "module main() { x : boolean; forall (i in 0..1) x := 0; }",
+        "fault 17 at line 1 column 49\n",
+    ),
+    (
+        "module main() { a, b : boolean; a := b; b := a; }",
+        "fault 18 at line 1 column 41\n",
+    ),
+    (
+        "module main() { abstract s : boolean; x : boolean; layer L : { s := 0; } x := s; }",
+        "fault 19 at line 1 column 79\n",
+    ),
+    (
+        "module main() { abstract s : boolean; s := 0; }",
+        "fault 20 at line 1 column 39\n",
+    ),
+    // Each variable that is bound around both has to stand bare at one index of both.
+    (
+        "scalarset P undefined; module main() { x : array P of array P of boolean; forall (i in P) default { forall (j in P) x[i][j] := 0; } in { forall (j in P) x[j][i] := 1; } forall (i in P) forall (j in P) p[i][j] : assert G (i = j | x[i][j] = 0); }",
+        "fault 15 at line 1 column 154\n",
+    ),
+    (
+        "scalarset P undefined; module main() { c, e : boolean; d : P; x : array P of array P of array P of boolean; forall (i in P) if (c) x[i][i][d] := 0; else if (e) x[i][d][i] := 1; else x[d][i][i] := 0; }",
+        NOT_DECIDED,
+    ),
+    (
+        "module main() { i : 0..1; x : array 0..1 of 0..1; i := x[0]; x[0] := x[i]; }",
+        "fault 18 at line 1 column 62\n",
+    ),
+    (
+        "module main() { a, b : boolean; if (b) a := 1; b := a; }",
+        "fault 18 at line 1 column 48\n",
+    ),
+    (
+        "module m(a, b) { input a : boolean; output b : boolean; b := a; } module main() { x, y : boolean; n : m(x, y); x := y; }",
+        "fault 18 at line 1 column 112\n",
+    ),
+    // Two cells that constants keep apart, and a step in time.
+    (
+        "module main() { x : array 0..1 of boolean; x[0] := x[1]; x[1] := 0; }",
+        NOT_DECIDED,
+    ),
+    (
+        "module main() { a, b : boolean; next(a) := b; b := a; }",
+        NOT_DECIDED,
+    ),
+    // Single assignment is looked at before loops, and loops before layers.
+    (
+        "module main() { a : boolean; a := a; init(a) := 0; }",
+        "fault 16 at line 1 column 38\n",
+    ),
+    (
+        "module main() { abstract s : boolean; a : boolean; layer L : { s := 0; } next(a) := s; a := a; }",
+        "fault 16 at line 1 column 88\n",
+    ),
+    (
+        "module main() { abstract s : boolean; a, b : boolean; layer L : { s := 0; } b := s; a := a; }",
+        "fault 18 at line 1 column 85\n",
+    ),
+];
+
 fn words(alloc: Global, line: &str) -> Result<Vec<String>, AllocError> {
     let mut words = Vec::new(alloc);
     for word in line.split_ascii_whitespace() {
@@ -66,7 +189,7 @@ fn a_status_and_an_answer(rt: HostRuntime) -> Result<(), Fail> {
         ("prove", TWICE, 3, "fault 8 at line 1 column 30\n"),
         ("prove", WITHIN_ITSELF, 3, "fault 10 at line 1 column 21\n"),
         ("prove", MISCOUNTED, 3, "fault 11 at line 1 column 56\n"),
-        ("prove", FIVE_INDEXES, 3, "fault 25 at line 1 column 8\n"),
+        ("prove", FIVE_INDEXES, 3, TOO_LARGE),
         ("prove", "module main() { }", 3, NOT_DECIDED),
         ("prove", OPEN, 3, "fault 4 at line 1 column 17\n"),
         ("print", OPEN, 3, "fault 4 at line 1 column 17\n"),
@@ -93,6 +216,75 @@ fn a_status_and_an_answer(rt: HostRuntime) -> Result<(), Fail> {
     Ok(())
 }
 
+#[test]
+fn kinds_are_looked_at(rt: HostRuntime) -> Result<(), Fail> {
+    for (text, answer) in KINDS {
+        let (status, written) = answered(rt.alloc(), "prove", text.as_bytes())?;
+        assert_eq!(rt; status, 3, "{text}");
+        assert_eq!(rt; written.as_slice(), answer.as_bytes(), "{text}");
+    }
+    Ok(())
+}
+
+#[test]
+fn single_assignment_loops_and_layers_are_looked_at(rt: HostRuntime) -> Result<(), Fail> {
+    for (text, answer) in FLAT {
+        let (status, written) = answered(rt.alloc(), "prove", text.as_bytes())?;
+        assert_eq!(rt; status, 3, "{text}");
+        assert_eq!(rt; written.as_slice(), answer.as_bytes(), "{text}");
+    }
+    Ok(())
+}
+
+// Each limit of the size at its number, and one past it.
+#[test]
+fn limits_of_the_size(rt: HostRuntime) -> Result<(), Fail> {
+    let alloc = rt.alloc();
+    let table = [
+        (constants(alloc, 4096)?, NOT_DECIDED),
+        (constants(alloc, 4097)?, TOO_LARGE),
+        (arrays(alloc, &["0..1"; 4])?, NOT_DECIDED),
+        (arrays(alloc, &["0..1"; 5])?, TOO_LARGE),
+        (arrays(alloc, &["0..255"])?, NOT_DECIDED),
+        (arrays(alloc, &["0..255", "0..1"])?, TOO_LARGE),
+        (statements(alloc, 254)?, NOT_DECIDED),
+        (statements(alloc, 255)?, TOO_LARGE),
+    ];
+    for (text, answer) in table {
+        let (status, written) = answered(alloc, "prove", text.as_bytes())?;
+        assert_eq!(rt; status, 3, "{text}");
+        assert_eq!(rt; written.as_slice(), answer.as_bytes(), "{text}");
+    }
+    Ok(())
+}
+
+// A signal over this many constants.
+fn constants(alloc: Global, count: u16) -> Result<String, AllocError> {
+    let mut text = String::from_str(alloc, "module main() { x : {c0")?;
+    for number in 1..count {
+        text.push_str(&format!(in alloc; ",c{number}")?)?;
+    }
+    text.push_str("}; }")?;
+    Ok(text)
+}
+
+// A signal over these index types.
+fn arrays(alloc: Global, indexes: &[&str]) -> Result<String, AllocError> {
+    let mut text = String::from_str(alloc, "module main() { x : ")?;
+    for index in indexes {
+        text.push_str(&format!(in alloc; "array {index} of ")?)?;
+    }
+    text.push_str("boolean; }")?;
+    Ok(text)
+}
+
+// A loop of 255 loops of 255 blocks, and then a loop of this many blocks: 1 + 255 + 255 * 255 + 1 + count statements.
+fn statements(alloc: Global, count: u16) -> Result<String, AllocError> {
+    format!(in alloc;
+        "module main() {{ for (a = 0; a < 255; a = a + 1) for (b = 0; b < 255; b = b + 1) {{ }} for (c = 0; c < {count}; c = c + 1) {{ }} }}"
+    )
+}
+
 const TRUE: &str = "p: true\nproved 1 of 1\n";
 
 // False at time 0, where x is 0 or 1.
@@ -116,7 +308,8 @@ const AT_10: &[&str] = &[FALLS, HIGH, TRUE, HIGH, HIGH];
 
 const AT_11: &[&str] = &[TRUE, HIGH, TRUE, HIGH, HIGH];
 
-const NONE: &[&str] = &[NOT_DECIDED; 5];
+// The signal at time 0 reads itself.
+const ITSELF: &[&str] = &["fault 18 at line 1 column 30\n"; 5];
 
 #[test]
 fn all_small_toggles(rt: HostRuntime) -> Result<(), Fail> {
@@ -134,7 +327,7 @@ fn all_small_toggles(rt: HostRuntime) -> Result<(), Fail> {
         ("~0 & 1", "1", AT_11),
         ("~0 & 1", "x", AT_11),
         ("~0 & 1", "~x", AT_10),
-        ("x", "~x", NONE),
+        ("x", "~x", ITSELF),
     ];
     for (init, next, answers) in rows {
         for (claim, answer) in CLAIMS.iter().zip(answers) {
@@ -153,14 +346,17 @@ fn toggle(alloc: Global, init: &str, next: &str, claim: &str) -> Result<String, 
 }
 
 #[test]
-fn a_byte_more_than_the_limit(rt: HostRuntime) -> Result<(), Fail> {
-    let blanks = vec![in rt.alloc(); b' '; 1_048_577]?;
-    let (status, written) = answered(rt.alloc(), "prove", &blanks)?;
-    assert_eq!(rt; status, 3);
-    assert_eq!(rt;
-        written.as_slice(),
-        b"fault 31 at line 1 column 1\n".as_slice()
-    );
+fn as_many_bytes_as_the_limit_and_one_more(rt: HostRuntime) -> Result<(), Fail> {
+    let table = [
+        (1_048_576, "fault 9 at line 1 column 1\n"),
+        (1_048_577, "fault 31 at line 1 column 1\n"),
+    ];
+    for (count, answer) in table {
+        let blanks = vec![in rt.alloc(); b' '; count]?;
+        let (status, written) = answered(rt.alloc(), "prove", &blanks)?;
+        assert_eq!(rt; status, 3, "{count}");
+        assert_eq!(rt; written.as_slice(), answer.as_bytes(), "{count}");
+    }
     Ok(())
 }
 

@@ -1,6 +1,6 @@
 use Rattle.std.proofs.Common.{sym}
-use Rattle.smv_top.proofs.Endings.{names_are_due}
+use Rattle.smv_top.proofs.Endings.{faults_are_due}
 use Rattle.smv_top.proofs.checked.Goals as goal
 
 pub returns-in-Some : goal.returns-in-Some
-returns-in-Some c = names_are_due _ _ c.in-Some.fault _ c.requires (sym (rw c.in-Some.is at c.in_ok-first_fault.ensures)) c.refused.ensures.status c.refused.ensures.bytes
+returns-in-Some c = faults_are_due _ _ c.in-Some.fault _ c.requires (sym (rw c.in-Some.is at c.in_ok-text_fault.ensures)) c.refused.ensures.status c.refused.ensures.bytes

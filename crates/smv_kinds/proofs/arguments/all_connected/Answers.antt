@@ -4,7 +4,7 @@ use Rattle.smv_core.specs.declared.fault.Fault.{Fault}
 use Rattle.smv_core.specs.declared.tree.Word.{Word}
 use Rattle.smv_core.specs.declared.tree.Expr.{Expr}
 use Rattle.smv_types.specs.KindFaults.{connected}
-use Rattle.smv_kinds.specs.Found.{scope_of}
+use Rattle.smv_forms.specs.Found.{scope_of}
 use Rattle.smv_kinds.proofs.ArgumentLaws.{args-step, args-done}
 use Rattle.smv_kinds.proofs.arguments.all_connected.Goals as goal
 

@@ -7,8 +7,9 @@ use Rattle.smv_inst.specs.declared.mentions.What.{What as NotedWhat}
 use Rattle.smv_scope.specs.Held.{own_of}
 use Rattle.smv_types.specs.References.{Scope}
 use Rattle.smv_types.specs.KindFaults.{connected}
-use Rattle.smv_kinds.specs.Found.{scope_of, argument_faults}
-use Rattle.smv_kinds.proofs.ScopeLaws.{own-here}
+use Rattle.smv_forms.specs.Found.{scope_of}
+use Rattle.smv_kinds.specs.Found.{argument_faults}
+use Rattle.smv_forms.proofs.ScopeLaws.{own-here}
 use Rattle.smv_kinds.proofs.formals.formal_named.Goals as goal
 
 pub returns-in-None : goal.returns-in-None

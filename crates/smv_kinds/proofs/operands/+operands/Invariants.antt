@@ -3,8 +3,9 @@ use Rattle.std.specs.List.{flat_map}
 use Rattle.std.specs.Prelude.{None}
 use Rattle.smv_types.specs.Kinds.{takes_number, alike_with, kind_with}
 use Rattle.smv_types.specs.Operands.{operand}
-use Rattle.smv_kinds.specs.Forms.{kind_of}
-use Rattle.smv_kinds.specs.Found.{begin, vars_of, scope_of, kinds_left, path_faults, addend, member}
+use Rattle.smv_forms.specs.Forms.{kind_of}
+use Rattle.smv_forms.specs.Found.{vars_of, scope_of}
+use Rattle.smv_kinds.specs.Found.{begin, kinds_left, path_faults, addend, member}
 use Rattle.smv_kinds.proofs.operands.+operands.Given as goal
 
 abbrev pub invariant-numbers-loop-x : goal.invariant-numbers-loop-x

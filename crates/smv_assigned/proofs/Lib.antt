@@ -1,0 +1,10 @@
+pub mod Computing
+pub mod PlaceLaws
+pub mod StandingLaws
+pub mod ClashLaws
+pub mod LinkLaws
+pub mod VariableLaws
+pub mod EarlierLaws
+pub mod FaultLaws
+pub mod ClassLaws
+pub mod WalkLaws

@@ -1,0 +1,10 @@
+use Rattle.std.proofs.Common.{◌≡◌, drop, map}
+use Rattle.std.specs.List.{flat_map}
+use Rattle.smv_inst.specs.Scopes.{first_of_places}
+use Rattle.smv_scope.specs.ScopeFault.{least}
+use Rattle.smv_single.specs.SingleFaults as spec
+use Rattle.smv_assigned.specs.Held.{standing_of}
+use Rattle.smv_assigned.proofs.variables.first_lacking.Given as goal
+
+abbrev pub invariant-loop-x : goal.invariant-loop-x
+invariant-loop-x l = first_of_places l.found (least (flat_map spec.lacking (map standing_of (drop l.x-index l.all)))) ≡ least (flat_map spec.lacking (map standing_of l.all))

@@ -1,0 +1,5 @@
+pub mod Places
+pub mod Held
+pub mod Clashes
+pub mod Links
+pub mod Walks

@@ -1,0 +1,56 @@
+//! The first fault of single assignment of a flattened text.
+#![tactic(auto)]
+
+ghost use Rattle.std.specs.Prelude.{◌≡◌, IfOk};
+ghost use Rattle.smv_scope.specs.ScopeFault.{fault_at};
+ghost use Rattle.smv_single.specs.SingleFaults.{first_fault_of_single};
+
+pub mod assignments;
+pub mod clashes;
+pub mod classes;
+pub mod conflicts;
+pub mod earlier;
+pub mod links;
+pub mod mixed;
+pub mod places;
+#[cfg(test)]
+mod tests;
+pub mod variables;
+
+use crate::assignments::assignments;
+use crate::classes::{CLASSES, classes};
+use crate::conflicts::first_conflict;
+use crate::links::linked_table;
+use crate::mixed::first_mixed;
+use crate::variables::first_without;
+use smv_core::Fault;
+use smv_core::flat::Raw;
+use smv_scope::scope::earlier;
+use std::alloc::{AllocError, Global};
+
+// A fault of this number at a place.
+fn fault(number: u8, at: Option<u32>) -> Option<Fault>
+    ensures { result ≡ fault_at number at }
+{
+    match at {
+        Some(at) => Some(Fault { number, at }),
+        None => None,
+    }
+}
+
+/// The first fault of a flattened text among 15 to 17, or none.
+pub fn single_fault(alloc: Global, raw: &Raw) -> Result<Option<Fault>, AllocError>
+    ensures { IfOk result (λ fault. fault ≡ first_fault_of_single raw.now) }
+{
+    let items = raw.items.as_slice();
+    let all = assignments(items, alloc)?;
+    let without = first_without(&all, items);
+    let classes = classes(alloc, &all)?;
+    let table = linked_table(alloc, all, classes, CLASSES)?;
+    let conflict = first_conflict(items, &table, alloc)?;
+    let mixed = first_mixed(&table);
+    Ok(earlier(
+        fault(15, conflict),
+        earlier(fault(16, mixed), fault(17, without)),
+    ))
+}

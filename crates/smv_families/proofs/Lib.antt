@@ -1,0 +1,12 @@
+pub mod ModuleLaws
+pub mod PathLaws
+pub mod NumberLaws
+pub mod ListLaws
+pub mod LeafLaws
+pub mod NamedLaws
+pub mod TopLaws
+pub mod StemLaws
+pub mod ItemLaws
+pub mod ConstantLaws
+pub mod FoundLaws
+pub mod BuildLaws

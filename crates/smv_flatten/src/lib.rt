@@ -1,0 +1,13 @@
+//! The flattened text.
+#![tactic(auto)]
+
+pub mod acts;
+pub mod connections;
+pub mod copies;
+pub mod flatten;
+pub mod goals;
+pub mod layers;
+pub mod leaves;
+pub mod met;
+pub mod places;
+pub mod roles;

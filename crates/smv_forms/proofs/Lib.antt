@@ -1,0 +1,5 @@
+pub mod PlaceLaws
+pub mod FormLaws
+pub mod PathLaws
+pub mod OwnLaws
+pub mod ScopeLaws

@@ -1,0 +1,19 @@
+-- The first fault of a text that is spelled.
+use Rattle.std.specs.Prelude.{Option}
+use Rattle.smv_core.specs.declared.fault.Fault.{Fault}
+use Rattle.smv_core.specs.declared.tree.Text.{Text}
+use Rattle.smv_core.specs.declared.flat.Raw.{Raw}
+use Rattle.smv_inst.specs.FirstFault.{first_fault, or_else}
+use Rattle.smv_types.specs.KindFaults.{first_fault_of_kinds}
+use Rattle.smv_flat.specs.Flattening.{flatten}
+use Rattle.smv_single.specs.SingleFaults.{first_fault_of_single}
+use Rattle.smv_single.specs.Definitions.{design_of_raw}
+use Rattle.smv_delay.specs.FirstFault.{first_fault_of_design}
+
+-- the first fault of a flattened text: of single assignment, or else of the loops and then of the layers of its design
+abbrev pub raw_fault : Raw → Option Fault
+raw_fault raw = or_else (first_fault_of_single raw) (first_fault_of_design (design_of_raw raw))
+
+-- the first fault of a text that is spelled, pass by pass: of its names and then of its size, or else of its kinds, or else of its flattened text
+unfoldable pub text_fault : Text → Option Fault
+text_fault text = or_else (first_fault text) (or_else (first_fault_of_kinds text) (raw_fault (flatten text)))

@@ -1,0 +1,64 @@
+//! The first fault of a text that is spelled, pass by pass.
+#![tactic(auto)]
+
+ghost use Rattle.std.specs.Prelude.{◌≡◌, IfOk};
+ghost use Rattle.smv_delay.specs.FirstFault.{first_fault_of_design};
+ghost use Rattle.smv_front.specs.TextFault as spec;
+
+mod depth;
+
+use crate::depth::is_too_deep;
+use smv_assigned::single_fault;
+use smv_core::Fault;
+use smv_core::flat::{Design, Raw};
+use smv_core::tree::Text;
+use smv_defined::design;
+use smv_flatten::flatten::flatten;
+use smv_inst::pieces::pieces;
+use smv_kinds::faults::kinds_fault;
+use smv_layers::layers::layer_fault;
+use smv_loops::loops::loop_fault;
+use smv_names::first_fault;
+use std::alloc::{AllocError, Global};
+
+// The first fault of a design: of its loops, or else of its layers.
+fn design_fault(alloc: Global, design: &Design) -> Result<Option<Fault>, AllocError>
+    ensures { IfOk result (λ fault. fault ≡ first_fault_of_design design.now) }
+{
+    match loop_fault(alloc, design)? {
+        Some(fault) => Ok(Some(fault)),
+        None => Ok(layer_fault(design)),
+    }
+}
+
+// The first fault of a flattened text: of single assignment, or else of its design.
+fn raw_fault(alloc: Global, raw: Raw) -> Result<Option<Fault>, AllocError>
+    ensures { IfOk result (λ fault. fault ≡ spec.raw_fault raw) }
+{
+    if let Some(fault) = single_fault(alloc, &raw)? {
+        return Ok(Some(fault));
+    }
+    let made = design(alloc, raw)?;
+    design_fault(alloc, &made)
+}
+
+/// The first fault of a text that is spelled: of its names and then of its size, or else of its kinds, or else of its flattened text. A later pass
+/// looks only at what the earlier ones found no fault in. `AllocError` also where statements stand more than 1,000 deep inside one another, each
+/// arm of a `switch` inside the one before: the flattened text would want more stack than there may be.
+#[tactic(auto, unfolding(crate::specs::TextFault::text_fault))]
+pub fn text_fault(alloc: Global, text: &Text) -> Result<Option<Fault>, AllocError>
+    ensures { IfOk result (λ fault. fault ≡ spec.text_fault text.now) }
+{
+    let pieces = pieces(alloc, text)?;
+    if let Some(fault) = first_fault(alloc, text, &pieces)? {
+        return Ok(Some(fault));
+    }
+    if let Some(fault) = kinds_fault(alloc, text, &pieces)? {
+        return Ok(Some(fault));
+    }
+    if is_too_deep(text) {
+        return Err(AllocError);
+    }
+    let raw = flatten(alloc, text, &pieces)?;
+    raw_fault(alloc, raw)
+}

@@ -1,6 +1,0 @@
-use Rattle.std.proofs.Common.{◌≡◌, drop}
-use Rattle.smv_inst.specs.Scopes.{has_name}
-use Rattle.smv_kinds.proofs.fields.has_name.Given as goal
-
-abbrev pub invariant-loop-word : goal.invariant-loop-word
-invariant-loop-word l = has_name (drop l.word-index l.words) l.name ≡ has_name l.words l.name

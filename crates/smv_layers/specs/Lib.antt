@@ -1,0 +1,3 @@
+pub mod Leaks
+pub mod Bases
+pub mod OneBase

@@ -1,0 +1,13 @@
+pub mod Computing
+pub mod Listing
+pub mod IndexLaws
+pub mod ExpressionLaws
+pub mod PartLaws
+pub mod NumberLaws
+pub mod RankLaws
+pub mod Members
+pub mod CycleLaws
+pub mod Slices
+pub mod TableLaws
+pub mod SortLaws
+pub mod ClosingLaws

@@ -1,0 +1,9 @@
+use Rattle.std.proofs.Common.{◌≡◌, ◌++◌, map, drop}
+use Rattle.std.specs.List.{flat_map}
+use Rattle.smv_loops.specs.Held.{reference_of}
+use Rattle.smv_loops.specs.Cells.{number_in, reads_of}
+use Rattle.smv_loops.proofs.cells.links.Given as goal
+
+abbrev pub invariant-loop-read : goal.invariant-loop-read
+invariant-loop-read l =
+    l.to.items ++ map (number_in l.families) (flat_map (reads_of l.families) (map reference_of (drop l.read-index l.held.reads.items))) ≡ map (number_in l.families) (flat_map (reads_of l.families) (map reference_of l.held.reads.items))

@@ -1,0 +1,12 @@
+use Rattle.std.proofs.Common.{◌≡◌, List, refl, sym, ap, ◌∙◌}
+use Rattle.std.specs.List.{flat_map}
+use Rattle.smv_delay.specs.Reading.{Reading}
+use Rattle.smv_delay.specs.Loops.{hold_a_cycle}
+use Rattle.smv_loops.specs.Edges.{edges_at}
+use Rattle.smv_loops.proofs.ClosingLaws.{take-whole}
+use Rattle.smv_loops.proofs.loops.first_closing.Goals as goal
+
+pub returns : goal.returns
+returns c = λ readings all.
+    c.in_ok-first.ensures readings all refl
+    (ap (λ (l : List Reading). hold_a_cycle (flat_map (edges_at c.args.families.now) l)) (take-whole c.args.families.now c.args.links.now readings all) ∙ sym (c.in_ok-held.ensures readings all) ∙ c.if-not-held.false)

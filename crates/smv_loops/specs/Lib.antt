@@ -1,0 +1,6 @@
+pub mod Held
+pub mod Ranks
+pub mod Cells
+pub mod Numbers
+pub mod Bases
+pub mod Edges

@@ -1,0 +1,12 @@
+//! Loops without delay: the first assignment with which cells of a design read themselves at one time.
+#![tactic(auto)]
+
+pub mod base;
+pub mod cells;
+pub mod index;
+pub mod loops;
+pub mod order;
+pub mod ranks;
+pub mod reading;
+#[cfg(test)]
+mod tests;

@@ -1,0 +1,139 @@
+// Loops without delay.
+ghost use Rattle.std.specs.Prelude.{◌≡◌, ℕ, ◌<◌, ◌≤◌, List, length, map, take, flat_map, true, false, IfOk, MatchOption};
+ghost use Rattle.smv_delay.specs.FirstFault.{first_fault_of_loops};
+ghost use Rattle.smv_delay.specs.Loops as spec;
+ghost use Rattle.smv_delay.specs.Reading.{Reading};
+ghost use Rattle.smv_loops.specs.Cells.{base};
+ghost use Rattle.smv_loops.specs.Edges.{AllLinks, IsFirst, edges_at};
+ghost use Rattle.smv_loops.specs.Held.{reading_of};
+ghost use Rattle.smv_loops.specs.Numbers.{AreBases};
+ghost use Rattle.smv_loops.specs.Ranks.{AreBelow, rank};
+
+use crate::base::undelayed;
+use crate::cells::{bases, links};
+use crate::order::in_flat_order;
+use crate::ranks::{Links, ranks};
+use crate::reading::Held;
+use smv_core::fault::Fault;
+use smv_core::flat::{Design, Family};
+use std::alloc::{AllocError, Global};
+
+/// The fault of loops of a design, if it has one: its first assignment, in flat order, with which there is a loop.
+/// The error is also answered where cells have more numbers than fit, which no text within the limits has.
+pub fn loop_fault(alloc: Global, design: &Design) -> Result<Option<Fault>, AllocError>
+    ensures { IfOk result (λ fault. fault ≡ first_fault_of_loops design.now) }
+{
+    let held = in_flat_order(undelayed(alloc, design)?)?;
+    let first = first_of(alloc, design.families.as_slice(), held.as_slice())?;
+    match first {
+        None => Ok(None),
+        Some(first) => {
+            let at = held[first].at;
+            Ok(Some(Fault { number: 18, at }))
+        }
+    }
+}
+
+// The first assignment with which those before it hold a cycle, if there is one.
+fn first_of(alloc: Global, families: &[Family], held: &[Held]) -> Result<Option<usize>, AllocError>
+    ensures { IfOk result (λ first. MatchOption first (spec.hold_a_cycle (flat_map (edges_at families.now) (map reading_of held.now)) ≡ false) (λ k. IsFirst families.now (map reading_of held.now) k)) }
+{
+    let bases = bases(alloc, families)?;
+    let links = all_links(alloc, families, bases.as_slice(), held)?;
+    let cells = bases[families.len()];
+    first_closing(alloc, families, cells, links.as_slice())
+}
+
+// The links of all of these assignments.
+fn all_links(
+    alloc: Global,
+    families: &[Family],
+    bases: &[usize],
+    held: &[Held],
+) -> Result<Vec<Links>, AllocError>
+    requires { AreBases families.now bases.now }
+    ensures { IfOk result (λ links. AllLinks families.now links.items (map reading_of held.now)) }
+{
+    let mut all = Vec::new(alloc);
+    for x in held {
+        all.push(links(alloc, families, bases, x)?)?;
+    }
+    Ok(all)
+}
+
+// The same by links.
+fn first_closing(
+    alloc: Global,
+    families: &[Family],
+    cells: usize,
+    links: &[Links],
+) -> Result<Option<usize>, AllocError>
+    requires cells { cells ≡ base families.now (length families.now) }
+    requires below { AreBelow cells links.now }
+    ensures { (readings : List Reading) → AllLinks families.now links.now readings → IfOk result (λ first. MatchOption first (spec.hold_a_cycle (flat_map (edges_at families.now) readings) ≡ false) (λ k. IsFirst families.now readings k)) }
+{
+    if links.is_empty() {
+        return Ok(None);
+    }
+    let held = hold_a_cycle(alloc, families, cells, links)?;
+    if !held {
+        return Ok(None);
+    }
+    let first = between(alloc, families, cells, links, 0, links.len())?;
+    Ok(Some(first))
+}
+
+// The same, between so many assignments that hold none and so many that hold one.
+fn between(
+    alloc: Global,
+    families: &[Family],
+    cells: usize,
+    links: &[Links],
+    low: usize,
+    high: usize,
+) -> Result<usize, AllocError>
+    requires cells { cells ≡ base families.now (length families.now) }
+    requires below { AreBelow cells links.now }
+    requires order { low < high }
+    requires high { high ≤ length links.now }
+    ensures { (readings : List Reading) → AllLinks families.now links.now readings → spec.hold_a_cycle (flat_map (edges_at families.now) (take low readings)) ≡ false → spec.hold_a_cycle (flat_map (edges_at families.now) (take high readings)) ≡ true → IfOk result (λ k. IsFirst families.now readings k) }
+{
+    if high - low <= 1 {
+        return Ok(low);
+    }
+    let middle = low + (high - low) / 2;
+    let held = hold_a_cycle(alloc, families, cells, &links[..middle])?;
+    if held {
+        between(alloc, families, cells, links, low, middle)
+    } else {
+        between(alloc, families, cells, links, middle, high)
+    }
+}
+
+// Whether the edges of assignments hold a cycle.
+fn hold_a_cycle(
+    alloc: Global,
+    families: &[Family],
+    cells: usize,
+    links: &[Links],
+) -> Result<bool, AllocError>
+    requires cells { cells ≡ base families.now (length families.now) }
+    requires below { AreBelow cells links.now }
+    ensures { (readings : List Reading) → AllLinks families.now links.now readings → IfOk result (λ held. held ≡ spec.hold_a_cycle (flat_map (edges_at families.now) readings)) }
+{
+    let ranks = ranks(alloc, cells, links)?;
+    Ok(has_none(ranks.as_slice()))
+}
+
+// Whether a cell has no rank.
+fn has_none(ranks: &[usize]) -> bool
+    ensures some { result ≡ true → (cell : ℕ) × (cell < length ranks.now) × (rank ranks.now cell ≡ 0) }
+    ensures none { result ≡ false → (cell : ℕ) → cell < length ranks.now → 0 < rank ranks.now cell }
+{
+    for rank in ranks {
+        if *rank == 0 {
+            return true;
+        }
+    }
+    false
+}

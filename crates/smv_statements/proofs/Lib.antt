@@ -1,0 +1,6 @@
+pub mod ExpressionLaws
+pub mod PlaceLaws
+pub mod VarLaws
+pub mod PathLaws
+pub mod StatementLaws
+pub mod TurnLaws
