@@ -196,7 +196,7 @@ mixed-by by b is comb xs =
 
 -- ---- chains of links
 
-cases_le : (a b : ℕ) → (a ≤ b) ⊎ (b < a)
+pub cases_le : (a b : ℕ) → (a ≤ b) ⊎ (b < a)
 cases_le zero b = inl (omega arith)
 cases_le (suc a) zero = inr (omega arith)
 cases_le (suc a) (suc b) = elim (cases_le a b) [ inl h ↦ inl (omega (arith, h)) | inr h ↦ inr (omega (arith, h)) ]
