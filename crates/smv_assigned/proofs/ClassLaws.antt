@@ -1,6 +1,6 @@
 -- Classes of assignments.
-use Rattle.std.proofs.Common.{◌≡◌, ◌≢◌, ◌≤◌, ◌<◌, ◌+◌, ℕ, zero, suc, List, [], ◌∷◌, ◌++◌, map, length, get_or, take, set, zip, Bool, true, false, not, cond, ◌&&◌, ◌||◌, refl, ap, sym, ◌∙◌, arith, subst, ◌⊎◌, inl, inr, get_or-set_other, get_or-set_same}
-use Rattle.std.specs.Prelude.{Option, Some, None, slice_get, nat_eq, is_some, option_and_then, Result, Ok, Err, IfOk}
+use Rattle.std.proofs.Common.{◌≡◌, ◌<◌, ◌+◌, ℕ, zero, suc, List, [], ◌∷◌, ◌++◌, map, length, get_or, set, zip, Bool, true, false, not, cond, ◌&&◌, ◌||◌, refl, ap, sym, ◌∙◌, arith, subst, ◌⊎◌, inl, inr, get_or-set_other, get_or-set_same}
+use Rattle.std.specs.Prelude.{Option, Some, None, slice_get, nat_eq, is_some, Result, Ok, Err, IfOk}
 use Rattle.std.specs.List.{list_any}
 use Rattle.std.specs.Option.{option_eq}
 use Rattle.std.specs.HashMap.{HashMap, Updates}
@@ -8,7 +8,7 @@ use Rattle.std.proofs.lemmas.Bool.{eqb-true, eq-eqb, cases_eq}
 use Rattle.std.proofs.lemmas.Option.{slice_get_within}
 use Rattle.std.proofs.lemmas.List.{get_or_append_left}
 use Rattle.std.proofs.Math.Seq.{get_or-append_seam}
-use Rattle.smv_core.specs.Values.{number, constant, scalar, ordinal, same}
+use Rattle.smv_core.specs.Values.{number, constant, scalar, ordinal}
 use Rattle.smv_core.specs.Assignments.{Index, fixed, bare, computed}
 use Rattle.smv_core.specs.Conflicts.{are_two_constants}
 use Rattle.smv_core.specs.Flat.{flat_index}
@@ -17,7 +17,7 @@ use Rattle.smv_flat.specs.WholeText.{is_one_layer}
 use Rattle.smv_single.specs.Standing.{Standing}
 use Rattle.smv_single.specs.SingleFaults.{may_meet, differ}
 use Rattle.smv_assigned.specs.Links.{AreClassed}
-use Rattle.smv_assigned.specs.Classes.{constant_value, constant_in, value_by, kept_if, kept_at, AreBelow, AreSteady, AreRefined, same_key, number_at}
+use Rattle.smv_assigned.specs.Classes.{constant_value, constant_in, value_by, kept_if, kept_at, AreSteady, AreRefined, same_key, number_at}
 use Rattle.smv_assigned.specs.declared.classes.Criterion.{Criterion}
 use Rattle.smv_assigned.specs.declared.classes.Criterion.TheVariants.{Family, Layer, Constant}
 use Rattle.smv_assigned.proofs.EarlierLaws.{and-left, and-right}

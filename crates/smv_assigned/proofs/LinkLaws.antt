@@ -1,19 +1,16 @@
 -- Links to earlier assignments, and parts of the list of assignments.
-use Rattle.std.proofs.Common.{◌≡◌, ◌≢◌, ◌≤◌, ◌<◌, ℕ, zero, suc, ◌+◌, ◌-◌, List, [], ◌∷◌, ◌++◌, map, length, get_or, take, drop, set, Bool, true, false, cond, ◌&&◌, ◌||◌, refl, ap, sym, ◌∙◌, arith, subst, ◌⊎◌, inl, inr, get_or-set_other, get_or-set_same, length-append}
-use Rattle.std.specs.Prelude.{Option, Some, None, slice_get}
+use Rattle.std.proofs.Common.{◌≡◌, ◌≤◌, ◌<◌, ℕ, zero, suc, ◌+◌, ◌-◌, List, [], ◌∷◌, ◌++◌, map, length, get_or, take, drop, set, Bool, true, false, cond, ◌||◌, refl, ap, sym, ◌∙◌, arith, subst, ◌⊎◌, inl, inr, get_or-set_other, get_or-set_same, length-append}
+use Rattle.std.specs.Prelude.{Some, slice_get}
 use Rattle.std.specs.List.{flat_map, list_any}
 use Rattle.std.proofs.lemmas.Bool.{cases_eq}
-use Rattle.std.proofs.lemmas.Option.{slice_get_within}
 use Rattle.std.proofs.lemmas.List.{append-nil, append_assoc, take-append-drop, get_or_append_left}
 use Rattle.std.proofs.Math.Seq.{drop-append_seam, take-append_seam, get_or-append_seam}
 use Rattle.smv_core.specs.Walk.{same_kind}
 use Rattle.smv_core.specs.declared.tree.Kind.{Kind}
 use Rattle.smv_single.specs.Standing.{Standing}
-use Rattle.smv_single.specs.SingleFaults.{may_meet}
 use Rattle.smv_assigned.specs.declared.assignments.Assignment.{Assignment}
 use Rattle.smv_assigned.specs.Held.{standing_of}
-use Rattle.smv_assigned.specs.Links.{AreClassed, AreLinked, IsBehind, StandsAt, between}
-use Rattle.smv_assigned.proofs.ClashLaws.{flat_map-append}
+use Rattle.smv_assigned.specs.Links.{IsBehind, StandsAt, between}
 
 -- ---- what is held at a place
 

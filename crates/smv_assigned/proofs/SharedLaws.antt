@@ -1,11 +1,11 @@
 -- Assignments that share their variables, and parts of the list between which none clash.
 use Rattle.std.proofs.Common.{◌≡◌, ◌≤◌, ◌<◌, ℕ, zero, suc, ◌+◌, ◌-◌, List, [], ◌∷◌, ◌++◌, map, filter, length, get_or, take, drop, zip, Bool, true, false, not, cond, ◌&&◌, ◌||◌, refl, ap, sym, ◌∙◌, arith, subst, ◌⊎◌, inl, inr}
-use Rattle.std.specs.Prelude.{Option, Some, None, slice_get, nat_eq}
-use Rattle.std.specs.List.{flat_map, list_any, list_all, All, Contains}
+use Rattle.std.specs.Prelude.{Option, Some, slice_get, nat_eq}
+use Rattle.std.specs.List.{list_any, list_all, Contains}
 use Rattle.std.specs.HashMap.{HashMap}
-use Rattle.std.proofs.lemmas.Bool.{cases_eq, eq-eqb, eqb-true}
+use Rattle.std.proofs.lemmas.Bool.{cases_eq}
 use Rattle.std.proofs.lemmas.Option.{slice_get_within, get_or_from_slice_get}
-use Rattle.std.proofs.lemmas.List.Elements.{All-nil, All-cons, All-append, All-weaker, All-get_or, All-contains, All-more, Contains-append_right, Contains-get_or}
+use Rattle.std.proofs.lemmas.List.Elements.{All-nil, All-cons, All-append, All-weaker, All-get_or, All-contains, Contains-append_right, Contains-get_or}
 use Rattle.smv_core.specs.Assignments.{Index, fixed, bare, computed}
 use Rattle.smv_core.specs.Conflicts.{are_both}
 use Rattle.smv_core.specs.Flat.{flat_index}
@@ -13,10 +13,9 @@ use Rattle.smv_core.specs.declared.flat.FlatExpr.{FlatExpr}
 use Rattle.smv_core.specs.declared.flat.FlatStmt.{FlatStmt, Assign, If', Block', Default', Forall', Row_of-FlatStmt, end_of-FlatStmt, more_of-FlatStmt}
 use Rattle.smv_single.specs.Standing.{Standing, standing, standing_in}
 use Rattle.smv_single.specs.SingleFaults.{later_places, may_meet, meet, cross, share}
-use Rattle.smv_scope.specs.ScopeFault.{least}
 use Rattle.smv_assigned.specs.Links.{AreClassed, between}
 use Rattle.smv_assigned.specs.Shared.{AreShared, AreInside, AreApart, HasSpot, HasSpots, is_bare, is_at, spot_at}
-use Rattle.smv_assigned.proofs.EarlierLaws.{and-left, and-right}
+use Rattle.smv_assigned.proofs.EarlierLaws.{and-right}
 
 -- ---- variables around
 

@@ -1,11 +1,11 @@
 -- What is found in statements, from their parts.
-use Rattle.std.proofs.Common.{◌≡◌, ◌≤◌, ◌<◌, ℕ, ◌+◌, List, [], ◌∷◌, ◌++◌, length, get_or, take, refl, ap, sym, ◌∙◌, arith, subst, length-append}
-use Rattle.std.specs.Prelude.{Option, Some, None, Result, Ok, Err, IfOk}
+use Rattle.std.proofs.Common.{◌≡◌, ◌≤◌, ◌<◌, ℕ, ◌+◌, List, ◌∷◌, ◌++◌, length, get_or, take, refl, ap, sym, ◌∙◌, arith, subst, length-append}
+use Rattle.std.specs.Prelude.{Option, Result, Ok, Err, IfOk}
 use Rattle.std.specs.List.{flat_map}
 use Rattle.smv_inst.specs.Scopes.{first_of_places}
 use Rattle.smv_scope.specs.ScopeFault.{least}
 use Rattle.smv_core.specs.declared.flat.FlatExpr.{FlatExpr}
-use Rattle.smv_core.specs.declared.flat.FlatStmt.{FlatStmt, If, Default, Forall, Block, Assign}
+use Rattle.smv_core.specs.declared.flat.FlatStmt.{FlatStmt, If, Default, Forall, Block}
 use Rattle.smv_core.specs.declared.flat.Simple.{Simple}
 use Rattle.smv_single.specs.Standing.{Standing, standing}
 use Rattle.smv_single.specs.SingleFaults.{conflicts, cross, later_places, meet}
@@ -14,7 +14,7 @@ use Rattle.smv_assigned.specs.Held.{among}
 use Rattle.smv_assigned.specs.Links.{StandsAt, between}
 use Rattle.smv_assigned.specs.Walks.{IsWalked}
 use Rattle.smv_assigned.proofs.StandingLaws.{standing-If, standing-Default, standing-Block, standing-Forall, conflicts-If, conflicts-Default, conflicts-Block, conflicts-Forall}
-use Rattle.smv_assigned.proofs.LinkLaws.{stands-left, stands-right, stands-between, stands-part, take-more}
+use Rattle.smv_assigned.proofs.LinkLaws.{stands-left, stands-right, stands-between, stands-part}
 use Rattle.smv_assigned.proofs.EarlierLaws.{among-step, end-step, branches-found}
 
 module _ (all : List Standing) where

@@ -33,11 +33,7 @@ fn value_of(x: &Assignment, by: Criterion) -> Option<u16>
 }
 
 // The values of these assignments.
-fn values(
-    alloc: Global,
-    all: &[Assignment],
-    by: Criterion,
-) -> Result<Vec<Option<u16>>, AllocError>
+fn values(alloc: Global, all: &[Assignment], by: Criterion) -> Result<Vec<Option<u16>>, AllocError>
     ensures { IfOk result (λ values. values.items ≡ map (value_by by) (map standing_of all.now)) }
 {
     let mut values = Vec::new(alloc);
@@ -60,11 +56,7 @@ fn marks(alloc: Global, count: usize) -> Result<Vec<bool>, AllocError>
 }
 
 // The classes of which each assignment has a value.
-fn steady(
-    alloc: Global,
-    classes: &[usize],
-    values: &[Option<u16>],
-) -> Result<Vec<bool>, AllocError>
+fn steady(alloc: Global, classes: &[usize], values: &[Option<u16>]) -> Result<Vec<bool>, AllocError>
     requires below { AreBelow classes.now (length classes.now) }
     requires values { length values.now ≡ length classes.now }
     ensures length { IfOk result (λ marks. length marks.items ≡ length classes.now) }

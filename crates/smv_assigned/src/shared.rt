@@ -74,12 +74,7 @@ fn spots(
 }
 
 // A variable stands bare at its index for this class.
-fn has_spot(
-    spots: &HashMap<(usize, u16), usize>,
-    class: usize,
-    left: &[FlatExpr],
-    var: u16,
-) -> bool
+fn has_spot(spots: &HashMap<(usize, u16), usize>, class: usize, left: &[FlatExpr], var: u16) -> bool
     ensures { result ≡ true → HasSpot spots.now class left.now var }
 {
     match spots.get(&(class, var)) {
@@ -101,11 +96,7 @@ fn has_spots(spots: &HashMap<(usize, u16), usize>, class: usize, x: &Assignment)
 }
 
 /// Whether each two assignments that may meet are seen to share the variables around both: for each class and variable one index serves them all.
-pub fn are_shared(
-    alloc: Global,
-    all: &[Assignment],
-    classes: &[usize],
-) -> Result<bool, AllocError>
+pub fn are_shared(alloc: Global, all: &[Assignment], classes: &[usize]) -> Result<bool, AllocError>
     requires { (count : ℕ) × AreClassed (map standing_of all.now) classes.now count }
     ensures { IfOk result (λ shared. shared ≡ true → AreShared (map standing_of all.now)) }
 {

@@ -191,10 +191,7 @@ fn of_branches(alloc: Global, first: Kind, second: Kind) -> Result<Option<Fault>
 fn branches(rt: HostRuntime) -> Result<(), Fail> {
     let alloc = rt.alloc();
     assert_eq!(rt; of_branches(alloc, Kind::Comb, Kind::Comb)?, None);
-    assert_eq!(rt;
-        of_branches(alloc, Kind::Comb, Kind::Init)?,
-        fault(16, 20)
-    );
+    assert_eq!(rt; of_branches(alloc, Kind::Comb, Kind::Init)?, fault(16, 20));
     Ok(())
 }
 
@@ -270,12 +267,7 @@ fn a_constant_meets_a_variable(rt: HostRuntime) -> Result<(), Fail> {
     Ok(())
 }
 
-fn pair(
-    alloc: Global,
-    first: FlatExpr,
-    second: FlatExpr,
-    at: u32,
-) -> Result<FlatStmt, AllocError> {
+fn pair(alloc: Global, first: FlatExpr, second: FlatExpr, at: u32) -> Result<FlatStmt, AllocError> {
     let left = with(none(alloc), first)?;
     Ok(assign(Kind::Comb, with(left, second)?, at))
 }

@@ -1,4 +1,4 @@
-use Rattle.std.proofs.Common.{◌≡◌, ◌<◌, ◌≤◌, length, get_or, subst, arith}
+use Rattle.std.proofs.Common.{◌≡◌, ◌<◌, length, get_or, subst, arith}
 use Rattle.std.specs.Prelude.{slice_get, Some}
 use Rattle.smv_single.specs.Standing.{Standing}
 use Rattle.smv_assigned.specs.Links.{held, IsBehind}

@@ -1,10 +1,8 @@
-use Rattle.std.proofs.Common.{◌≡◌, ◌<◌, ◌≤◌, ◌+◌, ◌-◌, ℕ, length, get_or, true, false, ap, sym, ◌∙◌, subst, arith}
+use Rattle.std.proofs.Common.{◌≡◌, ◌<◌, ◌+◌, ◌-◌, length, get_or, false, sym, ◌∙◌, arith}
 use Rattle.std.specs.Prelude.{slice_get, Some}
-use Rattle.smv_core.specs.declared.tree.Kind.{Kind}
 use Rattle.smv_single.specs.Standing.{Standing}
-use Rattle.smv_assigned.specs.declared.links.Table.{Table}
 use Rattle.smv_assigned.specs.Clashes.{clashes_of}
-use Rattle.smv_assigned.specs.Links.{held, links_of, IsBehind, IsTable}
+use Rattle.smv_assigned.specs.Links.{held}
 use Rattle.smv_assigned.proofs.LinkLaws.{got-some, between-true, between-false}
 use Rattle.smv_assigned.proofs.EarlierLaws.{clear-start, clear-step}
 use Rattle.smv_assigned.proofs.TouchLaws.{told}

@@ -1,4 +1,4 @@
-use Rattle.std.proofs.Common.{◌≡◌, ◌<◌, ◌≤◌, ◌+◌, length, take, subst, sym, ap, ◌∙◌, arith, All}
+use Rattle.std.proofs.Common.{◌≡◌, ◌<◌, ◌≤◌, ◌+◌, length, take, subst, sym, ap, arith, All}
 use Rattle.std.proofs.lemmas.List.Elements.{All-more}
 use Rattle.smv_assigned.specs.Shared.{HasSpot}
 use Rattle.smv_assigned.proofs.SharedLaws.{take-past}
