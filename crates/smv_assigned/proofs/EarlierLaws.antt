@@ -8,9 +8,9 @@ use Rattle.smv_core.specs.declared.tree.Kind.TheVariants.{Comb, Init, Next}
 use Rattle.smv_inst.specs.Scopes.{first_of_places}
 use Rattle.smv_inst.specs.NameFaults.{place_if}
 use Rattle.smv_scope.specs.ScopeFault.{least}
-use Rattle.smv_scope.proofs.LeastLaws.{first-none, first-assoc, least-append}
+use Rattle.smv_scope.proofs.LeastLaws.{first-assoc, least-append}
 use Rattle.smv_single.specs.Standing.{Standing}
-use Rattle.smv_single.specs.SingleFaults.{meet, cross, are_mixed, may_meet, is_comb, later_places, mixed}
+use Rattle.smv_single.specs.SingleFaults.{meet, are_mixed, may_meet, is_comb, later_places, mixed}
 use Rattle.smv_assigned.specs.declared.assignments.Assignment.{Assignment}
 use Rattle.smv_assigned.specs.declared.clashes.Clash.{Clash}
 use Rattle.smv_assigned.specs.declared.clashes.Clash.TheVariants.{Meet, Cross, Mixed}
@@ -18,7 +18,7 @@ use Rattle.smv_assigned.specs.Held.{standing_of, among}
 use Rattle.smv_assigned.specs.Clashes.{clash_by, clashes_of}
 use Rattle.smv_assigned.specs.Links.{AreClassed, IsBehind, StandsAt, between}
 use Rattle.std.proofs.lemmas.Bool.{cases_eq}
-use Rattle.smv_assigned.proofs.ClashLaws.{at_if, any_before, later-both, later-one, among-more, mixed-among, each-alone, nothing_inside, alone, flat_map-append}
+use Rattle.smv_assigned.proofs.ClashLaws.{at_if, later-both, later-one, among-more, mixed-among, each-alone, nothing_inside, alone, flat_map-append}
 use Rattle.smv_assigned.proofs.LinkLaws.{held-at, held-length, got-same, got-some, read-here, between-more, between-one, between-start, take-more, stands-part, stands-front, stands-between}
 use Rattle.std.proofs.lemmas.List.{append-nil}
 
@@ -196,7 +196,7 @@ mixed-by by b is comb xs =
 
 -- ---- chains of links
 
-cases_le : (a b : ℕ) → (a ≤ b) ⊎ (b < a)
+pub cases_le : (a b : ℕ) → (a ≤ b) ⊎ (b < a)
 cases_le zero b = inl (omega arith)
 cases_le (suc a) zero = inr (omega arith)
 cases_le (suc a) (suc b) = elim (cases_le a b) [ inl h ↦ inl (omega (arith, h)) | inr h ↦ inr (omega (arith, h)) ]

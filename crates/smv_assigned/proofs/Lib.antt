@@ -8,3 +8,5 @@ pub mod EarlierLaws
 pub mod FaultLaws
 pub mod ClassLaws
 pub mod WalkLaws
+pub mod SharedLaws
+pub mod TouchLaws

@@ -1,19 +1,16 @@
 -- Links to earlier assignments, and parts of the list of assignments.
-use Rattle.std.proofs.Common.{◌≡◌, ◌≢◌, ◌≤◌, ◌<◌, ℕ, zero, suc, ◌+◌, ◌-◌, List, [], ◌∷◌, ◌++◌, map, length, get_or, take, drop, set, Bool, true, false, cond, ◌&&◌, ◌||◌, refl, ap, sym, ◌∙◌, arith, subst, ◌⊎◌, inl, inr, get_or-set_other, get_or-set_same, length-append}
-use Rattle.std.specs.Prelude.{Option, Some, None, slice_get}
+use Rattle.std.proofs.Common.{◌≡◌, ◌≤◌, ◌<◌, ℕ, zero, suc, ◌+◌, ◌-◌, List, [], ◌∷◌, ◌++◌, map, length, get_or, take, drop, set, Bool, true, false, cond, ◌||◌, refl, ap, sym, ◌∙◌, arith, subst, ◌⊎◌, inl, inr, get_or-set_other, get_or-set_same, length-append}
+use Rattle.std.specs.Prelude.{Some, slice_get}
 use Rattle.std.specs.List.{flat_map, list_any}
 use Rattle.std.proofs.lemmas.Bool.{cases_eq}
-use Rattle.std.proofs.lemmas.Option.{slice_get_within}
 use Rattle.std.proofs.lemmas.List.{append-nil, append_assoc, take-append-drop, get_or_append_left}
 use Rattle.std.proofs.Math.Seq.{drop-append_seam, take-append_seam, get_or-append_seam}
 use Rattle.smv_core.specs.Walk.{same_kind}
 use Rattle.smv_core.specs.declared.tree.Kind.{Kind}
 use Rattle.smv_single.specs.Standing.{Standing}
-use Rattle.smv_single.specs.SingleFaults.{may_meet}
 use Rattle.smv_assigned.specs.declared.assignments.Assignment.{Assignment}
 use Rattle.smv_assigned.specs.Held.{standing_of}
-use Rattle.smv_assigned.specs.Links.{AreClassed, AreLinked, IsBehind, StandsAt, between}
-use Rattle.smv_assigned.proofs.ClashLaws.{flat_map-append}
+use Rattle.smv_assigned.specs.Links.{IsBehind, StandsAt, between}
 
 -- ---- what is held at a place
 
@@ -33,18 +30,19 @@ got-same xs i a b got also = cc
 
 module _ (all : List Standing) (classes : List ℕ) (kind : Kind) where
   pub behind-none : (class : ℕ) → IsBehind all classes kind class 0 0
-  behind-none class = record { before = omega arith; here = λ h. absurd (omega (arith, h)); last = λ k a got h lt is. absurd (omega (arith, lt)) }
+  behind-none class = record { before = omega arith; here = λ h. absurd (omega (arith, h)); of_kind = λ h a got. absurd (omega (arith, h)); last = λ k a got h lt is. absurd (omega (arith, lt)) }
 
-  behind-here : (class place : ℕ) → get_or classes place 0 ≡ class → IsBehind all classes kind class (place + 1) (place + 1)
-  behind-here class place is =
+  behind-here : (class place : ℕ) (b : Standing) → slice_get all place ≡ Some b → same_kind b.kind kind ≡ true → get_or classes place 0 ≡ class → IsBehind all classes kind class (place + 1) (place + 1)
+  behind-here class place b there of is =
       let back : place + 1 - 1 ≡ place = omega arith in
-      record { before = omega arith; here = λ h. ap (λ i. get_or classes i 0) back ∙ is; last = λ k a got h lt same. absurd (omega (arith, h, lt)) }
+      record { before = omega arith; here = λ h. ap (λ i. get_or classes i 0) back ∙ is; of_kind = λ h a got. ap (λ (x : Standing). same_kind x.kind kind) (got-same all place a b (ap (slice_get all) (sym back) ∙ got) there) ∙ of; last = λ k a got h lt same. absurd (omega (arith, h, lt)) }
 
   behind-kept : (class place end : ℕ) (b : Standing) → slice_get all place ≡ Some b → (get_or classes place 0 ≡ class → same_kind b.kind kind ≡ false) → IsBehind all classes kind class place end
       → IsBehind all classes kind class (place + 1) end
   behind-kept class place end b here apart behind = record {
     before = omega (arith, behind.before);
     here = behind.here;
+    of_kind = behind.of_kind;
     last = λ k a got h lt same. by k a got h lt same (cases_eq k place);
   }
     where
@@ -61,7 +59,7 @@ module _ (all : List Standing) (classes : List ℕ) (kind : Kind) where
   behind-next ends place b class below here behind = by (cases_eq class (get_or classes place 0)) (same_kind b.kind kind) refl
     where
       by : (class ≡ get_or classes place 0) ⊎ (class ≡ get_or classes place 0 → ⊥) → (t : Bool) → same_kind b.kind kind ≡ t → IsBehind all classes kind class (place + 1) (get_or (set ends (get_or classes place 0) (cond t (place + 1) (get_or ends (get_or classes place 0) 0))) class 0)
-      by (inl is) true k = subst (IsBehind all classes kind class (place + 1)) (sym (ap (λ c. get_or (set ends (get_or classes place 0) (place + 1)) c 0) is ∙ get_or-set_same ends (get_or classes place 0) (place + 1) 0 below)) (behind-here class place (sym is))
+      by (inl is) true k = subst (IsBehind all classes kind class (place + 1)) (sym (ap (λ c. get_or (set ends (get_or classes place 0) (place + 1)) c 0) is ∙ get_or-set_same ends (get_or classes place 0) (place + 1) 0 below)) (behind-here class place b here k (sym is))
       by (inl is) false k = subst (IsBehind all classes kind class (place + 1)) (ap (λ c. get_or ends c 0) is ∙ sym (ap (λ c. get_or (set ends (get_or classes place 0) (get_or ends (get_or classes place 0) 0)) c 0) is ∙ get_or-set_same ends (get_or classes place 0) (get_or ends (get_or classes place 0) 0) 0 below)) (behind-kept class place (get_or ends class 0) b here (λ same. k) behind)
       by (inr not) t k = subst (IsBehind all classes kind class (place + 1)) (sym (get_or-set_other ends (get_or classes place 0) class (cond t (place + 1) (get_or ends (get_or classes place 0) 0)) 0 not)) (behind-kept class place (get_or ends class 0) b here (λ same. absurd (not (sym same))) behind)
 

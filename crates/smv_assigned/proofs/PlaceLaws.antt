@@ -1,12 +1,12 @@
 -- The indexes of left sides, on expressions that are made of lists and values.
-use Rattle.std.proofs.Common.{◌≡◌, ℕ, zero, suc, ◌+◌, ◌<◌, ◌%◌, List, [], ◌∷◌, length, Bool, true, false, refl, ap, ◌∙◌, arith}
+use Rattle.std.proofs.Common.{◌≡◌, ℕ, zero, suc, ◌<◌, ◌%◌, List, [], ◌∷◌, length, Bool, false, refl, ap, ◌∙◌, arith}
 use Rattle.std.specs.Prelude.{Option, Some, None}
 use Rattle.smv_core.specs.Values.{number, modulo}
 use Rattle.smv_core.specs.Assignments.{Index, fixed, bare, computed, add_fixed, modulo_fixed}
 use Rattle.smv_core.specs.Flat.{flat_index, flat_index_sum}
 use Rattle.smv_core.specs.declared.tree.Op.{Op}
 use Rattle.smv_core.specs.declared.flat.Simple.{Simple}
-use Rattle.smv_core.specs.declared.flat.FlatSigned.{FlatSigned, out-FlatSigned}
+use Rattle.smv_core.specs.declared.flat.FlatSigned.{FlatSigned}
 use Rattle.smv_core.specs.declared.flat.FlatMember.{FlatMember}
 use Rattle.smv_core.specs.declared.flat.FlatExpr.{FlatExpr, Number, Loop, Var, Constant, Not, Iff, Compare, Within, Modulo, Choose, All, Any, Each, Read, And, Or, Implies, Sum, Sum', List as ListOf, Row_of-FlatSigned, end_of-FlatSigned, more_of-FlatSigned, items-the_row-FlatSigned, items_hidden-the_row-FlatSigned-2}
 use mathlib.Core.Former.{Count}

@@ -1,6 +1,6 @@
 -- The assignments and the conflicts of statements that are made of lists.
 use Rattle.std.proofs.Common.{◌≡◌, ℕ, ◌+◌, List, [], ◌∷◌, ◌++◌, refl, ap, sym, ◌∙◌}
-use Rattle.std.specs.Prelude.{Option, Some, None}
+use Rattle.std.specs.Prelude.{Option}
 use Rattle.std.specs.List.{flat_map}
 use Rattle.std.proofs.lemmas.List.{append-nil}
 use Rattle.smv_core.specs.declared.tree.Kind.{Kind}
@@ -10,7 +10,7 @@ use Rattle.smv_core.specs.declared.flat.FlatStmt.{FlatStmt, Assign, If, Default,
 use Rattle.smv_core.specs.declared.flat.FlatItem.{FlatItem}
 use Rattle.smv_core.specs.declared.flat.FlatItem.TheVariants as item
 use mathlib.Core.Former.{Count}
-use Rattle.smv_single.specs.Standing.{count, Standing, standing, standing_in, statements_from, assigned_by}
+use Rattle.smv_single.specs.Standing.{count, standing, standing_in, statements_from, assigned_by}
 use Rattle.smv_single.specs.SingleFaults.{conflicts, conflicts_in, conflicting, later_places, cross, meet}
 use Rattle.smv_assigned.specs.Held.{among, assigned_of, conflicts_of}
 use Rattle.smv_assigned.proofs.Computing.{computing}

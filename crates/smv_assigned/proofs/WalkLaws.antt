@@ -1,11 +1,11 @@
 -- What is found in statements, from their parts.
-use Rattle.std.proofs.Common.{◌≡◌, ◌≤◌, ◌<◌, ℕ, ◌+◌, List, [], ◌∷◌, ◌++◌, length, get_or, take, refl, ap, sym, ◌∙◌, arith, subst, length-append}
-use Rattle.std.specs.Prelude.{Option, Some, None, Result, Ok, Err, IfOk}
+use Rattle.std.proofs.Common.{◌≡◌, ◌≤◌, ◌<◌, ℕ, ◌+◌, List, ◌∷◌, ◌++◌, length, get_or, take, refl, ap, sym, ◌∙◌, arith, subst, length-append}
+use Rattle.std.specs.Prelude.{Option, Result, Ok, Err, IfOk}
 use Rattle.std.specs.List.{flat_map}
 use Rattle.smv_inst.specs.Scopes.{first_of_places}
 use Rattle.smv_scope.specs.ScopeFault.{least}
 use Rattle.smv_core.specs.declared.flat.FlatExpr.{FlatExpr}
-use Rattle.smv_core.specs.declared.flat.FlatStmt.{FlatStmt, If, Default, Forall, Block, Assign}
+use Rattle.smv_core.specs.declared.flat.FlatStmt.{FlatStmt, If, Default, Forall, Block}
 use Rattle.smv_core.specs.declared.flat.Simple.{Simple}
 use Rattle.smv_single.specs.Standing.{Standing, standing}
 use Rattle.smv_single.specs.SingleFaults.{conflicts, cross, later_places, meet}
@@ -14,24 +14,26 @@ use Rattle.smv_assigned.specs.Held.{among}
 use Rattle.smv_assigned.specs.Links.{StandsAt, between}
 use Rattle.smv_assigned.specs.Walks.{IsWalked}
 use Rattle.smv_assigned.proofs.StandingLaws.{standing-If, standing-Default, standing-Block, standing-Forall, conflicts-If, conflicts-Default, conflicts-Block, conflicts-Forall}
-use Rattle.smv_assigned.proofs.LinkLaws.{stands-left, stands-right, stands-between, stands-part, take-more}
+use Rattle.smv_assigned.proofs.LinkLaws.{stands-left, stands-right, stands-between, stands-part}
 use Rattle.smv_assigned.proofs.EarlierLaws.{among-step, end-step, branches-found}
 
 module _ (all : List Standing) where
   -- two branches
-  pub two-walked : (clash : Standing → Standing → _) (start : ℕ) (left right : List ℕ) (xs ys : List Standing) (first second result : Walked) → StandsAt all start (xs ++ ys)
+  pub two-walked : (clash : Standing → Standing → _) (P : List Standing → Type 0) (start : ℕ) (left right : List ℕ) (xs ys : List Standing) (first second result : Walked) → P xs → P ys → StandsAt all start (xs ++ ys)
       → (StandsAt all start xs → IsWalked start left xs first) → (StandsAt all first.end ys → IsWalked first.end right ys second)
-      → (first.end ≤ second.end → second.end ≤ length all → result.found ≡ first_of_places first.found (first_of_places second.found (least (later_places clash (between start first.end all) (between first.end second.end all)))))
+      → (first.end ≤ second.end → second.end ≤ length all → P (between start first.end all) → P (between first.end second.end all) → result.found ≡ first_of_places first.found (first_of_places second.found (least (later_places clash (between start first.end all) (between first.end second.end all)))))
       → result.end ≡ second.end → IsWalked start ((left ++ right) ++ later_places clash xs ys) (xs ++ ys) result
-  two-walked clash start left right xs ys first second result stands walk_first walk_second found end =
+  two-walked clash P start left right xs ys first second result of_xs of_ys stands walk_first walk_second found end =
       let here : StandsAt all start xs = stands-left all start xs ys stands in
       let one : IsWalked start left xs first = walk_first here in
       let there : StandsAt all first.end ys = subst (λ n. StandsAt all n ys) (sym one.end_is) (stands-right all start xs ys stands) in
       let two : IsWalked first.end right ys second = walk_second there in
       let order : first.end ≤ second.end = omega (arith, two.end_is) in
       let within : second.end ≤ length all = omega (arith, two.end_is, there.within) in
+      let left_is : between start first.end all ≡ xs = stands-between all start first.end xs here one.end_is in
+      let right_is : between first.end second.end all ≡ ys = stands-between all first.end second.end ys there two.end_is in
       record {
-        found_is = found order within ∙ branches-found all clash start first.end second.end xs ys left right first.found second.found _ (stands-between all start first.end xs here one.end_is) (stands-between all first.end second.end ys there two.end_is) one.found_is two.found_is refl;
+        found_is = found order within (subst P (sym left_is) of_xs) (subst P (sym right_is) of_ys) ∙ branches-found all clash start first.end second.end xs ys left right first.found second.found _ left_is right_is one.found_is two.found_is refl;
         end_is = end ∙ omega (arith, two.end_is, one.end_is, length-append {A = Standing} xs ys);
       }
 

@@ -3,3 +3,5 @@ pub mod Held
 pub mod Clashes
 pub mod Links
 pub mod Walks
+pub mod Classes
+pub mod Shared

@@ -1,5 +1,5 @@
 -- Which earlier assignments a later one is compared with.
-use Rattle.std.specs.Prelude.{◌≡◌, ◌<◌, ◌≤◌, ◌+◌, ◌-◌, ℕ, List, length, map, take, drop, get_or, slice_get, Some, Bool, true, false}
+use Rattle.std.specs.Prelude.{◌≡◌, ◌<◌, ◌≤◌, ◌+◌, ◌-◌, ℕ, List, length, map, take, drop, get_or, slice_get, Some, true, false}
 use Rattle.smv_core.specs.Walk.{same_kind}
 use Rattle.smv_core.specs.declared.tree.Kind.{Kind}
 use Rattle.smv_core.specs.declared.tree.Kind.TheVariants.{Comb, Init, Next}
@@ -7,6 +7,7 @@ use Rattle.smv_single.specs.Standing.{Standing}
 use Rattle.smv_single.specs.SingleFaults.{may_meet}
 use Rattle.smv_assigned.specs.declared.links.Table.{Table}
 use Rattle.smv_assigned.specs.Held.{standing_of}
+use Rattle.smv_assigned.specs.Shared.{AreShared}
 
 -- those from one place on, as far as another
 abbrev pub between : {A : Type 0} → ℕ → ℕ → List A → List A
@@ -22,6 +23,7 @@ pub record AreClassed (all : List Standing) (classes : List ℕ) (count : ℕ) :
 pub record IsBehind (all : List Standing) (classes : List ℕ) (kind : Kind) (class place end : ℕ) : Type 0 where
   pub before : end ≤ place
   pub here : 0 < end → get_or classes (end - 1) 0 ≡ class
+  pub of_kind : 0 < end → (a : Standing) → slice_get all (end - 1) ≡ Some a → same_kind a.kind kind ≡ true
   pub last : (k : ℕ) (a : Standing) → slice_get all k ≡ Some a → end ≤ k → k < place → get_or classes k 0 ≡ class → same_kind a.kind kind ≡ false
 
 -- each assignment has the end of the last one before it of its class and of this kind
@@ -38,10 +40,11 @@ links_of Comb table = table.comb.items
 links_of Init table = table.init.items
 links_of Next table = table.next.items
 
--- the classes and links of a table are right
+-- the classes, the links and the flag of a table are right
 pub record IsTable (table : Table) (count : ℕ) : Type 0 where
   pub classed : AreClassed (held table) table.classes.items count
   pub linked : (kind : Kind) → AreLinked (held table) table.classes.items kind (links_of kind table)
+  pub sharing : table.shared ≡ true → AreShared (held table)
 
 -- these are those from a place on
 pub record StandsAt (all : List Standing) (start : ℕ) (xs : List Standing) : Type 0 where

@@ -7,11 +7,11 @@ ghost use Rattle.smv_single.specs.Standing.{standing};
 ghost use Rattle.smv_single.specs.SingleFaults as spec;
 ghost use Rattle.smv_assigned.specs.Held.{among, assigned_of, conflicts_of};
 ghost use Rattle.smv_assigned.specs.Links.{IsTable, StandsAt, between, held};
+ghost use Rattle.smv_assigned.specs.Shared.{AreInside};
 ghost use Rattle.smv_assigned.specs.Walks.{IsWalked};
 
 use crate::assignments::inside;
-use crate::clashes::Clash;
-use crate::earlier::{first_clash, first_cross};
+use crate::earlier::{first_cross, first_meeting};
 use crate::links::Table;
 use smv_core::flat::{FlatItem, FlatStmt};
 use smv_scope::places::first_of;
@@ -77,7 +77,7 @@ fn block(
     let mut end = start;
     for part in parts {
         let walked = statement(part, layer, around, end, table, alloc)?;
-        let met = first_clash(table, Clash::Meet, start, end, walked.end);
+        let met = first_meeting(table, start, end, walked.end);
         found = first_of(found, first_of(walked.found, met));
         end = walked.end;
     }
@@ -87,7 +87,7 @@ fn block(
 // Two branches from a place on, or the two parts of a `default`.
 fn branches(around: &[u16], start: usize, first: Walked, second: Walked, table: &Table) -> Walked
     requires { (count : ℕ) × IsTable table.now count }
-    ensures found { first.end ≤ second.end → second.end ≤ length (held table.now) → result.found ≡ first_of_places first.found (first_of_places second.found (least (spec.later_places (spec.cross around.now) (between start first.end (held table.now)) (between first.end second.end (held table.now))))) }
+    ensures found { first.end ≤ second.end → second.end ≤ length (held table.now) → AreInside around.now (between start first.end (held table.now)) → AreInside around.now (between first.end second.end (held table.now)) → result.found ≡ first_of_places first.found (first_of_places second.found (least (spec.later_places (spec.cross around.now) (between start first.end (held table.now)) (between first.end second.end (held table.now))))) }
     ensures end { result.end ≡ second.end }
 {
     let crossed = first_cross(table, around, start, first.end, second.end);
@@ -134,7 +134,7 @@ pub fn first_conflict(
     let mut end = 0;
     for x in items {
         let walked = item(x, end, table, alloc)?;
-        let met = first_clash(table, Clash::Meet, 0, end, walked.end);
+        let met = first_meeting(table, 0, end, walked.end);
         found = first_of(found, first_of(walked.found, met));
         end = walked.end;
     }

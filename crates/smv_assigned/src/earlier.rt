@@ -1,11 +1,12 @@
 // Earlier assignments that clash with later ones.
-ghost use Rattle.std.specs.Prelude.{◌≡◌, ◌≤◌, ◌<◌, ℕ, length, slice_get, Some};
+ghost use Rattle.std.specs.Prelude.{◌≡◌, ◌≤◌, ◌<◌, ℕ, length, slice_get, Some, false};
 ghost use Rattle.std.specs.List.{list_any};
 ghost use Rattle.smv_scope.specs.ScopeFault.{least};
 ghost use Rattle.smv_single.specs.Standing.{Standing};
-ghost use Rattle.smv_single.specs.SingleFaults.{later_places, cross};
+ghost use Rattle.smv_single.specs.SingleFaults.{later_places, cross, meet};
 ghost use Rattle.smv_assigned.specs.Clashes.{clash_by, clashes_of};
 ghost use Rattle.smv_assigned.specs.Links.{IsTable, held, between};
+ghost use Rattle.smv_assigned.specs.Shared.{AreApart, AreInside};
 
 use crate::clashes::{Clash, do_clash, same_kind};
 use crate::links::{Table, links_of};
@@ -83,7 +84,35 @@ pub fn first_clash(table: &Table, by: Clash, start: usize, middle: usize, end: u
     found
 }
 
-/// The same for branches inside these `forall` variables. Inside none every two branches are excused.
+// Whether an assignment between the last two places has the last one before it of its class and kind between the first two.
+fn do_touch(table: &Table, start: usize, middle: usize, end: usize) -> bool
+    requires { (count : ℕ) × IsTable table.now count }
+    ensures { result ≡ false → AreApart (held table.now) start middle end }
+{
+    if middle <= start {
+        return false;
+    }
+    for place in middle..end.min(table.all.len()) {
+        let last = links_of(table, table.all[place].kind)[place];
+        if start < last && last <= middle {
+            return true;
+        }
+    }
+    false
+}
+
+/// The same, where they clash because they meet.
+pub fn first_meeting(table: &Table, start: usize, middle: usize, end: usize) -> Option<u32>
+    requires { (count : ℕ) × IsTable table.now count }
+    ensures { middle ≤ end → end ≤ length (held table.now) → result ≡ least (later_places meet (between start middle (held table.now)) (between middle end (held table.now))) }
+{
+    if !do_touch(table, start, middle, end) {
+        return None;
+    }
+    first_clash(table, Clash::Meet, start, middle, end)
+}
+
+/// The same for branches inside these `forall` variables. Inside none every two branches are excused, and so they are where each two assignments share their variables.
 pub fn first_cross(
     table: &Table,
     around: &[u16],
@@ -92,10 +121,13 @@ pub fn first_cross(
     end: usize,
 ) -> Option<u32>
     requires { (count : ℕ) × IsTable table.now count }
-    ensures { middle ≤ end → end ≤ length (held table.now) → result ≡ least (later_places (cross around.now) (between start middle (held table.now)) (between middle end (held table.now))) }
+    ensures { middle ≤ end → end ≤ length (held table.now) → AreInside around.now (between start middle (held table.now)) → AreInside around.now (between middle end (held table.now)) → result ≡ least (later_places (cross around.now) (between start middle (held table.now)) (between middle end (held table.now))) }
 {
-    match around {
-        [] => None,
-        [_, ..] => first_clash(table, Clash::Cross { around }, start, middle, end),
+    if around.is_empty() || table.shared {
+        return None;
     }
+    if !do_touch(table, start, middle, end) {
+        return None;
+    }
+    first_clash(table, Clash::Cross { around }, start, middle, end)
 }

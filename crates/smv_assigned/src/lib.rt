@@ -13,15 +13,17 @@ pub mod earlier;
 pub mod links;
 pub mod mixed;
 pub mod places;
+pub mod shared;
 #[cfg(test)]
 mod tests;
 pub mod variables;
 
 use crate::assignments::assignments;
-use crate::classes::{CLASSES, classes};
+use crate::classes::classes;
 use crate::conflicts::first_conflict;
 use crate::links::linked_table;
 use crate::mixed::first_mixed;
+use crate::shared::are_shared;
 use crate::variables::first_without;
 use smv_core::Fault;
 use smv_core::flat::Raw;
@@ -46,7 +48,9 @@ pub fn single_fault(alloc: Global, raw: &Raw) -> Result<Option<Fault>, AllocErro
     let all = assignments(items, alloc)?;
     let without = first_without(&all, items);
     let classes = classes(alloc, &all)?;
-    let table = linked_table(alloc, all, classes, CLASSES)?;
+    let shared = are_shared(alloc, &all, &classes)?;
+    let count = all.len();
+    let table = linked_table(alloc, all, classes, count, shared)?;
     let conflict = first_conflict(items, &table, alloc)?;
     let mixed = first_mixed(&table);
     Ok(earlier(

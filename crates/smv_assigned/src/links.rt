@@ -1,15 +1,17 @@
 // Assignments with links, so that each is compared only with earlier ones that it may meet.
-ghost use Rattle.std.specs.Prelude.{◌≡◌, ◌≤◌, ◌<◌, ℕ, length, map, get_or, if◌then◌else◌, IfOk};
+ghost use Rattle.std.specs.Prelude.{◌≡◌, ◌≤◌, ◌<◌, ℕ, length, map, get_or, true, if◌then◌else◌, IfOk};
 ghost use Rattle.smv_assigned.specs.Held.{standing_of};
 ghost use Rattle.smv_assigned.specs.Links as spec;
 ghost use Rattle.smv_assigned.specs.Links.{AreClassed, AreLinked, IsTable, held};
+ghost use Rattle.smv_assigned.specs.Shared.{AreShared};
 
 use crate::assignments::Assignment;
 use crate::clashes::same_kind;
 use smv_core::tree::Kind;
 use std::alloc::{AllocError, Global};
 
-/// The assignments in flat order, with their classes, and for each kind the end of the last one of that kind and class before each, or 0.
+/// The assignments in flat order, with their classes, and for each kind the end of the last one of that kind and class before each, or 0. The flag
+/// says that each two which may meet are known to share the variables around both.
 #[derive(Drop)]
 pub struct Table<'a> {
     pub all: Vec<Assignment<'a>>,
@@ -17,6 +19,7 @@ pub struct Table<'a> {
     pub comb: Vec<usize>,
     pub init: Vec<usize>,
     pub next: Vec<usize>,
+    pub shared: bool,
 }
 
 /// The links to assignments of a kind.
@@ -30,8 +33,8 @@ pub fn links_of<'t>(table: &'t Table, kind: Kind) -> &'t [usize]
     }
 }
 
-// A number of zeros.
-fn zeros(alloc: Global, count: usize) -> Result<Vec<usize>, AllocError>
+/// A number of zeros.
+pub fn zeros(alloc: Global, count: usize) -> Result<Vec<usize>, AllocError>
     ensures length { IfOk result (λ zeros. length zeros.items ≡ count) }
     ensures zeros { IfOk result (λ zeros. (k : ℕ) → get_or zeros.items k 0 ≡ 0) }
 {
@@ -78,8 +81,10 @@ pub fn linked_table<'a>(
     all: Vec<Assignment<'a>>,
     classes: Vec<usize>,
     count: usize,
+    shared: bool,
 ) -> Result<Table<'a>, AllocError>
-    requires { AreClassed (map standing_of all.items) classes.items count }
+    requires classed { AreClassed (map standing_of all.items) classes.items count }
+    requires shared { shared ≡ true → AreShared (map standing_of all.items) }
     ensures held { IfOk result (λ table. held table ≡ map standing_of all.entry.items) }
     ensures linked { IfOk result (λ table. IsTable table count) }
 {
@@ -92,5 +97,6 @@ pub fn linked_table<'a>(
         comb,
         init,
         next,
+        shared,
     })
 }

@@ -5,6 +5,7 @@ ghost use Rattle.smv_core.specs.Assignments.{add_fixed, modulo_fixed};
 ghost use Rattle.smv_core.specs.Conflicts.{are_two_constants, are_both};
 ghost use Rattle.smv_core.specs.Flat.{flat_index};
 ghost use Rattle.smv_single.specs.SingleFaults.{is_variable};
+ghost use Rattle.smv_assigned.specs.Classes.{constant_in, constant_value};
 ghost use Rattle.smv_assigned.specs.Places.{outcome_of, index_of, added_all, any_two};
 
 use smv_core::flat::{FlatExpr, FlatSigned};
@@ -160,6 +161,27 @@ fn have_both(var: u16, left: Place, right: Place) -> bool
         },
         Place::Fixed { .. } => false,
         Place::Computed => false,
+    }
+}
+
+/// The constant at an index of a left side, if there is one.
+pub fn constant_at(left: &[FlatExpr], index: usize) -> Option<u16>
+    ensures { result ≡ constant_in left.now index }
+{
+    match left.get(index) {
+        None => None,
+        Some(x) => value_of_place(place_of(x)),
+    }
+}
+
+// The number of a constant.
+fn value_of_place(place: Place) -> Option<u16>
+    ensures { result ≡ constant_value (index_of place) }
+{
+    match place {
+        Place::Fixed { value } => value,
+        Place::Bare { .. } => None,
+        Place::Computed => None,
     }
 }
 

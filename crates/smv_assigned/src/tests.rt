@@ -125,121 +125,185 @@ fn of_two(
     single_fault(alloc, &raw)
 }
 
+// One after the other, of these kinds and without indexes, at 30 and at 20.
+fn of_kinds(
+    alloc: Global,
+    first: Kind,
+    layer: Option<u16>,
+    second: Kind,
+) -> Result<Option<Fault>, AllocError> {
+    let first = assign(first, none(alloc), 30);
+    let second = assign(second, none(alloc), 20);
+    of_two(alloc, layer, first, second)
+}
+
 #[test]
 fn two_statements(rt: HostRuntime) -> Result<(), Fail> {
     let alloc = rt.alloc();
-    let first = assign(Kind::Comb, none(alloc), 30);
-    let second = assign(Kind::Comb, none(alloc), 20);
-    assert_eq!(rt; of_two(alloc, None, first, second)?, fault(15, 20));
-    let first = assign(Kind::Comb, none(alloc), 30);
-    let second = assign(Kind::Comb, none(alloc), 20);
-    assert_eq!(rt; of_two(alloc, Some(0), first, second)?, None);
-    let first = assign(Kind::Next, none(alloc), 10);
-    let second = assign(Kind::Comb, none(alloc), 20);
-    assert_eq!(rt; of_two(alloc, None, first, second)?, fault(16, 20));
-    let first = assign(Kind::Next, none(alloc), 10);
-    let second = assign(Kind::Init, none(alloc), 20);
-    assert_eq!(rt; of_two(alloc, None, first, second)?, None);
+    let again = of_kinds(alloc, Kind::Comb, None, Kind::Comb)?;
+    let layered = of_kinds(alloc, Kind::Comb, Some(0), Kind::Comb)?;
+    let mixed = of_kinds(alloc, Kind::Next, None, Kind::Comb)?;
+    let delayed = of_kinds(alloc, Kind::Next, None, Kind::Init)?;
+    assert_eq!(rt; again, fault(15, 20));
+    assert_eq!(rt; layered, None);
+    assert_eq!(rt; mixed, fault(16, 20));
+    assert_eq!(rt; delayed, None);
     Ok(())
+}
+
+// An assignment of an element.
+fn element(alloc: Global, index: FlatExpr, at: u32) -> Result<FlatStmt, AllocError> {
+    Ok(assign(Kind::Comb, with(none(alloc), index)?, at))
+}
+
+// Both in one block, at 10 and at 20.
+fn of_indexes(
+    alloc: Global,
+    first: FlatExpr,
+    second: FlatExpr,
+) -> Result<Option<Fault>, AllocError> {
+    let first = element(alloc, first, 10)?;
+    let second = element(alloc, second, 20)?;
+    of_one(alloc, both(alloc, first, second)?)
 }
 
 #[test]
 fn constants(rt: HostRuntime) -> Result<(), Fail> {
     let alloc = rt.alloc();
-    let first = assign(Kind::Comb, with(none(alloc), number(0))?, 10);
-    let second = assign(Kind::Comb, with(none(alloc), number(1))?, 20);
-    assert_eq!(rt; of_one(alloc, both(alloc, first, second)?)?, None);
-    let first = assign(Kind::Comb, with(none(alloc), number(2))?, 10);
     let two = difference(alloc, number(5), number(3))?;
-    let second = assign(Kind::Comb, with(none(alloc), two)?, 20);
-    assert_eq!(rt; of_one(alloc, both(alloc, first, second)?)?, fault(15, 20));
-    let first = assign(Kind::Comb, with(none(alloc), number(0))?, 10);
+    let same = of_indexes(alloc, number(2), two)?;
     let undefined = difference(alloc, number(0), number(1))?;
-    let second = assign(Kind::Comb, with(none(alloc), undefined)?, 20);
-    assert_eq!(rt; of_one(alloc, both(alloc, first, second)?)?, fault(15, 20));
+    let none = of_indexes(alloc, number(0), undefined)?;
+    assert_eq!(rt; of_indexes(alloc, number(0), number(1))?, None);
+    assert_eq!(rt; same, fault(15, 20));
+    assert_eq!(rt; none, fault(15, 20));
     Ok(())
+}
+
+// In the branches of an `if`, of these kinds and without indexes, at 10 and at 20.
+fn of_branches(alloc: Global, first: Kind, second: Kind) -> Result<Option<Fault>, AllocError> {
+    let first = assign(first, none(alloc), 10);
+    let second = assign(second, none(alloc), 20);
+    of_one(alloc, either(alloc, first, second)?)
 }
 
 #[test]
 fn branches(rt: HostRuntime) -> Result<(), Fail> {
     let alloc = rt.alloc();
-    let first = assign(Kind::Comb, none(alloc), 10);
-    let second = assign(Kind::Comb, none(alloc), 20);
-    assert_eq!(rt; of_one(alloc, either(alloc, first, second)?)?, None);
-    let first = assign(Kind::Comb, none(alloc), 10);
-    let second = assign(Kind::Init, none(alloc), 20);
-    assert_eq!(rt;
-        of_one(alloc, either(alloc, first, second)?)?,
-        fault(16, 20)
-    );
+    assert_eq!(rt; of_branches(alloc, Kind::Comb, Kind::Comb)?, None);
+    assert_eq!(rt; of_branches(alloc, Kind::Comb, Kind::Init)?, fault(16, 20));
     Ok(())
+}
+
+// forall (j) x[first][second] := 0; for the variables of these numbers, where j has the number 1
+fn crossed(alloc: Global, first: u16, second: u16, at: u32) -> Result<FlatStmt, AllocError> {
+    let left = with(with(none(alloc), var(first))?, var(second))?;
+    forall(alloc, 1, assign(Kind::Comb, left, at))
 }
 
 // forall (i) default { forall (j) x[i][j] := 0; } in { forall (j) x[j][i] := 1; }
 #[test]
 fn crossing_variables(rt: HostRuntime) -> Result<(), Fail> {
     let alloc = rt.alloc();
-    let straight = with(with(none(alloc), var(0))?, var(1))?;
-    let crossed = with(with(none(alloc), var(1))?, var(0))?;
-    let first = forall(alloc, 1, assign(Kind::Comb, straight, 40))?;
-    let second = forall(alloc, 1, assign(Kind::Comb, crossed, 30))?;
+    let first = crossed(alloc, 0, 1, 40)?;
+    let second = crossed(alloc, 1, 0, 30)?;
     let act = forall(alloc, 0, default(alloc, first, second)?)?;
     assert_eq!(rt; of_one(alloc, act)?, fault(15, 30));
     Ok(())
+}
+
+// x with these indexes
+fn three(
+    alloc: Global,
+    first: FlatExpr,
+    second: FlatExpr,
+    third: FlatExpr,
+    at: u32,
+) -> Result<FlatStmt, AllocError> {
+    let left = with(none(alloc), first)?;
+    let left = with(left, second)?;
+    Ok(assign(Kind::Comb, with(left, third)?, at))
+}
+
+// if (e) x[i][d][i] := 1; else x[d][i][i] := 0;
+fn two_ways(alloc: Global) -> Result<FlatStmt, AllocError> {
+    let second = three(alloc, var(0), signal(alloc), var(0), 20)?;
+    let third = three(alloc, signal(alloc), var(0), var(0), 30)?;
+    either(alloc, second, third)
 }
 
 // forall (i) if (c) x[i][i][d] := 0; else if (e) x[i][d][i] := 1; else x[d][i][i] := 0; with a signal d
 #[test]
 fn three_ways(rt: HostRuntime) -> Result<(), Fail> {
     let alloc = rt.alloc();
-    let first = with(with(with(none(alloc), var(0))?, var(0))?, signal(alloc))?;
-    let second = with(with(with(none(alloc), var(0))?, signal(alloc))?, var(0))?;
-    let third = with(with(with(none(alloc), signal(alloc))?, var(0))?, var(0))?;
-    let rest = either(
-        alloc,
-        assign(Kind::Comb, second, 20),
-        assign(Kind::Comb, third, 30),
-    )?;
-    let act = forall(
-        alloc,
-        0,
-        either(alloc, assign(Kind::Comb, first, 10), rest)?,
-    )?;
+    let first = three(alloc, var(0), var(0), signal(alloc), 10)?;
+    let rest = two_ways(alloc)?;
+    let act = forall(alloc, 0, either(alloc, first, rest)?)?;
     assert_eq!(rt; of_one(alloc, act)?, None);
     Ok(())
+}
+
+// forall (i) if (c) x[i][0] := 0; else x[i][1] := 1; beside x[0][2] := 0;
+#[test]
+fn constants_in_branches(rt: HostRuntime) -> Result<(), Fail> {
+    let alloc = rt.alloc();
+    let first = pair(alloc, var(0), number(0), 10)?;
+    let second = pair(alloc, var(0), number(1), 20)?;
+    let branches = forall(alloc, 0, either(alloc, first, second)?)?;
+    let alone = pair(alloc, number(0), number(2), 30)?;
+    assert_eq!(rt; of_two(alloc, None, branches, alone)?, None);
+    Ok(())
+}
+
+// x[0][2] := 0; forall (i) if (c) x[i][0] := 0; else x[i][2] := 1;
+#[test]
+fn a_constant_meets_a_variable(rt: HostRuntime) -> Result<(), Fail> {
+    let alloc = rt.alloc();
+    let first = pair(alloc, var(0), number(0), 10)?;
+    let second = pair(alloc, var(0), number(2), 20)?;
+    let branches = forall(alloc, 0, either(alloc, first, second)?)?;
+    let alone = pair(alloc, number(0), number(2), 30)?;
+    assert_eq!(rt; of_two(alloc, None, alone, branches)?, fault(15, 20));
+    Ok(())
+}
+
+fn pair(alloc: Global, first: FlatExpr, second: FlatExpr, at: u32) -> Result<FlatStmt, AllocError> {
+    let left = with(none(alloc), first)?;
+    Ok(assign(Kind::Comb, with(left, second)?, at))
+}
+
+// forall (i) x[1] := 0;
+fn without(alloc: Global, at: u32) -> Result<FlatStmt, AllocError> {
+    forall(alloc, 0, element(alloc, number(1), at)?)
 }
 
 #[test]
 fn lacking_variables(rt: HostRuntime) -> Result<(), Fail> {
     let alloc = rt.alloc();
-    let one = with(none(alloc), number(1))?;
-    let act = forall(alloc, 0, assign(Kind::Comb, one, 10))?;
-    assert_eq!(rt; of_one(alloc, act)?, fault(17, 10));
-    let outer = with(none(alloc), var(0))?;
-    let inner = forall(alloc, 1, assign(Kind::Comb, outer, 10))?;
+    assert_eq!(rt; of_one(alloc, without(alloc, 10)?)?, fault(17, 10));
+    let inner = forall(alloc, 1, element(alloc, var(0), 10)?)?;
     assert_eq!(rt; of_one(alloc, forall(alloc, 0, inner)?)?, fault(17, 10));
-    let first = assign(Kind::Comb, with(none(alloc), number(1))?, 30);
-    let one = with(none(alloc), number(1))?;
-    let second = forall(alloc, 0, assign(Kind::Comb, one, 20))?;
+    Ok(())
+}
+
+#[test]
+fn the_first_fault_counts(rt: HostRuntime) -> Result<(), Fail> {
+    let alloc = rt.alloc();
+    let first = element(alloc, number(1), 30)?;
+    let second = without(alloc, 20)?;
     assert_eq!(rt; of_two(alloc, None, first, second)?, fault(15, 20));
-    let one = with(none(alloc), number(1))?;
-    let first = forall(alloc, 0, assign(Kind::Comb, one, 10))?;
-    let second = assign(Kind::Comb, with(none(alloc), number(1))?, 20);
+    let first = without(alloc, 10)?;
+    let second = element(alloc, number(1), 20)?;
     assert_eq!(rt; of_two(alloc, None, first, second)?, fault(17, 10));
     Ok(())
 }
 
 // A claim with a name in its brackets, outside every `forall`.
-#[test]
-fn a_claim_with_a_stray_name(rt: HostRuntime) -> Result<(), Fail> {
-    let alloc = rt.alloc();
-    let mut raw = text(alloc);
+fn stray(alloc: Global) -> Result<FlatItem, AllocError> {
     let mut vars = Seq::new(alloc);
-    vars.push(Word {
-        name: Name::from_vec(Vec::from_slice(alloc, b"i".as_slice())?),
-        at: 12,
-    })?;
-    raw.items.push(FlatItem::Claim {
+    let name = Name::from_vec(Vec::from_slice(alloc, b"i".as_slice())?);
+    vars.push(Word { name, at: 12 })?;
+    Ok(FlatItem::Claim {
         claim: Claim {
             name: Name::from_vec(Vec::new(alloc)),
             vars,
@@ -248,7 +312,14 @@ fn a_claim_with_a_stray_name(rt: HostRuntime) -> Result<(), Fail> {
             place: 0,
             at: 10,
         },
-    })?;
+    })
+}
+
+#[test]
+fn a_claim_with_a_stray_name(rt: HostRuntime) -> Result<(), Fail> {
+    let alloc = rt.alloc();
+    let mut raw = text(alloc);
+    raw.items.push(stray(alloc)?)?;
     assert_eq!(rt; single_fault(alloc, &raw)?, fault(17, 10));
     Ok(())
 }

@@ -108,6 +108,18 @@ fn design(alloc: Global, one: Def, other: Option<Def>) -> Result<Design, AllocEr
     })
 }
 
+// A signal that is another.
+fn copy_of(alloc: Global, family: u16, other: u16, place: u32) -> Result<Def, AllocError> {
+    let value = read(alloc, other, None)?;
+    Ok(is(family, assign(alloc, None, value, place)?))
+}
+
+// An element of the array that is another.
+fn element_of(alloc: Global, to: u16, from: FlatExpr, place: u32) -> Result<Flat, AllocError> {
+    let value = read(alloc, X, Some(from))?;
+    assign(alloc, Some(number(to)), value, place)
+}
+
 // The place of the fault.
 fn place(alloc: Global, one: Def, other: Option<Def>) -> Result<Option<u32>, AllocError> {
     let design = design(alloc, one, other)?;
@@ -115,11 +127,17 @@ fn place(alloc: Global, one: Def, other: Option<Def>) -> Result<Option<u32>, All
     Ok(fault.map(|fault| fault.at))
 }
 
+// The place of the fault of an array with two assignments.
+fn place_of_two(alloc: Global, first: Flat, second: Flat) -> Result<Option<u32>, AllocError> {
+    let x = is(X, both(alloc, first, second)?);
+    place(alloc, x, None)
+}
+
 #[test]
 fn two_signals_of_each_other(rt: HostRuntime) -> Result<(), Fail> {
     let alloc = rt.alloc();
-    let a = is(A, assign(alloc, None, read(alloc, B, None)?, 5)?);
-    let b = is(B, assign(alloc, None, read(alloc, A, None)?, 3)?);
+    let a = copy_of(alloc, A, B, 5)?;
+    let b = copy_of(alloc, B, A, 3)?;
     assert_eq!(rt; place(alloc, a, Some(b))?, Some(5));
     Ok(())
 }
@@ -138,21 +156,18 @@ fn a_condition_is_read(rt: HostRuntime) -> Result<(), Fail> {
 #[test]
 fn constants_keep_cells_apart(rt: HostRuntime) -> Result<(), Fail> {
     let alloc = rt.alloc();
-    let first = assign(alloc, Some(number(0)), read(alloc, X, Some(number(1)))?, 1)?;
+    let first = element_of(alloc, 0, number(1), 1)?;
     let second = assign(alloc, Some(number(1)), number(0), 2)?;
-    let x = is(X, both(alloc, first, second)?);
-    assert_eq!(rt; place(alloc, x, None)?, None);
+    assert_eq!(rt; place_of_two(alloc, first, second)?, None);
     Ok(())
 }
 
 #[test]
 fn an_open_index_is_every_number(rt: HostRuntime) -> Result<(), Fail> {
     let alloc = rt.alloc();
-    let open = FlatExpr::Var { var: 0, at: 0 };
-    let first = assign(alloc, Some(number(0)), read(alloc, X, Some(number(1)))?, 1)?;
-    let second = assign(alloc, Some(number(1)), read(alloc, X, Some(open))?, 2)?;
-    let x = is(X, both(alloc, first, second)?);
-    assert_eq!(rt; place(alloc, x, None)?, Some(2));
+    let first = element_of(alloc, 0, number(1), 1)?;
+    let second = element_of(alloc, 1, FlatExpr::Var { var: 0, at: 0 }, 2)?;
+    assert_eq!(rt; place_of_two(alloc, first, second)?, Some(2));
     Ok(())
 }
 

@@ -1,9 +1,8 @@
-use Rattle.std.proofs.Common.{◌≡◌, List, map, ◌++◌, ap, sym, ◌∙◌}
+use Rattle.std.proofs.Common.{◌≡◌, map, ◌++◌, ap, ◌∙◌}
 use Rattle.std.specs.List.{flat_map}
 use Rattle.smv_scope.specs.ScopeFault.{least, fault_at, earlier_of}
 use Rattle.smv_flat.specs.WholeText.{claims_of}
 use Rattle.smv_single.specs.SingleFaults.{meet, mixed, lacking, unnamed}
-use Rattle.smv_single.specs.Standing.{Standing}
 use Rattle.smv_assigned.specs.Held.{among, assigned_of, conflicts_of, standing_of}
 use Rattle.smv_assigned.proofs.FaultLaws.{single-first}
 use Rattle.smv_assigned.proofs.single_fault.Goals as goal

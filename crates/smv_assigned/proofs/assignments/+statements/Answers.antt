@@ -1,4 +1,4 @@
-use Rattle.std.proofs.Common.{◌≡◌, List, [], ◌∷◌, ◌++◌, map, OnOk, subst, ap, sym, ◌∙◌}
+use Rattle.std.proofs.Common.{◌≡◌, List, ◌++◌, map, OnOk, subst, ap, sym, ◌∙◌}
 use Rattle.std.proofs.lemmas.List.{append_assoc}
 use Rattle.smv_core.specs.declared.flat.FlatStmt.{FlatStmt}
 use Rattle.smv_single.specs.Standing.{Standing, standing}

@@ -4,13 +4,15 @@ use Rattle.smv_single.specs.Standing.{standing}
 use Rattle.smv_single.specs.SingleFaults.{conflicts, cross}
 use Rattle.smv_assigned.specs.Links.{held}
 use Rattle.smv_assigned.proofs.WalkLaws.{two-walked, part-walked, of-If, of-Default, of-Block, of-Forall}
+use Rattle.smv_assigned.specs.Shared.{AreInside}
+use Rattle.smv_assigned.proofs.SharedLaws.{standing-inside}
 use Rattle.smv_assigned.proofs.conflicts.+conflicts.Goals as goal
 
 pub block-loop-part-preserved : goal.block-loop-part-preserved
 block-loop-part-preserved t c = λ stands.
     part-walked (held c.args.table.now) (conflicts c.args.layer c.args.around.now) (standing c.args.layer c.args.around.now) c.args.start c.args.parts.now stands
-    c.loop-part.part-index c.part-item.result (record { found = c.loop-part.found; end = c.loop-part.end }) c.in_ok-walked.walked (record { found = c.first_of-found.result; end = c.in_ok-walked.walked.end }) c.first_clash-met.result
-    c.loop-part-test.true c.part-item.is (c.loop-part.invariant stands) c.in_ok-walked.ensures c.first_clash-met.ensures (c.first_of-found.ensures ∙ ap (first_of_places c.loop-part.found) c.first_of.ensures) refl
+    c.loop-part.part-index c.part-item.result (record { found = c.loop-part.found; end = c.loop-part.end }) c.in_ok-walked.walked (record { found = c.first_of-found.result; end = c.in_ok-walked.walked.end }) c.first_meeting-met.result
+    c.loop-part-test.true c.part-item.is (c.loop-part.invariant stands) c.in_ok-walked.ensures c.first_meeting-met.ensures (c.first_of-found.ensures ∙ ap (first_of_places c.loop-part.found) c.first_of.ensures) refl
 
 pub statement-returns-in_ok-second-in-If : goal.statement-returns-in_ok-second-in-If
 statement-returns-in_ok-second-in-If t c =
@@ -20,7 +22,7 @@ statement-returns-in_ok-second-in-If t c =
     let l = c.get.result.now in
     let r = c.get-in-If.result.now in
     of-If all layer around c.args.start c.branches.result c.args.x.now l r c.in-If.yes c.in-If.no c.in-If.cond c.in-If.is c.get.ensures c.get-in-If.ensures
-    (λ stands. two-walked all (cross around) c.args.start (conflicts layer around l) (conflicts layer around r) (standing layer around l) (standing layer around r) c.in_ok-first-in-If.first c.in_ok-second-in-If.second c.branches.result stands
+    (λ stands. two-walked all (cross around) (AreInside around) c.args.start (conflicts layer around l) (conflicts layer around r) (standing layer around l) (standing layer around r) c.in_ok-first-in-If.first c.in_ok-second-in-If.second c.branches.result (standing-inside layer around l) (standing-inside layer around r) stands
     c.in_ok-first-in-If.ensures c.in_ok-second-in-If.ensures c.branches.ensures.found c.branches.ensures.end)
 
 pub statement-returns-in-Block : goal.statement-returns-in-Block
@@ -35,7 +37,7 @@ statement-returns-in_ok-second-in-Default t c =
     let l = c.get-in-Default.result.now in
     let r = c.get-in-Default-2.result.now in
     of-Default all layer around c.args.start c.branches-in-Default.result c.args.x.now l r c.in-Default.first c.in-Default.second c.in-Default.is c.get-in-Default.ensures c.get-in-Default-2.ensures
-    (λ stands. two-walked all (cross around) c.args.start (conflicts layer around l) (conflicts layer around r) (standing layer around l) (standing layer around r) c.in_ok-first-in-Default.first c.in_ok-second-in-Default.second c.branches-in-Default.result stands
+    (λ stands. two-walked all (cross around) (AreInside around) c.args.start (conflicts layer around l) (conflicts layer around r) (standing layer around l) (standing layer around r) c.in_ok-first-in-Default.first c.in_ok-second-in-Default.second c.branches-in-Default.result (standing-inside layer around l) (standing-inside layer around r) stands
     c.in_ok-first-in-Default.ensures c.in_ok-second-in-Default.ensures c.branches-in-Default.ensures.found c.branches-in-Default.ensures.end)
 
 pub statement-returns-in_ok-inner-in-Forall : goal.statement-returns-in_ok-inner-in-Forall

@@ -1,6 +1,5 @@
-use Rattle.std.proofs.Common.{◌≡◌, ◌+◌, length, take}
+use Rattle.std.proofs.Common.{take}
 use Rattle.std.specs.List.{flat_map}
-use Rattle.smv_scope.specs.ScopeFault.{least}
 use Rattle.smv_single.specs.Standing.{standing}
 use Rattle.smv_single.specs.SingleFaults as spec
 use Rattle.smv_assigned.specs.Held.{among}

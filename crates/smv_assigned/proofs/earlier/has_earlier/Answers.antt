@@ -1,12 +1,7 @@
-use Rattle.std.proofs.Common.{◌≡◌, ◌<◌, length, get_or, true, false, ◌||◌, ap, sym, ◌∙◌, arith, refl}
-use Rattle.std.specs.Prelude.{slice_get, Some}
+use Rattle.std.proofs.Common.{◌||◌, ap, sym, ◌∙◌}
 use Rattle.std.specs.List.{list_any}
-use Rattle.smv_core.specs.declared.tree.Kind.TheVariants.{Comb, Init, Next}
-use Rattle.smv_single.specs.Standing.{Standing}
+use Rattle.smv_core.specs.declared.tree.Kind.TheVariants.{Comb, Next}
 use Rattle.smv_single.specs.SingleFaults.{is_comb}
-use Rattle.smv_assigned.specs.declared.assignments.Assignment.{Assignment}
-use Rattle.smv_assigned.specs.declared.clashes.Clash.TheVariants.{Meet, Mixed}
-use Rattle.smv_assigned.specs.Held.{standing_of}
 use Rattle.smv_assigned.specs.Clashes.{clash_by, clashes_of}
 use Rattle.smv_assigned.specs.Links.{held, between}
 use Rattle.smv_assigned.proofs.EarlierLaws.{one-kind-Meet, one-kind-Cross, mixed-by, mixed-other, kind-here}

@@ -1,19 +1,13 @@
-use Rattle.std.proofs.Common.{◌≡◌, ◌<◌, ◌≤◌, ◌+◌, ◌-◌, ℕ, length, get_or, true, false, ap, sym, ◌∙◌, subst, arith}
+use Rattle.std.proofs.Common.{◌≡◌, ◌<◌, ◌+◌, ◌-◌, length, get_or, false, sym, ◌∙◌, arith}
 use Rattle.std.specs.Prelude.{slice_get, Some}
-use Rattle.smv_core.specs.declared.tree.Kind.{Kind}
 use Rattle.smv_single.specs.Standing.{Standing}
-use Rattle.smv_assigned.specs.declared.links.Table.{Table}
 use Rattle.smv_assigned.specs.Clashes.{clashes_of}
-use Rattle.smv_assigned.specs.Links.{held, links_of, IsBehind, IsTable}
+use Rattle.smv_assigned.specs.Links.{held}
 use Rattle.smv_assigned.proofs.LinkLaws.{got-some, between-true, between-false}
 use Rattle.smv_assigned.proofs.EarlierLaws.{clear-start, clear-step}
+use Rattle.smv_assigned.proofs.TouchLaws.{told}
 use Rattle.smv_assigned.proofs.earlier.has_earlier_of.Goals as goal
 use Rattle.smv_assigned.proofs.earlier.has_earlier_of.Goals.{else-earlier-middle-via-then-earlier-middle+else-is_clash, else-earlier-middle-via-else-earlier-middle}
-
--- what a link tells
-told : (t : Table) (count : ℕ) → IsTable t count → (kind : Kind) (links : _) → links ≡ links_of kind t → (i : ℕ) → i < length (held t) → IsBehind (held t) t.classes.items kind (get_or t.classes.items i 0) i (get_or links i 0)
-told t count table kind links is i lt =
-    subst (λ l. IsBehind (held t) t.classes.items kind (get_or t.classes.items i 0) i (get_or l i 0)) (sym is) ((table.linked kind).behind i (omega (arith, lt, (table.linked kind).each)))
 
 pub loop-end-init : goal.loop-end-init
 loop-end-init c =

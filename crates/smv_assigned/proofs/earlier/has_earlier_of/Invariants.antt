@@ -1,4 +1,4 @@
-use Rattle.std.proofs.Common.{◌≡◌, ◌≤◌, ◌<◌, ◌-◌, ℕ, length, get_or, map, false}
+use Rattle.std.proofs.Common.{◌≡◌, ◌≤◌, ◌<◌, ◌-◌, ℕ, get_or, false}
 use Rattle.std.specs.Prelude.{Some, slice_get}
 use Rattle.smv_single.specs.Standing.{Standing}
 use Rattle.smv_assigned.specs.Clashes.{clashes_of}

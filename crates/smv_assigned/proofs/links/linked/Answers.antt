@@ -1,5 +1,4 @@
-use Rattle.std.proofs.Common.{◌≡◌, ◌<◌, ◌+◌, ℕ, length, map, get_or, slice_set, cond, rules, ap, sym, ◌∙◌, subst, arith, ◌++◌, ◌∷◌, []}
-use Rattle.std.specs.Prelude.{slice_get, Some}
+use Rattle.std.proofs.Common.{◌≡◌, ◌<◌, ◌+◌, length, map, get_or, slice_set, cond, rules, ap, sym, ◌∙◌, subst, arith, ◌++◌, ◌∷◌, []}
 use Rattle.std.proofs.lemmas.List.{get_or_read}
 use Rattle.smv_core.specs.Walk.{same_kind}
 use Rattle.smv_assigned.specs.declared.assignments.Assignment.{Assignment}

@@ -1,4 +1,4 @@
-use Rattle.std.proofs.Common.{◌<◌, length, rules, arith}
+use Rattle.std.proofs.Common.{◌<◌, length, arith}
 use Rattle.smv_assigned.specs.Links.{held}
 use Rattle.smv_assigned.proofs.LinkLaws.{held-length}
 use Rattle.smv_assigned.proofs.EarlierLaws.{mixed-step}

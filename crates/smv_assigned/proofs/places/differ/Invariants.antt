@@ -1,5 +1,5 @@
 use Rattle.std.proofs.Common.{◌≡◌, length}
-use Rattle.smv_core.specs.Conflicts.{are_two_constants, are_both}
+use Rattle.smv_core.specs.Conflicts.{are_two_constants}
 use Rattle.smv_assigned.specs.Places.{any_two}
 use Rattle.smv_assigned.proofs.places.differ.Given as goal
 
