@@ -1,0 +1,6 @@
+pub mod Lists
+pub mod Agreeing
+pub mod Results
+pub mod Places
+pub mod Faultless
+pub mod Stages
