@@ -1,9 +1,9 @@
 -- Two states that agree on what the references in an expression may read give it the same outcome, and allow a right side the same values.
-use Rattle.std.proofs.Common.{◌≡◌, ℕ, zero, suc, ◌+◌, ◌-◌, List, [], ◌∷◌, ◌++◌, map, filter, zip, Bool, true, false, cond, not, ◌||◌, ◌&&◌, refl, sym, ap, subst, ◌∙◌, ◌⊎◌, inl, inr, Option, Some, None, option_map, slice_get}
+use Rattle.std.proofs.Common.{◌≡◌, ℕ, zero, suc, ◌+◌, ◌-◌, List, [], ◌∷◌, ◌++◌, map, filter, zip, Bool, true, false, cond, not, ◌||◌, ◌&&◌, refl, ap, subst, ◌∙◌, ◌⊎◌, inl, inr, Option, Some, None, option_map, slice_get}
 use Rattle.std.specs.List.{flat_map, list_any, list_all, AllZip}
 use Rattle.std.specs.Option.{is_none}
 use Rattle.std.proofs.Math.Path.{fun_ext}
-use Rattle.smv_core.specs.Values.{Value, number, constant, scalar, ordinal, Outcome, Truth, truth, bit, same, is_in, value_in, all_defined, equal, compare, add, modulo, numbers_from, not_of, iff_of, conjunction, disjunction, implication}
+use Rattle.smv_core.specs.Values.{Value, number, constant, scalar, ordinal, Outcome, truth, bit, same, is_in, value_in, all_defined, equal, compare, add, modulo, numbers_from, not_of, iff_of, conjunction, disjunction, implication}
 use Rattle.smv_core.specs.Outcome.{branch, fit, is_true}
 use Rattle.smv_core.specs.Walk.{is_other}
 use Rattle.smv_core.specs.Assignments.{Index, fixed, bare, computed, add_fixed, modulo_fixed, fits}
@@ -14,7 +14,7 @@ use Rattle.smv_core.specs.declared.flat.FlatMember.{One, Span as SpanOf}
 use Rattle.smv_core.specs.declared.flat.FlatExpr.{FlatExpr, Number, Read', Var, Loop, Constant, Not', And', Or', Implies', Iff', Compare', Within', Sum', Modulo', Choose', All', Any', List', Each', Held-FlatExpr-Each-2, None', Some', Row_of-FlatExpr, end_of-FlatExpr, more_of-FlatExpr, Row_of-FlatMember, end_of-FlatMember, more_of-FlatMember, Row_of-FlatSigned, end_of-FlatSigned, more_of-FlatSigned}
 use Rattle.smv_abs.specs.Sets.{Has, first, later}
 use Rattle.smv_delay.specs.Reading.{Reference, indexes_of, references, references_of, references_signed, references_members, references_held}
-use Rattle.smv_extend.proofs.Lists.{inner, clash, Has-left, Has-right, Has-is_in, same-itself}
+use Rattle.smv_extend.proofs.Lists.{inner, Has-left, Has-right, Has-is_in, same-itself}
 
 -- ---- constant indexes
 

@@ -18,8 +18,8 @@ use Rattle.smv_delay.specs.Loops.{Edge, edges_of, hold_a_cycle, is_behind, is_ba
 use Rattle.smv_delay.specs.LayerFaults.{is_abstract, assignments_of, outside_layers, leaking, assigned_outside}
 use Rattle.smv_delay.specs.FirstFault.{first_fault_of_loops, first_fault_of_layers, first_fault_of_design}
 use Rattle.smv_delay.specs.Laws.{AreFalling}
-use Rattle.smv_extend.proofs.Lists.{clash, inner, left_of, right_of, Has-left, Has-right, Has-cases, Has-flat_map, Has-from_flat_map, Has-filter, Has-from_filter, none_passes, some_or_none, any-some, nat_eq-itself, nat_eq-is}
-use Rattle.smv_extend.proofs.Results.{IsReading, reading_is}
+use Rattle.smv_extend.proofs.Lists.{clash, inner, left_of, right_of, both_true, Has-left, Has-right, Has-cases, Has-flat_map, Has-from_flat_map, Has-filter, Has-from_filter, none_passes, some_or_none, any-some, nat_eq-itself, nat_eq-is}
+use Rattle.smv_extend.proofs.Results.{reading_is}
 
 -- ---- no faults
 
@@ -189,16 +189,12 @@ may-cases true true e = inr (refl, refl)
 may-cases true false e = inl refl
 may-cases false b e = inl e
 
-both-true : (a b : Bool) → a ≡ true → b ≡ true → (a && b) ≡ true
-both-true a b p q = rw (p, q) refl
-
 module _ (d : Design) (h : IsFaultless d) where
   -- an assignment of a definition outside layers is of no abstract signal, and reads none
   outside-is : (def : Def) → Has d.defs def → is_none def.layer ≡ true → (a : Reading) → Has (assignments_of def) a →
       (is_abstract d (slice_get d.families a.family) ≡ false) × ((r : Reference) → Has a.reads r → is_abstract d (slice_get d.families r.family) ≡ false)
   outside-is def k e a m =
-      let there : Has (outside_layers d) a = Has-flat_map assignments_of (Has-filter (λ (def : Def). is_none def.layer) k e) m in
-      (
+      let there : Has (outside_layers d) a = Has-flat_map assignments_of (Has-filter (λ (def : Def). is_none def.layer) k e) m in (
         none_passes (λ (a : Reading). is_abstract d (slice_get d.families a.family)) (outside_layers d) (nil-map _ _ h.none_outside) a there,
         λ r i. none_passes (λ (r : Reference). is_abstract d (slice_get d.families r.family)) (flat_map (λ (a : Reading). a.reads) (outside_layers d)) (nil-map _ _ h.no_leaks) r (Has-flat_map (λ (a : Reading). a.reads) there i),
       )
@@ -210,7 +206,7 @@ module _ (d : Design) (h : IsFaultless d) where
 
   candidate : (family : ℕ) (other : Def) → other.family ≡ family → (o : Option Family) → delay.may_be_base d o other ≡ true → may_be_base d family o other ≡ true
   candidate family other same None t = absurd (cc (t))
-  candidate family other same (Some f) t = both-true (nat_eq other.family family) (f.is_abstract || is_none other.layer) (subst (λ k. nat_eq other.family k ≡ true) same (nat_eq-itself other.family)) (delayed-may f.is_abstract (is_none other.layer) t)
+  candidate family other same (Some f) t = both_true (nat_eq other.family family) (f.is_abstract || is_none other.layer) (subst (λ k. nat_eq other.family k ≡ true) same (nat_eq-itself other.family)) (delayed-may f.is_abstract (is_none other.layer) t)
 
   not-behind : (def : Def) → ((x : Def) → Has (filter (may_be_base d def.family (slice_get d.families def.family)) d.defs) x → def.place ≤ x.place) → list_any (is_behind d def) d.defs ≡ false
   not-behind def least = none (some_or_none (is_behind d def) d.defs) (λ e. any-some (is_behind d def) d.defs e)
@@ -256,7 +252,7 @@ module _ (d : Design) (h : IsFaultless d) where
       by_cases : (f : Family) → slice_get d.families def.family ≡ Some f → Has d.defs def → ((x : Def) → Has (filter (may_be_base d def.family (slice_get d.families def.family)) d.defs) x → def.place ≤ x.place) →
           (cond f.is_abstract (not (is_none def.layer)) (is_none def.layer) ≡ true) ⊎ ((f.is_abstract ≡ true) × (is_none def.layer ≡ true)) → (a : Reading) → Has (undelayed def) a → Has (undelayed_in d) a
       by_cases f there k least (inl t) a m =
-          let marked : is_base d def ≡ true = both-true (delay.may_be_base d (slice_get d.families def.family) def) (not (list_any (is_behind d def) d.defs)) (subst (λ o. delay.may_be_base d o def ≡ true) (sym there) t) (ap not (not-behind def least)) in
+          let marked : is_base d def ≡ true = both_true (delay.may_be_base d (slice_get d.families def.family) def) (not (list_any (is_behind d def) d.defs)) (subst (λ o. delay.may_be_base d o def ≡ true) (sym there) t) (ap not (not-behind def least)) in
           in_order-Has (flat_map undelayed (filter (is_base d) d.defs)) a (Has-flat_map undelayed (Has-filter (is_base d) k marked) m)
       by_cases f there k least (inr t) a m =
           absurd (clash (subst (λ o. is_abstract d o ≡ true) (sym there) t.0)

@@ -4,3 +4,4 @@ pub mod Results
 pub mod Places
 pub mod Faultless
 pub mod Stages
+pub mod Runs

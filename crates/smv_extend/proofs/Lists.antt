@@ -24,6 +24,9 @@ pub right_of : (a b : Bool) → (a && b) ≡ true → b ≡ true
 right_of true b e = e
 right_of false b e = absurd (cc)
 
+pub both_true : (a b : Bool) → a ≡ true → b ≡ true → (a && b) ≡ true
+both_true a b p q = rw (p, q) refl
+
 pub Has-left : {X : Type 0} {xs : List X} {x : X} (ys : List X) → Has xs x → Has (xs ++ ys) x
 Has-left ys first = first
 Has-left ys (later h) = later (Has-left ys h)

@@ -1,7 +1,7 @@
 -- What a reference may read, and the elements that an assignment may concern, have their places among the cells of the reference and of the assignment.
-use Rattle.std.proofs.Common.{◌≡◌, ℕ, suc, ◌+◌, ◌-◌, ◌≤◌, List, [], ◌∷◌, map, zip, filter, length, Bool, true, false, ◌&&◌, cond, refl, sym, ap, subst, ◌∙◌, Option, Some, None, slice_get, get_or, arith}
-use Rattle.std.specs.List.{flat_map, list_all}
-use Rattle.smv_core.specs.Values.{Value, number, constant, scalar, ordinal, scalarset, ordset, Sizes, values_of, same, is_in, numbers_from}
+use Rattle.std.proofs.Common.{◌≡◌, ℕ, suc, ◌+◌, ◌-◌, ◌≤◌, List, [], ◌∷◌, map, zip, length, Bool, true, false, ◌&&◌, cond, refl, sym, ap, subst, Option, Some, None, slice_get, get_or, arith}
+use Rattle.std.specs.List.{list_all}
+use Rattle.smv_core.specs.Values.{Value, number, constant, scalar, ordinal, scalarset, ordset, Sizes, values_of, is_in, numbers_from}
 use Rattle.smv_core.specs.Assignments.{Index, fixed, bare, computed, fits}
 use Rattle.smv_core.specs.Flat.{Numbered, values_in, set_type}
 use Rattle.smv_core.specs.declared.flat.Simple.{Simple}
@@ -118,13 +118,12 @@ module _ (n : Numbered) where
   may_be [] is (v ∷ vs) a l p e = elim a [ ]
   may_be (o ∷ over) [] vs a l p e = absurd (omega (arith, l))
   may_be (o ∷ over) (i ∷ is) [] a l p e = elim a [ ]
-  may_be (o ∷ over) (i ∷ is) (v ∷ vs) a l p e =
-      (
-        a.0,
-        left_of (fits i v) (list_all (λ (i, v). fits i v) (zip is vs)) e,
-        left_of (is_plain i) (list_all is_plain is) p,
-        may_be over is vs a.1 (omega (arith, l)) (right_of (is_plain i) (list_all is_plain is) p) (right_of (fits i v) (list_all (λ (i, v). fits i v) (zip is vs)) e),
-      )
+  may_be (o ∷ over) (i ∷ is) (v ∷ vs) a l p e = (
+    a.0,
+    left_of (fits i v) (list_all (λ (i, v). fits i v) (zip is vs)) e,
+    left_of (is_plain i) (list_all is_plain is) p,
+    may_be over is vs a.1 (omega (arith, l)) (right_of (is_plain i) (list_all is_plain is) p) (right_of (fits i v) (list_all (λ (i, v). fits i v) (zip is vs)) e),
+  )
 
   -- the same as a test
   abbrev pub is_over : List Simple → List Value → Bool

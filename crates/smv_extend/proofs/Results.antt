@@ -14,7 +14,7 @@ use Rattle.smv_core.specs.declared.flat.FlatExpr.{FlatExpr, List', Each', Choose
 use Rattle.smv_core.specs.declared.flat.Flat.{Flat, Nothing, Assign, If', First', Forall', Row_of-Flat, end_of-Flat, more_of-Flat}
 use Rattle.smv_abs.specs.Sets.{Has, first, later}
 use Rattle.smv_delay.specs.Reading.{Reference, references, Reading, readings, readings_of}
-use Rattle.smv_extend.proofs.Lists.{inner, true_or_false, Has-left, Has-right, Has-cases, Has-is_in, some_or_none}
+use Rattle.smv_extend.proofs.Lists.{inner, Has-left, Has-right, Has-cases, Has-is_in, some_or_none}
 use Rattle.smv_extend.proofs.Agreeing.{is_plain, index_plain, misfits, AgreeAt, at_left, at_right, same_outcome, same_allowed, same_left}
 
 -- ---- lists of results

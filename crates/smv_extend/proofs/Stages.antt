@@ -1,26 +1,24 @@
 -- The states of a run, one after the other: elements get their values in the order in which definitions read one another, as the limit of stages.
-use Rattle.std.proofs.Common.{◌≡◌, ℕ, zero, suc, ◌<◌, ◌≤◌, List, [], ◌∷◌, ◌++◌, length, Option, Some, None, Bool, true, false, ◌&&◌, cond, refl, sym, ap, subst, ◌∙◌, ◌⊎◌, inl, inr, slice_get, unwrap_or, nat_lt, arith}
+use Rattle.std.proofs.Common.{◌≡◌, ℕ, zero, suc, ◌<◌, ◌≤◌, List, [], ◌∷◌, map, length, Option, Some, None, Bool, true, false, ◌&&◌, cond, refl, sym, ap, subst, ◌∙◌, ◌⊎◌, inl, inr, slice_get, unwrap_or, arith}
 use Rattle.std.specs.List.{flat_map}
-use Rattle.std.proofs.lemmas.Bool.Decides.{nat_tests}
 use Rattle.smv_core.specs.Values.{Value, Sizes}
 use Rattle.smv_core.specs.Walk.{Walk}
-use Rattle.smv_core.specs.Flat.{Numbered, FlatState, FlatElement, values_in, flat_result, is_concerned_by, flat_kept, flat_stepped, flat_allowed}
-use Rattle.smv_core.specs.declared.flat.Simple.{Simple}
+use Rattle.smv_core.specs.Flat.{Numbered, FlatState, FlatElement, flat_result, is_concerned_by, flat_kept, flat_stepped, flat_allowed}
 use Rattle.smv_core.specs.declared.flat.Family.{Family}
 use Rattle.smv_core.specs.declared.flat.Cell.{Cell}
 use Rattle.smv_core.specs.declared.flat.Def.{Def}
 use Rattle.smv_core.specs.declared.flat.Design.{Design}
 use Rattle.smv_abs.specs.Sets.{Has, first, later}
-use Rattle.smv_abs.specs.Soundness.{at_sizes, values_of_family, values_over, IsTyped}
-use Rattle.smv_oblig.specs.Outlines.{names_of, base_of, bases}
+use Rattle.smv_abs.specs.Soundness.{at_sizes, values_of_family, IsTyped}
+use Rattle.smv_oblig.specs.Outlines.{names_of, base_of}
 use Rattle.smv_delay.specs.Reading.{Reference, Reading, readings}
 use Rattle.smv_delay.specs.Loops.{cells, cells_of, edges_of, undelayed}
 use Rattle.smv_extend.specs.Extension.{HasWholeLeftSides}
-use Rattle.smv_extend.proofs.Lists.{clash, true_or_false, left_of, right_of, Has-left, Has-right, Has-map, Has-flat_map}
+use Rattle.smv_extend.proofs.Lists.{true_or_false, right_of, Has-left, Has-right, Has-map, Has-flat_map}
 use Rattle.smv_extend.proofs.Agreeing.{MayBe, AgreeAt}
-use Rattle.smv_extend.proofs.Results.{concerns, result_by, all_result, IsReading, reading_is, same_result, AreSome, IsSome, all_some, some_or_every, result_some, IsWithin, result_within, within_allowed}
+use Rattle.smv_extend.proofs.Results.{concerns, result_by, all_result, IsReading, reading_is, same_result, AreSome, IsSome, all_some, some_or_every, result_some, result_within, within_allowed}
 use Rattle.smv_extend.proofs.Places.{cell_at, has_cell, AreOver, are_over, over_long, may_be, is_over, over-are, are-over, over-Has}
-use Rattle.smv_extend.proofs.Faultless.{IsFaultless, Falls, IsBase, base_by, base_is, undelayed-assigned}
+use Rattle.smv_extend.proofs.Faultless.{IsFaultless, Falls, IsBase, base_by, undelayed-assigned}
 
 -- the first of some values
 abbrev pick : List Value → Value → Value
@@ -90,6 +88,11 @@ module _ (n : Numbered) (def : Def) (x : FlatElement) (every : List Value) where
             within_allowed every (result_by (concerns x) n now x every def.comb []) (flat_result n now x every def.comb []) (result_some every one n now (concerns x) x def.comb []) (result_within every one n now x def.comb []) v h
         by_test false h = stepped_within before now v h
 
+-- the state before is typed, if there is one
+abbrev pub AreTyped : Numbered → Option FlatState → Type 0
+AreTyped n None = Unit {0}
+AreTyped n (Some old) = IsTyped n old
+
 -- ---- stages
 
 module _ (d : Design) (sizes : Sizes) (among : ℕ → Bool) where
@@ -118,7 +121,7 @@ module _ (d : Design) (sizes : Sizes) (among : ℕ → Bool) where
   valued before now family vs v None = v
   valued before now family vs v (Some def) = pick (options n def (element family vs) (every_of family) before now) v
 
-  stage : Option FlatState → FlatState → ℕ → FlatState
+  pub stage : Option FlatState → FlatState → ℕ → FlatState
   stage before s zero family vs = s family vs
   stage before s (suc k) family vs = cond (is_chosen family vs) (valued before (stage before s k) family vs (s family vs) (base_of d family)) (s family vs)
 
@@ -243,12 +246,8 @@ module _ (d : Design) (sizes : Sizes) (among : ℕ → Bool) where
       pub final_outside : (family : ℕ) → among family ≡ false → (vs : List Value) → final family vs ≡ s family vs
       final_outside family e vs = final-other family vs (ap (λ b. b && is_element (slice_get d.families family) vs) e)
 
-      abbrev pub AreTyped : Option FlatState → Type 0
-      AreTyped None = Unit {0}
-      AreTyped (Some old) = IsTyped n old
-
-      module _ (typed : IsTyped n s) (typed_before : AreTyped before) where
-        has_before : (family : ℕ) (f : Family) → slice_get d.families family ≡ Some f → (vs : List Value) → AreOver n f.over vs → (def : Def) (one : (v : Value) × Has (every_of family) v) → (o : Option FlatState) → AreTyped o → IsBefore n def (element family vs) (every_of family) one o
+      module _ (typed : IsTyped n s) (typed_before : AreTyped n before) where
+        has_before : (family : ℕ) (f : Family) → slice_get d.families family ≡ Some f → (vs : List Value) → AreOver n f.over vs → (def : Def) (one : (v : Value) × Has (every_of family) v) → (o : Option FlatState) → AreTyped n o → IsBefore n def (element family vs) (every_of family) one o
         has_before family f there vs over def one None h = tt
         has_before family f there vs over def one (Some old) h = subst (λ o. Has (values_of_family n o) (old family vs)) (sym there) (h family f there vs (over-Has n f.over vs over))
 

@@ -2,7 +2,7 @@
 use Rattle.std.specs.Prelude.{◌≡◌, ◌≤◌, ℕ, List, filter, length, not, slice_get, Some, Bool, false}
 use Rattle.std.specs.List.{AllZip}
 use Rattle.smv_core.specs.Values.{Value, Sizes}
-use Rattle.smv_core.specs.Flat.{Numbered, FlatState}
+use Rattle.smv_core.specs.Flat.{FlatState}
 use Rattle.smv_core.specs.declared.flat.Family.{Family}
 use Rattle.smv_core.specs.declared.flat.Def.{Def}
 use Rattle.smv_core.specs.declared.flat.Design.{Design}

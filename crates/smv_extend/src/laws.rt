@@ -4,13 +4,19 @@ ghost use Rattle.smv_core.specs.declared.flat.Design.{Design};
 ghost use Rattle.smv_delay.specs.FirstFault.{first_fault_of_design};
 ghost use Rattle.smv_extend.specs.Extension.{AreFilled, HasRuns, HasWholeLeftSides, KeepsBehaviours};
 
+use smv_delay::laws::orders_show_no_cycle;
+
 /// In a design without a fault of loops or of layers whose left sides are whole the abstract signals take no behaviour from the implementation: each is in a run,
 /// at any sizes.
 pub fn behaviours_are_kept()
     ensures { (d : Design) → first_fault_of_design d ≡ None → HasWholeLeftSides d → KeepsBehaviours d }
-{}
+{
+    orders_show_no_cycle();
+}
 
 /// And there are runs of each length, where the types of the families are not empty.
 pub fn runs_exist()
     ensures { (d : Design) → first_fault_of_design d ≡ None → HasWholeLeftSides d → AreFilled d → HasRuns d }
-{}
+{
+    orders_show_no_cycle();
+}
