@@ -5,3 +5,4 @@ pub mod Places
 pub mod Faultless
 pub mod Stages
 pub mod Runs
+pub mod LeftSides

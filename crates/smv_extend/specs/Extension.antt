@@ -6,6 +6,10 @@ use Rattle.smv_core.specs.Flat.{FlatState}
 use Rattle.smv_core.specs.declared.flat.Family.{Family}
 use Rattle.smv_core.specs.declared.flat.Def.{Def}
 use Rattle.smv_core.specs.declared.flat.Design.{Design}
+use Rattle.smv_core.specs.declared.flat.Raw.{Raw}
+use Rattle.smv_single.specs.Standing.{Standing}
+use Rattle.smv_single.specs.SingleFaults.{assigned_in}
+use Rattle.smv_single.specs.Laws.{index_count}
 use Rattle.smv_abs.specs.Sets.{Has}
 use Rattle.smv_abs.specs.Soundness.{AreSizes, at_sizes, IsRun}
 use Rattle.smv_oblig.specs.Outlines.{names_of, bases}
@@ -16,6 +20,10 @@ use Rattle.smv_delay.specs.LayerFaults.{is_abstract, assignments_of}
 -- each left side has an index for each type of its family
 abbrev pub HasWholeLeftSides : Design → Type 0
 HasWholeLeftSides d = (def : Def) → Has d.defs def → (f : Family) → slice_get d.families def.family ≡ Some f → (a : Reading) → Has (assignments_of def) a → length f.over ≤ length a.left
+
+-- so it is in a flattened text
+abbrev pub RawHasWholeLeftSides : Raw → Type 0
+RawHasWholeLeftSides raw = (a : Standing) → Has (assigned_in raw) a → index_count raw a.family ≤ length a.left
 
 -- no family has a type without values
 abbrev pub AreFilled : Design → Type 0

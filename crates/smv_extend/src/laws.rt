@@ -1,8 +1,10 @@
 // Laws of what a design adds to its implementation, each the contract of a function that does nothing.
 ghost use Rattle.std.specs.Prelude.{◌≡◌, None};
 ghost use Rattle.smv_core.specs.declared.flat.Design.{Design};
+ghost use Rattle.smv_core.specs.declared.flat.Raw.{Raw};
+ghost use Rattle.smv_single.specs.Definitions.{design_of_raw};
 ghost use Rattle.smv_delay.specs.FirstFault.{first_fault_of_design};
-ghost use Rattle.smv_extend.specs.Extension.{AreFilled, HasRuns, HasWholeLeftSides, KeepsBehaviours};
+ghost use Rattle.smv_extend.specs.Extension.{AreFilled, HasRuns, HasWholeLeftSides, KeepsBehaviours, RawHasWholeLeftSides};
 
 use smv_delay::laws::orders_show_no_cycle;
 
@@ -20,3 +22,8 @@ pub fn runs_exist()
 {
     orders_show_no_cycle();
 }
+
+/// The left sides of a design are whole where those of the flattened text are from which it is made.
+pub fn left_sides_stay_whole()
+    ensures { (raw : Raw) → RawHasWholeLeftSides raw → HasWholeLeftSides (design_of_raw raw) }
+{}
