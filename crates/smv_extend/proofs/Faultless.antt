@@ -154,13 +154,14 @@ earliest-is (y ∷ defs) e h = by_other (earliest defs) refl (inner h) (earliest
 -- ---- base definitions
 
 -- a base definition: of a family of the design, and each of its undelayed assignments has its edges among those that hold no cycle; outside abstract families it
--- reads none of them
+-- is outside layers and reads none of them
 pub record IsBase (d : Design) (def : Def) : Type 0 where
   pub its_family : Family
   pub is_there : slice_get d.families def.family ≡ Some its_family
   pub is_def_of : Has d.defs def
   pub is_base_of : base_of d def.family ≡ Some def
   pub is_undelayed : (a : Reading) → Has (undelayed def) a → Has (undelayed_in d) a
+  pub is_outside : is_abstract d (slice_get d.families def.family) ≡ false → is_none def.layer ≡ true
   pub reads_none : is_abstract d (slice_get d.families def.family) ≡ false → (a : Reading) → Has (assignments_of def) a → (r : Reference) → Has a.reads r → is_abstract d (slice_get d.families r.family) ≡ false
 
 -- an assignment of a definition is of its family
@@ -239,6 +240,7 @@ module _ (d : Design) (h : IsFaultless d) where
         is_def_of = there.0;
         is_base_of = e;
         is_undelayed = λ a m. by_cases f.0 f.1 there.0 r.1 (may-cases f.0.is_abstract (is_none def.layer) f.3) a m;
+        is_outside = λ no. outside f.0 f.3 (ap (λ o. is_abstract d o) (sym f.1) ∙ no);
         reads_none = λ no a m i k. (outside-is def there.0 (outside f.0 f.3 (ap (λ o. is_abstract d o) (sym f.1) ∙ no)) a m).1 i k;
       }
     where

@@ -6,3 +6,4 @@ pub mod Faultless
 pub mod Stages
 pub mod Runs
 pub mod LeftSides
+pub mod Texts

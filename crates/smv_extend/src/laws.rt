@@ -2,11 +2,20 @@
 ghost use Rattle.std.specs.Prelude.{◌≡◌, None};
 ghost use Rattle.smv_core.specs.declared.flat.Design.{Design};
 ghost use Rattle.smv_core.specs.declared.flat.Raw.{Raw};
+ghost use Rattle.smv_core.specs.declared.tree.Text.{Text};
+ghost use Rattle.smv_flat.specs.Flattening.{flatten};
+ghost use Rattle.smv_right.specs.WellKinded.{IsWellKinded};
 ghost use Rattle.smv_single.specs.Definitions.{design_of_raw};
 ghost use Rattle.smv_delay.specs.FirstFault.{first_fault_of_design};
 ghost use Rattle.smv_extend.specs.Extension.{AreFilled, HasRuns, HasWholeLeftSides, KeepsBehaviours, RawHasWholeLeftSides};
+ghost use Rattle.smv_extend.specs.TextExtension.{FamiliesAreFound, KeepsTextBehaviours, LayersAreSame};
 
 use smv_delay::laws::orders_show_no_cycle;
+use smv_flat::laws::families_are_the_same;
+use smv_right::laws::{
+    allowed_values_are_the_same, expressions_are_right, spelled_texts_are_written,
+};
+use smv_single::laws::{definitions_allow_as_the_text, what_has_no_definition_is_free};
 
 /// In a design without a fault of loops or of layers whose left sides are whole the abstract signals take no behaviour from the implementation: each is in a run,
 /// at any sizes.
@@ -27,3 +36,19 @@ pub fn runs_exist()
 pub fn left_sides_stay_whole()
     ensures { (raw : Raw) → RawHasWholeLeftSides raw → HasWholeLeftSides (design_of_raw raw) }
 {}
+
+/// So it is for texts: in a text that is spelled and has no fault of names, size, kinds, loops and layers the abstract signals take no behaviour from the
+/// implementation, where each family is found by its path and the layers that define abstract signals first are those of the design.
+pub fn text_behaviours_are_kept()
+    ensures { (text : Text) → IsWellKinded text → first_fault_of_design (design_of_raw (flatten text)) ≡ None → RawHasWholeLeftSides (flatten text) →
+        FamiliesAreFound text → LayersAreSame text → KeepsTextBehaviours text }
+{
+    behaviours_are_kept();
+    left_sides_stay_whole();
+    families_are_the_same();
+    allowed_values_are_the_same();
+    expressions_are_right();
+    spelled_texts_are_written();
+    definitions_allow_as_the_text();
+    what_has_no_definition_is_free();
+}
