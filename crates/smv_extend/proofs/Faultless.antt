@@ -23,15 +23,15 @@ use Rattle.smv_extend.proofs.Results.{reading_is}
 
 -- ---- no faults
 
-nil-left : {X : Type 0} (xs ys : List X) → xs ++ ys ≡ [] → xs ≡ []
+pub nil-left : {X : Type 0} (xs ys : List X) → xs ++ ys ≡ [] → xs ≡ []
 nil-left [] ys e = refl
 nil-left (x ∷ xs) ys e = absurd (cc (e))
 
-nil-right : {X : Type 0} (xs ys : List X) → xs ++ ys ≡ [] → ys ≡ []
+pub nil-right : {X : Type 0} (xs ys : List X) → xs ++ ys ≡ [] → ys ≡ []
 nil-right [] ys e = e
 nil-right (x ∷ xs) ys e = absurd (cc (e))
 
-nil-map : {X Y : Type 0} (f : X → Y) (xs : List X) → map f xs ≡ [] → xs ≡ []
+pub nil-map : {X Y : Type 0} (f : X → Y) (xs : List X) → map f xs ≡ [] → xs ≡ []
 nil-map f [] e = refl
 nil-map f (x ∷ xs) e = absurd (cc (e))
 
@@ -43,11 +43,11 @@ no-earlier f (Some g) e = by_test (comes_before g f) e
     by_test true e = cc
     by_test false e = cc
 
-no-faults : (faults : List Fault) → first_of faults ≡ None → faults ≡ []
+pub no-faults : (faults : List Fault) → first_of faults ≡ None → faults ≡ []
 no-faults [] e = refl
 no-faults (f ∷ faults) e = absurd (no-earlier f (first_of faults) e)
 
-or_else-none : (f g : Option Fault) → or_else f g ≡ None → (f ≡ None) × (g ≡ None)
+pub or_else-none : (f g : Option Fault) → or_else f g ≡ None → (f ≡ None) × (g ≡ None)
 or_else-none None g e = (refl, e)
 or_else-none (Some f) g e = absurd (cc (e))
 

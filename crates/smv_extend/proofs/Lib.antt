@@ -7,3 +7,4 @@ pub mod Stages
 pub mod Runs
 pub mod LeftSides
 pub mod Texts
+pub mod FamiliesFound

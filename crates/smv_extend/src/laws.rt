@@ -3,6 +3,7 @@ ghost use Rattle.std.specs.Prelude.{◌≡◌, None};
 ghost use Rattle.smv_core.specs.declared.flat.Design.{Design};
 ghost use Rattle.smv_core.specs.declared.flat.Raw.{Raw};
 ghost use Rattle.smv_core.specs.declared.tree.Text.{Text};
+ghost use Rattle.smv_inst.specs.FirstFault.{first_fault};
 ghost use Rattle.smv_flat.specs.Flattening.{flatten};
 ghost use Rattle.smv_right.specs.WellKinded.{IsWellKinded};
 ghost use Rattle.smv_single.specs.Definitions.{design_of_raw};
@@ -37,14 +38,19 @@ pub fn left_sides_stay_whole()
     ensures { (raw : Raw) → RawHasWholeLeftSides raw → HasWholeLeftSides (design_of_raw raw) }
 {}
 
+/// In a text without a fault of names or size each family is found by its path, in the text and in the flattened text: no two have one path.
+pub fn families_are_found()
+    ensures { (text : Text) → first_fault text ≡ None → FamiliesAreFound text }
+{}
+
 /// So it is for texts: in a text that is spelled and has no fault of names, size, kinds, loops and layers the abstract signals take no behaviour from the
-/// implementation, where each family is found by its path and the layers that define abstract signals first are those of the design.
+/// implementation, where the layer that defines an abstract signal first is that of its base definition in the design.
 pub fn text_behaviours_are_kept()
-    ensures { (text : Text) → IsWellKinded text → first_fault_of_design (design_of_raw (flatten text)) ≡ None → RawHasWholeLeftSides (flatten text) →
-        FamiliesAreFound text → LayersAreSame text → KeepsTextBehaviours text }
+    ensures { (text : Text) → IsWellKinded text → first_fault_of_design (design_of_raw (flatten text)) ≡ None → RawHasWholeLeftSides (flatten text) → LayersAreSame text → KeepsTextBehaviours text }
 {
     behaviours_are_kept();
     left_sides_stay_whole();
+    families_are_found();
     families_are_the_same();
     allowed_values_are_the_same();
     expressions_are_right();
