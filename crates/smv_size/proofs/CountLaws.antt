@@ -20,7 +20,7 @@ use Rattle.smv_size.specs.Limits.{capped}
 pub capped-sum : (x y : ℕ) → capped (capped x + capped y) ≡ capped (x + y)
 capped-sum x y = omega arith
 
-capped-factor : (x y : ℕ) → capped (x * capped y) ≡ capped (x * y)
+pub capped-factor : (x y : ℕ) → capped (x * capped y) ≡ capped (x * y)
 capped-factor x y = elim (cases_lt 65537 y) [
   | inl large ↦ elim (cases_lt 0 x) [
     | inl some ↦

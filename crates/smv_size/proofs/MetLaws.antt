@@ -37,6 +37,14 @@ modules-turn f tops i top h at =
     let rest : take (i + 1) tops ≡ take i tops ++ top ∷ [] = take_more tops i top h ∙ ap (λ (y : Top). take i tops ++ y ∷ []) (sym at) in
     sym (ap (λ l. map f (modules l)) rest ∙ ap (map f) (modules-append (take i tops) (top ∷ [])) ∙ map-append f (modules (take i tops)) (modules (top ∷ [])))
 
+-- one module more in a loop
+pub map-turn : {A B X : Type 0} (f : B → X) (g : A → B) (xs : List A) (i : ℕ) (x : A) (before : List X) → i < length xs → x ≡ get_or xs i x → before ≡ map f (map g (take i xs))
+    → before ++ f (g x) ∷ [] ≡ map f (map g (take (i + 1) xs))
+map-turn {A} f g xs i x before h at e =
+    let rest : take (i + 1) xs ≡ take i xs ++ x ∷ [] = take_more xs i x h ∙ ap (λ (y : A). take i xs ++ y ∷ []) (sym at) in
+    ap (λ l. l ++ f (g x) ∷ []) e
+    ∙ sym (ap (λ l. map f (map g l)) rest ∙ ap (map f) (map-append g (take i xs) (x ∷ [])) ∙ map-append f (map g (take i xs)) (g x ∷ []))
+
 pub map-flat_map : {A X Y : Type 0} (f : X → Y) (xs : List X) (words : List A) → map f (flat_map (λ word. xs) words) ≡ flat_map (λ word. map f xs) words
 map-flat_map f xs [] = refl
 map-flat_map {A} f xs (w ∷ words) = map-append f xs (flat_map (λ (word : A). xs) words) ∙ ap (λ l. map f xs ++ l) (map-flat_map f xs words)

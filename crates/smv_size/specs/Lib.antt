@@ -3,3 +3,4 @@ pub mod Limits
 pub mod Constants
 pub mod Place
 pub mod Summary
+pub mod Pass

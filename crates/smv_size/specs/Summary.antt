@@ -11,6 +11,7 @@ use Rattle.smv_size.specs.declared.types.Families.{Families}
 use Rattle.smv_size.specs.declared.types.TypeSize.{TypeSize}
 use Rattle.smv_size.specs.declared.modules.Things.{Things}
 use Rattle.smv_size.specs.declared.modules.ModuleSize.{ModuleSize}
+use Rattle.smv_size.specs.declared.modules.ModuleText.{ModuleText}
 
 -- the greatest of some numbers, and 0 where there is none
 abbrev pub greatest : List ℕ → ℕ
@@ -48,41 +49,51 @@ things_told things = record { count = min 4097 (length things); wide = list_any 
 abbrev pub module_names : List (Name × Body) → List Name
 module_names bodies = map (λ (top : Name × Body). top.0) bodies
 
+-- the bodies of the modules
+abbrev pub module_bodies : List (Name × Body) → List Body
+module_bodies bodies = map (λ (top : Name × Body). top.1) bodies
+
+-- a module that is held by reference
+abbrev pub body_of : ModuleText → Body
+body_of text = record { formals = text.formals.now; items = text.items.now }
+
 -- what is told of a module that is not declared
 abbrev pub no_module : ModuleSize
 no_module = record { formals = 0; things = record { count = 0; wide = false }; statements = 0 }
 
--- what is told of a module with these formals, where nothing in it counts
-abbrev pub empty_of : List Word → ModuleSize
-empty_of formals = record { formals = capped (length formals); things = record { count = 0; wide = false }; statements = 0 }
-
-abbrev pub empty_told : Name × Body → ModuleSize
-empty_told (name, body) = empty_of body.formals
+-- what is told of a module, where nothing in it counts
+abbrev pub empty_told : Body → ModuleSize
+empty_told body = record { formals = capped (length body.formals); things = record { count = 0; wide = false }; statements = 0 }
 
 -- what is told of the module of this name
 abbrev pub size_named : List Name → List ModuleSize → Name → ModuleSize
 size_named names sizes name = unwrap_or (option_and_then (λ i. slice_get sizes i) (position names name)) no_module
 
 module _ (known : List (Name × Sized)) (bodies : List (Name × Body)) where
+  -- what is told of the module of this name, where these things and so many statements are met in it
+  abbrev pub told_of : List Thing → ℕ → Name → ModuleSize
+  told_of things statements name = record {
+    formals = capped (length (body_named known bodies name).formals);
+    things = things_told things;
+    statements = capped statements;
+  }
+
+  -- what is told of a body, where these are met in the modules of its instances
+  abbrev pub body_told : (Name → List Thing) → (Name → ℕ) → Body → ModuleSize
+  body_told things statements body = record {
+    formals = capped (length body.formals);
+    things = things_told (flat_map (things_of_item known bodies things) body.items);
+    statements = capped (sum (map (statements_of_item known bodies statements) body.items));
+  }
+
+  -- what is told of every module, where these are met in it
+  abbrev pub AreToldOf : (Name → List Thing) → (Name → ℕ) → List Name → List ModuleSize → Type 0
+  AreToldOf things statements names sizes = (name : Name) → size_named names sizes name ≡ told_of (things name) (statements name) name
+
   -- what is told of a module of this name, where no chain of instances is longer than this number
   abbrev pub module_told : ℕ → Name → ModuleSize
-  module_told n name = record {
-    formals = capped (length (body_named known bodies name).formals);
-    things = things_told (things_in known bodies n name);
-    statements = capped (statements_in known bodies n name);
-  }
+  module_told n name = told_of (things_in known bodies n name) (statements_in known bodies n name) name
 
-  -- what is told of a body, where no chain of instances from those in it is longer than this number
-  abbrev pub body_told : ℕ → Body → ModuleSize
-  body_told n body = record {
-    formals = capped (length body.formals);
-    things = things_told (flat_map (things_of_item known bodies (things_in known bodies n)) body.items);
-    statements = capped (sum (map (statements_of_item known bodies (statements_in known bodies n)) body.items));
-  }
-
-  abbrev pub top_told : ℕ → Name × Body → ModuleSize
-  top_told n (name, body) = body_told n body
-
-  -- what is told of every module
+  -- the same of every module
   abbrev pub AreTold : List Name → List ModuleSize → ℕ → Type 0
-  AreTold names sizes n = (name : Name) → size_named names sizes name ≡ module_told n name
+  AreTold names sizes n = AreToldOf (things_in known bodies n) (statements_in known bodies n) names sizes

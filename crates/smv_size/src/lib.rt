@@ -3,8 +3,10 @@
 
 pub mod constants;
 pub mod modules;
+pub mod pass;
 pub mod place;
 pub mod recursion;
+pub mod rounds;
 pub mod size;
 pub mod statements;
 #[cfg(test)]

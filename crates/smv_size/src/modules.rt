@@ -4,9 +4,9 @@ ghost use Rattle.smv_core.specs.Values.{Name};
 ghost use Rattle.smv_core.specs.FlatOrder.{Body};
 ghost use Rattle.smv_core.specs.FlatOrder as flat;
 ghost use Rattle.smv_core.specs.declared.tree.Word.{Word};
-ghost use Rattle.smv_inst.specs.Sizes.{Extent, Sized, Thing, family, instance, things_of_item, things_in, statements_of_item, statements_in};
+ghost use Rattle.smv_inst.specs.Sizes.{Extent, Sized, Thing, family, instance, things_of_item, statements_of_item};
 ghost use Rattle.smv_size.specs.Limits.{capped};
-ghost use Rattle.smv_size.specs.Summary.{families_told, types_told, things_told, size_named, body_told, empty_told, top_told, AreTold};
+ghost use Rattle.smv_size.specs.Summary.{families_told, types_told, things_told, module_bodies, body_of, empty_told, body_told, AreToldOf};
 ghost use Rattle.smv_size.specs.Summary as spec;
 
 use crate::statements::{in_all, plus, statements, times};
@@ -37,6 +37,13 @@ pub struct ModuleSize {
     pub statements: u64,
 }
 
+/// A module as it stands in the text: its formals and its items.
+#[derive(Clone, Copy)]
+pub struct ModuleText<'a> {
+    pub formals: &'a [Word],
+    pub items: &'a [Item],
+}
+
 /// The names of the modules.
 pub fn module_names<'a>(alloc: Global, tops: &'a [Top]) -> Result<NameIndex<'a>, AllocError>
     ensures { IfOk result (λ names. names ≡ spec.module_names (flat.modules tops.now)) }
@@ -59,114 +66,79 @@ fn note_name<'a>(names: &mut NameIndex<'a>, top: &'a Top) -> Result<(), AllocErr
     }
 }
 
-/// The modules, each with all that is met from it on. Each round follows all instances one module further; where it finds nothing new, nor does one after it.
-pub fn module_sizes(
-    alloc: Global,
-    tops: &[Top],
-    types: &NameMap<TypeSize>,
-    names: &NameIndex,
-) -> Result<Vec<ModuleSize>, AllocError>
-    requires { names.now ≡ spec.module_names (flat.modules tops.now) }
-    ensures { IfOk result (λ sizes. (known : List (Name × Sized)) → types.now ≡ types_told known → AreTold known (flat.modules tops.now) names.now sizes.items (length (flat.modules tops.now))) }
+/// The modules, in their order.
+pub fn module_texts<'a>(alloc: Global, tops: &'a [Top]) -> Result<Vec<ModuleText<'a>>, AllocError>
+    ensures { IfOk result (λ modules. map body_of modules.items ≡ module_bodies (flat.modules tops.now)) }
 {
-    let mut sizes = empty_sizes(alloc, tops)?;
-    for step in 0..sizes.len() {
-        let next = next_sizes(alloc, tops, types, names, sizes.as_slice())?;
-        if next.as_slice() == sizes.as_slice() {
-            return Ok(sizes);
-        }
-        sizes = next;
-    }
-    Ok(sizes)
-}
-
-// The modules, with nothing in them.
-fn empty_sizes(alloc: Global, tops: &[Top]) -> Result<Vec<ModuleSize>, AllocError>
-    ensures { IfOk result (λ sizes. sizes.items ≡ map empty_told (flat.modules tops.now)) }
-{
-    let mut sizes = Vec::new(alloc);
+    let mut modules = Vec::new(alloc);
     for top in tops {
-        note_empty(&mut sizes, top)?;
+        note_text(&mut modules, top)?;
     }
-    Ok(sizes)
-}
-
-// A module more with nothing in it, if this is one.
-fn note_empty(sizes: &mut Vec<ModuleSize>, top: &Top) -> Result<(), AllocError>
-    ensures { OnOk result (sizes.new.items ≡ sizes.old.items ++ map empty_told (flat.modules (top.now ∷ []))) }
-{
-    match top {
-        Top::SetType { .. } => Ok(()),
-        Top::Alias { .. } => Ok(()),
-        Top::Module { formals, .. } => {
-            sizes.push(empty_size(formals.as_slice()))?;
-            Ok(())
-        }
-    }
-}
-
-fn empty_size(formals: &[Word]) -> ModuleSize
-    ensures { result ≡ spec.empty_of formals.now }
-{
-    ModuleSize {
-        formals: number_of(formals.len()),
-        things: nothing(),
-        statements: 0,
-    }
-}
-
-// The modules, where instances are followed one module further.
-fn next_sizes(
-    alloc: Global,
-    tops: &[Top],
-    types: &NameMap<TypeSize>,
-    names: &NameIndex,
-    sizes: &[ModuleSize],
-) -> Result<Vec<ModuleSize>, AllocError>
-    ensures { IfOk result (λ next. (known : List (Name × Sized)) (bodies : List (Name × Body)) (n : ℕ) → types.now ≡ types_told known → AreTold known bodies names.now sizes.now n → next.items ≡ map (top_told known bodies n) (flat.modules tops.now)) }
-{
-    let mut next = Vec::new(alloc);
-    for top in tops {
-        note_size(&mut next, top, types, names, sizes)?;
-    }
-    Ok(next)
+    Ok(modules)
 }
 
 // A module more, if this is one.
-fn note_size(
-    next: &mut Vec<ModuleSize>,
-    top: &Top,
-    types: &NameMap<TypeSize>,
-    names: &NameIndex,
-    sizes: &[ModuleSize],
-) -> Result<(), AllocError>
-    ensures { OnOk result ((known : List (Name × Sized)) (bodies : List (Name × Body)) (n : ℕ) → types.now ≡ types_told known → AreTold known bodies names.now sizes.now n → next.new.items ≡ next.old.items ++ map (top_told known bodies n) (flat.modules (top.now ∷ []))) }
+fn note_text<'a>(modules: &mut Vec<ModuleText<'a>>, top: &'a Top) -> Result<(), AllocError>
+    ensures { OnOk result (map body_of modules.new.items ≡ map body_of modules.old.items ++ module_bodies (flat.modules (top.now ∷ []))) }
 {
     match top {
         Top::SetType { .. } => Ok(()),
         Top::Alias { .. } => Ok(()),
         Top::Module { formals, body, .. } => {
-            let size = body_size(formals.as_slice(), body.as_slice(), types, names, sizes);
-            next.push(size)?;
+            modules.push(ModuleText {
+                formals: formals.as_slice(),
+                items: body.as_slice(),
+            })?;
             Ok(())
         }
     }
 }
 
-// A module, by its formals and its body.
-fn body_size(
-    formals: &[Word],
-    body: &[Item],
+/// The modules, with nothing in them.
+pub fn empty_sizes(alloc: Global, modules: &[ModuleText]) -> Result<Vec<ModuleSize>, AllocError>
+    ensures { IfOk result (λ sizes. sizes.items ≡ map empty_told (map body_of modules.now)) }
+{
+    let mut sizes = Vec::new(alloc);
+    for text in modules {
+        sizes.push(ModuleSize {
+            formals: number_of(text.formals.len()),
+            things: nothing(),
+            statements: 0,
+        })?;
+    }
+    Ok(sizes)
+}
+
+/// The modules, where instances are followed one module further.
+pub fn next_sizes(
+    alloc: Global,
+    modules: &[ModuleText],
+    types: &NameMap<TypeSize>,
+    names: &NameIndex,
+    sizes: &[ModuleSize],
+) -> Result<Vec<ModuleSize>, AllocError>
+    ensures { IfOk result (λ next. (known : List (Name × Sized)) (bodies : List (Name × Body)) (things : Name → List Thing) (counts : Name → ℕ) → types.now ≡ types_told known → AreToldOf known bodies things counts names.now sizes.now → next.items ≡ map (body_told known bodies things counts) (map body_of modules.now)) }
+{
+    let mut next = Vec::new(alloc);
+    for text in modules {
+        next.push(body_size(text, types, names, sizes))?;
+    }
+    Ok(next)
+}
+
+/// A module, by its formals and its body.
+pub fn body_size(
+    text: &ModuleText,
     types: &NameMap<TypeSize>,
     names: &NameIndex,
     sizes: &[ModuleSize],
 ) -> ModuleSize
-    ensures { (known : List (Name × Sized)) (bodies : List (Name × Body)) (n : ℕ) → types.now ≡ types_told known → AreTold known bodies names.now sizes.now n → result ≡ body_told known bodies n (record { formals = formals.now; items = body.now }) }
+    ensures { (known : List (Name × Sized)) (bodies : List (Name × Body)) (things : Name → List Thing) (counts : Name → ℕ) → types.now ≡ types_told known → AreToldOf known bodies things counts names.now sizes.now → result ≡ body_told known bodies things counts (body_of text.now) }
 {
     ModuleSize {
-        formals: number_of(formals.len()),
-        things: things_of_items(body, types, names, sizes),
-        statements: statements_of_items(body, names, sizes),
+        formals: number_of(text.formals.len()),
+        things: things_of_items(text.items, types, names, sizes),
+        statements: statements_of_items(text.items, names, sizes),
     }
 }
 
@@ -177,7 +149,7 @@ fn things_of_items(
     names: &NameIndex,
     sizes: &[ModuleSize],
 ) -> Things
-    ensures { (known : List (Name × Sized)) (bodies : List (Name × Body)) (n : ℕ) → types.now ≡ types_told known → AreTold known bodies names.now sizes.now n → result ≡ things_told (flat_map (things_of_item known bodies (things_in known bodies n)) items.now) }
+    ensures { (known : List (Name × Sized)) (bodies : List (Name × Body)) (things : Name → List Thing) (counts : Name → ℕ) → types.now ≡ types_told known → AreToldOf known bodies things counts names.now sizes.now → result ≡ things_told (flat_map (things_of_item known bodies things) items.now) }
 {
     let mut all = nothing();
     for item in items {
@@ -188,7 +160,7 @@ fn things_of_items(
 
 // The families and instances of an item.
 fn things_of(x: &Item, types: &NameMap<TypeSize>, names: &NameIndex, sizes: &[ModuleSize]) -> Things
-    ensures { (known : List (Name × Sized)) (bodies : List (Name × Body)) (n : ℕ) → types.now ≡ types_told known → AreTold known bodies names.now sizes.now n → result ≡ things_told (things_of_item known bodies (things_in known bodies n) x.now) }
+    ensures { (known : List (Name × Sized)) (bodies : List (Name × Body)) (things : Name → List Thing) (counts : Name → ℕ) → types.now ≡ types_told known → AreToldOf known bodies things counts names.now sizes.now → result ≡ things_told (things_of_item known bodies things x.now) }
 {
     match x {
         Item::Declare {
@@ -279,7 +251,7 @@ fn number_of(n: usize) -> u64
 // The statements that are met in an item.
 #[cycle(items)]
 fn statements_of(x: &Item, names: &NameIndex, sizes: &[ModuleSize]) -> u64
-    ensures { (known : List (Name × Sized)) (bodies : List (Name × Body)) (n : ℕ) → AreTold known bodies names.now sizes.now n → result ≡ capped (statements_of_item known bodies (statements_in known bodies n) x.now) }
+    ensures { (known : List (Name × Sized)) (bodies : List (Name × Body)) (things : Name → List Thing) (counts : Name → ℕ) → AreToldOf known bodies things counts names.now sizes.now → result ≡ capped (statements_of_item known bodies counts x.now) }
 {
     match x {
         Item::Declare { .. } => 0,
@@ -300,7 +272,7 @@ fn statements_of(x: &Item, names: &NameIndex, sizes: &[ModuleSize]) -> u64
 
 #[cycle(items)]
 fn statements_of_items(items: &[Item], names: &NameIndex, sizes: &[ModuleSize]) -> u64
-    ensures { (known : List (Name × Sized)) (bodies : List (Name × Body)) (n : ℕ) → AreTold known bodies names.now sizes.now n → result ≡ capped (sum (map (statements_of_item known bodies (statements_in known bodies n)) items.now)) }
+    ensures { (known : List (Name × Sized)) (bodies : List (Name × Body)) (things : Name → List Thing) (counts : Name → ℕ) → AreToldOf known bodies things counts names.now sizes.now → result ≡ capped (sum (map (statements_of_item known bodies counts) items.now)) }
 {
     let mut total = 0;
     for item in items {

@@ -8,8 +8,9 @@ ghost use Rattle.smv_inst.specs.Sizes.{sized_from};
 ghost use Rattle.smv_size.specs.Summary.{module_told};
 
 use crate::constants::too_many_constants;
-use crate::modules::{ModuleSize, module_names, module_sizes, size_named};
+use crate::modules::{ModuleSize, module_names, size_named};
 use crate::place::fault_at_main;
+use crate::rounds::module_sizes;
 use crate::types::type_sizes;
 use smv_core::fault::Fault;
 use smv_core::name::Name;

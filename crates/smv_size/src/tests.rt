@@ -1,5 +1,7 @@
-//! What no clause says: that texts of many instances take few rounds and little memory; and the limits, on types and modules written by hand.
-use crate::modules::{ModuleSize, module_names, module_sizes};
+//! What no clause says: that texts of many instances take little memory, and that one pass finds their sizes, so that no round is made; and the limits, on types and modules written by hand.
+use crate::modules::{ModuleSize, module_names, module_texts};
+use crate::pass::one_pass;
+use crate::rounds::module_sizes;
 use crate::types::{families_of, is_wide, type_sizes};
 use smv_core::boxed::Boxed;
 use smv_core::name::Name;
@@ -74,6 +76,19 @@ fn doubled(alloc: Global, modules: u8) -> Result<Option<ModuleSize>, AllocError>
     Ok(sizes.as_slice().last().copied())
 }
 
+// The size of the last of these modules after one pass, where each stands before the module of its instances.
+fn passed(alloc: Global, modules: u8) -> Result<Option<ModuleSize>, AllocError> {
+    let mut tops = Vec::new(alloc);
+    for name in 0..modules {
+        tops.push(doubling(alloc, modules - 1 - name)?)?;
+    }
+    let types = type_sizes(alloc, tops.as_slice())?;
+    let names = module_names(alloc, tops.as_slice())?;
+    let texts = module_texts(alloc, tops.as_slice())?;
+    let sizes = one_pass(alloc, texts.as_slice(), &types, &names)?;
+    Ok(sizes.as_slice().first().copied())
+}
+
 fn table_is_wide(alloc: Global, high: u16) -> Result<bool, AllocError> {
     let tops = Vec::new(alloc);
     let types = type_sizes(alloc, tops.as_slice())?;
@@ -96,6 +111,17 @@ fn instances_are_counted_with_what_is_in_them(rt: HostRuntime) -> Result<(), Fai
     assert_eq!(rt; doubled(alloc, 3)?.map(|size| size.things.count), Some(10));
     assert_eq!(rt;
         doubled(alloc, 200)?.map(|size| size.things.count),
+        Some(4097)
+    );
+    Ok(())
+}
+
+#[test]
+fn one_pass_finds_all_sizes(rt: HostRuntime) -> Result<(), Fail> {
+    let alloc = rt.alloc();
+    assert_eq!(rt; passed(alloc, 3)?.map(|size| size.things.count), Some(10));
+    assert_eq!(rt;
+        passed(alloc, 200)?.map(|size| size.things.count),
         Some(4097)
     );
     Ok(())

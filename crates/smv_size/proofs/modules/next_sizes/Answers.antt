@@ -1,11 +1,11 @@
-use Rattle.std.proofs.Common.{◌++◌, ◌∷◌, [], map, ap, ◌∙◌}
-use Rattle.smv_core.specs.FlatOrder.{modules}
-use Rattle.smv_size.specs.Summary.{top_told}
-use Rattle.smv_size.proofs.MetLaws.{modules-turn}
+use Rattle.std.proofs.Common.{◌++◌, ◌∷◌, [], ap, ◌∙◌}
+use Rattle.smv_size.specs.Summary.{body_of, body_told}
+use Rattle.smv_size.specs.declared.modules.ModuleSize.{ModuleSize}
+use Rattle.smv_size.proofs.MetLaws.{map-turn}
 use Rattle.smv_size.proofs.modules.next_sizes.Goals as goal
 
-pub loop-top-preserved : goal.loop-top-preserved
-loop-top-preserved c known bodies n e f =
-    let top = c.top-item.result in
-    c.in_ok-note_size.ensures known bodies n e f ∙ ap (λ l. l ++ map (top_told known bodies n) (modules (top ∷ []))) (c.loop-top.invariant known bodies n e f)
-    ∙ modules-turn (top_told known bodies n) c.args.tops.now c.loop-top.top-index top c.loop-top-test.true c.top-item.is
+pub loop-text-preserved : goal.loop-text-preserved
+loop-text-preserved c known bodies things counts e f =
+    let before = c.loop-text.next.items in
+    c.in_ok-push.ensures.items ∙ ap (λ (s : ModuleSize). before ++ s ∷ []) (c.body_size.ensures known bodies things counts e f)
+    ∙ map-turn (body_told known bodies things counts) body_of c.args.modules.now c.loop-text.text-index c.text-item.result before c.loop-text-test.true c.text-item.is (c.loop-text.invariant known bodies things counts e f)

@@ -1,10 +1,11 @@
 use Rattle.std.proofs.Common.{◌≡◌, ℕ, List, map, take}
 use Rattle.smv_core.specs.Values.{Name}
-use Rattle.smv_core.specs.FlatOrder.{Body, modules}
-use Rattle.smv_inst.specs.Sizes.{Sized}
-use Rattle.smv_size.specs.Summary.{types_told, AreTold, top_told}
+use Rattle.smv_core.specs.FlatOrder.{Body}
+use Rattle.smv_inst.specs.Sizes.{Sized, Thing}
+use Rattle.smv_size.specs.Summary.{types_told, body_of, body_told, AreToldOf}
 use Rattle.smv_size.proofs.modules.next_sizes.Given as goal
 
-abbrev pub invariant-loop-top : goal.invariant-loop-top
-invariant-loop-top l =
-    (known : List (Name × Sized)) (bodies : List (Name × Body)) (n : ℕ) → l.types ≡ types_told known → AreTold known bodies l.names l.sizes n → l.next.items ≡ map (top_told known bodies n) (modules (take l.top-index l.tops))
+abbrev pub invariant-loop-text : goal.invariant-loop-text
+invariant-loop-text l =
+    (known : List (Name × Sized)) (bodies : List (Name × Body)) (things : Name → List Thing) (counts : Name → ℕ) → l.types ≡ types_told known → AreToldOf known bodies things counts l.names l.sizes
+    → l.next.items ≡ map (body_told known bodies things counts) (map body_of (take l.text-index l.modules))
