@@ -1,0 +1,2 @@
+mod ExactStatements
+mod Counts
