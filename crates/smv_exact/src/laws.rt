@@ -2,6 +2,7 @@
 ghost use Rattle.std.specs.Prelude.{◌≡◌, All, None, true};
 ghost use Rattle.smv_core.specs.declared.tree.Text.{Text};
 ghost use Rattle.smv_flat.specs.Flattening.{flatten};
+ghost use Rattle.smv_inst.specs.FirstFault.{first_fault};
 ghost use Rattle.smv_right.specs.WellKinded.{IsWellKinded};
 ghost use Rattle.smv_single.specs.Definitions.{design_of_raw};
 ghost use Rattle.smv_single.specs.Laws.{left_sides_are_whole};
@@ -10,7 +11,8 @@ ghost use Rattle.smv_conflict_free.specs.Placed.{IsFree, OneValueGives};
 ghost use Rattle.smv_delay.specs.FirstFault.{first_fault_of_design};
 ghost use Rattle.smv_extend.specs.Extension.{RawHasWholeLeftSides};
 ghost use Rattle.smv_extend.specs.TextExtension.{KeepsTextBehaviours, LayersAreSame};
-ghost use Rattle.smv_exact.specs.Exact.{LeftSidesAreExact};
+ghost use Rattle.smv_abs.specs.Covers.{AreApart};
+ghost use Rattle.smv_exact.specs.Exact.{DefinitionsAreFree, LeftSidesAreExact};
 
 use smv_conflict_free::laws::{
     definitions_have_no_conflict, flattened_texts_are_placed, one_value_gives_a_result,
@@ -19,7 +21,8 @@ use smv_extend::laws::{families_are_found, text_behaviours_are_kept};
 use smv_flat::laws::families_are_the_same;
 use smv_right::laws::left_sides_lead_to_families;
 
-/// In the flattened text of each text that is spelled and has no fault of names, size and kinds each left side has as many indexes as its family has index types.
+/// In the flattened text of each text that is spelled and has no fault of names, size and kinds each assignment is to a family, with an index for each of its index
+/// types.
 pub fn left_sides_are_exact()
     ensures { (text : Text) → IsWellKinded text → LeftSidesAreExact (flatten text) }
 {
@@ -60,6 +63,14 @@ pub fn one_value_gives_a_text_result()
     one_value_gives_a_result();
 }
 
+/// So each definition is one of a family, and no two of its assignments conflict, as the soundness of the search asks of it.
+pub fn definitions_are_of_families()
+    ensures { (text : Text) → IsWellKinded text → first_fault_of_single (flatten text) ≡ None → DefinitionsAreFree (design_of_raw (flatten text)) }
+{
+    left_sides_are_exact();
+    text_definitions_have_no_conflict();
+}
+
 /// Where such a text has no fault of loops and layers, its abstract signals take no behaviour from the implementation, where the layer that defines an abstract signal
 /// first is that of its base definition in the design.
 pub fn well_kinded_behaviours_are_kept()
@@ -68,3 +79,8 @@ pub fn well_kinded_behaviours_are_kept()
     left_sides_have_no_fewer();
     text_behaviours_are_kept();
 }
+
+/// No two set types of the design of a text without a fault of names and size have one name.
+pub fn set_types_are_apart()
+    ensures { (text : Text) → first_fault text ≡ None → AreApart (design_of_raw (flatten text)).sets }
+{}

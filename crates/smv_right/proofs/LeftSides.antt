@@ -34,7 +34,7 @@ use Rattle.smv_types.specs.References.{Module, Vars, modules_from, behind, signa
 use Rattle.smv_types.specs.Operands.{bind, operand, value, target}
 use Rattle.smv_types.specs.KindFaults.{assigned, are_constant, gives, connected, in_arguments, in_stmt, in_block, in_branch, in_arms, labels, in_item, in_items}
 use Rattle.smv_flat.specs.Entries.{Entry, layer, statement, goal, inside_binder, connection, connections, instance_entries, item_entries, items_entries, entries_in, entries}
-use Rattle.smv_right.specs.LeftSides.{HasFamily, LeadsToFamily, HasWholeLeftSides, HaveWholeLeftSides, BranchHasWholeLeftSides, ArmsHaveWholeLeftSides, EntryHasWholeLeftSides}
+use Rattle.smv_right.specs.LeftSides.{HasFamily, LeadsToFamily, StatementLeads, StatementsLead, BranchLeads, ArmsLead, EntryLeads}
 use Rattle.smv_right.specs.Written.{InnerIsWritten, InnersAreWritten, ItemIsWritten}
 use Rattle.smv_right.proofs.Faultless.{empty-both, empty-three, each-append, each-map, reference-fine}
 use Rattle.smv_right.proofs.Somewhere.{Somewhere, somewhere-more, somewhere-front, somewhere-behind, somewhere-place}
@@ -49,7 +49,7 @@ module _ (text : Text) (instance : Path) (scope : kinds.Scope) (led : (parts : L
   mutual
     unfolding opening
 
-    pub statement-whole : (vars : Vars) (act : Stmt) → in_stmt scope vars act ≡ [] → HasWholeLeftSides text instance act
+    pub statement-whole : (vars : Vars) (act : Stmt) → in_stmt scope vars act ≡ [] → StatementLeads text instance act
     statement-whole vars (Assign kind left right at) fine =
         let both = empty-both (target scope vars left).faults (takes (target scope vars left).kind (value scope vars right)) fine in
         let r = reference-fine (out-Path left).at (signal_at scope (out-Path left).parts) (map (operand scope vars) (indexes_of (out-Path left).parts)) both.0 in
@@ -68,23 +68,23 @@ module _ (text : Text) (instance : Path) (scope : kinds.Scope) (led : (parts : L
     statement-whole vars (Forall' var over shape (more_of-Stmt body end_of-Stmt) at) fine =
         statement-whole (bind scope vars var over) body (empty-both (index_faults scope.here.types over) (in_stmt scope (bind scope vars var over) body) fine).1
 
-    statements-whole : {m : _} (vars : Vars) (row : Row_of-Stmt m) → in_block scope vars row ≡ [] → HaveWholeLeftSides text instance row
+    statements-whole : {m : _} (vars : Vars) (row : Row_of-Stmt m) → in_block scope vars row ≡ [] → StatementsLead text instance row
     statements-whole vars end_of-Stmt fine = tt
     statements-whole vars (more_of-Stmt part rest) fine =
         let both = empty-both (in_stmt scope vars part) (in_block scope vars rest) fine in
         (statement-whole vars part both.0, statements-whole vars rest both.1)
 
-    branch-whole : (vars : Vars) (held : Held-Stmt-If-2) → in_branch scope vars held ≡ [] → BranchHasWholeLeftSides text instance held
+    branch-whole : (vars : Vars) (held : Held-Stmt-If-2) → in_branch scope vars held ≡ [] → BranchLeads text instance held
     branch-whole vars stmt.None' fine = tt
     branch-whole vars (stmt.Some' shape (more_of-Stmt part end_of-Stmt)) fine = statement-whole vars part fine
 
-    arms-whole : {m : _} (vars : Vars) (arms : Row_of-Arm m) → in_arms scope vars arms ≡ [] → ArmsHaveWholeLeftSides text instance arms
+    arms-whole : {m : _} (vars : Vars) (arms : Row_of-Arm m) → in_arms scope vars arms ≡ [] → ArmsLead text instance arms
     arms-whole vars end_of-Arm fine = tt
     arms-whole vars (more_of-Arm words body rest) fine =
         let both = empty-both (in_stmt scope vars body) (in_arms scope vars rest) fine in
         (statement-whole vars body both.0, arms-whole vars rest both.1)
 
-  pub body-whole : (acts : List Stmt) → flat_map (in_stmt scope []) acts ≡ [] → AllByRecursion (HasWholeLeftSides text instance) acts
+  pub body-whole : (acts : List Stmt) → flat_map (in_stmt scope []) acts ≡ [] → AllByRecursion (StatementLeads text instance) acts
   unfolding opening
   body-whole [] fine = tt
   body-whole (act ∷ acts) fine =
@@ -119,7 +119,7 @@ module _ (text : Text) where
   IncludesAll k here name = (n : ℕ) → Includes (families_in types bodies (k + n) here name)
 
   abbrev EntryIsWhole : Entry → Type 0
-  EntryIsWhole e = EntryHasWholeLeftSides text e
+  EntryIsWhole e = EntryLeads text e
 
   inside-whole : (var : Word) (over : TypeExpr) (e : Entry) → EntryIsWhole e → EntryIsWhole (inside_binder var over e)
   unfolding opening computing
@@ -223,7 +223,7 @@ module _ (text : Text) where
       -- ---- connections
 
       abbrev AreWholeHere : List Stmt → Type 0
-      AreWholeHere acts = AllByRecursion (HasWholeLeftSides text here) acts
+      AreWholeHere acts = AllByRecursion (StatementLeads text here) acts
 
       given-whole : (n a : Name) (kind : Kind) (e : Expr) → gives (scope_of m) kind e ≡ [] → AreWholeHere (connection Output n a e)
       unfolding opening computing
@@ -276,7 +276,7 @@ module _ (text : Text) where
         zipped-whole (word ∷ formals) (e ∷ args) ports fine =
             let both = empty-both (connected (scope_of m) inner.types (find_name (own_in inner_body.items) word.name) e)
             (flat_map (λ (word, e). connected (scope_of m) inner.types (find_name (own_in inner_body.items) word.name) e) (zip formals args)) fine in
-            each-append (HasWholeLeftSides text here) (connection_of word.name e) (flat_map (λ (word, e). connection (role_of inner_body.items word.name) n word.name e) (zip formals args))
+            each-append (StatementLeads text here) (connection_of word.name e) (flat_map (λ (word, e). connection (role_of inner_body.items word.name) n word.name e) (zip formals args))
             (connection-whole word.name e (find_name (own_in inner_body.items) word.name) refl ports.0 both.0) (zipped-whole formals args ports.1 both.1)
 
         connections-whole : (args : List Expr) → in_arguments (scope_of m) (Some inner) args ≡ [] → AreWholeHere (connections inner_body n args)
@@ -336,7 +336,7 @@ module _ (text : Text) where
             let rest : List Entry = flat_map (λ word. instance_entries types bodies inside_entries here name.name args word.name) words in
             each-append EntryIsWhole (front ++ inside_entries (here ++ word.name ∷ []) name.name) rest
             (each-append EntryIsWhole front (inside_entries (here ++ word.name ∷ []) name.name)
-            (each-map (HasWholeLeftSides text here) EntryIsWhole (λ act. statement (record { layer = None; instance = here; act = act })) (λ act h. h) acts acts_whole)
+            (each-map (StatementLeads text here) EntryIsWhole (λ act. statement (record { layer = None; instance = here; act = act })) (λ act h. h) acts acts_whole)
             (inside_whole (here ++ word.name ∷ []) name.name includes_there))
             (instance-whole name args fine words (λ k path count e. includes k path count (somewhere-behind (IsFamilyAt path count) (there k) (others k) e)))
 
@@ -346,7 +346,7 @@ module _ (text : Text) where
         item-whole (Declare role words of at) written fine includes = tt
         item-whole (Instance words name args at) written fine includes = instance-whole name args fine words includes
         item-whole (Layer name acts at) written fine includes =
-            (tt, each-map (HasWholeLeftSides text here) EntryIsWhole (λ act. statement (record { layer = Some name.name; instance = here; act = act })) (λ act h. h) acts (body-whole text here (scope_of m) signal-leads acts fine))
+            (tt, each-map (StatementLeads text here) EntryIsWhole (λ act. statement (record { layer = Some name.name; instance = here; act = act })) (λ act h. h) acts (body-whole text here (scope_of m) signal-leads acts fine))
         item-whole (item.Forall' var over shape part at) written fine includes = inner-whole inside_entries [] (item.Forall' var over shape part at) written fine
         item-whole (item.Block' shape items) written fine includes = inner-whole inside_entries [] (item.Block' shape items) written fine
         item-whole (Claim name brackets e at) written fine includes = (tt, tt)

@@ -12,7 +12,7 @@ use Rattle.smv_types.specs.References.{modules_from}
 use Rattle.smv_types.specs.KindFaults.{faults_of_kinds, first_fault_of_kinds}
 use Rattle.smv_flat.specs.Entries.{entries}
 use Rattle.smv_flat.specs.WholeText.{EntryIsRight, TextIsRight}
-use Rattle.smv_right.specs.LeftSides.{EntryHasWholeLeftSides, TextHasWholeLeftSides}
+use Rattle.smv_right.specs.LeftSides.{EntryLeads, TextLeads}
 use Rattle.smv_right.specs.Written.{TextIsWritten}
 use Rattle.smv_right.specs.WellKinded.{IsWellKinded}
 use Rattle.smv_right.proofs.WrittenRules.{spelled-written}
@@ -59,6 +59,6 @@ unfolding opening
 well_kinded-right text h = right-text text (spelled-written h.0 h.1 text h.2) h.3 h.4
 
 pub well_kinded-whole : (text : Text) → IsWellKinded text →
-    ((n : ℕ) → length (modules text.tops) ≤ n → families_in (types_from [] text.tops) (modules text.tops) n [] main ≡ families_in (types_from [] text.tops) (modules text.tops) (length (modules text.tops)) [] main) → TextHasWholeLeftSides text
+    ((n : ℕ) → length (modules text.tops) ≤ n → families_in (types_from [] text.tops) (modules text.tops) n [] main ≡ families_in (types_from [] text.tops) (modules text.tops) (length (modules text.tops)) [] main) → TextLeads text
 unfolding opening
-well_kinded-whole text h deep = all-each (EntryHasWholeLeftSides text) (entries text) (text-whole text (modules-of text (spelled-written h.0 h.1 text h.2) h.3 h.4) deep)
+well_kinded-whole text h deep = all-each (EntryLeads text) (entries text) (text-whole text (modules-of text (spelled-written h.0 h.1 text h.2) h.3 h.4) deep)

@@ -22,31 +22,31 @@ LeadsToFamily text instance parts = HasFamily text (instance ++ fields_of parts)
 module _ (text : Text) (instance : Path) where
   abbrev mutual
     -- so does each left side in a statement of the instance
-    pub HasWholeLeftSides : Stmt → Type 0
-    HasWholeLeftSides (Assign kind left value at) = LeadsToFamily text instance (out-Path left).parts
-    HasWholeLeftSides (Block' shape parts) = HaveWholeLeftSides parts
-    HasWholeLeftSides (If' cond l (more_of-Stmt left end_of-Stmt) right at) = HasWholeLeftSides left × BranchHasWholeLeftSides right
-    HasWholeLeftSides (Switch' on shape arms other at) = ArmsHaveWholeLeftSides arms × BranchHasWholeLeftSides other
-    HasWholeLeftSides (Default' l (more_of-Stmt left end_of-Stmt) r (more_of-Stmt right end_of-Stmt) at) = HasWholeLeftSides left × HasWholeLeftSides right
-    HasWholeLeftSides (For' var from to closed step shape (more_of-Stmt body end_of-Stmt) at) = HasWholeLeftSides body
-    HasWholeLeftSides (Forall' var over shape (more_of-Stmt body end_of-Stmt) at) = HasWholeLeftSides body
+    pub StatementLeads : Stmt → Type 0
+    StatementLeads (Assign kind left value at) = LeadsToFamily text instance (out-Path left).parts
+    StatementLeads (Block' shape parts) = StatementsLead parts
+    StatementLeads (If' cond l (more_of-Stmt left end_of-Stmt) right at) = StatementLeads left × BranchLeads right
+    StatementLeads (Switch' on shape arms other at) = ArmsLead arms × BranchLeads other
+    StatementLeads (Default' l (more_of-Stmt left end_of-Stmt) r (more_of-Stmt right end_of-Stmt) at) = StatementLeads left × StatementLeads right
+    StatementLeads (For' var from to closed step shape (more_of-Stmt body end_of-Stmt) at) = StatementLeads body
+    StatementLeads (Forall' var over shape (more_of-Stmt body end_of-Stmt) at) = StatementLeads body
 
-    pub HaveWholeLeftSides : {m : _} → Row_of-Stmt m → Type 0
-    HaveWholeLeftSides end_of-Stmt = Unit {0}
-    HaveWholeLeftSides (more_of-Stmt part rest) = HasWholeLeftSides part × HaveWholeLeftSides rest
+    pub StatementsLead : {m : _} → Row_of-Stmt m → Type 0
+    StatementsLead end_of-Stmt = Unit {0}
+    StatementsLead (more_of-Stmt part rest) = StatementLeads part × StatementsLead rest
 
-    pub BranchHasWholeLeftSides : Held-Stmt-If-2 → Type 0
-    BranchHasWholeLeftSides None' = Unit {0}
-    BranchHasWholeLeftSides (Some' shape (more_of-Stmt part end_of-Stmt)) = HasWholeLeftSides part
+    pub BranchLeads : Held-Stmt-If-2 → Type 0
+    BranchLeads None' = Unit {0}
+    BranchLeads (Some' shape (more_of-Stmt part end_of-Stmt)) = StatementLeads part
 
-    pub ArmsHaveWholeLeftSides : {m : _} → Row_of-Arm m → Type 0
-    ArmsHaveWholeLeftSides end_of-Arm = Unit {0}
-    ArmsHaveWholeLeftSides (more_of-Arm labels body rest) = HasWholeLeftSides body × ArmsHaveWholeLeftSides rest
+    pub ArmsLead : {m : _} → Row_of-Arm m → Type 0
+    ArmsLead end_of-Arm = Unit {0}
+    ArmsLead (more_of-Arm labels body rest) = StatementLeads body × ArmsLead rest
 
 -- and each in what a text says
-abbrev pub EntryHasWholeLeftSides : Text → Entry → Type 0
-EntryHasWholeLeftSides text (statement x) = HasWholeLeftSides text x.instance x.act
-EntryHasWholeLeftSides text _ = Unit {0}
+abbrev pub EntryLeads : Text → Entry → Type 0
+EntryLeads text (statement x) = StatementLeads text x.instance x.act
+EntryLeads text _ = Unit {0}
 
-abbrev pub TextHasWholeLeftSides : Text → Type 0
-TextHasWholeLeftSides text = All (EntryHasWholeLeftSides text) (entries text)
+abbrev pub TextLeads : Text → Type 0
+TextLeads text = All (EntryLeads text) (entries text)

@@ -18,7 +18,7 @@ ghost use Rattle.smv_flat.specs.Flattening.{flatten, scope_in};
 ghost use Rattle.smv_flat.specs.Agreement.{AreSameStates, flat_element};
 ghost use Rattle.smv_flat.specs.RawAllowed.{AreSameBefore, raw_allowed};
 ghost use Rattle.smv_flat.specs.WholeText.{IsSameClaim, TextIsRight, claims_met, claims_of, raw_walk};
-ghost use Rattle.smv_right.specs.LeftSides.{TextHasWholeLeftSides};
+ghost use Rattle.smv_right.specs.LeftSides.{TextLeads};
 ghost use Rattle.smv_right.specs.Written.{TextIsWritten};
 ghost use Rattle.smv_right.specs.WellKinded.{IsWellKinded};
 
@@ -57,7 +57,7 @@ pub fn claims_are_the_same()
 
 /// In each such text each left side leads to a family, with an index for each of its index types.
 pub fn left_sides_lead_to_families()
-    ensures { (text : Text) → IsWellKinded text → TextHasWholeLeftSides text }
+    ensures { (text : Text) → IsWellKinded text → TextLeads text }
 {
     families_are_deep_enough();
 }
