@@ -50,7 +50,7 @@ indexes-written m end_of-Part h = tt
 indexes-written m (more_of-Part (Field word) rest) h = indexes-written _ rest h
 indexes-written m (more_of-Part (At index) rest) h = (h.0, indexes-written _ rest h.1)
 
-chosen-fine : {X : Type 0} (b : Bool) (xs ys : List X) (y : X) → cond b xs (y ∷ ys) ≡ [] → xs ≡ []
+pub chosen-fine : {X : Type 0} (b : Bool) (xs ys : List X) (y : X) → cond b xs (y ∷ ys) ≡ [] → xs ≡ []
 unfolding opening
 chosen-fine true xs ys y h = h
 chosen-fine false xs ys y h = absurd (cc (h))
@@ -129,7 +129,7 @@ module _ (text : Text) where
             by_own (Some own) e h =
                 let named : Family → Bool = λ f. same_path f.path (here ++ word.name ∷ []) in
                 let found : find_name (own_in body.items) word.name ≡ Some own = subst (λ l. find_name l word.name ≡ Some own) good.3 e in
-                let has : list_any named all_families ≡ true = includes named (own-family word.name types bodies inside here (scope_of m) good.0 own parts w flat h body.items good.4 good.5 found) in
+                let has : list_any named all_families ≡ true = includes named (own-family word.name types bodies inside here (scope_of m) good.0 own parts w h flat body.items good.4 good.5 found) in
                 any-found named (scope_in text here).families (subst (λ fs. list_any named fs ≡ true) (sym (families-same text)) has)
 
         -- ---- items inside binders

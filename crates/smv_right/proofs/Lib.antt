@@ -1,5 +1,6 @@
 pub mod Opening
 pub mod Faultless
+pub mod Somewhere
 pub mod LeadTypes
 pub mod Expressions
 pub mod Statements
@@ -7,6 +8,7 @@ pub mod OwnNames
 pub mod OwnFamilies
 pub mod Modules
 pub mod Entries
+pub mod LeftSides
 pub mod RightText
 pub mod WrittenForms
 pub mod WrittenRules

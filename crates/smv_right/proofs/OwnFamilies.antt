@@ -1,8 +1,9 @@
--- A signal of a module that is a single value is a family behind the path of each instance of the module.
+-- A name of a module that leads to a single value has a family behind the path of each instance of the module.
 use Rattle.smv_right.proofs.Opening.{opening}
-use Rattle.std.proofs.Common.{◌≡◌, ℕ, List, [], ◌∷◌, ◌++◌, map, flat_map, length, Some, Bool, true, false, cond, ◌||◌, ◌⊎◌, inl, inr, refl, ap, ◌∙◌, subst, append-nil}
+use Rattle.std.proofs.Common.{◌≡◌, ℕ, List, [], ◌∷◌, ◌++◌, map, flat_map, length, Option, Some, None, is_none, true, false, cond, ◌⊎◌, inl, inr, refl, sym, ap, ◌∙◌, subst}
 use Rattle.std.specs.Str.{bytes_eq}
 use Rattle.std.specs.List.{AllByRecursion, list_any}
+use Rattle.std.proofs.lemmas.List.{append_assoc}
 use Rattle.std.proofs.lemmas.Slice.Eq.{bytes_eq-Decides}
 use Rattle.smv_core.specs.Values.{Name, Path}
 use Rattle.smv_core.specs.Types as tree
@@ -11,22 +12,24 @@ use Rattle.smv_core.specs.FlatOrder.{Body, role_of, declared_as, families_of_ite
 use Rattle.smv_core.specs.Outcome.{fields_of, same_path}
 use Rattle.smv_core.specs.declared.tree.Word.{Word}
 use Rattle.smv_core.specs.declared.tree.Role.{Role}
-use Rattle.smv_core.specs.declared.tree.Role.TheVariants.{Plain}
+use Rattle.smv_core.specs.declared.tree.Role.TheVariants.{Plain, Input}
 use Rattle.smv_core.specs.declared.tree.Part.{Part, Field, At}
+use Rattle.smv_core.specs.declared.tree.Expr.{Expr}
 use Rattle.smv_core.specs.declared.tree.Item.{Item, Declare, Instance, Layer, Claim, Split, Using, Act}
 use Rattle.smv_core.specs.declared.tree.Item as item
 use Rattle.smv_inst.specs.Mentions as mentions
 use Rattle.smv_inst.specs.Mentions.{What, signal, instance, goal, in_type, in_expr, in_stmt, instantiates}
 use Rattle.smv_inst.specs.Scopes.{Own, own_names}
-use Rattle.smv_types.specs.Types.{Whole, type_faults}
+use Rattle.smv_inst.specs.NameFaults.{place_if}
+use Rattle.smv_types.specs.Types.{Whole, leads, type_faults}
 use Rattle.smv_types.specs.References as kinds
 use Rattle.smv_types.specs.References.{behind}
 use Rattle.smv_types.specs.KindFaults.{in_item, formal_faults}
-use Rattle.smv_flat.proofs.Lookups.{any-front, any-behind}
 use Rattle.smv_flat.proofs.TypeNumbers.{paths-decide}
 use Rattle.smv_right.specs.Written.{InnerIsWritten, ItemIsWritten}
-use Rattle.smv_right.proofs.Faultless.{empty-both, found-each}
-use Rattle.smv_right.proofs.LeadTypes.{is_own, AreCovered, leads-cover}
+use Rattle.smv_right.proofs.Faultless.{empty-both, unplaced, no_places, found-each}
+use Rattle.smv_right.proofs.LeadTypes.{IsFamilyAt, AreCovered, leads-cover}
+use Rattle.smv_right.proofs.Somewhere.{Somewhere, somewhere-map, somewhere-flat_map, somewhere-each, somewhere-with, somewhere-any}
 use Rattle.smv_right.proofs.OwnNames.{own-append, quiet-type, quiet-expr, quiet-stmt, quiet-flat_map, inner-goals, is_word, found-split, words-found, declared-own}
 
 -- the names that items declare
@@ -102,94 +105,132 @@ module _ (name : Name) where
   role-same (Using uses proves at ∷ items) written own s h = role-same items written.1 own s (inner-skip (Using uses proves at) items own written.0 (signal-no_goal own.what s) h)
   role-same (Act act ∷ items) written own s h = role-same items written.1 own s (inner-skip (Act act) items own written.0 (signal-no_goal own.what s) h)
 
+  -- ---- declarations
+
+  -- the item declares the name as a signal, or as an instance
+  abbrev pub Declares : What → Item → Type 0
+  Declares (signal role of) part = (words : List Word) × (at : ℕ) × (part ≡ Declare role words of at) × (list_any (is_word name) words ≡ true)
+  Declares (instance module_name) part = (words : List Word) × (args : List Expr) × (at : ℕ) × (part ≡ Instance words module_name args at) × (list_any (is_word name) words ≡ true)
+  Declares goal part = ⊥
+
+  -- what is no goal is declared by an item of the module
+  pub declared-somewhere : (items : List Item) → AllByRecursion ItemIsWritten items → (own : Own) → (own.what ≡ goal → ⊥) → find_name (own_in items) name ≡ Some own → Somewhere (Declares own.what) items
+  declared-somewhere [] written own no_goal h = absurd (cc (h))
+  declared-somewhere (Declare role words of at ∷ items) written own no_goal h =
+      by_case (declared-found (Declare role words of at) items (signal role of) words own (declare-own role words of at) h) (declared-somewhere items written.1 own no_goal)
+    where
+      by_case : ((list_any (is_word name) words ≡ true) × (own.what ≡ signal role of)) ⊎ ((list_any (is_word name) words ≡ false) × (find_name (own_in items) name ≡ Some own)) →
+          (find_name (own_in items) name ≡ Some own → Somewhere (Declares own.what) items) → Declares own.what (Declare role words of at) ⊎ Somewhere (Declares own.what) items
+      by_case (inl (has, is)) rest = inl (subst (λ what. Declares what (Declare role words of at)) (sym is) (words, at, refl, has))
+      by_case (inr (has, e)) rest = inr (rest e)
+  declared-somewhere (Instance words module_name args at ∷ items) written own no_goal h =
+      by_case (declared-found (Instance words module_name args at) items (instance module_name) words own (instance-own words module_name args at) h) (declared-somewhere items written.1 own no_goal)
+    where
+      by_case : ((list_any (is_word name) words ≡ true) × (own.what ≡ instance module_name)) ⊎ ((list_any (is_word name) words ≡ false) × (find_name (own_in items) name ≡ Some own)) →
+          (find_name (own_in items) name ≡ Some own → Somewhere (Declares own.what) items) → Declares own.what (Instance words module_name args at) ⊎ Somewhere (Declares own.what) items
+      by_case (inl (has, is)) rest = inl (subst (λ what. Declares what (Instance words module_name args at)) (sym is) (words, args, at, refl, has))
+      by_case (inr (has, e)) rest = inr (rest e)
+  declared-somewhere (Layer word body at ∷ items) written own no_goal h = inr (declared-somewhere items written.1 own no_goal (layer-skip word body at items own h))
+  declared-somewhere (item.Forall' var over shape body at ∷ items) written own no_goal h = inr (declared-somewhere items written.1 own no_goal (inner-skip (item.Forall' var over shape body at) items own written.0 no_goal h))
+  declared-somewhere (item.Block' shape row ∷ items) written own no_goal h = inr (declared-somewhere items written.1 own no_goal (inner-skip (item.Block' shape row) items own written.0 no_goal h))
+  declared-somewhere (Claim word brackets body at ∷ items) written own no_goal h = inr (declared-somewhere items written.1 own no_goal (inner-skip (Claim word brackets body at) items own written.0 no_goal h))
+  declared-somewhere (Split word brackets of pairs at ∷ items) written own no_goal h = inr (declared-somewhere items written.1 own no_goal (inner-skip (Split word brackets of pairs at) items own written.0 no_goal h))
+  declared-somewhere (Using uses proves at ∷ items) written own no_goal h = inr (declared-somewhere items written.1 own no_goal (inner-skip (Using uses proves at) items own written.0 no_goal h))
+  declared-somewhere (Act act ∷ items) written own no_goal h = inr (declared-somewhere items written.1 own no_goal (inner-skip (Act act) items own written.0 no_goal h))
+
   -- ---- families
 
+  -- an item without faults that is written as the grammar has it
+  abbrev pub IsFaultless : kinds.Scope → Item → Type 0
+  IsFaultless scope part = ItemIsWritten part × (in_item scope [] part ≡ [])
+
+  pub each-faultless : (scope : kinds.Scope) (items : List Item) → AllByRecursion ItemIsWritten items → flat_map (in_item scope []) items ≡ [] → AllByRecursion (IsFaultless scope) items
+  unfolding opening
+  each-faultless scope [] written fine = tt
+  each-faultless scope (part ∷ items) written fine =
+      let both = empty-both (in_item scope [] part) (flat_map (in_item scope []) items) fine in
+      ((written.0, both.0), each-faultless scope items written.1 both.1)
+
+  -- a formal is simple
+  pub formal-simple : (scope : kinds.Scope) (of : _) (items : List Item) → AllByRecursion ItemIsWritten items → flat_map (in_item scope []) items ≡ [] → (at : ℕ) →
+      find_name (own_in items) name ≡ Some (record { at = at; what = signal Input of }) → (w : Whole) × (leads scope.here.types of [] ≡ Some w)
+  unfolding opening
+  formal-simple scope of items written fine at h =
+      let there = somewhere-with (Declares (signal Input of)) (IsFaultless scope) items (declared-somewhere items written (record { at = at; what = signal Input of }) (signal-no_goal (signal Input of) tt) h) (each-faultless scope items written fine) in
+      by_item there.0 there.1 there.2.1
+    where
+      present : (o : Option Whole) → is_none o ≡ false → (w : Whole) × (o ≡ Some w)
+      present None e = absurd (cc (e))
+      present (Some w) e = (w, refl)
+
+      by_words : (words : List Word) → list_any (is_word name) words ≡ true → flat_map (formal_faults scope.here.types Input of) words ≡ [] → (w : Whole) × (leads scope.here.types of [] ≡ Some w)
+      by_words [] has fine = absurd (cc (has))
+      by_words (word ∷ words) has fine =
+          present (leads scope.here.types of []) (unplaced (is_none (leads scope.here.types of [])) word.at (no_places 12 (place_if (is_none (leads scope.here.types of [])) word.at)
+          (empty-both (formal_faults scope.here.types Input of word) (flat_map (formal_faults scope.here.types Input of) words) fine).0))
+
+      by_item : (part : Item) → Declares (signal Input of) part → in_item scope [] part ≡ [] → (w : Whole) × (leads scope.here.types of [] ≡ Some w)
+      by_item part d fine =
+          let own : in_item scope [] (Declare Input d.0 of d.1) ≡ [] = subst (λ part. in_item scope [] part ≡ []) d.2 fine in
+          by_words d.0 d.3 (empty-both (flat_map (formal_faults scope.here.types Input of) d.0) (type_faults scope.here.types of) own).0
+
   module _ (types : tree.Types) (bodies : List (Name × Body)) (inside : Path → Name → List Family) (here : Path) (scope : kinds.Scope) (covered : AreCovered scope.here.types types) where
-    -- the family of the name
-    abbrev pub is_named : Family → Bool
-    is_named f = same_path f.path (here ++ name ∷ [])
-
-    own-named : (role : Role) (word : Word) (f : Family) → bytes_eq word.name name ≡ true → is_own f ≡ true → is_named (declared_as role (here ++ word.name ∷ []) f) ≡ true
-    own-named role word f e h =
-        let word_same : word.name ≡ name = (bytes_eq-Decides word.name name).0 e in
-        let path_same : f.path ≡ [] = (paths-decide f.path []).0 h in
-        (paths-decide ((here ++ word.name ∷ []) ++ f.path) (here ++ name ∷ [])).1 (ap (λ p. (here ++ word.name ∷ []) ++ p) path_same ∙ append-nil (here ++ word.name ∷ []) ∙ ap (λ n. here ++ n ∷ []) word_same)
-
-    shape-named : (role : Role) (word : Word) → bytes_eq word.name name ≡ true → (shape : List Family) → list_any is_own shape ≡ true → list_any is_named (map (declared_as role (here ++ word.name ∷ [])) shape) ≡ true
-    shape-named role word e [] h = absurd (cc (h))
-    shape-named role word e (f ∷ shape) h = by_test (is_own f) refl h (shape-named role word e shape)
-      where
-        by_test : (b : Bool) → is_own f ≡ b → (b || list_any is_own shape) ≡ true → (list_any is_own shape ≡ true → list_any is_named (map (declared_as role (here ++ word.name ∷ [])) shape) ≡ true) →
-            (is_named (declared_as role (here ++ word.name ∷ []) f) || list_any is_named (map (declared_as role (here ++ word.name ∷ [])) shape)) ≡ true
-        by_test true own h rest = ap (λ b. b || list_any is_named (map (declared_as role (here ++ word.name ∷ [])) shape)) (own-named role word f e own)
-        by_test false own h rest = by_own (is_named (declared_as role (here ++ word.name ∷ []) f)) (rest h)
-          where
-            by_own : (b : Bool) → list_any is_named (map (declared_as role (here ++ word.name ∷ [])) shape) ≡ true → (b || list_any is_named (map (declared_as role (here ++ word.name ∷ [])) shape)) ≡ true
-            by_own true g = refl
-            by_own false g = g
-
-    words-named : (role : Role) (shape : List Family) → list_any is_own shape ≡ true → (words : List Word) → list_any (is_word name) words ≡ true →
-        list_any is_named (flat_map (λ word. map (declared_as role (here ++ word.name ∷ [])) shape) words) ≡ true
-    words-named role shape own [] h = absurd (cc (h))
-    words-named role shape own (word ∷ words) h = by_test (bytes_eq word.name name) refl h (words-named role shape own words)
-      where
-        by_test : (b : Bool) → bytes_eq word.name name ≡ b → (b || list_any (is_word name) words) ≡ true →
-            (list_any (is_word name) words ≡ true → list_any is_named (flat_map (λ word. map (declared_as role (here ++ word.name ∷ [])) shape) words) ≡ true) →
-            list_any is_named (map (declared_as role (here ++ word.name ∷ [])) shape ++ flat_map (λ word. map (declared_as role (here ++ word.name ∷ [])) shape) words) ≡ true
-        by_test true e h rest = any-front is_named (map (declared_as role (here ++ word.name ∷ [])) shape) _ (shape-named role word e shape own)
-        by_test false e h rest = any-behind is_named (map (declared_as role (here ++ word.name ∷ [])) shape) _ (rest h)
-
-    abbrev families_here : List Item → List Family
+    abbrev pub families_here : List Item → List Family
     families_here items = flat_map (families_of_item types bodies inside here) items
 
-    module _ (own : Own) (parts : List Part) (w : Whole) (flat : fields_of parts ≡ []) (leads_there : behind scope.modules scope.here.types own.what parts ≡ Some w) where
+    module _ (own : Own) (parts : List Part) (w : Whole) (leads_there : behind scope.modules scope.here.types own.what parts ≡ Some w) where
       abbrev LeadsThere : What → Type 0
       LeadsThere what = behind scope.modules scope.here.types what parts ≡ Some w
+
+      -- the family to which it leads
+      abbrev pub IsIt : Family → Type 0
+      IsIt f = IsFamilyAt (here ++ name ∷ fields_of parts) (length w.over) f
 
       leads-no_goal : own.what ≡ goal → ⊥
       leads-no_goal e = let h : LeadsThere goal = subst LeadsThere e leads_there in cc (h)
 
-      leads-no_instance : (module_name : Word) → own.what ≡ instance module_name → ⊥
-      leads-no_instance module_name e = by_parts parts flat (subst LeadsThere e leads_there)
-        where
-          by_parts : (parts : List Part) → fields_of parts ≡ [] → behind scope.modules scope.here.types (instance module_name) parts ≡ Some w → ⊥
-          by_parts [] f h = cc (h)
-          by_parts (At e ∷ parts) f h = cc (h)
-          by_parts (Field word ∷ parts) f h = cc (f)
+      named-path : (word : Word) (rest : Path) → bytes_eq word.name name ≡ true → (here ++ word.name ∷ []) ++ rest ≡ here ++ name ∷ rest
+      named-path word rest e = append_assoc here (word.name ∷ []) rest ∙ ap (λ n. here ++ n ∷ rest) ((bytes_eq-Decides word.name name).0 e)
 
-      -- a signal that leads to a single value without a field has its family
-      pub own-family : (items : List Item) → AllByRecursion ItemIsWritten items → flat_map (in_item scope []) items ≡ [] → find_name (own_in items) name ≡ Some own → list_any is_named (families_here items) ≡ true
-      unfolding opening
-      own-family [] written fine h = absurd (cc (h))
-      own-family (Declare role words of at ∷ items) written fine h =
-          let both = empty-both (in_item scope [] (Declare role words of at)) (flat_map (in_item scope []) items) fine in
-          let own_faults = empty-both (flat_map (formal_faults scope.here.types role of) words) (type_faults scope.here.types of) both.0 in
-          by_case (declared-found (Declare role words of at) items (signal role of) words own (declare-own role words of at) h)
-          (λ is. (leads-cover scope.here.types types covered of written.0 own_faults.1).0 parts w flat (subst LeadsThere is leads_there)) (own-family items written.1 both.1)
-        where
-          by_case : ((list_any (is_word name) words ≡ true) × (own.what ≡ signal role of)) ⊎ ((list_any (is_word name) words ≡ false) × (find_name (own_in items) name ≡ Some own)) →
-              (own.what ≡ signal role of → list_any is_own (shape_of types of) ≡ true) → (find_name (own_in items) name ≡ Some own → list_any is_named (families_here items) ≡ true) →
-              list_any is_named (families_of_item types bodies inside here (Declare role words of at) ++ families_here items) ≡ true
-          by_case (inl (has, is)) shape rest = any-front is_named (families_of_item types bodies inside here (Declare role words of at)) (families_here items) (words-named role (shape_of types of) (shape is) words has)
-          by_case (inr (has, e)) shape rest = any-behind is_named (families_of_item types bodies inside here (Declare role words of at)) (families_here items) (rest e)
-      own-family (Instance words module_name args at ∷ items) written fine h =
-          let both = empty-both (in_item scope [] (Instance words module_name args at)) (flat_map (in_item scope []) items) fine in
-          by_case (declared-found (Instance words module_name args at) items (instance module_name) words own (instance-own words module_name args at) h) (own-family items written.1 both.1)
-        where
-          by_case : ((list_any (is_word name) words ≡ true) × (own.what ≡ instance module_name)) ⊎ ((list_any (is_word name) words ≡ false) × (find_name (own_in items) name ≡ Some own)) →
-              (find_name (own_in items) name ≡ Some own → list_any is_named (families_here items) ≡ true) →
-              list_any is_named (families_of_item types bodies inside here (Instance words module_name args at) ++ families_here items) ≡ true
-          by_case (inl (has, is)) rest = absurd (leads-no_instance module_name is)
-          by_case (inr (has, e)) rest = any-behind is_named (families_of_item types bodies inside here (Instance words module_name args at)) (families_here items) (rest e)
-      own-family (Layer word body at ∷ items) written fine h = own-family items written.1 (empty-both (in_item scope [] (Layer word body at)) (flat_map (in_item scope []) items) fine).1 (layer-skip word body at items own h)
-      own-family (item.Forall' var over shape body at ∷ items) written fine h =
-          own-family items written.1 (empty-both (in_item scope [] (item.Forall' var over shape body at)) (flat_map (in_item scope []) items) fine).1 (inner-skip (item.Forall' var over shape body at) items own written.0 leads-no_goal h)
-      own-family (item.Block' shape row ∷ items) written fine h =
-          own-family items written.1 (empty-both (in_item scope [] (item.Block' shape row)) (flat_map (in_item scope []) items) fine).1 (inner-skip (item.Block' shape row) items own written.0 leads-no_goal h)
-      own-family (Claim word brackets body at ∷ items) written fine h =
-          own-family items written.1 (empty-both (in_item scope [] (Claim word brackets body at)) (flat_map (in_item scope []) items) fine).1 (inner-skip (Claim word brackets body at) items own written.0 leads-no_goal h)
-      own-family (Split word brackets of pairs at ∷ items) written fine h =
-          own-family items written.1 (empty-both (in_item scope [] (Split word brackets of pairs at)) (flat_map (in_item scope []) items) fine).1 (inner-skip (Split word brackets of pairs at) items own written.0 leads-no_goal h)
-      own-family (Using uses proves at ∷ items) written fine h = own-family items written.1 fine (inner-skip (Using uses proves at) items own written.0 leads-no_goal h)
-      own-family (Act act ∷ items) written fine h =
-          own-family items written.1 (empty-both (in_item scope [] (Act act)) (flat_map (in_item scope []) items) fine).1 (inner-skip (Act act) items own written.0 leads-no_goal h)
+      -- a type that leads there has its family behind each of the words of its declaration
+      words-lead : (role : Role) (shape : List Family) → Somewhere (IsFamilyAt (fields_of parts) (length w.over)) shape → (words : List Word) → list_any (is_word name) words ≡ true →
+          Somewhere IsIt (flat_map (λ word. map (declared_as role (here ++ word.name ∷ [])) shape) words)
+      words-lead role shape there words h =
+          somewhere-flat_map IsIt (λ (word : Word). map (declared_as role (here ++ word.name ∷ [])) shape) (is_word name)
+          (λ word e. somewhere-map (IsFamilyAt (fields_of parts) (length w.over)) IsIt (declared_as role (here ++ word.name ∷ []))
+          (λ f at. (ap (λ p. (here ++ word.name ∷ []) ++ p) at.0 ∙ named-path word (fields_of parts) e, at.1)) shape there) words h
+
+      module _ (inner : (module_name : Word) → own.what ≡ instance module_name → (word : Word) → bytes_eq word.name name ≡ true → Somewhere IsIt (inside (here ++ word.name ∷ []) module_name.name)) where
+        item-reached : (what : What) → own.what ≡ what → (part : Item) → Declares what part → IsFaultless scope part → Somewhere IsIt (families_of_item types bodies inside here part)
+        unfolding opening
+        item-reached goal is part d fine = absurd d
+        item-reached (signal role of) is part d fine =
+            let own_fine : IsFaultless scope (Declare role d.0 of d.1) = subst (IsFaultless scope) d.2 fine in
+            let faults = empty-both (flat_map (formal_faults scope.here.types role of) d.0) (type_faults scope.here.types of) own_fine.1 in
+            subst (λ part. Somewhere IsIt (families_of_item types bodies inside here part)) (sym d.2)
+            (words-lead role (shape_of types of) ((leads-cover scope.here.types types covered of own_fine.0 faults.1).0 parts w (subst LeadsThere is leads_there)) d.0 d.3)
+        item-reached (instance module_name) is part d fine =
+            subst (λ part. Somewhere IsIt (families_of_item types bodies inside here part)) (sym d.3)
+            (somewhere-flat_map IsIt (λ (word : Word). inside (here ++ word.name ∷ []) module_name.name) (is_word name) (λ word e. inner module_name is word e) d.0 d.4)
+
+        -- a name that leads to a single value has its family
+        pub own-reached : (items : List Item) → AllByRecursion ItemIsWritten items → flat_map (in_item scope []) items ≡ [] → find_name (own_in items) name ≡ Some own → Somewhere IsIt (families_here items)
+        own-reached items written fine h =
+            somewhere-each (Declares own.what) (IsFaultless scope) IsIt (families_of_item types bodies inside here) (item-reached own.what refl) items
+            (declared-somewhere items written own leads-no_goal h) (each-faultless scope items written fine)
+
+      module _ (flat : fields_of parts ≡ []) where
+        leads-no_instance : (module_name : Word) → own.what ≡ instance module_name → ⊥
+        leads-no_instance module_name e = by_parts parts flat (subst LeadsThere e leads_there)
+          where
+            by_parts : (parts : List Part) → fields_of parts ≡ [] → behind scope.modules scope.here.types (instance module_name) parts ≡ Some w → ⊥
+            by_parts [] f h = cc (h)
+            by_parts (At e ∷ parts) f h = cc (h)
+            by_parts (Field word ∷ parts) f h = cc (f)
+
+        -- a signal that leads to a single value without a field has its family
+        pub own-family : (items : List Item) → AllByRecursion ItemIsWritten items → flat_map (in_item scope []) items ≡ [] → find_name (own_in items) name ≡ Some own →
+            list_any (λ (f : Family). same_path f.path (here ++ name ∷ [])) (families_here items) ≡ true
+        own-family items written fine h =
+            somewhere-any IsIt (λ (f : Family). same_path f.path (here ++ name ∷ [])) (λ f at. (paths-decide f.path (here ++ name ∷ [])).1 (at.0 ∙ ap (λ p. here ++ name ∷ p) flat)) (families_here items)
+            (own-reached (λ module_name e word same. absurd (leads-no_instance module_name e)) items written fine h)

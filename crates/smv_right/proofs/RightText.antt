@@ -1,8 +1,9 @@
--- A text without faults of names, size and kinds is right.
+-- A text without faults of names, size and kinds is right, and its left sides are whole.
 use Rattle.smv_right.proofs.Opening.{opening}
-use Rattle.std.proofs.Common.{◌≡◌, ℕ, zero, suc, ◌<◌, List, [], ◌∷◌, ◌++◌, map, flat_map, length, get_or, All, None, refl, arith}
+use Rattle.std.proofs.Common.{◌≡◌, ℕ, zero, suc, ◌<◌, ◌≤◌, List, [], ◌∷◌, ◌++◌, map, flat_map, length, get_or, All, None, refl, arith}
 use Rattle.std.specs.List.{AllByRecursion}
 use Rattle.smv_core.specs.Types.{types_from}
+use Rattle.smv_core.specs.FlatOrder.{modules, main, families_in}
 use Rattle.smv_core.specs.declared.tree.Text.{Text}
 use Rattle.smv_inst.specs.Scopes.{Piece, constants, pieces}
 use Rattle.smv_inst.specs.NameFaults.{repeated, undeclared_in, doubled_in, without_main, recursive_in, miscounted_in}
@@ -11,12 +12,14 @@ use Rattle.smv_types.specs.References.{modules_from}
 use Rattle.smv_types.specs.KindFaults.{faults_of_kinds, first_fault_of_kinds}
 use Rattle.smv_flat.specs.Entries.{entries}
 use Rattle.smv_flat.specs.WholeText.{EntryIsRight, TextIsRight}
+use Rattle.smv_right.specs.LeftSides.{EntryLeads, TextLeads}
 use Rattle.smv_right.specs.Written.{TextIsWritten}
 use Rattle.smv_right.specs.WellKinded.{IsWellKinded}
 use Rattle.smv_right.proofs.WrittenRules.{spelled-written}
 use Rattle.smv_right.proofs.Faultless.{empty-both, empty-each, no_fault-in, none-first, no_places}
-use Rattle.smv_right.proofs.Modules.{tops-modules}
+use Rattle.smv_right.proofs.Modules.{AreModules, tops-modules}
 use Rattle.smv_right.proofs.Entries.{text-right}
+use Rattle.smv_right.proofs.LeftSides.{text-whole}
 
 all-each : {X : Type 0} (P : X → Type 0) (xs : List X) → AllByRecursion P xs → All P xs
 unfolding opening
@@ -35,17 +38,27 @@ others tops =
     ∷ (10, flat_map (recursive_in tops) tops)
     ∷ (11, flat_map (miscounted_in tops) tops) ∷ []
 
-pub right-text : (text : Text) → TextIsWritten text → first_fault text ≡ None → first_fault_of_kinds text ≡ None → TextIsRight text
+-- the modules of a text without faults
+modules-of : (text : Text) → TextIsWritten text → first_fault text ≡ None → first_fault_of_kinds text ≡ None →
+    AreModules (types_from [] text.tops) (modules_from [] text.tops) (constants (pieces text)) (modules_from [] text.tops) (modules text.tops)
 unfolding opening
-right-text text written names kinds =
+modules-of text written names kinds =
     let tops : List Piece = pieces text in
     let none : faults_of_names text ≡ [] = no_fault-in (faults_of_names text) (none-first (first_of (faults_of_names text)) (fault_of_size text) names) in
     let places : List ℕ = flat_map (undeclared_in tops) tops in
     let declared : AllByRecursion (λ piece. undeclared_in tops piece ≡ []) tops = empty-each (undeclared_in tops) tops (no_places 7 places (empty-both (faults_at (7, places)) (flat_map faults_at (others tops)) none).0) in
-    all-each (EntryIsRight text) (entries text)
-    (text-right text (tops-modules (types_from [] text.tops) (modules_from [] text.tops) (constants tops) tops [] [] tt [] text.tops refl written (no_fault-in (faults_of_kinds text) kinds) declared))
+    tops-modules (types_from [] text.tops) (modules_from [] text.tops) (constants tops) tops [] [] tt [] text.tops refl written (no_fault-in (faults_of_kinds text) kinds) declared
+
+pub right-text : (text : Text) → TextIsWritten text → first_fault text ≡ None → first_fault_of_kinds text ≡ None → TextIsRight text
+unfolding opening
+right-text text written names kinds = all-each (EntryIsRight text) (entries text) (text-right text (modules-of text written names kinds))
 
 -- the same of a text that is spelled
 pub well_kinded-right : (text : Text) → IsWellKinded text → TextIsRight text
 unfolding opening
 well_kinded-right text h = right-text text (spelled-written h.0 h.1 text h.2) h.3 h.4
+
+pub well_kinded-whole : (text : Text) → IsWellKinded text →
+    ((n : ℕ) → length (modules text.tops) ≤ n → families_in (types_from [] text.tops) (modules text.tops) n [] main ≡ families_in (types_from [] text.tops) (modules text.tops) (length (modules text.tops)) [] main) → TextLeads text
+unfolding opening
+well_kinded-whole text h deep = all-each (EntryLeads text) (entries text) (text-whole text (modules-of text (spelled-written h.0 h.1 text h.2) h.3 h.4) deep)

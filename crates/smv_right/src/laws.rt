@@ -18,8 +18,11 @@ ghost use Rattle.smv_flat.specs.Flattening.{flatten, scope_in};
 ghost use Rattle.smv_flat.specs.Agreement.{AreSameStates, flat_element};
 ghost use Rattle.smv_flat.specs.RawAllowed.{AreSameBefore, raw_allowed};
 ghost use Rattle.smv_flat.specs.WholeText.{IsSameClaim, TextIsRight, claims_met, claims_of, raw_walk};
+ghost use Rattle.smv_right.specs.LeftSides.{TextLeads};
 ghost use Rattle.smv_right.specs.Written.{TextIsWritten};
 ghost use Rattle.smv_right.specs.WellKinded.{IsWellKinded};
+
+use smv_fuel::laws::families_are_deep_enough;
 
 /// The tree of each text that tokens spell is as the grammar has it.
 pub fn spelled_texts_are_written()
@@ -51,3 +54,10 @@ pub fn claims_are_the_same()
     ensures { (text : Text) → IsWellKinded text → (sizes : Sizes) (s : State) (t : FlatState) → AreSameStates (design_of text).families s t →
         AllZip (IsSameClaim text sizes s t) (claims_of (flatten text).items) (claims_met (design_of text).met) }
 {}
+
+/// In each such text each left side leads to a family, with an index for each of its index types.
+pub fn left_sides_lead_to_families()
+    ensures { (text : Text) → IsWellKinded text → TextLeads text }
+{
+    families_are_deep_enough();
+}

@@ -1,0 +1,4 @@
+mod ExactStatements
+mod Counts
+mod Defined
+mod SetNames
