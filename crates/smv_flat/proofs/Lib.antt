@@ -16,3 +16,4 @@ pub mod SameIndexes
 pub mod SameConcerns
 pub mod SameAllowed
 pub mod Constants
+pub mod SameActs

@@ -5,3 +5,4 @@ pub mod Flattening
 pub mod Agreement
 pub mod WholeText
 pub mod RawAllowed
+pub mod SameActs

@@ -1,12 +1,12 @@
 // Laws of flattening, each the contract of a function that does nothing.
-ghost use Rattle.std.specs.Prelude.{◌≡◌, [], ◌∷◌, List, None, Option, Some};
+ghost use Rattle.std.specs.Prelude.{◌≡◌, [], ◌∷◌, List, None, Option, Some, flat_map};
 ghost use Rattle.std.specs.List.{AllZip};
 ghost use Rattle.smv_core.specs.Values.{Name, Path, Value, Sizes};
 ghost use Rattle.smv_core.specs.Types.{Family, find_name};
 ghost use Rattle.smv_core.specs.FlatOrder.{design_of};
 ghost use Rattle.smv_core.specs.Outcome.{State, Bindings, outcome, allowed_by, family_at};
 ghost use Rattle.smv_core.specs.Walk.{Element, walk};
-ghost use Rattle.smv_core.specs.Allowed.{allowed, every_value, scene_at, walk_set};
+ghost use Rattle.smv_core.specs.Allowed.{allowed, every_value, said_in, scene_at, walk_set};
 ghost use Rattle.smv_core.specs.Assignments.{Around};
 ghost use Rattle.smv_core.specs.Conflicts.{Agrees};
 ghost use Rattle.smv_core.specs.Flat.{FlatState, flat_outcome, flat_allowed_by, flat_walk};
@@ -28,6 +28,7 @@ ghost use Rattle.smv_flat.specs.Agreement.{
   numbers_in,
   values_bound,
 };
+ghost use Rattle.smv_flat.specs.SameActs.{IsSameAct, layered_acts};
 ghost use Rattle.smv_flat.specs.RawAllowed.{AreSameBefore, raw_allowed};
 ghost use Rattle.smv_flat.specs.WholeText.{IsSameClaim, TextIsRight, claims_met, claims_of, raw_walk};
 
@@ -85,4 +86,9 @@ pub fn allowed_values_are_the_same()
 pub fn claims_are_the_same()
     ensures { (text : Text) → first_fault text ≡ None → (sizes : Sizes) (s : State) (t : FlatState) → AreSameStates (design_of text).families s t → TextIsRight text →
         AllZip (IsSameClaim text sizes s t) (claims_of (flatten text).items) (claims_met (design_of text).met) }
+{}
+
+/// The statements of the flattened text are those of the text, one for one: in the same layers, and each assigns the families that the text's assigns.
+pub fn statements_are_the_same()
+    ensures { (text : Text) → AllZip (IsSameAct text) (layered_acts (flatten text).items) (flat_map said_in (design_of text).met) }
 {}
