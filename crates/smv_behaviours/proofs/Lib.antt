@@ -1,2 +1,3 @@
 pub mod FirstFound
 pub mod FirstHeads
+pub mod SameLayers

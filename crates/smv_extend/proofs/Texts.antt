@@ -2,6 +2,7 @@
 use Rattle.std.proofs.Common.{◌≡◌, ℕ, zero, suc, ◌<◌, List, [], ◌∷◌, map, filter, length, Option, Some, None, Bool, true, false, not, ◌||◌, cond, nat_eq, is_none, refl, sym, ap, subst, ◌∙◌, ◌⊎◌, inl, inr, slice_get, get_or, option_map, option_to_list, All, Contains, arith}
 use Rattle.std.specs.List.{flat_map, list_any, list_all, AllZip}
 use Rattle.std.proofs.lemmas.List.Elements.{All-contains}
+use Rattle.std.proofs.lemmas.Slice.Zip.{AllZip-long}
 use Rattle.smv_core.specs.Values.{Value, Sizes, values_of}
 use Rattle.smv_core.specs.Types.{Family}
 use Rattle.smv_core.specs.FlatOrder.{Design, design_of}
@@ -66,7 +67,7 @@ get_below [] k x e = absurd (cc (e))
 get_below (y ∷ xs) zero x e = omega arith
 get_below (y ∷ xs) (suc k) x e = let l = get_below xs k x e in omega (arith, l)
 
-zip_right : {X Y : Type 0} (R : X → Y → Type 0) (xs : List X) (ys : List Y) → AllZip R xs ys → (k : ℕ) (y : Y) → slice_get ys k ≡ Some y → (x : X) × (slice_get xs k ≡ Some x) × R x y
+pub zip_right : {X Y : Type 0} (R : X → Y → Type 0) (xs : List X) (ys : List Y) → AllZip R xs ys → (k : ℕ) (y : Y) → slice_get ys k ≡ Some y → (x : X) × (slice_get xs k ≡ Some x) × R x y
 zip_right R [] [] h k y e = absurd (cc (e))
 zip_right R [] (z ∷ ys) h k y e = elim h [ ]
 zip_right R (x ∷ xs) [] h k y e = elim h [ ]
@@ -128,7 +129,7 @@ module _ (text : Text) (sizes : Sizes) (families : AllZip (IsSameFamily (numbers
   abbrev to_flat : State → FlatState
   to_flat s k vs = s (path_at (slice_get d.families k)) vs
 
-  abbrev to_text : FlatState → State
+  abbrev pub to_text : FlatState → State
   to_text t path vs = t (family_number (scope_in text []) path) vs
 
   flat_same : (s : State) → AreSameStates d.families s (to_flat s)
@@ -338,9 +339,10 @@ module _ (text : Text) (sizes : Sizes) (families : AllZip (IsSameFamily (numbers
         keeps_base = behaves None None tt (s ∷ states) is.1;
       }
 
-      text_run : (s : State) (states : List State) (ts : List FlatState) → AllZip (AgreeOutside (is_added f)) (map to_flat (s ∷ states)) ts → flat.IsRun n (bases f) ts → IsRun d sizes (map to_text ts)
-      text_run s states [] h is = elim h [ ]
-      text_run s states (t ∷ ts) h is = (
+      -- states of the design that are a run are those of a run of the text
+      pub text_run : (ts : List FlatState) → 0 < length ts → flat.IsRun n (bases f) ts → IsRun d sizes (map to_text ts)
+      text_run [] some is = absurd (omega (arith, some))
+      text_run (t ∷ ts) some is = (
         Each-All (IsTyped d sizes) (map to_text (t ∷ ts)) (λ u m. let r = Has-from_map to_text (t ∷ ts) m in subst (IsTyped d sizes) (sym r.2) (text_typed r.0 (is.are_typed r.0 r.1))),
         runs_text None None tt (t ∷ ts) is.are_typed is.keeps_base,
       )
@@ -349,4 +351,5 @@ module _ (text : Text) (sizes : Sizes) (families : AllZip (IsSameFamily (numbers
       keeps_text keeps [] is = elim is [ ]
       keeps_text keeps (s ∷ states) is =
           let r : (run : List FlatState) × AllZip (AgreeOutside (is_added f)) (map to_flat (s ∷ states)) run × flat.IsRun n (bases f) run = keeps sizes (map to_flat (s ∷ states)) (flat_run s states is) in
-          (map to_text r.0, agree_texts (s ∷ states) r.0 r.1, text_run s states r.0 r.1 r.2)
+          let long : length r.0 ≡ length (map to_flat (s ∷ states)) = AllZip-long (AgreeOutside (is_added f)) (map to_flat (s ∷ states)) r.0 r.1 in
+          (map to_text r.0, agree_texts (s ∷ states) r.0 r.1, text_run r.0 (omega (arith, long)) r.2)
