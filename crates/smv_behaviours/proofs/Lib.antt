@@ -1,3 +1,4 @@
 pub mod FirstFound
 pub mod FirstHeads
 pub mod SameLayers
+pub mod SetSizes

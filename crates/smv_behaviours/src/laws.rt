@@ -1,17 +1,56 @@
-// Laws of the behaviours of texts, each the contract of a function that does nothing.
+// Laws of the behaviours and runs of texts, each the contract of a function that does nothing.
 ghost use Rattle.std.specs.Prelude.{◌≡◌, None};
 ghost use Rattle.smv_core.specs.declared.tree.Text.{Text};
+ghost use Rattle.smv_inst.specs.FirstFault.{first_fault};
 ghost use Rattle.smv_flat.specs.Flattening.{flatten};
 ghost use Rattle.smv_right.specs.WellKinded.{IsWellKinded};
 ghost use Rattle.smv_single.specs.Definitions.{design_of_raw};
-ghost use Rattle.smv_delay.specs.FirstFault.{first_fault_of_design};
+ghost use Rattle.smv_delay.specs.FirstFault.{first_fault_of_design, first_fault_of_layers};
+ghost use Rattle.smv_extend.specs.Extension.{AreFilled};
 ghost use Rattle.smv_extend.specs.TextExtension.{KeepsTextBehaviours, LayersAreSame};
+ghost use Rattle.smv_behaviours.specs.TextRuns.{HasTextRuns};
 
-use smv_exact::laws::well_kinded_behaviours_are_kept;
+use smv_exact::laws::{left_sides_have_no_fewer, well_kinded_behaviours_are_kept};
+use smv_extend::laws::{families_are_found, left_sides_stay_whole, runs_exist};
+use smv_flat::laws::{
+    allowed_values_are_the_same, families_are_the_same, statements_are_the_same,
+};
+use smv_right::laws::{expressions_are_right, spelled_texts_are_written};
+use smv_single::laws::{
+    definitions_allow_as_the_text, definitions_are_in_order, what_has_no_definition_is_free,
+};
 
-/// Skeleton.
-pub fn behaviours_of_texts_are_kept()
-    ensures { (text : Text) → IsWellKinded text → first_fault_of_design (design_of_raw (flatten text)) ≡ None → LayersAreSame text → KeepsTextBehaviours text }
+/// In a text without a fault of names, size and layers the layer that defines an abstract signal first is that of its base definition in the design.
+pub fn layers_are_same()
+    ensures { (text : Text) → first_fault text ≡ None → first_fault_of_layers (design_of_raw (flatten text)) ≡ None → LayersAreSame text }
 {
+    families_are_the_same();
+    families_are_found();
+    statements_are_the_same();
+    definitions_are_in_order();
+}
+
+/// In a text that is spelled and has no fault of names, size, kinds, loops and layers the abstract signals take no behaviour from the implementation.
+pub fn behaviours_of_texts_are_kept()
+    ensures { (text : Text) → IsWellKinded text → first_fault_of_design (design_of_raw (flatten text)) ≡ None → KeepsTextBehaviours text }
+{
+    layers_are_same();
     well_kinded_behaviours_are_kept();
+}
+
+/// And it has runs of each length, where the types of its families are not empty.
+pub fn texts_have_runs()
+    ensures { (text : Text) → IsWellKinded text → first_fault_of_design (design_of_raw (flatten text)) ≡ None → AreFilled (design_of_raw (flatten text)) → HasTextRuns text }
+{
+    layers_are_same();
+    left_sides_have_no_fewer();
+    left_sides_stay_whole();
+    runs_exist();
+    families_are_the_same();
+    families_are_found();
+    spelled_texts_are_written();
+    expressions_are_right();
+    definitions_allow_as_the_text();
+    what_has_no_definition_is_free();
+    allowed_values_are_the_same();
 }
