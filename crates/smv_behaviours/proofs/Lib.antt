@@ -2,3 +2,4 @@ pub mod FirstFound
 pub mod FirstHeads
 pub mod SameLayers
 pub mod SetSizes
+mod WorkedText

@@ -1,1 +1,2 @@
 pub mod TextRuns
+pub mod WorkedText

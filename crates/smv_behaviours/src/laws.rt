@@ -12,10 +12,10 @@ ghost use Rattle.smv_behaviours.specs.TextRuns.{HasTextRuns};
 
 use smv_exact::laws::{left_sides_have_no_fewer, well_kinded_behaviours_are_kept};
 use smv_extend::laws::{families_are_found, left_sides_stay_whole, runs_exist};
-use smv_flat::laws::{
-    allowed_values_are_the_same, families_are_the_same, statements_are_the_same,
+use smv_flat::laws::{families_are_the_same, statements_are_the_same};
+use smv_right::laws::{
+    allowed_values_are_the_same, expressions_are_right, spelled_texts_are_written,
 };
-use smv_right::laws::{expressions_are_right, spelled_texts_are_written};
 use smv_single::laws::{
     definitions_allow_as_the_text, definitions_are_in_order, what_has_no_definition_is_free,
 };
