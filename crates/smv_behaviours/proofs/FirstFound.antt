@@ -1,11 +1,10 @@
 -- The first of a list that passes a test: in two lists side by side, and of definitions that stand in order.
-use Rattle.std.proofs.Common.{◌≡◌, ℕ, ◌<◌, List, [], ◌∷◌, ◌++◌, map, filter, find, Option, Some, None, option_map, is_some, Bool, true, false, not, ◌&&◌, ◌||◌, cond, nat_lt, refl, sym, ap, subst, ◌∙◌, arith}
-use Rattle.std.specs.List.{list_any, list_all, AllZip}
+use Rattle.std.proofs.Common.{◌≡◌, List, [], ◌∷◌, ◌++◌, map, filter, find, Option, Some, None, option_map, is_some, Bool, true, false, not, ◌&&◌, ◌||◌, cond, nat_lt, refl, sym, ap, ◌∙◌, arith}
+use Rattle.std.specs.List.{list_any, AllZip}
 use Rattle.std.proofs.lemmas.Bool.Decides.{nat_tests}
 use Rattle.smv_core.specs.declared.flat.Def.{Def}
 use Rattle.smv_flat.specs.Flattening.{different}
 use Rattle.smv_single.specs.Laws.{AreInOrder}
-use Rattle.smv_abs.specs.Sets.{Has}
 use Rattle.smv_oblig.specs.Outlines.{earlier, earliest}
 use Rattle.smv_oblig.proofs.Lookups.{find-some}
 use Rattle.smv_extend.proofs.Lists.{all-each}

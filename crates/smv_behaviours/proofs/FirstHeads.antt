@@ -1,27 +1,26 @@
 -- The first assignment of a family in a flattened text stands in the first statement that assigns the family; and the definition made from it has an assignment.
-use Rattle.std.proofs.Common.{◌≡◌, ℕ, zero, suc, ◌+◌, List, [], ◌∷◌, ◌++◌, map, filter, find, zip, length, Option, Some, None, option_map, is_some, Bool, true, false, ◌&&◌, cond, nat_eq, refl, sym, ap, subst, ◌∙◌, ◌⊎◌, inl, inr}
+use Rattle.std.proofs.Common.{◌≡◌, ℕ, ◌+◌, List, [], ◌∷◌, ◌++◌, map, find, zip, length, Option, Some, None, is_some, Bool, true, cond, nat_eq, refl, sym, ap, subst, ◌∙◌, inl, inr}
 use Rattle.std.specs.List.{flat_map, list_any, list_all, AllZip}
 use Rattle.std.specs.Option.{option_or}
 use Rattle.std.proofs.lemmas.List.Folds.{find-append}
-use Rattle.smv_core.specs.Values.{Value, numbers_from}
+use Rattle.smv_core.specs.Values.{numbers_from}
 use Rattle.smv_core.specs.Walk.{same_kind}
 use Rattle.smv_core.specs.Assignments.{Index, fits}
-use Rattle.smv_core.specs.Flat.{FlatElement, indexes_assigned, indexes_assigned_in, is_concerned_by}
+use Rattle.smv_core.specs.Flat.{FlatElement, indexes_assigned, indexes_assigned_in}
 use Rattle.smv_core.specs.declared.tree.Kind.{Kind}
 use Rattle.smv_core.specs.declared.tree.Kind.TheVariants.{Comb, Init, Next}
 use Rattle.smv_core.specs.declared.flat.Flat.{Flat, Nothing, Assign, If', First', Forall', Row_of-Flat, end_of-Flat, more_of-Flat}
 use Rattle.smv_core.specs.declared.flat.FlatStmt.{FlatStmt, Row_of-FlatStmt, end_of-FlatStmt, more_of-FlatStmt}
 use Rattle.smv_core.specs.declared.flat.FlatStmt as stmt
-use Rattle.smv_core.specs.declared.flat.Def.{Def}
 use Rattle.smv_core.specs.declared.flat.Raw.{Raw}
 use Rattle.smv_flat.specs.Flattening.{FlatAssigned, flat_assignments, flat_assignments_in}
 use Rattle.smv_flat.specs.RawAllowed.{flat_concerns}
 use Rattle.smv_flat.specs.WholeText.{is_one_layer}
-use Rattle.smv_single.specs.Standing.{count, Statement, statements_of, Standing, standing, standing_in, assigned_by}
+use Rattle.smv_single.specs.Standing.{Statement, statements_of, Standing, standing, standing_in, assigned_by}
 use Rattle.smv_single.specs.Definitions.{flat_of, set_of, part_of, Head, head, heads_of, def_of}
 use Rattle.smv_single.proofs.FlatParts.{indexes-first_part}
 use Rattle.smv_single.proofs.SameResults.{concerned-same}
-use Rattle.smv_abs.specs.Sets.{Has, first, later}
+use Rattle.smv_abs.specs.Sets.{Has, first}
 use Rattle.smv_delay.specs.Reading.{Reference, references, Reading, readings, readings_of}
 use Rattle.smv_delay.specs.LayerFaults.{assignments_of}
 use Rattle.smv_extend.proofs.Lists.{both_true, Has-left, Has-right, Has-cases, Has-map, Has-flat_map, Has-filter, any-found, any-some, nat_eq-itself}
@@ -60,15 +59,16 @@ module _ (layer : Option ℕ) where
 
 -- ---- the first assignment of a family
 
+-- it stands in the statement's layer
+abbrev pub IsAt : Head → Statement → Type 0
+IsAt h s = h.layer ≡ s.layer
+
 module _ (family : ℕ) where
   abbrev pub is_head_of : Head → Bool
   is_head_of h = nat_eq h.family family
 
   abbrev pub assigns : Statement → Bool
   assigns s = list_any (λ (a : FlatAssigned). nat_eq a.family family) (flat_assignments s.act)
-
-  abbrev IsAt : Head → Statement → Type 0
-  IsAt h s = h.layer ≡ s.layer
 
   pub first-head : (set : List Statement) → FindAlike IsAt (find is_head_of (flat_map heads_of set)) (find assigns set)
   first-head [] = tt

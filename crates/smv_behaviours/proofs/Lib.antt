@@ -2,4 +2,4 @@ pub mod FirstFound
 pub mod FirstHeads
 pub mod SameLayers
 pub mod SetSizes
-mod WorkedText
+pub mod WorkedText

@@ -1,11 +1,9 @@
 -- The layer that defines an abstract family first in a text is that of its base definition in the design.
-use Rattle.std.proofs.Common.{◌≡◌, ℕ, ◌+◌, List, [], ◌∷◌, ◌++◌, map, flat_map, filter, find, Option, Some, None, option_map, is_some, is_none, Bool, true, false, ◌&&◌, ◌||◌, cond, nat_eq, refl, sym, ap, subst, ◌∙◌, slice_get}
-use Rattle.std.specs.List.{list_any, AllZip}
-use Rattle.smv_core.specs.Types.{Family}
-use Rattle.smv_core.specs.FlatOrder.{Design, Said, design_of}
+use Rattle.std.proofs.Common.{◌≡◌, ℕ, ◌+◌, List, [], ◌∷◌, ◌++◌, flat_map, find, Option, Some, None, option_map, is_some, is_none, Bool, true, false, ◌&&◌, ◌||◌, cond, nat_eq, refl, sym, ap, subst, ◌∙◌, slice_get}
+use Rattle.std.specs.List.{AllZip}
+use Rattle.smv_core.specs.FlatOrder.{Said, design_of}
 use Rattle.smv_core.specs.Values.{Name, Sizes}
-use Rattle.smv_core.specs.Allowed.{Base, base_of, layer_that_defines, said_in, is_defined_by}
-use Rattle.smv_core.specs.declared.fault.Fault.{Fault}
+use Rattle.smv_core.specs.Allowed.{layer_that_defines, said_in, is_defined_by}
 use Rattle.smv_core.specs.declared.tree.Text.{Text}
 use Rattle.smv_core.specs.declared.flat.Family.{Family as FlatFamily}
 use Rattle.smv_core.specs.declared.flat.FlatItem.{FlatItem}
@@ -21,7 +19,7 @@ use Rattle.smv_flat.specs.WholeText.{is_one_layer}
 use Rattle.smv_single.specs.Standing.{count, Statement, statements_from, statements_of}
 use Rattle.smv_single.specs.Definitions.{Head, heads_of, same_definition, first_heads, def_of, design_of_raw}
 use Rattle.smv_single.specs.Laws.{AreInOrder}
-use Rattle.smv_abs.specs.Sets.{Has, first, later}
+use Rattle.smv_abs.specs.Sets.{Has}
 use Rattle.smv_oblig.specs.Outlines as outline
 use Rattle.smv_oblig.specs.Outlines.{may_be_base}
 use Rattle.smv_oblig.proofs.Lookups.{find-some}
@@ -29,11 +27,11 @@ use Rattle.smv_delay.specs.Reading.{Reading}
 use Rattle.smv_delay.specs.LayerFaults.{is_abstract, assignments_of, outside_layers, leaking, assigned_outside}
 use Rattle.smv_delay.specs.FirstFault.{first_fault_of_layers}
 use Rattle.smv_extend.specs.TextExtension.{FamiliesAreFound, IsSameLayer, LayersAreSame}
-use Rattle.smv_extend.proofs.Lists.{clash, inner, right_of, none_passes, Has-map, Has-filter, Has-flat_map, nat_eq-is}
+use Rattle.smv_extend.proofs.Lists.{clash, right_of, none_passes, Has-map, Has-filter, Has-flat_map, nat_eq-is}
 use Rattle.smv_extend.proofs.Faultless.{nil-left, nil-right, nil-map, no-faults, is_its}
 use Rattle.smv_extend.proofs.Texts.{zip_right}
 use Rattle.smv_behaviours.proofs.FirstFound.{FindAlike, find-zip, find-map, find-same, find-both, find-neither, find-different, earliest-is-first}
-use Rattle.smv_behaviours.proofs.FirstHeads.{is_head_of, assigns, first-head, has_assignment}
+use Rattle.smv_behaviours.proofs.FirstHeads.{IsAt, is_head_of, assigns, first-head, has_assignment}
 
 -- the statements beside those of the text
 statements-zip : (text : Text) (k : ℕ) (items : List FlatItem) (said : List Said) → AllZip (IsSameAct text) (layered_acts items) said → AllZip (λ (s : Statement) x. IsSameAct text (s.layer, s.act) x) (statements_from k items) said
@@ -104,9 +102,6 @@ module _ (text : Text) (sizes : Sizes) (families : AllZip (IsSameFamily (numbers
 
   abbrev Beside : Statement → Said → Type 0
   Beside s x = IsSameAct text (s.layer, s.act) x
-
-  abbrev IsAt : Head → Statement → Type 0
-  IsAt h s = h.layer ≡ s.layer
 
   pub same_layers : LayersAreSame text
   same_layers k f is is_abs =

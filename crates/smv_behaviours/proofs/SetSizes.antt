@@ -1,5 +1,5 @@
 -- Sizes of a text are those of its design, where the text has no reversed range.
-use Rattle.std.proofs.Common.{◌≡◌, ℕ, ◌+◌, ◌-◌, ◌<◌, ◌≤◌, List, [], ◌∷◌, ◌++◌, flat_map, All, Option, Some, None, IfSome, Bool, true, false, ◌||◌, nat_lt, refl, sym, subst, arith}
+use Rattle.std.proofs.Common.{◌≡◌, ℕ, ◌<◌, ◌≤◌, List, [], ◌∷◌, ◌++◌, flat_map, All, Some, None, IfSome, Bool, true, false, ◌||◌, nat_lt, refl, arith}
 use Rattle.std.proofs.lemmas.Bool.Decides.{nat_tests}
 use Rattle.smv_core.specs.Values.{Name, Sizes}
 use Rattle.smv_core.specs.Types.{IsSizedTop}
@@ -11,7 +11,6 @@ use Rattle.smv_core.specs.declared.tree.Top.TheVariants.{SetType, Alias, Module}
 use Rattle.smv_core.specs.declared.flat.SetInfo.{SetInfo}
 use Rattle.smv_inst.specs.Scopes.{Constant, constants, pieces}
 use Rattle.smv_inst.specs.NameFaults.{place_if}
-use Rattle.smv_inst.specs.FirstFault.{faults_at}
 use Rattle.smv_types.specs.Types as kinds
 use Rattle.smv_types.specs.Types.{is_reversed, range_faults, types_after}
 use Rattle.smv_types.specs.References as kinds_of

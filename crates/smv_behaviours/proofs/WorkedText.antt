@@ -1,5 +1,5 @@
 -- By computing the base definitions of the worked text, and what they allow.
-use Rattle.std.proofs.Common.{◌≡◌, zero, suc, ◌<◌, List, [], ◌∷◌, Option, Some, None, All, Contains, refl, arith}
+use Rattle.std.proofs.Common.{zero, suc, List, [], ◌∷◌, Option, Some, None, All, Contains, refl, arith}
 use Rattle.smv_core.specs.FlatOrder.{design_of}
 use Rattle.smv_core.specs.Values.{Value, Sizes, number, values_of}
 use Rattle.smv_core.specs.Types.{Family}
@@ -13,7 +13,7 @@ unfoldable computing : Unit {0}
 unfolding Rattle.smv_core.specs.declared.tree.Expr.TheBlock.hidden-the_row-Part-0 Rattle.smv_core.specs.declared.tree.Expr.TheBlock.shape-the_row-Part-0 Rattle.smv_core.specs.declared.tree.Stmt.TheBlock.hidden-the_row-Stmt-0 Rattle.smv_core.specs.declared.tree.Stmt.TheBlock.shape-the_row-Stmt-0 Rattle.smv_core.specs.declared.tree.Item.TheBlock.hidden-the_row-Item-0 Rattle.smv_core.specs.declared.tree.Item.TheBlock.shape-the_row-Item-0 Rattle.smv_core.specs.declared.flat.FlatStmt.TheBlock.hidden-the_row-FlatStmt-0 Rattle.smv_core.specs.declared.flat.FlatStmt.TheBlock.shape-the_row-FlatStmt-0 Rattle.smv_core.specs.declared.flat.Flat.TheBlock.hidden-the_row-Flat-0 Rattle.smv_core.specs.declared.flat.Flat.TheBlock.shape-the_row-Flat-0 denote.Hole.Carrier.hidden
 computing = tt
 
-takes_the_first : TakesTheFirst
+pub takes_the_first : TakesTheFirst
 unfolding computing
 takes_the_first = (refl, refl, refl, refl)
 
@@ -43,9 +43,9 @@ module _ (sizes : Sizes) where
   only_one (zero, l, e) = cc
   only_one (suc k, l, e) = omega (arith, l)
 
-runs_are_of_the_first : RunsAreOfTheFirst
+pub runs_are_of_the_first : RunsAreOfTheFirst
 unfolding computing
 runs_are_of_the_first sizes = (
-    (all-two (IsTyped (design_of two_layers) sizes) (all_of 1) (all_of 1) (typed sizes) (typed sizes), (meets sizes None, (meets sizes (Some (all_of 1)), tt))),
-    λ run. only_one sizes (run.1.1.0 0 the_signal (omega arith) 0 [] (omega arith)),
+  (all-two (IsTyped (design_of two_layers) sizes) (all_of 1) (all_of 1) (typed sizes) (typed sizes), (meets sizes None, (meets sizes (Some (all_of 1)), tt))),
+  λ run. only_one sizes (run.1.1.0 0 the_signal (omega arith) 0 [] (omega arith)),
 )

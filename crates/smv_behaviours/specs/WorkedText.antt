@@ -1,6 +1,6 @@
 -- A worked text, with one abstract signal in two layers.
-use Rattle.std.specs.Prelude.{◌≡◌, ℕ, true, List, [], ◌∷◌, codes, Option, Some, None, option_map}
-use Rattle.smv_core.specs.Values.{Name, Value, number, Sizes, range}
+use Rattle.std.specs.Prelude.{◌≡◌, ℕ, true, List, [], ◌∷◌, codes, Some, None, option_map}
+use Rattle.smv_core.specs.Values.{number, Sizes, range}
 use Rattle.smv_core.specs.Types.{Family}
 use Rattle.smv_core.specs.FlatOrder.{design_of}
 use Rattle.smv_core.specs.Outcome.{State}
@@ -22,7 +22,6 @@ use Rattle.smv_flat.specs.Flattening.{flatten}
 use Rattle.smv_single.specs.Definitions.{design_of_raw}
 use Rattle.smv_oblig.specs.Outlines as outline
 use Rattle.smv_delay.specs.FirstFault.{first_fault_of_design}
-use Rattle.smv_extend.specs.TextExtension.{IsSameLayer}
 
 abbrev word : List ℕ → Word
 word name = record { name = name; at = 0 }

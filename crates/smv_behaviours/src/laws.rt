@@ -9,6 +9,7 @@ ghost use Rattle.smv_delay.specs.FirstFault.{first_fault_of_design, first_fault_
 ghost use Rattle.smv_extend.specs.Extension.{AreFilled};
 ghost use Rattle.smv_extend.specs.TextExtension.{KeepsTextBehaviours, LayersAreSame};
 ghost use Rattle.smv_behaviours.specs.TextRuns.{HasTextRuns};
+ghost use Rattle.smv_behaviours.specs.WorkedText.{RunsAreOfTheFirst, TakesTheFirst};
 
 use smv_exact::laws::{left_sides_have_no_fewer, well_kinded_behaviours_are_kept};
 use smv_extend::laws::{families_are_found, left_sides_stay_whole, runs_exist};
@@ -54,3 +55,9 @@ pub fn texts_have_runs()
     what_has_no_definition_is_free();
     allowed_values_are_the_same();
 }
+
+/// Of two layers that define an abstract signal the one that stands first in the text gives its base definition, and runs keep to that.
+pub fn worked_text()
+    ensures base_definitions { TakesTheFirst }
+    ensures runs { RunsAreOfTheFirst }
+{}

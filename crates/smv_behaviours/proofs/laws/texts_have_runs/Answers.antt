@@ -1,4 +1,4 @@
-use Rattle.std.proofs.Common.{◌≡◌, ◌<◌, ℕ, None, List, length, map, sym, subst, ◌∙◌}
+use Rattle.std.proofs.Common.{◌≡◌, ◌<◌, None, List, length, map, sym, subst, ◌∙◌}
 use Rattle.std.proofs.lemmas.List.{length-map}
 use Rattle.smv_core.specs.Flat.{FlatState}
 use Rattle.smv_core.specs.declared.flat.Design.{Design}
@@ -25,6 +25,6 @@ returns c = λ text well none filled sizes are times some.
       map (to_text text sizes families found) run.0,
       length-map run.0 (to_text text sizes families found) ∙ run.1,
       text_run text sizes families found (c.definitions_allow_as_the_text.ensures text named right) (is_faultless d none) (c.layers_are_same.ensures text named (or_else-none _ _ none).1)
-      (c.what_has_no_definition_is_free.ensures (flatten text)) (λ x h e before fore b s t states. c.allowed_values_are_the_same.ensures text well sizes None x h e before fore b s t states)
-      run.0 (subst (λ k. 0 < k) (sym run.1) some) run.2,
+          (c.what_has_no_definition_is_free.ensures (flatten text)) (λ x h e before fore b s t states. c.allowed_values_are_the_same.ensures text well sizes None x h e before fore b s t states)
+          run.0 (subst (λ k. 0 < k) (sym run.1) some) run.2,
     )
