@@ -1,3 +1,4 @@
 pub mod ReachLaws
 pub mod SearchLaws
 pub mod RankLaws
+pub mod OrderLaws

@@ -12,20 +12,20 @@ use Rattle.graphs.specs.Search.{IsSeen, Waits, IsPassed, Search, Saw}
 use Rattle.graphs.proofs.ReachLaws.{reaches-closed, reaches-more, reaches-at_most, reaches-same}
 
 -- what was seen stays seen
-seen_kept : (seen : List Bool) (node x : ℕ) → IsSeen seen x → IsSeen (set seen node true) x
+pub seen_kept : (seen : List Bool) (node x : ℕ) → IsSeen seen x → IsSeen (set seen node true) x
 seen_kept seen node x e = grind (arith, common_steps)
 
-seen_new : (seen : List Bool) (node : ℕ) → node < length seen → IsSeen (set seen node true) node
+pub seen_new : (seen : List Bool) (node : ℕ) → node < length seen → IsSeen (set seen node true) node
 seen_new seen node h = grind (arith, common_steps)
 
 -- what is seen then is the node or was seen
-seen_which : (seen : List Bool) (node x : ℕ) → IsSeen (set seen node true) x → (x ≡ node) ⊎ IsSeen seen x
+pub seen_which : (seen : List Bool) (node x : ℕ) → IsSeen (set seen node true) x → (x ≡ node) ⊎ IsSeen seen x
 seen_which seen node x e = elim (cases_eq x node) [
   | inl same ↦ inl same
   | inr other ↦ inr (sym (get_or-set_other seen node x true false other) ∙ e)
 ]
 
-counted_step : (seen : List Bool) (node : ℕ) → node < length seen → get_or seen node false ≡ false → count_by (λ flag. flag) (set seen node true) ≡ count_by (λ flag. flag) seen + 1
+pub counted_step : (seen : List Bool) (node : ℕ) → node < length seen → get_or seen node false ≡ false → count_by (λ flag. flag) (set seen node true) ≡ count_by (λ flag. flag) seen + 1
 counted_step seen node h e = grind (arith, common_steps, sum_by-set (λ (flag : Bool). cond flag 1 0) seen node true false h)
 
 -- what is seen is a node
@@ -36,13 +36,13 @@ seen_within seen x e = elim (cases_lt x (length seen)) [
 ]
 
 -- the queue with one more
-queue_front : (queue : List ℕ) (node k : ℕ) → k < length queue → get_or (queue ++ node ∷ []) k 0 ≡ get_or queue k 0
+pub queue_front : (queue : List ℕ) (node k : ℕ) → k < length queue → get_or (queue ++ node ∷ []) k 0 ≡ get_or queue k 0
 queue_front queue node k h = grind (arith, common_steps)
 
-queue_last : (queue : List ℕ) (node : ℕ) → get_or (queue ++ node ∷ []) (length queue) 0 ≡ node
+pub queue_last : (queue : List ℕ) (node : ℕ) → get_or (queue ++ node ∷ []) (length queue) 0 ≡ node
 queue_last queue node = grind (arith, common_steps)
 
-queue_longer : (queue : List ℕ) (node : ℕ) → length (queue ++ node ∷ []) ≡ length queue + 1
+pub queue_longer : (queue : List ℕ) (node : ℕ) → length (queue ++ node ∷ []) ≡ length queue + 1
 queue_longer queue node = grind (arith, common_steps)
 
 module _ (graph : List (List ℕ)) (start target turn most : ℕ) (seen : List Bool) (queue : List ℕ) (node : ℕ) (within : node < length seen) (fresh : get_or seen node false ≡ false) (before : turn ≤ length queue) (is_reached : reaches graph most node start ≡ true) (s : Search graph start target turn most seen queue) where
@@ -146,7 +146,7 @@ saw_more nodes i seen mid after queue longer longest h first last = record {
 pub saw_all : (nodes : List ℕ) (i : ℕ) (seen after : List Bool) (queue longer : List ℕ) → length nodes ≤ i → Saw (take i nodes) seen after queue longer → Saw nodes seen after queue longer
 saw_all nodes i seen after queue longer h s = subst (λ l. Saw l seen after queue longer) (take_all i nodes h) s
 
-none_counted : (n : ℕ) → count_by (λ flag. flag) (replicate n false) ≡ 0
+pub none_counted : (n : ℕ) → count_by (λ flag. flag) (replicate n false) ≡ 0
 none_counted n = sum_by-replicate (λ (flag : Bool). cond flag 1 0) n false ∙ (omega arith)
 
 -- no node was seen

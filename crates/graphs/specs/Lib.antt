@@ -1,3 +1,4 @@
 pub mod Graph
 pub mod Search
 pub mod Ranks
+pub mod Placed

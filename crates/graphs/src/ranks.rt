@@ -1,10 +1,13 @@
 // Ranks of nodes, by which cycles are ruled out without a search.
-ghost use Rattle.std.specs.Prelude.{◌≡◌, ℕ, ◌<◌, ◌≤◌, length, true, slice_index_or, IfOk};
+ghost use Rattle.std.specs.Prelude.{◌≡◌, ℕ, ◌<◌, ◌≤◌, length, true, false, slice_index_or, IfOk, MatchBool};
+ghost use Rattle.std.specs.List.{All, Any};
 ghost use Rattle.graphs.specs.Graph.{next, lists, reaches, IsGraph};
-ghost use Rattle.graphs.specs.Ranks.{rank, IsNoneAbove, Descends};
+ghost use Rattle.graphs.specs.Ranks.{rank, IsNoneAbove, Descends, IsOrder};
+ghost use Rattle.graphs.specs.Search.{IsSeen};
+ghost use Rattle.graphs.specs.Placed.{HasNone, Placed, Came};
 
 use crate::reach;
-use crate::reach::edges;
+use crate::reach::{edges, unseen};
 use std::alloc::{AllocError, Global};
 
 /// Ranks that no edge raises. Where the graph has no cycle, each edge lowers them.
@@ -80,8 +83,82 @@ fn ranks_of(alloc: Global, nodes: usize, order: &[usize]) -> Result<Vec<usize>, 
     Ok(ranks)
 }
 
-/// The nodes that lead to no cycle, each behind all to which it has an edge. It is an order to try: nothing rests on it.
-pub fn order(alloc: Global, graph: &[Vec<usize>]) -> Result<Vec<usize>, AllocError> {
+/// The nodes that lead to no cycle, each behind all to which it has an edge.
+pub fn order(alloc: Global, graph: &[Vec<usize>]) -> Result<Vec<usize>, AllocError>
+    ensures { IfOk result (λ order. IsOrder (lists graph.now) order.items) }
+{
+    let tried = tried(alloc, graph)?;
+    let mut placed = unseen(alloc, graph.len())?;
+    let mut order = Vec::new(alloc);
+    for node in &tried {
+        if *node < graph.len() {
+            place(graph, &mut placed, &mut order, *node)?;
+        }
+    }
+    'rounds: loop {
+        if !place_all(graph, &mut placed, &mut order)? {
+            return Ok(order);
+        }
+    }
+}
+
+// A round: each node that can come next comes. Whether one came.
+fn place_all(
+    graph: &[Vec<usize>],
+    placed: &mut Vec<bool>,
+    order: &mut Vec<usize>,
+) -> Result<bool, AllocError>
+    requires { Placed (lists graph.now) placed.old.items order.old.items }
+    ensures { IfOk result (λ came. Came (lists graph.now) (λ x. x < length graph.now) placed.old.items placed.new.items order.old.items order.new.items came) }
+{
+    let mut came = false;
+    for node in 0..graph.len() {
+        if place(graph, placed, order, node)? {
+            came = true;
+        }
+    }
+    Ok(came)
+}
+
+// A node comes next, where it has no place yet and each to which it has an edge has one. Whether it came.
+fn place(
+    graph: &[Vec<usize>],
+    placed: &mut Vec<bool>,
+    order: &mut Vec<usize>,
+    node: usize,
+) -> Result<bool, AllocError>
+    requires so_far { Placed (lists graph.now) placed.old.items order.old.items }
+    requires node { node < length graph.now }
+    ensures { IfOk result (λ came. Came (lists graph.now) (λ x. x ≡ node) placed.old.items placed.new.items order.old.items order.new.items came) }
+{
+    if placed[node] || !all_placed(placed.as_slice(), edges(graph, node)) {
+        return Ok(false);
+    }
+    order.push(node)?;
+    placed[node] = true;
+    Ok(true)
+}
+
+// Whether each of these nodes has a place.
+fn all_placed(placed: &[bool], nodes: &[usize]) -> bool
+    ensures { MatchBool result (All (IsSeen placed.now) nodes.now) (Any (HasNone placed.now) nodes.now) }
+{
+    for node in nodes {
+        if !has_place(placed, *node) {
+            return false;
+        }
+    }
+    true
+}
+
+fn has_place(placed: &[bool], node: usize) -> bool
+    ensures { result ≡ slice_index_or placed.now node false }
+{
+    placed.get(node).copied().unwrap_or(false)
+}
+
+// The nodes that lead to no cycle, each behind all to which it has an edge. It is an order to try: nothing rests on it.
+fn tried(alloc: Global, graph: &[Vec<usize>]) -> Result<Vec<usize>, AllocError> {
     let users = users(alloc, graph)?;
     let mut open = Vec::new(alloc);
     let mut order = Vec::new(alloc);

@@ -32,8 +32,8 @@ pub fn reaches(
     Ok(false)
 }
 
-// No node was seen.
-fn unseen(alloc: Global, nodes: usize) -> Result<Vec<bool>, AllocError>
+/// No node was seen.
+pub fn unseen(alloc: Global, nodes: usize) -> Result<Vec<bool>, AllocError>
     ensures { IfOk result (λ seen. seen.items ≡ replicate nodes false) }
 {
     vec![in alloc; false; nodes]
