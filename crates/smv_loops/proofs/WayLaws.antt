@@ -2,7 +2,7 @@
 use Rattle.std.proofs.Common.{◌≡◌, ℕ, zero, suc, ◌+◌, ◌-◌, ◌*◌, ◌<◌, ◌≤◌, List, [], ◌∷◌, ◌++◌, map, filter, length, get_or, slice_get, take, drop, Option, Some, None, refl, sym, ap, ◌∙◌, arith}
 use Rattle.std.specs.List.{flat_map}
 use Rattle.std.specs.Global.{Vec}
-use Rattle.std.proofs.lemmas.List.{map-append, append-nil, append_assoc}
+use Rattle.std.proofs.lemmas.List.{map-append, append-nil, append_assoc, take_all}
 use Rattle.std.proofs.lemmas.List.Concat.{flat_map-append}
 use Rattle.smv_core.specs.Values.{number, numbers_from}
 use Rattle.smv_core.specs.Assignments.{computed, fits}
@@ -30,10 +30,29 @@ one-number low k out new le so_far is =
     let m : low + (k - low) ≡ k = omega arith in
     is ∙ ap (λ l. l ++ Some k ∷ []) so_far ∙ ap (λ j. map Some (numbers_from low (k - low)) ++ Some j ∷ []) (sym m) ∙ sym (map-append Some (numbers_from low (k - low)) ((low + (k - low)) ∷ [])) ∙ ap (map Some) (sym (numbers-more low (k - low))) ∙ ap (λ n. map Some (numbers_from low n)) (sym n)
 
-module _ (h : Cell → Listed) where
-  pub family-more : (k : ℕ) (f : Family) (before : List (List (Option ℕ))) (list : List (Option ℕ)) → map h (map (λ (is : List (Option ℕ)). record { family = k; indexes = is }) (before ++ list ∷ [])) ≡ map h (map (λ (is : List (Option ℕ)). record { family = k; indexes = is }) before) ++ h (record { family = k; indexes = list }) ∷ []
-  family-more k f before list =
-      ap (map h) (map-append (λ (is : List (Option ℕ)). record { family = k; indexes = is }) before (list ∷ [])) ∙ map-append h (map (λ (is : List (Option ℕ)). record { family = k; indexes = is }) before) (record { family = k; indexes = list } ∷ [])
+abbrev cell_at : ℕ → List (Option ℕ) → Cell
+cell_at k is = record { family = k; indexes = is }
+
+module _ (h : Cell → Listed) (k : ℕ) where
+  family-more : (before : List (List (Option ℕ))) (list : List (Option ℕ)) → map h (map (cell_at k) (before ++ list ∷ [])) ≡ map h (map (cell_at k) before) ++ h (cell_at k list) ∷ []
+  family-more before list = ap (map h) (map-append (cell_at k) before (list ∷ [])) ∙ map-append h (map (cell_at k) before) (cell_at k list ∷ [])
+
+  -- the cell of one more list
+  pub list-more : (items : List (Vec (Option ℕ))) (i : ℕ) (list : Vec (Option ℕ)) (start out new : List Listed) (cell : Listed) → i < length items → list ≡ get_or items i list → out ≡ start ++ map h (map (cell_at k) (lists_of (take i items))) → cell ≡ h (cell_at k list.items) → new ≡ out ++ cell ∷ []
+      → new ≡ start ++ map h (map (cell_at k) (lists_of (take (i + 1) items)))
+  list-more items i list start out new cell l e so_far here is =
+      is ∙ ap (λ o. o ++ cell ∷ []) so_far ∙ append_assoc start (map h (map (cell_at k) (lists_of (take i items)))) (cell ∷ [])
+      ∙ ap (λ l. start ++ l) (
+        ap (λ c. map h (map (cell_at k) (lists_of (take i items))) ++ c ∷ []) here ∙ sym (family-more (lists_of (take i items)) list.items)
+        ∙ ap (λ l. map h (map (cell_at k) l)) (sym (map-append (λ (list : Vec (Option ℕ)). list.items) (take i items) (list ∷ [])) ∙ ap lists_of (sym (take-more items i list l e)))
+      )
+
+  -- the cells of a family
+  pub list-all : (f : Family) (over : List Simple) (items : List (Vec (Option ℕ))) (n : ℕ) (start out : List Listed) → length items ≤ n → lists_of items ≡ every_way over → over ≡ f.over → out ≡ start ++ map h (map (cell_at k) (lists_of (take n items))) → out ≡ start ++ map h (cells_in k f)
+  list-all f over items n start out l e same so_far = so_far ∙ ap (λ ls. start ++ map h (map (cell_at k) ls)) (ap lists_of (take_all n items l) ∙ e ∙ ap every_way same)
+
+pub over-same : (families : List Family) (k : ℕ) (f g : Family) → slice_get families k ≡ Some f → slice_get families k ≡ Some g → f.over ≡ g.over
+over-same families k f g e d = let same : f ≡ g = cc in ap (λ (f : Family). f.over) same
 
 -- ---- the cells of families
 
