@@ -17,15 +17,10 @@ use Rattle.smv_loops.specs.Held.{assigned_in}
 use Rattle.smv_loops.specs.Cells.{base, number_in, froms, tos}
 use Rattle.smv_loops.specs.Edges.{AreLinks, AllLinks, edges_at, IsFirst}
 use Rattle.smv_loops.proofs.Members.{In, in-get_or, in-mapped, in-same}
+use Rattle.smv_loops.proofs.Slices.{take-more}
 use Rattle.smv_loops.proofs.TableLaws.{table_from, length-table, get-from, get-to, get-inside}
-use Rattle.smv_loops.proofs.CycleLaws.{none-held, one-held, fewer-edges}
-
-take-more : {X : Type 0} (xs : List X) (i : ℕ) (x : X) → i < length xs → x ≡ get_or xs i x → take (i + 1) xs ≡ take i xs ++ x ∷ []
-take-more [] i x l e = absurd (omega (arith, l))
-take-more (y ∷ ys) zero x l e = ap (λ z. z ∷ []) (sym e)
-take-more (y ∷ ys) (suc i) x l e =
-    let n : suc i + 1 ≡ suc (i + 1) = omega arith in
-    ap (λ n. take n (y ∷ ys)) n ∙ ap (λ l. y ∷ l) (take-more ys i x (omega (arith, l)) e)
+use Rattle.smv_loops.proofs.RankLaws.{clash}
+use Rattle.smv_loops.proofs.CycleLaws.{none-held, one-held, edge-falls, fewer-edges}
 
 module _ (families : List Family) where
   abbrev all_cells : ℕ
@@ -43,6 +38,22 @@ module _ (families : List Family) where
   decided cells links ranks readings false e below s all some none =
       let r = s.room in
       sym (none-held families cells ranks links readings all below s.fall (λ cell l. none refl cell (omega (arith, l, r))))
+
+  module _ (cells : ℕ) (links : List Links) (ranks : List ℕ) (readings : List Reading) (e : cells ≡ base families (length families)) (s : AreSettled cells links ranks) (all : AllLinks families links readings) (none : hold_a_cycle (flat_map (edges_at families) readings) ≡ false) where
+    -- without a cycle each cell has a rank
+    all-ranked : (cell : ℕ) → cell < cells → 0 < rank ranks cell
+    all-ranked cell l = by (rank ranks cell) refl
+      where
+        by : (r : ℕ) → rank ranks cell ≡ r → 0 < r
+        by zero z =
+            let t = length-table 0 families in
+            let held = one-held families cells ranks links readings all (table_from 0 families) (omega (arith, t, e)) (get-from families) (get-to families) s.stuck cell l z in
+            absurd (clash held none)
+        by (suc r) z = omega arith
+
+    -- and each edge leads to a smaller one
+    pub edges-fall : AreBelow cells links → (edge : Edge) → In edge (flat_map (edges_at families) readings) → rank ranks (number_in families edge.1) < rank ranks (number_in families edge.0)
+    edges-fall below edge i = edge-falls families cells ranks links readings all below s.fall all-ranked edge i
 
   -- ---- links side by side
 

@@ -123,7 +123,7 @@ module _ (families : List Family) where
     abbrev ranked : Cell → ℕ
     ranked c = rank ranks (num c)
 
-    edge-falls : AreBelow cells links → All (Falls ranks) links → ((cell : ℕ) → cell < cells → 0 < rank ranks cell) → (e : Edge) → In e all_edges → ranked e.1 < ranked e.0
+    pub edge-falls : AreBelow cells links → All (Falls ranks) links → ((cell : ℕ) → cell < cells → 0 < rank ranks cell) → (e : Edge) → In e all_edges → ranked e.1 < ranked e.0
     edge-falls below fall all e i =
         let r = in-flat_mapped (edges_at families) e readings i in
         let ends = edge-of r.0 e r.2 in

@@ -11,3 +11,5 @@ pub mod Slices
 pub mod TableLaws
 pub mod SortLaws
 pub mod ClosingLaws
+pub mod WayLaws
+pub mod OrderLaws

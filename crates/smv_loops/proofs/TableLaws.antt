@@ -74,7 +74,7 @@ get-number (suc n) low k (inr h) =
     let z : k - low ≡ suc (k - (low + 1)) = omega (arith, l) in
     ap (slice_get (numbers_from low (suc n))) z ∙ get-number n (low + 1) k h
 
-all-fit : (ks : List ℕ) → filter (λ k. fits computed (number k)) ks ≡ ks
+pub all-fit : (ks : List ℕ) → filter (λ k. fits computed (number k)) ks ≡ ks
 all-fit [] = refl
 all-fit (k ∷ ks) = ap (λ l. k ∷ l) (all-fit ks)
 

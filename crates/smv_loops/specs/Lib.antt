@@ -4,3 +4,4 @@ pub mod Cells
 pub mod Numbers
 pub mod Bases
 pub mod Edges
+pub mod Order

@@ -30,9 +30,9 @@ pub fn bases(alloc: Global, families: &[Family]) -> Result<Vec<usize>, AllocErro
     Ok(bases)
 }
 
-// How many lists of indexes there are, with all fronts.
+/// How many lists of indexes there are, with all fronts.
 #[tactic(auto, using(crate::proofs::NumberLaws::counts))]
-fn count(over: &[Simple]) -> Result<usize, AllocError>
+pub fn count(over: &[Simple]) -> Result<usize, AllocError>
     ensures { IfOk result (λ count. count ≡ length (every over.now)) }
 {
     match over {
@@ -55,7 +55,8 @@ fn choices(over: Simple) -> usize
     }
 }
 
-fn step(start: usize, digit: usize, size: usize) -> Result<usize, AllocError>
+/// The number behind a start, a front and so many whole lists.
+pub fn step(start: usize, digit: usize, size: usize) -> Result<usize, AllocError>
     ensures { IfOk result (λ next. next ≡ start + (1 + digit * size)) }
 {
     let turns = digit.checked_mul(size).ok_or(AllocError)?;

@@ -4,9 +4,11 @@
 pub mod base;
 pub mod cells;
 pub mod index;
+pub mod listed;
 pub mod loops;
 pub mod order;
 pub mod ranks;
 pub mod reading;
 #[cfg(test)]
 mod tests;
+pub mod ways;

@@ -1,5 +1,6 @@
 // Loops without delay.
-ghost use Rattle.std.specs.Prelude.{◌≡◌, ℕ, ◌<◌, ◌≤◌, List, length, map, take, flat_map, true, false, IfOk, MatchOption};
+ghost use Rattle.std.specs.Prelude.{◌≡◌, ℕ, ◌<◌, ◌≤◌, List, length, map, take, flat_map, true, false, None, Some, IfOk, MatchOption};
+ghost use Rattle.std.specs.List.Sorted.{IsPermutation};
 ghost use Rattle.smv_delay.specs.FirstFault.{first_fault_of_loops};
 ghost use Rattle.smv_delay.specs.Loops as spec;
 ghost use Rattle.smv_delay.specs.Reading.{Reading};
@@ -7,15 +8,18 @@ ghost use Rattle.smv_loops.specs.Cells.{base};
 ghost use Rattle.smv_loops.specs.Edges.{AllLinks, IsFirst, edges_at};
 ghost use Rattle.smv_loops.specs.Held.{reading_of};
 ghost use Rattle.smv_loops.specs.Numbers.{AreBases};
+ghost use Rattle.smv_loops.specs.Order.{AreAfterTheirReads, IfFault, IsOrder, cells_from};
 ghost use Rattle.smv_loops.specs.Ranks.{AreBelow, rank};
 
 use crate::base::undelayed;
 use crate::cells::{bases, links};
+use crate::listed::{cells_of, list_all, sorted};
 use crate::order::in_flat_order;
 use crate::ranks::{Links, ranks};
 use crate::reading::Held;
-use smv_core::fault::Fault;
-use smv_core::flat::{Design, Family};
+use smv_core::fault::{Fault, Refusal};
+use smv_core::flat::{Cell, Design, Family};
+use smv_core::seq::Seq;
 use std::alloc::{AllocError, Global};
 
 /// The fault of loops of a design, if it has one: its first assignment, in flat order, with which there is a loop.
@@ -32,6 +36,47 @@ pub fn loop_fault(alloc: Global, design: &Design) -> Result<Option<Fault>, Alloc
             Ok(Some(Fault { number: 18, at }))
         }
     }
+}
+
+/// The cells of a design, each after all that it reads at the same time.
+#[derive(Drop)]
+pub struct Order {
+    pub cells: Seq<Cell>,
+}
+
+/// The order of the cells of a design, or its fault of loops.
+/// Memory is also said to be out where cells have more numbers than fit, which no text within the limits has.
+pub fn loops(alloc: Global, design: &Design) -> Result<Order, Refusal>
+    ensures order { IfOk result (λ order. IsOrder design.now order.cells) }
+    ensures faultless { IfOk result (λ order. first_fault_of_loops design.now ≡ None) }
+    ensures fault { IfFault result (λ fault. first_fault_of_loops design.now ≡ Some fault) }
+{
+    let families = design.families.as_slice();
+    let held = in_flat_order(undelayed(alloc, design)?)?;
+    let first = first_of(alloc, families, held.as_slice())?;
+    match first {
+        None => Ok(Order {
+            cells: ordered(alloc, families, held.as_slice())?,
+        }),
+        Some(first) => Err(Refusal::Fault(Fault {
+            number: 18,
+            at: held[first].at,
+        })),
+    }
+}
+
+// The cells in the order of their ranks, where there is no loop.
+fn ordered(alloc: Global, families: &[Family], held: &[Held]) -> Result<Seq<Cell>, AllocError>
+    requires { spec.hold_a_cycle (flat_map (edges_at families.now) (map reading_of held.now)) ≡ false }
+    ensures same { IfOk result (λ cells. IsPermutation (cells_from 0 families.now) cells) }
+    ensures after { IfOk result (λ cells. AreAfterTheirReads (flat_map (edges_at families.now) (map reading_of held.now)) cells) }
+{
+    let bases = bases(alloc, families)?;
+    let links = all_links(alloc, families, bases.as_slice(), held)?;
+    let cells = bases[families.len()];
+    let ranks = ranks(alloc, cells, links.as_slice())?;
+    let listed = list_all(alloc, families, bases.as_slice(), ranks.as_slice())?;
+    cells_of(alloc, sorted(listed)?)
 }
 
 // The first assignment with which those before it hold a cycle, if there is one.

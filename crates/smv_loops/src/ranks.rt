@@ -149,8 +149,8 @@ fn highest(ranks: &[usize], cells: &[usize]) -> Option<usize>
     Some(most)
 }
 
-// The rank of a cell.
-fn rank(ranks: &[usize], cell: usize) -> usize
+/// The rank of a cell, 0 for none.
+pub fn rank(ranks: &[usize], cell: usize) -> usize
     ensures { result ≡ spec.rank ranks.now cell }
 {
     ranks.get(cell).copied().unwrap_or(0)

@@ -1,5 +1,5 @@
-// Small designs over the signals a, b and x[0..1]; the place of each fault was found by hand.
-use crate::loops::loop_fault;
+// Small designs over the signals a, b and x[0..1]; the place of each fault, and the order, was found by hand.
+use crate::loops::{Order, loop_fault, loops};
 use smv_core::flat::{Def, Design, Family, Flat, FlatExpr, Simple};
 use smv_core::{Boxed, Name, Seq};
 use std::alloc::{AllocError, Global};
@@ -178,5 +178,37 @@ fn a_next_breaks_a_loop(rt: HostRuntime) -> Result<(), Fail> {
     let next = assign(alloc, None, read(alloc, A, None)?, 2)?;
     let a = def(A, init, next, Flat::Nothing);
     assert_eq!(rt; place(alloc, a, None)?, None);
+    Ok(())
+}
+
+// The cells of an order, each by its family and what it has at its index.
+fn cells_in_order(alloc: Global, order: &Order) -> Result<Vec<(u16, Option<u8>)>, AllocError> {
+    let mut cells = Vec::new(alloc);
+    for cell in order.cells.as_slice() {
+        let index = match cell.indexes.as_slice() {
+            [index] => *index,
+            _ => None,
+        };
+        cells.push((cell.family, index))?;
+    }
+    Ok(cells)
+}
+
+// a := x[1]; x[0] := b; x[1] := x[0]; next(b) := a. Without the `next`, each reads the one before it: b, x[0], x[1], a.
+#[test]
+fn each_cell_is_after_what_it_reads(rt: HostRuntime) -> Result<(), Fail> {
+    let alloc = rt.alloc();
+    let a = is(
+        A,
+        assign(alloc, None, read(alloc, X, Some(number(1)))?, 0)?,
+    );
+    let first = assign(alloc, Some(number(0)), read(alloc, B, None)?, 1)?;
+    let x = is(X, both(alloc, first, element_of(alloc, 1, number(0), 2)?)?);
+    let mut design = design(alloc, a, Some(x))?;
+    let next = assign(alloc, None, read(alloc, A, None)?, 3)?;
+    design.defs.push(def(B, Flat::Nothing, next, Flat::Nothing))?;
+    let cells = cells_in_order(alloc, &loops(alloc, &design)?)?;
+    let expected = [(B, None), (X, Some(0)), (X, Some(1)), (A, None)];
+    assert_eq!(rt; cells.as_slice(), expected.as_slice());
     Ok(())
 }
