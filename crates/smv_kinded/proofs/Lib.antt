@@ -1,0 +1,4 @@
+mod Relation
+mod Boxes
+mod Variables
+mod Expressions
