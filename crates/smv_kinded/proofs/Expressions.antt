@@ -34,13 +34,14 @@ use Rattle.smv_typed.specs.FlatKinds as typed
 use Rattle.smv_typed.specs.FlatKinds.{kind_of, kind_in, value_in, number_if, is_binder, inside}
 use Rattle.smv_flat.specs.Numbers.{Scope, bound_in, variable, variable_at, flat_over, family_number, or_signal, flat_path, constant_in}
 use Rattle.smv_flat.specs.Statements.{flat_expr, flat_row, flat_indexes, flat_signed, flat_members, flat_condition}
+use Rattle.smv_flat.specs.Agreement.{IsIndexType}
 use Rattle.smv_right.specs.Written.{IsSet, IsWritten, AreWritten, PartsAreWritten, IndexesAreWritten, TermsAreWritten, MembersAreWritten, ConditionIsWritten}
 use Rattle.smv_right.proofs.Faultless.{empty-both, unplaced, no_places, each-front, each-behind, IsFine, AreFine, number-fine, numbers-fine, alike-fine, compared-fine, reference-fine}
 use Rattle.smv_right.proofs.LeadTypes.{single-counts, some-same}
 use Rattle.smv_right.proofs.Expressions.{chained, listed-constant, reference-cases}
 use Rattle.smv_kinded.proofs.Relation.{IsKind, flat_kind, HasKind, HaveKinds, takes-kept, number-kept, numbers-kept, common-kept, chosen-kept, alike-some, compared-kept, AreOfKinds, indexes-kept}
 use Rattle.smv_kinded.proofs.Boxes.{member_kind, term_kind, condition_fits, kind-Read, kind-And, kind-Or, kind-Implies, looked-List, kind-Sum, kind-Not, kind-Iff, kind-Compare, kind-Within, kind-Modulo, kind-Choose, kind-All, kind-Any, value-List, value-Choose, value-Each}
-use Rattle.smv_kinded.proofs.Variables.{AreApart, IsFree, SignalsAreKinded, ConstantsAreKinded, IndexesAreKinded, AreVars, kinds_bound, variable-kinded, no_variable, binder-kinded}
+use Rattle.smv_kinded.proofs.Variables.{IsApart, AreApart, IsFree, SignalsAreKinded, ConstantsAreKinded, IndexesAreKinded, AreVars, kinds_bound, variable-kinded, no_variable, binder-kinded}
 
 -- a comparison is a number
 compared-number : (op : Op) (l r : Operand) → number ≡ (compared op l r).kind
@@ -66,14 +67,14 @@ module _ (raw : Raw) (scope : kinds.Scope) (flat : Scope) (signals : SignalsAreK
   read-kinded : (parts : List Part) (w : Whole) → signal_at scope parts ≡ Some w → (at : ℕ) (os : List Operand) → length (indexes_of parts) ≡ length os → (reference at (Some w) os).faults ≡ [] →
       (found : List (Option typed.Kind)) → HaveKinds flat found os → HasKind flat (typed.element (slice_get raw.families (family_number flat (flat.instance ++ fields_of parts))) found) w.value
   unfolding opening
-  read-kinded parts w h at os count fine found kinds =
+  read-kinded parts w h at os count fine found given =
       let s = signals parts w h in
-      let each : typed.take_each s.1.over found ≡ true = indexes-kept flat s.1.over w.over s.4 os found kinds (s.7 ∙ count) fine in
+      let each : typed.take_each s.1.over found ≡ true = indexes-kept flat s.1.over w.over s.4 os found given (s.7 ∙ count) fine in
       (ap (λ f. typed.element f found) s.3 ∙ ap (λ b. cond b (Some (kind_of s.1.value)) None) each ∙ ap Some s.5, s.6)
 
   pub target-kinded : (parts : List Part) (w : Whole) → signal_at scope parts ≡ Some w → (at : ℕ) (os : List Operand) → length (indexes_of parts) ≡ length os → (reference at (Some w) os).faults ≡ [] →
       (found : List (Option typed.Kind)) → HaveKinds flat found os → HasKind flat (typed.element (slice_get raw.families (family_number flat (flat.instance ++ fields_of parts))) found) w.value
-  target-kinded parts w h at os count fine found kinds = read-kinded parts w h at os count fine found kinds
+  target-kinded parts w h at os count fine found given = read-kinded parts w h at os count fine found given
 
   -- what a path is, where it is a variable, a signal or a constant
   abbrev Plain : Vars → Around → FlatExpr → Kind → Type 0
@@ -82,9 +83,9 @@ module _ (raw : Raw) (scope : kinds.Scope) (flat : Scope) (signals : SignalsAreK
   path-kinded : (vars : Vars) (around : Around) → AreVars raw scope flat vars around → (parts : List Part) (at : ℕ) (w : Whole) → reference_at scope vars parts ≡ Some w → (es : List FlatExpr) (os : List Operand) →
       HaveKinds flat (map (kind_in raw (kinds_bound raw scope flat vars around)) es) os → length (indexes_of parts) ≡ length os → (reference at (Some w) os).faults ≡ [] → Plain vars around (flat_path flat around (fields_of parts) es at) w.value
   unfolding opening
-  path-kinded vars around same [] at w h es os kinds count fine = absurd (cc (h))
-  path-kinded vars around same (At e ∷ parts) at w h es os kinds count fine = absurd (cc (h))
-  path-kinded vars around same (Field word ∷ parts) at w h es os kinds count fine = by_case (reference-cases scope vars (Field word ∷ parts) w h)
+  path-kinded vars around same [] at w h es os given count fine = absurd (cc (h))
+  path-kinded vars around same (At e ∷ parts) at w h es os given count fine = absurd (cc (h))
+  path-kinded vars around same (Field word ∷ parts) at w h es os given count fine = by_case (reference-cases scope vars (Field word ∷ parts) w h)
     where
       fv : typed.Vars
       fv = kinds_bound raw scope flat vars around
@@ -111,7 +112,7 @@ module _ (raw : Raw) (scope : kinds.Scope) (flat : Scope) (signals : SignalsAreK
           let free : variable_at around path at ≡ None = no_variable raw scope flat vars around same word.name (λ f. not_own f.0 e) (fields_of parts) at in
           subst (λ o. Plain vars around (or_signal flat o (family_at flat.families (flat.instance ++ path)) path es at) w.value) (sym free)
           (subst (λ o. Plain vars around (or_signal flat None o path es at) w.value) (sym s.2)
-          (subst (λ o. HasKind flat o w.value) (sym (kind-Read raw fv (family_number flat (flat.instance ++ path)) es at)) (read-kinded (Field word ∷ parts) w e at os count fine (map (kind_in raw fv) es) kinds), refl))
+          (subst (λ o. HasKind flat o w.value) (sym (kind-Read raw fv (family_number flat (flat.instance ++ path)) es at)) (read-kinded (Field word ∷ parts) w e at os count fine (map (kind_in raw fv) es) given), refl))
         where
           not_own : find_name scope.here.own word.name ≡ None → signal_at scope (Field word ∷ parts) ≡ Some w → ⊥
           not_own none e = let q : signal_at scope (Field word ∷ parts) ≡ None = ap (λ o. option_and_then (λ (own : Own). behind scope.modules scope.here.types own.what parts) o) none in cc (q, e)
@@ -155,13 +156,36 @@ module _ (raw : Raw) (scope : kinds.Scope) (flat : Scope) (signals : SignalsAreK
   abbrev Found : Vars → Around → List FlatExpr → List (Option typed.Kind)
   Found vars around es = map (kind_in raw (kinds_bound raw scope flat vars around)) es
 
+  -- a path, where its indexes have kinds
+  signal-part : {m : _} (vars : Vars) (around : Around) → AreVars raw scope flat vars around → (parts : Row_of-Part m) (at : ℕ) → (AreFine (indexes scope vars parts) → HaveKinds flat (Found vars around (flat_indexes flat around parts)) (indexes scope vars parts)) →
+      IsFine (reference at (reference_at scope vars (items-the_row-Part m parts)) (indexes scope vars parts)) →
+      Plain vars around (flat_path flat around (fields_of (items-the_row-Part m parts)) (flat_indexes flat around parts) at) (reference at (reference_at scope vars (items-the_row-Part m parts)) (indexes scope vars parts)).kind
+  unfolding opening
+  signal-part {m} vars around same parts at each fine =
+      let r = reference-fine at (reference_at scope vars (items-the_row-Part m parts)) (indexes scope vars parts) fine in
+      let count : length (indexes_of (items-the_row-Part m parts)) ≡ length (indexes scope vars parts) = indexes-count vars m parts in
+      let whole : (reference at (Some r.0) (indexes scope vars parts)).faults ≡ [] = subst (λ o. (reference at o (indexes scope vars parts)).faults ≡ []) r.1 fine in
+      subst (λ o. Plain vars around (flat_path flat around (fields_of (items-the_row-Part m parts)) (flat_indexes flat around parts) at) (reference at o (indexes scope vars parts)).kind) (sym r.1)
+      (path-kinded vars around same (items-the_row-Part m parts) at r.0 r.1 (flat_indexes flat around parts) (indexes scope vars parts) (each (r.2 (reference-length vars around same (items-the_row-Part m parts) r.0 r.1 ∙ count))) count whole)
+
+  -- the variables inside a binder
+  pub bound-vars : (words : List Word) (vars : Vars) (around : Around) → AreVars raw scope flat vars around → (var : Word) (over : TypeExpr) → IsIndexType over → index_faults scope.here.types over ≡ [] → IsFree raw scope flat var.name →
+      AreVars raw scope flat (bind scope vars var over) ((var.name, any) ∷ around)
+  bound-vars words vars around same var over index fine free = (refl, (over_kinded over index fine).2, free, same)
+
+  reduced-part : (vars : Vars) (around : Around) → AreVars raw scope flat vars around → (body : Expr) (var : Word) (over : TypeExpr) → IsIndexType over → index_faults scope.here.types over ≡ [] → HasItsKind (bind scope vars var over) ((var.name, any) ∷ around) body →
+      takes_number (operand scope (bind scope vars var over) body) ≡ [] →
+      (is_binder raw (kinds_bound raw scope flat vars around) (bound_in around) (flat_over flat over) && typed.takes typed.number (kind_in raw (inside (kinds_bound raw scope flat vars around) (flat_over flat over)) (flat_expr flat ((var.name, any) ∷ around) body))) ≡ true
+  reduced-part vars around same body var over index fine own number_fine =
+      binder-kinded raw scope flat over_kinded vars around same over index fine (λ fv. typed.takes typed.number (kind_in raw fv (flat_expr flat ((var.name, any) ∷ around) body))) (number-kept flat (operand scope (bind scope vars var over) body) _ own number_fine)
+
   mutual
     unfolding opening said.in_expr
 
     -- inside variables that are words and vars and around, each as one part of the work has them
     pub expression-kinded : (words : List Word) (vars : Vars) (around : Around) → AreVars raw scope flat vars around → (e : Expr) → IsWritten e → AreApart raw scope flat (said.in_expr words e) → IsFine (operand scope vars e) → HasItsKind vars around e
     expression-kinded words vars around same (Number value at) written apart fine = (refl, tt)
-    expression-kinded words vars around same (Signal' shape parts at) written apart fine = (signal-kinded words vars around same shape parts at written apart fine).0
+    expression-kinded words vars around same (Signal' shape parts at) written apart fine = (signal-part vars around same parts at (λ each. indexes-kinded words vars around same parts written apart.1 each) fine).0
     expression-kinded words vars around same (Not' shape (more_of-Expr e end_of-Expr) at) written apart fine =
         (kind-Not raw (kinds_bound raw scope flat vars around) (flat_expr flat around e) at ∙ ap number_if (number-kept flat (operand scope vars e) _ (expression-kinded words vars around same e written apart (number-fine _ fine)) fine), tt)
     expression-kinded words vars around same (And' shape parts) written apart fine =
@@ -171,22 +195,26 @@ module _ (raw : Raw) (scope : kinds.Scope) (flat : Scope) (signals : SignalsAreK
     expression-kinded words vars around same (Implies' shape parts) written apart fine =
         (kind-Implies raw (kinds_bound raw scope flat vars around) (flat_row flat around parts) ∙ ap number_if (numbers-kept flat (operands scope vars parts) (Found vars around (flat_row flat around parts)) (parts-kinded words vars around same parts written apart (numbers-fine _ fine)) fine), tt)
     expression-kinded words vars around same (Iff' l (more_of-Expr left end_of-Expr) r (more_of-Expr right end_of-Expr)) written apart fine =
-        let both = two-kinded words vars around same left right written.0 written.1 apart (numbers-fine (operand scope vars left ∷ operand scope vars right ∷ []) fine) in
-        (kind-Iff raw (kinds_bound raw scope flat vars around) (flat_expr flat around left) (flat_expr flat around right) ∙ ap number_if (numbers-kept flat (operand scope vars left ∷ operand scope vars right ∷ []) (Found vars around (flat_expr flat around left ∷ flat_expr flat around right ∷ [])) (both.0, both.1, tt) fine), tt)
+        let each : AreFine (operand scope vars left ∷ operand scope vars right ∷ []) = numbers-fine (operand scope vars left ∷ operand scope vars right ∷ []) fine in
+        let first : HasItsKind vars around left = expression-kinded words vars around same left written.0 (each-front _ (said.in_expr words left) (said.in_expr words right) apart) each.0 in
+        let second : HasItsKind vars around right = expression-kinded words vars around same right written.1 (each-behind _ (said.in_expr words left) (said.in_expr words right) apart) each.1.0 in
+        (kind-Iff raw (kinds_bound raw scope flat vars around) (flat_expr flat around left) (flat_expr flat around right) ∙ ap number_if (numbers-kept flat (operand scope vars left ∷ operand scope vars right ∷ []) (Found vars around (flat_expr flat around left ∷ flat_expr flat around right ∷ [])) (first, (second, tt)) fine), tt)
     expression-kinded words vars around same (Compare' op l (more_of-Expr left end_of-Expr) r (more_of-Expr right end_of-Expr)) written apart fine =
-        let both = two-kinded words vars around same left right written.0 written.1 apart (compared-fine op (operand scope vars left) (operand scope vars right) fine) in
+        let each : AreFine (operand scope vars left ∷ operand scope vars right ∷ []) = compared-fine op (operand scope vars left) (operand scope vars right) fine in
+        let first : HasItsKind vars around left = expression-kinded words vars around same left written.0 (each-front _ (said.in_expr words left) (said.in_expr words right) apart) each.0 in
+        let second : HasItsKind vars around right = expression-kinded words vars around same right written.1 (each-behind _ (said.in_expr words left) (said.in_expr words right) apart) each.1.0 in
         subst (HasKind flat (kind_in raw (kinds_bound raw scope flat vars around) (flatly.Compare op (flat_expr flat around left) (flat_expr flat around right)))) (compared-number op (operand scope vars left) (operand scope vars right))
-        (kind-Compare raw (kinds_bound raw scope flat vars around) op (flat_expr flat around left) (flat_expr flat around right) ∙ ap number_if (compared-kept flat op (operand scope vars left) (operand scope vars right) _ _ both.0 both.1 fine), tt)
+        (kind-Compare raw (kinds_bound raw scope flat vars around) op (flat_expr flat around left) (flat_expr flat around right) ∙ ap number_if (compared-kept flat op (operand scope vars left) (operand scope vars right) _ _ first second fine), tt)
     expression-kinded words vars around same (Within' l (more_of-Expr left end_of-Expr) r (more_of-Expr set end_of-Expr)) written apart fine =
         let each : AreFine (operand scope vars left ∷ looked_through scope vars set) = alike-fine (operand scope vars left ∷ looked_through scope vars set) fine in
         let own : HasItsKind vars around left = expression-kinded words vars around same left written.0 (each-front _ (said.in_expr words left) (said.in_expr words set) apart) each.0 in
         (kind-Within raw (kinds_bound raw scope flat vars around) (flat_expr flat around left) (flat_expr flat around set)
-        ∙ ap number_if (alike-some flat (operand scope vars left) (looked_through scope vars set) _ _ (own, set-kinded words vars around same set written.2 written.1 (each-behind _ (said.in_expr words left) (said.in_expr words set) apart) each.1) fine), tt)
+        ∙ ap number_if (alike-some flat (operand scope vars left) (looked_through scope vars set) (kind_in raw (kinds_bound raw scope flat vars around) (flat_expr flat around left)) (typed.looked_through raw (kinds_bound raw scope flat vars around) (flat_expr flat around set)) (own, set-kinded words vars around same set written.2 written.1 (each-behind _ (said.in_expr words left) (said.in_expr words set) apart) each.1) fine), tt)
     expression-kinded words vars around same (Sum' f (more_of-Expr first end_of-Expr) shape more) written apart fine =
         let each : AreFine (operand scope vars first ∷ summands scope vars more) = numbers-fine (operand scope vars first ∷ summands scope vars more) fine in
         let own : HasItsKind vars around first = expression-kinded words vars around same first written.0 (each-front _ (said.in_expr words first) (said.in_sum words more) apart) each.0 in
         (kind-Sum raw (kinds_bound raw scope flat vars around) (flat_expr flat around first) (flat_signed flat around more)
-        ∙ ap number_if (numbers-kept flat (operand scope vars first ∷ summands scope vars more) _ (own, terms-kinded words vars around same more written.1 (each-behind _ (said.in_expr words first) (said.in_sum words more) apart) each.1) fine), tt)
+        ∙ ap number_if (numbers-kept flat (operand scope vars first ∷ summands scope vars more) (kind_in raw (kinds_bound raw scope flat vars around) (flat_expr flat around first) ∷ map (term_kind raw (kinds_bound raw scope flat vars around)) (flat_signed flat around more)) (own, terms-kinded words vars around same more written.1 (each-behind _ (said.in_expr words first) (said.in_sum words more) apart) each.1) fine), tt)
     expression-kinded words vars around same (Modulo' shape (more_of-Expr e end_of-Expr) by at) written apart fine =
         let both = empty-both (takes_number (operand scope vars e)) (faults_at (12, place_if (nat_eq by 0) at)) fine in
         let own : typed.takes typed.number (kind_in raw (kinds_bound raw scope flat vars around) (flat_expr flat around e)) ≡ true = number-kept flat (operand scope vars e) _ (expression-kinded words vars around same e written apart (number-fine _ both.0)) both.0 in
@@ -202,39 +230,19 @@ module _ (raw : Raw) (scope : kinds.Scope) (flat : Scope) (signals : SignalsAreK
         let all = chosen-kept flat (operand scope vars cond) (operand scope vars left) (operand scope vars right) _ _ _ own first second fine in
         (kind-Choose raw (kinds_bound raw scope flat vars around) (flat_expr flat around cond) (flat_expr flat around left) (flat_expr flat around right) ∙ all.0, all.1)
     expression-kinded words vars around same (All' shape (more_of-Expr body end_of-Expr) var over at) written apart fine =
-        (kind-All raw (kinds_bound raw scope flat vars around) (flat_expr flat ((var.name, any) ∷ around) body) (bound_in around) (flat_over flat over) at ∙ ap number_if (reduced-kinded words vars around same body var over written.0 written.1 apart fine), tt)
+        let both = empty-both (takes_number (operand scope (bind scope vars var over) body)) (index_faults scope.here.types over) fine in
+        let rest = said.binder_in words var ∷ said.in_type over in
+        let bound : AreVars raw scope flat (bind scope vars var over) ((var.name, any) ∷ around) = bound-vars words vars around same var over written.1 both.1 (each-behind (IsApart scope.here.own scope.constants) (said.in_expr (words ++ var ∷ []) body) rest apart).0 in
+        let own : HasItsKind (bind scope vars var over) ((var.name, any) ∷ around) body = expression-kinded (words ++ var ∷ []) (bind scope vars var over) ((var.name, any) ∷ around) bound body written.0 (each-front _ (said.in_expr (words ++ var ∷ []) body) rest apart) (number-fine _ both.0) in
+        (kind-All raw (kinds_bound raw scope flat vars around) (flat_expr flat ((var.name, any) ∷ around) body) (bound_in around) (flat_over flat over) at ∙ ap number_if (reduced-part vars around same body var over written.1 both.1 own both.0), tt)
     expression-kinded words vars around same (Any' shape (more_of-Expr body end_of-Expr) var over at) written apart fine =
-        (kind-Any raw (kinds_bound raw scope flat vars around) (flat_expr flat ((var.name, any) ∷ around) body) (bound_in around) (flat_over flat over) at ∙ ap number_if (reduced-kinded words vars around same body var over written.0 written.1 apart fine), tt)
+        let both = empty-both (takes_number (operand scope (bind scope vars var over) body)) (index_faults scope.here.types over) fine in
+        let rest = said.binder_in words var ∷ said.in_type over in
+        let bound : AreVars raw scope flat (bind scope vars var over) ((var.name, any) ∷ around) = bound-vars words vars around same var over written.1 both.1 (each-behind (IsApart scope.here.own scope.constants) (said.in_expr (words ++ var ∷ []) body) rest apart).0 in
+        let own : HasItsKind (bind scope vars var over) ((var.name, any) ∷ around) body = expression-kinded (words ++ var ∷ []) (bind scope vars var over) ((var.name, any) ∷ around) bound body written.0 (each-front _ (said.in_expr (words ++ var ∷ []) body) rest apart) (number-fine _ both.0) in
+        (kind-Any raw (kinds_bound raw scope flat vars around) (flat_expr flat ((var.name, any) ∷ around) body) (bound_in around) (flat_over flat over) at ∙ ap number_if (reduced-part vars around same body var over written.1 both.1 own both.0), tt)
     expression-kinded words vars around same (List' shape members at) written apart fine = absurd (cc (fine))
     expression-kinded words vars around same (Each' var over cond at) written apart fine = absurd (cc (fine))
-
-    signal-kinded : (words : List Word) (vars : Vars) (around : Around) → AreVars raw scope flat vars around → (shape : _) (parts : Row_of-Part shape) (at : ℕ) → IsWritten (Signal' shape parts at) → AreApart raw scope flat (said.in_expr words (Signal' shape parts at)) →
-        IsFine (operand scope vars (Signal' shape parts at)) → Plain vars around (flat_expr flat around (Signal' shape parts at)) (operand scope vars (Signal' shape parts at)).kind
-    signal-kinded words vars around same shape parts at written apart fine =
-        let r = reference-fine at (reference_at scope vars (items-the_row-Part _ parts)) (indexes scope vars parts) fine in
-        let count : length (indexes_of (items-the_row-Part _ parts)) ≡ length (indexes scope vars parts) = indexes-count vars _ parts in
-        let each : HaveKinds flat (Found vars around (flat_indexes flat around parts)) (indexes scope vars parts) =
-        indexes-kinded words vars around same parts written apart.1 (r.2 (reference-length vars around same (items-the_row-Part _ parts) r.0 r.1 ∙ count)) in
-        let whole : (reference at (Some r.0) (indexes scope vars parts)).faults ≡ [] = subst (λ o. (reference at o (indexes scope vars parts)).faults ≡ []) r.1 fine in
-        subst (λ o. Plain vars around (flat_path flat around (fields_of (items-the_row-Part _ parts)) (flat_indexes flat around parts) at) (reference at o (indexes scope vars parts)).kind) (sym r.1)
-        (path-kinded vars around same (items-the_row-Part _ parts) at r.0 r.1 (flat_indexes flat around parts) (indexes scope vars parts) each count whole)
-
-    two-kinded : (words : List Word) (vars : Vars) (around : Around) → AreVars raw scope flat vars around → (left right : Expr) → IsWritten left → IsWritten right → AreApart raw scope flat (said.in_expr words left ++ said.in_expr words right) →
-        AreFine (operand scope vars left ∷ operand scope vars right ∷ []) → HasItsKind vars around left × HasItsKind vars around right
-    two-kinded words vars around same left right wl wr apart each = (
-      expression-kinded words vars around same left wl (each-front _ (said.in_expr words left) (said.in_expr words right) apart) each.0,
-      expression-kinded words vars around same right wr (each-behind _ (said.in_expr words left) (said.in_expr words right) apart) each.1.0,
-    )
-
-    reduced-kinded : (words : List Word) (vars : Vars) (around : Around) → AreVars raw scope flat vars around → (body : Expr) (var : Word) (over : TypeExpr) → IsWritten body → _ →
-        AreApart raw scope flat (said.in_expr (words ++ var ∷ []) body ++ said.binder_in words var ∷ said.in_type over) → takes_number (operand scope (bind scope vars var over) body) ++ index_faults scope.here.types over ≡ [] →
-        (is_binder raw (kinds_bound raw scope flat vars around) (bound_in around) (flat_over flat over) && typed.takes typed.number (kind_in raw (inside (kinds_bound raw scope flat vars around) (flat_over flat over)) (flat_expr flat ((var.name, any) ∷ around) body))) ≡ true
-    reduced-kinded words vars around same body var over written index apart fine =
-        let both = empty-both (takes_number (operand scope (bind scope vars var over) body)) (index_faults scope.here.types over) fine in
-        let bound = (each-behind _ (said.in_expr (words ++ var ∷ []) body) (said.binder_in words var ∷ said.in_type over) apart).0 in
-        let own : HasItsKind (bind scope vars var over) ((var.name, any) ∷ around) body =
-        expression-kinded (words ++ var ∷ []) (bind scope vars var over) ((var.name, any) ∷ around) (refl, (over_kinded over index both.1).2, bound, same) body written (each-front _ (said.in_expr (words ++ var ∷ []) body) (said.binder_in words var ∷ said.in_type over) apart) (number-fine _ both.0) in
-        binder-kinded raw scope flat over_kinded vars around same over index both.1 (λ fv. typed.takes typed.number (kind_in raw fv (flat_expr flat ((var.name, any) ∷ around) body))) (number-kept flat (operand scope (bind scope vars var over) body) _ own both.0)
 
     parts-kinded : {m : _} (words : List Word) (vars : Vars) (around : Around) → AreVars raw scope flat vars around → (row : Row_of-Expr m) → PartsAreWritten row → AreApart raw scope flat (said.in_row words row) → AreFine (operands scope vars row) → HaveKinds flat (Found vars around (flat_row flat around row)) (operands scope vars row)
     parts-kinded words vars around same end_of-Expr written apart fine = tt
@@ -259,7 +267,7 @@ module _ (raw : Raw) (scope : kinds.Scope) (flat : Scope) (signals : SignalsAreK
       terms-kinded words vars around same rest written.1 (each-behind _ (said.in_expr words e) (said.in_sum words rest) apart) fine.1,
     )
 
-    members-kinded : {m : _} (words : List Word) (vars : Vars) (around : Around) → AreVars raw scope flat vars around → (row : Row_of-Member m) → MembersAreWritten row → AreApart raw scope flat (said.in_members words row) → AreFine (members scope vars row) →
+    pub members-kinded : {m : _} (words : List Word) (vars : Vars) (around : Around) → AreVars raw scope flat vars around → (row : Row_of-Member m) → MembersAreWritten row → AreApart raw scope flat (said.in_members words row) → AreFine (members scope vars row) →
         HaveKinds flat (map (member_kind raw (kinds_bound raw scope flat vars around)) (flat_members flat around row)) (members scope vars row)
     members-kinded words vars around same end_of-Member written apart fine = tt
     members-kinded words vars around same (more_of-Member (One e) rest) written apart fine = (
@@ -277,3 +285,8 @@ module _ (raw : Raw) (scope : kinds.Scope) (flat : Scope) (signals : SignalsAreK
         subst (λ os. HaveKinds flat os (members scope vars row)) (sym (looked-List raw (kinds_bound raw scope flat vars around) (flat_members flat around row) at)) (members-kinded words vars around same row written.1 apart fine)
     set-kinded words vars around same (Each' var over cond at) is written apart fine = absurd (cc (fine.0))
     set-kinded words vars around same _ is written apart fine = absurd is
+
+  pub signal-kinded : {m : _} (words : List Word) (vars : Vars) (around : Around) → AreVars raw scope flat vars around → (parts : Row_of-Part m) (at : ℕ) → IndexesAreWritten parts → AreApart raw scope flat (said.in_parts words parts) →
+      IsFine (reference at (reference_at scope vars (items-the_row-Part m parts)) (indexes scope vars parts)) →
+      Plain vars around (flat_path flat around (fields_of (items-the_row-Part m parts)) (flat_indexes flat around parts) at) (reference at (reference_at scope vars (items-the_row-Part m parts)) (indexes scope vars parts)).kind
+  signal-kinded words vars around same parts at written apart fine = signal-part vars around same parts at (λ each. indexes-kinded words vars around same parts written apart each) fine

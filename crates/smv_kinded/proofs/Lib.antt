@@ -2,3 +2,4 @@ mod Relation
 mod Boxes
 mod Variables
 mod Expressions
+mod Values

@@ -146,7 +146,7 @@ module _ (scope : Scope) where
   unfolding opening
   chosen-kept c l r oc ol or hc hl hr fine =
       let both = empty-both (takes_number c) (alike (l ∷ r ∷ [])) fine in
-      let own : HasKind (typed.common (ol ∷ or ∷ [])) (joined l.kind r.kind) = common-kept l (r ∷ []) ol (or ∷ []) (hl, hr, tt) both.1 in
+      let own : HasKind (typed.common (ol ∷ or ∷ [])) (joined l.kind r.kind) = common-kept l (r ∷ []) ol (or ∷ []) (hl, (hr, tt)) both.1 in
       (ap (λ b. cond b (typed.common (ol ∷ or ∷ [])) None) (number-kept c oc hc both.0) ∙ own.0, own.1)
 
   some-is : {X : Type 0} (o : Option X) (x : X) → o ≡ Some x → is_some o ≡ true
@@ -159,13 +159,13 @@ module _ (scope : Scope) where
   unfolding opening
   ordered-kept l r ol or hl hr fine =
       let all = empty-three (alike (l ∷ r ∷ [])) (unless (has_order l.kind) l) (unless (has_order r.kind) r) fine in
-      let own : HasKind (typed.common (ol ∷ or ∷ [])) (joined l.kind r.kind) = common-kept l (r ∷ []) ol (or ∷ []) (hl, hr, tt) all.0 in
+      let own : HasKind (typed.common (ol ∷ or ∷ [])) (joined l.kind r.kind) = common-kept l (r ∷ []) ol (or ∷ []) (hl, (hr, tt)) all.0 in
       ap typed.has_order own.0 ∙ order-kept (joined l.kind r.kind) own.1 (order-joined l.kind r.kind hl.1 (fits (has_order l.kind) l all.1))
 
   pub compared-kept : (op : Op) (l r : Operand) (ol or : Option typed.Kind) → HasKind ol l.kind → HasKind or r.kind → (compared op l r).faults ≡ [] → typed.compares op (typed.common (ol ∷ or ∷ [])) ≡ true
   unfolding opening
-  compared-kept Equal l r ol or hl hr fine = alike-some l (r ∷ []) ol (or ∷ []) (hl, hr, tt) fine
-  compared-kept Differ l r ol or hl hr fine = alike-some l (r ∷ []) ol (or ∷ []) (hl, hr, tt) fine
+  compared-kept Equal l r ol or hl hr fine = alike-some l (r ∷ []) ol (or ∷ []) (hl, (hr, tt)) fine
+  compared-kept Differ l r ol or hl hr fine = alike-some l (r ∷ []) ol (or ∷ []) (hl, (hr, tt)) fine
   compared-kept Less l r ol or hl hr fine = ordered-kept l r ol or hl hr fine
   compared-kept AtMost l r ol or hl hr fine = ordered-kept l r ol or hl hr fine
   compared-kept Greater l r ol or hl hr fine = ordered-kept l r ol or hl hr fine

@@ -132,16 +132,16 @@ module _ (raw : Raw) (scope : kinds.Scope) (flat : Scope) where
   not-bound [] ((other, any) ∷ around) same name used at = absurd same
   not-bound [] ((other, loop n) ∷ around) same name used at = absurd same
   not-bound (v ∷ vars) [] same name used at = absurd same
-  not-bound ((own, kind) ∷ vars) ((other, any) ∷ around) same name used at = by_test (bytes_eq other name) refl
+  not-bound ((own, kind) ∷ vars) ((other, any) ∷ around) same name used at = by_test (bytes_eq other name) refl (not-bound vars around same.3 name used at)
     where
-      by_test : (b : Bool) → bytes_eq other name ≡ b → cond b (Some (Var (bound_in around) at)) (variable around name at) ≡ None
-      by_test true e = absurd (used (subst IsFree (same.0 ∙ (bytes_eq-Decides other name).0 e) same.2))
-      by_test false e = not-bound vars around same.3 name used at
-  not-bound ((own, kind) ∷ vars) ((other, loop n) ∷ around) same name used at = by_test (bytes_eq other name) refl
+      by_test : (b : Bool) → bytes_eq other name ≡ b → variable around name at ≡ None → cond b (Some (Var (bound_in around) at)) (variable around name at) ≡ None
+      by_test true e rest = absurd (used (subst IsFree (same.0 ∙ (bytes_eq-Decides other name).0 e) same.2))
+      by_test false e rest = rest
+  not-bound ((own, kind) ∷ vars) ((other, loop n) ∷ around) same name used at = by_test (bytes_eq other name) refl (not-bound vars around same.3 name used at)
     where
-      by_test : (b : Bool) → bytes_eq other name ≡ b → cond b (Some (Loop n at)) (variable around name at) ≡ None
-      by_test true e = absurd (used (subst IsFree (same.0 ∙ (bytes_eq-Decides other name).0 e) same.2))
-      by_test false e = not-bound vars around same.3 name used at
+      by_test : (b : Bool) → bytes_eq other name ≡ b → variable around name at ≡ None → cond b (Some (Loop n at)) (variable around name at) ≡ None
+      by_test true e rest = absurd (used (subst IsFree (same.0 ∙ (bytes_eq-Decides other name).0 e) same.2))
+      by_test false e rest = rest
 
   pub no_variable : (vars : Vars) (around : Around) → AreVars vars around → (name : Name) → (IsFree name → ⊥) → (more : Path) (at : ℕ) → variable_at around (name ∷ more) at ≡ None
   no_variable vars around same name used [] at = not-bound vars around same name used at
