@@ -3,3 +3,4 @@ mod Boxes
 mod Variables
 mod Expressions
 mod Values
+mod Statements
