@@ -123,11 +123,11 @@ module _ (types : tree.Types) (modules : List (Name × Module)) (constants : Lis
   tops-modules ks ts are known [] whole written fine declared = tt
   tops-modules ks ts are known (SetType word false span at ∷ tops) whole written fine declared =
       tops-modules (ks ++ (word.name, single (set_type word.name)) ∷ []) (ts ++ (word.name, one_value (scalarset word.name)) ∷ [])
-      (types-append ks ((word.name, single (set_type word.name)) ∷ []) ts ((word.name, one_value (scalarset word.name)) ∷ []) are (refl, single-covers (set_type word.name) (scalarset word.name), single-counts (set_type word.name), tt))
+      (types-append ks ((word.name, single (set_type word.name)) ∷ []) ts ((word.name, one_value (scalarset word.name)) ∷ []) are (refl, single-covers (set_type word.name) (scalarset word.name) refl, single-counts (set_type word.name), tt))
       (known_after known (SetType word false span at)) tops whole written.1 (empty-both (in_top modules constants ks (SetType word false span at)) (in_tops modules constants (types_after ks (SetType word false span at)) tops) fine).1 declared.1
   tops-modules ks ts are known (SetType word true span at ∷ tops) whole written fine declared =
       tops-modules (ks ++ (word.name, single (set_type word.name)) ∷ []) (ts ++ (word.name, one_value (ordset word.name)) ∷ [])
-      (types-append ks ((word.name, single (set_type word.name)) ∷ []) ts ((word.name, one_value (ordset word.name)) ∷ []) are (refl, single-covers (set_type word.name) (ordset word.name), single-counts (set_type word.name), tt))
+      (types-append ks ((word.name, single (set_type word.name)) ∷ []) ts ((word.name, one_value (ordset word.name)) ∷ []) are (refl, single-covers (set_type word.name) (ordset word.name) refl, single-counts (set_type word.name), tt))
       (known_after known (SetType word true span at)) tops whole written.1 (empty-both (in_top modules constants ks (SetType word true span at)) (in_tops modules constants (types_after ks (SetType word true span at)) tops) fine).1 declared.1
   tops-modules ks ts are known (Alias word of at ∷ tops) whole written fine declared =
       let both = empty-both (in_top modules constants ks (Alias word of at)) (in_tops modules constants (types_after ks (Alias word of at)) tops) fine in
