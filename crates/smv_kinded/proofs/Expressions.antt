@@ -39,9 +39,10 @@ use Rattle.smv_right.specs.Written.{IsSet, IsWritten, AreWritten, PartsAreWritte
 use Rattle.smv_right.proofs.Faultless.{empty-both, unplaced, no_places, each-front, each-behind, IsFine, AreFine, number-fine, numbers-fine, alike-fine, compared-fine, reference-fine}
 use Rattle.smv_right.proofs.LeadTypes.{single-counts, some-same}
 use Rattle.smv_right.proofs.Expressions.{chained, listed-constant, reference-cases}
+use Rattle.smv_right.proofs.Modules.{IsApart}
 use Rattle.smv_kinded.proofs.Relation.{IsKind, flat_kind, HasKind, HaveKinds, takes-kept, number-kept, numbers-kept, common-kept, chosen-kept, alike-some, compared-kept, AreOfKinds, indexes-kept}
 use Rattle.smv_kinded.proofs.Boxes.{member_kind, term_kind, condition_fits, kind-Read, kind-And, kind-Or, kind-Implies, looked-List, kind-Sum, kind-Not, kind-Iff, kind-Compare, kind-Within, kind-Modulo, kind-Choose, kind-All, kind-Any, value-List, value-Choose, value-Each}
-use Rattle.smv_kinded.proofs.Variables.{IsApart, AreApart, IsFree, SignalsAreKinded, ConstantsAreKinded, IndexesAreKinded, AreVars, kinds_bound, variable-kinded, no_variable, binder-kinded}
+use Rattle.smv_kinded.proofs.Variables.{AreApart, IsFree, SignalsAreKinded, ConstantsAreKinded, IndexesAreKinded, AreVars, kinds_bound, variable-kinded, no_variable, binder-kinded}
 
 -- a comparison is a number
 compared-number : (op : Op) (l r : Operand) → number ≡ (compared op l r).kind

@@ -31,9 +31,10 @@ use Rattle.smv_flat.specs.Agreement.{IsIndexType}
 use Rattle.smv_right.specs.Written.{IsWritten, AreWritten, StatementIsWritten, StatementsAreWritten, BranchIsWritten, ArmsAreWritten}
 use Rattle.smv_right.proofs.Faultless.{empty-both, empty-three, each-append, each-front, each-behind, IsFine, AreFine, number-fine, taken-fine, alike-fine, alike_with-fine, reference-fine}
 use Rattle.smv_right.proofs.Statements.{mapped-length}
+use Rattle.smv_right.proofs.Modules.{IsApart}
 use Rattle.smv_kinded.proofs.Relation.{IsKind, flat_kind, HasKind, HaveKinds, takes-kept, number-kept, alike-some, alike_with-front, alike_with-behind}
 use Rattle.smv_kinded.proofs.Boxes.{member_kind, all_keep, kind-Within, looked-List, keeps-Block, keeps-If, keeps-Default, keeps-Forall}
-use Rattle.smv_kinded.proofs.Variables.{IsApart, AreApart, SignalsAreKinded, ConstantsAreKinded, IndexesAreKinded, AreVars, kinds_bound, binder-kinded}
+use Rattle.smv_kinded.proofs.Variables.{AreApart, SignalsAreKinded, ConstantsAreKinded, IndexesAreKinded, AreVars, kinds_bound, binder-kinded}
 use Rattle.smv_kinded.proofs.Expressions.{HasItsKind, expression-kinded, target-kinded, bound-vars}
 use Rattle.smv_kinded.proofs.Values.{value-kinded, are-kinded, labels-kinded}
 

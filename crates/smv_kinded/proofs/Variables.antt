@@ -15,7 +15,7 @@ use Rattle.smv_core.specs.declared.tree.Part.{Part}
 use Rattle.smv_core.specs.declared.flat.Raw.{Raw}
 use Rattle.smv_core.specs.declared.flat.Family.{Family as FlatFamily}
 use Rattle.smv_core.specs.declared.flat.FlatExpr.{FlatExpr, Var, Loop}
-use Rattle.smv_inst.specs.Mentions.{Mention, declares, binds}
+use Rattle.smv_inst.specs.Mentions.{Mention}
 use Rattle.smv_inst.specs.Scopes.{Own, Constant}
 use Rattle.smv_types.specs.Kinds.{Kind, number, enumeration}
 use Rattle.smv_types.specs.Types.{Whole, index_kind, index_faults}
@@ -26,13 +26,9 @@ use Rattle.smv_typed.specs.FlatKinds.{kind_of, kind_in, value_in, is_index_type,
 use Rattle.smv_flat.specs.Numbers.{Scope, bound_in, variable, variable_at, flat_over, family_number, constant_in}
 use Rattle.smv_flat.specs.Agreement.{IsIndexType}
 use Rattle.smv_flat.proofs.Lookups.{slice_get-behind}
+use Rattle.smv_right.proofs.Modules.{IsApart}
 use Rattle.smv_kinded.proofs.Relation.{IsKind, flat_kind, HasKind, AreOfKinds}
 
--- a variable is no name of the module and no constant, and what is declared is no constant
-abbrev pub IsApart : List (Name × Own) → List (Name × Constant) → Mention → Type 0
-IsApart own constants (binds bound var) = (find_name own var.name ≡ None) × (find_name constants var.name ≡ None)
-IsApart own constants (declares word what) = find_name constants word.name ≡ None
-IsApart own constants _ = Unit {0}
 
 nothing-behind : {X : Type 0} (xs : List X) → xs ≡ xs ++ []
 nothing-behind [] = refl

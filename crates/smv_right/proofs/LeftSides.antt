@@ -13,6 +13,7 @@ use Rattle.smv_core.specs.Outcome.{fields_of}
 use Rattle.smv_core.specs.Walk.{indexes_of}
 use Rattle.smv_core.specs.declared.tree.Word.{Word}
 use Rattle.smv_core.specs.declared.tree.Text.{Text}
+use Rattle.smv_core.specs.declared.tree.Role.{Role}
 use Rattle.smv_core.specs.declared.tree.Role.TheVariants.{Plain, Abstract, Input, Output}
 use Rattle.smv_core.specs.declared.tree.TypeExpr.{TypeExpr}
 use Rattle.smv_core.specs.declared.tree.Path.{out-Path}
@@ -97,30 +98,30 @@ module _ (text : Text) (instance : Path) (scope : kinds.Scope) (led : (parts : L
       (statement-whole [] act both.0, body-whole acts both.1)
 
 module _ (text : Text) where
-  abbrev types : tree.Types
+  abbrev pub types : tree.Types
   types = types_from [] text.tops
 
-  abbrev bodies : List (Name × Body)
+  abbrev pub bodies : List (Name × Body)
   bodies = modules text.tops
 
-  abbrev all_modules : List (Name × Module)
+  abbrev pub all_modules : List (Name × Module)
   all_modules = modules_from [] text.tops
 
-  abbrev all_constants : List (Name × Constant)
+  abbrev pub all_constants : List (Name × Constant)
   all_constants = constants (pieces text)
 
-  abbrev scope_of : Module → kinds.Scope
+  abbrev pub scope_of : Module → kinds.Scope
   scope_of m = record { modules = all_modules; constants = all_constants; here = m }
 
-  abbrev IsModuleHere : Module → Body → Type 0
+  abbrev pub IsModuleHere : Module → Body → Type 0
   IsModuleHere m body = IsModule types all_modules all_constants m body
 
   -- what is somewhere among these families is somewhere among those of the text
-  abbrev Includes : List Family → Type 0
+  abbrev pub Includes : List Family → Type 0
   Includes fs = (path : Path) (w : Whole) → Somewhere (IsFamilyAt path w) fs → Somewhere (IsFamilyAt path w) (design_of text).families
 
   -- with each bound on chains of instances that is great enough
-  abbrev IncludesAll : ℕ → Path → Name → Type 0
+  abbrev pub IncludesAll : ℕ → Path → Name → Type 0
   IncludesAll k here name = (n : ℕ) → Includes (families_in types bodies (k + n) here name)
 
   abbrev EntryIsWhole : Entry → Type 0
@@ -140,12 +141,12 @@ module _ (text : Text) where
     path-joined here word name other rest path e h = h ∙ append_assoc here (word.name ∷ []) (other ∷ rest) ∙ ap (λ n. here ++ n ∷ other ∷ rest) ((bytes_eq-Decides word.name name).0 e)
 
     -- with this bound on chains of instances the instance of a module that a path goes into has the family to which it leads
-    abbrev IsInside : ℕ → List Part → Type 0
+    abbrev pub IsInside : ℕ → List Part → Type 0
     IsInside n parts = (types_here : _) (module_name word : Word) (here : Path) (name : Name) → bytes_eq word.name name ≡ true → (w : Whole) → behind all_modules types_here (mentions.instance module_name) parts ≡ Some w →
         Somewhere (IsFamilyAt (here ++ name ∷ fields_of parts) w) (families_in types bodies n (here ++ word.name ∷ []) module_name.name)
 
     -- then so has each instance of a module in which the path begins
-    reached : (n : ℕ) (parts : List Part) → IsInside n parts → (m : Module) (body : Body) → IsModuleHere m body → (here : Path) (name : Name) (own : Own) → find_name m.own name ≡ Some own →
+    pub reached : (n : ℕ) (parts : List Part) → IsInside n parts → (m : Module) (body : Body) → IsModuleHere m body → (here : Path) (name : Name) (own : Own) → find_name m.own name ≡ Some own →
         (w : Whole) → behind all_modules m.types own.what parts ≡ Some w → Somewhere (IsFamilyAt (here ++ name ∷ fields_of parts) w) (flat_map (families_of_item types bodies (families_in types bodies n) here) body.items)
     unfolding opening
     reached n parts inside m body good here name own found w h =
@@ -172,7 +173,7 @@ module _ (text : Text) where
       module-inside (Some inner) None found h = absurd found
       module-inside (Some inner) (Some body) found h = own-inside inner body found (find_name inner.own other.name) refl h
 
-    inside : (n : ℕ) (parts : List Part) → length parts ≤ n → IsInside n parts
+    pub inside : (n : ℕ) (parts : List Part) → length parts ≤ n → IsInside n parts
     unfolding opening
     inside n [] le types_here module_name word here name same w h = absurd (cc (h))
     inside n (At e ∷ parts) le types_here module_name word here name same w h = absurd (cc (h))
@@ -186,19 +187,26 @@ module _ (text : Text) where
       at_least : (n : ℕ) → n ≤ bound + n
       at_least n = omega arith
 
-      signal-leads : (parts : List Part) (w : Whole) → signal_at (scope_of m) parts ≡ Some w → LeadsToFamily text here parts
+      -- a whole signal is a family of the text, whose types have its kinds
+      pub signal-there : (parts : List Part) (w : Whole) → signal_at (scope_of m) parts ≡ Some w → Somewhere (IsFamilyAt (here ++ fields_of parts) w) (design_of text).families × (length w.over ≡ length (indexes_of parts))
       unfolding opening
-      signal-leads [] w h = absurd (cc (h))
-      signal-leads (At e ∷ parts) w h = absurd (cc (h))
-      signal-leads (Field word ∷ parts) w h = by_own (find_name m.own word.name) refl h
+      signal-there [] w h = absurd (cc (h))
+      signal-there (At e ∷ parts) w h = absurd (cc (h))
+      signal-there (Field word ∷ parts) w h = by_own (find_name m.own word.name) refl h
         where
-          by_own : (o : Option Own) → find_name m.own word.name ≡ o → option_and_then (λ (own : Own). behind all_modules m.types own.what parts) o ≡ Some w → LeadsToFamily text here (Field word ∷ parts)
+          by_own : (o : Option Own) → find_name m.own word.name ≡ o → option_and_then (λ (own : Own). behind all_modules m.types own.what parts) o ≡ Some w →
+              Somewhere (IsFamilyAt (here ++ word.name ∷ fields_of parts) w) (design_of text).families × (length w.over ≡ length (indexes_of parts))
           by_own None e h = absurd (cc (h))
-          by_own (Some own) e h =
-              let IsIt : Family → Type 0 = IsFamilyAt (here ++ word.name ∷ fields_of parts) w in
-              let there = somewhere-place IsIt (design_of text).families
-              (includes (length parts) (here ++ word.name ∷ fields_of parts) w (reached (bound + length parts) parts (inside (bound + length parts) parts (at_least (length parts))) m body good here word.name own e w h)) in
-              (there.0, there.1, there.2, there.3.0, counted there.1 w there.3.1 ∙ behind-count all_modules (modules-count types all_modules all_constants all_modules bodies same_modules) m.types good.1 own.what parts w h)
+          by_own (Some own) e h = (
+            includes (length parts) (here ++ word.name ∷ fields_of parts) w (reached (bound + length parts) parts (inside (bound + length parts) parts (at_least (length parts))) m body good here word.name own e w h),
+            behind-count all_modules (modules-count types all_modules all_constants all_modules bodies same_modules) m.types good.1 own.what parts w h,
+          )
+
+      signal-leads : (parts : List Part) (w : Whole) → signal_at (scope_of m) parts ≡ Some w → LeadsToFamily text here parts
+      signal-leads parts w h =
+          let own = signal-there parts w h in
+          let there = somewhere-place (IsFamilyAt (here ++ fields_of parts) w) (design_of text).families own.0 in
+          (there.0, there.1, there.2, there.3.0, counted there.1 w there.3.1 ∙ own.1)
 
       -- ---- items inside binders
 
@@ -299,21 +307,29 @@ module _ (text : Text) where
 
       -- the formals of an instance are families of its module
       module _ (name n : Name) (includes_there : (k : ℕ) → Includes (families_in types bodies (bound + k) (here ++ n ∷ []) name)) where
-        formal-leads : (inner : Module) (inner_body : Body) → IsModuleHere inner inner_body → find_name bodies name ≡ Some inner_body → (a : Name) (w : Whole) (at : ℕ) (of : TypeExpr) →
-            find_name inner.own a ≡ Some (record { at = at; what = signal Input of }) → leads inner.types of [] ≡ Some w → FormalLeads n a
+        pub formal-there : (inner : Module) (inner_body : Body) → IsModuleHere inner inner_body → find_name bodies name ≡ Some inner_body → (a : Name) (w : Whole) (at : ℕ) (role : Role) (of : TypeExpr) →
+            find_name inner.own a ≡ Some (record { at = at; what = signal role of }) → leads inner.types of [] ≡ Some w → Somewhere (IsFamilyAt (here ++ n ∷ a ∷ []) w) (design_of text).families × (length w.over ≡ 0)
         unfolding opening
-        formal-leads inner inner_body inner_good found_body a w at of found h =
+        formal-there inner inner_body inner_good found_body a w at role of found h =
             let there : Path = here ++ n ∷ [] in
-            let own : Own = record { at = at; what = signal Input of } in
+            let own : Own = record { at = at; what = signal role of } in
             let items_of : Option Body → List Item = λ b. (unwrap_or b (record { formals = []; items = [] })).items in
             let one_more : bound + 1 ≡ suc bound = omega arith in
             let same : families_in types bodies (bound + 1) there name ≡ flat_map (families_of_item types bodies (families_in types bodies bound) there) inner_body.items =
             ap (λ k. families_in types bodies k there name) one_more ∙ ap (λ b. flat_map (families_of_item types bodies (families_in types bodies bound) there) (items_of b)) found_body in
             let shallow : 0 ≤ bound = omega arith in
-            let own_family = reached bound [] (inside bound [] shallow) inner inner_body inner_good there a own found w h in
-            let r = somewhere-place (IsFamilyAt (there ++ a ∷ []) w) (design_of text).families
-            (includes_there 1 (there ++ a ∷ []) w (subst (Somewhere (IsFamilyAt (there ++ a ∷ []) w)) (sym same) own_family)) in
-            (r.0, r.1, r.2, r.3.0 ∙ append_assoc here (n ∷ []) (a ∷ []), counted r.1 w r.3.1 ∙ behind-count all_modules (modules-count types all_modules all_constants all_modules bodies same_modules) inner.types inner_good.1 own.what [] w h)
+            let own_family = reached bound [] (inside bound [] shallow) inner inner_body inner_good there a own found w h in (
+              subst (λ path. Somewhere (IsFamilyAt path w) (design_of text).families) (append_assoc here (n ∷ []) (a ∷ []))
+                  (includes_there 1 (there ++ a ∷ []) w (subst (Somewhere (IsFamilyAt (there ++ a ∷ []) w)) (sym same) own_family)),
+              behind-count all_modules (modules-count types all_modules all_constants all_modules bodies same_modules) inner.types inner_good.1 own.what [] w h,
+            )
+
+        formal-leads : (inner : Module) (inner_body : Body) → IsModuleHere inner inner_body → find_name bodies name ≡ Some inner_body → (a : Name) (w : Whole) (at : ℕ) (of : TypeExpr) →
+            find_name inner.own a ≡ Some (record { at = at; what = signal Input of }) → leads inner.types of [] ≡ Some w → FormalLeads n a
+        formal-leads inner inner_body inner_good found_body a w at of found h =
+            let own = formal-there inner inner_body inner_good found_body a w at Input of found h in
+            let r = somewhere-place (IsFamilyAt (here ++ n ∷ a ∷ []) w) (design_of text).families own.0 in
+            (r.0, r.1, r.2, r.3.0, counted r.1 w r.3.1 ∙ own.1)
 
         found-whole : (args : List Expr) (o : Option Module) (b : Option Body) → find_name bodies name ≡ b → AreFound types all_modules all_constants o b → in_arguments (scope_of m) o args ≡ [] →
             AreWholeHere (connections (unwrap_or b (record { formals = []; items = [] })) n args)

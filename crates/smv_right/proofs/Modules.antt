@@ -109,19 +109,19 @@ AreTypes [] [] = Unit {0}
 AreTypes ((name, l) ∷ kinds) ((other, shape) ∷ types) = (name ≡ other) × Covers l shape × CountsIndexes l × AreTypes kinds types
 AreTypes _ _ = ⊥
 
-types-append : (ks ls : Types) (ts us : tree.Types) → AreTypes ks ts → AreTypes ls us → AreTypes (ks ++ ls) (ts ++ us)
+pub types-append : (ks ls : Types) (ts us : tree.Types) → AreTypes ks ts → AreTypes ls us → AreTypes (ks ++ ls) (ts ++ us)
 types-append [] ls [] us h k = k
 types-append [] ls (t ∷ ts) us h k = absurd h
 types-append (l ∷ ks) ls [] us h k = absurd h
 types-append ((name, l) ∷ ks) ls ((other, shape) ∷ ts) us h k = (h.0, h.1, h.2, types-append ks ls ts us h.3 k)
 
-types-count : (ks : Types) (ts : tree.Types) → AreTypes ks ts → TypesCount ks
+pub types-count : (ks : Types) (ts : tree.Types) → AreTypes ks ts → TypesCount ks
 types-count [] [] h = tt
 types-count [] (t ∷ ts) h = absurd h
 types-count (l ∷ ks) [] h = absurd h
 types-count ((name, l) ∷ ks) ((other, shape) ∷ ts) h = (h.2, types-count ks ts h.3)
 
-types-found : (ks : Types) (ts : tree.Types) → AreTypes ks ts → AreCovered ks ts
+pub types-found : (ks : Types) (ts : tree.Types) → AreTypes ks ts → AreCovered ks ts
 types-found [] [] h name l e = absurd (cc (e))
 types-found [] (t ∷ ts) h name l e = absurd h
 types-found (k ∷ ks) [] h name l e = absurd h
