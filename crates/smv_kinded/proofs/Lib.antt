@@ -4,3 +4,5 @@ mod Variables
 mod Expressions
 mod Values
 mod Statements
+mod Only
+mod Families
