@@ -6,3 +6,5 @@ mod Values
 mod Statements
 mod Only
 mod Families
+mod Constants
+mod Enumerations
