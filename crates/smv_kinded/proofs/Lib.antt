@@ -8,3 +8,4 @@ mod Only
 mod Families
 mod Constants
 mod Enumerations
+mod Connections

@@ -55,7 +55,7 @@ module _ (raw : Raw) (scope : kinds.Scope) (flat : Scope) (signals : SignalsAreK
   Keeps vars around act = keeps_kinds raw (kinds_bound raw scope flat vars around) act ≡ true
 
   -- an assignment to a whole signal
-  assign-keeps : (vars : Vars) (around : Around) (parts : List Part) (at : ℕ) (w : Whole) → signal_at scope parts ≡ Some w → (os : List Operand) → length (indexes_of parts) ≡ length os → (reference at (Some w) os).faults ≡ [] →
+  pub assign-keeps : (vars : Vars) (around : Around) (parts : List Part) (at : ℕ) (w : Whole) → signal_at scope parts ≡ Some w → (os : List Operand) → length (indexes_of parts) ≡ length os → (reference at (Some w) os).faults ≡ [] →
       (found : List (Option typed.Kind)) → HaveKinds flat found os → (right : Operand) (o : Option typed.Kind) → HasKind flat o right.kind → takes w.value right ≡ [] →
       assigns (element (slice_get raw.families (family_number flat (flat.instance ++ fields_of parts))) found) o ≡ true
   assign-keeps vars around parts at w h os count fine found given right o own fits =
