@@ -9,3 +9,4 @@ mod Families
 mod Constants
 mod Enumerations
 mod Connections
+mod Entries
