@@ -113,7 +113,7 @@ names-one : (words : List Word) → HasOne words → HasOne (names_of words)
 names-one [] h = h
 names-one (word ∷ words) h = tt
 
-range-fit : (span : Span) (at : ℕ) → range_faults span at ≡ [] → IsFit (range span.low span.high)
+pub range-fit : (span : Span) (at : ℕ) → range_faults span at ≡ [] → IsFit (range span.low span.high)
 range-fit span at h =
     let both = or_parts (is_reversed span) (nat_lt 255 span.high) (unplaced (is_reversed span || nat_lt 255 span.high) at (no_places 13 (place_if (is_reversed span || nat_lt 255 span.high) at) h)) in
     (ltb-false span.high span.low both.0, ltb-false 255 span.high both.1)

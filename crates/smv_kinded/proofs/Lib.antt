@@ -10,3 +10,4 @@ mod Constants
 mod Enumerations
 mod Connections
 mod Entries
+mod Kinded
