@@ -1,15 +1,14 @@
 -- The kinds of flattened expressions and statements that are made of lists and values.
-use Rattle.std.proofs.Common.{◌≡◌, ℕ, ◌<◌, List, [], ◌∷◌, map, Option, Some, None, is_some, slice_get, nat_le, nat_lt, if◌then◌else◌, Bool, true, false, ◌&&◌, refl, ap, sym, ◌∙◌, subst}
+use Rattle.std.proofs.Common.{◌≡◌, ℕ, List, [], ◌∷◌, map, Option, Some, None, is_some, slice_get, nat_le, nat_lt, if◌then◌else◌, Bool, true, ◌&&◌, refl, ap, ◌∙◌}
 use Rattle.std.specs.List.{list_all}
 use Rattle.smv_core.specs.declared.tree.Op.{Op}
-use Rattle.smv_core.specs.declared.tree.Kind.{Kind as Assignment}
 use Rattle.smv_core.specs.declared.flat.Simple.{Simple}
 use Rattle.smv_core.specs.declared.flat.Raw.{Raw}
 use Rattle.smv_core.specs.declared.flat.FlatSigned.{FlatSigned, out-FlatSigned}
 use Rattle.smv_core.specs.declared.flat.FlatMember.{FlatMember, One, Span as SpanOf}
 use Rattle.smv_core.specs.declared.flat.FlatExpr.{FlatExpr, Not, Iff, Compare, Within, Modulo, Choose, All, Any, Each, Read, Read', And, And', Or, Or', Implies, Implies', Sum, Sum', List as ListOf, List', Row_of-FlatExpr, end_of-FlatExpr, more_of-FlatExpr, Row_of-FlatMember, end_of-FlatMember, more_of-FlatMember, Row_of-FlatSigned, end_of-FlatSigned, more_of-FlatSigned, items-the_row-FlatExpr, items-the_row-FlatMember, items-the_row-FlatSigned, items_hidden-the_row-FlatExpr-0, items_hidden-the_row-FlatSigned-2, items_hidden-the_row-FlatMember-3}
-use Rattle.smv_core.specs.declared.flat.FlatStmt.{FlatStmt, Assign, If, Default, Forall, Block, Block', Row_of-FlatStmt, end_of-FlatStmt, more_of-FlatStmt, items-the_row-FlatStmt, items_hidden-the_row-FlatStmt-1}
-use Rattle.smv_typed.specs.FlatKinds.{Kind, Vars, takes, are_numbers, number, number_if, common, compares, chosen, element, inside, kind_of, is_binder, kind_in, kinds_in, summands, members_in, looked_through, is_condition, value_in, keeps_kinds, all_keep_kinds}
+use Rattle.smv_core.specs.declared.flat.FlatStmt.{FlatStmt, If, Default, Forall, Block, Block', Row_of-FlatStmt, end_of-FlatStmt, more_of-FlatStmt, items-the_row-FlatStmt, items_hidden-the_row-FlatStmt-1}
+use Rattle.smv_typed.specs.FlatKinds.{Kind, Vars, takes, are_numbers, number, number_if, common, compares, chosen, element, inside, kind_of, is_binder, kind_in, kinds_in, summands, members_in, looked_through, value_in, keeps_kinds, all_keep_kinds}
 use Rattle.smv_flat.proofs.FlatLists.{boxes}
 use mathlib.Core.Former.{Count}
 

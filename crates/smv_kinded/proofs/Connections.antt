@@ -1,11 +1,10 @@
 -- In an instance: its binders, its items and the connections of the instances in it keep the kinds of the flattened text.
 use Rattle.smv_right.proofs.Opening.{opening}
-use Rattle.std.proofs.Common.{◌≡◌, ℕ, ◌+◌, List, [], ◌∷◌, ◌++◌, map, flat_map, length, zip, slice_get, Option, Some, None, is_some, Bool, true, false, cond, ◌&&◌, refl, sym, ap, ◌∙◌, subst, append_assoc, arith}
+use Rattle.std.proofs.Common.{◌≡◌, ℕ, List, [], ◌∷◌, ◌++◌, map, flat_map, length, zip, slice_get, Option, Some, None, is_some, Bool, true, false, cond, ◌&&◌, refl, sym, ap, ◌∙◌, subst, append_assoc, arith}
 use Rattle.std.specs.List.{AllByRecursion, list_all}
 use Rattle.smv_core.specs.Values.{Name, Path}
 use Rattle.smv_core.specs.Types.{find_name}
 use Rattle.smv_core.specs.FlatOrder.{Body, role_of}
-use Rattle.smv_core.specs.Outcome.{fields_of, family_at}
 use Rattle.smv_core.specs.Walk.{indexes_of}
 use Rattle.smv_core.specs.Assignments.{Around, any}
 use Rattle.smv_core.specs.declared.tree.Word.{Word}
@@ -19,7 +18,6 @@ use Rattle.smv_core.specs.declared.tree.Expr.{Expr, Signal, Signal', Row_of-Part
 use Rattle.smv_core.specs.declared.tree.Stmt.{Stmt}
 use Rattle.smv_core.specs.declared.tree.Item.{Item, Declare, Instance, Layer, Claim, Split, Using, Act, Row_of-Item, end_of-Item, more_of-Item}
 use Rattle.smv_core.specs.declared.tree.Item as item
-use Rattle.smv_core.specs.declared.flat.Raw.{Raw}
 use Rattle.smv_core.specs.declared.flat.Param.{Param}
 use Rattle.smv_core.specs.declared.flat.FlatPair.{FlatPair}
 use Rattle.smv_inst.specs.Mentions as said
@@ -27,25 +25,24 @@ use Rattle.smv_inst.specs.Mentions.{What, signal}
 use Rattle.smv_inst.specs.Scopes.{Own}
 use Rattle.smv_inst.specs.NameFaults.{is_port, is_port_if_own}
 use Rattle.smv_inst.proofs.Computing.{computing}
-use Rattle.smv_types.specs.Kinds.{Kind, Operand, takes, takes_number}
+use Rattle.smv_types.specs.Kinds.{Kind, Operand, takes}
 use Rattle.smv_types.specs.Types.{Whole, leads, value_kind, index_faults}
-use Rattle.smv_types.specs.References as kinds
 use Rattle.smv_types.specs.References.{Module, Vars, signal_at, reference}
 use Rattle.smv_types.specs.Operands.{bind, operand, value}
-use Rattle.smv_types.specs.KindFaults.{assigned, are_constant, gives, connected, in_arguments, in_stmt, in_item, in_items}
+use Rattle.smv_types.specs.KindFaults.{assigned, are_constant, gives, connected, in_arguments, in_item, in_items}
 use Rattle.smv_typed.specs.FlatKinds as typed
 use Rattle.smv_typed.specs.FlatKinds.{kind_of, kind_in, value_in, keeps_kinds, inside, is_binder, are_binders, bound_by, element}
 use Rattle.smv_flat.specs.Numbers.{Scope, bound_in, flat_over, family_number, or_signal}
 use Rattle.smv_flat.specs.Statements.{flat_expr, flat_stmt}
-use Rattle.smv_flat.specs.Entries.{Binders, Goal, claim, split, using, Entry, layer, statement, goal, inside_binder, formal, connection, connections, item_entries, items_entries}
+use Rattle.smv_flat.specs.Entries.{Goal, claim, split, using, Entry, layer, statement, goal, inside_binder, formal, connection, connections, item_entries, items_entries}
 use Rattle.smv_flat.specs.Flattening.{flatten, scope_in, within, params_from, flat_pair}
-use Rattle.smv_right.specs.Written.{IsWritten, AreWritten, StatementIsWritten, InnerIsWritten, InnersAreWritten}
+use Rattle.smv_right.specs.Written.{IsWritten, AreWritten, InnerIsWritten, InnersAreWritten}
 use Rattle.smv_right.proofs.Faultless.{empty-both, each-append, each-front, each-behind, each-map, number-fine, taken-fine, reference-fine}
 use Rattle.smv_right.proofs.Statements.{mapped-length}
 use Rattle.smv_right.proofs.OwnFamilies.{own_in, role-same, input-simple, output-simple}
 use Rattle.smv_right.proofs.Entries.{indexes-written, chosen-fine}
-use Rattle.smv_right.proofs.LeftSides.{types, bodies, all_modules, all_constants, scope_of, IsModuleHere}
-use Rattle.smv_kinded.proofs.Relation.{IsKind, flat_kind, HasKind, takes-kept, number-kept, indexes-kept}
+use Rattle.smv_right.proofs.LeftSides.{types, bodies, scope_of, IsModuleHere}
+use Rattle.smv_kinded.proofs.Relation.{HasKind, takes-kept, number-kept, indexes-kept}
 use Rattle.smv_kinded.proofs.Boxes.{kind-Read, keeps-Forall}
 use Rattle.smv_kinded.proofs.Variables.{AreApart, SignalsAreKinded, ConstantsAreKinded, IndexesAreKinded, AreVars, kinds_bound, inside-same, binder-kinded}
 use Rattle.smv_kinded.proofs.Expressions.{expression-kinded, bound-vars}

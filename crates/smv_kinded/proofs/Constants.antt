@@ -1,5 +1,5 @@
 -- A constant of a text has the kind of its enumeration: the first list that has it is the one that it was first read in.
-use Rattle.std.proofs.Common.{◌≡◌, ℕ, ◌+◌, ◌<◌, List, [], ◌∷◌, ◌++◌, map, flat_map, filter, find, length, get_or, slice_get, Option, Some, None, option_map, Bool, true, false, cond, not, ◌||◌, nat_lt, refl, sym, ap, ◌∙◌, subst, arith}
+use Rattle.std.proofs.Common.{◌≡◌, ℕ, ◌+◌, ◌<◌, List, [], ◌∷◌, ◌++◌, map, flat_map, filter, find, length, get_or, Option, Some, None, option_map, Bool, true, false, cond, not, ◌||◌, nat_lt, refl, sym, ap, ◌∙◌, subst, arith}
 use Rattle.std.specs.Str.{bytes_eq}
 use Rattle.std.specs.Option.{option_or}
 use Rattle.std.specs.List.{list_any, position_or_len}

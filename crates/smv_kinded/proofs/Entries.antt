@@ -3,7 +3,6 @@ use Rattle.smv_right.proofs.Opening.{opening}
 use Rattle.std.proofs.Common.{◌≡◌, ℕ, zero, suc, ◌+◌, ◌≤◌, List, [], ◌∷◌, ◌++◌, map, flat_map, length, Option, Some, None, unwrap_or, refl, sym, ap, ◌∙◌, subst, append_assoc, true, arith}
 use Rattle.std.specs.List.{AllByRecursion}
 use Rattle.smv_core.specs.Values.{Name, Path}
-use Rattle.smv_core.specs.Types as tree
 use Rattle.smv_core.specs.Types.{Family, find_name}
 use Rattle.smv_core.specs.FlatOrder.{Body, main, body_of, families_of_item, families_in, design_of}
 use Rattle.smv_core.specs.Outcome.{fields_of, family_at}
@@ -15,13 +14,11 @@ use Rattle.smv_core.specs.declared.tree.Stmt.{Stmt}
 use Rattle.smv_core.specs.declared.tree.Item.{Item, Declare, Instance, Layer, Claim, Split, Using, Act}
 use Rattle.smv_core.specs.declared.tree.Item as item
 use Rattle.smv_inst.specs.Mentions as said
-use Rattle.smv_types.specs.Kinds.{Kind}
-use Rattle.smv_types.specs.Types.{Whole, index_kind}
 use Rattle.smv_types.specs.References.{Module}
 use Rattle.smv_types.specs.KindFaults.{in_arguments, in_stmt, in_item}
 use Rattle.smv_typed.specs.FlatKinds.{keeps_kinds}
 use Rattle.smv_flat.specs.Statements.{flat_stmt}
-use Rattle.smv_flat.specs.Entries.{Entry, layer, statement, connections, instance_entries, item_entries, entries_in, entries}
+use Rattle.smv_flat.specs.Entries.{Entry, statement, connections, instance_entries, item_entries, entries_in, entries}
 use Rattle.smv_flat.specs.Flattening.{flatten, scope_in}
 use Rattle.smv_flat.specs.Agreement.{IsIndexType, numbers_in}
 use Rattle.smv_flat.proofs.Numbered.{RunsOver}
@@ -30,9 +27,9 @@ use Rattle.smv_right.specs.Written.{AreWritten, StatementIsWritten, ItemIsWritte
 use Rattle.smv_right.proofs.Faultless.{empty-both, each-append, each-front, each-behind, each-map}
 use Rattle.smv_right.proofs.Somewhere.{somewhere-front, somewhere-behind}
 use Rattle.smv_right.proofs.LeadTypes.{IsFamilyAt}
-use Rattle.smv_right.proofs.Modules.{IsApart, AreModules, AreFound, modules-found}
+use Rattle.smv_right.proofs.Modules.{AreModules, AreFound, modules-found}
 use Rattle.smv_right.proofs.LeftSides.{types, bodies, all_modules, all_constants, scope_of, IsModuleHere, Includes, IncludesAll, signal-there, formal-there}
-use Rattle.smv_abs.specs.Sets.{Has, first, later}
+use Rattle.smv_abs.specs.Sets.{Has, first}
 use Rattle.smv_extend.specs.TextExtension.{FamiliesAreFound}
 use Rattle.smv_extend.proofs.Lists.{Has-left, Has-right, Has-from_flat_map}
 use Rattle.smv_extend.proofs.FamiliesFound.{Once, AreFine, IsBehind, AreBehind, AllApart, BodyIsFine, own_words, AreThere, once-left, once-right, once-apart, items-once, item-behind, items-behind, families-there, own-fine}
@@ -42,7 +39,7 @@ use Rattle.smv_kinded.proofs.Statements.{statement-keeps}
 use Rattle.smv_kinded.proofs.Only.{OwnsBehind, Owns, owns-parts, owns-words, owns-one, constant-no_family}
 use Rattle.smv_kinded.proofs.Families.{TableIsFit, index-fit, over-kept, family-kinded}
 use Rattle.smv_kinded.proofs.Constants.{constant-kinded}
-use Rattle.smv_kinded.proofs.Connections.{EntryKeeps, AreKept, FormalIs, inner-keeps, connections-keep}
+use Rattle.smv_kinded.proofs.Connections.{EntryKeeps, AreKept, inner-keeps, connections-keep}
 
 module _ (text : Text) (found : FamiliesAreFound text) (table : TableIsFit (types text)) (numbered : (over : TypeExpr) → IsIndexType over → RunsOver (scope_in text []) (numbers_in text (λ name. 0)) over) (apart : AllApart (types text))
     (bodies_fine : (entry : Name × Body) → Has (bodies text) entry → BodyIsFine (types text) apart (bodies text) entry.1) (same_modules : AreModules (types text) (all_modules text) (all_constants text) (all_modules text) (bodies text)) where

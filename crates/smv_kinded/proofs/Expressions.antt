@@ -1,47 +1,43 @@
 -- In a module an expression without faults has a kind in the flattened text, and the one that stands for its own.
 use Rattle.smv_right.proofs.Opening.{opening}
-use Rattle.std.proofs.Common.{◌≡◌, ℕ, zero, ◌<◌, ◌≤◌, List, [], ◌∷◌, ◌++◌, map, flat_map, length, slice_get, Option, Some, None, option_and_then, is_some, Bool, true, false, cond, not, nat_eq, nat_lt, nat_le, ◌&&◌, ◌⊎◌, inl, inr, refl, sym, ap, ◌∙◌, subst, arith}
-use Rattle.std.specs.Str.{bytes_eq}
-use Rattle.std.specs.List.{AllByRecursion}
-use Rattle.std.proofs.lemmas.Bool.{ltb-false, le-leb, eqb-true, eqb-false, lt-ltb, eq-eqb}
-use Rattle.smv_core.specs.Values.{Name, Path}
-use Rattle.smv_core.specs.Types.{Family, find_name}
+use Rattle.std.proofs.Common.{◌≡◌, ℕ, zero, List, [], ◌∷◌, ◌++◌, map, length, slice_get, Option, Some, None, option_and_then, true, false, cond, nat_eq, nat_lt, nat_le, ◌&&◌, ◌⊎◌, inl, inr, refl, sym, ap, ◌∙◌, subst, arith}
+use Rattle.std.proofs.lemmas.Bool.{ltb-false, le-leb, eqb-false, lt-ltb}
+use Rattle.smv_core.specs.Values.{Path}
+use Rattle.smv_core.specs.Types.{find_name}
 use Rattle.smv_core.specs.Outcome.{fields_of, family_at}
 use Rattle.smv_core.specs.Walk.{indexes_of}
-use Rattle.smv_core.specs.Assignments.{Around, loop, any}
+use Rattle.smv_core.specs.Assignments.{Around, any}
 use Rattle.smv_core.specs.declared.tree.Word.{Word}
 use Rattle.smv_core.specs.declared.tree.Op.{Op}
 use Rattle.smv_core.specs.declared.tree.Op.TheVariants.{Equal, Differ, Less, AtMost, Greater, AtLeast}
 use Rattle.smv_core.specs.declared.tree.TypeExpr.{TypeExpr}
 use Rattle.smv_core.specs.declared.tree.Part.{Part, Field, At}
 use Rattle.smv_core.specs.declared.tree.Member.{One, Span as SpanOf}
-use Rattle.smv_core.specs.declared.tree.Expr.{Expr, Number, Signal', Not', And', Or', Implies', Iff', Compare', Within', Sum', Modulo', Choose', All', Any', List', Each', Held-Expr-Each-2, None', Some', Row_of-Expr, end_of-Expr, more_of-Expr, Row_of-Part, end_of-Part, more_of-Part, Row_of-Member, end_of-Member, more_of-Member, Row_of-Signed, end_of-Signed, more_of-Signed, items-the_row-Part}
+use Rattle.smv_core.specs.declared.tree.Expr.{Expr, Number, Signal', Not', And', Or', Implies', Iff', Compare', Within', Sum', Modulo', Choose', All', Any', List', Each', Row_of-Expr, end_of-Expr, more_of-Expr, Row_of-Part, end_of-Part, more_of-Part, Row_of-Member, end_of-Member, more_of-Member, Row_of-Signed, end_of-Signed, more_of-Signed, items-the_row-Part}
 use Rattle.smv_core.specs.declared.flat.Raw.{Raw}
-use Rattle.smv_core.specs.declared.flat.Family.{Family as FlatFamily}
 use Rattle.smv_core.specs.declared.flat.FlatExpr.{FlatExpr}
 use Rattle.smv_core.specs.declared.flat.FlatExpr as flatly
-use Rattle.smv_core.specs.declared.flat.FlatMember as member
 use Rattle.smv_inst.specs.Mentions as said
 use Rattle.smv_inst.specs.Scopes.{Own, Constant}
 use Rattle.smv_inst.specs.NameFaults.{place_if}
 use Rattle.smv_inst.specs.FirstFault.{faults_at}
-use Rattle.smv_types.specs.Kinds.{Kind, number, enumeration, no_kind, Operand, takes_number, alike, takes, kind_with}
-use Rattle.smv_types.specs.Types.{Whole, single, index_kind, index_faults, is_reversed}
+use Rattle.smv_types.specs.Kinds.{Kind, number, enumeration, Operand, takes_number, alike}
+use Rattle.smv_types.specs.Types.{Whole, single, index_faults, is_reversed}
 use Rattle.smv_types.specs.References as kinds
 use Rattle.smv_types.specs.References.{Vars, behind, signal_at, constant_at, reference_at, reference}
-use Rattle.smv_types.specs.Operands.{bind, operand, operands, indexes, summands, members, looked_through, condition_faults, value, compared}
+use Rattle.smv_types.specs.Operands.{bind, operand, operands, indexes, summands, members, looked_through, value, compared}
 use Rattle.smv_typed.specs.FlatKinds as typed
 use Rattle.smv_typed.specs.FlatKinds.{kind_of, kind_in, value_in, number_if, is_binder, inside}
-use Rattle.smv_flat.specs.Numbers.{Scope, bound_in, variable, variable_at, flat_over, family_number, or_signal, flat_path, constant_in}
-use Rattle.smv_flat.specs.Statements.{flat_expr, flat_row, flat_indexes, flat_signed, flat_members, flat_condition}
+use Rattle.smv_flat.specs.Numbers.{Scope, bound_in, variable_at, flat_over, family_number, or_signal, flat_path, constant_in}
+use Rattle.smv_flat.specs.Statements.{flat_expr, flat_row, flat_indexes, flat_signed, flat_members}
 use Rattle.smv_flat.specs.Agreement.{IsIndexType}
-use Rattle.smv_right.specs.Written.{IsSet, IsWritten, AreWritten, PartsAreWritten, IndexesAreWritten, TermsAreWritten, MembersAreWritten, ConditionIsWritten}
+use Rattle.smv_right.specs.Written.{IsSet, IsWritten, PartsAreWritten, IndexesAreWritten, TermsAreWritten, MembersAreWritten}
 use Rattle.smv_right.proofs.Faultless.{empty-both, unplaced, no_places, each-front, each-behind, IsFine, AreFine, number-fine, numbers-fine, alike-fine, compared-fine, reference-fine}
 use Rattle.smv_right.proofs.LeadTypes.{single-counts, some-same}
 use Rattle.smv_right.proofs.Expressions.{chained, listed-constant, reference-cases}
 use Rattle.smv_right.proofs.Modules.{IsApart}
-use Rattle.smv_kinded.proofs.Relation.{IsKind, flat_kind, HasKind, HaveKinds, takes-kept, number-kept, numbers-kept, common-kept, chosen-kept, alike-some, compared-kept, AreOfKinds, indexes-kept}
-use Rattle.smv_kinded.proofs.Boxes.{member_kind, term_kind, condition_fits, kind-Read, kind-And, kind-Or, kind-Implies, looked-List, kind-Sum, kind-Not, kind-Iff, kind-Compare, kind-Within, kind-Modulo, kind-Choose, kind-All, kind-Any, value-List, value-Choose, value-Each}
+use Rattle.smv_kinded.proofs.Relation.{HasKind, HaveKinds, number-kept, numbers-kept, chosen-kept, alike-some, compared-kept, indexes-kept}
+use Rattle.smv_kinded.proofs.Boxes.{member_kind, term_kind, kind-Read, kind-And, kind-Or, kind-Implies, looked-List, kind-Sum, kind-Not, kind-Iff, kind-Compare, kind-Within, kind-Modulo, kind-Choose, kind-All, kind-Any}
 use Rattle.smv_kinded.proofs.Variables.{AreApart, IsFree, SignalsAreKinded, ConstantsAreKinded, IndexesAreKinded, AreVars, kinds_bound, variable-kinded, no_variable, binder-kinded}
 
 -- a comparison is a number
@@ -208,19 +204,25 @@ module _ (raw : Raw) (scope : kinds.Scope) (flat : Scope) (signals : SignalsAreK
         (kind-Compare raw (kinds_bound raw scope flat vars around) op (flat_expr flat around left) (flat_expr flat around right) ∙ ap number_if (compared-kept flat op (operand scope vars left) (operand scope vars right) _ _ first second fine), tt)
     expression-kinded words vars around same (Within' l (more_of-Expr left end_of-Expr) r (more_of-Expr set end_of-Expr)) written apart fine =
         let each : AreFine (operand scope vars left ∷ looked_through scope vars set) = alike-fine (operand scope vars left ∷ looked_through scope vars set) fine in
-        let own : HasItsKind vars around left = expression-kinded words vars around same left written.0 (each-front _ (said.in_expr words left) (said.in_expr words set) apart) each.0 in
-        (kind-Within raw (kinds_bound raw scope flat vars around) (flat_expr flat around left) (flat_expr flat around set)
-        ∙ ap number_if (alike-some flat (operand scope vars left) (looked_through scope vars set) (kind_in raw (kinds_bound raw scope flat vars around) (flat_expr flat around left)) (typed.looked_through raw (kinds_bound raw scope flat vars around) (flat_expr flat around set)) (own, set-kinded words vars around same set written.2 written.1 (each-behind _ (said.in_expr words left) (said.in_expr words set) apart) each.1) fine), tt)
+        let own : HasItsKind vars around left = expression-kinded words vars around same left written.0 (each-front _ (said.in_expr words left) (said.in_expr words set) apart) each.0 in (
+          kind-Within raw (kinds_bound raw scope flat vars around) (flat_expr flat around left) (flat_expr flat around set)
+              ∙ ap number_if (alike-some flat (operand scope vars left) (looked_through scope vars set) (kind_in raw (kinds_bound raw scope flat vars around) (flat_expr flat around left)) (typed.looked_through raw (kinds_bound raw scope flat vars around) (flat_expr flat around set)) (own, set-kinded words vars around same set written.2 written.1 (each-behind _ (said.in_expr words left) (said.in_expr words set) apart) each.1) fine),
+          tt,
+        )
     expression-kinded words vars around same (Sum' f (more_of-Expr first end_of-Expr) shape more) written apart fine =
         let each : AreFine (operand scope vars first ∷ summands scope vars more) = numbers-fine (operand scope vars first ∷ summands scope vars more) fine in
-        let own : HasItsKind vars around first = expression-kinded words vars around same first written.0 (each-front _ (said.in_expr words first) (said.in_sum words more) apart) each.0 in
-        (kind-Sum raw (kinds_bound raw scope flat vars around) (flat_expr flat around first) (flat_signed flat around more)
-        ∙ ap number_if (numbers-kept flat (operand scope vars first ∷ summands scope vars more) (kind_in raw (kinds_bound raw scope flat vars around) (flat_expr flat around first) ∷ map (term_kind raw (kinds_bound raw scope flat vars around)) (flat_signed flat around more)) (own, terms-kinded words vars around same more written.1 (each-behind _ (said.in_expr words first) (said.in_sum words more) apart) each.1) fine), tt)
+        let own : HasItsKind vars around first = expression-kinded words vars around same first written.0 (each-front _ (said.in_expr words first) (said.in_sum words more) apart) each.0 in (
+          kind-Sum raw (kinds_bound raw scope flat vars around) (flat_expr flat around first) (flat_signed flat around more)
+              ∙ ap number_if (numbers-kept flat (operand scope vars first ∷ summands scope vars more) (kind_in raw (kinds_bound raw scope flat vars around) (flat_expr flat around first) ∷ map (term_kind raw (kinds_bound raw scope flat vars around)) (flat_signed flat around more)) (own, terms-kinded words vars around same more written.1 (each-behind _ (said.in_expr words first) (said.in_sum words more) apart) each.1) fine),
+          tt,
+        )
     expression-kinded words vars around same (Modulo' shape (more_of-Expr e end_of-Expr) by at) written apart fine =
         let both = empty-both (takes_number (operand scope vars e)) (faults_at (12, place_if (nat_eq by 0) at)) fine in
-        let own : typed.takes typed.number (kind_in raw (kinds_bound raw scope flat vars around) (flat_expr flat around e)) ≡ true = number-kept flat (operand scope vars e) _ (expression-kinded words vars around same e written apart (number-fine _ both.0)) both.0 in
-        (kind-Modulo raw (kinds_bound raw scope flat vars around) (flat_expr flat around e) by at
-        ∙ ap number_if (ap (λ b. b && nat_lt 0 by) own ∙ above-zero by (unplaced (nat_eq by 0) at (no_places 12 (place_if (nat_eq by 0) at) both.1))), tt)
+        let own : typed.takes typed.number (kind_in raw (kinds_bound raw scope flat vars around) (flat_expr flat around e)) ≡ true = number-kept flat (operand scope vars e) _ (expression-kinded words vars around same e written apart (number-fine _ both.0)) both.0 in (
+          kind-Modulo raw (kinds_bound raw scope flat vars around) (flat_expr flat around e) by at
+              ∙ ap number_if (ap (λ b. b && nat_lt 0 by) own ∙ above-zero by (unplaced (nat_eq by 0) at (no_places 12 (place_if (nat_eq by 0) at) both.1))),
+          tt,
+        )
     expression-kinded words vars around same (Choose' c (more_of-Expr cond end_of-Expr) l (more_of-Expr left end_of-Expr) r (more_of-Expr right end_of-Expr)) written apart fine =
         let both = empty-both (takes_number (operand scope vars cond)) (alike (operand scope vars left ∷ operand scope vars right ∷ [])) fine in
         let each : AreFine (operand scope vars left ∷ operand scope vars right ∷ []) = alike-fine (operand scope vars left ∷ operand scope vars right ∷ []) both.1 in

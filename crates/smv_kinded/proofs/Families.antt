@@ -1,15 +1,15 @@
 -- The families of a text without faults have types that break no rule, and so have binders.
 use Rattle.smv_right.proofs.Opening.{opening}
-use Rattle.std.proofs.Common.{◌≡◌, ℕ, zero, suc, ◌<◌, ◌≤◌, List, [], ◌∷◌, ◌++◌, map, flat_map, length, get_or, slice_get, Option, Some, None, unwrap_or, Bool, true, false, cond, not, ◌&&◌, ◌||◌, All, nat_lt, nat_le, refl, sym, ap, ◌∙◌, subst, arith}
+use Rattle.std.proofs.Common.{◌≡◌, ℕ, zero, suc, ◌<◌, ◌≤◌, List, [], ◌∷◌, ◌++◌, map, flat_map, length, get_or, slice_get, Option, Some, None, unwrap_or, Bool, true, false, cond, ◌&&◌, ◌||◌, All, nat_lt, nat_le, refl, sym, ap, ◌∙◌, subst, arith}
 use Rattle.std.specs.Str.{bytes_eq}
 use Rattle.std.specs.List.{AllByRecursion, list_all, position_or_len}
 use Rattle.std.proofs.lemmas.Bool.{le-leb, lt-ltb, ltb-false, or_parts}
 use Rattle.smv_core.specs.Values.{Name, Path, Simple, range, choice, scalarset, ordset, Sizes}
 use Rattle.smv_core.specs.Types as tree
 use Rattle.smv_core.specs.Types.{Family, Shape, find_name, names_of, simple, simple_of, shape_of, shape_of_fields, shape_or_none, one_value, array_of, indexed, behind, types_from}
-use Rattle.smv_core.specs.FlatOrder.{Body, modules, main, body_of, declared_as, families_of_item, families_in, design_of}
+use Rattle.smv_core.specs.FlatOrder.{Body, declared_as, families_of_item, families_in, design_of}
 use Rattle.smv_core.specs.Outcome.{same_path, family_at}
-use Rattle.smv_core.specs.Flat.{Numbered, set_type}
+use Rattle.smv_core.specs.Flat.{set_type}
 use Rattle.smv_core.specs.declared.tree.Word.{Word}
 use Rattle.smv_core.specs.declared.tree.Text.{Text}
 use Rattle.smv_core.specs.declared.tree.Span.{Span}
@@ -19,7 +19,6 @@ use Rattle.smv_core.specs.declared.tree.TypeExpr.{TypeExpr, Boolean, Range, Enum
 use Rattle.smv_core.specs.declared.tree.Item.{Item, Declare, Instance}
 use Rattle.smv_core.specs.declared.flat.SetInfo.{SetInfo}
 use Rattle.smv_core.specs.declared.flat.Family.{Family as FlatFamily}
-use Rattle.smv_core.specs.declared.flat.Raw.{Raw}
 use Rattle.smv_inst.specs.Scopes.{Constant}
 use Rattle.smv_inst.specs.NameFaults.{place_if}
 use Rattle.smv_types.specs.Kinds as kind
@@ -41,7 +40,7 @@ use Rattle.smv_right.specs.Written.{HasOne, TypeIsWritten, FieldsAreWritten, Ite
 use Rattle.smv_right.proofs.Faultless.{empty-both, unplaced, no_places, each-append, each-map}
 use Rattle.smv_right.proofs.Somewhere.{Somewhere, somewhere-place}
 use Rattle.smv_right.proofs.LeadTypes.{kind_of, IsFamilyAt, AreCovered, single-covers, single-counts, leads-count, leads-cover, index-simple, some-same, not-false}
-use Rattle.smv_right.proofs.Modules.{IsModule, AreModules, AreFound, modules-found, AreTypes, types-append, types-count, types-found}
+use Rattle.smv_right.proofs.Modules.{AreModules, AreFound, modules-found, AreTypes, types-append, types-count, types-found}
 use Rattle.smv_extend.specs.TextExtension.{FamiliesAreFound}
 use Rattle.smv_kinded.proofs.Relation.{IsKind, flat_kind, AreOfKinds}
 

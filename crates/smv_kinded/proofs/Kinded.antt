@@ -1,6 +1,6 @@
 -- The flattened text of a text without faults is kinded.
 use Rattle.smv_right.proofs.Opening.{opening}
-use Rattle.std.proofs.Common.{◌≡◌, ℕ, ◌+◌, ◌-◌, ◌<◌, ◌≤◌, List, [], ◌∷◌, ◌++◌, map, flat_map, length, Option, Some, None, option_map, is_some, Bool, true, false, ◌&&◌, All, nat_lt, nat_le, refl, sym, ap, ◌∙◌, subst, arith}
+use Rattle.std.proofs.Common.{◌≡◌, ℕ, ◌+◌, ◌-◌, ◌<◌, ◌≤◌, List, [], ◌∷◌, ◌++◌, map, flat_map, length, Option, Some, None, option_map, Bool, true, false, ◌&&◌, All, nat_lt, nat_le, refl, sym, ap, ◌∙◌, subst, arith}
 use Rattle.std.specs.List.{AllByRecursion, list_all}
 use Rattle.std.proofs.lemmas.Bool.{le-leb, lt-ltb}
 use Rattle.smv_core.specs.Values.{Name, Path, Sizes}
@@ -23,7 +23,7 @@ use Rattle.smv_typed.specs.FlatKinds as typed
 use Rattle.smv_typed.specs.FlatKinds.{kind_in, are_binders, bound_by, is_size, is_kinded_family, is_kinded_item, is_kinded}
 use Rattle.smv_flat.specs.Statements.{flat_expr}
 use Rattle.smv_flat.specs.Entries.{Binders, claim, split, using, Entry, layer, statement, goal, placed_families, entries}
-use Rattle.smv_flat.specs.Flattening.{flatten, scope_in, set_of, enums_of, within, params_from, flat_assignments, flat_pair, flat_entry, flat_family, layers_of, with_places}
+use Rattle.smv_flat.specs.Flattening.{flatten, scope_in, set_of, within, params_from, flat_assignments, flat_pair, flat_entry, layers_of, with_places}
 use Rattle.smv_flat.specs.Agreement.{numbers_in}
 use Rattle.smv_flat.proofs.Numbered.{HasNumbers, AreNumbered}
 use Rattle.smv_flat.proofs.SameFamilies.{families-same}

@@ -1,10 +1,10 @@
 -- In a text without a fault of names what stands behind a name of an instance is declared by that name there.
-use Rattle.std.proofs.Common.{◌≡◌, ℕ, suc, List, [], ◌∷◌, ◌++◌, length, Option, Some, None, Bool, true, false, cond, find, unwrap_or, inl, inr, refl, sym, ap, ◌∙◌, subst}
+use Rattle.std.proofs.Common.{◌≡◌, ℕ, List, [], ◌∷◌, ◌++◌, Option, Some, None, Bool, true, false, cond, find, inl, inr, refl, sym, ◌∙◌, subst}
 use Rattle.std.specs.List.{flat_map, AllByRecursion}
 use Rattle.std.proofs.lemmas.List.{append_assoc}
 use Rattle.smv_core.specs.Values.{Name, Path}
 use Rattle.smv_core.specs.Types.{Types, Family, find_name}
-use Rattle.smv_core.specs.FlatOrder.{Body, families_of_item, families_in, body_of}
+use Rattle.smv_core.specs.FlatOrder.{Body, families_of_item, families_in}
 use Rattle.smv_core.specs.Outcome.{family_at, same_path}
 use Rattle.smv_core.specs.declared.tree.Word.{Word}
 use Rattle.smv_core.specs.declared.tree.Item.{Item}
@@ -16,7 +16,7 @@ use Rattle.smv_flat.proofs.Lookups.{find-passes}
 use Rattle.smv_right.proofs.Modules.{IsApart}
 use Rattle.smv_abs.specs.Sets.{Has, first, later}
 use Rattle.smv_extend.proofs.Lists.{Has-left, Has-right, Has-cases}
-use Rattle.smv_extend.proofs.FamiliesFound.{Once, AreDisjoint, IsBehind, AreBehind, AllApart, BodyIsFine, own_words, AreThere, once-left, once-right, once-apart, same-name, items-once, item-behind, items-behind, families-there, own-fine}
+use Rattle.smv_extend.proofs.FamiliesFound.{AreDisjoint, AreBehind, AllApart, BodyIsFine, own_words, AreThere, same-name, items-once, items-behind, families-there}
 
 find-Has : {X : Type 0} (p : X → Bool) (xs : List X) (x : X) → find p xs ≡ Some x → Has xs x
 find-Has p [] x e = absurd (cc (e))

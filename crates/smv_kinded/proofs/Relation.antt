@@ -1,18 +1,15 @@
 -- The kinds of the flattened text that stand for kinds of the tree, and what fits in the tree fits there.
 use Rattle.smv_right.proofs.Opening.{opening}
-use Rattle.std.proofs.Common.{◌≡◌, ℕ, List, [], ◌∷◌, ◌++◌, map, flat_map, length, zip, Option, Some, None, is_some, Bool, true, false, cond, not, nat_eq, refl, sym, ap, ◌∙◌, subst, arith}
-use Rattle.std.specs.Str.{bytes_eq}
-use Rattle.std.specs.List.{list_all, position_or_len}
+use Rattle.std.proofs.Common.{◌≡◌, List, [], ◌∷◌, ◌++◌, flat_map, length, zip, Option, Some, None, is_some, Bool, true, cond, not, refl, sym, ap, ◌∙◌, subst, arith}
+use Rattle.std.specs.List.{position_or_len}
 use Rattle.std.proofs.lemmas.Bool.{eq-eqb}
 use Rattle.std.proofs.lemmas.Slice.Eq.{bytes_eq-Decides}
-use Rattle.smv_core.specs.Values.{Name}
 use Rattle.smv_core.specs.Outcome.{same_path}
 use Rattle.smv_core.specs.declared.tree.Op.{Op}
 use Rattle.smv_core.specs.declared.tree.Op.TheVariants.{Equal, Differ, Less, AtMost, Greater, AtLeast}
 use Rattle.smv_core.specs.declared.flat.Simple.{Simple}
 use Rattle.smv_inst.specs.NameFaults.{place_if}
-use Rattle.smv_inst.specs.FirstFault.{faults_at}
-use Rattle.smv_types.specs.Kinds.{Kind, number, enumeration, set_type, no_kind, Operand, joins, joined, accepts, is_number, has_order, unless, takes_number, takes, alike_with, alike, kind_with, chosen}
+use Rattle.smv_types.specs.Kinds.{Kind, number, enumeration, set_type, no_kind, Operand, joins, joined, accepts, has_order, unless, takes_number, takes, alike_with, alike, kind_with, chosen}
 use Rattle.smv_types.specs.Operands.{compared}
 use Rattle.smv_typed.specs.FlatKinds as typed
 use Rattle.smv_flat.specs.Numbers.{Scope, set_number}

@@ -1,7 +1,7 @@
 -- In a module a statement without faults keeps the kinds of the flattened text.
 use Rattle.smv_right.proofs.Opening.{opening}
-use Rattle.std.proofs.Common.{◌≡◌, ℕ, List, [], ◌∷◌, ◌++◌, map, flat_map, length, slice_get, Option, Some, None, is_some, Bool, true, false, ◌&&◌, refl, sym, ap, ◌∙◌, subst}
-use Rattle.std.specs.List.{AllByRecursion, list_all}
+use Rattle.std.proofs.Common.{◌≡◌, ℕ, List, [], ◌∷◌, ◌++◌, map, flat_map, length, slice_get, Option, Some, is_some, Bool, true, ◌&&◌, refl, ap, ◌∙◌, subst}
+use Rattle.std.specs.List.{list_all}
 use Rattle.smv_core.specs.Walk.{indexes_of, steps_of}
 use Rattle.smv_core.specs.Outcome.{fields_of}
 use Rattle.smv_core.specs.Assignments.{Around, loop, any}
@@ -17,8 +17,8 @@ use Rattle.smv_core.specs.declared.flat.FlatMember as member
 use Rattle.smv_core.specs.declared.flat.FlatStmt.{FlatStmt}
 use Rattle.smv_core.specs.declared.flat.FlatStmt as act
 use Rattle.smv_inst.specs.Mentions as said
-use Rattle.smv_types.specs.Kinds.{Kind, number, no_kind, Operand, joins, unless, takes_number, takes, alike, alike_with}
-use Rattle.smv_types.specs.Types.{Whole, index_kind, index_faults}
+use Rattle.smv_types.specs.Kinds.{number, no_kind, Operand, joins, unless, takes_number, takes, alike, alike_with}
+use Rattle.smv_types.specs.Types.{Whole, index_faults}
 use Rattle.smv_types.specs.References as kinds
 use Rattle.smv_types.specs.References.{Vars, signal_at, reference}
 use Rattle.smv_types.specs.Operands.{bind, operand, value, target}
@@ -27,12 +27,11 @@ use Rattle.smv_typed.specs.FlatKinds as typed
 use Rattle.smv_typed.specs.FlatKinds.{kind_in, value_in, keeps_kinds, number_if, assigns, element}
 use Rattle.smv_flat.specs.Numbers.{Scope, bound_in, flat_over, family_number}
 use Rattle.smv_flat.specs.Statements.{flat_expr, flat_stmt, flat_parts, flat_branch, flat_arms, first_label}
-use Rattle.smv_flat.specs.Agreement.{IsIndexType}
-use Rattle.smv_right.specs.Written.{IsWritten, AreWritten, StatementIsWritten, StatementsAreWritten, BranchIsWritten, ArmsAreWritten}
-use Rattle.smv_right.proofs.Faultless.{empty-both, empty-three, each-append, each-front, each-behind, IsFine, AreFine, number-fine, taken-fine, alike-fine, alike_with-fine, reference-fine}
+use Rattle.smv_right.specs.Written.{AreWritten, StatementIsWritten, StatementsAreWritten, BranchIsWritten, ArmsAreWritten}
+use Rattle.smv_right.proofs.Faultless.{empty-both, empty-three, each-append, each-front, each-behind, IsFine, number-fine, taken-fine, alike_with-fine, reference-fine}
 use Rattle.smv_right.proofs.Statements.{mapped-length}
 use Rattle.smv_right.proofs.Modules.{IsApart}
-use Rattle.smv_kinded.proofs.Relation.{IsKind, flat_kind, HasKind, HaveKinds, takes-kept, number-kept, alike-some, alike_with-front, alike_with-behind}
+use Rattle.smv_kinded.proofs.Relation.{HasKind, HaveKinds, takes-kept, number-kept, alike-some, alike_with-front, alike_with-behind}
 use Rattle.smv_kinded.proofs.Boxes.{member_kind, all_keep, kind-Within, looked-List, keeps-Block, keeps-If, keeps-Default, keeps-Forall}
 use Rattle.smv_kinded.proofs.Variables.{AreApart, SignalsAreKinded, ConstantsAreKinded, IndexesAreKinded, AreVars, kinds_bound, binder-kinded}
 use Rattle.smv_kinded.proofs.Expressions.{HasItsKind, expression-kinded, target-kinded, bound-vars}

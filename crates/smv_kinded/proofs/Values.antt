@@ -1,23 +1,17 @@
 -- In a module the right sides, labels and left sides without faults have kinds in the flattened text.
 use Rattle.smv_right.proofs.Opening.{opening}
-use Rattle.std.proofs.Common.{◌≡◌, ℕ, List, [], ◌∷◌, ◌++◌, map, flat_map, length, Option, Some, None, Bool, true, false, cond, ◌&&◌, refl, sym, ap, ◌∙◌, subst}
-use Rattle.std.specs.List.{AllByRecursion}
-use Rattle.smv_core.specs.Walk.{indexes_of}
-use Rattle.smv_core.specs.Outcome.{fields_of}
-use Rattle.smv_core.specs.Assignments.{Around, loop, any}
+use Rattle.std.proofs.Common.{◌≡◌, ℕ, List, [], ◌∷◌, ◌++◌, map, flat_map, Some, None, true, cond, ◌&&◌, refl, ap, ◌∙◌}
+use Rattle.smv_core.specs.Assignments.{Around, any}
 use Rattle.smv_core.specs.declared.tree.Word.{Word}
-use Rattle.smv_core.specs.declared.tree.Part.{Part, Field, At}
-use Rattle.smv_core.specs.declared.tree.TypeExpr.{TypeExpr}
-use Rattle.smv_core.specs.declared.tree.Expr.{Expr, Number, Signal', Not', And', Or', Implies', Iff', Compare', Within', Sum', Modulo', Choose', All', Any', List', Each', Held-Expr-Each-2, None', Some', Row_of-Expr, end_of-Expr, more_of-Expr, Row_of-Member, end_of-Member, more_of-Member}
-use Rattle.smv_core.specs.declared.tree.Member.{Member, One, Span as SpanOf}
+use Rattle.smv_core.specs.declared.tree.Expr.{Expr, Number, Signal', Not', And', Or', Implies', Iff', Compare', Within', Sum', Modulo', Choose', All', Any', List', Each', Held-Expr-Each-2, None', Some', end_of-Expr, more_of-Expr, Row_of-Member, end_of-Member, more_of-Member}
+use Rattle.smv_core.specs.declared.tree.Member.{One, Span as SpanOf}
 use Rattle.smv_core.specs.declared.flat.Raw.{Raw}
-use Rattle.smv_core.specs.declared.flat.FlatExpr.{FlatExpr}
 use Rattle.smv_core.specs.declared.flat.FlatMember as member
 use Rattle.smv_inst.specs.Mentions as said
 use Rattle.smv_inst.specs.NameFaults.{place_if}
 use Rattle.smv_inst.specs.FirstFault.{faults_at}
-use Rattle.smv_types.specs.Kinds.{Kind, number, no_kind, Operand, takes_number, alike, kind_with, number_at}
-use Rattle.smv_types.specs.Types.{index_kind, index_faults, is_reversed}
+use Rattle.smv_types.specs.Kinds.{no_kind, takes_number, alike, kind_with, number_at}
+use Rattle.smv_types.specs.Types.{index_faults, is_reversed}
 use Rattle.smv_types.specs.References as kinds
 use Rattle.smv_types.specs.References.{Vars}
 use Rattle.smv_types.specs.Operands.{bind, operand, members, condition_faults, value}
@@ -27,7 +21,7 @@ use Rattle.smv_flat.specs.Numbers.{Scope, bound_in, flat_over}
 use Rattle.smv_flat.specs.Statements.{flat_expr, flat_members, flat_condition}
 use Rattle.smv_right.specs.Written.{IsWritten, AreWritten, ConditionIsWritten, HasMember}
 use Rattle.smv_right.proofs.Faultless.{empty-both, each-front, each-behind, IsFine, AreFine, number-fine, alike-fine}
-use Rattle.smv_kinded.proofs.Relation.{IsKind, flat_kind, HasKind, HaveKinds, number-kept, common-kept, chosen-kept}
+use Rattle.smv_kinded.proofs.Relation.{HasKind, HaveKinds, number-kept, common-kept, chosen-kept}
 use Rattle.smv_kinded.proofs.Boxes.{member_kind, condition_fits, value-List, value-Choose, value-Each}
 use Rattle.smv_kinded.proofs.Variables.{AreApart, SignalsAreKinded, ConstantsAreKinded, IndexesAreKinded, AreVars, kinds_bound, binder-kinded}
 use Rattle.smv_kinded.proofs.Expressions.{HasItsKind, expression-kinded, signal-kinded, members-kinded}

@@ -1,6 +1,5 @@
 -- What is known of the names in a module, and the kinds of variables.
-use Rattle.smv_right.proofs.Opening.{opening}
-use Rattle.std.proofs.Common.{◌≡◌, ℕ, ◌+◌, List, [], ◌∷◌, ◌++◌, length, slice_get, Option, Some, None, Bool, true, false, cond, nat_eq, ◌&&◌, refl, sym, ap, ◌∙◌, subst, append_assoc, length-append, arith}
+use Rattle.std.proofs.Common.{◌≡◌, ℕ, ◌+◌, List, [], ◌∷◌, ◌++◌, length, slice_get, Some, None, Bool, true, false, cond, nat_eq, ◌&&◌, refl, sym, ap, ◌∙◌, subst, append_assoc, length-append}
 use Rattle.std.specs.Str.{bytes_eq}
 use Rattle.std.specs.List.{AllByRecursion}
 use Rattle.std.proofs.lemmas.Bool.{eq-eqb}
@@ -16,7 +15,7 @@ use Rattle.smv_core.specs.declared.flat.Raw.{Raw}
 use Rattle.smv_core.specs.declared.flat.Family.{Family as FlatFamily}
 use Rattle.smv_core.specs.declared.flat.FlatExpr.{FlatExpr, Var, Loop}
 use Rattle.smv_inst.specs.Mentions.{Mention}
-use Rattle.smv_inst.specs.Scopes.{Own, Constant}
+use Rattle.smv_inst.specs.Scopes.{Constant}
 use Rattle.smv_types.specs.Kinds.{Kind, number, enumeration}
 use Rattle.smv_types.specs.Types.{Whole, index_kind, index_faults}
 use Rattle.smv_types.specs.References as kinds
@@ -28,7 +27,6 @@ use Rattle.smv_flat.specs.Agreement.{IsIndexType}
 use Rattle.smv_flat.proofs.Lookups.{slice_get-behind}
 use Rattle.smv_right.proofs.Modules.{IsApart}
 use Rattle.smv_kinded.proofs.Relation.{IsKind, flat_kind, HasKind, AreOfKinds}
-
 
 nothing-behind : {X : Type 0} (xs : List X) → xs ≡ xs ++ []
 nothing-behind [] = refl
