@@ -29,26 +29,26 @@ use Rattle.smv_extend.proofs.Faultless.{nil-left, nil-right, nil-map, no-faults,
 -- ---- names that are apart
 
 -- no two words have one name
-abbrev Once : List Word → Type 0
+abbrev pub Once : List Word → Type 0
 Once [] = Unit {0}
 Once (w ∷ ws) = ((v : Word) → Has ws v → w.name ≡ v.name → ⊥) × Once ws
 
-abbrev AreDisjoint : List Word → List Word → Type 0
+abbrev pub AreDisjoint : List Word → List Word → Type 0
 AreDisjoint ws vs = (w v : Word) → Has ws w → Has vs v → w.name ≡ v.name → ⊥
 
 once-join : (ws vs : List Word) → Once ws → Once vs → AreDisjoint ws vs → Once (ws ++ vs)
 once-join [] vs p q h = q
 once-join (w ∷ ws) vs p q h = (λ v k. elim (Has-cases ws vs k) [ inl i ↦ p.0 v i | inr i ↦ h w v first i ], once-join ws vs p.1 q (λ a b i j. h a b (later i) j))
 
-once-left : (ws vs : List Word) → Once (ws ++ vs) → Once ws
+pub once-left : (ws vs : List Word) → Once (ws ++ vs) → Once ws
 once-left [] vs p = tt
 once-left (w ∷ ws) vs p = (λ v k. p.0 v (Has-left vs k), once-left ws vs p.1)
 
-once-right : (ws vs : List Word) → Once (ws ++ vs) → Once vs
+pub once-right : (ws vs : List Word) → Once (ws ++ vs) → Once vs
 once-right [] vs p = p
 once-right (w ∷ ws) vs p = once-right ws vs p.1
 
-once-apart : (ws vs : List Word) → Once (ws ++ vs) → AreDisjoint ws vs
+pub once-apart : (ws vs : List Word) → Once (ws ++ vs) → AreDisjoint ws vs
 once-apart [] vs p w v i j = elim i [ ]
 once-apart (u ∷ ws) vs p _ v first j = p.0 v (Has-right ws j)
 once-apart (u ∷ ws) vs p w v (later i) j = once-apart ws vs p.1 w v i j
@@ -85,7 +85,7 @@ never_twice seen (w ∷ ws) e =
 -- ---- families that are apart
 
 -- no two families have one path
-abbrev Apart : List Family → Type 0
+abbrev pub Apart : List Family → Type 0
 Apart [] = Unit {0}
 Apart (f ∷ fs) = ((g : Family) → Has fs g → f.path ≡ g.path → ⊥) × Apart fs
 
@@ -101,10 +101,10 @@ apart-one : (t : Simple) → Apart (one_value t)
 apart-one t = (λ g k e. elim k [ ], tt)
 
 -- a family stands behind a name there
-abbrev IsBehind : Path → Name → Family → Type 0
+abbrev pub IsBehind : Path → Name → Family → Type 0
 IsBehind here name f = (rest : Path) × (f.path ≡ here ++ name ∷ rest)
 
-same-name : (here : Path) (a b : Name) (p q : Path) → here ++ a ∷ p ≡ here ++ b ∷ q → a ≡ b
+pub same-name : (here : Path) (a b : Name) (p q : Path) → here ++ a ∷ p ≡ here ++ b ∷ q → a ≡ b
 same-name [] a b p q e = cc
 same-name (x ∷ here) a b p q e = same-name here a b p q (tails e)
   where
@@ -130,7 +130,7 @@ apart-words here F (w ∷ ws) h b once =
     once.0 r.0 r.1 (behind-same here w.name r.0.name f g (b w f i) (b r.0 g r.2) e))
 
 -- each family stands behind one of these words there
-abbrev AreBehind : Path → List Word → List Family → Type 0
+abbrev pub AreBehind : Path → List Word → List Family → Type 0
 AreBehind here ws fs = (f : Family) → Has fs f → (w : Word) × Has ws w × IsBehind here w.name f
 
 words-behind : (here : Path) (F : Word → List Family) (ws : List Word) → ((w : Word) (f : Family) → Has (F w) f → IsBehind here w.name f) → AreBehind here ws (flat_map F ws)
@@ -146,10 +146,10 @@ abbrev IsFine : Mention → Type 0
 IsFine (has_fields words) = Once words
 IsFine _ = Unit {0}
 
-abbrev AreFine : List Mention → Type 0
+abbrev pub AreFine : List Mention → Type 0
 AreFine ms = (m : Mention) → Has ms m → IsFine m
 
-abbrev AllApart : Types → Type 0
+abbrev pub AllApart : Types → Type 0
 AllApart types = (entry : Name × Shape) → Has types entry → Apart entry.1
 
 found-Has : {X : Type 0} (entries : List (Name × X)) (name : Name) (x : X) → find_name entries name ≡ Some x → (entry : Name × X) × Has entries entry × (entry.1 ≡ x)
@@ -203,7 +203,7 @@ module _ (types : Types) (all : AllApart types) where
 -- ---- items
 
 -- the words by which an item declares signals and instances
-abbrev own_words : Item → List Word
+abbrev pub own_words : Item → List Word
 own_words (Declare role words of at) = words
 own_words (Instance words name args at) = words
 own_words _ = []
@@ -231,7 +231,7 @@ item-words (Instance words name args at) =
     (declared_words more, declared-join (mentions.declared_as (mentions.instance name) words) more ∙ ap (λ l. l ++ declared_words more) (declared-own (mentions.instance name) words))
 item-words item = (declared_words (in_item [] item), refl)
 
-items-once : (items : List Item) → Once (declared_words (flat_map (in_item []) items)) → Once (flat_map own_words items) × ((w : Word) → Has (flat_map own_words items) w → Has (declared_words (flat_map (in_item []) items)) w)
+pub items-once : (items : List Item) → Once (declared_words (flat_map (in_item []) items)) → Once (flat_map own_words items) × ((w : Word) → Has (flat_map own_words items) w → Has (declared_words (flat_map (in_item []) items)) w)
 items-once [] once = (tt, λ w i. elim i [ ])
 items-once (item ∷ items) once =
     let r : (extra : List Word) × (declared_words (in_item [] item) ≡ own_words item ++ extra) = item-words item in
@@ -256,10 +256,10 @@ item-fine role words of at h m k = h m (Has-right (mentions.declared_as (mention
 
 module _ (types : Types) (all : AllApart types) (bodies : List (Name × Body)) where
   -- what is said of the families of each instance
-  abbrev AreThere : (Path → Name → List Family) → Type 0
+  abbrev pub AreThere : (Path → Name → List Family) → Type 0
   AreThere inside = (here : Path) (name : Name) → Apart (inside here name) × ((f : Family) → Has (inside here name) f → (rest : Path) × (f.path ≡ here ++ rest))
 
-  item-behind : (inside : Path → Name → List Family) → AreThere inside → (here : Path) (item : Item) → AreFine (in_item [] item) → Once (own_words item) →
+  pub item-behind : (inside : Path → Name → List Family) → AreThere inside → (here : Path) (item : Item) → AreFine (in_item [] item) → Once (own_words item) →
       Apart (families_of_item types bodies inside here item) × AreBehind here (own_words item) (families_of_item types bodies inside here item)
   item-behind inside h here (Declare role words of at) fine once =
       let F : Word → List Family = λ w. map (declared_as role (here ++ w.name ∷ [])) (shape_of types of) in (
@@ -277,7 +277,7 @@ module _ (types : Types) (all : AllApart types) (bodies : List (Name × Body)) w
       one w f i = let r = (h (here ++ w.name ∷ []) name.name).1 f i in (r.0, r.1 ∙ append_assoc here (w.name ∷ []) r.0)
   item-behind inside h here _ fine once = (tt, λ f i. elim i [ ])
 
-  items-behind : (inside : Path → Name → List Family) → AreThere inside → (here : Path) (items : List Item) → AreFine (flat_map (in_item []) items) → Once (flat_map own_words items) →
+  pub items-behind : (inside : Path → Name → List Family) → AreThere inside → (here : Path) (items : List Item) → AreFine (flat_map (in_item []) items) → Once (flat_map own_words items) →
       Apart (flat_map (families_of_item types bodies inside here) items) × AreBehind here (flat_map own_words items) (flat_map (families_of_item types bodies inside here) items)
   items-behind inside h here [] fine once = (tt, λ f i. elim i [ ])
   items-behind inside h here (item ∷ items) fine once =
@@ -292,7 +292,7 @@ module _ (types : Types) (all : AllApart types) (bodies : List (Name × Body)) w
       )
 
   -- each body declares its names once, and its types have no field twice
-  abbrev BodyIsFine : Body → Type 0
+  abbrev pub BodyIsFine : Body → Type 0
   BodyIsFine body = Once (declared_words (flat_map (in_item []) body.items)) × AreFine (flat_map (in_item []) body.items)
 
   module _ (bodies_fine : (entry : Name × Body) → Has bodies entry → BodyIsFine entry.1) where
@@ -300,10 +300,10 @@ module _ (types : Types) (all : AllApart types) (bodies : List (Name × Body)) w
     body-fine None h = (tt, λ m i. elim i [ ])
     body-fine (Some body) h = h body refl
 
-    own-fine : (name : Name) → BodyIsFine (body_of types bodies name)
+    pub own-fine : (name : Name) → BodyIsFine (body_of types bodies name)
     own-fine name = body-fine (find_name bodies name) (λ body e. let r = found-Has bodies name body e in subst BodyIsFine r.2 (bodies_fine r.0 r.1))
 
-    families-there : (k : ℕ) → AreThere (families_in types bodies k)
+    pub families-there : (k : ℕ) → AreThere (families_in types bodies k)
     families-there zero here name = (tt, λ f i. elim i [ ])
     families-there (suc k) here name =
         let fine : BodyIsFine (body_of types bodies name) = own-fine name in
@@ -312,7 +312,7 @@ module _ (types : Types) (all : AllApart types) (bodies : List (Name × Body)) w
 
 -- ---- the tops of a text
 
-abbrev PieceIsFine : Piece → Type 0
+abbrev pub PieceIsFine : Piece → Type 0
 PieceIsFine piece = Once (declared_words piece.mentions) × AreFine piece.mentions
 
 apart-more : (types : Types) (name : Name) (shape : Shape) → AllApart types → Apart shape → AllApart (types ++ (name, shape) ∷ [])
@@ -328,11 +328,11 @@ types-after known types (SetType word true span at) all fine = apart-more types 
 types-after known types (Alias word of at) all fine = apart-more types word.name (shape_of types of) all (shape-apart types all of fine.1)
 types-after known types (Module word formals body at) all fine = all
 
-types-all : (known : Known) (types : Types) (tops : List Top) → AllApart types → ((p : Piece) → Has (pieces_from known tops) p → PieceIsFine p) → AllApart (types_from types tops)
+pub types-all : (known : Known) (types : Types) (tops : List Top) → AllApart types → ((p : Piece) → Has (pieces_from known tops) p → PieceIsFine p) → AllApart (types_from types tops)
 types-all known types [] all fine = all
 types-all known types (top ∷ tops) all fine = types-all (known_after known top) (types_after types top) tops (types-after known types top all (fine (piece_of known top) first)) (λ p i. fine p (later i))
 
-modules-fine : (known : Known) (tops : List Top) → ((p : Piece) → Has (pieces_from known tops) p → PieceIsFine p) → (entry : Name × Body) → Has (modules tops) entry →
+pub modules-fine : (known : Known) (tops : List Top) → ((p : Piece) → Has (pieces_from known tops) p → PieceIsFine p) → (entry : Name × Body) → Has (modules tops) entry →
     Once (declared_words (flat_map (in_item []) entry.1.items)) × AreFine (flat_map (in_item []) entry.1.items)
 modules-fine known [] fine entry i = elim i [ ]
 modules-fine known (SetType word ordered span at ∷ tops) fine entry i = modules-fine (known_after known (SetType word ordered span at)) tops (λ p k. fine p (later k)) entry i
@@ -356,7 +356,7 @@ fine-if tops piece (mentions.names_type w) e = tt
 fine-if tops piece (mentions.lists_constants w) e = tt
 fine-if tops piece (mentions.instantiates w n) e = tt
 
-pieces-fine : (text : Text) → first_fault text ≡ None → (p : Piece) → Has (pieces text) p → PieceIsFine p
+pub pieces-fine : (text : Text) → first_fault text ≡ None → (p : Piece) → Has (pieces text) p → PieceIsFine p
 pieces-fine text e p i =
     let none : flat_map faults_at (name_faults (pieces text)) ≡ [] = no-faults (faults_of_names text) (or_else-none (first_of (faults_of_names text)) (fault_of_size text) e).0 in
     let eight : repeated [] (map (λ (piece : Piece). piece.word) (pieces text)) ++ flat_map (doubled_in (pieces text)) (pieces text) ≡ [] =

@@ -44,7 +44,7 @@ use Rattle.smv_right.proofs.Statements.{mapped-length, statement-right, body-rig
 use Rattle.smv_right.proofs.OwnFamilies.{own_in, role-same, own-family}
 use Rattle.smv_right.proofs.Modules.{IsModule, AreModules, AreFound, modules-found, modules-count}
 
-indexes-written : (m : _) (row : Row_of-Part m) → IndexesAreWritten row → AreWritten (indexes_of (items-the_row-Part m row))
+pub indexes-written : (m : _) (row : Row_of-Part m) → IndexesAreWritten row → AreWritten (indexes_of (items-the_row-Part m row))
 unfolding opening
 indexes-written m end_of-Part h = tt
 indexes-written m (more_of-Part (Field word) rest) h = indexes-written _ rest h

@@ -60,12 +60,12 @@ known-anyway flat None None path h = h
 known-anyway flat None (Some f) path h = tt
 known-anyway flat (Some x) f path h = tt
 
-chained : (o : Option Kind) (parts : List Part) (w : Whole) → option_and_then (λ kind. single kind parts) o ≡ Some w → (kind : Kind) × (o ≡ Some kind) × (single kind parts ≡ Some w)
+pub chained : (o : Option Kind) (parts : List Part) (w : Whole) → option_and_then (λ kind. single kind parts) o ≡ Some w → (kind : Kind) × (o ≡ Some kind) × (single kind parts ≡ Some w)
 unfolding opening
 chained None parts w h = absurd (cc (h))
 chained (Some kind) parts w h = (kind, refl, h)
 
-listed-constant : (o : Option Constant) (parts : List Part) (w : Whole) → option_and_then (λ (c : Constant). single (enumeration c.names) parts) o ≡ Some w → (c : Constant) × (o ≡ Some c) × (single (enumeration c.names) parts ≡ Some w)
+pub listed-constant : (o : Option Constant) (parts : List Part) (w : Whole) → option_and_then (λ (c : Constant). single (enumeration c.names) parts) o ≡ Some w → (c : Constant) × (o ≡ Some c) × (single (enumeration c.names) parts ≡ Some w)
 unfolding opening
 listed-constant None parts w h = absurd (cc (h))
 listed-constant (Some c) parts w h = (c, refl, h)
@@ -74,7 +74,7 @@ listed-constant (Some c) parts w h = (c, refl, h)
 
 module _ (scope : kinds.Scope) (vars : Vars) (parts : List Part) (w : Whole) where
   -- a reference is a variable, a signal or a constant
-  reference-cases : reference_at scope vars parts ≡ Some w → (kinds.variable_at scope vars parts ≡ Some w) ⊎ ((signal_at scope parts ≡ Some w) ⊎ (constant_at scope parts ≡ Some w))
+  pub reference-cases : reference_at scope vars parts ≡ Some w → (kinds.variable_at scope vars parts ≡ Some w) ⊎ ((signal_at scope parts ≡ Some w) ⊎ (constant_at scope parts ≡ Some w))
   unfolding opening
   reference-cases h = by_cases (kinds.variable_at scope vars parts) (signal_at scope parts) refl refl
     where
@@ -206,7 +206,7 @@ module _ (scope : kinds.Scope) (flat : Scope) (counted : SignalsCount scope) (ow
     members-right vars around same (more_of-Member (SpanOf span at) rest) written fine = members-right vars around same rest written fine.1
 
     set-right : (vars : Vars) (around : Around) → AreSameNames vars around → (set : Expr) → IsSet set → IsWritten set → AreFine (looked_through scope vars set) → IsRight flat around set
-    set-right vars around same (List' shape members at) is written fine = members-right vars around same members written fine
+    set-right vars around same (List' shape members at) is written fine = members-right vars around same members written.1 fine
     set-right vars around same (Each' var over cond at) is written fine = absurd (cc (fine.0))
     set-right vars around same _ is written fine = absurd is
 
@@ -223,7 +223,7 @@ module _ (scope : kinds.Scope) (flat : Scope) (counted : SignalsCount scope) (ow
   -- a right side
   pub value-right : (vars : Vars) (around : Around) → AreSameNames vars around → (e : Expr) → IsWritten e → IsFine (value scope vars e) → IsRight flat around e
   unfolding opening
-  value-right vars around same (List' shape row at) written fine = members-right vars around same row written (alike-fine (members scope vars row) fine)
+  value-right vars around same (List' shape row at) written fine = members-right vars around same row written.1 (alike-fine (members scope vars row) fine)
   value-right vars around same (Each' var over cond at) written fine =
       let both = empty-both (index_faults scope.here.types over) (condition_faults scope (bind scope vars var over) cond) fine in
       (condition-right (bind scope vars var over) ((var.name, any) ∷ around) (refl, same) cond written.0 both.1, written.1)

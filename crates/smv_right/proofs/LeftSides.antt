@@ -13,6 +13,7 @@ use Rattle.smv_core.specs.Outcome.{fields_of}
 use Rattle.smv_core.specs.Walk.{indexes_of}
 use Rattle.smv_core.specs.declared.tree.Word.{Word}
 use Rattle.smv_core.specs.declared.tree.Text.{Text}
+use Rattle.smv_core.specs.declared.tree.Role.{Role}
 use Rattle.smv_core.specs.declared.tree.Role.TheVariants.{Plain, Abstract, Input, Output}
 use Rattle.smv_core.specs.declared.tree.TypeExpr.{TypeExpr}
 use Rattle.smv_core.specs.declared.tree.Path.{out-Path}
@@ -38,10 +39,15 @@ use Rattle.smv_right.specs.LeftSides.{HasFamily, LeadsToFamily, StatementLeads, 
 use Rattle.smv_right.specs.Written.{InnerIsWritten, InnersAreWritten, ItemIsWritten}
 use Rattle.smv_right.proofs.Faultless.{empty-both, empty-three, each-append, each-map, reference-fine}
 use Rattle.smv_right.proofs.Somewhere.{Somewhere, somewhere-more, somewhere-front, somewhere-behind, somewhere-place}
-use Rattle.smv_right.proofs.LeadTypes.{IsFamilyAt, behind-count}
-use Rattle.smv_right.proofs.OwnFamilies.{own_in, role-same, formal-simple, own-reached}
+use Rattle.smv_right.proofs.LeadTypes.{kind_of, IsFamilyAt, behind-count}
+use Rattle.smv_right.proofs.Statements.{mapped-length}
+use Rattle.smv_right.proofs.OwnFamilies.{own_in, role-same, input-simple, own-reached}
 use Rattle.smv_right.proofs.Entries.{chosen-fine}
 use Rattle.smv_right.proofs.Modules.{IsModule, AreModules, AreFound, modules-found, modules-count}
+
+-- as many index types as kinds
+counted : (f : Family) (w : Whole) → map kind_of f.over ≡ w.over → length f.over ≡ length w.over
+counted f w e = mapped-length kind_of f.over ∙ ap length e
 
 -- ---- statements
 
@@ -92,30 +98,30 @@ module _ (text : Text) (instance : Path) (scope : kinds.Scope) (led : (parts : L
       (statement-whole [] act both.0, body-whole acts both.1)
 
 module _ (text : Text) where
-  abbrev types : tree.Types
+  abbrev pub types : tree.Types
   types = types_from [] text.tops
 
-  abbrev bodies : List (Name × Body)
+  abbrev pub bodies : List (Name × Body)
   bodies = modules text.tops
 
-  abbrev all_modules : List (Name × Module)
+  abbrev pub all_modules : List (Name × Module)
   all_modules = modules_from [] text.tops
 
-  abbrev all_constants : List (Name × Constant)
+  abbrev pub all_constants : List (Name × Constant)
   all_constants = constants (pieces text)
 
-  abbrev scope_of : Module → kinds.Scope
+  abbrev pub scope_of : Module → kinds.Scope
   scope_of m = record { modules = all_modules; constants = all_constants; here = m }
 
-  abbrev IsModuleHere : Module → Body → Type 0
+  abbrev pub IsModuleHere : Module → Body → Type 0
   IsModuleHere m body = IsModule types all_modules all_constants m body
 
   -- what is somewhere among these families is somewhere among those of the text
-  abbrev Includes : List Family → Type 0
-  Includes fs = (path : Path) (count : ℕ) → Somewhere (IsFamilyAt path count) fs → Somewhere (IsFamilyAt path count) (design_of text).families
+  abbrev pub Includes : List Family → Type 0
+  Includes fs = (path : Path) (w : Whole) → Somewhere (IsFamilyAt path w) fs → Somewhere (IsFamilyAt path w) (design_of text).families
 
   -- with each bound on chains of instances that is great enough
-  abbrev IncludesAll : ℕ → Path → Name → Type 0
+  abbrev pub IncludesAll : ℕ → Path → Name → Type 0
   IncludesAll k here name = (n : ℕ) → Includes (families_in types bodies (k + n) here name)
 
   abbrev EntryIsWhole : Entry → Type 0
@@ -135,13 +141,13 @@ module _ (text : Text) where
     path-joined here word name other rest path e h = h ∙ append_assoc here (word.name ∷ []) (other ∷ rest) ∙ ap (λ n. here ++ n ∷ other ∷ rest) ((bytes_eq-Decides word.name name).0 e)
 
     -- with this bound on chains of instances the instance of a module that a path goes into has the family to which it leads
-    abbrev IsInside : ℕ → List Part → Type 0
+    abbrev pub IsInside : ℕ → List Part → Type 0
     IsInside n parts = (types_here : _) (module_name word : Word) (here : Path) (name : Name) → bytes_eq word.name name ≡ true → (w : Whole) → behind all_modules types_here (mentions.instance module_name) parts ≡ Some w →
-        Somewhere (IsFamilyAt (here ++ name ∷ fields_of parts) (length w.over)) (families_in types bodies n (here ++ word.name ∷ []) module_name.name)
+        Somewhere (IsFamilyAt (here ++ name ∷ fields_of parts) w) (families_in types bodies n (here ++ word.name ∷ []) module_name.name)
 
     -- then so has each instance of a module in which the path begins
-    reached : (n : ℕ) (parts : List Part) → IsInside n parts → (m : Module) (body : Body) → IsModuleHere m body → (here : Path) (name : Name) (own : Own) → find_name m.own name ≡ Some own →
-        (w : Whole) → behind all_modules m.types own.what parts ≡ Some w → Somewhere (IsFamilyAt (here ++ name ∷ fields_of parts) (length w.over)) (flat_map (families_of_item types bodies (families_in types bodies n) here) body.items)
+    pub reached : (n : ℕ) (parts : List Part) → IsInside n parts → (m : Module) (body : Body) → IsModuleHere m body → (here : Path) (name : Name) (own : Own) → find_name m.own name ≡ Some own →
+        (w : Whole) → behind all_modules m.types own.what parts ≡ Some w → Somewhere (IsFamilyAt (here ++ name ∷ fields_of parts) w) (flat_map (families_of_item types bodies (families_in types bodies n) here) body.items)
     unfolding opening
     reached n parts inside m body good here name own found w h =
         own-reached name types bodies (families_in types bodies n) here (scope_of m) good.0 own parts w h
@@ -150,14 +156,14 @@ module _ (text : Text) where
 
     module _ (n : ℕ) (word other : Word) (here : Path) (name : Name) (parts : List Part) (same : bytes_eq word.name name ≡ true) (inside : IsInside n parts) (w : Whole) where
       abbrev IsThere : List Item → Type 0
-      IsThere items = Somewhere (IsFamilyAt (here ++ name ∷ other.name ∷ fields_of parts) (length w.over)) (flat_map (families_of_item types bodies (families_in types bodies n) (here ++ word.name ∷ [])) items)
+      IsThere items = Somewhere (IsFamilyAt (here ++ name ∷ other.name ∷ fields_of parts) w) (flat_map (families_of_item types bodies (families_in types bodies n) (here ++ word.name ∷ [])) items)
 
       own-inside : (inner : Module) (body : Body) → IsModuleHere inner body → (o : Option Own) → find_name inner.own other.name ≡ o → option_and_then (λ (own : Own). behind all_modules inner.types own.what parts) o ≡ Some w → IsThere body.items
       unfolding opening
       own-inside inner body good None e h = absurd (cc (h))
       own-inside inner body good (Some own) e h =
-          somewhere-more (IsFamilyAt ((here ++ word.name ∷ []) ++ other.name ∷ fields_of parts) (length w.over)) (IsFamilyAt (here ++ name ∷ other.name ∷ fields_of parts) (length w.over))
-          (λ f at. (path-joined here word name other.name (fields_of parts) f.path same at.0, at.1)) (flat_map (families_of_item types bodies (families_in types bodies n) (here ++ word.name ∷ [])) body.items)
+          somewhere-more (IsFamilyAt ((here ++ word.name ∷ []) ++ other.name ∷ fields_of parts) w) (IsFamilyAt (here ++ name ∷ other.name ∷ fields_of parts) w)
+          (λ f at. (path-joined here word name other.name (fields_of parts) f.path same at.0, at.1, at.2)) (flat_map (families_of_item types bodies (families_in types bodies n) (here ++ word.name ∷ [])) body.items)
           (reached n parts inside inner body good (here ++ word.name ∷ []) other.name own e w h)
 
       module-inside : (o : Option Module) (b : Option Body) → AreFound types all_modules all_constants o b →
@@ -167,7 +173,7 @@ module _ (text : Text) where
       module-inside (Some inner) None found h = absurd found
       module-inside (Some inner) (Some body) found h = own-inside inner body found (find_name inner.own other.name) refl h
 
-    inside : (n : ℕ) (parts : List Part) → length parts ≤ n → IsInside n parts
+    pub inside : (n : ℕ) (parts : List Part) → length parts ≤ n → IsInside n parts
     unfolding opening
     inside n [] le types_here module_name word here name same w h = absurd (cc (h))
     inside n (At e ∷ parts) le types_here module_name word here name same w h = absurd (cc (h))
@@ -181,19 +187,26 @@ module _ (text : Text) where
       at_least : (n : ℕ) → n ≤ bound + n
       at_least n = omega arith
 
-      signal-leads : (parts : List Part) (w : Whole) → signal_at (scope_of m) parts ≡ Some w → LeadsToFamily text here parts
+      -- a whole signal is a family of the text, whose types have its kinds
+      pub signal-there : (parts : List Part) (w : Whole) → signal_at (scope_of m) parts ≡ Some w → Somewhere (IsFamilyAt (here ++ fields_of parts) w) (design_of text).families × (length w.over ≡ length (indexes_of parts))
       unfolding opening
-      signal-leads [] w h = absurd (cc (h))
-      signal-leads (At e ∷ parts) w h = absurd (cc (h))
-      signal-leads (Field word ∷ parts) w h = by_own (find_name m.own word.name) refl h
+      signal-there [] w h = absurd (cc (h))
+      signal-there (At e ∷ parts) w h = absurd (cc (h))
+      signal-there (Field word ∷ parts) w h = by_own (find_name m.own word.name) refl h
         where
-          by_own : (o : Option Own) → find_name m.own word.name ≡ o → option_and_then (λ (own : Own). behind all_modules m.types own.what parts) o ≡ Some w → LeadsToFamily text here (Field word ∷ parts)
+          by_own : (o : Option Own) → find_name m.own word.name ≡ o → option_and_then (λ (own : Own). behind all_modules m.types own.what parts) o ≡ Some w →
+              Somewhere (IsFamilyAt (here ++ word.name ∷ fields_of parts) w) (design_of text).families × (length w.over ≡ length (indexes_of parts))
           by_own None e h = absurd (cc (h))
-          by_own (Some own) e h =
-              let IsIt : Family → Type 0 = IsFamilyAt (here ++ word.name ∷ fields_of parts) (length w.over) in
-              let there = somewhere-place IsIt (design_of text).families
-              (includes (length parts) (here ++ word.name ∷ fields_of parts) (length w.over) (reached (bound + length parts) parts (inside (bound + length parts) parts (at_least (length parts))) m body good here word.name own e w h)) in
-              (there.0, there.1, there.2, there.3.0, there.3.1 ∙ behind-count all_modules (modules-count types all_modules all_constants all_modules bodies same_modules) m.types good.1 own.what parts w h)
+          by_own (Some own) e h = (
+            includes (length parts) (here ++ word.name ∷ fields_of parts) w (reached (bound + length parts) parts (inside (bound + length parts) parts (at_least (length parts))) m body good here word.name own e w h),
+            behind-count all_modules (modules-count types all_modules all_constants all_modules bodies same_modules) m.types good.1 own.what parts w h,
+          )
+
+      signal-leads : (parts : List Part) (w : Whole) → signal_at (scope_of m) parts ≡ Some w → LeadsToFamily text here parts
+      signal-leads parts w h =
+          let own = signal-there parts w h in
+          let there = somewhere-place (IsFamilyAt (here ++ fields_of parts) w) (design_of text).families own.0 in
+          (there.0, there.1, there.2, there.3.0, counted there.1 w there.3.1 ∙ own.1)
 
       -- ---- items inside binders
 
@@ -252,7 +265,7 @@ module _ (text : Text) where
             connected (scope_of m) inner.types (Some (record { at = at; what = what })) e ≡ [] → AreWholeHere (connection_of a e)
         unfolding opening
         port-whole a e at (signal Input of) found port fine =
-            let simple = formal-simple a (scope_of inner) of inner_body.items inner_good.4 inner_good.5 at found in
+            let simple = input-simple a (scope_of inner) of inner_body.items inner_good.4 inner_good.5 at found in
             subst (λ role. AreWholeHere (connection role n a e)) (sym (role-same a inner_body.items inner_good.4 (record { at = at; what = signal Input of }) tt found))
             (input-whole n a e (formal_leads a simple.0 at of (subst (λ l. find_name l a ≡ Some (record { at = at; what = signal Input of })) (sym inner_good.3) found) simple.1))
         port-whole a e at (signal Output of) found port fine =
@@ -294,21 +307,29 @@ module _ (text : Text) where
 
       -- the formals of an instance are families of its module
       module _ (name n : Name) (includes_there : (k : ℕ) → Includes (families_in types bodies (bound + k) (here ++ n ∷ []) name)) where
-        formal-leads : (inner : Module) (inner_body : Body) → IsModuleHere inner inner_body → find_name bodies name ≡ Some inner_body → (a : Name) (w : Whole) (at : ℕ) (of : TypeExpr) →
-            find_name inner.own a ≡ Some (record { at = at; what = signal Input of }) → leads inner.types of [] ≡ Some w → FormalLeads n a
+        pub formal-there : (inner : Module) (inner_body : Body) → IsModuleHere inner inner_body → find_name bodies name ≡ Some inner_body → (a : Name) (w : Whole) (at : ℕ) (role : Role) (of : TypeExpr) →
+            find_name inner.own a ≡ Some (record { at = at; what = signal role of }) → leads inner.types of [] ≡ Some w → Somewhere (IsFamilyAt (here ++ n ∷ a ∷ []) w) (design_of text).families × (length w.over ≡ 0)
         unfolding opening
-        formal-leads inner inner_body inner_good found_body a w at of found h =
+        formal-there inner inner_body inner_good found_body a w at role of found h =
             let there : Path = here ++ n ∷ [] in
-            let own : Own = record { at = at; what = signal Input of } in
+            let own : Own = record { at = at; what = signal role of } in
             let items_of : Option Body → List Item = λ b. (unwrap_or b (record { formals = []; items = [] })).items in
             let one_more : bound + 1 ≡ suc bound = omega arith in
             let same : families_in types bodies (bound + 1) there name ≡ flat_map (families_of_item types bodies (families_in types bodies bound) there) inner_body.items =
             ap (λ k. families_in types bodies k there name) one_more ∙ ap (λ b. flat_map (families_of_item types bodies (families_in types bodies bound) there) (items_of b)) found_body in
             let shallow : 0 ≤ bound = omega arith in
-            let own_family = reached bound [] (inside bound [] shallow) inner inner_body inner_good there a own found w h in
-            let r = somewhere-place (IsFamilyAt (there ++ a ∷ []) (length w.over)) (design_of text).families
-            (includes_there 1 (there ++ a ∷ []) (length w.over) (subst (Somewhere (IsFamilyAt (there ++ a ∷ []) (length w.over))) (sym same) own_family)) in
-            (r.0, r.1, r.2, r.3.0 ∙ append_assoc here (n ∷ []) (a ∷ []), r.3.1 ∙ behind-count all_modules (modules-count types all_modules all_constants all_modules bodies same_modules) inner.types inner_good.1 own.what [] w h)
+            let own_family = reached bound [] (inside bound [] shallow) inner inner_body inner_good there a own found w h in (
+              subst (λ path. Somewhere (IsFamilyAt path w) (design_of text).families) (append_assoc here (n ∷ []) (a ∷ []))
+                  (includes_there 1 (there ++ a ∷ []) w (subst (Somewhere (IsFamilyAt (there ++ a ∷ []) w)) (sym same) own_family)),
+              behind-count all_modules (modules-count types all_modules all_constants all_modules bodies same_modules) inner.types inner_good.1 own.what [] w h,
+            )
+
+        formal-leads : (inner : Module) (inner_body : Body) → IsModuleHere inner inner_body → find_name bodies name ≡ Some inner_body → (a : Name) (w : Whole) (at : ℕ) (of : TypeExpr) →
+            find_name inner.own a ≡ Some (record { at = at; what = signal Input of }) → leads inner.types of [] ≡ Some w → FormalLeads n a
+        formal-leads inner inner_body inner_good found_body a w at of found h =
+            let own = formal-there inner inner_body inner_good found_body a w at Input of found h in
+            let r = somewhere-place (IsFamilyAt (here ++ n ∷ a ∷ []) w) (design_of text).families own.0 in
+            (r.0, r.1, r.2, r.3.0, counted r.1 w r.3.1 ∙ own.1)
 
         found-whole : (args : List Expr) (o : Option Module) (b : Option Body) → find_name bodies name ≡ b → AreFound types all_modules all_constants o b → in_arguments (scope_of m) o args ≡ [] →
             AreWholeHere (connections (unwrap_or b (record { formals = []; items = [] })) n args)
@@ -329,7 +350,7 @@ module _ (text : Text) where
         instance-whole name args fine (word ∷ words) includes =
             let there : ℕ → List Family = λ k. families_in types bodies (bound + k) (here ++ word.name ∷ []) name.name in
             let others : ℕ → List Family = λ k. flat_map (λ word. families_in types bodies (bound + k) (here ++ word.name ∷ []) name.name) words in
-            let includes_there : (k : ℕ) → Includes (there k) = λ k path count e. includes k path count (somewhere-front (IsFamilyAt path count) (there k) (others k) e) in
+            let includes_there : (k : ℕ) → Includes (there k) = λ k path w e. includes k path w (somewhere-front (IsFamilyAt path w) (there k) (others k) e) in
             let acts : List Stmt = connections (body_of types bodies name.name) word.name args in
             let acts_whole : AreWholeHere acts = found-whole name.name word.name includes_there args (find_name all_modules name.name) (find_name bodies name.name) refl (modules-found types all_modules all_constants all_modules bodies same_modules name.name) fine in
             let front : List Entry = map (λ act. statement (record { layer = None; instance = here; act = act })) acts in
@@ -338,7 +359,7 @@ module _ (text : Text) where
             (each-append EntryIsWhole front (inside_entries (here ++ word.name ∷ []) name.name)
             (each-map (StatementLeads text here) EntryIsWhole (λ act. statement (record { layer = None; instance = here; act = act })) (λ act h. h) acts acts_whole)
             (inside_whole (here ++ word.name ∷ []) name.name includes_there))
-            (instance-whole name args fine words (λ k path count e. includes k path count (somewhere-behind (IsFamilyAt path count) (there k) (others k) e)))
+            (instance-whole name args fine words (λ k path w e. includes k path w (somewhere-behind (IsFamilyAt path w) (there k) (others k) e)))
 
         item-whole : (part : Item) → ItemIsWritten part → in_item (scope_of m) [] part ≡ [] → ((k : ℕ) → Includes (families_of_item types bodies (families_in types bodies (bound + k)) here part)) →
             AllByRecursion EntryIsWhole (item_entries types bodies inside_entries here part)
@@ -363,8 +384,8 @@ module _ (text : Text) where
             let there : ℕ → List Family = λ k. families_of_item types bodies (families_in types bodies (bound + k)) here part in
             let others : ℕ → List Family = λ k. flat_map (families_of_item types bodies (families_in types bodies (bound + k)) here) items in
             each-append EntryIsWhole (item_entries types bodies inside_entries here part) (flat_map (item_entries types bodies inside_entries here) items)
-            (item-whole part written.0 both.0 (λ k path count e. includes k path count (somewhere-front (IsFamilyAt path count) (there k) (others k) e)))
-            (items-whole items written.1 both.1 (λ k path count e. includes k path count (somewhere-behind (IsFamilyAt path count) (there k) (others k) e)))
+            (item-whole part written.0 both.0 (λ k path w e. includes k path w (somewhere-front (IsFamilyAt path w) (there k) (others k) e)))
+            (items-whole items written.1 both.1 (λ k path w e. includes k path w (somewhere-behind (IsFamilyAt path w) (there k) (others k) e)))
 
     -- ---- instances
 
@@ -389,4 +410,4 @@ module _ (text : Text) where
 
     pub text-whole : (deep : (n : ℕ) → length bodies ≤ n → families_in types bodies n [] main ≡ families_in types bodies (length bodies) [] main) → AllByRecursion EntryIsWhole (entries text)
     unfolding opening
-    text-whole deep = entries-whole (length bodies) [] main (λ n path count e. subst (Somewhere (IsFamilyAt path count)) (deep (length bodies + n) (omega arith)) e)
+    text-whole deep = entries-whole (length bodies) [] main (λ n path w e. subst (Somewhere (IsFamilyAt path w)) (deep (length bodies + n) (omega arith)) e)

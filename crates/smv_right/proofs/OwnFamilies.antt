@@ -12,7 +12,7 @@ use Rattle.smv_core.specs.FlatOrder.{Body, role_of, declared_as, families_of_ite
 use Rattle.smv_core.specs.Outcome.{fields_of, same_path}
 use Rattle.smv_core.specs.declared.tree.Word.{Word}
 use Rattle.smv_core.specs.declared.tree.Role.{Role}
-use Rattle.smv_core.specs.declared.tree.Role.TheVariants.{Plain, Input}
+use Rattle.smv_core.specs.declared.tree.Role.TheVariants.{Plain, Input, Output}
 use Rattle.smv_core.specs.declared.tree.Part.{Part, Field, At}
 use Rattle.smv_core.specs.declared.tree.Expr.{Expr}
 use Rattle.smv_core.specs.declared.tree.Item.{Item, Declare, Instance, Layer, Claim, Split, Using, Act}
@@ -152,27 +152,36 @@ module _ (name : Name) where
       ((written.0, both.0), each-faultless scope items written.1 both.1)
 
   -- a formal is simple
-  pub formal-simple : (scope : kinds.Scope) (of : _) (items : List Item) → AllByRecursion ItemIsWritten items → flat_map (in_item scope []) items ≡ [] → (at : ℕ) →
-      find_name (own_in items) name ≡ Some (record { at = at; what = signal Input of }) → (w : Whole) × (leads scope.here.types of [] ≡ Some w)
+  pub formal-simple : (scope : kinds.Scope) (role : Role) (of : _) → ((word : Word) → formal_faults scope.here.types role of word ≡ [] → is_none (leads scope.here.types of []) ≡ false) → (items : List Item) → AllByRecursion ItemIsWritten items →
+      flat_map (in_item scope []) items ≡ [] → (at : ℕ) → find_name (own_in items) name ≡ Some (record { at = at; what = signal role of }) → (w : Whole) × (leads scope.here.types of [] ≡ Some w)
   unfolding opening
-  formal-simple scope of items written fine at h =
-      let there = somewhere-with (Declares (signal Input of)) (IsFaultless scope) items (declared-somewhere items written (record { at = at; what = signal Input of }) (signal-no_goal (signal Input of) tt) h) (each-faultless scope items written fine) in
+  formal-simple scope role of strict items written fine at h =
+      let there = somewhere-with (Declares (signal role of)) (IsFaultless scope) items (declared-somewhere items written (record { at = at; what = signal role of }) (signal-no_goal (signal role of) tt) h) (each-faultless scope items written fine) in
       by_item there.0 there.1 there.2.1
     where
       present : (o : Option Whole) → is_none o ≡ false → (w : Whole) × (o ≡ Some w)
       present None e = absurd (cc (e))
       present (Some w) e = (w, refl)
 
-      by_words : (words : List Word) → list_any (is_word name) words ≡ true → flat_map (formal_faults scope.here.types Input of) words ≡ [] → (w : Whole) × (leads scope.here.types of [] ≡ Some w)
+      by_words : (words : List Word) → list_any (is_word name) words ≡ true → flat_map (formal_faults scope.here.types role of) words ≡ [] → (w : Whole) × (leads scope.here.types of [] ≡ Some w)
       by_words [] has fine = absurd (cc (has))
-      by_words (word ∷ words) has fine =
-          present (leads scope.here.types of []) (unplaced (is_none (leads scope.here.types of [])) word.at (no_places 12 (place_if (is_none (leads scope.here.types of [])) word.at)
-          (empty-both (formal_faults scope.here.types Input of word) (flat_map (formal_faults scope.here.types Input of) words) fine).0))
+      by_words (word ∷ words) has fine = present (leads scope.here.types of []) (strict word (empty-both (formal_faults scope.here.types role of word) (flat_map (formal_faults scope.here.types role of) words) fine).0)
 
-      by_item : (part : Item) → Declares (signal Input of) part → in_item scope [] part ≡ [] → (w : Whole) × (leads scope.here.types of [] ≡ Some w)
+      by_item : (part : Item) → Declares (signal role of) part → in_item scope [] part ≡ [] → (w : Whole) × (leads scope.here.types of [] ≡ Some w)
       by_item part d fine =
-          let own : in_item scope [] (Declare Input d.0 of d.1) ≡ [] = subst (λ part. in_item scope [] part ≡ []) d.2 fine in
-          by_words d.0 d.3 (empty-both (flat_map (formal_faults scope.here.types Input of) d.0) (type_faults scope.here.types of) own).0
+          let own : in_item scope [] (Declare role d.0 of d.1) ≡ [] = subst (λ part. in_item scope [] part ≡ []) d.2 fine in
+          by_words d.0 d.3 (empty-both (flat_map (formal_faults scope.here.types role of) d.0) (type_faults scope.here.types of) own).0
+
+  -- that of an input, and that of an output
+  pub input-simple : (scope : kinds.Scope) (of : _) (items : List Item) → AllByRecursion ItemIsWritten items → flat_map (in_item scope []) items ≡ [] → (at : ℕ) →
+      find_name (own_in items) name ≡ Some (record { at = at; what = signal Input of }) → (w : Whole) × (leads scope.here.types of [] ≡ Some w)
+  input-simple scope of items written fine at h =
+      formal-simple scope Input of (λ word e. unplaced (is_none (leads scope.here.types of [])) word.at (no_places 12 (place_if (is_none (leads scope.here.types of [])) word.at) e)) items written fine at h
+
+  pub output-simple : (scope : kinds.Scope) (of : _) (items : List Item) → AllByRecursion ItemIsWritten items → flat_map (in_item scope []) items ≡ [] → (at : ℕ) →
+      find_name (own_in items) name ≡ Some (record { at = at; what = signal Output of }) → (w : Whole) × (leads scope.here.types of [] ≡ Some w)
+  output-simple scope of items written fine at h =
+      formal-simple scope Output of (λ word e. unplaced (is_none (leads scope.here.types of [])) word.at (no_places 12 (place_if (is_none (leads scope.here.types of [])) word.at) e)) items written fine at h
 
   module _ (types : tree.Types) (bodies : List (Name × Body)) (inside : Path → Name → List Family) (here : Path) (scope : kinds.Scope) (covered : AreCovered scope.here.types types) where
     abbrev pub families_here : List Item → List Family
@@ -184,7 +193,7 @@ module _ (name : Name) where
 
       -- the family to which it leads
       abbrev pub IsIt : Family → Type 0
-      IsIt f = IsFamilyAt (here ++ name ∷ fields_of parts) (length w.over) f
+      IsIt f = IsFamilyAt (here ++ name ∷ fields_of parts) w f
 
       leads-no_goal : own.what ≡ goal → ⊥
       leads-no_goal e = let h : LeadsThere goal = subst LeadsThere e leads_there in cc (h)
@@ -193,12 +202,12 @@ module _ (name : Name) where
       named-path word rest e = append_assoc here (word.name ∷ []) rest ∙ ap (λ n. here ++ n ∷ rest) ((bytes_eq-Decides word.name name).0 e)
 
       -- a type that leads there has its family behind each of the words of its declaration
-      words-lead : (role : Role) (shape : List Family) → Somewhere (IsFamilyAt (fields_of parts) (length w.over)) shape → (words : List Word) → list_any (is_word name) words ≡ true →
+      words-lead : (role : Role) (shape : List Family) → Somewhere (IsFamilyAt (fields_of parts) w) shape → (words : List Word) → list_any (is_word name) words ≡ true →
           Somewhere IsIt (flat_map (λ word. map (declared_as role (here ++ word.name ∷ [])) shape) words)
       words-lead role shape there words h =
           somewhere-flat_map IsIt (λ (word : Word). map (declared_as role (here ++ word.name ∷ [])) shape) (is_word name)
-          (λ word e. somewhere-map (IsFamilyAt (fields_of parts) (length w.over)) IsIt (declared_as role (here ++ word.name ∷ []))
-          (λ f at. (ap (λ p. (here ++ word.name ∷ []) ++ p) at.0 ∙ named-path word (fields_of parts) e, at.1)) shape there) words h
+          (λ word e. somewhere-map (IsFamilyAt (fields_of parts) w) IsIt (declared_as role (here ++ word.name ∷ []))
+          (λ f at. (ap (λ p. (here ++ word.name ∷ []) ++ p) at.0 ∙ named-path word (fields_of parts) e, at.1, at.2)) shape there) words h
 
       module _ (inner : (module_name : Word) → own.what ≡ instance module_name → (word : Word) → bytes_eq word.name name ≡ true → Somewhere IsIt (inside (here ++ word.name ∷ []) module_name.name)) where
         item-reached : (what : What) → own.what ≡ what → (part : Item) → Declares what part → IsFaultless scope part → Somewhere IsIt (families_of_item types bodies inside here part)

@@ -30,24 +30,30 @@ all-each {X} P (x ∷ xs) h = λ k d lt. by_place k lt d (all-each P xs h.1)
     by_place zero lt d rest = h.0
     by_place (suc k) lt d rest = rest k d (omega (arith, lt))
 
--- the faults of names behind fault 7
-abbrev others : List Piece → List (ℕ × List ℕ)
-others tops =
-    (8, repeated [] (map (λ piece. piece.word) tops) ++ flat_map (doubled_in tops) tops)
-    ∷ (9, without_main tops)
+-- the faults of names behind fault 8, and behind fault 7
+abbrev behind_eight : List Piece → List (ℕ × List ℕ)
+behind_eight tops =
+    (9, without_main tops)
     ∷ (10, flat_map (recursive_in tops) tops)
     ∷ (11, flat_map (miscounted_in tops) tops) ∷ []
 
+abbrev others : List Piece → List (ℕ × List ℕ)
+others tops = (8, repeated [] (map (λ piece. piece.word) tops) ++ flat_map (doubled_in tops) tops) ∷ behind_eight tops
+
 -- the modules of a text without faults
-modules-of : (text : Text) → TextIsWritten text → first_fault text ≡ None → first_fault_of_kinds text ≡ None →
+pub modules-of : (text : Text) → TextIsWritten text → first_fault text ≡ None → first_fault_of_kinds text ≡ None →
     AreModules (types_from [] text.tops) (modules_from [] text.tops) (constants (pieces text)) (modules_from [] text.tops) (modules text.tops)
 unfolding opening
 modules-of text written names kinds =
     let tops : List Piece = pieces text in
     let none : faults_of_names text ≡ [] = no_fault-in (faults_of_names text) (none-first (first_of (faults_of_names text)) (fault_of_size text) names) in
     let places : List ℕ = flat_map (undeclared_in tops) tops in
-    let declared : AllByRecursion (λ piece. undeclared_in tops piece ≡ []) tops = empty-each (undeclared_in tops) tops (no_places 7 places (empty-both (faults_at (7, places)) (flat_map faults_at (others tops)) none).0) in
-    tops-modules (types_from [] text.tops) (modules_from [] text.tops) (constants tops) tops [] [] tt [] text.tops refl written (no_fault-in (faults_of_kinds text) kinds) declared
+    let seven = empty-both (faults_at (7, places)) (flat_map faults_at (others tops)) none in
+    let declared : AllByRecursion (λ piece. undeclared_in tops piece ≡ []) tops = empty-each (undeclared_in tops) tops (no_places 7 places seven.0) in
+    let twice : List ℕ = repeated [] (map (λ piece. piece.word) tops) ++ flat_map (doubled_in tops) tops in
+    let eight = empty-both (faults_at (8, twice)) (flat_map faults_at (behind_eight tops)) seven.1 in
+    let apart : AllByRecursion (λ piece. doubled_in tops piece ≡ []) tops = empty-each (doubled_in tops) tops (empty-both (repeated [] (map (λ piece. piece.word) tops)) (flat_map (doubled_in tops) tops) (no_places 8 twice eight.0)).1 in
+    tops-modules (types_from [] text.tops) (modules_from [] text.tops) (constants tops) tops [] [] tt [] text.tops refl written (no_fault-in (faults_of_kinds text) kinds) declared refl apart
 
 pub right-text : (text : Text) → TextIsWritten text → first_fault text ≡ None → first_fault_of_kinds text ≡ None → TextIsRight text
 unfolding opening

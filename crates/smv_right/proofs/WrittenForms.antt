@@ -22,7 +22,7 @@ use Rattle.smv_core.specs.declared.tree.Item.{Item, Row_of-Item, end_of-Item, mo
 use mathlib.Core.Former.{Count}
 use Rattle.smv_inst.proofs.Computing.{computing}
 use Rattle.smv_flat.specs.Agreement.{IsIndexType}
-use Rattle.smv_right.specs.Written.{TypeIsWritten, FieldsAreWritten, IsSet, IsWritten, AreWritten, PartsAreWritten, IndexesAreWritten, TermsAreWritten, MembersAreWritten, StatementIsWritten, StatementsAreWritten, BranchIsWritten, ArmsAreWritten, InnerIsWritten, InnersAreWritten}
+use Rattle.smv_right.specs.Written.{HasOne, TypeIsWritten, FieldsAreWritten, IsSet, HasMember, IsWritten, AreWritten, PartsAreWritten, IndexesAreWritten, TermsAreWritten, MembersAreWritten, StatementIsWritten, StatementsAreWritten, BranchIsWritten, ArmsAreWritten, InnerIsWritten, InnersAreWritten}
 
 -- ---- types
 
@@ -86,6 +86,10 @@ members-row n end_of-Member h = tt
 members-row n (more_of-Member (One e) rest) h = (h.0, members-row _ rest h.1)
 members-row n (more_of-Member (SpanOf span at) rest) h = members-row _ rest h.1
 
+one-member : (n : _) (row : Row_of-Member n) → HasOne (items-the_row-Member n row) → HasMember row
+one-member n end_of-Member h = h
+one-member n (more_of-Member member rest) h = tt
+
 abbrev exprs_in : Expr → (n : Count) × Row_of-Expr n
 exprs_in (And' shape row) = (_, row)
 exprs_in (Or' shape row) = (_, row)
@@ -113,8 +117,10 @@ written-Or es h = exprs-row (exprs_in (Or es)).0 (exprs_in (Or es)).1 (subst Are
 pub written-Implies : (es : List Expr) → AreWritten es → IsWritten (Implies es)
 written-Implies es h = exprs-row (exprs_in (Implies es)).0 (exprs_in (Implies es)).1 (subst AreWritten (sym (items_hidden-the_row-Expr-2 es)) h)
 
-pub written-List : (members : List Member) (at : ℕ) → AllByRecursion MemberIsWritten members → IsWritten (ListOf members at)
-written-List members at h = members-row (members_in (ListOf members at)).0 (members_in (ListOf members at)).1 (subst (AllByRecursion MemberIsWritten) (sym (items_hidden-the_row-Member-4 members)) h)
+pub written-List : (members : List Member) (at : ℕ) → HasOne members → AllByRecursion MemberIsWritten members → IsWritten (ListOf members at)
+written-List members at one h =
+    let row : (n : Count) × Row_of-Member n = members_in (ListOf members at) in
+    (one-member row.0 row.1 (subst HasOne (sym (items_hidden-the_row-Member-4 members)) one), members-row row.0 row.1 (subst (AllByRecursion MemberIsWritten) (sym (items_hidden-the_row-Member-4 members)) h))
 
 pub written-Signal : (path : Path) → PathIsWritten path → IsWritten (Signal path)
 written-Signal path h = parts-row (parts_in (Signal path)).0 (parts_in (Signal path)).1 (subst (AllByRecursion PartIsWritten) (sym (items_hidden-the_row-Part-0 (out-Path path).parts)) h)

@@ -17,16 +17,17 @@ use Rattle.smv_core.specs.declared.tree.Item.{Item, Declare, Instance, Layer, Cl
 use Rattle.smv_core.specs.declared.tree.Item as item
 use Rattle.smv_core.specs.declared.tree.Role.{Role}
 use Rattle.smv_core.specs.declared.tree.Role.TheVariants as role
+use Rattle.smv_core.specs.declared.tree.Pair.{Pair}
 use Rattle.smv_core.specs.declared.tree.Text.{Text}
 use Rattle.smv_core.specs.Signs.{comma, ampersand, bar, arrow}
 use Rattle.smv_core.specs.Signs as w
-use Rattle.smv_core.specs.Notation.{Tokens, Rule, found, same_kind, with_place, ◌>>◌, many, optional, token, separated, separated_or_none}
+use Rattle.smv_core.specs.Notation.{Tokens, Rule, found, same_kind, with_place, ◌>>◌, many, optional, token, name, separated, separated_or_none}
 use Rattle.smv_core.specs.Grammar as g
 use Rattle.smv_core.specs.Grammar.{Rules, no_rules, rules, below, chain, sum_of, named}
 use Rattle.smv_core.specs.Spelling.{Spells}
 use Rattle.smv_inst.proofs.Computing.{computing}
 use Rattle.smv_flat.specs.Agreement.{IsIndexType}
-use Rattle.smv_right.specs.Written.{TypeIsWritten, IsSet, IsWritten, AreWritten, StatementIsWritten, InnerIsWritten, ItemIsWritten, TopIsWritten, TextIsWritten}
+use Rattle.smv_right.specs.Written.{HasOne, TypeIsWritten, IsSet, IsWritten, AreWritten, StatementIsWritten, InnerIsWritten, ItemIsWritten, TopIsWritten, TextIsWritten}
 use Rattle.smv_right.proofs.LeadTypes.{some-same}
 use Rattle.smv_right.proofs.WrittenForms.{FieldIsWritten, written-Struct, written-Array, written-field, PartIsWritten, PathIsWritten, MemberIsWritten, TermIsWritten, written-And, written-Or, written-Implies, written-List, written-Signal, written-Sum, written-Not, written-Modulo, written-Iff, written-Compare, written-Within, written-Choose, written-All, written-Any, IsWrittenOrNone, written-Each, set-List, set-Each, written-term, ArmIsWritten, OtherIsWritten, written-Assign, written-Block, written-If, written-Switch, written-Default, written-For, written-Forall, written-arm, inner-Block, inner-Forall}
 
@@ -41,6 +42,9 @@ many-gives P r h ts (a ∷ more) rest x = (h ts a x.0 x.1, many-gives P r h x.0 
 separated-gives : {A : Type 0} (P : A → Type 0) (r : Rule A) → Gives P r → Gives (AllByRecursion P) (separated r)
 separated-gives {A} P r h ts xs rest x =
     subst (AllByRecursion P) x.3.3.0 (h ts x.0 x.1 x.2, many-gives P (token comma >> r) (λ ts a rest y. h y.1 a rest y.3) x.1 x.3.0 x.3.1 x.3.2)
+
+separated-one : {A : Type 0} (r : Rule A) → Gives HasOne (separated r)
+separated-one r ts xs rest x = subst HasOne x.3.3.0 tt
 
 or_none-gives : {A : Type 0} (P : A → Type 0) (r : Rule A) → Gives P r → Gives (AllByRecursion P) (separated_or_none r)
 or_none-gives P r h ts xs rest (inl x) = separated-gives P r h ts xs rest x
@@ -117,7 +121,7 @@ module _ (floor : ℕ → ℕ) (n : ℕ) (inner : Rules) (good : AreGood inner) 
 
   type-gives : Gives TypeIsWritten (g.type_rule floor n inner)
   type-gives ts x rest (inl h) = index-shape ts x rest h
-  type-gives ts x rest (inr (inl h)) = subst TypeIsWritten h.3.3.3.0 tt
+  type-gives ts x rest (inr (inl h)) = subst TypeIsWritten h.3.3.3.0 (separated-one name h.1 h.3.0 h.3.1 h.3.2)
   type-gives ts x rest (inr (inr (inl h))) =
       let of = h.3.3.3 in
       subst TypeIsWritten of.3.0 (written-Array h.3.0 of.0 (index-gives h.1 h.3.0 h.3.1 h.3.2) (good.type_good h.3.3.1 of.0 of.1 of.2))
@@ -150,7 +154,7 @@ module _ (floor : ℕ → ℕ) (n : ℕ) (inner : Rules) (good : AreGood inner) 
 
   set-gives : Gives (λ x. IsWritten x × IsSet x) (g.set floor n inner)
   set-gives ts x rest (inl h) =
-      subst (λ x. IsWritten x × IsSet x) h.3.3.3.0 (written-List h.3.0 h.0 (separated-gives MemberIsWritten inner.member good.member_good h.1 h.3.0 h.3.1 h.3.2), set-List h.3.0 h.0)
+      subst (λ x. IsWritten x × IsSet x) h.3.3.3.0 (written-List h.3.0 h.0 (separated-one inner.member h.1 h.3.0 h.3.1 h.3.2) (separated-gives MemberIsWritten inner.member good.member_good h.1 h.3.0 h.3.1 h.3.2), set-List h.3.0 h.0)
   set-gives ts x rest (inr h) =
       let var = h.3 in
       let over = var.3.3.3.3 in
@@ -316,6 +320,10 @@ module _ (floor : ℕ → ℕ) (n : ℕ) (inner : Rules) (good : AreGood inner) 
 
   -- ---- items
 
+  pair-gives : Gives (λ (pair : Pair). IsWritten pair.left) (g.pair floor n inner)
+  pair-gives [] pair rest h = absurd h.2
+  pair-gives (t ∷ ts) pair rest h = subst (λ (pair : Pair). IsWritten pair.left) h.3.3.3.0 (sum-gives (t ∷ ts) h.0.0 h.1 h.2.0)
+
   item-gives : Gives InnerIsWritten (g.item_rule floor n inner)
   item-gives ts x rest (inl h) =
       let binder = h.3 in
@@ -325,7 +333,9 @@ module _ (floor : ℕ → ℕ) (n : ℕ) (inner : Rules) (good : AreGood inner) 
   item-gives ts x rest (inr (inr (inl h))) =
       let body = h.3.3.3.3.3 in
       subst InnerIsWritten body.3.3.0 (expr-gives h.3.3.3.3.1 body.0 body.1 body.2)
-  item-gives ts x rest (inr (inr (inr (inl h)))) = subst InnerIsWritten h.3.3.3.3.3.3.3.3.0 tt
+  item-gives ts x rest (inr (inr (inr (inl h)))) =
+      let pairs = h.3.3.3.3.3.3 in
+      subst InnerIsWritten pairs.3.3.0 (separated-gives (λ (pair : Pair). IsWritten pair.left) (g.pair floor n inner) pair-gives h.3.3.3.3.3.1 pairs.0 pairs.1 pairs.2)
   item-gives ts x rest (inr (inr (inr (inr (inl h))))) = subst InnerIsWritten h.3.3.3.3.3.0 tt
   item-gives ts x rest (inr (inr (inr (inr (inr h))))) = subst InnerIsWritten h.3.0 (simple-gives ts h.0 h.1 h.2)
 

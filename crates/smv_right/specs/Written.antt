@@ -1,27 +1,36 @@
--- What the grammar gives of each tree: what stands as an index type, which sets stand right of `in`, and where names are declared.
-use Rattle.std.specs.Prelude.{List}
+-- What the grammar gives of each tree: what stands as an index type, which lists are not empty, which sets stand right of `in`, and where names are declared.
+use Rattle.std.specs.Prelude.{List, [], ◌∷◌}
 use Rattle.std.specs.List.{AllByRecursion}
 use Rattle.smv_core.specs.Walk.{indexes_of}
 use Rattle.smv_core.specs.declared.tree.Path.{out-Path}
 use Rattle.smv_core.specs.declared.tree.Part.{Field, At}
 use Rattle.smv_core.specs.declared.tree.Member.{One, Span as SpanOf}
-use Rattle.smv_core.specs.declared.tree.TypeExpr.{TypeExpr, Array', Struct', end_of-TypeExpr, more_of-TypeExpr, Row_of-Field, end_of-Field, more_of-Field}
+use Rattle.smv_core.specs.declared.tree.TypeExpr.{TypeExpr, Enum, Array', Struct', end_of-TypeExpr, more_of-TypeExpr, Row_of-Field, end_of-Field, more_of-Field}
 use Rattle.smv_core.specs.declared.tree.Expr.{Expr, Number, Signal', Not', And', Or', Implies', Iff', Compare', Within', Sum', Modulo', Choose', All', Any', List', Each', Held-Expr-Each-2, None', Some', Row_of-Expr, end_of-Expr, more_of-Expr, Row_of-Part, end_of-Part, more_of-Part, Row_of-Member, end_of-Member, more_of-Member, Row_of-Signed, end_of-Signed, more_of-Signed}
 use Rattle.smv_core.specs.declared.tree.Stmt.{Stmt, Assign, Block', If', Switch', Default', For', Forall', Held-Stmt-If-2, Row_of-Stmt, end_of-Stmt, more_of-Stmt, Row_of-Arm, end_of-Arm, more_of-Arm}
 use Rattle.smv_core.specs.declared.tree.Stmt as stmt
 use Rattle.smv_core.specs.declared.tree.Item.{Item, Declare, Instance, Layer, Claim, Split, Using, Act, Row_of-Item, end_of-Item, more_of-Item}
 use Rattle.smv_core.specs.declared.tree.Item as item
+use Rattle.smv_core.specs.declared.tree.Pair.{Pair}
 use Rattle.smv_core.specs.declared.tree.Top.{Top}
 use Rattle.smv_core.specs.declared.tree.Top.TheVariants.{SetType, Alias, Module}
 use Rattle.smv_core.specs.declared.tree.Text.{Text}
 use Rattle.smv_flat.specs.Agreement.{IsIndexType}
 
+-- ---- lists
+
+-- a list that is not empty
+abbrev pub HasOne : {X : Type 0} → List X → Type 0
+HasOne [] = ⊥
+HasOne (x ∷ xs) = Unit {0}
+
 -- ---- types
 
 abbrev mutual
-  -- each array in a type has an index type
+  -- each array in a type has an index type, and each enumeration a constant
   pub TypeIsWritten : TypeExpr → Type 0
   TypeIsWritten (Array' i (more_of-TypeExpr index end_of-TypeExpr) o (more_of-TypeExpr of end_of-TypeExpr)) = IsIndexType index × TypeIsWritten of
+  TypeIsWritten (Enum names at) = HasOne names
   TypeIsWritten (Struct' shape fields) = FieldsAreWritten fields
   TypeIsWritten _ = Unit {0}
 
@@ -37,8 +46,13 @@ IsSet (List' shape members at) = Unit {0}
 IsSet (Each' var over cond at) = Unit {0}
 IsSet _ = ⊥
 
+-- a listed set has a member
+abbrev pub HasMember : {m : _} → Row_of-Member m → Type 0
+HasMember end_of-Member = ⊥
+HasMember (more_of-Member member rest) = Unit {0}
+
 abbrev mutual
-  -- each binder in an expression has an index type, and right of each `in` stands a set
+  -- each binder in an expression has an index type, each listed set a member, and right of each `in` stands a set
   pub IsWritten : Expr → Type 0
   IsWritten (Number value at) = Unit {0}
   IsWritten (Signal' shape parts at) = IndexesAreWritten parts
@@ -54,7 +68,7 @@ abbrev mutual
   IsWritten (Choose' c (more_of-Expr cond end_of-Expr) l (more_of-Expr left end_of-Expr) r (more_of-Expr right end_of-Expr)) = IsWritten cond × IsWritten left × IsWritten right
   IsWritten (All' shape (more_of-Expr body end_of-Expr) var over at) = IsWritten body × IsIndexType over
   IsWritten (Any' shape (more_of-Expr body end_of-Expr) var over at) = IsWritten body × IsIndexType over
-  IsWritten (List' shape members at) = MembersAreWritten members
+  IsWritten (List' shape members at) = HasMember members × MembersAreWritten members
   IsWritten (Each' var over cond at) = ConditionIsWritten cond × IsIndexType over
 
   pub PartsAreWritten : {m : _} → Row_of-Expr m → Type 0
@@ -118,7 +132,7 @@ abbrev mutual
   InnerIsWritten (item.Forall' var over shape (more_of-Item body end_of-Item) at) = InnerIsWritten body × IsIndexType over
   InnerIsWritten (item.Block' shape items) = InnersAreWritten items
   InnerIsWritten (Claim name vars body at) = IsWritten body
-  InnerIsWritten (Split name vars of pairs at) = Unit {0}
+  InnerIsWritten (Split name vars of pairs at) = AllByRecursion (λ (pair : Pair). IsWritten pair.left) pairs
   InnerIsWritten (Using uses proves at) = Unit {0}
   InnerIsWritten (Act act) = StatementIsWritten act
 
