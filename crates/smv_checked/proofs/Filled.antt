@@ -1,10 +1,9 @@
 -- The types of a flattened text that keeps the rules of kinds have values.
-use Rattle.std.proofs.Common.{◌≡◌, ◌≤◌, ◌<◌, ℕ, zero, suc, List, [], ◌∷◌, length, get_or, slice_get, Option, Some, Bool, true, ◌&&◌, nat_le, nat_lt, refl, arith}
+use Rattle.std.proofs.Common.{◌≡◌, ◌≤◌, ◌<◌, ℕ, zero, suc, List, [], ◌∷◌, length, get_or, slice_get, Some, Bool, true, ◌&&◌, nat_le, nat_lt, refl, arith}
 use Rattle.std.specs.List.{list_all}
 use Rattle.smv_core.specs.Values.{Name}
 use Rattle.smv_core.specs.declared.flat.Simple.{Simple}
 use Rattle.smv_core.specs.declared.flat.Simple.TheVariants.{Range, Enum, Set}
-use Rattle.smv_core.specs.declared.flat.Family.{Family}
 use Rattle.smv_core.specs.declared.flat.SetInfo.{SetInfo}
 use Rattle.smv_core.specs.declared.flat.Raw.{Raw}
 use Rattle.smv_single.specs.Definitions.{design_of_raw}
@@ -32,11 +31,8 @@ lt-true a b e = grind arith
 
 each-holds : {X : Type 0} (p : X → Bool) (xs : List X) → list_all p xs ≡ true → (x : X) → Has xs x → p x ≡ true
 each-holds p [] h x i = elim i [ ]
-each-holds p (y ∷ xs) h x i = one_of (both (p y) (list_all p xs) h) x i
-  where
-    one_of : (p y ≡ true) × (list_all p xs ≡ true) → (x : _) → Has (y ∷ xs) x → p x ≡ true
-    one_of g _ first = g.0
-    one_of g x (later i) = each-holds p xs g.1 x i
+each-holds p (y ∷ xs) h _ first = (both (p y) (list_all p xs) h).0
+each-holds p (y ∷ xs) h x (later i) = each-holds p xs (both (p y) (list_all p xs) h).1 x i
 
 module _ (raw : Raw) where
   type-filled : (t : Simple) → is_type raw t ≡ true → IsFilled (design_of_raw raw) t

@@ -1,13 +1,9 @@
 -- Scripts whose design is one that has whole definitions of families without conflicts.
 use Rattle.std.proofs.Common.{◌≡◌, sym, subst}
-use Rattle.smv_core.specs.declared.flat.Def.{Def}
 use Rattle.smv_core.specs.declared.flat.Design.{Design}
-use Rattle.smv_abs.specs.Sets.{Has}
 use Rattle.smv_abs.specs.Covers.{AreApart}
-use Rattle.smv_abs.specs.Soundness.{IsDefinition}
 use Rattle.smv_oblig.specs.Checked.{IsChecked}
 use Rattle.smv_oblig.specs.Outlines.{Script}
-use Rattle.smv_oblig.specs.Problems.{plan_of}
 use Rattle.smv_extend.specs.Extension.{AreFilled}
 use Rattle.smv_exact.specs.Exact.{DefinitionsAreFree}
 use Rattle.smv_checked.specs.Whole.{ReadsWholeInClaims, ReadsWholeInDefinitions, HasDefinitions, HasSplits}

@@ -132,11 +132,8 @@ module _ (raw : Raw) where
   -- each statement among the items keeps the rules
   statement-kept : (k : ℕ) (items : List FlatItem) → list_all (is_kinded_item raw) items ≡ true → (s : Statement) → Has (statements_from k items) s → keeps_kinds raw [] s.act ≡ true
   statement-kept k [] h s i = elim i [ ]
-  statement-kept k (item.Act layer act ∷ items) h s i = one_of (both (keeps_kinds raw [] act) (list_all (is_kinded_item raw) items) h) s i
-    where
-      one_of : (keeps_kinds raw [] act ≡ true) × (list_all (is_kinded_item raw) items ≡ true) → (s : Statement) → Has (statements_from k (item.Act layer act ∷ items)) s → keeps_kinds raw [] s.act ≡ true
-      one_of g _ first = g.0
-      one_of g s (later i) = statement-kept (k + count act) items g.1 s i
+  statement-kept k (item.Act layer act ∷ items) h _ first = (both (keeps_kinds raw [] act) (list_all (is_kinded_item raw) items) h).0
+  statement-kept k (item.Act layer act ∷ items) h s (later i) = statement-kept (k + count act) items (both (keeps_kinds raw [] act) (list_all (is_kinded_item raw) items) h).1 s i
   statement-kept k (item.Claim c ∷ items) h s i = statement-kept (k + 1) items (both (is_kinded_item raw (item.Claim c)) (list_all (is_kinded_item raw) items) h).1 s i
   statement-kept k (item.Split c ∷ items) h s i = statement-kept k items (both (is_kinded_item raw (item.Split c)) (list_all (is_kinded_item raw) items) h).1 s i
   statement-kept k (item.Using c ∷ items) h s i = statement-kept k items (both (is_kinded_item raw (item.Using c)) (list_all (is_kinded_item raw) items) h).1 s i
@@ -145,12 +142,10 @@ module _ (raw : Raw) where
   claim-whole : (items : List FlatItem) → list_all (is_kinded_item raw) items ≡ true → (c : Claim) → Has (claims_of items) c → IsWhole raw.families c.body
   claim-whole [] h c i = elim i [ ]
   claim-whole (item.Act layer act ∷ items) h c i = claim-whole items (both (is_kinded_item raw (item.Act layer act)) (list_all (is_kinded_item raw) items) h).1 c i
-  claim-whole (item.Claim d ∷ items) h c i = one_of (both (is_kinded_item raw (item.Claim d)) (list_all (is_kinded_item raw) items) h) c i
-    where
-      one_of : (is_kinded_item raw (item.Claim d) ≡ true) × (list_all (is_kinded_item raw) items ≡ true) → (c : Claim) → Has (claims_of (item.Claim d ∷ items)) c → IsWhole raw.families c.body
-      one_of g _ first =
-          expr-whole raw (bound_by d.params) d.body (takes-some number (kind_in raw (bound_by d.params) d.body) (both (are_binders raw [] d.params) (takes number (kind_in raw (bound_by d.params) d.body)) g.0).1)
-      one_of g c (later i) = claim-whole items g.1 c i
+  claim-whole (item.Claim d ∷ items) h _ first =
+      let own : is_kinded_item raw (item.Claim d) ≡ true = (both (is_kinded_item raw (item.Claim d)) (list_all (is_kinded_item raw) items) h).0 in
+      expr-whole raw (bound_by raw d.params) d.body (takes-some number (kind_in raw (bound_by raw d.params) d.body) (both (are_binders raw [] d.params) (takes number (kind_in raw (bound_by raw d.params) d.body)) own).1)
+  claim-whole (item.Claim d ∷ items) h c (later i) = claim-whole items (both (is_kinded_item raw (item.Claim d)) (list_all (is_kinded_item raw) items) h).1 c i
   claim-whole (item.Split d ∷ items) h c i = claim-whole items (both (is_kinded_item raw (item.Split d)) (list_all (is_kinded_item raw) items) h).1 c i
   claim-whole (item.Using d ∷ items) h c i = claim-whole items (both (is_kinded_item raw (item.Using d)) (list_all (is_kinded_item raw) items) h).1 c i
 

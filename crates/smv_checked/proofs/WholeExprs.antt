@@ -1,5 +1,5 @@
 -- What has a kind reads whole elements.
-use Rattle.std.proofs.Common.{◌≡◌, ℕ, List, [], ◌∷◌, ◌++◌, map, slice_get, Option, Some, None, is_some, Bool, true, false, ◌&&◌, if◌then◌else◌, nat_le, nat_lt, refl, sym, subst}
+use Rattle.std.proofs.Common.{◌≡◌, ℕ, List, [], ◌∷◌, map, slice_get, Option, Some, None, is_some, Bool, true, false, ◌&&◌, if◌then◌else◌, nat_le, nat_lt, refl, sym, subst}
 use Rattle.std.specs.List.{list_all}
 use Rattle.smv_core.specs.declared.tree.Op.{Op}
 use Rattle.smv_core.specs.declared.tree.Op.TheVariants as op
@@ -8,7 +8,7 @@ use Rattle.smv_core.specs.declared.flat.Family.{Family}
 use Rattle.smv_core.specs.declared.flat.FlatMember.{One, Span as SpanOf}
 use Rattle.smv_core.specs.declared.flat.FlatExpr.{FlatExpr, Number, Read', Var, Loop, Constant, Not', And', Or', Implies', Iff', Compare', Within', Sum', Modulo', Choose', All', Any', List', Each', Held-FlatExpr-Each-2, None', Some', Row_of-FlatExpr, end_of-FlatExpr, more_of-FlatExpr, Row_of-FlatMember, end_of-FlatMember, more_of-FlatMember, Row_of-FlatSigned, end_of-FlatSigned, more_of-FlatSigned}
 use Rattle.smv_core.specs.declared.flat.Raw.{Raw}
-use Rattle.smv_typed.specs.FlatKinds.{Kind, number, enumeration, set_type, kind_of, takes, joins, joined as joined_kind, are_numbers, number_if, common_after, common, has_order, compares, chosen, element, take_each, Vars, inside, kind_in, kinds_in, summands, members_in, looked_through, is_condition, value_in, is_binder}
+use Rattle.smv_typed.specs.FlatKinds.{Kind, number, kind_of, takes, joins, joined as joined_kind, are_numbers, number_if, common_after, common, has_order, compares, chosen, element, take_each, Vars, inside, kind_in, kinds_in, summands, members_in, looked_through, is_condition, value_in, is_binder}
 use Rattle.smv_abs.specs.Sets.{Has, first, later}
 use Rattle.smv_abs.specs.Whole.{OneForEach, OneForEachOf, IsWhole, AreWhole, AreWholeSigned, AreWholeMembers, IsWholeHeld}
 
@@ -40,15 +40,15 @@ each-some [] (o ∷ es) e = absurd (cc (e))
 each-some (t ∷ over) [] e = absurd (cc (e))
 each-some (t ∷ over) (o ∷ es) e = let g : (takes (kind_of t) o ≡ true) × (take_each over es ≡ true) = both _ _ e in pair (is_some o) (all-some es) (takes-some (kind_of t) o g.0) (each-some over es g.1)
 
-mutual
-  after-some : (kind : Kind) (es : List (Option Kind)) → is_some (common_after kind es) ≡ true → all-some es ≡ true
-  after-some kind [] e = refl
-  after-some kind (None ∷ more) e = absurd (cc (e))
-  after-some kind (Some other ∷ more) e = after-if kind other more (joins kind other) e
+-- what there is only under a test
+if-some : {X : Type 0} (b : Bool) (o : Option X) → is_some (if b then o else None) ≡ true → (b ≡ true) × (is_some o ≡ true)
+if-some true o e = (refl, e)
+if-some false o e = absurd (cc (e))
 
-  after-if : (kind other : Kind) (more : List (Option Kind)) (b : Bool) → is_some (if b then common_after (joined_kind kind other) more else None) ≡ true → all-some more ≡ true
-  after-if kind other more true e = after-some (joined_kind kind other) more e
-  after-if kind other more false e = absurd (cc (e))
+after-some : (kind : Kind) (es : List (Option Kind)) → is_some (common_after kind es) ≡ true → all-some es ≡ true
+after-some kind [] e = refl
+after-some kind (None ∷ more) e = absurd (cc (e))
+after-some kind (Some other ∷ more) e = after-some (joined_kind kind other) more (if-some (joins kind other) (common_after (joined_kind kind other) more) e).1
 
 common-some : (es : List (Option Kind)) → is_some (common es) ≡ true → all-some es ≡ true
 common-some [] e = refl
@@ -71,22 +71,20 @@ compares-some op.AtMost o e = order-some o e
 compares-some op.Greater o e = order-some o e
 compares-some op.AtLeast o e = order-some o e
 
+two-some : (left right : Option Kind) → all-some (left ∷ right ∷ []) ≡ true → (is_some left ≡ true) × (is_some right ≡ true)
+two-some left right e = let h : (is_some left ≡ true) × ((is_some right && true) ≡ true) = both _ _ e in (h.0, (both (is_some right) true h.1).0)
+
 -- the two branches and the condition of what is chosen have kinds
 chosen-some : (cond left right : Option Kind) → is_some (chosen cond left right) ≡ true → (is_some cond ≡ true) × (is_some left ≡ true) × (is_some right ≡ true)
-chosen-some cond left right e = by_test (takes number cond) refl e
-  where
-    by_test : (b : Bool) → takes number cond ≡ b → is_some (if b then common (left ∷ right ∷ []) else None) ≡ true → (is_some cond ≡ true) × (is_some left ≡ true) × (is_some right ≡ true)
-    by_test true t e = let g : all-some (left ∷ right ∷ []) ≡ true = common-some (left ∷ right ∷ []) e in let h = both (is_some left) (is_some right && true) g in (takes-some number cond t, h.0, (both (is_some right) true h.1).0)
-    by_test false t e = absurd (cc (e))
+chosen-some cond left right e =
+    let t : (takes number cond ≡ true) × (is_some (common (left ∷ right ∷ [])) ≡ true) = if-some (takes number cond) (common (left ∷ right ∷ [])) e in
+    let h : (is_some left ≡ true) × (is_some right ≡ true) = two-some left right (common-some (left ∷ right ∷ []) t.1) in
+    (takes-some number cond t.0, h.0, h.1)
 
 -- an element that has a kind is of a family, with one index for each type
 pub element-some : (o : Option Family) (es : List (Option Kind)) → is_some (element o es) ≡ true → (f : Family) × (o ≡ Some f) × (take_each f.over es ≡ true)
 element-some None es e = absurd (cc (e))
-element-some (Some f) es e = by_test (take_each f.over es) refl e
-  where
-    by_test : (b : Bool) → take_each f.over es ≡ b → is_some (if b then Some (kind_of f.value) else None) ≡ true → (g : Family) × (Some f ≡ Some g) × (take_each g.over es ≡ true)
-    by_test true t e = (f, refl, t)
-    by_test false t e = absurd (cc (e))
+element-some (Some f) es e = (f, refl, (if-some (take_each f.over es) (Some (kind_of f.value)) e).0)
 
 module _ (raw : Raw) where
   -- ---- expressions
@@ -107,26 +105,30 @@ module _ (raw : Raw) where
     expr-whole vars (Loop value at) h = tt
     expr-whole vars (Constant list value at) h = tt
     expr-whole vars (Not' shape (more_of-FlatExpr e end_of-FlatExpr) at) h = expr-whole vars e (takes-some number (kind_in raw vars e) (number_if-true _ h))
-    expr-whole vars (And' shape parts) h = row-whole vars parts (numbers-some _ (number_if-true _ h))
-    expr-whole vars (Or' shape parts) h = row-whole vars parts (numbers-some _ (number_if-true _ h))
-    expr-whole vars (Implies' shape parts) h = row-whole vars parts (numbers-some _ (number_if-true _ h))
+    expr-whole vars (And' shape parts) h = row-whole vars parts (numbers-some (kinds_in raw vars parts) (number_if-true (are_numbers (kinds_in raw vars parts)) h))
+    expr-whole vars (Or' shape parts) h = row-whole vars parts (numbers-some (kinds_in raw vars parts) (number_if-true (are_numbers (kinds_in raw vars parts)) h))
+    expr-whole vars (Implies' shape parts) h = row-whole vars parts (numbers-some (kinds_in raw vars parts) (number_if-true (are_numbers (kinds_in raw vars parts)) h))
     expr-whole vars (Iff' l (more_of-FlatExpr left end_of-FlatExpr) r (more_of-FlatExpr right end_of-FlatExpr)) h =
-        two-whole vars left right (numbers-some (kind_in raw vars left ∷ kind_in raw vars right ∷ []) (number_if-true _ h))
+        let g : (is_some (kind_in raw vars left) ≡ true) × (is_some (kind_in raw vars right) ≡ true) =
+        two-some (kind_in raw vars left) (kind_in raw vars right) (numbers-some (kind_in raw vars left ∷ kind_in raw vars right ∷ []) (number_if-true _ h)) in
+        (expr-whole vars left g.0, expr-whole vars right g.1)
     expr-whole vars (Compare' op l (more_of-FlatExpr left end_of-FlatExpr) r (more_of-FlatExpr right end_of-FlatExpr)) h =
-        two-whole vars left right (common-some (kind_in raw vars left ∷ kind_in raw vars right ∷ []) (compares-some op (common (kind_in raw vars left ∷ kind_in raw vars right ∷ [])) (number_if-true _ h)))
+        let g : (is_some (kind_in raw vars left) ≡ true) × (is_some (kind_in raw vars right) ≡ true) =
+        two-some (kind_in raw vars left) (kind_in raw vars right) (common-some (kind_in raw vars left ∷ kind_in raw vars right ∷ []) (compares-some op (common (kind_in raw vars left ∷ kind_in raw vars right ∷ [])) (number_if-true _ h))) in
+        (expr-whole vars left g.0, expr-whole vars right g.1)
     expr-whole vars (Within' l (more_of-FlatExpr left end_of-FlatExpr) r (more_of-FlatExpr set end_of-FlatExpr)) h =
         let g : (is_some (kind_in raw vars left) ≡ true) × (all-some (looked_through raw vars set) ≡ true) =
-            both _ _ (common-some (kind_in raw vars left ∷ looked_through raw vars set) (number_if-true _ h)) in
+        both _ _ (common-some (kind_in raw vars left ∷ looked_through raw vars set) (number_if-true _ h)) in
         (expr-whole vars left g.0, set-whole vars set g.1)
     expr-whole vars (Sum' f (more_of-FlatExpr head end_of-FlatExpr) shape more) h =
         let g : (is_some (kind_in raw vars head) ≡ true) × (all-some (summands raw vars more) ≡ true) =
-            both _ _ (numbers-some (kind_in raw vars head ∷ summands raw vars more) (number_if-true _ h)) in
+        both _ _ (numbers-some (kind_in raw vars head ∷ summands raw vars more) (number_if-true _ h)) in
         (expr-whole vars head g.0, signed-whole vars more g.1)
     expr-whole vars (Modulo' shape (more_of-FlatExpr e end_of-FlatExpr) by at) h =
         expr-whole vars e (takes-some number (kind_in raw vars e) (both (takes number (kind_in raw vars e)) (nat_lt 0 by) (number_if-true _ h)).0)
     expr-whole vars (Choose' c (more_of-FlatExpr cond end_of-FlatExpr) l (more_of-FlatExpr left end_of-FlatExpr) r (more_of-FlatExpr right end_of-FlatExpr)) h =
         let g : (is_some (kind_in raw vars cond) ≡ true) × (is_some (kind_in raw vars left) ≡ true) × (is_some (kind_in raw vars right) ≡ true) =
-            chosen-some (kind_in raw vars cond) (kind_in raw vars left) (kind_in raw vars right) h in
+        chosen-some (kind_in raw vars cond) (kind_in raw vars left) (kind_in raw vars right) h in
         (expr-whole vars cond g.0, expr-whole vars left g.1, expr-whole vars right g.2)
     expr-whole vars (All' shape (more_of-FlatExpr body end_of-FlatExpr) var over at) h =
         expr-whole (inside vars over) body (takes-some number (kind_in raw (inside vars over) body) (both (is_binder raw vars var over) (takes number (kind_in raw (inside vars over) body)) (number_if-true _ h)).1)
@@ -134,11 +136,6 @@ module _ (raw : Raw) where
         expr-whole (inside vars over) body (takes-some number (kind_in raw (inside vars over) body) (both (is_binder raw vars var over) (takes number (kind_in raw (inside vars over) body)) (number_if-true _ h)).1)
     expr-whole vars (List' shape members at) h = absurd (cc (h))
     expr-whole vars (Each' var over cond at) h = absurd (cc (h))
-
-    two-whole : (vars : Vars) (left right : FlatExpr) → all-some (kind_in raw vars left ∷ kind_in raw vars right ∷ []) ≡ true → IsWhole raw.families left × IsWhole raw.families right
-    two-whole vars left right h =
-        let g : (is_some (kind_in raw vars left) ≡ true) × ((is_some (kind_in raw vars right) && true) ≡ true) = both _ _ h in
-        (expr-whole vars left g.0, expr-whole vars right (both (is_some (kind_in raw vars right)) true g.1).0)
 
     row-whole : {m : _} (vars : Vars) (row : Row_of-FlatExpr m) → all-some (kinds_in raw vars row) ≡ true → AreWhole raw.families row
     row-whole vars end_of-FlatExpr h = tt
@@ -170,14 +167,12 @@ module _ (raw : Raw) where
 
   pub value-whole : (vars : Vars) (e : FlatExpr) → is_some (value_in raw vars e) ≡ true → IsWhole raw.families e
   value-whole vars (List' shape members at) h = members-whole vars members (common-some (members_in raw vars members) h)
-  value-whole vars (Each' var over cond at) h = by_test (is_binder raw vars var over && is_condition raw (inside vars over) cond) refl h
-    where
-      by_test : (b : Bool) → (is_binder raw vars var over && is_condition raw (inside vars over) cond) ≡ b → is_some (if b then Some (kind_of over) else None) ≡ true → IsWholeHeld raw.families cond
-      by_test true t e = held-whole (inside vars over) cond (both (is_binder raw vars var over) (is_condition raw (inside vars over) cond) t).1
-      by_test false t e = absurd (cc (e))
+  value-whole vars (Each' var over cond at) h =
+      let t : ((is_binder raw vars var over && is_condition raw (inside vars over) cond) ≡ true) × (is_some (Some (kind_of over)) ≡ true) = if-some _ (Some (kind_of over)) h in
+      held-whole (inside vars over) cond (both (is_binder raw vars var over) (is_condition raw (inside vars over) cond) t.0).1
   value-whole vars (Choose' c (more_of-FlatExpr cond end_of-FlatExpr) l (more_of-FlatExpr left end_of-FlatExpr) r (more_of-FlatExpr right end_of-FlatExpr)) h =
       let g : (is_some (kind_in raw vars cond) ≡ true) × (is_some (value_in raw vars left) ≡ true) × (is_some (value_in raw vars right) ≡ true) =
-          chosen-some (kind_in raw vars cond) (value_in raw vars left) (value_in raw vars right) h in
+      chosen-some (kind_in raw vars cond) (value_in raw vars left) (value_in raw vars right) h in
       (expr-whole vars cond g.0, value-whole vars left g.1, value-whole vars right g.2)
   value-whole vars e h = expr-whole vars e h
 
@@ -185,11 +180,8 @@ module _ (raw : Raw) where
 
   pub list-whole : (vars : Vars) (es : List FlatExpr) → all-some (map (kind_in raw vars) es) ≡ true → (e : FlatExpr) → Has es e → IsWhole raw.families e
   list-whole vars [] h e i = elim i [ ]
-  list-whole vars (x ∷ es) h e i = one_of (both (is_some (kind_in raw vars x)) (all-some (map (kind_in raw vars) es)) h) e i
-    where
-      one_of : (is_some (kind_in raw vars x) ≡ true) × (all-some (map (kind_in raw vars) es) ≡ true) → (e : FlatExpr) → Has (x ∷ es) e → IsWhole raw.families e
-      one_of g _ first = expr-whole vars x g.0
-      one_of g e (later i) = list-whole vars es g.1 e i
+  list-whole vars (x ∷ es) h _ first = expr-whole vars x (both (is_some (kind_in raw vars x)) (all-some (map (kind_in raw vars) es)) h).0
+  list-whole vars (x ∷ es) h e (later i) = list-whole vars es (both (is_some (kind_in raw vars x)) (all-some (map (kind_in raw vars) es)) h).1 e i
 
   -- the indexes of an element that has a kind
   pub indexes-whole : (vars : Vars) (family : ℕ) (left : List FlatExpr) → is_some (element (slice_get raw.families family) (map (kind_in raw vars) left)) ≡ true → (e : FlatExpr) → Has left e → IsWhole raw.families e
