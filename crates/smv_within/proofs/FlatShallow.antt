@@ -1,5 +1,5 @@
 -- Flattened expressions and statements whose binders are not too deep: those that are made of shallow trees.
-use Rattle.std.proofs.Common.{◌≡◌, ◌<◌, ℕ, suc, List, [], ◌∷◌, map, Option, Some, None, Bool, true, false, cond, sym, subst}
+use Rattle.std.proofs.Common.{◌≡◌, ◌<◌, ℕ, suc, List, [], ◌∷◌, ◌++◌, map, Option, Some, None, Bool, true, false, cond, sym, subst}
 use Rattle.std.specs.Str.{bytes_eq}
 use Rattle.std.specs.List.{AllByRecursion}
 use Rattle.smv_core.specs.Values.{Name, Path}
@@ -238,14 +238,14 @@ module _ (scope : Scope) where
 
   signal-shallow : (k : ℕ) (o : Option FlatExpr) (f : Option Family) (path : Path) (es : List FlatExpr) (at : ℕ) → IsShallowOrNone k o → AllByRecursion (FlatIsShallow k) es → FlatIsShallow k (or_signal scope o f path es at)
   signal-shallow k (Some e) f path es at h g = h
-  signal-shallow k None (Some f) path es at h g = flat-Read k _ es at g
+  signal-shallow k None (Some f) path es at h g = flat-Read k (family_number scope (scope.instance ++ path)) es at g
   signal-shallow k None None path es at h g = constant-shallow k path at
 
   mutual
     pub expr-shallow : (k : ℕ) (vars : Around) (e : Expr) → IsShallow k e → FlatIsShallow k (flat_expr scope vars e)
     expr-shallow k vars (tree.Number value at) h = tt
     expr-shallow k vars (tree.Signal' shape parts at) h =
-        signal-shallow k (variable_at vars (fields_of (items-the_row-Part _ parts)) at) (family_at scope.families _) (fields_of (items-the_row-Part _ parts)) (flat_indexes scope vars parts) at
+        signal-shallow k (variable_at vars (fields_of (items-the_row-Part _ parts)) at) (family_at scope.families (scope.instance ++ fields_of (items-the_row-Part _ parts))) (fields_of (items-the_row-Part _ parts)) (flat_indexes scope vars parts) at
         (at-shallow k vars (fields_of (items-the_row-Part _ parts)) at) (indexes-shallow k vars parts h)
     expr-shallow k vars (tree.Not' shape (more_of-Expr e end_of-Expr) at) h = flat-Not k (flat_expr scope vars e) at (expr-shallow k vars e h)
     expr-shallow k vars (tree.And' shape parts) h = flat-And k (flat_row scope vars parts) (row-shallow k vars parts h)

@@ -1,0 +1,5 @@
+mod Shallow
+mod ShallowForms
+mod ShallowRules
+mod FlatShallow
+mod Items
