@@ -11,7 +11,7 @@ use Rattle.smv_typed.specs.FlatKinds.{is_type, is_index_type, is_size, is_kinded
 use Rattle.smv_abs.specs.Sets.{Has, first, later}
 use Rattle.smv_oblig.specs.Checked.{IsFilled}
 use Rattle.smv_extend.specs.Extension.{AreFilled}
-use Rattle.smv_checked.proofs.WholeExprs.{both}
+use Rattle.smv_typed.proofs.Operands.{both}
 
 -- what is below the length of a list is there
 pub there : {X : Type 0} (xs : List X) (k : ℕ) → k < length xs → (x : X) × (slice_get xs k ≡ Some x)

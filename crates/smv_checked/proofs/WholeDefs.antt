@@ -21,7 +21,8 @@ use Rattle.smv_typed.specs.FlatKinds.{Kind as KindOf, number, takes, assigns, el
 use Rattle.smv_abs.specs.Sets.{Has, first, later}
 use Rattle.smv_abs.specs.Whole.{IsWhole, IsWholeFlat, AreWholeFlats, IsWholeDef}
 use Rattle.smv_checked.specs.Whole.{ReadsWholeInClaims, ReadsWholeInDefinitions}
-use Rattle.smv_checked.proofs.WholeExprs.{both, takes-some, expr-whole, value-whole, indexes-whole}
+use Rattle.smv_typed.proofs.Operands.{both, takes-some}
+use Rattle.smv_checked.proofs.WholeExprs.{expr-whole, value-whole, indexes-whole}
 use mathlib.Core.Former.{Count}
 
 -- what lets a box of a definition's part compute

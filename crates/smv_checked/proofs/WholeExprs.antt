@@ -1,90 +1,15 @@
 -- What has a kind reads whole elements.
-use Rattle.std.proofs.Common.{◌≡◌, ℕ, List, [], ◌∷◌, map, slice_get, Option, Some, None, is_some, Bool, true, false, ◌&&◌, if◌then◌else◌, nat_le, nat_lt, refl, sym, subst}
+use Rattle.std.proofs.Common.{◌≡◌, ℕ, List, [], ◌∷◌, map, slice_get, Option, Some, is_some, true, ◌&&◌, nat_le, nat_lt, sym, subst}
 use Rattle.std.specs.List.{list_all}
-use Rattle.smv_core.specs.declared.tree.Op.{Op}
-use Rattle.smv_core.specs.declared.tree.Op.TheVariants as op
 use Rattle.smv_core.specs.declared.flat.Simple.{Simple}
 use Rattle.smv_core.specs.declared.flat.Family.{Family}
 use Rattle.smv_core.specs.declared.flat.FlatMember.{One, Span as SpanOf}
 use Rattle.smv_core.specs.declared.flat.FlatExpr.{FlatExpr, Number, Read', Var, Loop, Constant, Not', And', Or', Implies', Iff', Compare', Within', Sum', Modulo', Choose', All', Any', List', Each', Held-FlatExpr-Each-2, None', Some', Row_of-FlatExpr, end_of-FlatExpr, more_of-FlatExpr, Row_of-FlatMember, end_of-FlatMember, more_of-FlatMember, Row_of-FlatSigned, end_of-FlatSigned, more_of-FlatSigned}
 use Rattle.smv_core.specs.declared.flat.Raw.{Raw}
-use Rattle.smv_typed.specs.FlatKinds.{Kind, number, kind_of, takes, joins, joined as joined_kind, are_numbers, number_if, common_after, common, has_order, compares, chosen, element, take_each, Vars, inside, kind_in, kinds_in, summands, members_in, looked_through, is_condition, value_in, is_binder}
+use Rattle.smv_typed.specs.FlatKinds.{number, kind_of, takes, are_numbers, number_if, common, element, take_each, Vars, inside, kind_in, kinds_in, summands, members_in, looked_through, is_condition, value_in, is_binder}
+use Rattle.smv_typed.proofs.Operands.{both, all-some, takes-some, numbers-some, each-some, if-some, common-some, number_if-true, compares-some, two-some, chosen-some, element-some}
 use Rattle.smv_abs.specs.Sets.{Has, first, later}
 use Rattle.smv_abs.specs.Whole.{OneForEach, OneForEachOf, IsWhole, AreWhole, AreWholeSigned, AreWholeMembers, IsWholeHeld}
-
--- ---- tests
-
-pub both : (a b : Bool) → (a && b) ≡ true → (a ≡ true) × (b ≡ true)
-both true b e = (refl, e)
-both false b e = absurd (cc (e))
-
-pair : (a b : Bool) → a ≡ true → b ≡ true → (a && b) ≡ true
-pair true b e f = f
-pair false b e f = absurd (cc (e))
-
--- each of these operands has a kind
-abbrev pub all-some : List (Option Kind) → Bool
-all-some es = list_all is_some es
-
-pub takes-some : (k : Kind) (o : Option Kind) → takes k o ≡ true → is_some o ≡ true
-takes-some k None e = absurd (cc (e))
-takes-some k (Some other) e = refl
-
-numbers-some : (es : List (Option Kind)) → are_numbers es ≡ true → all-some es ≡ true
-numbers-some [] e = refl
-numbers-some (o ∷ es) e = let g : (takes number o ≡ true) × (are_numbers es ≡ true) = both _ _ e in pair (is_some o) (all-some es) (takes-some number o g.0) (numbers-some es g.1)
-
-each-some : (over : List Simple) (es : List (Option Kind)) → take_each over es ≡ true → all-some es ≡ true
-each-some [] [] e = refl
-each-some [] (o ∷ es) e = absurd (cc (e))
-each-some (t ∷ over) [] e = absurd (cc (e))
-each-some (t ∷ over) (o ∷ es) e = let g : (takes (kind_of t) o ≡ true) × (take_each over es ≡ true) = both _ _ e in pair (is_some o) (all-some es) (takes-some (kind_of t) o g.0) (each-some over es g.1)
-
--- what there is only under a test
-if-some : {X : Type 0} (b : Bool) (o : Option X) → is_some (if b then o else None) ≡ true → (b ≡ true) × (is_some o ≡ true)
-if-some true o e = (refl, e)
-if-some false o e = absurd (cc (e))
-
-after-some : (kind : Kind) (es : List (Option Kind)) → is_some (common_after kind es) ≡ true → all-some es ≡ true
-after-some kind [] e = refl
-after-some kind (None ∷ more) e = absurd (cc (e))
-after-some kind (Some other ∷ more) e = after-some (joined_kind kind other) more (if-some (joins kind other) (common_after (joined_kind kind other) more) e).1
-
-common-some : (es : List (Option Kind)) → is_some (common es) ≡ true → all-some es ≡ true
-common-some [] e = refl
-common-some (None ∷ more) e = absurd (cc (e))
-common-some (Some kind ∷ more) e = after-some kind more e
-
-number_if-true : (b : Bool) → is_some (number_if b) ≡ true → b ≡ true
-number_if-true true e = refl
-number_if-true false e = absurd (cc (e))
-
-order-some : (o : Option Kind) → has_order o ≡ true → is_some o ≡ true
-order-some None e = absurd (cc (e))
-order-some (Some kind) e = refl
-
-compares-some : (op : Op) (o : Option Kind) → compares op o ≡ true → is_some o ≡ true
-compares-some op.Equal o e = e
-compares-some op.Differ o e = e
-compares-some op.Less o e = order-some o e
-compares-some op.AtMost o e = order-some o e
-compares-some op.Greater o e = order-some o e
-compares-some op.AtLeast o e = order-some o e
-
-two-some : (left right : Option Kind) → all-some (left ∷ right ∷ []) ≡ true → (is_some left ≡ true) × (is_some right ≡ true)
-two-some left right e = let h : (is_some left ≡ true) × ((is_some right && true) ≡ true) = both _ _ e in (h.0, (both (is_some right) true h.1).0)
-
--- the two branches and the condition of what is chosen have kinds
-chosen-some : (cond left right : Option Kind) → is_some (chosen cond left right) ≡ true → (is_some cond ≡ true) × (is_some left ≡ true) × (is_some right ≡ true)
-chosen-some cond left right e =
-    let t : (takes number cond ≡ true) × (is_some (common (left ∷ right ∷ [])) ≡ true) = if-some (takes number cond) (common (left ∷ right ∷ [])) e in
-    let h : (is_some left ≡ true) × (is_some right ≡ true) = two-some left right (common-some (left ∷ right ∷ []) t.1) in
-    (takes-some number cond t.0, h.0, h.1)
-
--- an element that has a kind is of a family, with one index for each type
-pub element-some : (o : Option Family) (es : List (Option Kind)) → is_some (element o es) ≡ true → (f : Family) × (o ≡ Some f) × (take_each f.over es ≡ true)
-element-some None es e = absurd (cc (e))
-element-some (Some f) es e = (f, refl, (if-some (take_each f.over es) (Some (kind_of f.value)) e).0)
 
 module _ (raw : Raw) where
   -- ---- expressions
