@@ -3,3 +3,4 @@ mod ShallowForms
 mod ShallowRules
 mod FlatShallow
 mod Items
+mod Fitting
