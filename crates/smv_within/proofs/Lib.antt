@@ -4,3 +4,6 @@ mod ShallowRules
 mod FlatShallow
 mod Items
 mod Fitting
+mod Limits
+mod FewFamilies
+mod FewEntries
