@@ -7,3 +7,5 @@ mod Fitting
 mod Limits
 mod FewFamilies
 mod FewEntries
+mod FewConstants
+mod WholeText
