@@ -1,9 +1,8 @@
 -- A text has no more enumerations, and none of them more constants, than there are different constants.
-use Rattle.std.proofs.Common.{◌≡◌, ◌<◌, ◌≤◌, ◌+◌, ℕ, zero, suc, List, [], ◌∷◌, ◌++◌, map, filter, length, Option, Some, None, Bool, true, false, not, cond, ◌||◌, nat_lt, refl, sym, ap, ◌∙◌, subst, arith}
+use Rattle.std.proofs.Common.{◌≡◌, ◌≤◌, ◌+◌, suc, List, [], ◌∷◌, ◌++◌, map, filter, length, Option, Some, None, Bool, true, false, not, cond, ◌||◌, nat_lt, refl, sym, ap, ◌∙◌, subst, arith}
 use Rattle.std.specs.Str.{bytes_eq}
 use Rattle.std.specs.List.{AllByRecursion, flat_map, list_any, list_all}
 use Rattle.std.proofs.lemmas.List.{length-map, map-append}
-use Rattle.std.proofs.lemmas.List.Folds.{list_any-append}
 use Rattle.std.proofs.lemmas.Slice.Eq.{bytes_eq-Decides}
 use Rattle.smv_core.specs.Values.{Name}
 use Rattle.smv_core.specs.Types.{find_name, names_of}
@@ -18,7 +17,7 @@ use Rattle.smv_inst.specs.Sizes.{count_different, constant_names}
 use Rattle.smv_flat.specs.Flattening.{different, enum_of, flatten}
 use Rattle.smv_flat.proofs.TypeNumbers.{paths-decide}
 use Rattle.smv_typed.proofs.Operands.{both}
-use Rattle.smv_within.proofs.Limits.{nil-both, nil-each, nil-map, not-placed, HasNone, none-named, IsSmall, within-limits}
+use Rattle.smv_within.proofs.Limits.{nil-both, nil-each, nil-map, not-placed, none-named, within-limits}
 
 -- ---- names in lists
 

@@ -1,7 +1,7 @@
 -- A text has no more entries in flat order than statements are counted, so its layers have numbers of 16 bits.
-use Rattle.std.proofs.Common.{◌≡◌, ◌<◌, ◌≤◌, ◌+◌, ◌*◌, ℕ, zero, suc, List, [], ◌∷◌, ◌++◌, map, filter, zip, length, Option, Some, None, option_map, IfSome, Bool, true, false, not, cond, refl, sym, ap, subst, arith, length-append}
+use Rattle.std.proofs.Common.{◌≡◌, ◌<◌, ◌≤◌, ◌+◌, ◌*◌, ℕ, zero, suc, List, [], ◌∷◌, ◌++◌, map, filter, zip, length, Option, Some, None, option_map, IfSome, Bool, true, false, not, cond, refl, arith, length-append}
 use Rattle.std.specs.Str.{bytes_eq}
-use Rattle.std.specs.List.{AllByRecursion, flat_map, sum, sum_by, prefix_len, position_or_len}
+use Rattle.std.specs.List.{AllByRecursion, flat_map, sum, prefix_len, position_or_len}
 use Rattle.std.proofs.lemmas.List.{length-map}
 use Rattle.std.proofs.lemmas.List.Sums.{sum_by-cons}
 use Rattle.std.proofs.Math.Nat.{suc-mul}
@@ -18,8 +18,8 @@ use Rattle.smv_core.specs.declared.tree.Item as item
 use Rattle.smv_core.specs.declared.tree.Text.{Text}
 use Rattle.smv_core.specs.declared.flat.FlatItem.{FlatItem}
 use Rattle.smv_core.specs.declared.flat.FlatItem.TheVariants as flat
-use Rattle.smv_inst.specs.Sizes.{Sized, sized_from, statements, statements_of_item, statements_of_items, body_named, statements_in}
-use Rattle.smv_flat.specs.Entries.{Goal, claim, split, using, Entry, layer, statement, goal, inside_binder, given_to, connection, connections, instance_entries, item_entries, items_entries, entries_in, entries}
+use Rattle.smv_inst.specs.Sizes.{Sized, sized_from, statements, statements_of_item, statements_of_items, statements_in}
+use Rattle.smv_flat.specs.Entries.{claim, split, using, Entry, layer, statement, goal, inside_binder, given_to, connection, connections, instance_entries, item_entries, items_entries, entries_in, entries}
 use Rattle.smv_flat.specs.Flattening.{different, layer_of, layers_of, layer_number, flat_assignments, with_places, flat_entry, flatten}
 use Rattle.smv_within.specs.NumbersFit.{IsShort}
 use Rattle.smv_within.proofs.Fitting.{LayerFits}

@@ -1,10 +1,10 @@
 -- A text has no more families than its size counts.
-use Rattle.std.proofs.Common.{◌≡◌, ◌≤◌, ◌+◌, ℕ, zero, suc, List, [], ◌∷◌, ◌++◌, map, length, Option, Some, None, unwrap_or, Bool, true, false, cond, refl, sym, ap, subst, arith, length-append}
+use Rattle.std.proofs.Common.{◌≡◌, ◌≤◌, ℕ, zero, suc, List, [], ◌∷◌, ◌++◌, map, length, Option, Some, None, unwrap_or, Bool, true, false, cond, refl, subst, arith, length-append}
 use Rattle.std.specs.Str.{bytes_eq}
 use Rattle.std.specs.List.{flat_map}
 use Rattle.std.proofs.lemmas.List.{length-map}
 use Rattle.smv_core.specs.Values.{Name, Path, Simple}
-use Rattle.smv_core.specs.Types.{Types, Shape, Family, find_name, one_value, indexed, behind, simple_of, array_of, shape_or_none, shape_of, shape_of_fields, types_after, types_from}
+use Rattle.smv_core.specs.Types.{Types, Shape, Family, find_name, indexed, behind, simple_of, array_of, shape_or_none, shape_of, shape_of_fields, types_after, types_from}
 use Rattle.smv_core.specs.FlatOrder.{Body, modules, main, declared_as, body_of}
 use Rattle.smv_core.specs.declared.tree.Word.{Word}
 use Rattle.smv_core.specs.declared.tree.TypeExpr.{TypeExpr, Boolean, Range, Enum, Named, Array', Struct', end_of-TypeExpr, more_of-TypeExpr, Row_of-Field, end_of-Field, more_of-Field}
@@ -12,7 +12,7 @@ use Rattle.smv_core.specs.declared.tree.Item.{Item, Declare, Instance}
 use Rattle.smv_core.specs.declared.tree.Top.{Top}
 use Rattle.smv_core.specs.declared.tree.Top.TheVariants.{SetType, Alias, Module}
 use Rattle.smv_core.specs.declared.tree.Text.{Text}
-use Rattle.smv_inst.specs.Sizes.{Extent, Sized, sized, size_of, under, extents_of, extents_of_fields, sized_after, sized_from, Thing, family, instance, body_named, things_of_item, things_in}
+use Rattle.smv_inst.specs.Sizes.{Extent, Sized, sized, size_of, under, extents_of, extents_of_fields, sized_after, sized_from, Thing, family, instance, things_of_item, things_in}
 use Rattle.smv_flat.specs.Entries.{placed_of_item, placed_in, placed_families}
 use Rattle.smv_flat.specs.Flattening.{flatten}
 

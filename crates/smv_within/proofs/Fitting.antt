@@ -1,5 +1,5 @@
 -- In a flattened text that keeps the rules of kinds, whose lists are not too long and whose binders are not too deep, each number fits.
-use Rattle.std.proofs.Common.{◌≡◌, ◌<◌, ◌≤◌, ◌+◌, ℕ, zero, suc, List, [], ◌∷◌, ◌++◌, map, length, get_or, slice_get, Option, Some, None, IfSome, is_some, Bool, true, ◌&&◌, nat_eq, nat_le, nat_lt, refl, sym, ◌∙◌, subst, arith}
+use Rattle.std.proofs.Common.{◌≡◌, ◌<◌, ◌≤◌, ℕ, zero, suc, List, [], ◌∷◌, ◌++◌, map, length, get_or, slice_get, Option, Some, None, IfSome, is_some, true, ◌&&◌, nat_eq, nat_le, nat_lt, refl, sym, ◌∙◌, subst, arith}
 use Rattle.std.specs.List.{AllByRecursion, list_all}
 use Rattle.smv_core.specs.Values.{Name}
 use Rattle.smv_core.specs.declared.flat.Simple.{Simple}
@@ -14,7 +14,7 @@ use Rattle.smv_core.specs.declared.flat.FlatStmt.{FlatStmt, Assign, If', Block',
 use Rattle.smv_core.specs.declared.flat.FlatItem.{FlatItem}
 use Rattle.smv_core.specs.declared.flat.FlatItem.TheVariants as item
 use Rattle.smv_core.specs.declared.flat.Raw.{Raw}
-use Rattle.smv_typed.specs.FlatKinds.{Kind, number, enumeration, number_if, kind_of, takes, are_numbers, common, assigns, element, take_each, Vars, inside, is_type, is_index_type, is_binder, constant, kind_in, kinds_in, summands, members_in, looked_through, is_condition, value_in, keeps_kinds, all_keep_kinds, are_binders, bound_by, is_kinded_item, is_kinded_family, is_size, is_kinded}
+use Rattle.smv_typed.specs.FlatKinds.{Kind, number, enumeration, number_if, kind_of, takes, are_numbers, common, assigns, element, take_each, Vars, inside, is_type, is_index_type, is_binder, kind_in, kinds_in, summands, members_in, looked_through, is_condition, value_in, keeps_kinds, all_keep_kinds, are_binders, bound_by, is_kinded_item, is_kinded_family, is_size, is_kinded}
 use Rattle.smv_typed.proofs.Operands.{both, all-some, takes-some, numbers-some, each-some, if-some, common-some, number_if-true, compares-some, two-some, chosen-some, element-some}
 use Rattle.smv_within.specs.NumbersFit.{IsShort, TypeFits, ExprFits, PartsFit, TermsFit, MembersFit, ConditionFits, StatementFits, StatementsFit, ParamFits, ItemFits, FamilyFits, NumbersFit}
 use Rattle.smv_within.proofs.Shallow.{most}
@@ -117,25 +117,25 @@ module _ (raw : Raw) (room : HasRoom raw) where
     expr-fits k vars (Implies' shape parts) same le h s = row-fits k vars parts same le (numbers-some (kinds_in raw vars parts) (number_if-true (are_numbers (kinds_in raw vars parts)) h)) s
     expr-fits k vars (Iff' l (more_of-FlatExpr left end_of-FlatExpr) r (more_of-FlatExpr right end_of-FlatExpr)) same le h s =
         let g : (is_some (kind_in raw vars left) ≡ true) × (is_some (kind_in raw vars right) ≡ true) =
-            two-some (kind_in raw vars left) (kind_in raw vars right) (numbers-some (kind_in raw vars left ∷ kind_in raw vars right ∷ []) (number_if-true _ h)) in
+        two-some (kind_in raw vars left) (kind_in raw vars right) (numbers-some (kind_in raw vars left ∷ kind_in raw vars right ∷ []) (number_if-true _ h)) in
         (expr-fits k vars left same le g.0 s.0, expr-fits k vars right same le g.1 s.1)
     expr-fits k vars (Compare' op l (more_of-FlatExpr left end_of-FlatExpr) r (more_of-FlatExpr right end_of-FlatExpr)) same le h s =
         let g : (is_some (kind_in raw vars left) ≡ true) × (is_some (kind_in raw vars right) ≡ true) =
-            two-some (kind_in raw vars left) (kind_in raw vars right) (common-some (kind_in raw vars left ∷ kind_in raw vars right ∷ []) (compares-some op (common (kind_in raw vars left ∷ kind_in raw vars right ∷ [])) (number_if-true _ h))) in
+        two-some (kind_in raw vars left) (kind_in raw vars right) (common-some (kind_in raw vars left ∷ kind_in raw vars right ∷ []) (compares-some op (common (kind_in raw vars left ∷ kind_in raw vars right ∷ [])) (number_if-true _ h))) in
         (expr-fits k vars left same le g.0 s.0, expr-fits k vars right same le g.1 s.1)
     expr-fits k vars (Within' l (more_of-FlatExpr left end_of-FlatExpr) r (more_of-FlatExpr set end_of-FlatExpr)) same le h s =
         let g : (is_some (kind_in raw vars left) ≡ true) × (all-some (looked_through raw vars set) ≡ true) =
-            both _ _ (common-some (kind_in raw vars left ∷ looked_through raw vars set) (number_if-true _ h)) in
+        both _ _ (common-some (kind_in raw vars left ∷ looked_through raw vars set) (number_if-true _ h)) in
         (expr-fits k vars left same le g.0 s.0, set-fits k vars set same le g.1 s.1)
     expr-fits k vars (Sum' f (more_of-FlatExpr head end_of-FlatExpr) shape more) same le h s =
         let g : (is_some (kind_in raw vars head) ≡ true) × (all-some (summands raw vars more) ≡ true) =
-            both _ _ (numbers-some (kind_in raw vars head ∷ summands raw vars more) (number_if-true _ h)) in
+        both _ _ (numbers-some (kind_in raw vars head ∷ summands raw vars more) (number_if-true _ h)) in
         (expr-fits k vars head same le g.0 s.0, signed-fits k vars more same le g.1 s.1)
     expr-fits k vars (Modulo' shape (more_of-FlatExpr e end_of-FlatExpr) by at) same le h s =
         expr-fits k vars e same le (takes-some number (kind_in raw vars e) (both (takes number (kind_in raw vars e)) (nat_lt 0 by) (number_if-true _ h)).0) s
     expr-fits k vars (Choose' c (more_of-FlatExpr cond end_of-FlatExpr) l (more_of-FlatExpr left end_of-FlatExpr) r (more_of-FlatExpr right end_of-FlatExpr)) same le h s =
         let g : (is_some (kind_in raw vars cond) ≡ true) × (is_some (kind_in raw vars left) ≡ true) × (is_some (kind_in raw vars right) ≡ true) =
-            chosen-some (kind_in raw vars cond) (kind_in raw vars left) (kind_in raw vars right) h in
+        chosen-some (kind_in raw vars cond) (kind_in raw vars left) (kind_in raw vars right) h in
         (expr-fits k vars cond same le g.0 s.0, expr-fits k vars left same le g.1 s.1, expr-fits k vars right same le g.2 s.2)
     expr-fits k vars (All' shape (more_of-FlatExpr body end_of-FlatExpr) var over at) same le h s =
         let g : (is_binder raw vars var over ≡ true) × (takes number (kind_in raw (inside vars over) body) ≡ true) = both _ _ (number_if-true _ h) in
@@ -185,7 +185,7 @@ module _ (raw : Raw) (room : HasRoom raw) where
       (b.0, b.1, held-fits (suc k) (inside vars over) cond (one-more vars (kind_of over) k same) (let lt = s.0 in omega (arith, lt)) g.1 s.1)
   value-fits k vars (Choose' c (more_of-FlatExpr cond end_of-FlatExpr) l (more_of-FlatExpr left end_of-FlatExpr) r (more_of-FlatExpr right end_of-FlatExpr)) same le h s =
       let g : (is_some (kind_in raw vars cond) ≡ true) × (is_some (value_in raw vars left) ≡ true) × (is_some (value_in raw vars right) ≡ true) =
-          chosen-some (kind_in raw vars cond) (value_in raw vars left) (value_in raw vars right) h in
+      chosen-some (kind_in raw vars cond) (value_in raw vars left) (value_in raw vars right) h in
       (expr-fits k vars cond same le g.0 s.0, value-fits k vars left same le g.1 s.1, value-fits k vars right same le g.2 s.2)
   value-fits k vars e same le h s = expr-fits k vars e same le h s
 
@@ -205,7 +205,7 @@ module _ (raw : Raw) (room : HasRoom raw) where
     act-fits : (k : ℕ) (vars : Vars) (act : FlatStmt) → length vars ≡ k → k ≤ most → keeps_kinds raw vars act ≡ true → ActIsShallow k act → StatementFits act
     act-fits k vars (Assign kind family left value at) same le h s =
         let g : (is_some (element (slice_get raw.families family) (map (kind_in raw vars) left)) ≡ true) × (is_some (value_in raw vars value) ≡ true) =
-            assigned-some (element (slice_get raw.families family) (map (kind_in raw vars) left)) (value_in raw vars value) h in
+        assigned-some (element (slice_get raw.families family) (map (kind_in raw vars) left)) (value_in raw vars value) h in
         let f : (f : Family) × (slice_get raw.families family ≡ Some f) × (take_each f.over (map (kind_in raw vars) left) ≡ true) = element-some (slice_get raw.families family) (map (kind_in raw vars) left) g.0 in
         (family-fits family f.0 f.1, list-fit k vars left same le (each-some f.0.over (map (kind_in raw vars) left) f.2) s.0, value-fits k vars value same le g.1 s.1)
     act-fits k vars (If' cond l (more_of-FlatStmt left end_of-FlatStmt) r (more_of-FlatStmt right end_of-FlatStmt)) same le h s =

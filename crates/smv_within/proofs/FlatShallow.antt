@@ -1,5 +1,5 @@
 -- Flattened expressions and statements whose binders are not too deep: those that are made of shallow trees.
-use Rattle.std.proofs.Common.{◌≡◌, ◌<◌, ℕ, suc, List, [], ◌∷◌, ◌++◌, map, Option, Some, None, Bool, true, false, cond, sym, subst}
+use Rattle.std.proofs.Common.{◌<◌, ℕ, suc, List, [], ◌∷◌, ◌++◌, map, Option, Some, None, Bool, true, false, cond, sym, subst}
 use Rattle.std.specs.Str.{bytes_eq}
 use Rattle.std.specs.List.{AllByRecursion}
 use Rattle.smv_core.specs.Values.{Name, Path}
@@ -8,7 +8,6 @@ use Rattle.smv_core.specs.Types.{Family}
 use Rattle.smv_core.specs.Walk.{indexes_of, steps_of}
 use Rattle.smv_core.specs.Assignments.{Around, loop, any}
 use Rattle.smv_core.specs.declared.tree.Op.{Op}
-use Rattle.smv_core.specs.declared.tree.Kind.{Kind}
 use Rattle.smv_core.specs.declared.tree.Path.{out-Path}
 use Rattle.smv_core.specs.declared.tree.Part.{Field, At}
 use Rattle.smv_core.specs.declared.tree.Member.{One as OneOf, Span as SpanIn}
@@ -21,7 +20,7 @@ use Rattle.smv_core.specs.declared.flat.FlatSigned.{FlatSigned, roll-FlatSigned,
 use Rattle.smv_core.specs.declared.flat.FlatMember.{FlatMember, One, Span as SpanOf}
 use Rattle.smv_core.specs.declared.flat.FlatExpr.{FlatExpr, Number, Var, Loop, Constant, Not, Iff, Compare, Within, Modulo, Choose, All, Any, Each, Read, And, Or, Implies, Sum, List as ListOf, Read', Not', And', Or', Implies', Iff', Compare', Within', Sum', Modulo', Choose', All', Any', List', Each', Held-FlatExpr-Each-2, None', Some', Row_of-FlatExpr, end_of-FlatExpr, more_of-FlatExpr, Row_of-FlatMember, end_of-FlatMember, more_of-FlatMember, Row_of-FlatSigned, end_of-FlatSigned, more_of-FlatSigned, items-the_row-FlatExpr, items-the_row-FlatMember, items-the_row-FlatSigned, items_hidden-the_row-FlatExpr-0, items_hidden-the_row-FlatSigned-2, items_hidden-the_row-FlatMember-3}
 use Rattle.smv_core.specs.declared.flat.FlatStmt.{FlatStmt, Assign, If, Default, Forall, Block, If', Block', Default', Forall', Row_of-FlatStmt, end_of-FlatStmt, more_of-FlatStmt, items-the_row-FlatStmt, items_hidden-the_row-FlatStmt-1}
-use Rattle.smv_flat.specs.Numbers.{Scope, bound_in, variable, variable_at, flat_over, constant_in, or_signal, family_number, flat_path}
+use Rattle.smv_flat.specs.Numbers.{Scope, bound_in, variable, variable_at, flat_over, constant_in, or_signal, family_number}
 use Rattle.smv_flat.specs.Statements.{flat_expr, flat_row, flat_indexes, flat_signed, flat_members, flat_condition, flat_stmt, flat_parts, flat_branch, flat_arms, first_label}
 use Rattle.smv_flat.proofs.FlatLists.{boxes}
 use Rattle.smv_within.proofs.Shallow.{most, IsShallow, AreShallow, PartsAreShallow, IndexesAreShallow, TermsAreShallow, MembersAreShallow, ConditionIsShallow, StatementIsShallow, StatementsAreShallow, BranchIsShallow, ArmsAreShallow}

@@ -1,10 +1,9 @@
 -- What a shallow text says in flat order is shallow, and so are the items of its flattened text.
-use Rattle.std.proofs.Common.{◌<◌, ◌+◌, ℕ, zero, suc, List, [], ◌∷◌, ◌++◌, map, zip, length, Option, Some, None, option_map, unwrap_or, Bool, true, false, cond, subst}
+use Rattle.std.proofs.Common.{◌<◌, ◌+◌, ℕ, zero, suc, List, [], ◌∷◌, ◌++◌, map, zip, length, Option, Some, None, unwrap_or, Bool, true, false, cond}
 use Rattle.std.specs.Str.{bytes_eq}
 use Rattle.std.specs.List.{AllByRecursion, flat_map}
 use Rattle.smv_core.specs.Values.{Name, Path}
 use Rattle.smv_core.specs.Types.{Types, find_name, types_from}
-use Rattle.smv_core.specs.Assignments.{Around}
 use Rattle.smv_core.specs.FlatOrder.{Body, modules, main, role_of, body_of}
 use Rattle.smv_core.specs.declared.tree.Kind.TheVariants.{Comb}
 use Rattle.smv_core.specs.declared.tree.Word.{Word}
@@ -26,9 +25,9 @@ use Rattle.smv_core.specs.declared.flat.FlatItem.{FlatItem}
 use Rattle.smv_core.specs.declared.flat.FlatItem.TheVariants as item
 use Rattle.smv_inst.proofs.Computing.{computing}
 use Rattle.smv_flat.specs.Numbers.{Scope}
-use Rattle.smv_flat.specs.Statements.{flat_expr, flat_stmt, first_token}
+use Rattle.smv_flat.specs.Statements.{flat_expr, first_token}
 use Rattle.smv_flat.specs.Entries.{Binders, Goal, claim, split, using, Entry, layer, statement, goal, inside_binder, formal, given_to, connection, connections, instance_entries, item_entries, items_entries, entries_in, entries}
-use Rattle.smv_flat.specs.Flattening.{flat_assignments, scope_in, within, params_from, flat_pair, flat_goal, with_places, layers_of, layer_number, flat_entry, flatten}
+use Rattle.smv_flat.specs.Flattening.{flat_assignments, scope_in, within, params_from, flat_pair, flat_goal, with_places, layers_of, flat_entry, flatten}
 use Rattle.smv_within.proofs.Shallow.{most, IsShallow, AreShallow, IndexesAreShallow, StatementIsShallow, InnerIsShallow, InnersAreShallow, ItemIsShallow, TopIsShallow, TextIsShallow}
 use Rattle.smv_within.proofs.ShallowForms.{PartIsShallow, PathIsShallow, shallow-Signal, shallow-Assign, shallow-Forall}
 use Rattle.smv_within.proofs.FlatShallow.{FlatIsShallow, ActIsShallow, expr-shallow, act-shallow}

@@ -9,3 +9,4 @@ mod FewFamilies
 mod FewEntries
 mod FewConstants
 mod WholeText
+mod Consumed

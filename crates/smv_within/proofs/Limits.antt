@@ -1,12 +1,12 @@
 -- What follows where a text has no fault of names and of size.
-use Rattle.std.proofs.Common.{◌≡◌, ◌<◌, ◌≤◌, ℕ, List, [], ◌∷◌, ◌++◌, map, flat_map, length, Option, Some, None, is_none, Bool, true, false, cond, ◌||◌, nat_lt, refl, arith}
+use Rattle.std.proofs.Common.{◌≡◌, ◌≤◌, ℕ, List, [], ◌∷◌, ◌++◌, map, flat_map, length, Option, Some, None, is_none, Bool, true, false, cond, ◌||◌, nat_lt, refl, arith}
 use Rattle.std.specs.List.{AllByRecursion, list_any}
 use Rattle.smv_core.specs.Types.{find_name}
 use Rattle.smv_core.specs.FlatOrder.{modules, main}
 use Rattle.smv_core.specs.declared.fault.Fault.{Fault}
 use Rattle.smv_core.specs.declared.tree.Text.{Text}
-use Rattle.smv_inst.specs.Scopes.{Body, Piece, body_if_module, module_named, pieces, scope_of}
-use Rattle.smv_inst.specs.NameFaults.{place_if, repeated, declared_words, formals_of, doubled, doubled_in, undeclared_in, without_main, recursive_in, miscounted_in, name_faults}
+use Rattle.smv_inst.specs.Scopes.{Piece, body_if_module, pieces}
+use Rattle.smv_inst.specs.NameFaults.{place_if, repeated, doubled_in, without_main, name_faults}
 use Rattle.smv_inst.specs.FirstFault.{comes_before, earlier, first_of, faults_at, faults_of_names, fault_at_main, fault_of_size, or_else, first_fault}
 use Rattle.smv_inst.specs.Sizes.{sized_from, things_in, is_too_wide, count_different, constant_names, statements_in, is_too_large}
 
