@@ -10,3 +10,4 @@ mod FewEntries
 mod FewConstants
 mod WholeText
 mod Consumed
+mod Widths
