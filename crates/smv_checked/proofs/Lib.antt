@@ -1,0 +1,4 @@
+mod WholeExprs
+mod WholeDefs
+mod Filled
+mod Scripts

@@ -1,0 +1,9 @@
+use Rattle.smv_flat.specs.Flattening.{flatten}
+use Rattle.smv_single.specs.Definitions.{design_of_raw}
+use Rattle.smv_checked.proofs.Scripts.{checked}
+use Rattle.smv_checked.proofs.laws.scripts_are_checked.Goals as goal
+
+pub returns : goal.returns
+returns c = λ text h kinds single s e splits.
+    checked (design_of_raw (flatten text)) (c.set_types_are_apart.ensures text h.3) (c.families_are_filled.ensures (flatten text) kinds)
+    (c.claims_read_whole_elements.ensures (flatten text) kinds) s e (c.definitions_are_as_asked.ensures text h kinds single s e) splits

@@ -1,0 +1,13 @@
+mod Shallow
+mod ShallowForms
+mod ShallowRules
+mod FlatShallow
+mod Items
+mod Fitting
+mod Limits
+mod FewFamilies
+mod FewEntries
+mod FewConstants
+mod WholeText
+mod Consumed
+mod Widths

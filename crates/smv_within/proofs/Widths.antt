@@ -1,0 +1,142 @@
+-- The tokens of some bytes have no more bytes than there are.
+use Rattle.std.proofs.Common.{◌≡◌, ◌<◌, ◌≤◌, ◌+◌, ◌-◌, ℕ, zero, suc, Bool, true, false, not, ◌&&◌, cond, List, [], ◌∷◌, ◌++◌, length, take, drop, Option, Some, None, Ok, Err, unwrap_or, nat_le, ◌⊎◌, inl, inr, refl, ap, sym, ◌∙◌, subst, arith, length-drop}
+use Rattle.std.specs.Str.{bytes_eq}
+use Rattle.std.specs.List.{list_all}
+use Rattle.std.proofs.lemmas.List.{length-take}
+use Rattle.std.proofs.lemmas.Slice.Eq.{bytes_eq-Decides}
+use Rattle.smv_core.specs.declared.token.Token.{Token}
+use Rattle.smv_core.specs.declared.token.TokenKind.{TokenKind}
+use Rattle.smv_core.specs.declared.token.TokenKind.TheVariants.{Ident, Number, Sign, Reserved}
+use Rattle.smv_core.specs.Signs.{word_scalarset}
+use Rattle.smv_core.specs.Notation.{Tokens, same_kind}
+use Rattle.smv_lex.specs.declared.front.Front.{Front}
+use Rattle.smv_lex.specs.declared.front.Front.TheVariants.{Passed, Whole, Broken}
+use Rattle.smv_lex.specs.Spellings.{signs, reserved_words, spelled_in}
+use Rattle.smv_lex.specs.Lexing.{Lexed, is_letter, is_digit, is_name_byte, word_kind, number_of, front_of, with_token, lexed_from, lexed}
+use Rattle.smv_lex.specs.Longest.{is_word, is_digits, kind_of, NoLonger, IsLongest}
+use Rattle.smv_lex.proofs.Fronts.{passed-some, token-some}
+use Rattle.smv_lex.proofs.Lexing.{from-end, from-passed, from-token, from-fault}
+use Rattle.smv_lex.proofs.Longest.{longest-token}
+use Rattle.smv_within.proofs.Consumed.{width, is_name, gap, weight}
+
+both : (a b : Bool) → (a && b) ≡ true → (a ≡ true) × (b ≡ true)
+both true b e = (refl, e)
+both false b e = absurd (cc (e))
+
+le-true : (a b : ℕ) → nat_le a b ≡ true → a ≤ b
+le-true a b e = grind arith
+
+-- ---- signs and reserved words
+
+-- what holds of each entry of a list holds of what is spelled in it
+spelled-passes : (p : TokenKind → List ℕ → Bool) (list : List (TokenKind × List ℕ)) → list_all (λ (entry : TokenKind × List ℕ). p entry.0 entry.1) list ≡ true → (bytes : List ℕ) (k : TokenKind) →
+    spelled_in list bytes ≡ Some k → p k bytes ≡ true
+spelled-passes p [] all bytes k e = absurd (cc (e))
+spelled-passes p (entry ∷ list) all bytes k e = by_test (bytes_eq entry.1 bytes) refl e (λ h. spelled-passes p list parts.1 bytes k h)
+  where
+    parts : (p entry.0 entry.1 ≡ true) × (list_all (λ (entry : TokenKind × List ℕ). p entry.0 entry.1) list ≡ true)
+    parts = both (p entry.0 entry.1) (list_all (λ (entry : TokenKind × List ℕ). p entry.0 entry.1) list) all
+
+    by_test : (b : Bool) → bytes_eq entry.1 bytes ≡ b → cond b (Some entry.0) (spelled_in list bytes) ≡ Some k → (spelled_in list bytes ≡ Some k → p k bytes ≡ true) → p k bytes ≡ true
+    by_test true h e rest = let same : entry.0 ≡ k = cc in subst (λ k. p k bytes ≡ true) same (subst (λ l. p entry.0 l ≡ true) ((bytes_eq-Decides entry.1 bytes).0 h) parts.0)
+    by_test false h e rest = rest e
+
+-- a token of one of the lists is as wide as it is long at most
+abbrev is_wide : TokenKind → List ℕ → Bool
+is_wide k bytes = nat_le (width k) (length bytes)
+
+signs-wide : list_all (λ (entry : TokenKind × List ℕ). is_wide entry.0 entry.1) signs ≡ true
+signs-wide = refl
+
+words-wide : list_all (λ (entry : TokenKind × List ℕ). is_wide entry.0 entry.1) reserved_words ≡ true
+words-wide = refl
+
+-- no sign is a name or `scalarset`
+abbrev is_plain : TokenKind → List ℕ → Bool
+is_plain k bytes = not (is_name k) && not (same_kind k word_scalarset)
+
+signs-plain : list_all (λ (entry : TokenKind × List ℕ). is_plain entry.0 entry.1) signs ≡ true
+signs-plain = refl
+
+-- ---- the front of some bytes
+
+word-some : (bytes : List ℕ) → is_word bytes ≡ true → 1 ≤ length bytes
+word-some [] e = absurd (cc (e))
+word-some (b ∷ bytes) e = omega arith
+
+digits-some : (bytes : List ℕ) → is_digits bytes ≡ true → 1 ≤ length bytes
+digits-some [] e = absurd (cc (e))
+digits-some (b ∷ bytes) e = omega arith
+
+word-wide : (bytes : List ℕ) (o : Option TokenKind) → spelled_in reserved_words bytes ≡ o → 1 ≤ length bytes → width (unwrap_or o (Ident bytes)) ≤ length bytes
+word-wide bytes None e some = some
+word-wide bytes (Some k) e some = le-true (width k) (length bytes) (spelled-passes is_wide reserved_words words-wide bytes k e)
+
+-- a token is at least as long as its kind is wide
+kind-wide : (bytes : List ℕ) (k : TokenKind) → kind_of bytes ≡ Some k → width k ≤ length bytes
+unfolding kind_of word_kind
+kind-wide bytes k e = by_tests (is_word bytes) (is_digits bytes) refl refl e
+  where
+    by_tests : (a b : Bool) → is_word bytes ≡ a → is_digits bytes ≡ b → cond a (Some (unwrap_or (spelled_in reserved_words bytes) (Ident bytes))) (cond b (Some (Number (number_of bytes))) (spelled_in signs bytes)) ≡ Some k → width k ≤ length bytes
+    by_tests true b h g e = let same : unwrap_or (spelled_in reserved_words bytes) (Ident bytes) ≡ k = cc in subst (λ k. width k ≤ length bytes) same (word-wide bytes (spelled_in reserved_words bytes) refl (word-some bytes h))
+    by_tests false true h g e = let same : Number (number_of bytes) ≡ k = cc in subst (λ k. width k ≤ length bytes) same (digits-some bytes g)
+    by_tests false false h g e = le-true (width k) (length bytes) (spelled-passes is_wide signs signs-wide bytes k e)
+
+-- what is a name or `scalarset` is a word
+kind-word : (bytes : List ℕ) (k : TokenKind) → kind_of bytes ≡ Some k → (is_name k ≡ true) ⊎ (same_kind k word_scalarset ≡ true) → is_word bytes ≡ true
+unfolding kind_of word_kind
+kind-word bytes k e either = by_tests (is_word bytes) (is_digits bytes) refl e
+  where
+    neither : (k : TokenKind) → is_plain k bytes ≡ true → (is_name k ≡ true) ⊎ (same_kind k word_scalarset ≡ true) → ⊥
+    neither k h (inl g) = let r = both (not (is_name k)) (not (same_kind k word_scalarset)) h in absurd (twice (is_name k) r.0 g)
+      where
+        twice : (b : Bool) → not b ≡ true → b ≡ true → ⊥
+        twice true h g = cc (h)
+        twice false h g = cc (g)
+    neither k h (inr g) = let r = both (not (is_name k)) (not (same_kind k word_scalarset)) h in absurd (twice (same_kind k word_scalarset) r.1 g)
+      where
+        twice : (b : Bool) → not b ≡ true → b ≡ true → ⊥
+        twice true h g = cc (h)
+        twice false h g = cc (g)
+
+    by_tests : (a b : Bool) → is_word bytes ≡ a → cond a (Some (unwrap_or (spelled_in reserved_words bytes) (Ident bytes))) (cond b (Some (Number (number_of bytes))) (spelled_in signs bytes)) ≡ Some k → is_word bytes ≡ true
+    by_tests true b h e = h
+    by_tests false true h e = let same : Number (number_of bytes) ≡ k = cc in absurd (neither k (subst (λ k. is_plain k bytes ≡ true) same refl) either)
+    by_tests false false h e = absurd (neither k (spelled-passes is_plain signs signs-plain bytes k e) either)
+
+-- one byte more
+take-more : (text : List ℕ) (n c : ℕ) (cs : List ℕ) → drop n text ≡ c ∷ cs → (take (suc n) text ≡ take n text ++ c ∷ []) × (suc n ≤ length text)
+take-more [] zero c cs e = absurd (cc (e))
+take-more [] (suc n) c cs e = absurd (cc (e))
+take-more (b ∷ text) zero c cs e = let same : b ≡ c = cc in (ap (λ b. b ∷ []) same, omega arith)
+take-more (b ∷ text) (suc n) c cs e = let r = take-more text n c cs e in (ap (λ l. b ∷ l) r.0, (let q = r.1 in omega (arith, q)))
+
+all-more : (p : ℕ → Bool) (bytes : List ℕ) (c : ℕ) → list_all p bytes ≡ true → p c ≡ true → list_all p (bytes ++ c ∷ []) ≡ true
+all-more p [] c e h = rw h refl
+all-more p (b ∷ bytes) c e h = let g : (p b ≡ true) × (list_all p bytes ≡ true) = both (p b) (list_all p bytes) e in rw (g.0, all-more p bytes c g.1 h) refl
+
+word-more : (bytes : List ℕ) (c : ℕ) → is_word bytes ≡ true → is_name_byte c ≡ true → is_word (bytes ++ c ∷ []) ≡ true
+word-more [] c e h = absurd (cc (e))
+word-more (b ∷ bytes) c e h = let g : (is_letter b ≡ true) × (list_all is_name_byte bytes ≡ true) = both (is_letter b) (list_all is_name_byte bytes) e in rw (g.0, all-more is_name_byte bytes c g.1 h) refl
+
+word-kind : (bytes : List ℕ) → is_word bytes ≡ true → kind_of bytes ≡ None → ⊥
+unfolding kind_of
+word-kind bytes h e = by_test (is_word bytes) h e
+  where
+    by_test : (b : Bool) → b ≡ true → cond b (Some (word_kind bytes)) (cond (is_digits bytes) (Some (Number (number_of bytes))) (spelled_in signs bytes)) ≡ None → ⊥
+    by_test true h e = cc (e)
+    by_test false h e = cc (h)
+
+letter-name : (c : ℕ) → is_letter c ≡ true → is_name_byte c ≡ true
+letter-name c e = rw e refl
+
+-- behind the whole of a word no letter stands
+no-letter : (text : List ℕ) (n : ℕ) → NoLonger text n → is_word (take n text) ≡ true → (c : ℕ) (cs : List ℕ) → drop n text ≡ c ∷ cs → is_letter c ≡ false
+no-letter text n none word c cs e = by_test (is_letter c) refl
+  where
+    by_test : (b : Bool) → is_letter c ≡ b → is_letter c ≡ false
+    by_test false h = h
+    by_test true h =
+        let more = take-more text n c cs e in
+        let one : kind_of (take (suc n) text) ≡ None = none (suc n) (omega arith) more.1 in
+        absurd (word-kind (take n text ++ c ∷ []) (word-more (take n text) c word (letter-name c h)) (subst (λ l. kind_of l ≡ None) more.0 one))

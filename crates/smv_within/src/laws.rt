@@ -1,0 +1,37 @@
+// Laws of the numbers in flattened texts, each the contract of a function that does nothing.
+ghost use Rattle.std.specs.Prelude.{◌≡◌, ◌≤◌, ℕ, List, length, None, true};
+ghost use Rattle.std.specs.List.{AllByRecursion};
+ghost use Rattle.smv_core.specs.Notation.{Tokens};
+ghost use Rattle.smv_core.specs.Spelling.{Spells};
+ghost use Rattle.smv_core.specs.Values.{Name};
+ghost use Rattle.smv_core.specs.declared.tree.Text.{Text};
+ghost use Rattle.smv_inst.specs.FirstFault.{first_fault};
+ghost use Rattle.smv_flat.specs.Entries.{entries};
+ghost use Rattle.smv_flat.specs.Flattening.{flatten};
+ghost use Rattle.smv_typed.specs.FlatKinds.{is_kinded};
+ghost use Rattle.smv_within.specs.NumbersFit.{NumbersFit};
+
+/// The flattened text of a text without a fault of names and size has at most 4,096 families.
+pub fn families_are_few()
+    ensures { (text : Text) → first_fault text ≡ None → length (flatten text).families ≤ 4096 }
+{}
+
+/// Each of its enumerations has at most 4,096 constants.
+pub fn constants_are_few()
+    ensures { (text : Text) → first_fault text ≡ None → AllByRecursion (λ (names : List Name). length names ≤ 4096) (flatten text).enums }
+{}
+
+/// Such a text says at most 65,536 things in flat order: heads of layers, statements, connections, claims, splits and what is used.
+pub fn entries_are_few()
+    ensures { (text : Text) → first_fault text ≡ None → length (entries text) ≤ 65536 }
+{}
+
+/// In a text that is spelled within at most 65,536 levels, has at most 65,536 set types and has no fault of names and size each number of the flattened text fits its
+/// field, where the flattened text keeps the rules of kinds.
+pub fn numbers_fit()
+    ensures { (n : ℕ) (tokens : Tokens) (text : Text) → Spells n tokens text → n ≤ 65536 → first_fault text ≡ None → length (flatten text).sets ≤ 65536 → is_kinded (flatten text) ≡ true → NumbersFit (flatten text) }
+{
+    families_are_few();
+    constants_are_few();
+    entries_are_few();
+}
