@@ -1,6 +1,7 @@
 -- Claims that hold in the design hold in the text.
 use Rattle.std.proofs.Common.{◌≡◌, zero, suc, ℕ, List, [], ◌∷◌, map, length, Option, Some, None, Bool, true, refl, sym, ap, subst, ◌∙◌, slice_get}
 use Rattle.std.specs.List.{AllZip}
+use Rattle.std.proofs.lemmas.List.{length-map}
 use Rattle.smv_core.specs.Values.{Name, Value, Sizes, number, constant, scalar, ordinal, truth, Outcome}
 use Rattle.smv_core.specs.Types.{values_over as values_of_type}
 use Rattle.smv_core.specs.FlatOrder.{Design, design_of, Claimed}
@@ -22,6 +23,7 @@ use Rattle.smv_flat.specs.RawAllowed.{AreSameBefore}
 use Rattle.smv_flat.specs.WholeText.{IsSameClaim, claims_of, claims_met}
 use Rattle.smv_single.specs.Definitions.{design_of_raw}
 use Rattle.smv_abs.specs.Sets.{Has, one_of_each}
+use Rattle.smv_abs.proofs.CoverParams.{map-map}
 use Rattle.smv_abs.specs.Circular.{always}
 use Rattle.smv_abs.specs.Soundness as flat
 use Rattle.smv_abs.specs.Soundness.{claim_of, params_of, values_over, is_held}
@@ -29,9 +31,9 @@ use Rattle.smv_oblig.specs.Outlines.{names_of, bases, unit_in, as_claim}
 use Rattle.smv_oblig.specs.Checked.{HoldsAlways}
 use Rattle.smv_extend.proofs.Lists.{inner}
 use Rattle.smv_extend.proofs.Texts.{Has-get, zip_right}
-use Rattle.smv_carried.specs.Carried.{UnitsHold}
-use Rattle.smv_carried.proofs.Units.{claim-unit}
-use Rattle.smv_carried.proofs.Times.{at-each-time, one-choices, choice-length}
+use Rattle.smv_sound_texts.specs.Carried.{UnitsHold}
+use Rattle.smv_sound_texts.proofs.Units.{claim-unit}
+use Rattle.smv_sound_texts.proofs.Times.{at-each-time, one-choices, choice-length}
 
 -- an outcome that counts as true is 1
 one : (o : Outcome) → is_true (truth o) ≡ true → o ≡ Some (number 1)
@@ -42,14 +44,6 @@ one (Some (number (suc (suc k)))) e = absurd (cc (e))
 one (Some (constant name)) e = absurd (cc (e))
 one (Some (scalar name k)) e = absurd (cc (e))
 one (Some (ordinal name k)) e = absurd (cc (e))
-
-map-over : (n : Numbered) (params : List Param) → map (values_in n) (map (λ (p : Param). p.over) params) ≡ map (λ (p : Param). values_in n p.over) params
-map-over n [] = refl
-map-over n (p ∷ params) = ap (λ l. values_in n p.over ∷ l) (map-over n params)
-
-length-same : {X Y : Type 0} (g : X → Y) (xs : List X) → length (map g xs) ≡ length xs
-length-same g [] = refl
-length-same g (x ∷ xs) = ap suc (length-same g xs)
 
 module _ (text : Text) (sizes : Sizes) where
   abbrev d : Design
@@ -81,8 +75,8 @@ module _ (text : Text) (sizes : Sizes) where
         let r : (fc : FlatClaim) × (slice_get (claims_of raw.items) k.0 ≡ Some fc) × IsSameClaim text sizes (λ path vs. number 0) t.0 fc c =
         zip_right (IsSameClaim text sizes (λ path vs. number 0) t.0) (claims_of raw.items) (claims_met d.met) (claims (λ path vs. number 0) t.0 t.1) k.0 c k.1 in
         let always_holds : HoldsAlways f (claim_of r.0) = subst (λ o. HoldsAlways f (as_claim o)) r.1 (hold (Claim k.0) (claim-unit f k.0 r.0 r.1)) in
-        let over : Has (values_over n (params_of n (claim_of r.0))) vs = subst (λ l. Has l vs) (sym (ap one_of_each (map-over n r.0.params ∙ r.2.1) ∙ one-choices (types c))) i in
-        let long : length vs ≡ length c.params = choice-length (types c) vs i ∙ length-same (λ ((name, over) : Name × TypeExpr). values_of_type d.types sizes over) c.params in
+        let over : Has (values_over n (params_of n (claim_of r.0))) vs = subst (λ l. Has l vs) (sym (ap one_of_each (map-map (values_in n) (λ (p : Param). p.over) r.0.params ∙ r.2.1) ∙ one-choices (types c))) i in
+        let long : length vs ≡ length c.params = choice-length (types c) vs i ∙ length-map c.params (λ ((name, over) : Name × TypeExpr). values_of_type d.types sizes over) in
         at-each-time d.families (λ s. Unit {0}) (Holds d sizes (tree.claim_of c) vs) (is_held n (claim_of r.0) vs) (λ before fore b s t same_states typed held. says k.0 k.1 r.0 r.1 long s t same_states held) None None tt run ts states (λ s m. tt)
         (always_holds sizes are ts is vs over)
       where

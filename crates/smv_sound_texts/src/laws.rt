@@ -8,7 +8,7 @@ ghost use Rattle.smv_single.specs.Definitions.{design_of_raw};
 ghost use Rattle.smv_oblig.specs.Outlines.{Script, outline_of};
 ghost use Rattle.smv_oblig.specs.Checked as script;
 ghost use Rattle.smv_delay.specs.FirstFault.{first_fault_of_design};
-ghost use Rattle.smv_carried.specs.Carried.{HasProof, RunsAreCarried, UnitsHold, outlined};
+ghost use Rattle.smv_sound_texts.specs.Carried.{HasProof, RunsAreCarried, UnitsHold, outlined};
 
 use smv_behaviours::laws::layers_are_same;
 use smv_extend::laws::families_are_found;

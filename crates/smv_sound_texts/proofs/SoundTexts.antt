@@ -21,10 +21,10 @@ use Rattle.smv_extend.specs.TextExtension.{FamiliesAreFound}
 use Rattle.smv_extend.proofs.Faultless.{IsFaultless}
 use Rattle.smv_extend.proofs.Lists.{Has-from_map}
 use Rattle.smv_extend.proofs.Texts.{Each-All, All-each, Has-get, to_flat, flat_same}
-use Rattle.smv_carried.specs.Carried.{UnitsHold, outlined}
-use Rattle.smv_carried.proofs.TextUnits.{IsOfText, unit-is}
-use Rattle.smv_carried.proofs.Claims.{ClaimsAreSame, claim_holds}
-use Rattle.smv_carried.proofs.Maps.{RawAllowsSame, map_holds}
+use Rattle.smv_sound_texts.specs.Carried.{UnitsHold, outlined}
+use Rattle.smv_sound_texts.proofs.TextUnits.{IsOfText, unit-is}
+use Rattle.smv_sound_texts.proofs.Claims.{ClaimsAreSame, claim_holds}
+use Rattle.smv_sound_texts.proofs.Maps.{RawAllowsSame, map_holds}
 
 module _ (text : Text) (sizes : Sizes) (families : AllZip (IsSameFamily (numbers_in text sizes)) (flatten text).families (design_of text).families) (found : FamiliesAreFound text)
     (allows : All (AllowsAsTheText text) (design_of_raw (flatten text)).defs) (faultless : IsFaultless (design_of_raw (flatten text))) (free : IsFreeWithout (flatten text) (design_of_raw (flatten text)).defs)

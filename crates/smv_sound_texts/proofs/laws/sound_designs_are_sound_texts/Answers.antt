@@ -5,8 +5,8 @@ use Rattle.smv_flat.specs.WholeText.{TextIsRight}
 use Rattle.smv_single.specs.Definitions.{design_of_raw}
 use Rattle.smv_extend.proofs.Faultless.{is_faultless}
 use Rattle.smv_behaviours.proofs.SetSizes.{same_sizes}
-use Rattle.smv_carried.proofs.SoundTexts.{units_hold}
-use Rattle.smv_carried.proofs.laws.sound_designs_are_sound_texts.Goals as goal
+use Rattle.smv_sound_texts.proofs.SoundTexts.{units_hold}
+use Rattle.smv_sound_texts.proofs.laws.sound_designs_are_sound_texts.Goals as goal
 
 pub returns : goal.returns
 returns c = λ text well none hold sizes are run is.

@@ -1,6 +1,6 @@
 use Rattle.smv_flat.specs.Flattening.{flatten}
 use Rattle.smv_single.specs.Definitions.{design_of_raw}
-use Rattle.smv_carried.proofs.laws.proved_texts_are_sound.Goals as goal
+use Rattle.smv_sound_texts.proofs.laws.proved_texts_are_sound.Goals as goal
 
 pub returns : goal.returns
 returns c = λ text well none proof.

@@ -45,14 +45,18 @@ Has-numbered low (y ∷ xs) (suc k) x e =
     let at : low + 1 + k ≡ low + suc k = omega arith in
     subst (λ j. Has (zip (numbers_from low (length (y ∷ xs))) (y ∷ xs)) (j, x)) at (later (Has-numbered (low + 1) xs k x e))
 
+numbered : {X : Type 0} (xs : List X) (k : ℕ) (x : X) → slice_get xs k ≡ Some x → Has (zip (numbers_from 0 (length xs)) xs) (k, x)
+numbered xs k x e = let at : 0 + k ≡ k = omega arith in subst (λ j. Has (zip (numbers_from 0 (length xs)) xs) (j, x)) at (Has-numbered 0 xs k x e)
+
 module _ (d : Design) where
   unit-in : (place : ℕ) (unit : Unit) → Has (maps d ++ claims d) (place, unit) → Has (units_of d) unit
   unit-in place unit h = Has-map (λ (place, unit). unit) (in_order-Has (maps d ++ claims d) (place, unit) h)
 
   pub claim-unit : (k : ℕ) (c : FlatClaim) → slice_get d.claims k ≡ Some c → Has (units_of d) (Claim k)
-  claim-unit k c e = unit-in c.place (Claim k) (Has-right (maps d) (Has-map (λ (k, claim). (claim.place, Claim k)) (Has-numbered 0 d.claims k c e)))
+  claim-unit k c e = unit-in c.place (Claim k) (Has-right (maps d) (Has-map (λ (k, claim). (claim.place, Claim k)) (numbered d.claims k c e)))
 
   pub map-unit : (k : ℕ) (def : Def) → slice_get d.defs k ≡ Some def → is_refinement d def.family def.layer ≡ true → Has (units_of d) (Map k)
   map-unit k def e refines =
-      let here : Has (if is_refinement d def.family def.layer then (def.place, Map k) ∷ [] else []) (def.place, Map k) = subst (λ b. Has (if b then (def.place, Map k) ∷ [] else []) (def.place, Map k)) (sym refines) first in
-      unit-in def.place (Map k) (Has-left (claims d) (Has-flat_map (λ (k, def). if is_refinement d def.family def.layer then (def.place, Map k) ∷ [] else []) (Has-numbered 0 d.defs k def e) here))
+      let x : ℕ × Unit = (def.place, Map k) in
+      let here : Has (if is_refinement d def.family def.layer then x ∷ [] else []) x = subst (λ b. Has (if b then x ∷ [] else []) x) (sym refines) first in
+      unit-in def.place (Map k) (Has-left (claims d) (Has-flat_map (λ ((k, def) : ℕ × Def). if is_refinement d def.family def.layer then (def.place, Map k) ∷ [] else []) (numbered d.defs k def e) here))

@@ -4,8 +4,8 @@ use Rattle.smv_flat.specs.Flattening.{flatten}
 use Rattle.smv_flat.specs.WholeText.{TextIsRight}
 use Rattle.smv_single.specs.Definitions.{design_of_raw}
 use Rattle.smv_extend.proofs.Faultless.{is_faultless, or_else-none}
-use Rattle.smv_carried.proofs.CarriedRuns.{carried_run}
-use Rattle.smv_carried.proofs.laws.runs_of_texts_are_runs_of_designs.Goals as goal
+use Rattle.smv_sound_texts.proofs.CarriedRuns.{carried_run}
+use Rattle.smv_sound_texts.proofs.laws.runs_of_texts_are_runs_of_designs.Goals as goal
 
 pub returns : goal.returns
 returns c = λ text well none sizes run is.

@@ -35,9 +35,9 @@ use Rattle.smv_extend.specs.TextExtension.{FamiliesAreFound}
 use Rattle.smv_extend.proofs.Lists.{left_of, right_of, Has-flat_map, Has-numbers, some_or_none, all-each, get-Has, Has-is_in, nat_eq-is}
 use Rattle.smv_extend.proofs.Faultless.{IsFaultless, IsBase, base_by}
 use Rattle.smv_extend.proofs.Texts.{Has-Contains, All-each, Has-get, get_below, in_raw, indexes_same, demand_same}
-use Rattle.smv_carried.specs.Carried.{UnitsHold}
-use Rattle.smv_carried.proofs.Units.{map-unit}
-use Rattle.smv_carried.proofs.Times.{always-gives, always-true, at-each-time}
+use Rattle.smv_sound_texts.specs.Carried.{UnitsHold}
+use Rattle.smv_sound_texts.proofs.Units.{map-unit}
+use Rattle.smv_sound_texts.proofs.Times.{always-gives, always-true, at-each-time}
 
 -- where no member passes a test
 no-any : {X : Type 0} (p : X → Bool) (xs : List X) → ((x : X) → Has xs x → p x ≡ false) → list_any p xs ≡ false
