@@ -5,3 +5,4 @@ pub mod Times
 pub mod Claims
 pub mod Maps
 pub mod SoundTexts
+pub mod WorkedTexts

@@ -9,6 +9,7 @@ ghost use Rattle.smv_oblig.specs.Outlines.{Script, outline_of};
 ghost use Rattle.smv_oblig.specs.Checked as script;
 ghost use Rattle.smv_delay.specs.FirstFault.{first_fault_of_design};
 ghost use Rattle.smv_sound_texts.specs.Carried.{HasProof, RunsAreCarried, UnitsHold, outlined};
+ghost use Rattle.smv_sound_texts.specs.WorkedTexts.{HasOneMap, HoldsInNeither};
 
 use smv_behaviours::laws::layers_are_same;
 use smv_extend::laws::families_are_found;
@@ -61,3 +62,9 @@ pub fn proved_texts_are_sound()
     sound_designs_are_sound_texts();
     proved_is_sound();
 }
+
+/// Of two layers that define an abstract signal the second is the one unit of the text and of its design, and where it says another value than the first it holds in neither.
+pub fn worked_texts()
+    ensures units { HasOneMap }
+    ensures runs { HoldsInNeither }
+{}
