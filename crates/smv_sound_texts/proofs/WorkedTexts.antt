@@ -1,5 +1,5 @@
 -- By computing the units of the worked text and of its design, and what the map allows.
-use Rattle.std.proofs.Common.{◌≡◌, ℕ, zero, suc, List, [], ◌∷◌, Some, None, true, All, Contains, refl, arith, slice_get, codes, subst}
+use Rattle.std.proofs.Common.{◌≡◌, ℕ, zero, suc, List, [], ◌∷◌, Some, None, true, false, All, Contains, refl, arith, slice_get, codes, subst}
 use Rattle.smv_core.specs.FlatOrder.{design_of}
 use Rattle.smv_core.specs.Values.{Value, Sizes, number}
 use Rattle.smv_core.specs.Types.{IsSizedTop}
@@ -19,7 +19,7 @@ use Rattle.smv_abs.specs.Soundness as flat
 use Rattle.smv_oblig.specs.Outlines.{names_of, bases, unit_in}
 use Rattle.smv_behaviours.specs.WorkedText.{two_layers, the_signal, all_of}
 use Rattle.smv_behaviours.proofs.WorkedText.{runs_are_of_the_first}
-use Rattle.smv_extend.proofs.Lists.{inner}
+use Rattle.smv_extend.proofs.Lists.{clash, inner}
 use Rattle.smv_sound_texts.specs.Carried.{UnitsHold}
 use Rattle.smv_sound_texts.specs.WorkedTexts.{HasOneMap, HoldsInNeither}
 
@@ -63,7 +63,7 @@ abbrev d : Design
 d = design_of_raw (flatten two_layers)
 
 is_run : flat.IsRun (at_sizes (names_of d) one_each) (bases d) (one_there ∷ [])
-unfolding computing
+unfolding computing one_there
 is_run = record { are_typed = λ t m. typed t m; keeps_base = refl; }
   where
     typed : (t : FlatState) → Has (one_there ∷ []) t → flat.IsTyped (at_sizes (names_of d) one_each) t
@@ -71,11 +71,13 @@ is_run = record { are_typed = λ t m. typed t m; keeps_base = refl; }
     typed _ first (suc k) g e vs i = absurd (cc (e))
     typed t (later m) k g e vs i = elim m [ ]
 
+never_held : always (is_held (at_sizes (names_of d) one_each) (unit_in d (Map 1)) []) None (one_there ∷ []) ≡ false
+unfolding computing one_there
+never_held = refl
+
 fails_in_design : UnitsHold d → ⊥
 unfolding computing
-fails_in_design hold =
-    let held : always (is_held (at_sizes (names_of d) one_each) (unit_in d (Map 1)) []) None (one_there ∷ []) ≡ true = hold (Map 1) first one_each (λ (info : SetInfo) m. elim m [ ]) (one_there ∷ []) is_run [] first in
-    cc (held)
+fails_in_design hold = clash (hold (Map 1) first one_each (λ (info : SetInfo) m. elim m [ ]) (one_there ∷ []) is_run [] first) never_held
 
 pub holds_in_neither : HoldsInNeither
 holds_in_neither = (fails_in_text, fails_in_design)
