@@ -38,12 +38,12 @@ use Rattle.smv_extend.proofs.Faultless.{IsFaultless, IsBase, base_by, base_is}
 
 -- ---- members
 
-Contains-Has : {X : Type 0} (xs : List X) (x : X) → Contains xs x → Has xs x
+pub Contains-Has : {X : Type 0} (xs : List X) (x : X) → Contains xs x → Has xs x
 Contains-Has [] x (k, l, e) = absurd (omega (arith, l))
 Contains-Has {X} (y ∷ xs) x (zero, l, e) = subst (Has (y ∷ xs)) e first
 Contains-Has (y ∷ xs) x (suc k, l, e) = later (Contains-Has xs x (k, omega (arith, l), e))
 
-Has-Contains : {X : Type 0} {xs : List X} {x : X} → Has xs x → Contains xs x
+pub Has-Contains : {X : Type 0} {xs : List X} {x : X} → Has xs x → Contains xs x
 Has-Contains first = (0, omega arith, refl)
 Has-Contains (later h) = let r = Has-Contains h in (suc r.0, (let l = r.1 in omega (arith, l)), r.2)
 
@@ -52,17 +52,17 @@ get-in [] k x l = absurd (omega (arith, l))
 get-in (y ∷ xs) zero x l = first
 get-in (y ∷ xs) (suc k) x l = later (get-in xs k x (omega (arith, l)))
 
-Each-All : {X : Type 0} (P : X → Type 0) (xs : List X) → ((x : X) → Has xs x → P x) → All P xs
+pub Each-All : {X : Type 0} (P : X → Type 0) (xs : List X) → ((x : X) → Has xs x → P x) → All P xs
 Each-All P xs h = λ k x l. h (get_or xs k x) (get-in xs k x l)
 
-All-each : {X : Type 0} (P : X → Type 0) (xs : List X) (x : X) → All P xs → Has xs x → P x
+pub All-each : {X : Type 0} (P : X → Type 0) (xs : List X) (x : X) → All P xs → Has xs x → P x
 All-each P xs x h k = All-contains P xs x h (Has-Contains k)
 
-Has-get : {X : Type 0} {xs : List X} {x : X} → Has xs x → (k : ℕ) × (slice_get xs k ≡ Some x)
+pub Has-get : {X : Type 0} {xs : List X} {x : X} → Has xs x → (k : ℕ) × (slice_get xs k ≡ Some x)
 Has-get first = (0, refl)
 Has-get (later h) = let r = Has-get h in (suc r.0, r.1)
 
-get_below : {X : Type 0} (xs : List X) (k : ℕ) (x : X) → slice_get xs k ≡ Some x → k < length xs
+pub get_below : {X : Type 0} (xs : List X) (k : ℕ) (x : X) → slice_get xs k ≡ Some x → k < length xs
 get_below [] k x e = absurd (cc (e))
 get_below (y ∷ xs) zero x e = omega arith
 get_below (y ∷ xs) (suc k) x e = let l = get_below xs k x e in omega (arith, l)
@@ -74,7 +74,7 @@ zip_right R (x ∷ xs) [] h k y e = elim h [ ]
 zip_right R (x ∷ xs) (z ∷ ys) h zero y e = (x, refl, subst (R x) (inner e) h.0)
 zip_right R (x ∷ xs) (z ∷ ys) h (suc k) y e = zip_right R xs ys h.1 k y e
 
-zip_left : {X Y : Type 0} (R : X → Y → Type 0) (xs : List X) (ys : List Y) → AllZip R xs ys → (k : ℕ) (x : X) → slice_get xs k ≡ Some x → (y : Y) × (slice_get ys k ≡ Some y) × R x y
+pub zip_left : {X Y : Type 0} (R : X → Y → Type 0) (xs : List X) (ys : List Y) → AllZip R xs ys → (k : ℕ) (x : X) → slice_get xs k ≡ Some x → (y : Y) × (slice_get ys k ≡ Some y) × R x y
 zip_left R [] [] h k x e = absurd (cc (e))
 zip_left R [] (z ∷ ys) h k x e = elim h [ ]
 zip_left R (w ∷ xs) [] h k x e = elim h [ ]
@@ -105,40 +105,40 @@ module _ (text : Text) (sizes : Sizes) (families : AllZip (IsSameFamily (numbers
   abbrev n : Numbered
   n = numbers_in text sizes
 
-  in_text : (k : ℕ) (g : FlatFamily) → slice_get raw.families k ≡ Some g → (h : Family) × (slice_get d.families k ≡ Some h) × IsSameFamily n g h
+  pub in_text : (k : ℕ) (g : FlatFamily) → slice_get raw.families k ≡ Some g → (h : Family) × (slice_get d.families k ≡ Some h) × IsSameFamily n g h
   in_text k g e = zip_left (IsSameFamily n) raw.families d.families families k g e
 
-  in_raw : (k : ℕ) (h : Family) → slice_get d.families k ≡ Some h → (g : FlatFamily) × (slice_get raw.families k ≡ Some g) × IsSameFamily n g h
+  pub in_raw : (k : ℕ) (h : Family) → slice_get d.families k ≡ Some h → (g : FlatFamily) × (slice_get raw.families k ≡ Some g) × IsSameFamily n g h
   in_raw k h e = zip_right (IsSameFamily n) raw.families d.families families k h e
 
-  indexes_same : (g : FlatFamily) (h : Family) → IsSameFamily n g h → values_over n g.over ≡ indexes_in sizes h
+  pub indexes_same : (g : FlatFamily) (h : Family) → IsSameFamily n g h → values_over n g.over ≡ indexes_in sizes h
   indexes_same g h same = over_same n g.over ∙ ap (λ types. choices (map (values_of sizes) types)) same.1
 
-  values_same : (g : FlatFamily) (h : Family) → IsSameFamily n g h → values_in n g.value ≡ values_of sizes h.value
+  pub values_same : (g : FlatFamily) (h : Family) → IsSameFamily n g h → values_in n g.value ≡ values_of sizes h.value
   values_same g h same = ap (values_of sizes) same.2
 
-  every_same : (k : ℕ) (h : Family) → slice_get d.families k ≡ Some h → (vs : List Value) → values_of_family n (slice_get raw.families k) ≡ every_value d sizes (record { path = h.path; indexes = vs })
+  pub every_same : (k : ℕ) (h : Family) → slice_get d.families k ≡ Some h → (vs : List Value) → values_of_family n (slice_get raw.families k) ≡ every_value d sizes (record { path = h.path; indexes = vs })
   every_same k h e vs = let r = in_raw k h e in ap (values_of_family n) r.1 ∙ (values_same r.0 h r.2 ∙ sym (ap (values_at sizes) (found k h e).0))
 
   -- ---- states
 
-  abbrev path_at : Option Family → List (List ℕ)
+  abbrev pub path_at : Option Family → List (List ℕ)
   path_at None = []
   path_at (Some h) = h.path
 
-  abbrev to_flat : State → FlatState
+  abbrev pub to_flat : State → FlatState
   to_flat s k vs = s (path_at (slice_get d.families k)) vs
 
   abbrev pub to_text : FlatState → State
   to_text t path vs = t (family_number (scope_in text []) path) vs
 
-  flat_same : (s : State) → AreSameStates d.families s (to_flat s)
+  pub flat_same : (s : State) → AreSameStates d.families s (to_flat s)
   flat_same s k h e vs = ap (λ o. s (path_at o) vs) e
 
   text_same : (t : FlatState) → AreSameStates d.families (to_text t) t
   text_same t k h e vs = ap (λ j. t j vs) (sym (found k h e).1)
 
-  flat_typed : (s : State) → IsTyped d sizes s → flat.IsTyped n (to_flat s)
+  pub flat_typed : (s : State) → IsTyped d sizes s → flat.IsTyped n (to_flat s)
   flat_typed s typed k g e vs i =
       let r : (h : Family) × (slice_get d.families k ≡ Some h) × IsSameFamily n g h = in_text k g e in
       let all : All (λ vs. Contains (values_of sizes r.0.value) (s r.0.path vs)) (indexes_in sizes r.0) =
@@ -159,7 +159,7 @@ module _ (text : Text) (sizes : Sizes) (families : AllZip (IsSameFamily (numbers
 
   module _ (allows : All (AllowsAsTheText text) f.defs) (faultless : IsFaultless f) where
     -- a definition allows an element what the text allows it in the definition's layer
-    demand_same : (k : ℕ) (h : Family) → slice_get d.families k ≡ Some h → (def : Def) → Has f.defs def → def.family ≡ k → (layer : Option (List ℕ)) → option_map (layer_number raw.layers) layer ≡ def.layer → (vs : List Value) →
+    pub demand_same : (k : ℕ) (h : Family) → slice_get d.families k ≡ Some h → (def : Def) → Has f.defs def → def.family ≡ k → (layer : Option (List ℕ)) → option_map (layer_number raw.layers) layer ≡ def.layer → (vs : List Value) →
         (before : Option State) (fore : Option FlatState) → AreSameBefore d.families before fore → (s : State) (t : FlatState) → AreSameStates d.families s t →
         flat_allowed n def (record { family = k; indexes = vs }) (values_of_family n (slice_get raw.families k)) fore t ≡ allowed d sizes layer (record { path = h.path; indexes = vs }) before s
     demand_same k h e def m own layer is vs before fore b s t states =
@@ -173,11 +173,11 @@ module _ (text : Text) (sizes : Sizes) (families : AllZip (IsSameFamily (numbers
     not_added k h e a = let r = in_raw k h e in ap (is_abstract f) r.1 ∙ (r.2.3 ∙ a)
 
     -- of a family that is not abstract the base definition of the text is that outside layers
-    implemented_at : (h : Family) (vs : List Value) (before : Option State) (s : State) → h.is_abstract ≡ false →
+    pub implemented_at : (h : Family) (vs : List Value) (before : Option State) (s : State) → h.is_abstract ≡ false →
         allowed_by_base d sizes h (record { path = h.path; indexes = vs }) before s ≡ allowed d sizes None (record { path = h.path; indexes = vs }) before s
     implemented_at h vs before s a = ap (by_layer d sizes (record { path = h.path; indexes = vs }) before s) (ap (λ b. cond b (layer_that_defines h.path d.met) (Some None)) a)
 
-    no_layer : (o : Option ℕ) → is_none o ≡ true → option_map (layer_number raw.layers) None ≡ o
+    pub no_layer : (o : Option ℕ) → is_none o ≡ true → option_map (layer_number raw.layers) None ≡ o
     no_layer None e = refl
     no_layer (Some k) e = absurd (cc (e))
 

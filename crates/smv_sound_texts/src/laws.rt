@@ -1,0 +1,70 @@
+// Laws of texts and their designs, each the contract of a function that does nothing.
+ghost use Rattle.std.specs.Prelude.{◌≡◌, None};
+ghost use Rattle.smv_core.specs.Sound.{IsSound};
+ghost use Rattle.smv_core.specs.declared.tree.Text.{Text};
+ghost use Rattle.smv_flat.specs.Flattening.{flatten};
+ghost use Rattle.smv_right.specs.WellKinded.{IsWellKinded};
+ghost use Rattle.smv_single.specs.Definitions.{design_of_raw};
+ghost use Rattle.smv_oblig.specs.Outlines.{Script, outline_of};
+ghost use Rattle.smv_oblig.specs.Checked as script;
+ghost use Rattle.smv_delay.specs.FirstFault.{first_fault_of_design};
+ghost use Rattle.smv_sound_texts.specs.Carried.{HasProof, RunsAreCarried, UnitsHold, outlined};
+ghost use Rattle.smv_sound_texts.specs.WorkedTexts.{HasOneMap, HoldsInNeither};
+
+use smv_behaviours::laws::layers_are_same;
+use smv_extend::laws::families_are_found;
+use smv_flat::laws::families_are_the_same;
+use smv_oblig::laws::proved_is_sound;
+use smv_right::laws::{
+    allowed_values_are_the_same, claims_are_the_same, expressions_are_right,
+    spelled_texts_are_written,
+};
+use smv_single::laws::{definitions_allow_as_the_text, what_has_no_definition_is_free};
+
+/// Each run of a text that is spelled and has no fault of names, size, kinds, loops and layers is a run of its design.
+pub fn runs_of_texts_are_runs_of_designs()
+    ensures { (text : Text) → IsWellKinded text → first_fault_of_design (design_of_raw (flatten text)) ≡ None → RunsAreCarried text }
+{
+    layers_are_same();
+    families_are_the_same();
+    families_are_found();
+    spelled_texts_are_written();
+    expressions_are_right();
+    definitions_allow_as_the_text();
+}
+
+/// So each unit of the text holds at each time of each of its runs, for all sizes, where each unit of the design does.
+pub fn sound_designs_are_sound_texts()
+    ensures { (text : Text) → IsWellKinded text → first_fault_of_design (design_of_raw (flatten text)) ≡ None → UnitsHold (design_of_raw (flatten text)) → IsSound text }
+{
+    runs_of_texts_are_runs_of_designs();
+    families_are_the_same();
+    families_are_found();
+    spelled_texts_are_written();
+    expressions_are_right();
+    definitions_allow_as_the_text();
+    what_has_no_definition_is_free();
+    allowed_values_are_the_same();
+    claims_are_the_same();
+}
+
+/// And where a script of the design with all its units is sound.
+pub fn sound_scripts_are_sound_texts()
+    ensures { (text : Text) → IsWellKinded text → first_fault_of_design (design_of_raw (flatten text)) ≡ None → (s : Script) → outline_of s ≡ outlined (design_of_raw (flatten text)) → script.IsSound s → IsSound text }
+{
+    sound_designs_are_sound_texts();
+}
+
+/// And where the design has a proof: a leaf and a choice for each unit, checked, and no case of a leaf has a violating path.
+pub fn proved_texts_are_sound()
+    ensures { (text : Text) → IsWellKinded text → first_fault_of_design (design_of_raw (flatten text)) ≡ None → HasProof (design_of_raw (flatten text)) → IsSound text }
+{
+    sound_designs_are_sound_texts();
+    proved_is_sound();
+}
+
+/// Of two layers that define an abstract signal the second is the one unit of the text and of its design, and where it says another value than the first it holds in neither.
+pub fn worked_texts()
+    ensures units { HasOneMap }
+    ensures runs { HoldsInNeither }
+{}
