@@ -3,22 +3,19 @@
 
 ghost use Rattle.std.specs.Prelude.{◌≡◌, IfOk};
 ghost use Rattle.smv_delay.specs.FirstFault.{first_fault_of_design};
+ghost use Rattle.smv_typing.specs.Answers.{IsSpelled};
 ghost use Rattle.smv_front.specs.TextFault as spec;
 
-mod depth;
-
-use crate::depth::is_too_deep;
 use smv_assigned::single_fault;
-use smv_core::Fault;
-use smv_core::flat::{Design, Raw};
+use smv_core::{Fault, Refusal};
+use smv_core::flat::Design;
 use smv_core::tree::Text;
 use smv_defined::design;
-use smv_flatten::flatten::flatten;
 use smv_inst::pieces::pieces;
-use smv_kinds::faults::kinds_fault;
 use smv_layers::layers::layer_fault;
 use smv_loops::loops::loop_fault;
 use smv_names::first_fault;
+use smv_typing::{Typed, kinds};
 use std::alloc::{AllocError, Global};
 
 // The first fault of a design: of its loops, or else of its layers.
@@ -32,13 +29,13 @@ fn design_fault(alloc: Global, design: &Design) -> Result<Option<Fault>, AllocEr
 }
 
 // The first fault of a flattened text: of single assignment, or else of its design.
-fn raw_fault(alloc: Global, raw: Raw) -> Result<Option<Fault>, AllocError>
-    ensures { IfOk result (λ fault. fault ≡ spec.raw_fault raw) }
+fn typed_fault(alloc: Global, typed: Typed) -> Result<Option<Fault>, AllocError>
+    ensures { IfOk result (λ fault. fault ≡ spec.raw_fault typed) }
 {
-    if let Some(fault) = single_fault(alloc, &raw)? {
+    if let Some(fault) = single_fault(alloc, typed.raw())? {
         return Ok(Some(fault));
     }
-    let made = design(alloc, raw)?;
+    let made = design(alloc, typed.into_raw())?;
     design_fault(alloc, &made)
 }
 
@@ -47,18 +44,16 @@ fn raw_fault(alloc: Global, raw: Raw) -> Result<Option<Fault>, AllocError>
 /// arm of a `switch` inside the one before: the flattened text would want more stack than there may be.
 #[tactic(auto, unfolding(crate::specs::TextFault::text_fault))]
 pub fn text_fault(alloc: Global, text: &Text) -> Result<Option<Fault>, AllocError>
+    requires { IsSpelled text.now }
     ensures { IfOk result (λ fault. fault ≡ spec.text_fault text.now) }
 {
     let pieces = pieces(alloc, text)?;
     if let Some(fault) = first_fault(alloc, text, &pieces)? {
         return Ok(Some(fault));
     }
-    if let Some(fault) = kinds_fault(alloc, text, &pieces)? {
-        return Ok(Some(fault));
+    match kinds(alloc, text, &pieces) {
+        Ok(typed) => typed_fault(alloc, typed),
+        Err(Refusal::Fault(fault)) => Ok(Some(fault)),
+        Err(Refusal::OutOfMemory) => Err(AllocError),
     }
-    if is_too_deep(text) {
-        return Err(AllocError);
-    }
-    let raw = flatten(alloc, text, &pieces)?;
-    raw_fault(alloc, raw)
 }

@@ -258,6 +258,29 @@ fn limits_of_the_size(rt: HostRuntime) -> Result<(), Fail> {
     Ok(())
 }
 
+// A `switch` with this many arms, each of which stands inside the one before.
+fn arms(alloc: Global, count: u16) -> Result<String, AllocError> {
+    let mut text = String::from_str(alloc, "module main() { x, y : boolean; switch (x) {")?;
+    for _ in 0..count {
+        text.push_str(" 0 : y := 0;")?;
+    }
+    text.push_str(" } }")?;
+    Ok(text)
+}
+
+// Statements stand up to 1,000 deep inside one another; deeper ones want more stack than there may be.
+#[test]
+fn statements_stand_up_to_1000_deep(rt: HostRuntime) -> Result<(), Fail> {
+    let alloc = rt.alloc();
+    let (status, written) = answered(alloc, "prove", arms(alloc, 999)?.as_bytes())?;
+    assert_eq!(rt; status, 3);
+    assert_eq!(rt; written.as_slice(), NOT_DECIDED.as_bytes());
+    let (status, written) = answered(alloc, "prove", arms(alloc, 1000)?.as_bytes())?;
+    assert_eq!(rt; status, 7);
+    assert_eq!(rt; written.as_slice(), "".as_bytes());
+    Ok(())
+}
+
 // A signal over this many constants.
 fn constants(alloc: Global, count: u16) -> Result<String, AllocError> {
     let mut text = String::from_str(alloc, "module main() { x : {c0")?;

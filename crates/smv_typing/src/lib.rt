@@ -1,0 +1,77 @@
+//! The pass over kinds: the flattened text of a text that keeps their rules, or the first fault of kinds.
+#![tactic(auto)]
+
+ghost use Rattle.std.specs.Prelude.{◌≡◌, None, true};
+ghost use Rattle.smv_inst.specs.Said.{AreNoted};
+ghost use Rattle.smv_inst.specs.FirstFault.{first_fault};
+ghost use Rattle.smv_typed.specs.FlatKinds.{is_kinded};
+ghost use Rattle.smv_typing.specs.Answers.{IsSpelled, IsTyped};
+
+mod depth;
+
+use crate::depth::is_too_deep;
+use smv_core::Refusal;
+use smv_core::flat::Raw;
+use smv_core::tree::Text;
+use smv_flatten::flatten::flatten;
+use smv_inst::pieces::Piece;
+use smv_kinded::laws::flattened_texts_are_kinded;
+use smv_kinds::faults::kinds_fault;
+use std::alloc::Global;
+use std::marker::Model;
+
+/// A flattened text no part of which breaks a rule of kinds, ranges and sets. Contracts see the flattened text.
+#[derive(Drop)]
+pub struct Typed {
+    raw: Raw,
+}
+
+impl Model for Typed {
+    ghost use Rattle.std.specs.Prelude.{◌≡◌, true};
+    ghost use Rattle.smv_core.specs.declared.flat.Raw.{Raw};
+    ghost use Rattle.smv_typed.specs.FlatKinds.{is_kinded};
+
+    ghost Value = { Raw };
+
+    ghost view = { λ typed. typed.raw };
+
+    ghost invariant = { λ typed. is_kinded typed.raw ≡ true };
+}
+
+impl Typed {
+    /// The flattened text.
+    pub fn raw(&self) -> &Raw
+        ensures same { result.now ≡ self.now }
+        ensures kinded { is_kinded result.now ≡ true }
+    {
+        &self.raw
+    }
+
+    /// The flattened text, alone.
+    pub fn into_raw(self) -> Raw
+        ensures same { result ≡ self }
+        ensures kinded { is_kinded result ≡ true }
+    {
+        self.raw
+    }
+}
+
+/// The flattened text of a text that is spelled and has no fault of names and size, or else its first fault among 12 to 14, in every module. `OutOfMemory` also
+/// where statements stand more than 1,000 deep inside one another, each arm of a `switch` inside the one before: the flattened text would want more stack than
+/// there may be.
+pub fn kinds(alloc: Global, text: &Text, pieces: &[Piece]) -> Result<Typed, Refusal>
+    requires noted { AreNoted pieces.now text.now }
+    requires spelled { IsSpelled text.now }
+    requires named { first_fault text.now ≡ None }
+    ensures { IsTyped text.now result }
+{
+    flattened_texts_are_kinded();
+    if let Some(fault) = kinds_fault(alloc, text, pieces)? {
+        return Err(Refusal::Fault(fault));
+    }
+    if is_too_deep(text) {
+        return Err(Refusal::OutOfMemory);
+    }
+    let raw = flatten(alloc, text, pieces)?;
+    Ok(Typed { raw })
+}
