@@ -6,14 +6,15 @@ ghost use Rattle.smv_flat.specs.Flattening.{flatten};
 ghost use Rattle.smv_right.specs.WellKinded.{IsWellKinded};
 ghost use Rattle.smv_single.specs.Definitions.{design_of_raw};
 ghost use Rattle.smv_delay.specs.FirstFault.{first_fault_of_design, first_fault_of_layers};
-ghost use Rattle.smv_extend.specs.Extension.{AreFilled};
 ghost use Rattle.smv_extend.specs.TextExtension.{KeepsTextBehaviours, LayersAreSame};
 ghost use Rattle.smv_behaviours.specs.TextRuns.{HasTextRuns};
 ghost use Rattle.smv_behaviours.specs.WorkedText.{RunsAreOfTheFirst, TakesTheFirst};
 
+use smv_checked::laws::families_are_filled;
 use smv_exact::laws::{left_sides_have_no_fewer, well_kinded_behaviours_are_kept};
 use smv_extend::laws::{families_are_found, left_sides_stay_whole, runs_exist};
 use smv_flat::laws::{families_are_the_same, statements_are_the_same};
+use smv_kinded::laws::flattened_texts_are_kinded;
 use smv_right::laws::{
     allowed_values_are_the_same, expressions_are_right, spelled_texts_are_written,
 };
@@ -39,11 +40,13 @@ pub fn behaviours_of_texts_are_kept()
     well_kinded_behaviours_are_kept();
 }
 
-/// And it has runs of each length, where the types of its families are not empty.
+/// And it has runs of each length from 1 on, at all sizes.
 pub fn texts_have_runs()
-    ensures { (text : Text) → IsWellKinded text → first_fault_of_design (design_of_raw (flatten text)) ≡ None → AreFilled (design_of_raw (flatten text)) → HasTextRuns text }
+    ensures { (text : Text) → IsWellKinded text → first_fault_of_design (design_of_raw (flatten text)) ≡ None → HasTextRuns text }
 {
     layers_are_same();
+    flattened_texts_are_kinded();
+    families_are_filled();
     left_sides_have_no_fewer();
     left_sides_stay_whole();
     runs_exist();

@@ -13,6 +13,7 @@ ghost use Rattle.smv_extend.specs.Extension.{AreFilled};
 ghost use Rattle.smv_checked.specs.Whole.{ReadsWholeInClaims, ReadsWholeInDefinitions, HasDefinitions, HasSplits};
 
 use smv_exact::laws::{definitions_are_of_families, set_types_are_apart};
+use smv_kinded::laws::flattened_texts_are_kinded;
 
 /// Where a flattened text keeps the rules of kinds, no family of its design has a type without values.
 pub fn families_are_filled()
@@ -32,17 +33,19 @@ pub fn definitions_read_whole_elements()
 /// In each script of the design of a text that is spelled and has no fault of names, size, kinds and single assignment each definition is one of a family, no two of
 /// its assignments conflict, and it reads whole elements.
 pub fn definitions_are_as_asked()
-    ensures { (text : Text) → IsWellKinded text → is_kinded (flatten text) ≡ true → first_fault_of_single (flatten text) ≡ None → (s : Script) → s.design ≡ design_of_raw (flatten text) → HasDefinitions s }
+    ensures { (text : Text) → IsWellKinded text → first_fault_of_single (flatten text) ≡ None → (s : Script) → s.design ≡ design_of_raw (flatten text) → HasDefinitions s }
 {
     definitions_are_of_families();
     definitions_read_whole_elements();
+    flattened_texts_are_kinded();
 }
 
 /// So such a script is as the soundness of the search asks, where the leaf of each unit has the parameters and guards of its splits.
 pub fn scripts_are_checked()
-    ensures { (text : Text) → IsWellKinded text → is_kinded (flatten text) ≡ true → first_fault_of_single (flatten text) ≡ None → (s : Script) → s.design ≡ design_of_raw (flatten text) → HasSplits s → IsChecked s }
+    ensures { (text : Text) → IsWellKinded text → first_fault_of_single (flatten text) ≡ None → (s : Script) → s.design ≡ design_of_raw (flatten text) → HasSplits s → IsChecked s }
 {
     set_types_are_apart();
+    flattened_texts_are_kinded();
     families_are_filled();
     claims_read_whole_elements();
     definitions_are_as_asked();

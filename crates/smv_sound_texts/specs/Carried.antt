@@ -18,7 +18,8 @@ use Rattle.smv_abs.specs.Sets.{Has}
 use Rattle.smv_abs.specs.Soundness.{at_sizes, IsRun}
 use Rattle.smv_oblig.specs.Outlines.{Outline, names_of, bases, unit_in}
 use Rattle.smv_oblig.specs.Units.{units_of, script_of}
-use Rattle.smv_oblig.specs.Checked.{IsChecked, IsProved, HoldsAlways}
+use Rattle.smv_oblig.specs.Checked.{IsProved, HoldsAlways}
+use Rattle.smv_checked.specs.Whole.{HasSplits}
 
 -- at any sizes the states of each run of a text, with its families by their numbers, are a run of its design
 abbrev pub RunsAreCarried : Text → Type 0
@@ -33,11 +34,11 @@ UnitsHold d = (unit : Unit) → Has (units_of d) unit → HoldsAlways d (unit_in
 abbrev pub outlined : Design → Outline
 outlined d = record { design = d; units = units_of d }
 
--- a leaf and a choice for each unit of a design, whose script is checked and proved
+-- a leaf and a choice for each unit of a design: the leaves are as the splits of their units ask, and no case of a leaf has a violating path
 pub record HasProof (d : Design) : Type 0 where
   pub leaves : List Leaf
   pub choices : List Choice
   pub each_has_a_leaf : length leaves ≡ length (units_of d)
   pub each_has_a_choice : length choices ≡ length (units_of d)
-  pub is_checked : IsChecked (script_of d leaves choices)
+  pub has_splits : HasSplits (script_of d leaves choices)
   pub is_proved : IsProved (script_of d leaves choices)

@@ -5,6 +5,7 @@ ghost use Rattle.smv_core.specs.declared.tree.Text.{Text};
 ghost use Rattle.smv_flat.specs.Flattening.{flatten};
 ghost use Rattle.smv_right.specs.WellKinded.{IsWellKinded};
 ghost use Rattle.smv_single.specs.Definitions.{design_of_raw};
+ghost use Rattle.smv_single.specs.SingleFaults.{first_fault_of_single};
 ghost use Rattle.smv_oblig.specs.Outlines.{Script, outline_of};
 ghost use Rattle.smv_oblig.specs.Checked as script;
 ghost use Rattle.smv_delay.specs.FirstFault.{first_fault_of_design};
@@ -12,6 +13,7 @@ ghost use Rattle.smv_sound_texts.specs.Carried.{HasProof, RunsAreCarried, UnitsH
 ghost use Rattle.smv_sound_texts.specs.WorkedTexts.{HasOneMap, HoldsInNeither};
 
 use smv_behaviours::laws::layers_are_same;
+use smv_checked::laws::scripts_are_checked;
 use smv_extend::laws::families_are_found;
 use smv_flat::laws::families_are_the_same;
 use smv_oblig::laws::proved_is_sound;
@@ -55,11 +57,13 @@ pub fn sound_scripts_are_sound_texts()
     sound_designs_are_sound_texts();
 }
 
-/// And where the design has a proof: a leaf and a choice for each unit, checked, and no case of a leaf has a violating path.
+/// And where the text has no fault of single assignment either and its design has a proof: a leaf and a choice for each unit, and no case of a leaf has a violating
+/// path.
 pub fn proved_texts_are_sound()
-    ensures { (text : Text) → IsWellKinded text → first_fault_of_design (design_of_raw (flatten text)) ≡ None → HasProof (design_of_raw (flatten text)) → IsSound text }
+    ensures { (text : Text) → IsWellKinded text → first_fault_of_single (flatten text) ≡ None → first_fault_of_design (design_of_raw (flatten text)) ≡ None → HasProof (design_of_raw (flatten text)) → IsSound text }
 {
     sound_designs_are_sound_texts();
+    scripts_are_checked();
     proved_is_sound();
 }
 

@@ -14,14 +14,14 @@ use Rattle.smv_behaviours.proofs.SetSizes.{same_sizes}
 use Rattle.smv_behaviours.proofs.laws.texts_have_runs.Goals as goal
 
 pub returns : goal.returns
-returns c = λ text well none filled sizes are times some.
+returns c = λ text well none sizes are times some.
     let named : first_fault text ≡ None = well.3 in
     let d : Design = design_of_raw (flatten text) in
     let right : TextIsRight text = c.expressions_are_right.ensures text (c.spelled_texts_are_written.ensures well.0 well.1 text well.2) named well.4 in
     let families = c.families_are_the_same.ensures text named sizes in
     let found = c.families_are_found.ensures text named in
     let run : (run : List FlatState) × (length run ≡ times) × IsRun (at_sizes (names_of d) sizes) (bases d) run =
-    c.runs_exist.ensures d none (c.left_sides_stay_whole.ensures (flatten text) (c.left_sides_have_no_fewer.ensures text well)) filled sizes (same_sizes text sizes well.4 are) times in (
+    c.runs_exist.ensures d none (c.left_sides_stay_whole.ensures (flatten text) (c.left_sides_have_no_fewer.ensures text well)) (c.families_are_filled.ensures (flatten text) (c.flattened_texts_are_kinded.ensures text well)) sizes (same_sizes text sizes well.4 are) times in (
       map (to_text text sizes families found) run.0,
       length-map run.0 (to_text text sizes families found) ∙ run.1,
       text_run text sizes families found (c.definitions_allow_as_the_text.ensures text named right) (is_faultless d none) (c.layers_are_same.ensures text named (or_else-none _ _ none).1)
