@@ -6,3 +6,4 @@ pub mod Claims
 pub mod Maps
 pub mod SoundTexts
 pub mod WorkedTexts
+pub mod AgreeingLayers

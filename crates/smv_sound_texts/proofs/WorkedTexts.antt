@@ -24,7 +24,7 @@ use Rattle.smv_sound_texts.specs.Carried.{UnitsHold}
 use Rattle.smv_sound_texts.specs.WorkedTexts.{HasOneMap, HoldsInNeither}
 
 -- what it computes with
-unfoldable computing : Unit {0}
+unfoldable pub computing : Unit {0}
 unfolding Rattle.smv_core.specs.declared.tree.Expr.TheBlock.hidden-the_row-Part-0 Rattle.smv_core.specs.declared.tree.Expr.TheBlock.shape-the_row-Part-0 Rattle.smv_core.specs.declared.tree.Stmt.TheBlock.hidden-the_row-Stmt-0 Rattle.smv_core.specs.declared.tree.Stmt.TheBlock.shape-the_row-Stmt-0 Rattle.smv_core.specs.declared.tree.Item.TheBlock.hidden-the_row-Item-0 Rattle.smv_core.specs.declared.tree.Item.TheBlock.shape-the_row-Item-0 Rattle.smv_core.specs.declared.flat.FlatStmt.TheBlock.hidden-the_row-FlatStmt-0 Rattle.smv_core.specs.declared.flat.FlatStmt.TheBlock.shape-the_row-FlatStmt-0 Rattle.smv_core.specs.declared.flat.Flat.TheBlock.hidden-the_row-Flat-0 Rattle.smv_core.specs.declared.flat.Flat.TheBlock.shape-the_row-Flat-0 denote.Hole.Carrier.hidden
 computing = tt
 
@@ -35,7 +35,7 @@ has_one_map = (refl, refl)
 one_each : Sizes
 one_each name = 1
 
-all-one : {X : Type 0} (P : X → Type 0) (x : X) → P x → All P (x ∷ [])
+pub all-one : {X : Type 0} (P : X → Type 0) (x : X) → P x → All P (x ∷ [])
 all-one P x h zero d l = h
 all-one P x h (suc k) d l = absurd (omega (arith, l))
 
