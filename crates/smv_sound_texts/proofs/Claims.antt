@@ -63,7 +63,7 @@ module _ (text : Text) (sizes : Sizes) where
   ClaimsAreSame = (s : State) (t : FlatState) → AreSameStates d.families s t → AllZip (IsSameClaim text sizes s t) (claims_of raw.items) (claims_met d.met)
 
   -- the values for the parameters of a claim
-  abbrev types : Claimed → List (List Value)
+  abbrev pub types : Claimed → List (List Value)
   types c = map (λ ((name, over) : Name × TypeExpr). values_of_type d.types sizes over) c.params
 
   module _ (claims : ClaimsAreSame) (same : (s : State) → (t : FlatState) × AreSameStates d.families s t) (hold : UnitsHold f) (are : flat.AreSizes (names_of f) sizes)

@@ -12,8 +12,9 @@ ghost use Rattle.smv_sound_texts.specs.Carried.{HasProof, RunsAreCarried, RunsAr
 ghost use Rattle.smv_sound_texts.specs.WorkedTexts.{HasOneMap, HoldsInBoth, HoldsInNeither};
 
 use smv_behaviours::laws::layers_are_same;
+use smv_exact::laws::left_sides_are_exact;
 use smv_extend::laws::families_are_found;
-use smv_flat::laws::families_are_the_same;
+use smv_flat::laws::{families_are_the_same, statements_are_the_same};
 use smv_oblig::laws::proved_is_sound;
 use smv_right::laws::{
     allowed_values_are_the_same, claims_are_the_same, expressions_are_right,
@@ -62,14 +63,30 @@ pub fn sound_designs_are_sound_texts()
     claims_are_the_same();
 }
 
-/// And where a script of the design with all its units is sound.
+/// And each unit of the design holds, where each unit of the text does.
+pub fn sound_texts_are_sound_designs()
+    ensures { (text : Text) → IsWellKinded text → first_fault_of_design (design_of_raw (flatten text)) ≡ None → IsSound text → UnitsHold (design_of_raw (flatten text)) }
+{
+    runs_of_designs_are_runs_of_texts();
+    layers_are_same();
+    left_sides_are_exact();
+    families_are_the_same();
+    families_are_found();
+    statements_are_the_same();
+    spelled_texts_are_written();
+    expressions_are_right();
+    definitions_allow_as_the_text();
+    claims_are_the_same();
+}
+
+/// A text is sound where a script of its design with all the units is.
 pub fn sound_scripts_are_sound_texts()
     ensures { (text : Text) → IsWellKinded text → first_fault_of_design (design_of_raw (flatten text)) ≡ None → (s : Script) → outline_of s ≡ outlined (design_of_raw (flatten text)) → script.IsSound s → IsSound text }
 {
     sound_designs_are_sound_texts();
 }
 
-/// And where the design has a proof: a leaf and a choice for each unit, checked, and no case of a leaf has a violating path.
+/// And where its design has a proof: a leaf and a choice for each unit, checked, and no case of a leaf has a violating path.
 pub fn proved_texts_are_sound()
     ensures { (text : Text) → IsWellKinded text → first_fault_of_design (design_of_raw (flatten text)) ≡ None → HasProof (design_of_raw (flatten text)) → IsSound text }
 {
