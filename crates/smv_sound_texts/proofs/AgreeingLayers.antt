@@ -1,11 +1,9 @@
 -- The map of the text whose layers agree: each run keeps the base definition, which says the same.
-use Rattle.std.proofs.Common.{◌≡◌, ℕ, List, [], ◌∷◌, Option, Some, None, Bool, true, All, Contains, sym, subst, arith, codes}
-use Rattle.smv_core.specs.Values.{Value, Sizes, number}
-use Rattle.smv_core.specs.Types.{Family}
+use Rattle.std.proofs.Common.{◌≡◌, List, [], ◌∷◌, Option, Some, None, true, All, arith, codes}
+use Rattle.smv_core.specs.Values.{Value, Sizes}
 use Rattle.smv_core.specs.FlatOrder.{Design, design_of}
 use Rattle.smv_core.specs.Outcome.{State}
-use Rattle.smv_core.specs.Allowed.{allowed_by_base}
-use Rattle.smv_core.specs.Sound.{AtEachTime, MeetsBase, Holds, IsRun, IsSound, instances, indexes_in, map_of, units}
+use Rattle.smv_core.specs.Sound.{AtEachTime, MeetsBase, Holds, IsRun, instances, map_of, units}
 use Rattle.smv_core.specs.Flat.{FlatState}
 use Rattle.smv_core.specs.declared.flat.Design.{Design as FlatDesign}
 use Rattle.smv_core.specs.declared.flat.Unit.{Unit as DesignUnit}
@@ -14,10 +12,8 @@ use Rattle.smv_flat.specs.Flattening.{flatten}
 use Rattle.smv_single.specs.Definitions.{design_of_raw}
 use Rattle.smv_abs.specs.Sets.{Has, first, later}
 use Rattle.smv_abs.specs.Circular.{always}
-use Rattle.smv_abs.specs.Soundness as flat
 use Rattle.smv_abs.specs.Soundness.{at_sizes, is_held, meets_base}
 use Rattle.smv_oblig.specs.Outlines.{names_of, bases, unit_in}
-use Rattle.smv_oblig.specs.Units.{units_of}
 use Rattle.smv_oblig.specs.Checked.{HoldsAlways}
 use Rattle.smv_behaviours.specs.WorkedText.{the_signal}
 use Rattle.smv_extend.proofs.Lists.{left_of}

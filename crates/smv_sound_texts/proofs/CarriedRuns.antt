@@ -1,5 +1,5 @@
 -- Each run of a text is one of its design.
-use Rattle.std.proofs.Common.{◌≡◌, ℕ, List, [], ◌∷◌, map, Option, Some, None, Bool, true, false, cond, refl, sym, ap, subst, ◌∙◌, slice_get, option_map, All, Contains}
+use Rattle.std.proofs.Common.{◌≡◌, List, [], ◌∷◌, map, Option, Some, None, Bool, true, false, cond, refl, sym, ap, subst, ◌∙◌, slice_get, option_map, All, Contains}
 use Rattle.std.specs.List.{list_all, AllZip}
 use Rattle.smv_core.specs.Values.{Name, Value, Sizes}
 use Rattle.smv_core.specs.Types.{Family}
@@ -111,7 +111,11 @@ module _ (text : Text) (sizes : Sizes) (families : AllZip (IsSameFamily (numbers
 
   pub carried_run : (run : List State) → IsRun d sizes run → (flat_run : List FlatState) × AllZip (AreSameStates d.families) run flat_run × flat.IsRun n (bases f) flat_run
   carried_run [] is = elim is [ ]
-  carried_run (s ∷ run) is = (map carried (s ∷ run), same_states (s ∷ run), record {
-    are_typed = λ t m. let r = Has-from_map carried (s ∷ run) m in subst (flat.IsTyped n) (sym r.2) (flat_typed text sizes families found r.0 (All-each (IsTyped d sizes) (s ∷ run) r.0 is.0 r.1));
-    keeps_base = meets_always None None tt (s ∷ run) is.1;
-  })
+  carried_run (s ∷ run) is = (
+    map carried (s ∷ run),
+    same_states (s ∷ run),
+    record {
+      are_typed = λ t m. let r = Has-from_map carried (s ∷ run) m in subst (flat.IsTyped n) (sym r.2) (flat_typed text sizes families found r.0 (All-each (IsTyped d sizes) (s ∷ run) r.0 is.0 r.1));
+      keeps_base = meets_always None None tt (s ∷ run) is.1;
+    },
+  )

@@ -1,5 +1,5 @@
 -- Claims that hold in the text hold in its design.
-use Rattle.std.proofs.Common.{◌≡◌, ℕ, List, [], ◌∷◌, map, length, Option, Some, None, Bool, true, refl, sym, ap, subst, ◌∙◌, slice_get}
+use Rattle.std.proofs.Common.{◌≡◌, ℕ, List, [], length, Some, None, true, sym, ap, subst, ◌∙◌, slice_get}
 use Rattle.std.specs.List.{AllZip}
 use Rattle.std.proofs.lemmas.List.{length-map}
 use Rattle.smv_core.specs.Values.{Name, Value, Sizes, number, truth}

@@ -1,7 +1,6 @@
 -- Maps that hold in the text hold in its design.
-use Rattle.std.proofs.Common.{◌≡◌, ℕ, ◌+◌, List, [], ◌∷◌, map, flat_map, filter, zip, length, Option, Some, None, Bool, true, false, not, cond, if◌then◌else◌, nat_eq, refl, sym, ap, subst, ◌∙◌, slice_get, option_map, All, Contains, ◌⊎◌, inl, inr}
-use Rattle.std.specs.List.{AllZip, list_any}
-use Rattle.std.specs.Str.{bytes_eq}
+use Rattle.std.proofs.Common.{◌≡◌, ℕ, ◌+◌, List, [], ◌∷◌, map, flat_map, zip, length, Option, Some, None, Bool, true, false, not, cond, if◌then◌else◌, nat_eq, refl, sym, ap, subst, ◌∙◌, slice_get, option_map, All, inl, inr}
+use Rattle.std.specs.List.{AllZip}
 use Rattle.std.proofs.lemmas.Slice.Eq.{bytes_eq-Decides}
 use Rattle.smv_core.specs.Values.{Name, Value, Sizes, numbers_from}
 use Rattle.smv_core.specs.Types.{Family}
@@ -21,7 +20,7 @@ use Rattle.smv_flat.specs.Flattening.{FlatAssigned, different, flat_assignments,
 use Rattle.smv_flat.specs.Agreement.{AreSameStates, IsSameFamily, numbers_in}
 use Rattle.smv_flat.specs.RawAllowed.{AreSameBefore}
 use Rattle.smv_flat.specs.SameActs.{IsSameAct, layered_acts}
-use Rattle.smv_single.specs.Standing.{Standing, Statement, assigned_by, count, statements_of}
+use Rattle.smv_single.specs.Standing.{Standing, Statement, assigned_by, statements_of}
 use Rattle.smv_single.specs.Definitions.{Head, def_of, design_of_raw, first_heads, head, heads_of, same_definition}
 use Rattle.smv_single.specs.Laws.{AllowsAsTheText}
 use Rattle.smv_abs.specs.Sets.{Has, first, later}
@@ -121,6 +120,9 @@ module _ (text : Text) (sizes : Sizes) (families : AllZip (IsSameFamily (numbers
   abbrev ItsMap : Def → Type 0
   ItsMap def = (h : Family) × (slice_get d.families def.family ≡ Some h) × ((layer : Name) × (Some (layer_number raw.layers layer) ≡ def.layer) × Has (units d) (tree.map_of layer h))
 
+  is_defined : (k : ℕ) (h : Family) → slice_get d.families k ≡ Some h → (s : Statement) (x : Said) → IsSameAct text (s.layer, s.act) x → assigns k s ≡ true → is_defined_by h.path x ≡ true
+  is_defined k h at s x same e = sym (same.1 h.path h (found k h at).0) ∙ (ap (λ j. assigns j s) (found k h at).1 ∙ e)
+
   its_map : (head : Head) → Has (first_heads raw) head → is_refinement f head.family head.layer ≡ true → ItsMap (def_of raw head)
   its_map head m is =
       let s : (s : Statement) × Has (statements_of raw) s × Has (heads_of s) head = Has-from_flat_map heads_of (statements_of raw) (from-different same_definition (flat_map heads_of (statements_of raw)) m) in
@@ -130,7 +132,7 @@ module _ (text : Text) (sizes : Sizes) (families : AllZip (IsSameFamily (numbers
       let j : (j : ℕ) × (slice_get (statements_of raw) j ≡ Some s.0) = Has-get s.1 in
       let x : (x : Said) × (slice_get (flat_map said_in d.met) j.0 ≡ Some x) × IsSameAct text (s.0.layer, s.0.act) x =
       zip_left (λ (s : Statement) x. IsSameAct text (s.layer, s.act) x) (statements_of raw) (flat_map said_in d.met) (statements-zip text 0 raw.items (flat_map said_in d.met) acts) j.0 s.0 j.1 in
-      let defined : is_defined_by h.0.path x.0 ≡ true = sym (x.2.1 h.0.path h.0 (found head.family h.0 h.1).0) ∙ (ap (λ j. assigns j s.0) (found head.family h.0 h.1).1 ∙ p.4) in
+      let defined : is_defined_by h.0.path x.0 ≡ true = is_defined head.family h.0 h.1 s.0 x.0 x.2 p.4 in
       (h.0, h.1, by_layer h.0 h.1 x.0 (get-Has (flat_map said_in d.met) j.0 x.0 x.1) defined x.0.layer refl (p.3 ∙ x.2.0))
     where
       found_at : (h : Family) → Has d.families h → family_at d.families h.path ≡ Some h

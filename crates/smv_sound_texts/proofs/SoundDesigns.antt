@@ -1,5 +1,5 @@
 -- The units of a design hold where those of the text do.
-use Rattle.std.proofs.Common.{◌≡◌, List, [], ◌∷◌, flat_map, All, Some, None, true, refl, sym, subst, slice_get, arith}
+use Rattle.std.proofs.Common.{◌≡◌, List, [], ◌∷◌, flat_map, All, Some, None, true, refl, sym, subst, arith}
 use Rattle.std.specs.List.{AllZip}
 use Rattle.smv_core.specs.Values.{Value, Sizes}
 use Rattle.smv_core.specs.FlatOrder.{Design, design_of}

@@ -1,5 +1,5 @@
 -- Sizes of a design are those of the text that it was made of.
-use Rattle.std.proofs.Common.{◌≡◌, ℕ, ◌<◌, List, [], ◌∷◌, flat_map, Some, None, IfSome}
+use Rattle.std.proofs.Common.{◌≡◌, ◌<◌, Some, None, IfSome}
 use Rattle.smv_core.specs.Values.{Sizes}
 use Rattle.smv_core.specs.Types.{IsSizedTop}
 use Rattle.smv_core.specs.Sound.{AreSizes}

@@ -1,5 +1,5 @@
 -- The units of a design: each claim is one, and each definition of a layer that is no base definition.
-use Rattle.std.proofs.Common.{◌≡◌, ℕ, zero, suc, ◌+◌, List, [], ◌∷◌, ◌++◌, map, zip, length, Some, Bool, true, false, cond, if◌then◌else◌, nat_lt, refl, sym, ap, subst, slice_get, arith, ◌⊎◌, inl, inr}
+use Rattle.std.proofs.Common.{◌≡◌, ℕ, zero, suc, ◌+◌, List, [], ◌∷◌, ◌++◌, zip, length, Some, Bool, true, false, cond, if◌then◌else◌, nat_lt, sym, ap, subst, slice_get, arith, ◌⊎◌, inl, inr}
 use Rattle.smv_core.specs.Values.{numbers_from}
 use Rattle.smv_core.specs.declared.flat.Def.{Def}
 use Rattle.smv_core.specs.declared.flat.Claim.{Claim as FlatClaim}

@@ -1,10 +1,9 @@
 -- By computing the units of the worked text and of its design, and what the map allows.
-use Rattle.std.proofs.Common.{◌≡◌, ℕ, zero, suc, List, [], ◌∷◌, Some, None, true, false, All, Contains, refl, arith, slice_get, codes, subst}
+use Rattle.std.proofs.Common.{◌≡◌, zero, suc, [], ◌∷◌, None, false, All, Contains, refl, arith, codes, subst}
 use Rattle.smv_core.specs.FlatOrder.{design_of}
-use Rattle.smv_core.specs.Values.{Value, Sizes, number}
+use Rattle.smv_core.specs.Values.{Sizes, number}
 use Rattle.smv_core.specs.Types.{IsSizedTop}
-use Rattle.smv_core.specs.Outcome.{State}
-use Rattle.smv_core.specs.Sound.{ProofUnit, map_of, units, instances, Holds, AtEachTime, AreSizes, IsSound}
+use Rattle.smv_core.specs.Sound.{map_of, instances, Holds, AtEachTime, IsSound}
 use Rattle.smv_core.specs.Flat.{FlatState, values_in}
 use Rattle.smv_core.specs.declared.flat.Design.{Design}
 use Rattle.smv_core.specs.declared.flat.Family.{Family}
@@ -64,7 +63,7 @@ d = design_of_raw (flatten two_layers)
 
 is_run : flat.IsRun (at_sizes (names_of d) one_each) (bases d) (one_there ∷ [])
 unfolding computing one_there
-is_run = record { are_typed = λ t m. typed t m; keeps_base = refl; }
+is_run = record { are_typed = λ t m. typed t m; keeps_base = refl }
   where
     typed : (t : FlatState) → Has (one_there ∷ []) t → flat.IsTyped (at_sizes (names_of d) one_each) t
     typed _ first zero g e vs i = subst (λ (g : Family). Has (values_in (at_sizes (names_of d) one_each) g.value) (number 1)) (inner e) (later first)
