@@ -29,7 +29,7 @@ use Rattle.smv_behaviours.proofs.FirstFound.{FindAlike, find-zip, zip-append, an
 -- ---- the assignments of a statement, in three forms
 
 -- an assignment by its layer and family
-abbrev IsOne : Option ℕ → Standing → FlatAssigned → Type 0
+abbrev pub IsOne : Option ℕ → Standing → FlatAssigned → Type 0
 IsOne layer a b = (a.layer ≡ layer) × (a.family ≡ b.family)
 
 abbrev IsOneHead : Option ℕ → Head → FlatAssigned → Type 0
@@ -37,7 +37,7 @@ IsOneHead layer h b = (h.layer ≡ layer) × (h.family ≡ b.family)
 
 module _ (layer : Option ℕ) where
   mutual
-    standing-one : (around : List ℕ) (act : FlatStmt) → AllZip (IsOne layer) (standing layer around act) (flat_assignments act)
+    pub standing-one : (around : List ℕ) (act : FlatStmt) → AllZip (IsOne layer) (standing layer around act) (flat_assignments act)
     standing-one around (stmt.Assign kind family left value at) = ((refl, refl), tt)
     standing-one around (stmt.If' cond l (more_of-FlatStmt left end_of-FlatStmt) r (more_of-FlatStmt right end_of-FlatStmt)) =
         zip-append (IsOne layer) (standing layer around left) (flat_assignments left) (standing layer around right) (flat_assignments right) (standing-one around left) (standing-one around right)

@@ -34,7 +34,7 @@ use Rattle.smv_behaviours.proofs.FirstFound.{FindAlike, find-zip, find-map, find
 use Rattle.smv_behaviours.proofs.FirstHeads.{IsAt, is_head_of, assigns, first-head, has_assignment}
 
 -- the statements beside those of the text
-statements-zip : (text : Text) (k : ℕ) (items : List FlatItem) (said : List Said) → AllZip (IsSameAct text) (layered_acts items) said → AllZip (λ (s : Statement) x. IsSameAct text (s.layer, s.act) x) (statements_from k items) said
+pub statements-zip : (text : Text) (k : ℕ) (items : List FlatItem) (said : List Said) → AllZip (IsSameAct text) (layered_acts items) said → AllZip (λ (s : Statement) x. IsSameAct text (s.layer, s.act) x) (statements_from k items) said
 statements-zip text k [] [] h = tt
 statements-zip text k [] (x ∷ said) h = elim h [ ]
 statements-zip text k (item.Act layer act ∷ items) [] h = elim h [ ]

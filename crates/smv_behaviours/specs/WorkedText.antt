@@ -23,11 +23,11 @@ use Rattle.smv_single.specs.Definitions.{design_of_raw}
 use Rattle.smv_oblig.specs.Outlines as outline
 use Rattle.smv_delay.specs.FirstFault.{first_fault_of_design}
 
-abbrev word : List ℕ → Word
+abbrev pub word : List ℕ → Word
 word name = record { name = name; at = 0 }
 
 -- layer name : { s := value; }
-abbrev layer_that_sets : List ℕ → ℕ → Item
+abbrev pub layer_that_sets : List ℕ → ℕ → Item
 layer_that_sets name value = Layer (word name) (Assign Comb (named (word (codes "s")) []) (Number value 0) 0 ∷ []) 0
 
 -- module main() { abstract s : boolean; layer B : { s := 1; } layer A : { s := 0; } }

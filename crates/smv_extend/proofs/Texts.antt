@@ -135,7 +135,7 @@ module _ (text : Text) (sizes : Sizes) (families : AllZip (IsSameFamily (numbers
   pub flat_same : (s : State) → AreSameStates d.families s (to_flat s)
   flat_same s k h e vs = ap (λ o. s (path_at o) vs) e
 
-  text_same : (t : FlatState) → AreSameStates d.families (to_text t) t
+  pub text_same : (t : FlatState) → AreSameStates d.families (to_text t) t
   text_same t k h e vs = ap (λ j. t j vs) (sym (found k h e).1)
 
   pub flat_typed : (s : State) → IsTyped d sizes s → flat.IsTyped n (to_flat s)

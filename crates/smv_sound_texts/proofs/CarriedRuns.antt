@@ -1,5 +1,5 @@
 -- Each run of a text is one of its design.
-use Rattle.std.proofs.Common.{◌≡◌, ℕ, List, [], ◌∷◌, map, Option, Some, None, Bool, true, false, cond, refl, sym, ap, subst, ◌∙◌, slice_get, option_map, All, Contains}
+use Rattle.std.proofs.Common.{◌≡◌, List, [], ◌∷◌, map, Option, Some, None, Bool, true, false, cond, refl, sym, ap, subst, ◌∙◌, slice_get, option_map, All, Contains}
 use Rattle.std.specs.List.{list_all, AllZip}
 use Rattle.smv_core.specs.Values.{Name, Value, Sizes}
 use Rattle.smv_core.specs.Types.{Family}
@@ -29,11 +29,16 @@ use Rattle.smv_delay.specs.LayerFaults.{is_abstract}
 use Rattle.smv_extend.specs.TextExtension.{FamiliesAreFound, IsSameLayer, LayersAreSame}
 use Rattle.smv_extend.proofs.Lists.{both_true, Has-from_map, all-holds, get-Has, is_in-Has}
 use Rattle.smv_extend.proofs.Faultless.{IsFaultless, IsBase, base_is}
-use Rattle.smv_extend.proofs.Texts.{Contains-Has, All-each, in_text, indexes_same, to_flat, flat_same, flat_typed, demand_same, no_layer}
+use Rattle.smv_extend.proofs.Texts.{Contains-Has, All-each, in_text, indexes_same, to_flat, to_text, text_same, flat_same, flat_typed, demand_same, no_layer}
 
 -- the layer of the base definition of a family
 abbrev pub ItsLayer : Text → Family → Def → Type 0
 ItsLayer text h def = (layer : Option Name) × (base_of (design_of text) h ≡ Some layer) × (option_map (layer_number (flatten text).layers) layer ≡ def.layer)
+
+module _ (text : Text) (sizes : Sizes) (families : AllZip (IsSameFamily (numbers_in text sizes)) (flatten text).families (design_of text).families) (found : FamiliesAreFound text) where
+  pub same_texts : (ts : List FlatState) → AllZip (AreSameStates (design_of text).families) (map (to_text text sizes families found) ts) ts
+  same_texts [] = tt
+  same_texts (t ∷ ts) = (text_same text sizes families found t, same_texts ts)
 
 module _ (text : Text) (sizes : Sizes) (families : AllZip (IsSameFamily (numbers_in text sizes)) (flatten text).families (design_of text).families) (found : FamiliesAreFound text)
     (allows : All (AllowsAsTheText text) (design_of_raw (flatten text)).defs) (faultless : IsFaultless (design_of_raw (flatten text))) (layers : LayersAreSame text) where
@@ -106,7 +111,11 @@ module _ (text : Text) (sizes : Sizes) (families : AllZip (IsSameFamily (numbers
 
   pub carried_run : (run : List State) → IsRun d sizes run → (flat_run : List FlatState) × AllZip (AreSameStates d.families) run flat_run × flat.IsRun n (bases f) flat_run
   carried_run [] is = elim is [ ]
-  carried_run (s ∷ run) is = (map carried (s ∷ run), same_states (s ∷ run), record {
-    are_typed = λ t m. let r = Has-from_map carried (s ∷ run) m in subst (flat.IsTyped n) (sym r.2) (flat_typed text sizes families found r.0 (All-each (IsTyped d sizes) (s ∷ run) r.0 is.0 r.1));
-    keeps_base = meets_always None None tt (s ∷ run) is.1;
-  })
+  carried_run (s ∷ run) is = (
+    map carried (s ∷ run),
+    same_states (s ∷ run),
+    record {
+      are_typed = λ t m. let r = Has-from_map carried (s ∷ run) m in subst (flat.IsTyped n) (sym r.2) (flat_typed text sizes families found r.0 (All-each (IsTyped d sizes) (s ∷ run) r.0 is.0 r.1));
+      keeps_base = meets_always None None tt (s ∷ run) is.1;
+    },
+  )

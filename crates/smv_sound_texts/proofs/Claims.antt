@@ -1,5 +1,5 @@
 -- Claims that hold in the design hold in the text.
-use Rattle.std.proofs.Common.{◌≡◌, zero, suc, ℕ, List, [], ◌∷◌, map, length, Option, Some, None, Bool, true, refl, sym, ap, subst, ◌∙◌, slice_get}
+use Rattle.std.proofs.Common.{◌≡◌, zero, suc, ℕ, List, [], map, length, Some, None, true, refl, sym, ap, subst, ◌∙◌, slice_get}
 use Rattle.std.specs.List.{AllZip}
 use Rattle.std.proofs.lemmas.List.{length-map}
 use Rattle.smv_core.specs.Values.{Name, Value, Sizes, number, constant, scalar, ordinal, truth, Outcome}
@@ -19,15 +19,13 @@ use Rattle.smv_core.specs.declared.flat.Raw.{Raw}
 use Rattle.smv_core.specs.declared.flat.Unit.TheVariants.{Claim}
 use Rattle.smv_flat.specs.Flattening.{flatten}
 use Rattle.smv_flat.specs.Agreement.{AreSameStates, numbers_in}
-use Rattle.smv_flat.specs.RawAllowed.{AreSameBefore}
 use Rattle.smv_flat.specs.WholeText.{IsSameClaim, claims_of, claims_met}
 use Rattle.smv_single.specs.Definitions.{design_of_raw}
 use Rattle.smv_abs.specs.Sets.{Has, one_of_each}
 use Rattle.smv_abs.proofs.CoverParams.{map-map}
-use Rattle.smv_abs.specs.Circular.{always}
 use Rattle.smv_abs.specs.Soundness as flat
 use Rattle.smv_abs.specs.Soundness.{claim_of, params_of, values_over, is_held}
-use Rattle.smv_oblig.specs.Outlines.{names_of, bases, unit_in, as_claim}
+use Rattle.smv_oblig.specs.Outlines.{names_of, bases, as_claim}
 use Rattle.smv_oblig.specs.Checked.{HoldsAlways}
 use Rattle.smv_extend.proofs.Lists.{inner}
 use Rattle.smv_extend.proofs.Texts.{Has-get, zip_right}
@@ -63,7 +61,7 @@ module _ (text : Text) (sizes : Sizes) where
   ClaimsAreSame = (s : State) (t : FlatState) → AreSameStates d.families s t → AllZip (IsSameClaim text sizes s t) (claims_of raw.items) (claims_met d.met)
 
   -- the values for the parameters of a claim
-  abbrev types : Claimed → List (List Value)
+  abbrev pub types : Claimed → List (List Value)
   types c = map (λ ((name, over) : Name × TypeExpr). values_of_type d.types sizes over) c.params
 
   module _ (claims : ClaimsAreSame) (same : (s : State) → (t : FlatState) × AreSameStates d.families s t) (hold : UnitsHold f) (are : flat.AreSizes (names_of f) sizes)

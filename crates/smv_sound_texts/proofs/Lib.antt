@@ -6,3 +6,8 @@ pub mod Claims
 pub mod Maps
 pub mod SoundTexts
 pub mod WorkedTexts
+pub mod AgreeingLayers
+pub mod TextSizes
+pub mod DesignClaims
+pub mod DesignMaps
+pub mod SoundDesigns

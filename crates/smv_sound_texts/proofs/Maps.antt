@@ -1,5 +1,5 @@
 -- Maps that hold in the design hold in the text.
-use Rattle.std.proofs.Common.{◌≡◌, ℕ, List, [], ◌∷◌, length, Option, Some, None, Bool, true, false, not, ◌&&◌, nat_eq, refl, sym, ap, subst, ◌∙◌, ◌⊎◌, inl, inr, slice_get, option_map, option_to_list, All, Contains, arith}
+use Rattle.std.proofs.Common.{◌≡◌, ℕ, List, [], ◌∷◌, length, Option, Some, None, Bool, true, false, not, nat_eq, refl, sym, ap, subst, ◌∙◌, inl, inr, slice_get, option_to_list, All, Contains, arith}
 use Rattle.std.specs.List.{AllZip, list_all, list_any}
 use Rattle.smv_core.specs.Values.{Name, Value, Sizes, values_of}
 use Rattle.smv_core.specs.Types.{Family}

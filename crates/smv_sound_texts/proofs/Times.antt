@@ -33,6 +33,15 @@ module _ (families : List Family) (Typed : State → Type 0) (P : Option State �
     at-each-time (Some s) (Some t) same.0 run ts same.1 (λ s k. typed s (later k)) (right_of (D fore t) (always D (Some t) ts) h),
   )
 
+module _ (families : List Family) (P : Option State → State → Type 0) (D : Demand FlatState)
+    (gives : (before : Option State) (fore : Option FlatState) → AreSameBefore families before fore → (s : State) (t : FlatState) → AreSameStates families s t → P before s → D fore t ≡ true) where
+  -- what holds of each time it gives as a demand of states that are the same
+  pub always-from : (before : Option State) (fore : Option FlatState) → AreSameBefore families before fore → (run : List State) (ts : List FlatState) → AllZip (AreSameStates families) run ts → AtEachTime P before run → always D fore ts ≡ true
+  always-from before fore b [] [] same h = refl
+  always-from before fore b [] (t ∷ ts) same h = elim same [ ]
+  always-from before fore b (s ∷ run) [] same h = elim same [ ]
+  always-from before fore b (s ∷ run) (t ∷ ts) same h = both_true _ _ (gives before fore b s t same.0 h.0) (always-from (Some s) (Some t) same.0 run ts same.1 h.1)
+
 -- ---- choices
 
 pub one-choices : (xs : List (List Value)) → one_of_each xs ≡ choices xs

@@ -1,10 +1,9 @@
 -- By computing the units of the worked text and of its design, and what the map allows.
-use Rattle.std.proofs.Common.{◌≡◌, ℕ, zero, suc, List, [], ◌∷◌, Some, None, true, false, All, Contains, refl, arith, slice_get, codes, subst}
+use Rattle.std.proofs.Common.{◌≡◌, zero, suc, [], ◌∷◌, None, false, All, Contains, refl, arith, codes, subst}
 use Rattle.smv_core.specs.FlatOrder.{design_of}
-use Rattle.smv_core.specs.Values.{Value, Sizes, number}
+use Rattle.smv_core.specs.Values.{Sizes, number}
 use Rattle.smv_core.specs.Types.{IsSizedTop}
-use Rattle.smv_core.specs.Outcome.{State}
-use Rattle.smv_core.specs.Sound.{ProofUnit, map_of, units, instances, Holds, AtEachTime, AreSizes, IsSound}
+use Rattle.smv_core.specs.Sound.{map_of, instances, Holds, AtEachTime, IsSound}
 use Rattle.smv_core.specs.Flat.{FlatState, values_in}
 use Rattle.smv_core.specs.declared.flat.Design.{Design}
 use Rattle.smv_core.specs.declared.flat.Family.{Family}
@@ -24,7 +23,7 @@ use Rattle.smv_sound_texts.specs.Carried.{UnitsHold}
 use Rattle.smv_sound_texts.specs.WorkedTexts.{HasOneMap, HoldsInNeither}
 
 -- what it computes with
-unfoldable computing : Unit {0}
+unfoldable pub computing : Unit {0}
 unfolding Rattle.smv_core.specs.declared.tree.Expr.TheBlock.hidden-the_row-Part-0 Rattle.smv_core.specs.declared.tree.Expr.TheBlock.shape-the_row-Part-0 Rattle.smv_core.specs.declared.tree.Stmt.TheBlock.hidden-the_row-Stmt-0 Rattle.smv_core.specs.declared.tree.Stmt.TheBlock.shape-the_row-Stmt-0 Rattle.smv_core.specs.declared.tree.Item.TheBlock.hidden-the_row-Item-0 Rattle.smv_core.specs.declared.tree.Item.TheBlock.shape-the_row-Item-0 Rattle.smv_core.specs.declared.flat.FlatStmt.TheBlock.hidden-the_row-FlatStmt-0 Rattle.smv_core.specs.declared.flat.FlatStmt.TheBlock.shape-the_row-FlatStmt-0 Rattle.smv_core.specs.declared.flat.Flat.TheBlock.hidden-the_row-Flat-0 Rattle.smv_core.specs.declared.flat.Flat.TheBlock.shape-the_row-Flat-0 denote.Hole.Carrier.hidden
 computing = tt
 
@@ -35,7 +34,7 @@ has_one_map = (refl, refl)
 one_each : Sizes
 one_each name = 1
 
-all-one : {X : Type 0} (P : X → Type 0) (x : X) → P x → All P (x ∷ [])
+pub all-one : {X : Type 0} (P : X → Type 0) (x : X) → P x → All P (x ∷ [])
 all-one P x h zero d l = h
 all-one P x h (suc k) d l = absurd (omega (arith, l))
 
@@ -64,7 +63,7 @@ d = design_of_raw (flatten two_layers)
 
 is_run : flat.IsRun (at_sizes (names_of d) one_each) (bases d) (one_there ∷ [])
 unfolding computing one_there
-is_run = record { are_typed = λ t m. typed t m; keeps_base = refl; }
+is_run = record { are_typed = λ t m. typed t m; keeps_base = refl }
   where
     typed : (t : FlatState) → Has (one_there ∷ []) t → flat.IsTyped (at_sizes (names_of d) one_each) t
     typed _ first zero g e vs i = subst (λ (g : Family). Has (values_in (at_sizes (names_of d) one_each) g.value) (number 1)) (inner e) (later first)

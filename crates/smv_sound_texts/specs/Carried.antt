@@ -1,5 +1,5 @@
 -- What is carried from a text to its design, and from the design to the text.
-use Rattle.std.specs.Prelude.{◌≡◌, List, length}
+use Rattle.std.specs.Prelude.{◌≡◌, ◌<◌, List, length}
 use Rattle.std.specs.List.{AllZip}
 use Rattle.smv_core.specs.Values.{Sizes}
 use Rattle.smv_core.specs.FlatOrder.{design_of}
@@ -25,6 +25,11 @@ use Rattle.smv_checked.specs.Whole.{HasSplits}
 abbrev pub RunsAreCarried : Text → Type 0
 RunsAreCarried text = (sizes : Sizes) (run : List State) → tree.IsRun (design_of text) sizes run → let d = design_of_raw (flatten text) in
     (flat_run : List FlatState) × AllZip (AreSameStates (design_of text).families) run flat_run × IsRun (at_sizes (names_of d) sizes) (bases d) flat_run
+
+-- and each run of its design that is not empty is such a run of the text
+abbrev pub RunsAreCarriedBack : Text → Type 0
+RunsAreCarriedBack text = (sizes : Sizes) (flat_run : List FlatState) → 0 < length flat_run → let d = design_of_raw (flatten text) in IsRun (at_sizes (names_of d) sizes) (bases d) flat_run →
+    (run : List State) × AllZip (AreSameStates (design_of text).families) run flat_run × tree.IsRun (design_of text) sizes run
 
 -- every instance of every unit of a design holds at every time of every run, for all sizes
 abbrev pub UnitsHold : Design → Type 0

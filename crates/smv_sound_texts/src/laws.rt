@@ -9,13 +9,14 @@ ghost use Rattle.smv_single.specs.SingleFaults.{first_fault_of_single};
 ghost use Rattle.smv_oblig.specs.Outlines.{Script, outline_of};
 ghost use Rattle.smv_oblig.specs.Checked as script;
 ghost use Rattle.smv_delay.specs.FirstFault.{first_fault_of_design};
-ghost use Rattle.smv_sound_texts.specs.Carried.{HasProof, RunsAreCarried, UnitsHold, outlined};
-ghost use Rattle.smv_sound_texts.specs.WorkedTexts.{HasOneMap, HoldsInNeither};
+ghost use Rattle.smv_sound_texts.specs.Carried.{HasProof, RunsAreCarried, RunsAreCarriedBack, UnitsHold, outlined};
+ghost use Rattle.smv_sound_texts.specs.WorkedTexts.{HasOneMap, HoldsInBoth, HoldsInNeither};
 
 use smv_behaviours::laws::layers_are_same;
 use smv_checked::laws::scripts_are_checked;
+use smv_exact::laws::left_sides_are_exact;
 use smv_extend::laws::families_are_found;
-use smv_flat::laws::families_are_the_same;
+use smv_flat::laws::{families_are_the_same, statements_are_the_same};
 use smv_oblig::laws::proved_is_sound;
 use smv_right::laws::{
     allowed_values_are_the_same, claims_are_the_same, expressions_are_right,
@@ -35,6 +36,20 @@ pub fn runs_of_texts_are_runs_of_designs()
     definitions_allow_as_the_text();
 }
 
+/// And each run of its design that is not empty is one of the text.
+pub fn runs_of_designs_are_runs_of_texts()
+    ensures { (text : Text) → IsWellKinded text → first_fault_of_design (design_of_raw (flatten text)) ≡ None → RunsAreCarriedBack text }
+{
+    layers_are_same();
+    families_are_the_same();
+    families_are_found();
+    spelled_texts_are_written();
+    expressions_are_right();
+    definitions_allow_as_the_text();
+    what_has_no_definition_is_free();
+    allowed_values_are_the_same();
+}
+
 /// So each unit of the text holds at each time of each of its runs, for all sizes, where each unit of the design does.
 pub fn sound_designs_are_sound_texts()
     ensures { (text : Text) → IsWellKinded text → first_fault_of_design (design_of_raw (flatten text)) ≡ None → UnitsHold (design_of_raw (flatten text)) → IsSound text }
@@ -50,7 +65,23 @@ pub fn sound_designs_are_sound_texts()
     claims_are_the_same();
 }
 
-/// And where a script of the design with all its units is sound.
+/// And each unit of the design holds, where each unit of the text does.
+pub fn sound_texts_are_sound_designs()
+    ensures { (text : Text) → IsWellKinded text → first_fault_of_design (design_of_raw (flatten text)) ≡ None → IsSound text → UnitsHold (design_of_raw (flatten text)) }
+{
+    runs_of_designs_are_runs_of_texts();
+    layers_are_same();
+    left_sides_are_exact();
+    families_are_the_same();
+    families_are_found();
+    statements_are_the_same();
+    spelled_texts_are_written();
+    expressions_are_right();
+    definitions_allow_as_the_text();
+    claims_are_the_same();
+}
+
+/// A text is sound where a script of its design with all the units is.
 pub fn sound_scripts_are_sound_texts()
     ensures { (text : Text) → IsWellKinded text → first_fault_of_design (design_of_raw (flatten text)) ≡ None → (s : Script) → outline_of s ≡ outlined (design_of_raw (flatten text)) → script.IsSound s → IsSound text }
 {
@@ -67,8 +98,10 @@ pub fn proved_texts_are_sound()
     proved_is_sound();
 }
 
-/// Of two layers that define an abstract signal the second is the one unit of the text and of its design, and where it says another value than the first it holds in neither.
+/// Of two layers that define an abstract signal the second is the one unit of the text and of its design. Where it says another value than the first it holds in neither,
+/// and where it says the same value in both.
 pub fn worked_texts()
     ensures units { HasOneMap }
-    ensures runs { HoldsInNeither }
+    ensures differing { HoldsInNeither }
+    ensures agreeing { HoldsInBoth }
 {}
