@@ -28,10 +28,15 @@ pub struct Typed {
 
 impl Model for Typed {
     ghost use Rattle.std.specs.Prelude.{◌≡◌, true};
+    ghost use Rattle.std.specs.Coded.{codes};
     ghost use Rattle.smv_core.specs.declared.flat.Raw.{Raw};
+    ghost use Rattle.smv_core.specs.contracts.flat.FlatExpr as expr;
+    ghost use Rattle.smv_core.specs.contracts.flat.FlatStmt as stmt;
     ghost use Rattle.smv_typed.specs.FlatKinds.{is_kinded};
 
     ghost Value = { Raw };
+
+    ghost coded = { Prim.hlevel (codes, expr.the_row.coded, stmt.the_row.coded) };
 
     ghost view = { λ typed. typed.raw };
 
