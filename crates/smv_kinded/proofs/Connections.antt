@@ -1,7 +1,7 @@
 -- In an instance: its binders, its items and the connections of the instances in it keep the kinds of the flattened text.
 use Rattle.std.proofs.lemmas.Bool.{and_from}
 use Rattle.smv_right.proofs.Opening.{opening}
-use Rattle.std.proofs.Common.{◌≡◌, ℕ, List, [], ◌∷◌, ◌++◌, map, flat_map, length, zip, slice_get, Option, Some, None, is_some, Bool, true, false, cond, ◌&&◌, refl, sym, ap, ◌∙◌, subst, append_assoc, arith}
+use Rattle.std.proofs.Common.{◌≡◌, ℕ, List, [], ◌∷◌, ◌++◌, map, flat_map, length, zip, slice_get, Option, Some, None, is_some, Bool, true, cond, refl, sym, ap, ◌∙◌, subst, append_assoc, arith}
 use Rattle.std.specs.List.{AllByRecursion, list_all}
 use Rattle.smv_core.specs.Values.{Name, Path}
 use Rattle.smv_core.specs.Types.{find_name}

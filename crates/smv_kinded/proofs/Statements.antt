@@ -1,7 +1,7 @@
 -- In a module a statement without faults keeps the kinds of the flattened text.
 use Rattle.std.proofs.lemmas.Bool.{and_from}
 use Rattle.smv_right.proofs.Opening.{opening}
-use Rattle.std.proofs.Common.{◌≡◌, ℕ, List, [], ◌∷◌, ◌++◌, map, flat_map, length, slice_get, Option, Some, is_some, Bool, true, ◌&&◌, refl, ap, ◌∙◌, subst}
+use Rattle.std.proofs.Common.{◌≡◌, ℕ, List, [], ◌∷◌, ◌++◌, map, flat_map, length, slice_get, Option, Some, is_some, Bool, true, refl, ap, ◌∙◌, subst}
 use Rattle.std.specs.List.{list_all}
 use Rattle.smv_core.specs.Walk.{indexes_of, steps_of}
 use Rattle.smv_core.specs.Outcome.{fields_of}

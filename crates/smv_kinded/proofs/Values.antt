@@ -1,6 +1,6 @@
 -- In a module the right sides, labels and left sides without faults have kinds in the flattened text.
 use Rattle.smv_right.proofs.Opening.{opening}
-use Rattle.std.proofs.Common.{◌≡◌, ℕ, List, [], ◌∷◌, ◌++◌, map, flat_map, Some, None, true, cond, ◌&&◌, refl, ap, ◌∙◌}
+use Rattle.std.proofs.Common.{◌≡◌, List, [], ◌∷◌, ◌++◌, map, flat_map, Some, None, true, cond, ◌&&◌, refl, ap, ◌∙◌}
 use Rattle.smv_core.specs.Assignments.{Around, any}
 use Rattle.smv_core.specs.declared.tree.Word.{Word}
 use Rattle.smv_core.specs.declared.tree.Expr.{Expr, Number, Signal', Not', And', Or', Implies', Iff', Compare', Within', Sum', Modulo', Choose', All', Any', List', Each', Held-Expr-Each-2, None', Some', end_of-Expr, more_of-Expr, Row_of-Member, end_of-Member, more_of-Member}
