@@ -1,6 +1,7 @@
 -- In an instance: its binders, its items and the connections of the instances in it keep the kinds of the flattened text.
+use Rattle.std.proofs.lemmas.Bool.{and_from}
 use Rattle.smv_right.proofs.Opening.{opening}
-use Rattle.std.proofs.Common.{◌≡◌, ℕ, List, [], ◌∷◌, ◌++◌, map, flat_map, length, zip, slice_get, Option, Some, None, is_some, Bool, true, false, cond, ◌&&◌, refl, sym, ap, ◌∙◌, subst, append_assoc, arith}
+use Rattle.std.proofs.Common.{◌≡◌, ℕ, List, [], ◌∷◌, ◌++◌, map, flat_map, length, zip, slice_get, Option, Some, None, is_some, Bool, true, cond, refl, sym, ap, ◌∙◌, subst, append_assoc, arith}
 use Rattle.std.specs.List.{AllByRecursion, list_all}
 use Rattle.smv_core.specs.Values.{Name, Path}
 use Rattle.smv_core.specs.Types.{find_name}
@@ -42,28 +43,18 @@ use Rattle.smv_right.proofs.Statements.{mapped-length}
 use Rattle.smv_right.proofs.OwnFamilies.{own_in, role-same, input-simple, output-simple}
 use Rattle.smv_right.proofs.Entries.{indexes-written, chosen-fine}
 use Rattle.smv_right.proofs.LeftSides.{types, bodies, scope_of, IsModuleHere}
+use Rattle.smv_extend.proofs.Lists.{left_of}
 use Rattle.smv_kinded.proofs.Relation.{HasKind, takes-kept, number-kept, indexes-kept}
 use Rattle.smv_kinded.proofs.Boxes.{kind-Read, keeps-Forall}
-use Rattle.smv_kinded.proofs.Variables.{AreApart, SignalsAreKinded, ConstantsAreKinded, IndexesAreKinded, AreVars, kinds_bound, inside-same, binder-kinded}
+use Rattle.smv_kinded.proofs.Variables.{nothing-behind, AreApart, SignalsAreKinded, ConstantsAreKinded, IndexesAreKinded, AreVars, kinds_bound, inside-same, binder-kinded}
 use Rattle.smv_kinded.proofs.Expressions.{expression-kinded, bound-vars}
 use Rattle.smv_kinded.proofs.Values.{value-kinded, are-kinded}
 use Rattle.smv_kinded.proofs.Statements.{statement-keeps, assign-keeps}
 use Rattle.smv_kinded.proofs.Families.{FoundAs}
 
-both-true : (a b : Bool) → a ≡ true → b ≡ true → (a && b) ≡ true
-both-true a b e f = rw (e, f) refl
-
-left-true : (a b : Bool) → (a && b) ≡ true → a ≡ true
-left-true true b e = refl
-left-true false b e = absurd (cc (e))
-
 none-taken : (ks : List Kind) → length ks ≡ 0 → flat_map (λ (kind, e). takes kind e) (zip ks []) ≡ []
 none-taken [] e = refl
 none-taken (k ∷ ks) e = absurd (omega (arith, e))
-
-nothing-behind : {X : Type 0} (xs : List X) → xs ≡ xs ++ []
-nothing-behind [] = refl
-nothing-behind (x ∷ xs) = ap (λ l. x ∷ l) (nothing-behind xs)
 
 module _ (text : Text) where
   abbrev scope_at : Path → Scope
@@ -99,8 +90,8 @@ module _ (text : Text) where
   unfolding computing
   inside-keeps var over fv around b (layer name) h = tt
   inside-keeps var over fv around b (statement x) h =
-      keeps-Forall (flatten text) fv (bound_in around) (flat_over (scope_at x.instance) over) (flat_stmt (scope_at x.instance) ((var.name, any) ∷ around) x.act) ∙ both-true _ _ b h
-  inside-keeps var over fv around b (goal instance binders g) h = (both-true _ _ b h.0, h.1)
+      keeps-Forall (flatten text) fv (bound_in around) (flat_over (scope_at x.instance) over) (flat_stmt (scope_at x.instance) ((var.name, any) ∷ around) x.act) ∙ and_from _ _ b h
+  inside-keeps var over fv around b (goal instance binders g) h = (and_from _ _ b h.0, h.1)
 
   module _ (m : Module) (here : Path) (signals : SignalsAreKinded (flatten text) (scope_of text m) (scope_in text here)) (named : ConstantsAreKinded (flatten text) (scope_of text m) (scope_in text here)) (over_kinded : IndexesAreKinded (flatten text) (scope_of text m) (scope_in text here)) where
     abbrev bound : Vars → Around → typed.Vars
@@ -120,7 +111,7 @@ module _ (text : Text) where
     pairs-keep words vars around same (pair ∷ pairs) written apart fine =
         let both = empty-both (operand (scope_of text m) vars pair.left).faults (flat_map (λ (pair : Pair). (operand (scope_of text m) vars pair.left).faults) pairs) fine in
         let own = expression-kinded (flatten text) (scope_of text m) (scope_at here) signals named over_kinded words vars around same pair.left written.0 (each-front _ (said.in_expr words pair.left) (flat_map (λ (pair : Pair). said.in_expr words pair.left) pairs) apart) both.0 in
-        both-true _ _ (ap is_some own.0) (pairs-keep words vars around same pairs written.1 (each-behind _ (said.in_expr words pair.left) (flat_map (λ (pair : Pair). said.in_expr words pair.left) pairs) apart) both.1)
+        and_from _ _ (ap is_some own.0) (pairs-keep words vars around same pairs written.1 (each-behind _ (said.in_expr words pair.left) (flat_map (λ (pair : Pair). said.in_expr words pair.left) pairs) apart) both.1)
 
     module _ (inside_entries : Path → Name → List Entry) where
       abbrev AllKeep : Vars → Around → List Entry → Type 0
@@ -135,9 +126,9 @@ module _ (text : Text) where
         inner-keeps words vars around same (Layer name acts at) written apart fine = absurd written
         inner-keeps words vars around same (item.Forall' var over shape (more_of-Item part end_of-Item) at) written apart fine =
             let both = empty-both (index_faults m.types over) (in_item (scope_of text m) (bind (scope_of text m) vars var over) part) fine in
-            let more : Bind (bind (scope_of text m) vars var over) ((var.name, any) ∷ around) = bound-vars (flatten text) (scope_of text m) (scope_at here) signals named over_kinded words vars around same var over written.1 both.0 apart.0 in
+            let more : Bind (bind (scope_of text m) vars var over) ((var.name, any) ∷ around) = bound-vars (flatten text) (scope_of text m) (scope_at here) signals named over_kinded vars around same var over written.1 both.0 apart.0 in
             let binder : is_binder (flatten text) (bound vars around) (bound_in around) (flat_over (scope_at here) over) ≡ true =
-            left-true (is_binder (flatten text) (bound vars around) (bound_in around) (flat_over (scope_at here) over)) true (binder-kinded (flatten text) (scope_of text m) (scope_at here) over_kinded vars around same over written.1 both.0 (λ fv. true) refl) in
+            left_of (is_binder (flatten text) (bound vars around) (bound_in around) (flat_over (scope_at here) over)) true (binder-kinded (flatten text) (scope_of text m) (scope_at here) over_kinded vars around same over written.1 both.0 (λ fv. true) refl) in
             let inner : AllKeep (bind (scope_of text m) vars var over) ((var.name, any) ∷ around) (item_entries (types text) (bodies text) inside_entries here part) =
             inner-keeps (words ++ var ∷ []) (bind (scope_of text m) vars var over) ((var.name, any) ∷ around) more part written.0 (each-behind _ (said.in_type over) (said.in_item (words ++ var ∷ []) part) apart.1) both.1 in
             each-map (EntryKeeps (inside (bound vars around) (flat_over (scope_at here) over)) ((var.name, any) ∷ around)) (EntryKeeps (bound vars around) around) (inside_binder var over) (inside-keeps var over (bound vars around) around binder) (item_entries (types text) (bodies text) inside_entries here part)

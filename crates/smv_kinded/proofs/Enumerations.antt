@@ -45,7 +45,7 @@ full-path vars [] ms h = h
 full-path vars (At index ∷ parts) ms h = h
 full-path vars (Field word ∷ parts) ms h = h
 
-names-one : (words : List Word) → HasOne words → HasOne (names_of words)
+pub names-one : (words : List Word) → HasOne words → HasOne (names_of words)
 names-one [] h = h
 names-one (word ∷ words) h = tt
 
@@ -214,7 +214,7 @@ different-each : {X : Type 0} (P : X → Type 0) (same : X → X → Bool) (xs :
 different-each P same [] h = tt
 different-each P same (x ∷ xs) h = (h.0, filter-each P (λ y. not (same x y)) (different same xs) (different-each P same xs h.1))
 
-one-length : (names : List Name) → HasOne names → nat_lt 0 (length names) ≡ true
+pub one-length : {X : Type 0} (xs : List X) → HasOne xs → nat_lt 0 (length xs) ≡ true
 one-length [] h = absurd h
 one-length (x ∷ xs) h = let some : 0 < length (x ∷ xs) = omega arith in lt-ltb 0 (length (x ∷ xs)) some
 

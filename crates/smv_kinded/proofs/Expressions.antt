@@ -61,17 +61,13 @@ above-zero n e = lt-ltb 0 n (grind (arith, eqb-false n 0 e))
 
 module _ (raw : Raw) (scope : kinds.Scope) (flat : Scope) (signals : SignalsAreKinded raw scope flat) (named : ConstantsAreKinded raw scope flat) (over_kinded : IndexesAreKinded raw scope flat) where
   -- a whole signal is an element of its family
-  read-kinded : (parts : List Part) (w : Whole) → signal_at scope parts ≡ Some w → (at : ℕ) (os : List Operand) → length (indexes_of parts) ≡ length os → (reference at (Some w) os).faults ≡ [] →
+  pub read-kinded : (parts : List Part) (w : Whole) → signal_at scope parts ≡ Some w → (at : ℕ) (os : List Operand) → length (indexes_of parts) ≡ length os → (reference at (Some w) os).faults ≡ [] →
       (found : List (Option typed.Kind)) → HaveKinds flat found os → HasKind flat (typed.element (slice_get raw.families (family_number flat (flat.instance ++ fields_of parts))) found) w.value
   unfolding opening
   read-kinded parts w h at os count fine found given =
       let s = signals parts w h in
       let each : typed.take_each s.1.over found ≡ true = indexes-kept flat s.1.over w.over s.4 os found given (s.7 ∙ count) fine in
       (ap (λ f. typed.element f found) s.3 ∙ ap (λ b. cond b (Some (kind_of s.1.value)) None) each ∙ ap Some s.5, s.6)
-
-  pub target-kinded : (parts : List Part) (w : Whole) → signal_at scope parts ≡ Some w → (at : ℕ) (os : List Operand) → length (indexes_of parts) ≡ length os → (reference at (Some w) os).faults ≡ [] →
-      (found : List (Option typed.Kind)) → HaveKinds flat found os → HasKind flat (typed.element (slice_get raw.families (family_number flat (flat.instance ++ fields_of parts))) found) w.value
-  target-kinded parts w h at os count fine found given = read-kinded parts w h at os count fine found given
 
   -- what a path is, where it is a variable, a signal or a constant
   abbrev Plain : Vars → Around → FlatExpr → Kind → Type 0
@@ -166,9 +162,9 @@ module _ (raw : Raw) (scope : kinds.Scope) (flat : Scope) (signals : SignalsAreK
       (path-kinded vars around same (items-the_row-Part m parts) at r.0 r.1 (flat_indexes flat around parts) (indexes scope vars parts) (each (r.2 (reference-length vars around same (items-the_row-Part m parts) r.0 r.1 ∙ count))) count whole)
 
   -- the variables inside a binder
-  pub bound-vars : (words : List Word) (vars : Vars) (around : Around) → AreVars raw scope flat vars around → (var : Word) (over : TypeExpr) → IsIndexType over → index_faults scope.here.types over ≡ [] → IsFree raw scope flat var.name →
+  pub bound-vars : (vars : Vars) (around : Around) → AreVars raw scope flat vars around → (var : Word) (over : TypeExpr) → IsIndexType over → index_faults scope.here.types over ≡ [] → IsFree raw scope flat var.name →
       AreVars raw scope flat (bind scope vars var over) ((var.name, any) ∷ around)
-  bound-vars words vars around same var over index fine free = (refl, (over_kinded over index fine).2, free, same)
+  bound-vars vars around same var over index fine free = (refl, (over_kinded over index fine).2, free, same)
 
   reduced-part : (vars : Vars) (around : Around) → AreVars raw scope flat vars around → (body : Expr) (var : Word) (over : TypeExpr) → IsIndexType over → index_faults scope.here.types over ≡ [] → HasItsKind (bind scope vars var over) ((var.name, any) ∷ around) body →
       takes_number (operand scope (bind scope vars var over) body) ≡ [] →
@@ -235,13 +231,13 @@ module _ (raw : Raw) (scope : kinds.Scope) (flat : Scope) (signals : SignalsAreK
     expression-kinded words vars around same (All' shape (more_of-Expr body end_of-Expr) var over at) written apart fine =
         let both = empty-both (takes_number (operand scope (bind scope vars var over) body)) (index_faults scope.here.types over) fine in
         let rest = said.binder_in words var ∷ said.in_type over in
-        let bound : AreVars raw scope flat (bind scope vars var over) ((var.name, any) ∷ around) = bound-vars words vars around same var over written.1 both.1 (each-behind (IsApart scope.here.own scope.constants) (said.in_expr (words ++ var ∷ []) body) rest apart).0 in
+        let bound : AreVars raw scope flat (bind scope vars var over) ((var.name, any) ∷ around) = bound-vars vars around same var over written.1 both.1 (each-behind (IsApart scope.here.own scope.constants) (said.in_expr (words ++ var ∷ []) body) rest apart).0 in
         let own : HasItsKind (bind scope vars var over) ((var.name, any) ∷ around) body = expression-kinded (words ++ var ∷ []) (bind scope vars var over) ((var.name, any) ∷ around) bound body written.0 (each-front _ (said.in_expr (words ++ var ∷ []) body) rest apart) (number-fine _ both.0) in
         (kind-All raw (kinds_bound raw scope flat vars around) (flat_expr flat ((var.name, any) ∷ around) body) (bound_in around) (flat_over flat over) at ∙ ap number_if (reduced-part vars around same body var over written.1 both.1 own both.0), tt)
     expression-kinded words vars around same (Any' shape (more_of-Expr body end_of-Expr) var over at) written apart fine =
         let both = empty-both (takes_number (operand scope (bind scope vars var over) body)) (index_faults scope.here.types over) fine in
         let rest = said.binder_in words var ∷ said.in_type over in
-        let bound : AreVars raw scope flat (bind scope vars var over) ((var.name, any) ∷ around) = bound-vars words vars around same var over written.1 both.1 (each-behind (IsApart scope.here.own scope.constants) (said.in_expr (words ++ var ∷ []) body) rest apart).0 in
+        let bound : AreVars raw scope flat (bind scope vars var over) ((var.name, any) ∷ around) = bound-vars vars around same var over written.1 both.1 (each-behind (IsApart scope.here.own scope.constants) (said.in_expr (words ++ var ∷ []) body) rest apart).0 in
         let own : HasItsKind (bind scope vars var over) ((var.name, any) ∷ around) body = expression-kinded (words ++ var ∷ []) (bind scope vars var over) ((var.name, any) ∷ around) bound body written.0 (each-front _ (said.in_expr (words ++ var ∷ []) body) rest apart) (number-fine _ both.0) in
         (kind-Any raw (kinds_bound raw scope flat vars around) (flat_expr flat ((var.name, any) ∷ around) body) (bound_in around) (flat_over flat over) at ∙ ap number_if (reduced-part vars around same body var over written.1 both.1 own both.0), tt)
     expression-kinded words vars around same (List' shape members at) written apart fine = absurd (cc (fine))

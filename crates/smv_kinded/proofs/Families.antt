@@ -1,9 +1,9 @@
 -- The families of a text without faults have types that break no rule, and so have binders.
 use Rattle.smv_right.proofs.Opening.{opening}
-use Rattle.std.proofs.Common.{◌≡◌, ℕ, zero, suc, ◌<◌, ◌≤◌, List, [], ◌∷◌, ◌++◌, map, flat_map, length, get_or, slice_get, Option, Some, None, unwrap_or, Bool, true, false, cond, ◌&&◌, ◌||◌, All, nat_lt, nat_le, refl, sym, ap, ◌∙◌, subst, arith}
+use Rattle.std.proofs.Common.{◌≡◌, ℕ, zero, suc, ◌<◌, ◌≤◌, List, [], ◌∷◌, ◌++◌, map, flat_map, length, get_or, slice_get, Option, Some, None, unwrap_or, Bool, true, false, cond, ◌||◌, All, nat_lt, nat_le, refl, sym, ap, ◌∙◌, subst, arith}
 use Rattle.std.specs.Str.{bytes_eq}
 use Rattle.std.specs.List.{AllByRecursion, list_all, position_or_len}
-use Rattle.std.proofs.lemmas.Bool.{le-leb, lt-ltb, ltb-false, or_parts}
+use Rattle.std.proofs.lemmas.Bool.{and_from, le-leb, lt-ltb, ltb-false, or_parts}
 use Rattle.smv_core.specs.Values.{Name, Path, Simple, range, choice, scalarset, ordset, Sizes}
 use Rattle.smv_core.specs.Types as tree
 use Rattle.smv_core.specs.Types.{Family, Shape, find_name, names_of, simple, simple_of, shape_of, shape_of_fields, shape_or_none, one_value, array_of, indexed, behind, types_from}
@@ -42,6 +42,7 @@ use Rattle.smv_right.proofs.Somewhere.{Somewhere, somewhere-place}
 use Rattle.smv_right.proofs.LeadTypes.{kind_of, IsFamilyAt, AreCovered, single-covers, single-counts, leads-count, leads-cover, index-simple, some-same, not-false}
 use Rattle.smv_right.proofs.Modules.{AreModules, AreFound, modules-found, AreTypes, types-append, types-count, types-found}
 use Rattle.smv_extend.specs.TextExtension.{FamiliesAreFound}
+use Rattle.smv_kinded.proofs.Enumerations.{names-one, one-length}
 use Rattle.smv_kinded.proofs.Relation.{IsKind, flat_kind, AreOfKinds}
 
 -- ---- the kinds of types
@@ -107,10 +108,6 @@ AreFit shape = AllByRecursion FamilyIsFit shape
 
 abbrev pub TableIsFit : tree.Types → Type 0
 TableIsFit types = AllByRecursion (λ (name, shape). AreFit shape) types
-
-names-one : (words : List Word) → HasOne words → HasOne (names_of words)
-names-one [] h = h
-names-one (word ∷ words) h = tt
 
 pub range-fit : (span : Span) (at : ℕ) → range_faults span at ≡ [] → IsFit (range span.low span.high)
 range-fit span at h =
@@ -248,17 +245,10 @@ module _ (all_modules : List (Name × Module)) (constants : List (Name × Consta
 
 -- ---- the flattened text
 
-one-length : {X : Type 0} (xs : List X) → HasOne xs → nat_lt 0 (length xs) ≡ true
-one-length [] h = absurd h
-one-length (x ∷ xs) h = let some : 0 < length (x ∷ xs) = omega arith in lt-ltb 0 (length (x ∷ xs)) some
-
 get-below : {X : Type 0} (xs : List X) (k : ℕ) (x : X) → slice_get xs k ≡ Some x → k < length xs
 get-below [] k x e = absurd (cc (e))
 get-below (y ∷ xs) zero x e = omega arith
 get-below (y ∷ xs) (suc k) x e = let rest = get-below xs k x e in omega (arith, rest)
-
-both-true : (a b : Bool) → a ≡ true → b ≡ true → (a && b) ≡ true
-both-true a b e f = rw (e, f) refl
 
 abbrev names_in : Simple → List Name
 names_in (choice names) = names
@@ -278,7 +268,7 @@ module _ (text : Text) (sizes : Sizes) (here : Path) where
       by_found (Some info) e h = lt-ltb k (length (flatten text).sets) (get-below (flatten text).sets k info e)
 
   pub type-kept : (t : Simple) → IsFit t → IsNumbered (scope_in text here) (numbers_in text sizes) t → is_type (flatten text) (flat_simple (scope_in text here) t) ≡ true
-  type-kept (range low high) fit n = both-true (nat_le low high) (nat_le high 255) (le-leb low high fit.0) (le-leb high 255 fit.1)
+  type-kept (range low high) fit n = and_from (nat_le low high) (nat_le high 255) (le-leb low high fit.0) (le-leb high 255 fit.1)
   type-kept (choice names) fit n =
       let same : names ≡ get_or (flatten text).enums (position_or_len (same_path names) (flatten text).enums) [] = sym (ap names_in n) in
       one-length (get_or (flatten text).enums (position_or_len (same_path names) (flatten text).enums) []) (subst HasOne same fit)
@@ -303,13 +293,13 @@ module _ (text : Text) (sizes : Sizes) (here : Path) where
   indexes-kept : (over : List Simple) → AllByRecursion IsIndexFit over → All (IsNumbered (scope_in text here) (numbers_in text sizes)) over → list_all (is_index_type (flatten text)) (map (flat_simple (scope_in text here)) over) ≡ true
   indexes-kept [] fit n = refl
   indexes-kept (t ∷ over) fit n =
-      both-true (is_index_type (flatten text) (flat_simple (scope_in text here) t)) (list_all (is_index_type (flatten text)) (map (flat_simple (scope_in text here)) over))
+      and_from (is_index_type (flatten text) (flat_simple (scope_in text here) t)) (list_all (is_index_type (flatten text)) (map (flat_simple (scope_in text here)) over))
       (index-kept t fit.0 (all-head (IsNumbered (scope_in text here) (numbers_in text sizes)) t over n)) (indexes-kept over fit.1 (all-tail (IsNumbered (scope_in text here) (numbers_in text sizes)) t over n))
 
   pub families-kept : (placed : List (Family × ℕ)) → AreFit (map (λ (f, at). f) placed) → All (HasNumbers (scope_in text here) (numbers_in text sizes)) (map (λ (f, at). f) placed) → list_all (is_kinded_family (flatten text)) (map (flat_family (scope_in text here)) placed) ≡ true
   families-kept [] fit n = refl
   families-kept ((f, at) ∷ placed) fit n =
       let own = all-head (HasNumbers (scope_in text here) (numbers_in text sizes)) f (map (λ (f, at). f) placed) n in
-      both-true (is_kinded_family (flatten text) (flat_family (scope_in text here) (f, at))) (list_all (is_kinded_family (flatten text)) (map (flat_family (scope_in text here)) placed))
-      (both-true (list_all (is_index_type (flatten text)) (map (flat_simple (scope_in text here)) f.over)) (is_type (flatten text) (flat_simple (scope_in text here) f.value)) (indexes-kept f.over fit.0.1 own.1) (type-kept f.value fit.0.0 own.0))
+      and_from (is_kinded_family (flatten text) (flat_family (scope_in text here) (f, at))) (list_all (is_kinded_family (flatten text)) (map (flat_family (scope_in text here)) placed))
+      (and_from (list_all (is_index_type (flatten text)) (map (flat_simple (scope_in text here)) f.over)) (is_type (flatten text) (flat_simple (scope_in text here) f.value)) (indexes-kept f.over fit.0.1 own.1) (type-kept f.value fit.0.0 own.0))
       (families-kept placed fit.1 (all-tail (HasNumbers (scope_in text here) (numbers_in text sizes)) f (map (λ (f, at). f) placed) n))

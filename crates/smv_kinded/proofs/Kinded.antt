@@ -1,8 +1,8 @@
 -- The flattened text of a text without faults is kinded.
 use Rattle.smv_right.proofs.Opening.{opening}
-use Rattle.std.proofs.Common.{◌≡◌, ℕ, ◌+◌, ◌-◌, ◌<◌, ◌≤◌, List, [], ◌∷◌, ◌++◌, map, flat_map, length, Option, Some, None, option_map, Bool, true, false, ◌&&◌, All, nat_lt, nat_le, refl, sym, ap, ◌∙◌, subst, arith}
+use Rattle.std.proofs.Common.{◌≡◌, ℕ, ◌+◌, ◌-◌, ◌<◌, ◌≤◌, List, [], ◌∷◌, ◌++◌, map, flat_map, length, Option, Some, None, option_map, Bool, true, All, nat_lt, nat_le, refl, sym, ap, ◌∙◌, subst, arith}
 use Rattle.std.specs.List.{AllByRecursion, list_all}
-use Rattle.std.proofs.lemmas.Bool.{le-leb, lt-ltb}
+use Rattle.std.proofs.lemmas.Bool.{and_from, le-leb, lt-ltb}
 use Rattle.smv_core.specs.Values.{Name, Path, Sizes}
 use Rattle.smv_core.specs.Types as tree
 use Rattle.smv_core.specs.Types.{Family, types_from}
@@ -37,25 +37,15 @@ use Rattle.smv_right.proofs.RightText.{modules-of}
 use Rattle.smv_abs.specs.Sets.{Has}
 use Rattle.smv_extend.specs.TextExtension.{FamiliesAreFound}
 use Rattle.smv_extend.proofs.FamiliesFound.{PieceIsFine, AllApart, BodyIsFine, types-all, modules-fine, pieces-fine}
+use Rattle.smv_extend.proofs.Lists.{left_of, right_of}
 use Rattle.smv_kinded.proofs.Families.{AreFit, TableIsFit, range-fit, table-fit, families-fit, families-kept}
 use Rattle.smv_kinded.proofs.Enumerations.{enumerations-kept}
 use Rattle.smv_kinded.proofs.Connections.{has_kind, inside_params, params-bound, EntryKeeps}
 use Rattle.smv_kinded.proofs.Entries.{text-keeps}
 
-both-true : (a b : Bool) → a ≡ true → b ≡ true → (a && b) ≡ true
-both-true a b e f = rw (e, f) refl
-
-left-true : (a b : Bool) → (a && b) ≡ true → a ≡ true
-left-true true b e = refl
-left-true false b e = absurd (cc (e))
-
-right-true : (a b : Bool) → (a && b) ≡ true → b ≡ true
-right-true true b e = e
-right-true false b e = absurd (cc (e))
-
 all-append : {X : Type 0} (p : X → Bool) (xs ys : List X) → list_all p xs ≡ true → list_all p ys ≡ true → list_all p (xs ++ ys) ≡ true
 all-append p [] ys h k = k
-all-append p (x ∷ xs) ys h k = both-true (p x) (list_all p (xs ++ ys)) (left-true (p x) (list_all p xs) h) (all-append p xs ys (right-true (p x) (list_all p xs) h) k)
+all-append p (x ∷ xs) ys h k = and_from (p x) (list_all p (xs ++ ys)) (left_of (p x) (list_all p xs) h) (all-append p xs ys (right_of (p x) (list_all p xs) h) k)
 
 -- ---- set types
 
@@ -67,13 +57,13 @@ size-kept (Some span) at h =
     let high : span.high ≤ 255 = r.1 in
     let some : 0 < span.high + 1 - span.low = omega (arith, low) in
     let few : span.high + 1 - span.low ≤ 256 = omega (arith, high) in
-    both-true (nat_lt 0 (span.high + 1 - span.low)) (nat_le (span.high + 1 - span.low) 256) (lt-ltb 0 (span.high + 1 - span.low) some) (le-leb (span.high + 1 - span.low) 256 few)
+    and_from (nat_lt 0 (span.high + 1 - span.low)) (nat_le (span.high + 1 - span.low) 256) (lt-ltb 0 (span.high + 1 - span.low) some) (le-leb (span.high + 1 - span.low) 256 few)
 
 sets-kept : (ms : List (Name × Module)) (cs : List (Name × Constant)) (ks : Types) (tops : List Top) → in_tops ms cs ks tops ≡ [] → list_all (λ info. is_size info.size) (flat_map set_of tops) ≡ true
 sets-kept ms cs ks [] h = refl
 sets-kept ms cs ks (SetType word ordered span at ∷ tops) h =
     let both = empty-both (in_top ms cs ks (SetType word ordered span at)) (in_tops ms cs (types_after ks (SetType word ordered span at)) tops) h in
-    both-true _ _ (size-kept span at both.0) (sets-kept ms cs (types_after ks (SetType word ordered span at)) tops both.1)
+    and_from _ _ (size-kept span at both.0) (sets-kept ms cs (types_after ks (SetType word ordered span at)) tops both.1)
 sets-kept ms cs ks (Alias word of at ∷ tops) h = sets-kept ms cs (types_after ks (Alias word of at)) tops (empty-both (in_top ms cs ks (Alias word of at)) (in_tops ms cs (types_after ks (Alias word of at)) tops) h).1
 sets-kept ms cs ks (ModuleOf word formals body at ∷ tops) h = sets-kept ms cs ks tops (empty-both (in_top ms cs ks (ModuleOf word formals body at)) (in_tops ms cs ks tops) h).1
 
@@ -82,17 +72,17 @@ sets-kept ms cs ks (ModuleOf word formals body at ∷ tops) h = sets-kept ms cs 
 places-kept : (raw : Raw) (k : ℕ) (items : List FlatItem) → list_all (is_kinded_item raw) items ≡ true → list_all (is_kinded_item raw) (with_places k items) ≡ true
 places-kept raw k [] h = refl
 places-kept raw k (item.Act number act ∷ items) h =
-    both-true (is_kinded_item raw (item.Act number act)) (list_all (is_kinded_item raw) (with_places (k + length (flat_assignments act)) items)) (left-true (is_kinded_item raw (item.Act number act)) (list_all (is_kinded_item raw) items) h)
-    (places-kept raw (k + length (flat_assignments act)) items (right-true (is_kinded_item raw (item.Act number act)) (list_all (is_kinded_item raw) items) h))
+    and_from (is_kinded_item raw (item.Act number act)) (list_all (is_kinded_item raw) (with_places (k + length (flat_assignments act)) items)) (left_of (is_kinded_item raw (item.Act number act)) (list_all (is_kinded_item raw) items) h)
+    (places-kept raw (k + length (flat_assignments act)) items (right_of (is_kinded_item raw (item.Act number act)) (list_all (is_kinded_item raw) items) h))
 places-kept raw k (item.Claim c ∷ items) h =
-    both-true (is_kinded_item raw (item.Claim c)) (list_all (is_kinded_item raw) (with_places (k + 1) items)) (left-true (is_kinded_item raw (item.Claim c)) (list_all (is_kinded_item raw) items) h)
-    (places-kept raw (k + 1) items (right-true (is_kinded_item raw (item.Claim c)) (list_all (is_kinded_item raw) items) h))
+    and_from (is_kinded_item raw (item.Claim c)) (list_all (is_kinded_item raw) (with_places (k + 1) items)) (left_of (is_kinded_item raw (item.Claim c)) (list_all (is_kinded_item raw) items) h)
+    (places-kept raw (k + 1) items (right_of (is_kinded_item raw (item.Claim c)) (list_all (is_kinded_item raw) items) h))
 places-kept raw k (item.Split s ∷ items) h =
-    both-true (is_kinded_item raw (item.Split s)) (list_all (is_kinded_item raw) (with_places k items)) (left-true (is_kinded_item raw (item.Split s)) (list_all (is_kinded_item raw) items) h)
-    (places-kept raw k items (right-true (is_kinded_item raw (item.Split s)) (list_all (is_kinded_item raw) items) h))
+    and_from (is_kinded_item raw (item.Split s)) (list_all (is_kinded_item raw) (with_places k items)) (left_of (is_kinded_item raw (item.Split s)) (list_all (is_kinded_item raw) items) h)
+    (places-kept raw k items (right_of (is_kinded_item raw (item.Split s)) (list_all (is_kinded_item raw) items) h))
 places-kept raw k (item.Using u ∷ items) h =
-    both-true (is_kinded_item raw (item.Using u)) (list_all (is_kinded_item raw) (with_places k items)) (left-true (is_kinded_item raw (item.Using u)) (list_all (is_kinded_item raw) items) h)
-    (places-kept raw k items (right-true (is_kinded_item raw (item.Using u)) (list_all (is_kinded_item raw) items) h))
+    and_from (is_kinded_item raw (item.Using u)) (list_all (is_kinded_item raw) (with_places k items)) (left_of (is_kinded_item raw (item.Using u)) (list_all (is_kinded_item raw) items) h)
+    (places-kept raw k items (right_of (is_kinded_item raw (item.Using u)) (list_all (is_kinded_item raw) items) h))
 
 module _ (text : Text) (layers : List Name) where
   abbrev params : Path → Binders → List Param
@@ -103,14 +93,14 @@ module _ (text : Text) (layers : List Name) where
 
   entry-kept : (e : Entry) → EntryKeeps text [] [] e → list_all (is_kinded_item (flatten text)) (flat_entry text layers e) ≡ true
   entry-kept (layer name) h = refl
-  entry-kept (statement x) h = both-true _ true h refl
+  entry-kept (statement x) h = and_from _ true h refl
   entry-kept (goal instance binders (claim word vars body at)) h =
-      both-true _ true (both-true (are_binders (flatten text) [] (params instance binders)) _ h.0
+      and_from _ true (and_from (are_binders (flatten text) [] (params instance binders)) _ h.0
       (outside instance binders (λ fv. typed.takes typed.number (kind_in (flatten text) fv (flat_expr (scope_in text instance) (within [] binders) body))) h.1)) refl
   entry-kept (goal instance binders (split word vars of pairs at)) h =
-      both-true _ true (both-true (are_binders (flatten text) [] (params instance binders)) _ h.0
+      and_from _ true (and_from (are_binders (flatten text) [] (params instance binders)) _ h.0
       (outside instance binders (λ fv. list_all (has_kind text fv) (map (flat_pair (scope_in text instance) (within [] binders)) pairs)) h.1)) refl
-  entry-kept (goal instance binders (using uses proves at)) h = both-true (are_binders (flatten text) [] (params instance binders)) true h.0 refl
+  entry-kept (goal instance binders (using uses proves at)) h = and_from (are_binders (flatten text) [] (params instance binders)) true h.0 refl
 
   entries-kept : (es : List Entry) → AllByRecursion (EntryKeeps text [] []) es → list_all (is_kinded_item (flatten text)) (flat_map (flat_entry text layers) es) ≡ true
   entries-kept [] h = refl
@@ -141,4 +131,4 @@ text-kinded text h found deep =
     families-kept text sizes [] (placed_families text) (subst AreFit (sym (families-same text)) fit) (subst (All (HasNumbers (scope_in text []) (numbers_in text sizes))) (sym (families-same text)) numbered.0) in
     let items : list_all (is_kinded_item (flatten text)) (flatten text).items ≡ true =
     places-kept (flatten text) 0 (flat_map (flat_entry text (layers_of (entries text))) (entries text)) (entries-kept text (layers_of (entries text)) (entries text) said) in
-    both-true _ _ sets (both-true _ _ enums (both-true _ _ families items))
+    and_from _ _ sets (and_from _ _ enums (and_from _ _ families items))

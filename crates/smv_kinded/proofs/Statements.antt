@@ -1,6 +1,7 @@
 -- In a module a statement without faults keeps the kinds of the flattened text.
+use Rattle.std.proofs.lemmas.Bool.{and_from}
 use Rattle.smv_right.proofs.Opening.{opening}
-use Rattle.std.proofs.Common.{◌≡◌, ℕ, List, [], ◌∷◌, ◌++◌, map, flat_map, length, slice_get, Option, Some, is_some, Bool, true, ◌&&◌, refl, ap, ◌∙◌, subst}
+use Rattle.std.proofs.Common.{◌≡◌, ℕ, List, [], ◌∷◌, ◌++◌, map, flat_map, length, slice_get, Option, Some, is_some, Bool, true, refl, ap, ◌∙◌, subst}
 use Rattle.std.specs.List.{list_all}
 use Rattle.smv_core.specs.Walk.{indexes_of, steps_of}
 use Rattle.smv_core.specs.Outcome.{fields_of}
@@ -34,15 +35,12 @@ use Rattle.smv_right.proofs.Modules.{IsApart}
 use Rattle.smv_kinded.proofs.Relation.{HasKind, HaveKinds, takes-kept, number-kept, alike-some, alike_with-front, alike_with-behind}
 use Rattle.smv_kinded.proofs.Boxes.{member_kind, all_keep, kind-Within, looked-List, keeps-Block, keeps-If, keeps-Default, keeps-Forall}
 use Rattle.smv_kinded.proofs.Variables.{AreApart, SignalsAreKinded, ConstantsAreKinded, IndexesAreKinded, AreVars, kinds_bound, binder-kinded}
-use Rattle.smv_kinded.proofs.Expressions.{HasItsKind, expression-kinded, target-kinded, bound-vars}
+use Rattle.smv_kinded.proofs.Expressions.{HasItsKind, expression-kinded, read-kinded, bound-vars}
 use Rattle.smv_kinded.proofs.Values.{value-kinded, are-kinded, labels-kinded}
-
-both-true : (a b : Bool) → a ≡ true → b ≡ true → (a && b) ≡ true
-both-true a b e f = rw (e, f) refl
 
 all-true : {X : Type 0} (p : FlatStmt → Bool) (f : X → FlatStmt) → ((x : X) → p (f x) ≡ true) → (xs : List X) → list_all p (map f xs) ≡ true
 all-true p f h [] = refl
-all-true p f h (x ∷ xs) = both-true (p (f x)) (list_all p (map f xs)) (h x) (all-true p f h xs)
+all-true p f h (x ∷ xs) = and_from (p (f x)) (list_all p (map f xs)) (h x) (all-true p f h xs)
 
 -- labels beside a value that fits them
 labels-fit : (on : Operand) (es : List Operand) → IsFine on → alike_with on.kind es ≡ [] → alike (on ∷ es) ≡ []
@@ -58,7 +56,7 @@ module _ (raw : Raw) (scope : kinds.Scope) (flat : Scope) (signals : SignalsAreK
       (found : List (Option typed.Kind)) → HaveKinds flat found os → (right : Operand) (o : Option typed.Kind) → HasKind flat o right.kind → takes w.value right ≡ [] →
       assigns (element (slice_get raw.families (family_number flat (flat.instance ++ fields_of parts))) found) o ≡ true
   assign-keeps vars around parts at w h os count fine found given right o own fits =
-      let t = target-kinded raw scope flat signals named over_kinded parts w h at os count fine found given in
+      let t = read-kinded raw scope flat signals named over_kinded parts w h at os count fine found given in
       ap (λ t. assigns t o) t.0 ∙ takes-kept flat w.value t.1 right o own fits
 
   -- an arm of a `switch`
@@ -72,7 +70,7 @@ module _ (raw : Raw) (scope : kinds.Scope) (flat : Scope) (signals : SignalsAreK
       let some : is_some (typed.common (kind_in raw fv flat_on ∷ map (member_kind raw fv) ms)) ≡ true = alike-some flat on (map (operand scope vars) es) (kind_in raw fv flat_on) (map (member_kind raw fv) ms) (own, given) (labels-fit on (map (operand scope vars) es) fine fit) in
       let test : typed.takes typed.number (kind_in raw fv (Within flat_on (ListOf ms (first_label es)))) ≡ true =
       ap (typed.takes typed.number) (kind-Within raw fv flat_on (ListOf ms (first_label es)) ∙ ap (λ l. number_if (is_some (typed.common (kind_in raw fv flat_on ∷ l)))) (looked-List raw fv ms (first_label es)) ∙ ap number_if some) in
-      keeps-If raw fv (Within flat_on (ListOf ms (first_label es))) body other ∙ both-true _ _ test (both-true _ _ h k)
+      keeps-If raw fv (Within flat_on (ListOf ms (first_label es))) body other ∙ and_from _ _ test (and_from _ _ h k)
 
   indexes-apart : (words : List Word) (parts : List Part) → AreApart raw scope flat (flat_map (said.in_part words) parts) → AreApart raw scope flat (flat_map (said.in_expr words) (indexes_of parts))
   indexes-apart words [] h = tt
@@ -104,8 +102,8 @@ module _ (raw : Raw) (scope : kinds.Scope) (flat : Scope) (signals : SignalsAreK
         let front = each-front _ (said.in_expr words test ++ said.in_stmt words left) (said.in_branch words right) apart in
         let own = expression-kinded raw scope flat signals named over_kinded words vars around same test written.0 (each-front _ (said.in_expr words test) (said.in_stmt words left) front) (number-fine _ all.0) in
         keeps-If raw (kinds_bound raw scope flat vars around) (flat_expr flat around test) (flat_stmt flat around left) (flat_branch flat around right)
-        ∙ both-true _ _ (number-kept flat (operand scope vars test) _ own all.0)
-        (both-true _ _ (statement-keeps words vars around same left written.1 (each-behind _ (said.in_expr words test) (said.in_stmt words left) front) all.1)
+        ∙ and_from _ _ (number-kept flat (operand scope vars test) _ own all.0)
+        (and_from _ _ (statement-keeps words vars around same left written.1 (each-behind _ (said.in_expr words test) (said.in_stmt words left) front) all.1)
         (branch-keeps words vars around same right written.2 (each-behind _ (said.in_expr words test ++ said.in_stmt words left) (said.in_branch words right) apart) all.2))
     statement-keeps words vars around same (Switch' on shape arms other at) written apart fine =
         let all = empty-three (alike (operand scope vars on ∷ labels scope vars arms)) (in_arms scope vars arms) (in_branch scope vars other) fine in
@@ -117,7 +115,7 @@ module _ (raw : Raw) (scope : kinds.Scope) (flat : Scope) (signals : SignalsAreK
     statement-keeps words vars around same (Default' l (more_of-Stmt left end_of-Stmt) r (more_of-Stmt right end_of-Stmt) at) written apart fine =
         let both = empty-both (in_stmt scope vars left) (in_stmt scope vars right) fine in
         keeps-Default raw (kinds_bound raw scope flat vars around) (flat_stmt flat around left) (flat_stmt flat around right)
-        ∙ both-true _ _ (statement-keeps words vars around same left written.0 (each-front _ (said.in_stmt words left) (said.in_stmt words right) apart) both.0)
+        ∙ and_from _ _ (statement-keeps words vars around same left written.0 (each-front _ (said.in_stmt words left) (said.in_stmt words right) apart) both.0)
         (statement-keeps words vars around same right written.1 (each-behind _ (said.in_stmt words left) (said.in_stmt words right) apart) both.1)
     statement-keeps words vars around same (For' var from to closed step shape (more_of-Stmt body end_of-Stmt) at) written apart fine =
         keeps-Block raw (kinds_bound raw scope flat vars around) (map (λ n. flat_stmt flat ((var.name, loop n) ∷ around) body) (steps_of from to closed step))
@@ -127,7 +125,7 @@ module _ (raw : Raw) (scope : kinds.Scope) (flat : Scope) (signals : SignalsAreK
         let both = empty-both (index_faults scope.here.types over) (in_stmt scope (bind scope vars var over) body) fine in
         keeps-Forall raw (kinds_bound raw scope flat vars around) (bound_in around) (flat_over flat over) (flat_stmt flat ((var.name, any) ∷ around) body)
         ∙ binder-kinded raw scope flat over_kinded vars around same over written.1 both.0 (λ fv. keeps_kinds raw fv (flat_stmt flat ((var.name, any) ∷ around) body))
-        (statement-keeps (words ++ var ∷ []) (bind scope vars var over) ((var.name, any) ∷ around) (bound-vars raw scope flat signals named over_kinded words vars around same var over written.1 both.0 apart.0) body written.0
+        (statement-keeps (words ++ var ∷ []) (bind scope vars var over) ((var.name, any) ∷ around) (bound-vars raw scope flat signals named over_kinded vars around same var over written.1 both.0 apart.0) body written.0
         (each-behind _ (said.in_type over) (said.in_stmt (words ++ var ∷ []) body) apart.1) both.1)
 
     statements-keep : {m : _} (words : List Word) (vars : Vars) (around : Around) → AreVars raw scope flat vars around → (row : Row_of-Stmt m) → StatementsAreWritten row → AreApart raw scope flat (said.in_block words row) → in_block scope vars row ≡ [] →
@@ -135,7 +133,7 @@ module _ (raw : Raw) (scope : kinds.Scope) (flat : Scope) (signals : SignalsAreK
     statements-keep words vars around same end_of-Stmt written apart fine = refl
     statements-keep words vars around same (more_of-Stmt part rest) written apart fine =
         let both = empty-both (in_stmt scope vars part) (in_block scope vars rest) fine in
-        both-true _ _ (statement-keeps words vars around same part written.0 (each-front _ (said.in_stmt words part) (said.in_block words rest) apart) both.0)
+        and_from _ _ (statement-keeps words vars around same part written.0 (each-front _ (said.in_stmt words part) (said.in_block words rest) apart) both.0)
         (statements-keep words vars around same rest written.1 (each-behind _ (said.in_stmt words part) (said.in_block words rest) apart) both.1)
 
     branch-keeps : (words : List Word) (vars : Vars) (around : Around) → AreVars raw scope flat vars around → (held : Held-Stmt-If-2) → BranchIsWritten held → AreApart raw scope flat (said.in_branch words held) → in_branch scope vars held ≡ [] → Keeps vars around (flat_branch flat around held)

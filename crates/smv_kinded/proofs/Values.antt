@@ -1,6 +1,6 @@
 -- In a module the right sides, labels and left sides without faults have kinds in the flattened text.
 use Rattle.smv_right.proofs.Opening.{opening}
-use Rattle.std.proofs.Common.{◌≡◌, ℕ, List, [], ◌∷◌, ◌++◌, map, flat_map, Some, None, true, cond, ◌&&◌, refl, ap, ◌∙◌}
+use Rattle.std.proofs.Common.{◌≡◌, List, [], ◌∷◌, ◌++◌, map, flat_map, Some, None, true, cond, ◌&&◌, refl, ap, ◌∙◌}
 use Rattle.smv_core.specs.Assignments.{Around, any}
 use Rattle.smv_core.specs.declared.tree.Word.{Word}
 use Rattle.smv_core.specs.declared.tree.Expr.{Expr, Number, Signal', Not', And', Or', Implies', Iff', Compare', Within', Sum', Modulo', Choose', All', Any', List', Each', Held-Expr-Each-2, None', Some', end_of-Expr, more_of-Expr, Row_of-Member, end_of-Member, more_of-Member}
@@ -33,12 +33,12 @@ module _ (raw : Raw) (scope : kinds.Scope) (flat : Scope) (signals : SignalsAreK
   plain-value : (words : List Word) (vars : Vars) (around : Around) → AreVars raw scope flat vars around → (e : Expr) → IsWritten e → AreApart raw scope flat (said.in_expr words e) → IsFine (operand scope vars e) → HasItsKind raw scope flat signals named over_kinded vars around e
   plain-value words vars around same e written apart fine = expression-kinded raw scope flat signals named over_kinded words vars around same e written apart fine
 
-  list-kinded : {m : _} (words : List Word) (vars : Vars) (around : Around) → AreVars raw scope flat vars around → (row : Row_of-Member m) (at : ℕ) → HasMember row → HaveKinds flat (map (member_kind raw (kinds_bound raw scope flat vars around)) (flat_members flat around row)) (members scope vars row) →
+  list-kinded : {m : _} (vars : Vars) (around : Around) (row : Row_of-Member m) → HasMember row → HaveKinds flat (map (member_kind raw (kinds_bound raw scope flat vars around)) (flat_members flat around row)) (members scope vars row) →
       alike (members scope vars row) ≡ [] → HasKind flat (common (map (member_kind raw (kinds_bound raw scope flat vars around)) (flat_members flat around row))) (kind_with no_kind (members scope vars row))
   unfolding opening
-  list-kinded words vars around same end_of-Member at one given fine = absurd one
-  list-kinded words vars around same (more_of-Member (One e) rest) at one given fine = common-kept flat (operand scope vars e) (members scope vars rest) _ (map (member_kind raw (kinds_bound raw scope flat vars around)) (flat_members flat around rest)) given fine
-  list-kinded words vars around same (more_of-Member (SpanOf span at') rest) at one given fine = common-kept flat (number_at at' (faults_at (13, place_if (is_reversed span) at'))) (members scope vars rest) _ (map (member_kind raw (kinds_bound raw scope flat vars around)) (flat_members flat around rest)) given fine
+  list-kinded vars around end_of-Member one given fine = absurd one
+  list-kinded vars around (more_of-Member (One e) rest) one given fine = common-kept flat (operand scope vars e) (members scope vars rest) _ (map (member_kind raw (kinds_bound raw scope flat vars around)) (flat_members flat around rest)) given fine
+  list-kinded vars around (more_of-Member (SpanOf span at) rest) one given fine = common-kept flat (number_at at (faults_at (13, place_if (is_reversed span) at))) (members scope vars rest) _ (map (member_kind raw (kinds_bound raw scope flat vars around)) (flat_members flat around rest)) given fine
 
   condition-kinded : (words : List Word) (vars : Vars) (around : Around) → AreVars raw scope flat vars around → (cond : Held-Expr-Each-2) → ConditionIsWritten cond → AreApart raw scope flat (said.in_held words cond) → condition_faults scope vars cond ≡ [] → (over : _) (before : typed.Vars) →
       inside before over ≡ kinds_bound raw scope flat vars around → condition_fits raw before over (flat_condition flat around cond) ≡ true
@@ -52,7 +52,7 @@ module _ (raw : Raw) (scope : kinds.Scope) (flat : Scope) (signals : SignalsAreK
   unfolding opening said.in_expr
   value-kinded words vars around same (List' shape row at) written apart fine =
       let given = members-kinded raw scope flat signals named over_kinded words vars around same row written.1 apart (alike-fine (members scope vars row) fine) in
-      let own = list-kinded words vars around same row at written.0 given fine in
+      let own = list-kinded vars around row written.0 given fine in
       (value-List raw (kinds_bound raw scope flat vars around) (flat_members flat around row) at ∙ own.0, own.1)
   value-kinded words vars around same (Each' var over held at) written apart fine =
       let both = empty-both (index_faults scope.here.types over) (condition_faults scope (bind scope vars var over) held) fine in

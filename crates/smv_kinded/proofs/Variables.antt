@@ -2,7 +2,7 @@
 use Rattle.std.proofs.Common.{◌≡◌, ℕ, ◌+◌, List, [], ◌∷◌, ◌++◌, length, slice_get, Some, None, Bool, true, false, cond, nat_eq, ◌&&◌, refl, sym, ap, ◌∙◌, subst, append_assoc, length-append}
 use Rattle.std.specs.Str.{bytes_eq}
 use Rattle.std.specs.List.{AllByRecursion}
-use Rattle.std.proofs.lemmas.Bool.{eq-eqb}
+use Rattle.std.proofs.lemmas.Bool.{and_from, eq-eqb}
 use Rattle.std.proofs.lemmas.Slice.Eq.{bytes_eq-Decides}
 use Rattle.smv_core.specs.Values.{Name, Path}
 use Rattle.smv_core.specs.Types.{Family, find_name}
@@ -28,7 +28,7 @@ use Rattle.smv_flat.proofs.Lookups.{slice_get-behind}
 use Rattle.smv_right.proofs.Modules.{IsApart}
 use Rattle.smv_kinded.proofs.Relation.{IsKind, flat_kind, HasKind, AreOfKinds}
 
-nothing-behind : {X : Type 0} (xs : List X) → xs ≡ xs ++ []
+pub nothing-behind : {X : Type 0} (xs : List X) → xs ≡ xs ++ []
 nothing-behind [] = refl
 nothing-behind (x ∷ xs) = ap (λ l. x ∷ l) (nothing-behind xs)
 
@@ -143,9 +143,6 @@ module _ (raw : Raw) (scope : kinds.Scope) (flat : Scope) where
 
   -- ---- binders
 
-  both-true : (a b : Bool) → a ≡ true → b ≡ true → (a && b) ≡ true
-  both-true a b e f = rw (e, f) refl
-
   module _ (indexes : IndexesAreKinded) where
     -- one more variable
     pub inside-same : (vars : Vars) (around : Around) (over : TypeExpr) → IsIndexType over → index_faults scope.here.types over ≡ [] →
@@ -155,6 +152,6 @@ module _ (raw : Raw) (scope : kinds.Scope) (flat : Scope) where
     pub binder-kinded : (vars : Vars) (around : Around) → AreVars vars around → (over : TypeExpr) → IsIndexType over → index_faults scope.here.types over ≡ [] → (test : typed.Vars → Bool) →
         test (kinds_bound vars around ++ flat_kind flat (index_kind scope.here.types over) ∷ []) ≡ true → (is_binder raw (kinds_bound vars around) (bound_in around) (flat_over flat over) && test (inside (kinds_bound vars around) (flat_over flat over))) ≡ true
     binder-kinded vars around same over i fine test h =
-        both-true (is_binder raw (kinds_bound vars around) (bound_in around) (flat_over flat over)) (test (inside (kinds_bound vars around) (flat_over flat over)))
-        (both-true (nat_eq (bound_in around) (length (kinds_bound vars around))) (is_index_type raw (flat_over flat over)) (eq-eqb (bound_in around) (length (kinds_bound vars around)) (sym (bound-length vars around same))) (indexes over i fine).0)
+        and_from (is_binder raw (kinds_bound vars around) (bound_in around) (flat_over flat over)) (test (inside (kinds_bound vars around) (flat_over flat over)))
+        (and_from (nat_eq (bound_in around) (length (kinds_bound vars around))) (is_index_type raw (flat_over flat over)) (eq-eqb (bound_in around) (length (kinds_bound vars around)) (sym (bound-length vars around same))) (indexes over i fine).0)
         (ap test (inside-same vars around over i fine) ∙ h)
