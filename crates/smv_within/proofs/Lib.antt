@@ -11,3 +11,4 @@ mod FewConstants
 mod WholeText
 mod Consumed
 mod Widths
+mod SetTypes

@@ -1,5 +1,5 @@
 // Laws of the numbers in flattened texts, each the contract of a function that does nothing.
-ghost use Rattle.std.specs.Prelude.{◌≡◌, ◌≤◌, ℕ, List, length, None, true};
+ghost use Rattle.std.specs.Prelude.{◌≡◌, ◌≤◌, ℕ, List, length, None, Ok, true};
 ghost use Rattle.std.specs.List.{AllByRecursion};
 ghost use Rattle.smv_core.specs.Notation.{Tokens};
 ghost use Rattle.smv_core.specs.Spelling.{Spells};
@@ -8,6 +8,7 @@ ghost use Rattle.smv_core.specs.declared.tree.Text.{Text};
 ghost use Rattle.smv_inst.specs.FirstFault.{first_fault};
 ghost use Rattle.smv_flat.specs.Entries.{entries};
 ghost use Rattle.smv_flat.specs.Flattening.{flatten};
+ghost use Rattle.smv_lex.specs.Lexing.{lexed};
 ghost use Rattle.smv_typed.specs.FlatKinds.{is_kinded};
 ghost use Rattle.smv_within.specs.NumbersFit.{NumbersFit};
 
@@ -34,4 +35,18 @@ pub fn numbers_fit()
     families_are_few();
     constants_are_few();
     entries_are_few();
+}
+
+/// A text of at most 1,048,576 bytes has at most 65,536 set types, since each takes at least 16 bytes.
+pub fn set_types_are_few()
+    ensures { (bytes : List ℕ) (n : ℕ) (tokens : Tokens) (text : Text) → length bytes ≤ 1048576 → lexed bytes ≡ Ok tokens → Spells n tokens text → length (flatten text).sets ≤ 65536 }
+{}
+
+/// So each number fits where a text of at most 1,048,576 bytes is spelled within at most 65,536 levels and has no fault of names and size, and its flattened text keeps the
+/// rules of kinds.
+pub fn numbers_of_bytes_fit()
+    ensures { (bytes : List ℕ) (n : ℕ) (tokens : Tokens) (text : Text) → length bytes ≤ 1048576 → lexed bytes ≡ Ok tokens → Spells n tokens text → n ≤ 65536 → first_fault text ≡ None → is_kinded (flatten text) ≡ true → NumbersFit (flatten text) }
+{
+    numbers_fit();
+    set_types_are_few();
 }
