@@ -302,6 +302,7 @@ module _ (raw : Raw) (room : HasRoom raw) where
       let b : (list_all (λ (names : List Name). nat_lt 0 (length names)) raw.enums ≡ true) × ((list_all (is_kinded_family raw) raw.families && list_all (is_kinded_item raw) raw.items) ≡ true) = both _ _ a.1 in
       let c : (list_all (is_kinded_family raw) raw.families ≡ true) × (list_all (is_kinded_item raw) raw.items ≡ true) = both _ _ b.1 in
       record {
+        set_types = room.sets;
         sizes = sizes-fit raw.sets a.0;
         enumerations = room.enums;
         constants = room.constants;

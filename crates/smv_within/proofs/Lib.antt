@@ -12,3 +12,4 @@ mod WholeText
 mod Consumed
 mod Widths
 mod SetTypes
+mod Ranges

@@ -10,7 +10,9 @@ ghost use Rattle.smv_flat.specs.Entries.{entries};
 ghost use Rattle.smv_flat.specs.Flattening.{flatten};
 ghost use Rattle.smv_lex.specs.Lexing.{lexed};
 ghost use Rattle.smv_typed.specs.FlatKinds.{is_kinded};
+ghost use Rattle.smv_types.specs.KindFaults.{first_fault_of_kinds};
 ghost use Rattle.smv_within.specs.NumbersFit.{NumbersFit};
+ghost use Rattle.smv_within.specs.RangesFit.{NamedRangesFit};
 
 /// The flattened text of a text without a fault of names and size has at most 4,096 families.
 pub fn families_are_few()
@@ -36,6 +38,11 @@ pub fn numbers_fit()
     constants_are_few();
     entries_are_few();
 }
+
+/// In a text without a fault of kinds the ends of ranges fit in types that have names, also where nothing uses them, and so do those of set types.
+pub fn named_ranges_fit()
+    ensures { (text : Text) → first_fault_of_kinds text ≡ None → NamedRangesFit text }
+{}
 
 /// A text of at most 1,048,576 bytes has at most 65,536 set types, since each takes at least 16 bytes.
 pub fn set_types_are_few()
