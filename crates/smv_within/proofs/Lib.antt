@@ -13,3 +13,4 @@ mod Consumed
 mod Widths
 mod SetTypes
 mod Ranges
+mod Places

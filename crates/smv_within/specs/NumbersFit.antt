@@ -104,3 +104,8 @@ pub record NumbersFit (raw : Raw) : Type 0 where
   pub constants : AllByRecursion (λ (names : List Name). length names ≤ 65536) raw.enums
   pub families : AllByRecursion FamilyFits raw.families
   pub items : AllByRecursion ItemFits raw.items
+
+-- the place of a claim among the assignments and claims
+abbrev pub PlaceFits : FlatItem → Type 0
+PlaceFits (item.Claim c) = c.place < 65536
+PlaceFits _ = Unit {0}

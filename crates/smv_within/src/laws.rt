@@ -11,7 +11,7 @@ ghost use Rattle.smv_flat.specs.Flattening.{flatten};
 ghost use Rattle.smv_lex.specs.Lexing.{lexed};
 ghost use Rattle.smv_typed.specs.FlatKinds.{is_kinded};
 ghost use Rattle.smv_types.specs.KindFaults.{first_fault_of_kinds};
-ghost use Rattle.smv_within.specs.NumbersFit.{NumbersFit};
+ghost use Rattle.smv_within.specs.NumbersFit.{NumbersFit, PlaceFits};
 ghost use Rattle.smv_within.specs.RangesFit.{NamedRangesFit};
 
 /// The flattened text of a text without a fault of names and size has at most 4,096 families.
@@ -38,6 +38,11 @@ pub fn numbers_fit()
     constants_are_few();
     entries_are_few();
 }
+
+/// No claim of the flattened text of a text without a fault of names and size has a place of 65,536 or more.
+pub fn places_fit()
+    ensures { (text : Text) → first_fault text ≡ None → AllByRecursion PlaceFits (flatten text).items }
+{}
 
 /// In a text without a fault of kinds the ends of ranges fit in types that have names, also where nothing uses them, and so do those of set types.
 pub fn named_ranges_fit()
