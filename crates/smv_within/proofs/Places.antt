@@ -2,7 +2,6 @@
 use Rattle.std.proofs.Common.{◌≡◌, ◌<◌, ◌≤◌, ◌+◌, ◌*◌, ℕ, zero, suc, List, [], ◌∷◌, ◌++◌, map, zip, length, Option, Some, None, refl, ap, sym, ◌∙◌, subst, arith, length-append}
 use Rattle.std.specs.List.{AllByRecursion, flat_map, sum}
 use Rattle.std.proofs.lemmas.List.{length-map}
-use Rattle.std.proofs.lemmas.List.Sums.{sum_by-cons}
 use Rattle.std.proofs.Math.Nat.{suc-mul, mul-le-mul_left}
 use Rattle.smv_core.specs.Values.{Name, Path}
 use Rattle.smv_core.specs.Types.{Types, types_from}
@@ -33,12 +32,10 @@ use Rattle.smv_flat.specs.Entries.{Goal, claim, split, using, Entry, layer, stat
 use Rattle.smv_flat.specs.Flattening.{layers_of, flat_assignments, flat_assignments_in, scope_in, with_places, flat_entry, flatten}
 use Rattle.smv_flat.proofs.FlatLists.{boxes}
 use Rattle.smv_within.specs.NumbersFit.{PlaceFits}
+use Rattle.smv_within.proofs.FewEntries.{sum-cons}
 use mathlib.Core.Former.{Count}
 
 -- ---- lengths and sums
-
-sum-cons : {X : Type 0} (f : X → ℕ) (x : X) (xs : List X) → sum (map f (x ∷ xs)) ≡ f x + sum (map f xs)
-sum-cons f x xs = sum_by-cons (λ n. n) (f x) (map f xs)
 
 sum-joined : {X : Type 0} (f : X → ℕ) (xs ys : List X) → sum (map f (xs ++ ys)) ≡ sum (map f xs) + sum (map f ys)
 sum-joined f [] ys = omega arith

@@ -17,11 +17,8 @@ use Rattle.smv_lex.specs.Longest.{is_word, is_digits, kind_of, NoLonger, IsLonge
 use Rattle.smv_lex.proofs.Fronts.{passed-some, token-some}
 use Rattle.smv_lex.proofs.Lexing.{from-end, from-passed, from-token, from-fault}
 use Rattle.smv_lex.proofs.Longest.{longest-token}
+use Rattle.smv_typed.proofs.Operands.{both}
 use Rattle.smv_within.proofs.Consumed.{width, is_name, gap, weight}
-
-both : (a b : Bool) → (a && b) ≡ true → (a ≡ true) × (b ≡ true)
-both true b e = (refl, e)
-both false b e = absurd (cc (e))
 
 le-true : (a b : ℕ) → nat_le a b ≡ true → a ≤ b
 le-true a b e = grind arith

@@ -29,6 +29,11 @@ pub fn entries_are_few()
     ensures { (text : Text) → first_fault text ≡ None → length (entries text) ≤ 65536 }
 {}
 
+/// No claim of the flattened text of a text without a fault of names and size has a place of 65,536 or more.
+pub fn places_fit()
+    ensures { (text : Text) → first_fault text ≡ None → AllByRecursion PlaceFits (flatten text).items }
+{}
+
 /// In a text that is spelled within at most 65,536 levels, has at most 65,536 set types and has no fault of names and size each number of the flattened text fits its
 /// field, where the flattened text keeps the rules of kinds.
 pub fn numbers_fit()
@@ -37,12 +42,8 @@ pub fn numbers_fit()
     families_are_few();
     constants_are_few();
     entries_are_few();
+    places_fit();
 }
-
-/// No claim of the flattened text of a text without a fault of names and size has a place of 65,536 or more.
-pub fn places_fit()
-    ensures { (text : Text) → first_fault text ≡ None → AllByRecursion PlaceFits (flatten text).items }
-{}
 
 /// In a text without a fault of kinds the ends of ranges fit in types that have names, also where nothing uses them, and so do those of set types.
 pub fn named_ranges_fit()
