@@ -1,5 +1,5 @@
 -- What the rules of the grammar read has no fewer bytes than are counted for its tokens.
-use Rattle.std.proofs.Common.{◌≡◌, ◌<◌, ◌≤◌, ◌+◌, ◌*◌, ℕ, zero, suc, Bool, true, false, ◌&&◌, cond, List, [], ◌∷◌, ◌++◌, length, inl, inr, Option, Some, None, refl, ap, sym, subst, arith}
+use Rattle.std.proofs.Common.{◌≤◌, ◌+◌, ℕ, zero, suc, Bool, true, false, ◌&&◌, cond, List, [], ◌∷◌, inl, inr, Option, ap, arith}
 use Rattle.smv_core.specs.declared.token.Token.{Token}
 use Rattle.smv_core.specs.declared.tree.Word.{Word}
 use Rattle.smv_core.specs.declared.tree.Expr.{Expr}
@@ -10,9 +10,9 @@ use Rattle.smv_core.specs.declared.tree.Stmt.{Stmt}
 use Rattle.smv_core.specs.declared.tree.Role.{Role}
 use Rattle.smv_core.specs.declared.tree.Role.TheVariants as role
 use Rattle.smv_core.specs.declared.token.TokenKind.{TokenKind}
-use Rattle.smv_core.specs.declared.token.TokenKind.TheVariants.{Ident, Number, Sign, Reserved}
+use Rattle.smv_core.specs.declared.token.TokenKind.TheVariants.{Ident}
 use Rattle.smv_core.specs.Signs as w
-use Rattle.smv_core.specs.Notation.{Tokens, Rule, same_kind, never, nothing, ◌>>=◌, ◌>>◌, ◌<|>◌, many, optional, placed, one, token, name, number, one_of, same_name, positive, separated, separated_or_none, opens, opener}
+use Rattle.smv_core.specs.Notation.{Tokens, Rule, same_kind, nothing, ◌>>=◌, ◌>>◌, ◌<|>◌, many, optional, placed, one, token, name, number, one_of, same_name, positive, separated, separated_or_none, opens, opener}
 use Rattle.smv_core.specs.Grammar as g
 use Rattle.smv_core.specs.Grammar.{Rules, no_rules, rules, below}
 

@@ -1,7 +1,6 @@
 -- No claim has a place of 65,536 or more: as many assignments, connections and claims are no more than statements are counted.
-use Rattle.std.proofs.Common.{◌≡◌, ◌<◌, ◌≤◌, ◌+◌, ◌*◌, ℕ, zero, suc, List, [], ◌∷◌, ◌++◌, map, zip, length, Option, Some, None, refl, ap, sym, ◌∙◌, subst, arith, length-append}
+use Rattle.std.proofs.Common.{◌≡◌, ◌≤◌, ◌+◌, ◌*◌, ℕ, zero, suc, List, [], ◌∷◌, ◌++◌, map, zip, length, Option, Some, None, refl, ap, ◌∙◌, arith, length-append}
 use Rattle.std.specs.List.{AllByRecursion, flat_map, sum}
-use Rattle.std.proofs.lemmas.List.{length-map}
 use Rattle.std.proofs.Math.Nat.{suc-mul, mul-le-mul_left}
 use Rattle.smv_core.specs.Values.{Name, Path}
 use Rattle.smv_core.specs.Types.{Types, types_from}
@@ -13,7 +12,7 @@ use Rattle.smv_core.specs.declared.tree.Role.{Role}
 use Rattle.smv_core.specs.declared.tree.Role.TheVariants.{Plain, Abstract, Input, Output}
 use Rattle.smv_core.specs.declared.tree.TypeExpr.{TypeExpr}
 use Rattle.smv_core.specs.declared.tree.Expr.{Expr, Signal'}
-use Rattle.smv_core.specs.declared.tree.Stmt.{Stmt, Assign, Block', If', Switch', Default', For', Forall', Forall, Held-Stmt-If-2, None', Some', Row_of-Stmt, end_of-Stmt, more_of-Stmt, Row_of-Arm, end_of-Arm, more_of-Arm}
+use Rattle.smv_core.specs.declared.tree.Stmt.{Stmt, Assign, Block', If', Switch', Default', For', Forall', Held-Stmt-If-2, None', Some', Row_of-Stmt, end_of-Stmt, more_of-Stmt, Row_of-Arm, end_of-Arm, more_of-Arm}
 use Rattle.smv_core.specs.declared.tree.Item.{Item, Declare, Instance, Layer, Claim, Split, Using, Act, Row_of-Item, end_of-Item, more_of-Item}
 use Rattle.smv_core.specs.declared.tree.Item as item
 use Rattle.smv_core.specs.declared.tree.Text.{Text}
@@ -24,11 +23,11 @@ use Rattle.smv_core.specs.declared.flat.FlatStmt as act
 use Rattle.smv_core.specs.declared.flat.FlatItem.{FlatItem}
 use Rattle.smv_core.specs.declared.flat.FlatItem.TheVariants as flat
 use Rattle.smv_core.specs.declared.flat.FlatStmt.{FlatStmt, Row_of-FlatStmt, end_of-FlatStmt, more_of-FlatStmt, items-the_row-FlatStmt, items_hidden-the_row-FlatStmt-1}
-use Rattle.smv_inst.specs.Sizes.{Sized, sized_from, statements, statements_in_row, statements_in_branch, statements_in_arms, statements_of_item, statements_of_items, body_named, statements_in}
+use Rattle.smv_inst.specs.Sizes.{Sized, sized_from, statements, statements_in_row, statements_in_branch, statements_in_arms, statements_of_item, statements_of_items, statements_in}
 use Rattle.smv_inst.proofs.Computing.{computing}
 use Rattle.smv_flat.specs.Numbers.{Scope, bound_in, flat_over}
 use Rattle.smv_flat.specs.Statements.{flat_expr, flat_stmt, flat_parts, flat_branch, flat_arms, first_label}
-use Rattle.smv_flat.specs.Entries.{Goal, claim, split, using, Entry, layer, statement, goal, inside_binder, given_to, connection, connections, instance_entries, item_entries, items_entries, entries_in, entries}
+use Rattle.smv_flat.specs.Entries.{claim, split, using, Entry, layer, statement, goal, inside_binder, given_to, connection, connections, instance_entries, item_entries, items_entries, entries_in, entries}
 use Rattle.smv_flat.specs.Flattening.{layers_of, flat_assignments, flat_assignments_in, scope_in, with_places, flat_entry, flatten}
 use Rattle.smv_flat.proofs.FlatLists.{boxes}
 use Rattle.smv_within.specs.NumbersFit.{PlaceFits}

@@ -1,8 +1,7 @@
 -- Ranges of types without a fault of kinds fit.
-use Rattle.std.proofs.Common.{◌≡◌, ◌≤◌, ℕ, List, [], ◌∷◌, ◌++◌, Option, Some, None, IfSome, Bool, true, false, ◌||◌, nat_lt, arith}
+use Rattle.std.proofs.Common.{◌≡◌, ℕ, List, [], ◌∷◌, Option, Some, None, IfSome, false, ◌||◌, nat_lt, arith}
 use Rattle.std.specs.List.{AllByRecursion}
 use Rattle.smv_core.specs.Values.{Name}
-use Rattle.smv_core.specs.declared.fault.Fault.{Fault}
 use Rattle.smv_core.specs.declared.tree.Span.{Span}
 use Rattle.smv_core.specs.declared.tree.Text.{Text}
 use Rattle.smv_core.specs.declared.tree.Top.{Top}
@@ -34,6 +33,7 @@ module _ (types : Types) where
 
   mutual
     unfolding type_faults field_faults
+
     type-fits : (t : TypeExpr) → type_faults types t ≡ [] → RangesFit t
     type-fits (Range span at) e = range-fits span at e
     type-fits (Array' i (more_of-TypeExpr index end_of-TypeExpr) o (more_of-TypeExpr of end_of-TypeExpr)) e =

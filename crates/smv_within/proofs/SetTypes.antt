@@ -1,5 +1,5 @@
 -- Each set type takes at least 16 bytes.
-use Rattle.std.proofs.Common.{◌≡◌, ◌<◌, ◌≤◌, ◌+◌, ◌*◌, ℕ, zero, suc, Bool, true, false, ◌&&◌, ◌==◌, cond, List, [], ◌∷◌, ◌++◌, length, inl, inr, Option, Some, None, Ok, refl, ap, sym, subst, arith, length-append}
+use Rattle.std.proofs.Common.{◌≡◌, ◌≤◌, ◌+◌, ◌*◌, ℕ, suc, Bool, true, false, cond, List, [], ◌∷◌, length, inl, inr, Option, Some, None, Ok, refl, ap, sym, subst, arith, length-append}
 use Rattle.std.specs.List.{flat_map}
 use Rattle.smv_core.specs.declared.token.Token.{Token}
 use Rattle.smv_core.specs.declared.token.TokenKind.{TokenKind}
@@ -10,7 +10,7 @@ use Rattle.smv_core.specs.declared.tree.Top.{Top}
 use Rattle.smv_core.specs.declared.tree.Top.TheVariants as top
 use Rattle.smv_core.specs.declared.tree.Text.{Text}
 use Rattle.smv_core.specs.Signs as w
-use Rattle.smv_core.specs.Notation.{Tokens, Rule, same_kind, with_place, number_of, name_of, nothing, ◌>>=◌, ◌>>◌, many, one, token, name, number, separated_or_none}
+use Rattle.smv_core.specs.Notation.{Tokens, same_kind, name_of, nothing, ◌>>=◌, ◌>>◌, many, one, token, name, separated_or_none}
 use Rattle.smv_core.specs.Grammar as g
 use Rattle.smv_core.specs.Grammar.{Rules, below}
 use Rattle.smv_core.specs.Spelling.{Spells}

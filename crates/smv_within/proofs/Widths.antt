@@ -1,19 +1,19 @@
 -- The tokens of some bytes have no more bytes than there are.
-use Rattle.std.proofs.Common.{◌≡◌, ◌<◌, ◌≤◌, ◌+◌, ◌-◌, ℕ, zero, suc, Bool, true, false, not, ◌&&◌, cond, List, [], ◌∷◌, ◌++◌, length, take, drop, Option, Some, None, Ok, Err, unwrap_or, nat_le, ◌⊎◌, inl, inr, refl, ap, sym, ◌∙◌, subst, arith, length-drop}
+use Rattle.std.proofs.Common.{◌≡◌, ◌<◌, ◌≤◌, ◌+◌, ℕ, zero, suc, Bool, true, false, not, ◌&&◌, cond, List, [], ◌∷◌, ◌++◌, length, take, drop, Option, Some, None, Ok, Err, unwrap_or, nat_le, ◌⊎◌, inl, inr, refl, ap, sym, ◌∙◌, subst, arith, length-drop}
 use Rattle.std.specs.Str.{bytes_eq}
 use Rattle.std.specs.List.{list_all}
 use Rattle.std.proofs.lemmas.List.{length-take}
 use Rattle.std.proofs.lemmas.Slice.Eq.{bytes_eq-Decides}
 use Rattle.smv_core.specs.declared.token.Token.{Token}
 use Rattle.smv_core.specs.declared.token.TokenKind.{TokenKind}
-use Rattle.smv_core.specs.declared.token.TokenKind.TheVariants.{Ident, Number, Sign, Reserved}
+use Rattle.smv_core.specs.declared.token.TokenKind.TheVariants.{Ident, Number}
 use Rattle.smv_core.specs.Signs.{word_scalarset}
-use Rattle.smv_core.specs.Notation.{Tokens, same_kind}
+use Rattle.smv_core.specs.Notation.{same_kind}
 use Rattle.smv_lex.specs.declared.front.Front.{Front}
 use Rattle.smv_lex.specs.declared.front.Front.TheVariants.{Passed, Whole, Broken}
 use Rattle.smv_lex.specs.Spellings.{signs, reserved_words, spelled_in}
-use Rattle.smv_lex.specs.Lexing.{Lexed, is_letter, is_digit, is_name_byte, word_kind, number_of, front_of, with_token, lexed_from, lexed}
-use Rattle.smv_lex.specs.Longest.{is_word, is_digits, kind_of, NoLonger, IsLongest}
+use Rattle.smv_lex.specs.Lexing.{Lexed, is_letter, is_name_byte, word_kind, number_of, front_of, with_token, lexed_from, lexed}
+use Rattle.smv_lex.specs.Longest.{is_word, is_digits, kind_of, NoLonger}
 use Rattle.smv_lex.proofs.Fronts.{passed-some, token-some}
 use Rattle.smv_lex.proofs.Lexing.{from-end, from-passed, from-token, from-fault}
 use Rattle.smv_lex.proofs.Longest.{longest-token}
