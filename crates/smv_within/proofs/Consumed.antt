@@ -1,5 +1,5 @@
 -- What the rules of the grammar read has no fewer bytes than are counted for its tokens.
-use Rattle.std.proofs.Common.{◌≡◌, ◌<◌, ◌≤◌, ◌+◌, ◌*◌, ℕ, zero, suc, Bool, true, false, ◌&&◌, cond, List, [], ◌∷◌, ◌++◌, length, inl, inr, Option, Some, None, refl, ap, sym, subst, arith}
+use Rattle.std.proofs.Common.{◌≤◌, ◌+◌, ℕ, zero, suc, Bool, true, false, ◌&&◌, cond, List, [], ◌∷◌, inl, inr, Option, ap, arith}
 use Rattle.smv_core.specs.declared.token.Token.{Token}
 use Rattle.smv_core.specs.declared.tree.Word.{Word}
 use Rattle.smv_core.specs.declared.tree.Expr.{Expr}
@@ -10,9 +10,9 @@ use Rattle.smv_core.specs.declared.tree.Stmt.{Stmt}
 use Rattle.smv_core.specs.declared.tree.Role.{Role}
 use Rattle.smv_core.specs.declared.tree.Role.TheVariants as role
 use Rattle.smv_core.specs.declared.token.TokenKind.{TokenKind}
-use Rattle.smv_core.specs.declared.token.TokenKind.TheVariants.{Ident, Number, Sign, Reserved}
+use Rattle.smv_core.specs.declared.token.TokenKind.TheVariants.{Ident}
 use Rattle.smv_core.specs.Signs as w
-use Rattle.smv_core.specs.Notation.{Tokens, Rule, same_kind, never, nothing, ◌>>=◌, ◌>>◌, ◌<|>◌, many, optional, placed, one, token, name, number, one_of, same_name, positive, separated, separated_or_none, opens, opener}
+use Rattle.smv_core.specs.Notation.{Tokens, Rule, same_kind, nothing, ◌>>=◌, ◌>>◌, ◌<|>◌, many, optional, placed, one, token, name, number, one_of, same_name, positive, separated, separated_or_none, opens, opener}
 use Rattle.smv_core.specs.Grammar as g
 use Rattle.smv_core.specs.Grammar.{Rules, no_rules, rules, below}
 
@@ -45,7 +45,7 @@ pub record IsLess {A : Type 0} (r : Rule A) : Type 0 where
 down : (a b c : ℕ) → a ≤ b → b ≤ c → a ≤ c
 down a b c h k = omega (arith, h, k)
 
-less-bind : {A B : Type 0} {r : Rule A} {s : A → Rule B} → IsLess r → ((a : A) → IsLess (s a)) → IsLess (r >>= s)
+pub less-bind : {A B : Type 0} {r : Rule A} {s : A → Rule B} → IsLess r → ((a : A) → IsLess (s a)) → IsLess (r >>= s)
 less-bind l k = record { less = λ ts b rest h. down (weight rest) (weight h.1) (weight ts) ((k h.0).less h.1 b rest h.3) (l.less ts h.0 h.1 h.2) }
 
 less-or : {A : Type 0} {r s : Rule A} → IsLess r → IsLess s → IsLess (r <|> s)
@@ -55,7 +55,7 @@ less-or {A} {r} {s} l k = record { less = λ ts a rest h. by_case ts a rest h }
     by_case ts a rest (inl h) = l.less ts a rest h
     by_case ts a rest (inr h) = k.less ts a rest h
 
-less-nothing : {A : Type 0} (a : A) → IsLess (nothing a)
+pub less-nothing : {A : Type 0} (a : A) → IsLess (nothing a)
 less-nothing a = record { less = λ ts b rest h. let e = ap weight h.1 in omega (arith, e) }
 
 less-one : {A : Type 0} (read : Token → Option A) → IsLess (one read)
@@ -67,10 +67,10 @@ less-one {A} read = record { less = by_case }
 
 -- ---- what opens no level
 
-less-token : (k : TokenKind) → IsLess (token k)
+pub less-token : (k : TokenKind) → IsLess (token k)
 less-token k = less-one _
 
-less-name : IsLess name
+pub less-name : IsLess name
 less-name = less-one _
 
 less-number : IsLess number
@@ -82,14 +82,14 @@ less-span = less-bind less-number (λ low. less-bind (less-token w.dots) (λ u. 
 less-index : IsLess g.index
 less-index = less-or (less-bind (less-token w.word_boolean) (λ u. less-nothing _)) (less-or (less-bind less-span (λ s. less-nothing _)) (less-bind less-name (λ x. less-nothing _)))
 
-less-many : {A : Type 0} {r : Rule A} → IsLess r → IsLess (many r)
+pub less-many : {A : Type 0} {r : Rule A} → IsLess r → IsLess (many r)
 less-many {A} {r} l = record { less = by_list }
   where
     by_list : (ts : Tokens) (xs : List A) (rest : Tokens) → many r ts xs rest → weight rest ≤ weight ts
     by_list ts [] rest h = let e = ap weight h in omega (arith, e)
     by_list ts (a ∷ xs) rest h = down (weight rest) (weight h.0) (weight ts) (by_list h.0 xs rest h.2) (l.less ts a h.0 h.1)
 
-less-then : {A B : Type 0} {r : Rule A} {s : Rule B} → IsLess r → IsLess s → IsLess (r >> s)
+pub less-then : {A B : Type 0} {r : Rule A} {s : Rule B} → IsLess r → IsLess s → IsLess (r >> s)
 less-then l k = less-bind l (λ a. k)
 
 less-optional : {A : Type 0} {r : Rule A} → IsLess r → IsLess (optional r)
@@ -98,7 +98,7 @@ less-optional l = less-or (less-bind l (λ a. less-nothing _)) (less-nothing _)
 less-separated : {A : Type 0} {r : Rule A} → IsLess r → IsLess (separated r)
 less-separated l = less-bind l (λ x. less-bind (less-many (less-then (less-token w.comma) l)) (λ more. less-nothing _))
 
-less-or_none : {A : Type 0} {r : Rule A} → IsLess r → IsLess (separated_or_none r)
+pub less-or_none : {A : Type 0} {r : Rule A} → IsLess r → IsLess (separated_or_none r)
 less-or_none l = less-or (less-separated l) (less-nothing _)
 
 less-one_of : {A : Type 0} (list : List (TokenKind × A)) → IsLess (one_of list)
@@ -154,7 +154,7 @@ pub record AreLess (r : Rules) : Type 0 where
   pub body : IsLess r.body
 
 module _ (floor : ℕ → ℕ) (n : ℕ) (inner : Rules) (l : AreLess inner) where
-  opening : (k : TokenKind) → IsLess (g.opening floor n inner k)
+  pub opening : (k : TokenKind) → IsLess (g.opening floor n inner k)
   opening k = less-opener floor n k
 
   less-enumeration : IsLess (g.enumeration floor n inner)
@@ -166,7 +166,7 @@ module _ (floor : ℕ → ℕ) (n : ℕ) (inner : Rules) (l : AreLess inner) whe
   less-structure : IsLess (g.structure floor n inner)
   less-structure = less-then (less-token w.word_struct) (less-then (opening w.open_brace) (less-bind (less-many l.field) (λ fields. less-then (less-token w.close_brace) (less-nothing _))))
 
-  less-type : IsLess (g.type_rule floor n inner)
+  pub less-type : IsLess (g.type_rule floor n inner)
   less-type = less-or less-index (less-or less-enumeration (less-or less-array less-structure))
 
   less-field : IsLess (g.field_rule floor n inner)

@@ -17,6 +17,8 @@ use Rattle.smv_inst.specs.Sizes.{count_different, constant_names}
 use Rattle.smv_flat.specs.Flattening.{different, enum_of, flatten}
 use Rattle.smv_flat.proofs.TypeNumbers.{paths-decide}
 use Rattle.smv_typed.proofs.Operands.{both}
+use Rattle.smv_within.proofs.Items.{all-joined}
+use Rattle.smv_within.proofs.FewEntries.{each-kept}
 use Rattle.smv_within.proofs.Limits.{nil-both, nil-each, nil-map, not-placed, none-named, within-limits}
 
 -- ---- names in lists
@@ -192,17 +194,9 @@ each-own known all (word ∷ words) e there = by_test (is_of_other_list all (fin
     by_test true h e rest = absurd (cc (e))
     by_test false h e rest = (own (find_name known word.name) (found-in known word.name there.0) h, rest e)
 
-each-kept : {X : Type 0} (P Q : X → Type 0) → ((x : X) → P x → Q x) → (xs : List X) → AllByRecursion P xs → AllByRecursion Q xs
-each-kept P Q k [] h = tt
-each-kept P Q k (x ∷ xs) h = (k x h.0, each-kept P Q k xs h.1)
-
 each-parts : {X : Type 0} (P : X → Type 0) (xs ys : List X) → AllByRecursion P (xs ++ ys) → AllByRecursion P xs × AllByRecursion P ys
 each-parts P [] ys h = (tt, h)
 each-parts P (x ∷ xs) ys h = let r = each-parts P xs ys h.1 in ((h.0, r.0), r.1)
-
-each-joined : {X : Type 0} (P : X → Type 0) (xs ys : List X) → AllByRecursion P xs → AllByRecursion P ys → AllByRecursion P (xs ++ ys)
-each-joined P [] ys h k = k
-each-joined P (x ∷ xs) ys h k = (h.0, each-joined P xs ys h.1 k)
 
 -- each name is in its list
 all-in : (xs : List Name) → AllByRecursion (IsIn xs) xs
@@ -254,7 +248,7 @@ module _ (tops : List Piece) where
   pieces-fine (piece ∷ some) k h =
       let parts = known-parts (constants_in piece.mentions) (flat_map (λ (piece : Piece). constants_in piece.mentions) some) k in
       let own = nil-both (repeated [] (formals_of piece) ++ repeated [] (declared_words piece.mentions)) (flat_map (doubled (scope_of tops piece)) piece.mentions) h.0 in
-      each-joined (IsFine known) (flat_map enum_of piece.mentions) (flat_map (λ (piece : Piece). flat_map enum_of piece.mentions) some)
+      all-joined (IsFine known) (flat_map enum_of piece.mentions) (flat_map (λ (piece : Piece). flat_map enum_of piece.mentions) some)
       (mentions-fine piece piece.mentions parts.0 (nil-each (doubled (scope_of tops piece)) piece.mentions own.1)) (pieces-fine some parts.1 h.1)
 
 -- ---- different lists

@@ -23,10 +23,11 @@ use Rattle.smv_flat.specs.Entries.{claim, split, using, Entry, layer, statement,
 use Rattle.smv_flat.specs.Flattening.{different, layer_of, layers_of, layer_number, flat_assignments, with_places, flat_entry, flatten}
 use Rattle.smv_within.specs.NumbersFit.{IsShort}
 use Rattle.smv_within.proofs.Fitting.{LayerFits}
+use Rattle.smv_within.proofs.Items.{all-joined}
 
 -- ---- lengths and sums
 
-sum-cons : {X : Type 0} (f : X → ℕ) (x : X) (xs : List X) → sum (map f (x ∷ xs)) ≡ f x + sum (map f xs)
+pub sum-cons : {X : Type 0} (f : X → ℕ) (x : X) (xs : List X) → sum (map f (x ∷ xs)) ≡ f x + sum (map f xs)
 sum-cons f x xs = sum_by-cons (λ n. n) (f x) (map f xs)
 
 flat-sum : {X Y : Type 0} (f : X → List Y) (g : X → ℕ) → ((x : X) → length (f x) ≤ g x) → (xs : List X) → length (flat_map f xs) ≤ sum (map g xs)
@@ -149,7 +150,7 @@ abbrev IsLess : ℕ → ℕ → Entry → Type 0
 IsLess h n (statement x) = h < n
 IsLess h n _ = Unit {0}
 
-each-kept : {X : Type 0} (P Q : X → Type 0) → ((x : X) → P x → Q x) → (xs : List X) → AllByRecursion P xs → AllByRecursion Q xs
+pub each-kept : {X : Type 0} (P Q : X → Type 0) → ((x : X) → P x → Q x) → (xs : List X) → AllByRecursion P xs → AllByRecursion Q xs
 each-kept P Q k [] h = tt
 each-kept P Q k (x ∷ xs) h = (k x h.0, each-kept P Q k xs h.1)
 
@@ -200,13 +201,9 @@ module _ (text : Text) (layers : List Name) where
   entry-fits h n a b (goal instance binders (split word vars of pairs at)) less = (tt, tt)
   entry-fits h n a b (goal instance binders (using uses proves at)) less = (tt, tt)
 
-  joined-fit : (xs ys : List FlatItem) → AllByRecursion LayerFits xs → AllByRecursion LayerFits ys → AllByRecursion LayerFits (xs ++ ys)
-  joined-fit [] ys h k = k
-  joined-fit (x ∷ xs) ys h k = (h.0, joined-fit xs ys h.1 k)
-
   entries-fit : (h n : ℕ) → length layers ≤ h → n ≤ 65536 → (es : List Entry) → AllByRecursion (IsLess h n) es → AllByRecursion LayerFits (flat_map (flat_entry text layers) es)
   entries-fit h n a b [] less = tt
-  entries-fit h n a b (e ∷ es) less = joined-fit (flat_entry text layers e) (flat_map (flat_entry text layers) es) (entry-fits h n a b e less.0) (entries-fit h n a b es less.1)
+  entries-fit h n a b (e ∷ es) less = all-joined LayerFits (flat_entry text layers e) (flat_map (flat_entry text layers) es) (entry-fits h n a b e less.0) (entries-fit h n a b es less.1)
 
 places-fit : (k : ℕ) (items : List FlatItem) → AllByRecursion LayerFits items → AllByRecursion LayerFits (with_places k items)
 places-fit k [] h = tt

@@ -16,7 +16,7 @@ use Rattle.smv_core.specs.declared.flat.FlatItem.TheVariants as item
 use Rattle.smv_core.specs.declared.flat.Raw.{Raw}
 use Rattle.smv_typed.specs.FlatKinds.{Kind, number, enumeration, number_if, kind_of, takes, are_numbers, common, assigns, element, take_each, Vars, inside, is_type, is_index_type, is_binder, kind_in, kinds_in, summands, members_in, looked_through, is_condition, value_in, keeps_kinds, all_keep_kinds, are_binders, bound_by, is_kinded_item, is_kinded_family, is_size, is_kinded}
 use Rattle.smv_typed.proofs.Operands.{both, all-some, takes-some, numbers-some, each-some, if-some, common-some, number_if-true, compares-some, two-some, chosen-some, element-some}
-use Rattle.smv_within.specs.NumbersFit.{IsShort, TypeFits, ExprFits, PartsFit, TermsFit, MembersFit, ConditionFits, StatementFits, StatementsFit, ParamFits, ItemFits, FamilyFits, NumbersFit}
+use Rattle.smv_within.specs.NumbersFit.{IsShort, TypeFits, ExprFits, PartsFit, TermsFit, MembersFit, ConditionFits, StatementFits, StatementsFit, ParamFits, ItemFits, PlaceFits, FamilyFits, NumbersFit}
 use Rattle.smv_within.proofs.Shallow.{most}
 use Rattle.smv_within.proofs.FlatShallow.{FlatIsShallow, RowIsShallow, SignedAreShallow, ListedAreShallow, HeldIsShallow, ActIsShallow, ActsAreShallow}
 use Rattle.smv_within.proofs.Items.{FlatInside, FlatItemIsShallow}
@@ -296,15 +296,17 @@ module _ (raw : Raw) (room : HasRoom raw) where
       (size-fits info.size g.0, sizes-fit infos g.1)
 
   -- each number of the text
-  pub raw-fits : is_kinded raw ≡ true → AllByRecursion LayerFits raw.items → AllByRecursion FlatItemIsShallow raw.items → NumbersFit raw
-  raw-fits e layers shallow =
+  pub raw-fits : is_kinded raw ≡ true → AllByRecursion LayerFits raw.items → AllByRecursion FlatItemIsShallow raw.items → AllByRecursion PlaceFits raw.items → NumbersFit raw
+  raw-fits e layers shallow places =
       let a : (list_all (λ (info : SetInfo). is_size info.size) raw.sets ≡ true) × ((list_all (λ (names : List Name). nat_lt 0 (length names)) raw.enums && (list_all (is_kinded_family raw) raw.families && list_all (is_kinded_item raw) raw.items)) ≡ true) = both _ _ e in
       let b : (list_all (λ (names : List Name). nat_lt 0 (length names)) raw.enums ≡ true) × ((list_all (is_kinded_family raw) raw.families && list_all (is_kinded_item raw) raw.items) ≡ true) = both _ _ a.1 in
       let c : (list_all (is_kinded_family raw) raw.families ≡ true) × (list_all (is_kinded_item raw) raw.items ≡ true) = both _ _ b.1 in
       record {
+        set_types = room.sets;
         sizes = sizes-fit raw.sets a.0;
         enumerations = room.enums;
         constants = room.constants;
         families = families-fit raw.families c.0;
         items = items-fit raw.items c.1 layers shallow;
+        places = places;
       }

@@ -32,7 +32,7 @@ use Rattle.smv_within.proofs.Shallow.{most, IsShallow, AreShallow, IndexesAreSha
 use Rattle.smv_within.proofs.ShallowForms.{PartIsShallow, PathIsShallow, shallow-Signal, shallow-Assign, shallow-Forall}
 use Rattle.smv_within.proofs.FlatShallow.{FlatIsShallow, ActIsShallow, expr-shallow, act-shallow}
 
-all-joined : {X : Type 0} (P : X → Type 0) (xs ys : List X) → AllByRecursion P xs → AllByRecursion P ys → AllByRecursion P (xs ++ ys)
+pub all-joined : {X : Type 0} (P : X → Type 0) (xs ys : List X) → AllByRecursion P xs → AllByRecursion P ys → AllByRecursion P (xs ++ ys)
 all-joined P [] ys h g = g
 all-joined P (x ∷ xs) ys h g = (h.0, all-joined P xs ys h.1 g)
 

@@ -11,3 +11,6 @@ mod FewConstants
 mod WholeText
 mod Consumed
 mod Widths
+mod SetTypes
+mod Ranges
+mod Places

@@ -28,7 +28,7 @@ pub not-placed : (b : Bool) (at : ℕ) → place_if b at ≡ [] → b ≡ false
 not-placed true at e = absurd (cc (e))
 not-placed false at e = refl
 
-no-faults : (faults : List Fault) → first_of faults ≡ None → faults ≡ []
+pub no-faults : (faults : List Fault) → first_of faults ≡ None → faults ≡ []
 no-faults [] e = refl
 no-faults (f ∷ faults) e = absurd (by_rest (first_of faults) e)
   where
@@ -62,11 +62,11 @@ none-named text e =
 
 -- ---- the limits
 
-neither : (a b : Bool) → (a || b) ≡ false → (a ≡ false) × (b ≡ false)
+pub neither : (a b : Bool) → (a || b) ≡ false → (a ≡ false) × (b ≡ false)
 neither true b e = absurd (cc (e))
 neither false b e = (refl, e)
 
-not-less : (a b : ℕ) → nat_lt a b ≡ false → b ≤ a
+pub not-less : (a b : ℕ) → nat_lt a b ≡ false → b ≤ a
 not-less a b e = grind arith
 
 small : (text : Text) → first_fault text ≡ None → is_too_large text ≡ false

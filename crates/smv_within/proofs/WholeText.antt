@@ -12,7 +12,7 @@ use Rattle.smv_flat.specs.Entries.{entries}
 use Rattle.smv_flat.specs.Flattening.{flatten}
 use Rattle.smv_typed.specs.FlatKinds.{is_size, is_kinded_item, is_kinded_family, is_kinded}
 use Rattle.smv_typed.proofs.Operands.{both}
-use Rattle.smv_within.specs.NumbersFit.{NumbersFit}
+use Rattle.smv_within.specs.NumbersFit.{PlaceFits, NumbersFit}
 use Rattle.smv_within.proofs.ShallowRules.{spelled-shallow}
 use Rattle.smv_within.proofs.Items.{items-shallow}
 use Rattle.smv_within.proofs.Fitting.{HasRoom, raw-fits}
@@ -30,8 +30,8 @@ each-more [] h = tt
 each-more (names ∷ lists) h = (let a = h.0 in omega (arith, a), each-more lists h.1)
 
 pub text-fits : (n : ℕ) (tokens : Tokens) (text : Text) → Spells n tokens text → n ≤ 65536 → first_fault text ≡ None → length (flatten text).sets ≤ 65536 → is_kinded (flatten text) ≡ true →
-    length (flatten text).families ≤ 4096 → AllByRecursion (λ (names : List Name). length names ≤ 4096) (flatten text).enums → length (entries text) ≤ 65536 → NumbersFit (flatten text)
-text-fits n tokens text spelled le none sets kinds families constants few =
+    length (flatten text).families ≤ 4096 → AllByRecursion (λ (names : List Name). length names ≤ 4096) (flatten text).enums → length (entries text) ≤ 65536 → AllByRecursion PlaceFits (flatten text).items → NumbersFit (flatten text)
+text-fits n tokens text spelled le none sets kinds families constants few places =
     let raw = flatten text in
     let room : HasRoom raw = record {
       sets = sets;
@@ -39,4 +39,4 @@ text-fits n tokens text spelled le none sets kinds families constants few =
       constants = each-more raw.enums constants;
       families = omega (arith, families);
     } in
-    raw-fits raw room kinds (layers-fit text few) (items-shallow text (spelled-shallow n tokens text spelled le))
+    raw-fits raw room kinds (layers-fit text few) (items-shallow text (spelled-shallow n tokens text spelled le)) places

@@ -1,1 +1,2 @@
 pub mod NumbersFit
+pub mod RangesFit

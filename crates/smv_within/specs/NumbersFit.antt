@@ -95,10 +95,18 @@ ItemFits (item.Using u) = AllByRecursion ParamFits u.bound
 abbrev pub FamilyFits : Family → Type 0
 FamilyFits f = AllByRecursion TypeFits f.over × TypeFits f.value
 
--- Each number of a flattened text fits its field: sizes of set types, the numbers of all enumerations and of their constants, and those in families and items.
+-- the place of a claim among the assignments and claims
+abbrev pub PlaceFits : FlatItem → Type 0
+PlaceFits (item.Claim c) = c.place < 65536
+PlaceFits _ = Unit {0}
+
+-- Each number of a flattened text fits its field: the numbers and sizes of all set types, the numbers of all enumerations and of their constants, and those in families and
+-- items.
 pub record NumbersFit (raw : Raw) : Type 0 where
+  pub set_types : length raw.sets ≤ 65536
   pub sizes : AllByRecursion (λ (info : SetInfo). IfSome info.size IsShort) raw.sets
   pub enumerations : length raw.enums ≤ 65536
   pub constants : AllByRecursion (λ (names : List Name). length names ≤ 65536) raw.enums
   pub families : AllByRecursion FamilyFits raw.families
   pub items : AllByRecursion ItemFits raw.items
+  pub places : AllByRecursion PlaceFits raw.items
