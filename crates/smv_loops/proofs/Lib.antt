@@ -13,3 +13,4 @@ pub mod SortLaws
 pub mod ClosingLaws
 pub mod WayLaws
 pub mod OrderLaws
+pub mod ApartLaws

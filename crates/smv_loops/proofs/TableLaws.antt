@@ -61,7 +61,7 @@ module _ {X : Type 0} where
 
 -- ---- an index at its place
 
-not_below : (n low k : ℕ) → In k (numbers_from low n) → low ≤ k
+pub not_below : (n low k : ℕ) → In k (numbers_from low n) → low ≤ k
 not_below zero low k h = absurd h
 not_below (suc n) low k (inl e) = omega (arith, e)
 not_below (suc n) low k (inr h) = let l = not_below n (low + 1) k h in omega (arith, l)

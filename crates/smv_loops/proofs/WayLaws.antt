@@ -30,7 +30,7 @@ one-number low k out new le so_far is =
     let m : low + (k - low) ≡ k = omega arith in
     is ∙ ap (λ l. l ++ Some k ∷ []) so_far ∙ ap (λ j. map Some (numbers_from low (k - low)) ++ Some j ∷ []) (sym m) ∙ sym (map-append Some (numbers_from low (k - low)) ((low + (k - low)) ∷ [])) ∙ ap (map Some) (sym (numbers-more low (k - low))) ∙ ap (λ n. map Some (numbers_from low n)) (sym n)
 
-abbrev cell_at : ℕ → List (Option ℕ) → Cell
+abbrev pub cell_at : ℕ → List (Option ℕ) → Cell
 cell_at k is = record { family = k; indexes = is }
 
 module _ (h : Cell → Listed) (k : ℕ) where

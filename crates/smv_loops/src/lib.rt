@@ -4,6 +4,7 @@
 pub mod base;
 pub mod cells;
 pub mod index;
+pub mod laws;
 pub mod listed;
 pub mod loops;
 pub mod order;
