@@ -14,6 +14,8 @@ ghost use Rattle.smv_types.specs.KindFaults.{first_fault_of_kinds};
 ghost use Rattle.smv_within.specs.NumbersFit.{NumbersFit, PlaceFits};
 ghost use Rattle.smv_within.specs.RangesFit.{NamedRangesFit};
 
+use smv_kinded::laws::flattened_texts_are_kinded;
+
 /// The flattened text of a text without a fault of names and size has at most 4,096 families.
 pub fn families_are_few()
     ensures { (text : Text) → first_fault text ≡ None → length (flatten text).families ≤ 4096 }
@@ -55,11 +57,11 @@ pub fn set_types_are_few()
     ensures { (bytes : List ℕ) (n : ℕ) (tokens : Tokens) (text : Text) → length bytes ≤ 1048576 → lexed bytes ≡ Ok tokens → Spells n tokens text → length (flatten text).sets ≤ 65536 }
 {}
 
-/// So each number fits where a text of at most 1,048,576 bytes is spelled within at most 65,536 levels and has no fault of names and size, and its flattened text keeps the
-/// rules of kinds.
+/// So each number fits where a text of at most 1,048,576 bytes is spelled within at most 65,536 levels and has no fault of names, size and kinds.
 pub fn numbers_of_bytes_fit()
-    ensures { (bytes : List ℕ) (n : ℕ) (tokens : Tokens) (text : Text) → length bytes ≤ 1048576 → lexed bytes ≡ Ok tokens → Spells n tokens text → n ≤ 65536 → first_fault text ≡ None → is_kinded (flatten text) ≡ true → NumbersFit (flatten text) }
+    ensures { (bytes : List ℕ) (n : ℕ) (tokens : Tokens) (text : Text) → length bytes ≤ 1048576 → lexed bytes ≡ Ok tokens → Spells n tokens text → n ≤ 65536 → first_fault text ≡ None → first_fault_of_kinds text ≡ None → NumbersFit (flatten text) }
 {
     numbers_fit();
     set_types_are_few();
+    flattened_texts_are_kinded();
 }
