@@ -7,9 +7,9 @@ ghost use Rattle.smv_typing.specs.Answers.{IsSpelled};
 ghost use Rattle.smv_front.specs.TextFault as spec;
 
 use smv_assigned::single_fault;
-use smv_core::{Fault, Refusal};
 use smv_core::flat::Design;
 use smv_core::tree::Text;
+use smv_core::{Fault, Refusal};
 use smv_defined::design;
 use smv_inst::pieces::pieces;
 use smv_layers::layers::layer_fault;
