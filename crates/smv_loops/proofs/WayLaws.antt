@@ -43,8 +43,8 @@ module _ (h : Cell → Listed) (k : ℕ) where
   list-more items i list start out new cell l e so_far here is =
       is ∙ ap (λ o. o ++ cell ∷ []) so_far ∙ append_assoc start (map h (map (cell_at k) (lists_of (take i items)))) (cell ∷ [])
       ∙ ap (λ l. start ++ l) (
-        ap (λ c. map h (map (cell_at k) (lists_of (take i items))) ++ c ∷ []) here ∙ sym (family-more (lists_of (take i items)) list.items)
-        ∙ ap (λ l. map h (map (cell_at k) l)) (sym (map-append (λ (list : Vec (Option ℕ)). list.items) (take i items) (list ∷ [])) ∙ ap lists_of (sym (take-more items i list l e)))
+      ap (λ c. map h (map (cell_at k) (lists_of (take i items))) ++ c ∷ []) here ∙ sym (family-more (lists_of (take i items)) list.items)
+      ∙ ap (λ l. map h (map (cell_at k) l)) (sym (map-append (λ (list : Vec (Option ℕ)). list.items) (take i items) (list ∷ [])) ∙ ap lists_of (sym (take-more items i list l e)))
       )
 
   -- the cells of a family

@@ -198,15 +198,14 @@ fn cells_in_order(alloc: Global, order: &Order) -> Result<Vec<(u16, Option<u8>)>
 #[test]
 fn each_cell_is_after_what_it_reads(rt: HostRuntime) -> Result<(), Fail> {
     let alloc = rt.alloc();
-    let a = is(
-        A,
-        assign(alloc, None, read(alloc, X, Some(number(1)))?, 0)?,
-    );
+    let a = is(A, assign(alloc, None, read(alloc, X, Some(number(1)))?, 0)?);
     let first = assign(alloc, Some(number(0)), read(alloc, B, None)?, 1)?;
     let x = is(X, both(alloc, first, element_of(alloc, 1, number(0), 2)?)?);
     let mut design = design(alloc, a, Some(x))?;
     let next = assign(alloc, None, read(alloc, A, None)?, 3)?;
-    design.defs.push(def(B, Flat::Nothing, next, Flat::Nothing))?;
+    design
+        .defs
+        .push(def(B, Flat::Nothing, next, Flat::Nothing))?;
     let cells = cells_in_order(alloc, &loops(alloc, &design)?)?;
     let expected = [(B, None), (X, Some(0)), (X, Some(1)), (A, None)];
     assert_eq!(rt; cells.as_slice(), expected.as_slice());
