@@ -32,7 +32,7 @@ returns-in_err-high-clause-reached t c top live_top reach ones =
 pub returns-in-Some-recall-clause-first : goal.returns-in-Some-recall-clause-first
 returns-in-Some-recall-clause-first t c =
     let d = c.args.store.now in
-    let is = c.in-Some-recall.ensures in
+    let is = c.in-Some-recall.ensures.some d c.requires.known in
     change_first d c.requires.sound c.in-Some-recall.r is.live c.args.back c.args.flip c.args.f c.requires.live (λ a. is.table a ∙ c.changing-operation.ensures.made d a)
 
 -- what the store comes to know is right
@@ -205,3 +205,9 @@ returns-clause-calls t c =
 
 pub returns-in-Some-clause-first : goal.returns-in-Some-clause-first
 returns-in-Some-clause-first t c = let within = first_within c.args.store.now c.args.f c.requires.live in omega (arith, within, c.constant.ensures.first)
+
+pub returns-clause-known : goal.returns-clause-known
+returns-clause-known t c = c.remember.ensures.right c.result_node.new.store (c.in_ok-r.ensures.known c.change_from-2.new.known c.in_ok-high.ensures.known) c.in_ok-r.ensures.right
+
+pub returns-in_err-insert-clause-known : goal.returns-in_err-insert-clause-known
+returns-in_err-insert-clause-known t c = c.remember.ensures.right c.result_node.new.store (c.in_ok-r.ensures.known c.change_from-2.new.known c.in_ok-high.ensures.known) c.in_ok-r.ensures.right

@@ -29,7 +29,7 @@ returns-in-Some-get-clause-table t c = (image_found (some_at c.args.var) 0 c.arg
 pub returns-in-Some-recall-clause-first : goal.returns-in-Some-recall-clause-first
 returns-in-Some-recall-clause-first t c =
     let d = c.args.store.now in
-    let is = c.in-Some-recall.ensures in
+    let is = c.in-Some-recall.ensures.some d c.requires.known in
     exists_first d c.requires.sound c.in-Some-recall.r is.live c.args.var c.args.f c.requires.live is.table
 
 -- what the store comes to know is right
@@ -139,3 +139,9 @@ pub returns-clause-memo : goal.returns-clause-memo
 returns-clause-memo t c =
     holds_put same_pair pair_test (IsImage (some_at c.args.var) 0 c.result_node.new.store) c.exists_from-2.new.memo c.insert.new.self (c.args.f, c.args.f) c.in_ok-r.r c.in_ok-insert.ensures.ok
     (images_kept (some_at c.args.var) 0 c.exists_from-2.new.store c.result_node.new.store c.exists_from-2.new.memo c.in_ok-r.ensures.keeps c.in_ok-high.ensures.memo) (answer_done t c)
+
+pub returns-clause-known : goal.returns-clause-known
+returns-clause-known t c = c.remember.ensures.right c.result_node.new.store (c.in_ok-r.ensures.known c.exists_from-2.new.known c.in_ok-high.ensures.known) c.in_ok-r.ensures.right
+
+pub returns-in_err-insert-clause-known : goal.returns-in_err-insert-clause-known
+returns-in_err-insert-clause-known t c = c.remember.ensures.right c.result_node.new.store (c.in_ok-r.ensures.known c.exists_from-2.new.known c.in_ok-high.ensures.known) c.in_ok-r.ensures.right

@@ -21,7 +21,7 @@ returns-in-Some-get-clause-table t c = (join_found c.args.unit c.args.store.now 
 pub returns-in-Some-recall-clause-first : goal.returns-in-Some-recall-clause-first
 returns-in-Some-recall-clause-first t c =
     let d = c.args.store.now in
-    let is = c.in-Some-recall.ensures in
+    let is = c.in-Some-recall.ensures.some d c.requires.known in
     join_first d c.requires.sound c.in-Some-recall.r is.live c.args.unit c.args.f c.args.g c.requires.f_live (λ a. is.table a ∙ c.joining-operation.ensures.made d a)
 
 -- what the store comes to know is right
@@ -205,3 +205,9 @@ pub returns-clause-calls : goal.returns-clause-calls
 returns-clause-calls t c =
     let longer = one_longer c.join_from-2.new.memo c.insert.new.self _ c.in_ok-insert.ensures.ok in
     omega (arith, longer, c.in_ok-low.ensures.calls, c.in_ok-high.ensures.calls, c.in_ok-r.ensures.calls)
+
+pub returns-clause-known : goal.returns-clause-known
+returns-clause-known t c = c.remember.ensures.right c.result_node.new.store (c.in_ok-r.ensures.known c.join_from-2.new.known c.in_ok-high.ensures.known) c.in_ok-r.ensures.right
+
+pub returns-in_err-insert-clause-known : goal.returns-in_err-insert-clause-known
+returns-in_err-insert-clause-known t c = c.remember.ensures.right c.result_node.new.store (c.in_ok-r.ensures.known c.join_from-2.new.known c.in_ok-high.ensures.known) c.in_ok-r.ensures.right
