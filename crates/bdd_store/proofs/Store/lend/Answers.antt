@@ -8,5 +8,5 @@ pub returns-clause-known : goal.returns-clause-known
 unfolding IsSound
 returns-clause-known c =
     let d = diagram_of c.self.inside.vars c.self.inside.nodes.items in
-    let was : AreResults d c.replace.result.items = rw c.replace.ensures.value c.self.invariant.known in
+    let was : AreResults d c.replace-results.result.items = rw c.replace-results.ensures.value c.self.invariant.known in
     known_here c.self.inside.vars c.self.inside.nodes.items _ _ c.self.invariant.reduced refl refl (c.widen.ensures d c.self.invariant.reduced was)
