@@ -1,15 +1,16 @@
 //! Operations on the functions of a store.
 #![tactic(auto)]
 
-ghost use Rattle.std.specs.Prelude.{◌≡◌, ◌≢◌, ◌↔◌, ◌⊎◌, ℕ, ◌+◌, ◌-◌, ◌*◌, ◌<◌, ◌≤◌, Bool, true, false, IfOk, OnOk, OnErr, IfSome, IfNone, IsNone, IsTrue, if◌then◌else◌, is_ok, min, List, length, ◌&&◌, ◌||◌, not};
-ghost use Rattle.memo_table.specs.Results.{Results, result_of};
+ghost use Rattle.std.specs.Prelude.{◌≡◌, ◌≢◌, ◌↔◌, ◌⊎◌, ℕ, ◌+◌, ◌-◌, ◌*◌, ◌<◌, ◌≤◌, Bool, true, false, IfOk, OnOk, OnErr, IfSome, IfNone, IsNone, IsTrue, if◌then◌else◌, is_ok, min, List, ◌∷◌, length, ◌&&◌, ◌||◌, not};
 ghost use Rattle.bdd_store.specs.declared.Ref.{Ref};
 ghost use Rattle.bdd_store.specs.Graph.{with_at};
 ghost use Rattle.bdd_store.specs.Diagram.{Diagram, IsLive, table, IsSound, IsCanonical, first_var, IsConstant, IsProper, Reaches, Keeps, beads, held};
 ghost use Rattle.bdd_store.specs.Results.{AreOperands, AreResults, IsResult, made};
 ghost use Rattle.bdd_store.specs.declared.results.Entry.{Entry};
+ghost use Rattle.bdd_store.specs.Sure.{IsSure};
 ghost use Rattle.bdd_ops.specs.Functions.{Function, some_at, lowered, depends, bit_at, IsFreshBelow};
-ghost use Rattle.bdd_ops.specs.Memo.{joined, changed, AreJoins, AreImages, PairsBelow, OnesBelow, pair_first, Implies, AreImplied, AreFlagged, AreOnce};
+ghost use Rattle.bdd_ops.specs.Memo.{joined, changed, AreJoins, AreImages, Implies, AreImplied, AreFlagged};
+ghost use Rattle.bdd_ops.specs.News.{join_of, change_of, News, AnyPair, SamePair};
 
 use bdd_store::{Known, Operation, Ref, Store};
 use memo_table::Memo;
@@ -79,8 +80,32 @@ fn result_node(
     store.node(var, low, high)
 }
 
+/// Keeps a result for the rest of the turn: where results are known or, if its place there is taken, in the memo.
+fn keep(
+    known: &mut Known,
+    memo: &mut Memo,
+    turn: u32,
+    operation: Operation,
+    first: Ref,
+    second: Ref,
+    answer: Ref,
+) -> Result<(), AllocError>
+    ensures right { (d : Diagram) → AreResults d known.old → IsResult d operation answer → AreResults d known.new }
+    ensures sure { (o : Operation) → IsSure known.old turn o → IsSure known.new turn o }
+    ensures memo { (memo.new ≡ memo.old) ⊎ (memo.new ≡ ((first, second), answer) ∷ memo.old) }
+    ensures err { OnErr result (memo.new ≡ memo.old) }
+    ensures found { OnOk result (IsSure known.new turn operation ⊎ (memo.new ≡ ((first, second), answer) ∷ memo.old)) }
+{
+    if known.remember(operation, answer, turn) {
+        return Ok(());
+    }
+    memo.insert(first, second, answer)?;
+    Ok(())
+}
+
 /// The operation of a join.
 fn joining(unit: bool, f: Ref, g: Ref) -> Operation
+    ensures is { result ≡ join_of unit (f, g) }
     ensures operands { (d : Diagram) → IsLive d f → IsLive d g → AreOperands d result }
     ensures made { (d : Diagram) (a : ℕ → Bool) → made d result a ≡ joined unit (table d f a) (table d g a) }
 {
@@ -94,6 +119,7 @@ fn joining(unit: bool, f: Ref, g: Ref) -> Operation
 /// The operation of a change.
 fn changing(back: u32, flip: bool, f: Ref) -> Operation
     requires { back ≡ (if flip then 0 else 1) }
+    ensures is { result ≡ change_of flip (f, f) }
     ensures operands { (d : Diagram) → IsLive d f → AreOperands d result }
     ensures made { (d : Diagram) (a : ℕ → Bool) → made d result a ≡ changed back flip (table d f) a }
 {
@@ -128,10 +154,7 @@ fn join_from(
     ensures sound { IsSound store.new }
     ensures known { AreResults store.new known.new }
     ensures memo { AreJoins unit store.new memo.new }
-    ensures untouched { (p : Ref × Ref) → IsLive store.old p.0 → IsLive store.old p.1 → pair_first store.old p < min (first_var store.old f) (first_var store.old g) → result_of memo.new p ≡ result_of memo.old p }
-    ensures reached { (t u : Ref) → IsLive store.old t → IsLive store.old u → Reaches store.old t f → Reaches store.old u g → PairsBelow store.old t u memo.old → PairsBelow store.new t u memo.new }
-    ensures once { AreOnce memo.old → AreOnce memo.new }
-    ensures calls { store.new.calls + length memo.old ≤ store.old.calls + length memo.new + (if is_ok result then 0 else 1) }
+    ensures news { News (join_of unit) AnyPair turn (store.old, (known.old, memo.old)) (store.new, (known.new, memo.new)) f g (min (first_var store.old f) (first_var store.old g)) (if is_ok result then 0 else 1) }
 {
     if let Some(x) = store.is_constant(f) {
         return Ok(if x == unit { g } else { f });
@@ -162,8 +185,7 @@ fn join_from(
     let low = join_from(store, known, memo, turn, unit, f_low, g_low)?;
     let high = join_from(store, known, memo, turn, unit, f_high, g_high)?;
     let r = result_node(store, operation, var, low, high)?;
-    let _ = known.remember(operation, r, turn);
-    memo.insert(f, g, r)?;
+    keep(known, memo, turn, operation, f, g, r)?;
     Ok(r)
 }
 
@@ -191,10 +213,7 @@ fn change_from(
     ensures sound { IsSound store.new }
     ensures known { AreResults store.new known.new }
     ensures memo { AreImages (changed back flip) back store.new memo.new }
-    ensures untouched { (p : Ref) → IsLive store.old p → first_var store.old p < first_var store.old f → result_of memo.new (p, p) ≡ result_of memo.old (p, p) }
-    ensures reached { (t : Ref) → IsLive store.old t → Reaches store.old t f → OnesBelow store.old t memo.old → OnesBelow store.new t memo.new }
-    ensures once { AreOnce memo.old → AreOnce memo.new }
-    ensures calls { store.new.calls + length memo.old ≤ store.old.calls + length memo.new + (if is_ok result then 0 else 1) }
+    ensures news { News (change_of flip) SamePair turn (store.old, (known.old, memo.old)) (store.new, (known.new, memo.new)) f f (first_var store.old f) (if is_ok result then 0 else 1) }
 {
     if let Some(x) = store.is_constant(f) {
         return Ok(store.constant(x != flip));
@@ -217,8 +236,7 @@ fn change_from(
     let low = change_from(store, known, memo, turn, back, flip, f_low)?;
     let high = change_from(store, known, memo, turn, back, flip, f_high)?;
     let r = result_node(store, operation, var - back, low, high)?;
-    let _ = known.remember(operation, r, turn);
-    memo.insert(f, f, r)?;
+    keep(known, memo, turn, operation, f, f, r)?;
     Ok(r)
 }
 
@@ -274,8 +292,7 @@ fn exists_from(
     let low = exists_from(store, known, joins, memo, turn, var, f_low)?;
     let high = exists_from(store, known, joins, memo, turn, var, f_high)?;
     let r = result_node(store, operation, first, low, high)?;
-    let _ = known.remember(operation, r, turn);
-    memo.insert(f, f, r)?;
+    keep(known, memo, turn, operation, f, f, r)?;
     Ok(r)
 }
 

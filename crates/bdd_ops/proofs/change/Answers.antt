@@ -6,7 +6,9 @@ use Rattle.bdd_ops.specs.Functions.{IsFreshBelow}
 use Rattle.memo_table.specs.Results.{same_pair}
 use Rattle.bdd_ops.specs.Memo.{changed}
 use Rattle.bdd_ops.proofs.Tables.{if_ok_both}
-use Rattle.bdd_ops.proofs.MemoLaws.{few_images, pair_test, holds_empty, once_empty, one_bound}
+use Rattle.bdd_ops.specs.News.{change_of}
+use Rattle.bdd_ops.proofs.NewsLaws.{few_same}
+use Rattle.bdd_ops.proofs.MemoLaws.{one_bound}
 use Rattle.bdd_ops.proofs.Held.{held_bound}
 use Rattle.bdd_ops.proofs.change.Goals as goal
 
@@ -16,10 +18,9 @@ returns-clause-calls c =
     let e = c.change_from.new.store in
     let f = c.args.f in
     let keeps = c.change_from.ensures.keeps in
-    let none = holds_empty same_pair pair_test (λ p r. Reaches d f p.0) c.new-memo.result c.new-memo.ensures.empty in
-    let below = c.change_from.ensures.reached f c.requires.live (reaches_self d f) none in
-    let few = few_images (changed c.args.back c.args.flip) c.args.back e c.change_from.new.memo f c.change_from.ensures.sound (keeps.live f c.requires.live) c.change_from.ensures.memo below (c.change_from.ensures.once (once_empty same_pair pair_test c.new-memo.result c.new-memo.ensures.empty)) in
-    one_bound _ _ _ _ _ _ _ c.change_from.ensures.calls few (beads_kept d e keeps f c.requires.live) (ap length c.new-memo.ensures.empty)
+    let news = c.change_from.ensures.news in
+    let few = few_same (change_of c.args.flip) _ _ _ f _ _ c.change_from.ensures.sound keeps c.requires.live news in
+    one_bound _ _ _ _ _ _ news.calls few (beads_kept d e keeps f c.requires.live)
 
 pub returns-clause-held : goal.returns-clause-held
 returns-clause-held c =

@@ -5,7 +5,9 @@ use Rattle.bdd_store.proofs.Few.{beads_kept}
 use Rattle.bdd_ops.specs.Functions.{IsFreshBelow}
 use Rattle.memo_table.specs.Results.{same_pair}
 use Rattle.bdd_ops.proofs.Tables.{if_ok_both}
-use Rattle.bdd_ops.proofs.MemoLaws.{few_joins, pair_test, holds_empty, once_empty, pair_bound}
+use Rattle.bdd_ops.specs.News.{join_of, AnyPair}
+use Rattle.bdd_ops.proofs.NewsLaws.{few_news}
+use Rattle.bdd_ops.proofs.MemoLaws.{pair_bound}
 use Rattle.bdd_ops.proofs.Held.{held_bound}
 use Rattle.bdd_ops.proofs.join.Goals as goal
 
@@ -16,10 +18,9 @@ returns-clause-calls c =
     let f = c.args.f in
     let g = c.args.g in
     let keeps = c.join_from.ensures.keeps in
-    let none = holds_empty same_pair pair_test (λ p r. Reaches d f p.0 × Reaches d g p.1) c.new-memo.result c.new-memo.ensures.empty in
-    let below = c.join_from.ensures.reached f g c.requires.f_live c.requires.g_live (reaches_self d f) (reaches_self d g) none in
-    let few = few_joins c.args.unit e c.join_from.new.memo f g c.join_from.ensures.sound (keeps.live f c.requires.f_live) (keeps.live g c.requires.g_live) c.join_from.ensures.memo below (c.join_from.ensures.once (once_empty same_pair pair_test c.new-memo.result c.new-memo.ensures.empty)) in
-    pair_bound _ _ _ _ _ _ _ _ _ c.join_from.ensures.calls few (beads_kept d e keeps f c.requires.f_live) (beads_kept d e keeps g c.requires.g_live) (ap length c.new-memo.ensures.empty)
+    let news = c.join_from.ensures.news in
+    let few = few_news (join_of c.args.unit) AnyPair _ _ _ f g _ _ c.join_from.ensures.sound keeps c.requires.f_live c.requires.g_live news in
+    pair_bound _ _ _ _ _ _ _ _ news.calls few (beads_kept d e keeps f c.requires.f_live) (beads_kept d e keeps g c.requires.g_live)
 
 pub returns-clause-held : goal.returns-clause-held
 returns-clause-held c =
