@@ -57,7 +57,7 @@ module _ (op : Ref × Ref → Operation) (IsPair : Ref × Ref → Type 0) (turn 
 
   -- an answer was refused
   pub news_err : {X E : Type 0} → (r : Result X E) → IsErr r → (s t : State) (f g : Ref) (k : ℕ) → News op IsPair turn s t f g k 1 → News op IsPair turn s t f g k (cond (is_ok r) 0 1)
-  news_err (Ok x) is s t f g k news = absurd is
+  news_err (Ok x) is s t f g k news = absurd (let none : false ≡ true = is in cc)
   news_err (Err e) is s t f g k news = news
 
   -- what is new stays as the store grows
