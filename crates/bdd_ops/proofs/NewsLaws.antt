@@ -72,8 +72,8 @@ module _ (op : Ref × Ref → Operation) (IsPair : Ref × Ref → Type 0) (turn 
     second_proper = proper_kept t.0 u.0 keeps p.1 is.second_live is.second_proper;
     later = omega (arith, le, is.later, keeps.firsts p.0 is.first_live, keeps.firsts p.1 is.second_live);
     reached = λ a b live_a live_b down_a down_b.
-    let r = is.reached a b live_a live_b down_a down_b in
-    (keeps.reached a p.0 (before.live a live_a) is.first_live r.0, keeps.reached b p.1 (before.live b live_b) is.second_live r.1);
+        let r = is.reached a b live_a live_b down_a down_b in
+        (keeps.reached a p.0 (before.live a live_a) is.first_live r.0, keeps.reached b p.1 (before.live b live_b) is.second_live r.1);
   }
 
   -- what is new of operands that f and g reach is new of f and g
@@ -146,7 +146,7 @@ module _ (op : Ref × Ref → Operation) (IsPair : Ref × Ref → Type 0) (turn 
         second_proper = proper_kept t.0 u.0 keeps g g_live g_proper;
         later = omega (arith, first, before.firsts f live_f, before.firsts g live_g, keeps.firsts f f_live, keeps.firsts g g_live);
         reached = λ a b live_a live_b down_a down_b.
-        (keeps.reached a f (before.live a live_a) f_live (before.reached a f live_a live_f down_a), keeps.reached b g (before.live b live_b) g_live (before.reached b g live_b live_g down_b));
+            (keeps.reached a f (before.live a live_a) f_live (before.reached a f live_a live_f down_a), keeps.reached b g (before.live b live_b) g_live (before.reached b g live_b live_g down_b));
       } in
       let at : pair_first t.0 (f, g) ≡ h = omega (arith, first, before.firsts f live_f, before.firsts g live_g) in
       let other : (y : Ref × Ref) → IsNew op IsPair turn s t f g k y → same_pair (f, g) y ≡ false = λ y new. apart_pairs (f, g) y (λ e. let same = ap (pair_first t.0) e in omega (arith, lt, at, same, new.later)) in

@@ -20,6 +20,7 @@ pub struct Entry {
 
 // The places of a table with which it begins: what a processor keeps close by; and the most.
 const FEW: usize = 0x2000;
+
 const MOST: usize = 0x40_0000;
 
 /// The results of operations that a store knows, lent to a call.
