@@ -1,6 +1,7 @@
 pub mod Tables
 pub mod FewOnes
 pub mod MemoLaws
+pub mod NewsLaws
 pub mod Recalled
 pub mod Held
 pub mod Depends

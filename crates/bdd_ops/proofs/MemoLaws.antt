@@ -1,15 +1,14 @@
 -- What holds of the results that are kept, as the store and the memo grow.
-use Rattle.std.proofs.Common.{◌≡◌, ℕ, suc, ◌+◌, ◌*◌, ◌≤◌, Bool, true, false, ◌&&◌, eqb, cond, List, [], ◌∷◌, length, Option, Some, None, IfSome, refl, sym, ◌∙◌, ap, subst, arith}
+use Rattle.std.proofs.Common.{◌≡◌, ℕ, suc, ◌+◌, ◌*◌, ◌≤◌, Bool, true, false, ◌&&◌, ◌⊎◌, inl, inr, eqb, cond, List, [], ◌∷◌, length, Option, Some, None, IfSome, refl, sym, ◌∙◌, ap, subst, arith}
 use Rattle.std.proofs.Math.Path.{fun_ext}
 use Rattle.std.specs.List.{IsDistinct, AllByRecursion}
-use Rattle.std.specs.Map.{lookup, keys_of}
+use Rattle.std.specs.Map.{lookup}
 use Rattle.std.proofs.lemmas.Bool.Decides.{nat_tests}
 use Rattle.bdd_store.specs.declared.Ref.{Ref}
 use Rattle.bdd_store.specs.Diagram.{Diagram, IsLive, IsSound, IsProper, Reaches, Keeps, table, first_var, beads}
-use Rattle.bdd_store.proofs.Few.{IsPairBelow, few_pairs_below}
 use Rattle.bdd_ops.specs.Functions.{Function}
 use Rattle.memo_table.specs.Results.{Results, same_pair, result_of}
-use Rattle.bdd_ops.specs.Memo.{joined, same_one, IsJoin, IsImage, AreJoins, AreImages, AreOnce, PairsBelow, OnesBelow}
+use Rattle.bdd_ops.specs.Memo.{joined, same_one, IsJoin, IsImage, AreJoins, AreImages}
 use Rattle.bdd_ops.proofs.FewOnes.{IsBelow, few_ones_below}
 
 pub keeps_after : (a b c : Diagram) → Keeps a b → Keeps b c → Keeps a c
@@ -29,7 +28,7 @@ first_within d r live = live.1
 pub same_table : (d e : Diagram) → Keeps d e → (r : Ref) → IsLive d r → table e r ≡ table d r
 same_table d e keeps r live = fun_ext (keeps.tables r live)
 
-proper_kept : (d e : Diagram) → Keeps d e → (r : Ref) → IsLive d r → IsProper d r → IsProper e r
+pub proper_kept : (d e : Diagram) → Keeps d e → (r : Ref) → IsLive d r → IsProper d r → IsProper e r
 proper_kept d e keeps r live proper = omega (arith, keeps.firsts r live, keeps.vars, proper)
 
 -- tests that pass at one key alone
@@ -68,10 +67,6 @@ pub if_some_map : {A : Type 0} (o : Option A) (P Q : A → Type 0) → ((x : A) 
 if_some_map None P Q f is = tt
 if_some_map (Some x) P Q f is = f x is
 
-if_some_both : {A : Type 0} (o : Option A) (P Q R : A → Type 0) → ((x : A) → P x → Q x → R x) → IfSome o P → IfSome o Q → IfSome o R
-if_some_both None P Q R f is other = tt
-if_some_both (Some x) P Q R f is other = f x is other
-
 module _ {K : Type 0} (same : K → K → Bool) (test : IsTest same) where
   -- P holds of each key that is kept and its result
   abbrev pub Holds : (K → Ref → Type 0) → List (K × Ref) → Type 0
@@ -88,9 +83,10 @@ module _ {K : Type 0} (same : K → K → Bool) (test : IsTest same) where
   pub holds_put : (P : K → Ref → Type 0) (m n : List (K × Ref)) (k : K) (r : Ref) → n ≡ (k, r) ∷ m → Holds P m → P k r → Holds P n
   holds_put P m n k r put holds answer q = put_cases m n k q r put (λ o. IfSome o (P q)) (λ e. subst (λ p. P p r) e answer) (holds q)
 
-  -- another key keeps its result
-  pub put_other : (m n : List (K × Ref)) (k q : K) (r : Ref) → n ≡ (k, r) ∷ m → (k ≡ q → ⊥) → lookup (same q) n ≡ lookup (same q) m
-  put_other m n k q r put apart = put_cases m n k q r put (λ o. o ≡ lookup (same q) m) (λ e. absurd (apart e)) refl
+  -- where a result is put or nothing changes
+  pub holds_kept : (P : K → Ref → Type 0) (m n : List (K × Ref)) (k : K) (r : Ref) → (n ≡ m) ⊎ (n ≡ (k, r) ∷ m) → Holds P m → P k r → Holds P n
+  holds_kept P m n k r (inl same) holds answer = subst (Holds P) (sym same) holds
+  holds_kept P m n k r (inr put) holds answer = holds_put P m n k r put holds answer
 
   pub holds_same : (P : K → Ref → Type 0) (m n : List (K × Ref)) → n ≡ m → Holds P m → Holds P n
   holds_same P m n e holds = subst (Holds P) (sym e) holds
@@ -98,56 +94,12 @@ module _ {K : Type 0} (same : K → K → Bool) (test : IsTest same) where
   pub holds_empty : (P : K → Ref → Type 0) (m : List (K × Ref)) → m ≡ [] → Holds P m
   holds_empty P m empty = subst (Holds P) (sym empty) (λ p. tt)
 
-  -- a key that is not found is no key
-  none_same : (k : K) (m : List (K × Ref)) → lookup (same k) m ≡ None → AllByRecursion (λ y. same k y ≡ false) (keys_of m)
-  none_same k [] e = tt
-  none_same k (x ∷ xs) e = by_test (same k x.0) refl e (none_same k xs)
-    where
-      by_test : (t : Bool) → same k x.0 ≡ t → cond t (Some x.1) (lookup (same k) xs) ≡ None → (lookup (same k) xs ≡ None → AllByRecursion (λ y. same k y ≡ false) (keys_of xs)) → AllByRecursion (λ y. same k y ≡ false) (keys_of (x ∷ xs))
-      by_test true is e rest = absurd (let f : Some x.1 ≡ None = e in cc)
-      by_test false is e rest = (is, rest e)
-
-  -- keys stay distinct where one is added that was not found
-  pub once_put : (m n : List (K × Ref)) (k : K) (r : Ref) → n ≡ (k, r) ∷ m → lookup (same k) m ≡ None → IsDistinct same (keys_of m) → IsDistinct same (keys_of n)
-  unfolding IsDistinct
-  once_put m n k r put absent once = subst (λ es. IsDistinct same (keys_of es)) (sym put) (none_same k m absent, once)
-
-  pub once_same : (m n : List (K × Ref)) → n ≡ m → IsDistinct same (keys_of m) → IsDistinct same (keys_of n)
-  once_same m n e once = subst (λ es. IsDistinct same (keys_of es)) (sym e) once
-
-  pub once_empty : (m : List (K × Ref)) → m ≡ [] → IsDistinct same (keys_of m)
-  unfolding IsDistinct
-  once_empty m empty = subst (λ es. IsDistinct same (keys_of es)) (sym empty) tt
-
-  -- what holds at each key that is found holds of each key
-  pub each_key : (B : K → Type 0) (es : List (K × Ref)) → ((q : K) → IfSome (lookup (same q) es) (λ r. B q)) → AllByRecursion B (keys_of es)
-  each_key B [] f = tt
-  each_key B (e ∷ es) f = (
-    subst (λ t. IfSome (cond t (Some e.1) (lookup (same e.0) es)) (λ r. B e.0)) (test.self e.0) (f e.0),
-    each_key B es (λ q. later q (same q e.0) refl (f q)),
-  )
-    where
-      later : (q : K) (t : Bool) → same q e.0 ≡ t → IfSome (cond t (Some e.1) (lookup (same q) es)) (λ r. B q) → IfSome (lookup (same q) es) (λ r. B q)
-      later q true is b = always (lookup (same q) es) b
-        where
-          always : (o : Option Ref) → B q → IfSome o (λ r. B q)
-          always None b = tt
-          always (Some x) b = b
-      later q false is b = b
-
-pub length_keys : {K : Type 0} (es : List (K × Ref)) → length (keys_of es) ≡ length es
-length_keys [] = refl
-length_keys (e ∷ es) = ap suc (length_keys es)
-
 -- what is found is right
 pub join_found : (unit : Bool) (d : Diagram) (m : Results) (p : Ref × Ref) (r : Ref) → Some r ≡ result_of m p → AreJoins unit d m → IsJoin unit d p r
 join_found unit d m p r e are = subst (λ o. IfSome {T = Ref} o (IsJoin unit d p)) (sym e) (are p)
 
 pub image_found : (T : Function → Function) (back : ℕ) (d : Diagram) (m : Results) (p : Ref × Ref) (r : Ref) → Some r ≡ result_of m p → AreImages T back d m → IsImage T back d p r
 image_found T back d m p r e are = subst (λ o. IfSome {T = Ref} o (IsImage T back d p)) (sym e) (are p)
-
-pub one_longer : (m n : Results) (x : (Ref × Ref) × Ref) → n ≡ x ∷ m → length n ≡ length m + 1
-one_longer m n x e = ap length e ∙ let f : suc (length m) ≡ length m + 1 = omega arith in f
 
 -- results stay right as the store grows
 join_kept : (unit : Bool) (d e : Diagram) → Keeps d e → (p : Ref × Ref) (r : Ref) → IsJoin unit d p r → IsJoin unit e p r
@@ -177,26 +129,7 @@ image_kept T back d e keeps p r is = record {
 pub images_kept : (T : Function → Function) (back : ℕ) (d e : Diagram) (m : Results) → Keeps d e → AreImages T back d m → AreImages T back e m
 images_kept T back d e m keeps are p = if_some_map (result_of m p) (IsImage T back d p) (IsImage T back e p) (image_kept T back d e keeps p) (are p)
 
--- and their operands below what they were below
-pub pairs_kept : (unit : Bool) (d e : Diagram) (m : Results) (t u : Ref) → Keeps d e → AreJoins unit d m → IsLive d t → IsLive d u → PairsBelow d t u m → PairsBelow e t u m
-pairs_kept unit d e m t u keeps are live_t live_u below p =
-    if_some_both (result_of m p) (IsJoin unit d p) (λ r. Reaches d t p.0 × Reaches d u p.1) (λ r. Reaches e t p.0 × Reaches e u p.1)
-    (λ r join reached. (keeps.reached t p.0 live_t join.first_live reached.0, keeps.reached u p.1 live_u join.second_live reached.1)) (are p) (below p)
-
-pub ones_kept : (T : Function → Function) (back : ℕ) (d e : Diagram) (m : Results) (t : Ref) → Keeps d e → AreImages T back d m → IsLive d t → OnesBelow d t m → OnesBelow e t m
-ones_kept T back d e m t keeps are live_t below p =
-    if_some_both (result_of m p) (IsImage T back d p) (λ r. Reaches d t p.0) (λ r. Reaches e t p.0) (λ r image. keeps.reached t p.0 live_t image.from_live) (are p) (below p)
-
--- a memo has at most as many results as there are pairs of nodes
-pub few_joins : (unit : Bool) (d : Diagram) (m : Results) (f g : Ref) → IsSound d → IsLive d f → IsLive d g → AreJoins unit d m → PairsBelow d f g m → AreOnce m → length m ≤ beads d f * beads d g
-few_joins unit d m f g ok live_f live_g are below distinct =
-    let all : AllByRecursion (IsPairBelow d f g) (keys_of m) = each_key same_pair pair_test (IsPairBelow d f g) m (λ q.
-    if_some_both (result_of m q) (IsJoin unit d q) (λ r. Reaches d f q.0 × Reaches d g q.1) (λ r. IsPairBelow d f g q)
-    (λ r join reached. record { first = reached.0; first_proper = join.first_proper; second = reached.1; second_proper = join.second_proper }) (are q) (below q)) in
-    let few = few_pairs_below d ok f g live_f live_g (keys_of m) distinct all in
-    omega (arith, few, length_keys m)
-
--- or nodes, where each is both operands
+-- pairs of one node twice
 pub record IsTwiceBelow (d : Diagram) (f : Ref) (p : Ref × Ref) : Type 0 where
   pub twice : p.0 ≡ p.1
   pub below : IsBelow d f p.0
@@ -231,23 +164,20 @@ firsts_below : (d : Diagram) (f : Ref) (ps : List (Ref × Ref)) → AllByRecursi
 firsts_below d f [] all = tt
 firsts_below d f (p ∷ ps) all = (all.0.below, firsts_below d f ps all.1)
 
-pub few_images : (T : Function → Function) (back : ℕ) (d : Diagram) (m : Results) (f : Ref) → IsSound d → IsLive d f → AreImages T back d m → OnesBelow d f m → AreOnce m → length m ≤ beads d f
-few_images T back d m f ok live_f are below distinct =
-    let all : AllByRecursion (IsTwiceBelow d f) (keys_of m) = each_key same_pair pair_test (IsTwiceBelow d f) m (λ q.
-    if_some_both (result_of m q) (IsImage T back d q) (λ r. Reaches d f q.0) (λ r. IsTwiceBelow d f q)
-    (λ r image reached. record { twice = image.twice; below = record { reached = reached; proper = image.from_proper } }) (are q) (below q)) in
-    let few = few_ones_below d ok f live_f (firsts (keys_of m)) (distinct_firsts d f (keys_of m) all distinct) (firsts_below d f (keys_of m) all) in
-    omega (arith, few, length_keys m, length_firsts (keys_of m))
+pub few_twice : (d : Diagram) (f : Ref) → IsSound d → IsLive d f → (ps : List (Ref × Ref)) → IsDistinct same_pair ps → AllByRecursion (IsTwiceBelow d f) ps → length ps ≤ beads d f
+few_twice d f ok live ps distinct all =
+    let few = few_ones_below d ok f live (firsts ps) (distinct_firsts d f ps all distinct) (firsts_below d f ps all) in
+    omega (arith, few, length_firsts ps)
 
 pub joined_cond : (unit x : Bool) (f1 f0 g1 g0 : Bool) → cond x (joined unit f1 g1) (joined unit f0 g0) ≡ joined unit (cond x f1 f0) (cond x g1 g0)
 joined_cond unit true f1 f0 g1 g0 = refl
 joined_cond unit false f1 f0 g1 g0 = refl
 
--- calls are at most results, and one more where the memo found no room
-pub pair_bound : (calls before entries none a b x y : ℕ) (t : Bool) → calls + none ≤ before + entries + cond t 0 1 → entries ≤ a * b → a ≡ x → b ≡ y → none ≡ 0 → calls ≤ before + (x + 2) * (y + 2)
-pair_bound calls before entries none a b x y true le few same_a same_b is = grind (arith)
-pair_bound calls before entries none a b x y false le few same_a same_b is = grind (arith)
+-- calls are at most results, and one more where there was no room for one
+pub pair_bound : (calls before entries a b x y : ℕ) (t : Bool) → calls ≤ before + entries + cond t 0 1 → entries ≤ a * b → a ≡ x → b ≡ y → calls ≤ before + (x + 2) * (y + 2)
+pair_bound calls before entries a b x y true le few same_a same_b = grind (arith)
+pair_bound calls before entries a b x y false le few same_a same_b = grind (arith)
 
-pub one_bound : (calls before entries none a x : ℕ) (t : Bool) → calls + none ≤ before + entries + cond t 0 1 → entries ≤ a → a ≡ x → none ≡ 0 → calls ≤ before + (x + 2)
-one_bound calls before entries none a x true le few same is = omega (arith, le, few, same, is)
-one_bound calls before entries none a x false le few same is = omega (arith, le, few, same, is)
+pub one_bound : (calls before entries a x : ℕ) (t : Bool) → calls ≤ before + entries + cond t 0 1 → entries ≤ a → a ≡ x → calls ≤ before + (x + 2)
+one_bound calls before entries a x true le few same = omega (arith, le, few, same)
+one_bound calls before entries a x false le few same = omega (arith, le, few, same)

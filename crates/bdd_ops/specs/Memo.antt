@@ -51,17 +51,6 @@ AreJoins unit d m = (p : Ref × Ref) → IfSome (result_of m p) (IsJoin unit d p
 abbrev pub AreImages : (Function → Function) → ℕ → Diagram → Results → Type 0
 AreImages T back d m = (p : Ref × Ref) → IfSome (result_of m p) (IsImage T back d p)
 
--- the operands that are kept are reached from f and g
-abbrev pub PairsBelow : Diagram → Ref → Ref → Results → Type 0
-PairsBelow d f g m = (p : Ref × Ref) → IfSome (result_of m p) (λ r. Reaches d f p.0 × Reaches d g p.1)
-
-abbrev pub OnesBelow : Diagram → Ref → Results → Type 0
-OnesBelow d f m = (p : Ref × Ref) → IfSome (result_of m p) (λ r. Reaches d f p.0)
-
--- no two results are kept for one pair
-abbrev pub AreOnce : Results → Type 0
-AreOnce m = IsDistinct same_pair (keys_of m)
-
 -- the earlier variable of two
 abbrev pub pair_first : Diagram → Ref × Ref → ℕ
 pair_first d p = min (first_var d p.0) (first_var d p.1)

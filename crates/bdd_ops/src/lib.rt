@@ -1,16 +1,18 @@
 //! Operations on the functions of a store.
 #![tactic(auto)]
 
-ghost use Rattle.std.specs.Prelude.{◌≡◌, ◌≢◌, ◌↔◌, ◌⊎◌, ℕ, ◌+◌, ◌-◌, ◌*◌, ◌<◌, ◌≤◌, Bool, true, false, IfOk, OnOk, OnErr, IfSome, IfNone, IsNone, IsTrue, if◌then◌else◌, is_ok, min, length, ◌&&◌, ◌||◌, not};
-ghost use Rattle.memo_table.specs.Results.{Results, result_of};
+ghost use Rattle.std.specs.Prelude.{◌≡◌, ◌≢◌, ◌↔◌, ◌⊎◌, ℕ, ◌+◌, ◌-◌, ◌*◌, ◌<◌, ◌≤◌, Bool, true, false, IfOk, OnOk, OnErr, IfSome, IfNone, IsNone, IsTrue, if◌then◌else◌, is_ok, min, List, ◌∷◌, length, ◌&&◌, ◌||◌, not};
 ghost use Rattle.bdd_store.specs.declared.Ref.{Ref};
 ghost use Rattle.bdd_store.specs.Graph.{with_at};
 ghost use Rattle.bdd_store.specs.Diagram.{Diagram, IsLive, table, IsSound, IsCanonical, first_var, IsConstant, IsProper, Reaches, Keeps, beads, held};
-ghost use Rattle.bdd_store.specs.Results.{AreOperands, made};
+ghost use Rattle.bdd_store.specs.Results.{AreOperands, AreResults, IsResult, made};
+ghost use Rattle.bdd_store.specs.declared.results.Entry.{Entry};
+ghost use Rattle.bdd_store.specs.Sure.{IsSure};
 ghost use Rattle.bdd_ops.specs.Functions.{Function, some_at, lowered, depends, bit_at, IsFreshBelow};
-ghost use Rattle.bdd_ops.specs.Memo.{joined, changed, AreJoins, AreImages, PairsBelow, OnesBelow, pair_first, Implies, AreImplied, AreFlagged, AreOnce};
+ghost use Rattle.bdd_ops.specs.Memo.{joined, changed, AreJoins, AreImages, Implies, AreImplied, AreFlagged};
+ghost use Rattle.bdd_ops.specs.News.{join_of, change_of, News, AnyPair, SamePair};
 
-use bdd_store::{Operation, Ref, Store};
+use bdd_store::{Known, Operation, Ref, Store};
 use memo_table::Memo;
 use std::alloc::{AllocError, Global};
 use std::collections::HashSet;
@@ -43,7 +45,12 @@ fn split(store: &Store, f: Ref, var: u32) -> (Ref, Ref)
     (f, f)
 }
 
-/// A node that is the result of an operation, which the store comes to know.
+/// The number of a call, by which its results are told from earlier ones.
+fn turn(store: &Store) -> u32 {
+    (store.calls() % 0xFFFF_FFFF) as u32
+}
+
+/// A node that is the result of an operation.
 fn result_node(
     store: &mut Store,
     operation: Operation,
@@ -66,18 +73,39 @@ fn result_node(
     ensures keeps { Keeps store.old store.new }
     ensures sound { IsSound store.new }
     ensures calls { store.new.calls ≤ store.old.calls + (if is_ok result then 1 else 0) }
+    ensures right { IfOk result (λ r. IsResult store.new operation r) }
+    ensures known { (es : List Entry) → AreResults store.old es → AreResults store.new es }
 {
-    match store.node(var, low, high) {
-        Ok(r) => {
-            store.remember(operation, r);
-            Ok(r)
-        }
-        Err(e) => Err(e),
+    let _ = operation;
+    store.node(var, low, high)
+}
+
+/// Keeps a result for the rest of the turn: where results are known or, if its place there is taken, in the memo.
+fn keep(
+    known: &mut Known,
+    memo: &mut Memo,
+    turn: u32,
+    operation: Operation,
+    first: Ref,
+    second: Ref,
+    answer: Ref,
+) -> Result<(), AllocError>
+    ensures right { (d : Diagram) → AreResults d known.old → IsResult d operation answer → AreResults d known.new }
+    ensures sure { (o : Operation) → IsSure known.old turn o → IsSure known.new turn o }
+    ensures memo { (memo.new ≡ memo.old) ⊎ (memo.new ≡ ((first, second), answer) ∷ memo.old) }
+    ensures err { OnErr result (memo.new ≡ memo.old) }
+    ensures found { OnOk result (IsSure known.new turn operation ⊎ (memo.new ≡ ((first, second), answer) ∷ memo.old)) }
+{
+    if known.remember(operation, answer, turn) {
+        return Ok(());
     }
+    memo.insert(first, second, answer)?;
+    Ok(())
 }
 
 /// The operation of a join.
 fn joining(unit: bool, f: Ref, g: Ref) -> Operation
+    ensures is { result ≡ join_of unit (f, g) }
     ensures operands { (d : Diagram) → IsLive d f → IsLive d g → AreOperands d result }
     ensures made { (d : Diagram) (a : ℕ → Bool) → made d result a ≡ joined unit (table d f a) (table d g a) }
 {
@@ -91,6 +119,7 @@ fn joining(unit: bool, f: Ref, g: Ref) -> Operation
 /// The operation of a change.
 fn changing(back: u32, flip: bool, f: Ref) -> Operation
     requires { back ≡ (if flip then 0 else 1) }
+    ensures is { result ≡ change_of flip (f, f) }
     ensures operands { (d : Diagram) → IsLive d f → AreOperands d result }
     ensures made { (d : Diagram) (a : ℕ → Bool) → made d result a ≡ changed back flip (table d f) a }
 {
@@ -105,7 +134,9 @@ fn changing(back: u32, flip: bool, f: Ref) -> Operation
 /// The conjunction where `unit` is true, and else the disjunction.
 fn join_from(
     store: &mut Store,
+    known: &mut Known,
     memo: &mut Memo,
+    turn: u32,
     unit: bool,
     f: Ref,
     g: Ref,
@@ -113,6 +144,7 @@ fn join_from(
     requires f_live { IsLive store.old f }
     requires g_live { IsLive store.old g }
     requires sound { IsSound store.old }
+    requires known { AreResults store.old known.old }
     requires memo { AreJoins unit store.old memo.old }
     ensures live { IfOk result (λ r. IsLive store.new r) }
     ensures first { IfOk result (λ r. min (first_var store.old f) (first_var store.old g) ≤ first_var store.new r) }
@@ -120,11 +152,9 @@ fn join_from(
     ensures fresh { IfOk result (IsFreshBelow store.old store.new) }
     ensures keeps { Keeps store.old store.new }
     ensures sound { IsSound store.new }
+    ensures known { AreResults store.new known.new }
     ensures memo { AreJoins unit store.new memo.new }
-    ensures untouched { (p : Ref × Ref) → IsLive store.old p.0 → IsLive store.old p.1 → pair_first store.old p < min (first_var store.old f) (first_var store.old g) → result_of memo.new p ≡ result_of memo.old p }
-    ensures reached { (t u : Ref) → IsLive store.old t → IsLive store.old u → Reaches store.old t f → Reaches store.old u g → PairsBelow store.old t u memo.old → PairsBelow store.new t u memo.new }
-    ensures once { AreOnce memo.old → AreOnce memo.new }
-    ensures calls { store.new.calls + length memo.old ≤ store.old.calls + length memo.new + (if is_ok result then 0 else 1) }
+    ensures news { News (join_of unit) AnyPair turn (store.old, (known.old, memo.old)) (store.new, (known.new, memo.new)) f g (min (first_var store.old f) (first_var store.old g)) (if is_ok result then 0 else 1) }
 {
     if let Some(x) = store.is_constant(f) {
         return Ok(if x == unit { g } else { f });
@@ -136,8 +166,11 @@ fn join_from(
         return Ok(f);
     }
     let operation = joining(unit, f, g);
-    match store.recall(operation) {
-        Some(r) => return Ok(r),
+    match known.recall(operation) {
+        Some(r) => {
+            known.note_hit();
+            return Ok(r);
+        }
         None => {}
     }
     match memo.get(f, g) {
@@ -149,17 +182,19 @@ fn join_from(
     let var = f_var.min(g_var);
     let (f_low, f_high) = split(store, f, var);
     let (g_low, g_high) = split(store, g, var);
-    let low = join_from(store, memo, unit, f_low, g_low)?;
-    let high = join_from(store, memo, unit, f_high, g_high)?;
+    let low = join_from(store, known, memo, turn, unit, f_low, g_low)?;
+    let high = join_from(store, known, memo, turn, unit, f_high, g_high)?;
     let r = result_node(store, operation, var, low, high)?;
-    memo.insert(f, g, r)?;
+    keep(known, memo, turn, operation, f, g, r)?;
     Ok(r)
 }
 
 /// The function with each variable replaced by that which stands `back` before it, and negated where `flip` is true.
 fn change_from(
     store: &mut Store,
+    known: &mut Known,
     memo: &mut Memo,
+    turn: u32,
     back: u32,
     flip: bool,
     f: Ref,
@@ -168,6 +203,7 @@ fn change_from(
     requires live { IsLive store.old f }
     requires later { IsProper store.old f → back ≤ first_var store.old f }
     requires sound { IsSound store.old }
+    requires known { AreResults store.old known.old }
     requires memo { AreImages (changed back flip) back store.old memo.old }
     ensures live { IfOk result (λ r. IsLive store.new r) }
     ensures first { IfOk result (λ r. first_var store.old f ≤ first_var store.new r + back) }
@@ -175,18 +211,19 @@ fn change_from(
     ensures fresh { IfOk result (IsFreshBelow store.old store.new) }
     ensures keeps { Keeps store.old store.new }
     ensures sound { IsSound store.new }
+    ensures known { AreResults store.new known.new }
     ensures memo { AreImages (changed back flip) back store.new memo.new }
-    ensures untouched { (p : Ref) → IsLive store.old p → first_var store.old p < first_var store.old f → result_of memo.new (p, p) ≡ result_of memo.old (p, p) }
-    ensures reached { (t : Ref) → IsLive store.old t → Reaches store.old t f → OnesBelow store.old t memo.old → OnesBelow store.new t memo.new }
-    ensures once { AreOnce memo.old → AreOnce memo.new }
-    ensures calls { store.new.calls + length memo.old ≤ store.old.calls + length memo.new + (if is_ok result then 0 else 1) }
+    ensures news { News (change_of flip) SamePair turn (store.old, (known.old, memo.old)) (store.new, (known.new, memo.new)) f f (first_var store.old f) (if is_ok result then 0 else 1) }
 {
     if let Some(x) = store.is_constant(f) {
         return Ok(store.constant(x != flip));
     }
     let operation = changing(back, flip, f);
-    match store.recall(operation) {
-        Some(r) => return Ok(r),
+    match known.recall(operation) {
+        Some(r) => {
+            known.note_hit();
+            return Ok(r);
+        }
         None => {}
     }
     match memo.get(f, f) {
@@ -196,23 +233,26 @@ fn change_from(
     let var = store.var(f);
     let f_low = store.low(f);
     let f_high = store.high(f);
-    let low = change_from(store, memo, back, flip, f_low)?;
-    let high = change_from(store, memo, back, flip, f_high)?;
+    let low = change_from(store, known, memo, turn, back, flip, f_low)?;
+    let high = change_from(store, known, memo, turn, back, flip, f_high)?;
     let r = result_node(store, operation, var - back, low, high)?;
-    memo.insert(f, f, r)?;
+    keep(known, memo, turn, operation, f, f, r)?;
     Ok(r)
 }
 
 /// The disjunction of the function with the variable at 0 and with it at 1.
 fn exists_from(
     store: &mut Store,
+    known: &mut Known,
     joins: &mut Memo,
     memo: &mut Memo,
+    turn: u32,
     var: u32,
     f: Ref,
 ) -> Result<Ref, AllocError>
     requires live { IsLive store.old f }
     requires sound { IsSound store.old }
+    requires known { AreResults store.old known.old }
     requires joins { AreJoins false store.old joins.old }
     requires memo { AreImages (some_at var) 0 store.old memo.old }
     ensures live { IfOk result (λ r. IsLive store.new r) }
@@ -221,6 +261,7 @@ fn exists_from(
     ensures fresh { IfOk result (IsFreshBelow store.old store.new) }
     ensures keeps { Keeps store.old store.new }
     ensures sound { IsSound store.new }
+    ensures known { AreResults store.new known.new }
     ensures joins { AreJoins false store.new joins.new }
     ensures memo { AreImages (some_at var) 0 store.new memo.new }
 {
@@ -234,22 +275,108 @@ fn exists_from(
     let f_low = store.low(f);
     let f_high = store.high(f);
     if first == var {
-        return join_from(store, joins, false, f_low, f_high);
+        return join_from(store, known, joins, turn, false, f_low, f_high);
     }
     let operation = Operation::Exists(f, var);
-    match store.recall(operation) {
-        Some(r) => return Ok(r),
+    match known.recall(operation) {
+        Some(r) => {
+            known.note_hit();
+            return Ok(r);
+        }
         None => {}
     }
     match memo.get(f, f) {
         Some(r) => return Ok(r),
         None => {}
     }
-    let low = exists_from(store, joins, memo, var, f_low)?;
-    let high = exists_from(store, joins, memo, var, f_high)?;
+    let low = exists_from(store, known, joins, memo, turn, var, f_low)?;
+    let high = exists_from(store, known, joins, memo, turn, var, f_high)?;
     let r = result_node(store, operation, first, low, high)?;
-    memo.insert(f, f, r)?;
+    keep(known, memo, turn, operation, f, f, r)?;
     Ok(r)
+}
+
+/// The conjunction where `unit` is true, and else the disjunction.
+fn join(
+    alloc: Global,
+    store: &mut Store,
+    known: &mut Known,
+    unit: bool,
+    f: Ref,
+    g: Ref,
+) -> Result<Ref, AllocError>
+    requires f_live { IsLive store.old f }
+    requires g_live { IsLive store.old g }
+    requires known { AreResults store.old known.old }
+    ensures live { IfOk result (λ r. IsLive store.new r) }
+    ensures first { IfOk result (λ r. min (first_var store.old f) (first_var store.old g) ≤ first_var store.new r) }
+    ensures table { IfOk result (λ r. (a : ℕ → Bool) → table store.new r a ≡ joined unit (table store.old f a) (table store.old g a)) }
+    ensures keeps { Keeps store.old store.new }
+    ensures sound { IsSound store.new }
+    ensures calls { store.new.calls ≤ store.old.calls + (beads store.old f + 2) * (beads store.old g + 2) }
+    ensures fresh { IfOk result (IsFreshBelow store.old store.new) }
+    ensures held { IfOk result (λ r. held store.new ≤ held store.old + beads store.new r) }
+    ensures known { AreResults store.new known.new }
+{
+    let _ = store.vars();
+    let mut memo = Memo::new(alloc);
+    let turn = turn(store);
+    join_from(store, known, &mut memo, turn, unit, f, g)
+}
+
+/// The function with each variable replaced by that which stands `back` before it, and negated where `flip` is true.
+fn change(
+    alloc: Global,
+    store: &mut Store,
+    known: &mut Known,
+    back: u32,
+    flip: bool,
+    f: Ref,
+) -> Result<Ref, AllocError>
+    requires back { back ≡ (if flip then 0 else 1) }
+    requires live { IsLive store.old f }
+    requires later { IsProper store.old f → back ≤ first_var store.old f }
+    requires known { AreResults store.old known.old }
+    ensures live { IfOk result (λ r. IsLive store.new r) }
+    ensures first { IfOk result (λ r. first_var store.old f ≤ first_var store.new r + back) }
+    ensures table { IfOk result (λ r. (a : ℕ → Bool) → table store.new r a ≡ changed back flip (table store.old f) a) }
+    ensures keeps { Keeps store.old store.new }
+    ensures sound { IsSound store.new }
+    ensures calls { store.new.calls ≤ store.old.calls + (beads store.old f + 2) }
+    ensures fresh { IfOk result (IsFreshBelow store.old store.new) }
+    ensures held { IfOk result (λ r. held store.new ≤ held store.old + beads store.new r) }
+    ensures known { AreResults store.new known.new }
+{
+    let _ = store.vars();
+    let mut memo = Memo::new(alloc);
+    let turn = turn(store);
+    change_from(store, known, &mut memo, turn, back, flip, f)
+}
+
+/// The disjunction of the function with the variable at 0 and with it at 1.
+fn quantify(
+    alloc: Global,
+    store: &mut Store,
+    known: &mut Known,
+    var: u32,
+    f: Ref,
+) -> Result<Ref, AllocError>
+    requires live { IsLive store.old f }
+    requires known { AreResults store.old known.old }
+    ensures live { IfOk result (λ r. IsLive store.new r) }
+    ensures first { IfOk result (λ r. first_var store.old f ≤ first_var store.new r) }
+    ensures table { IfOk result (λ r. (a : ℕ → Bool) → table store.new r a ≡ some_at var (table store.old f) a) }
+    ensures keeps { Keeps store.old store.new }
+    ensures sound { IsSound store.new }
+    ensures fresh { IfOk result (IsFreshBelow store.old store.new) }
+    ensures held { IfOk result (λ r. held store.new ≤ held store.old + beads store.new r) }
+    ensures known { AreResults store.new known.new }
+{
+    let _ = store.vars();
+    let mut joins = Memo::new(alloc);
+    let mut memo = Memo::new(alloc);
+    let turn = turn(store);
+    exists_from(store, known, &mut joins, &mut memo, turn, var, f)
 }
 
 /// The conjunction.
@@ -266,9 +393,9 @@ pub fn and(alloc: Global, store: &mut Store, f: Ref, g: Ref) -> Result<Ref, Allo
     ensures fresh { IfOk result (IsFreshBelow store.old store.new) }
     ensures held { IfOk result (λ r. held store.new ≤ held store.old + beads store.new r) }
 {
-    let _ = store.vars();
-    let mut memo = Memo::new(alloc);
-    let answer = join_from(store, &mut memo, true, f, g);
+    let mut known = store.lend();
+    let answer = join(alloc, store, &mut known, true, f, g);
+    store.take_back(known);
     let _ = store.vars();
     answer
 }
@@ -287,9 +414,9 @@ pub fn or(alloc: Global, store: &mut Store, f: Ref, g: Ref) -> Result<Ref, Alloc
     ensures fresh { IfOk result (IsFreshBelow store.old store.new) }
     ensures held { IfOk result (λ r. held store.new ≤ held store.old + beads store.new r) }
 {
-    let _ = store.vars();
-    let mut memo = Memo::new(alloc);
-    let answer = join_from(store, &mut memo, false, f, g);
+    let mut known = store.lend();
+    let answer = join(alloc, store, &mut known, false, f, g);
+    store.take_back(known);
     let _ = store.vars();
     answer
 }
@@ -307,9 +434,9 @@ pub fn not(alloc: Global, store: &mut Store, f: Ref) -> Result<Ref, AllocError>
     ensures fresh { IfOk result (IsFreshBelow store.old store.new) }
     ensures held { IfOk result (λ r. held store.new ≤ held store.old + beads store.new r) }
 {
-    let _ = store.vars();
-    let mut memo = Memo::new(alloc);
-    let answer = change_from(store, &mut memo, 0, true, f);
+    let mut known = store.lend();
+    let answer = change(alloc, store, &mut known, 0, true, f);
+    store.take_back(known);
     let _ = store.vars();
     answer
 }
@@ -328,9 +455,9 @@ pub fn rename(alloc: Global, store: &mut Store, f: Ref) -> Result<Ref, AllocErro
     ensures fresh { IfOk result (IsFreshBelow store.old store.new) }
     ensures held { IfOk result (λ r. held store.new ≤ held store.old + beads store.new r) }
 {
-    let _ = store.vars();
-    let mut memo = Memo::new(alloc);
-    let answer = change_from(store, &mut memo, 1, false, f);
+    let mut known = store.lend();
+    let answer = change(alloc, store, &mut known, 1, false, f);
+    store.take_back(known);
     let _ = store.vars();
     answer
 }
@@ -348,10 +475,9 @@ pub fn exists(alloc: Global, store: &mut Store, f: Ref, var: u32) -> Result<Ref,
     ensures fresh { IfOk result (IsFreshBelow store.old store.new) }
     ensures held { IfOk result (λ r. held store.new ≤ held store.old + beads store.new r) }
 {
-    let _ = store.vars();
-    let mut joins = Memo::new(alloc);
-    let mut memo = Memo::new(alloc);
-    let answer = exists_from(store, &mut joins, &mut memo, var, f);
+    let mut known = store.lend();
+    let answer = quantify(alloc, store, &mut known, var, f);
+    store.take_back(known);
     let _ = store.vars();
     answer
 }

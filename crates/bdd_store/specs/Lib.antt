@@ -5,3 +5,4 @@ pub mod Seen
 pub mod Chains
 pub mod Steps
 pub mod Results
+pub mod Sure

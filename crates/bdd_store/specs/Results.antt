@@ -32,7 +32,7 @@ pub record IsResult (d : Diagram) (operation : Operation) (r : Ref) : Type 0 whe
   pub table : (a : ℕ → Bool) → table d r a ≡ made d operation a
 
 abbrev pub no_entry : Entry
-no_entry = record { operation = And (record { place = 0 }) (record { place = 0 }); answer = record { place = 0 } }
+no_entry = record { operation = And (record { place = 0 }) (record { place = 0 }); answer = record { place = 0 }; turn = 0 }
 
 abbrev pub entry_at : List Entry → ℕ → Entry
 entry_at es i = slice_index_or es i no_entry

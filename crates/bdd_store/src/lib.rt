@@ -5,13 +5,14 @@ ghost use Rattle.std.specs.Prelude.{◌≡◌, ◌≢◌, ◌↔◌, ◌⊎◌, 
 ghost use Rattle.std.specs.Prelude.{List, [], ◌∷◌, ◌++◌, count_by};
 ghost use Rattle.bdd_store.specs.Diagram.{Diagram, IsLive, AreLive, table, tables_of, IsSound, IsCanonical, first_var, IsConstant, IsProper, DependsFrom, Reaches, held, Keeps, HasMarks, KeepsMarks, IsKept, Sweeps};
 ghost use Rattle.bdd_store.specs.Steps.{Grows, Stays, Gives, IsFound};
-ghost use Rattle.bdd_store.specs.Results.{IsResult};
+ghost use Rattle.bdd_store.specs.Results.{AreResults};
 ghost use Rattle.bdd_store.specs.Beads.{bead_count};
 ghost use Rattle.bdd_store.specs.Graph.{with_at};
 ghost use Rattle.bdd_store.specs.declared.Ref.{Ref};
 
 use std::alloc::{AllocError, Global};
 use std::marker::Model;
+use std::mem;
 
 mod chains;
 mod results;
@@ -20,7 +21,8 @@ mod tests;
 mod visits;
 
 use chains::{Node, add, bucket_of, find, give_back, grow, link_all};
-use results::{Entry, forget, put, widen};
+pub use results::Known;
+use results::{Entry, counted, forget, wanted, widen};
 use visits::{clear, count_below, visit};
 
 /// A function of the store that gave it, of which it says nothing: a Ref means in each store what stands at its place.
@@ -62,6 +64,8 @@ pub struct Store {
     marks: Vec<bool>,
     marked: usize,
     results: Vec<Entry>,
+    puts: usize,
+    hits: usize,
 }
 
 impl Model for Store {
@@ -106,6 +110,8 @@ impl Store {
             marks: vec![in alloc; false; 2]?,
             marked: 0,
             results: Vec::new(alloc),
+            puts: 0,
+            hits: 0,
         })
     }
 
@@ -203,7 +209,7 @@ impl Store {
         answer
     }
 
-    // Makes more chains where there are more nodes than chains, and so many places for results.
+    // Makes more chains where there are more nodes than chains.
     fn make_room(&mut self)
         ensures stays { Stays self.old self.new }
         ensures calls { self.new.calls ≡ self.old.calls }
@@ -211,7 +217,6 @@ impl Store {
     {
         if self.nodes.len() > self.heads.len() {
             self.free = grow(&mut self.nodes, &mut self.heads, self.free, self.vars);
-            widen(&mut self.results, self.heads.len());
         }
     }
 
@@ -385,18 +390,31 @@ impl Store {
         forget(&mut self.results);
     }
 
-    /// The result of an operation, if it is known.
-    pub fn recall(&self, operation: Operation) -> Option<Ref>
-        ensures { IfSome result (IsResult self.now operation) }
+    /// Lends the results of operations that it knows.
+    pub fn lend(&mut self) -> Known
+        ensures same { self.new ≡ self.old }
+        ensures known { AreResults self.new result }
     {
-        results::find(&self.results, operation)
+        let has = self.results.len();
+        let places = wanted(has, self.puts, self.hits, self.heads.len());
+        let (puts, hits) = counted(has, self.puts, self.hits);
+        let none = Vec::new(*self.nodes.allocator());
+        let mut results = mem::replace(&mut self.results, none);
+        widen(&mut results, places);
+        Known {
+            results,
+            puts,
+            hits,
+        }
     }
 
-    /// Keeps the result of an operation, until another takes its place or a sweep forgets all.
-    pub fn remember(&mut self, operation: Operation, answer: Ref)
-        requires { IsResult self.old operation answer }
+    /// Takes back what was lent, and keeps it until a sweep forgets all.
+    pub fn take_back(&mut self, known: Known)
+        requires { AreResults self.old known }
         ensures { self.new ≡ self.old }
     {
-        put(&mut self.results, operation, answer);
+        self.puts = known.puts;
+        self.hits = known.hits;
+        self.results = known.results;
     }
 }

@@ -1,20 +1,90 @@
 //! The results of operations: a table in which a later result takes the place of an earlier one.
 
-ghost use Rattle.std.specs.Prelude.{◌≡◌, ℕ, ◌<◌, IfSome};
+ghost use Rattle.std.specs.Prelude.{◌≡◌, ℕ, ◌<◌, IfOk, IfSome, IfNone, IsTrue, vec_len};
 ghost use Rattle.bdd_store.specs.Diagram.{Diagram, IsSound};
 ghost use Rattle.bdd_store.specs.Results.{IsResult, AreResults};
+ghost use Rattle.bdd_store.specs.Sure.{slot_of, IsSure};
 
+use crate::chains::bucket_of;
 use crate::{Operation, Ref};
+use std::alloc::{AllocError, Global};
+use std::marker::Model;
 
-/// An operation and its result.
+/// An operation and its result, with the number of the turn that put it there.
 #[derive(Clone, Copy)]
 pub struct Entry {
     pub operation: Operation,
     pub answer: Ref,
+    pub turn: u32,
 }
 
-// The most places of a table: what a processor keeps close by.
-const MOST: usize = 0x2000;
+// The places of a table with which it begins: what a processor keeps close by; and the most.
+const FEW: usize = 0x2000;
+
+const MOST: usize = 0x40_0000;
+
+/// The results of operations that a store knows, lent to a call.
+#[derive(Drop)]
+pub struct Known {
+    pub(crate) results: Vec<Entry>,
+    pub(crate) puts: usize,
+    pub(crate) hits: usize,
+}
+
+impl Model for Known {
+    ghost use Rattle.std.specs.Prelude.{List};
+    ghost use Rattle.bdd_store.specs.declared.results.Entry.{Entry};
+
+    ghost Value = { List Entry };
+
+    ghost view = { λ k. k.results.items };
+}
+
+impl Known {
+    /// The result of an operation, if it is there.
+    pub fn recall(&self, operation: Operation) -> Option<Ref>
+        ensures some { (d : Diagram) → AreResults d self.now → IfSome result (IsResult d operation) }
+        ensures none { IfNone result ((turn : ℕ) → IsSure self.now turn operation → ⊥) }
+    {
+        find(&self.results, operation)
+    }
+
+    /// Notes that a result was of use.
+    pub fn note_hit(&mut self)
+        ensures { self.new ≡ self.old }
+    {
+        self.hits = self.hits.saturating_add(1);
+    }
+
+    /// Puts the result of an operation in the place of one of another turn. True means that it stays for this turn.
+    pub fn remember(&mut self, operation: Operation, answer: Ref, turn: u32) -> bool
+        ensures right { (d : Diagram) → AreResults d self.old → IsResult d operation answer → AreResults d self.new }
+        ensures keeps { (o : Operation) → IsSure self.old turn o → IsSure self.new turn o }
+        ensures sure { IsTrue result → IsSure self.new turn operation }
+    {
+        self.puts = self.puts.saturating_add(1);
+        put(&mut self.results, operation, answer, turn)
+    }
+}
+
+/// How many places a table is to have: more where one look in four was of use.
+pub fn wanted(has: usize, puts: usize, hits: usize, len: usize) -> usize {
+    if has < FEW {
+        return len.min(FEW);
+    }
+    if puts >= has && hits >= puts / 3 && has < MOST {
+        return 4 * has;
+    }
+    has
+}
+
+/// The counts, which begin again after as many results as there are places.
+pub fn counted(has: usize, puts: usize, hits: usize) -> (usize, usize) {
+    if puts >= has {
+        return (0, 0);
+    }
+    (puts, hits)
+}
 
 // An entry that is right in every store: the conjunction of the constant 0 with itself.
 fn never() -> Entry
@@ -24,31 +94,30 @@ fn never() -> Entry
     Entry {
         operation: Operation::And(zero, zero),
         answer: zero,
+        turn: u32::MAX,
     }
 }
 
 // The place of an operation among `len`.
+#[tactic(auto, unfolding(crate::specs::Sure::slot_of))]
 fn slot(operation: Operation, len: usize) -> usize
     requires { 0 < len }
-    ensures { result < len }
+    ensures slot { result ≡ slot_of len operation }
+    ensures within { result < len }
 {
-    let (kind, first, second) = match operation {
-        Operation::And(f, g) => (1, f.place, g.place),
-        Operation::Or(f, g) => (2, f.place, g.place),
-        Operation::Not(f) => (3, f.place, 0),
-        Operation::Rename(f) => (4, f.place, 0),
-        Operation::Exists(f, var) => (5, f.place, var),
-    };
-    let mixed = (first as u64)
-        .wrapping_mul(0x9E37_79B9_7F4A_7C15)
-        .wrapping_add((second as u64).wrapping_mul(0xC2B2_AE3D_27D4_EB4F))
-        .wrapping_add((kind as u64).wrapping_mul(0x1656_67B1_9E37_79F9));
-    ((mixed >> 32) as usize) & (len - 1)
+    match operation {
+        Operation::And(f, g) => bucket_of(1, f.place, g.place, len),
+        Operation::Or(f, g) => bucket_of(2, f.place, g.place, len),
+        Operation::Not(f) => bucket_of(3, f.place, 0, len),
+        Operation::Rename(f) => bucket_of(4, f.place, 0, len),
+        Operation::Exists(f, var) => bucket_of(5, f.place, var, len),
+    }
 }
 
-/// The result of an operation, if it is there.
-pub fn find(results: &[Entry], operation: Operation) -> Option<Ref>
-    ensures { (d : Diagram) → AreResults d results.now → IfSome result (IsResult d operation) }
+// The result of an operation, if it is there.
+fn find(results: &[Entry], operation: Operation) -> Option<Ref>
+    ensures some { (d : Diagram) → AreResults d results.now → IfSome result (IsResult d operation) }
+    ensures none { IfNone result ((turn : ℕ) → IsSure results.now turn operation → ⊥) }
 {
     if results.is_empty() {
         return None;
@@ -60,23 +129,67 @@ pub fn find(results: &[Entry], operation: Operation) -> Option<Ref>
     None
 }
 
-/// Puts the result of an operation.
-pub fn put(results: &mut Vec<Entry>, operation: Operation, answer: Ref)
-    ensures { (d : Diagram) → AreResults d results.old.items → IsResult d operation answer → AreResults d results.new.items }
+// Puts the result of an operation, unless its place has one of this turn.
+fn put(results: &mut Vec<Entry>, operation: Operation, answer: Ref, turn: u32) -> bool
+    ensures right { (d : Diagram) → AreResults d results.old.items → IsResult d operation answer → AreResults d results.new.items }
+    ensures keeps { (o : Operation) → IsSure results.old.items turn o → IsSure results.new.items turn o }
+    ensures sure { IsTrue result → IsSure results.new.items turn operation }
 {
-    if !results.is_empty() {
-        let place = slot(operation, results.len());
-        results[place] = Entry { operation, answer };
+    if results.is_empty() {
+        return false;
+    }
+    let place = slot(operation, results.len());
+    if results[place].turn == turn {
+        return false;
+    }
+    results[place] = Entry {
+        operation,
+        answer,
+        turn,
+    };
+    true
+}
+
+// Puts results into a table.
+fn spread(results: &[Entry], fresh: &mut Vec<Entry>)
+    requires { 0 < vec_len fresh.old }
+    ensures { (d : Diagram) → AreResults d results.now → AreResults d fresh.old.items → AreResults d fresh.new.items }
+{
+    for i in 0..results.len() {
+        let entry = results[i];
+        let place = slot(entry.operation, fresh.len());
+        fresh[place] = entry;
     }
 }
 
-/// Makes so many places, or the most, where there is memory for that.
-pub fn widen(results: &mut Vec<Entry>, len: usize)
+// A table of so many places that has no result of use.
+fn blank(alloc: Global, places: usize) -> Result<Vec<Entry>, AllocError>
+    ensures right { IfOk result (λ es. (d : Diagram) → IsSound d → AreResults d es.items) }
+    ensures len { IfOk result (λ es. vec_len es ≡ places) }
+{
+    let mut fresh = Vec::new(alloc);
+    fresh.resize(places, never())?;
+    Ok(fresh)
+}
+
+// The same results in a table of so many places.
+fn widened(results: &Vec<Entry>, places: usize) -> Result<Vec<Entry>, AllocError>
+    requires { 0 < places }
+    ensures { IfOk result (λ es. (d : Diagram) → IsSound d → AreResults d results.now.items → AreResults d es.items) }
+{
+    let mut fresh = blank(*results.allocator(), places)?;
+    spread(results, &mut fresh);
+    Ok(fresh)
+}
+
+/// Makes so many places, where there is memory for that.
+pub fn widen(results: &mut Vec<Entry>, places: usize)
     ensures { (d : Diagram) → IsSound d → AreResults d results.old.items → AreResults d results.new.items }
 {
-    let places = len.min(MOST);
     if places > results.len() {
-        let _ = results.resize(places, never());
+        if let Ok(fresh) = widened(results, places) {
+            *results = fresh;
+        }
     }
 }
 

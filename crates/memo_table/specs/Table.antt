@@ -54,8 +54,9 @@ pub record SameResults (old new : List Entry) : Type 0 where
   pub count : length new ≡ length old
   pub results : (i : ℕ) → result_at new i ≡ result_at old i
 
--- what the fields of a Memo keep
+-- What the fields of a Memo keep. Where there are no chains there are few entries.
 pub record IsTable (es : List Entry) (heads : List ℕ) : Type 0 where
-  pub chained : Chained (length heads) es heads (length es)
-  pub room : length es ≤ length heads
+  pub chained : 0 < length heads → Chained (length heads) es heads (length es)
+  pub room : 0 < length heads → length es ≤ length heads
+  pub small : length heads ≡ 0 → length es ≤ 16
   pub few : length heads < 0x1_0000_0000

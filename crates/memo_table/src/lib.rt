@@ -87,7 +87,7 @@ fn find(entries: &[Entry], heads: &[u32], first: Ref, second: Ref) -> Option<Ref
     ensures { result ≡ result_of (kept entries.now (length entries.now)) (first, second) }
 {
     if heads.len() == 0 {
-        return None;
+        return find_among(entries, first, second);
     }
     let bucket = bucket_of(first, second, heads.len());
     let mut at = heads[bucket];
@@ -101,13 +101,32 @@ fn find(entries: &[Entry], heads: &[u32], first: Ref, second: Ref) -> Option<Ref
     None
 }
 
+// The last result for a pair, where there are no chains.
+fn find_among(entries: &[Entry], first: Ref, second: Ref) -> Option<Ref>
+    ensures { result ≡ result_of (kept entries.now (length entries.now)) (first, second) }
+{
+    let mut at = entries.len();
+    while at != 0 {
+        at -= 1;
+        let last = &entries[at];
+        if last.first == first && last.second == second {
+            return Some(last.answer);
+        }
+    }
+    None
+}
+
 // Makes room for one more entry.
 fn make_room(entries: &mut Vec<Entry>, heads: &mut Vec<u32>) -> Result<(), AllocError>
     requires table { IsTable entries.old.items heads.old.items }
     ensures table { IsTable entries.new.items heads.new.items }
-    ensures room { OnOk result (vec_len entries.new < vec_len heads.new) }
+    ensures room { OnOk result (0 < vec_len heads.new → vec_len entries.new < vec_len heads.new) }
+    ensures small { OnOk result (vec_len heads.new ≡ 0 → vec_len entries.new < 16) }
     ensures same { kept entries.new.items (length entries.new.items) ≡ kept entries.old.items (length entries.old.items) }
 {
+    if heads.len() == 0 && entries.len() < 16 {
+        return Ok(());
+    }
     if entries.len() < heads.len() {
         return Ok(());
     }
@@ -125,11 +144,21 @@ fn put(
     answer: Ref,
 ) -> Result<(), AllocError>
     requires table { IsTable entries.old.items heads.old.items }
-    requires room { vec_len entries.old < vec_len heads.old }
+    requires room { 0 < vec_len heads.old → vec_len entries.old < vec_len heads.old }
+    requires small { vec_len heads.old ≡ 0 → vec_len entries.old < 16 }
     ensures table { IsTable entries.new.items heads.new.items }
     ensures ok { OnOk result (kept entries.new.items (length entries.new.items) ≡ ((first, second), answer) ∷ kept entries.old.items (length entries.old.items)) }
     ensures err { OnErr result (kept entries.new.items (length entries.new.items) ≡ kept entries.old.items (length entries.old.items)) }
 {
+    if heads.len() == 0 {
+        entries.push(Entry {
+            first,
+            second,
+            answer,
+            next: 0,
+        })?;
+        return Ok(());
+    }
     let bucket = bucket_of(first, second, heads.len());
     entries.push(Entry {
         first,
@@ -153,7 +182,7 @@ fn grow(entries: &mut Vec<Entry>, heads: &Vec<u32>) -> Result<Vec<u32>, AllocErr
     if len >= 0x4000_0000 {
         return Err(AllocError);
     }
-    let wide = if len == 0 { 16 } else { 4 * len };
+    let wide = if len == 0 { 64 } else { 4 * len };
     let mut fresh = vec![in *heads.allocator(); 0; wide]?;
     entries.reserve(len + 16)?;
     link_all(entries, &mut fresh);

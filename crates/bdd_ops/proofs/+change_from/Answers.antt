@@ -1,10 +1,13 @@
-use Rattle.std.proofs.Common.{◌≡◌, ℕ, ◌+◌, ◌-◌, ◌<◌, ◌≤◌, Bool, cond, Option, None, IfSome, length, refl, sym, ap, ◌∙◌, subst, arith, false, true}
-use Rattle.memo_table.specs.Results.{same_pair, result_of}
+use Rattle.std.proofs.Common.{◌≡◌, inl, inr, ℕ, ◌+◌, ◌-◌, ◌<◌, ◌≤◌, Bool, cond, Option, None, IfSome, length, refl, sym, ap, ◌∙◌, subst, arith, false, true}
+use Rattle.memo_table.specs.Results.{same_pair}
 use Rattle.bdd_store.specs.declared.Ref.{Ref}
 use Rattle.bdd_store.specs.Graph.{with_at}
 use Rattle.bdd_store.specs.Diagram.{IsLive, table, first_var, Reaches, Keeps}
-use Rattle.bdd_ops.specs.Memo.{changed, IsImage, OnesBelow}
-use Rattle.bdd_ops.proofs.MemoLaws.{keeps_after, image_found, one_longer, same_table, first_within, images_kept, ones_kept, pair_test, holds_put, holds_same, put_other, once_put, once_same}
+use Rattle.bdd_store.specs.Sure.{IsSure}
+use Rattle.bdd_ops.specs.Memo.{changed, IsImage, pair_first}
+use Rattle.bdd_ops.specs.News.{State, IsFound, News, SamePair, change_of}
+use Rattle.bdd_ops.proofs.NewsLaws.{news_none, news_hit, news_err, news_first, news_second, news_later, news_weaken, news_put, found_kept, found_here, keeps_self}
+use Rattle.bdd_ops.proofs.MemoLaws.{keeps_after, image_found, same_table, first_within, images_kept, pair_test, holds_kept, holds_same}
 use Rattle.bdd_ops.proofs.Tables.{split_at, changed_cond}
 use Rattle.bdd_ops.proofs.Recalled.{change_first}
 use Rattle.bdd_ops.proofs.Held.{fresh_node}
@@ -20,19 +23,10 @@ returns-in-Some-get-clause-first t c = (image_found (changed c.args.back c.args.
 pub returns-in-Some-get-clause-table : goal.returns-in-Some-get-clause-table
 returns-in-Some-get-clause-table t c = (image_found (changed c.args.back c.args.flip) c.args.back c.args.store.now c.args.memo.now (c.args.f, c.args.f) c.in-Some-get.r c.in-Some-get.ensures.value c.requires.memo).table
 
-pub returns-in_err-low-clause-reached : goal.returns-in_err-low-clause-reached
-returns-in_err-low-clause-reached t c top live_top reach ones = c.in_err-low.ensures.reached top live_top (c.low-f_low.ensures.reached top live_top reach) ones
-
-pub returns-in_err-high-clause-reached : goal.returns-in_err-high-clause-reached
-returns-in_err-high-clause-reached t c top live_top reach ones =
-    c.in_err-high.ensures.reached top (c.in_ok-low.ensures.keeps.live top live_top)
-    (c.in_ok-low.ensures.keeps.reached top c.high-f_high.result live_top c.high-f_high.ensures.live (c.high-f_high.ensures.reached top live_top reach))
-    (c.in_ok-low.ensures.reached top live_top (c.low-f_low.ensures.reached top live_top reach) ones)
-
 pub returns-in-Some-recall-clause-first : goal.returns-in-Some-recall-clause-first
 returns-in-Some-recall-clause-first t c =
     let d = c.args.store.now in
-    let is = c.in-Some-recall.ensures in
+    let is = c.in-Some-recall.ensures.some d c.requires.known in
     change_first d c.requires.sound c.in-Some-recall.r is.live c.args.back c.args.flip c.args.f c.requires.live (λ a. is.table a ∙ c.changing-operation.ensures.made d a)
 
 -- what the store comes to know is right
@@ -60,61 +54,33 @@ both_keep_no_node t c = keeps_after c.args.store.now c.change_from.new.store c.c
 all_keep_no_node : (t : ℕ) (c : goal.After-from_residual-in_err-r t) → Keeps c.args.store.now c.result_node.new.store
 all_keep_no_node t c = keeps_after c.args.store.now c.change_from-2.new.store c.result_node.new.store (both_keep_no_node t c) c.in_err-r.ensures.keeps
 
-ones_no_node : (t : ℕ) (c : goal.After-from_residual-in_err-r t) (top : Ref) → IsLive c.args.store.now top → Reaches c.args.store.now top c.args.f → OnesBelow c.args.store.now top c.args.memo.now → OnesBelow c.result_node.new.store top c.change_from-2.new.memo
-ones_no_node t c top live_top reach ones =
-    ones_kept (changed c.args.back c.args.flip) c.args.back c.change_from-2.new.store c.result_node.new.store c.change_from-2.new.memo top c.in_err-r.ensures.keeps c.in_ok-high.ensures.memo ((both_keep_no_node t c).live top live_top)
-    (c.in_ok-high.ensures.reached top (c.in_ok-low.ensures.keeps.live top live_top)
-    (c.in_ok-low.ensures.keeps.reached top c.high-f_high.result live_top c.high-f_high.ensures.live (c.high-f_high.ensures.reached top live_top reach))
-    (c.in_ok-low.ensures.reached top live_top (c.low-f_low.ensures.reached top live_top reach) ones))
-
 pub returns-in_err-r-clause-keeps : goal.returns-in_err-r-clause-keeps
 returns-in_err-r-clause-keeps t c = all_keep_no_node t c
 
 pub returns-in_err-r-clause-memo : goal.returns-in_err-r-clause-memo
 returns-in_err-r-clause-memo t c = images_kept (changed c.args.back c.args.flip) c.args.back c.change_from-2.new.store c.result_node.new.store c.change_from-2.new.memo c.in_err-r.ensures.keeps c.in_ok-high.ensures.memo
 
-pub returns-in_err-r-clause-reached : goal.returns-in_err-r-clause-reached
-returns-in_err-r-clause-reached t c = ones_no_node t c
-
 -- after both branches
-both_keep_no_room : (t : ℕ) (c : goal.After-from_residual-in_err-insert t) → Keeps c.args.store.now c.change_from-2.new.store
+both_keep_no_room : (t : ℕ) (c : goal.After-from_residual-in_err-keep t) → Keeps c.args.store.now c.change_from-2.new.store
 both_keep_no_room t c = keeps_after c.args.store.now c.change_from.new.store c.change_from-2.new.store c.in_ok-low.ensures.keeps c.in_ok-high.ensures.keeps
 
-all_keep_no_room : (t : ℕ) (c : goal.After-from_residual-in_err-insert t) → Keeps c.args.store.now c.result_node.new.store
+all_keep_no_room : (t : ℕ) (c : goal.After-from_residual-in_err-keep t) → Keeps c.args.store.now c.result_node.new.store
 all_keep_no_room t c = keeps_after c.args.store.now c.change_from-2.new.store c.result_node.new.store (both_keep_no_room t c) c.in_ok-r.ensures.keeps
 
-ones_no_room : (t : ℕ) (c : goal.After-from_residual-in_err-insert t) (top : Ref) → IsLive c.args.store.now top → Reaches c.args.store.now top c.args.f → OnesBelow c.args.store.now top c.args.memo.now → OnesBelow c.result_node.new.store top c.change_from-2.new.memo
-ones_no_room t c top live_top reach ones =
-    ones_kept (changed c.args.back c.args.flip) c.args.back c.change_from-2.new.store c.result_node.new.store c.change_from-2.new.memo top c.in_ok-r.ensures.keeps c.in_ok-high.ensures.memo ((both_keep_no_room t c).live top live_top)
-    (c.in_ok-high.ensures.reached top (c.in_ok-low.ensures.keeps.live top live_top)
-    (c.in_ok-low.ensures.keeps.reached top c.high-f_high.result live_top c.high-f_high.ensures.live (c.high-f_high.ensures.reached top live_top reach))
-    (c.in_ok-low.ensures.reached top live_top (c.low-f_low.ensures.reached top live_top reach) ones))
+pub returns-in_err-keep-clause-keeps : goal.returns-in_err-keep-clause-keeps
+returns-in_err-keep-clause-keeps t c = all_keep_no_room t c
 
-pub returns-in_err-insert-clause-keeps : goal.returns-in_err-insert-clause-keeps
-returns-in_err-insert-clause-keeps t c = all_keep_no_room t c
-
-pub returns-in_err-insert-clause-memo : goal.returns-in_err-insert-clause-memo
-returns-in_err-insert-clause-memo t c =
-    holds_same same_pair pair_test (IsImage (changed c.args.back c.args.flip) c.args.back c.result_node.new.store) c.change_from-2.new.memo c.insert.new.self c.in_err-insert.ensures.err
+pub returns-in_err-keep-clause-memo : goal.returns-in_err-keep-clause-memo
+returns-in_err-keep-clause-memo t c =
+    holds_same same_pair pair_test (IsImage (changed c.args.back c.args.flip) c.args.back c.result_node.new.store) c.change_from-2.new.memo c.keep.new.memo c.in_err-keep.ensures.err
     (images_kept (changed c.args.back c.args.flip) c.args.back c.change_from-2.new.store c.result_node.new.store c.change_from-2.new.memo c.in_ok-r.ensures.keeps c.in_ok-high.ensures.memo)
 
-pub returns-in_err-insert-clause-reached : goal.returns-in_err-insert-clause-reached
-returns-in_err-insert-clause-reached t c top live_top reach ones =
-    holds_same same_pair pair_test (λ p r. Reaches c.result_node.new.store top p.0) c.change_from-2.new.memo c.insert.new.self c.in_err-insert.ensures.err (ones_no_room t c top live_top reach ones)
-
 -- after both branches
-both_keep_done : (t : ℕ) (c : goal.In_ok-insert t) → Keeps c.args.store.now c.change_from-2.new.store
+both_keep_done : (t : ℕ) (c : goal.In_ok-keep t) → Keeps c.args.store.now c.change_from-2.new.store
 both_keep_done t c = keeps_after c.args.store.now c.change_from.new.store c.change_from-2.new.store c.in_ok-low.ensures.keeps c.in_ok-high.ensures.keeps
 
-all_keep_done : (t : ℕ) (c : goal.In_ok-insert t) → Keeps c.args.store.now c.result_node.new.store
+all_keep_done : (t : ℕ) (c : goal.In_ok-keep t) → Keeps c.args.store.now c.result_node.new.store
 all_keep_done t c = keeps_after c.args.store.now c.change_from-2.new.store c.result_node.new.store (both_keep_done t c) c.in_ok-r.ensures.keeps
-
-ones_done : (t : ℕ) (c : goal.In_ok-insert t) (top : Ref) → IsLive c.args.store.now top → Reaches c.args.store.now top c.args.f → OnesBelow c.args.store.now top c.args.memo.now → OnesBelow c.result_node.new.store top c.change_from-2.new.memo
-ones_done t c top live_top reach ones =
-    ones_kept (changed c.args.back c.args.flip) c.args.back c.change_from-2.new.store c.result_node.new.store c.change_from-2.new.memo top c.in_ok-r.ensures.keeps c.in_ok-high.ensures.memo ((both_keep_done t c).live top live_top)
-    (c.in_ok-high.ensures.reached top (c.in_ok-low.ensures.keeps.live top live_top)
-    (c.in_ok-low.ensures.keeps.reached top c.high-f_high.result live_top c.high-f_high.ensures.live (c.high-f_high.ensures.reached top live_top reach))
-    (c.in_ok-low.ensures.reached top live_top (c.low-f_low.ensures.reached top live_top reach) ones))
 
 pub returns-clause-keeps : goal.returns-clause-keeps
 returns-clause-keeps t c = all_keep_done t c
@@ -125,7 +91,7 @@ returns-clause-fresh t c =
     c.in_ok-low.ensures.fresh c.in_ok-high.ensures.fresh c.in_ok-high.ensures.keeps c.in_ok-low.ensures.live c.in_ok-r.ensures.fresh c.in_ok-r.ensures.reached
 
 -- the table of the new result
-table_done : (t : ℕ) (c : goal.In_ok-insert t) (a : ℕ → Bool) → table c.result_node.new.store c.in_ok-r.r a ≡ changed c.args.back c.args.flip (table c.args.store.now c.args.f) a
+table_done : (t : ℕ) (c : goal.In_ok-keep t) (a : ℕ → Bool) → table c.result_node.new.store c.in_ok-r.r a ≡ changed c.args.back c.args.flip (table c.args.store.now c.args.f) a
 table_done t c a =
     let before = c.args.store.now in
     let middle = c.change_from.new.store in
@@ -145,7 +111,7 @@ pub returns-clause-table : goal.returns-clause-table
 returns-clause-table t c = table_done t c
 
 -- the new result is right
-answer_done : (t : ℕ) (c : goal.In_ok-insert t) → IsImage (changed c.args.back c.args.flip) c.args.back c.result_node.new.store (c.args.f, c.args.f) c.in_ok-r.r
+answer_done : (t : ℕ) (c : goal.In_ok-keep t) → IsImage (changed c.args.back c.args.flip) c.args.back c.result_node.new.store (c.args.f, c.args.f) c.in_ok-r.r
 answer_done t c =
     let keeps = all_keep_done t c in
     let f_first = keeps.firsts c.args.f c.requires.live in
@@ -160,48 +126,157 @@ answer_done t c =
 
 pub returns-clause-memo : goal.returns-clause-memo
 returns-clause-memo t c =
-    holds_put same_pair pair_test (IsImage (changed c.args.back c.args.flip) c.args.back c.result_node.new.store) c.change_from-2.new.memo c.insert.new.self (c.args.f, c.args.f) c.in_ok-r.r c.in_ok-insert.ensures.ok
+    holds_kept same_pair pair_test (IsImage (changed c.args.back c.args.flip) c.args.back c.result_node.new.store) c.change_from-2.new.memo c.keep.new.memo (c.args.f, c.args.f) c.in_ok-r.r c.in_ok-keep.ensures.memo
     (images_kept (changed c.args.back c.args.flip) c.args.back c.change_from-2.new.store c.result_node.new.store c.change_from-2.new.memo c.in_ok-r.ensures.keeps c.in_ok-high.ensures.memo) (answer_done t c)
-
--- neither branch touches a node of an earlier variable
-low_untouched : (t : ℕ) (c : goal.In_ok-insert t) (p : Ref) → IsLive c.args.store.now p → first_var c.args.store.now p ≤ first_var c.args.store.now c.args.f → result_of c.change_from-2.new.memo (p, p) ≡ result_of c.args.memo.now (p, p)
-low_untouched t c p live le =
-    let k = c.in_ok-low.ensures.keeps in
-    let first_p = k.firsts p live in
-    let f_high = k.firsts c.high-f_high.result c.high-f_high.ensures.live in
-    let lt_low : first_var c.args.store.now p < first_var c.args.store.now c.low-f_low.result = omega (arith, le, c.low-f_low.ensures.first) in
-    let lt_high : first_var c.change_from.new.store p < first_var c.change_from.new.store c.high-f_high.result = omega (arith, le, first_p, f_high, c.high-f_high.ensures.first) in
-    c.in_ok-high.ensures.untouched p (k.live p live) lt_high ∙ c.in_ok-low.ensures.untouched p live lt_low
-
-pub returns-clause-untouched : goal.returns-clause-untouched
-returns-clause-untouched t c p live lt =
-    let le : first_var c.args.store.now p ≤ first_var c.args.store.now c.args.f = omega (arith, lt) in
-    let apart : (c.args.f, c.args.f) ≡ (p, p) → ⊥ = λ e. let same = ap (λ (q : Ref × Ref). first_var c.args.store.now q.0) e in omega (arith, lt, same) in
-    put_other same_pair pair_test c.change_from-2.new.memo c.insert.new.self (c.args.f, c.args.f) (p, p) c.in_ok-r.r c.in_ok-insert.ensures.ok apart ∙ low_untouched t c p live le
-
-pub returns-clause-reached : goal.returns-clause-reached
-returns-clause-reached t c top live_top reach ones =
-    holds_put same_pair pair_test (λ p r. Reaches c.result_node.new.store top p.0) c.change_from-2.new.memo c.insert.new.self (c.args.f, c.args.f) c.in_ok-r.r c.in_ok-insert.ensures.ok
-    (ones_done t c top live_top reach ones) ((all_keep_done t c).reached top c.args.f live_top c.requires.live reach)
-
--- the Ref is not kept yet
-still_absent : (t : ℕ) (c : goal.In_ok-insert t) → result_of c.change_from-2.new.memo (c.args.f, c.args.f) ≡ None
-still_absent t c =
-    let le : first_var c.args.store.now c.args.f ≤ first_var c.args.store.now c.args.f = omega arith in
-    low_untouched t c c.args.f c.requires.live le ∙ sym c.in-None-get.ensures.value
-
-pub returns-clause-once : goal.returns-clause-once
-returns-clause-once t c once =
-    once_put same_pair pair_test c.change_from-2.new.memo c.insert.new.self (c.args.f, c.args.f) c.in_ok-r.r c.in_ok-insert.ensures.ok (still_absent t c) (c.in_ok-high.ensures.once (c.in_ok-low.ensures.once once))
-
-pub returns-in_err-insert-clause-once : goal.returns-in_err-insert-clause-once
-returns-in_err-insert-clause-once t c once =
-    once_same same_pair pair_test c.change_from-2.new.memo c.insert.new.self c.in_err-insert.ensures.err (c.in_ok-high.ensures.once (c.in_ok-low.ensures.once once))
-
-pub returns-clause-calls : goal.returns-clause-calls
-returns-clause-calls t c =
-    let longer = one_longer c.change_from-2.new.memo c.insert.new.self _ c.in_ok-insert.ensures.ok in
-    omega (arith, longer, c.in_ok-low.ensures.calls, c.in_ok-high.ensures.calls, c.in_ok-r.ensures.calls)
 
 pub returns-in-Some-clause-first : goal.returns-in-Some-clause-first
 returns-in-Some-clause-first t c = let within = first_within c.args.store.now c.args.f c.requires.live in omega (arith, within, c.constant.ensures.first)
+
+pub returns-clause-known : goal.returns-clause-known
+returns-clause-known t c = c.in_ok-keep.ensures.right c.result_node.new.store (c.in_ok-r.ensures.known c.change_from-2.new.known c.in_ok-high.ensures.known) c.in_ok-r.ensures.right
+
+pub returns-in_err-keep-clause-known : goal.returns-in_err-keep-clause-known
+returns-in_err-keep-clause-known t c = c.in_err-keep.ensures.right c.result_node.new.store (c.in_ok-r.ensures.known c.change_from-2.new.known c.in_ok-high.ensures.known) c.in_ok-r.ensures.right
+
+pub returns-in_err-low-clause-news : goal.returns-in_err-low-clause-news
+returns-in_err-low-clause-news t c =
+    let d = c.args.store.now in
+    let op = change_of c.args.flip in
+    let f = c.args.f in
+    let fl = c.low-f_low.result in
+    let fh = c.high-f_high.result in
+    let before : State = (d, (c.args.known.now, c.args.memo.now)) in
+    let first : State = (c.change_from.new.store, (c.change_from.new.known, c.change_from.new.memo)) in
+    news_err op SamePair c.args.turn c.from_residual.result c.from_residual.ensures.0 before first f f (first_var d f) (news_weaken op SamePair c.args.turn before first f f (first_var d f + 1) (first_var d f) 1 (omega arith)
+    (news_first op SamePair c.args.turn before first f f fl fl _ (first_var d f + 1) 1 (keeps_self d) (omega (arith, c.low-f_low.ensures.first))
+    (λ a live down. c.low-f_low.ensures.reached a live down) (λ a live down. c.low-f_low.ensures.reached a live down) c.in_err-low.ensures.news))
+
+pub returns-in_err-high-clause-news : goal.returns-in_err-high-clause-news
+returns-in_err-high-clause-news t c =
+    let d = c.args.store.now in
+    let op = change_of c.args.flip in
+    let f = c.args.f in
+    let fl = c.low-f_low.result in
+    let fh = c.high-f_high.result in
+    let before : State = (d, (c.args.known.now, c.args.memo.now)) in
+    let first : State = (c.change_from.new.store, (c.change_from.new.known, c.change_from.new.memo)) in
+    let second : State = (c.change_from-2.new.store, (c.change_from-2.new.known, c.change_from-2.new.memo)) in
+    let keeps = c.in_ok-low.ensures.keeps in
+    let low = news_first op SamePair c.args.turn before first f f fl fl _ (first_var d f + 1) 0 (keeps_self d) (omega (arith, c.low-f_low.ensures.first))
+    (λ a live down. c.low-f_low.ensures.reached a live down) (λ a live down. c.low-f_low.ensures.reached a live down) c.in_ok-low.ensures.news in
+    news_err op SamePair c.args.turn c.from_residual-in_err-high.result c.from_residual-in_err-high.ensures.0 before second f f (first_var d f) (news_weaken op SamePair c.args.turn before second f f (first_var d f + 1) (first_var d f) 1 (omega arith)
+    (news_second op SamePair c.args.turn before first second f f fh fh _ (first_var d f + 1) 0 1 keeps c.in_err-high.ensures.keeps
+    (omega (arith, c.high-f_high.ensures.first, keeps.firsts fh c.high-f_high.ensures.live))
+    (λ a live down. keeps.reached a fh live c.high-f_high.ensures.live (c.high-f_high.ensures.reached a live down))
+    (λ a live down. keeps.reached a fh live c.high-f_high.ensures.live (c.high-f_high.ensures.reached a live down)) low c.in_err-high.ensures.news))
+
+-- the news of both branches
+both_news_no_node : (t : ℕ) (c : goal.After-from_residual-in_err-r t) → News (change_of c.args.flip) SamePair c.args.turn (c.args.store.now, (c.args.known.now, c.args.memo.now)) (c.change_from-2.new.store, (c.change_from-2.new.known, c.change_from-2.new.memo)) c.args.f c.args.f (first_var c.args.store.now c.args.f + 1) 0
+both_news_no_node t c =
+    let d = c.args.store.now in
+    let op = change_of c.args.flip in
+    let f = c.args.f in
+    let fl = c.low-f_low.result in
+    let fh = c.high-f_high.result in
+    let before : State = (d, (c.args.known.now, c.args.memo.now)) in
+    let first : State = (c.change_from.new.store, (c.change_from.new.known, c.change_from.new.memo)) in
+    let second : State = (c.change_from-2.new.store, (c.change_from-2.new.known, c.change_from-2.new.memo)) in
+    let keeps = c.in_ok-low.ensures.keeps in
+    let low = news_first op SamePair c.args.turn before first f f fl fl _ (first_var d f + 1) 0 (keeps_self d) (omega (arith, c.low-f_low.ensures.first))
+    (λ a live down. c.low-f_low.ensures.reached a live down) (λ a live down. c.low-f_low.ensures.reached a live down) c.in_ok-low.ensures.news in
+    news_second op SamePair c.args.turn before first second f f fh fh _ (first_var d f + 1) 0 0 keeps c.in_ok-high.ensures.keeps
+    (omega (arith, c.high-f_high.ensures.first, keeps.firsts fh c.high-f_high.ensures.live))
+    (λ a live down. keeps.reached a fh live c.high-f_high.ensures.live (c.high-f_high.ensures.reached a live down))
+    (λ a live down. keeps.reached a fh live c.high-f_high.ensures.live (c.high-f_high.ensures.reached a live down)) low c.in_ok-high.ensures.news
+
+pub returns-in_err-r-clause-news : goal.returns-in_err-r-clause-news
+returns-in_err-r-clause-news t c =
+    let d = c.args.store.now in
+    let op = change_of c.args.flip in
+    let f = c.args.f in
+    let before : State = (d, (c.args.known.now, c.args.memo.now)) in
+    let second : State = (c.change_from-2.new.store, (c.change_from-2.new.known, c.change_from-2.new.memo)) in
+    let last : State = (c.result_node.new.store, (c.change_from-2.new.known, c.change_from-2.new.memo)) in
+    news_err op SamePair c.args.turn c.from_residual-in_err-r.result c.from_residual-in_err-r.ensures.0 before last f f (first_var d f) (news_weaken op SamePair c.args.turn before last f f (first_var d f + 1) (first_var d f) 1 (omega arith)
+    (news_later op SamePair c.args.turn before second last f f (first_var d f + 1) 0 1 (both_keep_no_node t c) c.in_err-r.ensures.keeps (λ p found. found) (omega (arith, c.in_err-r.ensures.calls)) (both_news_no_node t c)))
+
+-- the news of both branches
+both_news_no_room : (t : ℕ) (c : goal.After-from_residual-in_err-keep t) → News (change_of c.args.flip) SamePair c.args.turn (c.args.store.now, (c.args.known.now, c.args.memo.now)) (c.change_from-2.new.store, (c.change_from-2.new.known, c.change_from-2.new.memo)) c.args.f c.args.f (first_var c.args.store.now c.args.f + 1) 0
+both_news_no_room t c =
+    let d = c.args.store.now in
+    let op = change_of c.args.flip in
+    let f = c.args.f in
+    let fl = c.low-f_low.result in
+    let fh = c.high-f_high.result in
+    let before : State = (d, (c.args.known.now, c.args.memo.now)) in
+    let first : State = (c.change_from.new.store, (c.change_from.new.known, c.change_from.new.memo)) in
+    let second : State = (c.change_from-2.new.store, (c.change_from-2.new.known, c.change_from-2.new.memo)) in
+    let keeps = c.in_ok-low.ensures.keeps in
+    let low = news_first op SamePair c.args.turn before first f f fl fl _ (first_var d f + 1) 0 (keeps_self d) (omega (arith, c.low-f_low.ensures.first))
+    (λ a live down. c.low-f_low.ensures.reached a live down) (λ a live down. c.low-f_low.ensures.reached a live down) c.in_ok-low.ensures.news in
+    news_second op SamePair c.args.turn before first second f f fh fh _ (first_var d f + 1) 0 0 keeps c.in_ok-high.ensures.keeps
+    (omega (arith, c.high-f_high.ensures.first, keeps.firsts fh c.high-f_high.ensures.live))
+    (λ a live down. keeps.reached a fh live c.high-f_high.ensures.live (c.high-f_high.ensures.reached a live down))
+    (λ a live down. keeps.reached a fh live c.high-f_high.ensures.live (c.high-f_high.ensures.reached a live down)) low c.in_ok-high.ensures.news
+
+pub returns-in_err-keep-clause-news : goal.returns-in_err-keep-clause-news
+returns-in_err-keep-clause-news t c =
+    let d = c.args.store.now in
+    let op = change_of c.args.flip in
+    let f = c.args.f in
+    let before : State = (d, (c.args.known.now, c.args.memo.now)) in
+    let second : State = (c.change_from-2.new.store, (c.change_from-2.new.known, c.change_from-2.new.memo)) in
+    let last : State = (c.result_node.new.store, (c.keep.new.known, c.keep.new.memo)) in
+    news_err op SamePair c.args.turn c.from_residual-in_err-keep.result c.from_residual-in_err-keep.ensures.0 before last f f (first_var d f) (news_weaken op SamePair c.args.turn before last f f (first_var d f + 1) (first_var d f) 1 (omega arith)
+    (news_later op SamePair c.args.turn before second last f f (first_var d f + 1) 0 1 (both_keep_no_room t c) c.in_ok-r.ensures.keeps
+    (found_kept op c.args.turn second last (f, f) c.in_ok-r.r c.in_err-keep.ensures.sure c.in_err-keep.ensures.memo) (omega (arith, c.in_ok-r.ensures.calls)) (both_news_no_room t c)))
+
+-- the news of both branches
+both_news_done : (t : ℕ) (c : goal.In_ok-keep t) → News (change_of c.args.flip) SamePair c.args.turn (c.args.store.now, (c.args.known.now, c.args.memo.now)) (c.change_from-2.new.store, (c.change_from-2.new.known, c.change_from-2.new.memo)) c.args.f c.args.f (first_var c.args.store.now c.args.f + 1) 0
+both_news_done t c =
+    let d = c.args.store.now in
+    let op = change_of c.args.flip in
+    let f = c.args.f in
+    let fl = c.low-f_low.result in
+    let fh = c.high-f_high.result in
+    let before : State = (d, (c.args.known.now, c.args.memo.now)) in
+    let first : State = (c.change_from.new.store, (c.change_from.new.known, c.change_from.new.memo)) in
+    let second : State = (c.change_from-2.new.store, (c.change_from-2.new.known, c.change_from-2.new.memo)) in
+    let keeps = c.in_ok-low.ensures.keeps in
+    let low = news_first op SamePair c.args.turn before first f f fl fl _ (first_var d f + 1) 0 (keeps_self d) (omega (arith, c.low-f_low.ensures.first))
+    (λ a live down. c.low-f_low.ensures.reached a live down) (λ a live down. c.low-f_low.ensures.reached a live down) c.in_ok-low.ensures.news in
+    news_second op SamePair c.args.turn before first second f f fh fh _ (first_var d f + 1) 0 0 keeps c.in_ok-high.ensures.keeps
+    (omega (arith, c.high-f_high.ensures.first, keeps.firsts fh c.high-f_high.ensures.live))
+    (λ a live down. keeps.reached a fh live c.high-f_high.ensures.live (c.high-f_high.ensures.reached a live down))
+    (λ a live down. keeps.reached a fh live c.high-f_high.ensures.live (c.high-f_high.ensures.reached a live down)) low c.in_ok-high.ensures.news
+
+pub returns-clause-news : goal.returns-clause-news
+returns-clause-news t c =
+    let d = c.args.store.now in
+    let op = change_of c.args.flip in
+    let f = c.args.f in
+    let before : State = (d, (c.args.known.now, c.args.memo.now)) in
+    let second : State = (c.change_from-2.new.store, (c.change_from-2.new.known, c.change_from-2.new.memo)) in
+    let last : State = (c.result_node.new.store, (c.keep.new.known, c.keep.new.memo)) in
+    let is = c.changing-operation.ensures.is in
+    let absent : IsFound op c.args.turn before (f, f) → ⊥ = λ found. elim found [
+      | inl sure ↦ c.in-None.ensures.none c.args.turn (subst (IsSure c.args.known.now c.args.turn) (sym is) sure)
+      | inr some ↦ some (sym c.in-None-get.ensures.value)
+    ] in
+    let found : IsFound op c.args.turn last (f, f) = elim c.in_ok-keep.ensures.found [
+      | inl sure ↦ inl (subst (IsSure c.keep.new.known c.args.turn) is sure)
+      | inr put ↦ inr (found_here c.change_from-2.new.memo c.keep.new.memo (f, f) c.in_ok-r.r put)
+    ] in
+    let first : pair_first d (f, f) ≡ first_var d f = omega arith in
+    news_put op SamePair c.args.turn before second last f f (first_var d f + 1) (first_var d f) (both_keep_done t c) c.in_ok-r.ensures.keeps
+    (found_kept op c.args.turn second last (f, f) c.in_ok-r.r c.in_ok-keep.ensures.sure c.in_ok-keep.ensures.memo) (omega (arith, c.in_ok-r.ensures.calls))
+    (omega arith) c.requires.live c.requires.live (omega (arith, c.var-var.ensures.within, c.var-var.ensures.var)) (omega (arith, c.var-var.ensures.within, c.var-var.ensures.var)) first refl absent found (both_news_done t c)
+
+pub returns-in-Some-clause-news : goal.returns-in-Some-clause-news
+returns-in-Some-clause-news t c = news_none (change_of c.args.flip) SamePair c.args.turn _ _ c.args.f c.args.f _ 0 (λ p found. found) (omega arith)
+
+pub returns-in-Some-get-clause-news : goal.returns-in-Some-get-clause-news
+returns-in-Some-get-clause-news t c = news_none (change_of c.args.flip) SamePair c.args.turn _ _ c.args.f c.args.f _ 0 (λ p found. found) (omega arith)
+
+pub returns-in-Some-recall-clause-news : goal.returns-in-Some-recall-clause-news
+returns-in-Some-recall-clause-news t c = news_hit (change_of c.args.flip) SamePair c.args.turn c.args.store.now c.args.known.now c.note_hit.new.self c.args.memo.now c.args.f c.args.f _ c.note_hit.ensures

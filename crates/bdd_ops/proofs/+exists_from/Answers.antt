@@ -5,7 +5,7 @@ use Rattle.bdd_store.specs.Diagram.{table, Keeps}
 use Rattle.bdd_ops.specs.Functions.{some_at}
 use Rattle.memo_table.specs.Results.{same_pair}
 use Rattle.bdd_ops.specs.Memo.{IsImage}
-use Rattle.bdd_ops.proofs.MemoLaws.{keeps_after, image_found, same_table, images_kept, joins_kept, pair_test, holds_put, holds_same}
+use Rattle.bdd_ops.proofs.MemoLaws.{keeps_after, image_found, same_table, images_kept, joins_kept, pair_test, holds_kept, holds_same}
 use Rattle.bdd_ops.proofs.Tables.{split_at, some_cond, free_before, or_same_both}
 use Rattle.bdd_ops.proofs.Recalled.{exists_first}
 use Rattle.bdd_ops.proofs.Held.{fresh_node}
@@ -29,7 +29,7 @@ returns-in-Some-get-clause-table t c = (image_found (some_at c.args.var) 0 c.arg
 pub returns-in-Some-recall-clause-first : goal.returns-in-Some-recall-clause-first
 returns-in-Some-recall-clause-first t c =
     let d = c.args.store.now in
-    let is = c.in-Some-recall.ensures in
+    let is = c.in-Some-recall.ensures.some d c.requires.known in
     exists_first d c.requires.sound c.in-Some-recall.r is.live c.args.var c.args.f c.requires.live is.table
 
 -- what the store comes to know is right
@@ -66,28 +66,28 @@ pub returns-in_err-r-clause-memo : goal.returns-in_err-r-clause-memo
 returns-in_err-r-clause-memo t c = images_kept (some_at c.args.var) 0 c.exists_from-2.new.store c.result_node.new.store c.exists_from-2.new.memo c.in_err-r.ensures.keeps c.in_ok-high.ensures.memo
 
 -- after both branches
-both_keep_no_room : (t : ℕ) (c : goal.After-from_residual-in_err-insert t) → Keeps c.args.store.now c.exists_from-2.new.store
+both_keep_no_room : (t : ℕ) (c : goal.After-from_residual-in_err-keep t) → Keeps c.args.store.now c.exists_from-2.new.store
 both_keep_no_room t c = keeps_after c.args.store.now c.exists_from.new.store c.exists_from-2.new.store c.in_ok-low.ensures.keeps c.in_ok-high.ensures.keeps
 
-all_keep_no_room : (t : ℕ) (c : goal.After-from_residual-in_err-insert t) → Keeps c.args.store.now c.result_node.new.store
+all_keep_no_room : (t : ℕ) (c : goal.After-from_residual-in_err-keep t) → Keeps c.args.store.now c.result_node.new.store
 all_keep_no_room t c = keeps_after c.args.store.now c.exists_from-2.new.store c.result_node.new.store (both_keep_no_room t c) c.in_ok-r.ensures.keeps
 
-pub returns-in_err-insert-clause-keeps : goal.returns-in_err-insert-clause-keeps
-returns-in_err-insert-clause-keeps t c = all_keep_no_room t c
+pub returns-in_err-keep-clause-keeps : goal.returns-in_err-keep-clause-keeps
+returns-in_err-keep-clause-keeps t c = all_keep_no_room t c
 
-pub returns-in_err-insert-clause-joins : goal.returns-in_err-insert-clause-joins
-returns-in_err-insert-clause-joins t c = joins_kept false c.exists_from-2.new.store c.result_node.new.store c.exists_from-2.new.joins c.in_ok-r.ensures.keeps c.in_ok-high.ensures.joins
+pub returns-in_err-keep-clause-joins : goal.returns-in_err-keep-clause-joins
+returns-in_err-keep-clause-joins t c = joins_kept false c.exists_from-2.new.store c.result_node.new.store c.exists_from-2.new.joins c.in_ok-r.ensures.keeps c.in_ok-high.ensures.joins
 
-pub returns-in_err-insert-clause-memo : goal.returns-in_err-insert-clause-memo
-returns-in_err-insert-clause-memo t c =
-    holds_same same_pair pair_test (IsImage (some_at c.args.var) 0 c.result_node.new.store) c.exists_from-2.new.memo c.insert.new.self c.in_err-insert.ensures.err
+pub returns-in_err-keep-clause-memo : goal.returns-in_err-keep-clause-memo
+returns-in_err-keep-clause-memo t c =
+    holds_same same_pair pair_test (IsImage (some_at c.args.var) 0 c.result_node.new.store) c.exists_from-2.new.memo c.keep.new.memo c.in_err-keep.ensures.err
     (images_kept (some_at c.args.var) 0 c.exists_from-2.new.store c.result_node.new.store c.exists_from-2.new.memo c.in_ok-r.ensures.keeps c.in_ok-high.ensures.memo)
 
 -- after both branches
-both_keep_done : (t : ℕ) (c : goal.In_ok-insert t) → Keeps c.args.store.now c.exists_from-2.new.store
+both_keep_done : (t : ℕ) (c : goal.In_ok-keep t) → Keeps c.args.store.now c.exists_from-2.new.store
 both_keep_done t c = keeps_after c.args.store.now c.exists_from.new.store c.exists_from-2.new.store c.in_ok-low.ensures.keeps c.in_ok-high.ensures.keeps
 
-all_keep_done : (t : ℕ) (c : goal.In_ok-insert t) → Keeps c.args.store.now c.result_node.new.store
+all_keep_done : (t : ℕ) (c : goal.In_ok-keep t) → Keeps c.args.store.now c.result_node.new.store
 all_keep_done t c = keeps_after c.args.store.now c.exists_from-2.new.store c.result_node.new.store (both_keep_done t c) c.in_ok-r.ensures.keeps
 
 pub returns-clause-keeps : goal.returns-clause-keeps
@@ -102,7 +102,7 @@ returns-clause-fresh t c =
     c.in_ok-low.ensures.fresh c.in_ok-high.ensures.fresh c.in_ok-high.ensures.keeps c.in_ok-low.ensures.live c.in_ok-r.ensures.fresh c.in_ok-r.ensures.reached
 
 -- the table of the new result
-table_done : (t : ℕ) (c : goal.In_ok-insert t) (a : ℕ → Bool) → table c.result_node.new.store c.in_ok-r.r a ≡ some_at c.args.var (table c.args.store.now c.args.f) a
+table_done : (t : ℕ) (c : goal.In_ok-keep t) (a : ℕ → Bool) → table c.result_node.new.store c.in_ok-r.r a ≡ some_at c.args.var (table c.args.store.now c.args.f) a
 table_done t c a =
     let before = c.args.store.now in
     let middle = c.exists_from.new.store in
@@ -122,7 +122,7 @@ pub returns-clause-table : goal.returns-clause-table
 returns-clause-table t c = table_done t c
 
 -- the new result is right
-answer_done : (t : ℕ) (c : goal.In_ok-insert t) → IsImage (some_at c.args.var) 0 c.result_node.new.store (c.args.f, c.args.f) c.in_ok-r.r
+answer_done : (t : ℕ) (c : goal.In_ok-keep t) → IsImage (some_at c.args.var) 0 c.result_node.new.store (c.args.f, c.args.f) c.in_ok-r.r
 answer_done t c =
     let keeps = all_keep_done t c in
     let f_first = keeps.firsts c.args.f c.requires.live in
@@ -137,5 +137,11 @@ answer_done t c =
 
 pub returns-clause-memo : goal.returns-clause-memo
 returns-clause-memo t c =
-    holds_put same_pair pair_test (IsImage (some_at c.args.var) 0 c.result_node.new.store) c.exists_from-2.new.memo c.insert.new.self (c.args.f, c.args.f) c.in_ok-r.r c.in_ok-insert.ensures.ok
+    holds_kept same_pair pair_test (IsImage (some_at c.args.var) 0 c.result_node.new.store) c.exists_from-2.new.memo c.keep.new.memo (c.args.f, c.args.f) c.in_ok-r.r c.in_ok-keep.ensures.memo
     (images_kept (some_at c.args.var) 0 c.exists_from-2.new.store c.result_node.new.store c.exists_from-2.new.memo c.in_ok-r.ensures.keeps c.in_ok-high.ensures.memo) (answer_done t c)
+
+pub returns-clause-known : goal.returns-clause-known
+returns-clause-known t c = c.in_ok-keep.ensures.right c.result_node.new.store (c.in_ok-r.ensures.known c.exists_from-2.new.known c.in_ok-high.ensures.known) c.in_ok-r.ensures.right
+
+pub returns-in_err-keep-clause-known : goal.returns-in_err-keep-clause-known
+returns-in_err-keep-clause-known t c = c.in_err-keep.ensures.right c.result_node.new.store (c.in_ok-r.ensures.known c.exists_from-2.new.known c.in_ok-high.ensures.known) c.in_ok-r.ensures.right

@@ -1,9 +1,12 @@
-use Rattle.std.proofs.Common.{◌≡◌, ℕ, ◌+◌, ◌<◌, ◌≤◌, Bool, cond, Option, None, IfSome, length, min, sym, ap, ◌∙◌, subst, arith}
-use Rattle.memo_table.specs.Results.{same_pair, result_of}
+use Rattle.std.proofs.Common.{◌≡◌, refl, inl, inr, ℕ, ◌+◌, ◌<◌, ◌≤◌, Bool, cond, Option, None, IfSome, length, min, sym, ap, ◌∙◌, subst, arith}
+use Rattle.memo_table.specs.Results.{same_pair}
 use Rattle.bdd_store.specs.declared.Ref.{Ref}
 use Rattle.bdd_store.specs.Diagram.{IsLive, table, first_var, Reaches, Keeps}
-use Rattle.bdd_ops.specs.Memo.{joined, IsJoin, PairsBelow, pair_first}
-use Rattle.bdd_ops.proofs.MemoLaws.{keeps_after, join_found, one_longer, joins_kept, pairs_kept, pair_test, holds_put, holds_same, put_other, once_put, once_same, joined_cond}
+use Rattle.bdd_store.specs.Sure.{IsSure}
+use Rattle.bdd_ops.specs.Memo.{joined, IsJoin}
+use Rattle.bdd_ops.specs.News.{State, IsFound, News, AnyPair, join_of}
+use Rattle.bdd_ops.proofs.NewsLaws.{news_none, news_hit, news_err, news_first, news_second, news_later, news_weaken, news_put, found_kept, found_here, keeps_self}
+use Rattle.bdd_ops.proofs.MemoLaws.{keeps_after, join_found, joins_kept, pair_test, holds_kept, holds_same, joined_cond}
 use Rattle.bdd_ops.proofs.Recalled.{join_first, join_made, join_later}
 use Rattle.bdd_ops.proofs.Held.{fresh_node}
 use Rattle.bdd_ops.proofs.+join_from.Goals as goal
@@ -21,7 +24,7 @@ returns-in-Some-get-clause-table t c = (join_found c.args.unit c.args.store.now 
 pub returns-in-Some-recall-clause-first : goal.returns-in-Some-recall-clause-first
 returns-in-Some-recall-clause-first t c =
     let d = c.args.store.now in
-    let is = c.in-Some-recall.ensures in
+    let is = c.in-Some-recall.ensures.some d c.requires.known in
     join_first d c.requires.sound c.in-Some-recall.r is.live c.args.unit c.args.f c.args.g c.requires.f_live (λ a. is.table a ∙ c.joining-operation.ensures.made d a)
 
 -- what the store comes to know is right
@@ -38,17 +41,6 @@ result_node-requires-clause-made t c a =
     ∙ join_later unit before last (keeps_after before middle last c.in_ok-low.ensures.keeps c.in_ok-high.ensures.keeps) c.args.f c.args.g c.requires.f_live c.requires.g_live a
     ∙ sym (c.joining-operation.ensures.made last a)
 
-pub returns-in_err-low-clause-reached : goal.returns-in_err-low-clause-reached
-returns-in_err-low-clause-reached t c top up live_top live_up reach_f reach_g keys =
-    c.in_err-low.ensures.reached top up live_top live_up (c.split.ensures.low_reached top live_top reach_f) (c.split-2.ensures.low_reached up live_up reach_g) keys
-
-pub returns-in_err-high-clause-reached : goal.returns-in_err-high-clause-reached
-returns-in_err-high-clause-reached t c top up live_top live_up reach_f reach_g keys =
-    c.in_err-high.ensures.reached top up (c.in_ok-low.ensures.keeps.live top live_top) (c.in_ok-low.ensures.keeps.live up live_up)
-    (c.in_ok-low.ensures.keeps.reached top c.split.result.1 live_top c.split.ensures.high_live (c.split.ensures.high_reached top live_top reach_f))
-    (c.in_ok-low.ensures.keeps.reached up c.split-2.result.1 live_up c.split-2.ensures.high_live (c.split-2.ensures.high_reached up live_up reach_g))
-    (c.in_ok-low.ensures.reached top up live_top live_up (c.split.ensures.low_reached top live_top reach_f) (c.split-2.ensures.low_reached up live_up reach_g) keys)
-
 -- after both branches
 both_keep_no_node : (t : ℕ) (c : goal.After-from_residual-in_err-r t) → Keeps c.args.store.now c.join_from-2.new.store
 both_keep_no_node t c = keeps_after c.args.store.now c.join_from.new.store c.join_from-2.new.store c.in_ok-low.ensures.keeps c.in_ok-high.ensures.keeps
@@ -56,71 +48,39 @@ both_keep_no_node t c = keeps_after c.args.store.now c.join_from.new.store c.joi
 all_keep_no_node : (t : ℕ) (c : goal.After-from_residual-in_err-r t) → Keeps c.args.store.now c.result_node.new.store
 all_keep_no_node t c = keeps_after c.args.store.now c.join_from-2.new.store c.result_node.new.store (both_keep_no_node t c) c.in_err-r.ensures.keeps
 
-keys_no_node : (t : ℕ) (c : goal.After-from_residual-in_err-r t) (top up : Ref) → IsLive c.args.store.now top → IsLive c.args.store.now up → Reaches c.args.store.now top c.args.f → Reaches c.args.store.now up c.args.g → PairsBelow c.args.store.now top up c.args.memo.now → PairsBelow c.result_node.new.store top up c.join_from-2.new.memo
-keys_no_node t c top up live_top live_up reach_f reach_g keys =
-    pairs_kept c.args.unit c.join_from-2.new.store c.result_node.new.store c.join_from-2.new.memo top up c.in_err-r.ensures.keeps c.in_ok-high.ensures.memo ((both_keep_no_node t c).live top live_top) ((both_keep_no_node t c).live up live_up)
-    (c.in_ok-high.ensures.reached top up (c.in_ok-low.ensures.keeps.live top live_top) (c.in_ok-low.ensures.keeps.live up live_up)
-    (c.in_ok-low.ensures.keeps.reached top c.split.result.1 live_top c.split.ensures.high_live (c.split.ensures.high_reached top live_top reach_f))
-    (c.in_ok-low.ensures.keeps.reached up c.split-2.result.1 live_up c.split-2.ensures.high_live (c.split-2.ensures.high_reached up live_up reach_g))
-    (c.in_ok-low.ensures.reached top up live_top live_up (c.split.ensures.low_reached top live_top reach_f) (c.split-2.ensures.low_reached up live_up reach_g) keys))
-
 pub returns-in_err-r-clause-keeps : goal.returns-in_err-r-clause-keeps
 returns-in_err-r-clause-keeps t c = all_keep_no_node t c
 
 pub returns-in_err-r-clause-memo : goal.returns-in_err-r-clause-memo
 returns-in_err-r-clause-memo t c = joins_kept c.args.unit c.join_from-2.new.store c.result_node.new.store c.join_from-2.new.memo c.in_err-r.ensures.keeps c.in_ok-high.ensures.memo
 
-pub returns-in_err-r-clause-reached : goal.returns-in_err-r-clause-reached
-returns-in_err-r-clause-reached t c = keys_no_node t c
-
 -- after both branches
-both_keep_no_room : (t : ℕ) (c : goal.After-from_residual-in_err-insert t) → Keeps c.args.store.now c.join_from-2.new.store
+both_keep_no_room : (t : ℕ) (c : goal.After-from_residual-in_err-keep t) → Keeps c.args.store.now c.join_from-2.new.store
 both_keep_no_room t c = keeps_after c.args.store.now c.join_from.new.store c.join_from-2.new.store c.in_ok-low.ensures.keeps c.in_ok-high.ensures.keeps
 
-all_keep_no_room : (t : ℕ) (c : goal.After-from_residual-in_err-insert t) → Keeps c.args.store.now c.result_node.new.store
+all_keep_no_room : (t : ℕ) (c : goal.After-from_residual-in_err-keep t) → Keeps c.args.store.now c.result_node.new.store
 all_keep_no_room t c = keeps_after c.args.store.now c.join_from-2.new.store c.result_node.new.store (both_keep_no_room t c) c.in_ok-r.ensures.keeps
 
-keys_no_room : (t : ℕ) (c : goal.After-from_residual-in_err-insert t) (top up : Ref) → IsLive c.args.store.now top → IsLive c.args.store.now up → Reaches c.args.store.now top c.args.f → Reaches c.args.store.now up c.args.g → PairsBelow c.args.store.now top up c.args.memo.now → PairsBelow c.result_node.new.store top up c.join_from-2.new.memo
-keys_no_room t c top up live_top live_up reach_f reach_g keys =
-    pairs_kept c.args.unit c.join_from-2.new.store c.result_node.new.store c.join_from-2.new.memo top up c.in_ok-r.ensures.keeps c.in_ok-high.ensures.memo ((both_keep_no_room t c).live top live_top) ((both_keep_no_room t c).live up live_up)
-    (c.in_ok-high.ensures.reached top up (c.in_ok-low.ensures.keeps.live top live_top) (c.in_ok-low.ensures.keeps.live up live_up)
-    (c.in_ok-low.ensures.keeps.reached top c.split.result.1 live_top c.split.ensures.high_live (c.split.ensures.high_reached top live_top reach_f))
-    (c.in_ok-low.ensures.keeps.reached up c.split-2.result.1 live_up c.split-2.ensures.high_live (c.split-2.ensures.high_reached up live_up reach_g))
-    (c.in_ok-low.ensures.reached top up live_top live_up (c.split.ensures.low_reached top live_top reach_f) (c.split-2.ensures.low_reached up live_up reach_g) keys))
+pub returns-in_err-keep-clause-keeps : goal.returns-in_err-keep-clause-keeps
+returns-in_err-keep-clause-keeps t c = all_keep_no_room t c
 
-pub returns-in_err-insert-clause-keeps : goal.returns-in_err-insert-clause-keeps
-returns-in_err-insert-clause-keeps t c = all_keep_no_room t c
-
-pub returns-in_err-insert-clause-memo : goal.returns-in_err-insert-clause-memo
-returns-in_err-insert-clause-memo t c =
-    holds_same same_pair pair_test (IsJoin c.args.unit c.result_node.new.store) c.join_from-2.new.memo c.insert.new.self c.in_err-insert.ensures.err
+pub returns-in_err-keep-clause-memo : goal.returns-in_err-keep-clause-memo
+returns-in_err-keep-clause-memo t c =
+    holds_same same_pair pair_test (IsJoin c.args.unit c.result_node.new.store) c.join_from-2.new.memo c.keep.new.memo c.in_err-keep.ensures.err
     (joins_kept c.args.unit c.join_from-2.new.store c.result_node.new.store c.join_from-2.new.memo c.in_ok-r.ensures.keeps c.in_ok-high.ensures.memo)
 
-pub returns-in_err-insert-clause-reached : goal.returns-in_err-insert-clause-reached
-returns-in_err-insert-clause-reached t c top up live_top live_up reach_f reach_g keys =
-    holds_same same_pair pair_test (λ p r. Reaches c.result_node.new.store top p.0 × Reaches c.result_node.new.store up p.1) c.join_from-2.new.memo c.insert.new.self c.in_err-insert.ensures.err
-    (keys_no_room t c top up live_top live_up reach_f reach_g keys)
-
 -- after both branches
-both_keep_done : (t : ℕ) (c : goal.In_ok-insert t) → Keeps c.args.store.now c.join_from-2.new.store
+both_keep_done : (t : ℕ) (c : goal.In_ok-keep t) → Keeps c.args.store.now c.join_from-2.new.store
 both_keep_done t c = keeps_after c.args.store.now c.join_from.new.store c.join_from-2.new.store c.in_ok-low.ensures.keeps c.in_ok-high.ensures.keeps
 
-all_keep_done : (t : ℕ) (c : goal.In_ok-insert t) → Keeps c.args.store.now c.result_node.new.store
+all_keep_done : (t : ℕ) (c : goal.In_ok-keep t) → Keeps c.args.store.now c.result_node.new.store
 all_keep_done t c = keeps_after c.args.store.now c.join_from-2.new.store c.result_node.new.store (both_keep_done t c) c.in_ok-r.ensures.keeps
-
-keys_done : (t : ℕ) (c : goal.In_ok-insert t) (top up : Ref) → IsLive c.args.store.now top → IsLive c.args.store.now up → Reaches c.args.store.now top c.args.f → Reaches c.args.store.now up c.args.g → PairsBelow c.args.store.now top up c.args.memo.now → PairsBelow c.result_node.new.store top up c.join_from-2.new.memo
-keys_done t c top up live_top live_up reach_f reach_g keys =
-    pairs_kept c.args.unit c.join_from-2.new.store c.result_node.new.store c.join_from-2.new.memo top up c.in_ok-r.ensures.keeps c.in_ok-high.ensures.memo ((both_keep_done t c).live top live_top) ((both_keep_done t c).live up live_up)
-    (c.in_ok-high.ensures.reached top up (c.in_ok-low.ensures.keeps.live top live_top) (c.in_ok-low.ensures.keeps.live up live_up)
-    (c.in_ok-low.ensures.keeps.reached top c.split.result.1 live_top c.split.ensures.high_live (c.split.ensures.high_reached top live_top reach_f))
-    (c.in_ok-low.ensures.keeps.reached up c.split-2.result.1 live_up c.split-2.ensures.high_live (c.split-2.ensures.high_reached up live_up reach_g))
-    (c.in_ok-low.ensures.reached top up live_top live_up (c.split.ensures.low_reached top live_top reach_f) (c.split-2.ensures.low_reached up live_up reach_g) keys))
 
 pub returns-clause-keeps : goal.returns-clause-keeps
 returns-clause-keeps t c = all_keep_done t c
 
 -- the table of the new result
-table_done : (t : ℕ) (c : goal.In_ok-insert t) (a : ℕ → Bool) → table c.result_node.new.store c.in_ok-r.r a ≡ joined c.args.unit (table c.args.store.now c.args.f a) (table c.args.store.now c.args.g a)
+table_done : (t : ℕ) (c : goal.In_ok-keep t) (a : ℕ → Bool) → table c.result_node.new.store c.in_ok-r.r a ≡ joined c.args.unit (table c.args.store.now c.args.f a) (table c.args.store.now c.args.g a)
 table_done t c a =
     let before = c.args.store.now in
     let middle = c.join_from.new.store in
@@ -141,7 +101,7 @@ returns-clause-fresh t c =
     c.in_ok-low.ensures.fresh c.in_ok-high.ensures.fresh c.in_ok-high.ensures.keeps c.in_ok-low.ensures.live c.in_ok-r.ensures.fresh c.in_ok-r.ensures.reached
 
 -- the new result is right
-answer_done : (t : ℕ) (c : goal.In_ok-insert t) → IsJoin c.args.unit c.result_node.new.store (c.args.f, c.args.g) c.in_ok-r.r
+answer_done : (t : ℕ) (c : goal.In_ok-keep t) → IsJoin c.args.unit c.result_node.new.store (c.args.f, c.args.g) c.in_ok-r.r
 answer_done t c =
     let keeps = all_keep_done t c in
     let f_first = keeps.firsts c.args.f c.requires.f_live in
@@ -159,49 +119,152 @@ answer_done t c =
 
 pub returns-clause-memo : goal.returns-clause-memo
 returns-clause-memo t c =
-    holds_put same_pair pair_test (IsJoin c.args.unit c.result_node.new.store) c.join_from-2.new.memo c.insert.new.self (c.args.f, c.args.g) c.in_ok-r.r c.in_ok-insert.ensures.ok
+    holds_kept same_pair pair_test (IsJoin c.args.unit c.result_node.new.store) c.join_from-2.new.memo c.keep.new.memo (c.args.f, c.args.g) c.in_ok-r.r c.in_ok-keep.ensures.memo
     (joins_kept c.args.unit c.join_from-2.new.store c.result_node.new.store c.join_from-2.new.memo c.in_ok-r.ensures.keeps c.in_ok-high.ensures.memo) (answer_done t c)
 
--- neither branch touches a pair of an earlier variable
-low_untouched : (t : ℕ) (c : goal.In_ok-insert t) (p : Ref × Ref) → IsLive c.args.store.now p.0 → IsLive c.args.store.now p.1 → pair_first c.args.store.now p ≤ c.min-var.result → result_of c.join_from-2.new.memo p ≡ result_of c.args.memo.now p
-low_untouched t c p live_0 live_1 le =
-    let k = c.in_ok-low.ensures.keeps in
-    let first_0 = k.firsts p.0 live_0 in
-    let first_1 = k.firsts p.1 live_1 in
-    let f_high = k.firsts c.split.result.1 c.split.ensures.high_live in
-    let g_high = k.firsts c.split-2.result.1 c.split-2.ensures.high_live in
-    let lt_low : pair_first c.args.store.now p < min (first_var c.args.store.now c.split.result.0) (first_var c.args.store.now c.split-2.result.0) = omega (arith, le, c.split.ensures.low_first, c.split-2.ensures.low_first) in
-    let lt_high : pair_first c.join_from.new.store p < min (first_var c.join_from.new.store c.split.result.1) (first_var c.join_from.new.store c.split-2.result.1) = omega (arith, le, first_0, first_1, f_high, g_high, c.split.ensures.high_first, c.split-2.ensures.high_first) in
-    c.in_ok-high.ensures.untouched p (k.live p.0 live_0) (k.live p.1 live_1) lt_high ∙ c.in_ok-low.ensures.untouched p live_0 live_1 lt_low
+pub returns-clause-known : goal.returns-clause-known
+returns-clause-known t c = c.in_ok-keep.ensures.right c.result_node.new.store (c.in_ok-r.ensures.known c.join_from-2.new.known c.in_ok-high.ensures.known) c.in_ok-r.ensures.right
 
-pub returns-clause-untouched : goal.returns-clause-untouched
-returns-clause-untouched t c p live_0 live_1 lt =
-    let le : pair_first c.args.store.now p ≤ c.min-var.result = omega (arith, lt, c.min-var.ensures, c.var-f_var.ensures.var, c.var-g_var.ensures.var) in
-    let apart : (c.args.f, c.args.g) ≡ p → ⊥ = λ e. let same = ap (pair_first c.args.store.now) e in omega (arith, lt, same) in
-    put_other same_pair pair_test c.join_from-2.new.memo c.insert.new.self (c.args.f, c.args.g) p c.in_ok-r.r c.in_ok-insert.ensures.ok apart ∙ low_untouched t c p live_0 live_1 le
+pub returns-in_err-keep-clause-known : goal.returns-in_err-keep-clause-known
+returns-in_err-keep-clause-known t c = c.in_err-keep.ensures.right c.result_node.new.store (c.in_ok-r.ensures.known c.join_from-2.new.known c.in_ok-high.ensures.known) c.in_ok-r.ensures.right
 
-pub returns-clause-reached : goal.returns-clause-reached
-returns-clause-reached t c top up live_top live_up reach_f reach_g keys =
-    let keeps = all_keep_done t c in
-    holds_put same_pair pair_test (λ p r. Reaches c.result_node.new.store top p.0 × Reaches c.result_node.new.store up p.1) c.join_from-2.new.memo c.insert.new.self (c.args.f, c.args.g) c.in_ok-r.r c.in_ok-insert.ensures.ok
-    (keys_done t c top up live_top live_up reach_f reach_g keys)
-    (keeps.reached top c.args.f live_top c.requires.f_live reach_f, keeps.reached up c.args.g live_up c.requires.g_live reach_g)
+pub returns-in_err-low-clause-news : goal.returns-in_err-low-clause-news
+returns-in_err-low-clause-news t c =
+    let d = c.args.store.now in
+    let before : State = (d, (c.args.known.now, c.args.memo.now)) in
+    let first : State = (c.join_from.new.store, (c.join_from.new.known, c.join_from.new.memo)) in
+    news_err (join_of c.args.unit) AnyPair c.args.turn c.from_residual.result c.from_residual.ensures.0 before first c.args.f c.args.g (min (first_var d c.args.f) (first_var d c.args.g)) (news_first (join_of c.args.unit) AnyPair c.args.turn before first c.args.f c.args.g c.split.result.0 c.split-2.result.0 _ (min (first_var d c.args.f) (first_var d c.args.g)) 1 (keeps_self d)
+    (omega (arith, c.split.ensures.low_later, c.split-2.ensures.low_later))
+    (λ a live down. c.split.ensures.low_reached a live down) (λ a live down. c.split-2.ensures.low_reached a live down) c.in_err-low.ensures.news)
 
--- the pair is not kept yet
-still_absent : (t : ℕ) (c : goal.In_ok-insert t) → result_of c.join_from-2.new.memo (c.args.f, c.args.g) ≡ None
-still_absent t c =
-    let le : pair_first c.args.store.now (c.args.f, c.args.g) ≤ c.min-var.result = omega (arith, c.min-var.ensures, c.var-f_var.ensures.var, c.var-g_var.ensures.var) in
-    low_untouched t c (c.args.f, c.args.g) c.requires.f_live c.requires.g_live le ∙ sym c.in-None-get.ensures.value
+pub returns-in_err-high-clause-news : goal.returns-in_err-high-clause-news
+returns-in_err-high-clause-news t c =
+    let d = c.args.store.now in
+    let op = join_of c.args.unit in
+    let keeps = c.in_ok-low.ensures.keeps in
+    let before : State = (d, (c.args.known.now, c.args.memo.now)) in
+    let first : State = (c.join_from.new.store, (c.join_from.new.known, c.join_from.new.memo)) in
+    let second : State = (c.join_from-2.new.store, (c.join_from-2.new.known, c.join_from-2.new.memo)) in
+    let low = news_first op AnyPair c.args.turn before first c.args.f c.args.g c.split.result.0 c.split-2.result.0 _ (min (first_var d c.args.f) (first_var d c.args.g)) 0 (keeps_self d)
+    (omega (arith, c.split.ensures.low_later, c.split-2.ensures.low_later))
+    (λ a live down. c.split.ensures.low_reached a live down) (λ a live down. c.split-2.ensures.low_reached a live down) c.in_ok-low.ensures.news in
+    news_err op AnyPair c.args.turn c.from_residual-in_err-high.result c.from_residual-in_err-high.ensures.0 before second c.args.f c.args.g (min (first_var d c.args.f) (first_var d c.args.g)) (news_second op AnyPair c.args.turn before first second c.args.f c.args.g c.split.result.1 c.split-2.result.1 _ (min (first_var d c.args.f) (first_var d c.args.g)) 0 1 keeps c.in_err-high.ensures.keeps
+    (omega (arith, c.split.ensures.high_later, c.split-2.ensures.high_later, keeps.firsts c.split.result.1 c.split.ensures.high_live, keeps.firsts c.split-2.result.1 c.split-2.ensures.high_live))
+    (λ a live down. keeps.reached a c.split.result.1 live c.split.ensures.high_live (c.split.ensures.high_reached a live down))
+    (λ a live down. keeps.reached a c.split-2.result.1 live c.split-2.ensures.high_live (c.split-2.ensures.high_reached a live down)) low c.in_err-high.ensures.news)
 
-pub returns-clause-once : goal.returns-clause-once
-returns-clause-once t c once =
-    once_put same_pair pair_test c.join_from-2.new.memo c.insert.new.self (c.args.f, c.args.g) c.in_ok-r.r c.in_ok-insert.ensures.ok (still_absent t c) (c.in_ok-high.ensures.once (c.in_ok-low.ensures.once once))
+-- the news of both branches
+both_news_no_node : (t : ℕ) (c : goal.After-from_residual-in_err-r t) → News (join_of c.args.unit) AnyPair c.args.turn (c.args.store.now, (c.args.known.now, c.args.memo.now)) (c.join_from-2.new.store, (c.join_from-2.new.known, c.join_from-2.new.memo)) c.args.f c.args.g (c.min-var.result + 1) 0
+both_news_no_node t c =
+    let d = c.args.store.now in
+    let op = join_of c.args.unit in
+    let keeps = c.in_ok-low.ensures.keeps in
+    let before : State = (d, (c.args.known.now, c.args.memo.now)) in
+    let first : State = (c.join_from.new.store, (c.join_from.new.known, c.join_from.new.memo)) in
+    let second : State = (c.join_from-2.new.store, (c.join_from-2.new.known, c.join_from-2.new.memo)) in
+    let low = news_first op AnyPair c.args.turn before first c.args.f c.args.g c.split.result.0 c.split-2.result.0 _ (c.min-var.result + 1) 0 (keeps_self d)
+    (omega (arith, c.split.ensures.low_first, c.split-2.ensures.low_first))
+    (λ a live down. c.split.ensures.low_reached a live down) (λ a live down. c.split-2.ensures.low_reached a live down) c.in_ok-low.ensures.news in
+    news_second op AnyPair c.args.turn before first second c.args.f c.args.g c.split.result.1 c.split-2.result.1 _ (c.min-var.result + 1) 0 0 keeps c.in_ok-high.ensures.keeps
+    (omega (arith, c.split.ensures.high_first, c.split-2.ensures.high_first, keeps.firsts c.split.result.1 c.split.ensures.high_live, keeps.firsts c.split-2.result.1 c.split-2.ensures.high_live))
+    (λ a live down. keeps.reached a c.split.result.1 live c.split.ensures.high_live (c.split.ensures.high_reached a live down))
+    (λ a live down. keeps.reached a c.split-2.result.1 live c.split-2.ensures.high_live (c.split-2.ensures.high_reached a live down)) low c.in_ok-high.ensures.news
 
-pub returns-in_err-insert-clause-once : goal.returns-in_err-insert-clause-once
-returns-in_err-insert-clause-once t c once =
-    once_same same_pair pair_test c.join_from-2.new.memo c.insert.new.self c.in_err-insert.ensures.err (c.in_ok-high.ensures.once (c.in_ok-low.ensures.once once))
+pub returns-in_err-r-clause-news : goal.returns-in_err-r-clause-news
+returns-in_err-r-clause-news t c =
+    let d = c.args.store.now in
+    let op = join_of c.args.unit in
+    let before : State = (d, (c.args.known.now, c.args.memo.now)) in
+    let second : State = (c.join_from-2.new.store, (c.join_from-2.new.known, c.join_from-2.new.memo)) in
+    let last : State = (c.result_node.new.store, (c.join_from-2.new.known, c.join_from-2.new.memo)) in
+    news_err op AnyPair c.args.turn c.from_residual-in_err-r.result c.from_residual-in_err-r.ensures.0 before last c.args.f c.args.g (min (first_var d c.args.f) (first_var d c.args.g)) (news_weaken op AnyPair c.args.turn before last c.args.f c.args.g (c.min-var.result + 1) (min (first_var d c.args.f) (first_var d c.args.g)) 1
+    (omega (arith, c.min-var.ensures, c.var-f_var.ensures.var, c.var-g_var.ensures.var))
+    (news_later op AnyPair c.args.turn before second last c.args.f c.args.g (c.min-var.result + 1) 0 1 (both_keep_no_node t c) c.in_err-r.ensures.keeps (λ p found. found) (omega (arith, c.in_err-r.ensures.calls)) (both_news_no_node t c)))
 
-pub returns-clause-calls : goal.returns-clause-calls
-returns-clause-calls t c =
-    let longer = one_longer c.join_from-2.new.memo c.insert.new.self _ c.in_ok-insert.ensures.ok in
-    omega (arith, longer, c.in_ok-low.ensures.calls, c.in_ok-high.ensures.calls, c.in_ok-r.ensures.calls)
+-- the news of both branches
+both_news_no_room : (t : ℕ) (c : goal.After-from_residual-in_err-keep t) → News (join_of c.args.unit) AnyPair c.args.turn (c.args.store.now, (c.args.known.now, c.args.memo.now)) (c.join_from-2.new.store, (c.join_from-2.new.known, c.join_from-2.new.memo)) c.args.f c.args.g (c.min-var.result + 1) 0
+both_news_no_room t c =
+    let d = c.args.store.now in
+    let op = join_of c.args.unit in
+    let keeps = c.in_ok-low.ensures.keeps in
+    let before : State = (d, (c.args.known.now, c.args.memo.now)) in
+    let first : State = (c.join_from.new.store, (c.join_from.new.known, c.join_from.new.memo)) in
+    let second : State = (c.join_from-2.new.store, (c.join_from-2.new.known, c.join_from-2.new.memo)) in
+    let low = news_first op AnyPair c.args.turn before first c.args.f c.args.g c.split.result.0 c.split-2.result.0 _ (c.min-var.result + 1) 0 (keeps_self d)
+    (omega (arith, c.split.ensures.low_first, c.split-2.ensures.low_first))
+    (λ a live down. c.split.ensures.low_reached a live down) (λ a live down. c.split-2.ensures.low_reached a live down) c.in_ok-low.ensures.news in
+    news_second op AnyPair c.args.turn before first second c.args.f c.args.g c.split.result.1 c.split-2.result.1 _ (c.min-var.result + 1) 0 0 keeps c.in_ok-high.ensures.keeps
+    (omega (arith, c.split.ensures.high_first, c.split-2.ensures.high_first, keeps.firsts c.split.result.1 c.split.ensures.high_live, keeps.firsts c.split-2.result.1 c.split-2.ensures.high_live))
+    (λ a live down. keeps.reached a c.split.result.1 live c.split.ensures.high_live (c.split.ensures.high_reached a live down))
+    (λ a live down. keeps.reached a c.split-2.result.1 live c.split-2.ensures.high_live (c.split-2.ensures.high_reached a live down)) low c.in_ok-high.ensures.news
+
+pub returns-in_err-keep-clause-news : goal.returns-in_err-keep-clause-news
+returns-in_err-keep-clause-news t c =
+    let d = c.args.store.now in
+    let op = join_of c.args.unit in
+    let before : State = (d, (c.args.known.now, c.args.memo.now)) in
+    let second : State = (c.join_from-2.new.store, (c.join_from-2.new.known, c.join_from-2.new.memo)) in
+    let last : State = (c.result_node.new.store, (c.keep.new.known, c.keep.new.memo)) in
+    news_err op AnyPair c.args.turn c.from_residual-in_err-keep.result c.from_residual-in_err-keep.ensures.0 before last c.args.f c.args.g (min (first_var d c.args.f) (first_var d c.args.g)) (news_weaken op AnyPair c.args.turn before last c.args.f c.args.g (c.min-var.result + 1) (min (first_var d c.args.f) (first_var d c.args.g)) 1
+    (omega (arith, c.min-var.ensures, c.var-f_var.ensures.var, c.var-g_var.ensures.var))
+    (news_later op AnyPair c.args.turn before second last c.args.f c.args.g (c.min-var.result + 1) 0 1 (both_keep_no_room t c) c.in_ok-r.ensures.keeps
+    (found_kept op c.args.turn second last (c.args.f, c.args.g) c.in_ok-r.r c.in_err-keep.ensures.sure c.in_err-keep.ensures.memo) (omega (arith, c.in_ok-r.ensures.calls)) (both_news_no_room t c)))
+
+-- the news of both branches
+both_news_done : (t : ℕ) (c : goal.In_ok-keep t) → News (join_of c.args.unit) AnyPair c.args.turn (c.args.store.now, (c.args.known.now, c.args.memo.now)) (c.join_from-2.new.store, (c.join_from-2.new.known, c.join_from-2.new.memo)) c.args.f c.args.g (c.min-var.result + 1) 0
+both_news_done t c =
+    let d = c.args.store.now in
+    let op = join_of c.args.unit in
+    let keeps = c.in_ok-low.ensures.keeps in
+    let before : State = (d, (c.args.known.now, c.args.memo.now)) in
+    let first : State = (c.join_from.new.store, (c.join_from.new.known, c.join_from.new.memo)) in
+    let second : State = (c.join_from-2.new.store, (c.join_from-2.new.known, c.join_from-2.new.memo)) in
+    let low = news_first op AnyPair c.args.turn before first c.args.f c.args.g c.split.result.0 c.split-2.result.0 _ (c.min-var.result + 1) 0 (keeps_self d)
+    (omega (arith, c.split.ensures.low_first, c.split-2.ensures.low_first))
+    (λ a live down. c.split.ensures.low_reached a live down) (λ a live down. c.split-2.ensures.low_reached a live down) c.in_ok-low.ensures.news in
+    news_second op AnyPair c.args.turn before first second c.args.f c.args.g c.split.result.1 c.split-2.result.1 _ (c.min-var.result + 1) 0 0 keeps c.in_ok-high.ensures.keeps
+    (omega (arith, c.split.ensures.high_first, c.split-2.ensures.high_first, keeps.firsts c.split.result.1 c.split.ensures.high_live, keeps.firsts c.split-2.result.1 c.split-2.ensures.high_live))
+    (λ a live down. keeps.reached a c.split.result.1 live c.split.ensures.high_live (c.split.ensures.high_reached a live down))
+    (λ a live down. keeps.reached a c.split-2.result.1 live c.split-2.ensures.high_live (c.split-2.ensures.high_reached a live down)) low c.in_ok-high.ensures.news
+
+pub returns-clause-news : goal.returns-clause-news
+returns-clause-news t c =
+    let d = c.args.store.now in
+    let op = join_of c.args.unit in
+    let before : State = (d, (c.args.known.now, c.args.memo.now)) in
+    let second : State = (c.join_from-2.new.store, (c.join_from-2.new.known, c.join_from-2.new.memo)) in
+    let last : State = (c.result_node.new.store, (c.keep.new.known, c.keep.new.memo)) in
+    let is = c.joining-operation.ensures.is in
+    let absent : IsFound op c.args.turn before (c.args.f, c.args.g) → ⊥ = λ found. elim found [
+      | inl sure ↦ c.in-None.ensures.none c.args.turn (subst (IsSure c.args.known.now c.args.turn) (sym is) sure)
+      | inr some ↦ some (sym c.in-None-get.ensures.value)
+    ] in
+    let found : IsFound op c.args.turn last (c.args.f, c.args.g) = elim c.in_ok-keep.ensures.found [
+      | inl sure ↦ inl (subst (IsSure c.keep.new.known c.args.turn) is sure)
+      | inr put ↦ inr (found_here c.join_from-2.new.memo c.keep.new.memo (c.args.f, c.args.g) c.in_ok-r.r put)
+    ] in
+    news_put op AnyPair c.args.turn before second last c.args.f c.args.g (c.min-var.result + 1) (min (first_var d c.args.f) (first_var d c.args.g)) (both_keep_done t c) c.in_ok-r.ensures.keeps
+    (found_kept op c.args.turn second last (c.args.f, c.args.g) c.in_ok-r.r c.in_ok-keep.ensures.sure c.in_ok-keep.ensures.memo) (omega (arith, c.in_ok-r.ensures.calls))
+    (omega (arith, c.min-var.ensures, c.var-f_var.ensures.var, c.var-g_var.ensures.var)) c.requires.f_live c.requires.g_live
+    (omega (arith, c.var-f_var.ensures.within, c.var-f_var.ensures.var)) (omega (arith, c.var-g_var.ensures.within, c.var-g_var.ensures.var)) refl refl absent found (both_news_done t c)
+
+pub returns-then-x-unit-clause-news : goal.returns-then-x-unit-clause-news
+returns-then-x-unit-clause-news t c = news_none (join_of c.args.unit) AnyPair c.args.turn _ _ c.args.f c.args.g _ 0 (λ p found. found) (omega arith)
+
+pub returns-else-x-unit-clause-news : goal.returns-else-x-unit-clause-news
+returns-else-x-unit-clause-news t c = news_none (join_of c.args.unit) AnyPair c.args.turn _ _ c.args.f c.args.g _ 0 (λ p found. found) (omega arith)
+
+pub returns-then-x-unit-2-clause-news : goal.returns-then-x-unit-2-clause-news
+returns-then-x-unit-2-clause-news t c = news_none (join_of c.args.unit) AnyPair c.args.turn _ _ c.args.f c.args.g _ 0 (λ p found. found) (omega arith)
+
+pub returns-else-x-unit-2-clause-news : goal.returns-else-x-unit-2-clause-news
+returns-else-x-unit-2-clause-news t c = news_none (join_of c.args.unit) AnyPair c.args.turn _ _ c.args.f c.args.g _ 0 (λ p found. found) (omega arith)
+
+pub returns-then-eq-clause-news : goal.returns-then-eq-clause-news
+returns-then-eq-clause-news t c = news_none (join_of c.args.unit) AnyPair c.args.turn _ _ c.args.f c.args.g _ 0 (λ p found. found) (omega arith)
+
+pub returns-in-Some-get-clause-news : goal.returns-in-Some-get-clause-news
+returns-in-Some-get-clause-news t c = news_none (join_of c.args.unit) AnyPair c.args.turn _ _ c.args.f c.args.g _ 0 (λ p found. found) (omega arith)
+
+pub returns-in-Some-recall-clause-news : goal.returns-in-Some-recall-clause-news
+returns-in-Some-recall-clause-news t c = news_hit (join_of c.args.unit) AnyPair c.args.turn c.args.store.now c.args.known.now c.note_hit.new.self c.args.memo.now c.args.f c.args.g _ c.note_hit.ensures

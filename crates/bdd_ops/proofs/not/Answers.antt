@@ -1,32 +1,15 @@
-use Rattle.std.proofs.Common.{◌≡◌, ℕ, ◌+◌, ◌≤◌, Bool, not, true, length, ◌∙◌, ap, arith}
-use Rattle.bdd_store.specs.Diagram.{IsLive, Reaches, held, beads, table}
-use Rattle.bdd_store.proofs.Laws.{reaches_self}
-use Rattle.bdd_store.proofs.Few.{beads_kept}
-use Rattle.bdd_ops.specs.Functions.{IsFreshBelow}
-use Rattle.memo_table.specs.Results.{same_pair}
+use Rattle.std.proofs.Common.{◌≡◌, ℕ, Bool, not, true, IfOk, sym, subst, ◌∙◌, ap}
+use Rattle.bdd_store.specs.Diagram.{table}
 use Rattle.bdd_ops.specs.Memo.{changed}
-use Rattle.bdd_ops.proofs.Tables.{if_ok_both, if_ok_then, no_change}
-use Rattle.bdd_ops.proofs.MemoLaws.{few_images, pair_test, holds_empty, once_empty, one_bound}
-use Rattle.bdd_ops.proofs.Held.{held_bound}
+use Rattle.bdd_ops.proofs.Tables.{if_ok_then, no_change}
 use Rattle.bdd_ops.proofs.not.Goals as goal
-
-pub returns-clause-calls : goal.returns-clause-calls
-returns-clause-calls c =
-    let d = c.args.store.now in
-    let e = c.change_from-answer.new.store in
-    let f = c.args.f in
-    let keeps = c.change_from-answer.ensures.keeps in
-    let none = holds_empty same_pair pair_test (λ p r. Reaches d f p.0) c.new-memo.result c.new-memo.ensures.empty in
-    let below = c.change_from-answer.ensures.reached f c.requires.live (reaches_self d f) none in
-    let few = few_images (changed 0 true) 0 e c.change_from-answer.new.memo f c.change_from-answer.ensures.sound (keeps.live f c.requires.live) c.change_from-answer.ensures.memo below (c.change_from-answer.ensures.once (once_empty same_pair pair_test c.new-memo.result c.new-memo.ensures.empty)) in
-    one_bound _ _ _ _ _ _ _ c.change_from-answer.ensures.calls few (beads_kept d e keeps f c.requires.live) (ap length c.new-memo.ensures.empty)
-
-pub returns-clause-held : goal.returns-clause-held
-returns-clause-held c =
-    if_ok_both c.change_from-answer.result (IsLive c.change_from-answer.new.store) (IsFreshBelow c.args.store.now c.change_from-answer.new.store) (λ r. held c.change_from-answer.new.store ≤ held c.args.store.now + beads c.change_from-answer.new.store r)
-    (held_bound c.args.store.now c.change_from-answer.new.store c.change_from-answer.ensures.sound c.change_from-answer.ensures.keeps) c.change_from-answer.ensures.live c.change_from-answer.ensures.fresh
 
 pub returns-clause-table : goal.returns-clause-table
 returns-clause-table c =
-    if_ok_then c.change_from-answer.result (λ r. (a : ℕ → Bool) → table c.change_from-answer.new.store r a ≡ changed 0 true (table c.args.store.now c.args.f) a) (λ r. (a : ℕ → Bool) → table c.change_from-answer.new.store r a ≡ not (table c.args.store.now c.args.f a))
-    (λ r is a. is a ∙ ap (λ b. not (table c.args.store.now c.args.f b)) (no_change a)) c.change_from-answer.ensures.table
+    let e = c.change-answer.new.store in
+    let r = c.change-answer.result in
+    let f = c.args.f in
+    let here = if_ok_then r (λ r. (a : ℕ → Bool) → table e r a ≡ changed 0 true (table c.lend-known.new.self f) a) (λ r. (a : ℕ → Bool) → table e r a ≡ not (table c.lend-known.new.self f a))
+    (λ r is a. is a ∙ ap (λ b. not (table c.lend-known.new.self f b)) (no_change a)) c.change-answer.ensures.table in
+    subst (λ s. IfOk r (λ r. (a : ℕ → Bool) → table s r a ≡ not (table c.args.store.now f a))) (sym c.take_back.ensures)
+    (subst (λ s. IfOk r (λ r. (a : ℕ → Bool) → table e r a ≡ not (table s f a))) c.lend-known.ensures.same here)

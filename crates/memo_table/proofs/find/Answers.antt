@@ -2,11 +2,6 @@ use Rattle.std.proofs.Common.{◌-◌, ◌<◌, length, sym, ◌∙◌, arith}
 use Rattle.memo_table.proofs.TableLaws.{ref_is, kept_found, kept_absent}
 use Rattle.memo_table.proofs.find.Goals as goal
 
-pub returns-then-heads-eq0 : goal.returns-then-heads-eq0
-returns-then-heads-eq0 c =
-    let es = c.args.entries.now in
-    sym (kept_absent es (length es) (c.args.first, c.args.second) (λ j lt. absurd (omega (arith, lt, c.requires.room, c.if-heads-eq0.true))))
-
 pub returns-then-eq-2 : goal.returns-then-eq-2
 returns-then-eq-2 c =
     let es = c.args.entries.now in

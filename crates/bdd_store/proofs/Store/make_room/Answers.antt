@@ -2,7 +2,6 @@ use Rattle.std.proofs.Common.{refl, sym, ◌∙◌, subst, arith}
 use Rattle.bdd_store.specs.Diagram.{IsSound}
 use Rattle.bdd_store.specs.contracts.Store.{the_view}
 use Rattle.bdd_store.proofs.NodeLaws.{graph_extends, reduced_graph, graph_stays, same_stays, stays_from}
-use Rattle.bdd_store.specs.Results.{diagram_of}
 use Rattle.bdd_store.proofs.ResultLaws.{known_extends}
 use Rattle.bdd_store.proofs.Puts.{counted_graph}
 use Rattle.bdd_store.proofs.Store.make_room.Goals as goal
@@ -19,7 +18,7 @@ invariant_of-self c =
       held_counted = is.held_counted ∙ sym (counted_graph _ _ _ graph);
       flags = is.flags ∙ sym graph.count;
       marks_counted = is.marks_counted;
-      known = c.widen.ensures (diagram_of _ _) (reduced_graph _ _ _ is.reduced graph) (known_extends _ _ _ _ is.reduced (graph_extends _ _ _ graph) is.known);
+      known = known_extends _ _ _ _ is.reduced (graph_extends _ _ _ graph) is.known;
     }
 
 pub returns-then-len-clause-stays : goal.returns-then-len-clause-stays

@@ -1,8 +1,8 @@
-use Rattle.std.proofs.Common.{ap, subst}
+use Rattle.std.proofs.Common.{ap, sym, subst}
 use Rattle.bdd_store.specs.Diagram.{Diagram, IsSound}
-use Rattle.bdd_store.specs.Results.{diagram_of}
-use Rattle.bdd_store.proofs.ResultLaws.{result_there}
-use Rattle.bdd_store.proofs.Store.remember.Goals as goal
+use Rattle.bdd_store.specs.Results.{AreResults}
+use Rattle.bdd_store.proofs.ResultLaws.{known_there}
+use Rattle.bdd_store.proofs.Store.take_back.Goals as goal
 
 pub invariant_of-self : goal.invariant_of-self
 unfolding IsSound
@@ -19,5 +19,5 @@ invariant_of-self c =
       held_counted = is.held_counted;
       flags = is.flags;
       marks_counted = is.marks_counted;
-      known = c.put.ensures (diagram_of c.self.inside.vars c.self.inside.nodes.items) is.known (result_there _ _ d c.args.operation c.args.answer ok same_vars same_nodes c.requires);
+      known = known_there c.self.inside.vars c.self.inside.nodes.items d c.known.inside.results.items ok same_vars same_nodes (subst (AreResults d) (sym c.known.view_is) c.requires);
     }
