@@ -73,6 +73,19 @@ fn has_all(store: &Store, r: Ref) -> bool
     true
 }
 
+// How many of these functions have branches at 0 with one variable after the other.
+fn count_whole(store: &Store, functions: &[Ref]) -> u64
+    requires { AreLive store.now functions.now }
+{
+    let mut whole: u64 = 0;
+    for i in 0..functions.len() {
+        if has_all(store, functions[i]) {
+            whole = whole.saturating_add(1);
+        }
+    }
+    whole
+}
+
 #[test]
 fn finds_each_of_many(rt: HostRuntime) -> Result<(), Fail> {
     let mut store = Store::new(rt.alloc(), 40)?;
@@ -82,12 +95,7 @@ fn finds_each_of_many(rt: HostRuntime) -> Result<(), Fail> {
     let again = build(&mut store, rt.alloc(), 2740)?;
     assert!(rt; first == again);
     assert_eq!(rt; store.held(), held);
-    let mut whole: u64 = 0;
-    for i in 0..again.len() {
-        if has_all(&store, again[i]) {
-            whole = whole.saturating_add(1);
-        }
-    }
+    let whole = count_whole(&store, again.as_slice());
     assert!(rt; whole >= 1_000, "{whole} functions of all variables");
     Ok(())
 }
