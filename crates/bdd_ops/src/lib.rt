@@ -21,6 +21,7 @@ use std::collections::HashSet;
 mod tests;
 
 /// The function with the variable at 0, and with it at 1. It depends on no earlier variable.
+#[inline(always)]
 fn split(store: &Store, f: Ref, var: u32) -> (Ref, Ref)
     requires live { IsLive store.now f }
     requires from { var ≤ first_var store.now f }
@@ -46,11 +47,13 @@ fn split(store: &Store, f: Ref, var: u32) -> (Ref, Ref)
 }
 
 /// The number of a call, by which its results are told from earlier ones.
+#[inline(always)]
 fn turn(store: &Store) -> u32 {
     (store.calls() % 0xFFFF_FFFF) as u32
 }
 
 /// A node that is the result of an operation.
+#[inline(always)]
 fn result_node(
     store: &mut Store,
     operation: Operation,
@@ -81,6 +84,7 @@ fn result_node(
 }
 
 /// Keeps a result for the rest of the turn: where results are known or, if its place there is taken, in the memo.
+#[inline(always)]
 fn keep(
     known: &mut Known,
     memo: &mut Memo,
@@ -104,6 +108,7 @@ fn keep(
 }
 
 /// The operation of a join.
+#[inline(always)]
 fn joining(unit: bool, f: Ref, g: Ref) -> Operation
     ensures is { result ≡ join_of unit (f, g) }
     ensures operands { (d : Diagram) → IsLive d f → IsLive d g → AreOperands d result }
@@ -117,6 +122,7 @@ fn joining(unit: bool, f: Ref, g: Ref) -> Operation
 }
 
 /// The operation of a change.
+#[inline(always)]
 fn changing(back: u32, flip: bool, f: Ref) -> Operation
     requires { back ≡ (if flip then 0 else 1) }
     ensures is { result ≡ change_of flip (f, f) }

@@ -16,6 +16,7 @@ pub struct Node {
 }
 
 /// The chain of a node, among `len` chains.
+#[inline(always)]
 pub fn bucket_of(var: u32, low: u32, high: u32, len: usize) -> usize
     requires { 0 < len }
     ensures bucket { result ≡ bucket_of var low high len }
@@ -29,6 +30,7 @@ pub fn bucket_of(var: u32, low: u32, high: u32, len: usize) -> usize
 }
 
 /// The place in the chain from `start` that has this node, or 0.
+#[inline(always)]
 pub fn find(nodes: &[Node], start: u32, var: u32, low: u32, high: u32) -> u32
     requires falling { IsFalling nodes.now start }
     requires ends { next_at nodes.now 0 ≡ 0 }

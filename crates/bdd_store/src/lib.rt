@@ -33,6 +33,7 @@ pub struct Ref {
 
 impl Ref {
     /// The number by which equal Refs are told from others: a key for tables.
+    #[inline(always)]
     pub fn place(self) -> u32
         ensures { result ≡ self.place }
     {
@@ -116,6 +117,7 @@ impl Store {
     }
 
     /// The number of variables.
+    #[inline(always)]
     pub fn vars(&self) -> u32
         ensures vars { result ≡ self.now.vars }
         ensures sound { IsSound self.now }
@@ -209,18 +211,20 @@ impl Store {
         answer
     }
 
-    // Makes more chains where there are more nodes than chains.
+    // Makes more chains where there are fewer than two for each node.
+    #[inline(always)]
     fn make_room(&mut self)
         ensures stays { Stays self.old self.new }
         ensures calls { self.new.calls ≡ self.old.calls }
         ensures spare { self.new.spare ≡ self.old.spare }
     {
-        if self.nodes.len() > self.heads.len() {
+        if self.nodes.len() > self.heads.len() / 2 {
             self.free = grow(&mut self.nodes, &mut self.heads, self.free, self.vars);
         }
     }
 
     // The node, which is found in the chain of its hash or put there.
+    #[inline(always)]
     fn find_or_add(&mut self, var: u32, low: Ref, high: Ref) -> Result<Ref, AllocError>
         requires var_in { var < self.old.vars }
         requires low_live { IsLive self.old low }
@@ -267,6 +271,7 @@ impl Store {
     }
 
     /// The value that the function has everywhere, if there is one.
+    #[inline(always)]
     pub fn is_constant(&self, r: Ref) -> Option<bool>
         requires { IsLive self.now r }
         ensures some { IfSome result (λ x. IsConstant self.now r x) }
@@ -282,6 +287,7 @@ impl Store {
     }
 
     /// The first variable on which the function depends.
+    #[inline(always)]
     pub fn var(&self, r: Ref) -> u32
         requires live { IsLive self.now r }
         requires proper { IsProper self.now r }
@@ -294,6 +300,7 @@ impl Store {
     }
 
     /// The function with its first variable at 0.
+    #[inline(always)]
     pub fn low(&self, r: Ref) -> Ref
         requires live { IsLive self.now r }
         requires proper { IsProper self.now r }
@@ -308,6 +315,7 @@ impl Store {
     }
 
     /// The function with its first variable at 1.
+    #[inline(always)]
     pub fn high(&self, r: Ref) -> Ref
         requires live { IsLive self.now r }
         requires proper { IsProper self.now r }

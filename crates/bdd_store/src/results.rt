@@ -42,6 +42,7 @@ impl Model for Known {
 
 impl Known {
     /// The result of an operation, if it is there.
+    #[inline(always)]
     pub fn recall(&self, operation: Operation) -> Option<Ref>
         ensures some { (d : Diagram) → AreResults d self.now → IfSome result (IsResult d operation) }
         ensures none { IfNone result ((turn : ℕ) → IsSure self.now turn operation → ⊥) }
@@ -50,6 +51,7 @@ impl Known {
     }
 
     /// Notes that a result was of use.
+    #[inline(always)]
     pub fn note_hit(&mut self)
         ensures { self.new ≡ self.old }
     {
@@ -57,6 +59,7 @@ impl Known {
     }
 
     /// Puts the result of an operation in the place of one of another turn. True means that it stays for this turn.
+    #[inline(always)]
     pub fn remember(&mut self, operation: Operation, answer: Ref, turn: u32) -> bool
         ensures right { (d : Diagram) → AreResults d self.old → IsResult d operation answer → AreResults d self.new }
         ensures keeps { (o : Operation) → IsSure self.old turn o → IsSure self.new turn o }
@@ -68,7 +71,7 @@ impl Known {
 }
 
 /// How many places a table is to have: more where one look in four was of use.
-pub fn wanted(has: usize, puts: usize, hits: usize, len: usize) -> usize {
+pub(crate) fn wanted(has: usize, puts: usize, hits: usize, len: usize) -> usize {
     if has < FEW {
         return len.min(FEW);
     }
@@ -79,7 +82,7 @@ pub fn wanted(has: usize, puts: usize, hits: usize, len: usize) -> usize {
 }
 
 /// The counts, which begin again after as many results as there are places.
-pub fn counted(has: usize, puts: usize, hits: usize) -> (usize, usize) {
+pub(crate) fn counted(has: usize, puts: usize, hits: usize) -> (usize, usize) {
     if puts >= has {
         return (0, 0);
     }
@@ -100,6 +103,7 @@ fn never() -> Entry
 
 // The place of an operation among `len`.
 #[tactic(auto, unfolding(crate::specs::Sure::slot_of))]
+#[inline(always)]
 fn slot(operation: Operation, len: usize) -> usize
     requires { 0 < len }
     ensures slot { result ≡ slot_of len operation }
@@ -115,6 +119,7 @@ fn slot(operation: Operation, len: usize) -> usize
 }
 
 // The result of an operation, if it is there.
+#[inline(always)]
 fn find(results: &[Entry], operation: Operation) -> Option<Ref>
     ensures some { (d : Diagram) → AreResults d results.now → IfSome result (IsResult d operation) }
     ensures none { IfNone result ((turn : ℕ) → IsSure results.now turn operation → ⊥) }
@@ -130,6 +135,7 @@ fn find(results: &[Entry], operation: Operation) -> Option<Ref>
 }
 
 // Puts the result of an operation, unless its place has one of this turn.
+#[inline(always)]
 fn put(results: &mut Vec<Entry>, operation: Operation, answer: Ref, turn: u32) -> bool
     ensures right { (d : Diagram) → AreResults d results.old.items → IsResult d operation answer → AreResults d results.new.items }
     ensures keeps { (o : Operation) → IsSure results.old.items turn o → IsSure results.new.items turn o }

@@ -53,6 +53,7 @@ impl Memo {
     }
 
     /// The result for two operands.
+    #[inline(always)]
     pub fn get(&self, first: Ref, second: Ref) -> Option<Ref>
         ensures value { result ≡ result_of self.now (first, second) }
     {
@@ -70,6 +71,7 @@ impl Memo {
 }
 
 // The chain of a pair, among `len` chains.
+#[inline(always)]
 fn bucket_of(first: Ref, second: Ref, len: usize) -> usize
     requires { 0 < len }
     ensures bucket { result ≡ bucket_of len first second }
@@ -82,6 +84,7 @@ fn bucket_of(first: Ref, second: Ref, len: usize) -> usize
 }
 
 // The last result for a pair.
+#[inline(always)]
 fn find(entries: &[Entry], heads: &[u32], first: Ref, second: Ref) -> Option<Ref>
     requires { IsTable entries.now heads.now }
     ensures { result ≡ result_of (kept entries.now (length entries.now)) (first, second) }

@@ -6,6 +6,7 @@ ghost use Rattle.smv_delay.specs.FirstFault.{first_fault_of_design};
 ghost use Rattle.smv_typing.specs.Answers.{IsSpelled};
 ghost use Rattle.smv_front.specs.TextFault as spec;
 
+use crate::types::are_too_deep;
 use smv_assigned::single_fault;
 use smv_core::flat::Design;
 use smv_core::tree::Text;
@@ -17,6 +18,8 @@ use smv_loops::loops::loop_fault;
 use smv_names::first_fault;
 use smv_typing::{Typed, kinds};
 use std::alloc::{AllocError, Global};
+
+mod types;
 
 // The first fault of a design: of its loops, or else of its layers.
 fn design_fault(alloc: Global, design: &Design) -> Result<Option<Fault>, AllocError>
@@ -41,12 +44,16 @@ fn typed_fault(alloc: Global, typed: Typed) -> Result<Option<Fault>, AllocError>
 
 /// The first fault of a text that is spelled: of its names and then of its size, or else of its kinds, or else of its flattened text. A later pass
 /// looks only at what the earlier ones found no fault in. `AllocError` also where statements stand more than 1,000 deep inside one another, each
-/// arm of a `switch` inside the one before: the flattened text would want more stack than there may be.
+/// arm of a `switch` inside the one before, or where the types that a text names stand more than 10,000 deep together: the walks over them would
+/// want more stack than there may be.
 #[tactic(auto, unfolding(crate::specs::TextFault::text_fault))]
 pub fn text_fault(alloc: Global, text: &Text) -> Result<Option<Fault>, AllocError>
     requires { IsSpelled text.now }
     ensures { IfOk result (λ fault. fault ≡ spec.text_fault text.now) }
 {
+    if are_too_deep(text) {
+        return Err(AllocError);
+    }
     let pieces = pieces(alloc, text)?;
     if let Some(fault) = first_fault(alloc, text, &pieces)? {
         return Ok(Some(fault));

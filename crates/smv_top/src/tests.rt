@@ -281,6 +281,29 @@ fn statements_stand_up_to_1000_deep(rt: HostRuntime) -> Result<(), Fail> {
     Ok(())
 }
 
+// This many names of types, each of a struct, and so two deep: itself and the type of its field.
+fn types(alloc: Global, count: u16) -> Result<String, AllocError> {
+    let mut text = String::new(alloc);
+    for number in 0..count {
+        text.push_str(&format!(in alloc; "typedef a{number} struct {{f : boolean;}}; ")?)?;
+    }
+    text.push_str("module main() { }")?;
+    Ok(text)
+}
+
+// The types that a text names stand up to 10,000 deep together; deeper ones want more stack than there may be.
+#[test]
+fn types_stand_up_to_10000_deep(rt: HostRuntime) -> Result<(), Fail> {
+    let alloc = rt.alloc();
+    let (status, written) = answered(alloc, "prove", types(alloc, 5000)?.as_bytes())?;
+    assert_eq!(rt; status, 3);
+    assert_eq!(rt; written.as_slice(), NOT_DECIDED.as_bytes());
+    let (status, written) = answered(alloc, "prove", types(alloc, 5001)?.as_bytes())?;
+    assert_eq!(rt; status, 7);
+    assert_eq!(rt; written.as_slice(), "".as_bytes());
+    Ok(())
+}
+
 // A signal over this many constants.
 fn constants(alloc: Global, count: u16) -> Result<String, AllocError> {
     let mut text = String::from_str(alloc, "module main() { x : {c0")?;
