@@ -101,6 +101,15 @@ fn moves_a_variable_forward(rt: HostRuntime) -> Result<(), Fail> {
 }
 
 #[test]
+fn makes_a_node_for_which_there_is_room(rt: HostRuntime) -> Result<(), Fail> {
+    let mut store = Store::new(rt.alloc(), 2)?;
+    store.reserve(1)?;
+    let made = literal(&mut store, 1);
+    assert!(rt; made.is_ok());
+    Ok(())
+}
+
+#[test]
 fn asks_of_functions(rt: HostRuntime) -> Result<(), Fail> {
     let mut store = Store::new(rt.alloc(), 2)?;
     let second = literal(&mut store, 1)?;

@@ -186,6 +186,12 @@ fn a_status_and_an_answer(rt: HostRuntime) -> Result<(), Fail> {
         ("prove", COMMENTED, 0, "p: true\nproved 1 of 1\n"),
         ("prove", "", 3, "fault 9 at line 1 column 1\n"),
         ("prove", UNDECLARED, 3, "fault 7 at line 2 column 6\n"),
+        (
+            "prove",
+            "module main() { x : boolean; x := y; }",
+            3,
+            "fault 7 at line 1 column 35\n",
+        ),
         ("prove", TWICE, 3, "fault 8 at line 1 column 30\n"),
         ("prove", WITHIN_ITSELF, 3, "fault 10 at line 1 column 21\n"),
         ("prove", MISCOUNTED, 3, "fault 11 at line 1 column 56\n"),
@@ -306,12 +312,8 @@ fn types_stand_up_to_10000_deep(rt: HostRuntime) -> Result<(), Fail> {
 
 // A signal over this many constants.
 fn constants(alloc: Global, count: u16) -> Result<String, AllocError> {
-    let mut text = String::from_str(alloc, "module main() { x : {c0")?;
-    for number in 1..count {
-        text.push_str(&format!(in alloc; ",c{number}")?)?;
-    }
-    text.push_str("}; }")?;
-    Ok(text)
+    let names = enumeration(alloc, count)?;
+    format!(in alloc; "module main() {{ x : {names}; }}")
 }
 
 // A signal over these index types.
@@ -329,6 +331,73 @@ fn statements(alloc: Global, count: u16) -> Result<String, AllocError> {
     format!(in alloc;
         "module main() {{ for (a = 0; a < 255; a = a + 1) for (b = 0; b < 255; b = b + 1) {{ }} for (c = 0; c < {count}; c = c + 1) {{ }} }}"
     )
+}
+
+// Whether this is the answer to a text, and its status that of a fault.
+fn is_refused(alloc: Global, text: &str, answer: &str) -> Result<bool, AllocError> {
+    let (status, written) = answered(alloc, "prove", text.as_bytes())?;
+    Ok(status == 3 && written.as_slice() == answer.as_bytes())
+}
+
+// This many signals.
+fn families(alloc: Global, count: u16) -> Result<String, AllocError> {
+    let mut text = String::from_str(alloc, "module main() { ")?;
+    for number in 0..count {
+        text.push_str(&format!(in alloc; "x{number} : boolean; ")?)?;
+    }
+    text.push_str("}")?;
+    Ok(text)
+}
+
+#[test]
+fn families_stand_up_to_4096(rt: HostRuntime) -> Result<(), Fail> {
+    let alloc = rt.alloc();
+    assert!(rt; is_refused(alloc, &families(alloc, 4096)?, NOT_DECIDED)?);
+    assert!(rt; is_refused(alloc, &families(alloc, 4097)?, TOO_LARGE)?);
+    Ok(())
+}
+
+// An enumeration of this many constants.
+fn enumeration(alloc: Global, count: u16) -> Result<String, AllocError> {
+    let mut text = String::from_str(alloc, "{c0")?;
+    for number in 1..count {
+        text.push_str(&format!(in alloc; ",c{number}")?)?;
+    }
+    text.push_str("}")?;
+    Ok(text)
+}
+
+// One list three times, in a type and in a module that are not used too.
+fn equal_lists(alloc: Global, count: u16) -> Result<String, AllocError> {
+    let names = enumeration(alloc, count)?;
+    format!(in alloc;
+        "module main() {{ x : {names}; }} typedef t {names}; module u() {{ y : {names}; }}"
+    )
+}
+
+// One more constant, beside those of a type that is not used.
+fn unused_type(alloc: Global, count: u16) -> Result<String, AllocError> {
+    let names = enumeration(alloc, count)?;
+    format!(in alloc; "module main() {{ x : {{d}}; }} typedef t {names};")
+}
+
+// The same of a module that is not used.
+fn unused_module(alloc: Global, count: u16) -> Result<String, AllocError> {
+    let names = enumeration(alloc, count)?;
+    format!(in alloc; "module main() {{ x : {{d}}; }} module u() {{ y : {names}; }}")
+}
+
+// Equal lists count once, and what is not used counts too.
+#[test]
+fn constants_of_the_whole_text_count(rt: HostRuntime) -> Result<(), Fail> {
+    let alloc = rt.alloc();
+    assert!(rt; is_refused(alloc, &equal_lists(alloc, 4096)?, NOT_DECIDED)?);
+    assert!(rt; is_refused(alloc, &equal_lists(alloc, 4097)?, TOO_LARGE)?);
+    assert!(rt; is_refused(alloc, &unused_type(alloc, 4095)?, NOT_DECIDED)?);
+    assert!(rt; is_refused(alloc, &unused_type(alloc, 4096)?, TOO_LARGE)?);
+    assert!(rt; is_refused(alloc, &unused_module(alloc, 4095)?, NOT_DECIDED)?);
+    assert!(rt; is_refused(alloc, &unused_module(alloc, 4096)?, TOO_LARGE)?);
+    Ok(())
 }
 
 const TRUE: &str = "p: true\nproved 1 of 1\n";

@@ -72,7 +72,11 @@ what_is_declared =
     -- a variable behind its binder
     (codes "module main() { x : array 0..1 of boolean; forall (i in 0..1) x[i] := 0; x[i] := 1; }", fault 7 75) ∷
     -- a variable in the type of its own binder
-    (codes "module main() { p : assert G (&[ 1 : i in i ]); }", fault 7 42) ∷ []
+    (codes "module main() { p : assert G (&[ 1 : i in i ]); }", fault 7 42) ∷
+    -- a module in a claim
+    (codes "module m() { } module main() { x : boolean; p : assert G (x | m); }", fault 7 62) ∷
+    -- a layer in itself
+    (codes "module main() { x : boolean; layer L : { x := L; } }", fault 7 46) ∷ []
 
 -- a field of something without fields; missing and additional indexes are left to kinds
 abbrev pub fields : List (List ℕ × Answer)
@@ -94,7 +98,9 @@ fields =
     -- a field in an array of a named type
     (codes "typedef t struct { a : boolean; }; module main() { x : array 0..1 of t; x[0].a := 0; x[0].b := 0; }", fault 7 90) ∷
     -- a field of a scalarset
-    (codes "scalarset P undefined; module main() { x : P; x.a := 0; }", fault 7 48) ∷ []
+    (codes "scalarset P undefined; module main() { x : P; x.a := 0; }", fault 7 48) ∷
+    -- a field of a split
+    (codes "module main() { p : assert G 1; subcase s of p for p = i; q : assert G s.a; }", fault 7 73) ∷ []
 
 -- a field of a signal whose type is not declared, and a name of an instance whose module is not declared
 abbrev pub behind_undeclared : List (List ℕ × Answer)
@@ -110,7 +116,11 @@ behind_undeclared =
     -- a constant is no name of a module
     (codes "module m() { a : {red}; } module main() { n : m(); x : {red}; x := n.red; }", fault 7 69) ∷
     -- a signal of an instance of an instance
-    (codes "module k() { a : struct { b : boolean; }; } module m() { n : k(); } module main() { n : m(); x : boolean; x := n.n.a.b & n.n.b; }", fault 7 125) ∷ []
+    (codes "module k() { a : struct { b : boolean; }; } module m() { n : k(); } module main() { n : m(); x : boolean; x := n.n.a.b & n.n.b; }", fault 7 125) ∷
+    -- the field of an element stands before the type
+    (codes "module main() { x[0].a := 0; x : array 0..1 of t; }", fault 7 21) ∷
+    -- the name stands before a type in place of a module
+    (codes "typedef t boolean; module main() { n.a := 0; n : t(); }", fault 7 37) ∷ []
 
 -- types stand before their uses, and modules in any order
 abbrev pub order_of_tops : List (List ℕ × Answer)
@@ -180,7 +190,19 @@ declared_twice =
     -- a variable and a later signal
     (codes "module main() { forall (i in 0..1) { } i : boolean; }", fault 8 39) ∷
     -- a variable and an earlier claim
-    (codes "module main() { p : assert G 1; layer L : { forall (p in 0..1) { } } }", fault 8 52) ∷ []
+    (codes "module main() { p : assert G 1; layer L : { forall (p in 0..1) { } } }", fault 8 52) ∷
+    -- a comprehension around a quantifier of the same variable
+    (codes "module main() { x : boolean; x := {i : i in 0..1, &[ i = 1 : i in 0..1 ]}; }", fault 8 61) ∷
+    -- a variable and a later instance
+    (codes "module m() { } module main() { forall (n in 0..1) { } n : m(); }", fault 8 54) ∷
+    -- a variable and an earlier instance
+    (codes "module m() { } module main() { n : m(); forall (n in 0..1) { } }", fault 8 48) ∷
+    -- a variable and a later split
+    (codes "module main() { p : assert G 1; forall (s in 0..1) { } subcase s of p for p = i; }", fault 8 63) ∷
+    -- a variable and an earlier split
+    (codes "module main() { p : assert G 1; subcase s of p for p = i; layer L : { for (s = 0; s < 1; s = s + 1) { } } }", fault 8 75) ∷
+    -- a variable and a later claim
+    (codes "module main() { forall (p in 0..1) { } p : assert G 1; }", fault 8 39) ∷ []
 
 -- the list of a module declares nothing
 abbrev pub formals : List (List ℕ × Answer)
@@ -206,7 +228,11 @@ formals =
     -- an argument that is not declared
     (codes "module m(a) { input a : boolean; } module main() { n : m(x); }", fault 7 57) ∷
     -- an undeclared argument of a wrong number: the earlier place
-    (codes "module m(a) { input a : boolean; } module main() { n : m(x, x); }", fault 11 55) ∷ []
+    (codes "module m(a) { input a : boolean; } module main() { n : m(x, x); }", fault 11 55) ∷
+    -- the list declares nothing: of a variable and the declaration the later is that of the body
+    (codes "module m(a) { forall (a in 0..1) { } input a : boolean; } module main() { }", fault 8 43) ∷
+    -- the same of a constant
+    (codes "module m(red) { c : {red}; input red : boolean; } module main() { }", fault 8 33) ∷ []
 
 -- a constant is known in the whole text and belongs to one list
 abbrev pub constants_of_lists : List (List ℕ × Answer)
@@ -230,7 +256,27 @@ constants_of_lists =
     -- a variable and a later constant
     (codes "module main() { forall (red in 0..1) { } c : {red}; }", fault 8 46) ∷
     -- a constant beside a type, a module, a layer and a field of its name
-    (codes "typedef t {t, m, L, f}; module m() { } module main() { x : struct { f : boolean; }; layer L : { x.f := 0; } }", valid) ∷ []
+    (codes "typedef t {t, m, L, f}; module m() { } module main() { x : struct { f : boolean; }; layer L : { x.f := 0; } }", valid) ∷
+    -- the last of three constants in one list
+    (codes "typedef t {a, b, a}; module main() { }", fault 8 17) ∷
+    -- a constant and an earlier signal of another module
+    (codes "module m() { red : boolean; } module main() { c : {red}; }", fault 8 51) ∷
+    -- a constant and a later claim
+    (codes "typedef t {p}; module main() { p : assert G 1; }", fault 8 31) ∷
+    -- a constant and a later instance
+    (codes "module m() { } module main() { c : {n}; n : m(); }", fault 8 40) ∷
+    -- a constant and an earlier instance
+    (codes "module m() { } module main() { n : m(); } typedef t {n};", fault 8 53) ∷
+    -- a constant and a later split
+    (codes "typedef t {s}; module main() { p : assert G 1; subcase s of p for p = i; }", fault 8 55) ∷
+    -- a constant and an earlier split
+    (codes "module main() { p : assert G 1; subcase s of p for p = i; c : {red, s}; }", fault 8 68) ∷
+    -- a constant and an earlier variable of another module
+    (codes "module m() { forall (red in 0..1) { } } module main() { c : {red}; }", fault 8 61) ∷
+    -- the first place of a constant counts
+    (codes "module m() { red : boolean; } typedef t {red}; module main() { c : {red}; }", fault 8 41) ∷
+    -- constants beside a scalarset, modules, layers and fields of their names
+    (codes "scalarset P undefined; typedef t {P, main, f, L}; module main() { x : struct { f, P : boolean; }; layer L : { x.P := 0; } layer main : { x.f := 1; } }", valid) ∷ []
 
 -- each instance from whose module its own module is reached
 abbrev pub recursion : List (List ℕ × Answer)
@@ -288,4 +334,12 @@ sizes =
     -- one more
     (codes "module m(a) { input a : boolean; layer L : { for (b = 0; b < 253; b = b + 1) { } } } module main() { x : boolean; for (a = 0; a < 255; a = a + 1) for (b = 0; b < 255; b = b + 1) { } n : m(x); }", fault 25 92) ∷
     -- a `for` without a turn counts once
-    (codes "module main() { for (a = 3; a < 2; a = a + 1) for (b = 0; b < 511; b = b + 1) for (c = 0; c < 511; c = c + 1) { } }", valid) ∷ []
+    (codes "module main() { for (a = 3; a < 2; a = a + 1) for (b = 0; b < 511; b = b + 1) for (c = 0; c < 511; c = c + 1) { } }", valid) ∷
+    -- an array over a struct counts as an index
+    (codes "typedef t struct { f : boolean; }; module main() { x : array t of array t of array t of array t of array t of boolean; }", fault 25 42) ∷
+    -- an enumeration does not count into the product
+    (codes "typedef t {a, b, c}; module main() { x : array t of array 0..255 of boolean; }", valid) ∷
+    -- the turns of a `for` without a turn do not count: 65,536 again
+    (codes "module main() { for (a = 0; a < 255; a = a + 1) for (b = 0; b < 255; b = b + 1) { } for (c = 0; c < 253; c = c + 1) { } for (d = 1; d < 1; d = d + 1) for (e = 0; e < 511; e = e + 1) { } }", valid) ∷
+    -- one more
+    (codes "module main() { for (a = 0; a < 255; a = a + 1) for (b = 0; b < 255; b = b + 1) { } for (c = 0; c < 254; c = c + 1) { } for (d = 1; d < 1; d = d + 1) for (e = 0; e < 511; e = e + 1) { } }", fault 25 7) ∷ []

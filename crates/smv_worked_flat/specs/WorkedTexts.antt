@@ -81,7 +81,9 @@ loops =
     -- a loop in a loop
     (codes "module main() { x : array 0..1 of array 0..1 of boolean; for (a = 0; a < 2; a = a + 1) for (b = 0; b < 1; b = b + 1) { } }", outside (Block (Block (Block [] ∷ []) ∷ Block (Block [] ∷ []) ∷ [])) ∷ []) ∷
     -- a variable's number is how many variables are bound around; that of a `for` does not count
-    (codes "module main() { x : array 0..1 of array 0..1 of array 0..1 of boolean; forall (i in 0..1) for (k = 0; k < 2; k = k + 1) forall (j in 0..1) x[i][k][j] := j; }", outside (Forall 0 (Range 0 1) (Block (Forall 1 (Range 0 1) (Assign Comb 0 (Var 0 141 ∷ Loop 0 144 ∷ Var 1 147 ∷ []) (Var 1 153) 139) ∷ Forall 1 (Range 0 1) (Assign Comb 0 (Var 0 141 ∷ Loop 1 144 ∷ Var 1 147 ∷ []) (Var 1 153) 139) ∷ []))) ∷ []) ∷ []
+    (codes "module main() { x : array 0..1 of array 0..1 of array 0..1 of boolean; forall (i in 0..1) for (k = 0; k < 2; k = k + 1) forall (j in 0..1) x[i][k][j] := j; }", outside (Forall 0 (Range 0 1) (Block (Forall 1 (Range 0 1) (Assign Comb 0 (Var 0 141 ∷ Loop 0 144 ∷ Var 1 147 ∷ []) (Var 1 153) 139) ∷ Forall 1 (Range 0 1) (Assign Comb 0 (Var 0 141 ∷ Loop 1 144 ∷ Var 1 147 ∷ []) (Var 1 153) 139) ∷ []))) ∷ []) ∷
+    -- what stands in a `for` without a turn is left out
+    (codes "module main() { x : boolean; for (i = 2; i <= 1; i = i + 1) { x := 0; x := 1; } x := 1; }", outside (Block []) ∷ outside (Assign Comb 0 [] (Number 1 85) 80) ∷ []) ∷ []
 
 -- a `switch` is a chain of `If`, and what is missing is an empty block
 abbrev pub switches : List (List ℕ × List FlatItem)
@@ -95,7 +97,9 @@ switches =
     -- an `if` with and without `else`
     (codes "module main() { x, y : boolean; if (x) y := 1; if (x) y := 0; else y := x; }", outside (If (Read 0 [] 36) (Assign Comb 1 [] (Number 1 44) 39) (Block [])) ∷ outside (If (Read 0 [] 51) (Assign Comb 1 [] (Number 0 59) 54) (Assign Comb 1 [] (Read 0 [] 72) 67)) ∷ []) ∷
     -- a `default`, `init`, `next` and a block: the place of an assignment is its first byte
-    (codes "module main() { x, y : boolean; default { init(x) := 0; next(x) := y; } in if (y) next(x) := 1; }", outside (Default (Block (Assign Init 0 [] (Number 0 53) 42 ∷ Assign Next 0 [] (Read 1 [] 67) 56 ∷ [])) (If (Read 1 [] 79) (Assign Next 0 [] (Number 1 93) 82) (Block []))) ∷ []) ∷ []
+    (codes "module main() { x, y : boolean; default { init(x) := 0; next(x) := y; } in if (y) next(x) := 1; }", outside (Default (Block (Assign Init 0 [] (Number 0 53) 42 ∷ Assign Next 0 [] (Read 1 [] 67) 56 ∷ [])) (If (Read 1 [] 79) (Assign Next 0 [] (Number 1 93) 82) (Block []))) ∷ []) ∷
+    -- no arm, as a branch: what it is on is not read
+    (codes "module main() { x, y : boolean; if (x) switch (y) { } else y := x; }", outside (If (Read 0 [] 36) (Block []) (Assign Comb 1 [] (Read 0 [] 64) 59)) ∷ []) ∷ []
 
 -- one Act for each statement of a layer or outside, inside a `Forall` for each binder around it
 abbrev pub layers_and_binders : List (List ℕ × List FlatItem)

@@ -82,7 +82,9 @@ no_signals =
     -- a constant on the left
     (codes "module main() { c : {red}; c := red; red := red; }", fault 12 37) ∷
     -- a variable on the left
-    (codes "module main() { forall (i in 0..1) i := i; }", fault 12 35) ∷ []
+    (codes "module main() { forall (i in 0..1) i := i; }", fault 12 35) ∷
+    -- a split as a value
+    (codes "module main() { x : boolean; p : assert G 1; subcase s of p for x = i; x := s; }", fault 12 76) ∷ []
 
 -- an operand that is itself at fault has no kind and causes no further fault; one made of others keeps its kind
 abbrev pub own_faults : List (List ℕ × Answer)
@@ -158,7 +160,9 @@ comprehensions =
     -- in a split
     (codes "module main() { p : assert G 1; forall (i in 0..1) subcase s[i] of p for {0} = i; }", fault 14 73) ∷
     -- as a branch
-    (codes "module main() { x : boolean; x := x ? {i : i in 0..1} : {i : i in boolean, ~i}; }", valid) ∷ []
+    (codes "module main() { x : boolean; x := x ? {i : i in 0..1} : {i : i in boolean, ~i}; }", valid) ∷
+    -- right of `in`, numbers beside a constant
+    (codes "module main() { c : {red}; p : assert G (c in {i : i in 0..1}); }", fault 14 46) ∷ []
 
 -- a range goes from below to above, and in a type or a scalarset to 255 at most
 abbrev pub ranges : List (List ℕ × Answer)
@@ -206,7 +210,9 @@ ranges_in_expressions =
     -- the body of a quantifier comes before its range
     (codes "module main() { c : {red}; p : assert G &[ red : i in 3..2 ]; }", fault 12 43) ∷
     -- the numbers of a `for` are no range
-    (codes "module main() { y : array 0..1 of boolean; for (n = 400; n < 300; n = n + 1) y[n] := 0; }", valid) ∷ []
+    (codes "module main() { y : array 0..1 of boolean; for (n = 400; n < 300; n = n + 1) y[n] := 0; }", valid) ∷
+    -- members above 255 in branches
+    (codes "module main() { x : 0..3; x := x = 0 ? {256..256} : {1, 300..511}; }", valid) ∷ []
 
 -- an index type is a range or a set type
 abbrev pub index_types : List (List ℕ × Answer)
