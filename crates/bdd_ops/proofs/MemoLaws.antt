@@ -5,7 +5,7 @@ use Rattle.std.specs.List.{IsDistinct, AllByRecursion}
 use Rattle.std.specs.Map.{lookup}
 use Rattle.std.proofs.lemmas.Bool.Decides.{nat_tests}
 use Rattle.bdd_store.specs.declared.Ref.{Ref}
-use Rattle.bdd_store.specs.Diagram.{Diagram, IsLive, IsSound, IsProper, Reaches, Keeps, table, first_var, beads}
+use Rattle.bdd_store.specs.Diagram.{Diagram, IsLive, IsSound, IsProper, Keeps, table, first_var, beads}
 use Rattle.bdd_ops.specs.Functions.{Function}
 use Rattle.memo_table.specs.Results.{Results, same_pair, result_of}
 use Rattle.bdd_ops.specs.Memo.{joined, same_one, IsJoin, IsImage, AreJoins, AreImages}

@@ -1,19 +1,18 @@
 -- How the new results of two calls are joined, and that there are few.
-use Rattle.std.proofs.Common.{◌≡◌, ℕ, suc, ◌+◌, ◌*◌, ◌<◌, ◌≤◌, Bool, true, false, ◌⊎◌, inl, inr, cond, List, [], ◌∷◌, ◌++◌, length, Option, Some, None, Result, Ok, Err, IsErr, is_ok, refl, sym, ◌∙◌, ap, subst, arith}
+use Rattle.std.proofs.Common.{◌≡◌, ℕ, ◌+◌, ◌*◌, ◌<◌, ◌≤◌, Bool, true, false, ◌⊎◌, inl, inr, cond, List, [], ◌∷◌, ◌++◌, length, Some, None, Result, Ok, Err, IsErr, is_ok, refl, sym, ◌∙◌, ap, subst, arith}
 use Rattle.std.specs.List.{IsDistinct, AllByRecursion}
 use Rattle.std.specs.Map.{lookup}
 use Rattle.std.proofs.lemmas.List.{length-append}
 use Rattle.bdd_store.specs.declared.Ref.{Ref}
 use Rattle.bdd_store.specs.declared.Operation.{Operation}
-use Rattle.bdd_store.specs.Diagram.{Diagram, IsLive, IsSound, IsProper, Reaches, Keeps, first_var, beads}
+use Rattle.bdd_store.specs.Diagram.{Diagram, IsLive, IsSound, IsProper, Reaches, Keeps, beads}
 use Rattle.bdd_store.specs.declared.results.Entry.{Entry}
 use Rattle.bdd_store.specs.Sure.{IsSure}
 use Rattle.bdd_store.proofs.Laws.{reaches_self}
 use Rattle.bdd_store.proofs.Few.{IsPairBelow, few_pairs_below}
 use Rattle.memo_table.specs.Results.{Results, same_pair, result_of}
-use Rattle.bdd_ops.specs.Memo.{same_one, pair_first}
+use Rattle.bdd_ops.specs.Memo.{pair_first}
 use Rattle.bdd_ops.specs.News.{State, IsFound, IsNew, News, SamePair}
-use Rattle.bdd_ops.proofs.FewOnes.{IsBelow, few_ones_below}
 use Rattle.bdd_ops.proofs.MemoLaws.{proper_kept, pair_test, IsTwiceBelow, few_twice}
 
 pub all_map : {K : Type 0} (P Q : K → Type 0) → ((x : K) → P x → Q x) → (xs : List K) → AllByRecursion P xs → AllByRecursion Q xs

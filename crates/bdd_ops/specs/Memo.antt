@@ -2,11 +2,9 @@
 use Rattle.std.specs.Prelude.{◌≡◌, ℕ, ◌-◌, ◌+◌, ◌≤◌, Bool, true, ◌&&◌, ◌||◌, ◌==◌, not, if◌then◌else◌, min, IfSome, List}
 use Rattle.std.specs.declared.hash.FoldHasher.{FoldHasher}
 use Rattle.std.specs.declared.hash.BuildHasherDefault.{BuildHasherDefault}
-use Rattle.std.specs.List.{IsDistinct}
-use Rattle.std.specs.Map.{keys_of}
 use Rattle.std.specs.HashSet.{contains, HashSet}
 use Rattle.bdd_store.specs.declared.Ref.{Ref}
-use Rattle.bdd_store.specs.Diagram.{Diagram, IsLive, IsProper, Reaches, table, first_var}
+use Rattle.bdd_store.specs.Diagram.{Diagram, IsLive, IsProper, table, first_var}
 use Rattle.memo_table.specs.Results.{Results, same_pair, result_of}
 use Rattle.bdd_ops.specs.Functions.{Function, depends, bit_at}
 

@@ -109,12 +109,12 @@ fn keep(
 
 /// The operation of a join.
 #[inline(always)]
-fn joining(unit: bool, f: Ref, g: Ref) -> Operation
-    ensures is { result ≡ join_of unit (f, g) }
+fn joining<const UNIT: bool>(f: Ref, g: Ref) -> Operation
+    ensures is { result ≡ join_of UNIT (f, g) }
     ensures operands { (d : Diagram) → IsLive d f → IsLive d g → AreOperands d result }
-    ensures made { (d : Diagram) (a : ℕ → Bool) → made d result a ≡ joined unit (table d f a) (table d g a) }
+    ensures made { (d : Diagram) (a : ℕ → Bool) → made d result a ≡ joined UNIT (table d f a) (table d g a) }
 {
-    if unit {
+    if UNIT {
         Operation::And(f, g)
     } else {
         Operation::Or(f, g)
@@ -123,27 +123,25 @@ fn joining(unit: bool, f: Ref, g: Ref) -> Operation
 
 /// The operation of a change.
 #[inline(always)]
-fn changing(back: u32, flip: bool, f: Ref) -> Operation
-    requires { back ≡ (if flip then 0 else 1) }
-    ensures is { result ≡ change_of flip (f, f) }
+fn changing<const BACK: u32, const FLIP: bool>(f: Ref) -> Operation
+    requires { BACK ≡ (if FLIP then 0 else 1) }
+    ensures is { result ≡ change_of FLIP (f, f) }
     ensures operands { (d : Diagram) → IsLive d f → AreOperands d result }
-    ensures made { (d : Diagram) (a : ℕ → Bool) → made d result a ≡ changed back flip (table d f) a }
+    ensures made { (d : Diagram) (a : ℕ → Bool) → made d result a ≡ changed BACK FLIP (table d f) a }
 {
-    let _ = back;
-    if flip {
+    if FLIP {
         Operation::Not(f)
     } else {
         Operation::Rename(f)
     }
 }
 
-/// The conjunction where `unit` is true, and else the disjunction.
-fn join_from(
+/// The conjunction where `UNIT` is true, and else the disjunction.
+fn join_from<const UNIT: bool>(
     store: &mut Store,
     known: &mut Known,
     memo: &mut Memo,
     turn: u32,
-    unit: bool,
     f: Ref,
     g: Ref,
 ) -> Result<Ref, AllocError>
@@ -151,27 +149,27 @@ fn join_from(
     requires g_live { IsLive store.old g }
     requires sound { IsSound store.old }
     requires known { AreResults store.old known.old }
-    requires memo { AreJoins unit store.old memo.old }
+    requires memo { AreJoins UNIT store.old memo.old }
     ensures live { IfOk result (λ r. IsLive store.new r) }
     ensures first { IfOk result (λ r. min (first_var store.old f) (first_var store.old g) ≤ first_var store.new r) }
-    ensures table { IfOk result (λ r. (a : ℕ → Bool) → table store.new r a ≡ joined unit (table store.old f a) (table store.old g a)) }
+    ensures table { IfOk result (λ r. (a : ℕ → Bool) → table store.new r a ≡ joined UNIT (table store.old f a) (table store.old g a)) }
     ensures fresh { IfOk result (IsFreshBelow store.old store.new) }
     ensures keeps { Keeps store.old store.new }
     ensures sound { IsSound store.new }
     ensures known { AreResults store.new known.new }
-    ensures memo { AreJoins unit store.new memo.new }
-    ensures news { News (join_of unit) AnyPair turn (store.old, (known.old, memo.old)) (store.new, (known.new, memo.new)) f g (min (first_var store.old f) (first_var store.old g)) (if is_ok result then 0 else 1) }
+    ensures memo { AreJoins UNIT store.new memo.new }
+    ensures news { News (join_of UNIT) AnyPair turn (store.old, (known.old, memo.old)) (store.new, (known.new, memo.new)) f g (min (first_var store.old f) (first_var store.old g)) (if is_ok result then 0 else 1) }
 {
     if let Some(x) = store.is_constant(f) {
-        return Ok(if x == unit { g } else { f });
+        return Ok(if x == UNIT { g } else { f });
     }
     if let Some(x) = store.is_constant(g) {
-        return Ok(if x == unit { f } else { g });
+        return Ok(if x == UNIT { f } else { g });
     }
     if f == g {
         return Ok(f);
     }
-    let operation = joining(unit, f, g);
+    let operation = joining::<UNIT>(f, g);
     match known.recall(operation) {
         Some(r) => {
             known.note_hit();
@@ -188,43 +186,41 @@ fn join_from(
     let var = f_var.min(g_var);
     let (f_low, f_high) = split(store, f, var);
     let (g_low, g_high) = split(store, g, var);
-    let low = join_from(store, known, memo, turn, unit, f_low, g_low)?;
-    let high = join_from(store, known, memo, turn, unit, f_high, g_high)?;
+    let low = join_from::<UNIT>(store, known, memo, turn, f_low, g_low)?;
+    let high = join_from::<UNIT>(store, known, memo, turn, f_high, g_high)?;
     let r = result_node(store, operation, var, low, high)?;
     keep(known, memo, turn, operation, f, g, r)?;
     Ok(r)
 }
 
-/// The function with each variable replaced by that which stands `back` before it, and negated where `flip` is true.
-fn change_from(
+/// The function with each variable replaced by that which stands `BACK` before it, and negated where `FLIP` is true.
+fn change_from<const BACK: u32, const FLIP: bool>(
     store: &mut Store,
     known: &mut Known,
     memo: &mut Memo,
     turn: u32,
-    back: u32,
-    flip: bool,
     f: Ref,
 ) -> Result<Ref, AllocError>
-    requires back { back ≡ (if flip then 0 else 1) }
+    requires back { BACK ≡ (if FLIP then 0 else 1) }
     requires live { IsLive store.old f }
-    requires later { IsProper store.old f → back ≤ first_var store.old f }
+    requires later { IsProper store.old f → BACK ≤ first_var store.old f }
     requires sound { IsSound store.old }
     requires known { AreResults store.old known.old }
-    requires memo { AreImages (changed back flip) back store.old memo.old }
+    requires memo { AreImages (changed BACK FLIP) BACK store.old memo.old }
     ensures live { IfOk result (λ r. IsLive store.new r) }
-    ensures first { IfOk result (λ r. first_var store.old f ≤ first_var store.new r + back) }
-    ensures table { IfOk result (λ r. (a : ℕ → Bool) → table store.new r a ≡ changed back flip (table store.old f) a) }
+    ensures first { IfOk result (λ r. first_var store.old f ≤ first_var store.new r + BACK) }
+    ensures table { IfOk result (λ r. (a : ℕ → Bool) → table store.new r a ≡ changed BACK FLIP (table store.old f) a) }
     ensures fresh { IfOk result (IsFreshBelow store.old store.new) }
     ensures keeps { Keeps store.old store.new }
     ensures sound { IsSound store.new }
     ensures known { AreResults store.new known.new }
-    ensures memo { AreImages (changed back flip) back store.new memo.new }
-    ensures news { News (change_of flip) SamePair turn (store.old, (known.old, memo.old)) (store.new, (known.new, memo.new)) f f (first_var store.old f) (if is_ok result then 0 else 1) }
+    ensures memo { AreImages (changed BACK FLIP) BACK store.new memo.new }
+    ensures news { News (change_of FLIP) SamePair turn (store.old, (known.old, memo.old)) (store.new, (known.new, memo.new)) f f (first_var store.old f) (if is_ok result then 0 else 1) }
 {
     if let Some(x) = store.is_constant(f) {
-        return Ok(store.constant(x != flip));
+        return Ok(store.constant(x != FLIP));
     }
-    let operation = changing(back, flip, f);
+    let operation = changing::<BACK, FLIP>(f);
     match known.recall(operation) {
         Some(r) => {
             known.note_hit();
@@ -239,9 +235,9 @@ fn change_from(
     let var = store.var(f);
     let f_low = store.low(f);
     let f_high = store.high(f);
-    let low = change_from(store, known, memo, turn, back, flip, f_low)?;
-    let high = change_from(store, known, memo, turn, back, flip, f_high)?;
-    let r = result_node(store, operation, var - back, low, high)?;
+    let low = change_from::<BACK, FLIP>(store, known, memo, turn, f_low)?;
+    let high = change_from::<BACK, FLIP>(store, known, memo, turn, f_high)?;
+    let r = result_node(store, operation, var - BACK, low, high)?;
     keep(known, memo, turn, operation, f, f, r)?;
     Ok(r)
 }
@@ -281,7 +277,7 @@ fn exists_from(
     let f_low = store.low(f);
     let f_high = store.high(f);
     if first == var {
-        return join_from(store, known, joins, turn, false, f_low, f_high);
+        return join_from::<false>(store, known, joins, turn, f_low, f_high);
     }
     let operation = Operation::Exists(f, var);
     match known.recall(operation) {
@@ -302,12 +298,11 @@ fn exists_from(
     Ok(r)
 }
 
-/// The conjunction where `unit` is true, and else the disjunction.
-fn join(
+/// The conjunction where `UNIT` is true, and else the disjunction.
+fn join<const UNIT: bool>(
     alloc: Global,
     store: &mut Store,
     known: &mut Known,
-    unit: bool,
     f: Ref,
     g: Ref,
 ) -> Result<Ref, AllocError>
@@ -316,7 +311,7 @@ fn join(
     requires known { AreResults store.old known.old }
     ensures live { IfOk result (λ r. IsLive store.new r) }
     ensures first { IfOk result (λ r. min (first_var store.old f) (first_var store.old g) ≤ first_var store.new r) }
-    ensures table { IfOk result (λ r. (a : ℕ → Bool) → table store.new r a ≡ joined unit (table store.old f a) (table store.old g a)) }
+    ensures table { IfOk result (λ r. (a : ℕ → Bool) → table store.new r a ≡ joined UNIT (table store.old f a) (table store.old g a)) }
     ensures keeps { Keeps store.old store.new }
     ensures sound { IsSound store.new }
     ensures calls { store.new.calls ≤ store.old.calls + (beads store.old f + 2) * (beads store.old g + 2) }
@@ -327,25 +322,23 @@ fn join(
     let _ = store.vars();
     let mut memo = Memo::new(alloc);
     let turn = turn(store);
-    join_from(store, known, &mut memo, turn, unit, f, g)
+    join_from::<UNIT>(store, known, &mut memo, turn, f, g)
 }
 
-/// The function with each variable replaced by that which stands `back` before it, and negated where `flip` is true.
-fn change(
+/// The function with each variable replaced by that which stands `BACK` before it, and negated where `FLIP` is true.
+fn change<const BACK: u32, const FLIP: bool>(
     alloc: Global,
     store: &mut Store,
     known: &mut Known,
-    back: u32,
-    flip: bool,
     f: Ref,
 ) -> Result<Ref, AllocError>
-    requires back { back ≡ (if flip then 0 else 1) }
+    requires back { BACK ≡ (if FLIP then 0 else 1) }
     requires live { IsLive store.old f }
-    requires later { IsProper store.old f → back ≤ first_var store.old f }
+    requires later { IsProper store.old f → BACK ≤ first_var store.old f }
     requires known { AreResults store.old known.old }
     ensures live { IfOk result (λ r. IsLive store.new r) }
-    ensures first { IfOk result (λ r. first_var store.old f ≤ first_var store.new r + back) }
-    ensures table { IfOk result (λ r. (a : ℕ → Bool) → table store.new r a ≡ changed back flip (table store.old f) a) }
+    ensures first { IfOk result (λ r. first_var store.old f ≤ first_var store.new r + BACK) }
+    ensures table { IfOk result (λ r. (a : ℕ → Bool) → table store.new r a ≡ changed BACK FLIP (table store.old f) a) }
     ensures keeps { Keeps store.old store.new }
     ensures sound { IsSound store.new }
     ensures calls { store.new.calls ≤ store.old.calls + (beads store.old f + 2) }
@@ -356,7 +349,7 @@ fn change(
     let _ = store.vars();
     let mut memo = Memo::new(alloc);
     let turn = turn(store);
-    change_from(store, known, &mut memo, turn, back, flip, f)
+    change_from::<BACK, FLIP>(store, known, &mut memo, turn, f)
 }
 
 /// The disjunction of the function with the variable at 0 and with it at 1.
@@ -400,7 +393,7 @@ pub fn and(alloc: Global, store: &mut Store, f: Ref, g: Ref) -> Result<Ref, Allo
     ensures held { IfOk result (λ r. held store.new ≤ held store.old + beads store.new r) }
 {
     let mut known = store.lend();
-    let answer = join(alloc, store, &mut known, true, f, g);
+    let answer = join::<true>(alloc, store, &mut known, f, g);
     store.take_back(known);
     let _ = store.vars();
     answer
@@ -421,7 +414,7 @@ pub fn or(alloc: Global, store: &mut Store, f: Ref, g: Ref) -> Result<Ref, Alloc
     ensures held { IfOk result (λ r. held store.new ≤ held store.old + beads store.new r) }
 {
     let mut known = store.lend();
-    let answer = join(alloc, store, &mut known, false, f, g);
+    let answer = join::<false>(alloc, store, &mut known, f, g);
     store.take_back(known);
     let _ = store.vars();
     answer
@@ -441,7 +434,7 @@ pub fn not(alloc: Global, store: &mut Store, f: Ref) -> Result<Ref, AllocError>
     ensures held { IfOk result (λ r. held store.new ≤ held store.old + beads store.new r) }
 {
     let mut known = store.lend();
-    let answer = change(alloc, store, &mut known, 0, true, f);
+    let answer = change::<0, true>(alloc, store, &mut known, f);
     store.take_back(known);
     let _ = store.vars();
     answer
@@ -462,7 +455,7 @@ pub fn rename(alloc: Global, store: &mut Store, f: Ref) -> Result<Ref, AllocErro
     ensures held { IfOk result (λ r. held store.new ≤ held store.old + beads store.new r) }
 {
     let mut known = store.lend();
-    let answer = change(alloc, store, &mut known, 1, false, f);
+    let answer = change::<1, false>(alloc, store, &mut known, f);
     store.take_back(known);
     let _ = store.vars();
     answer

@@ -3,10 +3,10 @@ use Rattle.std.proofs.Common.{◌≡◌, ◌≢◌, ℕ, zero, suc, ◌<◌, ◌
 use Rattle.std.proofs.lemmas.Bool.{cases_lt}
 use Rattle.std.proofs.lemmas.Bool.Decides.{nat_tests}
 use Rattle.std.proofs.lemmas.Nat.{and_le_r, pow_pos}
-use Rattle.std.specs.Prelude.{nat_lt, ◌/◌, ◌^◌, ◌-◌}
+use Rattle.std.specs.Prelude.{nat_lt, ◌+◌, ◌*◌, ◌-◌}
 use Rattle.bdd_store.specs.declared.chains.Node.{Node}
 use Rattle.bdd_store.specs.Graph.{var_at, low_at, high_at, next_at}
-use Rattle.bdd_store.specs.Chains.{mixed_of, bucket_of, home, start, after, InChain, IsFalling, IsPower, Chained}
+use Rattle.bdd_store.specs.Chains.{bucket_of, home, start, after, InChain, IsFalling, IsPower, Chained}
 
 pub cases_eq : (k b : ℕ) → (k ≡ b) ⊎ (k ≢ b)
 cases_eq k b = elim (cases_lt k b) [ inl below ↦ inr (λ e. omega arith) | inr above ↦ elim (cases_lt b k) [ inl over ↦ inr (λ e. omega arith) | inr le ↦ inl (omega arith) ] ]
@@ -90,7 +90,7 @@ power_pos m power = omega (arith, power.1, pow_pos power.0)
 
 pub bucket_lt : (var low high len : ℕ) → 0 < len → bucket_of var low high len < len
 unfolding bucket_of
-bucket_lt var low high len pos = omega (arith, and_le_r (mixed_of var low high / 2 ^ 32) (len - 1))
+bucket_lt var low high len pos = omega (arith, and_le_r (low + 37 * high + 0x1E37_79B1 * var) (len - 1))
 
 -- the home of a node, and of a place that was given back
 pub home_node : (n : ℕ) (ns : List Node) (len r : ℕ) → var_at ns r < n → home n ns len r ≡ bucket_of (var_at ns r) (low_at ns r) (high_at ns r) len

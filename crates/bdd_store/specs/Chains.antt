@@ -1,6 +1,6 @@
 -- How a Store keeps its nodes: each place past the constants stands once, in the chain that is its home. That of a
 -- node is named by its hash; that of a place that was given back is the free list. Places fall along each chain.
-use Rattle.std.specs.Prelude.{◌≡◌, ◌≢◌, ℕ, zero, suc, ◌+◌, ◌*◌, ◌-◌, ◌%◌, ◌/◌, ◌^◌, ◌<◌, ◌≤◌, ◌⊎◌, Bool, true, false, List, length, slice_index_or, bit_and, nat_lt, if◌then◌else◌}
+use Rattle.std.specs.Prelude.{◌≡◌, ◌≢◌, ℕ, zero, suc, ◌+◌, ◌*◌, ◌-◌, ◌^◌, ◌<◌, ◌≤◌, ◌⊎◌, Bool, true, false, List, length, slice_index_or, bit_and, nat_lt, if◌then◌else◌}
 use Rattle.std.specs.List.{count_by}
 use Rattle.bdd_store.specs.declared.chains.Node.{Node}
 use Rattle.bdd_store.specs.declared.results.Entry.{Entry}
@@ -8,13 +8,10 @@ use Rattle.bdd_store.specs.Seen.{flag}
 use Rattle.bdd_store.specs.Results.{AreResults, diagram_of}
 use Rattle.bdd_store.specs.Graph.{node_at, var_at, low_at, high_at, next_at, Live, Reduced}
 
--- a number that depends on all digits of its three
-unfoldable pub mixed_of : ℕ → ℕ → ℕ → ℕ
-mixed_of var low high = (((low * 0x9E37_79B9_7F4A_7C15) % 2 ^ 64 + (high * 0xC2B2_AE3D_27D4_EB4F) % 2 ^ 64) % 2 ^ 64 + (var * 0x1656_67B1_9E37_79F9) % 2 ^ 64) % 2 ^ 64
-
--- the chain of a node among len chains
+-- the chain of a node among len chains: nodes of one variable whose children stand close to each other have chains
+-- that do, too
 unfoldable pub bucket_of : ℕ → ℕ → ℕ → ℕ → ℕ
-bucket_of var low high len = bit_and (mixed_of var low high / 2 ^ 32) (len - 1)
+bucket_of var low high len = bit_and (low + 37 * high + 0x1E37_79B1 * var) (len - 1)
 
 -- a power of two
 abbrev pub IsPower : ℕ → Type 0

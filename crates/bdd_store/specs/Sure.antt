@@ -1,6 +1,5 @@
 -- Which results stay for a turn.
 use Rattle.std.specs.Prelude.{◌≡◌, ℕ, ◌<◌, List, length}
-use Rattle.bdd_store.specs.declared.Ref.{Ref}
 use Rattle.bdd_store.specs.declared.Operation.{Operation}
 use Rattle.bdd_store.specs.declared.Operation.TheVariants.{And, Or, Not, Rename, Exists}
 use Rattle.bdd_store.specs.declared.results.Entry.{Entry}

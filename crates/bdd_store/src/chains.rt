@@ -22,11 +22,8 @@ pub fn bucket_of(var: u32, low: u32, high: u32, len: usize) -> usize
     ensures bucket { result ≡ bucket_of var low high len }
     ensures within { result < len }
 {
-    let mixed = (low as u64)
-        .wrapping_mul(0x9E37_79B9_7F4A_7C15)
-        .wrapping_add((high as u64).wrapping_mul(0xC2B2_AE3D_27D4_EB4F))
-        .wrapping_add((var as u64).wrapping_mul(0x1656_67B1_9E37_79F9));
-    ((mixed >> 32) as usize) & (len - 1)
+    let mixed = low as usize + 37 * (high as usize) + 0x1E37_79B1 * (var as usize);
+    mixed & (len - 1)
 }
 
 /// The place in the chain from `start` that has this node, or 0.
@@ -129,6 +126,7 @@ pub fn link_all(nodes: &mut Vec<Node>, heads: &mut Vec<u32>, vars: u32) -> u32
 }
 
 /// Makes four times as many chains, where there is memory for that, and gives the first place of the free list.
+#[inline(never)]
 pub fn grow(nodes: &mut Vec<Node>, heads: &mut Vec<u32>, free: u32, vars: u32) -> u32
     requires chained { Chained vars nodes.old.items heads.old.items free (AllOf nodes.old.items) }
     requires some { 2 ≤ vec_len nodes.old }

@@ -65,8 +65,9 @@ pub struct Store {
     marks: Vec<bool>,
     marked: usize,
     results: Vec<Entry>,
-    puts: usize,
-    hits: usize,
+    // How many calls there were when results were last counted, and how many were of use since.
+    counted: u64,
+    hits: u64,
 }
 
 impl Model for Store {
@@ -111,7 +112,7 @@ impl Store {
             marks: vec![in alloc; false; 2]?,
             marked: 0,
             results: Vec::new(alloc),
-            puts: 0,
+            counted: 0,
             hits: 0,
         })
     }
@@ -404,16 +405,14 @@ impl Store {
         ensures known { AreResults self.new result }
     {
         let has = self.results.len();
-        let places = wanted(has, self.puts, self.hits, self.heads.len());
-        let (puts, hits) = counted(has, self.puts, self.hits);
+        let puts = self.calls.saturating_sub(self.counted);
+        let places = wanted(has, puts, self.hits, self.heads.len());
+        let (counted, hits) = counted(has, self.calls, self.counted, self.hits);
+        self.counted = counted;
         let none = Vec::new(*self.nodes.allocator());
         let mut results = mem::replace(&mut self.results, none);
         widen(&mut results, places);
-        Known {
-            results,
-            puts,
-            hits,
-        }
+        Known { results, hits }
     }
 
     /// Takes back what was lent, and keeps it until a sweep forgets all.
@@ -421,7 +420,6 @@ impl Store {
         requires { AreResults self.old known }
         ensures { self.new ≡ self.old }
     {
-        self.puts = known.puts;
         self.hits = known.hits;
         self.results = known.results;
     }

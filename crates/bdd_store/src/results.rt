@@ -1,13 +1,12 @@
 //! The results of operations: a table in which a later result takes the place of an earlier one.
 
-ghost use Rattle.std.specs.Prelude.{◌≡◌, ℕ, ◌<◌, IfOk, IfSome, IfNone, IsTrue, vec_len};
+ghost use Rattle.std.specs.Prelude.{◌≡◌, ℕ, ◌<◌, ◌≤◌, IfSome, IfNone, IsTrue, vec_len};
 ghost use Rattle.bdd_store.specs.Diagram.{Diagram, IsSound};
 ghost use Rattle.bdd_store.specs.Results.{IsResult, AreResults};
 ghost use Rattle.bdd_store.specs.Sure.{slot_of, IsSure};
 
 use crate::chains::bucket_of;
 use crate::{Operation, Ref};
-use std::alloc::{AllocError, Global};
 use std::marker::Model;
 
 /// An operation and its result, with the number of the turn that put it there.
@@ -27,8 +26,7 @@ const MOST: usize = 0x40_0000;
 #[derive(Drop)]
 pub struct Known {
     pub(crate) results: Vec<Entry>,
-    pub(crate) puts: usize,
-    pub(crate) hits: usize,
+    pub(crate) hits: u64,
 }
 
 impl Model for Known {
@@ -55,7 +53,7 @@ impl Known {
     pub fn note_hit(&mut self)
         ensures { self.new ≡ self.old }
     {
-        self.hits = self.hits.saturating_add(1);
+        self.hits = self.hits.wrapping_add(1);
     }
 
     /// Puts the result of an operation in the place of one of another turn. True means that it stays for this turn.
@@ -65,28 +63,27 @@ impl Known {
         ensures keeps { (o : Operation) → IsSure self.old turn o → IsSure self.new turn o }
         ensures sure { IsTrue result → IsSure self.new turn operation }
     {
-        self.puts = self.puts.saturating_add(1);
         put(&mut self.results, operation, answer, turn)
     }
 }
 
-/// How many places a table is to have: more where one look in four was of use.
-pub(crate) fn wanted(has: usize, puts: usize, hits: usize, len: usize) -> usize {
+/// How many places a table is to have: more where as many results were put as it has, and one look in four was of use.
+pub(crate) fn wanted(has: usize, puts: u64, hits: u64, chains: usize) -> usize {
     if has < FEW {
-        return len.min(FEW);
+        return chains.min(FEW);
     }
-    if puts >= has && hits >= puts / 3 && has < MOST {
+    if puts >= has as u64 && hits >= puts / 3 && has < MOST {
         return 4 * has;
     }
     has
 }
 
-/// The counts, which begin again after as many results as there are places.
-pub(crate) fn counted(has: usize, puts: usize, hits: usize) -> (usize, usize) {
-    if puts >= has {
-        return (0, 0);
+/// The calls up to which results were counted, and the hits since, which begin again after as many as there are places.
+pub(crate) fn counted(has: usize, calls: u64, before: u64, hits: u64) -> (u64, u64) {
+    if calls.saturating_sub(before) >= has as u64 {
+        return (calls, 0);
     }
-    (puts, hits)
+    (before, hits)
 }
 
 // An entry that is right in every store: the conjunction of the constant 0 with itself.
@@ -156,46 +153,27 @@ fn put(results: &mut Vec<Entry>, operation: Operation, answer: Ref, turn: u32) -
     true
 }
 
-// Puts results into a table.
-fn spread(results: &[Entry], fresh: &mut Vec<Entry>)
-    requires { 0 < vec_len fresh.old }
-    ensures { (d : Diagram) → AreResults d results.now → AreResults d fresh.old.items → AreResults d fresh.new.items }
+// Puts the first results of a table at their places.
+fn spread(results: &mut Vec<Entry>, has: usize)
+    requires { has ≤ vec_len results.old }
+    ensures { (d : Diagram) → IsSound d → AreResults d results.old.items → AreResults d results.new.items }
 {
-    for i in 0..results.len() {
-        let entry = results[i];
-        let place = slot(entry.operation, fresh.len());
-        fresh[place] = entry;
+    let never = never();
+    for at in 0..has {
+        let entry = results[at];
+        let place = slot(entry.operation, results.len());
+        results[at] = never;
+        results[place] = entry;
     }
-}
-
-// A table of so many places that has no result of use.
-fn blank(alloc: Global, places: usize) -> Result<Vec<Entry>, AllocError>
-    ensures right { IfOk result (λ es. (d : Diagram) → IsSound d → AreResults d es.items) }
-    ensures len { IfOk result (λ es. vec_len es ≡ places) }
-{
-    let mut fresh = Vec::new(alloc);
-    fresh.resize(places, never())?;
-    Ok(fresh)
-}
-
-// The same results in a table of so many places.
-fn widened(results: &Vec<Entry>, places: usize) -> Result<Vec<Entry>, AllocError>
-    requires { 0 < places }
-    ensures { IfOk result (λ es. (d : Diagram) → IsSound d → AreResults d results.now.items → AreResults d es.items) }
-{
-    let mut fresh = blank(*results.allocator(), places)?;
-    spread(results, &mut fresh);
-    Ok(fresh)
 }
 
 /// Makes so many places, where there is memory for that.
 pub fn widen(results: &mut Vec<Entry>, places: usize)
     ensures { (d : Diagram) → IsSound d → AreResults d results.old.items → AreResults d results.new.items }
 {
-    if places > results.len() {
-        if let Ok(fresh) = widened(results, places) {
-            *results = fresh;
-        }
+    let has = results.len();
+    if places > has && results.resize(places, never()).is_ok() {
+        spread(results, has);
     }
 }
 

@@ -287,13 +287,16 @@ fn statements_stand_up_to_1000_deep(rt: HostRuntime) -> Result<(), Fail> {
     Ok(())
 }
 
-// This many names of types, each of a struct, and so two deep: itself and the type of its field.
+// This many names of types, each of a struct with the one before in it, and so two deep: itself and the type of its
+// field; and a signal of the last.
 fn types(alloc: Global, count: u16) -> Result<String, AllocError> {
-    let mut text = String::new(alloc);
-    for number in 0..count {
-        text.push_str(&format!(in alloc; "typedef a{number} struct {{f : boolean;}}; ")?)?;
+    let mut text = String::from_str(alloc, "typedef a0 struct {f : boolean;}; ")?;
+    for number in 1..count {
+        let before = number - 1;
+        text.push_str(&format!(in alloc; "typedef a{number} struct {{f : a{before};}}; ")?)?;
     }
-    text.push_str("module main() { }")?;
+    let last = count.saturating_sub(1);
+    text.push_str(&format!(in alloc; "module main() {{ x : a{last}; }}")?)?;
     Ok(text)
 }
 

@@ -4,4 +4,4 @@ use Rattle.bdd_ops.proofs.+change_from.Given as goal
 
 -- the levels that are left
 abbrev pub decreases-change_from : goal.decreases-change_from
-decreases-change_from l = l.store.now.vars - first_var l.store.now l.f
+decreases-change_from g l = l.store.now.vars - first_var l.store.now l.f

@@ -1,5 +1,4 @@
-use Rattle.std.proofs.Common.{◌≡◌, ℕ, Bool, cond, Option, IfSome, refl, sym, ap, ◌∙◌, subst, arith, false, true}
-use Rattle.bdd_store.specs.declared.Ref.{Ref}
+use Rattle.std.proofs.Common.{◌≡◌, ℕ, Bool, cond, refl, sym, ap, ◌∙◌, arith, false, true}
 use Rattle.bdd_store.specs.Graph.{with_at}
 use Rattle.bdd_store.specs.Diagram.{table, Keeps}
 use Rattle.bdd_ops.specs.Functions.{some_at}

@@ -1,39 +1,45 @@
-use Rattle.std.proofs.Common.{◌≡◌, refl, inl, inr, ℕ, ◌+◌, ◌<◌, ◌≤◌, Bool, cond, Option, None, IfSome, length, min, sym, ap, ◌∙◌, subst, arith}
+use Rattle.std.proofs.Common.{◌≡◌, refl, inl, inr, ℕ, ◌+◌, Bool, min, sym, ap, ◌∙◌, subst, arith}
 use Rattle.memo_table.specs.Results.{same_pair}
-use Rattle.bdd_store.specs.declared.Ref.{Ref}
-use Rattle.bdd_store.specs.Diagram.{IsLive, table, first_var, Reaches, Keeps}
+use Rattle.bdd_store.specs.Diagram.{table, first_var, Keeps}
 use Rattle.bdd_store.specs.Sure.{IsSure}
 use Rattle.bdd_ops.specs.Memo.{joined, IsJoin}
 use Rattle.bdd_ops.specs.News.{State, IsFound, News, AnyPair, join_of}
 use Rattle.bdd_ops.proofs.NewsLaws.{news_none, news_hit, news_err, news_first, news_second, news_later, news_weaken, news_put, found_kept, found_here, keeps_self}
-use Rattle.bdd_ops.proofs.MemoLaws.{keeps_after, join_found, joins_kept, pair_test, holds_kept, holds_same, joined_cond}
+use Rattle.bdd_ops.proofs.MemoLaws.{keeps_after, join_found, joins_kept, pair_test, holds_kept, holds_same}
 use Rattle.bdd_ops.proofs.Recalled.{join_first, join_made, join_later}
 use Rattle.bdd_ops.proofs.Held.{fresh_node}
+use denote.Param.{number}
+use Rattle.bdd_ops.specs.contracts.join_from.{UNIT-type}
+use Rattle.bdd_ops.proofs.+join_from.Given as given
 use Rattle.bdd_ops.proofs.+join_from.Goals as goal
+
+-- the value that is neutral
+abbrev unit_of : given.Over → Bool
+unit_of g = UNIT-type (number g.row.UNIT)
 
 -- a result that is kept is right
 pub returns-in-Some-get-clause-live : goal.returns-in-Some-get-clause-live
-returns-in-Some-get-clause-live t c = (join_found c.args.unit c.args.store.now c.args.memo.now (c.args.f, c.args.g) c.in-Some-get.r c.in-Some-get.ensures.value c.requires.memo).live
+returns-in-Some-get-clause-live g t c = (join_found (unit_of g) c.args.store.now c.args.memo.now (c.args.f, c.args.g) c.in-Some-get.r c.in-Some-get.ensures.value c.requires.memo).live
 
 pub returns-in-Some-get-clause-first : goal.returns-in-Some-get-clause-first
-returns-in-Some-get-clause-first t c = (join_found c.args.unit c.args.store.now c.args.memo.now (c.args.f, c.args.g) c.in-Some-get.r c.in-Some-get.ensures.value c.requires.memo).first
+returns-in-Some-get-clause-first g t c = (join_found (unit_of g) c.args.store.now c.args.memo.now (c.args.f, c.args.g) c.in-Some-get.r c.in-Some-get.ensures.value c.requires.memo).first
 
 pub returns-in-Some-get-clause-table : goal.returns-in-Some-get-clause-table
-returns-in-Some-get-clause-table t c = (join_found c.args.unit c.args.store.now c.args.memo.now (c.args.f, c.args.g) c.in-Some-get.r c.in-Some-get.ensures.value c.requires.memo).table
+returns-in-Some-get-clause-table g t c = (join_found (unit_of g) c.args.store.now c.args.memo.now (c.args.f, c.args.g) c.in-Some-get.r c.in-Some-get.ensures.value c.requires.memo).table
 
 pub returns-in-Some-recall-clause-first : goal.returns-in-Some-recall-clause-first
-returns-in-Some-recall-clause-first t c =
+returns-in-Some-recall-clause-first g t c =
     let d = c.args.store.now in
     let is = c.in-Some-recall.ensures.some d c.requires.known in
-    join_first d c.requires.sound c.in-Some-recall.r is.live c.args.unit c.args.f c.args.g c.requires.f_live (λ a. is.table a ∙ c.joining-operation.ensures.made d a)
+    join_first d c.requires.sound c.in-Some-recall.r is.live (unit_of g) c.args.f c.args.g c.requires.f_live (λ a. is.table a ∙ c.joining-operation.ensures.made d a)
 
 -- what the store comes to know is right
 pub result_node-requires-clause-made : goal.result_node-requires-clause-made
-result_node-requires-clause-made t c a =
+result_node-requires-clause-made g t c a =
     let before = c.args.store.now in
     let middle = c.join_from.new.store in
     let last = c.join_from-2.new.store in
-    let unit = c.args.unit in
+    let unit = unit_of g in
     join_made unit c.min-var.result (table before c.args.f) (table before c.args.g) (table before c.split.result.0) (table before c.split.result.1) (table before c.split-2.result.0) (table before c.split-2.result.1) (table last c.in_ok-low.low) (table last c.in_ok-high.high)
     c.split.ensures.low_table c.split.ensures.high_table c.split-2.ensures.low_table c.split-2.ensures.high_table
     (λ e. c.in_ok-high.ensures.keeps.tables c.in_ok-low.low c.in_ok-low.ensures.live e ∙ c.in_ok-low.ensures.table e)
@@ -42,50 +48,50 @@ result_node-requires-clause-made t c a =
     ∙ sym (c.joining-operation.ensures.made last a)
 
 -- after both branches
-both_keep_no_node : (t : ℕ) (c : goal.After-from_residual-in_err-r t) → Keeps c.args.store.now c.join_from-2.new.store
-both_keep_no_node t c = keeps_after c.args.store.now c.join_from.new.store c.join_from-2.new.store c.in_ok-low.ensures.keeps c.in_ok-high.ensures.keeps
+both_keep_no_node : (g : given.Over) (t : ℕ) (c : goal.After-from_residual-in_err-r g t) → Keeps c.args.store.now c.join_from-2.new.store
+both_keep_no_node g t c = keeps_after c.args.store.now c.join_from.new.store c.join_from-2.new.store c.in_ok-low.ensures.keeps c.in_ok-high.ensures.keeps
 
-all_keep_no_node : (t : ℕ) (c : goal.After-from_residual-in_err-r t) → Keeps c.args.store.now c.result_node.new.store
-all_keep_no_node t c = keeps_after c.args.store.now c.join_from-2.new.store c.result_node.new.store (both_keep_no_node t c) c.in_err-r.ensures.keeps
+all_keep_no_node : (g : given.Over) (t : ℕ) (c : goal.After-from_residual-in_err-r g t) → Keeps c.args.store.now c.result_node.new.store
+all_keep_no_node g t c = keeps_after c.args.store.now c.join_from-2.new.store c.result_node.new.store (both_keep_no_node g t c) c.in_err-r.ensures.keeps
 
 pub returns-in_err-r-clause-keeps : goal.returns-in_err-r-clause-keeps
-returns-in_err-r-clause-keeps t c = all_keep_no_node t c
+returns-in_err-r-clause-keeps g t c = all_keep_no_node g t c
 
 pub returns-in_err-r-clause-memo : goal.returns-in_err-r-clause-memo
-returns-in_err-r-clause-memo t c = joins_kept c.args.unit c.join_from-2.new.store c.result_node.new.store c.join_from-2.new.memo c.in_err-r.ensures.keeps c.in_ok-high.ensures.memo
+returns-in_err-r-clause-memo g t c = joins_kept (unit_of g) c.join_from-2.new.store c.result_node.new.store c.join_from-2.new.memo c.in_err-r.ensures.keeps c.in_ok-high.ensures.memo
 
 -- after both branches
-both_keep_no_room : (t : ℕ) (c : goal.After-from_residual-in_err-keep t) → Keeps c.args.store.now c.join_from-2.new.store
-both_keep_no_room t c = keeps_after c.args.store.now c.join_from.new.store c.join_from-2.new.store c.in_ok-low.ensures.keeps c.in_ok-high.ensures.keeps
+both_keep_no_room : (g : given.Over) (t : ℕ) (c : goal.After-from_residual-in_err-keep g t) → Keeps c.args.store.now c.join_from-2.new.store
+both_keep_no_room g t c = keeps_after c.args.store.now c.join_from.new.store c.join_from-2.new.store c.in_ok-low.ensures.keeps c.in_ok-high.ensures.keeps
 
-all_keep_no_room : (t : ℕ) (c : goal.After-from_residual-in_err-keep t) → Keeps c.args.store.now c.result_node.new.store
-all_keep_no_room t c = keeps_after c.args.store.now c.join_from-2.new.store c.result_node.new.store (both_keep_no_room t c) c.in_ok-r.ensures.keeps
+all_keep_no_room : (g : given.Over) (t : ℕ) (c : goal.After-from_residual-in_err-keep g t) → Keeps c.args.store.now c.result_node.new.store
+all_keep_no_room g t c = keeps_after c.args.store.now c.join_from-2.new.store c.result_node.new.store (both_keep_no_room g t c) c.in_ok-r.ensures.keeps
 
 pub returns-in_err-keep-clause-keeps : goal.returns-in_err-keep-clause-keeps
-returns-in_err-keep-clause-keeps t c = all_keep_no_room t c
+returns-in_err-keep-clause-keeps g t c = all_keep_no_room g t c
 
 pub returns-in_err-keep-clause-memo : goal.returns-in_err-keep-clause-memo
-returns-in_err-keep-clause-memo t c =
-    holds_same same_pair pair_test (IsJoin c.args.unit c.result_node.new.store) c.join_from-2.new.memo c.keep.new.memo c.in_err-keep.ensures.err
-    (joins_kept c.args.unit c.join_from-2.new.store c.result_node.new.store c.join_from-2.new.memo c.in_ok-r.ensures.keeps c.in_ok-high.ensures.memo)
+returns-in_err-keep-clause-memo g t c =
+    holds_same same_pair pair_test (IsJoin (unit_of g) c.result_node.new.store) c.join_from-2.new.memo c.keep.new.memo c.in_err-keep.ensures.err
+    (joins_kept (unit_of g) c.join_from-2.new.store c.result_node.new.store c.join_from-2.new.memo c.in_ok-r.ensures.keeps c.in_ok-high.ensures.memo)
 
 -- after both branches
-both_keep_done : (t : ℕ) (c : goal.In_ok-keep t) → Keeps c.args.store.now c.join_from-2.new.store
-both_keep_done t c = keeps_after c.args.store.now c.join_from.new.store c.join_from-2.new.store c.in_ok-low.ensures.keeps c.in_ok-high.ensures.keeps
+both_keep_done : (g : given.Over) (t : ℕ) (c : goal.In_ok-keep g t) → Keeps c.args.store.now c.join_from-2.new.store
+both_keep_done g t c = keeps_after c.args.store.now c.join_from.new.store c.join_from-2.new.store c.in_ok-low.ensures.keeps c.in_ok-high.ensures.keeps
 
-all_keep_done : (t : ℕ) (c : goal.In_ok-keep t) → Keeps c.args.store.now c.result_node.new.store
-all_keep_done t c = keeps_after c.args.store.now c.join_from-2.new.store c.result_node.new.store (both_keep_done t c) c.in_ok-r.ensures.keeps
+all_keep_done : (g : given.Over) (t : ℕ) (c : goal.In_ok-keep g t) → Keeps c.args.store.now c.result_node.new.store
+all_keep_done g t c = keeps_after c.args.store.now c.join_from-2.new.store c.result_node.new.store (both_keep_done g t c) c.in_ok-r.ensures.keeps
 
 pub returns-clause-keeps : goal.returns-clause-keeps
-returns-clause-keeps t c = all_keep_done t c
+returns-clause-keeps g t c = all_keep_done g t c
 
 -- the table of the new result
-table_done : (t : ℕ) (c : goal.In_ok-keep t) (a : ℕ → Bool) → table c.result_node.new.store c.in_ok-r.r a ≡ joined c.args.unit (table c.args.store.now c.args.f a) (table c.args.store.now c.args.g a)
-table_done t c a =
+table_done : (g : given.Over) (t : ℕ) (c : goal.In_ok-keep g t) (a : ℕ → Bool) → table c.result_node.new.store c.in_ok-r.r a ≡ joined (unit_of g) (table c.args.store.now c.args.f a) (table c.args.store.now c.args.g a)
+table_done g t c a =
     let before = c.args.store.now in
     let middle = c.join_from.new.store in
     let last = c.join_from-2.new.store in
-    let unit = c.args.unit in
+    let unit = unit_of g in
     c.in_ok-r.ensures.table a
     ∙ join_made unit c.min-var.result (table before c.args.f) (table before c.args.g) (table before c.split.result.0) (table before c.split.result.1) (table before c.split-2.result.0) (table before c.split-2.result.1) (table last c.in_ok-low.low) (table last c.in_ok-high.high)
     c.split.ensures.low_table c.split.ensures.high_table c.split-2.ensures.low_table c.split-2.ensures.high_table
@@ -93,17 +99,17 @@ table_done t c a =
     (λ e. c.in_ok-high.ensures.table e ∙ sym (join_later unit before middle c.in_ok-low.ensures.keeps c.split.result.1 c.split-2.result.1 c.split.ensures.high_live c.split-2.ensures.high_live e)) a
 
 pub returns-clause-table : goal.returns-clause-table
-returns-clause-table t c = table_done t c
+returns-clause-table g t c = table_done g t c
 
 pub returns-clause-fresh : goal.returns-clause-fresh
-returns-clause-fresh t c =
+returns-clause-fresh g t c =
     fresh_node c.args.store.now c.join_from.new.store c.join_from-2.new.store c.result_node.new.store c.in_ok-low.low c.in_ok-high.high c.in_ok-r.r
     c.in_ok-low.ensures.fresh c.in_ok-high.ensures.fresh c.in_ok-high.ensures.keeps c.in_ok-low.ensures.live c.in_ok-r.ensures.fresh c.in_ok-r.ensures.reached
 
 -- the new result is right
-answer_done : (t : ℕ) (c : goal.In_ok-keep t) → IsJoin c.args.unit c.result_node.new.store (c.args.f, c.args.g) c.in_ok-r.r
-answer_done t c =
-    let keeps = all_keep_done t c in
+answer_done : (g : given.Over) (t : ℕ) (c : goal.In_ok-keep g t) → IsJoin (unit_of g) c.result_node.new.store (c.args.f, c.args.g) c.in_ok-r.r
+answer_done g t c =
+    let keeps = all_keep_done g t c in
     let f_first = keeps.firsts c.args.f c.requires.f_live in
     let g_first = keeps.firsts c.args.g c.requires.g_live in
     let vars = keeps.vars in
@@ -114,33 +120,33 @@ answer_done t c =
       second_proper = omega (arith, g_first, vars, c.var-g_var.ensures.within, c.var-g_var.ensures.var);
       live = c.in_ok-r.ensures.live;
       first = omega (arith, c.in_ok-r.ensures.first, c.min-var.ensures, c.var-f_var.ensures.var, c.var-g_var.ensures.var, f_first, g_first);
-      table = λ a. table_done t c a ∙ ap (λ y. joined c.args.unit y (table c.args.store.now c.args.g a)) (sym (keeps.tables c.args.f c.requires.f_live a)) ∙ ap (λ y. joined c.args.unit (table c.result_node.new.store c.args.f a) y) (sym (keeps.tables c.args.g c.requires.g_live a));
+      table = λ a. table_done g t c a ∙ ap (λ y. joined (unit_of g) y (table c.args.store.now c.args.g a)) (sym (keeps.tables c.args.f c.requires.f_live a)) ∙ ap (λ y. joined (unit_of g) (table c.result_node.new.store c.args.f a) y) (sym (keeps.tables c.args.g c.requires.g_live a));
     }
 
 pub returns-clause-memo : goal.returns-clause-memo
-returns-clause-memo t c =
-    holds_kept same_pair pair_test (IsJoin c.args.unit c.result_node.new.store) c.join_from-2.new.memo c.keep.new.memo (c.args.f, c.args.g) c.in_ok-r.r c.in_ok-keep.ensures.memo
-    (joins_kept c.args.unit c.join_from-2.new.store c.result_node.new.store c.join_from-2.new.memo c.in_ok-r.ensures.keeps c.in_ok-high.ensures.memo) (answer_done t c)
+returns-clause-memo g t c =
+    holds_kept same_pair pair_test (IsJoin (unit_of g) c.result_node.new.store) c.join_from-2.new.memo c.keep.new.memo (c.args.f, c.args.g) c.in_ok-r.r c.in_ok-keep.ensures.memo
+    (joins_kept (unit_of g) c.join_from-2.new.store c.result_node.new.store c.join_from-2.new.memo c.in_ok-r.ensures.keeps c.in_ok-high.ensures.memo) (answer_done g t c)
 
 pub returns-clause-known : goal.returns-clause-known
-returns-clause-known t c = c.in_ok-keep.ensures.right c.result_node.new.store (c.in_ok-r.ensures.known c.join_from-2.new.known c.in_ok-high.ensures.known) c.in_ok-r.ensures.right
+returns-clause-known g t c = c.in_ok-keep.ensures.right c.result_node.new.store (c.in_ok-r.ensures.known c.join_from-2.new.known c.in_ok-high.ensures.known) c.in_ok-r.ensures.right
 
 pub returns-in_err-keep-clause-known : goal.returns-in_err-keep-clause-known
-returns-in_err-keep-clause-known t c = c.in_err-keep.ensures.right c.result_node.new.store (c.in_ok-r.ensures.known c.join_from-2.new.known c.in_ok-high.ensures.known) c.in_ok-r.ensures.right
+returns-in_err-keep-clause-known g t c = c.in_err-keep.ensures.right c.result_node.new.store (c.in_ok-r.ensures.known c.join_from-2.new.known c.in_ok-high.ensures.known) c.in_ok-r.ensures.right
 
 pub returns-in_err-low-clause-news : goal.returns-in_err-low-clause-news
-returns-in_err-low-clause-news t c =
+returns-in_err-low-clause-news g t c =
     let d = c.args.store.now in
     let before : State = (d, (c.args.known.now, c.args.memo.now)) in
     let first : State = (c.join_from.new.store, (c.join_from.new.known, c.join_from.new.memo)) in
-    news_err (join_of c.args.unit) AnyPair c.args.turn c.from_residual.result c.from_residual.ensures.0 before first c.args.f c.args.g (min (first_var d c.args.f) (first_var d c.args.g)) (news_first (join_of c.args.unit) AnyPair c.args.turn before first c.args.f c.args.g c.split.result.0 c.split-2.result.0 _ (min (first_var d c.args.f) (first_var d c.args.g)) 1 (keeps_self d)
+    news_err (join_of (unit_of g)) AnyPair c.args.turn c.from_residual.result c.from_residual.ensures.0 before first c.args.f c.args.g (min (first_var d c.args.f) (first_var d c.args.g)) (news_first (join_of (unit_of g)) AnyPair c.args.turn before first c.args.f c.args.g c.split.result.0 c.split-2.result.0 _ (min (first_var d c.args.f) (first_var d c.args.g)) 1 (keeps_self d)
     (omega (arith, c.split.ensures.low_later, c.split-2.ensures.low_later))
     (λ a live down. c.split.ensures.low_reached a live down) (λ a live down. c.split-2.ensures.low_reached a live down) c.in_err-low.ensures.news)
 
 pub returns-in_err-high-clause-news : goal.returns-in_err-high-clause-news
-returns-in_err-high-clause-news t c =
+returns-in_err-high-clause-news g t c =
     let d = c.args.store.now in
-    let op = join_of c.args.unit in
+    let op = join_of (unit_of g) in
     let keeps = c.in_ok-low.ensures.keeps in
     let before : State = (d, (c.args.known.now, c.args.memo.now)) in
     let first : State = (c.join_from.new.store, (c.join_from.new.known, c.join_from.new.memo)) in
@@ -154,10 +160,10 @@ returns-in_err-high-clause-news t c =
     (λ a live down. keeps.reached a c.split-2.result.1 live c.split-2.ensures.high_live (c.split-2.ensures.high_reached a live down)) low c.in_err-high.ensures.news)
 
 -- the news of both branches
-both_news_no_node : (t : ℕ) (c : goal.After-from_residual-in_err-r t) → News (join_of c.args.unit) AnyPair c.args.turn (c.args.store.now, (c.args.known.now, c.args.memo.now)) (c.join_from-2.new.store, (c.join_from-2.new.known, c.join_from-2.new.memo)) c.args.f c.args.g (c.min-var.result + 1) 0
-both_news_no_node t c =
+both_news_no_node : (g : given.Over) (t : ℕ) (c : goal.After-from_residual-in_err-r g t) → News (join_of (unit_of g)) AnyPair c.args.turn (c.args.store.now, (c.args.known.now, c.args.memo.now)) (c.join_from-2.new.store, (c.join_from-2.new.known, c.join_from-2.new.memo)) c.args.f c.args.g (c.min-var.result + 1) 0
+both_news_no_node g t c =
     let d = c.args.store.now in
-    let op = join_of c.args.unit in
+    let op = join_of (unit_of g) in
     let keeps = c.in_ok-low.ensures.keeps in
     let before : State = (d, (c.args.known.now, c.args.memo.now)) in
     let first : State = (c.join_from.new.store, (c.join_from.new.known, c.join_from.new.memo)) in
@@ -171,21 +177,21 @@ both_news_no_node t c =
     (λ a live down. keeps.reached a c.split-2.result.1 live c.split-2.ensures.high_live (c.split-2.ensures.high_reached a live down)) low c.in_ok-high.ensures.news
 
 pub returns-in_err-r-clause-news : goal.returns-in_err-r-clause-news
-returns-in_err-r-clause-news t c =
+returns-in_err-r-clause-news g t c =
     let d = c.args.store.now in
-    let op = join_of c.args.unit in
+    let op = join_of (unit_of g) in
     let before : State = (d, (c.args.known.now, c.args.memo.now)) in
     let second : State = (c.join_from-2.new.store, (c.join_from-2.new.known, c.join_from-2.new.memo)) in
     let last : State = (c.result_node.new.store, (c.join_from-2.new.known, c.join_from-2.new.memo)) in
     news_err op AnyPair c.args.turn c.from_residual-in_err-r.result c.from_residual-in_err-r.ensures.0 before last c.args.f c.args.g (min (first_var d c.args.f) (first_var d c.args.g)) (news_weaken op AnyPair c.args.turn before last c.args.f c.args.g (c.min-var.result + 1) (min (first_var d c.args.f) (first_var d c.args.g)) 1
     (omega (arith, c.min-var.ensures, c.var-f_var.ensures.var, c.var-g_var.ensures.var))
-    (news_later op AnyPair c.args.turn before second last c.args.f c.args.g (c.min-var.result + 1) 0 1 (both_keep_no_node t c) c.in_err-r.ensures.keeps (λ p found. found) (omega (arith, c.in_err-r.ensures.calls)) (both_news_no_node t c)))
+    (news_later op AnyPair c.args.turn before second last c.args.f c.args.g (c.min-var.result + 1) 0 1 (both_keep_no_node g t c) c.in_err-r.ensures.keeps (λ p found. found) (omega (arith, c.in_err-r.ensures.calls)) (both_news_no_node g t c)))
 
 -- the news of both branches
-both_news_no_room : (t : ℕ) (c : goal.After-from_residual-in_err-keep t) → News (join_of c.args.unit) AnyPair c.args.turn (c.args.store.now, (c.args.known.now, c.args.memo.now)) (c.join_from-2.new.store, (c.join_from-2.new.known, c.join_from-2.new.memo)) c.args.f c.args.g (c.min-var.result + 1) 0
-both_news_no_room t c =
+both_news_no_room : (g : given.Over) (t : ℕ) (c : goal.After-from_residual-in_err-keep g t) → News (join_of (unit_of g)) AnyPair c.args.turn (c.args.store.now, (c.args.known.now, c.args.memo.now)) (c.join_from-2.new.store, (c.join_from-2.new.known, c.join_from-2.new.memo)) c.args.f c.args.g (c.min-var.result + 1) 0
+both_news_no_room g t c =
     let d = c.args.store.now in
-    let op = join_of c.args.unit in
+    let op = join_of (unit_of g) in
     let keeps = c.in_ok-low.ensures.keeps in
     let before : State = (d, (c.args.known.now, c.args.memo.now)) in
     let first : State = (c.join_from.new.store, (c.join_from.new.known, c.join_from.new.memo)) in
@@ -199,22 +205,22 @@ both_news_no_room t c =
     (λ a live down. keeps.reached a c.split-2.result.1 live c.split-2.ensures.high_live (c.split-2.ensures.high_reached a live down)) low c.in_ok-high.ensures.news
 
 pub returns-in_err-keep-clause-news : goal.returns-in_err-keep-clause-news
-returns-in_err-keep-clause-news t c =
+returns-in_err-keep-clause-news g t c =
     let d = c.args.store.now in
-    let op = join_of c.args.unit in
+    let op = join_of (unit_of g) in
     let before : State = (d, (c.args.known.now, c.args.memo.now)) in
     let second : State = (c.join_from-2.new.store, (c.join_from-2.new.known, c.join_from-2.new.memo)) in
     let last : State = (c.result_node.new.store, (c.keep.new.known, c.keep.new.memo)) in
     news_err op AnyPair c.args.turn c.from_residual-in_err-keep.result c.from_residual-in_err-keep.ensures.0 before last c.args.f c.args.g (min (first_var d c.args.f) (first_var d c.args.g)) (news_weaken op AnyPair c.args.turn before last c.args.f c.args.g (c.min-var.result + 1) (min (first_var d c.args.f) (first_var d c.args.g)) 1
     (omega (arith, c.min-var.ensures, c.var-f_var.ensures.var, c.var-g_var.ensures.var))
-    (news_later op AnyPair c.args.turn before second last c.args.f c.args.g (c.min-var.result + 1) 0 1 (both_keep_no_room t c) c.in_ok-r.ensures.keeps
-    (found_kept op c.args.turn second last (c.args.f, c.args.g) c.in_ok-r.r c.in_err-keep.ensures.sure c.in_err-keep.ensures.memo) (omega (arith, c.in_ok-r.ensures.calls)) (both_news_no_room t c)))
+    (news_later op AnyPair c.args.turn before second last c.args.f c.args.g (c.min-var.result + 1) 0 1 (both_keep_no_room g t c) c.in_ok-r.ensures.keeps
+    (found_kept op c.args.turn second last (c.args.f, c.args.g) c.in_ok-r.r c.in_err-keep.ensures.sure c.in_err-keep.ensures.memo) (omega (arith, c.in_ok-r.ensures.calls)) (both_news_no_room g t c)))
 
 -- the news of both branches
-both_news_done : (t : ℕ) (c : goal.In_ok-keep t) → News (join_of c.args.unit) AnyPair c.args.turn (c.args.store.now, (c.args.known.now, c.args.memo.now)) (c.join_from-2.new.store, (c.join_from-2.new.known, c.join_from-2.new.memo)) c.args.f c.args.g (c.min-var.result + 1) 0
-both_news_done t c =
+both_news_done : (g : given.Over) (t : ℕ) (c : goal.In_ok-keep g t) → News (join_of (unit_of g)) AnyPair c.args.turn (c.args.store.now, (c.args.known.now, c.args.memo.now)) (c.join_from-2.new.store, (c.join_from-2.new.known, c.join_from-2.new.memo)) c.args.f c.args.g (c.min-var.result + 1) 0
+both_news_done g t c =
     let d = c.args.store.now in
-    let op = join_of c.args.unit in
+    let op = join_of (unit_of g) in
     let keeps = c.in_ok-low.ensures.keeps in
     let before : State = (d, (c.args.known.now, c.args.memo.now)) in
     let first : State = (c.join_from.new.store, (c.join_from.new.known, c.join_from.new.memo)) in
@@ -228,9 +234,9 @@ both_news_done t c =
     (λ a live down. keeps.reached a c.split-2.result.1 live c.split-2.ensures.high_live (c.split-2.ensures.high_reached a live down)) low c.in_ok-high.ensures.news
 
 pub returns-clause-news : goal.returns-clause-news
-returns-clause-news t c =
+returns-clause-news g t c =
     let d = c.args.store.now in
-    let op = join_of c.args.unit in
+    let op = join_of (unit_of g) in
     let before : State = (d, (c.args.known.now, c.args.memo.now)) in
     let second : State = (c.join_from-2.new.store, (c.join_from-2.new.known, c.join_from-2.new.memo)) in
     let last : State = (c.result_node.new.store, (c.keep.new.known, c.keep.new.memo)) in
@@ -243,28 +249,28 @@ returns-clause-news t c =
       | inl sure ↦ inl (subst (IsSure c.keep.new.known c.args.turn) is sure)
       | inr put ↦ inr (found_here c.join_from-2.new.memo c.keep.new.memo (c.args.f, c.args.g) c.in_ok-r.r put)
     ] in
-    news_put op AnyPair c.args.turn before second last c.args.f c.args.g (c.min-var.result + 1) (min (first_var d c.args.f) (first_var d c.args.g)) (both_keep_done t c) c.in_ok-r.ensures.keeps
+    news_put op AnyPair c.args.turn before second last c.args.f c.args.g (c.min-var.result + 1) (min (first_var d c.args.f) (first_var d c.args.g)) (both_keep_done g t c) c.in_ok-r.ensures.keeps
     (found_kept op c.args.turn second last (c.args.f, c.args.g) c.in_ok-r.r c.in_ok-keep.ensures.sure c.in_ok-keep.ensures.memo) (omega (arith, c.in_ok-r.ensures.calls))
     (omega (arith, c.min-var.ensures, c.var-f_var.ensures.var, c.var-g_var.ensures.var)) c.requires.f_live c.requires.g_live
-    (omega (arith, c.var-f_var.ensures.within, c.var-f_var.ensures.var)) (omega (arith, c.var-g_var.ensures.within, c.var-g_var.ensures.var)) refl refl absent found (both_news_done t c)
+    (omega (arith, c.var-f_var.ensures.within, c.var-f_var.ensures.var)) (omega (arith, c.var-g_var.ensures.within, c.var-g_var.ensures.var)) refl refl absent found (both_news_done g t c)
 
-pub returns-then-x-unit-clause-news : goal.returns-then-x-unit-clause-news
-returns-then-x-unit-clause-news t c = news_none (join_of c.args.unit) AnyPair c.args.turn _ _ c.args.f c.args.g _ 0 (λ p found. found) (omega arith)
+pub returns-then-x-clause-news : goal.returns-then-x-clause-news
+returns-then-x-clause-news g t c = news_none (join_of (unit_of g)) AnyPair c.args.turn _ _ c.args.f c.args.g _ 0 (λ p found. found) (omega arith)
 
-pub returns-else-x-unit-clause-news : goal.returns-else-x-unit-clause-news
-returns-else-x-unit-clause-news t c = news_none (join_of c.args.unit) AnyPair c.args.turn _ _ c.args.f c.args.g _ 0 (λ p found. found) (omega arith)
+pub returns-else-x-clause-news : goal.returns-else-x-clause-news
+returns-else-x-clause-news g t c = news_none (join_of (unit_of g)) AnyPair c.args.turn _ _ c.args.f c.args.g _ 0 (λ p found. found) (omega arith)
 
-pub returns-then-x-unit-2-clause-news : goal.returns-then-x-unit-2-clause-news
-returns-then-x-unit-2-clause-news t c = news_none (join_of c.args.unit) AnyPair c.args.turn _ _ c.args.f c.args.g _ 0 (λ p found. found) (omega arith)
+pub returns-then-x-2-clause-news : goal.returns-then-x-2-clause-news
+returns-then-x-2-clause-news g t c = news_none (join_of (unit_of g)) AnyPair c.args.turn _ _ c.args.f c.args.g _ 0 (λ p found. found) (omega arith)
 
-pub returns-else-x-unit-2-clause-news : goal.returns-else-x-unit-2-clause-news
-returns-else-x-unit-2-clause-news t c = news_none (join_of c.args.unit) AnyPair c.args.turn _ _ c.args.f c.args.g _ 0 (λ p found. found) (omega arith)
+pub returns-else-x-2-clause-news : goal.returns-else-x-2-clause-news
+returns-else-x-2-clause-news g t c = news_none (join_of (unit_of g)) AnyPair c.args.turn _ _ c.args.f c.args.g _ 0 (λ p found. found) (omega arith)
 
 pub returns-then-eq-clause-news : goal.returns-then-eq-clause-news
-returns-then-eq-clause-news t c = news_none (join_of c.args.unit) AnyPair c.args.turn _ _ c.args.f c.args.g _ 0 (λ p found. found) (omega arith)
+returns-then-eq-clause-news g t c = news_none (join_of (unit_of g)) AnyPair c.args.turn _ _ c.args.f c.args.g _ 0 (λ p found. found) (omega arith)
 
 pub returns-in-Some-get-clause-news : goal.returns-in-Some-get-clause-news
-returns-in-Some-get-clause-news t c = news_none (join_of c.args.unit) AnyPair c.args.turn _ _ c.args.f c.args.g _ 0 (λ p found. found) (omega arith)
+returns-in-Some-get-clause-news g t c = news_none (join_of (unit_of g)) AnyPair c.args.turn _ _ c.args.f c.args.g _ 0 (λ p found. found) (omega arith)
 
 pub returns-in-Some-recall-clause-news : goal.returns-in-Some-recall-clause-news
-returns-in-Some-recall-clause-news t c = news_hit (join_of c.args.unit) AnyPair c.args.turn c.args.store.now c.args.known.now c.note_hit.new.self c.args.memo.now c.args.f c.args.g _ c.note_hit.ensures
+returns-in-Some-recall-clause-news g t c = news_hit (join_of (unit_of g)) AnyPair c.args.turn c.args.store.now c.args.known.now c.note_hit.new.self c.args.memo.now c.args.f c.args.g _ c.note_hit.ensures

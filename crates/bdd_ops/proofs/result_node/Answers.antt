@@ -1,5 +1,4 @@
 use Rattle.std.proofs.Common.{sym, ◌∙◌}
-use Rattle.bdd_store.specs.Diagram.{IsLive}
 use Rattle.bdd_store.specs.Results.{IsResult}
 use Rattle.bdd_store.proofs.ResultLaws.{operands_kept, made_kept, results_kept}
 use Rattle.bdd_ops.proofs.Tables.{if_ok_both}
