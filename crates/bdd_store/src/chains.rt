@@ -125,7 +125,7 @@ pub fn link_all(nodes: &mut Vec<Node>, heads: &mut Vec<u32>, vars: u32) -> u32
     free
 }
 
-/// Makes four times as many chains, where there is memory for that, and gives the first place of the free list.
+/// Makes twice as many chains, where there is memory for that, and gives the first place of the free list.
 #[inline(never)]
 pub fn grow(nodes: &mut Vec<Node>, heads: &mut Vec<u32>, free: u32, vars: u32) -> u32
     requires chained { Chained vars nodes.old.items heads.old.items free (AllOf nodes.old.items) }
@@ -137,7 +137,7 @@ pub fn grow(nodes: &mut Vec<Node>, heads: &mut Vec<u32>, free: u32, vars: u32) -
     ensures len { vec_len nodes.new ≡ vec_len nodes.old }
 {
     let len = heads.len();
-    if len < 0x4000_0000 && heads.resize(4 * len, 0).is_ok() {
+    if len < 0x8000_0000 && heads.resize(2 * len, 0).is_ok() {
         return link_all(nodes, heads, vars);
     }
     free
