@@ -5,9 +5,15 @@ use std::alloc::{AllocError, Global};
 use std::marker::Model;
 
 /// A value in a place of its own on the heap. Contracts see the value and not its place, so that trees are compared as values.
-#[derive(Debug, Drop)]
+#[derive(Debug)]
 pub struct Boxed<T> {
     held: Box<T>,
+}
+
+impl<T: Drop> Drop for Boxed<T> {
+    fn drop(self) {
+        let Boxed { held: _ } = self;
+    }
 }
 
 impl<T> Model for Boxed<T> {

@@ -6,7 +6,6 @@ use crate::tree::{Kind, Op, Ref, Span, Use, Word};
 
 /// An expression of the flattened text: each path is an element, a variable or a constant. A place is the offset of what stood there in the text.
 #[cycle(flat_expressions)]
-#[derive(Drop)]
 pub enum FlatExpr {
     /// A number.
     Number {
@@ -113,6 +112,69 @@ pub enum FlatExpr {
     },
 }
 
+/// Written out, so that what lets one go calls this in place of an arm for each variant.
+impl Drop for FlatExpr {
+    #[cycle(flat_expressions)]
+    fn drop(self) {
+        match self {
+            FlatExpr::Number { value: _, at: _ } => (),
+            FlatExpr::Read {
+                family: _,
+                indexes: _,
+                at: _,
+            } => (),
+            FlatExpr::Var { var: _, at: _ } => (),
+            FlatExpr::Loop { value: _, at: _ } => (),
+            FlatExpr::Constant {
+                list: _,
+                value: _,
+                at: _,
+            } => (),
+            FlatExpr::Not { of: _, at: _ } => (),
+            FlatExpr::And { parts: _ } => (),
+            FlatExpr::Or { parts: _ } => (),
+            FlatExpr::Implies { parts: _ } => (),
+            FlatExpr::Iff { left: _, right: _ } => (),
+            FlatExpr::Compare {
+                op: _,
+                left: _,
+                right: _,
+            } => (),
+            FlatExpr::Within { left: _, set: _ } => (),
+            FlatExpr::Sum { first: _, more: _ } => (),
+            FlatExpr::Modulo {
+                of: _,
+                by: _,
+                at: _,
+            } => (),
+            FlatExpr::Choose {
+                cond: _,
+                yes: _,
+                no: _,
+            } => (),
+            FlatExpr::All {
+                body: _,
+                var: _,
+                over: _,
+                at: _,
+            } => (),
+            FlatExpr::Any {
+                body: _,
+                var: _,
+                over: _,
+                at: _,
+            } => (),
+            FlatExpr::List { members: _, at: _ } => (),
+            FlatExpr::Each {
+                var: _,
+                over: _,
+                cond: _,
+                at: _,
+            } => (),
+        }
+    }
+}
+
 /// What a sum adds or, with `minus`, takes away.
 #[cycle(flat_expressions)]
 #[derive(Drop)]
@@ -123,10 +185,20 @@ pub struct FlatSigned {
 
 /// A member of a listed set: a value, or all numbers of a span.
 #[cycle(flat_expressions)]
-#[derive(Drop)]
 pub enum FlatMember {
     One { of: FlatExpr },
     Span { span: Span, at: u32 },
+}
+
+/// Written out, so that what lets one go calls this in place of an arm for each variant.
+impl Drop for FlatMember {
+    #[cycle(flat_expressions)]
+    fn drop(self) {
+        match self {
+            FlatMember::One { of: _ } => (),
+            FlatMember::Span { span: _, at: _ } => (),
+        }
+    }
 }
 
 /// A type of one value: a range of numbers, an enumeration by its place among the enumerations, or a set type by its place among the set types.
@@ -176,7 +248,6 @@ pub enum FlatItem {
 }
 
 /// A statement of the flattened text. Loops are written out as blocks, a `switch` as one `If` inside another, and what is missing as an empty block.
-#[derive(Drop)]
 pub enum FlatStmt {
     /// An assignment to an element of a family, by its indexes, at its first byte.
     Assign {
@@ -205,8 +276,37 @@ pub enum FlatStmt {
     },
 }
 
+/// Written out, so that what lets one go calls this in place of an arm for each variant.
+impl Drop for FlatStmt {
+    fn drop(self) {
+        match self {
+            FlatStmt::Assign {
+                kind: _,
+                family: _,
+                left: _,
+                value: _,
+                at: _,
+            } => (),
+            FlatStmt::If {
+                cond: _,
+                yes: _,
+                no: _,
+            } => (),
+            FlatStmt::Block { parts: _ } => (),
+            FlatStmt::Default {
+                first: _,
+                second: _,
+            } => (),
+            FlatStmt::Forall {
+                var: _,
+                over: _,
+                body: _,
+            } => (),
+        }
+    }
+}
+
 /// What a definition says of one family for one kind of assignment.
-#[derive(Drop)]
 pub enum Flat {
     /// No result.
     Nothing,
@@ -231,6 +331,32 @@ pub enum Flat {
         over: Simple,
         body: Boxed<Flat>,
     },
+}
+
+/// Written out, so that what lets one go calls this in place of an arm for each variant.
+impl Drop for Flat {
+    fn drop(self) {
+        match self {
+            Flat::Nothing => (),
+            Flat::Assign {
+                left: _,
+                value: _,
+                place: _,
+                at: _,
+            } => (),
+            Flat::If {
+                cond: _,
+                yes: _,
+                no: _,
+            } => (),
+            Flat::First { parts: _ } => (),
+            Flat::Forall {
+                var: _,
+                over: _,
+                body: _,
+            } => (),
+        }
+    }
 }
 
 /// The definition of a family outside layers, or in a layer. Its place and offset are those of its first assignment.

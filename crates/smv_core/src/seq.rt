@@ -5,9 +5,15 @@ use std::alloc::{AllocError, Global};
 use std::marker::Model;
 
 /// A sequence of values. Contracts see it as the list of its values, so that two trees that hold the same values are equal.
-#[derive(Debug, Drop)]
+#[derive(Debug)]
 pub struct Seq<T> {
     values: Vec<T>,
+}
+
+impl<T: Drop> Drop for Seq<T> {
+    fn drop(self) {
+        let Seq { values: _ } = self;
+    }
 }
 
 impl<T> Model for Seq<T> {

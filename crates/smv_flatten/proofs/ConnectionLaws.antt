@@ -20,14 +20,14 @@ use Rattle.smv_core.specs.declared.tree.Expr.{Expr, Signal, Signal', Row_of-Part
 use Rattle.smv_core.specs.declared.flat.FlatExpr.{FlatExpr, Read, Constant}
 use Rattle.smv_core.specs.declared.flat.FlatStmt.{FlatStmt, Assign}
 use mathlib.Core.Former.{Count}
-use Rattle.smv_inst.proofs.Computing.{computing}
-use Rattle.smv_flat.specs.Numbers.{Scope, family_number, or_signal}
-use Rattle.smv_flat.specs.Statements.{flat_expr, first_token}
-use Rattle.smv_flat.specs.Entries.{Binders, formal, given_to, connection, placed_families}
-use Rattle.smv_flat.specs.Flattening.{flat_family, scope_in, within}
-use Rattle.smv_families.specs.declared.numbers.Here.{Here}
-use Rattle.smv_families.specs.Held.{AreNumbers, instance_of, scope_here}
-use Rattle.smv_statements.specs.Flattened.{statement_of, expression_of, path_indexes}
+use Rattle.smv_instances.proofs.Computing.{computing}
+use Rattle.law_flattening.specs.Numbers.{Scope, family_number, or_signal}
+use Rattle.law_flattening.specs.Statements.{flat_expr, first_token}
+use Rattle.law_flattening.specs.Entries.{Binders, formal, given_to, connection, placed_families}
+use Rattle.law_flattening.specs.Flattening.{flat_family, scope_in, within}
+use Rattle.smv_flatten_families.specs.declared.numbers.Here.{Here}
+use Rattle.smv_flatten_families.specs.Held.{AreNumbers, instance_of, scope_here}
+use Rattle.smv_flatten_statements.specs.Flattened.{statement_of, expression_of, path_indexes}
 use Rattle.smv_flatten.proofs.ListLaws.{map-length}
 use Rattle.smv_flatten.specs.Items.{formal_of, act_item, bound_by}
 use Rattle.smv_flatten.specs.Connections.{connected, input_act, output_act}

@@ -23,15 +23,15 @@ use Rattle.smv_core.specs.declared.flat.Family.{Family as FlatFamily}
 use Rattle.smv_core.specs.declared.flat.Raw.{Raw}
 use Rattle.smv_core.specs.declared.flat.FlatItem.{FlatItem}
 use Rattle.smv_core.specs.declared.flat.FlatItem.TheVariants as item
-use Rattle.smv_inst.proofs.Computing.{computing}
-use Rattle.smv_flat.specs.Numbers.{Scope, bound_in, flat_over}
-use Rattle.smv_flat.specs.Entries as entries
-use Rattle.smv_flat.specs.Entries.{Binders, Entry, Goal, layer, statement, goal, inside_binder, item_entries, entries_in}
-use Rattle.smv_flat.specs.Flattening.{within, flat_entry, layer_number, scope_in, layers_of, enums_of, flat_family, with_places, flatten}
-use Rattle.smv_families.specs.declared.numbers.Here.{Here}
-use Rattle.smv_families.specs.declared.numbers.Numbers.{Numbers}
-use Rattle.smv_families.specs.Held.{AreNumbers, instance_of, scope_here}
-use Rattle.smv_statements.specs.Flattened.{statement_of}
+use Rattle.smv_instances.proofs.Computing.{computing}
+use Rattle.law_flattening.specs.Numbers.{Scope, bound_in, flat_over}
+use Rattle.law_flattening.specs.Entries as entries
+use Rattle.law_flattening.specs.Entries.{Binders, Entry, Goal, layer, statement, goal, inside_binder, item_entries, entries_in}
+use Rattle.law_flattening.specs.Flattening.{within, flat_entry, layer_number, scope_in, layers_of, enums_of, flat_family, with_places, flatten}
+use Rattle.smv_flatten_families.specs.declared.numbers.Here.{Here}
+use Rattle.smv_flatten_families.specs.declared.numbers.Numbers.{Numbers}
+use Rattle.smv_flatten_families.specs.Held.{AreNumbers, instance_of, scope_here}
+use Rattle.smv_flatten_statements.specs.Flattened.{statement_of}
 use Rattle.smv_flatten.specs.declared.leaves.What.{What}
 use Rattle.smv_flatten.specs.declared.leaves.What.TheVariants as noted
 use Rattle.smv_flatten.specs.Leaves.{item_of}

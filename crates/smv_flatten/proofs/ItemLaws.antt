@@ -5,10 +5,10 @@ use Rattle.smv_core.specs.declared.tree.Word.{Word}
 use Rattle.smv_core.specs.declared.tree.TypeExpr.{TypeExpr}
 use Rattle.smv_core.specs.declared.flat.FlatStmt.{FlatStmt, Forall}
 use Rattle.smv_core.specs.declared.flat.Param.{Param}
-use Rattle.smv_flat.specs.Numbers.{Scope, flat_over}
-use Rattle.smv_flat.specs.Entries.{Binders}
-use Rattle.smv_flat.specs.Flattening.{params_from, within}
-use Rattle.smv_statements.specs.Around.{around_of}
+use Rattle.law_flattening.specs.Numbers.{Scope, flat_over}
+use Rattle.law_flattening.specs.Entries.{Binders}
+use Rattle.law_flattening.specs.Flattening.{params_from, within}
+use Rattle.smv_flatten_statements.specs.Around.{around_of}
 use Rattle.smv_flatten.specs.declared.leaves.Binder.{Binder}
 use Rattle.smv_flatten.specs.Leaves.{binder_of, binders_of}
 use Rattle.smv_flatten.specs.Items.{bound_by}

@@ -13,10 +13,10 @@ use Rattle.smv_core.specs.declared.tree.Word.{Word}
 use Rattle.smv_core.specs.declared.tree.Text.{Text}
 use Rattle.smv_core.specs.declared.tree.TypeExpr.{TypeExpr}
 use Rattle.smv_core.specs.declared.tree.Stmt.{Stmt}
-use Rattle.smv_flat.specs.Entries.{Binders, Entry, layer, statement, goal, inside_binder, connections, item_entries, entries_in}
-use Rattle.smv_flat.specs.Flattening.{different, layer_of, layers_of, layer_number}
+use Rattle.law_flattening.specs.Entries.{Binders, Entry, layer, statement, goal, inside_binder, connections, item_entries, entries_in}
+use Rattle.law_flattening.specs.Flattening.{different, layer_of, layers_of, layer_number}
 use Rattle.name_index.specs.Position.{position}
-use Rattle.smv_families.specs.Held.{path_of}
+use Rattle.smv_flatten_families.specs.Held.{path_of}
 use Rattle.smv_flatten.specs.declared.leaves.What.{What}
 use Rattle.smv_flatten.specs.declared.leaves.What.TheVariants.{Instance, Layer, Claim, Split, Using, Act}
 use Rattle.smv_flatten.specs.declared.met.Met.{Met}

@@ -10,12 +10,12 @@ use Rattle.smv_core.specs.declared.flat.FlatExpr.{FlatExpr}
 use Rattle.smv_core.specs.declared.flat.FlatStmt.{FlatStmt, Forall}
 use Rattle.smv_core.specs.declared.flat.FlatItem.{FlatItem}
 use Rattle.smv_core.specs.declared.flat.FlatItem.TheVariants.{Act}
-use Rattle.smv_flat.specs.Numbers.{Scope, flat_over, or_signal}
-use Rattle.smv_flat.specs.Entries.{Binders, Goal}
-use Rattle.smv_flat.specs.Flattening.{within, flat_entry, flat_goal}
-use Rattle.smv_statements.specs.Flattened.{statement_of}
+use Rattle.law_flattening.specs.Numbers.{Scope, flat_over, or_signal}
+use Rattle.law_flattening.specs.Entries.{Binders, Goal}
+use Rattle.law_flattening.specs.Flattening.{within, flat_entry, flat_goal}
+use Rattle.smv_flatten_statements.specs.Flattened.{statement_of}
 use Rattle.smv_flatten.specs.declared.leaves.What.{What}
-use Rattle.smv_families.specs.Held.{path_of}
+use Rattle.smv_flatten_families.specs.Held.{path_of}
 use Rattle.smv_flatten.specs.declared.met.Met.{Met}
 use Rattle.smv_flatten.specs.Leaves.{item_of, binders_of}
 use Rattle.smv_flatten.specs.Met.{said_in}

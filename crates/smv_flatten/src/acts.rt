@@ -1,9 +1,9 @@
 // Statements of the flattened text, inside the binders around them.
 ghost use Rattle.std.specs.Prelude.{◌≡◌, ◌++◌, ◌∷◌, [], map, drop, IfOk, OnOk};
-ghost use Rattle.smv_flat.specs.Flattening.{params_from, within};
+ghost use Rattle.law_flattening.specs.Flattening.{params_from, within};
 ghost use Rattle.smv_core.specs.declared.flat.FlatItem.TheVariants.{Act};
-ghost use Rattle.smv_families.specs.Held.{AreNumbers, scope_here};
-ghost use Rattle.smv_statements.specs.Around.{around_of};
+ghost use Rattle.smv_flatten_families.specs.Held.{AreNumbers, scope_here};
+ghost use Rattle.smv_flatten_statements.specs.Around.{around_of};
 ghost use Rattle.smv_flatten.specs.Leaves.{binders_of};
 ghost use Rattle.smv_flatten.specs.Items.{bound_by, act_item};
 
@@ -13,10 +13,10 @@ use smv_core::boxed::Boxed;
 use smv_core::flat::{FlatItem, FlatStmt, Param};
 use smv_core::seq::Seq;
 use smv_core::tree::Stmt;
-use smv_families::lookups::over;
-use smv_families::numbers::Here;
-use smv_statements::statements::flat_statement;
-use smv_statements::vars::{Bound, Var, inside};
+use smv_flatten_families::lookups::over;
+use smv_flatten_families::numbers::Here;
+use smv_flatten_statements::statements::flat_statement;
+use smv_flatten_statements::vars::{Bound, Var, inside};
 use std::alloc::{AllocError, Global};
 
 /// The variables of binders, the innermost first.
@@ -85,7 +85,7 @@ pub fn act_inside<'a>(
 }
 
 /// A statement inside these binders, whose variables are `vars`.
-#[tactic(auto, unfolding(crate::specs::Items::act_item, smv_statements::specs::Flattened::statement_of))]
+#[tactic(auto, unfolding(crate::specs::Items::act_item, smv_flatten_statements::specs::Flattened::statement_of))]
 pub fn statement<'a>(
     alloc: Global,
     here: Here<'a, '_>,
@@ -103,7 +103,7 @@ pub fn statement<'a>(
 }
 
 /// Statements inside these binders, whose variables are `vars`.
-#[tactic(auto, using(smv_inst::proofs::Notes::noting))]
+#[tactic(auto, using(smv_instances::proofs::Notes::noting))]
 pub fn statements<'a>(
     alloc: Global,
     here: Here<'a, '_>,
@@ -125,7 +125,7 @@ pub fn statements<'a>(
 }
 
 /// The parameters that binders bind.
-#[tactic(auto, using(smv_inst::proofs::Notes::noting, crate::proofs::ItemLaws::binders))]
+#[tactic(auto, using(smv_instances::proofs::Notes::noting, crate::proofs::ItemLaws::binders))]
 pub fn params<'a>(
     alloc: Global,
     here: Here<'a, '_>,

@@ -1,9 +1,9 @@
 // The connections of instances: definitions of inputs, and of what outputs give.
 ghost use Rattle.std.specs.Prelude.{◌≡◌, ◌++◌, ◌∷◌, [], map, flat_map, zip, None, IfOk, OnOk};
-ghost use Rattle.smv_flat.specs.Entries.{connection, given_to};
-ghost use Rattle.smv_flat.specs.Flattening.{within};
-ghost use Rattle.smv_families.specs.Held.{AreNumbers, scope_here};
-ghost use Rattle.smv_statements.specs.Around.{around_of};
+ghost use Rattle.law_flattening.specs.Entries.{connection, given_to};
+ghost use Rattle.law_flattening.specs.Flattening.{within};
+ghost use Rattle.smv_flatten_families.specs.Held.{AreNumbers, scope_here};
+ghost use Rattle.smv_flatten_statements.specs.Around.{around_of};
 ghost use Rattle.smv_flatten.specs.Leaves.{binders_of};
 ghost use Rattle.smv_flatten.specs.Items.{act_item, formal_of};
 ghost use Rattle.smv_flatten.specs.Connections.{connected, input_act, output_act};
@@ -14,11 +14,11 @@ use smv_core::flat::{FlatExpr, FlatItem, FlatStmt};
 use smv_core::name::Name;
 use smv_core::seq::Seq;
 use smv_core::tree::{Expr, Kind, Path, Role, Word};
-use smv_families::lookups::{family, family_named};
-use smv_families::numbers::Here;
-use smv_statements::expressions::{flat_expression, indexes};
-use smv_statements::places::first_token;
-use smv_statements::vars::Var;
+use smv_flatten_families::lookups::{family, family_named};
+use smv_flatten_families::numbers::Here;
+use smv_flatten_statements::expressions::{flat_expression, indexes};
+use smv_flatten_statements::places::first_token;
+use smv_flatten_statements::vars::Var;
 use std::alloc::{AllocError, Global};
 
 // A formal of an instance, where it is read at a place.
@@ -100,7 +100,7 @@ fn output<'a>(
 }
 
 // The definition of an output's argument, where it is a path.
-#[tactic(auto, using(smv_inst::proofs::Notes::noting, crate::proofs::ConnectionLaws::paths))]
+#[tactic(auto, using(smv_instances::proofs::Notes::noting, crate::proofs::ConnectionLaws::paths))]
 fn add_output<'a>(
     alloc: Global,
     here: Here<'a, '_>,
@@ -140,7 +140,7 @@ fn add_output<'a>(
 }
 
 // The connection of a formal of this role with its argument.
-#[tactic(auto, using(smv_inst::proofs::Notes::noting))]
+#[tactic(auto, using(smv_instances::proofs::Notes::noting))]
 fn add_connection<'a>(
     alloc: Global,
     here: Here<'a, '_>,
@@ -169,7 +169,7 @@ fn add_connection<'a>(
 }
 
 /// The connections of an instance, in the order of its formals, which have these roles.
-#[tactic(auto, using(smv_inst::proofs::Notes::noting))]
+#[tactic(auto, using(smv_instances::proofs::Notes::noting))]
 pub fn connections<'a>(
     alloc: Global,
     here: Here<'a, '_>,

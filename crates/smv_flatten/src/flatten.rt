@@ -1,11 +1,11 @@
 // The flattened text.
 ghost use Rattle.std.specs.Prelude.{◌≡◌, ◌++◌, [], map, flat_map, IfOk, OnOk};
 ghost use Rattle.smv_core.specs.FlatOrder.{modules};
-ghost use Rattle.smv_inst.specs.Said.{AreNoted};
-ghost use Rattle.smv_flat.specs.Flattening as flattening;
-ghost use Rattle.smv_flat.specs.Flattening.{within};
-ghost use Rattle.smv_families.specs.Held.{AreNumbers, instance_of};
-ghost use Rattle.smv_statements.specs.Around.{around_of};
+ghost use Rattle.smv_instances.specs.Said.{AreNoted};
+ghost use Rattle.law_flattening.specs.Flattening as flattening;
+ghost use Rattle.law_flattening.specs.Flattening.{within};
+ghost use Rattle.smv_flatten_families.specs.Held.{AreNumbers, instance_of};
+ghost use Rattle.smv_flatten_statements.specs.Around.{around_of};
 ghost use Rattle.smv_flatten.specs.Leaves.{binders_of};
 ghost use Rattle.smv_flatten.specs.Layers.{AreSame};
 ghost use Rattle.smv_flatten.specs.Roles.{roles_beside};
@@ -23,13 +23,13 @@ use name_index::map::NameMap;
 use smv_core::flat::{FlatItem, Raw};
 use smv_core::seq::Seq;
 use smv_core::tree::{Role, Text};
-use smv_families::numbers::{Here, Numbers, body_of, numbers_of};
-use smv_inst::pieces::Piece;
-use smv_statements::vars::Var;
+use smv_flatten_families::numbers::{Here, Numbers, body_of, numbers_of};
+use smv_flatten_statements::vars::Var;
+use smv_instances::pieces::Piece;
 use std::alloc::{AllocError, Global};
 
 // What an item inside these binders is, whose variables are `vars`.
-#[tactic(auto, using(smv_inst::proofs::Notes::noting, crate::proofs::FlatLaws::items))]
+#[tactic(auto, using(smv_instances::proofs::Notes::noting, crate::proofs::FlatLaws::items))]
 fn add_item<'a>(
     alloc: Global,
     here: Here<'a, '_>,
@@ -93,7 +93,7 @@ fn add_item<'a>(
 }
 
 // What is met as items of the flattened text.
-#[tactic(auto, using(smv_inst::proofs::Notes::noting))]
+#[tactic(auto, using(smv_instances::proofs::Notes::noting))]
 fn add_met<'a>(
     alloc: Global,
     numbers: &Numbers<'a>,
@@ -126,7 +126,7 @@ fn add_met<'a>(
 }
 
 // All that is met as items of the flattened text, without the places of claims.
-#[tactic(auto, using(smv_inst::proofs::Notes::noting))]
+#[tactic(auto, using(smv_instances::proofs::Notes::noting))]
 fn items_of<'a>(
     alloc: Global,
     numbers: &Numbers<'a>,

@@ -1,10 +1,10 @@
 // Claims, splits and `using` of the flattened text.
 ghost use Rattle.std.specs.Prelude.{◌≡◌, ◌++◌, [], map, IfOk};
-ghost use Rattle.smv_flat.specs.Entries as entries;
-ghost use Rattle.smv_flat.specs.Flattening as flattening;
-ghost use Rattle.smv_flat.specs.Flattening.{within};
-ghost use Rattle.smv_families.specs.Held.{AreNumbers, scope_here};
-ghost use Rattle.smv_statements.specs.Around.{around_of};
+ghost use Rattle.law_flattening.specs.Entries as entries;
+ghost use Rattle.law_flattening.specs.Flattening as flattening;
+ghost use Rattle.law_flattening.specs.Flattening.{within};
+ghost use Rattle.smv_flatten_families.specs.Held.{AreNumbers, scope_here};
+ghost use Rattle.smv_flatten_statements.specs.Around.{around_of};
 ghost use Rattle.smv_flatten.specs.Leaves.{binders_of};
 ghost use Rattle.smv_flatten.specs.Items.{goal_item};
 
@@ -16,14 +16,14 @@ use smv_core::flat::{Claim, FlatItem, FlatPair, FlatSplit, FlatUsing};
 use smv_core::name::Name;
 use smv_core::seq::Seq;
 use smv_core::tree::{Expr, Pair, Ref, Use, Word};
-use smv_families::dots::dotted;
-use smv_families::numbers::Here;
-use smv_statements::expressions::flat_expression;
-use smv_statements::vars::Var;
+use smv_flatten_families::dots::dotted;
+use smv_flatten_families::numbers::Here;
+use smv_flatten_statements::expressions::flat_expression;
+use smv_flatten_statements::vars::Var;
 use std::alloc::{AllocError, Global};
 
 // A name of the instance.
-#[tactic(auto, unfolding(smv_families::specs::Held::scope_here))]
+#[tactic(auto, unfolding(smv_flatten_families::specs::Held::scope_here))]
 fn own_name<'a>(alloc: Global, here: Here<'a, '_>, word: &'a Word) -> Result<Name, AllocError>
     ensures { IfOk result (λ name. name ≡ flattening.own_name (scope_here here.entry) word.now) }
 {
@@ -64,7 +64,7 @@ pub fn claimed<'a>(
 }
 
 // The equations of a split.
-#[tactic(auto, using(smv_inst::proofs::Notes::noting))]
+#[tactic(auto, using(smv_instances::proofs::Notes::noting))]
 fn flat_pairs<'a>(
     alloc: Global,
     here: Here<'a, '_>,
@@ -122,7 +122,7 @@ pub fn divided<'a>(
 }
 
 // The name of the instance.
-#[tactic(auto, unfolding(smv_families::specs::Held::scope_here))]
+#[tactic(auto, unfolding(smv_flatten_families::specs::Held::scope_here))]
 fn prefix_name(alloc: Global, here: Here) -> Result<Name, AllocError>
     ensures { IfOk result (λ name. name ≡ flattening.dotted (scope_here here.entry).instance) }
 {

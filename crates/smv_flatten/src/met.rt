@@ -1,14 +1,14 @@
 // What a text says in flat order: from the top of `main` downwards, and through each instance at its declaration.
 ghost use Rattle.std.specs.Prelude.{◌≡◌, ◌++◌, [], ◌∷◌, map, flat_map, IfOk, OnOk};
 ghost use Rattle.smv_core.specs.FlatOrder.{main};
-ghost use Rattle.smv_flat.specs.Entries.{entries};
-ghost use Rattle.smv_families.specs.Held.{AreNumbers, path_of};
+ghost use Rattle.law_flattening.specs.Entries.{entries};
+ghost use Rattle.smv_flatten_families.specs.Held.{AreNumbers, path_of};
 ghost use Rattle.smv_flatten.specs.Leaves.{leaf_of, binders_of};
 ghost use Rattle.smv_flatten.specs.Met.{entries_met, said_in, inside};
 
 use crate::leaves::{Binder, Leaf, What, all_leaves, copied};
 use smv_core::name::Name;
-use smv_families::numbers::{Numbers, body_of, module_count};
+use smv_flatten_families::numbers::{Numbers, body_of, module_count};
 use std::alloc::{AllocError, Global};
 
 /// An item of an instance, with the names that lead to the instance and with the binders around it from the outside in. An instance stands for its connections alone: what stands in it follows.
@@ -42,7 +42,7 @@ fn copied_path<'a>(alloc: Global, path: &[&'a Name]) -> Result<Vec<&'a Name>, Al
 }
 
 // An item more.
-#[tactic(auto, using(smv_inst::proofs::Notes::noting, crate::proofs::MetLaws::noting))]
+#[tactic(auto, using(smv_instances::proofs::Notes::noting, crate::proofs::MetLaws::noting))]
 fn note<'a>(
     alloc: Global,
     numbers: &Numbers<'a>,
@@ -64,7 +64,7 @@ fn note<'a>(
 
 // What a module inside binders says as an instance. No chain of instances inside it is longer than `left`.
 #[cycle(walk)]
-#[tactic(auto, using(smv_inst::proofs::Notes::noting, crate::proofs::MetLaws::walks))]
+#[tactic(auto, using(smv_instances::proofs::Notes::noting, crate::proofs::MetLaws::walks))]
 fn walk<'a>(
     alloc: Global,
     numbers: &Numbers<'a>,
@@ -87,7 +87,7 @@ fn walk<'a>(
 
 // What these items say.
 #[cycle(walk)]
-#[tactic(auto, using(smv_inst::proofs::Notes::noting))]
+#[tactic(auto, using(smv_instances::proofs::Notes::noting))]
 fn meet_all<'a>(
     alloc: Global,
     numbers: &Numbers<'a>,
@@ -107,7 +107,7 @@ fn meet_all<'a>(
 
 // What an item says.
 #[cycle(walk)]
-#[tactic(auto, using(smv_inst::proofs::Notes::noting, crate::proofs::MetLaws::meets))]
+#[tactic(auto, using(smv_instances::proofs::Notes::noting, crate::proofs::MetLaws::meets))]
 fn meet<'a>(
     alloc: Global,
     numbers: &Numbers<'a>,

@@ -3,12 +3,12 @@ use Rattle.std.specs.Prelude.{Option}
 use Rattle.smv_core.specs.declared.fault.Fault.{Fault}
 use Rattle.smv_core.specs.declared.tree.Text.{Text}
 use Rattle.smv_core.specs.declared.flat.Raw.{Raw}
-use Rattle.smv_inst.specs.FirstFault.{first_fault, or_else}
-use Rattle.smv_types.specs.KindFaults.{first_fault_of_kinds}
-use Rattle.smv_flat.specs.Flattening.{flatten}
-use Rattle.smv_single.specs.SingleFaults.{first_fault_of_single}
-use Rattle.smv_single.specs.Definitions.{design_of_raw}
-use Rattle.smv_delay.specs.FirstFault.{first_fault_of_design}
+use Rattle.smv_instances.specs.FirstFault.{first_fault, or_else}
+use Rattle.law_kinds.specs.KindFaults.{first_fault_of_kinds}
+use Rattle.law_flattening.specs.Flattening.{flatten}
+use Rattle.law_single_assignment.specs.SingleFaults.{first_fault_of_single}
+use Rattle.law_single_assignment.specs.Definitions.{design_of_raw}
+use Rattle.law_loops_and_layers.specs.FirstFault.{first_fault_of_design}
 
 -- the first fault of a flattened text: of single assignment, or else of the loops and then of the layers of its design
 abbrev pub raw_fault : Raw → Option Fault

@@ -2,20 +2,20 @@
 #![tactic(auto)]
 
 ghost use Rattle.std.specs.Prelude.{◌≡◌, IfOk};
-ghost use Rattle.smv_delay.specs.FirstFault.{first_fault_of_design};
+ghost use Rattle.law_loops_and_layers.specs.FirstFault.{first_fault_of_design};
 ghost use Rattle.smv_typing.specs.Answers.{IsSpelled};
 ghost use Rattle.smv_front.specs.TextFault as spec;
 
 use crate::types::are_too_deep;
-use smv_assigned::single_fault;
 use smv_core::flat::Design;
 use smv_core::tree::Text;
 use smv_core::{Fault, Refusal};
-use smv_defined::design;
-use smv_inst::pieces::pieces;
+use smv_design::design;
+use smv_instances::pieces::pieces;
 use smv_layers::layers::layer_fault;
 use smv_loops::loops::loop_fault;
 use smv_names::first_fault;
+use smv_single_assignment::single_fault;
 use smv_typing::{Typed, kinds};
 use std::alloc::{AllocError, Global};
 

@@ -13,12 +13,12 @@ use Rattle.smv_core.specs.declared.tree.Ref.{Ref}
 use Rattle.smv_core.specs.declared.tree.Use.{Use}
 use Rattle.smv_core.specs.declared.tree.Item.{Item, Declare, Instance, Layer, Forall, Block, Block', Claim, Split, Using, Act, Row_of-Item, end_of-Item, more_of-Item, items-the_row-Item, items_hidden-the_row-Item-1}
 use mathlib.Core.Former.{Count}
-use Rattle.smv_types.specs.Kinds.{takes_number}
-use Rattle.smv_types.specs.Types.{Types, index_faults, type_faults}
-use Rattle.smv_types.specs.References.{Scope, Vars}
-use Rattle.smv_types.specs.Operands.{operand, bind}
-use Rattle.smv_types.specs.KindFaults.{in_stmt, in_item, in_items, in_arguments, formal_faults}
-use Rattle.smv_inst.proofs.Computing.{computing}
+use Rattle.law_kinds.specs.Kinds.{takes_number}
+use Rattle.law_kinds.specs.Types.{Types, index_faults, type_faults}
+use Rattle.law_kinds.specs.References.{Scope, Vars}
+use Rattle.law_kinds.specs.Operands.{operand, bind}
+use Rattle.law_kinds.specs.KindFaults.{in_stmt, in_item, in_items, in_arguments, formal_faults}
+use Rattle.smv_instances.proofs.Computing.{computing}
 
 module _ (scope : Scope) (vars : Vars) where
   items-row : (n : _) (row : Row_of-Item n) → in_items scope vars row ≡ flat_map (in_item scope vars) (items-the_row-Item n row)

@@ -3,18 +3,18 @@ use Rattle.std.proofs.Common.{◌≡◌, ℕ, zero, suc, ◌+◌, ◌<◌, ◌�
 use Rattle.std.specs.Prelude.{Option, Some, None, slice_get, unwrap_or}
 use Rattle.std.proofs.lemmas.List.{append_assoc, append-nil}
 use Rattle.std.specs.List.{flat_map}
-use Rattle.smv_inst.specs.FirstFault.{faults_at}
+use Rattle.smv_instances.specs.FirstFault.{faults_at}
 use Rattle.smv_core.specs.declared.fault.Fault.{Fault}
 use Rattle.smv_core.specs.declared.tree.Part.{Part, Field, At}
 use Rattle.smv_core.specs.Walk.{indexes_of}
-use Rattle.smv_types.specs.Kinds.{Kind, number, enumeration, set_type, no_kind, joins, joined, is_number, accepts, Operand, unless, takes_number, takes, alike_with, kind_with, stray_set}
-use Rattle.smv_types.specs.Types.{Whole}
-use Rattle.smv_types.specs.References.{Scope, Vars, reference}
-use Rattle.smv_types.specs.Operands.{operand}
-use Rattle.smv_forms.specs.declared.kinds.ValueKind.{ValueKind}
+use Rattle.law_kinds.specs.Kinds.{Kind, number, enumeration, set_type, no_kind, joins, joined, is_number, accepts, Operand, unless, takes_number, takes, alike_with, kind_with, stray_set}
+use Rattle.law_kinds.specs.Types.{Whole}
+use Rattle.law_kinds.specs.References.{Scope, Vars, reference}
+use Rattle.law_kinds.specs.Operands.{operand}
+use Rattle.smv_expression_kinds.specs.declared.kinds.ValueKind.{ValueKind}
 use Rattle.smv_core.specs.declared.tree.Expr.{Expr}
-use Rattle.smv_forms.specs.Forms.{kind_of, misfit}
-use Rattle.smv_forms.specs.Found.{vars_of}
+use Rattle.smv_expression_kinds.specs.Forms.{kind_of, misfit}
+use Rattle.smv_expression_kinds.specs.Found.{vars_of}
 use Rattle.smv_kinds.specs.Found.{begin, begins_at, or_zero, path_faults, part_faults}
 
 -- an operand that is itself at fault fits everywhere

@@ -10,17 +10,17 @@ use Rattle.smv_core.specs.declared.tree.Item.{Item}
 use Rattle.smv_core.specs.declared.tree.TypeExpr.{TypeExpr}
 use Rattle.smv_core.specs.declared.tree.Top.{Top}
 use Rattle.smv_core.specs.declared.tree.Top.TheVariants.{Alias, Module as ModuleOf}
-use Rattle.smv_inst.specs.Scopes.{Constant, pieces, constants}
-use Rattle.smv_inst.specs.FirstFault.{first_of}
+use Rattle.smv_instances.specs.Scopes.{Constant, pieces, constants}
+use Rattle.smv_instances.specs.FirstFault.{first_of}
 use Rattle.smv_scope.specs.ScopeFault.{earlier_of}
 use Rattle.smv_scope.proofs.FirstLaws.{earlier-assoc}
-use Rattle.smv_types.specs.Types.{Types, types_after, type_faults}
-use Rattle.smv_types.specs.References.{Module, modules_from}
-use Rattle.smv_types.specs.KindFaults.{in_item, in_top, in_tops}
-use Rattle.smv_forms.specs.declared.lookups.Scope.{Scope as HeldScope}
-use Rattle.smv_forms.specs.Forms.{types_from, types_before, module_in}
-use Rattle.smv_forms.specs.Found.{scope_of}
-use Rattle.smv_forms.proofs.ScopeLaws.{here-types}
+use Rattle.law_kinds.specs.Types.{Types, types_after, type_faults}
+use Rattle.law_kinds.specs.References.{Module, modules_from}
+use Rattle.law_kinds.specs.KindFaults.{in_item, in_top, in_tops}
+use Rattle.smv_expression_kinds.specs.declared.lookups.Scope.{Scope as HeldScope}
+use Rattle.smv_expression_kinds.specs.Forms.{types_from, types_before, module_in}
+use Rattle.smv_expression_kinds.specs.Found.{scope_of}
+use Rattle.smv_expression_kinds.proofs.ScopeLaws.{here-types}
 
 module _ (scope : HeldScope) where
   pub top-Module : (top : Top) (word : Word) (formals : List Word) (body : List Item) (at : ℕ) → slice_get scope.tables.now.names.text.now.tops scope.place ≡ Some top → top ≡ ModuleOf word formals body at

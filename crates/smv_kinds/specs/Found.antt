@@ -10,16 +10,16 @@ use Rattle.smv_core.specs.declared.tree.Part.{Part, Field, At}
 use Rattle.smv_core.specs.declared.tree.Expr.{Expr}
 use Rattle.smv_core.specs.declared.tree.Signed.{Signed, out-Signed}
 use Rattle.smv_core.specs.declared.tree.Member.{Member, One, Span as SpanOf}
-use Rattle.smv_inst.specs.NameFaults.{place_if}
-use Rattle.smv_inst.specs.FirstFault.{faults_at}
-use Rattle.smv_types.specs.Kinds.{Kind, Operand, takes, number_at, has_order, first_at}
-use Rattle.smv_types.specs.Types.{is_reversed}
-use Rattle.smv_types.specs.References.{Scope, Vars}
-use Rattle.smv_types.specs.Operands.{operand, value}
+use Rattle.smv_instances.specs.NameFaults.{place_if}
+use Rattle.smv_instances.specs.FirstFault.{faults_at}
+use Rattle.law_kinds.specs.Kinds.{Kind, Operand, takes, number_at, has_order, first_at}
+use Rattle.law_kinds.specs.Types.{is_reversed}
+use Rattle.law_kinds.specs.References.{Scope, Vars}
+use Rattle.law_kinds.specs.Operands.{operand, value}
 use Rattle.smv_core.specs.declared.tree.Arm.{Arm, out-Arm}
-use Rattle.smv_types.specs.KindFaults.{gives, is_fixed, in_stmt}
-use Rattle.smv_forms.specs.declared.kinds.ValueKind.{ValueKind}
-use Rattle.smv_forms.specs.Forms.{kind_of, misfit}
+use Rattle.law_kinds.specs.KindFaults.{gives, is_fixed, in_stmt}
+use Rattle.smv_expression_kinds.specs.declared.kinds.ValueKind.{ValueKind}
+use Rattle.smv_expression_kinds.specs.Forms.{kind_of, misfit}
 use Rattle.smv_kinds.specs.declared.formals.Formal.{Formal}
 use Rattle.smv_kinds.specs.declared.formals.Formal.TheVariants.{Input, Output, Other}
 

@@ -4,11 +4,11 @@ ghost use Rattle.std.specs.List.{list_all};
 ghost use Rattle.smv_core.specs.Types.{find_name};
 ghost use Rattle.smv_core.specs.declared.tree.Path.{out-Path};
 ghost use Rattle.smv_core.specs.declared.tree.Signed.{out-Signed};
-ghost use Rattle.smv_inst.specs.FirstFault.{faults_at};
-ghost use Rattle.smv_types.specs.Operands as operands;
-ghost use Rattle.smv_types.specs.KindFaults as spec;
-ghost use Rattle.smv_forms.specs.Forms.{kind_of, AreKindTables};
-ghost use Rattle.smv_forms.specs.Found.{scope_of};
+ghost use Rattle.smv_instances.specs.FirstFault.{faults_at};
+ghost use Rattle.law_kinds.specs.Operands as operands;
+ghost use Rattle.law_kinds.specs.KindFaults as spec;
+ghost use Rattle.smv_expression_kinds.specs.Forms.{kind_of, AreKindTables};
+ghost use Rattle.smv_expression_kinds.specs.Found.{scope_of};
 ghost use Rattle.smv_kinds.specs.Found.{argument_faults, is_constant, part_constant, words_left};
 
 use crate::formals::{Formal, formal_named};
@@ -16,8 +16,8 @@ use crate::operands::{operand, operand_at};
 use crate::values::{target, value};
 use smv_core::fault::Fault;
 use smv_core::tree::{Expr, Part, Path, Signed, Word};
-use smv_forms::kinds::{ValueKind, fault_if, takes};
-use smv_forms::lookups::{Scope, formals_of, module_named};
+use smv_expression_kinds::kinds::{ValueKind, fault_if, takes};
+use smv_expression_kinds::lookups::{Scope, formals_of, module_named};
 use std::alloc::{AllocError, Global};
 
 // The index can be worked out from the text alone.
@@ -91,7 +91,7 @@ fn is_constant_part(part: &Part) -> bool
 }
 
 // An output's argument is a path with constant indexes, which takes a value of this kind.
-#[tactic(auto, using(smv_inst::proofs::Notes::noting, crate::proofs::ArgumentLaws::equations, crate::proofs::KindLaws::value_fits, crate::proofs::KindLaws::no_vars))]
+#[tactic(auto, using(smv_instances::proofs::Notes::noting, crate::proofs::ArgumentLaws::equations, crate::proofs::KindLaws::value_fits, crate::proofs::KindLaws::no_vars))]
 fn given<'a>(
     path: &'a Path,
     scope: &Scope<'a, '_>,
@@ -111,7 +111,7 @@ fn given<'a>(
 }
 
 // An output's argument, which takes a value of this kind.
-#[tactic(auto, using(smv_inst::proofs::Notes::noting, crate::proofs::ArgumentLaws::equations, crate::proofs::KindLaws::no_vars))]
+#[tactic(auto, using(smv_instances::proofs::Notes::noting, crate::proofs::ArgumentLaws::equations, crate::proofs::KindLaws::no_vars))]
 fn gives<'a>(
     x: &'a Expr,
     scope: &Scope<'a, '_>,
@@ -143,7 +143,7 @@ fn gives<'a>(
 }
 
 // An output's argument that is no path.
-#[tactic(auto, using(smv_inst::proofs::Notes::noting, crate::proofs::KindLaws::no_vars))]
+#[tactic(auto, using(smv_instances::proofs::Notes::noting, crate::proofs::KindLaws::no_vars))]
 fn no_path<'a>(
     x: &'a Expr,
     scope: &Scope<'a, '_>,
@@ -159,7 +159,7 @@ fn no_path<'a>(
 }
 
 // An argument of a formal.
-#[tactic(auto, using(smv_inst::proofs::Notes::noting, crate::proofs::KindLaws::value_fits, crate::proofs::KindLaws::no_vars))]
+#[tactic(auto, using(smv_instances::proofs::Notes::noting, crate::proofs::KindLaws::value_fits, crate::proofs::KindLaws::no_vars))]
 fn argument<'a>(
     x: &'a Expr,
     scope: &Scope<'a, '_>,
@@ -181,7 +181,7 @@ fn argument<'a>(
 }
 
 // An argument of the first of these formals of a module, if there is one.
-#[tactic(auto, using(smv_inst::proofs::Notes::noting, crate::proofs::ArgumentLaws::zips))]
+#[tactic(auto, using(smv_instances::proofs::Notes::noting, crate::proofs::ArgumentLaws::zips))]
 fn connected<'a>(
     x: &'a Expr,
     scope: &Scope<'a, '_>,
@@ -214,7 +214,7 @@ fn behind_first(words: &[Word]) -> &[Word]
 }
 
 // The arguments of these formals of a module.
-#[tactic(auto, using(smv_inst::proofs::Notes::noting, crate::proofs::ArgumentLaws::zips))]
+#[tactic(auto, using(smv_instances::proofs::Notes::noting, crate::proofs::ArgumentLaws::zips))]
 fn all_connected<'a>(
     args: &'a [Expr],
     scope: &Scope<'a, '_>,
@@ -236,7 +236,7 @@ fn all_connected<'a>(
 }
 
 /// The arguments of an instance of the module of a name.
-#[tactic(auto, using(smv_inst::proofs::Notes::noting))]
+#[tactic(auto, using(smv_instances::proofs::Notes::noting))]
 pub fn arguments<'a>(
     args: &'a [Expr],
     name: &'a Word,

@@ -1,24 +1,24 @@
 // The first fault of kinds, ranges and sets in a text.
 ghost use Rattle.std.specs.Prelude.{◌≡◌, ◌++◌, ◌∷◌, [], Some, slice_get, IfOk, OnOk};
-ghost use Rattle.smv_inst.specs.Scopes.{pieces as pieces_of, constants};
-ghost use Rattle.smv_inst.specs.Said.{AreNoted};
-ghost use Rattle.smv_inst.specs.FirstFault as first;
-ghost use Rattle.smv_types.specs.References.{modules_from};
-ghost use Rattle.smv_types.specs.KindFaults.{in_top, faults_of_kinds, first_fault_of_kinds};
-ghost use Rattle.smv_forms.specs.Forms.{types_before, AreKindTables};
+ghost use Rattle.smv_instances.specs.Scopes.{pieces as pieces_of, constants};
+ghost use Rattle.smv_instances.specs.Said.{AreNoted};
+ghost use Rattle.smv_instances.specs.FirstFault as first;
+ghost use Rattle.law_kinds.specs.References.{modules_from};
+ghost use Rattle.law_kinds.specs.KindFaults.{in_top, faults_of_kinds, first_fault_of_kinds};
+ghost use Rattle.smv_expression_kinds.specs.Forms.{types_before, AreKindTables};
 
 use crate::items::items;
 use crate::types::{size_faults, type_faults};
 use smv_core::fault::Fault;
 use smv_core::tree::{Text, Top};
-use smv_forms::lookups::Scope;
-use smv_forms::tables::{Tables, tables_of};
-use smv_inst::pieces::Piece;
+use smv_expression_kinds::lookups::Scope;
+use smv_expression_kinds::tables::{Tables, tables_of};
+use smv_instances::pieces::Piece;
 use smv_scope::scope::earlier;
 use std::alloc::{AllocError, Global};
 
 // The faults in the top of a number.
-#[tactic(auto, using(smv_inst::proofs::Notes::noting, crate::proofs::KindLaws::no_vars))]
+#[tactic(auto, using(smv_instances::proofs::Notes::noting, crate::proofs::KindLaws::no_vars))]
 fn top_faults<'a>(
     top: &'a Top,
     scope: &Scope<'a, '_>,
@@ -37,7 +37,7 @@ fn top_faults<'a>(
 }
 
 // All faults of a text.
-#[tactic(auto, using(smv_inst::proofs::Notes::noting))]
+#[tactic(auto, using(smv_instances::proofs::Notes::noting))]
 fn all_faults(tables: &Tables, alloc: Global) -> Result<Vec<Fault>, AllocError>
     requires { AreKindTables tables.now }
     ensures { IfOk result (λ out. out.items ≡ faults_of_kinds tables.now.names.text.now) }

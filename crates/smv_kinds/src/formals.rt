@@ -2,20 +2,20 @@
 ghost use Rattle.std.specs.Prelude.{◌≡◌, Some};
 ghost use Rattle.smv_core.specs.Types.{find_name};
 ghost use Rattle.smv_core.specs.declared.tree.Expr.{Expr};
-ghost use Rattle.smv_inst.specs.Mentions.{signal};
-ghost use Rattle.smv_types.specs.References as references;
-ghost use Rattle.smv_types.specs.KindFaults.{connected};
-ghost use Rattle.smv_forms.specs.Forms.{AreKindTables};
-ghost use Rattle.smv_forms.specs.Found.{scope_of};
+ghost use Rattle.smv_instances.specs.Mentions.{signal};
+ghost use Rattle.law_kinds.specs.References as references;
+ghost use Rattle.law_kinds.specs.KindFaults.{connected};
+ghost use Rattle.smv_expression_kinds.specs.Forms.{AreKindTables};
+ghost use Rattle.smv_expression_kinds.specs.Found.{scope_of};
 ghost use Rattle.smv_kinds.specs.Found.{argument_faults};
 
 use crate::types::index_kind;
 use smv_core::name::Name;
 use smv_core::tree::{Role, TypeExpr};
-use smv_forms::kinds::ValueKind;
-use smv_forms::lookups::Scope;
-use smv_forms::paths::own_in;
-use smv_inst::mentions::What;
+use smv_expression_kinds::kinds::ValueKind;
+use smv_expression_kinds::lookups::Scope;
+use smv_expression_kinds::paths::own_in;
+use smv_instances::mentions::What;
 
 /// A formal of a module, where it has a role.
 #[derive(Clone, Copy)]

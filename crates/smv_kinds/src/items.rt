@@ -1,12 +1,12 @@
 // The faults in the items of a module.
 ghost use Rattle.std.specs.Prelude.{◌≡◌, ◌++◌, ◌∷◌, [], map, flat_map, zip, IfOk, OnOk};
 ghost use Rattle.smv_core.specs.Types.{find_name};
-ghost use Rattle.smv_types.specs.Kinds as kinds;
-ghost use Rattle.smv_types.specs.Types as types;
-ghost use Rattle.smv_types.specs.Operands as operands;
-ghost use Rattle.smv_types.specs.KindFaults.{formal_faults as faults_of_formal, in_arguments, in_item};
-ghost use Rattle.smv_forms.specs.Forms.{AreKindTables};
-ghost use Rattle.smv_forms.specs.Found.{vars_of, scope_of};
+ghost use Rattle.law_kinds.specs.Kinds as kinds;
+ghost use Rattle.law_kinds.specs.Types as types;
+ghost use Rattle.law_kinds.specs.Operands as operands;
+ghost use Rattle.law_kinds.specs.KindFaults.{formal_faults as faults_of_formal, in_arguments, in_item};
+ghost use Rattle.smv_expression_kinds.specs.Forms.{AreKindTables};
+ghost use Rattle.smv_expression_kinds.specs.Found.{vars_of, scope_of};
 
 use crate::arguments::arguments;
 use crate::operands::{number, operand};
@@ -14,12 +14,12 @@ use crate::statements::{block, statement};
 use crate::types::{bind, formal_faults, index_faults, type_faults};
 use smv_core::fault::Fault;
 use smv_core::tree::{Expr, Item, Pair, Role, TypeExpr, Word};
-use smv_forms::lookups::{Scope, Var};
+use smv_expression_kinds::lookups::{Scope, Var};
 use std::alloc::{AllocError, Global};
 
 // The faults in an item.
 #[cycle(items)]
-#[tactic(auto, using(smv_inst::proofs::Notes::noting, crate::proofs::ItemLaws::equations))]
+#[tactic(auto, using(smv_instances::proofs::Notes::noting, crate::proofs::ItemLaws::equations))]
 fn item<'a>(
     x: &'a Item,
     scope: &Scope<'a, '_>,
@@ -64,7 +64,7 @@ fn item<'a>(
 
 // The type and the body of a `forall`.
 #[cycle(items)]
-#[tactic(auto, using(smv_inst::proofs::Notes::noting))]
+#[tactic(auto, using(smv_instances::proofs::Notes::noting))]
 fn each_value<'a>(
     body: &'a Item,
     var: &'a Word,
@@ -84,7 +84,7 @@ fn each_value<'a>(
 
 /// All of these items.
 #[cycle(items)]
-#[tactic(auto, using(smv_inst::proofs::Notes::noting))]
+#[tactic(auto, using(smv_instances::proofs::Notes::noting))]
 pub fn items<'a>(
     parts: &'a [Item],
     scope: &Scope<'a, '_>,
@@ -102,7 +102,7 @@ pub fn items<'a>(
 }
 
 // Signals of a role: formals are simple.
-#[tactic(auto, using(smv_inst::proofs::Notes::noting, crate::proofs::ItemLaws::no_formals))]
+#[tactic(auto, using(smv_instances::proofs::Notes::noting, crate::proofs::ItemLaws::no_formals))]
 fn declared<'a>(
     of: &'a TypeExpr,
     words: &'a [Word],
@@ -122,7 +122,7 @@ fn declared<'a>(
 }
 
 // A claim is a number.
-#[tactic(auto, using(smv_inst::proofs::Notes::noting))]
+#[tactic(auto, using(smv_instances::proofs::Notes::noting))]
 fn claimed<'a>(
     x: &'a Expr,
     scope: &Scope<'a, '_>,
@@ -138,7 +138,7 @@ fn claimed<'a>(
 }
 
 // The left sides of all of these equations.
-#[tactic(auto, using(smv_inst::proofs::Notes::noting))]
+#[tactic(auto, using(smv_instances::proofs::Notes::noting))]
 fn all_pairs<'a>(
     pairs: &'a [Pair],
     scope: &Scope<'a, '_>,

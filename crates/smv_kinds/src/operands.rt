@@ -2,29 +2,29 @@
 ghost use Rattle.std.specs.Prelude.{◌≡◌, ◌++◌, ◌∷◌, [], map, flat_map, option_map, IfOk, OnOk};
 ghost use Rattle.smv_core.specs.Walk.{indexes_of};
 ghost use Rattle.smv_core.specs.declared.tree.Path.{out-Path};
-ghost use Rattle.smv_types.specs.Kinds as kinds;
-ghost use Rattle.smv_types.specs.References as references;
+ghost use Rattle.law_kinds.specs.Kinds as kinds;
+ghost use Rattle.law_kinds.specs.References as references;
 ghost use Rattle.smv_core.specs.declared.tree.Part.{At};
 ghost use Rattle.smv_core.specs.declared.tree.Expr.{Expr};
-ghost use Rattle.smv_types.specs.Operands as spec;
-ghost use Rattle.smv_forms.specs.Forms.{kind_of, misfit, AreKindTables};
-ghost use Rattle.smv_forms.specs.Found.{vars_of, scope_of, whole_of};
+ghost use Rattle.law_kinds.specs.Operands as spec;
+ghost use Rattle.smv_expression_kinds.specs.Forms.{kind_of, misfit, AreKindTables};
+ghost use Rattle.smv_expression_kinds.specs.Found.{vars_of, scope_of, whole_of};
 ghost use Rattle.smv_kinds.specs.Found.{order_faults, kinds_left, left_behind, part_faults, next_faults, path_faults, addend, begins_at, or_zero, member as member_in};
 
 use crate::types::{bind, index_faults};
 use smv_core::fault::Fault;
 use smv_core::tree::{Expr, Member, Op, Part, Path, Signed, TypeExpr, Word};
-use smv_forms::kinds::{
+use smv_expression_kinds::kinds::{
     Operand, ValueKind, fault_if, fits, number_at, takes, takes_number, takes_order,
 };
-use smv_forms::lookups::{Scope, Var, whole_reference};
-use smv_forms::paths::Whole;
+use smv_expression_kinds::lookups::{Scope, Var, whole_reference};
+use smv_expression_kinds::paths::Whole;
 use smv_scope::tables::item_at;
 use std::alloc::{AllocError, Global};
 
 /// An expression where no set may stand.
 #[cycle(operands)]
-#[tactic(auto, using(smv_inst::proofs::Notes::noting, crate::proofs::OperandLaws::kinds, crate::proofs::OperandLaws::ats, crate::proofs::OperandLaws::faults, crate::proofs::KindLaws::first_fits, crate::proofs::KindLaws::sides_fit))]
+#[tactic(auto, using(smv_instances::proofs::Notes::noting, crate::proofs::OperandLaws::kinds, crate::proofs::OperandLaws::ats, crate::proofs::OperandLaws::faults, crate::proofs::KindLaws::first_fits, crate::proofs::KindLaws::sides_fit))]
 pub fn operand<'a>(
     x: &'a Expr,
     scope: &Scope<'a, '_>,
@@ -100,7 +100,7 @@ pub fn operand<'a>(
 
 /// An expression where a number is wanted, and where it begins.
 #[cycle(operands)]
-#[tactic(auto, using(smv_inst::proofs::Notes::noting, crate::proofs::KindLaws::number_fits))]
+#[tactic(auto, using(smv_instances::proofs::Notes::noting, crate::proofs::KindLaws::number_fits))]
 pub fn number<'a>(
     x: &'a Expr,
     scope: &Scope<'a, '_>,
@@ -119,7 +119,7 @@ pub fn number<'a>(
 
 // A number made of numbers.
 #[cycle(operands)]
-#[tactic(auto, using(smv_inst::proofs::Notes::noting, crate::proofs::KindLaws::begins))]
+#[tactic(auto, using(smv_instances::proofs::Notes::noting, crate::proofs::KindLaws::begins))]
 fn numbers<'a>(
     parts: &'a [Expr],
     scope: &Scope<'a, '_>,
@@ -142,7 +142,7 @@ fn numbers<'a>(
 
 // What a sum adds.
 #[cycle(operands)]
-#[tactic(auto, using(smv_inst::proofs::Notes::noting), unfolding(crate::specs::Found::addend))]
+#[tactic(auto, using(smv_instances::proofs::Notes::noting), unfolding(crate::specs::Found::addend))]
 fn summands<'a>(
     more: &'a [Signed],
     scope: &Scope<'a, '_>,
@@ -161,7 +161,7 @@ fn summands<'a>(
 
 // A number made of a number at each value of a type.
 #[cycle(operands)]
-#[tactic(auto, using(smv_inst::proofs::Notes::noting, crate::proofs::KindLaws::number_fits))]
+#[tactic(auto, using(smv_instances::proofs::Notes::noting, crate::proofs::KindLaws::number_fits))]
 fn reduced<'a>(
     body: &'a Expr,
     var: &'a Word,
@@ -185,7 +185,7 @@ fn reduced<'a>(
 
 // What stands right of `in`, beside this kind.
 #[cycle(operands)]
-#[tactic(auto, using(smv_inst::proofs::Notes::noting, crate::proofs::OperandLaws::through, crate::proofs::KindLaws::stray_fits))]
+#[tactic(auto, using(smv_instances::proofs::Notes::noting, crate::proofs::OperandLaws::through, crate::proofs::KindLaws::stray_fits))]
 fn looked_through<'a>(
     set: &'a Expr,
     scope: &Scope<'a, '_>,
@@ -225,7 +225,7 @@ fn looked_through<'a>(
 
 /// The members of a listed set, beside this kind, and the kind of all together.
 #[cycle(operands)]
-#[tactic(auto, using(smv_inst::proofs::Notes::noting), unfolding(smv_types::specs::Kinds::alike_with, smv_types::specs::Kinds::kind_with, smv_types::specs::Kinds::unless, smv_forms::specs::Forms::misfit))]
+#[tactic(auto, using(smv_instances::proofs::Notes::noting), unfolding(law_kinds::specs::Kinds::alike_with, law_kinds::specs::Kinds::kind_with, law_kinds::specs::Kinds::unless, smv_expression_kinds::specs::Forms::misfit))]
 pub fn all_members<'a>(
     members: &'a [Member],
     scope: &Scope<'a, '_>,
@@ -247,7 +247,7 @@ pub fn all_members<'a>(
 
 // A member of a listed set, beside this kind, and the kind of both.
 #[cycle(operands)]
-#[tactic(auto, using(smv_inst::proofs::Notes::noting))]
+#[tactic(auto, using(smv_instances::proofs::Notes::noting))]
 fn member<'a>(
     x: &'a Member,
     scope: &Scope<'a, '_>,
@@ -271,7 +271,7 @@ fn member<'a>(
 
 /// An expression beside this kind, and the kind of both.
 #[cycle(operands)]
-#[tactic(auto, using(smv_inst::proofs::Notes::noting))]
+#[tactic(auto, using(smv_instances::proofs::Notes::noting))]
 pub fn fitting<'a>(
     x: &'a Expr,
     scope: &Scope<'a, '_>,
@@ -290,7 +290,7 @@ pub fn fitting<'a>(
 
 /// A path that leads to this, or nowhere.
 #[cycle(operands)]
-#[tactic(auto, using(smv_inst::proofs::Notes::noting, crate::proofs::KindLaws::references))]
+#[tactic(auto, using(smv_instances::proofs::Notes::noting, crate::proofs::KindLaws::references))]
 pub fn referred<'a>(
     path: &'a Path,
     scope: &Scope<'a, '_>,
@@ -320,7 +320,7 @@ pub fn referred<'a>(
 
 // The indexes of a path, behind a reference over these kinds or one that leads nowhere.
 #[cycle(operands)]
-#[tactic(auto, using(smv_inst::proofs::Notes::noting))]
+#[tactic(auto, using(smv_instances::proofs::Notes::noting))]
 fn indexes<'a>(
     parts: &'a [Part],
     scope: &Scope<'a, '_>,
@@ -342,7 +342,7 @@ fn indexes<'a>(
 
 // A part of a path, where these kinds are left.
 #[cycle(operands)]
-#[tactic(auto, using(smv_inst::proofs::Notes::noting, crate::proofs::KindLaws::value_fits))]
+#[tactic(auto, using(smv_instances::proofs::Notes::noting, crate::proofs::KindLaws::value_fits))]
 fn index<'a>(
     part: &'a Part,
     scope: &Scope<'a, '_>,
@@ -418,7 +418,7 @@ pub fn operand_at<'a>(kind: ValueKind<'a>, at: u32) -> Operand<'a>
 }
 
 /// The two branches of a choice whose condition begins at this place.
-#[tactic(auto, using(smv_inst::proofs::Notes::noting))]
+#[tactic(auto, using(smv_instances::proofs::Notes::noting))]
 pub fn chosen<'a>(
     at: u32,
     yes: Operand<'a>,
@@ -434,7 +434,7 @@ pub fn chosen<'a>(
 }
 
 // A comparison of these sides.
-#[tactic(auto, using(smv_inst::proofs::Notes::noting))]
+#[tactic(auto, using(smv_instances::proofs::Notes::noting))]
 fn compared<'a>(
     op: Op,
     left: Operand<'a>,
@@ -451,7 +451,7 @@ fn compared<'a>(
 }
 
 // Both sides have an order, where there is one between them.
-#[tactic(auto, using(smv_inst::proofs::Notes::noting))]
+#[tactic(auto, using(smv_instances::proofs::Notes::noting))]
 fn ordered<'a>(
     op: Op,
     left: Operand<'a>,

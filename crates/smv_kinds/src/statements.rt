@@ -1,11 +1,11 @@
 // The faults in statements.
 ghost use Rattle.std.specs.Prelude.{◌≡◌, ◌++◌, ◌∷◌, [], map, flat_map, IfOk, OnOk};
-ghost use Rattle.smv_types.specs.Kinds as kinds;
-ghost use Rattle.smv_types.specs.Types as types;
-ghost use Rattle.smv_types.specs.Operands as operands;
-ghost use Rattle.smv_types.specs.KindFaults.{in_stmt};
-ghost use Rattle.smv_forms.specs.Forms.{kind_of, AreKindTables};
-ghost use Rattle.smv_forms.specs.Found.{vars_of, scope_of};
+ghost use Rattle.law_kinds.specs.Kinds as kinds;
+ghost use Rattle.law_kinds.specs.Types as types;
+ghost use Rattle.law_kinds.specs.Operands as operands;
+ghost use Rattle.law_kinds.specs.KindFaults.{in_stmt};
+ghost use Rattle.smv_expression_kinds.specs.Forms.{kind_of, AreKindTables};
+ghost use Rattle.smv_expression_kinds.specs.Found.{vars_of, scope_of};
 ghost use Rattle.smv_kinds.specs.Found.{labels_of, arm_faults};
 
 use crate::operands::{fitting, number, operand};
@@ -13,13 +13,13 @@ use crate::types::{bind, index_faults, inside};
 use crate::values::assignment;
 use smv_core::fault::Fault;
 use smv_core::tree::{Arm, Expr, Stmt, TypeExpr, Word};
-use smv_forms::kinds::ValueKind;
-use smv_forms::lookups::{Scope, Var};
+use smv_expression_kinds::kinds::ValueKind;
+use smv_expression_kinds::lookups::{Scope, Var};
 use std::alloc::{AllocError, Global};
 
 /// The faults in a statement.
 #[cycle(statements)]
-#[tactic(auto, using(smv_inst::proofs::Notes::noting, crate::proofs::StatementLaws::equations))]
+#[tactic(auto, using(smv_instances::proofs::Notes::noting, crate::proofs::StatementLaws::equations))]
 pub fn statement<'a>(
     x: &'a Stmt,
     scope: &Scope<'a, '_>,
@@ -70,7 +70,7 @@ pub fn statement<'a>(
 
 // The body of a `for`.
 #[cycle(statements)]
-#[tactic(auto, using(smv_inst::proofs::Notes::noting))]
+#[tactic(auto, using(smv_instances::proofs::Notes::noting))]
 fn each_number<'a>(
     body: &'a Stmt,
     var: &'a Word,
@@ -88,7 +88,7 @@ fn each_number<'a>(
 
 // The type and the body of a `forall`.
 #[cycle(statements)]
-#[tactic(auto, using(smv_inst::proofs::Notes::noting))]
+#[tactic(auto, using(smv_instances::proofs::Notes::noting))]
 fn each_value<'a>(
     body: &'a Stmt,
     var: &'a Word,
@@ -108,7 +108,7 @@ fn each_value<'a>(
 
 /// All of these statements.
 #[cycle(statements)]
-#[tactic(auto, using(smv_inst::proofs::Notes::noting))]
+#[tactic(auto, using(smv_instances::proofs::Notes::noting))]
 pub fn block<'a>(
     parts: &'a [Stmt],
     scope: &Scope<'a, '_>,
@@ -127,7 +127,7 @@ pub fn block<'a>(
 
 // The statements of all of these arms.
 #[cycle(statements)]
-#[tactic(auto, using(smv_inst::proofs::Notes::noting), unfolding(crate::specs::Found::arm_faults))]
+#[tactic(auto, using(smv_instances::proofs::Notes::noting), unfolding(crate::specs::Found::arm_faults))]
 fn all_arms<'a>(
     arms: &'a [Arm],
     scope: &Scope<'a, '_>,
@@ -145,7 +145,7 @@ fn all_arms<'a>(
 }
 
 // What a `switch` looks at, and the labels of its arms: all are of one kind.
-#[tactic(auto, using(smv_inst::proofs::Notes::noting, crate::proofs::KindLaws::first_fits))]
+#[tactic(auto, using(smv_instances::proofs::Notes::noting, crate::proofs::KindLaws::first_fits))]
 fn labels<'a>(
     on: &'a Expr,
     arms: &'a [Arm],
@@ -162,7 +162,7 @@ fn labels<'a>(
 }
 
 // The labels of these arms, beside this kind.
-#[tactic(auto, using(smv_inst::proofs::Notes::noting, crate::proofs::KindLaws::all_in_turn), unfolding(crate::specs::Found::labels_of))]
+#[tactic(auto, using(smv_instances::proofs::Notes::noting, crate::proofs::KindLaws::all_in_turn), unfolding(crate::specs::Found::labels_of))]
 fn labels_beside<'a>(
     arms: &'a [Arm],
     scope: &Scope<'a, '_>,
@@ -182,7 +182,7 @@ fn labels_beside<'a>(
 }
 
 // Expressions beside this kind, and the kind of all together.
-#[tactic(auto, using(smv_inst::proofs::Notes::noting), unfolding(smv_types::specs::Kinds::alike_with, smv_types::specs::Kinds::kind_with, smv_types::specs::Kinds::unless, smv_forms::specs::Forms::misfit))]
+#[tactic(auto, using(smv_instances::proofs::Notes::noting), unfolding(law_kinds::specs::Kinds::alike_with, law_kinds::specs::Kinds::kind_with, law_kinds::specs::Kinds::unless, smv_expression_kinds::specs::Forms::misfit))]
 fn all_fitting<'a>(
     parts: &'a [Expr],
     scope: &Scope<'a, '_>,

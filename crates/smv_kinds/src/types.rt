@@ -1,17 +1,17 @@
 // The faults in types, and variables over them.
 ghost use Rattle.std.specs.Prelude.{◌≡◌, ◌++◌, ◌∷◌, [], flat_map, is_none, not, IfOk, OnOk};
 ghost use Rattle.smv_core.specs.declared.tree.Field.{out-Field};
-ghost use Rattle.smv_inst.specs.NameFaults.{place_if};
-ghost use Rattle.smv_inst.specs.FirstFault.{faults_at};
-ghost use Rattle.smv_types.specs.Types as spec;
-ghost use Rattle.smv_types.specs.Operands as operands;
-ghost use Rattle.smv_forms.specs.Forms.{kind_of, AreKindTables};
-ghost use Rattle.smv_forms.specs.Found.{vars_of, scope_of};
+ghost use Rattle.smv_instances.specs.NameFaults.{place_if};
+ghost use Rattle.smv_instances.specs.FirstFault.{faults_at};
+ghost use Rattle.law_kinds.specs.Types as spec;
+ghost use Rattle.law_kinds.specs.Operands as operands;
+ghost use Rattle.smv_expression_kinds.specs.Forms.{kind_of, AreKindTables};
+ghost use Rattle.smv_expression_kinds.specs.Found.{vars_of, scope_of};
 
 use smv_core::fault::Fault;
 use smv_core::tree::{Field, Span, TypeExpr, Word};
-use smv_forms::kinds::{ValueKind, fault_if, is_index};
-use smv_forms::lookups::{Scope, Var, single_kind};
+use smv_expression_kinds::kinds::{ValueKind, fault_if, is_index};
+use smv_expression_kinds::lookups::{Scope, Var, single_kind};
 use std::alloc::{AllocError, Global};
 
 /// The kind of an index of this type.
@@ -26,7 +26,7 @@ pub fn index_kind<'a>(of: &'a TypeExpr, scope: &Scope<'a, '_>) -> ValueKind<'a>
 }
 
 /// One more variable inside these, of this kind.
-#[tactic(auto, unfolding(smv_forms::specs::Found::vars_of))]
+#[tactic(auto, unfolding(smv_expression_kinds::specs::Found::vars_of))]
 pub fn inside<'a>(
     alloc: Global,
     vars: &[Var<'a>],
@@ -77,7 +77,7 @@ pub fn size_faults(out: &mut Vec<Fault>, span: Option<Span>, at: u32) -> Result<
 }
 
 /// The faults in an index type.
-#[tactic(auto, unfolding(smv_types::specs::Types::index_faults))]
+#[tactic(auto, unfolding(law_kinds::specs::Types::index_faults))]
 pub fn index_faults<'a>(
     over: &'a TypeExpr,
     scope: &Scope<'a, '_>,
@@ -101,7 +101,7 @@ pub fn index_faults<'a>(
 
 /// The faults in a type.
 #[cycle(types)]
-#[tactic(auto, using(smv_inst::proofs::Notes::noting, crate::proofs::TypeLaws::equations))]
+#[tactic(auto, using(smv_instances::proofs::Notes::noting, crate::proofs::TypeLaws::equations))]
 pub fn type_faults<'a>(
     of: &'a TypeExpr,
     scope: &Scope<'a, '_>,
@@ -125,7 +125,7 @@ pub fn type_faults<'a>(
 
 // The faults in the types of these fields.
 #[cycle(types)]
-#[tactic(auto, using(smv_inst::proofs::Notes::noting))]
+#[tactic(auto, using(smv_instances::proofs::Notes::noting))]
 fn field_faults<'a>(
     fields: &'a [Field],
     scope: &Scope<'a, '_>,
@@ -141,7 +141,7 @@ fn field_faults<'a>(
 }
 
 /// Fault 12 at each of these formals, unless their type is one of single values.
-#[tactic(auto, using(smv_inst::proofs::Notes::noting))]
+#[tactic(auto, using(smv_instances::proofs::Notes::noting))]
 pub fn formal_faults<'a>(
     of: &'a TypeExpr,
     words: &'a [Word],
@@ -156,7 +156,7 @@ pub fn formal_faults<'a>(
 }
 
 // Fault 12 at each of these words, unless they are simple.
-#[tactic(auto, using(smv_inst::proofs::Notes::noting))]
+#[tactic(auto, using(smv_instances::proofs::Notes::noting))]
 fn faults_unless(out: &mut Vec<Fault>, simple: bool, words: &[Word]) -> Result<(), AllocError>
     ensures { OnOk result (out.new.items ≡ out.old.items ++ flat_map (λ word. faults_at (12, place_if (not simple) word.at)) words.now) }
 {

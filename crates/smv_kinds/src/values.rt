@@ -1,23 +1,23 @@
 // The values of assignments, and what they are assigned to.
 ghost use Rattle.std.specs.Prelude.{◌≡◌, ◌++◌, ◌∷◌, [], map, IfOk, OnOk};
-ghost use Rattle.smv_types.specs.Kinds as kinds;
-ghost use Rattle.smv_types.specs.Types as types;
-ghost use Rattle.smv_types.specs.Operands as spec;
-ghost use Rattle.smv_types.specs.KindFaults.{assigned};
-ghost use Rattle.smv_forms.specs.Forms.{kind_of, AreKindTables};
-ghost use Rattle.smv_forms.specs.Found.{vars_of, scope_of};
+ghost use Rattle.law_kinds.specs.Kinds as kinds;
+ghost use Rattle.law_kinds.specs.Types as types;
+ghost use Rattle.law_kinds.specs.Operands as spec;
+ghost use Rattle.law_kinds.specs.KindFaults.{assigned};
+ghost use Rattle.smv_expression_kinds.specs.Forms.{kind_of, AreKindTables};
+ghost use Rattle.smv_expression_kinds.specs.Found.{vars_of, scope_of};
 ghost use Rattle.smv_kinds.specs.Found.{member as member_in};
 
 use crate::operands::{all_members, chosen, number, operand, operand_at, referred};
 use crate::types::{index_faults, index_kind, inside};
 use smv_core::fault::Fault;
 use smv_core::tree::{Expr, Member, Path, TypeExpr, Word};
-use smv_forms::kinds::{Operand, ValueKind, takes};
-use smv_forms::lookups::{Scope, Var, signal_reference};
+use smv_expression_kinds::kinds::{Operand, ValueKind, takes};
+use smv_expression_kinds::lookups::{Scope, Var, signal_reference};
 use std::alloc::{AllocError, Global};
 
 /// The value of an assignment: a set may stand there, also as a branch of `?:`.
-#[tactic(auto, using(smv_inst::proofs::Notes::noting, crate::proofs::ValueLaws::same, crate::proofs::ValueLaws::kinds, crate::proofs::ValueLaws::ats, crate::proofs::ValueLaws::faults, crate::proofs::KindLaws::sides_fit))]
+#[tactic(auto, using(smv_instances::proofs::Notes::noting, crate::proofs::ValueLaws::same, crate::proofs::ValueLaws::kinds, crate::proofs::ValueLaws::ats, crate::proofs::ValueLaws::faults, crate::proofs::KindLaws::sides_fit))]
 pub fn value<'a>(
     x: &'a Expr,
     scope: &Scope<'a, '_>,
@@ -64,7 +64,7 @@ pub fn value<'a>(
 }
 
 // A listed set.
-#[tactic(auto, using(smv_inst::proofs::Notes::noting))]
+#[tactic(auto, using(smv_instances::proofs::Notes::noting))]
 fn listed<'a>(
     members: &'a [Member],
     scope: &Scope<'a, '_>,
@@ -83,7 +83,7 @@ fn listed<'a>(
 }
 
 // All values of a type.
-#[tactic(auto, using(smv_inst::proofs::Notes::noting))]
+#[tactic(auto, using(smv_instances::proofs::Notes::noting))]
 fn every_value<'a>(
     over: &'a TypeExpr,
     scope: &Scope<'a, '_>,
@@ -101,7 +101,7 @@ fn every_value<'a>(
 }
 
 // The values of a type at which a condition holds.
-#[tactic(auto, using(smv_inst::proofs::Notes::noting, crate::proofs::KindLaws::number_fits))]
+#[tactic(auto, using(smv_instances::proofs::Notes::noting, crate::proofs::KindLaws::number_fits))]
 fn chosen_values<'a>(
     cond: &'a Expr,
     var: &'a Word,
@@ -124,7 +124,7 @@ fn chosen_values<'a>(
 }
 
 /// What an assignment sets: a signal.
-#[tactic(auto, using(smv_inst::proofs::Notes::noting))]
+#[tactic(auto, using(smv_instances::proofs::Notes::noting))]
 pub fn target<'a>(
     path: &'a Path,
     scope: &Scope<'a, '_>,
@@ -142,7 +142,7 @@ pub fn target<'a>(
 }
 
 /// An assignment.
-#[tactic(auto, using(smv_inst::proofs::Notes::noting, crate::proofs::KindLaws::value_fits))]
+#[tactic(auto, using(smv_instances::proofs::Notes::noting, crate::proofs::KindLaws::value_fits))]
 pub fn assignment<'a>(
     path: &'a Path,
     x: &'a Expr,

@@ -5,7 +5,7 @@ use Rattle.std.proofs.lemmas.Bool.Decides.{nat_tests}
 use Rattle.smv_core.specs.Values.{numbers_from}
 use Rattle.smv_core.specs.declared.flat.Family.{Family}
 use Rattle.smv_core.specs.declared.flat.Def.{Def}
-use Rattle.smv_oblig.specs.Outlines.{earlier, earliest}
+use Rattle.law_obligations.specs.Outlines.{earlier, earliest}
 use Rattle.smv_layers.specs.declared.bases.Base.{Base}
 use Rattle.smv_layers.specs.Bases.{base_part, earlier_part, may_be_base, base_among, bases_among, known_at}
 

@@ -4,10 +4,10 @@ use Rattle.std.specs.Prelude.{Option, Some, None, filter, slice_get, cond}
 use Rattle.std.specs.List.{flat_map}
 use Rattle.smv_core.specs.declared.fault.Fault.{Fault}
 use Rattle.smv_core.specs.declared.flat.Family.{Family}
-use Rattle.smv_inst.specs.FirstFault.{first_of, faults_at}
+use Rattle.smv_instances.specs.FirstFault.{first_of, faults_at}
 use Rattle.smv_scope.specs.ScopeFault.{earlier_of}
 use Rattle.smv_scope.proofs.FirstLaws.{earlier-assoc, earlier-comm, first-both}
-use Rattle.smv_delay.specs.Reading.{Reference}
+use Rattle.law_loops_and_layers.specs.Reading.{Reference}
 use Rattle.smv_layers.specs.Leaks.{is_abstract, first_among, first_read, fault_if_abstract}
 
 pub earlier-none : (f : Option Fault) → earlier_of f None ≡ f

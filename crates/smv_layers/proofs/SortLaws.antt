@@ -9,7 +9,7 @@ use Rattle.std.proofs.lemmas.List.{append-nil}
 use Rattle.std.proofs.lemmas.Grind.{reverse_onto}
 use Rattle.smv_core.specs.declared.flat.Unit.{Unit as FlatUnit}
 use Rattle.smv_core.specs.declared.flat.Unit.TheVariants as unit
-use Rattle.smv_oblig.specs.Units.{put, in_order}
+use Rattle.law_obligations.specs.Units.{put, in_order}
 
 abbrev Placed : Type 0
 Placed = ℕ × FlatUnit

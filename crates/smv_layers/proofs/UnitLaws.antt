@@ -7,8 +7,8 @@ use Rattle.smv_core.specs.declared.flat.Claim.{Claim}
 use Rattle.smv_core.specs.declared.flat.Design.{Design}
 use Rattle.smv_core.specs.declared.flat.Unit.{Unit}
 use Rattle.smv_core.specs.declared.flat.Unit.TheVariants as unit
-use Rattle.smv_oblig.specs.Outlines.{base_of}
-use Rattle.smv_oblig.specs.Units.{is_base_in, is_refinement, maps, in_order, units_of}
+use Rattle.law_obligations.specs.Outlines.{base_of}
+use Rattle.law_obligations.specs.Units.{is_base_in, is_refinement, maps, in_order, units_of}
 use Rattle.smv_layers.specs.Bases.{base_part, bases_of, is_in, refines, is_map, maps_from, claims_from}
 use Rattle.smv_layers.proofs.BaseLaws.{known}
 

@@ -7,7 +7,7 @@ use Rattle.smv_core.specs.declared.flat.Claim.{Claim}
 use Rattle.smv_core.specs.declared.flat.Design.{Design}
 use Rattle.smv_core.specs.declared.flat.Unit.{Unit}
 use Rattle.smv_core.specs.declared.flat.Unit.TheVariants as unit
-use Rattle.smv_oblig.specs.Outlines.{is_in_layer, earliest}
+use Rattle.law_obligations.specs.Outlines.{is_in_layer, earliest}
 use Rattle.smv_layers.specs.declared.bases.Base.{Base}
 
 -- what is known of a base definition

@@ -3,8 +3,8 @@ use Rattle.std.specs.Prelude.{◌≡◌, ℕ, slice_get, is_none, Some, false, t
 use Rattle.std.specs.List.{AllByRecursion}
 use Rattle.smv_core.specs.declared.flat.Def.{Def}
 use Rattle.smv_core.specs.declared.flat.Design.{Design}
-use Rattle.smv_delay.specs.Loops.{is_base}
-use Rattle.smv_oblig.specs.Outlines.{base_of}
+use Rattle.law_loops_and_layers.specs.Loops.{is_base}
+use Rattle.law_obligations.specs.Outlines.{base_of}
 use Rattle.smv_layers.specs.Leaks.{is_abstract}
 
 -- no definition outside layers is of an abstract signal

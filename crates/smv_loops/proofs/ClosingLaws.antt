@@ -6,10 +6,10 @@ use Rattle.smv_core.specs.declared.fault.Fault.{Fault}
 use Rattle.smv_core.specs.declared.flat.Family.{Family}
 use Rattle.smv_core.specs.declared.flat.Cell.{Cell}
 use Rattle.smv_core.specs.declared.flat.Design.{Design}
-use Rattle.smv_delay.specs.Reading.{Reading}
-use Rattle.smv_delay.specs.Loops.{Edge, hold_a_cycle, edges_of, closing, undelayed_in, in_order, is_base}
-use Rattle.smv_inst.specs.FirstFault.{first_of, faults_at}
-use Rattle.smv_delay.specs.FirstFault.{first_fault_of_loops}
+use Rattle.law_loops_and_layers.specs.Reading.{Reading}
+use Rattle.law_loops_and_layers.specs.Loops.{Edge, hold_a_cycle, edges_of, closing, undelayed_in, in_order, is_base}
+use Rattle.smv_instances.specs.FirstFault.{first_of, faults_at}
+use Rattle.law_loops_and_layers.specs.FirstFault.{first_fault_of_loops}
 use Rattle.smv_loops.specs.declared.ranks.Links.{Links}
 use Rattle.smv_loops.specs.Ranks.{rank, AreBelow, AreSettled}
 use Rattle.smv_loops.specs.Bases.{undelayed_of}

@@ -3,13 +3,13 @@ use Rattle.std.proofs.Common.{◌≡◌, ◌≢◌, ℕ, zero, suc, ◌+◌, ◌
 use Rattle.std.specs.List.{flat_map, list_any, All, Contains}
 use Rattle.smv_core.specs.declared.flat.Cell.{Cell}
 use Rattle.smv_core.specs.declared.flat.Family.{Family}
-use Rattle.smv_flat.specs.WholeText.{is_one_layer}
-use Rattle.smv_delay.specs.Reading.{Reading}
-use Rattle.smv_delay.specs.Loops.{Edge, same_indexes, same_cell, leads_on, going_on, hold_a_cycle}
-use Rattle.smv_delay.specs.Laws.{AreFalling, IsCircular}
-use Rattle.smv_delay.proofs.Cycles.{none_is_missed}
-use Rattle.smv_delay.proofs.Orders.{order}
-use Rattle.smv_delay.proofs.Descents.{no_cycle}
+use Rattle.law_flattening.specs.WholeText.{is_one_layer}
+use Rattle.law_loops_and_layers.specs.Reading.{Reading}
+use Rattle.law_loops_and_layers.specs.Loops.{Edge, same_indexes, same_cell, leads_on, going_on, hold_a_cycle}
+use Rattle.law_loops_and_layers.specs.Laws.{AreFalling, IsCircular}
+use Rattle.law_loops_and_layers.proofs.Cycles.{none_is_missed}
+use Rattle.law_loops_and_layers.proofs.Orders.{order}
+use Rattle.law_loops_and_layers.proofs.Descents.{no_cycle}
 use Rattle.smv_loops.specs.declared.ranks.Links.{Links}
 use Rattle.smv_loops.specs.Ranks.{rank, rank_at, IsOpen, Falls, AreBelow, IsHeldUp, AreSettled}
 use Rattle.smv_loops.specs.Cells.{number_in, froms, tos}

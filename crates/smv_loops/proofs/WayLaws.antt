@@ -10,7 +10,7 @@ use Rattle.smv_core.specs.declared.flat.Simple.{Simple}
 use Rattle.smv_core.specs.declared.flat.Simple.TheVariants.{Range, Enum, Set}
 use Rattle.smv_core.specs.declared.flat.Family.{Family}
 use Rattle.smv_core.specs.declared.flat.Cell.{Cell}
-use Rattle.smv_delay.specs.Loops.{at_index}
+use Rattle.law_loops_and_layers.specs.Loops.{at_index}
 use Rattle.smv_loops.specs.declared.listed.Listed.{Listed}
 use Rattle.smv_loops.specs.Cells.{every, digit, place, base, over_of, number_in}
 use Rattle.smv_loops.specs.Order.{every_way, cells_in, cells_from, lists_of, begun, all_begun, nothing, listed}

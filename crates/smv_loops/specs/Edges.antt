@@ -1,8 +1,8 @@
 -- The links of assignments, and the first assignment with which there is a loop.
 use Rattle.std.specs.Prelude.{◌≡◌, ℕ, ◌+◌, ◌<◌, List, [], ◌∷◌, length, map, flat_map, take, true, false}
 use Rattle.smv_core.specs.declared.flat.Family.{Family}
-use Rattle.smv_delay.specs.Reading.{Reading}
-use Rattle.smv_delay.specs.Loops.{Edge, hold_a_cycle}
+use Rattle.law_loops_and_layers.specs.Reading.{Reading}
+use Rattle.law_loops_and_layers.specs.Loops.{Edge, hold_a_cycle}
 use Rattle.smv_loops.specs.declared.ranks.Links.{Links}
 use Rattle.smv_loops.specs.Cells.{number_in, froms, tos}
 

@@ -2,8 +2,8 @@
 ghost use Rattle.std.specs.Prelude.{◌≡◌, ◌+◌, ◌*◌, ◌∷◌, ◌++◌, ℕ, ◌<◌, map, flat_map, length, slice_get, slice_index, IfOk, OnOk};
 ghost use Rattle.smv_core.specs.Assignments.{computed, fits};
 ghost use Rattle.smv_core.specs.Values.{number};
-ghost use Rattle.smv_delay.specs.Loops as loops;
-ghost use Rattle.smv_delay.specs.Loops.{at_index, cells_of};
+ghost use Rattle.law_loops_and_layers.specs.Loops as loops;
+ghost use Rattle.law_loops_and_layers.specs.Loops.{at_index, cells_of};
 ghost use Rattle.smv_loops.specs.Cells.{picked, every, place, base, number_in, froms, tos};
 ghost use Rattle.smv_loops.specs.Held.{index_in, index_of, reading_of};
 ghost use Rattle.smv_loops.specs.Numbers.{AreBases, digit_places, places, range_places, single_places};

@@ -1,9 +1,9 @@
 // Loops without delay.
 ghost use Rattle.std.specs.Prelude.{◌≡◌, ℕ, ◌<◌, ◌≤◌, List, length, map, take, flat_map, true, false, None, Some, IfOk, MatchOption};
 ghost use Rattle.std.specs.List.Sorted.{IsPermutation};
-ghost use Rattle.smv_delay.specs.FirstFault.{first_fault_of_loops};
-ghost use Rattle.smv_delay.specs.Loops as spec;
-ghost use Rattle.smv_delay.specs.Reading.{Reading};
+ghost use Rattle.law_loops_and_layers.specs.FirstFault.{first_fault_of_loops};
+ghost use Rattle.law_loops_and_layers.specs.Loops as spec;
+ghost use Rattle.law_loops_and_layers.specs.Reading.{Reading};
 ghost use Rattle.smv_loops.specs.Cells.{base};
 ghost use Rattle.smv_loops.specs.Edges.{AllLinks, IsFirst, edges_at};
 ghost use Rattle.smv_loops.specs.Held.{reading_of};

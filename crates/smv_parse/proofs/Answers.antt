@@ -4,11 +4,11 @@ use Rattle.smv_core.specs.declared.tree.Text.{Text}
 use Rattle.smv_core.specs.Notation.{Tokens}
 use Rattle.smv_core.specs.Spelling.{place_of_rest}
 use Rattle.smv_lex.specs.Lexing.{Lexed, lexed}
-use Rattle.smv_rules.specs.Parsing.{Halt, Halts}
-use Rattle.smv_rules.specs.Items.{read_text}
-use Rattle.smv_rules.specs.Laws.{Rise, IsRight}
-use Rattle.smv_rules.proofs.Whole.{answered}
-use Rattle.smv_rules.proofs.Only.{only-text, only-unexpected, only-too-deep}
+use Rattle.law_grammar.specs.Parsing.{Halt, Halts}
+use Rattle.law_grammar.specs.Items.{read_text}
+use Rattle.law_grammar.specs.Laws.{Rise, IsRight}
+use Rattle.law_grammar.proofs.Whole.{answered}
+use Rattle.law_grammar.proofs.Only.{only-text, only-unexpected, only-too-deep}
 use Rattle.smv_parse.specs.Spelling.{levels, SpellsText, HasFault, of_bytes, unexpected, too_deep}
 use Rattle.smv_parse.specs.Laws.{IsOneTree, IsOneFault, IsNotBoth, IsEither, IsWithin}
 use Rattle.smv_parse.proofs.Rising.{FromOn, from-start}

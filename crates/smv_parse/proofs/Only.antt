@@ -7,7 +7,7 @@ use Rattle.smv_core.specs.Notation.{Tokens}
 use Rattle.smv_core.specs.Spelling.{IsUnexpected, IsTooDeep}
 use Rattle.smv_lex.specs.Lexing.{lexed}
 use Rattle.smv_lex.specs.Answers.{IfFault}
-use Rattle.smv_items.specs.Answer.{fault, IsFault}
+use Rattle.smv_parse_items.specs.Answer.{fault, IsFault}
 use Rattle.smv_parse.specs.Answers.{UnlessMemory}
 use Rattle.smv_parse.specs.Spelling.{SpellsText, HasFault, of_bytes, unexpected, too_deep}
 use Rattle.smv_parse.specs.Laws.{IsOneTree, IsOneFault, IsNotBoth}

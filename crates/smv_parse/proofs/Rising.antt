@@ -8,7 +8,7 @@ use Rattle.smv_lex.specs.declared.front.Front.TheVariants.{Passed, Whole, Broken
 use Rattle.smv_lex.specs.Lexing.{Lexed, with_token, then_more, front_of, lexed_from, lexed, is_name_byte, is_digit, closing, word_kind, number_of, word_front, number_front, sign_front, comment_front}
 use Rattle.smv_lex.specs.Spellings.{signs, spelled_in}
 use Rattle.smv_lex.proofs.Fronts.{FitsIn, front-fits, front-cases}
-use Rattle.smv_rules.specs.Laws.{Rise}
+use Rattle.law_grammar.specs.Laws.{Rise}
 
 -- ---- which faults a place has
 

@@ -4,15 +4,15 @@
 ghost use Rattle.std.specs.Prelude.{◌≡◌, ◌<◌, ◌^◌, ℕ, length, Ok, Err, IfOk};
 ghost use Rattle.smv_core.specs.declared.tree.Text.{Text};
 ghost use Rattle.smv_lex.specs.Answers.{IfFault};
-ghost use Rattle.smv_items.specs.Answer.{fault};
+ghost use Rattle.smv_parse_items.specs.Answer.{fault};
 ghost use Rattle.smv_parse.specs.Answers.{UnlessMemory};
 ghost use Rattle.smv_parse.specs.Laws.{IsOneTree, IsOneFault, IsNotBoth, IsEither, IsWithin};
 ghost use Rattle.smv_parse.specs.Spelling.{SpellsText, HasFault};
 
 use smv_core::Refusal;
 use smv_core::tree::Text;
-use smv_items::parse::parse_tokens;
 use smv_lex::tokens;
+use smv_parse_items::parse::parse_tokens;
 use std::alloc::Global;
 
 #[cfg(test)]

@@ -5,8 +5,8 @@ use Rattle.std.specs.List.{flat_map}
 use Rattle.smv_core.specs.declared.tree.Word.{Word}
 use Rattle.smv_core.specs.declared.tree.Part.{Part, Field, At}
 use Rattle.smv_core.specs.Types.{find_name}
-use Rattle.smv_inst.specs.Mentions.{What, instance}
-use Rattle.smv_inst.specs.Scopes.{Known, Own, Piece, Body, behind, module_named, words_of, own_names}
+use Rattle.smv_instances.specs.Mentions.{What, instance}
+use Rattle.smv_instances.specs.Scopes.{Known, Own, Piece, Body, behind, module_named, words_of, own_names}
 use Rattle.smv_scope.specs.Numbered.{inside_of, word_in}
 
 pub words-flat : (parts : List Part) → words_of parts ≡ flat_map word_in parts

@@ -2,20 +2,20 @@
 #![tactic(auto)]
 
 ghost use Rattle.std.specs.Prelude.{◌≡◌, None, true};
-ghost use Rattle.smv_inst.specs.Said.{AreNoted};
-ghost use Rattle.smv_inst.specs.FirstFault.{first_fault};
-ghost use Rattle.smv_typed.specs.FlatKinds.{is_kinded};
+ghost use Rattle.smv_instances.specs.Said.{AreNoted};
+ghost use Rattle.smv_instances.specs.FirstFault.{first_fault};
+ghost use Rattle.law_flat_kinds.specs.FlatKinds.{is_kinded};
 ghost use Rattle.smv_typing.specs.Answers.{IsSpelled, IsTyped};
 
 mod depth;
 
 use crate::depth::is_too_deep;
+use law_kinds_after_flattening::laws::flattened_texts_are_kinded;
 use smv_core::Refusal;
 use smv_core::flat::Raw;
 use smv_core::tree::Text;
 use smv_flatten::flatten::flatten;
-use smv_inst::pieces::Piece;
-use smv_kinded::laws::flattened_texts_are_kinded;
+use smv_instances::pieces::Piece;
 use smv_kinds::faults::kinds_fault;
 use std::alloc::Global;
 use std::marker::Model;
@@ -32,7 +32,7 @@ impl Model for Typed {
     ghost use Rattle.smv_core.specs.declared.flat.Raw.{Raw};
     ghost use Rattle.smv_core.specs.contracts.flat.FlatExpr as expr;
     ghost use Rattle.smv_core.specs.contracts.flat.FlatStmt as stmt;
-    ghost use Rattle.smv_typed.specs.FlatKinds.{is_kinded};
+    ghost use Rattle.law_flat_kinds.specs.FlatKinds.{is_kinded};
 
     ghost Value = { Raw };
 

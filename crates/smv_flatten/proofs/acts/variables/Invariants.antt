@@ -1,6 +1,6 @@
 use Rattle.std.proofs.Common.{◌≡◌, [], drop}
-use Rattle.smv_flat.specs.Flattening.{within}
-use Rattle.smv_statements.specs.Around.{around_of}
+use Rattle.law_flattening.specs.Flattening.{within}
+use Rattle.smv_flatten_statements.specs.Around.{around_of}
 use Rattle.smv_flatten.specs.Leaves.{binders_of}
 use Rattle.smv_flatten.proofs.acts.variables.Given as goal
 

@@ -1,8 +1,8 @@
 use Rattle.std.proofs.Common.{◌++◌, ◌<◌, None, map, length, get_or, sym, ap, ◌∙◌, arith}
 use Rattle.smv_core.specs.declared.tree.Word.{Word}
 use Rattle.smv_core.specs.declared.tree.Role.TheVariants.{Plain}
-use Rattle.smv_flat.specs.Entries.{connection}
-use Rattle.smv_families.specs.Held.{scope_here}
+use Rattle.law_flattening.specs.Entries.{connection}
+use Rattle.smv_flatten_families.specs.Held.{scope_here}
 use Rattle.smv_flatten.specs.Leaves.{binders_of}
 use Rattle.smv_flatten.specs.Items.{act_item}
 use Rattle.smv_flatten.proofs.ConnectionLaws.{connect-step, connect-done, get_or-own}

@@ -1,7 +1,7 @@
 use Rattle.std.proofs.Common.{◌≡◌, ◌++◌, None, map, drop}
 use Rattle.std.specs.Prelude.{zip}
 use Rattle.std.specs.List.{flat_map}
-use Rattle.smv_families.specs.Held.{scope_here}
+use Rattle.smv_flatten_families.specs.Held.{scope_here}
 use Rattle.smv_flatten.specs.Leaves.{binders_of}
 use Rattle.smv_flatten.specs.Items.{act_item}
 use Rattle.smv_flatten.specs.Connections.{connected}

@@ -1,6 +1,6 @@
 use Rattle.std.proofs.Common.{ap, ◌∙◌}
-use Rattle.smv_flat.specs.Statements.{flat_expr}
-use Rattle.smv_families.specs.Held.{scope_here}
+use Rattle.law_flattening.specs.Statements.{flat_expr}
+use Rattle.smv_flatten_families.specs.Held.{scope_here}
 use Rattle.smv_flatten.specs.Leaves.{binders_of}
 use Rattle.smv_flatten.proofs.ConnectionLaws.{input-made}
 use Rattle.smv_flatten.proofs.connections.input.Goals as goal

@@ -1,9 +1,9 @@
 use Rattle.std.proofs.Common.{◌++◌, ap, ◌∙◌}
 use Rattle.smv_core.specs.Outcome.{fields_of}
 use Rattle.smv_core.specs.declared.tree.Path.{out-Path}
-use Rattle.smv_flat.specs.Numbers.{family_number}
-use Rattle.smv_families.specs.Held.{instance_of, scope_here}
-use Rattle.smv_statements.specs.Flattened.{path_indexes}
+use Rattle.law_flattening.specs.Numbers.{family_number}
+use Rattle.smv_flatten_families.specs.Held.{instance_of, scope_here}
+use Rattle.smv_flatten_statements.specs.Flattened.{path_indexes}
 use Rattle.smv_flatten.specs.Leaves.{binders_of}
 use Rattle.smv_flatten.proofs.ConnectionLaws.{output-made}
 use Rattle.smv_flatten.proofs.connections.output.Goals as goal

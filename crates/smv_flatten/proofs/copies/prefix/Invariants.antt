@@ -1,5 +1,5 @@
 use Rattle.std.proofs.Common.{◌≡◌, ◌++◌, map, drop}
-use Rattle.smv_families.specs.Held.{path_of}
+use Rattle.smv_flatten_families.specs.Held.{path_of}
 use Rattle.smv_flatten.specs.Forms.{word_at}
 use Rattle.smv_flatten.proofs.copies.prefix.Given as goal
 

@@ -1,7 +1,7 @@
 use Rattle.std.proofs.Common.{[], ap}
 use Rattle.smv_core.specs.Types.{types_from}
 use Rattle.smv_core.specs.FlatOrder.{Body}
-use Rattle.smv_families.specs.Held.{instance_of}
+use Rattle.smv_flatten_families.specs.Held.{instance_of}
 use Rattle.smv_flatten.specs.Leaves.{binders_of}
 use Rattle.smv_flatten.specs.Items.{flat_said}
 use Rattle.smv_flatten.proofs.FlatLaws.{instance-made}

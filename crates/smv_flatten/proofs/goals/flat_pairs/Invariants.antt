@@ -1,7 +1,7 @@
 use Rattle.std.proofs.Common.{◌≡◌, ◌++◌, map, drop}
-use Rattle.smv_flat.specs.Flattening.{flat_pair}
-use Rattle.smv_families.specs.Held.{scope_here}
-use Rattle.smv_statements.specs.Around.{around_of}
+use Rattle.law_flattening.specs.Flattening.{flat_pair}
+use Rattle.smv_flatten_families.specs.Held.{scope_here}
+use Rattle.smv_flatten_statements.specs.Around.{around_of}
 use Rattle.smv_flatten.proofs.goals.flat_pairs.Given as goal
 
 abbrev pub invariant-loop-pair : goal.invariant-loop-pair

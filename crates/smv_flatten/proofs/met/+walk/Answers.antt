@@ -3,7 +3,7 @@ use Rattle.std.specs.List.{flat_map}
 use Rattle.std.proofs.lemmas.Grind.{common_steps}
 use Rattle.smv_core.specs.FlatOrder.{Body, body_of, modules}
 use Rattle.smv_core.specs.Types.{types_from}
-use Rattle.smv_families.specs.Held.{path_of}
+use Rattle.smv_flatten_families.specs.Held.{path_of}
 use Rattle.smv_flatten.specs.Leaves.{leaves, leaf_of, binders_of}
 use Rattle.smv_flatten.proofs.MetLaws.{inside-some}
 use Rattle.smv_flatten.proofs.met.+walk.Goals as goal

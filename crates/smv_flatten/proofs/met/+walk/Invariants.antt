@@ -1,6 +1,6 @@
 use Rattle.std.proofs.Common.{◌≡◌, ◌+◌, ◌*◌, ◌++◌, map, drop}
 use Rattle.std.specs.List.{flat_map}
-use Rattle.smv_families.specs.Held.{path_of}
+use Rattle.smv_flatten_families.specs.Held.{path_of}
 use Rattle.smv_flatten.specs.Leaves.{leaf_of}
 use Rattle.smv_flatten.specs.Met.{entries_met, said_in}
 use Rattle.smv_flatten.proofs.met.+walk.Given as goal

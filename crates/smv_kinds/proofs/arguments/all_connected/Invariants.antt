@@ -1,8 +1,8 @@
 use Rattle.std.proofs.Common.{◌≡◌, ◌++◌, drop, zip}
 use Rattle.std.specs.List.{flat_map}
 use Rattle.smv_core.specs.Types.{find_name}
-use Rattle.smv_types.specs.KindFaults.{connected}
-use Rattle.smv_forms.specs.Found.{scope_of}
+use Rattle.law_kinds.specs.KindFaults.{connected}
+use Rattle.smv_expression_kinds.specs.Found.{scope_of}
 use Rattle.smv_kinds.proofs.arguments.all_connected.Given as goal
 
 abbrev pub invariant-loop-x : goal.invariant-loop-x

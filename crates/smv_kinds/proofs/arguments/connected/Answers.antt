@@ -4,8 +4,8 @@ use Rattle.smv_core.specs.Types.{find_name}
 use Rattle.smv_core.specs.declared.fault.Fault.{Fault}
 use Rattle.smv_core.specs.declared.tree.Word.{Word}
 use Rattle.smv_core.specs.declared.tree.Expr.{Expr}
-use Rattle.smv_types.specs.KindFaults.{connected}
-use Rattle.smv_forms.specs.Found.{scope_of}
+use Rattle.law_kinds.specs.KindFaults.{connected}
+use Rattle.smv_expression_kinds.specs.Found.{scope_of}
 use Rattle.smv_kinds.proofs.ArgumentLaws.{zip-first}
 use Rattle.smv_kinds.proofs.arguments.connected.Goals as goal
 

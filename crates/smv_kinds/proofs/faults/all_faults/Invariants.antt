@@ -1,8 +1,8 @@
 use Rattle.std.proofs.Common.{◌≡◌, ◌++◌, [], drop}
-use Rattle.smv_inst.specs.Scopes.{pieces, constants}
-use Rattle.smv_types.specs.References.{modules_from}
-use Rattle.smv_types.specs.KindFaults.{in_tops}
-use Rattle.smv_forms.specs.Forms.{types_before}
+use Rattle.smv_instances.specs.Scopes.{pieces, constants}
+use Rattle.law_kinds.specs.References.{modules_from}
+use Rattle.law_kinds.specs.KindFaults.{in_tops}
+use Rattle.smv_expression_kinds.specs.Forms.{types_before}
 use Rattle.smv_kinds.proofs.faults.all_faults.Given as goal
 
 abbrev pub invariant-loop-place : goal.invariant-loop-place

@@ -2,8 +2,8 @@ use Rattle.std.proofs.Common.{◌≡◌, [], ◌++◌, OnOk, ap, ◌∙◌, subs
 use Rattle.std.specs.Prelude.{List}
 use Rattle.std.specs.List.{flat_map}
 use Rattle.smv_core.specs.declared.fault.Fault.{Fault}
-use Rattle.smv_types.specs.KindFaults.{in_item}
-use Rattle.smv_forms.specs.Found.{scope_of}
+use Rattle.law_kinds.specs.KindFaults.{in_item}
+use Rattle.smv_expression_kinds.specs.Found.{scope_of}
 use Rattle.smv_kinds.proofs.KindLaws.{vars-none}
 use Rattle.smv_kinds.proofs.TopLaws.{top-Alias, top-Module}
 use Rattle.smv_kinds.proofs.faults.top_faults.Goals as goal

@@ -1,15 +1,15 @@
 use Rattle.std.proofs.Common.{◌≡◌, ap, sym, ◌∙◌, subst}
 use Rattle.std.specs.Prelude.{Option, Some, option_map}
 use Rattle.smv_core.specs.declared.tree.Expr.{Expr}
-use Rattle.smv_inst.specs.Scopes.{Own}
-use Rattle.smv_inst.specs.Said.{said_of}
-use Rattle.smv_inst.specs.declared.mentions.What.{What as NotedWhat}
+use Rattle.smv_instances.specs.Scopes.{Own}
+use Rattle.smv_instances.specs.Said.{said_of}
+use Rattle.smv_instances.specs.declared.mentions.What.{What as NotedWhat}
 use Rattle.smv_scope.specs.Held.{own_of}
-use Rattle.smv_types.specs.References.{Scope}
-use Rattle.smv_types.specs.KindFaults.{connected}
-use Rattle.smv_forms.specs.Found.{scope_of}
+use Rattle.law_kinds.specs.References.{Scope}
+use Rattle.law_kinds.specs.KindFaults.{connected}
+use Rattle.smv_expression_kinds.specs.Found.{scope_of}
 use Rattle.smv_kinds.specs.Found.{argument_faults}
-use Rattle.smv_forms.proofs.ScopeLaws.{own-here}
+use Rattle.smv_expression_kinds.proofs.ScopeLaws.{own-here}
 use Rattle.smv_kinds.proofs.formals.formal_named.Goals as goal
 
 pub returns-in-None : goal.returns-in-None

@@ -1,8 +1,8 @@
 use Rattle.std.proofs.Common.{map, ap, sym, ◌∙◌}
-use Rattle.smv_types.specs.Kinds.{Operand}
+use Rattle.law_kinds.specs.Kinds.{Operand}
 use Rattle.smv_core.specs.declared.tree.Expr.{Expr}
-use Rattle.smv_types.specs.Operands.{operand}
-use Rattle.smv_forms.specs.Found.{vars_of, scope_of}
+use Rattle.law_kinds.specs.Operands.{operand}
+use Rattle.smv_expression_kinds.specs.Found.{vars_of, scope_of}
 use Rattle.smv_kinds.specs.Found.{begin, or_zero}
 use Rattle.smv_kinds.proofs.KindLaws.{begin-first, drop-none}
 use Rattle.smv_kinds.proofs.operands.+operands.Goals as goal

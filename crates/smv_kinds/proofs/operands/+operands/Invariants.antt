@@ -1,10 +1,10 @@
 use Rattle.std.proofs.Common.{◌≡◌, ◌++◌, map, drop}
 use Rattle.std.specs.List.{flat_map}
 use Rattle.std.specs.Prelude.{None}
-use Rattle.smv_types.specs.Kinds.{takes_number, alike_with, kind_with}
-use Rattle.smv_types.specs.Operands.{operand}
-use Rattle.smv_forms.specs.Forms.{kind_of}
-use Rattle.smv_forms.specs.Found.{vars_of, scope_of}
+use Rattle.law_kinds.specs.Kinds.{takes_number, alike_with, kind_with}
+use Rattle.law_kinds.specs.Operands.{operand}
+use Rattle.smv_expression_kinds.specs.Forms.{kind_of}
+use Rattle.smv_expression_kinds.specs.Found.{vars_of, scope_of}
 use Rattle.smv_kinds.specs.Found.{begin, kinds_left, path_faults, addend, member}
 use Rattle.smv_kinds.proofs.operands.+operands.Given as goal
 

@@ -1,8 +1,8 @@
 use Rattle.std.proofs.Common.{◌≡◌, ◌++◌, map, drop}
-use Rattle.smv_types.specs.Kinds.{alike_with, kind_with}
-use Rattle.smv_types.specs.Operands.{operand}
-use Rattle.smv_forms.specs.Forms.{kind_of}
-use Rattle.smv_forms.specs.Found.{vars_of, scope_of}
+use Rattle.law_kinds.specs.Kinds.{alike_with, kind_with}
+use Rattle.law_kinds.specs.Operands.{operand}
+use Rattle.smv_expression_kinds.specs.Forms.{kind_of}
+use Rattle.smv_expression_kinds.specs.Found.{vars_of, scope_of}
 use Rattle.smv_kinds.proofs.statements.all_fitting.Given as goal
 
 abbrev pub invariant-loop-x : goal.invariant-loop-x

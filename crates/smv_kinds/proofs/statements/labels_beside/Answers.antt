@@ -2,10 +2,10 @@ use Rattle.std.proofs.Common.{◌++◌, map, ap, ◌∙◌}
 use Rattle.std.specs.Prelude.{List}
 use Rattle.smv_core.specs.declared.tree.Arm.{Arm}
 use Rattle.smv_core.specs.declared.tree.Expr.{Expr}
-use Rattle.smv_types.specs.Kinds.{Kind, Operand, alike_with, kind_with}
-use Rattle.smv_types.specs.Operands.{operand}
-use Rattle.smv_forms.specs.Forms.{kind_of}
-use Rattle.smv_forms.specs.Found.{vars_of, scope_of}
+use Rattle.law_kinds.specs.Kinds.{Kind, Operand, alike_with, kind_with}
+use Rattle.law_kinds.specs.Operands.{operand}
+use Rattle.smv_expression_kinds.specs.Forms.{kind_of}
+use Rattle.smv_expression_kinds.specs.Found.{vars_of, scope_of}
 use Rattle.smv_kinds.specs.Found.{labels_of}
 use Rattle.smv_kinds.proofs.KindLaws.{lists-step, lists-done}
 use Rattle.smv_kinds.proofs.statements.labels_beside.Goals as goal

@@ -1,8 +1,8 @@
 use Rattle.std.proofs.Common.{◌≡◌, ◌++◌, drop}
 use Rattle.std.specs.List.{flat_map}
-use Rattle.smv_types.specs.Kinds.{alike_with}
-use Rattle.smv_forms.specs.Forms.{kind_of}
-use Rattle.smv_forms.specs.Found.{vars_of, scope_of}
+use Rattle.law_kinds.specs.Kinds.{alike_with}
+use Rattle.smv_expression_kinds.specs.Forms.{kind_of}
+use Rattle.smv_expression_kinds.specs.Found.{vars_of, scope_of}
 use Rattle.smv_kinds.specs.Found.{labels_of}
 use Rattle.smv_kinds.proofs.statements.labels_beside.Given as goal
 

@@ -1,8 +1,8 @@
 use Rattle.std.proofs.Common.{◌≡◌, ◌++◌, drop}
 use Rattle.std.specs.List.{flat_map}
 use Rattle.smv_core.specs.declared.tree.Field.{out-Field}
-use Rattle.smv_types.specs.Types.{type_faults}
-use Rattle.smv_forms.specs.Found.{scope_of}
+use Rattle.law_kinds.specs.Types.{type_faults}
+use Rattle.smv_expression_kinds.specs.Found.{scope_of}
 use Rattle.smv_kinds.proofs.types.+types.Given as goal
 
 abbrev pub invariant-field_faults-loop-field : goal.invariant-field_faults-loop-field

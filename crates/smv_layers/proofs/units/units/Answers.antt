@@ -1,6 +1,6 @@
 use Rattle.std.proofs.Common.{ℕ, map, ap, ◌∙◌, ◌++◌}
 use Rattle.smv_core.specs.declared.flat.Unit.{Unit as FlatUnit}
-use Rattle.smv_oblig.specs.Units.{in_order}
+use Rattle.law_obligations.specs.Units.{in_order}
 use Rattle.smv_layers.specs.Bases.{claims_from}
 use Rattle.smv_layers.proofs.UnitLaws.{units-are}
 use Rattle.smv_layers.proofs.units.units.Goals as goal

@@ -2,7 +2,7 @@ use Rattle.std.proofs.Common.{◌≡◌, ◌++◌, ◌≤◌, ◌<◌, ℕ, List
 use Rattle.std.specs.Result.{OnOk}
 use Rattle.smv_core.specs.Assignments.{Index}
 use Rattle.smv_core.specs.declared.flat.Simple.{Simple}
-use Rattle.smv_delay.specs.Loops.{cells_of}
+use Rattle.law_loops_and_layers.specs.Loops.{cells_of}
 use Rattle.smv_loops.specs.Cells.{base, number_in}
 use Rattle.smv_loops.specs.Held.{index_in, index_of}
 use Rattle.smv_loops.specs.Numbers.{places}

@@ -1,8 +1,0 @@
-use Rattle.smv_again.proofs.Joined.{again, one}
-use Rattle.smv_again.proofs.printed_again.Goals as goal
-
-pub returns-clause-again : goal.returns-clause-again
-returns-clause-again c = again c.canonical_read.ensures c.same_text.ensures c.fewest_tokens_of_text.ensures.printed
-
-pub returns-clause-one : goal.returns-clause-one
-returns-clause-one c = one c.fewest_tokens_of_text.ensures.printed

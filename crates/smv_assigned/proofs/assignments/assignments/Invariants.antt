@@ -1,7 +1,0 @@
-use Rattle.std.proofs.Common.{◌≡◌, ◌++◌, map, drop}
-use Rattle.std.specs.List.{flat_map}
-use Rattle.smv_assigned.specs.Held.{standing_of, assigned_of}
-use Rattle.smv_assigned.proofs.assignments.assignments.Given as goal
-
-abbrev pub invariant-loop-x : goal.invariant-loop-x
-invariant-loop-x l = map standing_of l.all.items ++ flat_map assigned_of (drop l.x-index l.items) ≡ flat_map assigned_of l.items

@@ -1,9 +1,0 @@
-use Rattle.std.proofs.Common.{◌≡◌}
-use Rattle.smv_scope.specs.ScopeFault.{least}
-use Rattle.smv_assigned.specs.Clashes.{clash_by}
-use Rattle.smv_assigned.specs.Links.{held, between}
-use Rattle.smv_single.specs.SingleFaults.{later_places}
-use Rattle.smv_assigned.proofs.earlier.first_clash.Given as goal
-
-abbrev pub invariant-loop-place : goal.invariant-loop-place
-invariant-loop-place l = l.found ≡ least (later_places (clash_by l.by) (between l.start l.middle (held l.table)) (between l.middle l.place (held l.table)))

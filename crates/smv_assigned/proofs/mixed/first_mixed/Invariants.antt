@@ -1,8 +1,0 @@
-use Rattle.std.proofs.Common.{◌≡◌, take}
-use Rattle.smv_scope.specs.ScopeFault.{least}
-use Rattle.smv_single.specs.SingleFaults.{mixed}
-use Rattle.smv_assigned.specs.Links.{held}
-use Rattle.smv_assigned.proofs.mixed.first_mixed.Given as goal
-
-abbrev pub invariant-loop-place : goal.invariant-loop-place
-invariant-loop-place l = l.found ≡ least (mixed (take l.place (held l.table)))

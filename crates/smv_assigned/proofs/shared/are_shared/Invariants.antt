@@ -1,7 +1,0 @@
-use Rattle.std.proofs.Common.{map}
-use Rattle.smv_assigned.specs.Held.{standing_of}
-use Rattle.smv_assigned.proofs.SharedLaws.{HaveSpots}
-use Rattle.smv_assigned.proofs.shared.are_shared.Given as goal
-
-abbrev pub invariant-loop-place : goal.invariant-loop-place
-invariant-loop-place l = HaveSpots l.spots (map standing_of l.all) l.classes l.place

@@ -1,6 +1,0 @@
-use Rattle.std.proofs.Common.{take, All}
-use Rattle.smv_assigned.specs.Shared.{HasSpot}
-use Rattle.smv_assigned.proofs.shared.has_spots.Given as goal
-
-abbrev pub invariant-loop-var : goal.invariant-loop-var
-invariant-loop-var l = All (HasSpot l.spots l.class l.x.left.now) (take l.var-index l.x.around.items)

@@ -1,6 +1,0 @@
-use Rattle.std.proofs.Common.{drop}
-use Rattle.smv_cert.proofs.Loops.{IsLeft}
-use Rattle.smv_cert.proofs.runs.run.Given as goal
-
-abbrev pub invariant-loop-op : goal.invariant-loop-op
-invariant-loop-op l = IsLeft l.initial.store l.initial.p l.ops l.store l.p (drop l.op-index l.ops)

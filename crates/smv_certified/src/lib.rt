@@ -1,9 +1,0 @@
-//! A closed search and the inductive check agree.
-#![tactic(auto)]
-
-ghost use Rattle.smv_certified.specs.Certified.{ClosedSetsPass};
-
-/// The set of a closed search passes the inductive check: the check may be called of it, and is true.
-pub fn closed_sets_pass()
-    ensures { ClosedSetsPass }
-{}

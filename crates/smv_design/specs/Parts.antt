@@ -1,0 +1,30 @@
+-- What the statements of a list say of one family, for one kind of assignment.
+use Rattle.std.specs.Prelude.{ℕ, ◌+◌, List, [], ◌∷◌, ◌++◌, if◌then◌else◌}
+use Rattle.smv_core.specs.declared.tree.Kind.{Kind}
+use Rattle.smv_core.specs.declared.flat.FlatStmt.{FlatStmt}
+use Rattle.smv_core.specs.declared.flat.Flat.{Flat}
+use Rattle.law_single_assignment.specs.Standing.{count}
+use Rattle.law_single_assignment.specs.Definitions.{is_nothing, flat_of}
+
+-- how many places a statement takes: one for each assignment
+unfoldable pub size : FlatStmt → ℕ
+size act = count act
+
+-- how many some statements take
+abbrev pub sizes : List FlatStmt → ℕ
+sizes [] = 0
+sizes (x ∷ xs) = size x + sizes xs
+
+-- a part, where it has a result
+abbrev pub kept : Flat → List Flat
+kept part = if is_nothing part then [] else part ∷ []
+
+module _ (kind : Kind) (family : ℕ) where
+  -- what a statement says
+  unfoldable pub said : ℕ → FlatStmt → Flat
+  said k act = flat_of kind family k act
+
+  -- the parts of some statements that have a result; the first assignment of the first statement has this place
+  abbrev pub parts_from : ℕ → List FlatStmt → List Flat
+  parts_from k [] = []
+  parts_from k (x ∷ xs) = kept (said k x) ++ parts_from (k + size x) xs

@@ -1,0 +1,60 @@
+-- What the program finds of names and paths, as the definitions speak of it.
+use Rattle.std.specs.Prelude.{ℕ, List, [], ◌∷◌, ◌++◌, map, slice_get, Option, Some, None, option_map}
+use Rattle.smv_core.specs.declared.tree.Word.{Word}
+use Rattle.smv_core.specs.declared.tree.Text.{Text}
+use Rattle.smv_core.specs.declared.tree.Part.{Part, Field}
+use Rattle.smv_instances.specs.Scopes.{pieces, constants}
+use Rattle.law_kinds.specs.Kinds.{Kind}
+use Rattle.law_kinds.specs.Types.{Whole, Leads}
+use Rattle.law_kinds.specs.References.{modules_from, Scope, Vars, behind}
+use Rattle.smv_expression_kinds.specs.Forms.{kind_of, types_before, module_in, form_leads}
+use Rattle.smv_expression_kinds.specs.declared.paths.Whole.{Whole as HeldWhole}
+use Rattle.smv_expression_kinds.specs.declared.paths.Reached.{Reached}
+use Rattle.smv_scope.specs.declared.paths.Inner.{Inner}
+use Rattle.smv_instances.specs.Said.{said_of}
+use Rattle.smv_expression_kinds.specs.declared.lookups.Var.{Var}
+use Rattle.smv_expression_kinds.specs.declared.lookups.Scope.{Scope as HeldScope}
+
+-- the variables that are bound around, the innermost first
+unfoldable pub vars_of : List Var → Vars
+vars_of vars = map (λ var. (var.name.now, kind_of var.kind)) vars
+
+-- a whole reference to a single value
+abbrev pub whole_of : HeldWhole → Whole
+whole_of w = record { over = map kind_of w.over.items; value = kind_of w.value }
+
+-- ---- where something stands
+
+-- where something stands in the top of a number
+abbrev pub scope_at : Text → ℕ → Scope
+scope_at text place = record { modules = modules_from [] text.tops; constants = constants (pieces text); here = module_in (types_before text place) (slice_get text.tops place) }
+
+unfoldable pub scope_of : HeldScope → Scope
+scope_of scope = scope_at scope.tables.now.names.text.now scope.place
+
+-- the same tables, in the top of another number
+abbrev pub moved : HeldScope → ℕ → HeldScope
+moved scope place = record { tables = scope.tables; place = place }
+
+-- ---- paths
+
+-- a single value over these index kinds
+abbrev pub whole_in : List Kind → Kind → Whole
+whole_in over value = record { over = over; value = value }
+
+-- the name that a path is, where it is a name alone
+abbrev pub lone : List Part → Option Word
+lone (Field word ∷ []) = Some word
+lone _ = None
+
+-- over these index kinds before
+abbrev pub behind_over : List Kind → Whole → Whole
+behind_over over w = record w { over = over ++ w.over }
+
+-- what stands behind some parts of a path
+abbrev pub reached_leads : Text → Reached → Leads
+reached_leads text reached parts = option_map (behind_over (map kind_of reached.over.items)) (form_leads text reached.form parts)
+
+-- what stands behind a name of a module
+abbrev pub inner_leads : Text → Inner → Leads
+inner_leads text inner parts = behind (modules_from [] text.tops) (types_before text inner.place) (said_of inner.own.what) parts

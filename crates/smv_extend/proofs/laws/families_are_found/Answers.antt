@@ -1,5 +1,0 @@
-use Rattle.smv_extend.proofs.FamiliesFound.{families_found}
-use Rattle.smv_extend.proofs.laws.families_are_found.Goals as goal
-
-pub returns : goal.returns
-returns c = λ text none. families_found text none

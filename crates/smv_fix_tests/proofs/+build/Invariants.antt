@@ -1,5 +1,0 @@
-use Rattle.std.proofs.Common.{◌-◌}
-use Rattle.smv_fix_tests.proofs.+build.Given as goal
-
-abbrev pub decreases-build : goal.decreases-build
-decreases-build l = l.store.now.vars - l.var

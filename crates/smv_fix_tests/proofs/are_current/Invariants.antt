@@ -1,7 +1,0 @@
-use Rattle.std.proofs.Common.{map, take}
-use Rattle.bdd_store.specs.Diagram.{table}
-use Rattle.smv_rel.specs.Lists.{AllCurrent}
-use Rattle.smv_fix_tests.proofs.are_current.Given as goal
-
-abbrev pub invariant-loop-f : goal.invariant-loop-f
-invariant-loop-f l = AllCurrent (map (table l.store) (take l.f-index l.fs))

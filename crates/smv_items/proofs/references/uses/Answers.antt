@@ -1,6 +1,0 @@
--- Each turn takes a comma at the least.
-use Rattle.smv_items.proofs.Loops.{uses_shrink}
-use Rattle.smv_items.proofs.references.uses.Goals as goal
-
-pub loop-alloc-smaller : goal.loop-alloc-smaller
-loop-alloc-smaller c = uses_shrink c.args.levels c.loop-alloc.rest.now _ c.in_ok-next.after.now c.in_ok-next.ensures.found

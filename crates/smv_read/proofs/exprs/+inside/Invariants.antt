@@ -1,5 +1,0 @@
-use Rattle.smv_read.proofs.exprs.+inside.Given as goal
-
--- each level is read with a level fewer
-abbrev pub decreases-inside : goal.decreases-inside
-decreases-inside l = l.levels

@@ -1,5 +1,0 @@
-use Rattle.smv_rel.proofs.PathLaws.{equal_ends}
-use Rattle.smv_rel.proofs.laws.equal_rings_end.Goals as goal
-
-pub returns : goal.returns
-returns c l ok k closed none = equal_ends l ok k closed none

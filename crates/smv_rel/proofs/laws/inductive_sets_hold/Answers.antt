@@ -1,5 +1,0 @@
-use Rattle.smv_rel.proofs.Rings.{inductive_safe}
-use Rattle.smv_rel.proofs.laws.inductive_sets_hold.Goals as goal
-
-pub returns : goal.returns
-returns c l set is = inductive_safe l set is

@@ -1,0 +1,29 @@
+use Rattle.std.proofs.Common.{◌≡◌, ◌≤◌, ◌∙◌, ℕ, subst, arith}
+use Rattle.smv_search.specs.Keeping.{beads_of}
+use Rattle.smv_search.proofs.Keep.{beads_are, held_at, keeps_swept}
+use Rattle.smv_search.proofs.counts.tally.Goals as goal
+
+pub returns-then-held-nodes-clause-count : goal.returns-then-held-nodes-clause-count
+returns-then-held-nodes-clause-count c =
+    let most : beads_of c.args.store.now c.args.roots.now ≤ c.held.result =
+    subst (λ (n : ℕ). n ≤ c.held.result) (beads_are c.args.store.now c.args.roots.now) (c.held.ensures.most c.args.roots.now (held_at c.args.store.now c.args.roots.now c.requires.held)) in
+    omega arith
+
+pub sweep-requires : goal.sweep-requires
+sweep-requires c = held_at c.args.store.now c.args.roots.now c.requires.held
+
+pub returns-then-count-nodes-clause-keeps : goal.returns-then-count-nodes-clause-keeps
+returns-then-count-nodes-clause-keeps c = keeps_swept c.args.store.now c.sweep.new.self c.args.roots.now c.requires.held c.sweep.ensures.sweeps
+
+pub returns-then-count-nodes-clause-count : goal.returns-then-count-nodes-clause-count
+returns-then-count-nodes-clause-count c =
+    let e : c.held-count.result ≡ beads_of c.args.store.now c.args.roots.now = c.held-count.ensures.held ∙ c.sweep.ensures.beads ∙ beads_are c.args.store.now c.args.roots.now in
+    (omega arith, e)
+
+pub returns-clause-keeps : goal.returns-clause-keeps
+returns-clause-keeps c = keeps_swept c.args.store.now c.sweep.new.self c.args.roots.now c.requires.held c.sweep.ensures.sweeps
+
+pub returns-clause-count : goal.returns-clause-count
+returns-clause-count c =
+    let e : c.held-count.result ≡ beads_of c.args.store.now c.args.roots.now = c.held-count.ensures.held ∙ c.sweep.ensures.beads ∙ beads_are c.args.store.now c.args.roots.now in
+    omega arith

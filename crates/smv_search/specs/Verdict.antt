@@ -1,0 +1,61 @@
+-- The verdict of a case: the first event of its schedule.
+use Rattle.std.specs.Prelude.{◌≡◌, ◌≢◌, ℕ, suc, ◌*◌, ◌<◌, ◌≤◌, List, [], ◌∷◌, ◌++◌, map}
+use Rattle.bdd_store.specs.Beads.{truth_table, bead_count}
+use Rattle.bdd_ops.specs.Functions.{Function}
+use Rattle.smv_rings.specs.Functions.{never}
+use Rattle.smv_rings.specs.Lists.{Lists}
+use Rattle.smv_rings.specs.Schedule.{Look, Line, live, schedule}
+use Rattle.smv_rings.specs.Schedule.Look.{Pass, Broken, Ring}
+
+pub data Verdict : Type 0 where
+  Counted : ℕ → Verdict  -- the budget of nodes is passed by this count
+  Reached : ℕ → Verdict  -- a violating path of so many steps exists
+  Shut : ℕ → Verdict  -- the ring of this number equals the next one
+  Images : Verdict  -- the budget of images is used up
+
+pub record Budget : Type 0 where
+  pub vars : ℕ
+  pub nodes : ℕ
+  pub images : ℕ
+
+-- the beads of the live functions
+unfoldable pub count : ℕ → Line → ℕ
+count n line = bead_count n (map (truth_table n 0) (live line))
+
+-- what is looked at decides nothing
+abbrev pub Goes : ℕ → Function → Look → Type 0
+Goes images f Pass = Unit {0}
+Goes images f (Broken k) = f ≡ never
+Goes images f (Ring k old) = (f ≢ old) × (k ≢ images)
+
+-- what is looked at decides so
+abbrev pub Settles : ℕ → Function → Look → Verdict → Type 0
+Settles images f Pass v = ⊥
+Settles images f (Broken k) (Reached j) = (f ≢ never) × (j ≡ k)
+Settles images f (Broken k) _ = ⊥
+Settles images f (Ring k old) (Shut j) = (f ≡ old) × (suc j ≡ k)
+Settles images f (Ring k old) Images = (f ≢ old) × (k ≡ images)
+Settles images f (Ring k old) _ = ⊥
+
+-- a line at which nothing happens
+abbrev pub Passes : Budget → Line → Type 0
+Passes b line = (count b.vars line ≤ b.nodes) × Goes b.images line.made line.look
+
+-- a line at which this happens; the count is looked at first
+abbrev pub Decides : Budget → Line → Verdict → Type 0
+Decides b line (Counted n) = (b.nodes < count b.vars line) × (n ≡ count b.vars line)
+Decides b line (Reached k) = (count b.vars line ≤ b.nodes) × Settles b.images line.made line.look (Reached k)
+Decides b line (Shut k) = (count b.vars line ≤ b.nodes) × Settles b.images line.made line.look (Shut k)
+Decides b line Images = (count b.vars line ≤ b.nodes) × Settles b.images line.made line.look Images
+
+unfoldable pub AllPass : Budget → List Line → Type 0
+AllPass b [] = Unit {0}
+AllPass b (line ∷ lines) = Passes b line × AllPass b lines
+
+-- the first event of the lines
+unfoldable pub First : Budget → List Line → Verdict → Type 0
+First b lines v = (before : List Line) × (line : Line) × (behind : List Line) × (lines ≡ before ++ (line ∷ behind)) × AllPass b before × Decides b line v
+
+-- the verdict of a case by its budgets
+abbrev pub IsVerdict : Lists → ℕ → ℕ → Verdict → Type 0
+IsVerdict l nodes images v = First (record { vars = 2 * l.bits; nodes = nodes; images = images }) (schedule l images) v

@@ -1,0 +1,101 @@
+// Counting, and giving back.
+ghost use Rattle.std.specs.Prelude.{◌≡◌, ℕ, ◌≤◌, OnOk, length, List, [], ◌∷◌, ◌++◌, map};
+ghost use Rattle.bdd_store.specs.declared.Ref.{Ref};
+ghost use Rattle.bdd_store.specs.Diagram.{IsLive, AreLive, table};
+ghost use Rattle.smv_search.specs.declared.counts.Stop.TheVariants.{OutOfMemory};
+ghost use Rattle.smv_search.specs.Keeping.{AllHeld, KeepsRefs, beads_of, IsTally};
+ghost use Rattle.smv_search.specs.Runs.{TakesIn};
+
+use bdd_store::{Ref, Store};
+use std::alloc::{AllocError, AllocFailed};
+
+/// Why a search ends before its verdict.
+#[derive(Drop)]
+pub enum Stop {
+    /// There are more beads than the budget of nodes.
+    TooMany(usize),
+    OutOfMemory,
+}
+
+impl From<AllocError> for Stop {
+    ghost from_gives = { λ _ e. e ≡ OutOfMemory };
+
+    fn from(_e: AllocError) -> Stop {
+        Stop::OutOfMemory
+    }
+}
+
+impl<T: Drop> From<AllocFailed<T>> for Stop {
+    ghost from_gives = { λ _ e. e ≡ OutOfMemory };
+
+    fn from(_e: AllocFailed<T>) -> Stop {
+        Stop::OutOfMemory
+    }
+}
+
+// The functions of the lists are appended one by one. None is given back, since later ones are not counted yet.
+pub fn take_in(store: &Store, all: &[Ref], nodes: u32) -> Result<(), Stop>
+    requires live { AreLive store.now all.now }
+    ensures takes { (images : ℕ) → TakesIn (record { vars = store.now.vars; nodes = nodes; images = images }) (map (table store.now) all.now) result }
+    ensures within { OnOk result (beads_of store.now all.now ≤ nodes) }
+{
+    for i in 0..all.len() {
+        count_front(store, &all[..i + 1], nodes)?;
+    }
+    Ok(())
+}
+
+// Counts the functions.
+fn count_front(store: &Store, front: &[Ref], nodes: u32) -> Result<(), Stop>
+    requires live { AreLive store.now front.now }
+    ensures count { IsTally (beads_of store.now front.now) nodes result }
+{
+    if store.held() <= nodes as usize {
+        return Ok(());
+    }
+    let count = store.count(front)?;
+    if count > nodes as usize {
+        return Err(Stop::TooMany(count));
+    }
+    Ok(())
+}
+
+// A function was appended that was made from another.
+pub fn append(
+    store: &mut Store,
+    live: &mut Vec<Ref>,
+    source: Ref,
+    made: Ref,
+    nodes: u32,
+) -> Result<(), Stop>
+    requires live { AllHeld store.old live.old.items }
+    requires source { IsLive store.old source }
+    requires made { IsLive store.old made }
+    ensures same { OnOk result (live.new.items ≡ live.old.items) }
+    ensures keeps { KeepsRefs store.old store.new (live.old.items ++ (source ∷ made ∷ [])) }
+    ensures count { IsTally (beads_of store.old (live.old.items ++ (source ∷ made ∷ []))) nodes result }
+{
+    live.push(source)?;
+    live.push(made)?;
+    let answer = tally(store, live, nodes);
+    live.pop();
+    live.pop();
+    answer
+}
+
+// Counts the functions. Where the store holds more nodes than the budget, all others are given back.
+fn tally(store: &mut Store, roots: &[Ref], nodes: u32) -> Result<(), Stop>
+    requires held { AllHeld store.old roots.now }
+    ensures keeps { KeepsRefs store.old store.new roots.now }
+    ensures count { IsTally (beads_of store.old roots.now) nodes result }
+{
+    if store.held() <= nodes as usize {
+        return Ok(());
+    }
+    store.sweep(roots);
+    let count = store.held();
+    if count > nodes as usize {
+        return Err(Stop::TooMany(count));
+    }
+    Ok(())
+}

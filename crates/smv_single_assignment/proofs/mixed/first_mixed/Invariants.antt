@@ -1,0 +1,8 @@
+use Rattle.std.proofs.Common.{◌≡◌, take}
+use Rattle.smv_scope.specs.ScopeFault.{least}
+use Rattle.law_single_assignment.specs.SingleFaults.{mixed}
+use Rattle.smv_single_assignment.specs.Links.{held}
+use Rattle.smv_single_assignment.proofs.mixed.first_mixed.Given as goal
+
+abbrev pub invariant-loop-place : goal.invariant-loop-place
+invariant-loop-place l = l.found ≡ least (mixed (take l.place (held l.table)))

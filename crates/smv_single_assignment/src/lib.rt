@@ -1,0 +1,60 @@
+//! The first fault of single assignment of a flattened text.
+#![tactic(auto)]
+
+ghost use Rattle.std.specs.Prelude.{◌≡◌, IfOk};
+ghost use Rattle.smv_scope.specs.ScopeFault.{fault_at};
+ghost use Rattle.law_single_assignment.specs.SingleFaults.{first_fault_of_single};
+
+pub mod assignments;
+pub mod clashes;
+pub mod classes;
+pub mod conflicts;
+pub mod earlier;
+pub mod links;
+pub mod mixed;
+pub mod places;
+pub mod shared;
+#[cfg(test)]
+mod tests;
+pub mod variables;
+
+use crate::assignments::assignments;
+use crate::classes::classes;
+use crate::conflicts::first_conflict;
+use crate::links::linked_table;
+use crate::mixed::first_mixed;
+use crate::shared::are_shared;
+use crate::variables::first_without;
+use smv_core::Fault;
+use smv_core::flat::Raw;
+use smv_scope::scope::earlier;
+use std::alloc::{AllocError, Global};
+
+// A fault of this number at a place.
+fn fault(number: u8, at: Option<u32>) -> Option<Fault>
+    ensures { result ≡ fault_at number at }
+{
+    match at {
+        Some(at) => Some(Fault { number, at }),
+        None => None,
+    }
+}
+
+/// The first fault of a flattened text among 15 to 17, or none.
+pub fn single_fault(alloc: Global, raw: &Raw) -> Result<Option<Fault>, AllocError>
+    ensures { IfOk result (λ fault. fault ≡ first_fault_of_single raw.now) }
+{
+    let items = raw.items.as_slice();
+    let all = assignments(items, alloc)?;
+    let without = first_without(&all, items);
+    let classes = classes(alloc, &all)?;
+    let shared = are_shared(alloc, &all, &classes)?;
+    let count = all.len();
+    let table = linked_table(alloc, all, classes, count, shared)?;
+    let conflict = first_conflict(items, &table, alloc)?;
+    let mixed = first_mixed(&table);
+    Ok(earlier(
+        fault(15, conflict),
+        earlier(fault(16, mixed), fault(17, without)),
+    ))
+}
