@@ -17,9 +17,6 @@ use memo_table::Memo;
 use std::alloc::{AllocError, Global};
 use std::collections::HashSet;
 
-#[cfg(test)]
-mod tests;
-
 /// The function with the variable at 0, and with it at 1. It depends on no earlier variable.
 #[inline(always)]
 fn split(store: &Store, f: Ref, var: u32) -> (Ref, Ref)

@@ -16,8 +16,6 @@ use std::mem;
 
 mod chains;
 mod results;
-#[cfg(test)]
-mod tests;
 mod visits;
 
 use chains::{Node, add, bucket_of, find, give_back, grow, link_all};

@@ -3,5 +3,3 @@
 
 pub mod ranks;
 pub mod reach;
-#[cfg(test)]
-mod tests;

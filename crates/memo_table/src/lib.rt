@@ -9,9 +9,6 @@ use bdd_store::Ref;
 use std::alloc::{AllocError, Global};
 use std::marker::Model;
 
-#[cfg(test)]
-mod tests;
-
 // A result, and the number of the entry before it in its chain, counted from 1; 0 ends a chain.
 #[derive(Clone, Copy)]
 struct Entry {

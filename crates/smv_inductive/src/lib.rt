@@ -9,8 +9,6 @@ ghost use Rattle.smv_inductive.specs.Halves.{HoldsFirst, HoldsOn, first_ops_of};
 
 pub mod laws;
 mod runs;
-#[cfg(test)]
-mod tests;
 
 use bdd_store::{Ref, Store};
 use runs::{push_ands, stays_within};

@@ -6,5 +6,3 @@ pub mod items;
 pub mod mentions;
 pub mod pieces;
 pub mod statements;
-#[cfg(test)]
-mod tests;

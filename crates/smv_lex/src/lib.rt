@@ -8,8 +8,6 @@ ghost use Rattle.smv_lex.specs.Lexing.{lexed};
 mod front;
 pub mod laws;
 mod spellings;
-#[cfg(test)]
-mod tests;
 
 use front::{Front, read_front};
 use smv_core::token::Token;

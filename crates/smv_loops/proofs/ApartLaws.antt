@@ -1,5 +1,5 @@
 -- The cells of a design are listed once each.
-use Rattle.std.proofs.Common.{◌≡◌, ◌≢◌, ℕ, zero, suc, ◌+◌, ◌-◌, ◌≤◌, ◌<◌, ◌⊎◌, inl, inr, List, [], ◌∷◌, ◌++◌, map, length, get_or, Option, Some, None, refl, sym, ap, subst, ◌∙◌, arith}
+use Rattle.std.proofs.Common.{◌≡◌, ◌≢◌, ℕ, zero, suc, ◌+◌, ◌-◌, ◌≤◌, ◌⊎◌, inl, inr, List, [], ◌∷◌, ◌++◌, map, get_or, Option, Some, refl, sym, ap, subst, ◌∙◌, arith}
 use Rattle.std.specs.List.{flat_map, AllPairs}
 use Rattle.std.proofs.lemmas.List.Kept.{AllPairs-cons}
 use Rattle.smv_core.specs.Values.{numbers_from}

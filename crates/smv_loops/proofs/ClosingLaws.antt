@@ -1,10 +1,8 @@
 -- The first assignment with which there is a loop.
 use Rattle.std.proofs.Common.{◌≡◌, ℕ, zero, suc, ◌+◌, ◌<◌, ◌≤◌, List, [], ◌∷◌, ◌++◌, map, filter, length, get_or, take, Some, None, Bool, true, false, cond, refl, sym, ap, ◌∙◌, arith}
-use Rattle.std.specs.List.{flat_map, All}
+use Rattle.std.specs.List.{flat_map}
 use Rattle.std.proofs.lemmas.List.{append-nil, append_assoc, map-append}
-use Rattle.smv_core.specs.declared.fault.Fault.{Fault}
 use Rattle.smv_core.specs.declared.flat.Family.{Family}
-use Rattle.smv_core.specs.declared.flat.Cell.{Cell}
 use Rattle.smv_core.specs.declared.flat.Design.{Design}
 use Rattle.law_loops_and_layers.specs.Reading.{Reading}
 use Rattle.law_loops_and_layers.specs.Loops.{Edge, hold_a_cycle, edges_of, closing, undelayed_in, in_order, is_base}
@@ -14,7 +12,7 @@ use Rattle.smv_loops.specs.declared.ranks.Links.{Links}
 use Rattle.smv_loops.specs.Ranks.{rank, AreBelow, AreSettled}
 use Rattle.smv_loops.specs.Bases.{undelayed_of}
 use Rattle.smv_loops.specs.Held.{assigned_in}
-use Rattle.smv_loops.specs.Cells.{base, number_in, froms, tos}
+use Rattle.smv_loops.specs.Cells.{base, number_in, froms}
 use Rattle.smv_loops.specs.Edges.{AreLinks, AllLinks, edges_at, IsFirst}
 use Rattle.smv_loops.proofs.Members.{In, in-get_or, in-mapped, in-same}
 use Rattle.smv_loops.proofs.Slices.{take-more}

@@ -1,20 +1,20 @@
 -- Ranks of numbered cells say whether edges hold a cycle.
-use Rattle.std.proofs.Common.{◌≡◌, ◌≢◌, ℕ, zero, suc, ◌+◌, ◌<◌, ◌≤◌, ◌⊎◌, inl, inr, List, [], ◌∷◌, ◌++◌, map, filter, length, get_or, slice_get, Option, Some, None, Bool, true, false, ◌&&◌, cond, nat_eq, refl, sym, ap, ◌∙◌, arith}
-use Rattle.std.specs.List.{flat_map, list_any, All, Contains}
+use Rattle.std.proofs.Common.{◌≡◌, ℕ, zero, suc, ◌<◌, inl, inr, List, [], ◌∷◌, ◌++◌, map, filter, length, get_or, slice_get, Option, Some, None, Bool, true, false, ◌&&◌, nat_eq, refl, sym, ap, ◌∙◌, arith}
+use Rattle.std.specs.List.{flat_map, All}
 use Rattle.smv_core.specs.declared.flat.Cell.{Cell}
 use Rattle.smv_core.specs.declared.flat.Family.{Family}
 use Rattle.law_flattening.specs.WholeText.{is_one_layer}
 use Rattle.law_loops_and_layers.specs.Reading.{Reading}
-use Rattle.law_loops_and_layers.specs.Loops.{Edge, same_indexes, same_cell, leads_on, going_on, hold_a_cycle}
-use Rattle.law_loops_and_layers.specs.Laws.{AreFalling, IsCircular}
+use Rattle.law_loops_and_layers.specs.Loops.{Edge, same_indexes, same_cell, leads_on, hold_a_cycle}
+use Rattle.law_loops_and_layers.specs.Laws.{AreFalling}
 use Rattle.law_loops_and_layers.proofs.Cycles.{none_is_missed}
 use Rattle.law_loops_and_layers.proofs.Orders.{order}
 use Rattle.law_loops_and_layers.proofs.Descents.{no_cycle}
 use Rattle.smv_loops.specs.declared.ranks.Links.{Links}
-use Rattle.smv_loops.specs.Ranks.{rank, rank_at, IsOpen, Falls, AreBelow, IsHeldUp, AreSettled}
+use Rattle.smv_loops.specs.Ranks.{rank, rank_at, Falls, AreBelow, IsHeldUp}
 use Rattle.smv_loops.specs.Cells.{number_in, froms, tos}
 use Rattle.smv_loops.specs.Edges.{AreLinks, AllLinks, edges_at}
-use Rattle.smv_loops.proofs.Members.{In, in-same, in-left, in-right, in-either, in-filter, in-filtered, filter-all, any-of, some-in, in-get_or, in-contains, place-in, in-map, in-mapped, in-flat_map, in-flat_mapped}
+use Rattle.smv_loops.proofs.Members.{In, in-same, in-filter, in-filtered, filter-all, any-of, some-in, in-get_or, in-contains, place-in, in-map, in-mapped, in-flat_map, in-flat_mapped}
 
 -- ---- falling edges
 

@@ -1,5 +1,5 @@
 -- What expressions read, on expressions that are made of lists and values.
-use Rattle.std.proofs.Common.{◌≡◌, ℕ, List, [], ◌∷◌, ◌++◌, map, Option, Some, None, refl, ap, ◌∙◌}
+use Rattle.std.proofs.Common.{◌≡◌, ℕ, List, [], ◌∷◌, ◌++◌, map, Some, None, refl, ap, ◌∙◌}
 use Rattle.std.specs.List.{flat_map}
 use Rattle.smv_core.specs.Assignments.{Index}
 use Rattle.smv_core.specs.declared.tree.Op.{Op}

@@ -3,13 +3,13 @@ use Rattle.std.proofs.Common.{◌≡◌, ℕ, zero, suc, ◌+◌, ◌-◌, ◌*�
 use Rattle.std.specs.List.{flat_map}
 use Rattle.std.proofs.lemmas.List.{map-append, append-nil, append_assoc, length-append}
 use Rattle.std.proofs.lemmas.List.Concat.{flat_map-append}
-use Rattle.smv_core.specs.Values.{Value, number, numbers_from}
+use Rattle.smv_core.specs.Values.{number, numbers_from}
 use Rattle.smv_core.specs.Assignments.{Index, computed, fits}
 use Rattle.smv_core.specs.declared.flat.Simple.{Simple}
 use Rattle.smv_core.specs.declared.flat.Simple.TheVariants.{Range, Enum, Set}
 use Rattle.smv_core.specs.declared.flat.Family.{Family}
 use Rattle.smv_core.specs.declared.flat.Cell.{Cell}
-use Rattle.law_loops_and_layers.specs.Loops.{at_index, is_constant, ways, cells_of}
+use Rattle.law_loops_and_layers.specs.Loops.{at_index, is_constant, cells_of}
 use Rattle.smv_loops.specs.Cells.{picked, every, digit, place, base, over_of, number_in}
 use Rattle.smv_loops.proofs.Slices.{split}
 use Rattle.smv_loops.specs.Numbers.{places, digit_places, places_at, range_places, single_places}

@@ -1,11 +1,11 @@
 -- What a round of ranks leaves.
-use Rattle.std.proofs.Common.{◌≡◌, ◌≢◌, ℕ, zero, suc, ◌+◌, ◌-◌, ◌<◌, ◌≤◌, ◌⊎◌, inl, inr, List, [], ◌∷◌, length, get_or, set, Bool, true, false, not, ◌&&◌, cond, nat_eq, refl, sym, ap, ◌∙◌, arith}
-use Rattle.std.specs.List.{All, Contains}
+use Rattle.std.proofs.Common.{◌≡◌, ◌≢◌, ℕ, zero, suc, ◌+◌, ◌-◌, ◌<◌, ◌≤◌, ◌⊎◌, inl, inr, List, length, get_or, set, Bool, true, false, not, ◌&&◌, cond, nat_eq, refl, sym, ap, ◌∙◌, arith}
+use Rattle.std.specs.List.{All}
 use Rattle.std.proofs.lemmas.List.{get_or_past, length-set, get_or-set_same, get_or-set_other, get_or_read}
 use Rattle.std.proofs.lemmas.List.Sums.{sum_by-set}
 use Rattle.std.proofs.lemmas.Bool.{cases_eq}
 use Rattle.smv_loops.specs.declared.ranks.Links.{Links}
-use Rattle.smv_loops.specs.Ranks.{rank, rank_at, AreRanked, IsOpen, Flagged, Falls, IsHeldUp, flag, AreHeldUp, raised, Raised, FlaggedBy, AreSettled, unranked}
+use Rattle.smv_loops.specs.Ranks.{rank, IsOpen, Falls, IsHeldUp, flag, AreHeldUp, raised, Raised, FlaggedBy, AreSettled, unranked}
 
 pub clash : {b : Bool} → b ≡ true → b ≡ false → ⊥
 clash p q = cc

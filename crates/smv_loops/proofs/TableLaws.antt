@@ -1,5 +1,5 @@
 -- Each number stands for one cell.
-use Rattle.std.proofs.Common.{◌≡◌, ℕ, zero, suc, ◌+◌, ◌-◌, ◌*◌, ◌<◌, ◌≤◌, ◌⊎◌, inl, inr, List, [], ◌∷◌, ◌++◌, map, filter, length, get_or, slice_get, Option, Some, None, Bool, true, false, cond, refl, sym, ap, ◌∙◌, arith}
+use Rattle.std.proofs.Common.{◌≡◌, ℕ, zero, suc, ◌+◌, ◌-◌, ◌*◌, ◌<◌, ◌≤◌, inl, inr, List, [], ◌∷◌, ◌++◌, map, filter, length, get_or, slice_get, Option, Some, None, Bool, true, false, cond, refl, sym, ap, ◌∙◌, arith}
 use Rattle.std.specs.List.{flat_map}
 use Rattle.std.proofs.lemmas.List.{length-append}
 use Rattle.smv_core.specs.Values.{number, numbers_from}
@@ -8,8 +8,8 @@ use Rattle.smv_core.specs.declared.flat.Simple.{Simple}
 use Rattle.smv_core.specs.declared.flat.Simple.TheVariants.{Range, Enum, Set}
 use Rattle.smv_core.specs.declared.flat.Family.{Family}
 use Rattle.smv_core.specs.declared.flat.Cell.{Cell}
-use Rattle.law_loops_and_layers.specs.Loops.{at_index, is_constant, ways, cells_of}
-use Rattle.law_loops_and_layers.specs.Reading.{Reference, Reading}
+use Rattle.law_loops_and_layers.specs.Loops.{at_index, is_constant, cells_of}
+use Rattle.law_loops_and_layers.specs.Reading.{Reading}
 use Rattle.smv_loops.specs.Cells.{picked, every, digit, place, base, over_of, number_in, froms, tos, reads_of}
 use Rattle.smv_loops.proofs.Members.{In, in-filtered, in-mapped, in-flat_mapped}
 use Rattle.smv_loops.proofs.NumberLaws.{length-map}

@@ -1,21 +1,17 @@
 -- The lists of what cells have at their indexes, made one after another.
-use Rattle.std.proofs.Common.{◌≡◌, ℕ, zero, suc, ◌+◌, ◌-◌, ◌*◌, ◌<◌, ◌≤◌, List, [], ◌∷◌, ◌++◌, map, filter, length, get_or, slice_get, take, drop, Option, Some, None, refl, sym, ap, ◌∙◌, arith}
-use Rattle.std.specs.List.{flat_map}
+use Rattle.std.proofs.Common.{◌≡◌, ℕ, zero, suc, ◌+◌, ◌-◌, ◌<◌, ◌≤◌, List, [], ◌∷◌, ◌++◌, map, length, get_or, slice_get, take, Option, Some, refl, sym, ap, ◌∙◌, arith}
 use Rattle.std.specs.Global.{Vec}
 use Rattle.std.proofs.lemmas.List.{map-append, append-nil, append_assoc, take_all}
-use Rattle.std.proofs.lemmas.List.Concat.{flat_map-append}
-use Rattle.smv_core.specs.Values.{number, numbers_from}
-use Rattle.smv_core.specs.Assignments.{computed, fits}
+use Rattle.smv_core.specs.Values.{numbers_from}
+use Rattle.smv_core.specs.Assignments.{computed}
 use Rattle.smv_core.specs.declared.flat.Simple.{Simple}
-use Rattle.smv_core.specs.declared.flat.Simple.TheVariants.{Range, Enum, Set}
+use Rattle.smv_core.specs.declared.flat.Simple.TheVariants.{Range}
 use Rattle.smv_core.specs.declared.flat.Family.{Family}
 use Rattle.smv_core.specs.declared.flat.Cell.{Cell}
 use Rattle.law_loops_and_layers.specs.Loops.{at_index}
 use Rattle.smv_loops.specs.declared.listed.Listed.{Listed}
-use Rattle.smv_loops.specs.Cells.{every, digit, place, base, over_of, number_in}
-use Rattle.smv_loops.specs.Order.{every_way, cells_in, cells_from, lists_of, begun, all_begun, nothing, listed}
-use Rattle.smv_loops.specs.Ranks.{rank}
-use Rattle.smv_loops.proofs.Slices.{split, take-more}
+use Rattle.smv_loops.specs.Order.{every_way, cells_in, cells_from, lists_of}
+use Rattle.smv_loops.proofs.Slices.{take-more}
 use Rattle.smv_loops.proofs.TableLaws.{all-fit}
 use Rattle.smv_loops.proofs.NumberLaws.{numbers-more}
 

@@ -1,5 +1,5 @@
 -- Cells by their numbers: those of a family follow those of the families before it, each front of indexes before what it begins.
-use Rattle.std.specs.Prelude.{ℕ, zero, suc, ◌+◌, ◌-◌, ◌*◌, List, [], ◌∷◌, ◌++◌, map, flat_map, zip, length, slice_get, Option, Some, None}
+use Rattle.std.specs.Prelude.{ℕ, zero, suc, ◌+◌, ◌-◌, ◌*◌, List, [], ◌∷◌, map, flat_map, zip, length, slice_get, Option, Some, None}
 use Rattle.smv_core.specs.Assignments.{Index, computed}
 use Rattle.smv_core.specs.declared.flat.Simple.{Simple}
 use Rattle.smv_core.specs.declared.flat.Simple.TheVariants.{Range}

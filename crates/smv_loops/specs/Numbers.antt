@@ -1,5 +1,5 @@
 -- What the program holds of the numbers of cells.
-use Rattle.std.specs.Prelude.{◌≡◌, ℕ, ◌+◌, ◌-◌, ◌≤◌, ◌*◌, List, [], map, flat_map, length, slice_index_or, Some, if◌then◌else◌}
+use Rattle.std.specs.Prelude.{◌≡◌, ℕ, ◌+◌, ◌-◌, ◌≤◌, ◌*◌, List, [], map, flat_map, length, slice_index_or, if◌then◌else◌}
 use Rattle.smv_core.specs.Assignments.{Index, fits}
 use Rattle.smv_core.specs.Values.{numbers_from, number}
 use Rattle.smv_core.specs.declared.flat.Simple.{Simple}

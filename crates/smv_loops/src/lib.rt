@@ -10,6 +10,4 @@ pub mod loops;
 pub mod order;
 pub mod ranks;
 pub mod reading;
-#[cfg(test)]
-mod tests;
 pub mod ways;

@@ -15,9 +15,6 @@ use smv_lex::tokens;
 use smv_parse_items::parse::parse_tokens;
 use std::alloc::Global;
 
-#[cfg(test)]
-mod tests;
-
 /// The tree that a text spells, or else its first fault, one of 1 to 6, with the offset of the byte where it stands.
 pub fn parse(alloc: Global, text: &[u8]) -> Result<Text, Refusal>
     requires within { length text.now < 2 ^ 32 }

@@ -5,8 +5,6 @@ mod expressions;
 mod items;
 mod marks;
 mod statements;
-#[cfg(test)]
-mod tests;
 mod text;
 mod types;
 mod write;

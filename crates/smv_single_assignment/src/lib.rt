@@ -14,8 +14,6 @@ pub mod links;
 pub mod mixed;
 pub mod places;
 pub mod shared;
-#[cfg(test)]
-mod tests;
 pub mod variables;
 
 use crate::assignments::assignments;

@@ -1,5 +1,5 @@
 -- Sizes of one pass that a round leaves as they are, are those of all rounds.
-use Rattle.std.proofs.Common.{◌≡◌, ◌≢◌, ℕ, zero, suc, ◌+◌, ◌*◌, ◌<◌, ◌≤◌, Bool, true, false, cond, ◌||◌, eqb, List, [], ◌∷◌, ◌++◌, map, length, set, length-append, refl, ap, sym, subst, ◌∙◌, arith, add-one, inl, inr}
+use Rattle.std.proofs.Common.{◌≡◌, ℕ, zero, suc, ◌+◌, ◌*◌, ◌<◌, ◌≤◌, Bool, true, false, cond, ◌||◌, eqb, List, [], ◌∷◌, ◌++◌, map, length, set, length-append, refl, ap, sym, subst, ◌∙◌, arith, add-one}
 use Rattle.std.specs.Prelude.{Option, Some, None, min, flat_map, sum, option_and_then, slice_get, unwrap_or}
 use Rattle.std.specs.List.{list_any}
 use Rattle.std.proofs.lemmas.Bool.Decides.{nat_tests}
@@ -9,15 +9,13 @@ use Rattle.std.proofs.lemmas.List.Folds.{list_any-append}
 use Rattle.std.proofs.Math.Nat.{mul-le-mul_left}
 use Rattle.name_index.specs.Position.{position}
 use Rattle.smv_core.specs.Values.{Name}
-use Rattle.smv_core.specs.Types.{find_name}
 use Rattle.smv_core.specs.FlatOrder.{Body}
 use Rattle.smv_core.specs.declared.tree.Word.{Word}
 use Rattle.smv_core.specs.declared.tree.Item.{Item, Declare, Instance, Layer, Forall', Block', Claim, Split, Using, Act, Row_of-Item, end_of-Item, more_of-Item}
 use Rattle.smv_instances.specs.Sizes.{Sized, Thing, instance, is_too_wide, body_named, things_of_item, things_in, statements_of_item, statements_of_items, statements_in}
 use Rattle.smv_size.specs.Limits.{capped}
-use Rattle.smv_size.specs.Summary.{things_told, module_names, module_bodies, no_module, size_named, told_of, body_told, empty_told, AreToldOf, AreTold}
+use Rattle.smv_size.specs.Summary.{things_told, module_names, module_bodies, no_module, told_of, body_told, empty_told, AreTold}
 use Rattle.smv_size.specs.Pass.{AreNoMore, AreAtMost}
-use Rattle.smv_size.specs.declared.modules.Things.{Things}
 use Rattle.smv_size.specs.declared.modules.ModuleSize.{ModuleSize}
 use Rattle.smv_size.proofs.CountLaws.{capped-factor}
 use Rattle.smv_size.proofs.SummaryLaws.{same_size, same_things}

@@ -1,5 +1,5 @@
 -- One pass through the modules: each is told of once, from what was told of the others before. It tells of each at most what so many rounds tell.
-use Rattle.std.specs.Prelude.{◌≡◌, ℕ, ◌≤◌, min, List, length, Bool, true}
+use Rattle.std.specs.Prelude.{◌≡◌, ℕ, ◌≤◌, min, List, length, true}
 use Rattle.std.specs.List.{list_any}
 use Rattle.smv_core.specs.Values.{Name}
 use Rattle.smv_core.specs.FlatOrder.{Body}

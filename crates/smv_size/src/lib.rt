@@ -9,6 +9,4 @@ pub mod recursion;
 pub mod rounds;
 pub mod size;
 pub mod statements;
-#[cfg(test)]
-mod tests;
 pub mod types;

@@ -22,9 +22,6 @@ use smv_two_states::laws::{reports_agree, true_units_are_sound};
 use smv_two_states::{decide, first_design};
 use std::alloc::{AllocError, Global};
 
-#[cfg(test)]
-mod tests;
-
 /// How a call ended.
 #[derive(Clone, Copy, Debug, PartialEq, Eq)]
 pub enum Status {

@@ -9,6 +9,3 @@ pub mod table;
 
 pub use first::{FirstDesign, first_design};
 pub use table::decide;
-
-#[cfg(test)]
-mod tests;

@@ -1,4 +1,4 @@
-use Rattle.std.proofs.Common.{◌≡◌, ℕ, Option, None, length, get_or, take}
+use Rattle.std.proofs.Common.{◌≡◌, ℕ, None, length, get_or, take}
 use Rattle.smv_loops.specs.Bases.{AreFirsts}
 use Rattle.smv_loops.proofs.base.firsts.Given as goal
 

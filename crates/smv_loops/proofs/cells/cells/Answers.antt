@@ -1,4 +1,4 @@
-use Rattle.std.proofs.Common.{◌≡◌, ◌++◌, ◌≤◌, ◌<◌, ℕ, List, Some, map, slice_get, get_or, length, sym, ap, subst, ◌∙◌, arith}
+use Rattle.std.proofs.Common.{◌≡◌, ◌++◌, ◌<◌, ℕ, List, Some, map, slice_get, get_or, length, sym, ap, subst, ◌∙◌, arith}
 use Rattle.std.specs.Result.{OnOk}
 use Rattle.smv_core.specs.Assignments.{Index}
 use Rattle.smv_core.specs.declared.flat.Simple.{Simple}

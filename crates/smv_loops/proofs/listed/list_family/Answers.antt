@@ -1,4 +1,4 @@
-use Rattle.std.proofs.Common.{◌≡◌, List, ℕ, Option, Some, slice_get, sym, ap, ◌∙◌, arith}
+use Rattle.std.proofs.Common.{◌≡◌, List, ℕ, Option, Some, slice_get, sym, ap, ◌∙◌}
 use Rattle.smv_core.specs.declared.flat.Cell.{Cell}
 use Rattle.smv_loops.specs.declared.listed.Listed.{Listed}
 use Rattle.smv_loops.specs.Order.{every_way, listed, lists_of}

@@ -1,4 +1,4 @@
-use Rattle.std.proofs.Common.{◌≡◌, take, sym, ◌∙◌}
+use Rattle.std.proofs.Common.{take, sym, ◌∙◌}
 use Rattle.smv_loops.proofs.ClosingLaws.{links-take}
 use Rattle.smv_loops.proofs.loops.+between.Goals as goal
 

@@ -1,4 +1,3 @@
-use Rattle.std.proofs.Common.{◌≡◌}
 use Rattle.smv_loops.specs.Held.{reading_of}
 use Rattle.smv_loops.proofs.ClosingLaws.{links-more}
 use Rattle.smv_loops.proofs.loops.all_links.Goals as goal

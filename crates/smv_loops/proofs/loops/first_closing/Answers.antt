@@ -1,4 +1,4 @@
-use Rattle.std.proofs.Common.{◌≡◌, List, refl, sym, ap, ◌∙◌}
+use Rattle.std.proofs.Common.{List, refl, sym, ap, ◌∙◌}
 use Rattle.std.specs.List.{flat_map}
 use Rattle.law_loops_and_layers.specs.Reading.{Reading}
 use Rattle.law_loops_and_layers.specs.Loops.{hold_a_cycle}

@@ -1,4 +1,3 @@
-use Rattle.std.proofs.Common.{◌≡◌}
 use Rattle.smv_loops.proofs.ClosingLaws.{decided}
 use Rattle.smv_loops.proofs.loops.hold_a_cycle.Goals as goal
 

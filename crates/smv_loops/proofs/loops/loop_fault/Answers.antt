@@ -1,7 +1,6 @@
-use Rattle.std.proofs.Common.{◌≡◌, ◌<◌, List, map, length, false, ap, ◌∙◌, arith}
+use Rattle.std.proofs.Common.{◌≡◌, ◌<◌, map, length, false, ap, ◌∙◌, arith}
 use Rattle.std.specs.List.{flat_map}
 use Rattle.std.specs.Option.{MatchOption}
-use Rattle.law_loops_and_layers.specs.Reading.{Reading}
 use Rattle.law_loops_and_layers.specs.Loops.{hold_a_cycle, in_order, undelayed_in}
 use Rattle.smv_loops.specs.Edges.{edges_at, IsFirst}
 use Rattle.smv_loops.specs.Held.{reading_of}

@@ -7,7 +7,7 @@ use Rattle.law_loops_and_layers.specs.Reading.{Reading}
 use Rattle.law_loops_and_layers.specs.Loops.{edges_of, hold_a_cycle, in_order, undelayed_in}
 use Rattle.smv_loops.specs.Edges.{edges_at, IsFirst}
 use Rattle.smv_loops.specs.Held.{reading_of}
-use Rattle.smv_loops.specs.Order.{AreAfterTheirReads, all_cells, cells_from}
+use Rattle.smv_loops.specs.Order.{AreAfterTheirReads, cells_from}
 use Rattle.smv_loops.proofs.NumberLaws.{length-map}
 use Rattle.smv_loops.proofs.ClosingLaws.{fault-none, fault-some, same-undelayed, get-mapped}
 use Rattle.smv_loops.proofs.loops.loops.Goals as goal

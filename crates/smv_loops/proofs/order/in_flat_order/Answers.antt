@@ -1,4 +1,4 @@
-use Rattle.std.proofs.Common.{◌≡◌, ℕ, List, arith, rules, map, filter, reverse, sym, ap, ◌∙◌}
+use Rattle.std.proofs.Common.{◌≡◌, rules, filter, reverse, ap, ◌∙◌}
 use Rattle.std.specs.List.Sorted.{IsNonDecreasingBy, IsStableBy, ties}
 use Rattle.std.specs.Ordering.{is_lt, nat_cmp}
 use Rattle.std.proofs.lemmas.List.Sorted.{IsNonDecreasingBy-from_sort_by_key, answers_always}

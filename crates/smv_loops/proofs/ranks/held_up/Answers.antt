@@ -1,6 +1,6 @@
-use Rattle.std.proofs.Common.{◌≡◌, ◌∙◌, length, ap, sym, arith}
+use Rattle.std.proofs.Common.{◌≡◌, length, arith}
 use Rattle.smv_loops.specs.Ranks.{FlaggedBy}
-use Rattle.smv_loops.proofs.RankLaws.{FlagsSoFar, flags_more}
+use Rattle.smv_loops.proofs.RankLaws.{flags_more}
 use Rattle.smv_loops.proofs.Slices.{put_back}
 use Rattle.smv_loops.proofs.ranks.held_up.Goals as goal
 

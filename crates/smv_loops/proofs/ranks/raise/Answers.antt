@@ -1,5 +1,5 @@
-use Rattle.std.proofs.Common.{◌≡◌, ◌<◌, true, false, length, sym, ap, ◌∙◌, arith, refl}
-use Rattle.smv_loops.proofs.RankLaws.{clash, so_far_raised, so_far_kept}
+use Rattle.std.proofs.Common.{sym, ◌∙◌, arith}
+use Rattle.smv_loops.proofs.RankLaws.{so_far_raised, so_far_kept}
 use Rattle.smv_loops.proofs.ranks.raise.Goals as goal
 use Rattle.smv_loops.proofs.ranks.raise.Goals.{then-ranks-cell-eq0+then-not-has_flag, else-ranks-cell-eq0, else-ranks-cell-eq0-via-then-ranks-cell-eq0+else-not-has_flag, else-ranks-cell-eq0-via-else-ranks-cell-eq0}
 

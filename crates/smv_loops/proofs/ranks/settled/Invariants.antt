@@ -1,6 +1,6 @@
-use Rattle.std.proofs.Common.{◌≡◌, ℕ, length}
+use Rattle.std.proofs.Common.{◌≡◌, length}
 use Rattle.std.specs.List.{All}
-use Rattle.smv_loops.specs.Ranks.{Falls, AreBelow, unranked}
+use Rattle.smv_loops.specs.Ranks.{Falls, unranked}
 use Rattle.smv_loops.proofs.ranks.settled.Given as goal
 
 abbrev pub invariant-rounds : goal.invariant-rounds

@@ -1,4 +1,4 @@
-use Rattle.std.proofs.Common.{◌≡◌, ◌-◌, ◌+◌, ◌++◌, ◌∷◌, [], Some, map, ap, ◌∙◌, arith, rules}
+use Rattle.std.proofs.Common.{◌≡◌, ◌-◌, ◌+◌, Some, map, ap, ◌∙◌, arith, rules}
 use Rattle.smv_core.specs.Values.{numbers_from}
 use Rattle.smv_loops.proofs.WayLaws.{one-number}
 use Rattle.smv_loops.proofs.ways.numbers.Goals as goal

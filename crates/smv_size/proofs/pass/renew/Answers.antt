@@ -1,5 +1,5 @@
-use Rattle.std.proofs.Common.{◌≡◌, ◌<◌, List, map, length, refl, sym, subst, ap, ◌∙◌, arith}
-use Rattle.std.specs.Prelude.{Option, Some, option_map, slice_get}
+use Rattle.std.proofs.Common.{◌≡◌, ◌<◌, List, length, refl, sym, subst, ap, ◌∙◌, arith}
+use Rattle.std.specs.Prelude.{Some, option_map, slice_get}
 use Rattle.std.proofs.lemmas.Option.{slice_get-map, slice_get_read}
 use Rattle.smv_core.specs.FlatOrder.{Body}
 use Rattle.smv_size.specs.Summary.{module_bodies, body_of, AreToldOf}

@@ -1,6 +1,4 @@
 use Rattle.std.proofs.Common.{◌≡◌, List, length, map, sym, subst, ap, ◌∙◌}
-use Rattle.std.specs.Prelude.{IfOk}
-use Rattle.std.proofs.lemmas.List.{length-map}
 use Rattle.std.proofs.lemmas.Slice.Eq.{slice_eq-Decides}
 use Rattle.smv_core.specs.FlatOrder.{Body, modules}
 use Rattle.smv_size.specs.Summary.{AreTold, AreToldOf, body_of, body_told, module_bodies}

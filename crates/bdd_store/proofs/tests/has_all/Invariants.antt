@@ -1,5 +1,0 @@
-use Rattle.bdd_store.specs.Diagram.{IsLive}
-use Rattle.bdd_store.proofs.tests.has_all.Given as goal
-
-abbrev pub invariant-loop-var : goal.invariant-loop-var
-invariant-loop-var l = IsLive l.store l.at
