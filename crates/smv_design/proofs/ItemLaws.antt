@@ -1,6 +1,6 @@
 -- The items of a text by their sorts, one more at a time.
-use Rattle.std.proofs.Common.{◌≡◌, ℕ, List, [], ◌∷◌, ◌++◌, map, subst, refl, sym, ap, ◌∙◌}
-use Rattle.std.proofs.lemmas.List.{append_assoc}
+use Rattle.std.proofs.Common.{◌≡◌, ℕ, ◌+◌, List, [], ◌∷◌, ◌++◌, refl, sym, ap, ◌∙◌}
+use Rattle.std.proofs.lemmas.List.{append-nil, append_assoc}
 use Rattle.smv_core.specs.declared.flat.FlatItem.{FlatItem}
 use Rattle.smv_core.specs.declared.flat.FlatItem.TheVariants as item
 use Rattle.smv_core.specs.declared.flat.Claim.{Claim}
@@ -8,21 +8,9 @@ use Rattle.smv_core.specs.declared.flat.FlatSplit.{FlatSplit}
 use Rattle.smv_core.specs.declared.flat.FlatUsing.{FlatUsing}
 use Rattle.law_flattening.specs.WholeText.{claims_of}
 use Rattle.law_single_assignment.specs.Standing.{Statement, statements_from}
-use Rattle.law_single_assignment.specs.Definitions.{splits_of, uses_of}
-use Rattle.smv_design.specs.declared.heads.Noted.{Noted}
-use Rattle.smv_design.specs.declared.acts.Act.{Act}
+use Rattle.law_single_assignment.specs.Definitions.{Head, splits_of, uses_of}
 use Rattle.smv_design.specs.Parts.{size}
-use Rattle.smv_design.specs.Acts.{head_of, heads_in, AreActs, place_behind}
-
-acts-end : (acts : List Act) (a : Act) → AreActs acts → map head_of a.heads ≡ heads_in a.layer a.place a.act → AreActs (acts ++ a ∷ [])
-acts-end [] a right e = (e, tt)
-acts-end (b ∷ acts) a right e = (right.0, acts-end acts a right.1 e)
-
--- one more statement with its assignments
-pub pushed : (acts acts' : List Act) (a : Act) (before : List Noted) → acts' ≡ acts ++ a ∷ [] → before ≡ [] → map head_of a.heads ≡ map head_of before ++ heads_in a.layer a.place a.act → AreActs acts → AreActs acts'
-pushed acts acts' a before new empty noted right =
-    let e : map head_of a.heads ≡ heads_in a.layer a.place a.act = noted ∙ ap (λ l. map head_of l ++ heads_in a.layer a.place a.act) empty in
-    subst AreActs (sym new) (acts-end acts a right e)
+use Rattle.smv_design.specs.Acts.{heads_in, heads_from, place_behind}
 
 statements-step : (k : ℕ) (x : FlatItem) (rest : List FlatItem) → statements_from k (x ∷ rest) ≡ statements_from k (x ∷ []) ++ statements_from (place_behind k x) rest
 unfolding size
@@ -30,6 +18,13 @@ statements-step k (item.Act layer act) rest = refl
 statements-step k (item.Claim c) rest = refl
 statements-step k (item.Split c) rest = refl
 statements-step k (item.Using c) rest = refl
+
+heads-step : (k : ℕ) (x : FlatItem) (rest : List FlatItem) → heads_from k (x ∷ rest) ≡ heads_from k (x ∷ []) ++ heads_from (place_behind k x) rest
+unfolding size
+heads-step k (item.Act layer act) rest = ap (λ l. l ++ heads_from (k + size act) rest) (sym (append-nil (heads_in layer k act)))
+heads-step k (item.Claim c) rest = refl
+heads-step k (item.Split c) rest = refl
+heads-step k (item.Using c) rest = refl
 
 claims-step : (x : FlatItem) (rest : List FlatItem) → claims_of (x ∷ rest) ≡ claims_of (x ∷ []) ++ claims_of rest
 claims-step (item.Act layer act) rest = refl
@@ -56,6 +51,10 @@ one-more found found' one rest whole all new split old = ap (λ l. l ++ rest) ne
 pub more-statements : (found found' : List Statement) (k k' : ℕ) (x : FlatItem) (rest : List FlatItem) (all : List Statement) → found' ≡ found ++ statements_from k (x ∷ []) → k' ≡ place_behind k x
     → found ++ statements_from k (x ∷ rest) ≡ all → found' ++ statements_from k' rest ≡ all
 more-statements found found' k k' x rest all new behind old = ap (λ j. found' ++ statements_from j rest) behind ∙ one-more found found' _ _ _ all new (statements-step k x rest) old
+
+pub more-heads : (found found' : List Head) (k k' : ℕ) (x : FlatItem) (rest : List FlatItem) (all : List Head) → found' ≡ found ++ heads_from k (x ∷ []) → k' ≡ place_behind k x
+    → found ++ heads_from k (x ∷ rest) ≡ all → found' ++ heads_from k' rest ≡ all
+more-heads found found' k k' x rest all new behind old = ap (λ j. found' ++ heads_from j rest) behind ∙ one-more found found' _ _ _ all new (heads-step k x rest) old
 
 pub more-claims : (found found' : List Claim) (x : FlatItem) (rest : List FlatItem) (all : List Claim) → found' ≡ found ++ claims_of (x ∷ []) → found ++ claims_of (x ∷ rest) ≡ all → found' ++ claims_of rest ≡ all
 more-claims found found' x rest all new old = one-more found found' _ _ _ all new (claims-step x rest) old

@@ -1,5 +1,6 @@
+pub mod OwnerLaws
 pub mod StatementLaws
 pub mod ItemLaws
-pub mod GatherLaws
+pub mod GroupLaws
+pub mod FirstLaws
 pub mod DefinitionLaws
-pub mod NumberLaws

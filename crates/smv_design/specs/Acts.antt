@@ -1,9 +1,9 @@
 -- The items of a flattened text, taken apart.
-use Rattle.std.specs.Prelude.{◌≡◌, ℕ, ◌+◌, List, [], ◌∷◌, ◌++◌, map, Option}
+use Rattle.std.specs.Prelude.{ℕ, ◌+◌, List, [], ◌∷◌, ◌++◌, flat_map, Option}
 use Rattle.smv_core.specs.declared.flat.FlatItem.{FlatItem}
 use Rattle.smv_core.specs.declared.flat.FlatItem.TheVariants as item
 use Rattle.smv_core.specs.declared.flat.FlatStmt.{FlatStmt, Assign, If', Block', Default', Forall', Row_of-FlatStmt, end_of-FlatStmt, more_of-FlatStmt}
-use Rattle.law_single_assignment.specs.Standing.{Statement}
+use Rattle.law_single_assignment.specs.Standing.{Statement, statements_from}
 use Rattle.law_single_assignment.specs.Definitions.{Head}
 use Rattle.smv_design.specs.Parts.{size}
 use Rattle.smv_design.specs.declared.heads.Noted.{Noted}
@@ -36,10 +36,9 @@ module _ (layer : Option ℕ) where
   heads_in_all k [] = []
   heads_in_all k (x ∷ xs) = heads_in k x ++ heads_in_all (k + size x) xs
 
--- the assignments of each statement are noted beside it
-abbrev pub AreActs : List Act → Type 0
-AreActs [] = Unit {0}
-AreActs (a ∷ acts) = (map head_of a.heads ≡ heads_in a.layer a.place a.act) × AreActs acts
+-- those of the statements of these items, where so many assignments, connections and claims are met before
+abbrev pub heads_from : ℕ → List FlatItem → List Head
+heads_from k items = flat_map (λ (s : Statement). heads_in s.layer s.place s.act) (statements_from k items)
 
 -- the place behind an item
 abbrev pub place_behind : ℕ → FlatItem → ℕ

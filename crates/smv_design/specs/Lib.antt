@@ -1,3 +1,6 @@
 pub mod Parts
+pub mod Groups
+pub mod Told
 pub mod Acts
-pub mod Uses
+pub mod Firsts
+pub mod Definitions

@@ -1,5 +1,5 @@
--- What the statements of a list say of one family, for one kind of assignment.
-use Rattle.std.specs.Prelude.{ℕ, ◌+◌, List, [], ◌∷◌, ◌++◌, if◌then◌else◌}
+-- What a statement says of one family, for one kind of assignment.
+use Rattle.std.specs.Prelude.{ℕ, ◌+◌, List, [], ◌∷◌, if◌then◌else◌}
 use Rattle.smv_core.specs.declared.tree.Kind.{Kind}
 use Rattle.smv_core.specs.declared.flat.FlatStmt.{FlatStmt}
 use Rattle.smv_core.specs.declared.flat.Flat.{Flat}
@@ -19,12 +19,6 @@ sizes (x ∷ xs) = size x + sizes xs
 abbrev pub kept : Flat → List Flat
 kept part = if is_nothing part then [] else part ∷ []
 
-module _ (kind : Kind) (family : ℕ) where
-  -- what a statement says
-  unfoldable pub said : ℕ → FlatStmt → Flat
-  said k act = flat_of kind family k act
-
-  -- the parts of some statements that have a result; the first assignment of the first statement has this place
-  abbrev pub parts_from : ℕ → List FlatStmt → List Flat
-  parts_from k [] = []
-  parts_from k (x ∷ xs) = kept (said k x) ++ parts_from (k + size x) xs
+-- what a statement says, whose first assignment has this place
+unfoldable pub said : Kind → ℕ → ℕ → FlatStmt → Flat
+said kind family k act = flat_of kind family k act

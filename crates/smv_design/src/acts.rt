@@ -3,7 +3,7 @@ ghost use Rattle.std.specs.Prelude.{◌≡◌, ◌++◌, ◌∷◌, [], map, IfO
 ghost use Rattle.law_flattening.specs.WholeText.{claims_of};
 ghost use Rattle.law_single_assignment.specs.Standing.{statements_from};
 ghost use Rattle.law_single_assignment.specs.Definitions.{splits_of, uses_of};
-ghost use Rattle.smv_design.specs.Acts.{statement_of, AreActs, place_behind};
+ghost use Rattle.smv_design.specs.Acts.{head_of, heads_from, statement_of, place_behind};
 
 use crate::heads::{Noted, note_heads};
 use crate::places::place_after;
@@ -11,19 +11,19 @@ use smv_core::flat::{Claim, FlatItem, FlatSplit, FlatStmt, FlatUsing};
 use smv_core::seq::Seq;
 use std::alloc::{AllocError, Global};
 
-/// A statement of a layer, or outside layers, with the place of its first assignment and with its assignments.
+/// A statement of a layer, or outside layers, with the place of its first assignment.
 #[derive(Drop)]
 pub struct Act {
     pub layer: Option<u16>,
     pub place: u32,
     pub act: FlatStmt,
-    pub heads: Seq<Noted>,
 }
 
-/// The items of each sort, in flat order.
+/// The items of each sort, in flat order, and the assignments of the statements.
 #[derive(Drop)]
 pub struct Items {
     pub acts: Vec<Act>,
+    pub heads: Seq<Noted>,
     pub claims: Vec<Claim>,
     pub splits: Vec<FlatSplit>,
     pub uses: Vec<FlatUsing>,
@@ -32,37 +32,33 @@ pub struct Items {
 // One more statement; gives the place behind it.
 fn add_act(
     acts: &mut Vec<Act>,
+    heads: &mut Seq<Noted>,
     layer: Option<u16>,
     act: FlatStmt,
     place: u32,
-    alloc: Global,
 ) -> Result<u32, AllocError>
     ensures statement { OnOk result (map statement_of acts.new.items ≡ map statement_of acts.old.items ++ statements_from place (FlatItem.Act layer act ∷ [])) }
-    ensures heads { OnOk result (AreActs acts.old.items → AreActs acts.new.items) }
+    ensures heads { OnOk result (map head_of heads.new ≡ map head_of heads.old ++ heads_from place (FlatItem.Act layer act ∷ [])) }
     ensures after { IfOk result (λ after. after ≡ place_behind place (FlatItem.Act layer act)) }
 {
-    let mut heads = Seq::new(alloc);
-    let after = note_heads(&mut heads, &act, layer, place)?;
-    acts.push(Act {
-        layer,
-        place,
-        act,
-        heads,
-    })?;
+    let after = note_heads(heads, &act, layer, place)?;
+    acts.push(Act { layer, place, act })?;
     Ok(after)
 }
 
 // One more item; gives the place behind it.
-fn add_item(items: &mut Items, item: FlatItem, place: u32, alloc: Global) -> Result<u32, AllocError>
+fn add_item(items: &mut Items, item: FlatItem, place: u32) -> Result<u32, AllocError>
     ensures statement { OnOk result (map statement_of items.new.acts.items ≡ map statement_of items.old.acts.items ++ statements_from place (item ∷ [])) }
-    ensures heads { OnOk result (AreActs items.old.acts.items → AreActs items.new.acts.items) }
+    ensures heads { OnOk result (map head_of items.new.heads ≡ map head_of items.old.heads ++ heads_from place (item ∷ [])) }
     ensures claims { OnOk result (items.new.claims.items ≡ items.old.claims.items ++ claims_of (item ∷ [])) }
     ensures splits { OnOk result (items.new.splits.items ≡ items.old.splits.items ++ splits_of (item ∷ [])) }
     ensures uses { OnOk result (items.new.uses.items ≡ items.old.uses.items ++ uses_of (item ∷ [])) }
     ensures after { IfOk result (λ after. after ≡ place_behind place item) }
 {
     match item {
-        FlatItem::Act { layer, act } => add_act(&mut items.acts, layer, act, place, alloc),
+        FlatItem::Act { layer, act } => {
+            add_act(&mut items.acts, &mut items.heads, layer, act, place)
+        }
         FlatItem::Claim { claim } => {
             items.claims.push(claim)?;
             place_after(place, 1)
@@ -81,20 +77,21 @@ fn add_item(items: &mut Items, item: FlatItem, place: u32, alloc: Global) -> Res
 /// The items by their sorts, the statements with their places.
 pub fn take_apart(items: Seq<FlatItem>, alloc: Global) -> Result<Items, AllocError>
     ensures statements { IfOk result (λ found. map statement_of found.acts.items ≡ statements_from 0 items) }
-    ensures heads { IfOk result (λ found. AreActs found.acts.items) }
+    ensures heads { IfOk result (λ found. map head_of found.heads ≡ heads_from 0 items) }
     ensures claims { IfOk result (λ found. found.claims.items ≡ claims_of items) }
     ensures splits { IfOk result (λ found. found.splits.items ≡ splits_of items) }
     ensures uses { IfOk result (λ found. found.uses.items ≡ uses_of items) }
 {
     let mut found = Items {
         acts: Vec::new(alloc),
+        heads: Seq::new(alloc),
         claims: Vec::new(alloc),
         splits: Vec::new(alloc),
         uses: Vec::new(alloc),
     };
     let mut place = 0;
     for item in items.into_vec() {
-        place = add_item(&mut found, item, place, alloc)?;
+        place = add_item(&mut found, item, place)?;
     }
     Ok(found)
 }

@@ -1,119 +1,84 @@
 // The definitions that are made of a text's statements.
-ghost use Rattle.std.specs.Prelude.{◌≡◌, ◌++◌, map, slice_get, IfOk, OnOk, option_copied};
+ghost use Rattle.std.specs.Prelude.{◌≡◌, map, false, IfOk};
 ghost use Rattle.law_single_assignment.specs.Definitions.{joined as joined_of};
-ghost use Rattle.smv_design.specs.Acts.{head_of, statement_of, AreActs};
-ghost use Rattle.smv_design.specs.Uses.{is_again as is_repeated, said_by, part_at, numbered_from, IsGathered, def_among, used, or_none};
+ghost use Rattle.smv_design.specs.declared.owners.Owner.{Owner};
+ghost use Rattle.smv_design.specs.Acts.{head_of, statement_of};
+ghost use Rattle.smv_design.specs.Groups.{same_owner, used, held};
+ghost use Rattle.smv_design.specs.Definitions.{owner_of, def_from, def_among, IsSame, IsSaid, AreApart};
 
 use crate::acts::Act;
+use crate::groups::Sides;
 use crate::heads::Noted;
-use crate::parts::{joined, keep, part_of};
-use crate::uses::{Gathered, Owner};
+use crate::owners::Owner;
+use crate::parts::joined;
+use crate::statements::gathered;
 use smv_core::flat::{Def, Flat};
 use smv_core::tree::Kind;
 use std::alloc::{AllocError, Global};
+use std::collections::HashMap;
 
-fn is_again(previous: Option<usize>, number: usize) -> bool
-    ensures { result ≡ is_repeated previous number }
-{
-    match previous {
-        Some(previous) => previous == number,
-        None => false,
-    }
+/// What statements say of each owner, for each kind of assignment.
+#[derive(Drop)]
+pub struct Said {
+    pub init: HashMap<Owner, Sides>,
+    pub next: HashMap<Owner, Sides>,
+    pub comb: HashMap<Owner, Sides>,
 }
 
-// What a statement says, where it has a result.
-fn add_part(
-    parts: &mut Vec<Flat>,
-    act: Option<&Act>,
-    kind: Kind,
-    family: u16,
-    alloc: Global,
-) -> Result<(), AllocError>
-    ensures { OnOk result (parts.new.items ≡ parts.old.items ++ part_at kind family (option_copied act.entry)) }
+/// What these statements say.
+pub fn said_by(acts: &[Act], alloc: Global) -> Result<Said, AllocError>
+    ensures { IfOk result (λ said. IsSaid said acts.now) }
 {
-    match act {
-        Some(act) => {
-            let (part, _) = part_of(&act.act, kind, family, act.place, alloc)?;
-            keep(parts, part)
+    Ok(Said {
+        init: gathered(acts, Kind::Init, alloc)?,
+        next: gathered(acts, Kind::Next, alloc)?,
+        comb: gathered(acts, Kind::Comb, alloc)?,
+    })
+}
+
+// Takes out what is said of an owner, as one part.
+fn taken(groups: &mut HashMap<Owner, Sides>, owner: Owner) -> Flat
+    ensures part { result ≡ joined_of (held groups.old owner).first }
+    ensures others { (other : Owner) → same_owner owner other ≡ false → used groups.new other ≡ used groups.old other }
+{
+    match groups.remove(&owner) {
+        Some(sides) => {
+            let Sides { first, second: _ } = sides;
+            joined(first.into_vec())
         }
-        None => Ok(()),
+        None => Flat::Nothing,
     }
 }
 
-// The statement of a number, if there is one.
-fn act_at(acts: &[Act], number: usize) -> Option<&Act>
-    ensures { option_copied result ≡ slice_get acts.now number }
-{
-    acts.get(number)
-}
-
-// What the statements of these numbers say, each once where its number is repeated.
-fn part_among(
-    numbers: &[usize],
-    acts: &[Act],
-    kind: Kind,
-    family: u16,
-    alloc: Global,
-) -> Result<Flat, AllocError>
-    ensures { IfOk result (λ part. part ≡ joined_of (said_by kind family acts.now None numbers.now)) }
-{
-    let mut parts = Vec::new(alloc);
-    let mut previous = None;
-    for number in numbers {
-        if !is_again(previous, *number) {
-            add_part(&mut parts, act_at(acts, *number), kind, family, alloc)?;
-            previous = Some(*number);
-        }
-    }
-    Ok(joined(parts))
-}
-
-// The numbers of the statements that assign the family of a definition.
-fn numbers_of<'a>(gathered: &'a Gathered, head: &Noted) -> &'a [usize]
-    ensures { result.now ≡ or_none (used gathered.now.uses (record { layer = head.now.layer; family = head.now.family })) }
+// The definition whose first assignment is this one; takes out what is said of it.
+fn definition(head: &Noted, said: &mut Said) -> Def
+    ensures def { result ≡ def_from said.old head.now }
+    ensures others { (other : Owner) → same_owner (owner_of head.now) other ≡ false → IsSame said.old said.new other }
 {
     let owner = Owner {
         layer: head.layer,
         family: head.family,
     };
-    match gathered.uses.get(&owner) {
-        Some(numbers) => numbers.as_slice(),
-        None => &[],
+    Def {
+        family: head.family,
+        layer: head.layer,
+        init: taken(&mut said.init, owner),
+        next: taken(&mut said.next, owner),
+        comb: taken(&mut said.comb, owner),
+        place: head.place,
+        at: head.at,
     }
 }
 
-// The definition whose first assignment is this one.
-fn definition(
-    head: &Noted,
-    gathered: &Gathered,
-    acts: &[Act],
-    alloc: Global,
-) -> Result<Def, AllocError>
-    requires acts { AreActs acts.now }
-    requires gathered { IsGathered gathered.now (numbered_from 0 acts.now) }
-    ensures { IfOk result (λ def. def ≡ def_among (map statement_of acts.now) (head_of head.now)) }
+/// The definitions whose first assignments are these.
+pub fn definitions(heads: &[Noted], acts: &[Act], alloc: Global) -> Result<Vec<Def>, AllocError>
+    requires apart { AreApart heads.now }
+    ensures { IfOk result (λ defs. defs.items ≡ map (def_among (map statement_of acts.now)) (map head_of heads.now)) }
 {
-    let numbers = numbers_of(gathered, head);
-    Ok(Def {
-        family: head.family,
-        layer: head.layer,
-        init: part_among(numbers, acts, Kind::Init, head.family, alloc)?,
-        next: part_among(numbers, acts, Kind::Next, head.family, alloc)?,
-        comb: part_among(numbers, acts, Kind::Comb, head.family, alloc)?,
-        place: head.place,
-        at: head.at,
-    })
-}
-
-/// The definitions, in the order of their first assignments.
-pub fn definitions(gathered: &Gathered, acts: &[Act], alloc: Global) -> Result<Vec<Def>, AllocError>
-    requires acts { AreActs acts.now }
-    requires gathered { IsGathered gathered.now (numbered_from 0 acts.now) }
-    ensures { IfOk result (λ defs. defs.items ≡ map (def_among (map statement_of acts.now)) (map head_of gathered.now.heads.items)) }
-{
+    let mut said = said_by(acts, alloc)?;
     let mut defs = Vec::new(alloc);
-    for head in gathered.heads.as_slice() {
-        defs.push(definition(head, gathered, acts, alloc)?)?;
+    for head in heads {
+        defs.push(definition(head, &mut said))?;
     }
     Ok(defs)
 }

@@ -1,4 +1,6 @@
 //! The design of a flattened text: its assignments gathered into one definition for each family and definition set.
+//!
+//! For the passes over designs and for proofs. The definition that it meets is `law_single_assignment/specs/Definitions`.
 #![tactic(auto)]
 
 ghost use Rattle.std.specs.Prelude.{◌≡◌, IfOk};
@@ -6,14 +8,17 @@ ghost use Rattle.law_single_assignment.specs.Definitions.{design_of_raw};
 
 pub mod acts;
 pub mod definitions;
+pub mod firsts;
+pub mod groups;
 pub mod heads;
+pub mod owners;
 pub mod parts;
 pub mod places;
-pub mod uses;
+pub mod statements;
 
 use crate::acts::{Items, take_apart};
 use crate::definitions::definitions;
-use crate::uses::gather;
+use crate::firsts::first_heads;
 use smv_core::flat::{Design, Raw};
 use smv_core::seq::Seq;
 use std::alloc::{AllocError, Global};
@@ -32,12 +37,13 @@ pub fn design(alloc: Global, raw: Raw) -> Result<Design, AllocError>
     } = raw;
     let Items {
         acts,
+        heads,
         claims,
         splits,
         uses,
     } = take_apart(items, alloc)?;
-    let gathered = gather(acts.as_slice(), alloc)?;
-    let defs = definitions(&gathered, acts.as_slice(), alloc)?;
+    let firsts = first_heads(heads.as_slice(), alloc)?;
+    let defs = definitions(firsts.as_slice(), acts.as_slice(), alloc)?;
     Ok(Design {
         sets,
         enums,
