@@ -1,4 +1,6 @@
 //! The design of a flattened text: its assignments gathered into one definition for each family and definition set.
+//!
+//! For the passes over designs and for proofs. The definition that it meets is `law_single_assignment/specs/Definitions`.
 #![tactic(auto)]
 
 ghost use Rattle.std.specs.Prelude.{◌≡◌, IfOk};

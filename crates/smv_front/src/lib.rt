@@ -1,4 +1,6 @@
 //! The first fault of a text that is spelled, pass by pass.
+//!
+//! For `smv_top`. Each pass is a crate of its own; here only their order is decided, and the depths that the stack bears.
 #![tactic(auto)]
 
 ghost use Rattle.std.specs.Prelude.{◌≡◌, IfOk};

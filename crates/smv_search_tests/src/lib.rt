@@ -1,4 +1,6 @@
 //! Cases built by hand from truth tables, and what a search finds of them.
+//!
+//! Nothing stands on it.
 #![tactic(auto)]
 
 ghost use Rattle.std.specs.Prelude.{◌≡◌, ℕ, ◌*◌, ◌≤◌, ◌<◌, Bool, true, IsTrue, IfOk, IfSome, map};

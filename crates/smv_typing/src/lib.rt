@@ -1,4 +1,6 @@
 //! The pass over kinds: the flattened text of a text that keeps their rules, or the first fault of kinds.
+//!
+//! For `smv_front`. `Typed` keeps in its invariant that no part breaks a rule of kinds (`law_flat_kinds`).
 #![tactic(auto)]
 
 ghost use Rattle.std.specs.Prelude.{◌≡◌, None, true};
