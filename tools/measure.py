@@ -4,7 +4,8 @@
     python3 tools/measure.py [--program PATH] [--runs N] [--only WORD] [--write FOLDER]
 
 For each text and size: bytes, the least processor time of the runs, the peak memory and the exit status. The last column is the growth from the
-second size to the third: the power of the size by which the time grows, so 1 is in proportion and 2 is the square. Times below 0.02 s say nothing.
+second size to the third: the power of the size by which the time grows, so 1 is in proportion and 2 is the square. Times below 0.02 s say nothing,
+and memory below some 12 MB is that of this script before the program starts.
 --only takes the rows whose name has the word; --write keeps the texts in a folder.
 """
 

@@ -1,7 +1,7 @@
 """Texts of the language, each by a size, for tools/measure.py.
 
 ROWS lists them: what a text is, the function that writes it, and its sizes, each twice the one before.
-Where texts_design.py and texts_loops.py are beside this file, their ROWS come too.
+Where texts_design.py and texts_loops.py are beside this file, their rows come too.
 """
 
 import importlib.util
@@ -138,15 +138,24 @@ ROWS = [
 ]
 
 
-def more_rows(name):
-    """The rows of a module beside this one, if it is there."""
+# Names and sizes for the texts of texts_loops.py, where it has no ROWS of its own.
+LOOPS = [
+    ("one assignment that reads `x[n]` often, in a `for` of 256 turns", "many_reads", (250, 500, 1000)),
+    ("`if` on 50 reads `a[n]` around assignments", "wide_condition", (1000, 2000, 4000)),
+]
+
+
+def more_rows(name, known):
+    """The rows of a module beside this one, if it is there: its own, or those that are known by the names of their functions."""
     path = pathlib.Path(__file__).resolve().parent / f"{name}.py"
     if not path.exists():
         return []
     spec = importlib.util.spec_from_file_location(name, path)
     module = importlib.util.module_from_spec(spec)
     spec.loader.exec_module(module)
-    return list(module.ROWS)
+    if hasattr(module, "ROWS"):
+        return list(module.ROWS)
+    return [(says, getattr(module, text_of), sizes) for says, text_of, sizes in known if hasattr(module, text_of)]
 
 
-ROWS += more_rows("texts_design") + more_rows("texts_loops")
+ROWS += more_rows("texts_design", []) + more_rows("texts_loops", LOOPS)
