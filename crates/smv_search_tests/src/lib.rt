@@ -81,7 +81,6 @@ pub fn decide(
 }
 
 /// Whether a set is inductive in a case, or none where the set or a law at time 0 reads the next state.
-#[tactic(auto, using(smv_inductive::proofs::Kept::rel_kept))]
 pub fn is_inductive(
     alloc: Global,
     bits: u16,
