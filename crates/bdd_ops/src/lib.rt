@@ -1,4 +1,7 @@
 //! Operations on the functions of a store.
+//!
+//! For the search and the encoder. To change it: each operation is a recursion that makes no node outside its result and loses none of its results during
+//! a call, on which the bounds on `calls` stand (`specs/News`).
 #![tactic(auto)]
 
 ghost use Rattle.std.specs.Prelude.{◌≡◌, ◌≢◌, ◌↔◌, ◌⊎◌, ℕ, ◌+◌, ◌-◌, ◌*◌, ◌<◌, ◌≤◌, Bool, true, false, IfOk, OnOk, OnErr, IfSome, IfNone, IsNone, IsTrue, if◌then◌else◌, is_ok, min, List, ◌∷◌, length, ◌&&◌, ◌||◌, not};

@@ -1,4 +1,7 @@
 //! Reduced ordered decision diagrams that share their nodes.
+//!
+//! For `bdd_ops` and whoever keeps functions. To change it: contracts see a truth table for each live Ref and a few numbers; vector, chains, hashes,
+//! results and free list stand in the invariant of `Store` alone (`specs/Chains`, `specs/Graph`).
 #![tactic(auto)]
 
 ghost use Rattle.std.specs.Prelude.{◌≡◌, ◌≢◌, ◌↔◌, ◌⊎◌, ℕ, ◌+◌, ◌-◌, ◌<◌, ◌≤◌, Bool, true, false, IfOk, OnOk, OnErr, IfSome, IfNone, IsNone, if◌then◌else◌, is_ok, min, length, slice_index, vec_len, vec_capacity};

@@ -1,4 +1,6 @@
 //! A closed search and the inductive check agree.
+//!
+//! For whoever checks a certificate. It joins the clauses of `smv_search` and `smv_inductive` and has no definition of its own.
 #![tactic(auto)]
 
 ghost use Rattle.law_closed_sets.specs.Certified.{ClosedSetsPass};

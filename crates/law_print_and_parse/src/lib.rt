@@ -1,4 +1,6 @@
 //! What is printed spells the same tree, and is printed unchanged.
+//!
+//! For users of `print`. It joins `law_printed_tokens` and `law_spelling` with the contract of `smv_parse`.
 #![tactic(auto)]
 
 ghost use Rattle.law_print_and_parse.specs.Again.{IsPrintedAgain, IsOnePrint};

@@ -52,7 +52,7 @@ indexes_after d params (c ∷ cuts) f good own p h = indexes_after d (all_params
   where
     of_cut : (p : Param) → Has c.params p ⊎ Has (new c) p → IsIndex d p.over
     of_cut p (inl k) = own p (subst (λ ps. Has ps p) f.0 k)
-    of_cut p (inr k) = let n = from_new c p k in subst (IsIndex d) n.same_type ((good c first).are_indexes n.bound n.is_bound)
+    of_cut p (inr k) = let n = from_new c (good c first).are_bound p k in subst (IsIndex d) n.same_type ((good c first).are_indexes n.bound n.is_bound)
 
 -- the guards of one split, and then those of the others
 join : (count next : ℕ) (types : List Simple) (gs hs : List Guard) → count ≤ next → AreBetween count next types gs → AreGuards next types hs → AreGuards count types (gs ++ hs)

@@ -21,7 +21,7 @@ use Rattle.law_obligations.specs.Units.{units_of}
 use Rattle.law_obligations.proofs.Lookups.{Has-filter, find-some}
 use Rattle.law_splits.specs.Variables.{Reading, readings}
 use Rattle.law_splits.specs.Leaves.{named_by, with_name, name_of, own_params, Cut, cut, all_params, stands_for, onward, onward_if, chain}
-use Rattle.law_splits.specs.SplitFaults.{astray, split_again, unbound, doubled, bracketed, equations_of, not_in_one, not_new, other_kind, is_stray, strays, miscounted, other_type, misfits, mismatches, cuts, cuts_of, faults_of_splits}
+use Rattle.law_splits.specs.SplitFaults.{astray, split_again, names_one, unbound, doubled, bracketed, equations_of, not_in_one, not_new, other_kind, is_stray, strays, miscounted, other_type, misfits, mismatches, cuts, cuts_of, faults_of_splits}
 use Rattle.law_splits.specs.Laws.{IsRead}
 use Rattle.law_splits.proofs.Lists.{is_less, one_only, at_most_each, option_long}
 use Rattle.law_splits.proofs.OneCut.{IsGood}
@@ -65,6 +65,11 @@ module _ (d : Design) (read : IsRead d) (none : faults_of_splits d ≡ []) where
         (λ k. no_misfit word.at (Has-left (strays s) (Has-left (other_kind d.families s) (Has-left (not_new s) (Has-right (unbound s ++ doubled (bracketed s))
         (Has-flat_map (λ word. place_if (not (nat_eq (length (equations_of s.pairs word)) 1)) word.at) h k))))))))
 
+    bound : (word : Word) → Has s.vars word → names_one s.bound word ≡ true
+    bound word h = kept (names_one s.bound word) word.at
+        (λ k. no_misfit word.at (Has-left (strays s) (Has-left (other_kind d.families s) (Has-left (not_new s) (Has-left (not_in_one s) (Has-left (doubled (bracketed s))
+        (Has-flat_map (λ word. place_if (not (names_one s.bound word)) word.at) (Has-left s.of.names h) k)))))))
+
   few : (count : ℕ) (bound : List Param) (names : List Word) → ((at : ℕ) → Has (miscounted count names) at → ⊥) → length (flat_map (with_name bound) names) ≤ count
   few count bound [] free = omega arith
   few count bound (word ∷ more) free =
@@ -80,6 +85,7 @@ module _ (d : Design) (read : IsRead d) (none : faults_of_splits d ≡ []) where
     in_one = in_one c.split h;
     are_numbered = read.numbered c.split h;
     are_indexes = read.bound c.split h;
+    are_bound = bound c.split h;
   }
 
   -- the chain of what has a name is among the splits that lead to it

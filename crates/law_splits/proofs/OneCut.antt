@@ -15,7 +15,7 @@ use Rattle.smv_abstraction.proofs.OneOfEach.{Has-from_flat_map, joined_long, get
 use Rattle.law_obligations.proofs.Lookups.{inner, Has-filter}
 use Rattle.law_splits.specs.Variables.{Reading, readings, renamed, IsNumbered}
 use Rattle.law_splits.specs.Leaves.{with_name, Cut, new, old, all_params, stands_for, number_in, guard_of, guards_of}
-use Rattle.law_splits.specs.SplitFaults.{equations_of}
+use Rattle.law_splits.specs.SplitFaults.{names_one, equations_of}
 use Rattle.law_splits.specs.Laws.{IsIndex}
 use Rattle.law_splits.proofs.Lists.{is_less, is_not_less, get_longer, get_map, place_below}
 use Rattle.law_splits.proofs.Params.{name_same, named, IsNew, from_new}
@@ -28,6 +28,7 @@ pub record IsGood (d : Design) (c : Cut) : Type 0 where
   pub in_one : (word : Word) → Has c.split.vars word → (a b : FlatPair) → Has (equations_of c.split.pairs word) a → Has (equations_of c.split.pairs word) b → a ≡ b
   pub are_numbered : (pair : FlatPair) → Has c.split.pairs pair → IsNumbered (length c.split.bound) pair.left
   pub are_indexes : (p : Param) → Has c.split.bound p → IsIndex d p.over
+  pub are_bound : (word : Word) → Has c.split.vars word → names_one c.split.bound word ≡ true
 
 -- the guards of parameters from one number on and below another
 pub record AreBetween (count next : ℕ) (types : List Simple) (guards : List Guard) : Type 0 where
@@ -86,8 +87,8 @@ module _ (d : Design) (c : Cut) (good : IsGood d c) (more : List Param) where
 
   same_guard : (g h : Guard) → From g → From h → g.var ≡ h.var → g ≡ h
   same_guard g h a b e =
-      let na = from_new c a.param a.is_new in
-      let nb = from_new c b.param b.is_new in
+      let na = from_new c good.are_bound a.param a.is_new in
+      let nb = from_new c good.are_bound b.param b.is_new in
       let vars : a.param.var ≡ b.param.var = sym (ap (λ g. g.var) a.is_guard) ∙ (e ∙ ap (λ g. g.var) b.is_guard) in
       let params : a.param ≡ b.param = inner (sym na.is_at ∙ (ap (slice_get (all_params c)) vars ∙ nb.is_at)) in
       let in_a = Has-filter (λ pair. bytes_eq pair.right.name na.word.name) a.is_pair (name_same _ _ (sym a.is_right ∙ na.same_word)) in
@@ -97,9 +98,9 @@ module _ (d : Design) (c : Cut) (good : IsGood d c) (more : List Param) where
 
   pub are_between : AreBetween (length c.params) (length (all_params c)) (map (λ p. p.over) all) (guards_of (length all) c)
   are_between = record {
-    is_added = λ g h. let f = from_guards g h in let n = from_new c f.param f.is_new in subst (λ g. length c.params ≤ g.var) (sym f.is_guard) n.is_past;
-    is_below = λ g h. let f = from_guards g h in let n = from_new c f.param f.is_new in subst (λ g. g.var < length (all_params c)) (sym f.is_guard) (get_past (all_params c) f.param.var f.param n.is_at);
-    is_of_type = λ g h. let f = from_guards g h in subst (λ g. slice_get (map (λ p. p.over) all) g.var ≡ Some g.over) (sym f.is_guard) (at_param f.param (from_new c f.param f.is_new));
-    reads_before = λ g h. let f = from_guards g h in subst (λ g. ReadsOnly (before g.var) g.expr) (sym f.is_guard) (reads_old f.pair f.is_pair f.param (from_new c f.param f.is_new));
+    is_added = λ g h. let f = from_guards g h in let n = from_new c good.are_bound f.param f.is_new in subst (λ g. length c.params ≤ g.var) (sym f.is_guard) n.is_past;
+    is_below = λ g h. let f = from_guards g h in let n = from_new c good.are_bound f.param f.is_new in subst (λ g. g.var < length (all_params c)) (sym f.is_guard) (get_past (all_params c) f.param.var f.param n.is_at);
+    is_of_type = λ g h. let f = from_guards g h in subst (λ g. slice_get (map (λ p. p.over) all) g.var ≡ Some g.over) (sym f.is_guard) (at_param f.param (from_new c good.are_bound f.param f.is_new));
+    reads_before = λ g h. let f = from_guards g h in subst (λ g. ReadsOnly (before g.var) g.expr) (sym f.is_guard) (reads_old f.pair f.is_pair f.param (from_new c good.are_bound f.param f.is_new));
     one_each = λ g h i j e. same_guard g h (from_guards g i) (from_guards h j) e;
   }

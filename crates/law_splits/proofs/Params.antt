@@ -1,17 +1,18 @@
 -- The parameters that a split adds: where they stand, and of which variables they are.
-use Rattle.std.proofs.Common.{◌≡◌, ℕ, suc, ◌+◌, ◌≤◌, List, [], ◌∷◌, map, length, true, refl, sym, ap, subst, ◌∙◌, inl, inr, Some, arith}
+use Rattle.std.proofs.Common.{◌≡◌, ℕ, suc, ◌+◌, ◌≤◌, List, [], ◌∷◌, map, length, true, refl, sym, ap, subst, ◌∙◌, inl, inr, Some, Bool, false, ◌||◌, if◌then◌else◌, unwrap_or, arith}
 use Rattle.std.specs.Str.{bytes_eq}
-use Rattle.std.specs.List.{slice_get, flat_map, find}
+use Rattle.std.specs.List.{slice_get, find}
 use Rattle.std.proofs.lemmas.Slice.Eq.{bytes_eq-Decides}
 use Rattle.smv_core.specs.Values.{Name}
 use Rattle.smv_core.specs.declared.tree.Word.{Word}
 use Rattle.smv_core.specs.declared.flat.Simple.{Simple}
+use Rattle.smv_core.specs.declared.flat.Simple.TheVariants.{Enum}
 use Rattle.smv_core.specs.declared.flat.Param.{Param}
 use Rattle.smv_abstraction.specs.Sets.{Has, first, later}
-use Rattle.smv_abstraction.proofs.Members.{Has-uncons}
-use Rattle.smv_abstraction.proofs.OneOfEach.{Has-from_flat_map}
+use Rattle.smv_abstraction.proofs.Members.{Has-uncons, Has-from_map}
 use Rattle.law_obligations.proofs.Lookups.{Has-option, find-some}
-use Rattle.law_splits.specs.Leaves.{numbered, nameless, with_name, Cut, new, all_params}
+use Rattle.law_splits.specs.Leaves.{numbered, nameless, with_name, bound_as, Cut, new, all_params}
+use Rattle.law_splits.specs.SplitFaults.{names_one}
 use Rattle.law_splits.proofs.Lists.{get_behind}
 
 pub same_name : (a b : Name) → bytes_eq a b ≡ true → a ≡ b
@@ -58,11 +59,21 @@ pub record IsNew (c : Cut) (p : Param) : Type 0 where
   pub same_type : bound.over ≡ p.over
   pub same_word : p.name ≡ word.name
 
-pub from_new : (c : Cut) (p : Param) → Has (new c) p → IsNew c p
-from_new c p h =
-    let n = from_numbered (length c.params) (flat_map (with_name c.split.bound) c.split.vars) p h in
-    let r = Has-from_flat_map (with_name c.split.bound) c.split.vars n.was_there in
-    let q = named c.split.bound r.0 r.2 in
+-- a name that is bound is that of a variable
+pub is_bound_as : (bound : List Param) (word : Word) → names_one bound word ≡ true → IsNamed bound word (bound_as bound word)
+is_bound_as [] word e = absurd (cc)
+is_bound_as (p ∷ bound) word e = at (bytes_eq p.name word.name) refl e (λ k. is_bound_as bound word k)
+  where
+    at : (b : Bool) → bytes_eq p.name word.name ≡ b → (b || names_one bound word) ≡ true → (names_one bound word ≡ true → IsNamed bound word (bound_as bound word)) →
+        IsNamed (p ∷ bound) word (unwrap_or (if b then Some p else find (λ q. bytes_eq q.name word.name) bound) (record { var = 0; over = Enum 0; name = word.name }))
+    at true same e goes = record { is_there = first; is_name = same_name p.name word.name same }
+    at false other e goes = let r = goes e in record { is_there = later r.is_there; is_name = r.is_name }
+
+pub from_new : (c : Cut) → ((word : Word) → Has c.split.vars word → names_one c.split.bound word ≡ true) → (p : Param) → Has (new c) p → IsNew c p
+from_new c are_bound p h =
+    let n = from_numbered (length c.params) (map (bound_as c.split.bound) c.split.vars) p h in
+    let r = Has-from_map (bound_as c.split.bound) c.split.vars n.was_there in
+    let q = subst (IsNamed c.split.bound r.0) (sym r.2) (is_bound_as c.split.bound r.0 (are_bound r.0 r.1)) in
     let v = n.is_var in
     record {
       is_past = omega (arith, v);

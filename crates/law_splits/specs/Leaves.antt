@@ -6,6 +6,7 @@ use Rattle.smv_core.specs.Values.{Name}
 use Rattle.smv_core.specs.declared.tree.Word.{Word}
 use Rattle.smv_core.specs.declared.tree.Ref.{Ref}
 use Rattle.smv_core.specs.declared.flat.Simple.{Simple}
+use Rattle.smv_core.specs.declared.flat.Simple.TheVariants.{Enum}
 use Rattle.smv_core.specs.declared.flat.Design.{Design}
 use Rattle.smv_core.specs.declared.flat.Family.{Family}
 use Rattle.smv_core.specs.declared.flat.Param.{Param}
@@ -82,9 +83,13 @@ cut params s = record { params = params; split = s }
 abbrev pub old : FlatSplit → List Param
 old s = flat_map (with_name s.bound) s.of.names
 
--- the parameters that it adds, behind those of what it splits
+-- the variable that is bound around a split and has a new name. Where none is, which is a fault, the name has a type that no variable has.
+abbrev pub bound_as : List Param → Word → Param
+bound_as bound word = unwrap_or (find (λ p. bytes_eq p.name word.name) bound) (record { var = 0; over = Enum 0; name = word.name })
+
+-- the parameters that it adds, behind those of what it splits: one for each name in its brackets
 abbrev pub new : Cut → List Param
-new c = numbered (length c.params) (flat_map (with_name c.split.bound) c.split.vars)
+new c = numbered (length c.params) (map (bound_as c.split.bound) c.split.vars)
 
 abbrev pub all_params : Cut → List Param
 all_params c = c.params ++ new c

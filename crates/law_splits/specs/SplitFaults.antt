@@ -114,9 +114,14 @@ abbrev pub miscounted : ℕ → List Word → List ℕ
 miscounted count [] = []
 miscounted count (word ∷ more) = place_if (not (nat_eq (length (word ∷ more)) count)) word.at
 
--- a name of another type than its parameter
+-- a type that a variable may have: a parameter whose name was not bound has none
+abbrev pub is_of_variables : Simple → Bool
+is_of_variables (Enum list) = false
+is_of_variables _ = true
+
+-- a name of another type than its parameter, where that has one
 abbrev pub other_type : Cut → List ℕ
-other_type c = flat_map (λ (word, p). place_if (list_any (λ b. not (same_type b.over p.over)) (with_name c.split.bound word)) word.at) (zip c.split.of.names c.params)
+other_type c = flat_map (λ (word, p). place_if (is_of_variables p.over && list_any (λ b. not (same_type b.over p.over)) (with_name c.split.bound word)) word.at) (zip c.split.of.names c.params)
 
 -- the places of fault 24 in a split, and those that what it splits shows
 abbrev pub misfits : List Family → FlatSplit → List ℕ

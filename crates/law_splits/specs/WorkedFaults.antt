@@ -140,6 +140,23 @@ Equations = (of_p [] (word a 1 ∷ word c 2 ∷ []) [] ((a, P) ∷ (c, P) ∷ []
     × (of_p [] (word c 1 ∷ []) [] ((c, P) ∷ []) (is (one s) c 20 ∷ is (one s) c 21 ∷ []) ≡ fault 24 1 ∷ [])
     × (of_p ((i', P) ∷ []) (word c 1 ∷ []) (word k 11 ∷ []) ((c, P) ∷ (k, P) ∷ []) (is (one s) c 20 ∷ is (one s) k 21 ∷ []) ≡ fault 24 21 ∷ [])
 
+-- The names in the brackets of s are its parameters, bound or not; one that is not bound has no type to compare.
+-- module main() { p : assert G 1; forall (q in 0..1) forall (i in 0..1) subcase t[i] of s[q] for 1 = i; subcase s[q] of p for 1 = q; }
+abbrev pub text_unbound : Design
+text_unbound = splits [] (split t (word i' 80 ∷ []) (to (codes "s") 86 (word q 88 ∷ []) None) ((q, bit) ∷ (i', bit) ∷ []) (is (num 1) i' 99 ∷ [])
+    ∷ split (codes "s") (word q 112 ∷ []) (to p 118 [] None) [] (is (num 1) q 128 ∷ []) ∷ [])
+
+-- t[j] of s[names] inside these variables, before the split s[i][q] of p for 1 = i, 1 = q inside i
+abbrev pub before_unbound : List Word → List (Name × Simple) → Design
+before_unbound names bound = splits [] (split t (word j 80 ∷ []) (to (codes "s") 86 names None) bound (is (num 1) j 99 ∷ [])
+    ∷ split (codes "s") (word i' 131 ∷ word q 134 ∷ []) (to p 140 [] None) ((i', bit) ∷ []) (is (num 1) i' 150 ∷ is (num 1) q 157 ∷ []) ∷ [])
+
+-- s[i], and s[i][k] where k is of P
+abbrev pub UnboundParameters : Type 0
+UnboundParameters = (first_fault_of_splits text_unbound ≡ Some (fault 24 112))
+    × (first_fault_of_splits (before_unbound (word i' 88 ∷ []) ((i', bit) ∷ (j, bit) ∷ [])) ≡ Some (fault 24 88))
+    × (first_fault_of_splits (before_unbound (word i' 88 ∷ word k 91 ∷ []) ((i', bit) ∷ (k, P) ∷ (j, bit) ∷ [])) ≡ Some (fault 24 134))
+
 -- ---- expressions
 
 -- q[c] of p for e = c, where c is of this type

@@ -2,7 +2,7 @@
 ghost use Rattle.law_splits.specs.Laws.{LeavesAreSplit, GuardsAreMet, EquationsKeepOutcomes, OneLeafEach, LeavesAreEnds};
 ghost use Rattle.law_splits.specs.WorkedRead.{MachineIsRead};
 ghost use Rattle.law_splits.specs.WorkedLeaves.{TomasuloLeaves, Unsplit, SplitOfSplit, Renamed, NoBrackets, PlacesStay, InnerVariables, SplitMap};
-ghost use Rattle.law_splits.specs.WorkedFaults.{WholeTexts, NoFaults, NoUnits, BaseIsNoUnit, SplitTwice, LeadNowhere, Counts, Unbound, Doubled, OtherTypes, Equations, Kinds, Strays, TheFirst};
+ghost use Rattle.law_splits.specs.WorkedFaults.{WholeTexts, NoFaults, NoUnits, BaseIsNoUnit, SplitTwice, LeadNowhere, Counts, Unbound, UnboundParameters, Doubled, OtherTypes, Equations, Kinds, Strays, TheFirst};
 
 /// Where a design has no fault of splits, each of its leaves has the unit's parameters and then those that the splits add, and guards of these, each reading only the parameters before its own.
 pub fn leaves_are_split()
@@ -52,6 +52,7 @@ pub fn worked_faults()
     ensures nowhere { LeadNowhere }
     ensures counts { Counts }
     ensures unbound { Unbound }
+    ensures unbound_parameters { UnboundParameters }
     ensures doubled { Doubled }
     ensures types { OtherTypes }
     ensures equations { Equations }

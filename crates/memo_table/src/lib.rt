@@ -1,4 +1,6 @@
 //! The results of an operation on functions of a store, kept by its two operands.
+//!
+//! For `bdd_ops`, within one call. To change it: it is exact as a list, the later of two results for one pair counts; chains stand in the invariant.
 #![tactic(auto)]
 
 ghost use Rattle.std.specs.Prelude.{◌≡◌, ℕ, ◌+◌, ◌<◌, ◌≤◌, [], ◌∷◌, length, vec_len, OnOk, OnErr, IfOk, slice_index};

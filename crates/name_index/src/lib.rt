@@ -1,4 +1,7 @@
 //! Names in their order, each found by its first place.
+//!
+//! For every pass that looks names up. To change it: contracts speak of the first place of a name in the list of those that were given; the hash map is
+//! in the invariant.
 #![tactic(auto)]
 
 ghost use Rattle.std.specs.Prelude.{◌≡◌, List, [], ◌∷◌, ◌++◌, OnOk, OnErr, map, option_map, option_and_then, slice_get};

@@ -1,4 +1,7 @@
 //! The types of the language and the definitions of what a design means.
+//!
+//! For every other crate. `specs/` is what a reader must believe (begin at `Sound`); a change here proves everything anew. The big enums drop by hand:
+//! where one is let go a call stands, and not an arm for each variant.
 #![tactic(auto)]
 
 pub mod boxed;

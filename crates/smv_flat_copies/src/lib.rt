@@ -1,4 +1,6 @@
 //! Copies of flat expressions and of what stands in them.
+//!
+//! For `smv_design`. Each function gives an equal value; it fails only for want of memory.
 #![tactic(auto)]
 
 ghost use Rattle.std.specs.Prelude.{◌≡◌, IfOk};

@@ -1,4 +1,6 @@
 //! The numbers by which a flattened text speaks of set types, enumerations, families and constants.
+//!
+//! For `smv_flatten` and `smv_flatten_statements`. Numbers are places in the lists of the definition, found by hash.
 #![tactic(auto)]
 
 pub mod dots;

@@ -1,4 +1,6 @@
 //! The first fault of a text that is spelled, pass by pass.
+//!
+//! For `smv_top`. Each pass is a crate of its own; here only their order is decided, and the depths that the stack bears.
 #![tactic(auto)]
 
 ghost use Rattle.std.specs.Prelude.{◌≡◌, IfOk};
@@ -44,14 +46,14 @@ fn typed_fault(alloc: Global, typed: Typed) -> Result<Option<Fault>, AllocError>
 
 /// The first fault of a text that is spelled: of its names and then of its size, or else of its kinds, or else of its flattened text. A later pass
 /// looks only at what the earlier ones found no fault in. `AllocError` also where statements stand more than 1,000 deep inside one another, each
-/// arm of a `switch` inside the one before, or where the types that a text names stand more than 10,000 deep together: the walks over them would
-/// want more stack than there may be.
+/// arm of a `switch` inside the one before, or where a chain of types, each inside the one before and each name around what it names, is longer than
+/// 10,000: the walks over them would want more stack than there may be.
 #[tactic(auto, unfolding(crate::specs::TextFault::text_fault))]
 pub fn text_fault(alloc: Global, text: &Text) -> Result<Option<Fault>, AllocError>
     requires { IsSpelled text.now }
     ensures { IfOk result (λ fault. fault ≡ spec.text_fault text.now) }
 {
-    if are_too_deep(text) {
+    if are_too_deep(alloc, text)? {
         return Err(AllocError);
     }
     let pieces = pieces(alloc, text)?;

@@ -1,4 +1,6 @@
 //! The inductive check: a set of states is a certificate that no violating path exists.
+//!
+//! For whoever has a set that ought to be inductive: the four conditions of `smv_rings/specs`, exactly.
 #![tactic(auto)]
 
 ghost use Rattle.std.specs.Prelude.{◌≡◌, ◌↔◌, IfOk, IsTrue};

@@ -1,4 +1,6 @@
 //! The tokens of a text.
+//!
+//! For `smv_parse`. It meets `specs/Lexing`: the longest token at each place, comments first.
 #![tactic(auto)]
 
 ghost use Rattle.std.specs.Prelude.{◌≡◌, ◌<◌, ◌^◌, length, IfOk, Ok, Err};

@@ -1,4 +1,6 @@
 //! The program: standard input to standard output.
+//!
+//! It hands the words and the two streams to `smv_top::run`; what is proved of a run is said there.
 #![tactic(auto)]
 
 use smv_io::{FromRead, ToWrite};

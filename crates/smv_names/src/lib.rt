@@ -1,4 +1,6 @@
 //! The first fault of a text among those of its names and of its size.
+//!
+//! For `smv_front`. It joins `smv_scope` and `smv_size`: least place, then number, and the size last.
 #![tactic(auto)]
 
 ghost use Rattle.std.specs.Prelude.{◌≡◌, IfOk};

@@ -1,4 +1,6 @@
 //! From the bytes of a text to its tree.
+//!
+//! For `smv_top`. It joins `smv_lex` and `smv_parse_items`; `one_answer` is the law that a text spells one tree or has one fault.
 #![tactic(auto)]
 
 ghost use Rattle.std.specs.Prelude.{◌≡◌, ◌<◌, ◌^◌, ℕ, length, Ok, Err, IfOk};

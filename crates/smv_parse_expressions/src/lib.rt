@@ -1,4 +1,6 @@
 //! Tokens to trees.
+//!
+//! For `smv_parse_items`. Each function answers what the reader of its production in `law_grammar` answers. Keep no expression by value at a `?`.
 #![tactic(auto)]
 
 pub mod ahead;

@@ -1,4 +1,6 @@
 //! Tokens to the tree of a text: statements, items, tops and the text.
+//!
+//! For `smv_parse`. Each function answers what the reader of its production in `law_grammar` answers.
 #![tactic(auto)]
 
 pub mod ahead;

@@ -1,4 +1,6 @@
 //! The canonical spelling of a text.
+//!
+//! For `smv_top`. It meets `specs/`, the canonical tokens and bytes of a tree.
 #![tactic(auto)]
 
 mod expressions;

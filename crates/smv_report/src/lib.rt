@@ -1,4 +1,6 @@
 //! The lines that the program writes: a report, and the place of a fault.
+//!
+//! For `smv_top`. It meets `specs/Lines`, byte by byte.
 #![tactic(auto)]
 
 ghost use Rattle.std.specs.Prelude.{◌≡◌, ◌≤◌, ◌<◌, ◌+◌, ◌^◌, ℕ, ◌++◌, length, take, codes, decimal, IfOk, OnOk, [], Bool, if◌then◌else◌};

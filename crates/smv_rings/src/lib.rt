@@ -1,4 +1,7 @@
 //! The lists of functions of one case, their paths and rings, and the schedule of a search over them.
+//!
+//! For the search and the inductive check. Read `specs/Lists`, `Paths`, `Schedule`: nothing there speaks of diagrams; `plan` says which variables each
+//! act of a turn may quantify.
 #![tactic(auto)]
 
 pub mod laws;

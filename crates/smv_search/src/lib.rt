@@ -1,4 +1,6 @@
 //! The search over decision diagrams: it decides one case by the rings of its states, within a budget of nodes and one of images.
+//!
+//! For verdicts. It answers the first event of the schedule (`specs/Verdict`); what it keeps alive is exactly what the schedule counts.
 #![tactic(auto)]
 
 ghost use Rattle.std.specs.Prelude.{◌≡◌, ℕ, ◌≤◌, ◌<◌, IfOk, OnOk, List, [], ◌∷◌, ◌++◌, drop, length};

@@ -1,4 +1,6 @@
-//! Cases built by hand from truth tables, and what a search finds of them.
+//! Cases built by hand from truth tables, what a search finds of them, and which sets are inductive in them.
+//!
+//! Nothing stands on it.
 #![tactic(auto)]
 
 ghost use Rattle.std.specs.Prelude.{◌≡◌, ℕ, ◌*◌, ◌≤◌, ◌<◌, Bool, true, IsTrue, IfOk, IfSome, map};
@@ -9,6 +11,7 @@ ghost use Rattle.smv_search_tests.specs.Built.{IsPartLive, IsPartCurrent};
 
 use bdd_ops::support;
 use bdd_store::{Ref, Store};
+use smv_inductive::inductive;
 use smv_rings::Rel;
 use smv_search::{Outcome, search};
 use std::alloc::{AllocError, Global};
@@ -17,13 +20,14 @@ use std::alloc::{AllocError, Global};
 mod tests;
 
 /// What a function says of the number in the state, and of the number in the next one. The highest bit comes first.
-#[derive(Clone, Copy)]
+#[derive(Clone, Copy, Debug)]
 pub enum Law {
     Is(u32),
     BecomesNot(u32),
     Becomes(u32),
     /// It becomes one more, and 0 behind this number.
     Counts(u32),
+    Always,
     Never,
 }
 
@@ -74,6 +78,25 @@ pub fn decide(
         Outcome::OutOfNodes { count } => Answer::OutOfNodes(count),
         Outcome::OutOfSteps => Answer::OutOfSteps,
     }))
+}
+
+/// Whether a set is inductive in a case, or none where the set or a law at time 0 reads the next state.
+pub fn is_inductive(
+    alloc: Global,
+    bits: u16,
+    first: Laws<'_>,
+    step: Laws<'_>,
+    set: Law,
+) -> Result<Option<bool>, AllocError> {
+    let mut store = Store::new(alloc, 2 * bits as u32)?;
+    let Some(rel) = build_rel(alloc, &mut store, bits, first, step)? else {
+        return Ok(None);
+    };
+    let set = build(&mut store, set, 0, Numbers { old: 0, new: 0 })?;
+    if !is_current(alloc, &store, rel.bits, set)? {
+        return Ok(None);
+    }
+    Ok(Some(inductive(alloc, &rel, &mut store, set)?))
 }
 
 /// The lists of a case, or none where a law at time 0 reads the next state.
@@ -218,6 +241,7 @@ fn holds(law: Law, numbers: Numbers) -> bool {
                 numbers.new == numbers.old.saturating_add(1)
             }
         }
+        Law::Always => true,
         Law::Never => false,
     }
 }

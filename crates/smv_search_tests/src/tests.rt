@@ -1,4 +1,4 @@
-//! What no clause says: that searches succeed where there is memory, and what they find of cases that were worked out by hand.
+//! What no clause says: that searches succeed where there is memory, and what they find of cases that were worked out by hand; and which sets are inductive there.
 
 use super::*;
 use std::test::Fail;
@@ -94,6 +94,31 @@ fn holds_back_by_a_demand_before(rt: HostRuntime) -> Result<(), Fail> {
         };
         let got = decide(rt.alloc(), 3, first, step, 1000, 100)?;
         assert_eq!(rt; got, Some(want), "before {number}");
+    }
+    Ok(())
+}
+
+// A bit that is 0 at first and flips in each step: no step may leave the set or be broken, and the first state is in it.
+#[test]
+fn says_which_sets_are_inductive(rt: HostRuntime) -> Result<(), Fail> {
+    let first = Laws {
+        now: &[Law::Is(0)],
+        before: &[],
+        broken: Law::Never,
+    };
+    for (set, broken, want) in [
+        (Law::Always, Law::Never, true),
+        (Law::Never, Law::Never, false),
+        (Law::Is(0), Law::Never, false),
+        (Law::Always, Law::Always, false),
+    ] {
+        let step = Laws {
+            now: &[Law::Counts(1)],
+            before: &[],
+            broken,
+        };
+        let got = is_inductive(rt.alloc(), 1, first, step, set)?;
+        assert_eq!(rt; got, Some(want), "{set:?}");
     }
     Ok(())
 }

@@ -1,4 +1,6 @@
 //! The first fault of single assignment of a flattened text.
+//!
+//! For `smv_front`. It meets `law_single_assignment/specs/SingleFaults`; assignments are compared only within classes.
 #![tactic(auto)]
 
 ghost use Rattle.std.specs.Prelude.{◌≡◌, IfOk};

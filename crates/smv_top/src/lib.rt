@@ -1,4 +1,6 @@
 //! The top call: from the words of the command and the bytes of a source to a status and the bytes of a sink.
+//!
+//! For the program: `run` carries the headline. Read `specs/Answers` first; each clause of `run` is one of its sentences.
 #![tactic(auto)]
 
 ghost use Rattle.std.specs.Prelude.{◌≡◌, ◌≢◌, ◌≤◌, ◌⊎◌, List, ℕ, map, length, if◌then◌else◌, IfSome, IfNone, IfOk, None};

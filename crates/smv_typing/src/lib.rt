@@ -1,4 +1,6 @@
 //! The pass over kinds: the flattened text of a text that keeps their rules, or the first fault of kinds.
+//!
+//! For `smv_front`. `Typed` keeps in its invariant that no part breaks a rule of kinds (`law_flat_kinds`).
 #![tactic(auto)]
 
 ghost use Rattle.std.specs.Prelude.{◌≡◌, None, true};
@@ -8,8 +10,11 @@ ghost use Rattle.law_flat_kinds.specs.FlatKinds.{is_kinded};
 ghost use Rattle.smv_typing.specs.Answers.{IsSpelled, IsTyped};
 
 mod depth;
+mod nodes;
+mod weights;
 
 use crate::depth::is_too_deep;
+use crate::nodes::check_nodes;
 use law_kinds_after_flattening::laws::flattened_texts_are_kinded;
 use smv_core::Refusal;
 use smv_core::flat::Raw;
@@ -63,7 +68,7 @@ impl Typed {
 
 /// The flattened text of a text that is spelled and has no fault of names and size, or else its first fault among 12 to 14, in every module. `OutOfMemory` also
 /// where statements stand more than 1,000 deep inside one another, each arm of a `switch` inside the one before: the flattened text would want more stack than
-/// there may be.
+/// there may be; and where the flattened text would have more than 2^24 nodes, names by 16 bytes: that is counted before it is made.
 pub fn kinds(alloc: Global, text: &Text, pieces: &[Piece]) -> Result<Typed, Refusal>
     requires noted { AreNoted pieces.now text.now }
     requires spelled { IsSpelled text.now }
@@ -77,6 +82,7 @@ pub fn kinds(alloc: Global, text: &Text, pieces: &[Piece]) -> Result<Typed, Refu
     if is_too_deep(text) {
         return Err(Refusal::OutOfMemory);
     }
+    check_nodes(alloc, text)?;
     let raw = flatten(alloc, text, pieces)?;
     Ok(Typed { raw })
 }

@@ -35,6 +35,10 @@ pub returns-clause-unbound : goal.returns-clause-unbound
 unfolding computing
 returns-clause-unbound c = (refl, refl)
 
+pub returns-clause-unbound_parameters : goal.returns-clause-unbound_parameters
+unfolding computing
+returns-clause-unbound_parameters c = (refl, refl, refl)
+
 pub returns-clause-doubled : goal.returns-clause-doubled
 unfolding computing
 returns-clause-doubled c = (refl, refl, refl)

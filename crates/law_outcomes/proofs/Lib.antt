@@ -1,0 +1,13 @@
+pub mod Anys
+pub mod MixLaws
+pub mod IffLaws
+pub mod GiveLaws
+pub mod WalkLaws
+pub mod ReadLaws
+pub mod MayLaws
+pub mod Filled
+pub mod QuantifierLaws
+pub mod WithinLaws
+pub mod SumLaws
+pub mod RightLaws
+pub mod ResultLaws

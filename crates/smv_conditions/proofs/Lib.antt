@@ -1,0 +1,4 @@
+pub mod OfferLaws
+pub mod ChainLaws
+pub mod AddLaws
+pub mod MergeLaws

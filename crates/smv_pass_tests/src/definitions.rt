@@ -1,0 +1,90 @@
+//! The definitions of small designs, which were written out by hand.
+
+use crate::texts::designed;
+use smv_core::flat::{Def, Flat};
+use std::alloc::AllocError;
+use std::test::Fail;
+
+// A digit.
+fn digit(n: u32) -> u8 {
+    (n % 10) as u8 + b'0'
+}
+
+// An assignment is `a` and its place, an `if` has round brackets and a first result has pointed ones.
+#[cycle(parts)]
+fn show(out: &mut Vec<u8>, part: &Flat) -> Result<(), AllocError> {
+    match part {
+        Flat::Nothing => out.push(b'-')?,
+        Flat::Assign { place, .. } => {
+            out.push(b'a')?;
+            out.push(digit(*place))?;
+        }
+        Flat::If { yes, no, .. } => {
+            out.push(b'(')?;
+            show(out, yes.get())?;
+            show(out, no.get())?;
+            out.push(b')')?;
+        }
+        Flat::First { parts } => {
+            out.push(b'<')?;
+            show_all(out, parts.as_slice())?;
+            out.push(b'>')?;
+        }
+        Flat::Forall { body, .. } => show(out, body.get())?,
+    }
+    Ok(())
+}
+
+#[cycle(parts)]
+fn show_all(out: &mut Vec<u8>, parts: &[Flat]) -> Result<(), AllocError> {
+    for part in parts {
+        show(out, part)?;
+    }
+    Ok(())
+}
+
+// A definition is its layer, its family, its place, and what it says for `init`, `next` and `:=`.
+fn show_definition(out: &mut Vec<u8>, def: &Def) -> Result<(), AllocError> {
+    match def.layer {
+        Some(layer) => out.push(digit(u32::from(layer)))?,
+        None => out.push(b'.')?,
+    }
+    out.push(digit(u32::from(def.family)))?;
+    out.push(digit(def.place))?;
+    show(out, &def.init)?;
+    show(out, &def.next)?;
+    show(out, &def.comb)?;
+    out.push(b' ')?;
+    Ok(())
+}
+
+// The families of x, y and c have the numbers 0, 1 and 2.
+#[test]
+fn assignments_are_gathered(rt: HostRuntime) -> Result<(), Fail> {
+    for (body, want) in [
+        // Each layer has definitions of its own, and a claim has a place too.
+        (
+            "next(x) := 1; p : assert G 1; layer L : { x := 1; } init(x) := 1;",
+            ".00a3a0- 002--a2 ",
+        ),
+        // A branch that says nothing stays.
+        (
+            "if (c) { next(x) := 1; next(y) := 1; }",
+            ".00-(a0-)- .11-(a1-)- ",
+        ),
+        // The second part of a default stands first.
+        (
+            "default { next(x) := 1; next(y) := 1; } in next(x) := 1; next(y) := 1;",
+            ".00-<a2a0>- .11-<a1a3>- ",
+        ),
+    ] {
+        let text = format!(in rt.alloc(); "module main() {{ x, y, c : boolean; {body} }}")?;
+        let design = designed(rt.alloc(), text.as_str())?;
+        let mut out = Vec::new(rt.alloc());
+        for def in design.defs.as_slice() {
+            show_definition(&mut out, def)?;
+        }
+        assert_eq!(rt; out.as_slice(), want.as_bytes(), "{body}");
+    }
+    Ok(())
+}

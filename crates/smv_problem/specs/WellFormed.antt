@@ -1,0 +1,184 @@
+-- The problems of which the calls speak.
+use Rattle.std.specs.Prelude.{◌≡◌, ◌≢◌, ◌≤◌, ◌<◌, ℕ, List, [], ◌∷◌, map, length, get_or, slice_get, Option, Some, None, Bool, true, false, not, ◌&&◌, ◌||◌, IsTrue}
+use Rattle.std.specs.List.{list_all}
+use Rattle.smv_core.specs.Values.{Name}
+use Rattle.smv_core.specs.Flat.{Numbered}
+use Rattle.smv_core.specs.declared.flat.SetInfo.{SetInfo}
+use Rattle.smv_core.specs.declared.flat.Simple.{Simple}
+use Rattle.smv_core.specs.declared.tree.Op.{Op}
+use Rattle.smv_core.specs.declared.tree.Op.TheVariants.{Equal, Differ}
+use Rattle.smv_core.specs.declared.flat.FlatMember.{One, Span as SpanOf}
+use Rattle.smv_core.specs.declared.flat.FlatExpr.{FlatExpr, Number, Read', Var, Loop, Constant, Not', And', Or', Implies', Iff', Compare', Within', Sum', Modulo', Choose', All', Any', List', Each', None', Some', Row_of-FlatExpr, end_of-FlatExpr, more_of-FlatExpr, Row_of-FlatMember, end_of-FlatMember, more_of-FlatMember, Row_of-FlatSigned, end_of-FlatSigned, more_of-FlatSigned}
+use Rattle.smv_core.specs.declared.flat.Flat.{Flat, Nothing, Assign, If', First', Forall', Row_of-Flat, end_of-Flat, more_of-Flat}
+use Rattle.smv_core.specs.declared.flat.Guard.{Guard}
+use Rattle.smv_core.specs.declared.flat.Raw.{Raw}
+use Rattle.smv_abstraction.specs.Sets.{Has}
+use Rattle.smv_abstraction.specs.Places.{Place, World, places_in}
+use Rattle.smv_abstraction.specs.May.{AbsState}
+use Rattle.smv_abstraction.specs.declared.abstract_type.Rest.TheVariants.{Gaps}
+use Rattle.smv_abstraction.specs.Covers.{AreApart}
+use Rattle.smv_abstraction.specs.Soundness.{over_of}
+use Rattle.smv_abstraction.specs.Pictures.{IsAbsState, AreNamedOf}
+use Rattle.smv_abstraction.specs.Obligations.{Demanded, defined, holds}
+use Rattle.law_obligations.specs.Cones.{AbsElement}
+use Rattle.law_flat_kinds.specs.FlatKinds as kinds
+use Rattle.law_flat_kinds.specs.FlatKinds.{Kind, set_type, Vars, kind_of}
+use Rattle.law_codes.specs.Readings.{Case, IsCase, state_bits}
+use Rattle.smv_problem.specs.declared.problem.AbsState.{AbsState as StateData}
+use Rattle.smv_problem.specs.declared.problem.Problem.{Problem}
+use Rattle.smv_problem.specs.Written.{written, written_state}
+
+-- the constants of an enumeration are distinct
+abbrev pub AreDistinct : List Name → Type 0
+AreDistinct [] = Unit {0}
+AreDistinct (name ∷ names) = ((other : Name) → Has names other → name ≢ other) × AreDistinct names
+
+-- the set types, enumerations and families as a flattened text without items, for the rules of kinds
+abbrev pub as_raw : Numbered → Raw
+as_raw n = record { sets = n.sets; enums = n.enums; layers = []; families = n.families; items = [] }
+
+-- places of these types
+abbrev pub AreOf : World → List Simple → List Place → Type 0
+AreOf w [] [] = Unit {0}
+AreOf w (t ∷ types) (p ∷ ps) = Has (places_in w t) p × AreOf w types ps
+AreOf w _ _ = ⊥
+
+-- no two elements are the same
+abbrev pub AreApartElements : List AbsElement → Type 0
+AreApartElements [] = Unit {0}
+AreApartElements (x ∷ elements) = ((y : AbsElement) → Has elements y → x ≢ y) × AreApartElements elements
+
+-- ---- orders of set types
+
+abbrev pub is_order : Op → Bool
+is_order Equal = false
+is_order Differ = false
+is_order op = true
+
+abbrev pub is_ordset : Option SetInfo → Bool
+is_ordset (Some info) = info.ordered
+is_ordset None = false
+
+abbrev pub has_order : Raw → Option Kind → Bool
+has_order raw (Some (set_type set)) = is_ordset (slice_get raw.sets set)
+has_order raw kind = true
+
+module _ (raw : Raw) where
+  abbrev mutual
+    -- each order in an expression stands over numbers or an ordset
+    pub keeps_orders : Vars → FlatExpr → Bool
+    keeps_orders vars (Number value at) = true
+    keeps_orders vars (Read' family shape indexes at) = all_keep_orders vars indexes
+    keeps_orders vars (Var var at) = true
+    keeps_orders vars (Loop value at) = true
+    keeps_orders vars (Constant list value at) = true
+    keeps_orders vars (Not' shape (more_of-FlatExpr e end_of-FlatExpr) at) = keeps_orders vars e
+    keeps_orders vars (And' shape parts) = all_keep_orders vars parts
+    keeps_orders vars (Or' shape parts) = all_keep_orders vars parts
+    keeps_orders vars (Implies' shape parts) = all_keep_orders vars parts
+    keeps_orders vars (Iff' l (more_of-FlatExpr left end_of-FlatExpr) r (more_of-FlatExpr right end_of-FlatExpr)) = keeps_orders vars left && keeps_orders vars right
+    keeps_orders vars (Compare' op l (more_of-FlatExpr left end_of-FlatExpr) r (more_of-FlatExpr right end_of-FlatExpr)) =
+        (not (is_order op) || (has_order raw (kinds.kind_in raw vars left) && has_order raw (kinds.kind_in raw vars right))) && (keeps_orders vars left && keeps_orders vars right)
+    keeps_orders vars (Within' l (more_of-FlatExpr left end_of-FlatExpr) r (more_of-FlatExpr set end_of-FlatExpr)) = keeps_orders vars left && keeps_orders vars set
+    keeps_orders vars (Sum' f (more_of-FlatExpr head end_of-FlatExpr) shape more) = keeps_orders vars head && signed_keep_orders vars more
+    keeps_orders vars (Modulo' shape (more_of-FlatExpr e end_of-FlatExpr) by at) = keeps_orders vars e
+    keeps_orders vars (Choose' c (more_of-FlatExpr cond end_of-FlatExpr) l (more_of-FlatExpr left end_of-FlatExpr) r (more_of-FlatExpr right end_of-FlatExpr)) =
+        keeps_orders vars cond && (keeps_orders vars left && keeps_orders vars right)
+    keeps_orders vars (All' shape (more_of-FlatExpr body end_of-FlatExpr) var over at) = keeps_orders (kinds.inside vars over) body
+    keeps_orders vars (Any' shape (more_of-FlatExpr body end_of-FlatExpr) var over at) = keeps_orders (kinds.inside vars over) body
+    keeps_orders vars (List' shape members at) = members_keep_orders vars members
+    keeps_orders vars (Each' var over None' at) = true
+    keeps_orders vars (Each' var over (Some' shape (more_of-FlatExpr cond end_of-FlatExpr)) at) = keeps_orders (kinds.inside vars over) cond
+
+    pub all_keep_orders : {m : _} → Vars → Row_of-FlatExpr m → Bool
+    all_keep_orders vars end_of-FlatExpr = true
+    all_keep_orders vars (more_of-FlatExpr e more) = keeps_orders vars e && all_keep_orders vars more
+
+    pub signed_keep_orders : {m : _} → Vars → Row_of-FlatSigned m → Bool
+    signed_keep_orders vars end_of-FlatSigned = true
+    signed_keep_orders vars (more_of-FlatSigned minus e more) = keeps_orders vars e && signed_keep_orders vars more
+
+    pub members_keep_orders : {m : _} → Vars → Row_of-FlatMember m → Bool
+    members_keep_orders vars end_of-FlatMember = true
+    members_keep_orders vars (more_of-FlatMember (One e) more) = keeps_orders vars e && members_keep_orders vars more
+    members_keep_orders vars (more_of-FlatMember (SpanOf span at) more) = members_keep_orders vars more
+
+-- ---- kinds and orders of definitions
+
+-- no part of what a definition says of a family breaks a rule of kinds and orders, where these are the kinds of the variables around it
+abbrev mutual
+  pub is_part : Raw → ℕ → Vars → Flat → Bool
+  is_part raw family vars Nothing = true
+  is_part raw family vars (Assign left value place at) =
+      kinds.assigns (kinds.element (slice_get raw.families family) (map (kinds.kind_in raw vars) left)) (kinds.value_in raw vars value) && (list_all (keeps_orders raw vars) left && keeps_orders raw vars value)
+  is_part raw family vars (If' cond l (more_of-Flat left end_of-Flat) r (more_of-Flat right end_of-Flat)) =
+      (kinds.takes Kind.number (kinds.kind_in raw vars cond) && keeps_orders raw vars cond) && (is_part raw family vars left && is_part raw family vars right)
+  is_part raw family vars (First' shape parts) = are_parts raw family vars parts
+  is_part raw family vars (Forall' var over shape (more_of-Flat body end_of-Flat)) = kinds.is_binder raw vars var over && is_part raw family (kinds.inside vars over) body
+
+  pub are_parts : {m : _} → Raw → ℕ → Vars → Row_of-Flat m → Bool
+  are_parts raw family vars end_of-Flat = true
+  are_parts raw family vars (more_of-Flat part more) = is_part raw family vars part && are_parts raw family vars more
+
+module _ (c : Case) where
+  abbrev pub names : Raw
+  names = as_raw c.problem.world.classes
+
+  -- an expression of this kind, where the variables around it are over these types and stand at these places
+  pub record IsOfKind (e : FlatExpr) (over : List Simple) (b : List Place) (kind : Kind) : Type 0 where
+    pub are_of : AreOf c.problem.world over b
+    pub has_kind : kinds.kind_in names (map kind_of over) e ≡ Some kind
+    pub has_orders : IsTrue (keeps_orders names (map kind_of over) e)
+
+  -- a demand whose parts keep the rules of kinds, of an element or of a claim
+  abbrev pub IsFit : Demanded → Type 0
+  IsFit (defined def indexes) =
+      IsTrue (is_part names def.family [] def.init) × IsTrue (is_part names def.family [] def.next) × IsTrue (is_part names def.family [] def.comb)
+      × AreOf c.problem.world (over_of (slice_get names.families def.family)) indexes
+  IsFit (holds body b) = (over : List Simple) × (kind : Kind) × IsOfKind body over b kind × IsTrue (kinds.takes Kind.number (Some kind))
+
+  -- a guard with the types of the leaf's parameters
+  pub record IsFitGuard (over : List Simple) (g : Guard) : Type 0 where
+    pub kind : Kind
+    pub is_of : IsOfKind g.expr over c.problem.params kind
+    pub has_param : slice_get over g.var ≡ Some g.over
+
+  -- a case whose problem the calls take: its set types and constants have names of their own, its elements are distinct, all that is demanded keeps the rules of
+  -- kinds, and its numbers fit their fields
+  pub record IsWellFormed : Type 0 where
+    pub is_case : IsCase c
+    pub set_types : AreApart names.sets
+    pub constants : (list : List Name) → Has names.enums list → AreDistinct list
+    pub elements : AreApartElements c.elements
+    pub indexes : (x : AbsElement) → Has c.elements x → AreNamedOf c.problem.world (over_of (slice_get names.families x.family)) x.indexes
+    pub now : (demand : Demanded) → Has c.problem.now demand → IsFit demand
+    pub before : (demand : Demanded) → Has c.problem.before demand → IsFit demand
+    pub target : IsFit c.problem.target
+    pub params : List Simple
+    pub guards : (g : Guard) → Has c.problem.guards g → IsFitGuard params g
+    pub classes : (info : SetInfo) → Has names.sets info → c.problem.world.classes.sizes info.name ≤ 256
+    pub gaps : (info : SetInfo) → Has names.sets info → c.problem.world.rests info.name ≡ Gaps → c.problem.world.classes.sizes info.name ≤ 255
+    pub gapped : (info : SetInfo) → Has names.sets info → info.ordered ≡ true → c.problem.world.rests info.name ≡ Gaps
+    pub ungapped : (info : SetInfo) → Has names.sets info → info.ordered ≡ false → c.problem.world.rests info.name ≢ Gaps
+    pub bits : state_bits c ≤ 1024
+
+-- the problem of such a case
+abbrev pub IsProblem : Problem → Type 0
+IsProblem p = (c : Case) × (p ≡ written c) × IsWellFormed c
+
+-- what is said of each such case that is written so
+abbrev pub OfCases : Problem → (Case → Type 0) → Type 0
+OfCases p says = (c : Case) → p ≡ written c → IsWellFormed c → says c
+
+-- an abstract state of each such case
+abbrev pub OfStates : Problem → StateData → (Case → AbsState → Type 0) → Type 0
+OfStates p s says = OfCases p (λ c. (a : AbsState) → IsAbsState c.problem.world c.problem.kept a → s ≡ written_state c a → says c a)
+
+-- a state before, if there is one
+abbrev pub IsBefore : Case → Option AbsState → Type 0
+IsBefore c None = Unit {0}
+IsBefore c (Some a) = IsAbsState c.problem.world c.problem.kept a
+
+-- the problem of this case, which is well formed
+abbrev pub IsProblemOf : Case → Problem → Type 0
+IsProblemOf c p = (p ≡ written c) × IsWellFormed c

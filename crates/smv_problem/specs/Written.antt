@@ -1,0 +1,98 @@
+-- How a case is written as data. The names of set types and constants are not written: a class, a rest and a constant are written by their numbers, and their types
+-- are known where they stand.
+use Rattle.std.specs.Prelude.{◌≡◌, ℕ, List, [], ◌∷◌, map, length, get_or, slice_get, unwrap_or, Option, Some, None}
+use Rattle.std.specs.Str.{bytes_eq}
+use Rattle.smv_core.specs.Values.{Name, Value, number, constant, scalar, ordinal}
+use Rattle.smv_core.specs.Flat.{Numbered}
+use Rattle.smv_core.specs.declared.flat.Simple.{Simple}
+use Rattle.smv_core.specs.declared.flat.Simple.TheVariants.{Range, Enum, Set}
+use Rattle.smv_core.specs.declared.flat.SetInfo.{SetInfo}
+use Rattle.smv_core.specs.declared.flat.Family.{Family}
+use Rattle.smv_core.specs.declared.flat.Class.{Class}
+use Rattle.smv_core.specs.declared.flat.Class.TheVariants as class
+use Rattle.smv_core.specs.declared.flat.Element.{Element}
+use Rattle.smv_abstraction.specs.declared.abstract_type.AbsType.{AbsType}
+use Rattle.smv_abstraction.specs.Sets.{Has}
+use Rattle.smv_abstraction.specs.Places.{Place, named, rest, World, AbsOutcome}
+use Rattle.smv_abstraction.specs.May.{AbsState}
+use Rattle.smv_abstraction.specs.Obligations.{Demanded, defined, holds}
+use Rattle.law_obligations.specs.Outlines.{place_of}
+use Rattle.law_obligations.specs.Cones.{AbsElement}
+use Rattle.law_flat_kinds.specs.FlatKinds.{Kind, enumeration, kind_of}
+use Rattle.law_codes.specs.Readings.{Case}
+use Rattle.smv_problem.specs.declared.problem.AbsValue.{AbsValue}
+use Rattle.smv_problem.specs.declared.problem.AbsValue.TheVariants as value
+use Rattle.smv_problem.specs.declared.problem.AbsState.{AbsState as StateData}
+use Rattle.smv_problem.specs.declared.problem.Demand.{Demand}
+use Rattle.smv_problem.specs.declared.problem.Demand.TheVariants.{Defined, Holds}
+use Rattle.smv_problem.specs.declared.problem.Problem.{Problem}
+
+-- a place of a parameter or an index; a constant is never one
+abbrev pub written_class : Place → Class
+written_class (named (number k)) = class.Number k
+written_class (named (scalar t k)) = class.Named k
+written_class (named (ordinal t k)) = class.Named k
+written_class (named (constant name)) = class.Number 0
+written_class (rest (scalar t g)) = class.Rest g
+written_class (rest (ordinal t g)) = class.Rest g
+written_class (rest _) = class.Rest 0
+
+-- a constant by its place in its enumeration
+abbrev pub written_constant : Numbered → Kind → Name → AbsValue
+written_constant n (enumeration list) name = value.Constant (unwrap_or (place_of (bytes_eq name) (get_or n.enums list [])) 0)
+written_constant n kind name = value.Undefined
+
+-- a place of this kind
+abbrev pub written_place : Numbered → Kind → Place → AbsValue
+written_place n kind (named (number k)) = value.Number k
+written_place n kind (named (constant name)) = written_constant n kind name
+written_place n kind (named (scalar t k)) = value.Named k
+written_place n kind (named (ordinal t k)) = value.Named k
+written_place n kind (rest (scalar t g)) = value.Rest g
+written_place n kind (rest (ordinal t g)) = value.Rest g
+written_place n kind (rest _) = value.Undefined
+
+abbrev pub written_outcome : Numbered → Kind → AbsOutcome → AbsValue
+written_outcome n kind (Some p) = written_place n kind p
+written_outcome n kind None = value.Undefined
+
+abbrev pub written_element : AbsElement → Element
+written_element x = record { family = x.family; indexes = map written_class x.indexes }
+
+abbrev pub written_demand : Demanded → Demand
+written_demand (defined def indexes) = Defined (record { family = def.family; indexes = map written_class indexes }) def.init def.next def.comb
+written_demand (holds body b) = Holds body (map written_class b)
+
+-- the abstract form of a set type
+abbrev pub written_type : World → SetInfo → AbsType
+written_type w info = record { named = w.classes.sizes info.name; rest = w.rests info.name }
+
+-- the kind of the values of an element
+abbrev pub kind_in : Option Family → Kind
+kind_in (Some f) = kind_of f.value
+kind_in None = Kind.number
+
+module _ (c : Case) where
+  -- the problem of a case
+  unfoldable pub written : Problem
+  written = record {
+    elements = map written_element c.elements;
+    families = c.problem.world.classes.families;
+    lists = map length c.problem.world.classes.enums;
+    types = map (written_type c.problem.world) c.problem.world.classes.sets;
+    now = map written_demand c.problem.now;
+    before = map written_demand c.problem.before;
+    target = written_demand c.problem.target;
+    guards = c.problem.guards;
+    bindings = map written_class c.problem.params;
+  }
+
+  -- an abstract state of it
+  abbrev pub written_state : AbsState → StateData
+  written_state a = record {
+    values = map (λ x. written_place c.problem.world.classes (kind_in (slice_get c.problem.world.classes.families x.family)) (a x.family x.indexes)) c.elements;
+  }
+
+  abbrev pub written_before : Option AbsState → Option StateData
+  written_before None = None
+  written_before (Some a) = Some (written_state a)

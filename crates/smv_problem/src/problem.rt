@@ -1,0 +1,50 @@
+// The problem of a case as data: what the evaluator, the encoder and the trace read.
+use smv_abstraction::AbsType;
+use smv_core::Seq;
+use smv_core::flat::{Class, Element, Family, Flat, FlatExpr, Guard};
+
+/// What an outcome may be in a case: a number, a constant by its place in its enumeration, a class or a rest of a set type, or Undefined.
+#[derive(Clone, Copy, PartialEq, Eq)]
+pub enum AbsValue {
+    Number { value: u16 },
+    Constant { place: u16 },
+    Named { class: u8 },
+    Rest { gap: u8 },
+    Undefined,
+}
+
+/// An abstract state: a value for each element of a problem, in their order.
+#[derive(Drop)]
+pub struct AbsState {
+    pub values: Seq<AbsValue>,
+}
+
+/// What is demanded at a time: the definition of an element, or the body of a claim at these classes of its parameters.
+#[derive(Drop)]
+pub enum Demand {
+    Defined {
+        element: Element,
+        init: Flat,
+        next: Flat,
+        comb: Flat,
+    },
+    Holds {
+        body: FlatExpr,
+        bindings: Seq<Class>,
+    },
+}
+
+/// The problem of a case: its elements in cone order, the families of the design, how many constants each enumeration has, the abstract form of each set type,
+/// what is demanded at each time and at each but the last, the target, the guards and the classes of the leaf's parameters.
+#[derive(Drop)]
+pub struct Problem {
+    pub elements: Seq<Element>,
+    pub families: Seq<Family>,
+    pub lists: Seq<u16>,
+    pub types: Seq<AbsType>,
+    pub now: Seq<Demand>,
+    pub before: Seq<Demand>,
+    pub target: Demand,
+    pub guards: Seq<Guard>,
+    pub bindings: Seq<Class>,
+}

@@ -1,0 +1,165 @@
+//! Texts at each limit and past it.
+
+use crate::calls::{NOT_DECIDED, TOO_LARGE, answered};
+use std::alloc::{AllocError, Global};
+use std::test::Fail;
+
+// A form of a text, which has as many parts as one likes.
+#[derive(Clone, Copy, Debug, PartialEq)]
+enum Form {
+    /// A signal over this many constants.
+    Constants,
+    /// One list of constants three times, in a type and in a module that are not used too.
+    EqualLists,
+    /// One more constant, beside those of a type that is not used.
+    UnusedType,
+    /// The same of a module that is not used.
+    UnusedModule,
+    /// Signals.
+    Signals,
+    /// A loop of 255 loops of 255 blocks, and then a loop of this many blocks: 1 + 255 + 255 * 255 + 1 + count statements.
+    Blocks,
+    /// A `switch` with this many arms, each of which stands inside the one before.
+    Arms,
+    /// Names of types, each of a struct with the one before in it, and so two deep: itself and the type of its field; and
+    /// a signal of the last.
+    Types,
+    /// Blanks.
+    Blanks,
+}
+
+fn text_of(alloc: Global, form: Form, count: u32) -> Result<String, AllocError> {
+    match form {
+        Form::Constants | Form::EqualLists | Form::UnusedType | Form::UnusedModule => {
+            let names = enumeration(alloc, count)?;
+            over_constants(alloc, form, names.as_str())
+        }
+        Form::Signals => signals(alloc, count),
+        Form::Blocks => format!(in alloc;
+            "module main() {{ for (a = 0; a < 255; a = a + 1) for (b = 0; b < 255; b = b + 1) {{ }} for (c = 0; c < {count}; c = c + 1) {{ }} }}"
+        ),
+        Form::Arms => arms(alloc, count),
+        Form::Types => types(alloc, count),
+        Form::Blanks => repeated(alloc, " ", count),
+    }
+}
+
+fn repeated(alloc: Global, part: &str, count: u32) -> Result<String, AllocError> {
+    let mut text = String::new(alloc);
+    for _ in 0..count {
+        text.push_str(part)?;
+    }
+    Ok(text)
+}
+
+fn enumeration(alloc: Global, count: u32) -> Result<String, AllocError> {
+    let mut text = String::from_str(alloc, "{c0")?;
+    for number in 1..count {
+        text.push_str(&format!(in alloc; ",c{number}")?)?;
+    }
+    text.push_str("}")?;
+    Ok(text)
+}
+
+fn over_constants(alloc: Global, form: Form, names: &str) -> Result<String, AllocError> {
+    match form {
+        Form::EqualLists => format!(in alloc;
+            "module main() {{ x : {names}; }} typedef t {names}; module u() {{ y : {names}; }}"
+        ),
+        Form::UnusedType => format!(in alloc; "module main() {{ x : {{d}}; }} typedef t {names};"),
+        Form::UnusedModule => {
+            format!(in alloc; "module main() {{ x : {{d}}; }} module u() {{ y : {names}; }}")
+        }
+        _ => format!(in alloc; "module main() {{ x : {names}; }}"),
+    }
+}
+
+fn signals(alloc: Global, count: u32) -> Result<String, AllocError> {
+    let mut text = String::from_str(alloc, "module main() { ")?;
+    for number in 0..count {
+        text.push_str(&format!(in alloc; "x{number} : boolean; ")?)?;
+    }
+    text.push_str("}")?;
+    Ok(text)
+}
+
+fn arms(alloc: Global, count: u32) -> Result<String, AllocError> {
+    let arms = repeated(alloc, " 0 : y := 0;", count)?;
+    format!(in alloc; "module main() {{ x, y : boolean; switch (x) {{{arms} }} }}")
+}
+
+fn types(alloc: Global, count: u32) -> Result<String, AllocError> {
+    let mut text = String::from_str(alloc, "typedef a0 struct {f : boolean;}; ")?;
+    for number in 1..count {
+        let before = number - 1;
+        text.push_str(&format!(in alloc; "typedef a{number} struct {{f : a{before};}}; ")?)?;
+    }
+    let last = count.saturating_sub(1);
+    text.push_str(&format!(in alloc; "module main() {{ x : a{last}; }}")?)?;
+    Ok(text)
+}
+
+// A form with a number of parts, and its status and answer.
+type Row = (Form, u32, u8, &'static str);
+
+// The first of these texts that is answered otherwise.
+fn first_other(alloc: Global, rows: &[Row]) -> Result<Option<(Form, u32)>, AllocError> {
+    for (form, count, want, answer) in rows {
+        let text = text_of(alloc, *form, *count)?;
+        let (status, written) = answered(alloc, "prove", text.as_bytes())?;
+        if status != *want || written.as_slice() != answer.as_bytes() {
+            return Ok(Some((*form, *count)));
+        }
+    }
+    Ok(None)
+}
+
+// Equal lists count once, and what is not used counts too.
+const CONSTANTS: &[Row] = &[
+    (Form::Constants, 4096, 3, NOT_DECIDED),
+    (Form::Constants, 4097, 3, TOO_LARGE),
+    (Form::EqualLists, 4096, 3, NOT_DECIDED),
+    (Form::EqualLists, 4097, 3, TOO_LARGE),
+    (Form::UnusedType, 4095, 3, NOT_DECIDED),
+    (Form::UnusedType, 4096, 3, TOO_LARGE),
+    (Form::UnusedModule, 4095, 3, NOT_DECIDED),
+    (Form::UnusedModule, 4096, 3, TOO_LARGE),
+];
+
+const THINGS: &[Row] = &[
+    (Form::Signals, 4096, 3, NOT_DECIDED),
+    (Form::Signals, 4097, 3, TOO_LARGE),
+    (Form::Blocks, 254, 3, NOT_DECIDED),
+    (Form::Blocks, 255, 3, TOO_LARGE),
+    (Form::Blanks, 1_048_576, 3, "fault 9 at line 1 column 1\n"),
+    (Form::Blanks, 1_048_577, 3, "fault 31 at line 1 column 1\n"),
+];
+
+// Statements stand up to 1,000 deep inside one another, and the types that a text names up to 10,000 deep together; deeper
+// ones want more stack than there may be.
+const DEPTHS: &[Row] = &[
+    (Form::Arms, 999, 3, NOT_DECIDED),
+    (Form::Arms, 1000, 7, ""),
+    (Form::Types, 5000, 3, NOT_DECIDED),
+    (Form::Types, 5001, 7, ""),
+];
+
+#[test]
+fn as_many_constants_as_the_limit_and_one_more(rt: HostRuntime) -> Result<(), Fail> {
+    assert_eq!(rt; first_other(rt.alloc(), CONSTANTS)?, None);
+    Ok(())
+}
+
+#[test]
+fn as_many_signals_statements_and_bytes_as_the_limit_and_one_more(
+    rt: HostRuntime,
+) -> Result<(), Fail> {
+    assert_eq!(rt; first_other(rt.alloc(), THINGS)?, None);
+    Ok(())
+}
+
+#[test]
+fn as_deep_as_the_limit_and_one_deeper(rt: HostRuntime) -> Result<(), Fail> {
+    assert_eq!(rt; first_other(rt.alloc(), DEPTHS)?, None);
+    Ok(())
+}

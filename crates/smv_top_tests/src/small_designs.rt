@@ -1,0 +1,144 @@
+//! All designs of one signal with an `init`, a `next` and a claim of a few forms.
+
+use crate::calls::answered;
+use smv_core::{Refusal, Report, Verdict};
+use smv_parse::parse;
+use smv_two_states::{decide, first_design};
+use std::alloc::{AllocError, Global};
+use std::test::Fail;
+
+const TRUE: &str = "p: true\nproved 1 of 1\n";
+
+// False at time 0, where x is 0 or 1.
+const LOW: &str = "p: false at 0\n time 0: x = 0\nproved 0 of 1\n";
+
+const HIGH: &str = "p: false at 0\n time 0: x = 1\nproved 0 of 1\n";
+
+// False at time 1, to which x rises or falls.
+const RISES: &str = "p: false at 1\n time 0: x = 0\n time 1: x = 1\nproved 0 of 1\n";
+
+const FALLS: &str = "p: false at 1\n time 0: x = 1\n time 1: x = 0\nproved 0 of 1\n";
+
+const CLAIMS: &[&str] = &["x", "~x", "x | ~x", "x & ~x", "x -> ~x"];
+
+// The answers where x is 0 or 1 at time 0, and then 0 or 1.
+const AT_00: &[&str] = &[LOW, TRUE, TRUE, LOW, TRUE];
+
+const AT_01: &[&str] = &[LOW, RISES, TRUE, LOW, RISES];
+
+const AT_10: &[&str] = &[FALLS, HIGH, TRUE, HIGH, HIGH];
+
+const AT_11: &[&str] = &[TRUE, HIGH, TRUE, HIGH, HIGH];
+
+// The signal at time 0 reads itself.
+const ITSELF: &[&str] = &["fault 18 at line 1 column 30\n"; 5];
+
+// Each `init` and `next` with the answers to the claims.
+const TOGGLES: &[(&str, &str, &[&str])] = &[
+    ("0", "0", AT_00),
+    ("0", "1", AT_01),
+    ("0", "x", AT_00),
+    ("0", "~x", AT_01),
+    ("1", "0", AT_10),
+    ("1", "1", AT_11),
+    ("1", "x", AT_11),
+    ("1", "~x", AT_10),
+    ("~0 & 1", "0", AT_10),
+    ("~0 & 1", "1", AT_11),
+    ("~0 & 1", "x", AT_11),
+    ("~0 & 1", "~x", AT_10),
+    ("x", "~x", ITSELF),
+];
+
+#[test]
+fn all_small_toggles(rt: HostRuntime) -> Result<(), Fail> {
+    for (init, next, answers) in TOGGLES {
+        for (claim, answer) in CLAIMS.iter().zip(answers.iter()) {
+            let text = toggle(rt.alloc(), init, next, claim)?;
+            let (_, written) = answered(rt.alloc(), "prove", text.as_bytes())?;
+            assert_eq!(rt; written.as_slice(), answer.as_bytes(), "{text}");
+        }
+    }
+    Ok(())
+}
+
+fn toggle(alloc: Global, init: &str, next: &str, claim: &str) -> Result<String, AllocError> {
+    format!(in alloc;
+        "module main() {{ x : boolean; init(x) := {init}; next(x) := {next}; p : assert G ({claim}); }}"
+    )
+}
+
+// The same with the declaration behind the assignments.
+fn toggle_declared_last(
+    alloc: Global,
+    init: &str,
+    next: &str,
+    claim: &str,
+) -> Result<String, AllocError> {
+    format!(in alloc;
+        "module main() {{ init(x) := {init}; next(x) := {next}; x : boolean; p : assert G ({claim}); }}"
+    )
+}
+
+// The length of the path that is shown, or 0 where the claim is true; 9 where there is no such report.
+fn path_length(report: &Report) -> usize {
+    match report.units.as_slice() {
+        [unit] => match &unit.verdict {
+            Verdict::True => 0,
+            Verdict::False { path, .. } => path.len(),
+        },
+        _ => 9,
+    }
+}
+
+// The length of the path of the design that a text is, or 9 where it is none with two states.
+fn decided(alloc: Global, text: &str) -> Result<usize, Refusal> {
+    if text.len() > 1_048_576 {
+        return Err(Refusal::OutOfMemory);
+    }
+    let tree = parse(alloc, text.as_bytes())?;
+    match first_design(&tree) {
+        Some(design) => Ok(path_length(&decide(alloc, &design)?)),
+        None => Ok(9),
+    }
+}
+
+// The length of a path among the answers.
+fn length_in(answer: &str) -> usize {
+    if answer == TRUE {
+        0
+    } else if answer == LOW || answer == HIGH {
+        1
+    } else if answer == RISES || answer == FALLS {
+        2
+    } else {
+        9
+    }
+}
+
+#[test]
+fn each_small_design_has_its_verdict(rt: HostRuntime) -> Result<(), Fail> {
+    for (init, next, answers) in TOGGLES {
+        for (claim, answer) in CLAIMS.iter().zip(answers.iter()) {
+            let text = toggle_declared_last(rt.alloc(), init, next, claim)?;
+            let length = decided(rt.alloc(), text.as_str())?;
+            assert_eq!(rt; length, length_in(answer), "{text}");
+        }
+    }
+    Ok(())
+}
+
+// A second `init` makes no design with two states, and a long chain is no deep recursion.
+#[test]
+fn other_designs_are_decided_too(rt: HostRuntime) -> Result<(), Fail> {
+    let twice =
+        "module main() { init(x) := 0; next(x) := 0; x : boolean; init(x) := 0; p : assert G 1; }";
+    assert_eq!(rt; decided(rt.alloc(), twice)?, 9);
+    let mut chain = String::from_str(rt.alloc(), "1")?;
+    for _ in 0..100_000 {
+        chain.push_str(" & 1")?;
+    }
+    let long = toggle_declared_last(rt.alloc(), "0", "0", chain.as_str())?;
+    assert_eq!(rt; decided(rt.alloc(), long.as_str())?, 0);
+    Ok(())
+}
