@@ -1,0 +1,17 @@
+-- Kinds and operands as the code holds them.
+use Rattle.std.specs.Prelude.{Some, true}
+use Rattle.law_flat_kinds.specs.FlatKinds.{Kind as Sort, number, enumeration, set_type}
+use Rattle.law_set_types.specs.Operands.{Operand as Met}
+use Rattle.smv_symmetric.specs.declared.kinds.Kind.{Kind}
+use Rattle.smv_symmetric.specs.declared.kinds.Kind.TheVariants.{Number, Enumeration, SetType}
+use Rattle.smv_symmetric.specs.declared.operands.Operand.{Operand}
+
+-- the kind that is held
+abbrev pub held : Kind → Sort
+held Number = number
+held (Enumeration list) = enumeration list
+held (SetType set) = set_type set
+
+-- the operand that is held
+abbrev pub as_met : Operand → Met
+as_met x = record { kind = Some (held x.kind); at = x.at; is_loop = x.is_loop }
