@@ -7,7 +7,7 @@ use Rattle.graph_search.specs.Walks.{Walk}
 abbrev pub IsSeen : List Bool → ℕ → Type 0
 IsSeen seen x = slice_index_or seen x false ≡ true
 
--- all that is in a queue was seen, and none of it twice
+-- all that is in a queue was seen, and it is no longer than there are nodes seen
 pub record IsQueue (seen : List Bool) (queue : List ℕ) : Type 0 where
   pub few : length queue ≤ count_by (λ flag. flag) seen
   pub marked : (x : ℕ) → Contains queue x → IsSeen seen x
