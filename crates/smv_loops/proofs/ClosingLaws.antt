@@ -1,7 +1,9 @@
 -- The first assignment with which there is a loop.
-use Rattle.std.proofs.Common.{◌≡◌, ℕ, zero, suc, ◌+◌, ◌<◌, ◌≤◌, List, [], ◌∷◌, ◌++◌, map, filter, length, get_or, take, Some, None, Bool, true, false, cond, refl, sym, ap, ◌∙◌, arith}
+use Rattle.std.proofs.Common.{◌≡◌, ℕ, zero, suc, ◌+◌, ◌-◌, ◌<◌, ◌≤◌, List, [], ◌∷◌, ◌++◌, map, filter, length, get_or, take, Some, None, Bool, true, false, cond, refl, sym, ap, ◌∙◌, arith}
 use Rattle.std.specs.List.{flat_map}
-use Rattle.std.proofs.lemmas.List.{append-nil, append_assoc, map-append}
+use Rattle.std.proofs.lemmas.List.{append-nil, append_assoc, map-append, length-append}
+use Rattle.std.proofs.lemmas.List.{get_or_read}
+use Rattle.std.proofs.Math.Seq.{take-append-add}
 use Rattle.smv_core.specs.declared.flat.Family.{Family}
 use Rattle.smv_core.specs.declared.flat.Design.{Design}
 use Rattle.law_loops_and_layers.specs.Reading.{Reading}
@@ -9,97 +11,159 @@ use Rattle.law_loops_and_layers.specs.Loops.{Edge, hold_a_cycle, edges_of, closi
 use Rattle.smv_instances.specs.FirstFault.{first_of, faults_at}
 use Rattle.law_loops_and_layers.specs.FirstFault.{first_fault_of_loops}
 use Rattle.smv_loops.specs.declared.ranks.Links.{Links}
-use Rattle.smv_loops.specs.Ranks.{rank, AreBelow, AreSettled}
+use Rattle.smv_loops.specs.declared.rows.Row.{Row}
+use Rattle.smv_loops.specs.Ranks.{rank, IsHeldUp, AreSettled}
 use Rattle.smv_loops.specs.Bases.{undelayed_of}
 use Rattle.smv_loops.specs.Held.{assigned_in}
-use Rattle.smv_loops.specs.Cells.{base, number_in, froms}
-use Rattle.smv_loops.specs.Edges.{AreLinks, AllLinks, edges_at, IsFirst}
-use Rattle.smv_loops.proofs.Members.{In, in-get_or, in-mapped, in-same}
+use Rattle.smv_loops.specs.Cells.{number_in}
+use Rattle.smv_loops.specs.Numbers.{AreBases}
+use Rattle.smv_loops.specs.Rows.{stands_for}
+use Rattle.smv_loops.specs.Edges.{total, AreRowLinks, AreLinks, AllLinks, AreAdded, AreShown, edges_at, IsFirst}
+use Rattle.smv_loops.proofs.Members.{In}
 use Rattle.smv_loops.proofs.Slices.{take-more}
-use Rattle.smv_loops.proofs.TableLaws.{table_from, length-table, get-from, get-to, get-inside}
+use Rattle.smv_loops.proofs.TableLaws.{table_from, length-table, get-from, get-to}
 use Rattle.smv_loops.proofs.RankLaws.{clash}
-use Rattle.smv_loops.proofs.CycleLaws.{none-held, one-held, edge-falls, fewer-edges}
+use Rattle.smv_loops.proofs.CycleLaws.{AreFallingAll, none-held, one-held, edge-falls, fewer-edges}
+use Rattle.smv_loops.proofs.RowLaws.{stands-alone}
+use Rattle.smv_loops.proofs.GroupLaws.{falling, open-cell, stuck-cell}
 
 module _ (families : List Family) where
-  abbrev all_cells : ℕ
-  all_cells = base families (length families)
+  abbrev edges_in : List Reading → List Edge
+  edges_in readings = flat_map (edges_at families) readings
 
-  -- what the ranks say of the edges
-  pub decided : (cells : ℕ) (links : List Links) (ranks : List ℕ) (readings : List Reading) (b : Bool) → cells ≡ base families (length families) → AreBelow cells links → AreSettled cells links ranks → AllLinks families links readings
-      → (b ≡ true → (cell : ℕ) × (cell < length ranks) × (rank ranks cell ≡ 0)) → (b ≡ false → (cell : ℕ) → cell < length ranks → 0 < rank ranks cell) → b ≡ hold_a_cycle (flat_map (edges_at families) readings)
-  decided cells links ranks readings true e below s all some none =
-      let h = some refl in
-      let l = h.1 in
-      let r = s.room in
-      let t = length-table 0 families in
-      sym (one-held families cells ranks links readings all (table_from 0 families) (omega (arith, t, e)) (get-from families) (get-to families) s.stuck h.0 (omega (arith, l, r)) h.2)
-  decided cells links ranks readings false e below s all some none =
-      let r = s.room in
-      sym (none-held families cells ranks links readings all below s.fall (λ cell l. none refl cell (omega (arith, l, r))))
+  module _ (nodes rows : ℕ) (links : List Links) (ranks : List ℕ) (readings : List Reading) (e : nodes ≡ total families + rows) (s : AreSettled nodes links ranks) (shown : AreShown families rows links readings) where
+    stuck : (n : ℕ) → n < total families + rows → rank ranks n ≡ 0 → IsHeldUp ranks links n
+    stuck n l z = s.stuck n (omega (arith, l, e)) z
 
-  module _ (cells : ℕ) (links : List Links) (ranks : List ℕ) (readings : List Reading) (e : cells ≡ base families (length families)) (s : AreSettled cells links ranks) (all : AllLinks families links readings) (none : hold_a_cycle (flat_map (edges_at families) readings) ≡ false) where
-    -- without a cycle each cell has a rank
-    all-ranked : (cell : ℕ) → cell < cells → 0 < rank ranks cell
-    all-ranked cell l = by (rank ranks cell) refl
-      where
-        by : (r : ℕ) → rank ranks cell ≡ r → 0 < r
-        by zero z =
-            let t = length-table 0 families in
-            let held = one-held families cells ranks links readings all (table_from 0 families) (omega (arith, t, e)) (get-from families) (get-to families) s.stuck cell l z in
-            absurd (clash held none)
-        by (suc r) z = omega arith
+    -- a number without a rank shows a cycle
+    open-held : (n : ℕ) → n < nodes → rank ranks n ≡ 0 → hold_a_cycle (edges_in readings) ≡ true
+    open-held n l z =
+        let r = open-cell families rows links readings shown ranks stuck (suc n) n (omega arith) (omega (arith, l, e)) z in
+        one-held families (total families) ranks readings (table_from 0 families) (length-table 0 families) (get-from families) (get-to families) (stuck-cell families rows links readings shown ranks stuck) r.0 r.1 r.3
 
-    -- and each edge leads to a smaller one
-    pub edges-fall : AreBelow cells links → (edge : Edge) → In edge (flat_map (edges_at families) readings) → rank ranks (number_in families edge.1) < rank ranks (number_in families edge.0)
-    edges-fall below edge i = edge-falls families cells ranks links readings all below s.fall all-ranked edge i
+    all-fall : ((n : ℕ) → n < nodes → 0 < rank ranks n) → AreFallingAll families (total families) ranks readings
+    all-fall all = falling families rows links readings shown ranks s.fall (λ n l. all n (omega (arith, l, e)))
+
+    -- what the ranks say of the edges
+    pub decided : (b : Bool) → (b ≡ true → (cell : ℕ) × (cell < length ranks) × (rank ranks cell ≡ 0)) → (b ≡ false → (cell : ℕ) → cell < length ranks → 0 < rank ranks cell) → b ≡ hold_a_cycle (edges_in readings)
+    decided true some none =
+        let h = some refl in
+        let l = h.1 in
+        let r = s.room in
+        sym (open-held h.0 (omega (arith, l, r)) h.2)
+    decided false some none =
+        let r = s.room in
+        sym (none-held families (total families) ranks readings (all-fall (λ n l. none refl n (omega (arith, l, r)))))
+
+    module _ (none : hold_a_cycle (edges_in readings) ≡ false) where
+      -- without a cycle each number has a rank
+      all-ranked : (n : ℕ) → n < nodes → 0 < rank ranks n
+      all-ranked n l = by (rank ranks n) refl
+        where
+          by : (r : ℕ) → rank ranks n ≡ r → 0 < r
+          by zero z = absurd (clash (open-held n l z) none)
+          by (suc r) z = omega arith
+
+      -- and each edge leads to a smaller one
+      pub edges-fall : (edge : Edge) → In edge (edges_in readings) → rank ranks (number_in families edge.1) < rank ranks (number_in families edge.0)
+      edges-fall edge i = edge-falls families (total families) ranks readings (all-fall all-ranked) edge i
 
   -- ---- links side by side
 
-  pub length-links : (links : List Links) (readings : List Reading) → AllLinks families links readings → length links ≡ length readings
-  length-links [] [] h = refl
-  length-links [] (a ∷ more) h = absurd h
-  length-links (x ∷ links) [] h = absurd h
-  length-links (x ∷ links) (a ∷ more) h = ap suc (length-links links more h.1)
+  module _ (stands : ℕ → List ℕ) (nodes : ℕ) where
+    length-links : (links : List Links) (readings : List Reading) → AllLinks families stands nodes links readings → length links ≡ length readings
+    length-links [] [] h = refl
+    length-links [] (a ∷ more) h = absurd h
+    length-links (x ∷ links) [] h = absurd h
+    length-links (x ∷ links) (a ∷ more) h = ap suc (length-links links more h.1)
 
-  pub links-push : (links : List Links) (readings : List Reading) (link : Links) (a : Reading) → AllLinks families links readings → AreLinks families link a → AllLinks families (links ++ link ∷ []) (readings ++ a ∷ [])
-  links-push [] [] link a h l = (l, tt)
-  links-push [] (b ∷ more) link a h l = absurd h
-  links-push (x ∷ links) [] link a h l = absurd h
-  links-push (x ∷ links) (b ∷ more) link a h l = (h.0, links-push links more link a h.1 l)
+    links-push : (links : List Links) (readings : List Reading) (link : Links) (a : Reading) → AllLinks families stands nodes links readings → AreLinks families stands nodes link a → AllLinks families stands nodes (links ++ link ∷ []) (readings ++ a ∷ [])
+    links-push [] [] link a h l = (l, tt)
+    links-push [] (b ∷ more) link a h l = absurd h
+    links-push (x ∷ links) [] link a h l = absurd h
+    links-push (x ∷ links) (b ∷ more) link a h l = (h.0, links-push links more link a h.1 l)
 
-  pub links-more : {H : Type 0} (f : H → Reading) (held : List H) (i : ℕ) (x : H) (links after : List Links) (link : Links) → i < length held → x ≡ get_or held i x → AllLinks families links (map f (take i held)) → AreLinks families link (f x) → after ≡ links ++ link ∷ [] → AllLinks families after (map f (take (i + 1) held))
-  links-more f held i x links after link l e h a s = rw s (rw (ap (map f) (take-more held i x l e) ∙ map-append f (take i held) (x ∷ [])) (links-push links (map f (take i held)) link (f x) h a))
+    links-take : (n : ℕ) (links : List Links) (readings : List Reading) → AllLinks families stands nodes links readings → AllLinks families stands nodes (take n links) (take n readings)
+    links-take zero links readings h = tt
+    links-take (suc n) [] [] h = tt
+    links-take (suc n) [] (b ∷ more) h = absurd h
+    links-take (suc n) (x ∷ links) [] h = absurd h
+    links-take (suc n) (x ∷ links) (b ∷ more) h = (h.0, links-take n links more h.1)
 
-  pub links-take : (n : ℕ) (links : List Links) (readings : List Reading) → AllLinks families links readings → AllLinks families (take n links) (take n readings)
-  links-take zero links readings h = tt
-  links-take (suc n) [] [] h = tt
-  links-take (suc n) [] (b ∷ more) h = absurd h
-  links-take (suc n) (x ∷ links) [] h = absurd h
-  links-take (suc n) (x ∷ links) (b ∷ more) h = (h.0, links-take n links more h.1)
+    pub added-none : (old : List Links) → AreAdded families stands nodes old old []
+    added-none old = record { own = []; split = sym (append-nil old); links = tt }
 
-  pub links-below : (links : List Links) (readings : List Reading) → AllLinks families links readings → (j : ℕ) (d : Links) → j < length links → (a : ℕ) → a < length (get_or links j d).from.items → get_or (get_or links j d).from.items a 0 < base families (length families)
-  links-below [] readings h j d l a m = absurd (omega (arith, l))
-  links-below (x ∷ links) [] h j d l a m = absurd h
-  links-below (x ∷ links) (b ∷ more) h zero d l a m =
-      let r = in-mapped (number_in families) (get_or x.from.items a 0) (froms families b) (in-same (get_or x.from.items a 0) x.from.items (map (number_in families) (froms families b)) h.0.0 (in-get_or x.from.items a 0 m)) in
-      let i = get-inside (table_from 0 families) (number_in families r.0) r.0 (get-from families b r.0 r.1) in
-      let t = length-table 0 families in
-      let e = r.2 in
-      omega (arith, i, t, e)
-  links-below (x ∷ links) (b ∷ more) h (suc j) d l a m = links-below links more h.1 j d (omega (arith, l)) a m
+    pub added-more : {H : Type 0} (f : H → Reading) (held : List H) (i : ℕ) (x : H) (old new after : List Links) (link : Links) → i < length held → x ≡ get_or held i x → AreAdded families stands nodes old new (map f (take i held)) → AreLinks families stands nodes link (f x) → after ≡ new ++ link ∷ [] → AreAdded families stands nodes old after (map f (take (i + 1) held))
+    added-more f held i x old new after link l e h a s = record {
+      own = h.own ++ link ∷ [];
+      split = s ∙ ap (λ l. l ++ link ∷ []) h.split ∙ append_assoc old h.own (link ∷ []);
+      links = rw (ap (map f) (take-more held i x l e) ∙ map-append f (take i held) (x ∷ [])) (links-push h.own (map f (take i held)) link (f x) h.links a);
+    }
 
-  -- ---- between
+  -- ---- links of rows and of assignments
 
-  pub is-first : (links : List Links) (readings : List Reading) (low high : ℕ) → AllLinks families links readings → high ≡ low + 1 → high ≤ length links → hold_a_cycle (flat_map (edges_at families) (take low readings)) ≡ false → hold_a_cycle (flat_map (edges_at families) (take high readings)) ≡ true → IsFirst families readings low
-  is-first links readings low high all e l f t =
-      let n = length-links links readings all in
-      (omega (arith, n, e, l), f, ap (λ n. hold_a_cycle (flat_map (edges_at families) (take n readings))) (sym e) ∙ t)
+  pub cells-total : (bases : List ℕ) (n : ℕ) → AreBases families bases → n ≡ get_or bases (length families) n → n ≡ total families
+  cells-total bases n b is =
+      let room = b.room in
+      let l : length families < length bases = omega (arith, room) in
+      get_or_read bases (length families) n l is 0 ∙ b.each (length families) (omega arith)
 
-  pub take-whole : (links : List Links) (readings : List Reading) → AllLinks families links readings → take (length links) readings ≡ readings
-  take-whole [] [] h = refl
-  take-whole [] (b ∷ more) h = absurd h
-  take-whole (x ∷ links) [] h = absurd h
-  take-whole (x ∷ links) (b ∷ more) h = ap (λ l. b ∷ l) (take-whole links more h.1)
+  pub all-shown : (rows : List Row) (cells : ℕ) (of_rows all : List Links) (readings : List Reading) → cells ≡ total families → length of_rows ≡ length rows → AreRowLinks (stands_for families rows) cells of_rows → AreAdded families (stands_for families rows) (total families + length rows) of_rows all readings → AreShown families (length rows) all readings
+  all-shown rows cells of_rows all readings e n r a = record {
+    stands = stands_for families rows;
+    of_rows = of_rows;
+    own = a.own;
+    split = a.split;
+    count = n;
+    alone = stands-alone families rows;
+    row_links = rw e at r;
+    own_links = a.links;
+  }
+
+  -- ---- some of the assignments
+
+  module _ (rows : ℕ) (links : List Links) (readings : List Reading) (s : AreShown families rows links readings) where
+    pub length-shown : length links ≡ rows + length readings
+    length-shown =
+        let a = ap (λ (l : List Links). length l) s.split in
+        let b = length-append s.of_rows s.own in
+        let c = s.count in
+        let d = length-links s.stands (total families + rows) s.own readings s.own_links in
+        omega (arith, a, b, c, d)
+
+    pub shown-take : (k : ℕ) → AreShown families rows (take (rows + k) links) (take k readings)
+    shown-take k = record {
+      stands = s.stands;
+      of_rows = s.of_rows;
+      own = take k s.own;
+      split = ap (take (rows + k)) s.split ∙ ap (λ r. take (r + k) (s.of_rows ++ s.own)) (sym s.count) ∙ take-append-add s.of_rows s.own k;
+      count = s.count;
+      alone = s.alone;
+      row_links = s.row_links;
+      own_links = links-take s.stands (total families + rows) k s.own readings s.own_links;
+    }
+
+    pub is-first : (low high : ℕ) → high ≡ low + 1 → rows + high ≤ length links → hold_a_cycle (edges_in (take low readings)) ≡ false → hold_a_cycle (edges_in (take high readings)) ≡ true → IsFirst families readings low
+    is-first low high e l f t =
+        let n = length-shown in
+        (omega (arith, n, e, l), f, ap (λ n. hold_a_cycle (edges_in (take n readings))) (sym e) ∙ t)
+
+    pub take-whole : take (length links - rows) readings ≡ readings
+    take-whole =
+        let n = length-shown in
+        let e : length links - rows ≡ length readings = omega (arith, n) in
+        ap (λ n. take n readings) e ∙ take-all readings
+      where
+        take-all : (xs : List Reading) → take (length xs) xs ≡ xs
+        take-all [] = refl
+        take-all (x ∷ xs) = ap (λ l. x ∷ l) (take-all xs)
+
+    pub none-shown : length links ≤ rows → hold_a_cycle (edges_in readings) ≡ false
+    none-shown l = let n = length-shown in at readings (omega (arith, n, l))
+      where
+        at : (xs : List Reading) → length xs ≡ 0 → hold_a_cycle (edges_in xs) ≡ false
+        at [] e = refl
+        at (x ∷ xs) e = absurd (omega (arith, e))
 
 -- ---- the place at which there is a loop
 

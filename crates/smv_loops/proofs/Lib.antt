@@ -10,6 +10,8 @@ pub mod CycleLaws
 pub mod Slices
 pub mod TableLaws
 pub mod SortLaws
+pub mod RowLaws
+pub mod GroupLaws
 pub mod ClosingLaws
 pub mod WayLaws
 pub mod OrderLaws

@@ -3,5 +3,6 @@ pub mod Ranks
 pub mod Cells
 pub mod Numbers
 pub mod Bases
+pub mod Rows
 pub mod Edges
 pub mod Order

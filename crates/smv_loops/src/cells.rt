@@ -1,16 +1,20 @@
 // The cells of a design by their numbers.
 ghost use Rattle.std.specs.Prelude.{◌≡◌, ◌+◌, ◌*◌, ◌∷◌, ◌++◌, ℕ, ◌<◌, map, flat_map, length, slice_get, slice_index, IfOk, OnOk};
+ghost use Rattle.std.specs.List.{All};
 ghost use Rattle.smv_core.specs.Assignments.{computed, fits};
 ghost use Rattle.smv_core.specs.Values.{number};
 ghost use Rattle.law_loops_and_layers.specs.Loops as loops;
 ghost use Rattle.law_loops_and_layers.specs.Loops.{at_index, cells_of};
-ghost use Rattle.smv_loops.specs.Cells.{picked, every, place, base, number_in, froms, tos};
+ghost use Rattle.smv_loops.specs.Cells.{picked, every, place, base, number_in};
+ghost use Rattle.smv_loops.specs.Edges.{AreLinks, total};
 ghost use Rattle.smv_loops.specs.Held.{index_in, index_of, reading_of};
 ghost use Rattle.smv_loops.specs.Numbers.{AreBases, digit_places, places, range_places, single_places};
+ghost use Rattle.smv_loops.specs.Rows.{IsRow, stands_for};
 
 use crate::index::{Index, known};
 use crate::ranks::Links;
 use crate::reading::Held;
+use crate::rows::{Rows, nodes};
 use smv_core::flat::{Family, FlatExpr, Simple};
 use std::alloc::{AllocError, Global};
 
@@ -64,47 +68,55 @@ pub fn step(start: usize, digit: usize, size: usize) -> Result<usize, AllocError
     start.checked_add(behind).ok_or(AllocError)
 }
 
-/// The numbers of the cells that an assignment concerns and reads.
+/// The number so many behind a start.
+pub fn behind(start: usize, many: usize) -> Result<usize, AllocError>
+    ensures { IfOk result (λ next. next ≡ start + many) }
+{
+    start.checked_add(many).ok_or(AllocError)
+}
+
+/// What an assignment concerns and reads: the numbers of its cells, and those that stand for the cells that it reads.
 pub fn links(
     alloc: Global,
     families: &[Family],
     bases: &[usize],
+    rows: &Rows,
     held: &Held,
 ) -> Result<Links, AllocError>
-    requires { AreBases families.now bases.now }
-    ensures from { IfOk result (λ links. links.from.items ≡ map (number_in families.now) (froms families.now (reading_of held.now))) }
-    ensures to { IfOk result (λ links. links.to.items ≡ map (number_in families.now) (tos families.now (reading_of held.now))) }
+    requires bases { AreBases families.now bases.now }
+    requires rows { All (IsRow families.now) rows.now.rows.items }
+    ensures { IfOk result (λ links. AreLinks families.now (stands_for families.now rows.now.rows.items) (total families.now + length rows.now.rows.items) links (reading_of held.now)) }
 {
+    let left = all_known(alloc, held.left)?;
     let mut from = Vec::new(alloc);
-    cells(alloc, &mut from, families, bases, held.family, held.left)?;
+    cells_at(&mut from, families, bases, held.family, left.as_slice())?;
     let mut to = Vec::new(alloc);
     for read in &held.reads {
-        cells(alloc, &mut to, families, bases, read.family, read.indexes)?;
+        nodes(alloc, &mut to, families, bases, rows, *read)?;
     }
     Ok(Links { from, to })
 }
 
-// The numbers of a family's cells with these indexes.
-fn cells(
-    alloc: Global,
+/// The numbers of a family's cells with these indexes.
+pub fn cells_at(
     out: &mut Vec<usize>,
     families: &[Family],
     bases: &[usize],
     family: u16,
-    indexes: &[FlatExpr],
+    indexes: &[Index],
 ) -> Result<(), AllocError>
     requires { AreBases families.now bases.now }
-    ensures { OnOk result (out.new.items ≡ out.old.items ++ map (number_in families.now) (cells_of (slice_get families.now family) family (map index_in indexes.now))) }
+    ensures { OnOk result (out.new.items ≡ out.old.items ++ map (number_in families.now) (cells_of (slice_get families.now family) family (map index_of indexes.now))) }
 {
     let place = usize::from(family);
     let Some(shape) = families.get(place) else {
         return Ok(());
     };
-    let indexes = all_known(alloc, indexes)?;
-    numbers(out, shape.over.as_slice(), indexes.as_slice(), bases[place])
+    numbers(out, shape.over.as_slice(), indexes, bases[place])
 }
 
-fn all_known(alloc: Global, indexes: &[FlatExpr]) -> Result<Vec<Index>, AllocError>
+/// What is known of each index.
+pub fn all_known(alloc: Global, indexes: &[FlatExpr]) -> Result<Vec<Index>, AllocError>
     ensures { IfOk result (λ known. map index_of known.items ≡ map index_in indexes.now) }
 {
     let mut all = Vec::new(alloc);
@@ -228,7 +240,8 @@ fn does_fit(index: Index, k: usize) -> bool
     }
 }
 
-fn is_constant(index: Index) -> bool
+/// An index is a constant.
+pub fn is_constant(index: Index) -> bool
     ensures { result ≡ loops.is_constant (index_of index) }
 {
     matches!(index, Index::Fixed { .. })

@@ -12,4 +12,5 @@ pub mod loops;
 pub mod order;
 pub mod ranks;
 pub mod reading;
+pub mod rows;
 pub mod ways;

@@ -1,22 +1,24 @@
 // Loops without delay.
-ghost use Rattle.std.specs.Prelude.{◌≡◌, ℕ, ◌<◌, ◌≤◌, List, length, map, take, flat_map, true, false, None, Some, IfOk, MatchOption};
+ghost use Rattle.std.specs.Prelude.{◌≡◌, ℕ, ◌+◌, ◌<◌, ◌≤◌, List, length, map, take, flat_map, true, false, None, Some, IfOk, OnOk, MatchOption};
+ghost use Rattle.std.specs.List.{All};
 ghost use Rattle.std.specs.List.Sorted.{IsPermutation};
 ghost use Rattle.law_loops_and_layers.specs.FirstFault.{first_fault_of_loops};
 ghost use Rattle.law_loops_and_layers.specs.Loops as spec;
 ghost use Rattle.law_loops_and_layers.specs.Reading.{Reading};
-ghost use Rattle.smv_loops.specs.Cells.{base};
-ghost use Rattle.smv_loops.specs.Edges.{AllLinks, IsFirst, edges_at};
+ghost use Rattle.smv_loops.specs.Edges.{AreAdded, AreShown, IsFirst, edges_at, total};
 ghost use Rattle.smv_loops.specs.Held.{reading_of};
 ghost use Rattle.smv_loops.specs.Numbers.{AreBases};
 ghost use Rattle.smv_loops.specs.Order.{AreAfterTheirReads, IfFault, IsOrder, cells_from};
 ghost use Rattle.smv_loops.specs.Ranks.{AreBelow, rank};
+ghost use Rattle.smv_loops.specs.Rows.{IsRow, stands_for};
 
 use crate::base::undelayed;
-use crate::cells::{bases, links};
+use crate::cells::{bases, behind, links};
 use crate::listed::{cells_of, list_all, sorted};
 use crate::order::in_flat_order;
 use crate::ranks::{Links, ranks};
 use crate::reading::Held;
+use crate::rows::{Rows, row_links, rows_read};
 use smv_core::fault::{Fault, Refusal};
 use smv_core::flat::{Cell, Design, Family};
 use smv_core::seq::Seq;
@@ -71,11 +73,9 @@ fn ordered(alloc: Global, families: &[Family], held: &[Held]) -> Result<Seq<Cell
     ensures same { IfOk result (λ cells. IsPermutation (cells_from 0 families.now) cells) }
     ensures after { IfOk result (λ cells. AreAfterTheirReads (flat_map (edges_at families.now) (map reading_of held.now)) cells) }
 {
-    let bases = bases(alloc, families)?;
-    let links = all_links(alloc, families, bases.as_slice(), held)?;
-    let cells = bases[families.len()];
-    let ranks = ranks(alloc, cells, links.as_slice())?;
-    let listed = list_all(alloc, families, bases.as_slice(), ranks.as_slice())?;
+    let graph = graph(alloc, families, held)?;
+    let ranks = ranks(alloc, graph.nodes, graph.links.as_slice())?;
+    let listed = list_all(alloc, families, graph.bases.as_slice(), ranks.as_slice())?;
     cells_of(alloc, sorted(listed)?)
 }
 
@@ -83,48 +83,84 @@ fn ordered(alloc: Global, families: &[Family], held: &[Held]) -> Result<Seq<Cell
 fn first_of(alloc: Global, families: &[Family], held: &[Held]) -> Result<Option<usize>, AllocError>
     ensures { IfOk result (λ first. MatchOption first (spec.hold_a_cycle (flat_map (edges_at families.now) (map reading_of held.now)) ≡ false) (λ k. IsFirst families.now (map reading_of held.now) k)) }
 {
-    let bases = bases(alloc, families)?;
-    let links = all_links(alloc, families, bases.as_slice(), held)?;
-    let cells = bases[families.len()];
-    first_closing(alloc, families, cells, links.as_slice())
+    let graph = graph(alloc, families, held)?;
+    first_closing(
+        alloc,
+        families,
+        graph.nodes,
+        graph.rows,
+        graph.links.as_slice(),
+    )
+}
+
+/// Where the numbers of families begin, how many numbers and how many rows there are, and the links of the rows and then of the assignments.
+#[derive(Drop)]
+pub struct Linked {
+    pub bases: Vec<usize>,
+    pub nodes: usize,
+    pub rows: usize,
+    pub links: Vec<Links>,
 }
 
 // The links of all of these assignments.
-fn all_links(
+fn graph(alloc: Global, families: &[Family], held: &[Held]) -> Result<Linked, AllocError>
+    ensures bases { IfOk result (λ graph. AreBases families.now graph.bases.items) }
+    ensures nodes { IfOk result (λ graph. graph.nodes ≡ total families.now + graph.rows) }
+    ensures links { IfOk result (λ graph. AreShown families.now graph.rows graph.links.items (map reading_of held.now)) }
+{
+    let bases = bases(alloc, families)?;
+    let rows = rows_read(alloc, families, bases.as_slice(), held)?;
+    let cells = bases[families.len()];
+    let nodes = behind(cells, rows.rows.len())?;
+    let mut links = row_links(alloc, families, cells, rows.rows.as_slice())?;
+    add_links(alloc, &mut links, families, bases.as_slice(), &rows, held)?;
+    Ok(Linked {
+        bases,
+        nodes,
+        rows: rows.rows.len(),
+        links,
+    })
+}
+
+// The links of these assignments, behind those of the rows.
+fn add_links(
     alloc: Global,
+    all: &mut Vec<Links>,
     families: &[Family],
     bases: &[usize],
+    rows: &Rows,
     held: &[Held],
-) -> Result<Vec<Links>, AllocError>
-    requires { AreBases families.now bases.now }
-    ensures { IfOk result (λ links. AllLinks families.now links.items (map reading_of held.now)) }
+) -> Result<(), AllocError>
+    requires bases { AreBases families.now bases.now }
+    requires rows { All (IsRow families.now) rows.now.rows.items }
+    ensures { OnOk result (AreAdded families.now (stands_for families.now rows.now.rows.items) (total families.now + length rows.now.rows.items) all.old.items all.new.items (map reading_of held.now)) }
 {
-    let mut all = Vec::new(alloc);
     for x in held {
-        all.push(links(alloc, families, bases, x)?)?;
+        all.push(links(alloc, families, bases, rows, x)?)?;
     }
-    Ok(all)
+    Ok(())
 }
 
 // The same by links.
 fn first_closing(
     alloc: Global,
     families: &[Family],
-    cells: usize,
+    nodes: usize,
+    rows: usize,
     links: &[Links],
 ) -> Result<Option<usize>, AllocError>
-    requires cells { cells ≡ base families.now (length families.now) }
-    requires below { AreBelow cells links.now }
-    ensures { (readings : List Reading) → AllLinks families.now links.now readings → IfOk result (λ first. MatchOption first (spec.hold_a_cycle (flat_map (edges_at families.now) readings) ≡ false) (λ k. IsFirst families.now readings k)) }
+    requires nodes { nodes ≡ total families.now + rows }
+    requires below { AreBelow nodes links.now }
+    ensures { (readings : List Reading) → AreShown families.now rows links.now readings → IfOk result (λ first. MatchOption first (spec.hold_a_cycle (flat_map (edges_at families.now) readings) ≡ false) (λ k. IsFirst families.now readings k)) }
 {
-    if links.is_empty() {
+    if links.len() <= rows {
         return Ok(None);
     }
-    let held = hold_a_cycle(alloc, families, cells, links)?;
+    let held = hold_a_cycle(alloc, families, nodes, rows, links)?;
     if !held {
         return Ok(None);
     }
-    let first = between(alloc, families, cells, links, 0, links.len())?;
+    let first = between(alloc, families, nodes, rows, links, 0, links.len() - rows)?;
     Ok(Some(first))
 }
 
@@ -132,26 +168,27 @@ fn first_closing(
 fn between(
     alloc: Global,
     families: &[Family],
-    cells: usize,
+    nodes: usize,
+    rows: usize,
     links: &[Links],
     low: usize,
     high: usize,
 ) -> Result<usize, AllocError>
-    requires cells { cells ≡ base families.now (length families.now) }
-    requires below { AreBelow cells links.now }
+    requires nodes { nodes ≡ total families.now + rows }
+    requires below { AreBelow nodes links.now }
     requires order { low < high }
-    requires high { high ≤ length links.now }
-    ensures { (readings : List Reading) → AllLinks families.now links.now readings → spec.hold_a_cycle (flat_map (edges_at families.now) (take low readings)) ≡ false → spec.hold_a_cycle (flat_map (edges_at families.now) (take high readings)) ≡ true → IfOk result (λ k. IsFirst families.now readings k) }
+    requires high { rows + high ≤ length links.now }
+    ensures { (readings : List Reading) → AreShown families.now rows links.now readings → spec.hold_a_cycle (flat_map (edges_at families.now) (take low readings)) ≡ false → spec.hold_a_cycle (flat_map (edges_at families.now) (take high readings)) ≡ true → IfOk result (λ k. IsFirst families.now readings k) }
 {
     if high - low <= 1 {
         return Ok(low);
     }
     let middle = low + (high - low) / 2;
-    let held = hold_a_cycle(alloc, families, cells, &links[..middle])?;
+    let held = hold_a_cycle(alloc, families, nodes, rows, &links[..rows + middle])?;
     if held {
-        between(alloc, families, cells, links, low, middle)
+        between(alloc, families, nodes, rows, links, low, middle)
     } else {
-        between(alloc, families, cells, links, middle, high)
+        between(alloc, families, nodes, rows, links, middle, high)
     }
 }
 
@@ -159,14 +196,15 @@ fn between(
 fn hold_a_cycle(
     alloc: Global,
     families: &[Family],
-    cells: usize,
+    nodes: usize,
+    rows: usize,
     links: &[Links],
 ) -> Result<bool, AllocError>
-    requires cells { cells ≡ base families.now (length families.now) }
-    requires below { AreBelow cells links.now }
-    ensures { (readings : List Reading) → AllLinks families.now links.now readings → IfOk result (λ held. held ≡ spec.hold_a_cycle (flat_map (edges_at families.now) readings)) }
+    requires nodes { nodes ≡ total families.now + rows }
+    requires below { AreBelow nodes links.now }
+    ensures { (readings : List Reading) → AreShown families.now rows links.now readings → IfOk result (λ held. held ≡ spec.hold_a_cycle (flat_map (edges_at families.now) readings)) }
 {
-    let ranks = ranks(alloc, cells, links)?;
+    let ranks = ranks(alloc, nodes, links)?;
     Ok(has_none(ranks.as_slice()))
 }
 
