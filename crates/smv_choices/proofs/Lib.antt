@@ -1,0 +1,4 @@
+pub mod PartLaws
+pub mod FaultLaws
+pub mod AnswerLaws
+pub mod StepLaws

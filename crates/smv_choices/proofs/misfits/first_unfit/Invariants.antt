@@ -1,0 +1,13 @@
+use Rattle.std.proofs.Common.{◌≡◌, map, drop, not}
+use Rattle.std.specs.List.{flat_map}
+use Rattle.smv_instances.specs.NameFaults.{place_if}
+use Rattle.smv_instances.specs.Scopes.{first_of_places}
+use Rattle.smv_scope.specs.ScopeFault.{least}
+use Rattle.smv_choices.specs.Parts as parts
+use Rattle.smv_choices.specs.Readings.{pair_of}
+use Rattle.smv_choices.proofs.misfits.first_unfit.Given as goal
+
+abbrev pub invariant-loop-word : goal.invariant-loop-word
+invariant-loop-word l =
+    first_of_places l.found (least (flat_map (λ word. place_if (not (parts.fits l.set (map pair_of l.proved) word)) word.at) (drop l.word-index l.names)))
+    ≡ least (flat_map (λ word. place_if (not (parts.fits l.set (map pair_of l.proved) word)) word.at) l.names)
