@@ -1,0 +1,20 @@
+//! What the words of a command line ask for, as data.
+//!
+//! For whoever reads the words and for the top call, which answers a command: neither needs to know how words are read. `specs/Ranges` has the ranges of its numbers.
+#![tactic(auto)]
+
+use smv_core::Name;
+use smv_problem::Budgets;
+
+/// What the words ask for.
+#[derive(Drop)]
+pub enum Command {
+    /// Decide all units of a design.
+    Prove { budgets: Budgets },
+    /// Decide the unit of this name alone.
+    Only { name: Name, budgets: Budgets },
+    /// Write the canonical spelling of a text.
+    Print,
+    /// Decide the generated design with so many copies.
+    Generated { copies: u16 },
+}
