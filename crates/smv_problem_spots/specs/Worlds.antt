@@ -1,0 +1,44 @@
+-- The worlds of which a problem speaks by numbers alone: there names are told apart exactly where their numbers are.
+use Rattle.std.specs.Prelude.{◌≡◌, ℕ, List, [], length, get_or, slice_get, Option, Some, None, Bool, true, false, ◌&&◌, ◌||◌, if◌then◌else◌, bytes_eq, nat_eq, nat_lt, nat_le}
+use Rattle.smv_core.specs.Values.{Name}
+use Rattle.smv_abstraction.specs.Places.{World}
+use Rattle.smv_abstraction.specs.declared.abstract_type.Rest.{Rest}
+use Rattle.smv_abstraction.specs.declared.abstract_type.Rest.TheVariants as beside
+use Rattle.smv_abstraction.specs.declared.abstract_type.AbsType.{AbsType}
+use Rattle.smv_spots.specs.Spots.{is_ordset, is_same_set, AreTypes}
+use Rattle.smv_problem.specs.declared.problem.Problem.{Problem}
+
+-- how many constants an enumeration has
+abbrev pub count_at : List ℕ → ℕ → ℕ
+count_at lists list = get_or lists list 0
+
+-- the name of a constant by its enumeration and its place there
+abbrev pub name_at : List (List Name) → ℕ → ℕ → Name
+name_at enums list k = get_or (get_or enums list []) k []
+
+-- one set type by two numbers; those that are not there count as one
+abbrev pub is_one_number : ℕ → ℕ → ℕ → Bool
+is_one_number count s t = nat_eq s t || (nat_le count s && nat_le count t)
+
+-- one constant by two enumerations and places; those that are not there count as one
+abbrev pub is_one_constant : List ℕ → ℕ → ℕ → ℕ → ℕ → Bool
+is_one_constant lists list k other m = if nat_lt k (count_at lists list) then nat_eq list other && nat_eq k m else nat_le (count_at lists other) m
+
+-- a set type with gaps, which is an ordset
+abbrev pub is_gaps : Rest → Bool
+is_gaps beside.Gaps = true
+is_gaps beside.One = false
+is_gaps beside.None = false
+
+abbrev pub has_gaps : Option AbsType → Bool
+has_gaps (Some t) = is_gaps t.rest
+has_gaps None = false
+
+-- a world with the families of the problem, as many constants, and the abstract forms of its set types, in which names differ where numbers do
+pub record IsWorldOf (p : Problem) (w : World) : Type 0 where
+  pub families : w.classes.families ≡ p.families
+  pub lists : (list : ℕ) → length (get_or w.classes.enums list []) ≡ count_at p.lists list
+  pub forms : AreTypes w w.classes.sets p.types
+  pub ordered : (set : ℕ) → is_ordset (slice_get w.classes.sets set) ≡ has_gaps (slice_get p.types set)
+  pub sets : (s t : ℕ) → is_same_set (slice_get w.classes.sets s) (slice_get w.classes.sets t) ≡ is_one_number (length p.types) s t
+  pub constants : (list k other m : ℕ) → bytes_eq (name_at w.classes.enums list k) (name_at w.classes.enums other m) ≡ is_one_constant p.lists list k other m

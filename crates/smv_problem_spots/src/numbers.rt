@@ -1,0 +1,88 @@
+// Set types and enumerations of a problem by their numbers.
+ghost use Rattle.std.specs.Prelude.{◌≡◌, length, slice_get};
+ghost use Rattle.smv_spots.specs.Spots.{classes_of, count_beside, rests_of};
+ghost use Rattle.smv_problem_spots.specs.Worlds.{count_at, is_one_number, is_one_constant, is_gaps, has_gaps};
+
+use smv_abstraction::abstract_type::Rest;
+use smv_problem::Problem;
+
+// Gaps around classes.
+fn is_gapped(rest: Rest) -> bool
+    ensures { result ≡ is_gaps rest }
+{
+    match rest {
+        Rest::None => false,
+        Rest::One => false,
+        Rest::Gaps => true,
+    }
+}
+
+/// Whether a set type is an ordset: it has gaps.
+pub fn is_ordered(problem: &Problem, set: u16) -> bool
+    ensures { result ≡ has_gaps (slice_get problem.entry.now.types set) }
+{
+    match problem.types.as_slice().get(set as usize) {
+        Some(t) => is_gapped(t.rest),
+        None => false,
+    }
+}
+
+/// Whether two numbers are those of one set type.
+pub fn is_one_set(problem: &Problem, set: u16, other: u16) -> bool
+    ensures { result ≡ is_one_number (length problem.entry.now.types) set other }
+{
+    let count = problem.types.len();
+    set == other || (count <= set as usize && count <= other as usize)
+}
+
+/// How many constants an enumeration has.
+pub fn constants(problem: &Problem, list: u16) -> u16
+    ensures { result ≡ count_at problem.entry.now.lists list }
+{
+    match problem.lists.as_slice().get(list as usize) {
+        Some(count) => *count,
+        None => 0,
+    }
+}
+
+/// Whether two constants are one.
+pub fn is_one_name(problem: &Problem, list: u16, value: u16, other: u16, place: u16) -> bool
+    ensures { result ≡ is_one_constant problem.entry.now.lists list value other place }
+{
+    if value < constants(problem, list) {
+        list == other && value == place
+    } else {
+        constants(problem, other) <= place
+    }
+}
+
+/// How many classes a set type has.
+pub fn classes(problem: &Problem, set: u16) -> u32
+    ensures { result ≡ classes_of (slice_get problem.entry.now.types set) }
+{
+    match problem.types.as_slice().get(set as usize) {
+        Some(t) => u32::from(t.named),
+        None => 0,
+    }
+}
+
+// How many rests there are beside so many classes.
+fn beside(rest: Rest, classes: u16) -> u32
+    ensures { result ≡ count_beside rest classes }
+{
+    match rest {
+        Rest::None => 0,
+        Rest::One => 1,
+        Rest::Gaps => u32::from(classes) + 1,
+    }
+}
+
+/// How many rests a set type has.
+pub fn rests(problem: &Problem, set: u16) -> u32
+    ensures { result ≡ rests_of (slice_get problem.entry.now.types set) }
+{
+    match problem.types.as_slice().get(set as usize) {
+        Some(t) => beside(t.rest, t.named),
+        None => 0,
+    }
+}
