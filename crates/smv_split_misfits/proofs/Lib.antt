@@ -1,5 +1,5 @@
 mod KindLaws
 mod MisfitLaws
 mod RightLaws
-mod StandingLaws
+pub mod StandingLaws
 mod StrayLaws
