@@ -1,0 +1,5 @@
+mod KindLaws
+mod MisfitLaws
+mod RightLaws
+pub mod StandingLaws
+mod StrayLaws
