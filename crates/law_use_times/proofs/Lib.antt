@@ -1,0 +1,3 @@
+pub mod Lists
+pub mod SameTimes
+pub mod Walking
