@@ -1,5 +1,6 @@
 -- What is found along the reads of chosen definitions is the same-time set.
-use Rattle.std.proofs.Common.{◌≡◌, ℕ, ◌<◌, List, [], ◌∷◌, ◌++◌, length, Bool, true, false, if◌then◌else◌, ◌||◌, refl, sym, subst, inl, inr, Option, Some, None, option_to_list, nat_eq, arith}
+use Rattle.std.proofs.Common.{◌≡◌, ℕ, suc, ◌+◌, ◌<◌, ◌⊎◌, List, [], ◌∷◌, ◌++◌, length, Bool, true, false, if◌then◌else◌, ◌||◌, refl, ap, sym, subst, inl, inr, Option, Some, None, option_to_list, nat_eq, nat_lt, arith}
+use Rattle.std.proofs.lemmas.Bool.Decides.{nat_tests}
 use Rattle.std.specs.List.{flat_map, slice_get}
 use Rattle.std.specs.Prelude.{slice_index_or}
 use Rattle.smv_core.specs.Values.{number, numbers_from}
@@ -8,24 +9,23 @@ use Rattle.smv_core.specs.declared.flat.Def.{Def}
 use Rattle.smv_core.specs.declared.flat.Flat.{Flat}
 use Rattle.smv_core.specs.declared.flat.FlatExpr.{FlatExpr}
 use Rattle.smv_core.specs.declared.flat.Assumed.{Assumed}
-use Rattle.smv_abstraction.specs.Sets.{Has}
+use Rattle.smv_abstraction.specs.Sets.{Has, first, later}
 use Rattle.smv_abstraction.specs.Places.{named}
 use Rattle.smv_abstraction.specs.Soundness.{FlatUnit, map_of, claim_of}
 use Rattle.smv_abstraction.proofs.Tests.{same_tests}
 use Rattle.smv_abstraction.proofs.Members.{Has-cases, Has-uncons, any-found, any-some}
 use Rattle.smv_abstraction.proofs.Same.{nat_eq-itself, nat_eq-is}
 use Rattle.smv_abstraction.proofs.Spots.{Has-numbers}
-use Rattle.smv_abstraction.proofs.OneOfEach.{get_past, get_Has, Has-from_flat_map}
+use Rattle.smv_abstraction.proofs.OneOfEach.{get_past, Has-from_flat_map}
 use Rattle.smv_abstraction.proofs.CoverLists.{length-numbers}
-use Rattle.law_obligations.specs.Reached.{reached, IsLeast}
+use Rattle.law_obligations.specs.Reached.{IsLeast}
 use Rattle.law_obligations.specs.Outlines.{Entry, Outline, unit_in, claim_unit, assumed, chosen}
 use Rattle.law_obligations.specs.Times.{is_member, if_there, families_read, families_of_part, families_at_once, is_unit, families_assumed, families_of_unit, first_families, next_families, same_time}
-use Rattle.law_obligations.proofs.OutlineFacts.{unit-def}
-use Rattle.law_obligations.proofs.Least.{reached_is_least}
 use Rattle.law_obligations.proofs.ReadsWithin.{reads_within, part_within}
 use Rattle.graph_search.specs.Walks.{Walk, here, step}
-use Rattle.law_use_times.specs.Found.{DefinesFamilies, IsFound}
+use Rattle.law_use_times.specs.Found.{nodes_of, IsFound}
 use Rattle.law_use_times.proofs.Lists.{Contains-Has}
+use Rattle.law_use_times.proofs.Turns.{reached_with_one_less}
 
 either : {X : Type 0} {P : Type 0} (xs ys : List X) {y : X} → Has (xs ++ ys) y → (Has xs y → P) → (Has ys y → P) → P
 either xs ys h f g = elim (Has-cases xs ys h) [ inl l ↦ f l | inr r ↦ g r ]
@@ -53,26 +53,56 @@ module _ (fs : List Family) where
   once_within None k h = elim h [ ]
   once_within (Some def) k h = either (families_of_part fs def.init) (families_of_part fs def.comb) h (family_part def.init k) (family_part def.comb k)
 
-module _ (o : Outline) (defines : DefinesFamilies o.design) where
+module _ (o : Outline) where
   abbrev fs : List Family
   fs = o.design.families
 
-  unit_within : (entry : Entry) (unit : FlatUnit) → unit_in o.design entry.unit ≡ unit → (k : ℕ) → Has (families_of_unit o unit) k → k < length fs
-  unit_within entry (claim_of claim) e k h = families_within fs claim.body k h
-  unit_within entry (map_of def) e k h = elim (Has-uncons h) [
-    | inl i ↦ let q = unit-def o.design entry.unit def e in let l = defines def (get_Has o.design.defs q.0 def q.2) in omega (arith, l, i)
-    | inr n ↦ once_within fs (Some def) k n
+  -- families are such numbers
+  pub family_node : (unit : FlatUnit) (k : ℕ) → k < length fs → k < nodes_of o.design unit
+  family_node (claim_of claim) k l = l
+  family_node (map_of def) k l = at (nat_lt def.family (length fs)) refl
+    where
+      at : (b : Bool) → nat_lt def.family (length fs) ≡ b → k < (if b then length fs else def.family + 1)
+      at true e = l
+      at false e = grind (arith, nat_tests)
+
+  own_node : (def : Def) → def.family < nodes_of o.design (map_of def)
+  own_node def = at (nat_lt def.family (length fs)) refl
+    where
+      at : (b : Bool) → nat_lt def.family (length fs) ≡ b → def.family < (if b then length fs else def.family + 1)
+      at true e = grind (arith, nat_tests)
+      at false e = omega arith
+
+  -- what the unit does not say of itself are families
+  unit_within : (unit : FlatUnit) (k : ℕ) → Has (families_of_unit o unit) k → k < nodes_of o.design unit
+  unit_within (claim_of claim) k h = family_node (claim_of claim) k (families_within fs claim.body k h)
+  unit_within (map_of def) k h = elim (Has-uncons h) [
+    | inl i ↦ subst (λ z. z < nodes_of o.design (map_of def)) (sym i) (own_node def)
+    | inr n ↦ family_node (map_of def) k (once_within fs (Some def) k n)
   ]
 
   assumed_in : (u : ℕ) (used : Assumed) (b : Bool) (k : ℕ) → Has (if b then [] else flat_map (λ claim. families_read fs claim.body) (option_to_list (assumed o used))) k → k < length fs
   assumed_in u used true k h = elim h [ ]
   assumed_in u used false k h = let r = Has-from_flat_map (λ claim. families_read fs claim.body) (option_to_list (assumed o used)) h in families_within fs r.0.body k r.2
 
-  pub first_within : (u : ℕ) (entry : Entry) (k : ℕ) → Has (first_families o u entry) k → k < length fs
-  first_within u entry k h = either (families_of_unit o (unit_in o.design entry.unit) ++ flat_map (λ g. families_read fs g.expr) entry.leaf.guards) (flat_map (families_assumed o u) entry.choice.claims) h
-      (λ q. either (families_of_unit o (unit_in o.design entry.unit)) (flat_map (λ g. families_read fs g.expr) entry.leaf.guards) q (unit_within entry (unit_in o.design entry.unit) refl k)
-      (λ q. let r = Has-from_flat_map (λ g. families_read fs g.expr) entry.leaf.guards q in families_within fs r.0.expr k r.2))
-      (λ q. let r = Has-from_flat_map (families_assumed o u) entry.choice.claims q in assumed_in u r.0 (r.0.early || is_unit u (claim_unit o r.0.claim)) k r.2)
+  -- the first families are the unit's own and others that are there
+  first_cases : {P : Type 0} (u : ℕ) (entry : Entry) (k : ℕ) → Has (first_families o u entry) k → (Has (families_of_unit o (unit_in o.design entry.unit)) k → P) → (k < length fs → P) → P
+  first_cases u entry k h of_unit of_family = either (families_of_unit o (unit_in o.design entry.unit) ++ flat_map (λ g. families_read fs g.expr) entry.leaf.guards) (flat_map (families_assumed o u) entry.choice.claims) h
+      (λ q. either (families_of_unit o (unit_in o.design entry.unit)) (flat_map (λ g. families_read fs g.expr) entry.leaf.guards) q of_unit
+      (λ q. let r = Has-from_flat_map (λ g. families_read fs g.expr) entry.leaf.guards q in of_family (families_within fs r.0.expr k r.2)))
+      (λ q. let r = Has-from_flat_map (families_assumed o u) entry.choice.claims q in of_family (assumed_in u r.0 (r.0.early || is_unit u (claim_unit o r.0.claim)) k r.2))
+
+  pub first_within : (u : ℕ) (entry : Entry) (k : ℕ) → Has (first_families o u entry) k → k < nodes_of o.design (unit_in o.design entry.unit)
+  first_within u entry k h = first_cases u entry k h (unit_within (unit_in o.design entry.unit) k) (family_node (unit_in o.design entry.unit) k)
+
+  -- the family of a map
+  abbrev own_of : FlatUnit → ℕ
+  own_of (map_of def) = def.family
+  own_of (claim_of claim) = 0
+
+  unit_cases : (unit : FlatUnit) (k : ℕ) → Has (families_of_unit o unit) k → (k ≡ own_of unit) ⊎ (k < length fs)
+  unit_cases (claim_of claim) k h = inr (families_within fs claim.body k h)
+  unit_cases (map_of def) k h = elim (Has-uncons h) [ inl i ↦ inl i | inr n ↦ inr (once_within fs (Some def) k n) ]
 
   module _ (u : ℕ) (entry : Entry) where
     abbrev next : ℕ → List ℕ
@@ -84,13 +114,20 @@ module _ (o : Outline) (defines : DefinesFamilies o.design) where
     abbrev set : List ℕ
     set = same_time o u entry
 
-    numbered : (k : ℕ) → k < length fs → Has (numbers_from 0 (length fs)) k
-    numbered k l = Has-numbers 0 (length fs) k (omega arith) (omega (arith, l))
+    -- all that may be reached
+    abbrev every : List ℕ
+    every = own_of (unit_in o.design entry.unit) ∷ numbers_from 0 (length fs)
+
+    numbered : (k : ℕ) → k < length fs → Has every k
+    numbered k l = later (Has-numbers 0 (length fs) k (omega arith) (omega (arith, l)))
+
+    begins_within : (k : ℕ) → Has from k → Has every k
+    begins_within k h = first_cases u entry k h
+        (λ q. elim (unit_cases (unit_in o.design entry.unit) k q) [ inl e ↦ subst (λ z. Has (z ∷ numbers_from 0 (length fs)) k) e first | inr l ↦ numbered k l ]) (numbered k)
 
     least : IsLeast next from set
-    least = subst (λ n. IsLeast next from (reached nat_eq next n from)) (length-numbers 0 (length fs))
-        (reached_is_least nat_eq nat_eq-is nat_eq-itself next (numbers_from 0 (length fs)) from (λ k h. numbered k (first_within u entry k h))
-        (λ x y h k. numbered y (once_within fs (chosen o entry.choice.picks x) y k)))
+    least = reached_with_one_less nat_eq nat_eq-is nat_eq-itself next every from begins_within
+        (λ x y h k. numbered y (once_within fs (chosen o entry.choice.picks x) y k)) (length fs) (ap suc (length-numbers 0 (length fs)))
 
     module _ (marks : List Bool) (found : IsFound next from marks) where
       member_is : (x : ℕ) → is_member set x ≡ true → Has set x

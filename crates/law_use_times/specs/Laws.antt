@@ -3,13 +3,13 @@ use Rattle.std.specs.Prelude.{◌≡◌, ℕ, ◌<◌, List, length, slice_index
 use Rattle.smv_core.specs.declared.flat.Def.{Def}
 use Rattle.smv_core.specs.declared.flat.Family.{Family}
 use Rattle.smv_abstraction.specs.Sets.{Has}
-use Rattle.law_obligations.specs.Outlines.{Entry, Outline}
+use Rattle.law_obligations.specs.Outlines.{Entry, Outline, unit_in}
 use Rattle.law_obligations.specs.Times.{is_member, families_at_once, first_families, next_families, same_time, has_edge, time_of, unit_time}
-use Rattle.law_use_times.specs.Found.{DefinesFamilies, IsFound, LeadTo}
+use Rattle.law_use_times.specs.Found.{nodes_of, IsFound, LeadTo}
 
--- with what a same-time set begins are families
-abbrev pub FirstAreFamilies : Type 0
-FirstAreFamilies = (o : Outline) → DefinesFamilies o.design → (u : ℕ) (entry : Entry) (x : ℕ) → Has (first_families o u entry) x → x < length o.design.families
+-- with what a same-time set begins are such numbers
+abbrev pub FirstAreNodes : Type 0
+FirstAreNodes = (o : Outline) (u : ℕ) (entry : Entry) (x : ℕ) → Has (first_families o u entry) x → x < nodes_of o.design (unit_in o.design entry.unit)
 
 -- what a definition reads at once are families
 abbrev pub ReadsAreFamilies : Type 0
@@ -17,7 +17,7 @@ ReadsAreFamilies = (families : List Family) (def : Option Def) (x : ℕ) → Has
 
 -- what is found along the reads of chosen definitions is the same-time set
 abbrev pub FoundIsSameTime : Type 0
-FoundIsSameTime = (o : Outline) → DefinesFamilies o.design → (u : ℕ) (entry : Entry) (marks : List Bool) → IsFound (next_families o entry) (first_families o u entry) marks →
+FoundIsSameTime = (o : Outline) (u : ℕ) (entry : Entry) (marks : List Bool) → IsFound (next_families o entry) (first_families o u entry) marks →
     (x : ℕ) → slice_index_or marks x false ≡ is_member (same_time o u entry) x
 
 -- a use is now unless the used unit stands later and leads back

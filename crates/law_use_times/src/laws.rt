@@ -1,9 +1,9 @@
 // Laws of the definitions, each the contract of a function that does nothing.
-ghost use Rattle.law_use_times.specs.Laws.{FirstAreFamilies, FoundIsSameTime, NowByWalks, ReadsAreFamilies};
+ghost use Rattle.law_use_times.specs.Laws.{FirstAreNodes, FoundIsSameTime, NowByWalks, ReadsAreFamilies};
 
-/// What a search finds from the families with which a same-time set begins, along what chosen definitions read, is the set; all of it are families.
+/// What a search finds from the families with which a same-time set begins, along what chosen definitions read, is the set.
 pub fn same_times_are_found()
-    ensures first { FirstAreFamilies }
+    ensures first { FirstAreNodes }
     ensures reads { ReadsAreFamilies }
     ensures found { FoundIsSameTime }
 {}
