@@ -1,0 +1,6 @@
+//! What times of uses are in terms of searches through graphs: a leaf's same-time set is what walks lead to, and so is a cycle of uses.
+//!
+//! For the pass that finds the times by worklists. No code runs here. A reader begins with `specs/Found`; `specs/Laws` has the laws.
+#![tactic(auto)]
+
+pub mod laws;

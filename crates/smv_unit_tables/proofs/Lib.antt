@@ -1,0 +1,6 @@
+pub mod Computing
+pub mod ReadLaws
+pub mod ExpressionLaws
+pub mod PartLaws
+pub mod BaseLaws
+pub mod UnitLaws
