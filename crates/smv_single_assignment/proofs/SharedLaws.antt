@@ -1,9 +1,10 @@
 -- Assignments that share their variables, and parts of the list between which none clash.
-use Rattle.std.proofs.Common.{◌≡◌, ◌≤◌, ◌<◌, ℕ, zero, suc, ◌+◌, ◌-◌, List, [], ◌∷◌, ◌++◌, map, filter, length, get_or, take, drop, zip, Bool, true, false, not, cond, ◌&&◌, ◌||◌, refl, ap, sym, ◌∙◌, arith, subst, ◌⊎◌, inl, inr}
+use Rattle.std.proofs.Common.{◌≡◌, ◌≤◌, ◌<◌, ℕ, zero, suc, Bor, ◌+◌, ◌-◌, List, [], ◌∷◌, ◌++◌, map, filter, length, get_or, take, drop, zip, Bool, true, false, not, cond, ◌&&◌, ◌||◌, refl, ap, sym, ◌∙◌, arith, subst, ◌⊎◌, inl, inr}
 use Rattle.std.specs.Prelude.{Option, Some, slice_get, nat_eq}
 use Rattle.std.specs.List.{list_any, list_all, Contains}
 use Rattle.std.specs.HashMap.{HashMap}
-use Rattle.std.proofs.lemmas.Bool.{cases_eq}
+use Rattle.std.specs.Global.{Vec}
+use Rattle.std.proofs.lemmas.Bool.{cases_eq, eqb-true}
 use Rattle.std.proofs.lemmas.Option.{slice_get_within, get_or_from_slice_get}
 use Rattle.std.proofs.lemmas.List.Elements.{All-nil, All-cons, All-append, All-weaker, All-get_or, All-contains, Contains-append_right, Contains-get_or}
 use Rattle.smv_core.specs.Assignments.{Index, fixed, bare, computed}
@@ -14,8 +15,9 @@ use Rattle.smv_core.specs.declared.flat.FlatStmt.{FlatStmt, Assign, If', Block',
 use Rattle.law_single_assignment.specs.Standing.{Standing, standing, standing_in}
 use Rattle.law_single_assignment.specs.SingleFaults.{later_places, may_meet, meet, cross, share}
 use Rattle.smv_single_assignment.specs.Links.{AreClassed, between}
-use Rattle.smv_single_assignment.specs.Shared.{AreShared, AreInside, AreApart, HasSpot, HasSpots, is_bare, is_at, spot_at}
-use Rattle.smv_single_assignment.proofs.EarlierLaws.{and-right}
+use Rattle.smv_single_assignment.specs.Places.{any_two}
+use Rattle.smv_single_assignment.specs.Shared.{AreShared, AreInside, AreApart, HasSpot, HasSpots, is_bare, stays_bare, all_two, is_below, meets_all, is_above_one, kept_at}
+use Rattle.smv_single_assignment.proofs.EarlierLaws.{and-left, and-right}
 
 -- ---- variables around
 
@@ -116,7 +118,7 @@ take-past (suc n) [] past = refl
 take-past zero (x ∷ xs) past = absurd (omega (arith, past))
 take-past (suc n) (x ∷ xs) past = ap (λ l. x ∷ l) (take-past n xs (omega (arith, past)))
 
--- ---- spots
+-- ---- left sides that are kept
 
 or-true : (b : Bool) → (b || true) ≡ true
 or-true true = refl
@@ -129,34 +131,86 @@ both-bare k (bare m) computed one other = cc
 both-bare k (fixed v) j one other = cc
 both-bare k computed j one other = cc
 
-both-at : (k : ℕ) (xs ys : List FlatExpr) (index : ℕ) → is_at k xs index ≡ true → is_at k ys index ≡ true → list_any (λ (i, j). are_both k i j) (zip (map flat_index xs) (map flat_index ys)) ≡ true
-both-at k [] ys index one other = cc
-both-at k (x ∷ xs) [] index one other = cc
-both-at k (x ∷ xs) (y ∷ ys) zero one other = ap (λ t. t || list_any (λ (i, j). are_both k i j) (zip (map flat_index xs) (map flat_index ys))) (both-bare k (flat_index x) (flat_index y) one other)
-both-at k (x ∷ xs) (y ∷ ys) (suc index) one other = ap (λ t. are_both k (flat_index x) (flat_index y) || t) (both-at k xs ys index one other) ∙ or-true (are_both k (flat_index x) (flat_index y))
+bare-both : (k : ℕ) (i j : Index) → are_both k i j ≡ true → (is_bare k i ≡ true) × (is_bare k j ≡ true)
+bare-both k (bare m) (bare n) both = by (nat_eq m k) (nat_eq n k) both
+  where
+    by : (s t : Bool) → (s && t) ≡ true → (s ≡ true) × (t ≡ true)
+    by true true e = (refl, refl)
+    by true false e = cc
+    by false t e = cc
+bare-both k (bare m) (fixed v) both = cc
+bare-both k (bare m) computed both = cc
+bare-both k (fixed v) j both = cc
+bare-both k computed j both = cc
 
-module _ {S : Type 0} (spots : HashMap (ℕ × ℕ) ℕ S) (all : List Standing) (classes : List ℕ) where
-  -- so far each has its spots
+-- what is bare in both of a left side and another is so in what is above it and that other
+both-above : (k : ℕ) (h i j : Index) → stays_bare k h i ≡ true → are_both k h j ≡ true → are_both k i j ≡ true
+both-above k h i j below both =
+    let bares = bare-both k h j both in
+    both-bare k i j (sym (ap (λ t. cond t (is_bare k i) true) bares.0) ∙ below) bares.1
+
+-- nothing is left on one side
+pub stay-left : (test : Index → Index → Bool) (xs ys : List FlatExpr) → length xs < 1 → all_two test xs ys ≡ true
+stay-left test [] ys h = refl
+stay-left test (x ∷ xs) ys h = absurd (omega arith)
+
+pub stay-right : (test : Index → Index → Bool) (xs ys : List FlatExpr) → length ys < 1 → all_two test xs ys ≡ true
+stay-right test [] ys h = refl
+stay-right test (x ∷ xs) [] h = refl
+stay-right test (x ∷ xs) (y ∷ ys) h = absurd (omega arith)
+
+pub ruleset stay_ends = (stay-left, stay-right)
+
+-- a left side that is above another shares what the other does
+share-along : (k : ℕ) (kept xs ys : List FlatExpr) → all_two (stays_bare k) kept xs ≡ true → length kept ≡ length xs → any_two (are_both k) kept ys ≡ true → any_two (are_both k) xs ys ≡ true
+share-along k [] xs ys stay long shared = cc
+share-along k (h ∷ kept) [] ys stay long shared = cc
+share-along k (h ∷ kept) (x ∷ xs) [] stay long shared = cc
+share-along k (h ∷ kept) (x ∷ xs) (y ∷ ys) stay long shared = by (are_both k (flat_index h) (flat_index y)) refl shared (λ e. share-along k kept xs ys (and-right (stays_bare k (flat_index h) (flat_index x)) _ stay) (omega (arith, long)) e)
+  where
+    here : stays_bare k (flat_index h) (flat_index x) ≡ true
+    here = and-left _ (all_two (stays_bare k) kept xs) stay
+
+    by : (t : Bool) → are_both k (flat_index h) (flat_index y) ≡ t → (t || any_two (are_both k) kept ys) ≡ true → (any_two (are_both k) kept ys ≡ true → any_two (are_both k) xs ys ≡ true) → any_two (are_both k) (x ∷ xs) (y ∷ ys) ≡ true
+    by true is e more = ap (λ t. t || any_two (are_both k) xs ys) (both-above k (flat_index h) (flat_index x) (flat_index y) here is)
+    by false is e more = ap (λ t. are_both k (flat_index x) (flat_index y) || t) (more e) ∙ or-true (are_both k (flat_index x) (flat_index y))
+
+share-above : (k : ℕ) (kept xs ys : List FlatExpr) → is_below k kept xs ≡ true → any_two (are_both k) kept ys ≡ true → any_two (are_both k) xs ys ≡ true
+share-above k kept xs ys below shared =
+    share-along k kept xs ys (and-right (nat_eq (length kept) (length xs)) _ below) (eqb-true (length kept) (length xs) (and-left _ (all_two (stays_bare k) kept xs) below)) shared
+
+-- of two left sides, one above a kept one and one that shares with each kept one
+shared-by-one : (k : ℕ) (lefts : List (Bor (List FlatExpr))) (xs ys : List FlatExpr) → is_above_one k lefts xs ≡ true → meets_all k lefts ys ≡ true → any_two (are_both k) xs ys ≡ true
+shared-by-one k [] xs ys above meets = cc
+shared-by-one k (kept ∷ lefts) xs ys above meets = by (is_below k kept.now xs) refl above (λ e. shared-by-one k lefts xs ys e (and-right (any_two (are_both k) kept.now ys) _ meets))
+  where
+    by : (t : Bool) → is_below k kept.now xs ≡ t → (t || is_above_one k lefts xs) ≡ true → (is_above_one k lefts xs ≡ true → any_two (are_both k) xs ys ≡ true) → any_two (are_both k) xs ys ≡ true
+    by true is e more = share-above k kept.now xs ys is (and-left _ (meets_all k lefts ys) meets)
+    by false is e more = more e
+
+module _ {S : Type 0} (kept : HashMap (ℕ × ℕ) (Vec (Bor (List FlatExpr))) S) (all : List Standing) (classes : List ℕ) where
+  -- so far each has its left sides
   abbrev pub HaveSpots : ℕ → Type 0
-  HaveSpots n = (i : ℕ) (a : Standing) → i < n → slice_get all i ≡ Some a → HasSpots spots (get_or classes i 0) a
+  HaveSpots n = (i : ℕ) (a : Standing) → i < n → slice_get all i ≡ Some a → HasSpots kept (get_or classes i 0) a
 
-  pub have-more : (n : ℕ) (b : Standing) (class : ℕ) → slice_get all n ≡ Some b → class ≡ get_or classes n 0 → HasSpots spots class b → HaveSpots n → HaveSpots (n + 1)
+  pub have-more : (n : ℕ) (b : Standing) (class : ℕ) → slice_get all n ≡ Some b → class ≡ get_or classes n 0 → HasSpots kept class b → HaveSpots n → HaveSpots (n + 1)
   have-more n b class here is has have i a lt got = by (cases_eq i n)
     where
-      by : (i ≡ n) ⊎ (i ≡ n → ⊥) → HasSpots spots (get_or classes i 0) a
+      by : (i ≡ n) ⊎ (i ≡ n → ⊥) → HasSpots kept (get_or classes i 0) a
       by (inl same) =
           let one : Some b ≡ Some a = sym here ∙ ap (slice_get all) (sym same) ∙ got in
           let it : b ≡ a = cc in
-          subst (λ c. HasSpots spots c a) (is ∙ ap (λ k. get_or classes k 0) (sym same)) (subst (HasSpots spots class) it has)
+          subst (λ c. HasSpots kept c a) (is ∙ ap (λ k. get_or classes k 0) (sym same)) (subst (HasSpots kept class) it has)
       by (inr not) = have i a (omega (arith, lt, not)) got
 
   pub spots-shared : (count n : ℕ) → AreClassed all classes count → length all ≤ n → HaveSpots n → AreShared all
   spots-shared count n classed whole have i j a b got there met k in_a in_b =
       let le_i : i < n = omega (arith, slice_get_within all i a got, whole) in
       let le_j : j < n = omega (arith, slice_get_within all j b there, whole) in
-      let one = All-contains (HasSpot spots (get_or classes i 0) a.left) a.around k (have i a le_i got) in_a in
-      let other = All-contains (HasSpot spots (get_or classes j 0) b.left) b.around k (have j b le_j there) in_b in
+      let one = All-contains (HasSpot kept (get_or classes i 0) a.left) a.around k (have i a le_i got) in_a in
+      let other = All-contains (HasSpot kept (get_or classes j 0) b.left) b.around k (have j b le_j there) in_b in
       let class : get_or classes i 0 ≡ get_or classes j 0 = classed.together i j a b got there met in
-      let indexes : Some one.0 ≡ Some other.0 = sym one.1 ∙ ap (λ c. spot_at spots c k) class ∙ other.1 in
-      let index : one.0 ≡ other.0 = cc in
-      both-at k a.left b.left one.0 one.2 (ap (is_at k b.left) index ∙ other.2)
+      let both : Some one.0 ≡ Some other.0 = sym one.1 ∙ ap (λ c. kept_at kept c k) class ∙ other.1 in
+      let lefts : one.0 ≡ other.0 = cc in
+      let met : (meets_all k one.0.items b.left && is_above_one k one.0.items b.left) ≡ true = ap (λ (v : Vec (Bor (List FlatExpr))). meets_all k v.items b.left && is_above_one k v.items b.left) lefts ∙ other.2 in
+      shared-by-one k one.0.items a.left b.left (and-right (meets_all k one.0.items a.left) _ one.2) (and-left _ (is_above_one k one.0.items b.left) met)

@@ -4,4 +4,4 @@ use Rattle.smv_single_assignment.proofs.SharedLaws.{HaveSpots}
 use Rattle.smv_single_assignment.proofs.shared.are_shared.Given as goal
 
 abbrev pub invariant-loop-place : goal.invariant-loop-place
-invariant-loop-place l = HaveSpots l.spots (map standing_of l.all) l.classes l.place
+invariant-loop-place l = HaveSpots l.kept (map standing_of l.all) l.classes l.place

@@ -6,7 +6,7 @@ use Rattle.smv_single_assignment.proofs.shared.has_spots.Goals as goal
 
 pub loop-var-preserved : goal.loop-var-preserved
 loop-var-preserved c =
-    let P = HasSpot c.args.spots.now c.args.class c.args.x.now.left.now in
+    let P = HasSpot c.args.kept.now c.args.class c.args.x.now.left.now in
     let xs = c.deref-var-items.result.now in
     let e : xs ≡ c.args.x.now.around.items = c.deref-var-items.ensures.value in
     let i = c.loop-var.var-index in
@@ -15,7 +15,7 @@ loop-var-preserved c =
 
 pub returns : goal.returns
 returns c = λ e.
-    let P = HasSpot c.args.spots.now c.args.class c.args.x.now.left.now in
+    let P = HasSpot c.args.kept.now c.args.class c.args.x.now.left.now in
     let around = c.args.x.now.around.items in
     let long : length around ≤ c.loop-var.var-index = omega (arith, c.loop-var-test.false, ap length c.deref-var-items.ensures.value) in
     subst (λ l. All P l) (take-past c.loop-var.var-index around long) c.loop-var.invariant
