@@ -1,5 +1,5 @@
 -- How a case is written as data. The names of set types and constants are not written: a class, a rest and a constant are written by their numbers, and their types
--- are known where they stand.
+-- are known where they stand. Variables have no type where they stand, so what they are bound to is written with the number of its type, as a spot.
 use Rattle.std.specs.Prelude.{◌≡◌, ℕ, List, [], ◌∷◌, map, length, get_or, slice_get, unwrap_or, Option, Some, None}
 use Rattle.std.specs.Str.{bytes_eq}
 use Rattle.smv_core.specs.Values.{Name, Value, number, constant, scalar, ordinal}
@@ -20,6 +20,8 @@ use Rattle.law_obligations.specs.Outlines.{place_of}
 use Rattle.law_obligations.specs.Cones.{AbsElement}
 use Rattle.law_flat_kinds.specs.FlatKinds.{Kind, enumeration, kind_of}
 use Rattle.law_codes.specs.Readings.{Case}
+use Rattle.smv_spots.specs.declared.spots.Spot.{Spot}
+use Rattle.smv_spots.specs.declared.spots.Spot.TheVariants as spot
 use Rattle.smv_problem.specs.declared.problem.AbsValue.{AbsValue}
 use Rattle.smv_problem.specs.declared.problem.AbsValue.TheVariants as value
 use Rattle.smv_problem.specs.declared.problem.AbsState.{AbsState as StateData}
@@ -36,6 +38,20 @@ written_class (named (constant name)) = class.Number 0
 written_class (rest (scalar t g)) = class.Rest g
 written_class (rest (ordinal t g)) = class.Rest g
 written_class (rest _) = class.Rest 0
+
+-- the number of the set type of this name
+abbrev pub set_number : Numbered → Name → ℕ
+set_number n t = unwrap_or (place_of (λ (info : SetInfo). bytes_eq info.name t) n.sets) 0
+
+-- a place of a variable, with the number of its type; a constant is never one
+abbrev pub written_spot : Numbered → Place → Spot
+written_spot n (named (number k)) = spot.Number k
+written_spot n (named (scalar t k)) = spot.Class (set_number n t) k
+written_spot n (named (ordinal t k)) = spot.Class (set_number n t) k
+written_spot n (named (constant name)) = spot.Number 0
+written_spot n (rest (scalar t g)) = spot.Rest (set_number n t) g
+written_spot n (rest (ordinal t g)) = spot.Rest (set_number n t) g
+written_spot n (rest _) = spot.Number 0
 
 -- a constant by its place in its enumeration
 abbrev pub written_constant : Numbered → Kind → Name → AbsValue
@@ -59,9 +75,9 @@ written_outcome n kind None = value.Undefined
 abbrev pub written_element : AbsElement → Element
 written_element x = record { family = x.family; indexes = map written_class x.indexes }
 
-abbrev pub written_demand : Demanded → Demand
-written_demand (defined def indexes) = Defined (record { family = def.family; indexes = map written_class indexes }) def.init def.next def.comb
-written_demand (holds body b) = Holds body (map written_class b)
+abbrev pub written_demand : Numbered → Demanded → Demand
+written_demand n (defined def indexes) = Defined (record { family = def.family; indexes = map written_class indexes }) def.init def.next def.comb
+written_demand n (holds body b) = Holds body (map (written_spot n) b)
 
 -- the abstract form of a set type
 abbrev pub written_type : World → SetInfo → AbsType
@@ -80,11 +96,11 @@ module _ (c : Case) where
     families = c.problem.world.classes.families;
     lists = map length c.problem.world.classes.enums;
     types = map (written_type c.problem.world) c.problem.world.classes.sets;
-    now = map written_demand c.problem.now;
-    before = map written_demand c.problem.before;
-    target = written_demand c.problem.target;
+    now = map (written_demand c.problem.world.classes) c.problem.now;
+    before = map (written_demand c.problem.world.classes) c.problem.before;
+    target = written_demand c.problem.world.classes c.problem.target;
     guards = c.problem.guards;
-    bindings = map written_class c.problem.params;
+    bindings = map (written_spot c.problem.world.classes) c.problem.params;
   }
 
   -- an abstract state of it

@@ -1,7 +1,8 @@
 // The problem of a case as data: what the evaluator, the encoder and the trace read.
 use smv_abstraction::AbsType;
 use smv_core::Seq;
-use smv_core::flat::{Class, Element, Family, Flat, FlatExpr, Guard};
+use smv_core::flat::{Element, Family, Flat, FlatExpr, Guard};
+use smv_spots::spots::Spot;
 
 /// What an outcome may be in a case: a number, a constant by its place in its enumeration, a class or a rest of a set type, or Undefined.
 #[derive(Clone, Copy, PartialEq, Eq)]
@@ -19,7 +20,7 @@ pub struct AbsState {
     pub values: Seq<AbsValue>,
 }
 
-/// What is demanded at a time: the definition of an element, or the body of a claim at these classes of its parameters.
+/// What is demanded at a time: the definition of an element, or the body of a claim with its parameters at these spots.
 #[derive(Drop)]
 pub enum Demand {
     Defined {
@@ -30,12 +31,12 @@ pub enum Demand {
     },
     Holds {
         body: FlatExpr,
-        bindings: Seq<Class>,
+        bindings: Seq<Spot>,
     },
 }
 
 /// The problem of a case: its elements in cone order, the families of the design, how many constants each enumeration has, the abstract form of each set type,
-/// what is demanded at each time and at each but the last, the target, the guards and the classes of the leaf's parameters.
+/// what is demanded at each time and at each but the last, the target, the guards and the spots of the leaf's parameters.
 #[derive(Drop)]
 pub struct Problem {
     pub elements: Seq<Element>,
@@ -46,5 +47,5 @@ pub struct Problem {
     pub before: Seq<Demand>,
     pub target: Demand,
     pub guards: Seq<Guard>,
-    pub bindings: Seq<Class>,
+    pub bindings: Seq<Spot>,
 }
