@@ -1,0 +1,4 @@
+pub mod Spelling
+pub mod Values
+pub mod Written
+pub mod Loops
