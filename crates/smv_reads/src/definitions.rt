@@ -1,0 +1,152 @@
+// The elements that a definition reads for an element of its family.
+ghost use Rattle.std.specs.Prelude.{◌≡◌, ◌++◌, OnOk, if◌then◌else◌, []};
+ghost use Rattle.std.specs.List.{flat_map};
+ghost use Rattle.smv_elements.specs.Elements.{put_all};
+ghost use Rattle.smv_reads.specs.Views.{IsView};
+ghost use Rattle.smv_reads.specs.Reading.{read_in, read_by, read_by_assignment, read_by_over, read_of};
+
+use crate::bindings::{View, bound, spots_over};
+use crate::counts::{either_counts, is_own, may_count};
+use crate::expressions::{read_each, read_expression};
+use smv_core::flat::{Def, Flat, FlatExpr, Simple};
+use smv_elements::Found;
+use smv_spots::spots::Spot;
+use std::alloc::{AllocError, Global};
+
+/// Puts the elements that a definition of a family reads for the element with these indexes, rests too.
+#[tactic(auto, using(crate::proofs::Joins::joins, crate::proofs::PartLaws::of_parts))]
+pub fn read_definition(
+    alloc: Global,
+    view: &View,
+    found: &mut Found,
+    own: &[Spot],
+    def: &Def,
+) -> Result<(), AllocError>
+    requires { IsView view.now }
+    ensures { OnOk result (found.new ≡ put_all found.old (read_of view.now own.now def.now)) }
+{
+    read_part(alloc, view, found, own, &[], &def.init)?;
+    read_part(alloc, view, found, own, &[], &def.next)?;
+    read_part(alloc, view, found, own, &[], &def.comb)
+}
+
+// A part of it, inside these variables.
+#[cycle(parts)]
+#[tactic(auto, using(crate::proofs::Joins::joins, crate::proofs::PartLaws::equations))]
+fn read_part(
+    alloc: Global,
+    view: &View,
+    found: &mut Found,
+    own: &[Spot],
+    bindings: &[Spot],
+    part: &Flat,
+) -> Result<(), AllocError>
+    requires { IsView view.now }
+    ensures { OnOk result (found.new ≡ put_all found.old (read_by view.now own.now bindings.now part.now)) }
+{
+    match part {
+        Flat::Nothing => Ok(()),
+        Flat::Assign { left, value, .. } => {
+            read_assignment(alloc, view, found, own, bindings, left.as_slice(), value)
+        }
+        Flat::If { cond, yes, no } => {
+            if either_counts(alloc, view, own, bindings, yes.get(), no.get())? {
+                read_expression(alloc, view, found, bindings, cond)?;
+                read_part(alloc, view, found, own, bindings, yes.get())?;
+                read_part(alloc, view, found, own, bindings, no.get())
+            } else {
+                Ok(())
+            }
+        }
+        Flat::First { parts } => { read_parts(alloc, view, found, own, bindings, parts.as_slice()) }
+        Flat::Forall { var, over, body } => {
+            read_turns(alloc, view, found, own, bindings, *var, *over, body.get())
+        }
+    }
+}
+
+// An assignment, where it counts.
+#[tactic(auto, using(crate::proofs::Joins::joins))]
+fn read_assignment(
+    alloc: Global,
+    view: &View,
+    found: &mut Found,
+    own: &[Spot],
+    bindings: &[Spot],
+    left: &[FlatExpr],
+    value: &FlatExpr,
+) -> Result<(), AllocError>
+    requires { IsView view.now }
+    ensures { OnOk result (found.new ≡ put_all found.old (read_by_assignment view.now own.now bindings.now left.now value.now)) }
+{
+    if is_own(view, own, bindings, left) {
+        read_each(alloc, view, found, bindings, left)?;
+        read_expression(alloc, view, found, bindings, value)
+    } else {
+        Ok(())
+    }
+}
+
+#[cycle(parts)]
+#[tactic(auto, using(crate::proofs::Joins::joins))]
+fn read_parts(
+    alloc: Global,
+    view: &View,
+    found: &mut Found,
+    own: &[Spot],
+    bindings: &[Spot],
+    parts: &[Flat],
+) -> Result<(), AllocError>
+    requires { IsView view.now }
+    ensures { OnOk result (found.new ≡ put_all found.old (flat_map (read_by view.now own.now bindings.now) parts.now)) }
+{
+    for part in parts {
+        read_part(alloc, view, found, own, bindings, part)?;
+    }
+    Ok(())
+}
+
+// The body of a `forall`, at each place of its variable at which something may count.
+#[cycle(parts)]
+#[tactic(auto, using(crate::proofs::Joins::joins, crate::proofs::PartLaws::over))]
+fn read_turns(
+    alloc: Global,
+    view: &View,
+    found: &mut Found,
+    own: &[Spot],
+    bindings: &[Spot],
+    var: u16,
+    over: Simple,
+    body: &Flat,
+) -> Result<(), AllocError>
+    requires { IsView view.now }
+    ensures { OnOk result (found.new ≡ put_all found.old (read_by_over view.now own.now bindings.now var over body.now)) }
+{
+    let spots = spots_over(alloc, view, over)?;
+    for p in spots.as_slice() {
+        let inner = bound(alloc, bindings, var, *p)?;
+        let inside = inner.as_slice();
+        read_turn(alloc, view, found, own, inside, body)?;
+    }
+    Ok(())
+}
+
+#[cycle(parts)]
+#[tactic(auto, using(crate::proofs::Joins::joins, crate::proofs::PartLaws::none_may))]
+fn read_turn(
+    alloc: Global,
+    view: &View,
+    found: &mut Found,
+    own: &[Spot],
+    bindings: &[Spot],
+    body: &Flat,
+) -> Result<(), AllocError>
+    requires { IsView view.now }
+    ensures { OnOk result (found.new ≡ put_all found.old (read_by view.now own.now bindings.now body.now)) }
+{
+    if may_count(view, own, bindings, body) {
+        read_part(alloc, view, found, own, bindings, body)
+    } else {
+        Ok(())
+    }
+}
