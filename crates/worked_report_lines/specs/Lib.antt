@@ -1,0 +1,3 @@
+pub mod Designs
+pub mod Worked
+pub mod Values
