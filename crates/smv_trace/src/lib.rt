@@ -1,0 +1,70 @@
+//! Paths of a case as abstract states: from the rings that a search found, a shortest violating path.
+//!
+//! For verdicts. `smv_ring_paths` goes back through the rings, and `smv_readings` reads each of its states as an abstract state of the problem.
+#![tactic(auto)]
+
+ghost use Rattle.std.specs.Prelude.{◌≡◌, ℕ, ◌<◌, List, map, length, IfOk};
+ghost use Rattle.std.specs.List.{All};
+ghost use Rattle.std.specs.Global.{Vec};
+ghost use Rattle.bdd_store.specs.declared.Ref.{Ref};
+ghost use Rattle.bdd_store.specs.Diagram.{IsLive, Keeps, table};
+ghost use Rattle.smv_rings.specs.Lists.{State, IsRel, lists_of};
+ghost use Rattle.smv_rings.specs.Paths.{IsViolating};
+ghost use Rattle.smv_rings.specs.Ops.{IsOneOf};
+ghost use Rattle.smv_search.specs.Runs.{rings_to};
+ghost use Rattle.smv_abstraction.specs.May.{AbsState as Abstract};
+ghost use Rattle.law_codes.specs.CasePaths.{IsShortest};
+ghost use Rattle.law_codes.specs.Readings.{reading, state_bits};
+ghost use Rattle.law_case_lists.specs.CaseLists.{IsListsOf};
+ghost use Rattle.smv_problem.specs.Written.{written_state};
+ghost use Rattle.smv_problem.specs.WellFormed.{IsProblem, OfCases};
+ghost use Rattle.smv_ring_paths.specs.BitPaths.{state_of, HasBits};
+
+use bdd_store::{Ref, Store};
+use smv_core::Seq;
+use smv_problem::{AbsState, Problem};
+use smv_readings::read_state;
+use smv_ring_paths::ring_path;
+use smv_rings::Rel;
+use std::alloc::{AllocError, Global};
+
+/// A shortest violating path, from the rings that a search found: ring 0 to that before the last state, in order. It has one state more than steps.
+pub fn path(
+    alloc: Global,
+    problem: &Problem,
+    rel: &Rel,
+    store: &mut Store,
+    rings: &[Ref],
+    depth: u32,
+) -> Result<Seq<AbsState>, AllocError>
+    requires well_formed { IsProblem problem.now }
+    requires rel { IsRel store.old rel.now }
+    requires lists { OfCases problem.now (λ c. IsListsOf c (lists_of store.old rel.now)) }
+    requires live { (r : Ref) → IsOneOf r rings.now → IsLive store.old r }
+    requires rings { map (table store.old) rings.now ≡ rings_to (lists_of store.old rel.now) depth }
+    requires some { (path : ℕ → State) × IsViolating (lists_of store.old rel.now) depth path }
+    requires none { (k : ℕ) → k < depth → (path : ℕ → State) → IsViolating (lists_of store.old rel.now) k path → ⊥ }
+    ensures shortest { IfOk result (λ states. OfCases problem.entry.now (λ c. (path : List Abstract) × IsShortest c.problem depth path × (states ≡ map (written_state c) path))) }
+    ensures keeps { Keeps store.old store.new }
+{
+    prove!(rings.len() == depth as usize);
+    let states = ring_path(alloc, rel, store, rings)?;
+    read_states(alloc, problem, &states)
+}
+
+// The abstract states that these states are read as.
+fn read_states(
+    alloc: Global,
+    problem: &Problem,
+    states: &[Vec<bool>],
+) -> Result<Seq<AbsState>, AllocError>
+    requires well_formed { IsProblem problem.now }
+    requires have_bits { OfCases problem.now (λ c. All (HasBits (state_bits c)) states.now) }
+    ensures { IfOk result (λ path. OfCases problem.entry.now (λ c. path ≡ map (λ (state : Vec _). written_state c (reading c (state_of state))) states.now)) }
+{
+    let mut path = Seq::new(alloc);
+    for state in states {
+        path.push(read_state(alloc, problem, state)?)?;
+    }
+    Ok(path)
+}
