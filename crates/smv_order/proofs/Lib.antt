@@ -1,0 +1,6 @@
+pub mod ChosenLaws
+pub mod TableLaws
+pub mod SameTimeLaws
+pub mod UseLaws
+pub mod TimeLaws
+pub mod OrderLaws

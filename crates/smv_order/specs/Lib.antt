@@ -1,0 +1,4 @@
+pub mod Tables
+pub mod Uses
+pub mod Times
+pub mod Ways
