@@ -1,0 +1,3 @@
+pub mod GroupLaws
+mod LedLaws
+mod LostLaws
