@@ -1,0 +1,4 @@
+pub mod CombinedLaws
+pub mod PairLaws
+pub mod ListLaws
+pub mod ReadLaws

@@ -1,0 +1,12 @@
+//! What operators make of lists of outcomes, each with a condition: all of the evaluator that does not go down an expression.
+//!
+//! For the evaluator of expressions and for right sides. `combined` has `<->` and conditionals, `pairs` comparisons, sums and remainders, `members` what stands
+//! right of `in`, `quantified` quantifiers, and `reads` elements at indexes that may be several. Contracts say by tests what is offered (`smv_conditions`).
+#![tactic(auto)]
+
+pub mod bindings;
+pub mod combined;
+pub mod members;
+pub mod pairs;
+pub mod quantified;
+pub mod reads;
