@@ -1,0 +1,2 @@
+pub mod WorkedTimes
+pub mod WorkedCases

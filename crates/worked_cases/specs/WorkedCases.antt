@@ -1,0 +1,55 @@
+-- Worked texts by theme, each with the cases of each of its leaves, in their order. Each was worked out by hand.
+use Rattle.std.specs.Prelude.{ℕ, List, [], ◌∷◌, codes}
+use Rattle.smv_core.specs.declared.flat.Class.{Class}
+use Rattle.smv_core.specs.declared.flat.Class.TheVariants.{Named, Rest}
+use Rattle.worked_names.specs.Tomasulo.{machine}
+use Rattle.worked_cases.specs.Worked.{named, numbers}
+
+-- each class of a scalarset is at most one above the greatest before it
+abbrev pub scalarsets : List (List ℕ × List (List (List Class)))
+scalarsets =
+    -- three parameters of an undeclared type
+    (codes "scalarset T undefined; module main() { forall (i in T) forall (j in T) forall (k in T) p[i][j][k] : assert G 1; }", (named (0 ∷ 0 ∷ 0 ∷ []) ∷ named (0 ∷ 0 ∷ 1 ∷ []) ∷ named (0 ∷ 1 ∷ 0 ∷ []) ∷ named (0 ∷ 1 ∷ 1 ∷ []) ∷ named (0 ∷ 1 ∷ 2 ∷ []) ∷ []) ∷ []) ∷ []
+
+-- and below the declared size
+abbrev pub declared : List (List ℕ × List (List (List Class)))
+declared =
+    -- of types of sizes 1, 2 and 3
+    (codes "scalarset T 0..0; module main() { forall (i in T) forall (j in T) p[i][j] : assert G 1; }", (named (0 ∷ 0 ∷ []) ∷ []) ∷ []) ∷
+    (codes "scalarset T 0..1; module main() { forall (i in T) forall (j in T) forall (k in T) p[i][j][k] : assert G 1; }", (named (0 ∷ 0 ∷ 0 ∷ []) ∷ named (0 ∷ 0 ∷ 1 ∷ []) ∷ named (0 ∷ 1 ∷ 0 ∷ []) ∷ named (0 ∷ 1 ∷ 1 ∷ []) ∷ []) ∷ []) ∷
+    (codes "scalarset T 0..2; module main() { forall (i in T) forall (j in T) p[i][j] : assert G 1; }", (named (0 ∷ 0 ∷ []) ∷ named (0 ∷ 1 ∷ []) ∷ []) ∷ []) ∷ []
+
+-- two types side by side, of which neither counts for the other
+abbrev pub sides : List (List ℕ × List (List (List Class)))
+sides =
+    (codes "scalarset T undefined; scalarset PROC undefined; module main() { forall (i in T) forall (a in PROC) forall (j in T) p[i][a][j] : assert G 1; }", (named (0 ∷ 0 ∷ 0 ∷ []) ∷ named (0 ∷ 0 ∷ 1 ∷ []) ∷ []) ∷ []) ∷ []
+
+-- the classes of an ordset are all numbers from 0 on, in any order and with repeats
+abbrev pub ordsets : List (List ℕ × List (List (List Class)))
+ordsets =
+    (codes "ordset I undefined; module main() { forall (i in I) forall (j in I) p[i][j] : assert G (i < j | i = j | j < i); }", (named (0 ∷ 0 ∷ []) ∷ named (0 ∷ 1 ∷ []) ∷ named (1 ∷ 0 ∷ []) ∷ []) ∷ []) ∷
+    (codes "ordset I undefined; module main() { forall (i in I) p[i] : assert G 1; }", (named (0 ∷ []) ∷ []) ∷ []) ∷ []
+
+-- numbers have all their values; a leaf without a parameter has one case; the map of an array has its index; each leaf has its own
+abbrev pub others : List (List ℕ × List (List (List Class)))
+others =
+    (codes "module main() { forall (i in 0..1) forall (j in 2..3) p[i][j] : assert G 1; }", (numbers (0 ∷ 2 ∷ []) ∷ numbers (0 ∷ 3 ∷ []) ∷ numbers (1 ∷ 2 ∷ []) ∷ numbers (1 ∷ 3 ∷ []) ∷ []) ∷ []) ∷
+    (codes "module main() { p : assert G 1; }", ([] ∷ []) ∷ []) ∷
+    (codes "scalarset T undefined; module main() { x : array T of boolean; layer L : { forall (i in T) x[i] := 0; } forall (i in 0..1) p[i] : assert G 1; }", (named (0 ∷ []) ∷ []) ∷ (numbers (0 ∷ []) ∷ numbers (1 ∷ []) ∷ []) ∷ []) ∷
+    -- a split's own parameters stand behind the unit's
+    (codes "scalarset T undefined; module main() { x : array T of T; layer L : { forall (i in T) x[i] := i; } forall (i in T) forall (j in T) subcase s[j] of x[i]//L for x[i] = j; }", (named (0 ∷ 0 ∷ []) ∷ named (0 ∷ 1 ∷ []) ∷ []) ∷ []) ∷ []
+
+-- parameters that do not stay have the classes of those that do, and then the rests
+abbrev pub kept : List (List ℕ × List (List (List Class)))
+kept =
+    -- a scalarset of no declared size
+    (codes "scalarset T undefined; module main() { forall (i in T) forall (j in T) p[i][j] : assert G 1; using T->{i} prove p[i][j]; }", ((Named 0 ∷ Named 0 ∷ []) ∷ (Named 0 ∷ Rest 0 ∷ []) ∷ []) ∷ []) ∷
+    -- one that has no more values than classes, and one that has
+    (codes "scalarset T 0..0; module main() { forall (i in T) forall (j in T) p[i][j] : assert G 1; using T->{i} prove p[i][j]; }", ((Named 0 ∷ Named 0 ∷ []) ∷ []) ∷ []) ∷
+    (codes "scalarset T 0..1; module main() { forall (i in T) forall (j in T) p[i][j] : assert G 1; using T->{i} prove p[i][j]; }", ((Named 0 ∷ Named 0 ∷ []) ∷ (Named 0 ∷ Rest 0 ∷ []) ∷ []) ∷ []) ∷
+    -- an ordset has a gap below and above its class
+    (codes "ordset I undefined; module main() { forall (i in I) forall (j in I) p[i][j] : assert G 1; using I->{i} prove p[i][j]; }", ((Named 0 ∷ Named 0 ∷ []) ∷ (Named 0 ∷ Rest 0 ∷ []) ∷ (Named 0 ∷ Rest 1 ∷ []) ∷ []) ∷ []) ∷ []
+
+-- a reduced Tomasulo machine: 1, 2, 2 and 1 cases
+abbrev pub tomasulo : List (List ℕ × List (List (List Class)))
+tomasulo = (machine, (named (0 ∷ 0 ∷ []) ∷ []) ∷ (named (0 ∷ 0 ∷ 0 ∷ 0 ∷ []) ∷ named (0 ∷ 1 ∷ 0 ∷ 0 ∷ []) ∷ []) ∷ (named (0 ∷ 0 ∷ 0 ∷ []) ∷ named (0 ∷ 0 ∷ 1 ∷ []) ∷ []) ∷ (named (0 ∷ 0 ∷ 0 ∷ []) ∷ []) ∷ []) ∷ []

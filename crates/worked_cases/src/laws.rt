@@ -1,0 +1,24 @@
+// Worked texts, each group a clause of a function that does nothing.
+ghost use Rattle.worked_cases.specs.Worked.{AreTimed, HaveCases};
+ghost use Rattle.worked_cases.specs.WorkedCases as cases;
+ghost use Rattle.worked_cases.specs.WorkedTimes as times;
+
+/// The times of the uses of each worked text.
+pub fn worked_times()
+    ensures rows { AreTimed times.rows }
+    ensures cycles { AreTimed times.cycles }
+    ensures same_time { AreTimed times.same_time }
+    ensures settled { AreTimed times.settled }
+    ensures tomasulo { AreTimed times.tomasulo }
+{}
+
+/// The cases of the leaves of each worked text.
+pub fn worked_cases()
+    ensures scalarsets { HaveCases cases.scalarsets }
+    ensures declared { HaveCases cases.declared }
+    ensures sides { HaveCases cases.sides }
+    ensures ordsets { HaveCases cases.ordsets }
+    ensures others { HaveCases cases.others }
+    ensures kept { HaveCases cases.kept }
+    ensures tomasulo { HaveCases cases.tomasulo }
+{}
