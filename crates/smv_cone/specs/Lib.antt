@@ -1,0 +1,3 @@
+pub mod Parts
+pub mod Begins
+pub mod Searching
