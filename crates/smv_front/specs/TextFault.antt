@@ -9,10 +9,16 @@ use Rattle.law_flattening.specs.Flattening.{flatten}
 use Rattle.law_single_assignment.specs.SingleFaults.{first_fault_of_single}
 use Rattle.law_single_assignment.specs.Definitions.{design_of_raw}
 use Rattle.law_loops_and_layers.specs.FirstFault.{first_fault_of_design}
+use Rattle.law_set_types.specs.SetFaults.{first_fault_of_sets}
+use Rattle.smv_plans.specs.Plans.{plan_fault}
 
--- the first fault of a flattened text: of single assignment, or else of the loops and then of the layers of its design
+-- the first fault of a flattened text behind single assignment: of the loops and then of the layers of its design, or else of its set types, or else of the rules of proof
+abbrev pub design_fault : Raw → Option Fault
+design_fault raw = or_else (first_fault_of_design (design_of_raw raw)) (or_else (first_fault_of_sets raw) (plan_fault (design_of_raw raw)))
+
+-- the first fault of a flattened text
 abbrev pub raw_fault : Raw → Option Fault
-raw_fault raw = or_else (first_fault_of_single raw) (first_fault_of_design (design_of_raw raw))
+raw_fault raw = or_else (first_fault_of_single raw) (design_fault raw)
 
 -- the first fault of a text that is spelled, pass by pass: of its names and then of its size, or else of its kinds, or else of its flattened text
 unfoldable pub text_fault : Text → Option Fault

@@ -1,15 +1,21 @@
-//! The first fault of a text that is spelled, pass by pass.
+//! The plan of a text that is spelled, which is all that is proved of it, or its first fault, pass by pass.
 //!
-//! For `smv_top`. Each pass is a crate of its own; here only their order is decided, and the depths that the stack bears.
+//! For `smv_top`. Each pass is a crate of its own; here only their order is decided, and the depths that the stack bears. A reader begins with `specs/TextFault`.
 #![tactic(auto)]
 
-ghost use Rattle.std.specs.Prelude.{◌≡◌, IfOk};
+ghost use Rattle.std.specs.Prelude.{◌≡◌, true, IfOk};
+ghost use Rattle.law_flat_kinds.specs.FlatKinds.{is_kinded};
 ghost use Rattle.law_loops_and_layers.specs.FirstFault.{first_fault_of_design};
+ghost use Rattle.law_flattening.specs.Flattening.{flatten};
+ghost use Rattle.law_single_assignment.specs.Definitions.{design_of_raw};
 ghost use Rattle.smv_typing.specs.Answers.{IsSpelled};
+ghost use Rattle.smv_cases.specs.Faults.{Refuses};
+ghost use Rattle.smv_instances.specs.FirstFault.{or_else};
+ghost use Rattle.smv_plans.specs.Plans.{plan_fault, IsPlan};
 ghost use Rattle.smv_front.specs.TextFault as spec;
 
 use crate::types::are_too_deep;
-use smv_core::flat::Design;
+use smv_core::flat::{Design, Raw};
 use smv_core::tree::Text;
 use smv_core::{Fault, Refusal};
 use smv_design::design;
@@ -17,8 +23,11 @@ use smv_instances::pieces::pieces;
 use smv_layers::layers::layer_fault;
 use smv_loops::loops::loop_fault;
 use smv_names::first_fault;
+use smv_plans::plan;
+use smv_problem::Plan;
 use smv_single_assignment::single_fault;
-use smv_typing::{Typed, kinds};
+use smv_symmetric::symmetric_fault;
+use smv_typing::kinds;
 use std::alloc::{AllocError, Global};
 
 mod types;
@@ -33,36 +42,62 @@ fn design_fault(alloc: Global, design: &Design) -> Result<Option<Fault>, AllocEr
     }
 }
 
-// The first fault of a flattened text: of single assignment, or else of its design.
-fn typed_fault(alloc: Global, typed: Typed) -> Result<Option<Fault>, AllocError>
-    ensures { IfOk result (λ fault. fault ≡ spec.raw_fault typed) }
+// The plan of a design, where its set types have no fault.
+fn set_plan(alloc: Global, design: Design, of_sets: Option<Fault>) -> Result<Plan, Refusal>
+    ensures plan { IfOk result (IsPlan design) }
+    ensures refuses { Refuses (or_else of_sets (plan_fault design)) result }
 {
-    if let Some(fault) = single_fault(alloc, typed.raw())? {
-        return Ok(Some(fault));
+    match of_sets {
+        Some(fault) => Err(Refusal::Fault(fault)),
+        None => plan(alloc, design),
     }
-    let made = design(alloc, typed.into_raw())?;
-    design_fault(alloc, &made)
 }
 
-/// The first fault of a text that is spelled: of its names and then of its size, or else of its kinds, or else of its flattened text. A later pass
-/// looks only at what the earlier ones found no fault in. `AllocError` also where statements stand more than 1,000 deep inside one another, each
-/// arm of a `switch` inside the one before, or where a chain of types, each inside the one before and each name around what it names, is longer than
+// The plan of a flattened text without a fault of single assignment, or its first fault: of its design, or else of its set types, or else of the rules of proof.
+fn design_plan(alloc: Global, raw: Raw) -> Result<Plan, Refusal>
+    requires { is_kinded raw ≡ true }
+    ensures plan { IfOk result (IsPlan (design_of_raw raw)) }
+    ensures refuses { Refuses (spec.design_fault raw) result }
+{
+    let of_sets = symmetric_fault(alloc, &raw)?;
+    let design = design(alloc, raw)?;
+    match design_fault(alloc, &design)? {
+        Some(fault) => Err(Refusal::Fault(fault)),
+        None => set_plan(alloc, design, of_sets),
+    }
+}
+
+// The plan of a flattened text, or its first fault: of single assignment, or else a later one.
+fn raw_plan(alloc: Global, raw: Raw) -> Result<Plan, Refusal>
+    requires { is_kinded raw ≡ true }
+    ensures plan { IfOk result (IsPlan (design_of_raw raw)) }
+    ensures refuses { Refuses (spec.raw_fault raw) result }
+{
+    match single_fault(alloc, &raw)? {
+        Some(fault) => Err(Refusal::Fault(fault)),
+        None => design_plan(alloc, raw),
+    }
+}
+
+/// The plan of a text that is spelled, or its first fault: of its names and then of its size, or else of its kinds, or else of its flattened text. A later pass
+/// looks only at what the earlier ones found no fault in, and nothing is made twice. Want of memory also where statements stand more than 1,000 deep inside one
+/// another, each arm of a `switch` inside the one before, or where a chain of types, each inside the one before and each name around what it names, is longer than
 /// 10,000: the walks over them would want more stack than there may be.
-#[tactic(auto, unfolding(crate::specs::TextFault::text_fault))]
-pub fn text_fault(alloc: Global, text: &Text) -> Result<Option<Fault>, AllocError>
+#[tactic(auto, using(crate::proofs::FaultLaws::text_answers))]
+pub fn read_plan(alloc: Global, text: &Text) -> Result<Plan, Refusal>
     requires { IsSpelled text.now }
-    ensures { IfOk result (λ fault. fault ≡ spec.text_fault text.now) }
+    ensures plan { IfOk result (IsPlan (design_of_raw (flatten text.now))) }
+    ensures refuses { Refuses (spec.text_fault text.now) result }
 {
     if are_too_deep(alloc, text)? {
-        return Err(AllocError);
+        return Err(Refusal::OutOfMemory);
     }
     let pieces = pieces(alloc, text)?;
-    if let Some(fault) = first_fault(alloc, text, &pieces)? {
-        return Ok(Some(fault));
-    }
-    match kinds(alloc, text, &pieces) {
-        Ok(typed) => typed_fault(alloc, typed),
-        Err(Refusal::Fault(fault)) => Ok(Some(fault)),
-        Err(Refusal::OutOfMemory) => Err(AllocError),
+    match first_fault(alloc, text, &pieces)? {
+        Some(fault) => Err(Refusal::Fault(fault)),
+        None => {
+            let typed = kinds(alloc, text, &pieces)?;
+            raw_plan(alloc, typed.into_raw())
+        }
     }
 }

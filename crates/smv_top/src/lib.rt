@@ -9,13 +9,14 @@ ghost use Rattle.std.specs.Io.KnownBytes.{Appends};
 ghost use Rattle.smv_front.specs.TextFault as front;
 ghost use Rattle.smv_io.specs.Causes.{Rose};
 ghost use Rattle.smv_io.specs.Transfers.{TookFront};
+ghost use Rattle.smv_typing.specs.Answers.{IsSpelled};
 ghost use Rattle.smv_report.specs.Lines.{is_true_verdict, fault_text};
 ghost use Rattle.smv_top.specs.Answers.{IsCommand, IsProve, IsPrint, IsTree, IsSoundDesign, IsDue, Gave, Ends, Completes, all_true, limit, number_of};
 ghost use Rattle.smv_top.specs.Commands.{AsksFor, names};
 
 use smv_core::tree::Text;
 use smv_core::{Fault, Refusal, Report, UnitResult, Verdict};
-use smv_front::text_fault;
+use smv_front::read_plan;
 use smv_io::{ReadError, Sink, Source, read_all, write_all};
 use smv_parse::{one_answer, parse};
 use smv_print::print;
@@ -213,7 +214,19 @@ fn printed(alloc: Global, text: &[u8], tree: &Text) -> Result<Answer, AllocError
     Ok(Answer { status, bytes })
 }
 
-// The answer to a text whose names, size and kinds are to have no fault.
+// The first fault of a text, if there is one. Its plan is not looked at yet.
+fn text_fault(alloc: Global, tree: &Text) -> Result<Option<Fault>, AllocError>
+    requires { IsSpelled tree.now }
+    ensures { IfOk result (λ fault. fault ≡ front.text_fault tree.now) }
+{
+    match read_plan(alloc, tree) {
+        Ok(_) => Ok(None),
+        Err(Refusal::Fault(fault)) => Ok(Some(fault)),
+        Err(Refusal::OutOfMemory) => Err(AllocError),
+    }
+}
+
+// The answer to a text in which no pass is to find a fault.
 fn checked(alloc: Global, text: &[u8], tree: &Text) -> Result<Answer, AllocError>
     requires { IsTree text.now tree.now }
     ensures { IfOk result (λ answer. (words : List (List ℕ)) → IsProve words → IsDue answer.status words text.now answer.bytes.items) }

@@ -1,0 +1,2 @@
+pub mod CaseFaultLaws
+pub mod PlanLaws
