@@ -1,0 +1,5 @@
+pub mod ExpressionLaws
+pub mod GatherLaws
+pub mod ElementLaws
+pub mod SetLaws
+pub mod QuantifierLaws

@@ -1,0 +1,64 @@
+// The bindings inside a quantifier: its variable at each place of its type.
+ghost use Rattle.std.specs.Prelude.{◌≡◌, ◌++◌, ◌∷◌, [], map, take, IfOk, OnOk};
+ghost use Rattle.smv_abstraction.specs.Places.{World, named_in, rests_in, bind_place};
+ghost use Rattle.smv_spots.specs.Spots.{place_in};
+ghost use Rattle.smv_problem_spots.specs.Worlds.{IsWorldOf};
+
+use smv_core::flat::Simple;
+use smv_core::seq::Seq;
+use smv_outcome_lists::bindings::bound_to;
+use smv_problem::Problem;
+use smv_problem_spots::places::{named_over, rests_over};
+use smv_spots::spots::Spot;
+use std::alloc::{AllocError, Global};
+
+// The bindings with the variable at each of these spots, behind others.
+fn add_bound(
+    alloc: Global,
+    out: &mut Vec<Seq<Spot>>,
+    b: &[Spot],
+    var: u16,
+    spots: &[Spot],
+) -> Result<(), AllocError>
+    ensures { OnOk result (out.new.items ≡ out.old.items ++ map (λ q. take var b.now ++ q ∷ []) spots.now) }
+{
+    let Some((spot, others)) = spots.split_first() else {
+        return Ok(());
+    };
+    let inner = bound_to(alloc, b, var, *spot)?;
+    out.push(Seq::from_vec(inner))?;
+    add_bound(alloc, out, b, var, others)?;
+    Ok(())
+}
+
+/// The bindings with the variable at each number, constant and class of its type.
+pub fn bound_named(
+    alloc: Global,
+    problem: &Problem,
+    b: &[Spot],
+    var: u16,
+    over: Simple,
+) -> Result<Vec<Seq<Spot>>, AllocError>
+    ensures { IfOk result (λ inners. (w : World) → IsWorldOf problem.entry.now w → map (map (place_in w.classes)) inners.items ≡ map (bind_place (map (place_in w.classes) b.now) var) (named_in w over)) }
+{
+    let spots = named_over(alloc, problem, over)?;
+    let mut inners = Vec::new(alloc);
+    add_bound(alloc, &mut inners, b, var, spots.as_slice())?;
+    Ok(inners)
+}
+
+/// The bindings with the variable at each rest of its type.
+pub fn bound_rests(
+    alloc: Global,
+    problem: &Problem,
+    b: &[Spot],
+    var: u16,
+    over: Simple,
+) -> Result<Vec<Seq<Spot>>, AllocError>
+    ensures { IfOk result (λ inners. (w : World) → IsWorldOf problem.entry.now w → map (map (place_in w.classes)) inners.items ≡ map (bind_place (map (place_in w.classes) b.now) var) (rests_in w over)) }
+{
+    let spots = rests_over(alloc, problem, over)?;
+    let mut inners = Vec::new(alloc);
+    add_bound(alloc, &mut inners, b, var, spots.as_slice())?;
+    Ok(inners)
+}
