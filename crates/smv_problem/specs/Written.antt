@@ -1,6 +1,6 @@
 -- How a case is written as data. The names of set types and constants are not written: a class, a rest and a constant are written by their numbers, and their types
--- are known where they stand. Variables have no type where they stand, so what they are bound to is written with the number of its type, as a spot.
-use Rattle.std.specs.Prelude.{◌≡◌, ℕ, List, [], ◌∷◌, map, length, get_or, slice_get, unwrap_or, Option, Some, None}
+-- are known where they stand; two enumerations may share a constant, so the names of constants have numbers. Variables have no type where they stand, so what they are bound to is written with the number of its type, as a spot.
+use Rattle.std.specs.Prelude.{◌≡◌, ℕ, suc, List, [], ◌∷◌, map, flat_map, length, get_or, slice_get, unwrap_or, Option, Some, None}
 use Rattle.std.specs.Str.{bytes_eq}
 use Rattle.smv_core.specs.Values.{Name, Value, number, constant, scalar, ordinal}
 use Rattle.smv_core.specs.Flat.{Numbered}
@@ -43,12 +43,21 @@ written_class (rest _) = class.Rest 0
 abbrev pub set_number : Numbered → Name → ℕ
 set_number n t = unwrap_or (place_of (λ (info : SetInfo). bytes_eq info.name t) n.sets) 0
 
--- a place of a variable, with the number of its type; a constant is never one
+-- the first constant of this name in these enumerations, the first of which has this number
+abbrev pub constant_or : ℕ → Option ℕ → Spot → Spot
+constant_or list (Some k) other = spot.Constant list k
+constant_or list None other = other
+
+abbrev pub constant_from : ℕ → List (List Name) → Name → Spot
+constant_from list [] name = spot.Number 0
+constant_from list (names ∷ enums) name = constant_or list (place_of (bytes_eq name) names) (constant_from (suc list) enums name)
+
+-- a place of a variable, with the number of its type
 abbrev pub written_spot : Numbered → Place → Spot
 written_spot n (named (number k)) = spot.Number k
 written_spot n (named (scalar t k)) = spot.Class (set_number n t) k
 written_spot n (named (ordinal t k)) = spot.Class (set_number n t) k
-written_spot n (named (constant name)) = spot.Number 0
+written_spot n (named (constant name)) = constant_from 0 n.enums name
 written_spot n (rest (scalar t g)) = spot.Rest (set_number n t) g
 written_spot n (rest (ordinal t g)) = spot.Rest (set_number n t) g
 written_spot n (rest _) = spot.Number 0
@@ -88,6 +97,10 @@ abbrev pub kind_in : Option Family → Kind
 kind_in (Some f) = kind_of f.value
 kind_in None = Kind.number
 
+-- the number of a name among all constants: equal names have one number, and a name that is none of them has 0, as an empty one has
+abbrev pub name_number : List (List Name) → Name → ℕ
+name_number enums name = unwrap_or (place_of (bytes_eq name) ([] ∷ flat_map (λ names. names) enums)) 0
+
 module _ (c : Case) where
   -- the problem of a case
   unfoldable pub written : Problem
@@ -95,6 +108,7 @@ module _ (c : Case) where
     elements = map written_element c.elements;
     families = c.problem.world.classes.families;
     lists = map length c.problem.world.classes.enums;
+    names = map (map (name_number c.problem.world.classes.enums)) c.problem.world.classes.enums;
     types = map (written_type c.problem.world) c.problem.world.classes.sets;
     now = map (written_demand c.problem.world.classes) c.problem.now;
     before = map (written_demand c.problem.world.classes) c.problem.before;

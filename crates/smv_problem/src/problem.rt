@@ -35,13 +35,14 @@ pub enum Demand {
     },
 }
 
-/// The problem of a case: its elements in cone order, the families of the design, how many constants each enumeration has, the abstract form of each set type,
-/// what is demanded at each time and at each but the last, the target, the guards and the spots of the leaf's parameters.
+/// The problem of a case: its elements in cone order, the families of the design, how many constants each enumeration has and a number for the name of each (one
+/// for equal names, of whatever enumeration), the abstract form of each set type, what is demanded at each time and at each but the last, the target, the guards and the spots of the leaf's parameters.
 #[derive(Drop)]
 pub struct Problem {
     pub elements: Seq<Element>,
     pub families: Seq<Family>,
     pub lists: Seq<u16>,
+    pub names: Seq<Seq<usize>>,
     pub types: Seq<AbsType>,
     pub now: Seq<Demand>,
     pub before: Seq<Demand>,

@@ -26,7 +26,7 @@ pub is_world : (p : Problem) (w : World) → IsWorldOf p w → IsWorld (named_de
 is_world p w h = record { sets = refl; enums = refl; families = refl; forms = h.forms }
 
 -- the same places
-pub same_constants : (p : Problem) (w : World) → IsWorldOf p w → (list k other m : ℕ) → is_one_constant p.lists list k other m ≡ same_place (place_in w.classes (spot.Constant list k)) (place_in w.classes (spot.Constant other m))
+pub same_constants : (p : Problem) (w : World) → IsWorldOf p w → (list k other m : ℕ) → is_one_constant p.names list k other m ≡ same_place (place_in w.classes (spot.Constant list k)) (place_in w.classes (spot.Constant other m))
 same_constants p w h list k other m = sym (h.constants list k other m)
 
 pub same_classes : (p : Problem) (w : World) → IsWorldOf p w → (s k t m : ℕ) → (is_one_number (length p.types) s t && nat_eq k m) ≡ same_place (place_in w.classes (spot.Class s k)) (place_in w.classes (spot.Class t m))

@@ -1,5 +1,5 @@
 -- The worlds of which a problem speaks by numbers alone: there names are told apart exactly where their numbers are.
-use Rattle.std.specs.Prelude.{◌≡◌, ℕ, List, [], length, get_or, slice_get, Option, Some, None, Bool, true, false, ◌&&◌, ◌||◌, if◌then◌else◌, bytes_eq, nat_eq, nat_lt, nat_le}
+use Rattle.std.specs.Prelude.{◌≡◌, ℕ, List, [], length, get_or, slice_get, Option, Some, None, Bool, true, false, ◌&&◌, ◌||◌, bytes_eq, nat_eq, nat_le}
 use Rattle.smv_core.specs.Values.{Name}
 use Rattle.smv_abstraction.specs.Places.{World}
 use Rattle.smv_abstraction.specs.declared.abstract_type.Rest.{Rest}
@@ -20,9 +20,13 @@ name_at enums list k = get_or (get_or enums list []) k []
 abbrev pub is_one_number : ℕ → ℕ → ℕ → Bool
 is_one_number count s t = nat_eq s t || (nat_le count s && nat_le count t)
 
--- one constant by two enumerations and places; those that are not there count as one
-abbrev pub is_one_constant : List ℕ → ℕ → ℕ → ℕ → ℕ → Bool
-is_one_constant lists list k other m = if nat_lt k (count_at lists list) then nat_eq list other && nat_eq k m else nat_le (count_at lists other) m
+-- the number of the name of a constant by its enumeration and its place there, 0 where there is none
+abbrev pub name_number_at : List (List ℕ) → ℕ → ℕ → ℕ
+name_number_at names list k = get_or (get_or names list []) k 0
+
+-- one constant by two enumerations and places: its names have one number
+abbrev pub is_one_constant : List (List ℕ) → ℕ → ℕ → ℕ → ℕ → Bool
+is_one_constant names list k other m = nat_eq (name_number_at names list k) (name_number_at names other m)
 
 -- a set type with gaps, which is an ordset
 abbrev pub is_gaps : Rest → Bool
@@ -41,4 +45,4 @@ pub record IsWorldOf (p : Problem) (w : World) : Type 0 where
   pub forms : AreTypes w w.classes.sets p.types
   pub ordered : (set : ℕ) → is_ordset (slice_get w.classes.sets set) ≡ has_gaps (slice_get p.types set)
   pub sets : (s t : ℕ) → is_same_set (slice_get w.classes.sets s) (slice_get w.classes.sets t) ≡ is_one_number (length p.types) s t
-  pub constants : (list k other m : ℕ) → bytes_eq (name_at w.classes.enums list k) (name_at w.classes.enums other m) ≡ is_one_constant p.lists list k other m
+  pub constants : (list k other m : ℕ) → bytes_eq (name_at w.classes.enums list k) (name_at w.classes.enums other m) ≡ is_one_constant p.names list k other m

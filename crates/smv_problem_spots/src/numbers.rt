@@ -1,7 +1,7 @@
 // Set types and enumerations of a problem by their numbers.
-ghost use Rattle.std.specs.Prelude.{◌≡◌, length, slice_get};
+ghost use Rattle.std.specs.Prelude.{◌≡◌, length, get_or, slice_get};
 ghost use Rattle.smv_spots.specs.Spots.{classes_of, count_beside, rests_of};
-ghost use Rattle.smv_problem_spots.specs.Worlds.{count_at, is_one_number, is_one_constant, is_gaps, has_gaps};
+ghost use Rattle.smv_problem_spots.specs.Worlds.{count_at, is_one_number, name_number_at, is_one_constant, is_gaps, has_gaps};
 
 use smv_abstraction::abstract_type::Rest;
 use smv_problem::Problem;
@@ -45,15 +45,31 @@ pub fn constants(problem: &Problem, list: u16) -> u16
     }
 }
 
+// The number of the name at a place of an enumeration.
+fn number_in(names: &[usize], value: u16) -> usize
+    ensures { result ≡ get_or names.now value 0 }
+{
+    match names.get(value as usize) {
+        Some(number) => *number,
+        None => 0,
+    }
+}
+
+/// The number of the name of a constant; 0 where there is none.
+pub fn name_number(problem: &Problem, list: u16, value: u16) -> usize
+    ensures { result ≡ name_number_at problem.entry.now.names list value }
+{
+    match problem.names.as_slice().get(list as usize) {
+        Some(names) => number_in(names.as_slice(), value),
+        None => 0,
+    }
+}
+
 /// Whether two constants are one.
 pub fn is_one_name(problem: &Problem, list: u16, value: u16, other: u16, place: u16) -> bool
-    ensures { result ≡ is_one_constant problem.entry.now.lists list value other place }
+    ensures { result ≡ is_one_constant problem.entry.now.names list value other place }
 {
-    if value < constants(problem, list) {
-        list == other && value == place
-    } else {
-        constants(problem, other) <= place
-    }
+    name_number(problem, list, value) == name_number(problem, other, place)
 }
 
 /// How many classes a set type has.
