@@ -1,5 +1,6 @@
 -- The worlds of which a problem speaks by numbers alone: there names are told apart exactly where their numbers are.
 use Rattle.std.specs.Prelude.{◌≡◌, ℕ, List, [], length, get_or, slice_get, Option, Some, None, Bool, true, false, ◌&&◌, ◌||◌, bytes_eq, nat_eq, nat_le}
+use Rattle.std.specs.List.{list_any}
 use Rattle.smv_core.specs.Values.{Name}
 use Rattle.smv_abstraction.specs.Places.{World}
 use Rattle.smv_abstraction.specs.declared.abstract_type.Rest.{Rest}
@@ -28,6 +29,10 @@ name_number_at names list k = get_or (get_or names list []) k 0
 abbrev pub is_one_constant : List (List ℕ) → ℕ → ℕ → ℕ → ℕ → Bool
 is_one_constant names list k other m = nat_eq (name_number_at names list k) (name_number_at names other m)
 
+-- a constant is one of those of an enumeration
+abbrev pub is_listed_constant : List (List ℕ) → ℕ → ℕ → ℕ → Bool
+is_listed_constant names list other k = list_any (λ number. nat_eq number (name_number_at names other k)) (get_or names list [])
+
 -- a set type with gaps, which is an ordset
 abbrev pub is_gaps : Rest → Bool
 is_gaps beside.Gaps = true
@@ -38,10 +43,11 @@ abbrev pub has_gaps : Option AbsType → Bool
 has_gaps (Some t) = is_gaps t.rest
 has_gaps None = false
 
--- a world with the families of the problem, as many constants, and the abstract forms of its set types, in which names differ where numbers do
+-- a world with the families of the problem, as many constants, each of which has a number, and the abstract forms of its set types, in which names differ where numbers do
 pub record IsWorldOf (p : Problem) (w : World) : Type 0 where
   pub families : w.classes.families ≡ p.families
   pub lists : (list : ℕ) → length (get_or w.classes.enums list []) ≡ count_at p.lists list
+  pub names : (list : ℕ) → length (get_or p.names list []) ≡ count_at p.lists list
   pub forms : AreTypes w w.classes.sets p.types
   pub ordered : (set : ℕ) → is_ordset (slice_get w.classes.sets set) ≡ has_gaps (slice_get p.types set)
   pub sets : (s t : ℕ) → is_same_set (slice_get w.classes.sets s) (slice_get w.classes.sets t) ≡ is_one_number (length p.types) s t
