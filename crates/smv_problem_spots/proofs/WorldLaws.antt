@@ -1,5 +1,5 @@
 -- Worlds by numbers: what spots are there.
-use Rattle.std.proofs.Common.{◌≡◌, ◌<◌, ℕ, ◌+◌, ◌-◌, List, [], ◌∷◌, map, length, get_or, slice_get, Option, Some, None, option_map, Bool, true, false, ◌&&◌, ◌||◌, bytes_eq, nat_eq, nat_lt, nat_le, if◌then◌else◌, arith, refl, sym, ap, ◌∙◌}
+use Rattle.std.proofs.Common.{◌≡◌, ◌<◌, ℕ, zero, suc, ◌+◌, ◌-◌, List, [], ◌∷◌, map, length, get_or, slice_get, Option, Some, None, option_map, Bool, true, false, ◌&&◌, ◌||◌, bytes_eq, nat_eq, nat_lt, nat_le, if◌then◌else◌, arith, refl, sym, ap, subst, ◌∙◌}
 use Rattle.std.specs.List.{list_any}
 use Rattle.smv_core.specs.Values.{Name, Value, constant, scalar, ordinal, same, below, Truth, numbers_from}
 use Rattle.smv_core.specs.declared.flat.Simple.{Simple}
@@ -16,7 +16,7 @@ use Rattle.smv_abstraction.proofs.Same.{nat_eq-is}
 use Rattle.smv_spots.proofs.Numbers.{along, number_among}
 use Rattle.smv_spots.proofs.TypeLaws as types
 use Rattle.smv_problem.specs.declared.problem.Problem.{Problem}
-use Rattle.smv_problem_spots.specs.Worlds.{IsWorldOf, name_at, count_at, is_one_number, is_one_constant, has_gaps}
+use Rattle.smv_problem_spots.specs.Worlds.{IsWorldOf, name_at, count_at, is_one_set, is_one_constant, is_listed_constant, name_number_at, has_gaps}
 
 -- a design with the names of a world
 abbrev pub named_design : World → Design
@@ -29,10 +29,10 @@ is_world p w h = record { sets = refl; enums = refl; families = refl; forms = h.
 pub same_constants : (p : Problem) (w : World) → IsWorldOf p w → (list k other m : ℕ) → is_one_constant p.names list k other m ≡ same_place (place_in w.classes (spot.Constant list k)) (place_in w.classes (spot.Constant other m))
 same_constants p w h list k other m = sym (h.constants list k other m)
 
-pub same_classes : (p : Problem) (w : World) → IsWorldOf p w → (s k t m : ℕ) → (is_one_number (length p.types) s t && nat_eq k m) ≡ same_place (place_in w.classes (spot.Class s k)) (place_in w.classes (spot.Class t m))
+pub same_classes : (p : Problem) (w : World) → IsWorldOf p w → (s k t m : ℕ) → (is_one_set p s t && nat_eq k m) ≡ same_place (place_in w.classes (spot.Class s k)) (place_in w.classes (spot.Class t m))
 same_classes p w h s k t m = ap (λ b. b && nat_eq k m) (sym (h.sets s t)) ∙ sym (types.same_set_value (slice_get w.classes.sets s) (slice_get w.classes.sets t) k m)
 
-pub same_rests : (p : Problem) (w : World) → IsWorldOf p w → (s k t m : ℕ) → (is_one_number (length p.types) s t && nat_eq k m) ≡ same_place (place_in w.classes (spot.Rest s k)) (place_in w.classes (spot.Rest t m))
+pub same_rests : (p : Problem) (w : World) → IsWorldOf p w → (s k t m : ℕ) → (is_one_set p s t && nat_eq k m) ≡ same_place (place_in w.classes (spot.Rest s k)) (place_in w.classes (spot.Rest t m))
 same_rests p w h s k t m = ap (λ b. b && nat_eq k m) (sym (h.sets s t)) ∙ sym (types.same_set_value (slice_get w.classes.sets s) (slice_get w.classes.sets t) k m)
 
 -- values of set types, one below the other
@@ -56,13 +56,13 @@ both_ordered (Some info) (Some other) k m = at info.ordered other.ordered
     at false true = refl
     at false false = refl
 
-below_in : (p : Problem) (w : World) → IsWorldOf p w → (s k t m : ℕ) → below (Some (of_set (slice_get w.classes.sets s) k)) (Some (of_set (slice_get w.classes.sets t) m)) ≡ (if has_gaps (slice_get p.types s) && is_one_number (length p.types) s t then Some (nat_lt k m) else None)
+below_in : (p : Problem) (w : World) → IsWorldOf p w → (s k t m : ℕ) → below (Some (of_set (slice_get w.classes.sets s) k)) (Some (of_set (slice_get w.classes.sets t) m)) ≡ (if has_gaps (slice_get p.types s) && is_one_set p s t then Some (nat_lt k m) else None)
 below_in p w h s k t m = both_ordered (slice_get w.classes.sets s) (slice_get w.classes.sets t) k m ∙ (ap (λ b. if b && is_same_set (slice_get w.classes.sets s) (slice_get w.classes.sets t) then Some (nat_lt k m) else None) (h.ordered s) ∙ ap (λ b. if has_gaps (slice_get p.types s) && b then Some (nat_lt k m) else None) (h.sets s t))
 
-pub below_where : (p : Problem) (w : World) → IsWorldOf p w → (s k t m : ℕ) → has_gaps (slice_get p.types s) ≡ true → is_one_number (length p.types) s t ≡ true → Some (nat_lt k m) ≡ below (Some (of_set (slice_get w.classes.sets s) k)) (Some (of_set (slice_get w.classes.sets t) m))
-below_where p w h s k t m e f = sym (below_in p w h s k t m ∙ (ap (λ b. if b && is_one_number (length p.types) s t then Some (nat_lt k m) else None) e ∙ ap (λ b. if b then Some (nat_lt k m) else None) f))
+pub below_where : (p : Problem) (w : World) → IsWorldOf p w → (s k t m : ℕ) → has_gaps (slice_get p.types s) ≡ true → is_one_set p s t ≡ true → Some (nat_lt k m) ≡ below (Some (of_set (slice_get w.classes.sets s) k)) (Some (of_set (slice_get w.classes.sets t) m))
+below_where p w h s k t m e f = sym (below_in p w h s k t m ∙ (ap (λ b. if b && is_one_set p s t then Some (nat_lt k m) else None) e ∙ ap (λ b. if b then Some (nat_lt k m) else None) f))
 
-pub below_nowhere : (p : Problem) (w : World) → IsWorldOf p w → (s k t m : ℕ) → (has_gaps (slice_get p.types s) && is_one_number (length p.types) s t) ≡ false → None ≡ below (Some (of_set (slice_get w.classes.sets s) k)) (Some (of_set (slice_get w.classes.sets t) m))
+pub below_nowhere : (p : Problem) (w : World) → IsWorldOf p w → (s k t m : ℕ) → (has_gaps (slice_get p.types s) && is_one_set p s t) ≡ false → None ≡ below (Some (of_set (slice_get w.classes.sets s) k)) (Some (of_set (slice_get w.classes.sets t) m))
 below_nowhere p w h s k t m e = sym (below_in p w h s k t m ∙ ap (λ b. if b then Some (nat_lt k m) else None) e)
 
 -- a test along a list by its places
@@ -93,46 +93,46 @@ never_past : (i n m : ℕ) → i < n → n ≡ m → nat_le m i ≡ false
 never_past i n m l e = grind arith
 
 -- a constant in an enumeration
-constant_listed : (p : Problem) (w : World) → IsWorldOf p w → (list other k : ℕ) → list_any (bytes_eq (name_at w.classes.enums other k)) (get_or w.classes.enums list []) ≡ (nat_eq list other && nat_lt k (count_at p.lists list))
-constant_listed p w h list other k = at (nat_lt k (count_at p.lists other)) refl
+constant_listed : (p : Problem) (w : World) → IsWorldOf p w → (list other k : ℕ) → list_any (bytes_eq (name_at w.classes.enums other k)) (get_or w.classes.enums list []) ≡ is_listed_constant p.names list other k
+constant_listed p w h list other k =
+    sym (any_along found (bytes_eq (name_at w.classes.enums other k)) [] names (λ i l. either_way (name_number_at p.names list i) wanted ∙ sym (h.constants other k list i)))
+    ∙ (ap (λ n. list_any found (numbers_from 0 n)) (h.lists list ∙ sym (h.names list)) ∙ any_along found (λ number. nat_eq number wanted) 0 numbers (λ i l. refl))
   where
     names : List Name
     names = get_or w.classes.enums list []
 
-    name : Name
-    name = name_at w.classes.enums other k
+    numbers : List ℕ
+    numbers = get_or p.names list []
 
-    found : (b : Bool) → nat_lt k (count_at p.lists other) ≡ b → (i : ℕ) → bytes_eq name (get_or names i []) ≡ (if b then nat_eq other list && nat_eq k i else nat_le (count_at p.lists list) i)
-    found b e i = h.constants other k list i ∙ ap (λ c. if c then nat_eq other list && nat_eq k i else nat_le (count_at p.lists list) i) e
+    wanted : ℕ
+    wanted = name_number_at p.names other k
 
-    turned : (n : ℕ) → nat_lt k (count_at p.lists other) ≡ true → n ≡ count_at p.lists list → ((nat_le 0 k && nat_lt k (0 + n)) && nat_eq other list) ≡ (nat_eq list other && nat_lt k (count_at p.lists list))
-    turned n e f = ap (λ m. (nat_le 0 k && nat_lt k m) && nat_eq other list) (after_none n (count_at p.lists list) f) ∙ both (nat_le 0 k) (nat_lt k (count_at p.lists list)) (nat_eq other list) (nat_eq list other) (from_none k) (either_way other list)
-      where
-        both : (t x y z : Bool) → t ≡ true → y ≡ z → ((t && x) && y) ≡ (z && x)
-        both true true true z r q = ap (λ c. c && true) q
-        both true true false z r q = ap (λ c. c && true) q
-        both true false y true r q = refl
-        both true false y false r q = refl
-        both false x y z r q = absurd (cc)
+    found : ℕ → Bool
+    found i = nat_eq (name_number_at p.names list i) wanted
 
-    nowhere : nat_lt k (count_at p.lists other) ≡ false → false ≡ (nat_eq list other && nat_lt k (count_at p.lists list))
-    nowhere e = by (nat_eq list other) refl
-      where
-        by : (b : Bool) → nat_eq list other ≡ b → false ≡ (b && nat_lt k (count_at p.lists list))
-        by true q = sym (ap (λ l. nat_lt k (count_at p.lists l)) (nat_eq-is list other q) ∙ e)
-        by false q = refl
-
-    at : (b : Bool) → nat_lt k (count_at p.lists other) ≡ b → list_any (bytes_eq name) names ≡ (nat_eq list other && nat_lt k (count_at p.lists list))
-    at true e = sym (any_along (λ i. nat_eq other list && nat_eq k i) (bytes_eq name) [] names (λ i l. sym (found true e i))) ∙ (number_among (nat_eq other list) k 0 (length names) ∙ turned (length names) e (h.lists list))
-    at false e = sym (any_along (λ i. false) (bytes_eq name) [] names (λ i l. sym (found false e i ∙ never_past i (length names) (count_at p.lists list) l (h.lists list)))) ∙ (any_never (numbers_from 0 (length names)) ∙ nowhere e)
-
-pub constant_among : (p : Problem) (w : World) → IsWorldOf p w → (list other k : ℕ) → (nat_eq list other && nat_lt k (count_at p.lists list)) ≡ is_among (places_in w (Enum list)) (place_in w.classes (spot.Constant other k))
+pub constant_among : (p : Problem) (w : World) → IsWorldOf p w → (list other k : ℕ) → is_listed_constant p.names list other k ≡ is_among (places_in w (Enum list)) (place_in w.classes (spot.Constant other k))
 constant_among p w h list other k = sym (types.constant_in_list (named_design w) w list (name_at w.classes.enums other k) refl ∙ constant_listed p w h list other k)
 
-pub class_among : (p : Problem) (w : World) → IsWorldOf p w → (set other k : ℕ) → (nat_lt k (classes_of (slice_get p.types set)) && is_one_number (length p.types) other set) ≡ is_among (places_in w (Set set)) (place_in w.classes (spot.Class other k))
+-- a number is among those in which it stands
+has-own : (xs : List ℕ) (k : ℕ) → k < length xs → list_any (λ number. nat_eq number (get_or xs k 0)) xs ≡ true
+has-own [] k l = absurd (grind (arith, l))
+has-own (x ∷ xs) zero l = ap (λ b. b || list_any (λ number. nat_eq number x) xs) (same_number x)
+  where
+    same_number : (n : ℕ) → nat_eq n n ≡ true
+    same_number n = grind arith
+has-own (x ∷ xs) (suc k) l = later (nat_eq x (get_or xs k 0)) (has-own xs k (grind (arith, l)))
+  where
+    later : {b : Bool} (c : Bool) → b ≡ true → (c || b) ≡ true
+    later true e = refl
+    later false e = e
+
+pub own_constant : (names : List (List ℕ)) (list other k : ℕ) → list ≡ other → k < length (get_or names list []) → true ≡ is_listed_constant names list other k
+own_constant names list other k same l = subst (λ o. true ≡ is_listed_constant names list o k) same (sym (has-own (get_or names list []) k l))
+
+pub class_among : (p : Problem) (w : World) → IsWorldOf p w → (set other k : ℕ) → (nat_lt k (classes_of (slice_get p.types set)) && is_one_set p other set) ≡ is_among (places_in w (Set set)) (place_in w.classes (spot.Class other k))
 class_among p w h set other k = sym (types.class_among (named_design w) p.types w set other k (is_world p w h) ∙ ap (λ b. nat_lt k (classes_of (slice_get p.types set)) && b) (h.sets other set))
 
-pub rest_among : (p : Problem) (w : World) → IsWorldOf p w → (set other k : ℕ) → (nat_lt k (rests_of (slice_get p.types set)) && is_one_number (length p.types) other set) ≡ is_among (places_in w (Set set)) (place_in w.classes (spot.Rest other k))
+pub rest_among : (p : Problem) (w : World) → IsWorldOf p w → (set other k : ℕ) → (nat_lt k (rests_of (slice_get p.types set)) && is_one_set p other set) ≡ is_among (places_in w (Set set)) (place_in w.classes (spot.Rest other k))
 rest_among p w h set other k = sym (types.rest_among (named_design w) p.types w set other k (is_world p w h) ∙ ap (λ b. nat_lt k (rests_of (slice_get p.types set)) && b) (h.sets other set))
 
 -- a constant by its number

@@ -1,11 +1,12 @@
 // The places of a type, and constants.
-ghost use Rattle.std.specs.Prelude.{◌≡◌, ◌-◌, ◌&&◌, map, IfOk, get_or, slice_get, option_map, nat_eq, nat_lt, nat_le, length, []};
+ghost use Rattle.std.specs.Prelude.{◌≡◌, ◌-◌, ◌&&◌, map, IfOk, get_or, slice_get, option_map, nat_eq, nat_lt, nat_le, []};
+ghost use Rattle.std.specs.List.{list_any};
 ghost use Rattle.smv_core.specs.Values.{constant};
 ghost use Rattle.smv_abstraction.specs.Places.{World, named_in, rests_in, places_in, is_among, as_place};
 ghost use Rattle.smv_spots.specs.Spots.{place_in, outcome_in, classes_of, rests_of};
-ghost use Rattle.smv_problem_spots.specs.Worlds.{IsWorldOf, count_at, is_one_number};
+ghost use Rattle.smv_problem_spots.specs.Worlds.{IsWorldOf, is_one_set, name_number_at, is_listed_constant};
 
-use crate::numbers::{classes, constants, is_one_set, rests};
+use crate::numbers::{classes, constants, is_one_set, name_number, rests};
 use smv_core::flat::Simple;
 use smv_problem::Problem;
 use smv_spots::places::{Sort, spots_from};
@@ -65,23 +66,37 @@ fn is_number(low: u8, high: u8, value: u16) -> bool
     u16::from(low) <= value && value <= u16::from(high)
 }
 
-// Whether an enumeration has a constant.
-fn is_constant(problem: &Problem, list: u16, other: u16, value: u16) -> bool
-    ensures { result ≡ (nat_eq list other && nat_lt value (count_at problem.entry.now.lists list)) }
+// Whether a number is one of these.
+fn has_number(names: &[usize], wanted: usize) -> bool
+    ensures { result ≡ list_any (λ number. nat_eq number wanted) names.now }
 {
-    list == other && value < constants(problem, list)
+    names.iter().any(|number| *number == wanted)
+}
+
+// Whether an enumeration has a constant, which is most often one of its own.
+#[tactic(auto, using(crate::proofs::WorldLaws::own_constant))]
+fn is_constant(problem: &Problem, list: u16, other: u16, value: u16) -> bool
+    ensures { result ≡ is_listed_constant problem.entry.now.names list other value }
+{
+    let Some(names) = problem.names.as_slice().get(list as usize) else {
+        return false;
+    };
+    if list == other && (value as usize) < names.len() {
+        return true;
+    }
+    has_number(names.as_slice(), name_number(problem, other, value))
 }
 
 // Whether a set type has a class.
 fn is_class(problem: &Problem, set: u16, other: u16, class: u16) -> bool
-    ensures { result ≡ (nat_lt class (classes_of (slice_get problem.entry.now.types set)) && is_one_number (length problem.entry.now.types) other set) }
+    ensures { result ≡ (nat_lt class (classes_of (slice_get problem.entry.now.types set)) && is_one_set problem.entry.now other set) }
 {
     u32::from(class) < classes(problem, set) && is_one_set(problem, other, set)
 }
 
 // Whether a set type has a rest.
 fn is_rest(problem: &Problem, set: u16, other: u16, rest: u16) -> bool
-    ensures { result ≡ (nat_lt rest (rests_of (slice_get problem.entry.now.types set)) && is_one_number (length problem.entry.now.types) other set) }
+    ensures { result ≡ (nat_lt rest (rests_of (slice_get problem.entry.now.types set)) && is_one_set problem.entry.now other set) }
 {
     u32::from(rest) < rests(problem, set) && is_one_set(problem, other, set)
 }
