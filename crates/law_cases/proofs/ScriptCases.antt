@@ -103,7 +103,7 @@ module _ (s : Script) (checked : IsChecked s) (have : HaveValues s.design) (entr
   name_filled false name (inl lt) = some_of (Has-left (rests_of w (scalarset name)) (Has-map named (Has-map (scalar name) (Has-numbers 0 (w.classes.sizes name) 0 (omega arith) (omega arith)))))
   name_filled false name (inr h) = some_of (Has-right (named_of w (scalarset name)) (Has-map (λ g. rest (scalar name g)) h))
 
-  filled : (t : FlatSimple) → IsFilled s.design t → 0 < length (places_in w t)
+  pub filled : (t : FlatSimple) → IsFilled s.design t → 0 < length (places_in w t)
   filled (Range low high) h = some_of (Has-left [] (Has-map named (Has-map number (Has-numbers low (high + 1 - low) low (omega arith) (omega (arith, h))))))
   filled (Enum list) h = some_of (Has-left [] (Has-map named (Has-map constant h.1)))
   filled (Set set) h = subst (λ (i : Option SetInfo). 0 < length (places_of w (set_type i))) (sym h.1) (name_filled h.0.ordered h.0.name (set_filled set h.0 h.1))

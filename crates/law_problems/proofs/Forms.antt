@@ -1,11 +1,12 @@
 -- The problem of a case is well formed.
 use Rattle.std.proofs.Common.{◌≡◌, ◌≢◌, ℕ, zero, suc, ◌+◌, ◌-◌, ◌<◌, ◌≤◌, List, [], ◌∷◌, ◌++◌, map, take, length, Bool, true, false, ◌&&◌, if◌then◌else◌, refl, sym, ap, subst, ◌∙◌, ◌⊎◌, inl, inr, Option, Some, None, option_to_list, nat_lt, arith}
 use Rattle.std.specs.Prelude.{IfSome, IsTrue}
-use Rattle.std.specs.List.{flat_map, slice_get, zip}
+use Rattle.std.specs.List.{flat_map, slice_get, zip, list_all}
 use Rattle.smv_core.specs.Values.{numbers_from}
 use Rattle.smv_core.specs.declared.flat.Simple.{Simple}
 use Rattle.smv_core.specs.declared.flat.Simple.TheVariants.{Range, Enum, Set}
 use Rattle.smv_core.specs.declared.flat.SetInfo.{SetInfo}
+use Rattle.smv_core.specs.declared.flat.Family.{Family}
 use Rattle.smv_core.specs.declared.flat.Def.{Def}
 use Rattle.smv_core.specs.declared.flat.Claim.{Claim as FlatClaim}
 use Rattle.smv_core.specs.declared.flat.Param.{Param}
@@ -25,32 +26,32 @@ use Rattle.smv_core.specs.declared.flat.Class.TheVariants.{Number, Named, Rest}
 use Rattle.smv_abstraction.specs.declared.abstract_type.Rest.TheVariants as beside
 use Rattle.smv_abstraction.specs.declared.abstract_type.AbsType.{AbsType}
 use Rattle.smv_abstraction.specs.Sets.{Has, first, later, one_of_each}
-use Rattle.smv_abstraction.specs.Places.{Place, World, named_in, rests_in, places_in}
+use Rattle.smv_abstraction.specs.Places.{Place, is_named, World, named_in, rests_in, places_in}
 use Rattle.smv_abstraction.specs.Pictures.{AreNamedOf}
 use Rattle.smv_abstraction.specs.Cases.{Treatment, whole, reduced, ordered, Parameter, is_set, those_of, used, named_among, listed_classes, abstract_type, type_in, candidates, numbered}
 use Rattle.smv_abstraction.specs.Covers.{types_at, IsIndexType}
 use Rattle.smv_abstraction.specs.LeafCases.{kept_of, treatment_of, treatments_of, stays}
 use Rattle.smv_abstraction.specs.Obligations.{Demanded, defined, holds}
-use Rattle.smv_abstraction.specs.Soundness.{FlatUnit, map_of, claim_of, over_of, params_of, said_at}
-use Rattle.smv_abstraction.proofs.Members.{Has-left, Has-cases, Has-from_map, Has-uncons}
+use Rattle.smv_abstraction.specs.Soundness.{FlatUnit, map_of, claim_of, over_of, params_of, said_at, IsDefinition}
+use Rattle.smv_abstraction.proofs.Members.{Has-left, Has-cases, Has-from_map, Has-uncons, any-some}
 use Rattle.smv_abstraction.proofs.Spots.{numbers-Has}
-use Rattle.smv_abstraction.proofs.OneOfEach.{AreOf as AreMembers, are_of, map_joined, map_long, Has-from_flat_map, get_Has, Has_get}
+use Rattle.smv_abstraction.proofs.OneOfEach.{AreOf as AreMembers, are_of, one_of, map_joined, map_long, Has-from_flat_map, get_Has, Has_get}
 use Rattle.smv_abstraction.proofs.CoverNames.{by_name-at, numbered-at}
 use Rattle.law_obligations.specs.Reached.{is_among, reached}
 use Rattle.law_obligations.specs.Outlines.{Entry, Outline, Script, entries_of, outline_of, names_of, nothing_claimed, as_map, as_claim, unit_in, map_in, assumed, chosen}
 use Rattle.law_obligations.specs.Units.{units_of, script_of}
 use Rattle.law_obligations.specs.Cones.{AbsElement, element, same_element, elements, first_elements, next_elements, cone}
-use Rattle.law_obligations.specs.Problems.{is_at, family_time, leaf_params, leaf_treatments, world_of, params_at, own_params, element_demands, own_demands, itself_demands, instances, claim_demands, demands}
+use Rattle.law_obligations.specs.Problems.{is_at, family_time, leaf_params, leaf_treatments, world_of, params_at, own_params, element_demands, own_demands, itself_demands, instances, claim_demands, demands, plan_of}
 use Rattle.law_obligations.specs.Checked.{IsSplit, IsFilled}
 use Rattle.law_obligations.proofs.Lookups.{inner, Has-option, Has-tested, Has-from_filter}
 use Rattle.law_obligations.proofs.OutlineFacts.{Comes, from_base, from_unit, bases-are, unit-def, map_in-is, chosen-comes, assumed-comes}
-use Rattle.law_obligations.proofs.CasePlaces.{IsThere, case_places, treatment_there, take_of}
-use Rattle.law_obligations.proofs.ConeFacts.{in_cone-is, same_element-family}
+use Rattle.law_obligations.proofs.CasePlaces.{IsThere, case_places, treatment_there, take_of, named_there}
+use Rattle.law_obligations.proofs.ConeFacts.{in_cone-is, same_element-family, same_element-indexes, own_kept}
 use Rattle.law_flat_kinds.specs.FlatKinds as kinds
 use Rattle.law_flat_kinds.specs.FlatKinds.{Kind, kind_of}
 use Rattle.law_codes.specs.Readings.{Case, IsCase, state_bits}
 use Rattle.law_cases.specs.Scripts.{case_of}
-use Rattle.law_cases.proofs.ScriptCases.{is_case}
+use Rattle.law_cases.proofs.ScriptCases.{is_case, filled}
 use Rattle.smv_problem.specs.WellFormed.{as_raw, keeps_orders, AreOf, IsFit, IsFitGuard, IsWellFormed}
 use Rattle.law_problems.specs.Parts.{outlined, entry_of, case_with, IsPart, IsCaseOf}
 use Rattle.law_problems.proofs.Unlike.{AreUnlike, unlike-filter, unlike-elements, apart_elements}
@@ -216,6 +217,9 @@ module _ (d : Design) (leaf : Leaf) (choice : Choice) (part : IsPart d leaf choi
   a_case : IsCase c
   a_case = subst (λ (o : Outline). IsCase (case_of o entry times classes)) same_outline (is_case s part.is_checked part.have_values entry classes times)
 
+  type_has_value : (f : Family) → Has d.families f → 0 < length (places_in w f.value)
+  type_has_value f h = subst (λ (o : Outline). 0 < length (places_in (world_of o entry classes) f.value)) same_outline (filled s part.is_checked part.have_values entry classes f.value (part.is_checked.are_filled f h))
+
   split : IsSplit s entry
   split = part.is_checked.are_split entry part.is_entry
 
@@ -343,13 +347,48 @@ module _ (d : Design) (leaf : Leaf) (choice : Choice) (part : IsPart d leaf choi
       found : (p : Parameter) → Has (leaf_params entry) p → IsThere d.sets p.over
       found p h = let r = Has-from_map (λ (p : Param). record { over = p.over; listed = stays choice.keeps p.over p.var }) leaf.params h in subst (λ (p : Parameter). IsThere d.sets p.over) (sym r.2) (there r.0.over (split.are_filled r.0 r.1))
 
-  own-are : AreOf w (params_of (names_of d) (unit_in d entry.unit)) own
-  own-are =
+  own-members : AreMembers (map (places_in w) (params_of (names_of d) (unit_in d entry.unit))) own
+  own-members =
       let over = params_of (names_of d) (unit_in d entry.unit) in
       let params = params_at o entry classes in
       let front : AreMembers (map (places_in w) over ++ map (places_in w) split.added) params =
       subst (λ xss. AreMembers xss params) (map_joined (places_in w) over split.added) (subst (λ ts. AreMembers (map (places_in w) ts) params) split.are_params params-are) in
-      places-are w over own (subst (AreMembers (map (places_in w) over)) (ap (λ k. take k params) (map_long (places_in w) over)) (take_of (map (places_in w) over) (map (places_in w) split.added) params front))
+      subst (AreMembers (map (places_in w) over)) (ap (λ k. take k params) (map_long (places_in w) over)) (take_of (map (places_in w) over) (map (places_in w) split.added) params front)
+
+  own-are : AreOf w (params_of (names_of d) (unit_in d entry.unit)) own
+  own-are = places-are w (params_of (names_of d) (unit_in d entry.unit)) own own-members
+
+  -- the target's element, where it is at no rest
+  target_there : (unit : FlatUnit) → unit_in d entry.unit ≡ unit → (def : Def) (indexes : List Place) → said_at unit own ≡ defined def indexes → list_all is_named indexes ≡ true → Has the_cone (element def.family indexes)
+  target_there (claim_of claim) e def indexes is named = absurd (clash is)
+    where
+      clash : {b : List Place} → holds claim.body b ≡ defined def indexes → ⊥
+      clash e = cc
+  target_there (map_of target) e def indexes is named =
+      subst (λ (x : AbsElement). Has the_cone x) (ap (λ (k : ℕ). element k own) (ap (λ (g : Def). g.family) (def_is is)) ∙ ap (element def.family) (indexes_are is))
+      (at (subst (λ ps. list_all is_named ps ≡ true) (sym (indexes_are is)) named))
+    where
+      def_is : {f g : Def} {is js : List Place} → defined f is ≡ defined g js → f ≡ g
+      def_is e = cc
+
+      indexes_are : {f g : Def} {is js : List Place} → defined f is ≡ defined g js → is ≡ js
+      indexes_are e = cc
+
+      over : List Simple
+      over = over_of (slice_get d.families target.family)
+
+      definition : IsDefinition (plan_of s) target
+      definition = part.is_checked.are_definitions target (def-of entry.unit target e)
+
+      members : AreMembers (map (places_in w) over) own
+      members = subst (λ (unit : FlatUnit). AreMembers (map (places_in w) (params_of (names_of d) unit)) own) e own-members
+
+      at : list_all is_named own ≡ true → Has the_cone (element target.family own)
+      at all_named =
+          let is_own : take (length over) (params_at o entry classes) ≡ own = ap (λ (unit : FlatUnit). take (length (params_of (names_of d) unit)) (params_at o entry classes)) (sym e) in
+          let r = any-some (same_element (element target.family own)) the_cone
+          (own_kept w o entry (params_at o entry classes) target e definition.family definition.is_family own is_own (one_of (map (named_in w) over) own (named_there w over own members all_named)) all_named) in
+          subst (Has the_cone) (sym (ap (λ (k : ℕ). element k own) (same_element-family (element target.family own) r.0 r.2) ∙ ap (element r.0.family) (same_element-indexes (element target.family own) r.0 r.2))) r.1
 
   fits_unit : (unit : FlatUnit) → IsOf d unit → (ps : List Place) → AreOf w (params_of (names_of d) unit) ps → IsFit c (said_at unit ps)
   fits_unit (map_of def) is ps are = fits_def def is ps are
@@ -414,5 +453,8 @@ module _ (d : Design) (leaf : Leaf) (choice : Choice) (part : IsPart d leaf choi
     gaps = λ info h e. let t = typed info h in subst (λ (a : AbsType). a.named ≤ 255) (sym t.is_type) (gaps-few info.ordered info.size t.keep t.classes_used t.few (ap (λ (a : AbsType). a.rest) (sym t.is_type) ∙ e));
     gapped = λ info h e. let t = typed info h in ap (λ (a : AbsType). a.rest) t.is_type ∙ ap (λ (b : Bool). (abstract_type (treatment_of b info.size t.keep) t.classes_used).rest) e;
     ungapped = λ info h e g. let t = typed info h in ungapped-is info.size t.keep t.classes_used (ap (λ (b : Bool). (abstract_type (treatment_of b info.size t.keep) t.classes_used).rest) (sym e) ∙ (ap (λ (a : AbsType). a.rest) (sym t.is_type) ∙ g));
+    have_values = type_has_value;
+    index_types = part.is_fit.indexes;
+    target_is_kept = λ def indexes is named. target_there (unit_in d entry.unit) refl def indexes is named;
     bits = few;
   }

@@ -5,22 +5,24 @@ use Rattle.smv_core.specs.Values.{Name}
 use Rattle.smv_core.specs.Flat.{Numbered}
 use Rattle.smv_core.specs.declared.flat.SetInfo.{SetInfo}
 use Rattle.smv_core.specs.declared.flat.Simple.{Simple}
+use Rattle.smv_core.specs.declared.flat.Family.{Family}
 use Rattle.smv_core.specs.declared.tree.Op.{Op}
 use Rattle.smv_core.specs.declared.tree.Op.TheVariants.{Equal, Differ}
 use Rattle.smv_core.specs.declared.flat.FlatMember.{One, Span as SpanOf}
 use Rattle.smv_core.specs.declared.flat.FlatExpr.{FlatExpr, Number, Read', Var, Loop, Constant, Not', And', Or', Implies', Iff', Compare', Within', Sum', Modulo', Choose', All', Any', List', Each', None', Some', Row_of-FlatExpr, end_of-FlatExpr, more_of-FlatExpr, Row_of-FlatMember, end_of-FlatMember, more_of-FlatMember, Row_of-FlatSigned, end_of-FlatSigned, more_of-FlatSigned}
 use Rattle.smv_core.specs.declared.flat.Flat.{Flat, Nothing, Assign, If', First', Forall', Row_of-Flat, end_of-Flat, more_of-Flat}
+use Rattle.smv_core.specs.declared.flat.Def.{Def}
 use Rattle.smv_core.specs.declared.flat.Guard.{Guard}
 use Rattle.smv_core.specs.declared.flat.Raw.{Raw}
 use Rattle.smv_abstraction.specs.Sets.{Has}
-use Rattle.smv_abstraction.specs.Places.{Place, World, places_in}
+use Rattle.smv_abstraction.specs.Places.{Place, is_named, World, places_in}
 use Rattle.smv_abstraction.specs.May.{AbsState}
 use Rattle.smv_abstraction.specs.declared.abstract_type.Rest.TheVariants.{Gaps}
-use Rattle.smv_abstraction.specs.Covers.{AreApart}
+use Rattle.smv_abstraction.specs.Covers.{AreApart, IsIndexType}
 use Rattle.smv_abstraction.specs.Soundness.{over_of}
 use Rattle.smv_abstraction.specs.Pictures.{IsAbsState, AreNamedOf}
 use Rattle.smv_abstraction.specs.Obligations.{Demanded, defined, holds}
-use Rattle.law_obligations.specs.Cones.{AbsElement}
+use Rattle.law_obligations.specs.Cones.{AbsElement, element}
 use Rattle.law_flat_kinds.specs.FlatKinds as kinds
 use Rattle.law_flat_kinds.specs.FlatKinds.{Kind, set_type, Vars, kind_of}
 use Rattle.law_codes.specs.Readings.{Case, IsCase, state_bits}
@@ -143,7 +145,7 @@ module _ (c : Case) where
     pub is_of : IsOfKind g.expr over c.problem.params kind
     pub has_param : slice_get over g.var ≡ Some g.over
 
-  -- a case whose problem the calls take: its set types and constants have names of their own, its elements are distinct, all that is demanded keeps the rules of
+  -- a case whose problem the calls take: its set types and constants have names of their own, each family has index types and a type with a value, its elements are distinct, the target's is one where it is at no rest, all that is demanded keeps the rules of
   -- kinds, and its numbers fit their fields
   pub record IsWellFormed : Type 0 where
     pub is_case : IsCase c
@@ -160,6 +162,9 @@ module _ (c : Case) where
     pub gaps : (info : SetInfo) → Has names.sets info → c.problem.world.rests info.name ≡ Gaps → c.problem.world.classes.sizes info.name ≤ 255
     pub gapped : (info : SetInfo) → Has names.sets info → info.ordered ≡ true → c.problem.world.rests info.name ≡ Gaps
     pub ungapped : (info : SetInfo) → Has names.sets info → info.ordered ≡ false → c.problem.world.rests info.name ≢ Gaps
+    pub have_values : (f : Family) → Has names.families f → 0 < length (places_in c.problem.world f.value)
+    pub index_types : (f : Family) → Has names.families f → (t : Simple) → Has f.over t → IsIndexType t
+    pub target_is_kept : (def : Def) (indexes : List Place) → c.problem.target ≡ defined def indexes → list_all is_named indexes ≡ true → Has c.elements (element def.family indexes)
     pub bits : state_bits c ≤ 1024
 
 -- the problem of such a case

@@ -101,6 +101,10 @@ kind_in None = Kind.number
 abbrev pub name_number : List (List Name) → Name → ℕ
 name_number enums name = unwrap_or (place_of (bytes_eq name) ([] ∷ flat_map (λ names. names) enums)) 0
 
+-- the numbers of the names of set types among themselves
+abbrev pub set_numbers_of : List SetInfo → List ℕ
+set_numbers_of sets = map (λ (info : SetInfo). name_number (map (λ (other : SetInfo). other.name) sets ∷ []) info.name) sets
+
 module _ (c : Case) where
   -- the problem of a case
   unfoldable pub written : Problem
@@ -109,6 +113,7 @@ module _ (c : Case) where
     families = c.problem.world.classes.families;
     lists = map length c.problem.world.classes.enums;
     names = map (map (name_number c.problem.world.classes.enums)) c.problem.world.classes.enums;
+    set_names = set_numbers_of c.problem.world.classes.sets;
     types = map (written_type c.problem.world) c.problem.world.classes.sets;
     now = map (written_demand c.problem.world.classes) c.problem.now;
     before = map (written_demand c.problem.world.classes) c.problem.before;

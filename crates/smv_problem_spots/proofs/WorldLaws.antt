@@ -16,7 +16,7 @@ use Rattle.smv_abstraction.proofs.Same.{nat_eq-is}
 use Rattle.smv_spots.proofs.Numbers.{along, number_among}
 use Rattle.smv_spots.proofs.TypeLaws as types
 use Rattle.smv_problem.specs.declared.problem.Problem.{Problem}
-use Rattle.smv_problem_spots.specs.Worlds.{IsWorldOf, name_at, count_at, is_one_number, is_one_constant, is_listed_constant, name_number_at, has_gaps}
+use Rattle.smv_problem_spots.specs.Worlds.{IsWorldOf, name_at, count_at, is_one_set, is_one_constant, is_listed_constant, name_number_at, has_gaps}
 
 -- a design with the names of a world
 abbrev pub named_design : World → Design
@@ -29,10 +29,10 @@ is_world p w h = record { sets = refl; enums = refl; families = refl; forms = h.
 pub same_constants : (p : Problem) (w : World) → IsWorldOf p w → (list k other m : ℕ) → is_one_constant p.names list k other m ≡ same_place (place_in w.classes (spot.Constant list k)) (place_in w.classes (spot.Constant other m))
 same_constants p w h list k other m = sym (h.constants list k other m)
 
-pub same_classes : (p : Problem) (w : World) → IsWorldOf p w → (s k t m : ℕ) → (is_one_number (length p.types) s t && nat_eq k m) ≡ same_place (place_in w.classes (spot.Class s k)) (place_in w.classes (spot.Class t m))
+pub same_classes : (p : Problem) (w : World) → IsWorldOf p w → (s k t m : ℕ) → (is_one_set p s t && nat_eq k m) ≡ same_place (place_in w.classes (spot.Class s k)) (place_in w.classes (spot.Class t m))
 same_classes p w h s k t m = ap (λ b. b && nat_eq k m) (sym (h.sets s t)) ∙ sym (types.same_set_value (slice_get w.classes.sets s) (slice_get w.classes.sets t) k m)
 
-pub same_rests : (p : Problem) (w : World) → IsWorldOf p w → (s k t m : ℕ) → (is_one_number (length p.types) s t && nat_eq k m) ≡ same_place (place_in w.classes (spot.Rest s k)) (place_in w.classes (spot.Rest t m))
+pub same_rests : (p : Problem) (w : World) → IsWorldOf p w → (s k t m : ℕ) → (is_one_set p s t && nat_eq k m) ≡ same_place (place_in w.classes (spot.Rest s k)) (place_in w.classes (spot.Rest t m))
 same_rests p w h s k t m = ap (λ b. b && nat_eq k m) (sym (h.sets s t)) ∙ sym (types.same_set_value (slice_get w.classes.sets s) (slice_get w.classes.sets t) k m)
 
 -- values of set types, one below the other
@@ -56,13 +56,13 @@ both_ordered (Some info) (Some other) k m = at info.ordered other.ordered
     at false true = refl
     at false false = refl
 
-below_in : (p : Problem) (w : World) → IsWorldOf p w → (s k t m : ℕ) → below (Some (of_set (slice_get w.classes.sets s) k)) (Some (of_set (slice_get w.classes.sets t) m)) ≡ (if has_gaps (slice_get p.types s) && is_one_number (length p.types) s t then Some (nat_lt k m) else None)
+below_in : (p : Problem) (w : World) → IsWorldOf p w → (s k t m : ℕ) → below (Some (of_set (slice_get w.classes.sets s) k)) (Some (of_set (slice_get w.classes.sets t) m)) ≡ (if has_gaps (slice_get p.types s) && is_one_set p s t then Some (nat_lt k m) else None)
 below_in p w h s k t m = both_ordered (slice_get w.classes.sets s) (slice_get w.classes.sets t) k m ∙ (ap (λ b. if b && is_same_set (slice_get w.classes.sets s) (slice_get w.classes.sets t) then Some (nat_lt k m) else None) (h.ordered s) ∙ ap (λ b. if has_gaps (slice_get p.types s) && b then Some (nat_lt k m) else None) (h.sets s t))
 
-pub below_where : (p : Problem) (w : World) → IsWorldOf p w → (s k t m : ℕ) → has_gaps (slice_get p.types s) ≡ true → is_one_number (length p.types) s t ≡ true → Some (nat_lt k m) ≡ below (Some (of_set (slice_get w.classes.sets s) k)) (Some (of_set (slice_get w.classes.sets t) m))
-below_where p w h s k t m e f = sym (below_in p w h s k t m ∙ (ap (λ b. if b && is_one_number (length p.types) s t then Some (nat_lt k m) else None) e ∙ ap (λ b. if b then Some (nat_lt k m) else None) f))
+pub below_where : (p : Problem) (w : World) → IsWorldOf p w → (s k t m : ℕ) → has_gaps (slice_get p.types s) ≡ true → is_one_set p s t ≡ true → Some (nat_lt k m) ≡ below (Some (of_set (slice_get w.classes.sets s) k)) (Some (of_set (slice_get w.classes.sets t) m))
+below_where p w h s k t m e f = sym (below_in p w h s k t m ∙ (ap (λ b. if b && is_one_set p s t then Some (nat_lt k m) else None) e ∙ ap (λ b. if b then Some (nat_lt k m) else None) f))
 
-pub below_nowhere : (p : Problem) (w : World) → IsWorldOf p w → (s k t m : ℕ) → (has_gaps (slice_get p.types s) && is_one_number (length p.types) s t) ≡ false → None ≡ below (Some (of_set (slice_get w.classes.sets s) k)) (Some (of_set (slice_get w.classes.sets t) m))
+pub below_nowhere : (p : Problem) (w : World) → IsWorldOf p w → (s k t m : ℕ) → (has_gaps (slice_get p.types s) && is_one_set p s t) ≡ false → None ≡ below (Some (of_set (slice_get w.classes.sets s) k)) (Some (of_set (slice_get w.classes.sets t) m))
 below_nowhere p w h s k t m e = sym (below_in p w h s k t m ∙ ap (λ b. if b then Some (nat_lt k m) else None) e)
 
 -- a test along a list by its places
@@ -129,10 +129,10 @@ has-own (x ∷ xs) (suc k) l = later (nat_eq x (get_or xs k 0)) (has-own xs k (g
 pub own_constant : (names : List (List ℕ)) (list other k : ℕ) → list ≡ other → k < length (get_or names list []) → true ≡ is_listed_constant names list other k
 own_constant names list other k same l = subst (λ o. true ≡ is_listed_constant names list o k) same (sym (has-own (get_or names list []) k l))
 
-pub class_among : (p : Problem) (w : World) → IsWorldOf p w → (set other k : ℕ) → (nat_lt k (classes_of (slice_get p.types set)) && is_one_number (length p.types) other set) ≡ is_among (places_in w (Set set)) (place_in w.classes (spot.Class other k))
+pub class_among : (p : Problem) (w : World) → IsWorldOf p w → (set other k : ℕ) → (nat_lt k (classes_of (slice_get p.types set)) && is_one_set p other set) ≡ is_among (places_in w (Set set)) (place_in w.classes (spot.Class other k))
 class_among p w h set other k = sym (types.class_among (named_design w) p.types w set other k (is_world p w h) ∙ ap (λ b. nat_lt k (classes_of (slice_get p.types set)) && b) (h.sets other set))
 
-pub rest_among : (p : Problem) (w : World) → IsWorldOf p w → (set other k : ℕ) → (nat_lt k (rests_of (slice_get p.types set)) && is_one_number (length p.types) other set) ≡ is_among (places_in w (Set set)) (place_in w.classes (spot.Rest other k))
+pub rest_among : (p : Problem) (w : World) → IsWorldOf p w → (set other k : ℕ) → (nat_lt k (rests_of (slice_get p.types set)) && is_one_set p other set) ≡ is_among (places_in w (Set set)) (place_in w.classes (spot.Rest other k))
 rest_among p w h set other k = sym (types.rest_among (named_design w) p.types w set other k (is_world p w h) ∙ ap (λ b. nat_lt k (rests_of (slice_get p.types set)) && b) (h.sets other set))
 
 -- a constant by its number

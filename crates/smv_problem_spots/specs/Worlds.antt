@@ -1,12 +1,12 @@
 -- The worlds of which a problem speaks by numbers alone: there names are told apart exactly where their numbers are.
-use Rattle.std.specs.Prelude.{◌≡◌, ℕ, List, [], length, get_or, slice_get, Option, Some, None, Bool, true, false, ◌&&◌, ◌||◌, bytes_eq, nat_eq, nat_le}
+use Rattle.std.specs.Prelude.{◌≡◌, ℕ, List, [], length, get_or, slice_get, Option, Some, None, Bool, true, false, ◌&&◌, bytes_eq, nat_eq}
 use Rattle.std.specs.List.{list_any}
 use Rattle.smv_core.specs.Values.{Name}
 use Rattle.smv_abstraction.specs.Places.{World}
 use Rattle.smv_abstraction.specs.declared.abstract_type.Rest.{Rest}
 use Rattle.smv_abstraction.specs.declared.abstract_type.Rest.TheVariants as beside
 use Rattle.smv_abstraction.specs.declared.abstract_type.AbsType.{AbsType}
-use Rattle.smv_spots.specs.Spots.{is_ordset, is_same_set, AreTypes}
+use Rattle.smv_spots.specs.Spots.{is_ordset, both_or_none, is_same_set, AreTypes}
 use Rattle.smv_problem.specs.declared.problem.Problem.{Problem}
 
 -- how many constants an enumeration has
@@ -16,10 +16,6 @@ count_at lists list = get_or lists list 0
 -- the name of a constant by its enumeration and its place there
 abbrev pub name_at : List (List Name) → ℕ → ℕ → Name
 name_at enums list k = get_or (get_or enums list []) k []
-
--- one set type by two numbers; those that are not there count as one
-abbrev pub is_one_number : ℕ → ℕ → ℕ → Bool
-is_one_number count s t = nat_eq s t || (nat_le count s && nat_le count t)
 
 -- the number of the name of a constant by its enumeration and its place there, 0 where there is none
 abbrev pub name_number_at : List (List ℕ) → ℕ → ℕ → ℕ
@@ -43,6 +39,10 @@ abbrev pub has_gaps : Option AbsType → Bool
 has_gaps (Some t) = is_gaps t.rest
 has_gaps None = false
 
+-- one set type by two numbers: they are of one sort, and their names have one number, 0 where there is none
+abbrev pub is_one_set : Problem → ℕ → ℕ → Bool
+is_one_set p s t = both_or_none (has_gaps (slice_get p.types s)) (has_gaps (slice_get p.types t)) && nat_eq (get_or p.set_names s 0) (get_or p.set_names t 0)
+
 -- a world with the families of the problem, as many constants, each of which has a number, and the abstract forms of its set types, in which names differ where numbers do
 pub record IsWorldOf (p : Problem) (w : World) : Type 0 where
   pub families : w.classes.families ≡ p.families
@@ -50,5 +50,5 @@ pub record IsWorldOf (p : Problem) (w : World) : Type 0 where
   pub names : (list : ℕ) → length (get_or p.names list []) ≡ count_at p.lists list
   pub forms : AreTypes w w.classes.sets p.types
   pub ordered : (set : ℕ) → is_ordset (slice_get w.classes.sets set) ≡ has_gaps (slice_get p.types set)
-  pub sets : (s t : ℕ) → is_same_set (slice_get w.classes.sets s) (slice_get w.classes.sets t) ≡ is_one_number (length p.types) s t
+  pub sets : (s t : ℕ) → is_same_set (slice_get w.classes.sets s) (slice_get w.classes.sets t) ≡ is_one_set p s t
   pub constants : (list k other m : ℕ) → bytes_eq (name_at w.classes.enums list k) (name_at w.classes.enums other m) ≡ is_one_constant p.names list k other m

@@ -1,7 +1,7 @@
 // Set types and enumerations of a problem by their numbers.
-ghost use Rattle.std.specs.Prelude.{◌≡◌, length, get_or, slice_get};
+ghost use Rattle.std.specs.Prelude.{◌≡◌, get_or, slice_get};
 ghost use Rattle.smv_spots.specs.Spots.{classes_of, count_beside, rests_of};
-ghost use Rattle.smv_problem_spots.specs.Worlds.{count_at, is_one_number, name_number_at, is_one_constant, is_gaps, has_gaps};
+ghost use Rattle.smv_problem_spots.specs.Worlds.{count_at, is_one_set, name_number_at, is_one_constant, is_gaps, has_gaps};
 
 use smv_abstraction::abstract_type::Rest;
 use smv_problem::Problem;
@@ -27,12 +27,22 @@ pub fn is_ordered(problem: &Problem, set: u16) -> bool
     }
 }
 
+// The number of the name of a set type; 0 where there is none.
+fn set_name_number(problem: &Problem, set: u16) -> usize
+    ensures { result ≡ get_or problem.entry.now.set_names set 0 }
+{
+    match problem.set_names.as_slice().get(set as usize) {
+        Some(number) => *number,
+        None => 0,
+    }
+}
+
 /// Whether two numbers are those of one set type.
 pub fn is_one_set(problem: &Problem, set: u16, other: u16) -> bool
-    ensures { result ≡ is_one_number (length problem.entry.now.types) set other }
+    ensures { result ≡ is_one_set problem.entry.now set other }
 {
-    let count = problem.types.len();
-    set == other || (count <= set as usize && count <= other as usize)
+    is_ordered(problem, set) == is_ordered(problem, other)
+        && set_name_number(problem, set) == set_name_number(problem, other)
 }
 
 /// How many constants an enumeration has.

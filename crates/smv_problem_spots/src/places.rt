@@ -1,10 +1,10 @@
 // The places of a type, and constants.
-ghost use Rattle.std.specs.Prelude.{◌≡◌, ◌-◌, ◌&&◌, map, IfOk, get_or, slice_get, option_map, nat_eq, nat_lt, nat_le, length, []};
+ghost use Rattle.std.specs.Prelude.{◌≡◌, ◌-◌, ◌&&◌, map, IfOk, get_or, slice_get, option_map, nat_eq, nat_lt, nat_le, []};
 ghost use Rattle.std.specs.List.{list_any};
 ghost use Rattle.smv_core.specs.Values.{constant};
 ghost use Rattle.smv_abstraction.specs.Places.{World, named_in, rests_in, places_in, is_among, as_place};
 ghost use Rattle.smv_spots.specs.Spots.{place_in, outcome_in, classes_of, rests_of};
-ghost use Rattle.smv_problem_spots.specs.Worlds.{IsWorldOf, is_one_number, name_number_at, is_listed_constant};
+ghost use Rattle.smv_problem_spots.specs.Worlds.{IsWorldOf, is_one_set, name_number_at, is_listed_constant};
 
 use crate::numbers::{classes, constants, is_one_set, name_number, rests};
 use smv_core::flat::Simple;
@@ -89,14 +89,14 @@ fn is_constant(problem: &Problem, list: u16, other: u16, value: u16) -> bool
 
 // Whether a set type has a class.
 fn is_class(problem: &Problem, set: u16, other: u16, class: u16) -> bool
-    ensures { result ≡ (nat_lt class (classes_of (slice_get problem.entry.now.types set)) && is_one_number (length problem.entry.now.types) other set) }
+    ensures { result ≡ (nat_lt class (classes_of (slice_get problem.entry.now.types set)) && is_one_set problem.entry.now other set) }
 {
     u32::from(class) < classes(problem, set) && is_one_set(problem, other, set)
 }
 
 // Whether a set type has a rest.
 fn is_rest(problem: &Problem, set: u16, other: u16, rest: u16) -> bool
-    ensures { result ≡ (nat_lt rest (rests_of (slice_get problem.entry.now.types set)) && is_one_number (length problem.entry.now.types) other set) }
+    ensures { result ≡ (nat_lt rest (rests_of (slice_get problem.entry.now.types set)) && is_one_set problem.entry.now other set) }
 {
     u32::from(rest) < rests(problem, set) && is_one_set(problem, other, set)
 }
