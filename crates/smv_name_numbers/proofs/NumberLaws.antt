@@ -1,0 +1,38 @@
+-- The first place of a name among all names is its number.
+use Rattle.std.proofs.Common.{◌≡◌, ℕ, suc, List, [], ◌∷◌, ◌++◌, map, flat_map, Option, Some, Result, Ok, Err, Bool, if◌then◌else◌, option_map, refl, sym, ap, ◌∙◌}
+use Rattle.std.specs.Prelude.{unwrap_or}
+use Rattle.std.specs.Result.{IfOk}
+use Rattle.std.specs.Str.{bytes_eq}
+use Rattle.std.proofs.lemmas.Slice.Eq.{bytes_eq-Decides}
+use Rattle.smv_core.specs.Values.{Name}
+use Rattle.smv_abstraction.proofs.Tests.{same_tests}
+use Rattle.law_obligations.specs.Outlines.{place_of}
+use Rattle.name_index.specs.Position.{position}
+use Rattle.smv_problem.specs.Written.{name_number}
+use Rattle.smv_name_numbers.specs.Places.{place_among}
+
+turned : (x name : Name) → bytes_eq x name ≡ bytes_eq name x
+turned x name =
+    same_tests (bytes_eq x name) (bytes_eq name x)
+    (λ e. (bytes_eq-Decides name x).1 (sym ((bytes_eq-Decides x name).0 e))) (λ e. (bytes_eq-Decides x name).1 (sym ((bytes_eq-Decides name x).0 e)))
+
+place-is : (names : List Name) (name : Name) → position names name ≡ place_of (bytes_eq name) names
+place-is [] name = refl
+place-is (x ∷ names) name =
+    ap (λ (b : Bool). if b then Some 0 else option_map suc (position names name)) (turned x name) ∙ ap (λ (o : Option ℕ). if bytes_eq name x then Some 0 else option_map suc o) (place-is names name)
+
+same-map : {X Y : Type 0} (f g : X → Y) → ((x : X) → f x ≡ g x) → (xs : List X) → map f xs ≡ map g xs
+same-map f g same [] = refl
+same-map f g same (x ∷ xs) = ap (λ y. y ∷ map f xs) (same x) ∙ ap (λ ys. g x ∷ ys) (same-map f g same xs)
+
+numbers-are : (enums : List (List Name)) (all : List Name) (numbers : List (List ℕ)) → all ≡ [] ∷ flat_map (λ names. names) enums → numbers ≡ map (map (place_among all)) enums → numbers ≡ map (map (name_number enums)) enums
+numbers-are enums all numbers whole is =
+    is ∙ same-map (map (place_among all)) (map (name_number enums)) (same-map (place_among all) (name_number enums)
+    (λ name. ap (λ (names : List Name). unwrap_or (position names name) 0) whole ∙ ap (λ (o : Option ℕ). unwrap_or o 0) (place-is ([] ∷ flat_map (λ names. names) enums) name))) enums
+
+-- after the calls that make the index
+pub numbers-made : {E : Type 0} (r : Result (List (List ℕ)) E) (enums : List (List Name)) (fresh pushed all : List Name) (empty : Name) → fresh ≡ [] → empty ≡ [] → pushed ≡ fresh ++ empty ∷ [] → all ≡ pushed ++ flat_map (λ names. names) enums →
+    IfOk r (λ numbers. numbers ≡ map (map (place_among all)) enums) → IfOk r (λ numbers. numbers ≡ map (map (name_number enums)) enums)
+numbers-made (Err e) enums fresh pushed all empty f n p a h = tt
+numbers-made (Ok numbers) enums fresh pushed all empty f n p a h =
+    numbers-are enums all numbers (a ∙ ap (λ (l : List Name). l ++ flat_map (λ names. names) enums) (p ∙ (ap (λ (l : List Name). l ++ empty ∷ []) f ∙ ap (λ (name : Name). name ∷ []) n))) h
