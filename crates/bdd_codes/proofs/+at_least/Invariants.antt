@@ -1,0 +1,4 @@
+use Rattle.bdd_codes.proofs.+at_least.Given as goal
+
+abbrev pub decreases-at_least : goal.decreases-at_least
+decreases-at_least l = l.width

@@ -1,0 +1,4 @@
+use Rattle.bdd_codes.proofs.+codes.Given as goal
+
+abbrev pub decreases-codes : goal.decreases-codes
+decreases-codes l = l.width
