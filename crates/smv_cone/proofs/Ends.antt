@@ -69,7 +69,7 @@ unfolding written
 counted w xs = bits-are-those (record { problem = record { world = w; kept = λ family indexes. false; now = []; before = []; target = holds (Number 1 0) []; guards = []; params = [] }; elements = xs })
 
 -- the abstract forms are those of the world
-forms-written : (w : World) (sets : List SetInfo) (types : List AbsType) → AreTypes w sets types → types ≡ map (written_type w) sets
+pub forms-written : (w : World) (sets : List SetInfo) (types : List AbsType) → AreTypes w sets types → types ≡ map (written_type w) sets
 forms-written w [] [] h = refl
 forms-written w [] (t ∷ types) h = absurd h
 forms-written w (info ∷ sets) [] h = absurd h
@@ -78,7 +78,7 @@ forms-written w (info ∷ sets) (t ∷ types) h = ap (λ (a : AbsType). a ∷ ty
     form : w.classes.sizes info.name ≡ t.named → w.rests info.name ≡ t.rest → written_type w info ≡ t
     form e f = ap (λ (n : ℕ). record { named = n; rest = w.rests info.name }) e ∙ ap (λ r. record { named = t.named; rest = r }) f
 
-one-element : (x y : AbsElement) → same_element x y ≡ true → x ≡ y
+pub one-element : (x y : AbsElement) → same_element x y ≡ true → x ≡ y
 one-element x y e = ap (λ (k : ℕ). element k x.indexes) (same_element-family x y e) ∙ ap (element y.family) (same_element-indexes x y e)
 
 module _ (p : Part) (h : IsPartView p) (least : HasLeast p) (found : List Element) (f : HasFound p found (length found)) where

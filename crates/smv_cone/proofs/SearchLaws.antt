@@ -57,12 +57,12 @@ next-some p family own def e =
 -- ---- elements lie where their classes are
 
 module _ (v : View) (h : IsView v) where
-  place-back : (t : Simple) → IsIndexType t → (q : Place) → Has (named_in (world_of v) t) q → place_in v (spot_in t (written_class q)) ≡ q
+  pub place-back : (t : Simple) → IsIndexType t → (q : Place) → Has (named_in (world_of v) t) q → place_in v (spot_in t (written_class q)) ≡ q
   place-back t i q m =
       let from = Has-from_map (λ c. place_in v (spot_in t c)) (classes_in v.types.now t) (subst (λ ps. Has ps q) (named-classes v h.is_world t i) m) in
       ap (λ (c : Class). place_in v (spot_in t c)) (ap written_class from.2 ∙ class-back v t from.0) ∙ sym from.2
 
-  places-back : (types : List Simple) → ((t : Simple) → Has types t → IsIndexType t) → (qs : List Place) → AreOf (map (named_in (world_of v)) types) qs → places v (spots_in types (map written_class qs)) ≡ qs
+  pub places-back : (types : List Simple) → ((t : Simple) → Has types t → IsIndexType t) → (qs : List Place) → AreOf (map (named_in (world_of v)) types) qs → places v (spots_in types (map written_class qs)) ≡ qs
   places-back [] i [] m = refl
   places-back [] i (q ∷ qs) m = elim m [ ]
   places-back (t ∷ types) i [] m = elim m [ ]
@@ -78,11 +78,11 @@ module _ (v : View) (h : IsView v) where
       let q = Has-from_map (element r.0) (one_of_each (map (named_in (world_of v)) (over_of (slice_get v.design.now.families r.0)))) r.2 in
       subst (λ (x : AbsElement). AreOf (map (named_in (world_of v)) (over_of (slice_get v.design.now.families x.family))) x.indexes) (sym q.2) (are_of (map (named_in (world_of v)) (over_of (slice_get v.design.now.families r.0))) q.0 q.1)
 
-  element-back : (x : AbsElement) → Has (elements (world_of v)) x → places v (spots_in (over_of (slice_get v.design.now.families x.family)) (map written_class x.indexes)) ≡ x.indexes
+  pub element-back : (x : AbsElement) → Has (elements (world_of v)) x → places v (spots_in (over_of (slice_get v.design.now.families x.family)) (map written_class x.indexes)) ≡ x.indexes
   element-back x m = places-back (over_of (slice_get v.design.now.families x.family)) (indexed (slice_get v.design.now.families x.family) x.family refl) x.indexes (indexes-are x m)
 
 module _ (p : Part) (h : IsPartView p) (least : HasLeast p) where
-  cone-of : (x : AbsElement) → Has (cone_of p) x → Has (elements (world_of p.view)) x
+  pub cone-of : (x : AbsElement) → Has (cone_of p) x → Has (elements (world_of p.view)) x
   cone-of x m = (Has-from_filter (is_among same_element (nexts p) (reached same_element (nexts p) (length (elements (world_of p.view))) (firsts p))) (elements (world_of p.view)) m).0
 
   -- what is read next for an element is what follows it

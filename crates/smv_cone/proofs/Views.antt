@@ -38,7 +38,7 @@ use Rattle.law_obligations.specs.Problems.{leaf_treatments, world_of, params_at}
 use Rattle.law_obligations.specs.Checked.{IsSplit, IsFilled}
 use Rattle.law_obligations.proofs.Lookups.{Has-from_filter}
 use Rattle.law_obligations.proofs.LeastCones.{cone_is_least}
-use Rattle.law_problems.specs.Parts.{outlined, entry_of, world_with, cone_with, bits_with, IsPart, IsCaseOf, place_of_unit, fault_at_unit, width_fault}
+use Rattle.law_problems.specs.Parts.{outlined, entry_of, world_with, cone_with, bits_with, place_of_unit, fault_at_unit, width_fault}
 use Rattle.smv_cases.specs.Types.{types_of}
 use Rattle.smv_cases.specs.Faults as cases_faults
 use Rattle.law_codes.specs.Readings.{bits_of_all}
@@ -51,7 +51,8 @@ use Rattle.smv_reads.specs.Views.{world_by, IsView, place_in, places, spot_in}
 use Rattle.smv_reads.proofs.IndexLaws.{class-back}
 use Rattle.smv_cone.specs.declared.parts.Part.{Part}
 use Rattle.smv_cone.specs.Parts as parts
-use Rattle.smv_cone.specs.Parts.{spots_in, IsPartView}
+use Rattle.smv_cone.specs.Parts.{spots_in, IsPartView, IsPartOf}
+use Rattle.smv_chosen_table.specs.Tables.{IsTable}
 use Rattle.smv_cone.specs.Searching.{HasLeast}
 
 -- ---- lists
@@ -229,43 +230,42 @@ not-less m n l = grind (arith, nat_tests)
 
 -- ---- a case of a part
 
-module _ (p : Part) (is_part : IsPart p.view.design.now p.leaf.now p.choice.now) (case : IsCaseOf p.view.design.now p.leaf.now p.choice.now p.classes.now) (units : p.units.now ≡ units_of p.view.design.now)
-    (forms-are : p.view.types.now ≡ types_of p.view.design.now.sets p.leaf.now.params p.choice.now.keeps p.classes.now) (spots-are : p.params.now ≡ spots_in (map (λ (q : Param). q.over) p.leaf.now.params) p.classes.now) where
-  abbrev d : Design
+module _ (p : Part) (h : IsPartOf p) where
+  abbrev pub d : Design
   d = p.view.design.now
 
-  abbrev entry : Entry
+  abbrev pub entry : Entry
   entry = entry_of p.view.design.now p.leaf.now p.choice.now
 
-  abbrev s : Script
-  s = script_of p.view.design.now is_part.leaves is_part.choices
+  abbrev pub s : Script
+  s = script_of p.view.design.now h.is_part.leaves h.is_part.choices
 
-  abbrev params : List Parameter
+  abbrev pub params : List Parameter
   params = parameters_of p.choice.now.keeps p.leaf.now.params
 
-  types-are : map (λ (q : Parameter). q.over) params ≡ map (λ (q : Param). q.over) p.leaf.now.params
+  pub types-are : map (λ (q : Parameter). q.over) params ≡ map (λ (q : Param). q.over) p.leaf.now.params
   types-are = map-map (λ (q : Parameter). q.over) (λ (q : Param). record { over = q.over; listed = stays p.choice.now.keeps q.over q.var }) p.leaf.now.params
 
-  candidates-are : AreOf (map (λ (q : Parameter). candidates (leaf_treatments (outlined d) entry) (length params) q.over) params) p.classes.now
-  candidates-are = are_of (map (λ (q : Parameter). candidates (leaf_treatments (outlined d) entry) (length params) q.over) params) p.classes.now (Has-from_filter _ _ case.is_case).0
+  pub candidates-are : AreOf (map (λ (q : Parameter). candidates (leaf_treatments (outlined d) entry) (length params) q.over) params) p.classes.now
+  candidates-are = are_of (map (λ (q : Parameter). candidates (leaf_treatments (outlined d) entry) (length params) q.over) params) p.classes.now (Has-from_filter _ _ h.is_case.is_case).0
 
-  split : IsSplit s entry
-  split = is_part.is_checked.are_split entry is_part.is_entry
+  pub split : IsSplit s entry
+  split = h.is_part.is_checked.are_split entry h.is_part.is_entry
 
-  filled : (q : Parameter) → Has params q → IsFilled d q.over
-  filled q h = let r = Has-from_map (λ (q : Param). record { over = q.over; listed = stays p.choice.now.keeps q.over q.var }) p.leaf.now.params h in subst (λ (q : Parameter). IsFilled d q.over) (sym r.2) (split.are_filled r.0 r.1)
+  pub filled : (q : Parameter) → Has params q → IsFilled d q.over
+  filled q m = let r = Has-from_map (λ (q : Param). record { over = q.over; listed = stays p.choice.now.keeps q.over q.var }) p.leaf.now.params m in subst (λ (q : Parameter). IsFilled d q.over) (sym r.2) (split.are_filled r.0 r.1)
 
   few-forms : (t : AbsType) → Has (types_of d.sets p.leaf.now.params p.choice.now.keeps p.classes.now) t → t.named ≤ 256
-  few-forms t h =
-      let r = Has-from_map (λ ((set, t) : ℕ × Treatment). type_in t set params p.classes.now) (numbered 0 (treatments_of p.choice.now.keeps 0 d.sets)) h in
+  few-forms t has =
+      let r = Has-from_map (λ ((set, t) : ℕ × Treatment). type_in t set params p.classes.now) (numbered 0 (treatments_of p.choice.now.keeps 0 d.sets)) has in
       let x : ℕ × Treatment = r.0 in
       let q = treated p.choice.now.keeps 0 d.sets x r.1 in
       let m = used (named_among (listed_classes x.1 x.0 params p.classes.now)) in
       let long : length params ≡ length p.leaf.now.params = map_long (λ (q : Param). record { over = q.over; listed = stays p.choice.now.keeps q.over q.var }) p.leaf.now.params in
-      let some = case.few in
+      let some = h.is_case.few in
       let few : m ≤ 8 = used-below 8 _ (λ k n. let l = all-below (leaf_treatments (outlined d) entry) (length params) params p.classes.now candidates-are k (listed-are x.1 x.0 params p.classes.now (Named k) (among-is (listed_classes x.1 x.0 params p.classes.now) k n)) in omega (arith, l, long, some)) in
       let is : t ≡ abstract_type (treatment_of q.0.ordered q.0.size q.2) m = r.2 ∙ ap (λ (u : Treatment). abstract_type u m) q.3 in
-      subst (λ (a : AbsType). a.named ≤ 256) (sym is) (named-few q.0.ordered q.0.size q.2 (is_part.sizes q.0 q.1) m few)
+      subst (λ (a : AbsType). a.named ≤ 256) (sym is) (named-few q.0.ordered q.0.size q.2 (h.is_part.sizes q.0 q.1) m few)
 
   view-is : IsView p.view
   view-is = record {
@@ -273,20 +273,24 @@ module _ (p : Part) (is_part : IsPart p.view.design.now p.leaf.now p.choice.now)
       sets = refl;
       enums = refl;
       families = refl;
-      forms = all-forms d p.view.types.now is_part.is_checked.are_apart (ap length forms-are ∙ numbered-long (λ ((set, t) : ℕ × Treatment). type_in t set params p.classes.now) p.choice.now.keeps 0 d.sets);
+      forms = all-forms d p.view.types.now h.is_part.is_checked.are_apart (ap length h.forms ∙ numbered-long (λ ((set, t) : ℕ × Treatment). type_in t set params p.classes.now) p.choice.now.keeps 0 d.sets);
     };
-    are_indexed = is_part.is_fit.indexes;
-    few = λ t h. few-forms t (subst (λ ts. Has ts t) forms-are h);
+    are_indexed = h.is_part.is_fit.indexes;
+    few = λ t m. few-forms t (subst (λ ts. Has ts t) h.forms m);
   }
 
-  spots-by : p.params.now ≡ spots_in (map (λ (q : Parameter). q.over) params) p.classes.now
-  spots-by = spots-are ∙ ap (λ (ts : List Simple). spots_in ts p.classes.now) (sym types-are)
+  pub spots-by : p.params.now ≡ spots_in (map (λ (q : Parameter). q.over) params) p.classes.now
+  spots-by = h.spots ∙ ap (λ (ts : List Simple). spots_in ts p.classes.now) (sym types-are)
+
+  pub outline-is : outlined d ≡ parts.outline_of p
+  outline-is = ap (λ (us : List Unit). record { design = d; units = us }) (sym h.units)
 
   pub part-view : IsPartView p
   part-view = record {
     is_view = view-is;
-    all_units = units;
+    all_units = h.units;
     are_written = ap (λ (b : List Spot). map written_class (places p.view b)) spots-by ∙ classes-are p.view (leaf_treatments (outlined d) entry) (length params) params p.classes.now candidates-are;
+    is_table = subst (λ (o : Outline). IsTable o p.choice.now.picks p.table.now) outline-is h.is_table;
   }
 
   -- ---- the cone of the definitions
@@ -294,33 +298,30 @@ module _ (p : Part) (is_part : IsPart p.view.design.now p.leaf.now p.choice.now)
   abbrev Least : World → Outline → Entry → List Place → Type 0
   Least w o e ps = IsLeast (next_elements w o e ps) (first_elements w o e ps) (cone w o e ps)
 
-  world-is : world_with p.view.design.now p.leaf.now p.choice.now p.classes.now ≡ view.world_of p.view
-  world-is = ap (world_by d) (sym forms-are)
+  pub world-is : world_with p.view.design.now p.leaf.now p.choice.now p.classes.now ≡ view.world_of p.view
+  world-is = ap (world_by d) (sym h.forms)
 
-  outline-is : outlined d ≡ parts.outline_of p
-  outline-is = ap (λ (us : List Unit). record { design = d; units = us }) (sym units)
+  pub entry-is : entry ≡ parts.entry_of p
+  entry-is = ap (λ (us : List Unit). record { unit = unwrap_or (slice_get us p.leaf.now.unit) (unit.Claim 0); leaf = p.leaf.now; choice = p.choice.now }) (sym h.units)
 
-  entry-is : entry ≡ parts.entry_of p
-  entry-is = ap (λ (us : List Unit). record { unit = unwrap_or (slice_get us p.leaf.now.unit) (unit.Claim 0); leaf = p.leaf.now; choice = p.choice.now }) (sym units)
-
-  params-is : params_at (outlined d) entry p.classes.now ≡ parts.params_of p
+  pub params-is : params_at (outlined d) entry p.classes.now ≡ parts.params_of p
   params-is = sym (ap (λ (b : List Spot). places p.view b) spots-by ∙ places-are p.view (leaf_treatments (outlined d) entry) (length params) params p.classes.now candidates-are filled)
 
-  same-outline : outline_of s ≡ outlined d
-  same-outline = ap (λ (us : List Unit). record { design = d; units = us }) (units-are (units_of d) is_part.leaves is_part.choices is_part.each_leaf is_part.each_choice)
+  pub same-outline : outline_of s ≡ outlined d
+  same-outline = ap (λ (us : List Unit). record { design = d; units = us }) (units-are (units_of d) h.is_part.leaves h.is_part.choices h.is_part.each_leaf h.is_part.each_choice)
 
   -- what is said of the cone of a case of a script is said of that of the part
-  carried : (Says : World → Outline → Entry → List Place → Type 0) → Says (world_with p.view.design.now p.leaf.now p.choice.now p.classes.now) (outlined d) entry (params_at (outlined d) entry p.classes.now) →
+  pub carried : (Says : World → Outline → Entry → List Place → Type 0) → Says (world_with p.view.design.now p.leaf.now p.choice.now p.classes.now) (outlined d) entry (params_at (outlined d) entry p.classes.now) →
       Says (view.world_of p.view) (parts.outline_of p) (parts.entry_of p) (parts.params_of p)
-  carried Says h =
-      let w = subst (λ (w : World). Says w (outlined d) entry (params_at (outlined d) entry p.classes.now)) world-is h in
+  carried Says said =
+      let w = subst (λ (w : World). Says w (outlined d) entry (params_at (outlined d) entry p.classes.now)) world-is said in
       let o = subst (λ (o : Outline). Says (view.world_of p.view) o entry (params_at (outlined d) entry p.classes.now)) outline-is w in
       let e = subst (λ (e : Entry). Says (view.world_of p.view) (parts.outline_of p) e (params_at (outlined d) entry p.classes.now)) entry-is o in
       subst (λ (ps : List Place). Says (view.world_of p.view) (parts.outline_of p) (parts.entry_of p) ps) params-is e
 
   pub part-least : HasLeast p
   part-least = carried Least
-      (subst (λ (o : Outline). Least (world_of o entry p.classes.now) o entry (params_at o entry p.classes.now)) same-outline (cone_is_least s is_part.is_checked entry is_part.is_entry p.classes.now case.is_case))
+      (subst (λ (o : Outline). Least (world_of o entry p.classes.now) o entry (params_at o entry p.classes.now)) same-outline (cone_is_least s h.is_part.is_checked entry h.is_part.is_entry p.classes.now h.is_case.is_case))
 
   -- the cone and its bits
   pub cone-is : cone_with p.view.design.now p.leaf.now p.choice.now p.classes.now ≡ parts.cone_of p

@@ -9,10 +9,13 @@ use Rattle.smv_core.specs.declared.flat.Unit.TheVariants.{Claim}
 use Rattle.smv_abstraction.specs.Places.{Place}
 use Rattle.law_obligations.specs.Outlines.{Entry, Outline}
 use Rattle.law_obligations.specs.Units.{units_of}
+use Rattle.law_problems.specs.Parts.{outlined, IsPart, IsCaseOf}
+use Rattle.smv_cases.specs.Types.{types_of}
 use Rattle.law_obligations.specs.Cones.{AbsElement, first_elements, next_elements, cone}
 use Rattle.smv_problem.specs.Written.{written_class}
 use Rattle.smv_spots.specs.declared.spots.Spot.{Spot}
 use Rattle.smv_reads.specs.Views.{IsView, world_of, places, spot_in}
+use Rattle.smv_chosen_table.specs.Tables.{IsTable}
 use Rattle.smv_cone.specs.declared.parts.Part.{Part}
 
 -- where these classes of these types lie
@@ -51,8 +54,18 @@ module _ (p : Part) where
   abbrev pub cone_of : List AbsElement
   cone_of = cone (world_of p.view) outline_of entry_of params_of
 
--- the units are those of the design, and the parameters lie where their classes are
+-- the units are those of the design, the parameters lie where their classes are, and the table has what the leaf's proof uses
 pub record IsPartView (p : Part) : Type 0 where
   pub is_view : IsView p.view
   pub all_units : p.units.now ≡ units_of p.view.design.now
   pub are_written : map written_class (params_of p) ≡ p.classes.now
+  pub is_table : IsTable (outline_of p) p.choice.now.picks p.table.now
+
+-- a case of a leaf as the passes give it, and all that is looked up of it
+pub record IsPartOf (p : Part) : Type 0 where
+  pub units : p.units.now ≡ units_of p.view.design.now
+  pub is_part : IsPart p.view.design.now p.leaf.now p.choice.now
+  pub is_case : IsCaseOf p.view.design.now p.leaf.now p.choice.now p.classes.now
+  pub forms : p.view.types.now ≡ types_of p.view.design.now.sets p.leaf.now.params p.choice.now.keeps p.classes.now
+  pub spots : p.params.now ≡ spots_in (map (λ q. q.over) p.leaf.now.params) p.classes.now
+  pub is_table : IsTable (outlined p.view.design.now) p.choice.now.picks p.table.now

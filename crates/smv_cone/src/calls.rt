@@ -1,17 +1,18 @@
 // The cone of a case.
 ghost use Rattle.std.specs.Prelude.{◌≡◌, map, length, IfOk};
 ghost use Rattle.law_obligations.specs.Units.{units_of};
-ghost use Rattle.law_problems.specs.Parts.{IsPart, IsCaseOf, cone_with, width_fault, Refuses};
+ghost use Rattle.law_problems.specs.Parts.{outlined, IsPart, IsCaseOf, cone_with, width_fault, Refuses};
+ghost use Rattle.smv_chosen_table.specs.Tables.{IsTable};
 ghost use Rattle.smv_problem.specs.Written.{written_element};
 ghost use Rattle.smv_cases.specs.Types.{types_of};
-ghost use Rattle.smv_cone.specs.Parts.{IsPartView, spots_in};
+ghost use Rattle.smv_cone.specs.Parts.{IsPartView, IsPartOf, spots_in};
 ghost use Rattle.smv_cone.specs.Searching.{HasLeast, HasFound, IsConeOf};
 
 use crate::bits::{are_few, list_lengths};
 use crate::parts::{Part, parameter_spots};
 use crate::search::search;
 use smv_cases::{abs_types, fault_at_unit};
-use smv_core::flat::{Case, Choice, Design, Element, Leaf, Unit};
+use smv_core::flat::{Case, Choice, Def, Design, Element, Leaf, Unit};
 use smv_core::{Refusal, Seq};
 use smv_elements::Found;
 use smv_reads::bindings::View;
@@ -51,13 +52,9 @@ fn cone_of(alloc: Global, part: &Part) -> Result<Option<Seq<Element>>, AllocErro
     in_order(alloc, part, found)
 }
 
-// The same, or the fault.
-fn cone_in(alloc: Global, part: &Part) -> Result<Seq<Element>, Refusal>
-    requires units { part.now.units.now ≡ units_of part.now.view.design.now }
-    requires part { IsPart part.now.view.design.now part.now.leaf.now part.now.choice.now }
-    requires case { IsCaseOf part.now.view.design.now part.now.leaf.now part.now.choice.now part.now.classes.now }
-    requires forms { part.now.view.types.now ≡ types_of part.now.view.design.now.sets part.now.leaf.now.params part.now.choice.now.keeps part.now.classes.now }
-    requires spots { part.now.params.now ≡ spots_in (map (λ p. p.over) part.now.leaf.now.params) part.now.classes.now }
+/// The same, or the fault.
+pub fn cone_in(alloc: Global, part: &Part) -> Result<Seq<Element>, Refusal>
+    requires { IsPartOf part.now }
     ensures elements { IfOk result (λ elements. elements ≡ map written_element (cone_with part.now.view.design.now part.now.leaf.now part.now.choice.now part.now.classes.now)) }
     ensures refuses { Refuses (width_fault part.now.view.design.now part.now.leaf.now part.now.choice.now part.now.classes.now) result }
 {
@@ -71,7 +68,7 @@ fn cone_in(alloc: Global, part: &Part) -> Result<Seq<Element>, Refusal>
     }
 }
 
-/// The elements of a case's cone in family order and then by their indexes, or fault 30 at the unit of the leaf where they have more than 1,024 bits. The units are those of the design.
+/// The elements of a case's cone in family order and then by their indexes, or fault 30 at the unit of the leaf where they have more than 1,024 bits. The units are those of the design, and the table has what the leaf's proof uses.
 pub fn cone(
     alloc: Global,
     design: &Design,
@@ -79,10 +76,12 @@ pub fn cone(
     leaf: &Leaf,
     case: &Case,
     choice: &Choice,
+    table: &[Option<&Def>],
 ) -> Result<Seq<Element>, Refusal>
     requires units { units.now ≡ units_of design.now }
     requires part { IsPart design.now leaf.now choice.now }
     requires case { IsCaseOf design.now leaf.now choice.now case.now.classes }
+    requires table { IsTable (outlined design.now) choice.now.picks table.now }
     ensures elements { IfOk result (λ elements. elements ≡ map written_element (cone_with design.now leaf.now choice.now case.now.classes)) }
     ensures refuses { Refuses (width_fault design.now leaf.now choice.now case.now.classes) result }
 {
@@ -102,6 +101,7 @@ pub fn cone(
         choice,
         classes,
         params: spots,
+        table,
     };
     cone_in(alloc, &part)
 }

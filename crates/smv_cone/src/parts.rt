@@ -1,14 +1,16 @@
 // A case of a leaf, and where its parameters and the indexes of its elements lie.
-ghost use Rattle.std.specs.Prelude.{◌≡◌, ◌≤◌, ◌⊎◌, map, IfOk, slice_get};
+ghost use Rattle.std.specs.Prelude.{◌≡◌, ◌≤◌, ◌⊎◌, map, IfOk, slice_get, option_copied};
 ghost use Rattle.smv_abstraction.specs.Soundness.{over_of};
-ghost use Rattle.smv_cone.specs.Parts.{spots_in};
+ghost use Rattle.law_obligations.specs.Outlines as outlines;
+ghost use Rattle.smv_cone.specs.Parts.{spots_in, outline_of, IsPartView};
 
-use smv_core::flat::{Choice, Class, Design, Element, Leaf, Param, Simple, Unit};
+use smv_chosen::chosen;
+use smv_core::flat::{Choice, Class, Def, Design, Element, Leaf, Param, Simple, Unit};
 use smv_reads::bindings::{View, spot_in};
 use smv_spots::spots::Spot;
 use std::alloc::{AllocError, Global};
 
-/// A case of a leaf: its design with the units and the abstract forms of its set types, the leaf and its choice, the classes of the case and where they lie.
+/// A case of a leaf: its design with the units and the abstract forms of its set types, the leaf and its choice, the classes of the case and where they lie, and the definition that the leaf's proof uses for each family.
 #[derive(Clone, Copy)]
 pub struct Part<'a> {
     pub view: View<'a>,
@@ -17,6 +19,7 @@ pub struct Part<'a> {
     pub choice: &'a Choice,
     pub classes: &'a [Class],
     pub params: &'a [Spot],
+    pub table: &'a [Option<&'a Def>],
 }
 
 // The smaller of two numbers.
@@ -75,4 +78,20 @@ pub fn own_spots(alloc: Global, design: &Design, x: &Element) -> Result<Vec<Spot
     ensures { IfOk result (λ spots. spots.items ≡ spots_in (over_of (slice_get design.now.families x.now.family)) x.now.indexes) }
 {
     spots_of(alloc, indexes_of(design, x.family), x.indexes.as_slice())
+}
+
+/// The definition that the leaf's proof uses for a family; none where it is free.
+pub fn chosen_in<'a>(part: &Part<'a>, family: u16) -> Option<&'a Def>
+    requires { IsPartView part.now }
+    ensures { option_copied result ≡ outlines.chosen (outline_of part.now) part.now.choice.now.picks family }
+{
+    match part.table.get(family as usize) {
+        Some(def) => *def,
+        None => chosen(
+            part.view.design,
+            part.units,
+            part.choice.picks.as_slice(),
+            family,
+        ),
+    }
 }

@@ -2,15 +2,13 @@
 ghost use Rattle.std.specs.Prelude.{◌≡◌, ◌<◌, ◌+◌, [], false, length, slice_get, IfOk, OnOk};
 ghost use Rattle.smv_abstraction.specs.Soundness.{over_of};
 ghost use Rattle.smv_elements.specs.Elements.{is_full, put_all};
-ghost use Rattle.smv_reads.specs.Views.{IsView};
 ghost use Rattle.smv_cone.specs.Parts.{IsPartView, spots_in};
 ghost use Rattle.smv_cone.specs.Begins as begins;
 ghost use Rattle.smv_cone.specs.Searching as spec;
 ghost use Rattle.smv_cone.specs.Searching.{HasLeast, HasFound};
 
 use crate::begin::read_first;
-use crate::parts::{Part, own_spots};
-use smv_chosen::chosen;
+use crate::parts::{Part, chosen_in, own_spots};
 use smv_elements::Found;
 use smv_reads::read_definition;
 use smv_spots::spots::Spot;
@@ -24,11 +22,10 @@ fn read_next(
     family: u16,
     own: &[Spot],
 ) -> Result<(), AllocError>
-    requires { IsView part.now.view }
+    requires { IsPartView part.now }
     ensures { OnOk result (found.new ≡ put_all found.old (spec.read_next part.now family own.now)) }
 {
-    let picks = part.choice.picks.as_slice();
-    match chosen(part.view.design, part.units, picks, family) {
+    match chosen_in(part, family) {
         None => Ok(()),
         Some(def) => read_definition(alloc, &part.view, found, own, def),
     }

@@ -8,16 +8,15 @@ use Rattle.smv_cases.specs.Types.{types_of}
 use Rattle.smv_cone.specs.Parts.{spots_in}
 use Rattle.smv_cone.proofs.calls.cone.Goals as goal
 
-pub cone_in-requires-clause-case : goal.cone_in-requires-clause-case
-cone_in-requires-clause-case c = subst (IsCaseOf c.args.design.now c.args.leaf.now c.args.choice.now) (sym c.as_slice-classes.ensures) c.requires.case
-
-pub cone_in-requires-clause-forms : goal.cone_in-requires-clause-forms
-cone_in-requires-clause-forms c =
-    c.as_slice-forms.ensures ∙ (c.in_ok-types.ensures ∙ ap (types_of c.args.design.now.sets c.args.leaf.now.params c.args.choice.now.keeps) (sym c.as_slice-classes.ensures))
-
-pub cone_in-requires-clause-spots : goal.cone_in-requires-clause-spots
-cone_in-requires-clause-spots c =
-    c.as_slice-spots.ensures.value ∙ (c.in_ok-params.ensures ∙ ap (λ (ps : List Param). spots_in (map (λ p. p.over) ps) c.as_slice-classes.result.now) c.as_slice-over.ensures)
+pub cone_in-requires : goal.cone_in-requires
+cone_in-requires c = record {
+  units = c.requires.units;
+  is_part = c.requires.part;
+  is_case = subst (IsCaseOf c.args.design.now c.args.leaf.now c.args.choice.now) (sym c.as_slice-classes.ensures) c.requires.case;
+  forms = c.as_slice-forms.ensures ∙ (c.in_ok-types.ensures ∙ ap (types_of c.args.design.now.sets c.args.leaf.now.params c.args.choice.now.keeps) (sym c.as_slice-classes.ensures));
+  spots = c.as_slice-spots.ensures.value ∙ (c.in_ok-params.ensures ∙ ap (λ (ps : List Param). spots_in (map (λ p. p.over) ps) c.as_slice-classes.result.now) c.as_slice-over.ensures);
+  is_table = c.requires.table;
+}
 
 pub returns-clause-elements : goal.returns-clause-elements
 returns-clause-elements c = subst (λ (cs : List Class). IfOk c.cone_in.result (λ es. es ≡ map written_element (cone_with c.args.design.now c.args.leaf.now c.args.choice.now cs))) c.as_slice-classes.ensures c.cone_in.ensures.elements
