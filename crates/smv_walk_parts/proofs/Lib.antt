@@ -1,0 +1,3 @@
+pub mod ConcernLaws
+pub mod MatchLaws
+pub mod FirstLaws
