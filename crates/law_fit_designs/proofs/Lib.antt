@@ -1,0 +1,4 @@
+mod Names
+mod Orders
+mod Parts
+mod Constants

@@ -1,0 +1,3 @@
+mod Renamed
+mod Standing
+mod Guards
