@@ -1,0 +1,3 @@
+pub mod OneDue
+pub mod OneFault
+pub mod OneReport

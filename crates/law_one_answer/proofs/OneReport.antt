@@ -1,0 +1,117 @@
+-- Where no unit is false, two right reports are one.
+use Rattle.std.proofs.Common.{◌≡◌, ◌∙◌, ◌||◌, ℕ, suc, Bool, true, false, List, [], ◌∷◌, Some, refl, sym, ap, ap₂, subst, true≢false}
+use Rattle.std.specs.List.{list_any}
+use Rattle.smv_core.specs.declared.flat.Class.{Class}
+use Rattle.smv_core.specs.declared.tree.Text.{Text}
+use Rattle.law_obligations.specs.Outlines.{Entry, Script}
+use Rattle.smv_problem.specs.declared.report.Verdict.{Verdict}
+use Rattle.smv_problem.specs.declared.report.Verdict.TheVariants as verdict
+use Rattle.smv_problem.specs.declared.report.UnitResult.{UnitResult}
+use Rattle.smv_problem.specs.declared.report.Report.{Report}
+use Rattle.law_verdicts.specs.Verdicts.{LeafVerdict, all_true, fails}
+use Rattle.law_reports.specs.Reports.{IsReportOf, IsResultOf, AreResultsFrom, told, told_of}
+use Rattle.smv_command.specs.declared.Command.{Command}
+use Rattle.smv_command.specs.declared.Command.TheVariants.{Prove, Only, Print, Generated}
+use Rattle.law_valid_texts.specs.Reports.{IsRightReport, IsReportOfUnit, IsUnitReport, script_of_tree, unit_named}
+use Rattle.law_valid_texts.specs.Laws.{OneTree, OneReport, OneUnitReport}
+use Rattle.law_answers.specs.Dues.{IsReportFor, default_nodes, default_steps, is_false}
+
+-- ---- verdicts
+
+-- the classes of what is told of a case that is not true
+classes_told : LeafVerdict → List Class
+classes_told all_true = []
+classes_told (fails classes v) = classes
+
+verdict_is : (v w : Verdict) → told v ≡ told w → is_false v ≡ false → v ≡ w
+verdict_is verdict.True verdict.True e f = refl
+verdict_is verdict.True (verdict.False case elements path) e f = absurd (cc)
+verdict_is verdict.True (verdict.UnknownNodes case count) e f = absurd (cc)
+verdict_is verdict.True (verdict.UnknownSteps case) e f = absurd (cc)
+verdict_is (verdict.False case elements path) w e f = absurd (true≢false f)
+verdict_is (verdict.UnknownNodes case count) verdict.True e f = absurd (cc)
+verdict_is (verdict.UnknownNodes case count) (verdict.False other elements path) e f = absurd (cc)
+verdict_is (verdict.UnknownNodes case count) (verdict.UnknownNodes other number) e f =
+    let classes : case.classes ≡ other.classes = cc in
+    let counts : count ≡ number = cc in
+    λ i. verdict.UnknownNodes (record { classes = classes i }) (counts i)
+verdict_is (verdict.UnknownNodes case count) (verdict.UnknownSteps other) e f = absurd (cc)
+verdict_is (verdict.UnknownSteps case) verdict.True e f = absurd (cc)
+verdict_is (verdict.UnknownSteps case) (verdict.False other elements path) e f = absurd (cc)
+verdict_is (verdict.UnknownSteps case) (verdict.UnknownNodes other number) e f = absurd (cc)
+verdict_is (verdict.UnknownSteps case) (verdict.UnknownSteps other) e f =
+    let classes : case.classes ≡ other.classes = cc in
+    λ i. verdict.UnknownSteps (record { classes = classes i })
+
+neither : (x y : Bool) → (x || y) ≡ false → (x ≡ false) × (y ≡ false)
+neither true y e = absurd (true≢false e)
+neither false y e = (refl, e)
+
+heads_are : {X : Type 0} {x y : X} {xs ys : List X} → x ∷ xs ≡ y ∷ ys → x ≡ y
+heads_are e = cc
+
+tails_are : {X : Type 0} {x y : X} {xs ys : List X} → x ∷ xs ≡ y ∷ ys → xs ≡ ys
+tails_are e = cc
+
+-- ---- results
+
+module _ (s : Script) (nodes images : ℕ) where
+  result_is : (u : ℕ) (entry : Entry) (r q : UnitResult) → IsResultOf s nodes images u entry r → IsResultOf s nodes images u entry q → told r.verdict ≡ told q.verdict → is_false r.verdict ≡ false → r ≡ q
+  result_is u entry r q is is_too tells f =
+      let names : r.name ≡ q.name = is.name ∙ sym is_too.name in
+      let params : r.params ≡ q.params = is.params ∙ sym is_too.params in
+      let verdicts = verdict_is r.verdict q.verdict tells f in
+      λ i. record { name = names i; params = params i; verdict = verdicts i }
+
+  results_are : (u : ℕ) (entries : List Entry) (rs qs : List UnitResult) → AreResultsFrom s nodes images u entries rs → AreResultsFrom s nodes images u entries qs → told_of rs ≡ told_of qs → list_any (λ r. is_false r.verdict) rs ≡ false → rs ≡ qs
+  results_are u [] [] [] is is_too tells f = refl
+  results_are u [] [] (q ∷ qs) is is_too tells f = absurd is_too
+  results_are u [] (r ∷ rs) qs is is_too tells f = absurd is
+  results_are u (entry ∷ entries) [] qs is is_too tells f = absurd is
+  results_are u (entry ∷ entries) (r ∷ rs) [] is is_too tells f = absurd is_too
+  results_are u (entry ∷ entries) (r ∷ rs) (q ∷ qs) is is_too tells f =
+      let none = neither (is_false r.verdict) (list_any (λ r. is_false r.verdict) rs) f in
+      ap₂ (λ (x : UnitResult) (xs : List UnitResult). x ∷ xs) (result_is u entry r q is.0 is_too.0 (heads_are tells) none.0)
+      (results_are (suc u) entries rs qs is.1 is_too.1 (tails_are tells) none.1)
+
+  report_is : (r q : Report) → IsReportOf s nodes images r → IsReportOf s nodes images q → told_of r.units ≡ told_of q.units → list_any (λ u. is_false u.verdict) r.units ≡ false → r ≡ q
+  report_is r q is is_too tells f =
+      let designs : r.design ≡ q.design = is.design ∙ sym is_too.design in
+      let units = results_are 0 s.entries r.units q.units is.units is_too.units tells f in
+      λ i. record { design = designs i; units = units i }
+
+  unit_is : (u : ℕ) (entry : Entry) (r q : Report) → IsReportOfUnit s nodes images u entry r → IsReportOfUnit s nodes images u entry q → told_of r.units ≡ told_of q.units → list_any (λ u. is_false u.verdict) r.units ≡ false → r ≡ q
+  unit_is u entry r q is is_too tells f =
+      let designs : r.design ≡ q.design = is.design ∙ sym is_too.design in
+      let units = results_are u (entry ∷ []) r.units q.units
+      (subst (AreResultsFrom s nodes images u (entry ∷ [])) (sym is.units) (is.is_result, tt))
+      (subst (AreResultsFrom s nodes images u (entry ∷ [])) (sym is_too.units) (is_too.is_result, tt)) tells f in
+      λ i. record { design = designs i; units = units i }
+
+-- ---- reports of texts
+
+some_is : {X : Type 0} {x y : X} → Some x ≡ Some y → x ≡ y
+some_is e = cc
+
+module _ (one_tree : OneTree) where
+  right_is : (text : List ℕ) (nodes steps : ℕ) (r q : Report) → IsRightReport text nodes steps r → IsRightReport text nodes steps q → told_of r.units ≡ told_of q.units → list_any (λ u. is_false u.verdict) r.units ≡ false → r ≡ q
+  right_is text nodes steps r q (tree, valid, is) (other, valid_too, is_too) tells f =
+      let same = one_tree text tree other valid.is_tree valid_too.is_tree in
+      report_is (script_of_tree other) nodes steps r q (subst (λ (t : Text). IsReportOf (script_of_tree t) nodes steps r) same is) is_too tells f
+
+  -- reports of one unit of two trees that are one
+  unit_report_is : (text name : List ℕ) (nodes steps : ℕ) (r q : Report) → IsUnitReport text name nodes steps r → IsUnitReport text name nodes steps q → told_of r.units ≡ told_of q.units → list_any (λ u. is_false u.verdict) r.units ≡ false → r ≡ q
+  unit_report_is text name nodes steps r q (tree, valid, (u, entry, named, is)) (other, valid_too, (v, entry_too, named_too, is_too)) tells f =
+      let same = one_tree text tree other valid.is_tree valid_too.is_tree in
+      let found = sym (ap (λ (t : Text). unit_named (script_of_tree t) name) same) ∙ named in
+      let one : (u, entry) ≡ (v, entry_too) = some_is (sym found ∙ named_too) in
+      unit_is (script_of_tree other) nodes steps v entry_too r q
+      (subst (λ (p : ℕ × Entry). IsReportOfUnit (script_of_tree other) nodes steps p.0 p.1 r) one (subst (λ (t : Text). IsReportOfUnit (script_of_tree t) nodes steps u entry r) same is))
+      is_too tells f
+
+  module _ (one_report : OneReport) (one_unit : OneUnitReport) where
+    pub one_for : (command : Command) (text : List ℕ) (r q : Report) → IsReportFor command text r → IsReportFor command text q → list_any (λ u. is_false u.verdict) r.units ≡ false → r ≡ q
+    one_for (Prove budgets) text r q is is_too f = right_is text budgets.nodes budgets.steps r q is is_too (one_report text budgets.nodes budgets.steps r q is is_too) f
+    one_for (Only name budgets) text r q is is_too f = unit_report_is text name budgets.nodes budgets.steps r q is is_too (one_unit text name budgets.nodes budgets.steps r q is is_too) f
+    one_for Print text r q is is_too f = absurd is
+    one_for (Generated copies) text r q is is_too f = right_is text default_nodes default_steps r q is is_too (one_report text default_nodes default_steps r q is is_too) f
