@@ -1,16 +1,15 @@
 -- What statuses say of reports, and that a text has not both a report and a fault.
-use Rattle.std.proofs.Common.{◌≡◌, ◌∙◌, ◌||◌, ℕ, Bool, true, false, List, [], ◌∷◌, Option, Some, None, ap, ap₂, arith, refl, subst, sym, true≢false, map}
+use Rattle.std.proofs.Common.{◌≡◌, ◌∙◌, ◌||◌, ℕ, Bool, true, false, List, [], ◌∷◌, Option, Some, None, ap, ap₂, arith, refl, subst, sym, true≢false}
 use Rattle.std.specs.Prelude.{if◌then◌else◌}
 use Rattle.std.specs.List.{list_any}
-use Rattle.smv_core.specs.declared.fault.Fault.{Fault}
 use Rattle.smv_core.specs.declared.tree.Text.{Text}
-use Rattle.smv_abstraction.specs.Sets.{Has, first, later}
-use Rattle.smv_search.specs.Verdict.Verdict.{Counted, Reached, Shut, Images}
+use Rattle.smv_abstraction.specs.Sets.{first, later}
+use Rattle.smv_search.specs.Verdict.Verdict.{Counted, Reached, Images}
 use Rattle.smv_problem.specs.declared.report.Verdict.{Verdict}
 use Rattle.smv_problem.specs.declared.report.Verdict.TheVariants as verdict
 use Rattle.smv_problem.specs.declared.report.UnitResult.{UnitResult}
 use Rattle.smv_problem.specs.declared.report.Report.{Report}
-use Rattle.law_verdicts.specs.Verdicts.{LeafVerdict, all_true, fails}
+use Rattle.law_verdicts.specs.Verdicts.{LeafVerdict, fails}
 use Rattle.law_reports.specs.Reports.{AllTrueUnits, told, told_of}
 use Rattle.smv_parse.specs.Laws.{IsNotBoth}
 use Rattle.smv_command.specs.declared.Command.{Command}
@@ -21,7 +20,7 @@ use Rattle.law_text_reports.specs.Plans.{IsTree}
 use Rattle.law_valid_texts.specs.Faults.{pass_fault}
 use Rattle.law_valid_texts.specs.Reports.{IsValid, IsRightReport}
 use Rattle.law_valid_texts.specs.Laws.{OneTree, OneReport, OneUnitReport, UnitsAreOrAreNot}
-use Rattle.law_answers.specs.Dues.{IsDue, IsDueTo, IsFault, IsReportFor, decided, decides, default_nodes, default_steps, faulty, is_false, is_unknown, limit, malformed, printed, proved_by, reads, refused, status_of, text_for, too_long, unnamed}
+use Rattle.law_answers.specs.Dues.{IsDue, IsDueTo, IsFault, IsReportFor, decided, default_nodes, default_steps, faulty, is_false, is_unknown, malformed, printed, proved_by, refused, status_of, text_for, too_long, unnamed}
 
 -- ---- a status by what is told
 
