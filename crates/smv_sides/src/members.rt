@@ -1,0 +1,96 @@
+// Listed sets, as far as they may allow a value.
+ghost use Rattle.std.specs.Prelude.{◌≡◌, IfOk};
+ghost use Rattle.std.specs.List.{list_any};
+ghost use Rattle.smv_conditions.specs.Keep.{KeepsConditions};
+ghost use Rattle.smv_cells.specs.Cells.{AreCellsMade};
+ghost use Rattle.smv_targets.specs.Targets.{IsTargetMade, IsSo};
+ghost use Rattle.smv_sides.specs.Sides.{member_means, members_mean, stands_for};
+
+use crate::outcomes::{some_number, some_outcome};
+use smv_cells::Cell;
+use smv_conditions::conditions::Conditions;
+use smv_core::flat::{FlatExpr, FlatMember};
+use smv_problem::Problem;
+use smv_spots::spots::Spot;
+use smv_targets::targets::{Sense, Target};
+use std::alloc::{AllocError, Global};
+
+// Some outcome of a member gives the value in this sense.
+fn some_of_member<S: Conditions>(
+    s: &mut S,
+    alloc: Global,
+    problem: &Problem,
+    cells: &[Cell<S::Condition>],
+    target: &Target<S::Condition>,
+    sense: Sense,
+    member: &FlatMember,
+    b: &[Spot],
+) -> Result<S::Condition, AllocError>
+    requires cells_made { AreCellsMade (S.IsMade s.old) cells.now }
+    requires target_made { IsTargetMade (S.IsMade s.old) target.now }
+    ensures keeps { KeepsConditions S.IsMade S.holds S.room s.old s.new }
+    ensures made { IfOk result (λ r. S.IsMade s.new r) }
+    ensures cells { IfOk result (λ r. AreCellsMade (S.IsMade s.new) cells.now) }
+    ensures target { IfOk result (λ r. IsTargetMade (S.IsMade s.new) target.now) }
+    ensures is { IfOk result (λ r. IsSo S.holds s.old s.new problem.entry.now cells.now target.now (member_means sense b.now member.now) r) }
+{
+    match member {
+        FlatMember::One { of } => {
+            let r = some_outcome(s, alloc, problem, cells, target, sense, of, b)?;
+            Ok(r)
+        }
+        FlatMember::Span { span, .. } => {
+            let end = u32::from(span.high) + 1;
+            let r = some_number(s, alloc, problem, target, sense, u32::from(span.low), end)?;
+            Ok(r)
+        }
+    }
+}
+
+/// Some outcome of some member gives the value in this sense.
+pub fn some_of_members<S: Conditions>(
+    s: &mut S,
+    alloc: Global,
+    problem: &Problem,
+    cells: &[Cell<S::Condition>],
+    target: &Target<S::Condition>,
+    sense: Sense,
+    members: &[FlatMember],
+    b: &[Spot],
+) -> Result<S::Condition, AllocError>
+    requires cells_made { AreCellsMade (S.IsMade s.old) cells.now }
+    requires target_made { IsTargetMade (S.IsMade s.old) target.now }
+    ensures keeps { KeepsConditions S.IsMade S.holds S.room s.old s.new }
+    ensures made { IfOk result (λ r. S.IsMade s.new r) }
+    ensures cells { IfOk result (λ r. AreCellsMade (S.IsMade s.new) cells.now) }
+    ensures target { IfOk result (λ r. IsTargetMade (S.IsMade s.new) target.now) }
+    ensures is { IfOk result (λ r. IsSo S.holds s.old s.new problem.entry.now cells.now target.now (members_mean sense b.now members.now) r) }
+{
+    let Some((member, others)) = members.split_first() else {
+        return Ok(s.constant(false));
+    };
+    let more = some_of_members(s, alloc, problem, cells, target, sense, others, b)?;
+    let here = some_of_member(s, alloc, problem, cells, target, sense, member, b)?;
+    let r = s.either(alloc, here, more)?;
+    Ok(r)
+}
+
+// A member stands for a value.
+fn stands(member: &FlatMember) -> bool
+    ensures { result ≡ stands_for member.now }
+{
+    match member {
+        FlatMember::One { .. } => true,
+        FlatMember::Span { span, .. } => span.low <= span.high,
+    }
+}
+
+/// Some member stands for a value: a listed set without one, which no text has, allows everything.
+pub fn has_some(members: &[FlatMember]) -> bool
+    ensures { result ≡ list_any stands_for members.now }
+{
+    let Some((member, others)) = members.split_first() else {
+        return false;
+    };
+    stands(member) || has_some(others)
+}
