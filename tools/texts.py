@@ -1,7 +1,7 @@
 """Texts of the language, each by a size, for tools/measure.py.
 
 ROWS lists them: what a text is, the function that writes it, and its sizes, each twice the one before.
-Where texts_design.py and texts_loops.py are beside this file, their rows come too.
+Where texts_design.py, texts_loops.py and texts_uses.py are beside this file, their rows come too.
 """
 
 import importlib.util
@@ -158,4 +158,4 @@ def more_rows(name, known):
     return [(says, getattr(module, text_of), sizes) for says, text_of, sizes in known if hasattr(module, text_of)]
 
 
-ROWS += more_rows("texts_design", []) + more_rows("texts_loops", LOOPS)
+ROWS += more_rows("texts_design", []) + more_rows("texts_loops", LOOPS) + more_rows("texts_uses", [])

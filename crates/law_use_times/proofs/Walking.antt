@@ -1,6 +1,5 @@
 -- Units that reach one another along uses are those between which walks lead.
-use Rattle.std.proofs.Common.{◌≡◌, ℕ, zero, suc, ◌<◌, ◌≤◌, List, [], length, get_or, Bool, true, false, not, ◌&&◌, ◌||◌, ap, sym, subst, ◌∙◌, ◌⊎◌, inl, inr, Some, nat_eq, nat_lt, arith}
-use Rattle.std.specs.Prelude.{slice_index_or}
+use Rattle.std.proofs.Common.{◌≡◌, ℕ, zero, suc, ◌<◌, ◌↔◌, ◌≤◌, List, [], length, get_or, Bool, true, not, ◌&&◌, ◌||◌, ap, sym, subst, ◌∙◌, ◌⊎◌, inl, inr, Some, nat_eq, nat_lt, arith}
 use Rattle.std.specs.List.{Contains}
 use Rattle.std.proofs.lemmas.List.{get_or_past}
 use Rattle.smv_abstraction.specs.Sets.{Has}
@@ -10,8 +9,8 @@ use Rattle.smv_abstraction.proofs.Members.{any-found, any-some}
 use Rattle.smv_abstraction.proofs.Same.{nat_eq-itself, nat_eq-is}
 use Rattle.law_obligations.specs.Times.{is_member, has_edge, time_of, unit_time}
 use Rattle.graph_search.specs.Walks.{Walk, here, step}
-use Rattle.graph_search.specs.Reverse.{after}
-use Rattle.law_use_times.specs.Found.{LeadTo}
+use Rattle.graph_search.specs.Reverse.{after, IsGraph}
+use Rattle.graph_components.specs.Components.{AreComponents, AreMates}
 use Rattle.law_use_times.proofs.Lists.{Contains-Has, Has-Contains}
 
 -- along any edges
@@ -90,11 +89,22 @@ module _ (edges : List (List ℕ)) where
       on u y v p here q = p
       on u y v p (step {y = z} d w) q = joined (has_edge edges) (length edges) u y v (edge-below y z (Contains-edge y z d)) p q
 
-  module _ (u v : ℕ) (marks : List Bool) (lead : LeadTo edges u marks) where
-    marked : slice_index_or marks v false ≡ reaches_through (has_edge edges) (length edges) v u
-    marked = same_tests _ _ (λ m. Walk-reached ((lead v).0 m)) (λ r. (lead v).1 (reached-Walk (length edges) v u r))
+  module _ (u v : ℕ) (labels : List ℕ) (is_graph : IsGraph edges) (are : AreComponents edges labels) (e : has_edge edges u v ≡ true) where
+    abbrev label : ℕ → ℕ
+    label x = get_or labels x 0
 
-    pub now-by_walks : has_edge edges u v ≡ true → unit_time edges u (Some v) ≡ time_of (not (slice_index_or marks v false) || nat_lt v u)
-    now-by_walks e =
+    there : Contains (after edges u) v
+    there = edge-Contains u v e
+
+    mates : (label v ≡ label u) ↔ AreMates edges v u
+    mates = are.same v u (is_graph u v there) (edge-below u v e)
+
+    same_label : nat_eq (label v) (label u) ≡ reaches_through (has_edge edges) (length edges) v u
+    same_label = same_tests _ _
+        (λ s. Walk-reached (mates.0 (nat_eq-is (label v) (label u) s)).0)
+        (λ r. subst (λ z. nat_eq (label v) z ≡ true) (mates.1 (reached-Walk (length edges) v u r, step there here)) (nat_eq-itself (label v)))
+
+    pub now-by_labels : unit_time edges u (Some v) ≡ time_of (not (nat_eq (get_or labels v 0) (get_or labels u 0)) || nat_lt v u)
+    now-by_labels =
         ap (λ b. time_of (b && (not (reaches_through (has_edge edges) (length edges) v u) || nat_lt v u))) e
-        ∙ ap (λ b. time_of (not b || nat_lt v u)) (sym marked)
+        ∙ ap (λ b. time_of (not b || nat_lt v u)) (sym same_label)

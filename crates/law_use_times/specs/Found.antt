@@ -1,11 +1,10 @@
 -- What searches find, that the times of uses are made of.
-use Rattle.std.specs.Prelude.{ℕ, ◌+◌, ◌↔◌, List, length, Bool, if◌then◌else◌, nat_lt}
+use Rattle.std.specs.Prelude.{ℕ, ◌+◌, List, length, Bool, if◌then◌else◌, nat_lt}
 use Rattle.smv_core.specs.declared.flat.Design.{Design}
 use Rattle.smv_abstraction.specs.Sets.{Has}
 use Rattle.smv_abstraction.specs.Soundness.{FlatUnit, map_of, claim_of}
 use Rattle.graph_search.specs.Walks.{Walk}
 use Rattle.graph_search.specs.Searches.{IsSeen}
-use Rattle.graph_search.specs.Reverse.{after}
 
 -- how many numbers a search for the same-time set of a unit goes through: those of the families, and of the unit's own family where it is none of them
 abbrev pub nodes_of : Design → FlatUnit → ℕ
@@ -17,7 +16,3 @@ pub record IsFound (next : ℕ → List ℕ) (from : List ℕ) (marks : List Boo
   pub begins : (x : ℕ) → Has from x → IsSeen marks x
   pub goes_on : (x y : ℕ) → IsSeen marks x → Has (next x) y → IsSeen marks y
   pub led : (x : ℕ) → IsSeen marks x → (q : ℕ) × Has from q × Walk next q x
-
--- what is marked are the nodes that lead to this one
-abbrev pub LeadTo : List (List ℕ) → ℕ → List Bool → Type 0
-LeadTo edges u marks = (x : ℕ) → IsSeen marks x ↔ Walk (after edges) x u

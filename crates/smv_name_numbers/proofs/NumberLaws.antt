@@ -8,7 +8,8 @@ use Rattle.smv_core.specs.Values.{Name}
 use Rattle.smv_abstraction.proofs.Tests.{same_tests}
 use Rattle.law_obligations.specs.Outlines.{place_of}
 use Rattle.name_index.specs.Position.{position}
-use Rattle.smv_problem.specs.Written.{name_number}
+use Rattle.smv_core.specs.declared.flat.SetInfo.{SetInfo}
+use Rattle.smv_problem.specs.Written.{name_number, set_numbers_of}
 use Rattle.smv_name_numbers.specs.Places.{place_among}
 
 turned : (x name : Name) → bytes_eq x name ≡ bytes_eq name x
@@ -36,3 +37,20 @@ pub numbers-made : {E : Type 0} (r : Result (List (List ℕ)) E) (enums : List (
 numbers-made (Err e) enums fresh pushed all empty f n p a h = tt
 numbers-made (Ok numbers) enums fresh pushed all empty f n p a h =
     numbers-are enums all numbers (a ∙ ap (λ (l : List Name). l ++ flat_map (λ names. names) enums) (p ∙ (ap (λ (l : List Name). l ++ empty ∷ []) f ∙ ap (λ (name : Name). name ∷ []) n))) h
+
+nothing-behind : (names : List Name) → names ++ [] ≡ names
+nothing-behind [] = refl
+nothing-behind (name ∷ names) = ap (λ l. name ∷ l) (nothing-behind names)
+
+set-numbers-are : (sets : List SetInfo) (all : List Name) (numbers : List ℕ) → all ≡ [] ∷ map (λ (info : SetInfo). info.name) sets → numbers ≡ map (λ (info : SetInfo). place_among all info.name) sets → numbers ≡ set_numbers_of sets
+set-numbers-are sets all numbers whole is =
+    let names = map (λ (info : SetInfo). info.name) sets in
+    is ∙ same-map (λ (info : SetInfo). place_among all info.name) (λ (info : SetInfo). name_number (names ∷ []) info.name) (λ info.
+    ap (λ (l : List Name). unwrap_or (position l info.name) 0) (whole ∙ ap (λ (l : List Name). [] ∷ l) (sym (nothing-behind names))) ∙ ap (λ (o : Option ℕ). unwrap_or o 0) (place-is ([] ∷ (names ++ [])) info.name)) sets
+
+-- and for set types
+pub set-numbers-made : {E : Type 0} (r : Result (List ℕ) E) (sets : List SetInfo) (fresh pushed all : List Name) (empty : Name) → fresh ≡ [] → empty ≡ [] → pushed ≡ fresh ++ empty ∷ [] → all ≡ pushed ++ map (λ (info : SetInfo). info.name) sets →
+    IfOk r (λ numbers. numbers ≡ map (λ (info : SetInfo). place_among all info.name) sets) → IfOk r (λ numbers. numbers ≡ set_numbers_of sets)
+set-numbers-made (Err e) sets fresh pushed all empty f n p a h = tt
+set-numbers-made (Ok numbers) sets fresh pushed all empty f n p a h =
+    set-numbers-are sets all numbers (a ∙ ap (λ (l : List Name). l ++ map (λ (info : SetInfo). info.name) sets) (p ∙ (ap (λ (l : List Name). l ++ empty ∷ []) f ∙ ap (λ (name : Name). name ∷ []) n))) h

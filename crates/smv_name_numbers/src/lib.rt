@@ -1,12 +1,13 @@
-//! The numbers of the names of constants: equal names have one number, of whatever enumeration.
-//! For the calls that make problems: the numbers are made once for a design and copied into the problem of each case. `name_number` of `smv_problem/specs/Written` says what they are.
+//! The numbers of the names of constants and of set types: equal names have one number, constants of whatever enumeration.
+//! For the calls that make problems: the numbers are made once for a design and copied into the problem of each case. `name_number` and `set_numbers_of` of `smv_problem/specs/Written` say what they are.
 #![tactic(auto)]
 
 ghost use Rattle.std.specs.Prelude.{◌≡◌, ◌++◌, [], ◌∷◌, map, flat_map, IfOk, OnOk};
-ghost use Rattle.smv_problem.specs.Written.{name_number};
+ghost use Rattle.smv_problem.specs.Written.{name_number, set_numbers_of};
 ghost use Rattle.smv_name_numbers.specs.Places.{place_among};
 
 use name_index::NameIndex;
+use smv_core::flat::SetInfo;
 use smv_core::{Name, Seq};
 use std::alloc::{AllocError, Global};
 
@@ -72,4 +73,36 @@ pub fn name_numbers(alloc: Global, enums: &[Seq<Name>]) -> Result<Seq<Seq<usize>
     index.push(&empty)?;
     push_all(&mut index, enums)?;
     all_places(alloc, &index, enums)
+}
+
+// The names of set types, behind those before.
+fn push_set_names<'a>(index: &mut NameIndex<'a>, sets: &'a [SetInfo]) -> Result<(), AllocError>
+    ensures { OnOk result (index.new ≡ index.old ++ map (λ info. info.name) sets.now) }
+{
+    for info in sets {
+        index.push(&info.name)?;
+    }
+    Ok(())
+}
+
+// The first place of the name of each set type.
+fn set_places(alloc: Global, index: &NameIndex, sets: &[SetInfo]) -> Result<Seq<usize>, AllocError>
+    ensures { IfOk result (λ places. places ≡ map (λ info. place_among index.now info.name) sets.now) }
+{
+    let mut places = Seq::new(alloc);
+    for info in sets {
+        places.push(place_of(index, &info.name))?;
+    }
+    Ok(places)
+}
+
+/// The number of the name of each set type: that of its first place among them, counted from 1, and 0 for an empty name.
+pub fn set_numbers(alloc: Global, sets: &[SetInfo]) -> Result<Seq<usize>, AllocError>
+    ensures { IfOk result (λ numbers. numbers ≡ set_numbers_of sets.now) }
+{
+    let empty = Name::from_vec(Vec::new(alloc));
+    let mut index = NameIndex::new(alloc);
+    index.push(&empty)?;
+    push_set_names(&mut index, sets)?;
+    set_places(alloc, &index, sets)
 }

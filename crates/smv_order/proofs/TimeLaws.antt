@@ -1,61 +1,45 @@
--- Times by what leads back, one leaf after another.
-use Rattle.std.proofs.Common.{◌≡◌, ℕ, zero, suc, ◌+◌, ◌<◌, ◌≤◌, List, [], ◌∷◌, ◌++◌, map, length, get_or, Bool, true, false, not, ◌&&◌, ◌||◌, if◌then◌else◌, refl, ap, sym, subst, ◌∙◌, ◌⊎◌, inl, inr, Some, nat_eq, nat_lt, arith}
-use Rattle.std.specs.List.{flat_map, list_any, Contains}
-use Rattle.std.specs.Global.{Vec}
-use Rattle.std.proofs.lemmas.List.{get_or_past}
+-- Times by labels of components, one leaf after another.
+use Rattle.std.proofs.Common.{◌≡◌, ℕ, zero, suc, ◌+◌, ◌<◌, ◌≤◌, List, [], ◌∷◌, ◌++◌, map, drop, length, get_or, Bool, true, false, not, ◌&&◌, ◌||◌, if◌then◌else◌, refl, ap, sym, subst, ◌∙◌, Some, nat_eq, nat_lt, arith, add-one, drop-cons}
+use Rattle.std.specs.List.{flat_map, list_any}
+use Rattle.std.proofs.lemmas.List.{append-nil, append_assoc, drop_all}
 use Rattle.std.proofs.lemmas.Bool.Decides.{nat_tests}
 use Rattle.smv_core.specs.declared.flat.Timing.{Timing}
 use Rattle.smv_core.specs.declared.flat.Timing.TheVariants.{Before}
 use Rattle.smv_core.specs.declared.flat.Timed.{Timed}
 use Rattle.smv_abstraction.specs.Sets.{Has, first}
 use Rattle.smv_abstraction.specs.Uses.{reaches_through}
-use Rattle.smv_abstraction.proofs.Tests.{or_left, or_right}
 use Rattle.smv_abstraction.proofs.Members.{Has-left, Has-right, any-found}
 use Rattle.smv_abstraction.proofs.Same.{nat_eq-itself, nat_eq-is}
 use Rattle.law_obligations.specs.Times.{has_edge, time_of, unit_time}
-use Rattle.graph_search.specs.Walks.{lists}
-use Rattle.graph_search.specs.Reverse.{after, AreNumbers, IsGraph, IsReverse}
-use Rattle.graph_search.proofs.ReverseLaws.{lists_long}
-use Rattle.law_use_times.specs.Found.{LeadTo}
-use Rattle.law_use_times.proofs.Walking.{now-by_walks}
+use Rattle.graph_search.specs.Reverse.{after, IsGraph}
+use Rattle.graph_components.specs.Components.{AreComponents}
+use Rattle.law_use_times.proofs.Walking.{now-by_labels}
 use Rattle.smv_order.specs.declared.uses.Use.{Use}
-use Rattle.smv_order.specs.declared.uses.Use.TheVariants.{Settled, Open}
 use Rattle.smv_order.specs.declared.uses.LeafUses.{LeafUses}
-use Rattle.smv_order.specs.Uses.{Uses, held, marked}
-use Rattle.smv_order.specs.Times.{edge_of, edges_of, edges_from, use_time, times_of, time_by, is_later, has_later}
+use Rattle.smv_order.specs.declared.uses.Use.TheVariants.{Settled, Open}
+use Rattle.smv_order.specs.Uses.{Uses, held}
+use Rattle.smv_order.specs.Times.{edge_of, edges_of, edges_from, use_time, times_of, times_from, time_by, timed_by, timed_from}
 
 -- ---- one use
 
-module _ (edges : List (List ℕ)) (u : ℕ) (marks : List Bool) where
-  -- of another unit on which there is an edge, where the marks are right if it stands later
-  other-time : (v : ℕ) → has_edge edges u v ≡ true → (nat_lt u v ≡ true → LeadTo edges u marks) → nat_eq v u ≡ false → time_of (not (marked marks v) || nat_lt v u) ≡ unit_time edges u (Some v)
-  other-time v e lead n = at (nat_lt u v) refl
-    where
-      at : (b : Bool) → nat_lt u v ≡ b → time_of (not (marked marks v) || nat_lt v u) ≡ unit_time edges u (Some v)
-      at true l = sym (now-by_walks edges u v marks (lead l) e)
-      at false l =
-          let before : nat_lt v u ≡ true = grind (arith, nat_tests) in
-          ap time_of (or_right (not (marked marks v)) before)
-          ∙ sym (ap time_of (ap (λ b. b && (not (reaches_through (has_edge edges) (length edges) v u) || nat_lt v u)) e ∙ or_right (not (reaches_through (has_edge edges) (length edges) v u)) before))
-
+module _ (edges : List (List ℕ)) (u : ℕ) (labels : List ℕ) (is_graph : IsGraph edges) (are : AreComponents edges labels) where
   -- of the unit itself
   own-time : (v : ℕ) → has_edge edges u u ≡ false → nat_eq v u ≡ true → Before ≡ unit_time edges u (Some v)
   own-time v e s = sym (ap (λ w. unit_time edges u (Some w)) (nat_eq-is v u s) ∙ ap (λ b. time_of (b && (not (reaches_through (has_edge edges) (length edges) u u) || nat_lt u u))) e)
 
-  one-time : (x : Use) → ((v : ℕ) → Has (edge_of u x) v → has_edge edges u v ≡ true) → has_edge edges u u ≡ false → (is_later u x ≡ true → LeadTo edges u marks) → time_by marks u x ≡ use_time edges u x
-  one-time (Settled time) each own lead = refl
-  one-time (Open v) each own lead = at (nat_eq v u) refl
+  one-time : (x : Use) → ((v : ℕ) → Has (edge_of u x) v → has_edge edges u v ≡ true) → has_edge edges u u ≡ false → time_by labels u x ≡ use_time edges u x
+  one-time (Settled time) each own = refl
+  one-time (Open v) each own = at (nat_eq v u) refl
     where
-      at : (b : Bool) → nat_eq v u ≡ b → (if b then Before else time_of (not (marked marks v) || nat_lt v u)) ≡ unit_time edges u (Some v)
+      at : (b : Bool) → nat_eq v u ≡ b → (if b then Before else time_of (not (nat_eq (get_or labels v 0) (get_or labels u 0)) || nat_lt v u)) ≡ unit_time edges u (Some v)
       at true s = own-time v own s
-      at false n = other-time v (each v (subst (λ b. Has (if b then [] else v ∷ []) v) (sym n) first)) lead n
+      at false n = sym (now-by_labels edges u v labels is_graph are (each v (subst (λ b. Has (if b then [] else v ∷ []) v) (sym n) first)))
 
-  all-times : (xs : List Use) → ((v : ℕ) → Has (flat_map (edge_of u) xs) v → has_edge edges u v ≡ true) → has_edge edges u u ≡ false → (list_any (is_later u) xs ≡ true → LeadTo edges u marks) →
-      map (time_by marks u) xs ≡ map (use_time edges u) xs
-  all-times [] each own lead = refl
-  all-times (x ∷ xs) each own lead =
-      ap (λ t. t ∷ map (time_by marks u) xs) (one-time x (λ v h. each v (Has-left (flat_map (edge_of u) xs) h)) own (λ l. lead (or_left (list_any (is_later u) xs) l)))
-      ∙ ap (λ l. use_time edges u x ∷ l) (all-times xs (λ v h. each v (Has-right (edge_of u x) h)) own (λ l. lead (or_right (is_later u x) l)))
+  all-times : (xs : List Use) → ((v : ℕ) → Has (flat_map (edge_of u) xs) v → has_edge edges u v ≡ true) → has_edge edges u u ≡ false → map (time_by labels u) xs ≡ map (use_time edges u) xs
+  all-times [] each own = refl
+  all-times (x ∷ xs) each own =
+      ap (λ t. t ∷ map (time_by labels u) xs) (one-time x (λ v h. each v (Has-left (flat_map (edge_of u) xs) h)) own)
+      ∙ ap (λ l. use_time edges u x ∷ l) (all-times xs (λ v h. each v (Has-right (edge_of u x) h)) own)
 
 -- ---- one leaf
 
@@ -85,11 +69,10 @@ any-both f xs ys p q = any-append f xs ys ∙ (ap (λ b. b || list_any f ys) p �
 abbrev both_times : List Timing → List Timing → Timed
 both_times picks claims = record { picks = picks; claims = claims }
 
-pub leaf_timed : (edges : List (List ℕ)) (u : ℕ) (uses : Uses) (marks : List Bool) (asked : Bool) (picks claims : List Timing) → after edges u ≡ edges_of u uses → asked ≡ has_later u uses → (asked ≡ true → LeadTo edges u marks) →
-    picks ≡ map (time_by marks u) uses.picks → claims ≡ map (time_by marks u) uses.claims → both_times picks claims ≡ times_of edges u uses
-leaf_timed edges u uses marks asked picks claims is is_asked lead p q =
-    ap (λ l. both_times l claims) (p ∙ all-times edges u marks uses.picks (λ v h. has v (Has-left (flat_map (edge_of u) uses.claims) h)) own (λ l. lead (is_asked ∙ or_left (list_any (is_later u) uses.claims) l)))
-    ∙ ap (both_times (map (use_time edges u) uses.picks)) (q ∙ all-times edges u marks uses.claims (λ v h. has v (Has-right (flat_map (edge_of u) uses.picks) h)) own (λ l. lead (is_asked ∙ or_right (list_any (is_later u) uses.picks) l)))
+leaf-timed : (edges : List (List ℕ)) (u : ℕ) (labels : List ℕ) (uses : Uses) → IsGraph edges → AreComponents edges labels → after edges u ≡ edges_of u uses → timed_by labels u uses ≡ times_of edges u uses
+leaf-timed edges u labels uses is_graph are is =
+    ap (λ l. both_times l (map (time_by labels u) uses.claims)) (all-times edges u labels is_graph are uses.picks (λ v h. has v (Has-left (flat_map (edge_of u) uses.claims) h)) own)
+    ∙ ap (both_times (map (use_time edges u) uses.picks)) (all-times edges u labels is_graph are uses.claims (λ v h. has v (Has-right (flat_map (edge_of u) uses.picks) h)) own)
   where
     has : (v : ℕ) → Has (edges_of u uses) v → has_edge edges u v ≡ true
     has v h = ap (list_any (nat_eq v)) is ∙ any-found (nat_eq v) h (nat_eq-itself v)
@@ -104,42 +87,33 @@ after-from s [] k uses h e = absurd (omega arith)
 after-from s (x ∷ all) zero uses h e = ap (edges_of s) (sym e) ∙ ap (λ n. edges_of n uses) (let same : s ≡ s + 0 = omega arith in same)
 after-from s (x ∷ all) (suc k) uses h e = after-from (suc s) all k uses (omega arith) e ∙ ap (λ n. edges_of n uses) (let same : suc s + k ≡ s + suc k = omega arith in same)
 
-held-at : (all : List LeafUses) (k : ℕ) (uses : LeafUses) → uses ≡ get_or all k uses → held uses ≡ get_or (map held all) k (held uses)
-held-at [] k uses e = refl
-held-at (x ∷ all) zero uses e = ap held e
-held-at (x ∷ all) (suc k) uses e = held-at all k uses e
+module _ (edges : List (List ℕ)) (labels : List ℕ) (is_graph : IsGraph edges) (are : AreComponents edges labels) where
+  from-timed : (s : ℕ) (rest : List Uses) → ((k : ℕ) (uses : Uses) → k < length rest → uses ≡ get_or rest k uses → after edges (s + k) ≡ edges_of (s + k) uses) → timed_from labels s rest ≡ times_from edges s rest
+  from-timed s [] each = refl
+  from-timed s (uses ∷ rest) each =
+      ap (λ t. t ∷ timed_from labels (suc s) rest)
+      (leaf-timed edges s labels uses is_graph are (subst (λ n. after edges n ≡ edges_of n uses) (let same : s + 0 ≡ s = omega arith in same) (each 0 uses (omega arith) refl)))
+      ∙ ap (λ l. times_of edges s uses ∷ l)
+      (from-timed (suc s) rest (λ k other h e. subst (λ n. after edges n ≡ edges_of n other) (let same : s + suc k ≡ suc s + k = omega arith in same) (each (suc k) other (omega (arith, h)) e)))
 
-held-long : (all : List LeafUses) → length (map held all) ≡ length all
-held-long [] = refl
-held-long (x ∷ all) = ap suc (held-long all)
+-- one leaf more
+pub one_timed : (labels : List ℕ) (all : List LeafUses) (k : ℕ) (uses : LeafUses) (old new : List Timed) (timed : Timed) (whole : List Timed) → k < length all → uses ≡ get_or all k uses → timed ≡ timed_by labels k (held uses) → new ≡ old ++ timed ∷ [] →
+    old ++ timed_from labels k (map held (drop k all)) ≡ whole → new ++ timed_from labels (k + 1) (map held (drop (k + 1) all)) ≡ whole
+one_timed labels all k uses old new timed whole h e is more known =
+    let from_here : drop k all ≡ uses ∷ drop (suc k) all = drop-cons all k uses h ∙ ap (λ x. x ∷ drop (suc k) all) (sym e) in
+    ap (λ l. l ++ timed_from labels (k + 1) (map held (drop (k + 1) all))) more
+    ∙ append_assoc old (timed ∷ []) (timed_from labels (k + 1) (map held (drop (k + 1) all)))
+    ∙ ap (λ n. old ++ timed ∷ timed_from labels n (map held (drop n all))) (add-one k)
+    ∙ ap (λ t. old ++ t ∷ timed_from labels (suc k) (map held (drop (suc k) all))) is
+    ∙ ap (λ rest. old ++ timed_from labels k (map held rest)) (sym from_here)
+    ∙ known
 
-pub edges_at : (graph : List (List ℕ)) (all : List LeafUses) (k : ℕ) (uses : LeafUses) → graph ≡ edges_from 0 (map held all) → k < length all → uses ≡ get_or all k uses → after graph k ≡ edges_of k (held uses)
-edges_at graph all k uses e h is = ap (λ g. get_or g k []) e ∙ after-from 0 (map held all) k (held uses) (omega (arith, h, held-long all)) (held-at all k uses is) ∙ ap (λ n. edges_of n (held uses)) (let same : 0 + k ≡ k = omega arith in same)
-
--- ---- the way back
-
-length-edges : (s : ℕ) (all : List Uses) → length (edges_from s all) ≡ length all
-length-edges s [] = refl
-length-edges s (x ∷ all) = ap suc (length-edges (suc s) all)
-
-none_in : {P : Type 0} (x : ℕ) → Contains [] x → P
-none_in x c = let l = c.1 in absurd (omega (arith, l))
-
-before_or_past : (m n : ℕ) → (m < n) ⊎ (n ≤ m)
-before_or_past m n = grind arith
-
-pub back_is_graph : (graph back : List (List ℕ)) → IsReverse graph back → IsGraph back
-back_is_graph graph back reverse y x c = elim (before_or_past x (length graph)) [
-  | inl l ↦ let r = reverse.room in omega (arith, l, r)
-  | inr p ↦ none_in y (subst (λ l. Contains l y) (get_or_past graph x [] p) ((reverse.edges x y).0 c))
-]
-
-pub back_long : (graph back : List (Vec ℕ)) (all : List LeafUses) → lists graph ≡ edges_from 0 (map held all) → IsReverse (lists graph) (lists back) → length back ≡ length all
-back_long graph back all e reverse = sym (lists_long back) ∙ (reverse.room ∙ (ap length e ∙ (length-edges 0 (map held all) ∙ held-long all)))
-
-pub reverse_same : (graph graphs back backs : List (Vec ℕ)) → graphs ≡ graph → backs ≡ back → IsReverse (lists graph) (lists back) → IsReverse (lists graphs) (lists backs)
-reverse_same graph graphs back backs e f known = subst (λ g. IsReverse (lists g) (lists backs)) (sym e) (subst (λ b. IsReverse (lists graph) (lists b)) (sym f) known)
-
-pub numbers_same : (graph back : List (Vec ℕ)) (numbers same : List ℕ) (n : ℕ) → same ≡ numbers → n ≡ length graph → IsReverse (lists graph) (lists back) → AreNumbers n numbers → AreNumbers (length back) same
-numbers_same graph back numbers same n e f reverse known = subst (AreNumbers (length back)) (sym e)
-    (subst (λ k. AreNumbers k numbers) (f ∙ (sym (lists_long graph) ∙ (sym reverse.room ∙ lists_long back))) known)
+-- all of them, where those from a place on are none
+pub labelled_times : (all : List LeafUses) (graph : List (List ℕ)) (labels : List ℕ) (times : List Timed) (place : ℕ) → graph ≡ edges_from 0 (map held all) → IsGraph (edges_from 0 (map held all)) → AreComponents graph labels → length all ≤ place →
+    times ++ timed_from labels place (map held (drop place all)) ≡ timed_from labels 0 (map held all) → times ≡ times_from (edges_from 0 (map held all)) 0 (map held all)
+labelled_times all graph labels times place e is_graph are past so_far =
+    sym (append-nil times)
+    ∙ sym (ap (λ rest. times ++ timed_from labels place (map held rest)) (drop_all place all past))
+    ∙ so_far
+    ∙ from-timed (edges_from 0 (map held all)) labels is_graph (subst (λ g. AreComponents g labels) e are) 0 (map held all)
+    (λ k uses h is. subst (λ n. after (edges_from 0 (map held all)) n ≡ edges_of (0 + k) uses) (let same : k ≡ 0 + k = omega arith in same) (after-from 0 (map held all) k uses h is))

@@ -1,4 +1,3 @@
 pub mod Tables
 pub mod Uses
 pub mod Times
-pub mod Ways

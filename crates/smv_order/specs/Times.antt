@@ -1,13 +1,12 @@
 -- The times of uses, by the graph of those that are open.
-use Rattle.std.specs.Prelude.{ℕ, suc, List, [], ◌∷◌, ◌++◌, map, flat_map, Some, Bool, false, not, ◌||◌, if◌then◌else◌, nat_eq, nat_lt}
-use Rattle.std.specs.List.{list_any}
+use Rattle.std.specs.Prelude.{ℕ, suc, List, [], ◌∷◌, ◌++◌, map, flat_map, Some, not, ◌||◌, if◌then◌else◌, nat_eq, nat_lt, slice_index}
 use Rattle.smv_core.specs.declared.flat.Timing.{Timing}
 use Rattle.smv_core.specs.declared.flat.Timing.TheVariants.{Before}
 use Rattle.smv_core.specs.declared.flat.Timed.{Timed}
 use Rattle.law_obligations.specs.Times.{time_of, unit_time}
 use Rattle.smv_order.specs.declared.uses.Use.{Use}
 use Rattle.smv_order.specs.declared.uses.Use.TheVariants.{Settled, Open}
-use Rattle.smv_order.specs.Uses.{Uses, marked}
+use Rattle.smv_order.specs.Uses.{Uses}
 
 -- the unit that a use names, other than the unit itself
 abbrev pub edge_of : ℕ → Use → List ℕ
@@ -34,15 +33,14 @@ abbrev pub times_from : List (List ℕ) → ℕ → List Uses → List Timed
 times_from edges u [] = []
 times_from edges u (uses ∷ all) = times_of edges u uses ∷ times_from edges (suc u) all
 
--- the time of a use, where the units are marked that lead back
-abbrev pub time_by : List Bool → ℕ → Use → Timing
-time_by marks u (Settled time) = time
-time_by marks u (Open v) = if nat_eq v u then Before else time_of (not (marked marks v) || nat_lt v u)
+-- the time of a use, by labels of the components of the graph
+abbrev pub time_by : List ℕ → ℕ → Use → Timing
+time_by labels u (Settled time) = time
+time_by labels u (Open v) = if nat_eq v u then Before else time_of (not (nat_eq (slice_index labels v) (slice_index labels u)) || nat_lt v u)
 
--- a use of a unit that stands later
-abbrev pub is_later : ℕ → Use → Bool
-is_later u (Settled time) = false
-is_later u (Open v) = nat_lt u v
+abbrev pub timed_by : List ℕ → ℕ → Uses → Timed
+timed_by labels u uses = record { picks = map (time_by labels u) uses.picks; claims = map (time_by labels u) uses.claims }
 
-abbrev pub has_later : ℕ → Uses → Bool
-has_later u uses = list_any (is_later u) uses.picks || list_any (is_later u) uses.claims
+abbrev pub timed_from : List ℕ → ℕ → List Uses → List Timed
+timed_from labels u [] = []
+timed_from labels u (uses ∷ all) = timed_by labels u uses ∷ timed_from labels (suc u) all

@@ -26,6 +26,10 @@ use_of (Some unit) = Open unit
 abbrev pub marked : List Bool → ℕ → Bool
 marked marks x = slice_index_or marks x false
 
+-- the time of a pick depends on the same-time set
+abbrev pub asks : Pick → Bool
+asks p = not (is_none p.layer) && not p.early
+
 module _ (o : Outline) where
   -- a pick, where this is the same-time set: of `free` it is now, and before in parentheses or outside the set
   abbrev pub pick_use : (ℕ → Bool) → Pick → Use

@@ -1,8 +1,8 @@
 //! The times of the uses of each leaf: which hold up to the present time and which only before, by the definitions of `law_obligations`.
 //!
 //! `order` is for the pass behind the choices of leaves. `tables` has the design by numbers, `chosen` the definitions that a leaf's picks choose, `same_time`
-//! its same-time set, by a worklist over families; `uses` tells from that which uses are open, and `times` finds the times of these in the graph of all
-//! open uses. No step looks through a list for each use.
+//! its same-time set, by a worklist over families; `uses` tells from that which uses are open, and `times` finds the times of these by labels of the
+//! components of the graph of all open uses. No step looks through a list for each use.
 #![tactic(auto)]
 
 ghost use Rattle.std.specs.Prelude.{◌≡◌, length, IfOk};

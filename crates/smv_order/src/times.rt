@@ -1,16 +1,12 @@
 // The times of uses, by the graph of those that are open.
-ghost use Rattle.std.specs.Prelude.{◌≡◌, ◌<◌, ◌++◌, true, flat_map, length, map, IfOk, OnOk};
-ghost use Rattle.std.specs.List.{list_any};
+ghost use Rattle.std.specs.Prelude.{◌≡◌, ◌++◌, flat_map, map, IfOk, OnOk};
 ghost use Rattle.graph_search.specs.Walks.{lists};
-ghost use Rattle.graph_search.specs.Reverse.{after, IsGraph};
-ghost use Rattle.law_use_times.specs.Found.{LeadTo};
+ghost use Rattle.graph_search.specs.Reverse.{IsGraph};
 ghost use Rattle.smv_order.specs.Uses.{held};
-ghost use Rattle.smv_order.specs.Times as spec;
-ghost use Rattle.smv_order.specs.Ways.{AreWays};
-ghost use Rattle.smv_order.specs.Times.{edge_of, edges_from, edges_of, time_by, times_from, times_of};
+ghost use Rattle.smv_order.specs.Times.{edge_of, edges_from, edges_of, time_by, timed_by, times_from};
 
-use crate::uses::{LeafUses, Use, is_marked};
-use graph_search::reverse::{leading, numbers, reverse};
+use crate::uses::{LeafUses, Use};
+use graph_components::{components, label};
 use smv_core::flat::{Timed, Timing};
 use smv_core::seq::Seq;
 use std::alloc::{AllocError, Global};
@@ -22,26 +18,12 @@ pub fn all_times(alloc: Global, all: &[LeafUses]) -> Result<Vec<Timed>, AllocErr
     ensures { IfOk result (λ times. times.items ≡ times_from (edges_from 0 (map held all.now)) 0 (map held all.now)) }
 {
     let graph = graph(alloc, all)?;
-    let back = reverse(alloc, graph.as_slice())?;
-    let numbers = numbers(alloc, graph.len())?;
-    let ways = Ways {
-        graph: graph.as_slice(),
-        back: back.as_slice(),
-        numbers: numbers.as_slice(),
-    };
+    let labels = components(alloc, graph.as_slice())?;
     let mut times = Vec::new(alloc);
     for place in 0..all.len() {
-        times.push(leaf_times(alloc, &ways, place, &all[place])?)?;
+        times.push(leaf_times(alloc, labels.as_slice(), place, &all[place])?)?;
     }
     Ok(times)
-}
-
-/// The graph of the open uses, back along them, and the numbers of its nodes.
-#[derive(Drop)]
-pub struct Ways<'a> {
-    pub graph: &'a [Vec<usize>],
-    pub back: &'a [Vec<usize>],
-    pub numbers: &'a [usize],
 }
 
 // The graph of the open uses: of each leaf's unit on the units that it uses.
@@ -91,75 +73,37 @@ fn add_edge(edges: &mut Vec<usize>, place: usize, x: Use) -> Result<(), AllocErr
 // The times of a leaf's uses.
 fn leaf_times(
     alloc: Global,
-    ways: &Ways,
+    labels: &[usize],
     place: usize,
     uses: &LeafUses,
 ) -> Result<Timed, AllocError>
-    requires ways { AreWays ways.now }
-    requires place { place < length ways.now.back.now }
-    requires edges { after (lists ways.now.graph.now) place ≡ edges_of place (held uses.now) }
-    ensures { IfOk result (λ timed. timed ≡ times_of (lists ways.now.graph.now) place (held uses.now)) }
+    ensures { IfOk result (λ timed. timed ≡ timed_by labels.now place (held uses.now)) }
 {
-    let marks = marks(alloc, ways, place, has_later(place, uses))?;
-    let picks = times_by(alloc, marks.as_slice(), place, uses.picks.as_slice())?;
-    let claims = times_by(alloc, marks.as_slice(), place, uses.claims.as_slice())?;
+    let picks = times_by(alloc, labels, place, uses.picks.as_slice())?;
+    let claims = times_by(alloc, labels, place, uses.claims.as_slice())?;
     Ok(Timed { picks, claims })
 }
 
-// Which units lead to the one at this place, if that is asked for.
-fn marks(alloc: Global, ways: &Ways, place: usize, is_asked: bool) -> Result<Vec<bool>, AllocError>
-    requires ways { AreWays ways.now }
-    requires place { place < length ways.now.back.now }
-    ensures { IfOk result (λ marks. is_asked ≡ true → LeadTo (lists ways.now.graph.now) place marks.items) }
-{
-    if !is_asked {
-        return Ok(Vec::new(alloc));
-    }
-    leading(alloc, ways.back, ways.numbers, place)
-}
-
-// Whether some use is of a unit that stands later.
-fn has_later(place: usize, uses: &LeafUses) -> bool
-    ensures { result ≡ spec.has_later place (held uses.now) }
-{
-    some_later(place, uses.picks.as_slice()) || some_later(place, uses.claims.as_slice())
-}
-
-fn some_later(place: usize, uses: &[Use]) -> bool
-    ensures { result ≡ list_any (spec.is_later place) uses.now }
-{
-    uses.iter().any(|x| is_later(place, *x))
-}
-
-fn is_later(place: usize, x: Use) -> bool
-    ensures { result ≡ spec.is_later place x }
-{
-    match x {
-        Use::Settled { .. } => false,
-        Use::Open { unit } => place < unit,
-    }
-}
-
-// The times of uses, where the units are marked that lead back.
+// The times of uses, by labels of components.
 #[tactic(auto, using(smv_unit_tables::proofs::ReadLaws::listing))]
 fn times_by(
     alloc: Global,
-    marks: &[bool],
+    labels: &[usize],
     place: usize,
     uses: &[Use],
 ) -> Result<Seq<Timing>, AllocError>
-    ensures { IfOk result (λ times. times ≡ map (time_by marks.now place) uses.now) }
+    ensures { IfOk result (λ times. times ≡ map (time_by labels.now place) uses.now) }
 {
     let mut times = Seq::new(alloc);
     for x in uses {
-        times.push(time(marks, place, *x))?;
+        times.push(time(labels, place, *x))?;
     }
     Ok(times)
 }
 
-// The time of a use: now, unless it is of the unit itself, or of a later one that leads back.
-fn time(marks: &[bool], place: usize, x: Use) -> Timing
-    ensures { result ≡ time_by marks.now place x }
+// The time of a use: now, unless it is of the unit itself, or of a later one of the same component.
+fn time(labels: &[usize], place: usize, x: Use) -> Timing
+    ensures { result ≡ time_by labels.now place x }
 {
     match x {
         Use::Settled { time } => time,
@@ -167,7 +111,7 @@ fn time(marks: &[bool], place: usize, x: Use) -> Timing
             if unit == place {
                 return Timing::Before;
             }
-            if !is_marked(marks, unit) || unit < place {
+            if label(labels, unit) != label(labels, place) || unit < place {
                 Timing::Now
             } else {
                 Timing::Before

@@ -1,6 +1,9 @@
 // Uses before their times are known.
 ghost use Rattle.std.specs.Prelude.{◌≡◌, map, length, IfOk};
+ghost use Rattle.std.specs.List.{list_any};
 ghost use Rattle.law_obligations.specs.Outlines.{entries_of};
+ghost use Rattle.law_obligations.specs.Times.{is_member};
+ghost use Rattle.law_obligations.specs.Times as times;
 ghost use Rattle.smv_order.specs.Tables.{AreTables, entry_of, outline};
 ghost use Rattle.smv_order.specs.Uses as spec;
 ghost use Rattle.smv_order.specs.Uses.{held, marked, uses_from, uses_of};
@@ -54,7 +57,7 @@ fn leaf_uses(alloc: Global, tables: &Tables, proof: &Proof) -> Result<LeafUses, 
     requires { AreTables tables.now }
     ensures { IfOk result (λ uses. held uses ≡ uses_of (outline tables.now) proof.now.place (entry_of proof.now)) }
 {
-    let marks = same_time(alloc, tables, proof)?;
+    let marks = asked(alloc, tables, proof)?;
     let picks = pick_uses(
         alloc,
         tables,
@@ -63,6 +66,31 @@ fn leaf_uses(alloc: Global, tables: &Tables, proof: &Proof) -> Result<LeafUses, 
     )?;
     let claims = claim_uses(alloc, tables, proof.choice.claims.as_slice())?;
     Ok(LeafUses { picks, claims })
+}
+
+// Which families are of the same-time set, where some use of a definition asks for that.
+fn asked(alloc: Global, tables: &Tables, proof: &Proof) -> Result<Vec<bool>, AllocError>
+    requires { AreTables tables.now }
+    ensures { IfOk result (λ marks. map (spec.pick_use (outline tables.now) (marked marks.items)) proof.now.choice.now.picks ≡ map (spec.pick_use (outline tables.now) (is_member (times.same_time (outline tables.now) proof.now.place (entry_of proof.now)))) proof.now.choice.now.picks) }
+{
+    if !some_asks(proof.choice.picks.as_slice()) {
+        return Ok(Vec::new(alloc));
+    }
+    let marks = same_time(alloc, tables, proof)?;
+    Ok(marks)
+}
+
+fn some_asks(picks: &[Pick]) -> bool
+    ensures { result ≡ list_any spec.asks picks.now }
+{
+    picks.iter().any(|pick| asks(*pick))
+}
+
+// Whether the time of a pick depends on the same-time set.
+fn asks(pick: Pick) -> bool
+    ensures { result ≡ spec.asks pick }
+{
+    pick.layer.is_some() && !pick.early
 }
 
 // The uses of definitions, where the families of the same-time set are marked.

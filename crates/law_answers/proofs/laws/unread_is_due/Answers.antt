@@ -1,0 +1,14 @@
+use Rattle.std.proofs.Common.{Some, None, true≢false}
+use Rattle.smv_command.specs.declared.Command.TheVariants.{Prove, Only, Print, Generated}
+use Rattle.law_answers.specs.Laws.{UnreadIsDue}
+use Rattle.law_answers.proofs.laws.unread_is_due.Goals as goal
+
+pub returns : goal.returns
+returns c = unread
+  where
+    unread : UnreadIsDue
+    unread None text other due answer nothing is = is
+    unread (Some (Prove budgets)) text other due answer nothing is = absurd (true≢false nothing)
+    unread (Some (Only name budgets)) text other due answer nothing is = absurd (true≢false nothing)
+    unread (Some Print) text other due answer nothing is = absurd (true≢false nothing)
+    unread (Some (Generated copies)) text other due answer nothing is = is

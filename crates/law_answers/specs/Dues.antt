@@ -1,0 +1,132 @@
+-- What a call owes: its status and its whole answer, as a command and a text call for them.
+use Rattle.std.specs.Prelude.{◌≡◌, ◌≤◌, ◌<◌, ◌∷◌, ◌++◌, ℕ, Bool, true, false, List, [], codes, length, Option, Some, None, IfSome, if◌then◌else◌}
+use Rattle.std.specs.List.{list_any}
+use Rattle.std.specs.Io.KnownBytes.{Appends, Keeps}
+use Rattle.smv_core.specs.declared.fault.Fault.{Fault}
+use Rattle.smv_core.specs.declared.tree.Text.{Text}
+use Rattle.smv_problem.specs.declared.report.Verdict.{Verdict}
+use Rattle.smv_problem.specs.declared.report.Verdict.TheVariants as verdict
+use Rattle.smv_problem.specs.declared.report.Report.{Report}
+use Rattle.smv_io.specs.Transfers.{TookFront}
+use Rattle.smv_parse.specs.Spelling.{HasFault}
+use Rattle.smv_print.specs.Canonical.{canonical}
+use Rattle.smv_report.specs.Lines.{fault_text}
+use Rattle.law_reports.specs.Lines.{report_lines}
+use Rattle.smv_report_lines.specs.Generated.{generated_lines}
+use Rattle.smv_gen.specs.Generated.{generated_text}
+use Rattle.smv_command.specs.declared.Command.{Command}
+use Rattle.smv_command.specs.declared.Command.TheVariants.{Prove, Only, Print, Generated}
+use Rattle.smv_status.specs.declared.Status.{Status}
+use Rattle.smv_status.specs.declared.Status.TheVariants as status
+use Rattle.law_text_reports.specs.Plans.{IsTree}
+use Rattle.law_valid_texts.specs.Faults.{pass_fault}
+use Rattle.law_valid_texts.specs.Reports.{IsRightReport, IsUnitReport, HasNoUnit}
+
+-- ---- verdicts
+
+abbrev pub is_false : Verdict → Bool
+is_false (verdict.False case elements path) = true
+is_false _ = false
+
+abbrev pub is_unknown : Verdict → Bool
+is_unknown (verdict.UnknownNodes case count) = true
+is_unknown (verdict.UnknownSteps case) = true
+is_unknown _ = false
+
+-- the status of a report: a false unit comes before an unknown one, and where there is neither it is that of the command
+abbrev pub status_of : Status → Report → Status
+status_of proved report =
+    if list_any (λ u. is_false u.verdict) report.units then status.SomeFalse
+    else (if list_any (λ u. is_unknown u.verdict) report.units then status.SomeUnknown else proved)
+
+-- ---- the commands
+
+-- words that ask for a text
+abbrev pub reads : Option Command → Bool
+reads (Some (Prove budgets)) = true
+reads (Some (Only name budgets)) = true
+reads (Some Print) = true
+reads (Some (Generated copies)) = false
+reads None = false
+
+-- a command that decides units
+abbrev pub decides : Command → Bool
+decides (Prove budgets) = true
+decides (Only name budgets) = true
+decides Print = false
+decides (Generated copies) = true
+
+-- the text of a command: the one that was read, or the generated one
+abbrev pub text_for : Command → List ℕ → List ℕ
+text_for (Prove budgets) text = text
+text_for (Only name budgets) text = text
+text_for Print text = text
+text_for (Generated copies) text = generated_text copies
+
+-- the budgets of a command that names none
+abbrev pub default_nodes : ℕ
+default_nodes = 1000000
+
+abbrev pub default_steps : ℕ
+default_steps = 1000
+
+-- the right reports of what a command asks to decide of its text
+abbrev pub IsReportFor : Command → List ℕ → Report → Type 0
+IsReportFor (Prove budgets) text report = IsRightReport text budgets.nodes budgets.steps report
+IsReportFor (Only name budgets) text report = IsUnitReport text name budgets.nodes budgets.steps report
+IsReportFor Print text report = ⊥
+IsReportFor (Generated copies) text report = IsRightReport text default_nodes default_steps report
+
+-- the status where all that a command asks to decide is true
+abbrev pub proved_by : Command → Status
+proved_by (Prove budgets) = status.AllProved
+proved_by (Only name budgets) = status.PartProved
+proved_by Print = status.Printed
+proved_by (Generated copies) = status.Generated
+
+-- what is written of a report
+abbrev pub lines_for : Command → Report → List ℕ
+lines_for (Prove budgets) report = report_lines report
+lines_for (Only name budgets) report = report_lines report
+lines_for Print report = report_lines report
+lines_for (Generated copies) report = generated_lines copies report
+
+-- ---- the answer
+
+-- the most bytes that a text has
+abbrev pub limit : ℕ
+limit = 1048576
+
+-- The first fault of a text under a command, by its number and its offset: its length, or else its form, or else, where units are to be decided, that of the earliest pass that finds one, or else that no
+-- unit has the name that is asked for.
+pub data IsFault : Command → List ℕ → ℕ → ℕ → Type 0 where
+  too_long : {command : Command} {text : List ℕ} → limit < length text → IsFault command text 31 0
+  malformed : {command : Command} {text : List ℕ} (number at : ℕ) → length text ≤ limit → HasFault text number at → IsFault command text number at
+  faulty : {command : Command} {text : List ℕ} (tree : Text) (fault : Fault) → decides command ≡ true → IsTree text tree → pass_fault tree ≡ Some fault → IsFault command text fault.number fault.at
+  unnamed : {text : List ℕ} (name : List ℕ) (nodes steps : ℕ) → HasNoUnit text name → IsFault (Only name (record { nodes = nodes; steps = steps })) text 26 0
+
+-- the status and the whole answer that a command and its text call for
+pub data IsDue : Command → List ℕ → Status → List ℕ → Type 0 where
+  decided : {command : Command} {text : List ℕ} (report : Report) → IsReportFor command text report → IsDue command text (status_of (proved_by command) report) (lines_for command report)
+  printed : {text : List ℕ} (tree : Text) → IsTree text tree → IsDue Print text status.Printed (canonical tree)
+  refused : {command : Command} {text : List ℕ} (number at : ℕ) → IsFault command text number at → IsDue command text status.Refused (fault_text text number at)
+
+abbrev pub usage_line : List ℕ
+usage_line = codes "usage: smv prove|only|print|generated" ++ 10 ∷ []
+
+-- the same for words, which may be no command, and for the text that was read
+abbrev pub IsDueTo : Option Command → List ℕ → Status → List ℕ → Type 0
+IsDueTo None text due answer = (due ≡ status.Usage) × (answer ≡ usage_line)
+IsDueTo (Some command) text due answer = IsDue command (text_for command text) due answer
+
+-- what the source gave: the bytes that it told, or any where it tells none
+abbrev pub Gave : Option (List ℕ) → List ℕ → Type 0
+Gave left text = IfSome left (λ told. text ≡ told)
+
+-- How a call ends. The whole answer was taken under the status to which it is due; under a fault of the sink a front of the answer that was due, and not all of it; and nothing where the text that the words
+-- ask for was not read, or where memory ran out.
+abbrev pub Ends : Status → Option Command → List ℕ → Option (List ℕ) → Option (List ℕ) → Type 0
+Ends status.ReadFault command text old new = (reads command ≡ true) × Keeps old new
+Ends status.OutOfMemory command text old new = Keeps old new
+Ends status.WriteFault command text old new = (due : Status) × (answer : List ℕ) × IsDueTo command text due answer × TookFront old new answer
+Ends ended command text old new = (answer : List ℕ) × IsDueTo command text ended answer × Appends old new answer

@@ -1,0 +1,26 @@
+// Laws of answers, each the contract of a function that does nothing.
+ghost use Rattle.law_answers.specs.Laws.{OneStatus, ProvedIsSound, UnreadIsDue};
+
+use law_valid_texts::laws::{one_tree, reports_agree, right_reports_are_sound};
+use smv_parse::one_answer;
+
+/// One status is due to words and a text.
+pub fn one_status()
+    ensures { OneStatus }
+{
+    one_answer();
+    one_tree();
+    reports_agree();
+}
+
+/// The headline: where it is due that all is proved, the text is sound.
+pub fn proved_is_sound()
+    ensures { ProvedIsSound }
+{
+    right_reports_are_sound();
+}
+
+/// What is due to words that read nothing is due to them with any text.
+pub fn unread_is_due()
+    ensures { UnreadIsDue }
+{}

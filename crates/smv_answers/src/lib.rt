@@ -1,0 +1,168 @@
+//! The answers of the program, each by what was found: a report, a tree, a fault, or words that are no command.
+//!
+//! For the top call, which decides what a command asks and then writes one of these. `law_answers` says which answer is due; each call here gives a status and bytes as its `specs/Dues` names them.
+#![tactic(auto)]
+
+ghost use Rattle.std.specs.Prelude.{◌≡◌, Some, IfOk};
+ghost use Rattle.std.specs.List.{list_any};
+ghost use Rattle.smv_print.specs.Canonical.{canonical};
+ghost use Rattle.smv_report.specs.Lines.{fault_text};
+ghost use Rattle.law_answers.specs.Dues.{is_false, is_unknown, lines_for, proved_by, reads, status_of, usage_line};
+
+use smv_command::Command;
+use smv_core::Fault;
+use smv_core::tree::Text;
+use smv_print::print;
+use smv_problem::{Report, UnitResult, Verdict};
+use smv_report::fault_line;
+use smv_report_lines::{generated_lines, lines};
+use smv_status::Status;
+use std::alloc::{AllocError, Global};
+
+const USAGE: &[u8] = b"usage: smv prove|only|print|generated\n";
+
+/// A status with the bytes that are written under it.
+#[derive(Drop)]
+pub struct Answer {
+    pub status: Status,
+    pub bytes: Vec<u8>,
+}
+
+/// The answer to a command by a report of what it asks to decide.
+pub fn reported(alloc: Global, command: &Command, report: &Report) -> Result<Answer, AllocError>
+    ensures status { IfOk result (λ answer. answer.status ≡ status_of (proved_by command.now) report.now) }
+    ensures bytes { IfOk result (λ answer. answer.bytes.items ≡ lines_for command.now report.now) }
+{
+    let bytes = written(alloc, command, report)?;
+    let status = status_of(report, proved_by(command));
+    Ok(Answer { status, bytes })
+}
+
+/// The answer by a tree that is to be written.
+pub fn printed(alloc: Global, tree: &Text) -> Result<Answer, AllocError>
+    ensures status { IfOk result (λ answer. answer.status ≡ Status.Printed) }
+    ensures bytes { IfOk result (λ answer. answer.bytes.items ≡ canonical tree.now) }
+{
+    let bytes = print(alloc, tree)?;
+    let status = Status::Printed;
+    Ok(Answer { status, bytes })
+}
+
+/// The answer by a fault of a text.
+pub fn refused(alloc: Global, text: &[u8], fault: Fault) -> Result<Answer, AllocError>
+    ensures status { IfOk result (λ answer. answer.status ≡ Status.Refused) }
+    ensures bytes { IfOk result (λ answer. answer.bytes.items ≡ fault_text text.now fault.number fault.at) }
+{
+    let bytes = fault_line(alloc, text, fault)?;
+    let status = Status::Refused;
+    Ok(Answer { status, bytes })
+}
+
+/// The line that is written where the words are no command. It takes no memory.
+pub fn usage() -> &'static [u8]
+    ensures { result.now ≡ usage_line }
+{
+    USAGE
+}
+
+/// Whether a command asks for a text.
+pub fn reads(command: &Command) -> bool
+    ensures { result ≡ reads (Some command.now) }
+{
+    match command {
+        Command::Prove { budgets: _ } => true,
+        Command::Only {
+            name: _,
+            budgets: _,
+        } => true,
+        Command::Print => true,
+        Command::Generated { copies: _ } => false,
+    }
+}
+
+// The lines of a report under a command.
+fn written(alloc: Global, command: &Command, report: &Report) -> Result<Vec<u8>, AllocError>
+    ensures { IfOk result (λ bytes. bytes.items ≡ lines_for command.now report.now) }
+{
+    match command {
+        Command::Prove { budgets: _ } => lines(alloc, report),
+        Command::Only {
+            name: _,
+            budgets: _,
+        } => lines(alloc, report),
+        Command::Print => lines(alloc, report),
+        Command::Generated { copies } => generated_lines(alloc, *copies, report),
+    }
+}
+
+// The status where all that a command asks to decide is true.
+fn proved_by(command: &Command) -> Status
+    ensures { result ≡ proved_by command.now }
+{
+    match command {
+        Command::Prove { budgets: _ } => Status::AllProved,
+        Command::Only {
+            name: _,
+            budgets: _,
+        } => Status::PartProved,
+        Command::Print => Status::Printed,
+        Command::Generated { copies: _ } => Status::Generated,
+    }
+}
+
+// The status of a report: `proved` where each unit is true.
+fn status_of(report: &Report, proved: Status) -> Status
+    ensures { result ≡ status_of proved report.now }
+{
+    if has_false(report) {
+        Status::SomeFalse
+    } else if has_unknown(report) {
+        Status::SomeUnknown
+    } else {
+        proved
+    }
+}
+
+// Whether a unit is false.
+fn has_false(report: &Report) -> bool
+    ensures { result ≡ list_any (λ unit. is_false unit.verdict) report.now.units }
+{
+    report.units.as_slice().iter().any(is_false)
+}
+
+// Whether a unit is unknown.
+fn has_unknown(report: &Report) -> bool
+    ensures { result ≡ list_any (λ unit. is_unknown unit.verdict) report.now.units }
+{
+    report.units.as_slice().iter().any(is_unknown)
+}
+
+fn is_false(unit: &UnitResult) -> bool
+    ensures { result ≡ is_false unit.now.verdict }
+{
+    match &unit.verdict {
+        Verdict::False {
+            case: _,
+            elements: _,
+            path: _,
+        } => true,
+        Verdict::True => false,
+        Verdict::UnknownNodes { case: _, count: _ } => false,
+        Verdict::UnknownSteps { case: _ } => false,
+    }
+}
+
+fn is_unknown(unit: &UnitResult) -> bool
+    ensures { result ≡ is_unknown unit.now.verdict }
+{
+    match &unit.verdict {
+        Verdict::UnknownNodes { case: _, count: _ } => true,
+        Verdict::UnknownSteps { case: _ } => true,
+        Verdict::True => false,
+        Verdict::False {
+            case: _,
+            elements: _,
+            path: _,
+        } => false,
+    }
+}
