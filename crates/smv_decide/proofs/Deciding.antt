@@ -1,0 +1,35 @@
+-- What a search found, in another store and of the lists of a case.
+use Rattle.std.proofs.Common.{◌≡◌, ℕ, sym, ap, subst, List, map}
+use Rattle.bdd_store.specs.declared.Ref.{Ref}
+use Rattle.bdd_store.specs.Diagram.{Diagram, IsLive}
+use Rattle.smv_rings.specs.declared.Rel.{Rel}
+use Rattle.smv_rings.specs.Lists.{Lists, lists_of, refs_of}
+use Rattle.smv_rings.specs.Ops.{IsOneOf}
+use Rattle.smv_search.specs.declared.Outcome.{Outcome}
+use Rattle.smv_search.specs.declared.Outcome.TheVariants.{Reaches}
+use Rattle.smv_search.specs.Answers.{found, Answers, IsLeast}
+use Rattle.smv_search.specs.Keeping.{KeepsRefs}
+use Rattle.smv_search.specs.Verdict.{IsVerdict}
+use Rattle.smv_search.specs.Verdict.Verdict.{Reached}
+use Rattle.smv_search.proofs.Start.{lists_kept}
+use Rattle.law_codes.specs.Readings.{Case}
+use Rattle.law_codes.specs.CasePaths.{IsShortest}
+use Rattle.smv_abstraction.specs.May.{AbsState}
+use Rattle.smv_problem.specs.declared.problem.AbsState.{AbsState as StateData}
+use Rattle.smv_problem.specs.declared.problem.Problem.{Problem}
+use Rattle.smv_problem.specs.Written.{written, written_state}
+use Rattle.law_reports.specs.Reports.{IsShown}
+use Rattle.smv_decide.specs.Decisions.{IsFound}
+
+-- the lists are the same after the search
+pub found_after : (old new : Diagram) (rel : Rel) (nodes steps : ℕ) (o : Outcome) → KeepsRefs old new (refs_of rel) → Answers new (lists_of old rel) nodes steps o → IsLeast (lists_of old rel) o →
+    ((r : Ref) → IsOneOf r (found o) → IsLive new r) → IsFound new (lists_of new rel) nodes steps o
+found_after old new rel nodes steps o keeps answers least live =
+    subst (λ (l : Lists). IsFound new l nodes steps o) (sym (lists_kept old new rel keeps)) (record { answers = answers; least = least; live = live })
+
+pub reached_in : (d : Diagram) (l m : Lists) (nodes steps depth : ℕ) (o : Outcome) (rings : _) → IsFound d l nodes steps o → o ≡ Reaches depth rings → l ≡ m → IsVerdict m nodes steps (Reached depth)
+reached_in d l m nodes steps depth o rings found e same = subst (λ (l : Lists). IsVerdict l nodes steps (Reached depth)) same (subst (Answers d l nodes steps) e found.answers).0
+
+pub shown_by : (p : Problem) (c : Case) (steps : ℕ) (states : List StateData) → p ≡ written c → (path : List AbsState) × IsShortest c.problem steps path × (states ≡ map (written_state c) path) → IsShown c steps p.elements states
+unfolding written
+shown_by p c steps states e s = record { states = s.0; is_shortest = s.1; elements_are = ap (λ (q : Problem). q.elements) e; path_is = s.2 }

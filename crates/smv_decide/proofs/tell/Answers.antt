@@ -1,0 +1,11 @@
+use Rattle.smv_rings.specs.Lists.{lists_of}
+use Rattle.law_case_lists.specs.CaseLists.{case_lists}
+use Rattle.smv_decide.proofs.Deciding.{reached_in, shown_by}
+use Rattle.smv_decide.proofs.tell.Goals as goal
+
+pub returns-in_ok-states-in-Reaches : goal.returns-in_ok-states-in-Reaches
+returns-in_ok-states-in-Reaches c = λ case e well. (
+  c.in-Reaches.depth,
+  reached_in c.args.store.now (lists_of c.args.store.now c.args.rel.now) (case_lists case) c.args.budgets.nodes c.args.budgets.steps c.in-Reaches.depth c.args.outcome c.in-Reaches.rings c.requires.found c.in-Reaches.is (c.requires.lists case e well),
+  shown_by c.args.problem case c.in-Reaches.depth c.in_ok-states-in-Reaches.states e (c.in_ok-states-in-Reaches.ensures.shortest case e well),
+)

@@ -1,0 +1,3 @@
+pub mod Decisions
+pub mod Tasks
+pub mod Leaves

@@ -1,0 +1,121 @@
+//! A case of a leaf is decided by its problem, the lists of functions of the problem, the search over them and, where the search reaches a violation, the trace of its rings.
+//!
+//! For the call that decides the units of a plan. `tasks` says what it passes in, `leaves` goes through the cases of a leaf in order. A reader begins with `specs/Decisions`; to know what a verdict rests on,
+//! read on in `law_verdicts`. Each case has a store of diagrams of its own, which is given back with the case.
+#![tactic(auto)]
+
+ghost use Rattle.std.specs.Prelude.{◌≡◌, ◌≤◌, IfOk, None};
+ghost use Rattle.smv_rings.specs.Lists.{IsRel, lists_of};
+ghost use Rattle.law_case_lists.specs.CaseLists.{IsListsOf};
+ghost use Rattle.smv_problem.specs.WellFormed.{IsProblem, IsProblemOf, OfCases};
+ghost use Rattle.law_problems.specs.Parts.{IsCaseOf, width_fault};
+ghost use Rattle.smv_decide.specs.Decisions.{IsDecided, IsFound};
+ghost use Rattle.smv_decide.specs.Tasks.{IsTask, case_in};
+
+pub mod leaves;
+pub mod tasks;
+
+use bdd_store::Store;
+use smv_core::flat::{Case, Element};
+use smv_core::{Refusal, Seq};
+use smv_obligations::problem;
+use smv_problem::{AbsState, Budgets, Problem};
+use smv_relations::relations;
+use smv_rings::Rel;
+use smv_search::{Outcome, search};
+use smv_state_bits::state_bits;
+use smv_trace::path;
+use std::alloc::{AllocError, Global};
+use tasks::Task;
+
+/// What is decided of a case.
+#[derive(Drop)]
+pub enum Decision {
+    /// It has no violating path.
+    True,
+    /// It has one: a shortest, by the values of these elements.
+    False {
+        elements: Seq<Element>,
+        path: Seq<AbsState>,
+    },
+    /// The budget of nodes was passed by this count of beads.
+    UnknownNodes {
+        count: usize,
+    },
+    /// The budget of images was used up.
+    UnknownSteps,
+}
+
+// What the outcome of a search says of the problem.
+fn tell(
+    alloc: Global,
+    problem: Problem,
+    rel: &Rel,
+    store: &mut Store,
+    outcome: Outcome,
+    budgets: Budgets,
+) -> Result<Decision, AllocError>
+    requires well_formed { IsProblem problem }
+    requires rel { IsRel store.old rel.now }
+    requires lists { OfCases problem (λ c. IsListsOf c (lists_of store.old rel.now)) }
+    requires found { IsFound store.old (lists_of store.old rel.now) budgets.nodes budgets.steps outcome }
+    ensures { IfOk result (λ decision. OfCases problem (λ c. IsDecided budgets.nodes budgets.steps c decision)) }
+{
+    match outcome {
+        Outcome::Closed { set: _ } => Ok(Decision::True),
+        Outcome::Reaches { depth, rings } => {
+            let states = path(alloc, &problem, rel, store, &rings, depth)?;
+            Ok(Decision::False {
+                elements: problem.elements,
+                path: states,
+            })
+        }
+        Outcome::OutOfNodes { count } => Ok(Decision::UnknownNodes { count }),
+        Outcome::OutOfSteps => Ok(Decision::UnknownSteps),
+    }
+}
+
+// The problem of a case that has no fault.
+fn problem_of(alloc: Global, task: &Task, case: &Case) -> Result<Problem, AllocError>
+    requires task { IsTask task.now }
+    requires case { IsCaseOf task.now.design.now task.now.leaf.now task.now.choice.now case.now.classes }
+    requires width { width_fault task.now.design.now task.now.leaf.now task.now.choice.now case.now.classes ≡ None }
+    ensures { IfOk result (λ p. IsProblemOf (case_in task.now case.now.classes) p) }
+{
+    match problem(
+        alloc,
+        task.design,
+        task.units,
+        task.names,
+        task.set_names,
+        task.leaf,
+        case,
+        task.choice,
+        task.timed,
+        task.table,
+    ) {
+        Ok(made) => Ok(made),
+        Err(_) => Err(AllocError),
+    }
+}
+
+/// Decides a case of a leaf that has not too many state bits, under budgets of nodes and of images.
+pub fn decide_case(
+    alloc: Global,
+    task: &Task,
+    case: &Case,
+    budgets: Budgets,
+) -> Result<Decision, AllocError>
+    requires task { IsTask task.now }
+    requires case { IsCaseOf task.now.design.now task.now.leaf.now task.now.choice.now case.now.classes }
+    requires width { width_fault task.now.design.now task.now.leaf.now task.now.choice.now case.now.classes ≡ None }
+    requires steps { 1 ≤ budgets.steps }
+    ensures { IfOk result (λ decision. IsDecided budgets.nodes budgets.steps (case_in task.now case.now.classes) decision) }
+{
+    let made = problem_of(alloc, task, case)?;
+    let bits = state_bits(&made);
+    let mut store = Store::new(alloc, 2 * u32::from(bits))?;
+    let rel = relations(alloc, &made, &mut store)?;
+    let outcome = search(alloc, &rel, &mut store, budgets.nodes, budgets.steps)?;
+    tell(alloc, made, &rel, &mut store, outcome, budgets)
+}

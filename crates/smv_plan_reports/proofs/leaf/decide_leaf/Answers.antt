@@ -1,0 +1,16 @@
+use Rattle.std.proofs.Common.{◌∙◌, ap, subst, List}
+use Rattle.std.specs.Prelude.{IfOk}
+use Rattle.smv_core.specs.declared.flat.Class.{Class}
+use Rattle.law_plan_cases.specs.Told.{IsToldBy}
+use Rattle.smv_decide.specs.Leaves.{classes_in}
+use Rattle.smv_decide.specs.Tasks.{case_in}
+use Rattle.smv_plan_reports.proofs.PlanLaws.{cases_are}
+use Rattle.smv_plan_reports.proofs.leaf.decide_leaf.Goals as goal
+
+pub decide_cases-requires-clause-cases : goal.decide_cases-requires-clause-cases
+decide_cases-requires-clause-cases c =
+    cases_are c.args.task.now.design.now c.args.task.now.leaf.now c.args.task.now.choice.now c.as_slice.result.now c.requires.room (ap classes_in c.as_slice.ensures ∙ c.in-Ok.ensures.cases)
+
+pub returns-in-Ok : goal.returns-in-Ok
+returns-in-Ok c =
+    subst (λ (cases : List (List Class)). IfOk c.decide_cases.result (λ v. IsToldBy (case_in c.args.task.now) c.args.budgets.nodes c.args.budgets.steps cases v)) (ap classes_in c.as_slice.ensures ∙ c.in-Ok.ensures.cases) c.decide_cases.ensures
