@@ -1,0 +1,5 @@
+pub mod ThereLaws
+pub mod BoundLaws
+pub mod SideLaws
+pub mod PartLaws
+pub mod GatherLaws

@@ -1,0 +1,162 @@
+-- The gists of parts, by those of their own parts.
+use Rattle.std.proofs.Common.{◌≡◌, ℕ, List, [], ◌∷◌, map, Option, Bool, not, refl, sym, ap, ◌∙◌}
+use Rattle.std.proofs.lemmas.List.{append-nil}
+use Rattle.smv_core.specs.declared.flat.Simple.{Simple}
+use Rattle.smv_core.specs.declared.flat.Flat.{Flat, Nothing, Assign, If, First, Forall}
+use Rattle.smv_core.specs.declared.flat.FlatExpr.{FlatExpr}
+use Rattle.smv_abstraction.specs.Places.{Place, is_among, places_in, bind_place}
+use Rattle.smv_abstraction.specs.May.{may}
+use Rattle.smv_abstraction.specs.Results.{results}
+use Rattle.law_outcomes.specs.Gist.{Gist, gist_of, nothing_alone, if_gist, first_all, assigned_gist, matches_all}
+use Rattle.law_outcomes.proofs.WalkLaws.{gist-if, gist-first, gist-assigned}
+use Rattle.law_outcomes.proofs.ResultLaws.{results-If, results-First, results-Forall}
+use Rattle.smv_spots.specs.declared.spots.Spot.{Spot}
+use Rattle.smv_spots.specs.Spots.{place_in}
+use Rattle.smv_problem.specs.declared.problem.Problem.{Problem}
+use Rattle.smv_conditions.specs.declared.chances.Chances.{Chances}
+use Rattle.smv_conditions.specs.declared.gists.Gists.{Gists}
+use Rattle.smv_conditions.specs.Keep.{KeepsConditions}
+use Rattle.smv_conditions.specs.Chances.{mix_at}
+use Rattle.smv_conditions.specs.Gists.{AreGistsMade, gist_at}
+use Rattle.smv_cells.specs.declared.cells.Cell.{Cell}
+use Rattle.smv_cells.specs.Cells.{AreCellsMade}
+use Rattle.smv_cells.specs.Seen.{View, IsView, IsSeen, outcomes}
+use Rattle.smv_cells.proofs.SeenLaws.{keeps_trans}
+use Rattle.smv_outcomes.specs.Outcomes.{mix_in, IsTruthOf}
+use Rattle.smv_targets.specs.declared.targets.Target.{Target}
+use Rattle.smv_targets.specs.Targets.{Aim, IsTarget, IsAim, IsTargetMade, IsSo}
+use Rattle.smv_targets.proofs.AimLaws.{target_on, aim_on}
+use Rattle.smv_walk_parts.specs.Parts.{IsMatch}
+use Rattle.smv_walk_parts.proofs.FirstLaws.{gist_kept}
+use Rattle.smv_walks.specs.declared.walks.Way.{Way}
+use Rattle.smv_walks.specs.declared.walks.Way.TheVariants.{May, Must}
+use Rattle.smv_walks.specs.Walks.{asked, allowed, everything_of, right_of, gist_over, gist_in, gist_assigned, IsGistsOf, AreGistsOf, AreGistsAlong}
+use Rattle.smv_walks.proofs.ThereLaws.{left-there, results-there, all-there, over-there}
+
+map-map : {X Y Z : Type 0} (f : Y → Z) (g : X → Y) (xs : List X) → map f (map g xs) ≡ map (λ x. f (g x)) xs
+map-map f g [] = refl
+map-map f g (x ∷ xs) = ap (λ l. f (g x) ∷ l) (map-map f g xs)
+
+-- everything passes where the target's condition of it holds
+pub everything_passes : {S C : Type 0} (holds : S → C → (ℕ → Bool) → Bool) (s : S) (t : Target C) (way : Way) (z : Aim) → IsTarget holds s t z → (a : ℕ → Bool) → holds s (everything_of t way) a ≡ asked way (z.value a) (λ p. is_among z.every p)
+everything_passes holds s t May z h a = h.always a ∙ sym (h.of_type a)
+everything_passes holds s t Must z h a = h.never a ∙ sym (ap not (h.of_type a))
+
+pub everything_made : {C : Type 0} (IsMade : C → Type 0) (t : Target C) (way : Way) → IsTargetMade IsMade t → IsMade (everything_of t way)
+everything_made IsMade t May m = m.always
+everything_made IsMade t Must m = m.never
+
+pub nothing_is : (way : Way) (z : Aim) (a : ℕ → Bool) (b : List Spot) → nothing_alone ≡ gist_in way z a b Nothing
+unfolding gist_in
+nothing_is way z a b = refl
+
+-- an assignment, by its left side and its right side
+pub assigned_is : (way : Way) (z : Aim) → IsView z.view → (a : ℕ → Bool) (b : List Spot) (left : List FlatExpr) (value : FlatExpr) →
+    assigned_gist (asked way (z.value a) (λ p. is_among z.every p)) (right_of way b value z a) (matches_all z.indexes (map (λ e. outcomes z.view a e b) left)) ≡ gist_assigned way z a b left value
+unfolding right_of gist_assigned outcomes
+assigned_is way z view a b left value =
+    let bs : List Place = map (place_in z.view.world.classes) b in
+    sym (gist-assigned z.view.world z.view.kept (z.view.state a) z.indexes (λ p. is_among z.every p) (allowed way z a) (asked way (z.value a)) value bs (map (λ e. may z.view.world z.view.kept (z.view.state a) e bs) left)
+    (left-there z.view.world z.view.kept (z.view.state a) z.indexes (λ p. is_among z.every p) (allowed way z a) (λ e c. view.filled a e c) left bs))
+
+pub assign_is : (way : Way) (z : Aim) (a : ℕ → Bool) (b : List Spot) (left shown : List FlatExpr) (value : FlatExpr) (place at : ℕ) (part : Flat) → part ≡ Assign left value place at → shown ≡ left → gist_assigned way z a b shown value ≡ gist_in way z a b part
+unfolding gist_in gist_assigned
+assign_is way z a b left shown value place at part e f = ap (λ l. gist_assigned way z a b l value) f ∙ ap (gist_in way z a b) (sym e)
+
+-- a conditional
+pub if_is : (way : Way) (z : Aim) → IsView z.view → (a : ℕ → Bool) (b : List Spot) (cond : FlatExpr) (above below : Flat) →
+    if_gist (asked way (z.value a) (λ p. is_among z.every p)) (mix_in z.view a b cond) (gist_in way z a b above) (gist_in way z a b below) ≡ gist_in way z a b (If cond above below)
+unfolding gist_in mix_in outcomes
+if_is way z view a b cond above below =
+    let bs : List Place = map (place_in z.view.world.classes) b in
+    let anything : Place → Bool = λ p. is_among z.every p in
+    sym (ap (gist_of (asked way (z.value a))) (results-If z.view.world z.view.kept (z.view.state a) z.indexes anything (allowed way z a) cond above below bs)
+    ∙ gist-if anything (asked way (z.value a)) (may z.view.world z.view.kept (z.view.state a) cond bs) (results z.view.world z.view.kept (z.view.state a) z.indexes anything (allowed way z a) above bs) (results z.view.world z.view.kept (z.view.state a) z.indexes anything (allowed way z a) below bs)
+    (results-there z.view.world z.view.kept (z.view.state a) z.indexes anything (allowed way z a) (λ e c. view.filled a e c) above bs) (results-there z.view.world z.view.kept (z.view.state a) z.indexes anything (allowed way z a) (λ e c. view.filled a e c) below bs))
+
+-- the first of several parts
+pub first_is : (way : Way) (z : Aim) → IsView z.view → (a : ℕ → Bool) (b : List Spot) (parts : List Flat) → first_all (map (gist_in way z a b) parts) ≡ gist_in way z a b (First parts)
+unfolding gist_in
+first_is way z view a b parts =
+    let bs : List Place = map (place_in z.view.world.classes) b in
+    let anything : Place → Bool = λ p. is_among z.every p in
+    let part_results : Flat → List (Option (Place → Bool)) = λ part. results z.view.world z.view.kept (z.view.state a) z.indexes anything (allowed way z a) part bs in
+    sym (ap (gist_of (asked way (z.value a))) (results-First z.view.world z.view.kept (z.view.state a) z.indexes anything (allowed way z a) parts bs)
+    ∙ (gist-first anything (asked way (z.value a)) (map part_results parts) (all-there z.view.world z.view.kept (z.view.state a) z.indexes anything (allowed way z a) (λ e c. view.filled a e c) parts bs)
+    ∙ ap first_all (map-map (gist_of (asked way (z.value a))) part_results parts)))
+
+-- a part at each place of a variable
+pub forall_is : (way : Way) (z : Aim) → IsView z.view → (a : ℕ → Bool) (b : List Spot) (var : ℕ) (over : Simple) (body : Flat) (inners : List (List Spot)) →
+    map (map (place_in z.view.world.classes)) inners ≡ map (bind_place (map (place_in z.view.world.classes) b) var) (places_in z.view.world over) → first_all (map (λ c. gist_in way z a c body) inners) ≡ gist_in way z a b (Forall var over body)
+unfolding gist_in
+forall_is way z view a b var over body inners bound =
+    let n = z.view.world.classes in
+    let bs : List Place = map (place_in n) b in
+    let anything : Place → Bool = λ p. is_among z.every p in
+    let there : List Place → Gist = λ c. gist_over way z a c body in
+    let body_results : Place → List (Option (Place → Bool)) = λ p. results z.view.world z.view.kept (z.view.state a) z.indexes anything (allowed way z a) body (bind_place bs var p) in
+    ap first_all (sym (map-map there (map (place_in n)) inners) ∙ (ap (map there) bound ∙ (map-map there (bind_place bs var) (places_in z.view.world over) ∙ sym (map-map (gist_of (asked way (z.value a))) body_results (places_in z.view.world over)))))
+    ∙ sym (ap (gist_of (asked way (z.value a))) (results-Forall z.view.world z.view.kept (z.view.state a) z.indexes anything (allowed way z a) var over body bs)
+    ∙ gist-first anything (asked way (z.value a)) (map body_results (places_in z.view.world over)) (over-there z.view.world z.view.kept (z.view.state a) z.indexes anything (allowed way z a) (λ e c. view.filled a e c) body bs var (places_in z.view.world over)))
+
+module _ {S C : Type 0} (holds : S → C → (ℕ → Bool) → Bool) (problem : Problem) (cells : List (Cell C)) (t : Target C) (way : Way) (b : List Spot) where
+  pub Nothing_of_it : (s : S) (part : Flat) (g : Gists C) → part ≡ Nothing → ((a : ℕ → Bool) → gist_at holds s a g ≡ nothing_alone) → IsGistsOf holds s s problem cells t (λ z a. gist_in way z a b part) g
+  unfolding IsGistsOf
+  Nothing_of_it s part g e h z aim a = h a ∙ (nothing_is way z a b ∙ ap (gist_in way z a b) (sym e))
+
+  pub Assign_of_it : (s0 s1 : S) (left shown : List FlatExpr) (value : FlatExpr) (place at : ℕ) (part : Flat) (g : Gists C) → part ≡ Assign left value place at → shown ≡ left → IsGistsOf holds s0 s1 problem cells t (λ z a. gist_assigned way z a b shown value) g → IsGistsOf holds s0 s1 problem cells t (λ z a. gist_in way z a b part) g
+  unfolding IsGistsOf
+  Assign_of_it s0 s1 left shown value place at part g e f h z aim a = h z aim a ∙ assign_is way z a b left shown value place at part e f
+
+  pub First_of_it : (s0 s1 s2 : S) (parts shown : List Flat) (part : Flat) (each each' : List (Gists C)) (g : Gists C) → part ≡ First parts → shown ≡ parts → each' ≡ each → AreGistsOf holds s0 s1 problem cells t way b shown [] each →
+      ((a : ℕ → Bool) → gist_at holds s2 a g ≡ first_all (map (gist_at holds s1 a) each')) → IsGistsOf holds s0 s2 problem cells t (λ z a. gist_in way z a b part) g
+  unfolding IsGistsOf AreGistsOf
+  First_of_it s0 s1 s2 parts shown part each each' g e f d are made z aim a =
+      made a
+      ∙ (ap first_all (ap (map (gist_at holds s1 a)) d ∙ (sym (append-nil (map (gist_at holds s1 a) each)) ∙ (are z aim a ∙ ap (map (gist_in way z a b)) f)))
+      ∙ (first_is way z aim.seen.view a b parts ∙ ap (gist_in way z a b) (sym e)))
+
+  pub Forall_of_it : (s0 s1 s2 : S) (var : ℕ) (over : Simple) (body shown part : Flat) (inners inners' : List (List Spot)) (each each' : List (Gists C)) (g : Gists C) → part ≡ Forall var over body → shown ≡ body → inners' ≡ inners → each' ≡ each →
+      ((z : Aim) → IsAim holds s0 problem cells t z → map (map (place_in z.view.world.classes)) inners ≡ map (bind_place (map (place_in z.view.world.classes) b) var) (places_in z.view.world over)) → AreGistsAlong holds s0 s1 problem cells t way shown inners' [] each →
+      ((a : ℕ → Bool) → gist_at holds s2 a g ≡ first_all (map (gist_at holds s1 a) each')) → IsGistsOf holds s0 s2 problem cells t (λ z a. gist_in way z a b part) g
+  unfolding IsGistsOf AreGistsAlong
+  Forall_of_it s0 s1 s2 var over body shown part inners inners' each each' g e f i d bound are made z aim a =
+      made a
+      ∙ (ap first_all (ap (map (gist_at holds s1 a)) d ∙ (sym (append-nil (map (gist_at holds s1 a) each)) ∙ (are z aim a ∙ (ap (map (λ c. gist_in way z a c shown)) i ∙ ap (λ (p : Flat). map (λ c. gist_in way z a c p) inners) f))))
+      ∙ (forall_is way z aim.seen.view a b var over body inners (bound z aim) ∙ ap (gist_in way z a b) (sym e)))
+
+module _ {S C : Type 0} (IsMade : S → C → Type 0) (holds : S → C → (ℕ → Bool) → Bool) (room : S → ℕ) (problem : Problem) (cells : List (Cell C)) (t : Target C) (way : Way) (b : List Spot) where
+  pub assigned_of_it : (s0 s1 s2 s3 : S) → KeepsConditions IsMade holds room s0 s1 → KeepsConditions IsMade holds room s1 s2 → AreCellsMade (IsMade s0) cells → IsTargetMade (IsMade s0) t → (left : List FlatExpr) (value : FlatExpr) (indexes : List Spot) (r anything : C) (x : Chances C) (g : Gists C) → indexes ≡ t.indexes → anything ≡ everything_of t way →
+      IsMade s1 r → IsSo holds s0 s1 problem cells t (right_of way b value) r → ((v : View) → IsSeen holds s1 problem cells v → IsMatch holds s2 v indexes left b x) →
+      ((a : ℕ → Bool) → gist_at holds s3 a g ≡ assigned_gist (holds s2 anything a) (holds s2 r a) (mix_at holds s2 a x)) → IsGistsOf holds s0 s3 problem cells t (λ z a. gist_assigned way z a b left value) g
+  unfolding IsGistsOf IsSo IsMatch
+  assigned_of_it s0 s1 s2 s3 k l cells_made target_made left value indexes r anything x g e f r_made right match made z aim a =
+      let later : IsAim holds s1 problem cells t z = aim_on IsMade holds room s0 s1 problem cells t z k cells_made target_made aim in
+      let last : IsTarget holds s2 t z = target_on IsMade holds room s0 s2 t z (keeps_trans IsMade holds room s0 s1 s2 k l) target_made aim.target in
+      let tests : List (List _) = map (λ e. outcomes z.view a e b) left in
+      made a
+      ∙ (ap (λ c. assigned_gist (holds s2 c a) (holds s2 r a) (mix_at holds s2 a x)) f
+      ∙ (ap (λ c. assigned_gist c (holds s2 r a) (mix_at holds s2 a x)) (everything_passes holds s2 t way z last a)
+      ∙ (ap (λ c. assigned_gist (asked way (z.value a) (λ p. is_among z.every p)) c (mix_at holds s2 a x)) (l.same r r_made a ∙ right z aim a)
+      ∙ (ap (assigned_gist (asked way (z.value a) (λ p. is_among z.every p)) (right_of way b value z a)) (match z.view later.seen a ∙ ap (λ qs. matches_all qs tests) (ap (map (place_in z.view.world.classes)) e ∙ aim.target.indexes))
+      ∙ assigned_is way z aim.seen.view a b left value))))
+
+  pub If_of_it : (s0 s1 s2 s3 s4 : S) → KeepsConditions IsMade holds room s0 s1 → KeepsConditions IsMade holds room s1 s2 → KeepsConditions IsMade holds room s2 s3 → AreCellsMade (IsMade s0) cells → IsTargetMade (IsMade s0) t →
+      (cond : FlatExpr) (above below left right part : Flat) (g h k : Gists C) (x : Chances C) (anything : C) → part ≡ If cond above below → left ≡ above → right ≡ below → anything ≡ everything_of t way → AreGistsMade (IsMade s1) g → AreGistsMade (IsMade s2) h →
+      IsGistsOf holds s0 s1 problem cells t (λ z a. gist_in way z a b left) g → IsGistsOf holds s1 s2 problem cells t (λ z a. gist_in way z a b right) h → ((v : View) → IsSeen holds s2 problem cells v → IsTruthOf holds s3 v cond b x) →
+      ((a : ℕ → Bool) → gist_at holds s4 a k ≡ if_gist (holds s3 anything a) (mix_at holds s3 a x) (gist_at holds s3 a g) (gist_at holds s3 a h)) → IsGistsOf holds s0 s4 problem cells t (λ z a. gist_in way z a b part) k
+  unfolding IsGistsOf IsTruthOf
+  If_of_it s0 s1 s2 s3 s4 k01 k12 k23 cells_made target_made cond above below left right part g h k x anything e f d o g_made h_made are_g are_h truth made z aim a =
+      let k02 : KeepsConditions IsMade holds room s0 s2 = keeps_trans IsMade holds room s0 s1 s2 k01 k12 in
+      let k13 : KeepsConditions IsMade holds room s1 s3 = keeps_trans IsMade holds room s1 s2 s3 k12 k23 in
+      let at_1 : IsAim holds s1 problem cells t z = aim_on IsMade holds room s0 s1 problem cells t z k01 cells_made target_made aim in
+      let at_2 : IsAim holds s2 problem cells t z = aim_on IsMade holds room s0 s2 problem cells t z k02 cells_made target_made aim in
+      let at_3 : IsTarget holds s3 t z = target_on IsMade holds room s0 s3 t z (keeps_trans IsMade holds room s0 s2 s3 k02 k23) target_made aim.target in
+      let all : Bool = asked way (z.value a) (λ p. is_among z.every p) in
+      made a
+      ∙ (ap (λ c. if_gist (holds s3 c a) (mix_at holds s3 a x) (gist_at holds s3 a g) (gist_at holds s3 a h)) o
+      ∙ (ap (λ c. if_gist c (mix_at holds s3 a x) (gist_at holds s3 a g) (gist_at holds s3 a h)) (everything_passes holds s3 t way z at_3 a)
+      ∙ (ap (λ m. if_gist all m (gist_at holds s3 a g) (gist_at holds s3 a h)) (truth z.view at_2.seen a)
+      ∙ (ap (λ j. if_gist all (mix_in z.view a b cond) j (gist_at holds s3 a h)) (gist_kept IsMade holds room a s1 s3 g k13 g_made ∙ (are_g z aim a ∙ ap (gist_in way z a b) f))
+      ∙ (ap (if_gist all (mix_in z.view a b cond) (gist_in way z a b above)) (gist_kept IsMade holds room a s2 s3 h k23 h_made ∙ (are_h z at_1 a ∙ ap (gist_in way z a b) d))
+      ∙ (if_is way z aim.seen.view a b cond above below ∙ ap (gist_in way z a b) (sym e)))))))

@@ -1,0 +1,63 @@
+-- What is asked of the possible results of a definition.
+use Rattle.std.specs.Prelude.{◌≡◌, ℕ, List, ◌++◌, map, Bool, not}
+use Rattle.smv_core.specs.declared.flat.Flat.{Flat}
+use Rattle.smv_core.specs.declared.flat.FlatExpr.{FlatExpr}
+use Rattle.smv_abstraction.specs.Sets.{one_of_each}
+use Rattle.smv_abstraction.specs.Places.{Place, is_among}
+use Rattle.smv_abstraction.specs.May.{may}
+use Rattle.smv_abstraction.specs.Right.{may_allow, must_allow}
+use Rattle.smv_abstraction.specs.Results.{assigned, results}
+use Rattle.law_outcomes.specs.Gist.{Gist, gist_of}
+use Rattle.smv_spots.specs.declared.spots.Spot.{Spot}
+use Rattle.smv_spots.specs.Spots.{place_in}
+use Rattle.smv_problem.specs.declared.problem.Problem.{Problem}
+use Rattle.smv_conditions.specs.declared.gists.Gists.{Gists}
+use Rattle.smv_conditions.specs.Gists.{gist_at}
+use Rattle.smv_cells.specs.declared.cells.Cell.{Cell}
+use Rattle.smv_targets.specs.declared.targets.Target.{Target}
+use Rattle.smv_targets.specs.Targets.{Aim, IsAim}
+use Rattle.smv_walks.specs.declared.walks.Way.{Way}
+use Rattle.smv_walks.specs.declared.walks.Way.TheVariants.{May, Must}
+
+-- what is asked of a result, as a set of places: that the value is in it, or that it is not
+abbrev pub asked : Way → Place → (Place → Bool) → Bool
+asked May p x = x p
+asked Must p x = not (x p)
+
+-- what a right side gives: what it may allow, or what it allows for certain
+abbrev pub allowed : Way → Aim → (ℕ → Bool) → FlatExpr → List Place → Place → Bool
+allowed May z a = may_allow z.view.world z.view.kept (z.view.state a) z.every
+allowed Must z a = must_allow z.view.world z.view.kept (z.view.state a) z.every
+
+-- whether everything passes what is asked, and a right side
+abbrev pub everything_of : {C : Type 0} → Target C → Way → C
+everything_of t May = t.always
+everything_of t Must = t.never
+
+unfoldable pub right_of : Way → List Spot → FlatExpr → Aim → (ℕ → Bool) → Bool
+right_of way b value z a = asked way (z.value a) (allowed way z a value (map (place_in z.view.world.classes) b))
+
+-- the gist of the possible results of a part for the element, its variables at these places, and at these spots
+abbrev pub gist_over : Way → Aim → (ℕ → Bool) → List Place → Flat → Gist
+gist_over way z a b part = gist_of (asked way (z.value a)) (results z.view.world z.view.kept (z.view.state a) z.indexes (λ p. is_among z.every p) (allowed way z a) part b)
+
+unfoldable pub gist_in : Way → Aim → (ℕ → Bool) → List Spot → Flat → Gist
+gist_in way z a b part = gist_over way z a (map (place_in z.view.world.classes) b) part
+
+-- that of an assignment with this left side
+unfoldable pub gist_assigned : Way → Aim → (ℕ → Bool) → List Spot → List FlatExpr → FlatExpr → Gist
+gist_assigned way z a b left value =
+    gist_of (asked way (z.value a)) (map (λ us. assigned z.view.world z.view.kept (z.view.state a) z.indexes (λ p. is_among z.every p) (allowed way z a) us value (map (place_in z.view.world.classes) b)) (one_of_each (map (λ e. may z.view.world z.view.kept (z.view.state a) e (map (place_in z.view.world.classes) b)) left)))
+
+module _ {S C : Type 0} (holds : S → C → (ℕ → Bool) → Bool) (start s : S) (problem : Problem) (cells : List (Cell C)) (t : Target C) where
+  -- three conditions, made later, are this gist of the element at each assignment
+  unfoldable pub IsGistsOf : (Aim → (ℕ → Bool) → Gist) → Gists C → Type 0
+  IsGistsOf gist g = (z : Aim) → IsAim holds start problem cells t z → (a : ℕ → Bool) → gist_at holds s a g ≡ gist z a
+
+  -- those of each of these parts, of which the last are still to come
+  unfoldable pub AreGistsOf : Way → List Spot → List Flat → List Flat → List (Gists C) → Type 0
+  AreGistsOf way b all rest each = (z : Aim) → IsAim holds start problem cells t z → (a : ℕ → Bool) → map (gist_at holds s a) each ++ map (gist_in way z a b) rest ≡ map (gist_in way z a b) all
+
+  -- those of a part under each of these bindings
+  unfoldable pub AreGistsAlong : Way → Flat → List (List Spot) → List (List Spot) → List (Gists C) → Type 0
+  AreGistsAlong way body all rest each = (z : Aim) → IsAim holds start problem cells t z → (a : ℕ → Bool) → map (gist_at holds s a) each ++ map (λ b. gist_in way z a b body) rest ≡ map (λ b. gist_in way z a b body) all

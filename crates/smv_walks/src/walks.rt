@@ -1,0 +1,233 @@
+// The way down a definition.
+ghost use Rattle.std.specs.Prelude.{◌≡◌, ℕ, Bool, IfOk, []};
+ghost use Rattle.smv_conditions.specs.Keep.{KeepsConditions};
+ghost use Rattle.smv_conditions.specs.Gists.{AreGistsMade};
+ghost use Rattle.smv_cells.specs.Cells.{AreCellsMade};
+ghost use Rattle.smv_targets.specs.Targets.{IsTargetMade, IsSo};
+ghost use Rattle.smv_walk_parts.specs.Parts.{AllGistsMade};
+ghost use Rattle.smv_walks.specs.Walks.{everything_of, right_of, gist_in, gist_assigned, IsGistsOf, AreGistsOf, AreGistsAlong};
+
+use crate::bindings::bound_over;
+use smv_cells::Cell;
+use smv_conditions::conditions::Conditions;
+use smv_conditions::gists::{Gists, assigned_of, if_of, nothing};
+use smv_core::flat::{Flat, FlatExpr};
+use smv_core::seq::Seq;
+use smv_outcomes::truth_of;
+use smv_problem::Problem;
+use smv_sides::{may_allow, must_allow};
+use smv_spots::spots::Spot;
+use smv_targets::Target;
+use smv_walk_parts::{first_of_all, matched};
+use std::alloc::{AllocError, Global};
+
+/// What is asked of a result: that it may allow the element's value, or that it does not allow it for certain.
+#[derive(Clone, Copy)]
+pub enum Way {
+    May,
+    Must,
+}
+
+/// Whether every value of the type passes what is asked.
+pub fn everything<S: Conditions>(s: &S, target: &Target<S::Condition>, way: Way) -> S::Condition
+    requires target_made { IsTargetMade (S.IsMade s.now) target.now }
+    ensures made { S.IsMade s.now result }
+    ensures is { result ≡ everything_of target.now way }
+{
+    let _ = s;
+    match way {
+        Way::May => target.always,
+        Way::Must => target.never,
+    }
+}
+
+// Whether a right side passes what is asked.
+fn right<S: Conditions>(
+    s: &mut S,
+    alloc: Global,
+    problem: &Problem,
+    cells: &[Cell<S::Condition>],
+    target: &Target<S::Condition>,
+    way: Way,
+    value: &FlatExpr,
+    b: &[Spot],
+) -> Result<S::Condition, AllocError>
+    requires cells_made { AreCellsMade (S.IsMade s.old) cells.now }
+    requires target_made { IsTargetMade (S.IsMade s.old) target.now }
+    ensures keeps { KeepsConditions S.IsMade S.holds S.room s.old s.new }
+    ensures made { IfOk result (λ r. S.IsMade s.new r) }
+    ensures cells { IfOk result (λ r. AreCellsMade (S.IsMade s.new) cells.now) }
+    ensures target { IfOk result (λ r. IsTargetMade (S.IsMade s.new) target.now) }
+    ensures is { IfOk result (λ r. IsSo S.holds s.old s.new problem.entry.now cells.now target.now (right_of way b.now value.now) r) }
+{
+    match way {
+        Way::May => {
+            let r = may_allow(s, alloc, problem, cells, target, value, b)?;
+            Ok(r)
+        }
+        Way::Must => {
+            let c = must_allow(s, alloc, problem, cells, target, value, b)?;
+            let r = s.opposite(alloc, c)?;
+            Ok(r)
+        }
+    }
+}
+
+// What an assignment with this left side may give.
+fn assigned<S: Conditions>(
+    s: &mut S,
+    alloc: Global,
+    problem: &Problem,
+    cells: &[Cell<S::Condition>],
+    target: &Target<S::Condition>,
+    way: Way,
+    left: &[FlatExpr],
+    value: &FlatExpr,
+    b: &[Spot],
+) -> Result<Gists<S::Condition>, AllocError>
+    requires cells_made { AreCellsMade (S.IsMade s.old) cells.now }
+    requires target_made { IsTargetMade (S.IsMade s.old) target.now }
+    ensures keeps { KeepsConditions S.IsMade S.holds S.room s.old s.new }
+    ensures made { IfOk result (λ g. AreGistsMade (S.IsMade s.new) g) }
+    ensures cells { IfOk result (λ g. AreCellsMade (S.IsMade s.new) cells.now) }
+    ensures target { IfOk result (λ g. IsTargetMade (S.IsMade s.new) target.now) }
+    ensures is { IfOk result (λ g. IsGistsOf S.holds s.old s.new problem.entry.now cells.now target.now (λ z a. gist_assigned way z a b.now left.now value.now) g) }
+{
+    let r = right(s, alloc, problem, cells, target, way, value, b)?;
+    let x = matched(s, alloc, problem, cells, target.indexes.as_slice(), left, b)?;
+    let open = everything(s, target, way);
+    let g = assigned_of(s, alloc, open, r, x)?;
+    Ok(g)
+}
+
+/// The gist of what a part of a definition may give the element of the target.
+#[cycle(walks)]
+pub fn gists_of<S: Conditions>(
+    s: &mut S,
+    alloc: Global,
+    problem: &Problem,
+    cells: &[Cell<S::Condition>],
+    target: &Target<S::Condition>,
+    way: Way,
+    part: &Flat,
+    b: &[Spot],
+) -> Result<Gists<S::Condition>, AllocError>
+    requires cells_made { AreCellsMade (S.IsMade s.old) cells.now }
+    requires target_made { IsTargetMade (S.IsMade s.old) target.now }
+    ensures keeps { KeepsConditions S.IsMade S.holds S.room s.old s.new }
+    ensures made { IfOk result (λ g. AreGistsMade (S.IsMade s.new) g) }
+    ensures cells { IfOk result (λ g. AreCellsMade (S.IsMade s.new) cells.now) }
+    ensures target { IfOk result (λ g. IsTargetMade (S.IsMade s.new) target.now) }
+    ensures is { IfOk result (λ g. IsGistsOf S.holds s.old s.new problem.entry.now cells.now target.now (λ z a. gist_in way z a b.now part.now) g) }
+{
+    match part {
+        Flat::Nothing => Ok(nothing(s)),
+        Flat::Assign { left, value, .. } => {
+            let g = assigned(
+                s,
+                alloc,
+                problem,
+                cells,
+                target,
+                way,
+                left.as_slice(),
+                value,
+                b,
+            )?;
+            Ok(g)
+        }
+        Flat::If { cond, yes, no } => {
+            let g = gists_of(s, alloc, problem, cells, target, way, yes.get(), b)?;
+            let h = gists_of(s, alloc, problem, cells, target, way, no.get(), b)?;
+            let x = truth_of(s, alloc, problem, cells, cond, b)?;
+            let open = everything(s, target, way);
+            let k = if_of(s, alloc, open, x, g, h)?;
+            Ok(k)
+        }
+        Flat::First { parts } => {
+            let each = gists_each(s, alloc, problem, cells, target, way, parts.as_slice(), b)?;
+            let g = first_of_all(s, alloc, each.as_slice())?;
+            Ok(g)
+        }
+        Flat::Forall { var, over, body } => {
+            let inners = bound_over(alloc, problem, b, *var, *over)?;
+            let each = gists_along(
+                s,
+                alloc,
+                problem,
+                cells,
+                target,
+                way,
+                body.get(),
+                inners.as_slice(),
+            )?;
+            let g = first_of_all(s, alloc, each.as_slice())?;
+            Ok(g)
+        }
+    }
+}
+
+// The gists of these parts.
+#[cycle(walks)]
+fn gists_each<S: Conditions>(
+    s: &mut S,
+    alloc: Global,
+    problem: &Problem,
+    cells: &[Cell<S::Condition>],
+    target: &Target<S::Condition>,
+    way: Way,
+    parts: &[Flat],
+    b: &[Spot],
+) -> Result<Vec<Gists<S::Condition>>, AllocError>
+    requires cells_made { AreCellsMade (S.IsMade s.old) cells.now }
+    requires target_made { IsTargetMade (S.IsMade s.old) target.now }
+    ensures keeps { KeepsConditions S.IsMade S.holds S.room s.old s.new }
+    ensures made { IfOk result (λ each. AllGistsMade (S.IsMade s.new) each.items) }
+    ensures cells { IfOk result (λ each. AreCellsMade (S.IsMade s.new) cells.now) }
+    ensures target { IfOk result (λ each. IsTargetMade (S.IsMade s.new) target.now) }
+    ensures are { IfOk result (λ each. AreGistsOf S.holds s.old s.new problem.entry.now cells.now target.now way b.now parts.now [] each.items) }
+{
+    let mut each = Vec::new(alloc);
+    for part in parts {
+        let g = gists_of(s, alloc, problem, cells, target, way, part, b)?;
+        each.push(g)?;
+    }
+    Ok(each)
+}
+
+// The gists of a part under each of these bindings.
+#[cycle(walks)]
+fn gists_along<S: Conditions>(
+    s: &mut S,
+    alloc: Global,
+    problem: &Problem,
+    cells: &[Cell<S::Condition>],
+    target: &Target<S::Condition>,
+    way: Way,
+    body: &Flat,
+    bindings: &[Seq<Spot>],
+) -> Result<Vec<Gists<S::Condition>>, AllocError>
+    requires cells_made { AreCellsMade (S.IsMade s.old) cells.now }
+    requires target_made { IsTargetMade (S.IsMade s.old) target.now }
+    ensures keeps { KeepsConditions S.IsMade S.holds S.room s.old s.new }
+    ensures made { IfOk result (λ each. AllGistsMade (S.IsMade s.new) each.items) }
+    ensures cells { IfOk result (λ each. AreCellsMade (S.IsMade s.new) cells.now) }
+    ensures target { IfOk result (λ each. IsTargetMade (S.IsMade s.new) target.now) }
+    ensures are { IfOk result (λ each. AreGistsAlong S.holds s.old s.new problem.entry.now cells.now target.now way body.now bindings.now [] each.items) }
+{
+    let mut each = Vec::new(alloc);
+    for inner in bindings {
+        let g = gists_of(
+            s,
+            alloc,
+            problem,
+            cells,
+            target,
+            way,
+            body,
+            inner.as_slice(),
+        )?;
+        each.push(g)?;
+    }
+    Ok(each)
+}
