@@ -1,0 +1,156 @@
+-- What a call of a demand, the target or a guard at a store says of a case.
+use Rattle.std.proofs.Common.{◌≡◌, ℕ, ◌*◌, List, [], ◌∷◌, Bool, true, false, ◌&&◌, sym, ap, subst, ◌∙◌, Option, Some, None, Result, Ok, Err, IfOk}
+use Rattle.std.specs.List.{list_all}
+use Rattle.smv_core.specs.declared.flat.Guard.{Guard}
+use Rattle.smv_abstraction.specs.Sets.{Has, first, later}
+use Rattle.smv_abstraction.specs.May.{AbsState}
+use Rattle.smv_abstraction.specs.Obligations.{Problem as Obligations, Demanded, is_met, is_broken, may_hold}
+use Rattle.law_codes.specs.Readings.{Case, state_bits}
+use Rattle.law_case_lists.specs.CaseLists.{old_state, new_state, met_first, met_step}
+use Rattle.smv_problem.specs.declared.problem.Problem.{Problem}
+use Rattle.smv_problem.specs.declared.problem.Demand.{Demand}
+use Rattle.smv_problem.specs.Written.{written, written_demand}
+use Rattle.smv_problem.specs.WellFormed.{IsFit, OfCases}
+use Rattle.bdd_store.specs.declared.Ref.{Ref}
+use Rattle.bdd_store.specs.Diagram.{Diagram, IsLive, IsSound, table, Keeps}
+use Rattle.bdd_ops.specs.Functions.{Function}
+use Rattle.law_kept_stores.specs.Laws.{KeepsTables}
+use Rattle.law_kept_stores.proofs.Kept.{keeps}
+use Rattle.smv_conditions.specs.Keep.{KeepsConditions}
+use Rattle.smv_cells.specs.declared.cells.Cell.{Cell}
+use Rattle.smv_cells.specs.Cells.{AreCellsMade}
+use Rattle.smv_cells.specs.Seen.{View, IsSeen}
+use Rattle.smv_cells.proofs.SeenLaws.{cells_kept, seen_on}
+use Rattle.smv_coded_cells.specs.Coded.{state_at, view_at}
+use Rattle.smv_coded_cells.proofs.Cells.{kept_conditions}
+use Rattle.smv_demands.specs.Demands.{view_of, AreRead, IsDemand, IsTargetOf, IsGuard, IsDemanded}
+use Rattle.smv_encode.specs.declared.cells.Cells.{Cells}
+use Rattle.smv_encode.specs.Encoded.{IsKept, AreLiveCells, AreCellsOf}
+use Rattle.smv_encode.proofs.ReadCases.{read_first, read_step, seen_state, is_demand, target_demand, is_guard}
+
+-- ---- what calls keep
+
+-- what conditions keep, the store keeps
+pub store_keeps : (d e : Diagram) → IsSound d → IsSound e → KeepsConditions IsLive table (λ (s : Diagram). s.vars) d e → Keeps d e
+store_keeps d e old new k = let tables : KeepsTables d e = record { vars = k.stays; live = k.made; tables = k.same } in keeps d e old new tables
+
+pub list_kept : (d e : Diagram) (cells : List (Cell Ref)) → Keeps d e → AreCellsMade (IsLive d) cells → AreCellsMade (IsLive e) cells
+list_kept d e cells k live = cells_kept IsLive table (λ (s : Diagram). s.vars) d e cells (kept_conditions d e k) live
+
+pub list_seen : (d e : Diagram) (p : Problem) (cells : List (Cell Ref)) (v : View) → Keeps d e → AreCellsMade (IsLive d) cells → IsSeen table d p cells v → IsSeen table e p cells v
+list_seen d e p cells v k live seen = seen_on IsLive table (λ (s : Diagram). s.vars) d e p cells v (kept_conditions d e k) live seen
+
+pub live_on : (d e : Diagram) (cells : Cells) → Keeps d e → AreLiveCells d cells → AreLiveCells e cells
+live_on d e cells k live = record { current = list_kept d e cells.current.items k live.current; next = list_kept d e cells.next.items k live.next }
+
+pub cells_on : (c : Case) (d e : Diagram) (p : Problem) (cells : Cells) → Keeps d e → AreLiveCells d cells → AreCellsOf c d p cells → AreCellsOf c e p cells
+cells_on c d e p cells k live are = record {
+  current = list_seen d e p cells.current.items (view_at c false) k live.current are.current;
+  next = list_seen d e p cells.next.items (view_at c true) k live.next are.next;
+}
+
+-- ---- demands
+
+same_function : (f g : Function) → ((a : ℕ → Bool) → f a ≡ g a) → f ≡ g
+same_function f g same i a = same a i
+
+module _ {E : Type 0} (d e : Diagram) (p : Problem) (demand : Demand) where
+  pub first_means : (cells now : List (Cell Ref)) (old : Option (List (Cell Ref))) → now ≡ cells → old ≡ None → (r : Result Ref E) → IfOk r (λ r. IsDemanded IsDemand table d e p old now demand (λ p before now d. is_met p before now d) r)
+      → IfOk r (λ r. OfCases p (λ c. IsSeen table d p cells (view_at c false) → (x : Demanded) → demand ≡ written_demand c.problem.world.classes x → IsFit c x → IsKept c x → table e r ≡ met_first c x))
+  unfolding IsDemanded
+  first_means cells now old same none (Ok r) says = λ c is well seen x e_x fit kept.
+      same_function (table e r) (met_first c x) (λ a.
+      says c.problem None (old_state c) (subst (λ (o : Option (List (Cell Ref))). AreRead table d p o now c.problem None (old_state c)) (sym none) (subst (λ (cs : List (Cell Ref)). AreRead table d p None cs c.problem None (old_state c)) (sym same) (read_first c well d p cells seen)))
+      x (is_demand c well x fit kept) e_x a)
+  first_means cells now old same none (Err x) says = tt
+
+  pub step_means : (current next before now : List (Cell Ref)) (old : Option (List (Cell Ref))) → before ≡ current → now ≡ next → old ≡ Some before → (r : Result Ref E) → IfOk r (λ r. IsDemanded IsDemand table d e p old now demand (λ p before now d. is_met p before now d) r)
+      → IfOk r (λ r. OfCases p (λ c. IsSeen table d p current (view_at c false) → IsSeen table d p next (view_at c true) → (x : Demanded) → demand ≡ written_demand c.problem.world.classes x → IsFit c x → IsKept c x → table e r ≡ met_step c x))
+  unfolding IsDemanded
+  step_means current next before now old e1 e2 e3 (Ok r) says = λ c is well seen_old seen x e_x fit kept.
+      same_function (table e r) (met_step c x) (λ a.
+      says c.problem (Some (old_state c)) (new_state c) (subst (λ (o : Option (List (Cell Ref))). AreRead table d p o now c.problem (Some (old_state c)) (new_state c)) (sym (e3 ∙ ap (λ (cs : List (Cell Ref)). Some cs) e1))
+      (subst (λ (cs : List (Cell Ref)). AreRead table d p (Some current) cs c.problem (Some (old_state c)) (new_state c)) (sym e2) (read_step c well d p current next seen_old seen)))
+      x (is_demand c well x fit kept) e_x a)
+  step_means current next before now old e1 e2 e3 (Err x) says = tt
+
+-- ---- the target
+
+target_is : (p : Problem) (c : Case) → p ≡ written c → p.target ≡ written_demand c.problem.world.classes c.problem.target
+unfolding written
+target_is p c is = ap (λ (q : Problem). q.target) is
+
+module _ {E : Type 0} (d e : Diagram) (p : Problem) where
+  pub target_first_means : (cells now : List (Cell Ref)) (old : Option (List (Cell Ref))) → now ≡ cells → old ≡ None → (r : Result Ref E) → IfOk r (λ r. IsDemanded IsTargetOf table d e p old now p.target (λ p before now d. is_broken p before now d) r)
+      → IfOk r (λ r. OfCases p (λ c. IsSeen table d p cells (view_at c false) → (a : ℕ → Bool) → table e r a ≡ is_broken c.problem None (old_state c a) c.problem.target))
+  unfolding IsDemanded
+  target_first_means cells now old same none (Ok r) says = λ c is well seen a.
+      says c.problem None (old_state c) (subst (λ (o : Option (List (Cell Ref))). AreRead table d p o now c.problem None (old_state c)) (sym none) (subst (λ (cs : List (Cell Ref)). AreRead table d p None cs c.problem None (old_state c)) (sym same) (read_first c well d p cells seen)))
+      c.problem.target (target_demand c well) (target_is p c is) a
+  target_first_means cells now old same none (Err x) says = tt
+
+  pub target_step_means : (current next before now : List (Cell Ref)) (old : Option (List (Cell Ref))) → before ≡ current → now ≡ next → old ≡ Some before → (r : Result Ref E) → IfOk r (λ r. IsDemanded IsTargetOf table d e p old now p.target (λ p before now d. is_broken p before now d) r)
+      → IfOk r (λ r. OfCases p (λ c. IsSeen table d p current (view_at c false) → IsSeen table d p next (view_at c true) → (a : ℕ → Bool) → table e r a ≡ is_broken c.problem (Some (old_state c a)) (new_state c a) c.problem.target))
+  unfolding IsDemanded
+  target_step_means current next before now old e1 e2 e3 (Ok r) says = λ c is well seen_old seen a.
+      says c.problem (Some (old_state c)) (new_state c) (subst (λ (o : Option (List (Cell Ref))). AreRead table d p o now c.problem (Some (old_state c)) (new_state c)) (sym (e3 ∙ ap (λ (cs : List (Cell Ref)). Some cs) e1))
+      (subst (λ (cs : List (Cell Ref)). AreRead table d p (Some current) cs c.problem (Some (old_state c)) (new_state c)) (sym e2) (read_step c well d p current next seen_old seen)))
+      c.problem.target (target_demand c well) (target_is p c is) a
+  target_step_means current next before now old e1 e2 e3 (Err x) says = tt
+
+-- ---- guards
+
+pub guard_means : {E : Type 0} (d e : Diagram) (p : Problem) (cells : List (Cell Ref)) (g : Guard) (r : Result Ref E)
+    → IfOk r (λ r. (q : Obligations) (now : (ℕ → Bool) → AbsState) → IsSeen table d p cells (view_of q now) → IsGuard q p.bindings g → (a : ℕ → Bool) → table e r a ≡ may_hold q (now a) g)
+    → IfOk r (λ r. OfCases p (λ c. (next : Bool) → IsSeen table d p cells (view_at c next) → Has c.problem.guards g → (a : ℕ → Bool) → table e r a ≡ may_hold c.problem (state_at c next a) g))
+guard_means d e p cells g (Ok r) says = λ c is well next seen h a. says c.problem (state_at c next) (seen_state c well d p next cells seen) (is_guard c well p is g h) a
+guard_means d e p cells g (Err x) says = tt
+
+pub no_guards : (c : Case) (s : AbsState) (gs : List Guard) (z : Bool) → gs ≡ [] → z ≡ true → z ≡ list_all (may_hold c.problem s) gs
+no_guards c s gs z none is = is ∙ sym (ap (λ (hs : List Guard). list_all (may_hold c.problem s) hs) none)
+
+pub one_guard : (c : Case) (s : AbsState) (gs others : List Guard) (g : Guard) (x y z : Bool) → gs ≡ g ∷ others → x ≡ may_hold c.problem s g → y ≡ list_all (may_hold c.problem s) others → z ≡ (x && y) → z ≡ list_all (may_hold c.problem s) gs
+one_guard c s gs others g x y z e ex ey ez = ez ∙ ap (λ (b : Bool). b && y) ex ∙ ap (λ (b : Bool). may_hold c.problem s g && b) ey ∙ sym (ap (λ (hs : List Guard). list_all (may_hold c.problem s) hs) e)
+
+pub guards_are : (p : Problem) (c : Case) → p ≡ written c → p.guards ≡ c.problem.guards
+unfolding written
+guards_are p c is = ap (λ (q : Problem). q.guards) is
+
+pub has_all : (gs hs : List Guard) → gs ≡ hs → (g : Guard) → Has gs g → Has hs g
+has_all gs hs e g h = subst (λ (xs : List Guard). Has xs g) e h
+
+-- both of guards and a target
+pub both_function : (f g h : Function) (r : Function) → ((a : ℕ → Bool) → f a ≡ g a) → ((a : ℕ → Bool) → r a ≡ (f a && h a)) → (k : Function) → ((a : ℕ → Bool) → h a ≡ k a) → r ≡ (λ a. g a && k a)
+both_function f g h r e is k l = same_function r (λ a. g a && k a) (λ a. is a ∙ ap (λ (b : Bool). b && h a) (e a) ∙ ap (λ (b : Bool). g a && b) (l a))
+
+-- ---- the cells of both times
+
+pub vars_on : (p : Problem) (d e : Diagram) → Keeps d e → OfCases p (λ c. d.vars ≡ 2 * state_bits c) → OfCases p (λ c. e.vars ≡ 2 * state_bits c)
+vars_on p d e k vars c is well = k.vars ∙ vars c is well
+
+pub both_seen : (p : Problem) (d e : Diagram) (current next : List (Cell Ref)) → Keeps d e → AreCellsMade (IsLive d) current → OfCases p (λ c. IsSeen table d p current (view_at c false)) → OfCases p (λ c. IsSeen table e p next (view_at c true))
+    → (cells : Cells) → cells.current.items ≡ current → cells.next.items ≡ next → OfCases p (λ c. AreCellsOf c e p cells)
+both_seen p d e current next k live seen_current seen_next cells ec en c is well = record {
+  current = subst (λ (cs : List (Cell Ref)). IsSeen table e p cs (view_at c false)) (sym ec) (list_seen d e p current (view_at c false) k live (seen_current c is well));
+  next = subst (λ (cs : List (Cell Ref)). IsSeen table e p cs (view_at c true)) (sym en) (seen_next c is well);
+}
+
+-- ---- by both cells at once
+
+pub step_says : {E : Type 0} (d e : Diagram) (p : Problem) (demand : Demand) (cells : Cells) (r : Result Ref E)
+    → IfOk r (λ r. OfCases p (λ c. IsSeen table d p cells.current.items (view_at c false) → IsSeen table d p cells.next.items (view_at c true) → (x : Demanded) → demand ≡ written_demand c.problem.world.classes x → IsFit c x → IsKept c x → table e r ≡ met_step c x))
+    → IfOk r (λ r. OfCases p (λ c. AreCellsOf c d p cells → (x : Demanded) → demand ≡ written_demand c.problem.world.classes x → IsFit c x → IsKept c x → table e r ≡ met_step c x))
+step_says d e p demand cells (Ok r) says = λ c is well are x e_x fit kept. says c is well are.current are.next x e_x fit kept
+step_says d e p demand cells (Err x) says = tt
+
+pub target_says : {E : Type 0} (d e : Diagram) (p : Problem) (cells : Cells) (r : Result Ref E)
+    → IfOk r (λ r. OfCases p (λ c. IsSeen table d p cells.current.items (view_at c false) → IsSeen table d p cells.next.items (view_at c true) → (a : ℕ → Bool) → table e r a ≡ is_broken c.problem (Some (old_state c a)) (new_state c a) c.problem.target))
+    → IfOk r (λ r. OfCases p (λ c. AreCellsOf c d p cells → (a : ℕ → Bool) → table e r a ≡ is_broken c.problem (Some (old_state c a)) (new_state c a) c.problem.target))
+target_says d e p cells (Ok r) says = λ c is well are a. says c is well are.current are.next a
+target_says d e p cells (Err x) says = tt
+
+pub first_guard : (c : Case) (gs others : List Guard) (g : Guard) → gs ≡ g ∷ others → ((h : Guard) → Has gs h → Has c.problem.guards h) → Has c.problem.guards g
+first_guard c gs others g e among = among g (subst (λ (hs : List Guard). Has hs g) (sym e) first)
+
+pub later_guard : (c : Case) (gs others : List Guard) (g : Guard) → gs ≡ g ∷ others → ((h : Guard) → Has gs h → Has c.problem.guards h) → (h : Guard) → Has others h → Has c.problem.guards h
+later_guard c gs others g e among h m = among h (subst (λ (hs : List Guard). Has hs h) (sym e) (later m))

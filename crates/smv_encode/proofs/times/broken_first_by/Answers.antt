@@ -1,0 +1,20 @@
+use Rattle.std.proofs.Common.{ap, ◌∙◌, false, List}
+use Rattle.std.specs.List.{list_all}
+use Rattle.smv_core.specs.declared.flat.Guard.{Guard}
+use Rattle.smv_abstraction.specs.Obligations.{may_hold}
+use Rattle.bdd_store.specs.Diagram.{table}
+use Rattle.law_case_lists.specs.CaseLists.{old_state}
+use Rattle.smv_coded_cells.specs.Coded.{view_at}
+use Rattle.smv_encode.proofs.Calls.{list_kept, list_seen, guards_are, has_all, both_function}
+use Rattle.smv_encode.proofs.times.broken_first_by.Goals as goal
+
+pub target_first-requires : goal.target_first-requires
+target_first-requires c = record { live = list_kept c.args.store.now c.guards_by.new.store c.args.current.now c.in_ok-held.ensures.keeps c.requires.live }
+
+pub returns-clause-means : goal.returns-clause-means
+returns-clause-means c d is well seen =
+    let guards = c.as_slice.ensures ∙ guards_are c.args.problem.now d is in
+    both_function (table c.target_first.new.store c.in_ok-held.held) (λ a. list_all (may_hold d.problem (old_state d a)) d.problem.guards) (table c.target_first.new.store c.in_ok-broken.broken) (table c.and.new.store c.in_ok-r.r)
+    (λ a. c.in_ok-broken.ensures.keeps.tables c.in_ok-held.held c.in_ok-held.ensures.live a ∙ c.in_ok-held.ensures.means d is well false seen (has_all c.as_slice.result.now d.problem.guards guards) a ∙ ap (λ (gs : List Guard). list_all (may_hold d.problem (old_state d a)) gs) guards)
+    c.in_ok-r.ensures.table _
+    (c.in_ok-broken.ensures.means d is well (list_seen c.args.store.now c.guards_by.new.store c.args.problem.now c.args.current.now (view_at d false) c.in_ok-held.ensures.keeps c.requires.live seen))

@@ -1,0 +1,214 @@
+// Demands, the target and guards by cells that are made.
+ghost use Rattle.std.specs.Prelude.{◌≡◌, ℕ, Bool, true, false, Some, None, IfOk};
+ghost use Rattle.std.specs.List.{list_all};
+ghost use Rattle.bdd_store.specs.Diagram.{IsLive, Keeps, table};
+ghost use Rattle.smv_abstraction.specs.Sets.{Has};
+ghost use Rattle.smv_abstraction.specs.Obligations.{Demanded, is_broken, may_hold as may_hold_in};
+ghost use Rattle.smv_core.specs.declared.flat.Guard.{Guard as GuardData};
+ghost use Rattle.law_case_lists.specs.CaseLists.{old_state, new_state, met_first, met_step};
+ghost use Rattle.smv_problem.specs.Written.{written_demand};
+ghost use Rattle.smv_problem.specs.WellFormed.{OfCases, IsFit};
+ghost use Rattle.smv_cells.specs.Cells.{AreCellsMade};
+ghost use Rattle.smv_cells.specs.Seen.{IsSeen};
+ghost use Rattle.smv_coded_cells.specs.Coded.{view_at, state_at};
+ghost use Rattle.smv_encode.specs.Encoded.{met_at as met_function, broken_at, IsKept, AreLiveCells, AreCellsOf};
+
+use crate::cells::Cells;
+use bdd_ops::and;
+use bdd_store::{Ref, Store};
+use smv_cells::Cell;
+use smv_core::flat::Guard;
+use smv_demands::demands::{broken, may_hold, met};
+use smv_problem::{Demand, Problem};
+use std::alloc::{AllocError, Global};
+
+/// Where a demand is met at time 0, by the cells of the current bits.
+pub fn first_by(
+    alloc: Global,
+    problem: &Problem,
+    current: &[Cell<Ref>],
+    demand: &Demand,
+    store: &mut Store,
+) -> Result<Ref, AllocError>
+    requires live { AreCellsMade (IsLive store.old) current.now }
+    ensures keeps { Keeps store.old store.new }
+    ensures live { IfOk result (λ r. IsLive store.new r) }
+    ensures means { IfOk result (λ r. OfCases problem.entry.now (λ c. IsSeen table store.old problem.entry.now current.now (view_at c false) → (d : Demanded) → demand.now ≡ written_demand c.problem.world.classes d → IsFit c d → IsKept c d → table store.new r ≡ met_first c d)) }
+{
+    let _ = store.vars();
+    let r = met(store, alloc, problem, None, current, demand);
+    let _ = store.vars();
+    r
+}
+
+/// Where it is met in a step, by those of the current and of the next bits.
+pub fn step_by(
+    alloc: Global,
+    problem: &Problem,
+    cells: &Cells,
+    demand: &Demand,
+    store: &mut Store,
+) -> Result<Ref, AllocError>
+    requires live { AreLiveCells store.old cells.now }
+    ensures keeps { Keeps store.old store.new }
+    ensures live { IfOk result (λ r. IsLive store.new r) }
+    ensures means { IfOk result (λ r. OfCases problem.entry.now (λ c. AreCellsOf c store.old problem.entry.now cells.now → (d : Demanded) → demand.now ≡ written_demand c.problem.world.classes d → IsFit c d → IsKept c d → table store.new r ≡ met_step c d)) }
+{
+    let _ = store.vars();
+    let old = cells.current.as_slice();
+    let r = met(
+        store,
+        alloc,
+        problem,
+        Some(old),
+        cells.next.as_slice(),
+        demand,
+    );
+    let _ = store.vars();
+    r
+}
+
+/// Where it is met: at time 0, or in a step.
+pub fn met_at(
+    alloc: Global,
+    problem: &Problem,
+    cells: &Cells,
+    step: bool,
+    demand: &Demand,
+    store: &mut Store,
+) -> Result<Ref, AllocError>
+    requires live { AreLiveCells store.old cells.now }
+    ensures keeps { Keeps store.old store.new }
+    ensures live { IfOk result (λ r. IsLive store.new r) }
+    ensures means { IfOk result (λ r. OfCases problem.entry.now (λ c. AreCellsOf c store.old problem.entry.now cells.now → (d : Demanded) → demand.now ≡ written_demand c.problem.world.classes d → IsFit c d → IsKept c d → table store.new r ≡ met_function c step d)) }
+{
+    if step {
+        let r = step_by(alloc, problem, cells, demand, store)?;
+        Ok(r)
+    } else {
+        let r = first_by(alloc, problem, cells.current.as_slice(), demand, store)?;
+        Ok(r)
+    }
+}
+
+// Where a guard may hold in the state of these cells.
+fn guard_by(
+    alloc: Global,
+    problem: &Problem,
+    now: &[Cell<Ref>],
+    guard: &Guard,
+    store: &mut Store,
+) -> Result<Ref, AllocError>
+    requires live { AreCellsMade (IsLive store.old) now.now }
+    ensures keeps { Keeps store.old store.new }
+    ensures live { IfOk result (λ r. IsLive store.new r) }
+    ensures means { IfOk result (λ r. OfCases problem.entry.now (λ c. (next : Bool) → IsSeen table store.old problem.entry.now now.now (view_at c next) → Has c.problem.guards guard.now → (a : ℕ → Bool) → table store.new r a ≡ may_hold_in c.problem (state_at c next a) guard.now)) }
+{
+    let _ = store.vars();
+    let r = may_hold(store, alloc, problem, now, guard);
+    let _ = store.vars();
+    r
+}
+
+// Where each of these guards may hold.
+fn guards_by(
+    alloc: Global,
+    problem: &Problem,
+    now: &[Cell<Ref>],
+    guards: &[Guard],
+    store: &mut Store,
+) -> Result<Ref, AllocError>
+    requires live { AreCellsMade (IsLive store.old) now.now }
+    ensures keeps { Keeps store.old store.new }
+    ensures live { IfOk result (λ r. IsLive store.new r) }
+    ensures means { IfOk result (λ r. OfCases problem.entry.now (λ c. (next : Bool) → IsSeen table store.old problem.entry.now now.now (view_at c next) → ((g : GuardData) → Has guards.now g → Has c.problem.guards g) → (a : ℕ → Bool) → table store.new r a ≡ list_all (may_hold_in c.problem (state_at c next a)) guards.now)) }
+{
+    let Some((guard, others)) = guards.split_first() else {
+        return Ok(store.constant(true));
+    };
+    let held = guard_by(alloc, problem, now, guard, store)?;
+    let all_held = guards_by(alloc, problem, now, others, store)?;
+    let r = and(alloc, store, held, all_held)?;
+    Ok(r)
+}
+
+// Where the target is broken at time 0.
+fn target_first(
+    alloc: Global,
+    problem: &Problem,
+    current: &[Cell<Ref>],
+    store: &mut Store,
+) -> Result<Ref, AllocError>
+    requires live { AreCellsMade (IsLive store.old) current.now }
+    ensures keeps { Keeps store.old store.new }
+    ensures live { IfOk result (λ r. IsLive store.new r) }
+    ensures means { IfOk result (λ r. OfCases problem.entry.now (λ c. IsSeen table store.old problem.entry.now current.now (view_at c false) → (a : ℕ → Bool) → table store.new r a ≡ is_broken c.problem None (old_state c a) c.problem.target)) }
+{
+    let _ = store.vars();
+    let r = broken(store, alloc, problem, None, current, &problem.target);
+    let _ = store.vars();
+    r
+}
+
+// Where it is broken in a step.
+fn target_step(
+    alloc: Global,
+    problem: &Problem,
+    cells: &Cells,
+    store: &mut Store,
+) -> Result<Ref, AllocError>
+    requires live { AreLiveCells store.old cells.now }
+    ensures keeps { Keeps store.old store.new }
+    ensures live { IfOk result (λ r. IsLive store.new r) }
+    ensures means { IfOk result (λ r. OfCases problem.entry.now (λ c. AreCellsOf c store.old problem.entry.now cells.now → (a : ℕ → Bool) → table store.new r a ≡ is_broken c.problem (Some (old_state c a)) (new_state c a) c.problem.target)) }
+{
+    let _ = store.vars();
+    let old = cells.current.as_slice();
+    let r = broken(
+        store,
+        alloc,
+        problem,
+        Some(old),
+        cells.next.as_slice(),
+        &problem.target,
+    );
+    let _ = store.vars();
+    r
+}
+
+/// Where the target is broken at time 0, and each guard may hold.
+pub fn broken_first_by(
+    alloc: Global,
+    problem: &Problem,
+    current: &[Cell<Ref>],
+    store: &mut Store,
+) -> Result<Ref, AllocError>
+    requires live { AreCellsMade (IsLive store.old) current.now }
+    ensures keeps { Keeps store.old store.new }
+    ensures live { IfOk result (λ r. IsLive store.new r) }
+    ensures means { IfOk result (λ r. OfCases problem.entry.now (λ c. IsSeen table store.old problem.entry.now current.now (view_at c false) → table store.new r ≡ broken_at c false)) }
+{
+    let held = guards_by(alloc, problem, current, problem.guards.as_slice(), store)?;
+    let broken = target_first(alloc, problem, current, store)?;
+    let r = and(alloc, store, held, broken)?;
+    Ok(r)
+}
+
+/// Where it is broken in a step, and each guard may hold.
+pub fn broken_step_by(
+    alloc: Global,
+    problem: &Problem,
+    cells: &Cells,
+    store: &mut Store,
+) -> Result<Ref, AllocError>
+    requires live { AreLiveCells store.old cells.now }
+    ensures keeps { Keeps store.old store.new }
+    ensures live { IfOk result (λ r. IsLive store.new r) }
+    ensures means { IfOk result (λ r. OfCases problem.entry.now (λ c. AreCellsOf c store.old problem.entry.now cells.now → table store.new r ≡ broken_at c true)) }
+{
+    let guards = problem.guards.as_slice();
+    let held = guards_by(alloc, problem, cells.next.as_slice(), guards, store)?;
+    let broken = target_step(alloc, problem, cells, store)?;
+    let r = and(alloc, store, held, broken)?;
+    Ok(r)
+}
