@@ -1,0 +1,2 @@
+pub mod ChosenDemands
+pub mod Parts
