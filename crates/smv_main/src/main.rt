@@ -4,7 +4,8 @@
 #![tactic(auto)]
 
 use smv_io::{FromRead, ToWrite};
-use smv_top::{Status, run};
+use smv_top::run;
+use smv_status::Status;
 use std::process::ExitCode;
 use std::{env, io};
 

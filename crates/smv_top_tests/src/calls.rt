@@ -4,10 +4,13 @@ use smv_io::{Never, Taken};
 use smv_top::run;
 use std::alloc::{AllocError, Global};
 
-/// What a text is answered that has no fault and whose form is not decided.
-pub const NOT_DECIDED: &str = "fault 32 at line 1 column 1\n";
+pub const USAGE: &str = "usage: smv prove|only|print|generated\n";
 
-pub const TOO_LARGE: &str = "fault 25 at line 1 column 8\n";
+pub const TOGGLE: &str =
+    "module main() { x : boolean; init(x) := 0; next(x) := ~x; p : assert G (x | ~x); }";
+
+pub const TOGGLE_FALSE: &str =
+    "module main() { x : boolean; init(x) := 0; next(x) := ~x; p : assert G ~x; }";
 
 // The words, parted by blanks.
 pub fn words(alloc: Global, line: &str) -> Result<Vec<String>, AllocError> {
@@ -22,7 +25,7 @@ pub fn words(alloc: Global, line: &str) -> Result<Vec<String>, AllocError> {
 pub fn answered(alloc: Global, line: &str, text: &[u8]) -> Result<(u8, Vec<u8>), AllocError> {
     let words = words(alloc, line)?;
     let mut source = Never::new(text.to_vec(alloc)?);
-    let mut sink = Taken::with_room(alloc, 600, Vec::new(alloc))?;
+    let mut sink = Taken::with_room(alloc, 8000, Vec::new(alloc))?;
     let status = run(alloc, &words, &mut source, &mut sink);
     Ok((status.number(), sink.taken().to_vec(alloc)?))
 }

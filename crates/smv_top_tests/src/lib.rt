@@ -1,13 +1,21 @@
-//! Tests of the whole program, from words and bytes to a status and bytes, and of what is decided of designs with two
-//! states. The expected answers were worked out by hand. `answers` has tables of texts with their answers, `limits` the
-//! texts at each limit and past it, and `small_designs` all designs of a few forms.
+//! Tests of the whole program, from words and bytes to a status and bytes. The expected answers were worked out by hand from the rules of the language and of the method.
+//! `rows` has worked designs with their reports, `small_designs` all designs of one signal of a few forms, `faults` a text for each fault, `passes` which fault comes first, `limits` the texts at each limit and past it,
+//! `prints` what is printed, and `transfers` what happens where a source or a sink fails.
 #![tactic(auto)]
 
 #[cfg(test)]
-mod answers;
-#[cfg(test)]
 mod calls;
+#[cfg(test)]
+mod faults;
 #[cfg(test)]
 mod limits;
 #[cfg(test)]
+mod passes;
+#[cfg(test)]
+mod prints;
+#[cfg(test)]
+mod rows;
+#[cfg(test)]
 mod small_designs;
+#[cfg(test)]
+mod transfers;

@@ -1,8 +1,12 @@
 //! Texts at each limit and past it.
 
-use crate::calls::{NOT_DECIDED, TOO_LARGE, answered};
+use crate::calls::answered;
 use std::alloc::{AllocError, Global};
 use std::test::Fail;
+
+const NO_UNITS: &str = "proved 0 of 0\n";
+
+const TOO_LARGE: &str = "fault 25 at line 1 column 8\n";
 
 // A form of a text, which has as many parts as one likes.
 #[derive(Clone, Copy, Debug, PartialEq)]
@@ -116,20 +120,20 @@ fn first_other(alloc: Global, rows: &[Row]) -> Result<Option<(Form, u32)>, Alloc
 
 // Equal lists count once, and what is not used counts too.
 const CONSTANTS: &[Row] = &[
-    (Form::Constants, 4096, 3, NOT_DECIDED),
+    (Form::Constants, 4096, 0, NO_UNITS),
     (Form::Constants, 4097, 3, TOO_LARGE),
-    (Form::EqualLists, 4096, 3, NOT_DECIDED),
+    (Form::EqualLists, 4096, 0, NO_UNITS),
     (Form::EqualLists, 4097, 3, TOO_LARGE),
-    (Form::UnusedType, 4095, 3, NOT_DECIDED),
+    (Form::UnusedType, 4095, 0, NO_UNITS),
     (Form::UnusedType, 4096, 3, TOO_LARGE),
-    (Form::UnusedModule, 4095, 3, NOT_DECIDED),
+    (Form::UnusedModule, 4095, 0, NO_UNITS),
     (Form::UnusedModule, 4096, 3, TOO_LARGE),
 ];
 
 const THINGS: &[Row] = &[
-    (Form::Signals, 4096, 3, NOT_DECIDED),
+    (Form::Signals, 4096, 0, NO_UNITS),
     (Form::Signals, 4097, 3, TOO_LARGE),
-    (Form::Blocks, 254, 3, NOT_DECIDED),
+    (Form::Blocks, 254, 0, NO_UNITS),
     (Form::Blocks, 255, 3, TOO_LARGE),
     (Form::Blanks, 1_048_576, 3, "fault 9 at line 1 column 1\n"),
     (Form::Blanks, 1_048_577, 3, "fault 31 at line 1 column 1\n"),
@@ -138,9 +142,9 @@ const THINGS: &[Row] = &[
 // Statements stand up to 1,000 deep inside one another, and the types that a text names up to 10,000 deep together; deeper
 // ones want more stack than there may be.
 const DEPTHS: &[Row] = &[
-    (Form::Arms, 999, 3, NOT_DECIDED),
+    (Form::Arms, 999, 0, NO_UNITS),
     (Form::Arms, 1000, 7, ""),
-    (Form::Types, 5000, 3, NOT_DECIDED),
+    (Form::Types, 5000, 0, NO_UNITS),
     (Form::Types, 5001, 7, ""),
 ];
 

@@ -1,12 +1,13 @@
-use Rattle.smv_top.specs.Answers.{IsSoundDesign, Ends, Completes}
+use Rattle.law_valid_texts.specs.Reports.{IsSoundDesign}
+use Rattle.law_answers.specs.Dues.{Ends}
+use Rattle.smv_top.specs.Clauses.{Completes}
 use Rattle.smv_top.proofs.Endings.{of_told, all_proved_is_sound, completed}
 use Rattle.smv_top.proofs.run.Goals as goal
 
 pub returns-clause-sound : goal.returns-clause-sound
-returns-clause-sound g c proved =
-    of_told _ (λ text. Ends _ _ text _ _) IsSoundDesign c.answered.ensures.ends (λ text. all_proved_is_sound c.true_units_are_sound.ensures _ _ text _ _ proved)
+returns-clause-sound g c proved = of_told _ (λ text. Ends _ _ text _ _) IsSoundDesign c.answered.ensures.ends (λ text. all_proved_is_sound c.proved_is_sound.ensures _ _ text _ _ proved)
 
 pub returns-clause-complete : goal.returns-clause-complete
 returns-clause-complete g c no_read no_write =
     of_told _ (λ text. Ends _ _ text _ _) (Completes _ _) c.answered.ensures.ends
-    (λ text. completed c.one_answer.ensures.tree c.one_answer.ensures.not_both c.reports_agree.ensures _ text _ _ _ (λ e. no_read (c.answered.ensures.read_fault e)) (λ e. no_write (c.answered.ensures.write_fault e)))
+    (λ text. completed c.one_status.ensures _ text _ _ _ (λ e. no_read (c.answered.ensures.read_fault e)) (λ e. no_write (c.answered.ensures.write_fault e)))

@@ -1,0 +1,97 @@
+// The answer that a command and its text call for.
+ghost use Rattle.std.specs.Prelude.{◌≡◌, ◌≤◌, true, length, IfOk};
+ghost use Rattle.smv_problem.specs.declared.report.Report.{Report};
+ghost use Rattle.smv_command.specs.Ranges.{IsInRange, AreInRange};
+ghost use Rattle.smv_command.specs.declared.Command.TheVariants as variant;
+ghost use Rattle.law_valid_texts.specs.Reports.{IsRightReport};
+ghost use Rattle.law_answers.specs.Dues.{IsDue, IsReportFor, decides, limit, default_nodes, default_steps};
+
+use smv_answers::{Answer, printed, refused, reported};
+use smv_command::Command;
+use smv_core::{Fault, Name, Refusal};
+use smv_parse::parse;
+use smv_problem::Budgets;
+use smv_prove::{prove, prove_one};
+use std::alloc::{AllocError, Global};
+
+// The most bytes that a text has.
+const LIMIT: usize = 1_048_576;
+
+/// The answer to a command and its text, which is the one that was read or generated.
+pub fn answer_to(alloc: Global, command: &Command, text: &[u8]) -> Result<Answer, AllocError>
+    requires { IsInRange command.now }
+    ensures { IfOk result (λ answer. IsDue command.now text.now answer.status answer.bytes.items) }
+{
+    if text.len() > LIMIT {
+        return refused(alloc, text, Fault { number: 31, at: 0 });
+    }
+    match command {
+        Command::Prove { budgets } => decided(alloc, command, text, *budgets),
+        Command::Only { name, budgets } => one_decided(alloc, command, text, name, *budgets),
+        Command::Print => spelled(alloc, text),
+        Command::Generated { copies: _ } => decided(alloc, command, text, defaults()),
+    }
+}
+
+// The budgets of a command that names none.
+fn defaults() -> Budgets
+    ensures { result ≡ record { nodes = default_nodes; steps = default_steps } }
+{
+    Budgets {
+        nodes: 1_000_000,
+        steps: 1_000,
+    }
+}
+
+// The answer to a command that decides all units under these budgets.
+fn decided(
+    alloc: Global,
+    command: &Command,
+    text: &[u8],
+    budgets: Budgets,
+) -> Result<Answer, AllocError>
+    requires decides { decides command.now ≡ true }
+    requires asks { (report : Report) → IsRightReport text.now budgets.nodes budgets.steps report → IsReportFor command.now text.now report }
+    requires within { length text.now ≤ limit }
+    requires in_range { AreInRange budgets }
+    ensures { IfOk result (λ answer. IsDue command.now text.now answer.status answer.bytes.items) }
+{
+    match prove(alloc, text, budgets) {
+        Ok(report) => reported(alloc, command, &report),
+        Err(Refusal::Fault(fault)) => refused(alloc, text, fault),
+        Err(Refusal::OutOfMemory) => Err(AllocError),
+    }
+}
+
+// The answer to a command that decides the unit of a name.
+fn one_decided(
+    alloc: Global,
+    command: &Command,
+    text: &[u8],
+    name: &Name,
+    budgets: Budgets,
+) -> Result<Answer, AllocError>
+    requires asks { command.now ≡ variant.Only name.now budgets }
+    requires within { length text.now ≤ limit }
+    requires in_range { AreInRange budgets }
+    ensures { IfOk result (λ answer. IsDue command.now text.now answer.status answer.bytes.items) }
+{
+    match prove_one(alloc, text, name.as_bytes(), budgets) {
+        Ok(Some(report)) => reported(alloc, command, &report),
+        Ok(None) => refused(alloc, text, Fault { number: 26, at: 0 }),
+        Err(Refusal::Fault(fault)) => refused(alloc, text, fault),
+        Err(Refusal::OutOfMemory) => Err(AllocError),
+    }
+}
+
+// The answer to a text that is spelled anew.
+fn spelled(alloc: Global, text: &[u8]) -> Result<Answer, AllocError>
+    requires { length text.now ≤ limit }
+    ensures { IfOk result (λ answer. IsDue variant.Print text.now answer.status answer.bytes.items) }
+{
+    match parse(alloc, text) {
+        Ok(tree) => printed(alloc, &tree),
+        Err(Refusal::Fault(fault)) => refused(alloc, text, fault),
+        Err(Refusal::OutOfMemory) => Err(AllocError),
+    }
+}

@@ -1,0 +1,65 @@
+//! What happens where a source or a sink fails.
+
+use crate::calls::{TOGGLE, TOGGLE_FALSE, USAGE, words};
+use smv_io::{Bytes, Taken};
+use smv_top::run;
+use std::alloc::{AllocError, Global};
+use std::test::Fail;
+
+const PROVED: &str = "p: true\nproved 1 of 1\n";
+
+const FALSIFIED: &str = "p: false at 1\n time 0: x = 0\n time 1: x = 1\nproved 0 of 1\n";
+
+// The exit status and what was taken, where the source's calls of these numbers fail and the sink has so much room.
+fn transferred(
+    alloc: Global,
+    line: &str,
+    text: &str,
+    failing: &[u64],
+    room: usize,
+) -> Result<(u8, Vec<u8>), AllocError> {
+    let words = words(alloc, line)?;
+    let mut source = Bytes::new(text.as_bytes().to_vec(alloc)?, failing.to_vec(alloc)?);
+    let mut sink = Taken::with_room(alloc, room, Vec::new(alloc))?;
+    let status = run(alloc, &words, &mut source, &mut sink);
+    Ok((status.number(), sink.taken().to_vec(alloc)?))
+}
+
+#[test]
+fn a_front_is_taken_where_the_room_ends(rt: HostRuntime) -> Result<(), Fail> {
+    let table = [
+        ("prove", TOGGLE, PROVED, 0),
+        ("prove", TOGGLE_FALSE, FALSIFIED, 1),
+        ("", TOGGLE, USAGE, 4),
+    ];
+    for (line, text, answer, want) in table {
+        for room in 0..answer.len() {
+            let (status, taken) = transferred(rt.alloc(), line, text, &[], room)?;
+            assert_eq!(rt; status, 6, "{line}: room {room}");
+            assert_eq!(rt; Some(taken.as_slice()), answer.as_bytes().get(..room), "{line}: room {room}");
+        }
+        let (status, taken) = transferred(rt.alloc(), line, text, &[], answer.len())?;
+        assert_eq!(rt; status, want, "{line}");
+        assert_eq!(rt; taken.as_slice(), answer.as_bytes(), "{line}");
+    }
+    Ok(())
+}
+
+#[test]
+fn a_source_that_fails_is_told(rt: HostRuntime) -> Result<(), Fail> {
+    let table = [
+        ("prove", [0], 5, ""),
+        ("prove", [1], 5, ""),
+        ("only p", [0], 5, ""),
+        ("print", [1], 5, ""),
+        // Words that are no command, and a text that is generated, ask the source for nothing.
+        ("proves", [0], 4, USAGE),
+        ("generated 2", [0], 0, "generated 2\nproved 3 of 3\n"),
+    ];
+    for (line, failing, want, answer) in table {
+        let (status, taken) = transferred(rt.alloc(), line, TOGGLE, &failing, 200)?;
+        assert_eq!(rt; status, want, "{line}");
+        assert_eq!(rt; taken.as_slice(), answer.as_bytes(), "{line}");
+    }
+    Ok(())
+}
