@@ -4,8 +4,8 @@
 #![tactic(auto)]
 
 use smv_io::{FromRead, ToWrite};
-use smv_top::run;
 use smv_status::Status;
+use smv_top::run;
 use std::process::ExitCode;
 use std::{env, io};
 

@@ -52,10 +52,7 @@ const KINDS: &[(&str, &str)] = &[
         "scalarset P undefined; module main() { a : P; y : array P of boolean; y[0] := 0; y[a] := 1; next(y[1 + 1]) := 0; }",
         "fault 15 at line 1 column 82\n",
     ),
-    (
-        "module main() { x : array 0..255 of boolean; }",
-        PASSES,
-    ),
+    ("module main() { x : array 0..255 of boolean; }", PASSES),
     (
         "module main() { x : array 0..255 of array 0..1 of boolean; }",
         TOO_LARGE,

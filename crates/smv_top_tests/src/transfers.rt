@@ -6,6 +6,9 @@ use smv_top::run;
 use std::alloc::{AllocError, Global};
 use std::test::Fail;
 
+// No call fails.
+const NONE: &[u64] = &[];
+
 const PROVED: &str = "p: true\nproved 1 of 1\n";
 
 const FALSIFIED: &str = "p: false at 1\n time 0: x = 0\n time 1: x = 1\nproved 0 of 1\n";
@@ -25,20 +28,41 @@ fn transferred(
     Ok((status.number(), sink.taken().to_vec(alloc)?))
 }
 
+// The first room smaller than the answer in which something else was taken than a front of it.
+fn first_other(
+    alloc: Global,
+    line: &str,
+    text: &str,
+    answer: &str,
+) -> Result<Option<usize>, AllocError> {
+    let bytes = answer.as_bytes();
+    for room in 0..bytes.len() {
+        let (status, taken) = transferred(alloc, line, text, NONE, room)?;
+        if status != 6 || taken.as_slice() != &bytes[..room] {
+            return Ok(Some(room));
+        }
+    }
+    Ok(None)
+}
+
 #[test]
 fn a_front_is_taken_where_the_room_ends(rt: HostRuntime) -> Result<(), Fail> {
+    let alloc = rt.alloc();
+    assert_eq!(rt; first_other(alloc, "prove", TOGGLE, PROVED)?, None);
+    assert_eq!(rt; first_other(alloc, "prove", TOGGLE_FALSE, FALSIFIED)?, None);
+    assert_eq!(rt; first_other(alloc, "", TOGGLE, USAGE)?, None);
+    Ok(())
+}
+
+#[test]
+fn all_is_taken_where_there_is_room(rt: HostRuntime) -> Result<(), Fail> {
     let table = [
         ("prove", TOGGLE, PROVED, 0),
         ("prove", TOGGLE_FALSE, FALSIFIED, 1),
         ("", TOGGLE, USAGE, 4),
     ];
     for (line, text, answer, want) in table {
-        for room in 0..answer.len() {
-            let (status, taken) = transferred(rt.alloc(), line, text, &[], room)?;
-            assert_eq!(rt; status, 6, "{line}: room {room}");
-            assert_eq!(rt; Some(taken.as_slice()), answer.as_bytes().get(..room), "{line}: room {room}");
-        }
-        let (status, taken) = transferred(rt.alloc(), line, text, &[], answer.len())?;
+        let (status, taken) = transferred(rt.alloc(), line, text, NONE, answer.len())?;
         assert_eq!(rt; status, want, "{line}");
         assert_eq!(rt; taken.as_slice(), answer.as_bytes(), "{line}");
     }
