@@ -8,7 +8,7 @@ use Rattle.smv_core.specs.FlatOrder.{Design}
 use Rattle.smv_core.specs.Outcome.{State, outcome}
 use Rattle.smv_core.specs.Allowed.{allowed, allowed_by_base, scene_at}
 use Rattle.smv_core.specs.Sound.{ProofUnit, map_of, claim_of, instances, indexes_in, bound, Holds, IsTyped, MeetsBase, EachElement, IsRun, AtEachTime}
-use Rattle.smv_core.specs.Verdict.{AtLastTime, IsViolating}
+use Rattle.smv_core.specs.Violating.{AtLastTime, IsViolating}
 use Rattle.law_meaning.proofs.AtMostOne.{same-is, same-refl}
 
 and-left : (p q : Bool) → (p && q) ≡ true → p ≡ true

@@ -5,7 +5,7 @@ use Rattle.smv_core.specs.Types.{Family}
 use Rattle.smv_core.specs.FlatOrder.{design_of}
 use Rattle.smv_core.specs.Outcome.{State}
 use Rattle.smv_core.specs.Sound.{ProofUnit, map_of, claim_of, units}
-use Rattle.smv_core.specs.Verdict.{IsViolating}
+use Rattle.smv_core.specs.Violating.{IsViolating}
 use Rattle.smv_core.specs.declared.tree.Text.{Text}
 use Rattle.smv_core.specs.declared.tree.TypeExpr.{Boolean, Array}
 use Rattle.smv_core.specs.declared.tree.Ref.{Ref}

@@ -8,8 +8,7 @@ pub mod Allowed
 pub mod Sound
 pub mod Conflicts
 pub mod Flat
-pub mod First
-pub mod Verdict
+pub mod Violating
 pub mod formers
 pub mod Signs
 pub mod Notation
