@@ -87,7 +87,7 @@ fn toggle_declared_last(
 #[test]
 fn a_long_chain_is_decided(rt: HostRuntime) -> Result<(), Fail> {
     let mut chain = String::from_str(rt.alloc(), "1")?;
-    for _ in 0..1_000 {
+    for _ in 0..100_000 {
         chain.push_str(" & 1")?;
     }
     let long = toggle_declared_last(rt.alloc(), "0", "0", chain.as_str())?;
