@@ -1,9 +1,9 @@
 #!/usr/bin/env python3
 """Hostile use: the program on strangers' texts, on machines that refuse it memory, room, or more than a byte at a time.
 
-    tools/hostile.py PROGRAM [--seed N] [--count N] [TRY ..]      TRY is growth, rooms, bytes, prefixes, random, changes or long; all without one
+    tools/hostile.py PROGRAM [--seed N] [--count N] [--calls N] [TRY ..]      TRY is growth, rooms, bytes, prefixes, random, changes or long; all without one
 
-growth     each call for memory is refused in turn: status 7 and nothing written, or the usual status and answer
+growth     each call for memory is refused in turn (of more than --calls so many, spread over the run): status 7 and nothing written, or the usual status and answer
 rooms      standard output takes so many bytes and no more: status 6 and those bytes alone
 bytes      a byte at a time is read, and written: the usual answer
 prefixes   each nonempty proper prefix of the toggle and of the Tomasulo machine: a fault with its place inside the text
@@ -69,11 +69,12 @@ def cases():
     yield from [("only p", TOGGLE_FALSE), ("only q", TOGGLE), ("prove", MODULE), ("prove --nodes 0", TOGGLE)]
 
 
-def growth(program, _):
+def growth(program, given):
     for words, text in cases():
         usual, calls = program.counted(words, text)
-        other = [n for n in range(1, calls + 1) for got in [program.answer(words, text, growth=n)] if got not in ((7, b""), usual)]
-        yield f"growth: {words}, {len(text)} bytes: status {usual[0]}, each of {calls} calls for memory refused in turn", [f"call {n}" for n in other]
+        places = range(1, calls + 1) if calls <= given.calls else sorted({1 + n * calls // given.calls for n in range(given.calls)})
+        other = [n for n in places for got in [program.answer(words, text, growth=n)] if got not in ((7, b""), usual)]
+        yield f"growth: {words}, {len(text)} bytes: status {usual[0]}, {len(places)} of {calls} calls for memory refused in turn", [f"call {n}" for n in other]
 
 
 def rooms(program, _):
@@ -183,6 +184,7 @@ def main():
     parser.add_argument("program")
     parser.add_argument("--seed", type=int, default=1)
     parser.add_argument("--count", type=int, default=1000)
+    parser.add_argument("--calls", type=int, default=2000)
     parser.add_argument("tries", nargs="*", metavar="TRY", help=", ".join(TRIES))
     given = parser.parse_args()
     random.seed(given.seed)
