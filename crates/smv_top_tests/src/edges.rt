@@ -97,51 +97,7 @@ const TYPES: &[Row] = &[
     ),
 ];
 
-const CASES: &[Row] = &[
-    (
-        (
-            "module main() { forall (a in 0..0) forall (b in 0..0) forall (c in 0..0) forall (d in 0..0) forall (e in 0..0) forall (f in 0..0) forall (g in 0..0) forall (h in 0..0) p[a][b][c][d][e][f][g][h] : assert G 1; }",
-            "",
-            0,
-            "",
-        ),
-        NOTHING,
-        0,
-        PROVED,
-    ),
-    (
-        (
-            "module main() { forall (a in 0..0) forall (b in 0..0) forall (c in 0..0) forall (d in 0..0) forall (e in 0..0) forall (f in 0..0) forall (g in 0..0) forall (h in 0..0) forall (i in 0..0) p[a][b][c][d][e][f][g][h][i] : assert G 1; }",
-            "",
-            0,
-            "",
-        ),
-        NOTHING,
-        3,
-        "fault 29 at line 1 column 188\n",
-    ),
-    (
-        (
-            "module main() { forall (a in 0..255) forall (b in 0..15) p[a][b] : assert G 1; }",
-            "",
-            0,
-            "",
-        ),
-        NOTHING,
-        0,
-        PROVED,
-    ),
-    (
-        (
-            "module main() { forall (a in 0..255) forall (b in 0..16) p[a][b] : assert G 1; }",
-            "",
-            0,
-            "",
-        ),
-        NOTHING,
-        3,
-        "fault 29 at line 1 column 58\n",
-    ),
+const BITS: &[Row] = &[
     (
         (
             "module main() { n : 0..126; y : 0..1; x : array 0..126 of 0..255; p : assert G (x[n] = 0 | y = 0); }",
@@ -203,10 +159,10 @@ fn indexes_and_elements(rt: HostRuntime) -> Result<(), Fail> {
     Ok(())
 }
 
-// Eight parameters, 4,096 cases and 1,024 state bits.
+// 1,024 state bits.
 #[test]
-fn parameters_cases_and_bits(rt: HostRuntime) -> Result<(), Fail> {
-    assert_eq!(rt; first_other(rt.alloc(), CASES)?, None);
+fn state_bits(rt: HostRuntime) -> Result<(), Fail> {
+    assert_eq!(rt; first_other(rt.alloc(), BITS)?, None);
     Ok(())
 }
 
