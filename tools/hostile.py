@@ -167,6 +167,9 @@ def long_texts(program, _):
         text = MODULE + b"x : boolean; x := {" + b", ".join([b"0"] * count) + b"}; p : assert G (x = 0); }"
         got = program.answer("prove", text)
         yield f"long: {count} members of a set", [] if got == true else [f"status {got[0]}"]
+        text = MODULE + b"x : boolean; p : assert G (x in {" + b"0, " * count + b"1}); }"
+        got = program.answer("prove", text)
+        yield f"long: in {count + 1} members", [] if got == true else [f"status {got[0]}"]
     for count, want in [(LARGEST, b"fault 9"), (LARGEST + 1, b"fault 31")]:
         got = program.answer("prove", b" " * count)
         yield f"long: {count} blanks", [] if got[0] == 3 and got[1].startswith(want + b" ") else [f"{got}"]

@@ -17,28 +17,109 @@ type Row = (Repeated, Repeated, u8, &'static str);
 const NOTHING: Repeated = ("", "", 0, "");
 
 const WORDS: &[Row] = &[
-    (("module main() { x : 0..255; p : assert G (x < 511); }", "", 0, ""), NOTHING, 0, PROVED),
-    (("module main() { x : 0..255; p : assert G (x < 512); }", "", 0, ""), NOTHING, 3, "fault 2 at line 1 column 47\n"),
-    (("module main() { ", "n", 64, " : boolean; }"), NOTHING, 0, NO_UNITS),
-    (("module main() { ", "n", 65, " : boolean; }"), NOTHING, 3, "fault 3 at line 1 column 17\n"),
-    (("module main() { p : assert G ", "(", 63, "1"), ("", ")", 63, "; }"), 0, PROVED),
-    (("module main() { p : assert G ", "(", 64, "1"), ("", ")", 64, "; }"), 3, "fault 6 at line 1 column 93\n"),
+    (
+        (
+            "module main() { x : 0..255; p : assert G (x < 511); }",
+            "",
+            0,
+            "",
+        ),
+        NOTHING,
+        0,
+        PROVED,
+    ),
+    (
+        (
+            "module main() { x : 0..255; p : assert G (x < 512); }",
+            "",
+            0,
+            "",
+        ),
+        NOTHING,
+        3,
+        "fault 2 at line 1 column 47\n",
+    ),
+    (
+        ("module main() { ", "n", 64, " : boolean; }"),
+        NOTHING,
+        0,
+        NO_UNITS,
+    ),
+    (
+        ("module main() { ", "n", 65, " : boolean; }"),
+        NOTHING,
+        3,
+        "fault 3 at line 1 column 17\n",
+    ),
+    (
+        ("module main() { p : assert G ", "(", 63, "1"),
+        ("", ")", 63, "; }"),
+        0,
+        PROVED,
+    ),
+    (
+        ("module main() { p : assert G ", "(", 64, "1"),
+        ("", ")", 64, "; }"),
+        3,
+        "fault 6 at line 1 column 93\n",
+    ),
 ];
 
 const TYPES: &[Row] = &[
-    (("module main() { x : ", "array 0..1 of ", 4, "boolean; }"), NOTHING, 0, NO_UNITS),
-    (("module main() { x : ", "array 0..1 of ", 5, "boolean; }"), NOTHING, 3, "fault 25 at line 1 column 8\n"),
-    (("module main() { x : array 0..255 of boolean; }", "", 0, ""), NOTHING, 0, NO_UNITS),
-    (("module main() { x : array 0..255 of array 0..1 of boolean; }", "", 0, ""), NOTHING, 3, "fault 25 at line 1 column 8\n"),
+    (
+        ("module main() { x : ", "array 0..1 of ", 4, "boolean; }"),
+        NOTHING,
+        0,
+        NO_UNITS,
+    ),
+    (
+        ("module main() { x : ", "array 0..1 of ", 5, "boolean; }"),
+        NOTHING,
+        3,
+        "fault 25 at line 1 column 8\n",
+    ),
+    (
+        ("module main() { x : array 0..255 of boolean; }", "", 0, ""),
+        NOTHING,
+        0,
+        NO_UNITS,
+    ),
+    (
+        (
+            "module main() { x : array 0..255 of array 0..1 of boolean; }",
+            "",
+            0,
+            "",
+        ),
+        NOTHING,
+        3,
+        "fault 25 at line 1 column 8\n",
+    ),
 ];
 
-const CASES: &[Row] = &[
-    (("module main() { forall (a in 0..0) forall (b in 0..0) forall (c in 0..0) forall (d in 0..0) forall (e in 0..0) forall (f in 0..0) forall (g in 0..0) forall (h in 0..0) p[a][b][c][d][e][f][g][h] : assert G 1; }", "", 0, ""), NOTHING, 0, PROVED),
-    (("module main() { forall (a in 0..0) forall (b in 0..0) forall (c in 0..0) forall (d in 0..0) forall (e in 0..0) forall (f in 0..0) forall (g in 0..0) forall (h in 0..0) forall (i in 0..0) p[a][b][c][d][e][f][g][h][i] : assert G 1; }", "", 0, ""), NOTHING, 3, "fault 29 at line 1 column 188\n"),
-    (("module main() { forall (a in 0..255) forall (b in 0..15) p[a][b] : assert G 1; }", "", 0, ""), NOTHING, 0, PROVED),
-    (("module main() { forall (a in 0..255) forall (b in 0..16) p[a][b] : assert G 1; }", "", 0, ""), NOTHING, 3, "fault 29 at line 1 column 58\n"),
-    (("module main() { n : 0..126; y : 0..1; x : array 0..126 of 0..255; p : assert G (x[n] = 0 | y = 0); }", "", 0, ""), NOTHING, 1, "p: false at 0\n time 0: "),
-    (("module main() { n : 0..126; y : 0..3; x : array 0..126 of 0..255; p : assert G (x[n] = 0 | y = 0); }", "", 0, ""), NOTHING, 3, "fault 30 at line 1 column 67\n"),
+const BITS: &[Row] = &[
+    (
+        (
+            "module main() { n : 0..126; y : 0..1; x : array 0..126 of 0..255; p : assert G (x[n] = 0 | y = 0); }",
+            "",
+            0,
+            "",
+        ),
+        NOTHING,
+        1,
+        "p: false at 0\n time 0: ",
+    ),
+    (
+        (
+            "module main() { n : 0..126; y : 0..3; x : array 0..126 of 0..255; p : assert G (x[n] = 0 | y = 0); }",
+            "",
+            0,
+            "",
+        ),
+        NOTHING,
+        3,
+        "fault 30 at line 1 column 67\n",
+    ),
 ];
 
 fn part_of(alloc: Global, form: &Repeated) -> Result<String, AllocError> {
@@ -78,10 +159,10 @@ fn indexes_and_elements(rt: HostRuntime) -> Result<(), Fail> {
     Ok(())
 }
 
-// Eight parameters, 4,096 cases and 1,024 state bits.
+// 1,024 state bits.
 #[test]
-fn parameters_cases_and_bits(rt: HostRuntime) -> Result<(), Fail> {
-    assert_eq!(rt; first_other(rt.alloc(), CASES)?, None);
+fn state_bits(rt: HostRuntime) -> Result<(), Fail> {
+    assert_eq!(rt; first_other(rt.alloc(), BITS)?, None);
     Ok(())
 }
 

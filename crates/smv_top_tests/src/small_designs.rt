@@ -95,3 +95,19 @@ fn a_long_chain_is_decided(rt: HostRuntime) -> Result<(), Fail> {
     assert_eq!(rt; written.as_slice(), TRUE.as_bytes());
     Ok(())
 }
+
+// Nor is a long list, on a right side and behind `in`.
+#[test]
+fn long_lists_are_decided(rt: HostRuntime) -> Result<(), Fail> {
+    let mut list = String::from_str(rt.alloc(), "1")?;
+    for _ in 0..100_000 {
+        list.push_str(", 0")?;
+    }
+    let members = list.as_str();
+    let text = format!(in rt.alloc();
+        "module main() {{ x : boolean; y : boolean; y := {{{members}}}; p : assert G (x in {{{members}}} & (y = 0 | y = 1)); }}"
+    )?;
+    let (_, written) = answered(rt.alloc(), "prove", text.as_bytes())?;
+    assert_eq!(rt; written.as_slice(), TRUE.as_bytes());
+    Ok(())
+}
