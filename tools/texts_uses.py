@@ -127,6 +127,21 @@ def kept_parameters(n):
     return main_module(["y : T;"] + lines + [f"using T->{{i}} prove p{k}[i][j];" for k in range(n)], "scalarset T undefined;\n")
 
 
+def kept_names(n):
+    """n claims over two values of a set type, all proved by one `using`, whose braces write one name ten times as often."""
+    lines = [f"forall (i in T) forall (j in T) p{k}[i][j] : assert G y = i;" for k in range(n)]
+    proved = ", ".join(f"p{k}[i][j]" for k in range(n))
+    using = f"forall (i in T) forall (j in T) using T->{{{','.join(['j'] * (10 * n))}}} prove {proved};"
+    return main_module(["y : T;"] + lines + [using], "scalarset T undefined;\n")
+
+
+def proved_again(n):
+    """A map that one `using` proves n times, with the map itself, its family free, and another family free n times: the second of these is fault 27."""
+    lines = ["x : boolean;", "y : boolean;", "layer L : { y := x; }"]
+    proved = ", ".join(["y//L"] * n)
+    return main_module(lines + ["using y//L, y//free, " + ", ".join(["x//free"] * n) + f" prove {proved};"])
+
+
 def many_cases(n):
     """n claims of 4,096 cases each."""
     lines = [f"forall (i in 0..15) forall (j in 0..255) p{k}[i][j] : assert G x;" for k in range(n)]
@@ -151,6 +166,8 @@ ROWS = [
     ("claims beside 4,000 families", claims_beside_families, (10000, 20000, 40000)),
     ("one claim, proved with all maps", maps_for_one, (1000, 2000, 4000)),
     ("claims over two parameters, each proved with one of them kept", kept_parameters, (2000, 4000, 8000)),
+    ("one `using` that proves all claims, with ten times as many names in its braces", kept_names, (1000, 2000, 4000)),
+    ("one `using` that proves a map as often as it uses a family freely (fault 27)", proved_again, (1000, 2000, 4000)),
     ("claims of 4,096 cases each", many_cases, (100, 200, 400)),
 ]
 

@@ -14,16 +14,18 @@ use Rattle.law_obligations.specs.Units.{units_of}
 use Rattle.law_splits.specs.Leaves.{leaves_of}
 use Rattle.smv_uses.specs.Choices.{choices_of}
 use Rattle.smv_uses.specs.UseFaults.{first_fault_of_uses}
+use Rattle.smv_choices.specs.declared.keeps.Kept.{Kept}
 use Rattle.smv_choices.specs.Readings.{Said, reading_in, first_fault, proofs, choice_of}
 use Rattle.smv_choices.proofs.PartLaws.{choices-made}
 use Rattle.smv_choices.proofs.FaultLaws.{uses-first}
 
-abbrev said : FlatUsing → List (ℕ × Pick) → List (ℕ × Assumed) → Option ℕ → List (Ref × Leaf) → Option ℕ → Said
-said using' picks claims unknown proved no_leaf = record { using = using'; picks = picks; claims = claims; unknown = unknown; proved = proved; no_leaf = no_leaf }
+abbrev said : FlatUsing → List (ℕ × Pick) → List (ℕ × Assumed) → Option ℕ → List (Ref × Leaf) → Option ℕ → List Kept → Said
+said using' picks claims unknown proved no_leaf kept = record { using = using'; picks = picks; claims = claims; unknown = unknown; proved = proved; no_leaf = no_leaf; kept = kept }
 
 -- what is said of a `using`, part by part
-pub same-said : {u v : FlatUsing} {p q : List (ℕ × Pick)} {a b : List (ℕ × Assumed)} {i j : Option ℕ} {l m : List (Ref × Leaf)} {n o : Option ℕ} → u ≡ v → p ≡ q → a ≡ b → i ≡ j → l ≡ m → n ≡ o → said u p a i l n ≡ said v q b j m o
-same-said c e f g h k = cc
+pub same-said : {u v : FlatUsing} {p q : List (ℕ × Pick)} {a b : List (ℕ × Assumed)} {i j : Option ℕ} {l m : List (Ref × Leaf)} {n o : Option ℕ} {r s : List Kept} → u ≡ v → p ≡ q → a ≡ b → i ≡ j → l ≡ m → n ≡ o → r ≡ s →
+    said u p a i l n r ≡ said v q b j m o s
+same-said c e f g h k t = cc
 
 module _ (d e : Design) (units : List FlatUnit) (leaves : List Leaf) (all : List Said) (same : e ≡ d) (us : units ≡ units_of d) (ls : leaves ≡ leaves_of d) (read : all ≡ map (reading_in e leaves) e.uses) where
   read-so : all ≡ map (reading_in d leaves) d.uses

@@ -1,10 +1,9 @@
 -- The parts of choices, found one after the other.
-use Rattle.std.proofs.Common.{◌≡◌, ℕ, suc, ◌+◌, List, [], ◌∷◌, ◌++◌, map, zip, length, Bool, true, false, cond, if◌then◌else◌, refl, ap, sym, ◌∙◌, Option, Some, None, option_map, option_and_then, filter, find}
-use Rattle.std.specs.Prelude.{is_none, Result, Ok, Err, IfOk}
+use Rattle.std.proofs.Common.{◌≡◌, ℕ, suc, ◌+◌, List, [], ◌∷◌, ◌++◌, map, zip, length, Bool, true, false, cond, ◌||◌, if◌then◌else◌, refl, ap, sym, ◌∙◌, Option, Some, None, option_map, option_and_then, filter, find}
+use Rattle.std.specs.Prelude.{is_none, is_some, option_to_list, Result, Ok, Err, IfOk}
 use Rattle.std.specs.Str.{bytes_eq}
 use Rattle.std.specs.List.{flat_map, slice_get}
 use Rattle.std.proofs.lemmas.List.{map-append}
-use Rattle.std.proofs.lemmas.Grind.{flat_map-append}
 use Rattle.smv_core.specs.Values.{Name, numbers_from}
 use Rattle.smv_core.specs.declared.tree.Word.{Word}
 use Rattle.smv_core.specs.declared.tree.Ref.{Ref}
@@ -29,7 +28,7 @@ use Rattle.smv_uses.specs.declared.meaning.Meaning.TheVariants.{Definition, Clai
 use Rattle.smv_uses.specs.Uses.{Used, braces_in, meaning_of, used_in, pick_by, assumed_by, picks_in, assumed_in}
 use Rattle.smv_uses.specs.Choices as spec
 use Rattle.smv_uses.specs.Choices.{Proof, proofs_in, is_among, kept_params, choices_of}
-use Rattle.smv_choices.specs.Parts.{picks_meant, claims_meant, picks_by, claims_by, unknown_by, kept_from, choice_with, without_places}
+use Rattle.smv_choices.specs.Parts.{picks_meant, claims_meant, picks_by, claims_by, unknown_by, kept_as, kept_one, kept_from, keep_with, sets_of, choice_with, without_places}
 use Rattle.smv_choices.specs.Readings.{Said, Proving, reading_in, proofs, names_held, choice_held, choice_of}
 
 -- ---- units
@@ -79,19 +78,39 @@ all-unknown d (Keep set names at ∷ uses) = all-unknown d uses
 
 -- ---- parameters that stay
 
+name-among : (names : List Word) (word : Word) → is_some (position (map (λ (w : Word). w.name) names) word.name) ≡ is_among names word
+name-among [] word = refl
+name-among (x ∷ names) word = at (bytes_eq x.name word.name) (position (map (λ (w : Word). w.name) names) word.name) (name-among names word)
+  where
+    at : (b : Bool) (o : Option ℕ) → is_some o ≡ is_among names word → is_some (if b then Some 0 else option_map suc o) ≡ (b || is_among names word)
+    at true o e = refl
+    at false None e = e
+    at false (Some k) e = e
+
 kept-numbers : (k : ℕ) (brackets names : List Word) →
-    kept_from k brackets names ≡ map (λ (x : ℕ × Word). x.0) (filter (λ (x : ℕ × Word). is_among names x.1) (zip (numbers_from k (length brackets)) brackets))
+    kept_from k brackets (map (λ (w : Word). w.name) names) ≡ map (λ (x : ℕ × Word). x.0) (filter (λ (x : ℕ × Word). is_among names x.1) (zip (numbers_from k (length brackets)) brackets))
 kept-numbers k [] names = refl
-kept-numbers k (word ∷ brackets) names = at (is_among names word) (kept_from (k + 1) brackets names) _ (kept-numbers (k + 1) brackets names)
+kept-numbers k (word ∷ brackets) names =
+    ap (λ b. (if b then k ∷ [] else []) ++ kept_from (k + 1) brackets (map (λ (w : Word). w.name) names)) (name-among names word)
+    ∙ at (is_among names word) (kept_from (k + 1) brackets (map (λ (w : Word). w.name) names)) _ (kept-numbers (k + 1) brackets names)
   where
     at : (b : Bool) (rest : List ℕ) (more : List (ℕ × Word)) → rest ≡ map (λ (x : ℕ × Word). x.0) more → (if b then k ∷ [] else []) ++ rest ≡ map (λ (x : ℕ × Word). x.0) (cond b ((k, word) ∷ more) more)
     at true rest more e = ap (λ l. k ∷ l) e
     at false rest more e = e
 
-pub kept-params : (brackets names : List Word) → kept_from 0 brackets names ≡ kept_params brackets names
-kept-params brackets names = kept-numbers 0 brackets names
+kept-braces : (of : Ref) (names : List Word) (o : Option ℕ) → map (keep_with of) (kept_as names o) ≡ map (λ set. record { set = set; params = kept_params of.names names }) (option_to_list o)
+kept-braces of names None = refl
+kept-braces of names (Some set) = ap (λ params. keep-of set params ∷ []) (kept-numbers 0 of.names names)
+  where
+    keep-of : ℕ → List ℕ → FlatKeep
+    keep-of set params = record { set = set; params = params }
 
-pub ruleset kept = (kept-params, flat_map-append)
+all-kept : (d : Design) (of : Ref) (uses : List Use) → map (keep_with of) (flat_map (kept_one (sets_of d)) uses) ≡ flat_map (spec.keep_by d of) (braces_in uses)
+all-kept d of [] = refl
+all-kept d of (Plain x ∷ uses) = all-kept d of uses
+all-kept d of (Early x ∷ uses) = all-kept d of uses
+all-kept d of (Keep set names at ∷ uses) =
+    map-append (keep_with of) (kept_as names (position (sets_of d) set.name)) (flat_map (kept_one (sets_of d)) uses) ∙ both (kept-braces of names (position (sets_of d) set.name)) (all-kept d of uses)
 
 -- ---- what is found by its name
 
@@ -139,9 +158,10 @@ module _ (d : Design) (leaves : List Leaf) where
   made units leaf None = refl
   made units leaf (Some p) =
       let own = spec.own_map d units leaf in
-      let keeps = flat_map (spec.keep_by d p.of) (braces_in p.using.uses) in
+      let keeps = map (keep_with p.of) (flat_map (kept_one (sets_of d)) p.using.uses) in
       ap (λ picks. choice_with own (without_places picks) (without_places (flat_map (claims_by d) p.using.uses)) keeps) (all-picks d p.using.uses)
       ∙ ap (λ claims. choice_with own (without_places (picks_in d p.using.uses)) (without_places claims) keeps) (all-claims d p.using.uses)
+      ∙ ap (choice_with own (without_places (picks_in d p.using.uses)) (without_places (assumed_in d p.using.uses))) (all-kept d p.of p.using.uses)
 
   choice-is : (units : List FlatUnit) (leaf : Leaf) → choice_of d units (proofs (map (reading_in d leaves) d.uses)) leaf ≡ spec.choice_of d units leaf
   choice-is units leaf =

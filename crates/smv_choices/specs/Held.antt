@@ -11,6 +11,10 @@ same_pair x y = nat_eq x.0 y.0 && nat_eq x.1 y.1
 abbrev pub is_noted : {S : Type 0} → HashSet (ℕ × ℕ) S → ℕ × ℕ → Bool
 is_noted seen pair = contains same_pair seen pair
 
+-- a unit is among those noted
+abbrev pub is_seen : {S : Type 0} → HashSet ℕ S → ℕ → Bool
+is_seen seen unit = contains nat_eq seen unit
+
 -- the names of the design's families, claims, layers and set types, and which layers define which families
 pub record AreTables (tables : Tables) : Type 0 where
   pub families : tables.families ≡ map (λ family. family.name) tables.design.now.families

@@ -27,8 +27,9 @@ use Rattle.smv_references.specs.Again.{Key, same_key, again}
 use Rattle.smv_uses.specs.declared.meaning.Meaning.{Meaning}
 use Rattle.smv_uses.specs.declared.meaning.Meaning.TheVariants.{Definition, Claim}
 use Rattle.smv_uses.specs.Uses.{meaning_of}
-use Rattle.smv_uses.specs.Choices.{is_among, own_map, is_own}
+use Rattle.smv_uses.specs.Choices.{own_map, is_own}
 use Rattle.smv_uses.specs.UseFaults.{leaf_named}
+use Rattle.smv_choices.specs.declared.keeps.Kept.{Kept}
 
 -- ---- uses
 
@@ -91,10 +92,23 @@ unknown_one leaves of = unknown_as of (leaf_named leaves of)
 
 -- ---- the parameters that stay
 
+-- the names in the braces of a use, with the number of the set type before them
+abbrev pub kept_as : List Word → Option ℕ → List Kept
+kept_as names None = []
+kept_as names (Some set) = record { set = set; names = map (λ word. word.name) names } ∷ []
+
+abbrev pub kept_one : List Name → Use → List Kept
+kept_one sets (Keep set names at) = kept_as names (position sets set.name)
+kept_one sets _ = []
+
 -- the numbers of the parameters among these names, where the first has this number
-abbrev pub kept_from : ℕ → List Word → List Word → List ℕ
+abbrev pub kept_from : ℕ → List Word → List Name → List ℕ
 kept_from k [] names = []
-kept_from k (word ∷ brackets) names = (if is_among names word then k ∷ [] else []) ++ kept_from (k + 1) brackets names
+kept_from k (word ∷ brackets) names = (if is_some (position names word.name) then k ∷ [] else []) ++ kept_from (k + 1) brackets names
+
+-- what braces keep by the brackets of a reference
+abbrev pub keep_with : Ref → Kept → FlatKeep
+keep_with of kept = record { set = kept.set; params = kept_from 0 of.names kept.names }
 
 -- ---- choices
 
@@ -153,6 +167,10 @@ is_param_in set _ _ word = false
 -- and so it is for each leaf that is proved
 abbrev pub fits : ℕ → List (Ref × Leaf) → Word → Bool
 fits set proved word = list_all (λ (of, leaf). is_param_in set of.names leaf.params word) proved
+
+-- the same of a name, wherever it stands
+abbrev pub fits_name : ℕ → List (Ref × Leaf) → Name → Bool
+fits_name set proved name = fits set proved (record { name = name; at = 0 })
 
 -- the first misfit in the braces of a set type of this number, and in a use
 abbrev pub names_misfit : List (Ref × Leaf) → List Word → ℕ → Option ℕ → Option ℕ

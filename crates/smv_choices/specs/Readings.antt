@@ -15,15 +15,15 @@ use Rattle.smv_instances.specs.Scopes.{first_of_places}
 use Rattle.smv_scope.specs.ScopeFault.{least, fault_at, earlier_of}
 use Rattle.law_splits.specs.Leaves.{named_by}
 use Rattle.smv_references.specs.Again.{same_key, again}
-use Rattle.smv_uses.specs.Uses.{braces_in}
-use Rattle.smv_uses.specs.Choices.{own_map, keep_by, nothing_used}
+use Rattle.smv_uses.specs.Choices.{own_map, nothing_used}
+use Rattle.smv_choices.specs.declared.keeps.Kept.{Kept}
 use Rattle.smv_choices.specs.declared.readings.Proved.{Proved}
 use Rattle.smv_choices.specs.declared.readings.Reading.{Reading}
 use Rattle.smv_choices.specs.declared.proofs_of.Proof.{Proof}
-use Rattle.smv_choices.specs.Parts.{picks_by, claims_by, unknown_by, proved_one, unknown_one, without_places, choice_with, first_among, map_keys, claim_keys, set_keys, chosen_for_each, braces_misfit, misnamed, sets_of}
+use Rattle.smv_choices.specs.Parts.{picks_by, claims_by, unknown_by, proved_one, unknown_one, without_places, kept_one, keep_with, choice_with, first_among, map_keys, claim_keys, set_keys, chosen_for_each, braces_misfit, misnamed, sets_of}
 
--- a `using` with the choices and claims of its uses, the first place of one that means nothing, the references to leaves that it proves, and the first place of
--- a reference to none
+-- a `using` with the choices and claims of its uses, the first place of one that means nothing, the references to leaves that it proves, the first place of
+-- a reference to none, and the names in its braces
 pub record Said : Type 0 where
   pub using : FlatUsing
   pub picks : List (ℕ × Pick)
@@ -31,13 +31,14 @@ pub record Said : Type 0 where
   pub unknown : Option ℕ
   pub proved : List (Ref × Leaf)
   pub no_leaf : Option ℕ
+  pub kept : List Kept
 
 abbrev pub pair_of : Proved → Ref × Leaf
 pair_of x = (x.of.now, x.leaf.now)
 
 -- what is held, and what is to be held
 abbrev pub reading : Reading → Said
-reading x = record { using = x.using.now; picks = x.found.picks; claims = x.found.claims; unknown = x.found.unknown; proved = map pair_of x.proved.leaves.items; no_leaf = x.proved.no_leaf }
+reading x = record { using = x.using.now; picks = x.found.picks; claims = x.found.claims; unknown = x.found.unknown; proved = map pair_of x.proved.leaves.items; no_leaf = x.proved.no_leaf; kept = x.kept.items }
 
 abbrev pub reading_in : Design → List Leaf → FlatUsing → Said
 reading_in d leaves using = record {
@@ -47,6 +48,7 @@ reading_in d leaves using = record {
   unknown = least (flat_map (unknown_by d) using.uses);
   proved = flat_map (proved_one leaves) using.proves;
   no_leaf = least (flat_map (unknown_one leaves) using.proves);
+  kept = flat_map (kept_one (sets_of d)) using.uses;
 }
 
 -- ---- faults
@@ -100,7 +102,7 @@ names_held leaf p = bytes_eq (named_by p.of) leaf.name
 module _ (d : Design) (units : List FlatUnit) where
   abbrev pub choice_held : Leaf → Option Proving → Choice
   choice_held leaf None = nothing_used
-  choice_held leaf (Some p) = choice_with (own_map d units leaf) (without_places p.by.picks) (without_places p.by.claims) (flat_map (keep_by d p.of) (braces_in p.by.using.uses))
+  choice_held leaf (Some p) = choice_with (own_map d units leaf) (without_places p.by.picks) (without_places p.by.claims) (map (keep_with p.of) p.by.kept)
 
   abbrev pub choice_of : List Proving → Leaf → Choice
   choice_of all leaf = choice_held leaf (find (names_held leaf) all)

@@ -98,8 +98,7 @@ fn choice_from(
     ensures { IfOk result (λ choice. choice ≡ choice_held tables.now.design.now units.now leaf.now (Some (proof_held proof.entry))) }
 {
     let own = own_map(tables.design, units, leaf);
-    let uses = proof.by.using.uses.as_slice();
-    let keeps = all_keeps(alloc, tables, proof.of, uses)?;
+    let keeps = all_keeps(alloc, proof.of, proof.by.kept.as_slice())?;
     let found = &proof.by.found;
     gathered(
         alloc,

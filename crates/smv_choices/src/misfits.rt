@@ -1,5 +1,5 @@
 // Names of a `using` that do not fit.
-ghost use Rattle.std.specs.Prelude.{◌≡◌, ◌++◌, [], map, flat_map, zip, not, IfOk, OnOk};
+ghost use Rattle.std.specs.Prelude.{◌≡◌, ◌++◌, [], map, flat_map, zip, not, false, slice_index_or, IfOk, OnOk};
 ghost use Rattle.smv_instances.specs.NameFaults as faults;
 ghost use Rattle.smv_scope.specs.ScopeFault.{least};
 ghost use Rattle.smv_abstraction.specs.Cases as cases;
@@ -57,25 +57,71 @@ fn fits(set: u16, proved: &[Proved], word: &Word) -> bool
     true
 }
 
+// What is known at a place.
+fn fit_at(fit: &[bool], place: usize) -> bool
+    ensures { result ≡ slice_index_or fit.now place false }
+{
+    fit.get(place).copied().unwrap_or(false)
+}
+
+// Whether a word is one of each leaf that is proved. What was found of its name is known, and what is found is noted.
+fn noted_fit<'a>(
+    known: &mut NameIndex<'a>,
+    fit: &mut Vec<bool>,
+    set: u16,
+    proved: &[Proved],
+    word: &'a Word,
+) -> Result<bool, AllocError>
+    requires { fit.old.items ≡ map (parts.fits_name set (map pair_of proved.now)) known.old }
+    ensures fits { IfOk result (λ is_fit. is_fit ≡ parts.fits set (map pair_of proved.now) word.now) }
+    ensures known { OnOk result (fit.new.items ≡ map (parts.fits_name set (map pair_of proved.now)) known.new) }
+{
+    match known.find(&word.name) {
+        Some(place) => Ok(fit_at(fit.as_slice(), place)),
+        None => {
+            let is_fit = fits(set, proved, word);
+            known.push(&word.name)?;
+            fit.push(is_fit)?;
+            Ok(is_fit)
+        }
+    }
+}
+
 // The first of these names that is none.
 #[tactic(auto, using(smv_scope::proofs::LeastLaws::leasts))]
-fn first_unfit(set: u16, proved: &[Proved], names: &[Word]) -> Option<u32>
-    ensures { result ≡ least (flat_map (λ word. faults.place_if (not (parts.fits set (map pair_of proved.now) word)) word.at) names.now) }
+fn first_unfit(
+    alloc: Global,
+    set: u16,
+    proved: &[Proved],
+    names: &[Word],
+) -> Result<Option<u32>, AllocError>
+    ensures { IfOk result (λ place. place ≡ least (flat_map (λ word. faults.place_if (not (parts.fits set (map pair_of proved.now) word)) word.at) names.now)) }
 {
+    let mut known = NameIndex::new(alloc);
+    let mut fit = Vec::new(alloc);
     let mut found = None;
     for word in names {
-        found = first_of(found, place_if(!fits(set, proved, word), word.at));
+        let is_fit = noted_fit(&mut known, &mut fit, set, proved, word)?;
+        found = first_of(found, place_if(!is_fit, word.at));
     }
-    found
+    Ok(found)
 }
 
 // The first misfit in one use.
-fn braces_misfit(sets: &NameIndex, proved: &[Proved], x: &Use) -> Result<Option<u32>, AllocError>
+fn braces_misfit(
+    alloc: Global,
+    sets: &NameIndex,
+    proved: &[Proved],
+    x: &Use,
+) -> Result<Option<u32>, AllocError>
     ensures { IfOk result (λ place. place ≡ parts.braces_misfit sets.now (map pair_of proved.now) x.now) }
 {
     match x {
         Use::Keep { set, names, .. } => match number_of(sets, &set.name)? {
-            Some(number) => Ok(first_unfit(number, proved, names.as_slice())),
+            Some(number) => {
+                let place = first_unfit(alloc, number, proved, names.as_slice())?;
+                Ok(place)
+            }
             None => Ok(Some(set.at)),
         },
         Use::Plain { .. } => Ok(None),
@@ -86,6 +132,7 @@ fn braces_misfit(sets: &NameIndex, proved: &[Proved], x: &Use) -> Result<Option<
 // The first misfit in some uses.
 #[tactic(auto, using(smv_scope::proofs::LeastLaws::leasts))]
 fn first_braces_misfit(
+    alloc: Global,
     sets: &NameIndex,
     proved: &[Proved],
     uses: &[Use],
@@ -94,7 +141,7 @@ fn first_braces_misfit(
 {
     let mut found = None;
     for x in uses {
-        let place = braces_misfit(sets, proved, x)?;
+        let place = braces_misfit(alloc, sets, proved, x)?;
         found = first_of(found, place);
     }
     Ok(found)
@@ -161,7 +208,12 @@ pub fn misfit_in(alloc: Global, tables: &Tables, x: &Reading) -> Result<Option<u
     requires { AreTables tables.now }
     ensures { IfOk result (λ place. place ≡ readings.misfit_in tables.now.design.now (reading x.now)) }
 {
-    let braces = first_braces_misfit(&tables.sets, &x.proved.leaves, x.using.uses.as_slice())?;
+    let braces = first_braces_misfit(
+        alloc,
+        &tables.sets,
+        &x.proved.leaves,
+        x.using.uses.as_slice(),
+    )?;
     let names = first_misnamed(alloc, x.using.bound.as_slice(), &x.proved.leaves)?;
     Ok(first_of(braces, names))
 }

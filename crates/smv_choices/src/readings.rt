@@ -8,6 +8,7 @@ ghost use Rattle.smv_choices.specs.Parts as parts;
 ghost use Rattle.smv_choices.specs.Readings.{reading, reading_in, pair_of};
 
 use crate::found::{Found, all_uses};
+use crate::keeps::{Kept, all_kept};
 use crate::tables::Tables;
 use name_index::NameIndex;
 use smv_core::flat::{FlatUsing, Leaf};
@@ -30,12 +31,13 @@ pub struct ProvedBy<'a> {
     pub no_leaf: Option<u32>,
 }
 
-/// A `using` with what it uses and what it proves.
+/// A `using` with what it uses and what it proves, and the names in its braces.
 #[derive(Drop)]
 pub struct Reading<'a> {
     pub using: &'a FlatUsing,
     pub found: Found,
     pub proved: ProvedBy<'a>,
+    pub kept: Vec<Kept<'a>>,
 }
 
 // The names of the leaves.
@@ -133,10 +135,12 @@ fn read<'a>(
 {
     let found = all_uses(alloc, tables, proving.uses.as_slice())?;
     let proved = proved_by(alloc, leaves, index, proving.proves.as_slice())?;
+    let kept = all_kept(alloc, &tables.sets, proving.uses.as_slice())?;
     Ok(Reading {
         using: proving,
         found,
         proved,
+        kept,
     })
 }
 

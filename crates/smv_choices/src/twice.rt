@@ -1,9 +1,10 @@
 // What is said twice in a `using`.
-ghost use Rattle.std.specs.Prelude.{◌≡◌, ◌++◌, [], map, true, option_copied, IfOk, OnOk};
+ghost use Rattle.std.specs.Prelude.{◌≡◌, ◌++◌, ℕ, [], map, true, not, cond, nat_eq, None, if◌then◌else◌, option_copied, IfOk, OnOk};
 ghost use Rattle.std.specs.Str.{bytes_eq};
 ghost use Rattle.smv_scope.specs.ScopeFault.{least};
 ghost use Rattle.smv_references.specs.Again.{again, same_key, placed};
-ghost use Rattle.smv_choices.specs.Held.{AreTables};
+ghost use Rattle.smv_uses.specs.Choices.{own_map};
+ghost use Rattle.smv_choices.specs.Held.{AreTables, is_seen};
 ghost use Rattle.smv_choices.specs.Parts as parts;
 ghost use Rattle.smv_choices.specs.Readings as readings;
 ghost use Rattle.smv_choices.specs.Readings.{reading, pair_of};
@@ -12,12 +13,13 @@ use crate::own::{is_own, own_map};
 use crate::readings::{Proved, Reading};
 use crate::tables::Tables;
 use name_index::NameIndex;
-use smv_core::flat::{Assumed, Def, Pick, Unit};
+use smv_core::flat::{Assumed, Def, Leaf, Pick, Unit};
 use smv_core::name::Name;
 use smv_core::tree::Use;
 use smv_references::again::{first_again, first_name_again};
 use smv_scope::places::first_of;
 use std::alloc::{AllocError, Global};
+use std::collections::HashSet;
 
 // A place with a number, or with two.
 type Key = (u32, (u16, Option<u16>));
@@ -146,6 +148,35 @@ fn are_one(place: Option<u32>, other: Option<u32>) -> bool
     }
 }
 
+// Notes a unit. Whether it was not noted before.
+fn note_unit(seen: &mut HashSet<u16>, unit: u16) -> Result<bool, AllocError>
+    ensures is_new { IfOk result (λ is_new. is_new ≡ not (is_seen seen.old unit)) }
+    ensures seen { OnOk result ((other : ℕ) → is_seen seen.new other ≡ cond (nat_eq unit other) true (is_seen seen.old other)) }
+{
+    let is_new = seen.insert(unit)?;
+    Ok(is_new)
+}
+
+// The same for a leaf, where none of its unit was looked at before.
+fn chosen_anew(
+    alloc: Global,
+    units: &[Unit],
+    tables: &Tables,
+    seen: &mut HashSet<u16>,
+    picks: &[(u32, Pick)],
+    leaf: &Leaf,
+) -> Result<Option<u32>, AllocError>
+    ensures place { IfOk result (λ place. place ≡ (if is_seen seen.old leaf.now.unit then None else parts.chosen_again (own_map tables.now.design.now units.now leaf.now) picks.now)) }
+    ensures seen { OnOk result ((other : ℕ) → is_seen seen.new other ≡ cond (nat_eq leaf.now.unit other) true (is_seen seen.old other)) }
+{
+    if !note_unit(seen, leaf.unit)? {
+        return Ok(None);
+    }
+    let own = own_map(tables.design, units, leaf);
+    let place = chosen_again(alloc, own, picks)?;
+    Ok(place)
+}
+
 // The same for all leaves that are proved. None has an earlier place than there is without maps of their own, so most often the first leaf decides.
 #[tactic(auto, using(crate::proofs::FaultLaws::bounds))]
 fn chosen_for_each(
@@ -161,10 +192,10 @@ fn chosen_for_each(
     if bound.is_none() {
         return Ok(None);
     }
+    let mut seen = HashSet::new(alloc);
     let mut found = None;
     for x in proved {
-        let own = own_map(tables.design, units, x.leaf);
-        let place = chosen_again(alloc, own, picks)?;
+        let place = chosen_anew(alloc, units, tables, &mut seen, picks, x.leaf)?;
         found = first_of(found, place);
         if are_one(found, bound) {
             return Ok(found);

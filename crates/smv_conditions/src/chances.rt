@@ -1,5 +1,5 @@
 // Which truth values are possible, as three conditions.
-ghost use Rattle.std.specs.Prelude.{◌≡◌, ℕ, Bool, true, false, IfOk, [], ◌∷◌, map};
+ghost use Rattle.std.specs.Prelude.{◌≡◌, ℕ, Bool, true, false, IfOk, [], ◌∷◌, ◌++◌, map};
 ghost use Rattle.smv_conditions.specs.Keep.{KeepsConditions};
 ghost use Rattle.law_outcomes.specs.Mix.{none_at_all, only_yes, not_mix, and_mix, or_mix, implies_mix, iff_mix};
 ghost use Rattle.smv_conditions.specs.Chain.{joined, chain, AllMade};
@@ -171,31 +171,29 @@ pub fn chain_of<S: Conditions>(
     ensures made { IfOk result (λ z. AreMade (S.IsMade s.new) z) }
     ensures mix { IfOk result (λ z. (a : ℕ → Bool) → mix_at S.holds s.new a z ≡ chain how (map (mix_at S.holds s.old a) each.now)) }
 {
-    let Some((first, others)) = each.split_first() else {
+    let Some((last, before)) = each.split_last() else {
         return Ok(empty(s, how));
     };
-    let z = chain_after(s, alloc, how, *first, others)?;
-    Ok(z)
+    chain_before(s, alloc, how, before, *last)
 }
 
-// A chain that begins with this part.
-fn chain_after<S: Conditions>(
+// A chain that ends with this part: from the last part to the first, so that a long row takes no stack.
+fn chain_before<S: Conditions>(
     s: &mut S,
     alloc: Global,
     how: Join,
-    first: Chances<S::Condition>,
-    others: &[Chances<S::Condition>],
+    before: &[Chances<S::Condition>],
+    last: Chances<S::Condition>,
 ) -> Result<Chances<S::Condition>, AllocError>
-    requires first { AreMade (S.IsMade s.old) first }
-    requires made { AllMade (S.IsMade s.old) others.now }
+    requires made { AllMade (S.IsMade s.old) before.now }
+    requires last { AreMade (S.IsMade s.old) last }
     ensures keeps { KeepsConditions S.IsMade S.holds S.room s.old s.new }
     ensures made { IfOk result (λ z. AreMade (S.IsMade s.new) z) }
-    ensures mix { IfOk result (λ z. (a : ℕ → Bool) → mix_at S.holds s.new a z ≡ chain how (map (mix_at S.holds s.old a) (first ∷ others.now))) }
+    ensures mix { IfOk result (λ z. (a : ℕ → Bool) → mix_at S.holds s.new a z ≡ chain how (map (mix_at S.holds s.old a) (before.now ++ last ∷ []))) }
 {
-    let Some((next, rest)) = others.split_first() else {
-        return Ok(first);
-    };
-    let y = chain_after(s, alloc, how, *next, rest)?;
-    let z = joined_by(s, alloc, how, first, y)?;
-    Ok(z)
+    let mut sum = last;
+    for place in (0..before.len()).rev() {
+        sum = joined_by(s, alloc, how, before[place], sum)?;
+    }
+    Ok(sum)
 }

@@ -45,7 +45,7 @@ use Rattle.smv_typed_spots.proofs.TypedLaws.{indexes_placed, spots_placed}
 use Rattle.smv_walks.specs.declared.walks.Way.{Way}
 use Rattle.smv_walks.specs.declared.walks.Way.TheVariants.{May, Must}
 use Rattle.smv_demands.specs.Demands.{view_of, at_before, HaveValues, IsReadBefore, AreRead, AreOldMade, IsDemand, IsTargetOf, IsDemanded, IsGuard, guard_test}
-use Rattle.smv_demands.specs.Given.{now_in, next_in, IsSoOf, IsGiven, IsTargets, IsWritten, IsMapBroken}
+use Rattle.smv_demands.specs.Given.{aim_at, now_in, next_in, IsSoOf, IsGivenAt, IsGiven, IsTargets, IsWritten, IsMapBroken}
 use Rattle.smv_demands.proofs.GivenLaws.{possible-comb, possible-init, possible-next}
 
 -- which truth values a claim may have
@@ -65,44 +65,36 @@ element_of : (p : Case) (now : (ℕ → Bool) → AbsState) → HaveValues p now
 unfolding view_of
 element_of p now values family indexes kept = record { kept = kept; of_type = λ a. values a family indexes kept }
 
--- a target of now, with the view of the state before
-abbrev before_aim : Case → ((ℕ → Bool) → AbsState) → ((ℕ → Bool) → AbsState) → ℕ → List Place → Aim
-before_aim p before now family indexes = record { view = view_of p before; indexes = indexes; every = places_of_family p.world p.kept (slice_get p.world.classes.families family); value = λ a. now a family indexes }
-
 module _ {S C : Type 0} (holds : S → C → (ℕ → Bool) → Bool) (s t : S) (problem : Problem) (cells : List (Cell C)) (x : Target C) (way : Way) (family : ℕ) (init next comb : Flat) where
-  abbrev Asked : Case → Def → List Place → ((ℕ → Bool) → AbsState) → Type 0
+  abbrev Asked : Case → Def → List Place → ((ℕ → Bool) → AbsState) → ((ℕ → Bool) → Place) → Type 0
   Asked = IsTargets holds s x family init next comb
 
-  -- the definition's family is the demand's
-  as_family : (p : Case) (now : (ℕ → Bool) → AbsState) (def : Def) (indexes : List Place) → def.family ≡ family → IsTarget holds s x (aim_of (view_of p now) family indexes) → IsTarget holds s x (aim_of (view_of p now) def.family indexes)
-  as_family p now def indexes e h = subst (λ f. IsTarget holds s x (aim_of (view_of p now) f indexes)) (sym e) h
-
-  pub comb_given : (old : Option (List (Cell C))) (b : Bool) (r : C) (shown : List Spot) → shown ≡ x.indexes → ((n : Numbered) → b ≡ concerns_place comb (map (place_in n) shown)) → b ≡ true → IsSo holds s t problem cells x (now_in way comb) r → IsGiven holds s t problem old cells way Asked r
-  unfolding IsGiven IsSo view_of
-  comb_given old b r shown e concerned yes_it is p before now read def indexes demand asked a =
-      let target : IsTarget holds s x (aim_of (view_of p now) def.family indexes) = as_family p now def indexes asked.definition.family asked.target in
-      let z : Aim = aim_of (view_of p now) def.family indexes in
+  pub comb_given : (old : Option (List (Cell C))) (b : Bool) (r : C) (shown : List Spot) → shown ≡ x.indexes → ((n : Numbered) → b ≡ concerns_place comb (map (place_in n) shown)) → b ≡ true → IsSo holds s t problem cells x (now_in way comb) r → IsGivenAt holds s t problem old cells way Asked r
+  unfolding IsGivenAt IsSo view_of
+  comb_given old b r shown e concerned yes_it is p before now read def indexes value demand asked a =
+      let target : IsTarget holds s x (aim_at (view_of p now) def.family indexes value) = asked.target in
+      let z : Aim = aim_at (view_of p now) def.family indexes value in
       is z (record { seen = read.now; target = target }) a
       ∙ (ap (λ (part : Flat). now_in way part z a) (sym asked.definition.comb)
       ∙ sym (possible-comb way z a def (at_before before a) (ap (λ (part : Flat). concerns_place part indexes) asked.definition.comb ∙ (ap (concerns_place comb) (sym (ap (map (place_in p.world.classes)) e ∙ target.indexes)) ∙ (sym (concerned p.world.classes) ∙ yes_it)))))
 
-  pub init_given : (old : Option (List (Cell C))) (b : Bool) (r : C) (shown : List Spot) → old ≡ None → shown ≡ x.indexes → ((n : Numbered) → b ≡ concerns_place comb (map (place_in n) shown)) → b ≡ false → IsSo holds s t problem cells x (now_in way init) r → IsGiven holds s t problem old cells way Asked r
-  unfolding IsGiven IsSo view_of
-  init_given old b r shown none e concerned not_it is p None now read def indexes demand asked a =
-      let target : IsTarget holds s x (aim_of (view_of p now) def.family indexes) = as_family p now def indexes asked.definition.family asked.target in
-      let z : Aim = aim_of (view_of p now) def.family indexes in
+  pub init_given : (old : Option (List (Cell C))) (b : Bool) (r : C) (shown : List Spot) → old ≡ None → shown ≡ x.indexes → ((n : Numbered) → b ≡ concerns_place comb (map (place_in n) shown)) → b ≡ false → IsSo holds s t problem cells x (now_in way init) r → IsGivenAt holds s t problem old cells way Asked r
+  unfolding IsGivenAt IsSo view_of
+  init_given old b r shown none e concerned not_it is p None now read def indexes value demand asked a =
+      let target : IsTarget holds s x (aim_at (view_of p now) def.family indexes value) = asked.target in
+      let z : Aim = aim_at (view_of p now) def.family indexes value in
       is z (record { seen = read.now; target = target }) a
       ∙ (ap (λ (part : Flat). now_in way part z a) (sym asked.definition.init)
       ∙ sym (possible-init way z a def (ap (λ (part : Flat). concerns_place part indexes) asked.definition.comb ∙ (ap (concerns_place comb) (sym (ap (map (place_in p.world.classes)) e ∙ target.indexes)) ∙ (sym (concerned p.world.classes) ∙ not_it)))))
-  init_given old b r shown none e concerned not_it is p (Some before) now read def indexes demand asked a = absurd (subst (λ o. IsReadBefore holds s problem o p (Some before)) none read.before)
+  init_given old b r shown none e concerned not_it is p (Some before) now read def indexes value demand asked a = absurd (subst (λ o. IsReadBefore holds s problem o p (Some before)) none read.before)
 
   pub next_given : (old : Option (List (Cell C))) (before_cells : List (Cell C)) (b : Bool) (r : C) (shown : List Spot) → old ≡ Some before_cells → shown ≡ x.indexes → ((n : Numbered) → b ≡ concerns_place comb (map (place_in n) shown)) → b ≡ false → IsSoOf holds s t problem before_cells x family (next_in way family next) r →
-      IsGiven holds s t problem old cells way Asked r
-  unfolding IsGiven IsSoOf view_of
-  next_given old before_cells b r shown some e concerned not_it is p None now read def indexes demand asked a = absurd (subst (λ o. IsReadBefore holds s problem o p None) some read.before)
-  next_given old before_cells b r shown some e concerned not_it is p (Some before) now read def indexes demand asked a =
-      let target : IsTarget holds s x (aim_of (view_of p now) def.family indexes) = as_family p now def indexes asked.definition.family asked.target in
-      let z : Aim = before_aim p before now def.family indexes in
+      IsGivenAt holds s t problem old cells way Asked r
+  unfolding IsGivenAt IsSoOf view_of
+  next_given old before_cells b r shown some e concerned not_it is p None now read def indexes value demand asked a = absurd (subst (λ o. IsReadBefore holds s problem o p None) some read.before)
+  next_given old before_cells b r shown some e concerned not_it is p (Some before) now read def indexes value demand asked a =
+      let target : IsTarget holds s x (aim_at (view_of p now) def.family indexes value) = asked.target in
+      let z : Aim = aim_at (view_of p before) def.family indexes value in
       let seen_before : IsReadBefore holds s problem (Some before_cells) p (Some before) = subst (λ o. IsReadBefore holds s problem o p (Some before)) some read.before in
       let is_of : IsSoOf holds s t problem before_cells x def.family (next_in way def.family next) r = subst (λ f. IsSoOf holds s t problem before_cells x f (next_in way f next) r) (sym asked.definition.family) is in
       is_of z (record { seen = seen_before.0; target = record { indexes = target.indexes; every = target.every; held = target.held; always = target.always; never = target.never; of_type = target.of_type } }) (element_of p before seen_before.1 def.family indexes demand.0) refl a
@@ -132,8 +124,8 @@ module _ {S C : Type 0} (IsMade : S → C → Type 0) (holds : S → C → (ℕ 
 
   pub element_given : (s0 s1 s2 : S) → KeepsConditions IsMade holds room s0 s1 → (problem : Problem) (old : Option (List (Cell C))) (cells : List (Cell C)) → AreOldMade (IsMade s0) old → AreCellsMade (IsMade s0) cells → (way : Way) (element : Element) (init next comb : Flat) (spots : List Spot) (x : Target C) (r : C) →
       spots ≡ class_spots (over_of (slice_get problem.families element.family)) element.indexes → ((v : View) → IsSeen holds s0 problem cells v → (ps : List Place) → map (place_in v.world.classes) spots ≡ ps → IsElementOf v element.family ps → IsTarget holds s1 x (aim_of v element.family ps)) →
-      IsGiven holds s1 s2 problem old cells way (IsTargets holds s1 x element.family init next comb) r → IsGiven holds s0 s2 problem old cells way (IsWritten element init next comb) r
-  unfolding IsGiven
+      IsGivenAt holds s1 s2 problem old cells way (IsTargets holds s1 x element.family init next comb) r → IsGiven holds s0 s2 problem old cells way (IsWritten element init next comb) r
+  unfolding IsGivenAt IsGiven view_of
   element_given s0 s1 s2 k problem old cells old_made cells_made way element init next comb spots x r are_spots target is p before now read def indexes demand asked a =
       let w : World = p.world in
       let types : List Simple = over_of (slice_get w.classes.families def.family) in
@@ -142,8 +134,9 @@ module _ {S C : Type 0} (IsMade : S → C → Type 0) (holds : S → C → (ℕ 
       ∙ (ap (λ f. class_spots (over_of (slice_get w.classes.families f)) element.indexes) (sym asked.0.family) ∙ ap (class_spots types) asked.1)))
       ∙ indexes_placed w types indexes demand.1 demand.2 in
       let kept : p.kept element.family indexes ≡ true = ap (λ f. p.kept f indexes) (sym asked.0.family) ∙ demand.0 in
-      is p before now (read_on s0 s1 problem old cells p before now k old_made cells_made read) def indexes demand
-      (record { definition = asked.0; target = target (view_of p now) read.now indexes (as_placed spots indexes p now placed) (element_of p now read.values element.family indexes kept) }) a
+      let of_element : IsTarget holds s1 x (aim_of (view_of p now) element.family indexes) = target (view_of p now) read.now indexes (as_placed spots indexes p now placed) (element_of p now read.values element.family indexes kept) in
+      is p before now (read_on s0 s1 problem old cells p before now k old_made cells_made read) def indexes (λ v. now v def.family indexes) demand
+      (record { definition = asked.0; target = subst (λ f. IsTarget holds s1 x (aim_of (view_of p now) f indexes)) (sym asked.0.family) of_element }) a
 
 -- ---- demands as they are written
 

@@ -15,7 +15,8 @@ use Rattle.smv_problem.specs.Written.{written_class}
 use Rattle.smv_cells.specs.declared.cells.Cell.{Cell}
 use Rattle.smv_targets.specs.declared.targets.Target.{Target}
 use Rattle.smv_targets.specs.Targets.{Aim, IsAim, IsTarget, exactly}
-use Rattle.smv_cell_targets.specs.CellTargets.{IsElementOf, aim_of}
+use Rattle.smv_cells.specs.Seen.{View}
+use Rattle.smv_cell_targets.specs.CellTargets.{IsElementOf}
 use Rattle.smv_walks.specs.declared.walks.Way.{Way}
 use Rattle.smv_walks.specs.declared.walks.Way.TheVariants.{May, Must}
 use Rattle.smv_walks.specs.Walks.{asked, allowed}
@@ -25,6 +26,10 @@ use Rattle.smv_demands.specs.Demands.{view_of, at_before, AreRead, IsDemand, IsT
 abbrev pub passes_or : {X : Type 0} → (X → Bool) → Bool → Option X → Bool
 passes_or f b None = b
 passes_or f b (Some x) = f x
+
+-- an element of a view that is asked about this value, whatever its own is
+abbrev pub aim_at : View → ℕ → List Place → ((ℕ → Bool) → Place) → Aim
+aim_at v family ps value = record { view = v; indexes = ps; every = places_of_family v.world v.kept (slice_get v.world.classes.families family); value = value }
 
 -- some possible result of a part passes what is asked, where Nothing does so by `b`
 unfoldable pub gives_in : Way → Aim → (ℕ → Bool) → Flat → Bool → Bool
@@ -68,15 +73,20 @@ module _ {S C : Type 0} (holds : S → C → (ℕ → Bool) → Bool) (start s :
   unfoldable pub IsSoOf : List (Cell C) → Target C → ℕ → (Aim → (ℕ → Bool) → Bool) → C → Type 0
   IsSoOf cells t family is r = (z : Aim) → IsAim holds start problem cells t z → IsElementOf z.view family z.indexes → z.every ≡ places_of_family z.view.world z.view.kept (slice_get z.view.world.classes.families family) → (a : ℕ → Bool) → holds s r a ≡ is z a
 
-  -- a condition, made later, holds where the definition of an element of a case may give it its value, or not for certain
+  -- a condition, made later, holds where the definition of an element of a case may give it this value, or not for certain
+  unfoldable pub IsGivenAt : Option (List (Cell C)) → List (Cell C) → Way → (Case → Def → List Place → ((ℕ → Bool) → AbsState) → ((ℕ → Bool) → Place) → Type 0) → C → Type 0
+  IsGivenAt old cells way Asked r = (p : Case) (before : Option ((ℕ → Bool) → AbsState)) (now : (ℕ → Bool) → AbsState) → AreRead holds start problem old cells p before now → (def : Def) (indexes : List Place) (value : (ℕ → Bool) → Place) → IsDemand p (defined def indexes) → Asked p def indexes now value →
+      (a : ℕ → Bool) → holds s r a ≡ possible way p.world p.kept def indexes (places_of_family p.world p.kept (slice_get p.world.classes.families def.family)) (at_before before a) (now a) (value a)
+
+  -- the same of the value that the element has now
   unfoldable pub IsGiven : Option (List (Cell C)) → List (Cell C) → Way → (Case → Def → List Place → ((ℕ → Bool) → AbsState) → Type 0) → C → Type 0
   IsGiven old cells way Asked r = (p : Case) (before : Option ((ℕ → Bool) → AbsState)) (now : (ℕ → Bool) → AbsState) → AreRead holds start problem old cells p before now → (def : Def) (indexes : List Place) → IsDemand p (defined def indexes) → Asked p def indexes now →
       (a : ℕ → Bool) → holds s r a ≡ possible way p.world p.kept def indexes (places_of_family p.world p.kept (slice_get p.world.classes.families def.family)) (at_before before a) (now a) (now a def.family indexes)
 
--- the element is that of a target, or is written so
-pub record IsTargets {S C : Type 0} (holds : S → C → (ℕ → Bool) → Bool) (start : S) (t : Target C) (family : ℕ) (init next comb : Flat) (p : Case) (def : Def) (indexes : List Place) (now : (ℕ → Bool) → AbsState) : Type 0 where
+-- the element and the value are those of a target, or the element is written so
+pub record IsTargets {S C : Type 0} (holds : S → C → (ℕ → Bool) → Bool) (start : S) (t : Target C) (family : ℕ) (init next comb : Flat) (p : Case) (def : Def) (indexes : List Place) (now : (ℕ → Bool) → AbsState) (value : (ℕ → Bool) → Place) : Type 0 where
   pub definition : IsDefinition family init next comb def
-  pub target : IsTarget holds start t (aim_of (view_of p now) family indexes)
+  pub target : IsTarget holds start t (aim_at (view_of p now) def.family indexes value)
 
 abbrev pub IsWritten : Element → Flat → Flat → Flat → Case → Def → List Place → ((ℕ → Bool) → AbsState) → Type 0
 IsWritten element init next comb p def indexes now = IsDefinition element.family init next comb def × (element.indexes ≡ map written_class indexes)

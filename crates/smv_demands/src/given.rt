@@ -7,7 +7,7 @@ ghost use Rattle.smv_conditions.specs.Offers.{AreOffersMade, any_offer};
 ghost use Rattle.smv_cells.specs.Cells.{AreCellsMade};
 ghost use Rattle.smv_targets.specs.Targets.{Aim, IsTarget, IsTargetMade, IsSo};
 ghost use Rattle.smv_demands.specs.Demands.{AreOldMade};
-ghost use Rattle.smv_demands.specs.Given.{gives_in, keeps_asked, nothing_in, next_in, now_in, IsSoOf, IsGiven, IsTargets, IsWritten};
+ghost use Rattle.smv_demands.specs.Given.{gives_in, keeps_asked, nothing_in, next_in, now_in, IsSoOf, IsGivenAt, IsGiven, IsTargets, IsWritten};
 
 use smv_cell_targets::{places_for, target_of, value_of};
 use smv_cells::Cell;
@@ -147,8 +147,8 @@ fn now_gives<S: Conditions>(
     Ok(r)
 }
 
-// Whether the definition of the target's element passes what is asked.
-fn target_gives<S: Conditions>(
+/// Whether the definition of the target's element may allow the target's value, or doesn't allow it for certain.
+pub fn target_gives<S: Conditions>(
     s: &mut S,
     alloc: Global,
     problem: &Problem,
@@ -166,7 +166,7 @@ fn target_gives<S: Conditions>(
     requires target_made { IsTargetMade (S.IsMade s.old) target.now }
     ensures keeps { KeepsConditions S.IsMade S.holds S.room s.old s.new }
     ensures made { IfOk result (λ r. S.IsMade s.new r) }
-    ensures is { IfOk result (λ r. IsGiven S.holds s.old s.new problem.entry.now (option_copied old.entry) cells.now way (IsTargets S.holds s.old target.now family init.now next.now comb.now) r) }
+    ensures is { IfOk result (λ r. IsGivenAt S.holds s.old s.new problem.entry.now (option_copied old.entry) cells.now way (IsTargets S.holds s.old target.now family init.now next.now comb.now) r) }
 {
     if concerns(comb, target.indexes.as_slice()) {
         let r = now_gives(s, alloc, problem, cells, target, way, comb)?;

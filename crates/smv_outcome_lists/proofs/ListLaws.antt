@@ -1,10 +1,13 @@
 -- Outcomes of several members.
-use Rattle.std.proofs.Common.{◌≡◌, ◌≤◌, ℕ, take, List, [], ◌∷◌, ◌++◌, map, length, Some, Bool, true, false, ◌&&◌, ◌||◌, refl, sym, ap, ◌∙◌, arith, subst}
+use Rattle.std.proofs.Common.{◌≡◌, ◌≤◌, ◌<◌, ◌-◌, ℕ, zero, suc, Option, drop, get_or, take, List, [], ◌∷◌, ◌++◌, map, length, Some, Bool, true, false, ◌&&◌, ◌||◌, refl, sym, ap, ◌∙◌, arith, subst}
 use Rattle.std.proofs.lemmas.List.{take_all}
+use Rattle.std.proofs.Math.Seq.{drop-cons}
 use Rattle.smv_core.specs.Flat.{Numbered}
 use Rattle.smv_core.specs.declared.tree.Op.TheVariants.{Equal}
 use Rattle.smv_core.specs.Values.{number}
-use Rattle.smv_abstraction.specs.Places.{named, AbsOutcome}
+use Rattle.smv_abstraction.specs.Places.{named, AbsOutcome, World}
+use Rattle.smv_problem.specs.declared.problem.Problem.{Problem}
+use Rattle.smv_problem_spots.specs.Worlds.{IsWorldOf}
 use Rattle.smv_spots.specs.declared.spots.Spot.{Spot}
 use Rattle.smv_spots.specs.declared.places.Sort.TheVariants as sort
 use Rattle.smv_spots.specs.Spots.{place_in, outcome_in, spot_of}
@@ -34,11 +37,6 @@ module _ {S C : Type 0} (IsMade : S → C → Type 0) (holds : S → C → (ℕ 
   first_list s t us shown rest uss e f k m = let h = subst (AreListsMade (IsMade s)) e m in subst (AreOffersMade (IsMade t)) (sym f) (offers_kept IsMade holds room s t us k h.0)
 
 module _ {S C : Type 0} (n : Numbered) (holds : S → C → (ℕ → Bool) → Bool) (a : ℕ → Bool) where
-  pub none_member : (s t : S) (z : Chances C) (u : AbsOutcome) (vss : List (List (Offer C))) → length vss ≡ 0 → mix_at holds t a z ≡ or_all [] → mix_at holds t a z ≡ member_at n holds s a u vss
-  unfolding member_at
-  none_member s t z u [] e h = h
-  none_member s t z u (vs ∷ vss) e h = absurd (omega arith)
-
   pub none_within : (s t : S) (z : Chances C) (us : List (Offer C)) (vss : List (List (Offer C))) → length us ≡ 0 → mix_at holds t a z ≡ none_at_all → mix_at holds t a z ≡ within_at n holds s a us vss
   unfolding within_at any_offer
   none_within s t z [] vss e h = h
@@ -60,16 +58,6 @@ module _ {S C : Type 0} (n : Numbered) (IsMade : S → C → Type 0) (holds : S 
   member_same : (s t : S) (u : AbsOutcome) (vss : List (List (Offer C))) → KeepsConditions IsMade holds room s t → AreListsMade (IsMade s) vss → member_at n holds t a u vss ≡ member_at n holds s a u vss
   unfolding member_at
   member_same s t u vss k m = ap or_all (all_same s t u vss k m)
-
-  pub more_member : (s mid later t : S) (u : AbsOutcome) (vs shown : List (Offer C)) (rest all : List (List (Offer C))) (x y z : Chances C) → all ≡ vs ∷ rest → shown ≡ vs → KeepsConditions IsMade holds room s mid → KeepsConditions IsMade holds room mid later →
-      AreListsMade (IsMade s) all → AreMade (IsMade mid) x → mix_at holds mid a x ≡ member_at n holds s a u rest → mix_at holds later a y ≡ compare_each n holds mid a Equal u shown →
-      mix_at holds t a z ≡ or_mix (mix_at holds later a y) (mix_at holds later a x) → mix_at holds t a z ≡ member_at n holds s a u all
-  more_member s mid later t u vs shown rest all x y z whole is k l m mx before here made =
-      let h : AreListsMade (IsMade s) (vs ∷ rest) = subst (AreListsMade (IsMade s)) whole m in
-      made
-      ∙ (ap (λ w. or_mix w (mix_at holds later a x)) (here ∙ (ap (compare_each n holds mid a Equal u) is ∙ each_same n IsMade holds room a s mid Equal u vs k h.0))
-      ∙ (ap (or_mix (compare_each n holds s a Equal u vs)) (mix_kept IsMade holds room a mid later x l mx ∙ before)
-      ∙ (one_member n holds a s u vs rest ∙ ap (member_at n holds s a u) (sym whole))))
 
   pub more_within : (s mid later t : S) (u : Offer C) (us all : List (Offer C)) (vss : List (List (Offer C))) (x y z : Chances C) → all ≡ u ∷ us → KeepsConditions IsMade holds room s mid → KeepsConditions IsMade holds room mid later →
       AreOffersMade (IsMade s) all → AreListsMade (IsMade s) vss → AreMade (IsMade mid) x → mix_at holds mid a x ≡ within_at n holds s a us vss → mix_at holds later a y ≡ member_at n holds mid a (outcome_in n u.outcome) vss →
@@ -130,3 +118,63 @@ module _ {S C : Type 0} (n : Numbered) (holds : S → C → (ℕ → Bool) → B
       along : (ks : List ℕ) → map (λ q. p (Some (place_in n q))) (map (spot_of sort.Number) ks) ≡ map (λ k. p (Some (named (number k)))) ks
       along [] = refl
       along (k ∷ ks) = ap (λ l. p (Some (named (number k))) ∷ l) (along ks)
+
+-- What a loop over members keeps, from the last to the first: whether an outcome is equal to some member that was taken.
+pub record Membering {S C : Type 0} (IsMade : S → C → Type 0) (holds : S → C → (ℕ → Bool) → Bool) (room : S → ℕ) (start s : S) (problem : Problem) (u : Option Spot) (taken : List (List (Offer C))) (found : Chances C) : Type 0 where
+  pub keeps : KeepsConditions IsMade holds room start s
+  pub made : AreMade (IsMade s) found
+  pub mix : (w : World) → IsWorldOf problem w → (a : ℕ → Bool) → mix_at holds s a found ≡ member_at w.classes holds start a (outcome_in w.classes u) taken
+
+module _ {S C : Type 0} (IsMade : S → C → Type 0) (holds : S → C → (ℕ → Bool) → Bool) (room : S → ℕ) where
+  pub members_begun : (s : S) (problem : Problem) (u : Option Spot) (vss : List (List (Offer C))) (found : Chances C) → AreMade (IsMade s) found → ((a : ℕ → Bool) → mix_at holds s a found ≡ or_all []) →
+      Membering IsMade holds room s s problem u (drop (length vss) vss) found
+  unfolding member_at
+  members_begun s problem u vss found m e = record {
+    keeps = record { made = λ c k. k; same = λ c k a. refl; stays = refl };
+    made = m;
+    mix = λ w h a. e a ∙ ap (λ l. or_all (map (compare_each w.classes holds s a Equal (outcome_in w.classes u)) l)) (sym (nothing_left vss));
+  }
+    where
+      nothing_left : (l : List (List (Offer C))) → drop (length l) l ≡ []
+      nothing_left [] = refl
+      nothing_left (x ∷ l) = nothing_left l
+
+  pub keeps_after : (start now new : S) → KeepsConditions IsMade holds room start now → KeepsConditions IsMade holds room now new → KeepsConditions IsMade holds room start new
+  keeps_after start now new j k = record { made = λ c d. k.made c (j.made c d); same = λ c d a. k.same c (j.made c d) a ∙ j.same c d a; stays = k.stays ∙ j.stays }
+
+  -- one of the lists, over conditions that stay
+  pub list_made : (start now : S) (vss : List (List (Offer C))) (i : ℕ) (d shown : List (Offer C)) → i < length vss → shown ≡ get_or vss i d → KeepsConditions IsMade holds room start now → AreListsMade (IsMade start) vss → AreOffersMade (IsMade now) shown
+  list_made start now vss i d shown few e k m = subst (AreOffersMade (IsMade now)) (sym e) (at vss i few m)
+    where
+      at : (vss : List (List (Offer C))) (i : ℕ) → i < length vss → AreListsMade (IsMade start) vss → AreOffersMade (IsMade now) (get_or vss i d)
+      at [] i few m = absurd (omega arith)
+      at (vs ∷ vss) zero few m = offers_kept IsMade holds room start now vs k m.0
+      at (vs ∷ vss) (suc i) few m = at vss i (omega arith) m.1
+
+  pub members_go : (start now new : S) (problem : Problem) (u : Option Spot) (vss : List (List (Offer C))) (k : ℕ) (vs shown : List (Offer C)) (found z : Chances C) → 0 < k → k ≤ length vss → vs ≡ get_or vss (k - 1) vs → shown ≡ vs → AreListsMade (IsMade start) vss →
+      Membering IsMade holds room start now problem u (drop k vss) found → KeepsConditions IsMade holds room now new → AreMade (IsMade new) z →
+      ((w : World) → IsWorldOf problem w → (a : ℕ → Bool) → mix_at holds new a z ≡ or_mix (compare_each w.classes holds now a Equal (outcome_in w.classes u) shown) (mix_at holds now a found)) →
+      Membering IsMade holds room start new problem u (drop (k - 1) vss) z
+  members_go start now new problem u vss k vs shown found z some within is e m before kept made mixed = record {
+    keeps = keeps_after start now new before.keeps kept;
+    made = made;
+    mix = λ w h a. mixed w h a
+        ∙ (ap (λ x. or_mix x (mix_at holds now a found)) (ap (compare_each w.classes holds now a Equal (outcome_in w.classes u)) e ∙ each_same w.classes IsMade holds room a start now Equal (outcome_in w.classes u) vs before.keeps (list_made start start vss (k - 1) vs vs (omega arith) is (record { made = λ c j. j; same = λ c j a. refl; stays = refl }) m))
+        ∙ (ap (or_mix (compare_each w.classes holds start a Equal (outcome_in w.classes u) vs)) (before.mix w h a)
+        ∙ (one_member w.classes holds a start (outcome_in w.classes u) vs (drop k vss) ∙ ap (member_at w.classes holds start a (outcome_in w.classes u)) longer)));
+  }
+    where
+      more : k ≡ suc (k - 1)
+      more = omega arith
+
+      longer : vs ∷ drop k vss ≡ drop (k - 1) vss
+      longer = ap (λ n. vs ∷ drop n vss) more ∙ (ap (λ y. y ∷ drop (suc (k - 1)) vss) is ∙ sym (drop-cons vss (k - 1) vs (omega arith)))
+
+  pub members_over : (start now : S) (problem : Problem) (u : Option Spot) (vss : List (List (Offer C))) (k : ℕ) (found : Chances C) → k ≤ 0 → Membering IsMade holds room start now problem u (drop k vss) found →
+      (w : World) → IsWorldOf problem w → (a : ℕ → Bool) → mix_at holds now a found ≡ member_at w.classes holds start a (outcome_in w.classes u) vss
+  members_over start now problem u vss zero found none done w h a = done.mix w h a
+  members_over start now problem u vss (suc k) found none done w h a = absurd (omega arith)
+
+  pub member_more : (n : Numbered) (a : ℕ → Bool) (s mid t : S) (u : AbsOutcome) (vs : List (Offer C)) (found y z : Chances C) → KeepsConditions IsMade holds room s mid → AreMade (IsMade s) found → mix_at holds mid a y ≡ compare_each n holds s a Equal u vs →
+      mix_at holds t a z ≡ or_mix (mix_at holds mid a y) (mix_at holds mid a found) → mix_at holds t a z ≡ or_mix (compare_each n holds s a Equal u vs) (mix_at holds s a found)
+  member_more n a s mid t u vs found y z k m here made = made ∙ (ap (λ x. or_mix x (mix_at holds mid a found)) here ∙ ap (or_mix (compare_each n holds s a Equal u vs)) (mix_kept IsMade holds room a s mid found k m))

@@ -9,6 +9,9 @@ ghost use Rattle.smv_conditions.specs.Keep.{KeepsConditions};
 ghost use Rattle.smv_conditions.specs.Chances.{AreMade, mix_at};
 ghost use Rattle.smv_conditions.specs.Offers.{AreOffersMade, any_offer};
 ghost use Rattle.smv_outcome_lists.specs.Lists.{AreListsMade, member_at, within_at};
+ghost use Rattle.smv_outcome_lists.specs.Pairs.{compare_each};
+ghost use Rattle.law_outcomes.specs.Mix.{or_mix};
+ghost use Rattle.smv_core.specs.declared.tree.Op.TheVariants.{Equal};
 
 use crate::pairs::{compared_each, guarded};
 use smv_conditions::chances::{Chances, Join, either, empty, none};
@@ -21,7 +24,7 @@ use smv_spots::places::{Sort, spots_from};
 use smv_spots::spots::Spot;
 use std::alloc::{AllocError, Global};
 
-// Whether an outcome is equal to some member.
+// Whether an outcome is equal to some member: from the last member to the first, so that a long list takes no stack.
 fn member_of<S: Conditions>(
     s: &mut S,
     alloc: Global,
@@ -34,12 +37,30 @@ fn member_of<S: Conditions>(
     ensures made { IfOk result (λ z. AreMade (S.IsMade s.new) z) }
     ensures mix { IfOk result (λ z. (w : World) → IsWorldOf problem.entry.now w → (a : ℕ → Bool) → mix_at S.holds s.new a z ≡ member_at w.classes S.holds s.old a (outcome_in w.classes u) vss.now) }
 {
-    let Some((vs, rest)) = vss.split_first() else {
-        return Ok(empty(s, Join::Or));
-    };
-    let x = member_of(s, alloc, problem, u, rest)?;
-    let y = compared_each(s, alloc, problem, Op::Equal, u, vs.as_slice())?;
-    let z = either(s, alloc, y, x)?;
+    let mut found = empty(s, Join::Or);
+    for place in (0..vss.len()).rev() {
+        found = with_member(s, alloc, problem, u, vss[place].as_slice(), found)?;
+    }
+    Ok(found)
+}
+
+// One member more, in front of those of which it is known.
+fn with_member<S: Conditions>(
+    s: &mut S,
+    alloc: Global,
+    problem: &Problem,
+    u: Option<Spot>,
+    vs: &[Offer<S::Condition>],
+    found: Chances<S::Condition>,
+) -> Result<Chances<S::Condition>, AllocError>
+    requires made { AreOffersMade (S.IsMade s.old) vs.now }
+    requires found_made { AreMade (S.IsMade s.old) found }
+    ensures keeps { KeepsConditions S.IsMade S.holds S.room s.old s.new }
+    ensures made { IfOk result (λ z. AreMade (S.IsMade s.new) z) }
+    ensures mix { IfOk result (λ z. (w : World) → IsWorldOf problem.entry.now w → (a : ℕ → Bool) → mix_at S.holds s.new a z ≡ or_mix (compare_each w.classes S.holds s.old a Equal (outcome_in w.classes u) vs.now) (mix_at S.holds s.old a found)) }
+{
+    let y = compared_each(s, alloc, problem, Op::Equal, u, vs)?;
+    let z = either(s, alloc, y, found)?;
     Ok(z)
 }
 

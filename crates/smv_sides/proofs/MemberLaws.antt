@@ -1,6 +1,7 @@
 -- Listed sets.
-use Rattle.std.proofs.Common.{◌≡◌, ◌⊎◌, inl, inr, ℕ, suc, ◌+◌, ◌-◌, List, [], ◌∷◌, ◌++◌, map, length, arith, Bool, true, false, not, ◌&&◌, ◌||◌, Some, refl, sym, ap, ◌∙◌, nat_le}
+use Rattle.std.proofs.Common.{◌≡◌, ◌⊎◌, inl, inr, ℕ, suc, zero, ◌<◌, ◌≤◌, drop, get_or, ◌+◌, ◌-◌, List, [], ◌∷◌, ◌++◌, map, length, arith, Bool, true, false, not, ◌&&◌, ◌||◌, Some, refl, sym, ap, ◌∙◌, nat_le}
 use Rattle.std.specs.List.{flat_map, list_any, list_all}
+use Rattle.std.proofs.Math.Seq.{drop-cons}
 use Rattle.smv_core.specs.Values.{number, numbers_from}
 use Rattle.smv_core.specs.declared.flat.FlatExpr.{FlatExpr, List as Listed}
 use Rattle.smv_core.specs.declared.flat.FlatMember.{FlatMember, One, Span}
@@ -91,6 +92,32 @@ module _ {S C : Type 0} (IsMade : S → C → Type 0) (holds : S → C → (ℕ 
   unfolding IsSo members_mean
   members_go s mid next t problem cells x k b member others members more here r e l o m made target rest one whole z aim a =
       whole a ∙ (or_same (one z (aim_on IsMade holds room s mid problem cells x z l made target aim) a) (o.same more m a ∙ rest z aim a) ∙ ap (list_any (λ (y : FlatMember). member_means k b y z a)) (sym e))
+
+-- What a loop over members keeps, from the last to the first: some member that was taken means it.
+pub record Gathered {S C : Type 0} (IsMade : S → C → Type 0) (holds : S → C → (ℕ → Bool) → Bool) (room : S → ℕ) (start s : S) (problem : Problem) (cells : List (Cell C)) (x : Target C) (k : Sense) (b : List Spot) (taken : List FlatMember) (r : C) : Type 0 where
+  pub keeps : KeepsConditions IsMade holds room start s
+  pub made : IsMade s r
+  pub cells_made : AreCellsMade (IsMade s) cells
+  pub target_made : IsTargetMade (IsMade s) x
+  pub is : IsSo holds start s problem cells x (members_mean k b taken) r
+
+module _ {S C : Type 0} (holds : S → C → (ℕ → Bool) → Bool) where
+  nothing_left : (members : List FlatMember) → length (drop (length members) members) ≡ 0
+  nothing_left [] = refl
+  nothing_left (m ∷ members) = nothing_left members
+
+  pub gathered_none : (s : S) (problem : Problem) (cells : List (Cell C)) (x : Target C) (k : Sense) (b : List Spot) (members : List FlatMember) (r : C) → ((a : ℕ → Bool) → holds s r a ≡ false) → IsSo holds s s problem cells x (members_mean k b (drop (length members) members)) r
+  gathered_none s problem cells x k b members r none = members_end holds s problem cells x k b (drop (length members) members) r (nothing_left members) none
+
+  pub gathered_all : (start s : S) (problem : Problem) (cells : List (Cell C)) (x : Target C) (k : Sense) (b : List Spot) (members : List FlatMember) (place : ℕ) (r : C) → place ≤ 0 → IsSo holds start s problem cells x (members_mean k b (drop place members)) r →
+      IsSo holds start s problem cells x (members_mean k b members) r
+  gathered_all start s problem cells x k b members zero r none is = is
+  gathered_all start s problem cells x k b members (suc place) r none is = absurd (omega arith)
+
+pub longer : (members : List FlatMember) (place : ℕ) (member : FlatMember) → 0 < place → place ≤ length members → member ≡ get_or members (place - 1) member → drop (place - 1) members ≡ member ∷ drop place members
+longer members place member some within is =
+    let more : place ≡ suc (place - 1) = omega arith in
+    drop-cons members (place - 1) member (omega arith) ∙ (ap (λ y. y ∷ drop (suc (place - 1)) members) (sym is) ∙ ap (λ n. member ∷ drop n members) (sym more))
 
 -- a listed set that may allow a value
 module _ (z : Aim) (a : ℕ → Bool) (b : List Spot) where

@@ -47,7 +47,7 @@ fn some_of_member<S: Conditions>(
     }
 }
 
-/// Some outcome of some member gives the value in this sense.
+/// Some outcome of some member gives the value in this sense: from the last member to the first, so that a long list takes no stack.
 pub fn some_of_members<S: Conditions>(
     s: &mut S,
     alloc: Global,
@@ -66,13 +66,12 @@ pub fn some_of_members<S: Conditions>(
     ensures target { IfOk result (λ r. IsTargetMade (S.IsMade s.new) target.now) }
     ensures is { IfOk result (λ r. IsSo S.holds s.old s.new problem.entry.now cells.now target.now (members_mean sense b.now members.now) r) }
 {
-    let Some((member, others)) = members.split_first() else {
-        return Ok(s.constant(false));
-    };
-    let more = some_of_members(s, alloc, problem, cells, target, sense, others, b)?;
-    let here = some_of_member(s, alloc, problem, cells, target, sense, member, b)?;
-    let r = s.either(alloc, here, more)?;
-    Ok(r)
+    let mut some = s.constant(false);
+    for place in (0..members.len()).rev() {
+        let here = some_of_member(s, alloc, problem, cells, target, sense, &members[place], b)?;
+        some = s.either(alloc, here, some)?;
+    }
+    Ok(some)
 }
 
 // A member stands for a value.
@@ -89,8 +88,5 @@ fn stands(member: &FlatMember) -> bool
 pub fn has_some(members: &[FlatMember]) -> bool
     ensures { result ≡ list_any stands_for members.now }
 {
-    let Some((member, others)) = members.split_first() else {
-        return false;
-    };
-    stands(member) || has_some(others)
+    members.iter().any(stands)
 }

@@ -1,10 +1,12 @@
 //! Tests of the whole program, from words and bytes to a status and bytes. The expected answers were worked out by hand from the rules of the language and of the method.
-//! `rows` has worked designs with their reports, `small_designs` all designs of one signal of a few forms, `faults` a text for each fault, `passes` which fault comes first, `limits` the texts at each limit and past it,
+//! `rows` has worked designs with their reports, `small_designs` all designs of one signal of a few forms, `faults` a text for each fault, `passes` which fault comes first, `limits` and `edges` the texts at each limit and past it,
 //! `prints` what is printed, and `transfers` what happens where a source or a sink fails.
 #![tactic(auto)]
 
 #[cfg(test)]
 mod calls;
+#[cfg(test)]
+mod edges;
 #[cfg(test)]
 mod faults;
 #[cfg(test)]

@@ -148,6 +148,69 @@ const DEPTHS: &[Row] = &[
     (Form::Types, 5001, 7, ""),
 ];
 
+// A text, and its status and answer.
+type Text = (&'static str, u8, &'static str);
+
+// The first of these texts that is answered otherwise.
+fn first_text_other(alloc: Global, rows: &[Text]) -> Result<Option<&'static str>, AllocError> {
+    for (text, want, answer) in rows {
+        let (status, written) = answered(alloc, "prove", text.as_bytes())?;
+        if status != *want || written.as_slice() != answer.as_bytes() {
+            return Ok(Some(*text));
+        }
+    }
+    Ok(None)
+}
+
+const TRUE: &str = "p: true\nproved 1 of 1\n";
+
+// A claim has up to 8 parameters, and up to 4,096 cases: 16 times 256, of which the last is looked at too, while 17 times 241
+// are one more. Over a scalarset without an end it has as many as there are ways to part its parameters into classes: 877 for
+// 7 parameters, and 4,140 for 8.
+const LEAVES: &[Text] = &[
+    (
+        "module main() { x : boolean; forall (a in 0..0) forall (b in 0..0) forall (c in 0..0) forall (d in 0..0) forall (e in 0..0) forall (f in 0..0) forall (g in 0..0) forall (h in 0..0) p[a][b][c][d][e][f][g][h] : assert G (x | ~x); }",
+        0,
+        TRUE,
+    ),
+    (
+        "module main() { x : boolean; forall (a in 0..0) forall (b in 0..0) forall (c in 0..0) forall (d in 0..0) forall (e in 0..0) forall (f in 0..0) forall (g in 0..0) forall (h in 0..0) forall (i in 0..0) p[a][b][c][d][e][f][g][h][i] : assert G (x | ~x); }",
+        3,
+        "fault 29 at line 1 column 201\n",
+    ),
+    (
+        "module main() { x : boolean; forall (i in 0..15) forall (j in 0..255) p[i][j] : assert G (x | ~x); }",
+        0,
+        TRUE,
+    ),
+    (
+        "module main() { x : boolean; x := 0; forall (i in 0..15) forall (j in 0..255) p[i][j] : assert G (x | i < 15 | j < 255); }",
+        1,
+        "p: false at 0\n case 15, 255\n time 0: x = 0\nproved 0 of 1\n",
+    ),
+    (
+        "module main() { x : boolean; forall (i in 0..16) forall (j in 0..240) p[i][j] : assert G (x | ~x); }",
+        3,
+        "fault 29 at line 1 column 71\n",
+    ),
+    (
+        "scalarset T undefined; module main() { y : T; forall (a in T) forall (b in T) forall (c in T) forall (d in T) forall (e in T) forall (f in T) forall (g in T) p[a][b][c][d][e][f][g] : assert G (y = a | ~(y = a)); }",
+        0,
+        TRUE,
+    ),
+    (
+        "scalarset T undefined; module main() { y : T; forall (a in T) forall (b in T) forall (c in T) forall (d in T) forall (e in T) forall (f in T) forall (g in T) forall (h in T) p[a][b][c][d][e][f][g][h] : assert G (y = a | ~(y = a)); }",
+        3,
+        "fault 29 at line 1 column 175\n",
+    ),
+];
+
+#[test]
+fn as_many_parameters_and_cases_as_the_limit_and_one_more(rt: HostRuntime) -> Result<(), Fail> {
+    assert_eq!(rt; first_text_other(rt.alloc(), LEAVES)?, None);
+    Ok(())
+}
+
 #[test]
 fn as_many_constants_as_the_limit_and_one_more(rt: HostRuntime) -> Result<(), Fail> {
     assert_eq!(rt; first_other(rt.alloc(), CONSTANTS)?, None);

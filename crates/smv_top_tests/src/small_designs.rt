@@ -87,11 +87,27 @@ fn toggle_declared_last(
 #[test]
 fn a_long_chain_is_decided(rt: HostRuntime) -> Result<(), Fail> {
     let mut chain = String::from_str(rt.alloc(), "1")?;
-    for _ in 0..1_000 {
+    for _ in 0..100_000 {
         chain.push_str(" & 1")?;
     }
     let long = toggle_declared_last(rt.alloc(), "0", "0", chain.as_str())?;
     let (_, written) = answered(rt.alloc(), "prove", long.as_bytes())?;
+    assert_eq!(rt; written.as_slice(), TRUE.as_bytes());
+    Ok(())
+}
+
+// Nor is a long list, on a right side and behind `in`.
+#[test]
+fn long_lists_are_decided(rt: HostRuntime) -> Result<(), Fail> {
+    let mut list = String::from_str(rt.alloc(), "1")?;
+    for _ in 0..100_000 {
+        list.push_str(", 0")?;
+    }
+    let members = list.as_str();
+    let text = format!(in rt.alloc();
+        "module main() {{ x : boolean; y : boolean; y := {{{members}}}; p : assert G (x in {{{members}}} & (y = 0 | y = 1)); }}"
+    )?;
+    let (_, written) = answered(rt.alloc(), "prove", text.as_bytes())?;
     assert_eq!(rt; written.as_slice(), TRUE.as_bytes());
     Ok(())
 }

@@ -1,7 +1,7 @@
 //! What happens where a source or a sink fails.
 
 use crate::calls::{TOGGLE, TOGGLE_FALSE, USAGE, words};
-use smv_io::{Bytes, Taken};
+use smv_io::{Bytes, Never, NeverSink, Taken};
 use smv_top::run;
 use std::alloc::{AllocError, Global};
 use std::test::Fail;
@@ -85,5 +85,28 @@ fn a_source_that_fails_is_told(rt: HostRuntime) -> Result<(), Fail> {
         assert_eq!(rt; status, want, "{line}");
         assert_eq!(rt; taken.as_slice(), answer.as_bytes(), "{line}");
     }
+    Ok(())
+}
+
+// The first write of each command fails.
+#[test]
+fn a_sink_that_fails_is_told(rt: HostRuntime) -> Result<(), Fail> {
+    for line in ["prove", "only p", "print", "generated 2", "proves"] {
+        let words = words(rt.alloc(), line)?;
+        let mut source = Never::new(TOGGLE.as_bytes().to_vec(rt.alloc())?);
+        let mut sink = Taken::with_room(rt.alloc(), 8000, [0].to_vec(rt.alloc())?)?;
+        let status = run(rt.alloc(), &words, &mut source, &mut sink);
+        assert_eq!(rt; status.number(), 6, "{line}");
+        assert_eq!(rt; sink.taken().len(), 0, "{line}");
+    }
+    Ok(())
+}
+
+#[test]
+fn what_never_fails_is_proved(rt: HostRuntime) -> Result<(), Fail> {
+    let words = words(rt.alloc(), "prove")?;
+    let mut source = Never::new(TOGGLE.as_bytes().to_vec(rt.alloc())?);
+    let mut sink = NeverSink::new();
+    assert_eq!(rt; run(rt.alloc(), &words, &mut source, &mut sink).number(), 0);
     Ok(())
 }

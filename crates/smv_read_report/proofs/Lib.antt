@@ -1,0 +1,4 @@
+pub mod Cut
+pub mod Last
+pub mod Led
+pub mod Refusals
