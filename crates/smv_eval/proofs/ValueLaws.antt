@@ -69,7 +69,7 @@ chosen_list families whole test left right of r is o e = e ∙ (ap (list_in fami
 
 -- ---- the enumeration of a kind
 
-kind_list : (t : Simple) → list_over t ≡ list_of (kind_of t)
+pub kind_list : (t : Simple) → list_over t ≡ list_of (kind_of t)
 kind_list (Range low high) = refl
 kind_list (Enum list) = refl
 kind_list (Set set) = refl
@@ -377,7 +377,7 @@ module _ (p : Problem) (w : World) (is : IsWorldOf p w) (kind : Kind) (offers : 
   is_written : (o : Offer Bool) → Has offers o → o.when ≡ true → value_at p (list_of kind) o.outcome ≡ written_outcome w.classes kind (outcome_in w.classes o.outcome)
   is_written o h e = value_written p w is kind o.outcome (narrow (outcome_in w.classes o.outcome) (offered o h e))
 
-  set_answered : IsSetOf (map (written_outcome w.classes kind) us) (with_offers p (list_of kind) [] offers)
+  pub set_answered : IsSetOf (map (written_outcome w.classes kind) us) (with_offers p (list_of kind) [] offers)
   set_answered = record {
     each = λ v h.
         let r = Has-from_map (written_outcome w.classes kind) us h in

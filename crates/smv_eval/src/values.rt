@@ -35,8 +35,8 @@ fn list_over(over: Simple) -> Option<u16>
     }
 }
 
-// That of a family's values.
-fn list_for(problem: &Problem, family: u16) -> Option<u16>
+/// The enumeration of which the values of a family are, if they are of one.
+pub fn list_for(problem: &Problem, family: u16) -> Option<u16>
     ensures { result ≡ spec.list_for (slice_get problem.entry.now.families family) }
 {
     match problem.families.as_slice().get(family as usize) {
@@ -152,8 +152,8 @@ fn add_offer(
     Ok(())
 }
 
-// The values that are offered, each once.
-fn values_of(
+/// The values that are offered, each once, where constants are of this enumeration.
+pub fn values_of(
     alloc: Global,
     problem: &Problem,
     list: Option<u16>,

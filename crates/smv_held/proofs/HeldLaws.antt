@@ -51,7 +51,7 @@ old_made (Some cells) = cells_made cells
 
 -- ---- one demand
 
-steady_at : (before : Option AbsState) (a : ℕ → Bool) → at_before (steady before) a ≡ before
+pub steady_at : (before : Option AbsState) (a : ℕ → Bool) → at_before (steady before) a ≡ before
 steady_at None a = refl
 steady_at (Some b) a = refl
 

@@ -28,22 +28,22 @@ pub none_of : {X : Type 0} (o : Option X) → ((x : X) → o ≡ Some x → ⊥)
 none_of None h = refl
 none_of (Some x) h = absurd (h x refl)
 
-abbrev AreCellsOf : Problem → StateData → List (Cell Bool) → Type 0
+abbrev pub AreCellsOf : Problem → StateData → List (Cell Bool) → Type 0
 AreCellsOf p state cells = OfStates p state (λ c a. (s : Plain) → IsSeen plainly s p cells (view_of c a))
 
 -- what cells read of states that are written so, at time 0 and later
-read_first : (p : Problem) (new : StateData) (cells : List (Cell Bool)) → AreCellsOf p new cells → (c : Case) → p ≡ written c → IsWellFormed c → (a : AbsState) → IsAbsState c.problem.world c.problem.kept a → new ≡ written_state c a →
+pub read_first : (p : Problem) (new : StateData) (cells : List (Cell Bool)) → AreCellsOf p new cells → (c : Case) → p ≡ written c → IsWellFormed c → (a : AbsState) → IsAbsState c.problem.world c.problem.kept a → new ≡ written_state c a →
     (before : Option AbsState) → None ≡ written_before c before → (before ≡ None) × AreReadBy p None cells c.problem None a
 read_first p new cells seen c is well a abs same None e = (refl, are_read c well p None cells None a (λ s. tt) abs (seen c is well a abs same))
 read_first p new cells seen c is well a abs same (Some b) e = absurd (cc)
 
-read_later : (p : Problem) (old new : StateData) (olds cells : List (Cell Bool)) → AreCellsOf p old olds → AreCellsOf p new cells → (c : Case) → p ≡ written c → IsWellFormed c → (a : AbsState) → IsAbsState c.problem.world c.problem.kept a → new ≡ written_state c a →
+pub read_later : (p : Problem) (old new : StateData) (olds cells : List (Cell Bool)) → AreCellsOf p old olds → AreCellsOf p new cells → (c : Case) → p ≡ written c → IsWellFormed c → (a : AbsState) → IsAbsState c.problem.world c.problem.kept a → new ≡ written_state c a →
     (before : Option AbsState) → IsBefore c before → Some old ≡ written_before c before → AreReadBy p (Some olds) cells c.problem before a
 read_later p old new olds cells seen_old seen c is well a abs same None abs_before e = absurd (cc)
 read_later p old new olds cells seen_old seen c is well a abs same (Some b) abs_before e =
     are_read c well p (Some olds) cells (Some b) a (is_before_by c well p olds b abs_before (seen_old c is well b abs_before (inner e))) abs (seen c is well a abs same)
 
-fit_kept : (c : Case) (well : IsWellFormed c) (d : Demanded) → IsFit c d → IsKept c.problem d → IsDemand c.problem d
+pub fit_kept : (c : Case) (well : IsWellFormed c) (d : Demanded) → IsFit c d → IsKept c.problem d → IsDemand c.problem d
 fit_kept c well (defined def indexes) fit k = (k, types_of c well def.family, fit.3)
 fit_kept c well (holds body b) fit k = (well.set_types, fit.0, fit.2.are_of)
 

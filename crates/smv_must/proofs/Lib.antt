@@ -1,0 +1,2 @@
+pub mod SureLaws
+pub mod StateSure
