@@ -6,7 +6,6 @@ use Rattle.smv_core.specs.declared.flat.Choice.{Choice}
 use Rattle.smv_core.specs.declared.flat.Class.{Class}
 use Rattle.smv_core.specs.declared.flat.Case.{Case as CaseData}
 use Rattle.smv_abstraction.specs.Sets.{Has}
-use Rattle.smv_problem.specs.declared.report.Verdict.{Verdict}
 use Rattle.smv_problem.specs.declared.report.Verdict.TheVariants.{False, UnknownNodes, UnknownSteps}
 use Rattle.law_problems.specs.Parts.{IsCaseOf, width_fault}
 use Rattle.smv_decide.specs.declared.Decision.{Decision}
