@@ -27,8 +27,10 @@ TOP = Path(__file__).resolve().parent.parent
 PAGES = ["README.md", "docs/METHOD.md", "docs/FAULTS.md"]
 TABLES = TOP / "crates/smv_page_tests/src"
 FENCED = re.compile(r"^```(smv|diff|console)(?: (\S+))?(?: (\S+))?\n(.*?)^```$", re.M | re.S)
+# About how many bytes of rows a test has at most, if it has more than one row.
+PART = 9_000
 # Commands that a test can give the program as words and a text.
-PLAIN = re.compile(r"deodarwrench ([\w -]+?) < (\S+)")
+PLAIN = re.compile(r"deodarwrench ([^<|]+?) < (\S+)")
 
 
 def status(command, answer):
@@ -48,6 +50,8 @@ def changed(text, block):
     """Returns the text with the changes of a `diff` block."""
     for change in re.split(r"^@@\n", block, flags=re.M):
         lines = change.splitlines(keepends=True)
+        if any(line[0] not in " -+" for line in lines):
+            raise ValueError(f"a line without its mark:\n{change}")
         old = "".join(line[1:] for line in lines if line[0] in " -")
         new = "".join(line[1:] for line in lines if line[0] in " +")
         if ("\n" + text).count("\n" + old) != 1:
@@ -59,11 +63,14 @@ def changed(text, block):
 def read_page(page):
     """Returns a page's files by their names, and its commands with their answers, in order."""
     files, commands = {}, []
-    for kind, name, old, block in FENCED.findall((TOP / page).read_text()):
+    lines = (TOP / page).read_text()
+    blocks = FENCED.findall(lines)
+    if len(blocks) != len(re.findall(r"^```(?:smv|diff|console)", lines, re.M)):
+        raise ValueError(f"{page} has a block of another form")
+    for kind, name, old, block in blocks:
         if kind == "console":
             for piece in re.split(r"^\$ ", block, flags=re.M)[1:]:
-                command, answer = piece.split("\n", 1)
-                commands.append((command, answer))
+                commands.append(tuple(piece.split("\n", 1)))
         else:
             if name in files:
                 raise ValueError(f"{page} has {name} twice")
@@ -112,12 +119,37 @@ def write_answers(program):
 
 def quoted(text):
     """Returns a text as a string of Rattle."""
-    marks = {"\\": "\\\\", '"': '\\"', "\n": "\\n", "\t": "\\t"}
+    marks = {"\\": "\\\\", '"': '\\"', "\n": "\\n"}
     return '"' + "".join(marks.get(sign, sign) for sign in text) + '"'
 
 
+def row(values):
+    """Returns the lines of a row of a table, as `rt fmt` lays it out."""
+    line = ", ".join(values)
+    return [f"    ({line}),"] if len(line) <= 60 else ["    (", *(f"        {value}," for value in values), "    ),"]
+
+
+def parts(rows):
+    """Returns rows in parts whose texts together stay so short that the check of a test with them ends."""
+    cut, size = [[]], 0
+    for lines in rows:
+        size += sum(map(len, lines))
+        if cut[-1] and size > PART:
+            cut.append([])
+            size = sum(map(len, lines))
+        cut[-1].append(lines)
+    return cut
+
+
+def constant(number, part):
+    """Returns the lines of the constant with the rows of a part, as `rt fmt` lays it out."""
+    if len(part) == 1 and len(part[0]) > 1:
+        return [f"const ROWS_{number}: &[Row] = &[(", *(line[4:] for line in part[0][1:-1]), ")];"]
+    return [f"const ROWS_{number}: &[Row] = &[", *(line for one in part for line in one), "];"]
+
+
 def table(page, files, commands):
-    """Returns the module of tests of a page: its name and its lines."""
+    """Returns the module of tests of a page: its file and its lines."""
     name = Path(page).stem.lower()
     rows = []
     for command, answer in commands:
@@ -125,30 +157,23 @@ def table(page, files, commands):
         if plain:
             words, file = plain.groups()
             text = files[file] if file in files else (TOP / file).read_text()
-            rows += ["    (", f"        {quoted(words)},", f"        {quoted(text)},", f"        {status(command, answer)},", f"        {quoted(answer)},", "    ),"]
-    return f"{name}.rt", "\n".join(
-        [
-            f"//! The commands of {page} with their answers. Written by `tools/pages.py --tests`.",
-            "",
-            "use crate::calls::{Row, answered};",
-            "use std::test::Fail;",
-            "",
-            "const ROWS: &[Row] = &[",
-            *rows,
-            "];",
-            "",
-            "#[test]",
-            f"fn {name}_is_true(rt: HostRuntime) -> Result<(), Fail> {{",
-            "    for (words, text, want, answer) in ROWS {",
-            "        let (status, written) = answered(rt.alloc(), words, text.as_bytes())?;",
-            '        assert_eq!(rt; status, *want, "{words}: {text}");',
-            '        assert_eq!(rt; written.as_slice(), answer.as_bytes(), "{words}: {text}");',
-            "    }",
-            "    Ok(())",
-            "}",
-            "",
-        ]
-    )
+            rows.append(row([quoted(words), quoted(text), str(status(command, answer)), quoted(answer)]))
+    lines = [
+        f"//! The commands of `{page}`, with their texts, exit statuses and answers. Written by `tools/pages.py --tests`.",
+        "",
+        "use crate::calls::{Row, last_difference};",
+        "use std::test::Fail;",
+    ]
+    for number, part in enumerate(parts(rows), 1):
+        lines += ["", *constant(number, part)]
+        lines += ["", "#[test]", f"fn answers_{number}(rt: HostRuntime) -> Result<(), Fail> {{"]
+        lines += [f"    assert_eq!(rt; last_difference(rt.alloc(), ROWS_{number})?, None);", "    Ok(())", "}"]
+    return f"{name}.rt", "\n".join([*lines, ""])
+
+
+def tables():
+    """Returns the modules of tests. The README shows examples, which stand in the table of these."""
+    return [table(*page) for page in everything() if page[0] != "README.md"]
 
 
 def main(words):
@@ -156,11 +181,11 @@ def main(words):
         write_answers(words[1])
         return 0
     if words == ["--tests"]:
-        for name, lines in (table(*page) for page in everything()):
+        for name, lines in tables():
             (TABLES / name).write_text(lines)
         return 0
     if not words:
-        stale = [name for name, lines in (table(*page) for page in everything()) if (TABLES / name).read_text() != lines]
+        stale = [name for name, lines in tables() if (TABLES / name).read_text() != lines]
         for name in stale:
             print(f"{TABLES / name} is not what the pages give: tools/pages.py --tests")
         return int(bool(stale))
