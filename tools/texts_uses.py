@@ -148,6 +148,12 @@ def many_cases(n):
     return main_module(["x : boolean;"] + lines)
 
 
+def cases_beside_families(n):
+    """One claim of 4,096 cases beside n families that it does not read."""
+    lines = ["x : boolean;"] + [f"y{k} : boolean;" for k in range(n)]
+    return main_module(lines + ["forall (i in 0..15) forall (j in 0..255) p[i][j] : assert G (x | ~x);"])
+
+
 ROWS = [
     ("claims", claims_alone, (15000, 30000, 60000)),
     ("claims, each split once", split_claims, (2000, 4000, 8000)),
@@ -167,8 +173,9 @@ ROWS = [
     ("one claim, proved with all maps", maps_for_one, (1000, 2000, 4000)),
     ("claims over two parameters, each proved with one of them kept", kept_parameters, (2000, 4000, 8000)),
     ("one `using` that proves all claims, with ten times as many names in its braces", kept_names, (1000, 2000, 4000)),
-    ("one `using` that proves a map as often as it uses a family freely (fault 27)", proved_again, (1000, 2000, 4000)),
+    ("one `using` that proves a map as often as it uses a family freely (fault 27)", proved_again, (8000, 16000, 32000)),
     ("claims of 4,096 cases each", many_cases, (100, 200, 400)),
+    ("one claim of 4,096 cases beside families that it does not read", cases_beside_families, (1000, 2000, 4000)),
 ]
 
 TEXTS = {text_of.__name__: text_of for _, text_of, _ in ROWS}

@@ -1,176 +1,85 @@
--- The table of definitions, from one definition to the next and from one pick to the next.
-use Rattle.std.proofs.Common.{◌≡◌, ℕ, zero, suc, ◌+◌, ◌<◌, ◌≤◌, ◌≢◌, List, [], ◌∷◌, map, length, slice_get, get_or, Option, Some, None, Bool, true, false, cond, ◌&&◌, ◌||◌, drop, refl, ap, sym, subst, ◌∙◌, zero-add, ◌⊎◌, inl, inr, Bor, arith}
-use Rattle.std.specs.Prelude.{filter, find, option_copied, slice_set, slice_index_or, nat_eq, is_none}
+-- The table of definitions, from one family to the next and from one pick to the one before it.
+use Rattle.std.proofs.Common.{◌≡◌, ◌≢◌, ℕ, zero, suc, ◌+◌, ◌<◌, ◌≤◌, List, [], ◌∷◌, ◌++◌, length, slice_get, get_or, Option, Some, None, true, false, cond, drop, refl, ap, sym, subst, ◌∙◌, ◌⊎◌, inl, inr, Bor, arith}
+use Rattle.std.specs.Prelude.{find, option_copied, option_and_then, slice_set, slice_index_or, nat_eq}
 use Rattle.std.proofs.lemmas.Bool.Decides.{nat_tests}
-use Rattle.smv_core.specs.Values.{numbers_from}
-use Rattle.smv_core.specs.declared.flat.Family.{Family}
 use Rattle.smv_core.specs.declared.flat.Design.{Design}
 use Rattle.smv_core.specs.declared.flat.Def.{Def}
+use Rattle.smv_core.specs.declared.flat.Claim.{Claim as FlatClaim}
 use Rattle.smv_core.specs.declared.flat.Pick.{Pick}
-use Rattle.law_obligations.specs.Outlines.{Outline, earlier, earliest, may_be_base, map_by_pick, chosen}
-use Rattle.smv_chosen_table.specs.Tables.{IsTable, base_among, AreBases, IsTableSoFar}
+use Rattle.smv_core.specs.declared.flat.Unit.{Unit}
+use Rattle.smv_core.specs.declared.flat.Unit.TheVariants.{Map, Claim}
+use Rattle.law_obligations.specs.Outlines.{Outline, as_map, as_claim, map_in, said_by, base_of, map_by_pick, map_in_layer}
+use Rattle.smv_unit_tables.specs.Bases.{AreBases}
+use Rattle.smv_chosen_table.specs.Tables.{IsTable, AreBaseDefs, map_of_unit}
 
--- ---- a value for each number
+-- ---- base definitions by their numbers
 
-module _ {X : Type 0} (f : ℕ → X) where
-  got-number : (s n k : ℕ) (x : X) → slice_get (map f (numbers_from s n)) k ≡ Some x → f (s + k) ≡ x
-  got-number s zero k x e = absurd (cc (e))
-  got-number s (suc n) zero x e = ap f (let same : s + 0 ≡ s = omega arith in same) ∙ (cc (e))
-  got-number s (suc n) (suc k) x e = ap f (let same : s + suc k ≡ s + 1 + k = omega arith in same) ∙ got-number (s + 1) n k x e
+index-some : {X : Type 0} (xs : List X) (k : ℕ) (x d : X) → slice_get xs k ≡ Some x → slice_index_or xs k d ≡ x
+index-some [] k x d e = absurd (cc (e))
+index-some (y ∷ xs) zero x d e = cc (e)
+index-some (y ∷ xs) (suc k) x d e = index-some xs k x d e
 
-  got-none : (s n k : ℕ) → slice_get (map f (numbers_from s n)) k ≡ None → n ≤ k
-  got-none s zero k e = omega arith
-  got-none s (suc n) zero e = absurd (cc (e))
-  got-none s (suc n) (suc k) e = omega (arith, got-none (s + 1) n k e)
+index-none : {X : Type 0} (xs : List X) (k : ℕ) (d : X) → slice_get xs k ≡ None → slice_index_or xs k d ≡ d
+index-none [] k d e = refl
+index-none (y ∷ xs) zero d e = absurd (cc (e))
+index-none (y ∷ xs) (suc k) d e = index-none xs k d e
 
-index-number : {X : Type 0} (f : ℕ → X) (s n k : ℕ) (d : X) → k < n → slice_index_or (map f (numbers_from s n)) k d ≡ f (s + k)
-index-number f s zero k d h = absurd (omega arith)
-index-number f s (suc n) zero d h = ap f (let same : s ≡ s + 0 = omega arith in same)
-index-number f s (suc n) (suc k) d h = index-number f (s + 1) n k d (omega arith) ∙ ap f (let same : s + 1 + k ≡ s + suc k = omega arith in same)
+pub base-some : (d : Design) (bases : List ℕ) (family place : ℕ) → AreBases d bases → slice_get bases family ≡ Some place → slice_get d.defs place ≡ base_of d family
+base-some d bases family place are e = ap (slice_get d.defs) (sym (index-some bases family place (length d.defs) e)) ∙ are.each family
 
-get-past : {X : Type 0} (xs : List X) (k : ℕ) → length xs ≤ k → slice_get xs k ≡ None
-get-past [] k h = refl
-get-past (x ∷ xs) zero h = absurd (omega arith)
-get-past (x ∷ xs) (suc k) h = get-past xs k (omega arith)
+pub base-none : (d : Design) (bases : List ℕ) (family : ℕ) → AreBases d bases → slice_get bases family ≡ None → slice_get d.defs (length d.defs) ≡ base_of d family
+base-none d bases family are e = ap (slice_get d.defs) (sym (index-none bases family (length d.defs) e)) ∙ are.each family
 
-length-numbers : {X : Type 0} (f : ℕ → X) (s n : ℕ) → length (map f (numbers_from s n)) ≡ n
-length-numbers f s zero = refl
-length-numbers f s (suc n) = ap suc (length-numbers f (s + 1) n)
+got-pushed : {X : Type 0} (xs : List X) (x : X) (k : ℕ) (y : X) → slice_get (xs ++ x ∷ []) k ≡ Some y → (slice_get xs k ≡ Some y) ⊎ ((k ≡ length xs) × (x ≡ y))
+got-pushed [] x zero y e = inr (refl, cc (e))
+got-pushed [] x (suc k) y e = absurd (cc (e))
+got-pushed (z ∷ xs) x zero y e = inl e
+got-pushed (z ∷ xs) x (suc k) y e = elim (got-pushed xs x k y e) [
+  | inl h ↦ inl h
+  | inr h ↦ inr (ap suc h.0, h.1)
+]
 
-same-numbers : {X : Type 0} (f g : ℕ → X) → ((k : ℕ) → f k ≡ g k) → (s n : ℕ) → map f (numbers_from s n) ≡ map g (numbers_from s n)
-same-numbers f g h s zero = refl
-same-numbers f g h s (suc n) = ap (λ x. x ∷ map f (numbers_from (s + 1) n)) (h s) ∙ ap (λ l. g s ∷ l) (same-numbers f g h (s + 1) n)
+-- one family more
+pub base-pushed : (d : Design) (table new : List (Option (Bor Def))) (def : Option (Bor Def)) (family : ℕ) → length table ≡ family → AreBaseDefs d table → option_copied def ≡ base_of d family → new ≡ table ++ def ∷ [] → AreBaseDefs d new
+base-pushed d table new def family long are is e k other at = elim (got-pushed table def k other (ap (λ l. slice_get l k) (sym e) ∙ at)) [
+  | inl h ↦ are k other h
+  | inr h ↦ ap option_copied (sym h.1) ∙ (is ∙ ap (base_of d) (sym (h.0 ∙ long)))
+]
 
--- one value is another
-set-number : {X : Type 0} (f g : ℕ → X) (s n p : ℕ) (v : X) → p < n → g (s + p) ≡ v → ((k : ℕ) → k ≢ s + p → f k ≡ g k) → slice_set (map f (numbers_from s n)) p v ≡ map g (numbers_from s n)
-set-number f g s zero p v h at other = absurd (omega arith)
-set-number f g s (suc n) zero v h at other =
-    let here : s + 0 ≡ s = omega arith in
-    ap (λ x. x ∷ map f (numbers_from (s + 1) n)) (sym at ∙ ap g here) ∙ ap (λ l. g s ∷ l) (behind (s + 1) n (omega arith))
+pub pushed-long : {X : Type 0} (xs new : List X) (x : X) (k : ℕ) → length xs ≡ k → new ≡ xs ++ x ∷ [] → length new ≡ k + 1
+pushed-long xs new x k l e = ap length e ∙ (longer xs ∙ ap (λ n. n + 1) l)
   where
-    behind : (t m : ℕ) → s < t → map f (numbers_from t m) ≡ map g (numbers_from t m)
-    behind t zero h = refl
-    behind t (suc m) h = ap (λ x. x ∷ map f (numbers_from (t + 1) m)) (other t (λ e. absurd (omega arith))) ∙ ap (λ l. g t ∷ l) (behind (t + 1) m (omega arith))
-set-number f g s (suc n) (suc p) v h at other =
-    let there : s + 1 + p ≡ s + suc p = omega arith in
-    ap (λ x. x ∷ slice_set (map f (numbers_from (s + 1) n)) p v) (other s (λ e. absurd (omega arith)))
-    ∙ ap (λ l. g s ∷ l) (set-number f g (s + 1) n p v (omega arith) (ap g there ∙ at) (λ k e. other k (λ same. e (same ∙ sym there))))
+    longer : (ys : List _) → length (ys ++ x ∷ []) ≡ length ys + 1
+    longer [] = refl
+    longer (y ∷ ys) = let l = longer ys in omega (arith, l)
 
--- ---- base definitions
+-- ---- units
 
-map-set : {X Y : Type 0} (f : X → Y) (xs : List X) (k : ℕ) (x : X) → map f (slice_set xs k x) ≡ slice_set (map f xs) k (f x)
-map-set f [] k x = refl
-map-set f (y ∷ xs) zero x = refl
-map-set f (y ∷ xs) (suc k) x = ap (λ l. f y ∷ l) (map-set f xs k x)
-
-map-index : {X Y : Type 0} (f : X → Y) (xs : List X) (k : ℕ) (d : X) → slice_index_or (map f xs) k (f d) ≡ f (slice_index_or xs k d)
-map-index f [] k d = refl
-map-index f (x ∷ xs) zero d = refl
-map-index f (x ∷ xs) (suc k) d = map-index f xs k d
-
-get-within : {X : Type 0} (xs : List X) (k : ℕ) (x : X) → slice_get xs k ≡ Some x → k < length xs
-get-within [] k x e = absurd (cc (e))
-get-within (y ∷ xs) zero x e = omega arith
-get-within (y ∷ xs) (suc k) x e = omega (arith, get-within xs k x e)
-
--- a definition that may be the base definition is that of a family
-pub may-be-within : (d : Design) (def : Def) → may_be_base d def.family (slice_get d.families def.family) def ≡ true → def.family < length d.families
-may-be-within d def e = by (slice_get d.families def.family) refl e
+pub map-unit : (d : Design) (k : ℕ) → map_of_unit d (Some (Map k)) ≡ slice_get d.defs k
+map-unit d k = by (slice_get d.defs k)
   where
-    by : (o : Option Family) → slice_get d.families def.family ≡ o → may_be_base d def.family o def ≡ true → def.family < length d.families
-    by None is e = absurd (cc (e))
-    by (Some f) is e = get-within d.families def.family f is
+    by : (o : Option Def) → map_in (as_map o) ≡ o
+    by None = refl
+    by (Some def) = refl
+
+pub claim-unit : (d : Design) (k : ℕ) → map_of_unit d (Some (Claim k)) ≡ None
+claim-unit d k = by (slice_get d.claims k)
+  where
+    by : (o : Option FlatClaim) → map_in (as_claim o) ≡ None
+    by None = refl
+    by (Some claim) = refl
+
+pub said : (o : Outline) (unit : Option Unit) → option_and_then map_in (said_by o unit) ≡ map_of_unit o.design unit
+said o None = refl
+said o (Some unit) = refl
+
+-- ---- picks
 
 apart : (m n : ℕ) → n ≢ m → nat_eq m n ≡ false
 apart m n h = grind (arith, nat_tests)
 
-equal : (m n : ℕ) → nat_eq m n ≡ true → m ≡ n
+equal : (m n : ℕ) → n ≡ m → nat_eq m n ≡ true
 equal m n h = grind (arith, nat_tests)
-
-module _ (d : Design) (def : Def) (defs : List Def) where
-  not-other : (k : ℕ) (o : Option Family) → k ≢ def.family → may_be_base d k o def ≡ false
-  not-other k None h = refl
-  not-other k (Some f) h = ap (λ b. b && (f.is_abstract || is_none def.layer)) (apart def.family k h)
-
-  -- of a family that it cannot be the base definition of it changes nothing
-  skipped : (k : ℕ) → may_be_base d k (slice_get d.families k) def ≡ false → base_among d defs k ≡ base_among d (def ∷ defs) k
-  skipped k e = sym (ap (λ b. earliest (cond b (def ∷ filter (may_be_base d k (slice_get d.families k)) defs) (filter (may_be_base d k (slice_get d.families k)) defs))) e)
-
-  taken : may_be_base d def.family (slice_get d.families def.family) def ≡ true → base_among d (def ∷ defs) def.family ≡ Some (earlier def (base_among d defs def.family))
-  taken e =
-      let rest : List Def = filter (may_be_base d def.family (slice_get d.families def.family)) defs in
-      ap (λ b. earliest (cond b (def ∷ rest) rest)) e
-
-  pub added : (table : List (Option (Bor Def))) (o : Option (Bor Def)) (new : Bor Def) → AreBases d defs table → may_be_base d def.family (slice_get d.families def.family) def ≡ true →
-      new.now ≡ earlier def (option_copied (slice_index_or table def.family o)) → AreBases d (def ∷ defs) (slice_set table def.family (Some new))
-  unfolding AreBases
-  added table o new is may e =
-      let within : def.family < length d.families = may-be-within d def may in
-      let there : option_copied (slice_index_or table def.family o) ≡ base_among d defs def.family =
-      sym (map-index option_copied table def.family o)
-      ∙ (ap (λ l. slice_index_or l def.family (option_copied o)) is ∙ (index-number (base_among d defs) 0 (length d.families) def.family (option_copied o) within ∙ ap (base_among d defs) (zero-add def.family))) in
-      map-set option_copied table def.family (Some new)
-      ∙ (ap (λ l. slice_set l def.family (Some new.now)) is
-      ∙ set-number (base_among d defs) (base_among d (def ∷ defs)) 0 (length d.families) def.family (Some new.now) within
-      (ap (base_among d (def ∷ defs)) (zero-add def.family) ∙ (taken may ∙ ap Some (sym (e ∙ ap (earlier def) there))))
-      (λ k other. skipped k (not-other k (slice_get d.families k) (λ same. other (same ∙ sym (zero-add def.family))))))
-
-  pub left_out : (table : List (Option (Bor Def))) → AreBases d defs table → may_be_base d def.family (slice_get d.families def.family) def ≡ false → AreBases d (def ∷ defs) table
-  unfolding AreBases
-  left_out table is may = is ∙ same-numbers (base_among d defs) (base_among d (def ∷ defs)) (λ k. skipped k (by k (nat_eq def.family k) refl)) 0 (length d.families)
-    where
-      by : (k : ℕ) (b : Bool) → nat_eq def.family k ≡ b → may_be_base d k (slice_get d.families k) def ≡ false
-      by k true e = subst (λ j. may_be_base d j (slice_get d.families j) def ≡ false) (equal def.family k e) may
-      by k false e = by_family (slice_get d.families k)
-        where
-          by_family : (o : Option Family) → may_be_base d k o def ≡ false
-          by_family None = refl
-          by_family (Some f) = ap (λ b. b && (f.is_abstract || is_none def.layer)) e
-
--- before the first definition no family has one
-abbrev nobody : Family → Option (Bor Def)
-nobody f = None
-
-pub start : (d : Design) (defs : List Def) → AreBases d (drop (length defs) defs) (map nobody d.families)
-unfolding AreBases
-start d defs = none 0 d.families ∙ ap (λ ds. map (base_among d ds) (numbers_from 0 (length d.families))) (sym (dropped defs))
-  where
-    none : (s : ℕ) (fs : List Family) → map option_copied (map nobody fs) ≡ map (base_among d []) (numbers_from s (length fs))
-    none s [] = refl
-    none s (f ∷ fs) = ap (λ l. None ∷ l) (none (s + 1) fs)
-
-    dropped : (ds : List Def) → drop (length ds) ds ≡ []
-    dropped [] = refl
-    dropped (x ∷ ds) = dropped ds
-
-pub long : (d : Design) (defs : List Def) (table : List (Option (Bor Def))) → AreBases d defs table → length table ≡ length d.families
-unfolding AreBases
-long d defs table is = sym (map-long option_copied table) ∙ (ap length is ∙ length-numbers (base_among d defs) 0 (length d.families))
-  where
-    map-long : {X Y : Type 0} (f : X → Y) (xs : List X) → length (map f xs) ≡ length xs
-    map-long f [] = refl
-    map-long f (x ∷ xs) = ap suc (map-long f xs)
-
-pub ruleset adding = (may-be-within, added, left_out)
-
-pub ruleset starting = (start, long)
-
--- ---- picks
-
-map-got : {X Y : Type 0} (f : X → Y) (xs : List X) (k : ℕ) (x : X) → slice_get xs k ≡ Some x → slice_get (map f xs) k ≡ Some (f x)
-map-got f [] k x e = absurd (cc (e))
-map-got f (y ∷ xs) zero x e = let same : y ≡ x = cc (e) in ap (λ z. Some (f z)) same
-map-got f (y ∷ xs) (suc k) x e = map-got f xs k x e
-
--- before the first pick
-pub begun : (o : Outline) (picks : List Pick) (table : List (Option (Bor Def))) → AreBases o.design o.design.defs table → IsTableSoFar o picks picks table
-unfolding AreBases
-begun o picks table is family def at =
-    inr (
-      sym (got-number (base_among o.design o.design.defs) 0 (length o.design.families) family (option_copied def) (ap (λ l. slice_get l family) (sym is) ∙ map-got option_copied table family def at))
-          ∙ ap (base_among o.design o.design.defs) (zero-add family),
-      refl,
-    )
 
 set-got : {X : Type 0} (xs : List X) (k : ℕ) (x : X) (j : ℕ) (y : X) → slice_get (slice_set xs k x) j ≡ Some y → ((j ≡ k) × (y ≡ x)) ⊎ ((j ≢ k) × (slice_get xs j ≡ Some y))
 set-got [] k x j y e = absurd (cc (e))
@@ -182,42 +91,42 @@ set-got (z ∷ xs) (suc k) x (suc j) y e = elim (set-got xs k x j y e) [
   | inr h ↦ inr (λ s. h.0 (cc (s)), h.1)
 ]
 
--- one pick more
-pub picked : (o : Outline) (picks : List Pick) (p : Pick) (more : List Pick) (table new : List (Option (Bor Def))) (def : Option (Bor Def)) → IsTableSoFar o picks (p ∷ more) table → option_copied def ≡ chosen o picks p.family → new ≡ slice_set table p.family def → IsTableSoFar o picks more new
-picked o picks p more table new def so is e family other at = elim (set-got table p.family def family other (ap (λ l. slice_get l family) (sym e) ∙ at)) [
-  | inl h ↦ inl (ap option_copied h.1 ∙ (is ∙ ap (chosen o picks) (sym h.0)))
-  | inr h ↦ elim (so family other h.1) [
-    | inl k ↦ inl k
-    | inr k ↦ inr (k.0, sym (ap (λ b. cond b (Some p) (find (λ (q : Pick). nat_eq q.family family) more)) (apart p.family family h.0)) ∙ k.1)
-  ]
-]
-
--- behind the last
-pub done : (o : Outline) (picks : List Pick) (table : List (Option (Bor Def))) → IsTableSoFar o picks [] table → IsTable o picks table
-done o picks table so family def at = elim (so family def at) [
-  | inl k ↦ k
-  | inr k ↦ k.0 ∙ ap (map_by_pick o family) k.1
-]
-
--- ---- the loop over the picks
+-- one pick in front
+picked : (o : Outline) (p : Pick) (more : List Pick) (table new : List (Option (Bor Def))) (def : Option (Bor Def)) → IsTable o more table → option_copied def ≡ map_in_layer o p.family p.layer → new ≡ slice_set table p.family def → IsTable o (p ∷ more) new
+picked o p more table new def so is e family other at =
+    let rest = find (λ (q : Pick). nat_eq q.family family) more in
+    elim (set-got table p.family def family other (ap (λ l. slice_get l family) (sym e) ∙ at)) [
+      | inl h ↦ ap option_copied h.1 ∙ (is ∙ sym (ap (λ b. map_by_pick o family (cond b (Some p) rest)) (equal p.family family h.0)))
+      | inr h ↦ so family other h.1 ∙ sym (ap (λ b. map_by_pick o family (cond b (Some p) rest)) (apart p.family family h.0))
+    ]
 
 drop-more : (picks : List Pick) (k : ℕ) (d : Pick) → k < length picks → drop k picks ≡ get_or picks k d ∷ drop (suc k) picks
 drop-more [] k d l = absurd (omega arith)
 drop-more (p ∷ picks) zero d l = refl
 drop-more (p ∷ picks) (suc k) d l = drop-more picks k d (omega arith)
 
-drop-all : (picks : List Pick) (k : ℕ) → length picks ≤ k → drop k picks ≡ []
-drop-all [] zero l = refl
-drop-all [] (suc k) l = refl
-drop-all (p ∷ picks) zero l = absurd (omega arith)
-drop-all (p ∷ picks) (suc k) l = drop-all picks k (omega arith)
+drop-all : (picks : List Pick) → drop (length picks) picks ≡ []
+drop-all [] = refl
+drop-all (p ∷ picks) = drop-all picks
 
-pub picked-turn : (o : Outline) (picks : List Pick) (k : ℕ) (d : Pick) (table new : List (Option (Bor Def))) (def : Option (Bor Def)) → k < length picks → IsTableSoFar o picks (drop k picks) table → option_copied def ≡ chosen o picks (get_or picks k d).family →
-    new ≡ slice_set table (get_or picks k d).family def → IsTableSoFar o picks (drop (k + 1) picks) new
+pub before-last : (o : Outline) (picks : List Pick) (k : ℕ) (table : List (Option (Bor Def))) → k ≡ length picks → AreBaseDefs o.design table → IsTable o (drop k picks) table
+before-last o picks k table e are = subst (λ (ps : List Pick). IsTable o ps table) (sym (ap (λ n. drop n picks) e ∙ drop-all picks)) are
+
+pub none-picked : (o : Outline) (picks : List Pick) (table : List (Option (Bor Def))) → length picks ≡ 0 → AreBaseDefs o.design table → IsTable o picks table
+none-picked o [] table e are = are
+none-picked o (p ∷ picks) table e are = absurd (omega arith)
+
+pub picked-turn : (o : Outline) (picks : List Pick) (k : ℕ) (d : Pick) (table new : List (Option (Bor Def))) (def : Option (Bor Def)) → k < length picks → IsTable o (drop (k + 1) picks) table →
+    option_copied def ≡ map_in_layer o (get_or picks k d).family (get_or picks k d).layer → new ≡ slice_set table (get_or picks k d).family def → IsTable o (drop k picks) new
 picked-turn o picks k d table new def l so is e =
-    let next : suc k ≡ k + 1 = omega arith in
-    subst (λ (n : ℕ). IsTableSoFar o picks (drop n picks) new) next
-    (picked o picks (get_or picks k d) (drop (suc k) picks) table new def (subst (λ (ps : List Pick). IsTableSoFar o picks ps table) (drop-more picks k d l) so) is e)
+    let next : k + 1 ≡ suc k = omega arith in
+    subst (λ (ps : List Pick). IsTable o ps new) (sym (drop-more picks k d l)) (picked o (get_or picks k d) (drop (suc k) picks) table new def (subst (λ (n : ℕ). IsTable o (drop n picks) table) next so) is e)
 
-pub picks-over : (o : Outline) (picks : List Pick) (k : ℕ) (table : List (Option (Bor Def))) → length picks ≤ k → IsTableSoFar o picks (drop k picks) table → IsTable o picks table
-picks-over o picks k table l so = done o picks table (subst (λ (ps : List Pick). IsTableSoFar o picks ps table) (drop-all picks k l) so)
+-- from the last pick to the first
+pub picked-back : (o : Outline) (picks : List Pick) (k j : ℕ) (d : Pick) (table new : List (Option (Bor Def))) (def : Option (Bor Def)) → j + 1 ≡ k → k ≤ length picks → IsTable o (drop k picks) table →
+    option_copied def ≡ map_in_layer o (get_or picks j d).family (get_or picks j d).layer → new ≡ slice_set table (get_or picks j d).family def → IsTable o (drop j picks) new
+picked-back o picks k j d table new def before l so is e = picked-turn o picks j d table new def (omega (arith, before, l)) (subst (λ (n : ℕ). IsTable o (drop n picks) table) (sym before) so) is e
+
+pub at-first : (o : Outline) (picks : List Pick) (k : ℕ) (table : List (Option (Bor Def))) → k ≤ 0 → IsTable o (drop k picks) table → IsTable o picks table
+at-first o picks zero table l so = so
+at-first o picks (suc k) table l so = absurd (omega arith)

@@ -1,66 +1,113 @@
-//! For each family of a design the definition that a leaf's proof uses, in a table that is made once for the leaf, in one pass over the definitions of the design.
+//! For each family of a design the definition that a leaf's proof uses, in a table that is made once for the leaf, in one pass over the definitions of the design and one over the picks of the leaf.
 //! For the calls that give the cones and problems of a leaf's cases, which look the definition of each element up. `IsTable` of `specs/Tables` says what it holds.
 #![tactic(auto)]
 
-ghost use Rattle.std.specs.Prelude.{◌≡◌, ◌∷◌, List, IfOk, map, slice_get, slice_set, length, option_copied, None};
-ghost use Rattle.smv_core.specs.declared.flat.Def.{Def};
+ghost use Rattle.std.specs.Prelude.{◌≡◌, IfOk, slice_get, slice_set, option_copied, Some};
 ghost use Rattle.law_obligations.specs.Outlines as outlines;
-ghost use Rattle.smv_chosen_table.specs.Tables.{AreBases, IsTable};
+ghost use Rattle.law_obligations.specs.Outlines.{base_of};
+ghost use Rattle.smv_unit_tables.specs.Bases.{AreBases};
+ghost use Rattle.smv_unit_tables.specs.Units.{AreNoted};
+ghost use Rattle.smv_chosen_table.specs.Tables.{IsTable, AreBaseDefs, map_of_unit};
 
-use smv_chosen::chosen;
-use smv_core::flat::{Def, Design, Family, Pick, Unit};
+use smv_core::flat::{Def, Design, Pick, Unit};
+use smv_unit_tables::bases::bases;
+use smv_unit_tables::units::UnitTable;
 use std::alloc::{AllocError, Global};
 
-// Of a definition and one that is found behind it the one that stands earlier.
-fn earlier<'a>(def: &'a Def, other: Option<&'a Def>) -> &'a Def
-    ensures { result.now ≡ outlines.earlier def.now (option_copied other.entry) }
+// The number of a family's base definition, if the table has the family.
+fn number_at(bases: &[usize], family: usize) -> Option<usize>
+    ensures { result ≡ slice_get bases.now family }
 {
-    match other {
-        Some(found) => { if found.place < def.place { found } else { def } }
-        None => def,
+    bases.get(family).copied()
+}
+
+// The definition of a number.
+fn def_at<'a>(design: &'a Design, place: usize) -> Option<&'a Def>
+    ensures { option_copied result ≡ slice_get design.now.defs place }
+{
+    design.defs.as_slice().get(place)
+}
+
+// The base definition of a family, by the numbers of all of them.
+fn base_at<'a>(design: &'a Design, bases: &[usize], family: usize) -> Option<&'a Def>
+    requires { AreBases design.now bases.now }
+    ensures { option_copied result ≡ base_of design.now family }
+{
+    match number_at(bases, family) {
+        Some(place) => def_at(design, place),
+        None => def_at(design, design.defs.len()),
     }
 }
 
-// Whether a definition may be the base definition of its family: of an abstract signal any, of another that outside layers.
-fn may_be_base(design: &Design, def: &Def) -> bool
-    ensures { result ≡ outlines.may_be_base design.now def.now.family (slice_get design.now.families def.now.family) def.now }
+// The base definition of each family.
+fn base_table<'a>(
+    alloc: Global,
+    design: &'a Design,
+    bases: &[usize],
+) -> Result<Vec<Option<&'a Def>>, AllocError>
+    requires { AreBases design.now bases.now }
+    ensures { IfOk result (λ table. AreBaseDefs design.now table.items) }
 {
-    match design.families.as_slice().get(def.family as usize) {
-        Some(family) => family.is_abstract || def.layer.is_none(),
-        None => false,
-    }
-}
-
-// One more definition, in front of those that are known.
-#[tactic(auto, using(crate::proofs::TableLaws::adding))]
-fn add<'a>(design: &Design, table: &mut [Option<&'a Def>], def: &'a Def)
-    requires { length table.old ≡ length design.now.families }
-    ensures { (defs : List Def) → AreBases design.now defs table.old → AreBases design.now (def.now ∷ defs) table.new }
-{
-    if may_be_base(design, def) {
-        let place = def.family as usize;
-        table[place] = Some(earlier(def, table[place]));
-    }
-}
-
-// Before the first definition no family has one.
-fn none_yet<'a>(alloc: Global, families: &[Family]) -> Result<Vec<Option<&'a Def>>, AllocError>
-    ensures { IfOk result (λ table. table.items ≡ map (λ f. None) families.now) }
-{
-    families.iter().map(|_| None).collect(alloc)
-}
-
-// The base definition of each family, found in one pass from the last definition to the first, so that of several at one place the first counts.
-#[tactic(auto, using(crate::proofs::TableLaws::starting))]
-fn bases<'a>(alloc: Global, design: &'a Design) -> Result<Vec<Option<&'a Def>>, AllocError>
-    ensures { IfOk result (λ table. AreBases design.now design.now.defs table.items) }
-{
-    let defs = design.defs.as_slice();
-    let mut table = none_yet(alloc, design.families.as_slice())?;
-    for index in (0..defs.len()).rev() {
-        add(design, &mut table, &defs[index]);
+    let mut table = Vec::new(alloc);
+    for family in 0..design.families.len() {
+        table.push(base_at(design, bases, family))?;
     }
     Ok(table)
+}
+
+// The unit at a place.
+fn unit_at(units: &[Unit], place: usize) -> Option<Unit>
+    ensures { result ≡ slice_get units.now place }
+{
+    units.get(place).copied()
+}
+
+// The definition of a unit that is a map.
+fn map_of<'a>(design: &'a Design, unit: Option<Unit>) -> Option<&'a Def>
+    ensures { option_copied result ≡ map_of_unit design.now unit }
+{
+    match unit {
+        None => None,
+        Some(Unit::Map { def }) => def_at(design, def as usize),
+        Some(Unit::Claim { .. }) => None,
+    }
+}
+
+// The definition of a family in a layer: that of the unit which is its map there, and without one the base definition.
+fn map_in_layer<'a>(
+    design: &'a Design,
+    units: &[Unit],
+    noted: &UnitTable,
+    bases: &[usize],
+    family: u16,
+    layer: u16,
+) -> Option<&'a Def>
+    requires noted { AreNoted design.now units.now noted.now }
+    requires bases { AreBases design.now bases.now }
+    ensures { option_copied result ≡ outlines.map_in_layer (record { design = design.now; units = units.now }) family (Some layer) }
+{
+    match noted.map(family, layer) {
+        None => base_at(design, bases, family as usize),
+        Some(place) => map_of(design, unit_at(units, place)),
+    }
+}
+
+// The definition that a pick chooses; none where the family is free.
+fn picked<'a>(
+    design: &'a Design,
+    units: &[Unit],
+    noted: &UnitTable,
+    bases: &[usize],
+    pick: Pick,
+) -> Option<&'a Def>
+    requires noted { AreNoted design.now units.now noted.now }
+    requires bases { AreBases design.now bases.now }
+    ensures { option_copied result ≡ outlines.map_in_layer (record { design = design.now; units = units.now }) pick.family pick.layer }
+{
+    match pick.layer {
+        None => None,
+        Some(layer) => map_in_layer(design, units, noted, bases, pick.family, layer),
+    }
 }
 
 // A definition at the place of a family, if the table has it.
@@ -73,7 +120,7 @@ fn put<'a>(table: &mut Vec<Option<&'a Def>>, family: u16, def: Option<&'a Def>)
     }
 }
 
-/// For each family of a design the definition that a proof with these picks uses; none where the family is free.
+/// For each family of a design the definition that a proof with these picks uses; none where the family is free. Of two picks of a family the first counts.
 pub fn chosen_defs<'a>(
     alloc: Global,
     design: &'a Design,
@@ -82,9 +129,15 @@ pub fn chosen_defs<'a>(
 ) -> Result<Vec<Option<&'a Def>>, AllocError>
     ensures { IfOk result (λ table. IsTable (record { design = design.now; units = units.now }) picks.now table.items) }
 {
-    let mut table = bases(alloc, design)?;
-    for pick in picks {
-        let def = chosen(design, units, picks, pick.family);
+    let bases = bases(alloc, design)?;
+    let mut table = base_table(alloc, design, bases.as_slice())?;
+    if picks.is_empty() {
+        return Ok(table);
+    }
+    let noted = UnitTable::of(alloc, design, units)?;
+    for place in (0..picks.len()).rev() {
+        let pick = picks[place];
+        let def = picked(design, units, &noted, bases.as_slice(), pick);
         put(&mut table, pick.family, def);
     }
     Ok(table)

@@ -1,17 +1,26 @@
 // The cases of a leaf, in order.
 ghost use Rattle.std.specs.Prelude.{◌≡◌, ◌≤◌, IfOk};
 ghost use Rattle.law_plan_cases.specs.Told.{IsToldBy};
-ghost use Rattle.smv_decide.specs.Leaves.{AreCases, classes_in, fails_at};
+ghost use Rattle.smv_decide.specs.Leaves.{AreCases, classes_in, turn_at};
 ghost use Rattle.smv_decide.specs.Tasks.{IsTask, case_in};
 
 use crate::tasks::Task;
 use crate::{Decision, decide_case};
 use smv_core::Seq;
 use smv_core::flat::Case;
+use smv_obligations::{Shared, in_common};
 use smv_problem::{Budgets, Verdict};
 use std::alloc::{AllocError, Global};
 
-/// Decides cases of a leaf in order, up to the first that is not true. The store of each is given back before the next one's is made.
+/// What comes behind a case: the next one, with what all cases of the design have in common, or the verdict of the leaf.
+#[derive(Drop)]
+pub enum Turn {
+    Goes { shared: Shared },
+    Ends { verdict: Verdict },
+}
+
+/// Decides cases of a leaf in order, up to the first that is not true. The store of each is given back before the next one's is made; what all cases of the design
+/// have in common is copied once, and moved from case to case.
 pub fn decide_cases(
     alloc: Global,
     task: &Task,
@@ -23,36 +32,45 @@ pub fn decide_cases(
     requires steps { 1 ≤ budgets.steps }
     ensures { IfOk result (λ v. IsToldBy (case_in task.now) budgets.nodes budgets.steps (classes_in cases.now) v) }
 {
+    let mut shared = in_common(alloc, task.design, task.names, task.set_names)?;
     for case in cases {
-        let decision = decide_case(alloc, task, case, budgets)?;
-        if let Some(verdict) = verdict_at(alloc, case, decision)? {
-            return Ok(verdict);
+        let decision = decide_case(alloc, shared, task, case, budgets)?;
+        let turn = turn_at(alloc, case, decision)?;
+        match turn {
+            Turn::Goes { shared: back } => shared = back,
+            Turn::Ends { verdict } => return Ok(verdict),
         }
     }
     Ok(Verdict::True)
 }
 
-// The verdict of a leaf whose first case that is not true is this one, or none where it is true.
-fn verdict_at(alloc: Global, case: &Case, decision: Decision) -> Result<Option<Verdict>, AllocError>
-    ensures { IfOk result (λ verdict. verdict ≡ fails_at case.now decision) }
+// What comes behind a case with this decision.
+fn turn_at(alloc: Global, case: &Case, decision: Decision) -> Result<Turn, AllocError>
+    ensures { IfOk result (λ turn. turn ≡ turn_at case.now decision) }
 {
     match decision {
-        Decision::True => Ok(None),
+        Decision::True { shared } => Ok(Turn::Goes { shared }),
         Decision::False { elements, path } => {
             let case = copied(alloc, case)?;
-            Ok(Some(Verdict::False {
-                case,
-                elements,
-                path,
-            }))
+            Ok(Turn::Ends {
+                verdict: Verdict::False {
+                    case,
+                    elements,
+                    path,
+                },
+            })
         }
         Decision::UnknownNodes { count } => {
             let case = copied(alloc, case)?;
-            Ok(Some(Verdict::UnknownNodes { case, count }))
+            Ok(Turn::Ends {
+                verdict: Verdict::UnknownNodes { case, count },
+            })
         }
         Decision::UnknownSteps => {
             let case = copied(alloc, case)?;
-            Ok(Some(Verdict::UnknownSteps { case }))
+            Ok(Turn::Ends {
+                verdict: Verdict::UnknownSteps { case },
+            })
         }
     }
 }

@@ -5,11 +5,13 @@
 #![tactic(auto)]
 
 ghost use Rattle.std.specs.Prelude.{◌≡◌, ◌≤◌, IfOk, None};
+ghost use Rattle.smv_core.specs.declared.flat.Design.{Design};
 ghost use Rattle.smv_rings.specs.Lists.{IsRel, lists_of};
 ghost use Rattle.law_case_lists.specs.CaseLists.{IsListsOf};
 ghost use Rattle.smv_problem.specs.WellFormed.{IsProblem, IsProblemOf, OfCases};
 ghost use Rattle.law_problems.specs.Parts.{IsCaseOf, width_fault};
-ghost use Rattle.smv_decide.specs.Decisions.{IsDecided, IsFound};
+ghost use Rattle.smv_obligations.specs.Shared.{IsShared, shared_in};
+ghost use Rattle.smv_decide.specs.Decisions.{IsDecided, IsFound, GivesBack};
 ghost use Rattle.smv_decide.specs.Tasks.{IsTask, case_in};
 
 pub mod leaves;
@@ -18,7 +20,7 @@ pub mod tasks;
 use bdd_store::Store;
 use smv_core::flat::{Case, Element};
 use smv_core::{Refusal, Seq};
-use smv_obligations::problem;
+use smv_obligations::{Shared, problem_with, taken_back};
 use smv_problem::{AbsState, Budgets, Problem};
 use smv_relations::relations;
 use smv_rings::Rel;
@@ -31,8 +33,10 @@ use tasks::Task;
 /// What is decided of a case.
 #[derive(Drop)]
 pub enum Decision {
-    /// It has no violating path.
-    True,
+    /// It has no violating path. What the problems of all cases of the design have in common is given back.
+    True {
+        shared: Shared,
+    },
     /// It has one: a shortest, by the values of these elements.
     False {
         elements: Seq<Element>,
@@ -59,10 +63,13 @@ fn tell(
     requires rel { IsRel store.old rel.now }
     requires lists { OfCases problem (λ c. IsListsOf c (lists_of store.old rel.now)) }
     requires found { IsFound store.old (lists_of store.old rel.now) budgets.nodes budgets.steps outcome }
-    ensures { IfOk result (λ decision. OfCases problem (λ c. IsDecided budgets.nodes budgets.steps c decision)) }
+    ensures decided { IfOk result (λ decision. OfCases problem (λ c. IsDecided budgets.nodes budgets.steps c decision)) }
+    ensures shared { IfOk result (λ decision. (d : Design) → IsShared d (shared_in problem) → GivesBack d decision) }
 {
     match outcome {
-        Outcome::Closed { set: _ } => Ok(Decision::True),
+        Outcome::Closed { set: _ } => Ok(Decision::True {
+            shared: taken_back(problem),
+        }),
         Outcome::Reaches { depth, rings } => {
             let states = path(alloc, &problem, rel, store, &rings, depth)?;
             Ok(Decision::False {
@@ -76,18 +83,24 @@ fn tell(
 }
 
 // The problem of a case that has no fault.
-fn problem_of(alloc: Global, task: &Task, case: &Case) -> Result<Problem, AllocError>
+fn problem_of(
+    alloc: Global,
+    shared: Shared,
+    task: &Task,
+    case: &Case,
+) -> Result<Problem, AllocError>
+    requires shared { IsShared task.now.design.now shared }
     requires task { IsTask task.now }
     requires case { IsCaseOf task.now.design.now task.now.leaf.now task.now.choice.now case.now.classes }
     requires width { width_fault task.now.design.now task.now.leaf.now task.now.choice.now case.now.classes ≡ None }
-    ensures { IfOk result (λ p. IsProblemOf (case_in task.now case.now.classes) p) }
+    ensures problem { IfOk result (λ p. IsProblemOf (case_in task.now case.now.classes) p) }
+    ensures shared { IfOk result (λ p. IsShared task.now.design.now (shared_in p)) }
 {
-    match problem(
+    match problem_with(
         alloc,
+        shared,
         task.design,
         task.units,
-        task.names,
-        task.set_names,
         task.leaf,
         case,
         task.choice,
@@ -99,20 +112,24 @@ fn problem_of(alloc: Global, task: &Task, case: &Case) -> Result<Problem, AllocE
     }
 }
 
-/// Decides a case of a leaf that has not too many state bits, under budgets of nodes and of images.
+/// Decides a case of a leaf that has not too many state bits, under budgets of nodes and of images. What the problems of all cases of the design have in common is
+/// moved in, and given back where the case is true.
 pub fn decide_case(
     alloc: Global,
+    shared: Shared,
     task: &Task,
     case: &Case,
     budgets: Budgets,
 ) -> Result<Decision, AllocError>
+    requires shared { IsShared task.now.design.now shared }
     requires task { IsTask task.now }
     requires case { IsCaseOf task.now.design.now task.now.leaf.now task.now.choice.now case.now.classes }
     requires width { width_fault task.now.design.now task.now.leaf.now task.now.choice.now case.now.classes ≡ None }
     requires steps { 1 ≤ budgets.steps }
-    ensures { IfOk result (λ decision. IsDecided budgets.nodes budgets.steps (case_in task.now case.now.classes) decision) }
+    ensures decided { IfOk result (λ decision. IsDecided budgets.nodes budgets.steps (case_in task.now case.now.classes) decision) }
+    ensures shared { IfOk result (GivesBack task.now.design.now) }
 {
-    let made = problem_of(alloc, task, case)?;
+    let made = problem_of(alloc, shared, task, case)?;
     let bits = state_bits(&made);
     let mut store = Store::new(alloc, 2 * u32::from(bits))?;
     let rel = relations(alloc, &made, &mut store)?;

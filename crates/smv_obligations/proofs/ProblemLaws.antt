@@ -4,6 +4,7 @@ use Rattle.std.proofs.lemmas.Bool.Decides.{nat_tests}
 use Rattle.smv_core.specs.declared.flat.Timed.{Timed}
 use Rattle.smv_core.specs.declared.flat.Timing.TheVariants.{Now, Before}
 use Rattle.smv_core.specs.declared.flat.Element.{Element}
+use Rattle.smv_core.specs.declared.flat.Family.{Family}
 use Rattle.smv_abstraction.specs.declared.abstract_type.AbsType.{AbsType}
 use Rattle.smv_abstraction.specs.Places.{Place, World}
 use Rattle.smv_abstraction.specs.Soundness as sound
@@ -24,6 +25,8 @@ use Rattle.smv_cone.specs.declared.parts.Part.{Part}
 use Rattle.smv_cone.specs.Parts.{outline_of, entry_of, params_of, cone_of, IsPartOf}
 use Rattle.smv_cone.proofs.Ends.{forms-written}
 use Rattle.smv_cone.proofs.Views.{part-view, carried}
+use Rattle.smv_obligations.specs.declared.shared.Shared.{Shared}
+use Rattle.smv_obligations.specs.Shared.{IsShared}
 use Rattle.smv_obligations.specs.Demands.{said, target_in, demands_in, problem_in}
 use Rattle.smv_obligations.proofs.DemandLaws.{bindings-are, target-is, demands-are}
 
@@ -80,13 +83,16 @@ module _ (p : Part) (h : IsPartOf p) (times : Timed) where
       ∙ (ap (λ (t : Demand). made p.view.types.now (demands_in p times Now all) (demands_in p times Before all) t c.bindings) (target-is p h)
       ∙ ap (λ (ss : List Spot). made p.view.types.now (demands_in p times Now all) (demands_in p times Before all) (target_in p (said p)) ss) (bindings-are p h))))
 
-  pub problem-is : (names : List (List ℕ)) (set_names : List ℕ) (elements : List Element) → names ≡ map (map (name_number p.view.design.now.enums)) p.view.design.now.enums → set_names ≡ set_numbers_of p.view.design.now.sets →
-      elements ≡ map written_element (cone_of p) → problem_in p times names set_names elements ≡ written the_case
-  problem-is names set_names elements e f g =
-      ap (λ (ns : List (List ℕ)). problem_in p times ns set_names elements) e
-      ∙ (ap (λ (ns : List ℕ). problem_in p times (map (map (name_number p.view.design.now.enums)) p.view.design.now.enums) ns elements) f
-      ∙ (ap (λ (xs : List Element). problem_in p times (map (map (name_number p.view.design.now.enums)) p.view.design.now.enums) (set_numbers_of p.view.design.now.sets) xs) g
-      ∙ (sym written-by ∙ ap written (sym case-is))))
+  pub problem-is : (s : Shared) (elements : List Element) → IsShared p.view.design.now s → elements ≡ map written_element (cone_of p) → problem_in p times s elements ≡ written the_case
+  problem-is s elements h g =
+      let made-of : List (List ℕ) → List ℕ → List Family → List ℕ → Shared = λ ns ss fs ls. record { families = fs; lists = ls; names = ns; set_names = ss } in
+      ap (λ (fs : List Family). problem_in p times (made-of s.names s.set_names fs s.lists) elements) h.families
+      ∙ (ap (λ (ls : List ℕ). problem_in p times (made-of s.names s.set_names p.view.design.now.families ls) elements) h.lists
+      ∙ (ap (λ (ns : List (List ℕ)). problem_in p times (made-of ns s.set_names p.view.design.now.families (map length p.view.design.now.enums)) elements) h.names
+      ∙ (ap (λ (ss : List ℕ). problem_in p times (made-of (map (map (name_number p.view.design.now.enums)) p.view.design.now.enums) ss p.view.design.now.families (map length p.view.design.now.enums)) elements) h.set_names
+      ∙ (ap
+      (λ (xs : List Element). problem_in p times (made-of (map (map (name_number p.view.design.now.enums)) p.view.design.now.enums) (set_numbers_of p.view.design.now.sets) p.view.design.now.families (map length p.view.design.now.enums)) xs) g
+      ∙ (sym written-by ∙ ap written (sym case-is))))))
 
   -- without the fault the bits are few
   few : width_fault p.view.design.now p.leaf.now p.choice.now p.classes.now ≡ None → bits_with p.view.design.now p.leaf.now p.choice.now p.classes.now ≤ 1024

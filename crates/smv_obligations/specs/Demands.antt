@@ -22,6 +22,7 @@ use Rattle.smv_elements.specs.Elements.{same_element}
 use Rattle.smv_spots.specs.declared.spots.Spot.{Spot}
 use Rattle.smv_reads.specs.Views.{spot_in, classes_in}
 use Rattle.smv_cone.specs.declared.parts.Part.{Part}
+use Rattle.smv_obligations.specs.declared.shared.Shared.{Shared}
 use Rattle.smv_cone.specs.Parts.{outline_of, entry_of}
 
 -- an element of a family, and the definition of one with these indexes
@@ -85,14 +86,14 @@ module _ (p : Part) where
   abbrev pub demands_in : Timed → Timing → List Element → List Demand
   demands_in times time elements = flat_map (element_in_turn times time) elements ++ flat_map (claim_in_turn time) (zip p.choice.now.claims times.claims)
 
-  -- the problem with these elements and numbers of names
-  abbrev pub problem_in : Timed → List (List ℕ) → List ℕ → List Element → Problem
-  problem_in times names set_names elements = record {
+  -- the problem with these elements, and what it has in common with others
+  abbrev pub problem_in : Timed → Shared → List Element → Problem
+  problem_in times shared elements = record {
     elements = elements;
-    families = p.view.design.now.families;
-    lists = map length p.view.design.now.enums;
-    names = names;
-    set_names = set_names;
+    families = shared.families;
+    lists = shared.lists;
+    names = shared.names;
+    set_names = shared.set_names;
     types = p.view.types.now;
     now = demands_in times Now elements;
     before = demands_in times Before elements;

@@ -1,12 +1,14 @@
-use Rattle.smv_chosen_table.proofs.TableLaws.{begun, picked-turn, picks-over}
+use Rattle.std.proofs.Common.{◌-◌, length, refl, arith}
+use Rattle.smv_chosen_table.proofs.TableLaws.{before-last, picked-back, at-first}
 use Rattle.smv_chosen_table.proofs.chosen_defs.Goals as goal
 
-pub loop-pick-init : goal.loop-pick-init
-loop-pick-init c = begun (record { design = c.args.design.now; units = c.args.units.now }) c.args.picks.now c.in_ok-table.table.items c.in_ok-table.ensures
+pub loop-place-init : goal.loop-place-init
+loop-place-init c = before-last (record { design = c.args.design.now; units = c.args.units.now }) c.args.picks.now (length c.args.picks.now) c.in_ok-table.table.items refl c.in_ok-table.ensures
 
-pub loop-pick-preserved : goal.loop-pick-preserved
-loop-pick-preserved c =
-    picked-turn (record { design = c.args.design.now; units = c.args.units.now }) c.args.picks.now c.loop-pick.pick-index _ c.loop-pick.table.items _ c.chosen-def.result c.loop-pick-test.true c.loop-pick.invariant c.chosen-def.ensures c.put.ensures
+pub loop-place-preserved : goal.loop-place-preserved
+loop-place-preserved c =
+    picked-back (record { design = c.args.design.now; units = c.args.units.now }) c.args.picks.now c.loop-place.place (c.loop-place.place - 1) _ c.loop-place.table.items c.put.new.table.items c.picked-def.result (omega arith) (omega arith)
+    c.loop-place.invariant c.picked-def.ensures c.put.ensures
 
 pub returns : goal.returns
-returns c = picks-over (record { design = c.args.design.now; units = c.args.units.now }) c.args.picks.now c.loop-pick.pick-index c.loop-pick.table.items c.loop-pick-test.false c.loop-pick.invariant
+returns c = at-first (record { design = c.args.design.now; units = c.args.units.now }) c.args.picks.now c.loop-place.place c.loop-place.table.items c.loop-place-test.false c.loop-place.invariant

@@ -4,7 +4,7 @@ use Rattle.smv_decide.proofs.Deciding.{found_after}
 use Rattle.smv_decide.proofs.decide_case.Goals as goal
 
 pub tell-requires-clause-well_formed : goal.tell-requires-clause-well_formed
-tell-requires-clause-well_formed c = (_, c.in_ok-made.ensures.0, c.in_ok-made.ensures.1)
+tell-requires-clause-well_formed c = (_, c.in_ok-made.ensures.problem.0, c.in_ok-made.ensures.problem.1)
 
 pub tell-requires-clause-rel : goal.tell-requires-clause-rel
 tell-requires-clause-rel c = rel_kept c.relations.new.store c.search.new.store c.in_ok-rel.rel c.search.ensures.keeps c.in_ok-rel.ensures.rel

@@ -1,9 +1,13 @@
 use Rattle.std.proofs.Common.{take}
 use Rattle.law_verdicts.specs.Verdicts.{AreTrueCases}
 use Rattle.law_plan_cases.specs.Told.{lists_for}
+use Rattle.smv_obligations.specs.Shared.{IsShared}
 use Rattle.smv_decide.specs.Leaves.{classes_in}
 use Rattle.smv_decide.specs.Tasks.{case_in}
 use Rattle.smv_decide.proofs.leaves.decide_cases.Given as goal
 
 abbrev pub invariant-loop-case : goal.invariant-loop-case
-invariant-loop-case l = AreTrueCases (lists_for (case_in l.task) l.budgets.nodes l.budgets.steps) l.budgets.nodes l.budgets.steps (classes_in (take l.case-index l.cases))
+invariant-loop-case l = record {
+  shared : IsShared l.task.design.now l.shared;
+  are_true : AreTrueCases (lists_for (case_in l.task) l.budgets.nodes l.budgets.steps) l.budgets.nodes l.budgets.steps (classes_in (take l.case-index l.cases));
+}

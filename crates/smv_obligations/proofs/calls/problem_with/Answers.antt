@@ -7,7 +7,7 @@ use Rattle.smv_problem.specs.Written.{written}
 use Rattle.smv_problem.specs.WellFormed.{IsWellFormed}
 use Rattle.smv_cases.specs.Types.{types_of}
 use Rattle.smv_cone.specs.Parts.{spots_in}
-use Rattle.smv_obligations.proofs.calls.problem.Goals as goal
+use Rattle.smv_obligations.proofs.calls.problem_with.Goals as goal
 
 pub problem_in-requires-clause-part : goal.problem_in-requires-clause-part
 problem_in-requires-clause-part c = record {
