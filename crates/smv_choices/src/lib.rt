@@ -6,8 +6,10 @@
 
 ghost use Rattle.law_obligations.specs.Units.{units_of};
 ghost use Rattle.law_splits.specs.Leaves.{leaves_of};
-ghost use Rattle.std.specs.Prelude.{◌≡◌};
+ghost use Rattle.std.specs.Prelude.{◌≡◌, map};
 ghost use Rattle.smv_choices.specs.Answers.{AreChosen};
+ghost use Rattle.smv_choices.specs.Held.{AreTables};
+ghost use Rattle.smv_choices.specs.Readings.{reading, reading_in};
 
 pub mod faults;
 pub mod found;
@@ -23,8 +25,8 @@ pub mod twice;
 
 use crate::faults::uses_fault;
 use crate::leaf_choices::all_choices;
-use crate::readings::all_readings;
-use crate::tables::make_tables;
+use crate::readings::{Reading, all_readings};
+use crate::tables::{Tables, make_tables};
 use smv_core::flat::{Choice, Design, Leaf, Unit};
 use smv_core::{Refusal, Seq};
 use std::alloc::Global;
@@ -41,10 +43,42 @@ pub fn choices(
     ensures { AreChosen design.now result }
 {
     let tables = make_tables(alloc, design)?;
-    let all = all_readings(alloc, &tables, leaves)?;
-    if let Some(fault) = uses_fault(alloc, units, &tables, &all)? {
+    answer(alloc, units, leaves, &tables)
+}
+
+// The same by the tables of the design.
+fn answer<'a>(
+    alloc: Global,
+    units: &[Unit],
+    leaves: &'a [Leaf],
+    tables: &Tables<'a>,
+) -> Result<Seq<Choice>, Refusal>
+    requires tables { AreTables tables.now }
+    requires units { units.now ≡ units_of tables.now.design.now }
+    requires leaves { leaves.now ≡ leaves_of tables.now.design.now }
+    ensures { AreChosen tables.now.design.now result }
+{
+    let all = all_readings(alloc, tables, leaves)?;
+    answer_by(alloc, units, leaves, tables, &all)
+}
+
+// The same by what each `using` says.
+fn answer_by(
+    alloc: Global,
+    units: &[Unit],
+    leaves: &[Leaf],
+    tables: &Tables,
+    all: &[Reading],
+) -> Result<Seq<Choice>, Refusal>
+    requires tables { AreTables tables.now }
+    requires units { units.now ≡ units_of tables.now.design.now }
+    requires leaves { leaves.now ≡ leaves_of tables.now.design.now }
+    requires all { map reading all.now ≡ map (reading_in tables.now.design.now leaves.now) tables.now.design.now.uses }
+    ensures { AreChosen tables.now.design.now result }
+{
+    if let Some(fault) = uses_fault(alloc, units, tables, all)? {
         return Err(Refusal::Fault(fault));
     }
-    let made = all_choices(alloc, units, leaves, &tables, &all)?;
+    let made = all_choices(alloc, units, leaves, tables, all)?;
     Ok(Seq::from_vec(made))
 }
