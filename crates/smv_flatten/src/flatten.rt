@@ -1,5 +1,5 @@
 // The flattened text.
-ghost use Rattle.std.specs.Prelude.{◌≡◌, ◌++◌, [], map, flat_map, IfOk, OnOk};
+ghost use Rattle.std.specs.Prelude.{◌≡◌, ◌++◌, ◌∷◌, [], map, flat_map, IfOk, OnOk};
 ghost use Rattle.smv_core.specs.FlatOrder.{modules};
 ghost use Rattle.smv_instances.specs.Said.{AreNoted};
 ghost use Rattle.law_flattening.specs.Flattening as flattening;
@@ -21,12 +21,21 @@ use crate::places::placed;
 use crate::roles::{role_table, roles_named};
 use name_index::map::NameMap;
 use smv_core::flat::{FlatItem, Raw};
+use smv_core::name::Name;
 use smv_core::seq::Seq;
 use smv_core::tree::{Role, Text};
 use smv_flatten_families::numbers::{Here, Numbers, body_of, numbers_of};
 use smv_flatten_statements::vars::Var;
 use smv_instances::pieces::Piece;
 use std::alloc::{AllocError, Global};
+
+// One item more.
+fn put(item: FlatItem, out: &mut Vec<FlatItem>) -> Result<(), AllocError>
+    ensures { OnOk result (out.new.items ≡ out.old.items ++ item ∷ []) }
+{
+    out.push(item)?;
+    Ok(())
+}
 
 // What an item inside these binders is, whose variables are `vars`.
 #[tactic(auto, using(smv_instances::proofs::Notes::noting, crate::proofs::FlatLaws::items))]
@@ -65,8 +74,7 @@ fn add_item<'a>(
             at,
         } => {
             let item = claimed(alloc, here, around, vars, name, brackets, body, at)?;
-            out.push(item)?;
-            Ok(())
+            put(item, out)
         }
         What::Split {
             name,
@@ -76,18 +84,15 @@ fn add_item<'a>(
             at,
         } => {
             let item = divided(alloc, here, around, vars, name, brackets, of, pairs, at)?;
-            out.push(item)?;
-            Ok(())
+            put(item, out)
         }
         What::Using { uses, proves, at } => {
             let item = used(alloc, here, around, uses, proves, at)?;
-            out.push(item)?;
-            Ok(())
+            put(item, out)
         }
         What::Act { act } => {
             let item = statement(alloc, here, around, vars, None, act)?;
-            out.push(item)?;
-            Ok(())
+            put(item, out)
         }
     }
 }
@@ -145,28 +150,55 @@ fn items_of<'a>(
     Ok(items)
 }
 
-/// The flattened text of a text whose tops were noted. Also where a number does not fit its field, which no text within the limits has, no memory is said to be left.
-pub fn flatten<'a>(alloc: Global, text: &'a Text, pieces: &[Piece<'a>]) -> Result<Raw, AllocError>
-    requires { AreNoted pieces.now text.now }
-    ensures { IfOk result (λ raw. raw ≡ flattening.flatten text.now) }
+// The layers of a text and its items.
+#[derive(Drop)]
+struct LayeredItems {
+    layers: Seq<Name>,
+    items: Seq<FlatItem>,
+}
+
+// What the text of these numbers says.
+fn said(alloc: Global, numbers: &Numbers) -> Result<LayeredItems, AllocError>
+    requires { AreNumbers numbers.now }
+    ensures { IfOk result (λ said. record { sets = numbers.now.sets; enums = numbers.now.enums; layers = said.layers; families = numbers.now.families; items = said.items } ≡ flattening.flatten numbers.now.text.now) }
 {
-    let numbers = numbers_of(alloc, text, pieces)?;
-    let all = all_met(alloc, &numbers)?;
+    let all = all_met(alloc, numbers)?;
     let layers = layers_met(alloc, all.as_slice())?;
-    let items = items_of(alloc, &numbers, &layers, all.as_slice())?;
+    let items = items_of(alloc, numbers, &layers, all.as_slice())?;
     let items = placed(items)?;
     let Layers { names, .. } = layers;
+    Ok(LayeredItems {
+        layers: names,
+        items,
+    })
+}
+
+// The flattened text of these parts. What was only looked up in is let go.
+fn raw_of(numbers: Numbers, said: LayeredItems) -> Raw
+    ensures { result ≡ record { sets = numbers.entry.sets; enums = numbers.entry.enums; layers = said.layers; families = numbers.entry.families; items = said.items } }
+{
     let Numbers {
         sets,
         enums,
         families,
         ..
     } = numbers;
-    Ok(Raw {
+    let LayeredItems { layers, items } = said;
+    Raw {
         sets,
         enums,
-        layers: names,
+        layers,
         families,
         items,
-    })
+    }
+}
+
+/// The flattened text of a text whose tops were noted. Also where a number does not fit its field, which no text within the limits has, no memory is said to be left.
+pub fn flatten<'a>(alloc: Global, text: &'a Text, pieces: &[Piece<'a>]) -> Result<Raw, AllocError>
+    requires { AreNoted pieces.now text.now }
+    ensures { IfOk result (λ raw. raw ≡ flattening.flatten text.now) }
+{
+    let numbers = numbers_of(alloc, text, pieces)?;
+    let said = said(alloc, &numbers)?;
+    Ok(raw_of(numbers, said))
 }
