@@ -16,11 +16,15 @@ use Rattle.smv_core.specs.Signs as w
 use Rattle.smv_core.specs.Grammar.{Turns, RefPart, dotted, bracketed, place_of}
 use Rattle.law_grammar.specs.Parsing.{Outcome, Parser, and_then, bind, pure, take, take_open, fork, loop}
 use Rattle.law_grammar.specs.Marks.{any_name, exactly, begins}
-use Rattle.law_grammar.specs.Readers.{a_token, a_name, a_same_name, read_separated, read_separated_or_none}
+use Rattle.law_grammar.specs.Readers.{a_token, a_name, a_number, a_same_name, read_separated, read_separated_or_none}
 use Rattle.law_grammar.specs.Expressions.{expr_marks, read_span, expr_readers}
-use Rattle.law_grammar.specs.Statements.{a_positive, stmt_marks, read_value, stmt_readers}
+use Rattle.law_grammar.specs.Statements.{a_positive, stmt_marks, read_bound, read_value, stmt_readers}
 use Rattle.law_grammar.specs.Items.{MarkedPart, parts_of, vars_of, vars_of_some, read_marked, read_assigned, read_claimed, read_behind, read_listed, read_module_body, item_readers}
 use Rattle.law_grammar.specs.References.{read_ref_part, read_ref, read_pair}
+
+-- the header of a `for` behind the name of its variable
+abbrev pub read_counted : Word → Parser Turns
+read_counted x = bind (take (a_token equal)) (λ _. bind (take a_number) (λ from. bind (take (a_token semicolon)) (λ _. read_bound x from.0)))
 
 -- the step of a `for`, whose bound is known
 abbrev pub read_stepped : Word → ℕ → Bool → ℕ → Parser Turns

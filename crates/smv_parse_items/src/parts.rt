@@ -6,7 +6,7 @@ ghost use Rattle.law_grammar.specs.Parsing.{take, bind};
 ghost use Rattle.law_grammar.specs.Readers.{a_token, read_separated};
 ghost use Rattle.law_grammar.specs.Statements.{read_label, read_binder, read_bound, read_turns, read_value, read_assignment, read_timed, stmt_readers};
 ghost use Rattle.smv_parse_expressions.specs.Answers.{StopsAs};
-ghost use Rattle.smv_parse_items.specs.Pieces.{read_stepped, read_timed_behind};
+ghost use Rattle.smv_parse_items.specs.Pieces.{read_counted, read_stepped, read_timed_behind};
 
 use crate::tokens::{bound_sign, moment, positive, same_name};
 use smv_core::seq::Seq;
@@ -142,15 +142,12 @@ pub struct Turns {
     pub step: u16,
 }
 
-/// '(' and the header of a `for` up to its ')'.
-#[tactic(auto, using(law_grammar::proofs::Steps::open_then), unfolding(law_grammar::specs::Statements::read_turns))]
-pub fn header(alloc: Global, levels: u8, tokens: &[Token]) -> Result<(Turns, &[Token]), Stop>
-    ensures found { IfOk result (λ found. read_turns levels tokens.now ≡ Ok (record { var = found.0.var; from = found.0.from; to = found.0.to; closed = found.0.closed; step = found.0.step }, found.1.now)) }
-    ensures stop { IfErr result (λ stop. StopsAs stop (read_turns levels tokens.now)) }
+/// Behind the variable of a `for`: the rest of its header, up to its ')'.
+fn counted(var: Word, tokens: &[Token]) -> Result<(Turns, &[Token]), Stop>
+    ensures found { IfOk result (λ found. read_counted var tokens.now ≡ Ok (record { var = found.0.var; from = found.0.from; to = found.0.to; closed = found.0.closed; step = found.0.step }, found.1.now)) }
+    ensures stop { IfErr result (λ stop. StopsAs stop (read_counted var tokens.now)) }
 {
-    let (_, rest) = opening_sign(OPEN_PAREN, levels, tokens)?;
-    let (var, rest) = name(alloc, rest)?;
-    let (_, rest) = sign(EQUAL, rest)?;
+    let (_, rest) = sign(EQUAL, tokens)?;
     let ((from, _), rest) = number(rest)?;
     let (_, rest) = sign(SEMICOLON, rest)?;
     let ((to, closed, step), rest) = bound(&var, from, rest)?;
@@ -164,6 +161,17 @@ pub fn header(alloc: Global, levels: u8, tokens: &[Token]) -> Result<(Turns, &[T
         },
         rest,
     ))
+}
+
+/// '(' and the header of a `for` up to its ')'.
+#[tactic(auto, using(law_grammar::proofs::Steps::open_then), unfolding(law_grammar::specs::Statements::read_turns))]
+pub fn header(alloc: Global, levels: u8, tokens: &[Token]) -> Result<(Turns, &[Token]), Stop>
+    ensures found { IfOk result (λ found. read_turns levels tokens.now ≡ Ok (record { var = found.0.var; from = found.0.from; to = found.0.to; closed = found.0.closed; step = found.0.step }, found.1.now)) }
+    ensures stop { IfErr result (λ stop. StopsAs stop (read_turns levels tokens.now)) }
+{
+    let (_, rest) = opening_sign(OPEN_PAREN, levels, tokens)?;
+    let (var, rest) = name(alloc, rest)?;
+    counted(var, rest)
 }
 
 /// ':=' Expr ';'
