@@ -66,6 +66,15 @@ fn first_of(faults: &[Fault]) -> Option<Fault>
     found
 }
 
+// The first fault of the text of these tables.
+fn first_fault(alloc: Global, tables: &Tables) -> Result<Option<Fault>, AllocError>
+    requires { AreKindTables tables.now }
+    ensures { IfOk result (λ fault. fault ≡ first_fault_of_kinds tables.now.names.text.now) }
+{
+    let out = all_faults(tables, alloc)?;
+    Ok(first_of(out.as_slice()))
+}
+
 /// The first fault of a text among 12 to 14, in every module.
 pub fn kinds_fault(
     alloc: Global,
@@ -76,6 +85,5 @@ pub fn kinds_fault(
     ensures { IfOk result (λ fault. fault ≡ first_fault_of_kinds text.now) }
 {
     let tables = tables_of(alloc, text, pieces)?;
-    let out = all_faults(&tables, alloc)?;
-    Ok(first_of(out.as_slice()))
+    first_fault(alloc, &tables)
 }
