@@ -7,7 +7,7 @@ ghost use Rattle.law_grammar.specs.Marks.{any_name, any_number, begins};
 ghost use Rattle.law_grammar.specs.Readers.{a_token};
 ghost use Rattle.law_grammar.specs.Statements.{stmt_marks, read_stmt, read_simple, read_worded, read_block, read_forall, read_if, read_else, read_switch, read_arms, read_arm, read_other, read_default, read_for, stmt_readers};
 ghost use Rattle.smv_parse_expressions.specs.Answers.{StopsAs};
-ghost use Rattle.smv_parse_items.specs.Nests.{Nests};
+ghost use Rattle.smv_parse_statements.specs.Nests.{Nests};
 
 use crate::ahead::{next_begins_label, next_begins_stmt, next_is_moment};
 use crate::parts::{assignment, binder, header, labels, timed};

@@ -6,7 +6,7 @@ ghost use Rattle.law_grammar.specs.Parsing.{take, bind};
 ghost use Rattle.law_grammar.specs.Readers.{a_token, read_separated};
 ghost use Rattle.law_grammar.specs.Statements.{read_label, read_binder, read_bound, read_turns, read_value, read_assignment, read_timed, stmt_readers};
 ghost use Rattle.smv_parse_expressions.specs.Answers.{StopsAs};
-ghost use Rattle.smv_parse_items.specs.Pieces.{read_counted, read_stepped, read_timed_behind};
+ghost use Rattle.smv_parse_statements.specs.Pieces.{read_counted, read_stepped, read_timed_behind};
 
 use crate::tokens::{bound_sign, moment, positive, same_name};
 use smv_core::seq::Seq;
