@@ -1,12 +1,14 @@
 #!/usr/bin/env python3
 """Measures `smv_main prove` on the texts of tools/texts.py, and prints a Markdown table.
 
-    python3 tools/measure.py [--program PATH] [--runs N] [--only WORD] [--write FOLDER]
+    python3 tools/measure.py [--program PATH] [--runs N] [--only WORD] [--write FOLDER] [--last design|plan|none]
 
 For each text and size: bytes, the least processor time of the runs, the peak memory and the exit status. The last column is the growth from the
 second size to the third: the power of the size by which the time grows, so 1 is in proportion and 2 is the square. Times below 0.02 s say nothing,
 and memory below some 12 MB is that of this script before the program starts.
 --only takes the rows whose name has the word; --write keeps the texts in a folder.
+Behind all it says each text gets one fault more, so that no case is decided: with --last design fault 20, the last one of the design, so the passes up to there are run; with --last plan fault 30, the last one of all, before which
+the cases of each leaf and their cones are looked at too; with --last none nothing, and the whole of `prove` is measured.
 """
 
 import argparse
@@ -27,6 +29,20 @@ PROGRAM = REPOSITORY / "crates" / "smv_main" / "out" / "smv_main"
 # More memory than this ends a run, so that no row takes the machine.
 MOST_MEMORY = 8 << 30
 MOST_SECONDS = 300
+
+
+# A fault that is looked for last, behind all that a text says: of the design, an abstract signal that is assigned outside layers; of the plan, a case with too many state bits.
+LAST = {
+    "design": "abstract zz_bit : boolean;\nnext(zz_bit) := 0;\n",
+    "plan": "zz_bits : array 0..255 of 0..255;\nzz_claim : assert G &[ zz_bits[i] = 0 : i in 0..255 ];\n",
+    "none": "",
+}
+
+
+def with_last_fault(text, last):
+    """The text with this fault at the end of its last module, which is `main`."""
+    end = text.rindex("}")
+    return text[:end] + LAST[last] + text[end:]
 
 
 def limits():
@@ -59,14 +75,15 @@ def growth(sizes, times):
     return f"{math.log(times[2] / times[1]) / math.log(sizes[2] / sizes[1]):.1f}"
 
 
-def row(program, folder, name, text_of, sizes, runs):
+def row(program, folder, name, text_of, sizes, words):
     """A line of the table."""
     texts = [text_of(size) for size in sizes]
+    texts = [with_last_fault(text, words.last) for text in texts]
     results = []
     for size, text in zip(sizes, texts):
         path = pathlib.Path(folder) / f"{text_of.__name__}_{size}.smv"
         path.write_text(text)
-        results.append(measured(program, path, runs))
+        results.append(measured(program, path, words.runs))
     cells = [
         name,
         ", ".join(f"{size:,}" for size in sizes),
@@ -85,6 +102,7 @@ def main():
     parser.add_argument("--runs", type=int, default=3)
     parser.add_argument("--only", default="")
     parser.add_argument("--write")
+    parser.add_argument("--last", choices=sorted(LAST), default="design")
     words = parser.parse_args()
     if not words.program.exists():
         sys.exit(f"{words.program} is not there: build it by `rt run` in crates/smv_main")
@@ -95,7 +113,7 @@ def main():
         pathlib.Path(folder).mkdir(parents=True, exist_ok=True)
         for name, text_of, sizes in ROWS:
             if words.only in name or words.only in text_of.__name__:
-                print(row(words.program, folder, name, text_of, sizes, words.runs), flush=True)
+                print(row(words.program, folder, name, text_of, sizes, words), flush=True)
 
 
 if __name__ == "__main__":
