@@ -6,6 +6,7 @@
 A LIST is a name of tools/diagrams.py; without one all of docs/MEASURED.md are run. --program is the built client (crates/bdd_client/out/bdd_client, as `rt run` in its folder makes it). The C side is tools/buddy.c, built here with
 cc -O2 and -lbdd: BuDDy 2.4 as a library, Debian's libbdd-dev. Its table of nodes begins with --nodes places (1,000,000), and of its caches of 10,000, 100,000 and 1,000,000 entries the best counts, list by list.
 Times are processor times of whole processes, or of BuDDy's operations alone; each round runs the client once and BuDDy once with each cache. The answers must agree line by line, or the script ends with status 1.
+Memory below some 16 MB is that of this script before the program starts.
 """
 
 import argparse
