@@ -1,9 +1,9 @@
 use Rattle.std.proofs.Common.{◌-◌, length, refl, arith}
 use Rattle.smv_chosen_table.proofs.TableLaws.{before-last, picked-back, at-first}
-use Rattle.smv_chosen_table.proofs.chosen_defs.Goals as goal
+use Rattle.smv_chosen_table.proofs.choose.Goals as goal
 
 pub loop-place-init : goal.loop-place-init
-loop-place-init c = before-last (record { design = c.args.design.now; units = c.args.units.now }) c.args.picks.now (length c.args.picks.now) c.in_ok-table.table.items refl c.in_ok-table.ensures
+loop-place-init c = before-last (record { design = c.args.design.now; units = c.args.units.now }) c.args.picks.now (length c.args.picks.now) c.args.table.now.items refl c.requires.table
 
 pub loop-place-preserved : goal.loop-place-preserved
 loop-place-preserved c =

@@ -1,5 +1,5 @@
 use Rattle.smv_chosen_table.proofs.TableLaws.{base-pushed, pushed-long}
-use Rattle.smv_chosen_table.proofs.base_table.Goals as goal
+use Rattle.smv_chosen_table.proofs.base_defs.Goals as goal
 
 pub loop-family-preserved : goal.loop-family-preserved
 loop-family-preserved c = (
