@@ -1,9 +1,9 @@
 -- The first of some cases that is not true.
 use Rattle.std.proofs.Common.{◌≡◌, ℕ, zero, suc, ◌+◌, ◌<◌, ◌≤◌, List, [], ◌∷◌, ◌++◌, map, length, get_or, take, drop, false, refl, sym, ap, subst, ◌∙◌, inl, inr, arith}
+use Rattle.std.specs.Prelude.{Option, Some, None}
 use Rattle.std.proofs.Math.Seq.{drop-cons}
 use Rattle.std.proofs.lemmas.List.{take_more, take-append-drop, take_all}
 use Rattle.smv_core.specs.declared.flat.Class.{Class}
-use Rattle.smv_core.specs.declared.flat.Design.{Design}
 use Rattle.smv_core.specs.declared.flat.Case.{Case as CaseData}
 use Rattle.smv_abstraction.specs.Sets.{Has, first, later}
 use Rattle.smv_abstraction.proofs.Members.{Has-cases}
@@ -15,14 +15,10 @@ use Rattle.smv_problem.specs.declared.report.Verdict.TheVariants.{True}
 use Rattle.law_verdicts.specs.Verdicts.{is_shut, IsTrueCase, AreTrueCases, FailsFirst}
 use Rattle.law_codes.specs.Readings.{Case}
 use Rattle.law_plan_cases.specs.Told.{lists_for, IsToldBy}
-use Rattle.smv_obligations.specs.declared.shared.Shared.{Shared}
-use Rattle.smv_obligations.specs.Shared.{IsShared}
 use Rattle.smv_decide.specs.declared.Decision.{Decision}
 use Rattle.smv_decide.specs.declared.Decision.TheVariants as decided
-use Rattle.smv_decide.specs.Decisions.{IsDecided, GivesBack}
-use Rattle.smv_decide.specs.declared.leaves.Turn.{Turn}
-use Rattle.smv_decide.specs.declared.leaves.Turn.TheVariants.{Goes, Ends}
-use Rattle.smv_decide.specs.Leaves.{classes_in, turn_at}
+use Rattle.smv_decide.specs.Decisions.{IsDecided}
+use Rattle.smv_decide.specs.Leaves.{classes_in, verdict_at}
 
 module _ (lists : List Class → Lists) (nodes steps : ℕ) where
   pub none_true : AreTrueCases lists nodes steps []
@@ -38,18 +34,8 @@ module _ (lists : List Class → Lists) (nodes steps : ℕ) where
   fails : (before : List (List Class)) (c : List Class) (behind cases : List (List Class)) (v : SearchVerdict) → cases ≡ before ++ (c ∷ behind) → AreTrueCases lists nodes steps before → IsVerdict (lists c) nodes steps v → is_shut v ≡ false → FailsFirst lists nodes steps cases c v
   fails before c behind cases v stands are is not = record { before = before; behind = behind; stands = stands; are_true = are; is_verdict = is; is_not = not }
 
-goes_is : {x y : Shared} → Goes x ≡ Goes y → x ≡ y
-goes_is e = cc
-
-ends_is : {x y : Verdict} → Ends x ≡ Ends y → x ≡ y
-ends_is e = cc
-
--- what a case that is true gives back is there for the next one
-pub given_back : (d : Design) (case : CaseData) (decision : Decision) (shared : Shared) → turn_at case decision ≡ Goes shared → GivesBack d decision → IsShared d shared
-given_back d case (decided.True back) shared e is = subst (IsShared d) (goes_is e) is
-given_back d case (decided.False elements path) shared e is = absurd (cc)
-given_back d case (decided.UnknownNodes count) shared e is = absurd (cc)
-given_back d case decided.UnknownSteps shared e is = absurd (cc)
+some_is : {x y : Verdict} → Some x ≡ Some y → x ≡ y
+some_is e = cc
 
 map_append : {X Y : Type 0} (f : X → Y) (xs ys : List X) → map f (xs ++ ys) ≡ map f xs ++ map f ys
 map_append f [] ys = refl
@@ -67,33 +53,33 @@ module _ (case_for : List Class → Case) (nodes steps : ℕ) where
   abbrev lists : List Class → Lists
   lists = lists_for case_for nodes steps
 
-  true_at : (case : CaseData) (decision : Decision) (shared : Shared) → turn_at case decision ≡ Goes shared → IsDecided nodes steps (case_for case.classes) decision → IsTrueCase lists nodes steps case.classes
-  true_at case (decided.True back) shared e is = is
-  true_at case (decided.False elements path) shared e is = absurd (cc)
-  true_at case (decided.UnknownNodes count) shared e is = absurd (cc)
-  true_at case decided.UnknownSteps shared e is = absurd (cc)
+  true_at : (case : CaseData) (decision : Decision) → verdict_at case decision ≡ None → IsDecided nodes steps (case_for case.classes) decision → IsTrueCase lists nodes steps case.classes
+  true_at case decided.True e is = is
+  true_at case (decided.False elements path) e is = absurd (cc)
+  true_at case (decided.UnknownNodes count) e is = absurd (cc)
+  true_at case decided.UnknownSteps e is = absurd (cc)
 
-  told_at : (case : CaseData) (decision : Decision) (verdict : Verdict) → turn_at case decision ≡ Ends verdict → IsDecided nodes steps (case_for case.classes) decision
+  told_at : (case : CaseData) (decision : Decision) (verdict : Verdict) → verdict_at case decision ≡ Some verdict → IsDecided nodes steps (case_for case.classes) decision
       → (before behind cases : List (List Class)) → cases ≡ before ++ (case.classes ∷ behind) → AreTrueCases lists nodes steps before → IsToldBy case_for nodes steps cases verdict
-  told_at case (decided.True back) verdict e is before behind cases stands are = absurd (cc)
+  told_at case decided.True verdict e is before behind cases stands are = absurd (cc)
   told_at case (decided.False elements path) verdict e (k, is, shown) before behind cases stands are =
-      subst (IsToldBy case_for nodes steps cases) (ends_is e) (k, fails lists nodes steps before case.classes behind cases (Reached k) stands are is refl, shown)
+      subst (IsToldBy case_for nodes steps cases) (some_is e) (k, fails lists nodes steps before case.classes behind cases (Reached k) stands are is refl, shown)
   told_at case (decided.UnknownNodes count) verdict e is before behind cases stands are =
-      subst (IsToldBy case_for nodes steps cases) (ends_is e) (fails lists nodes steps before case.classes behind cases (Counted count) stands are is refl)
+      subst (IsToldBy case_for nodes steps cases) (some_is e) (fails lists nodes steps before case.classes behind cases (Counted count) stands are is refl)
   told_at case decided.UnknownSteps verdict e is before behind cases stands are =
-      subst (IsToldBy case_for nodes steps cases) (ends_is e) (fails lists nodes steps before case.classes behind cases Images stands are is refl)
+      subst (IsToldBy case_for nodes steps cases) (some_is e) (fails lists nodes steps before case.classes behind cases Images stands are is refl)
 
   -- the case at a place of the loop
   module _ (cases : List CaseData) (i : ℕ) (case : CaseData) (lt : i < length cases) (at : case ≡ get_or cases i case) (decision : Decision) (is : IsDecided nodes steps (case_for case.classes) decision)
-      (are : AreTrueCases lists nodes steps (classes_in (take i cases))) (turn : Turn) (turn_is : turn ≡ turn_at case decision) where
-    pub next_true : (shared : Shared) → turn ≡ Goes shared → AreTrueCases lists nodes steps (classes_in (take (i + 1) cases))
-    next_true shared goes =
+      (are : AreTrueCases lists nodes steps (classes_in (take i cases))) (found : Option Verdict) (found_is : found ≡ verdict_at case decision) where
+    pub next_true : found ≡ None → AreTrueCases lists nodes steps (classes_in (take (i + 1) cases))
+    next_true none =
         subst (AreTrueCases lists nodes steps) (sym (ap (map (λ (c : CaseData). c.classes)) (take_more cases i case lt ∙ ap (λ (c : CaseData). take i cases ++ (c ∷ [])) (sym at)) ∙ map_append (λ (c : CaseData). c.classes) (take i cases) (case ∷ [])))
-        (one_true lists nodes steps (classes_in (take i cases)) case.classes are (true_at case decision shared (sym turn_is ∙ goes) is))
+        (one_true lists nodes steps (classes_in (take i cases)) case.classes are (true_at case decision (sym found_is ∙ none) is))
 
-    pub told_here : (verdict : Verdict) → turn ≡ Ends verdict → IsToldBy case_for nodes steps (classes_in cases) verdict
+    pub told_here : (verdict : Verdict) → found ≡ Some verdict → IsToldBy case_for nodes steps (classes_in cases) verdict
     told_here verdict ends =
-        told_at case decision verdict (sym turn_is ∙ ends) is (classes_in (take i cases)) (classes_in (drop (suc i) cases)) (classes_in cases)
+        told_at case decision verdict (sym found_is ∙ ends) is (classes_in (take i cases)) (classes_in (drop (suc i) cases)) (classes_in cases)
         (ap (map (λ (c : CaseData). c.classes)) (sym (take-append-drop i cases) ∙ ap (λ (rest : List CaseData). take i cases ++ rest) (drop-cons cases i case lt ∙ ap (λ (c : CaseData). c ∷ drop (suc i) cases) (sym at)))
         ∙ map_append (λ (c : CaseData). c.classes) (take i cases) (case ∷ drop (suc i) cases))
         are

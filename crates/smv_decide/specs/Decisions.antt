@@ -1,6 +1,5 @@
 -- What is decided of a case.
 use Rattle.std.specs.Prelude.{ℕ}
-use Rattle.smv_core.specs.declared.flat.Design.{Design}
 use Rattle.bdd_store.specs.Diagram.{Diagram, IsLive}
 use Rattle.bdd_store.specs.declared.Ref.{Ref}
 use Rattle.smv_rings.specs.Ops.{IsOneOf}
@@ -12,21 +11,15 @@ use Rattle.smv_search.specs.Verdict.Verdict.{Counted, Reached, Shut, Images}
 use Rattle.law_codes.specs.Readings.{Case}
 use Rattle.law_case_lists.specs.CaseLists.{case_lists}
 use Rattle.law_reports.specs.Reports.{IsShown}
-use Rattle.smv_obligations.specs.Shared.{IsShared}
 use Rattle.smv_decide.specs.declared.Decision.{Decision}
 use Rattle.smv_decide.specs.declared.Decision.TheVariants.{True, False, UnknownNodes, UnknownSteps}
 
 -- its verdict; a false one is shown by a shortest violating path
 abbrev pub IsDecided : ℕ → ℕ → Case → Decision → Type 0
-IsDecided nodes steps c (True shared) = (k : ℕ) × IsVerdict (case_lists c) nodes steps (Shut k)
+IsDecided nodes steps c True = (k : ℕ) × IsVerdict (case_lists c) nodes steps (Shut k)
 IsDecided nodes steps c (False elements path) = (k : ℕ) × IsVerdict (case_lists c) nodes steps (Reached k) × IsShown c k elements path
 IsDecided nodes steps c (UnknownNodes count) = IsVerdict (case_lists c) nodes steps (Counted count)
 IsDecided nodes steps c UnknownSteps = IsVerdict (case_lists c) nodes steps Images
-
--- where it is true, what it has in common with the other cases of the design is given back
-abbrev pub GivesBack : Design → Decision → Type 0
-GivesBack d (True shared) = IsShared d shared
-GivesBack d _ = Unit {0}
 
 -- what a search found, in the store in which it ended
 pub record IsFound (d : Diagram) (l : Lists) (nodes steps : ℕ) (o : Outcome) : Type 0 where

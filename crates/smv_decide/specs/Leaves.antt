@@ -1,27 +1,26 @@
--- The cases of a leaf, in order, and what comes behind each: the next one, or the verdict of the first that is not true.
-use Rattle.std.specs.Prelude.{◌≡◌, List, map, None}
+-- The cases of a leaf, in order, and the verdict of the first that is not true.
+use Rattle.std.specs.Prelude.{◌≡◌, List, map, Option, Some, None}
 use Rattle.smv_core.specs.declared.flat.Design.{Design}
 use Rattle.smv_core.specs.declared.flat.Leaf.{Leaf}
 use Rattle.smv_core.specs.declared.flat.Choice.{Choice}
 use Rattle.smv_core.specs.declared.flat.Class.{Class}
 use Rattle.smv_core.specs.declared.flat.Case.{Case as CaseData}
 use Rattle.smv_abstraction.specs.Sets.{Has}
+use Rattle.smv_problem.specs.declared.report.Verdict.{Verdict}
 use Rattle.smv_problem.specs.declared.report.Verdict.TheVariants.{False, UnknownNodes, UnknownSteps}
 use Rattle.law_problems.specs.Parts.{IsCaseOf, width_fault}
 use Rattle.smv_decide.specs.declared.Decision.{Decision}
 use Rattle.smv_decide.specs.declared.Decision.TheVariants as decided
-use Rattle.smv_decide.specs.declared.leaves.Turn.{Turn}
-use Rattle.smv_decide.specs.declared.leaves.Turn.TheVariants.{Goes, Ends}
 
 abbrev pub classes_in : List CaseData → List (List Class)
 classes_in cases = map (λ (c : CaseData). c.classes) cases
 
--- behind a case that is true comes the next one; the verdict of a leaf whose first case that is not true is this one
-abbrev pub turn_at : CaseData → Decision → Turn
-turn_at case (decided.True shared) = Goes shared
-turn_at case (decided.False elements path) = Ends (False case elements path)
-turn_at case (decided.UnknownNodes count) = Ends (UnknownNodes case count)
-turn_at case decided.UnknownSteps = Ends (UnknownSteps case)
+-- the verdict of a leaf whose first case that is not true is this one; none where it is true
+abbrev pub verdict_at : CaseData → Decision → Option Verdict
+verdict_at case decided.True = None
+verdict_at case (decided.False elements path) = Some (False case elements path)
+verdict_at case (decided.UnknownNodes count) = Some (UnknownNodes case count)
+verdict_at case decided.UnknownSteps = Some (UnknownSteps case)
 
 -- each is a case of the leaf, and none has too many state bits
 pub record AreCases (d : Design) (leaf : Leaf) (choice : Choice) (cases : List CaseData) : Type 0 where

@@ -1,18 +1,15 @@
 -- Leaves that are to be decided.
-use Rattle.std.specs.Prelude.{◌≡◌, List, map}
+use Rattle.std.specs.Prelude.{◌≡◌, List}
 use Rattle.smv_core.specs.declared.flat.Class.{Class}
 use Rattle.law_obligations.specs.Units.{units_of}
 use Rattle.law_codes.specs.Readings.{Case}
-use Rattle.smv_problem.specs.Written.{name_number, set_numbers_of}
 use Rattle.law_problems.specs.Parts.{IsPart, case_with, outlined}
 use Rattle.smv_chosen_table.specs.Tables.{IsTable}
 use Rattle.smv_decide.specs.declared.tasks.Task.{Task}
 
--- the leaf and its choice are as the passes give them, and what is made once for the design and once for the leaf is that of the two
+-- the leaf and its choice are as the passes give them, and the units and the table are those of the two
 pub record IsTask (t : Task) : Type 0 where
   pub units : t.units.now ≡ units_of t.design.now
-  pub names : t.names.now ≡ map (map (name_number t.design.now.enums)) t.design.now.enums
-  pub set_names : t.set_names.now ≡ set_numbers_of t.design.now.sets
   pub part : IsPart t.design.now t.leaf.now t.choice.now
   pub table : IsTable (outlined t.design.now) t.choice.now.picks t.table.now
 

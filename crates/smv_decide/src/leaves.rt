@@ -1,76 +1,83 @@
 // The cases of a leaf, in order.
 ghost use Rattle.std.specs.Prelude.{◌≡◌, ◌≤◌, IfOk};
 ghost use Rattle.law_plan_cases.specs.Told.{IsToldBy};
-ghost use Rattle.smv_decide.specs.Leaves.{AreCases, classes_in, turn_at};
+ghost use Rattle.smv_obligations.specs.Shared.{IsShared};
+ghost use Rattle.smv_decide.specs.Leaves.{AreCases, classes_in, verdict_at};
 ghost use Rattle.smv_decide.specs.Tasks.{IsTask, case_in};
 
 use crate::tasks::Task;
 use crate::{Decision, decide_case};
 use smv_core::Seq;
 use smv_core::flat::Case;
-use smv_obligations::{Shared, in_common};
+use smv_obligations::Shared;
 use smv_problem::{Budgets, Verdict};
 use std::alloc::{AllocError, Global};
 
-/// What comes behind a case: the next one, with what all cases of the design have in common, or the verdict of the leaf.
+/// The verdict of a leaf. What the problems of all cases of the design have in common is given back with it.
 #[derive(Drop)]
-pub enum Turn {
-    Goes { shared: Shared },
-    Ends { verdict: Verdict },
+pub struct Told {
+    pub verdict: Verdict,
+    pub shared: Shared,
 }
 
 /// Decides cases of a leaf in order, up to the first that is not true. The store of each is given back before the next one's is made; what all cases of the design
-/// have in common is copied once, and moved from case to case.
+/// have in common is moved in, from case to case, and given back.
 pub fn decide_cases(
     alloc: Global,
+    shared: Shared,
     task: &Task,
     cases: &[Case],
     budgets: Budgets,
-) -> Result<Verdict, AllocError>
+) -> Result<Told, AllocError>
+    requires shared { IsShared task.now.design.now shared }
     requires task { IsTask task.now }
     requires cases { AreCases task.now.design.now task.now.leaf.now task.now.choice.now cases.now }
     requires steps { 1 ≤ budgets.steps }
-    ensures { IfOk result (λ v. IsToldBy (case_in task.now) budgets.nodes budgets.steps (classes_in cases.now) v) }
+    ensures told { IfOk result (λ told. IsToldBy (case_in task.now) budgets.nodes budgets.steps (classes_in cases.now) told.verdict) }
+    ensures shared { IfOk result (λ told. IsShared task.now.design.now told.shared) }
 {
-    let mut shared = in_common(alloc, task.design, task.names, task.set_names)?;
+    let mut common = shared;
     for case in cases {
-        let decision = decide_case(alloc, shared, task, case, budgets)?;
-        let turn = turn_at(alloc, case, decision)?;
-        match turn {
-            Turn::Goes { shared: back } => shared = back,
-            Turn::Ends { verdict } => return Ok(verdict),
+        let decided = decide_case(alloc, common, task, case, budgets)?;
+        common = decided.shared;
+        let verdict = verdict_at(alloc, case, decided.decision)?;
+        match verdict {
+            None => {}
+            Some(verdict) => {
+                return Ok(Told {
+                    verdict,
+                    shared: common,
+                });
+            }
         }
     }
-    Ok(Verdict::True)
+    Ok(Told {
+        verdict: Verdict::True,
+        shared: common,
+    })
 }
 
-// What comes behind a case with this decision.
-fn turn_at(alloc: Global, case: &Case, decision: Decision) -> Result<Turn, AllocError>
-    ensures { IfOk result (λ turn. turn ≡ turn_at case.now decision) }
+// The verdict of a leaf whose first case that is not true is this one, by its decision; none where the case is true.
+fn verdict_at(alloc: Global, case: &Case, decision: Decision) -> Result<Option<Verdict>, AllocError>
+    ensures { IfOk result (λ verdict. verdict ≡ verdict_at case.now decision) }
 {
     match decision {
-        Decision::True { shared } => Ok(Turn::Goes { shared }),
+        Decision::True => Ok(None),
         Decision::False { elements, path } => {
             let case = copied(alloc, case)?;
-            Ok(Turn::Ends {
-                verdict: Verdict::False {
-                    case,
-                    elements,
-                    path,
-                },
-            })
+            Ok(Some(Verdict::False {
+                case,
+                elements,
+                path,
+            }))
         }
         Decision::UnknownNodes { count } => {
             let case = copied(alloc, case)?;
-            Ok(Turn::Ends {
-                verdict: Verdict::UnknownNodes { case, count },
-            })
+            Ok(Some(Verdict::UnknownNodes { case, count }))
         }
         Decision::UnknownSteps => {
             let case = copied(alloc, case)?;
-            Ok(Turn::Ends {
-                verdict: Verdict::UnknownSteps { case },
-            })
+            Ok(Some(Verdict::UnknownSteps { case }))
         }
     }
 }

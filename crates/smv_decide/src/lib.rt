@@ -5,13 +5,13 @@
 #![tactic(auto)]
 
 ghost use Rattle.std.specs.Prelude.{◌≡◌, ◌≤◌, IfOk, None};
-ghost use Rattle.smv_core.specs.declared.flat.Design.{Design};
 ghost use Rattle.smv_rings.specs.Lists.{IsRel, lists_of};
 ghost use Rattle.law_case_lists.specs.CaseLists.{IsListsOf};
 ghost use Rattle.smv_problem.specs.WellFormed.{IsProblem, IsProblemOf, OfCases};
 ghost use Rattle.law_problems.specs.Parts.{IsCaseOf, width_fault};
 ghost use Rattle.smv_obligations.specs.Shared.{IsShared, shared_in};
-ghost use Rattle.smv_decide.specs.Decisions.{IsDecided, IsFound, GivesBack};
+ghost use Rattle.smv_decide.specs.declared.Decision.TheVariants.{False};
+ghost use Rattle.smv_decide.specs.Decisions.{IsDecided, IsFound};
 ghost use Rattle.smv_decide.specs.Tasks.{IsTask, case_in};
 
 pub mod leaves;
@@ -20,7 +20,7 @@ pub mod tasks;
 use bdd_store::Store;
 use smv_core::flat::{Case, Element};
 use smv_core::{Refusal, Seq};
-use smv_obligations::{Shared, problem_with, taken_back};
+use smv_obligations::{ProblemParts, Shared, problem_with, taken_apart, taken_back};
 use smv_problem::{AbsState, Budgets, Problem};
 use smv_relations::relations;
 use smv_rings::Rel;
@@ -33,10 +33,8 @@ use tasks::Task;
 /// What is decided of a case.
 #[derive(Drop)]
 pub enum Decision {
-    /// It has no violating path. What the problems of all cases of the design have in common is given back.
-    True {
-        shared: Shared,
-    },
+    /// It has no violating path.
+    True,
     /// It has one: a shortest, by the values of these elements.
     False {
         elements: Seq<Element>,
@@ -50,6 +48,13 @@ pub enum Decision {
     UnknownSteps,
 }
 
+/// What is decided of a case. What the problems of all cases of the design have in common is given back with it.
+#[derive(Drop)]
+pub struct Decided {
+    pub decision: Decision,
+    pub shared: Shared,
+}
+
 // What the outcome of a search says of the problem.
 fn tell(
     alloc: Global,
@@ -58,27 +63,45 @@ fn tell(
     store: &mut Store,
     outcome: Outcome,
     budgets: Budgets,
-) -> Result<Decision, AllocError>
+) -> Result<Decided, AllocError>
     requires well_formed { IsProblem problem }
     requires rel { IsRel store.old rel.now }
     requires lists { OfCases problem (λ c. IsListsOf c (lists_of store.old rel.now)) }
     requires found { IsFound store.old (lists_of store.old rel.now) budgets.nodes budgets.steps outcome }
-    ensures decided { IfOk result (λ decision. OfCases problem (λ c. IsDecided budgets.nodes budgets.steps c decision)) }
-    ensures shared { IfOk result (λ decision. (d : Design) → IsShared d (shared_in problem) → GivesBack d decision) }
+    ensures decided { IfOk result (λ decided. OfCases problem (λ c. IsDecided budgets.nodes budgets.steps c decided.decision)) }
+    ensures shared { IfOk result (λ decided. decided.shared ≡ shared_in problem) }
 {
     match outcome {
-        Outcome::Closed { set: _ } => Ok(Decision::True {
+        Outcome::Closed { set: _ } => Ok(Decided {
+            decision: Decision::True,
             shared: taken_back(problem),
         }),
         Outcome::Reaches { depth, rings } => {
             let states = path(alloc, &problem, rel, store, &rings, depth)?;
-            Ok(Decision::False {
-                elements: problem.elements,
-                path: states,
-            })
+            Ok(shown(problem, states))
         }
-        Outcome::OutOfNodes { count } => Ok(Decision::UnknownNodes { count }),
-        Outcome::OutOfSteps => Ok(Decision::UnknownSteps),
+        Outcome::OutOfNodes { count } => Ok(Decided {
+            decision: Decision::UnknownNodes { count },
+            shared: taken_back(problem),
+        }),
+        Outcome::OutOfSteps => Ok(Decided {
+            decision: Decision::UnknownSteps,
+            shared: taken_back(problem),
+        }),
+    }
+}
+
+// That a problem has a violating path.
+fn shown(problem: Problem, states: Seq<AbsState>) -> Decided
+    ensures { result ≡ record { decision = False problem.elements states; shared = shared_in problem } }
+{
+    let ProblemParts { elements, shared } = taken_apart(problem);
+    Decided {
+        decision: Decision::False {
+            elements,
+            path: states,
+        },
+        shared,
     }
 }
 
@@ -113,26 +136,27 @@ fn problem_of(
 }
 
 /// Decides a case of a leaf that has not too many state bits, under budgets of nodes and of images. What the problems of all cases of the design have in common is
-/// moved in, and given back where the case is true.
+/// moved in, and given back.
 pub fn decide_case(
     alloc: Global,
     shared: Shared,
     task: &Task,
     case: &Case,
     budgets: Budgets,
-) -> Result<Decision, AllocError>
+) -> Result<Decided, AllocError>
     requires shared { IsShared task.now.design.now shared }
     requires task { IsTask task.now }
     requires case { IsCaseOf task.now.design.now task.now.leaf.now task.now.choice.now case.now.classes }
     requires width { width_fault task.now.design.now task.now.leaf.now task.now.choice.now case.now.classes ≡ None }
     requires steps { 1 ≤ budgets.steps }
-    ensures decided { IfOk result (λ decision. IsDecided budgets.nodes budgets.steps (case_in task.now case.now.classes) decision) }
-    ensures shared { IfOk result (GivesBack task.now.design.now) }
+    ensures decided { IfOk result (λ decided. IsDecided budgets.nodes budgets.steps (case_in task.now case.now.classes) decided.decision) }
+    ensures shared { IfOk result (λ decided. IsShared task.now.design.now decided.shared) }
 {
     let made = problem_of(alloc, shared, task, case)?;
     let bits = state_bits(&made);
     let mut store = Store::new(alloc, 2 * u32::from(bits))?;
     let rel = relations(alloc, &made, &mut store)?;
     let outcome = search(alloc, &rel, &mut store, budgets.nodes, budgets.steps)?;
-    tell(alloc, made, &rel, &mut store, outcome, budgets)
+    let decided = tell(alloc, made, &rel, &mut store, outcome, budgets)?;
+    Ok(decided)
 }

@@ -4,6 +4,7 @@ use Rattle.smv_core.specs.declared.flat.Design.{Design}
 use Rattle.smv_problem.specs.Written.{name_number, set_numbers_of}
 use Rattle.smv_problem.specs.declared.problem.Problem.{Problem}
 use Rattle.smv_obligations.specs.declared.shared.Shared.{Shared}
+use Rattle.smv_obligations.specs.declared.shared.ProblemParts.{ProblemParts}
 
 -- the families of the design, the lengths of its enumerations, and the numbers of names
 pub record IsShared (d : Design) (s : Shared) : Type 0 where
@@ -15,3 +16,7 @@ pub record IsShared (d : Design) (s : Shared) : Type 0 where
 -- that of a problem
 abbrev pub shared_in : Problem → Shared
 shared_in p = record { families = p.families; lists = p.lists; names = p.names; set_names = p.set_names }
+
+-- its elements, and that of it
+abbrev pub parts_in : Problem → ProblemParts
+parts_in p = record { elements = p.elements; shared = shared_in p }

@@ -9,4 +9,4 @@ pub mod shared;
 pub mod targets;
 
 pub use calls::{problem, problem_with};
-pub use shared::{Shared, in_common, taken_back};
+pub use shared::{ProblemParts, Shared, in_common, taken_apart, taken_back};

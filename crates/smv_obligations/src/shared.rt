@@ -1,11 +1,11 @@
 // What the problems of all cases of a design have in common.
 ghost use Rattle.std.specs.Prelude.{◌≡◌, map, length, IfOk};
 ghost use Rattle.smv_problem.specs.Written.{name_number, set_numbers_of};
-ghost use Rattle.smv_obligations.specs.Shared.{IsShared, shared_in};
+ghost use Rattle.smv_obligations.specs.Shared.{IsShared, parts_in, shared_in};
 
 use smv_cone::bits::list_lengths;
 use smv_core::Seq;
-use smv_core::flat::{Design, Family};
+use smv_core::flat::{Design, Element, Family};
 use smv_part_copies::copy_families;
 use smv_problem::Problem;
 use std::alloc::{AllocError, Global};
@@ -69,12 +69,19 @@ pub fn in_common(
     })
 }
 
-/// The same, taken out of a problem that is done with.
-pub fn taken_back(problem: Problem) -> Shared
-    ensures { result ≡ shared_in problem }
+/// The elements of a problem that is done with, and what it has in common with the others of its design.
+#[derive(Drop)]
+pub struct ProblemParts {
+    pub elements: Seq<Element>,
+    pub shared: Shared,
+}
+
+/// Takes a problem apart that is done with.
+pub fn taken_apart(problem: Problem) -> ProblemParts
+    ensures { result ≡ parts_in problem }
 {
     let Problem {
-        elements: _,
+        elements,
         families,
         lists,
         names,
@@ -86,10 +93,20 @@ pub fn taken_back(problem: Problem) -> Shared
         guards: _,
         bindings: _,
     } = problem;
-    Shared {
-        families,
-        lists,
-        names,
-        set_names,
+    ProblemParts {
+        elements,
+        shared: Shared {
+            families,
+            lists,
+            names,
+            set_names,
+        },
     }
+}
+
+/// What a problem that is done with has in common with the others of its design.
+pub fn taken_back(problem: Problem) -> Shared
+    ensures { result ≡ shared_in problem }
+{
+    taken_apart(problem).shared
 }

@@ -1,5 +1,5 @@
 -- The units of a plan, one by one.
-use Rattle.std.proofs.Common.{◌≡◌, ℕ, zero, suc, ◌+◌, ◌<◌, ◌≤◌, List, [], ◌∷◌, ◌++◌, length, get_or, take, Bool, true, false, ◌||◌, refl, sym, ap, subst, ◌∙◌, Option, Some, None, Bor, nat_lt, arith}
+use Rattle.std.proofs.Common.{◌≡◌, ℕ, zero, suc, ◌+◌, ◌<◌, ◌≤◌, List, [], ◌∷◌, ◌++◌, length, get_or, take, Bool, true, false, ◌||◌, refl, sym, ap, subst, ◌∙◌, Option, Some, None, nat_lt, arith}
 use Rattle.std.specs.Prelude.{if◌then◌else◌, unwrap_or}
 use Rattle.std.specs.List.{slice_get}
 use Rattle.std.proofs.Math.Seq.{take-length}
@@ -10,8 +10,6 @@ use Rattle.smv_core.specs.declared.flat.Unit.{Unit}
 use Rattle.smv_core.specs.declared.flat.Unit.TheVariants.{Claim}
 use Rattle.smv_core.specs.declared.flat.Leaf.{Leaf}
 use Rattle.smv_core.specs.declared.flat.Choice.{Choice}
-use Rattle.smv_core.specs.declared.flat.Def.{Def}
-use Rattle.smv_core.specs.declared.flat.Pick.{Pick}
 use Rattle.smv_core.specs.declared.flat.Timed.{Timed}
 use Rattle.smv_core.specs.declared.flat.Param.{Param}
 use Rattle.smv_core.specs.declared.flat.Class.{Class}
@@ -26,12 +24,11 @@ use Rattle.law_splits.specs.Leaves.{name_of}
 use Rattle.smv_problem.specs.declared.report.Verdict.{Verdict}
 use Rattle.smv_problem.specs.declared.report.UnitResult.{UnitResult}
 use Rattle.smv_problem.specs.declared.report.Plan.{Plan}
-use Rattle.law_problems.specs.Parts.{IsCaseOf, entry_of, outlined, case_with, cases_fault, fault_at_unit}
+use Rattle.law_problems.specs.Parts.{IsCaseOf, entry_of, case_with, cases_fault, fault_at_unit}
 use Rattle.law_reports.specs.Reports.{IsResultOf, AreResultsFrom}
 use Rattle.law_plan_cases.specs.Told.{IsToldBy}
 use Rattle.law_plan_cases.specs.Laws.{IsAt}
 use Rattle.law_plan_cases.proofs.Plans.{is_entry, told_is}
-use Rattle.smv_chosen_table.specs.Tables.{IsTable}
 use Rattle.smv_decide.specs.Leaves.{classes_in, AreCases}
 use Rattle.law_plans_of_texts.specs.Rooms.{HasRoom, IsWholePlan}
 
@@ -50,13 +47,6 @@ part_at {X} xs shown u x same lt is = get_there xs u x lt ∙ ap Some (sym (subs
 -- what is copied from there
 pub copied_at : {X : Type 0} (xs shown : List X) (u : ℕ) (d : X) → shown ≡ xs → u < length xs → slice_get xs u ≡ Some (get_or shown u d)
 copied_at {X} xs shown u d same lt = get_there xs u d lt ∙ ap (λ (ys : List X). Some (get_or ys u d)) (sym same)
-
--- a table for the units that a slice shows is one of the design
-pub table_for : (d : Design) (units : List Unit) (picks own : List Pick) (items table : List (Option (Bor Def))) → units ≡ units_of d → picks ≡ own → table ≡ items
-    → IsTable (record { design = d; units = units }) picks items → IsTable (outlined d) own table
-table_for d units picks own items table all same shown is =
-    subst (λ (xs : List (Option (Bor Def))). IsTable (outlined d) own xs) (sym shown)
-    (subst (λ (ps : List Pick). IsTable (outlined d) ps items) same (subst (λ (us : List Unit). IsTable (record { design = d; units = us }) picks items) all is))
 
 -- ---- cases
 
@@ -98,6 +88,12 @@ module _ (s : Script) (nodes images : ℕ) where
   one_more k (x ∷ entries) (y ∷ results) entry r are is =
       let same : k + length (x ∷ entries) ≡ suc k + length entries = omega arith in
       (are.0, one_more (suc k) entries results entry r are.1 (subst (λ (n : ℕ). IsResultOf s nodes images n entry r) same is))
+
+  pub no_results : (entries : List Entry) (results : List UnitResult) → results ≡ [] → AreResultsFrom s nodes images 0 (take 0 entries) results
+  no_results [] [] e = tt
+  no_results (x ∷ entries) [] e = tt
+  no_results [] (r ∷ results) e = absurd (cc)
+  no_results (x ∷ entries) (r ∷ results) e = absurd (cc)
 
   pub next_result : (u : ℕ) (results pushed : List UnitResult) (r : UnitResult) → u < length s.entries → AreResultsFrom s nodes images 0 (take u s.entries) results → ((entry : Entry) → slice_get s.entries u ≡ Some entry → IsResultOf s nodes images u entry r)
       → pushed ≡ results ++ (r ∷ []) → AreResultsFrom s nodes images 0 (take (u + 1) s.entries) pushed

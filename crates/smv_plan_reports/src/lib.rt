@@ -1,7 +1,7 @@
 //! What is decided of the units of a plan, leaf by leaf: `prove_plan` gives a result for each unit in flat order, `prove_unit` that of one unit alone.
 //!
 //! For the calls that prove a text. `leaf` decides one leaf by its cases, `units` makes a unit's result. What a plan must be is said in `law_plans_of_texts` (`specs/Rooms`), that a report is right in
-//! `law_reports`. What is made once for a design stands in `Numbers`, and what is made once for a leaf is made where its result is.
+//! `law_reports`. What is made once for a design (what its problems have in common, the table of its base definitions) goes from unit to unit, so a unit costs what its own cases and picks are.
 #![tactic(auto)]
 
 ghost use Rattle.std.specs.Prelude.{◌≡◌, ◌≤◌, ◌<◌, Some, length, slice_get, IfOk};
@@ -17,7 +17,7 @@ pub mod units;
 use smv_core::Seq;
 use smv_problem::{Budgets, Plan, Report};
 use std::alloc::{AllocError, Global};
-use units::{numbers_of, result_at, results};
+use units::{result_alone, results};
 
 /// What is decided of the units of a plan: one result for each, in flat order, with the verdict under these budgets.
 pub fn prove_plan(alloc: Global, plan: Plan, budgets: Budgets) -> Result<Report, AllocError>
@@ -25,8 +25,7 @@ pub fn prove_plan(alloc: Global, plan: Plan, budgets: Budgets) -> Result<Report,
     requires steps { 1 ≤ budgets.steps }
     ensures { IfOk result (λ report. IsReportOf (script_of plan.design plan.leaves plan.choices) budgets.nodes budgets.steps report) }
 {
-    let numbers = numbers_of(alloc, &plan.design)?;
-    let units = results(alloc, &plan, &numbers, budgets)?;
+    let units = results(alloc, &plan, budgets)?;
     Ok(Report {
         design: plan.design,
         units,
@@ -45,8 +44,7 @@ pub fn prove_unit(
     requires steps { 1 ≤ budgets.steps }
     ensures { IfOk result (λ report. (entry : Entry) → slice_get (script_of plan.design plan.leaves plan.choices).entries u ≡ Some entry → IsReportOfUnit (script_of plan.design plan.leaves plan.choices) budgets.nodes budgets.steps u entry report) }
 {
-    let numbers = numbers_of(alloc, &plan.design)?;
-    let unit = result_at(alloc, &plan, &numbers, u, budgets)?;
+    let unit = result_alone(alloc, &plan, u, budgets)?;
     let mut units = Seq::new(alloc);
     units.push(unit)?;
     Ok(Report {

@@ -1,17 +1,19 @@
 // The results of units.
-ghost use Rattle.std.specs.Prelude.{◌≡◌, ◌≤◌, ◌<◌, Some, length, slice_get, IfOk};
+ghost use Rattle.std.specs.Prelude.{◌≡◌, ◌≤◌, ◌<◌, Some, length, slice_get, IfOk, OnOk};
 ghost use Rattle.law_obligations.specs.Outlines.{Entry};
 ghost use Rattle.law_obligations.specs.Units.{script_of};
 ghost use Rattle.law_reports.specs.Reports.{IsResultOf, AreResultsFrom};
 ghost use Rattle.law_plans_of_texts.specs.Rooms.{IsWholePlan};
+ghost use Rattle.smv_chosen_table.specs.Tables.{IsIndex, AreBaseDefs};
+ghost use Rattle.smv_obligations.specs.Shared.{IsShared};
 ghost use Rattle.smv_plan_reports.specs.Numbers.{AreNumbers};
 
-use crate::leaf::decide_leaf;
-use smv_chosen_table::chosen_defs;
+use crate::leaf::decide_in;
+use smv_chosen_table::{DefIndex, base_defs, index_of};
 use smv_core::Seq;
-use smv_core::flat::{Design, Param};
-use smv_decide::tasks::Task;
+use smv_core::flat::{Def, Design, Param};
 use smv_name_numbers::{name_numbers, set_numbers};
+use smv_obligations::{Shared, in_common};
 use smv_problem::{Budgets, Plan, UnitResult};
 use smv_split_tables::names::{copy_name, unit_name};
 use std::alloc::{AllocError, Global};
@@ -32,39 +34,82 @@ pub fn numbers_of(alloc: Global, design: &Design) -> Result<Numbers, AllocError>
     Ok(Numbers { names, set_names })
 }
 
-/// A result for each unit of a plan, in flat order.
-pub fn results(
-    alloc: Global,
-    plan: &Plan,
-    numbers: &Numbers,
-    budgets: Budgets,
-) -> Result<Seq<UnitResult>, AllocError>
+// What the problems of all cases of a design have in common.
+fn common_of(alloc: Global, design: &Design) -> Result<Shared, AllocError>
+    ensures { IfOk result (IsShared design.now) }
+{
+    let numbers = numbers_of(alloc, design)?;
+    in_common(
+        alloc,
+        design,
+        numbers.names.as_slice(),
+        numbers.set_names.as_slice(),
+    )
+}
+
+/// A result for each unit of a plan, in flat order. What is made once for the design goes from unit to unit.
+pub fn results(alloc: Global, plan: &Plan, budgets: Budgets) -> Result<Seq<UnitResult>, AllocError>
     requires plan { IsWholePlan plan.now }
-    requires numbers { AreNumbers plan.now.design numbers.now }
     requires steps { 1 ≤ budgets.steps }
     ensures { IfOk result (λ results. AreResultsFrom (script_of plan.now.design plan.now.leaves plan.now.choices) budgets.nodes budgets.steps 0 (script_of plan.now.design plan.now.leaves plan.now.choices).entries results) }
 {
+    let index = index_of(alloc, &plan.design, plan.units.as_slice())?;
+    let mut table = base_defs(alloc, &plan.design, index.bases.as_slice())?;
+    let mut common = common_of(alloc, &plan.design)?;
     let mut results = Seq::new(alloc);
     for u in 0..plan.units.len() {
-        let result = result_at(alloc, plan, numbers, u, budgets)?;
-        results.push(result)?;
+        let done = result_at(alloc, common, plan, &index, &mut table, u, budgets)?;
+        common = done.shared;
+        results.push(done.result)?;
     }
     Ok(results)
 }
 
-/// What is decided of the unit at a place of a plan.
-pub fn result_at(
+/// What is decided of the unit at a place of a plan, alone.
+pub fn result_alone(
     alloc: Global,
     plan: &Plan,
-    numbers: &Numbers,
     u: usize,
     budgets: Budgets,
 ) -> Result<UnitResult, AllocError>
     requires plan { IsWholePlan plan.now }
-    requires numbers { AreNumbers plan.now.design numbers.now }
     requires there { u < length plan.now.units }
     requires steps { 1 ≤ budgets.steps }
     ensures { IfOk result (λ r. (entry : Entry) → slice_get (script_of plan.now.design plan.now.leaves plan.now.choices).entries u ≡ Some entry → IsResultOf (script_of plan.now.design plan.now.leaves plan.now.choices) budgets.nodes budgets.steps u entry r) }
+{
+    let index = index_of(alloc, &plan.design, plan.units.as_slice())?;
+    let mut table = base_defs(alloc, &plan.design, index.bases.as_slice())?;
+    let common = common_of(alloc, &plan.design)?;
+    let done = result_at(alloc, common, plan, &index, &mut table, u, budgets)?;
+    Ok(done.result)
+}
+
+/// What is decided of a unit. What the problems of all cases of the design have in common is given back with it.
+#[derive(Drop)]
+pub struct Done {
+    pub result: UnitResult,
+    pub shared: Shared,
+}
+
+// What is decided of the unit at a place of a plan. The table has the base definitions, before and after.
+fn result_at<'a>(
+    alloc: Global,
+    shared: Shared,
+    plan: &'a Plan,
+    index: &DefIndex,
+    table: &mut Vec<Option<&'a Def>>,
+    u: usize,
+    budgets: Budgets,
+) -> Result<Done, AllocError>
+    requires plan { IsWholePlan plan.now }
+    requires shared { IsShared plan.now.design shared }
+    requires index { IsIndex plan.now.design plan.now.units index.now }
+    requires table { AreBaseDefs plan.now.design table.old.items }
+    requires there { u < length plan.now.units }
+    requires steps { 1 ≤ budgets.steps }
+    ensures result { IfOk result (λ done. (entry : Entry) → slice_get (script_of plan.now.design plan.now.leaves plan.now.choices).entries u ≡ Some entry → IsResultOf (script_of plan.now.design plan.now.leaves plan.now.choices) budgets.nodes budgets.steps u entry done.result) }
+    ensures shared { IfOk result (λ done. IsShared plan.now.design done.shared) }
+    ensures table { OnOk result (AreBaseDefs plan.now.design table.new.items) }
 {
     let units = plan.units.as_slice();
     let leaf = &plan.leaves.as_slice()[u];
@@ -72,22 +117,25 @@ pub fn result_at(
     let timed = &plan.timed.as_slice()[u];
     let name = unit_name(alloc, &plan.design, units[u])?;
     let params = copy_params(alloc, leaf.params.as_slice())?;
-    let table = chosen_defs(alloc, &plan.design, units, choice.picks.as_slice())?;
-    let task = Task {
-        design: &plan.design,
+    let told = decide_in(
+        alloc,
+        shared,
+        &plan.design,
         units,
-        names: numbers.names.as_slice(),
-        set_names: numbers.set_names.as_slice(),
         leaf,
         choice,
         timed,
-        table: table.as_slice(),
-    };
-    let verdict = decide_leaf(alloc, &task, budgets)?;
-    Ok(UnitResult {
-        name,
-        params,
-        verdict,
+        index,
+        table,
+        budgets,
+    )?;
+    Ok(Done {
+        result: UnitResult {
+            name,
+            params,
+            verdict: told.verdict,
+        },
+        shared: told.shared,
     })
 }
 

@@ -1,16 +1,18 @@
-use Rattle.std.proofs.Common.{sym, subst}
+use Rattle.std.proofs.Common.{sym, ap, subst}
 use Rattle.smv_rings.specs.Lists.{lists_of}
 use Rattle.law_case_lists.specs.CaseLists.{case_lists}
-use Rattle.smv_obligations.specs.Shared.{IsShared}
+use Rattle.smv_decide.specs.declared.Decided.{Decided}
+use Rattle.smv_decide.specs.Decisions.{IsDecided}
 use Rattle.smv_decide.proofs.Deciding.{reached_in, shown_by}
 use Rattle.smv_decide.proofs.tell.Goals as goal
 
 pub returns-in_ok-states-in-Reaches-clause-decided : goal.returns-in_ok-states-in-Reaches-clause-decided
-returns-in_ok-states-in-Reaches-clause-decided c = λ case e well. (
-  c.in-Reaches.depth,
-  reached_in c.args.store.now (lists_of c.args.store.now c.args.rel.now) (case_lists case) c.args.budgets.nodes c.args.budgets.steps c.in-Reaches.depth c.args.outcome c.in-Reaches.rings c.requires.found c.in-Reaches.is (c.requires.lists case e well),
-  shown_by c.args.problem case c.in-Reaches.depth c.in_ok-states-in-Reaches.states e (c.in_ok-states-in-Reaches.ensures.shortest case e well),
-)
+returns-in_ok-states-in-Reaches-clause-decided c = λ case e well.
+    subst (IsDecided c.args.budgets.nodes c.args.budgets.steps case) (sym (ap (λ (d : Decided). d.decision) c.shown.ensures)) (
+      c.in-Reaches.depth,
+      reached_in c.args.store.now (lists_of c.args.store.now c.args.rel.now) (case_lists case) c.args.budgets.nodes c.args.budgets.steps c.in-Reaches.depth c.args.outcome c.in-Reaches.rings c.requires.found c.in-Reaches.is (c.requires.lists case e well),
+      shown_by c.args.problem case c.in-Reaches.depth c.in_ok-states-in-Reaches.states e (c.in_ok-states-in-Reaches.ensures.shortest case e well),
+    )
 
-pub returns-in-Closed-clause-shared : goal.returns-in-Closed-clause-shared
-returns-in-Closed-clause-shared c = λ d is. subst (IsShared d) (sym c.taken_back.ensures) is
+pub returns-in_ok-states-in-Reaches-clause-shared : goal.returns-in_ok-states-in-Reaches-clause-shared
+returns-in_ok-states-in-Reaches-clause-shared c = ap (λ (d : Decided). d.shared) c.shown.ensures

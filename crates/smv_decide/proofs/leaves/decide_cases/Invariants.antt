@@ -8,6 +8,6 @@ use Rattle.smv_decide.proofs.leaves.decide_cases.Given as goal
 
 abbrev pub invariant-loop-case : goal.invariant-loop-case
 invariant-loop-case l = record {
-  shared : IsShared l.task.design.now l.shared;
+  shared : IsShared l.task.design.now l.common;
   are_true : AreTrueCases (lists_for (case_in l.task) l.budgets.nodes l.budgets.steps) l.budgets.nodes l.budgets.steps (classes_in (take l.case-index l.cases));
 }

@@ -1,5 +1,4 @@
 use Rattle.std.proofs.Common.{◌∙◌, ap, subst, List}
-use Rattle.std.specs.Prelude.{IfOk}
 use Rattle.smv_core.specs.declared.flat.Class.{Class}
 use Rattle.law_plan_cases.specs.Told.{IsToldBy}
 use Rattle.smv_decide.specs.Leaves.{classes_in}
@@ -11,6 +10,6 @@ pub decide_cases-requires-clause-cases : goal.decide_cases-requires-clause-cases
 decide_cases-requires-clause-cases c =
     cases_are c.args.task.now.design.now c.args.task.now.leaf.now c.args.task.now.choice.now c.as_slice.result.now c.requires.room (ap classes_in c.as_slice.ensures ∙ c.in-Ok.ensures.cases)
 
-pub returns-in-Ok : goal.returns-in-Ok
-returns-in-Ok c =
-    subst (λ (cases : List (List Class)). IfOk c.decide_cases.result (λ v. IsToldBy (case_in c.args.task.now) c.args.budgets.nodes c.args.budgets.steps cases v)) (ap classes_in c.as_slice.ensures ∙ c.in-Ok.ensures.cases) c.decide_cases.ensures
+pub returns-in_ok-told-in-Ok-clause-told : goal.returns-in_ok-told-in-Ok-clause-told
+returns-in_ok-told-in-Ok-clause-told c =
+    subst (λ (cases : List (List Class)). IsToldBy (case_in c.args.task.now) c.args.budgets.nodes c.args.budgets.steps cases c.in_ok-told-in-Ok.told.verdict) (ap classes_in c.as_slice.ensures ∙ c.in-Ok.ensures.cases) c.in_ok-told-in-Ok.ensures.told
