@@ -1,7 +1,8 @@
 -- What a line of a list says: which function it makes, what it writes, and when it names only what is there.
-use Rattle.std.specs.Prelude.{◌≡◌, ℕ, ◌<◌, Bool, true, false, ◌&&◌, ◌||◌, ◌==◌, not, List, [], ◌∷◌, ◌++◌, length, Option, Some, None}
+use Rattle.std.specs.Prelude.{◌≡◌, ℕ, ◌<◌, Bool, true, false, ◌&&◌, ◌||◌, ◌==◌, not, List, [], ◌∷◌, ◌++◌, length, Option, Some, None, if◌then◌else◌}
 use Rattle.std.specs.Fmt.{decimal}
-use Rattle.bdd_store.specs.Diagram.{Diagram, DependsFrom, beads, ref_at, table}
+use Rattle.bdd_store.specs.Beads.{bead_count}
+use Rattle.bdd_store.specs.Diagram.{Diagram, DependsFrom, ref_at, table, tables_of}
 use Rattle.bdd_store.specs.declared.Ref.{Ref}
 use Rattle.bdd_ops.specs.Functions.{Function, lowered, some_at}
 use Rattle.bdd_client.specs.declared.lines.Line.{Line}
@@ -9,16 +10,16 @@ use Rattle.bdd_client.specs.declared.lines.Line.TheVariants as line
 
 -- the line of a code and two operands
 abbrev pub line_for : ℕ → ℕ → ℕ → Option Line
-line_for 0 first second = Some (line.Variable first)
-line_for 1 first second = Some (line.Constant (not (first == 0)))
-line_for 2 first second = Some (line.And first second)
-line_for 3 first second = Some (line.Or first second)
-line_for 4 first second = Some (line.Not first)
-line_for 5 first second = Some (line.Exists first second)
-line_for 6 first second = Some (line.Rename first)
-line_for 7 first second = Some (line.Drop first)
-line_for 8 first second = Some (line.Count first)
-line_for _ first second = None
+line_for code first second =
+    if code == 0 then Some (line.Variable first) else
+    if code == 1 then Some (line.Constant (not (first == 0))) else
+    if code == 2 then Some (line.And first second) else
+    if code == 3 then Some (line.Or first second) else
+    if code == 4 then Some (line.Not first) else
+    if code == 5 then Some (line.Exists first second) else
+    if code == 6 then Some (line.Rename first) else
+    if code == 7 then Some (line.Drop first) else
+    if code == 8 then Some (line.Count first) else None
 
 -- the function that a line makes of those made so far; a line that makes none stands for 0
 abbrev pub value_of : Diagram → List Ref → Line → Function
@@ -34,7 +35,7 @@ value_of d made (line.Count f) a = false
 
 -- how many nodes a function has, in decimal, and a line feed
 abbrev pub nodes_line : Diagram → Ref → List ℕ
-nodes_line d f = decimal (beads d f) ++ (10 ∷ [])
+nodes_line d f = decimal (bead_count d.vars (tables_of d (f ∷ []))) ++ (10 ∷ [])
 
 -- what a line writes: of a count the nodes of its function, and a line feed
 abbrev pub written : Diagram → List Ref → Line → List ℕ
