@@ -1,10 +1,11 @@
 #!/usr/bin/env python3
 """Keeps the users' pages true: runs each command that they show, and compares what is written.
 
-    tools/pages.py PROGRAM    runs PROGRAM as `deodarwrench` on every page and example, and compares answers and statuses
-    tools/pages.py --tests    writes the tables of crates/smv_page_tests from the pages
-    tools/pages.py            looks whether these tables are what the pages give
+    tools/pages.py PROGRAM [WAVE]    runs PROGRAM as `deodarwrench`, and WAVE as `smv_wave`, on every page and example, and compares answers and statuses
+    tools/pages.py --tests           writes the tables of crates/smv_page_tests and crates/smv_wave_tests from the pages
+    tools/pages.py                   looks whether these tables are what the pages give
     tools/pages.py --answers PROGRAM    writes examples/*.answer; read what changed before it is kept
+    tools/pages.py --texts FOLDER       writes the texts of docs/METHOD.md and docs/FAULTS.md, to try them
 
 It ends with status 1 where something differs. On the pages README.md, docs/METHOD.md and docs/FAULTS.md it takes three sorts of fenced blocks:
 
@@ -26,11 +27,16 @@ from pathlib import Path
 TOP = Path(__file__).resolve().parent.parent
 PAGES = ["README.md", "docs/METHOD.md", "docs/FAULTS.md"]
 TABLES = TOP / "crates/smv_page_tests/src"
+DUMPS = TOP / "crates/smv_wave_tests/src/pages.rt"
 FENCED = re.compile(r"^```(smv|diff|console)(?: (\S+))?(?: (\S+))?\n(.*?)^```$", re.M | re.S)
 # About how many bytes of rows a test has at most, if it has more than one row.
 PART = 9_000
-# Commands that a test can give the program as words and a text.
+# Commands that a test can give the program as words and a text: that of a file, one that is written out, so many blanks.
 PLAIN = re.compile(r"deodarwrench ([^<|]+?) < (\S+)")
+ECHO = re.compile(r"echo '([^']*)' \| deodarwrench (\w+)")
+BLANKS = re.compile(r"printf '%(\d+)s' '' \| deodarwrench (\w+)")
+# One whose report a test can give the other program.
+WAVE = re.compile(r"(deodarwrench prove < \S+) \| smv_wave")
 
 
 def status(command, answer):
@@ -91,23 +97,35 @@ def everything():
     return [(page, *read_page(page)) for page in PAGES] + [("examples", {}, example_commands())]
 
 
-def run_all(program):
-    """Runs every command and returns how many answers differ."""
+def run_all(program, wave=None):
+    """Runs every command and returns how many answers differ. Those with `smv_wave` are left out where it is not given."""
     wrong = 0
     for page, files, commands in everything():
         with tempfile.TemporaryDirectory() as folder:
             os.symlink(Path(program).resolve(), f"{folder}/deodarwrench")
             os.symlink(TOP / "examples", f"{folder}/examples")
+            if wave:
+                os.symlink(Path(wave).resolve(), f"{folder}/smv_wave")
             for name, text in files.items():
                 Path(folder, name).write_text(text)
             there = {**os.environ, "PATH": f"{folder}:{os.environ['PATH']}"}
             for command, answer in commands:
+                if "smv_wave" in command and not wave:
+                    print(f"{page}: not run: {command}")
+                    continue
                 ran = subprocess.run(command, shell=True, cwd=folder, env=there, capture_output=True, text=True)
                 if (ran.stdout, ran.returncode) != (answer, status(command, answer)):
                     wrong += 1
                     print(f"{page}: $ {command}\n{ran.stdout}{ran.stderr}status {ran.returncode}, and not\n{answer}status {status(command, answer)}\n")
         print(f"{page}: {len(files)} texts, {len(commands)} commands")
     return wrong
+
+
+def write_texts(folder):
+    """Writes the texts of the pages."""
+    for _, files, _ in everything():
+        for name, text in files.items():
+            Path(folder, name).write_text(text)
 
 
 def write_answers(program):
@@ -141,56 +159,106 @@ def parts(rows):
     return cut
 
 
-def constant(number, part):
+def constant(name, part):
     """Returns the lines of the constant with the rows of a part, as `rt fmt` lays it out."""
     if len(part) == 1 and len(part[0]) > 1:
-        return [f"const ROWS_{number}: &[Row] = &[(", *(line[4:] for line in part[0][1:-1]), ")];"]
-    return [f"const ROWS_{number}: &[Row] = &[", *(line for one in part for line in one), "];"]
+        return [f"const {name} = &[(", *(line[4:] for line in part[0][1:-1]), ")];"]
+    return [f"const {name} = &[", *(line for one in part for line in one), "];"]
+
+
+def given(command, files):
+    """Returns the words and the text of a command that has the text of a file or one that is written out, or None."""
+    plain, echo = PLAIN.fullmatch(command), ECHO.fullmatch(command)
+    if plain:
+        words, file = plain.groups()
+        return words, files[file] if file in files else (TOP / file).read_text()
+    return (echo[2], echo[1] + "\n") if echo else None
 
 
 def table(page, files, commands):
-    """Returns the module of tests of a page: its file and its lines."""
-    name = Path(page).stem.lower()
-    rows = []
+    """Returns the module of tests of a page: its file and its lines. The README shows examples, which have a table of their own."""
+    rows, blanks = [], []
     for command, answer in commands:
-        plain = PLAIN.fullmatch(command)
-        if plain:
-            words, file = plain.groups()
-            text = files[file] if file in files else (TOP / file).read_text()
-            rows.append(row([quoted(words), quoted(text), str(status(command, answer)), quoted(answer)]))
+        row_given, many = given(command, files), BLANKS.fullmatch(command)
+        if row_given and not (page == "README.md" and " examples/" in command):
+            rows.append(row([quoted(row_given[0]), quoted(row_given[1]), str(status(command, answer)), quoted(answer)]))
+        if many:
+            blanks.append([quoted(many[2]), f"{int(many[1]):_}", str(status(command, answer)), quoted(answer)])
+    used = ["Row", *(["blanks_have"] if blanks else []), "last_difference"]
     lines = [
         f"//! The commands of `{page}`, with their texts, exit statuses and answers. Written by `tools/pages.py --tests`.",
         "",
-        "use crate::calls::{Row, last_difference};",
+        f"use crate::calls::{{{', '.join(used)}}};",
         "use std::test::Fail;",
     ]
     for number, part in enumerate(parts(rows), 1):
-        lines += ["", *constant(number, part)]
+        lines += ["", *constant(f"ROWS_{number}: &[Row]", part)]
         lines += ["", "#[test]", f"fn answers_{number}(rt: HostRuntime) -> Result<(), Fail> {{"]
         lines += [f"    assert_eq!(rt; last_difference(rt.alloc(), ROWS_{number})?, None);", "    Ok(())", "}"]
-    return f"{name}.rt", "\n".join([*lines, ""])
+    for number, values in enumerate(blanks, 1):
+        lines += ["", "#[test]", f"fn answers_to_blanks_{number}(rt: HostRuntime) -> Result<(), Fail> {{"]
+        lines += ["    assert_eq!(rt;", "        blanks_have("]
+        lines += [f"            {value}," for value in ["rt.alloc()", *values[:-1]]]
+        lines += [f"            {values[-1]}", "        )?,", "        true", "    );", "    Ok(())", "}"]
+    return TABLES / f"{Path(page).stem.lower()}.rt", "\n".join([*lines, ""])
+
+
+def dumps():
+    """Returns the module of tests of the dumps that the pages show: its file and its lines. The report of each is the answer of an earlier command."""
+    rows = []
+    for _, _, commands in everything():
+        answers = dict(commands)
+        for command, dump in commands:
+            shown = WAVE.fullmatch(command)
+            if shown:
+                rows.append(row([quoted(answers[shown[1]]), quoted(dump)]))
+    lines = [
+        "//! The dumps that the pages show, beside the reports that they are made from. Written by `tools/pages.py --tests`.",
+        "",
+        "use crate::rows::answered;",
+        "use std::test::Fail;",
+        "",
+        "// The report, and what is dumped.",
+        *constant("ROWS: &[(&str, &str)]", rows),
+        "",
+        "#[test]",
+        "fn dumps_are_those_of_the_pages(rt: HostRuntime) -> Result<(), Fail> {",
+        "    let words = Vec::new(rt.alloc());",
+        "    for (report, dump) in ROWS {",
+        "        let (status, dumped, noted) = answered(rt.alloc(), &words, report, &[], 2000)?;",
+        "        assert_eq!(rt; status, 0);",
+        "        assert_eq!(rt; dumped.as_slice(), dump.as_bytes());",
+        "        assert_eq!(rt; noted.len(), 0);",
+        "    }",
+        "    Ok(())",
+        "}",
+    ]
+    return DUMPS, "\n".join([*lines, ""])
 
 
 def tables():
-    """Returns the modules of tests. The README shows examples, which stand in the table of these."""
-    return [table(*page) for page in everything() if page[0] != "README.md"]
+    """Returns the modules of tests: their files and lines."""
+    return [*(table(*page) for page in everything()), dumps()]
 
 
 def main(words):
     if len(words) == 2 and words[0] == "--answers":
         write_answers(words[1])
         return 0
+    if len(words) == 2 and words[0] == "--texts":
+        write_texts(words[1])
+        return 0
     if words == ["--tests"]:
-        for name, lines in tables():
-            (TABLES / name).write_text(lines)
+        for file, lines in tables():
+            file.write_text(lines)
         return 0
     if not words:
-        stale = [name for name, lines in tables() if (TABLES / name).read_text() != lines]
-        for name in stale:
-            print(f"{TABLES / name} is not what the pages give: tools/pages.py --tests")
+        stale = [file for file, lines in tables() if not file.exists() or file.read_text() != lines]
+        for file in stale:
+            print(f"{file} is not what the pages give: tools/pages.py --tests")
         return int(bool(stale))
-    if len(words) == 1 and not words[0].startswith("-"):
-        return int(run_all(words[0]) > 0)
+    if len(words) <= 2 and not words[0].startswith("-"):
+        return int(run_all(*words) > 0)
     print(__doc__)
     return 2
 

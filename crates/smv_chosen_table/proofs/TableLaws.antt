@@ -10,7 +10,7 @@ use Rattle.smv_core.specs.declared.flat.Unit.{Unit}
 use Rattle.smv_core.specs.declared.flat.Unit.TheVariants.{Map, Claim}
 use Rattle.law_obligations.specs.Outlines.{Outline, as_map, as_claim, map_in, said_by, base_of, map_by_pick, map_in_layer}
 use Rattle.smv_unit_tables.specs.Bases.{AreBases}
-use Rattle.smv_chosen_table.specs.Tables.{IsTable, AreBaseDefs, map_of_unit}
+use Rattle.smv_chosen_table.specs.Tables.{IsTable, AreBaseDefs, AreBaseDefsBut, map_of_unit}
 
 -- ---- base definitions by their numbers
 
@@ -112,10 +112,6 @@ drop-all (p ∷ picks) = drop-all picks
 pub before-last : (o : Outline) (picks : List Pick) (k : ℕ) (table : List (Option (Bor Def))) → k ≡ length picks → AreBaseDefs o.design table → IsTable o (drop k picks) table
 before-last o picks k table e are = subst (λ (ps : List Pick). IsTable o ps table) (sym (ap (λ n. drop n picks) e ∙ drop-all picks)) are
 
-pub none-picked : (o : Outline) (picks : List Pick) (table : List (Option (Bor Def))) → length picks ≡ 0 → AreBaseDefs o.design table → IsTable o picks table
-none-picked o [] table e are = are
-none-picked o (p ∷ picks) table e are = absurd (omega arith)
-
 pub picked-turn : (o : Outline) (picks : List Pick) (k : ℕ) (d : Pick) (table new : List (Option (Bor Def))) (def : Option (Bor Def)) → k < length picks → IsTable o (drop (k + 1) picks) table →
     option_copied def ≡ map_in_layer o (get_or picks k d).family (get_or picks k d).layer → new ≡ slice_set table (get_or picks k d).family def → IsTable o (drop k picks) new
 picked-turn o picks k d table new def l so is e =
@@ -130,3 +126,38 @@ picked-back o picks k j d table new def before l so is e = picked-turn o picks j
 pub at-first : (o : Outline) (picks : List Pick) (k : ℕ) (table : List (Option (Bor Def))) → k ≤ 0 → IsTable o (drop k picks) table → IsTable o picks table
 at-first o picks zero table l so = so
 at-first o picks (suc k) table l so = absurd (omega arith)
+
+-- ---- the base definitions put back, pick by pick
+
+pub back-first : (o : Outline) (picks : List Pick) (table : List (Option (Bor Def))) → IsTable o picks table → AreBaseDefsBut o.design picks table
+back-first o picks table so family def at none = so family def at ∙ ap (map_by_pick o family) none
+
+put-one : (d : Design) (p : Pick) (more : List Pick) (table new : List (Option (Bor Def))) (def : Option (Bor Def)) → AreBaseDefsBut d (p ∷ more) table → option_copied def ≡ base_of d p.family → new ≡ slice_set table p.family def → AreBaseDefsBut d more new
+put-one d p more table new def so is e family other at none =
+    elim (set-got table p.family def family other (ap (λ l. slice_get l family) (sym e) ∙ at)) [
+      | inl h ↦ ap option_copied h.1 ∙ (is ∙ ap (base_of d) (sym h.0))
+      | inr h ↦ so family other h.1 (ap (λ b. cond b (Some p) (find (λ (q : Pick). nat_eq q.family family) more)) (apart p.family family h.0) ∙ none)
+    ]
+
+pub back-turn : (d : Design) (picks : List Pick) (k : ℕ) (first : Pick) (table new : List (Option (Bor Def))) (def : Option (Bor Def)) → k < length picks → AreBaseDefsBut d (drop k picks) table →
+    option_copied def ≡ base_of d (get_or picks k first).family → new ≡ slice_set table (get_or picks k first).family def → AreBaseDefsBut d (drop (k + 1) picks) new
+back-turn d picks k first table new def l so is e =
+    let next : k + 1 ≡ suc k = omega arith in
+    subst (λ (n : ℕ). AreBaseDefsBut d (drop n picks) new) (sym next)
+    (put-one d (get_or picks k first) (drop (suc k) picks) table new def (subst (λ (ps : List Pick). AreBaseDefsBut d ps table) (drop-more picks k first l) so) is e)
+
+drop-past : (picks : List Pick) (k : ℕ) → length picks ≤ k → drop k picks ≡ []
+drop-past [] zero l = refl
+drop-past [] (suc k) l = refl
+drop-past (p ∷ picks) zero l = absurd (omega arith)
+drop-past (p ∷ picks) (suc k) l = drop-past picks k (omega arith)
+
+pub back-last : (d : Design) (picks : List Pick) (k : ℕ) (table : List (Option (Bor Def))) → length picks ≤ k → AreBaseDefsBut d (drop k picks) table → AreBaseDefs d table
+back-last d picks k table l so family def at = so family def at (ap (find (λ (q : Pick). nat_eq q.family family)) (drop-past picks k l))
+
+-- ---- a table for the units, the picks and the table that slices show
+pub table-shown : (d : Design) (units all : List Unit) (picks own : List Pick) (items table : List (Option (Bor Def))) → units ≡ all → picks ≡ own → table ≡ items
+    → IsTable (record { design = d; units = units }) picks items → IsTable (record { design = d; units = all }) own table
+table-shown d units all picks own items table same chosen shown is =
+    subst (λ (xs : List (Option (Bor Def))). IsTable (record { design = d; units = all }) own xs) (sym shown)
+    (subst (λ (ps : List Pick). IsTable (record { design = d; units = all }) ps items) chosen (subst (λ (us : List Unit). IsTable (record { design = d; units = us }) picks items) same is))

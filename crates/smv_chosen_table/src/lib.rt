@@ -1,5 +1,6 @@
-//! For each family of a design the definition that a leaf's proof uses, in a table that is made once for the leaf, in one pass over the definitions of the design and one over the picks of the leaf.
-//! For the calls that give the cones and problems of a leaf's cases, which look the definition of each element up. `IsTable` of `specs/Tables` says what it holds.
+//! For each family of a design the definition that a leaf's proof uses, in a table. The index and the table of the base definitions are made once for a design; a leaf puts what its picks choose
+//! in their places (`choose`), and the base definitions back there when it is done (`put_back`). So a leaf costs what its picks are, whatever the families and the units.
+//! For the calls that give the cones and problems of a leaf's cases, which look the definition of each element up. `IsTable` of `specs/Tables` says what the table holds; `chosen_defs` makes it for one leaf alone.
 #![tactic(auto)]
 
 ghost use Rattle.std.specs.Prelude.{◌≡◌, IfOk, slice_get, slice_set, option_copied, Some};
@@ -7,12 +8,28 @@ ghost use Rattle.law_obligations.specs.Outlines as outlines;
 ghost use Rattle.law_obligations.specs.Outlines.{base_of};
 ghost use Rattle.smv_unit_tables.specs.Bases.{AreBases};
 ghost use Rattle.smv_unit_tables.specs.Units.{AreNoted};
-ghost use Rattle.smv_chosen_table.specs.Tables.{IsTable, AreBaseDefs, map_of_unit};
+ghost use Rattle.smv_chosen_table.specs.Tables.{IsIndex, IsTable, AreBaseDefs, map_of_unit};
 
 use smv_core::flat::{Def, Design, Pick, Unit};
 use smv_unit_tables::bases::bases;
 use smv_unit_tables::units::UnitTable;
 use std::alloc::{AllocError, Global};
+
+/// By which the definitions are found that leaves may choose: the number of each family's base definition, and the place of each unit.
+#[derive(Drop)]
+pub struct DefIndex {
+    pub bases: Vec<usize>,
+    pub units: UnitTable,
+}
+
+/// The index of a design and its units.
+pub fn index_of(alloc: Global, design: &Design, units: &[Unit]) -> Result<DefIndex, AllocError>
+    ensures { IfOk result (IsIndex design.now units.now) }
+{
+    let bases = bases(alloc, design)?;
+    let units = UnitTable::of(alloc, design, units)?;
+    Ok(DefIndex { bases, units })
+}
 
 // The number of a family's base definition, if the table has the family.
 fn number_at(bases: &[usize], family: usize) -> Option<usize>
@@ -39,8 +56,8 @@ fn base_at<'a>(design: &'a Design, bases: &[usize], family: usize) -> Option<&'a
     }
 }
 
-// The base definition of each family.
-fn base_table<'a>(
+/// The table of the base definition of each family.
+pub fn base_defs<'a>(
     alloc: Global,
     design: &'a Design,
     bases: &[usize],
@@ -120,7 +137,46 @@ fn put<'a>(table: &mut Vec<Option<&'a Def>>, family: u16, def: Option<&'a Def>)
     }
 }
 
-/// For each family of a design the definition that a proof with these picks uses; none where the family is free. Of two picks of a family the first counts.
+/// Puts what these picks choose into a table of base definitions: for each family it then has the definition that a proof with them uses, and none where the family is free. Of two picks of a family
+/// the first counts, so they are taken from the last to the first.
+pub fn choose<'a>(
+    design: &'a Design,
+    units: &[Unit],
+    index: &DefIndex,
+    picks: &[Pick],
+    table: &mut Vec<Option<&'a Def>>,
+)
+    requires index { IsIndex design.now units.now index.now }
+    requires table { AreBaseDefs design.now table.old.items }
+    ensures { IsTable (record { design = design.now; units = units.now }) picks.now table.new.items }
+{
+    for place in (0..picks.len()).rev() {
+        let pick = picks[place];
+        let def = picked(design, units, &index.units, index.bases.as_slice(), pick);
+        put(table, pick.family, def);
+    }
+}
+
+/// Puts the base definitions back where these picks chose others.
+pub fn put_back<'a>(
+    design: &'a Design,
+    units: &[Unit],
+    index: &DefIndex,
+    picks: &[Pick],
+    table: &mut Vec<Option<&'a Def>>,
+)
+    requires index { IsIndex design.now units.now index.now }
+    requires table { IsTable (record { design = design.now; units = units.now }) picks.now table.old.items }
+    ensures { AreBaseDefs design.now table.new.items }
+{
+    for place in 0..picks.len() {
+        let pick = picks[place];
+        let def = base_at(design, index.bases.as_slice(), pick.family as usize);
+        put(table, pick.family, def);
+    }
+}
+
+/// The table of a leaf alone, by its picks.
 pub fn chosen_defs<'a>(
     alloc: Global,
     design: &'a Design,
@@ -129,16 +185,8 @@ pub fn chosen_defs<'a>(
 ) -> Result<Vec<Option<&'a Def>>, AllocError>
     ensures { IfOk result (λ table. IsTable (record { design = design.now; units = units.now }) picks.now table.items) }
 {
-    let bases = bases(alloc, design)?;
-    let mut table = base_table(alloc, design, bases.as_slice())?;
-    if picks.is_empty() {
-        return Ok(table);
-    }
-    let noted = UnitTable::of(alloc, design, units)?;
-    for place in (0..picks.len()).rev() {
-        let pick = picks[place];
-        let def = picked(design, units, &noted, bases.as_slice(), pick);
-        put(&mut table, pick.family, def);
-    }
+    let index = index_of(alloc, design, units)?;
+    let mut table = base_defs(alloc, design, index.bases.as_slice())?;
+    choose(design, units, &index, picks, &mut table);
     Ok(table)
 }

@@ -3,3 +3,4 @@ pub mod GatherLaws
 pub mod ElementLaws
 pub mod SetLaws
 pub mod QuantifierLaws
+pub mod AlikeLaws

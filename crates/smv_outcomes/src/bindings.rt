@@ -4,6 +4,7 @@ ghost use Rattle.smv_abstraction.specs.Places.{World, named_in, rests_in, bind_p
 ghost use Rattle.smv_spots.specs.Spots.{place_in};
 ghost use Rattle.smv_problem_spots.specs.Worlds.{IsWorldOf};
 
+use smv_conditions::chances::Chances;
 use smv_core::flat::Simple;
 use smv_core::seq::Seq;
 use smv_outcome_lists::bindings::bound_to;
@@ -61,4 +62,33 @@ pub fn bound_rests(
     let mut inners = Vec::new(alloc);
     add_bound(alloc, &mut inners, b, var, spots.as_slice())?;
     Ok(inners)
+}
+
+// One more of the same for each of these bindings.
+fn add_same<C: Copy>(
+    each: &mut Vec<Chances<C>>,
+    x: Chances<C>,
+    bindings: &[Seq<Spot>],
+) -> Result<(), AllocError>
+    ensures { OnOk result (each.new.items ≡ each.old.items ++ map (λ b. x) bindings.now) }
+{
+    let Some((_, others)) = bindings.split_first() else {
+        return Ok(());
+    };
+    each.push(x)?;
+    add_same(each, x, others)?;
+    Ok(())
+}
+
+/// The same truth values for each of these bindings.
+pub fn same_for_each<C: Copy>(
+    alloc: Global,
+    x: Chances<C>,
+    bindings: &[Seq<Spot>],
+) -> Result<Vec<Chances<C>>, AllocError>
+    ensures { IfOk result (λ each. each.items ≡ map (λ b. x) bindings.now) }
+{
+    let mut each = Vec::new(alloc);
+    add_same(&mut each, x, bindings)?;
+    Ok(each)
 }

@@ -9,13 +9,14 @@ ghost use Rattle.smv_cells.specs.Seen.{View, IsSeen};
 ghost use Rattle.smv_outcome_lists.specs.Lists.{AreListsMade};
 ghost use Rattle.smv_outcomes.specs.Outcomes.{IsMayOf, AreOffersOf, IsTruthOf, AreTruthsOf, AreTruthsAlong, AreListsOf, AreMembersOf, AddsMember, AreListedIn, IsSumOf};
 
-use crate::bindings::{bound_named, bound_rests};
+use crate::bindings::{bound_named, bound_rests, same_for_each};
 use smv_cells::Cell;
 use smv_conditions::chances::{Chances, Join, chain_of, negated};
 use smv_conditions::conditions::Conditions;
 use smv_conditions::offers::{May, Offer, single, truths_of};
 use smv_core::flat::{FlatExpr, FlatMember, FlatSigned};
 use smv_core::seq::Seq;
+use smv_free_variables::alike::all_agree;
 use smv_outcome_lists::combined::{chosen, matched, offers_of, valued};
 use smv_outcome_lists::members::{add_numbers, within_of};
 use smv_outcome_lists::pairs::{added_of, compared_all, remainders_of};
@@ -232,9 +233,38 @@ fn truths_each<S: Conditions>(
     Ok(each)
 }
 
-// The truth values that an expression may have under each of these bindings.
+// The truth values that an expression may have under each of these bindings; it is worked out once where they agree on what it reads.
 #[cycle(expressions)]
 fn truths_along<S: Conditions>(
+    s: &mut S,
+    alloc: Global,
+    problem: &Problem,
+    cells: &[Cell<S::Condition>],
+    body: &FlatExpr,
+    bindings: &[Seq<Spot>],
+) -> Result<Vec<Chances<S::Condition>>, AllocError>
+    requires cells_made { AreCellsMade (S.IsMade s.old) cells.now }
+    ensures keeps { KeepsConditions S.IsMade S.holds S.room s.old s.new }
+    ensures made { IfOk result (λ each. AllMade (S.IsMade s.new) each.items) }
+    ensures cells { IfOk result (λ each. AreCellsMade (S.IsMade s.new) cells.now) }
+    ensures are { IfOk result (λ each. (v : View) → IsSeen S.holds s.old problem.entry.now cells.now v → AreTruthsAlong S.holds s.new v body.now bindings.now [] each.items) }
+{
+    let Some((first, others)) = bindings.split_first() else {
+        return Ok(Vec::new(alloc));
+    };
+    let b = first.as_slice();
+    if all_agree(body, b, others) {
+        let x = truth_of(s, alloc, problem, cells, body, b)?;
+        let same = same_for_each(alloc, x, bindings)?;
+        return Ok(same);
+    }
+    let each = truths_apart(s, alloc, problem, cells, body, bindings)?;
+    Ok(each)
+}
+
+// The truth values that an expression may have under each of these bindings, one by one.
+#[cycle(expressions)]
+fn truths_apart<S: Conditions>(
     s: &mut S,
     alloc: Global,
     problem: &Problem,

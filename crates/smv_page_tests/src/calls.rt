@@ -22,6 +22,20 @@ pub fn last_difference(alloc: Global, rows: &[Row]) -> Result<Option<usize>, All
     Ok(last)
 }
 
+// Whether a text of so many blanks has this status and this answer.
+pub fn blanks_have(
+    alloc: Global,
+    words: &str,
+    count: usize,
+    status: u8,
+    answer: &str,
+) -> Result<bool, AllocError> {
+    let mut blanks = Vec::new(alloc);
+    blanks.resize(count, b' ')?;
+    let (ended, written) = answered(alloc, words, &blanks)?;
+    Ok(ended == status && written.as_slice() == answer.as_bytes())
+}
+
 // The exit status and what was written, for words parted by blanks and the bytes of a text.
 fn answered(alloc: Global, line: &str, text: &[u8]) -> Result<(u8, Vec<u8>), AllocError> {
     let mut words = Vec::new(alloc);

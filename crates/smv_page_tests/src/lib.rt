@@ -1,5 +1,5 @@
-//! Tests of what the users' pages show: each command of `docs/METHOD.md`, `docs/FAULTS.md` and `examples` through `run`, with the answer and the status that stand there.
-//! `examples`, `faults` and `method` are written by `tools/pages.py --tests`; where a page changes, run it again.
+//! Tests of what the users' pages show: each command of `README.md`, `docs/METHOD.md`, `docs/FAULTS.md` and `examples` through `run`, with the answer and the status that stand there.
+//! `examples`, `faults`, `method` and `readme` are written by `tools/pages.py --tests`; where a page changes, run it again.
 #![tactic(auto)]
 
 #[cfg(test)]
@@ -10,3 +10,5 @@ mod examples;
 mod faults;
 #[cfg(test)]
 mod method;
+#[cfg(test)]
+mod readme;

@@ -1,4 +1,3 @@
 pub mod Answer
-pub mod Nests
 pub mod Pieces
 pub mod Reading

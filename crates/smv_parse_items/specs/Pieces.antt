@@ -1,35 +1,25 @@
 -- Parts of readers that a function of their own reads.
-use Rattle.std.specs.Prelude.{ℕ, Bool, List, [], ◌∷◌, ◌++◌, Option, Some, None, Ok}
+use Rattle.std.specs.Prelude.{ℕ, List, [], ◌∷◌, ◌++◌, Option, Some, None, Ok}
 use Rattle.smv_core.specs.declared.tree.Word.{Word}
 use Rattle.smv_core.specs.declared.tree.Use.{Use}
 use Rattle.smv_core.specs.declared.tree.Use.TheVariants as uses
 use Rattle.smv_core.specs.declared.tree.Item.{Item}
 use Rattle.smv_core.specs.declared.tree.Item.TheVariants as item
+use Rattle.smv_core.specs.declared.tree.Expr.{Expr}
 use Rattle.smv_core.specs.declared.tree.Part.{Part}
+use Rattle.smv_core.specs.declared.tree.Ref.{Ref}
 use Rattle.smv_core.specs.declared.tree.Span.{Span}
 use Rattle.smv_core.specs.declared.tree.Top.{Top}
-use Rattle.smv_core.specs.declared.tree.Stmt.{Stmt}
-use Rattle.smv_core.specs.declared.tree.Stmt.TheVariants as stmt
-use Rattle.smv_core.specs.declared.tree.Kind.{Kind}
-use Rattle.smv_core.specs.Signs.{equal, plus, comma, colon, semicolon, dot, open_bracket, open_brace, close_brace, open_paren, close_paren}
+use Rattle.smv_core.specs.Signs.{comma, colon, semicolon, dot, open_bracket, open_brace, close_brace, open_paren, close_paren}
 use Rattle.smv_core.specs.Signs as w
-use Rattle.smv_core.specs.Grammar.{Turns, RefPart, dotted, bracketed, place_of}
+use Rattle.smv_core.specs.Grammar.{RefPart, dotted, bracketed, place_of}
 use Rattle.law_grammar.specs.Parsing.{Outcome, Parser, and_then, bind, pure, take, take_open, fork, loop}
 use Rattle.law_grammar.specs.Marks.{any_name, exactly, begins}
-use Rattle.law_grammar.specs.Readers.{a_token, a_name, a_number, a_same_name, read_separated, read_separated_or_none}
+use Rattle.law_grammar.specs.Readers.{a_token, a_name, read_separated, read_separated_or_none}
 use Rattle.law_grammar.specs.Expressions.{expr_marks, read_span, expr_readers}
-use Rattle.law_grammar.specs.Statements.{a_positive, stmt_marks, read_bound, read_value, stmt_readers}
+use Rattle.law_grammar.specs.Statements.{stmt_marks, stmt_readers}
 use Rattle.law_grammar.specs.Items.{MarkedPart, parts_of, vars_of, vars_of_some, read_marked, read_assigned, read_claimed, read_behind, read_listed, read_module_body, item_readers}
 use Rattle.law_grammar.specs.References.{read_ref_part, read_ref, read_pair}
-
--- the header of a `for` behind the name of its variable
-abbrev pub read_counted : Word → Parser Turns
-read_counted x = bind (take (a_token equal)) (λ _. bind (take a_number) (λ from. bind (take (a_token semicolon)) (λ _. read_bound x from.0)))
-
--- the step of a `for`, whose bound is known
-abbrev pub read_stepped : Word → ℕ → Bool → ℕ → Parser Turns
-read_stepped x from closed to = bind (take (a_same_name x)) (λ _. bind (take (a_token equal)) (λ _. bind (take (a_same_name x)) (λ _. bind (take (a_token plus)) (λ _. bind (take a_positive) (λ step. bind (take (a_token close_paren)) (λ _.
-    pure (record { var = x; from = from; to = to; closed = closed; step = step })))))))
 
 -- the names that lead from a first one, and those in brackets
 abbrev pub read_names : ℕ → Word → Parser (List Word × List Word)
@@ -43,10 +33,13 @@ gathered path names o = and_then o (λ parts rest. Ok ((path ++ dotted parts, na
 abbrev pub read_keep_behind : ℕ → Word → Parser Use
 read_keep_behind n x = take_open (a_token open_brace) n (λ _. bind (read_separated_or_none (any_name ∷ []) (take a_name)) (λ names. bind (take (a_token close_brace)) (λ _. pure (uses.Keep x names x.at))))
 
+-- a split from its `for` on
+abbrev pub read_split_for : ℕ → ℕ → Word → List Word → Ref → Parser Item
+read_split_for n at x vars of = bind (take (a_token w.word_for)) (λ _. bind (read_separated (read_pair n)) (λ pairs. bind (take (a_token semicolon)) (λ _. pure (item.Split x vars of pairs at))))
+
 -- a split from its `of` on
 abbrev pub read_split_behind : ℕ → ℕ → Word → List Word → Parser Item
-read_split_behind n at x vars = bind (take (a_token w.word_of)) (λ _. bind (read_ref n) (λ of. bind (take (a_token w.word_for)) (λ _. bind (read_separated (read_pair n)) (λ pairs. bind (take (a_token semicolon)) (λ _.
-    pure (item.Split x vars of pairs at))))))
+read_split_behind n at x vars = bind (take (a_token w.word_of)) (λ _. bind (read_ref n) (λ of. read_split_for n at x vars of))
 
 -- the names in brackets, with the next one, where each part is one
 abbrev pub put_after : Option (List Word) → Option Word → Option (List Word)
@@ -72,10 +65,13 @@ abbrev pub read_chosen : ℕ → Word → List Part → Option (List Word) → P
 read_chosen n x parts None = read_assigned n x parts
 read_chosen n x parts (Some vars) = fork (begins (exactly colon ∷ [])) (bind (take (a_token colon)) (λ _. read_claimed n x vars)) (read_assigned n x parts)
 
+-- the end of an instance, behind its arguments
+abbrev pub read_instance_end : List Word → Word → List Expr → Parser Item
+read_instance_end names m args = bind (take (a_token close_paren)) (λ _. bind (take (a_token semicolon)) (λ _. pure (item.Instance names m args (place_of names))))
+
 -- the arguments of an instance
 abbrev pub read_instance_behind : ℕ → List Word → Word → Parser Item
-read_instance_behind n names m = take_open (a_token open_paren) n (λ _. bind (read_separated_or_none expr_marks ((expr_readers n).expr)) (λ args. bind (take (a_token close_paren)) (λ _. bind (take (a_token semicolon)) (λ _.
-    pure (item.Instance names m args (place_of names))))))
+read_instance_behind n names m = take_open (a_token open_paren) n (λ _. bind (read_separated_or_none expr_marks ((expr_readers n).expr)) (λ args. read_instance_end names m args))
 
 -- the statements of a layer
 abbrev pub read_layer_behind : ℕ → ℕ → Word → Parser Item
@@ -94,9 +90,3 @@ read_module_behind n at x = take_open (a_token open_paren) n (λ _. bind (read_s
 -- behind a name in a body: what a comma or a colon leads, and else a claim or an assignment
 abbrev pub read_named_behind : ℕ → Word → Parser Item
 read_named_behind n x = fork (begins (exactly comma ∷ exactly colon ∷ [])) (read_listed n x) (read_behind n vars_of_some x)
-
--- ---- of statements
-
--- an assignment of this kind behind its word
-abbrev pub read_timed_behind : ℕ → Kind → ℕ → Parser Stmt
-read_timed_behind n k at = take_open (a_token open_paren) n (λ _. bind (stmt_readers n).path (λ p. bind (take (a_token close_paren)) (λ _. bind (read_value n) (λ x. pure (stmt.Assign k p x at)))))

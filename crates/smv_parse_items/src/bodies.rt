@@ -9,12 +9,8 @@ ghost use Rattle.law_grammar.specs.Readers.{a_token, a_name, read_separated, rea
 ghost use Rattle.law_grammar.specs.Expressions.{expr_marks, read_expr, expr_readers};
 ghost use Rattle.law_grammar.specs.Items.{name_alone, vars_of, read_marked, read_claimed, read_assigned, read_behind, read_named, read_declared, read_instance, read_of_names, read_behind_colon, read_listed, read_named_body, read_with_role, read_layer};
 ghost use Rattle.smv_parse_expressions.specs.Answers.{StopsAs};
-ghost use Rattle.smv_parse_items.specs.Pieces.{read_parts, read_chosen, put_after, read_instance_behind, read_layer_behind, read_named_behind};
+ghost use Rattle.smv_parse_items.specs.Pieces.{read_parts, read_chosen, put_after, read_instance_end, read_instance_behind, read_layer_behind, read_named_behind};
 
-use crate::ahead::{next_begins_expr, next_is_comma_or_colon, next_is_name_and_sign};
-use crate::grammar::stmts;
-use crate::parts::value;
-use crate::tokens::role;
 use smv_core::name::Name;
 use smv_core::seq::Seq;
 use smv_core::token::{Token, TokenKind};
@@ -29,6 +25,12 @@ use smv_parse_expressions::names::names;
 use smv_parse_expressions::single::{name, opening_sign, sign, word};
 use smv_parse_expressions::stop::Stop;
 use smv_parse_expressions::types::type_expr;
+use smv_parse_statements::ahead::{
+    next_begins_expr, next_is_comma_or_colon, next_is_name_and_sign,
+};
+use smv_parse_statements::grammar::stmts;
+use smv_parse_statements::parts::value;
+use smv_parse_statements::tokens::role;
 use std::alloc::Global;
 
 // ---- what stands behind a name
@@ -348,21 +350,27 @@ fn exprs_or_none(alloc: Global, levels: u8, tokens: &[Token]) -> Result<(Seq<Exp
     Ok((Seq::new(alloc), tokens))
 }
 
-/// '(' [ Expr { ',' Expr } ] ')' ';' behind the module of an instance.
-#[tactic(auto, using(law_grammar::proofs::Steps::open_then, law_grammar::proofs::Steps::next_expr))]
-fn arguments(
-    alloc: Global,
-    levels: u8,
+/// [ Expr { ',' Expr } ] inside an opened level.
+#[tactic(auto, using(law_grammar::proofs::Steps::next_expr))]
+fn inner_exprs(alloc: Global, levels: u8, tokens: &[Token]) -> Result<(Seq<Expr>, &[Token]), Stop>
+    requires { 0 < levels }
+    ensures found { IfOk result (λ found. read_separated_or_none expr_marks ((expr_readers levels).expr) tokens.now ≡ Ok (found.0, found.1.now)) }
+    ensures stop { IfErr result (λ stop. StopsAs stop (read_separated_or_none expr_marks ((expr_readers levels).expr) tokens.now)) }
+{
+    exprs_or_none(alloc, levels - 1, tokens)
+}
+
+/// ')' ';' behind the arguments of an instance.
+fn instance_end(
     names: Seq<Word>,
     called: Word,
+    args: Seq<Expr>,
     tokens: &[Token],
 ) -> Result<(Item, &[Token]), Stop>
-    ensures found { IfOk result (λ found. read_instance_behind levels names called tokens.now ≡ Ok (found.0, found.1.now)) }
-    ensures stop { IfErr result (λ stop. StopsAs stop (read_instance_behind levels names called tokens.now)) }
+    ensures found { IfOk result (λ found. read_instance_end names called args tokens.now ≡ Ok (found.0, found.1.now)) }
+    ensures stop { IfErr result (λ stop. StopsAs stop (read_instance_end names called args tokens.now)) }
 {
-    let (_, rest) = opening_sign(OPEN_PAREN, levels, tokens)?;
-    let (args, rest) = exprs_or_none(alloc, levels - 1, rest)?;
-    let (_, rest) = sign(CLOSE_PAREN, rest)?;
+    let (_, rest) = sign(CLOSE_PAREN, tokens)?;
     let (_, rest) = sign(SEMICOLON, rest)?;
     let at = place_of(names.as_slice());
     Ok((
@@ -374,6 +382,23 @@ fn arguments(
         },
         rest,
     ))
+}
+
+/// '(' [ Expr { ',' Expr } ] ')' ';' behind the module of an instance.
+#[tactic(auto, using(law_grammar::proofs::Steps::open_then))]
+fn arguments(
+    alloc: Global,
+    levels: u8,
+    names: Seq<Word>,
+    called: Word,
+    tokens: &[Token],
+) -> Result<(Item, &[Token]), Stop>
+    ensures found { IfOk result (λ found. read_instance_behind levels names called tokens.now ≡ Ok (found.0, found.1.now)) }
+    ensures stop { IfErr result (λ stop. StopsAs stop (read_instance_behind levels names called tokens.now)) }
+{
+    let (_, rest) = opening_sign(OPEN_PAREN, levels, tokens)?;
+    let (args, rest) = inner_exprs(alloc, levels, rest)?;
+    instance_end(names, called, args, rest)
 }
 
 /// An instance from its module on.

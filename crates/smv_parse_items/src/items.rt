@@ -6,10 +6,7 @@ ghost use Rattle.law_grammar.specs.Statements.{read_worded, stmt_readers};
 ghost use Rattle.law_grammar.specs.Items.{item_marks, body_marks, read_item, read_other_item, read_forall_item, read_block_item, read_body, item_readers};
 ghost use Rattle.smv_parse_expressions.specs.Answers.{StopsAs};
 
-use crate::ahead::{next_begins_body, next_begins_item, next_is_role};
 use crate::bodies::{layer, named, named_body, with_role};
-use crate::grammar::worded;
-use crate::parts::binder;
 use crate::references::{split, using_item};
 use smv_core::boxed::Boxed;
 use smv_core::seq::Seq;
@@ -21,6 +18,9 @@ use smv_parse_expressions::marks::{
 };
 use smv_parse_expressions::single::{opening_sign, opening_word, sign};
 use smv_parse_expressions::stop::Stop;
+use smv_parse_statements::ahead::{next_begins_body, next_begins_item, next_is_role};
+use smv_parse_statements::grammar::worded;
+use smv_parse_statements::parts::binder;
 use std::alloc::Global;
 
 /// 'forall', its binder and an item.

@@ -8,9 +8,8 @@ ghost use Rattle.law_grammar.specs.Expressions.{read_sum, expr_readers};
 ghost use Rattle.law_grammar.specs.References.{read_layer_name, read_layer_or_free, read_in_brackets, read_ref, read_used, read_keep, read_early, read_use, read_using, read_pair, read_split};
 ghost use Rattle.law_grammar.specs.Items.{item_readers};
 ghost use Rattle.smv_parse_expressions.specs.Answers.{StopsAs};
-ghost use Rattle.smv_parse_items.specs.Pieces.{read_names, read_keep_behind, read_split_behind};
+ghost use Rattle.smv_parse_items.specs.Pieces.{read_names, read_keep_behind, read_split_behind, read_split_for};
 
-use crate::ahead::next_is_name_and_sign;
 use smv_core::seq::Seq;
 use smv_core::token::Token;
 use smv_core::tree::{Expr, Item, Pair, Ref, Use, Word};
@@ -24,6 +23,7 @@ use smv_parse_expressions::marks::{
 use smv_parse_expressions::names::names;
 use smv_parse_expressions::single::{name, opening_sign, sign, word};
 use smv_parse_expressions::stop::Stop;
+use smv_parse_statements::ahead::next_is_name_and_sign;
 use std::alloc::Global;
 
 /// [ name { ',' name } ]
@@ -364,6 +364,34 @@ fn brackets(alloc: Global, levels: u8, tokens: &[Token]) -> Result<(Seq<Word>, &
     Ok((Seq::from_vec(items), rest))
 }
 
+/// 'for' equations ';' behind the reference of a split.
+fn split_for(
+    alloc: Global,
+    levels: u8,
+    at: u32,
+    name: Word,
+    vars: Seq<Word>,
+    of: Ref,
+    tokens: &[Token],
+) -> Result<(Item, &[Token]), Stop>
+    ensures found { IfOk result (λ found. read_split_for levels at name vars of tokens.now ≡ Ok (found.0, found.1.now)) }
+    ensures stop { IfErr result (λ stop. StopsAs stop (read_split_for levels at name vars of tokens.now)) }
+{
+    let (_, rest) = word(WORD_FOR, tokens)?;
+    let (pairs, rest) = pairs(alloc, levels, rest)?;
+    let (_, rest) = sign(SEMICOLON, rest)?;
+    Ok((
+        Item::Split {
+            name,
+            vars,
+            of,
+            pairs,
+            at,
+        },
+        rest,
+    ))
+}
+
 /// 'of' Ref 'for' equations ';' behind the name of a split and its variables.
 fn split_of(
     alloc: Global,
@@ -378,19 +406,7 @@ fn split_of(
 {
     let (_, rest) = word(WORD_OF, tokens)?;
     let (of, rest) = reference(alloc, levels, rest)?;
-    let (_, rest) = word(WORD_FOR, rest)?;
-    let (pairs, rest) = pairs(alloc, levels, rest)?;
-    let (_, rest) = sign(SEMICOLON, rest)?;
-    Ok((
-        Item::Split {
-            name,
-            vars,
-            of,
-            pairs,
-            at,
-        },
-        rest,
-    ))
+    split_for(alloc, levels, at, name, vars, of, rest)
 }
 
 /// A split.

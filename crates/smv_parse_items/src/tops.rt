@@ -7,7 +7,6 @@ ghost use Rattle.smv_parse_expressions.specs.Answers.{StopsAs};
 ghost use Rattle.smv_parse_items.specs.Pieces.{read_any_extent, read_module_behind};
 ghost use Rattle.smv_parse_items.specs.Reading.{StopsText};
 
-use crate::ahead::next_begins_top;
 use crate::items::bodies;
 use crate::references::names_or_none;
 use smv_core::seq::Seq;
@@ -21,6 +20,7 @@ use smv_parse_expressions::marks::{
 use smv_parse_expressions::single::{name, opening_sign, sign, word};
 use smv_parse_expressions::stop::Stop;
 use smv_parse_expressions::types::{span, type_expr};
+use smv_parse_statements::ahead::next_begins_top;
 use std::alloc::Global;
 
 /// 'undefined' | number '..' number

@@ -36,7 +36,7 @@ const ROWS: &[(&str, u8, &str, &str)] = &[
 ];
 
 // The exit status, what is dumped and what is noted, where the source's calls of these numbers fail and each sink has so much room.
-fn answered(
+pub fn answered(
     alloc: Global,
     words: &[String],
     text: &str,

@@ -15,6 +15,7 @@ use Rattle.smv_outcomes.proofs.GatherLaws.{chances_kept, chances_shown, chances_
 use Rattle.smv_outcomes.proofs.ElementLaws.{read_of_it, sum_of_it}
 use Rattle.smv_outcomes.proofs.SetLaws.{members_listed, no_members, numbers_added, within_of_it}
 use Rattle.smv_outcomes.proofs.QuantifierLaws.{all_of_it, any_of_it}
+use Rattle.smv_outcomes.proofs.AlikeLaws.{no_bindings, alike_made, alike_along}
 use Rattle.smv_outcomes.proofs.expressions.+expressions.Goals as goal
 
 pub may_of-returns-in_ok-m-in-Number-clause-is : goal.may_of-returns-in_ok-m-in-Number-clause-is
@@ -172,20 +173,20 @@ truths_each-returns-clause-made g t c = c.loop-part.invariant.made
 pub truths_each-returns-clause-cells : goal.truths_each-returns-clause-cells
 truths_each-returns-clause-cells g t c = c.loop-part.invariant.cells_made
 
-pub truths_along-returns-in_err-x-clause-keeps : goal.truths_along-returns-in_err-x-clause-keeps
-truths_along-returns-in_err-x-clause-keeps g t c = keeps_trans _ _ _ _ _ _ c.loop-inner.invariant.keeps c.truth_of.ensures.keeps
+pub truths_apart-returns-in_err-x-clause-keeps : goal.truths_apart-returns-in_err-x-clause-keeps
+truths_apart-returns-in_err-x-clause-keeps g t c = keeps_trans _ _ _ _ _ _ c.loop-inner.invariant.keeps c.truth_of.ensures.keeps
 
-pub truths_along-returns-in_err-push-clause-keeps : goal.truths_along-returns-in_err-push-clause-keeps
-truths_along-returns-in_err-push-clause-keeps g t c = keeps_trans _ _ _ _ _ _ c.loop-inner.invariant.keeps c.in_ok-x.ensures.keeps
+pub truths_apart-returns-in_err-push-clause-keeps : goal.truths_apart-returns-in_err-push-clause-keeps
+truths_apart-returns-in_err-push-clause-keeps g t c = keeps_trans _ _ _ _ _ _ c.loop-inner.invariant.keeps c.in_ok-x.ensures.keeps
 
-pub truths_along-returns-clause-keeps : goal.truths_along-returns-clause-keeps
-truths_along-returns-clause-keeps g t c = c.loop-inner.invariant.keeps
+pub truths_apart-returns-clause-keeps : goal.truths_apart-returns-clause-keeps
+truths_apart-returns-clause-keeps g t c = c.loop-inner.invariant.keeps
 
-pub truths_along-returns-clause-made : goal.truths_along-returns-clause-made
-truths_along-returns-clause-made g t c = c.loop-inner.invariant.made
+pub truths_apart-returns-clause-made : goal.truths_apart-returns-clause-made
+truths_apart-returns-clause-made g t c = c.loop-inner.invariant.made
 
-pub truths_along-returns-clause-cells : goal.truths_along-returns-clause-cells
-truths_along-returns-clause-cells g t c = c.loop-inner.invariant.cells_made
+pub truths_apart-returns-clause-cells : goal.truths_apart-returns-clause-cells
+truths_apart-returns-clause-cells g t c = c.loop-inner.invariant.cells_made
 
 pub lists_each-returns-in_err-us-clause-keeps : goal.lists_each-returns-in_err-us-clause-keeps
 lists_each-returns-in_err-us-clause-keeps g t c = keeps_trans _ _ _ _ _ _ c.loop-part.invariant.keeps c.offers_for.ensures.keeps
@@ -207,11 +208,11 @@ truths_each-returns-clause-are g t c v h =
     let end : drop c.loop-part.part-index c.args.parts.now ≡ [] = grind (arith, common_steps) in
     subst (λ (rest : List FlatExpr). AreTruthsOf g.S.Conditions.holds c.loop-part.s v c.args.b.now c.args.parts.now rest c.loop-part.each.items) end (c.loop-part.invariant.is v h)
 
-pub truths_along-loop-inner-init : goal.truths_along-loop-inner-init
-truths_along-loop-inner-init g t c = record { keeps = keeps_same _ _ _ _; made = subst (AllMade _) (sym c.new-each.ensures.items) tt; cells_made = c.requires.cells_made; is = λ v h. along_begins _ _ v _ _ _ _ refl c.new-each.ensures.items }
+pub truths_apart-loop-inner-init : goal.truths_apart-loop-inner-init
+truths_apart-loop-inner-init g t c = record { keeps = keeps_same _ _ _ _; made = subst (AllMade _) (sym c.new-each.ensures.items) tt; cells_made = c.requires.cells_made; is = λ v h. along_begins _ _ v _ _ _ _ refl c.new-each.ensures.items }
 
-pub truths_along-loop-inner-preserved : goal.truths_along-loop-inner-preserved
-truths_along-loop-inner-preserved g t c =
+pub truths_apart-loop-inner-preserved : goal.truths_apart-loop-inner-preserved
+truths_apart-loop-inner-preserved g t c =
     let step : drop c.loop-inner.inner-index c.args.bindings.now ≡ c.inner-item.result ∷ drop (c.loop-inner.inner-index + 1) c.args.bindings.now = grind (arith, common_steps) in
     record {
       keeps = keeps_trans _ _ _ _ _ _ c.loop-inner.invariant.keeps c.in_ok-x.ensures.keeps;
@@ -220,10 +221,24 @@ truths_along-loop-inner-preserved g t c =
       is = λ v h. along_goes _ _ _ _ _ v c.in_ok-x.ensures.keeps _ _ _ _ _ _ _ _ _ step c.in_ok-push.ensures.items c.as_slice.ensures c.loop-inner.invariant.made (c.loop-inner.invariant.is v h) (c.in_ok-x.ensures.is v (seen_on _ _ _ _ _ _ _ v c.loop-inner.invariant.keeps c.requires.cells_made h));
     }
 
-pub truths_along-returns-clause-are : goal.truths_along-returns-clause-are
-truths_along-returns-clause-are g t c v h =
+pub truths_apart-returns-clause-are : goal.truths_apart-returns-clause-are
+truths_apart-returns-clause-are g t c v h =
     let end : drop c.loop-inner.inner-index c.args.bindings.now ≡ [] = grind (arith, common_steps) in
     subst (λ (rest : List (List Spot)). AreTruthsAlong g.S.Conditions.holds c.loop-inner.s v c.args.body.now c.args.bindings.now rest c.loop-inner.each.items) end (c.loop-inner.invariant.is v h)
+
+pub truths_along-returns-in_default-clause-made : goal.truths_along-returns-in_default-clause-made
+truths_along-returns-in_default-clause-made g t c = subst (AllMade _) (sym c.new.ensures.items) tt
+
+pub truths_along-returns-in_default-clause-are : goal.truths_along-returns-in_default-clause-are
+truths_along-returns-in_default-clause-are g t c v h = no_bindings _ _ v _ _ _ c.in_default.ensures.cases c.new.ensures.items
+
+pub truths_along-returns-then-all_agree-clause-made : goal.truths_along-returns-then-all_agree-clause-made
+truths_along-returns-then-all_agree-clause-made g t c = alike_made _ _ _ _ c.in_ok-same.ensures c.in_ok-x.ensures.made
+
+pub truths_along-returns-then-all_agree-clause-are : goal.truths_along-returns-then-all_agree-clause-are
+truths_along-returns-then-all_agree-clause-are g t c v h =
+    let k = c.in-Some.ensures.cases in
+    alike_along _ _ v _ _ _ _ _ _ _ _ k.0 c.as_slice-b.ensures c.as_slice-b.ensures (c.all_agree.ensures c.if-all_agree.true) (c.in_ok-x.ensures.is v h) c.in_ok-same.ensures
 
 pub lists_each-loop-part-init : goal.lists_each-loop-part-init
 lists_each-loop-part-init g t c = record { keeps = keeps_same _ _ _ _; made = subst (AreListsMade _) (sym c.new-each.ensures.items) tt; cells_made = c.requires.cells_made; is = λ v h. lists_begin _ _ v _ _ _ _ refl c.new-each.ensures.items }

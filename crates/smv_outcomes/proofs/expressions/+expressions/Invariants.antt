@@ -10,8 +10,8 @@ abbrev pub invariant-truths_each-loop-part : goal.invariant-truths_each-loop-par
 invariant-truths_each-loop-part g l =
     Gathering g.S.Conditions.IsMade g.S.Conditions.holds g.S.Conditions.room l.fn.s l.s l.problem l.cells (AllMade (g.S.Conditions.IsMade l.s) l.each.items) (λ v. AreTruthsOf g.S.Conditions.holds l.s v l.b l.parts (drop l.part-index l.parts) l.each.items)
 
-abbrev pub invariant-truths_along-loop-inner : goal.invariant-truths_along-loop-inner
-invariant-truths_along-loop-inner g l =
+abbrev pub invariant-truths_apart-loop-inner : goal.invariant-truths_apart-loop-inner
+invariant-truths_apart-loop-inner g l =
     Gathering g.S.Conditions.IsMade g.S.Conditions.holds g.S.Conditions.room l.fn.s l.s l.problem l.cells (AllMade (g.S.Conditions.IsMade l.s) l.each.items) (λ v. AreTruthsAlong g.S.Conditions.holds l.s v l.body l.bindings (drop l.inner-index l.bindings) l.each.items)
 
 abbrev pub invariant-lists_each-loop-part : goal.invariant-lists_each-loop-part

@@ -1,0 +1,23 @@
+-- Each refusal of a text has a number of 1 to 31, and a place of at most the text's length.
+use Rattle.std.specs.Prelude.{◌≡◌, ℕ, List, length}
+use Rattle.smv_core.specs.declared.tree.Text.{Text}
+use Rattle.smv_parse.specs.Spelling.{SpellsText}
+use Rattle.smv_report.specs.Lines.{fault_text}
+use Rattle.smv_command.specs.declared.Command.{Command}
+use Rattle.smv_status.specs.declared.Status.TheVariants as status
+use Rattle.law_answers.specs.Dues.{IsFault, IsDue}
+use Rattle.law_tree_places.specs.TreePlaces.{TextIsWithin}
+use Rattle.law_pass_faults.specs.PassFaults.{IsFaultWithin}
+
+-- what a text spells has its places within the text
+abbrev pub TreesOfTextsAreWithin : Type 0
+TreesOfTextsAreWithin = (text : List ℕ) (tree : Text) → SpellsText text tree → TextIsWithin (length text) tree
+
+-- the first fault of a text under any command stands within the text
+abbrev pub FaultsAreWithin : Type 0
+FaultsAreWithin = (command : Command) (text : List ℕ) (number at : ℕ) → IsFault command text number at → IsFaultWithin (length text) number at
+
+-- and a refusal that is due tells such a fault, and nothing else
+abbrev pub RefusalsTellFaults : Type 0
+RefusalsTellFaults = (command : Command) (text answer : List ℕ) → IsDue command text status.Refused answer →
+    (number : ℕ) × (at : ℕ) × IsFault command text number at × IsFaultWithin (length text) number at × (answer ≡ fault_text text number at)

@@ -1,0 +1,4 @@
+pub mod Forms
+pub mod Flattened
+pub mod Items
+pub mod Designs

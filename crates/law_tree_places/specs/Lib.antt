@@ -1,0 +1,2 @@
+pub mod TreePlaces
+pub mod FaultPlaces

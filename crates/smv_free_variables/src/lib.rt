@@ -1,0 +1,9 @@
+//! Which variables an expression reads, and whether bindings agree on them: then what the expression may be is the same under all of them.
+//!
+//! For the evaluator, which works an expression out once for such bindings. `law_free_variables` says why that is enough; begin with `all_agree`.
+#![tactic(auto)]
+
+pub mod alike;
+pub mod reading;
+
+pub use alike::all_agree;

@@ -1,0 +1,4 @@
+use Rattle.smv_parse_statements.proofs.grammar.+stmt.Given as goal
+
+abbrev pub decreases-stmt : goal.decreases-stmt
+decreases-stmt l = l.levels
