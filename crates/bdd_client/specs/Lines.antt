@@ -1,5 +1,5 @@
 -- What a line of a list says: which function it makes, what it writes, and when it names only what is there.
-use Rattle.std.specs.Prelude.{◌≡◌, ℕ, ◌<◌, Bool, true, false, ◌&&◌, ◌||◌, ◌==◌, not, List, [], ◌∷◌, ◌++◌, length, Option, Some, None, if◌then◌else◌}
+use Rattle.std.specs.Prelude.{ℕ, ◌<◌, false, ◌&&◌, ◌||◌, ◌==◌, not, List, [], ◌∷◌, ◌++◌, length, Option, Some, None, if◌then◌else◌}
 use Rattle.std.specs.Fmt.{decimal}
 use Rattle.bdd_store.specs.Beads.{bead_count}
 use Rattle.bdd_store.specs.Diagram.{Diagram, DependsFrom, ref_at, table, tables_of}

@@ -209,7 +209,7 @@ fn write_count(store: &Store, made: &[Ref], line: Line, out: &mut Vec<u8>) -> Re
 }
 
 // Writes how many nodes a function has, and a line feed.
-#[tactic(auto, using(crate::proofs::Counts::one_live, crate::proofs::Counts::one_count))]
+#[tactic(auto, using(crate::proofs::Counts::one_live))]
 fn write_nodes(store: &Store, f: Ref, out: &mut Vec<u8>) -> Result<(), AllocError>
     requires live { IsLive store.now f }
     ensures written { OnOk result (out.new.items ≡ out.old.items ++ nodes_line store.now f) }

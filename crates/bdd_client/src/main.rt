@@ -4,6 +4,9 @@
 //! The first is how many variables there are; behind it each operation has three, its code and two operands, of which the second may be unused. `lines.rt` has the codes. An operation that makes a function gives
 //! it the next number from 0 on, by which later operations name it. The exit status is 0, or 3 where the bytes are no list or an operation names what is not there, 5 and 6 where a stream failed, 7 where memory ran out;
 //! then nothing more is written.
+//!
+//! Proved are the parts: what each code means (`line_of`), that an operation makes exactly the function that it says of those made before (`made_by`), that a count writes exactly the number of beads (`write_count`), and that
+//! an operation which names only what is there is not refused. That `run_line` and `counts` do this once for each operation, in their order, is not stated: of a whole list it is proved only that each function made is live and that no fault occurs.
 #![tactic(auto)]
 
 mod lines;
