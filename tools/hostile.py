@@ -26,6 +26,9 @@ TOP = os.path.dirname(os.path.dirname(os.path.abspath(__file__)))
 MODULE = b"module main() { "
 TOGGLE = MODULE + b"x : boolean; init(x) := 0; next(x) := ~x; p : assert G (x | ~x); }"
 TOGGLE_FALSE = MODULE + b"x : boolean; init(x) := 0; next(x) := ~x; p : assert G ~x; }"
+BOTH = MODULE + b"x : boolean; p : assert G x; q : assert G x; using q prove p; using p prove q; }"
+MUTEX = b"scalarset P undefined; module main() { tok : P; crit : array P of boolean; forall (i in P) crit[i] := tok = i; forall (i in P) forall (j in P) mutex[i][j] : assert G (crit[i] & crit[j] -> i = j); }"
+CLOSE = b"module main(){x:boolean;p:assert G (x|(~x));}"
 SPLIT = MODULE + b"n : 0..3; init(n) := 0; next(n) := n + 1 mod 4; p : assert G (n < 4); forall (i in 0..3) subcase q[i] of p for n = i; }"
 STATUSES = range(8)
 LARGEST = 1 << 20
@@ -66,6 +69,7 @@ def cases():
     machine = example("tomasulo.smv")
     broken = machine.replace(b"st[i].ta = bt", b"1", 1)
     yield from [("prove", TOGGLE), ("prove", TOGGLE_FALSE), ("prove", SPLIT), ("prove", machine), ("prove", broken), ("print", machine), ("generated 2", b"")]
+    yield from [("prove", BOTH), ("prove", MUTEX), ("print", CLOSE)]
     yield from [("only p", TOGGLE_FALSE), ("only q", TOGGLE), ("prove", MODULE), ("prove --nodes 0", TOGGLE)]
 
 
