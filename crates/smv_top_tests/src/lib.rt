@@ -1,5 +1,5 @@
 //! Tests of the whole program, from words and bytes to a status and bytes. The expected answers were worked out by hand from the rules of the language and of the method.
-//! `rows` has worked designs with their reports, `small_designs` all designs of one signal of a few forms, `faults` a text for each fault, `passes` which fault comes first, `limits` and `edges` the texts at each limit and past it,
+//! `rows` has worked designs with their reports, `small_designs` all designs of one signal of a few forms, `faults` a text for each fault, `passes` which fault comes first, `limits` and `edges` the texts at each limit and past it, `fronts` each front of the Tomasulo machine,
 //! `prints` what is printed, and `transfers` what happens where a source or a sink fails.
 #![tactic(auto)]
 
@@ -9,6 +9,8 @@ mod calls;
 mod edges;
 #[cfg(test)]
 mod faults;
+#[cfg(test)]
+mod fronts;
 #[cfg(test)]
 mod limits;
 #[cfg(test)]
