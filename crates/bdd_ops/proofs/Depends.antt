@@ -112,10 +112,10 @@ clash x e f = absurd (let same : true ≡ false = sym e ∙ f in cc)
 pub constant_not : (n v : ℕ) (f : Function) (x : Bool) → ((a : ℕ → Bool) → f a ≡ x) → depends n f v ≡ false
 constant_not n v f x is = free_not n v f (λ a. is (with_at a v false) ∙ sym (is (with_at a v true)))
 
-with_twice : (a : ℕ → Bool) (v : ℕ) (x y : Bool) → with_at (with_at a v y) v x ≡ with_at a v x
+pub with_twice : (a : ℕ → Bool) (v : ℕ) (x y : Bool) → with_at (with_at a v y) v x ≡ with_at a v x
 with_twice a v x y = fun_ext (λ u. with_agree (with_at a v y) a v x u (λ ne. with_other a v y u ne))
 
-with_swap : (a : ℕ → Bool) (v w : ℕ) (x y : Bool) → v ≢ w → with_at (with_at a v x) w y ≡ with_at (with_at a w y) v x
+pub with_swap : (a : ℕ → Bool) (v w : ℕ) (x y : Bool) → v ≢ w → with_at (with_at a v x) w y ≡ with_at (with_at a w y) v x
 with_swap a v w x y ne = fun_ext (λ u. elim (cases_same u w) [
   | inl is_w ↦ ap (with_at (with_at a v x) w y) is_w ∙ with_here (with_at a v x) w y ∙ sym (ap (with_at (with_at a w y) v x) is_w ∙ with_other (with_at a w y) v x w (λ e. ne (sym e)) ∙ with_here a w y)
   | inr not_w ↦ with_other (with_at a v x) w y u not_w ∙ with_agree a (with_at a w y) v x u (λ _. sym (with_other a w y u not_w))

@@ -14,7 +14,7 @@ use Rattle.bdd_store.proofs.Sets.{member, Subset, subset_count, member_append, e
 use Rattle.bdd_ops.specs.Functions.{IsFreshBelow}
 
 -- the places from k on at which nodes stand
-held_places : ℕ → List Node → ℕ → List ℕ
+pub held_places : ℕ → List Node → ℕ → List ℕ
 held_places n [] k = []
 held_places n (x ∷ xs) k = cond (nat_lt x.var n) (k ∷ held_places n xs (suc k)) (held_places n xs (suc k))
 
@@ -30,7 +30,7 @@ length_held n (x ∷ xs) k =
     ∙ sym (sum_by-cons (λ (x : Node). cond (nat_lt x.var n) 1 0) x xs)
 
 -- q is the place of a node
-abbrev Found : ℕ → List Node → ℕ → ℕ → Type 0
+abbrev pub Found : ℕ → List Node → ℕ → ℕ → Type 0
 Found n ns k q = (i : ℕ) × (q ≡ k + i) × (i < length ns) × (var_at ns i < n)
 
 found_later : (n : ℕ) (x : Node) (xs : List Node) (k q : ℕ) → Found n xs (suc k) q → Found n (x ∷ xs) k q
@@ -49,7 +49,7 @@ found_step n x xs k q l true is rest e = elim (or_true (eqb q k) (member q l) e)
 ]
 found_step n x xs k q l false is rest e = found_later n x xs k q (rest e)
 
-found : (n : ℕ) (ns : List Node) (k q : ℕ) → member q (held_places n ns k) ≡ true → Found n ns k q
+pub found : (n : ℕ) (ns : List Node) (k q : ℕ) → member q (held_places n ns k) ≡ true → Found n ns k q
 unfolding held_places
 found n [] k q e = absurd (let none : false ≡ true = e in cc)
 found n (x ∷ xs) k q e = found_step n x xs k q (held_places n xs (suc k)) (nat_lt x.var n) refl (found n xs (suc k) q) e
@@ -84,7 +84,7 @@ unfolding held_places
 distinct n [] k = unfold count_distinct in refl
 distinct n (x ∷ xs) k = distinct_step (nat_lt x.var n) (member k (held_places n xs (suc k))) k (held_places n xs (suc k)) refl (not_later n xs k (member k (held_places n xs (suc k))) refl) (distinct n xs (suc k))
 
-count_held : (d : Diagram) → held d ≡ count_distinct eqb (held_places d.vars d.nodes 0)
+pub count_held : (d : Diagram) → held d ≡ count_distinct eqb (held_places d.vars d.nodes 0)
 unfolding held
 count_held d = sym (distinct d.vars d.nodes 0 ∙ length_held d.vars d.nodes 0)
 
@@ -100,18 +100,18 @@ count_both (x ∷ xs) ys =
     subst (λ m. cond m (count_distinct eqb (xs ++ ys)) (suc (count_distinct eqb (xs ++ ys))) ≤ cond (member x xs) (count_distinct eqb xs) (suc (count_distinct eqb xs)) + count_distinct eqb ys)
     (sym (member_append x xs ys)) (both_step (count_distinct eqb (xs ++ ys)) (count_distinct eqb xs) (count_distinct eqb ys) (member x xs) (member x ys) (count_both xs ys))
 
-ref : ℕ → Ref
+unfoldable pub ref : ℕ → Ref
 ref i = record { place = i }
 
-node_live : (d : Diagram) (i : ℕ) → i < length d.nodes → var_at d.nodes i < d.vars → IsLive d (ref i)
+pub node_live : (d : Diagram) (i : ℕ) → i < length d.nodes → var_at d.nodes i < d.vars → IsLive d (ref i)
 unfolding IsLive ref
 node_live d i lt var = (lt, omega (arith, var), λ e. absurd (omega (arith, e, var)))
 
-live_held : (d : Diagram) (i : ℕ) → IsLive d (ref i) → first_var d (ref i) < d.vars → member i (held_places d.vars d.nodes 0) ≡ true
+pub live_held : (d : Diagram) (i : ℕ) → IsLive d (ref i) → first_var d (ref i) < d.vars → member i (held_places d.vars d.nodes 0) ≡ true
 unfolding IsLive first_var ref
 live_held d i live var = held_in d.vars d.nodes 0 i i (omega arith) live.0 var
 
-node_first : (d : Diagram) (i : ℕ) → var_at d.nodes i < d.vars → first_var d (ref i) < d.vars
+pub node_first : (d : Diagram) (i : ℕ) → var_at d.nodes i < d.vars → first_var d (ref i) < d.vars
 unfolding first_var ref
 node_first d i var = var
 

@@ -5,5 +5,6 @@ pub mod NewsLaws
 pub mod Recalled
 pub mod Held
 pub mod Depends
+pub mod Grown
 pub mod KnownLaws
 pub mod SupportLaws

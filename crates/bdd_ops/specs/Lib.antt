@@ -1,3 +1,4 @@
 pub mod Functions
 pub mod Memo
 pub mod News
+pub mod Grown

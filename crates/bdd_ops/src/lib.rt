@@ -4,9 +4,10 @@
 //! a call, on which the bounds on `calls` stand (`specs/News`).
 #![tactic(auto)]
 
-ghost use Rattle.std.specs.Prelude.{◌≡◌, ◌≢◌, ◌↔◌, ◌⊎◌, ℕ, ◌+◌, ◌-◌, ◌*◌, ◌<◌, ◌≤◌, Bool, true, false, IfOk, OnOk, OnErr, IfSome, IfNone, IsNone, IsTrue, if◌then◌else◌, is_ok, min, List, ◌∷◌, length, ◌&&◌, ◌||◌, not};
+ghost use Rattle.std.specs.Prelude.{◌≡◌, ◌≢◌, ◌↔◌, ◌⊎◌, ℕ, ◌+◌, ◌-◌, ◌*◌, ◌<◌, ◌≤◌, Bool, true, false, IfOk, OnOk, OnErr, IfSome, IfNone, IsNone, IsTrue, if◌then◌else◌, is_ok, min, List, [], ◌∷◌, length, ◌&&◌, ◌||◌, not};
 ghost use Rattle.bdd_store.specs.declared.Ref.{Ref};
 ghost use Rattle.bdd_store.specs.Graph.{with_at};
+ghost use Rattle.bdd_store.specs.Beads.{truth_table, bead_count};
 ghost use Rattle.bdd_store.specs.Diagram.{Diagram, IsLive, table, IsSound, IsCanonical, first_var, IsConstant, IsProper, Reaches, Keeps, beads, held};
 ghost use Rattle.bdd_store.specs.Results.{AreOperands, AreResults, IsResult, made};
 ghost use Rattle.bdd_store.specs.declared.results.Entry.{Entry};
@@ -14,11 +15,32 @@ ghost use Rattle.bdd_store.specs.Sure.{IsSure};
 ghost use Rattle.bdd_ops.specs.Functions.{Function, some_at, lowered, depends, bit_at, IsFreshBelow};
 ghost use Rattle.bdd_ops.specs.Memo.{joined, changed, AreJoins, AreImages, Implies, AreImplied, AreFlagged};
 ghost use Rattle.bdd_ops.specs.News.{join_of, change_of, News, AnyPair, SamePair};
+ghost use Rattle.bdd_ops.specs.Grown.{Adds, IsWithin};
+ghost use Rattle.bdd_ops.specs.declared.Stop.TheVariants.{OutOfMemory};
 
 use bdd_store::{Known, Operation, Ref, Store};
 use memo_table::Memo;
 use std::alloc::{AllocError, Global};
 use std::collections::HashSet;
+
+/// Why an operation has no result.
+#[derive(Drop)]
+enum Stop {
+    /// It made more nodes than it may: its result has more beads than that.
+    Large,
+    OutOfMemory,
+}
+
+impl From<AllocError> for Stop {
+    ghost from_gives = { λ _ e. e ≡ OutOfMemory };
+
+    fn from(_e: AllocError) -> Stop {
+        Stop::OutOfMemory
+    }
+}
+
+/// No store holds more nodes than this: an operation with this limit ends for want of memory alone.
+const NO_LIMIT: usize = usize::MAX;
 
 /// The function with the variable at 0, and with it at 1. It depends on no earlier variable.
 #[inline(always)]
@@ -73,6 +95,8 @@ fn result_node(
     ensures table { IfOk result (λ r. (a : ℕ → Bool) → table store.new r a ≡ (if a var then table store.old high a else table store.old low a)) }
     ensures reached { IfOk result (λ r. (q : Ref) → IsLive store.old q → Reaches store.old low q ⊎ Reaches store.old high q → Reaches store.new r q) }
     ensures fresh { IfOk result (λ r. (q : Ref) → IsLive store.new q → IsLive store.old q ⊎ (q ≡ r)) }
+    ensures none_fresh { OnErr result ((q : Ref) → IsLive store.new q → IsLive store.old q) }
+    ensures held { held store.new ≤ held store.old + (if is_ok result then 1 else 0) }
     ensures keeps { Keeps store.old store.new }
     ensures sound { IsSound store.new }
     ensures calls { store.new.calls ≤ store.old.calls + (if is_ok result then 1 else 0) }
@@ -81,6 +105,44 @@ fn result_node(
 {
     let _ = operation;
     store.node(var, low, high)
+}
+
+/// The same, where no more nodes than the limit are held after.
+#[inline(always)]
+fn node_within(
+    store: &mut Store,
+    operation: Operation,
+    var: u32,
+    low: Ref,
+    high: Ref,
+    limit: usize,
+) -> Result<Ref, Stop>
+    requires var_in { var < store.old.vars }
+    requires low_live { IsLive store.old low }
+    requires high_live { IsLive store.old high }
+    requires low_later { var < first_var store.old low }
+    requires high_later { var < first_var store.old high }
+    requires operands { AreOperands store.old operation }
+    requires made { (a : ℕ → Bool) → (if a var then table store.old high a else table store.old low a) ≡ made store.old operation a }
+    requires room { held store.old ≤ limit }
+    ensures live { IfOk result (λ r. IsLive store.new r) }
+    ensures first { IfOk result (λ r. var ≤ first_var store.new r) }
+    ensures table { IfOk result (λ r. (a : ℕ → Bool) → table store.new r a ≡ (if a var then table store.old high a else table store.old low a)) }
+    ensures reached { IfOk result (λ r. (q : Ref) → IsLive store.old q → Reaches store.old low q ⊎ Reaches store.old high q → Reaches store.new r q) }
+    ensures fresh { IfOk result (λ r. (q : Ref) → IsLive store.new q → IsLive store.old q ⊎ (q ≡ r)) }
+    ensures keeps { Keeps store.old store.new }
+    ensures sound { IsSound store.new }
+    ensures calls { store.new.calls ≤ store.old.calls + 1 }
+    ensures right { IfOk result (λ r. IsResult store.new operation r) }
+    ensures known { (es : List Entry) → AreResults store.old es → AreResults store.new es }
+    ensures adds { OnErr result (Adds store.old store.new (made store.old operation)) }
+    ensures within { IsWithin limit (held store.new) result }
+{
+    let r = result_node(store, operation, var, low, high)?;
+    if store.held() > limit {
+        return Err(Stop::Large);
+    }
+    Ok(r)
 }
 
 /// Keeps a result for the rest of the turn: where results are known or, if its place there is taken, in the memo.
@@ -136,7 +198,7 @@ fn changing<const BACK: u32, const FLIP: bool>(f: Ref) -> Operation
     }
 }
 
-/// The conjunction where `UNIT` is true, and else the disjunction.
+/// The conjunction where `UNIT` is true, and else the disjunction. It ends where more nodes than the limit would be held.
 fn join_from<const UNIT: bool>(
     store: &mut Store,
     known: &mut Known,
@@ -144,12 +206,14 @@ fn join_from<const UNIT: bool>(
     turn: u32,
     f: Ref,
     g: Ref,
-) -> Result<Ref, AllocError>
+    limit: usize,
+) -> Result<Ref, Stop>
     requires f_live { IsLive store.old f }
     requires g_live { IsLive store.old g }
     requires sound { IsSound store.old }
     requires known { AreResults store.old known.old }
     requires memo { AreJoins UNIT store.old memo.old }
+    requires room { held store.old ≤ limit }
     ensures live { IfOk result (λ r. IsLive store.new r) }
     ensures first { IfOk result (λ r. min (first_var store.old f) (first_var store.old g) ≤ first_var store.new r) }
     ensures table { IfOk result (λ r. (a : ℕ → Bool) → table store.new r a ≡ joined UNIT (table store.old f a) (table store.old g a)) }
@@ -158,6 +222,8 @@ fn join_from<const UNIT: bool>(
     ensures sound { IsSound store.new }
     ensures known { AreResults store.new known.new }
     ensures memo { AreJoins UNIT store.new memo.new }
+    ensures adds { OnErr result (Adds store.old store.new (λ a. joined UNIT (table store.old f a) (table store.old g a))) }
+    ensures within { IsWithin limit (held store.new) result }
     ensures news { News (join_of UNIT) AnyPair turn (store.old, (known.old, memo.old)) (store.new, (known.new, memo.new)) f g (min (first_var store.old f) (first_var store.old g)) (if is_ok result then 0 else 1) }
 {
     if let Some(x) = store.is_constant(f) {
@@ -186,9 +252,9 @@ fn join_from<const UNIT: bool>(
     let var = f_var.min(g_var);
     let (f_low, f_high) = split(store, f, var);
     let (g_low, g_high) = split(store, g, var);
-    let low = join_from::<UNIT>(store, known, memo, turn, f_low, g_low)?;
-    let high = join_from::<UNIT>(store, known, memo, turn, f_high, g_high)?;
-    let r = result_node(store, operation, var, low, high)?;
+    let low = join_from::<UNIT>(store, known, memo, turn, f_low, g_low, limit)?;
+    let high = join_from::<UNIT>(store, known, memo, turn, f_high, g_high, limit)?;
+    let r = node_within(store, operation, var, low, high, limit)?;
     keep(known, memo, turn, operation, f, g, r)?;
     Ok(r)
 }
@@ -242,7 +308,7 @@ fn change_from<const BACK: u32, const FLIP: bool>(
     Ok(r)
 }
 
-/// The disjunction of the function with the variable at 0 and with it at 1.
+/// The disjunction of the function with the variable at 0 and with it at 1. It ends where more nodes than the limit would be held.
 fn exists_from(
     store: &mut Store,
     known: &mut Known,
@@ -251,12 +317,14 @@ fn exists_from(
     turn: u32,
     var: u32,
     f: Ref,
-) -> Result<Ref, AllocError>
+    limit: usize,
+) -> Result<Ref, Stop>
     requires live { IsLive store.old f }
     requires sound { IsSound store.old }
     requires known { AreResults store.old known.old }
     requires joins { AreJoins false store.old joins.old }
     requires memo { AreImages (some_at var) 0 store.old memo.old }
+    requires room { held store.old ≤ limit }
     ensures live { IfOk result (λ r. IsLive store.new r) }
     ensures first { IfOk result (λ r. first_var store.old f ≤ first_var store.new r) }
     ensures table { IfOk result (λ r. (a : ℕ → Bool) → table store.new r a ≡ some_at var (table store.old f) a) }
@@ -266,6 +334,8 @@ fn exists_from(
     ensures known { AreResults store.new known.new }
     ensures joins { AreJoins false store.new joins.new }
     ensures memo { AreImages (some_at var) 0 store.new memo.new }
+    ensures adds { OnErr result (Adds store.old store.new (some_at var (table store.old f))) }
+    ensures within { IsWithin limit (held store.new) result }
 {
     if let Some(_) = store.is_constant(f) {
         return Ok(f);
@@ -277,7 +347,7 @@ fn exists_from(
     let f_low = store.low(f);
     let f_high = store.high(f);
     if first == var {
-        return join_from::<false>(store, known, joins, turn, f_low, f_high);
+        return join_from::<false>(store, known, joins, turn, f_low, f_high, limit);
     }
     let operation = Operation::Exists(f, var);
     match known.recall(operation) {
@@ -291,11 +361,42 @@ fn exists_from(
         Some(r) => return Ok(r),
         None => {}
     }
-    let low = exists_from(store, known, joins, memo, turn, var, f_low)?;
-    let high = exists_from(store, known, joins, memo, turn, var, f_high)?;
-    let r = result_node(store, operation, first, low, high)?;
+    let low = exists_from(store, known, joins, memo, turn, var, f_low, limit)?;
+    let high = exists_from(store, known, joins, memo, turn, var, f_high, limit)?;
+    let r = node_within(store, operation, first, low, high, limit)?;
     keep(known, memo, turn, operation, f, f, r)?;
     Ok(r)
+}
+
+/// The conjunction where `UNIT` is true, and else the disjunction. It ends where more nodes than the limit would be held.
+fn join_within<const UNIT: bool>(
+    alloc: Global,
+    store: &mut Store,
+    known: &mut Known,
+    f: Ref,
+    g: Ref,
+    limit: usize,
+) -> Result<Ref, Stop>
+    requires f_live { IsLive store.old f }
+    requires g_live { IsLive store.old g }
+    requires room { held store.old ≤ limit }
+    requires known { AreResults store.old known.old }
+    ensures live { IfOk result (λ r. IsLive store.new r) }
+    ensures first { IfOk result (λ r. min (first_var store.old f) (first_var store.old g) ≤ first_var store.new r) }
+    ensures table { IfOk result (λ r. (a : ℕ → Bool) → table store.new r a ≡ joined UNIT (table store.old f a) (table store.old g a)) }
+    ensures keeps { Keeps store.old store.new }
+    ensures sound { IsSound store.new }
+    ensures calls { store.new.calls ≤ store.old.calls + (beads store.old f + 2) * (beads store.old g + 2) }
+    ensures fresh { IfOk result (IsFreshBelow store.old store.new) }
+    ensures held { IfOk result (λ r. held store.new ≤ held store.old + beads store.new r) }
+    ensures known { AreResults store.new known.new }
+    ensures within { IsWithin limit (held store.new) result }
+    ensures grown { OnErr result (held store.new ≤ held store.old + bead_count store.old.vars (truth_table store.old.vars 0 (λ a. joined UNIT (table store.old f a) (table store.old g a)) ∷ [])) }
+{
+    let _ = store.vars();
+    let mut memo = Memo::new(alloc);
+    let turn = turn(store);
+    join_from::<UNIT>(store, known, &mut memo, turn, f, g, limit)
 }
 
 /// The conjunction where `UNIT` is true, and else the disjunction.
@@ -319,10 +420,11 @@ fn join<const UNIT: bool>(
     ensures held { IfOk result (λ r. held store.new ≤ held store.old + beads store.new r) }
     ensures known { AreResults store.new known.new }
 {
-    let _ = store.vars();
-    let mut memo = Memo::new(alloc);
-    let turn = turn(store);
-    join_from::<UNIT>(store, known, &mut memo, turn, f, g)
+    let _ = store.held();
+    match join_within::<UNIT>(alloc, store, known, f, g, NO_LIMIT) {
+        Ok(r) => Ok(r),
+        Err(_) => Err(AllocError),
+    }
 }
 
 /// The function with each variable replaced by that which stands `BACK` before it, and negated where `FLIP` is true.
@@ -352,6 +454,36 @@ fn change<const BACK: u32, const FLIP: bool>(
     change_from::<BACK, FLIP>(store, known, &mut memo, turn, f)
 }
 
+/// The disjunction of the function with the variable at 0 and with it at 1. It ends where more nodes than the limit would be held.
+fn quantify_within(
+    alloc: Global,
+    store: &mut Store,
+    known: &mut Known,
+    var: u32,
+    f: Ref,
+    limit: usize,
+) -> Result<Ref, Stop>
+    requires live { IsLive store.old f }
+    requires room { held store.old ≤ limit }
+    requires known { AreResults store.old known.old }
+    ensures live { IfOk result (λ r. IsLive store.new r) }
+    ensures first { IfOk result (λ r. first_var store.old f ≤ first_var store.new r) }
+    ensures table { IfOk result (λ r. (a : ℕ → Bool) → table store.new r a ≡ some_at var (table store.old f) a) }
+    ensures keeps { Keeps store.old store.new }
+    ensures sound { IsSound store.new }
+    ensures fresh { IfOk result (IsFreshBelow store.old store.new) }
+    ensures held { IfOk result (λ r. held store.new ≤ held store.old + beads store.new r) }
+    ensures known { AreResults store.new known.new }
+    ensures within { IsWithin limit (held store.new) result }
+    ensures grown { OnErr result (held store.new ≤ held store.old + bead_count store.old.vars (truth_table store.old.vars 0 (some_at var (table store.old f)) ∷ [])) }
+{
+    let _ = store.vars();
+    let mut joins = Memo::new(alloc);
+    let mut memo = Memo::new(alloc);
+    let turn = turn(store);
+    exists_from(store, known, &mut joins, &mut memo, turn, var, f, limit)
+}
+
 /// The disjunction of the function with the variable at 0 and with it at 1.
 fn quantify(
     alloc: Global,
@@ -371,11 +503,11 @@ fn quantify(
     ensures held { IfOk result (λ r. held store.new ≤ held store.old + beads store.new r) }
     ensures known { AreResults store.new known.new }
 {
-    let _ = store.vars();
-    let mut joins = Memo::new(alloc);
-    let mut memo = Memo::new(alloc);
-    let turn = turn(store);
-    exists_from(store, known, &mut joins, &mut memo, turn, var, f)
+    let _ = store.held();
+    match quantify_within(alloc, store, known, var, f, NO_LIMIT) {
+        Ok(r) => Ok(r),
+        Err(_) => Err(AllocError),
+    }
 }
 
 /// The conjunction.
@@ -479,6 +611,113 @@ pub fn exists(alloc: Global, store: &mut Store, f: Ref, var: u32) -> Result<Ref,
     store.take_back(known);
     let _ = store.vars();
     answer
+}
+
+/// The conjunction, or none where it has more beads than `most`: at most one node more than that is made.
+pub fn and_within(
+    alloc: Global,
+    store: &mut Store,
+    f: Ref,
+    g: Ref,
+    most: usize,
+) -> Result<Option<Ref>, AllocError>
+    requires f_live { IsLive store.old f }
+    requires g_live { IsLive store.old g }
+    ensures live { IfOk result (λ o. IfSome o (λ r. IsLive store.new r)) }
+    ensures first { IfOk result (λ o. IfSome o (λ r. min (first_var store.old f) (first_var store.old g) ≤ first_var store.new r)) }
+    ensures table { IfOk result (λ o. IfSome o (λ r. (a : ℕ → Bool) → table store.new r a ≡ (table store.old f a && table store.old g a))) }
+    ensures keeps { Keeps store.old store.new }
+    ensures sound { IsSound store.new }
+    ensures canonical { IsCanonical store.new }
+    ensures calls { store.new.calls ≤ store.old.calls + (beads store.old f + 2) * (beads store.old g + 2) }
+    ensures fresh { IfOk result (λ o. IfSome o (IsFreshBelow store.old store.new)) }
+    ensures held { IfOk result (λ o. IfSome o (λ r. held store.new ≤ held store.old + beads store.new r)) }
+    ensures within { IfOk result (λ o. IfSome o (λ r. held store.new ≤ held store.old + most)) }
+    ensures large { IfOk result (λ o. IsNone o → most < bead_count store.old.vars (truth_table store.old.vars 0 (λ a. table store.old f a && table store.old g a) ∷ [])) }
+    ensures made { held store.new ≤ held store.old + (most + 1) }
+{
+    let limit = store.held().saturating_add(most);
+    let mut known = store.lend();
+    let answer = join_within::<true>(alloc, store, &mut known, f, g, limit);
+    store.take_back(known);
+    let _ = store.vars();
+    let _ = store.held();
+    match answer {
+        Ok(r) => Ok(Some(r)),
+        Err(Stop::Large) => Ok(None),
+        Err(Stop::OutOfMemory) => Err(AllocError),
+    }
+}
+
+/// The disjunction, or none where it has more beads than `most`: at most one node more than that is made.
+pub fn or_within(
+    alloc: Global,
+    store: &mut Store,
+    f: Ref,
+    g: Ref,
+    most: usize,
+) -> Result<Option<Ref>, AllocError>
+    requires f_live { IsLive store.old f }
+    requires g_live { IsLive store.old g }
+    ensures live { IfOk result (λ o. IfSome o (λ r. IsLive store.new r)) }
+    ensures first { IfOk result (λ o. IfSome o (λ r. min (first_var store.old f) (first_var store.old g) ≤ first_var store.new r)) }
+    ensures table { IfOk result (λ o. IfSome o (λ r. (a : ℕ → Bool) → table store.new r a ≡ (table store.old f a || table store.old g a))) }
+    ensures keeps { Keeps store.old store.new }
+    ensures sound { IsSound store.new }
+    ensures canonical { IsCanonical store.new }
+    ensures calls { store.new.calls ≤ store.old.calls + (beads store.old f + 2) * (beads store.old g + 2) }
+    ensures fresh { IfOk result (λ o. IfSome o (IsFreshBelow store.old store.new)) }
+    ensures held { IfOk result (λ o. IfSome o (λ r. held store.new ≤ held store.old + beads store.new r)) }
+    ensures within { IfOk result (λ o. IfSome o (λ r. held store.new ≤ held store.old + most)) }
+    ensures large { IfOk result (λ o. IsNone o → most < bead_count store.old.vars (truth_table store.old.vars 0 (λ a. table store.old f a || table store.old g a) ∷ [])) }
+    ensures made { held store.new ≤ held store.old + (most + 1) }
+{
+    let limit = store.held().saturating_add(most);
+    let mut known = store.lend();
+    let answer = join_within::<false>(alloc, store, &mut known, f, g, limit);
+    store.take_back(known);
+    let _ = store.vars();
+    let _ = store.held();
+    match answer {
+        Ok(r) => Ok(Some(r)),
+        Err(Stop::Large) => Ok(None),
+        Err(Stop::OutOfMemory) => Err(AllocError),
+    }
+}
+
+/// The disjunction of the function with the variable at 0 and with it at 1, or none where it has more beads than `most`: at most one node more than that is made.
+pub fn exists_within(
+    alloc: Global,
+    store: &mut Store,
+    f: Ref,
+    var: u32,
+    most: usize,
+) -> Result<Option<Ref>, AllocError>
+    requires live { IsLive store.old f }
+    requires var_in { var < store.old.vars }
+    ensures live { IfOk result (λ o. IfSome o (λ r. IsLive store.new r)) }
+    ensures first { IfOk result (λ o. IfSome o (λ r. first_var store.old f ≤ first_var store.new r)) }
+    ensures table { IfOk result (λ o. IfSome o (λ r. (a : ℕ → Bool) → table store.new r a ≡ some_at var (table store.old f) a)) }
+    ensures keeps { Keeps store.old store.new }
+    ensures sound { IsSound store.new }
+    ensures canonical { IsCanonical store.new }
+    ensures fresh { IfOk result (λ o. IfSome o (IsFreshBelow store.old store.new)) }
+    ensures held { IfOk result (λ o. IfSome o (λ r. held store.new ≤ held store.old + beads store.new r)) }
+    ensures within { IfOk result (λ o. IfSome o (λ r. held store.new ≤ held store.old + most)) }
+    ensures large { IfOk result (λ o. IsNone o → most < bead_count store.old.vars (truth_table store.old.vars 0 (some_at var (table store.old f)) ∷ [])) }
+    ensures made { held store.new ≤ held store.old + (most + 1) }
+{
+    let limit = store.held().saturating_add(most);
+    let mut known = store.lend();
+    let answer = quantify_within(alloc, store, &mut known, var, f, limit);
+    store.take_back(known);
+    let _ = store.vars();
+    let _ = store.held();
+    match answer {
+        Ok(r) => Ok(Some(r)),
+        Err(Stop::Large) => Ok(None),
+        Err(Stop::OutOfMemory) => Err(AllocError),
+    }
 }
 
 /// The function is 1 everywhere.

@@ -8,7 +8,7 @@ pub mod laws;
 mod ops;
 
 use bdd_store::Ref;
-pub use ops::{Op, apply, plan};
+pub use ops::{Op, apply, apply_within, plan};
 
 /// The lists of functions of one case. Bit b is read at variable 2b, and in the new state of a step at variable 2b + 1.
 #[derive(Drop)]

@@ -1,7 +1,8 @@
 // The operations of a turn.
-ghost use Rattle.std.specs.Prelude.{◌≡◌, ℕ, suc, ◌*◌, ◌<◌, ◌⊎◌, Bool, ◌&&◌, ◌||◌, not, List, ◌∷◌, ◌++◌, map, length, IfOk, OnOk};
+ghost use Rattle.std.specs.Prelude.{◌≡◌, ℕ, suc, ◌*◌, ◌<◌, ◌⊎◌, Bool, ◌&&◌, ◌||◌, not, List, [], ◌∷◌, ◌++◌, map, length, IfOk, OnOk, IfSome, IsNone};
 ghost use Rattle.std.specs.List.{filter};
 ghost use Rattle.bdd_store.specs.declared.Ref.{Ref};
+ghost use Rattle.bdd_store.specs.Beads.{truth_table, bead_count};
 ghost use Rattle.bdd_store.specs.Diagram.{Diagram, IsLive, AreLive, Keeps, table};
 ghost use Rattle.bdd_ops.specs.Functions.{Function, bit_at};
 ghost use Rattle.smv_rings.specs.Lists.{IsRel, lists_of, refs_of};
@@ -10,7 +11,7 @@ ghost use Rattle.smv_rings.specs.Schedule.Act.{Out};
 ghost use Rattle.smv_rings.specs.Ops.{IsOneOf, act_of, acts_of, refs_in, refs_in_all, FitsAct, back_acts, AddsNone, AreMarked, outs_of, joins_onto};
 
 use super::Rel;
-use bdd_ops::{and, exists, rename, support};
+use bdd_ops::{and, and_within, exists, exists_within, rename, support};
 use bdd_store::{Ref, Store};
 use std::alloc::{AllocError, Global};
 
@@ -43,6 +44,35 @@ pub fn apply(alloc: Global, store: &mut Store, p: Ref, op: Op) -> Result<Ref, Al
         Op::Rename => {
             let _ = store.vars();
             rename(alloc, store, p)
+        }
+    }
+}
+
+/// What an operation makes of P, or none where it has more beads than `most`: at most one node more than that is made for it. A renaming is always made, since it
+/// has as many beads as P.
+pub fn apply_within(
+    alloc: Global,
+    store: &mut Store,
+    p: Ref,
+    op: Op,
+    most: usize,
+) -> Result<Option<Ref>, AllocError>
+    requires live { IsLive store.old p }
+    requires refs { (r : Ref) → IsOneOf r (refs_in op) → IsLive store.old r }
+    requires fits { FitsAct store.old.vars (table store.old p) (act_of store.old 0 op) }
+    ensures live { IfOk result (λ o. IfSome o (λ r. IsLive store.new r)) }
+    ensures table { IfOk result (λ o. IfSome o (λ r. table store.new r ≡ made_by (act_of store.old 0 op) (table store.old p))) }
+    ensures large { IfOk result (λ o. IsNone o → most < bead_count store.old.vars (truth_table store.old.vars 0 (made_by (act_of store.old 0 op) (table store.old p)) ∷ [])) }
+    ensures keeps { Keeps store.old store.new }
+{
+    match op {
+        Op::And(f) => and_within(alloc, store, p, f, most),
+        Op::Exists(var) => exists_within(alloc, store, p, var, most),
+        Op::Look(f) => and_within(alloc, store, p, f, most),
+        Op::Rename => {
+            let _ = store.vars();
+            let r = rename(alloc, store, p)?;
+            Ok(Some(r))
         }
     }
 }

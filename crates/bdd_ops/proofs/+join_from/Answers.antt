@@ -1,13 +1,17 @@
-use Rattle.std.proofs.Common.{◌≡◌, refl, inl, inr, ℕ, ◌+◌, Bool, min, sym, ap, ◌∙◌, subst, arith}
+use Rattle.std.proofs.Common.{◌≡◌, true, false, refl, inl, inr, ℕ, ◌+◌, Bool, min, sym, ap, ◌∙◌, subst, arith}
 use Rattle.memo_table.specs.Results.{same_pair}
 use Rattle.bdd_store.specs.Diagram.{table, first_var, Keeps}
 use Rattle.bdd_store.specs.Sure.{IsSure}
+use Rattle.bdd_store.specs.Results.{made}
 use Rattle.bdd_ops.specs.Memo.{joined, IsJoin}
 use Rattle.bdd_ops.specs.News.{State, IsFound, News, AnyPair, join_of}
 use Rattle.bdd_ops.proofs.NewsLaws.{news_none, news_hit, news_err, news_first, news_second, news_later, news_weaken, news_put, found_kept, found_here, keeps_self}
 use Rattle.bdd_ops.proofs.MemoLaws.{keeps_after, join_found, joins_kept, pair_test, holds_kept, holds_same}
 use Rattle.bdd_ops.proofs.Recalled.{join_first, join_made, join_later}
 use Rattle.bdd_ops.proofs.Held.{fresh_node}
+use Rattle.bdd_ops.specs.Functions.{Function}
+use Rattle.bdd_ops.specs.Grown.{Adds}
+use Rattle.bdd_ops.proofs.Grown.{adds_fresh, adds_then, adds_same, adds_made, join_branch, on_err}
 use denote.Param.{number}
 use Rattle.bdd_ops.specs.contracts.join_from.{UNIT-type}
 use Rattle.bdd_ops.proofs.+join_from.Given as given
@@ -34,8 +38,8 @@ returns-in-Some-recall-clause-first g t c =
     join_first d c.requires.sound c.in-Some-recall.r is.live (unit_of g) c.args.f c.args.g c.requires.f_live (λ a. is.table a ∙ c.joining-operation.ensures.made d a)
 
 -- what the store comes to know is right
-pub result_node-requires-clause-made : goal.result_node-requires-clause-made
-result_node-requires-clause-made g t c a =
+pub node_within-requires-clause-made : goal.node_within-requires-clause-made
+node_within-requires-clause-made g t c a =
     let before = c.args.store.now in
     let middle = c.join_from.new.store in
     let last = c.join_from-2.new.store in
@@ -51,42 +55,42 @@ result_node-requires-clause-made g t c a =
 both_keep_no_node : (g : given.Over) (t : ℕ) (c : goal.After-from_residual-in_err-r g t) → Keeps c.args.store.now c.join_from-2.new.store
 both_keep_no_node g t c = keeps_after c.args.store.now c.join_from.new.store c.join_from-2.new.store c.in_ok-low.ensures.keeps c.in_ok-high.ensures.keeps
 
-all_keep_no_node : (g : given.Over) (t : ℕ) (c : goal.After-from_residual-in_err-r g t) → Keeps c.args.store.now c.result_node.new.store
-all_keep_no_node g t c = keeps_after c.args.store.now c.join_from-2.new.store c.result_node.new.store (both_keep_no_node g t c) c.in_err-r.ensures.keeps
+all_keep_no_node : (g : given.Over) (t : ℕ) (c : goal.After-from_residual-in_err-r g t) → Keeps c.args.store.now c.node_within.new.store
+all_keep_no_node g t c = keeps_after c.args.store.now c.join_from-2.new.store c.node_within.new.store (both_keep_no_node g t c) c.in_err-r.ensures.keeps
 
 pub returns-in_err-r-clause-keeps : goal.returns-in_err-r-clause-keeps
 returns-in_err-r-clause-keeps g t c = all_keep_no_node g t c
 
 pub returns-in_err-r-clause-memo : goal.returns-in_err-r-clause-memo
-returns-in_err-r-clause-memo g t c = joins_kept (unit_of g) c.join_from-2.new.store c.result_node.new.store c.join_from-2.new.memo c.in_err-r.ensures.keeps c.in_ok-high.ensures.memo
+returns-in_err-r-clause-memo g t c = joins_kept (unit_of g) c.join_from-2.new.store c.node_within.new.store c.join_from-2.new.memo c.in_err-r.ensures.keeps c.in_ok-high.ensures.memo
 
 -- after both branches
 both_keep_no_room : (g : given.Over) (t : ℕ) (c : goal.After-from_residual-in_err-keep g t) → Keeps c.args.store.now c.join_from-2.new.store
 both_keep_no_room g t c = keeps_after c.args.store.now c.join_from.new.store c.join_from-2.new.store c.in_ok-low.ensures.keeps c.in_ok-high.ensures.keeps
 
-all_keep_no_room : (g : given.Over) (t : ℕ) (c : goal.After-from_residual-in_err-keep g t) → Keeps c.args.store.now c.result_node.new.store
-all_keep_no_room g t c = keeps_after c.args.store.now c.join_from-2.new.store c.result_node.new.store (both_keep_no_room g t c) c.in_ok-r.ensures.keeps
+all_keep_no_room : (g : given.Over) (t : ℕ) (c : goal.After-from_residual-in_err-keep g t) → Keeps c.args.store.now c.node_within.new.store
+all_keep_no_room g t c = keeps_after c.args.store.now c.join_from-2.new.store c.node_within.new.store (both_keep_no_room g t c) c.in_ok-r.ensures.keeps
 
 pub returns-in_err-keep-clause-keeps : goal.returns-in_err-keep-clause-keeps
 returns-in_err-keep-clause-keeps g t c = all_keep_no_room g t c
 
 pub returns-in_err-keep-clause-memo : goal.returns-in_err-keep-clause-memo
 returns-in_err-keep-clause-memo g t c =
-    holds_same same_pair pair_test (IsJoin (unit_of g) c.result_node.new.store) c.join_from-2.new.memo c.keep.new.memo c.in_err-keep.ensures.err
-    (joins_kept (unit_of g) c.join_from-2.new.store c.result_node.new.store c.join_from-2.new.memo c.in_ok-r.ensures.keeps c.in_ok-high.ensures.memo)
+    holds_same same_pair pair_test (IsJoin (unit_of g) c.node_within.new.store) c.join_from-2.new.memo c.keep.new.memo c.in_err-keep.ensures.err
+    (joins_kept (unit_of g) c.join_from-2.new.store c.node_within.new.store c.join_from-2.new.memo c.in_ok-r.ensures.keeps c.in_ok-high.ensures.memo)
 
 -- after both branches
 both_keep_done : (g : given.Over) (t : ℕ) (c : goal.In_ok-keep g t) → Keeps c.args.store.now c.join_from-2.new.store
 both_keep_done g t c = keeps_after c.args.store.now c.join_from.new.store c.join_from-2.new.store c.in_ok-low.ensures.keeps c.in_ok-high.ensures.keeps
 
-all_keep_done : (g : given.Over) (t : ℕ) (c : goal.In_ok-keep g t) → Keeps c.args.store.now c.result_node.new.store
-all_keep_done g t c = keeps_after c.args.store.now c.join_from-2.new.store c.result_node.new.store (both_keep_done g t c) c.in_ok-r.ensures.keeps
+all_keep_done : (g : given.Over) (t : ℕ) (c : goal.In_ok-keep g t) → Keeps c.args.store.now c.node_within.new.store
+all_keep_done g t c = keeps_after c.args.store.now c.join_from-2.new.store c.node_within.new.store (both_keep_done g t c) c.in_ok-r.ensures.keeps
 
 pub returns-clause-keeps : goal.returns-clause-keeps
 returns-clause-keeps g t c = all_keep_done g t c
 
 -- the table of the new result
-table_done : (g : given.Over) (t : ℕ) (c : goal.In_ok-keep g t) (a : ℕ → Bool) → table c.result_node.new.store c.in_ok-r.r a ≡ joined (unit_of g) (table c.args.store.now c.args.f a) (table c.args.store.now c.args.g a)
+table_done : (g : given.Over) (t : ℕ) (c : goal.In_ok-keep g t) (a : ℕ → Bool) → table c.node_within.new.store c.in_ok-r.r a ≡ joined (unit_of g) (table c.args.store.now c.args.f a) (table c.args.store.now c.args.g a)
 table_done g t c a =
     let before = c.args.store.now in
     let middle = c.join_from.new.store in
@@ -103,11 +107,11 @@ returns-clause-table g t c = table_done g t c
 
 pub returns-clause-fresh : goal.returns-clause-fresh
 returns-clause-fresh g t c =
-    fresh_node c.args.store.now c.join_from.new.store c.join_from-2.new.store c.result_node.new.store c.in_ok-low.low c.in_ok-high.high c.in_ok-r.r
+    fresh_node c.args.store.now c.join_from.new.store c.join_from-2.new.store c.node_within.new.store c.in_ok-low.low c.in_ok-high.high c.in_ok-r.r
     c.in_ok-low.ensures.fresh c.in_ok-high.ensures.fresh c.in_ok-high.ensures.keeps c.in_ok-low.ensures.live c.in_ok-r.ensures.fresh c.in_ok-r.ensures.reached
 
 -- the new result is right
-answer_done : (g : given.Over) (t : ℕ) (c : goal.In_ok-keep g t) → IsJoin (unit_of g) c.result_node.new.store (c.args.f, c.args.g) c.in_ok-r.r
+answer_done : (g : given.Over) (t : ℕ) (c : goal.In_ok-keep g t) → IsJoin (unit_of g) c.node_within.new.store (c.args.f, c.args.g) c.in_ok-r.r
 answer_done g t c =
     let keeps = all_keep_done g t c in
     let f_first = keeps.firsts c.args.f c.requires.f_live in
@@ -120,19 +124,19 @@ answer_done g t c =
       second_proper = omega (arith, g_first, vars, c.var-g_var.ensures.within, c.var-g_var.ensures.var);
       live = c.in_ok-r.ensures.live;
       first = omega (arith, c.in_ok-r.ensures.first, c.min-var.ensures, c.var-f_var.ensures.var, c.var-g_var.ensures.var, f_first, g_first);
-      table = λ a. table_done g t c a ∙ ap (λ y. joined (unit_of g) y (table c.args.store.now c.args.g a)) (sym (keeps.tables c.args.f c.requires.f_live a)) ∙ ap (λ y. joined (unit_of g) (table c.result_node.new.store c.args.f a) y) (sym (keeps.tables c.args.g c.requires.g_live a));
+      table = λ a. table_done g t c a ∙ ap (λ y. joined (unit_of g) y (table c.args.store.now c.args.g a)) (sym (keeps.tables c.args.f c.requires.f_live a)) ∙ ap (λ y. joined (unit_of g) (table c.node_within.new.store c.args.f a) y) (sym (keeps.tables c.args.g c.requires.g_live a));
     }
 
 pub returns-clause-memo : goal.returns-clause-memo
 returns-clause-memo g t c =
-    holds_kept same_pair pair_test (IsJoin (unit_of g) c.result_node.new.store) c.join_from-2.new.memo c.keep.new.memo (c.args.f, c.args.g) c.in_ok-r.r c.in_ok-keep.ensures.memo
-    (joins_kept (unit_of g) c.join_from-2.new.store c.result_node.new.store c.join_from-2.new.memo c.in_ok-r.ensures.keeps c.in_ok-high.ensures.memo) (answer_done g t c)
+    holds_kept same_pair pair_test (IsJoin (unit_of g) c.node_within.new.store) c.join_from-2.new.memo c.keep.new.memo (c.args.f, c.args.g) c.in_ok-r.r c.in_ok-keep.ensures.memo
+    (joins_kept (unit_of g) c.join_from-2.new.store c.node_within.new.store c.join_from-2.new.memo c.in_ok-r.ensures.keeps c.in_ok-high.ensures.memo) (answer_done g t c)
 
 pub returns-clause-known : goal.returns-clause-known
-returns-clause-known g t c = c.in_ok-keep.ensures.right c.result_node.new.store (c.in_ok-r.ensures.known c.join_from-2.new.known c.in_ok-high.ensures.known) c.in_ok-r.ensures.right
+returns-clause-known g t c = c.in_ok-keep.ensures.right c.node_within.new.store (c.in_ok-r.ensures.known c.join_from-2.new.known c.in_ok-high.ensures.known) c.in_ok-r.ensures.right
 
 pub returns-in_err-keep-clause-known : goal.returns-in_err-keep-clause-known
-returns-in_err-keep-clause-known g t c = c.in_err-keep.ensures.right c.result_node.new.store (c.in_ok-r.ensures.known c.join_from-2.new.known c.in_ok-high.ensures.known) c.in_ok-r.ensures.right
+returns-in_err-keep-clause-known g t c = c.in_err-keep.ensures.right c.node_within.new.store (c.in_ok-r.ensures.known c.join_from-2.new.known c.in_ok-high.ensures.known) c.in_ok-r.ensures.right
 
 pub returns-in_err-low-clause-news : goal.returns-in_err-low-clause-news
 returns-in_err-low-clause-news g t c =
@@ -182,7 +186,7 @@ returns-in_err-r-clause-news g t c =
     let op = join_of (unit_of g) in
     let before : State = (d, (c.args.known.now, c.args.memo.now)) in
     let second : State = (c.join_from-2.new.store, (c.join_from-2.new.known, c.join_from-2.new.memo)) in
-    let last : State = (c.result_node.new.store, (c.join_from-2.new.known, c.join_from-2.new.memo)) in
+    let last : State = (c.node_within.new.store, (c.join_from-2.new.known, c.join_from-2.new.memo)) in
     news_err op AnyPair c.args.turn c.from_residual-in_err-r.result c.from_residual-in_err-r.ensures.0 before last c.args.f c.args.g (min (first_var d c.args.f) (first_var d c.args.g)) (news_weaken op AnyPair c.args.turn before last c.args.f c.args.g (c.min-var.result + 1) (min (first_var d c.args.f) (first_var d c.args.g)) 1
     (omega (arith, c.min-var.ensures, c.var-f_var.ensures.var, c.var-g_var.ensures.var))
     (news_later op AnyPair c.args.turn before second last c.args.f c.args.g (c.min-var.result + 1) 0 1 (both_keep_no_node g t c) c.in_err-r.ensures.keeps (λ p found. found) (omega (arith, c.in_err-r.ensures.calls)) (both_news_no_node g t c)))
@@ -210,7 +214,7 @@ returns-in_err-keep-clause-news g t c =
     let op = join_of (unit_of g) in
     let before : State = (d, (c.args.known.now, c.args.memo.now)) in
     let second : State = (c.join_from-2.new.store, (c.join_from-2.new.known, c.join_from-2.new.memo)) in
-    let last : State = (c.result_node.new.store, (c.keep.new.known, c.keep.new.memo)) in
+    let last : State = (c.node_within.new.store, (c.keep.new.known, c.keep.new.memo)) in
     news_err op AnyPair c.args.turn c.from_residual-in_err-keep.result c.from_residual-in_err-keep.ensures.0 before last c.args.f c.args.g (min (first_var d c.args.f) (first_var d c.args.g)) (news_weaken op AnyPair c.args.turn before last c.args.f c.args.g (c.min-var.result + 1) (min (first_var d c.args.f) (first_var d c.args.g)) 1
     (omega (arith, c.min-var.ensures, c.var-f_var.ensures.var, c.var-g_var.ensures.var))
     (news_later op AnyPair c.args.turn before second last c.args.f c.args.g (c.min-var.result + 1) 0 1 (both_keep_no_room g t c) c.in_ok-r.ensures.keeps
@@ -239,7 +243,7 @@ returns-clause-news g t c =
     let op = join_of (unit_of g) in
     let before : State = (d, (c.args.known.now, c.args.memo.now)) in
     let second : State = (c.join_from-2.new.store, (c.join_from-2.new.known, c.join_from-2.new.memo)) in
-    let last : State = (c.result_node.new.store, (c.keep.new.known, c.keep.new.memo)) in
+    let last : State = (c.node_within.new.store, (c.keep.new.known, c.keep.new.memo)) in
     let is = c.joining-operation.ensures.is in
     let absent : IsFound op c.args.turn before (c.args.f, c.args.g) → ⊥ = λ found. elim found [
       | inl sure ↦ c.in-None.ensures.none c.args.turn (subst (IsSure c.args.known.now c.args.turn) (sym is) sure)
@@ -274,3 +278,81 @@ returns-in-Some-get-clause-news g t c = news_none (join_of (unit_of g)) AnyPair 
 
 pub returns-in-Some-recall-clause-news : goal.returns-in-Some-recall-clause-news
 returns-in-Some-recall-clause-news g t c = news_hit (join_of (unit_of g)) AnyPair c.args.turn c.args.store.now c.args.known.now c.note_hit.new.self c.args.memo.now c.args.f c.args.g _ c.note_hit.ensures
+
+-- what was added until a branch was refused
+pub returns-in_err-low-clause-adds : goal.returns-in_err-low-clause-adds
+returns-in_err-low-clause-adds g t c =
+    let d = c.args.store.now in
+    let m = c.join_from.new.store in
+    let unit = unit_of g in
+    let F : Function = λ a. joined unit (table d c.args.f a) (table d c.args.g a) in
+    on_err c.from_residual.result (Adds d m F) (join_branch d d m c.requires.sound unit c.args.f c.args.g c.split.result.0 c.split-2.result.0 c.min-var.result false (omega (arith, c.min-var.ensures, c.var-f_var.ensures.within, c.var-f_var.ensures.var)) (omega (arith, c.min-var.ensures, c.var-f_var.ensures.var)) (omega (arith, c.min-var.ensures, c.var-g_var.ensures.var))
+    (keeps_self d) c.split.ensures.low_live c.split-2.ensures.low_live c.split.ensures.low_table c.split-2.ensures.low_table c.in_err-low.ensures.keeps
+    (c.in_err-low.ensures.adds))
+
+pub returns-in_err-high-clause-adds : goal.returns-in_err-high-clause-adds
+returns-in_err-high-clause-adds g t c =
+    let d = c.args.store.now in
+    let m = c.join_from.new.store in
+    let e = c.join_from-2.new.store in
+    let unit = unit_of g in
+    let F : Function = λ a. joined unit (table d c.args.f a) (table d c.args.g a) in
+    on_err c.from_residual-in_err-high.result (Adds d e F) (adds_then d m e F c.in_err-high.ensures.keeps
+    (join_branch d d m c.requires.sound unit c.args.f c.args.g c.split.result.0 c.split-2.result.0 c.min-var.result false (omega (arith, c.min-var.ensures, c.var-f_var.ensures.within, c.var-f_var.ensures.var)) (omega (arith, c.min-var.ensures, c.var-f_var.ensures.var)) (omega (arith, c.min-var.ensures, c.var-g_var.ensures.var))
+    (keeps_self d) c.split.ensures.low_live c.split-2.ensures.low_live c.split.ensures.low_table c.split-2.ensures.low_table c.in_ok-low.ensures.keeps
+    (adds_fresh d m c.in_ok-low.ensures.sound c.in_ok-low.low c.in_ok-low.ensures.live (λ a. joined unit (table d c.split.result.0 a) (table d c.split-2.result.0 a)) c.in_ok-low.ensures.table c.in_ok-low.ensures.fresh))
+    (join_branch d m e c.requires.sound unit c.args.f c.args.g c.split.result.1 c.split-2.result.1 c.min-var.result true (omega (arith, c.min-var.ensures, c.var-f_var.ensures.within, c.var-f_var.ensures.var)) (omega (arith, c.min-var.ensures, c.var-f_var.ensures.var)) (omega (arith, c.min-var.ensures, c.var-g_var.ensures.var))
+    c.in_ok-low.ensures.keeps c.split.ensures.high_live c.split-2.ensures.high_live c.split.ensures.high_table c.split-2.ensures.high_table c.in_err-high.ensures.keeps
+    (c.in_err-high.ensures.adds)))
+
+-- what both branches added
+both_add_no_node : (g : given.Over) (t : ℕ) (c : goal.After-from_residual-in_err-r g t) → Adds c.args.store.now c.join_from-2.new.store (λ a. joined (unit_of g) (table c.args.store.now c.args.f a) (table c.args.store.now c.args.g a))
+both_add_no_node g t c =
+    let d = c.args.store.now in
+    let m = c.join_from.new.store in
+    let e = c.join_from-2.new.store in
+    let unit = unit_of g in
+    let F : Function = λ a. joined unit (table d c.args.f a) (table d c.args.g a) in
+    adds_then d m e F c.in_ok-high.ensures.keeps
+    (join_branch d d m c.requires.sound unit c.args.f c.args.g c.split.result.0 c.split-2.result.0 c.min-var.result false (omega (arith, c.min-var.ensures, c.var-f_var.ensures.within, c.var-f_var.ensures.var)) (omega (arith, c.min-var.ensures, c.var-f_var.ensures.var)) (omega (arith, c.min-var.ensures, c.var-g_var.ensures.var))
+    (keeps_self d) c.split.ensures.low_live c.split-2.ensures.low_live c.split.ensures.low_table c.split-2.ensures.low_table c.in_ok-low.ensures.keeps
+    (adds_fresh d m c.in_ok-low.ensures.sound c.in_ok-low.low c.in_ok-low.ensures.live (λ a. joined unit (table d c.split.result.0 a) (table d c.split-2.result.0 a)) c.in_ok-low.ensures.table c.in_ok-low.ensures.fresh))
+    (join_branch d m e c.requires.sound unit c.args.f c.args.g c.split.result.1 c.split-2.result.1 c.min-var.result true (omega (arith, c.min-var.ensures, c.var-f_var.ensures.within, c.var-f_var.ensures.var)) (omega (arith, c.min-var.ensures, c.var-f_var.ensures.var)) (omega (arith, c.min-var.ensures, c.var-g_var.ensures.var))
+    c.in_ok-low.ensures.keeps c.split.ensures.high_live c.split-2.ensures.high_live c.split.ensures.high_table c.split-2.ensures.high_table c.in_ok-high.ensures.keeps
+    (adds_fresh m e c.in_ok-high.ensures.sound c.in_ok-high.high c.in_ok-high.ensures.live (λ a. joined unit (table m c.split.result.1 a) (table m c.split-2.result.1 a)) c.in_ok-high.ensures.table c.in_ok-high.ensures.fresh))
+
+-- what both branches added
+both_add_no_room : (g : given.Over) (t : ℕ) (c : goal.After-from_residual-in_err-keep g t) → Adds c.args.store.now c.join_from-2.new.store (λ a. joined (unit_of g) (table c.args.store.now c.args.f a) (table c.args.store.now c.args.g a))
+both_add_no_room g t c =
+    let d = c.args.store.now in
+    let m = c.join_from.new.store in
+    let e = c.join_from-2.new.store in
+    let unit = unit_of g in
+    let F : Function = λ a. joined unit (table d c.args.f a) (table d c.args.g a) in
+    adds_then d m e F c.in_ok-high.ensures.keeps
+    (join_branch d d m c.requires.sound unit c.args.f c.args.g c.split.result.0 c.split-2.result.0 c.min-var.result false (omega (arith, c.min-var.ensures, c.var-f_var.ensures.within, c.var-f_var.ensures.var)) (omega (arith, c.min-var.ensures, c.var-f_var.ensures.var)) (omega (arith, c.min-var.ensures, c.var-g_var.ensures.var))
+    (keeps_self d) c.split.ensures.low_live c.split-2.ensures.low_live c.split.ensures.low_table c.split-2.ensures.low_table c.in_ok-low.ensures.keeps
+    (adds_fresh d m c.in_ok-low.ensures.sound c.in_ok-low.low c.in_ok-low.ensures.live (λ a. joined unit (table d c.split.result.0 a) (table d c.split-2.result.0 a)) c.in_ok-low.ensures.table c.in_ok-low.ensures.fresh))
+    (join_branch d m e c.requires.sound unit c.args.f c.args.g c.split.result.1 c.split-2.result.1 c.min-var.result true (omega (arith, c.min-var.ensures, c.var-f_var.ensures.within, c.var-f_var.ensures.var)) (omega (arith, c.min-var.ensures, c.var-f_var.ensures.var)) (omega (arith, c.min-var.ensures, c.var-g_var.ensures.var))
+    c.in_ok-low.ensures.keeps c.split.ensures.high_live c.split-2.ensures.high_live c.split.ensures.high_table c.split-2.ensures.high_table c.in_ok-high.ensures.keeps
+    (adds_fresh m e c.in_ok-high.ensures.sound c.in_ok-high.high c.in_ok-high.ensures.live (λ a. joined unit (table m c.split.result.1 a) (table m c.split-2.result.1 a)) c.in_ok-high.ensures.table c.in_ok-high.ensures.fresh))
+
+pub returns-in_err-r-clause-adds : goal.returns-in_err-r-clause-adds
+returns-in_err-r-clause-adds g t c =
+    let d = c.args.store.now in
+    let e = c.join_from-2.new.store in
+    let n = c.node_within.new.store in
+    let unit = unit_of g in
+    let F : Function = λ a. joined unit (table d c.args.f a) (table d c.args.g a) in
+    on_err c.from_residual-in_err-r.result (Adds d n F) (adds_then d e n F c.in_err-r.ensures.keeps (both_add_no_node g t c)
+    (adds_same e n F (made e c.joining-operation.result) (λ a. c.joining-operation.ensures.made e a ∙ sym (join_later unit d e (both_keep_no_node g t c) c.args.f c.args.g c.requires.f_live c.requires.g_live a)) c.in_err-r.ensures.adds))
+
+pub returns-in_err-keep-clause-adds : goal.returns-in_err-keep-clause-adds
+returns-in_err-keep-clause-adds g t c =
+    let d = c.args.store.now in
+    let e = c.join_from-2.new.store in
+    let n = c.node_within.new.store in
+    let unit = unit_of g in
+    let F : Function = λ a. joined unit (table d c.args.f a) (table d c.args.g a) in
+    on_err c.from_residual-in_err-keep.result (Adds d n F) (adds_then d e n F c.in_ok-r.ensures.keeps (both_add_no_room g t c)
+    (adds_made e n c.in_ok-r.ensures.sound c.joining-operation.result c.in_ok-r.r c.in_ok-r.ensures.right F (λ a. c.joining-operation.ensures.made n a ∙ sym (join_later unit d n (all_keep_no_room g t c) c.args.f c.args.g c.requires.f_live c.requires.g_live a)) c.in_ok-r.ensures.fresh))
