@@ -43,7 +43,9 @@ comparisons =
     -- numbers alone
     (codes "scalarset P undefined; module main() { a : P; p : assert G (0 = 1 -> a = a); }", valid) ∷
     -- an element of an array
-    (codes "scalarset P undefined; module main() { w : array P of P; a : P; p : assert G (w[a] = 0); }", fault 21 85) ∷ []
+    (codes "scalarset P undefined; module main() { w : array P of P; a : P; p : assert G (w[a] = 0); }", fault 21 85) ∷
+    -- values that differ
+    (codes "scalarset P undefined; module main() { a : P; forall (i in P) p[i] : assert G (i ~= a | a = i); }", valid) ∷ []
 
 -- a scalarset lacks `<`, `<=`, `>` and `>=`
 abbrev pub orders : List (List ℕ × Answer)
@@ -63,7 +65,13 @@ orders =
     -- `=` and `~=` they have
     (codes "scalarset P undefined; module main() { a, b : P; p : assert G (a = b | a ~= b); }", valid) ∷
     -- numbers have the orders
-    (codes "scalarset P undefined; module main() { a : P; x : 0..3; p : assert G (x < 2); }", valid) ∷ []
+    (codes "scalarset P undefined; module main() { a : P; x : 0..3; p : assert G (x < 2); }", valid) ∷
+    -- of variables over an ordset
+    (codes "ordset I undefined; module main() { forall (i in I) forall (j in I) p[i][j] : assert G (i < j -> j > i & i <= j & j >= i); }", valid) ∷
+    -- a number and an ordset
+    (codes "ordset I undefined; module main() { a : I; p : assert G (1 < a); }", fault 21 57) ∷
+    -- of variables over a scalarset
+    (codes "scalarset P undefined; module main() { forall (i in P) forall (j in P) p[i][j] : assert G (i = j | i <= j); }", fault 21 99) ∷ []
 
 -- the left part and the members of an `in`
 abbrev pub within : List (List ℕ × Answer)
@@ -81,7 +89,11 @@ within =
     -- values
     (codes "scalarset P undefined; module main() { a, b : P; p : assert G (a in {b, a}); }", valid) ∷
     -- numbers
-    (codes "scalarset P undefined; module main() { a : P; p : assert G (1 in {0, 2..3}); }", valid) ∷ []
+    (codes "scalarset P undefined; module main() { a : P; p : assert G (1 in {0, 2..3}); }", valid) ∷
+    -- a span behind a value
+    (codes "scalarset P undefined; module main() { a, b : P; p : assert G (a in {b, 1..2}); }", fault 21 72) ∷
+    -- a variable
+    (codes "scalarset P undefined; module main() { a : P; forall (i in P) p[i] : assert G (i in {a, i}); }", valid) ∷ []
 
 -- the members of a listed set
 abbrev pub lists : List (List ℕ × Answer)
@@ -93,7 +105,9 @@ lists =
     -- values
     (codes "scalarset P undefined; module main() { a, b : P; a := {b, b}; }", valid) ∷
     -- a branch of `?:`
-    (codes "scalarset P undefined; module main() { a, b : P; a := b = b ? {b, 1} : b; }", fault 21 66) ∷ []
+    (codes "scalarset P undefined; module main() { a, b : P; a := b = b ? {b, 1} : b; }", fault 21 66) ∷
+    -- a span at its first number
+    (codes "scalarset P undefined; module main() { a, b : P; a := {b, 1..2}; }", fault 21 58) ∷ []
 
 -- the branches of `?:`
 abbrev pub branches : List (List ℕ × Answer)
@@ -109,7 +123,9 @@ branches =
     -- values
     (codes "scalarset P undefined; module main() { a, b : P; x : boolean; a := x ? b : b; }", valid) ∷
     -- a list that mixes them, beside a number
-    (codes "scalarset P undefined; module main() { a, b : P; x : boolean; a := x ? 1 : {b, 0}; }", fault 21 71) ∷ []
+    (codes "scalarset P undefined; module main() { a, b : P; x : boolean; a := x ? 1 : {b, 0}; }", fault 21 71) ∷
+    -- values in a comparison
+    (codes "scalarset P undefined; module main() { a, b : P; x : boolean; p : assert G ((x ? a : b) = a); }", valid) ∷ []
 
 -- the value of a `switch` and its labels
 abbrev pub labels : List (List ℕ × Answer)
@@ -159,7 +175,11 @@ targets =
     -- an argument
     (codes "scalarset P undefined; module m(a) { input a : P; } module main() { n : m(1); }", fault 21 74) ∷
     -- an argument that is a value
-    (codes "scalarset P undefined; module m(a) { input a : P; } module main() { b : P; n : m(b); }", valid) ∷ []
+    (codes "scalarset P undefined; module m(a) { input a : P; } module main() { b : P; n : m(b); }", valid) ∷
+    -- a number for a value of a declared scalarset
+    (codes "scalarset D 0..2; module main() { a : D; a := 1; }", fault 21 46) ∷
+    -- for a value of an ordset
+    (codes "ordset I undefined; module main() { a : I; init(a) := 0; }", fault 21 54) ∷ []
 
 -- an index over a set type
 abbrev pub indexes : List (List ℕ × Answer)
@@ -177,7 +197,9 @@ indexes =
     -- in an index
     (codes "scalarset P undefined; module main() { w : array P of P; x : array P of boolean; p : assert G x[w[0]]; }", fault 21 98) ∷
     -- the argument of an output
-    (codes "scalarset P undefined; module m(b) { output b : boolean; b := 0; } module main() { x : array P of boolean; n : m(x[0]); }", fault 21 115) ∷ []
+    (codes "scalarset P undefined; module m(b) { output b : boolean; b := 0; } module main() { x : array P of boolean; n : m(x[0]); }", fault 21 115) ∷
+    -- a number over an ordset
+    (codes "ordset I undefined; module main() { x : array I of boolean; p : assert G x[0]; }", fault 21 75) ∷ []
 
 -- a `for` variable that stands as the number
 abbrev pub loops : List (List ℕ × Answer)

@@ -249,7 +249,11 @@ brackets =
     -- in this order
     (codes "scalarset P undefined; module main() { x : 0..1; forall (i in P) p[i] : assert G 1; forall (i in P) forall (j in 0..1) subcase s[j] of p[i] for x = j; forall (i in P) forall (j in 0..1) using p prove s[i][j]; }", valid) ∷
     -- of a map
-    (codes "scalarset P undefined; module main() { x : array 0..1 of array P of boolean; layer L : { forall (i in 0..1) forall (k in P) x[i][k] := 0; } forall (i in P) forall (k in 0..1) using x//L prove x[i][k]//L; }", fault 28 194) ∷ []
+    (codes "scalarset P undefined; module main() { x : array 0..1 of array P of boolean; layer L : { forall (i in 0..1) forall (k in P) x[i][k] := 0; } forall (i in P) forall (k in 0..1) using x//L prove x[i][k]//L; }", fault 28 194) ∷
+    -- too few of a split: the first
+    (codes "scalarset P undefined; module main() { x : 0..1; forall (i in P) p[i] : assert G 1; forall (j in 0..1) subcase s[j] of p for x = j; forall (j in 0..1) using p prove s[j]; }", fault 28 167) ∷
+    -- a name of a map twice
+    (codes "scalarset P undefined; module main() { x : array P of array P of boolean; layer L : { forall (i in P) forall (k in P) x[i][k] := 0; } forall (i in P) using x//L prove x[i][i]//L; }", fault 28 172) ∷ []
 
 -- the least place counts, and at one place the least number
 abbrev pub first : List (List ℕ × Answer)

@@ -1,0 +1,3 @@
+pub mod Worked
+pub mod WorkedFaults
+pub mod WorkedLeaves
