@@ -11,7 +11,7 @@ use Rattle.smv_rings.specs.Schedule.Look.{Pass}
 use Rattle.smv_rings.proofs.Whole.{map_append}
 use Rattle.smv_search.specs.declared.counts.Stop.{Stop}
 use Rattle.smv_search.specs.declared.counts.Stop.TheVariants.{TooMany, OutOfMemory}
-use Rattle.smv_search.specs.Verdict.{Budget, count, AllPass, First}
+use Rattle.smv_search.specs.Verdict.{Budget, count, told, AllPass, First}
 use Rattle.smv_search.specs.Verdict.Verdict.{Counted}
 use Rattle.smv_search.specs.Keeping.{beads_of, IsTally}
 use Rattle.smv_search.specs.Runs.{TakesIn, Took}
@@ -32,7 +32,7 @@ took_on b fs kept left f took le = record {
   is_left = took.is_left ∙ sym (append_assoc took.done (line_of kept f ∷ []) (one_by_one (kept ++ (f ∷ [])) left));
 }
 
-took_first : (b : Budget) (fs kept left : List Function) (f : Function) (n : ℕ) → Took b fs kept (f ∷ left) → (b.nodes < count b.vars (line_of kept f)) × (n ≡ count b.vars (line_of kept f)) → First b (one_by_one [] fs) (Counted n)
+took_first : (b : Budget) (fs kept left : List Function) (f : Function) (n : ℕ) → Took b fs kept (f ∷ left) → (b.nodes < count b.vars (line_of kept f)) × (n ≡ told b.nodes (count b.vars (line_of kept f))) → First b (one_by_one [] fs) (Counted n)
 unfolding First
 took_first b fs kept left f n took many = (took.done, line_of kept f, one_by_one (kept ++ (f ∷ [])) left, took.is_left, took.passed, many)
 
@@ -85,7 +85,7 @@ module _ (d : Diagram) (all : List Ref) (nodes images : ℕ) where
       let e : i + 1 ≡ suc i = omega arith in
       let same : beads_of d (take (i + 1) all) ≡ count d.vars (line_of (map (table d) (take i all)) (table d (get_or all i none))) = ap (λ (j : ℕ). beads_of d (take j all)) e ∙ counts i none lt in
       took_first budget (map (table d) all) (map (table d) (take i all)) (map (table d) (drop (suc i) all)) (table d (get_or all i none)) n (here i none lt took)
-      (subst (λ m. nodes < m) same many.0, many.1 ∙ same)
+      (subst (λ m. nodes < m) same many.0, many.1 ∙ ap (told nodes) same)
   stop_at i OutOfMemory lt took many = tt
 
   pub end_at : (i : ℕ) → length all ≤ i → TookAt i → AllPass budget (one_by_one [] (map (table d) all))

@@ -1,19 +1,22 @@
 -- One operation, and what it says of its line.
-use Rattle.std.proofs.Common.{◌≡◌, ◌≢◌, ℕ, ◌<◌, ◌≤◌, Bool, false, inl, inr, List, [], ◌∷◌, ◌++◌, map, refl, sym, ◌∙◌, ap, subst, Result, Ok, Err, Option}
+use Rattle.std.proofs.Common.{◌≡◌, ◌≢◌, ℕ, ◌+◌, ◌<◌, ◌≤◌, Bool, true, false, append_assoc, arith, inl, inr, List, [], ◌∷◌, ◌++◌, map, refl, sym, ◌∙◌, ap, subst, Result, Ok, Err, Option}
 use Rattle.bdd_store.specs.declared.Ref.{Ref}
-use Rattle.bdd_store.specs.Beads.{truth_table, bead_count}
+use Rattle.bdd_store.specs.Beads.{truth_table, same_block, bead_count}
+use Rattle.bdd_store.proofs.Functions.{beads_monotone}
+use Rattle.bdd_store.proofs.Sets.{or_right}
+use Rattle.std.specs.List.{list_any}
 use Rattle.bdd_store.specs.Diagram.{Diagram, IsLive, table, Keeps}
 use Rattle.bdd_ops.specs.Functions.{Function}
 use Rattle.smv_rings.specs.Functions.{never}
-use Rattle.smv_rings.specs.Schedule.{Line, made_by, left_by, look_of}
+use Rattle.smv_rings.specs.Schedule.{Line, made_by, left_by, look_of, live as live_of}
 use Rattle.smv_rings.specs.Schedule.{Look as Glance}
 use Rattle.smv_rings.specs.Ops.{IsOneOf}
-use Rattle.smv_search.specs.Keeping.{AllHeld, KeepsRefs, beads_of, IsTally}
+use Rattle.smv_search.specs.Keeping.{AllHeld, KeepsRefs, beads_of, beads_in, IsTally, IsPast}
 use Rattle.smv_rings.specs.declared.ops.Op.{Op}
 use Rattle.smv_rings.specs.declared.ops.Op.TheVariants.{And, Exists, Look, Rename}
 use Rattle.smv_search.specs.declared.counts.Stop.{Stop}
 use Rattle.smv_search.specs.declared.counts.Stop.TheVariants.{TooMany, OutOfMemory}
-use Rattle.smv_search.specs.Verdict.{Budget, count, Goes, Settles, AllPass, First}
+use Rattle.smv_search.specs.Verdict.{Budget, count, told, Goes, Settles, AllPass, First}
 use Rattle.smv_search.specs.Verdict.Verdict.{Reached}
 use Rattle.smv_rings.specs.Ops.{act_of}
 use Rattle.smv_search.specs.Runs.{Runs}
@@ -76,7 +79,7 @@ module _ (d e f : Diagram) (live : List Ref) (p made : Ref) (op : Op) (nodes : �
   -- too many beads
   pub step_stops : (err : Stop) (k images : ℕ) → IsTally {A = Option Ref} (beads_of e (live ++ (p ∷ made ∷ []))) nodes (Err err) → Runs f (budget images) (map (table d) live) (table d p) (act_of d k op ∷ []) k (Err err)
   unfolding First AllPass
-  step_stops (TooMany n) k images tally = ([], line_of k, [], refl, tt, (subst (λ m. nodes < m) (counts k) tally.0, tally.1 ∙ counts k))
+  step_stops (TooMany n) k images tally = ([], line_of k, [], refl, tt, (subst (λ m. nodes < m) (counts k) tally.0, tally.1 ∙ ap (told nodes) (counts k)))
   step_stops OutOfMemory k images tally = tt
 
   within : (k : ℕ) → beads_of e (live ++ (p ∷ made ∷ [])) ≤ nodes → count d.vars (line_of k) ≤ nodes
@@ -118,6 +121,35 @@ module _ (d e f : Diagram) (live : List Ref) (p made : Ref) (op : Op) (nodes : �
       leaves (Exists v) other = refl
       leaves (Look g) other = absurd (other g refl)
       leaves Rename other = refl
+
+-- a line has at least the beads of its last function
+one_of_last : (ts : List (List Bool)) (t q : List Bool) → list_any (same_block q) (t ∷ []) ≡ true → list_any (same_block q) (ts ++ (t ∷ [])) ≡ true
+one_of_last [] t q is = is
+one_of_last (x ∷ xs) t q is = or_right (same_block q x) (list_any (same_block q) (xs ++ (t ∷ []))) (one_of_last xs t q is)
+
+line_last : (line : Line) (n : ℕ) → map (truth_table n 0) (live_of line) ≡ map (truth_table n 0) (line.kept ++ line.source) ++ (truth_table n 0 line.made ∷ [])
+line_last line n = ap (map (truth_table n 0)) (sym (append_assoc line.kept line.source (line.made ∷ []))) ∙ map_append (truth_table n 0) (line.kept ++ line.source) (line.made ∷ [])
+
+pub line_most : (line : Line) (n : ℕ) → bead_count n (truth_table n 0 line.made ∷ []) ≤ count n line
+unfolding count
+line_most line n =
+    subst (λ ts. bead_count n (truth_table n 0 line.made ∷ []) ≤ bead_count n ts) (sym (line_last line n))
+    (beads_monotone n (truth_table n 0 line.made ∷ []) (map (truth_table n 0) (line.kept ++ line.source) ++ (truth_table n 0 line.made ∷ [])) (one_of_last (map (truth_table n 0) (line.kept ++ line.source)) (truth_table n 0 line.made)))
+
+-- a function with more beads than are told is past the budget
+pub past_tally : (A B : Type 0) (line : Line) (n nodes : ℕ) (err : Stop) → IsPast {A = A} (beads_in n line.made) nodes (Err err) → IsTally {A = B} (count n line) nodes (Err err)
+past_tally A B line n nodes (TooMany c) past = (omega (arith, past.0, line_most line n), omega (arith, past.0, past.1, line_most line n))
+past_tally A B line n nodes OutOfMemory past = tt
+
+-- so the operation that would have made it ends the search
+pub past_stops : (d e : Diagram) (live : List Ref) (p : Ref) (op : Op) (nodes : ℕ) (err : Stop) → IsPast {A = Ref} (beads_in d.vars (made_by (act_of d 0 op) (table d p))) nodes (Err err) → (k images : ℕ)
+    → Runs e (record { vars = d.vars; nodes = nodes; images = images }) (map (table d) live) (table d p) (act_of d k op ∷ []) k (Err err)
+unfolding First AllPass
+past_stops d e live p op nodes OutOfMemory past k images = tt
+past_stops d e live p op nodes (TooMany c) past k images =
+    let line : Line = record { kept = map (table d) live; source = table d p ∷ []; made = made_by (act_of d k op) (table d p); look = look_of (act_of d k op) } in
+    let here = subst (λ f. IsPast {A = Ref} (beads_in d.vars f) nodes (Err (TooMany c))) (any_depth d op k (table d p)) past in
+    ([], line, [], refl, tt, past_tally Ref (Option Ref) line d.vars nodes (TooMany c) here)
 
 -- an error that a `?` hands on
 pub handed_on : {A : Type 0} → (r : Result A Stop) (e : Stop) (P : Result A Stop → Type 0) → IsErrAnd r (λ x. x ≡ e) → P (Err e) → P r

@@ -12,7 +12,7 @@ use Rattle.smv_rings.specs.declared.ops.Op.{Op}
 use Rattle.smv_search.specs.declared.counts.Stop.{Stop}
 use Rattle.smv_search.specs.declared.counts.Stop.TheVariants.{TooMany, OutOfMemory}
 use Rattle.smv_search.specs.declared.turns.End.TheVariants.{Closed}
-use Rattle.smv_search.specs.Verdict.{Budget, Verdict, count, AllPass, First}
+use Rattle.smv_search.specs.Verdict.{Budget, Verdict, count, told, AllPass, First}
 use Rattle.smv_search.specs.Verdict.Verdict.{Counted, Reached, Shut, Images}
 use Rattle.smv_rings.specs.Ops.{act_of, acts_of, refs_in, refs_in_all, FitsActs}
 use Rattle.smv_search.specs.Runs.{Runs, IsEnd, rings_to}
@@ -54,7 +54,7 @@ module _ (l : Lists) (b : Budget) (k : ℕ) where
       subst (λ ls. First b ls v) (append_assoc (schedule l k) acts_lines (closing ∷ [])) (
       first_behind b (schedule l k ++ acts_lines) (closing ∷ []) [] v (pass_append b (schedule l k) acts_lines passed pass) first)
 
-  pub counts_close : (n : ℕ) → (b.nodes < count b.vars closing) × (n ≡ count b.vars closing) → First b (closing ∷ []) (Counted n)
+  pub counts_close : (n : ℕ) → (b.nodes < count b.vars closing) × (n ≡ told b.nodes (count b.vars closing)) → First b (closing ∷ []) (Counted n)
   unfolding First AllPass
   counts_close n is = ([], closing, [], refl, tt, is)
 

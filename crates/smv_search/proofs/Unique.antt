@@ -3,7 +3,7 @@ use Rattle.std.proofs.Common.{◌≡◌, ℕ, ◌<◌, ◌≤◌, ◌⊎◌, inl
 use Rattle.bdd_ops.specs.Functions.{Function}
 use Rattle.smv_rings.specs.Schedule.{Look, Line}
 use Rattle.smv_rings.specs.Schedule.Look.{Pass, Broken, Ring}
-use Rattle.smv_search.specs.Verdict.{Budget, Verdict, count, Goes, Settles, Passes, Decides, AllPass, First}
+use Rattle.smv_search.specs.Verdict.{Budget, Verdict, count, told, Goes, Settles, Passes, Decides, AllPass, First}
 use Rattle.smv_search.specs.Verdict.Verdict.{Counted, Reached, Shut, Images}
 
 settles_once : (images : ℕ) (f : Function) (look : Look) (v w : Verdict) → Settles images f look v → Settles images f look w → v ≡ w
@@ -41,7 +41,7 @@ goes_not images f (Ring k old) (Reached i) goes s = s
 abbrev settled : Budget → Line → Verdict → Type 0
 settled b line v = (count b.vars line ≤ b.nodes) × Settles b.images line.made line.look v
 
-by_kind : (b : Budget) (line : Line) (v : Verdict) → Decides b line v → ((b.nodes < count b.vars line) × (v ≡ Counted (count b.vars line))) ⊎ settled b line v
+by_kind : (b : Budget) (line : Line) (v : Verdict) → Decides b line v → ((b.nodes < count b.vars line) × (v ≡ Counted (told b.nodes (count b.vars line)))) ⊎ settled b line v
 by_kind b line (Counted n) d = inl (d.0, ap Counted d.1)
 by_kind b line (Reached k) d = inr d
 by_kind b line (Shut k) d = inr d

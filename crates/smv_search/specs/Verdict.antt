@@ -1,5 +1,5 @@
 -- The verdict of a case: the first event of its schedule.
-use Rattle.std.specs.Prelude.{◌≡◌, ◌≢◌, ℕ, suc, ◌*◌, ◌<◌, ◌≤◌, List, [], ◌∷◌, ◌++◌, map}
+use Rattle.std.specs.Prelude.{◌≡◌, ◌≢◌, ℕ, suc, ◌+◌, ◌*◌, min, ◌<◌, ◌≤◌, List, [], ◌∷◌, ◌++◌, map}
 use Rattle.bdd_store.specs.Beads.{truth_table, bead_count}
 use Rattle.bdd_ops.specs.Functions.{Function}
 use Rattle.smv_rings.specs.Functions.{never}
@@ -8,7 +8,7 @@ use Rattle.smv_rings.specs.Schedule.{Look, Line, live, schedule}
 use Rattle.smv_rings.specs.Schedule.Look.{Pass, Broken, Ring}
 
 pub data Verdict : Type 0 where
-  Counted : ℕ → Verdict  -- the budget of nodes is passed by this count
+  Counted : ℕ → Verdict  -- the budget of nodes is passed, and this is told of the count
   Reached : ℕ → Verdict  -- a violating path of so many steps exists
   Shut : ℕ → Verdict  -- the ring of this number equals the next one
   Images : Verdict  -- the budget of images is used up
@@ -21,6 +21,14 @@ pub record Budget : Type 0 where
 -- the beads of the live functions
 unfoldable pub count : ℕ → Line → ℕ
 count n line = bead_count n (map (truth_table n 0) (live line))
+
+-- how far past the budget of nodes counts are told
+abbrev pub margin : ℕ
+margin = 1000000
+
+-- what is told of a count past the budget: the count, or the budget and the margin where that is less
+abbrev pub told : ℕ → ℕ → ℕ
+told nodes n = min n (nodes + margin)
 
 -- what is looked at decides nothing
 abbrev pub Goes : ℕ → Function → Look → Type 0
@@ -43,7 +51,7 @@ Passes b line = (count b.vars line ≤ b.nodes) × Goes b.images line.made line.
 
 -- a line at which this happens; the count is looked at first
 abbrev pub Decides : Budget → Line → Verdict → Type 0
-Decides b line (Counted n) = (b.nodes < count b.vars line) × (n ≡ count b.vars line)
+Decides b line (Counted n) = (b.nodes < count b.vars line) × (n ≡ told b.nodes (count b.vars line))
 Decides b line (Reached k) = (count b.vars line ≤ b.nodes) × Settles b.images line.made line.look (Reached k)
 Decides b line (Shut k) = (count b.vars line ≤ b.nodes) × Settles b.images line.made line.look (Shut k)
 Decides b line Images = (count b.vars line ≤ b.nodes) × Settles b.images line.made line.look Images

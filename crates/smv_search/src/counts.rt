@@ -1,10 +1,11 @@
 // Counting, and giving back.
-ghost use Rattle.std.specs.Prelude.{◌≡◌, ℕ, ◌≤◌, OnOk, length, List, [], ◌∷◌, ◌++◌, map};
+ghost use Rattle.std.specs.Prelude.{◌≡◌, ℕ, ◌+◌, ◌≤◌, OnOk, length, List, [], ◌∷◌, ◌++◌, map};
 ghost use Rattle.bdd_store.specs.declared.Ref.{Ref};
 ghost use Rattle.bdd_store.specs.Diagram.{IsLive, AreLive, table};
 ghost use Rattle.smv_search.specs.declared.counts.Stop.TheVariants.{OutOfMemory};
 ghost use Rattle.smv_search.specs.Keeping.{AllHeld, KeepsRefs, beads_of, IsTally};
 ghost use Rattle.smv_search.specs.Runs.{TakesIn};
+ghost use Rattle.smv_search.specs.Verdict.{margin};
 
 use bdd_store::{Ref, Store};
 use std::alloc::{AllocError, AllocFailed};
@@ -12,7 +13,7 @@ use std::alloc::{AllocError, AllocFailed};
 /// Why a search ends before its verdict.
 #[derive(Drop)]
 pub enum Stop {
-    /// There are more beads than the budget of nodes.
+    /// There are more beads than the budget of nodes: how many is told.
     TooMany(usize),
     OutOfMemory,
 }
@@ -31,6 +32,17 @@ impl<T: Drop> From<AllocFailed<T>> for Stop {
     fn from(_e: AllocFailed<T>) -> Stop {
         Stop::OutOfMemory
     }
+}
+
+// How far past the budget counts are told.
+const MARGIN: usize = 1_000_000;
+
+// The most that is told of a count, and the most nodes that one operation makes.
+#[inline(always)]
+pub fn most_told(nodes: u32) -> usize
+    ensures { result ≡ nodes + margin }
+{
+    nodes as usize + MARGIN
 }
 
 // The functions of the lists are appended one by one. None is given back, since later ones are not counted yet.
@@ -55,7 +67,8 @@ fn count_front(store: &Store, front: &[Ref], nodes: u32) -> Result<(), Stop>
     }
     let count = store.count(front)?;
     if count > nodes as usize {
-        return Err(Stop::TooMany(count));
+        let told = count.min(most_told(nodes));
+        return Err(Stop::TooMany(told));
     }
     Ok(())
 }
@@ -95,7 +108,8 @@ fn tally(store: &mut Store, roots: &[Ref], nodes: u32) -> Result<(), Stop>
     store.sweep(roots);
     let count = store.held();
     if count > nodes as usize {
-        return Err(Stop::TooMany(count));
+        let told = count.min(most_told(nodes));
+        return Err(Stop::TooMany(told));
     }
     Ok(())
 }

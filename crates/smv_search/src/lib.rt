@@ -34,7 +34,7 @@ pub enum Outcome {
     Closed { set: Ref },
     /// The shortest violating paths have so many steps; ring 0 to the ring before their last state.
     Reaches { depth: u32, rings: Vec<Ref> },
-    /// The functions that had to be live have so many beads.
+    /// The functions that had to be live have so many beads, or more where this is a million past the budget.
     OutOfNodes { count: usize },
     /// So many images were made as the budget allows, and the last ring differed from the one before it.
     OutOfSteps,

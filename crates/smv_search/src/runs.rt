@@ -1,16 +1,17 @@
 // Operations on P, one after another.
 ghost use Rattle.std.specs.Prelude.{◌≡◌, ◌↔◌, ℕ, Bool, false, IsTrue, IfOk, OnOk, List, [], ◌∷◌, ◌++◌, map};
 ghost use Rattle.bdd_store.specs.declared.Ref.{Ref};
-ghost use Rattle.bdd_store.specs.Diagram.{Diagram, IsLive, table};
+ghost use Rattle.bdd_store.specs.Diagram.{Diagram, IsLive, Keeps, table};
+ghost use Rattle.smv_rings.specs.Schedule.{made_by};
 ghost use Rattle.smv_rings.specs.Schedule.Act.{Join};
 ghost use Rattle.smv_rings.specs.Lists.{IsRel, lists_of, refs_of};
 ghost use Rattle.smv_rings.specs.Ops.{IsOneOf, act_of, acts_of, refs_in, refs_in_all, FitsAct, FitsActs};
-ghost use Rattle.smv_search.specs.Keeping.{AllHeld, KeepsRefs};
+ghost use Rattle.smv_search.specs.Keeping.{AllHeld, KeepsRefs, beads_in, IsPast};
 ghost use Rattle.smv_search.specs.Runs.{Runs, first_of, behind_first, opening};
 
-use super::counts::{Stop, append};
+use super::counts::{Stop, append, most_told};
 use bdd_store::{Ref, Store};
-use smv_rings::{Op, Rel, apply};
+use smv_rings::{Op, Rel, apply_within};
 use std::alloc::{AllocError, Global};
 
 // Does operations on P in turn, and counts. None: a look found a violating path.
@@ -57,7 +58,7 @@ fn step(
     ensures keeps { KeepsRefs store.old store.new live.old.items }
     ensures runs { (k images : ℕ) → Runs store.new (record { vars = store.old.vars; nodes = nodes; images = images }) (map (table store.old) live.old.items) (table store.old p) (act_of store.old k op ∷ []) k result }
 {
-    let made = apply(alloc, store, p, op)?;
+    let made = make(alloc, store, p, op, nodes)?;
     append(store, live, p, made, nodes)?;
     if let Op::Look(_) = op {
         if is_false(store, made) {
@@ -66,6 +67,23 @@ fn step(
         return Ok(None);
     }
     Ok(Some(made))
+}
+
+// What an operation makes of P, unless it has more beads than are told.
+fn make(alloc: Global, store: &mut Store, p: Ref, op: Op, nodes: u32) -> Result<Ref, Stop>
+    requires live { IsLive store.old p }
+    requires refs { (r : Ref) → IsOneOf r (refs_in op) → IsLive store.old r }
+    requires fits { FitsAct store.old.vars (table store.old p) (act_of store.old 0 op) }
+    ensures live { IfOk result (λ r. IsLive store.new r) }
+    ensures table { IfOk result (λ r. table store.new r ≡ made_by (act_of store.old 0 op) (table store.old p)) }
+    ensures large { IsPast (beads_in store.old.vars (made_by (act_of store.old 0 op) (table store.old p))) nodes result }
+    ensures keeps { Keeps store.old store.new }
+{
+    let most = most_told(nodes);
+    match apply_within(alloc, store, p, op, most)? {
+        Some(made) => Ok(made),
+        None => Err(Stop::TooMany(most)),
+    }
 }
 
 // The function is false.

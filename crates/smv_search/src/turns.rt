@@ -1,18 +1,18 @@
 // The turns of a search.
-ghost use Rattle.std.specs.Prelude.{◌≡◌, ℕ, suc, ◌*◌, ◌<◌, IfOk, OnOk, List, [], ◌∷◌, ◌++◌, map};
+ghost use Rattle.std.specs.Prelude.{◌≡◌, ℕ, suc, ◌*◌, ◌<◌, ◌||◌, Bool, IfOk, OnOk, List, [], ◌∷◌, ◌++◌, map};
 ghost use Rattle.bdd_store.specs.declared.Ref.{Ref};
-ghost use Rattle.bdd_store.specs.Diagram.{IsLive, table};
+ghost use Rattle.bdd_store.specs.Diagram.{IsLive, Keeps, table};
 ghost use Rattle.smv_rings.specs.Functions.{disj};
 ghost use Rattle.smv_rings.specs.Schedule.{Look, functions, turn, kept_at, ring, schedule};
 ghost use Rattle.smv_rings.specs.Lists.{IsLists, lists_of};
 ghost use Rattle.smv_rings.specs.Ops.{IsOneOf, acts_of, refs_in_all, FitsActs};
 ghost use Rattle.smv_search.specs.Verdict.{count, AllPass};
-ghost use Rattle.smv_search.specs.Keeping.{AllHeld, KeepsRefs, IsTally};
+ghost use Rattle.smv_search.specs.Keeping.{AllHeld, KeepsRefs, beads_in, IsTally, IsPast};
 ghost use Rattle.smv_search.specs.Runs.{IsEnd, IsEndLive};
 
-use super::counts::{Stop, append};
+use super::counts::{Stop, append, most_told};
 use super::runs::run;
-use bdd_ops::or;
+use bdd_ops::or_within;
 use bdd_store::{Ref, Store};
 use smv_rings::{Op, Rel};
 use std::alloc::Global;
@@ -85,7 +85,23 @@ fn close(
     ensures table { IfOk result (λ r. table store.new r ≡ disj (table store.old image) (table store.old last)) }
     ensures count { (look : Look) → IsTally (count store.old.vars (record { kept = map (table store.old) live.old.items; source = table store.old image ∷ []; made = disj (table store.old image) (table store.old last); look = look })) nodes result }
 {
-    let next = or(alloc, store, image, last)?;
+    let next = unite(alloc, store, image, last, nodes)?;
     append(store, live, image, next, nodes)?;
     Ok(next)
+}
+
+// The disjunction of an image and the last ring, unless it has more beads than are told.
+fn unite(alloc: Global, store: &mut Store, image: Ref, last: Ref, nodes: u32) -> Result<Ref, Stop>
+    requires image { IsLive store.old image }
+    requires last { IsLive store.old last }
+    ensures live { IfOk result (λ r. IsLive store.new r) }
+    ensures table { IfOk result (λ r. (a : ℕ → Bool) → table store.new r a ≡ (table store.old image a || table store.old last a)) }
+    ensures large { IsPast (beads_in store.old.vars (disj (table store.old image) (table store.old last))) nodes result }
+    ensures keeps { Keeps store.old store.new }
+{
+    let most = most_told(nodes);
+    match or_within(alloc, store, image, last, most)? {
+        Some(next) => Ok(next),
+        None => Err(Stop::TooMany(most)),
+    }
 }

@@ -11,7 +11,7 @@ returns-then-held-nodes c =
 pub returns-then-count-nodes : goal.returns-then-count-nodes
 returns-then-count-nodes c =
     let e : c.in_ok-count.count ≡ beads_of c.args.store.now c.args.front.now = c.in_ok-count.ensures ∙ beads_are c.args.store.now c.args.front.now in
-    record { count = (omega arith, e) }
+    record { count = (omega arith, omega (arith, e, c.min-told.ensures, c.most_told.ensures)) }
 
 pub returns : goal.returns
 returns c =

@@ -18,7 +18,7 @@ returns-then-count-nodes-clause-keeps c = keeps_swept c.args.store.now c.sweep.n
 pub returns-then-count-nodes-clause-count : goal.returns-then-count-nodes-clause-count
 returns-then-count-nodes-clause-count c =
     let e : c.held-count.result ≡ beads_of c.args.store.now c.args.roots.now = c.held-count.ensures.held ∙ c.sweep.ensures.beads ∙ beads_are c.args.store.now c.args.roots.now in
-    (omega arith, e)
+    (omega arith, omega (arith, e, c.min-told.ensures, c.most_told.ensures))
 
 pub returns-clause-keeps : goal.returns-clause-keeps
 returns-clause-keeps c = keeps_swept c.args.store.now c.sweep.new.self c.args.roots.now c.requires.held c.sweep.ensures.sweeps
