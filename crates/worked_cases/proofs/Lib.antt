@@ -1,2 +1,4 @@
 pub mod WorkedTimes
 pub mod WorkedCases
+pub mod WorkedTypes
+pub mod WorkedDemands

@@ -1,3 +1,5 @@
 pub mod Worked
 pub mod WorkedTimes
 pub mod WorkedCases
+pub mod WorkedTypes
+pub mod WorkedDemands

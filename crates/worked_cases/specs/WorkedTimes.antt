@@ -24,7 +24,13 @@ cycles =
     -- a claim that uses itself
     (codes "module main() { p : assert G 1; using p prove p; }", of_claims (Before ∷ []) ∷ []) ∷
     -- a map and a claim
-    (codes "module main() { x : boolean; layer L : { x := 0; } p : assert G x; using p prove x//L; using x//L prove p; }", of_claims (Before ∷ []) ∷ of_maps (Now ∷ []) ∷ []) ∷ []
+    (codes "module main() { x : boolean; layer L : { x := 0; } p : assert G x; using p prove x//L; using x//L prove p; }", of_claims (Before ∷ []) ∷ of_maps (Now ∷ []) ∷ []) ∷
+    -- a claim that uses itself and an earlier one
+    (codes "module main() { p : assert G 1; q : assert G 1; using p, q prove q; }", of_claims [] ∷ of_claims (Now ∷ Before ∷ []) ∷ []) ∷
+    -- earlier is what is met earlier, also where it is written later
+    (codes "module m() { p : assert G 1; } module main() { using q prove n.p; using n.p prove q; q : assert G 1; n : m(); }", of_claims (Before ∷ []) ∷ of_claims (Now ∷ []) ∷ []) ∷
+    -- two maps that read each other's signals
+    (codes "module main() { a, b : boolean; layer L : { a := b; b := 0; } layer K : { b := a; } using b//K prove a//L; using a//L prove b//K; }", of_maps (Before ∷ []) ∷ of_maps [] ∷ of_maps (Now ∷ []) ∷ []) ∷ []
 
 -- a map of a family outside the same-time set is before
 abbrev pub same_time : List (List ℕ × List Timed)
@@ -47,7 +53,26 @@ same_time =
     (codes "module main() { a, b : boolean; layer spec : { a := 0; b := 0; } p : assert G b; using p, b//spec prove a//spec; }", times (Now ∷ []) (Now ∷ []) ∷ of_maps [] ∷ of_claims [] ∷ []) ∷
     (codes "module main() { a, b : boolean; layer spec : { a := 0; b := 0; } p : assert G b; using (p), b//spec prove a//spec; }", times (Before ∷ []) (Before ∷ []) ∷ of_maps [] ∷ of_claims [] ∷ []) ∷
     -- a claim reads its indexes too
-    (codes "module main() { x : array 0..1 of boolean; i : 0..1; layer L : { i := 0; } p : assert G x[i]; using i//L prove p; }", of_maps [] ∷ of_maps (Now ∷ []) ∷ []) ∷ []
+    (codes "module main() { x : array 0..1 of boolean; i : 0..1; layer L : { i := 0; } p : assert G x[i]; using i//L prove p; }", of_maps [] ∷ of_maps (Now ∷ []) ∷ []) ∷
+    -- of a map its own family, read or not
+    (codes "module main() { x : boolean; layer L : { x := 0; } layer K : { x := 0; } using x//K prove x//L; }", of_maps (Now ∷ []) ∷ of_maps [] ∷ []) ∷
+    -- and no other
+    (codes "module main() { a, b : boolean; layer L : { a := 0; } layer K : { a := 0; b := 0; } using a//K, b//K prove a//L; }", of_maps (Now ∷ Before ∷ []) ∷ of_maps [] ∷ of_maps [] ∷ []) ∷
+    -- what the layer reads in `init`, in a condition, and in `next`
+    (codes "module main() { a, b : boolean; layer spec : { init(a) := b; b := 0; } using b//spec prove a//spec; }", of_maps (Now ∷ []) ∷ of_maps [] ∷ []) ∷
+    (codes "module main() { a, b : boolean; layer spec : { if (b) a := 0; b := 0; } using b//spec prove a//spec; }", of_maps (Now ∷ []) ∷ of_maps [] ∷ []) ∷
+    (codes "module main() { a, b : boolean; layer spec : { next(a) := b; b := 0; } using b//spec prove a//spec; }", of_maps (Before ∷ []) ∷ of_maps [] ∷ []) ∷
+    -- a claim does not read b
+    (codes "module main() { b : boolean; layer L : { b := 0; } p : assert G 1; using b//L prove p; }", of_maps [] ∷ of_maps (Before ∷ []) ∷ []) ∷
+    -- a guard reads b in an index
+    (codes "module main() { x : array 0..1 of boolean; b : 0..1; layer L : { b := 0; } p : assert G 1; forall (i in 0..1) subcase s[i] of p for x[b] = i; using b//L prove s; }", of_maps [] ∷ of_maps (Now ∷ []) ∷ []) ∷
+    -- a claim that a claim uses reads b, outside parentheses and in them
+    (codes "module main() { b : boolean; layer L : { b := 0; } p : assert G 1; q : assert G b; using q, b//L prove p; }", of_maps [] ∷ times (Now ∷ []) (Now ∷ []) ∷ of_claims [] ∷ []) ∷
+    (codes "module main() { b : boolean; layer L : { b := 0; } p : assert G 1; q : assert G b; using (q), b//L prove p; }", of_maps [] ∷ times (Before ∷ []) (Before ∷ []) ∷ of_claims [] ∷ []) ∷
+    -- a definition that is chosen reads c, in `:=`, in `init`, and in `next`
+    (codes "module main() { a, b, c : boolean; a := b; layer spec : { a := 0; b := c; c := 0; } using b//spec, c//spec prove a//spec; }", of_maps (Now ∷ Now ∷ []) ∷ of_maps [] ∷ of_maps [] ∷ []) ∷
+    (codes "module main() { a, b, c : boolean; a := b; layer spec : { a := 0; init(b) := c; c := 0; } using b//spec, c//spec prove a//spec; }", of_maps (Now ∷ Now ∷ []) ∷ of_maps [] ∷ of_maps [] ∷ []) ∷
+    (codes "module main() { a, b, c : boolean; a := b; layer spec : { a := 0; next(b) := c; c := 0; } using b//spec, c//spec prove a//spec; }", of_maps (Now ∷ Before ∷ []) ∷ of_maps [] ∷ of_maps [] ∷ []) ∷ []
 
 -- uses whose time needs no graph
 abbrev pub settled : List (List ℕ × List Timed)

@@ -1,7 +1,9 @@
 // Worked texts, each group a clause of a function that does nothing.
-ghost use Rattle.worked_cases.specs.Worked.{AreTimed, HaveCases};
+ghost use Rattle.worked_cases.specs.Worked.{AreTimed, HaveCases, HaveDemands, HaveTypes, KeepLimits};
 ghost use Rattle.worked_cases.specs.WorkedCases as cases;
+ghost use Rattle.worked_cases.specs.WorkedDemands as demands;
 ghost use Rattle.worked_cases.specs.WorkedTimes as times;
+ghost use Rattle.worked_cases.specs.WorkedTypes as types;
 
 /// The times of the uses of each worked text.
 pub fn worked_times()
@@ -21,4 +23,17 @@ pub fn worked_cases()
     ensures others { HaveCases cases.others }
     ensures kept { HaveCases cases.kept }
     ensures tomasulo { HaveCases cases.tomasulo }
+{}
+
+/// The set types in the cases of each worked text, and the leaves with too many parameters or cases.
+pub fn worked_types()
+    ensures types { HaveTypes types.types }
+    ensures parameters { KeepLimits types.parameters }
+    ensures numbers { KeepLimits types.numbers }
+{}
+
+/// The definitions that are demanded in the cases of each worked text.
+pub fn worked_demands()
+    ensures itself { HaveDemands demands.itself }
+    ensures where_kept { HaveDemands demands.where_kept }
 {}
