@@ -4,7 +4,7 @@ use Rattle.std.specs.Prelude.{Option, Some, None, option_map, option_and_then, s
 use Rattle.smv_core.specs.Types.{find_name, names_of}
 use Rattle.smv_core.specs.declared.tree.Word.{Word}
 use Rattle.smv_core.specs.declared.tree.Span.{Span}
-use Rattle.smv_core.specs.declared.tree.Text.{Text}
+use Rattle.smv_scope.specs.declared.tables.Tables.{Tables as ScopeTables}
 use Rattle.smv_core.specs.declared.tree.Expr.{Expr}
 use Rattle.smv_core.specs.declared.tree.Part.{Part, Field as FieldPart, At}
 use Rattle.smv_core.specs.declared.tree.Field.{Field, out-Field}
@@ -93,12 +93,12 @@ module _ (types : Types) where
 
 -- ---- forms
 
-module _ (text : Text) (k : ℕ) where
+module _ (names : ScopeTables) (k : ℕ) where
   abbrev types : Types
-  types = types_before text k
+  types = types_before names.text.now k
 
   abbrev pub LeadsTo : TypeExpr → Form → Type 0
-  LeadsTo of f = (parts : List Part) → leads types of parts ≡ form_leads text f parts
+  LeadsTo of f = (parts : List Part) → leads types of parts ≡ form_leads names f parts
 
   pub form-Boolean : (of : TypeExpr) → of ≡ Boolean → LeadsTo of (form.Single kind.Number)
   form-Boolean of is parts = ap (λ t. leads types t parts) is ∙ leads-Boolean types parts
@@ -106,27 +106,27 @@ module _ (text : Text) (k : ℕ) where
   pub form-Range : (of : TypeExpr) (span : Span) (at : ℕ) → of ≡ Range span at → LeadsTo of (form.Single kind.Number)
   form-Range of span at is parts = ap (λ t. leads types t parts) is ∙ leads-Range types span at parts
 
-  pub form-Enum : (of : TypeExpr) (names : List Word) (at : ℕ) (held : Bor (List Word)) → of ≡ Enum names at → held.now ≡ names → LeadsTo of (form.Single (kind.Enumeration held))
-  form-Enum of names at held is same parts = ap (λ t. leads types t parts) is ∙ leads-Enum types names at parts ∙ ap (λ l. single (enumeration (names_of l)) parts) (sym same)
+  pub form-Enum : (of : TypeExpr) (words : List Word) (at : ℕ) (held : Bor (List Word)) → of ≡ Enum words at → held.now ≡ words → LeadsTo of (form.Single (kind.Enumeration held))
+  form-Enum of words at held is same parts = ap (λ t. leads types t parts) is ∙ leads-Enum types words at parts ∙ ap (λ l. single (enumeration (names_of l)) parts) (sym same)
 
-  pub form-Named : (forms : List Form) (of : TypeExpr) (word : Word) (at found : ℕ) (numbered : Option ℕ) (f : Form) → AreForms text forms → of ≡ Named word at
-      → numbered ≡ type_before (types_in 0 text.tops) k word.name → numbered ≡ Some found → slice_get forms found ≡ Some f → LeadsTo of f
+  pub form-Named : (forms : List Form) (of : TypeExpr) (word : Word) (at found : ℕ) (numbered : Option ℕ) (f : Form) → AreForms names forms → of ≡ Named word at
+      → numbered ≡ type_before (types_in 0 names.text.now.tops) k word.name → numbered ≡ Some found → slice_get forms found ≡ Some f → LeadsTo of f
   form-Named forms of word at found numbered f known is same some got parts =
-      ap (λ t. leads types t parts) is ∙ leads-Named types word at parts ∙ named-leads text k word.name parts
-      ∙ ap (λ o. option_and_then (λ i. leads_at text i parts) o) (sym same ∙ some) ∙ known found f got parts
+      ap (λ t. leads types t parts) is ∙ leads-Named types word at parts ∙ named-leads names.text.now k word.name parts
+      ∙ ap (λ o. option_and_then (λ i. leads_at names.text.now i parts) o) (sym same ∙ some) ∙ known found f got parts
 
-  pub form-none : (of : TypeExpr) (word : Word) (at : ℕ) (numbered : Option ℕ) → of ≡ Named word at → numbered ≡ type_before (types_in 0 text.tops) k word.name → numbered ≡ None → LeadsTo of form.Nothing
+  pub form-none : (of : TypeExpr) (word : Word) (at : ℕ) (numbered : Option ℕ) → of ≡ Named word at → numbered ≡ type_before (types_in 0 names.text.now.tops) k word.name → numbered ≡ None → LeadsTo of form.Nothing
   form-none of word at numbered is same none parts =
-      ap (λ t. leads types t parts) is ∙ leads-Named types word at parts ∙ named-leads text k word.name parts ∙ ap (λ o. option_and_then (λ i. leads_at text i parts) o) (sym same ∙ none)
+      ap (λ t. leads types t parts) is ∙ leads-Named types word at parts ∙ named-leads names.text.now k word.name parts ∙ ap (λ o. option_and_then (λ i. leads_at names.text.now i parts) o) (sym same ∙ none)
 
   pub form-Array : (of index inner : TypeExpr) (held : Bor TypeExpr) (index_held : TypeExpr) (f : Form) (found : ValueKind) → of ≡ Array index inner → index_held ≡ index → held.now ≡ inner
-      → LeadsTo index_held f → ((t : Text) → kind_of found ≡ value_kind (form_leads t f [])) → LeadsTo of (form.Array found held k)
+      → LeadsTo index_held f → ((t : ScopeTables) → kind_of t found ≡ value_kind (form_leads t f [])) → LeadsTo of (form.Array found held k)
   form-Array of index inner held index_held f found is same_index same known kinds [] = ap (λ t. leads types t []) is ∙ leads-Array-end types index inner
   form-Array of index inner held index_held f found is same_index same known kinds (FieldPart word ∷ parts) = ap (λ t. leads types t (FieldPart word ∷ parts)) is ∙ leads-Array-field types index inner word parts
   form-Array of index inner held index_held f found is same_index same known kinds (At e ∷ parts) =
       ap (λ t. leads types t (At e ∷ parts)) is ∙ leads-Array types index inner e parts
-      ∙ ap (λ kind. option_map (under kind) (leads types inner parts)) (ap (λ t. value_kind (leads types t [])) (sym same_index) ∙ ap value_kind (known []) ∙ sym (kinds text))
-      ∙ ap (λ t. option_map (under (kind_of found)) (leads types t parts)) (sym same)
+      ∙ ap (λ kind. option_map (under kind) (leads types inner parts)) (ap (λ t. value_kind (leads types t [])) (sym same_index) ∙ ap value_kind (known []) ∙ sym (kinds names))
+      ∙ ap (λ t. option_map (under (kind_of names found)) (leads types t parts)) (sym same)
 
   pub form-Struct : (of : TypeExpr) (fields : List Field) (held : Bor (List Field)) → of ≡ Struct fields → held.now ≡ fields → LeadsTo of (form.Struct held k)
   form-Struct of fields held is same [] = ap (λ t. leads types t []) is ∙ leads-Struct-end types fields

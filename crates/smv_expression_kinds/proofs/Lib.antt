@@ -3,3 +3,5 @@ pub mod FormLaws
 pub mod PathLaws
 pub mod OwnLaws
 pub mod ScopeLaws
+pub mod ListLaws
+pub mod OwnedLaws

@@ -4,7 +4,7 @@ use Rattle.std.specs.Prelude.{Option, Some, None, option_map, option_and_then}
 use Rattle.std.proofs.lemmas.List.{append-nil, append_assoc}
 use Rattle.smv_core.specs.declared.tree.Word.{Word}
 use Rattle.smv_core.specs.declared.tree.Expr.{Expr}
-use Rattle.smv_core.specs.declared.tree.Text.{Text}
+use Rattle.smv_scope.specs.declared.tables.Tables.{Tables as ScopeTables}
 use Rattle.smv_core.specs.declared.tree.Part.{Part, Field as FieldPart, At}
 use Rattle.smv_core.specs.declared.tree.Field.{Field, out-Field}
 use Rattle.smv_core.specs.declared.tree.TypeExpr.{TypeExpr}
@@ -19,35 +19,35 @@ use Rattle.smv_expression_kinds.specs.Found.{whole_in, behind_over}
 use Rattle.smv_expression_kinds.proofs.FormLaws.{LeadsTo}
 
 -- what a form leads to over these index kinds
-abbrev pub over_leads : Text → List Kind → Form → List Part → Option Whole
-over_leads text over f parts = option_map (behind_over over) (form_leads text f parts)
+abbrev pub over_leads : ScopeTables → List Kind → Form → List Part → Option Whole
+over_leads names over f parts = option_map (behind_over over) (form_leads names f parts)
 
-pub alone-is : (text : Text) (over : List Kind) (f : Form) (kind : ValueKind) (w : Whole) → f ≡ form.Single kind → w ≡ whole_in over (kind_of kind) → Some w ≡ over_leads text over f []
-alone-is text over f kind w is same = ap Some (same ∙ ap (λ l. whole_in l (kind_of kind)) (sym (append-nil over))) ∙ ap (λ g. over_leads text over g []) (sym is)
+pub alone-is : (names : ScopeTables) (over : List Kind) (f : Form) (kind : ValueKind) (w : Whole) → f ≡ form.Single kind → w ≡ whole_in over (kind_of names kind) → Some w ≡ over_leads names over f []
+alone-is names over f kind w is same = ap Some (same ∙ ap (λ l. whole_in l (kind_of names kind)) (sym (append-nil over))) ∙ ap (λ g. over_leads names over g []) (sym is)
 
 under-over : (over : List Kind) (kind : Kind) (o : Option Whole) → option_map (behind_over over) (option_map (under kind) o) ≡ option_map (behind_over (over ++ kind ∷ [])) o
 under-over over kind None = refl
 under-over over kind (Some w) = ap (λ l. Some (whole_in l w.value)) (sym (append_assoc over (kind ∷ []) w.over))
 
-pub index-leads : (text : Text) (over over' : List Kind) (f g : Form) (index : ValueKind) (of : Bor TypeExpr) (place : ℕ) → f ≡ form.Array index of place → over' ≡ over ++ kind_of index ∷ []
-    → LeadsTo text place of.now g → (e : Expr) (parts : List Part) → over_leads text over f (At e ∷ parts) ≡ over_leads text over' g parts
-index-leads text over over' f g index of place is more known e parts =
-    ap (λ h. over_leads text over h (At e ∷ parts)) is ∙ under-over over (kind_of index) (leads (types_before text place) of.now parts)
-    ∙ ap (option_map (behind_over (over ++ kind_of index ∷ []))) (known parts) ∙ ap (λ l. option_map (behind_over l) (form_leads text g parts)) (sym more)
+pub index-leads : (names : ScopeTables) (over over' : List Kind) (f g : Form) (index : ValueKind) (of : Bor TypeExpr) (place : ℕ) → f ≡ form.Array index of place → over' ≡ over ++ kind_of names index ∷ []
+    → LeadsTo names place of.now g → (e : Expr) (parts : List Part) → over_leads names over f (At e ∷ parts) ≡ over_leads names over' g parts
+index-leads names over over' f g index of place is more known e parts =
+    ap (λ h. over_leads names over h (At e ∷ parts)) is ∙ under-over over (kind_of names index) (leads (types_before names.text.now place) of.now parts)
+    ∙ ap (option_map (behind_over (over ++ kind_of names index ∷ []))) (known parts) ∙ ap (λ l. option_map (behind_over l) (form_leads names g parts)) (sym more)
 
-pub field-leads : (text : Text) (over : List Kind) (f g : Form) (fields : Bor (List Field)) (place : ℕ) (word : Word) (found : Option (Bor Field)) (field : Bor Field) (of : TypeExpr) → f ≡ form.Struct fields place
-    → option_map (λ (field : Bor Field). field.now) found ≡ field_named fields.now word.name → found ≡ Some field → of ≡ (out-Field field.now).of → LeadsTo text place of g
-    → (parts : List Part) → over_leads text over f (FieldPart word ∷ parts) ≡ over_leads text over g parts
-field-leads text over f g fields place word found field of is named some same known parts =
-    ap (λ h. over_leads text over h (FieldPart word ∷ parts)) is
-    ∙ ap (λ o. option_map (behind_over over) (option_and_then (λ field. leads (types_before text place) (out-Field field).of parts) o)) (sym named ∙ ap (option_map (λ (field : Bor Field). field.now)) some)
-    ∙ ap (λ t. option_map (behind_over over) (leads (types_before text place) t parts)) (sym same) ∙ ap (option_map (behind_over over)) (known parts)
+pub field-leads : (names : ScopeTables) (over : List Kind) (f g : Form) (fields : Bor (List Field)) (place : ℕ) (word : Word) (found : Option (Bor Field)) (field : Bor Field) (of : TypeExpr) → f ≡ form.Struct fields place
+    → option_map (λ (field : Bor Field). field.now) found ≡ field_named fields.now word.name → found ≡ Some field → of ≡ (out-Field field.now).of → LeadsTo names place of g
+    → (parts : List Part) → over_leads names over f (FieldPart word ∷ parts) ≡ over_leads names over g parts
+field-leads names over f g fields place word found field of is named some same known parts =
+    ap (λ h. over_leads names over h (FieldPart word ∷ parts)) is
+    ∙ ap (λ o. option_map (behind_over over) (option_and_then (λ field. leads (types_before names.text.now place) (out-Field field).of parts) o)) (sym named ∙ ap (option_map (λ (field : Bor Field). field.now)) some)
+    ∙ ap (λ t. option_map (behind_over over) (leads (types_before names.text.now place) t parts)) (sym same) ∙ ap (option_map (behind_over over)) (known parts)
 
-pub field-none : (text : Text) (over : List Kind) (f : Form) (fields : Bor (List Field)) (place : ℕ) (word : Word) (found : Option (Bor Field)) → f ≡ form.Struct fields place
-    → option_map (λ (field : Bor Field). field.now) found ≡ field_named fields.now word.name → found ≡ None → (parts : List Part) → over_leads text over f (FieldPart word ∷ parts) ≡ None
-field-none text over f fields place word found is named none parts =
-    ap (λ h. over_leads text over h (FieldPart word ∷ parts)) is
-    ∙ ap (λ o. option_map (behind_over over) (option_and_then (λ field. leads (types_before text place) (out-Field field).of parts) o)) (sym named ∙ ap (option_map (λ (field : Bor Field). field.now)) none)
+pub field-none : (names : ScopeTables) (over : List Kind) (f : Form) (fields : Bor (List Field)) (place : ℕ) (word : Word) (found : Option (Bor Field)) → f ≡ form.Struct fields place
+    → option_map (λ (field : Bor Field). field.now) found ≡ field_named fields.now word.name → found ≡ None → (parts : List Part) → over_leads names over f (FieldPart word ∷ parts) ≡ None
+field-none names over f fields place word found is named none parts =
+    ap (λ h. over_leads names over h (FieldPart word ∷ parts)) is
+    ∙ ap (λ o. option_map (behind_over over) (option_and_then (λ field. leads (types_before names.text.now place) (out-Field field).of parts) o)) (sym named ∙ ap (option_map (λ (field : Bor Field). field.now)) none)
 
 -- ---- parts, one after the other
 

@@ -194,8 +194,8 @@ module _ (text : Text) (lists : List (Bor (List Word))) (held : List (Name × He
   constant-out none = ap enumerated (constant-found text lists held same name None (sym none))
 
 pub constant-alone : (scope : HeldScope) (parts : List Part) (word : Word) (kind : Option ValueKind) → lone parts ≡ Some word
-    → option_map kind_of kind ≡ option_map (λ (c : Constant). enumeration c.names) (find_name (constants (pieces scope.tables.now.names.text.now)) word.name)
-    → constant_at (scope_of scope) parts ≡ option_map (λ kind. whole_in [] (kind_of kind)) kind
+    → option_map (kind_of scope.tables.now.names) kind ≡ option_map (λ (c : Constant). enumeration c.names) (find_name (constants (pieces scope.tables.now.names.text.now)) word.name)
+    → constant_at (scope_of scope) parts ≡ option_map (λ kind. whole_in [] (kind_of scope.tables.now.names kind)) kind
 constant-alone scope parts word kind alone kinds =
     constant-lone (scope_of scope) parts
     ∙ ap (option_and_then (λ (word : Word). option_map (λ (c : Constant). whole_in [] (enumeration c.names)) (find_name (scope_of scope).constants word.name))) alone
@@ -208,7 +208,7 @@ constant-alone scope parts word kind alone kinds =
     split None = refl
     split (Some c) = refl
 
-    join : (o : Option ValueKind) → option_map (whole_in []) (option_map kind_of o) ≡ option_map (λ kind. whole_in [] (kind_of kind)) o
+    join : (o : Option ValueKind) → option_map (whole_in []) (option_map (kind_of scope.tables.now.names) o) ≡ option_map (λ kind. whole_in [] (kind_of scope.tables.now.names kind)) o
     join None = refl
     join (Some kind) = refl
 

@@ -1,4 +1,4 @@
--- What types lead to, by the tops in which they stand.
+-- What types lead to, by the tops in which they stand, and what the tables of a text keep.
 use Rattle.std.specs.Prelude.{◌≡◌, ℕ, ◌+◌, List, [], ◌∷◌, take, length, slice_get, Option, Some, None, option_map, option_and_then, if◌then◌else◌, nat_lt, not, Bool}
 use Rattle.smv_core.specs.Values.{Name}
 use Rattle.smv_core.specs.Types.{find_name, names_of}
@@ -12,21 +12,25 @@ use Rattle.smv_instances.specs.NameFaults.{place_if}
 use Rattle.smv_instances.specs.FirstFault.{faults_at}
 use Rattle.smv_scope.specs.Numbered.{field_named}
 use Rattle.smv_scope.specs.Held.{AreTables}
+use Rattle.smv_scope.specs.Compared.{listed}
+use Rattle.smv_scope.specs.declared.tables.Tables.{Tables as ScopeTables}
 use Rattle.law_kinds.specs.Kinds.{Kind, number, enumeration, set_type, no_kind}
 use Rattle.law_kinds.specs.Types.{Types, Leads, single, under, leads, types_after}
 use Rattle.law_kinds.specs.References.{Module, module_of}
+use Rattle.law_enumerations.specs.Owned.{LeadsOwned}
 use Rattle.smv_expression_kinds.specs.declared.kinds.ValueKind.{ValueKind}
-use Rattle.smv_expression_kinds.specs.declared.kinds.ValueKind.TheVariants.{Number, Enumeration, SetType, Unknown}
+use Rattle.smv_expression_kinds.specs.declared.kinds.ValueKind.TheVariants.{Number, Enumeration, Listed, SetType, Unknown}
 use Rattle.smv_expression_kinds.specs.declared.tables.Form.{Form}
 use Rattle.smv_expression_kinds.specs.declared.tables.Form.TheVariants.{Single, Array, Struct}
 use Rattle.smv_expression_kinds.specs.declared.tables.Tables.{Tables}
 
--- a kind
-abbrev pub kind_of : ValueKind → Kind
-kind_of Number = number
-kind_of (Enumeration names) = enumeration (names_of names.now)
-kind_of (SetType name) = set_type name.now
-kind_of Unknown = no_kind
+-- a kind, where a list of constants may be held by its number in these tables
+abbrev pub kind_of : ScopeTables → ValueKind → Kind
+kind_of names Number = number
+kind_of names (Enumeration words) = enumeration (names_of words.now)
+kind_of names (Listed list) = enumeration (listed names.lists.items list)
+kind_of names (SetType name) = set_type name.now
+kind_of names Unknown = no_kind
 
 -- fault 12 at what does not fit
 unfoldable pub misfit : Bool → ℕ → List Fault
@@ -58,15 +62,15 @@ module_in types (Some (ModuleOf word formals body at)) = module_of types formals
 module_in types _ = record { formals = []; types = types; own = [] }
 
 -- what a form leads to
-abbrev pub form_leads : Text → Form → Leads
-form_leads text (Single kind) parts = single (kind_of kind) parts
-form_leads text (Array index of place) (At e ∷ parts) = option_map (under (kind_of index)) (leads (types_before text place) of.now parts)
-form_leads text (Struct fields place) (Field word ∷ parts) = option_and_then (λ field. leads (types_before text place) (out-Field field).of parts) (field_named fields.now word.name)
-form_leads text _ _ = None
+abbrev pub form_leads : ScopeTables → Form → Leads
+form_leads names (Single kind) parts = single (kind_of names kind) parts
+form_leads names (Array index of place) (At e ∷ parts) = option_map (under (kind_of names index)) (leads (types_before names.text.now place) of.now parts)
+form_leads names (Struct fields place) (Field word ∷ parts) = option_and_then (λ field. leads (types_before names.text.now place) (out-Field field).of parts) (field_named fields.now word.name)
+form_leads names _ _ = None
 
 -- each top has its form
-abbrev pub AreForms : Text → List Form → Type 0
-AreForms text forms = (i : ℕ) (form : Form) → slice_get forms i ≡ Some form → (parts : List Part) → leads_at text i parts ≡ form_leads text form parts
+abbrev pub AreForms : ScopeTables → List Form → Type 0
+AreForms names forms = (i : ℕ) (form : Form) → slice_get forms i ≡ Some form → (parts : List Part) → leads_at names.text.now i parts ≡ form_leads names form parts
 
 -- the types among some tops, each by its number, which count from this one
 abbrev pub types_in : ℕ → List Top → List (Name × ℕ)
@@ -85,10 +89,15 @@ modules_in n (_ ∷ tops) = modules_in (n + 1) tops
 abbrev pub type_before : List (Name × ℕ) → ℕ → Name → Option ℕ
 type_before types place name = option_and_then (λ i. if nat_lt i place then Some i else None) (find_name types name)
 
+-- each signal of a text that is of an enumeration has the list to which the first constant of the enumeration belongs
+abbrev pub AreOwned : Text → Type 0
+AreOwned text = (place : ℕ) → LeadsOwned text (module_in (types_before text place) (slice_get text.tops place))
+
 -- the tables of a text
 pub record AreKindTables (tables : Tables) : Type 0 where
   pub names : AreTables tables.names
   pub types : tables.types ≡ types_in 0 tables.names.text.now.tops
   pub modules : tables.modules ≡ modules_in 0 tables.names.text.now.tops
-  pub forms : AreForms tables.names.text.now tables.forms.items
+  pub forms : AreForms tables.names tables.forms.items
   pub all : length tables.forms.items ≡ length tables.names.text.now.tops
+  pub owned : AreOwned tables.names.text.now

@@ -3,7 +3,6 @@ use Rattle.std.specs.Prelude.{ℕ, List, [], ◌∷◌, ◌++◌, map, slice_get
 use Rattle.smv_core.specs.declared.tree.Word.{Word}
 use Rattle.smv_core.specs.declared.tree.Text.{Text}
 use Rattle.smv_core.specs.declared.tree.Part.{Part, Field}
-use Rattle.smv_instances.specs.Scopes.{pieces, constants}
 use Rattle.law_kinds.specs.Kinds.{Kind}
 use Rattle.law_kinds.specs.Types.{Whole, Leads}
 use Rattle.law_kinds.specs.References.{modules_from, Scope, Vars, behind}
@@ -11,17 +10,19 @@ use Rattle.smv_expression_kinds.specs.Forms.{kind_of, types_before, module_in, f
 use Rattle.smv_expression_kinds.specs.declared.paths.Whole.{Whole as HeldWhole}
 use Rattle.smv_expression_kinds.specs.declared.paths.Reached.{Reached}
 use Rattle.smv_scope.specs.declared.paths.Inner.{Inner}
+use Rattle.smv_scope.specs.declared.tables.Tables.{Tables as ScopeTables}
+use Rattle.smv_instances.specs.Scopes.{pieces, constants}
 use Rattle.smv_instances.specs.Said.{said_of}
 use Rattle.smv_expression_kinds.specs.declared.lookups.Var.{Var}
 use Rattle.smv_expression_kinds.specs.declared.lookups.Scope.{Scope as HeldScope}
 
 -- the variables that are bound around, the innermost first
-unfoldable pub vars_of : List Var → Vars
-vars_of vars = map (λ var. (var.name.now, kind_of var.kind)) vars
+unfoldable pub vars_of : ScopeTables → List Var → Vars
+vars_of names vars = map (λ var. (var.name.now, kind_of names var.kind)) vars
 
 -- a whole reference to a single value
-abbrev pub whole_of : HeldWhole → Whole
-whole_of w = record { over = map kind_of w.over.items; value = kind_of w.value }
+abbrev pub whole_of : ScopeTables → HeldWhole → Whole
+whole_of names w = record { over = map (kind_of names) w.over.items; value = kind_of names w.value }
 
 -- ---- where something stands
 
@@ -52,8 +53,8 @@ abbrev pub behind_over : List Kind → Whole → Whole
 behind_over over w = record w { over = over ++ w.over }
 
 -- what stands behind some parts of a path
-abbrev pub reached_leads : Text → Reached → Leads
-reached_leads text reached parts = option_map (behind_over (map kind_of reached.over.items)) (form_leads text reached.form parts)
+abbrev pub reached_leads : ScopeTables → Reached → Leads
+reached_leads names reached parts = option_map (behind_over (map (kind_of names) reached.over.items)) (form_leads names reached.form parts)
 
 -- what stands behind a name of a module
 abbrev pub inner_leads : Text → Inner → Leads

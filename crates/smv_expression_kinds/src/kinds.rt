@@ -1,16 +1,19 @@
 // Kinds: what sort of value an operand has, and which fit together.
 ghost use Rattle.std.specs.Prelude.{◌≡◌, ◌++◌, IfOk, OnOk};
 ghost use Rattle.smv_core.specs.Types.{names_of};
-ghost use Rattle.smv_core.specs.Outcome.{same_path};
 ghost use Rattle.smv_instances.specs.NameFaults.{place_if};
 ghost use Rattle.smv_instances.specs.FirstFault.{faults_at};
 ghost use Rattle.law_kinds.specs.Kinds as spec;
 ghost use Rattle.law_kinds.specs.Types as types;
+ghost use Rattle.smv_scope.specs.Compared.{listed};
+ghost use Rattle.smv_scope.specs.declared.tables.Tables.{Tables as ScopeTables};
 ghost use Rattle.smv_expression_kinds.specs.Forms.{kind_of, misfit};
 
+use crate::lists::{list_of, same_lists, same_names};
 use smv_core::fault::Fault;
 use smv_core::name::Name;
 use smv_core::tree::Word;
+use smv_scope::tables::Tables as ScopeTables;
 use std::alloc::AllocError;
 
 /// What sort of value an operand has.
@@ -20,6 +23,8 @@ pub enum ValueKind<'a> {
     Number,
     /// A constant of the enumeration that lists these.
     Enumeration { names: &'a [Word] },
+    /// A constant of the list of this number in the tables of the text.
+    Listed { list: usize },
     /// A value of the set type of this name.
     SetType { name: &'a Name },
     /// None, where an operand is itself at fault.
@@ -33,29 +38,15 @@ pub struct Operand<'a> {
     pub at: u32,
 }
 
-// The names are the same, in their order.
-fn same_names(names: &[Word], others: &[Word]) -> bool
-    ensures { result ≡ same_path (names_of names.now) (names_of others.now) }
-{
-    if names.len() != others.len() {
-        return false;
-    }
-    for index in 0..names.len() {
-        if names[index].name != others[index].name {
-            return false;
-        }
-    }
-    true
-}
-
 // A number and a kind may stand side by side.
 #[tactic(auto, unfolding(law_kinds::specs::Kinds::joins))]
 fn joins_number(other: ValueKind) -> bool
-    ensures { result ≡ spec.joins spec.number (kind_of other.entry) }
+    ensures { (names : ScopeTables) → result ≡ spec.joins spec.number (kind_of names other.entry) }
 {
     match other {
         ValueKind::Number => true,
         ValueKind::Enumeration { .. } => false,
+        ValueKind::Listed { .. } => false,
         ValueKind::SetType { .. } => true,
         ValueKind::Unknown => true,
     }
@@ -63,12 +54,27 @@ fn joins_number(other: ValueKind) -> bool
 
 // A constant of an enumeration and a kind may stand side by side.
 #[tactic(auto, unfolding(law_kinds::specs::Kinds::joins))]
-fn joins_enumeration(names: &[Word], other: ValueKind) -> bool
-    ensures { result ≡ spec.joins (spec.enumeration (names_of names.now)) (kind_of other.entry) }
+fn joins_enumeration(names: &ScopeTables, words: &[Word], other: ValueKind) -> bool
+    ensures { result ≡ spec.joins (spec.enumeration (names_of words.now)) (kind_of names.now other.entry) }
 {
     match other {
         ValueKind::Number => false,
-        ValueKind::Enumeration { names: others } => same_names(names, others),
+        ValueKind::Enumeration { names: others } => same_names(words, others),
+        ValueKind::Listed { list } => same_names(words, list_of(names, list)),
+        ValueKind::SetType { .. } => false,
+        ValueKind::Unknown => true,
+    }
+}
+
+// A constant of the list of a number and a kind may stand side by side.
+#[tactic(auto, unfolding(law_kinds::specs::Kinds::joins))]
+fn joins_listed(names: &ScopeTables, list: usize, other: ValueKind) -> bool
+    ensures { result ≡ spec.joins (spec.enumeration (listed names.now.lists.items list)) (kind_of names.now other.entry) }
+{
+    match other {
+        ValueKind::Number => false,
+        ValueKind::Enumeration { names: others } => same_names(list_of(names, list), others),
+        ValueKind::Listed { list: other } => same_lists(names, list, other),
         ValueKind::SetType { .. } => false,
         ValueKind::Unknown => true,
     }
@@ -77,11 +83,12 @@ fn joins_enumeration(names: &[Word], other: ValueKind) -> bool
 // A value of a set type and a kind may stand side by side.
 #[tactic(auto, unfolding(law_kinds::specs::Kinds::joins))]
 fn joins_set_type(name: &Name, other: ValueKind) -> bool
-    ensures { result ≡ spec.joins (spec.set_type name.now) (kind_of other.entry) }
+    ensures { (names : ScopeTables) → result ≡ spec.joins (spec.set_type name.now) (kind_of names other.entry) }
 {
     match other {
         ValueKind::Number => true,
         ValueKind::Enumeration { .. } => false,
+        ValueKind::Listed { .. } => false,
         ValueKind::SetType { name: other } => *name == *other,
         ValueKind::Unknown => true,
     }
@@ -89,12 +96,13 @@ fn joins_set_type(name: &Name, other: ValueKind) -> bool
 
 /// Two kinds may stand side by side.
 #[tactic(auto, unfolding(law_kinds::specs::Kinds::joins))]
-pub fn joins(kind: ValueKind, other: ValueKind) -> bool
-    ensures { result ≡ spec.joins (kind_of kind.entry) (kind_of other.entry) }
+pub fn joins(names: &ScopeTables, kind: ValueKind, other: ValueKind) -> bool
+    ensures { result ≡ spec.joins (kind_of names.now kind.entry) (kind_of names.now other.entry) }
 {
     match kind {
         ValueKind::Number => joins_number(other),
-        ValueKind::Enumeration { names } => joins_enumeration(names, other),
+        ValueKind::Enumeration { names: words } => joins_enumeration(names, words, other),
+        ValueKind::Listed { list } => joins_listed(names, list, other),
         ValueKind::SetType { name } => joins_set_type(name, other),
         ValueKind::Unknown => true,
     }
@@ -103,16 +111,18 @@ pub fn joins(kind: ValueKind, other: ValueKind) -> bool
 /// The kind of two together.
 #[tactic(auto, unfolding(law_kinds::specs::Kinds::joined))]
 pub fn joined<'a>(kind: ValueKind<'a>, other: ValueKind<'a>) -> ValueKind<'a>
-    ensures { kind_of result ≡ spec.joined (kind_of kind.entry) (kind_of other.entry) }
+    ensures { (names : ScopeTables) → kind_of names result ≡ spec.joined (kind_of names kind.entry) (kind_of names other.entry) }
 {
     match kind {
         ValueKind::Number => match other {
             ValueKind::SetType { name } => ValueKind::SetType { name },
             ValueKind::Number => kind,
             ValueKind::Enumeration { .. } => kind,
+            ValueKind::Listed { .. } => kind,
             ValueKind::Unknown => kind,
         },
         ValueKind::Enumeration { .. } => kind,
+        ValueKind::Listed { .. } => kind,
         ValueKind::SetType { .. } => kind,
         ValueKind::Unknown => other,
     }
@@ -121,11 +131,12 @@ pub fn joined<'a>(kind: ValueKind<'a>, other: ValueKind<'a>) -> ValueKind<'a>
 /// It may stand where a number is wanted.
 #[tactic(auto, unfolding(law_kinds::specs::Kinds::is_number, law_kinds::specs::Kinds::accepts, law_kinds::specs::Kinds::joins))]
 pub fn is_number(kind: ValueKind) -> bool
-    ensures { result ≡ spec.is_number (kind_of kind.entry) }
+    ensures { (names : ScopeTables) → result ≡ spec.is_number (kind_of names kind.entry) }
 {
     match kind {
         ValueKind::Number => true,
         ValueKind::Enumeration { .. } => false,
+        ValueKind::Listed { .. } => false,
         ValueKind::SetType { .. } => false,
         ValueKind::Unknown => true,
     }
@@ -133,12 +144,13 @@ pub fn is_number(kind: ValueKind) -> bool
 
 /// What is of the first kind takes a value of the second.
 #[tactic(auto, unfolding(law_kinds::specs::Kinds::accepts, law_kinds::specs::Kinds::joins, law_kinds::specs::Kinds::is_number))]
-pub fn accepts(target: ValueKind, kind: ValueKind) -> bool
-    ensures { result ≡ spec.accepts (kind_of target.entry) (kind_of kind.entry) }
+pub fn accepts(names: &ScopeTables, target: ValueKind, kind: ValueKind) -> bool
+    ensures { result ≡ spec.accepts (kind_of names.now target.entry) (kind_of names.now kind.entry) }
 {
     match target {
         ValueKind::Number => is_number(kind),
-        ValueKind::Enumeration { names } => joins_enumeration(names, kind),
+        ValueKind::Enumeration { names: words } => joins_enumeration(names, words, kind),
+        ValueKind::Listed { list } => joins_listed(names, list, kind),
         ValueKind::SetType { name } => joins_set_type(name, kind),
         ValueKind::Unknown => true,
     }
@@ -147,11 +159,12 @@ pub fn accepts(target: ValueKind, kind: ValueKind) -> bool
 /// It may stand beside an order.
 #[tactic(auto, unfolding(law_kinds::specs::Kinds::has_order))]
 pub fn has_order(kind: ValueKind) -> bool
-    ensures { result ≡ spec.has_order (kind_of kind.entry) }
+    ensures { (names : ScopeTables) → result ≡ spec.has_order (kind_of names kind.entry) }
 {
     match kind {
         ValueKind::Number => true,
         ValueKind::Enumeration { .. } => false,
+        ValueKind::Listed { .. } => false,
         ValueKind::SetType { .. } => true,
         ValueKind::Unknown => true,
     }
@@ -159,11 +172,12 @@ pub fn has_order(kind: ValueKind) -> bool
 
 /// It is the kind of an index type.
 pub fn is_index(kind: ValueKind) -> bool
-    ensures { result ≡ types.is_index (kind_of kind.entry) }
+    ensures { (names : ScopeTables) → result ≡ types.is_index (kind_of names kind.entry) }
 {
     match kind {
         ValueKind::Number => true,
         ValueKind::Enumeration { .. } => false,
+        ValueKind::Listed { .. } => false,
         ValueKind::SetType { .. } => true,
         ValueKind::Unknown => false,
     }
@@ -189,41 +203,47 @@ fn misfit_unless(out: &mut Vec<Fault>, fits: bool, at: u32) -> Result<(), AllocE
 
 /// Fault 12 at an operand that is no number.
 pub fn takes_number(out: &mut Vec<Fault>, e: Operand) -> Result<(), AllocError>
-    ensures { OnOk result (out.new.items ≡ out.old.items ++ misfit (spec.is_number (kind_of e.entry.kind)) e.entry.at) }
+    ensures { (names : ScopeTables) → OnOk result (out.new.items ≡ out.old.items ++ misfit (spec.is_number (kind_of names e.entry.kind)) e.entry.at) }
 {
     misfit_unless(out, is_number(e.kind), e.at)
 }
 
 /// Fault 12 at an operand that this kind does not take.
-pub fn takes(out: &mut Vec<Fault>, kind: ValueKind, e: Operand) -> Result<(), AllocError>
-    ensures { OnOk result (out.new.items ≡ out.old.items ++ misfit (spec.accepts (kind_of kind.entry) (kind_of e.entry.kind)) e.entry.at) }
+pub fn takes(
+    names: &ScopeTables,
+    out: &mut Vec<Fault>,
+    kind: ValueKind,
+    e: Operand,
+) -> Result<(), AllocError>
+    ensures { OnOk result (out.new.items ≡ out.old.items ++ misfit (spec.accepts (kind_of names.now kind.entry) (kind_of names.now e.entry.kind)) e.entry.at) }
 {
-    misfit_unless(out, accepts(kind, e.kind), e.at)
+    misfit_unless(out, accepts(names, kind, e.kind), e.at)
 }
 
 /// Fault 12 at an operand that does not fit those before it, and the kind of all together.
 pub fn fits<'a>(
+    names: &ScopeTables<'a, '_>,
     out: &mut Vec<Fault>,
     kind: ValueKind<'a>,
     e: Operand<'a>,
 ) -> Result<ValueKind<'a>, AllocError>
-    ensures kind { IfOk result (λ all. kind_of all ≡ spec.joined (kind_of kind.entry) (kind_of e.entry.kind)) }
-    ensures faults { OnOk result (out.new.items ≡ out.old.items ++ misfit (spec.joins (kind_of kind.entry) (kind_of e.entry.kind)) e.entry.at) }
+    ensures kind { IfOk result (λ all. kind_of names.now all ≡ spec.joined (kind_of names.now kind.entry) (kind_of names.now e.entry.kind)) }
+    ensures faults { OnOk result (out.new.items ≡ out.old.items ++ misfit (spec.joins (kind_of names.now kind.entry) (kind_of names.now e.entry.kind)) e.entry.at) }
 {
-    misfit_unless(out, joins(kind, e.kind), e.at)?;
+    misfit_unless(out, joins(names, kind, e.kind), e.at)?;
     Ok(joined(kind, e.kind))
 }
 
 /// Fault 12 at an operand that may not stand beside an order.
 pub fn takes_order(out: &mut Vec<Fault>, e: Operand) -> Result<(), AllocError>
-    ensures { OnOk result (out.new.items ≡ out.old.items ++ misfit (spec.has_order (kind_of e.entry.kind)) e.entry.at) }
+    ensures { (names : ScopeTables) → OnOk result (out.new.items ≡ out.old.items ++ misfit (spec.has_order (kind_of names e.entry.kind)) e.entry.at) }
 {
     misfit_unless(out, has_order(e.kind), e.at)
 }
 
 /// A number that begins at this place.
 pub fn number_at(at: u32) -> Operand<'static>
-    ensures kind { kind_of result.kind ≡ spec.number }
+    ensures kind { (names : ScopeTables) → kind_of names result.kind ≡ spec.number }
     ensures at { result.at ≡ at }
 {
     Operand {

@@ -4,6 +4,7 @@
 #![tactic(auto)]
 
 pub mod kinds;
+pub mod lists;
 pub mod lookups;
 pub mod paths;
 pub mod tables;

@@ -1,18 +1,20 @@
 // What names lead to.
 ghost use Rattle.std.specs.Prelude.{◌≡◌, ◌∷◌, [], option_map, option_and_then, IfOk};
 ghost use Rattle.smv_core.specs.Types.{find_name};
-ghost use Rattle.smv_core.specs.declared.tree.Text.{Text};
+ghost use Rattle.smv_scope.specs.declared.tables.Tables.{Tables as ScopeTables};
 ghost use Rattle.smv_instances.specs.Scopes.{constants, pieces};
 ghost use Rattle.smv_scope.specs.Held.{AreTables};
 ghost use Rattle.law_kinds.specs.Kinds as kinds;
 ghost use Rattle.law_kinds.specs.Types as types;
 ghost use Rattle.law_kinds.specs.References as references;
 ghost use Rattle.smv_expression_kinds.specs.Forms.{kind_of, form_leads, AreKindTables};
+ghost use Rattle.law_enumerations.specs.Owned.{IsOwned};
 ghost use Rattle.smv_expression_kinds.specs.Found.{vars_of, whole_of, scope_of, moved, lone};
 
 use crate::kinds::ValueKind;
+use crate::lists::{numbered, numbered_by_first};
 use crate::paths::{Whole, behind, form_in, own_in, single};
-use crate::tables::{Form, Tables};
+use crate::tables::{Form, Tables, kind_of_form};
 use smv_core::name::Name;
 use smv_core::tree::{Part, Top, TypeExpr, Word};
 use smv_scope::paths::Inner;
@@ -46,7 +48,7 @@ fn lone_name(parts: &[Part]) -> Option<&Word>
 // The kind of a variable, the innermost of its name.
 #[tactic(auto, unfolding(crate::specs::Found::vars_of))]
 fn variable_kind<'a>(vars: &[Var<'a>], name: &Name) -> Option<ValueKind<'a>>
-    ensures { option_map kind_of result ≡ find_name (vars_of vars.now) name.now }
+    ensures { (names : ScopeTables) → option_map (kind_of names) result ≡ find_name (vars_of names vars.now) name.now }
 {
     for var in vars {
         if *var.name == *name {
@@ -57,22 +59,21 @@ fn variable_kind<'a>(vars: &[Var<'a>], name: &Name) -> Option<ValueKind<'a>>
 }
 
 // The kind of a constant, by the list in which it stands first.
-fn constant_kind<'a>(name: &Name, tables: &ScopeTables<'a, '_>) -> Option<ValueKind<'a>>
-    requires { AreTables tables.now }
-    ensures { option_map kind_of result ≡ option_map (λ c. kinds.enumeration c.names) (find_name (constants (pieces tables.now.text.now)) name.now) }
+fn constant_kind<'a>(name: &Name, names: &ScopeTables<'a, '_>) -> Option<ValueKind<'a>>
+    requires { AreTables names.now }
+    ensures { option_map (kind_of names.now) result ≡ option_map (λ c. kinds.enumeration c.names) (find_name (constants (pieces names.now.text.now)) name.now) }
 {
-    match tables.constants.find(name) {
+    match names.constants.find(name) {
         None => None,
-        Some(constant) => match item_at(tables.lists.as_slice(), constant.list) {
-            None => Some(ValueKind::Enumeration { names: &[] }),
-            Some(names) => Some(ValueKind::Enumeration { names: *names }),
-        },
+        Some(constant) => Some(ValueKind::Listed {
+            list: constant.list,
+        }),
     }
 }
 
 // What a path leads to, where it is a variable.
 fn variable_reference<'a>(parts: &[Part], vars: &[Var<'a>], alloc: Global) -> Option<Whole<'a>>
-    ensures { (from : references.Scope) → option_map whole_of result ≡ references.variable_at from (vars_of vars.now) parts.now }
+    ensures { (names : ScopeTables) (from : references.Scope) → option_map (whole_of names) result ≡ references.variable_at from (vars_of names vars.now) parts.now }
 {
     match lone_name(parts) {
         None => None,
@@ -86,7 +87,7 @@ fn variable_reference<'a>(parts: &[Part], vars: &[Var<'a>], alloc: Global) -> Op
 // What a path leads to, where it is a constant.
 fn constant_reference<'a>(parts: &[Part], scope: &Scope<'a, '_>, alloc: Global) -> Option<Whole<'a>>
     requires { AreKindTables scope.now.tables.now }
-    ensures { option_map whole_of result ≡ references.constant_at (scope_of scope.now) parts.now }
+    ensures { option_map (whole_of scope.now.tables.now.names) result ≡ references.constant_at (scope_of scope.now) parts.now }
 {
     match lone_name(parts) {
         None => None,
@@ -97,14 +98,14 @@ fn constant_reference<'a>(parts: &[Part], scope: &Scope<'a, '_>, alloc: Global) 
     }
 }
 
-/// What a path leads to from its module on.
-pub fn signal_reference<'a>(
+// What a path leads to from its module on.
+fn found_signal<'a>(
     parts: &'a [Part],
     scope: &Scope<'a, '_>,
     alloc: Global,
 ) -> Result<Option<Whole<'a>>, AllocError>
     requires { AreKindTables scope.now.tables.now }
-    ensures { IfOk result (λ whole. option_map whole_of whole ≡ references.signal_at (scope_of scope.now) parts.now) }
+    ensures { IfOk result (λ whole. option_map (whole_of scope.now.tables.now.names) whole ≡ references.signal_at (scope_of scope.now) parts.now) }
 {
     match parts {
         [] => Ok(None),
@@ -126,6 +127,36 @@ pub fn signal_reference<'a>(
     }
 }
 
+// The same reference, by the number of its value's list.
+fn numbered_whole<'a>(names: &ScopeTables<'a, '_>, whole: Whole<'a>) -> Whole<'a>
+    requires tables { AreTables names.now }
+    requires owned { IsOwned (constants (pieces names.now.text.now)) (kind_of names.now whole.value) }
+    ensures { whole_of names.now result ≡ whole_of names.now whole.entry }
+{
+    let Whole { over, value } = whole;
+    let value = numbered_by_first(names, value);
+    single(over, value)
+}
+
+/// What a path leads to from its module on, by the number of its list where it has one.
+#[tactic(auto, using(crate::proofs::OwnedLaws::values))]
+pub fn signal_reference<'a>(
+    parts: &'a [Part],
+    scope: &Scope<'a, '_>,
+    alloc: Global,
+) -> Result<Option<Whole<'a>>, AllocError>
+    requires { AreKindTables scope.now.tables.now }
+    ensures { IfOk result (λ whole. option_map (whole_of scope.now.tables.now.names) whole ≡ references.signal_at (scope_of scope.now) parts.now) }
+{
+    match found_signal(parts, scope, alloc)? {
+        None => Ok(None),
+        Some(whole) => {
+            let whole = numbered_whole(&scope.tables.names, whole);
+            Ok(Some(whole))
+        }
+    }
+}
+
 /// What a path leads to.
 pub fn whole_reference<'a>(
     parts: &'a [Part],
@@ -134,7 +165,7 @@ pub fn whole_reference<'a>(
     alloc: Global,
 ) -> Result<Option<Whole<'a>>, AllocError>
     requires { AreKindTables scope.now.tables.now }
-    ensures { IfOk result (λ whole. option_map whole_of whole ≡ references.reference_at (scope_of scope.now) (vars_of vars.now) parts.now) }
+    ensures { IfOk result (λ whole. option_map (whole_of scope.now.tables.now.names) whole ≡ references.reference_at (scope_of scope.now) (vars_of scope.now.tables.now.names vars.now) parts.now) }
 {
     match variable_reference(parts, vars, alloc) {
         Some(whole) => Ok(Some(whole)),
@@ -147,7 +178,7 @@ pub fn whole_reference<'a>(
 
 // The kind of a form without indexes and fields.
 fn alone<'a>(form: Form<'a>) -> Option<ValueKind<'a>>
-    ensures { (text : Text) → option_map kind_of result ≡ option_map (λ (w : types.Whole). w.value) (form_leads text form.entry []) }
+    ensures { (names : ScopeTables) → option_map (kind_of names) result ≡ option_map (λ (w : types.Whole). w.value) (form_leads names form.entry []) }
 {
     match form {
         Form::Single { kind } => Some(kind),
@@ -161,9 +192,23 @@ fn alone<'a>(form: Form<'a>) -> Option<ValueKind<'a>>
 #[tactic(auto, using(crate::proofs::ScopeLaws::here))]
 pub fn single_kind<'a>(of: &'a TypeExpr, scope: &Scope<'a, '_>) -> Option<ValueKind<'a>>
     requires { AreKindTables scope.now.tables.now }
-    ensures { option_map kind_of result ≡ option_map (λ (w : types.Whole). w.value) (types.leads (scope_of scope.now).here.types of.now []) }
+    ensures { option_map (kind_of scope.now.tables.now.names) result ≡ option_map (λ (w : types.Whole). w.value) (types.leads (scope_of scope.now).here.types of.now []) }
 {
-    alone(form_in(of, scope.tables, scope.place))
+    match alone(form_in(of, scope.tables, scope.place)) {
+        None => None,
+        Some(kind) => Some(numbered(&scope.tables.names, kind)),
+    }
+}
+
+/// The kind of an index of a type whose first constant belongs to no other list, by the number of that list. It takes one step.
+#[tactic(auto, using(crate::proofs::ScopeLaws::here))]
+pub fn kind_by_first<'a>(of: &'a TypeExpr, scope: &Scope<'a, '_>) -> ValueKind<'a>
+    requires tables { AreKindTables scope.now.tables.now }
+    requires owned { IsOwned (constants (pieces scope.now.tables.now.names.text.now)) (types.index_kind (scope_of scope.now).here.types of.now) }
+    ensures { kind_of scope.now.tables.now.names result ≡ types.index_kind (scope_of scope.now).here.types of.now }
+{
+    let kind = kind_of_form(form_in(of, scope.tables, scope.place));
+    numbered_by_first(&scope.tables.names, kind)
 }
 
 /// The number of the top of the module of a name.

@@ -3,7 +3,7 @@ ghost use Rattle.std.specs.Prelude.{◌≡◌, ◌∷◌, ◌++◌, [], List, ma
 ghost use Rattle.smv_core.specs.Types.{find_name};
 ghost use Rattle.smv_core.specs.declared.tree.Part.{Part, Field, At};
 ghost use Rattle.smv_core.specs.declared.tree.Expr.{Expr};
-ghost use Rattle.smv_core.specs.declared.tree.Text.{Text};
+ghost use Rattle.smv_scope.specs.declared.tables.Tables.{Tables as ScopeTables};
 ghost use Rattle.smv_core.specs.declared.tree.Word.{Word};
 ghost use Rattle.smv_instances.specs.Mentions.{instance};
 ghost use Rattle.smv_instances.specs.Said.{said_of};
@@ -41,11 +41,11 @@ pub struct Reached<'a> {
 /// What stands behind a signal of a type that stands in the top of a number.
 pub fn form_in<'a>(of: &'a TypeExpr, tables: &Tables<'a, '_>, place: usize) -> Form<'a>
     requires { AreKindTables tables.now }
-    ensures { (parts : List Part) → leads (types_before tables.now.names.text.now place) of.now parts ≡ form_leads tables.now.names.text.now result parts }
+    ensures { (parts : List Part) → leads (types_before tables.now.names.text.now place) of.now parts ≡ form_leads tables.now.names result parts }
 {
     form_of(
         of,
-        tables.names.text,
+        &tables.names,
         &tables.types,
         tables.forms.as_slice(),
         place,
@@ -54,14 +54,14 @@ pub fn form_in<'a>(of: &'a TypeExpr, tables: &Tables<'a, '_>, place: usize) -> F
 
 /// A single value of this kind.
 pub fn single<'a>(over: Vec<ValueKind<'a>>, value: ValueKind<'a>) -> Whole<'a>
-    ensures { whole_of result ≡ whole_in (map kind_of over.entry.items) (kind_of value.entry) }
+    ensures { (names : ScopeTables) → whole_of names result ≡ whole_in (map (kind_of names) over.entry.items) (kind_of names value.entry) }
 {
     Whole { over, value }
 }
 
 // What a form leads to with nothing behind it.
 fn alone<'a>(reached: Reached<'a>) -> Option<Whole<'a>>
-    ensures { (text : Text) → option_map whole_of result ≡ reached_leads text reached.entry [] }
+    ensures { (names : ScopeTables) → option_map (whole_of names) result ≡ reached_leads names reached.entry [] }
 {
     let Reached { over, form } = reached;
     match form {
@@ -79,7 +79,7 @@ fn behind_field<'a>(
     reached: Reached<'a>,
 ) -> Option<Reached<'a>>
     requires { AreKindTables tables.now }
-    ensures { (parts : List Part) → reached_leads tables.now.names.text.now reached.entry (Field word.now ∷ parts) ≡ option_and_then (λ r. reached_leads tables.now.names.text.now r parts) result }
+    ensures { (parts : List Part) → reached_leads tables.now.names reached.entry (Field word.now ∷ parts) ≡ option_and_then (λ r. reached_leads tables.now.names r parts) result }
 {
     let Reached { over, form } = reached;
     match form {
@@ -102,7 +102,7 @@ fn behind_index<'a>(
     reached: Reached<'a>,
 ) -> Result<Option<Reached<'a>>, AllocError>
     requires { AreKindTables tables.now }
-    ensures { IfOk result (λ found. (e : Expr) (parts : List Part) → reached_leads tables.now.names.text.now reached.entry (At e ∷ parts) ≡ option_and_then (λ r. reached_leads tables.now.names.text.now r parts) found) }
+    ensures { IfOk result (λ found. (e : Expr) (parts : List Part) → reached_leads tables.now.names reached.entry (At e ∷ parts) ≡ option_and_then (λ r. reached_leads tables.now.names r parts) found) }
 {
     let Reached { over, form } = reached;
     match form {
@@ -127,7 +127,7 @@ fn behind_part<'a>(
     reached: Reached<'a>,
 ) -> Result<Option<Reached<'a>>, AllocError>
     requires { AreKindTables tables.now }
-    ensures { IfOk result (λ found. (parts : List Part) → reached_leads tables.now.names.text.now reached.entry (part.now ∷ parts) ≡ option_and_then (λ r. reached_leads tables.now.names.text.now r parts) found) }
+    ensures { IfOk result (λ found. (parts : List Part) → reached_leads tables.now.names reached.entry (part.now ∷ parts) ≡ option_and_then (λ r. reached_leads tables.now.names r parts) found) }
 {
     match part {
         Part::Field { name } => Ok(behind_field(name, tables, reached)),
@@ -142,7 +142,7 @@ pub fn walk<'a>(
     reached: Reached<'a>,
 ) -> Result<Option<Whole<'a>>, AllocError>
     requires { AreKindTables tables.now }
-    ensures { IfOk result (λ whole. option_map whole_of whole ≡ reached_leads tables.now.names.text.now reached.entry parts.now) }
+    ensures { IfOk result (λ whole. option_map (whole_of tables.now.names) whole ≡ reached_leads tables.now.names reached.entry parts.now) }
 {
     match parts {
         [] => Ok(alone(reached)),
@@ -191,7 +191,7 @@ pub fn behind<'a>(
     alloc: Global,
 ) -> Result<Option<Whole<'a>>, AllocError>
     requires { AreKindTables tables.now }
-    ensures { IfOk result (λ whole. option_map whole_of whole ≡ inner_leads tables.now.names.text.now inner.entry parts.now) }
+    ensures { IfOk result (λ whole. option_map (whole_of tables.now.names) whole ≡ inner_leads tables.now.names.text.now inner.entry parts.now) }
 {
     match inner.own.what {
         What::Goal => Ok(None),

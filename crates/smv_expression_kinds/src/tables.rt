@@ -1,12 +1,16 @@
 // The tables in which types, modules and names are looked up.
-ghost use Rattle.std.specs.Prelude.{◌≡◌, ◌≤◌, ◌<◌, ◌++◌, ◌∷◌, [], List, length, slice_get, min, map, Some, IfOk, OnOk};
+ghost use Rattle.std.specs.Prelude.{◌≡◌, ◌≤◌, ◌<◌, ◌++◌, ◌∷◌, [], List, length, slice_get, min, map, Some, None, IfOk, OnOk};
 ghost use Rattle.smv_core.specs.declared.tree.Part.{Part};
-ghost use Rattle.smv_core.specs.declared.tree.Text.{Text};
+ghost use Rattle.smv_scope.specs.Held.{AreTables};
+ghost use Rattle.smv_scope.specs.declared.tables.Tables.{Tables as ScopeTables};
+ghost use Rattle.smv_instances.specs.FirstFault.{first_fault};
 ghost use Rattle.law_kinds.specs.Types.{leads, value_kind};
 ghost use Rattle.smv_instances.specs.Said.{AreNoted};
 ghost use Rattle.smv_expression_kinds.specs.Forms.{kind_of, types_before, type_before, types_in, modules_in, leads_at, form_leads, AreForms, AreKindTables};
 
 use crate::kinds::ValueKind;
+use crate::lists::numbered;
+use law_enumerations::laws::signals_are_owned;
 use name_index::map::NameMap;
 use smv_core::name::Name;
 use smv_core::tree::{Field, Text, Top, TypeExpr};
@@ -123,9 +127,9 @@ fn type_named(types: &NameMap<usize>, place: usize, name: &Name) -> Option<usize
     }
 }
 
-// The kind of a single value.
-fn kind_of_form<'a>(form: Form<'a>) -> ValueKind<'a>
-    ensures { (text : Text) → kind_of result ≡ value_kind (form_leads text form.entry []) }
+/// The kind of a single value.
+pub fn kind_of_form<'a>(form: Form<'a>) -> ValueKind<'a>
+    ensures { (names : ScopeTables) → kind_of names result ≡ value_kind (form_leads names form.entry []) }
 {
     match form {
         Form::Single { kind } => kind,
@@ -146,15 +150,15 @@ fn form_at<'a>(forms: &[Form<'a>], place: usize) -> Form<'a>
 /// What stands behind a signal of a type that stands in the top of a number.
 pub fn form_of<'a>(
     of: &'a TypeExpr,
-    text: &'a Text,
+    names: &ScopeTables<'a, '_>,
     types: &NameMap<'a, usize>,
     forms: &[Form<'a>],
     place: usize,
 ) -> Form<'a>
-    requires types { types.now ≡ types_in 0 text.now.tops }
-    requires forms { AreForms text.now forms.now }
-    requires enough { min place (length text.now.tops) ≤ length forms.now }
-    ensures { (parts : List Part) → leads (types_before text.now place) of.now parts ≡ form_leads text.now result parts }
+    requires types { types.now ≡ types_in 0 names.now.text.now.tops }
+    requires forms { AreForms names.now forms.now }
+    requires enough { min place (length names.now.text.now.tops) ≤ length forms.now }
+    ensures { (parts : List Part) → leads (types_before names.now.text.now place) of.now parts ≡ form_leads names.now result parts }
 {
     match of {
         TypeExpr::Boolean => Form::Single {
@@ -163,9 +167,9 @@ pub fn form_of<'a>(
         TypeExpr::Range { .. } => Form::Single {
             kind: ValueKind::Number,
         },
-        TypeExpr::Enum { names, .. } => Form::Single {
+        TypeExpr::Enum { names: words, .. } => Form::Single {
             kind: ValueKind::Enumeration {
-                names: names.as_slice(),
+                names: words.as_slice(),
             },
         },
         TypeExpr::Named { name, .. } => match type_named(types, place, &name.name) {
@@ -173,7 +177,7 @@ pub fn form_of<'a>(
             None => Form::Nothing,
         },
         TypeExpr::Array { index, of } => Form::Array {
-            index: kind_of_form(form_of(index.get(), text, types, forms, place)),
+            index: kind_of_form(form_of(index.get(), names, types, forms, place)),
             of: of.get(),
             place,
         },
@@ -186,58 +190,95 @@ pub fn form_of<'a>(
 
 // What stands behind a signal of the type that the top of a number is, where the tops before it have their forms.
 fn form_of_top<'a>(
-    text: &'a Text,
+    names: &ScopeTables<'a, '_>,
     types: &NameMap<'a, usize>,
     forms: &[Form<'a>],
     place: usize,
 ) -> Form<'a>
-    requires types { types.now ≡ types_in 0 text.now.tops }
-    requires forms { AreForms text.now forms.now }
-    requires enough { min place (length text.now.tops) ≤ length forms.now }
-    ensures { (parts : List Part) → leads_at text.now place parts ≡ form_leads text.now result parts }
+    requires types { types.now ≡ types_in 0 names.now.text.now.tops }
+    requires forms { AreForms names.now forms.now }
+    requires enough { min place (length names.now.text.now.tops) ≤ length forms.now }
+    ensures { (parts : List Part) → leads_at names.now.text.now place parts ≡ form_leads names.now result parts }
 {
-    match item_at(text.tops.as_slice(), place) {
+    match item_at(names.text.tops.as_slice(), place) {
         Some(Top::SetType { name, .. }) => Form::Single {
             kind: ValueKind::SetType { name: &name.name },
         },
-        Some(Top::Alias { of, .. }) => form_of(of, text, types, forms, place),
+        Some(Top::Alias { of, .. }) => form_of(of, names, types, forms, place),
         Some(Top::Module { .. }) => Form::Nothing,
         None => Form::Nothing,
     }
 }
 
+// The same form, with the number of its list where it has one.
+fn numbered_form<'a>(names: &ScopeTables<'a, '_>, form: Form<'a>) -> Form<'a>
+    requires { AreTables names.now }
+    ensures { (parts : List Part) → form_leads names.now form.entry parts ≡ form_leads names.now result parts }
+{
+    match form {
+        Form::Single { kind } => {
+            let kind = numbered(names, kind);
+            Form::Single { kind }
+        }
+        Form::Array { .. } => form,
+        Form::Struct { .. } => form,
+        Form::Nothing => form,
+    }
+}
+
+// The same of the type that the top of a number is.
+fn numbered_top<'a>(
+    names: &ScopeTables<'a, '_>,
+    types: &NameMap<'a, usize>,
+    forms: &[Form<'a>],
+    place: usize,
+) -> Form<'a>
+    requires names { AreTables names.now }
+    requires types { types.now ≡ types_in 0 names.now.text.now.tops }
+    requires forms { AreForms names.now forms.now }
+    requires enough { min place (length names.now.text.now.tops) ≤ length forms.now }
+    ensures { (parts : List Part) → leads_at names.now.text.now place parts ≡ form_leads names.now result parts }
+{
+    let form = form_of_top(names, types, forms, place);
+    numbered_form(names, form)
+}
+
 // The form of each top.
 fn forms_of<'a>(
     alloc: Global,
-    text: &'a Text,
+    names: &ScopeTables<'a, '_>,
     types: &NameMap<'a, usize>,
 ) -> Result<Vec<Form<'a>>, AllocError>
-    requires { types.now ≡ types_in 0 text.now.tops }
-    ensures forms { IfOk result (λ forms. AreForms text.now forms.items) }
-    ensures all { IfOk result (λ forms. length forms.items ≡ length text.now.tops) }
+    requires names { AreTables names.now }
+    requires types { types.now ≡ types_in 0 names.now.text.now.tops }
+    ensures forms { IfOk result (λ forms. AreForms names.now forms.items) }
+    ensures all { IfOk result (λ forms. length forms.items ≡ length names.now.text.now.tops) }
 {
     let mut forms = Vec::new(alloc);
-    for place in 0..text.tops.len() {
-        let form = form_of_top(text, types, forms.as_slice(), place);
+    for place in 0..names.text.tops.len() {
+        let form = numbered_top(names, types, forms.as_slice(), place);
         forms.push(form)?;
     }
     Ok(forms)
 }
 
-/// The tables of a text whose tops were noted.
+/// The tables of a text without faults of names, whose tops were noted.
+#[tactic(auto, using(crate::proofs::OwnedLaws::owned))]
 pub fn tables_of<'a, 't>(
     alloc: Global,
     text: &'a Text,
     pieces: &'t [Piece<'a>],
 ) -> Result<Tables<'a, 't>, AllocError>
-    requires { AreNoted pieces.now text.now }
+    requires noted { AreNoted pieces.now text.now }
+    requires named { first_fault text.now ≡ None }
     ensures text { IfOk result (λ tables. tables.names.text.now ≡ text.now) }
     ensures tables { IfOk result (λ tables. AreKindTables tables) }
 {
+    signals_are_owned();
     let names = scope_tables(alloc, text, pieces)?;
     let types = types_of(alloc, text.tops.as_slice())?;
     let modules = modules_of(alloc, text.tops.as_slice())?;
-    let forms = forms_of(alloc, text, &types)?;
+    let forms = forms_of(alloc, &names, &types)?;
     Ok(Tables {
         names,
         types,

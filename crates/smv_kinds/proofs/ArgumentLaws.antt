@@ -14,7 +14,7 @@ use Rattle.law_kinds.specs.References.{Scope, Vars, signal_at, reference}
 use Rattle.law_kinds.specs.Operands.{operand, target}
 use Rattle.law_kinds.specs.KindFaults.{given, gives}
 use Rattle.smv_kinds.specs.Found.{words_left}
-use Rattle.smv_kinds.proofs.KindLaws.{reference-at, drop-none}
+use Rattle.smv_operand_kinds.proofs.KindLaws.{reference-at, drop-none}
 
 module _ (scope : Scope) where
   pub target-at : (vars : Vars) (path : Path) → (target scope vars path).at ≡ (out-Path path).at

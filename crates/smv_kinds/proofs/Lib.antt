@@ -1,6 +1,3 @@
-pub mod KindLaws
-pub mod TypeLaws
-pub mod OperandLaws
 pub mod ValueLaws
 pub mod StatementLaws
 pub mod ConstantLaws

@@ -14,8 +14,8 @@ use Rattle.law_kinds.specs.Kinds.{Operand, no_kind, joined, chosen, listed, take
 use Rattle.law_kinds.specs.Types.{index_kind, index_faults}
 use Rattle.law_kinds.specs.References.{Scope, Vars}
 use Rattle.law_kinds.specs.Operands.{operand, value, bind}
-use Rattle.smv_kinds.specs.Found.{member}
-use Rattle.smv_kinds.proofs.OperandLaws.{members_of, members-row}
+use Rattle.smv_operand_kinds.specs.Found.{member}
+use Rattle.smv_operand_kinds.proofs.OperandLaws.{members_of, members-row}
 use Rattle.smv_instances.proofs.Computing.{computing}
 
 module _ (scope : Scope) (vars : Vars) where

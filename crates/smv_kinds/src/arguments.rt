@@ -12,12 +12,12 @@ ghost use Rattle.smv_expression_kinds.specs.Found.{scope_of};
 ghost use Rattle.smv_kinds.specs.Found.{argument_faults, is_constant, part_constant, words_left};
 
 use crate::formals::{Formal, formal_named};
-use crate::operands::{operand, operand_at};
 use crate::values::{target, value};
 use smv_core::fault::Fault;
 use smv_core::tree::{Expr, Part, Path, Signed, Word};
 use smv_expression_kinds::kinds::{ValueKind, fault_if, takes};
 use smv_expression_kinds::lookups::{Scope, formals_of, module_named};
+use smv_operand_kinds::operands::{operand, operand_at};
 use std::alloc::{AllocError, Global};
 
 // The index can be worked out from the text alone.
@@ -91,7 +91,7 @@ fn is_constant_part(part: &Part) -> bool
 }
 
 // An output's argument is a path with constant indexes, which takes a value of this kind.
-#[tactic(auto, using(smv_instances::proofs::Notes::noting, crate::proofs::ArgumentLaws::equations, crate::proofs::KindLaws::value_fits, crate::proofs::KindLaws::no_vars))]
+#[tactic(auto, using(smv_instances::proofs::Notes::noting, crate::proofs::ArgumentLaws::equations, smv_operand_kinds::proofs::KindLaws::value_fits, smv_operand_kinds::proofs::KindLaws::no_vars))]
 fn given<'a>(
     path: &'a Path,
     scope: &Scope<'a, '_>,
@@ -100,18 +100,23 @@ fn given<'a>(
     kind: ValueKind<'a>,
 ) -> Result<(), AllocError>
     requires { AreKindTables scope.now.tables.now }
-    ensures { OnOk result (out.new.items ≡ out.old.items ++ spec.given (scope_of scope.now) (kind_of kind.entry) (out-Path path.now).parts (operands.target (scope_of scope.now) [] path.now)) }
+    ensures { OnOk result (out.new.items ≡ out.old.items ++ spec.given (scope_of scope.now) (kind_of scope.now.tables.now.names kind.entry) (out-Path path.now).parts (operands.target (scope_of scope.now) [] path.now)) }
 {
     if are_constant(path.parts.as_slice()) {
         let left = target(path, scope, &[], alloc, out)?;
-        takes(out, left.kind, operand_at(kind, left.at))
+        takes(
+            &scope.tables.names,
+            out,
+            left.kind,
+            operand_at(kind, left.at),
+        )
     } else {
         fault_if(out, true, 12, path.at)
     }
 }
 
 // An output's argument, which takes a value of this kind.
-#[tactic(auto, using(smv_instances::proofs::Notes::noting, crate::proofs::ArgumentLaws::equations, crate::proofs::KindLaws::no_vars))]
+#[tactic(auto, using(smv_instances::proofs::Notes::noting, crate::proofs::ArgumentLaws::equations, smv_operand_kinds::proofs::KindLaws::no_vars))]
 fn gives<'a>(
     x: &'a Expr,
     scope: &Scope<'a, '_>,
@@ -120,7 +125,7 @@ fn gives<'a>(
     kind: ValueKind<'a>,
 ) -> Result<(), AllocError>
     requires { AreKindTables scope.now.tables.now }
-    ensures { OnOk result (out.new.items ≡ out.old.items ++ spec.gives (scope_of scope.now) (kind_of kind.entry) x.now) }
+    ensures { OnOk result (out.new.items ≡ out.old.items ++ spec.gives (scope_of scope.now) (kind_of scope.now.tables.now.names kind.entry) x.now) }
 {
     match x {
         Expr::Signal { path } => given(path, scope, alloc, out, kind),
@@ -143,7 +148,7 @@ fn gives<'a>(
 }
 
 // An output's argument that is no path.
-#[tactic(auto, using(smv_instances::proofs::Notes::noting, crate::proofs::KindLaws::no_vars))]
+#[tactic(auto, using(smv_instances::proofs::Notes::noting, smv_operand_kinds::proofs::KindLaws::no_vars))]
 fn no_path<'a>(
     x: &'a Expr,
     scope: &Scope<'a, '_>,
@@ -159,7 +164,7 @@ fn no_path<'a>(
 }
 
 // An argument of a formal.
-#[tactic(auto, using(smv_instances::proofs::Notes::noting, crate::proofs::KindLaws::value_fits, crate::proofs::KindLaws::no_vars))]
+#[tactic(auto, using(smv_instances::proofs::Notes::noting, smv_operand_kinds::proofs::KindLaws::value_fits, smv_operand_kinds::proofs::KindLaws::no_vars))]
 fn argument<'a>(
     x: &'a Expr,
     scope: &Scope<'a, '_>,
@@ -168,12 +173,12 @@ fn argument<'a>(
     formal: Formal<'a>,
 ) -> Result<(), AllocError>
     requires { AreKindTables scope.now.tables.now }
-    ensures { OnOk result (out.new.items ≡ out.old.items ++ argument_faults (scope_of scope.now) formal.entry x.now) }
+    ensures { OnOk result (out.new.items ≡ out.old.items ++ argument_faults scope.now.tables.now.names (scope_of scope.now) formal.entry x.now) }
 {
     match formal {
         Formal::Input { kind } => {
             let e = value(x, scope, &[], alloc, out)?;
-            takes(out, kind, e)
+            takes(&scope.tables.names, out, kind, e)
         }
         Formal::Output { kind } => gives(x, scope, alloc, out, kind),
         Formal::Other => Ok(()),
@@ -192,6 +197,7 @@ fn connected<'a>(
 ) -> Result<(), AllocError>
     requires scope { AreKindTables scope.now.tables.now }
     requires inner { AreKindTables inner.now.tables.now }
+    requires same { inner.now.tables ≡ scope.now.tables }
     ensures { OnOk result (out.new.items ≡ out.old.items ++ flat_map (λ (word, e). spec.connected (scope_of scope.now) (scope_of inner.now).here.types (find_name (scope_of inner.now).here.own word.name) e) (zip formals.now (x.now ∷ []))) }
 {
     match formals {
@@ -225,6 +231,7 @@ fn all_connected<'a>(
 ) -> Result<(), AllocError>
     requires scope { AreKindTables scope.now.tables.now }
     requires inner { AreKindTables inner.now.tables.now }
+    requires same { inner.now.tables ≡ scope.now.tables }
     ensures { OnOk result (out.new.items ≡ out.old.items ++ flat_map (λ (word, e). spec.connected (scope_of scope.now) (scope_of inner.now).here.types (find_name (scope_of inner.now).here.own word.name) e) (zip formals.now args.now)) }
 {
     let mut left = formals;

@@ -1,5 +1,5 @@
 // The first fault of kinds, ranges and sets in a text.
-ghost use Rattle.std.specs.Prelude.{◌≡◌, ◌++◌, ◌∷◌, [], Some, slice_get, IfOk, OnOk};
+ghost use Rattle.std.specs.Prelude.{◌≡◌, ◌++◌, ◌∷◌, [], Some, None, slice_get, IfOk, OnOk};
 ghost use Rattle.smv_instances.specs.Scopes.{pieces as pieces_of, constants};
 ghost use Rattle.smv_instances.specs.Said.{AreNoted};
 ghost use Rattle.smv_instances.specs.FirstFault as first;
@@ -8,17 +8,17 @@ ghost use Rattle.law_kinds.specs.KindFaults.{in_top, faults_of_kinds, first_faul
 ghost use Rattle.smv_expression_kinds.specs.Forms.{types_before, AreKindTables};
 
 use crate::items::items;
-use crate::types::{size_faults, type_faults};
 use smv_core::fault::Fault;
 use smv_core::tree::{Text, Top};
 use smv_expression_kinds::lookups::Scope;
 use smv_expression_kinds::tables::{Tables, tables_of};
 use smv_instances::pieces::Piece;
+use smv_operand_kinds::types::{size_faults, type_faults};
 use smv_scope::scope::earlier;
 use std::alloc::{AllocError, Global};
 
 // The faults in the top of a number.
-#[tactic(auto, using(smv_instances::proofs::Notes::noting, crate::proofs::KindLaws::no_vars))]
+#[tactic(auto, using(smv_instances::proofs::Notes::noting, smv_operand_kinds::proofs::KindLaws::no_vars))]
 fn top_faults<'a>(
     top: &'a Top,
     scope: &Scope<'a, '_>,
@@ -75,13 +75,14 @@ fn first_fault(alloc: Global, tables: &Tables) -> Result<Option<Fault>, AllocErr
     Ok(first_of(out.as_slice()))
 }
 
-/// The first fault of a text among 12 to 14, in every module.
+/// The first fault of a text without faults of names among 12 to 14, in every module.
 pub fn kinds_fault(
     alloc: Global,
     text: &Text,
     pieces: &[Piece],
 ) -> Result<Option<Fault>, AllocError>
-    requires { AreNoted pieces.now text.now }
+    requires noted { AreNoted pieces.now text.now }
+    requires named { first.first_fault text.now ≡ None }
     ensures { IfOk result (λ fault. fault ≡ first_fault_of_kinds text.now) }
 {
     let tables = tables_of(alloc, text, pieces)?;

@@ -9,12 +9,12 @@ ghost use Rattle.smv_expression_kinds.specs.Forms.{AreKindTables};
 ghost use Rattle.smv_expression_kinds.specs.Found.{vars_of, scope_of};
 
 use crate::arguments::arguments;
-use crate::operands::{number, operand};
 use crate::statements::{block, statement};
-use crate::types::{bind, formal_faults, index_faults, type_faults};
 use smv_core::fault::Fault;
 use smv_core::tree::{Expr, Item, Pair, Role, TypeExpr, Word};
 use smv_expression_kinds::lookups::{Scope, Var};
+use smv_operand_kinds::operands::{number, operand};
+use smv_operand_kinds::types::{bind, formal_faults, index_faults, type_faults};
 use std::alloc::{AllocError, Global};
 
 // The faults in an item.
@@ -28,7 +28,7 @@ fn item<'a>(
     out: &mut Vec<Fault>,
 ) -> Result<(), AllocError>
     requires { AreKindTables scope.now.tables.now }
-    ensures { OnOk result (out.new.items ≡ out.old.items ++ in_item (scope_of scope.now) (vars_of vars.now) x.now) }
+    ensures { OnOk result (out.new.items ≡ out.old.items ++ in_item (scope_of scope.now) (vars_of scope.now.tables.now.names vars.now) x.now) }
 {
     match x {
         Item::Declare {
@@ -75,7 +75,7 @@ fn each_value<'a>(
     out: &mut Vec<Fault>,
 ) -> Result<(), AllocError>
     requires { AreKindTables scope.now.tables.now }
-    ensures { OnOk result (out.new.items ≡ out.old.items ++ types.index_faults (scope_of scope.now).here.types over.now ++ in_item (scope_of scope.now) (operands.bind (scope_of scope.now) (vars_of vars.now) var.now over.now) body.now) }
+    ensures { OnOk result (out.new.items ≡ out.old.items ++ types.index_faults (scope_of scope.now).here.types over.now ++ in_item (scope_of scope.now) (operands.bind (scope_of scope.now) (vars_of scope.now.tables.now.names vars.now) var.now over.now) body.now) }
 {
     index_faults(over, scope, out)?;
     let inner = bind(over, var, scope, vars, alloc)?;
@@ -93,7 +93,7 @@ pub fn items<'a>(
     out: &mut Vec<Fault>,
 ) -> Result<(), AllocError>
     requires { AreKindTables scope.now.tables.now }
-    ensures { OnOk result (out.new.items ≡ out.old.items ++ flat_map (in_item (scope_of scope.now) (vars_of vars.now)) parts.now) }
+    ensures { OnOk result (out.new.items ≡ out.old.items ++ flat_map (in_item (scope_of scope.now) (vars_of scope.now.tables.now.names vars.now)) parts.now) }
 {
     for x in parts {
         item(x, scope, vars, alloc, out)?;
@@ -131,7 +131,7 @@ fn claimed<'a>(
     out: &mut Vec<Fault>,
 ) -> Result<(), AllocError>
     requires { AreKindTables scope.now.tables.now }
-    ensures { OnOk result (out.new.items ≡ out.old.items ++ kinds.takes_number (operands.operand (scope_of scope.now) (vars_of vars.now) x.now)) }
+    ensures { OnOk result (out.new.items ≡ out.old.items ++ kinds.takes_number (operands.operand (scope_of scope.now) (vars_of scope.now.tables.now.names vars.now) x.now)) }
 {
     number(x, scope, vars, alloc, out)?;
     Ok(())
@@ -147,7 +147,7 @@ fn all_pairs<'a>(
     out: &mut Vec<Fault>,
 ) -> Result<(), AllocError>
     requires { AreKindTables scope.now.tables.now }
-    ensures { OnOk result (out.new.items ≡ out.old.items ++ flat_map (λ pair. (operands.operand (scope_of scope.now) (vars_of vars.now) pair.left).faults) pairs.now) }
+    ensures { OnOk result (out.new.items ≡ out.old.items ++ flat_map (λ pair. (operands.operand (scope_of scope.now) (vars_of scope.now.tables.now.names vars.now) pair.left).faults) pairs.now) }
 {
     for x in pairs {
         operand(&x.left, scope, vars, alloc, out)?;

@@ -7,7 +7,5 @@ pub mod arguments;
 pub mod faults;
 pub mod formals;
 pub mod items;
-pub mod operands;
 pub mod statements;
-pub mod types;
 pub mod values;

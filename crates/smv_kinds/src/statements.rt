@@ -8,13 +8,13 @@ ghost use Rattle.smv_expression_kinds.specs.Forms.{kind_of, AreKindTables};
 ghost use Rattle.smv_expression_kinds.specs.Found.{vars_of, scope_of};
 ghost use Rattle.smv_kinds.specs.Found.{labels_of, arm_faults};
 
-use crate::operands::{fitting, number, operand};
-use crate::types::{bind, index_faults, inside};
 use crate::values::assignment;
 use smv_core::fault::Fault;
 use smv_core::tree::{Arm, Expr, Stmt, TypeExpr, Word};
 use smv_expression_kinds::kinds::ValueKind;
 use smv_expression_kinds::lookups::{Scope, Var};
+use smv_operand_kinds::operands::{fitting, number, operand};
+use smv_operand_kinds::types::{bind, index_faults, inside};
 use std::alloc::{AllocError, Global};
 
 /// The faults in a statement.
@@ -28,7 +28,7 @@ pub fn statement<'a>(
     out: &mut Vec<Fault>,
 ) -> Result<(), AllocError>
     requires { AreKindTables scope.now.tables.now }
-    ensures { OnOk result (out.new.items ≡ out.old.items ++ in_stmt (scope_of scope.now) (vars_of vars.now) x.now) }
+    ensures { OnOk result (out.new.items ≡ out.old.items ++ in_stmt (scope_of scope.now) (vars_of scope.now.tables.now.names vars.now) x.now) }
 {
     match x {
         Stmt::Assign { left, value, .. } => assignment(left, value, scope, vars, alloc, out),
@@ -80,7 +80,7 @@ fn each_number<'a>(
     out: &mut Vec<Fault>,
 ) -> Result<(), AllocError>
     requires { AreKindTables scope.now.tables.now }
-    ensures { OnOk result (out.new.items ≡ out.old.items ++ in_stmt (scope_of scope.now) ((var.now.name, kinds.number) ∷ (vars_of vars.now)) body.now) }
+    ensures { OnOk result (out.new.items ≡ out.old.items ++ in_stmt (scope_of scope.now) ((var.now.name, kinds.number) ∷ (vars_of scope.now.tables.now.names vars.now)) body.now) }
 {
     let inner = inside(alloc, vars, var, ValueKind::Number)?;
     statement(body, scope, inner.as_slice(), alloc, out)
@@ -99,7 +99,7 @@ fn each_value<'a>(
     out: &mut Vec<Fault>,
 ) -> Result<(), AllocError>
     requires { AreKindTables scope.now.tables.now }
-    ensures { OnOk result (out.new.items ≡ out.old.items ++ types.index_faults (scope_of scope.now).here.types over.now ++ in_stmt (scope_of scope.now) (operands.bind (scope_of scope.now) (vars_of vars.now) var.now over.now) body.now) }
+    ensures { OnOk result (out.new.items ≡ out.old.items ++ types.index_faults (scope_of scope.now).here.types over.now ++ in_stmt (scope_of scope.now) (operands.bind (scope_of scope.now) (vars_of scope.now.tables.now.names vars.now) var.now over.now) body.now) }
 {
     index_faults(over, scope, out)?;
     let inner = bind(over, var, scope, vars, alloc)?;
@@ -117,7 +117,7 @@ pub fn block<'a>(
     out: &mut Vec<Fault>,
 ) -> Result<(), AllocError>
     requires { AreKindTables scope.now.tables.now }
-    ensures { OnOk result (out.new.items ≡ out.old.items ++ flat_map (in_stmt (scope_of scope.now) (vars_of vars.now)) parts.now) }
+    ensures { OnOk result (out.new.items ≡ out.old.items ++ flat_map (in_stmt (scope_of scope.now) (vars_of scope.now.tables.now.names vars.now)) parts.now) }
 {
     for x in parts {
         statement(x, scope, vars, alloc, out)?;
@@ -136,7 +136,7 @@ fn all_arms<'a>(
     out: &mut Vec<Fault>,
 ) -> Result<(), AllocError>
     requires { AreKindTables scope.now.tables.now }
-    ensures { OnOk result (out.new.items ≡ out.old.items ++ flat_map (arm_faults (scope_of scope.now) (vars_of vars.now)) arms.now) }
+    ensures { OnOk result (out.new.items ≡ out.old.items ++ flat_map (arm_faults (scope_of scope.now) (vars_of scope.now.tables.now.names vars.now)) arms.now) }
 {
     for x in arms {
         statement(&x.body, scope, vars, alloc, out)?;
@@ -145,7 +145,7 @@ fn all_arms<'a>(
 }
 
 // What a `switch` looks at, and the labels of its arms: all are of one kind.
-#[tactic(auto, using(smv_instances::proofs::Notes::noting, crate::proofs::KindLaws::first_fits))]
+#[tactic(auto, using(smv_instances::proofs::Notes::noting, smv_operand_kinds::proofs::KindLaws::first_fits))]
 fn labels<'a>(
     on: &'a Expr,
     arms: &'a [Arm],
@@ -155,14 +155,14 @@ fn labels<'a>(
     out: &mut Vec<Fault>,
 ) -> Result<(), AllocError>
     requires { AreKindTables scope.now.tables.now }
-    ensures { OnOk result (out.new.items ≡ out.old.items ++ kinds.alike (operands.operand (scope_of scope.now) (vars_of vars.now) on.now ∷ flat_map (labels_of (scope_of scope.now) (vars_of vars.now)) arms.now)) }
+    ensures { OnOk result (out.new.items ≡ out.old.items ++ kinds.alike (operands.operand (scope_of scope.now) (vars_of scope.now.tables.now.names vars.now) on.now ∷ flat_map (labels_of (scope_of scope.now) (vars_of scope.now.tables.now.names vars.now)) arms.now)) }
 {
     let on = operand(on, scope, vars, alloc, out)?;
     labels_beside(arms, scope, vars, alloc, out, on.kind)
 }
 
 // The labels of these arms, beside this kind.
-#[tactic(auto, using(smv_instances::proofs::Notes::noting, crate::proofs::KindLaws::all_in_turn), unfolding(crate::specs::Found::labels_of))]
+#[tactic(auto, using(smv_instances::proofs::Notes::noting, smv_operand_kinds::proofs::KindLaws::all_in_turn), unfolding(crate::specs::Found::labels_of))]
 fn labels_beside<'a>(
     arms: &'a [Arm],
     scope: &Scope<'a, '_>,
@@ -172,7 +172,7 @@ fn labels_beside<'a>(
     kind: ValueKind<'a>,
 ) -> Result<(), AllocError>
     requires { AreKindTables scope.now.tables.now }
-    ensures { OnOk result (out.new.items ≡ out.old.items ++ kinds.alike_with (kind_of kind.entry) (flat_map (labels_of (scope_of scope.now) (vars_of vars.now)) arms.now)) }
+    ensures { OnOk result (out.new.items ≡ out.old.items ++ kinds.alike_with (kind_of scope.now.tables.now.names kind.entry) (flat_map (labels_of (scope_of scope.now) (vars_of scope.now.tables.now.names vars.now)) arms.now)) }
 {
     let mut all = kind;
     for x in arms {
@@ -192,8 +192,8 @@ fn all_fitting<'a>(
     kind: ValueKind<'a>,
 ) -> Result<ValueKind<'a>, AllocError>
     requires { AreKindTables scope.now.tables.now }
-    ensures kind { IfOk result (λ all. kind_of all ≡ kinds.kind_with (kind_of kind.entry) (map (operands.operand (scope_of scope.now) (vars_of vars.now)) parts.now)) }
-    ensures faults { OnOk result (out.new.items ≡ out.old.items ++ kinds.alike_with (kind_of kind.entry) (map (operands.operand (scope_of scope.now) (vars_of vars.now)) parts.now)) }
+    ensures kind { IfOk result (λ all. kind_of scope.now.tables.now.names all ≡ kinds.kind_with (kind_of scope.now.tables.now.names kind.entry) (map (operands.operand (scope_of scope.now) (vars_of scope.now.tables.now.names vars.now)) parts.now)) }
+    ensures faults { OnOk result (out.new.items ≡ out.old.items ++ kinds.alike_with (kind_of scope.now.tables.now.names kind.entry) (map (operands.operand (scope_of scope.now) (vars_of scope.now.tables.now.names vars.now)) parts.now)) }
 {
     let mut all = kind;
     for x in parts {

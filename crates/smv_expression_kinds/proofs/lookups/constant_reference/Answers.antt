@@ -10,11 +10,11 @@ pub returns-in-None-constant_kind : goal.returns-in-None-constant_kind
 returns-in-None-constant_kind c =
     sym (constant-alone c.args.scope.now c.args.parts.now c.in-Some.word.now c.constant_kind.result
     (sym c.lone_name.ensures ∙ ap (option_map (λ (word : Bor Word). word.now)) c.in-Some.is) c.constant_kind.ensures
-    ∙ ap (option_map (λ kind. whole_in [] (kind_of kind))) c.in-None-constant_kind.is)
+    ∙ ap (option_map (λ kind. whole_in [] (kind_of c.args.scope.now.tables.now.names kind))) c.in-None-constant_kind.is)
 
 pub returns-in-Some-constant_kind : goal.returns-in-Some-constant_kind
 returns-in-Some-constant_kind c =
-    ap Some (c.single.ensures ∙ ap (λ l. whole_in (map kind_of l) (kind_of c.in-Some-constant_kind.kind)) c.new.ensures.items)
+    ap Some (c.single.ensures c.args.scope.now.tables.now.names ∙ ap (λ l. whole_in (map (kind_of c.args.scope.now.tables.now.names) l) (kind_of c.args.scope.now.tables.now.names c.in-Some-constant_kind.kind)) c.new.ensures.items)
     ∙ sym (constant-alone c.args.scope.now c.args.parts.now c.in-Some.word.now c.constant_kind.result
     (sym c.lone_name.ensures ∙ ap (option_map (λ (word : Bor Word). word.now)) c.in-Some.is) c.constant_kind.ensures
-    ∙ ap (option_map (λ kind. whole_in [] (kind_of kind))) c.in-Some-constant_kind.is)
+    ∙ ap (option_map (λ kind. whole_in [] (kind_of c.args.scope.now.tables.now.names kind))) c.in-Some-constant_kind.is)

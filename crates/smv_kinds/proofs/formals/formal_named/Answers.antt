@@ -10,7 +10,13 @@ use Rattle.law_kinds.specs.KindFaults.{connected}
 use Rattle.smv_expression_kinds.specs.Found.{scope_of}
 use Rattle.smv_kinds.specs.Found.{argument_faults}
 use Rattle.smv_expression_kinds.proofs.ScopeLaws.{own-here}
+use Rattle.smv_expression_kinds.proofs.OwnedLaws.{formal-owned}
 use Rattle.smv_kinds.proofs.formals.formal_named.Goals as goal
+
+pub formal_of-requires-clause-owned : goal.formal_of-requires-clause-owned
+formal_of-requires-clause-owned c =
+    formal-owned c.args.scope.now c.args.name.now c.in-Signal.role c.in-Signal.of.now (own_of c.in-Some.own) c.requires.owned
+    (own-here c.args.scope.now c.args.name.now c.own_in.result c.own_in.ensures ∙ ap (option_map own_of) c.in-Some.is) (ap said_of c.in-Signal.is)
 
 pub returns-in-None : goal.returns-in-None
 returns-in-None c from e =
@@ -21,7 +27,7 @@ pub returns-in-Signal : goal.returns-in-Signal
 returns-in-Signal c =
     let types = (scope_of c.args.scope.now).here.types in
     let own = c.in-Some.own in
-    subst (λ (o : Option Own). (from : Scope) (e : Expr) → connected from types o e ≡ argument_faults from c.formal_of.result e)
+    subst (λ (o : Option Own). (from : Scope) (e : Expr) → connected from types o e ≡ argument_faults c.args.scope.now.tables.now.names from c.formal_of.result e)
     (sym (own-here c.args.scope.now c.args.name.now c.own_in.result c.own_in.ensures ∙ ap (option_map own_of) c.in-Some.is
     ∙ ap (λ (what : NotedWhat). Some (record { at = own.at; what = said_of what })) c.in-Signal.is))
     c.formal_of.ensures

@@ -6,4 +6,4 @@ use Rattle.smv_kinds.proofs.items.+items.Given as goal
 
 abbrev pub invariant-items-loop-x : goal.invariant-items-loop-x
 invariant-items-loop-x l =
-    l.out.items ++ flat_map (in_item (scope_of l.scope) (vars_of l.vars)) (drop l.x-index l.parts) ≡ l.initial.out.items ++ flat_map (in_item (scope_of l.scope) (vars_of l.vars)) l.parts
+    l.out.items ++ flat_map (in_item (scope_of l.scope) (vars_of l.scope.tables.now.names l.vars)) (drop l.x-index l.parts) ≡ l.initial.out.items ++ flat_map (in_item (scope_of l.scope) (vars_of l.scope.tables.now.names l.vars)) l.parts

@@ -6,5 +6,5 @@ use Rattle.smv_kinds.proofs.items.all_pairs.Given as goal
 
 abbrev pub invariant-loop-x : goal.invariant-loop-x
 invariant-loop-x l =
-    l.out.items ++ flat_map (λ pair. (operand (scope_of l.scope) (vars_of l.vars) pair.left).faults) (drop l.x-index l.pairs)
-    ≡ l.initial.out.items ++ flat_map (λ pair. (operand (scope_of l.scope) (vars_of l.vars) pair.left).faults) l.pairs
+    l.out.items ++ flat_map (λ pair. (operand (scope_of l.scope) (vars_of l.scope.tables.now.names l.vars) pair.left).faults) (drop l.x-index l.pairs)
+    ≡ l.initial.out.items ++ flat_map (λ pair. (operand (scope_of l.scope) (vars_of l.scope.tables.now.names l.vars) pair.left).faults) l.pairs

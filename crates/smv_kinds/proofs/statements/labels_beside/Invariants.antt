@@ -8,5 +8,5 @@ use Rattle.smv_kinds.proofs.statements.labels_beside.Given as goal
 
 abbrev pub invariant-loop-x : goal.invariant-loop-x
 invariant-loop-x l =
-    l.out.items ++ alike_with (kind_of l.all) (flat_map (labels_of (scope_of l.scope) (vars_of l.vars)) (drop l.x-index l.arms))
-    ≡ l.initial.out.items ++ alike_with (kind_of l.initial.all) (flat_map (labels_of (scope_of l.scope) (vars_of l.vars)) l.arms)
+    l.out.items ++ alike_with (kind_of l.scope.tables.now.names l.all) (flat_map (labels_of (scope_of l.scope) (vars_of l.scope.tables.now.names l.vars)) (drop l.x-index l.arms))
+    ≡ l.initial.out.items ++ alike_with (kind_of l.scope.tables.now.names l.initial.all) (flat_map (labels_of (scope_of l.scope) (vars_of l.scope.tables.now.names l.vars)) l.arms)

@@ -1,7 +1,7 @@
 use Rattle.std.proofs.Common.{◌≡◌, drop}
 use Rattle.smv_core.specs.Types.{names_of}
 use Rattle.smv_core.specs.Outcome.{same_path}
-use Rattle.smv_expression_kinds.proofs.kinds.same_names.Given as goal
+use Rattle.smv_expression_kinds.proofs.lists.same_names.Given as goal
 
 abbrev pub invariant-loop-index : goal.invariant-loop-index
 invariant-loop-index l =

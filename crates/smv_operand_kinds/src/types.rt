@@ -4,6 +4,7 @@ ghost use Rattle.smv_core.specs.declared.tree.Field.{out-Field};
 ghost use Rattle.smv_instances.specs.NameFaults.{place_if};
 ghost use Rattle.smv_instances.specs.FirstFault.{faults_at};
 ghost use Rattle.law_kinds.specs.Types as spec;
+ghost use Rattle.smv_scope.specs.declared.tables.Tables.{Tables as ScopeTables};
 ghost use Rattle.law_kinds.specs.Operands as operands;
 ghost use Rattle.smv_expression_kinds.specs.Forms.{kind_of, AreKindTables};
 ghost use Rattle.smv_expression_kinds.specs.Found.{vars_of, scope_of};
@@ -17,7 +18,7 @@ use std::alloc::{AllocError, Global};
 /// The kind of an index of this type.
 pub fn index_kind<'a>(of: &'a TypeExpr, scope: &Scope<'a, '_>) -> ValueKind<'a>
     requires { AreKindTables scope.now.tables.now }
-    ensures { kind_of result ≡ spec.index_kind (scope_of scope.now).here.types of.now }
+    ensures { kind_of scope.now.tables.now.names result ≡ spec.index_kind (scope_of scope.now).here.types of.now }
 {
     match single_kind(of, scope) {
         Some(kind) => kind,
@@ -33,7 +34,7 @@ pub fn inside<'a>(
     var: &'a Word,
     kind: ValueKind<'a>,
 ) -> Result<Vec<Var<'a>>, AllocError>
-    ensures { IfOk result (λ inner. vars_of inner.items ≡ (var.now.name, kind_of kind.entry) ∷ vars_of vars.now) }
+    ensures { (names : ScopeTables) → IfOk result (λ inner. vars_of names inner.items ≡ (var.now.name, kind_of names kind.entry) ∷ vars_of names vars.now) }
 {
     let mut inner = Vec::new(alloc);
     inner.push(Var {
@@ -53,7 +54,7 @@ pub fn bind<'a>(
     alloc: Global,
 ) -> Result<Vec<Var<'a>>, AllocError>
     requires { AreKindTables scope.now.tables.now }
-    ensures { IfOk result (λ inner. vars_of inner.items ≡ operands.bind (scope_of scope.now) (vars_of vars.now) var.now over.now) }
+    ensures { IfOk result (λ inner. vars_of scope.now.tables.now.names inner.items ≡ operands.bind (scope_of scope.now) (vars_of scope.now.tables.now.names vars.now) var.now over.now) }
 {
     let kind = index_kind(over, scope);
     inside(alloc, vars, var, kind)

@@ -13,9 +13,10 @@ use Rattle.law_kinds.specs.References.{Scope, Vars, reference}
 use Rattle.law_kinds.specs.Operands.{operand}
 use Rattle.smv_expression_kinds.specs.declared.kinds.ValueKind.{ValueKind}
 use Rattle.smv_core.specs.declared.tree.Expr.{Expr}
+use Rattle.smv_scope.specs.declared.tables.Tables.{Tables as ScopeTables}
 use Rattle.smv_expression_kinds.specs.Forms.{kind_of, misfit}
 use Rattle.smv_expression_kinds.specs.Found.{vars_of}
-use Rattle.smv_kinds.specs.Found.{begin, begins_at, or_zero, path_faults, part_faults}
+use Rattle.smv_operand_kinds.specs.Found.{begin, begins_at, or_zero, path_faults, part_faults}
 
 -- an operand that is itself at fault fits everywhere
 joins-none : (kind : Kind) → joins kind no_kind ≡ true
@@ -153,14 +154,14 @@ reference-at at (Some w) es = refl
 pub ruleset references = (faults-nowhere, faults-whole, kind-nowhere, kind-whole, reference-at)
 
 -- the kind of the next index
-pub next-none : (kinds : List ValueKind) (scope : Scope) (vars : Vars) (e : Expr) → slice_get kinds 0 ≡ None → part_faults scope vars (Some (map kind_of kinds)) (At e) ≡ []
-next-none [] scope vars e h = refl
-next-none (kind ∷ kinds) scope vars e h = cc
+pub next-none : (names : ScopeTables) (kinds : List ValueKind) (scope : Scope) (vars : Vars) (e : Expr) → slice_get kinds 0 ≡ None → part_faults scope vars (Some (map (kind_of names) kinds)) (At e) ≡ []
+next-none names [] scope vars e h = refl
+next-none names (kind ∷ kinds) scope vars e h = cc
 
-pub next-some : (kinds : List ValueKind) (kind : ValueKind) (scope : Scope) (vars : Vars) (e : Expr) → slice_get kinds 0 ≡ Some kind
-    → part_faults scope vars (Some (map kind_of kinds)) (At e) ≡ takes (kind_of kind) (operand scope vars e)
-next-some [] kind scope vars e h = cc
-next-some (other ∷ kinds) kind scope vars e h = let same : other ≡ kind = cc in ap (λ k. takes (kind_of k) (operand scope vars e)) same
+pub next-some : (names : ScopeTables) (kinds : List ValueKind) (kind : ValueKind) (scope : Scope) (vars : Vars) (e : Expr) → slice_get kinds 0 ≡ Some kind
+    → part_faults scope vars (Some (map (kind_of names) kinds)) (At e) ≡ takes (kind_of names kind) (operand scope vars e)
+next-some names [] kind scope vars e h = cc
+next-some names (other ∷ kinds) kind scope vars e h = let same : other ≡ kind = cc in ap (λ k. takes (kind_of names k) (operand scope vars e)) same
 
 pub ruleset next_kinds = (next-none, next-some)
 
@@ -176,9 +177,9 @@ begin-first (e ∷ es) = sym (ap (λ o. unwrap_or o 0) (begin-at e.at es))
 
 pub ruleset begins = (begin-first)
 
-pub vars-none : vars_of [] ≡ []
+pub vars-none : (names : ScopeTables) → vars_of names [] ≡ []
 unfolding vars_of
-vars-none = refl
+vars-none names = refl
 
 pub ruleset no_vars = (vars-none)
 

@@ -22,7 +22,7 @@ use Rattle.law_kinds.specs.Kinds.{number, no_kind, joined, has_order, Operand, n
 use Rattle.law_kinds.specs.References.{Scope, Vars, reference_at, reference}
 use Rattle.law_kinds.specs.Operands.{operand, operands, indexes, summands, members, looked_through, compared, remainder, reduced, bind}
 use Rattle.smv_expression_kinds.specs.Forms.{misfit}
-use Rattle.smv_kinds.specs.Found.{member, addend, begins_at, order_faults}
+use Rattle.smv_operand_kinds.specs.Found.{member, addend, begins_at, order_faults}
 use Rattle.smv_instances.proofs.Computing.{computing}
 
 module _ (scope : Scope) (vars : Vars) where

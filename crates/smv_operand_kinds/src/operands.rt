@@ -7,9 +7,10 @@ ghost use Rattle.law_kinds.specs.References as references;
 ghost use Rattle.smv_core.specs.declared.tree.Part.{At};
 ghost use Rattle.smv_core.specs.declared.tree.Expr.{Expr};
 ghost use Rattle.law_kinds.specs.Operands as spec;
+ghost use Rattle.smv_scope.specs.declared.tables.Tables.{Tables as ScopeTables};
 ghost use Rattle.smv_expression_kinds.specs.Forms.{kind_of, misfit, AreKindTables};
 ghost use Rattle.smv_expression_kinds.specs.Found.{vars_of, scope_of, whole_of};
-ghost use Rattle.smv_kinds.specs.Found.{order_faults, kinds_left, left_behind, part_faults, next_faults, path_faults, addend, begins_at, or_zero, member as member_in};
+ghost use Rattle.smv_operand_kinds.specs.Found.{order_faults, kinds_left, left_behind, part_faults, next_faults, path_faults, addend, begins_at, or_zero, member as member_in};
 
 use crate::types::{bind, index_faults};
 use smv_core::fault::Fault;
@@ -19,7 +20,7 @@ use smv_expression_kinds::kinds::{
 };
 use smv_expression_kinds::lookups::{Scope, Var, whole_reference};
 use smv_expression_kinds::paths::Whole;
-use smv_scope::tables::item_at;
+use smv_scope::tables::{Tables as ScopeTables, item_at};
 use std::alloc::{AllocError, Global};
 
 /// An expression where no set may stand.
@@ -33,9 +34,9 @@ pub fn operand<'a>(
     out: &mut Vec<Fault>,
 ) -> Result<Operand<'a>, AllocError>
     requires { AreKindTables scope.now.tables.now }
-    ensures kind { IfOk result (λ found. kind_of found.kind ≡ (spec.operand (scope_of scope.now) (vars_of vars.now) x.now).kind) }
-    ensures at { IfOk result (λ found. found.at ≡ (spec.operand (scope_of scope.now) (vars_of vars.now) x.now).at) }
-    ensures faults { OnOk result (out.new.items ≡ out.old.items ++ (spec.operand (scope_of scope.now) (vars_of vars.now) x.now).faults) }
+    ensures kind { IfOk result (λ found. kind_of scope.now.tables.now.names found.kind ≡ (spec.operand (scope_of scope.now) (vars_of scope.now.tables.now.names vars.now) x.now).kind) }
+    ensures at { IfOk result (λ found. found.at ≡ (spec.operand (scope_of scope.now) (vars_of scope.now.tables.now.names vars.now) x.now).at) }
+    ensures faults { OnOk result (out.new.items ≡ out.old.items ++ (spec.operand (scope_of scope.now) (vars_of scope.now.tables.now.names vars.now) x.now).faults) }
 {
     match x {
         Expr::Number { at, .. } => Ok(number_at(*at)),
@@ -58,7 +59,7 @@ pub fn operand<'a>(
         Expr::Compare { op, left, right } => {
             let left = operand(left.get(), scope, vars, alloc, out)?;
             let right = operand(right.get(), scope, vars, alloc, out)?;
-            compared(*op, left, right, out)
+            compared(&scope.tables.names, *op, left, right, out)
         }
         Expr::Within { left, set } => {
             let left = operand(left.get(), scope, vars, alloc, out)?;
@@ -79,7 +80,7 @@ pub fn operand<'a>(
             let at = number(cond.get(), scope, vars, alloc, out)?;
             let yes = operand(yes.get(), scope, vars, alloc, out)?;
             let no = operand(no.get(), scope, vars, alloc, out)?;
-            chosen(at, yes, no, out)
+            chosen(&scope.tables.names, at, yes, no, out)
         }
         Expr::All {
             body,
@@ -109,8 +110,8 @@ pub fn number<'a>(
     out: &mut Vec<Fault>,
 ) -> Result<u32, AllocError>
     requires { AreKindTables scope.now.tables.now }
-    ensures at { IfOk result (λ at. at ≡ (spec.operand (scope_of scope.now) (vars_of vars.now) x.now).at) }
-    ensures faults { OnOk result (out.new.items ≡ out.old.items ++ kinds.takes_number (spec.operand (scope_of scope.now) (vars_of vars.now) x.now)) }
+    ensures at { IfOk result (λ at. at ≡ (spec.operand (scope_of scope.now) (vars_of scope.now.tables.now.names vars.now) x.now).at) }
+    ensures faults { OnOk result (out.new.items ≡ out.old.items ++ kinds.takes_number (spec.operand (scope_of scope.now) (vars_of scope.now.tables.now.names vars.now) x.now)) }
 {
     let e = operand(x, scope, vars, alloc, out)?;
     takes_number(out, e)?;
@@ -128,9 +129,9 @@ fn numbers<'a>(
     out: &mut Vec<Fault>,
 ) -> Result<Operand<'a>, AllocError>
     requires { AreKindTables scope.now.tables.now }
-    ensures kind { IfOk result (λ found. kind_of found.kind ≡ (kinds.of_numbers (map (spec.operand (scope_of scope.now) (vars_of vars.now)) parts.now)).kind) }
-    ensures at { IfOk result (λ found. found.at ≡ begins_at (map (spec.operand (scope_of scope.now) (vars_of vars.now)) parts.now)) }
-    ensures faults { OnOk result (out.new.items ≡ out.old.items ++ (kinds.of_numbers (map (spec.operand (scope_of scope.now) (vars_of vars.now)) parts.now)).faults) }
+    ensures kind { IfOk result (λ found. kind_of scope.now.tables.now.names found.kind ≡ (kinds.of_numbers (map (spec.operand (scope_of scope.now) (vars_of scope.now.tables.now.names vars.now)) parts.now)).kind) }
+    ensures at { IfOk result (λ found. found.at ≡ begins_at (map (spec.operand (scope_of scope.now) (vars_of scope.now.tables.now.names vars.now)) parts.now)) }
+    ensures faults { OnOk result (out.new.items ≡ out.old.items ++ (kinds.of_numbers (map (spec.operand (scope_of scope.now) (vars_of scope.now.tables.now.names vars.now)) parts.now)).faults) }
 {
     let mut first = None;
     for x in parts {
@@ -151,7 +152,7 @@ fn summands<'a>(
     out: &mut Vec<Fault>,
 ) -> Result<(), AllocError>
     requires { AreKindTables scope.now.tables.now }
-    ensures { OnOk result (out.new.items ≡ out.old.items ++ flat_map kinds.takes_number (map (addend (scope_of scope.now) (vars_of vars.now)) more.now)) }
+    ensures { OnOk result (out.new.items ≡ out.old.items ++ flat_map kinds.takes_number (map (addend (scope_of scope.now) (vars_of scope.now.tables.now.names vars.now)) more.now)) }
 {
     for x in more {
         number(&x.of, scope, vars, alloc, out)?;
@@ -173,9 +174,9 @@ fn reduced<'a>(
     at: u32,
 ) -> Result<Operand<'a>, AllocError>
     requires { AreKindTables scope.now.tables.now }
-    ensures kind { IfOk result (λ found. kind_of found.kind ≡ (spec.reduced (scope_of scope.now) at (spec.operand (scope_of scope.now) (spec.bind (scope_of scope.now) (vars_of vars.now) var.now over.now) body.now) over.now).kind) }
-    ensures at { IfOk result (λ found. found.at ≡ (spec.reduced (scope_of scope.now) at (spec.operand (scope_of scope.now) (spec.bind (scope_of scope.now) (vars_of vars.now) var.now over.now) body.now) over.now).at) }
-    ensures faults { OnOk result (out.new.items ≡ out.old.items ++ (spec.reduced (scope_of scope.now) at (spec.operand (scope_of scope.now) (spec.bind (scope_of scope.now) (vars_of vars.now) var.now over.now) body.now) over.now).faults) }
+    ensures kind { IfOk result (λ found. kind_of scope.now.tables.now.names found.kind ≡ (spec.reduced (scope_of scope.now) at (spec.operand (scope_of scope.now) (spec.bind (scope_of scope.now) (vars_of scope.now.tables.now.names vars.now) var.now over.now) body.now) over.now).kind) }
+    ensures at { IfOk result (λ found. found.at ≡ (spec.reduced (scope_of scope.now) at (spec.operand (scope_of scope.now) (spec.bind (scope_of scope.now) (vars_of scope.now.tables.now.names vars.now) var.now over.now) body.now) over.now).at) }
+    ensures faults { OnOk result (out.new.items ≡ out.old.items ++ (spec.reduced (scope_of scope.now) at (spec.operand (scope_of scope.now) (spec.bind (scope_of scope.now) (vars_of scope.now.tables.now.names vars.now) var.now over.now) body.now) over.now).faults) }
 {
     let inner = bind(over, var, scope, vars, alloc)?;
     number(body, scope, inner.as_slice(), alloc, out)?;
@@ -195,7 +196,7 @@ fn looked_through<'a>(
     kind: ValueKind<'a>,
 ) -> Result<(), AllocError>
     requires { AreKindTables scope.now.tables.now }
-    ensures { OnOk result (out.new.items ≡ out.old.items ++ kinds.alike_with (kind_of kind.entry) (spec.looked_through (scope_of scope.now) (vars_of vars.now) set.now)) }
+    ensures { OnOk result (out.new.items ≡ out.old.items ++ kinds.alike_with (kind_of scope.now.tables.now.names kind.entry) (spec.looked_through (scope_of scope.now) (vars_of scope.now.tables.now.names vars.now) set.now)) }
 {
     match set {
         Expr::List { members, .. } => {
@@ -235,8 +236,8 @@ pub fn all_members<'a>(
     kind: ValueKind<'a>,
 ) -> Result<ValueKind<'a>, AllocError>
     requires { AreKindTables scope.now.tables.now }
-    ensures kind { IfOk result (λ all. kind_of all ≡ kinds.kind_with (kind_of kind.entry) (map (member_in (scope_of scope.now) (vars_of vars.now)) members.now)) }
-    ensures faults { OnOk result (out.new.items ≡ out.old.items ++ kinds.alike_with (kind_of kind.entry) (map (member_in (scope_of scope.now) (vars_of vars.now)) members.now)) }
+    ensures kind { IfOk result (λ all. kind_of scope.now.tables.now.names all ≡ kinds.kind_with (kind_of scope.now.tables.now.names kind.entry) (map (member_in (scope_of scope.now) (vars_of scope.now.tables.now.names vars.now)) members.now)) }
+    ensures faults { OnOk result (out.new.items ≡ out.old.items ++ kinds.alike_with (kind_of scope.now.tables.now.names kind.entry) (map (member_in (scope_of scope.now) (vars_of scope.now.tables.now.names vars.now)) members.now)) }
 {
     let mut all = kind;
     for x in members {
@@ -257,14 +258,14 @@ fn member<'a>(
     kind: ValueKind<'a>,
 ) -> Result<ValueKind<'a>, AllocError>
     requires { AreKindTables scope.now.tables.now }
-    ensures kind { IfOk result (λ all. kind_of all ≡ kinds.joined (kind_of kind.entry) (member_in (scope_of scope.now) (vars_of vars.now) x.now).kind) }
-    ensures faults { OnOk result (out.new.items ≡ out.old.items ++ (member_in (scope_of scope.now) (vars_of vars.now) x.now).faults ++ misfit (kinds.joins (kind_of kind.entry) (member_in (scope_of scope.now) (vars_of vars.now) x.now).kind) (member_in (scope_of scope.now) (vars_of vars.now) x.now).at) }
+    ensures kind { IfOk result (λ all. kind_of scope.now.tables.now.names all ≡ kinds.joined (kind_of scope.now.tables.now.names kind.entry) (member_in (scope_of scope.now) (vars_of scope.now.tables.now.names vars.now) x.now).kind) }
+    ensures faults { OnOk result (out.new.items ≡ out.old.items ++ (member_in (scope_of scope.now) (vars_of scope.now.tables.now.names vars.now) x.now).faults ++ misfit (kinds.joins (kind_of scope.now.tables.now.names kind.entry) (member_in (scope_of scope.now) (vars_of scope.now.tables.now.names vars.now) x.now).kind) (member_in (scope_of scope.now) (vars_of scope.now.tables.now.names vars.now) x.now).at) }
 {
     match x {
         Member::One { of } => fitting(of, scope, vars, alloc, out, kind),
         Member::Span { span, at } => {
             fault_if(out, span.high < span.low, 13, *at)?;
-            fits(out, kind, number_at(*at))
+            fits(&scope.tables.names, out, kind, number_at(*at))
         }
     }
 }
@@ -281,11 +282,11 @@ pub fn fitting<'a>(
     kind: ValueKind<'a>,
 ) -> Result<ValueKind<'a>, AllocError>
     requires { AreKindTables scope.now.tables.now }
-    ensures kind { IfOk result (λ all. kind_of all ≡ kinds.joined (kind_of kind.entry) (spec.operand (scope_of scope.now) (vars_of vars.now) x.now).kind) }
-    ensures faults { OnOk result (out.new.items ≡ out.old.items ++ (spec.operand (scope_of scope.now) (vars_of vars.now) x.now).faults ++ misfit (kinds.joins (kind_of kind.entry) (spec.operand (scope_of scope.now) (vars_of vars.now) x.now).kind) (spec.operand (scope_of scope.now) (vars_of vars.now) x.now).at) }
+    ensures kind { IfOk result (λ all. kind_of scope.now.tables.now.names all ≡ kinds.joined (kind_of scope.now.tables.now.names kind.entry) (spec.operand (scope_of scope.now) (vars_of scope.now.tables.now.names vars.now) x.now).kind) }
+    ensures faults { OnOk result (out.new.items ≡ out.old.items ++ (spec.operand (scope_of scope.now) (vars_of scope.now.tables.now.names vars.now) x.now).faults ++ misfit (kinds.joins (kind_of scope.now.tables.now.names kind.entry) (spec.operand (scope_of scope.now) (vars_of scope.now.tables.now.names vars.now) x.now).kind) (spec.operand (scope_of scope.now) (vars_of scope.now.tables.now.names vars.now) x.now).at) }
 {
     let e = operand(x, scope, vars, alloc, out)?;
-    fits(out, kind, e)
+    fits(&scope.tables.names, out, kind, e)
 }
 
 /// A path that leads to this, or nowhere.
@@ -300,9 +301,9 @@ pub fn referred<'a>(
     whole: Option<Whole<'a>>,
 ) -> Result<Operand<'a>, AllocError>
     requires { AreKindTables scope.now.tables.now }
-    ensures kind { IfOk result (λ found. kind_of found.kind ≡ (references.reference (out-Path path.now).at (option_map whole_of whole.entry) (map (spec.operand (scope_of scope.now) (vars_of vars.now)) (indexes_of (out-Path path.now).parts))).kind) }
-    ensures at { IfOk result (λ found. found.at ≡ (references.reference (out-Path path.now).at (option_map whole_of whole.entry) (map (spec.operand (scope_of scope.now) (vars_of vars.now)) (indexes_of (out-Path path.now).parts))).at) }
-    ensures faults { OnOk result (out.new.items ≡ out.old.items ++ (references.reference (out-Path path.now).at (option_map whole_of whole.entry) (map (spec.operand (scope_of scope.now) (vars_of vars.now)) (indexes_of (out-Path path.now).parts))).faults) }
+    ensures kind { IfOk result (λ found. kind_of scope.now.tables.now.names found.kind ≡ (references.reference (out-Path path.now).at (option_map (whole_of scope.now.tables.now.names) whole.entry) (map (spec.operand (scope_of scope.now) (vars_of scope.now.tables.now.names vars.now)) (indexes_of (out-Path path.now).parts))).kind) }
+    ensures at { IfOk result (λ found. found.at ≡ (references.reference (out-Path path.now).at (option_map (whole_of scope.now.tables.now.names) whole.entry) (map (spec.operand (scope_of scope.now) (vars_of scope.now.tables.now.names vars.now)) (indexes_of (out-Path path.now).parts))).at) }
+    ensures faults { OnOk result (out.new.items ≡ out.old.items ++ (references.reference (out-Path path.now).at (option_map (whole_of scope.now.tables.now.names) whole.entry) (map (spec.operand (scope_of scope.now) (vars_of scope.now.tables.now.names vars.now)) (indexes_of (out-Path path.now).parts))).faults) }
 {
     let parts = path.parts.as_slice();
     match whole {
@@ -330,7 +331,7 @@ fn indexes<'a>(
     over: Option<&[ValueKind<'a>]>,
 ) -> Result<(), AllocError>
     requires { AreKindTables scope.now.tables.now }
-    ensures { OnOk result (out.new.items ≡ out.old.items ++ path_faults (scope_of scope.now) (vars_of vars.now) (kinds_left over.entry) parts.now) }
+    ensures { OnOk result (out.new.items ≡ out.old.items ++ path_faults (scope_of scope.now) (vars_of scope.now.tables.now.names vars.now) (kinds_left scope.now.tables.now.names over.entry) parts.now) }
 {
     let mut left = over;
     for part in parts {
@@ -352,7 +353,7 @@ fn index<'a>(
     over: Option<&[ValueKind<'a>]>,
 ) -> Result<(), AllocError>
     requires { AreKindTables scope.now.tables.now }
-    ensures { OnOk result (out.new.items ≡ out.old.items ++ part_faults (scope_of scope.now) (vars_of vars.now) (kinds_left over.entry) part.now) }
+    ensures { OnOk result (out.new.items ≡ out.old.items ++ part_faults (scope_of scope.now) (vars_of scope.now.tables.now.names vars.now) (kinds_left scope.now.tables.now.names over.entry) part.now) }
 {
     match part {
         Part::Field { .. } => Ok(()),
@@ -364,7 +365,7 @@ fn index<'a>(
             Some(None) => Ok(()),
             Some(Some(kind)) => {
                 let e = operand(index, scope, vars, alloc, out)?;
-                takes(out, kind, e)
+                takes(&scope.tables.names, out, kind, e)
             }
         },
     }
@@ -383,7 +384,7 @@ fn begin_of(place: Option<u32>) -> u32
 
 // What is left of these kinds behind a part of a path.
 fn behind<'k, 'a>(part: &Part, over: Option<&'k [ValueKind<'a>]>) -> Option<&'k [ValueKind<'a>]>
-    ensures { kinds_left result ≡ left_behind (kinds_left over.entry) part.now }
+    ensures { (names : ScopeTables) → kinds_left names result ≡ left_behind (kinds_left names over.entry) part.now }
 {
     match part {
         Part::Field { .. } => over,
@@ -398,7 +399,7 @@ fn behind<'k, 'a>(part: &Part, over: Option<&'k [ValueKind<'a>]>) -> Option<&'k 
 // The kind of the next index, if there is a whole reference and then if it has that many indexes.
 #[tactic(auto, using(crate::proofs::KindLaws::next_kinds))]
 fn next_kind<'a>(over: Option<&[ValueKind<'a>]>) -> Option<Option<ValueKind<'a>>>
-    ensures { (from : references.Scope) (around : references.Vars) (e : Expr) → part_faults from around (kinds_left over.entry) (At e) ≡ next_faults result (spec.operand from around e) }
+    ensures { (names : ScopeTables) (from : references.Scope) (around : references.Vars) (e : Expr) → part_faults from around (kinds_left names over.entry) (At e) ≡ next_faults names result (spec.operand from around e) }
 {
     match over {
         None => None,
@@ -411,7 +412,7 @@ fn next_kind<'a>(over: Option<&[ValueKind<'a>]>) -> Option<Option<ValueKind<'a>>
 
 /// An operand of this kind at this place.
 pub fn operand_at<'a>(kind: ValueKind<'a>, at: u32) -> Operand<'a>
-    ensures kind { kind_of result.kind ≡ kind_of kind.entry }
+    ensures kind { result.kind ≡ kind.entry }
     ensures at { result.at ≡ at }
 {
     Operand { kind, at }
@@ -420,32 +421,34 @@ pub fn operand_at<'a>(kind: ValueKind<'a>, at: u32) -> Operand<'a>
 /// The two branches of a choice whose condition begins at this place.
 #[tactic(auto, using(smv_instances::proofs::Notes::noting))]
 pub fn chosen<'a>(
+    names: &ScopeTables<'a, '_>,
     at: u32,
     yes: Operand<'a>,
     no: Operand<'a>,
     out: &mut Vec<Fault>,
 ) -> Result<Operand<'a>, AllocError>
-    ensures kind { IfOk result (λ found. kind_of found.kind ≡ kinds.joined (kind_of yes.entry.kind) (kind_of no.entry.kind)) }
+    ensures kind { IfOk result (λ found. kind_of names.now found.kind ≡ kinds.joined (kind_of names.now yes.entry.kind) (kind_of names.now no.entry.kind)) }
     ensures at { IfOk result (λ found. found.at ≡ at) }
-    ensures faults { OnOk result (out.new.items ≡ out.old.items ++ misfit (kinds.joins (kind_of yes.entry.kind) (kind_of no.entry.kind)) no.entry.at) }
+    ensures faults { OnOk result (out.new.items ≡ out.old.items ++ misfit (kinds.joins (kind_of names.now yes.entry.kind) (kind_of names.now no.entry.kind)) no.entry.at) }
 {
-    let kind = fits(out, yes.kind, no)?;
+    let kind = fits(names, out, yes.kind, no)?;
     Ok(operand_at(kind, at))
 }
 
 // A comparison of these sides.
 #[tactic(auto, using(smv_instances::proofs::Notes::noting))]
 fn compared<'a>(
+    names: &ScopeTables<'a, '_>,
     op: Op,
     left: Operand<'a>,
     right: Operand<'a>,
     out: &mut Vec<Fault>,
 ) -> Result<Operand<'a>, AllocError>
-    ensures kind { IfOk result (λ found. kind_of found.kind ≡ kinds.number) }
+    ensures kind { IfOk result (λ found. kind_of names.now found.kind ≡ kinds.number) }
     ensures at { IfOk result (λ found. found.at ≡ left.entry.at) }
-    ensures faults { OnOk result (out.new.items ≡ out.old.items ++ misfit (kinds.joins (kind_of left.entry.kind) (kind_of right.entry.kind)) right.entry.at ++ order_faults op (kind_of left.entry.kind) left.entry.at (kind_of right.entry.kind) right.entry.at) }
+    ensures faults { OnOk result (out.new.items ≡ out.old.items ++ misfit (kinds.joins (kind_of names.now left.entry.kind) (kind_of names.now right.entry.kind)) right.entry.at ++ order_faults op (kind_of names.now left.entry.kind) left.entry.at (kind_of names.now right.entry.kind) right.entry.at) }
 {
-    fits(out, left.kind, right)?;
+    fits(names, out, left.kind, right)?;
     ordered(op, left, right, out)?;
     Ok(number_at(left.at))
 }
@@ -458,7 +461,7 @@ fn ordered<'a>(
     right: Operand<'a>,
     out: &mut Vec<Fault>,
 ) -> Result<(), AllocError>
-    ensures { OnOk result (out.new.items ≡ out.old.items ++ order_faults op (kind_of left.entry.kind) left.entry.at (kind_of right.entry.kind) right.entry.at) }
+    ensures { (names : ScopeTables) → OnOk result (out.new.items ≡ out.old.items ++ order_faults op (kind_of names left.entry.kind) left.entry.at (kind_of names right.entry.kind) right.entry.at) }
 {
     match op {
         Op::Equal => Ok(()),
@@ -472,7 +475,7 @@ fn ordered<'a>(
 
 // Fault 14 at a set that may not stand where it does.
 fn stray_set<'a>(at: u32, out: &mut Vec<Fault>) -> Result<Operand<'a>, AllocError>
-    ensures kind { IfOk result (λ found. kind_of found.kind ≡ (kinds.stray_set at).kind) }
+    ensures kind { (names : ScopeTables) → IfOk result (λ found. kind_of names found.kind ≡ (kinds.stray_set at).kind) }
     ensures at { IfOk result (λ found. found.at ≡ (kinds.stray_set at).at) }
     ensures faults { OnOk result (out.new.items ≡ out.old.items ++ (kinds.stray_set at).faults) }
 {

@@ -3,7 +3,7 @@ use Rattle.std.specs.List.{flat_map}
 use Rattle.smv_core.specs.declared.tree.Field.{out-Field}
 use Rattle.law_kinds.specs.Types.{type_faults}
 use Rattle.smv_expression_kinds.specs.Found.{scope_of}
-use Rattle.smv_kinds.proofs.types.+types.Given as goal
+use Rattle.smv_operand_kinds.proofs.types.+types.Given as goal
 
 abbrev pub invariant-field_faults-loop-field : goal.invariant-field_faults-loop-field
 invariant-field_faults-loop-field l =
