@@ -49,8 +49,10 @@ fn is_told(
     number: u8,
     at: usize,
 ) -> Result<bool, AllocError> {
-    let at = at as u32;
-    Ok(fault_line(alloc, front, Fault { number, at })?.as_slice() == line)
+    match u32::try_from(at) {
+        Ok(at) => Ok(fault_line(alloc, front, Fault { number, at })?.as_slice() == line),
+        Err(_) => Ok(false),
+    }
 }
 
 // Whether a front ends in one stroke, which is no sign: only two are.
