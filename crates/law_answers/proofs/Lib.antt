@@ -1,1 +1,4 @@
 mod Answers
+pub mod OneDue
+pub mod OneFault
+pub mod OneReport

@@ -12,7 +12,7 @@ use Rattle.smv_status.specs.declared.Status.{Status}
 use Rattle.smv_status.specs.declared.Status.TheVariants as status
 use Rattle.law_valid_texts.specs.Faults.{pass_fault}
 use Rattle.law_answers.specs.Dues.{IsFault, too_long, malformed, faulty, unnamed, IsDue, decided, printed, refused, status_of, proved_by, is_false, is_unknown}
-use Rattle.law_pass_faults.specs.PassFaults.{IsFaultWithin, PassFaultsAreWithin}
+use Rattle.law_fault_places.specs.PassFaults.{IsFaultWithin, PassFaultsAreWithin}
 use Rattle.law_fault_places.specs.FaultsOfTexts.{TreesOfTextsAreWithin, FaultsAreWithin}
 
 found-within : (n : ℕ) (o : Option Fault) (fault : Fault) → o ≡ Some fault → IfSome o (λ (f : Fault). IsFaultWithin n f.number f.at) → IsFaultWithin n fault.number fault.at

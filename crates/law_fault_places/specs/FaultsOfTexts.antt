@@ -6,8 +6,8 @@ use Rattle.smv_report.specs.Lines.{fault_text}
 use Rattle.smv_command.specs.declared.Command.{Command}
 use Rattle.smv_status.specs.declared.Status.TheVariants as status
 use Rattle.law_answers.specs.Dues.{IsFault, IsDue}
-use Rattle.law_tree_places.specs.TreePlaces.{TextIsWithin}
-use Rattle.law_pass_faults.specs.PassFaults.{IsFaultWithin}
+use Rattle.law_places.specs.TreePlaces.{TextIsWithin}
+use Rattle.law_fault_places.specs.PassFaults.{IsFaultWithin}
 
 -- what a text spells has its places within the text
 abbrev pub TreesOfTextsAreWithin : Type 0

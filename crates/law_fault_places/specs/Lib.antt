@@ -1,1 +1,2 @@
+pub mod PassFaults
 pub mod FaultsOfTexts

@@ -1,8 +1,8 @@
 // Laws of the places of faults, each the contract of a function that does nothing.
 ghost use Rattle.law_fault_places.specs.FaultsOfTexts.{TreesOfTextsAreWithin, FaultsAreWithin, RefusalsTellFaults};
 
-use law_pass_faults::laws::pass_faults_are_within;
-use law_tree_places::laws::spelled_trees_are_within;
+use crate::passes::pass_faults_are_within;
+use law_places::trees::spelled_trees_are_within;
 use smv_parse::one_answer;
 
 /// Each word, number and sign of the tree that a text spells stands within the text.

@@ -6,7 +6,7 @@ ghost use Rattle.law_well_kinded.specs.WellKinded.{IsWellKinded};
 ghost use Rattle.law_flat_kinds.specs.FlatKinds.{is_kinded};
 
 use law_extension::laws::families_are_found;
-use law_instance_depth::laws::families_are_deep_enough;
+use law_well_kinded::depth::families_are_deep_enough;
 
 /// In the flattened text of each text without a fault of names, size and kinds no part breaks a rule of kinds, ranges and sets.
 pub fn flattened_texts_are_kinded()

@@ -10,7 +10,7 @@ use Rattle.smv_abstraction.specs.Sets.{Has, first, later}
 use Rattle.smv_abstraction.specs.FlatConflicts.{IsConflictFree}
 use Rattle.law_single_assignment.specs.Standing.{count, Statement, statements_of, Standing, assigned_by}
 use Rattle.law_single_assignment.specs.Definitions.{Head, head, heads_of, same_definition, first_heads, def_of, design_of_raw}
-use Rattle.law_conflicts.specs.Placed.{IsFree}
+use Rattle.law_left_sides.specs.Placed.{IsFree}
 use Rattle.law_left_sides.specs.Exact.{LeftSidesAreExact, DefinitionsAreFree}
 use Rattle.law_left_sides.proofs.Counts.{count-is}
 use Rattle.law_left_sides.proofs.ExactStatements.{Has-from_flat_map, all-head, all-tail}

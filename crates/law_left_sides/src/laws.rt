@@ -7,14 +7,14 @@ ghost use Rattle.law_well_kinded.specs.WellKinded.{IsWellKinded};
 ghost use Rattle.law_single_assignment.specs.Definitions.{design_of_raw};
 ghost use Rattle.law_single_assignment.specs.Laws.{left_sides_are_whole};
 ghost use Rattle.law_single_assignment.specs.SingleFaults.{first_fault_of_single};
-ghost use Rattle.law_conflicts.specs.Placed.{IsFree, OneValueGives};
+ghost use Rattle.law_left_sides.specs.Placed.{IsFree, OneValueGives};
 ghost use Rattle.law_loops_and_layers.specs.FirstFault.{first_fault_of_design};
 ghost use Rattle.law_extension.specs.Extension.{RawHasWholeLeftSides};
 ghost use Rattle.law_extension.specs.TextExtension.{KeepsTextBehaviours, LayersAreSame};
 ghost use Rattle.smv_abstraction.specs.Covers.{AreApart};
 ghost use Rattle.law_left_sides.specs.Exact.{DefinitionsAreFree, LeftSidesAreExact};
 
-use law_conflicts::laws::{
+use crate::conflicts::{
     definitions_have_no_conflict, flattened_texts_are_placed, one_value_gives_a_result,
 };
 use law_extension::laws::{families_are_found, text_behaviours_are_kept};

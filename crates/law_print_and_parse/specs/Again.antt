@@ -3,7 +3,7 @@ use Rattle.std.specs.Prelude.{◌≡◌, ℕ, List}
 use Rattle.smv_core.specs.declared.tree.Text.{Text}
 use Rattle.smv_parse.specs.Spelling.{SpellsText}
 use Rattle.smv_print.specs.Canonical.{canonical}
-use Rattle.law_spelling.specs.Aside.{text_aside}
+use Rattle.law_print_and_parse.specs.Aside.{text_aside}
 
 -- The canonical spelling of the tree of a text spells the same tree, places aside, and is its own canonical spelling.
 abbrev pub IsPrintedAgain : Type 0

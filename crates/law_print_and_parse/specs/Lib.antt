@@ -1,1 +1,5 @@
+pub mod Readable
+pub mod TokenLaws
+pub mod Aside
+pub mod SpellingLaws
 pub mod Again

@@ -1,3 +1,9 @@
+pub mod Lists
+pub mod Chains
+pub mod Depths
+pub mod InstanceDepth
+pub mod Items
+pub mod Deep
 pub mod Opening
 pub mod Faultless
 pub mod Somewhere

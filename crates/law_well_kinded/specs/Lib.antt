@@ -1,3 +1,4 @@
+pub mod Deep
 pub mod Written
 pub mod WellKinded
 pub mod LeftSides

@@ -22,7 +22,7 @@ ghost use Rattle.law_well_kinded.specs.LeftSides.{TextLeads};
 ghost use Rattle.law_well_kinded.specs.Written.{TextIsWritten};
 ghost use Rattle.law_well_kinded.specs.WellKinded.{IsWellKinded};
 
-use law_instance_depth::laws::families_are_deep_enough;
+use crate::depth::families_are_deep_enough;
 
 /// The tree of each text that tokens spell is as the grammar has it.
 pub fn spelled_texts_are_written()

@@ -1,1 +1,2 @@
+mod Meets
 pub mod WorkedTexts

@@ -1,4 +1,0 @@
-pub mod Faultless
-pub mod Comes
-pub mod Free
-pub mod Flattened

@@ -1,3 +1,0 @@
-pub mod Single
-pub mod Loops
-pub mod Sets

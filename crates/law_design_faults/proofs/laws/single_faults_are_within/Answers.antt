@@ -1,5 +1,0 @@
-use Rattle.law_design_faults.proofs.Single.{first-within}
-use Rattle.law_design_faults.proofs.laws.single_faults_are_within.Goals as goal
-
-pub returns : goal.returns
-returns c = λ n raw h. first-within n raw h

@@ -1,4 +1,0 @@
-pub mod Forms
-pub mod Flattened
-pub mod Items
-pub mod Designs

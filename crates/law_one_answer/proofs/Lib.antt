@@ -1,3 +1,0 @@
-pub mod OneDue
-pub mod OneFault
-pub mod OneReport

@@ -1,5 +1,0 @@
-use Rattle.law_one_answer.proofs.OneDue.{one_due}
-use Rattle.law_one_answer.proofs.laws.one_answer.Goals as goal
-
-pub returns : goal.returns
-returns c = one_due c.one_answer.ensures.tree c.one_answer.ensures.fault c.one_answer.ensures.not_both c.one_tree.ensures c.reports_agree.ensures.either c.reports_agree.ensures.texts c.reports_agree.ensures.units

@@ -1,9 +1,0 @@
--- What the rule of references spells is read again.
-use Rattle.std.proofs.Common.{[]}
-use Rattle.smv_print.specs.Items.{ref_kinds}
-use Rattle.law_spelling.proofs.Again.{whole}
-use Rattle.law_spelling.proofs.References.{keeps-used}
-use Rattle.law_spelling.proofs.laws.same_reference.Goals as goal
-
-pub returns : goal.returns
-returns c n length ts us x h e rise = (keeps-used length n ts x [] h).run us [] rise (whole us (ref_kinds x) e)

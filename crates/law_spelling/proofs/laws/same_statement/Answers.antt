@@ -1,9 +1,0 @@
--- What the rule of statements spells is read again.
-use Rattle.std.proofs.Common.{[]}
-use Rattle.smv_print.specs.Statements.{stmt_kinds}
-use Rattle.law_spelling.proofs.Again.{whole}
-use Rattle.law_spelling.proofs.Blocks.{statements-kept}
-use Rattle.law_spelling.proofs.laws.same_statement.Goals as goal
-
-pub returns : goal.returns
-returns c n ts us x h e = (statements-kept n ts x [] h).run us [] tt (whole us (stmt_kinds x) e)

@@ -1,2 +1,0 @@
-pub mod Aside
-pub mod Laws

@@ -1,2 +1,0 @@
-pub mod TreePlaces
-pub mod FaultPlaces
