@@ -1,5 +1,5 @@
 // A list of operations, run line by line.
-ghost use Rattle.std.specs.Prelude.{List, [], ◌∷◌, ◌≡◌, ◌≤◌, ◌<◌, ◌++◌, ℕ, Bool, IfOk, OnOk, OnErr, IfSome, IsErrOf, None, true, false, length};
+ghost use Rattle.std.specs.Prelude.{[], ◌∷◌, ◌≡◌, ◌≤◌, ◌<◌, ◌++◌, ℕ, Bool, IfOk, OnOk, OnErr, IfSome, IsErrOf, None, true, false, length};
 ghost use Rattle.bdd_store.specs.Diagram.{AreLive, DependsFrom, IsLive, IsProper, Keeps, first_var, ref_at, table};
 ghost use Rattle.bdd_client.specs.Lines.{Fits, nodes_line, value_of, written};
 ghost use Rattle.bdd_client.specs.declared.lines.Line.TheVariants as line;

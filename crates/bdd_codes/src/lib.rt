@@ -5,7 +5,7 @@
 //! takes at most twice as many nodes. A reader begins with `specs/Codes`.
 #![tactic(auto)]
 
-ghost use Rattle.std.specs.Prelude.{◌≡◌, ℕ, suc, ◌+◌, ◌-◌, ◌*◌, ◌^◌, ◌<◌, ◌≤◌, Bool, IfOk, OnOk, length, min, not, nat_eq, nat_le, nat_lt};
+ghost use Rattle.std.specs.Prelude.{◌≡◌, ℕ, ◌+◌, ◌-◌, ◌*◌, ◌^◌, ◌<◌, ◌≤◌, Bool, IfOk, OnOk, length, min, not, nat_le, nat_lt};
 ghost use Rattle.bdd_store.specs.Diagram.{IsLive, Keeps, table};
 ghost use Rattle.bdd_codes.specs.Codes.{bits_at, code_at, IsFrom, AreFrom, AreCodes, AreValues};
 

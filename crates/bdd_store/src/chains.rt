@@ -1,7 +1,7 @@
 //! The unique table: chains of nodes with one hash, and the list of the places that were given back.
 
-ghost use Rattle.std.specs.Prelude.{◌≡◌, ◌≢◌, ℕ, Bool, false, List, [], ◌∷◌, ◌++◌, if◌then◌else◌, is_ok, ◌+◌, ◌<◌, ◌≤◌, ◌^◌, IfOk, OnErr, length, slice_index, vec_len, vec_capacity, min, count_by};
-ghost use Rattle.bdd_store.specs.Graph.{var_at, low_at, high_at, next_at};
+ghost use Rattle.std.specs.Prelude.{◌≡◌, ℕ, Bool, false, [], ◌∷◌, ◌++◌, if◌then◌else◌, is_ok, ◌+◌, ◌<◌, ◌≤◌, IfOk, OnErr, length, slice_index, vec_len, vec_capacity, min, count_by};
+ghost use Rattle.bdd_store.specs.Graph.{next_at};
 ghost use Rattle.bdd_store.specs.Chains.{bucket_of, home, start, InChain, IsFalling, Matches, AllOf, AllBut, IsPower, Chained, SameGraph, Puts, GivesBack, node_count};
 ghost use Rattle.bdd_store.specs.Seen.{flag};
 

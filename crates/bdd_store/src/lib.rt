@@ -4,8 +4,8 @@
 //! results and free list stand in the invariant of `Store` alone (`specs/Chains`, `specs/Graph`).
 #![tactic(auto)]
 
-ghost use Rattle.std.specs.Prelude.{◌≡◌, ◌≢◌, ◌↔◌, ◌⊎◌, ℕ, ◌+◌, ◌-◌, ◌<◌, ◌≤◌, Bool, true, false, IfOk, OnOk, OnErr, IfSome, IfNone, IsNone, if◌then◌else◌, is_ok, min, length, slice_index, vec_len, vec_capacity};
-ghost use Rattle.std.specs.Prelude.{List, [], ◌∷◌, ◌++◌, count_by};
+ghost use Rattle.std.specs.Prelude.{◌≡◌, ◌↔◌, ◌⊎◌, ℕ, ◌+◌, ◌-◌, ◌<◌, ◌≤◌, Bool, true, false, IfOk, OnOk, OnErr, IfSome, IfNone, IsNone, if◌then◌else◌, is_ok, min, vec_capacity};
+ghost use Rattle.std.specs.Prelude.{List, [], ◌∷◌};
 ghost use Rattle.bdd_store.specs.Diagram.{Diagram, IsLive, AreLive, table, tables_of, IsSound, IsCanonical, first_var, IsConstant, IsProper, DependsFrom, Reaches, held, Keeps, HasMarks, KeepsMarks, IsKept, Sweeps};
 ghost use Rattle.bdd_store.specs.Steps.{Grows, Stays, Gives, IsFound};
 ghost use Rattle.bdd_store.specs.Results.{AreResults};

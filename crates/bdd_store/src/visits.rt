@@ -1,6 +1,6 @@
 //! The nodes below a function: seen once each, and counted.
 
-ghost use Rattle.std.specs.Prelude.{◌≡◌, ℕ, ◌<◌, Bool, List, [], ◌++◌, length, vec_len, vec_capacity, ◌≤◌, count_by};
+ghost use Rattle.std.specs.Prelude.{◌≡◌, ℕ, ◌<◌, List, [], ◌++◌, length, vec_len, vec_capacity, ◌≤◌, count_by};
 ghost use Rattle.std.specs.List.{flat_map};
 ghost use Rattle.bdd_store.specs.Graph.{Reduced, Live, below};
 ghost use Rattle.bdd_store.specs.Seen.{IsClosed, SeenIs, places_of};

@@ -1,6 +1,6 @@
 //! Small functions.
 
-ghost use Rattle.std.specs.Prelude.{◌≡◌, ◌<◌, ◌≤◌, IfOk};
+ghost use Rattle.std.specs.Prelude.{◌<◌, ◌≤◌, IfOk};
 ghost use Rattle.bdd_store.specs.Diagram.{IsLive, Keeps, first_var};
 
 use bdd_store::{Ref, Store};

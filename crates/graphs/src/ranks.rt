@@ -1,7 +1,7 @@
 // Ranks of nodes, by which cycles are ruled out without a search.
-ghost use Rattle.std.specs.Prelude.{◌≡◌, ℕ, ◌<◌, ◌≤◌, length, true, false, slice_index_or, IfOk, MatchBool};
+ghost use Rattle.std.specs.Prelude.{◌≡◌, ◌<◌, length, true, false, slice_index_or, IfOk, MatchBool};
 ghost use Rattle.std.specs.List.{All, Any};
-ghost use Rattle.graphs.specs.Graph.{next, lists, reaches, IsGraph};
+ghost use Rattle.graphs.specs.Graph.{lists, reaches, IsGraph};
 ghost use Rattle.graphs.specs.Ranks.{rank, IsNoneAbove, Descends, IsOrder};
 ghost use Rattle.graphs.specs.Search.{IsSeen};
 ghost use Rattle.graphs.specs.Placed.{HasNone, Placed, Came};

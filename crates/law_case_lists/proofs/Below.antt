@@ -1,9 +1,9 @@
 -- The lists of a case are over its bits.
-use Rattle.std.proofs.Common.{◌≡◌, ◌≢◌, ℕ, ◌+◌, ◌*◌, ◌<◌, List, [], ◌∷◌, ◌++◌, map, Bool, true, false, ◌&&◌, not, refl, sym, ap, subst, ◌∙◌, inl, inr, Some, None, arith, filter}
+use Rattle.std.proofs.Common.{◌≡◌, ℕ, ◌+◌, ◌*◌, ◌<◌, List, [], ◌∷◌, ◌++◌, map, Bool, true, false, ◌&&◌, not, sym, ap, subst, ◌∙◌, inl, inr, Some, None, arith, filter}
 use Rattle.std.specs.List.{list_all}
 use Rattle.bdd_store.specs.Graph.{with_at}
 use Rattle.bdd_store.proofs.Walks.{with_other}
-use Rattle.bdd_ops.specs.Functions.{Function, FreeOf}
+use Rattle.bdd_ops.specs.Functions.{Function}
 use Rattle.smv_rings.specs.Functions.{DependsBelow}
 use Rattle.smv_rings.specs.Lists.{State, AllBelow, IsCurrent, AllCurrent, IsLists}
 use Rattle.smv_abstraction.specs.Sets.{Has, first, later}

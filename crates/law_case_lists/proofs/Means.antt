@@ -1,12 +1,10 @@
 -- What the lists of a case say of the states that an assignment is read as.
-use Rattle.std.proofs.Common.{◌≡◌, ◌≢◌, ℕ, ◌+◌, ◌*◌, ◌/◌, ◌<◌, List, [], ◌∷◌, ◌++◌, map, Bool, true, false, ◌&&◌, not, refl, sym, ap, subst, ◌∙◌, inl, inr, Option, Some, None, arith, filter}
+use Rattle.std.proofs.Common.{◌≡◌, ℕ, ◌+◌, ◌*◌, List, [], ◌∷◌, ◌++◌, map, Bool, true, ◌&&◌, not, refl, sym, ap, subst, ◌∙◌, inl, inr, Option, Some, None, arith, filter}
 use Rattle.std.specs.List.{list_all, flat_map}
 use Rattle.bdd_ops.specs.Functions.{Function}
 use Rattle.smv_rings.specs.Lists.{Lists, State, both, at, all_of}
 use Rattle.smv_rings.proofs.Image.{both_even, both_odd}
-use Rattle.smv_core.specs.declared.flat.Def.{Def}
 use Rattle.smv_abstraction.specs.Sets.{Has, first, later}
-use Rattle.smv_abstraction.specs.Places.{Place}
 use Rattle.smv_abstraction.specs.May.{AbsState}
 use Rattle.smv_abstraction.specs.Obligations.{Demanded, defined, holds, is_met, obligation}
 use Rattle.smv_abstraction.proofs.Tests.{and_both, left_of, right_of, true_or_false}

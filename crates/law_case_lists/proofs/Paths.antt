@@ -1,8 +1,8 @@
 -- Paths, rings and induction over the lists of a case are those of its problem.
 use Rattle.std.proofs.Common.{◌≡◌, ℕ, zero, suc, ◌+◌, ◌<◌, ◌≤◌, List, [], ◌∷◌, ◌++◌, length, Bool, true, false, ◌&&◌, refl, sym, ap, subst, ◌∙◌, inl, inr, ◌⊎◌, Option, Some, None, arith}
 use Rattle.bdd_ops.specs.Functions.{Function}
-use Rattle.smv_rings.specs.Lists.{Lists, State, both, at, all_of}
-use Rattle.smv_rings.specs.Paths.{Starts, Steps, Ends, InRing, Violates, IsViolating, IsInductive}
+use Rattle.smv_rings.specs.Lists.{State, at}
+use Rattle.smv_rings.specs.Paths.{Starts, Steps, Ends, InRing, IsViolating, IsInductive}
 use Rattle.smv_rings.proofs.PathLaws.{violates_of}
 use Rattle.smv_rings.proofs.Rings.{inductive_safe}
 use Rattle.smv_abstraction.specs.Sets.{Has, first, later}

@@ -1,5 +1,5 @@
 -- The lists of functions of a case, function by function, as truth tables over its current and next bits.
-use Rattle.std.specs.Prelude.{◌≡◌, ℕ, ◌+◌, ◌*◌, List, [], ◌∷◌, ◌++◌, map, flat_map, filter, Some, None, Bool, true, false, not, ◌&&◌}
+use Rattle.std.specs.Prelude.{◌≡◌, ℕ, ◌+◌, ◌*◌, List, ◌++◌, map, flat_map, filter, Some, None, Bool, true, false, not, ◌&&◌}
 use Rattle.std.specs.List.{list_any, list_all}
 use Rattle.bdd_ops.specs.Functions.{Function}
 use Rattle.smv_abstraction.specs.Demands.{concerns_place}

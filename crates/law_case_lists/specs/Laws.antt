@@ -1,12 +1,9 @@
 -- The laws: what the crate's public functions say.
 use Rattle.std.specs.Prelude.{◌≡◌, ◌↔◌, ℕ, suc, ◌<◌, List, length, Bool, true}
 use Rattle.bdd_ops.specs.Functions.{Function}
-use Rattle.smv_abstraction.specs.Sets.{Has}
 use Rattle.smv_abstraction.specs.May.{AbsState}
-use Rattle.smv_abstraction.specs.Pictures.{IsAbsState}
-use Rattle.smv_rings.specs.Lists.{Lists, State, at, IsLists}
-use Rattle.smv_rings.specs.Paths.{InRing, Violates, IsViolating, IsInductive}
-use Rattle.law_codes.specs.Codes.{bits_for, AreBits}
+use Rattle.smv_rings.specs.Lists.{State, at, IsLists}
+use Rattle.smv_rings.specs.Paths.{InRing, IsViolating, IsInductive}
 use Rattle.law_codes.specs.Readings.{Case, IsCase, are_values, reading}
 use Rattle.law_case_lists.specs.CaseLists.{case_lists}
 use Rattle.law_codes.specs.CasePaths.{IsViolatingPath, HasNone, IsShortest, IsInRing, IsInvariant, states_from}

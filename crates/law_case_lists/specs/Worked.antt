@@ -1,14 +1,12 @@
 -- Worked cases.
-use Rattle.std.specs.Prelude.{◌≡◌, ℕ, List, [], ◌∷◌, map, get_or, None, Bool, true, false, codes}
+use Rattle.std.specs.Prelude.{◌≡◌, ℕ, List, [], ◌∷◌, map, None, Bool, true, false, codes}
 use Rattle.bdd_ops.specs.Functions.{Function, bit_at}
-use Rattle.smv_core.specs.Values.{number}
 use Rattle.smv_core.specs.declared.flat.Simple.TheVariants.{Range}
 use Rattle.smv_core.specs.declared.flat.Family.{Family}
-use Rattle.smv_core.specs.declared.flat.Def.{Def}
 use Rattle.smv_core.specs.declared.flat.Flat.{Flat, Nothing, Assign}
 use Rattle.smv_core.specs.declared.flat.FlatExpr.{FlatExpr, Number, Not, Or}
-use Rattle.smv_abstraction.specs.Places.{Place, named, World}
-use Rattle.smv_abstraction.specs.Obligations.{Demanded, defined, holds, Problem}
+use Rattle.smv_abstraction.specs.Places.{Place}
+use Rattle.smv_abstraction.specs.Obligations.{Demanded, defined, holds}
 use Rattle.smv_abstraction.specs.Worked.{family, signal}
 use Rattle.smv_abstraction.specs.WorkedObligations.{scalars, bit}
 use Rattle.law_obligations.specs.Cones.{AbsElement, element, kept}

@@ -1,10 +1,10 @@
 -- The cases of a checked script are cases.
-use Rattle.std.proofs.Common.{◌≡◌, ℕ, zero, suc, ◌+◌, ◌-◌, ◌<◌, ◌≤◌, List, [], ◌∷◌, ◌++◌, map, length, Bool, true, false, if◌then◌else◌, cond, ◌&&◌, refl, sym, ap, subst, ◌∙◌, ◌⊎◌, inl, inr, Option, Some, None, option_to_list, nat_lt, arith}
+use Rattle.std.proofs.Common.{◌≡◌, ℕ, zero, suc, ◌+◌, ◌-◌, ◌<◌, ◌≤◌, List, [], ◌∷◌, ◌++◌, map, length, Bool, true, false, if◌then◌else◌, ◌&&◌, refl, sym, ap, subst, ◌∙◌, ◌⊎◌, inl, inr, Option, Some, None, option_to_list, nat_lt, arith}
 use Rattle.std.specs.Prelude.{IfSome}
 use Rattle.std.specs.List.{flat_map, slice_get, zip}
 use Rattle.std.proofs.lemmas.Bool.Decides.{nat_tests}
-use Rattle.smv_core.specs.Values.{Name, Value, number, constant, scalar, ordinal, Simple, range, choice, scalarset, ordset, values_of, numbers_from}
-use Rattle.smv_core.specs.Flat.{Numbered, simple_in, set_type}
+use Rattle.smv_core.specs.Values.{Name, number, constant, scalar, ordinal, choice, scalarset, ordset, numbers_from}
+use Rattle.smv_core.specs.Flat.{set_type}
 use Rattle.smv_core.specs.declared.flat.Simple.{Simple as FlatSimple}
 use Rattle.smv_core.specs.declared.flat.Simple.TheVariants.{Range, Enum, Set}
 use Rattle.smv_core.specs.declared.flat.SetInfo.{SetInfo}
@@ -20,26 +20,25 @@ use Rattle.smv_core.specs.declared.flat.Timed.{Timed}
 use Rattle.smv_abstraction.specs.declared.abstract_type.Rest.TheVariants as beside
 use Rattle.smv_abstraction.specs.declared.abstract_type.AbsType.{AbsType}
 use Rattle.smv_abstraction.specs.Sets.{Has, first, later, one_of_each}
-use Rattle.smv_abstraction.specs.Places.{Place, named, rest, World, world, rests_beside, named_of, rests_of, places_of, named_in, places_in}
-use Rattle.smv_abstraction.specs.Cases.{Treatment, whole, reduced, ordered, Parameter, numbered, abstract_type, used, named_among, listed_classes, type_in}
+use Rattle.smv_abstraction.specs.Places.{Place, named, rest, World, rests_beside, named_of, rests_of, places_of, named_in, places_in}
+use Rattle.smv_abstraction.specs.Cases.{Treatment, whole, reduced, ordered, numbered, abstract_type, used, named_among, listed_classes, type_in}
 use Rattle.smv_abstraction.specs.Covers.{types_at}
 use Rattle.smv_abstraction.specs.LeafCases.{kept_of, treatment_of, treatments_of}
-use Rattle.smv_abstraction.specs.Obligations.{Demanded, defined, holds, Problem}
-use Rattle.smv_abstraction.specs.Soundness.{map_of, claim_of, over_of}
-use Rattle.smv_abstraction.proofs.Tests.{true_or_false, left_of, right_of}
+use Rattle.smv_abstraction.specs.Obligations.{Demanded, defined, holds}
+use Rattle.smv_abstraction.specs.Soundness.{over_of}
 use Rattle.smv_abstraction.proofs.Members.{Has-left, Has-right, Has-cases, Has-map, Has-from_map}
 use Rattle.smv_abstraction.proofs.Spots.{Has-numbers, numbers-Has}
 use Rattle.smv_abstraction.proofs.OneOfEach.{Has-from_flat_map, get_Has}
 use Rattle.smv_abstraction.proofs.CoverNames.{by_name-at, numbered-at}
 use Rattle.law_obligations.specs.Reached.{reached, is_among}
-use Rattle.law_obligations.specs.Outlines.{Entry, Outline, Script, outline_of, names_of, unit_in, map_in, assumed, chosen}
-use Rattle.law_obligations.specs.Cones.{AbsElement, element, same_element, elements_of, elements, first_elements, next_elements, cone, kept}
-use Rattle.law_obligations.specs.Problems.{is_at, family_time, leaf_params, leaf_treatments, world_of, params_at, own_params, element_demands, own_demands, itself_demands, instances, claim_demands, demands, problem_of}
+use Rattle.law_obligations.specs.Outlines.{Entry, Outline, Script, outline_of, unit_in, map_in, assumed, chosen}
+use Rattle.law_obligations.specs.Cones.{AbsElement, element, same_element, elements_of, elements, first_elements, next_elements, cone}
+use Rattle.law_obligations.specs.Problems.{is_at, family_time, leaf_params, leaf_treatments, world_of, params_at, own_params, element_demands, own_demands, itself_demands, instances, claim_demands, demands}
 use Rattle.law_obligations.specs.Checked.{IsChecked, IsFilled}
 use Rattle.law_obligations.proofs.Lookups.{inner, Has-option, Has-tested, Has-from_filter}
 use Rattle.law_obligations.proofs.OutlineFacts.{chosen-comes}
-use Rattle.law_obligations.proofs.ConeFacts.{same_element-family, same_element-indexes}
-use Rattle.law_codes.specs.Readings.{Case, IsCase}
+use Rattle.law_obligations.proofs.ConeFacts.{same_element-family}
+use Rattle.law_codes.specs.Readings.{IsCase}
 use Rattle.law_cases.specs.Scripts.{case_of, HaveValues}
 
 -- ---- types have values

@@ -1,6 +1,5 @@
 -- What has a kind reads whole elements.
-use Rattle.std.proofs.Common.{◌≡◌, ℕ, List, [], ◌∷◌, map, slice_get, Option, Some, is_some, true, ◌&&◌, nat_le, nat_lt, sym, subst}
-use Rattle.std.specs.List.{list_all}
+use Rattle.std.proofs.Common.{◌≡◌, ℕ, List, [], ◌∷◌, map, slice_get, Some, is_some, true, ◌&&◌, nat_le, nat_lt, sym, subst}
 use Rattle.smv_core.specs.declared.flat.Simple.{Simple}
 use Rattle.smv_core.specs.declared.flat.Family.{Family}
 use Rattle.smv_core.specs.declared.flat.FlatMember.{One, Span as SpanOf}

@@ -1,20 +1,19 @@
 -- Assignments are read as abstract states, and each abstract state is read from one.
 use Rattle.std.proofs.Common.{◌≡◌, ℕ, ◌+◌, ◌-◌, ◌^◌, ◌<◌, ◌≤◌, List, [], ◌∷◌, length, find, Bool, true, false, cond, ◌||◌, refl, sym, ap, subst, ◌∙◌, inl, inr, Option, Some, None, arith, nat_lt}
-use Rattle.std.specs.List.{slice_get, list_any, list_all}
+use Rattle.std.specs.List.{slice_get, list_any}
 use Rattle.std.proofs.lemmas.Bool.Decides.{nat_tests}
-use Rattle.smv_core.specs.Values.{number}
 use Rattle.smv_core.specs.declared.flat.Family.{Family}
 use Rattle.smv_abstraction.specs.Sets.{Has, first, later}
-use Rattle.smv_abstraction.specs.Places.{Place, named, World, places_in}
+use Rattle.smv_abstraction.specs.Places.{Place, World, places_in}
 use Rattle.smv_abstraction.specs.May.{AbsState}
 use Rattle.smv_abstraction.specs.Pictures.{IsAbsState}
-use Rattle.smv_abstraction.proofs.Members.{Has-uncons, all-holds, any-found}
+use Rattle.smv_abstraction.proofs.Members.{all-holds, any-found}
 use Rattle.smv_abstraction.proofs.Tests.{true_or_false}
 use Rattle.law_obligations.specs.Cones.{AbsElement, element, same_element, kept}
 use Rattle.law_obligations.proofs.Lookups.{find-some, none_or_some}
 use Rattle.law_obligations.proofs.ConeFacts.{same_element-itself, same_element-family, same_element-indexes}
 use Rattle.law_codes.specs.Bits.{Bits}
-use Rattle.law_codes.specs.Codes.{bits_for, AreBits, code_from, value_of_code}
+use Rattle.law_codes.specs.Codes.{code_from, value_of_code}
 use Rattle.law_codes.specs.Readings.{Case, IsCase, Slot, values_in, values_of, bits_of, bits_of_all, slots_from, code_of, is_value, read_at, slots, state_bits, are_values, reading}
 use Rattle.law_codes.proofs.Codes.{bits_are, spell, code_spelled, code_agree, value_Has, Has_value}
 

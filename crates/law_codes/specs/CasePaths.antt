@@ -1,5 +1,5 @@
 -- Paths, rings and induction of a case, in abstract states.
-use Rattle.std.specs.Prelude.{◌≡◌, ℕ, zero, suc, ◌<◌, ◌≤◌, List, [], ◌∷◌, length, Option, Some, None, Bool, true, false, ◌&&◌}
+use Rattle.std.specs.Prelude.{◌≡◌, ℕ, zero, suc, ◌≤◌, List, [], ◌∷◌, length, Option, Some, None, Bool, true, false, ◌&&◌}
 use Rattle.smv_abstraction.specs.Sets.{Has}
 use Rattle.smv_abstraction.specs.May.{AbsState}
 use Rattle.smv_abstraction.specs.Pictures.{IsAbsState}

@@ -7,7 +7,7 @@ use Rattle.smv_core.specs.declared.flat.Def.{Def}
 use Rattle.smv_abstraction.specs.Sets.{Has}
 use Rattle.smv_abstraction.specs.Places.{Place, named, World, places_in}
 use Rattle.smv_abstraction.specs.May.{AbsState}
-use Rattle.smv_abstraction.specs.Obligations.{Demanded, defined, Problem}
+use Rattle.smv_abstraction.specs.Obligations.{defined, Problem}
 use Rattle.law_obligations.specs.Cones.{AbsElement, element, same_element, kept}
 use Rattle.law_codes.specs.Bits.{Bits}
 use Rattle.law_codes.specs.Codes.{bits_for, code_from, value_of_code}

@@ -1,7 +1,7 @@
 -- Indexes and elements as they are written.
 use Rattle.std.proofs.Common.{◌≡◌, ℕ, ◌+◌, ◌-◌, List, [], ◌∷◌, ◌++◌, map, Bool, true, false, cond, refl, sym, ap, subst, ◌∙◌, Option, Some, None}
 use Rattle.std.specs.List.{flat_map, slice_get}
-use Rattle.smv_core.specs.Values.{Name, Value, number, scalar, ordinal, values_of, numbers_from}
+use Rattle.smv_core.specs.Values.{Value, number, scalar, ordinal, values_of, numbers_from}
 use Rattle.smv_core.specs.Values as values
 use Rattle.smv_core.specs.Flat.{set_type}
 use Rattle.smv_core.specs.declared.flat.Family.{Family}

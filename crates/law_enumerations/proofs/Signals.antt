@@ -1,11 +1,10 @@
 -- What signals lead to, where each list that is written is the one to which its first constant belongs.
 use Rattle.law_well_kinded.proofs.Opening.{opening}
-use Rattle.std.proofs.Common.{◌≡◌, ℕ, List, [], ◌∷◌, ◌++◌, flat_map, length, Option, Some, None, option_map, option_and_then, Bool, true, false, cond, refl, sym, ap, subst}
+use Rattle.std.proofs.Common.{◌≡◌, List, [], ◌∷◌, ◌++◌, flat_map, length, Option, Some, None, option_and_then, Bool, true, false, cond, refl, sym, subst}
 use Rattle.std.specs.List.{AllByRecursion}
 use Rattle.smv_core.specs.Values.{Name}
 use Rattle.smv_core.specs.Types.{find_name, names_of}
 use Rattle.smv_core.specs.declared.tree.Word.{Word}
-use Rattle.smv_core.specs.declared.tree.Text.{Text}
 use Rattle.smv_core.specs.declared.tree.Part.{Part, Field, At}
 use Rattle.smv_core.specs.declared.tree.Pair.{Pair}
 use Rattle.smv_core.specs.declared.tree.Top.{Top}
@@ -15,7 +14,6 @@ use Rattle.smv_core.specs.declared.tree.Item.{Item, Declare, Instance, Layer, Cl
 use Rattle.smv_core.specs.declared.tree.Item as item
 use Rattle.smv_instances.specs.Mentions.{What, signal, instance, goal, Mention, in_type, in_fields, in_expr, in_stmt, declared_as, instantiates, in_item, in_items}
 use Rattle.smv_instances.specs.Scopes.{Own, Constant, Known, Piece, has_name, own_names, known_after, pieces_from, pieces, constants}
-use Rattle.smv_instances.specs.FirstFault.{first_fault}
 use Rattle.law_kinds.specs.Kinds.{Kind, number, enumeration, set_type}
 use Rattle.law_kinds.specs.Types.{Whole, Leads, single, under, value_kind, Types, leads, leads_field}
 use Rattle.law_kinds.specs.References.{Module, modules_from, behind, signal_at}

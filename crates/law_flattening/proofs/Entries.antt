@@ -3,7 +3,7 @@ use Rattle.std.proofs.Common.{◌≡◌, ℕ, zero, suc, List, [], ◌∷◌, �
 use Rattle.smv_core.specs.Values.{Name, Path, Value}
 use Rattle.smv_core.specs.Types.{Types, values_over, types_from}
 use Rattle.smv_core.specs.FlatOrder as tree
-use Rattle.smv_core.specs.FlatOrder.{Body, Said, Claimed, Met, said, claimed, within_binder, body_of, role_of, item_met, items_met, met_in, modules, main, design_of}
+use Rattle.smv_core.specs.FlatOrder.{Body, Met, said, claimed, within_binder, body_of, role_of, item_met, items_met, met_in, modules, main, design_of}
 use Rattle.smv_core.specs.Outcome.{State, Bindings, Scene}
 use Rattle.smv_core.specs.Walk.{Element, Walk, walk, first}
 use Rattle.smv_core.specs.Assignments.{Around, any, assignments}

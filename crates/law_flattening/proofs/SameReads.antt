@@ -14,7 +14,6 @@ use Rattle.smv_core.specs.Outcome.{State, Bindings, Scene, family_at, same_path,
 use Rattle.smv_core.specs.Assignments.{Around, loop, any}
 use Rattle.smv_core.specs.Conflicts.{Agrees}
 use Rattle.smv_core.specs.Flat.{Numbered, FlatState, FlatBindings, bind, values_in, flat_element_at, flat_outcome}
-use Rattle.smv_core.specs.Outcome.{fit}
 use Rattle.smv_core.specs.declared.tree.TypeExpr.{TypeExpr}
 use Rattle.smv_core.specs.declared.flat.SetInfo.{SetInfo}
 use Rattle.smv_core.specs.declared.flat.FlatExpr.{FlatExpr, Var, Loop}

@@ -1,7 +1,7 @@
 -- Elements of a cone in order, as they are written.
 use Rattle.std.proofs.Common.{◌≡◌, ℕ, ◌+◌, ◌-◌, List, [], ◌∷◌, map, length, Bool, true, false, cond, ◌&&◌, ◌||◌, nat_eq, nat_lt, refl, sym, ap, subst, ◌∙◌, ◌⊎◌, inl, inr, Option, Some, None}
 use Rattle.std.specs.List.{slice_get}
-use Rattle.smv_core.specs.Values.{Name, Value, number, scalar, ordinal, values_of, numbers_from}
+use Rattle.smv_core.specs.Values.{Value, number, scalar, ordinal, values_of, numbers_from}
 use Rattle.smv_core.specs.Values as values
 use Rattle.smv_core.specs.Flat.{set_type}
 use Rattle.smv_core.specs.declared.flat.Family.{Family}

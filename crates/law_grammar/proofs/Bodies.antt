@@ -7,7 +7,6 @@ use Rattle.smv_core.specs.Signs.{open_brace, close_brace, colon, comma}
 use Rattle.smv_core.specs.Signs as w
 use Rattle.smv_core.specs.Notation.{Tokens, ◌>>◌, ◌<|>◌, many, token, name, separated}
 use Rattle.smv_core.specs.Grammar as g
-use Rattle.smv_core.specs.Grammar.{place_of}
 use Rattle.smv_core.specs.OpenIf.{ends_in_open_if}
 use Rattle.law_grammar.specs.Lawful.{Levels, Finishes, Lawful}
 use Rattle.law_grammar.specs.Marks.{exactly, stops_by}

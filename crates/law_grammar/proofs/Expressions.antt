@@ -11,7 +11,7 @@ use Rattle.smv_core.specs.declared.tree.Expr.TheVariants as expr
 use Rattle.smv_core.specs.declared.tree.Member.TheVariants as member
 use Rattle.smv_core.specs.declared.tree.Part.TheVariants as part
 use Rattle.smv_core.specs.declared.tree.Op.TheVariants as op
-use Rattle.smv_core.specs.Signs.{open_paren, close_paren, open_bracket, close_bracket, open_brace, close_brace, colon, semicolon, comma, dot, dots, becomes}
+use Rattle.smv_core.specs.Signs.{open_paren, close_paren, open_bracket, close_bracket, open_brace, close_brace, colon, comma, dot, dots}
 use Rattle.smv_core.specs.Signs.{equal, differ, less, at_most, greater, at_least, plus, minus, tilde, ampersand, bar, arrow, double_arrow, question}
 use Rattle.smv_core.specs.Signs as w
 use Rattle.smv_core.specs.Notation.{Tokens, Rule, nothing, ◌>>=◌, ◌>>◌, ◌<|>◌, many, one, token, name, number, optional, separated, same_name, same_kind, name_of, number_of, with_place}

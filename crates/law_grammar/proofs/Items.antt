@@ -12,7 +12,7 @@ use Rattle.smv_core.specs.declared.tree.Item.{Item}
 use Rattle.smv_core.specs.declared.tree.Item.TheVariants as item
 use Rattle.smv_core.specs.declared.tree.Role.{Role}
 use Rattle.smv_core.specs.declared.tree.Role.TheVariants as role
-use Rattle.smv_core.specs.Signs.{open_paren, close_paren, open_brace, close_brace, colon, semicolon, comma, becomes, open_bracket, dot}
+use Rattle.smv_core.specs.Signs.{open_paren, close_paren, open_brace, close_brace, colon, semicolon, comma, becomes}
 use Rattle.smv_core.specs.Signs as w
 use Rattle.smv_core.specs.Notation.{Tokens, nothing, ◌>>=◌, ◌>>◌, ◌<|>◌, many, token, name, one_of, separated_or_none}
 use Rattle.smv_core.specs.Grammar as g
@@ -23,7 +23,7 @@ use Rattle.law_grammar.specs.Marks.{Mark, any_name, any_number, exactly, begins,
 use Rattle.law_grammar.specs.Readers.{a_token, a_name, read_separated_or_none}
 use Rattle.law_grammar.specs.Expressions.{expr_marks, expr_readers}
 use Rattle.law_grammar.specs.Statements.{stmt_marks}
-use Rattle.law_grammar.specs.Items.{ItemReaders, MarkedPart, parts_of, vars_of, vars_of_some, roles, role_marks, other_marks, item_marks, body_marks}
+use Rattle.law_grammar.specs.Items.{MarkedPart, parts_of, vars_of, vars_of_some, roles, other_marks, item_marks}
 use Rattle.law_grammar.specs.Items as p
 use Rattle.law_grammar.proofs.Tokens.{nothing-lawful}
 use Rattle.law_grammar.proofs.Forms.{Begins, begins-then, begins-either, begins-wider, starts-wider, token-begins, opener-begins, token-lawful, level, name-begins, name-lawful, entry-lawful, closed, next, repeated, at-most-once, alternative, separated-lawful, next-begun, ended}

@@ -11,7 +11,7 @@ use Rattle.smv_core.specs.Signs.{open_paren, close_paren, open_bracket, close_br
 use Rattle.smv_core.specs.Signs as w
 use Rattle.smv_core.specs.Notation.{Tokens, Rule, nothing, ◌>>=◌, ◌>>◌, ◌<|>◌, many, token, name, placed, separated_or_none}
 use Rattle.smv_core.specs.Grammar as g
-use Rattle.smv_core.specs.Grammar.{below, Dotted, Bracketed, dotted, bracketed}
+use Rattle.smv_core.specs.Grammar.{below, dotted, bracketed}
 use Rattle.law_grammar.specs.Parsing.{Parser, bind, pure, take, take_open, loop, starts}
 use Rattle.law_grammar.specs.Lawful.{Levels, Lawful}
 use Rattle.law_grammar.specs.Marks.{Mark, any_name, exactly, begins, stops_by}

@@ -8,18 +8,18 @@ use Rattle.smv_core.specs.declared.tree.Stmt.{Stmt}
 use Rattle.smv_core.specs.declared.tree.Stmt.TheVariants as stmt
 use Rattle.smv_core.specs.declared.tree.Arm.{roll-Arm}
 use Rattle.smv_core.specs.declared.tree.Kind.TheVariants as kind
-use Rattle.smv_core.specs.Signs.{open_paren, close_paren, open_brace, close_brace, colon, semicolon, comma, becomes, equal, less, at_most, plus, dot}
+use Rattle.smv_core.specs.Signs.{open_paren, close_paren, open_brace, close_brace, colon, semicolon, comma, becomes, equal, less, at_most, plus}
 use Rattle.smv_core.specs.Signs as w
 use Rattle.smv_core.specs.Notation.{Tokens, nothing, ◌>>=◌, ◌>>◌, ◌<|>◌, many, one, token, number_of, with_place, optional, positive}
 use Rattle.smv_core.specs.Grammar as g
-use Rattle.smv_core.specs.Grammar.{Turns, below, named}
+use Rattle.smv_core.specs.Grammar.{below, named}
 use Rattle.smv_core.specs.OpenIf.{ends_in_open_if}
 use Rattle.law_grammar.specs.Parsing.{Outcome, Parser, and_then, bind, pure, take, starts, loop}
 use Rattle.law_grammar.specs.Lawful.{Levels, first, Finishes, Lawful}
 use Rattle.law_grammar.specs.Marks.{Mark, any_name, any_number, exactly, begins, stops_by}
 use Rattle.law_grammar.specs.Readers.{a_token, an_entry}
 use Rattle.law_grammar.specs.Expressions.{read_path, read_condition, expr_readers}
-use Rattle.law_grammar.specs.Statements.{StmtReaders, at_least_one, a_positive, moments, bounds, simple_marks, stmt_marks}
+use Rattle.law_grammar.specs.Statements.{StmtReaders, at_least_one, a_positive, moments, simple_marks, stmt_marks}
 use Rattle.law_grammar.specs.Statements as p
 use Rattle.law_grammar.proofs.Sequence.{followed}
 use Rattle.law_grammar.proofs.Tokens.{nothing-lawful, one-lawful, same-law, same-lawful}

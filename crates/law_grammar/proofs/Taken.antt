@@ -8,7 +8,7 @@ use Rattle.law_grammar.specs.Parsing.{Parser, bind, take}
 use Rattle.law_grammar.specs.Lawful.{Levels, Lawful}
 use Rattle.law_grammar.specs.Marks.{any_name, any_number, exactly}
 use Rattle.law_grammar.specs.Readers.{a_token}
-use Rattle.law_grammar.specs.Expressions.{additions, expr_readers}
+use Rattle.law_grammar.specs.Expressions.{expr_readers}
 use Rattle.law_grammar.specs.Expressions as e
 use Rattle.law_grammar.specs.Types as t
 use Rattle.law_grammar.specs.Statements as s

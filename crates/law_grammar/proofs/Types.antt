@@ -8,7 +8,7 @@ use Rattle.smv_core.specs.Signs.{open_brace, close_brace, colon, semicolon, comm
 use Rattle.smv_core.specs.Signs as w
 use Rattle.smv_core.specs.Notation.{Tokens, ◌<|>◌}
 use Rattle.smv_core.specs.Grammar as g
-use Rattle.smv_core.specs.Grammar.{below, place_of}
+use Rattle.smv_core.specs.Grammar.{place_of}
 use Rattle.law_grammar.specs.Lawful.{Finishes, Lawful}
 use Rattle.law_grammar.specs.Marks.{Mark, any_name, any_number, exactly, stops_by}
 use Rattle.law_grammar.specs.Readers.{read_separated, a_name}

@@ -6,7 +6,7 @@ use Rattle.std.specs.List.{AllByRecursion, list_all, position_or_len}
 use Rattle.std.proofs.lemmas.Bool.{and_from, le-leb, lt-ltb, ltb-false, or_parts}
 use Rattle.smv_core.specs.Values.{Name, Path, Simple, range, choice, scalarset, ordset, Sizes}
 use Rattle.smv_core.specs.Types as tree
-use Rattle.smv_core.specs.Types.{Family, Shape, find_name, names_of, simple, simple_of, shape_of, shape_of_fields, shape_or_none, one_value, array_of, indexed, behind, types_from}
+use Rattle.smv_core.specs.Types.{Family, Shape, find_name, simple, simple_of, shape_of, shape_of_fields, shape_or_none, one_value, array_of, indexed, behind, types_from}
 use Rattle.smv_core.specs.FlatOrder.{Body, declared_as, families_of_item, families_in, design_of}
 use Rattle.smv_core.specs.Outcome.{same_path, family_at}
 use Rattle.smv_core.specs.Flat.{set_type}
@@ -22,7 +22,6 @@ use Rattle.smv_core.specs.declared.flat.Family.{Family as FlatFamily}
 use Rattle.smv_instances.specs.Scopes.{Constant}
 use Rattle.smv_instances.specs.NameFaults.{place_if}
 use Rattle.law_kinds.specs.Kinds as kind
-use Rattle.law_kinds.specs.Kinds.{Kind, number}
 use Rattle.law_kinds.specs.Types.{Types, Whole, single, leads, index_kind, is_index, is_reversed, range_faults, index_faults, type_faults, field_faults}
 use Rattle.law_kinds.specs.References.{Module}
 use Rattle.law_kinds.specs.KindFaults.{in_item, in_top, in_tops, formal_faults}

@@ -5,7 +5,7 @@ use Rattle.std.specs.List.{AllByRecursion, list_all}
 use Rattle.std.proofs.lemmas.Bool.{and_from, le-leb, lt-ltb}
 use Rattle.smv_core.specs.Values.{Name, Path, Sizes}
 use Rattle.smv_core.specs.Types as tree
-use Rattle.smv_core.specs.Types.{Family, types_from}
+use Rattle.smv_core.specs.Types.{types_from}
 use Rattle.smv_core.specs.FlatOrder.{Body, modules, main, families_in, design_of}
 use Rattle.smv_core.specs.declared.tree.Span.{Span}
 use Rattle.smv_core.specs.declared.tree.Text.{Text}

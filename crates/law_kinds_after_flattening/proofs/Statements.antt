@@ -25,7 +25,7 @@ use Rattle.law_kinds.specs.References.{Vars, signal_at, reference}
 use Rattle.law_kinds.specs.Operands.{bind, operand, value, target}
 use Rattle.law_kinds.specs.KindFaults.{in_stmt, in_block, in_branch, in_arms, labels}
 use Rattle.law_flat_kinds.specs.FlatKinds as typed
-use Rattle.law_flat_kinds.specs.FlatKinds.{kind_in, value_in, keeps_kinds, number_if, assigns, element}
+use Rattle.law_flat_kinds.specs.FlatKinds.{kind_in, keeps_kinds, number_if, assigns, element}
 use Rattle.law_flattening.specs.Numbers.{Scope, bound_in, flat_over, family_number}
 use Rattle.law_flattening.specs.Statements.{flat_expr, flat_stmt, flat_parts, flat_branch, flat_arms, first_label}
 use Rattle.law_well_kinded.specs.Written.{AreWritten, StatementIsWritten, StatementsAreWritten, BranchIsWritten, ArmsAreWritten}

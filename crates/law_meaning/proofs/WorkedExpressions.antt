@@ -4,7 +4,7 @@ use Rattle.smv_core.specs.Values.{Value, number, Outcome, range, scalarset, ords
 use Rattle.smv_core.specs.Types.{one_value}
 use Rattle.smv_core.specs.Outcome.{State, Scene, outcome, allowed_by}
 use Rattle.smv_core.specs.declared.tree.Op.TheVariants as op
-use Rattle.smv_core.specs.declared.tree.Expr.{Expr, Number, Signal, Not, And, Or, Implies, Iff, Compare, Within, Sum, Modulo, Choose, All, Any, Each}
+use Rattle.smv_core.specs.declared.tree.Expr.{Expr, Signal, Not, And, Or, Implies, Iff, Compare, Within, Sum, Modulo, Choose, All, Any, Each}
 use Rattle.smv_core.specs.declared.tree.Expr as e
 use Rattle.smv_core.specs.declared.tree.Member.{One, Span}
 use Rattle.smv_core.specs.declared.tree.Signed.{Signed, roll-Signed}

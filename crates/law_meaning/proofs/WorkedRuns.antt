@@ -11,7 +11,7 @@ use Rattle.smv_core.specs.declared.tree.TypeExpr.{Boolean, Array}
 use Rattle.smv_core.specs.declared.tree.Ref.{Ref}
 use Rattle.smv_core.specs.declared.tree.Use.TheVariants.{Plain}
 use Rattle.smv_core.specs.declared.tree.Expr.{Expr, Signal}
-use Rattle.smv_core.specs.declared.tree.Item.{Item, Claim, Layer, Using}
+use Rattle.smv_core.specs.declared.tree.Item.{Claim, Layer, Using}
 use Rattle.smv_core.specs.declared.tree.Item as item
 use Rattle.law_meaning.proofs.Built.{computing, w, a, b, i, n, s, x, sig, num, plus, eq, span, at, path, declare, act, set, init, next, module_main, state, numbers, threes}
 use Rattle.law_meaning.proofs.ByTest.{violating-by}

@@ -7,7 +7,7 @@ use Rattle.smv_abstraction.specs.Right.{is_false, is_neither}
 use Rattle.smv_abstraction.specs.Places.{AbsOutcome}
 use Rattle.smv_abstraction.specs.May.{seen, shown}
 use Rattle.smv_abstraction.specs.Sets.{pairs}
-use Rattle.law_outcomes.specs.Mix.{Mix, mix_by, iff_mix, is_there}
+use Rattle.law_outcomes.specs.Mix.{mix_by, iff_mix, is_there}
 use Rattle.law_outcomes.proofs.Anys.{any-flat_map, any-ext, any-or, any-pairs, any-first, any-second}
 use Rattle.law_outcomes.proofs.MixLaws.{same_mix, or_same, and_there, there_and, seen-shown}
 

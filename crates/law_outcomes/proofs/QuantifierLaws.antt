@@ -7,7 +7,7 @@ use Rattle.smv_abstraction.specs.Right.{is_false, is_neither}
 use Rattle.smv_abstraction.specs.Places.{AbsOutcome}
 use Rattle.smv_abstraction.specs.May.{seen, shown, quantified}
 use Rattle.smv_abstraction.specs.Sets.{one_of_each, parts}
-use Rattle.law_outcomes.specs.Mix.{Mix, mix_by, not_mix, or_mix, or_all, or_none, or_zero, is_there}
+use Rattle.law_outcomes.specs.Mix.{mix_by, not_mix, or_mix, or_all, or_none, or_zero, is_there}
 use Rattle.law_outcomes.specs.Combined.{unions}
 use Rattle.law_outcomes.proofs.Anys.{any-append, any-ext, any-flat_map}
 use Rattle.law_outcomes.proofs.MixLaws.{same_mix, or_is, or-two, not-by, mix-parts, mix-disjunction, there-choices, there-parts, map-append, seen-shown}

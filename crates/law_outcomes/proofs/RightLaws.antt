@@ -1,14 +1,14 @@
 -- What right sides allow, on expressions that are made of lists and values, and by the outcomes that are possible.
-use Rattle.std.proofs.Common.{◌≡◌, inl, inr, ℕ, ◌+◌, ◌-◌, List, [], ◌∷◌, ◌++◌, map, Bool, true, false, not, ◌&&◌, ◌||◌, Option, Some, None, refl, sym, ap, ◌∙◌, if◌then◌else◌}
+use Rattle.std.proofs.Common.{◌≡◌, inl, inr, ℕ, ◌-◌, List, [], ◌∷◌, map, Bool, true, false, not, ◌&&◌, ◌||◌, Option, Some, None, refl, sym, ap, ◌∙◌, if◌then◌else◌}
 use Rattle.std.specs.List.{flat_map, list_any, list_all}
-use Rattle.smv_core.specs.Values.{number, Truth, numbers_from}
+use Rattle.smv_core.specs.Values.{Truth}
 use Rattle.smv_core.specs.Outcome.{branch, is_true}
 use Rattle.smv_core.specs.declared.flat.Simple.{Simple}
 use Rattle.smv_core.specs.declared.flat.FlatMember.{FlatMember, One, Span}
 use Rattle.smv_core.specs.declared.flat.FlatExpr.{FlatExpr, Choose, Choose', Each, List as Listed, List', Each', Row_of-FlatMember, end_of-FlatMember, more_of-FlatMember, items-the_row-FlatMember, items_hidden-the_row-FlatMember-3}
 use Rattle.smv_abstraction.specs.Sets.{Has, first, later}
-use Rattle.smv_abstraction.specs.Places.{Place, named, same_place, is_among, World, named_in, places_in, AbsOutcome, bind_place}
-use Rattle.smv_abstraction.specs.May.{AbsState, Kept, seen, may, may_members}
+use Rattle.smv_abstraction.specs.Places.{Place, same_place, is_among, World, named_in, places_in, AbsOutcome, bind_place}
+use Rattle.smv_abstraction.specs.May.{AbsState, Kept, seen, may}
 use Rattle.smv_abstraction.specs.Right.{gives, gives_surely, is_outside, same_outcome, gives_only, may_give_some, is_false, is_neither, chosen_surely, may_allow, must_allow, must_give_some}
 use Rattle.smv_abstraction.proofs.Computing.{computing}
 use Rattle.smv_abstraction.proofs.Same.{same_outcome-itself, same_outcome-is}

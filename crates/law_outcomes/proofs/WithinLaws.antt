@@ -1,19 +1,19 @@
 -- `in` a listed set: an outcome of the left side against one outcome of each member.
-use Rattle.std.proofs.Common.{◌≡◌, List, [], ◌∷◌, ◌++◌, map, Bool, true, false, ◌&&◌, ◌||◌, Some, None, refl, sym, ap, ◌∙◌}
+use Rattle.std.proofs.Common.{◌≡◌, List, [], ◌∷◌, ◌++◌, map, Bool, true, false, ◌&&◌, ◌||◌, refl, sym, ap, ◌∙◌}
 use Rattle.std.specs.List.{flat_map, list_any, list_all}
 use Rattle.smv_core.specs.Values.{Truth, disjunction}
 use Rattle.smv_core.specs.Outcome.{is_true}
 use Rattle.smv_abstraction.specs.Right.{is_false, is_neither}
 use Rattle.smv_abstraction.specs.Places.{AbsOutcome, equal_places, where_defined}
-use Rattle.smv_abstraction.specs.May.{seen, shown}
+use Rattle.smv_abstraction.specs.May.{shown}
 use Rattle.smv_abstraction.specs.Sets.{one_of_each, pairs}
-use Rattle.law_outcomes.specs.Mix.{Mix, mix_of, mix_by, or_all, is_there}
+use Rattle.law_outcomes.specs.Mix.{Mix, mix_by, or_all, is_there}
 use Rattle.law_outcomes.specs.Combined.{equal_mix, member_mix, within_mix}
-use Rattle.law_outcomes.proofs.Anys.{any-append, any-map, any-flat_map, any-ext, any-or, any-choices}
-use Rattle.law_outcomes.proofs.MixLaws.{same_mix, mix-disjunction, there-append, left_true, right_true, seen-shown, map-append}
+use Rattle.law_outcomes.proofs.Anys.{any-map, any-flat_map, any-ext, any-or, any-choices}
+use Rattle.law_outcomes.proofs.MixLaws.{same_mix, mix-disjunction, there-append, left_true, right_true}
 use Rattle.law_outcomes.proofs.QuantifierLaws.{mix-ext}
 use Rattle.law_outcomes.proofs.IffLaws.{pairs-map}
-use Rattle.law_outcomes.proofs.Filled.{Filled, there, defined_filled, equal_filled}
+use Rattle.law_outcomes.proofs.Filled.{there, defined_filled, equal_filled}
 
 any-none : {X : Type 0} (xs : List X) → list_any (λ x. false) xs ≡ false
 any-none [] = refl

@@ -1,16 +1,13 @@
 -- What operators, quantifiers, `in`, reads and definitions give, by what is possible of their parts.
-use Rattle.std.specs.Prelude.{◌≡◌, List, [], ◌∷◌, ◌++◌, map, flat_map, Option, Bool, true}
+use Rattle.std.specs.Prelude.{◌≡◌, List, [], ◌∷◌, map, flat_map, Option, Bool, true}
 use Rattle.std.specs.List.{list_any, list_all}
 use Rattle.smv_core.specs.Values.{iff_of, conjunction, disjunction, implication}
-use Rattle.smv_core.specs.Outcome.{branch}
-use Rattle.smv_core.specs.declared.tree.Op.{Op}
 use Rattle.smv_core.specs.declared.flat.FlatExpr.{FlatExpr}
 use Rattle.smv_core.specs.declared.flat.FlatSigned.{FlatSigned}
 use Rattle.smv_core.specs.declared.flat.Simple.{Simple}
 use Rattle.smv_abstraction.specs.Sets.{one_of_each, pairs}
 use Rattle.smv_abstraction.specs.Places.{Place, World, AbsOutcome, equal_places, where_defined}
 use Rattle.smv_abstraction.specs.May.{seen, shown, quantified}
-use Rattle.smv_abstraction.specs.Right.{gives_surely, gives_only}
 use Rattle.smv_abstraction.specs.Results.{first_result, taken}
 use Rattle.law_outcomes.specs.Mix.{is_there, mix_by, iff_mix, and_all, or_all, implies_all, all_mix, any_mix}
 use Rattle.law_outcomes.specs.Combined.{within_mix, summed, sum_test}

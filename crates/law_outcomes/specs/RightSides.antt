@@ -1,5 +1,5 @@
 -- Right sides by the outcomes that are possible.
-use Rattle.std.specs.Prelude.{List, [], ◌∷◌, Option, Some, None, Bool, true, false, not, ◌&&◌, ◌||◌, if◌then◌else◌}
+use Rattle.std.specs.Prelude.{List, Option, Some, None, Bool, true, false, not, ◌&&◌, ◌||◌, if◌then◌else◌}
 use Rattle.std.specs.List.{list_any, list_all}
 use Rattle.smv_core.specs.Outcome.{is_true}
 use Rattle.smv_core.specs.declared.flat.FlatExpr.{FlatExpr, Choose', List', Each'}

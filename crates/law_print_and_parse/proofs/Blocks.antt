@@ -3,7 +3,7 @@ use Rattle.std.proofs.Common.{◌≡◌, ℕ, zero, suc, List, inl, inr, refl, a
 use Rattle.smv_core.specs.declared.tree.Stmt.{Stmt}
 use Rattle.smv_core.specs.declared.tree.Stmt.TheVariants as stmt
 use Rattle.smv_core.specs.Grammar as g
-use Rattle.smv_core.specs.Grammar.{Turns, named}
+use Rattle.smv_core.specs.Grammar.{Turns}
 use Rattle.smv_print.specs.Statements.{stmt_kinds}
 use Rattle.smv_print.proofs.StatementLaws as k
 use Rattle.law_print_and_parse.specs.Aside.{word_aside, type_aside, stmt_aside}

@@ -9,12 +9,12 @@ use Rattle.smv_core.specs.declared.tree.Expr.{Expr}
 use Rattle.smv_core.specs.declared.tree.Stmt.{Stmt}
 use Rattle.smv_core.specs.declared.tree.Stmt.TheVariants as stmt
 use Rattle.smv_core.specs.declared.tree.Arm.{Arm, roll-Arm}
-use Rattle.smv_core.specs.Signs.{open_paren, close_paren, open_brace, close_brace, colon, semicolon, comma, becomes, equal, less, at_most, plus}
+use Rattle.smv_core.specs.Signs.{open_paren, close_paren, open_brace, close_brace, colon, comma, less, at_most}
 use Rattle.smv_core.specs.Signs as w
 use Rattle.smv_core.specs.OpenIf.{ends_in_open_if}
 use Rattle.smv_core.specs.Notation.{Tokens, Rule, optional, one_of, token, number, separated, positive, ◌>>◌}
 use Rattle.smv_core.specs.Grammar as g
-use Rattle.smv_core.specs.Grammar.{Turns, named}
+use Rattle.smv_core.specs.Grammar.{Turns}
 use Rattle.smv_print.specs.Written.{Kinds}
 use Rattle.smv_print.specs.Written as s
 use Rattle.smv_print.specs.Expressions.{expr_kinds}

@@ -14,15 +14,15 @@ use Rattle.smv_core.specs.declared.tree.Part.{Part}
 use Rattle.smv_core.specs.declared.tree.Part.TheVariants as part
 use Rattle.smv_core.specs.declared.tree.Path.{Path, fold-roll-Path}
 use Rattle.smv_core.specs.declared.tree.Signed.{Signed, roll-Signed, fold-roll-Signed}
-use Rattle.smv_core.specs.Signs.{open_paren, close_paren, open_brace, close_brace, open_bracket, close_bracket, colon, comma}
+use Rattle.smv_core.specs.Signs.{open_paren, close_paren, comma}
 use Rattle.smv_core.specs.Signs as w
 use Rattle.smv_core.specs.Grammar.{chain, sum_of, named}
 use Rattle.smv_print.specs.Written.{Kinds, separated}
-use Rattle.smv_print.specs.Expressions.{Spelled, spelled, member_kinds, part_kinds, path_kinds, signed_kinds, expr_kinds, expr_step, member_step, part_step, path_step, signed_step, within, operator, plus_or_minus, parts_kinds}
+use Rattle.smv_print.specs.Expressions.{Spelled, spelled, member_kinds, part_kinds, path_kinds, signed_kinds, expr_kinds, expr_step, member_step, part_step, path_step, signed_step, within, operator, plus_or_minus}
 use Rattle.smv_print.specs.Expressions as s
 use Rattle.smv_print.proofs.ExpressionLaws as laws
 use Rattle.law_print_and_parse.specs.Readable.{IsReadable}
-use Rattle.law_print_and_parse.proofs.Good.{Good, IsName, IsNumber, Each, each-as, each-map, good-none, good-token, good-append, good-flat, good-separated, good-as, goods}
+use Rattle.law_print_and_parse.proofs.Good.{Good, IsNumber, Each, each-as, each-map, good-append, good-flat, good-separated, good-as, goods}
 use Rattle.law_print_and_parse.proofs.Keeping.{Named, IfAny}
 use Rattle.law_print_and_parse.proofs.TypeTokens.{GoodType, GoodSpan}
 

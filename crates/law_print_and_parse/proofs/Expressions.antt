@@ -8,13 +8,11 @@ use Rattle.smv_core.specs.declared.tree.Member.{Member}
 use Rattle.smv_core.specs.declared.tree.Part.{Part}
 use Rattle.smv_core.specs.declared.tree.Path.{Path}
 use Rattle.smv_core.specs.declared.tree.Signed.{Signed}
-use Rattle.smv_core.specs.Signs.{open_paren, close_paren, open_bracket, close_bracket, open_brace, close_brace, colon, comma}
 use Rattle.smv_core.specs.Signs as w
 use Rattle.smv_core.specs.Notation.{Tokens, Rule, many}
 use Rattle.smv_core.specs.Grammar as g
-use Rattle.smv_core.specs.Grammar.{named}
 use Rattle.smv_print.specs.Written.{Kinds}
-use Rattle.smv_print.specs.Expressions.{Spelled, spelled, within, alone, binary, operator, choice, reduction, member_kinds, part_kinds, path_kinds, signed_kinds}
+use Rattle.smv_print.specs.Expressions.{spelled, within, binary, choice, member_kinds, part_kinds, path_kinds, signed_kinds}
 use Rattle.smv_print.specs.Expressions as p
 use Rattle.smv_print.proofs.ExpressionLaws.{spelled-Not, spelled-And, spelled-Or, spelled-Implies, spelled-Iff, spelled-Modulo, spelled-Choose, spelled-Sum}
 use Rattle.law_print_and_parse.specs.Aside.{member_aside, part_aside, path_aside, signed_aside}

@@ -8,14 +8,13 @@ use Rattle.smv_core.specs.declared.token.TokenKind.TheVariants.{Number}
 use Rattle.smv_core.specs.declared.tree.Expr.{Expr}
 use Rattle.smv_core.specs.declared.tree.Expr.TheVariants as expr
 use Rattle.smv_core.specs.declared.tree.Signed.{Signed}
-use Rattle.smv_core.specs.Signs.{open_paren, close_paren, open_bracket, close_bracket, open_brace, close_brace, colon, comma, dot, equal, differ, less, at_most, greater, at_least, plus, minus, ampersand, bar}
+use Rattle.smv_core.specs.Signs.{open_paren, close_paren, plus, minus, ampersand, bar}
 use Rattle.smv_core.specs.Signs as w
 use Rattle.smv_core.specs.Notation.{Tokens}
 use Rattle.smv_core.specs.Grammar as g
-use Rattle.smv_core.specs.Grammar.{named}
-use Rattle.smv_print.specs.Written.{Kinds, preceded}
+use Rattle.smv_print.specs.Written.{Kinds}
 use Rattle.smv_print.specs.Written as s
-use Rattle.smv_print.specs.Expressions.{Spelled, spelled, within, alone, binary, operator, plus_or_minus, choice, reduction, comprehension, condition, member_kinds, part_kinds, path_kinds, signed_kinds}
+use Rattle.smv_print.specs.Expressions.{Spelled, spelled, within, binary, plus_or_minus, signed_kinds}
 use Rattle.smv_print.specs.Expressions as p
 use Rattle.smv_print.proofs.ExpressionLaws.{spelled-And, spelled-Or, spelled-Implies, spelled-Iff, spelled-Modulo, spelled-Sum}
 use Rattle.law_print_and_parse.specs.Aside.{expr_aside, signed_aside}

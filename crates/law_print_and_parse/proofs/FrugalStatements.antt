@@ -12,11 +12,11 @@ use Rattle.smv_core.specs.declared.tree.Kind.{Kind}
 use Rattle.smv_core.specs.declared.tree.Kind.TheVariants as kind
 use Rattle.smv_core.specs.declared.tree.Stmt.{Stmt}
 use Rattle.smv_core.specs.declared.tree.Stmt.TheVariants as stmt
-use Rattle.smv_core.specs.Signs.{open_paren, close_paren, open_brace, close_brace, colon, semicolon, comma, becomes, equal, less, at_most, plus}
+use Rattle.smv_core.specs.Signs.{open_paren, close_paren, open_brace, close_brace, colon, semicolon, becomes, equal, less, at_most, plus}
 use Rattle.smv_core.specs.Signs as w
 use Rattle.smv_core.specs.Notation.{Tokens, optional}
 use Rattle.smv_core.specs.Grammar as g
-use Rattle.smv_core.specs.Grammar.{Turns, named}
+use Rattle.smv_core.specs.Grammar.{named}
 use Rattle.smv_print.specs.Written.{Kinds}
 use Rattle.smv_print.specs.Expressions.{spelled, within, alone, expr_kinds, path_kinds}
 use Rattle.smv_print.specs.Statements.{stmt_kinds, arm_kinds, target, binder, otherwise, other_arm}

@@ -12,7 +12,7 @@ use Rattle.smv_core.specs.declared.tree.Part.TheVariants as part
 use Rattle.smv_core.specs.declared.tree.Path.{roll-Path}
 use Rattle.smv_core.specs.declared.tree.Op.{Op}
 use Rattle.smv_core.specs.declared.tree.Op.TheVariants as op
-use Rattle.smv_core.specs.Signs.{open_paren, close_paren, open_bracket, close_bracket, open_brace, close_brace, colon, comma, dot, equal, differ, less, at_most, greater, at_least, plus, minus, ampersand, bar}
+use Rattle.smv_core.specs.Signs.{open_paren, close_paren, open_bracket, close_bracket, open_brace, close_brace, colon, comma, dot, equal, differ, less, at_most, greater, at_least, ampersand, bar}
 use Rattle.smv_core.specs.Signs as w
 use Rattle.smv_core.specs.Notation.{Tokens, optional, token, ◌>>◌}
 use Rattle.smv_core.specs.Grammar as g
@@ -20,10 +20,10 @@ use Rattle.smv_core.specs.Grammar.{named}
 use Rattle.smv_print.specs.Written.{Kinds}
 use Rattle.smv_print.specs.Types.{type_kinds}
 use Rattle.smv_print.specs.Expressions.{Spelled, spelled, within, alone, binary, operator, choice, reduction, comprehension, condition, member_kinds, path_kinds}
-use Rattle.smv_print.proofs.ExpressionLaws.{spelled-Number, spelled-Signal, spelled-Not, spelled-And, spelled-Or, spelled-Implies, spelled-Iff, spelled-Compare, spelled-Within, spelled-Modulo, spelled-Choose, spelled-All, spelled-Any, spelled-List, spelled-Each, spelled-Sum}
+use Rattle.smv_print.proofs.ExpressionLaws.{spelled-Number, spelled-Signal, spelled-Not, spelled-Compare, spelled-Within, spelled-Choose, spelled-All, spelled-Any, spelled-List, spelled-Each}
 use Rattle.smv_print.proofs.ExpressionLaws as k
 use Rattle.law_print_and_parse.specs.Aside.{word_aside, type_aside, expr_aside, member_aside, part_aside, path_aside}
-use Rattle.law_print_and_parse.proofs.AsideLaws.{expr-Number, expr-Signal, expr-Not, expr-And, expr-Or, expr-Implies, expr-Iff, expr-Compare, expr-Within, expr-Sum, expr-Modulo, expr-Choose, expr-All, expr-Any, expr-List, expr-Each, path-aside, signed-aside, signed-rolled}
+use Rattle.law_print_and_parse.proofs.AsideLaws.{expr-Number, expr-Signal, expr-Not, expr-Compare, expr-Within, expr-Choose, expr-All, expr-Any, expr-List, expr-Each, path-aside}
 use Rattle.law_print_and_parse.proofs.AsideLaws as a
 use Rattle.law_print_and_parse.proofs.Levels.{f, inner}
 use Rattle.law_print_and_parse.proofs.Primaries.{behind, path-of-parts}

@@ -9,11 +9,10 @@ use Rattle.smv_core.specs.declared.tree.Ref.{Ref}
 use Rattle.smv_core.specs.declared.tree.Use.{Use}
 use Rattle.smv_core.specs.declared.tree.Item.{Item}
 use Rattle.smv_core.specs.declared.tree.Item.TheVariants as item
-use Rattle.smv_core.specs.Signs.{open_paren, close_paren, open_brace, close_brace, colon, semicolon, comma, equal}
+use Rattle.smv_core.specs.Signs.{colon, semicolon, comma}
 use Rattle.smv_core.specs.Signs as w
 use Rattle.smv_core.specs.Notation.{Tokens, Rule, many, placed}
 use Rattle.smv_core.specs.Grammar as g
-use Rattle.smv_core.specs.Grammar.{place_of}
 use Rattle.smv_print.specs.Written.{Kinds}
 use Rattle.smv_print.specs.Written as s
 use Rattle.smv_print.specs.Expressions.{expr_kinds}

@@ -15,7 +15,7 @@ use Rattle.smv_core.specs.declared.tree.Member.TheVariants as member
 use Rattle.smv_core.specs.declared.tree.Part.{Part}
 use Rattle.smv_core.specs.declared.tree.Part.TheVariants as part
 use Rattle.smv_core.specs.declared.tree.Path.{Path, roll-Path}
-use Rattle.smv_core.specs.Signs.{open_paren, close_paren, open_bracket, close_bracket, open_brace, close_brace, colon, comma, dot, ampersand, bar}
+use Rattle.smv_core.specs.Signs.{open_paren, close_paren, open_bracket, close_bracket, open_brace, close_brace, colon, comma, ampersand, bar}
 use Rattle.smv_core.specs.Signs as w
 use Rattle.smv_core.specs.Notation.{many, optional, one_of, separated, token, ◌>>◌}
 use Rattle.smv_core.specs.Grammar as g

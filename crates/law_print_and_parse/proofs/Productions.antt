@@ -8,14 +8,13 @@ use Rattle.smv_core.specs.declared.tree.Expr.TheVariants as expr
 use Rattle.smv_core.specs.declared.tree.Signed.{Signed, roll-Signed}
 use Rattle.smv_core.specs.declared.tree.Op.{Op}
 use Rattle.smv_core.specs.declared.tree.Op.TheVariants as op
-use Rattle.smv_core.specs.Signs.{open_bracket, close_bracket, open_brace, close_brace, colon, comma, dot, equal, differ, less, at_most, greater, at_least, plus, minus, ampersand, bar}
+use Rattle.smv_core.specs.Signs.{colon, equal, differ, less, at_most, greater, at_least, plus, minus, ampersand, bar}
 use Rattle.smv_core.specs.Signs as w
 use Rattle.smv_core.specs.Notation.{Rule, many, one_of, token, same_kind, ◌>>◌}
 use Rattle.smv_core.specs.Grammar as g
-use Rattle.smv_core.specs.Grammar.{Rules, below, named}
 use Rattle.smv_print.specs.Written.{Kinds, preceded}
 use Rattle.smv_print.specs.Written as s
-use Rattle.smv_print.specs.Expressions.{spelled, within, alone, binary, operator, plus_or_minus, choice, comprehension, condition, reduction, member_kinds, part_kinds, path_kinds, signed_kinds, parts_kinds}
+use Rattle.smv_print.specs.Expressions.{spelled, within, alone, binary, operator, plus_or_minus, choice, signed_kinds}
 use Rattle.smv_print.specs.Expressions as p
 use Rattle.smv_print.proofs.ExpressionLaws.{spelled-Number, spelled-Not, spelled-And, spelled-Or, spelled-Implies, spelled-Iff, spelled-Compare, spelled-Modulo, spelled-Choose, spelled-Sum}
 use Rattle.law_print_and_parse.specs.Aside.{expr_aside, signed_aside}

@@ -11,12 +11,12 @@ use Rattle.smv_core.specs.declared.tree.Kind.{Kind}
 use Rattle.smv_core.specs.declared.tree.Kind.TheVariants as kind
 use Rattle.smv_core.specs.declared.tree.Stmt.{Stmt}
 use Rattle.smv_core.specs.declared.tree.Stmt.TheVariants as stmt
-use Rattle.smv_core.specs.Signs.{open_paren, close_paren, open_brace, close_brace, colon, semicolon, comma, becomes, equal, less, at_most, plus}
+use Rattle.smv_core.specs.Signs.{open_paren, close_paren, semicolon, becomes}
 use Rattle.smv_core.specs.Signs as w
 use Rattle.smv_core.specs.OpenIf.{ends_in_open_if}
 use Rattle.smv_core.specs.Notation.{Tokens, Rule, one_of}
 use Rattle.smv_core.specs.Grammar as g
-use Rattle.smv_core.specs.Grammar.{Turns, named}
+use Rattle.smv_core.specs.Grammar.{named}
 use Rattle.smv_print.specs.Written.{Kinds}
 use Rattle.smv_print.specs.Types.{type_kinds}
 use Rattle.smv_print.specs.Expressions.{within, expr_kinds, path_kinds}

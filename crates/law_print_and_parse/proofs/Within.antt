@@ -9,11 +9,10 @@ use Rattle.smv_core.specs.declared.tree.Member.{Member}
 use Rattle.smv_core.specs.declared.tree.Part.{Part}
 use Rattle.smv_core.specs.declared.tree.Part.TheVariants as part
 use Rattle.smv_core.specs.declared.tree.Path.{Path}
-use Rattle.smv_core.specs.Signs.{open_paren, close_paren, open_bracket, close_bracket, open_brace, close_brace, colon, comma, ampersand, bar}
+use Rattle.smv_core.specs.Signs.{comma, ampersand, bar}
 use Rattle.smv_core.specs.Signs as w
 use Rattle.smv_core.specs.Notation.{Tokens, optional, token, ◌>>◌}
 use Rattle.smv_core.specs.Grammar as g
-use Rattle.smv_core.specs.Grammar.{named}
 use Rattle.smv_print.specs.Types.{type_kinds}
 use Rattle.smv_print.specs.Expressions.{spelled, within, alone, binary, operator, reduction, member_kinds, part_kinds, path_kinds}
 use Rattle.smv_print.proofs.ExpressionLaws.{spelled-Number, spelled-Signal, spelled-Compare, spelled-Within, spelled-All, spelled-Any}

@@ -8,8 +8,8 @@ pub mod tokens;
 
 ghost use Rattle.law_print_and_parse.specs.Again.{IsPrintedAgain, IsOnePrint};
 
-use crate::tokens::canonical_read;
 use crate::spelling::{fewest_tokens_of_text, same_text};
+use crate::tokens::canonical_read;
 
 /// The canonical spelling of a text spells the same tree, places aside, and printing it again gives the same bytes.
 pub fn printed_again()

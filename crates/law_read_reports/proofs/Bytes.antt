@@ -1,6 +1,6 @@
 -- Bytes that do not part pieces, and pieces that are parted by one byte.
-use Rattle.std.proofs.Common.{◌≡◌, ◌∙◌, ◌+◌, ◌-◌, ◌/◌, ◌%◌, ◌<◌, ◌≤◌, ℕ, zero, suc, Bool, true, false, not, ◌&&◌, ◌||◌, List, [], ◌∷◌, ◌++◌, ap, append_assoc, arith, decimal, eq-eqb, length, nat_le, nat_lt, refl, sym, true≢false}
-use Rattle.std.specs.Prelude.{Option, Some, None, option_map, ◌==◌, if◌then◌else◌}
+use Rattle.std.proofs.Common.{◌≡◌, ◌∙◌, ◌+◌, ◌-◌, ◌/◌, ◌%◌, ◌<◌, ℕ, zero, suc, Bool, true, false, not, ◌&&◌, List, [], ◌∷◌, ◌++◌, ap, append_assoc, arith, decimal, eq-eqb, length, refl, sym, true≢false}
+use Rattle.std.specs.Prelude.{Some, option_map, ◌==◌, if◌then◌else◌}
 use Rattle.std.specs.Fmt.{digits, digit_glyph, digits_onto}
 use Rattle.std.specs.List.{list_all}
 use Rattle.std.specs.Cmp.Derive.{both_true}
@@ -9,7 +9,7 @@ use Rattle.std.specs.Str.{bytes_eq}
 use Rattle.std.proofs.lemmas.Bool.{eqb-true, le-leb, lt-ltb}
 use Rattle.std.proofs.Math.Dec.{eqb-suc-zero}
 use Rattle.std.proofs.lemmas.List.Folds.{list_all-append}
-use Rattle.smv_read_report.specs.Pieces.{is_digit, is_numeral, is_word, is_word_byte, led, pieces, without_last}
+use Rattle.smv_read_report.specs.Pieces.{is_digit, is_numeral, is_word, is_word_byte, pieces, without_last}
 
 -- ---- tests
 

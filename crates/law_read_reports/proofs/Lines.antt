@@ -1,18 +1,16 @@
 -- What the lines of a report say, read back.
-use Rattle.std.proofs.Common.{◌≡◌, ◌∙◌, ℕ, suc, Bool, true, false, not, ◌&&◌, List, [], ◌∷◌, ◌++◌, ap, append_assoc, arith, codes, decimal, length, refl, sym, true≢false}
-use Rattle.std.specs.Prelude.{Option, Some, None, ◌==◌, if◌then◌else◌}
+use Rattle.std.proofs.Common.{◌≡◌, ◌∙◌, ℕ, Bool, true, false, List, [], ◌∷◌, ◌++◌, ap, append_assoc, arith, codes, decimal, length, refl, sym}
+use Rattle.std.specs.Prelude.{Some, None, ◌==◌}
 use Rattle.std.specs.List.{list_all}
 use Rattle.std.specs.Cmp.Derive.{both_true}
 use Rattle.std.specs.Str.{bytes_eq}
 use Rattle.std.proofs.lemmas.Slice.Eq.{bytes_eq-Decides}
 use Rattle.std.proofs.Math.Dec.{eqb-suc-zero}
 use Rattle.law_reports.specs.Lines.{with_commas}
-use Rattle.smv_read_report.specs.declared.line.Cells.{Cells}
-use Rattle.smv_read_report.specs.declared.line.Line.{Line}
-use Rattle.smv_read_report.specs.declared.line.Line.TheVariants.{True, Unknown, False, Case, Time, Proved, Other}
-use Rattle.smv_read_report.specs.Pieces.{is_numeral, is_word, pieces, without_last}
-use Rattle.smv_read_report.specs.Lines.{before, case_of, case_with, cells_of, line_of, unit_of, verdict_of, word_in, words_of}
-use Rattle.law_read_reports.proofs.Bytes.{and_left, and_right, cut, cut_behind, decimal_lacks, lacks, lacks_both, numeral, same_bytes, whole, with_last, word_lacks}
+use Rattle.smv_read_report.specs.declared.line.Line.TheVariants.{True, Unknown, False, Case, Time, Proved}
+use Rattle.smv_read_report.specs.Pieces.{is_word, pieces, without_last}
+use Rattle.smv_read_report.specs.Lines.{before, case_of, case_with, cells_of, line_of, verdict_of, words_of}
+use Rattle.law_read_reports.proofs.Bytes.{and_left, and_right, cut, cut_behind, decimal_lacks, lacks, lacks_both, numeral, whole, with_last, word_lacks}
 
 -- ---- lines of units
 

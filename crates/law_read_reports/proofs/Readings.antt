@@ -1,7 +1,6 @@
 -- Reading line by line: what is read of the lines of a path, of a unit, and of all units.
-use Rattle.std.proofs.Common.{◌≡◌, ◌≢◌, ◌∙◌, ◌+◌, ◌-◌, ◌^◌, ◌<◌, ◌≤◌, ℕ, zero, suc, Bool, true, false, ◌||◌, List, [], ◌∷◌, ◌++◌, add-one, ap, append-nil, append_assoc, arith, codes, count_by, decimal, flat_map, fold, length, map, refl, sym, true≢false, cond}
-use Rattle.std.specs.Prelude.{Option, Some, None, Result, Ok, ◌==◌, if◌then◌else◌}
-use Rattle.std.specs.List.{list_all}
+use Rattle.std.proofs.Common.{◌≡◌, ◌≢◌, ◌∙◌, ◌+◌, ◌-◌, ◌^◌, ◌<◌, ℕ, Bool, true, false, ◌||◌, List, [], ◌∷◌, ◌++◌, ap, append-nil, append_assoc, arith, codes, count_by, decimal, flat_map, fold, length, map, refl, sym, true≢false, cond}
+use Rattle.std.specs.Prelude.{Option, Some, Result, Ok, ◌==◌, if◌then◌else◌}
 use Rattle.std.specs.Cmp.Derive.{both_true}
 use Rattle.std.specs.Cmp.Lexicographic.{pointwise}
 use Rattle.std.specs.Str.{bytes_eq}
@@ -12,7 +11,6 @@ use Rattle.std.proofs.lemmas.Slice.Eq.{bytes_eq-Decides}
 use Rattle.smv_core.specs.declared.flat.Design.{Design}
 use Rattle.smv_core.specs.declared.flat.Param.{Param}
 use Rattle.smv_core.specs.declared.flat.Class.{Class}
-use Rattle.smv_core.specs.declared.flat.Case.{Case as CaseData}
 use Rattle.smv_core.specs.declared.flat.Element.{Element}
 use Rattle.smv_problem.specs.declared.problem.AbsValue.{AbsValue}
 use Rattle.smv_problem.specs.declared.problem.AbsState.{AbsState}
@@ -30,8 +28,8 @@ use Rattle.smv_read_report.specs.declared.reading.Reading.{Reading}
 use Rattle.smv_read_report.specs.declared.reading.ReportFault.{ReportFault}
 use Rattle.smv_read_report.specs.Pieces.{is_word, led, pieces}
 use Rattle.smv_read_report.specs.Lines.{line_of}
-use Rattle.smv_read_report.specs.Reports.{after_state, at_unit, begun, followed, grown, is_count, is_next, line_fault, read_from, with_line}
-use Rattle.law_read_reports.specs.Shown.{AreReadable, AreSpelled, AreWords, IsCase, IsPath, IsSpelled, IsVerdict, element_name, shown, value_name, value_names}
+use Rattle.smv_read_report.specs.Reports.{after_state, at_unit, begun, followed, is_count, is_next, line_fault, read_from, with_line}
+use Rattle.law_read_reports.specs.Shown.{AreReadable, AreSpelled, AreWords, IsSpelled, IsVerdict, element_name, shown, value_name, value_names}
 use Rattle.law_read_reports.proofs.Bytes.{cut, lacks, same_bytes, same_names}
 use Rattle.law_read_reports.proofs.Lines.{case_line_lacks, case_line_read, cell_texts, false_line, nodes_line, number_line_lacks, proved_line, proved_line_lacks, state_cells, steps_line, time_line_lacks, time_line_read, true_line, unit_line_lacks}
 

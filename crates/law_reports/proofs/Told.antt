@@ -1,6 +1,6 @@
 -- What right reports tell.
-use Rattle.std.proofs.Common.{◌≡◌, ℕ, suc, ◌-◌, List, [], ◌∷◌, map, length, sym, ap, subst, ◌∙◌, refl, arith}
-use Rattle.smv_abstraction.specs.Sets.{Has, first, later}
+use Rattle.std.proofs.Common.{◌≡◌, ℕ, suc, ◌-◌, List, [], ◌∷◌, map, length, ap, subst, ◌∙◌, refl, arith}
+use Rattle.smv_abstraction.specs.Sets.{first, later}
 use Rattle.law_obligations.specs.Outlines.{Entry, Script}
 use Rattle.smv_search.specs.Verdict.Verdict.{Reached}
 use Rattle.law_cases.specs.Scripts.{case_at}
@@ -9,8 +9,8 @@ use Rattle.smv_problem.specs.declared.report.Verdict.{Verdict}
 use Rattle.smv_problem.specs.declared.report.Verdict.TheVariants.{True, False, UnknownNodes, UnknownSteps}
 use Rattle.smv_problem.specs.declared.report.UnitResult.{UnitResult}
 use Rattle.smv_problem.specs.Written.{written_state}
-use Rattle.law_verdicts.specs.Verdicts.{LeafVerdict, all_true, fails, IsUnitVerdict, AreVerdictsFrom, AllTrue}
-use Rattle.law_reports.specs.Reports.{IsShown, IsToldOf, IsResultOf, AreResultsFrom, told, told_of, AllTrueUnits}
+use Rattle.law_verdicts.specs.Verdicts.{fails, IsUnitVerdict, AreVerdictsFrom, AllTrue}
+use Rattle.law_reports.specs.Reports.{IsToldOf, AreResultsFrom, told, told_of, AllTrueUnits}
 
 length-map : {X Y : Type 0} (f : X → Y) (xs : List X) → length (map f xs) ≡ length xs
 length-map f [] = refl

@@ -5,7 +5,7 @@ use Rattle.smv_abstraction.specs.Sets.{Has}
 use Rattle.smv_abstraction.specs.May.{AbsState}
 use Rattle.law_obligations.specs.Outlines.{Entry, Script, unit_in}
 use Rattle.law_splits.specs.Leaves.{name_of}
-use Rattle.smv_search.specs.Verdict.Verdict.{Counted, Reached, Shut, Images}
+use Rattle.smv_search.specs.Verdict.Verdict.{Counted, Reached, Images}
 use Rattle.law_codes.specs.Readings.{Case}
 use Rattle.law_codes.specs.CasePaths.{IsShortest}
 use Rattle.law_cases.specs.Scripts.{case_at}

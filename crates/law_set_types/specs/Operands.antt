@@ -8,7 +8,7 @@ use Rattle.smv_core.specs.declared.flat.Simple.{Simple}
 use Rattle.smv_core.specs.declared.flat.SetInfo.{SetInfo}
 use Rattle.smv_core.specs.declared.flat.Family.{Family}
 use Rattle.smv_core.specs.declared.flat.FlatExpr.{FlatExpr, Number, Read', Var, Loop, Constant, Not', And', Or', Implies', Iff', Compare', Within', Sum', Modulo', Choose', All', Any', List', Each', Row_of-FlatExpr, end_of-FlatExpr, more_of-FlatExpr}
-use Rattle.law_flat_kinds.specs.FlatKinds.{Kind, number, enumeration, set_type, kind_of}
+use Rattle.law_flat_kinds.specs.FlatKinds.{Kind, number, set_type, kind_of}
 
 -- ---- places
 

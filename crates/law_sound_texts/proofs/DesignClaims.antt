@@ -8,7 +8,7 @@ use Rattle.smv_core.specs.FlatOrder.{Design, design_of, Claimed}
 use Rattle.smv_core.specs.Outcome.{State, outcome, is_true}
 use Rattle.smv_core.specs.Allowed.{scene_at}
 use Rattle.smv_core.specs.Sound as tree
-use Rattle.smv_core.specs.Sound.{ProofUnit, bound, choices, instances, units, Holds, AtEachTime}
+use Rattle.smv_core.specs.Sound.{bound, choices, instances, Holds, AtEachTime}
 use Rattle.smv_core.specs.Flat.{Numbered, FlatState, values_in, flat_outcome}
 use Rattle.smv_core.specs.declared.tree.Text.{Text}
 use Rattle.smv_core.specs.declared.tree.TypeExpr.{TypeExpr}

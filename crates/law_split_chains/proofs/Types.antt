@@ -1,5 +1,5 @@
 -- What splits show of the parameters before them, by the types of these.
-use Rattle.std.proofs.Common.{◌≡◌, ℕ, zero, suc, List, [], ◌∷◌, ◌++◌, map, zip, length, refl, ap, sym, ◌∙◌, Option, Some, None}
+use Rattle.std.proofs.Common.{◌≡◌, ℕ, zero, suc, List, [], ◌∷◌, ◌++◌, map, length, refl, ap, sym, ◌∙◌}
 use Rattle.std.specs.List.{flat_map, slice_get}
 use Rattle.std.proofs.lemmas.List.{append_assoc, map-append, length-map}
 use Rattle.smv_core.specs.Values.{Name}
@@ -12,10 +12,10 @@ use Rattle.smv_core.specs.declared.flat.Unit.{Unit}
 use Rattle.smv_abstraction.specs.Soundness.{FlatUnit, map_of, claim_of, over_of}
 use Rattle.law_obligations.specs.Outlines.{unit_in}
 use Rattle.law_obligations.specs.Units.{units_of}
-use Rattle.law_splits.specs.Leaves.{numbered, nameless, name_of, own_params, splits_of, bound_as, Cut, cut, new, all_params, onward}
-use Rattle.law_splits.specs.SplitFaults.{miscounted, mismatches, cuts, cuts_of}
+use Rattle.law_splits.specs.Leaves.{numbered, nameless, name_of, own_params, splits_of, bound_as, cut, new, all_params, onward}
+use Rattle.law_splits.specs.SplitFaults.{miscounted, mismatches, cuts}
 use Rattle.law_splits.specs.SplitFaults as spec
-use Rattle.law_split_chains.specs.Chains.{types_of, new_types, other_types, mismatches_by, from_split, shown, unit_types, shown_of_units, TypesTell}
+use Rattle.law_split_chains.specs.Chains.{types_of, new_types, other_types, mismatches_by, from_split, shown, unit_types, TypesTell}
 
 joins : {X : Type 0} {a b c e : List X} → a ≡ c → b ≡ e → a ++ b ≡ c ++ e
 joins p q = cc

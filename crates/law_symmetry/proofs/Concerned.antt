@@ -1,11 +1,11 @@
 -- Which assignments concern an element does not change when its indexes are exchanged: a constant index is a number.
-use Rattle.std.proofs.Common.{◌≡◌, ℕ, zero, suc, ◌+◌, ◌-◌, ◌%◌, List, [], ◌∷◌, ◌++◌, map, zip, flat_map, length, Some, None, Bool, true, false, ◌&&◌, ◌||◌, if◌then◌else◌, cond, refl, sym, ap, ◌∙◌, nat_le}
+use Rattle.std.proofs.Common.{◌≡◌, ℕ, zero, suc, ◌+◌, ◌-◌, List, [], ◌∷◌, ◌++◌, map, zip, flat_map, length, Some, None, Bool, true, false, ◌&&◌, ◌||◌, if◌then◌else◌, cond, refl, ap, ◌∙◌, nat_le}
 use Rattle.std.specs.List.{list_all, list_any}
 use Rattle.std.specs.Str.{bytes_eq}
-use Rattle.smv_core.specs.Values.{Name, Path, Value, number, constant, scalar, ordinal, Outcome, same, add, modulo}
+use Rattle.smv_core.specs.Values.{Name, Path, Value, number, constant, scalar, ordinal, Outcome, add, modulo}
 use Rattle.smv_core.specs.Outcome.{fields_of, same_path}
 use Rattle.smv_core.specs.Walk.{Element, same_kind, indexes_of, steps_of}
-use Rattle.smv_core.specs.Assignments.{Bound, Around, loop, any, Index, fixed, bare, computed, index_of_name, index_of_path, add_fixed, modulo_fixed, index_of, index_of_sum, Assigned, assignments, assignments_of, assignments_held, assignments_arms, fits, concerns}
+use Rattle.smv_core.specs.Assignments.{Around, loop, any, Index, fixed, bare, computed, index_of_name, index_of_path, add_fixed, modulo_fixed, index_of, index_of_sum, Assigned, assignments, assignments_of, assignments_held, assignments_arms, fits, concerns}
 use Rattle.smv_core.specs.declared.tree.Kind.{Kind}
 use Rattle.smv_core.specs.declared.tree.Path.{out-Path}
 use Rattle.smv_core.specs.declared.tree.Expr.{Expr, Number, Signal', Not', And', Or', Implies', Iff', Compare', Within', Sum', Modulo', Choose', All', Any', List', Each', end_of-Expr, more_of-Expr, Row_of-Signed, end_of-Signed, more_of-Signed, items-the_row-Part}

@@ -1,15 +1,15 @@
 -- What a definition allows, and what holds of a unit's instance, with the values of scalarsets exchanged.
-use Rattle.std.proofs.Common.{◌≡◌, ℕ, zero, suc, ◌+◌, ◌-◌, ◌<◌, ◌≤◌, List, [], ◌∷◌, map, flat_map, length, get_or, Some, None, Option, Bool, true, false, ◌||◌, if◌then◌else◌, unwrap_or, ◌⊎◌, inl, inr, ⊎_elim, refl, sym, ap, subst, ◌∙◌, arith, Contains}
+use Rattle.std.proofs.Common.{◌≡◌, ℕ, zero, suc, ◌+◌, ◌-◌, ◌<◌, ◌≤◌, List, [], ◌∷◌, map, length, get_or, Some, None, Option, Bool, true, false, ◌||◌, if◌then◌else◌, unwrap_or, ◌⊎◌, inl, inr, ⊎_elim, refl, sym, ap, subst, ◌∙◌, arith, Contains}
 use Rattle.std.specs.List.{list_any}
 use Rattle.std.proofs.lemmas.List.Elements.{Contains-append_right}
-use Rattle.smv_core.specs.Values.{Name, Path, Value, number, constant, scalar, ordinal, Simple, range, choice, scalarset, ordset, Sizes, values_of, numbers_from}
+use Rattle.smv_core.specs.Values.{Name, Value, number, constant, scalar, ordinal, Simple, range, choice, scalarset, ordset, Sizes, values_of, numbers_from}
 use Rattle.smv_core.specs.Types.{Family}
 use Rattle.smv_core.specs.FlatOrder.{Design, Said, Claimed}
-use Rattle.smv_core.specs.Outcome.{State, Scene, Bindings, outcome, family_at}
+use Rattle.smv_core.specs.Outcome.{State, Bindings, outcome, family_at}
 use Rattle.smv_core.specs.Walk.{Element, Walk, walk, first, first_of}
 use Rattle.smv_core.specs.Assignments.{concerns}
 use Rattle.smv_core.specs.Allowed.{definition_set, assignments_in, values_at, every_value, scene_at, is_concerned, walk_set, kept, stepped, allowed}
-use Rattle.smv_core.specs.Sound.{Holds, map_of, claim_of, bound}
+use Rattle.smv_core.specs.Sound.{Holds, map_of, bound}
 use Rattle.smv_core.specs.declared.tree.Kind.{Kind}
 use Rattle.smv_core.specs.declared.tree.Kind.TheVariants.{Comb, Init, Next}
 use Rattle.smv_core.specs.declared.tree.TypeExpr.{TypeExpr}
@@ -17,7 +17,7 @@ use Rattle.law_meaning.specs.Exchange.{Exchanges, exchanged, exchanged_outcome, 
 use Rattle.law_meaning.proofs.Symmetry.{Has, outcome-ren}
 use Rattle.law_meaning.proofs.Exchanged.{walked}
 use Rattle.law_symmetry.specs.Laws.{AreExchangedBefore, IsPlain}
-use Rattle.law_symmetry.proofs.Concerned.{AllHaveNumbers, all-numbers, concerns-same}
+use Rattle.law_symmetry.proofs.Concerned.{all-numbers, concerns-same}
 
 -- ---- members of lists
 

@@ -1,5 +1,5 @@
 -- What the rules of kinds say of splits, claims and families, as the laws of leaves ask for it.
-use Rattle.std.proofs.Common.{◌≡◌, ◌≤◌, ◌<◌, ℕ, zero, suc, ◌+◌, List, [], ◌∷◌, ◌++◌, map, length, get_or, slice_get, Option, Some, None, is_some, Bool, true, false, ◌&&◌, nat_le, nat_lt, nat_eq, sym, subst, refl, arith}
+use Rattle.std.proofs.Common.{◌≡◌, ◌≤◌, ◌<◌, ℕ, zero, suc, List, [], ◌∷◌, map, length, slice_get, Option, Some, None, is_some, Bool, true, ◌&&◌, nat_le, nat_lt, nat_eq, subst, refl, arith}
 use Rattle.std.specs.Prelude.{IfSome}
 use Rattle.std.specs.List.{list_all}
 use Rattle.smv_core.specs.Values.{Name}
@@ -14,16 +14,14 @@ use Rattle.smv_core.specs.declared.flat.FlatPair.{FlatPair}
 use Rattle.smv_core.specs.declared.flat.FlatItem.{FlatItem}
 use Rattle.smv_core.specs.declared.flat.FlatItem.TheVariants as item
 use Rattle.smv_core.specs.declared.flat.FlatMember.{One, Span as SpanOf}
-use Rattle.smv_core.specs.declared.flat.FlatExpr.{FlatExpr, Number, Read', Var, Loop, Constant, Not', And', Or', Implies', Iff', Compare', Within', Sum', Modulo', Choose', All', Any', List', Each', Held-FlatExpr-Each-2, None', Some', Row_of-FlatExpr, end_of-FlatExpr, more_of-FlatExpr, Row_of-FlatMember, end_of-FlatMember, more_of-FlatMember, Row_of-FlatSigned, end_of-FlatSigned, more_of-FlatSigned}
+use Rattle.smv_core.specs.declared.flat.FlatExpr.{FlatExpr, Number, Read', Var, Loop, Constant, Not', And', Or', Implies', Iff', Compare', Within', Sum', Modulo', Choose', All', Any', List', Each', Row_of-FlatExpr, end_of-FlatExpr, more_of-FlatExpr, Row_of-FlatMember, end_of-FlatMember, more_of-FlatMember, Row_of-FlatSigned, end_of-FlatSigned, more_of-FlatSigned}
 use Rattle.smv_core.specs.declared.flat.Raw.{Raw}
 use Rattle.law_single_assignment.specs.Definitions.{splits_of, design_of_raw}
 use Rattle.law_flattening.specs.WholeText.{claims_of}
-use Rattle.law_flat_kinds.specs.FlatKinds.{number, kind_of, takes, are_numbers, number_if, common, element, take_each, Vars, inside, bound_by, are_binders, kind_in, kinds_in, summands, members_in, looked_through, is_binder, is_type, is_index_type, is_size, is_kinded_item, is_kinded_family, is_kinded}
+use Rattle.law_flat_kinds.specs.FlatKinds.{number, kind_of, takes, are_numbers, number_if, common, take_each, Vars, inside, bound_by, are_binders, kind_in, kinds_in, summands, members_in, looked_through, is_binder, is_type, is_index_type, is_size, is_kinded_item, is_kinded_family, is_kinded}
 use Rattle.law_flat_kinds.proofs.Operands.{both, all-some, takes-some, numbers-some, each-some, common-some, number_if-true, compares-some, two-some, chosen-some, element-some}
 use Rattle.smv_abstraction.specs.Sets.{Has, first, later}
-use Rattle.smv_abstraction.specs.Covers.{IsIndexType}
-use Rattle.law_obligations.specs.Checked.{IsFilled}
-use Rattle.law_splits.specs.Variables.{IsNumbered, AreNumbered, AreSignedNumbered, AreMembersNumbered, IsHeldNumbered}
+use Rattle.law_splits.specs.Variables.{IsNumbered, AreNumbered, AreSignedNumbered, AreMembersNumbered}
 use Rattle.law_splits.specs.Laws.{IsIndex, IsRead}
 use Rattle.law_cases.specs.Scripts.{HaveValues}
 

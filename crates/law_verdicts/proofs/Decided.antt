@@ -1,5 +1,5 @@
 -- What verdicts say, and that there is one.
-use Rattle.std.proofs.Common.{◌≡◌, ℕ, zero, suc, ◌+◌, ◌*◌, List, [], ◌∷◌, ◌++◌, Bool, true, false, refl, sym, ap, subst, ◌∙◌, inl, inr, Option, Some, None, arith}
+use Rattle.std.proofs.Common.{◌≡◌, ℕ, zero, suc, ◌+◌, ◌*◌, List, [], ◌∷◌, ◌++◌, Bool, true, false, refl, sym, ap, subst, ◌∙◌, Some, None, arith}
 use Rattle.std.specs.List.{slice_get}
 use Rattle.bdd_store.specs.Diagram.{Diagram}
 use Rattle.smv_core.specs.declared.flat.Class.{Class}
@@ -7,16 +7,14 @@ use Rattle.smv_abstraction.specs.Sets.{Has, first, later}
 use Rattle.smv_abstraction.specs.May.{AbsState}
 use Rattle.law_obligations.specs.Outlines.{Entry, Script, outline_of}
 use Rattle.law_obligations.specs.Times.{graph, timed}
-use Rattle.law_obligations.specs.Checked.{IsChecked, IsProved, IsSound}
-use Rattle.smv_abstraction.proofs.OneOfEach.{get_Has}
-use Rattle.smv_rings.specs.Lists.{Lists, IsLists}
+use Rattle.law_obligations.specs.Checked.{IsChecked, IsProved}
+use Rattle.smv_rings.specs.Lists.{Lists}
 use Rattle.smv_rings.proofs.PathLaws.{violating_of, violates_of}
 use Rattle.smv_search.specs.declared.Outcome.{Outcome}
 use Rattle.smv_search.specs.declared.Outcome.TheVariants.{Closed, Reaches, OutOfNodes, OutOfSteps}
 use Rattle.smv_search.specs.Answers.{Answers}
 use Rattle.smv_search.specs.Verdict.{Budget, Verdict, IsVerdict}
-use Rattle.smv_search.specs.Verdict.Verdict.{Counted, Reached, Shut, Images}
-use Rattle.smv_search.specs.Laws.{OneVerdict}
+use Rattle.smv_search.specs.Verdict.Verdict.{Reached, Shut}
 use Rattle.smv_search.proofs.Unique.{first_once}
 use Rattle.smv_rings.specs.Schedule.{schedule}
 use Rattle.smv_search.proofs.Meaning.{true_means, false_means}
@@ -26,9 +24,9 @@ use Rattle.law_case_lists.specs.CaseLists.{case_lists}
 use Rattle.law_case_lists.specs.Laws.{readings}
 use Rattle.law_case_lists.proofs.Below.{are_lists}
 use Rattle.law_case_lists.proofs.Paths.{none_is_none, least_is_least}
-use Rattle.law_cases.specs.Scripts.{case_of, case_at, classes_of, HaveValues}
+use Rattle.law_cases.specs.Scripts.{case_at, classes_of, HaveValues}
 use Rattle.law_cases.proofs.ScriptCases.{is_case}
-use Rattle.law_verdicts.specs.Verdicts.{LeafVerdict, all_true, fails, is_shut, IsTrueCase, AreTrueCases, FailsFirst, IsLeafVerdict, lists_at, IsUnitVerdict, AreVerdictsFrom, AreVerdicts, AllTrue}
+use Rattle.law_verdicts.specs.Verdicts.{LeafVerdict, all_true, fails, is_shut, IsTrueCase, AreTrueCases, IsLeafVerdict, lists_at, IsUnitVerdict, AreVerdictsFrom, AreVerdicts, AllTrue}
 use Rattle.law_verdicts.specs.Laws.{Says}
 
 -- ---- one verdict

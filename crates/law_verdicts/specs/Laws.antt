@@ -1,7 +1,6 @@
 -- The laws: what the crate's public functions say.
 use Rattle.std.specs.Prelude.{◌≡◌, ℕ, List}
 use Rattle.bdd_store.specs.Diagram.{Diagram}
-use Rattle.smv_core.specs.declared.flat.Class.{Class}
 use Rattle.smv_abstraction.specs.May.{AbsState}
 use Rattle.law_obligations.specs.Outlines.{Entry, Script}
 use Rattle.law_obligations.specs.Checked.{IsChecked, IsProved, IsSound}

@@ -18,7 +18,7 @@ use Rattle.smv_instances.specs.FirstFault.{faults_at}
 use Rattle.law_kinds.specs.Kinds.{Kind, Operand, enumeration, takes_number, alike}
 use Rattle.law_kinds.specs.Types.{Whole, single, index_faults}
 use Rattle.law_kinds.specs.References as kinds
-use Rattle.law_kinds.specs.References.{Vars, behind, signal_at, constant_at, reference_at, reference}
+use Rattle.law_kinds.specs.References.{Vars, signal_at, constant_at, reference_at}
 use Rattle.law_kinds.specs.Operands.{bind, operand, operands, indexes, summands, members, looked_through, condition_faults, value}
 use Rattle.law_flattening.specs.Numbers.{Scope, bound_in, variable, variable_at}
 use Rattle.law_flattening.specs.Agreement.{IsConstant, IsKnown, IsRight, AreRight, PartsAreRight, IndexesAreRight, TermsAreRight, MembersAreRight, ConditionIsRight}

@@ -10,7 +10,7 @@ use Rattle.smv_core.specs.declared.tree.Item.{Item, Declare, Instance, Layer, Fo
 use Rattle.smv_instances.specs.Mentions.{Mention, declares, binds, follows, names_type, lists_constants, has_fields, instantiates, declared_as, in_item, in_items, in_type, in_expr, binder_in, instance}
 use Rattle.smv_instances.specs.NameFaults.{used_in}
 use Rattle.law_flattening.specs.Entries as flat
-use Rattle.law_flattening.specs.Entries.{Entry, statement, inside_binder, placed_of_item, placed_in, instance_entries, item_entries, items_entries, entries_in}
+use Rattle.law_flattening.specs.Entries.{Entry, statement, inside_binder, placed_of_item, instance_entries, item_entries, items_entries}
 use Rattle.law_well_kinded.proofs.Lists.{IsAmong, among-front, among-behind}
 
 -- ---- what mentions use

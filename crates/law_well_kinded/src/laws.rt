@@ -1,5 +1,5 @@
 // Laws of texts without faults, each the contract of a function that does nothing.
-ghost use Rattle.std.specs.Prelude.{◌≡◌, ℕ, [], List, None, Option, Some};
+ghost use Rattle.std.specs.Prelude.{◌≡◌, ℕ, [], None, Option, Some};
 ghost use Rattle.std.specs.List.{AllZip};
 ghost use Rattle.smv_core.specs.Values.{Name, Sizes};
 ghost use Rattle.smv_core.specs.Types.{Family};

@@ -8,7 +8,7 @@ use Rattle.smv_core.specs.declared.tree.Op.TheVariants.{Equal, Differ, Less, AtM
 use Rattle.smv_core.specs.declared.flat.Family.{Family}
 use Rattle.smv_core.specs.declared.flat.FlatMember.{One, Span as SpanOf}
 use Rattle.smv_core.specs.declared.flat.FlatExpr.{FlatExpr, Number, Read', Var, Loop, Constant, Not', And', Or', Implies', Iff', Compare', Within', Sum', Modulo', Choose', All', Any', List', Each', Row_of-FlatExpr, end_of-FlatExpr, more_of-FlatExpr, Row_of-FlatMember, end_of-FlatMember, more_of-FlatMember, Row_of-FlatSigned, end_of-FlatSigned, more_of-FlatSigned}
-use Rattle.smv_abstraction.specs.Sets.{Has, first, one_of_each, parts, pairs, all_there}
+use Rattle.smv_abstraction.specs.Sets.{first, one_of_each, parts, pairs, all_there}
 use Rattle.smv_abstraction.specs.Places.{Place, named, rest, World, named_in, rests_in, places_in, AbsOutcome, valued, as_place, unsure, equal_places, below_places, where_defined, may_compare, bind_place}
 use Rattle.smv_abstraction.specs.May.{AbsState, Kept, seen, shown, place_within, quantified, places_at, may_read, may, may_each, may_sum, may_listed, may_members}
 use Rattle.smv_abstraction.proofs.Members.{Has-map, Has-flat_map, Has-pairs, Has-choices, Has-parts, kept_by}

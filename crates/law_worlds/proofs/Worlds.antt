@@ -7,21 +7,19 @@ use Rattle.smv_core.specs.Values.{Name}
 use Rattle.smv_core.specs.declared.flat.SetInfo.{SetInfo}
 use Rattle.smv_abstraction.specs.declared.abstract_type.Rest.{Rest}
 use Rattle.smv_abstraction.specs.declared.abstract_type.Rest.TheVariants as beside
-use Rattle.smv_abstraction.specs.declared.abstract_type.AbsType.{AbsType}
 use Rattle.smv_abstraction.specs.Sets.{Has, first, later}
 use Rattle.smv_abstraction.specs.Places.{World}
 use Rattle.smv_abstraction.proofs.Tests.{same_tests}
 use Rattle.smv_abstraction.proofs.Same.{nat_eq-is, nat_eq-itself}
-use Rattle.smv_abstraction.proofs.Members.{Has-left, Has-right, Has-flat_map, Has-map}
+use Rattle.smv_abstraction.proofs.Members.{Has-left, Has-right}
 use Rattle.smv_abstraction.proofs.OneOfEach.{get_Has}
 use Rattle.law_obligations.specs.Outlines.{place_of}
 use Rattle.law_codes.specs.Readings.{Case}
-use Rattle.smv_spots.specs.Spots.{is_ordset, name_of, both_or_none, is_same_set, AreTypes}
-use Rattle.smv_problem.specs.declared.problem.Problem.{Problem}
+use Rattle.smv_spots.specs.Spots.{is_ordset, name_of, both_or_none, AreTypes}
 use Rattle.smv_problem.specs.Written.{written, written_type, name_number, set_numbers_of}
 use Rattle.smv_problem.specs.WellFormed.{IsWellFormed}
-use Rattle.smv_typed_spots.proofs.TypedLaws.{IsFirst, found}
-use Rattle.smv_problem_spots.specs.Worlds.{IsWorldOf, count_at, name_at, name_number_at, is_one_constant, is_one_set, is_gaps, has_gaps}
+use Rattle.smv_typed_spots.proofs.TypedLaws.{found}
+use Rattle.smv_problem_spots.specs.Worlds.{IsWorldOf, name_at, name_number_at, is_one_constant, is_gaps, has_gaps}
 
 -- ---- lists
 

@@ -4,7 +4,7 @@ use Rattle.std.specs.Prelude.{unwrap_or}
 use Rattle.std.specs.List.{slice_get}
 use Rattle.std.specs.Str.{bytes_eq}
 use Rattle.std.proofs.lemmas.Slice.Eq.{bytes_eq-Decides}
-use Rattle.smv_core.specs.Values.{Name, Value, number, constant, scalar, ordinal, Truth, same, below, not_of, values_of, numbers_from}
+use Rattle.smv_core.specs.Values.{Name, Value, number, constant, scalar, ordinal, Truth, same, below, not_of, numbers_from}
 use Rattle.smv_core.specs.Flat.{Numbered, simple_in}
 use Rattle.smv_core.specs.Values as values
 use Rattle.smv_core.specs.Flat as flat

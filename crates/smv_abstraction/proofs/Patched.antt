@@ -5,7 +5,7 @@ use Rattle.std.specs.Option.{is_none}
 use Rattle.smv_core.specs.Values.{Value, number, Outcome, truth, bit, value_in, all_defined, compare, equal, add, modulo, numbers_from, not_of, iff_of, conjunction, disjunction, implication}
 use Rattle.smv_core.specs.Outcome.{branch, fit, is_true}
 use Rattle.smv_core.specs.Walk as walk
-use Rattle.smv_core.specs.Walk.{Walk, if_walk, is_other}
+use Rattle.smv_core.specs.Walk.{if_walk, is_other}
 use Rattle.smv_core.specs.Flat.{Numbered, FlatState, FlatElement, bind, values_in, flat_element_at, flat_outcome, flat_outcomes, flat_sum, flat_listed, flat_members, flat_meets, flat_allowed_by, flat_assigned, flat_result, flat_results, is_concerned_by, flat_kept, flat_stepped, flat_allowed}
 use Rattle.smv_core.specs.declared.flat.Simple.{Simple as FlatSimple}
 use Rattle.smv_core.specs.declared.flat.Family.{Family}

@@ -4,7 +4,7 @@ use Rattle.std.specs.List.{list_any, slice_get, zip}
 use Rattle.std.specs.Option.{is_none}
 use Rattle.smv_core.specs.Values.{Name, Value, Outcome, Truth, truth, same, Simple, range, choice, scalarset, ordset}
 use Rattle.smv_core.specs.Walk as walk
-use Rattle.smv_core.specs.Walk.{Walk, if_walk, unless_nothing, is_other}
+use Rattle.smv_core.specs.Walk.{Walk, if_walk, is_other}
 use Rattle.smv_core.specs.Flat.{Numbered, FlatState, FlatElement, bind, values_in, simple_in, flat_outcome, flat_allowed_by, flat_assigned, flat_result, flat_results}
 use Rattle.smv_core.specs.declared.flat.Simple.{Simple as FlatSimple}
 use Rattle.smv_core.specs.declared.flat.FlatExpr.{FlatExpr, Var}

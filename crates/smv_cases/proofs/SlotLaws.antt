@@ -21,7 +21,7 @@ use Rattle.smv_cases.specs.declared.slots.Treatment.{Treatment}
 use Rattle.smv_cases.specs.declared.slots.Slot.{Slot}
 use Rattle.smv_cases.specs.Growing.{may_stand_in, may_stand_at, keeps_in, keeps_at, grown}
 use Rattle.smv_cases.specs.Slots as slot
-use Rattle.smv_cases.specs.Slots.{parameter_of, parameters_of, IsSlot, AreSlots, keeps_rules, keeps, stands_by, stands, grown_of}
+use Rattle.smv_cases.specs.Slots.{parameter_of, parameters_of, IsSlot, AreSlots, keeps_rules, keeps, stands_by, grown_of}
 use Rattle.smv_cases.proofs.Lists.{flat_map-same}
 use Rattle.smv_cases.proofs.Grows.{cases_grow}
 

@@ -1,5 +1,5 @@
 // The cases of a leaf, and the abstract form of its set types in a case.
-ghost use Rattle.std.specs.Prelude.{◌≡◌, map, slice_get, unwrap_or, IfOk};
+ghost use Rattle.std.specs.Prelude.{◌≡◌, slice_get, unwrap_or, IfOk};
 ghost use Rattle.smv_core.specs.declared.flat.Unit.TheVariants as variant;
 ghost use Rattle.smv_abstraction.specs.LeafCases.{leaf_cases};
 ghost use Rattle.law_obligations.specs.Outlines.{unit_in};

@@ -1,5 +1,5 @@
 // The cases of a leaf, one parameter after the other. Each call takes the slots of the parameters, one of them for each set type, and the classes so far.
-ghost use Rattle.std.specs.Prelude.{◌≡◌, ◌≤◌, ◌-◌, ◌+◌, ◌∷◌, [], ◌++◌, map, flat_map, length};
+ghost use Rattle.std.specs.Prelude.{◌≡◌, ◌≤◌, ◌-◌, ◌+◌, [], ◌++◌, map, flat_map, length};
 ghost use Rattle.std.specs.List.{list_all};
 ghost use Rattle.smv_core.specs.Values.{numbers_from};
 ghost use Rattle.smv_core.specs.declared.flat.Class.TheVariants as class;

@@ -1,12 +1,12 @@
 // Parameters as the cases of a leaf see them.
-ghost use Rattle.std.specs.Prelude.{◌≡◌, ℕ, List, [], ◌∷◌, ◌++◌, map, is_some, option_map, slice_get, IfOk, nat_eq, true};
+ghost use Rattle.std.specs.Prelude.{◌≡◌, List, [], is_some, option_map, slice_get, IfOk, nat_eq, true};
 ghost use Rattle.std.specs.List.{list_any, list_all};
 ghost use Rattle.smv_core.specs.declared.flat.Class.{Class};
 ghost use Rattle.smv_cases.specs.declared.slots.Slot.{Slot};
 ghost use Rattle.smv_core.specs.declared.flat.Simple.TheVariants as simple;
 ghost use Rattle.smv_abstraction.specs.LeafCases as leaf;
 ghost use Rattle.smv_abstraction.specs.LeafCases.{kept_of, treatments_of, stays};
-ghost use Rattle.smv_cases.specs.Slots.{treatment_of, parameter_of, parameters_of, IsSlot, AreSlots, AreTypes, keeps};
+ghost use Rattle.smv_cases.specs.Slots.{treatment_of, parameters_of, IsSlot, AreSlots, AreTypes, keeps};
 
 use smv_core::flat::{Keep, Param, SetInfo, Simple};
 use std::alloc::{AllocError, Global};

@@ -18,7 +18,7 @@ use Rattle.smv_conditions.specs.declared.offers.Offer.{Offer}
 use Rattle.smv_conditions.specs.Keep.{KeepsConditions}
 use Rattle.smv_conditions.specs.Offers.{any_offer, AreOffersMade}
 use Rattle.smv_conditions.specs.Adds.{Adds}
-use Rattle.smv_conditions.proofs.AddLaws.{offers_same, offers_kept}
+use Rattle.smv_conditions.proofs.AddLaws.{offers_same}
 use Rattle.smv_cells.specs.declared.cells.Cell.{Cell}
 use Rattle.smv_cells.specs.Cells.{cell_any}
 use Rattle.smv_cells.specs.Seen.{View, IsSeen}

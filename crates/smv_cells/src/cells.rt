@@ -7,7 +7,7 @@ ghost use Rattle.law_obligations.specs.Cones.{same_places};
 ghost use Rattle.smv_spots.specs.Spots.{place_in};
 ghost use Rattle.smv_problem_spots.specs.Worlds.{IsWorldOf};
 ghost use Rattle.smv_conditions.specs.Keep.{KeepsConditions};
-ghost use Rattle.smv_conditions.specs.Offers.{AreOffersMade, any_offer};
+ghost use Rattle.smv_conditions.specs.Offers.{AreOffersMade};
 ghost use Rattle.smv_conditions.specs.Adds.{Adds};
 ghost use Rattle.smv_cells.specs.Cells.{is_cell_of, AreCellsMade, cell_any};
 

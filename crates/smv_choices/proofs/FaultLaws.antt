@@ -40,7 +40,7 @@ use Rattle.smv_uses.specs.Choices.{Proof, proofs_in, names_leaf, own_map, is_own
 use Rattle.smv_uses.specs.UseFaults as spec
 use Rattle.smv_uses.specs.UseFaults.{later, leaf_named, same_leaf, same_map, same_family, is_param_over, first_fault_of_uses}
 use Rattle.smv_choices.specs.Parts as parts
-use Rattle.smv_choices.specs.Parts.{at_place, picks_by, claims_by, unknown_by, proved_as, unknown_as, proved_one, unknown_one, first_among, map_key, map_keys, family_key, family_keys, claim_keys, set_key, set_keys, is_param_in, fits, names_misfit, braces_misfit, other_types_in}
+use Rattle.smv_choices.specs.Parts.{at_place, picks_by, claims_by, proved_as, unknown_as, proved_one, unknown_one, first_among, map_keys, family_keys, claim_keys, set_keys, is_param_in, fits, names_misfit, braces_misfit, other_types_in}
 use Rattle.smv_choices.specs.Readings.{Said, reading_in, unknown_in, leaf_key, leaf_keys, twice_in, misfit_in, first_fault}
 use Rattle.smv_choices.proofs.PartLaws.{proof_in, all-picks, all-claims, all-unknown}
 

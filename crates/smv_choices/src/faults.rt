@@ -1,7 +1,7 @@
 // The first fault of uses of a design.
 ghost use Rattle.std.specs.Prelude.{◌≡◌, ◌++◌, [], map, flat_map, IfOk, OnOk};
 ghost use Rattle.std.specs.Str.{bytes_eq};
-ghost use Rattle.smv_scope.specs.ScopeFault.{least, fault_at, earlier_of};
+ghost use Rattle.smv_scope.specs.ScopeFault.{least, fault_at};
 ghost use Rattle.smv_references.specs.Again.{again, placed};
 ghost use Rattle.smv_choices.specs.Held.{AreTables};
 ghost use Rattle.smv_choices.specs.Parts as parts;

@@ -1,7 +1,6 @@
 // The parameters that stay of each set type.
 ghost use Rattle.std.specs.Prelude.{◌≡◌, ◌++◌, map, is_some, IfOk, OnOk};
 ghost use Rattle.std.specs.List.{flat_map};
-ghost use Rattle.name_index.specs.Position.{position};
 ghost use Rattle.smv_choices.specs.Parts.{kept_from, kept_one, keep_with};
 
 use crate::meanings::number_of;

@@ -1,5 +1,5 @@
 // The choice of each leaf.
-ghost use Rattle.std.specs.Prelude.{◌≡◌, ◌++◌, List, map, find, filter, not, IfOk, Some, option_map, option_copied};
+ghost use Rattle.std.specs.Prelude.{◌≡◌, map, filter, not, IfOk, Some, option_map, option_copied};
 ghost use Rattle.std.specs.List.{list_any};
 ghost use Rattle.law_splits.specs.Leaves.{named_by};
 ghost use Rattle.smv_uses.specs.Choices as spec;

@@ -1,5 +1,5 @@
 // What references mean.
-ghost use Rattle.std.specs.Prelude.{◌≡◌, map, slice_get, option_map, Some, None, IfOk};
+ghost use Rattle.std.specs.Prelude.{◌≡◌, option_map, Some, None, IfOk};
 ghost use Rattle.name_index.specs.Position.{position};
 ghost use Rattle.smv_uses.specs.Uses as uses;
 ghost use Rattle.smv_uses.specs.declared.meaning.Meaning.TheVariants as means;

@@ -1,5 +1,5 @@
 // Names of a `using` that do not fit.
-ghost use Rattle.std.specs.Prelude.{◌≡◌, ◌++◌, [], map, flat_map, zip, not, false, slice_index_or, IfOk, OnOk};
+ghost use Rattle.std.specs.Prelude.{◌≡◌, [], map, flat_map, not, false, slice_index_or, IfOk, OnOk};
 ghost use Rattle.smv_instances.specs.NameFaults as faults;
 ghost use Rattle.smv_scope.specs.ScopeFault.{least};
 ghost use Rattle.smv_abstraction.specs.Cases as cases;

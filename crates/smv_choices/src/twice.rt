@@ -1,8 +1,6 @@
 // What is said twice in a `using`.
-ghost use Rattle.std.specs.Prelude.{◌≡◌, ◌++◌, ℕ, [], map, true, not, cond, nat_eq, None, if◌then◌else◌, option_copied, IfOk, OnOk};
-ghost use Rattle.std.specs.Str.{bytes_eq};
-ghost use Rattle.smv_scope.specs.ScopeFault.{least};
-ghost use Rattle.smv_references.specs.Again.{again, same_key, placed};
+ghost use Rattle.std.specs.Prelude.{◌≡◌, ◌++◌, ℕ, map, true, not, cond, nat_eq, None, if◌then◌else◌, option_copied, IfOk, OnOk};
+ghost use Rattle.smv_references.specs.Again.{placed};
 ghost use Rattle.smv_uses.specs.Choices.{own_map};
 ghost use Rattle.smv_choices.specs.Held.{AreTables, is_seen};
 ghost use Rattle.smv_choices.specs.Parts as parts;

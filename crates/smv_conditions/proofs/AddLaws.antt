@@ -1,8 +1,7 @@
 -- Additions to lists of outcomes.
-use Rattle.std.proofs.Common.{Some, None, ◌≡◌, ℕ, List, [], ◌∷◌, ◌++◌, length, arith, Option, Bool, true, false, ◌&&◌, ◌||◌, refl, sym, ap, ◌∙◌, subst}
+use Rattle.std.proofs.Common.{Some, None, ◌≡◌, ℕ, List, [], ◌∷◌, ◌++◌, length, arith, Bool, true, false, ◌&&◌, ◌||◌, refl, sym, ap, ◌∙◌, subst}
 use Rattle.smv_core.specs.Flat.{Numbered}
 use Rattle.smv_abstraction.specs.Places.{AbsOutcome, named}
-use Rattle.smv_spots.specs.declared.spots.Spot.{Spot}
 use Rattle.smv_conditions.specs.declared.offers.Offer.{Offer}
 use Rattle.smv_conditions.specs.declared.offers.May.{May}
 use Rattle.smv_conditions.specs.declared.offers.May.TheVariants.{Truths, Values}
@@ -15,7 +14,6 @@ use Rattle.smv_conditions.specs.Keep.{KeepsConditions}
 use Rattle.smv_spots.specs.Spots.{outcome_in}
 use Rattle.smv_conditions.specs.Offers.{any_offer, any_may, AreOffersMade, IsMayMade}
 use Rattle.smv_conditions.specs.Adds.{Adds, listed_of}
-use Rattle.law_outcomes.proofs.Anys.{any-append}
 
 module _ {S C : Type 0} (n : Numbered) (IsMade : S → C → Type 0) (holds : S → C → (ℕ → Bool) → Bool) (room : S → ℕ) (a : ℕ → Bool) (p : AbsOutcome → Bool) where
   pub offers_same : (s t : S) (os : List (Offer C)) → KeepsConditions IsMade holds room s t → AreOffersMade (IsMade s) os → any_offer n holds t a p os ≡ any_offer n holds s a p os

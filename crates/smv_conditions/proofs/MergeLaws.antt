@@ -1,5 +1,5 @@
 -- One outcome more in a list, beside an equal one.
-use Rattle.std.proofs.Common.{◌≡◌, ◌<◌, ℕ, zero, suc, length, arith, List, [], ◌∷◌, ◌++◌, set, slice_get, get_or, Option, Some, None, Bool, true, false, ◌&&◌, ◌||◌, refl, sym, ap, ◌∙◌, subst}
+use Rattle.std.proofs.Common.{◌≡◌, ◌<◌, ℕ, zero, suc, length, List, [], ◌∷◌, ◌++◌, set, slice_get, get_or, Option, Some, Bool, true, false, ◌&&◌, ◌||◌, refl, sym, ap, ◌∙◌, subst}
 use Rattle.std.proofs.lemmas.Option.{slice_get-get_or}
 use Rattle.std.proofs.lemmas.List.{get_or_default}
 use Rattle.smv_core.specs.Flat.{Numbered}
@@ -11,7 +11,7 @@ use Rattle.smv_conditions.specs.Keep.{KeepsConditions}
 use Rattle.smv_conditions.specs.Offers.{any_offer, AreOffersMade}
 use Rattle.smv_conditions.specs.Adds.{Adds}
 use Rattle.law_outcomes.proofs.Anys.{any-append}
-use Rattle.smv_conditions.proofs.AddLaws.{offers_same, offers_kept, made_pushed}
+use Rattle.smv_conditions.proofs.AddLaws.{offers_same}
 
 module _ {S C : Type 0} (n : Numbered) (IsMade : S → C → Type 0) (holds : S → C → (ℕ → Bool) → Bool) (room : S → ℕ) (a : ℕ → Bool) (p : AbsOutcome → Bool) where
   both_first : (w k x b : Bool) → (b || ((w && k) && x)) ≡ (b || (w && (k && x)))

@@ -1,5 +1,5 @@
 // Where conditions over assignments live.
-ghost use Rattle.std.specs.Prelude.{◌≡◌, ℕ, Bool, true, false, ◌&&◌, ◌||◌, not, IfOk};
+ghost use Rattle.std.specs.Prelude.{◌≡◌, ℕ, Bool, ◌&&◌, ◌||◌, not, IfOk};
 ghost use Rattle.smv_conditions.specs.Keep.{KeepsConditions};
 
 use std::alloc::{AllocError, Global};

@@ -1,12 +1,11 @@
 // Lists of outcomes that grow, each outcome under a further condition.
-ghost use Rattle.std.specs.Prelude.{◌≡◌, ℕ, Bool, ◌&&◌, ◌||◌, OnOk, IfOk, IfSome, slice_get, ◌∷◌, []};
+ghost use Rattle.std.specs.Prelude.{◌≡◌, ℕ, Bool, ◌&&◌, OnOk, IfOk, IfSome, slice_get};
 ghost use Rattle.smv_core.specs.Flat.{Numbered};
 ghost use Rattle.smv_abstraction.specs.Places.{AbsOutcome};
 ghost use Rattle.smv_spots.specs.Spots.{outcome_in};
 ghost use Rattle.smv_conditions.specs.Keep.{KeepsConditions};
 ghost use Rattle.smv_conditions.specs.Offers.{AreOffersMade, IsMayMade, any_offer, any_may};
 ghost use Rattle.smv_conditions.specs.Adds.{Adds, listed_of};
-ghost use Rattle.smv_conditions.specs.Chances.{AreMade};
 
 use crate::chances::Chances;
 use crate::conditions::Conditions;

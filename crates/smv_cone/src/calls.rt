@@ -4,8 +4,7 @@ ghost use Rattle.law_obligations.specs.Units.{units_of};
 ghost use Rattle.law_problems.specs.Parts.{outlined, IsPart, IsCaseOf, cone_with, width_fault, Refuses};
 ghost use Rattle.smv_chosen_table.specs.Tables.{IsTable};
 ghost use Rattle.smv_problem.specs.Written.{written_element};
-ghost use Rattle.smv_cases.specs.Types.{types_of};
-ghost use Rattle.smv_cone.specs.Parts.{IsPartView, IsPartOf, spots_in};
+ghost use Rattle.smv_cone.specs.Parts.{IsPartView, IsPartOf};
 ghost use Rattle.smv_cone.specs.Searching.{HasLeast, HasFound, IsConeOf};
 
 use crate::bits::{are_few, list_lengths};

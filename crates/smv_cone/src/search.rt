@@ -1,9 +1,7 @@
 // The search for a cone.
-ghost use Rattle.std.specs.Prelude.{◌≡◌, ◌<◌, ◌+◌, [], false, length, slice_get, IfOk, OnOk};
-ghost use Rattle.smv_abstraction.specs.Soundness.{over_of};
+ghost use Rattle.std.specs.Prelude.{◌≡◌, ◌<◌, ◌+◌, false, length, IfOk, OnOk};
 ghost use Rattle.smv_elements.specs.Elements.{is_full, put_all};
-ghost use Rattle.smv_cone.specs.Parts.{IsPartView, spots_in};
-ghost use Rattle.smv_cone.specs.Begins as begins;
+ghost use Rattle.smv_cone.specs.Parts.{IsPartView};
 ghost use Rattle.smv_cone.specs.Searching as spec;
 ghost use Rattle.smv_cone.specs.Searching.{HasLeast, HasFound};
 

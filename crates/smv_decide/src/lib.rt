@@ -18,8 +18,8 @@ pub mod leaves;
 pub mod tasks;
 
 use bdd_store::Store;
+use smv_core::Seq;
 use smv_core::flat::{Case, Element};
-use smv_core::{Refusal, Seq};
 use smv_obligations::{ProblemParts, Shared, problem_with, taken_apart, taken_back};
 use smv_problem::{AbsState, Budgets, Problem};
 use smv_relations::relations;

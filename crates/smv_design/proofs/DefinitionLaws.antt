@@ -7,7 +7,7 @@ use Rattle.smv_core.specs.Values.{numbers_from}
 use Rattle.smv_core.specs.declared.tree.Kind.{Kind}
 use Rattle.smv_core.specs.declared.tree.Kind.TheVariants.{Comb, Init, Next}
 use Rattle.smv_core.specs.declared.flat.FlatStmt.{FlatStmt, Assign, If', Block', Default', Forall', Row_of-FlatStmt, end_of-FlatStmt, more_of-FlatStmt}
-use Rattle.smv_core.specs.declared.flat.Flat.{Flat, Nothing}
+use Rattle.smv_core.specs.declared.flat.Flat.{Flat}
 use Rattle.smv_core.specs.declared.flat.Def.{Def}
 use Rattle.smv_core.specs.declared.flat.Raw.{Raw}
 use Rattle.smv_core.specs.declared.flat.Claim.{Claim}
@@ -23,8 +23,8 @@ use Rattle.smv_design.specs.declared.acts.Act.{Act}
 use Rattle.smv_design.specs.declared.owners.Owner.{Owner}
 use Rattle.smv_design.specs.declared.definitions.Said.{Said}
 use Rattle.smv_design.specs.Parts.{size, kept}
-use Rattle.smv_design.specs.Groups.{same_owner, or_none, used, held}
-use Rattle.smv_design.specs.Told.{told, told_by}
+use Rattle.smv_design.specs.Groups.{same_owner, or_none}
+use Rattle.smv_design.specs.Told.{told_by}
 use Rattle.smv_design.specs.Acts.{head_of, statement_of, heads_in, heads_in_row, heads_from}
 use Rattle.smv_design.specs.Definitions.{owner_of, IsSame, IsSaid, AreApart, AreSaid, def_from, def_among}
 use Rattle.smv_design.proofs.OwnerLaws.{one-layer}

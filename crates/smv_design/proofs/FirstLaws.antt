@@ -2,7 +2,7 @@
 use Rattle.std.proofs.Common.{◌≡◌, List, [], ◌∷◌, ◌++◌, map, filter, Bool, true, false, not, cond, nat_eq, ◌&&◌, ◌||◌, subst, refl, sym, ap, ◌∙◌}
 use Rattle.std.specs.List.{list_any}
 use Rattle.std.specs.HashSet.{HashSet}
-use Rattle.std.proofs.lemmas.List.{append-nil, map-append}
+use Rattle.std.proofs.lemmas.List.{map-append}
 use Rattle.std.proofs.lemmas.List.Folds.{list_any-append}
 use Rattle.law_flattening.specs.Flattening.{different}
 use Rattle.law_single_assignment.specs.Definitions.{Head, same_definition}
@@ -13,7 +13,7 @@ use Rattle.smv_design.specs.Acts.{head_of}
 use Rattle.smv_design.specs.Groups.{same_owner}
 use Rattle.smv_design.specs.Firsts.{has, owns, IsGathered}
 use Rattle.smv_design.specs.Definitions.{owner_of, AreApart}
-use Rattle.smv_design.proofs.OwnerLaws.{one-layer, layers-turned, owners-turned}
+use Rattle.smv_design.proofs.OwnerLaws.{one-layer, owners-turned}
 
 -- ---- the first of each definition
 

@@ -1,5 +1,5 @@
 -- What is brought together by owner.
-use Rattle.std.proofs.Common.{◌≡◌, ℕ, List, [], ◌∷◌, ◌++◌, Option, Some, None, Bool, true, false, cond, subst, refl, sym, ap, ◌∙◌}
+use Rattle.std.proofs.Common.{◌≡◌, List, [], ◌∷◌, ◌++◌, Option, Some, None, Bool, true, false, cond, refl, sym, ap, ◌∙◌}
 use Rattle.std.specs.List.{AllByRecursion, IsDistinct}
 use Rattle.std.specs.Map.{keys_of, lookup}
 use Rattle.std.specs.HashMap.{HashMap, UpdatesBy}
@@ -11,7 +11,7 @@ use Rattle.smv_design.specs.declared.owners.Owner.{Owner}
 use Rattle.smv_design.specs.declared.parts.Part.{Part}
 use Rattle.smv_design.specs.declared.groups.Sides.{Sides}
 use Rattle.smv_design.specs.Parts.{kept}
-use Rattle.smv_design.specs.Groups.{same_owner, parts_for, no_sides, filled, more, combine, or_none, used, held, one_more}
+use Rattle.smv_design.specs.Groups.{same_owner, parts_for, no_sides, filled, more, combine, or_none, used, one_more}
 use Rattle.smv_design.proofs.OwnerLaws.{owners-equal, owners-turned}
 
 -- an owner that had no parts gets its first

@@ -1,7 +1,6 @@
 -- Definitions, made of what is said of their owners.
-use Rattle.std.specs.Prelude.{◌≡◌, ℕ, List, [], ◌∷◌, map, filter, Bool, false}
+use Rattle.std.specs.Prelude.{◌≡◌, List, [], ◌∷◌, map, filter, false}
 use Rattle.std.specs.List.{list_any}
-use Rattle.smv_core.specs.declared.tree.Kind.{Kind}
 use Rattle.smv_core.specs.declared.tree.Kind.TheVariants.{Comb, Init, Next}
 use Rattle.smv_core.specs.declared.flat.Def.{Def}
 use Rattle.law_flattening.specs.WholeText.{is_one_layer}

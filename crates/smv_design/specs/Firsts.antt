@@ -1,5 +1,5 @@
 -- The first assignment of each definition.
-use Rattle.std.specs.Prelude.{◌≡◌, ℕ, List, map, Bool, ◌&&◌, nat_eq}
+use Rattle.std.specs.Prelude.{◌≡◌, List, map, Bool, ◌&&◌, nat_eq}
 use Rattle.std.specs.List.{list_any}
 use Rattle.std.specs.HashSet.{HashSet, contains_by}
 use Rattle.law_flattening.specs.Flattening.{different}

@@ -1,5 +1,5 @@
 // What is said of owners, for one kind of assignment.
-ghost use Rattle.std.specs.Prelude.{◌≡◌, ◌++◌, ◌∷◌, [], IfOk, OnOk, if◌then◌else◌};
+ghost use Rattle.std.specs.Prelude.{◌≡◌, ◌++◌, [], IfOk, OnOk, if◌then◌else◌};
 ghost use Rattle.smv_core.specs.Walk.{same_kind};
 ghost use Rattle.law_single_assignment.specs.Definitions.{is_nothing as has_no_result, joined as joined_of, branches as branches_of, each_value as each_value_of};
 ghost use Rattle.smv_design.specs.declared.owners.Owner.{Owner};

@@ -1,7 +1,7 @@
 -- The outcomes of expressions of a well-formed case are at classes and rests whose numbers fit a byte.
-use Rattle.std.proofs.Common.{◌≡◌, ℕ, zero, suc, ◌+◌, ◌-◌, ◌<◌, ◌≤◌, List, [], ◌∷◌, ◌++◌, map, length, Bool, true, false, if◌then◌else◌, refl, sym, ap, subst, ◌∙◌, inl, inr, Option, Some, None, option_map, nat_le, arith}
+use Rattle.std.proofs.Common.{◌≡◌, ℕ, zero, suc, ◌+◌, ◌-◌, ◌≤◌, List, [], ◌∷◌, ◌++◌, map, Bool, true, false, if◌then◌else◌, refl, sym, ap, subst, ◌∙◌, inl, inr, Option, Some, None, option_map, nat_le, arith}
 use Rattle.std.specs.List.{flat_map, slice_get, zip}
-use Rattle.smv_core.specs.Values.{Value, number, constant, scalar, ordinal, Outcome, Truth, bit, add, modulo, numbers_from, not_of, iff_of, conjunction, disjunction, implication}
+use Rattle.smv_core.specs.Values.{number, constant, scalar, ordinal, Outcome, Truth, add, modulo, numbers_from, not_of, iff_of, conjunction, disjunction, implication}
 use Rattle.smv_core.specs.Values as values
 use Rattle.smv_core.specs.Flat as flat
 use Rattle.smv_core.specs.Flat.{simple_in}
@@ -10,7 +10,7 @@ use Rattle.smv_core.specs.declared.flat.Family.{Family}
 use Rattle.smv_core.specs.declared.flat.SetInfo.{SetInfo}
 use Rattle.smv_core.specs.declared.flat.Simple.{Simple}
 use Rattle.smv_core.specs.declared.flat.Simple.TheVariants.{Range, Enum, Set}
-use Rattle.smv_core.specs.declared.flat.FlatExpr.{FlatExpr, Number, Read', Var, Loop, Constant, Not', And', Or', Implies', Iff', Compare', Within', Sum', Modulo', Choose', All', Any', List', Each', Row_of-FlatExpr, end_of-FlatExpr, more_of-FlatExpr, Row_of-FlatSigned, end_of-FlatSigned, more_of-FlatSigned}
+use Rattle.smv_core.specs.declared.flat.FlatExpr.{FlatExpr, Number, Read', Var, Loop, Constant, Not', And', Or', Implies', Iff', Compare', Within', Sum', Modulo', Choose', All', Any', List', Each', end_of-FlatExpr, more_of-FlatExpr, Row_of-FlatSigned, end_of-FlatSigned, more_of-FlatSigned}
 use Rattle.smv_abstraction.specs.declared.abstract_type.Rest.{Rest}
 use Rattle.smv_abstraction.specs.declared.abstract_type.Rest.TheVariants as beside
 use Rattle.smv_abstraction.specs.Sets.{Has, first, later, one_of_each, parts, pairs, all_there}

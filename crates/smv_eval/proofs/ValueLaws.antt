@@ -2,7 +2,7 @@
 use Rattle.std.proofs.Common.{◌≡◌, ◌≢◌, ℕ, zero, suc, ◌+◌, ◌<◌, ◌≤◌, List, [], ◌∷◌, ◌++◌, map, length, drop, get_or, min, Bool, true, false, not, ◌&&◌, ◌||◌, if◌then◌else◌, cond, refl, sym, ap, subst, ◌∙◌, ◌⊎◌, inl, inr, Option, Some, None, option_map, bytes_eq, nat_eq, nat_lt, arith}
 use Rattle.std.specs.Prelude.{unwrap_or, position}
 use Rattle.std.specs.List.{slice_get, list_any, position_or_len}
-use Rattle.smv_core.specs.Values.{Name, Value, number, constant, scalar, ordinal}
+use Rattle.smv_core.specs.Values.{number, constant, scalar, ordinal}
 use Rattle.smv_core.specs.Flat.{Numbered}
 use Rattle.smv_core.specs.declared.flat.SetInfo.{SetInfo}
 use Rattle.smv_core.specs.declared.flat.Simple.{Simple}
@@ -16,7 +16,7 @@ use Rattle.smv_abstraction.specs.May.{AbsState, may}
 use Rattle.smv_abstraction.specs.Pictures.{IsAbsState}
 use Rattle.smv_abstraction.specs.Covers.{IsIndexType}
 use Rattle.smv_abstraction.proofs.Members.{Has-left, Has-right, Has-cases, Has-map, Has-from_map, Has-uncons, any-found, any-some}
-use Rattle.smv_abstraction.proofs.Tests.{true_or_false, left_of, right_of, and_both}
+use Rattle.smv_abstraction.proofs.Tests.{left_of, right_of, and_both}
 use Rattle.smv_abstraction.proofs.Same.{nat_eq-is, nat_eq-itself, same_outcome, same_outcome-itself, same_outcome-is}
 use Rattle.smv_abstraction.proofs.Computing.{computing}
 use Rattle.smv_abstraction.proofs.OneOfEach.{get_Has}
@@ -31,8 +31,8 @@ use Rattle.smv_problem.specs.declared.problem.AbsValue.{AbsValue}
 use Rattle.smv_problem.specs.declared.problem.AbsValue.TheVariants as value
 use Rattle.smv_problem.specs.declared.problem.AbsState.{AbsState as StateData}
 use Rattle.smv_problem.specs.declared.problem.Problem.{Problem}
-use Rattle.smv_problem.specs.Written.{written, written_spot, written_outcome, written_constant, written_state}
-use Rattle.smv_problem.specs.WellFormed.{AreOf, IsWellFormed, IsOfKind, OfStates, as_raw}
+use Rattle.smv_problem.specs.Written.{written, written_spot, written_outcome, written_constant}
+use Rattle.smv_problem.specs.WellFormed.{IsWellFormed, IsOfKind, OfStates, as_raw}
 use Rattle.smv_typed_spots.proofs.TypedLaws.{spots_placed}
 use Rattle.smv_problem_spots.specs.Worlds.{IsWorldOf, count_at, name_at, name_number_at}
 use Rattle.law_worlds.proofs.Worlds.{world_of_case}

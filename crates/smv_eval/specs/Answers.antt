@@ -1,8 +1,8 @@
 -- Answers as written values: which enumeration an expression's constants are among, and how outcomes are written.
-use Rattle.std.specs.Prelude.{◌≢◌, ℕ, List, [], ◌∷◌, ◌++◌, get_or, slice_get, position, unwrap_or, min, Option, Some, None, Bool, true, false, if◌then◌else◌, nat_eq}
+use Rattle.std.specs.Prelude.{◌≢◌, ℕ, List, [], ◌∷◌, ◌++◌, get_or, slice_get, position, unwrap_or, min, Option, Some, None, Bool, true, if◌then◌else◌, nat_eq}
 use Rattle.std.specs.List.{list_any}
 use Rattle.smv_core.specs.declared.flat.Simple.{Simple}
-use Rattle.smv_core.specs.declared.flat.Simple.TheVariants.{Range, Enum, Set}
+use Rattle.smv_core.specs.declared.flat.Simple.TheVariants.{Enum}
 use Rattle.smv_core.specs.declared.flat.Family.{Family}
 use Rattle.smv_core.specs.declared.flat.FlatExpr.{FlatExpr, Read', Constant, Choose', end_of-FlatExpr, more_of-FlatExpr}
 use Rattle.smv_abstraction.specs.Sets.{Has}

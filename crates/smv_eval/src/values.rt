@@ -1,5 +1,5 @@
 // What an expression may be in an abstract state, as written values.
-ghost use Rattle.std.specs.Prelude.{◌≡◌, List, IfOk, OnOk, get_or, map, min, position, slice_get, unwrap_or, nat_eq, []};
+ghost use Rattle.std.specs.Prelude.{◌≡◌, List, IfOk, OnOk, map, min, position, slice_get, unwrap_or, nat_eq, []};
 ghost use Rattle.std.specs.List.{list_any};
 ghost use Rattle.smv_core.specs.declared.flat.Simple.{Simple as Over};
 ghost use Rattle.smv_abstraction.specs.Sets.{Has};
@@ -9,7 +9,6 @@ ghost use Rattle.smv_abstraction.specs.Covers.{IsIndexType};
 ghost use Rattle.law_flat_kinds.specs.FlatKinds.{Kind};
 ghost use Rattle.smv_problem.specs.Written.{written_spot, written_outcome};
 ghost use Rattle.smv_problem.specs.WellFormed.{IsProblem, IsOfKind, OfStates};
-ghost use Rattle.smv_problem_spots.specs.Worlds.{count_at};
 ghost use Rattle.smv_eval.specs.Answers as spec;
 ghost use Rattle.smv_eval.specs.Answers.{IsSetOf, is_same_value, with_offer, with_offers, with_value};
 

@@ -1,6 +1,6 @@
 //! The problem of a case of a unit of a text.
 
-ghost use Rattle.std.specs.Prelude.{◌≡◌, ◌<◌, ◌≤◌, IfOk, IfSome, length};
+ghost use Rattle.std.specs.Prelude.{◌<◌, IfOk, IfSome};
 ghost use Rattle.smv_problem.specs.WellFormed.{IsProblem};
 ghost use Rattle.law_plans_of_texts.specs.Rooms.{IsWholePlan};
 

@@ -1,5 +1,5 @@
 // What names lead to.
-ghost use Rattle.std.specs.Prelude.{◌≡◌, ◌∷◌, [], option_map, option_and_then, IfOk};
+ghost use Rattle.std.specs.Prelude.{◌≡◌, [], option_map, IfOk};
 ghost use Rattle.smv_core.specs.Types.{find_name};
 ghost use Rattle.smv_scope.specs.declared.tables.Tables.{Tables as ScopeTables};
 ghost use Rattle.smv_instances.specs.Scopes.{constants, pieces};

@@ -1,18 +1,17 @@
 // What the parts of a path lead to.
-ghost use Rattle.std.specs.Prelude.{◌≡◌, ◌∷◌, ◌++◌, [], List, map, option_map, option_and_then, slice_get, IfOk};
+ghost use Rattle.std.specs.Prelude.{◌≡◌, ◌∷◌, [], List, map, option_map, option_and_then, slice_get, IfOk};
 ghost use Rattle.smv_core.specs.Types.{find_name};
 ghost use Rattle.smv_core.specs.declared.tree.Part.{Part, Field, At};
 ghost use Rattle.smv_core.specs.declared.tree.Expr.{Expr};
 ghost use Rattle.smv_scope.specs.declared.tables.Tables.{Tables as ScopeTables};
 ghost use Rattle.smv_core.specs.declared.tree.Word.{Word};
 ghost use Rattle.smv_instances.specs.Mentions.{instance};
-ghost use Rattle.smv_instances.specs.Said.{said_of};
 ghost use Rattle.smv_scope.specs.Held.{own_of};
 ghost use Rattle.law_kinds.specs.Types.{Types, leads};
 ghost use Rattle.law_kinds.specs.References as references;
 ghost use Rattle.law_kinds.specs.References.{modules_from};
 ghost use Rattle.smv_expression_kinds.specs.Forms.{kind_of, form_leads, types_before, module_in, AreKindTables};
-ghost use Rattle.smv_expression_kinds.specs.Found.{whole_of, behind_over, reached_leads, inner_leads, whole_in};
+ghost use Rattle.smv_expression_kinds.specs.Found.{whole_of, reached_leads, inner_leads, whole_in};
 
 use crate::kinds::ValueKind;
 use crate::tables::{Form, Tables, form_of};

@@ -1,5 +1,5 @@
 // The tables in which types, modules and names are looked up.
-ghost use Rattle.std.specs.Prelude.{◌≡◌, ◌≤◌, ◌<◌, ◌++◌, ◌∷◌, [], List, length, slice_get, min, map, Some, None, IfOk, OnOk};
+ghost use Rattle.std.specs.Prelude.{◌≡◌, ◌≤◌, ◌<◌, ◌++◌, ◌∷◌, [], List, length, slice_get, min, Some, None, IfOk, OnOk};
 ghost use Rattle.smv_core.specs.declared.tree.Part.{Part};
 ghost use Rattle.smv_scope.specs.Held.{AreTables};
 ghost use Rattle.smv_scope.specs.declared.tables.Tables.{Tables as ScopeTables};

@@ -1,12 +1,11 @@
 -- The connections of instances.
-use Rattle.std.proofs.Common.{◌≡◌, ℕ, zero, suc, ◌+◌, ◌<◌, ◌≤◌, List, [], ◌∷◌, ◌++◌, map, find, min, length, get_or, drop, drop-cons, Option, Some, None, Bool, true, false, cond, not, refl, sym, ap, ◌∙◌, arith}
+use Rattle.std.proofs.Common.{◌≡◌, ℕ, zero, suc, ◌+◌, ◌<◌, ◌≤◌, List, [], ◌∷◌, ◌++◌, map, find, min, length, get_or, drop, drop-cons, Some, None, Bool, true, false, cond, not, refl, sym, ap, ◌∙◌, arith}
 use Rattle.std.specs.Prelude.{zip}
 use Rattle.std.specs.List.{flat_map, position_or_len}
 use Rattle.std.proofs.lemmas.List.{append-nil, append_assoc, map-append}
-use Rattle.smv_core.specs.Values.{Name, Path}
+use Rattle.smv_core.specs.Values.{Name}
 use Rattle.smv_core.specs.Types.{Family}
 use Rattle.smv_core.specs.Outcome.{fields_of, same_path, family_at}
-use Rattle.smv_core.specs.Walk.{indexes_of}
 use Rattle.smv_core.specs.Assignments.{Around}
 use Rattle.smv_core.specs.declared.tree.Kind.TheVariants.{Comb}
 use Rattle.smv_core.specs.declared.tree.Word.{Word}
@@ -18,7 +17,7 @@ use Rattle.smv_core.specs.declared.flat.FlatItem.TheVariants.{Act}
 use Rattle.smv_core.specs.declared.tree.Path.{Path as TreePath, out-Path, roll-Path}
 use Rattle.smv_core.specs.declared.tree.Expr.{Expr, Signal, Signal', Row_of-Part, end_of-Part, items_hidden-the_row-Part-0}
 use Rattle.smv_core.specs.declared.flat.FlatExpr.{FlatExpr, Read, Constant}
-use Rattle.smv_core.specs.declared.flat.FlatStmt.{FlatStmt, Assign}
+use Rattle.smv_core.specs.declared.flat.FlatStmt.{Assign}
 use mathlib.Core.Former.{Count}
 use Rattle.smv_instances.proofs.Computing.{computing}
 use Rattle.law_flattening.specs.Numbers.{Scope, family_number, or_signal}

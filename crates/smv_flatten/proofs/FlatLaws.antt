@@ -1,5 +1,5 @@
 -- What is met as items of the flattened text.
-use Rattle.std.proofs.Common.{◌≡◌, ℕ, ◌+◌, List, [], ◌∷◌, ◌++◌, map, length, Option, Some, None, option_map, Bor, refl, sym, ap, ◌∙◌}
+use Rattle.std.proofs.Common.{◌≡◌, ℕ, ◌+◌, List, [], ◌∷◌, ◌++◌, map, Option, Some, None, option_map, Bor, refl, sym, ap, ◌∙◌}
 use Rattle.std.specs.Prelude.{zip, unwrap_or}
 use Rattle.std.specs.List.{flat_map}
 use Rattle.std.proofs.lemmas.List.{append-nil}
@@ -12,9 +12,6 @@ use Rattle.smv_core.specs.declared.tree.Text.{Text}
 use Rattle.smv_core.specs.declared.tree.TypeExpr.{TypeExpr}
 use Rattle.smv_core.specs.declared.tree.Expr.{Expr}
 use Rattle.smv_core.specs.declared.tree.Stmt.{Stmt, Forall}
-use Rattle.smv_core.specs.declared.tree.Ref.{Ref}
-use Rattle.smv_core.specs.declared.tree.Use.{Use}
-use Rattle.smv_core.specs.declared.tree.Pair.{Pair}
 use Rattle.smv_core.specs.declared.tree.Role.{Role}
 use Rattle.smv_core.specs.declared.tree.Item.{Item}
 use Rattle.smv_core.specs.declared.flat.FlatStmt as flat
@@ -26,7 +23,7 @@ use Rattle.smv_core.specs.declared.flat.FlatItem.TheVariants as item
 use Rattle.smv_instances.proofs.Computing.{computing}
 use Rattle.law_flattening.specs.Numbers.{Scope, bound_in, flat_over}
 use Rattle.law_flattening.specs.Entries as entries
-use Rattle.law_flattening.specs.Entries.{Binders, Entry, Goal, layer, statement, goal, inside_binder, item_entries, entries_in}
+use Rattle.law_flattening.specs.Entries.{Binders, Entry, Goal, layer, statement, goal, inside_binder}
 use Rattle.law_flattening.specs.Flattening.{within, flat_entry, layer_number, scope_in, layers_of, enums_of, flat_family, with_places, flatten}
 use Rattle.smv_flatten_families.specs.declared.numbers.Here.{Here}
 use Rattle.smv_flatten_families.specs.declared.numbers.Numbers.{Numbers}
@@ -34,7 +31,6 @@ use Rattle.smv_flatten_families.specs.Held.{AreNumbers, instance_of, scope_here}
 use Rattle.smv_flatten_statements.specs.Flattened.{statement_of}
 use Rattle.smv_flatten.specs.declared.leaves.What.{What}
 use Rattle.smv_flatten.specs.declared.leaves.What.TheVariants as noted
-use Rattle.smv_flatten.specs.Leaves.{item_of}
 use Rattle.smv_flatten.specs.declared.met.Met.{Met}
 use Rattle.smv_flatten.specs.Met.{wrapped, said_in, entries_met}
 use Rattle.smv_flatten.specs.Items.{flat_said, flat_met, bound_by, act_item, goal_item}

@@ -1,16 +1,12 @@
 -- Items of the flattened text.
-use Rattle.std.proofs.Common.{◌≡◌, ℕ, zero, suc, ◌+◌, ◌<◌, ◌≤◌, List, [], ◌∷◌, ◌++◌, map, length, get_or, drop, drop-cons, Some, None, refl, sym, ap, ◌∙◌, arith}
+use Rattle.std.proofs.Common.{◌≡◌, ℕ, zero, suc, ◌+◌, ◌<◌, ◌≤◌, List, [], ◌∷◌, length, get_or, drop, drop-cons, refl, sym, ap, ◌∙◌, arith}
 use Rattle.smv_core.specs.Assignments.{Around, any}
-use Rattle.smv_core.specs.declared.tree.Word.{Word}
-use Rattle.smv_core.specs.declared.tree.TypeExpr.{TypeExpr}
 use Rattle.smv_core.specs.declared.flat.FlatStmt.{FlatStmt, Forall}
-use Rattle.smv_core.specs.declared.flat.Param.{Param}
 use Rattle.law_flattening.specs.Numbers.{Scope, flat_over}
-use Rattle.law_flattening.specs.Entries.{Binders}
 use Rattle.law_flattening.specs.Flattening.{params_from, within}
 use Rattle.smv_flatten_statements.specs.Around.{around_of}
 use Rattle.smv_flatten.specs.declared.leaves.Binder.{Binder}
-use Rattle.smv_flatten.specs.Leaves.{binder_of, binders_of}
+use Rattle.smv_flatten.specs.Leaves.{binders_of}
 use Rattle.smv_flatten.specs.Items.{bound_by}
 
 drop-at : (around : List Binder) (k : ℕ) (b : Binder) → k < length around → b ≡ get_or around k b → drop k around ≡ b ∷ drop (k + 1) around

@@ -12,7 +12,7 @@ use Rattle.smv_core.specs.declared.flat.FlatStmt.{FlatStmt, Assign, If, Block, B
 use Rattle.smv_core.specs.declared.flat.FlatItem.{FlatItem}
 use Rattle.smv_core.specs.declared.flat.FlatItem.TheVariants.{Act, Claim, Split, Using}
 use mathlib.Core.Former.{Count}
-use Rattle.law_flattening.specs.Flattening.{FlatAssigned, flat_assignments, flat_assignments_in, with_places}
+use Rattle.law_flattening.specs.Flattening.{flat_assignments, flat_assignments_in, with_places}
 use Rattle.law_flattening.proofs.FlatLists.{boxes}
 use Rattle.smv_flatten.specs.Places.{assignments_in, weight, with_place}
 

@@ -1,18 +1,17 @@
 -- The roles of formals.
-use Rattle.std.proofs.Common.{◌≡◌, List, [], ◌∷◌, ◌++◌, map, Option, Some, None, Bool, true, false, cond, ◌||◌, refl, sym, ap, ◌∙◌}
-use Rattle.std.specs.Prelude.{unwrap_or, option_map}
+use Rattle.std.proofs.Common.{◌≡◌, List, [], ◌∷◌, ◌++◌, map, Some, Bool, true, false, cond, ◌||◌, refl, ap, ◌∙◌}
+use Rattle.std.specs.Prelude.{unwrap_or}
 use Rattle.std.specs.Str.{bytes_eq}
 use Rattle.std.specs.List.{flat_map, list_any}
-use Rattle.std.proofs.lemmas.List.{map-append}
 use Rattle.smv_core.specs.Values.{Name}
 use Rattle.smv_core.specs.Types.{Types, find_name}
 use Rattle.smv_core.specs.FlatOrder.{Body, modules, role_of, body_of}
 use Rattle.smv_core.specs.declared.tree.Word.{Word}
 use Rattle.smv_core.specs.declared.tree.Top.{Top}
-use Rattle.smv_core.specs.declared.tree.Top.TheVariants.{SetType, Alias, Module}
+use Rattle.smv_core.specs.declared.tree.Top.TheVariants.{Module}
 use Rattle.smv_core.specs.declared.tree.Role.{Role}
 use Rattle.smv_core.specs.declared.tree.Role.TheVariants.{Plain}
-use Rattle.smv_core.specs.declared.tree.Item.{Item, Declare, Instance, Layer, Forall', Block', Claim, Split, Using, Act}
+use Rattle.smv_core.specs.declared.tree.Item.{Item, Declare}
 use Rattle.smv_flatten.specs.Roles.{roles_declared, module_in, roles_of_body, roles_beside}
 use Rattle.smv_flatten.proofs.ListLaws.{map-flat_map}
 

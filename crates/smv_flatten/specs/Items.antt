@@ -1,11 +1,9 @@
 -- Items of the flattened text, as the program makes them.
-use Rattle.std.specs.Prelude.{ℕ, ◌+◌, ◌++◌, List, [], ◌∷◌, map, flat_map, Option, None}
+use Rattle.std.specs.Prelude.{ℕ, ◌+◌, ◌++◌, List, [], ◌∷◌, flat_map, Option, None}
 use Rattle.smv_core.specs.Values.{Name, Path}
 use Rattle.smv_core.specs.Outcome.{family_at}
 use Rattle.smv_core.specs.declared.tree.Text.{Text}
-use Rattle.smv_core.specs.declared.tree.Expr.{Expr}
 use Rattle.smv_core.specs.declared.tree.Stmt.{Stmt}
-use Rattle.smv_core.specs.declared.tree.Stmt as tree
 use Rattle.smv_core.specs.declared.flat.FlatExpr.{FlatExpr}
 use Rattle.smv_core.specs.declared.flat.FlatStmt.{FlatStmt, Forall}
 use Rattle.smv_core.specs.declared.flat.FlatItem.{FlatItem}

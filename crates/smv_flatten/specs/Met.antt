@@ -1,5 +1,5 @@
 -- What is met in flat order, as the program holds it.
-use Rattle.std.specs.Prelude.{ℕ, ◌++◌, List, [], ◌∷◌, map}
+use Rattle.std.specs.Prelude.{ℕ, List, [], ◌∷◌, map}
 use Rattle.smv_core.specs.Values.{Name, Path}
 use Rattle.smv_core.specs.Types.{types_from}
 use Rattle.smv_core.specs.FlatOrder.{modules}

@@ -1,5 +1,5 @@
 // The connections of instances: definitions of inputs, and of what outputs give.
-ghost use Rattle.std.specs.Prelude.{◌≡◌, ◌++◌, ◌∷◌, [], map, flat_map, zip, None, IfOk, OnOk};
+ghost use Rattle.std.specs.Prelude.{◌≡◌, ◌++◌, [], map, flat_map, zip, None, IfOk, OnOk};
 ghost use Rattle.law_flattening.specs.Entries.{connection, given_to};
 ghost use Rattle.law_flattening.specs.Flattening.{within};
 ghost use Rattle.smv_flatten_families.specs.Held.{AreNumbers, scope_here};

@@ -1,5 +1,5 @@
 // Copies of names, and of references to units with the names of their instance in front.
-ghost use Rattle.std.specs.Prelude.{◌≡◌, ◌++◌, [], ◌∷◌, map, IfOk, OnOk};
+ghost use Rattle.std.specs.Prelude.{◌≡◌, ◌++◌, map, IfOk, OnOk};
 ghost use Rattle.law_flattening.specs.Flattening as flattening;
 ghost use Rattle.smv_flatten_families.specs.Held.{instance_of, scope_here};
 ghost use Rattle.smv_flatten.specs.Forms.{word_at};

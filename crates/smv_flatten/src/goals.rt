@@ -1,5 +1,5 @@
 // Claims, splits and `using` of the flattened text.
-ghost use Rattle.std.specs.Prelude.{◌≡◌, ◌++◌, [], map, IfOk};
+ghost use Rattle.std.specs.Prelude.{◌≡◌, [], map, IfOk};
 ghost use Rattle.law_flattening.specs.Entries as entries;
 ghost use Rattle.law_flattening.specs.Flattening as flattening;
 ghost use Rattle.law_flattening.specs.Flattening.{within};

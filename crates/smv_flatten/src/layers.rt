@@ -1,5 +1,5 @@
 // The layers of a text.
-ghost use Rattle.std.specs.Prelude.{◌≡◌, [], IfOk, OnOk};
+ghost use Rattle.std.specs.Prelude.{◌≡◌, IfOk, OnOk};
 ghost use Rattle.std.specs.List.{flat_map};
 ghost use Rattle.smv_core.specs.declared.tree.Text.{Text};
 ghost use Rattle.law_flattening.specs.Flattening.{layers_of, layer_number};

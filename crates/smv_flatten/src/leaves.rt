@@ -1,7 +1,7 @@
 // What the items of a module say one by one, with the binders around each.
 ghost use Rattle.std.specs.Prelude.{◌≡◌, ◌++◌, [], ◌∷◌, map, flat_map, IfOk, OnOk};
 ghost use Rattle.smv_core.specs.declared.tree.Item.{Instance};
-ghost use Rattle.smv_flatten.specs.Leaves.{leaves, leaf_of, binder_of, binders_of, item_of};
+ghost use Rattle.smv_flatten.specs.Leaves.{leaves, leaf_of, binders_of, item_of};
 
 use smv_core::tree::{Expr, Item, Pair, Ref, Stmt, TypeExpr, Use, Word};
 use std::alloc::{AllocError, Global};

@@ -1,5 +1,5 @@
 // The roles of the formals of modules.
-ghost use Rattle.std.specs.Prelude.{◌≡◌, ◌++◌, ◌∷◌, [], map, flat_map, unwrap_or, IfOk, OnOk};
+ghost use Rattle.std.specs.Prelude.{◌≡◌, ◌++◌, [], map, flat_map, unwrap_or, IfOk, OnOk};
 ghost use Rattle.smv_core.specs.Types.{find_name};
 ghost use Rattle.smv_core.specs.FlatOrder.{modules, role_of};
 ghost use Rattle.smv_flatten.specs.Roles.{roles_declared, roles_beside, module_in};

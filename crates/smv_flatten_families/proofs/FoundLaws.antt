@@ -4,7 +4,7 @@ use Rattle.std.specs.Prelude.{Option, Some, None, option_map, unwrap_or, find}
 use Rattle.std.specs.HashMap.{get}
 use Rattle.std.proofs.lemmas.List.{length-map}
 use Rattle.std.proofs.Math.Seq.{take-length}
-use Rattle.smv_core.specs.Values.{Name, Path}
+use Rattle.smv_core.specs.Values.{Path}
 use Rattle.smv_core.specs.Values as values
 use Rattle.smv_core.specs.Types.{Family, simple_of, shape_of}
 use Rattle.smv_core.specs.Outcome.{same_path, family_at}

@@ -6,7 +6,7 @@ use Rattle.std.proofs.lemmas.List.{map-append}
 use Rattle.smv_core.specs.Values.{Name, Path}
 use Rattle.smv_core.specs.Values as values
 use Rattle.smv_core.specs.Types as shapes
-use Rattle.smv_core.specs.Types.{Family, Shape, names_of, simple_of, array_of, indexed, shape_of, shape_of_fields}
+use Rattle.smv_core.specs.Types.{Shape, names_of, simple_of, array_of, indexed, shape_of, shape_of_fields}
 use Rattle.smv_core.specs.Outcome.{same_path}
 use Rattle.smv_core.specs.declared.flat.Simple.{Simple}
 use Rattle.smv_core.specs.declared.flat.Simple.TheVariants.{Range as FlatRange, Enum as FlatEnum}

@@ -6,7 +6,7 @@ use Rattle.std.proofs.lemmas.List.{append-nil, append_assoc, map-append, length-
 use Rattle.std.proofs.Math.Seq.{take-append_seam}
 use Rattle.smv_core.specs.Values.{Name}
 use Rattle.smv_core.specs.Types as shapes
-use Rattle.smv_core.specs.Types.{Shape, find_name, shape_of, shape_or_none, types_after, types_from}
+use Rattle.smv_core.specs.Types.{Shape, find_name, shape_or_none, types_after, types_from}
 use Rattle.smv_core.specs.declared.flat.Simple.TheVariants.{Set}
 use Rattle.smv_core.specs.declared.tree.Word.{Word}
 use Rattle.smv_core.specs.declared.tree.Span.{Span}

@@ -2,7 +2,7 @@
 use Rattle.std.specs.Prelude.{◌≡◌, ℕ, List, [], ◌∷◌, map, flat_map, length, take, Option, Some, None, true, false}
 use Rattle.smv_core.specs.Values.{Name, Path}
 use Rattle.smv_core.specs.Types as shapes
-use Rattle.smv_core.specs.Types.{Family, Shape, find_name, shape_of, shape_or_none, one_value, types_from}
+use Rattle.smv_core.specs.Types.{Family, find_name, shape_of, shape_or_none, one_value, types_from}
 use Rattle.smv_core.specs.Values.{scalarset, ordset}
 use Rattle.smv_core.specs.declared.flat.Simple.{Simple}
 use Rattle.smv_core.specs.declared.tree.Text.{Text}

@@ -1,10 +1,9 @@
 // The families of a text, in flat order.
-ghost use Rattle.std.specs.Prelude.{◌≡◌, ℕ, [], ◌∷◌, ◌++◌, map, length, unwrap_or, IfOk, OnOk};
+ghost use Rattle.std.specs.Prelude.{◌≡◌, [], ◌∷◌, ◌++◌, map, length, unwrap_or, IfOk, OnOk};
 ghost use Rattle.std.specs.List.{flat_map};
 ghost use Rattle.smv_core.specs.Types.{find_name};
 ghost use Rattle.smv_core.specs.FlatOrder as flat_order;
 ghost use Rattle.smv_core.specs.FlatOrder.{is_abstract_role};
-ghost use Rattle.smv_core.specs.declared.tree.Field.{out-Field};
 ghost use Rattle.smv_flatten_families.specs.Paths.{path_of};
 ghost use Rattle.smv_flatten_families.specs.Types.{AreTypes, behind, field_leaves, form_leaves, leaves, types_of, under};
 ghost use Rattle.smv_flatten_families.specs.Families.{body_beside, body_now, in_place, instance_places, item_places, no_body, placed_leaf, stem_leaf};

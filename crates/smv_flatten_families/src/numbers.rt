@@ -1,6 +1,5 @@
 // The numbers by which a flattened text speaks of set types, enumerations and families.
 ghost use Rattle.std.specs.Prelude.{◌≡◌, ◌≤◌, ◌++◌, [], ◌∷◌, map, length, IfOk, OnOk};
-ghost use Rattle.std.specs.List.{flat_map};
 ghost use Rattle.std.specs.HashMap.{get};
 ghost use Rattle.smv_core.specs.Values.{Path};
 ghost use Rattle.smv_core.specs.Types as shapes;

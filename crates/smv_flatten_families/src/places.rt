@@ -1,5 +1,5 @@
 // Lists of names, each found by its first place.
-ghost use Rattle.std.specs.Prelude.{◌≡◌, OnOk, OnErr, IfOk, ◌++◌};
+ghost use Rattle.std.specs.Prelude.{◌≡◌, OnOk};
 ghost use Rattle.std.specs.HashMap.{get};
 ghost use Rattle.std.specs.Hash as fed;
 ghost use Rattle.std.specs.Cmp.Rules.{comparing};
@@ -9,7 +9,7 @@ ghost use Rattle.smv_core.specs.Outcome.{same_path};
 ghost use Rattle.smv_flatten_families.specs.Paths.{path_of, found_or, same_paths};
 
 use smv_core::name::Name;
-use std::alloc::{AllocError, Global};
+use std::alloc::AllocError;
 use std::collections::HashMap;
 use std::hash::{Hash, Hasher};
 use std::marker::Model;

@@ -1,5 +1,5 @@
 // What a signal of a type has.
-ghost use Rattle.std.specs.Prelude.{◌≡◌, ◌≤◌, ◌<◌, ◌+◌, length, min, map, slice_get, take, [], IfOk, OnOk, Some};
+ghost use Rattle.std.specs.Prelude.{◌≡◌, ◌≤◌, ◌<◌, ◌+◌, length, min, slice_get, take, [], IfOk, OnOk, Some};
 ghost use Rattle.std.specs.Option.{option_map_or};
 ghost use Rattle.smv_core.specs.Types.{types_from};
 ghost use Rattle.smv_core.specs.declared.tree.Text.{Text};

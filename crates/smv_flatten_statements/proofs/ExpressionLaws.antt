@@ -13,10 +13,8 @@ use Rattle.smv_core.specs.declared.tree.Member.{Member, One, Span as SpanOf}
 use Rattle.smv_core.specs.declared.tree.Expr.{Expr, Number, Signal, Signal', Not, And, And', Or, Or', Implies, Implies', Iff, Compare, Within, Sum, Sum', Modulo, Choose, All, Any, List as ListOf, List', Each}
 use Rattle.smv_core.specs.declared.tree.Expr.{Row_of-Expr, end_of-Expr, more_of-Expr, Row_of-Part, end_of-Part, more_of-Part, Row_of-Member, end_of-Member, more_of-Member, Row_of-Signed, end_of-Signed, more_of-Signed}
 use Rattle.smv_core.specs.declared.tree.Expr.{items-the_row-Part, items-the_row-Expr, items-the_row-Member, items-the_row-Signed, items_hidden-the_row-Part-0, items_hidden-the_row-Expr-2, items_hidden-the_row-Member-4, items_hidden-the_row-Signed-3}
-use Rattle.smv_core.specs.declared.flat.FlatExpr.{FlatExpr}
 use Rattle.smv_core.specs.declared.flat.FlatExpr as flat
 use Rattle.smv_core.specs.declared.flat.FlatSigned.{roll-FlatSigned}
-use Rattle.smv_core.specs.declared.flat.FlatMember.{FlatMember}
 use Rattle.smv_core.specs.declared.flat.FlatMember as member
 use mathlib.Core.Former.{Count}
 use Rattle.smv_instances.proofs.Computing.{computing}

@@ -1,6 +1,6 @@
 -- The answers of the passes, joined.
-use Rattle.std.proofs.Common.{◌≡◌, refl, ap, sym, subst, ◌∙◌}
-use Rattle.std.specs.Prelude.{Option, Some, None, Result, Ok, Err}
+use Rattle.std.proofs.Common.{◌≡◌, ap, sym, subst, ◌∙◌}
+use Rattle.std.specs.Prelude.{Some, None, Result}
 use Rattle.smv_core.specs.declared.fault.Fault.{Fault}
 use Rattle.smv_core.specs.declared.fault.Refusal.{Refusal}
 use Rattle.smv_core.specs.declared.tree.Text.{Text}

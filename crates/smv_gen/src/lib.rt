@@ -4,7 +4,7 @@
 #![tactic(auto)]
 
 ghost use Rattle.std.specs.Prelude.{◌≡◌, ◌++◌, ◌+◌, decimal, IfOk, OnOk};
-ghost use Rattle.smv_gen.specs.Generated.{copy_line, generated_text, numbered};
+ghost use Rattle.smv_gen.specs.Generated.{generated_text, numbered};
 
 use itoa::Buffer;
 use std::alloc::{AllocError, Global};

@@ -1,12 +1,12 @@
 -- Demands, targets and guards of a case in states that cells read at plain conditions.
-use Rattle.std.proofs.Common.{◌≡◌, ℕ, List, [], ◌∷◌, map, Bool, true, false, not, ◌&&◌, ◌||◌, refl, sym, ap, subst, ◌∙◌, Option, Some, None}
+use Rattle.std.proofs.Common.{◌≡◌, ℕ, List, [], ◌∷◌, map, Bool, true, false, ◌&&◌, refl, sym, ap, subst, ◌∙◌, Option, Some, None}
 use Rattle.std.specs.List.{slice_get, list_all}
 use Rattle.smv_core.specs.declared.flat.Family.{Family}
 use Rattle.smv_core.specs.declared.flat.Simple.{Simple}
 use Rattle.smv_core.specs.declared.flat.Def.{Def}
 use Rattle.smv_core.specs.declared.flat.Guard.{Guard}
 use Rattle.smv_abstraction.specs.Sets.{Has, first, later}
-use Rattle.smv_abstraction.specs.Places.{Place, is_named, is_among}
+use Rattle.smv_abstraction.specs.Places.{Place, is_among}
 use Rattle.smv_abstraction.specs.May.{AbsState, Kept}
 use Rattle.smv_abstraction.specs.Pictures.{IsAbsState}
 use Rattle.smv_abstraction.specs.Covers.{IsIndexType}
@@ -30,7 +30,7 @@ use Rattle.smv_conditions.specs.declared.offers.Offer.{Offer}
 use Rattle.smv_cells.specs.declared.cells.Cell.{Cell}
 use Rattle.smv_cells.specs.Cells.{AreCellsMade}
 use Rattle.smv_cells.specs.Seen.{IsSeen}
-use Rattle.smv_demands.specs.Demands.{at_before, IsDemand, IsTargetOf, IsGuard, IsDemanded, AreOldMade, IsReadBefore, AreRead, HaveValues}
+use Rattle.smv_demands.specs.Demands.{at_before, IsDemand, IsTargetOf, IsGuard, IsDemanded, AreOldMade, HaveValues}
 use Rattle.smv_demands.specs.Demands as demands
 use Rattle.smv_states.specs.States.{plainly, view_of}
 use Rattle.smv_held.specs.Held.{steady, IsNowBy, IsBeforeBy, AreReadBy}

@@ -1,10 +1,8 @@
 -- Demands and targets of a case in states that are given as data.
-use Rattle.std.proofs.Common.{◌≡◌, List, [], map, Bool, refl, sym, ap, subst, ◌∙◌, Option, Some, None}
+use Rattle.std.proofs.Common.{◌≡◌, List, Bool, refl, sym, ap, subst, ◌∙◌, Option, Some, None}
 use Rattle.smv_abstraction.specs.May.{AbsState}
-use Rattle.smv_abstraction.specs.Places.{Place}
 use Rattle.smv_abstraction.specs.Pictures.{IsAbsState}
 use Rattle.smv_abstraction.specs.Obligations.{Demanded, defined, holds, is_met, obligation}
-use Rattle.smv_core.specs.declared.flat.Def.{Def}
 use Rattle.smv_abstraction.specs.Obligations as oblig
 use Rattle.law_codes.specs.Readings.{Case}
 use Rattle.smv_problem.specs.declared.problem.Problem.{Problem}

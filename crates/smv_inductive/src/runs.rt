@@ -1,6 +1,6 @@
 // Operations on P, a set of states or of pairs of them, one after another. A clause names the path of a look by its length;
 // here it does not matter, and is 1.
-ghost use Rattle.std.specs.Prelude.{◌≡◌, ◌↔◌, ℕ, Bool, false, IsTrue, IfOk, OnOk, [], ◌∷◌, ◌++◌, map};
+ghost use Rattle.std.specs.Prelude.{◌≡◌, ◌↔◌, false, IsTrue, IfOk, OnOk, [], ◌∷◌, ◌++◌, map};
 ghost use Rattle.bdd_store.specs.declared.Ref.{Ref};
 ghost use Rattle.bdd_store.specs.Diagram.{IsLive, IsConstant, table, Keeps};
 ghost use Rattle.smv_rings.specs.declared.ops.Op.TheVariants.{And};

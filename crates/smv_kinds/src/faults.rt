@@ -1,5 +1,5 @@
 // The first fault of kinds, ranges and sets in a text.
-ghost use Rattle.std.specs.Prelude.{◌≡◌, ◌++◌, ◌∷◌, [], Some, None, slice_get, IfOk, OnOk};
+ghost use Rattle.std.specs.Prelude.{◌≡◌, ◌++◌, [], Some, None, slice_get, IfOk, OnOk};
 ghost use Rattle.smv_instances.specs.Scopes.{pieces as pieces_of, constants};
 ghost use Rattle.smv_instances.specs.Said.{AreNoted};
 ghost use Rattle.smv_instances.specs.FirstFault as first;

@@ -1,5 +1,5 @@
 // The faults in statements.
-ghost use Rattle.std.specs.Prelude.{◌≡◌, ◌++◌, ◌∷◌, [], map, flat_map, IfOk, OnOk};
+ghost use Rattle.std.specs.Prelude.{◌≡◌, ◌++◌, ◌∷◌, map, flat_map, IfOk, OnOk};
 ghost use Rattle.law_kinds.specs.Kinds as kinds;
 ghost use Rattle.law_kinds.specs.Types as types;
 ghost use Rattle.law_kinds.specs.Operands as operands;

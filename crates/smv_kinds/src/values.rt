@@ -1,5 +1,5 @@
 // The values of assignments, and what they are assigned to.
-ghost use Rattle.std.specs.Prelude.{◌≡◌, ◌++◌, ◌∷◌, [], map, IfOk, OnOk};
+ghost use Rattle.std.specs.Prelude.{◌≡◌, ◌++◌, map, IfOk, OnOk};
 ghost use Rattle.law_kinds.specs.Kinds as kinds;
 ghost use Rattle.law_kinds.specs.Types as types;
 ghost use Rattle.law_kinds.specs.Operands as spec;

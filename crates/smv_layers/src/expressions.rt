@@ -1,7 +1,5 @@
 // The first abstract signal that an expression reads.
-ghost use Rattle.std.specs.Prelude.{◌≡◌, map, slice_get};
-ghost use Rattle.law_loops_and_layers.specs.LayerFaults as delay;
-ghost use Rattle.smv_scope.specs.ScopeFault.{earlier_of};
+ghost use Rattle.std.specs.Prelude.{◌≡◌, map};
 ghost use Rattle.smv_layers.specs.Leaks as spec;
 ghost use Rattle.smv_layers.specs.Leaks.{first_among};
 

@@ -1,5 +1,5 @@
 // The units of a design.
-ghost use Rattle.std.specs.Prelude.{◌≡◌, ◌++◌, List, map, IfOk, OnOk};
+ghost use Rattle.std.specs.Prelude.{◌≡◌, ◌++◌, map, IfOk, OnOk};
 ghost use Rattle.law_obligations.specs.Units as spec;
 ghost use Rattle.smv_layers.specs.Bases.{bases_of, maps_from, claims_from};
 

@@ -1,6 +1,6 @@
 -- The numbers of variables in guards.
-use Rattle.std.proofs.Common.{◌≡◌, ℕ, zero, suc, ◌+◌, ◌-◌, ◌<◌, ◌≤◌, List, [], ◌∷◌, ◌++◌, map, length, Bool, true, false, cond, nat_lt, refl, ap, sym, ◌∙◌, arith}
-use Rattle.std.specs.Prelude.{Option, Some, None, slice_get, unwrap_or, option_map}
+use Rattle.std.proofs.Common.{◌≡◌, ℕ, zero, suc, ◌+◌, ◌-◌, List, [], ◌∷◌, map, length, Bool, true, false, cond, nat_lt, refl, ap, ◌∙◌}
+use Rattle.std.specs.Prelude.{Some, None, slice_get, unwrap_or, option_map}
 use Rattle.std.specs.List.{flat_map}
 use Rattle.std.proofs.Math.Path.{fun_ext}
 use Rattle.std.proofs.lemmas.List.{length-map}
@@ -8,7 +8,6 @@ use Rattle.smv_core.specs.Values.{numbers_from}
 use Rattle.smv_core.specs.declared.flat.Param.{Param}
 use Rattle.smv_core.specs.declared.flat.FlatSplit.{FlatSplit}
 use Rattle.smv_core.specs.declared.flat.FlatPair.{FlatPair}
-use Rattle.smv_core.specs.declared.flat.Guard.{Guard}
 use Rattle.law_splits.specs.Leaves.{stands_for, number_in, with_name, numbered, bound_as}
 use Rattle.smv_renaming.specs.declared.numbers.Numbers.{Numbers}
 use Rattle.smv_renaming.specs.Renaming.{number_by}

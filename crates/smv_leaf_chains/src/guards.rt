@@ -1,6 +1,6 @@
 // The guards of leaves.
 ghost use Rattle.std.specs.Prelude.{◌≡◌, ◌++◌, map, flat_map, unwrap_or, IfOk, OnOk};
-ghost use Rattle.law_splits.specs.Leaves.{with_name, guard_of};
+ghost use Rattle.law_splits.specs.Leaves.{with_name};
 ghost use Rattle.smv_renaming.specs.Renaming.{number_by};
 ghost use Rattle.smv_leaf_chains.specs.Links as spec;
 ghost use Rattle.smv_leaf_chains.specs.Links.{link_held, guard_by};

@@ -20,7 +20,6 @@ use crate::chains::{Chain, follow};
 use crate::guards::all_guards;
 use name_index::NameIndex;
 use smv_core::flat::{Design, Leaf, Unit};
-use smv_core::name::Name;
 use smv_core::seq::Seq;
 use smv_split_tables::names::{copy_name, index_of, names_split, unit_name};
 use smv_split_tables::params::{number, own_params};

@@ -1,11 +1,10 @@
 // What the definitions say of a place in a text. The functions do nothing: their contracts are the laws.
-ghost use Rattle.std.specs.Prelude.{◌+◌, ◌<◌, drop, Err, ◌≡◌, ◌≤◌, List, ℕ, Bool, true, codes, length, map, ◌∷◌, [], take, Ok};
+ghost use Rattle.std.specs.Prelude.{◌+◌, ◌<◌, drop, Err, ◌≡◌, List, ℕ, length, map, ◌∷◌, [], Ok};
 ghost use Rattle.smv_core.specs.declared.token.TokenKind.{TokenKind};
-ghost use Rattle.smv_core.specs.declared.token.TokenKind.TheVariants.{Number};
 ghost use Rattle.smv_lex.specs.declared.front.Front.TheVariants.{Passed, Whole, Broken};
 ghost use Rattle.smv_lex.specs.Lexing.{front_of, lexed_from, with_token, lexed};
 ghost use Rattle.smv_lex.specs.Comments.{PassesBlock, PassesLine};
-ghost use Rattle.smv_lex.specs.Longest.{IsLongest, is_word, HasNoToken, HasGreatNumber, HasLongWord, HasOpenComment};
+ghost use Rattle.smv_lex.specs.Longest.{IsLongest, HasNoToken, HasGreatNumber, HasLongWord, HasOpenComment};
 ghost use Rattle.smv_lex.specs.Spellings.{signs, reserved_words};
 
 /// A text is read place by place: what stands at its front, and then the same of what comes after it.

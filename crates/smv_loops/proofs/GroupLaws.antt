@@ -1,15 +1,15 @@
 -- Ranks of cells and of rows say what ranks of cells alone would say.
-use Rattle.std.proofs.Common.{◌≡◌, ℕ, zero, suc, ◌+◌, ◌-◌, ◌<◌, ◌≤◌, ◌⊎◌, inl, inr, List, [], ◌∷◌, ◌++◌, map, length, get_or, take, slice_get, refl, sym, ap, ◌∙◌, arith}
+use Rattle.std.proofs.Common.{◌≡◌, ℕ, zero, suc, ◌+◌, ◌-◌, ◌<◌, ◌≤◌, ◌⊎◌, inl, inr, List, [], ◌∷◌, ◌++◌, map, length, get_or, refl, sym, ap, ◌∙◌, arith}
 use Rattle.std.specs.List.{flat_map, All}
 use Rattle.smv_core.specs.declared.flat.Family.{Family}
 use Rattle.law_loops_and_layers.specs.Reading.{Reading}
 use Rattle.smv_loops.specs.declared.ranks.Links.{Links}
-use Rattle.smv_loops.specs.Ranks.{rank, rank_at, IsOpen, Falls, AreBelow, IsHeldUp}
+use Rattle.smv_loops.specs.Ranks.{rank, rank_at, Falls, AreBelow, IsHeldUp}
 use Rattle.smv_loops.specs.Cells.{number_in, froms, tos}
 use Rattle.smv_loops.specs.Edges.{total, IsRowLink, AreRowLinks, AreLinks, AllLinks, AreShown}
 use Rattle.smv_loops.proofs.Members.{In, in-same, in-left, in-right, in-either, in-get_or, in-contains, place-in, in-mapped, in-flat_map, in-flat_mapped}
 use Rattle.smv_loops.proofs.RowLaws.{cells-below}
-use Rattle.smv_loops.proofs.CycleLaws.{HasOpen, AreFallingAll, IsStuck}
+use Rattle.smv_loops.proofs.CycleLaws.{AreFallingAll, IsStuck}
 
 zero_or : (k : ℕ) → (k ≡ 0) ⊎ (0 < k)
 zero_or zero = inl refl

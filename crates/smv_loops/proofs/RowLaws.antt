@@ -1,13 +1,12 @@
 -- What numbers stand for, and rows whose indexes may be the same numbers.
-use Rattle.std.proofs.Common.{◌≡◌, ℕ, zero, suc, ◌+◌, ◌-◌, ◌<◌, ◌≤◌, inl, inr, List, [], ◌∷◌, ◌++◌, map, filter, length, get_or, take, drop, slice_get, Option, Some, None, Result, Ok, Err, Bool, true, false, cond, nat_lt, refl, sym, ap, ◌∙◌, arith}
+use Rattle.std.proofs.Common.{◌≡◌, ℕ, zero, suc, ◌+◌, ◌-◌, ◌<◌, ◌≤◌, inl, inr, List, [], ◌∷◌, ◌++◌, map, length, get_or, take, drop, slice_get, Option, Some, None, Result, Ok, Err, true, false, cond, nat_lt, refl, sym, ap, ◌∙◌, arith}
 use Rattle.std.specs.List.{flat_map, All}
 use Rattle.std.specs.Result.{OnOk}
-use Rattle.std.proofs.lemmas.List.{append-nil, append_assoc, length-append}
+use Rattle.std.proofs.lemmas.List.{append-nil}
 use Rattle.std.proofs.lemmas.List.Concat.{flat_map-append}
 use Rattle.std.proofs.lemmas.Bool.Decides.{nat_tests}
 use Rattle.std.proofs.lemmas.List.Elements.{All-nil, All-cons, All-append}
-use Rattle.smv_core.specs.Values.{number}
-use Rattle.smv_core.specs.Assignments.{Index, fixed, bare, computed, fits}
+use Rattle.smv_core.specs.Assignments.{Index, fixed, bare, computed}
 use Rattle.smv_core.specs.declared.flat.Simple.{Simple}
 use Rattle.smv_core.specs.declared.flat.Simple.TheVariants.{Range, Enum, Set}
 use Rattle.smv_core.specs.declared.flat.Family.{Family}
@@ -17,11 +16,11 @@ use Rattle.law_loops_and_layers.specs.Reading.{Reading}
 use Rattle.smv_loops.specs.declared.index.Index.{Index as HeldIndex}
 use Rattle.smv_loops.specs.declared.ranks.Links.{Links}
 use Rattle.smv_loops.specs.declared.rows.Row.{Row}
-use Rattle.smv_loops.specs.Cells.{picked, base, number_in}
+use Rattle.smv_loops.specs.Cells.{picked, number_in}
 use Rattle.smv_loops.specs.Edges.{total, IsRowLink, AreRowLinks}
 use Rattle.smv_loops.specs.Held.{index_of}
 use Rattle.smv_loops.specs.Rows.{IsRow, row_at, stands_for}
-use Rattle.smv_loops.proofs.Members.{In, in-mapped, in-same, in-get_or}
+use Rattle.smv_loops.proofs.Members.{In}
 use Rattle.smv_loops.proofs.Slices.{split}
 use Rattle.smv_loops.proofs.TableLaws.{table_from, length-table, get-from, get-inside}
 

@@ -1,11 +1,11 @@
 // The cells of a design by their numbers.
-ghost use Rattle.std.specs.Prelude.{◌≡◌, ◌+◌, ◌*◌, ◌∷◌, ◌++◌, ℕ, ◌<◌, map, flat_map, length, slice_get, slice_index, IfOk, OnOk};
+ghost use Rattle.std.specs.Prelude.{◌≡◌, ◌+◌, ◌*◌, ◌∷◌, ◌++◌, ◌<◌, map, length, slice_get, IfOk, OnOk};
 ghost use Rattle.std.specs.List.{All};
 ghost use Rattle.smv_core.specs.Assignments.{computed, fits};
 ghost use Rattle.smv_core.specs.Values.{number};
 ghost use Rattle.law_loops_and_layers.specs.Loops as loops;
 ghost use Rattle.law_loops_and_layers.specs.Loops.{at_index, cells_of};
-ghost use Rattle.smv_loops.specs.Cells.{picked, every, place, base, number_in};
+ghost use Rattle.smv_loops.specs.Cells.{every, place, number_in};
 ghost use Rattle.smv_loops.specs.Edges.{AreLinks, total};
 ghost use Rattle.smv_loops.specs.Held.{index_in, index_of, reading_of};
 ghost use Rattle.smv_loops.specs.Numbers.{AreBases, digit_places, places, range_places, single_places};

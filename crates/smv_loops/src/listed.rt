@@ -1,5 +1,5 @@
 // The cells of a design with their ranks.
-ghost use Rattle.std.specs.Prelude.{◌≡◌, ◌++◌, ◌<◌, ℕ, length, map, slice_get, Some, IfOk, OnOk};
+ghost use Rattle.std.specs.Prelude.{◌≡◌, ◌++◌, ◌<◌, map, slice_get, Some, IfOk, OnOk};
 ghost use Rattle.std.specs.List.Sorted.{IsNonDecreasingBy, IsPermutation};
 ghost use Rattle.smv_core.specs.declared.flat.Family.{Family};
 ghost use Rattle.smv_loops.specs.Cells as spec;

@@ -1,5 +1,5 @@
 // Ranks of numbered cells by which what is read is below what reads it, as far as there are such ranks.
-ghost use Rattle.std.specs.Prelude.{◌≡◌, ℕ, ◌<◌, length, true, slice_index_or, vec_len, replicate, IfOk, MatchOption};
+ghost use Rattle.std.specs.Prelude.{◌≡◌, ℕ, ◌<◌, length, true, slice_index_or, vec_len, IfOk, MatchOption};
 ghost use Rattle.std.specs.List.{All};
 ghost use Rattle.smv_loops.specs.Ranks as spec;
 ghost use Rattle.smv_loops.specs.Ranks.{AreRanked, IsOpen, Falls, AreBelow, AreHeldUp, Flagged, FlaggedBy, Raised, AreSettled};

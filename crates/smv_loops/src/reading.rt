@@ -1,5 +1,5 @@
 // What assignments and expressions read.
-ghost use Rattle.std.specs.Prelude.{◌≡◌, [], ◌∷◌, ◌++◌, map, flat_map, IfOk, OnOk};
+ghost use Rattle.std.specs.Prelude.{◌≡◌, ◌∷◌, ◌++◌, map, flat_map, IfOk, OnOk};
 ghost use Rattle.smv_loops.specs.Held.{assigned_in, index_in, read_in, read_in_member, read_in_term, reference_of, reading_of};
 
 use smv_core::flat::{Flat, FlatExpr, FlatMember, FlatSigned};

@@ -1,5 +1,5 @@
 // The lists of what cells have at their indexes.
-ghost use Rattle.std.specs.Prelude.{◌≡◌, ◌+◌, ◌-◌, ◌++◌, ◌∷◌, map, Some, IfOk, OnOk};
+ghost use Rattle.std.specs.Prelude.{◌≡◌, ◌+◌, ◌-◌, ◌++◌, map, Some, IfOk, OnOk};
 ghost use Rattle.smv_core.specs.Assignments.{computed};
 ghost use Rattle.smv_core.specs.Values.{numbers_from};
 ghost use Rattle.law_loops_and_layers.specs.Loops.{at_index};

@@ -1,5 +1,5 @@
 // The target of an element that would have a given value.
-ghost use Rattle.std.specs.Prelude.{◌≡◌, Bool, IfOk, map, drop, ◌++◌};
+ghost use Rattle.std.specs.Prelude.{◌≡◌, Bool, IfOk, map};
 ghost use Rattle.smv_abstraction.specs.Places.{World};
 ghost use Rattle.smv_problem_spots.specs.Worlds.{IsWorldOf};
 ghost use Rattle.smv_targets.specs.Targets.{IsTargetMade};

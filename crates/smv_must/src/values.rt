@@ -1,5 +1,5 @@
 // Which values the definition of an element allows it for certain, in states that are read by cells.
-ghost use Rattle.std.specs.Prelude.{◌≡◌, List, Option, IfOk, map, drop, ◌++◌, option_copied, true};
+ghost use Rattle.std.specs.Prelude.{◌≡◌, List, Option, IfOk, map, option_copied, true};
 ghost use Rattle.smv_core.specs.declared.flat.Def.{Def};
 ghost use Rattle.smv_abstraction.specs.Places.{Place, is_among};
 ghost use Rattle.smv_abstraction.specs.May.{AbsState as Abstract};

@@ -2,7 +2,7 @@
 //! For the calls that make problems: the numbers are made once for a design and copied into the problem of each case. `name_number` and `set_numbers_of` of `smv_problem/specs/Written` say what they are.
 #![tactic(auto)]
 
-ghost use Rattle.std.specs.Prelude.{◌≡◌, ◌++◌, [], ◌∷◌, map, flat_map, IfOk, OnOk};
+ghost use Rattle.std.specs.Prelude.{◌≡◌, ◌++◌, map, flat_map, IfOk, OnOk};
 ghost use Rattle.smv_problem.specs.Written.{name_number, set_numbers_of};
 ghost use Rattle.smv_name_numbers.specs.Places.{place_among};
 

@@ -1,5 +1,5 @@
 // What is demanded at a time.
-ghost use Rattle.std.specs.Prelude.{◌≡◌, ◌++◌, ◌∷◌, [], map, flat_map, zip, drop, slice_get, if◌then◌else◌, IfOk, OnOk};
+ghost use Rattle.std.specs.Prelude.{◌≡◌, ◌++◌, ◌∷◌, [], flat_map, zip, drop, slice_get, if◌then◌else◌, IfOk, OnOk};
 ghost use Rattle.law_obligations.specs.Problems as problems;
 ghost use Rattle.smv_cone.specs.Parts.{IsPartView};
 ghost use Rattle.smv_obligations.specs.Demands as spec;

@@ -9,7 +9,7 @@ use Rattle.smv_core.specs.declared.tree.Path.{Path, out-Path}
 use Rattle.smv_core.specs.declared.tree.Part.{Field, At}
 use Rattle.smv_core.specs.declared.tree.Signed.{Signed}
 use Rattle.smv_core.specs.declared.tree.Member.{Member, One, Span as SpanOf}
-use Rattle.smv_core.specs.declared.tree.Expr.{Expr, Number, Signal, Signal', Not, And, And', Or, Or', Implies, Implies', Iff, Compare, Within, Sum, Sum', Modulo, Choose, All, Any, List as ListOf, List', Each, Held-Expr-Each-2}
+use Rattle.smv_core.specs.declared.tree.Expr.{Expr, Number, Signal, Signal', Not, And, And', Or, Or', Implies, Implies', Iff, Compare, Within, Sum, Sum', Modulo, Choose, All, Any, List as ListOf, List', Each}
 use Rattle.smv_core.specs.declared.tree.Expr.{Row_of-Expr, end_of-Expr, more_of-Expr, Row_of-Part, end_of-Part, more_of-Part, Row_of-Member, end_of-Member, more_of-Member, Row_of-Signed, end_of-Signed, more_of-Signed}
 use Rattle.smv_core.specs.declared.tree.Expr.{items-the_row-Part, items-the_row-Expr, items-the_row-Member, items-the_row-Signed, items_hidden-the_row-Part-0, items_hidden-the_row-Expr-2, items_hidden-the_row-Member-4, items_hidden-the_row-Signed-3}
 use Rattle.std.specs.Prelude.{Option, nat_eq}

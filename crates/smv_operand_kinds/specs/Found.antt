@@ -5,7 +5,6 @@ use Rattle.smv_core.specs.declared.fault.Fault.{Fault}
 use Rattle.smv_core.specs.declared.tree.Op.{Op}
 use Rattle.smv_core.specs.declared.tree.Op.TheVariants.{Equal, Differ}
 use Rattle.smv_core.specs.declared.tree.Part.{Part, Field, At}
-use Rattle.smv_core.specs.declared.tree.Expr.{Expr}
 use Rattle.smv_core.specs.declared.tree.Signed.{Signed, out-Signed}
 use Rattle.smv_core.specs.declared.tree.Member.{Member, One, Span as SpanOf}
 use Rattle.smv_instances.specs.NameFaults.{place_if}

@@ -1,5 +1,5 @@
 // The kind of each expression, and the faults in it.
-ghost use Rattle.std.specs.Prelude.{◌≡◌, ◌++◌, ◌∷◌, [], map, flat_map, option_map, IfOk, OnOk};
+ghost use Rattle.std.specs.Prelude.{◌≡◌, ◌++◌, [], map, flat_map, option_map, IfOk, OnOk};
 ghost use Rattle.smv_core.specs.Walk.{indexes_of};
 ghost use Rattle.smv_core.specs.declared.tree.Path.{out-Path};
 ghost use Rattle.law_kinds.specs.Kinds as kinds;

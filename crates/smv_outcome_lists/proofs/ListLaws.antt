@@ -16,14 +16,12 @@ use Rattle.smv_conditions.specs.declared.chances.Chances.{Chances}
 use Rattle.smv_conditions.specs.Keep.{KeepsConditions}
 use Rattle.smv_conditions.specs.Chances.{mix_at, AreMade}
 use Rattle.smv_conditions.specs.Offers.{any_offer, AreOffersMade}
-use Rattle.smv_conditions.proofs.AddLaws.{offers_same, offers_kept}
+use Rattle.smv_conditions.proofs.AddLaws.{offers_kept}
 use Rattle.smv_conditions.proofs.ChainLaws.{mix_kept}
-use Rattle.law_outcomes.specs.Mix.{Mix, none_at_all, or_mix, or_all}
-use Rattle.law_outcomes.proofs.MixLaws.{same_mix}
-use Rattle.law_outcomes.proofs.Anys.{any-ext}
+use Rattle.law_outcomes.specs.Mix.{none_at_all, or_mix, or_all}
 use Rattle.smv_outcome_lists.specs.Pairs.{guard_mix, compare_each}
 use Rattle.smv_outcome_lists.specs.Lists.{AreListsMade, member_at, within_at}
-use Rattle.smv_outcome_lists.proofs.PairLaws.{each_same, head_made, rest_made}
+use Rattle.smv_outcome_lists.proofs.PairLaws.{each_same, head_made}
 
 pub take_whole : {X : Type 0} (n : ℕ) (xs : List X) → length xs ≤ n → xs ≡ take n xs
 take_whole n xs l = sym (take_all n xs l)

@@ -13,7 +13,7 @@ use Rattle.smv_spots.specs.Answers.{answers_of}
 use Rattle.smv_conditions.specs.declared.offers.Offer.{Offer}
 use Rattle.smv_conditions.specs.declared.chances.Chances.{Chances}
 use Rattle.smv_conditions.specs.Keep.{KeepsConditions}
-use Rattle.law_outcomes.specs.Mix.{Mix, none_at_all}
+use Rattle.law_outcomes.specs.Mix.{none_at_all}
 use Rattle.smv_conditions.specs.Chances.{mix_at, AreMade}
 use Rattle.smv_conditions.specs.Offers.{any_offer, AreOffersMade}
 use Rattle.smv_conditions.specs.Adds.{Adds}

@@ -1,6 +1,5 @@
 -- Reads, index by index.
 use Rattle.std.proofs.Common.{◌≡◌, ℕ, ◌+◌, List, [], ◌∷◌, ◌++◌, map, length, Option, Some, None, Bool, true, false, ◌&&◌, ◌||◌, if◌then◌else◌, refl, sym, ap, ◌∙◌, arith, subst}
-use Rattle.std.specs.List.{list_any}
 use Rattle.std.proofs.lemmas.List.{map-append}
 use Rattle.smv_core.specs.Flat.{Numbered}
 use Rattle.smv_core.specs.declared.flat.Simple.{Simple}
@@ -19,7 +18,7 @@ use Rattle.smv_cells.specs.declared.cells.Cell.{Cell}
 use Rattle.smv_cells.specs.Cells.{is_cell_of, AreCellsMade, cell_any}
 use Rattle.smv_outcome_lists.specs.Lists.{AreListsMade}
 use Rattle.smv_outcome_lists.specs.Reads.{read_any, read_along, read_inside}
-use Rattle.smv_outcome_lists.proofs.PairLaws.{rest_made, head_made}
+use Rattle.smv_outcome_lists.proofs.PairLaws.{rest_made}
 
 -- how much is left to do
 abbrev pub weight : {X : Type 0} → List (List X) → ℕ

@@ -1,14 +1,12 @@
 -- What comparisons of lists of outcomes may give.
-use Rattle.std.specs.Prelude.{ℕ, List, [], ◌∷◌, Bool, ◌&&◌, ◌||◌}
+use Rattle.std.specs.Prelude.{ℕ, List, Bool, ◌&&◌, ◌||◌}
 use Rattle.std.specs.List.{list_any}
-use Rattle.smv_core.specs.Values.{Truth}
 use Rattle.smv_core.specs.Flat.{Numbered}
 use Rattle.smv_core.specs.Outcome.{is_true}
 use Rattle.smv_core.specs.declared.tree.Op.{Op}
 use Rattle.smv_abstraction.specs.Right.{is_false, is_neither}
 use Rattle.smv_abstraction.specs.Places.{AbsOutcome, may_compare}
 use Rattle.smv_spots.specs.declared.answers.Answers.{Answers}
-use Rattle.smv_spots.specs.Spots.{outcome_in}
 use Rattle.smv_conditions.specs.declared.offers.Offer.{Offer}
 use Rattle.law_outcomes.specs.Mix.{Mix}
 use Rattle.smv_conditions.specs.Offers.{any_offer}

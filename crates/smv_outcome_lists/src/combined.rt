@@ -14,7 +14,6 @@ use smv_conditions::conditions::Conditions;
 use smv_conditions::lists::{add_all, add_may, add_offer};
 use smv_conditions::offers::{May, Offer};
 use smv_core::seq::Seq;
-use smv_spots::spots::Spot;
 use std::alloc::{AllocError, Global};
 
 /// `<->`.

@@ -1,18 +1,17 @@
 -- Elements that are read, and sums.
-use Rattle.std.proofs.Common.{◌≡◌, ℕ, List, [], ◌∷◌, ◌++◌, map, Option, Some, None, Bool, true, false, ◌||◌, if◌then◌else◌, refl, sym, ap, ◌∙◌, slice_get}
+use Rattle.std.proofs.Common.{◌≡◌, ℕ, List, [], ◌∷◌, ◌++◌, map, Option, Some, None, Bool, true, false, ◌||◌, refl, sym, ap, ◌∙◌, slice_get}
 use Rattle.std.specs.List.{list_any, list_all, flat_map}
 use Rattle.std.proofs.lemmas.List.{append-nil}
-use Rattle.smv_core.specs.Flat.{Numbered}
 use Rattle.smv_core.specs.declared.flat.Simple.{Simple}
 use Rattle.smv_core.specs.declared.flat.Family.{Family}
 use Rattle.smv_core.specs.declared.flat.FlatExpr.{FlatExpr, Read, Sum}
 use Rattle.smv_core.specs.declared.flat.FlatSigned.{FlatSigned}
 use Rattle.smv_abstraction.specs.Sets.{one_of_each}
-use Rattle.smv_abstraction.specs.Places.{Place, World, AbsOutcome, places_in}
+use Rattle.smv_abstraction.specs.Places.{Place, AbsOutcome, places_in}
 use Rattle.smv_abstraction.specs.May.{may, may_read, places_at, place_within}
 use Rattle.law_outcomes.specs.Mix.{is_there}
 use Rattle.law_outcomes.specs.Reads.{where_within, found, within_all, found_from}
-use Rattle.law_outcomes.specs.Combined.{sum_test, summed}
+use Rattle.law_outcomes.specs.Combined.{sum_test}
 use Rattle.law_outcomes.proofs.Anys.{any-flat_map, any-ext}
 use Rattle.law_outcomes.proofs.MayLaws.{may-Read, may-Sum}
 use Rattle.law_outcomes.proofs.MixLaws.{there-choices}
@@ -26,12 +25,11 @@ use Rattle.smv_conditions.specs.declared.offers.May.{May}
 use Rattle.smv_conditions.specs.declared.offers.May.TheVariants.{Values}
 use Rattle.smv_conditions.specs.Offers.{any_offer, any_may, Offers}
 use Rattle.smv_cells.specs.declared.cells.Cell.{Cell}
-use Rattle.smv_cells.specs.Cells.{cell_any}
 use Rattle.smv_cells.specs.Seen.{View, IsSeen, outcomes}
 use Rattle.smv_cells.proofs.CellLaws.{cell-reads}
 use Rattle.smv_outcome_lists.specs.Reads.{read_any, element_any}
 use Rattle.smv_outcomes.specs.Outcomes.{IsMayOf, AreOffersOf, AreListsOf, IsSumOf}
-use Rattle.smv_outcomes.proofs.ExpressionLaws.{all_of, all-filled}
+use Rattle.smv_outcomes.proofs.ExpressionLaws.{all-filled}
 
 one : (b : Bool) → (b || false) ≡ b
 one true = refl

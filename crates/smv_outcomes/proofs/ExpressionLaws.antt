@@ -1,5 +1,5 @@
 -- What conditions say of expressions.
-use Rattle.std.proofs.Common.{◌≡◌, ℕ, List, [], ◌∷◌, ◌++◌, map, Option, Some, None, Bool, true, false, ◌&&◌, ◌||◌, refl, sym, ap, ◌∙◌, subst, slice_get, get_or}
+use Rattle.std.proofs.Common.{◌≡◌, ℕ, List, [], ◌∷◌, map, Option, Some, None, Bool, true, false, ◌&&◌, ◌||◌, refl, sym, ap, ◌∙◌, subst, slice_get, get_or}
 use Rattle.std.specs.List.{flat_map, list_any, list_all}
 use Rattle.std.specs.Option.{option_map}
 use Rattle.std.proofs.lemmas.Option.{slice_get-map}
@@ -33,7 +33,7 @@ use Rattle.smv_conditions.specs.declared.chances.Chances.{Chances}
 use Rattle.smv_conditions.specs.declared.chances.Join.TheVariants as join
 use Rattle.smv_conditions.specs.Keep.{KeepsConditions}
 use Rattle.smv_conditions.specs.Chances.{mix_at, AreMade}
-use Rattle.smv_conditions.specs.Chain.{AllMade, chain}
+use Rattle.smv_conditions.specs.Chain.{chain}
 use Rattle.smv_conditions.specs.Offers.{offers_mix, may_mix, any_offer, any_may, Offers, AreOffersMade}
 use Rattle.smv_conditions.proofs.AddLaws.{offers_same, offers_kept}
 use Rattle.smv_conditions.proofs.ChainLaws.{mix_kept}

@@ -1,14 +1,13 @@
 -- What loops over parts keep.
-use Rattle.std.proofs.Common.{◌≡◌, ℕ, List, [], ◌∷◌, ◌++◌, map, Some, Bool, true, false, ◌&&◌, refl, sym, ap, ◌∙◌, subst}
+use Rattle.std.proofs.Common.{◌≡◌, ℕ, List, [], ◌∷◌, ◌++◌, map, Bool, ◌&&◌, refl, sym, ap, ◌∙◌, subst}
 use Rattle.std.specs.List.{list_any, flat_map}
-use Rattle.std.proofs.lemmas.List.{map-append, append_assoc, append-nil}
+use Rattle.std.proofs.lemmas.List.{map-append, append_assoc}
 use Rattle.smv_core.specs.Flat.{Numbered}
 use Rattle.smv_core.specs.Values.{add}
 use Rattle.smv_core.specs.declared.flat.FlatExpr.{FlatExpr}
 use Rattle.smv_core.specs.declared.flat.FlatMember.{FlatMember, One}
 use Rattle.smv_core.specs.declared.flat.FlatSigned.{FlatSigned, out-FlatSigned}
 use Rattle.smv_abstraction.specs.Places.{AbsOutcome, valued, as_place}
-use Rattle.law_outcomes.specs.Mix.{Mix}
 use Rattle.law_outcomes.specs.Combined.{sum_test}
 use Rattle.law_outcomes.proofs.Anys.{any-ext}
 use Rattle.smv_spots.specs.declared.spots.Spot.{Spot}

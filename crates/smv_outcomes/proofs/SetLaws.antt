@@ -1,5 +1,5 @@
 -- `in`.
-use Rattle.std.proofs.Common.{◌≡◌, ℕ, ◌+◌, ◌-◌, List, [], ◌∷◌, ◌++◌, map, Option, Some, None, Bool, true, false, ◌&&◌, ◌||◌, refl, sym, ap, ◌∙◌, subst}
+use Rattle.std.proofs.Common.{◌≡◌, ℕ, ◌+◌, ◌-◌, List, [], ◌∷◌, ◌++◌, map, Some, Bool, true, false, ◌&&◌, ◌||◌, refl, sym, ap, ◌∙◌, subst}
 use Rattle.std.specs.List.{list_any, list_all, flat_map}
 use Rattle.std.proofs.lemmas.List.{append-nil}
 use Rattle.smv_core.specs.Values.{Truth, number, numbers_from, disjunction}
@@ -20,7 +20,7 @@ use Rattle.law_outcomes.proofs.MixLaws.{same_mix, shown-by}
 use Rattle.law_outcomes.proofs.MayLaws.{may-Within, may-listed}
 use Rattle.law_outcomes.proofs.WithinLaws.{mix-within, within-shown}
 use Rattle.smv_spots.specs.declared.spots.Spot.{Spot}
-use Rattle.smv_spots.specs.Spots.{place_in, outcome_in}
+use Rattle.smv_spots.specs.Spots.{place_in}
 use Rattle.smv_conditions.specs.declared.offers.Offer.{Offer}
 use Rattle.smv_conditions.specs.declared.offers.May.TheVariants.{Truths}
 use Rattle.smv_conditions.specs.declared.chances.Chances.{Chances}

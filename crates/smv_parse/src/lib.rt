@@ -3,7 +3,7 @@
 //! For `smv_top`. It joins `smv_lex` and `smv_parse_items`; `one_answer` is the law that a text spells one tree or has one fault.
 #![tactic(auto)]
 
-ghost use Rattle.std.specs.Prelude.{◌≡◌, ◌<◌, ◌^◌, ℕ, length, Ok, Err, IfOk};
+ghost use Rattle.std.specs.Prelude.{◌<◌, ◌^◌, ℕ, length, Ok, Err, IfOk};
 ghost use Rattle.smv_core.specs.declared.tree.Text.{Text};
 ghost use Rattle.smv_lex.specs.Answers.{IfFault};
 ghost use Rattle.smv_parse_items.specs.Answer.{fault};

@@ -8,7 +8,7 @@ ghost use Rattle.smv_parse_expressions.specs.Answers.{StopsAs};
 use crate::ahead::next_is_sign;
 use crate::marks::COMMA;
 use crate::single::{name, sign};
-use crate::stop::{Read, Stop};
+use crate::stop::Read;
 use smv_core::token::Token;
 use smv_core::tree::Word;
 use std::alloc::Global;

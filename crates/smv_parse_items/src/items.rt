@@ -1,5 +1,5 @@
 // Items, and what stands in the body of a module.
-ghost use Rattle.std.specs.Prelude.{◌≡◌, ◌<◌, ◌-◌, ◌∷◌, [], Ok, IfOk, IfErr};
+ghost use Rattle.std.specs.Prelude.{◌≡◌, ◌<◌, ◌-◌, Ok, IfOk, IfErr};
 ghost use Rattle.law_grammar.specs.Parsing.{bind, pure, loop};
 ghost use Rattle.law_grammar.specs.Marks.{begins};
 ghost use Rattle.law_grammar.specs.Statements.{read_worded, stmt_readers};

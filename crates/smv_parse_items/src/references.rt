@@ -1,7 +1,7 @@
 // References, splits and uses.
 ghost use Rattle.std.specs.Prelude.{◌≡◌, ◌<◌, ◌-◌, ◌∷◌, [], Option, Some, None, true, false, Ok, IfOk, IfErr};
 ghost use Rattle.smv_core.specs.Signs.{comma, dot, open_bracket, slashes};
-ghost use Rattle.law_grammar.specs.Parsing.{bind, pure, take, loop};
+ghost use Rattle.law_grammar.specs.Parsing.{bind, take, loop};
 ghost use Rattle.law_grammar.specs.Marks.{any_name, exactly, begins};
 ghost use Rattle.law_grammar.specs.Readers.{a_token, a_name, maybe, read_separated, read_separated_or_none, noting, first_at};
 ghost use Rattle.law_grammar.specs.Expressions.{read_sum, expr_readers};

@@ -1,8 +1,6 @@
 // What stands at the top of a text, and the text.
-ghost use Rattle.std.specs.Prelude.{◌≡◌, ◌<◌, ◌-◌, ◌∷◌, [], Ok, IfOk, IfErr};
-ghost use Rattle.law_grammar.specs.Parsing.{loop};
-ghost use Rattle.law_grammar.specs.Marks.{begins};
-ghost use Rattle.law_grammar.specs.Items.{body_marks, top_marks, read_scalarset, read_ordset, read_typedef, read_module_body, read_module, read_top, read_tops, read_text, item_readers};
+ghost use Rattle.std.specs.Prelude.{◌≡◌, ◌<◌, ◌-◌, Ok, IfOk, IfErr};
+ghost use Rattle.law_grammar.specs.Items.{read_scalarset, read_ordset, read_typedef, read_module_body, read_module, read_top, read_tops, read_text, item_readers};
 ghost use Rattle.smv_parse_expressions.specs.Answers.{StopsAs};
 ghost use Rattle.smv_parse_items.specs.Pieces.{read_any_extent, read_module_behind};
 ghost use Rattle.smv_parse_items.specs.Reading.{StopsText};

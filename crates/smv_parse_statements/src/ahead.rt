@@ -1,6 +1,6 @@
 // Which token comes next.
 ghost use Rattle.std.specs.Prelude.{◌≡◌, ◌∷◌, []};
-ghost use Rattle.smv_core.specs.Signs.{open_bracket, dot, comma, colon};
+ghost use Rattle.smv_core.specs.Signs.{comma, colon};
 ghost use Rattle.smv_core.specs.Signs as w;
 ghost use Rattle.smv_core.specs.declared.token.TokenKind.TheVariants.{Sign};
 ghost use Rattle.law_grammar.specs.Parsing.{starts, starts2};
@@ -11,9 +11,9 @@ ghost use Rattle.law_grammar.specs.Items.{item_marks, role_marks, body_marks, to
 
 use smv_core::token::{Token, TokenKind};
 use smv_parse_expressions::marks::{
-    COLON, COMMA, DOT, OPEN_BRACE, OPEN_BRACKET, OPEN_PAREN, WORD_ABSTRACT, WORD_DEFAULT, WORD_FOR,
-    WORD_FORALL, WORD_IF, WORD_INIT, WORD_INPUT, WORD_LAYER, WORD_MODULE, WORD_NEXT, WORD_ORDSET,
-    WORD_OUTPUT, WORD_SCALARSET, WORD_SUBCASE, WORD_SWITCH, WORD_TYPEDEF, WORD_USING,
+    COLON, COMMA, OPEN_BRACE, WORD_ABSTRACT, WORD_DEFAULT, WORD_FOR, WORD_FORALL, WORD_IF,
+    WORD_INIT, WORD_INPUT, WORD_LAYER, WORD_MODULE, WORD_NEXT, WORD_ORDSET, WORD_OUTPUT,
+    WORD_SCALARSET, WORD_SUBCASE, WORD_SWITCH, WORD_TYPEDEF, WORD_USING,
 };
 
 /// Whether a name comes next, and this sign behind it.

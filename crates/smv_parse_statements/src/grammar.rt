@@ -1,7 +1,6 @@
 // Statements. The rules take the reader of the statements within fewer levels as a parameter, so that each is proved by itself.
 ghost use Rattle.std.specs.Prelude.{◌≡◌, ◌<◌, ◌≤◌, ◌-◌, ◌∷◌, [], Option, Some, None, Ok, IfOk, IfErr};
 ghost use Rattle.smv_core.specs.Signs.{word_in};
-ghost use Rattle.smv_core.specs.declared.tree.Arm.{roll-Arm};
 ghost use Rattle.law_grammar.specs.Parsing.{bind, pure, take, loop};
 ghost use Rattle.law_grammar.specs.Marks.{any_name, any_number, begins};
 ghost use Rattle.law_grammar.specs.Readers.{a_token};

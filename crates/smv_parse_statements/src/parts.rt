@@ -1,5 +1,5 @@
 // What statements are made of beside statements.
-ghost use Rattle.std.specs.Prelude.{◌≡◌, ◌∷◌, [], Ok, IfOk, IfErr};
+ghost use Rattle.std.specs.Prelude.{◌≡◌, [], Ok, IfOk, IfErr};
 ghost use Rattle.smv_core.specs.Signs.{comma};
 ghost use Rattle.smv_core.specs.Grammar.{named};
 ghost use Rattle.law_grammar.specs.Parsing.{take, bind};

@@ -1,9 +1,8 @@
 // Single tokens that only statements, items and tops have.
-ghost use Rattle.std.specs.Prelude.{◌≡◌, ◌<◌, ◌∷◌, [], Ok, IfOk, IfErr};
-ghost use Rattle.smv_core.specs.Signs as w;
+ghost use Rattle.std.specs.Prelude.{◌≡◌, ◌<◌, Ok, IfOk, IfErr};
 ghost use Rattle.smv_core.specs.declared.token.TokenKind.TheVariants.{Sign};
-ghost use Rattle.law_grammar.specs.Parsing.{take, take_open, pure};
-ghost use Rattle.law_grammar.specs.Readers.{a_token, an_entry, a_same_name};
+ghost use Rattle.law_grammar.specs.Parsing.{take};
+ghost use Rattle.law_grammar.specs.Readers.{an_entry, a_same_name};
 ghost use Rattle.law_grammar.specs.Statements.{a_positive, moments, bounds};
 ghost use Rattle.law_grammar.specs.Items.{roles};
 ghost use Rattle.smv_parse_expressions.specs.Answers.{StopsAs};
@@ -14,7 +13,6 @@ use smv_core::tree::{Kind, Role, Word};
 use smv_parse_expressions::marks::{
     AT_MOST, LESS, WORD_ABSTRACT, WORD_INIT, WORD_INPUT, WORD_NEXT, WORD_OUTPUT,
 };
-use smv_parse_expressions::single::sign;
 use smv_parse_expressions::stop::Stop;
 
 /// The name that was written before; its bytes and its offset.

@@ -2,7 +2,7 @@
 ghost use Rattle.std.specs.Prelude.{◌≡◌, ◌<◌, ◌++◌, [], ◌∷◌, OnOk, Some, None, flat_map, map};
 ghost use Rattle.smv_core.specs.declared.token.TokenKind.TheVariants.{Ident, Number, Sign};
 ghost use Rattle.smv_core.specs.Signs.{comma, open_brace, close_brace, colon, word_in, word_mod};
-ghost use Rattle.smv_print.specs.Written.{preceded, separated, written};
+ghost use Rattle.smv_print.specs.Written.{separated, written};
 ghost use Rattle.smv_print.specs.Types.{type_kinds};
 ghost use Rattle.smv_print.specs.Expressions as spec;
 

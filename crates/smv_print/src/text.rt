@@ -1,6 +1,6 @@
 // The whole text.
 ghost use Rattle.std.specs.Prelude.{◌≡◌, ◌++◌, OnOk, IfOk, flat_map};
-ghost use Rattle.smv_print.specs.Written.{joined, written};
+ghost use Rattle.smv_print.specs.Written.{written};
 ghost use Rattle.smv_print.specs.Canonical as spec;
 ghost use Rattle.smv_print.specs.Canonical.{canonical};
 

@@ -1,5 +1,5 @@
 // Types, and what else has no expression in it.
-ghost use Rattle.std.specs.Prelude.{◌≡◌, ◌++◌, OnOk, flat_map, map};
+ghost use Rattle.std.specs.Prelude.{◌≡◌, ◌++◌, OnOk, flat_map};
 ghost use Rattle.smv_print.specs.Written.{written};
 ghost use Rattle.smv_print.specs.Types.{names_kinds, span_kinds, type_kinds, field_kinds};
 

@@ -1,5 +1,5 @@
 -- The problems of which the calls speak.
-use Rattle.std.specs.Prelude.{◌≡◌, ◌≢◌, ◌≤◌, ◌<◌, ℕ, List, [], ◌∷◌, map, length, get_or, slice_get, Option, Some, None, Bool, true, false, not, ◌&&◌, ◌||◌, IsTrue}
+use Rattle.std.specs.Prelude.{◌≡◌, ◌≢◌, ◌≤◌, ◌<◌, ℕ, List, [], ◌∷◌, map, length, slice_get, Option, Some, None, Bool, true, false, not, ◌&&◌, ◌||◌, IsTrue}
 use Rattle.std.specs.List.{list_all}
 use Rattle.smv_core.specs.Values.{Name}
 use Rattle.smv_core.specs.Flat.{Numbered}

@@ -1,18 +1,15 @@
 -- How a case is written as data. The names of set types and constants are not written: a class, a rest and a constant are written by their numbers, and their types
 -- are known where they stand; two enumerations may share a constant, so the names of constants have numbers. Variables have no type where they stand, so what they are bound to is written with the number of its type, as a spot.
-use Rattle.std.specs.Prelude.{◌≡◌, ℕ, suc, List, [], ◌∷◌, map, flat_map, length, get_or, slice_get, unwrap_or, Option, Some, None}
+use Rattle.std.specs.Prelude.{ℕ, suc, List, [], ◌∷◌, map, flat_map, length, get_or, slice_get, unwrap_or, Option, Some, None}
 use Rattle.std.specs.Str.{bytes_eq}
-use Rattle.smv_core.specs.Values.{Name, Value, number, constant, scalar, ordinal}
+use Rattle.smv_core.specs.Values.{Name, number, constant, scalar, ordinal}
 use Rattle.smv_core.specs.Flat.{Numbered}
-use Rattle.smv_core.specs.declared.flat.Simple.{Simple}
-use Rattle.smv_core.specs.declared.flat.Simple.TheVariants.{Range, Enum, Set}
 use Rattle.smv_core.specs.declared.flat.SetInfo.{SetInfo}
 use Rattle.smv_core.specs.declared.flat.Family.{Family}
 use Rattle.smv_core.specs.declared.flat.Class.{Class}
 use Rattle.smv_core.specs.declared.flat.Class.TheVariants as class
 use Rattle.smv_core.specs.declared.flat.Element.{Element}
 use Rattle.smv_abstraction.specs.declared.abstract_type.AbsType.{AbsType}
-use Rattle.smv_abstraction.specs.Sets.{Has}
 use Rattle.smv_abstraction.specs.Places.{Place, named, rest, World, AbsOutcome}
 use Rattle.smv_abstraction.specs.May.{AbsState}
 use Rattle.smv_abstraction.specs.Obligations.{Demanded, defined, holds}

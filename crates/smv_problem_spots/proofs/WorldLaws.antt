@@ -1,19 +1,18 @@
 -- Worlds by numbers: what spots are there.
 use Rattle.std.proofs.Common.{◌≡◌, ◌<◌, ℕ, zero, suc, ◌+◌, ◌-◌, List, [], ◌∷◌, map, length, get_or, slice_get, Option, Some, None, option_map, Bool, true, false, ◌&&◌, ◌||◌, bytes_eq, nat_eq, nat_lt, nat_le, if◌then◌else◌, arith, refl, sym, ap, subst, ◌∙◌}
 use Rattle.std.specs.List.{list_any}
-use Rattle.smv_core.specs.Values.{Name, Value, constant, scalar, ordinal, same, below, Truth, numbers_from}
+use Rattle.smv_core.specs.Values.{Name, constant, scalar, ordinal, same, below, numbers_from}
 use Rattle.smv_core.specs.declared.flat.Simple.{Simple}
 use Rattle.smv_core.specs.declared.flat.Simple.TheVariants.{Range, Enum, Set}
 use Rattle.smv_core.specs.declared.flat.SetInfo.{SetInfo}
 use Rattle.smv_core.specs.declared.flat.Design.{Design}
-use Rattle.smv_abstraction.specs.Places.{World, Place, named, rest, named_in, rests_in, places_in, is_among, same_place, as_place, AbsOutcome}
+use Rattle.smv_abstraction.specs.Places.{World, named_in, rests_in, places_in, is_among, same_place, as_place}
 use Rattle.smv_spots.specs.declared.spots.Spot.{Spot}
 use Rattle.smv_spots.specs.declared.spots.Spot.TheVariants as spot
 use Rattle.smv_spots.specs.declared.places.Sort.TheVariants as sort
-use Rattle.smv_spots.specs.Spots.{is_ordset, of_set, both_or_none, is_same_set, name_of, place_in, outcome_in, spot_of, classes_of, rests_of, IsWorld}
+use Rattle.smv_spots.specs.Spots.{is_ordset, of_set, both_or_none, is_same_set, place_in, outcome_in, spot_of, classes_of, rests_of, IsWorld}
 use Rattle.std.proofs.lemmas.Option.{slice_get-get_or}
-use Rattle.smv_abstraction.proofs.Same.{nat_eq-is}
-use Rattle.smv_spots.proofs.Numbers.{along, number_among}
+use Rattle.smv_spots.proofs.Numbers.{along}
 use Rattle.smv_spots.proofs.TypeLaws as types
 use Rattle.smv_problem.specs.declared.problem.Problem.{Problem}
 use Rattle.smv_problem_spots.specs.Worlds.{IsWorldOf, name_at, count_at, is_one_set, is_one_constant, is_listed_constant, name_number_at, has_gaps}

@@ -4,7 +4,7 @@ ghost use Rattle.std.specs.List.{list_any};
 ghost use Rattle.smv_core.specs.Values.{constant};
 ghost use Rattle.smv_abstraction.specs.Places.{World, named_in, rests_in, places_in, is_among, as_place};
 ghost use Rattle.smv_spots.specs.Spots.{place_in, outcome_in, classes_of, rests_of};
-ghost use Rattle.smv_problem_spots.specs.Worlds.{IsWorldOf, is_one_set, name_number_at, is_listed_constant};
+ghost use Rattle.smv_problem_spots.specs.Worlds.{IsWorldOf, is_one_set, is_listed_constant};
 
 use crate::numbers::{classes, constants, is_one_set, name_number, rests};
 use smv_core::flat::Simple;

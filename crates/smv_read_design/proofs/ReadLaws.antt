@@ -1,5 +1,5 @@
 -- What the passes answer, joined.
-use Rattle.std.proofs.Common.{◌≡◌, ◌≤◌, ◌∙◌, ℕ, List, length, true, refl, ap, sym, Result, Ok, Err, Option, Some, None, IfOk}
+use Rattle.std.proofs.Common.{◌≡◌, ◌≤◌, ◌∙◌, ℕ, List, length, ap, sym, Result, Ok, Err, Option, None, IfOk}
 use Rattle.smv_core.specs.declared.fault.Fault.{Fault}
 use Rattle.smv_core.specs.declared.fault.Refusal.{Refusal}
 use Rattle.smv_core.specs.declared.fault.Refusal.TheVariants as refusal
@@ -11,7 +11,6 @@ use Rattle.smv_typing.specs.Answers.{IsSpelled}
 use Rattle.smv_instances.specs.FirstFault.{first_of, or_else}
 use Rattle.law_obligations.specs.Units.{units_of}
 use Rattle.law_splits.specs.Leaves.{leaves_of}
-use Rattle.smv_uses.specs.Choices.{choices_of}
 use Rattle.smv_uses.proofs.There.{one_choice_each}
 use Rattle.smv_cases.specs.Faults.{Refuses}
 use Rattle.smv_problem.specs.declared.report.Plan.{Plan}
@@ -21,8 +20,6 @@ use Rattle.law_true_reports.specs.Joined.{flat_design}
 use Rattle.law_text_reports.specs.Plans.{IsTree}
 use Rattle.law_valid_texts.specs.Faults as valid
 use Rattle.law_valid_texts.specs.Faults.{pass_fault}
-use Rattle.law_valid_texts.specs.Reports.{IsValid}
-use Rattle.smv_command.specs.declared.Command.{Command}
 use Rattle.law_answers.specs.Dues.{faulty, malformed, limit}
 use Rattle.law_parts_of_texts.specs.Laws.{LeavesAreParts, LeavesHaveFewCases}
 use Rattle.law_read_plans.specs.Laws.{WidthsAreLast, ReadTextsAreFaultless, PlansAreOfTexts}

@@ -3,17 +3,15 @@
 //! For the calls that decide a text: after this call cases, cones and problems refuse nothing. A reader begins with `specs/Answers`.
 #![tactic(auto)]
 
-ghost use Rattle.std.specs.Prelude.{◌≡◌, ◌≤◌, ℕ, IfOk, length, true};
+ghost use Rattle.std.specs.Prelude.{◌≡◌, ◌≤◌, IfOk, length};
 ghost use Rattle.smv_lex.specs.Answers.{IfFault};
 ghost use Rattle.smv_typing.specs.Answers.{IsSpelled};
-ghost use Rattle.smv_instances.specs.FirstFault.{first_of};
 ghost use Rattle.smv_cases.specs.Faults.{Refuses};
 ghost use Rattle.smv_plans.specs.Plans.{IsPlan};
 ghost use Rattle.smv_front.specs.TextFault.{text_fault};
 ghost use Rattle.law_true_reports.specs.Joined.{flat_design};
 ghost use Rattle.law_valid_texts.specs.Faults.{pass_fault};
-ghost use Rattle.smv_command.specs.declared.Command.{Command};
-ghost use Rattle.law_answers.specs.Dues.{IsFault, decides, limit};
+ghost use Rattle.law_answers.specs.Dues.{limit};
 ghost use Rattle.smv_read_design.specs.Answers.{HasPlan, IsFaultOf};
 
 use law_parts_of_texts::laws::{leaves_are_parts, leaves_have_few_cases};

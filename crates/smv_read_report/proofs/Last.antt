@@ -1,6 +1,6 @@
 -- The last byte of a piece.
 use Rattle.std.proofs.Common.{◌≡◌, ◌∙◌, ◌-◌, ◌<◌, ℕ, suc, Bool, true, false, List, [], ◌∷◌, ap, arith, get_or, length, refl, take}
-use Rattle.std.specs.Prelude.{Option, Some, None, option_map, ◌==◌, if◌then◌else◌}
+use Rattle.std.specs.Prelude.{Some, None, option_map, ◌==◌, if◌then◌else◌}
 use Rattle.smv_read_report.specs.Pieces.{without_last}
 
 behind : (b : ℕ) (t : Bool) (bytes : List ℕ) → option_map (λ front. b ∷ front) (if t then Some bytes else None) ≡ (if t then Some (b ∷ bytes) else None)

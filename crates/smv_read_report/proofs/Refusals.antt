@@ -1,6 +1,6 @@
 -- The first line that may not stand where it does.
 use Rattle.std.proofs.Common.{◌≡◌, ◌∙◌, ◌+◌, ◌≤◌, ℕ, List, [], ◌∷◌, ap, arith, get_or, length, sym}
-use Rattle.std.specs.Prelude.{Option, Some, None, Result, Ok, Err}
+use Rattle.std.specs.Prelude.{Option, None, Result, Err}
 use Rattle.smv_read_report.specs.declared.line.Line.{Line}
 use Rattle.smv_read_report.specs.declared.reading.FalseUnit.{FalseUnit}
 use Rattle.smv_read_report.specs.declared.reading.Reading.{Reading}

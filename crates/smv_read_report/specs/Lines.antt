@@ -1,5 +1,5 @@
 -- What a line of a report says, by its pieces between blanks.
-use Rattle.std.specs.Prelude.{ℕ, Bool, true, false, ◌&&◌, List, [], ◌∷◌, length, codes, Option, Some, None, if◌then◌else◌, ◌==◌}
+use Rattle.std.specs.Prelude.{ℕ, true, false, ◌&&◌, List, [], ◌∷◌, length, codes, Option, Some, None, if◌then◌else◌, ◌==◌}
 use Rattle.std.specs.Str.{bytes_eq}
 use Rattle.smv_read_report.specs.declared.line.Cells.{Cells}
 use Rattle.smv_read_report.specs.declared.line.Line.{Line}

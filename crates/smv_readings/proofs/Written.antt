@@ -22,7 +22,7 @@ use Rattle.law_obligations.proofs.ConeFacts.{same_element-itself, same_element-f
 use Rattle.law_flat_kinds.specs.FlatKinds.{kind_of}
 use Rattle.law_codes.specs.Bits.{Bits}
 use Rattle.law_codes.specs.Codes.{bits_for, code_from, value_of_code}
-use Rattle.law_codes.specs.Readings.{Case, Slot, bits_of, code_of, slots, slots_from, state_bits, reading}
+use Rattle.law_codes.specs.Readings.{Case, Slot, bits_of, code_of, slots_from, state_bits, reading}
 use Rattle.law_codes.specs.Readings as codes
 use Rattle.law_codes.proofs.ReadBack.{slot_element, reads_slot}
 use Rattle.smv_problem.specs.Written.{written, written_element, written_type, written_place, written_state, kind_in}

@@ -1,5 +1,5 @@
 // Where variables and indexes lie.
-ghost use Rattle.std.specs.Prelude.{◌≡◌, IfOk, take, ◌∷◌, ◌++◌, []};
+ghost use Rattle.std.specs.Prelude.{◌≡◌, IfOk, take};
 ghost use Rattle.smv_abstraction.specs.Places.{named_in, places_in};
 ghost use Rattle.smv_reads.specs.Views as spec;
 ghost use Rattle.smv_reads.specs.Views.{IsView, world_of, places, bind_spot};

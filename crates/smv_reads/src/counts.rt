@@ -1,8 +1,7 @@
 // Which assignments count for an element.
-ghost use Rattle.std.specs.Prelude.{◌≡◌, ◌||◌, map, IfOk, slice_get};
+ghost use Rattle.std.specs.Prelude.{◌≡◌, ◌||◌, map, IfOk};
 ghost use Rattle.std.specs.List.{list_any};
 ghost use Rattle.smv_core.specs.Flat.{flat_index};
-ghost use Rattle.smv_abstraction.specs.Places.{bind_place};
 ghost use Rattle.law_obligations.specs.Reads as reads;
 ghost use Rattle.smv_indexes.specs.Indexes.{index_of};
 ghost use Rattle.smv_reads.specs.Views.{IsView, places, place_in};

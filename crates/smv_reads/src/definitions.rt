@@ -1,9 +1,9 @@
 // The elements that a definition reads for an element of its family.
-ghost use Rattle.std.specs.Prelude.{◌≡◌, ◌++◌, OnOk, if◌then◌else◌, []};
+ghost use Rattle.std.specs.Prelude.{◌≡◌, OnOk, if◌then◌else◌, []};
 ghost use Rattle.std.specs.List.{flat_map};
 ghost use Rattle.smv_elements.specs.Elements.{put_all};
 ghost use Rattle.smv_reads.specs.Views.{IsView};
-ghost use Rattle.smv_reads.specs.Reading.{read_in, read_by, read_by_assignment, read_by_over, read_of};
+ghost use Rattle.smv_reads.specs.Reading.{read_by, read_by_assignment, read_by_over, read_of};
 
 use crate::bindings::{View, bound, spots_over};
 use crate::counts::{either_counts, is_own, may_count};

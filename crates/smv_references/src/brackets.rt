@@ -1,5 +1,5 @@
 // The names in the brackets of a reference.
-ghost use Rattle.std.specs.Prelude.{◌≡◌, ◌++◌, map, flat_map, find, not, zip, option_copied, IfOk, OnOk};
+ghost use Rattle.std.specs.Prelude.{◌≡◌, ◌++◌, map, flat_map, find, not, option_copied, IfOk, OnOk};
 ghost use Rattle.std.specs.Str.{bytes_eq};
 ghost use Rattle.smv_instances.specs.NameFaults as faults;
 ghost use Rattle.smv_scope.specs.ScopeFault.{least};

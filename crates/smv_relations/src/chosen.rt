@@ -7,7 +7,7 @@ ghost use Rattle.smv_abstraction.specs.Obligations.{Demanded};
 ghost use Rattle.law_obligations.specs.Cones.{AbsElement};
 ghost use Rattle.law_case_lists.specs.CaseLists.{is_by_next, those_of};
 ghost use Rattle.smv_spots.specs.Spots.{place_in};
-ghost use Rattle.smv_problem.specs.Written.{written_demand, written_element};
+ghost use Rattle.smv_problem.specs.Written.{written_element};
 ghost use Rattle.smv_problem.specs.WellFormed.{OfCases};
 ghost use Rattle.smv_relations.specs.ChosenDemands.{is_held, is_of, is_moving};
 ghost use Rattle.smv_relations.specs.Parts.{AreDemands};

@@ -1,6 +1,6 @@
 // The six lists.
-ghost use Rattle.std.specs.Prelude.{◌≡◌, ◌*◌, ◌++◌, ℕ, Bool, map, false, true, IfOk};
-ghost use Rattle.bdd_store.specs.Diagram.{IsLive, AreLive, Keeps, table};
+ghost use Rattle.std.specs.Prelude.{◌≡◌, ◌*◌, ◌++◌, map, false, true, IfOk};
+ghost use Rattle.bdd_store.specs.Diagram.{AreLive, Keeps, table};
 ghost use Rattle.law_codes.specs.Readings.{slots, state_bits as bits_of_case};
 ghost use Rattle.law_case_lists.specs.CaseLists.{element_first, element_step, met_first, met_step, moving_first, claims, before_in_step, IsListsOf};
 ghost use Rattle.smv_rings.specs.Lists.{IsRel, lists_of};

@@ -4,12 +4,11 @@
 //! A reader begins with `specs/BitPaths`.
 #![tactic(auto)]
 
-ghost use Rattle.std.specs.Prelude.{◌≡◌, ℕ, ◌+◌, ◌<◌, true, IfOk, OnOk, List, ◌∷◌, ◌++◌, [], length, reverse};
+ghost use Rattle.std.specs.Prelude.{◌≡◌, ℕ, ◌+◌, ◌<◌, true, IfOk, OnOk, ◌∷◌, ◌++◌, [], length, reverse};
 ghost use Rattle.std.specs.List.{All};
 ghost use Rattle.std.specs.Global.{Vec};
 ghost use Rattle.bdd_store.specs.declared.Ref.{Ref};
 ghost use Rattle.bdd_store.specs.Diagram.{IsLive, AreLive, Keeps, table};
-ghost use Rattle.bdd_ops.specs.Functions.{bit_at};
 ghost use Rattle.smv_rings.specs.Lists.{State, at, IsRel, lists_of};
 ghost use Rattle.smv_rings.specs.Paths.{Starts, Ends, Violates, IsViolating};
 ghost use Rattle.smv_rings.specs.Schedule.{ring};

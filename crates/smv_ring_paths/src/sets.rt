@@ -1,9 +1,9 @@
 // Sets of states and of steps, and one state of a set.
-ghost use Rattle.std.specs.Prelude.{◌≡◌, ◌↔◌, ℕ, ◌+◌, ◌*◌, ◌<◌, ◌≤◌, true, ◌&&◌, IfOk, List, [], ◌++◌, map, length};
+ghost use Rattle.std.specs.Prelude.{◌≡◌, ◌↔◌, ℕ, ◌+◌, ◌*◌, ◌<◌, ◌≤◌, true, ◌&&◌, IfOk, [], map, length};
 ghost use Rattle.bdd_store.specs.declared.Ref.{Ref};
 ghost use Rattle.bdd_store.specs.Diagram.{IsLive, AreLive, Keeps, table, first_var};
 ghost use Rattle.bdd_ops.specs.Functions.{bit_at};
-ghost use Rattle.smv_rings.specs.Lists.{State, both, at, all_of, IsCurrent, IsRel, lists_of};
+ghost use Rattle.smv_rings.specs.Lists.{State, both, at, all_of, IsCurrent, IsRel};
 ghost use Rattle.smv_rings.specs.Schedule.{left_by, after};
 ghost use Rattle.smv_rings.specs.Ops.{IsOneOf, act_of, acts_of, refs_in, refs_in_all, FitsAct, FitsActs};
 ghost use Rattle.smv_ring_paths.specs.Steps.{IsStep};

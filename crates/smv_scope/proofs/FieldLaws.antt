@@ -1,13 +1,11 @@
 -- The fields of types that are made of lists and values.
 use Rattle.std.proofs.Common.{◌≡◌, ℕ, List, [], ◌∷◌, Bool, true, false, cond, ◌≤◌, ◌-◌, zero, suc, length, get_or, drop, take, arith, refl, ap, sym, ◌∙◌}
 use Rattle.std.specs.Prelude.{Option, Some, None, option_map, slice_get}
-use Rattle.smv_core.specs.Types.{find_name}
 use Rattle.smv_core.specs.declared.tree.Word.{Word}
-use Rattle.smv_core.specs.declared.tree.Span.{Span}
 use Rattle.smv_core.specs.declared.tree.Field.{Field, out-Field}
-use Rattle.smv_core.specs.declared.tree.TypeExpr.{TypeExpr, Boolean, Range, Enum, Named, Struct, Struct', Array, Row_of-Field, end_of-Field, more_of-Field, items-the_row-Field, items_hidden-the_row-Field-1}
+use Rattle.smv_core.specs.declared.tree.TypeExpr.{TypeExpr, Named, Struct, Struct', Array, Row_of-Field, end_of-Field, more_of-Field, items-the_row-Field, items_hidden-the_row-Field-1}
 use mathlib.Core.Former.{Count}
-use Rattle.smv_instances.specs.Scopes.{Known, fields_of, field_among, fields_if_type, no_field, has_name}
+use Rattle.smv_instances.specs.Scopes.{Known, fields_of, field_among, has_name}
 use Rattle.smv_scope.specs.Numbered.{field_in, field_named, known_before, type_number}
 use Rattle.smv_scope.specs.Held.{AreLed, fields_led}
 use Rattle.smv_scope.specs.declared.tables.Led.{Led}

@@ -1,12 +1,11 @@
 -- Names behind names, and paths.
-use Rattle.std.proofs.Common.{◌≡◌, ℕ, List, [], ◌∷◌, ◌++◌, map, refl, ap, sym, ◌∙◌}
+use Rattle.std.proofs.Common.{◌≡◌, List, [], ◌∷◌, refl, ap}
 use Rattle.std.specs.Prelude.{Option, Some, None, option_map, unwrap_or}
 use Rattle.std.specs.List.{flat_map}
 use Rattle.smv_core.specs.declared.tree.Word.{Word}
 use Rattle.smv_core.specs.declared.tree.Part.{Part, Field, At}
-use Rattle.smv_core.specs.Types.{find_name}
-use Rattle.smv_instances.specs.Mentions.{What, instance}
-use Rattle.smv_instances.specs.Scopes.{Known, Own, Piece, Body, behind, module_named, words_of, own_names}
+use Rattle.smv_instances.specs.Mentions.{instance}
+use Rattle.smv_instances.specs.Scopes.{Known, Piece, Body, behind, module_named, words_of}
 use Rattle.smv_scope.specs.Numbered.{inside_of, word_in}
 
 pub words-flat : (parts : List Part) → words_of parts ≡ flat_map word_in parts

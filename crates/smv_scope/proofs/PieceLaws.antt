@@ -1,5 +1,5 @@
 -- The tops of a text, as they were noted.
-use Rattle.std.proofs.Common.{◌≡◌, ℕ, zero, suc, ◌<◌, List, [], ◌∷◌, ◌++◌, map, length, take, Bool, true, false, cond, refl, ap, sym, ◌∙◌, arith, Bor}
+use Rattle.std.proofs.Common.{◌≡◌, ℕ, zero, suc, List, [], ◌∷◌, map, take, Bool, true, false, cond, refl, ap, sym, ◌∙◌, Bor}
 use Rattle.std.specs.Prelude.{Option, Some, None, option_map, option_and_then, slice_get}
 use Rattle.std.specs.Option.{option_map_or, option_copied}
 use Rattle.std.proofs.lemmas.Option.{slice_get-map}
@@ -12,7 +12,7 @@ use Rattle.smv_core.specs.declared.tree.Top.{Top}
 use Rattle.smv_core.specs.declared.tree.Top.TheVariants.{SetType, Alias, Module}
 use Rattle.smv_instances.specs.declared.pieces.Piece.{Piece as NotedPiece}
 use Rattle.smv_instances.specs.Mentions.{Mention}
-use Rattle.smv_instances.specs.Scopes.{Known, Piece, Body, Own, Constant, piece_of, known_after, pieces_from, pieces, body_if_module, module_named, own_names, constants, Scope, scope_of}
+use Rattle.smv_instances.specs.Scopes.{Known, Piece, Body, Own, piece_of, known_after, pieces_from, pieces, body_if_module, module_named, own_names, constants, Scope, scope_of}
 use Rattle.smv_instances.specs.Said.{said, told, told_by, AreNoted}
 use Rattle.name_index.specs.Position.{position}
 use Rattle.name_index.proofs.Finding.{find_name-place}

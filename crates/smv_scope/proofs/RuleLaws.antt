@@ -1,13 +1,13 @@
 -- What is wrong in the top of a number.
-use Rattle.std.proofs.Common.{◌≡◌, ℕ, zero, suc, ◌+◌, ◌<◌, ◌≤◌, List, [], ◌∷◌, ◌++◌, map, length, drop, refl, ap, sym, ◌∙◌, arith, Bor}
-use Rattle.std.specs.Prelude.{Option, Some, None, slice_get}
+use Rattle.std.proofs.Common.{◌≡◌, ℕ, zero, suc, ◌+◌, ◌≤◌, List, [], ◌∷◌, ◌++◌, map, length, drop, refl, ap, sym, ◌∙◌, arith}
+use Rattle.std.specs.Prelude.{Option, Some, slice_get}
 use Rattle.std.specs.List.{flat_map}
 use Rattle.std.proofs.lemmas.List.{length-map}
 use Rattle.smv_core.specs.declared.tree.Word.{Word}
 use Rattle.smv_core.specs.declared.tree.Text.{Text}
 use Rattle.smv_instances.specs.declared.pieces.Piece.{Piece as NotedPiece}
 use Rattle.smv_instances.specs.Scopes.{Piece, Scope, pieces, scope_of, first_of_places}
-use Rattle.smv_instances.specs.NameFaults.{formal_undeclared, undeclared, undeclared_in, formals_of, miscounted, miscounted_in}
+use Rattle.smv_instances.specs.NameFaults.{formal_undeclared, undeclared, undeclared_in, formals_of}
 use Rattle.smv_instances.specs.Said.{said, told, AreNoted}
 use Rattle.smv_scope.specs.ScopeFault.{least}
 use Rattle.smv_scope.specs.Numbered.{scope_at}

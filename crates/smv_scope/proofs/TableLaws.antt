@@ -1,6 +1,6 @@
 -- What the tables of a text hold, from what was noted of it.
 use Rattle.std.proofs.Common.{◌≡◌, ℕ, zero, suc, ◌+◌, ◌<◌, List, [], ◌∷◌, ◌++◌, map, length, get_or, drop, refl, ap, sym, ◌∙◌, arith, append_assoc, Bor}
-use Rattle.std.specs.Prelude.{Option, Some, None, slice_get}
+use Rattle.std.specs.Prelude.{Some, slice_get}
 use Rattle.std.specs.Option.{option_map_or}
 use Rattle.std.specs.List.{flat_map}
 use Rattle.std.proofs.lemmas.List.{map-append, append-nil}
@@ -13,10 +13,10 @@ use Rattle.smv_core.specs.declared.tree.Top.{Top}
 use Rattle.smv_core.specs.declared.tree.Top.TheVariants.{SetType, Alias, Module}
 use Rattle.smv_instances.specs.declared.pieces.Piece.{Piece as NotedPiece}
 use Rattle.smv_instances.specs.declared.mentions.Mention.{Mention as Noted}
-use Rattle.smv_instances.specs.Mentions.{What, Mention, declares, binds, follows, names_type, lists_constants, has_fields, instantiates}
-use Rattle.smv_instances.specs.Scopes.{Known, Piece, Own, Constant, known_after, pieces_from, pieces, own_names, constants_in, constants}
+use Rattle.smv_instances.specs.Mentions.{Mention, declares, binds, follows, names_type, lists_constants, has_fields, instantiates}
+use Rattle.smv_instances.specs.Scopes.{Known, Piece, Constant, known_after, pieces_from, pieces, own_names, constants_in, constants}
 use Rattle.smv_instances.specs.Said.{said, told, told_by, AreNoted}
-use Rattle.smv_scope.specs.Held.{constant_beside, constant_of, constants_of_list, lists_of}
+use Rattle.smv_scope.specs.Held.{constant_beside, constants_of_list, lists_of}
 use Rattle.smv_scope.specs.declared.tables.Constant.{Constant as HeldConstant}
 use Rattle.smv_scope.proofs.PieceLaws.{Told}
 

@@ -1,12 +1,11 @@
 -- What the tables of a text hold.
-use Rattle.std.specs.Prelude.{◌≡◌, ℕ, ◌<◌, List, [], ◌∷◌, map, length, Option, Some, None, option_map, slice_get, Bool, true, false}
+use Rattle.std.specs.Prelude.{◌≡◌, ℕ, List, [], ◌∷◌, map, length, Option, Some, None, option_map, slice_get}
 use Rattle.std.specs.Option.{option_map_or}
 use Rattle.std.proofs.Common.{Bor}
 use Rattle.smv_core.specs.Values.{Name}
 use Rattle.smv_core.specs.Types.{names_of}
 use Rattle.smv_core.specs.declared.tree.Word.{Word}
 use Rattle.smv_core.specs.declared.tree.Text.{Text}
-use Rattle.smv_core.specs.declared.tree.Top.{Top}
 use Rattle.smv_instances.specs.Scopes.{Fields, Known, Piece, Own, Constant, Body, no_field, own_names, constants as all_constants, pieces}
 use Rattle.smv_instances.specs.Mentions.{Mention, lists_constants}
 use Rattle.smv_instances.specs.declared.pieces.Piece.{Piece as NotedPiece}

@@ -1,5 +1,5 @@
 -- The tops of a text by their numbers, and where something stands in the top of a number.
-use Rattle.std.specs.Prelude.{ℕ, List, [], ◌∷◌, ◌++◌, map, flat_map, Option, Some, None, option_map, option_and_then, slice_get, take, if◌then◌else◌, Bool, true, false, ◌&&◌, nat_lt}
+use Rattle.std.specs.Prelude.{ℕ, List, [], ◌∷◌, map, Option, Some, None, option_map, option_and_then, slice_get, take, if◌then◌else◌, Bool, true, false, ◌&&◌, nat_lt}
 use Rattle.name_index.specs.Position.{position}
 use Rattle.std.specs.Option.{option_map_or}
 use Rattle.smv_core.specs.Values.{Name}
@@ -11,7 +11,7 @@ use Rattle.smv_core.specs.declared.tree.Field.{Field, out-Field}
 use Rattle.smv_core.specs.declared.tree.Part.{Part, Field as PartField, At}
 use Rattle.smv_core.specs.Types.{find_name}
 use Rattle.smv_instances.specs.Mentions.{Mention}
-use Rattle.smv_instances.specs.Scopes.{Fields, Known, Piece, Body, Own, Scope, known_after, pieces, constants, own_names, no_field, has_name, fields_of, fields_if_type}
+use Rattle.smv_instances.specs.Scopes.{Fields, Known, Body, Own, Scope, known_after, pieces, constants, own_names, no_field, has_name, fields_of, fields_if_type}
 
 -- what is known after these tops
 abbrev pub known_from : Known → List Top → Known

@@ -1,5 +1,5 @@
 -- Where the rules about names are broken in a top.
-use Rattle.std.specs.Prelude.{ℕ, List, [], ◌∷◌, ◌++◌, map, filter, is_some}
+use Rattle.std.specs.Prelude.{ℕ, List, [], ◌∷◌, ◌++◌, filter, is_some}
 use Rattle.smv_core.specs.Values.{Name}
 use Rattle.smv_core.specs.Types.{find_name}
 use Rattle.smv_core.specs.declared.tree.Word.{Word}

@@ -1,9 +1,9 @@
 // The tables of a text.
-ghost use Rattle.std.specs.Prelude.{◌≡◌, ◌≤◌, [], ◌∷◌, ◌++◌, List, map, min, length, slice_get, Some, IfOk, OnOk};
+ghost use Rattle.std.specs.Prelude.{◌≡◌, ◌≤◌, [], ◌∷◌, ◌++◌, List, map, min, length, Some, IfOk, OnOk};
 ghost use Rattle.std.specs.List.{flat_map};
 ghost use Rattle.smv_core.specs.declared.tree.Word.{Word};
 ghost use Rattle.smv_instances.specs.Scopes.{own_names};
-ghost use Rattle.smv_instances.specs.Said.{said, AreNoted, words_at};
+ghost use Rattle.smv_instances.specs.Said.{said, AreNoted};
 ghost use Rattle.smv_scope.specs.Numbered.{top_names, top_word, fields_at};
 ghost use Rattle.smv_scope.specs.Held.{AreLed, AreTables, fields_led, own_beside, lists_of, constants_of_list, constant_beside};
 

@@ -3,7 +3,7 @@
 //! For verdicts. It answers the first event of the schedule (`specs/Verdict`); what it keeps alive is exactly what the schedule counts.
 #![tactic(auto)]
 
-ghost use Rattle.std.specs.Prelude.{◌≡◌, ℕ, ◌≤◌, ◌<◌, IfOk, OnOk, List, [], ◌∷◌, ◌++◌, drop, length};
+ghost use Rattle.std.specs.Prelude.{◌≡◌, ℕ, ◌≤◌, ◌<◌, IfOk, OnOk, List, ◌++◌, drop, length};
 ghost use Rattle.bdd_store.specs.declared.Ref.{Ref};
 ghost use Rattle.bdd_store.specs.Beads.{bead_count};
 ghost use Rattle.bdd_store.specs.Diagram.{Diagram, IsLive, IsKept, held, tables_of};

@@ -1,5 +1,5 @@
 // Operations on P, one after another.
-ghost use Rattle.std.specs.Prelude.{◌≡◌, ◌↔◌, ℕ, Bool, false, IsTrue, IfOk, OnOk, List, [], ◌∷◌, ◌++◌, map};
+ghost use Rattle.std.specs.Prelude.{◌≡◌, ◌↔◌, ℕ, Bool, false, IsTrue, IfOk, OnOk, [], ◌∷◌, ◌++◌, map};
 ghost use Rattle.bdd_store.specs.declared.Ref.{Ref};
 ghost use Rattle.bdd_store.specs.Diagram.{Diagram, IsLive, Keeps, table};
 ghost use Rattle.smv_rings.specs.Schedule.{made_by};

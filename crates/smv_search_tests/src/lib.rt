@@ -3,7 +3,7 @@
 //! Nothing stands on it.
 #![tactic(auto)]
 
-ghost use Rattle.std.specs.Prelude.{◌≡◌, ℕ, ◌*◌, ◌≤◌, ◌<◌, Bool, true, IsTrue, IfOk, IfSome, map};
+ghost use Rattle.std.specs.Prelude.{◌≡◌, ◌*◌, ◌≤◌, ◌<◌, true, IsTrue, IfOk, IfSome, map};
 ghost use Rattle.bdd_store.specs.declared.Ref.{Ref};
 ghost use Rattle.bdd_store.specs.Diagram.{IsLive, AreLive, Keeps, first_var, table};
 ghost use Rattle.smv_rings.specs.Lists.{IsCurrent, AllCurrent, IsRel};

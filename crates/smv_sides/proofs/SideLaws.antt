@@ -4,7 +4,7 @@ use Rattle.std.specs.List.{list_any}
 use Rattle.smv_core.specs.Outcome.{is_true}
 use Rattle.smv_core.specs.declared.flat.Simple.{Simple}
 use Rattle.smv_core.specs.declared.flat.FlatMember.{FlatMember}
-use Rattle.smv_core.specs.declared.flat.FlatExpr.{FlatExpr, Choose, Choose', Each, Each', None', Some', List as ListOf, List', out-FlatExpr, roll-FlatExpr, roll-out-FlatExpr, end_of-FlatExpr, more_of-FlatExpr, Row_of-FlatMember, items-the_row-FlatMember, items_shown-the_row-FlatMember-3}
+use Rattle.smv_core.specs.declared.flat.FlatExpr.{FlatExpr, Choose, Choose', Each, Each', None', Some', List as ListOf, List', out-FlatExpr, roll-FlatExpr, roll-out-FlatExpr, end_of-FlatExpr, more_of-FlatExpr, items-the_row-FlatMember, items_shown-the_row-FlatMember-3}
 use Rattle.smv_abstraction.specs.Places.{is_among}
 use Rattle.smv_abstraction.specs.May.{seen, may}
 use Rattle.smv_abstraction.specs.Right.{may_allow, must_allow, is_false, is_neither, chosen_surely}

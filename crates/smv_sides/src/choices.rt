@@ -1,5 +1,5 @@
 // What a comprehension may choose, and what it chooses for certain.
-ghost use Rattle.std.specs.Prelude.{◌≡◌, [], ◌∷◌, map, IfOk, OnOk, option_copied};
+ghost use Rattle.std.specs.Prelude.{[], ◌∷◌, map, IfOk, OnOk, option_copied};
 ghost use Rattle.law_outcomes.specs.RightSides.{may_hold, must_hold};
 ghost use Rattle.smv_spots.specs.Spots.{place_in};
 ghost use Rattle.smv_conditions.specs.Keep.{KeepsConditions};

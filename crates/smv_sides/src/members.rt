@@ -9,7 +9,7 @@ ghost use Rattle.smv_sides.specs.Sides.{member_means, members_mean, stands_for};
 use crate::outcomes::{some_number, some_outcome};
 use smv_cells::Cell;
 use smv_conditions::conditions::Conditions;
-use smv_core::flat::{FlatExpr, FlatMember};
+use smv_core::flat::FlatMember;
 use smv_problem::Problem;
 use smv_spots::spots::Spot;
 use smv_targets::targets::{Sense, Target};

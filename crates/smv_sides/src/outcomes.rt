@@ -1,5 +1,5 @@
 // Right sides with outcomes of their own: no set, and no conditional.
-ghost use Rattle.std.specs.Prelude.{◌≡◌, ◌≤◌, ◌-◌, IfOk};
+ghost use Rattle.std.specs.Prelude.{◌≤◌, ◌-◌, IfOk};
 ghost use Rattle.smv_core.specs.Values.{numbers_from};
 ghost use Rattle.smv_conditions.specs.Keep.{KeepsConditions};
 ghost use Rattle.smv_cells.specs.Cells.{AreCellsMade};

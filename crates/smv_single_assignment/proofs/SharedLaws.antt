@@ -1,7 +1,7 @@
 -- Assignments that share their variables, and parts of the list between which none clash.
-use Rattle.std.proofs.Common.{◌≡◌, ◌≤◌, ◌<◌, ℕ, zero, suc, Bor, ◌+◌, ◌-◌, List, [], ◌∷◌, ◌++◌, map, filter, length, get_or, take, drop, zip, Bool, true, false, not, cond, ◌&&◌, ◌||◌, refl, ap, sym, ◌∙◌, arith, subst, ◌⊎◌, inl, inr}
+use Rattle.std.proofs.Common.{◌≡◌, ◌≤◌, ◌<◌, ℕ, zero, suc, Bor, ◌+◌, ◌-◌, List, [], ◌∷◌, ◌++◌, map, filter, length, get_or, take, drop, Bool, true, false, not, cond, ◌&&◌, ◌||◌, refl, ap, sym, ◌∙◌, arith, subst, ◌⊎◌, inl, inr}
 use Rattle.std.specs.Prelude.{Option, Some, slice_get, nat_eq}
-use Rattle.std.specs.List.{list_any, list_all, Contains}
+use Rattle.std.specs.List.{list_all, Contains}
 use Rattle.std.specs.HashMap.{HashMap}
 use Rattle.std.specs.Global.{Vec}
 use Rattle.std.proofs.lemmas.Bool.{cases_eq, eqb-true}

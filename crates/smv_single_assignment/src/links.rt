@@ -1,5 +1,5 @@
 // Assignments with links, so that each is compared only with earlier ones that it may meet.
-ghost use Rattle.std.specs.Prelude.{◌≡◌, ◌≤◌, ◌<◌, ℕ, length, map, get_or, true, if◌then◌else◌, IfOk};
+ghost use Rattle.std.specs.Prelude.{◌≡◌, ◌<◌, ℕ, length, map, get_or, true, if◌then◌else◌, IfOk};
 ghost use Rattle.smv_single_assignment.specs.Held.{standing_of};
 ghost use Rattle.smv_single_assignment.specs.Links as spec;
 ghost use Rattle.smv_single_assignment.specs.Links.{AreClassed, AreLinked, IsTable, held};

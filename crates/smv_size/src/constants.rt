@@ -1,9 +1,9 @@
 // How many constants of all enumerations are different, up to a limit.
-ghost use Rattle.std.specs.Prelude.{◌≡◌, ℕ, ◌+◌, [], ◌∷◌, List, map, length, min, nat_lt, OnOk, IfOk};
+ghost use Rattle.std.specs.Prelude.{◌≡◌, ℕ, ◌+◌, [], ◌∷◌, map, length, min, nat_lt, OnOk, IfOk};
 ghost use Rattle.smv_core.specs.Types.{names_of};
-ghost use Rattle.smv_instances.specs.Said.{AreNoted, said, told};
+ghost use Rattle.smv_instances.specs.Said.{AreNoted, said};
 ghost use Rattle.smv_instances.specs.Sizes.{count_different, constant_names};
-ghost use Rattle.smv_size.specs.Constants.{Counts, constants_said, constants_told};
+ghost use Rattle.smv_size.specs.Constants.{Counts, constants_said};
 
 use name_index::NameIndex;
 use smv_core::name::Name;

@@ -1,5 +1,5 @@
 // A module that contains itself.
-ghost use Rattle.std.specs.Prelude.{◌≡◌, ℕ, ◌<◌, [], ◌∷◌, ◌++◌, map, flat_map, length, List, Option, None, OnOk, IfOk, IfSome};
+ghost use Rattle.std.specs.Prelude.{◌≡◌, ◌<◌, [], ◌∷◌, ◌++◌, map, flat_map, length, Option, None, OnOk, IfOk, IfSome};
 ghost use Rattle.std.specs.List.{filter_map};
 ghost use Rattle.name_index.specs.Position.{position};
 ghost use Rattle.graphs.specs.Graph.{lists, IsGraph};
@@ -12,7 +12,6 @@ ghost use Rattle.smv_size.specs.Recursion.{first_recursion, recursion_at, least_
 use graphs::ranks;
 use name_index::NameIndex;
 use smv_core::fault::Fault;
-use smv_core::name::Name;
 use smv_core::tree::Text;
 use smv_instances::mentions::Mention;
 use smv_instances::pieces::Piece;

@@ -1,5 +1,5 @@
 // What is met from each module on.
-ghost use Rattle.std.specs.Prelude.{◌≡◌, ℕ, List, map, length, IfOk};
+ghost use Rattle.std.specs.Prelude.{◌≡◌, List, map, length, IfOk};
 ghost use Rattle.smv_core.specs.Values.{Name};
 ghost use Rattle.smv_core.specs.FlatOrder.{Body};
 ghost use Rattle.smv_core.specs.FlatOrder as flat;

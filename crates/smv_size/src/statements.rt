@@ -1,5 +1,5 @@
 // How many statements are met in a statement, up to a limit.
-ghost use Rattle.std.specs.Prelude.{◌≡◌, ℕ, ◌+◌, ◌*◌, ◌≤◌, map, length};
+ghost use Rattle.std.specs.Prelude.{◌≡◌, ◌+◌, ◌*◌, ◌≤◌, length};
 ghost use Rattle.std.specs.List.{sum_by};
 ghost use Rattle.smv_core.specs.Walk.{steps_of};
 ghost use Rattle.smv_core.specs.declared.tree.Arm.{out-Arm};

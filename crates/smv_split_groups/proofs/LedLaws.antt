@@ -1,6 +1,6 @@
 -- What a search from the units finds is what leads to a unit.
-use Rattle.std.proofs.Common.{◌≡◌, ℕ, zero, suc, ◌+◌, ◌-◌, ◌<◌, ◌≤◌, ◌↔◌, ◌⊎◌, inl, inr, List, [], ◌∷◌, ◌++◌, map, length, get_or, replicate, Bool, true, false, ◌&&◌, ◌||◌, cond, refl, ap, sym, subst, ◌∙◌, arith}
-use Rattle.std.specs.Prelude.{Option, Some, None, option_map, slice_get, unwrap_or, if◌then◌else◌}
+use Rattle.std.proofs.Common.{◌≡◌, ℕ, zero, suc, ◌+◌, ◌-◌, ◌<◌, ◌⊎◌, inl, inr, List, [], ◌∷◌, map, length, get_or, replicate, Bool, true, false, ◌&&◌, ◌||◌, refl, ap, sym, subst, ◌∙◌, arith}
+use Rattle.std.specs.Prelude.{Option, Some, None, slice_get, unwrap_or, if◌then◌else◌}
 use Rattle.std.specs.List.{Contains, list_any, flat_map}
 use Rattle.std.specs.Str.{bytes_eq}
 use Rattle.std.proofs.lemmas.List.{length-map, length-replicate, ext_get_or}
@@ -10,13 +10,13 @@ use Rattle.smv_core.specs.Values.{Name}
 use Rattle.smv_core.specs.declared.flat.Design.{Design}
 use Rattle.smv_core.specs.declared.flat.FlatSplit.{FlatSplit}
 use Rattle.smv_core.specs.declared.flat.Unit.{Unit}
-use Rattle.smv_abstraction.specs.Sets.{Has, first, later}
+use Rattle.smv_abstraction.specs.Sets.{Has, first}
 use Rattle.smv_abstraction.proofs.Members.{Has-cases, Has-left, Has-right, Has-flat_map, Has-uncons, any-found, any-some}
 use Rattle.smv_abstraction.proofs.OneOfEach.{Has-from_flat_map, get_past, get_Has, Has_get}
 use Rattle.name_index.specs.Position.{position}
-use Rattle.graph_search.specs.Walks.{held, list_at, follow, Walk, here, step}
-use Rattle.graph_search.specs.Searches.{IsSeen, IsQueue, IsExplored, Saw}
-use Rattle.graph_search.proofs.ReachedLaws.{came, queued, marked_queue}
+use Rattle.graph_search.specs.Walks.{list_at, follow, Walk, here, step}
+use Rattle.graph_search.specs.Searches.{IsSeen, IsExplored, Saw}
+use Rattle.graph_search.proofs.ReachedLaws.{came, marked_queue}
 use Rattle.law_obligations.specs.Outlines.{unit_in}
 use Rattle.law_obligations.specs.Units.{units_of}
 use Rattle.law_obligations.proofs.Lookups.{inner, Has-tested}

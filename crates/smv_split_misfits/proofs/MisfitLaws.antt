@@ -1,6 +1,6 @@
 -- The misfits of a split, put together.
-use Rattle.std.proofs.Common.{◌≡◌, ℕ, List, [], ◌∷◌, ◌++◌, map, Bool, true, false, not, ◌||◌, nat_eq, refl, ap, sym, ◌∙◌, length, cond}
-use Rattle.std.specs.Prelude.{Option, Some, None, is_some, filter, option_to_list, find}
+use Rattle.std.proofs.Common.{◌≡◌, ℕ, List, [], ◌∷◌, ◌++◌, map, Bool, not, ◌||◌, nat_eq, refl, ap, sym, ◌∙◌, length, cond}
+use Rattle.std.specs.Prelude.{Option, filter}
 use Rattle.std.specs.List.{flat_map, list_any}
 use Rattle.std.specs.Str.{bytes_eq}
 use Rattle.smv_core.specs.Values.{Name}
@@ -9,14 +9,12 @@ use Rattle.smv_core.specs.declared.flat.Family.{Family}
 use Rattle.smv_core.specs.declared.flat.Param.{Param}
 use Rattle.smv_core.specs.declared.flat.FlatSplit.{FlatSplit}
 use Rattle.smv_core.specs.declared.flat.FlatPair.{FlatPair}
-use Rattle.name_index.specs.Position.{position}
 use Rattle.name_index.proofs.Finding.{position-known}
 use Rattle.smv_instances.specs.NameFaults.{place_if}
 use Rattle.smv_instances.specs.Scopes.{first_of_places}
 use Rattle.smv_scope.specs.ScopeFault.{least}
 use Rattle.smv_scope.proofs.LeastLaws.{least-append, first-assoc}
 use Rattle.law_splits.specs.Variables.{Reading, readings}
-use Rattle.law_splits.specs.Leaves.{with_name}
 use Rattle.law_splits.specs.SplitFaults as splits
 use Rattle.smv_split_misfits.specs.Parts as parts
 use Rattle.smv_split_misfits.specs.Parts.{first_among, right_names, repeated, standing_in, not_new_in, other_kind_in, equations_misfit}

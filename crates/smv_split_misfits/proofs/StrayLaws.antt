@@ -12,7 +12,7 @@ use Rattle.smv_instances.specs.NameFaults.{place_if}
 use Rattle.smv_instances.specs.Scopes.{first_of_places}
 use Rattle.smv_scope.specs.ScopeFault.{least}
 use Rattle.smv_scope.proofs.LeastLaws.{first-assoc, first-none}
-use Rattle.law_splits.specs.Variables.{Reading, readings, readings_each, readings_signed, readings_members, readings_held}
+use Rattle.law_splits.specs.Variables.{Reading, readings, readings_each, readings_signed, readings_members}
 use Rattle.smv_split_misfits.specs.Parts.{first_among, first_stray, is_stray, stray_in, member_stray, signed_stray}
 
 module _ (fs : List (Option ℕ)) where

@@ -1,5 +1,5 @@
 -- The misfits of splits as the code finds them: one name, one equation and one reading after the other.
-use Rattle.std.specs.Prelude.{◌≡◌, ℕ, List, [], ◌∷◌, ◌++◌, map, flat_map, filter, length, not, is_some, is_none, slice_get, Option, Some, None, Bool, false, ◌&&◌, if◌then◌else◌}
+use Rattle.std.specs.Prelude.{◌≡◌, ℕ, List, [], ◌∷◌, ◌++◌, map, filter, length, not, is_some, is_none, slice_get, Option, Some, None, Bool, false, ◌&&◌, if◌then◌else◌}
 use Rattle.std.specs.List.{list_any}
 use Rattle.smv_core.specs.Values.{Name, numbers_from}
 use Rattle.smv_core.specs.declared.tree.Word.{Word}

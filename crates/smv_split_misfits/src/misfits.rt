@@ -1,13 +1,11 @@
 // The first misfit of some splits.
-ghost use Rattle.std.specs.Prelude.{◌≡◌, ◌++◌, map, flat_map, not, IfOk, OnOk};
+ghost use Rattle.std.specs.Prelude.{◌≡◌, map, flat_map, not, IfOk};
 ghost use Rattle.std.specs.List.{list_any};
 ghost use Rattle.smv_instances.specs.NameFaults as faults;
 ghost use Rattle.smv_scope.specs.ScopeFault.{least};
 ghost use Rattle.law_splits.specs.Leaves.{with_name};
 ghost use Rattle.law_splits.specs.SplitFaults as spec;
-ghost use Rattle.smv_references.specs.Again.{placed, placed_words};
 ghost use Rattle.smv_split_misfits.specs.Parts as parts;
-ghost use Rattle.smv_split_misfits.specs.Parts.{AreRights};
 
 use crate::kinds::is_of_kind;
 use crate::rights::{Rights, is_in_one, make_rights};

@@ -1,5 +1,5 @@
 // The names to the right of the equations of a split.
-ghost use Rattle.std.specs.Prelude.{◌≡◌, ◌++◌, ◌∷◌, [], map, IfOk, OnOk};
+ghost use Rattle.std.specs.Prelude.{◌≡◌, ◌++◌, ◌∷◌, [], IfOk, OnOk};
 ghost use Rattle.smv_split_misfits.specs.Parts as parts;
 ghost use Rattle.smv_split_misfits.specs.Parts.{AreRights, repeated_if};
 

@@ -1,6 +1,6 @@
 -- New parameters.
-use Rattle.std.proofs.Common.{◌≡◌, ℕ, zero, suc, ◌+◌, ◌<◌, List, [], ◌∷◌, ◌++◌, map, drop, length, get_or, Bool, true, refl, ap, sym, subst, ◌∙◌, arith}
-use Rattle.std.specs.Prelude.{Option, Some, None, find, unwrap_or, option_copied}
+use Rattle.std.proofs.Common.{◌≡◌, ℕ, suc, ◌+◌, ◌<◌, List, [], ◌∷◌, ◌++◌, map, drop, length, get_or, refl, ap, sym, subst, ◌∙◌, arith}
+use Rattle.std.specs.Prelude.{Option, Some, None, find, unwrap_or}
 use Rattle.std.specs.Str.{bytes_eq}
 use Rattle.std.proofs.lemmas.List.{append_assoc}
 use Rattle.std.proofs.lemmas.Slice.Eq.{bytes_eq-Decides}
@@ -11,7 +11,7 @@ use Rattle.smv_core.specs.declared.flat.Simple.TheVariants.{Enum}
 use Rattle.smv_core.specs.declared.flat.Param.{Param}
 use Rattle.law_obligations.proofs.Lookups.{find-some}
 use Rattle.smv_scope.proofs.TableLaws.{from_here}
-use Rattle.law_splits.specs.Leaves.{numbered, bound_as, nameless}
+use Rattle.law_splits.specs.Leaves.{numbered, bound_as}
 
 -- the variable that is bound as a word has its name
 bound-name : (bound : List Param) (word : Word) → (bound_as bound word).name ≡ word.name

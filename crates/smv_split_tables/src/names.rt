@@ -1,5 +1,5 @@
 // The names of units, and of what splits are of.
-ghost use Rattle.std.specs.Prelude.{◌≡◌, [], map, slice_get, option_copied, IfOk};
+ghost use Rattle.std.specs.Prelude.{◌≡◌, [], map, option_copied, IfOk};
 ghost use Rattle.law_obligations.specs.Outlines.{unit_in};
 ghost use Rattle.law_splits.specs.Leaves as spec;
 ghost use Rattle.law_splits.specs.Leaves.{named_by, in_layer};

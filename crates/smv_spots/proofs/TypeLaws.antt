@@ -1,9 +1,9 @@
 -- The places of a type by spots.
-use Rattle.std.proofs.Common.{◌≡◌, ◌<◌, ℕ, zero, suc, ◌+◌, ◌-◌, List, [], ◌∷◌, ◌++◌, map, length, get_or, slice_get, Option, Some, None, Bool, true, false, ◌&&◌, ◌||◌, bytes_eq, nat_eq, nat_lt, nat_le, if◌then◌else◌, arith, refl, sym, ap, ◌∙◌, subst}
+use Rattle.std.proofs.Common.{◌≡◌, ℕ, zero, suc, ◌+◌, ◌-◌, List, [], ◌∷◌, ◌++◌, map, length, get_or, slice_get, Option, Some, None, Bool, true, false, ◌&&◌, ◌||◌, bytes_eq, nat_eq, nat_lt, nat_le, if◌then◌else◌, arith, refl, sym, ap, ◌∙◌}
 use Rattle.std.proofs.lemmas.Slice.Eq.{bytes_eq-Decides}
 use Rattle.std.specs.List.{list_any}
-use Rattle.smv_core.specs.Values.{Name, Value, number, constant, scalar, ordinal, same, Simple, range, choice, scalarset, ordset, values_of, numbers_from}
-use Rattle.smv_core.specs.Flat.{Numbered, simple_in, set_type}
+use Rattle.smv_core.specs.Values.{Name, number, constant, scalar, ordinal, same, scalarset, ordset, numbers_from}
+use Rattle.smv_core.specs.Flat.{set_type}
 use Rattle.smv_core.specs.declared.flat.Simple.{Simple as FlatSimple}
 use Rattle.smv_core.specs.declared.flat.Simple.TheVariants.{Range, Enum, Set}
 use Rattle.smv_core.specs.declared.flat.SetInfo.{SetInfo}
@@ -15,7 +15,7 @@ use Rattle.smv_abstraction.specs.Places.{Place, named, rest, World, named_in, re
 use Rattle.smv_spots.specs.declared.spots.Spot.{Spot}
 use Rattle.smv_spots.specs.declared.spots.Spot.TheVariants as spot
 use Rattle.smv_spots.specs.declared.places.Sort.TheVariants as sort
-use Rattle.smv_spots.specs.Spots.{name_of, is_ordset, of_set, both_or_none, is_same_set, place_of, place_by, spot_of, classes_of, count_beside, rests_of as rests_count, AreTypes, IsWorld}
+use Rattle.smv_spots.specs.Spots.{name_of, is_ordset, of_set, both_or_none, is_same_set, place_by, spot_of, classes_of, count_beside, rests_of as rests_count, AreTypes, IsWorld}
 use Rattle.smv_spots.proofs.Numbers.{same_maps, map_twice, along, number_among}
 
 -- what is known of a set type

@@ -1,5 +1,5 @@
 -- The abstract values of a type are as many as are counted of it as it is written.
-use Rattle.std.proofs.Common.{◌≡◌, ℕ, zero, suc, ◌+◌, ◌-◌, ◌≤◌, List, [], ◌∷◌, ◌++◌, map, length, Bool, true, false, cond, refl, sym, ap, subst, ◌∙◌, Option, Some, None, arith}
+use Rattle.std.proofs.Common.{◌≡◌, ℕ, zero, suc, ◌+◌, ◌-◌, ◌≤◌, List, [], ◌∷◌, ◌++◌, map, length, Bool, true, false, cond, refl, sym, ap, ◌∙◌, Option, Some, None, arith}
 use Rattle.std.specs.Prelude.{get_or}
 use Rattle.std.specs.List.{slice_get}
 use Rattle.std.proofs.lemmas.List.{length-append}
@@ -9,18 +9,16 @@ use Rattle.smv_core.specs.declared.flat.Simple.{Simple}
 use Rattle.smv_core.specs.declared.flat.Simple.TheVariants.{Range, Enum, Set}
 use Rattle.smv_core.specs.declared.flat.SetInfo.{SetInfo}
 use Rattle.smv_core.specs.declared.flat.Family.{Family}
-use Rattle.smv_core.specs.declared.flat.Element.{Element}
-use Rattle.smv_abstraction.specs.declared.abstract_type.Rest.{Rest}
 use Rattle.smv_abstraction.specs.declared.abstract_type.Rest.TheVariants as beside
 use Rattle.smv_abstraction.specs.declared.abstract_type.AbsType.{AbsType}
-use Rattle.smv_abstraction.specs.Places.{Place, named, rest, World, rests_beside, places_of, places_in}
+use Rattle.smv_abstraction.specs.Places.{named, rest, World, rests_beside, places_of, places_in}
 use Rattle.law_obligations.specs.Cones.{AbsElement}
 use Rattle.law_codes.specs.Codes.{bits_for}
 use Rattle.law_codes.specs.Readings.{Case, values_in, bits_of, bits_of_all, state_bits}
 use Rattle.smv_problem.specs.Written.{written, written_element, written_type}
-use Rattle.smv_problem.specs.WellFormed.{IsWellFormed, IsProblem}
+use Rattle.smv_problem.specs.WellFormed.{IsProblem}
 use Rattle.smv_problem.specs.declared.problem.Problem.{Problem}
-use Rattle.smv_state_bits.specs.StateBits.{count_of, count_in, count_for, bits_of_family, bits_of_elements, bits_in}
+use Rattle.smv_state_bits.specs.StateBits.{count_of, count_in, count_for, bits_of_elements, bits_in}
 
 length-map : {X Y : Type 0} (f : X → Y) (xs : List X) → length (map f xs) ≡ length xs
 length-map f [] = refl

@@ -8,7 +8,7 @@ ghost use Rattle.smv_abstraction.specs.Places.{rests_beside};
 ghost use Rattle.law_codes.specs.Codes.{bits_for};
 ghost use Rattle.law_codes.specs.Readings.{state_bits as bits_of_case};
 ghost use Rattle.smv_problem.specs.WellFormed.{IsProblem, OfCases};
-ghost use Rattle.smv_state_bits.specs.StateBits.{count_of, count_in, count_for, bits_of_family, bits_in};
+ghost use Rattle.smv_state_bits.specs.StateBits.{count_of, count_in, bits_of_family, bits_in};
 
 use smv_abstraction::{AbsType, Rest};
 use smv_core::flat::{Family, Simple};

@@ -1,5 +1,5 @@
 -- States by numbers are those of each case that is written so.
-use Rattle.std.proofs.Common.{◌≡◌, ◌≢◌, ℕ, zero, suc, ◌+◌, ◌-◌, ◌<◌, ◌≤◌, List, [], ◌∷◌, ◌++◌, map, length, get_or, Bool, true, false, ◌&&◌, ◌||◌, if◌then◌else◌, refl, sym, ap, subst, ◌∙◌, ◌⊎◌, inl, inr, Option, Some, None, option_map, nat_eq, nat_le, nat_lt, arith}
+use Rattle.std.proofs.Common.{◌≡◌, ℕ, ◌+◌, ◌-◌, ◌<◌, ◌≤◌, List, [], ◌∷◌, ◌++◌, map, length, get_or, Bool, true, false, ◌&&◌, ◌||◌, if◌then◌else◌, refl, sym, ap, subst, ◌∙◌, ◌⊎◌, inl, inr, Option, Some, None, nat_eq, nat_le, nat_lt, arith}
 use Rattle.std.specs.Prelude.{◌↔◌, IsTrue, unwrap_or}
 use Rattle.std.specs.List.{slice_get, list_any}
 use Rattle.std.proofs.lemmas.Bool.Decides.{nat_tests}
@@ -10,14 +10,13 @@ use Rattle.smv_core.specs.declared.flat.Simple.TheVariants.{Range, Enum, Set}
 use Rattle.smv_core.specs.declared.flat.Family.{Family}
 use Rattle.smv_core.specs.declared.flat.Element.{Element}
 use Rattle.smv_abstraction.specs.declared.abstract_type.AbsType.{AbsType}
-use Rattle.smv_abstraction.specs.declared.abstract_type.Rest.TheVariants as beside
 use Rattle.smv_abstraction.specs.Sets.{Has, first, later}
 use Rattle.smv_abstraction.specs.Places.{Place, named, World, places_in, rests_beside, AbsOutcome}
 use Rattle.smv_abstraction.specs.May.{AbsState, Kept}
 use Rattle.smv_abstraction.specs.Pictures.{IsAbsState}
 use Rattle.smv_abstraction.specs.Soundness.{over_of}
 use Rattle.smv_abstraction.specs.Covers.{IsIndexType}
-use Rattle.smv_abstraction.proofs.Members.{Has-left, Has-right, Has-cases, Has-map, Has-from_map, any-found, any-some}
+use Rattle.smv_abstraction.proofs.Members.{Has-left, Has-right, Has-cases, Has-map, Has-from_map, any-found}
 use Rattle.smv_abstraction.proofs.Tests.{true_or_false, left_of, right_of, and_both, same_tests}
 use Rattle.smv_abstraction.proofs.Spots.{Has-numbers, numbers-Has}
 use Rattle.smv_abstraction.proofs.OneOfEach.{get_Has}
@@ -32,7 +31,7 @@ use Rattle.smv_problem.specs.declared.problem.AbsValue.TheVariants as value
 use Rattle.smv_problem.specs.declared.problem.AbsState.{AbsState as StateData}
 use Rattle.smv_problem.specs.declared.problem.Problem.{Problem}
 use Rattle.smv_problem.specs.Written.{written, written_class, written_element, written_place, written_state, written_type, kind_in}
-use Rattle.smv_problem.specs.WellFormed.{AreDistinct, AreApartElements, IsWellFormed, OfCases, OfStates}
+use Rattle.smv_problem.specs.WellFormed.{AreApartElements, IsWellFormed, OfCases, OfStates}
 use Rattle.smv_readings.specs.States.{values_beside, values_in}
 use Rattle.smv_readings.proofs.Written.{values_written}
 use Rattle.smv_typed_spots.specs.TypedSpots.{class_spots, value_spot}
@@ -44,7 +43,7 @@ use Rattle.smv_conditions.specs.declared.stores.Plain.{Plain}
 use Rattle.smv_conditions.specs.Offers.{any_offer}
 use Rattle.smv_cells.specs.declared.cells.Cell.{Cell}
 use Rattle.smv_cells.specs.Cells.{is_cell_of}
-use Rattle.smv_cells.specs.Seen.{View, IsView, IsSeen}
+use Rattle.smv_cells.specs.Seen.{IsSeen}
 use Rattle.smv_states.specs.States.{type_of, is_value, are_values, state_cell, state_cells, plainly, view_of}
 
 inner : {X : Type 0} {x y : X} → Some x ≡ Some y → x ≡ y

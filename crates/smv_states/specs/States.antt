@@ -13,7 +13,6 @@ use Rattle.smv_problem.specs.declared.problem.AbsValue.{AbsValue}
 use Rattle.smv_problem.specs.declared.problem.AbsValue.TheVariants.{Number, Constant, Named, Rest}
 use Rattle.smv_typed_spots.specs.TypedSpots.{class_spots, value_spot}
 use Rattle.smv_conditions.specs.declared.stores.Plain.{Plain}
-use Rattle.smv_conditions.specs.declared.offers.Offer.{Offer}
 use Rattle.smv_cells.specs.declared.cells.Cell.{Cell}
 use Rattle.smv_cells.specs.Seen.{View}
 

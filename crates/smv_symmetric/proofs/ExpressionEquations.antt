@@ -14,7 +14,7 @@ use Rattle.smv_instances.specs.FirstFault.{first_of}
 use Rattle.smv_scope.specs.ScopeFault.{earlier_of}
 use Rattle.smv_scope.proofs.FirstLaws.{earlier-assoc, first-both}
 use Rattle.law_flat_kinds.specs.FlatKinds.{Vars, inside}
-use Rattle.law_set_types.specs.Operands.{Operand, met, disordered, wanted_at}
+use Rattle.law_set_types.specs.Operands.{met, disordered, wanted_at}
 use Rattle.law_set_types.specs.SetFaults as spec
 use Rattle.smv_symmetric.specs.Plain.{first_among, sort_in, operand, member_operand, members_in, members_of, fault_in, both_faults, member_fault, signed_fault, compared, chosen, listed, looked_for}
 

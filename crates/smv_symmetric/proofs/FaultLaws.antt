@@ -1,9 +1,8 @@
 -- In a text that keeps the rules of kinds, the faults by the kinds that the code finds are the faults of set types.
-use Rattle.std.proofs.Common.{◌≡◌, ℕ, List, [], ◌∷◌, ◌++◌, map, Bool, true, false, ◌&&◌, refl, ap, sym, ◌∙◌, subst}
+use Rattle.std.proofs.Common.{◌≡◌, List, [], ◌∷◌, ◌++◌, map, true, false, ◌&&◌, refl, ap, sym, ◌∙◌}
 use Rattle.std.specs.Prelude.{Option, Some, None, is_some, slice_get, nat_lt, length}
 use Rattle.std.specs.List.{flat_map, list_all}
 use Rattle.smv_core.specs.declared.fault.Fault.{Fault}
-use Rattle.smv_core.specs.declared.tree.Op.{Op}
 use Rattle.smv_core.specs.declared.flat.FlatPair.{FlatPair}
 use Rattle.smv_core.specs.declared.flat.Raw.{Raw}
 use Rattle.smv_core.specs.declared.flat.FlatMember.{One, Span as SpanOf}
@@ -12,7 +11,7 @@ use Rattle.smv_core.specs.declared.flat.FlatStmt.{FlatStmt, Assign, If', Block',
 use Rattle.smv_core.specs.declared.flat.FlatItem.{FlatItem}
 use Rattle.smv_core.specs.declared.flat.FlatItem.TheVariants as item
 use Rattle.smv_instances.specs.FirstFault.{first_of}
-use Rattle.law_flat_kinds.specs.FlatKinds.{Kind, number, takes, are_numbers, common, compares, chosen, element, take_each, assigns, Vars, inside, is_binder, kind_in, kinds_in, summands, members_in, looked_through, is_condition, value_in, keeps_kinds, all_keep_kinds, are_binders, bound_by, is_size, is_kinded_family, is_kinded_item, is_kinded}
+use Rattle.law_flat_kinds.specs.FlatKinds.{Kind, number, takes, are_numbers, common, compares, element, assigns, Vars, inside, is_binder, kind_in, kinds_in, summands, members_in, looked_through, is_condition, value_in, keeps_kinds, all_keep_kinds, are_binders, bound_by, is_size, is_kinded_family, is_kinded_item, is_kinded}
 use Rattle.law_flat_kinds.proofs.Operands.{both, pair, all-some, takes-some, numbers-some, each-some, if-some, common-some, number_if-true, compares-some, two-some, chosen-some, element-some}
 use Rattle.law_set_types.specs.Operands.{Operand, first_at, is_loop, met, disordered, wanted_at, wanted_of}
 use Rattle.law_set_types.specs.SetFaults as spec

@@ -1,5 +1,5 @@
 -- The places of expressions that are made of lists and values.
-use Rattle.std.proofs.Common.{◌≡◌, ℕ, List, [], ◌∷◌, refl, ap, ◌∙◌}
+use Rattle.std.proofs.Common.{◌≡◌, ℕ, List, refl, ap, ◌∙◌}
 use Rattle.smv_core.specs.declared.tree.Op.{Op}
 use Rattle.std.specs.Prelude.{Option}
 use Rattle.smv_core.specs.declared.flat.Simple.{Simple}

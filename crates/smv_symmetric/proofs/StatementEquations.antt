@@ -1,10 +1,9 @@
 -- The first fault of set types in statements that are made of lists and values, and in items.
-use Rattle.std.proofs.Common.{◌≡◌, ℕ, List, [], ◌∷◌, ◌++◌, map, refl, ap, ◌∙◌}
+use Rattle.std.proofs.Common.{◌≡◌, ℕ, List, [], ◌++◌, map, refl, ap, ◌∙◌}
 use Rattle.std.specs.Prelude.{Option, None, slice_get}
 use Rattle.std.specs.List.{flat_map}
 use Rattle.smv_core.specs.declared.tree.Kind.{Kind}
 use Rattle.smv_core.specs.declared.flat.Simple.{Simple}
-use Rattle.smv_core.specs.declared.flat.Param.{Param}
 use Rattle.smv_core.specs.declared.flat.Claim.{Claim}
 use Rattle.smv_core.specs.declared.flat.FlatPair.{FlatPair}
 use Rattle.smv_core.specs.declared.flat.FlatSplit.{FlatSplit}
@@ -18,7 +17,7 @@ use Rattle.law_flattening.proofs.FlatLists.{boxes}
 use Rattle.smv_instances.specs.FirstFault.{first_of}
 use Rattle.smv_scope.specs.ScopeFault.{earlier_of}
 use Rattle.smv_scope.proofs.FirstLaws.{earlier-assoc, first-both}
-use Rattle.law_flat_kinds.specs.FlatKinds.{Vars, kind_of, inside, bound_by}
+use Rattle.law_flat_kinds.specs.FlatKinds.{Vars, inside, bound_by}
 use Rattle.law_set_types.specs.Operands.{wanted_at, wanted_of}
 use Rattle.law_set_types.specs.SetFaults as spec
 use Rattle.smv_symmetric.specs.Plain.{first_among, sort_in, operand, fault_in, assigned_fault, statement_fault, both_statement_faults, item_fault}

@@ -3,11 +3,10 @@
 use Rattle.std.specs.Prelude.{ℕ, List, [], ◌∷◌, map, slice_get, Option, Some, None, false, if◌then◌else◌}
 use Rattle.smv_core.specs.declared.fault.Fault.{Fault}
 use Rattle.smv_core.specs.declared.tree.Op.{Op}
-use Rattle.smv_core.specs.declared.flat.Simple.{Simple}
 use Rattle.smv_core.specs.declared.flat.Family.{Family}
 use Rattle.smv_core.specs.declared.flat.FlatMember.{FlatMember, One, Span as SpanOf}
 use Rattle.smv_core.specs.declared.flat.FlatSigned.{FlatSigned, out-FlatSigned}
-use Rattle.smv_core.specs.declared.flat.FlatExpr.{FlatExpr, Read', Var, Constant, Choose', List', Each', Row_of-FlatExpr, end_of-FlatExpr, more_of-FlatExpr, Row_of-FlatMember, end_of-FlatMember, more_of-FlatMember}
+use Rattle.smv_core.specs.declared.flat.FlatExpr.{FlatExpr, Read', Var, Constant, Choose', List', Each', end_of-FlatExpr, more_of-FlatExpr, Row_of-FlatMember, end_of-FlatMember, more_of-FlatMember}
 use Rattle.smv_core.specs.declared.flat.FlatStmt.{FlatStmt}
 use Rattle.smv_core.specs.declared.flat.FlatItem.{FlatItem}
 use Rattle.smv_core.specs.declared.flat.Raw.{Raw}

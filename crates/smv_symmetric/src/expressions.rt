@@ -1,14 +1,10 @@
 // The first fault of set types in an expression.
-ghost use Rattle.std.specs.Prelude.{◌≡◌, ◌∷◌, ◌++◌, [], map, IfOk};
-ghost use Rattle.smv_instances.specs.FirstFault.{first_of};
+ghost use Rattle.std.specs.Prelude.{◌≡◌, [], map, IfOk};
 ghost use Rattle.law_flat_kinds.specs.FlatKinds as kinds;
 ghost use Rattle.law_flat_kinds.specs.FlatKinds.{kind_of};
-ghost use Rattle.law_set_types.specs.Operands as spec;
-ghost use Rattle.law_set_types.specs.SetFaults as faults;
 ghost use Rattle.smv_symmetric.specs.Plain as plain;
-ghost use Rattle.smv_symmetric.specs.Held.{as_met};
 
-use crate::operands::{Operand, add_members, disordered, met, operand_of, wanted_at};
+use crate::operands::{add_members, disordered, met, operand_of, wanted_at};
 use smv_core::fault::Fault;
 use smv_core::flat::{FlatExpr, FlatMember, FlatSigned, Raw, Simple};
 use smv_core::tree::Op;

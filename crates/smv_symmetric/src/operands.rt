@@ -1,19 +1,18 @@
 // What meets a set type.
-ghost use Rattle.std.specs.Prelude.{◌≡◌, ◌∷◌, map, filter, flat_map, zip, slice_get, Some, IfOk, OnOk, ◌++◌};
+ghost use Rattle.std.specs.Prelude.{◌≡◌, map, flat_map, zip, slice_get, Some, OnOk, ◌++◌};
 ghost use Rattle.std.specs.List.{list_any};
 ghost use Rattle.smv_instances.specs.FirstFault.{first_of};
 ghost use Rattle.law_flat_kinds.specs.FlatKinds.{kind_of};
 ghost use Rattle.law_set_types.specs.Operands as spec;
-ghost use Rattle.law_set_types.specs.SetFaults as faults;
 ghost use Rattle.smv_symmetric.specs.Plain as plain;
-ghost use Rattle.smv_symmetric.specs.Held.{held, as_met};
+ghost use Rattle.smv_symmetric.specs.Held.{as_met};
 
 use crate::kinds::{Kind, kind_in, kind_of};
 use smv_core::fault::Fault;
 use smv_core::flat::{FlatExpr, FlatMember, Raw, SetInfo, Simple};
 use smv_core::tree::Op;
 use smv_scope::scope::earlier;
-use std::alloc::{AllocError, Global};
+use std::alloc::AllocError;
 
 /// An operand: its kind, its place, and whether it is the variable of a `for` alone.
 #[derive(Clone, Copy)]

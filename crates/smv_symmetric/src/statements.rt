@@ -1,9 +1,6 @@
 // The first fault of set types in statements and items.
-ghost use Rattle.std.specs.Prelude.{◌≡◌, ◌++◌, [], map, flat_map, true, IfOk};
-ghost use Rattle.smv_instances.specs.FirstFault.{first_of};
-ghost use Rattle.law_flat_kinds.specs.FlatKinds as kinds;
-ghost use Rattle.law_flat_kinds.specs.FlatKinds.{kind_of, bound_by, is_kinded_item};
-ghost use Rattle.law_set_types.specs.SetFaults.{item_faults};
+ghost use Rattle.std.specs.Prelude.{◌≡◌, [], map, IfOk};
+ghost use Rattle.law_flat_kinds.specs.FlatKinds.{kind_of, bound_by};
 ghost use Rattle.smv_symmetric.specs.Plain as plain;
 
 use crate::expressions::{fault_in, faults_in, inside};

@@ -3,7 +3,6 @@
 use smv_io::{
     Bytes, FromRead, Never, NeverSink, ReadError, Taken, ToWrite, WriteError, read_all, write_all,
 };
-use std::alloc::{AllocError, Global};
 use std::io;
 use std::io::{ErrorKind, Read, Write};
 use std::test::Fail;

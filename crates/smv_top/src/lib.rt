@@ -3,7 +3,7 @@
 //! For the program: `run` carries the headline. What a call owes is said once, for all commands, in `law_answers`; each clause of `run` is one of the sentences of `specs/Clauses` over it.
 #![tactic(auto)]
 
-ghost use Rattle.std.specs.Prelude.{◌≡◌, ◌≢◌, ◌≤◌, ◌⊎◌, List, ℕ, map, length, IfSome, IfOk, Some, None, false, true};
+ghost use Rattle.std.specs.Prelude.{◌≡◌, ◌≢◌, ◌⊎◌, List, ℕ, map, IfSome, Some, None, false, true};
 ghost use Rattle.std.specs.String.{string_bytes};
 ghost use Rattle.std.specs.Io.KnownBytes.{Appends};
 ghost use Rattle.smv_io.specs.Causes.{Rose};

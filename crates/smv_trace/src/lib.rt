@@ -3,7 +3,7 @@
 //! For verdicts. `smv_ring_paths` goes back through the rings, and `smv_readings` reads each of its states as an abstract state of the problem.
 #![tactic(auto)]
 
-ghost use Rattle.std.specs.Prelude.{◌≡◌, ℕ, ◌<◌, List, map, length, IfOk};
+ghost use Rattle.std.specs.Prelude.{◌≡◌, ℕ, ◌<◌, List, map, IfOk};
 ghost use Rattle.std.specs.List.{All};
 ghost use Rattle.std.specs.Global.{Vec};
 ghost use Rattle.bdd_store.specs.declared.Ref.{Ref};

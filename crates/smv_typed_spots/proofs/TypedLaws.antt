@@ -1,10 +1,10 @@
 -- A place of a type is where the spot lies that is made of how it is written.
-use Rattle.std.proofs.Common.{◌≡◌, ◌≢◌, ℕ, zero, suc, ◌+◌, List, [], ◌∷◌, ◌++◌, map, get_or, Bool, true, false, if◌then◌else◌, refl, sym, ap, subst, ◌∙◌, ◌⊎◌, inl, inr, Option, Some, None, option_map, arith}
+use Rattle.std.proofs.Common.{◌≡◌, ℕ, zero, suc, ◌+◌, List, [], ◌∷◌, ◌++◌, map, get_or, Bool, true, false, if◌then◌else◌, refl, sym, ap, subst, ◌∙◌, ◌⊎◌, inl, inr, Option, Some, None, option_map, arith}
 use Rattle.std.specs.Prelude.{unwrap_or}
 use Rattle.std.specs.List.{slice_get}
 use Rattle.std.specs.Str.{bytes_eq}
 use Rattle.std.proofs.lemmas.Slice.Eq.{bytes_eq-Decides}
-use Rattle.smv_core.specs.Values.{Name, Value, number, constant, scalar, ordinal}
+use Rattle.smv_core.specs.Values.{Name, constant, scalar, ordinal}
 use Rattle.smv_core.specs.Flat.{Numbered}
 use Rattle.smv_core.specs.declared.flat.Simple.{Simple}
 use Rattle.smv_core.specs.declared.flat.Simple.TheVariants.{Range, Enum, Set}
@@ -12,7 +12,7 @@ use Rattle.smv_core.specs.declared.flat.SetInfo.{SetInfo}
 use Rattle.smv_core.specs.declared.flat.Class.{Class}
 use Rattle.smv_core.specs.declared.flat.Class.TheVariants as class
 use Rattle.smv_abstraction.specs.Sets.{Has, first, later}
-use Rattle.smv_abstraction.specs.Places.{Place, named, rest, World, named_in, rests_in, places_in}
+use Rattle.smv_abstraction.specs.Places.{Place, named, rest, World, rests_in, places_in}
 use Rattle.smv_abstraction.specs.Pictures.{AreNamedOf}
 use Rattle.smv_abstraction.specs.Covers.{IsIndexType, AreApart}
 use Rattle.smv_abstraction.proofs.Members.{Has-left, Has-uncons}
@@ -20,11 +20,9 @@ use Rattle.smv_abstraction.proofs.Tests.{true_or_false}
 use Rattle.smv_abstraction.proofs.OneOfEach.{get_Has}
 use Rattle.law_obligations.specs.Outlines.{place_of}
 use Rattle.law_flat_kinds.specs.FlatKinds.{Kind, enumeration, set_type, kind_of}
-use Rattle.law_flat_kinds.specs.FlatKinds as kind
 use Rattle.smv_spots.specs.declared.spots.Spot.{Spot}
 use Rattle.smv_spots.specs.declared.spots.Spot.TheVariants as spot
 use Rattle.smv_spots.specs.Spots.{place_in, outcome_in, of_set}
-use Rattle.smv_problem.specs.declared.problem.AbsValue.{AbsValue}
 use Rattle.smv_problem.specs.declared.problem.AbsValue.TheVariants as value
 use Rattle.smv_problem.specs.Written.{written_class, written_place, written_spot, set_number, constant_or, constant_from}
 use Rattle.smv_problem.specs.WellFormed.{AreOf}

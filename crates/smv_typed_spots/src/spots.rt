@@ -1,5 +1,5 @@
 // Indexes and values as spots.
-ghost use Rattle.std.specs.Prelude.{◌≡◌, ◌++◌, [], IfOk, drop, slice_get};
+ghost use Rattle.std.specs.Prelude.{◌≡◌, [], IfOk, slice_get};
 ghost use Rattle.smv_abstraction.specs.Soundness.{over_of};
 ghost use Rattle.smv_typed_spots.specs.TypedSpots as spec;
 

@@ -1,7 +1,7 @@
 // The families that parts of definitions read.
-ghost use Rattle.std.specs.Prelude.{◌≡◌, ◌||◌, ◌++◌, [], flat_map, take, if◌then◌else◌, IfOk};
+ghost use Rattle.std.specs.Prelude.{◌≡◌, ◌||◌, ◌++◌, flat_map, take, if◌then◌else◌, IfOk};
 ghost use Rattle.std.specs.List.{list_any};
-ghost use Rattle.smv_unit_tables.specs.Reads.{has_assignment, part_reads, read_in};
+ghost use Rattle.smv_unit_tables.specs.Reads.{has_assignment, part_reads};
 
 use crate::expressions::{add_all, add_read};
 use smv_core::flat::{Family, Flat};

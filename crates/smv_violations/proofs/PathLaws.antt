@@ -1,5 +1,5 @@
 -- One time of a path after the other.
-use Rattle.std.proofs.Common.{◌≡◌, ℕ, List, [], ◌∷◌, map, length, arith, Bool, true, false, ◌&&◌, refl, sym, ap, subst, ◌∙◌, Option, Some, None}
+use Rattle.std.proofs.Common.{◌≡◌, List, [], ◌∷◌, map, length, arith, Bool, true, false, ◌&&◌, refl, sym, ap, subst, ◌∙◌, Option, Some, None}
 use Rattle.std.specs.Prelude.{◌↔◌, IsTrue}
 use Rattle.std.specs.List.{list_all}
 use Rattle.smv_abstraction.specs.Sets.{Has, first, later}

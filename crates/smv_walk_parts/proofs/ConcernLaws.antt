@@ -1,7 +1,7 @@
 -- Which assignments concern an element, on definitions that are made of lists and values.
-use Rattle.std.proofs.Common.{◌≡◌, ℕ, List, [], ◌∷◌, ◌++◌, map, length, arith, slice_get, Option, Some, None, Bool, true, false, ◌&&◌, ◌||◌, refl, sym, ap, ◌∙◌, if◌then◌else◌}
+use Rattle.std.proofs.Common.{◌≡◌, ℕ, List, [], ◌∷◌, map, length, arith, slice_get, Option, Some, None, Bool, true, false, ◌&&◌, ◌||◌, refl, sym, ap, ◌∙◌, if◌then◌else◌}
 use Rattle.std.specs.List.{list_any}
-use Rattle.smv_core.specs.Values.{Value, number, constant, scalar, ordinal, same}
+use Rattle.smv_core.specs.Values.{number, scalar, ordinal, same}
 use Rattle.smv_core.specs.Assignments.{Index, fixed}
 use Rattle.smv_core.specs.Flat.{Numbered, flat_index, indexes_assigned, indexes_assigned_in}
 use Rattle.smv_core.specs.declared.flat.SetInfo.{SetInfo}

@@ -1,5 +1,5 @@
 -- The first result of several parts.
-use Rattle.std.proofs.Common.{◌≡◌, ℕ, List, [], ◌∷◌, map, length, Bool, refl, sym, ap, ◌∙◌, arith, subst}
+use Rattle.std.proofs.Common.{◌≡◌, ℕ, List, [], ◌∷◌, map, length, Bool, sym, ap, ◌∙◌, arith, subst}
 use Rattle.law_outcomes.specs.Gist.{Gist, first_gist, first_all}
 use Rattle.smv_conditions.specs.declared.gists.Gists.{Gists}
 use Rattle.smv_conditions.specs.Keep.{KeepsConditions}

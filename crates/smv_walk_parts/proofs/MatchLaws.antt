@@ -1,13 +1,12 @@
 -- Whether an assignment is to the element, index by index.
-use Rattle.std.proofs.Common.{◌≡◌, ℕ, List, [], ◌∷◌, map, drop, length, slice_get, Option, Some, None, Bool, ◌&&◌, ◌||◌, refl, sym, ap, ◌∙◌, arith, subst}
-use Rattle.std.specs.List.{list_any}
+use Rattle.std.proofs.Common.{◌≡◌, ℕ, List, [], ◌∷◌, map, drop, length, slice_get, Option, Bool, refl, sym, ap, ◌∙◌, arith, subst}
 use Rattle.smv_core.specs.Values.{Truth}
 use Rattle.smv_core.specs.Flat.{Numbered}
 use Rattle.smv_core.specs.Outcome.{is_true}
 use Rattle.smv_core.specs.declared.flat.FlatExpr.{FlatExpr}
 use Rattle.smv_abstraction.specs.Places.{AbsOutcome}
 use Rattle.smv_abstraction.specs.Right.{is_false, is_neither}
-use Rattle.law_outcomes.specs.Mix.{Mix, mix_by, only_yes, none_at_all, and_mix}
+use Rattle.law_outcomes.specs.Mix.{mix_by, only_yes, none_at_all, and_mix}
 use Rattle.law_outcomes.specs.Gist.{matches_all}
 use Rattle.law_outcomes.proofs.MixLaws.{same_mix}
 use Rattle.smv_spots.specs.declared.spots.Spot.{Spot}

@@ -1,5 +1,5 @@
 // The way down a definition.
-ghost use Rattle.std.specs.Prelude.{◌≡◌, ℕ, Bool, IfOk, []};
+ghost use Rattle.std.specs.Prelude.{◌≡◌, IfOk, []};
 ghost use Rattle.smv_conditions.specs.Keep.{KeepsConditions};
 ghost use Rattle.smv_conditions.specs.Gists.{AreGistsMade};
 ghost use Rattle.smv_cells.specs.Cells.{AreCellsMade};

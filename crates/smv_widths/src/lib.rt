@@ -3,7 +3,7 @@
 //! For the call that reads a design, after which cones and problems refuse nothing. A reader begins with `specs/Widths`.
 #![tactic(auto)]
 
-ghost use Rattle.std.specs.Prelude.{◌≡◌, ℕ, List, None, Some, length, map, slice_get, IfOk, OnOk};
+ghost use Rattle.std.specs.Prelude.{◌≡◌, List, None, Some, length, IfOk, OnOk};
 ghost use Rattle.smv_core.specs.declared.flat.Class.{Class};
 ghost use Rattle.smv_core.specs.declared.flat.Leaf.{Leaf};
 ghost use Rattle.smv_core.specs.declared.flat.Choice.{Choice};

@@ -1,5 +1,5 @@
 // The command line as clap is told of it.
-ghost use Rattle.std.specs.Prelude.{◌≡◌, [], IfOk, codes};
+ghost use Rattle.std.specs.Prelude.{◌≡◌, [], IfOk};
 ghost use Rattle.clap.specs.Simple.{app_of};
 ghost use Rattle.smv_words.specs.Built.{HasShape, HasRule};
 ghost use Rattle.smv_words.specs.CommandLine as line;

@@ -1,9 +1,8 @@
 //! What the definition of commands comes to. Each law is the contract of a function that does nothing.
-ghost use Rattle.std.specs.Prelude.{◌≡◌, ◌↔◌, Some, None, List, [], ◌∷◌, codes, is_some, true};
+ghost use Rattle.std.specs.Prelude.{◌≡◌, ◌↔◌, Some, List, is_some, true};
 ghost use Rattle.clap.specs.Walk.{Text};
 ghost use Rattle.smv_command.specs.Ranges.{IsInRange};
 ghost use Rattle.smv_command.specs.declared.Command.{Command};
-ghost use Rattle.smv_command.specs.declared.Command.TheVariants.{Prove, Only, Print, Generated};
 ghost use Rattle.smv_words.specs.Commands.{AreTaken, command_of};
 
 /// Words are a command exactly where clap gives matches.

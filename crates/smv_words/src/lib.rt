@@ -4,7 +4,7 @@
 //! the numbers of a command are in range. To add a command: its shape in `CommandLine`, its builder in `command_line.rt`, a row in `named`, and its arm here.
 #![tactic(auto)]
 
-ghost use Rattle.std.specs.Prelude.{◌≡◌, ◌≤◌, ℕ, Some, codes, is_some, map, option_and_then, true, IfOk};
+ghost use Rattle.std.specs.Prelude.{◌≡◌, ◌≤◌, ℕ, Some, is_some, map, option_and_then, true, IfOk};
 ghost use Rattle.std.specs.String.{string_bytes};
 ghost use Rattle.clap.specs.Matches.{found_of};
 ghost use Rattle.clap.specs.Walk.{first_of, rows_of};

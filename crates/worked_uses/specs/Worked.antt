@@ -1,5 +1,5 @@
 -- How a worked text is stated: its bytes, and its first fault of uses or the choices of its leaves; and short words for choices.
-use Rattle.std.specs.Prelude.{ℕ, List, [], ◌∷◌, ◌≡◌, map, Option, Some, None, true, false, option_map}
+use Rattle.std.specs.Prelude.{ℕ, List, [], ◌≡◌, map, Option, Some, None, true, false, option_map}
 use Rattle.smv_core.specs.declared.flat.Raw.{Raw}
 use Rattle.smv_core.specs.declared.flat.Choice.{Choice}
 use Rattle.smv_core.specs.declared.flat.Pick.{Pick}

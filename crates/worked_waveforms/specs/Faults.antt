@@ -1,5 +1,5 @@
 -- Worked faults of texts that are no reports.
-use Rattle.std.specs.Prelude.{◌≡◌, ℕ, List, [], ◌∷◌, ◌++◌, codes}
+use Rattle.std.specs.Prelude.{◌≡◌, [], ◌∷◌, ◌++◌, codes}
 use Rattle.smv_read_report.specs.Reports.{report_of}
 use Rattle.smv_wave_run.specs.Dues.{answer_for}
 use Rattle.worked_waveforms.specs.Dumps.{answer}

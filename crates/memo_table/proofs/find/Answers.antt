@@ -1,4 +1,4 @@
-use Rattle.std.proofs.Common.{◌-◌, ◌<◌, length, sym, ◌∙◌, arith}
+use Rattle.std.proofs.Common.{◌-◌, length, sym, ◌∙◌, arith}
 use Rattle.memo_table.proofs.TableLaws.{ref_is, kept_found, kept_absent}
 use Rattle.memo_table.proofs.find.Goals as goal
 

@@ -1,5 +1,5 @@
 use Rattle.std.proofs.Common.{◌≡◌, ℕ, ◌-◌, ◌<◌, ◌≤◌, length}
-use Rattle.memo_table.specs.Table.{bucket_at, LeadsTo}
+use Rattle.memo_table.specs.Table.{bucket_at}
 use Rattle.memo_table.proofs.TableLaws.{IsKey}
 use Rattle.memo_table.proofs.find.Given as goal
 

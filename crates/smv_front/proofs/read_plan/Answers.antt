@@ -1,7 +1,6 @@
-use Rattle.std.proofs.Common.{◌≡◌, None, sym, subst, ap, ◌∙◌}
+use Rattle.std.proofs.Common.{◌≡◌, None, sym, subst, ◌∙◌}
 use Rattle.smv_instances.specs.FirstFault.{first_fault}
 use Rattle.smv_cases.specs.Faults.{Refuses}
-use Rattle.law_flattening.specs.Flattening.{flatten}
 use Rattle.smv_front.specs.TextFault.{raw_fault}
 use Rattle.smv_front.proofs.FaultLaws.{raw-answers}
 use Rattle.smv_front.proofs.read_plan.Goals as goal

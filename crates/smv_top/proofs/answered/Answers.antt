@@ -1,4 +1,4 @@
-use Rattle.std.proofs.Common.{refl, sym, ◌∙◌}
+use Rattle.std.proofs.Common.{sym, ◌∙◌}
 use Rattle.std.proofs.KnownBytes.{Keeps-refl}
 use Rattle.smv_top.proofs.Endings.{some_given, finished}
 use Rattle.smv_top.proofs.DueLaws.{due_usage}

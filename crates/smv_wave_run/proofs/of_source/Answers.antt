@@ -1,7 +1,7 @@
 -- Nothing is read, or the answer to what is read is written.
 use Rattle.std.proofs.Common.{true}
 use Rattle.std.proofs.KnownBytes.{Keeps-refl}
-use Rattle.smv_wave_run.proofs.Endings.{due_to, finished, is_told, no_write_fault, some_given}
+use Rattle.smv_wave_run.proofs.Endings.{due_to, finished, is_told, some_given}
 use Rattle.smv_wave_run.proofs.of_source.Goals as goal
 
 pub returns-in-Err-ReadFault-clause-ends : goal.returns-in-Err-ReadFault-clause-ends

@@ -2,7 +2,7 @@ use Rattle.std.proofs.Common.{◌≡◌, map, drop}
 use Rattle.smv_instances.specs.Scopes.{first_of_places}
 use Rattle.smv_choices.specs.Parts as parts
 use Rattle.smv_choices.specs.Readings as readings
-use Rattle.smv_choices.specs.Readings.{reading, pair_of}
+use Rattle.smv_choices.specs.Readings.{reading}
 use Rattle.smv_choices.proofs.faults.first_unknown.Given as goal
 
 abbrev pub invariant-loop-x : goal.invariant-loop-x

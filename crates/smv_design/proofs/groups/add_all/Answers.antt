@@ -1,4 +1,4 @@
-use Rattle.std.proofs.Common.{◌≡◌, ◌∷◌, sym, ap, ◌∙◌}
+use Rattle.std.proofs.Common.{sym, ap, ◌∙◌}
 use Rattle.smv_design.specs.Groups.{filled, held, used, parts_for}
 use Rattle.smv_design.proofs.GroupLaws.{filled-step}
 use Rattle.smv_design.proofs.groups.add_all.Goals as goal

@@ -2,7 +2,7 @@ use Rattle.std.proofs.Common.{◌+◌, length}
 use Rattle.smv_loops.specs.Edges.{total}
 use Rattle.smv_loops.specs.Held.{reading_of}
 use Rattle.smv_loops.specs.Rows.{stands_for}
-use Rattle.smv_loops.proofs.ClosingLaws.{added-none, added-more}
+use Rattle.smv_loops.proofs.ClosingLaws.{added-more}
 use Rattle.smv_loops.proofs.loops.add_links.Goals as goal
 
 pub loop-x-preserved : goal.loop-x-preserved

@@ -3,7 +3,7 @@ use Rattle.std.specs.List.{flat_map}
 use Rattle.law_loops_and_layers.specs.Reading.{Reading}
 use Rattle.law_loops_and_layers.specs.Loops.{hold_a_cycle}
 use Rattle.smv_loops.specs.Edges.{edges_at}
-use Rattle.smv_loops.proofs.ClosingLaws.{none-shown, take-whole}
+use Rattle.smv_loops.proofs.ClosingLaws.{take-whole}
 use Rattle.smv_loops.proofs.loops.first_closing.Goals as goal
 
 pub returns : goal.returns

@@ -1,6 +1,5 @@
 use Rattle.std.proofs.Common.{map}
 use Rattle.smv_loops.specs.Held.{reading_of}
-use Rattle.smv_loops.specs.Edges.{AreShown}
 use Rattle.smv_loops.proofs.GroupLaws.{links-below}
 use Rattle.smv_loops.proofs.loops.first_of.Goals as goal
 

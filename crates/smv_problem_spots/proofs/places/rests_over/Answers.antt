@@ -1,4 +1,4 @@
-use Rattle.std.proofs.Common.{◌≡◌, ◌-◌, ◌+◌, map, arith}
+use Rattle.std.proofs.Common.{◌≡◌, ◌-◌, map, arith}
 use Rattle.smv_core.specs.Values.{numbers_from}
 use Rattle.smv_spots.specs.declared.places.Sort.TheVariants as sort
 use Rattle.smv_spots.specs.Spots.{spot_of}

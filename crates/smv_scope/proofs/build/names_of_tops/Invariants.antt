@@ -1,9 +1,5 @@
-use Rattle.std.proofs.Common.{◌≡◌, ◌++◌, [], ◌∷◌, map, drop, length}
-use Rattle.std.specs.List.{flat_map}
-use Rattle.smv_instances.specs.Scopes.{own_names}
-use Rattle.smv_instances.specs.Said.{said}
+use Rattle.std.proofs.Common.{◌≡◌, ◌++◌, map, drop}
 use Rattle.smv_scope.specs.Numbered.{top_word}
-use Rattle.smv_scope.specs.Held.{AreLed, own_beside, lists_of}
 use Rattle.smv_scope.proofs.build.names_of_tops.Given as goal
 
 abbrev pub invariant-loop-top : goal.invariant-loop-top

@@ -1,4 +1,4 @@
-use Rattle.std.proofs.Common.{◌≡◌, ◌≤◌, length, ◌∙◌, ap, sym, rules}
+use Rattle.std.proofs.Common.{◌≤◌, length, ◌∙◌, ap, sym, rules}
 use Rattle.smv_core.specs.Types.{find_name}
 use Rattle.smv_instances.specs.Scopes.{pieces, constants}
 use Rattle.smv_instances.specs.NameFaults.{place_if, is_of_other_list}

@@ -1,11 +1,7 @@
-use Rattle.std.proofs.Common.{◌≡◌, ◌++◌, [], ◌∷◌, map, drop, length}
-use Rattle.std.specs.List.{flat_map}
-use Rattle.smv_core.specs.declared.tree.Field.{out-Field}
+use Rattle.std.proofs.Common.{◌≡◌, [], drop}
 use Rattle.smv_instances.specs.Scopes.{first_of_places}
-use Rattle.smv_instances.specs.NameFaults as faults
-use Rattle.smv_instances.specs.Said.{said, words_at}
+use Rattle.smv_instances.specs.Said.{words_at}
 use Rattle.smv_scope.specs.ScopeFault.{least}
-use Rattle.smv_scope.specs.Numbered.{scope_at}
 use Rattle.smv_scope.specs.Rules.{repeated_after}
 use Rattle.smv_scope.proofs.doubled.repeated.Given as goal
 

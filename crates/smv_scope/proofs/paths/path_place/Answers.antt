@@ -1,5 +1,5 @@
 use Rattle.std.proofs.Common.{ap, sym, ◌∙◌}
-use Rattle.smv_instances.specs.Scopes.{path_places, words_of}
+use Rattle.smv_instances.specs.Scopes.{path_places}
 use Rattle.smv_instances.specs.Said.{words_at}
 use Rattle.smv_scope.specs.ScopeFault.{least}
 use Rattle.smv_scope.specs.Numbered.{scope_at}

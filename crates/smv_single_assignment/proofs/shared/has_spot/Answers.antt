@@ -1,4 +1,4 @@
-use Rattle.std.proofs.Common.{◌≡◌, ◌&&◌, true, Some, sym, ap, ◌∙◌}
+use Rattle.std.proofs.Common.{◌≡◌, ◌&&◌, Some, sym, ap, ◌∙◌}
 use Rattle.smv_single_assignment.specs.Shared.{kept_at, meets_all, is_above_one}
 use Rattle.smv_single_assignment.proofs.shared.has_spot.Goals as goal
 

@@ -1,4 +1,4 @@
-use Rattle.std.proofs.Common.{◌≡◌, suc, map, arith}
+use Rattle.std.proofs.Common.{map, arith}
 use Rattle.smv_split_faults.specs.Waiting.{held}
 use Rattle.smv_split_faults.proofs.WaitingLaws.{follows}
 use Rattle.smv_split_faults.proofs.mismatches.add_following.Goals as goal

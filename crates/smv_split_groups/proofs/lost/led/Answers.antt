@@ -1,9 +1,8 @@
-use Rattle.std.proofs.Common.{◌≡◌, ◌∙◌, ◌∷◌, [], ℕ, List, false, length, replicate, ap, subst, refl, arith}
+use Rattle.std.proofs.Common.{◌∙◌, false, length, replicate, ap, refl, arith}
 use Rattle.std.proofs.lemmas.List.{length-replicate}
 use Rattle.graph_search.specs.Walks.{lists}
-use Rattle.graph_search.specs.Searches.{Saw}
 use Rattle.graph_search.proofs.ReachedLaws.{from_none, queued}
-use Rattle.smv_split_groups.proofs.LedLaws.{Ready, make-ready, starts-room, goes-room, marks-of}
+use Rattle.smv_split_groups.proofs.LedLaws.{make-ready, starts-room, goes-room, marks-of}
 use Rattle.smv_split_groups.proofs.lost.led.Goals as goal
 
 pub see_all-requires : goal.see_all-requires

@@ -1,5 +1,4 @@
-use Rattle.std.proofs.Common.{map, ap, ◌∙◌}
-use Rattle.smv_split_misfits.specs.Parts as parts
+use Rattle.std.proofs.Common.{◌∙◌}
 use Rattle.smv_split_misfits.proofs.MisfitLaws.{equations-first}
 use Rattle.smv_split_misfits.proofs.misfits.equations_misfit.Goals as goal
 

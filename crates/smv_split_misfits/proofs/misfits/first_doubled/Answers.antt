@@ -1,7 +1,5 @@
-use Rattle.std.proofs.Common.{map, ap, ◌∙◌, ◌++◌, []}
-use Rattle.std.specs.Str.{bytes_eq}
-use Rattle.smv_scope.specs.ScopeFault.{least}
-use Rattle.smv_references.specs.Again.{again, placed, placed_words}
+use Rattle.std.proofs.Common.{map, ap, ◌∙◌, ◌++◌}
+use Rattle.smv_references.specs.Again.{placed, placed_words}
 use Rattle.smv_split_misfits.proofs.MisfitLaws.{brackets-doubled}
 use Rattle.smv_split_misfits.proofs.misfits.first_doubled.Goals as goal
 

@@ -1,4 +1,4 @@
-use Rattle.std.proofs.Common.{◌∙◌, ◌≡◌, ◌-◌, ◌+◌, List, map, get_or, [], ap, refl, sym, arith}
+use Rattle.std.proofs.Common.{◌∙◌, ◌≡◌, ◌-◌, List, map, ap, sym, arith}
 use Rattle.smv_core.specs.Values.{numbers_from}
 use Rattle.smv_core.specs.declared.flat.Simple.{Simple}
 use Rattle.smv_abstraction.specs.Places.{rests_in}

@@ -1,4 +1,4 @@
-use Rattle.smv_walk_parts.proofs.FirstLaws.{no_first, one_first, others_made}
+use Rattle.smv_walk_parts.proofs.FirstLaws.{no_first, one_first}
 use Rattle.smv_walk_parts.proofs.firsts.+first_of_all.Goals as goal
 
 pub returns-in_default-clause-gist : goal.returns-in_default-clause-gist

@@ -1,5 +1,5 @@
 -- One of the two lists ends first.
-use Rattle.std.proofs.Common.{◌≡◌, [], arith, rules, ◌∙◌}
+use Rattle.std.proofs.Common.{◌≡◌, [], arith, rules}
 use Rattle.smv_waveforms.specs.Values.{kinds_with}
 use Rattle.smv_waveforms.proofs.Parts.{all_written, empty_kinds, no_kinds}
 use Rattle.smv_waveforms.proofs.values.kinds_with.Goals as goal

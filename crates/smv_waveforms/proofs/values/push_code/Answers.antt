@@ -1,6 +1,6 @@
 -- One digit more is written.
 use Rattle.std.proofs.Common.{rules, ◌++◌}
-use Rattle.smv_waveforms.specs.Values.{code_digits, code_of}
+use Rattle.smv_waveforms.specs.Values.{code_digits}
 use Rattle.smv_waveforms.proofs.Codes.{code_next}
 use Rattle.smv_waveforms.proofs.values.push_code.Goals as goal
 

@@ -6,7 +6,7 @@ use Rattle.bdd_ops.proofs.MemoLaws.{one_test}
 use Rattle.bdd_ops.proofs.KnownLaws.{all_put}
 use Rattle.bdd_ops.proofs.Depends.{clash, constant_not}
 use Rattle.bdd_ops.proofs.SupportLaws.{flagged_low, flagged_high, all_flagged}
-use Rattle.bdd_ops.proofs.+flag_support.Goals as goal
+use Rattle.bdd_ops.proofs.questions.+flag_support.Goals as goal
 
 pub returns-in-Some-clause-all : goal.returns-in-Some-clause-all
 returns-in-Some-clause-all t c v dep = clash (depends c.args.store.now.vars (table c.args.store.now c.args.f) v) dep (constant_not c.args.store.now.vars v (table c.args.store.now c.args.f) c.in-Some.field-0 c.in-Some.ensures.some)

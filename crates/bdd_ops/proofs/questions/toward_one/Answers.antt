@@ -1,6 +1,6 @@
 use Rattle.bdd_store.specs.Diagram.{table, first_var}
 use Rattle.bdd_ops.proofs.SupportLaws.{never_both}
-use Rattle.bdd_ops.proofs.toward_one.Goals as goal
+use Rattle.bdd_ops.proofs.questions.toward_one.Goals as goal
 
 pub returns-then-is_never-clause-some : goal.returns-then-is_never-clause-some
 returns-then-is_never-clause-some c some high =

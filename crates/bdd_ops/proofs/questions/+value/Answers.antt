@@ -2,7 +2,7 @@ use Rattle.std.proofs.Common.{◌≡◌, true, false, sym, ◌∙◌, ap}
 use Rattle.bdd_store.specs.Diagram.{table, first_var}
 use Rattle.bdd_ops.specs.Functions.{bit_at}
 use Rattle.bdd_ops.proofs.Depends.{own}
-use Rattle.bdd_ops.proofs.+value.Goals as goal
+use Rattle.bdd_ops.proofs.questions.+value.Goals as goal
 
 pub returns-then-bits-var : goal.returns-then-bits-var
 returns-then-bits-var t c =

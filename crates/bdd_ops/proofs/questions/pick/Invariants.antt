@@ -1,7 +1,7 @@
 use Rattle.std.proofs.Common.{◌≡◌, ℕ, ◌-◌, ◌<◌, Bool, false, length}
 use Rattle.bdd_store.specs.Diagram.{IsLive, IsConstant, first_var, table}
 use Rattle.bdd_ops.specs.Functions.{bit_at}
-use Rattle.bdd_ops.proofs.pick.Given as goal
+use Rattle.bdd_ops.proofs.questions.pick.Given as goal
 
 -- the values so far lead to a function that is not 0 everywhere
 abbrev pub invariant-loop-rest : goal.invariant-loop-rest

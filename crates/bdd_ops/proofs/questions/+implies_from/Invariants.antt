@@ -1,6 +1,6 @@
 use Rattle.std.proofs.Common.{◌+◌, ◌-◌}
 use Rattle.bdd_store.specs.Diagram.{first_var}
-use Rattle.bdd_ops.proofs.+implies_from.Given as goal
+use Rattle.bdd_ops.proofs.questions.+implies_from.Given as goal
 
 -- the levels that are left
 abbrev pub decreases-implies_from : goal.decreases-implies_from

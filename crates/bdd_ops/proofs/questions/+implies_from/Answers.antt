@@ -4,7 +4,7 @@ use Rattle.memo_table.specs.Results.{same_pair}
 use Rattle.bdd_ops.specs.Memo.{Implies}
 use Rattle.bdd_ops.proofs.MemoLaws.{pair_test}
 use Rattle.bdd_ops.proofs.KnownLaws.{all_put, imp_both, imp_const}
-use Rattle.bdd_ops.proofs.+implies_from.Goals as goal
+use Rattle.bdd_ops.proofs.questions.+implies_from.Goals as goal
 
 pub returns-in-Some-is_constant-clause-means : goal.returns-in-Some-is_constant-clause-means
 returns-in-Some-is_constant-clause-means t c =

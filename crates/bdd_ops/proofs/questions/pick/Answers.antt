@@ -2,7 +2,7 @@ use Rattle.std.proofs.Common.{◌<◌, length, ◌∙◌, arith}
 use Rattle.std.proofs.lemmas.List.{length-set}
 use Rattle.bdd_store.specs.Diagram.{table, first_var}
 use Rattle.bdd_ops.proofs.SupportLaws.{leads_on}
-use Rattle.bdd_ops.proofs.pick.Goals as goal
+use Rattle.bdd_ops.proofs.questions.pick.Goals as goal
 
 pub loop-rest-preserved : goal.loop-rest-preserved
 loop-rest-preserved c =

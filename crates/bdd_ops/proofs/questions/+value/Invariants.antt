@@ -1,6 +1,6 @@
 use Rattle.std.proofs.Common.{◌-◌}
 use Rattle.bdd_store.specs.Diagram.{first_var}
-use Rattle.bdd_ops.proofs.+value.Given as goal
+use Rattle.bdd_ops.proofs.questions.+value.Given as goal
 
 -- the levels that are left
 abbrev pub decreases-value : goal.decreases-value
