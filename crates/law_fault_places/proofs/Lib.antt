@@ -1,3 +1,3 @@
-pub mod Passes
+pub mod PassLaws
 pub mod Trees
 pub mod Refusals

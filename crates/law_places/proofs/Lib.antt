@@ -11,9 +11,9 @@ pub mod KindFaults
 pub mod FlatForms
 pub mod Flattened
 pub mod Items
-pub mod Designs
+pub mod DesignLaws
 pub mod Single
 pub mod Loops
 pub mod Sets
-pub mod Splits
+pub mod SplitLaws
 pub mod Uses

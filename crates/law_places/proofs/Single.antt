@@ -14,7 +14,7 @@ use Rattle.law_places.specs.FaultPlaces.{IsFaultOf}
 use Rattle.law_places.proofs.TreeLists.{all-joined, all-mapped, all-flat, all-filtered, any-flat}
 use Rattle.law_places.proofs.Firsts.{first-one, AreUpTo, placed-if, lists-placed}
 use Rattle.law_places.specs.FlatPlaces.{ActIsWithin, ActsAreWithin, ClaimIsWithin, RawIsWithin}
-use Rattle.law_places.proofs.Designs.{SaidIsWithin, statements-within, StandingIsWithin, standing-within, standing_in-within, assigned-within, claims-within}
+use Rattle.law_places.proofs.DesignLaws.{SaidIsWithin, statements-within, StandingIsWithin, standing-within, standing_in-within, assigned-within, claims-within}
 use Rattle.law_places.specs.DesignFaultPlaces.{numbers_of_single}
 
 module _ (n : ℕ) where

@@ -29,7 +29,7 @@ use Rattle.law_places.proofs.TreeLists.{all-joined, all-mapped, all-flat, all-fi
 use Rattle.law_places.proofs.Firsts.{first-one, AreUpTo, placed-if, lists-placed}
 use Rattle.law_places.specs.FlatPlaces.{UsingIsWithin, DesignIsWithin}
 use Rattle.law_places.specs.ProofFaultPlaces.{numbers_of_uses}
-use Rattle.law_places.proofs.Splits.{words-placed, doubled-within, miscounted-within}
+use Rattle.law_places.proofs.SplitLaws.{words-placed, doubled-within, miscounted-within}
 
 later-all : {X : Type 0} (P : X → Type 0) (clash : X → X → Bool) (xs : List X) → AllByRecursion P xs → AllByRecursion P (later clash xs)
 later-all P clash [] h = tt

@@ -8,7 +8,7 @@ use Rattle.law_splits.specs.SplitFaults.{first_fault_of_splits}
 use Rattle.smv_uses.specs.UseFaults.{first_fault_of_uses}
 use Rattle.law_true_reports.specs.Joined.{flat_design}
 use Rattle.law_valid_texts.specs.Faults.{pass_fault}
-use Rattle.law_fault_places.proofs.Passes.{passes-within}
+use Rattle.law_fault_places.proofs.PassLaws.{passes-within}
 use Rattle.law_fault_places.proofs.passes.pass_faults_are_within.Goals as goal
 
 pub returns : goal.returns

@@ -1,4 +1,4 @@
-use Rattle.law_places.proofs.Designs.{design-within}
+use Rattle.law_places.proofs.DesignLaws.{design-within}
 use Rattle.law_places.proofs.flat.designs_are_within.Goals as goal
 
 pub returns : goal.returns

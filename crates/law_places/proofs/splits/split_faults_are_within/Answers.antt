@@ -1,4 +1,4 @@
-use Rattle.law_places.proofs.Splits.{first-within}
+use Rattle.law_places.proofs.SplitLaws.{first-within}
 use Rattle.law_places.proofs.splits.split_faults_are_within.Goals as goal
 
 pub returns : goal.returns
