@@ -1,0 +1,2 @@
+mod Posed
+pub mod LiveFunctions
