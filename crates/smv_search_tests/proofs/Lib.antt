@@ -1,1 +1,1 @@
-pub mod Currents
+mod Currents

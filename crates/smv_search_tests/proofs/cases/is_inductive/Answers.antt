@@ -1,7 +1,7 @@
 use Rattle.std.proofs.Common.{subst, IfSome}
 use Rattle.smv_rings.specs.Lists.{IsRel}
 use Rattle.smv_inductive.proofs.Kept.{rel_kept}
-use Rattle.smv_search_tests.proofs.is_inductive.Goals as goal
+use Rattle.smv_search_tests.proofs.cases.is_inductive.Goals as goal
 
 pub inductive-requires-clause-rel : goal.inductive-requires-clause-rel
 inductive-requires-clause-rel c =

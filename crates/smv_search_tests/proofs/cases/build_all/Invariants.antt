@@ -1,5 +1,5 @@
 use Rattle.bdd_store.specs.Diagram.{AreLive, Keeps}
-use Rattle.smv_search_tests.proofs.build_all.Given as goal
+use Rattle.smv_search_tests.proofs.cases.build_all.Given as goal
 
 abbrev pub invariant-loop-law : goal.invariant-loop-law
 invariant-loop-law l = record {
