@@ -1,5 +1,5 @@
 -- What is asked of the possible results of a definition.
-use Rattle.std.specs.Prelude.{◌≡◌, ℕ, List, ◌++◌, map, Bool, not}
+use Rattle.std.specs.Prelude.{◌≡◌, ℕ, List, ◌++◌, map, Option, Bool, not}
 use Rattle.smv_core.specs.declared.flat.Flat.{Flat}
 use Rattle.smv_core.specs.declared.flat.FlatExpr.{FlatExpr}
 use Rattle.smv_abstraction.specs.Sets.{one_of_each}
@@ -7,7 +7,7 @@ use Rattle.smv_abstraction.specs.Places.{Place, is_among}
 use Rattle.smv_abstraction.specs.May.{may}
 use Rattle.smv_abstraction.specs.Right.{may_allow, must_allow}
 use Rattle.smv_abstraction.specs.Results.{assigned, results}
-use Rattle.law_outcomes.specs.Gist.{Gist, gist_of}
+use Rattle.law_outcomes.specs.Gist.{Gist, gist_of, if_gist, first_all}
 use Rattle.smv_spots.specs.declared.spots.Spot.{Spot}
 use Rattle.smv_spots.specs.Spots.{place_in}
 use Rattle.smv_problem.specs.declared.problem.Problem.{Problem}
@@ -16,6 +16,8 @@ use Rattle.smv_conditions.specs.Gists.{gist_at}
 use Rattle.smv_cells.specs.declared.cells.Cell.{Cell}
 use Rattle.smv_targets.specs.declared.targets.Target.{Target}
 use Rattle.smv_targets.specs.Targets.{Aim, IsAim}
+use Rattle.smv_outcomes.specs.Outcomes.{mix_in}
+use Rattle.smv_walks.specs.Passed.{gist_or_nothing}
 use Rattle.smv_walks.specs.declared.walks.Way.{Way}
 use Rattle.smv_walks.specs.declared.walks.Way.TheVariants.{May, Must}
 
@@ -54,10 +56,18 @@ module _ {S C : Type 0} (holds : S → C → (ℕ → Bool) → Bool) (start s :
   unfoldable pub IsGistsOf : (Aim → (ℕ → Bool) → Gist) → Gists C → Type 0
   IsGistsOf gist g = (z : Aim) → IsAim holds start problem cells t z → (a : ℕ → Bool) → gist_at holds s a g ≡ gist z a
 
-  -- those of each of these parts, of which the last are still to come
+  -- conditions that may be left out are this gist
+  unfoldable pub IsPassedOf : (Aim → (ℕ → Bool) → Gist) → Option (Gists C) → Type 0
+  IsPassedOf gist o = (z : Aim) → IsAim holds start problem cells t z → (a : ℕ → Bool) → gist_or_nothing holds s a o ≡ gist z a
+
+  -- and are what a condition gives of two branches
+  unfoldable pub IsTaken : Way → List Spot → FlatExpr → Option (Gists C) → Option (Gists C) → Option (Gists C) → Type 0
+  IsTaken way b cond g h k = IsPassedOf (λ z a. if_gist (asked way (z.value a) (λ p. is_among z.every p)) (mix_in z.view a b cond) (gist_or_nothing holds start a g) (gist_or_nothing holds start a h)) k
+
+  -- the first of those of each of these parts, of which the last are still to come
   unfoldable pub AreGistsOf : Way → List Spot → List Flat → List Flat → List (Gists C) → Type 0
-  AreGistsOf way b all rest each = (z : Aim) → IsAim holds start problem cells t z → (a : ℕ → Bool) → map (gist_at holds s a) each ++ map (gist_in way z a b) rest ≡ map (gist_in way z a b) all
+  AreGistsOf way b all rest each = (z : Aim) → IsAim holds start problem cells t z → (a : ℕ → Bool) → first_all (map (gist_at holds s a) each ++ map (gist_in way z a b) rest) ≡ first_all (map (gist_in way z a b) all)
 
   -- those of a part under each of these bindings
   unfoldable pub AreGistsAlong : Way → Flat → List (List Spot) → List (List Spot) → List (Gists C) → Type 0
-  AreGistsAlong way body all rest each = (z : Aim) → IsAim holds start problem cells t z → (a : ℕ → Bool) → map (gist_at holds s a) each ++ map (λ b. gist_in way z a b body) rest ≡ map (λ b. gist_in way z a b body) all
+  AreGistsAlong way body all rest each = (z : Aim) → IsAim holds start problem cells t z → (a : ℕ → Bool) → first_all (map (gist_at holds s a) each ++ map (λ b. gist_in way z a b body) rest) ≡ first_all (map (λ b. gist_in way z a b body) all)

@@ -1,24 +1,26 @@
 // The way down a definition.
-ghost use Rattle.std.specs.Prelude.{◌≡◌, IfOk, []};
+ghost use Rattle.std.specs.Prelude.{◌≡◌, IfOk, IfSome, []};
 ghost use Rattle.smv_conditions.specs.Keep.{KeepsConditions};
 ghost use Rattle.smv_conditions.specs.Gists.{AreGistsMade};
 ghost use Rattle.smv_cells.specs.Cells.{AreCellsMade};
 ghost use Rattle.smv_targets.specs.Targets.{IsTargetMade, IsSo};
 ghost use Rattle.smv_walk_parts.specs.Parts.{AllGistsMade};
-ghost use Rattle.smv_walks.specs.Walks.{everything_of, right_of, gist_in, gist_assigned, IsGistsOf, AreGistsOf, AreGistsAlong};
+ghost use Rattle.smv_walks.specs.Walks.{everything_of, right_of, gist_in, gist_assigned, IsGistsOf, IsPassedOf, IsTaken, AreGistsOf, AreGistsAlong};
 
 use crate::bindings::bound_over;
+use crate::passed::{add_some, are_passed, first_of_some, or_nothing};
 use smv_cells::Cell;
 use smv_conditions::conditions::Conditions;
-use smv_conditions::gists::{Gists, assigned_of, if_of, nothing};
+use smv_conditions::gists::{Gists, assigned_of, if_of};
 use smv_core::flat::{Flat, FlatExpr};
 use smv_core::seq::Seq;
+use smv_elsewhere::is_elsewhere;
 use smv_outcomes::truth_of;
 use smv_problem::Problem;
 use smv_sides::{may_allow, must_allow};
 use smv_spots::spots::Spot;
 use smv_targets::Target;
-use smv_walk_parts::{first_of_all, matched};
+use smv_walk_parts::matched;
 use std::alloc::{AllocError, Global};
 
 /// What is asked of a result: that it may allow the element's value, or that it does not allow it for certain.
@@ -100,9 +102,44 @@ fn assigned<S: Conditions>(
     Ok(g)
 }
 
-/// The gist of what a part of a definition may give the element of the target.
+// What a condition gives of two branches; it isn't looked at where both are left out.
+fn taken<S: Conditions>(
+    s: &mut S,
+    alloc: Global,
+    problem: &Problem,
+    cells: &[Cell<S::Condition>],
+    target: &Target<S::Condition>,
+    way: Way,
+    cond: &FlatExpr,
+    g: Option<Gists<S::Condition>>,
+    h: Option<Gists<S::Condition>>,
+    b: &[Spot],
+) -> Result<Option<Gists<S::Condition>>, AllocError>
+    requires cells_made { AreCellsMade (S.IsMade s.old) cells.now }
+    requires target_made { IsTargetMade (S.IsMade s.old) target.now }
+    requires g_made { IfSome g (λ g. AreGistsMade (S.IsMade s.old) g) }
+    requires h_made { IfSome h (λ h. AreGistsMade (S.IsMade s.old) h) }
+    ensures keeps { KeepsConditions S.IsMade S.holds S.room s.old s.new }
+    ensures made { IfOk result (λ o. IfSome o (λ k. AreGistsMade (S.IsMade s.new) k)) }
+    ensures cells { IfOk result (λ o. AreCellsMade (S.IsMade s.new) cells.now) }
+    ensures target { IfOk result (λ o. IsTargetMade (S.IsMade s.new) target.now) }
+    ensures is { IfOk result (λ o. IsTaken S.holds s.old s.new problem.entry.now cells.now target.now way b.now cond.now g h o) }
+{
+    if are_passed(g, h) {
+        return Ok(None);
+    }
+    let above = or_nothing(s, g);
+    let below = or_nothing(s, h);
+    let x = truth_of(s, alloc, problem, cells, cond, b)?;
+    let open = everything(s, target, way);
+    let k = if_of(s, alloc, open, x, above, below)?;
+    Ok(Some(k))
+}
+
+// The gist of what a part may give; none where that is nothing alone, since each of its assignments is known to be elsewhere. Their right sides and the conditions around them are not
+// looked at then.
 #[cycle(walks)]
-pub fn gists_of<S: Conditions>(
+fn passed<S: Conditions>(
     s: &mut S,
     alloc: Global,
     problem: &Problem,
@@ -111,63 +148,52 @@ pub fn gists_of<S: Conditions>(
     way: Way,
     part: &Flat,
     b: &[Spot],
-) -> Result<Gists<S::Condition>, AllocError>
+) -> Result<Option<Gists<S::Condition>>, AllocError>
     requires cells_made { AreCellsMade (S.IsMade s.old) cells.now }
     requires target_made { IsTargetMade (S.IsMade s.old) target.now }
     ensures keeps { KeepsConditions S.IsMade S.holds S.room s.old s.new }
-    ensures made { IfOk result (λ g. AreGistsMade (S.IsMade s.new) g) }
-    ensures cells { IfOk result (λ g. AreCellsMade (S.IsMade s.new) cells.now) }
-    ensures target { IfOk result (λ g. IsTargetMade (S.IsMade s.new) target.now) }
-    ensures is { IfOk result (λ g. IsGistsOf S.holds s.old s.new problem.entry.now cells.now target.now (λ z a. gist_in way z a b.now part.now) g) }
+    ensures made { IfOk result (λ o. IfSome o (λ g. AreGistsMade (S.IsMade s.new) g)) }
+    ensures cells { IfOk result (λ o. AreCellsMade (S.IsMade s.new) cells.now) }
+    ensures target { IfOk result (λ o. IsTargetMade (S.IsMade s.new) target.now) }
+    ensures is { IfOk result (λ o. IsPassedOf S.holds s.old s.new problem.entry.now cells.now target.now (λ z a. gist_in way z a b.now part.now) o) }
 {
     match part {
-        Flat::Nothing => Ok(nothing(s)),
+        Flat::Nothing => Ok(None),
         Flat::Assign { left, value, .. } => {
-            let g = assigned(
-                s,
-                alloc,
-                problem,
-                cells,
-                target,
-                way,
-                left.as_slice(),
-                value,
-                b,
-            )?;
-            Ok(g)
+            let lefts = left.as_slice();
+            let indexes = target.indexes.as_slice();
+            if is_elsewhere(problem, indexes, lefts, b) {
+                return Ok(None);
+            }
+            let g = assigned(s, alloc, problem, cells, target, way, lefts, value, b)?;
+            Ok(Some(g))
         }
         Flat::If { cond, yes, no } => {
-            let g = gists_of(s, alloc, problem, cells, target, way, yes.get(), b)?;
-            let h = gists_of(s, alloc, problem, cells, target, way, no.get(), b)?;
-            let x = truth_of(s, alloc, problem, cells, cond, b)?;
-            let open = everything(s, target, way);
-            let k = if_of(s, alloc, open, x, g, h)?;
+            let g = passed(s, alloc, problem, cells, target, way, yes.get(), b)?;
+            let h = passed(s, alloc, problem, cells, target, way, no.get(), b)?;
+            let k = taken(s, alloc, problem, cells, target, way, cond, g, h, b)?;
             Ok(k)
         }
         Flat::First { parts } => {
-            let each = gists_each(s, alloc, problem, cells, target, way, parts.as_slice(), b)?;
-            let g = first_of_all(s, alloc, each.as_slice())?;
+            let all = parts.as_slice();
+            let each = gists_each(s, alloc, problem, cells, target, way, all, b)?;
+            let list = each.as_slice();
+            let g = first_of_some(s, alloc, list)?;
             Ok(g)
         }
         Flat::Forall { var, over, body } => {
             let inners = bound_over(alloc, problem, b, *var, *over)?;
-            let each = gists_along(
-                s,
-                alloc,
-                problem,
-                cells,
-                target,
-                way,
-                body.get(),
-                inners.as_slice(),
-            )?;
-            let g = first_of_all(s, alloc, each.as_slice())?;
+            let bindings = inners.as_slice();
+            let inner = body.get();
+            let found = gists_along(s, alloc, problem, cells, target, way, inner, bindings)?;
+            let gists = found.as_slice();
+            let g = first_of_some(s, alloc, gists)?;
             Ok(g)
         }
     }
 }
 
-// The gists of these parts.
+// The gists of these parts, but for those that are nothing alone.
 #[cycle(walks)]
 fn gists_each<S: Conditions>(
     s: &mut S,
@@ -189,13 +215,13 @@ fn gists_each<S: Conditions>(
 {
     let mut each = Vec::new(alloc);
     for part in parts {
-        let g = gists_of(s, alloc, problem, cells, target, way, part, b)?;
-        each.push(g)?;
+        let g = passed(s, alloc, problem, cells, target, way, part, b)?;
+        add_some(&mut each, g)?;
     }
     Ok(each)
 }
 
-// The gists of a part under each of these bindings.
+// The gists of a part under each of these bindings, but for those that are nothing alone.
 #[cycle(walks)]
 fn gists_along<S: Conditions>(
     s: &mut S,
@@ -217,7 +243,7 @@ fn gists_along<S: Conditions>(
 {
     let mut each = Vec::new(alloc);
     for inner in bindings {
-        let g = gists_of(
+        let g = passed(
             s,
             alloc,
             problem,
@@ -227,7 +253,31 @@ fn gists_along<S: Conditions>(
             body,
             inner.as_slice(),
         )?;
-        each.push(g)?;
+        add_some(&mut each, g)?;
     }
     Ok(each)
+}
+
+/// The gist of what a part of a definition may give the element of the target.
+pub fn gists_of<S: Conditions>(
+    s: &mut S,
+    alloc: Global,
+    problem: &Problem,
+    cells: &[Cell<S::Condition>],
+    target: &Target<S::Condition>,
+    way: Way,
+    part: &Flat,
+    b: &[Spot],
+) -> Result<Gists<S::Condition>, AllocError>
+    requires cells_made { AreCellsMade (S.IsMade s.old) cells.now }
+    requires target_made { IsTargetMade (S.IsMade s.old) target.now }
+    ensures keeps { KeepsConditions S.IsMade S.holds S.room s.old s.new }
+    ensures made { IfOk result (λ g. AreGistsMade (S.IsMade s.new) g) }
+    ensures cells { IfOk result (λ g. AreCellsMade (S.IsMade s.new) cells.now) }
+    ensures target { IfOk result (λ g. IsTargetMade (S.IsMade s.new) target.now) }
+    ensures is { IfOk result (λ g. IsGistsOf S.holds s.old s.new problem.entry.now cells.now target.now (λ z a. gist_in way z a b.now part.now) g) }
+{
+    let o = passed(s, alloc, problem, cells, target, way, part, b)?;
+    let g = or_nothing(s, o);
+    Ok(g)
 }

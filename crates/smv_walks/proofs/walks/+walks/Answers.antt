@@ -5,54 +5,44 @@ use Rattle.smv_spots.specs.declared.spots.Spot.{Spot}
 use Rattle.smv_cells.proofs.SeenLaws.{keeps_same, keeps_trans, cells_kept}
 use Rattle.smv_targets.proofs.GivenLaws.{target_kept}
 use Rattle.smv_walk_parts.specs.Parts.{AllGistsMade}
-use Rattle.smv_walk_parts.proofs.FirstLaws.{gists_kept}
 use Rattle.smv_walks.specs.Walks.{AreGistsOf, AreGistsAlong}
-use Rattle.smv_walks.proofs.PartLaws.{Nothing_of_it, Assign_of_it, If_of_it, First_of_it, Forall_of_it}
-use Rattle.smv_walks.proofs.GatherLaws.{gists_pushed, gists_begin, along_begins, gists_go, along_goes}
+use Rattle.smv_walks.proofs.PartLaws.{Nothing_of_it, Assign_elsewhere, Assign_of_it, If_of_it, First_of_it, Forall_of_it, some_kept}
+use Rattle.smv_walks.proofs.GatherLaws.{gists_added, gists_begin, along_begins, gists_go, along_goes}
 use Rattle.smv_walks.proofs.walks.+walks.Goals as goal
 
-pub gists_of-returns-in-Nothing-clause-is : goal.gists_of-returns-in-Nothing-clause-is
-gists_of-returns-in-Nothing-clause-is g t c = Nothing_of_it _ _ _ _ _ _ _ _ _ c.in-Nothing.is c.nothing.ensures.gist
+pub passed-returns-in-Nothing-clause-is : goal.passed-returns-in-Nothing-clause-is
+passed-returns-in-Nothing-clause-is g t c = Nothing_of_it _ _ _ _ _ _ _ _ _ c.in-Nothing.is
 
-pub gists_of-returns-in_ok-g-in-Assign-clause-is : goal.gists_of-returns-in_ok-g-in-Assign-clause-is
-gists_of-returns-in_ok-g-in-Assign-clause-is g t c = Assign_of_it _ _ _ _ _ _ _ _ _ _ _ _ _ _ _ c.in-Assign.is c.as_slice.ensures c.in_ok-g-in-Assign.ensures.is
+pub passed-returns-then-is_elsewhere-clause-is : goal.passed-returns-then-is_elsewhere-clause-is
+passed-returns-then-is_elsewhere-clause-is g t c = Assign_elsewhere _ _ _ _ _ _ _ _ _ _ _ _ _ _ _ _ c.in-Assign.is c.as_slice-lefts.ensures c.as_slice-indexes.ensures c.is_elsewhere.ensures c.if-is_elsewhere.true
 
-pub gists_of-returns-in_ok-k-in-If-clause-is : goal.gists_of-returns-in_ok-k-in-If-clause-is
-gists_of-returns-in_ok-k-in-If-clause-is g t c = If_of_it _ _ _ _ _ _ _ _ _ _ _ _ _ c.in_ok-g-in-If.ensures.keeps c.in_ok-h-in-If.ensures.keeps c.in_ok-x-in-If.ensures.keeps c.requires.cells_made c.requires.target_made _ _ _ _ _ _ _ _ _ _ _ c.in-If.is c.get.ensures c.get-in-If.ensures c.everything-open.ensures.is
-    c.in_ok-g-in-If.ensures.made c.in_ok-h-in-If.ensures.made c.in_ok-g-in-If.ensures.is c.in_ok-h-in-If.ensures.is c.in_ok-x-in-If.ensures.is c.in_ok-k-in-If.ensures.gist
+pub passed-returns-in_ok-g-in-Assign-clause-is : goal.passed-returns-in_ok-g-in-Assign-clause-is
+passed-returns-in_ok-g-in-Assign-clause-is g t c = Assign_of_it _ _ _ _ _ _ _ _ _ _ _ _ _ _ _ c.in-Assign.is c.as_slice-lefts.ensures c.in_ok-g-in-Assign.ensures.is
 
-pub gists_of-returns-in_ok-k-in-If-clause-cells : goal.gists_of-returns-in_ok-k-in-If-clause-cells
-gists_of-returns-in_ok-k-in-If-clause-cells g t c = cells_kept _ _ _ _ _ _ c.in_ok-k-in-If.ensures.keeps c.in_ok-x-in-If.ensures.cells
+pub passed-returns-in_ok-k-in-If-clause-is : goal.passed-returns-in_ok-k-in-If-clause-is
+passed-returns-in_ok-k-in-If-clause-is g t c = If_of_it _ _ _ _ _ _ _ _ _ _ _ _ c.in_ok-g-in-If.ensures.keeps c.in_ok-h-in-If.ensures.keeps c.requires.cells_made c.requires.target_made _ _ _ _ _ _ _ _ _ c.in-If.is c.get.ensures c.get-in-If.ensures
+    c.in_ok-g-in-If.ensures.made c.in_ok-g-in-If.ensures.is c.in_ok-h-in-If.ensures.is c.in_ok-k-in-If.ensures.is
 
-pub gists_of-returns-in_ok-k-in-If-clause-target : goal.gists_of-returns-in_ok-k-in-If-clause-target
-gists_of-returns-in_ok-k-in-If-clause-target g t c = target_kept _ _ _ _ _ _ (keeps_trans _ _ _ _ _ _ c.in_ok-x-in-If.ensures.keeps c.in_ok-k-in-If.ensures.keeps) c.in_ok-h-in-If.ensures.target
+pub passed-taken-requires-clause-g_made : goal.passed-taken-requires-clause-g_made
+passed-taken-requires-clause-g_made g t c = some_kept _ _ _ _ _ c.in_ok-h-in-If.ensures.keeps _ c.in_ok-g-in-If.ensures.made
 
-pub gists_of-everything-open-requires : goal.gists_of-everything-open-requires
-gists_of-everything-open-requires g t c = record { target_made = target_kept _ _ _ _ _ _ c.in_ok-x-in-If.ensures.keeps c.in_ok-h-in-If.ensures.target }
+pub passed-returns-in_ok-g-in-First-clause-is : goal.passed-returns-in_ok-g-in-First-clause-is
+passed-returns-in_ok-g-in-First-clause-is g t c = First_of_it _ _ _ _ _ _ _ _ _ _ _ _ _ _ _ c.in-First.is c.as_slice-all.ensures c.as_slice-list.ensures.value c.in_ok-each-in-First.ensures.are c.in_ok-g-in-First.ensures.gist
 
-pub gists_of-if_of-requires-clause-g_made : goal.gists_of-if_of-requires-clause-g_made
-gists_of-if_of-requires-clause-g_made g t c = gists_kept _ _ _ _ _ _ (keeps_trans _ _ _ _ _ _ c.in_ok-h-in-If.ensures.keeps c.in_ok-x-in-If.ensures.keeps) c.in_ok-g-in-If.ensures.made
+pub passed-returns-in_ok-g-in-First-clause-cells : goal.passed-returns-in_ok-g-in-First-clause-cells
+passed-returns-in_ok-g-in-First-clause-cells g t c = cells_kept _ _ _ _ _ _ c.in_ok-g-in-First.ensures.keeps c.in_ok-each-in-First.ensures.cells
 
-pub gists_of-if_of-requires-clause-h_made : goal.gists_of-if_of-requires-clause-h_made
-gists_of-if_of-requires-clause-h_made g t c = gists_kept _ _ _ _ _ _ c.in_ok-x-in-If.ensures.keeps c.in_ok-h-in-If.ensures.made
+pub passed-returns-in_ok-g-in-First-clause-target : goal.passed-returns-in_ok-g-in-First-clause-target
+passed-returns-in_ok-g-in-First-clause-target g t c = target_kept _ _ _ _ _ _ c.in_ok-g-in-First.ensures.keeps c.in_ok-each-in-First.ensures.target
 
-pub gists_of-returns-in_ok-g-in-First-clause-is : goal.gists_of-returns-in_ok-g-in-First-clause-is
-gists_of-returns-in_ok-g-in-First-clause-is g t c = First_of_it _ _ _ _ _ _ _ _ _ _ _ _ _ _ _ c.in-First.is c.as_slice-in-First.ensures c.as_slice-in-First-2.ensures.value c.in_ok-each-in-First.ensures.are c.in_ok-g-in-First.ensures.gist
+pub passed-returns-in_ok-g-in-Forall-clause-is : goal.passed-returns-in_ok-g-in-Forall-clause-is
+passed-returns-in_ok-g-in-Forall-clause-is g t c = Forall_of_it _ _ _ _ _ _ _ _ _ _ _ _ _ _ _ _ _ _ _ c.in-Forall.is c.get-inner.ensures c.as_slice-bindings.ensures.value c.as_slice-gists.ensures.value (λ z aim. c.in_ok-inners-in-Forall.ensures z.view.world aim.seen.world) c.in_ok-found-in-Forall.ensures.are c.in_ok-g-in-Forall.ensures.gist
 
-pub gists_of-returns-in_ok-g-in-First-clause-cells : goal.gists_of-returns-in_ok-g-in-First-clause-cells
-gists_of-returns-in_ok-g-in-First-clause-cells g t c = cells_kept _ _ _ _ _ _ c.in_ok-g-in-First.ensures.keeps c.in_ok-each-in-First.ensures.cells
+pub passed-returns-in_ok-g-in-Forall-clause-cells : goal.passed-returns-in_ok-g-in-Forall-clause-cells
+passed-returns-in_ok-g-in-Forall-clause-cells g t c = cells_kept _ _ _ _ _ _ c.in_ok-g-in-Forall.ensures.keeps c.in_ok-found-in-Forall.ensures.cells
 
-pub gists_of-returns-in_ok-g-in-First-clause-target : goal.gists_of-returns-in_ok-g-in-First-clause-target
-gists_of-returns-in_ok-g-in-First-clause-target g t c = target_kept _ _ _ _ _ _ c.in_ok-g-in-First.ensures.keeps c.in_ok-each-in-First.ensures.target
-
-pub gists_of-returns-in_ok-g-in-Forall-clause-is : goal.gists_of-returns-in_ok-g-in-Forall-clause-is
-gists_of-returns-in_ok-g-in-Forall-clause-is g t c = Forall_of_it _ _ _ _ _ _ _ _ _ _ _ _ _ _ _ _ _ _ _ c.in-Forall.is c.get-in-Forall.ensures c.as_slice-in-Forall.ensures.value c.as_slice-in-Forall-2.ensures.value (λ z aim. c.in_ok-inners-in-Forall.ensures z.view.world aim.seen.world) c.in_ok-each-in-Forall.ensures.are c.in_ok-g-in-Forall.ensures.gist
-
-pub gists_of-returns-in_ok-g-in-Forall-clause-cells : goal.gists_of-returns-in_ok-g-in-Forall-clause-cells
-gists_of-returns-in_ok-g-in-Forall-clause-cells g t c = cells_kept _ _ _ _ _ _ c.in_ok-g-in-Forall.ensures.keeps c.in_ok-each-in-Forall.ensures.cells
-
-pub gists_of-returns-in_ok-g-in-Forall-clause-target : goal.gists_of-returns-in_ok-g-in-Forall-clause-target
-gists_of-returns-in_ok-g-in-Forall-clause-target g t c = target_kept _ _ _ _ _ _ c.in_ok-g-in-Forall.ensures.keeps c.in_ok-each-in-Forall.ensures.target
+pub passed-returns-in_ok-g-in-Forall-clause-target : goal.passed-returns-in_ok-g-in-Forall-clause-target
+passed-returns-in_ok-g-in-Forall-clause-target g t c = target_kept _ _ _ _ _ _ c.in_ok-g-in-Forall.ensures.keeps c.in_ok-found-in-Forall.ensures.target
 
 pub gists_each-loop-part-init : goal.gists_each-loop-part-init
 gists_each-loop-part-init g t c = record { keeps = keeps_same _ _ _ _; made = subst (AllGistsMade _) (sym c.new-each.ensures.items) tt; cells_made = c.requires.cells_made; target_made = c.requires.target_made; are = gists_begin _ _ _ _ _ _ _ _ _ _ refl c.new-each.ensures.items }
@@ -62,17 +52,17 @@ gists_each-loop-part-preserved g t c =
     let step : drop c.loop-part.part-index c.args.parts.now ≡ c.part-item.result ∷ drop (c.loop-part.part-index + 1) c.args.parts.now = grind (arith, common_steps) in
     record {
       keeps = keeps_trans _ _ _ _ _ _ c.loop-part.invariant.keeps c.in_ok-g.ensures.keeps;
-      made = gists_pushed _ _ _ _ _ _ _ _ c.in_ok-g.ensures.keeps c.in_ok-push.ensures.items c.loop-part.invariant.made c.in_ok-g.ensures.made;
+      made = gists_added _ _ _ _ _ _ _ _ c.in_ok-g.ensures.keeps c.in_ok-add_some.ensures c.loop-part.invariant.made c.in_ok-g.ensures.made;
       cells_made = c.in_ok-g.ensures.cells;
       target_made = c.in_ok-g.ensures.target;
-      are = gists_go _ _ _ _ _ _ _ _ _ _ c.loop-part.invariant.keeps c.in_ok-g.ensures.keeps c.requires.cells_made c.requires.target_made _ _ _ _ _ _ _ _ step c.in_ok-push.ensures.items c.loop-part.invariant.made c.loop-part.invariant.are c.in_ok-g.ensures.is;
+      are = gists_go _ _ _ _ _ _ _ _ _ _ c.loop-part.invariant.keeps c.in_ok-g.ensures.keeps c.requires.cells_made c.requires.target_made _ _ _ _ _ _ _ _ step c.in_ok-add_some.ensures c.loop-part.invariant.made c.loop-part.invariant.are c.in_ok-g.ensures.is;
     }
 
 pub gists_each-returns-in_err-g-clause-keeps : goal.gists_each-returns-in_err-g-clause-keeps
-gists_each-returns-in_err-g-clause-keeps g t c = keeps_trans _ _ _ _ _ _ c.loop-part.invariant.keeps c.gists_of.ensures.keeps
+gists_each-returns-in_err-g-clause-keeps g t c = keeps_trans _ _ _ _ _ _ c.loop-part.invariant.keeps c.passed.ensures.keeps
 
-pub gists_each-returns-in_err-push-clause-keeps : goal.gists_each-returns-in_err-push-clause-keeps
-gists_each-returns-in_err-push-clause-keeps g t c = keeps_trans _ _ _ _ _ _ c.loop-part.invariant.keeps c.in_ok-g.ensures.keeps
+pub gists_each-returns-in_err-add_some-clause-keeps : goal.gists_each-returns-in_err-add_some-clause-keeps
+gists_each-returns-in_err-add_some-clause-keeps g t c = keeps_trans _ _ _ _ _ _ c.loop-part.invariant.keeps c.in_ok-g.ensures.keeps
 
 pub gists_each-returns-clause-keeps : goal.gists_each-returns-clause-keeps
 gists_each-returns-clause-keeps g t c = c.loop-part.invariant.keeps
@@ -99,17 +89,17 @@ gists_along-loop-inner-preserved g t c =
     let step : drop c.loop-inner.inner-index c.args.bindings.now ≡ c.inner-item.result ∷ drop (c.loop-inner.inner-index + 1) c.args.bindings.now = grind (arith, common_steps) in
     record {
       keeps = keeps_trans _ _ _ _ _ _ c.loop-inner.invariant.keeps c.in_ok-g.ensures.keeps;
-      made = gists_pushed _ _ _ _ _ _ _ _ c.in_ok-g.ensures.keeps c.in_ok-push.ensures.items c.loop-inner.invariant.made c.in_ok-g.ensures.made;
+      made = gists_added _ _ _ _ _ _ _ _ c.in_ok-g.ensures.keeps c.in_ok-add_some.ensures c.loop-inner.invariant.made c.in_ok-g.ensures.made;
       cells_made = c.in_ok-g.ensures.cells;
       target_made = c.in_ok-g.ensures.target;
-      are = along_goes _ _ _ _ _ _ _ _ _ _ c.loop-inner.invariant.keeps c.in_ok-g.ensures.keeps c.requires.cells_made c.requires.target_made _ _ _ _ _ _ _ _ _ step c.in_ok-push.ensures.items c.as_slice.ensures c.loop-inner.invariant.made c.loop-inner.invariant.are c.in_ok-g.ensures.is;
+      are = along_goes _ _ _ _ _ _ _ _ _ _ c.loop-inner.invariant.keeps c.in_ok-g.ensures.keeps c.requires.cells_made c.requires.target_made _ _ _ _ _ _ _ _ _ step c.in_ok-add_some.ensures c.as_slice.ensures c.loop-inner.invariant.made c.loop-inner.invariant.are c.in_ok-g.ensures.is;
     }
 
 pub gists_along-returns-in_err-g-clause-keeps : goal.gists_along-returns-in_err-g-clause-keeps
-gists_along-returns-in_err-g-clause-keeps g t c = keeps_trans _ _ _ _ _ _ c.loop-inner.invariant.keeps c.gists_of.ensures.keeps
+gists_along-returns-in_err-g-clause-keeps g t c = keeps_trans _ _ _ _ _ _ c.loop-inner.invariant.keeps c.passed.ensures.keeps
 
-pub gists_along-returns-in_err-push-clause-keeps : goal.gists_along-returns-in_err-push-clause-keeps
-gists_along-returns-in_err-push-clause-keeps g t c = keeps_trans _ _ _ _ _ _ c.loop-inner.invariant.keeps c.in_ok-g.ensures.keeps
+pub gists_along-returns-in_err-add_some-clause-keeps : goal.gists_along-returns-in_err-add_some-clause-keeps
+gists_along-returns-in_err-add_some-clause-keeps g t c = keeps_trans _ _ _ _ _ _ c.loop-inner.invariant.keeps c.in_ok-g.ensures.keeps
 
 pub gists_along-returns-clause-keeps : goal.gists_along-returns-clause-keeps
 gists_along-returns-clause-keeps g t c = c.loop-inner.invariant.keeps
