@@ -120,8 +120,8 @@ fn kept(counts: bool, value: Option<u16>) -> Option<u16>
     if counts { value } else { None }
 }
 
-// The classes, told apart by one more criterion.
-fn round(
+// The classes, told apart by the values of one more criterion.
+fn told_apart(
     alloc: Global,
     all: &[Assignment],
     classes: &[usize],
@@ -133,6 +133,32 @@ fn round(
     let values = values(alloc, all, by)?;
     let marks = steady(alloc, classes, &values)?;
     refined(alloc, classes, &values, &marks)
+}
+
+// Whether no assignment has a value, so that nothing is told apart. Nothing rests on it.
+fn has_none(all: &[Assignment], by: Criterion) -> bool {
+    for x in all {
+        if value_of(x, by).is_some() {
+            return false;
+        }
+    }
+    true
+}
+
+// The same, where there are values. The classes stay as they are where there are none.
+fn round(
+    alloc: Global,
+    all: &[Assignment],
+    classes: &[usize],
+    by: Criterion,
+) -> Result<Vec<usize>, AllocError>
+    requires { AreClassed (map standing_of all.now) classes.now (length all.now) }
+    ensures { IfOk result (λ refined. AreClassed (map standing_of all.now) refined.items (length all.now)) }
+{
+    if has_none(all, by) {
+        return Vec::from_slice(alloc, classes);
+    }
+    told_apart(alloc, all, classes, by)
 }
 
 // The greatest number of indexes that a left side has, as far as they are looked at.

@@ -5,7 +5,7 @@ use Rattle.smv_single_assignment.specs.Links.{AreClassed}
 use Rattle.smv_single_assignment.specs.Classes.{AreRefined, AreSteady}
 use Rattle.smv_single_assignment.proofs.LinkLaws.{held-length}
 use Rattle.smv_single_assignment.proofs.ClassLaws.{on-ok, round-classed}
-use Rattle.smv_single_assignment.proofs.classes.round.Goals as goal
+use Rattle.smv_single_assignment.proofs.classes.told_apart.Goals as goal
 
 pub returns : goal.returns
 returns c =
