@@ -11,7 +11,7 @@ use Rattle.smv_design.specs.declared.owners.Owner.{Owner}
 use Rattle.smv_design.specs.declared.parts.Part.{Part}
 use Rattle.smv_design.specs.declared.groups.Sides.{Sides}
 use Rattle.smv_design.specs.Parts.{kept}
-use Rattle.smv_design.specs.Groups.{same_owner, parts_for, no_sides, filled, more, combine, or_none, used, one_more}
+use Rattle.smv_design.specs.Groups.{same_owner, parts_for, no_sides, filled, more, combine, or_none, used, held, one_more}
 use Rattle.smv_design.proofs.OwnerLaws.{owners-equal, owners-turned}
 
 -- an owner that had no parts gets its first
@@ -25,15 +25,22 @@ first-part m m' owner is_second says sides none one updates other = updates.0 ot
         ap (λ s. Some s) one ∙ sym (ap (λ o. Some (more (or_none o) is_second says)) here)
     by false e = refl
 
+-- nothing is said yet
+pub none-held : {S : Type 0} (groups : HashMap Owner Sides S) (owner : Owner) → groups.entries ≡ [] → held groups owner ≡ no_sides
+none-held groups owner e = rw e refl
+
 -- ---- more parts
 
-filled-none : (s : Sides) (is_second : Bool) → filled s is_second [] ≡ s
+pub filled-none : (s : Sides) (is_second : Bool) → filled s is_second [] ≡ s
 filled-none s true = ap (λ (l : List Flat). let t : Sides = record { first = s.first; second = l } in t) (append-nil s.second)
 filled-none s false = ap (λ (l : List Flat). let t : Sides = record { first = l; second = s.second } in t) (append-nil s.first)
 
+pub filled-both : (s : Sides) (is_second : Bool) (xs ys : List Flat) → filled (filled s is_second xs) is_second ys ≡ filled s is_second (xs ++ ys)
+filled-both s true xs ys = ap (λ (l : List Flat). let t : Sides = record { first = s.first; second = l } in t) (append_assoc s.second xs ys)
+filled-both s false xs ys = ap (λ (l : List Flat). let t : Sides = record { first = l; second = s.second } in t) (append_assoc s.first xs ys)
+
 filled-more : (s : Sides) (is_second : Bool) (says : Flat) (rest : List Flat) → filled (more s is_second says) is_second rest ≡ filled s is_second (says ∷ rest)
-filled-more s true says rest = ap (λ (l : List Flat). let t : Sides = record { first = s.first; second = l } in t) (append_assoc s.second (says ∷ []) rest)
-filled-more s false says rest = ap (λ (l : List Flat). let t : Sides = record { first = l; second = s.second } in t) (append_assoc s.first (says ∷ []) rest)
+filled-more s is_second says rest = filled-both s is_second (says ∷ []) rest
 
 -- one more part of a list
 pub filled-step : (before after : Option Sides) (p : Part) (owner : Owner) (is_second : Bool) (rest : List Part) → after ≡ one_more before (same_owner p.owner owner) is_second p.says

@@ -1,5 +1,5 @@
 -- The assignments of statements and what statements say of a family, on statements that are made of lists and values.
-use Rattle.std.proofs.Common.{◌≡◌, ℕ, ◌+◌, List, [], ◌∷◌, ◌++◌, Option, Bool, true, false, not, cond, length, filter, refl, sym, ap, ◌∙◌}
+use Rattle.std.proofs.Common.{◌≡◌, ℕ, ◌+◌, List, [], ◌∷◌, ◌++◌, Option, Some, Bool, true, false, not, cond, length, filter, refl, sym, ap, ◌∙◌}
 use Rattle.std.specs.List.{flat_map}
 use Rattle.std.proofs.lemmas.List.{append-nil, length-append}
 use Rattle.std.specs.Prelude.{◌&&◌, nat_eq, if◌then◌else◌}
@@ -16,10 +16,12 @@ use Rattle.law_flattening.specs.WholeText.{is_one_layer}
 use Rattle.law_single_assignment.specs.Definitions.{is_nothing, joined, first_part, branches, each_value, flat_of, flats_of}
 use Rattle.smv_design.specs.declared.owners.Owner.{Owner}
 use Rattle.smv_design.specs.Parts.{size, sizes, kept, said}
-use Rattle.smv_design.specs.Groups.{parts_for}
+use Rattle.smv_design.specs.declared.groups.Sides.{Sides}
+use Rattle.smv_design.specs.Groups.{parts_for, same_owner, no_sides, filled, combine, or_none, one_more}
 use Rattle.smv_design.specs.Told.{told, told_from}
 use Rattle.smv_design.specs.Acts.{heads_in, heads_in_row, heads_in_all}
 use Rattle.smv_design.proofs.OwnerLaws.{one-layer, layers-turned}
+use Rattle.smv_design.proofs.GroupLaws.{filled-none, filled-step}
 use mathlib.Core.Former.{Count}
 
 abbrev stmts_of : FlatStmt → (n : Count) × Row_of-FlatStmt n
@@ -193,7 +195,7 @@ module _ (kind : Kind) (layer : Option ℕ) (owner : Owner) where
   told-all true e k (x ∷ xs) = ap (λ b. kept (cond b (said kind owner.family k x) Nothing) ++ told_from kind layer owner (k + size x) xs) e ∙ ap (λ l. kept (said kind owner.family k x) ++ l) (told-all true e (k + size x) xs)
   told-all false e k (x ∷ xs) = ap (λ b. kept (cond b (said kind owner.family k x) Nothing) ++ told_from kind layer owner (k + size x) xs) e ∙ told-all false e (k + size x) xs
 
-  told-Block : (k : ℕ) (acts : List FlatStmt) → told kind layer owner k (Block acts) ≡ joined (told_from kind layer owner k acts)
+  pub told-Block : (k : ℕ) (acts : List FlatStmt) → told kind layer owner k (Block acts) ≡ joined (told_from kind layer owner k acts)
   unfolding told
   told-Block k acts = by is_of refl
     where
@@ -245,6 +247,37 @@ module _ (kind : Kind) (layer : Option ℕ) (owner : Owner) where
 
   pub Block-made : (k : ℕ) (acts : List FlatStmt) → kept (joined (told_from kind layer owner k acts)) ≡ kept (told kind layer owner k (Block acts))
   Block-made k acts = ap kept (sym (told-Block k acts))
+
+  -- ---- as what a statement says is added to what is said
+
+  -- an assignment of another kind
+  pub none-added : (before : Sides) (is_second : Bool) (k : ℕ) (which : Kind) (family : ℕ) (left : List FlatExpr) (value : FlatExpr) (at : ℕ) → same_kind which kind ≡ false
+      → before ≡ filled before is_second (kept (told kind layer owner k (Assign which family left value at)))
+  none-added before is_second k which family left value at e = sym (ap (filled before is_second) (sym (nothing-made k which family left value at e)) ∙ filled-none before is_second)
+
+  pub Assign-added : (before after : Option Sides) (is_second : Bool) (k : ℕ) (which : Kind) (family : ℕ) (left : List FlatExpr) (value : FlatExpr) (at : ℕ) → same_kind which kind ≡ true
+      → after ≡ one_more before (same_owner (record { layer = layer; family = family }) owner) is_second (flat.Assign left value k at)
+      → or_none after ≡ filled (or_none before) is_second (kept (told kind layer owner k (Assign which family left value at)))
+  Assign-added before after is_second k which family left value at e one =
+      sym (filled-none (or_none after) is_second)
+      ∙ filled-step before after (record { owner = record { layer = layer; family = family }; says = flat.Assign left value k at }) owner is_second [] one
+      ∙ ap (filled (or_none before) is_second) (Assign-made k which family left value at e)
+
+  -- the sides of an `if`, each of which is as one what its branch says
+  pub If-added : (sides one two : Sides) (ps qs : List Flat) (k : ℕ) (test : FlatExpr) (l r : FlatStmt) → sides ≡ no_sides → one ≡ filled sides false ps → two ≡ filled one true qs
+      → joined ps ≡ told kind layer owner k l → joined qs ≡ told kind layer owner (k + size l) r → kept (combine (Some test) two) ≡ kept (told kind layer owner k (If test l r))
+  If-added sides one two ps qs k test l r none first second left right =
+      ap (λ s. kept (combine (Some test) s)) (second ∙ ap (λ s. filled s true qs) (first ∙ ap (λ s. filled s false ps) none))
+      ∙ ap (λ p. kept (branches test p (joined qs))) left ∙ ap (λ p. kept (branches test (told kind layer owner k l) p)) right ∙ ap kept (sym (told-If k test l r))
+
+  -- what stands alone, as one
+  pub alone : (inner all : Sides) (ps : List Flat) (k : ℕ) (act : FlatStmt) → inner ≡ no_sides → all ≡ filled inner false ps → joined ps ≡ told kind layer owner k act → joined all.first ≡ told kind layer owner k act
+  alone inner all ps k act none more says = ap (λ (s : Sides). joined s.first) (more ∙ ap (λ s. filled s false ps) none) ∙ says
+
+  pub Default-added : (k : ℕ) (l r : FlatStmt) (first second : List Flat) → joined first ≡ told kind layer owner k l → joined second ≡ told kind layer owner (k + size l) r
+      → kept (joined (kept (joined second) ++ kept (joined first))) ≡ kept (told kind layer owner k (Default l r))
+  Default-added k l r first second left right =
+      ap (λ p. kept (joined (kept p ++ kept (joined first)))) right ∙ ap (λ p. kept (joined (kept (told kind layer owner (k + size l) r) ++ kept p))) left ∙ Default-made k l r
 
   -- ---- what a statement of a text says of an owner
 

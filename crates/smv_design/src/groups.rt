@@ -34,16 +34,23 @@ fn put(sides: &mut Sides, is_second: bool, says: Flat) -> Result<(), AllocError>
 fn only(is_second: bool, says: Flat, alloc: Global) -> Result<Sides, AllocError>
     ensures { IfOk result (λ sides. sides ≡ more no_sides is_second says) }
 {
-    let mut sides = Sides {
-        first: Seq::new(alloc),
-        second: Seq::new(alloc),
-    };
-    put(&mut sides, is_second, says)?;
-    Ok(sides)
+    let one = Seq::from_vec(vec![in alloc; says]?);
+    let none = Seq::new(alloc);
+    if is_second {
+        Ok(Sides {
+            first: none,
+            second: one,
+        })
+    } else {
+        Ok(Sides {
+            first: one,
+            second: none,
+        })
+    }
 }
 
-// One more part of its owner.
-fn add(
+/// One more part, with its owner's.
+pub fn add(
     groups: &mut HashMap<Owner, Sides>,
     part: Part,
     is_second: bool,

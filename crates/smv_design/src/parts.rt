@@ -11,7 +11,7 @@ use smv_core::boxed::Boxed;
 use smv_core::flat::{Flat, FlatExpr, Simple};
 use smv_core::seq::Seq;
 use smv_core::tree::Kind;
-use smv_flat_copies::{copy_expression, copy_expressions};
+use smv_flat_copies::copy_expression;
 use std::alloc::{AllocError, Global};
 
 /// What is said of an owner.
@@ -94,6 +94,17 @@ pub fn each_value(var: u16, over: Simple, body: Flat, alloc: Global) -> Result<F
     Ok(Flat::Forall { var, over, body })
 }
 
+// A copy of each of these indexes, in no more memory than they take.
+fn copied(indexes: &[FlatExpr], alloc: Global) -> Result<Seq<FlatExpr>, AllocError>
+    ensures { IfOk result (λ copies. copies ≡ indexes.now) }
+{
+    let mut copies = Vec::with_capacity(alloc, indexes.len())?;
+    for index in indexes {
+        copies.push(copy_expression(index, alloc)?)?;
+    }
+    Ok(Seq::from_vec(copies))
+}
+
 /// An assignment.
 pub fn assigned(
     left: &[FlatExpr],
@@ -104,7 +115,7 @@ pub fn assigned(
 ) -> Result<Flat, AllocError>
     ensures { IfOk result (λ part. part ≡ Flat.Assign left.now value.now place at) }
 {
-    let left = copy_expressions(left, alloc)?;
+    let left = copied(left, alloc)?;
     let value = copy_expression(value, alloc)?;
     Ok(Flat::Assign {
         left,

@@ -1,44 +1,32 @@
 // What statements say, for one kind of assignment: each statement is gone over once, and gives what it says of all owners.
-ghost use Rattle.std.specs.Prelude.{◌≡◌, ◌+◌, ◌++◌, ◌∷◌, [], IfOk, flat_map};
-ghost use Rattle.law_single_assignment.specs.Definitions.{joined as joined_of, branches as branches_of, each_value as each_value_of};
+ghost use Rattle.std.specs.Prelude.{◌≡◌, ◌+◌, ◌++◌, List, IfOk, OnOk, flat_map};
+ghost use Rattle.smv_core.specs.declared.flat.Flat.{Flat};
+ghost use Rattle.law_single_assignment.specs.Definitions.{joined as joined_of, each_value as each_value_of};
 ghost use Rattle.smv_design.specs.declared.owners.Owner.{Owner};
 ghost use Rattle.smv_design.specs.Parts.{kept, size, sizes};
-ghost use Rattle.smv_design.specs.Groups.{parts_for, held};
+ghost use Rattle.smv_design.specs.Groups.{parts_for, filled, held};
 ghost use Rattle.smv_design.specs.Told.{told, told_from, told_by};
 
 use crate::acts::Act;
-use crate::groups::{Sides, add_all, merged};
+use crate::groups::{Sides, add, add_all, merged};
 use crate::owners::Owner;
 use crate::parts::{Part, assigned, each_value, is_same, keep};
 use crate::places::place_after;
-use smv_core::flat::{Flat, FlatExpr, FlatStmt, Simple};
+use smv_core::flat::{FlatStmt, Simple};
 use smv_core::tree::Kind;
 use std::alloc::{AllocError, Global};
 use std::collections::HashMap;
 
-// The parts of an `if` of these branches.
-fn chosen(
-    cond: &FlatExpr,
-    yes: Vec<Part>,
-    no: Vec<Part>,
-    alloc: Global,
-) -> Result<Vec<Part>, AllocError>
-    ensures { IfOk result (λ parts. (owner : Owner) → parts_for owner parts.items ≡ kept (branches_of cond.now (joined_of (parts_for owner yes.items)) (joined_of (parts_for owner no.items)))) }
-{
-    let mut groups = HashMap::new(alloc);
-    add_all(&mut groups, yes, false, alloc)?;
-    add_all(&mut groups, no, true, alloc)?;
-    merged(groups, Some(cond), alloc)
-}
-
-// The parts of a `default`: those of the second statement stand first.
+// The parts of a `default`, by what its statements say: those of the second stand first.
 fn default_parts(
-    first: Vec<Part>,
-    second: Vec<Part>,
+    first: HashMap<Owner, Sides>,
+    second: HashMap<Owner, Sides>,
     alloc: Global,
 ) -> Result<Vec<Part>, AllocError>
-    ensures { IfOk result (λ parts. (owner : Owner) → parts_for owner parts.items ≡ kept (joined_of (parts_for owner second.items ++ parts_for owner first.items))) }
+    ensures { IfOk result (λ parts. (owner : Owner) → parts_for owner parts.items ≡ kept (joined_of (kept (joined_of (held second owner).first) ++ kept (joined_of (held first owner).first)))) }
 {
+    let first = merged(first, None, alloc)?;
+    let second = merged(second, None, alloc)?;
     let mut groups = HashMap::new(alloc);
     add_all(&mut groups, second, false, alloc)?;
     add_all(&mut groups, first, false, alloc)?;
@@ -63,27 +51,20 @@ fn each_part(
     Ok(parts)
 }
 
-// One part alone.
-fn only(owner: Owner, says: Flat, alloc: Global) -> Result<Vec<Part>, AllocError>
-    ensures { IfOk result (λ parts. parts.items ≡ record { owner = owner; says = says } ∷ []) }
-{
-    let mut parts = Vec::new(alloc);
-    parts.push(Part { owner, says })?;
-    Ok(parts)
-}
-
-/// What a statement of a layer says, whose first assignment has this place, and the place behind it.
+/// What a statement of a layer says, whose first assignment has this place, is added to what is said of each owner. Gives the place behind the statement.
 #[cycle(parts)]
 #[tactic(auto, using(crate::proofs::StatementLaws::parts, crate::proofs::StatementLaws::counts))]
-pub fn parts_of(
+pub fn add_said(
+    groups: &mut HashMap<Owner, Sides>,
     act: &FlatStmt,
     layer: Option<u16>,
     kind: Kind,
     place: u32,
+    is_second: bool,
     alloc: Global,
-) -> Result<(Vec<Part>, u32), AllocError>
-    ensures parts { IfOk result (λ found. (owner : Owner) → parts_for owner found.0.items ≡ kept (told kind layer owner place act.now)) }
-    ensures after { IfOk result (λ found. found.1 ≡ place + size act.now) }
+) -> Result<u32, AllocError>
+    ensures parts { OnOk result ((owner : Owner) → held groups.new owner ≡ filled (held groups.old owner) is_second (kept (told kind layer owner place act.now))) }
+    ensures after { IfOk result (λ after. after ≡ place + size act.now) }
 {
     match act {
         FlatStmt::Assign {
@@ -95,53 +76,113 @@ pub fn parts_of(
         } => {
             let after = place_after(place, 1)?;
             if !is_same(*which, kind) {
-                return Ok((Vec::new(alloc), after));
+                return Ok(after);
             }
             let says = assigned(left.as_slice(), value, place, *at, alloc)?;
             let owner = Owner {
                 layer,
                 family: *family,
             };
-            Ok((only(owner, says, alloc)?, after))
+            add(groups, Part { owner, says }, is_second, alloc)?;
+            Ok(after)
         }
         FlatStmt::If { cond, yes, no } => {
-            let (yes, middle) = parts_of(yes.get(), layer, kind, place, alloc)?;
-            let (no, after) = parts_of(no.get(), layer, kind, middle, alloc)?;
-            Ok((chosen(cond, yes, no, alloc)?, after))
+            let mut sides = HashMap::new(alloc);
+            let middle = add_branch(&mut sides, yes.get(), layer, kind, place, false, alloc)?;
+            let after = add_branch(&mut sides, no.get(), layer, kind, middle, true, alloc)?;
+            let parts = merged(sides, Some(cond), alloc)?;
+            add_all(groups, parts, is_second, alloc)?;
+            Ok(after)
         }
-        FlatStmt::Block { parts } => parts_of_all(parts.as_slice(), layer, kind, place, alloc),
+        FlatStmt::Block { parts } => {
+            let mut inner = HashMap::new(alloc);
+            let after = add_each(
+                &mut inner,
+                parts.as_slice(),
+                layer,
+                kind,
+                place,
+                false,
+                alloc,
+            )?;
+            let parts = merged(inner, None, alloc)?;
+            add_all(groups, parts, is_second, alloc)?;
+            Ok(after)
+        }
         FlatStmt::Default { first, second } => {
-            let (first, middle) = parts_of(first.get(), layer, kind, place, alloc)?;
-            let (second, after) = parts_of(second.get(), layer, kind, middle, alloc)?;
-            Ok((default_parts(first, second, alloc)?, after))
+            let mut firsts = HashMap::new(alloc);
+            let middle = add_branch(&mut firsts, first.get(), layer, kind, place, false, alloc)?;
+            let mut seconds = HashMap::new(alloc);
+            let after = add_branch(
+                &mut seconds,
+                second.get(),
+                layer,
+                kind,
+                middle,
+                false,
+                alloc,
+            )?;
+            let parts = default_parts(firsts, seconds, alloc)?;
+            add_all(groups, parts, is_second, alloc)?;
+            Ok(after)
         }
         FlatStmt::Forall { var, over, body } => {
-            let (body, after) = parts_of(body.get(), layer, kind, place, alloc)?;
-            Ok((each_part(*var, *over, body, alloc)?, after))
+            let mut inner = HashMap::new(alloc);
+            let after = add_branch(&mut inner, body.get(), layer, kind, place, false, alloc)?;
+            let parts = each_part(*var, *over, merged(inner, None, alloc)?, alloc)?;
+            add_all(groups, parts, is_second, alloc)?;
+            Ok(after)
         }
     }
 }
 
-// What these statements say.
+// The same of a branch, which is alone on its side: the parts of a block stand there one by one, and as one they are what it says.
 #[cycle(parts)]
-fn parts_of_all(
+#[tactic(auto, using(crate::proofs::StatementLaws::counts))]
+fn add_branch(
+    groups: &mut HashMap<Owner, Sides>,
+    act: &FlatStmt,
+    layer: Option<u16>,
+    kind: Kind,
+    place: u32,
+    is_second: bool,
+    alloc: Global,
+) -> Result<u32, AllocError>
+    ensures parts { OnOk result ((owner : Owner) → (parts : List Flat) × (held groups.new owner ≡ filled (held groups.old owner) is_second parts) × (joined_of parts ≡ told kind layer owner place act.now)) }
+    ensures after { IfOk result (λ after. after ≡ place + size act.now) }
+{
+    match act {
+        FlatStmt::Block { parts } => {
+            let parts = parts.as_slice();
+            let after = add_each(groups, parts, layer, kind, place, is_second, alloc)?;
+            Ok(after)
+        }
+        _ => {
+            let after = add_said(groups, act, layer, kind, place, is_second, alloc)?;
+            Ok(after)
+        }
+    }
+}
+
+// The same of each of these statements.
+#[cycle(parts)]
+fn add_each(
+    groups: &mut HashMap<Owner, Sides>,
     acts: &[FlatStmt],
     layer: Option<u16>,
     kind: Kind,
     place: u32,
+    is_second: bool,
     alloc: Global,
-) -> Result<(Vec<Part>, u32), AllocError>
-    ensures parts { IfOk result (λ found. (owner : Owner) → parts_for owner found.0.items ≡ kept (joined_of (told_from kind layer owner place acts.now))) }
-    ensures after { IfOk result (λ found. found.1 ≡ place + sizes acts.now) }
+) -> Result<u32, AllocError>
+    ensures parts { OnOk result ((owner : Owner) → held groups.new owner ≡ filled (held groups.old owner) is_second (told_from kind layer owner place acts.now)) }
+    ensures after { IfOk result (λ after. after ≡ place + sizes acts.now) }
 {
-    let mut groups = HashMap::new(alloc);
     let mut next = place;
     for act in acts {
-        let (parts, after) = parts_of(act, layer, kind, next, alloc)?;
-        add_all(&mut groups, parts, false, alloc)?;
-        next = after;
+        next = add_said(groups, act, layer, kind, next, is_second, alloc)?;
     }
-    Ok((merged(groups, None, alloc)?, next))
+    Ok(next)
 }
 
 /// What the statements of a text say, by owner.
@@ -154,8 +195,15 @@ pub fn gathered(
 {
     let mut groups = HashMap::new(alloc);
     for act in acts {
-        let (parts, _) = parts_of(&act.act, act.layer, kind, act.place, alloc)?;
-        add_all(&mut groups, parts, false, alloc)?;
+        add_said(
+            &mut groups,
+            &act.act,
+            act.layer,
+            kind,
+            act.place,
+            false,
+            alloc,
+        )?;
     }
     Ok(groups)
 }
