@@ -10,6 +10,7 @@ pub mod CycleLaws
 pub mod Slices
 pub mod TableLaws
 pub mod SortLaws
+pub mod AnyOrderLaws
 pub mod RowLaws
 pub mod GroupLaws
 pub mod ClosingLaws

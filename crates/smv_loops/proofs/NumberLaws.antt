@@ -1,10 +1,10 @@
 -- The numbers of cells: how many there are, and how they follow one another.
-use Rattle.std.proofs.Common.{◌≡◌, ℕ, zero, suc, ◌+◌, ◌-◌, ◌*◌, ◌<◌, ◌≤◌, List, [], ◌∷◌, ◌++◌, map, filter, length, get_or, take, drop, slice_get, Option, Some, None, Bool, true, false, cond, refl, sym, ap, ◌∙◌, arith}
+use Rattle.std.proofs.Common.{◌≡◌, ℕ, zero, suc, ◌+◌, ◌-◌, ◌*◌, ◌<◌, ◌≤◌, List, [], ◌∷◌, ◌++◌, map, filter, length, get_or, take, drop, slice_get, Option, Some, None, Bool, true, false, cond, nat_eq, refl, sym, ap, ◌∙◌, arith}
 use Rattle.std.specs.List.{flat_map}
 use Rattle.std.proofs.lemmas.List.{map-append, append-nil, append_assoc, length-append}
 use Rattle.std.proofs.lemmas.List.Concat.{flat_map-append}
 use Rattle.smv_core.specs.Values.{number, numbers_from}
-use Rattle.smv_core.specs.Assignments.{Index, computed, fits}
+use Rattle.smv_core.specs.Assignments.{Index, computed, fits, fixed}
 use Rattle.smv_core.specs.declared.flat.Simple.{Simple}
 use Rattle.smv_core.specs.declared.flat.Simple.TheVariants.{Range, Enum, Set}
 use Rattle.smv_core.specs.declared.flat.Family.{Family}
@@ -117,6 +117,18 @@ module _ (i : Index) (over : List Simple) (more : List Index) (start : ℕ) wher
 
 -- ---- numbers one after another
 
+equal : (m n : ℕ) → nat_eq m n ≡ true → m ≡ n
+equal m n e = grind arith
+
+apart : (m n : ℕ) → n < m → nat_eq m n ≡ false
+apart m n l = grind arith
+
+behind : (m n : ℕ) → m < n → nat_eq m n ≡ false
+behind m n l = grind arith
+
+above : (m n : ℕ) → nat_eq m n ≡ false → n ≤ m → n < m
+above m n e l = grind arith
+
 pub numbers-more : (low n : ℕ) → numbers_from low (suc n) ≡ numbers_from low n ++ (low + n) ∷ []
 numbers-more low zero = let e : low ≡ low + 0 = omega arith in ap (λ k. k ∷ []) e
 numbers-more low (suc n) =
@@ -132,6 +144,42 @@ places-more low k g l =
     ∙ flat_map-append g (numbers_from low (k - low)) ((low + (k - low)) ∷ [])
     ∙ ap (λ l. flat_map g (numbers_from low (k - low)) ++ l) (append-nil (g (low + (k - low))))
     ∙ ap (λ j. flat_map g (numbers_from low (k - low)) ++ g j) m
+
+-- none of these numbers gives anything
+none-of : (g : ℕ → List ℕ) (low n : ℕ) → ((k : ℕ) → low ≤ k → g k ≡ []) → flat_map g (numbers_from low n) ≡ []
+none-of g low zero h = refl
+none-of g low (suc n) h = ap (λ l. l ++ flat_map g (numbers_from (low + 1) n)) (h low (omega arith)) ∙ none-of g (low + 1) n (λ k l. h k (omega (arith, l)))
+
+none-below : (g : ℕ → List ℕ) (v low n : ℕ) → ((k : ℕ) → nat_eq v k ≡ false → g k ≡ []) → low + n ≤ v → flat_map g (numbers_from low n) ≡ []
+none-below g v low zero h l = refl
+none-below g v low (suc n) h l = ap (λ l. l ++ flat_map g (numbers_from (low + 1) n)) (h low (apart v low (omega (arith, l)))) ∙ none-below g v (low + 1) n h (omega (arith, l))
+
+-- one of them alone does
+one-of : (g : ℕ → List ℕ) (v low n : ℕ) → ((k : ℕ) → nat_eq v k ≡ false → g k ≡ []) → low ≤ v → v < low + n → flat_map g (numbers_from low n) ≡ g v
+one-of g v low zero h a b = absurd (omega (arith, a, b))
+one-of g v low (suc n) h a b = by (nat_eq v low) refl (one-of g v (low + 1) n h)
+  where
+    by : (t : Bool) → nat_eq v low ≡ t → (low + 1 ≤ v → v < low + 1 + n → flat_map g (numbers_from (low + 1) n) ≡ g v) → g low ++ flat_map g (numbers_from (low + 1) n) ≡ g v
+    by true e rest =
+        let same : v ≡ low = equal v low e in
+        ap (λ l. g low ++ l) (none-of g (low + 1) n (λ k l. h k (behind v k (omega (arith, l, same))))) ∙ append-nil (g low) ∙ ap g (sym same)
+    by false e rest =
+        let l : low < v = above v low e a in
+        ap (λ l. l ++ flat_map g (numbers_from (low + 1) n)) (h low e) ∙ rest (omega (arith, l)) (omega (arith, b))
+
+-- the places of a constant over a range
+module _ (low high value : ℕ) (over : List Simple) (more : List Index) (start : ℕ) where
+  other-number : (k : ℕ) → nat_eq value k ≡ false → places_at low (fixed (Some (number value))) over more start k ≡ []
+  other-number k e = places-unfit (fixed (Some (number value))) over more start (k - low) k e
+
+  pub fixed-in : low ≤ value → value ≤ high → range_places low high (fixed (Some (number value))) over more start ≡ digit_places (value - low) (fixed (Some (number value))) over more start value
+  fixed-in a b = one-of (places_at low (fixed (Some (number value))) over more start) value low (high + 1 - low) other-number a (omega (arith, a, b))
+
+  pub fixed-below : value < low → range_places low high (fixed (Some (number value))) over more start ≡ []
+  fixed-below l = none-of (places_at low (fixed (Some (number value))) over more start) low (high + 1 - low) (λ k m. other-number k (behind value k (omega (arith, l, m))))
+
+  pub fixed-above : low ≤ value → high < value → range_places low high (fixed (Some (number value))) over more start ≡ []
+  fixed-above a l = none-below (places_at low (fixed (Some (number value))) over more start) value low (high + 1 - low) other-number (omega (arith, a, l))
 
 pub base-more : (families : List Family) (k : ℕ) (f : Family) → k < length families → f ≡ get_or families k f → base families (k + 1) ≡ base families k + length (every f.over)
 base-more [] k f l e = absurd (omega (arith, l))
@@ -170,6 +218,8 @@ number-cells families family f is e =
   where
     cell_of : ℕ → List (Option ℕ) → Cell
     cell_of family indexes = record { family = family; indexes = indexes }
+
+pub ruleset fixing = (fixed-in, fixed-below, fixed-above)
 
 pub ruleset placing = (places-Range, places-Enum, places-Set)
 

@@ -87,7 +87,7 @@ place a = a.place
 abbrev at_place : ℕ → Reading → Bool
 at_place k a = nat_eq k a.place
 
-in-put : (a b : Reading) (xs : List Reading) → In b (put a xs) → (a ≡ b) ⊎ In b xs
+pub in-put : (a b : Reading) (xs : List Reading) → In b (put a xs) → (a ≡ b) ⊎ In b xs
 in-put a b [] (inl e) = inl e
 in-put a b [] (inr h) = absurd h
 in-put a b (c ∷ xs) h = by (nat_lt a.place c.place) h (in-put a b xs)

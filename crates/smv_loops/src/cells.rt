@@ -1,7 +1,7 @@
 // The cells of a design by their numbers.
-ghost use Rattle.std.specs.Prelude.{◌≡◌, ◌+◌, ◌*◌, ◌∷◌, ◌++◌, ◌<◌, map, length, slice_get, IfOk, OnOk};
+ghost use Rattle.std.specs.Prelude.{◌≡◌, ◌+◌, ◌*◌, ◌∷◌, ◌++◌, ◌<◌, Some, map, length, slice_get, IfOk, OnOk};
 ghost use Rattle.std.specs.List.{All};
-ghost use Rattle.smv_core.specs.Assignments.{computed, fits};
+ghost use Rattle.smv_core.specs.Assignments.{computed, fits, fixed};
 ghost use Rattle.smv_core.specs.Values.{number};
 ghost use Rattle.law_loops_and_layers.specs.Loops as loops;
 ghost use Rattle.law_loops_and_layers.specs.Loops.{at_index, cells_of};
@@ -191,6 +191,53 @@ fn single_numbers(
 // The same, where the first index is one over a range.
 #[cycle(numbering)]
 fn range_numbers(
+    out: &mut Vec<usize>,
+    low: u8,
+    high: u8,
+    over: &[Simple],
+    index: Index,
+    more: &[Index],
+    start: usize,
+) -> Result<(), AllocError>
+    ensures { OnOk result (out.new.items ≡ out.old.items ++ range_places low high (index_of index) over.now (map index_of more.now) start) }
+{
+    match index {
+        Index::Fixed { value: Some(value) } => {
+            fixed_numbers(out, low, high, value, over, more, start)
+        }
+        _ => each_number(out, low, high, over, index, more, start),
+    }
+}
+
+// The same, where the first index is a constant: no other number of the range is looked at.
+#[cycle(numbering)]
+#[tactic(auto, using(crate::proofs::NumberLaws::fixing))]
+fn fixed_numbers(
+    out: &mut Vec<usize>,
+    low: u8,
+    high: u8,
+    value: u16,
+    over: &[Simple],
+    more: &[Index],
+    start: usize,
+) -> Result<(), AllocError>
+    ensures { OnOk result (out.new.items ≡ out.old.items ++ range_places low high (fixed (Some (number value))) over.now (map index_of more.now) start) }
+{
+    let k = usize::from(value);
+    let first = usize::from(low);
+    if k < first {
+        return Ok(());
+    }
+    if k > usize::from(high) {
+        return Ok(());
+    }
+    let index = Index::Fixed { value: Some(value) };
+    numbers_at(out, k, k - first, over, index, more, start)
+}
+
+// The same, where each number of the range is looked at.
+#[cycle(numbering)]
+fn each_number(
     out: &mut Vec<usize>,
     low: u8,
     high: u8,

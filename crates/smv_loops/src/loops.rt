@@ -29,8 +29,14 @@ use std::alloc::{AllocError, Global};
 pub fn loop_fault(alloc: Global, design: &Design) -> Result<Option<Fault>, AllocError>
     ensures { IfOk result (λ fault. fault ≡ first_fault_of_loops design.now) }
 {
-    let held = in_flat_order(undelayed(alloc, design)?)?;
-    let first = first_of(alloc, design.families.as_slice(), held.as_slice())?;
+    let families = design.families.as_slice();
+    let undelayed = undelayed(alloc, design)?;
+    let looping = are_looping(alloc, families, undelayed.as_slice())?;
+    if !looping {
+        return Ok(None);
+    }
+    let held = in_flat_order(undelayed)?;
+    let first = first_of(alloc, families, held.as_slice())?;
     match first {
         None => Ok(None),
         Some(first) => {
@@ -38,6 +44,20 @@ pub fn loop_fault(alloc: Global, design: &Design) -> Result<Option<Fault>, Alloc
             Ok(Some(Fault { number: 18, at }))
         }
     }
+}
+
+// Whether these assignments hold a cycle. Their order does not count.
+fn are_looping(alloc: Global, families: &[Family], held: &[Held]) -> Result<bool, AllocError>
+    ensures { IfOk result (λ looping. looping ≡ spec.hold_a_cycle (flat_map (edges_at families.now) (map reading_of held.now))) }
+{
+    let graph = graph(alloc, families, held)?;
+    hold_a_cycle(
+        alloc,
+        families,
+        graph.nodes,
+        graph.rows,
+        graph.links.as_slice(),
+    )
 }
 
 /// The cells of a design, each after all that it reads at the same time.

@@ -13,6 +13,9 @@ pub struct Links {
     pub to: Vec<usize>,
 }
 
+// How many rounds may lift cells before the order of a graph is looked for.
+const ROUNDS: usize = 8;
+
 /// Ranks of the cells, 0 for none: each edge between cells with ranks falls, and a cell without a rank reads another one.
 pub fn ranks(alloc: Global, cells: usize, links: &[Links]) -> Result<Vec<usize>, AllocError>
     requires { AreBelow cells links.now }
@@ -26,8 +29,54 @@ pub fn ranks(alloc: Global, cells: usize, links: &[Links]) -> Result<Vec<usize>,
     settled(alloc, none, links)
 }
 
-// Ranks to try: nothing rests on them.
+// Ranks to try: nothing rests on them. Where few rounds lift each cell above all that it reads, no graph is made.
 fn tried(alloc: Global, cells: usize, links: &[Links]) -> Result<Vec<usize>, AllocError> {
+    let mut ranks = vec![in alloc; 1; cells]?;
+    for _ in 0..ROUNDS {
+        if !lift_all(ranks.as_mut_slice(), links) {
+            return Ok(ranks);
+        }
+    }
+    ordered(alloc, cells, links)
+}
+
+// Lifts the cells that each assignment concerns above those that it reads. Whether one was lifted.
+fn lift_all(ranks: &mut [usize], links: &[Links]) -> bool {
+    let mut lifted = false;
+    for link in links {
+        let least = least_above(ranks, link.to.as_slice());
+        if lift(ranks, link.from.as_slice(), least) {
+            lifted = true;
+        }
+    }
+    lifted
+}
+
+// A rank above those of these cells.
+fn least_above(ranks: &[usize], cells: &[usize]) -> usize {
+    let mut most: usize = 0;
+    for cell in cells {
+        most = most.max(rank(ranks, *cell));
+    }
+    most.saturating_add(1)
+}
+
+// Lifts these cells to a rank. Whether one was lifted.
+fn lift(ranks: &mut [usize], cells: &[usize], least: usize) -> bool {
+    let mut lifted = false;
+    for cell in cells {
+        if let Some(rank) = ranks.get_mut(*cell) {
+            if *rank < least {
+                *rank = least;
+                lifted = true;
+            }
+        }
+    }
+    lifted
+}
+
+// The ranks of cells by the order of a graph, in which what is read comes first.
+fn ordered(alloc: Global, cells: usize, links: &[Links]) -> Result<Vec<usize>, AllocError> {
     let mut graph: Vec<Vec<usize>> = Vec::new(alloc);
     for _ in 0..cells {
         graph.push(Vec::new(alloc))?;

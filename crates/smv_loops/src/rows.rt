@@ -54,7 +54,7 @@ pub fn rows_read(
 // No place for any cell.
 fn no_places(alloc: Global, bases: &[usize]) -> Result<Vec<Vec<usize>>, AllocError> {
     let cells = bases.last().copied().unwrap_or(0);
-    let mut places = Vec::new(alloc);
+    let mut places = Vec::with_capacity(alloc, cells)?;
     for _ in 0..cells {
         places.push(Vec::new(alloc))?;
     }
