@@ -1,15 +1,37 @@
 //! What expressions may be in a state.
 
-use crate::problems::posed;
-use crate::states::{keys, state_of, values_of};
+ghost use Rattle.smv_problem.specs.WellFormed.{IsProblem};
+
+use crate::states::{keys, keys_of, state_of};
 use smv_core::Refusal;
 use smv_eval::may;
-use smv_problem::Demand;
+use smv_posed::problems::posed;
+use smv_posed::texts::{ALL, INDEX, ORDER};
+use smv_problem::{AbsState, Demand, Problem};
 use smv_states::is_state;
-use std::alloc::Global;
+use std::alloc::{AllocError, Global};
 use std::test::Fail;
 
-// What the body of a text's first claim may be in a state of a case, or none where there is no such state.
+// What the body of a claim may be in a state, or none where it is no such state.
+fn may_in(
+    alloc: Global,
+    problem: &Problem,
+    state: &AbsState,
+) -> Result<Option<Vec<u32>>, AllocError>
+    requires { IsProblem problem.now }
+{
+    if !is_state(problem, state) {
+        return Ok(None);
+    }
+    let Demand::Holds { body, bindings } = &problem.target else {
+        return Ok(None);
+    };
+    let values = may(alloc, problem, body, bindings.as_slice(), state)?;
+    let keys = keys(alloc, values.as_slice())?;
+    Ok(Some(keys))
+}
+
+// The same of a case of a text's first claim, or none where there is no such case.
 fn may_be(
     alloc: Global,
     text: &str,
@@ -20,20 +42,11 @@ fn may_be(
     let Some(problem) = posed(alloc, text, 0, case)? else {
         return Ok(None);
     };
-    if !is_state(&problem, &state) {
-        return Ok(None);
-    }
-    let Demand::Holds { body, bindings } = &problem.target else {
-        return Ok(None);
-    };
-    let values = may(alloc, &problem, body, bindings.as_slice(), &state)?;
-    let keys = keys(alloc, values.as_slice())?;
-    Ok(Some(keys))
+    let values = may_in(alloc, &problem, &state)?;
+    Ok(values)
 }
 
 const SUM: &str = "module main() { x : 0..255; p : assert G (x + x + 2 = 0); }";
-
-const INDEX: &str = "module main() { x : array 0..1 of 0..0; n : 0..2; p : assert G (x[n] = 0); }";
 
 const RESTS: &str = "scalarset P undefined; module main() { a, b : P; p : assert G (a = b); }";
 
@@ -41,9 +54,6 @@ const CLASS: &str =
     "scalarset P undefined; module main() { a : P; forall (i in P) p[i] : assert G (a = i); }";
 
 const GAPS: &str = "ordset I undefined; module main() { a, b : I; p : assert G (a < b); }";
-
-const ORDER: &str =
-    "ordset I undefined; module main() { a : I; forall (i in I) p[i] : assert G (a < i); }";
 
 const ELEMENT: &str =
     "scalarset P undefined; module main() { a : P; x : array P of boolean; forall (i in P) p[i] : assert G x[a]; }";
@@ -59,9 +69,6 @@ const EACH: &str =
 
 const SOME: &str =
     "scalarset P undefined; module main() { x : array P of boolean; forall (i in P) p[i] : assert G (|[x[j] : j in P]); }";
-
-const NONE: &str =
-    "scalarset P undefined; module main() { v : array P of boolean; p : assert G (&[v[i] : i in P] -> |[v[i] : i in P]); }";
 
 const BRANCH: &str =
     "module main() { x : array 0..1 of boolean; n : 0..2; p : assert G (x[n] ? 1 : 0); }";
@@ -105,7 +112,7 @@ const ROWS: &[(&str, usize, &str, &str)] = &[
     (EACH, 0, "0", "0"),
     (SOME, 0, "1", "1"),
     (SOME, 0, "0", "0 1"),
-    (NONE, 0, "", "0 1"),
+    (ALL, 0, "", "0 1"),
 ];
 
 // The answers follow from the rules by which outcomes are formed, each row by that which stands above it.
@@ -113,8 +120,7 @@ const ROWS: &[(&str, usize, &str, &str)] = &[
 fn expressions_may_be_what_their_rules_say(rt: HostRuntime) -> Result<(), Fail> {
     for (text, case, state, values) in ROWS {
         let got = may_be(rt.alloc(), text, *case, state)?;
-        let values = values_of(rt.alloc(), values)?;
-        let want = keys(rt.alloc(), values.as_slice())?;
+        let want = keys_of(rt.alloc(), values)?;
         assert_eq!(rt; got, Some(want), "{text} in {state}");
     }
     Ok(())

@@ -34,8 +34,8 @@ fn value_of(word: &[u8]) -> AbsValue {
     }
 }
 
-/// The values of these words.
-pub fn values_of(alloc: Global, words: &str) -> Result<Seq<AbsValue>, AllocError> {
+// The values of these words.
+fn values_of(alloc: Global, words: &str) -> Result<Seq<AbsValue>, AllocError> {
     let mut values = Seq::new(alloc);
     for word in words.split_ascii_whitespace() {
         values.push(value_of(word.as_bytes()))?;
@@ -49,15 +49,24 @@ pub fn state_of(alloc: Global, words: &str) -> Result<AbsState, AllocError> {
     Ok(AbsState { values })
 }
 
-/// The same where there are words.
-pub fn maybe_state_of(alloc: Global, words: Option<&str>) -> Result<Option<AbsState>, AllocError> {
-    match words {
-        Some(words) => {
-            let state = state_of(alloc, words)?;
-            Ok(Some(state))
-        }
-        None => Ok(None),
-    }
+/// The state before, where there is one, and the state now.
+#[derive(Drop)]
+pub struct States {
+    pub old: Option<AbsState>,
+    pub new: AbsState,
+}
+
+/// Those with the values of these words.
+pub fn states_of(alloc: Global, old: Option<&str>, new: &str) -> Result<States, AllocError> {
+    let new = state_of(alloc, new)?;
+    let Some(words) = old else {
+        return Ok(States { old: None, new });
+    };
+    let old = state_of(alloc, words)?;
+    Ok(States {
+        old: Some(old),
+        new,
+    })
 }
 
 // A number for a value, another one for each.
@@ -78,5 +87,12 @@ pub fn keys(alloc: Global, values: &[AbsValue]) -> Result<Vec<u32>, AllocError> 
         keys.push(key(*value))?;
     }
     keys.sort_unstable();
+    Ok(keys)
+}
+
+/// Those of the values of these words.
+pub fn keys_of(alloc: Global, words: &str) -> Result<Vec<u32>, AllocError> {
+    let values = values_of(alloc, words)?;
+    let keys = keys(alloc, values.as_slice())?;
     Ok(keys)
 }

@@ -4,7 +4,7 @@ ghost use Rattle.std.specs.Prelude.{◌≡◌, IfOk};
 ghost use Rattle.law_obligations.specs.Units.{units_of};
 
 use smv_cases::calls::cases;
-use smv_core::flat::{Assumed, Case, Class, Design, Pick, Timing};
+use smv_core::flat::{Assumed, Case, Choice, Class, Design, Leaf, Pick, Timing};
 use smv_core::{Fault, Refusal, Seq};
 use smv_front::read_plan;
 use smv_parse::parse;
@@ -32,19 +32,21 @@ pub fn fault_of(alloc: Global, text: &[u8]) -> Result<(u8, u32), AllocError> {
     }
 }
 
-/// A plan as it is told here.
+/// The plan of a text, as it is told here.
 pub fn told(alloc: Global, text: &[u8]) -> Result<Vec<u8>, Refusal> {
     let plan = plan_of(alloc, text)?;
+    told_plan(alloc, &plan)
+}
+
+fn told_plan(alloc: Global, plan: &Plan) -> Result<Vec<u8>, Refusal>
+    requires { plan.now.units ≡ units_of plan.now.design }
+{
     let mut line = Vec::new(alloc);
     let leaves = plan.leaves.as_slice().iter();
     let choices = plan.choices.as_slice().iter();
     let timed = plan.timed.as_slice().iter();
     for ((leaf, choice), timed) in leaves.zip(choices).zip(timed) {
-        line.extend_from_slice(leaf.name.as_bytes())?;
-        let cases = cases(alloc, &plan.design, plan.units.as_slice(), leaf, choice)?;
-        for case in cases.as_slice() {
-            tell_case(&mut line, case)?;
-        }
+        tell_cases(alloc, &mut line, plan, leaf, choice)?;
         tell_picks(&mut line, &plan.design, &choice.picks, &timed.picks)?;
         tell_claims(&mut line, &plan.design, &choice.claims, &timed.claims)?;
         line.extend_from_slice(b"; ")?;
@@ -52,21 +54,45 @@ pub fn told(alloc: Global, text: &[u8]) -> Result<Vec<u8>, Refusal> {
     Ok(line)
 }
 
-// A class for each parameter: numbers behind `=`, named classes behind `#` and rests behind `*`. All are below 10 here.
+// The name of a leaf and its cases.
+fn tell_cases(
+    alloc: Global,
+    line: &mut Vec<u8>,
+    plan: &Plan,
+    leaf: &Leaf,
+    choice: &Choice,
+) -> Result<(), Refusal>
+    requires { plan.now.units ≡ units_of plan.now.design }
+{
+    line.extend_from_slice(leaf.name.as_bytes())?;
+    let cases = cases(alloc, &plan.design, plan.units.as_slice(), leaf, choice)?;
+    for case in cases.as_slice() {
+        tell_case(line, case)?;
+    }
+    Ok(())
+}
+
+// A class for each parameter.
 fn tell_case(line: &mut Vec<u8>, case: &Case) -> Result<(), AllocError> {
     line.push(b' ')?;
     if case.classes.as_slice().is_empty() {
         line.push(b'-')?;
     }
     for class in case.classes.as_slice() {
-        let (sign, number) = match *class {
-            Class::Number { value } => (b'=', value),
-            Class::Named { class } => (b'#', class),
-            Class::Rest { gap } => (b'*', gap),
-        };
-        line.push(sign)?;
-        line.push(b'0' + number % 10)?;
+        tell_class(line, *class)?;
     }
+    Ok(())
+}
+
+// A number behind `=`, a named class behind `#`, a rest behind `*`. All are below 10 here.
+fn tell_class(line: &mut Vec<u8>, class: Class) -> Result<(), AllocError> {
+    let (sign, number) = match class {
+        Class::Number { value } => (b'=', value),
+        Class::Named { class } => (b'#', class),
+        Class::Rest { gap } => (b'*', gap),
+    };
+    line.push(sign)?;
+    line.push(b'0' + number % 10)?;
     Ok(())
 }
 
@@ -82,15 +108,20 @@ fn tell_picks(
             line.extend_from_slice(family.name.as_bytes())?;
         }
         line.extend_from_slice(b"//")?;
-        match pick.layer {
-            None => line.extend_from_slice(b"free")?,
-            Some(layer) => {
-                if let Some(name) = design.layers.as_slice().get(layer as usize) {
-                    line.extend_from_slice(name.as_bytes())?;
-                }
-            }
-        }
+        tell_layer(line, design, pick.layer)?;
         tell_time(line, *time)?;
+    }
+    Ok(())
+}
+
+// A layer's name, or `free`.
+fn tell_layer(line: &mut Vec<u8>, design: &Design, layer: Option<u16>) -> Result<(), AllocError> {
+    let Some(layer) = layer else {
+        line.extend_from_slice(b"free")?;
+        return Ok(());
+    };
+    if let Some(name) = design.layers.as_slice().get(layer as usize) {
+        line.extend_from_slice(name.as_bytes())?;
     }
     Ok(())
 }

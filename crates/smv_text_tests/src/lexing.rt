@@ -40,52 +40,60 @@ fn shown_text(alloc: Global, text: &[u8]) -> Result<String, Refusal> {
     }
 }
 
-#[test]
-fn worked_texts(rt: HostRuntime) -> Result<(), Fail> {
-    let table: [(&[u8], &str); 38] = [
-        (b"", ""),
-        (b" \t\r\n", ""),
-        (b"12ab", "12@0 ab@2 "),
-        (b"1..2", "1@0 s10@1 2@3 "),
-        (b"...", "s10@0 s9@2 "),
-        (b"x-->y", "x@0 "),
-        (b"-->y\nz", "z@5 "),
-        (b"x<--y\n-z", "x@0 s14@1 s19@6 z@7 "),
-        (b"a<->b", "a@0 s24@1 b@4 "),
-        (b"<-", "s14@0 s19@1 "),
-        (b"<=->>=", "s15@0 s23@2 s17@4 "),
-        (b":===~==~", "s11@0 s12@2 s12@3 s13@4 s12@6 s20@7 "),
-        (b"a//b", "a@0 s26@1 b@3 "),
-        (b"//*", "fault 1 at 2"),
-        (b"///", "fault 1 at 2"),
-        (b"/", "fault 1 at 0"),
-        (b"/*/", "fault 4 at 0"),
-        (b"/*/ */x", "x@6 "),
-        (b"/**/x", "x@4 "),
-        (b"/***/x", "x@5 "),
-        (b"a /* */ b */", "fault 1 at 10"),
-        (b"/* -- */x", "x@8 "),
-        (b"-- /*\nx", "x@6 "),
-        (b"-- x\ry", ""),
-        (b"--", ""),
-        (b"a /* b", "fault 4 at 2"),
-        (b"00511", "511@0 "),
-        (b"512", "fault 2 at 0"),
-        (b" 0512", "fault 2 at 1"),
-        (b"99999999999999999999999999", "fault 2 at 0"),
-        (b"0", "0@0 "),
-        (b"ab\x80", "fault 1 at 2"),
-        (b"/* \x80\xff */a", "a@8 "),
-        (b"-- \x80\xff\na", "a@6 "),
-        (b"_ F_ Fx F", "_@0 F_@2 Fx@5 w6@8 "),
-        (b"for forall fora", "w7@0 w8@4 fora@11 "),
-        (b"@ /*", "fault 1 at 0"),
-        (b"x\x0b", "fault 1 at 1"),
-    ];
-    for (text, tokens) in table {
-        assert_eq!(rt; shown_text(rt.alloc(), text)?.as_str(), tokens);
+const TEXTS: &[(&'static [u8], &'static str)] = &[
+    (b"", ""),
+    (b" \t\r\n", ""),
+    (b"12ab", "12@0 ab@2 "),
+    (b"1..2", "1@0 s10@1 2@3 "),
+    (b"...", "s10@0 s9@2 "),
+    (b"x-->y", "x@0 "),
+    (b"-->y\nz", "z@5 "),
+    (b"x<--y\n-z", "x@0 s14@1 s19@6 z@7 "),
+    (b"a<->b", "a@0 s24@1 b@4 "),
+    (b"<-", "s14@0 s19@1 "),
+    (b"<=->>=", "s15@0 s23@2 s17@4 "),
+    (b":===~==~", "s11@0 s12@2 s12@3 s13@4 s12@6 s20@7 "),
+    (b"a//b", "a@0 s26@1 b@3 "),
+    (b"//*", "fault 1 at 2"),
+    (b"///", "fault 1 at 2"),
+    (b"/", "fault 1 at 0"),
+    (b"/*/", "fault 4 at 0"),
+    (b"/*/ */x", "x@6 "),
+    (b"/**/x", "x@4 "),
+    (b"/***/x", "x@5 "),
+    (b"a /* */ b */", "fault 1 at 10"),
+    (b"/* -- */x", "x@8 "),
+    (b"-- /*\nx", "x@6 "),
+    (b"-- x\ry", ""),
+    (b"--", ""),
+    (b"a /* b", "fault 4 at 2"),
+    (b"00511", "511@0 "),
+    (b"512", "fault 2 at 0"),
+    (b" 0512", "fault 2 at 1"),
+    (b"99999999999999999999999999", "fault 2 at 0"),
+    (b"0", "0@0 "),
+    (b"ab\x80", "fault 1 at 2"),
+    (b"/* \x80\xff */a", "a@8 "),
+    (b"-- \x80\xff\na", "a@6 "),
+    (b"_ F_ Fx F", "_@0 F_@2 Fx@5 w6@8 "),
+    (b"for forall fora", "w7@0 w8@4 fora@11 "),
+    (b"@ /*", "fault 1 at 0"),
+    (b"x\x0b", "fault 1 at 1"),
+];
+
+// Fails with the tokens of the first text that has others.
+fn all_are_shown(alloc: Global, rows: &[(&'static [u8], &'static str)]) -> Result<(), Fail> {
+    for (text, tokens) in rows {
+        if shown_text(alloc, text)?.as_str() != *tokens {
+            return Err(Fail::new(*tokens));
+        }
     }
     Ok(())
+}
+
+#[test]
+fn worked_texts(rt: HostRuntime) -> Result<(), Fail> {
+    all_are_shown(rt.alloc(), TEXTS)
 }
 
 // So many of a byte, and then a text.
@@ -98,19 +106,36 @@ fn repeated(alloc: Global, byte: u8, count: u8, end: &str) -> Result<Vec<u8>, Al
     Ok(text)
 }
 
-#[test]
-fn lengths(rt: HostRuntime) -> Result<(), Fail> {
-    for (byte, count, end, first) in [
-        (b'n', 63, " ;", "s7@64 "),
-        (b'n', 64, ";", "s7@64 "),
-        (b'0', 200, "7", "7@0 "),
-        (b'0', 200, "512", "fault 2 at 0"),
-        (b'n', 65, ";", "fault 3 at 0"),
-        (b' ', 9, "@", "fault 1 at 9"),
-    ] {
-        let text = repeated(rt.alloc(), byte, count, end)?;
-        let shown = shown_text(rt.alloc(), text.as_slice())?;
-        assert!(rt; shown.as_str().ends_with(first), "{first}");
+// Whether the tokens of so many of a byte, and then a text, end so.
+fn ends_so(alloc: Global, byte: u8, count: u8, end: &str, last: &str) -> Result<bool, Refusal> {
+    let text = repeated(alloc, byte, count, end)?;
+    let shown = shown_text(alloc, text.as_slice())?;
+    Ok(shown.as_str().ends_with(last))
+}
+
+// A byte, how often it stands there, what stands behind, and how the tokens end.
+type Length = (u8, u8, &'static str, &'static str);
+
+const LENGTHS: &[Length] = &[
+    (b'n', 63, " ;", "s7@64 "),
+    (b'n', 64, ";", "s7@64 "),
+    (b'0', 200, "7", "7@0 "),
+    (b'0', 200, "512", "fault 2 at 0"),
+    (b'n', 65, ";", "fault 3 at 0"),
+    (b' ', 9, "@", "fault 1 at 9"),
+];
+
+// Fails with the end of the first tokens that end otherwise.
+fn all_end_so(alloc: Global, rows: &[Length]) -> Result<(), Fail> {
+    for (byte, count, end, last) in rows {
+        if !ends_so(alloc, *byte, *count, end, last)? {
+            return Err(Fail::new(*last));
+        }
     }
     Ok(())
+}
+
+#[test]
+fn lengths(rt: HostRuntime) -> Result<(), Fail> {
+    all_end_so(rt.alloc(), LENGTHS)
 }

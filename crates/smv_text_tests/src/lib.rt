@@ -12,3 +12,5 @@ mod printing;
 mod reports;
 #[cfg(test)]
 mod streams;
+#[cfg(test)]
+mod told;

@@ -14,15 +14,23 @@ fn printed(alloc: Global, text: &str) -> Result<Vec<u8>, Refusal> {
     Ok(print(alloc, &tree)?)
 }
 
-#[test]
-fn each_declaration_is_one_line(rt: HostRuntime) -> Result<(), Fail> {
-    for (text, want) in [
-        ("", ""),
-        ("typedef t boolean;", "typedef t boolean ;\n"),
-        ("scalarset s 0..0511;", "scalarset s 0 .. 511 ;\n"),
-    ] {
-        let bytes = printed(rt.alloc(), text)?;
-        assert_eq!(rt; bytes.as_slice(), want.as_bytes(), "{text}");
+const DECLARATIONS: &[(&'static str, &'static str)] = &[
+    ("", ""),
+    ("typedef t boolean;", "typedef t boolean ;\n"),
+    ("scalarset s 0..0511;", "scalarset s 0 .. 511 ;\n"),
+];
+
+// Fails with the first text that is printed otherwise.
+fn all_are_printed(alloc: Global, rows: &[(&'static str, &'static str)]) -> Result<(), Fail> {
+    for (text, want) in rows {
+        if printed(alloc, text)?.as_slice() != want.as_bytes() {
+            return Err(Fail::new(*text));
+        }
     }
     Ok(())
+}
+
+#[test]
+fn each_declaration_is_one_line(rt: HostRuntime) -> Result<(), Fail> {
+    all_are_printed(rt.alloc(), DECLARATIONS)
 }
