@@ -3,6 +3,7 @@
 ghost use Rattle.std.specs.Prelude.{◌≡◌, ℕ, ◌<◌, ◌≤◌, IfOk, vec_len};
 ghost use Rattle.bdd_store.specs.Diagram.{IsLive, AreLive, first_var, ref_at};
 
+use crate::functions::{is_so, literal, opposite};
 use bdd_store::{Ref, Store};
 use std::alloc::{AllocError, Global};
 use std::test::Fail;
@@ -87,50 +88,74 @@ fn count_whole(store: &Store, functions: &[Ref]) -> u64
     whole
 }
 
+// Whether the same functions are built once more, and no node is made then.
+fn is_built_again(
+    store: &mut Store,
+    alloc: Global,
+    limit: usize,
+    functions: &[Ref],
+) -> Result<bool, AllocError> {
+    let held = store.held();
+    let again = build(store, alloc, limit)?;
+    Ok(again.as_slice() == functions && store.held() == held)
+}
+
+// Whether at least 100,000 nodes and 1,000 functions of all variables are made, and found again.
+fn is_each_found(store: &mut Store, alloc: Global) -> Result<bool, AllocError> {
+    let first = build(store, alloc, 2740)?;
+    let is_large = store.held() >= 100_000 && count_whole(store, first.as_slice()) >= 1_000;
+    Ok(is_large && is_built_again(store, alloc, 2740, first.as_slice())?)
+}
+
 #[test]
 fn finds_each_of_many(rt: HostRuntime) -> Result<(), Fail> {
     let mut store = Store::new(rt.alloc(), 40)?;
-    let first = build(&mut store, rt.alloc(), 2740)?;
+    is_so(is_each_found(&mut store, rt.alloc()))
+}
+
+// Whether a sweep leaves as many nodes as these functions have, which are not all.
+fn is_swept(store: &mut Store, roots: &[Ref]) -> Result<bool, AllocError>
+    requires { AreLive store.old roots.now }
+{
     let held = store.held();
-    assert!(rt; held >= 100_000, "{held} nodes");
-    let again = build(&mut store, rt.alloc(), 2740)?;
-    assert!(rt; first == again);
-    assert_eq!(rt; store.held(), held);
-    let whole = count_whole(&store, again.as_slice());
-    assert!(rt; whole >= 1_000, "{whole} functions of all variables");
-    Ok(())
+    let kept = store.count(roots)?;
+    store.sweep(roots);
+    Ok(store.held() == kept && kept < held)
+}
+
+// Whether some of many functions outlive a sweep, and the others can be built again.
+fn are_roots_kept(store: &mut Store, alloc: Global) -> Result<bool, AllocError> {
+    build(store, alloc, 90)?;
+    let roots = build(store, alloc, 20)?;
+    let held = store.held();
+    let is_swept = is_swept(store, roots.as_slice())?;
+    let is_kept = is_built_again(store, alloc, 20, roots.as_slice())?;
+    build(store, alloc, 90)?;
+    Ok(is_swept && is_kept && store.held() == held)
 }
 
 #[test]
 fn keeps_what_roots_reach(rt: HostRuntime) -> Result<(), Fail> {
     let mut store = Store::new(rt.alloc(), 7)?;
-    build(&mut store, rt.alloc(), 90)?;
-    let roots = build(&mut store, rt.alloc(), 20)?;
-    let held = store.held();
-    let kept = store.count(&roots)?;
-    store.sweep(&roots);
-    assert_eq!(rt; store.held(), kept);
-    assert!(rt; kept < held);
-    let again = build(&mut store, rt.alloc(), 20)?;
-    assert!(rt; again == roots);
-    assert_eq!(rt; store.held(), kept);
-    build(&mut store, rt.alloc(), 90)?;
-    assert_eq!(rt; store.held(), held);
-    Ok(())
+    is_so(are_roots_kept(&mut store, rt.alloc()))
+}
+
+// Whether the exclusive or of two variables has three beads, of which the second variable has one.
+fn are_beads_counted(store: &mut Store) -> Result<bool, AllocError>
+    requires two { 2 ≤ store.old.vars }
+{
+    let same = literal(store, 1)?;
+    let one = store.mark(same);
+    let not = opposite(store, 1)?;
+    let differ = store.node(0, same, not)?;
+    let told = (one, store.held(), store.calls());
+    let count = store.count(&[differ])?;
+    Ok(told == (1, 3, 3) && count == 3 && store.mark(differ) == 3)
 }
 
 // The exclusive or of two variables has three beads: 0110, 01 and 10.
 #[test]
 fn counts_beads(rt: HostRuntime) -> Result<(), Fail> {
     let mut store = Store::new(rt.alloc(), 2)?;
-    let no = store.constant(false);
-    let yes = store.constant(true);
-    let same = store.node(1, no, yes)?;
-    assert_eq!(rt; store.mark(same), 1);
-    let not = store.node(1, yes, no)?;
-    let differ = store.node(0, same, not)?;
-    assert_eq!(rt; (store.held(), store.calls()), (3, 3));
-    assert_eq!(rt; store.count(&[differ])?, 3);
-    assert_eq!(rt; store.mark(differ), 3);
-    Ok(())
+    is_so(are_beads_counted(&mut store))
 }
