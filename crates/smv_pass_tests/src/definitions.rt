@@ -1,8 +1,9 @@
 //! The definitions of small designs, which were written out by hand.
 
 use crate::texts::designed;
-use smv_core::flat::{Def, Flat};
-use std::alloc::AllocError;
+use smv_core::Refusal;
+use smv_core::flat::{Def, Design, Flat};
+use std::alloc::{AllocError, Global};
 use std::test::Fail;
 
 // A digit.
@@ -58,33 +59,51 @@ fn show_definition(out: &mut Vec<u8>, def: &Def) -> Result<(), AllocError> {
     Ok(())
 }
 
+fn show_definitions(alloc: Global, design: &Design) -> Result<Vec<u8>, AllocError> {
+    let mut out = Vec::new(alloc);
+    for def in design.defs.as_slice() {
+        show_definition(&mut out, def)?;
+    }
+    Ok(out)
+}
+
+// The definitions of a body of a module.
+fn shown(alloc: Global, body: &str) -> Result<Vec<u8>, Refusal> {
+    let text = format!(in alloc; "module main() {{ x, y, c : boolean; {body} }}")?;
+    let design = designed(alloc, text.as_str())?;
+    Ok(show_definitions(alloc, &design)?)
+}
+
 // The families of x, y and c have the numbers 0, 1 and 2.
-#[test]
-fn assignments_are_gathered(rt: HostRuntime) -> Result<(), Fail> {
-    for (body, want) in [
-        // Each layer has definitions of its own, and a claim has a place too.
-        (
-            "next(x) := 1; p : assert G 1; layer L : { x := 1; } init(x) := 1;",
-            ".00a3a0- 002--a2 ",
-        ),
-        // A branch that says nothing stays.
-        (
-            "if (c) { next(x) := 1; next(y) := 1; }",
-            ".00-(a0-)- .11-(a1-)- ",
-        ),
-        // The second part of a default stands first.
-        (
-            "default { next(x) := 1; next(y) := 1; } in next(x) := 1; next(y) := 1;",
-            ".00-<a2a0>- .11-<a1a3>- ",
-        ),
-    ] {
-        let text = format!(in rt.alloc(); "module main() {{ x, y, c : boolean; {body} }}")?;
-        let design = designed(rt.alloc(), text.as_str())?;
-        let mut out = Vec::new(rt.alloc());
-        for def in design.defs.as_slice() {
-            show_definition(&mut out, def)?;
+const GATHERED: &[(&'static str, &'static str)] = &[
+    // Each layer has definitions of its own, and a claim has a place too.
+    (
+        "next(x) := 1; p : assert G 1; layer L : { x := 1; } init(x) := 1;",
+        ".00a3a0- 002--a2 ",
+    ),
+    // A branch that says nothing stays.
+    (
+        "if (c) { next(x) := 1; next(y) := 1; }",
+        ".00-(a0-)- .11-(a1-)- ",
+    ),
+    // The second part of a default stands first.
+    (
+        "default { next(x) := 1; next(y) := 1; } in next(x) := 1; next(y) := 1;",
+        ".00-<a2a0>- .11-<a1a3>- ",
+    ),
+];
+
+// Fails with the first body that has other definitions.
+fn all_are_shown(alloc: Global, rows: &[(&'static str, &'static str)]) -> Result<(), Fail> {
+    for (body, want) in rows {
+        if shown(alloc, body)?.as_slice() != want.as_bytes() {
+            return Err(Fail::new(*body));
         }
-        assert_eq!(rt; out.as_slice(), want.as_bytes(), "{body}");
     }
     Ok(())
+}
+
+#[test]
+fn assignments_are_gathered(rt: HostRuntime) -> Result<(), Fail> {
+    all_are_shown(rt.alloc(), GATHERED)
 }

@@ -1,6 +1,6 @@
 //! That the order of a graph without a cycle has all its nodes, so that no search is made there, and the order of cells.
 
-use crate::texts::designed;
+use crate::texts::{designed, is_so};
 use graphs::ranks::{order, ranks};
 use smv_core::Refusal;
 use smv_loops::loops::{Order, loops};
@@ -22,15 +22,30 @@ fn ring(alloc: Global, nodes: usize, cycle: bool) -> Result<Vec<Vec<usize>>, All
     Ok(graph)
 }
 
-#[test]
-fn a_chain_has_an_order_and_a_ring_has_none(rt: HostRuntime) -> Result<(), Fail> {
-    let alloc = rt.alloc();
+// Whether there is an order and a rank of this many nodes.
+fn are_ordered(alloc: Global, graph: &[Vec<usize>], count: usize) -> Result<bool, AllocError> {
+    let is_ordered = order(alloc, graph)?.len() == count;
+    Ok(is_ordered && ranks(alloc, graph)?.len() == count)
+}
+
+fn has_chain_an_order(alloc: Global) -> Result<bool, AllocError> {
     let chain = ring(alloc, 100_000, false)?;
-    assert_eq!(rt; order(alloc, chain.as_slice())?.len(), 100_000);
-    assert_eq!(rt; ranks(alloc, chain.as_slice())?.len(), 100_000);
+    are_ordered(alloc, chain.as_slice(), 100_000)
+}
+
+#[test]
+fn a_chain_has_an_order(rt: HostRuntime) -> Result<(), Fail> {
+    is_so(has_chain_an_order(rt.alloc()))
+}
+
+fn has_ring_no_order(alloc: Global) -> Result<bool, AllocError> {
     let cycle = ring(alloc, 100_000, true)?;
-    assert_eq!(rt; order(alloc, cycle.as_slice())?.len(), 0);
-    Ok(())
+    Ok(order(alloc, cycle.as_slice())?.is_empty())
+}
+
+#[test]
+fn a_ring_has_no_order(rt: HostRuntime) -> Result<(), Fail> {
+    is_so(has_ring_no_order(rt.alloc()))
 }
 
 // The cells in their order, each by its family and its index.
@@ -59,6 +74,5 @@ fn each_cell_is_after_what_it_reads(rt: HostRuntime) -> Result<(), Fail> {
         "module main() { a, b : boolean; x : array 0..1 of boolean; a := x[1]; x[0] := b; x[1] := x[0]; next(b) := a; }";
     let cells = cells_in_order(rt.alloc(), text)?;
     let want = [(1, None), (2, Some(0)), (2, Some(1)), (0, None)];
-    assert_eq!(rt; cells.as_slice(), want.as_slice());
-    Ok(())
+    is_so(Ok(cells.as_slice() == want.as_slice()))
 }

@@ -53,26 +53,42 @@ fn upward(alloc: Global, count: u8, down: bool) -> Result<Vec<u8>, AllocError> {
     Ok(order)
 }
 
-#[test]
-fn instances_are_counted_with_what_is_in_them(rt: HostRuntime) -> Result<(), Fail> {
-    let alloc = rt.alloc();
-    for (modules, count) in [(1, 1), (3, 10), (200, 4097)] {
-        let text = doubling(alloc, &upward(alloc, modules, false)?)?;
-        let last = last_size(alloc, &tree(alloc, text.as_str())?)?;
-        assert_eq!(rt;
-            last.map(|size| size.things.count),
-            Some(count),
-            "{modules}"
-        );
-        let text = doubling(alloc, &upward(alloc, modules, true)?)?;
-        let first = first_size(alloc, &tree(alloc, text.as_str())?)?;
-        assert_eq!(rt;
-            first.map(|size| size.things.count),
-            Some(count),
-            "{modules}"
-        );
+// The text of so many modules, in one order or in the other.
+fn modules(alloc: Global, count: u8, down: bool) -> Result<Text, Refusal> {
+    let text = doubling(alloc, &upward(alloc, count, down)?)?;
+    tree(alloc, text.as_str())
+}
+
+fn has_things(size: Option<ModuleSize>, count: usize) -> bool {
+    match size {
+        Some(size) => size.things.count == count,
+        None => false,
+    }
+}
+
+// Whether the last of so many modules has this many things, and so has the first of them where they stand the other way round.
+fn are_counted(alloc: Global, modules_there: u8, count: usize) -> Result<bool, Refusal> {
+    let last = last_size(alloc, &modules(alloc, modules_there, false)?)?;
+    let first = first_size(alloc, &modules(alloc, modules_there, true)?)?;
+    Ok(has_things(last, count) && has_things(first, count))
+}
+
+// How many modules there are, and how many things the largest has.
+const COUNTS: &[(u8, usize)] = &[(1, 1), (3, 10), (200, 4097)];
+
+// Fails with how many modules there are where another number is told.
+fn all_are_counted(alloc: Global, rows: &[(u8, usize)]) -> Result<(), Fail> {
+    for (modules, count) in rows {
+        if !are_counted(alloc, *modules, *count)? {
+            return Err(Fail::new(*modules));
+        }
     }
     Ok(())
+}
+
+#[test]
+fn instances_are_counted_with_what_is_in_them(rt: HostRuntime) -> Result<(), Fail> {
+    all_are_counted(rt.alloc(), COUNTS)
 }
 
 // Whether the type that a text names is wide.
@@ -85,13 +101,22 @@ fn names_a_wide_type(alloc: Global, text: &str) -> Result<bool, Refusal> {
     }
 }
 
-#[test]
-fn a_family_has_at_most_256_values(rt: HostRuntime) -> Result<(), Fail> {
-    for (text, wide) in [
-        ("typedef t array 0..127 of array boolean of boolean;", false),
-        ("typedef t array 0..128 of array boolean of boolean;", true),
-    ] {
-        assert_eq!(rt; names_a_wide_type(rt.alloc(), text)?, wide, "{text}");
+const TYPES: &[(&'static str, bool)] = &[
+    ("typedef t array 0..127 of array boolean of boolean;", false),
+    ("typedef t array 0..128 of array boolean of boolean;", true),
+];
+
+// Fails with the first text whose type is told otherwise.
+fn all_are_told(alloc: Global, rows: &[(&'static str, bool)]) -> Result<(), Fail> {
+    for (text, wide) in rows {
+        if names_a_wide_type(alloc, text)? != *wide {
+            return Err(Fail::new(*text));
+        }
     }
     Ok(())
+}
+
+#[test]
+fn a_family_has_at_most_256_values(rt: HostRuntime) -> Result<(), Fail> {
+    all_are_told(rt.alloc(), TYPES)
 }

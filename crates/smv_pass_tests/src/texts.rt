@@ -8,6 +8,7 @@ use smv_flatten::flatten::flatten;
 use smv_instances::pieces::pieces;
 use smv_parse::parse;
 use std::alloc::{AllocError, Global};
+use std::test::Fail;
 
 pub fn tree(alloc: Global, text: &str) -> Result<Text, Refusal> {
     if text.len() > 1_048_576 {
@@ -42,4 +43,13 @@ pub fn marked(
     let at = front.len().saturating_add(before.len());
     let text = format!(in alloc; "{front}{before}{behind}{end}")?;
     Ok((text, u32::try_from(at).unwrap_or(u32::MAX)))
+}
+
+// Fails where it is not so. The test's name says what.
+pub fn is_so(it: Result<bool, AllocError>) -> Result<(), Fail> {
+    if it? {
+        Ok(())
+    } else {
+        Err(Fail::new("it is not so"))
+    }
 }
