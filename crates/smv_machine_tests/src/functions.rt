@@ -1,0 +1,302 @@
+//! The functions of a case, each beside what the evaluator finds in the states that bits are read as.
+
+ghost use Rattle.bdd_store.specs.Diagram.{AreLive};
+ghost use Rattle.smv_rings.specs.Lists.{IsRel};
+ghost use Rattle.smv_problem.specs.WellFormed.{IsProblem};
+
+use bdd_store::{Ref, Store};
+use smv_cells::Cell;
+use smv_core::flat::Element;
+use smv_elements::order::is_same;
+use smv_held::demands::{demand_met, is_broken_by};
+use smv_posed::bits::{Bits, value_at};
+use smv_posed::functions::Functions;
+use smv_problem::{Demand, Problem};
+use smv_readings::read_state;
+use smv_rings::Rel;
+use smv_state_bits::{family_bits, state_bits, values};
+use smv_states::cells_of;
+use std::alloc::{AllocError, Global};
+
+/// How many functions were met and how many were not, and how many of them the evaluator finds otherwise.
+#[derive(Clone, Copy)]
+pub struct Seen {
+    pub met: u32,
+    pub unmet: u32,
+    pub otherwise: u32,
+}
+
+/// Nothing yet.
+pub const NOTHING: Seen = Seen {
+    met: 0,
+    unmet: 0,
+    otherwise: 0,
+};
+
+impl Seen {
+    fn add(&mut self, found: bool, want: bool) {
+        if found {
+            self.met = self.met.saturating_add(1);
+        } else {
+            self.unmet = self.unmet.saturating_add(1);
+        }
+        if found != want {
+            self.otherwise = self.otherwise.saturating_add(1);
+        }
+    }
+}
+
+/// What was seen of the functions of one time: of what holds now, of what held before, and of whether the target is broken.
+#[derive(Clone, Copy)]
+pub struct Time {
+    pub now: Seen,
+    pub before: Seen,
+    pub broken: Seen,
+}
+
+/// The same of time 0 and of a step.
+#[derive(Clone, Copy)]
+pub struct Tally {
+    pub first: Time,
+    pub step: Time,
+}
+
+const NO_TIME: Time = Time {
+    now: NOTHING,
+    before: NOTHING,
+    broken: NOTHING,
+};
+
+/// Nothing yet.
+pub const NO_TALLY: Tally = Tally {
+    first: NO_TIME,
+    step: NO_TIME,
+};
+
+// Whether the code of each element is that of a value.
+fn codes_are_values(
+    alloc: Global,
+    problem: &Problem,
+    bits: &[bool],
+) -> Result<Vec<bool>, AllocError> {
+    let families = problem.families.as_slice();
+    let lists = problem.lists.as_slice();
+    let types = problem.types.as_slice();
+    let mut are = Vec::new(alloc);
+    let mut bits = bits.iter();
+    for x in problem.elements.as_slice() {
+        let mut code: u32 = 0;
+        for _ in 0..family_bits(families, lists, types, x.family) {
+            let bit = bits.next() == Some(&true);
+            code = code.wrapping_mul(2).wrapping_add(u32::from(bit));
+        }
+        let count = match families.get(x.family as usize) {
+            Some(family) => values(lists, types, family.value),
+            None => 0,
+        };
+        are.push(code < count)?;
+    }
+    Ok(are)
+}
+
+// Whether a demand is the definition of an element.
+fn defines(demand: &Demand, x: &Element) -> bool {
+    match demand {
+        Demand::Defined { element, .. } => is_same(x, element),
+        Demand::Holds { .. } => false,
+    }
+}
+
+// Whether what is demanded now of an element is met.
+fn is_met_now(
+    alloc: Global,
+    problem: &Problem,
+    old: Option<&[Cell<bool>]>,
+    new: &[Cell<bool>],
+    x: &Element,
+) -> Result<bool, AllocError> {
+    for demand in problem.now.as_slice() {
+        if defines(demand, x) {
+            return demand_met(alloc, problem, old, new, demand);
+        }
+    }
+    Ok(true)
+}
+
+// What the evaluator says of each element: its code is that of a value, and what is demanded of it now is met.
+fn elements_held(
+    alloc: Global,
+    problem: &Problem,
+    old: Option<&[Cell<bool>]>,
+    new: &[Cell<bool>],
+    are_values: &[bool],
+) -> Result<Vec<bool>, AllocError> {
+    let mut held = Vec::new(alloc);
+    for (x, is_value) in problem.elements.as_slice().iter().zip(are_values) {
+        let met = is_met_now(alloc, problem, old, new, x)?;
+        held.push(*is_value && met)?;
+    }
+    Ok(held)
+}
+
+// What it says of what is demanded before.
+fn before_held(
+    alloc: Global,
+    problem: &Problem,
+    old: Option<&[Cell<bool>]>,
+    new: &[Cell<bool>],
+) -> Result<Vec<bool>, AllocError> {
+    let mut held = Vec::new(alloc);
+    for demand in problem.before.as_slice() {
+        let met = demand_met(alloc, problem, old, new, demand)?;
+        held.push(met)?;
+    }
+    Ok(held)
+}
+
+// What the evaluator finds at one time.
+#[derive(Drop)]
+struct Held {
+    now: Vec<bool>,
+    before: Vec<bool>,
+    broken: bool,
+}
+
+// What it finds in the states of these cells.
+fn held_in(
+    alloc: Global,
+    problem: &Problem,
+    old: Option<&[Cell<bool>]>,
+    new: &[Cell<bool>],
+    bits: &[bool],
+) -> Result<Held, AllocError> {
+    let are_values = codes_are_values(alloc, problem, bits)?;
+    let now = elements_held(alloc, problem, old, new, are_values.as_slice())?;
+    let before = before_held(alloc, problem, old, new)?;
+    let broken = is_broken_by(alloc, problem, old, new)?;
+    Ok(Held {
+        now,
+        before,
+        broken,
+    })
+}
+
+// In the order of the functions of a step: those of elements that move come first.
+fn moved_first(alloc: Global, held: &[bool], moves: &[bool]) -> Result<Vec<bool>, AllocError> {
+    let mut all = Vec::new(alloc);
+    for wanted in [true, false] {
+        for (held, moves) in held.iter().zip(moves) {
+            if *moves == wanted {
+                all.push(*held)?;
+            }
+        }
+    }
+    Ok(all)
+}
+
+// Looks at the functions of a list; one is otherwise where there are more or fewer of them than wanted.
+fn look_at(seen: &mut Seen, store: &Store, functions: &[Ref], wants: &[bool], bits: &Bits)
+    requires { AreLive store.now functions.now }
+{
+    if functions.len() != wants.len() {
+        seen.otherwise = seen.otherwise.saturating_add(1);
+    }
+    for i in 0..functions.len() {
+        let want = wants.get(i) == Some(&true);
+        seen.add(value_at(store, functions[i], bits), want);
+    }
+}
+
+// Looks at the functions of time 0.
+#[tactic(auto, using(smv_posed::proofs::LiveFunctions::now_first_live, smv_posed::proofs::LiveFunctions::before_first_live, smv_posed::proofs::LiveFunctions::broken_first_live))]
+fn look_at_first(time: &mut Time, store: &Store, rel: &Rel, held: &Held, bits: &Bits)
+    requires { IsRel store.now rel.now }
+{
+    let now = rel.now_first.as_slice();
+    look_at(&mut time.now, store, now, held.now.as_slice(), bits);
+    let before = rel.before_first.as_slice();
+    look_at(
+        &mut time.before,
+        store,
+        before,
+        held.before.as_slice(),
+        bits,
+    );
+    let broken = value_at(store, rel.broken_first, bits);
+    time.broken.add(broken, held.broken);
+}
+
+// Looks at those of a step.
+#[tactic(auto, using(smv_posed::proofs::LiveFunctions::now_step_live, smv_posed::proofs::LiveFunctions::before_step_live, smv_posed::proofs::LiveFunctions::broken_step_live))]
+fn look_at_step(time: &mut Time, store: &Store, rel: &Rel, held: &Held, bits: &Bits)
+    requires { IsRel store.now rel.now }
+{
+    let now = rel.now_step.as_slice();
+    look_at(&mut time.now, store, now, held.now.as_slice(), bits);
+    let before = rel.before_step.as_slice();
+    look_at(
+        &mut time.before,
+        store,
+        before,
+        held.before.as_slice(),
+        bits,
+    );
+    let broken = value_at(store, rel.broken_step, bits);
+    time.broken.add(broken, held.broken);
+}
+
+// The cells of the state that these bits are read as, or none where there are more bits or fewer than the problem has.
+fn cells_at(
+    alloc: Global,
+    problem: &Problem,
+    bits: &[bool],
+) -> Result<Option<Vec<Cell<bool>>>, AllocError>
+    requires { IsProblem problem.now }
+{
+    if bits.len() != state_bits(problem) as usize {
+        return Ok(None);
+    }
+    let state = read_state(alloc, problem, bits)?;
+    let cells = cells_of(alloc, problem, &state)?;
+    Ok(Some(cells))
+}
+
+// What the evaluator finds at the two times of a step from these cells to those, a step's functions in their order.
+fn held_at(
+    alloc: Global,
+    problem: &Problem,
+    moves: &[bool],
+    old: &[Cell<bool>],
+    new: &[Cell<bool>],
+    bits: &Bits,
+) -> Result<(Held, Held), AllocError> {
+    let first = held_in(alloc, problem, None, old, bits.current.as_slice())?;
+    let mut step = held_in(alloc, problem, Some(old), new, bits.next.as_slice())?;
+    step.now = moved_first(alloc, step.now.as_slice(), moves)?;
+    Ok((first, step))
+}
+
+/// Looks at each function of a problem at these bits, where these elements move by `next`; not where there are more bits or fewer than the problem has.
+pub fn look(
+    alloc: Global,
+    problem: &Problem,
+    moves: &[bool],
+    functions: &Functions,
+    bits: &Bits,
+    tally: &mut Tally,
+) -> Result<bool, AllocError>
+    requires well_formed { IsProblem problem.now }
+    requires rel { IsRel functions.now.store functions.now.rel }
+{
+    let Some(old) = cells_at(alloc, problem, bits.current.as_slice())? else {
+        return Ok(false);
+    };
+    let Some(new) = cells_at(alloc, problem, bits.next.as_slice())? else {
+        return Ok(false);
+    };
+    let (first, step) = held_at(alloc, problem, moves, old.as_slice(), new.as_slice(), bits)?;
+    let store = &functions.store;
+    look_at_first(&mut tally.first, store, &functions.rel, &first, bits);
+    look_at_step(&mut tally.step, store, &functions.rel, &step, bits);
+    Ok(true)
+}
