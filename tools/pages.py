@@ -2,7 +2,7 @@
 """Keeps the users' pages true: runs each command that they show, and compares what is written.
 
     tools/pages.py PROGRAM [WAVE]    runs PROGRAM as `deodarwrench`, and WAVE as `smv_wave`, on every page and example, and compares answers and statuses
-    tools/pages.py --tests           writes the tables of crates/smv_page_tests and crates/smv_wave_tests from the pages
+    tools/pages.py --tests           writes the tables of crates/smv_top_tests and crates/smv_wave_tests from the pages
     tools/pages.py                   looks whether these tables are what the pages give
     tools/pages.py --answers PROGRAM    writes examples/*.answer; read what changed before it is kept
     tools/pages.py --texts FOLDER       writes the texts of docs/METHOD.md and docs/FAULTS.md, to try them
@@ -26,7 +26,7 @@ from pathlib import Path
 
 TOP = Path(__file__).resolve().parent.parent
 PAGES = ["README.md", "docs/METHOD.md", "docs/FAULTS.md"]
-TABLES = TOP / "crates/smv_page_tests/src"
+TABLES = TOP / "crates/smv_top_tests/src"
 DUMPS = TOP / "crates/smv_wave_tests/src/pages.rt"
 FENCED = re.compile(r"^```(smv|diff|console)(?: (\S+))?(?: (\S+))?\n(.*?)^```$", re.M | re.S)
 # About how many bytes of rows a test has at most, if it has more than one row.
@@ -184,7 +184,7 @@ def table(page, files, commands):
             rows.append(row([quoted(row_given[0]), quoted(row_given[1]), str(status(command, answer)), quoted(answer)]))
         if many:
             blanks.append([quoted(many[2]), f"{int(many[1]):_}", str(status(command, answer)), quoted(answer)])
-    used = ["Row", *(["blanks_have"] if blanks else []), "last_difference"]
+    used = ["Row", "all_are_answered", *(["blanks_are_answered"] if blanks else [])]
     lines = [
         f"//! The commands of `{page}`, with their texts, exit statuses and answers. Written by `tools/pages.py --tests`.",
         "",
@@ -194,13 +194,13 @@ def table(page, files, commands):
     for number, part in enumerate(parts(rows), 1):
         lines += ["", *constant(f"ROWS_{number}: &[Row]", part)]
         lines += ["", "#[test]", f"fn answers_{number}(rt: HostRuntime) -> Result<(), Fail> {{"]
-        lines += [f"    assert_eq!(rt; last_difference(rt.alloc(), ROWS_{number})?, None);", "    Ok(())", "}"]
+        lines += [f"    all_are_answered(rt.alloc(), ROWS_{number})", "}"]
     for number, values in enumerate(blanks, 1):
         lines += ["", "#[test]", f"fn answers_to_blanks_{number}(rt: HostRuntime) -> Result<(), Fail> {{"]
-        lines += ["    assert_eq!(rt;", "        blanks_have("]
-        lines += [f"            {value}," for value in ["rt.alloc()", *values[:-1]]]
-        lines += [f"            {values[-1]}", "        )?,", "        true", "    );", "    Ok(())", "}"]
-    return TABLES / f"{Path(page).stem.lower()}.rt", "\n".join([*lines, ""])
+        lines += ["    blanks_are_answered("]
+        lines += [f"        {value}," for value in ["rt.alloc()", *values]]
+        lines += ["    )", "}"]
+    return TABLES / f"page_{Path(page).stem.lower()}.rt", "\n".join([*lines, ""])
 
 
 def dumps():

@@ -1,9 +1,9 @@
 //! A text for each fault, with its place.
 
-use crate::calls::answered;
+use crate::calls::all_are_refused;
 use std::test::Fail;
 
-const FAULTS: &[(&str, &str)] = &[
+const FAULTS: &[(&'static str, &'static str)] = &[
     (
         "module main() { x : boolean; @ }",
         "fault 1 at line 1 column 30\n",
@@ -122,10 +122,5 @@ const FAULTS: &[(&str, &str)] = &[
 
 #[test]
 fn each_fault_and_its_place(rt: HostRuntime) -> Result<(), Fail> {
-    for (text, answer) in FAULTS {
-        let (status, written) = answered(rt.alloc(), "prove", text.as_bytes())?;
-        assert_eq!(rt; status, 3, "{text}");
-        assert_eq!(rt; written.as_slice(), answer.as_bytes(), "{text}");
-    }
-    Ok(())
+    all_are_refused(rt.alloc(), FAULTS)
 }

@@ -82,26 +82,27 @@ fn is_refused(alloc: Global, front: &[u8], number: u8) -> Result<bool, AllocErro
     Ok(status == 3 && (is_first || is_second))
 }
 
-// The first of these fronts that is answered otherwise.
-fn first_other(
-    alloc: Global,
-    text: &[u8],
-    row: (usize, usize, u8),
-) -> Result<Option<usize>, AllocError> {
-    for end in row.0..row.1 {
-        if !is_refused(alloc, &text[..end.min(text.len())], row.2)? {
-            return Ok(Some(end));
+// Fails with the length of the first front that is answered otherwise.
+fn all_are_refused(alloc: Global, text: &[u8], rows: &[(usize, usize, u8)]) -> Result<(), Fail> {
+    for (first, behind, number) in rows {
+        for end in *first..*behind {
+            if !is_refused(alloc, &text[..end.min(text.len())], *number)? {
+                return Err(Fail::new(end));
+            }
         }
     }
-    Ok(None)
+    Ok(())
+}
+
+// The machine's text with the note above it.
+fn whole_text(alloc: Global) -> Result<String, AllocError> {
+    let mut text = String::from_str(alloc, NOTE)?;
+    text.push_str(TOMASULO)?;
+    Ok(text)
 }
 
 #[test]
 fn each_front_of_the_machine_is_refused(rt: HostRuntime) -> Result<(), Fail> {
-    let mut text = String::from_str(rt.alloc(), NOTE)?;
-    text.push_str(TOMASULO)?;
-    for row in FRONTS {
-        assert_eq!(rt; first_other(rt.alloc(), text.as_bytes(), *row)?, None);
-    }
-    Ok(())
+    let text = whole_text(rt.alloc())?;
+    all_are_refused(rt.alloc(), text.as_bytes(), FRONTS)
 }

@@ -1,6 +1,6 @@
 //! Texts at each limit and past it.
 
-use crate::calls::answered;
+use crate::calls::{Row, all_are_answered, is_answered};
 use std::alloc::{AllocError, Global};
 use std::test::Fail;
 
@@ -9,7 +9,7 @@ const NO_UNITS: &str = "proved 0 of 0\n";
 const TOO_LARGE: &str = "fault 25 at line 1 column 8\n";
 
 // A form of a text, which has as many parts as one likes.
-#[derive(Clone, Copy, Debug, PartialEq)]
+#[derive(Clone, Copy)]
 enum Form {
     /// A signal over this many constants.
     Constants,
@@ -104,22 +104,21 @@ fn types(alloc: Global, count: u32) -> Result<String, AllocError> {
 }
 
 // A form with a number of parts, and its status and answer.
-type Row = (Form, u32, u8, &'static str);
+type FormRow = (Form, u32, u8, &'static str);
 
-// The first of these texts that is answered otherwise.
-fn first_other(alloc: Global, rows: &[Row]) -> Result<Option<(Form, u32)>, AllocError> {
+// Fails with the number of parts of the first of these texts that is answered otherwise.
+fn all_forms_are_answered(alloc: Global, rows: &[FormRow]) -> Result<(), Fail> {
     for (form, count, want, answer) in rows {
         let text = text_of(alloc, *form, *count)?;
-        let (status, written) = answered(alloc, "prove", text.as_bytes())?;
-        if status != *want || written.as_slice() != answer.as_bytes() {
-            return Ok(Some((*form, *count)));
+        if !is_answered(alloc, "prove", text.as_bytes(), *want, answer)? {
+            return Err(Fail::new(*count));
         }
     }
-    Ok(None)
+    Ok(())
 }
 
 // Equal lists count once, and what is not used counts too.
-const CONSTANTS: &[Row] = &[
+const CONSTANTS: &[FormRow] = &[
     (Form::Constants, 4096, 0, NO_UNITS),
     (Form::Constants, 4097, 3, TOO_LARGE),
     (Form::EqualLists, 4096, 0, NO_UNITS),
@@ -130,7 +129,7 @@ const CONSTANTS: &[Row] = &[
     (Form::UnusedModule, 4096, 3, TOO_LARGE),
 ];
 
-const THINGS: &[Row] = &[
+const THINGS: &[FormRow] = &[
     (Form::Signals, 4096, 0, NO_UNITS),
     (Form::Signals, 4097, 3, TOO_LARGE),
     (Form::Blocks, 254, 0, NO_UNITS),
@@ -141,64 +140,57 @@ const THINGS: &[Row] = &[
 
 // Statements stand up to 1,000 deep inside one another, and the types that a text names up to 10,000 deep together; deeper
 // ones want more stack than there may be.
-const DEPTHS: &[Row] = &[
+const DEPTHS: &[FormRow] = &[
     (Form::Arms, 999, 0, NO_UNITS),
     (Form::Arms, 1000, 7, ""),
     (Form::Types, 5000, 0, NO_UNITS),
     (Form::Types, 5001, 7, ""),
 ];
 
-// A text, and its status and answer.
-type Text = (&'static str, u8, &'static str);
-
-// The first of these texts that is answered otherwise.
-fn first_text_other(alloc: Global, rows: &[Text]) -> Result<Option<&'static str>, AllocError> {
-    for (text, want, answer) in rows {
-        let (status, written) = answered(alloc, "prove", text.as_bytes())?;
-        if status != *want || written.as_slice() != answer.as_bytes() {
-            return Ok(Some(*text));
-        }
-    }
-    Ok(None)
-}
-
 const TRUE: &str = "p: true\nproved 1 of 1\n";
 
 // A claim has up to 8 parameters, and up to 4,096 cases: 16 times 256, of which the last is looked at too, while 17 times 241
 // are one more. Over a scalarset without an end it has as many as there are ways to part its parameters into classes: 877 for
 // 7 parameters, and 4,140 for 8.
-const LEAVES: &[Text] = &[
+const LEAVES: &[Row] = &[
     (
+        "prove",
         "module main() { x : boolean; forall (a in 0..0) forall (b in 0..0) forall (c in 0..0) forall (d in 0..0) forall (e in 0..0) forall (f in 0..0) forall (g in 0..0) forall (h in 0..0) p[a][b][c][d][e][f][g][h] : assert G (x | ~x); }",
         0,
         TRUE,
     ),
     (
+        "prove",
         "module main() { x : boolean; forall (a in 0..0) forall (b in 0..0) forall (c in 0..0) forall (d in 0..0) forall (e in 0..0) forall (f in 0..0) forall (g in 0..0) forall (h in 0..0) forall (i in 0..0) p[a][b][c][d][e][f][g][h][i] : assert G (x | ~x); }",
         3,
         "fault 29 at line 1 column 201\n",
     ),
     (
+        "prove",
         "module main() { x : boolean; forall (i in 0..15) forall (j in 0..255) p[i][j] : assert G (x | ~x); }",
         0,
         TRUE,
     ),
     (
+        "prove",
         "module main() { x : boolean; x := 0; forall (i in 0..15) forall (j in 0..255) p[i][j] : assert G (x | i < 15 | j < 255); }",
         1,
         "p: false at 0\n case 15, 255\n time 0: x = 0\nproved 0 of 1\n",
     ),
     (
+        "prove",
         "module main() { x : boolean; forall (i in 0..16) forall (j in 0..240) p[i][j] : assert G (x | ~x); }",
         3,
         "fault 29 at line 1 column 71\n",
     ),
     (
+        "prove",
         "scalarset T undefined; module main() { y : T; forall (a in T) forall (b in T) forall (c in T) forall (d in T) forall (e in T) forall (f in T) forall (g in T) p[a][b][c][d][e][f][g] : assert G (y = a | ~(y = a)); }",
         0,
         TRUE,
     ),
     (
+        "prove",
         "scalarset T undefined; module main() { y : T; forall (a in T) forall (b in T) forall (c in T) forall (d in T) forall (e in T) forall (f in T) forall (g in T) forall (h in T) p[a][b][c][d][e][f][g][h] : assert G (y = a | ~(y = a)); }",
         3,
         "fault 29 at line 1 column 175\n",
@@ -207,26 +199,22 @@ const LEAVES: &[Text] = &[
 
 #[test]
 fn as_many_parameters_and_cases_as_the_limit_and_one_more(rt: HostRuntime) -> Result<(), Fail> {
-    assert_eq!(rt; first_text_other(rt.alloc(), LEAVES)?, None);
-    Ok(())
+    all_are_answered(rt.alloc(), LEAVES)
 }
 
 #[test]
 fn as_many_constants_as_the_limit_and_one_more(rt: HostRuntime) -> Result<(), Fail> {
-    assert_eq!(rt; first_other(rt.alloc(), CONSTANTS)?, None);
-    Ok(())
+    all_forms_are_answered(rt.alloc(), CONSTANTS)
 }
 
 #[test]
 fn as_many_signals_statements_and_bytes_as_the_limit_and_one_more(
     rt: HostRuntime,
 ) -> Result<(), Fail> {
-    assert_eq!(rt; first_other(rt.alloc(), THINGS)?, None);
-    Ok(())
+    all_forms_are_answered(rt.alloc(), THINGS)
 }
 
 #[test]
 fn as_deep_as_the_limit_and_one_deeper(rt: HostRuntime) -> Result<(), Fail> {
-    assert_eq!(rt; first_other(rt.alloc(), DEPTHS)?, None);
-    Ok(())
+    all_forms_are_answered(rt.alloc(), DEPTHS)
 }

@@ -1,15 +1,13 @@
 //! Each pass finds its first fault in turn.
 
-use crate::calls::answered;
+use crate::calls::{all_are_refused, answered};
+use std::alloc::Global;
 use std::test::Fail;
 
 const TOO_LARGE: &str = "fault 25 at line 1 column 8\n";
 
-// No pass finds a fault.
-const PASSES: &str = "";
-
-// Texts whose first fault is of kinds or of the size, with its line and its column; and texts that have none.
-const KINDS: &[(&str, &str)] = &[
+// Texts whose first fault is of kinds or of the size, with its line and its column.
+const KINDS: &[(&'static str, &'static str)] = &[
     (
         "module main() { x : boolean; c : {red}; p : assert G (x = red); }",
         "fault 12 at line 1 column 59\n",
@@ -52,23 +50,14 @@ const KINDS: &[(&str, &str)] = &[
         "scalarset P undefined; module main() { a : P; y : array P of boolean; y[0] := 0; y[a] := 1; next(y[1 + 1]) := 0; }",
         "fault 15 at line 1 column 82\n",
     ),
-    ("module main() { x : array 0..255 of boolean; }", PASSES),
     (
         "module main() { x : array 0..255 of array 0..1 of boolean; }",
         TOO_LARGE,
     ),
-    (
-        "module main() { x : array 0..1 of array 0..1 of array 0..1 of array 0..1 of boolean; }",
-        PASSES,
-    ),
-    (
-        "module inverter(a, b) { input a : boolean; output b : boolean; b := ~a; } module main() { x, y : boolean; n : inverter(x, y); }",
-        PASSES,
-    ),
 ];
 
-// Texts whose first fault is of single assignment, loops or layers, with its line and its column; and texts that have none.
-const FLAT: &[(&str, &str)] = &[
+// Texts whose first fault is of single assignment, loops or layers, with its line and its column.
+const FLAT: &[(&'static str, &'static str)] = &[
     (
         "module main() { x : boolean; x := 0; x := 1; }",
         "fault 15 at line 1 column 38\n",
@@ -99,10 +88,6 @@ const FLAT: &[(&str, &str)] = &[
         "fault 15 at line 1 column 154\n",
     ),
     (
-        "scalarset P undefined; module main() { c, e : boolean; d : P; x : array P of array P of array P of boolean; forall (i in P) if (c) x[i][i][d] := 0; else if (e) x[i][d][i] := 1; else x[d][i][i] := 0; }",
-        PASSES,
-    ),
-    (
         "module main() { i : 0..1; x : array 0..1 of 0..1; i := x[0]; x[0] := x[i]; }",
         "fault 18 at line 1 column 62\n",
     ),
@@ -113,15 +98,6 @@ const FLAT: &[(&str, &str)] = &[
     (
         "module m(a, b) { input a : boolean; output b : boolean; b := a; } module main() { x, y : boolean; n : m(x, y); x := y; }",
         "fault 18 at line 1 column 112\n",
-    ),
-    // Two cells that constants keep apart, and a step in time.
-    (
-        "module main() { x : array 0..1 of boolean; x[0] := x[1]; x[1] := 0; }",
-        PASSES,
-    ),
-    (
-        "module main() { a, b : boolean; next(a) := b; b := a; }",
-        PASSES,
     ),
     // Single assignment is looked at before loops, and loops before layers.
     (
@@ -138,18 +114,39 @@ const FLAT: &[(&str, &str)] = &[
     ),
 ];
 
-#[test]
-fn each_pass_is_made_in_turn(rt: HostRuntime) -> Result<(), Fail> {
-    for table in [KINDS, FLAT] {
-        for (text, answer) in table {
-            let (status, written) = answered(rt.alloc(), "prove", text.as_bytes())?;
-            if answer.is_empty() {
-                assert!(rt; status != 3, "{text}");
-            } else {
-                assert_eq!(rt; status, 3, "{text}");
-                assert_eq!(rt; written.as_slice(), answer.as_bytes(), "{text}");
-            }
+// Texts in which no pass finds a fault.
+const SOUND: &[&'static str] = &[
+    "module main() { x : array 0..255 of boolean; }",
+    "module main() { x : array 0..1 of array 0..1 of array 0..1 of array 0..1 of boolean; }",
+    "module inverter(a, b) { input a : boolean; output b : boolean; b := ~a; } module main() { x, y : boolean; n : inverter(x, y); }",
+    "scalarset P undefined; module main() { c, e : boolean; d : P; x : array P of array P of array P of boolean; forall (i in P) if (c) x[i][i][d] := 0; else if (e) x[i][d][i] := 1; else x[d][i][i] := 0; }",
+    // Two cells that constants keep apart, and a step in time.
+    "module main() { x : array 0..1 of boolean; x[0] := x[1]; x[1] := 0; }",
+    "module main() { a, b : boolean; next(a) := b; b := a; }",
+];
+
+// Fails with the first text that is refused.
+fn none_is_refused(alloc: Global, texts: &[&'static str]) -> Result<(), Fail> {
+    for text in texts {
+        let (status, _) = answered(alloc, "prove", text.as_bytes())?;
+        if status == 3 {
+            return Err(Fail::new(*text));
         }
     }
     Ok(())
+}
+
+#[test]
+fn kinds_and_size_are_looked_at_in_turn(rt: HostRuntime) -> Result<(), Fail> {
+    all_are_refused(rt.alloc(), KINDS)
+}
+
+#[test]
+fn assignments_loops_and_layers_are_looked_at_in_turn(rt: HostRuntime) -> Result<(), Fail> {
+    all_are_refused(rt.alloc(), FLAT)
+}
+
+#[test]
+fn sound_texts_pass(rt: HostRuntime) -> Result<(), Fail> {
+    none_is_refused(rt.alloc(), SOUND)
 }

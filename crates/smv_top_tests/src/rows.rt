@@ -1,10 +1,10 @@
 //! Worked designs with their reports, and commands with their answers.
 
-use crate::calls::{USAGE, answered};
+use crate::calls::{Row, USAGE, all_are_answered, answered};
+use std::alloc::{AllocError, Global};
 use std::test::Fail;
 
-// The words, the text, the exit status and what is written.
-const ROWS: &[(&str, &str, u8, &str)] = &[
+const ROWS: &[Row] = &[
     (
         "prove",
         "module main() { x : boolean; init(x) := 0; next(x) := ~x; p : assert G (x | ~x); }",
@@ -214,8 +214,10 @@ const ROWS: &[(&str, &str, u8, &str)] = &[
     ),
 ];
 
-// Reports of which a part is open, since there are several shortest paths: the text, the exit status, how the report begins and how it ends.
-const OPEN_ROWS: &[(&str, u8, &str, &str)] = &[
+// A report of which a part is open, since there are several shortest paths: the text, the exit status, how the report begins and how it ends.
+type OpenRow = (&'static str, u8, &'static str, &'static str);
+
+const OPEN_ROWS: &[OpenRow] = &[
     // At time 0 a use of the time before says nothing.
     (
         "module main() { a, b : boolean; init(a) := 1; init(b) := 0; next(a) := b; next(b) := a; layer spec : { a := 0; b := 0; } using b//spec prove a//spec; using a//spec prove b//spec; }",
@@ -235,33 +237,47 @@ const OPEN_ROWS: &[(&str, u8, &str, &str)] = &[
 pub const TOMASULO: &str =
     "scalarset WORD undefined;\nscalarset REG undefined;\nscalarset TAG undefined;\nmodule main() {\n  issue, go : boolean;\n  slot, bt : TAG;\n  src, dst, rd : REG;\n  iss, bv : boolean;\n  abstract opa, res : WORD;\n  bw, dout : WORD;\n  ir : array REG of struct { resvd : boolean; tag : TAG; val : WORD; };\n  st : array TAG of struct { valid, ga : boolean; ta : TAG; va : WORD; };\n  abstract r : array REG of WORD;\n  abstract aux : array TAG of struct { a, res : WORD; src : REG; };\n  f : array WORD of WORD;\n\n  iss := issue & ~st[slot].valid;\n  bv := go & st[bt].valid & st[bt].ga;\n  bw := f[st[bt].va];\n  dout := ir[rd].val;\n  forall (x in WORD) next(f[x]) := f[x];\n  forall (k in REG) {\n    init(ir[k].resvd) := 0;\n    default\n      if (bv & ir[k].resvd & ir[k].tag = bt) {\n        next(ir[k].resvd) := 0;\n        next(ir[k].val) := bw;\n      }\n    in if (iss & dst = k) {\n      next(ir[k].resvd) := 1;\n      next(ir[k].tag) := slot;\n    }\n  }\n  forall (i in TAG) {\n    init(st[i].valid) := 0;\n    default {\n      if (bv & bt = i) next(st[i].valid) := 0;\n      if (bv & ~st[i].ga & st[i].ta = bt) {\n        next(st[i].ga) := 1;\n        next(st[i].va) := bw;\n      }\n    } in if (iss & slot = i) {\n      next(st[i].valid) := 1;\n      next(st[i].ga) := ~ir[src].resvd | bv & ir[src].tag = bt;\n      next(st[i].ta) := ir[src].tag;\n      next(st[i].va) := ir[src].resvd ? bw : ir[src].val;\n    }\n  }\n  layer arch : {\n    opa := r[src];\n    res := f[opa];\n    forall (k in REG) init(r[k]) := ir[k].val;\n    if (iss) next(r[dst]) := res;\n    forall (i in TAG) if (iss & slot = i) {\n      next(aux[i].a) := opa;\n      next(aux[i].res) := res;\n      next(aux[i].src) := src;\n    }\n    if (~ir[rd].resvd) dout := r[rd];\n  }\n  layer lem : {\n    forall (i in TAG) if (st[i].valid & st[i].ga) st[i].va := aux[i].a;\n    if (bv) bw := aux[bt].res;\n    forall (k in REG) if (~ir[k].resvd) ir[k].val := r[k];\n  }\n  forall (k in REG) forall (c in WORD)\n    subcase rd1[k][c] of dout//arch for rd = k, r[rd] = c;\n  using ir.val//lem, r//free, ir.resvd//free prove rd1;\n  forall (k in TAG) forall (i in TAG) forall (j in REG) forall (c in WORD)\n    subcase va1[i][j][c] of st[k].va//lem\n      for st[k].ta = i, aux[k].src = j, aux[k].a = c;\n  using bw//lem, ir.val//lem, res//free, bv//free prove va1;\n  forall (i in TAG) forall (a in WORD) forall (c in WORD)\n    subcase bw1[i][a][c] of bw//lem\n      for bt = i, aux[bt].a = a, aux[bt].res = c;\n  using st.va//lem, opa//free, st.ga//free prove bw1;\n  forall (k in REG) forall (i in TAG) forall (c in WORD)\n    subcase val1[i][c] of ir[k].val//lem for ir[k].tag = i, r[k] = c;\n  using bw//lem, res//free, bv//free prove val1;\n}\n";
 
+const MACHINE: &[Row] = &[(
+    "prove --nodes 16777216",
+    TOMASULO,
+    0,
+    "dout//arch: true\nst.va//lem: true\nbw//lem: true\nir.val//lem: true\nproved 4 of 4\n",
+)];
+
 #[test]
 fn reports_and_answers(rt: HostRuntime) -> Result<(), Fail> {
-    for (line, text, want, answer) in ROWS {
-        let (status, written) = answered(rt.alloc(), line, text.as_bytes())?;
-        assert_eq!(rt; status, *want, "{line}: {text}");
-        assert_eq!(rt; written.as_slice(), answer.as_bytes(), "{line}: {text}");
+    all_are_answered(rt.alloc(), ROWS)
+}
+
+// Whether the report of a text begins and ends so.
+fn is_told(
+    alloc: Global,
+    text: &str,
+    want: u8,
+    begins: &str,
+    ends: &str,
+) -> Result<bool, AllocError> {
+    let (status, written) = answered(alloc, "prove", text.as_bytes())?;
+    let report = written.as_slice();
+    Ok(status == want && report.starts_with(begins.as_bytes()) && report.ends_with(ends.as_bytes()))
+}
+
+// Fails with the first text whose report begins or ends otherwise.
+fn all_are_told(alloc: Global, rows: &[OpenRow]) -> Result<(), Fail> {
+    for (text, want, begins, ends) in rows {
+        if !is_told(alloc, text, *want, begins, ends)? {
+            return Err(Fail::new(*text));
+        }
     }
     Ok(())
 }
 
 #[test]
 fn reports_with_one_of_several_paths(rt: HostRuntime) -> Result<(), Fail> {
-    for (text, want, begins, ends) in OPEN_ROWS {
-        let (status, written) = answered(rt.alloc(), "prove", text.as_bytes())?;
-        assert_eq!(rt; status, *want, "{text}");
-        assert!(rt; written.starts_with(begins.as_bytes()), "{text}");
-        assert!(rt; written.ends_with(ends.as_bytes()), "{text}");
-    }
-    Ok(())
+    all_are_told(rt.alloc(), OPEN_ROWS)
 }
 
 #[test]
 fn the_machine_is_proved(rt: HostRuntime) -> Result<(), Fail> {
-    let answer =
-        "dout//arch: true\nst.va//lem: true\nbw//lem: true\nir.val//lem: true\nproved 4 of 4\n";
-    let (status, written) = answered(rt.alloc(), "prove --nodes 16777216", TOMASULO.as_bytes())?;
-    assert_eq!(rt; status, 0);
-    assert_eq!(rt; written.as_slice(), answer.as_bytes());
-    Ok(())
+    all_are_answered(rt.alloc(), MACHINE)
 }

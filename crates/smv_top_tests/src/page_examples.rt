@@ -1,6 +1,6 @@
 //! The commands of `examples`, with their texts, exit statuses and answers. Written by `tools/pages.py --tests`.
 
-use crate::calls::{Row, last_difference};
+use crate::calls::{Row, all_are_answered};
 use std::test::Fail;
 
 const ROWS_1: &[Row] = &[
@@ -26,8 +26,7 @@ const ROWS_1: &[Row] = &[
 
 #[test]
 fn answers_1(rt: HostRuntime) -> Result<(), Fail> {
-    assert_eq!(rt; last_difference(rt.alloc(), ROWS_1)?, None);
-    Ok(())
+    all_are_answered(rt.alloc(), ROWS_1)
 }
 
 const ROWS_2: &[Row] = &[
@@ -53,8 +52,7 @@ const ROWS_2: &[Row] = &[
 
 #[test]
 fn answers_2(rt: HostRuntime) -> Result<(), Fail> {
-    assert_eq!(rt; last_difference(rt.alloc(), ROWS_2)?, None);
-    Ok(())
+    all_are_answered(rt.alloc(), ROWS_2)
 }
 
 const ROWS_3: &[Row] = &[
@@ -80,8 +78,7 @@ const ROWS_3: &[Row] = &[
 
 #[test]
 fn answers_3(rt: HostRuntime) -> Result<(), Fail> {
-    assert_eq!(rt; last_difference(rt.alloc(), ROWS_3)?, None);
-    Ok(())
+    all_are_answered(rt.alloc(), ROWS_3)
 }
 
 const ROWS_4: &[Row] = &[
@@ -107,8 +104,7 @@ const ROWS_4: &[Row] = &[
 
 #[test]
 fn answers_4(rt: HostRuntime) -> Result<(), Fail> {
-    assert_eq!(rt; last_difference(rt.alloc(), ROWS_4)?, None);
-    Ok(())
+    all_are_answered(rt.alloc(), ROWS_4)
 }
 
 const ROWS_5: &[Row] = &[
@@ -134,8 +130,7 @@ const ROWS_5: &[Row] = &[
 
 #[test]
 fn answers_5(rt: HostRuntime) -> Result<(), Fail> {
-    assert_eq!(rt; last_difference(rt.alloc(), ROWS_5)?, None);
-    Ok(())
+    all_are_answered(rt.alloc(), ROWS_5)
 }
 
 const ROWS_6: &[Row] = &[
@@ -167,8 +162,7 @@ const ROWS_6: &[Row] = &[
 
 #[test]
 fn answers_6(rt: HostRuntime) -> Result<(), Fail> {
-    assert_eq!(rt; last_difference(rt.alloc(), ROWS_6)?, None);
-    Ok(())
+    all_are_answered(rt.alloc(), ROWS_6)
 }
 
 const ROWS_7: &[Row] = &[(
@@ -180,6 +174,5 @@ const ROWS_7: &[Row] = &[(
 
 #[test]
 fn answers_7(rt: HostRuntime) -> Result<(), Fail> {
-    assert_eq!(rt; last_difference(rt.alloc(), ROWS_7)?, None);
-    Ok(())
+    all_are_answered(rt.alloc(), ROWS_7)
 }

@@ -1,6 +1,6 @@
 //! The commands of `docs/FAULTS.md`, with their texts, exit statuses and answers. Written by `tools/pages.py --tests`.
 
-use crate::calls::{Row, blanks_have, last_difference};
+use crate::calls::{Row, all_are_answered, blanks_are_answered};
 use std::test::Fail;
 
 const ROWS_1: &[Row] = &[
@@ -188,21 +188,16 @@ const ROWS_1: &[Row] = &[
 
 #[test]
 fn answers_1(rt: HostRuntime) -> Result<(), Fail> {
-    assert_eq!(rt; last_difference(rt.alloc(), ROWS_1)?, None);
-    Ok(())
+    all_are_answered(rt.alloc(), ROWS_1)
 }
 
 #[test]
 fn answers_to_blanks_1(rt: HostRuntime) -> Result<(), Fail> {
-    assert_eq!(rt;
-        blanks_have(
-            rt.alloc(),
-            "prove",
-            1_048_577,
-            3,
-            "fault 31 at line 1 column 1\n"
-        )?,
-        true
-    );
-    Ok(())
+    blanks_are_answered(
+        rt.alloc(),
+        "prove",
+        1_048_577,
+        3,
+        "fault 31 at line 1 column 1\n",
+    )
 }

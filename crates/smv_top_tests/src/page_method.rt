@@ -1,6 +1,6 @@
 //! The commands of `docs/METHOD.md`, with their texts, exit statuses and answers. Written by `tools/pages.py --tests`.
 
-use crate::calls::{Row, last_difference};
+use crate::calls::{Row, all_are_answered};
 use std::test::Fail;
 
 const ROWS_1: &[Row] = &[
@@ -50,8 +50,7 @@ const ROWS_1: &[Row] = &[
 
 #[test]
 fn answers_1(rt: HostRuntime) -> Result<(), Fail> {
-    assert_eq!(rt; last_difference(rt.alloc(), ROWS_1)?, None);
-    Ok(())
+    all_are_answered(rt.alloc(), ROWS_1)
 }
 
 const ROWS_2: &[Row] = &[
@@ -101,8 +100,7 @@ const ROWS_2: &[Row] = &[
 
 #[test]
 fn answers_2(rt: HostRuntime) -> Result<(), Fail> {
-    assert_eq!(rt; last_difference(rt.alloc(), ROWS_2)?, None);
-    Ok(())
+    all_are_answered(rt.alloc(), ROWS_2)
 }
 
 const ROWS_3: &[Row] = &[
@@ -140,8 +138,7 @@ const ROWS_3: &[Row] = &[
 
 #[test]
 fn answers_3(rt: HostRuntime) -> Result<(), Fail> {
-    assert_eq!(rt; last_difference(rt.alloc(), ROWS_3)?, None);
-    Ok(())
+    all_are_answered(rt.alloc(), ROWS_3)
 }
 
 const ROWS_4: &[Row] = &[
@@ -167,6 +164,5 @@ const ROWS_4: &[Row] = &[
 
 #[test]
 fn answers_4(rt: HostRuntime) -> Result<(), Fail> {
-    assert_eq!(rt; last_difference(rt.alloc(), ROWS_4)?, None);
-    Ok(())
+    all_are_answered(rt.alloc(), ROWS_4)
 }
