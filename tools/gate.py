@@ -1,15 +1,17 @@
 #!/usr/bin/env python3
 """Runs the gate, or watches one that runs, and tells where its time goes.
 
-    tools/gate.py [-o TABLE] [--] [rt ci's words]   runs rt ci at the top of this checkout (with --anew all from nothing)
+    tools/gate.py [-o TABLE] [--] [rt ci's words]   runs rt ci at the top of this checkout
+    tools/gate.py [-o TABLE] --remember             the same by tools/ci.py
     tools/gate.py [-o TABLE] --watch PID            watches a run of rt ci until it ends
 
-Of each crate: processor seconds of its proof, of its tests' proof, of the check that its must-fail edits begin with (the seed), and of its edits,
-with the dearest of each. Then the sum, and the longest chain of crates by the seconds of their proofs. It reads /proc once a second, so a task's last
+Of each crate: processor seconds of its proof, of its tests' proof, of the check that its must-fail edits begin with (the seed; kits in which the first edit
+does that work have none, and count it there), and of its edits, with the dearest of each. Then the sum, and the longest chain of crates by the seconds of their proofs. It reads /proc once a second, so a task's last
 second may be missing. The table is Markdown.
 """
 import argparse
 import collections
+import glob
 import os
 import re
 import subprocess
@@ -43,15 +45,15 @@ def words_of(pid):
         return []
 
 
-def task_of(words):
-    """Returns the crate and the kind of a prover's task, and of an edit its number."""
+def task_of(words, pid):
+    """Returns the crate and the kind of a prover's task, and of an edit what it is told by: its folder, or its process where a crate's edits share one."""
     if "--crate-name" not in words or len(words) < 2:
         return None
     crate = words[words.index("--crate-name") + 1]
     kept = words[words.index("--incremental") + 1] if "--incremental" in words else ""
     if "/rt-edits-" in kept:
         last = os.path.basename(kept)
-        return (crate, "seed", "") if last == "seed" else (crate, "edits", last)
+        return (crate, "seed", "") if last == "seed" else (crate, "edits", pid if last.startswith("rt-edits-") else last)
     if "--test" in words or words[1] == "test":
         return crate, "tests", ""
     return (crate, "proof", "") if words[1] == "build" else (crate, "edits", "anew")
@@ -70,7 +72,7 @@ def watch(root, seen):
     def walk(pid):
         for child in below[pid]:
             if now[child][1].startswith("rattle"):
-                task = task_of(words_of(child))
+                task = task_of(words_of(child), child)
                 if task:
                     seen[child, now[child][3]] = task, max(used(child), seen.get((child, now[child][3]), (0, 0))[1])
             else:
@@ -87,6 +89,11 @@ def libraries():
         lines = [line.split("#")[0].strip() for line in it]
     named = {line.split(":")[0].split()[0]: line.split(":")[1].split() for line in lines if line}
     return {name: [it for it in below if it in named] for name, below in named.items()}
+
+
+def edits_of(crate):
+    """Returns how many must-fail edits a crate has."""
+    return len(glob.glob(f"{TOP}/crates/{crate}/must-fail/*.edit"))
 
 
 def table(seen, wall):
@@ -107,7 +114,7 @@ def table(seen, wall):
         row = {kind: sum(spent[crate, kind].values()) for kind in KINDS}
         sums.update(row)
         edits = spent[crate, "edits"]
-        rows.append((sum(row.values()), crate, row, len(edits), max(edits.values(), default=0)))
+        rows.append((sum(row.values()), crate, row, edits_of(crate), max(edits.values(), default=0)))
     yield "| crate | proof | tests | seed | edits | number of edits | dearest edit | all |"
     yield "|---|---|---|---|---|---|---|---|"
     for total, crate, row, number, most in sorted(rows, reverse=True):
@@ -124,8 +131,10 @@ def main():
     parser = argparse.ArgumentParser(description=__doc__, formatter_class=argparse.RawDescriptionHelpFormatter)
     parser.add_argument("-o", metavar="TABLE", help="the file to write the table to, and no longer standard output")
     parser.add_argument("--watch", metavar="PID", type=int, help="a run of rt ci to watch")
+    parser.add_argument("--remember", action="store_true", help="run tools/ci.py in place of a plain rt ci")
     given, words = parser.parse_known_args()
-    run = None if given.watch else subprocess.Popen(["rt", "ci", *[it for it in words if it != "--"]], cwd=TOP)
+    command = [sys.executable, f"{TOP}/tools/ci.py"] if given.remember else ["rt", "ci", *[it for it in words if it != "--"]]
+    run = None if given.watch else subprocess.Popen(command, cwd=TOP)
     seen, begun, told = {}, time.time(), 0
 
     def tell():

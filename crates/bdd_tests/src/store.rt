@@ -8,6 +8,45 @@ use bdd_store::{Ref, Store};
 use std::alloc::{AllocError, Global};
 use std::test::Fail;
 
+// Which two of `len` functions the `i`-th pair has: one of those from `start` on, and any.
+fn pair(i: usize, start: usize, len: usize) -> (usize, usize)
+    requires some { start < len }
+    ensures low { result.0 < len }
+    ensures high { result.1 < len }
+{
+    let width = len - start;
+    (start + i % width, i / width % len)
+}
+
+// Adds the function of `var` with these branches, where they differ.
+fn add_node(
+    store: &mut Store,
+    all: &mut Vec<Ref>,
+    var: u32,
+    low: Ref,
+    high: Ref,
+) -> Result<(), AllocError>
+    requires var_in { var < store.old.vars }
+    requires low_live { IsLive store.old low }
+    requires high_live { IsLive store.old high }
+    requires low_later { var < first_var store.old low }
+    requires high_later { var < first_var store.old high }
+    requires live { AreLive store.old all.old.items }
+    requires later { (i : ℕ) → i < vec_len all.old → var ≤ first_var store.old (ref_at all.old.items i) }
+    ensures vars { store.new.vars ≡ store.old.vars }
+    ensures live { AreLive store.new all.new.items }
+    ensures later { (i : ℕ) → i < vec_len all.new → var ≤ first_var store.new (ref_at all.new.items i) }
+    ensures earlier { (i : ℕ) → i < vec_len all.old → var < first_var store.old (ref_at all.old.items i) → var < first_var store.new (ref_at all.new.items i) }
+    ensures longer { vec_len all.old ≤ vec_len all.new }
+{
+    if low == high {
+        return Ok(());
+    }
+    let function = store.node(var, low, high)?;
+    all.push(function)?;
+    Ok(())
+}
+
 // Adds functions that depend on `var`: at 0 one of those from `start` on, at 1 any.
 fn add_layer(
     store: &mut Store,
@@ -28,12 +67,8 @@ fn add_layer(
         return Ok(());
     }
     for i in 0..limit {
-        let low = all[start + i % (len - start)];
-        let high = all[i / (len - start) % len];
-        if low != high {
-            let function = store.node(var, low, high)?;
-            all.push(function)?;
-        }
+        let (low, high) = pair(i, start, len);
+        add_node(store, all, var, all[low], all[high])?;
     }
     Ok(())
 }

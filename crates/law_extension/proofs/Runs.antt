@@ -1,12 +1,9 @@
 -- Each behaviour of the families outside is that of a run.
-use Rattle.std.proofs.Common.{◌≡◌, ℕ, zero, suc, ◌+◌, ◌-◌, ◌<◌, List, [], ◌∷◌, ◌++◌, length, Option, Some, None, Bool, true, false, not, cond, refl, sym, ap, subst, ◌∙◌, ◌⊎◌, inl, inr, slice_get, unwrap_or, arith}
+use Rattle.std.proofs.Common.{◌≡◌, ℕ, zero, suc, ◌+◌, ◌-◌, List, [], ◌∷◌, ◌++◌, length, Option, Some, None, Bool, true, false, not, cond, refl, sym, ap, subst, ◌∙◌, ◌⊎◌, inl, inr, slice_get, unwrap_or}
 use Rattle.std.specs.List.{list_all, AllZip}
 use Rattle.std.proofs.lemmas.Slice.Zip.{AllZip-long}
-use Rattle.smv_core.specs.Values.{Value, number, constant, scalar, ordinal, scalarset, ordset, Sizes, is_in, values_of, numbers_from}
-use Rattle.smv_core.specs.Flat.{Numbered, FlatState, FlatElement, values_in, set_type, flat_result, is_concerned_by, flat_kept, flat_stepped, flat_allowed}
-use Rattle.smv_core.specs.declared.flat.Simple.{Simple}
-use Rattle.smv_core.specs.declared.flat.Simple.TheVariants.{Range, Enum, Set}
-use Rattle.smv_core.specs.declared.flat.SetInfo.{SetInfo}
+use Rattle.smv_core.specs.Values.{Value, number, Sizes, is_in}
+use Rattle.smv_core.specs.Flat.{Numbered, FlatState, FlatElement, values_in, flat_result, is_concerned_by, flat_kept, flat_stepped, flat_allowed}
 use Rattle.smv_core.specs.declared.flat.Family.{Family}
 use Rattle.smv_core.specs.declared.flat.Cell.{Cell}
 use Rattle.smv_core.specs.declared.flat.Flat.{Flat}
@@ -16,11 +13,11 @@ use Rattle.smv_abstraction.specs.Sets.{Has, first, later}
 use Rattle.smv_abstraction.specs.Circular.{always}
 use Rattle.smv_abstraction.specs.Soundness.{map_of, AreSizes, at_sizes, over_of, values_of_family, params_of, values_over, is_held, meets_base, IsTyped, IsRun, HasValue}
 use Rattle.law_obligations.specs.Outlines.{names_of, bases}
-use Rattle.law_obligations.specs.Checked.{IsFilled}
+use Rattle.law_obligations.proofs.Plans.{filled_value}
 use Rattle.law_loops_and_layers.specs.Reading.{Reference, Reading, readings}
 use Rattle.law_loops_and_layers.specs.LayerFaults.{assignments_of}
 use Rattle.law_extension.specs.Extension.{HasWholeLeftSides, AreFilled, AgreeOutside, bases_outside}
-use Rattle.law_extension.proofs.Lists.{clash, true_or_false, left_of, right_of, both_true, Has-left, Has-right, Has-filter, Has-from_filter, all-holds, all-each, get-Has, Has-map, Has-numbers, is_in-Has}
+use Rattle.law_extension.proofs.Lists.{clash, true_or_false, left_of, right_of, both_true, Has-left, Has-right, Has-filter, Has-from_filter, all-holds, all-each, get-Has, is_in-Has}
 use Rattle.law_extension.proofs.Results.{all_result, same_result}
 use Rattle.law_extension.proofs.Places.{AreOver, are_over}
 use Rattle.law_extension.proofs.Faultless.{IsFaultless, Falls, IsBase, base_is}
@@ -160,22 +157,6 @@ repeated-is (suc k) s t h = at_once t h (λ i. repeated-is k s t i)
     at_once : (t : FlatState) → Has (s ∷ repeated k s) t → (Has (repeated k s) t → s ≡ t) → s ≡ t
     at_once _ first rest = refl
     at_once t (later i) rest = rest i
-
--- types that are not empty have values
-set_value : (sizes : Sizes) (info : SetInfo) → 0 < sizes info.name → (v : Value) × Has (values_of sizes (set_type (Some info))) v
-set_value sizes info l = by_order info.ordered
-  where
-    zero_there : Has (numbers_from 0 (sizes info.name)) 0
-    zero_there = Has-numbers 0 (sizes info.name) 0 (omega arith) (omega (arith, l))
-
-    by_order : (b : Bool) → (v : Value) × Has (values_of sizes (cond b (ordset info.name) (scalarset info.name))) v
-    by_order true = (ordinal info.name 0, Has-map (ordinal info.name) zero_there)
-    by_order false = (scalar info.name 0, Has-map (scalar info.name) zero_there)
-
-filled_value : (d : Design) (sizes : Sizes) → AreSizes (names_of d) sizes → (t : Simple) → IsFilled d t → HasValue (at_sizes (names_of d) sizes) t
-filled_value d sizes each (Range low high) l = (number low, Has-map number (Has-numbers low (high + 1 - low) low (omega arith) (omega (arith, l))))
-filled_value d sizes each (Enum list) f = (constant f.0, Has-map constant f.1)
-filled_value d sizes each (Set set) f = subst (λ o. (v : Value) × Has (values_of sizes (set_type o)) v) (sym f.1) (set_value sizes f.0 (each f.0 (get-Has d.sets set f.0 f.1)).0)
 
 pub have_values : (d : Design) (sizes : Sizes) → AreSizes (names_of d) sizes → AreFilled d → (f : Family) → Has d.families f → HasValue (at_sizes (names_of d) sizes) f.value
 have_values d sizes each filled f k = filled_value d sizes each f.value (filled f k)

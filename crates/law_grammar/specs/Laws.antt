@@ -9,7 +9,7 @@ use Rattle.law_grammar.specs.Parsing.{Halt, Halts}
 use Rattle.law_grammar.specs.Items.{read_text}
 
 -- the tokens spell the expression, with at most n levels open at any of them
-unfoldable pub SpellsExpr : ℕ → Tokens → Expr → Type 0
+abbrev pub SpellsExpr : ℕ → Tokens → Expr → Type 0
 SpellsExpr n ts x = expr_rule (λ at. 0) n (below (λ at. 0) n) ts x []
 
 -- a list of tokens spells at most one expression, whatever the levels

@@ -40,7 +40,7 @@ set_value : (sizes : Sizes) (is_ordered : Bool) (name : Name) → 0 < sizes name
 set_value sizes true name l = (ordinal name 0, Has-map (ordinal name) (Has-numbers 0 (sizes name) 0 (omega arith) (omega (arith, l))))
 set_value sizes false name l = (scalar name 0, Has-map (scalar name) (Has-numbers 0 (sizes name) 0 (omega arith) (omega (arith, l))))
 
-filled_value : (d : Design) (sizes : Sizes) → AreSizes (names_of d) sizes → (t : Simple) → IsFilled d t → HasValue (at_sizes (names_of d) sizes) t
+pub filled_value : (d : Design) (sizes : Sizes) → AreSizes (names_of d) sizes → (t : Simple) → IsFilled d t → HasValue (at_sizes (names_of d) sizes) t
 filled_value d sizes each (Range low high) l = (number low, Has-map number (Has-numbers low (high + 1 - low) low (omega arith) (omega (arith, l))))
 filled_value d sizes each (Enum list) f = (constant f.0, Has-map constant f.1)
 filled_value d sizes each (Set set) f =

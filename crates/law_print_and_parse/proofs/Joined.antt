@@ -6,7 +6,8 @@ use Rattle.smv_parse.proofs.Rising.{FromOn, from-start}
 use Rattle.smv_parse.specs.Spelling.{levels}
 use Rattle.smv_print.specs.Canonical.{canonical}
 use Rattle.law_grammar.specs.Laws as rules
-use Rattle.law_print_and_parse.specs.SpellingLaws.{Rise, IsSameText, IsPrintedAlike}
+use Rattle.law_grammar.specs.Laws.{Rise}
+use Rattle.law_print_and_parse.specs.SpellingLaws.{IsSameText, IsPrintedAlike}
 use Rattle.law_print_and_parse.specs.TokenLaws.{IsCanonicalRead}
 use Rattle.law_print_and_parse.specs.Again.{IsPrintedAgain, IsOnePrint}
 

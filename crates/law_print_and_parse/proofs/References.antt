@@ -17,7 +17,7 @@ use Rattle.smv_print.specs.Written.{Kinds}
 use Rattle.smv_print.specs.Types.{word_kinds, names_kinds}
 use Rattle.smv_print.specs.Items.{count_before, bracket, ref_kinds, ref_layer, use_kinds}
 use Rattle.law_print_and_parse.specs.Aside.{word_aside, interleaved, numbered, ref_aside, use_aside}
-use Rattle.law_print_and_parse.specs.SpellingLaws.{Rise}
+use Rattle.law_grammar.specs.Laws.{Rise}
 use Rattle.law_print_and_parse.proofs.Again.{Places, Reads, Again, Every, anyhow, next, made, ended, left, right, regroup, sign, level, many-again}
 use Rattle.law_print_and_parse.proofs.Keeps.{KeepsAt, Keeps, every-many, keeps-separated_or_none}
 use Rattle.law_print_and_parse.proofs.Types.{name-again, keeps-name}

@@ -1,5 +1,5 @@
 -- The laws of the canonical spelling: the canonical tokens of a tree that some tokens spell, spell the same tree, places aside, and open no more levels.
-use Rattle.std.specs.Prelude.{◌≡◌, ◌<◌, ◌≤◌, ℕ, [], ◌∷◌, ◌++◌, map, length}
+use Rattle.std.specs.Prelude.{◌≡◌, ◌≤◌, ℕ, [], ◌∷◌, ◌++◌, map, length}
 use Rattle.smv_core.specs.declared.token.Token.{Token}
 use Rattle.smv_core.specs.declared.tree.Expr.{Expr}
 use Rattle.smv_core.specs.declared.tree.TypeExpr.{TypeExpr}
@@ -8,29 +8,22 @@ use Rattle.smv_core.specs.declared.tree.Ref.{Ref}
 use Rattle.smv_core.specs.declared.tree.Text.{Text}
 use Rattle.smv_core.specs.Signs.{open_paren, close_paren}
 use Rattle.smv_core.specs.Notation.{Tokens}
-use Rattle.smv_core.specs.Grammar.{expr_rule, type_rule, stmt_rule, ref_rule, below}
-use Rattle.smv_core.specs.Spelling.{Spells, place_of_rest}
+use Rattle.smv_core.specs.Grammar.{type_rule, stmt_rule, ref_rule, below}
+use Rattle.smv_core.specs.Spelling.{Spells}
 use Rattle.smv_print.specs.Written.{Kinds}
 use Rattle.smv_print.specs.Types.{type_kinds}
 use Rattle.smv_print.specs.Expressions.{expr_kinds}
 use Rattle.smv_print.specs.Statements.{stmt_kinds}
 use Rattle.smv_print.specs.Items.{ref_kinds}
 use Rattle.smv_print.specs.Canonical.{text_kinds, canonical}
+use Rattle.law_grammar.specs.Laws.{Rise, SpellsExpr}
 use Rattle.law_print_and_parse.specs.Aside.{expr_aside, type_aside, stmt_aside, ref_aside, text_aside}
 
 -- the tokens without their places
 abbrev pub kinds_of : Tokens → Kinds
 kinds_of ts = map (λ (t : Token). t.kind) ts
 
--- the offsets rise along the tokens, up to the length of the text
-abbrev pub Rise : ℕ → Tokens → Type 0
-Rise length [] = Unit {0}
-Rise length (t ∷ ts) = (t.at < place_of_rest length ts) × Rise length ts
-
--- the tokens spell the expression, with at most n levels open at any of them
-abbrev pub SpellsExpr : ℕ → Tokens → Expr → Type 0
-SpellsExpr n ts x = expr_rule (λ at. 0) n (below (λ at. 0) n) ts x []
-
+-- the tokens spell the type, with at most n levels open at any of them
 abbrev pub SpellsType : ℕ → Tokens → TypeExpr → Type 0
 SpellsType n ts x = type_rule (λ at. 0) n (below (λ at. 0) n) ts x []
 

@@ -11,6 +11,7 @@ ghost use Rattle.smv_outcomes.specs.Outcomes.{IsMayOf, AreOffersOf, IsTruthOf, A
 
 use crate::bindings::{bound_named, bound_rests, same_for_each};
 use smv_cells::Cell;
+use smv_comparisons::compared_lists;
 use smv_conditions::chances::{Chances, Join, chain_of, negated};
 use smv_conditions::conditions::Conditions;
 use smv_conditions::offers::{May, Offer, single, truths_of};
@@ -19,7 +20,7 @@ use smv_core::seq::Seq;
 use smv_free_variables::alike::all_agree;
 use smv_outcome_lists::combined::{chosen, matched, offers_of, valued};
 use smv_outcome_lists::members::{add_numbers, within_of};
-use smv_outcome_lists::pairs::{added_of, compared_all, remainders_of};
+use smv_outcome_lists::pairs::{added_of, remainders_of};
 use smv_outcome_lists::quantified::{all_of, any_of};
 use smv_outcome_lists::reads::read_of;
 use smv_problem::Problem;
@@ -104,7 +105,7 @@ pub fn may_of<S: Conditions>(
         FlatExpr::Compare { op, left, right } => {
             let us = offers_for(s, alloc, problem, cells, left.get(), b)?;
             let vs = offers_for(s, alloc, problem, cells, right.get(), b)?;
-            let z = compared_all(s, alloc, problem, *op, us.as_slice(), vs.as_slice())?;
+            let z = compared_lists(s, alloc, problem, *op, us.as_slice(), vs.as_slice())?;
             Ok(May::Truths(z))
         }
         FlatExpr::Within { left, set } => {

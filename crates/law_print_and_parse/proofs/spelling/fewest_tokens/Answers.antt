@@ -5,7 +5,7 @@ use Rattle.smv_core.specs.Notation.{Tokens}
 use Rattle.smv_print.specs.Written.{Kinds}
 use Rattle.smv_print.specs.Expressions.{spelled, within, expr_kinds}
 use Rattle.law_print_and_parse.specs.Aside.{expr_aside}
-use Rattle.law_print_and_parse.specs.SpellingLaws.{SpellsExpr}
+use Rattle.law_grammar.specs.Laws.{SpellsExpr}
 use Rattle.law_print_and_parse.proofs.FrugalWithin.{expression-fair}
 use Rattle.law_print_and_parse.proofs.Pairs.{too-few}
 use Rattle.law_print_and_parse.proofs.spelling.fewest_tokens.Goals as goal

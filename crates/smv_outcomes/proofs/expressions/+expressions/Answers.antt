@@ -70,8 +70,8 @@ may_of-returns-in_ok-z-in-Compare-clause-is g t c v h =
 pub may_of-returns-in_ok-z-in-Compare-clause-cells : goal.may_of-returns-in_ok-z-in-Compare-clause-cells
 may_of-returns-in_ok-z-in-Compare-clause-cells g t c = cells_kept _ _ _ _ _ _ c.in_ok-z-in-Compare.ensures.keeps c.in_ok-vs-in-Compare.ensures.cells
 
-pub may_of-compared_all-requires-clause-us_made : goal.may_of-compared_all-requires-clause-us_made
-may_of-compared_all-requires-clause-us_made g t c = slice_made _ _ _ _ _ _ _ c.as_slice-in-Compare.ensures.value c.in_ok-vs-in-Compare.ensures.keeps c.in_ok-us-in-Compare.ensures.made
+pub may_of-compared_lists-requires-clause-us_made : goal.may_of-compared_lists-requires-clause-us_made
+may_of-compared_lists-requires-clause-us_made g t c = slice_made _ _ _ _ _ _ _ c.as_slice-in-Compare.ensures.value c.in_ok-vs-in-Compare.ensures.keeps c.in_ok-us-in-Compare.ensures.made
 
 pub may_of-returns-in_ok-z-in-Within-clause-is : goal.may_of-returns-in_ok-z-in-Within-clause-is
 may_of-returns-in_ok-z-in-Within-clause-is g t c v h =
