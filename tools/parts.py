@@ -76,7 +76,7 @@ def parts_of(own, calls):
     reading = from_to("smv_prove::plan_of", "smv_parse::parse", "smv_core::tree::Top::drop")
     passes = within("smv_prove::plan_of") - reading
     cones = from_to(DECIDES, "smv_cone", "smv_obligations")
-    encoding = from_to(DECIDES, "smv_relations", "smv_demands", "smv_encode", "smv_coded_cells")
+    encoding = from_to(DECIDES, "smv_walks", "smv_encode")
     search = from_to(DECIDES, "smv_search", "smv_rings", "bdd_store::Store::sweep", "bdd_ops")
     deciding = within("smv_plan_reports::units::result_at") - cones - encoding - search
     parts = [start, reading, passes, cones, encoding, search, deciding]

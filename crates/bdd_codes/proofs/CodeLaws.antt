@@ -4,7 +4,7 @@ use Rattle.std.proofs.lemmas.Bool.{cases_lt}
 use Rattle.std.proofs.lemmas.Bool.Decides.{nat_tests}
 use Rattle.std.proofs.lemmas.List.{length-append, get_or_append_left}
 use Rattle.std.proofs.Math.Seq.{get_or-append_seam}
-use Rattle.law_codes.specs.Codes.{code_from}
+use Rattle.law_obligations.specs.Codes.{code_from}
 use Rattle.bdd_store.specs.declared.Ref.{Ref}
 use Rattle.bdd_store.specs.Diagram.{Diagram, IsLive, Keeps, table, first_var, ref_at}
 use Rattle.bdd_codes.specs.Codes.{bits_at, code_at, IsFrom, AreFrom, AreCodes}

@@ -2,8 +2,8 @@
 use Rattle.std.specs.Prelude.{◌≡◌, ℕ, ◌+◌, ◌-◌, ◌*◌, ◌<◌, ◌≤◌, Bool, true, false, List, length, min, nat_eq}
 use Rattle.bdd_store.specs.declared.Ref.{Ref}
 use Rattle.bdd_store.specs.Diagram.{Diagram, IsLive, table, first_var, ref_at}
-use Rattle.law_codes.specs.Bits.{Bits}
-use Rattle.law_codes.specs.Codes.{code_from}
+use Rattle.law_obligations.specs.Bits.{Bits}
+use Rattle.law_obligations.specs.Codes.{code_from}
 
 -- the current bits of an assignment, or the next ones
 abbrev pub bits_at : Bool → (ℕ → Bool) → Bits

@@ -6,9 +6,9 @@ use Rattle.smv_parse.specs.Laws.{IsNotBoth, IsOneFault, IsOneTree}
 use Rattle.smv_print.specs.Canonical.{canonical}
 use Rattle.smv_report.specs.Lines.{fault_text}
 use Rattle.smv_problem.specs.declared.report.Report.{Report}
-use Rattle.smv_command.specs.declared.Command.{Command}
-use Rattle.smv_status.specs.declared.Status.{Status}
-use Rattle.smv_status.specs.declared.Status.TheVariants as status
+use Rattle.smv_command.specs.declared.commands.Command.{Command}
+use Rattle.smv_command.specs.declared.exit.Status.{Status}
+use Rattle.smv_command.specs.declared.exit.Status.TheVariants as status
 use Rattle.law_valid_texts.specs.Laws.{OneTree, OneReport, OneUnitReport, UnitsAreOrAreNot}
 use Rattle.law_answers.specs.Dues.{IsDue, decided, is_false, is_unknown, lines_for, printed, proved_by, refused, status_of, text_for}
 use Rattle.law_answers.specs.OneAnswer.{OneAnswer}

@@ -5,9 +5,9 @@ use Rattle.smv_core.specs.declared.tree.Text.{Text}
 use Rattle.smv_parse.specs.Spelling.{HasFault}
 use Rattle.smv_parse.specs.Laws.{IsNotBoth, IsOneFault}
 use Rattle.smv_problem.specs.declared.report.Report.{Report}
-use Rattle.smv_command.specs.declared.Command.{Command}
-use Rattle.smv_command.specs.declared.Command.TheVariants.{Prove, Only, Print, Generated}
-use Rattle.law_text_reports.specs.Plans.{IsTree}
+use Rattle.smv_command.specs.declared.commands.Command.{Command}
+use Rattle.smv_command.specs.declared.commands.Command.TheVariants.{Prove, Only, Print, Generated}
+use Rattle.law_valid_texts.specs.Plans.{IsTree}
 use Rattle.law_valid_texts.specs.Faults.{pass_fault}
 use Rattle.law_valid_texts.specs.Laws.{OneTree, UnitsAreOrAreNot}
 use Rattle.law_valid_texts.specs.Reports.{IsValid}

@@ -8,10 +8,10 @@ use Rattle.smv_problem.specs.declared.report.Verdict.{Verdict}
 use Rattle.smv_problem.specs.declared.report.Verdict.TheVariants as verdict
 use Rattle.smv_problem.specs.declared.report.UnitResult.{UnitResult}
 use Rattle.smv_problem.specs.declared.report.Report.{Report}
-use Rattle.law_verdicts.specs.Verdicts.{LeafVerdict, all_true, fails}
+use Rattle.law_reports.specs.Verdicts.{LeafVerdict, all_true, fails}
 use Rattle.law_reports.specs.Reports.{IsReportOf, IsResultOf, AreResultsFrom, told, told_of}
-use Rattle.smv_command.specs.declared.Command.{Command}
-use Rattle.smv_command.specs.declared.Command.TheVariants.{Prove, Only, Print, Generated}
+use Rattle.smv_command.specs.declared.commands.Command.{Command}
+use Rattle.smv_command.specs.declared.commands.Command.TheVariants.{Prove, Only, Print, Generated}
 use Rattle.law_valid_texts.specs.Reports.{IsRightReport, IsReportOfUnit, IsUnitReport, script_of_tree, unit_named}
 use Rattle.law_valid_texts.specs.Laws.{OneTree, OneReport, OneUnitReport}
 use Rattle.law_answers.specs.Dues.{IsReportFor, default_nodes, default_steps, is_false}

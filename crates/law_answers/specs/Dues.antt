@@ -14,11 +14,11 @@ use Rattle.smv_report.specs.Lines.{fault_text}
 use Rattle.law_reports.specs.Lines.{report_lines}
 use Rattle.smv_report_lines.specs.Generated.{generated_lines}
 use Rattle.smv_gen.specs.Generated.{generated_text}
-use Rattle.smv_command.specs.declared.Command.{Command}
-use Rattle.smv_command.specs.declared.Command.TheVariants.{Prove, Only, Print, Generated}
-use Rattle.smv_status.specs.declared.Status.{Status}
-use Rattle.smv_status.specs.declared.Status.TheVariants as status
-use Rattle.law_text_reports.specs.Plans.{IsTree}
+use Rattle.smv_command.specs.declared.commands.Command.{Command}
+use Rattle.smv_command.specs.declared.commands.Command.TheVariants.{Prove, Only, Print, Generated}
+use Rattle.smv_command.specs.declared.exit.Status.{Status}
+use Rattle.smv_command.specs.declared.exit.Status.TheVariants as status
+use Rattle.law_valid_texts.specs.Plans.{IsTree}
 use Rattle.law_valid_texts.specs.Faults.{pass_fault}
 use Rattle.law_valid_texts.specs.Reports.{IsRightReport, IsUnitReport, HasNoUnit}
 

@@ -1,7 +1,7 @@
 // Laws of answers, each the contract of a function that does nothing.
 ghost use Rattle.law_answers.specs.Laws.{OneStatus, ProvedIsSound, UnreadIsDue};
 
-use law_valid_texts::laws::{one_tree, reports_agree, right_reports_are_sound};
+use law_valid_texts::valid_texts::{one_tree, reports_agree, right_reports_are_sound};
 use smv_parse::one_answer;
 
 /// One status is due to words and a text.

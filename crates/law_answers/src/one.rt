@@ -1,7 +1,7 @@
 // Laws of answers, each the contract of a function that does nothing.
 ghost use Rattle.law_answers.specs.OneAnswer.{OneAnswer};
 
-use law_valid_texts::laws::{one_tree, reports_agree};
+use law_valid_texts::valid_texts::{one_tree, reports_agree};
 use smv_parse::one_answer as one_parse;
 
 /// Where no unit is false, one answer is due to words and a text.

@@ -12,19 +12,19 @@ use Rattle.smv_core.specs.declared.flat.Leaf.{Leaf}
 use Rattle.smv_core.specs.declared.flat.Choice.{Choice}
 use Rattle.smv_core.specs.declared.flat.Class.{Class}
 use Rattle.smv_instances.specs.FirstFault.{first_of}
-use Rattle.smv_abstraction.specs.LeafCases.{leaf_cases}
+use Rattle.law_obligations.specs.LeafCases.{leaf_cases}
 use Rattle.law_obligations.specs.Outlines.{as_map, as_claim, unit_in}
 use Rattle.law_obligations.specs.Units.{units_of}
 use Rattle.law_problems.specs.Parts.{place_of_unit, fault_at_unit, bits_with, cases_fault, width_fault}
 use Rattle.law_valid_texts.specs.Faults.{first_there, parts_of, faults_of_cases, faults_of_widths}
-use Rattle.law_places.specs.FaultPlaces.{IsFaultOf}
-use Rattle.law_places.proofs.TreeLists.{any-flat, all-found}
-use Rattle.law_places.proofs.Firsts.{first-one}
-use Rattle.law_places.specs.FlatPlaces.{ClaimIsWithin, DefIsWithin, DesignIsWithin}
-use Rattle.law_places.specs.NameFaultPlaces.{numbers_of_names}
-use Rattle.law_places.specs.KindFaultPlaces.{numbers_of_kinds}
-use Rattle.law_places.specs.DesignFaultPlaces.{numbers_of_single, numbers_of_designs, numbers_of_sets}
-use Rattle.law_places.specs.ProofFaultPlaces.{numbers_of_splits, numbers_of_uses}
+use Rattle.law_fault_places.specs.FaultPlaces.{IsFaultOf}
+use Rattle.law_fault_places.proofs.TreeLists.{any-flat, all-found}
+use Rattle.law_fault_places.proofs.Firsts.{first-one}
+use Rattle.law_fault_places.specs.FlatPlaces.{ClaimIsWithin, DefIsWithin, DesignIsWithin}
+use Rattle.law_fault_places.specs.NameFaultPlaces.{numbers_of_names}
+use Rattle.law_fault_places.specs.KindFaultPlaces.{numbers_of_kinds}
+use Rattle.law_fault_places.specs.DesignFaultPlaces.{numbers_of_single, numbers_of_designs, numbers_of_sets}
+use Rattle.law_fault_places.specs.ProofFaultPlaces.{numbers_of_splits, numbers_of_uses}
 use Rattle.law_fault_places.specs.PassFaults.{IsFaultWithin}
 
 -- ---- numbers

@@ -6,10 +6,10 @@ use Rattle.smv_problem.specs.declared.report.UnitResult.{UnitResult}
 use Rattle.smv_problem.specs.declared.report.Report.{Report}
 use Rattle.smv_parse.specs.Laws.{IsWithin}
 use Rattle.smv_report.specs.Lines.{fault_text}
-use Rattle.smv_command.specs.declared.Command.{Command}
-use Rattle.smv_command.specs.declared.Command.TheVariants.{Prove, Only, Print, Generated}
-use Rattle.smv_status.specs.declared.Status.{Status}
-use Rattle.smv_status.specs.declared.Status.TheVariants as status
+use Rattle.smv_command.specs.declared.commands.Command.{Command}
+use Rattle.smv_command.specs.declared.commands.Command.TheVariants.{Prove, Only, Print, Generated}
+use Rattle.smv_command.specs.declared.exit.Status.{Status}
+use Rattle.smv_command.specs.declared.exit.Status.TheVariants as status
 use Rattle.law_valid_texts.specs.Faults.{pass_fault}
 use Rattle.law_answers.specs.Dues.{IsFault, too_long, malformed, faulty, unnamed, IsDue, decided, printed, refused, status_of, proved_by, is_false, is_unknown}
 use Rattle.law_fault_places.specs.PassFaults.{IsFaultWithin, PassFaultsAreWithin}

@@ -3,10 +3,10 @@ use Rattle.std.specs.Prelude.{◌≡◌, ℕ, List, length}
 use Rattle.smv_core.specs.declared.tree.Text.{Text}
 use Rattle.smv_parse.specs.Spelling.{SpellsText}
 use Rattle.smv_report.specs.Lines.{fault_text}
-use Rattle.smv_command.specs.declared.Command.{Command}
-use Rattle.smv_status.specs.declared.Status.TheVariants as status
+use Rattle.smv_command.specs.declared.commands.Command.{Command}
+use Rattle.smv_command.specs.declared.exit.Status.TheVariants as status
 use Rattle.law_answers.specs.Dues.{IsFault, IsDue}
-use Rattle.law_places.specs.TreePlaces.{TextIsWithin}
+use Rattle.law_fault_places.specs.TreePlaces.{TextIsWithin}
 use Rattle.law_fault_places.specs.PassFaults.{IsFaultWithin}
 
 -- what a text spells has its places within the text

@@ -3,7 +3,7 @@ use Rattle.std.specs.Prelude.{◌≤◌, ℕ, IfSome}
 use Rattle.smv_core.specs.declared.fault.Fault.{Fault}
 use Rattle.smv_core.specs.declared.tree.Text.{Text}
 use Rattle.law_valid_texts.specs.Faults.{pass_fault}
-use Rattle.law_places.specs.TreePlaces.{TextIsWithin}
+use Rattle.law_fault_places.specs.TreePlaces.{TextIsWithin}
 
 -- a number of 1 to 31, and a place of at most n
 pub record IsFaultWithin (n number at : ℕ) : Type 0 where

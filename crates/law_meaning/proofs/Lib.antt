@@ -12,3 +12,5 @@ mod WorkedFlat
 mod WorkedRuns
 mod WorkedSound
 mod WorkedStatements
+pub mod Concerned
+pub mod ExchangedFlat

@@ -9,20 +9,20 @@ use Rattle.smv_core.specs.declared.flat.SetInfo.{SetInfo}
 use Rattle.smv_core.specs.declared.flat.Keep.{Keep}
 use Rattle.smv_core.specs.declared.flat.Class.{Class}
 use Rattle.smv_core.specs.declared.flat.Class.TheVariants.{Number, Named, Rest}
-use Rattle.smv_abstraction.specs.declared.abstract_type.Rest.TheVariants as beside
-use Rattle.smv_abstraction.specs.declared.abstract_type.AbsType.{AbsType}
-use Rattle.smv_abstraction.specs.Sets.{Has, first, later, one_of_each}
-use Rattle.smv_abstraction.specs.Places.{Place, named, rest, is_named, World, world, rests_beside, rests_of, places_of, named_in, rests_in, places_in}
-use Rattle.smv_abstraction.specs.Cases.{Treatment, whole, reduced, ordered, Parameter, is_set, those_of, named_among, are_named, is_of, is_orderly, grow, listed_classes, type_in, is_allowed, candidates, numbered, cases}
-use Rattle.smv_abstraction.specs.Covers.{place_at, places_at, types_at, AreApart, IsIndexType}
-use Rattle.smv_abstraction.specs.LeafCases.{treatments_of}
-use Rattle.smv_abstraction.proofs.Tests.{true_or_false, and_both, left_of, right_of}
-use Rattle.smv_abstraction.proofs.Members.{Has-left, Has-right, Has-cases, Has-map, Has-from_map, any-some, all-each}
-use Rattle.smv_abstraction.proofs.Same.{nat_eq-is, nat_eq-itself}
-use Rattle.smv_abstraction.proofs.Spots.{Has-numbers}
-use Rattle.smv_abstraction.proofs.OneOfEach.{AreOf, are_of, get_Has}
-use Rattle.smv_abstraction.proofs.CoverScalarsets.{named_set, below_used}
-use Rattle.smv_abstraction.proofs.CoverNames.{by_name-at, numbered-at}
+use Rattle.smv_core.specs.declared.abstract_type.Rest.TheVariants as beside
+use Rattle.smv_core.specs.declared.abstract_type.AbsType.{AbsType}
+use Rattle.law_obligations.specs.Sets.{Has, first, later, one_of_each}
+use Rattle.law_obligations.specs.Places.{Place, named, rest, is_named, World, world, rests_beside, rests_of, places_of, named_in, rests_in, places_in}
+use Rattle.law_obligations.specs.Cases.{Treatment, whole, reduced, ordered, Parameter, is_set, those_of, named_among, are_named, is_of, is_orderly, grow, listed_classes, type_in, is_allowed, candidates, numbered, cases}
+use Rattle.law_obligations.specs.Covers.{place_at, places_at, types_at, AreApart, IsIndexType}
+use Rattle.law_obligations.specs.LeafCases.{treatments_of}
+use Rattle.law_obligations.proofs.Tests.{true_or_false, and_both, left_of, right_of}
+use Rattle.law_obligations.proofs.Members.{Has-left, Has-right, Has-cases, Has-map, Has-from_map, any-some, all-each}
+use Rattle.law_obligations.proofs.Same.{nat_eq-is, nat_eq-itself}
+use Rattle.law_obligations.proofs.Spots.{Has-numbers}
+use Rattle.law_obligations.proofs.OneOfEach.{AreOf, are_of, get_Has}
+use Rattle.law_obligations.proofs.CoverScalarsets.{named_set, below_used}
+use Rattle.law_obligations.proofs.CoverNames.{by_name-at, numbered-at}
 use Rattle.law_obligations.proofs.Lookups.{Has-from_filter}
 
 -- a parameter with its class

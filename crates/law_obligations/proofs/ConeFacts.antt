@@ -5,15 +5,15 @@ use Rattle.smv_core.specs.Values.{numbers_from}
 use Rattle.smv_core.specs.declared.flat.Simple.{Simple}
 use Rattle.smv_core.specs.declared.flat.Family.{Family}
 use Rattle.smv_core.specs.declared.flat.Def.{Def}
-use Rattle.smv_abstraction.specs.Sets.{Has, first, one_of_each}
-use Rattle.smv_abstraction.specs.Places.{Place, same_place, is_named, World, named_in}
-use Rattle.smv_abstraction.specs.Pictures.{AreNamedOf, KeepsNamed}
-use Rattle.smv_abstraction.specs.Soundness.{map_of, over_of}
-use Rattle.smv_abstraction.proofs.Tests.{and_both, left_of, right_of}
-use Rattle.smv_abstraction.proofs.Members.{Has-left, Has-map, Has-from_map, Has-flat_map, any-found, any-some}
-use Rattle.smv_abstraction.proofs.Same.{nat_eq-itself, nat_eq-is, same_place-itself, same_place-is}
-use Rattle.smv_abstraction.proofs.Spots.{Has-numbers}
-use Rattle.smv_abstraction.proofs.OneOfEach.{AreOf, are_of, get_past, Has-from_flat_map}
+use Rattle.law_obligations.specs.Sets.{Has, first, one_of_each}
+use Rattle.law_obligations.specs.Places.{Place, same_place, is_named, World, named_in}
+use Rattle.law_obligations.specs.Pictures.{AreNamedOf, KeepsNamed}
+use Rattle.law_obligations.specs.Soundness.{map_of, over_of}
+use Rattle.law_obligations.proofs.Tests.{and_both, left_of, right_of}
+use Rattle.law_obligations.proofs.Members.{Has-left, Has-map, Has-from_map, Has-flat_map, any-found, any-some}
+use Rattle.law_obligations.proofs.Same.{nat_eq-itself, nat_eq-is, same_place-itself, same_place-is}
+use Rattle.law_obligations.proofs.Spots.{Has-numbers}
+use Rattle.law_obligations.proofs.OneOfEach.{AreOf, are_of, get_past, Has-from_flat_map}
 use Rattle.law_obligations.specs.Reached.{is_among, reached}
 use Rattle.law_obligations.specs.Outlines.{Entry, Outline, unit_in, assumed}
 use Rattle.law_obligations.specs.Cones.{AbsElement, element, same_places, same_element, elements_of, elements, elements_read, elements_assumed, own_elements, of_target, first_elements, next_elements, cone, kept}

@@ -10,14 +10,14 @@ use Rattle.smv_core.specs.declared.flat.Assumed.{Assumed}
 use Rattle.smv_core.specs.declared.flat.Timing.{Timing}
 use Rattle.smv_core.specs.declared.flat.Timing.TheVariants.{Now, Before}
 use Rattle.smv_core.specs.declared.flat.Timed.{Timed}
-use Rattle.smv_abstraction.specs.Sets.{Has, one_of_each}
-use Rattle.smv_abstraction.specs.Places.{named_in}
-use Rattle.smv_abstraction.specs.Obligations.{Demanded, defined, holds, Problem}
-use Rattle.smv_abstraction.specs.Soundness.{FlatUnit, map_of, claim_of, over_of, LeafProof, IsOf, IsGranted, by_base, by_use}
-use Rattle.smv_abstraction.proofs.Tests.{and_both, left_of, right_of, or_left, or_right}
-use Rattle.smv_abstraction.proofs.Members.{Has-cases, Has-from_map, any-found}
-use Rattle.smv_abstraction.proofs.Same.{nat_eq-itself}
-use Rattle.smv_abstraction.proofs.OneOfEach.{Has-from_flat_map}
+use Rattle.law_obligations.specs.Sets.{Has, one_of_each}
+use Rattle.law_obligations.specs.Places.{named_in}
+use Rattle.law_obligations.specs.Obligations.{Demanded, defined, holds, Problem}
+use Rattle.law_obligations.specs.Soundness.{FlatUnit, map_of, claim_of, over_of, LeafProof, IsOf, IsGranted, by_base, by_use}
+use Rattle.law_obligations.proofs.Tests.{and_both, left_of, right_of, or_left, or_right}
+use Rattle.law_obligations.proofs.Members.{Has-cases, Has-from_map, any-found}
+use Rattle.law_obligations.proofs.Same.{nat_eq-itself}
+use Rattle.law_obligations.proofs.OneOfEach.{Has-from_flat_map}
 use Rattle.law_obligations.specs.Outlines.{Entry, Outline, Script, outline_of, unit_in, map_in, claim_unit, picked_unit, assumed, chosen}
 use Rattle.law_obligations.specs.Times.{is_unit, graph, same_time, pick_time, timed}
 use Rattle.law_obligations.specs.Cones.{AbsElement, element, same_element, cone}

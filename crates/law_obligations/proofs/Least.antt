@@ -1,10 +1,10 @@
 -- What is reached is the least set.
 use Rattle.std.proofs.Common.{◌≡◌, ℕ, zero, suc, ◌+◌, ◌<◌, ◌≤◌, List, [], ◌∷◌, ◌++◌, length, Bool, true, false, if◌then◌else◌, not, cond, filter, refl, sym, ap, subst, ◌∙◌, ◌⊎◌, inl, inr, Option, Some, None, arith}
 use Rattle.std.specs.List.{slice_get}
-use Rattle.smv_abstraction.specs.Sets.{Has, first, later}
-use Rattle.smv_abstraction.proofs.Tests.{true_or_false}
-use Rattle.smv_abstraction.proofs.Members.{Has-uncons, Has-cases, any-found, any-some}
-use Rattle.smv_abstraction.proofs.OneOfEach.{get_Has, Has_get, get_past}
+use Rattle.law_obligations.specs.Sets.{Has, first, later}
+use Rattle.law_obligations.proofs.Tests.{true_or_false}
+use Rattle.law_obligations.proofs.Members.{Has-uncons, Has-cases, any-found, any-some}
+use Rattle.law_obligations.proofs.OneOfEach.{get_Has, Has_get, get_past}
 use Rattle.law_obligations.specs.Reached.{is_among, with_all, following, in_turn, reached, IsLeast}
 use Rattle.law_obligations.proofs.Lookups.{inner, Has-filter, with_all-keeps, with_all-has, in_turn-keeps}
 

@@ -10,15 +10,15 @@ use Rattle.smv_core.specs.declared.flat.Flat.{Flat}
 use Rattle.smv_core.specs.declared.flat.FlatExpr.{FlatExpr}
 use Rattle.smv_core.specs.declared.flat.Class.{Class}
 use Rattle.smv_core.specs.declared.flat.Assumed.{Assumed}
-use Rattle.smv_abstraction.specs.Sets.{Has, one_of_each}
-use Rattle.smv_abstraction.specs.Places.{Place, named, same_place, is_named, World, named_in, places_in}
-use Rattle.smv_abstraction.specs.Cases.{cases}
-use Rattle.smv_abstraction.specs.Soundness.{FlatUnit, map_of, claim_of, over_of}
-use Rattle.smv_abstraction.proofs.Members.{Has-map, Has-from_map, Has-flat_map, Has-cases, Has-uncons, any-found, any-some}
-use Rattle.smv_abstraction.proofs.Same.{nat_eq-itself, nat_eq-is}
-use Rattle.smv_abstraction.proofs.Spots.{Has-numbers}
-use Rattle.smv_abstraction.proofs.OneOfEach.{AreOf, are_of, one_of, get_past, get_Has, Has-from_flat_map}
-use Rattle.smv_abstraction.proofs.CoverLists.{length-numbers}
+use Rattle.law_obligations.specs.Sets.{Has, one_of_each}
+use Rattle.law_obligations.specs.Places.{Place, named, same_place, is_named, World, named_in, places_in}
+use Rattle.law_obligations.specs.Cases.{cases}
+use Rattle.law_obligations.specs.Soundness.{FlatUnit, map_of, claim_of, over_of}
+use Rattle.law_obligations.proofs.Members.{Has-map, Has-from_map, Has-flat_map, Has-cases, Has-uncons, any-found, any-some}
+use Rattle.law_obligations.proofs.Same.{nat_eq-itself, nat_eq-is}
+use Rattle.law_obligations.proofs.Spots.{Has-numbers}
+use Rattle.law_obligations.proofs.OneOfEach.{AreOf, are_of, one_of, get_past, get_Has, Has-from_flat_map}
+use Rattle.law_obligations.proofs.CoverLists.{length-numbers}
 use Rattle.law_obligations.specs.Reached.{is_among, reached, IsLeast}
 use Rattle.law_obligations.specs.Reads.{is_own, is_bound_to, part_reads}
 use Rattle.law_obligations.specs.Outlines.{Entry, Outline, Script, outline_of, unit_in, claim_unit, assumed, chosen}

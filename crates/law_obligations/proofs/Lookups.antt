@@ -1,8 +1,8 @@
 -- What lookups in lists give.
 use Rattle.std.proofs.Common.{◌≡◌, ℕ, zero, suc, List, [], ◌∷◌, ◌++◌, map, Bool, true, false, cond, if◌then◌else◌, refl, sym, subst, ◌⊎◌, inl, inr, Option, Some, None, option_map, filter, find, option_to_list}
 use Rattle.std.specs.List.{slice_get, list_any, zip}
-use Rattle.smv_abstraction.specs.Sets.{Has, first, later}
-use Rattle.smv_abstraction.proofs.Members.{Has-uncons, Has-left, Has-right, any-found, any-some}
+use Rattle.law_obligations.specs.Sets.{Has, first, later}
+use Rattle.law_obligations.proofs.Members.{Has-uncons, Has-left, Has-right, any-found, any-some}
 use Rattle.law_obligations.specs.Outlines.{place_of}
 use Rattle.law_obligations.specs.Reached.{is_among, with_all, following, in_turn, reached}
 

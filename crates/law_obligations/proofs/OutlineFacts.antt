@@ -10,13 +10,13 @@ use Rattle.smv_core.specs.declared.flat.Unit.{Unit}
 use Rattle.smv_core.specs.declared.flat.Unit.TheVariants.{Map, Claim}
 use Rattle.smv_core.specs.declared.flat.Pick.{Pick}
 use Rattle.smv_core.specs.declared.flat.Assumed.{Assumed}
-use Rattle.smv_abstraction.specs.Sets.{Has, first, later}
-use Rattle.smv_abstraction.specs.Soundness.{FlatUnit, map_of, claim_of}
-use Rattle.smv_abstraction.proofs.Tests.{left_of}
-use Rattle.smv_abstraction.proofs.Members.{Has-flat_map}
-use Rattle.smv_abstraction.proofs.Same.{nat_eq-is}
-use Rattle.smv_abstraction.proofs.Spots.{Has-numbers}
-use Rattle.smv_abstraction.proofs.OneOfEach.{Has-from_flat_map, get_past}
+use Rattle.law_obligations.specs.Sets.{Has, first, later}
+use Rattle.law_obligations.specs.Soundness.{FlatUnit, map_of, claim_of}
+use Rattle.law_obligations.proofs.Tests.{left_of}
+use Rattle.law_obligations.proofs.Members.{Has-flat_map}
+use Rattle.law_obligations.proofs.Same.{nat_eq-is}
+use Rattle.law_obligations.proofs.Spots.{Has-numbers}
+use Rattle.law_obligations.proofs.OneOfEach.{Has-from_flat_map, get_past}
 use Rattle.law_obligations.specs.Outlines.{Outline, earlier, earliest, as_map, as_claim, map_in, claim_in, is_def, may_be_base, base_of, bases, unit_in, is_map, map_unit, claim_unit, said_by, claim_by, assumed, map_by, map_in_layer, unit_in_layer, picked_unit, map_by_pick, chosen}
 use Rattle.law_obligations.proofs.Lookups.{inner, Has-option, Has-from_filter, find-some, place_of-is}
 

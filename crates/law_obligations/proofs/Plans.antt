@@ -13,18 +13,18 @@ use Rattle.smv_core.specs.declared.flat.Unit.TheVariants.{Map, Claim}
 use Rattle.smv_core.specs.declared.flat.Param.{Param}
 use Rattle.smv_core.specs.declared.flat.Class.{Class}
 use Rattle.smv_core.specs.declared.flat.Timing.TheVariants.{Now, Before}
-use Rattle.smv_abstraction.specs.Sets.{Has}
-use Rattle.smv_abstraction.specs.Places.{Place, is_named, places_in}
-use Rattle.smv_abstraction.specs.Cases.{Parameter, cases}
-use Rattle.smv_abstraction.specs.LeafCases.{stays, leaf_cases}
-use Rattle.smv_abstraction.specs.Covers.{IsIndexType}
-use Rattle.smv_abstraction.specs.Soundness.{FlatUnit, map_of, claim_of, LeafProof, at_sizes, AreSizes, over_of, params_of, HasValue, IsKept, IsCase, IsUnit, IsLeaf, IsPlan}
-use Rattle.smv_abstraction.specs.Uses.{rank_of}
-use Rattle.smv_abstraction.proofs.Members.{Has-map, Has-from_map}
-use Rattle.smv_abstraction.proofs.Spots.{Has-numbers}
-use Rattle.smv_abstraction.proofs.OneOfEach.{AreOf, one_of, map_joined, map_long, get_Has, Has_get}
-use Rattle.smv_abstraction.proofs.CoverParams.{map-map}
-use Rattle.smv_abstraction.proofs.CoverScalarsets.{named_set}
+use Rattle.law_obligations.specs.Sets.{Has}
+use Rattle.law_obligations.specs.Places.{Place, is_named, places_in}
+use Rattle.law_obligations.specs.Cases.{Parameter, cases}
+use Rattle.law_obligations.specs.LeafCases.{stays, leaf_cases}
+use Rattle.law_obligations.specs.Covers.{IsIndexType}
+use Rattle.law_obligations.specs.Soundness.{FlatUnit, map_of, claim_of, LeafProof, at_sizes, AreSizes, over_of, params_of, HasValue, IsKept, IsCase, IsUnit, IsLeaf, IsPlan}
+use Rattle.law_obligations.specs.Uses.{rank_of}
+use Rattle.law_obligations.proofs.Members.{Has-map, Has-from_map}
+use Rattle.law_obligations.proofs.Spots.{Has-numbers}
+use Rattle.law_obligations.proofs.OneOfEach.{AreOf, one_of, map_joined, map_long, get_Has, Has_get}
+use Rattle.law_obligations.proofs.CoverParams.{map-map}
+use Rattle.law_obligations.proofs.CoverScalarsets.{named_set}
 use Rattle.law_obligations.specs.Outlines.{Entry, Outline, Script, outline_of, names_of, as_map, as_claim, unit_in}
 use Rattle.law_obligations.specs.Times.{graph, has_edge, timed}
 use Rattle.law_obligations.specs.Problems.{leaf_params, leaf_treatments, world_of, params_at, own_params, problem_of, proof_of, proofs_from, plan_of}

@@ -4,16 +4,16 @@ use Rattle.smv_core.specs.declared.flat.Design.{Design}
 use Rattle.smv_core.specs.declared.flat.Unit.{Unit}
 use Rattle.smv_core.specs.declared.flat.Leaf.{Leaf}
 use Rattle.smv_core.specs.declared.flat.Choice.{Choice}
-use Rattle.smv_abstraction.specs.Sets.{Has, first, later}
-use Rattle.smv_abstraction.specs.May.{AbsState}
-use Rattle.smv_abstraction.specs.Pictures.{IsAbsState}
-use Rattle.smv_abstraction.specs.Circular.{is_violating}
-use Rattle.smv_abstraction.specs.Obligations.{obligation}
-use Rattle.smv_abstraction.specs.LeafCases.{leaf_cases}
-use Rattle.smv_abstraction.specs.Soundness.{HasNoViolatingPath}
-use Rattle.smv_abstraction.proofs.Members.{Has-uncons}
-use Rattle.smv_abstraction.proofs.OneOfEach.{get_Has, Has_get}
-use Rattle.smv_abstraction.proofs.Joined.{sound}
+use Rattle.law_obligations.specs.Sets.{Has, first, later}
+use Rattle.law_obligations.specs.May.{AbsState}
+use Rattle.law_obligations.specs.Pictures.{IsAbsState}
+use Rattle.law_obligations.specs.Circular.{is_violating}
+use Rattle.law_obligations.specs.Obligations.{obligation}
+use Rattle.law_obligations.specs.LeafCases.{leaf_cases}
+use Rattle.law_obligations.specs.Soundness.{HasNoViolatingPath}
+use Rattle.law_obligations.proofs.Members.{Has-uncons}
+use Rattle.law_obligations.proofs.OneOfEach.{get_Has, Has_get}
+use Rattle.law_obligations.proofs.Joined.{sound}
 use Rattle.law_obligations.specs.Outlines.{Entry, Script, entries_of, unit_in}
 use Rattle.law_obligations.specs.Units.{units_of, script_of}
 use Rattle.law_obligations.specs.Problems.{proof_of, proofs_from, plan_of}

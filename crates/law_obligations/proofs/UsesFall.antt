@@ -5,13 +5,13 @@ use Rattle.smv_core.specs.declared.flat.Pick.{Pick}
 use Rattle.smv_core.specs.declared.flat.Assumed.{Assumed}
 use Rattle.smv_core.specs.declared.flat.Timing.{Timing}
 use Rattle.smv_core.specs.declared.flat.Timing.TheVariants.{Now, Before}
-use Rattle.smv_abstraction.specs.Sets.{Has, first, later}
-use Rattle.smv_abstraction.specs.Uses.{is_now, rank_of}
-use Rattle.smv_abstraction.proofs.Tests.{left_of, right_of, or_cases}
-use Rattle.smv_abstraction.proofs.Members.{any-some}
-use Rattle.smv_abstraction.proofs.Same.{nat_eq-is}
-use Rattle.smv_abstraction.proofs.OneOfEach.{get_past, map_long}
-use Rattle.smv_abstraction.proofs.NowOrder.{falls}
+use Rattle.law_obligations.specs.Sets.{Has, first, later}
+use Rattle.law_obligations.specs.Uses.{is_now, rank_of}
+use Rattle.law_obligations.proofs.Tests.{left_of, right_of, or_cases}
+use Rattle.law_obligations.proofs.Members.{any-some}
+use Rattle.law_obligations.proofs.Same.{nat_eq-is}
+use Rattle.law_obligations.proofs.OneOfEach.{get_past, map_long}
+use Rattle.law_obligations.proofs.NowOrder.{falls}
 use Rattle.law_obligations.specs.Outlines.{Entry, Outline, Script, outline_of, is_claim, is_map, claim_unit, unit_in_layer, picked_unit}
 use Rattle.law_obligations.specs.Times.{is_unit, graph_from, graph, has_edge, time_of, unit_time, is_open_pick, same_time, pick_time, claim_time, timed}
 use Rattle.law_obligations.specs.Problems.{is_at, entry_uses, used_by, uses_at}

@@ -12,16 +12,16 @@ use Rattle.smv_core.specs.declared.flat.Guard.{Guard}
 use Rattle.smv_core.specs.declared.flat.Param.{Param}
 use Rattle.smv_core.specs.declared.flat.Flat.{Flat, Nothing, If, First, Forall}
 use Rattle.smv_core.specs.declared.flat.FlatExpr.{FlatExpr, And, Or, Choose}
-use Rattle.smv_abstraction.specs.Sets.{Has, first, later}
-use Rattle.smv_abstraction.specs.Bound.{HasVariable}
-use Rattle.smv_abstraction.specs.FlatConflicts.{AreExcused, HasNoConflict}
-use Rattle.smv_abstraction.specs.Whole.{IsWhole, IsWholeFlat}
-use Rattle.smv_abstraction.specs.Covers.{AreApart, IsIndexType}
-use Rattle.smv_abstraction.specs.Scopes.{ReadsOnly, before}
-use Rattle.smv_abstraction.specs.Guards.{AreGuards}
-use Rattle.smv_abstraction.specs.Soundness.{params_of, IsDefinition}
-use Rattle.smv_abstraction.proofs.WorkedPlans.{one_of_one}
-use Rattle.smv_abstraction.proofs.Computing.{computing}
+use Rattle.law_obligations.specs.Sets.{Has, first, later}
+use Rattle.law_obligations.specs.Bound.{HasVariable}
+use Rattle.law_obligations.specs.FlatConflicts.{AreExcused, HasNoConflict}
+use Rattle.law_obligations.specs.Whole.{IsWhole, IsWholeFlat}
+use Rattle.law_obligations.specs.Covers.{AreApart, IsIndexType}
+use Rattle.law_obligations.specs.Scopes.{ReadsOnly, before}
+use Rattle.law_obligations.specs.Guards.{AreGuards}
+use Rattle.law_obligations.specs.Soundness.{params_of, IsDefinition}
+use Rattle.law_obligations.proofs.WorkedPlans.{one_of_one}
+use Rattle.law_obligations.proofs.Computing.{computing}
 use Rattle.law_obligations.specs.Outlines.{Entry, names_of, unit_in}
 use Rattle.law_obligations.specs.Problems.{plan_of}
 use Rattle.law_obligations.specs.Checked.{IsFilled, IsSplit, IsChecked}

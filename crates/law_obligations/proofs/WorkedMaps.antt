@@ -5,16 +5,16 @@ use Rattle.smv_core.specs.Values.{number}
 use Rattle.smv_core.specs.declared.flat.Class.{Class}
 use Rattle.smv_core.specs.declared.flat.Family.{Family}
 use Rattle.smv_core.specs.declared.flat.Def.{Def}
-use Rattle.smv_abstraction.specs.Sets.{Has, first, later}
-use Rattle.smv_abstraction.specs.Places.{named}
-use Rattle.smv_abstraction.specs.May.{AbsState}
-use Rattle.smv_abstraction.specs.Pictures.{IsAbsState}
-use Rattle.smv_abstraction.specs.Circular.{is_violating_after}
-use Rattle.smv_abstraction.specs.LeafCases.{leaf_cases}
-use Rattle.smv_abstraction.specs.Obligations.{Problem, obligation}
-use Rattle.smv_abstraction.specs.Soundness.{IsDefinition}
-use Rattle.smv_abstraction.proofs.WorkedPlans.{one_of_one, one_of_two}
-use Rattle.smv_abstraction.proofs.Computing.{computing}
+use Rattle.law_obligations.specs.Sets.{Has, first, later}
+use Rattle.law_obligations.specs.Places.{named}
+use Rattle.law_obligations.specs.May.{AbsState}
+use Rattle.law_obligations.specs.Pictures.{IsAbsState}
+use Rattle.law_obligations.specs.Circular.{is_violating_after}
+use Rattle.law_obligations.specs.LeafCases.{leaf_cases}
+use Rattle.law_obligations.specs.Obligations.{Problem, obligation}
+use Rattle.law_obligations.specs.Soundness.{IsDefinition}
+use Rattle.law_obligations.proofs.WorkedPlans.{one_of_one, one_of_two}
+use Rattle.law_obligations.proofs.Computing.{computing}
 use Rattle.law_obligations.specs.Outlines.{Entry, Script, outline_of}
 use Rattle.law_obligations.specs.Times.{graph, timed}
 use Rattle.law_obligations.specs.Problems.{problem_of, plan_of}

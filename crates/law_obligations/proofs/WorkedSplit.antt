@@ -8,18 +8,18 @@ use Rattle.smv_core.specs.declared.flat.Claim.{Claim}
 use Rattle.smv_core.specs.declared.flat.Guard.{Guard}
 use Rattle.smv_core.specs.declared.flat.Param.{Param}
 use Rattle.smv_core.specs.declared.flat.Family.{Family}
-use Rattle.smv_abstraction.specs.Sets.{Has, first, later}
-use Rattle.smv_abstraction.specs.May.{AbsState}
-use Rattle.smv_abstraction.specs.Pictures.{IsAbsState}
-use Rattle.smv_abstraction.specs.Circular.{is_violating_after}
-use Rattle.smv_abstraction.specs.Covers.{IsIndexType}
-use Rattle.smv_abstraction.specs.Scopes.{ReadsOnly, before}
-use Rattle.smv_abstraction.specs.Guards.{AreGuards}
-use Rattle.smv_abstraction.specs.LeafCases.{leaf_cases}
-use Rattle.smv_abstraction.specs.Obligations.{Problem, obligation}
-use Rattle.smv_abstraction.specs.Whole.{IsWhole}
-use Rattle.smv_abstraction.proofs.WorkedPlans.{one_of_one, one_of_two}
-use Rattle.smv_abstraction.proofs.Computing.{computing}
+use Rattle.law_obligations.specs.Sets.{Has, first, later}
+use Rattle.law_obligations.specs.May.{AbsState}
+use Rattle.law_obligations.specs.Pictures.{IsAbsState}
+use Rattle.law_obligations.specs.Circular.{is_violating_after}
+use Rattle.law_obligations.specs.Covers.{IsIndexType}
+use Rattle.law_obligations.specs.Scopes.{ReadsOnly, before}
+use Rattle.law_obligations.specs.Guards.{AreGuards}
+use Rattle.law_obligations.specs.LeafCases.{leaf_cases}
+use Rattle.law_obligations.specs.Obligations.{Problem, obligation}
+use Rattle.law_obligations.specs.Whole.{IsWhole}
+use Rattle.law_obligations.proofs.WorkedPlans.{one_of_one, one_of_two}
+use Rattle.law_obligations.proofs.Computing.{computing}
 use Rattle.law_obligations.specs.Outlines.{Entry, Script, outline_of}
 use Rattle.law_obligations.specs.Times.{graph, timed}
 use Rattle.law_obligations.specs.Problems.{problem_of}

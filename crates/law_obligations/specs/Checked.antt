@@ -11,16 +11,16 @@ use Rattle.smv_core.specs.declared.flat.Def.{Def}
 use Rattle.smv_core.specs.declared.flat.Claim.{Claim}
 use Rattle.smv_core.specs.declared.flat.Param.{Param}
 use Rattle.smv_core.specs.declared.flat.Class.{Class}
-use Rattle.smv_abstraction.specs.Sets.{Has}
-use Rattle.smv_abstraction.specs.Covers.{AreApart, IsIndexType}
-use Rattle.smv_abstraction.specs.Guards.{AreGuards}
-use Rattle.smv_abstraction.specs.Whole.{IsWhole}
-use Rattle.smv_abstraction.specs.May.{AbsState}
-use Rattle.smv_abstraction.specs.Pictures.{IsAbsState}
-use Rattle.smv_abstraction.specs.Circular.{always, is_violating}
-use Rattle.smv_abstraction.specs.Obligations.{Problem, obligation}
-use Rattle.smv_abstraction.specs.LeafCases.{leaf_cases}
-use Rattle.smv_abstraction.specs.Soundness.{FlatUnit, at_sizes, AreSizes, params_of, values_over, is_held, IsRun, IsDefinition}
+use Rattle.law_obligations.specs.Sets.{Has}
+use Rattle.law_obligations.specs.Covers.{AreApart, IsIndexType}
+use Rattle.law_obligations.specs.Guards.{AreGuards}
+use Rattle.law_obligations.specs.Whole.{IsWhole}
+use Rattle.law_obligations.specs.May.{AbsState}
+use Rattle.law_obligations.specs.Pictures.{IsAbsState}
+use Rattle.law_obligations.specs.Circular.{always, is_violating}
+use Rattle.law_obligations.specs.Obligations.{Problem, obligation}
+use Rattle.law_obligations.specs.LeafCases.{leaf_cases}
+use Rattle.law_obligations.specs.Soundness.{FlatUnit, at_sizes, AreSizes, params_of, values_over, is_held, IsRun, IsDefinition}
 use Rattle.law_obligations.specs.Outlines.{Entry, Script, outline_of, names_of, bases, unit_in}
 use Rattle.law_obligations.specs.Times.{graph, timed}
 use Rattle.law_obligations.specs.Problems.{problem_of, plan_of}

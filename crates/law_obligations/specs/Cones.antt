@@ -8,9 +8,9 @@ use Rattle.smv_core.specs.declared.flat.Def.{Def}
 use Rattle.smv_core.specs.declared.flat.Claim.{Claim}
 use Rattle.smv_core.specs.declared.flat.Flat.{Flat}
 use Rattle.smv_core.specs.declared.flat.FlatExpr.{FlatExpr}
-use Rattle.smv_abstraction.specs.Sets.{one_of_each}
-use Rattle.smv_abstraction.specs.Places.{Place, named, same_place, is_named, World, named_in, places_in}
-use Rattle.smv_abstraction.specs.Soundness.{FlatUnit, map_of, claim_of, over_of}
+use Rattle.law_obligations.specs.Sets.{one_of_each}
+use Rattle.law_obligations.specs.Places.{Place, named, same_place, is_named, World, named_in, places_in}
+use Rattle.law_obligations.specs.Soundness.{FlatUnit, map_of, claim_of, over_of}
 use Rattle.law_obligations.specs.Reached.{reached, is_among}
 use Rattle.law_obligations.specs.Reads.{is_own, is_bound_to, reads, part_reads}
 use Rattle.law_obligations.specs.Outlines.{Entry, Outline, unit_in, assumed, chosen}

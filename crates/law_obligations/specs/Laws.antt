@@ -6,10 +6,10 @@ use Rattle.smv_core.specs.declared.flat.Design.{Design}
 use Rattle.smv_core.specs.declared.flat.Unit.{Unit}
 use Rattle.smv_core.specs.declared.flat.Leaf.{Leaf}
 use Rattle.smv_core.specs.declared.flat.Choice.{Choice}
-use Rattle.smv_abstraction.specs.Sets.{Has}
-use Rattle.smv_abstraction.specs.Places.{Place, World}
-use Rattle.smv_abstraction.specs.LeafCases.{leaf_cases}
-use Rattle.smv_abstraction.specs.Soundness.{IsPlan}
+use Rattle.law_obligations.specs.Sets.{Has}
+use Rattle.law_obligations.specs.Places.{Place, World}
+use Rattle.law_obligations.specs.LeafCases.{leaf_cases}
+use Rattle.law_obligations.specs.Soundness.{IsPlan}
 use Rattle.law_obligations.specs.Reached.{reached, IsLeast}
 use Rattle.law_obligations.specs.Outlines.{Entry, Outline, Script, outline_of, unit_in}
 use Rattle.law_obligations.specs.Units.{units_of, script_of}

@@ -13,7 +13,7 @@ use Rattle.smv_core.specs.declared.flat.Choice.{Choice}
 use Rattle.smv_core.specs.declared.flat.Pick.{Pick}
 use Rattle.smv_core.specs.declared.flat.Assumed.{Assumed}
 use Rattle.smv_core.specs.declared.flat.FlatExpr.{Number}
-use Rattle.smv_abstraction.specs.Soundness.{FlatUnit, map_of, claim_of}
+use Rattle.law_obligations.specs.Soundness.{FlatUnit, map_of, claim_of}
 
 -- a design with its units in flat order
 pub record Outline : Type 0 where

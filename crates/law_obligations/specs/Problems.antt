@@ -8,13 +8,13 @@ use Rattle.smv_core.specs.declared.flat.Pick.{Pick}
 use Rattle.smv_core.specs.declared.flat.Timing.{Timing}
 use Rattle.smv_core.specs.declared.flat.Timing.TheVariants.{Now, Before}
 use Rattle.smv_core.specs.declared.flat.Timed.{Timed}
-use Rattle.smv_abstraction.specs.Sets.{one_of_each}
-use Rattle.smv_abstraction.specs.Places.{Place, World, world, named_in}
-use Rattle.smv_abstraction.specs.Cases.{Treatment, Parameter}
-use Rattle.smv_abstraction.specs.LeafCases.{treatments_of, parameters_of}
-use Rattle.smv_abstraction.specs.Covers.{types_at, places_at}
-use Rattle.smv_abstraction.specs.Obligations.{Demanded, defined, holds, Problem}
-use Rattle.smv_abstraction.specs.Soundness.{params_of, said_at, LeafProof, Plan}
+use Rattle.law_obligations.specs.Sets.{one_of_each}
+use Rattle.law_obligations.specs.Places.{Place, World, world, named_in}
+use Rattle.law_obligations.specs.Cases.{Treatment, Parameter}
+use Rattle.law_obligations.specs.LeafCases.{treatments_of, parameters_of}
+use Rattle.law_obligations.specs.Covers.{types_at, places_at}
+use Rattle.law_obligations.specs.Obligations.{Demanded, defined, holds, Problem}
+use Rattle.law_obligations.specs.Soundness.{params_of, said_at, LeafProof, Plan}
 use Rattle.law_obligations.specs.Outlines.{Entry, Outline, Script, outline_of, names_of, bases, unit_in, map_in, claim_unit, picked_unit, assumed, chosen}
 use Rattle.law_obligations.specs.Times.{is_unit, graph, timed}
 use Rattle.law_obligations.specs.Cones.{AbsElement, element, same_element, cone, kept}

@@ -1,7 +1,7 @@
 -- What is reached from some members along edges: the least set that has these members and, with each member, those that follow it.
 use Rattle.std.specs.Prelude.{◌≡◌, ℕ, zero, suc, List, [], ◌∷◌, ◌++◌, slice_get, Option, Some, None, Bool, true, if◌then◌else◌}
 use Rattle.std.specs.List.{list_any}
-use Rattle.smv_abstraction.specs.Sets.{Has}
+use Rattle.law_obligations.specs.Sets.{Has}
 
 module _ {X : Type 0} (same : X → X → Bool) (next : X → List X) where
   -- one of these

@@ -11,9 +11,9 @@ use Rattle.smv_core.specs.declared.flat.Timing.TheVariants.{Now, Before}
 use Rattle.smv_core.specs.declared.flat.Timed.{Timed}
 use Rattle.smv_core.specs.declared.flat.FlatExpr.{FlatExpr}
 use Rattle.smv_core.specs.declared.flat.Flat.{Flat}
-use Rattle.smv_abstraction.specs.Places.{named}
-use Rattle.smv_abstraction.specs.Soundness.{FlatUnit, map_of, claim_of}
-use Rattle.smv_abstraction.specs.Uses.{is_now}
+use Rattle.law_obligations.specs.Places.{named}
+use Rattle.law_obligations.specs.Soundness.{FlatUnit, map_of, claim_of}
+use Rattle.law_obligations.specs.Uses.{is_now}
 use Rattle.law_obligations.specs.Reached.{reached}
 use Rattle.law_obligations.specs.Reads.{reads, part_reads}
 use Rattle.law_obligations.specs.Outlines.{Entry, Outline, Script, outline_of, unit_in, claim_unit, picked_unit, assumed, chosen}

@@ -8,8 +8,8 @@ use Rattle.smv_core.specs.declared.flat.Family.{Family}
 use Rattle.smv_core.specs.declared.flat.Def.{Def}
 use Rattle.smv_core.specs.declared.flat.Flat.{Forall}
 use Rattle.smv_core.specs.declared.flat.FlatExpr.{Var, And, All}
-use Rattle.smv_abstraction.specs.Places.{named, rest}
-use Rattle.smv_abstraction.specs.May.{AbsState, may}
+use Rattle.law_obligations.specs.Places.{named, rest}
+use Rattle.law_obligations.specs.May.{AbsState, may}
 use Rattle.law_obligations.specs.Outlines.{Entry, Script, outline_of}
 use Rattle.law_obligations.specs.Cones.{AbsElement, element, cone, kept}
 use Rattle.law_obligations.specs.Problems.{world_of, params_at}

@@ -7,11 +7,11 @@ use Rattle.smv_core.specs.declared.flat.Class.TheVariants.{Named}
 use Rattle.smv_core.specs.declared.flat.Guard.{Guard}
 use Rattle.smv_core.specs.declared.flat.Flat.{Nothing, If, Forall}
 use Rattle.smv_core.specs.declared.flat.FlatExpr.{FlatExpr, Implies}
-use Rattle.smv_abstraction.specs.Places.{Place, named, rest, places_in}
-use Rattle.smv_abstraction.specs.LeafCases.{leaf_cases}
-use Rattle.smv_abstraction.specs.Obligations.{Demanded, defined, Problem}
-use Rattle.smv_abstraction.specs.Worked.{p}
-use Rattle.smv_abstraction.specs.WorkedObligations.{state, bit as at_bit, violates, some_state, some_step}
+use Rattle.law_obligations.specs.Places.{Place, named, rest, places_in}
+use Rattle.law_obligations.specs.LeafCases.{leaf_cases}
+use Rattle.law_obligations.specs.Obligations.{Demanded, defined, Problem}
+use Rattle.law_obligations.specs.Worked.{p}
+use Rattle.law_obligations.specs.WorkedObligations.{state, bit as at_bit, violates, some_state, some_step}
 use Rattle.law_obligations.specs.Outlines.{Entry, Script, outline_of}
 use Rattle.law_obligations.specs.Times.{graph, timed}
 use Rattle.law_obligations.specs.Problems.{problem_of}

@@ -9,12 +9,12 @@ use Rattle.smv_core.specs.declared.flat.Guard.{Guard}
 use Rattle.smv_core.specs.declared.flat.Flat.{Forall}
 use Rattle.smv_core.specs.declared.flat.FlatSigned.{roll-FlatSigned}
 use Rattle.smv_core.specs.declared.flat.FlatExpr.{FlatExpr, Var, And, Or, Implies, Compare, Sum, All, Any, Each}
-use Rattle.smv_abstraction.specs.Sets.{one_of_each}
-use Rattle.smv_abstraction.specs.Places.{Place, named, World, places_in}
-use Rattle.smv_abstraction.specs.May.{AbsState}
-use Rattle.smv_abstraction.specs.Circular.{is_violating}
-use Rattle.smv_abstraction.specs.LeafCases.{leaf_cases}
-use Rattle.smv_abstraction.specs.Obligations.{Problem, obligation}
+use Rattle.law_obligations.specs.Sets.{one_of_each}
+use Rattle.law_obligations.specs.Places.{Place, named, World, places_in}
+use Rattle.law_obligations.specs.May.{AbsState}
+use Rattle.law_obligations.specs.Circular.{is_violating}
+use Rattle.law_obligations.specs.LeafCases.{leaf_cases}
+use Rattle.law_obligations.specs.Obligations.{Problem, obligation}
 use Rattle.law_obligations.specs.Outlines.{Entry, Script, outline_of}
 use Rattle.law_obligations.specs.Times.{graph, timed}
 use Rattle.law_obligations.specs.Cones.{AbsElement, element, same_element, cone}

@@ -23,20 +23,20 @@ use Rattle.smv_core.specs.declared.flat.Timing.TheVariants.{Now, Before}
 use Rattle.smv_core.specs.declared.flat.Timed.{Timed}
 use Rattle.smv_core.specs.declared.flat.Class.{Class}
 use Rattle.smv_core.specs.declared.flat.Class.TheVariants.{Number, Named, Rest}
-use Rattle.smv_abstraction.specs.declared.abstract_type.Rest.TheVariants as beside
-use Rattle.smv_abstraction.specs.declared.abstract_type.AbsType.{AbsType}
-use Rattle.smv_abstraction.specs.Sets.{Has, first, later, one_of_each}
-use Rattle.smv_abstraction.specs.Places.{Place, is_named, World, named_in, rests_in, places_in}
-use Rattle.smv_abstraction.specs.Pictures.{AreNamedOf}
-use Rattle.smv_abstraction.specs.Cases.{Treatment, whole, reduced, ordered, Parameter, is_set, those_of, used, named_among, listed_classes, abstract_type, type_in, candidates, numbered}
-use Rattle.smv_abstraction.specs.Covers.{types_at, IsIndexType}
-use Rattle.smv_abstraction.specs.LeafCases.{kept_of, treatment_of, treatments_of, stays}
-use Rattle.smv_abstraction.specs.Obligations.{Demanded, defined, holds}
-use Rattle.smv_abstraction.specs.Soundness.{FlatUnit, map_of, claim_of, over_of, params_of, said_at, IsDefinition}
-use Rattle.smv_abstraction.proofs.Members.{Has-left, Has-cases, Has-from_map, Has-uncons, any-some}
-use Rattle.smv_abstraction.proofs.Spots.{numbers-Has}
-use Rattle.smv_abstraction.proofs.OneOfEach.{AreOf as AreMembers, are_of, one_of, map_joined, map_long, Has-from_flat_map, get_Has, Has_get}
-use Rattle.smv_abstraction.proofs.CoverNames.{by_name-at, numbered-at}
+use Rattle.smv_core.specs.declared.abstract_type.Rest.TheVariants as beside
+use Rattle.smv_core.specs.declared.abstract_type.AbsType.{AbsType}
+use Rattle.law_obligations.specs.Sets.{Has, first, later, one_of_each}
+use Rattle.law_obligations.specs.Places.{Place, is_named, World, named_in, rests_in, places_in}
+use Rattle.law_obligations.specs.Pictures.{AreNamedOf}
+use Rattle.law_obligations.specs.Cases.{Treatment, whole, reduced, ordered, Parameter, is_set, those_of, used, named_among, listed_classes, abstract_type, type_in, candidates, numbered}
+use Rattle.law_obligations.specs.Covers.{types_at, IsIndexType}
+use Rattle.law_obligations.specs.LeafCases.{kept_of, treatment_of, treatments_of, stays}
+use Rattle.law_obligations.specs.Obligations.{Demanded, defined, holds}
+use Rattle.law_obligations.specs.Soundness.{FlatUnit, map_of, claim_of, over_of, params_of, said_at, IsDefinition}
+use Rattle.law_obligations.proofs.Members.{Has-left, Has-cases, Has-from_map, Has-uncons, any-some}
+use Rattle.law_obligations.proofs.Spots.{numbers-Has}
+use Rattle.law_obligations.proofs.OneOfEach.{AreOf as AreMembers, are_of, one_of, map_joined, map_long, Has-from_flat_map, get_Has, Has_get}
+use Rattle.law_obligations.proofs.CoverNames.{by_name-at, numbered-at}
 use Rattle.law_obligations.specs.Reached.{is_among, reached}
 use Rattle.law_obligations.specs.Outlines.{Entry, Outline, Script, entries_of, outline_of, names_of, nothing_claimed, as_map, as_claim, unit_in, map_in, assumed, chosen}
 use Rattle.law_obligations.specs.Units.{units_of, script_of}
@@ -47,11 +47,11 @@ use Rattle.law_obligations.proofs.Lookups.{inner, Has-option, Has-tested, Has-fr
 use Rattle.law_obligations.proofs.OutlineFacts.{Comes, from_base, from_unit, bases-are, unit-def, map_in-is, chosen-comes, assumed-comes}
 use Rattle.law_obligations.proofs.CasePlaces.{IsThere, case_places, treatment_there, take_of, named_there}
 use Rattle.law_obligations.proofs.ConeFacts.{in_cone-is, same_element-family, same_element-indexes, own_kept}
-use Rattle.law_flat_kinds.specs.FlatKinds as kinds
-use Rattle.law_flat_kinds.specs.FlatKinds.{Kind, kind_of}
-use Rattle.law_codes.specs.Readings.{Case, IsCase, state_bits}
-use Rattle.law_cases.specs.Scripts.{case_of}
-use Rattle.law_cases.proofs.ScriptCases.{is_case, filled}
+use Rattle.law_designs.specs.FlatKinds as kinds
+use Rattle.law_designs.specs.FlatKinds.{Kind, kind_of}
+use Rattle.law_obligations.specs.Readings.{Case, IsCase, state_bits}
+use Rattle.law_obligations.specs.Scripts.{case_of}
+use Rattle.law_obligations.proofs.ScriptCases.{is_case, filled}
 use Rattle.smv_problem.specs.WellFormed.{as_raw, keeps_orders, AreOf, IsFit, IsFitGuard, IsWellFormed}
 use Rattle.law_problems.specs.Parts.{outlined, entry_of, case_with, IsPart, IsCaseOf}
 use Rattle.law_problems.proofs.Unlike.{AreUnlike, unlike-filter, unlike-elements, apart_elements}

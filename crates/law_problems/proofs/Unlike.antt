@@ -7,12 +7,12 @@ use Rattle.smv_core.specs.Flat.{set_type}
 use Rattle.smv_core.specs.declared.flat.Simple.{Simple}
 use Rattle.smv_core.specs.declared.flat.Simple.TheVariants.{Range, Enum, Set}
 use Rattle.smv_core.specs.declared.flat.SetInfo.{SetInfo}
-use Rattle.smv_abstraction.specs.Sets.{Has, first, later, one_of_each}
-use Rattle.smv_abstraction.specs.Places.{Place, named, World, named_in}
-use Rattle.smv_abstraction.specs.Soundness.{over_of}
-use Rattle.smv_abstraction.proofs.Members.{Has-cases, Has-from_map}
-use Rattle.smv_abstraction.proofs.Spots.{numbers-Has}
-use Rattle.smv_abstraction.proofs.OneOfEach.{Has-from_flat_map}
+use Rattle.law_obligations.specs.Sets.{Has, first, later, one_of_each}
+use Rattle.law_obligations.specs.Places.{Place, named, World, named_in}
+use Rattle.law_obligations.specs.Soundness.{over_of}
+use Rattle.law_obligations.proofs.Members.{Has-cases, Has-from_map}
+use Rattle.law_obligations.proofs.Spots.{numbers-Has}
+use Rattle.law_obligations.proofs.OneOfEach.{Has-from_flat_map}
 use Rattle.law_obligations.specs.Cones.{AbsElement, element, elements_of, elements}
 use Rattle.law_obligations.proofs.Lookups.{Has-from_filter}
 use Rattle.smv_problem.specs.WellFormed.{AreDistinct, AreApartElements}

@@ -5,7 +5,7 @@ use Rattle.smv_core.specs.declared.flat.Leaf.{Leaf}
 use Rattle.smv_core.specs.declared.flat.Choice.{Choice}
 use Rattle.smv_core.specs.declared.flat.Timed.{Timed}
 use Rattle.smv_core.specs.declared.flat.Class.{Class}
-use Rattle.law_codes.specs.Readings.{state_bits}
+use Rattle.law_obligations.specs.Readings.{state_bits}
 use Rattle.smv_problem.specs.WellFormed.{IsWellFormed}
 use Rattle.law_problems.specs.Parts.{IsPart, IsCaseOf, case_with}
 

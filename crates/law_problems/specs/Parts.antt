@@ -15,20 +15,20 @@ use Rattle.smv_core.specs.declared.flat.Leaf.{Leaf}
 use Rattle.smv_core.specs.declared.flat.Choice.{Choice}
 use Rattle.smv_core.specs.declared.flat.Timed.{Timed}
 use Rattle.smv_core.specs.declared.flat.Class.{Class}
-use Rattle.smv_abstraction.specs.Sets.{Has}
-use Rattle.smv_abstraction.specs.Places.{World}
-use Rattle.smv_abstraction.specs.Covers.{IsIndexType}
-use Rattle.smv_abstraction.specs.LeafCases.{leaf_cases}
-use Rattle.smv_abstraction.specs.Soundness.{FlatUnit, map_of, claim_of}
+use Rattle.law_obligations.specs.Sets.{Has}
+use Rattle.law_obligations.specs.Places.{World}
+use Rattle.law_obligations.specs.Covers.{IsIndexType}
+use Rattle.law_obligations.specs.LeafCases.{leaf_cases}
+use Rattle.law_obligations.specs.Soundness.{FlatUnit, map_of, claim_of}
 use Rattle.law_obligations.specs.Outlines.{Entry, Outline, names_of, unit_in}
 use Rattle.law_obligations.specs.Units.{units_of, script_of}
 use Rattle.law_obligations.specs.Cones.{AbsElement, cone}
 use Rattle.law_obligations.specs.Problems.{world_of, params_at}
 use Rattle.law_obligations.specs.Checked.{IsChecked}
-use Rattle.law_flat_kinds.specs.FlatKinds as kinds
-use Rattle.law_flat_kinds.specs.FlatKinds.{Kind, kind_of}
-use Rattle.law_codes.specs.Readings.{Case, bits_of_all}
-use Rattle.law_cases.specs.Scripts.{case_of, HaveValues}
+use Rattle.law_designs.specs.FlatKinds as kinds
+use Rattle.law_designs.specs.FlatKinds.{Kind, kind_of}
+use Rattle.law_obligations.specs.Readings.{Case, bits_of_all}
+use Rattle.law_obligations.specs.Scripts.{case_of, HaveValues}
 use Rattle.smv_problem.specs.WellFormed.{as_raw, keeps_orders, is_part, AreDistinct}
 
 -- a design with its units

@@ -1,15 +1,15 @@
 -- What right reports tell.
 use Rattle.std.proofs.Common.{◌≡◌, ℕ, suc, ◌-◌, List, [], ◌∷◌, map, length, ap, subst, ◌∙◌, refl, arith}
-use Rattle.smv_abstraction.specs.Sets.{first, later}
+use Rattle.law_obligations.specs.Sets.{first, later}
 use Rattle.law_obligations.specs.Outlines.{Entry, Script}
 use Rattle.smv_search.specs.Verdict.Verdict.{Reached}
-use Rattle.law_cases.specs.Scripts.{case_at}
+use Rattle.law_obligations.specs.Scripts.{case_at}
 use Rattle.smv_problem.specs.declared.problem.AbsState.{AbsState as StateData}
 use Rattle.smv_problem.specs.declared.report.Verdict.{Verdict}
 use Rattle.smv_problem.specs.declared.report.Verdict.TheVariants.{True, False, UnknownNodes, UnknownSteps}
 use Rattle.smv_problem.specs.declared.report.UnitResult.{UnitResult}
 use Rattle.smv_problem.specs.Written.{written_state}
-use Rattle.law_verdicts.specs.Verdicts.{fails, IsUnitVerdict, AreVerdictsFrom, AllTrue}
+use Rattle.law_reports.specs.Verdicts.{fails, IsUnitVerdict, AreVerdictsFrom, AllTrue}
 use Rattle.law_reports.specs.Reports.{IsToldOf, AreResultsFrom, told, told_of, AllTrueUnits}
 
 length-map : {X Y : Type 0} (f : X → Y) (xs : List X) → length (map f xs) ≡ length xs

@@ -2,7 +2,7 @@
 use Rattle.std.specs.Prelude.{◌≡◌, ℕ}
 use Rattle.law_obligations.specs.Outlines.{Script}
 use Rattle.smv_problem.specs.declared.report.Report.{Report}
-use Rattle.law_verdicts.specs.Verdicts.{AreVerdicts, AllTrue}
+use Rattle.law_reports.specs.Verdicts.{AreVerdicts, AllTrue}
 use Rattle.law_reports.specs.Reports.{IsReportOf, told_of, AllTrueUnits}
 
 -- a right report tells the verdicts of the units

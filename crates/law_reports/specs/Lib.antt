@@ -1,3 +1,11 @@
 pub mod Reports
 pub mod Lines
 pub mod Laws
+pub mod CaseLists
+pub mod ListLaws
+pub mod Worked
+pub mod Verdicts
+pub mod VerdictLaws
+pub mod Certified
+pub mod Told
+pub mod PlanLaws

@@ -1,21 +1,21 @@
 -- When a report is right for a script.
 use Rattle.std.specs.Prelude.{◌≡◌, ℕ, suc, ◌-◌, List, [], ◌∷◌, map, length}
 use Rattle.smv_core.specs.declared.flat.Element.{Element}
-use Rattle.smv_abstraction.specs.Sets.{Has}
-use Rattle.smv_abstraction.specs.May.{AbsState}
+use Rattle.law_obligations.specs.Sets.{Has}
+use Rattle.law_obligations.specs.May.{AbsState}
 use Rattle.law_obligations.specs.Outlines.{Entry, Script, unit_in}
 use Rattle.law_splits.specs.Leaves.{name_of}
 use Rattle.smv_search.specs.Verdict.Verdict.{Counted, Reached, Images}
-use Rattle.law_codes.specs.Readings.{Case}
-use Rattle.law_codes.specs.CasePaths.{IsShortest}
-use Rattle.law_cases.specs.Scripts.{case_at}
+use Rattle.law_obligations.specs.Readings.{Case}
+use Rattle.law_obligations.specs.CasePaths.{IsShortest}
+use Rattle.law_obligations.specs.Scripts.{case_at}
 use Rattle.smv_problem.specs.declared.problem.AbsState.{AbsState as StateData}
 use Rattle.smv_problem.specs.declared.report.Verdict.{Verdict}
 use Rattle.smv_problem.specs.declared.report.Verdict.TheVariants.{True, False, UnknownNodes, UnknownSteps}
 use Rattle.smv_problem.specs.declared.report.UnitResult.{UnitResult}
 use Rattle.smv_problem.specs.declared.report.Report.{Report}
 use Rattle.smv_problem.specs.Written.{written_element, written_state}
-use Rattle.law_verdicts.specs.Verdicts.{LeafVerdict, all_true, fails, IsUnitVerdict}
+use Rattle.law_reports.specs.Verdicts.{LeafVerdict, all_true, fails, IsUnitVerdict}
 
 -- a shortest violating path of a case, written as data
 pub record IsShown (c : Case) (steps : ℕ) (elements : List Element) (path : List StateData) : Type 0 where

@@ -1,5 +1,15 @@
-//! When a report is right for a script, and its lines; a right report tells the verdicts of the units, so two right reports tell the same.
-//! For whoever makes, prints or trusts a report. A reader begins with `specs/Reports`; `specs/Lines` is the report's format.
+//! From the search of a case to a report: the lists of functions of a case, verdicts of leaves and scripts, and when a report is right.
+//!
+//! For whoever decides units and prints or trusts what is told. `specs/CaseLists` has the order of the functions of a case, and `worked` cases that were worked out by hand;
+//! `Verdicts` the verdict of a leaf by those of its cases; `Told` the cases of a plan; `Reports` when a report is right, and `Lines` its format. A right report tells the verdicts of the units, so two right reports
+//! tell the same. `closed_sets_pass` joins the clauses of `smv_search` and `smv_inductive`: a closed search and the inductive check agree.
 #![tactic(auto)]
 
-pub mod laws;
+pub mod case_lists;
+mod closed_sets;
+pub mod plan_cases;
+pub mod reports;
+pub mod verdicts;
+pub mod worked;
+
+pub use closed_sets::closed_sets_pass;

@@ -8,15 +8,15 @@ use Rattle.smv_core.specs.Flat.{FlatState}
 use Rattle.smv_core.specs.declared.flat.Design.{Design as FlatDesign}
 use Rattle.smv_core.specs.declared.flat.Unit.{Unit as DesignUnit}
 use Rattle.smv_core.specs.declared.flat.Unit.TheVariants.{Map}
-use Rattle.law_flattening.specs.Flattening.{flatten}
-use Rattle.law_single_assignment.specs.Definitions.{design_of_raw}
-use Rattle.smv_abstraction.specs.Sets.{Has, first, later}
-use Rattle.smv_abstraction.specs.Circular.{always}
-use Rattle.smv_abstraction.specs.Soundness.{at_sizes, is_held, meets_base}
+use Rattle.law_designs.specs.Flattening.{flatten}
+use Rattle.law_designs.specs.Definitions.{design_of_raw}
+use Rattle.law_obligations.specs.Sets.{Has, first, later}
+use Rattle.law_obligations.specs.Circular.{always}
+use Rattle.law_obligations.specs.Soundness.{at_sizes, is_held, meets_base}
 use Rattle.law_obligations.specs.Outlines.{names_of, bases, unit_in}
 use Rattle.law_obligations.specs.Checked.{HoldsAlways}
-use Rattle.law_behaviours.specs.WorkedText.{the_signal}
-use Rattle.law_extension.proofs.Lists.{left_of}
+use Rattle.law_sound_texts.specs.WorkedText.{the_signal}
+use Rattle.law_sound_texts.proofs.Lists.{left_of}
 use Rattle.law_sound_texts.specs.Carried.{UnitsHold}
 use Rattle.law_sound_texts.specs.WorkedTexts.{agreeing_layers, HoldsInBoth}
 use Rattle.law_sound_texts.proofs.Times.{always-gives}

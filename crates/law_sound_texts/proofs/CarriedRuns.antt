@@ -14,22 +14,22 @@ use Rattle.smv_core.specs.declared.flat.Def.{Def}
 use Rattle.smv_core.specs.declared.flat.Design.{Design as FlatDesign}
 use Rattle.smv_core.specs.declared.flat.Family.{Family as FlatFamily}
 use Rattle.smv_core.specs.declared.flat.Raw.{Raw}
-use Rattle.law_flattening.specs.Flattening.{flatten, layer_number}
-use Rattle.law_flattening.specs.Agreement.{AreSameStates, IsSameFamily, numbers_in}
-use Rattle.law_flattening.specs.RawAllowed.{AreSameBefore}
-use Rattle.law_single_assignment.specs.Definitions.{design_of_raw}
-use Rattle.law_single_assignment.specs.Laws.{AllowsAsTheText}
-use Rattle.smv_abstraction.specs.Sets.{Has}
-use Rattle.smv_abstraction.specs.Circular.{always}
-use Rattle.smv_abstraction.specs.Soundness as flat
-use Rattle.smv_abstraction.specs.Soundness.{map_of, over_of, params_of, values_of_family, values_over, is_held, meets_base}
+use Rattle.law_designs.specs.Flattening.{flatten, layer_number}
+use Rattle.law_designs.specs.Agreement.{AreSameStates, IsSameFamily, numbers_in}
+use Rattle.law_designs.specs.RawAllowed.{AreSameBefore}
+use Rattle.law_designs.specs.Definitions.{design_of_raw}
+use Rattle.law_designs.specs.Laws.{AllowsAsTheText}
+use Rattle.law_obligations.specs.Sets.{Has}
+use Rattle.law_obligations.specs.Circular.{always}
+use Rattle.law_obligations.specs.Soundness as flat
+use Rattle.law_obligations.specs.Soundness.{map_of, over_of, params_of, values_of_family, values_over, is_held, meets_base}
 use Rattle.law_obligations.specs.Outlines as outline
 use Rattle.law_obligations.specs.Outlines.{bases}
-use Rattle.law_loops_and_layers.specs.LayerFaults.{is_abstract}
-use Rattle.law_extension.specs.TextExtension.{FamiliesAreFound, IsSameLayer, LayersAreSame}
-use Rattle.law_extension.proofs.Lists.{both_true, Has-from_map, all-holds, get-Has, is_in-Has}
-use Rattle.law_extension.proofs.Faultless.{IsFaultless, IsBase, base_is}
-use Rattle.law_extension.proofs.Texts.{Contains-Has, All-each, in_text, indexes_same, to_flat, to_text, text_same, flat_same, flat_typed, demand_same, no_layer}
+use Rattle.law_designs.specs.LayerFaults.{is_abstract}
+use Rattle.law_sound_texts.specs.TextExtension.{FamiliesAreFound, IsSameLayer, LayersAreSame}
+use Rattle.law_sound_texts.proofs.Lists.{both_true, Has-from_map, all-holds, get-Has, is_in-Has}
+use Rattle.law_sound_texts.proofs.Faultless.{IsFaultless, IsBase, base_is}
+use Rattle.law_sound_texts.proofs.Texts.{Contains-Has, All-each, in_text, indexes_same, to_flat, to_text, text_same, flat_same, flat_typed, demand_same, no_layer}
 
 -- the layer of the base definition of a family
 abbrev pub ItsLayer : Text → Family → Def → Type 0

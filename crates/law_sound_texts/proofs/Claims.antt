@@ -17,18 +17,18 @@ use Rattle.smv_core.specs.declared.flat.Param.{Param}
 use Rattle.smv_core.specs.declared.flat.Design.{Design as FlatDesign}
 use Rattle.smv_core.specs.declared.flat.Raw.{Raw}
 use Rattle.smv_core.specs.declared.flat.Unit.TheVariants.{Claim}
-use Rattle.law_flattening.specs.Flattening.{flatten}
-use Rattle.law_flattening.specs.Agreement.{AreSameStates, numbers_in}
-use Rattle.law_flattening.specs.WholeText.{IsSameClaim, claims_of, claims_met}
-use Rattle.law_single_assignment.specs.Definitions.{design_of_raw}
-use Rattle.smv_abstraction.specs.Sets.{Has, one_of_each}
-use Rattle.smv_abstraction.proofs.CoverParams.{map-map}
-use Rattle.smv_abstraction.specs.Soundness as flat
-use Rattle.smv_abstraction.specs.Soundness.{claim_of, params_of, values_over, is_held}
+use Rattle.law_designs.specs.Flattening.{flatten}
+use Rattle.law_designs.specs.Agreement.{AreSameStates, numbers_in}
+use Rattle.law_designs.specs.WholeText.{IsSameClaim, claims_of, claims_met}
+use Rattle.law_designs.specs.Definitions.{design_of_raw}
+use Rattle.law_obligations.specs.Sets.{Has, one_of_each}
+use Rattle.law_obligations.proofs.CoverParams.{map-map}
+use Rattle.law_obligations.specs.Soundness as flat
+use Rattle.law_obligations.specs.Soundness.{claim_of, params_of, values_over, is_held}
 use Rattle.law_obligations.specs.Outlines.{names_of, bases, as_claim}
 use Rattle.law_obligations.specs.Checked.{HoldsAlways}
-use Rattle.law_extension.proofs.Lists.{inner}
-use Rattle.law_extension.proofs.Texts.{Has-get, zip_right}
+use Rattle.law_sound_texts.proofs.Lists.{inner}
+use Rattle.law_sound_texts.proofs.Texts.{Has-get, zip_right}
 use Rattle.law_sound_texts.specs.Carried.{UnitsHold}
 use Rattle.law_sound_texts.proofs.Units.{claim-unit}
 use Rattle.law_sound_texts.proofs.Times.{at-each-time, one-choices, choice-length}

@@ -15,15 +15,15 @@ use Rattle.smv_core.specs.declared.tree.TypeExpr.{TypeExpr}
 use Rattle.smv_core.specs.declared.flat.Claim.{Claim as FlatClaim}
 use Rattle.smv_core.specs.declared.flat.Param.{Param}
 use Rattle.smv_core.specs.declared.flat.Raw.{Raw}
-use Rattle.law_flattening.specs.Flattening.{flatten}
-use Rattle.law_flattening.specs.Agreement.{AreSameStates, numbers_in}
-use Rattle.law_flattening.specs.WholeText.{IsSameClaim, claims_of, claims_met}
-use Rattle.smv_abstraction.specs.Sets.{Has, one_of_each}
-use Rattle.smv_abstraction.specs.Circular.{always}
-use Rattle.smv_abstraction.specs.Soundness.{claim_of, params_of, values_over, is_held}
-use Rattle.smv_abstraction.proofs.CoverParams.{map-map}
-use Rattle.law_extension.proofs.Lists.{inner, get-Has}
-use Rattle.law_extension.proofs.Texts.{zip_left}
+use Rattle.law_designs.specs.Flattening.{flatten}
+use Rattle.law_designs.specs.Agreement.{AreSameStates, numbers_in}
+use Rattle.law_designs.specs.WholeText.{IsSameClaim, claims_of, claims_met}
+use Rattle.law_obligations.specs.Sets.{Has, one_of_each}
+use Rattle.law_obligations.specs.Circular.{always}
+use Rattle.law_obligations.specs.Soundness.{claim_of, params_of, values_over, is_held}
+use Rattle.law_obligations.proofs.CoverParams.{map-map}
+use Rattle.law_sound_texts.proofs.Lists.{inner, get-Has}
+use Rattle.law_sound_texts.proofs.Texts.{zip_left}
 use Rattle.law_sound_texts.proofs.Claims.{ClaimsAreSame, types}
 use Rattle.law_sound_texts.proofs.Times.{always-from, one-choices, choice-length}
 

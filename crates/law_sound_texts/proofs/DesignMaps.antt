@@ -16,26 +16,26 @@ use Rattle.smv_core.specs.declared.flat.Def.{Def}
 use Rattle.smv_core.specs.declared.flat.Design.{Design as FlatDesign}
 use Rattle.smv_core.specs.declared.flat.Family.{Family as FlatFamily}
 use Rattle.smv_core.specs.declared.flat.Raw.{Raw}
-use Rattle.law_flattening.specs.Flattening.{FlatAssigned, different, flat_assignments, flatten, layer_number}
-use Rattle.law_flattening.specs.Agreement.{AreSameStates, IsSameFamily, numbers_in}
-use Rattle.law_flattening.specs.RawAllowed.{AreSameBefore}
-use Rattle.law_flattening.specs.SameActs.{IsSameAct, layered_acts}
-use Rattle.law_single_assignment.specs.Standing.{Standing, Statement, assigned_by, statements_of}
-use Rattle.law_single_assignment.specs.Definitions.{Head, def_of, design_of_raw, first_heads, head, heads_of, same_definition}
-use Rattle.law_single_assignment.specs.Laws.{AllowsAsTheText}
-use Rattle.smv_abstraction.specs.Sets.{Has, first, later}
-use Rattle.smv_abstraction.proofs.Members.{Has-uncons}
-use Rattle.smv_abstraction.specs.Circular.{always}
-use Rattle.smv_abstraction.specs.Soundness.{map_of, over_of, params_of, values_of_family, values_over, is_held}
+use Rattle.law_designs.specs.Flattening.{FlatAssigned, different, flat_assignments, flatten, layer_number}
+use Rattle.law_designs.specs.Agreement.{AreSameStates, IsSameFamily, numbers_in}
+use Rattle.law_designs.specs.RawAllowed.{AreSameBefore}
+use Rattle.law_designs.specs.SameActs.{IsSameAct, layered_acts}
+use Rattle.law_designs.specs.Standing.{Standing, Statement, assigned_by, statements_of}
+use Rattle.law_designs.specs.Definitions.{Head, def_of, design_of_raw, first_heads, head, heads_of, same_definition}
+use Rattle.law_designs.specs.Laws.{AllowsAsTheText}
+use Rattle.law_obligations.specs.Sets.{Has, first, later}
+use Rattle.law_obligations.proofs.Members.{Has-uncons}
+use Rattle.law_obligations.specs.Circular.{always}
+use Rattle.law_obligations.specs.Soundness.{map_of, over_of, params_of, values_of_family, values_over, is_held}
 use Rattle.law_obligations.specs.Outlines as outline
 use Rattle.law_obligations.specs.Units.{is_base_in, is_refinement}
-use Rattle.law_extension.specs.TextExtension.{FamiliesAreFound, IsSameLayer, LayersAreSame}
-use Rattle.law_extension.proofs.Lists.{any-found, clash, get-Has, Has-flat_map, Has-from_filter, Has-from_flat_map, Has-from_map, is_in-Has, nat_eq-itself}
-use Rattle.law_extension.proofs.Faultless.{IsFaultless}
-use Rattle.law_extension.proofs.Texts.{Contains-Has, Has-get, demand_same, in_raw, in_text, indexes_same, zip_left}
-use Rattle.law_left_sides.specs.Exact.{IsExact, LeftSidesAreExact}
-use Rattle.law_behaviours.proofs.FirstHeads.{IsOne, assigns, standing-one}
-use Rattle.law_behaviours.proofs.SameLayers.{statements-zip}
+use Rattle.law_sound_texts.specs.TextExtension.{FamiliesAreFound, IsSameLayer, LayersAreSame}
+use Rattle.law_sound_texts.proofs.Lists.{any-found, clash, get-Has, Has-flat_map, Has-from_filter, Has-from_flat_map, Has-from_map, is_in-Has, nat_eq-itself}
+use Rattle.law_sound_texts.proofs.Faultless.{IsFaultless}
+use Rattle.law_sound_texts.proofs.Texts.{Contains-Has, Has-get, demand_same, in_raw, in_text, indexes_same, zip_left}
+use Rattle.law_sound_texts.specs.Exact.{IsExact, LeftSidesAreExact}
+use Rattle.law_sound_texts.proofs.FirstHeads.{IsOne, assigns, standing-one}
+use Rattle.law_sound_texts.proofs.SameLayers.{statements-zip}
 use Rattle.law_sound_texts.proofs.TextUnits.{map-there}
 use Rattle.law_sound_texts.proofs.Times.{always-from}
 

@@ -11,3 +11,60 @@ pub mod TextSizes
 pub mod DesignClaims
 pub mod DesignMaps
 pub mod SoundDesigns
+pub mod Lists
+pub mod Agreeing
+pub mod Results
+pub mod Places
+pub mod Faultless
+pub mod Stages
+pub mod Runs
+pub mod LeftSides
+pub mod Texts
+pub mod FamiliesFound
+mod Relation
+mod Boxes
+mod Variables
+mod Expressions
+mod Values
+mod Statements
+mod Only
+mod Families
+mod Constants
+mod Enumerations
+mod Connections
+mod Entries
+mod Kinded
+pub mod FaultlessSides
+pub mod Comes
+pub mod Free
+pub mod Flattened
+mod ExactStatements
+mod Counts
+mod Defined
+mod SetNames
+pub mod FlatLeftSides
+mod WholeExprs
+mod WholeDefs
+mod Filled
+mod Scripts
+pub mod FirstFound
+pub mod FirstHeads
+pub mod SameLayers
+pub mod SetSizes
+pub mod WorkedText
+mod Shallow
+mod ShallowForms
+mod ShallowRules
+mod FlatShallow
+mod Items
+mod Fitting
+mod Limits
+mod FewFamilies
+mod FewEntries
+mod FewConstants
+mod WholeText
+mod Consumed
+mod Widths
+mod SetTypes
+mod Ranges
+mod WidthPlaces

@@ -16,25 +16,25 @@ use Rattle.smv_core.specs.declared.flat.Design.{Design as FlatDesign}
 use Rattle.smv_core.specs.declared.flat.Family.{Family as FlatFamily}
 use Rattle.smv_core.specs.declared.flat.Raw.{Raw}
 use Rattle.smv_core.specs.declared.flat.Unit.TheVariants.{Map}
-use Rattle.law_flattening.specs.Numbers.{family_number}
-use Rattle.law_flattening.specs.Flattening.{flatten, layer_number, scope_in}
-use Rattle.law_flattening.specs.Agreement.{AreSameStates, IsSameFamily, flat_element, numbers_in}
-use Rattle.law_flattening.specs.RawAllowed.{AreSameBefore, raw_allowed}
-use Rattle.law_flattening.specs.WholeText.{is_one_layer}
-use Rattle.law_single_assignment.specs.Definitions.{design_of_raw}
-use Rattle.law_single_assignment.specs.Laws.{AllowsAsTheText, IsFreeWithout, is_of_family}
-use Rattle.smv_abstraction.specs.Sets.{Has, first, later}
-use Rattle.smv_abstraction.specs.Circular.{always}
-use Rattle.smv_abstraction.specs.Soundness as flat
-use Rattle.smv_abstraction.specs.Soundness.{map_of, over_of, params_of, values_of_family, values_over, is_held, meets_base}
+use Rattle.law_designs.specs.Numbers.{family_number}
+use Rattle.law_designs.specs.Flattening.{flatten, layer_number, scope_in}
+use Rattle.law_designs.specs.Agreement.{AreSameStates, IsSameFamily, flat_element, numbers_in}
+use Rattle.law_designs.specs.RawAllowed.{AreSameBefore, raw_allowed}
+use Rattle.law_designs.specs.WholeText.{is_one_layer}
+use Rattle.law_designs.specs.Definitions.{design_of_raw}
+use Rattle.law_designs.specs.Laws.{AllowsAsTheText, IsFreeWithout, is_of_family}
+use Rattle.law_obligations.specs.Sets.{Has, first, later}
+use Rattle.law_obligations.specs.Circular.{always}
+use Rattle.law_obligations.specs.Soundness as flat
+use Rattle.law_obligations.specs.Soundness.{map_of, over_of, params_of, values_of_family, values_over, is_held, meets_base}
 use Rattle.law_obligations.specs.Outlines as outline
 use Rattle.law_obligations.specs.Outlines.{names_of, bases, as_map, is_in_layer}
 use Rattle.law_obligations.specs.Units.{is_base_in, is_refinement}
 use Rattle.law_obligations.specs.Checked.{HoldsAlways}
-use Rattle.law_extension.specs.TextExtension.{FamiliesAreFound}
-use Rattle.law_extension.proofs.Lists.{left_of, right_of, Has-flat_map, Has-numbers, some_or_none, all-each, get-Has, Has-is_in, nat_eq-is}
-use Rattle.law_extension.proofs.Faultless.{IsFaultless, IsBase, base_by}
-use Rattle.law_extension.proofs.Texts.{Has-Contains, All-each, Has-get, get_below, in_raw, indexes_same, demand_same}
+use Rattle.law_sound_texts.specs.TextExtension.{FamiliesAreFound}
+use Rattle.law_sound_texts.proofs.Lists.{left_of, right_of, Has-flat_map, Has-numbers, some_or_none, all-each, get-Has, Has-is_in, nat_eq-is}
+use Rattle.law_sound_texts.proofs.Faultless.{IsFaultless, IsBase, base_by}
+use Rattle.law_sound_texts.proofs.Texts.{Has-Contains, All-each, Has-get, get_below, in_raw, indexes_same, demand_same}
 use Rattle.law_sound_texts.specs.Carried.{UnitsHold}
 use Rattle.law_sound_texts.proofs.Units.{map-unit}
 use Rattle.law_sound_texts.proofs.Times.{always-gives, always-true, at-each-time}

@@ -14,22 +14,22 @@ use Rattle.smv_core.specs.declared.tree.Text.{Text}
 use Rattle.smv_core.specs.declared.flat.Design.{Design as FlatDesign}
 use Rattle.smv_core.specs.declared.flat.Unit.{Unit as DesignUnit}
 use Rattle.smv_core.specs.declared.flat.Unit.TheVariants.{Map, Claim}
-use Rattle.law_flattening.specs.Flattening.{flatten}
-use Rattle.law_flattening.specs.Agreement.{AreSameStates, IsSameFamily, numbers_in}
-use Rattle.law_flattening.specs.SameActs.{IsSameAct, layered_acts}
-use Rattle.law_single_assignment.specs.Definitions.{design_of_raw}
-use Rattle.law_single_assignment.specs.Laws.{AllowsAsTheText}
-use Rattle.smv_abstraction.specs.Sets.{Has}
-use Rattle.smv_abstraction.specs.Circular.{always}
-use Rattle.smv_abstraction.specs.Soundness as flat
-use Rattle.smv_abstraction.specs.Soundness.{FlatUnit, params_of, values_over, is_held}
+use Rattle.law_designs.specs.Flattening.{flatten}
+use Rattle.law_designs.specs.Agreement.{AreSameStates, IsSameFamily, numbers_in}
+use Rattle.law_designs.specs.SameActs.{IsSameAct, layered_acts}
+use Rattle.law_designs.specs.Definitions.{design_of_raw}
+use Rattle.law_designs.specs.Laws.{AllowsAsTheText}
+use Rattle.law_obligations.specs.Sets.{Has}
+use Rattle.law_obligations.specs.Circular.{always}
+use Rattle.law_obligations.specs.Soundness as flat
+use Rattle.law_obligations.specs.Soundness.{FlatUnit, params_of, values_over, is_held}
 use Rattle.law_obligations.specs.Outlines.{names_of, bases, unit_in, as_map, as_claim}
 use Rattle.law_obligations.specs.Units.{units_of}
-use Rattle.law_extension.specs.TextExtension.{FamiliesAreFound, LayersAreSame}
-use Rattle.law_extension.proofs.Faultless.{IsFaultless}
-use Rattle.law_extension.proofs.Lists.{get-Has}
-use Rattle.law_extension.proofs.Texts.{All-each, Has-get, to_flat, flat_same}
-use Rattle.law_left_sides.specs.Exact.{LeftSidesAreExact}
+use Rattle.law_sound_texts.specs.TextExtension.{FamiliesAreFound, LayersAreSame}
+use Rattle.law_sound_texts.proofs.Faultless.{IsFaultless}
+use Rattle.law_sound_texts.proofs.Lists.{get-Has}
+use Rattle.law_sound_texts.proofs.Texts.{All-each, Has-get, to_flat, flat_same}
+use Rattle.law_sound_texts.specs.Exact.{LeftSidesAreExact}
 use Rattle.law_sound_texts.specs.Carried.{RunsAreCarriedBack}
 use Rattle.law_sound_texts.proofs.Units.{IsOfDesign, unit-of}
 use Rattle.law_sound_texts.proofs.TextUnits.{claim-there}

@@ -7,20 +7,20 @@ use Rattle.smv_core.specs.Outcome.{State}
 use Rattle.smv_core.specs.Sound.{ProofUnit, map_of, claim_of, units, instances, Holds, AtEachTime, IsTyped, IsRun}
 use Rattle.smv_core.specs.Flat.{FlatState}
 use Rattle.smv_core.specs.declared.tree.Text.{Text}
-use Rattle.law_flattening.specs.Flattening.{flatten}
-use Rattle.law_flattening.specs.Agreement.{AreSameStates, IsSameFamily, numbers_in}
-use Rattle.law_single_assignment.specs.Definitions.{design_of_raw}
-use Rattle.law_single_assignment.specs.Laws.{AllowsAsTheText, IsFreeWithout}
-use Rattle.smv_abstraction.specs.Sets.{Has}
-use Rattle.smv_abstraction.specs.Soundness as flat
+use Rattle.law_designs.specs.Flattening.{flatten}
+use Rattle.law_designs.specs.Agreement.{AreSameStates, IsSameFamily, numbers_in}
+use Rattle.law_designs.specs.Definitions.{design_of_raw}
+use Rattle.law_designs.specs.Laws.{AllowsAsTheText, IsFreeWithout}
+use Rattle.law_obligations.specs.Sets.{Has}
+use Rattle.law_obligations.specs.Soundness as flat
 use Rattle.law_obligations.specs.Outlines.{Entry, Outline, Script, outline_of, names_of, bases, unit_in}
 use Rattle.law_obligations.specs.Checked as script
 use Rattle.law_obligations.specs.Checked.{HoldsAlways}
 use Rattle.smv_core.specs.declared.flat.Design.{Design}
-use Rattle.law_extension.specs.TextExtension.{FamiliesAreFound}
-use Rattle.law_extension.proofs.Faultless.{IsFaultless}
-use Rattle.law_extension.proofs.Lists.{Has-from_map}
-use Rattle.law_extension.proofs.Texts.{Each-All, All-each, Has-get, to_flat, flat_same}
+use Rattle.law_sound_texts.specs.TextExtension.{FamiliesAreFound}
+use Rattle.law_sound_texts.proofs.Faultless.{IsFaultless}
+use Rattle.law_sound_texts.proofs.Lists.{Has-from_map}
+use Rattle.law_sound_texts.proofs.Texts.{Each-All, All-each, Has-get, to_flat, flat_same}
 use Rattle.law_sound_texts.specs.Carried.{UnitsHold, outlined}
 use Rattle.law_sound_texts.proofs.TextUnits.{IsOfText, unit-is}
 use Rattle.law_sound_texts.proofs.Claims.{ClaimsAreSame, claim_holds}

@@ -7,13 +7,13 @@ use Rattle.smv_core.specs.declared.tree.Text.{Text}
 use Rattle.smv_core.specs.declared.tree.Top.{Top}
 use Rattle.smv_core.specs.declared.tree.Top.TheVariants.{SetType, Alias, Module}
 use Rattle.smv_core.specs.declared.flat.SetInfo.{SetInfo}
-use Rattle.law_flattening.specs.Flattening.{set_of, flatten}
-use Rattle.law_single_assignment.specs.Definitions.{design_of_raw}
-use Rattle.smv_abstraction.specs.Sets.{Has, first}
-use Rattle.smv_abstraction.specs.Soundness as flat
+use Rattle.law_designs.specs.Flattening.{set_of, flatten}
+use Rattle.law_designs.specs.Definitions.{design_of_raw}
+use Rattle.law_obligations.specs.Sets.{Has, first}
+use Rattle.law_obligations.specs.Soundness as flat
 use Rattle.law_obligations.specs.Outlines.{names_of}
-use Rattle.law_extension.proofs.Lists.{Has-flat_map}
-use Rattle.law_extension.proofs.Texts.{Each-All}
+use Rattle.law_sound_texts.proofs.Lists.{Has-flat_map}
+use Rattle.law_sound_texts.proofs.Texts.{Each-All}
 
 module _ (sizes : Sizes) where
   abbrev IsSized : SetInfo → Type 0

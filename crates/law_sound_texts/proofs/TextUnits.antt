@@ -9,12 +9,12 @@ use Rattle.smv_core.specs.Outcome.{family_at, same_path}
 use Rattle.smv_core.specs.Assignments.{Assigned}
 use Rattle.smv_core.specs.Allowed.{assignments_in, is_defined_by, said_in}
 use Rattle.smv_core.specs.Sound.{ProofUnit, map_of, claim_of, same_unit, once, map_unless_base, maps_of, units_met, units}
-use Rattle.law_flattening.specs.WholeText.{claims_met}
-use Rattle.law_flattening.proofs.SameWalks.{path-equal}
-use Rattle.smv_abstraction.specs.Sets.{Has, first, later}
-use Rattle.smv_abstraction.proofs.Members.{Has-uncons}
+use Rattle.law_designs.specs.WholeText.{claims_met}
+use Rattle.law_designs.proofs.SameWalks.{path-equal}
+use Rattle.law_obligations.specs.Sets.{Has, first, later}
+use Rattle.law_obligations.proofs.Members.{Has-uncons}
 use Rattle.law_obligations.proofs.Lookups.{find-some, Has-option}
-use Rattle.law_extension.proofs.Lists.{inner, left_of, right_of, any-some, Has-filter, Has-flat_map, Has-from_flat_map, Has-from_filter}
+use Rattle.law_sound_texts.proofs.Lists.{inner, left_of, right_of, any-some, Has-filter, Has-flat_map, Has-from_flat_map, Has-from_filter}
 
 from-once : (us : List ProofUnit) (u : ProofUnit) → Has (once us) u → Has us u
 from-once [] u h = elim h [ ]

@@ -9,16 +9,16 @@ use Rattle.smv_core.specs.declared.flat.Design.{Design}
 use Rattle.smv_core.specs.declared.flat.Family.{Family}
 use Rattle.smv_core.specs.declared.flat.SetInfo.{SetInfo}
 use Rattle.smv_core.specs.declared.flat.Unit.TheVariants.{Map}
-use Rattle.law_flattening.specs.Flattening.{flatten}
-use Rattle.law_single_assignment.specs.Definitions.{design_of_raw}
-use Rattle.smv_abstraction.specs.Sets.{Has, first, later}
-use Rattle.smv_abstraction.specs.Circular.{always}
-use Rattle.smv_abstraction.specs.Soundness.{at_sizes, is_held}
-use Rattle.smv_abstraction.specs.Soundness as flat
+use Rattle.law_designs.specs.Flattening.{flatten}
+use Rattle.law_designs.specs.Definitions.{design_of_raw}
+use Rattle.law_obligations.specs.Sets.{Has, first, later}
+use Rattle.law_obligations.specs.Circular.{always}
+use Rattle.law_obligations.specs.Soundness.{at_sizes, is_held}
+use Rattle.law_obligations.specs.Soundness as flat
 use Rattle.law_obligations.specs.Outlines.{names_of, bases, unit_in}
-use Rattle.law_behaviours.specs.WorkedText.{two_layers, the_signal, all_of}
-use Rattle.law_behaviours.proofs.WorkedText.{runs_are_of_the_first}
-use Rattle.law_extension.proofs.Lists.{clash, inner}
+use Rattle.law_sound_texts.specs.WorkedText.{two_layers, the_signal, all_of}
+use Rattle.law_sound_texts.proofs.WorkedText.{runs_are_of_the_first}
+use Rattle.law_sound_texts.proofs.Lists.{clash, inner}
 use Rattle.law_sound_texts.specs.Carried.{UnitsHold}
 use Rattle.law_sound_texts.specs.WorkedTexts.{HasOneMap, HoldsInNeither}
 

@@ -11,15 +11,15 @@ use Rattle.smv_core.specs.declared.flat.Design.{Design}
 use Rattle.smv_core.specs.declared.flat.Unit.{Unit}
 use Rattle.smv_core.specs.declared.flat.Leaf.{Leaf}
 use Rattle.smv_core.specs.declared.flat.Choice.{Choice}
-use Rattle.law_flattening.specs.Agreement.{AreSameStates}
-use Rattle.law_flattening.specs.Flattening.{flatten}
-use Rattle.law_single_assignment.specs.Definitions.{design_of_raw}
-use Rattle.smv_abstraction.specs.Sets.{Has}
-use Rattle.smv_abstraction.specs.Soundness.{at_sizes, IsRun}
+use Rattle.law_designs.specs.Agreement.{AreSameStates}
+use Rattle.law_designs.specs.Flattening.{flatten}
+use Rattle.law_designs.specs.Definitions.{design_of_raw}
+use Rattle.law_obligations.specs.Sets.{Has}
+use Rattle.law_obligations.specs.Soundness.{at_sizes, IsRun}
 use Rattle.law_obligations.specs.Outlines.{Outline, names_of, bases, unit_in}
 use Rattle.law_obligations.specs.Units.{units_of, script_of}
 use Rattle.law_obligations.specs.Checked.{IsProved, HoldsAlways}
-use Rattle.law_checked_scripts.specs.Whole.{HasSplits}
+use Rattle.law_sound_texts.specs.Whole.{HasSplits}
 
 -- at any sizes the states of each run of a text, with its families by their numbers, are a run of its design
 abbrev pub RunsAreCarried : Text → Type 0

@@ -1,2 +1,11 @@
 pub mod Carried
 pub mod WorkedTexts
+pub mod Extension
+pub mod TextExtension
+pub mod Placed
+pub mod Exact
+pub mod Whole
+pub mod TextRuns
+pub mod WorkedText
+pub mod NumbersFit
+pub mod RangesFit

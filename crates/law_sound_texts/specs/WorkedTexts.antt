@@ -8,10 +8,10 @@ use Rattle.smv_core.specs.declared.tree.Text.{Text}
 use Rattle.smv_core.specs.declared.tree.Top.TheVariants.{Module}
 use Rattle.smv_core.specs.declared.tree.TypeExpr.TheVariants.{Boolean}
 use Rattle.smv_core.specs.declared.flat.Unit.TheVariants.{Map}
-use Rattle.law_flattening.specs.Flattening.{flatten}
-use Rattle.law_single_assignment.specs.Definitions.{design_of_raw}
+use Rattle.law_designs.specs.Flattening.{flatten}
+use Rattle.law_designs.specs.Definitions.{design_of_raw}
 use Rattle.law_obligations.specs.Units.{units_of}
-use Rattle.law_behaviours.specs.WorkedText.{two_layers, the_signal, word, layer_that_sets}
+use Rattle.law_sound_texts.specs.WorkedText.{two_layers, the_signal, word, layer_that_sets}
 use Rattle.law_sound_texts.specs.Carried.{UnitsHold}
 
 -- the map of the layer A is the one unit of the text, and the second definition that of the design

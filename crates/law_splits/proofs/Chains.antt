@@ -8,12 +8,12 @@ use Rattle.smv_core.specs.declared.flat.Param.{Param}
 use Rattle.smv_core.specs.declared.flat.FlatSplit.{FlatSplit}
 use Rattle.smv_core.specs.declared.flat.Guard.{Guard}
 use Rattle.smv_core.specs.declared.flat.Simple.{Simple}
-use Rattle.smv_abstraction.specs.Sets.{Has, first, later}
-use Rattle.smv_abstraction.specs.Guards.{AreGuards}
-use Rattle.smv_abstraction.proofs.Members.{Has-cases}
-use Rattle.smv_abstraction.proofs.OneOfEach.{joined_long}
+use Rattle.law_obligations.specs.Sets.{Has, first, later}
+use Rattle.law_obligations.specs.Guards.{AreGuards}
+use Rattle.law_obligations.proofs.Members.{Has-cases}
+use Rattle.law_obligations.proofs.OneOfEach.{joined_long}
 use Rattle.law_splits.specs.Leaves.{named_by, Cut, cut, new, all_params, guards_of, params_after, onward_if, chain}
-use Rattle.law_splits.specs.Laws.{IsIndex}
+use Rattle.law_splits.specs.SplitLaws.{IsIndex}
 use Rattle.law_splits.proofs.Params.{from_new}
 use Rattle.law_splits.proofs.OneCut.{IsGood, AreBetween, are_between}
 

@@ -8,16 +8,16 @@ use Rattle.smv_core.specs.declared.flat.Param.{Param}
 use Rattle.smv_core.specs.declared.flat.FlatSplit.{FlatSplit}
 use Rattle.smv_core.specs.declared.flat.Unit.{Unit}
 use Rattle.smv_core.specs.declared.flat.Leaf.{Leaf}
-use Rattle.smv_abstraction.specs.Sets.{Has, first, later}
-use Rattle.smv_abstraction.specs.Placings.{AreDistinct, AreBelow}
-use Rattle.smv_abstraction.proofs.Members.{Has-uncons}
-use Rattle.smv_abstraction.proofs.OneOfEach.{joined_long, get_past, get_Has, Has_get}
-use Rattle.smv_abstraction.proofs.CoverLists.{not_found, at_most_size}
+use Rattle.law_obligations.specs.Sets.{Has, first, later}
+use Rattle.law_obligations.specs.Placings.{AreDistinct, AreBelow}
+use Rattle.law_obligations.proofs.Members.{Has-uncons}
+use Rattle.law_obligations.proofs.OneOfEach.{joined_long, get_past, get_Has, Has_get}
+use Rattle.law_obligations.proofs.CoverLists.{not_found, at_most_size}
 use Rattle.law_obligations.specs.Outlines.{unit_in}
 use Rattle.law_obligations.specs.Units.{units_of}
 use Rattle.law_obligations.proofs.Lookups.{inner, find-some}
 use Rattle.law_splits.specs.Leaves.{named_by, name_of, own_params, Cut, cut, all_params, name_after, onward_if, chain, leaves_from}
-use Rattle.law_splits.specs.Laws.{HasNamesApart, LeavesAreEnds}
+use Rattle.law_splits.specs.SplitLaws.{HasNamesApart, LeavesAreEnds}
 use Rattle.law_splits.proofs.Params.{same_name, name_same}
 
 find-none : {X : Type 0} (p : X → Bool) (xs : List X) {x : X} → find p xs ≡ None → Has xs x → p x ≡ false

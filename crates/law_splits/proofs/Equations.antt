@@ -6,7 +6,7 @@ use Rattle.smv_core.specs.declared.flat.FlatSplit.{FlatSplit}
 use Rattle.law_splits.specs.Variables.{Reading}
 use Rattle.law_splits.specs.Leaves.{stands_for, number_in}
 use Rattle.law_splits.specs.SplitFaults.{is_stray}
-use Rattle.law_splits.specs.Laws.{EquationsKeepOutcomes}
+use Rattle.law_splits.specs.SplitLaws.{EquationsKeepOutcomes}
 use Rattle.law_splits.proofs.RenamedOutcomes.{same}
 use Rattle.law_splits.proofs.Lists.{is_less, is_not_less}
 

@@ -12,17 +12,17 @@ use Rattle.smv_core.specs.declared.flat.FlatSplit.{FlatSplit}
 use Rattle.smv_core.specs.declared.flat.FlatPair.{FlatPair}
 use Rattle.smv_core.specs.declared.flat.Unit.{Unit}
 use Rattle.smv_instances.specs.NameFaults.{place_if}
-use Rattle.smv_abstraction.specs.Sets.{Has, first, later}
-use Rattle.smv_abstraction.proofs.Members.{Has-uncons, Has-left, Has-right, Has-map, Has-flat_map}
-use Rattle.smv_abstraction.proofs.Tests.{and_both}
-use Rattle.smv_abstraction.proofs.Same.{nat_eq-is}
+use Rattle.law_obligations.specs.Sets.{Has, first, later}
+use Rattle.law_obligations.proofs.Members.{Has-uncons, Has-left, Has-right, Has-map, Has-flat_map}
+use Rattle.law_obligations.proofs.Tests.{and_both}
+use Rattle.law_obligations.proofs.Same.{nat_eq-is}
 use Rattle.law_obligations.specs.Outlines.{unit_in}
 use Rattle.law_obligations.specs.Units.{units_of}
 use Rattle.law_obligations.proofs.Lookups.{Has-filter, find-some}
 use Rattle.law_splits.specs.Variables.{Reading, readings}
 use Rattle.law_splits.specs.Leaves.{named_by, with_name, name_of, own_params, Cut, cut, all_params, stands_for, onward, onward_if, chain}
 use Rattle.law_splits.specs.SplitFaults.{astray, split_again, names_one, unbound, doubled, bracketed, equations_of, not_in_one, not_new, other_kind, is_stray, strays, miscounted, other_type, misfits, mismatches, cuts, cuts_of, faults_of_splits}
-use Rattle.law_splits.specs.Laws.{IsRead}
+use Rattle.law_splits.specs.SplitLaws.{IsRead}
 use Rattle.law_splits.proofs.Lists.{is_less, one_only, at_most_each, option_long}
 use Rattle.law_splits.proofs.OneCut.{IsGood}
 

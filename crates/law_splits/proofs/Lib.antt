@@ -10,3 +10,5 @@ pub mod WorkedRead
 pub mod RenamedOutcomes
 pub mod Equations
 pub mod Ends
+pub mod Stable
+pub mod Types

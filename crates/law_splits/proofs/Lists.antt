@@ -2,9 +2,9 @@
 use Rattle.std.proofs.Common.{◌≡◌, ℕ, zero, suc, ◌+◌, ◌<◌, ◌≤◌, List, [], ◌∷◌, ◌++◌, map, length, Bool, true, false, sym, ap, ◌∙◌, Option, Some, None, arith, nat_lt}
 use Rattle.std.specs.List.{slice_get, flat_map}
 use Rattle.std.specs.Option.{option_to_list}
-use Rattle.smv_abstraction.specs.Sets.{Has}
-use Rattle.smv_abstraction.proofs.WorkedPlans.{one_of_one}
-use Rattle.smv_abstraction.proofs.OneOfEach.{joined_long, get_past}
+use Rattle.law_obligations.specs.Sets.{Has}
+use Rattle.law_obligations.proofs.WorkedPlans.{one_of_one}
+use Rattle.law_obligations.proofs.OneOfEach.{joined_long, get_past}
 use Rattle.law_obligations.specs.Outlines.{place_of}
 use Rattle.law_obligations.proofs.Lookups.{inner, place_of-is}
 

@@ -8,15 +8,15 @@ use Rattle.smv_core.specs.declared.flat.FlatPair.{FlatPair}
 use Rattle.smv_core.specs.declared.flat.Guard.{Guard}
 use Rattle.smv_core.specs.declared.flat.Simple.{Simple}
 use Rattle.smv_core.specs.declared.flat.Design.{Design}
-use Rattle.smv_abstraction.specs.Sets.{Has}
-use Rattle.smv_abstraction.specs.Scopes.{ReadsOnly, before}
-use Rattle.smv_abstraction.proofs.Members.{Has-from_map}
-use Rattle.smv_abstraction.proofs.OneOfEach.{Has-from_flat_map, joined_long, get_past}
+use Rattle.law_obligations.specs.Sets.{Has}
+use Rattle.law_obligations.specs.Scopes.{ReadsOnly, before}
+use Rattle.law_obligations.proofs.Members.{Has-from_map}
+use Rattle.law_obligations.proofs.OneOfEach.{Has-from_flat_map, joined_long, get_past}
 use Rattle.law_obligations.proofs.Lookups.{inner, Has-filter}
 use Rattle.law_splits.specs.Variables.{Reading, readings, renamed, IsNumbered}
 use Rattle.law_splits.specs.Leaves.{with_name, Cut, new, old, all_params, stands_for, number_in, guard_of, guards_of}
 use Rattle.law_splits.specs.SplitFaults.{names_one, equations_of}
-use Rattle.law_splits.specs.Laws.{IsIndex}
+use Rattle.law_splits.specs.SplitLaws.{IsIndex}
 use Rattle.law_splits.proofs.Lists.{is_less, is_not_less, get_longer, get_map, place_below}
 use Rattle.law_splits.proofs.Params.{name_same, named, IsNew, from_new}
 use Rattle.law_splits.proofs.RenamedReads.{reads}

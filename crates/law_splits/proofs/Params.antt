@@ -8,8 +8,8 @@ use Rattle.smv_core.specs.declared.tree.Word.{Word}
 use Rattle.smv_core.specs.declared.flat.Simple.{Simple}
 use Rattle.smv_core.specs.declared.flat.Simple.TheVariants.{Enum}
 use Rattle.smv_core.specs.declared.flat.Param.{Param}
-use Rattle.smv_abstraction.specs.Sets.{Has, first, later}
-use Rattle.smv_abstraction.proofs.Members.{Has-uncons, Has-from_map}
+use Rattle.law_obligations.specs.Sets.{Has, first, later}
+use Rattle.law_obligations.proofs.Members.{Has-uncons, Has-from_map}
 use Rattle.law_obligations.proofs.Lookups.{Has-option, find-some}
 use Rattle.law_splits.specs.Leaves.{numbered, nameless, with_name, bound_as, Cut, new, all_params}
 use Rattle.law_splits.specs.SplitFaults.{names_one}

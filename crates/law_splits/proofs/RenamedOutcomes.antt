@@ -6,11 +6,11 @@ use Rattle.smv_core.specs.Outcome.{branch}
 use Rattle.smv_core.specs.Flat.{Numbered, FlatState, bind, values_in, flat_element_at, flat_outcome, flat_outcomes, flat_sum, flat_listed, flat_members}
 use Rattle.smv_core.specs.declared.flat.FlatMember.{One, Span as SpanOf}
 use Rattle.smv_core.specs.declared.flat.FlatExpr.{FlatExpr, Number, Read', Var, Loop, Constant, Not', And', Or', Implies', Iff', Compare', Within', Sum', Modulo', Choose', All', Any', List', Each', Row_of-FlatExpr, end_of-FlatExpr, more_of-FlatExpr, Row_of-FlatMember, end_of-FlatMember, more_of-FlatMember, Row_of-FlatSigned, end_of-FlatSigned, more_of-FlatSigned}
-use Rattle.smv_abstraction.specs.Sets.{Has, first}
-use Rattle.smv_abstraction.proofs.Members.{Has-left, Has-right}
-use Rattle.smv_abstraction.proofs.OneOfEach.{joined_long, get_after}
-use Rattle.smv_abstraction.proofs.ScopesKeep.{map_alike}
-use Rattle.smv_abstraction.proofs.Tests.{true_or_false}
+use Rattle.law_obligations.specs.Sets.{Has, first}
+use Rattle.law_obligations.proofs.Members.{Has-left, Has-right}
+use Rattle.law_obligations.proofs.OneOfEach.{joined_long, get_after}
+use Rattle.law_obligations.proofs.ScopesKeep.{map_alike}
+use Rattle.law_obligations.proofs.Tests.{true_or_false}
 use Rattle.law_splits.specs.Variables.{Reading, readings, readings_each, readings_signed, readings_members, renamed, renamed_each, renamed_signed, renamed_members, IsNumbered, AreNumbered, AreSignedNumbered, AreMembersNumbered}
 use Rattle.law_splits.proofs.Lists.{get_longer}
 use Rattle.law_splits.proofs.RenamedReads.{less_or_same}

@@ -3,11 +3,11 @@ use Rattle.std.proofs.Common.{◌≡◌, ℕ, suc, ◌+◌, ◌-◌, ◌<◌, �
 use Rattle.std.proofs.lemmas.Bool.{cases_lt}
 use Rattle.smv_core.specs.declared.flat.FlatMember.{One, Span as SpanOf}
 use Rattle.smv_core.specs.declared.flat.FlatExpr.{FlatExpr, Number, Read', Var, Loop, Constant, Not', And', Or', Implies', Iff', Compare', Within', Sum', Modulo', Choose', All', Any', List', Each', Held-FlatExpr-Each-2, None', Some', Row_of-FlatExpr, end_of-FlatExpr, more_of-FlatExpr, Row_of-FlatMember, end_of-FlatMember, more_of-FlatMember, Row_of-FlatSigned, end_of-FlatSigned, more_of-FlatSigned}
-use Rattle.smv_abstraction.specs.Sets.{Has, first}
-use Rattle.smv_abstraction.specs.Scopes.{under, ReadsOnly, ReadOnly, ReadSigned, ReadMembers, ReadHeld}
-use Rattle.smv_abstraction.proofs.Members.{Has-left, Has-right}
-use Rattle.smv_abstraction.proofs.Tests.{or_left, or_right, and_both, true_or_false}
-use Rattle.smv_abstraction.proofs.Same.{nat_eq-itself, nat_eq-is}
+use Rattle.law_obligations.specs.Sets.{Has, first}
+use Rattle.law_obligations.specs.Scopes.{under, ReadsOnly, ReadOnly, ReadSigned, ReadMembers, ReadHeld}
+use Rattle.law_obligations.proofs.Members.{Has-left, Has-right}
+use Rattle.law_obligations.proofs.Tests.{or_left, or_right, and_both, true_or_false}
+use Rattle.law_obligations.proofs.Same.{nat_eq-itself, nat_eq-is}
 use Rattle.law_splits.specs.Variables.{Reading, readings, readings_each, readings_signed, readings_members, readings_held, renamed, renamed_each, renamed_signed, renamed_members, renamed_held, IsNumbered, AreNumbered, AreSignedNumbered, AreMembersNumbered, IsHeldNumbered}
 use Rattle.law_splits.proofs.Lists.{is_less}
 

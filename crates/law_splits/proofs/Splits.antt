@@ -11,17 +11,17 @@ use Rattle.smv_core.specs.declared.flat.Unit.{Unit}
 use Rattle.smv_core.specs.declared.flat.Unit.TheVariants.{Map, Claim}
 use Rattle.smv_core.specs.declared.flat.Leaf.{Leaf}
 use Rattle.smv_core.specs.declared.flat.Choice.{Choice}
-use Rattle.smv_abstraction.specs.Sets.{Has, first, later}
-use Rattle.smv_abstraction.specs.Guards.{AreGuards}
-use Rattle.smv_abstraction.specs.Soundness.{FlatUnit, map_of, claim_of, over_of, params_of}
-use Rattle.smv_abstraction.proofs.Members.{Has-uncons, Has-from_map, Has-right}
-use Rattle.smv_abstraction.proofs.OneOfEach.{map_joined, map_long, get_Has}
+use Rattle.law_obligations.specs.Sets.{Has, first, later}
+use Rattle.law_obligations.specs.Guards.{AreGuards}
+use Rattle.law_obligations.specs.Soundness.{FlatUnit, map_of, claim_of, over_of, params_of}
+use Rattle.law_obligations.proofs.Members.{Has-uncons, Has-from_map, Has-right}
+use Rattle.law_obligations.proofs.OneOfEach.{map_joined, map_long, get_Has}
 use Rattle.law_obligations.specs.Outlines.{Entry, entries_of, names_of, as_map, as_claim, unit_in}
 use Rattle.law_obligations.specs.Units.{units_of, script_of}
 use Rattle.law_obligations.specs.Checked.{IsSplit}
 use Rattle.law_splits.specs.Leaves.{nameless, name_of, own_params, Cut, chain_of, params_after, leaf_of, leaves_from, leaves_of}
 use Rattle.law_splits.specs.SplitFaults.{faults_of_splits}
-use Rattle.law_splits.specs.Laws.{IsIndex, IsRead}
+use Rattle.law_splits.specs.SplitLaws.{IsIndex, IsRead}
 use Rattle.law_splits.proofs.Params.{numbered_types, nameless_types, from_numbered}
 use Rattle.law_splits.proofs.OneCut.{IsGood}
 use Rattle.law_splits.proofs.Good.{good_chain}

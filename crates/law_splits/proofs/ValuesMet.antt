@@ -6,16 +6,16 @@ use Rattle.smv_core.specs.declared.flat.Design.{Design}
 use Rattle.smv_core.specs.declared.flat.Simple.{Simple}
 use Rattle.smv_core.specs.declared.flat.Simple.TheVariants.{Range, Enum, Set}
 use Rattle.smv_core.specs.declared.flat.Param.{Param}
-use Rattle.smv_abstraction.specs.Sets.{Has, one_of_each}
-use Rattle.smv_abstraction.specs.Guards.{AreGuards}
-use Rattle.smv_abstraction.specs.Soundness.{at_sizes, AreSizes, params_of, values_over, HasValue}
-use Rattle.smv_abstraction.proofs.Members.{Has-map, Has-from_map}
-use Rattle.smv_abstraction.proofs.Spots.{Has-numbers}
-use Rattle.smv_abstraction.proofs.OneOfEach.{are_of, one_of, are_joined, map_joined, get_Has}
-use Rattle.smv_abstraction.proofs.CoverScalarsets.{named_set}
-use Rattle.smv_abstraction.proofs.GuardsChosen.{guards_met}
+use Rattle.law_obligations.specs.Sets.{Has, one_of_each}
+use Rattle.law_obligations.specs.Guards.{AreGuards}
+use Rattle.law_obligations.specs.Soundness.{at_sizes, AreSizes, params_of, values_over, HasValue}
+use Rattle.law_obligations.proofs.Members.{Has-map, Has-from_map}
+use Rattle.law_obligations.proofs.Spots.{Has-numbers}
+use Rattle.law_obligations.proofs.OneOfEach.{are_of, one_of, are_joined, map_joined, get_Has}
+use Rattle.law_obligations.proofs.CoverScalarsets.{named_set}
+use Rattle.law_obligations.proofs.GuardsChosen.{guards_met}
 use Rattle.law_obligations.specs.Outlines.{names_of, unit_in}
-use Rattle.law_splits.specs.Laws.{IsIndex, GuardsAreMet}
+use Rattle.law_splits.specs.SplitLaws.{IsIndex, GuardsAreMet}
 use Rattle.law_splits.proofs.Splits.{leaf_of_unit}
 
 -- the types of parameters have values

@@ -7,18 +7,18 @@ use Rattle.smv_core.specs.declared.flat.Family.{Family}
 use Rattle.smv_core.specs.declared.flat.Param.{Param}
 use Rattle.smv_core.specs.declared.flat.FlatSplit.{FlatSplit}
 use Rattle.smv_core.specs.declared.flat.FlatPair.{FlatPair}
-use Rattle.smv_abstraction.specs.Sets.{Has, first, later}
-use Rattle.smv_abstraction.proofs.Computing.{computing}
-use Rattle.smv_abstraction.proofs.Members.{all-each}
-use Rattle.smv_abstraction.proofs.OneOfEach.{get_Has}
-use Rattle.smv_abstraction.proofs.Tests.{left_of, right_of, not_true}
+use Rattle.law_obligations.specs.Sets.{Has, first, later}
+use Rattle.law_obligations.proofs.Computing.{computing}
+use Rattle.law_obligations.proofs.Members.{all-each}
+use Rattle.law_obligations.proofs.OneOfEach.{get_Has}
+use Rattle.law_obligations.proofs.Tests.{left_of, right_of, not_true}
 use Rattle.law_obligations.specs.Outlines.{unit_in}
 use Rattle.law_obligations.specs.Units.{units_of}
 use Rattle.law_obligations.proofs.Lookups.{inner}
 use Rattle.law_obligations.specs.WorkedTomasulo.{word, reg, tag}
 use Rattle.law_obligations.proofs.WorkedMachine.{AllOf}
 use Rattle.law_splits.specs.Variables.{IsNumbered}
-use Rattle.law_splits.specs.Laws.{IsIndex, IsRead, HasNamesApart}
+use Rattle.law_splits.specs.SplitLaws.{IsIndex, IsRead, HasNamesApart}
 use Rattle.law_splits.specs.Leaves.{name_of}
 use Rattle.law_splits.specs.WorkedLeaves.{split_machine}
 use Rattle.law_splits.proofs.Params.{name_same}

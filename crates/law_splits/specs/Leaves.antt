@@ -15,7 +15,7 @@ use Rattle.smv_core.specs.declared.flat.FlatPair.{FlatPair}
 use Rattle.smv_core.specs.declared.flat.Unit.{Unit}
 use Rattle.smv_core.specs.declared.flat.Guard.{Guard}
 use Rattle.smv_core.specs.declared.flat.Leaf.{Leaf}
-use Rattle.smv_abstraction.specs.Soundness.{FlatUnit, map_of, claim_of, over_of}
+use Rattle.law_obligations.specs.Soundness.{FlatUnit, map_of, claim_of, over_of}
 use Rattle.law_obligations.specs.Outlines.{place_of, unit_in}
 use Rattle.law_obligations.specs.Units.{units_of}
 use Rattle.law_splits.specs.Variables.{renamed}

@@ -3,5 +3,6 @@ pub mod Leaves
 pub mod SplitFaults
 pub mod WorkedLeaves
 pub mod WorkedFaults
-pub mod Laws
+pub mod SplitLaws
 pub mod WorkedRead
+pub mod Chains

@@ -1,12 +1,12 @@
 -- The worked machine meets what the laws ask of a design.
 use Rattle.std.specs.Prelude.{List}
 use Rattle.smv_core.specs.declared.flat.Choice.{Choice}
-use Rattle.smv_abstraction.specs.Sets.{Has}
+use Rattle.law_obligations.specs.Sets.{Has}
 use Rattle.law_obligations.specs.Outlines.{Entry}
 use Rattle.law_obligations.specs.Units.{script_of}
 use Rattle.law_obligations.specs.Checked.{IsSplit}
 use Rattle.law_splits.specs.Leaves.{leaves_of}
-use Rattle.law_splits.specs.Laws.{IsRead, HasNamesApart}
+use Rattle.law_splits.specs.SplitLaws.{IsRead, HasNamesApart}
 use Rattle.law_splits.specs.WorkedLeaves.{split_machine}
 
 -- the Tomasulo machine is as earlier passes give it, with names apart, and so its leaves have the parameters and guards that its splits give

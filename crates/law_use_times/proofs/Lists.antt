@@ -1,7 +1,7 @@
 -- Members of lists, by `Has` and by `Contains`.
 use Rattle.std.proofs.Common.{◌≡◌, ℕ, zero, suc, ◌<◌, List, [], ◌∷◌, length, get_or, refl, sym, subst, arith}
 use Rattle.std.specs.List.{Contains}
-use Rattle.smv_abstraction.specs.Sets.{Has, first, later}
+use Rattle.law_obligations.specs.Sets.{Has, first, later}
 
 pub Contains-Has : {X : Type 0} (xs : List X) (x : X) → Contains xs x → Has xs x
 Contains-Has xs x c = at xs c.0 c.1 c.2

@@ -9,15 +9,15 @@ use Rattle.smv_core.specs.declared.flat.Def.{Def}
 use Rattle.smv_core.specs.declared.flat.Flat.{Flat}
 use Rattle.smv_core.specs.declared.flat.FlatExpr.{FlatExpr}
 use Rattle.smv_core.specs.declared.flat.Assumed.{Assumed}
-use Rattle.smv_abstraction.specs.Sets.{Has, first, later}
-use Rattle.smv_abstraction.specs.Places.{named}
-use Rattle.smv_abstraction.specs.Soundness.{FlatUnit, map_of, claim_of}
-use Rattle.smv_abstraction.proofs.Tests.{same_tests}
-use Rattle.smv_abstraction.proofs.Members.{Has-cases, Has-uncons, any-found, any-some}
-use Rattle.smv_abstraction.proofs.Same.{nat_eq-itself, nat_eq-is}
-use Rattle.smv_abstraction.proofs.Spots.{Has-numbers}
-use Rattle.smv_abstraction.proofs.OneOfEach.{get_past, Has-from_flat_map}
-use Rattle.smv_abstraction.proofs.CoverLists.{length-numbers}
+use Rattle.law_obligations.specs.Sets.{Has, first, later}
+use Rattle.law_obligations.specs.Places.{named}
+use Rattle.law_obligations.specs.Soundness.{FlatUnit, map_of, claim_of}
+use Rattle.law_obligations.proofs.Tests.{same_tests}
+use Rattle.law_obligations.proofs.Members.{Has-cases, Has-uncons, any-found, any-some}
+use Rattle.law_obligations.proofs.Same.{nat_eq-itself, nat_eq-is}
+use Rattle.law_obligations.proofs.Spots.{Has-numbers}
+use Rattle.law_obligations.proofs.OneOfEach.{get_past, Has-from_flat_map}
+use Rattle.law_obligations.proofs.CoverLists.{length-numbers}
 use Rattle.law_obligations.specs.Reached.{IsLeast}
 use Rattle.law_obligations.specs.Outlines.{Entry, Outline, unit_in, claim_unit, assumed, chosen}
 use Rattle.law_obligations.specs.Times.{is_member, if_there, families_read, families_of_part, families_at_once, is_unit, families_assumed, families_of_unit, first_families, next_families, same_time}

@@ -2,11 +2,11 @@
 use Rattle.std.proofs.Common.{◌≡◌, ℕ, zero, suc, ◌<◌, ◌↔◌, ◌≤◌, List, [], length, get_or, Bool, true, not, ◌&&◌, ◌||◌, ap, sym, subst, ◌∙◌, ◌⊎◌, inl, inr, Some, nat_eq, nat_lt, arith}
 use Rattle.std.specs.List.{Contains}
 use Rattle.std.proofs.lemmas.List.{get_or_past}
-use Rattle.smv_abstraction.specs.Sets.{Has}
-use Rattle.smv_abstraction.specs.Uses.{reaches_through}
-use Rattle.smv_abstraction.proofs.Tests.{or_left, or_right, or_cases, and_both, left_of, right_of, same_tests}
-use Rattle.smv_abstraction.proofs.Members.{any-found, any-some}
-use Rattle.smv_abstraction.proofs.Same.{nat_eq-itself, nat_eq-is}
+use Rattle.law_obligations.specs.Sets.{Has}
+use Rattle.law_obligations.specs.Uses.{reaches_through}
+use Rattle.law_obligations.proofs.Tests.{or_left, or_right, or_cases, and_both, left_of, right_of, same_tests}
+use Rattle.law_obligations.proofs.Members.{any-found, any-some}
+use Rattle.law_obligations.proofs.Same.{nat_eq-itself, nat_eq-is}
 use Rattle.law_obligations.specs.Times.{is_member, has_edge, time_of, unit_time}
 use Rattle.graph_search.specs.Walks.{Walk, here, step}
 use Rattle.graph_search.specs.Reverse.{after, IsGraph}

@@ -1,8 +1,8 @@
 -- What searches find, that the times of uses are made of.
 use Rattle.std.specs.Prelude.{ℕ, ◌+◌, List, length, Bool, if◌then◌else◌, nat_lt}
 use Rattle.smv_core.specs.declared.flat.Design.{Design}
-use Rattle.smv_abstraction.specs.Sets.{Has}
-use Rattle.smv_abstraction.specs.Soundness.{FlatUnit, map_of, claim_of}
+use Rattle.law_obligations.specs.Sets.{Has}
+use Rattle.law_obligations.specs.Soundness.{FlatUnit, map_of, claim_of}
 use Rattle.graph_search.specs.Walks.{Walk}
 use Rattle.graph_search.specs.Searches.{IsSeen}
 

@@ -2,7 +2,7 @@
 use Rattle.std.specs.Prelude.{◌≡◌, ℕ, ◌<◌, List, length, slice_index, slice_index_or, Option, Some, Bool, true, false, not, ◌||◌, nat_eq, nat_lt}
 use Rattle.smv_core.specs.declared.flat.Def.{Def}
 use Rattle.smv_core.specs.declared.flat.Family.{Family}
-use Rattle.smv_abstraction.specs.Sets.{Has}
+use Rattle.law_obligations.specs.Sets.{Has}
 use Rattle.law_obligations.specs.Outlines.{Entry, Outline, unit_in}
 use Rattle.law_obligations.specs.Times.{is_member, families_at_once, first_families, next_families, same_time, has_edge, time_of, unit_time}
 use Rattle.graph_search.specs.Reverse.{IsGraph}

@@ -7,13 +7,13 @@ use Rattle.smv_core.specs.declared.flat.Unit.{Unit}
 use Rattle.smv_instances.specs.FirstFault.{comes_before, earlier, first_of}
 use Rattle.law_obligations.specs.Outlines.{Entry, Script}
 use Rattle.smv_search.specs.Verdict.Verdict.{Reached}
-use Rattle.law_cases.specs.Scripts.{case_at}
+use Rattle.law_obligations.specs.Scripts.{case_at}
 use Rattle.law_splits.specs.Leaves.{leaves_from}
 use Rattle.smv_problem.specs.declared.problem.AbsState.{AbsState as StateData}
 use Rattle.smv_problem.specs.declared.report.Verdict.{Verdict}
 use Rattle.smv_problem.specs.declared.report.Verdict.TheVariants.{True, False, UnknownNodes, UnknownSteps}
 use Rattle.smv_problem.specs.Written.{written_state}
-use Rattle.law_verdicts.specs.Verdicts.{fails, IsUnitVerdict}
+use Rattle.law_reports.specs.Verdicts.{fails, IsUnitVerdict}
 use Rattle.law_reports.specs.Reports.{IsToldOf, told}
 use Rattle.law_valid_texts.specs.Faults.{first_there}
 

@@ -6,18 +6,18 @@ use Rattle.smv_core.specs.declared.flat.Design.{Design}
 use Rattle.smv_core.specs.declared.flat.Leaf.{Leaf}
 use Rattle.smv_core.specs.declared.flat.Choice.{Choice}
 use Rattle.smv_instances.specs.FirstFault.{first_fault, first_of}
-use Rattle.law_kinds.specs.KindFaults.{first_fault_of_kinds}
-use Rattle.law_flattening.specs.Flattening.{flatten}
-use Rattle.law_single_assignment.specs.SingleFaults.{first_fault_of_single}
-use Rattle.law_loops_and_layers.specs.FirstFault.{first_fault_of_design}
-use Rattle.law_set_types.specs.SetFaults.{first_fault_of_sets}
+use Rattle.law_designs.specs.KindFaults.{first_fault_of_kinds}
+use Rattle.law_designs.specs.Flattening.{flatten}
+use Rattle.law_designs.specs.SingleFaults.{first_fault_of_single}
+use Rattle.law_designs.specs.FirstFault.{first_fault_of_design}
+use Rattle.law_designs.specs.SetFaults.{first_fault_of_sets}
 use Rattle.law_splits.specs.Leaves.{leaves_of}
 use Rattle.law_splits.specs.SplitFaults.{first_fault_of_splits}
-use Rattle.smv_abstraction.specs.LeafCases.{leaf_cases}
+use Rattle.law_obligations.specs.LeafCases.{leaf_cases}
 use Rattle.smv_uses.specs.Choices.{choices_of}
 use Rattle.smv_uses.specs.UseFaults.{first_fault_of_uses}
 use Rattle.law_problems.specs.Parts.{cases_fault, width_fault}
-use Rattle.law_true_reports.specs.Joined.{flat_design}
+use Rattle.law_valid_texts.specs.Joined.{flat_design}
 
 -- the first of what may be there
 abbrev pub first_there : List (Option Fault) → Option Fault

@@ -3,8 +3,8 @@ use Rattle.std.specs.Prelude.{◌≡◌, ℕ, List}
 use Rattle.smv_core.specs.declared.tree.Text.{Text}
 use Rattle.smv_problem.specs.declared.report.Report.{Report}
 use Rattle.law_reports.specs.Reports.{told_of, AllTrueUnits}
-use Rattle.law_true_reports.specs.Joined.{Passes}
-use Rattle.law_text_reports.specs.Plans.{IsTree}
+use Rattle.law_valid_texts.specs.Joined.{Passes}
+use Rattle.law_valid_texts.specs.Plans.{IsTree}
 use Rattle.law_valid_texts.specs.Reports.{IsValid, IsSoundDesign, IsRightReport, IsUnitReport, HasNoUnit}
 
 -- a text spells at most one tree

@@ -1,3 +1,10 @@
 pub mod Faults
 pub mod Reports
 pub mod Laws
+pub mod Joined
+pub mod Plans
+pub mod Faultless
+pub mod Rooms
+pub mod PlanLaws
+pub mod PartLaws
+pub mod ReadPlanLaws

@@ -9,8 +9,8 @@ use Rattle.smv_uses.specs.Choices.{choices_of}
 use Rattle.smv_problem.specs.declared.report.UnitResult.{UnitResult}
 use Rattle.smv_problem.specs.declared.report.Report.{Report}
 use Rattle.law_reports.specs.Reports.{IsReportOf, IsResultOf}
-use Rattle.law_true_reports.specs.Joined.{flat_design, script_with}
-use Rattle.law_text_reports.specs.Plans.{IsTree}
+use Rattle.law_valid_texts.specs.Joined.{flat_design, script_with}
+use Rattle.law_valid_texts.specs.Plans.{IsTree}
 use Rattle.law_valid_texts.specs.Faults.{pass_fault}
 
 -- the text is within the limit, its tokens spell the tree, and no pass finds a fault

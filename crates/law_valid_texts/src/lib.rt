@@ -1,6 +1,13 @@
-//! When a text is valid: the first fault of a text, of all passes, and what is reported of a text that has none. For the calls that read a text or decide it, and for the top call.
-//! A reader begins with `specs/Faults`, which lists the passes in their order, and goes on to `specs/Reports`. The laws say that a valid text is as the laws of reports ask, so that a report by which every
-//! unit is true makes it sound; and that two reports of a text tell the same.
+//! When a text is valid: the first fault of a text, of all passes, and what a right report of a text that has none proves of it.
+//!
+//! For the calls that read a text or decide it, and for the top call. A reader begins with `specs/Faults`, which lists the passes in their order, and goes on to `Reports`, `Joined` and `Plans`.
+//! A report by which every unit of a valid text is true makes it sound, and two reports of a text tell the same (`valid_texts`). `plans_of_texts` and `parts_of_texts` say what the passes leave to
+//! the calls on leaves: `Faultless` and `Rooms` have their premises; `read_plans` joins this with the pass that reads a plan (`smv_front`).
 #![tactic(auto)]
 
-pub mod laws;
+pub mod parts_of_texts;
+pub mod plans_of_texts;
+pub mod read_plans;
+pub mod text_reports;
+pub mod true_reports;
+pub mod valid_texts;

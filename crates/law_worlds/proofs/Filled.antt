@@ -8,14 +8,14 @@ use Rattle.smv_core.specs.declared.tree.Op.TheVariants.{Equal, Differ, Less, AtM
 use Rattle.smv_core.specs.declared.flat.Family.{Family}
 use Rattle.smv_core.specs.declared.flat.FlatMember.{One, Span as SpanOf}
 use Rattle.smv_core.specs.declared.flat.FlatExpr.{FlatExpr, Number, Read', Var, Loop, Constant, Not', And', Or', Implies', Iff', Compare', Within', Sum', Modulo', Choose', All', Any', List', Each', Row_of-FlatExpr, end_of-FlatExpr, more_of-FlatExpr, Row_of-FlatMember, end_of-FlatMember, more_of-FlatMember, Row_of-FlatSigned, end_of-FlatSigned, more_of-FlatSigned}
-use Rattle.smv_abstraction.specs.Sets.{first, one_of_each, parts, pairs, all_there}
-use Rattle.smv_abstraction.specs.Places.{Place, named, rest, World, named_in, rests_in, places_in, AbsOutcome, valued, as_place, unsure, equal_places, below_places, where_defined, may_compare, bind_place}
-use Rattle.smv_abstraction.specs.May.{AbsState, Kept, seen, shown, place_within, quantified, places_at, may_read, may, may_each, may_sum, may_listed, may_members}
-use Rattle.smv_abstraction.proofs.Members.{Has-map, Has-flat_map, Has-pairs, Has-choices, Has-parts, kept_by}
-use Rattle.smv_abstraction.proofs.NeverEmpty.{Filled, AllFilled, has_choice, filled_each}
-use Rattle.smv_abstraction.proofs.OneOfEach.{get_Has}
-use Rattle.law_outcomes.specs.Mix.{is_there}
-use Rattle.law_codes.specs.Readings.{Case}
+use Rattle.law_obligations.specs.Sets.{first, one_of_each, parts, pairs, all_there}
+use Rattle.law_obligations.specs.Places.{Place, named, rest, World, named_in, rests_in, places_in, AbsOutcome, valued, as_place, unsure, equal_places, below_places, where_defined, may_compare, bind_place}
+use Rattle.law_obligations.specs.May.{AbsState, Kept, seen, shown, place_within, quantified, places_at, may_read, may, may_each, may_sum, may_listed, may_members}
+use Rattle.law_obligations.proofs.Members.{Has-map, Has-flat_map, Has-pairs, Has-choices, Has-parts, kept_by}
+use Rattle.law_obligations.proofs.NeverEmpty.{Filled, AllFilled, has_choice, filled_each}
+use Rattle.law_obligations.proofs.OneOfEach.{get_Has}
+use Rattle.law_obligations.specs.Mix.{is_there}
+use Rattle.law_obligations.specs.Readings.{Case}
 use Rattle.smv_problem.specs.WellFormed.{IsWellFormed}
 
 filled_choice : {X Y : Type 0} (f : List X → Y) (xss : List (List X)) → AllFilled xss → Filled (map f (one_of_each xss))

@@ -5,16 +5,16 @@ use Rattle.std.specs.List.{flat_map, slice_get}
 use Rattle.std.proofs.lemmas.Slice.Eq.{bytes_eq-Decides}
 use Rattle.smv_core.specs.Values.{Name}
 use Rattle.smv_core.specs.declared.flat.SetInfo.{SetInfo}
-use Rattle.smv_abstraction.specs.declared.abstract_type.Rest.{Rest}
-use Rattle.smv_abstraction.specs.declared.abstract_type.Rest.TheVariants as beside
-use Rattle.smv_abstraction.specs.Sets.{Has, first, later}
-use Rattle.smv_abstraction.specs.Places.{World}
-use Rattle.smv_abstraction.proofs.Tests.{same_tests}
-use Rattle.smv_abstraction.proofs.Same.{nat_eq-is, nat_eq-itself}
-use Rattle.smv_abstraction.proofs.Members.{Has-left, Has-right}
-use Rattle.smv_abstraction.proofs.OneOfEach.{get_Has}
+use Rattle.smv_core.specs.declared.abstract_type.Rest.{Rest}
+use Rattle.smv_core.specs.declared.abstract_type.Rest.TheVariants as beside
+use Rattle.law_obligations.specs.Sets.{Has, first, later}
+use Rattle.law_obligations.specs.Places.{World}
+use Rattle.law_obligations.proofs.Tests.{same_tests}
+use Rattle.law_obligations.proofs.Same.{nat_eq-is, nat_eq-itself}
+use Rattle.law_obligations.proofs.Members.{Has-left, Has-right}
+use Rattle.law_obligations.proofs.OneOfEach.{get_Has}
 use Rattle.law_obligations.specs.Outlines.{place_of}
-use Rattle.law_codes.specs.Readings.{Case}
+use Rattle.law_obligations.specs.Readings.{Case}
 use Rattle.smv_spots.specs.Spots.{is_ordset, name_of, both_or_none, AreTypes}
 use Rattle.smv_problem.specs.Written.{written, written_type, name_number, set_numbers_of}
 use Rattle.smv_problem.specs.WellFormed.{IsWellFormed}

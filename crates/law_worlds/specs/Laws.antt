@@ -1,10 +1,10 @@
 -- The laws: what the crate's public functions say.
 use Rattle.std.specs.Prelude.{◌≡◌, List, true}
 use Rattle.smv_core.specs.declared.flat.FlatExpr.{FlatExpr}
-use Rattle.smv_abstraction.specs.Places.{Place}
-use Rattle.smv_abstraction.specs.May.{AbsState, may}
-use Rattle.law_outcomes.specs.Mix.{is_there}
-use Rattle.law_codes.specs.Readings.{Case}
+use Rattle.law_obligations.specs.Places.{Place}
+use Rattle.law_obligations.specs.May.{AbsState, may}
+use Rattle.law_obligations.specs.Mix.{is_there}
+use Rattle.law_obligations.specs.Readings.{Case}
 use Rattle.smv_problem.specs.Written.{written}
 use Rattle.smv_problem.specs.WellFormed.{IsWellFormed}
 use Rattle.smv_problem_spots.specs.Worlds.{IsWorldOf}

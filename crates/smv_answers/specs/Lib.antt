@@ -1,0 +1,2 @@
+pub use Rattle.law_answers.specs.Dues
+pub use Rattle.law_answers.specs.Laws

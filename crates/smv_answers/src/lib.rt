@@ -9,14 +9,14 @@ ghost use Rattle.smv_print.specs.Canonical.{canonical};
 ghost use Rattle.smv_report.specs.Lines.{fault_text};
 ghost use Rattle.law_answers.specs.Dues.{is_false, is_unknown, lines_for, proved_by, reads, status_of, usage_line};
 
-use smv_command::Command;
+pub use law_answers::laws;
+use smv_command::{Command, Status};
 use smv_core::Fault;
 use smv_core::tree::Text;
 use smv_print::print;
 use smv_problem::{Report, UnitResult, Verdict};
 use smv_report::fault_line;
 use smv_report_lines::{generated_lines, lines};
-use smv_status::Status;
 use std::alloc::{AllocError, Global};
 
 const USAGE: &[u8] = b"usage: smv prove|only|print|generated\n";

@@ -6,7 +6,7 @@ use Rattle.std.specs.declared.alloc.AllocError.{AllocError}
 use Rattle.std.proofs.lemmas.Grind.{flat_map-append}
 use Rattle.smv_core.specs.Values.{numbers_from}
 use Rattle.smv_core.specs.declared.flat.Class.{Class}
-use Rattle.smv_abstraction.proofs.OneOfEach.{map_joined, joined_long}
+use Rattle.law_obligations.proofs.OneOfEach.{map_joined, joined_long}
 use Rattle.smv_core.specs.declared.flat.Simple.TheVariants.{Range}
 use Rattle.smv_core.specs.declared.flat.Class.TheVariants.{Named, Rest}
 use Rattle.smv_cases.specs.declared.slots.Treatment.{Treatment}

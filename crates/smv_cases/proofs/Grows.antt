@@ -6,19 +6,19 @@ use Rattle.smv_core.specs.declared.flat.Simple.{Simple}
 use Rattle.smv_core.specs.declared.flat.Simple.TheVariants.{Range, Enum, Set}
 use Rattle.smv_core.specs.declared.flat.Class.{Class}
 use Rattle.smv_core.specs.declared.flat.Class.TheVariants.{Number, Named, Rest}
-use Rattle.smv_abstraction.specs.declared.abstract_type.Rest.TheVariants as beside
-use Rattle.smv_abstraction.specs.Sets.{Has, first, later, one_of_each}
-use Rattle.smv_abstraction.specs.Places.{rests_beside}
-use Rattle.smv_abstraction.specs.Placings.{place_in}
-use Rattle.smv_abstraction.specs.Cases.{Treatment, whole, reduced, ordered, Parameter, used, grow, fill, are_below, is_set, those_of, named_among, are_named, abstract_type, is_of, is_orderly, listed_classes, unlisted_classes, type_in, is_allowed, candidates, numbered, cases}
-use Rattle.smv_abstraction.proofs.Tests.{true_or_false, and_both, left_of, right_of, same_tests}
-use Rattle.smv_abstraction.proofs.Members.{Has-right, Has-uncons, any-found, any-some, all-each, all-holds}
-use Rattle.smv_abstraction.proofs.Same.{nat_eq-is, nat_eq-itself}
-use Rattle.smv_abstraction.proofs.Spots.{Has-numbers, numbers-Has}
-use Rattle.smv_abstraction.proofs.OneOfEach.{get_Has}
-use Rattle.smv_abstraction.proofs.CasesCover.{none_of_either}
-use Rattle.smv_abstraction.proofs.CoverLists.{no_fewer}
-use Rattle.smv_abstraction.proofs.CoverNames.{numbered-at, numbered-Has}
+use Rattle.smv_core.specs.declared.abstract_type.Rest.TheVariants as beside
+use Rattle.law_obligations.specs.Sets.{Has, first, later, one_of_each}
+use Rattle.law_obligations.specs.Places.{rests_beside}
+use Rattle.law_obligations.specs.Placings.{place_in}
+use Rattle.law_obligations.specs.Cases.{Treatment, whole, reduced, ordered, Parameter, used, grow, fill, are_below, is_set, those_of, named_among, are_named, abstract_type, is_of, is_orderly, listed_classes, unlisted_classes, type_in, is_allowed, candidates, numbered, cases}
+use Rattle.law_obligations.proofs.Tests.{true_or_false, and_both, left_of, right_of, same_tests}
+use Rattle.law_obligations.proofs.Members.{Has-right, Has-uncons, any-found, any-some, all-each, all-holds}
+use Rattle.law_obligations.proofs.Same.{nat_eq-is, nat_eq-itself}
+use Rattle.law_obligations.proofs.Spots.{Has-numbers, numbers-Has}
+use Rattle.law_obligations.proofs.OneOfEach.{get_Has}
+use Rattle.law_obligations.proofs.CasesCover.{none_of_either}
+use Rattle.law_obligations.proofs.CoverLists.{no_fewer}
+use Rattle.law_obligations.proofs.CoverNames.{numbered-at, numbered-Has}
 use Rattle.smv_cases.specs.Growing.{counts, counted, widest, is_within, may_follow, may_stand_in, may_stand_at, keeps_in, keeps_at, keeps_all, grown}
 use Rattle.smv_cases.proofs.Lists.{flat_map-same, map-same, map-map, filter-same, filter-none, filter-map, kept-flat_map}
 

@@ -6,17 +6,17 @@ use Rattle.smv_core.specs.declared.flat.Simple.TheVariants.{Range, Enum, Set}
 use Rattle.smv_core.specs.declared.flat.SetInfo.{SetInfo}
 use Rattle.smv_core.specs.declared.flat.Keep.{Keep}
 use Rattle.smv_core.specs.declared.flat.Class.{Class}
-use Rattle.smv_abstraction.specs.Sets.{first, later}
-use Rattle.smv_abstraction.specs.Cases as spec
-use Rattle.smv_abstraction.specs.Cases.{candidates, cases}
+use Rattle.law_obligations.specs.Sets.{first, later}
+use Rattle.law_obligations.specs.Cases as spec
+use Rattle.law_obligations.specs.Cases.{candidates, cases}
 use Rattle.std.specs.Prelude.{Result, Ok, Err, IfOk, MatchOption, ◌⊎◌}
 use Rattle.std.specs.declared.alloc.AllocError.{AllocError}
 use Rattle.smv_core.specs.declared.flat.Case.{Case}
 use Rattle.smv_core.specs.declared.flat.Param.{Param}
-use Rattle.smv_abstraction.specs.LeafCases as leaf
-use Rattle.smv_abstraction.specs.LeafCases.{leaf_cases, kept_of, treatment_of, treatments_of}
-use Rattle.smv_abstraction.proofs.Members.{Has-cases, Has-uncons}
-use Rattle.smv_abstraction.proofs.OneOfEach.{map_long, map_joined}
+use Rattle.law_obligations.specs.LeafCases as leaf
+use Rattle.law_obligations.specs.LeafCases.{leaf_cases, kept_of, treatment_of, treatments_of}
+use Rattle.law_obligations.proofs.Members.{Has-cases, Has-uncons}
+use Rattle.law_obligations.proofs.OneOfEach.{map_long, map_joined}
 use Rattle.smv_cases.specs.declared.slots.Treatment.{Treatment}
 use Rattle.smv_cases.specs.declared.slots.Slot.{Slot}
 use Rattle.smv_cases.specs.Growing.{may_stand_in, may_stand_at, keeps_in, keeps_at, grown}

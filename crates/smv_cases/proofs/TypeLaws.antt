@@ -6,11 +6,11 @@ use Rattle.smv_core.specs.declared.flat.SetInfo.{SetInfo}
 use Rattle.smv_core.specs.declared.flat.Param.{Param}
 use Rattle.smv_core.specs.declared.flat.Keep.{Keep}
 use Rattle.smv_core.specs.declared.flat.Class.{Class}
-use Rattle.smv_abstraction.specs.declared.abstract_type.AbsType.{AbsType}
-use Rattle.smv_abstraction.specs.Cases.{Treatment, numbered, type_in}
-use Rattle.smv_abstraction.specs.LeafCases.{kept_of, treatment_of, treatments_of, parameters_of}
-use Rattle.smv_abstraction.proofs.CoverNames.{numbered-at}
-use Rattle.smv_abstraction.proofs.OneOfEach.{map_long}
+use Rattle.smv_core.specs.declared.abstract_type.AbsType.{AbsType}
+use Rattle.law_obligations.specs.Cases.{Treatment, numbered, type_in}
+use Rattle.law_obligations.specs.LeafCases.{kept_of, treatment_of, treatments_of, parameters_of}
+use Rattle.law_obligations.proofs.CoverNames.{numbered-at}
+use Rattle.law_obligations.proofs.OneOfEach.{map_long}
 use Rattle.smv_cases.specs.Types.{types_of}
 use Rattle.smv_cases.proofs.SlotLaws.{treatment_found, drop-one}
 

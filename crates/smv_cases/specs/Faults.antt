@@ -7,8 +7,8 @@ use Rattle.smv_core.specs.declared.flat.Design.{Design}
 use Rattle.smv_core.specs.declared.flat.Unit.TheVariants.{Claim}
 use Rattle.smv_core.specs.declared.flat.Leaf.{Leaf}
 use Rattle.smv_core.specs.declared.flat.Choice.{Choice}
-use Rattle.smv_abstraction.specs.LeafCases.{leaf_cases}
-use Rattle.smv_abstraction.specs.Soundness.{FlatUnit, map_of, claim_of}
+use Rattle.law_obligations.specs.LeafCases.{leaf_cases}
+use Rattle.law_obligations.specs.Soundness.{FlatUnit, map_of, claim_of}
 use Rattle.law_obligations.specs.Outlines.{unit_in}
 use Rattle.law_obligations.specs.Units.{units_of}
 

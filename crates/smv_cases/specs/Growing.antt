@@ -5,9 +5,9 @@ use Rattle.smv_core.specs.declared.flat.Simple.{Simple}
 use Rattle.smv_core.specs.declared.flat.Simple.TheVariants.{Set}
 use Rattle.smv_core.specs.declared.flat.Class.{Class}
 use Rattle.smv_core.specs.declared.flat.Class.TheVariants.{Named}
-use Rattle.smv_abstraction.specs.declared.abstract_type.Rest.TheVariants as beside
-use Rattle.smv_abstraction.specs.declared.abstract_type.AbsType.{AbsType}
-use Rattle.smv_abstraction.specs.Cases.{Treatment, whole, reduced, ordered, Parameter, used, those_of, named_among, is_of, is_allowed, candidates}
+use Rattle.smv_core.specs.declared.abstract_type.Rest.TheVariants as beside
+use Rattle.smv_core.specs.declared.abstract_type.AbsType.{AbsType}
+use Rattle.law_obligations.specs.Cases.{Treatment, whole, reduced, ordered, Parameter, used, those_of, named_among, is_of, is_allowed, candidates}
 
 -- each parameter of a scalarset that is not reduced counts as listed
 abbrev pub counts : Treatment → Bool → Bool

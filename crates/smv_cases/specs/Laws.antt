@@ -1,6 +1,6 @@
 -- The laws: what the crate's public functions say.
 use Rattle.std.specs.Prelude.{◌≡◌, List, []}
-use Rattle.smv_abstraction.specs.Cases.{Treatment, Parameter, cases}
+use Rattle.law_obligations.specs.Cases.{Treatment, Parameter, cases}
 use Rattle.smv_cases.specs.declared.slots.Slot.{Slot}
 use Rattle.smv_cases.specs.Growing.{grown}
 use Rattle.smv_cases.specs.Slots.{AreSlots, parameters_of, grown_of}

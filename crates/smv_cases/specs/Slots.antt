@@ -5,10 +5,10 @@ use Rattle.smv_core.specs.declared.flat.Simple.TheVariants.{Set}
 use Rattle.smv_core.specs.declared.flat.Class.{Class}
 use Rattle.smv_core.specs.declared.flat.Class.TheVariants.{Named, Rest}
 use Rattle.smv_core.specs.declared.flat.Case.{Case}
-use Rattle.smv_abstraction.specs.Sets.{Has}
-use Rattle.smv_abstraction.specs.Cases as spec
+use Rattle.law_obligations.specs.Sets.{Has}
+use Rattle.law_obligations.specs.Cases as spec
 use Rattle.std.specs.List.{flat_map, list_all}
-use Rattle.smv_abstraction.specs.Cases.{Parameter, is_allowed, candidates}
+use Rattle.law_obligations.specs.Cases.{Parameter, is_allowed, candidates}
 use Rattle.smv_cases.specs.Growing.{may_stand}
 use Rattle.smv_cases.specs.declared.slots.Treatment.{Treatment}
 use Rattle.smv_cases.specs.declared.slots.Treatment.TheVariants.{Whole, Reduced, Ordered}

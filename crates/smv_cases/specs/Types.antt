@@ -4,9 +4,9 @@ use Rattle.smv_core.specs.declared.flat.SetInfo.{SetInfo}
 use Rattle.smv_core.specs.declared.flat.Param.{Param}
 use Rattle.smv_core.specs.declared.flat.Keep.{Keep}
 use Rattle.smv_core.specs.declared.flat.Class.{Class}
-use Rattle.smv_abstraction.specs.declared.abstract_type.AbsType.{AbsType}
-use Rattle.smv_abstraction.specs.Cases.{numbered, type_in}
-use Rattle.smv_abstraction.specs.LeafCases.{treatments_of, parameters_of}
+use Rattle.smv_core.specs.declared.abstract_type.AbsType.{AbsType}
+use Rattle.law_obligations.specs.Cases.{numbered, type_in}
+use Rattle.law_obligations.specs.LeafCases.{treatments_of, parameters_of}
 
 -- one for each set type, in their order
 abbrev pub types_of : List SetInfo → List Param → List Keep → List Class → List AbsType

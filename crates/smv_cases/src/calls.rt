@@ -1,7 +1,7 @@
 // The cases of a leaf, and the abstract form of its set types in a case.
 ghost use Rattle.std.specs.Prelude.{◌≡◌, slice_get, unwrap_or, IfOk};
 ghost use Rattle.smv_core.specs.declared.flat.Unit.TheVariants as variant;
-ghost use Rattle.smv_abstraction.specs.LeafCases.{leaf_cases};
+ghost use Rattle.law_obligations.specs.LeafCases.{leaf_cases};
 ghost use Rattle.law_obligations.specs.Outlines.{unit_in};
 ghost use Rattle.law_obligations.specs.Units.{units_of};
 ghost use Rattle.smv_cases.specs.Faults.{place_of_unit, fault_at_unit, cases_fault, Refuses};
@@ -11,7 +11,7 @@ ghost use Rattle.smv_cases.specs.Types.{types_of};
 use crate::gather::gather;
 use crate::rules::type_in;
 use crate::slots::{slots, treated};
-use smv_abstraction::AbsType;
+use smv_core::abstract_type::AbsType;
 use smv_core::flat::{Case, Choice, Design, Leaf, Unit};
 use smv_core::{Fault, Refusal, Seq};
 use std::alloc::{AllocError, Global};

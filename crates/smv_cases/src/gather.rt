@@ -1,6 +1,6 @@
 // The cases of a leaf by its parameters, as far as there are not too many.
 ghost use Rattle.std.specs.Prelude.{◌≡◌, ◌≤◌, ◌<◌, [], length, IfOk, MatchOption, ◌⊎◌};
-ghost use Rattle.smv_abstraction.specs.LeafCases.{leaf_cases};
+ghost use Rattle.law_obligations.specs.LeafCases.{leaf_cases};
 ghost use Rattle.smv_cases.specs.Slots.{classes_of, grown_of};
 
 use crate::grow::grow;

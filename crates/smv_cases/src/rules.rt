@@ -4,13 +4,13 @@ ghost use Rattle.std.specs.List.{list_any, list_all};
 ghost use Rattle.smv_core.specs.Values.{numbers_from};
 ghost use Rattle.smv_core.specs.declared.flat.Class.{Class};
 ghost use Rattle.smv_core.specs.declared.flat.Class.TheVariants as class;
-ghost use Rattle.smv_abstraction.specs.Places.{rests_beside};
-ghost use Rattle.smv_abstraction.specs.Cases.{is_set, used, named_among, are_named, grow, are_below, those_of, is_orderly, is_of, abstract_type, type_in, is_allowed};
+ghost use Rattle.law_obligations.specs.Places.{rests_beside};
+ghost use Rattle.law_obligations.specs.Cases.{is_set, used, named_among, are_named, grow, are_below, those_of, is_orderly, is_of, abstract_type, type_in, is_allowed};
 ghost use Rattle.smv_cases.specs.Growing.{counts, counted, widest, may_follow, may_stand};
 ghost use Rattle.smv_cases.specs.Slots.{treatment_of, parameters_of, AreLimits, stands};
 
 use crate::slots::{Slot, Treatment};
-use smv_abstraction::{AbsType, Rest};
+use smv_core::abstract_type::{AbsType, Rest};
 use smv_core::flat::{Class, Simple};
 
 // Each parameter of a scalarset that is not reduced counts as listed.

@@ -4,8 +4,8 @@ ghost use Rattle.std.specs.List.{list_any, list_all};
 ghost use Rattle.smv_core.specs.declared.flat.Class.{Class};
 ghost use Rattle.smv_cases.specs.declared.slots.Slot.{Slot};
 ghost use Rattle.smv_core.specs.declared.flat.Simple.TheVariants as simple;
-ghost use Rattle.smv_abstraction.specs.LeafCases as leaf;
-ghost use Rattle.smv_abstraction.specs.LeafCases.{kept_of, treatments_of, stays};
+ghost use Rattle.law_obligations.specs.LeafCases as leaf;
+ghost use Rattle.law_obligations.specs.LeafCases.{kept_of, treatments_of, stays};
 ghost use Rattle.smv_cases.specs.Slots.{treatment_of, parameters_of, IsSlot, AreSlots, AreTypes, keeps};
 
 use smv_core::flat::{Keep, Param, SetInfo, Simple};

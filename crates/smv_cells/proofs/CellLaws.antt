@@ -3,10 +3,10 @@ use Rattle.std.proofs.Common.{◌≡◌, ℕ, List, [], ◌∷◌, map, length, 
 use Rattle.std.specs.List.{list_any}
 use Rattle.smv_core.specs.Flat.{Numbered}
 use Rattle.smv_core.specs.declared.flat.Family.{Family}
-use Rattle.smv_abstraction.specs.Sets.{Has, first, later}
-use Rattle.smv_abstraction.specs.Places.{Place, same_place, AbsOutcome, places_in}
-use Rattle.smv_abstraction.specs.May.{places_at}
-use Rattle.smv_abstraction.proofs.Same.{same_place-is, nat_eq-is}
+use Rattle.law_obligations.specs.Sets.{Has, first, later}
+use Rattle.law_obligations.specs.Places.{Place, same_place, AbsOutcome, places_in}
+use Rattle.law_obligations.specs.May.{places_at}
+use Rattle.law_obligations.proofs.Same.{same_place-is, nat_eq-is}
 use Rattle.law_obligations.specs.Cones.{same_places}
 use Rattle.smv_spots.specs.declared.spots.Spot.{Spot}
 use Rattle.smv_spots.specs.Spots.{place_in}
@@ -14,7 +14,7 @@ use Rattle.smv_problem.specs.declared.problem.Problem.{Problem}
 use Rattle.smv_conditions.specs.declared.offers.Offer.{Offer}
 use Rattle.smv_conditions.specs.Offers.{any_offer, AreOffersMade}
 use Rattle.smv_conditions.specs.Adds.{Adds}
-use Rattle.law_outcomes.proofs.Anys.{any-map}
+use Rattle.law_obligations.proofs.Anys.{any-map}
 use Rattle.smv_cells.specs.declared.cells.Cell.{Cell}
 use Rattle.smv_cells.specs.Cells.{is_cell_of, AreCellsMade, cell_any}
 use Rattle.smv_cells.specs.Seen.{View, IsSeen}

@@ -1,6 +1,6 @@
 -- What is read at a state of the conditions is read at a later one.
 use Rattle.std.proofs.Common.{ℕ, List, [], ◌∷◌, Bool, refl, ◌∙◌}
-use Rattle.smv_abstraction.specs.Sets.{Has, first, later}
+use Rattle.law_obligations.specs.Sets.{Has, first, later}
 use Rattle.smv_problem.specs.declared.problem.Problem.{Problem}
 use Rattle.smv_conditions.specs.Keep.{KeepsConditions}
 use Rattle.smv_conditions.specs.Offers.{AreOffersMade}

@@ -2,7 +2,7 @@
 use Rattle.std.specs.Prelude.{ℕ, List, [], ◌∷◌, map, Some, Bool, ◌&&◌, if◌then◌else◌, nat_eq}
 use Rattle.std.specs.List.{list_any}
 use Rattle.smv_core.specs.Flat.{Numbered}
-use Rattle.smv_abstraction.specs.Places.{Place, AbsOutcome}
+use Rattle.law_obligations.specs.Places.{Place, AbsOutcome}
 use Rattle.law_obligations.specs.Cones.{same_places}
 use Rattle.smv_spots.specs.Spots.{place_in}
 use Rattle.smv_conditions.specs.Offers.{any_offer, AreOffersMade}

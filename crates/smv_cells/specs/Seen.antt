@@ -2,12 +2,12 @@
 use Rattle.std.specs.Prelude.{◌≡◌, ℕ, List, map, Some, Bool, true}
 use Rattle.std.specs.List.{list_any}
 use Rattle.smv_core.specs.declared.flat.FlatExpr.{FlatExpr}
-use Rattle.smv_abstraction.specs.Sets.{Has}
-use Rattle.smv_abstraction.specs.Places.{Place, World, AbsOutcome}
-use Rattle.smv_abstraction.specs.May.{AbsState, Kept, may}
+use Rattle.law_obligations.specs.Sets.{Has}
+use Rattle.law_obligations.specs.Places.{Place, World, AbsOutcome}
+use Rattle.law_obligations.specs.May.{AbsState, Kept, may}
 use Rattle.smv_spots.specs.declared.spots.Spot.{Spot}
 use Rattle.smv_spots.specs.Spots.{place_in}
-use Rattle.law_outcomes.specs.Mix.{is_there}
+use Rattle.law_obligations.specs.Mix.{is_there}
 use Rattle.smv_conditions.specs.Offers.{any_offer}
 use Rattle.smv_problem.specs.declared.problem.Problem.{Problem}
 use Rattle.smv_problem_spots.specs.Worlds.{IsWorldOf}

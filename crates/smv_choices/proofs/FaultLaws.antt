@@ -20,14 +20,14 @@ use Rattle.smv_core.specs.declared.flat.Unit.{Unit as FlatUnit}
 use Rattle.smv_core.specs.declared.flat.Leaf.{Leaf}
 use Rattle.smv_core.specs.declared.flat.Pick.{Pick}
 use Rattle.smv_core.specs.declared.flat.Assumed.{Assumed}
-use Rattle.smv_abstraction.specs.Cases.{is_set}
+use Rattle.law_obligations.specs.Cases.{is_set}
 use Rattle.smv_instances.specs.NameFaults.{place_if}
 use Rattle.smv_instances.specs.Scopes.{first_of_places}
 use Rattle.smv_instances.specs.FirstFault.{first_of, faults_at}
 use Rattle.smv_scope.specs.ScopeFault.{least, fault_at, earlier_of}
 use Rattle.smv_scope.proofs.LeastLaws.{first-none, first-assoc, least-append}
 use Rattle.smv_scope.proofs.FirstLaws.{first-both, first-at}
-use Rattle.law_flattening.specs.WholeText.{is_one_layer}
+use Rattle.law_designs.specs.WholeText.{is_one_layer}
 use Rattle.law_obligations.specs.Units.{units_of}
 use Rattle.law_obligations.proofs.Lookups.{find-some}
 use Rattle.law_splits.specs.Leaves.{named_by, with_name, leaves_of}

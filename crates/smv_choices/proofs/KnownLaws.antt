@@ -8,7 +8,7 @@ use Rattle.smv_core.specs.declared.tree.Word.{Word}
 use Rattle.smv_core.specs.declared.tree.Ref.{Ref}
 use Rattle.smv_core.specs.declared.flat.Param.{Param}
 use Rattle.smv_core.specs.declared.flat.Leaf.{Leaf}
-use Rattle.smv_abstraction.specs.Cases.{is_set}
+use Rattle.law_obligations.specs.Cases.{is_set}
 use Rattle.name_index.specs.Position.{position}
 use Rattle.smv_choices.specs.Parts.{is_param_in, fits, fits_name}
 

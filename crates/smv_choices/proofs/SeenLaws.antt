@@ -3,7 +3,7 @@ use Rattle.std.proofs.Common.{◌≡◌, ℕ, Bool, true, false, cond, if◌then
 use Rattle.smv_instances.specs.Scopes.{first_of_places}
 use Rattle.smv_scope.proofs.LeastLaws.{first-none, first-assoc}
 use Rattle.smv_references.proofs.AgainLaws.{first-comm}
-use Rattle.smv_abstraction.proofs.Same.{nat_eq-is}
+use Rattle.law_obligations.proofs.Same.{nat_eq-is}
 
 twice : (a : Option ℕ) → first_of_places a a ≡ a
 twice None = refl

@@ -16,7 +16,7 @@ use Rattle.smv_core.specs.declared.flat.Choice.{Choice}
 use Rattle.smv_core.specs.declared.flat.Keep.{Keep as FlatKeep}
 use Rattle.smv_core.specs.declared.flat.Pick.{Pick}
 use Rattle.smv_core.specs.declared.flat.Assumed.{Assumed}
-use Rattle.smv_abstraction.specs.Cases.{is_set}
+use Rattle.law_obligations.specs.Cases.{is_set}
 use Rattle.smv_instances.specs.NameFaults.{place_if}
 use Rattle.smv_instances.specs.Scopes.{first_of_places}
 use Rattle.smv_scope.specs.ScopeFault.{least}

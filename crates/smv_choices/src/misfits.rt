@@ -2,7 +2,7 @@
 ghost use Rattle.std.specs.Prelude.{◌≡◌, [], map, flat_map, not, false, slice_index_or, IfOk, OnOk};
 ghost use Rattle.smv_instances.specs.NameFaults as faults;
 ghost use Rattle.smv_scope.specs.ScopeFault.{least};
-ghost use Rattle.smv_abstraction.specs.Cases as cases;
+ghost use Rattle.law_obligations.specs.Cases as cases;
 ghost use Rattle.smv_choices.specs.Held.{AreTables};
 ghost use Rattle.smv_choices.specs.Parts as parts;
 ghost use Rattle.smv_choices.specs.Readings as readings;

@@ -8,10 +8,10 @@ use Rattle.smv_core.specs.declared.flat.Design.{Design}
 use Rattle.smv_core.specs.declared.flat.Assumed.{Assumed}
 use Rattle.smv_core.specs.declared.flat.Unit.{Unit}
 use Rattle.smv_core.specs.declared.flat.Unit.TheVariants.{Map, Claim}
-use Rattle.smv_abstraction.specs.Sets.{Has, first, later}
-use Rattle.smv_abstraction.proofs.Members.{Has-uncons, Has-cases, Has-right, Has-map, Has-from_map}
-use Rattle.smv_abstraction.proofs.OneOfEach.{Has-from_flat_map, get_Has}
-use Rattle.smv_abstraction.proofs.Same.{nat_eq-is, nat_eq-itself}
+use Rattle.law_obligations.specs.Sets.{Has, first, later}
+use Rattle.law_obligations.proofs.Members.{Has-uncons, Has-cases, Has-right, Has-map, Has-from_map}
+use Rattle.law_obligations.proofs.OneOfEach.{Has-from_flat_map, get_Has}
+use Rattle.law_obligations.proofs.Same.{nat_eq-is, nat_eq-itself}
 use Rattle.law_obligations.proofs.Lookups.{inner, Has-tested, Found, place_of-is}
 use Rattle.law_obligations.specs.Outlines.{place_of, is_claim, unit_in, as_claim, claim_in, said_by, claim_by, assumed}
 use Rattle.law_obligations.specs.Units.{is_refinement, maps, claims, put, in_order, units_of}

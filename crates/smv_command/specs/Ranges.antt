@@ -1,8 +1,8 @@
 -- The ranges of the numbers of a command.
 use Rattle.std.specs.Prelude.{ℕ, ◌≤◌}
 use Rattle.smv_problem.specs.declared.report.Budgets.{Budgets}
-use Rattle.smv_command.specs.declared.Command.{Command}
-use Rattle.smv_command.specs.declared.Command.TheVariants.{Prove, Only, Print, Generated}
+use Rattle.smv_command.specs.declared.commands.Command.{Command}
+use Rattle.smv_command.specs.declared.commands.Command.TheVariants.{Prove, Only, Print, Generated}
 
 -- the most beads, the most images and the most copies that a command may ask for
 abbrev pub most_nodes : ℕ

@@ -1,20 +1,16 @@
-//! What the words of a command line ask for, as data.
+//! The command that the words of a command line are, read by clap; and how a call of the program ended, with the exit status that says so.
 //!
-//! For whoever reads the words and for the top call, which answers a command: neither needs to know how words are read. `specs/Ranges` has the ranges of its numbers.
+//! For the top call, which answers a command and does not know how words are read. A reader begins with `specs/CommandLine`, which is all that clap is told, and `specs/Commands`;
+//! `specs/Ranges` has the ranges of numbers, `specs/Numbers` the exit statuses. `words_laws` says that words are a command exactly where clap gives matches, and that the numbers of a command are
+//! in range. To add a command: its shape in `CommandLine`, its builder in `command_line.rt`, a row in `named`, and its arm in `words.rt`.
 #![tactic(auto)]
 
-use smv_core::Name;
-use smv_problem::Budgets;
+mod command_line;
+mod commands;
+mod exit;
+mod words;
+pub mod words_laws;
 
-/// What the words ask for.
-#[derive(Drop)]
-pub enum Command {
-    /// Decide all units of a design.
-    Prove { budgets: Budgets },
-    /// Decide the unit of this name alone.
-    Only { name: Name, budgets: Budgets },
-    /// Write the canonical spelling of a text.
-    Print,
-    /// Decide the generated design with so many copies.
-    Generated { copies: u16 },
-}
+pub use commands::Command;
+pub use exit::Status;
+pub use words::command_of;

@@ -1,7 +1,7 @@
 -- Additions to lists of outcomes.
 use Rattle.std.proofs.Common.{Some, None, ◌≡◌, ℕ, List, [], ◌∷◌, ◌++◌, length, arith, Bool, true, false, ◌&&◌, ◌||◌, refl, sym, ap, ◌∙◌, subst}
 use Rattle.smv_core.specs.Flat.{Numbered}
-use Rattle.smv_abstraction.specs.Places.{AbsOutcome, named}
+use Rattle.law_obligations.specs.Places.{AbsOutcome, named}
 use Rattle.smv_conditions.specs.declared.offers.Offer.{Offer}
 use Rattle.smv_conditions.specs.declared.offers.May.{May}
 use Rattle.smv_conditions.specs.declared.offers.May.TheVariants.{Truths, Values}
@@ -9,7 +9,7 @@ use Rattle.smv_spots.specs.declared.spots.Spot.TheVariants as spot
 use Rattle.smv_conditions.specs.declared.chances.Chances.{Chances}
 use Rattle.smv_core.specs.Values.{number}
 use Rattle.smv_conditions.specs.Chances.{mix_at}
-use Rattle.law_outcomes.proofs.MixLaws.{any-shown}
+use Rattle.law_obligations.proofs.MixLaws.{any-shown}
 use Rattle.smv_conditions.specs.Keep.{KeepsConditions}
 use Rattle.smv_spots.specs.Spots.{outcome_in}
 use Rattle.smv_conditions.specs.Offers.{any_offer, any_may, AreOffersMade, IsMayMade}

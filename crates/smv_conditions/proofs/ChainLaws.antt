@@ -6,9 +6,9 @@ use Rattle.smv_conditions.specs.declared.chances.Join.{Join}
 use Rattle.smv_conditions.specs.declared.chances.Join.TheVariants as join
 use Rattle.smv_conditions.specs.Keep.{KeepsConditions}
 use Rattle.smv_conditions.specs.Chances.{mix_at, AreMade}
-use Rattle.law_outcomes.specs.Mix.{Mix}
+use Rattle.law_obligations.specs.Mix.{Mix}
 use Rattle.smv_conditions.specs.Chain.{joined, chain, AllMade}
-use Rattle.law_outcomes.proofs.MixLaws.{same_mix}
+use Rattle.law_obligations.proofs.MixLaws.{same_mix}
 
 or_no : (b : Bool) → (b || false) ≡ b
 or_no true = refl

@@ -3,14 +3,14 @@ use Rattle.std.proofs.Common.{◌≡◌, ◌<◌, ℕ, zero, suc, length, List, 
 use Rattle.std.proofs.lemmas.Option.{slice_get-get_or}
 use Rattle.std.proofs.lemmas.List.{get_or_default}
 use Rattle.smv_core.specs.Flat.{Numbered}
-use Rattle.smv_abstraction.specs.Places.{AbsOutcome}
+use Rattle.law_obligations.specs.Places.{AbsOutcome}
 use Rattle.smv_spots.specs.declared.spots.Spot.{Spot}
 use Rattle.smv_spots.specs.Spots.{outcome_in}
 use Rattle.smv_conditions.specs.declared.offers.Offer.{Offer}
 use Rattle.smv_conditions.specs.Keep.{KeepsConditions}
 use Rattle.smv_conditions.specs.Offers.{any_offer, AreOffersMade}
 use Rattle.smv_conditions.specs.Adds.{Adds}
-use Rattle.law_outcomes.proofs.Anys.{any-append}
+use Rattle.law_obligations.proofs.Anys.{any-append}
 use Rattle.smv_conditions.proofs.AddLaws.{offers_same}
 
 module _ {S C : Type 0} (n : Numbered) (IsMade : S → C → Type 0) (holds : S → C → (ℕ → Bool) → Bool) (room : S → ℕ) (a : ℕ → Bool) (p : AbsOutcome → Bool) where

@@ -1,7 +1,7 @@
 -- What is added to a list of outcomes.
 use Rattle.std.specs.Prelude.{◌≡◌, ℕ, List, [], ◌∷◌, Some, None, Bool, ◌&&◌, ◌||◌}
 use Rattle.smv_core.specs.Flat.{Numbered}
-use Rattle.smv_abstraction.specs.Places.{AbsOutcome}
+use Rattle.law_obligations.specs.Places.{AbsOutcome}
 use Rattle.smv_conditions.specs.declared.offers.Offer.{Offer}
 use Rattle.smv_spots.specs.declared.spots.Spot.TheVariants as spot
 use Rattle.smv_conditions.specs.declared.chances.Chances.{Chances}

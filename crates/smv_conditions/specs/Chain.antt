@@ -4,7 +4,7 @@ use Rattle.smv_conditions.specs.declared.chances.Chances.{Chances}
 use Rattle.smv_conditions.specs.declared.chances.Join.{Join}
 use Rattle.smv_conditions.specs.declared.chances.Join.TheVariants as join
 use Rattle.smv_conditions.specs.Chances.{AreMade}
-use Rattle.law_outcomes.specs.Mix.{Mix, and_mix, or_mix, implies_mix, and_all, or_all, implies_all}
+use Rattle.law_obligations.specs.Mix.{Mix, and_mix, or_mix, implies_mix, and_all, or_all, implies_all}
 
 -- two parts of a chain, and all of them
 abbrev pub joined : Join → Mix → Mix → Mix

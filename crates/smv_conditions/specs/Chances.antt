@@ -1,7 +1,7 @@
 -- What three conditions say of a truth value at an assignment.
 use Rattle.std.specs.Prelude.{ℕ, Bool}
 use Rattle.smv_conditions.specs.declared.chances.Chances.{Chances}
-use Rattle.law_outcomes.specs.Mix.{Mix}
+use Rattle.law_obligations.specs.Mix.{Mix}
 
 pub record AreMade {C : Type 0} (IsMade : C → Type 0) (x : Chances C) : Type 0 where
   pub no : IsMade x.no

@@ -1,7 +1,7 @@
 -- What three conditions say of the possible results of a definition at an assignment.
 use Rattle.std.specs.Prelude.{ℕ, Bool}
 use Rattle.smv_conditions.specs.declared.gists.Gists.{Gists}
-use Rattle.law_outcomes.specs.Gist.{Gist}
+use Rattle.law_obligations.specs.Gist.{Gist}
 
 pub record AreGistsMade {C : Type 0} (IsMade : C → Type 0) (g : Gists C) : Type 0 where
   pub nothing : IsMade g.nothing

@@ -4,15 +4,15 @@ use Rattle.std.specs.List.{list_any}
 use Rattle.smv_core.specs.Values.{Truth}
 use Rattle.smv_core.specs.Flat.{Numbered}
 use Rattle.smv_core.specs.Outcome.{is_true}
-use Rattle.smv_abstraction.specs.Places.{AbsOutcome}
-use Rattle.smv_abstraction.specs.May.{seen}
-use Rattle.smv_abstraction.specs.Right.{is_false, is_neither}
+use Rattle.law_obligations.specs.Places.{AbsOutcome}
+use Rattle.law_obligations.specs.May.{seen}
+use Rattle.law_obligations.specs.Right.{is_false, is_neither}
 use Rattle.smv_spots.specs.Spots.{outcome_in}
 use Rattle.smv_conditions.specs.declared.offers.Offer.{Offer}
 use Rattle.smv_conditions.specs.declared.offers.May.{May}
 use Rattle.smv_conditions.specs.declared.offers.May.TheVariants.{Truths, Values}
 use Rattle.smv_conditions.specs.Chances.{AreMade, mix_at}
-use Rattle.law_outcomes.specs.Mix.{Mix, shown_of}
+use Rattle.law_obligations.specs.Mix.{Mix, shown_of}
 
 -- one more truth value, where a condition holds
 unfoldable pub with_truth : Bool → Truth → Mix → Mix

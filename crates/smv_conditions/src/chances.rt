@@ -1,7 +1,7 @@
 // Which truth values are possible, as three conditions.
 ghost use Rattle.std.specs.Prelude.{◌≡◌, ℕ, Bool, true, false, IfOk, [], ◌∷◌, ◌++◌, map};
 ghost use Rattle.smv_conditions.specs.Keep.{KeepsConditions};
-ghost use Rattle.law_outcomes.specs.Mix.{none_at_all, only_yes, and_mix, or_mix, implies_mix};
+ghost use Rattle.law_obligations.specs.Mix.{none_at_all, only_yes, and_mix, or_mix, implies_mix};
 ghost use Rattle.smv_conditions.specs.Chain.{joined, chain, AllMade};
 ghost use Rattle.smv_conditions.specs.Chances.{AreMade, mix_at};
 

@@ -1,7 +1,7 @@
 // What a definition may give one element, as three conditions.
 ghost use Rattle.std.specs.Prelude.{◌≡◌, ℕ, Bool, true, false, ◌&&◌, ◌||◌, IfOk};
 ghost use Rattle.smv_conditions.specs.Keep.{KeepsConditions};
-ghost use Rattle.law_outcomes.specs.Gist.{nothing_alone, if_gist, first_gist, assigned_gist};
+ghost use Rattle.law_obligations.specs.Gist.{nothing_alone, if_gist, first_gist, assigned_gist};
 ghost use Rattle.smv_conditions.specs.Gists.{AreGistsMade, gist_at};
 ghost use Rattle.smv_conditions.specs.Chances.{AreMade, mix_at};
 

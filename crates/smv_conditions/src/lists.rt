@@ -1,7 +1,7 @@
 // Lists of outcomes that grow, each outcome under a further condition.
 ghost use Rattle.std.specs.Prelude.{◌≡◌, ℕ, Bool, ◌&&◌, OnOk, IfOk, IfSome, slice_get};
 ghost use Rattle.smv_core.specs.Flat.{Numbered};
-ghost use Rattle.smv_abstraction.specs.Places.{AbsOutcome};
+ghost use Rattle.law_obligations.specs.Places.{AbsOutcome};
 ghost use Rattle.smv_spots.specs.Spots.{outcome_in};
 ghost use Rattle.smv_conditions.specs.Keep.{KeepsConditions};
 ghost use Rattle.smv_conditions.specs.Offers.{AreOffersMade, IsMayMade, any_offer, any_may};

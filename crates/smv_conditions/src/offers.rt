@@ -4,7 +4,7 @@ ghost use Rattle.smv_core.specs.Flat.{Numbered};
 ghost use Rattle.smv_conditions.specs.Keep.{KeepsConditions};
 ghost use Rattle.smv_conditions.specs.Chances.{AreMade, mix_at};
 ghost use Rattle.smv_conditions.specs.Offers.{AreOffersMade, IsMayMade, Offers, with_truth, offers_mix, may_mix};
-ghost use Rattle.smv_abstraction.specs.May.{seen};
+ghost use Rattle.law_obligations.specs.May.{seen};
 ghost use Rattle.smv_spots.specs.Spots.{outcome_in};
 
 use crate::chances::{Chances, none};

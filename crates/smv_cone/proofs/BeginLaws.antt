@@ -9,9 +9,9 @@ use Rattle.smv_core.specs.declared.flat.Guard.{Guard}
 use Rattle.smv_core.specs.declared.flat.Assumed.{Assumed}
 use Rattle.smv_core.specs.declared.flat.Unit.{Unit}
 use Rattle.smv_core.specs.declared.flat.Unit.TheVariants.{Map, Claim}
-use Rattle.smv_abstraction.specs.Places.{Place, named, rest, is_named}
-use Rattle.smv_abstraction.specs.Soundness.{over_of}
-use Rattle.smv_abstraction.proofs.OneOfEach.{map_joined}
+use Rattle.law_obligations.specs.Places.{Place, named, rest, is_named}
+use Rattle.law_obligations.specs.Soundness.{over_of}
+use Rattle.law_obligations.proofs.OneOfEach.{map_joined}
 use Rattle.law_obligations.specs.Outlines.{assumed, unit_in, as_map, as_claim}
 use Rattle.law_obligations.specs.Cones.{element, elements_read, elements_of_def, elements_assumed, of_target}
 use Rattle.smv_problem.specs.Written.{written_class, written_element}

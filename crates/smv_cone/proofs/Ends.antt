@@ -6,24 +6,24 @@ use Rattle.smv_core.specs.Values.{Name}
 use Rattle.smv_core.specs.declared.flat.Element.{Element}
 use Rattle.smv_core.specs.declared.flat.SetInfo.{SetInfo}
 use Rattle.smv_core.specs.declared.flat.FlatExpr.{Number}
-use Rattle.smv_abstraction.specs.declared.abstract_type.AbsType.{AbsType}
-use Rattle.smv_abstraction.specs.Places.{World}
-use Rattle.smv_abstraction.specs.Obligations.{holds}
-use Rattle.smv_abstraction.proofs.OneOfEach.{map_long}
+use Rattle.smv_core.specs.declared.abstract_type.AbsType.{AbsType}
+use Rattle.law_obligations.specs.Places.{World}
+use Rattle.law_obligations.specs.Obligations.{holds}
+use Rattle.law_obligations.proofs.OneOfEach.{map_long}
 use Rattle.law_obligations.specs.Cones.{AbsElement, element, same_element}
 use Rattle.law_obligations.proofs.ConeFacts.{same_element-itself, same_element-family, same_element-indexes}
-use Rattle.law_codes.specs.Readings.{bits_of_all}
-use Rattle.law_cones.proofs.Searches.{search-over}
-use Rattle.law_cones.proofs.Orders.{no_more_bits}
+use Rattle.law_obligations.specs.Readings.{bits_of_all}
+use Rattle.law_problems.proofs.Searches.{search-over}
+use Rattle.law_problems.proofs.Orders.{no_more_bits}
 use Rattle.smv_problem.specs.Written.{written, written_type, written_element}
 use Rattle.smv_elements.specs.Elements.{is_full, AreInOrder, HaveSame}
-use Rattle.smv_state_bits.specs.StateBits.{bits_of_elements}
-use Rattle.smv_state_bits.proofs.Counts.{bits-are-those}
+use Rattle.smv_readings.specs.StateBits.{bits_of_elements}
+use Rattle.smv_readings.proofs.Counts.{bits-are-those}
 use Rattle.smv_spots.specs.Spots.{AreTypes}
 use Rattle.smv_reads.specs.Views.{world_of}
-use Rattle.law_found_elements.specs.Laws.{HaveAll}
-use Rattle.law_found_elements.proofs.Bits.{found-bits, cone-bits}
-use Rattle.law_found_elements.proofs.Sorting.{sorted-written}
+use Rattle.law_problems.specs.FoundLaws.{HaveAll}
+use Rattle.law_problems.proofs.Bits.{found-bits, cone-bits}
+use Rattle.law_problems.proofs.Sorting.{sorted-written}
 use Rattle.smv_cone.specs.declared.parts.Part.{Part}
 use Rattle.smv_cone.specs.Parts.{outline_of, entry_of, params_of, firsts, nexts, cone_of, IsPartView}
 use Rattle.smv_cone.specs.Searching.{HasLeast, HasFound, IsConeOf}

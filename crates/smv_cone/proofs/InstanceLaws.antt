@@ -3,9 +3,9 @@ use Rattle.std.proofs.Common.{◌≡◌, ℕ, zero, suc, ◌+◌, ◌<◌, ◌�
 use Rattle.std.specs.List.{flat_map, slice_index_or}
 use Rattle.smv_core.specs.declared.flat.Param.{Param}
 use Rattle.smv_core.specs.declared.flat.FlatExpr.{FlatExpr}
-use Rattle.smv_abstraction.specs.Sets.{one_of_each}
-use Rattle.smv_abstraction.specs.Places.{Place, named_in}
-use Rattle.smv_abstraction.proofs.OneOfEach.{map_joined, joined_again}
+use Rattle.law_obligations.specs.Sets.{one_of_each}
+use Rattle.law_obligations.specs.Places.{Place, named_in}
+use Rattle.law_obligations.proofs.OneOfEach.{map_joined, joined_again}
 use Rattle.law_obligations.specs.Cones.{AbsElement, elements_read}
 use Rattle.smv_problem.specs.Written.{written_element}
 use Rattle.smv_spots.specs.declared.spots.Spot.{Spot}

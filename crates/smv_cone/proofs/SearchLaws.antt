@@ -8,17 +8,17 @@ use Rattle.smv_core.specs.declared.flat.Simple.{Simple}
 use Rattle.smv_core.specs.declared.flat.Family.{Family}
 use Rattle.smv_core.specs.declared.flat.Def.{Def}
 use Rattle.smv_core.specs.declared.flat.Class.{Class}
-use Rattle.smv_abstraction.specs.Sets.{Has, first, later, one_of_each}
-use Rattle.smv_abstraction.specs.Places.{Place, named_in}
-use Rattle.smv_abstraction.specs.Covers.{IsIndexType}
-use Rattle.smv_abstraction.specs.Soundness.{over_of}
-use Rattle.smv_abstraction.proofs.Members.{Has-from_map, Has-cases}
-use Rattle.smv_abstraction.proofs.OneOfEach.{AreOf, are_of, get_Has, Has-from_flat_map}
+use Rattle.law_obligations.specs.Sets.{Has, first, later, one_of_each}
+use Rattle.law_obligations.specs.Places.{Place, named_in}
+use Rattle.law_obligations.specs.Covers.{IsIndexType}
+use Rattle.law_obligations.specs.Soundness.{over_of}
+use Rattle.law_obligations.proofs.Members.{Has-from_map, Has-cases}
+use Rattle.law_obligations.proofs.OneOfEach.{AreOf, are_of, get_Has, Has-from_flat_map}
 use Rattle.law_obligations.specs.Outlines.{chosen}
 use Rattle.law_obligations.specs.Reached.{is_among, reached}
 use Rattle.law_obligations.specs.Cones.{AbsElement, element, elements_of, elements, elements_of_def, same_element}
 use Rattle.law_obligations.proofs.Lookups.{Has-from_filter}
-use Rattle.law_cones.proofs.Searches.{search-begun, search-turn}
+use Rattle.law_problems.proofs.Searches.{search-begun, search-turn}
 use Rattle.smv_problem.specs.Written.{written_class, written_element}
 use Rattle.smv_elements.specs.Elements.{is_full, put_all}
 use Rattle.smv_spots.specs.declared.spots.Spot.{Spot}
@@ -26,8 +26,8 @@ use Rattle.smv_reads.specs.declared.bindings.View.{View}
 use Rattle.smv_reads.specs.Views.{world_of, IsView, place_in, places, spot_in, classes_in}
 use Rattle.smv_reads.specs.Reading.{read_of}
 use Rattle.smv_reads.proofs.IndexLaws.{class-back, named-classes}
-use Rattle.law_found_elements.specs.Adds.{Adds}
-use Rattle.law_found_elements.proofs.Putting.{added}
+use Rattle.law_problems.specs.Adds.{Adds}
+use Rattle.law_problems.proofs.Putting.{added}
 use Rattle.smv_cone.specs.declared.parts.Part.{Part}
 use Rattle.smv_cone.specs.Parts.{spots_in, outline_of, firsts, nexts, cone_of, IsPartView}
 use Rattle.smv_cone.specs.Begins.{read_first}

@@ -2,7 +2,7 @@
 use Rattle.std.proofs.Common.{◌≡◌, ℕ, zero, suc, ◌+◌, ◌<◌, ◌≤◌, List, [], ◌∷◌, ◌++◌, length, drop, get_or, refl, sym, ap, ◌∙◌, ◌⊎◌, inl, inr, arith}
 use Rattle.smv_core.specs.declared.flat.Simple.{Simple}
 use Rattle.smv_core.specs.declared.flat.Class.{Class}
-use Rattle.smv_abstraction.proofs.OneOfEach.{joined_again}
+use Rattle.law_obligations.proofs.OneOfEach.{joined_again}
 use Rattle.smv_spots.specs.declared.spots.Spot.{Spot}
 use Rattle.smv_reads.specs.Views.{spot_in}
 use Rattle.smv_cone.specs.Parts.{spots_in}

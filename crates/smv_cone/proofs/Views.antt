@@ -16,20 +16,20 @@ use Rattle.smv_core.specs.declared.flat.Choice.{Choice}
 use Rattle.smv_core.specs.declared.flat.Keep.{Keep}
 use Rattle.smv_core.specs.declared.flat.Class.{Class}
 use Rattle.smv_core.specs.declared.flat.Class.TheVariants.{Number, Named, Rest}
-use Rattle.smv_abstraction.specs.declared.abstract_type.AbsType.{AbsType}
-use Rattle.smv_abstraction.specs.declared.abstract_type.Rest.TheVariants as beside
-use Rattle.smv_abstraction.specs.Sets.{Has, first, later}
-use Rattle.smv_abstraction.specs.Places.{Place, named, rest, World}
-use Rattle.smv_abstraction.specs.Cases.{Treatment, whole, reduced, ordered, Parameter, is_set, those_of, used, named_among, listed_classes, abstract_type, type_in, candidates, numbered}
-use Rattle.smv_abstraction.specs.Covers.{place_at, places_at, by_name, AreApart}
-use Rattle.smv_abstraction.specs.LeafCases.{kept_of, treatment_of, treatments_of, stays, parameters_of}
-use Rattle.smv_abstraction.proofs.Members.{Has-cases, Has-from_map, Has-uncons}
-use Rattle.smv_abstraction.proofs.Spots.{numbers-Has}
-use Rattle.smv_abstraction.proofs.OneOfEach.{AreOf, are_of, map_long}
-use Rattle.smv_abstraction.proofs.CoverNames.{by_name-at}
+use Rattle.smv_core.specs.declared.abstract_type.AbsType.{AbsType}
+use Rattle.smv_core.specs.declared.abstract_type.Rest.TheVariants as beside
+use Rattle.law_obligations.specs.Sets.{Has, first, later}
+use Rattle.law_obligations.specs.Places.{Place, named, rest, World}
+use Rattle.law_obligations.specs.Cases.{Treatment, whole, reduced, ordered, Parameter, is_set, those_of, used, named_among, listed_classes, abstract_type, type_in, candidates, numbered}
+use Rattle.law_obligations.specs.Covers.{place_at, places_at, by_name, AreApart}
+use Rattle.law_obligations.specs.LeafCases.{kept_of, treatment_of, treatments_of, stays, parameters_of}
+use Rattle.law_obligations.proofs.Members.{Has-cases, Has-from_map, Has-uncons}
+use Rattle.law_obligations.proofs.Spots.{numbers-Has}
+use Rattle.law_obligations.proofs.OneOfEach.{AreOf, are_of, map_long}
+use Rattle.law_obligations.proofs.CoverNames.{by_name-at}
 use Rattle.law_obligations.specs.Reached.{IsLeast}
 use Rattle.smv_core.specs.declared.fault.Fault.{Fault}
-use Rattle.smv_abstraction.specs.Soundness.{FlatUnit, map_of, claim_of}
+use Rattle.law_obligations.specs.Soundness.{FlatUnit, map_of, claim_of}
 use Rattle.std.proofs.lemmas.Bool.Decides.{nat_tests}
 use Rattle.law_obligations.specs.Outlines.{Entry, Outline, Script, entries_of, outline_of, names_of, unit_in}
 use Rattle.law_obligations.specs.Units.{units_of, script_of}
@@ -41,7 +41,7 @@ use Rattle.law_obligations.proofs.LeastCones.{cone_is_least}
 use Rattle.law_problems.specs.Parts.{outlined, entry_of, world_with, cone_with, bits_with, place_of_unit, fault_at_unit, width_fault}
 use Rattle.smv_cases.specs.Types.{types_of}
 use Rattle.smv_cases.specs.Faults as cases_faults
-use Rattle.law_codes.specs.Readings.{bits_of_all}
+use Rattle.law_obligations.specs.Readings.{bits_of_all}
 use Rattle.smv_problem.specs.Written.{written_class}
 use Rattle.smv_spots.specs.declared.spots.Spot.{Spot}
 use Rattle.smv_spots.specs.Spots.{of_set, AreTypes}

@@ -6,9 +6,9 @@ use Rattle.smv_core.specs.declared.flat.Claim.{Claim as FlatClaim}
 use Rattle.smv_core.specs.declared.flat.Param.{Param}
 use Rattle.smv_core.specs.declared.flat.Unit.{Unit}
 use Rattle.smv_core.specs.declared.flat.FlatExpr.{FlatExpr}
-use Rattle.smv_abstraction.specs.Sets.{one_of_each}
-use Rattle.smv_abstraction.specs.Places.{named_in}
-use Rattle.smv_abstraction.specs.Soundness.{over_of}
+use Rattle.law_obligations.specs.Sets.{one_of_each}
+use Rattle.law_obligations.specs.Places.{named_in}
+use Rattle.law_obligations.specs.Soundness.{over_of}
 use Rattle.law_obligations.specs.Outlines.{unit_in}
 use Rattle.law_obligations.specs.Cones.{elements_read, elements_assumed, of_target}
 use Rattle.smv_problem.specs.Written.{written_element}

@@ -6,7 +6,7 @@ use Rattle.smv_core.specs.declared.flat.Class.{Class}
 use Rattle.smv_core.specs.declared.flat.Class.TheVariants.{Number, Named, Rest}
 use Rattle.smv_core.specs.declared.flat.Element.{Element}
 use Rattle.smv_core.specs.declared.flat.Unit.TheVariants.{Claim}
-use Rattle.smv_abstraction.specs.Places.{Place}
+use Rattle.law_obligations.specs.Places.{Place}
 use Rattle.law_obligations.specs.Outlines.{Entry, Outline}
 use Rattle.law_obligations.specs.Units.{units_of}
 use Rattle.law_problems.specs.Parts.{outlined, IsPart, IsCaseOf}

@@ -1,12 +1,12 @@
 -- What a search for a cone has found, as elements are written.
 use Rattle.std.specs.Prelude.{◌≡◌, ◌<◌, ◌≤◌, ℕ, List, map, flat_map, option_to_list, Option, Some, None, false}
 use Rattle.smv_core.specs.declared.flat.Element.{Element}
-use Rattle.smv_abstraction.specs.Sets.{Has}
+use Rattle.law_obligations.specs.Sets.{Has}
 use Rattle.law_obligations.specs.Reached.{IsLeast}
 use Rattle.law_obligations.specs.Outlines.{chosen}
 use Rattle.law_obligations.specs.Cones.{AbsElement, elements_of_def}
-use Rattle.law_codes.specs.Readings.{bits_of_all}
-use Rattle.law_cones.specs.Search.{IsSearch}
+use Rattle.law_obligations.specs.Readings.{bits_of_all}
+use Rattle.law_problems.specs.Search.{IsSearch}
 use Rattle.smv_problem.specs.WellFormed.{AreApartElements}
 use Rattle.smv_problem.specs.Written.{written_element}
 use Rattle.smv_elements.specs.Elements.{is_full}

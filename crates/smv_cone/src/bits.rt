@@ -1,11 +1,11 @@
 // How many bits elements have, against the limit.
 ghost use Rattle.std.specs.Prelude.{◌≡◌, map, length, nat_le, IfOk};
-ghost use Rattle.smv_state_bits.specs.StateBits.{bits_of_elements};
+ghost use Rattle.smv_readings.specs.StateBits.{bits_of_elements};
 
-use smv_abstraction::AbsType;
+use smv_core::abstract_type::AbsType;
 use smv_core::flat::{Design, Element, Family};
 use smv_core::{Name, Seq};
-use smv_state_bits::family_bits;
+use smv_readings::family_bits;
 use std::alloc::{AllocError, Global};
 
 // How many names a list has. Also where the number does not fit its field, which no text within the limits has, there is an error.

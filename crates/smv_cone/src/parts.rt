@@ -1,6 +1,6 @@
 // A case of a leaf, and where its parameters and the indexes of its elements lie.
 ghost use Rattle.std.specs.Prelude.{◌≡◌, ◌≤◌, ◌⊎◌, map, IfOk, slice_get, option_copied};
-ghost use Rattle.smv_abstraction.specs.Soundness.{over_of};
+ghost use Rattle.law_obligations.specs.Soundness.{over_of};
 ghost use Rattle.law_obligations.specs.Outlines as outlines;
 ghost use Rattle.smv_cone.specs.Parts.{spots_in, outline_of, IsPartView};
 

@@ -4,6 +4,7 @@
 //! where one is let go a call stands, and not an arm for each variant.
 #![tactic(auto)]
 
+pub mod abstract_type;
 pub mod boxed;
 pub mod fault;
 pub mod flat;
@@ -12,6 +13,7 @@ pub mod seq;
 pub mod token;
 pub mod tree;
 
+pub use abstract_type::{AbsType, Rest};
 pub use boxed::Boxed;
 pub use fault::{Fault, Refusal};
 pub use name::Name;

@@ -12,9 +12,9 @@ use Rattle.smv_search.specs.Keeping.{KeepsRefs}
 use Rattle.smv_search.specs.Verdict.{IsVerdict}
 use Rattle.smv_search.specs.Verdict.Verdict.{Reached}
 use Rattle.smv_search.proofs.Start.{lists_kept}
-use Rattle.law_codes.specs.Readings.{Case}
-use Rattle.law_codes.specs.CasePaths.{IsShortest}
-use Rattle.smv_abstraction.specs.May.{AbsState}
+use Rattle.law_obligations.specs.Readings.{Case}
+use Rattle.law_obligations.specs.CasePaths.{IsShortest}
+use Rattle.law_obligations.specs.May.{AbsState}
 use Rattle.smv_problem.specs.declared.problem.AbsState.{AbsState as StateData}
 use Rattle.smv_problem.specs.declared.problem.Problem.{Problem}
 use Rattle.smv_problem.specs.Written.{written, written_state}

@@ -5,16 +5,16 @@ use Rattle.std.proofs.Math.Seq.{drop-cons}
 use Rattle.std.proofs.lemmas.List.{take_more, take-append-drop, take_all}
 use Rattle.smv_core.specs.declared.flat.Class.{Class}
 use Rattle.smv_core.specs.declared.flat.Case.{Case as CaseData}
-use Rattle.smv_abstraction.specs.Sets.{Has, first, later}
-use Rattle.smv_abstraction.proofs.Members.{Has-cases}
+use Rattle.law_obligations.specs.Sets.{Has, first, later}
+use Rattle.law_obligations.proofs.Members.{Has-cases}
 use Rattle.smv_rings.specs.Lists.{Lists}
 use Rattle.smv_search.specs.Verdict.{Verdict as SearchVerdict, IsVerdict}
 use Rattle.smv_search.specs.Verdict.Verdict.{Counted, Reached, Images}
 use Rattle.smv_problem.specs.declared.report.Verdict.{Verdict}
 use Rattle.smv_problem.specs.declared.report.Verdict.TheVariants.{True}
-use Rattle.law_verdicts.specs.Verdicts.{is_shut, IsTrueCase, AreTrueCases, FailsFirst}
-use Rattle.law_codes.specs.Readings.{Case}
-use Rattle.law_plan_cases.specs.Told.{lists_for, IsToldBy}
+use Rattle.law_reports.specs.Verdicts.{is_shut, IsTrueCase, AreTrueCases, FailsFirst}
+use Rattle.law_obligations.specs.Readings.{Case}
+use Rattle.law_reports.specs.Told.{lists_for, IsToldBy}
 use Rattle.smv_decide.specs.declared.Decision.{Decision}
 use Rattle.smv_decide.specs.declared.Decision.TheVariants as decided
 use Rattle.smv_decide.specs.Decisions.{IsDecided}

@@ -8,8 +8,8 @@ use Rattle.smv_search.specs.declared.Outcome.{Outcome}
 use Rattle.smv_search.specs.Answers.{found, Answers, IsLeast}
 use Rattle.smv_search.specs.Verdict.{IsVerdict}
 use Rattle.smv_search.specs.Verdict.Verdict.{Counted, Reached, Shut, Images}
-use Rattle.law_codes.specs.Readings.{Case}
-use Rattle.law_case_lists.specs.CaseLists.{case_lists}
+use Rattle.law_obligations.specs.Readings.{Case}
+use Rattle.law_reports.specs.CaseLists.{case_lists}
 use Rattle.law_reports.specs.Reports.{IsShown}
 use Rattle.smv_decide.specs.declared.Decision.{Decision}
 use Rattle.smv_decide.specs.declared.Decision.TheVariants.{True, False, UnknownNodes, UnknownSteps}

@@ -5,7 +5,7 @@ use Rattle.smv_core.specs.declared.flat.Leaf.{Leaf}
 use Rattle.smv_core.specs.declared.flat.Choice.{Choice}
 use Rattle.smv_core.specs.declared.flat.Class.{Class}
 use Rattle.smv_core.specs.declared.flat.Case.{Case as CaseData}
-use Rattle.smv_abstraction.specs.Sets.{Has}
+use Rattle.law_obligations.specs.Sets.{Has}
 use Rattle.smv_problem.specs.declared.report.Verdict.{Verdict}
 use Rattle.smv_problem.specs.declared.report.Verdict.TheVariants.{False, UnknownNodes, UnknownSteps}
 use Rattle.law_problems.specs.Parts.{IsCaseOf, width_fault}

@@ -2,7 +2,7 @@
 use Rattle.std.specs.Prelude.{◌≡◌, List}
 use Rattle.smv_core.specs.declared.flat.Class.{Class}
 use Rattle.law_obligations.specs.Units.{units_of}
-use Rattle.law_codes.specs.Readings.{Case}
+use Rattle.law_obligations.specs.Readings.{Case}
 use Rattle.law_problems.specs.Parts.{IsPart, case_with, outlined}
 use Rattle.smv_chosen_table.specs.Tables.{IsTable}
 use Rattle.smv_decide.specs.declared.tasks.Task.{Task}

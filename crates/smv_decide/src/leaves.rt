@@ -1,6 +1,6 @@
 // The cases of a leaf, in order.
 ghost use Rattle.std.specs.Prelude.{◌≡◌, ◌≤◌, IfOk};
-ghost use Rattle.law_plan_cases.specs.Told.{IsToldBy};
+ghost use Rattle.law_reports.specs.Told.{IsToldBy};
 ghost use Rattle.smv_obligations.specs.Shared.{IsShared};
 ghost use Rattle.smv_decide.specs.Leaves.{AreCases, classes_in, verdict_at};
 ghost use Rattle.smv_decide.specs.Tasks.{IsTask, case_in};

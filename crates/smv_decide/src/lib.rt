@@ -1,12 +1,12 @@
 //! A case of a leaf is decided by its problem, the lists of functions of the problem, the search over them and, where the search reaches a violation, the trace of its rings.
 //!
 //! For the call that decides the units of a plan. `tasks` says what it passes in, `leaves` goes through the cases of a leaf in order. A reader begins with `specs/Decisions`; to know what a verdict rests on,
-//! read on in `law_verdicts`. Each case has a store of diagrams of its own, which is given back with the case.
+//! read on in `law_reports`. Each case has a store of diagrams of its own, which is given back with the case.
 #![tactic(auto)]
 
 ghost use Rattle.std.specs.Prelude.{◌≡◌, ◌≤◌, IfOk, None};
 ghost use Rattle.smv_rings.specs.Lists.{IsRel, lists_of};
-ghost use Rattle.law_case_lists.specs.CaseLists.{IsListsOf};
+ghost use Rattle.law_reports.specs.CaseLists.{IsListsOf};
 ghost use Rattle.smv_problem.specs.WellFormed.{IsProblem, IsProblemOf, OfCases};
 ghost use Rattle.law_problems.specs.Parts.{IsCaseOf, width_fault};
 ghost use Rattle.smv_obligations.specs.Shared.{IsShared, shared_in};
@@ -20,12 +20,12 @@ pub mod tasks;
 use bdd_store::Store;
 use smv_core::Seq;
 use smv_core::flat::{Case, Element};
+pub use smv_encode::relations;
 use smv_obligations::{ProblemParts, Shared, problem_with, taken_apart, taken_back};
 use smv_problem::{AbsState, Budgets, Problem};
-use smv_relations::relations;
+use smv_readings::state_bits;
 use smv_rings::Rel;
 use smv_search::{Outcome, search};
-use smv_state_bits::state_bits;
 use smv_trace::path;
 use std::alloc::{AllocError, Global};
 use tasks::Task;

@@ -14,10 +14,10 @@ use Rattle.smv_core.specs.declared.flat.Claim.{Claim}
 use Rattle.smv_core.specs.declared.flat.FlatSplit.{FlatSplit}
 use Rattle.smv_core.specs.declared.flat.FlatUsing.{FlatUsing}
 use Rattle.smv_core.specs.declared.flat.Design.{Design}
-use Rattle.law_flattening.specs.Flattening.{different, flat_assignments, flat_assignments_in}
-use Rattle.law_flattening.specs.WholeText.{is_one_layer, claims_of}
-use Rattle.law_single_assignment.specs.Standing.{count, Statement, statements_from, Standing, standing, standing_in}
-use Rattle.law_single_assignment.specs.Definitions.{Head, head, heads_of, is_nothing, joined, flat_of, part_of, same_definition, first_heads, def_of, splits_of, uses_of, design_of_raw}
+use Rattle.law_designs.specs.Flattening.{different, flat_assignments, flat_assignments_in}
+use Rattle.law_designs.specs.WholeText.{is_one_layer, claims_of}
+use Rattle.law_designs.specs.Standing.{count, Statement, statements_from, Standing, standing, standing_in}
+use Rattle.law_designs.specs.Definitions.{Head, head, heads_of, is_nothing, joined, flat_of, part_of, same_definition, first_heads, def_of, splits_of, uses_of, design_of_raw}
 use Rattle.smv_design.specs.declared.heads.Noted.{Noted}
 use Rattle.smv_design.specs.declared.acts.Act.{Act}
 use Rattle.smv_design.specs.declared.owners.Owner.{Owner}

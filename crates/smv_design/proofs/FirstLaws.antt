@@ -4,8 +4,8 @@ use Rattle.std.specs.List.{list_any}
 use Rattle.std.specs.HashSet.{HashSet}
 use Rattle.std.proofs.lemmas.List.{map-append}
 use Rattle.std.proofs.lemmas.List.Folds.{list_any-append}
-use Rattle.law_flattening.specs.Flattening.{different}
-use Rattle.law_single_assignment.specs.Definitions.{Head, same_definition}
+use Rattle.law_designs.specs.Flattening.{different}
+use Rattle.law_designs.specs.Definitions.{Head, same_definition}
 use Rattle.smv_design.specs.declared.heads.Noted.{Noted}
 use Rattle.smv_design.specs.declared.owners.Owner.{Owner}
 use Rattle.smv_design.specs.declared.firsts.Gathered.{Gathered}

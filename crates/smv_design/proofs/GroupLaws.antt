@@ -6,7 +6,7 @@ use Rattle.std.specs.HashMap.{HashMap, UpdatesBy}
 use Rattle.std.proofs.lemmas.List.{append-nil, append_assoc}
 use Rattle.smv_core.specs.declared.flat.FlatExpr.{FlatExpr}
 use Rattle.smv_core.specs.declared.flat.Flat.{Flat}
-use Rattle.law_single_assignment.specs.Definitions.{is_nothing}
+use Rattle.law_designs.specs.Definitions.{is_nothing}
 use Rattle.smv_design.specs.declared.owners.Owner.{Owner}
 use Rattle.smv_design.specs.declared.parts.Part.{Part}
 use Rattle.smv_design.specs.declared.groups.Sides.{Sides}

@@ -6,9 +6,9 @@ use Rattle.smv_core.specs.declared.flat.FlatItem.TheVariants as item
 use Rattle.smv_core.specs.declared.flat.Claim.{Claim}
 use Rattle.smv_core.specs.declared.flat.FlatSplit.{FlatSplit}
 use Rattle.smv_core.specs.declared.flat.FlatUsing.{FlatUsing}
-use Rattle.law_flattening.specs.WholeText.{claims_of}
-use Rattle.law_single_assignment.specs.Standing.{Statement, statements_from}
-use Rattle.law_single_assignment.specs.Definitions.{Head, splits_of, uses_of}
+use Rattle.law_designs.specs.WholeText.{claims_of}
+use Rattle.law_designs.specs.Standing.{Statement, statements_from}
+use Rattle.law_designs.specs.Definitions.{Head, splits_of, uses_of}
 use Rattle.smv_design.specs.Parts.{size}
 use Rattle.smv_design.specs.Acts.{heads_in, heads_from, place_behind}
 

@@ -2,7 +2,7 @@
 use Rattle.std.proofs.Common.{◌≡◌, ℕ, Option, Some, None, Bool, true, false, nat_eq, ◌&&◌, refl, sym, ap, ◌∙◌, arith}
 use Rattle.std.specs.Option.{option_eq}
 use Rattle.std.proofs.lemmas.Bool.Decides.{nat_tests}
-use Rattle.law_flattening.specs.WholeText.{is_one_layer}
+use Rattle.law_designs.specs.WholeText.{is_one_layer}
 use Rattle.smv_design.specs.declared.owners.Owner.{Owner}
 use Rattle.smv_design.specs.Groups.{same_owner}
 

@@ -10,10 +10,10 @@ use Rattle.smv_core.specs.declared.flat.FlatExpr.{FlatExpr}
 use Rattle.smv_core.specs.declared.flat.FlatStmt.{FlatStmt, Assign, If, Default, Forall, Block, Block', Row_of-FlatStmt, end_of-FlatStmt, more_of-FlatStmt, items-the_row-FlatStmt, items_hidden-the_row-FlatStmt-1}
 use Rattle.smv_core.specs.declared.flat.Flat.{Flat, Nothing}
 use Rattle.smv_core.specs.declared.flat.Flat as flat
-use Rattle.law_flattening.specs.Flattening.{flat_assignments, flat_assignments_in}
-use Rattle.law_flattening.proofs.FlatLists.{boxes}
-use Rattle.law_flattening.specs.WholeText.{is_one_layer}
-use Rattle.law_single_assignment.specs.Definitions.{is_nothing, joined, first_part, branches, each_value, flat_of, flats_of}
+use Rattle.law_designs.specs.Flattening.{flat_assignments, flat_assignments_in}
+use Rattle.law_designs.proofs.FlatLists.{boxes}
+use Rattle.law_designs.specs.WholeText.{is_one_layer}
+use Rattle.law_designs.specs.Definitions.{is_nothing, joined, first_part, branches, each_value, flat_of, flats_of}
 use Rattle.smv_design.specs.declared.owners.Owner.{Owner}
 use Rattle.smv_design.specs.Parts.{size, sizes, kept, said}
 use Rattle.smv_design.specs.declared.groups.Sides.{Sides}

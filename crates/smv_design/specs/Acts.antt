@@ -3,8 +3,8 @@ use Rattle.std.specs.Prelude.{ℕ, ◌+◌, List, [], ◌∷◌, ◌++◌, flat_
 use Rattle.smv_core.specs.declared.flat.FlatItem.{FlatItem}
 use Rattle.smv_core.specs.declared.flat.FlatItem.TheVariants as item
 use Rattle.smv_core.specs.declared.flat.FlatStmt.{FlatStmt, Assign, If', Block', Default', Forall', Row_of-FlatStmt, end_of-FlatStmt, more_of-FlatStmt}
-use Rattle.law_single_assignment.specs.Standing.{Statement, statements_from}
-use Rattle.law_single_assignment.specs.Definitions.{Head}
+use Rattle.law_designs.specs.Standing.{Statement, statements_from}
+use Rattle.law_designs.specs.Definitions.{Head}
 use Rattle.smv_design.specs.Parts.{size}
 use Rattle.smv_design.specs.declared.heads.Noted.{Noted}
 use Rattle.smv_design.specs.declared.acts.Act.{Act}

@@ -3,9 +3,9 @@ use Rattle.std.specs.Prelude.{◌≡◌, List, [], ◌∷◌, map, filter, false
 use Rattle.std.specs.List.{list_any}
 use Rattle.smv_core.specs.declared.tree.Kind.TheVariants.{Comb, Init, Next}
 use Rattle.smv_core.specs.declared.flat.Def.{Def}
-use Rattle.law_flattening.specs.WholeText.{is_one_layer}
-use Rattle.law_single_assignment.specs.Standing.{Statement}
-use Rattle.law_single_assignment.specs.Definitions.{Head, same_definition, joined, part_of}
+use Rattle.law_designs.specs.WholeText.{is_one_layer}
+use Rattle.law_designs.specs.Standing.{Statement}
+use Rattle.law_designs.specs.Definitions.{Head, same_definition, joined, part_of}
 use Rattle.smv_design.specs.declared.acts.Act.{Act}
 use Rattle.smv_design.specs.declared.heads.Noted.{Noted}
 use Rattle.smv_design.specs.declared.owners.Owner.{Owner}

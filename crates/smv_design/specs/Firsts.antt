@@ -2,9 +2,9 @@
 use Rattle.std.specs.Prelude.{◌≡◌, List, map, Bool, ◌&&◌, nat_eq}
 use Rattle.std.specs.List.{list_any}
 use Rattle.std.specs.HashSet.{HashSet, contains_by}
-use Rattle.law_flattening.specs.Flattening.{different}
-use Rattle.law_flattening.specs.WholeText.{is_one_layer}
-use Rattle.law_single_assignment.specs.Definitions.{Head, same_definition}
+use Rattle.law_designs.specs.Flattening.{different}
+use Rattle.law_designs.specs.WholeText.{is_one_layer}
+use Rattle.law_designs.specs.Definitions.{Head, same_definition}
 use Rattle.smv_design.specs.declared.owners.Owner.{Owner}
 use Rattle.smv_design.specs.declared.firsts.Gathered.{Gathered}
 use Rattle.smv_design.specs.Acts.{head_of}

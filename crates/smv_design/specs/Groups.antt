@@ -4,7 +4,7 @@ use Rattle.std.specs.Option.{option_eq}
 use Rattle.std.specs.HashMap.{HashMap, get_by}
 use Rattle.smv_core.specs.declared.flat.FlatExpr.{FlatExpr}
 use Rattle.smv_core.specs.declared.flat.Flat.{Flat}
-use Rattle.law_single_assignment.specs.Definitions.{joined, branches}
+use Rattle.law_designs.specs.Definitions.{joined, branches}
 use Rattle.smv_design.specs.declared.owners.Owner.{Owner}
 use Rattle.smv_design.specs.declared.parts.Part.{Part}
 use Rattle.smv_design.specs.declared.groups.Sides.{Sides}

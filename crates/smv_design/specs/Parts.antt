@@ -3,8 +3,8 @@ use Rattle.std.specs.Prelude.{ℕ, ◌+◌, List, [], ◌∷◌, if◌then◌els
 use Rattle.smv_core.specs.declared.tree.Kind.{Kind}
 use Rattle.smv_core.specs.declared.flat.FlatStmt.{FlatStmt}
 use Rattle.smv_core.specs.declared.flat.Flat.{Flat}
-use Rattle.law_single_assignment.specs.Standing.{count}
-use Rattle.law_single_assignment.specs.Definitions.{is_nothing, flat_of}
+use Rattle.law_designs.specs.Standing.{count}
+use Rattle.law_designs.specs.Definitions.{is_nothing, flat_of}
 
 -- how many places a statement takes: one for each assignment
 unfoldable pub size : FlatStmt → ℕ

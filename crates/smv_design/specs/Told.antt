@@ -3,7 +3,7 @@ use Rattle.std.specs.Prelude.{ℕ, ◌+◌, List, [], ◌∷◌, ◌++◌, Optio
 use Rattle.smv_core.specs.declared.tree.Kind.{Kind}
 use Rattle.smv_core.specs.declared.flat.FlatStmt.{FlatStmt}
 use Rattle.smv_core.specs.declared.flat.Flat.{Flat, Nothing}
-use Rattle.law_flattening.specs.WholeText.{is_one_layer}
+use Rattle.law_designs.specs.WholeText.{is_one_layer}
 use Rattle.smv_design.specs.declared.acts.Act.{Act}
 use Rattle.smv_design.specs.declared.owners.Owner.{Owner}
 use Rattle.smv_design.specs.Parts.{size, kept, said}

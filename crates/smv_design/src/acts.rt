@@ -1,8 +1,8 @@
 // The items of a flattened text, taken apart.
 ghost use Rattle.std.specs.Prelude.{◌≡◌, ◌++◌, ◌∷◌, [], map, IfOk, OnOk};
-ghost use Rattle.law_flattening.specs.WholeText.{claims_of};
-ghost use Rattle.law_single_assignment.specs.Standing.{statements_from};
-ghost use Rattle.law_single_assignment.specs.Definitions.{splits_of, uses_of};
+ghost use Rattle.law_designs.specs.WholeText.{claims_of};
+ghost use Rattle.law_designs.specs.Standing.{statements_from};
+ghost use Rattle.law_designs.specs.Definitions.{splits_of, uses_of};
 ghost use Rattle.smv_design.specs.Acts.{head_of, heads_from, statement_of, place_behind};
 
 use crate::heads::{Noted, note_heads};

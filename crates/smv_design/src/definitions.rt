@@ -1,6 +1,6 @@
 // The definitions that are made of a text's statements.
 ghost use Rattle.std.specs.Prelude.{◌≡◌, map, false, IfOk};
-ghost use Rattle.law_single_assignment.specs.Definitions.{joined as joined_of};
+ghost use Rattle.law_designs.specs.Definitions.{joined as joined_of};
 ghost use Rattle.smv_design.specs.declared.owners.Owner.{Owner};
 ghost use Rattle.smv_design.specs.Acts.{head_of, statement_of};
 ghost use Rattle.smv_design.specs.Groups.{same_owner, used, held};

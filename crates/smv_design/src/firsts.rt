@@ -1,7 +1,7 @@
 // The first assignment of each definition.
 ghost use Rattle.std.specs.Prelude.{◌≡◌, List, ◌++◌, ◌∷◌, [], map, IfOk, OnOk};
-ghost use Rattle.law_flattening.specs.Flattening.{different};
-ghost use Rattle.law_single_assignment.specs.Definitions.{Head, same_definition};
+ghost use Rattle.law_designs.specs.Flattening.{different};
+ghost use Rattle.law_designs.specs.Definitions.{Head, same_definition};
 ghost use Rattle.smv_design.specs.Acts.{head_of};
 ghost use Rattle.smv_design.specs.Firsts.{IsGathered};
 

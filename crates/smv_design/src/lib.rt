@@ -1,10 +1,10 @@
 //! The design of a flattened text: its assignments gathered into one definition for each family and definition set.
 //!
-//! For the passes over designs and for proofs. The definition that it meets is `law_single_assignment/specs/Definitions`.
+//! For the passes over designs and for proofs. The definition that it meets is `law_designs/specs/Definitions`.
 #![tactic(auto)]
 
 ghost use Rattle.std.specs.Prelude.{◌≡◌, IfOk};
-ghost use Rattle.law_single_assignment.specs.Definitions.{design_of_raw};
+ghost use Rattle.law_designs.specs.Definitions.{design_of_raw};
 
 pub mod acts;
 pub mod definitions;

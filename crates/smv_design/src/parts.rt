@@ -1,17 +1,17 @@
 // What is said of owners, for one kind of assignment.
 ghost use Rattle.std.specs.Prelude.{◌≡◌, ◌++◌, [], IfOk, OnOk, if◌then◌else◌};
 ghost use Rattle.smv_core.specs.Walk.{same_kind};
-ghost use Rattle.law_single_assignment.specs.Definitions.{is_nothing as has_no_result, joined as joined_of, branches as branches_of, each_value as each_value_of};
+ghost use Rattle.law_designs.specs.Definitions.{is_nothing as has_no_result, joined as joined_of, branches as branches_of, each_value as each_value_of};
 ghost use Rattle.smv_design.specs.declared.owners.Owner.{Owner};
 ghost use Rattle.smv_design.specs.Parts.{kept};
 ghost use Rattle.smv_design.specs.Groups.{parts_for, same_owner};
 
 use crate::owners::Owner;
+use smv_copies::copy_expression;
 use smv_core::boxed::Boxed;
 use smv_core::flat::{Flat, FlatExpr, Simple};
 use smv_core::seq::Seq;
 use smv_core::tree::Kind;
-use smv_flat_copies::copy_expression;
 use std::alloc::{AllocError, Global};
 
 /// What is said of an owner.

@@ -1,7 +1,7 @@
 // What statements say, for one kind of assignment: each statement is gone over once, and gives what it says of all owners.
 ghost use Rattle.std.specs.Prelude.{◌≡◌, ◌+◌, ◌++◌, List, IfOk, OnOk, flat_map};
 ghost use Rattle.smv_core.specs.declared.flat.Flat.{Flat};
-ghost use Rattle.law_single_assignment.specs.Definitions.{joined as joined_of, each_value as each_value_of};
+ghost use Rattle.law_designs.specs.Definitions.{joined as joined_of, each_value as each_value_of};
 ghost use Rattle.smv_design.specs.declared.owners.Owner.{Owner};
 ghost use Rattle.smv_design.specs.Parts.{kept, size, sizes};
 ghost use Rattle.smv_design.specs.Groups.{parts_for, filled, held};

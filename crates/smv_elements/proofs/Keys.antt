@@ -3,8 +3,8 @@ use Rattle.std.proofs.Common.{◌≡◌, ℕ, ◌<◌, List, [], ◌∷◌, leng
 use Rattle.smv_core.specs.declared.flat.Class.{Class}
 use Rattle.smv_core.specs.declared.flat.Class.TheVariants.{Number, Named, Rest}
 use Rattle.smv_core.specs.declared.flat.Element.{Element}
-use Rattle.smv_abstraction.proofs.Tests.{left_of, right_of, or_cases, true_or_false}
-use Rattle.smv_abstraction.proofs.Same.{nat_eq-is, nat_eq-itself}
+use Rattle.law_obligations.proofs.Tests.{left_of, right_of, or_cases, true_or_false}
+use Rattle.law_obligations.proofs.Same.{nat_eq-is, nat_eq-itself}
 use Rattle.smv_elements.specs.Elements.{sort_of, number_of, keys, key, numbers_before, same_numbers, same_element, is_before}
 
 -- ---- numbers

@@ -2,9 +2,9 @@
 use Rattle.std.proofs.Common.{◌≡◌, ℕ, List, [], ◌∷◌, ◌++◌, Bool, true, false, ◌||◌, if◌then◌else◌, refl, sym, ap, subst, ◌∙◌, inl, inr}
 use Rattle.std.specs.List.{slice_get}
 use Rattle.smv_core.specs.declared.flat.Element.{Element}
-use Rattle.smv_abstraction.specs.Sets.{Has, first, later}
-use Rattle.smv_abstraction.proofs.Members.{Has-cases, Has-left, Has-right, Has-uncons}
-use Rattle.smv_abstraction.proofs.Tests.{true_or_false}
+use Rattle.law_obligations.specs.Sets.{Has, first, later}
+use Rattle.law_obligations.proofs.Members.{Has-cases, Has-left, Has-right, Has-uncons}
+use Rattle.law_obligations.proofs.Tests.{true_or_false}
 use Rattle.smv_elements.specs.Elements.{is_full, is_among, same_element, put, put_all, AreInOrder, HaveSame, is_at, inserted}
 use Rattle.smv_elements.proofs.Keys.{same-is, same-itself}
 use Rattle.smv_elements.proofs.Sorted.{Splits, absent, present, inserted-has, has-inserted, has-new, ordered}

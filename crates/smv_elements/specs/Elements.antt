@@ -4,7 +4,7 @@ use Rattle.std.specs.List.{list_any}
 use Rattle.smv_core.specs.declared.flat.Class.{Class}
 use Rattle.smv_core.specs.declared.flat.Class.TheVariants.{Number, Named, Rest}
 use Rattle.smv_core.specs.declared.flat.Element.{Element}
-use Rattle.smv_abstraction.specs.Sets.{Has}
+use Rattle.law_obligations.specs.Sets.{Has}
 
 -- numbers stand before classes and these before rests
 abbrev pub sort_of : Class → ℕ

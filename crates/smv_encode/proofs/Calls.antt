@@ -2,11 +2,11 @@
 use Rattle.std.proofs.Common.{◌≡◌, ℕ, ◌*◌, List, [], ◌∷◌, Bool, true, false, ◌&&◌, sym, ap, subst, ◌∙◌, Option, Some, None, Result, Ok, Err, IfOk}
 use Rattle.std.specs.List.{list_all}
 use Rattle.smv_core.specs.declared.flat.Guard.{Guard}
-use Rattle.smv_abstraction.specs.Sets.{Has, first, later}
-use Rattle.smv_abstraction.specs.May.{AbsState}
-use Rattle.smv_abstraction.specs.Obligations.{Problem as Obligations, Demanded, is_met, is_broken, may_hold}
-use Rattle.law_codes.specs.Readings.{Case, state_bits}
-use Rattle.law_case_lists.specs.CaseLists.{old_state, new_state, met_first, met_step}
+use Rattle.law_obligations.specs.Sets.{Has, first, later}
+use Rattle.law_obligations.specs.May.{AbsState}
+use Rattle.law_obligations.specs.Obligations.{Problem as Obligations, Demanded, is_met, is_broken, may_hold}
+use Rattle.law_obligations.specs.Readings.{Case, state_bits}
+use Rattle.law_reports.specs.CaseLists.{old_state, new_state, met_first, met_step}
 use Rattle.smv_problem.specs.declared.problem.Problem.{Problem}
 use Rattle.smv_problem.specs.declared.problem.Demand.{Demand}
 use Rattle.smv_problem.specs.Written.{written, written_demand}
@@ -14,16 +14,16 @@ use Rattle.smv_problem.specs.WellFormed.{IsFit, OfCases}
 use Rattle.bdd_store.specs.declared.Ref.{Ref}
 use Rattle.bdd_store.specs.Diagram.{Diagram, IsLive, IsSound, table, Keeps}
 use Rattle.bdd_ops.specs.Functions.{Function}
-use Rattle.law_kept_stores.specs.Laws.{KeepsTables}
-use Rattle.law_kept_stores.proofs.Kept.{keeps}
+use Rattle.smv_encode.specs.Laws.{KeepsTables}
+use Rattle.smv_encode.proofs.Kept.{keeps}
 use Rattle.smv_conditions.specs.Keep.{KeepsConditions}
 use Rattle.smv_cells.specs.declared.cells.Cell.{Cell}
 use Rattle.smv_cells.specs.Cells.{AreCellsMade}
 use Rattle.smv_cells.specs.Seen.{View, IsSeen}
 use Rattle.smv_cells.proofs.SeenLaws.{cells_kept, seen_on}
-use Rattle.smv_coded_cells.specs.Coded.{state_at, view_at}
-use Rattle.smv_coded_cells.proofs.Cells.{kept_conditions}
-use Rattle.smv_demands.specs.Demands.{view_of, AreRead, IsDemand, IsTargetOf, IsGuard, IsDemanded}
+use Rattle.smv_encode.specs.Coded.{state_at, view_at}
+use Rattle.smv_encode.proofs.CodedCells.{kept_conditions}
+use Rattle.smv_walks.specs.Demands.{view_of, AreRead, IsDemand, IsTargetOf, IsGuard, IsDemanded}
 use Rattle.smv_encode.specs.declared.cells.Cells.{Cells}
 use Rattle.smv_encode.specs.Encoded.{IsKept, AreLiveCells, AreCellsOf}
 use Rattle.smv_encode.proofs.ReadCases.{read_first, read_step, seen_state, is_demand, target_demand, is_guard}

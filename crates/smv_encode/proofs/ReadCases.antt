@@ -4,22 +4,22 @@ use Rattle.std.specs.List.{list_any, slice_get}
 use Rattle.smv_core.specs.declared.flat.Simple.{Simple}
 use Rattle.smv_core.specs.declared.flat.Family.{Family}
 use Rattle.smv_core.specs.declared.flat.Guard.{Guard}
-use Rattle.smv_abstraction.specs.Sets.{Has}
-use Rattle.smv_abstraction.specs.Places.{Place, same_place, is_among, places_in}
-use Rattle.smv_abstraction.specs.Demands.{places_of_family}
-use Rattle.smv_abstraction.specs.Soundness.{over_of}
-use Rattle.smv_abstraction.specs.Covers.{IsIndexType}
-use Rattle.smv_abstraction.specs.Obligations.{Demanded, defined, holds}
-use Rattle.smv_abstraction.proofs.Members.{any-found}
-use Rattle.smv_abstraction.proofs.Same.{same_place-itself}
-use Rattle.smv_abstraction.proofs.OneOfEach.{get_Has}
+use Rattle.law_obligations.specs.Sets.{Has}
+use Rattle.law_obligations.specs.Places.{Place, same_place, is_among, places_in}
+use Rattle.law_obligations.specs.Demands.{places_of_family}
+use Rattle.law_obligations.specs.Soundness.{over_of}
+use Rattle.law_obligations.specs.Covers.{IsIndexType}
+use Rattle.law_obligations.specs.Obligations.{Demanded, defined, holds}
+use Rattle.law_obligations.proofs.Members.{any-found}
+use Rattle.law_obligations.proofs.Same.{same_place-itself}
+use Rattle.law_obligations.proofs.OneOfEach.{get_Has}
 use Rattle.law_obligations.specs.Cones.{AbsElement, element, same_element, kept}
 use Rattle.law_obligations.proofs.Lookups.{find-some}
 use Rattle.law_obligations.proofs.ConeFacts.{same_element-itself, same_element-family}
-use Rattle.law_codes.specs.Bits.{Bits}
-use Rattle.law_codes.specs.Readings.{Case, Slot, slots, reading}
-use Rattle.law_codes.proofs.ReadBack.{found, slot_element, reading_is_state}
-use Rattle.law_case_lists.specs.CaseLists.{old_state, new_state}
+use Rattle.law_obligations.specs.Bits.{Bits}
+use Rattle.law_obligations.specs.Readings.{Case, Slot, slots, reading}
+use Rattle.law_obligations.proofs.ReadBack.{found, slot_element, reading_is_state}
+use Rattle.law_reports.specs.CaseLists.{old_state, new_state}
 use Rattle.smv_problem.specs.declared.problem.Problem.{Problem}
 use Rattle.smv_problem.specs.Written.{written}
 use Rattle.smv_problem.specs.WellFormed.{IsFit, IsWellFormed}
@@ -27,8 +27,8 @@ use Rattle.bdd_store.specs.declared.Ref.{Ref}
 use Rattle.bdd_store.specs.Diagram.{Diagram, table}
 use Rattle.smv_cells.specs.declared.cells.Cell.{Cell}
 use Rattle.smv_cells.specs.Seen.{IsSeen}
-use Rattle.smv_coded_cells.specs.Coded.{state_at, view_at}
-use Rattle.smv_demands.specs.Demands.{view_of, HaveValues, AreRead, IsDemand, IsTargetOf, IsGuard}
+use Rattle.smv_encode.specs.Coded.{state_at, view_at}
+use Rattle.smv_walks.specs.Demands.{view_of, HaveValues, AreRead, IsDemand, IsTargetOf, IsGuard}
 use Rattle.smv_encode.specs.Encoded.{IsKept}
 
 module _ (c : Case) (well : IsWellFormed c) where

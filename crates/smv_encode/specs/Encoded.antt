@@ -2,13 +2,13 @@
 use Rattle.std.specs.Prelude.{◌≡◌, Some, None, Bool, true, false}
 use Rattle.bdd_store.specs.Diagram.{Diagram, IsLive, table}
 use Rattle.bdd_ops.specs.Functions.{Function}
-use Rattle.smv_abstraction.specs.Obligations.{Demanded, defined, holds, obligation}
-use Rattle.law_codes.specs.Readings.{Case}
-use Rattle.law_case_lists.specs.CaseLists.{old_state, new_state, met_first, met_step}
+use Rattle.law_obligations.specs.Obligations.{Demanded, defined, holds, obligation}
+use Rattle.law_obligations.specs.Readings.{Case}
+use Rattle.law_reports.specs.CaseLists.{old_state, new_state, met_first, met_step}
 use Rattle.smv_problem.specs.declared.problem.Problem.{Problem}
 use Rattle.smv_cells.specs.Cells.{AreCellsMade}
 use Rattle.smv_cells.specs.Seen.{IsSeen}
-use Rattle.smv_coded_cells.specs.Coded.{view_at}
+use Rattle.smv_encode.specs.Coded.{view_at}
 use Rattle.smv_encode.specs.declared.cells.Cells.{Cells}
 
 -- a demand is met: at time 0, or in a step

@@ -1,13 +1,13 @@
 // The cells of both times.
 ghost use Rattle.std.specs.Prelude.{◌≡◌, ◌*◌, IfOk};
 ghost use Rattle.bdd_store.specs.Diagram.{Keeps};
-ghost use Rattle.law_codes.specs.Readings.{state_bits};
+ghost use Rattle.law_obligations.specs.Readings.{state_bits};
 ghost use Rattle.smv_problem.specs.WellFormed.{IsProblem, OfCases};
 ghost use Rattle.smv_encode.specs.Encoded.{AreLiveCells, AreCellsOf};
 
+use crate::cells_at;
 use bdd_store::{Ref, Store};
 use smv_cells::Cell;
-use smv_coded_cells::cells_at;
 use smv_problem::Problem;
 use std::alloc::{AllocError, Global};
 

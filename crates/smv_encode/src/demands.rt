@@ -1,17 +1,17 @@
 // The functions of one demand and of the target, each with cells of its own.
 ghost use Rattle.std.specs.Prelude.{◌≡◌, ◌*◌, ℕ, Bool, Some, None, IfOk};
 ghost use Rattle.bdd_store.specs.Diagram.{IsLive, Keeps, table};
-ghost use Rattle.smv_abstraction.specs.Obligations.{Demanded, obligation};
-ghost use Rattle.law_codes.specs.Readings.{state_bits};
-ghost use Rattle.law_case_lists.specs.CaseLists.{old_state, new_state, met_first, met_step};
+ghost use Rattle.law_obligations.specs.Obligations.{Demanded, obligation};
+ghost use Rattle.law_obligations.specs.Readings.{state_bits};
+ghost use Rattle.law_reports.specs.CaseLists.{old_state, new_state, met_first, met_step};
 ghost use Rattle.smv_problem.specs.Written.{written_demand};
 ghost use Rattle.smv_problem.specs.WellFormed.{IsProblem, OfCases, IsFit};
 ghost use Rattle.smv_encode.specs.Encoded.{IsKept};
 
 use crate::cells::cells_of;
+use crate::cells_at;
 use crate::times::{broken_first_by, broken_step_by, first_by, step_by};
 use bdd_store::{Ref, Store};
-use smv_coded_cells::cells_at;
 use smv_problem::{Demand, Problem};
 use std::alloc::{AllocError, Global};
 

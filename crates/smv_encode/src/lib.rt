@@ -1,13 +1,20 @@
-//! Where demands are met and where the target is broken, as functions of the state bits: at time 0 in the state of the current bits, and in a step in that of the next bits behind that of
-//! the current ones.
+//! The lists of functions of a problem, over its current and next bits: what the search over its states stands on.
 //!
-//! For the relations, and for whoever wants the function of one demand. `cells` makes the cells of both times once for a problem; the functions of `times` stand on them, and
-//! `demands` has the same calls for one demand alone. A reader begins with `specs/Encoded`.
+//! For whoever decides a case. A reader begins with `relations` and `CaseLists` of `law_reports`, which says what each list has. The cells of both times are made once for a problem
+//! (`coded`, `times`): `specs/Coded` says which states cells are right for, those that the bits are read as; `demands` has the function of each demand, and `specs/Encoded` says of which
+//! assignments it is true; `specs/Parts` says what each function of `lists`, `elements` and `chosen` adds to a list. `kept_stores` joins what two crates say of a store that grows.
 #![tactic(auto)]
 
 pub mod cells;
+mod chosen;
+mod coded;
 pub mod demands;
+mod elements;
+pub mod kept_stores;
+mod lists;
 pub mod times;
 
 pub use cells::{Cells, cells_of};
+pub use coded::{cells_at, value_at, width};
 pub use demands::{broken_first, broken_step, first, step};
+pub use lists::relations;

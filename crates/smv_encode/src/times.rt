@@ -2,15 +2,15 @@
 ghost use Rattle.std.specs.Prelude.{◌≡◌, ℕ, Bool, true, false, Some, None, IfOk};
 ghost use Rattle.std.specs.List.{list_all};
 ghost use Rattle.bdd_store.specs.Diagram.{IsLive, Keeps, table};
-ghost use Rattle.smv_abstraction.specs.Sets.{Has};
-ghost use Rattle.smv_abstraction.specs.Obligations.{Demanded, is_broken, may_hold as may_hold_in};
+ghost use Rattle.law_obligations.specs.Sets.{Has};
+ghost use Rattle.law_obligations.specs.Obligations.{Demanded, is_broken, may_hold as may_hold_in};
 ghost use Rattle.smv_core.specs.declared.flat.Guard.{Guard as GuardData};
-ghost use Rattle.law_case_lists.specs.CaseLists.{old_state, new_state, met_first, met_step};
+ghost use Rattle.law_reports.specs.CaseLists.{old_state, new_state, met_first, met_step};
 ghost use Rattle.smv_problem.specs.Written.{written_demand};
 ghost use Rattle.smv_problem.specs.WellFormed.{OfCases, IsFit};
 ghost use Rattle.smv_cells.specs.Cells.{AreCellsMade};
 ghost use Rattle.smv_cells.specs.Seen.{IsSeen};
-ghost use Rattle.smv_coded_cells.specs.Coded.{view_at, state_at};
+ghost use Rattle.smv_encode.specs.Coded.{view_at, state_at};
 ghost use Rattle.smv_encode.specs.Encoded.{met_at as met_function, broken_at, IsKept, AreLiveCells, AreCellsOf};
 
 use crate::cells::Cells;
@@ -18,8 +18,8 @@ use bdd_ops::and;
 use bdd_store::{Ref, Store};
 use smv_cells::Cell;
 use smv_core::flat::Guard;
-use smv_demands::demands::{broken, may_hold, met};
 use smv_problem::{Demand, Problem};
+use smv_walks::demands::{broken, may_hold, met};
 use std::alloc::{AllocError, Global};
 
 /// Where a demand is met at time 0, by the cells of the current bits.

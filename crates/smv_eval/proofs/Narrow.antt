@@ -11,16 +11,16 @@ use Rattle.smv_core.specs.declared.flat.SetInfo.{SetInfo}
 use Rattle.smv_core.specs.declared.flat.Simple.{Simple}
 use Rattle.smv_core.specs.declared.flat.Simple.TheVariants.{Range, Enum, Set}
 use Rattle.smv_core.specs.declared.flat.FlatExpr.{FlatExpr, Number, Read', Var, Loop, Constant, Not', And', Or', Implies', Iff', Compare', Within', Sum', Modulo', Choose', All', Any', List', Each', end_of-FlatExpr, more_of-FlatExpr, Row_of-FlatSigned, end_of-FlatSigned, more_of-FlatSigned}
-use Rattle.smv_abstraction.specs.declared.abstract_type.Rest.{Rest}
-use Rattle.smv_abstraction.specs.declared.abstract_type.Rest.TheVariants as beside
-use Rattle.smv_abstraction.specs.Sets.{Has, first, later, one_of_each, parts, pairs, all_there}
-use Rattle.smv_abstraction.specs.Places.{Place, named, rest, World, places_of, named_of, rests_of, rests_beside, named_in, rests_in, places_in, AbsOutcome, valued, as_place, equal_places, where_defined, may_compare, bind_place}
-use Rattle.smv_abstraction.specs.May.{AbsState, Kept, seen, shown, place_within, quantified, places_at, may_read, may, may_each, may_sum, may_listed}
-use Rattle.smv_abstraction.specs.Pictures.{IsAbsState}
-use Rattle.smv_abstraction.proofs.Members.{Has-cases, Has-from_map, Has-uncons}
-use Rattle.smv_abstraction.proofs.Spots.{numbers-Has}
-use Rattle.smv_abstraction.proofs.OneOfEach.{Has-from_flat_map, get_Has}
-use Rattle.law_codes.specs.Readings.{Case}
+use Rattle.smv_core.specs.declared.abstract_type.Rest.{Rest}
+use Rattle.smv_core.specs.declared.abstract_type.Rest.TheVariants as beside
+use Rattle.law_obligations.specs.Sets.{Has, first, later, one_of_each, parts, pairs, all_there}
+use Rattle.law_obligations.specs.Places.{Place, named, rest, World, places_of, named_of, rests_of, rests_beside, named_in, rests_in, places_in, AbsOutcome, valued, as_place, equal_places, where_defined, may_compare, bind_place}
+use Rattle.law_obligations.specs.May.{AbsState, Kept, seen, shown, place_within, quantified, places_at, may_read, may, may_each, may_sum, may_listed}
+use Rattle.law_obligations.specs.Pictures.{IsAbsState}
+use Rattle.law_obligations.proofs.Members.{Has-cases, Has-from_map, Has-uncons}
+use Rattle.law_obligations.proofs.Spots.{numbers-Has}
+use Rattle.law_obligations.proofs.OneOfEach.{Has-from_flat_map, get_Has}
+use Rattle.law_obligations.specs.Readings.{Case}
 use Rattle.smv_problem.specs.WellFormed.{AreOf, IsWellFormed}
 
 -- a class or a rest below 256

@@ -10,20 +10,20 @@ use Rattle.smv_core.specs.declared.flat.Simple.TheVariants.{Range, Enum, Set}
 use Rattle.smv_core.specs.declared.flat.Family.{Family}
 use Rattle.smv_core.specs.declared.flat.Raw.{Raw}
 use Rattle.smv_core.specs.declared.flat.FlatExpr.{FlatExpr, Number, Read', Var, Loop, Constant, Not', And', Or', Implies', Iff', Compare', Within', Sum', Modulo', Choose, Choose', All', Any', List', Each', end_of-FlatExpr, more_of-FlatExpr}
-use Rattle.smv_abstraction.specs.Sets.{Has, first, later}
-use Rattle.smv_abstraction.specs.Places.{Place, named, rest, World, AbsOutcome}
-use Rattle.smv_abstraction.specs.May.{AbsState, may}
-use Rattle.smv_abstraction.specs.Pictures.{IsAbsState}
-use Rattle.smv_abstraction.specs.Covers.{IsIndexType}
-use Rattle.smv_abstraction.proofs.Members.{Has-left, Has-right, Has-cases, Has-map, Has-from_map, Has-uncons, any-found, any-some}
-use Rattle.smv_abstraction.proofs.Tests.{left_of, right_of, and_both}
-use Rattle.smv_abstraction.proofs.Same.{nat_eq-is, nat_eq-itself, same_outcome, same_outcome-itself, same_outcome-is}
-use Rattle.smv_abstraction.proofs.Computing.{computing}
-use Rattle.smv_abstraction.proofs.OneOfEach.{get_Has}
+use Rattle.law_obligations.specs.Sets.{Has, first, later}
+use Rattle.law_obligations.specs.Places.{Place, named, rest, World, AbsOutcome}
+use Rattle.law_obligations.specs.May.{AbsState, may}
+use Rattle.law_obligations.specs.Pictures.{IsAbsState}
+use Rattle.law_obligations.specs.Covers.{IsIndexType}
+use Rattle.law_obligations.proofs.Members.{Has-left, Has-right, Has-cases, Has-map, Has-from_map, Has-uncons, any-found, any-some}
+use Rattle.law_obligations.proofs.Tests.{left_of, right_of, and_both}
+use Rattle.law_obligations.proofs.Same.{nat_eq-is, nat_eq-itself, same_outcome, same_outcome-itself, same_outcome-is}
+use Rattle.law_obligations.proofs.Computing.{computing}
+use Rattle.law_obligations.proofs.OneOfEach.{get_Has}
 use Rattle.law_obligations.specs.Outlines.{place_of}
-use Rattle.law_flat_kinds.specs.FlatKinds as kinds
-use Rattle.law_flat_kinds.specs.FlatKinds.{Kind, enumeration, set_type, kind_of, joins, joined}
-use Rattle.law_codes.specs.Readings.{Case}
+use Rattle.law_designs.specs.FlatKinds as kinds
+use Rattle.law_designs.specs.FlatKinds.{Kind, enumeration, set_type, kind_of, joins, joined}
+use Rattle.law_obligations.specs.Readings.{Case}
 use Rattle.smv_spots.specs.declared.spots.Spot.{Spot}
 use Rattle.smv_spots.specs.declared.spots.Spot.TheVariants as spot
 use Rattle.smv_spots.specs.Spots.{place_in as place_at, outcome_in, of_set}
@@ -43,7 +43,7 @@ use Rattle.smv_cells.specs.declared.cells.Cell.{Cell}
 use Rattle.smv_cells.specs.Cells.{AreCellsMade}
 use Rattle.smv_cells.specs.Seen.{View, IsSeen, outcomes}
 use Rattle.smv_outcomes.specs.Outcomes.{AreOffersOf}
-use Rattle.smv_states.specs.States.{plainly, view_of}
+use Rattle.smv_eval.specs.States.{plainly, view_of}
 use Rattle.smv_eval.specs.Answers.{AreOnce, IsSetOf, list_of, list_over, list_for, list_in, place_in, constant_in, value_at, is_same_value, with_value, with_offer, with_offers}
 use Rattle.smv_eval.proofs.Narrow.{Narrow, IsNarrow, outcomes_narrow}
 

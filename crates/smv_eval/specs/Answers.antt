@@ -5,9 +5,9 @@ use Rattle.smv_core.specs.declared.flat.Simple.{Simple}
 use Rattle.smv_core.specs.declared.flat.Simple.TheVariants.{Enum}
 use Rattle.smv_core.specs.declared.flat.Family.{Family}
 use Rattle.smv_core.specs.declared.flat.FlatExpr.{FlatExpr, Read', Constant, Choose', end_of-FlatExpr, more_of-FlatExpr}
-use Rattle.smv_abstraction.specs.Sets.{Has}
-use Rattle.law_flat_kinds.specs.FlatKinds.{Kind, enumeration}
-use Rattle.law_written_values.specs.Values.{same_value}
+use Rattle.law_obligations.specs.Sets.{Has}
+use Rattle.law_designs.specs.FlatKinds.{Kind, enumeration}
+use Rattle.law_problems.specs.Values.{same_value}
 use Rattle.smv_spots.specs.declared.spots.Spot.TheVariants as spot
 use Rattle.smv_spots.specs.declared.spots.Spot.{Spot}
 use Rattle.smv_problem.specs.declared.problem.Problem.{Problem}

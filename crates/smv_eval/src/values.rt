@@ -2,16 +2,17 @@
 ghost use Rattle.std.specs.Prelude.{◌≡◌, List, IfOk, OnOk, map, min, position, slice_get, unwrap_or, nat_eq, []};
 ghost use Rattle.std.specs.List.{list_any};
 ghost use Rattle.smv_core.specs.declared.flat.Simple.{Simple as Over};
-ghost use Rattle.smv_abstraction.specs.Sets.{Has};
-ghost use Rattle.smv_abstraction.specs.Places.{Place};
-ghost use Rattle.smv_abstraction.specs.May.{may as may_be};
-ghost use Rattle.smv_abstraction.specs.Covers.{IsIndexType};
-ghost use Rattle.law_flat_kinds.specs.FlatKinds.{Kind};
+ghost use Rattle.law_obligations.specs.Sets.{Has};
+ghost use Rattle.law_obligations.specs.Places.{Place};
+ghost use Rattle.law_obligations.specs.May.{may as may_be};
+ghost use Rattle.law_obligations.specs.Covers.{IsIndexType};
+ghost use Rattle.law_designs.specs.FlatKinds.{Kind};
 ghost use Rattle.smv_problem.specs.Written.{written_spot, written_outcome};
 ghost use Rattle.smv_problem.specs.WellFormed.{IsProblem, IsOfKind, OfStates};
 ghost use Rattle.smv_eval.specs.Answers as spec;
 ghost use Rattle.smv_eval.specs.Answers.{IsSetOf, is_same_value, with_offer, with_offers, with_value};
 
+use crate::cells_of;
 use smv_conditions::offers::Offer;
 use smv_conditions::stores::Plain;
 use smv_core::Seq;
@@ -20,7 +21,6 @@ use smv_outcomes::expressions::offers_for;
 use smv_problem::{AbsState, AbsValue, Problem};
 use smv_problem_spots::numbers::{constants, name_number};
 use smv_spots::spots::Spot;
-use smv_states::cells_of;
 use std::alloc::{AllocError, Global};
 
 // The enumeration of a type, if it is one.

@@ -6,7 +6,7 @@ use smv_posed::elements::tell_element;
 use smv_posed::problems::{plan_of, problem_at};
 use smv_posed::texts::{ALONE, LASTING, MUTEX, PARTED, REDUCED, RESTS, SPLIT, TOTAL};
 use smv_problem::Problem;
-use smv_state_bits::state_bits;
+use smv_readings::state_bits;
 use std::alloc::{AllocError, Global};
 use std::test::Fail;
 

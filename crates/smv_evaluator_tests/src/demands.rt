@@ -4,8 +4,7 @@ ghost use Rattle.smv_problem.specs.WellFormed.{IsProblem};
 
 use crate::states::{States, keys, keys_of, states_of};
 use smv_core::Refusal;
-use smv_held::{broken, met};
-use smv_must::must;
+use smv_eval::{broken, is_state, met, must};
 use smv_posed::problems::posed;
 use smv_posed::texts::{
     ALL, ALONE, AT_ONCE, CLAIMS, COPIED, EACH, GROWS, GUARDED, INDEX, LASTING, MARKED, MUTEX, OPEN,
@@ -13,7 +12,6 @@ use smv_posed::texts::{
     UNKNOWN,
 };
 use smv_problem::{Demand, Problem};
-use smv_states::is_state;
 use std::alloc::{AllocError, Global};
 use std::test::Fail;
 

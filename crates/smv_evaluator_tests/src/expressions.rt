@@ -4,11 +4,10 @@ ghost use Rattle.smv_problem.specs.WellFormed.{IsProblem};
 
 use crate::states::{keys, keys_of, state_of};
 use smv_core::Refusal;
-use smv_eval::may;
+use smv_eval::{is_state, may};
 use smv_posed::problems::posed;
 use smv_posed::texts::{ALL, INDEX, ORDER};
 use smv_problem::{AbsState, Demand, Problem};
-use smv_states::is_state;
 use std::alloc::{AllocError, Global};
 use std::test::Fail;
 

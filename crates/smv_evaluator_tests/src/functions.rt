@@ -8,14 +8,13 @@ use bdd_store::{Ref, Store};
 use smv_cells::Cell;
 use smv_core::flat::Element;
 use smv_elements::order::is_same;
-use smv_held::demands::{demand_met, is_broken_by};
+use smv_eval::cells_of;
+use smv_eval::demands::{demand_met, is_broken_by};
 use smv_posed::bits::{Bits, value_at};
 use smv_posed::functions::Functions;
 use smv_problem::{Demand, Problem};
-use smv_readings::read_state;
+use smv_readings::{family_bits, read_state, state_bits, values};
 use smv_rings::Rel;
-use smv_state_bits::{family_bits, state_bits, values};
-use smv_states::cells_of;
 use std::alloc::{AllocError, Global};
 
 /// How many functions were met and how many were not, and how many of them the evaluator finds otherwise.

@@ -14,8 +14,8 @@ use smv_posed::functions::{Functions, functions_of};
 use smv_posed::problems::{plan_of, posed, problem_at};
 use smv_posed::texts::MACHINE;
 use smv_problem::Problem;
+use smv_readings::{family_bits, state_bits};
 use smv_spots::spots::Spot;
-use smv_state_bits::{family_bits, state_bits};
 use std::alloc::{AllocError, Global};
 use std::test::Fail;
 

@@ -12,8 +12,8 @@ use Rattle.smv_core.specs.declared.tree.TypeExpr.{TypeExpr, Boolean, Range, Enum
 use mathlib.Core.Former.{Count}
 use Rattle.smv_instances.specs.Scopes.{has_name}
 use Rattle.smv_scope.specs.Numbered.{field_named}
-use Rattle.law_kinds.specs.Kinds.{number, enumeration}
-use Rattle.law_kinds.specs.Types.{Types, Leads, Whole, single, under, value_kind, leads, leads_field}
+use Rattle.law_designs.specs.Kinds.{number, enumeration}
+use Rattle.law_designs.specs.Types.{Types, Leads, Whole, single, under, value_kind, leads, leads_field}
 use Rattle.smv_expression_kinds.specs.declared.kinds.ValueKind.{ValueKind}
 use Rattle.smv_expression_kinds.specs.declared.kinds.ValueKind.TheVariants as kind
 use Rattle.smv_expression_kinds.specs.declared.tables.Form.{Form}

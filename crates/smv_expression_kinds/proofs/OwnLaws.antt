@@ -12,7 +12,7 @@ use Rattle.smv_core.specs.declared.tree.Top.TheVariants.{SetType, Alias, Module 
 use Rattle.smv_instances.specs.Mentions.{Mention}
 use Rattle.smv_instances.specs.Scopes.{Known, Own, piece_of, known_after, pieces_from, own_names}
 use Rattle.smv_scope.specs.Numbered.{mentions_at}
-use Rattle.law_kinds.specs.Types.{Types}
+use Rattle.law_designs.specs.Types.{Types}
 use Rattle.smv_expression_kinds.specs.Forms.{module_in}
 
 -- what a top says does not hang on the types before it

@@ -12,9 +12,9 @@ use Rattle.smv_instances.specs.Scopes.{Own, pieces, constants}
 use Rattle.smv_core.specs.declared.tree.Role.{Role}
 use Rattle.smv_core.specs.declared.tree.TypeExpr.{TypeExpr}
 use Rattle.smv_instances.specs.Mentions.{What, signal}
-use Rattle.law_kinds.specs.Types.{Types, Whole, leads, value_kind, index_kind, types_after}
-use Rattle.law_kinds.specs.References.{Module, modules_from, behind, signal_at}
-use Rattle.law_enumerations.specs.Owned.{IsOwned, LeadsOwned}
+use Rattle.law_designs.specs.Types.{Types, Whole, leads, value_kind, index_kind, types_after}
+use Rattle.law_designs.specs.References.{Module, modules_from, behind, signal_at}
+use Rattle.law_designs.specs.Owned.{IsOwned, LeadsOwned}
 use Rattle.smv_expression_kinds.specs.declared.lookups.Scope.{Scope as HeldScope}
 use Rattle.smv_expression_kinds.specs.Forms.{types_from, module_in, AreOwned}
 use Rattle.smv_expression_kinds.specs.Found.{scope_of}

@@ -9,8 +9,8 @@ use Rattle.smv_core.specs.declared.tree.Part.{Part, Field as FieldPart, At}
 use Rattle.smv_core.specs.declared.tree.Field.{Field, out-Field}
 use Rattle.smv_core.specs.declared.tree.TypeExpr.{TypeExpr}
 use Rattle.smv_scope.specs.Numbered.{field_named}
-use Rattle.law_kinds.specs.Kinds.{Kind}
-use Rattle.law_kinds.specs.Types.{Whole, under, leads}
+use Rattle.law_designs.specs.Kinds.{Kind}
+use Rattle.law_designs.specs.Types.{Whole, under, leads}
 use Rattle.smv_expression_kinds.specs.declared.kinds.ValueKind.{ValueKind}
 use Rattle.smv_expression_kinds.specs.declared.tables.Form.{Form}
 use Rattle.smv_expression_kinds.specs.declared.tables.Form.TheVariants as form

@@ -9,7 +9,7 @@ use Rattle.smv_core.specs.declared.tree.Text.{Text}
 use Rattle.smv_core.specs.declared.tree.Top.{Top}
 use Rattle.smv_core.specs.declared.tree.Top.TheVariants.{SetType, Alias, Module as ModuleOf}
 use Rattle.smv_core.specs.declared.tree.Part.{Part}
-use Rattle.law_kinds.specs.Types.{Types, Leads, Whole, types_after}
+use Rattle.law_designs.specs.Types.{Types, Leads, Whole, types_after}
 use Rattle.smv_expression_kinds.specs.Forms.{types_from, types_before, top_leads, leads_at, types_in, modules_in, type_before}
 
 pub types-step : (n : ℕ) (top : Top) (tops : List Top) → types_in n (top ∷ tops) ≡ types_in n (top ∷ []) ++ types_in (n + 1) tops

@@ -12,9 +12,9 @@ use Rattle.smv_core.specs.declared.tree.Top.TheVariants.{SetType, Alias, Module 
 use Rattle.smv_core.specs.declared.tree.Part.{Part, Field, At}
 use Rattle.smv_instances.specs.Mentions.{instance}
 use Rattle.smv_instances.specs.Scopes.{Own, Constant, pieces, constants}
-use Rattle.law_kinds.specs.Kinds.{Kind, enumeration}
-use Rattle.law_kinds.specs.Types.{Types, Whole, single, types_after}
-use Rattle.law_kinds.specs.References.{Module, modules_from, Scope, Vars, behind, signal_at, constant_at, variable_at, reference_at}
+use Rattle.law_designs.specs.Kinds.{Kind, enumeration}
+use Rattle.law_designs.specs.Types.{Types, Whole, single, types_after}
+use Rattle.law_designs.specs.References.{Module, modules_from, Scope, Vars, behind, signal_at, constant_at, variable_at, reference_at}
 use Rattle.smv_expression_kinds.specs.declared.lookups.Scope.{Scope as HeldScope}
 use Rattle.smv_scope.specs.Held.{own_of, constant_beside}
 use Rattle.smv_scope.proofs.PieceLaws.{constant-found}

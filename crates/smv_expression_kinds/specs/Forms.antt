@@ -14,10 +14,10 @@ use Rattle.smv_scope.specs.Numbered.{field_named}
 use Rattle.smv_scope.specs.Held.{AreTables}
 use Rattle.smv_scope.specs.Compared.{listed}
 use Rattle.smv_scope.specs.declared.tables.Tables.{Tables as ScopeTables}
-use Rattle.law_kinds.specs.Kinds.{Kind, number, enumeration, set_type, no_kind}
-use Rattle.law_kinds.specs.Types.{Types, Leads, single, under, leads, types_after}
-use Rattle.law_kinds.specs.References.{Module, module_of}
-use Rattle.law_enumerations.specs.Owned.{LeadsOwned}
+use Rattle.law_designs.specs.Kinds.{Kind, number, enumeration, set_type, no_kind}
+use Rattle.law_designs.specs.Types.{Types, Leads, single, under, leads, types_after}
+use Rattle.law_designs.specs.References.{Module, module_of}
+use Rattle.law_designs.specs.Owned.{LeadsOwned}
 use Rattle.smv_expression_kinds.specs.declared.kinds.ValueKind.{ValueKind}
 use Rattle.smv_expression_kinds.specs.declared.kinds.ValueKind.TheVariants.{Number, Enumeration, Listed, SetType, Unknown}
 use Rattle.smv_expression_kinds.specs.declared.tables.Form.{Form}

@@ -3,9 +3,9 @@ use Rattle.std.specs.Prelude.{ℕ, List, [], ◌∷◌, ◌++◌, map, slice_get
 use Rattle.smv_core.specs.declared.tree.Word.{Word}
 use Rattle.smv_core.specs.declared.tree.Text.{Text}
 use Rattle.smv_core.specs.declared.tree.Part.{Part, Field}
-use Rattle.law_kinds.specs.Kinds.{Kind}
-use Rattle.law_kinds.specs.Types.{Whole, Leads}
-use Rattle.law_kinds.specs.References.{modules_from, Scope, Vars, behind}
+use Rattle.law_designs.specs.Kinds.{Kind}
+use Rattle.law_designs.specs.Types.{Whole, Leads}
+use Rattle.law_designs.specs.References.{modules_from, Scope, Vars, behind}
 use Rattle.smv_expression_kinds.specs.Forms.{kind_of, types_before, module_in, form_leads}
 use Rattle.smv_expression_kinds.specs.declared.paths.Whole.{Whole as HeldWhole}
 use Rattle.smv_expression_kinds.specs.declared.paths.Reached.{Reached}

@@ -3,8 +3,8 @@ ghost use Rattle.std.specs.Prelude.{◌≡◌, ◌++◌, IfOk, OnOk};
 ghost use Rattle.smv_core.specs.Types.{names_of};
 ghost use Rattle.smv_instances.specs.NameFaults.{place_if};
 ghost use Rattle.smv_instances.specs.FirstFault.{faults_at};
-ghost use Rattle.law_kinds.specs.Kinds as spec;
-ghost use Rattle.law_kinds.specs.Types as types;
+ghost use Rattle.law_designs.specs.Kinds as spec;
+ghost use Rattle.law_designs.specs.Types as types;
 ghost use Rattle.smv_scope.specs.Compared.{listed};
 ghost use Rattle.smv_scope.specs.declared.tables.Tables.{Tables as ScopeTables};
 ghost use Rattle.smv_expression_kinds.specs.Forms.{kind_of, misfit};
@@ -39,7 +39,7 @@ pub struct Operand<'a> {
 }
 
 // A number and a kind may stand side by side.
-#[tactic(auto, unfolding(law_kinds::specs::Kinds::joins))]
+#[tactic(auto, unfolding(law_designs::specs::Kinds::joins))]
 fn joins_number(other: ValueKind) -> bool
     ensures { (names : ScopeTables) → result ≡ spec.joins spec.number (kind_of names other.entry) }
 {
@@ -53,7 +53,7 @@ fn joins_number(other: ValueKind) -> bool
 }
 
 // A constant of an enumeration and a kind may stand side by side.
-#[tactic(auto, unfolding(law_kinds::specs::Kinds::joins))]
+#[tactic(auto, unfolding(law_designs::specs::Kinds::joins))]
 fn joins_enumeration(names: &ScopeTables, words: &[Word], other: ValueKind) -> bool
     ensures { result ≡ spec.joins (spec.enumeration (names_of words.now)) (kind_of names.now other.entry) }
 {
@@ -67,7 +67,7 @@ fn joins_enumeration(names: &ScopeTables, words: &[Word], other: ValueKind) -> b
 }
 
 // A constant of the list of a number and a kind may stand side by side.
-#[tactic(auto, unfolding(law_kinds::specs::Kinds::joins))]
+#[tactic(auto, unfolding(law_designs::specs::Kinds::joins))]
 fn joins_listed(names: &ScopeTables, list: usize, other: ValueKind) -> bool
     ensures { result ≡ spec.joins (spec.enumeration (listed names.now.lists.items list)) (kind_of names.now other.entry) }
 {
@@ -81,7 +81,7 @@ fn joins_listed(names: &ScopeTables, list: usize, other: ValueKind) -> bool
 }
 
 // A value of a set type and a kind may stand side by side.
-#[tactic(auto, unfolding(law_kinds::specs::Kinds::joins))]
+#[tactic(auto, unfolding(law_designs::specs::Kinds::joins))]
 fn joins_set_type(name: &Name, other: ValueKind) -> bool
     ensures { (names : ScopeTables) → result ≡ spec.joins (spec.set_type name.now) (kind_of names other.entry) }
 {
@@ -95,7 +95,7 @@ fn joins_set_type(name: &Name, other: ValueKind) -> bool
 }
 
 /// Two kinds may stand side by side.
-#[tactic(auto, unfolding(law_kinds::specs::Kinds::joins))]
+#[tactic(auto, unfolding(law_designs::specs::Kinds::joins))]
 pub fn joins(names: &ScopeTables, kind: ValueKind, other: ValueKind) -> bool
     ensures { result ≡ spec.joins (kind_of names.now kind.entry) (kind_of names.now other.entry) }
 {
@@ -109,7 +109,7 @@ pub fn joins(names: &ScopeTables, kind: ValueKind, other: ValueKind) -> bool
 }
 
 /// The kind of two together.
-#[tactic(auto, unfolding(law_kinds::specs::Kinds::joined))]
+#[tactic(auto, unfolding(law_designs::specs::Kinds::joined))]
 pub fn joined<'a>(kind: ValueKind<'a>, other: ValueKind<'a>) -> ValueKind<'a>
     ensures { (names : ScopeTables) → kind_of names result ≡ spec.joined (kind_of names kind.entry) (kind_of names other.entry) }
 {
@@ -129,7 +129,7 @@ pub fn joined<'a>(kind: ValueKind<'a>, other: ValueKind<'a>) -> ValueKind<'a>
 }
 
 /// It may stand where a number is wanted.
-#[tactic(auto, unfolding(law_kinds::specs::Kinds::is_number, law_kinds::specs::Kinds::accepts, law_kinds::specs::Kinds::joins))]
+#[tactic(auto, unfolding(law_designs::specs::Kinds::is_number, law_designs::specs::Kinds::accepts, law_designs::specs::Kinds::joins))]
 pub fn is_number(kind: ValueKind) -> bool
     ensures { (names : ScopeTables) → result ≡ spec.is_number (kind_of names kind.entry) }
 {
@@ -143,7 +143,7 @@ pub fn is_number(kind: ValueKind) -> bool
 }
 
 /// What is of the first kind takes a value of the second.
-#[tactic(auto, unfolding(law_kinds::specs::Kinds::accepts, law_kinds::specs::Kinds::joins, law_kinds::specs::Kinds::is_number))]
+#[tactic(auto, unfolding(law_designs::specs::Kinds::accepts, law_designs::specs::Kinds::joins, law_designs::specs::Kinds::is_number))]
 pub fn accepts(names: &ScopeTables, target: ValueKind, kind: ValueKind) -> bool
     ensures { result ≡ spec.accepts (kind_of names.now target.entry) (kind_of names.now kind.entry) }
 {
@@ -157,7 +157,7 @@ pub fn accepts(names: &ScopeTables, target: ValueKind, kind: ValueKind) -> bool
 }
 
 /// It may stand beside an order.
-#[tactic(auto, unfolding(law_kinds::specs::Kinds::has_order))]
+#[tactic(auto, unfolding(law_designs::specs::Kinds::has_order))]
 pub fn has_order(kind: ValueKind) -> bool
     ensures { (names : ScopeTables) → result ≡ spec.has_order (kind_of names kind.entry) }
 {

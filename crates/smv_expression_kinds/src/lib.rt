@@ -1,6 +1,6 @@
 //! What types, names and paths lead to, and the kinds of values.
 //!
-//! For `smv_kinds`. It answers what `law_kinds/specs` says of types, paths and operands; names are found by hash.
+//! For `smv_kinds`. It answers what `law_designs/specs` says of types, paths and operands; names are found by hash.
 #![tactic(auto)]
 
 pub mod kinds;

@@ -3,11 +3,11 @@ ghost use Rattle.std.specs.Prelude.{◌≡◌, option_map};
 ghost use Rattle.smv_core.specs.Types.{names_of};
 ghost use Rattle.smv_core.specs.Outcome.{same_path};
 ghost use Rattle.smv_instances.specs.Scopes.{pieces, constants};
-ghost use Rattle.law_kinds.specs.Kinds.{enumeration};
+ghost use Rattle.law_designs.specs.Kinds.{enumeration};
 ghost use Rattle.smv_scope.specs.Compared.{listed};
 ghost use Rattle.smv_scope.specs.Held.{AreTables};
 ghost use Rattle.smv_expression_kinds.specs.Forms.{kind_of};
-ghost use Rattle.law_enumerations.specs.Owned.{owner, IsOwned};
+ghost use Rattle.law_designs.specs.Owned.{owner, IsOwned};
 
 use crate::kinds::ValueKind;
 use smv_core::tree::Word;

@@ -4,11 +4,11 @@ ghost use Rattle.smv_core.specs.Types.{find_name};
 ghost use Rattle.smv_scope.specs.declared.tables.Tables.{Tables as ScopeTables};
 ghost use Rattle.smv_instances.specs.Scopes.{constants, pieces};
 ghost use Rattle.smv_scope.specs.Held.{AreTables};
-ghost use Rattle.law_kinds.specs.Kinds as kinds;
-ghost use Rattle.law_kinds.specs.Types as types;
-ghost use Rattle.law_kinds.specs.References as references;
+ghost use Rattle.law_designs.specs.Kinds as kinds;
+ghost use Rattle.law_designs.specs.Types as types;
+ghost use Rattle.law_designs.specs.References as references;
 ghost use Rattle.smv_expression_kinds.specs.Forms.{kind_of, form_leads, AreKindTables};
-ghost use Rattle.law_enumerations.specs.Owned.{IsOwned};
+ghost use Rattle.law_designs.specs.Owned.{IsOwned};
 ghost use Rattle.smv_expression_kinds.specs.Found.{vars_of, whole_of, scope_of, moved, lone};
 
 use crate::kinds::ValueKind;

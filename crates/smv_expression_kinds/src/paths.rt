@@ -7,9 +7,9 @@ ghost use Rattle.smv_scope.specs.declared.tables.Tables.{Tables as ScopeTables};
 ghost use Rattle.smv_core.specs.declared.tree.Word.{Word};
 ghost use Rattle.smv_instances.specs.Mentions.{instance};
 ghost use Rattle.smv_scope.specs.Held.{own_of};
-ghost use Rattle.law_kinds.specs.Types.{Types, leads};
-ghost use Rattle.law_kinds.specs.References as references;
-ghost use Rattle.law_kinds.specs.References.{modules_from};
+ghost use Rattle.law_designs.specs.Types.{Types, leads};
+ghost use Rattle.law_designs.specs.References as references;
+ghost use Rattle.law_designs.specs.References.{modules_from};
 ghost use Rattle.smv_expression_kinds.specs.Forms.{kind_of, form_leads, types_before, module_in, AreKindTables};
 ghost use Rattle.smv_expression_kinds.specs.Found.{whole_of, reached_leads, inner_leads, whole_in};
 

@@ -4,13 +4,13 @@ ghost use Rattle.smv_core.specs.declared.tree.Part.{Part};
 ghost use Rattle.smv_scope.specs.Held.{AreTables};
 ghost use Rattle.smv_scope.specs.declared.tables.Tables.{Tables as ScopeTables};
 ghost use Rattle.smv_instances.specs.FirstFault.{first_fault};
-ghost use Rattle.law_kinds.specs.Types.{leads, value_kind};
+ghost use Rattle.law_designs.specs.Types.{leads, value_kind};
 ghost use Rattle.smv_instances.specs.Said.{AreNoted};
 ghost use Rattle.smv_expression_kinds.specs.Forms.{kind_of, types_before, type_before, types_in, modules_in, leads_at, form_leads, AreForms, AreKindTables};
 
 use crate::kinds::ValueKind;
 use crate::lists::numbered;
-use law_enumerations::laws::signals_are_owned;
+use law_designs::enumerations::signals_are_owned;
 use name_index::map::NameMap;
 use smv_core::name::Name;
 use smv_core::tree::{Field, Text, Top, TypeExpr};

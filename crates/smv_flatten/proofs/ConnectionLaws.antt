@@ -20,10 +20,10 @@ use Rattle.smv_core.specs.declared.flat.FlatExpr.{FlatExpr, Read, Constant}
 use Rattle.smv_core.specs.declared.flat.FlatStmt.{Assign}
 use mathlib.Core.Former.{Count}
 use Rattle.smv_instances.proofs.Computing.{computing}
-use Rattle.law_flattening.specs.Numbers.{Scope, family_number, or_signal}
-use Rattle.law_flattening.specs.Statements.{flat_expr, first_token}
-use Rattle.law_flattening.specs.Entries.{Binders, formal, given_to, connection, placed_families}
-use Rattle.law_flattening.specs.Flattening.{flat_family, scope_in, within}
+use Rattle.law_designs.specs.Numbers.{Scope, family_number, or_signal}
+use Rattle.law_designs.specs.Statements.{flat_expr, first_token}
+use Rattle.law_designs.specs.Entries.{Binders, formal, given_to, connection, placed_families}
+use Rattle.law_designs.specs.Flattening.{flat_family, scope_in, within}
 use Rattle.smv_flatten_families.specs.declared.numbers.Here.{Here}
 use Rattle.smv_flatten_families.specs.Held.{AreNumbers, instance_of, scope_here}
 use Rattle.smv_flatten_statements.specs.Flattened.{statement_of, expression_of, path_indexes}

@@ -21,10 +21,10 @@ use Rattle.smv_core.specs.declared.flat.Raw.{Raw}
 use Rattle.smv_core.specs.declared.flat.FlatItem.{FlatItem}
 use Rattle.smv_core.specs.declared.flat.FlatItem.TheVariants as item
 use Rattle.smv_instances.proofs.Computing.{computing}
-use Rattle.law_flattening.specs.Numbers.{Scope, bound_in, flat_over}
-use Rattle.law_flattening.specs.Entries as entries
-use Rattle.law_flattening.specs.Entries.{Binders, Entry, Goal, layer, statement, goal, inside_binder}
-use Rattle.law_flattening.specs.Flattening.{within, flat_entry, layer_number, scope_in, layers_of, enums_of, flat_family, with_places, flatten}
+use Rattle.law_designs.specs.Numbers.{Scope, bound_in, flat_over}
+use Rattle.law_designs.specs.Entries as entries
+use Rattle.law_designs.specs.Entries.{Binders, Entry, Goal, layer, statement, goal, inside_binder}
+use Rattle.law_designs.specs.Flattening.{within, flat_entry, layer_number, scope_in, layers_of, enums_of, flat_family, with_places, flatten}
 use Rattle.smv_flatten_families.specs.declared.numbers.Here.{Here}
 use Rattle.smv_flatten_families.specs.declared.numbers.Numbers.{Numbers}
 use Rattle.smv_flatten_families.specs.Held.{AreNumbers, instance_of, scope_here}

@@ -2,8 +2,8 @@
 use Rattle.std.proofs.Common.{◌≡◌, ℕ, zero, suc, ◌+◌, ◌<◌, ◌≤◌, List, [], ◌∷◌, length, get_or, drop, drop-cons, refl, sym, ap, ◌∙◌, arith}
 use Rattle.smv_core.specs.Assignments.{Around, any}
 use Rattle.smv_core.specs.declared.flat.FlatStmt.{FlatStmt, Forall}
-use Rattle.law_flattening.specs.Numbers.{Scope, flat_over}
-use Rattle.law_flattening.specs.Flattening.{params_from, within}
+use Rattle.law_designs.specs.Numbers.{Scope, flat_over}
+use Rattle.law_designs.specs.Flattening.{params_from, within}
 use Rattle.smv_flatten_statements.specs.Around.{around_of}
 use Rattle.smv_flatten.specs.declared.leaves.Binder.{Binder}
 use Rattle.smv_flatten.specs.Leaves.{binders_of}

@@ -10,8 +10,8 @@ use Rattle.smv_core.specs.Types.{types_from}
 use Rattle.smv_core.specs.FlatOrder.{modules, body_of}
 use Rattle.smv_core.specs.declared.tree.Text.{Text}
 use Rattle.smv_core.specs.declared.tree.Stmt.{Stmt}
-use Rattle.law_flattening.specs.Entries.{Binders, Entry, layer, statement, goal, inside_binder, connections, item_entries, entries_in}
-use Rattle.law_flattening.specs.Flattening.{different, layer_of, layers_of, layer_number}
+use Rattle.law_designs.specs.Entries.{Binders, Entry, layer, statement, goal, inside_binder, connections, item_entries, entries_in}
+use Rattle.law_designs.specs.Flattening.{different, layer_of, layers_of, layer_number}
 use Rattle.name_index.specs.Position.{position}
 use Rattle.smv_flatten_families.specs.Held.{path_of}
 use Rattle.smv_flatten.specs.declared.leaves.What.{What}

@@ -15,7 +15,7 @@ use Rattle.smv_core.specs.declared.tree.Pair.{Pair}
 use Rattle.smv_core.specs.declared.tree.Ref.{Ref}
 use Rattle.smv_core.specs.declared.tree.Use.{Use}
 use Rattle.smv_core.specs.declared.tree.Item.{Item, Declare, Instance, Layer, Forall', Block', Claim, Split, Using, Act, Row_of-Item, end_of-Item, more_of-Item}
-use Rattle.law_flattening.specs.Entries.{Binders, Entry, statement, connections, inside_binder, item_entries, items_entries, instance_entries, entries_in, entries}
+use Rattle.law_designs.specs.Entries.{Binders, Entry, statement, connections, inside_binder, item_entries, items_entries, instance_entries, entries_in, entries}
 use Rattle.smv_flatten.specs.Leaves.{leaves, leaves_in}
 use Rattle.smv_flatten.specs.Met.{wrapped, said_in, inside}
 use Rattle.smv_flatten.proofs.ListLaws.{map-map, map-same, map-flat_map, flat_map-flat_map, flat_map-same}

@@ -12,8 +12,8 @@ use Rattle.smv_core.specs.declared.flat.FlatStmt.{FlatStmt, Assign, If, Block, B
 use Rattle.smv_core.specs.declared.flat.FlatItem.{FlatItem}
 use Rattle.smv_core.specs.declared.flat.FlatItem.TheVariants.{Act, Claim, Split, Using}
 use mathlib.Core.Former.{Count}
-use Rattle.law_flattening.specs.Flattening.{flat_assignments, flat_assignments_in, with_places}
-use Rattle.law_flattening.proofs.FlatLists.{boxes}
+use Rattle.law_designs.specs.Flattening.{flat_assignments, flat_assignments_in, with_places}
+use Rattle.law_designs.proofs.FlatLists.{boxes}
 use Rattle.smv_flatten.specs.Places.{assignments_in, weight, with_place}
 
 pub count-Assign : (kind : Kind) (family : ℕ) (left : List FlatExpr) (value : FlatExpr) (at : ℕ) → assignments_in (Assign kind family left value at) ≡ 1

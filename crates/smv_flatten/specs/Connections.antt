@@ -7,8 +7,8 @@ use Rattle.smv_core.specs.declared.tree.Kind.TheVariants.{Comb}
 use Rattle.smv_core.specs.declared.tree.Path.{Path, roll-Path, out-Path}
 use Rattle.smv_core.specs.declared.tree.Expr.{Expr, Signal}
 use Rattle.smv_core.specs.declared.tree.Stmt.{Stmt, Assign}
-use Rattle.law_flattening.specs.Statements.{first_token}
-use Rattle.law_flattening.specs.Entries.{formal, connection}
+use Rattle.law_designs.specs.Statements.{first_token}
+use Rattle.law_designs.specs.Entries.{formal, connection}
 
 -- the connection of a formal of this role
 abbrev pub connected : Name → (Word × Role) × Expr → List Stmt

@@ -8,9 +8,9 @@ use Rattle.smv_core.specs.declared.flat.FlatExpr.{FlatExpr}
 use Rattle.smv_core.specs.declared.flat.FlatStmt.{FlatStmt, Forall}
 use Rattle.smv_core.specs.declared.flat.FlatItem.{FlatItem}
 use Rattle.smv_core.specs.declared.flat.FlatItem.TheVariants.{Act}
-use Rattle.law_flattening.specs.Numbers.{Scope, flat_over, or_signal}
-use Rattle.law_flattening.specs.Entries.{Binders, Goal}
-use Rattle.law_flattening.specs.Flattening.{within, flat_entry, flat_goal}
+use Rattle.law_designs.specs.Numbers.{Scope, flat_over, or_signal}
+use Rattle.law_designs.specs.Entries.{Binders, Goal}
+use Rattle.law_designs.specs.Flattening.{within, flat_entry, flat_goal}
 use Rattle.smv_flatten_statements.specs.Flattened.{statement_of}
 use Rattle.smv_flatten.specs.declared.leaves.What.{What}
 use Rattle.smv_flatten_families.specs.Held.{path_of}

@@ -3,7 +3,7 @@ use Rattle.std.specs.Prelude.{◌++◌, List, [], ◌∷◌, map}
 use Rattle.smv_core.specs.declared.tree.Word.{Word}
 use Rattle.smv_core.specs.declared.tree.TypeExpr.{TypeExpr}
 use Rattle.smv_core.specs.declared.tree.Item.{Item, Declare, Instance, Layer, Forall', Block', Claim, Split, Using, Act, Row_of-Item, end_of-Item, more_of-Item}
-use Rattle.law_flattening.specs.Entries.{Binders}
+use Rattle.law_designs.specs.Entries.{Binders}
 use Rattle.smv_flatten.specs.declared.leaves.Binder.{Binder}
 use Rattle.smv_flatten.specs.declared.leaves.What.{What}
 use Rattle.smv_flatten.specs.declared.leaves.What.TheVariants as noted

@@ -5,7 +5,7 @@ use Rattle.smv_core.specs.Types.{types_from}
 use Rattle.smv_core.specs.FlatOrder.{modules}
 use Rattle.smv_core.specs.declared.tree.Text.{Text}
 use Rattle.smv_core.specs.declared.tree.Item.{Item}
-use Rattle.law_flattening.specs.Entries.{Binders, Entry, inside_binder, item_entries, entries_in}
+use Rattle.law_designs.specs.Entries.{Binders, Entry, inside_binder, item_entries, entries_in}
 use Rattle.smv_flatten_families.specs.Held.{path_of}
 use Rattle.smv_flatten.specs.Leaves.{binders_of, item_of}
 use Rattle.smv_flatten.specs.declared.met.Met.{Met}

@@ -3,7 +3,7 @@ use Rattle.std.specs.Prelude.{ℕ, length}
 use Rattle.smv_core.specs.declared.flat.FlatStmt.{FlatStmt}
 use Rattle.smv_core.specs.declared.flat.FlatItem.{FlatItem}
 use Rattle.smv_core.specs.declared.flat.FlatItem.TheVariants.{Act, Claim}
-use Rattle.law_flattening.specs.Flattening.{flat_assignments}
+use Rattle.law_designs.specs.Flattening.{flat_assignments}
 
 -- how many assignments stand in a statement
 unfoldable pub assignments_in : FlatStmt → ℕ

@@ -1,6 +1,6 @@
 // Statements of the flattened text, inside the binders around them.
 ghost use Rattle.std.specs.Prelude.{◌≡◌, ◌++◌, [], map, drop, IfOk, OnOk};
-ghost use Rattle.law_flattening.specs.Flattening.{params_from, within};
+ghost use Rattle.law_designs.specs.Flattening.{params_from, within};
 ghost use Rattle.smv_core.specs.declared.flat.FlatItem.TheVariants.{Act};
 ghost use Rattle.smv_flatten_families.specs.Held.{AreNumbers, scope_here};
 ghost use Rattle.smv_flatten_statements.specs.Around.{around_of};

@@ -1,7 +1,7 @@
 // The connections of instances: definitions of inputs, and of what outputs give.
 ghost use Rattle.std.specs.Prelude.{◌≡◌, ◌++◌, [], map, flat_map, zip, None, IfOk, OnOk};
-ghost use Rattle.law_flattening.specs.Entries.{connection, given_to};
-ghost use Rattle.law_flattening.specs.Flattening.{within};
+ghost use Rattle.law_designs.specs.Entries.{connection, given_to};
+ghost use Rattle.law_designs.specs.Flattening.{within};
 ghost use Rattle.smv_flatten_families.specs.Held.{AreNumbers, scope_here};
 ghost use Rattle.smv_flatten_statements.specs.Around.{around_of};
 ghost use Rattle.smv_flatten.specs.Leaves.{binders_of};

@@ -1,6 +1,6 @@
 // Copies of names, and of references to units with the names of their instance in front.
 ghost use Rattle.std.specs.Prelude.{◌≡◌, ◌++◌, map, IfOk, OnOk};
-ghost use Rattle.law_flattening.specs.Flattening as flattening;
+ghost use Rattle.law_designs.specs.Flattening as flattening;
 ghost use Rattle.smv_flatten_families.specs.Held.{instance_of, scope_here};
 ghost use Rattle.smv_flatten.specs.Forms.{word_at};
 

@@ -2,8 +2,8 @@
 ghost use Rattle.std.specs.Prelude.{◌≡◌, ◌++◌, ◌∷◌, [], map, flat_map, IfOk, OnOk};
 ghost use Rattle.smv_core.specs.FlatOrder.{modules};
 ghost use Rattle.smv_instances.specs.Said.{AreNoted};
-ghost use Rattle.law_flattening.specs.Flattening as flattening;
-ghost use Rattle.law_flattening.specs.Flattening.{within};
+ghost use Rattle.law_designs.specs.Flattening as flattening;
+ghost use Rattle.law_designs.specs.Flattening.{within};
 ghost use Rattle.smv_flatten_families.specs.Held.{AreNumbers, instance_of};
 ghost use Rattle.smv_flatten_statements.specs.Around.{around_of};
 ghost use Rattle.smv_flatten.specs.Leaves.{binders_of};

@@ -1,8 +1,8 @@
 // Claims, splits and `using` of the flattened text.
 ghost use Rattle.std.specs.Prelude.{◌≡◌, [], map, IfOk};
-ghost use Rattle.law_flattening.specs.Entries as entries;
-ghost use Rattle.law_flattening.specs.Flattening as flattening;
-ghost use Rattle.law_flattening.specs.Flattening.{within};
+ghost use Rattle.law_designs.specs.Entries as entries;
+ghost use Rattle.law_designs.specs.Flattening as flattening;
+ghost use Rattle.law_designs.specs.Flattening.{within};
 ghost use Rattle.smv_flatten_families.specs.Held.{AreNumbers, scope_here};
 ghost use Rattle.smv_flatten_statements.specs.Around.{around_of};
 ghost use Rattle.smv_flatten.specs.Leaves.{binders_of};

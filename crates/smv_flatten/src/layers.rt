@@ -2,7 +2,7 @@
 ghost use Rattle.std.specs.Prelude.{◌≡◌, IfOk, OnOk};
 ghost use Rattle.std.specs.List.{flat_map};
 ghost use Rattle.smv_core.specs.declared.tree.Text.{Text};
-ghost use Rattle.law_flattening.specs.Flattening.{layers_of, layer_number};
+ghost use Rattle.law_designs.specs.Flattening.{layers_of, layer_number};
 ghost use Rattle.smv_flatten.specs.Layers.{with_layer, with_layers, AreSame, heads};
 ghost use Rattle.smv_flatten.specs.Met.{entries_met};
 

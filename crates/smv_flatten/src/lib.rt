@@ -1,6 +1,6 @@
 //! The flattened text.
 //!
-//! For `smv_typing`. It meets `law_flattening/specs/Flattening`, item by item in flat order.
+//! For `smv_typing`. It meets `law_designs/specs/Flattening`, item by item in flat order.
 #![tactic(auto)]
 
 pub mod acts;

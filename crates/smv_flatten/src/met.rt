@@ -1,7 +1,7 @@
 // What a text says in flat order: from the top of `main` downwards, and through each instance at its declaration.
 ghost use Rattle.std.specs.Prelude.{◌≡◌, ◌++◌, [], ◌∷◌, map, flat_map, IfOk, OnOk};
 ghost use Rattle.smv_core.specs.FlatOrder.{main};
-ghost use Rattle.law_flattening.specs.Entries.{entries};
+ghost use Rattle.law_designs.specs.Entries.{entries};
 ghost use Rattle.smv_flatten_families.specs.Held.{AreNumbers, path_of};
 ghost use Rattle.smv_flatten.specs.Leaves.{leaf_of, binders_of};
 ghost use Rattle.smv_flatten.specs.Met.{entries_met, said_in, inside};

@@ -1,6 +1,6 @@
 // The places of claims: how many assignments and claims are met before each.
 ghost use Rattle.std.specs.Prelude.{◌≡◌, ◌+◌, IfOk, OnOk, sum_by};
-ghost use Rattle.law_flattening.specs.Flattening.{with_places};
+ghost use Rattle.law_designs.specs.Flattening.{with_places};
 ghost use Rattle.smv_flatten.specs.Places.{assignments_in, with_place, weight};
 
 use smv_core::flat::{FlatItem, FlatStmt};

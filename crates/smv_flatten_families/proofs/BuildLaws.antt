@@ -20,8 +20,8 @@ use Rattle.smv_instances.specs.declared.pieces.Piece.{Piece as NotedPiece}
 use Rattle.smv_instances.specs.Mentions.{Mention}
 use Rattle.smv_instances.specs.Scopes.{Known, piece_of, known_after, pieces_from}
 use Rattle.smv_instances.specs.Said.{said, told, told_by, AreNoted}
-use Rattle.law_flattening.specs.Flattening.{set_of, enum_of, enums_of, different, flat_family, scope_in, dot, dotted}
-use Rattle.law_flattening.specs.Entries.{placed_in, placed_families}
+use Rattle.law_designs.specs.Flattening.{set_of, enum_of, enums_of, different, flat_family, scope_in, dot, dotted}
+use Rattle.law_designs.specs.Entries.{placed_in, placed_families}
 use Rattle.smv_flatten_families.specs.Paths.{path_of, first_place, found_or}
 use Rattle.smv_flatten_families.specs.Simples.{numbering}
 use Rattle.smv_flatten_families.specs.Types.{types_of}

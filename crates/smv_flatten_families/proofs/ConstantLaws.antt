@@ -7,8 +7,8 @@ use Rattle.std.proofs.lemmas.Slice.Eq.{bytes_eq-Decides}
 use Rattle.smv_core.specs.Values.{Name, Path}
 use Rattle.smv_core.specs.Types.{find_name}
 use Rattle.smv_core.specs.declared.flat.FlatExpr.{Constant as FlatConstant}
-use Rattle.law_flattening.specs.Numbers.{Scope, constant_in}
-use Rattle.law_flattening.proofs.Lookups.{same_test}
+use Rattle.law_designs.specs.Numbers.{Scope, constant_in}
+use Rattle.law_designs.proofs.Lookups.{same_test}
 use Rattle.smv_flatten_families.specs.Lists.{constants_of_list, constants_from}
 use Rattle.smv_flatten_families.specs.Found.{lone_name}
 use Rattle.smv_flatten_families.specs.declared.enums.Constant.{Constant}

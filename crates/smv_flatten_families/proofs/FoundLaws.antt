@@ -12,9 +12,9 @@ use Rattle.smv_core.specs.declared.flat.Simple.{Simple}
 use Rattle.smv_core.specs.declared.flat.Simple.TheVariants.{Enum}
 use Rattle.smv_core.specs.declared.tree.Text.{Text}
 use Rattle.smv_core.specs.declared.tree.TypeExpr.{TypeExpr}
-use Rattle.law_flattening.specs.Numbers.{flat_simple, simple_or_empty, flat_over, family_number}
-use Rattle.law_flattening.specs.Entries.{placed_families}
-use Rattle.law_flattening.specs.Flattening.{scope_in, flat_family}
+use Rattle.law_designs.specs.Numbers.{flat_simple, simple_or_empty, flat_over, family_number}
+use Rattle.law_designs.specs.Entries.{placed_families}
+use Rattle.law_designs.specs.Flattening.{scope_in, flat_family}
 use Rattle.smv_flatten_families.specs.Paths.{first_place}
 use Rattle.smv_flatten_families.specs.Lists.{constants_from}
 use Rattle.smv_flatten_families.specs.Simples.{numbering}

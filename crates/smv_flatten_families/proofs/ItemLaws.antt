@@ -17,7 +17,7 @@ use Rattle.smv_core.specs.declared.tree.Use.{Use}
 use Rattle.smv_core.specs.declared.tree.Pair.{Pair}
 use Rattle.smv_core.specs.declared.tree.TypeExpr.{TypeExpr}
 use Rattle.smv_core.specs.declared.tree.Item.{Item, Declare, Instance, Layer, Forall, Block, Claim, Split, Using, Act}
-use Rattle.law_flattening.specs.Entries.{placed_in, placed_of_item}
+use Rattle.law_designs.specs.Entries.{placed_in, placed_of_item}
 use Rattle.smv_flatten_families.specs.Types.{leaf_of, types_of, leaves}
 use Rattle.smv_flatten_families.specs.Families.{InPlace, placed_family, placed_leaf, no_body, instance_places, item_places}
 

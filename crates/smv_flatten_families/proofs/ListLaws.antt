@@ -8,10 +8,10 @@ use Rattle.smv_core.specs.Values.{Path}
 use Rattle.smv_core.specs.Types.{names_of}
 use Rattle.smv_core.specs.Outcome.{same_path}
 use Rattle.smv_core.specs.declared.tree.Word.{Word}
-use Rattle.law_flattening.specs.Flattening.{different}
-use Rattle.law_flattening.proofs.Lookups.{same_test}
-use Rattle.law_flattening.proofs.Different.{different-keeps}
-use Rattle.law_flattening.proofs.TypeNumbers.{paths-decide}
+use Rattle.law_designs.specs.Flattening.{different}
+use Rattle.law_designs.proofs.Lookups.{same_test}
+use Rattle.law_designs.proofs.Different.{different-keeps}
+use Rattle.law_designs.proofs.TypeNumbers.{paths-decide}
 use Rattle.smv_flatten_families.specs.Paths.{first_place, found_or}
 use Rattle.smv_flatten_families.specs.Lists.{AreLists}
 use Rattle.smv_flatten_families.specs.declared.enums.Lists.{Lists}

@@ -7,9 +7,9 @@ use Rattle.smv_core.specs.Values.{Name, Path}
 use Rattle.smv_core.specs.Types.{Family}
 use Rattle.smv_core.specs.Outcome.{same_path}
 use Rattle.smv_core.specs.declared.flat.SetInfo.{SetInfo}
-use Rattle.law_flattening.specs.Numbers.{Scope, set_number}
-use Rattle.law_flattening.proofs.Lookups.{same_test}
-use Rattle.law_flattening.proofs.TypeNumbers.{paths-decide}
+use Rattle.law_designs.specs.Numbers.{Scope, set_number}
+use Rattle.law_designs.proofs.Lookups.{same_test}
+use Rattle.law_designs.proofs.TypeNumbers.{paths-decide}
 use Rattle.name_index.specs.Position.{position}
 use Rattle.smv_flatten_families.specs.Paths.{first_place}
 

@@ -8,7 +8,7 @@ use Rattle.std.proofs.lemmas.List.{length-map}
 use Rattle.std.proofs.lemmas.List.Folds.{flat_map-map}
 use Rattle.smv_core.specs.Values.{Path}
 use Rattle.smv_core.specs.Outcome.{same_path}
-use Rattle.law_flattening.proofs.TypeNumbers.{paths-decide}
+use Rattle.law_designs.proofs.TypeNumbers.{paths-decide}
 use Rattle.smv_flatten_families.specs.Paths.{first_place, found_or}
 
 -- how lists of names are compared and hashed

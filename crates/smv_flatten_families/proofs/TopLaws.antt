@@ -15,7 +15,7 @@ use Rattle.smv_core.specs.declared.tree.Text.{Text}
 use Rattle.smv_core.specs.declared.tree.TypeExpr.{TypeExpr}
 use Rattle.smv_core.specs.declared.tree.Top.{Top}
 use Rattle.smv_core.specs.declared.tree.Top.TheVariants.{SetType, Alias, Module}
-use Rattle.law_flattening.specs.Numbers.{set_number}
+use Rattle.law_designs.specs.Numbers.{set_number}
 use Rattle.name_index.specs.Position.{position}
 use Rattle.smv_flatten_families.specs.Simples.{numbering}
 use Rattle.smv_flatten_families.specs.Types.{Leaf, leaf_of, one_leaf, types_of, leaves, named_leaves, form_leaves, types_in_top, with_leaves, top_leaves, typed, AreTypesSoFar}

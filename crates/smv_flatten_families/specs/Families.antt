@@ -7,9 +7,9 @@ use Rattle.smv_core.specs.declared.flat.Simple.{Simple}
 use Rattle.smv_core.specs.declared.flat.Family.{Family as FlatFamily}
 use Rattle.smv_core.specs.declared.tree.Text.{Text}
 use Rattle.smv_core.specs.declared.tree.Item.{Item}
-use Rattle.law_flattening.specs.Numbers.{flat_simple}
-use Rattle.law_flattening.specs.Flattening.{dotted}
-use Rattle.law_flattening.specs.Entries.{placed_in, placed_of_item}
+use Rattle.law_designs.specs.Numbers.{flat_simple}
+use Rattle.law_designs.specs.Flattening.{dotted}
+use Rattle.law_designs.specs.Entries.{placed_in, placed_of_item}
 use Rattle.smv_flatten_families.specs.Paths.{path_of}
 use Rattle.smv_flatten_families.specs.Simples.{numbering}
 use Rattle.smv_flatten_families.specs.Types.{Leaf, types_of}

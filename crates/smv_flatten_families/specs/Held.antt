@@ -4,9 +4,9 @@ use Rattle.std.specs.HashMap.{get}
 use Rattle.smv_core.specs.Values.{Path}
 use Rattle.smv_core.specs.FlatOrder as order
 use Rattle.smv_core.specs.Outcome.{same_path}
-use Rattle.law_flattening.specs.Numbers.{Scope}
-use Rattle.law_flattening.specs.Entries.{placed_families}
-use Rattle.law_flattening.specs.Flattening.{set_of, enums_of, flat_family, scope_in}
+use Rattle.law_designs.specs.Numbers.{Scope}
+use Rattle.law_designs.specs.Entries.{placed_families}
+use Rattle.law_designs.specs.Flattening.{set_of, enums_of, flat_family, scope_in}
 pub use Rattle.smv_flatten_families.specs.Paths.{path_of}
 pub use Rattle.smv_flatten_families.specs.Families.{body_now, body_beside}
 use Rattle.smv_flatten_families.specs.Paths.{first_place}

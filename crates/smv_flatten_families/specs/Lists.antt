@@ -4,7 +4,7 @@ use Rattle.std.specs.HashMap.{get}
 use Rattle.smv_core.specs.Values.{Name, Path}
 use Rattle.smv_core.specs.Types.{names_of}
 use Rattle.smv_core.specs.Outcome.{same_path}
-use Rattle.law_flattening.specs.Flattening.{different}
+use Rattle.law_designs.specs.Flattening.{different}
 use Rattle.smv_flatten_families.specs.Paths.{first_place}
 use Rattle.smv_flatten_families.specs.declared.enums.Constant.{Constant}
 use Rattle.smv_flatten_families.specs.declared.enums.Lists.{Lists}

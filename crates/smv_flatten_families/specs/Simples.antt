@@ -4,8 +4,8 @@ use Rattle.std.specs.HashMap.{get}
 use Rattle.smv_core.specs.Values.{Path}
 use Rattle.smv_core.specs.Outcome.{same_path}
 use Rattle.smv_core.specs.declared.tree.Text.{Text}
-use Rattle.law_flattening.specs.Numbers.{Scope}
-use Rattle.law_flattening.specs.Flattening.{scope_in}
+use Rattle.law_designs.specs.Numbers.{Scope}
+use Rattle.law_designs.specs.Flattening.{scope_in}
 use Rattle.smv_flatten_families.specs.Paths.{first_place}
 use Rattle.smv_flatten_families.specs.declared.simples.Simples.{Simples}
 

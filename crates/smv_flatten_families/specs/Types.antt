@@ -10,7 +10,7 @@ use Rattle.smv_core.specs.declared.tree.Top.{Top}
 use Rattle.smv_core.specs.declared.tree.Top.TheVariants.{SetType, Alias, Module}
 use Rattle.smv_core.specs.declared.tree.Field.{Field, out-Field}
 use Rattle.smv_core.specs.declared.tree.TypeExpr.{TypeExpr}
-use Rattle.law_flattening.specs.Numbers.{flat_simple}
+use Rattle.law_designs.specs.Numbers.{flat_simple}
 use Rattle.smv_flatten_families.specs.Simples.{AreSimples, numbering}
 use Rattle.smv_flatten_families.specs.declared.types.Form.{Form}
 use Rattle.smv_flatten_families.specs.declared.types.Form.TheVariants as form

@@ -1,6 +1,6 @@
 // Names with dots between them.
 ghost use Rattle.std.specs.Prelude.{◌≡◌, ◌∷◌, ◌++◌, IfOk, OnOk};
-ghost use Rattle.law_flattening.specs.Flattening as flattening;
+ghost use Rattle.law_designs.specs.Flattening as flattening;
 ghost use Rattle.smv_flatten_families.specs.Paths.{path_of};
 
 use smv_core::name::Name;

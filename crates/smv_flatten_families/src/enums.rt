@@ -4,7 +4,7 @@ ghost use Rattle.std.specs.List.{flat_map};
 ghost use Rattle.smv_core.specs.Values.{Path};
 ghost use Rattle.smv_core.specs.Types.{names_of};
 ghost use Rattle.smv_instances.specs.Said.{said};
-ghost use Rattle.law_flattening.specs.Flattening.{enum_of};
+ghost use Rattle.law_designs.specs.Flattening.{enum_of};
 ghost use Rattle.smv_flatten_families.specs.Lists.{AreLists, constants_from, constants_of_list};
 
 use crate::fits::short;

@@ -1,7 +1,7 @@
 // What types, constants and paths are in a flattened text.
 ghost use Rattle.std.specs.Prelude.{◌≡◌, ◌++◌, IfOk, length, option_map};
 ghost use Rattle.smv_core.specs.Outcome.{family_at, fields_of};
-ghost use Rattle.law_flattening.specs.Numbers.{flat_over, constant_in, family_number};
+ghost use Rattle.law_designs.specs.Numbers.{flat_over, constant_in, family_number};
 ghost use Rattle.smv_flatten_families.specs.Paths.{path_of};
 ghost use Rattle.smv_flatten_families.specs.Held.{AreNumbers, instance_of, scope_here};
 ghost use Rattle.smv_core.specs.declared.flat.FlatExpr.{Constant};

@@ -10,7 +10,7 @@ ghost use Rattle.smv_instances.specs.Said.{AreNoted};
 ghost use Rattle.smv_flatten_families.specs.Paths.{first_place};
 ghost use Rattle.smv_flatten_families.specs.Families.{body_beside, body_now, in_place, instance_places, written};
 ghost use Rattle.smv_flatten_families.specs.Types.{AreTypes};
-ghost use Rattle.law_flattening.specs.Flattening.{enums_of};
+ghost use Rattle.law_designs.specs.Flattening.{enums_of};
 ghost use Rattle.smv_flatten_families.specs.Lists.{constants_from};
 ghost use Rattle.smv_flatten_families.specs.Simples.{AreSimples};
 ghost use Rattle.smv_flatten_families.specs.Held.{AreEnums, AreNumbers};

@@ -1,7 +1,7 @@
 // The set types of a text.
 ghost use Rattle.std.specs.Prelude.{◌≡◌, ◌≤◌, ◌+◌, ◌-◌, ◌++◌, length, map, option_map, IfOk, OnOk};
 ghost use Rattle.std.specs.List.{flat_map};
-ghost use Rattle.law_flattening.specs.Flattening.{set_of};
+ghost use Rattle.law_designs.specs.Flattening.{set_of};
 
 use crate::fits::short;
 use crate::names::copied;

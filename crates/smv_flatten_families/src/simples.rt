@@ -4,7 +4,7 @@ ghost use Rattle.std.specs.List.{position_or_len};
 ghost use Rattle.smv_core.specs.Types.{names_of};
 ghost use Rattle.smv_core.specs.Outcome.{same_path};
 ghost use Rattle.smv_core.specs.declared.flat.Simple.TheVariants.{Range, Enum, Set};
-ghost use Rattle.law_flattening.specs.Numbers.{set_number};
+ghost use Rattle.law_designs.specs.Numbers.{set_number};
 ghost use Rattle.smv_flatten_families.specs.Simples.{AreSimples, numbering};
 
 use crate::fits::{byte, short};

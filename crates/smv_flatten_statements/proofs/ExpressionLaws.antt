@@ -18,8 +18,8 @@ use Rattle.smv_core.specs.declared.flat.FlatSigned.{roll-FlatSigned}
 use Rattle.smv_core.specs.declared.flat.FlatMember as member
 use mathlib.Core.Former.{Count}
 use Rattle.smv_instances.proofs.Computing.{computing}
-use Rattle.law_flattening.specs.Numbers.{Scope, bound_in, flat_over, flat_path}
-use Rattle.law_flattening.specs.Statements.{flat_row, flat_indexes, flat_signed, flat_members}
+use Rattle.law_designs.specs.Numbers.{Scope, bound_in, flat_over, flat_path}
+use Rattle.law_designs.specs.Statements.{flat_row, flat_indexes, flat_signed, flat_members}
 use Rattle.smv_flatten_statements.specs.Flattened.{expression_of, signed_of, member_of}
 
 module _ (scope : Scope) (vars : Around) where

@@ -6,7 +6,7 @@ use Rattle.smv_core.specs.Types.{Family}
 use Rattle.smv_core.specs.Outcome.{family_at}
 use Rattle.smv_core.specs.Assignments.{Around}
 use Rattle.smv_core.specs.declared.flat.FlatExpr.{FlatExpr, Read}
-use Rattle.law_flattening.specs.Numbers.{Scope, family_number, constant_in, variable_at, or_signal, flat_path}
+use Rattle.law_designs.specs.Numbers.{Scope, family_number, constant_in, variable_at, or_signal, flat_path}
 use Rattle.smv_flatten_families.specs.declared.numbers.Here.{Here}
 use Rattle.smv_flatten_families.specs.Held.{scope_here, instance_of}
 

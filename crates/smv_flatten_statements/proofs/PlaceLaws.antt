@@ -10,7 +10,7 @@ use Rattle.smv_core.specs.declared.tree.Expr.{Expr, Number, Signal, Not, And, An
 use Rattle.smv_core.specs.declared.tree.Expr.{Row_of-Expr, end_of-Expr, more_of-Expr, items-the_row-Expr, items_hidden-the_row-Expr-2}
 use mathlib.Core.Former.{Count}
 use Rattle.smv_instances.proofs.Computing.{computing}
-use Rattle.law_flattening.specs.Statements.{first_token_of}
+use Rattle.law_designs.specs.Statements.{first_token_of}
 use Rattle.smv_flatten_statements.specs.Flattened.{begins_at, first_begins_at}
 
 row-first : (n : _) (row : Row_of-Expr n) → first_token_of row ≡ first_begins_at (items-the_row-Expr n row)

@@ -3,7 +3,7 @@ use Rattle.std.proofs.Common.{◌≡◌, ℕ, ◌+◌, [], ◌∷◌, cond, Opti
 use Rattle.std.specs.Str.{bytes_eq}
 use Rattle.smv_core.specs.Values.{Name, Path}
 use Rattle.smv_core.specs.Assignments.{Bound, loop, any, Around}
-use Rattle.law_flattening.specs.Numbers.{bound_in, variable}
+use Rattle.law_designs.specs.Numbers.{bound_in, variable}
 use Rattle.smv_flatten_statements.specs.Around.{reference_of, only}
 
 -- a variable that is bound inside others

@@ -4,7 +4,7 @@ use Rattle.smv_core.specs.Values.{Name, Path}
 use Rattle.smv_core.specs.Assignments.{Bound, loop, any, Around}
 use Rattle.smv_core.specs.declared.flat.FlatExpr.{FlatExpr}
 use Rattle.smv_core.specs.declared.flat.FlatExpr as flat
-use Rattle.law_flattening.specs.Numbers.{bound_in}
+use Rattle.law_designs.specs.Numbers.{bound_in}
 use Rattle.smv_flatten_statements.specs.declared.vars.Bound.{Bound as HeldBound}
 use Rattle.smv_flatten_statements.specs.declared.vars.Bound.TheVariants.{Loop, Any}
 use Rattle.smv_flatten_statements.specs.declared.vars.Var.{Var}

@@ -16,8 +16,8 @@ use Rattle.smv_core.specs.declared.flat.FlatMember.{FlatMember}
 use Rattle.smv_core.specs.declared.flat.FlatMember as member
 use Rattle.smv_core.specs.declared.flat.FlatStmt.{FlatStmt}
 use Rattle.smv_core.specs.declared.flat.FlatStmt as act
-use Rattle.law_flattening.specs.Numbers.{Scope}
-use Rattle.law_flattening.specs.Statements.{first_token, flat_expr, flat_stmt}
+use Rattle.law_designs.specs.Numbers.{Scope}
+use Rattle.law_designs.specs.Statements.{first_token, flat_expr, flat_stmt}
 
 -- where an expression begins
 unfoldable pub begins_at : Expr → ℕ

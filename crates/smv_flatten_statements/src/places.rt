@@ -1,6 +1,6 @@
 // Where expressions begin.
 ghost use Rattle.std.specs.Prelude.{◌≡◌};
-ghost use Rattle.law_flattening.specs.Statements as statements;
+ghost use Rattle.law_designs.specs.Statements as statements;
 ghost use Rattle.smv_flatten_statements.specs.Flattened.{begins_at, first_begins_at};
 
 use smv_core::tree::Expr;

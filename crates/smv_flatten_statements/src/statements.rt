@@ -1,7 +1,7 @@
 // The flat form of statements.
 ghost use Rattle.std.specs.Prelude.{◌≡◌, ◌∷◌, map, IfOk};
 ghost use Rattle.smv_core.specs.Assignments.{any, loop};
-ghost use Rattle.law_flattening.specs.Statements.{flat_stmt};
+ghost use Rattle.law_designs.specs.Statements.{flat_stmt};
 ghost use Rattle.smv_flatten_families.specs.Held.{AreNumbers, scope_here};
 ghost use Rattle.smv_flatten_statements.specs.Around.{around_of};
 ghost use Rattle.smv_flatten_statements.specs.Flattened.{expression_of, statement_of, branch_of, arm_before, arms_of, is_one_of, turns_of};

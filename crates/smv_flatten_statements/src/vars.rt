@@ -1,7 +1,7 @@
 // The variables that are bound around an expression or a statement.
 ghost use Rattle.std.specs.Prelude.{◌≡◌, ◌∷◌, option_map, IfOk};
 ghost use Rattle.smv_core.specs.Outcome.{fields_of};
-ghost use Rattle.law_flattening.specs.Numbers as numbers;
+ghost use Rattle.law_designs.specs.Numbers as numbers;
 ghost use Rattle.smv_flatten_statements.specs.Around.{around_of, bound_of, only, reference_of};
 
 use smv_core::flat::FlatExpr;

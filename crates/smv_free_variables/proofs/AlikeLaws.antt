@@ -1,7 +1,7 @@
 -- Bindings that agree, by their last variables.
 use Rattle.std.proofs.Common.{◌≡◌, ℕ, suc, length, List, [], ◌∷◌, ◌++◌, Bool, true, arith, sym, ap, subst}
 use Rattle.smv_spots.specs.declared.spots.Spot.{Spot}
-use Rattle.law_free_variables.specs.Reads.{Agree}
+use Rattle.law_obligations.specs.FreeReads.{Agree}
 use Rattle.smv_free_variables.specs.Alike.{AllAgree}
 
 -- one variable more

@@ -9,8 +9,8 @@ use Rattle.smv_core.specs.declared.flat.FlatExpr.{FlatExpr, Number, Read, Read',
 use Rattle.smv_core.specs.declared.flat.FlatExpr.{Row_of-FlatExpr, end_of-FlatExpr, more_of-FlatExpr, Row_of-FlatMember, end_of-FlatMember, more_of-FlatMember, Row_of-FlatSigned, end_of-FlatSigned, more_of-FlatSigned}
 use Rattle.smv_core.specs.declared.flat.FlatExpr.{items-the_row-FlatExpr, items-the_row-FlatMember, items-the_row-FlatSigned, items_hidden-the_row-FlatExpr-0, items_hidden-the_row-FlatMember-3, items_hidden-the_row-FlatSigned-2}
 use mathlib.Core.Former.{Count}
-use Rattle.smv_abstraction.proofs.Computing.{computing}
-use Rattle.law_free_variables.specs.Reads.{reads, one_reads, signed_read, members_read}
+use Rattle.law_obligations.proofs.Computing.{computing}
+use Rattle.law_obligations.specs.FreeReads.{reads, one_reads, signed_read, members_read}
 use Rattle.smv_free_variables.specs.Reading.{occurs, occurs_signed, occurs_member}
 
 and_none : (b : Bool) → (b && false) ≡ false

@@ -1,7 +1,7 @@
 -- Bindings that agree with one of them.
 use Rattle.std.specs.Prelude.{ℕ, List, [], ◌∷◌, Bool}
 use Rattle.smv_spots.specs.declared.spots.Spot.{Spot}
-use Rattle.law_free_variables.specs.Reads.{Agree}
+use Rattle.law_obligations.specs.FreeReads.{Agree}
 
 -- each of these agrees with the first on the variables whose numbers pass the test
 abbrev pub AllAgree : (ℕ → Bool) → List Spot → List (List Spot) → Type 0

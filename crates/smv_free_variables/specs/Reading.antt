@@ -3,7 +3,7 @@ use Rattle.std.specs.Prelude.{ℕ, Bool, false}
 use Rattle.smv_core.specs.declared.flat.FlatExpr.{FlatExpr}
 use Rattle.smv_core.specs.declared.flat.FlatSigned.{FlatSigned, out-FlatSigned}
 use Rattle.smv_core.specs.declared.flat.FlatMember.{FlatMember, One, Span as SpanOf}
-use Rattle.law_free_variables.specs.Reads.{reads}
+use Rattle.law_obligations.specs.FreeReads.{reads}
 
 -- an expression
 unfoldable pub occurs : ℕ → FlatExpr → Bool

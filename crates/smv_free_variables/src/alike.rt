@@ -1,6 +1,6 @@
 // Bindings under which an expression can be but one thing.
 ghost use Rattle.std.specs.Prelude.{◌≡◌, true, IsTrue};
-ghost use Rattle.law_free_variables.specs.Reads.{Agree};
+ghost use Rattle.law_obligations.specs.FreeReads.{Agree};
 ghost use Rattle.smv_free_variables.specs.Reading.{occurs};
 ghost use Rattle.smv_free_variables.specs.Alike.{AllAgree};
 

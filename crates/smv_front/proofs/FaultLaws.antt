@@ -5,8 +5,8 @@ use Rattle.smv_core.specs.declared.fault.Fault.{Fault}
 use Rattle.smv_core.specs.declared.fault.Refusal.{Refusal}
 use Rattle.smv_core.specs.declared.tree.Text.{Text}
 use Rattle.smv_instances.specs.FirstFault.{first_fault, or_else}
-use Rattle.law_kinds.specs.KindFaults.{first_fault_of_kinds}
-use Rattle.law_flattening.specs.Flattening.{flatten}
+use Rattle.law_designs.specs.KindFaults.{first_fault_of_kinds}
+use Rattle.law_designs.specs.Flattening.{flatten}
 use Rattle.smv_cases.specs.Faults.{Refuses}
 use Rattle.smv_problem.specs.declared.report.Plan.{Plan}
 use Rattle.smv_front.specs.TextFault.{raw_fault, text_fault}

@@ -4,12 +4,12 @@ use Rattle.smv_core.specs.declared.fault.Fault.{Fault}
 use Rattle.smv_core.specs.declared.tree.Text.{Text}
 use Rattle.smv_core.specs.declared.flat.Raw.{Raw}
 use Rattle.smv_instances.specs.FirstFault.{first_fault, or_else}
-use Rattle.law_kinds.specs.KindFaults.{first_fault_of_kinds}
-use Rattle.law_flattening.specs.Flattening.{flatten}
-use Rattle.law_single_assignment.specs.SingleFaults.{first_fault_of_single}
-use Rattle.law_single_assignment.specs.Definitions.{design_of_raw}
-use Rattle.law_loops_and_layers.specs.FirstFault.{first_fault_of_design}
-use Rattle.law_set_types.specs.SetFaults.{first_fault_of_sets}
+use Rattle.law_designs.specs.KindFaults.{first_fault_of_kinds}
+use Rattle.law_designs.specs.Flattening.{flatten}
+use Rattle.law_designs.specs.SingleFaults.{first_fault_of_single}
+use Rattle.law_designs.specs.Definitions.{design_of_raw}
+use Rattle.law_designs.specs.FirstFault.{first_fault_of_design}
+use Rattle.law_designs.specs.SetFaults.{first_fault_of_sets}
 use Rattle.smv_plans.specs.Plans.{plan_fault}
 
 -- the first fault of a flattened text behind single assignment: of the loops and then of the layers of its design, or else of its set types, or else of the rules of proof

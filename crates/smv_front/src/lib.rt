@@ -4,10 +4,10 @@
 #![tactic(auto)]
 
 ghost use Rattle.std.specs.Prelude.{◌≡◌, true, IfOk};
-ghost use Rattle.law_flat_kinds.specs.FlatKinds.{is_kinded};
-ghost use Rattle.law_loops_and_layers.specs.FirstFault.{first_fault_of_design};
-ghost use Rattle.law_flattening.specs.Flattening.{flatten};
-ghost use Rattle.law_single_assignment.specs.Definitions.{design_of_raw};
+ghost use Rattle.law_designs.specs.FlatKinds.{is_kinded};
+ghost use Rattle.law_designs.specs.FirstFault.{first_fault_of_design};
+ghost use Rattle.law_designs.specs.Flattening.{flatten};
+ghost use Rattle.law_designs.specs.Definitions.{design_of_raw};
 ghost use Rattle.smv_typing.specs.Answers.{IsSpelled};
 ghost use Rattle.smv_cases.specs.Faults.{Refuses};
 ghost use Rattle.smv_instances.specs.FirstFault.{or_else};

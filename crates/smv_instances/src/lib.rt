@@ -1,6 +1,6 @@
 //! Modules, types and names: the faults of a text's names and of its size.
 //!
-//! For the passes over names and sizes, and for the flattened text: scopes, instances and sizes as definitions that compute (`worked_names`), and
+//! For the passes over names and sizes, and for the flattened text: scopes, instances and sizes as definitions that compute (`worked_texts`), and
 //! `pieces`, what each top of a text says about names.
 #![tactic(auto)]
 

@@ -9,10 +9,10 @@ use Rattle.smv_core.specs.declared.tree.Word.{Word}
 use Rattle.smv_core.specs.declared.tree.Path.{Path, out-Path}
 use Rattle.smv_core.specs.declared.tree.Expr.{Expr, Signal, Signal', Row_of-Part, end_of-Part, items_hidden-the_row-Part-0}
 use mathlib.Core.Former.{Count}
-use Rattle.law_kinds.specs.Kinds.{Kind}
-use Rattle.law_kinds.specs.References.{Scope, Vars, signal_at, reference}
-use Rattle.law_kinds.specs.Operands.{operand, target}
-use Rattle.law_kinds.specs.KindFaults.{given, gives}
+use Rattle.law_designs.specs.Kinds.{Kind}
+use Rattle.law_designs.specs.References.{Scope, Vars, signal_at, reference}
+use Rattle.law_designs.specs.Operands.{operand, target}
+use Rattle.law_designs.specs.KindFaults.{given, gives}
 use Rattle.smv_kinds.specs.Found.{words_left}
 use Rattle.smv_operand_kinds.proofs.KindLaws.{reference-at, drop-none}
 

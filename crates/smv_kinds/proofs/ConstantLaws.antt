@@ -15,7 +15,7 @@ use Rattle.smv_core.specs.declared.tree.Member.{Member}
 use Rattle.smv_core.specs.declared.tree.Expr.{Expr, Number, Signal, Signal', Not, And, Or, Implies, Iff, Compare, Within, Sum, Sum', Modulo, Choose, All, Any, List as ListOf, Each}
 use Rattle.smv_core.specs.declared.tree.Expr.{Row_of-Part, end_of-Part, Row_of-Signed, end_of-Signed, more_of-Signed, items-the_row-Part, items-the_row-Signed, items_hidden-the_row-Signed-3}
 use mathlib.Core.Former.{Count}
-use Rattle.law_kinds.specs.KindFaults.{is_fixed, are_constant}
+use Rattle.law_designs.specs.KindFaults.{is_fixed, are_constant}
 use Rattle.smv_kinds.specs.Found.{is_constant, part_constant}
 use Rattle.smv_instances.proofs.Computing.{computing}
 

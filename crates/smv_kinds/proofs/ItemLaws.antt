@@ -13,11 +13,11 @@ use Rattle.smv_core.specs.declared.tree.Ref.{Ref}
 use Rattle.smv_core.specs.declared.tree.Use.{Use}
 use Rattle.smv_core.specs.declared.tree.Item.{Item, Declare, Instance, Layer, Forall, Block, Block', Claim, Split, Using, Act, Row_of-Item, end_of-Item, more_of-Item, items-the_row-Item, items_hidden-the_row-Item-1}
 use mathlib.Core.Former.{Count}
-use Rattle.law_kinds.specs.Kinds.{takes_number}
-use Rattle.law_kinds.specs.Types.{Types, index_faults, type_faults}
-use Rattle.law_kinds.specs.References.{Scope, Vars}
-use Rattle.law_kinds.specs.Operands.{operand, bind}
-use Rattle.law_kinds.specs.KindFaults.{in_stmt, in_item, in_items, in_arguments, formal_faults}
+use Rattle.law_designs.specs.Kinds.{takes_number}
+use Rattle.law_designs.specs.Types.{Types, index_faults, type_faults}
+use Rattle.law_designs.specs.References.{Scope, Vars}
+use Rattle.law_designs.specs.Operands.{operand, bind}
+use Rattle.law_designs.specs.KindFaults.{in_stmt, in_item, in_items, in_arguments, formal_faults}
 use Rattle.smv_instances.proofs.Computing.{computing}
 
 module _ (scope : Scope) (vars : Vars) where

@@ -12,11 +12,11 @@ use Rattle.smv_core.specs.declared.tree.Arm.{Arm}
 use Rattle.smv_core.specs.declared.tree.Stmt.{Stmt, Assign, Block, Block', If, Switch, Switch', Default, For, Forall, Held-Stmt-If-2, None', Row_of-Stmt, end_of-Stmt, more_of-Stmt, Row_of-Arm, end_of-Arm, more_of-Arm}
 use Rattle.smv_core.specs.declared.tree.Stmt.{items-the_row-Stmt, items-the_row-Arm, items_hidden-the_row-Stmt-0, items_hidden-the_row-Arm-2}
 use mathlib.Core.Former.{Count}
-use Rattle.law_kinds.specs.Kinds.{number, takes_number, alike}
-use Rattle.law_kinds.specs.Types.{index_faults}
-use Rattle.law_kinds.specs.References.{Scope, Vars}
-use Rattle.law_kinds.specs.Operands.{operand, value, target, bind}
-use Rattle.law_kinds.specs.KindFaults.{assigned, in_stmt, in_block, in_branch, in_arms, labels}
+use Rattle.law_designs.specs.Kinds.{number, takes_number, alike}
+use Rattle.law_designs.specs.Types.{index_faults}
+use Rattle.law_designs.specs.References.{Scope, Vars}
+use Rattle.law_designs.specs.Operands.{operand, value, target, bind}
+use Rattle.law_designs.specs.KindFaults.{assigned, in_stmt, in_block, in_branch, in_arms, labels}
 use Rattle.smv_kinds.specs.Found.{labels_of, arm_faults}
 use Rattle.smv_instances.proofs.Computing.{computing}
 

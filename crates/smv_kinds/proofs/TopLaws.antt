@@ -14,9 +14,9 @@ use Rattle.smv_instances.specs.Scopes.{Constant, pieces, constants}
 use Rattle.smv_instances.specs.FirstFault.{first_of}
 use Rattle.smv_scope.specs.ScopeFault.{earlier_of}
 use Rattle.smv_scope.proofs.FirstLaws.{earlier-assoc}
-use Rattle.law_kinds.specs.Types.{Types, types_after, type_faults}
-use Rattle.law_kinds.specs.References.{Module, modules_from}
-use Rattle.law_kinds.specs.KindFaults.{in_item, in_top, in_tops}
+use Rattle.law_designs.specs.Types.{Types, types_after, type_faults}
+use Rattle.law_designs.specs.References.{Module, modules_from}
+use Rattle.law_designs.specs.KindFaults.{in_item, in_top, in_tops}
 use Rattle.smv_expression_kinds.specs.declared.lookups.Scope.{Scope as HeldScope}
 use Rattle.smv_expression_kinds.specs.Forms.{types_from, types_before, module_in}
 use Rattle.smv_expression_kinds.specs.Found.{scope_of}

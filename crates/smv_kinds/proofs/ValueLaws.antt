@@ -10,10 +10,10 @@ use Rattle.smv_core.specs.declared.tree.Signed.{Signed}
 use Rattle.smv_core.specs.declared.tree.Member.{Member}
 use Rattle.smv_core.specs.declared.tree.Expr.{Expr, Number, Signal, Not, And, Or, Implies, Iff, Compare, Within, Sum, Modulo, Choose, All, Any, List as ListOf, Each}
 use Rattle.smv_core.specs.declared.tree.Expr.{items_hidden-the_row-Member-4}
-use Rattle.law_kinds.specs.Kinds.{Operand, no_kind, joined, chosen, listed, takes_number, alike_with, kind_with}
-use Rattle.law_kinds.specs.Types.{index_kind, index_faults}
-use Rattle.law_kinds.specs.References.{Scope, Vars}
-use Rattle.law_kinds.specs.Operands.{operand, value, bind}
+use Rattle.law_designs.specs.Kinds.{Operand, no_kind, joined, chosen, listed, takes_number, alike_with, kind_with}
+use Rattle.law_designs.specs.Types.{index_kind, index_faults}
+use Rattle.law_designs.specs.References.{Scope, Vars}
+use Rattle.law_designs.specs.Operands.{operand, value, bind}
 use Rattle.smv_operand_kinds.specs.Found.{member}
 use Rattle.smv_operand_kinds.proofs.OperandLaws.{members_of, members-row}
 use Rattle.smv_instances.proofs.Computing.{computing}

@@ -6,10 +6,10 @@ use Rattle.smv_core.specs.declared.tree.Word.{Word}
 use Rattle.smv_core.specs.declared.tree.Part.{Part, Field, At}
 use Rattle.smv_core.specs.declared.tree.Expr.{Expr}
 use Rattle.smv_core.specs.declared.tree.Arm.{Arm, out-Arm}
-use Rattle.law_kinds.specs.Kinds.{Operand, takes}
-use Rattle.law_kinds.specs.References.{Scope, Vars}
-use Rattle.law_kinds.specs.Operands.{operand, value}
-use Rattle.law_kinds.specs.KindFaults.{gives, is_fixed, in_stmt}
+use Rattle.law_designs.specs.Kinds.{Operand, takes}
+use Rattle.law_designs.specs.References.{Scope, Vars}
+use Rattle.law_designs.specs.Operands.{operand, value}
+use Rattle.law_designs.specs.KindFaults.{gives, is_fixed, in_stmt}
 use Rattle.smv_scope.specs.declared.tables.Tables.{Tables as ScopeTables}
 use Rattle.smv_expression_kinds.specs.Forms.{kind_of}
 use Rattle.smv_kinds.specs.declared.formals.Formal.{Formal}

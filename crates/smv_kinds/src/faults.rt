@@ -3,8 +3,8 @@ ghost use Rattle.std.specs.Prelude.{◌≡◌, ◌++◌, [], Some, None, slice_g
 ghost use Rattle.smv_instances.specs.Scopes.{pieces as pieces_of, constants};
 ghost use Rattle.smv_instances.specs.Said.{AreNoted};
 ghost use Rattle.smv_instances.specs.FirstFault as first;
-ghost use Rattle.law_kinds.specs.References.{modules_from};
-ghost use Rattle.law_kinds.specs.KindFaults.{in_top, faults_of_kinds, first_fault_of_kinds};
+ghost use Rattle.law_designs.specs.References.{modules_from};
+ghost use Rattle.law_designs.specs.KindFaults.{in_top, faults_of_kinds, first_fault_of_kinds};
 ghost use Rattle.smv_expression_kinds.specs.Forms.{types_before, AreKindTables};
 
 use crate::items::items;

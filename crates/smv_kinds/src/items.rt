@@ -1,9 +1,9 @@
 // The faults in the items of a module.
 ghost use Rattle.std.specs.Prelude.{◌≡◌, ◌++◌, flat_map, OnOk};
-ghost use Rattle.law_kinds.specs.Kinds as kinds;
-ghost use Rattle.law_kinds.specs.Types as types;
-ghost use Rattle.law_kinds.specs.Operands as operands;
-ghost use Rattle.law_kinds.specs.KindFaults.{formal_faults as faults_of_formal, in_item};
+ghost use Rattle.law_designs.specs.Kinds as kinds;
+ghost use Rattle.law_designs.specs.Types as types;
+ghost use Rattle.law_designs.specs.Operands as operands;
+ghost use Rattle.law_designs.specs.KindFaults.{formal_faults as faults_of_formal, in_item};
 ghost use Rattle.smv_expression_kinds.specs.Forms.{AreKindTables};
 ghost use Rattle.smv_expression_kinds.specs.Found.{vars_of, scope_of};
 

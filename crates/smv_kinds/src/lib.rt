@@ -1,6 +1,6 @@
 //! The first fault of kinds, ranges and sets.
 //!
-//! For `smv_typing`. It meets `law_kinds/specs/KindFaults`: least place, then number.
+//! For `smv_typing`. It meets `law_designs/specs/KindFaults`: least place, then number.
 #![tactic(auto)]
 
 pub mod arguments;

@@ -1,9 +1,9 @@
 // The faults in statements.
 ghost use Rattle.std.specs.Prelude.{◌≡◌, ◌++◌, ◌∷◌, map, flat_map, IfOk, OnOk};
-ghost use Rattle.law_kinds.specs.Kinds as kinds;
-ghost use Rattle.law_kinds.specs.Types as types;
-ghost use Rattle.law_kinds.specs.Operands as operands;
-ghost use Rattle.law_kinds.specs.KindFaults.{in_stmt};
+ghost use Rattle.law_designs.specs.Kinds as kinds;
+ghost use Rattle.law_designs.specs.Types as types;
+ghost use Rattle.law_designs.specs.Operands as operands;
+ghost use Rattle.law_designs.specs.KindFaults.{in_stmt};
 ghost use Rattle.smv_expression_kinds.specs.Forms.{kind_of, AreKindTables};
 ghost use Rattle.smv_expression_kinds.specs.Found.{vars_of, scope_of};
 ghost use Rattle.smv_kinds.specs.Found.{labels_of, arm_faults};
@@ -182,7 +182,7 @@ fn labels_beside<'a>(
 }
 
 // Expressions beside this kind, and the kind of all together.
-#[tactic(auto, using(smv_instances::proofs::Notes::noting), unfolding(law_kinds::specs::Kinds::alike_with, law_kinds::specs::Kinds::kind_with, law_kinds::specs::Kinds::unless, smv_expression_kinds::specs::Forms::misfit))]
+#[tactic(auto, using(smv_instances::proofs::Notes::noting), unfolding(law_designs::specs::Kinds::alike_with, law_designs::specs::Kinds::kind_with, law_designs::specs::Kinds::unless, smv_expression_kinds::specs::Forms::misfit))]
 fn all_fitting<'a>(
     parts: &'a [Expr],
     scope: &Scope<'a, '_>,

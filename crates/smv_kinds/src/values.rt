@@ -1,9 +1,9 @@
 // The values of assignments, and what they are assigned to.
 ghost use Rattle.std.specs.Prelude.{◌≡◌, ◌++◌, map, IfOk, OnOk};
-ghost use Rattle.law_kinds.specs.Kinds as kinds;
-ghost use Rattle.law_kinds.specs.Types as types;
-ghost use Rattle.law_kinds.specs.Operands as spec;
-ghost use Rattle.law_kinds.specs.KindFaults.{assigned};
+ghost use Rattle.law_designs.specs.Kinds as kinds;
+ghost use Rattle.law_designs.specs.Types as types;
+ghost use Rattle.law_designs.specs.Operands as spec;
+ghost use Rattle.law_designs.specs.KindFaults.{assigned};
 ghost use Rattle.smv_expression_kinds.specs.Forms.{kind_of, AreKindTables};
 ghost use Rattle.smv_expression_kinds.specs.Found.{vars_of, scope_of};
 ghost use Rattle.smv_operand_kinds.specs.Found.{member as member_in};

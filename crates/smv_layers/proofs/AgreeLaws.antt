@@ -6,7 +6,7 @@ use Rattle.std.proofs.lemmas.Bool.Decides.{nat_tests}
 use Rattle.smv_core.specs.declared.flat.Family.{Family}
 use Rattle.smv_core.specs.declared.flat.Def.{Def}
 use Rattle.smv_core.specs.declared.flat.Design.{Design}
-use Rattle.law_loops_and_layers.specs.Loops as delay
+use Rattle.law_designs.specs.Loops as delay
 use Rattle.law_obligations.specs.Outlines.{earlier, earliest, base_of}
 use Rattle.smv_layers.specs.Leaks.{is_abstract}
 use Rattle.smv_layers.specs.Bases.{may_be_base}

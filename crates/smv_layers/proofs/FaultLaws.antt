@@ -7,7 +7,7 @@ use Rattle.smv_core.specs.declared.flat.Family.{Family}
 use Rattle.smv_instances.specs.FirstFault.{first_of, faults_at}
 use Rattle.smv_scope.specs.ScopeFault.{earlier_of}
 use Rattle.smv_scope.proofs.FirstLaws.{earlier-assoc, earlier-comm}
-use Rattle.law_loops_and_layers.specs.Reading.{Reference}
+use Rattle.law_designs.specs.Reading.{Reference}
 use Rattle.smv_layers.specs.Leaks.{is_abstract, first_among, first_read, fault_if_abstract}
 
 pub earlier-none : (f : Option Fault) → earlier_of f None ≡ f

@@ -11,9 +11,9 @@ use Rattle.smv_core.specs.declared.flat.Design.{Design}
 use Rattle.smv_instances.specs.FirstFault.{first_of, faults_at}
 use Rattle.smv_scope.specs.ScopeFault.{earlier_of}
 use Rattle.smv_scope.proofs.FirstLaws.{earlier-assoc, first-both}
-use Rattle.law_loops_and_layers.specs.Reading.{Reference, Reading, readings}
-use Rattle.law_loops_and_layers.specs.LayerFaults.{assignments_of, outside_layers}
-use Rattle.law_loops_and_layers.specs.FirstFault.{first_fault_of_layers}
+use Rattle.law_designs.specs.Reading.{Reference, Reading, readings}
+use Rattle.law_designs.specs.LayerFaults.{assignments_of, outside_layers}
+use Rattle.law_designs.specs.FirstFault.{first_fault_of_layers}
 use Rattle.smv_layers.specs.Leaks.{is_abstract, first_among, first_read, fault_if_abstract, part_fault, def_fault}
 use Rattle.smv_layers.proofs.FaultLaws.{read-append, among-append, crossed}
 use Rattle.smv_layers.proofs.PartLaws.{reading_fault, part-reads}

@@ -9,7 +9,7 @@ use Rattle.smv_core.specs.declared.flat.FlatSigned.{FlatSigned, out-FlatSigned}
 use Rattle.smv_core.specs.declared.flat.Flat.{Flat, Nothing, Assign, If', First', Forall', Row_of-Flat, end_of-Flat, more_of-Flat}
 use Rattle.smv_instances.specs.FirstFault.{first_of, faults_at}
 use Rattle.smv_scope.specs.ScopeFault.{earlier_of}
-use Rattle.law_loops_and_layers.specs.Reading.{Reference, references}
+use Rattle.law_designs.specs.Reading.{Reference, references}
 
 -- the first of some faults, if there is one
 abbrev pub first_among : List (Option Fault) → Option Fault

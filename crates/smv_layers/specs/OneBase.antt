@@ -3,7 +3,7 @@ use Rattle.std.specs.Prelude.{◌≡◌, ℕ, slice_get, is_none, Some, false, t
 use Rattle.std.specs.List.{AllByRecursion}
 use Rattle.smv_core.specs.declared.flat.Def.{Def}
 use Rattle.smv_core.specs.declared.flat.Design.{Design}
-use Rattle.law_loops_and_layers.specs.Loops.{is_base}
+use Rattle.law_designs.specs.Loops.{is_base}
 use Rattle.law_obligations.specs.Outlines.{base_of}
 use Rattle.smv_layers.specs.Leaks.{is_abstract}
 

@@ -1,6 +1,6 @@
 // The faults of abstract signals outside layers.
 ghost use Rattle.std.specs.Prelude.{◌≡◌, map};
-ghost use Rattle.law_loops_and_layers.specs.FirstFault.{first_fault_of_layers};
+ghost use Rattle.law_designs.specs.FirstFault.{first_fault_of_layers};
 ghost use Rattle.smv_layers.specs.Leaks as spec;
 ghost use Rattle.smv_layers.specs.Leaks.{first_among};
 

@@ -1,6 +1,6 @@
 //! The first fault of a design among those of abstract signals outside layers, and the design's units in flat order.
 //!
-//! For `smv_front` and for proofs. It meets `law_loops_and_layers/specs/LayerFaults` and `law_obligations/specs/Units`.
+//! For `smv_front` and for proofs. It meets `law_designs/specs/LayerFaults` and `law_obligations/specs/Units`.
 #![tactic(auto)]
 
 pub mod bases;

@@ -3,11 +3,11 @@ use Rattle.std.proofs.Common.{◌≡◌, ℕ, ◌<◌, ◌⊎◌, inl, inr, List
 use Rattle.std.specs.List.{flat_map}
 use Rattle.smv_core.specs.declared.flat.Cell.{Cell}
 use Rattle.smv_core.specs.declared.flat.Family.{Family}
-use Rattle.law_loops_and_layers.specs.Reading.{Reading}
-use Rattle.law_loops_and_layers.specs.Loops.{Edge, hold_a_cycle, in_order}
-use Rattle.law_loops_and_layers.specs.Laws.{AreFalling}
-use Rattle.law_loops_and_layers.proofs.Orders.{order}
-use Rattle.law_loops_and_layers.proofs.Descents.{no_cycle}
+use Rattle.law_designs.specs.Reading.{Reading}
+use Rattle.law_designs.specs.Loops.{Edge, hold_a_cycle, in_order}
+use Rattle.law_designs.specs.LoopLaws.{AreFalling}
+use Rattle.law_designs.proofs.Orders.{order}
+use Rattle.law_designs.proofs.Descents.{no_cycle}
 use Rattle.smv_loops.specs.Edges.{edges_at}
 use Rattle.smv_loops.proofs.Members.{In, in-flat_map, in-flat_mapped}
 use Rattle.smv_loops.proofs.SortLaws.{in-put}

@@ -8,7 +8,7 @@ use Rattle.smv_core.specs.declared.flat.Simple.{Simple}
 use Rattle.smv_core.specs.declared.flat.Simple.TheVariants.{Range, Enum, Set}
 use Rattle.smv_core.specs.declared.flat.Family.{Family}
 use Rattle.smv_core.specs.declared.flat.Cell.{Cell}
-use Rattle.law_loops_and_layers.specs.Loops.{at_index}
+use Rattle.law_designs.specs.Loops.{at_index}
 use Rattle.smv_loops.specs.Order.{every_way, cells_in, cells_from}
 use Rattle.smv_loops.proofs.Members.{In, in-either, in-get_or, in-mapped, in-flat_mapped}
 use Rattle.smv_loops.proofs.TableLaws.{not_below}

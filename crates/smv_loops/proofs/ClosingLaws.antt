@@ -6,10 +6,10 @@ use Rattle.std.proofs.lemmas.List.{get_or_read}
 use Rattle.std.proofs.Math.Seq.{take-append-add}
 use Rattle.smv_core.specs.declared.flat.Family.{Family}
 use Rattle.smv_core.specs.declared.flat.Design.{Design}
-use Rattle.law_loops_and_layers.specs.Reading.{Reading}
-use Rattle.law_loops_and_layers.specs.Loops.{Edge, hold_a_cycle, edges_of, closing, undelayed_in, in_order, is_base}
+use Rattle.law_designs.specs.Reading.{Reading}
+use Rattle.law_designs.specs.Loops.{Edge, hold_a_cycle, edges_of, closing, undelayed_in, in_order, is_base}
 use Rattle.smv_instances.specs.FirstFault.{first_of, faults_at}
-use Rattle.law_loops_and_layers.specs.FirstFault.{first_fault_of_loops}
+use Rattle.law_designs.specs.FirstFault.{first_fault_of_loops}
 use Rattle.smv_loops.specs.declared.ranks.Links.{Links}
 use Rattle.smv_loops.specs.declared.rows.Row.{Row}
 use Rattle.smv_loops.specs.Ranks.{rank, IsHeldUp, AreSettled}

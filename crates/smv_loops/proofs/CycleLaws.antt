@@ -3,13 +3,13 @@ use Rattle.std.proofs.Common.{◌≡◌, ℕ, zero, suc, ◌<◌, inl, inr, List
 use Rattle.std.specs.List.{flat_map}
 use Rattle.smv_core.specs.declared.flat.Cell.{Cell}
 use Rattle.smv_core.specs.declared.flat.Family.{Family}
-use Rattle.law_flattening.specs.WholeText.{is_one_layer}
-use Rattle.law_loops_and_layers.specs.Reading.{Reading}
-use Rattle.law_loops_and_layers.specs.Loops.{Edge, same_indexes, same_cell, leads_on, hold_a_cycle}
-use Rattle.law_loops_and_layers.specs.Laws.{AreFalling}
-use Rattle.law_loops_and_layers.proofs.Cycles.{none_is_missed}
-use Rattle.law_loops_and_layers.proofs.Orders.{order}
-use Rattle.law_loops_and_layers.proofs.Descents.{no_cycle}
+use Rattle.law_designs.specs.WholeText.{is_one_layer}
+use Rattle.law_designs.specs.Reading.{Reading}
+use Rattle.law_designs.specs.Loops.{Edge, same_indexes, same_cell, leads_on, hold_a_cycle}
+use Rattle.law_designs.specs.LoopLaws.{AreFalling}
+use Rattle.law_designs.proofs.Cycles.{none_is_missed}
+use Rattle.law_designs.proofs.Orders.{order}
+use Rattle.law_designs.proofs.Descents.{no_cycle}
 use Rattle.smv_loops.specs.Ranks.{rank}
 use Rattle.smv_loops.specs.Cells.{number_in, froms, tos}
 use Rattle.smv_loops.specs.Edges.{edges_at}

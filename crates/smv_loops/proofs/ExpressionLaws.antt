@@ -7,7 +7,7 @@ use Rattle.smv_core.specs.declared.flat.Simple.{Simple}
 use Rattle.smv_core.specs.declared.flat.FlatSigned.{FlatSigned}
 use Rattle.smv_core.specs.declared.flat.FlatMember.{FlatMember, One, Span as SpanOf}
 use Rattle.smv_core.specs.declared.flat.FlatExpr.{FlatExpr, Number, Var, Loop, Constant, Not, Iff, Compare, Within, Modulo, Choose, All, Any, Each, Read, Read', And, And', Or, Or', Implies, Implies', Sum, Sum', List as ListOf, List', Row_of-FlatExpr, end_of-FlatExpr, more_of-FlatExpr, Row_of-FlatMember, end_of-FlatMember, more_of-FlatMember, Row_of-FlatSigned, end_of-FlatSigned, more_of-FlatSigned, items-the_row-FlatExpr, items-the_row-FlatMember, items-the_row-FlatSigned, items_hidden-the_row-FlatExpr-0, items_hidden-the_row-FlatSigned-2, items_hidden-the_row-FlatMember-3}
-use Rattle.law_loops_and_layers.specs.Reading.{Reference, indexes_of, references_of, references_signed, references_members}
+use Rattle.law_designs.specs.Reading.{Reference, indexes_of, references_of, references_signed, references_members}
 use Rattle.smv_loops.specs.Held.{index_in, read_in, read_in_term, read_in_member}
 use Rattle.smv_loops.proofs.Computing.{boxes}
 use mathlib.Core.Former.{Count}

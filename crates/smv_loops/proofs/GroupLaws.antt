@@ -2,7 +2,7 @@
 use Rattle.std.proofs.Common.{◌≡◌, ℕ, zero, suc, ◌+◌, ◌-◌, ◌<◌, ◌≤◌, ◌⊎◌, inl, inr, List, [], ◌∷◌, ◌++◌, map, length, get_or, refl, sym, ap, ◌∙◌, arith}
 use Rattle.std.specs.List.{flat_map, All}
 use Rattle.smv_core.specs.declared.flat.Family.{Family}
-use Rattle.law_loops_and_layers.specs.Reading.{Reading}
+use Rattle.law_designs.specs.Reading.{Reading}
 use Rattle.smv_loops.specs.declared.ranks.Links.{Links}
 use Rattle.smv_loops.specs.Ranks.{rank, rank_at, Falls, AreBelow, IsHeldUp}
 use Rattle.smv_loops.specs.Cells.{number_in, froms, tos}

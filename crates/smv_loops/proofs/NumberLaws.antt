@@ -9,7 +9,7 @@ use Rattle.smv_core.specs.declared.flat.Simple.{Simple}
 use Rattle.smv_core.specs.declared.flat.Simple.TheVariants.{Range, Enum, Set}
 use Rattle.smv_core.specs.declared.flat.Family.{Family}
 use Rattle.smv_core.specs.declared.flat.Cell.{Cell}
-use Rattle.law_loops_and_layers.specs.Loops.{at_index, is_constant, cells_of}
+use Rattle.law_designs.specs.Loops.{at_index, is_constant, cells_of}
 use Rattle.smv_loops.specs.Cells.{picked, every, digit, place, base, over_of, number_in}
 use Rattle.smv_loops.proofs.Slices.{split}
 use Rattle.smv_loops.specs.Numbers.{places, digit_places, places_at, range_places, single_places}

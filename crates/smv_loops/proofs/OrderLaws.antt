@@ -6,7 +6,7 @@ use Rattle.std.proofs.lemmas.List.Elements.{All-get_or, All-nil, All-cons}
 use Rattle.std.proofs.lemmas.List.Sorted.{IsPermutation-map, All-permutation}
 use Rattle.smv_core.specs.declared.flat.Family.{Family}
 use Rattle.smv_core.specs.declared.flat.Cell.{Cell}
-use Rattle.law_loops_and_layers.specs.Loops.{Edge}
+use Rattle.law_designs.specs.Loops.{Edge}
 use Rattle.smv_loops.specs.declared.listed.Listed.{Listed}
 use Rattle.smv_loops.specs.Cells.{number_in}
 use Rattle.smv_loops.specs.Order.{AreAfterTheirReads, listed}

@@ -4,7 +4,7 @@ use Rattle.std.specs.List.{flat_map}
 use Rattle.smv_core.specs.declared.flat.Simple.{Simple}
 use Rattle.smv_core.specs.declared.flat.FlatExpr.{FlatExpr}
 use Rattle.smv_core.specs.declared.flat.Flat.{Flat, Nothing, If, First, Forall, Assign, First', Row_of-Flat, end_of-Flat, more_of-Flat, items-the_row-Flat, items_hidden-the_row-Flat-1}
-use Rattle.law_loops_and_layers.specs.Reading.{Reference, readings_of}
+use Rattle.law_designs.specs.Reading.{Reference, readings_of}
 use Rattle.smv_loops.specs.Held.{index_in, read_in, assigned_in}
 use Rattle.smv_loops.proofs.Computing.{boxes}
 use mathlib.Core.Former.{Count}

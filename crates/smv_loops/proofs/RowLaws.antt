@@ -11,8 +11,8 @@ use Rattle.smv_core.specs.declared.flat.Simple.{Simple}
 use Rattle.smv_core.specs.declared.flat.Simple.TheVariants.{Range, Enum, Set}
 use Rattle.smv_core.specs.declared.flat.Family.{Family}
 use Rattle.smv_core.specs.declared.flat.Cell.{Cell}
-use Rattle.law_loops_and_layers.specs.Loops.{at_index, is_constant, cells_of}
-use Rattle.law_loops_and_layers.specs.Reading.{Reading}
+use Rattle.law_designs.specs.Loops.{at_index, is_constant, cells_of}
+use Rattle.law_designs.specs.Reading.{Reading}
 use Rattle.smv_loops.specs.declared.index.Index.{Index as HeldIndex}
 use Rattle.smv_loops.specs.declared.ranks.Links.{Links}
 use Rattle.smv_loops.specs.declared.rows.Row.{Row}

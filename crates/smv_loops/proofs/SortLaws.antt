@@ -5,8 +5,8 @@ use Rattle.std.specs.Ordering.{is_lt, nat_cmp}
 use Rattle.std.proofs.lemmas.List.{append-nil, map-append, reverse-append}
 use Rattle.std.proofs.lemmas.List.Elements.{filter-append, filter_agree}
 use Rattle.std.proofs.lemmas.Bool.{cases_eq}
-use Rattle.law_loops_and_layers.specs.Reading.{Reading}
-use Rattle.law_loops_and_layers.specs.Loops.{put, in_order}
+use Rattle.law_designs.specs.Reading.{Reading}
+use Rattle.law_designs.specs.Loops.{put, in_order}
 use Rattle.smv_loops.proofs.Members.{In, in-filter, in-filtered, in-mapped, in-same, place-in}
 
 same : (n : ℕ) → nat_eq n n ≡ true

@@ -8,8 +8,8 @@ use Rattle.smv_core.specs.declared.flat.Simple.{Simple}
 use Rattle.smv_core.specs.declared.flat.Simple.TheVariants.{Range, Enum, Set}
 use Rattle.smv_core.specs.declared.flat.Family.{Family}
 use Rattle.smv_core.specs.declared.flat.Cell.{Cell}
-use Rattle.law_loops_and_layers.specs.Loops.{at_index, is_constant, cells_of}
-use Rattle.law_loops_and_layers.specs.Reading.{Reading}
+use Rattle.law_designs.specs.Loops.{at_index, is_constant, cells_of}
+use Rattle.law_designs.specs.Reading.{Reading}
 use Rattle.smv_loops.specs.Cells.{picked, every, digit, place, base, over_of, number_in, froms, tos, reads_of}
 use Rattle.smv_loops.proofs.Members.{In, in-filtered, in-mapped, in-flat_mapped}
 use Rattle.smv_loops.proofs.NumberLaws.{length-map}

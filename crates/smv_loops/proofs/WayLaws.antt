@@ -8,7 +8,7 @@ use Rattle.smv_core.specs.declared.flat.Simple.{Simple}
 use Rattle.smv_core.specs.declared.flat.Simple.TheVariants.{Range}
 use Rattle.smv_core.specs.declared.flat.Family.{Family}
 use Rattle.smv_core.specs.declared.flat.Cell.{Cell}
-use Rattle.law_loops_and_layers.specs.Loops.{at_index}
+use Rattle.law_designs.specs.Loops.{at_index}
 use Rattle.smv_loops.specs.declared.listed.Listed.{Listed}
 use Rattle.smv_loops.specs.Order.{every_way, cells_in, cells_from, lists_of}
 use Rattle.smv_loops.proofs.Slices.{take-more}

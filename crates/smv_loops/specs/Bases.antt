@@ -3,8 +3,8 @@ use Rattle.std.specs.Prelude.{◌≡◌, ℕ, ◌<◌, List, [], ◌++◌, lengt
 use Rattle.std.specs.List.{list_any}
 use Rattle.smv_core.specs.declared.flat.Def.{Def}
 use Rattle.smv_core.specs.declared.flat.Design.{Design}
-use Rattle.law_loops_and_layers.specs.Loops.{may_be_base}
-use Rattle.law_loops_and_layers.specs.Reading.{Reading}
+use Rattle.law_designs.specs.Loops.{may_be_base}
+use Rattle.law_designs.specs.Reading.{Reading}
 use Rattle.smv_loops.specs.Held.{assigned_in}
 
 abbrev pub is_below : Option ℕ → ℕ → Bool

@@ -5,8 +5,8 @@ use Rattle.smv_core.specs.declared.flat.Simple.{Simple}
 use Rattle.smv_core.specs.declared.flat.Simple.TheVariants.{Range}
 use Rattle.smv_core.specs.declared.flat.Family.{Family}
 use Rattle.smv_core.specs.declared.flat.Cell.{Cell}
-use Rattle.law_loops_and_layers.specs.Loops.{at_index, ways, cells_of}
-use Rattle.law_loops_and_layers.specs.Reading.{Reference, Reading}
+use Rattle.law_designs.specs.Loops.{at_index, ways, cells_of}
+use Rattle.law_designs.specs.Reading.{Reference, Reading}
 
 -- what the cells with these indexes have at them
 abbrev pub picked : List Simple → List Index → List (List (Option ℕ))

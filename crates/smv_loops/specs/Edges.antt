@@ -2,8 +2,8 @@
 use Rattle.std.specs.Prelude.{◌≡◌, ℕ, ◌+◌, ◌<◌, List, [], ◌∷◌, ◌++◌, length, map, flat_map, take, true, false}
 use Rattle.std.specs.List.{All}
 use Rattle.smv_core.specs.declared.flat.Family.{Family}
-use Rattle.law_loops_and_layers.specs.Reading.{Reading}
-use Rattle.law_loops_and_layers.specs.Loops.{Edge, hold_a_cycle}
+use Rattle.law_designs.specs.Reading.{Reading}
+use Rattle.law_designs.specs.Loops.{Edge, hold_a_cycle}
 use Rattle.smv_loops.specs.declared.ranks.Links.{Links}
 use Rattle.smv_loops.specs.Cells.{base, number_in, froms, tos}
 

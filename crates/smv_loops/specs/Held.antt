@@ -7,7 +7,7 @@ use Rattle.smv_core.specs.declared.flat.FlatSigned.{FlatSigned, out-FlatSigned}
 use Rattle.smv_core.specs.declared.flat.FlatExpr.{FlatExpr}
 use Rattle.smv_core.specs.declared.flat.FlatMember.{FlatMember, One, Span as SpanOf}
 use Rattle.smv_core.specs.declared.flat.Flat.{Flat}
-use Rattle.law_loops_and_layers.specs.Reading.{Reference, Reading, references, readings}
+use Rattle.law_designs.specs.Reading.{Reference, Reading, references, readings}
 use Rattle.smv_loops.specs.declared.index.Index.{Index as HeldIndex}
 use Rattle.smv_loops.specs.declared.index.Index.TheVariants.{Fixed, Bare, Computed}
 use Rattle.smv_loops.specs.declared.reading.Read.{Read}

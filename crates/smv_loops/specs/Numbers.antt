@@ -4,7 +4,7 @@ use Rattle.smv_core.specs.Assignments.{Index, fits}
 use Rattle.smv_core.specs.Values.{numbers_from, number}
 use Rattle.smv_core.specs.declared.flat.Simple.{Simple}
 use Rattle.smv_core.specs.declared.flat.Family.{Family}
-use Rattle.law_loops_and_layers.specs.Loops.{is_constant}
+use Rattle.law_designs.specs.Loops.{is_constant}
 use Rattle.smv_loops.specs.Cells.{picked, every, place, base}
 
 -- where the numbers of each family begin, and at the end how many there are

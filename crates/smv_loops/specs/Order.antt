@@ -11,7 +11,7 @@ use Rattle.smv_core.specs.declared.flat.Simple.{Simple}
 use Rattle.smv_core.specs.declared.flat.Family.{Family}
 use Rattle.smv_core.specs.declared.flat.Cell.{Cell}
 use Rattle.smv_core.specs.declared.flat.Design.{Design}
-use Rattle.law_loops_and_layers.specs.Loops.{Edge, at_index, ways, edges_of, undelayed_in}
+use Rattle.law_designs.specs.Loops.{Edge, at_index, ways, edges_of, undelayed_in}
 use Rattle.smv_loops.specs.declared.listed.Listed.{Listed}
 use Rattle.smv_loops.specs.Cells.{number_in}
 use Rattle.smv_loops.specs.Ranks.{rank}

@@ -1,7 +1,7 @@
 -- Rows: all cells of a family with some indexes, under one number for all assignments that read them.
 use Rattle.std.specs.Prelude.{◌≡◌, ℕ, ◌-◌, List, [], ◌∷◌, map, length, slice_get, slice_index_or, if◌then◌else◌, nat_lt}
 use Rattle.smv_core.specs.declared.flat.Family.{Family}
-use Rattle.law_loops_and_layers.specs.Loops.{cells_of}
+use Rattle.law_designs.specs.Loops.{cells_of}
 use Rattle.smv_loops.specs.Cells.{base, number_in}
 use Rattle.smv_loops.specs.Held.{index_of}
 use Rattle.smv_loops.specs.declared.rows.Row.{Row}

@@ -1,6 +1,6 @@
 // Base definitions, and the assignments of a design that hold at one time.
 ghost use Rattle.std.specs.Prelude.{◌≡◌, [], ◌∷◌, ◌++◌, ◌||◌, ℕ, nat_lt, map, flat_map, filter, slice_get, IfOk, OnOk};
-ghost use Rattle.law_loops_and_layers.specs.Loops as spec;
+ghost use Rattle.law_designs.specs.Loops as spec;
 ghost use Rattle.smv_loops.specs.Bases.{AreFirsts, NotedBy, is_below, undelayed_of};
 ghost use Rattle.smv_loops.specs.Held.{reading_of};
 

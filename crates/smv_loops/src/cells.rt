@@ -3,8 +3,8 @@ ghost use Rattle.std.specs.Prelude.{◌≡◌, ◌+◌, ◌*◌, ◌∷◌, ◌+
 ghost use Rattle.std.specs.List.{All};
 ghost use Rattle.smv_core.specs.Assignments.{computed, fits, fixed};
 ghost use Rattle.smv_core.specs.Values.{number};
-ghost use Rattle.law_loops_and_layers.specs.Loops as loops;
-ghost use Rattle.law_loops_and_layers.specs.Loops.{at_index, cells_of};
+ghost use Rattle.law_designs.specs.Loops as loops;
+ghost use Rattle.law_designs.specs.Loops.{at_index, cells_of};
 ghost use Rattle.smv_loops.specs.Cells.{every, place, number_in};
 ghost use Rattle.smv_loops.specs.Edges.{AreLinks, total};
 ghost use Rattle.smv_loops.specs.Held.{index_in, index_of, reading_of};

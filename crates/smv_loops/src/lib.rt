@@ -1,6 +1,6 @@
 //! Loops without delay: the first assignment with which cells of a design read themselves at one time.
 //!
-//! For `smv_front`. Cells and assignments are one graph, numbered and sorted; contracts speak of the edges of `law_loops_and_layers/specs/Loops` alone.
+//! For `smv_front`. Cells and assignments are one graph, numbered and sorted; contracts speak of the edges of `law_designs/specs/Loops` alone.
 #![tactic(auto)]
 
 pub mod base;

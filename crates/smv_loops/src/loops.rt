@@ -2,9 +2,9 @@
 ghost use Rattle.std.specs.Prelude.{◌≡◌, ℕ, ◌+◌, ◌<◌, ◌≤◌, List, length, map, take, flat_map, true, false, None, Some, IfOk, OnOk, MatchOption};
 ghost use Rattle.std.specs.List.{All};
 ghost use Rattle.std.specs.List.Sorted.{IsPermutation};
-ghost use Rattle.law_loops_and_layers.specs.FirstFault.{first_fault_of_loops};
-ghost use Rattle.law_loops_and_layers.specs.Loops as spec;
-ghost use Rattle.law_loops_and_layers.specs.Reading.{Reading};
+ghost use Rattle.law_designs.specs.FirstFault.{first_fault_of_loops};
+ghost use Rattle.law_designs.specs.Loops as spec;
+ghost use Rattle.law_designs.specs.Reading.{Reading};
 ghost use Rattle.smv_loops.specs.Edges.{AreAdded, AreShown, IsFirst, edges_at, total};
 ghost use Rattle.smv_loops.specs.Held.{reading_of};
 ghost use Rattle.smv_loops.specs.Numbers.{AreBases};

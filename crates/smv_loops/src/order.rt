@@ -1,6 +1,6 @@
 // Assignments in flat order.
 ghost use Rattle.std.specs.Prelude.{◌≡◌, map, IfOk};
-ghost use Rattle.law_loops_and_layers.specs.Loops.{in_order};
+ghost use Rattle.law_designs.specs.Loops.{in_order};
 ghost use Rattle.smv_loops.specs.Held.{reading_of};
 
 use crate::reading::Held;

@@ -2,7 +2,7 @@
 ghost use Rattle.std.specs.Prelude.{◌≡◌, ◌+◌, ◌<◌, ◌++◌, List, map, flat_map, length, true, slice_get, IfOk, IfSome, OnOk};
 ghost use Rattle.std.specs.List.{All};
 ghost use Rattle.smv_core.specs.Assignments.{fixed};
-ghost use Rattle.law_loops_and_layers.specs.Loops.{at_index, cells_of};
+ghost use Rattle.law_designs.specs.Loops.{at_index, cells_of};
 ghost use Rattle.smv_loops.specs.Cells.{picked, number_in, reads_of};
 ghost use Rattle.smv_loops.specs.Edges.{AreRowLinks, total};
 ghost use Rattle.smv_loops.specs.Held.{index_of, number_of, reference_of};

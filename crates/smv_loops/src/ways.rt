@@ -2,7 +2,7 @@
 ghost use Rattle.std.specs.Prelude.{◌≡◌, ◌+◌, ◌-◌, ◌++◌, map, Some, IfOk, OnOk};
 ghost use Rattle.smv_core.specs.Assignments.{computed};
 ghost use Rattle.smv_core.specs.Values.{numbers_from};
-ghost use Rattle.law_loops_and_layers.specs.Loops.{at_index};
+ghost use Rattle.law_designs.specs.Loops.{at_index};
 ghost use Rattle.smv_loops.specs.Order as spec;
 ghost use Rattle.smv_loops.specs.Order.{all_begun, begun, lists_of};
 

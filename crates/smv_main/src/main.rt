@@ -3,8 +3,8 @@
 //! It hands the words and the two streams to `smv_top::run`; what is proved of a run is said there.
 #![tactic(auto)]
 
+use smv_command::Status;
 use smv_io::{FromRead, ToWrite};
-use smv_status::Status;
 use smv_top::run;
 use std::process::ExitCode;
 use std::{env, io};

@@ -5,7 +5,7 @@ use Rattle.std.specs.Result.{IfOk}
 use Rattle.std.specs.Str.{bytes_eq}
 use Rattle.std.proofs.lemmas.Slice.Eq.{bytes_eq-Decides}
 use Rattle.smv_core.specs.Values.{Name}
-use Rattle.smv_abstraction.proofs.Tests.{same_tests}
+use Rattle.law_obligations.proofs.Tests.{same_tests}
 use Rattle.law_obligations.specs.Outlines.{place_of}
 use Rattle.name_index.specs.Position.{position}
 use Rattle.smv_core.specs.declared.flat.SetInfo.{SetInfo}

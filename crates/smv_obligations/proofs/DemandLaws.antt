@@ -17,15 +17,15 @@ use Rattle.smv_core.specs.declared.flat.Choice.{Choice}
 use Rattle.smv_core.specs.declared.flat.Timing.{Timing}
 use Rattle.smv_core.specs.declared.flat.Timing.TheVariants.{Before}
 use Rattle.smv_core.specs.declared.flat.Timed.{Timed}
-use Rattle.smv_abstraction.specs.Sets.{Has, first, later, one_of_each}
-use Rattle.smv_abstraction.specs.Places.{Place, World, named_in}
-use Rattle.smv_abstraction.specs.Covers.{AreApart, IsIndexType}
-use Rattle.smv_abstraction.specs.Obligations.{Demanded, defined, holds}
-use Rattle.smv_abstraction.specs.Soundness as sound
-use Rattle.smv_abstraction.specs.Soundness.{FlatUnit, map_of, claim_of, over_of, said_at}
-use Rattle.smv_abstraction.proofs.Members.{Has-left, Has-map, Has-from_map}
-use Rattle.smv_abstraction.proofs.OneOfEach.{map_joined, map_long}
-use Rattle.smv_abstraction.proofs.Tests.{same_tests}
+use Rattle.law_obligations.specs.Sets.{Has, first, later, one_of_each}
+use Rattle.law_obligations.specs.Places.{Place, World, named_in}
+use Rattle.law_obligations.specs.Covers.{AreApart, IsIndexType}
+use Rattle.law_obligations.specs.Obligations.{Demanded, defined, holds}
+use Rattle.law_obligations.specs.Soundness as sound
+use Rattle.law_obligations.specs.Soundness.{FlatUnit, map_of, claim_of, over_of, said_at}
+use Rattle.law_obligations.proofs.Members.{Has-left, Has-map, Has-from_map}
+use Rattle.law_obligations.proofs.OneOfEach.{map_joined, map_long}
+use Rattle.law_obligations.proofs.Tests.{same_tests}
 use Rattle.law_obligations.specs.Outlines.{Entry, entries_of, names_of, unit_in, map_in, assumed, chosen}
 use Rattle.law_obligations.specs.Units.{units_of}
 use Rattle.law_obligations.specs.Cones.{AbsElement, element, same_element}

@@ -3,8 +3,8 @@ use Rattle.std.proofs.Common.{◌≡◌, ℕ, suc, ◌+◌, ◌<◌, ◌≤◌, 
 use Rattle.std.specs.List.{flat_map, slice_index_or}
 use Rattle.smv_core.specs.declared.flat.Param.{Param}
 use Rattle.smv_core.specs.declared.flat.FlatExpr.{FlatExpr}
-use Rattle.smv_abstraction.specs.Sets.{one_of_each}
-use Rattle.smv_abstraction.proofs.OneOfEach.{joined_again}
+use Rattle.law_obligations.specs.Sets.{one_of_each}
+use Rattle.law_obligations.proofs.OneOfEach.{joined_again}
 use Rattle.smv_problem.specs.declared.problem.Demand.{Demand}
 use Rattle.smv_problem.specs.declared.problem.Demand.TheVariants.{Holds}
 use Rattle.smv_spots.specs.declared.spots.Spot.{Spot}

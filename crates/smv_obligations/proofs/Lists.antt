@@ -2,7 +2,7 @@
 use Rattle.std.proofs.Common.{◌≡◌, ℕ, zero, suc, ◌+◌, ◌<◌, ◌≤◌, List, [], ◌∷◌, ◌++◌, map, take, length, drop, get_or, Result, Ok, Err, Bool, true, false, if◌then◌else◌, refl, sym, ap, ◌∙◌, arith}
 use Rattle.std.specs.List.{flat_map, zip, slice_index_or}
 use Rattle.std.specs.Result.{OnOk, IfOk}
-use Rattle.smv_abstraction.specs.Sets.{Has, first, later, one_of_each}
+use Rattle.law_obligations.specs.Sets.{Has, first, later, one_of_each}
 use Rattle.smv_reads.proofs.Lists.{map-flat_map, flat_map-map, flat_map-same, map-map}
 
 pub nothing-behind : {X : Type 0} (xs : List X) → xs ++ [] ≡ xs

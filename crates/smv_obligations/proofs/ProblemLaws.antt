@@ -5,14 +5,14 @@ use Rattle.smv_core.specs.declared.flat.Timed.{Timed}
 use Rattle.smv_core.specs.declared.flat.Timing.TheVariants.{Now, Before}
 use Rattle.smv_core.specs.declared.flat.Element.{Element}
 use Rattle.smv_core.specs.declared.flat.Family.{Family}
-use Rattle.smv_abstraction.specs.declared.abstract_type.AbsType.{AbsType}
-use Rattle.smv_abstraction.specs.Places.{Place, World}
-use Rattle.smv_abstraction.specs.Soundness as sound
-use Rattle.smv_abstraction.specs.Soundness.{said_at}
+use Rattle.smv_core.specs.declared.abstract_type.AbsType.{AbsType}
+use Rattle.law_obligations.specs.Places.{Place, World}
+use Rattle.law_obligations.specs.Soundness as sound
+use Rattle.law_obligations.specs.Soundness.{said_at}
 use Rattle.law_obligations.specs.Outlines.{Entry, Outline, names_of, unit_in}
 use Rattle.law_obligations.specs.Cones.{cone, kept}
 use Rattle.law_obligations.specs.Problems.{demands}
-use Rattle.law_codes.specs.Readings.{Case}
+use Rattle.law_obligations.specs.Readings.{Case}
 use Rattle.law_problems.specs.Parts.{case_with, bits_with, fault_at_unit, width_fault}
 use Rattle.law_problems.proofs.Forms.{is_well_formed}
 use Rattle.smv_problem.specs.WellFormed.{IsWellFormed}

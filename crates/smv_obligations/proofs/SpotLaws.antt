@@ -10,13 +10,13 @@ use Rattle.smv_core.specs.declared.flat.Simple.TheVariants.{Range, Enum, Set}
 use Rattle.smv_core.specs.declared.flat.SetInfo.{SetInfo}
 use Rattle.smv_core.specs.declared.flat.Class.{Class}
 use Rattle.smv_core.specs.declared.flat.Class.TheVariants.{Number, Named, Rest}
-use Rattle.smv_abstraction.specs.declared.abstract_type.AbsType.{AbsType}
-use Rattle.smv_abstraction.specs.Sets.{Has, first, later}
-use Rattle.smv_abstraction.specs.Places.{named, rest, named_in}
-use Rattle.smv_abstraction.specs.Cases.{Treatment, Parameter, candidates}
-use Rattle.smv_abstraction.specs.Covers.{AreApart, IsIndexType}
-use Rattle.smv_abstraction.proofs.Members.{Has-from_map}
-use Rattle.smv_abstraction.proofs.OneOfEach.{AreOf, get_Has}
+use Rattle.smv_core.specs.declared.abstract_type.AbsType.{AbsType}
+use Rattle.law_obligations.specs.Sets.{Has, first, later}
+use Rattle.law_obligations.specs.Places.{named, rest, named_in}
+use Rattle.law_obligations.specs.Cases.{Treatment, Parameter, candidates}
+use Rattle.law_obligations.specs.Covers.{AreApart, IsIndexType}
+use Rattle.law_obligations.proofs.Members.{Has-from_map}
+use Rattle.law_obligations.proofs.OneOfEach.{AreOf, get_Has}
 use Rattle.law_obligations.specs.Outlines.{place_of}
 use Rattle.law_obligations.specs.Checked.{IsFilled}
 use Rattle.smv_problem.specs.Written.{set_number, written_spot}

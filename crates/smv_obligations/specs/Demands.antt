@@ -11,8 +11,8 @@ use Rattle.smv_core.specs.declared.flat.FlatExpr.{FlatExpr}
 use Rattle.smv_core.specs.declared.flat.Timing.{Timing}
 use Rattle.smv_core.specs.declared.flat.Timing.TheVariants.{Now, Before}
 use Rattle.smv_core.specs.declared.flat.Timed.{Timed}
-use Rattle.smv_abstraction.specs.Sets.{one_of_each}
-use Rattle.smv_abstraction.specs.Soundness.{FlatUnit, map_of, claim_of, over_of}
+use Rattle.law_obligations.specs.Sets.{one_of_each}
+use Rattle.law_obligations.specs.Soundness.{FlatUnit, map_of, claim_of, over_of}
 use Rattle.law_obligations.specs.Outlines.{unit_in, map_in, chosen}
 use Rattle.law_obligations.specs.Problems.{is_at, family_time}
 use Rattle.smv_problem.specs.declared.problem.Problem.{Problem}

@@ -6,10 +6,10 @@ ghost use Rattle.smv_obligations.specs.Demands as spec;
 
 use crate::targets::{claim_at, defined, held, own_def, own_indexes};
 use smv_cone::parts::{Part, chosen_in};
+use smv_copies::copy_classes;
 use smv_core::Seq;
 use smv_core::flat::{Assumed, Def, Element, FlatExpr, Param, Pick, Simple, Timed, Timing};
 use smv_elements::order::is_same;
-use smv_part_copies::copy_classes;
 use smv_problem::Demand;
 use smv_reads::bindings::spot_in;
 use smv_reads::indexes::classes_over;

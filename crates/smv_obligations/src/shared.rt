@@ -4,9 +4,9 @@ ghost use Rattle.smv_problem.specs.Written.{name_number, set_numbers_of};
 ghost use Rattle.smv_obligations.specs.Shared.{IsShared, parts_in, shared_in};
 
 use smv_cone::bits::list_lengths;
+use smv_copies::copy_families;
 use smv_core::Seq;
 use smv_core::flat::{Design, Element, Family};
-use smv_part_copies::copy_families;
 use smv_problem::Problem;
 use std::alloc::{AllocError, Global};
 

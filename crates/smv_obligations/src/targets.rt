@@ -8,10 +8,9 @@ ghost use Rattle.smv_cone.specs.Parts.{entry_of};
 ghost use Rattle.smv_obligations.specs.Demands as spec;
 
 use smv_cone::parts::{Part, indexes_of};
+use smv_copies::{copy_classes, copy_expression, copy_part};
 use smv_core::Seq;
 use smv_core::flat::{Claim, Class, Def, Element, FlatExpr, Unit};
-use smv_flat_copies::copy_expression;
-use smv_part_copies::{copy_classes, copy_part};
 use smv_problem::Demand;
 use smv_spots::spots::Spot;
 use std::alloc::{AllocError, Global};

@@ -7,10 +7,10 @@ use Rattle.smv_instances.specs.FirstFault.{faults_at}
 use Rattle.smv_core.specs.declared.fault.Fault.{Fault}
 use Rattle.smv_core.specs.declared.tree.Part.{Part, Field, At}
 use Rattle.smv_core.specs.Walk.{indexes_of}
-use Rattle.law_kinds.specs.Kinds.{Kind, number, enumeration, set_type, no_kind, joins, joined, is_number, accepts, Operand, unless, takes_number, takes, alike_with, kind_with, stray_set}
-use Rattle.law_kinds.specs.Types.{Whole}
-use Rattle.law_kinds.specs.References.{Scope, Vars, reference}
-use Rattle.law_kinds.specs.Operands.{operand}
+use Rattle.law_designs.specs.Kinds.{Kind, number, enumeration, set_type, no_kind, joins, joined, is_number, accepts, Operand, unless, takes_number, takes, alike_with, kind_with, stray_set}
+use Rattle.law_designs.specs.Types.{Whole}
+use Rattle.law_designs.specs.References.{Scope, Vars, reference}
+use Rattle.law_designs.specs.Operands.{operand}
 use Rattle.smv_expression_kinds.specs.declared.kinds.ValueKind.{ValueKind}
 use Rattle.smv_core.specs.declared.tree.Expr.{Expr}
 use Rattle.smv_scope.specs.declared.tables.Tables.{Tables as ScopeTables}

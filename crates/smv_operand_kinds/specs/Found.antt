@@ -9,10 +9,10 @@ use Rattle.smv_core.specs.declared.tree.Signed.{Signed, out-Signed}
 use Rattle.smv_core.specs.declared.tree.Member.{Member, One, Span as SpanOf}
 use Rattle.smv_instances.specs.NameFaults.{place_if}
 use Rattle.smv_instances.specs.FirstFault.{faults_at}
-use Rattle.law_kinds.specs.Kinds.{Kind, Operand, takes, number_at, has_order, first_at}
-use Rattle.law_kinds.specs.Types.{is_reversed}
-use Rattle.law_kinds.specs.References.{Scope, Vars}
-use Rattle.law_kinds.specs.Operands.{operand}
+use Rattle.law_designs.specs.Kinds.{Kind, Operand, takes, number_at, has_order, first_at}
+use Rattle.law_designs.specs.Types.{is_reversed}
+use Rattle.law_designs.specs.References.{Scope, Vars}
+use Rattle.law_designs.specs.Operands.{operand}
 use Rattle.smv_expression_kinds.specs.declared.kinds.ValueKind.{ValueKind}
 use Rattle.smv_scope.specs.declared.tables.Tables.{Tables as ScopeTables}
 use Rattle.smv_expression_kinds.specs.Forms.{kind_of, misfit}

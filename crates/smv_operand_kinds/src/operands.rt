@@ -2,11 +2,11 @@
 ghost use Rattle.std.specs.Prelude.{◌≡◌, ◌++◌, [], map, flat_map, option_map, IfOk, OnOk};
 ghost use Rattle.smv_core.specs.Walk.{indexes_of};
 ghost use Rattle.smv_core.specs.declared.tree.Path.{out-Path};
-ghost use Rattle.law_kinds.specs.Kinds as kinds;
-ghost use Rattle.law_kinds.specs.References as references;
+ghost use Rattle.law_designs.specs.Kinds as kinds;
+ghost use Rattle.law_designs.specs.References as references;
 ghost use Rattle.smv_core.specs.declared.tree.Part.{At};
 ghost use Rattle.smv_core.specs.declared.tree.Expr.{Expr};
-ghost use Rattle.law_kinds.specs.Operands as spec;
+ghost use Rattle.law_designs.specs.Operands as spec;
 ghost use Rattle.smv_scope.specs.declared.tables.Tables.{Tables as ScopeTables};
 ghost use Rattle.smv_expression_kinds.specs.Forms.{kind_of, misfit, AreKindTables};
 ghost use Rattle.smv_expression_kinds.specs.Found.{vars_of, scope_of, whole_of};
@@ -226,7 +226,7 @@ fn looked_through<'a>(
 
 /// The members of a listed set, beside this kind, and the kind of all together.
 #[cycle(operands)]
-#[tactic(auto, using(smv_instances::proofs::Notes::noting), unfolding(law_kinds::specs::Kinds::alike_with, law_kinds::specs::Kinds::kind_with, law_kinds::specs::Kinds::unless, smv_expression_kinds::specs::Forms::misfit))]
+#[tactic(auto, using(smv_instances::proofs::Notes::noting), unfolding(law_designs::specs::Kinds::alike_with, law_designs::specs::Kinds::kind_with, law_designs::specs::Kinds::unless, smv_expression_kinds::specs::Forms::misfit))]
 pub fn all_members<'a>(
     members: &'a [Member],
     scope: &Scope<'a, '_>,

@@ -3,9 +3,9 @@ ghost use Rattle.std.specs.Prelude.{◌≡◌, ◌++◌, ◌∷◌, [], flat_map
 ghost use Rattle.smv_core.specs.declared.tree.Field.{out-Field};
 ghost use Rattle.smv_instances.specs.NameFaults.{place_if};
 ghost use Rattle.smv_instances.specs.FirstFault.{faults_at};
-ghost use Rattle.law_kinds.specs.Types as spec;
+ghost use Rattle.law_designs.specs.Types as spec;
 ghost use Rattle.smv_scope.specs.declared.tables.Tables.{Tables as ScopeTables};
-ghost use Rattle.law_kinds.specs.Operands as operands;
+ghost use Rattle.law_designs.specs.Operands as operands;
 ghost use Rattle.smv_expression_kinds.specs.Forms.{kind_of, AreKindTables};
 ghost use Rattle.smv_expression_kinds.specs.Found.{vars_of, scope_of};
 
@@ -78,7 +78,7 @@ pub fn size_faults(out: &mut Vec<Fault>, span: Option<Span>, at: u32) -> Result<
 }
 
 /// The faults in an index type.
-#[tactic(auto, unfolding(law_kinds::specs::Types::index_faults))]
+#[tactic(auto, unfolding(law_designs::specs::Types::index_faults))]
 pub fn index_faults<'a>(
     over: &'a TypeExpr,
     scope: &Scope<'a, '_>,

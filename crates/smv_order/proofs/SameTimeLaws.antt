@@ -6,7 +6,7 @@ use Rattle.std.proofs.lemmas.List.{length-replicate}
 use Rattle.std.proofs.lemmas.Option.{slice_get-get_or}
 use Rattle.smv_core.specs.declared.flat.Family.{Family}
 use Rattle.smv_core.specs.declared.flat.Pick.{Pick}
-use Rattle.smv_abstraction.specs.Sets.{Has}
+use Rattle.law_obligations.specs.Sets.{Has}
 use Rattle.law_obligations.specs.Outlines.{Entry, Outline, chosen, unit_in}
 use Rattle.law_obligations.specs.Times.{is_member, families_at_once, first_families, next_families, same_time}
 use Rattle.graph_search.specs.Walks.{Walk, here, step, follow, list_at}

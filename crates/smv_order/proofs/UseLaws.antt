@@ -10,9 +10,9 @@ use Rattle.smv_core.specs.declared.flat.Choice.{Choice}
 use Rattle.smv_core.specs.declared.flat.Timed.{Timed}
 use Rattle.smv_core.specs.declared.flat.Timing.{Timing}
 use Rattle.smv_core.specs.declared.flat.Timing.TheVariants.{Now, Before}
-use Rattle.smv_abstraction.specs.Sets.{Has}
-use Rattle.smv_abstraction.proofs.Members.{Has-cases, Has-from_map}
-use Rattle.smv_abstraction.proofs.OneOfEach.{get_past, Has-from_flat_map}
+use Rattle.law_obligations.specs.Sets.{Has}
+use Rattle.law_obligations.proofs.Members.{Has-cases, Has-from_map}
+use Rattle.law_obligations.proofs.OneOfEach.{get_past, Has-from_flat_map}
 use Rattle.law_obligations.specs.Outlines.{Entry, Outline, entries_of, is_map, is_claim, claim_unit, unit_in_layer, picked_unit}
 use Rattle.law_obligations.specs.Times.{is_member, is_open_pick, same_time, other_units, open_uses, graph_from, unit_time, pick_time, claim_time, timed}
 use Rattle.law_obligations.proofs.Lookups.{Has-option, Has-from_filter, place_of-is}

@@ -3,10 +3,10 @@ use Rattle.std.proofs.Common.{◌≡◌, ℕ, List, [], ◌∷◌, map, length, 
 use Rattle.smv_conditions.specs.declared.chances.Chances.{Chances}
 use Rattle.smv_conditions.specs.Keep.{KeepsConditions}
 use Rattle.smv_conditions.specs.Chances.{mix_at, AreMade}
-use Rattle.law_outcomes.specs.Mix.{and_mix, or_mix, and_all, or_all, or_none, or_zero, all_mix, any_mix}
+use Rattle.law_obligations.specs.Mix.{and_mix, or_mix, and_all, or_all, or_none, or_zero, all_mix, any_mix}
 use Rattle.smv_conditions.specs.Chain.{AllMade}
 use Rattle.smv_conditions.proofs.ChainLaws.{mix_kept, mixes_kept}
-use Rattle.law_outcomes.specs.Combined.{union_mix, unions}
+use Rattle.law_obligations.specs.Combined.{union_mix, unions}
 
 module _ {S C : Type 0} (holds : S → C → (ℕ → Bool) → Bool) (a : ℕ → Bool) where
   pub no_union : (s t : S) (z : Chances C) (each : List (Chances C)) → length each ≡ 0 → mix_at holds t a z ≡ unions [] → mix_at holds t a z ≡ unions (map (mix_at holds s a) each)

@@ -2,3 +2,4 @@ pub mod CombinedLaws
 pub mod PairLaws
 pub mod ListLaws
 pub mod ReadLaws
+pub mod OrderLaws

@@ -5,7 +5,7 @@ use Rattle.std.proofs.Math.Seq.{drop-cons}
 use Rattle.smv_core.specs.Flat.{Numbered}
 use Rattle.smv_core.specs.declared.tree.Op.TheVariants.{Equal}
 use Rattle.smv_core.specs.Values.{number}
-use Rattle.smv_abstraction.specs.Places.{named, AbsOutcome, World}
+use Rattle.law_obligations.specs.Places.{named, AbsOutcome, World}
 use Rattle.smv_problem.specs.declared.problem.Problem.{Problem}
 use Rattle.smv_problem_spots.specs.Worlds.{IsWorldOf}
 use Rattle.smv_spots.specs.declared.spots.Spot.{Spot}
@@ -18,7 +18,7 @@ use Rattle.smv_conditions.specs.Chances.{mix_at, AreMade}
 use Rattle.smv_conditions.specs.Offers.{any_offer, AreOffersMade}
 use Rattle.smv_conditions.proofs.AddLaws.{offers_kept}
 use Rattle.smv_conditions.proofs.ChainLaws.{mix_kept}
-use Rattle.law_outcomes.specs.Mix.{none_at_all, or_mix, or_all}
+use Rattle.law_obligations.specs.Mix.{none_at_all, or_mix, or_all}
 use Rattle.smv_outcome_lists.specs.Pairs.{guard_mix, compare_each}
 use Rattle.smv_outcome_lists.specs.Lists.{AreListsMade, member_at, within_at}
 use Rattle.smv_outcome_lists.proofs.PairLaws.{each_same, head_made}

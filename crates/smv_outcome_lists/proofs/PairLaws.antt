@@ -4,8 +4,8 @@ use Rattle.std.specs.List.{list_any}
 use Rattle.smv_core.specs.Flat.{Numbered}
 use Rattle.smv_core.specs.Outcome.{is_true}
 use Rattle.smv_core.specs.declared.tree.Op.{Op}
-use Rattle.smv_abstraction.specs.Right.{is_false, is_neither}
-use Rattle.smv_abstraction.specs.Places.{AbsOutcome, may_compare}
+use Rattle.law_obligations.specs.Right.{is_false, is_neither}
+use Rattle.law_obligations.specs.Places.{AbsOutcome, may_compare}
 use Rattle.smv_spots.specs.declared.spots.Spot.{Spot}
 use Rattle.smv_spots.specs.declared.answers.Answers.{Answers}
 use Rattle.smv_spots.specs.Spots.{outcome_in}
@@ -13,15 +13,15 @@ use Rattle.smv_spots.specs.Answers.{answers_of}
 use Rattle.smv_conditions.specs.declared.offers.Offer.{Offer}
 use Rattle.smv_conditions.specs.declared.chances.Chances.{Chances}
 use Rattle.smv_conditions.specs.Keep.{KeepsConditions}
-use Rattle.law_outcomes.specs.Mix.{none_at_all}
+use Rattle.law_obligations.specs.Mix.{none_at_all}
 use Rattle.smv_conditions.specs.Chances.{mix_at, AreMade}
 use Rattle.smv_conditions.specs.Offers.{any_offer, AreOffersMade}
 use Rattle.smv_conditions.specs.Adds.{Adds}
 use Rattle.smv_conditions.proofs.AddLaws.{offers_same, offers_kept, rest_kept}
 use Rattle.smv_conditions.proofs.ChainLaws.{mix_kept}
-use Rattle.law_outcomes.proofs.MixLaws.{same_mix}
-use Rattle.law_outcomes.proofs.Anys.{any-ext}
-use Rattle.law_outcomes.specs.Combined.{branch_any}
+use Rattle.law_obligations.proofs.MixLaws.{same_mix}
+use Rattle.law_obligations.proofs.Anys.{any-ext}
+use Rattle.law_obligations.specs.Combined.{branch_any}
 use Rattle.smv_outcome_lists.specs.Pairs.{with_answers, guard_mix, compare_each, compare_mix}
 
 pub rest_stays : {S C : Type 0} (IsMade : S → C → Type 0) (holds : S → C → (ℕ → Bool) → Bool) (room : S → ℕ) (s t : S) (o : Offer C) (os offers : List (Offer C)) → offers ≡ o ∷ os → KeepsConditions IsMade holds room s t → AreOffersMade (IsMade s) offers → AreOffersMade (IsMade t) os

@@ -3,10 +3,10 @@ use Rattle.std.proofs.Common.{◌≡◌, ℕ, ◌+◌, List, [], ◌∷◌, ◌+
 use Rattle.std.proofs.lemmas.List.{map-append}
 use Rattle.smv_core.specs.Flat.{Numbered}
 use Rattle.smv_core.specs.declared.flat.Simple.{Simple}
-use Rattle.smv_abstraction.specs.Places.{Place, World, AbsOutcome, places_in}
-use Rattle.smv_abstraction.specs.May.{place_within}
-use Rattle.law_outcomes.specs.Reads.{where_within}
-use Rattle.law_outcomes.proofs.Anys.{any-ext}
+use Rattle.law_obligations.specs.Places.{Place, World, AbsOutcome, places_in}
+use Rattle.law_obligations.specs.May.{place_within}
+use Rattle.law_obligations.specs.ReadOutcomes.{where_within}
+use Rattle.law_obligations.proofs.Anys.{any-ext}
 use Rattle.smv_spots.specs.declared.spots.Spot.{Spot}
 use Rattle.smv_spots.specs.Spots.{place_in, outcome_in}
 use Rattle.smv_conditions.specs.declared.offers.Offer.{Offer}

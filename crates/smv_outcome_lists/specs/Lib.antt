@@ -1,3 +1,4 @@
 pub mod Pairs
 pub mod Lists
 pub mod Reads
+pub mod Orders

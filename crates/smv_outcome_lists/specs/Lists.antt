@@ -2,10 +2,10 @@
 use Rattle.std.specs.Prelude.{ℕ, List, [], ◌∷◌, map, Bool}
 use Rattle.smv_core.specs.Flat.{Numbered}
 use Rattle.smv_core.specs.declared.tree.Op.TheVariants.{Equal}
-use Rattle.smv_abstraction.specs.Places.{AbsOutcome}
+use Rattle.law_obligations.specs.Places.{AbsOutcome}
 use Rattle.smv_conditions.specs.declared.offers.Offer.{Offer}
 use Rattle.smv_conditions.specs.Offers.{any_offer, AreOffersMade}
-use Rattle.law_outcomes.specs.Mix.{Mix, or_all}
+use Rattle.law_obligations.specs.Mix.{Mix, or_all}
 use Rattle.smv_outcome_lists.specs.Pairs.{compare_each}
 
 abbrev pub AreListsMade : {C : Type 0} → (C → Type 0) → List (List (Offer C)) → Type 0

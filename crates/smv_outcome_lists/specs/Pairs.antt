@@ -4,11 +4,11 @@ use Rattle.std.specs.List.{list_any}
 use Rattle.smv_core.specs.Flat.{Numbered}
 use Rattle.smv_core.specs.Outcome.{is_true}
 use Rattle.smv_core.specs.declared.tree.Op.{Op}
-use Rattle.smv_abstraction.specs.Right.{is_false, is_neither}
-use Rattle.smv_abstraction.specs.Places.{AbsOutcome, may_compare}
+use Rattle.law_obligations.specs.Right.{is_false, is_neither}
+use Rattle.law_obligations.specs.Places.{AbsOutcome, may_compare}
 use Rattle.smv_spots.specs.declared.answers.Answers.{Answers}
 use Rattle.smv_conditions.specs.declared.offers.Offer.{Offer}
-use Rattle.law_outcomes.specs.Mix.{Mix}
+use Rattle.law_obligations.specs.Mix.{Mix}
 use Rattle.smv_conditions.specs.Offers.{any_offer}
 
 -- the answers of one comparison more, under a condition

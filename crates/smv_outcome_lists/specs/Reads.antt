@@ -2,9 +2,9 @@
 use Rattle.std.specs.Prelude.{ℕ, List, [], ◌∷◌, ◌++◌, Option, Some, None, Bool}
 use Rattle.smv_core.specs.declared.flat.Simple.{Simple}
 use Rattle.smv_core.specs.declared.flat.Family.{Family}
-use Rattle.smv_abstraction.specs.Places.{Place, World, AbsOutcome, places_in}
-use Rattle.smv_abstraction.specs.May.{place_within}
-use Rattle.law_outcomes.specs.Reads.{where_within}
+use Rattle.law_obligations.specs.Places.{Place, World, AbsOutcome, places_in}
+use Rattle.law_obligations.specs.May.{place_within}
+use Rattle.law_obligations.specs.ReadOutcomes.{where_within}
 use Rattle.smv_conditions.specs.declared.offers.Offer.{Offer}
 use Rattle.smv_conditions.specs.Offers.{any_offer}
 use Rattle.smv_cells.specs.declared.cells.Cell.{Cell}

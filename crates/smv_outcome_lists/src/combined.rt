@@ -1,13 +1,13 @@
 // What operators make of what their parts may be.
 ghost use Rattle.std.specs.Prelude.{◌≡◌, ℕ, Bool, IfOk, map};
 ghost use Rattle.smv_core.specs.Flat.{Numbered};
-ghost use Rattle.smv_abstraction.specs.Places.{AbsOutcome};
+ghost use Rattle.law_obligations.specs.Places.{AbsOutcome};
 ghost use Rattle.smv_conditions.specs.Keep.{KeepsConditions};
-ghost use Rattle.law_outcomes.specs.Mix.{iff_mix};
+ghost use Rattle.law_obligations.specs.Mix.{iff_mix};
 ghost use Rattle.smv_conditions.specs.Chances.{AreMade, mix_at};
 ghost use Rattle.smv_conditions.specs.Chain.{AllMade};
 ghost use Rattle.smv_conditions.specs.Offers.{AreOffersMade, IsMayMade, any_offer, any_may};
-ghost use Rattle.law_outcomes.specs.Combined.{union_mix, unions, branch_any};
+ghost use Rattle.law_obligations.specs.Combined.{union_mix, unions, branch_any};
 
 use smv_conditions::chances::{Chances, none};
 use smv_conditions::conditions::Conditions;

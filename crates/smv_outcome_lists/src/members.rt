@@ -2,7 +2,7 @@
 ghost use Rattle.std.specs.Prelude.{◌≡◌, ℕ, Bool, Some, ◌+◌, ◌-◌, ◌++◌, map, IfOk, OnOk};
 ghost use Rattle.smv_core.specs.Flat.{Numbered};
 ghost use Rattle.smv_core.specs.Values.{number, numbers_from};
-ghost use Rattle.smv_abstraction.specs.Places.{AbsOutcome, World, named};
+ghost use Rattle.law_obligations.specs.Places.{AbsOutcome, World, named};
 ghost use Rattle.smv_spots.specs.Spots.{place_in, outcome_in};
 ghost use Rattle.smv_problem_spots.specs.Worlds.{IsWorldOf};
 ghost use Rattle.smv_conditions.specs.Keep.{KeepsConditions};
@@ -10,7 +10,7 @@ ghost use Rattle.smv_conditions.specs.Chances.{AreMade, mix_at};
 ghost use Rattle.smv_conditions.specs.Offers.{AreOffersMade, any_offer};
 ghost use Rattle.smv_outcome_lists.specs.Lists.{AreListsMade, member_at, within_at};
 ghost use Rattle.smv_outcome_lists.specs.Pairs.{compare_each};
-ghost use Rattle.law_outcomes.specs.Mix.{or_mix};
+ghost use Rattle.law_obligations.specs.Mix.{or_mix};
 ghost use Rattle.smv_core.specs.declared.tree.Op.TheVariants.{Equal};
 
 use crate::pairs::{compared_each, guarded};

@@ -2,7 +2,7 @@
 ghost use Rattle.std.specs.Prelude.{◌≡◌, ℕ, Bool, ◌&&◌, ◌||◌, IfOk, OnOk};
 ghost use Rattle.smv_core.specs.Flat.{Numbered};
 ghost use Rattle.smv_core.specs.Values.{add, modulo};
-ghost use Rattle.smv_abstraction.specs.Places.{World, AbsOutcome, valued, as_place};
+ghost use Rattle.law_obligations.specs.Places.{World, AbsOutcome, valued, as_place};
 ghost use Rattle.smv_spots.specs.Spots.{outcome_in};
 ghost use Rattle.smv_problem_spots.specs.Worlds.{IsWorldOf};
 ghost use Rattle.smv_conditions.specs.Keep.{KeepsConditions};

@@ -3,8 +3,8 @@ ghost use Rattle.std.specs.Prelude.{◌≡◌, ℕ, Bool, IfOk, map};
 ghost use Rattle.smv_conditions.specs.Keep.{KeepsConditions};
 ghost use Rattle.smv_conditions.specs.Chances.{AreMade, mix_at};
 ghost use Rattle.smv_conditions.specs.Chain.{AllMade};
-ghost use Rattle.law_outcomes.specs.Mix.{or_none, or_zero, all_mix, any_mix};
-ghost use Rattle.law_outcomes.specs.Combined.{unions};
+ghost use Rattle.law_obligations.specs.Mix.{or_none, or_zero, all_mix, any_mix};
+ghost use Rattle.law_obligations.specs.Combined.{unions};
 
 use crate::combined::union_of;
 use smv_conditions::chances::{Chances, Join, both, chain_of, either};

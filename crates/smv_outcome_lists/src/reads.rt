@@ -2,8 +2,8 @@
 ghost use Rattle.std.specs.Prelude.{◌≡◌, ℕ, Bool, IfOk, OnOk, map, slice_get, [], ◌∷◌};
 ghost use Rattle.std.specs.Prelude.{None};
 ghost use Rattle.smv_core.specs.Flat.{Numbered};
-ghost use Rattle.smv_abstraction.specs.Places.{AbsOutcome, World, places_in};
-ghost use Rattle.smv_abstraction.specs.May.{place_within};
+ghost use Rattle.law_obligations.specs.Places.{AbsOutcome, World, places_in};
+ghost use Rattle.law_obligations.specs.May.{place_within};
 ghost use Rattle.smv_spots.specs.Spots.{place_in, outcome_in};
 ghost use Rattle.smv_problem_spots.specs.Worlds.{IsWorldOf};
 ghost use Rattle.smv_conditions.specs.Keep.{KeepsConditions};

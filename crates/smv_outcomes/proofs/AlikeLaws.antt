@@ -2,10 +2,10 @@
 use Rattle.std.proofs.Common.{◌≡◌, ℕ, suc, List, [], ◌∷◌, ◌++◌, map, length, Bool, arith, refl, sym, ap, ◌∙◌, subst}
 use Rattle.std.proofs.lemmas.List.{append-nil}
 use Rattle.smv_core.specs.declared.flat.FlatExpr.{FlatExpr}
-use Rattle.smv_abstraction.specs.May.{seen}
-use Rattle.law_outcomes.specs.Mix.{Mix, mix_by}
-use Rattle.law_free_variables.specs.Reads.{reads, Agree}
-use Rattle.law_free_variables.proofs.FreeVariables.{may_alike}
+use Rattle.law_obligations.specs.May.{seen}
+use Rattle.law_obligations.specs.Mix.{Mix, mix_by}
+use Rattle.law_obligations.specs.FreeReads.{reads, Agree}
+use Rattle.law_obligations.proofs.FreeVariables.{may_alike}
 use Rattle.smv_free_variables.specs.Reading.{occurs}
 use Rattle.smv_free_variables.specs.Alike.{AllAgree}
 use Rattle.smv_spots.specs.declared.spots.Spot.{Spot}

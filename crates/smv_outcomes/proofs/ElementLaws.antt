@@ -6,17 +6,17 @@ use Rattle.smv_core.specs.declared.flat.Simple.{Simple}
 use Rattle.smv_core.specs.declared.flat.Family.{Family}
 use Rattle.smv_core.specs.declared.flat.FlatExpr.{FlatExpr, Read, Sum}
 use Rattle.smv_core.specs.declared.flat.FlatSigned.{FlatSigned}
-use Rattle.smv_abstraction.specs.Sets.{one_of_each}
-use Rattle.smv_abstraction.specs.Places.{Place, AbsOutcome, places_in}
-use Rattle.smv_abstraction.specs.May.{may, may_read, places_at, place_within}
-use Rattle.law_outcomes.specs.Mix.{is_there}
-use Rattle.law_outcomes.specs.Reads.{where_within, found, within_all, found_from}
-use Rattle.law_outcomes.specs.Combined.{sum_test}
-use Rattle.law_outcomes.proofs.Anys.{any-flat_map, any-ext}
-use Rattle.law_outcomes.proofs.MayLaws.{may-Read, may-Sum}
-use Rattle.law_outcomes.proofs.MixLaws.{there-choices}
-use Rattle.law_outcomes.proofs.ReadLaws.{found-within}
-use Rattle.law_outcomes.proofs.SumLaws.{any-summed}
+use Rattle.law_obligations.specs.Sets.{one_of_each}
+use Rattle.law_obligations.specs.Places.{Place, AbsOutcome, places_in}
+use Rattle.law_obligations.specs.May.{may, may_read, places_at, place_within}
+use Rattle.law_obligations.specs.Mix.{is_there}
+use Rattle.law_obligations.specs.ReadOutcomes.{where_within, found, within_all, found_from}
+use Rattle.law_obligations.specs.Combined.{sum_test}
+use Rattle.law_obligations.proofs.Anys.{any-flat_map, any-ext}
+use Rattle.law_obligations.proofs.MayLaws.{may-Read, may-Sum}
+use Rattle.law_obligations.proofs.MixLaws.{there-choices}
+use Rattle.law_obligations.proofs.ReadLaws.{found-within}
+use Rattle.law_obligations.proofs.SumLaws.{any-summed}
 use Rattle.smv_spots.specs.declared.spots.Spot.{Spot}
 use Rattle.smv_spots.specs.Spots.{place_in}
 use Rattle.smv_problem.specs.declared.problem.Problem.{Problem}

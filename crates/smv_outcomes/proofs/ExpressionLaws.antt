@@ -11,18 +11,18 @@ use Rattle.smv_core.specs.declared.tree.Op.{Op}
 use Rattle.smv_core.specs.declared.flat.FlatExpr.{FlatExpr, Not, And, Or, Implies, Number, Loop, Var, Constant, Iff, Compare, Choose, Modulo, List as ListOf, Each}
 use Rattle.smv_core.specs.declared.flat.FlatMember.{FlatMember}
 use Rattle.smv_core.specs.declared.flat.Simple.{Simple}
-use Rattle.smv_abstraction.specs.Right.{is_false, is_neither}
-use Rattle.smv_abstraction.specs.Places.{AbsOutcome, valued, as_place, may_compare}
-use Rattle.smv_abstraction.specs.May.{seen, shown, may}
-use Rattle.smv_abstraction.specs.Sets.{one_of_each, pairs}
-use Rattle.law_outcomes.specs.Mix.{Mix, mix_by, not_mix, iff_mix, and_all, or_all, implies_all, shown_of, is_there}
-use Rattle.law_outcomes.specs.Combined.{branch_any}
-use Rattle.law_outcomes.proofs.Anys.{any-flat_map, any-map, any-ext}
-use Rattle.law_outcomes.proofs.GiveLaws.{mix-compare}
-use Rattle.law_outcomes.proofs.MixLaws.{same_mix, any-shown, shown-any, shown-by, not-by, mix-conjunction, mix-disjunction, mix-implication}
-use Rattle.law_outcomes.proofs.WalkLaws.{any-branch}
-use Rattle.law_outcomes.proofs.MayLaws.{may-Not, may-And, may-Or, may-Implies, may-Iff, may-Compare, may-Choose, may-Modulo}
-use Rattle.law_outcomes.proofs.IffLaws.{mix-iff, pairs-map}
+use Rattle.law_obligations.specs.Right.{is_false, is_neither}
+use Rattle.law_obligations.specs.Places.{AbsOutcome, valued, as_place, may_compare}
+use Rattle.law_obligations.specs.May.{seen, shown, may}
+use Rattle.law_obligations.specs.Sets.{one_of_each, pairs}
+use Rattle.law_obligations.specs.Mix.{Mix, mix_by, not_mix, iff_mix, and_all, or_all, implies_all, shown_of, is_there}
+use Rattle.law_obligations.specs.Combined.{branch_any}
+use Rattle.law_obligations.proofs.Anys.{any-flat_map, any-map, any-ext}
+use Rattle.law_obligations.proofs.GiveLaws.{mix-compare}
+use Rattle.law_obligations.proofs.MixLaws.{same_mix, any-shown, shown-any, shown-by, not-by, mix-conjunction, mix-disjunction, mix-implication}
+use Rattle.law_obligations.proofs.WalkLaws.{any-branch}
+use Rattle.law_obligations.proofs.MayLaws.{may-Not, may-And, may-Or, may-Implies, may-Iff, may-Compare, may-Choose, may-Modulo}
+use Rattle.law_obligations.proofs.IffLaws.{mix-iff, pairs-map}
 use Rattle.smv_spots.specs.declared.spots.Spot.{Spot}
 use Rattle.smv_spots.specs.declared.spots.Spot.TheVariants as spot
 use Rattle.smv_spots.specs.Spots.{place_in, outcome_in}

@@ -7,9 +7,9 @@ use Rattle.smv_core.specs.Values.{add}
 use Rattle.smv_core.specs.declared.flat.FlatExpr.{FlatExpr}
 use Rattle.smv_core.specs.declared.flat.FlatMember.{FlatMember, One}
 use Rattle.smv_core.specs.declared.flat.FlatSigned.{FlatSigned, out-FlatSigned}
-use Rattle.smv_abstraction.specs.Places.{AbsOutcome, valued, as_place}
-use Rattle.law_outcomes.specs.Combined.{sum_test}
-use Rattle.law_outcomes.proofs.Anys.{any-ext}
+use Rattle.law_obligations.specs.Places.{AbsOutcome, valued, as_place}
+use Rattle.law_obligations.specs.Combined.{sum_test}
+use Rattle.law_obligations.proofs.Anys.{any-ext}
 use Rattle.smv_spots.specs.declared.spots.Spot.{Spot}
 use Rattle.smv_spots.specs.Spots.{outcome_in}
 use Rattle.smv_conditions.specs.declared.offers.Offer.{Offer}

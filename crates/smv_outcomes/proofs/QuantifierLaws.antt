@@ -6,14 +6,14 @@ use Rattle.smv_core.specs.Flat.{Numbered}
 use Rattle.smv_core.specs.Values.{Truth, conjunction, disjunction}
 use Rattle.smv_core.specs.declared.flat.Simple.{Simple}
 use Rattle.smv_core.specs.declared.flat.FlatExpr.{FlatExpr, All, Any}
-use Rattle.smv_abstraction.specs.Sets.{one_of_each, parts}
-use Rattle.smv_abstraction.specs.Places.{Place, AbsOutcome, named_in, rests_in, bind_place}
-use Rattle.smv_abstraction.specs.May.{seen, shown, may, quantified}
-use Rattle.law_outcomes.specs.Mix.{Mix, mix_by, all_mix, any_mix, is_there}
-use Rattle.law_outcomes.specs.Combined.{unions}
-use Rattle.law_outcomes.proofs.MayLaws.{may-All, may-Any}
-use Rattle.law_outcomes.proofs.MixLaws.{mix-quantified}
-use Rattle.law_outcomes.proofs.QuantifierLaws.{mix-quantified-any, quantified-shown, mix-flat_map}
+use Rattle.law_obligations.specs.Sets.{one_of_each, parts}
+use Rattle.law_obligations.specs.Places.{Place, AbsOutcome, named_in, rests_in, bind_place}
+use Rattle.law_obligations.specs.May.{seen, shown, may, quantified}
+use Rattle.law_obligations.specs.Mix.{Mix, mix_by, all_mix, any_mix, is_there}
+use Rattle.law_obligations.specs.Combined.{unions}
+use Rattle.law_obligations.proofs.MayLaws.{may-All, may-Any}
+use Rattle.law_obligations.proofs.MixLaws.{mix-quantified}
+use Rattle.law_obligations.proofs.QuantifierLaws.{mix-quantified-any, quantified-shown, mix-flat_map}
 use Rattle.smv_spots.specs.declared.spots.Spot.{Spot}
 use Rattle.smv_spots.specs.Spots.{place_in}
 use Rattle.smv_conditions.specs.declared.chances.Chances.{Chances}

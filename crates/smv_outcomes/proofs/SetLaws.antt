@@ -9,16 +9,16 @@ use Rattle.smv_core.specs.declared.tree.Span.{Span}
 use Rattle.smv_core.specs.declared.tree.Op.TheVariants.{Equal}
 use Rattle.smv_core.specs.declared.flat.FlatExpr.{FlatExpr, Within, List as ListOf, List', out-FlatExpr, roll-FlatExpr, roll-out-FlatExpr, Row_of-FlatMember, end_of-FlatMember, more_of-FlatMember, items-the_row-FlatMember, items_shown-the_row-FlatMember-3}
 use Rattle.smv_core.specs.declared.flat.FlatMember.{FlatMember, One, Span as SpanOf}
-use Rattle.smv_abstraction.specs.Right.{is_false, is_neither}
-use Rattle.smv_abstraction.specs.Sets.{one_of_each, pairs}
-use Rattle.smv_abstraction.specs.Places.{Place, named, AbsOutcome, may_compare, equal_places, where_defined}
-use Rattle.smv_abstraction.specs.May.{seen, shown, may, may_listed, may_members}
-use Rattle.law_outcomes.specs.Mix.{Mix, mix_by, or_all, is_there}
-use Rattle.law_outcomes.specs.Combined.{equal_mix, member_mix, within_mix}
-use Rattle.law_outcomes.proofs.Anys.{any-ext}
-use Rattle.law_outcomes.proofs.MixLaws.{same_mix, shown-by}
-use Rattle.law_outcomes.proofs.MayLaws.{may-Within, may-listed}
-use Rattle.law_outcomes.proofs.WithinLaws.{mix-within, within-shown}
+use Rattle.law_obligations.specs.Right.{is_false, is_neither}
+use Rattle.law_obligations.specs.Sets.{one_of_each, pairs}
+use Rattle.law_obligations.specs.Places.{Place, named, AbsOutcome, may_compare, equal_places, where_defined}
+use Rattle.law_obligations.specs.May.{seen, shown, may, may_listed, may_members}
+use Rattle.law_obligations.specs.Mix.{Mix, mix_by, or_all, is_there}
+use Rattle.law_obligations.specs.Combined.{equal_mix, member_mix, within_mix}
+use Rattle.law_obligations.proofs.Anys.{any-ext}
+use Rattle.law_obligations.proofs.MixLaws.{same_mix, shown-by}
+use Rattle.law_obligations.proofs.MayLaws.{may-Within, may-listed}
+use Rattle.law_obligations.proofs.WithinLaws.{mix-within, within-shown}
 use Rattle.smv_spots.specs.declared.spots.Spot.{Spot}
 use Rattle.smv_spots.specs.Spots.{place_in}
 use Rattle.smv_conditions.specs.declared.offers.Offer.{Offer}

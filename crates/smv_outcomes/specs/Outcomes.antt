@@ -4,10 +4,10 @@ use Rattle.std.specs.List.{list_any}
 use Rattle.smv_core.specs.declared.flat.FlatExpr.{FlatExpr}
 use Rattle.smv_core.specs.declared.flat.FlatMember.{FlatMember}
 use Rattle.smv_core.specs.declared.flat.FlatSigned.{FlatSigned}
-use Rattle.smv_abstraction.specs.Places.{AbsOutcome}
-use Rattle.smv_abstraction.specs.May.{seen, may_listed}
-use Rattle.law_outcomes.specs.Mix.{Mix, mix_by}
-use Rattle.law_outcomes.specs.Combined.{of_member, sum_test}
+use Rattle.law_obligations.specs.Places.{AbsOutcome}
+use Rattle.law_obligations.specs.May.{seen, may_listed}
+use Rattle.law_obligations.specs.Mix.{Mix, mix_by}
+use Rattle.law_obligations.specs.Combined.{of_member, sum_test}
 use Rattle.smv_spots.specs.declared.spots.Spot.{Spot}
 use Rattle.smv_spots.specs.Spots.{place_in}
 use Rattle.smv_conditions.specs.declared.offers.Offer.{Offer}

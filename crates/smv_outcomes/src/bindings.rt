@@ -1,6 +1,6 @@
 // The bindings inside a quantifier: its variable at each place of its type.
 ghost use Rattle.std.specs.Prelude.{◌≡◌, ◌++◌, ◌∷◌, [], map, take, IfOk, OnOk};
-ghost use Rattle.smv_abstraction.specs.Places.{World, named_in, rests_in, bind_place};
+ghost use Rattle.law_obligations.specs.Places.{World, named_in, rests_in, bind_place};
 ghost use Rattle.smv_spots.specs.Spots.{place_in};
 ghost use Rattle.smv_problem_spots.specs.Worlds.{IsWorldOf};
 

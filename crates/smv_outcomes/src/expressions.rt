@@ -11,7 +11,6 @@ ghost use Rattle.smv_outcomes.specs.Outcomes.{IsMayOf, AreOffersOf, IsTruthOf, A
 
 use crate::bindings::{bound_named, bound_rests, same_for_each};
 use smv_cells::Cell;
-use smv_comparisons::compared_lists;
 use smv_conditions::chances::{Chances, Join, chain_of, negated};
 use smv_conditions::conditions::Conditions;
 use smv_conditions::offers::{May, Offer, single, truths_of};
@@ -19,6 +18,7 @@ use smv_core::flat::{FlatExpr, FlatMember, FlatSigned};
 use smv_core::seq::Seq;
 use smv_free_variables::alike::all_agree;
 use smv_outcome_lists::combined::{chosen, matched, offers_of, valued};
+use smv_outcome_lists::compared_lists;
 use smv_outcome_lists::members::{add_numbers, within_of};
 use smv_outcome_lists::pairs::{added_of, remainders_of};
 use smv_outcome_lists::quantified::{all_of, any_of};

@@ -15,8 +15,8 @@ use Rattle.smv_core.specs.declared.flat.Param.{Param}
 use Rattle.smv_core.specs.declared.flat.Class.{Class}
 use Rattle.smv_core.specs.declared.flat.Case.{Case as CaseData}
 use Rattle.smv_core.specs.Values.{Name}
-use Rattle.smv_abstraction.specs.Sets.{Has, first, later}
-use Rattle.smv_abstraction.specs.LeafCases.{leaf_cases}
+use Rattle.law_obligations.specs.Sets.{Has, first, later}
+use Rattle.law_obligations.specs.LeafCases.{leaf_cases}
 use Rattle.law_obligations.specs.Outlines.{Entry, Script, entries_of, unit_in}
 use Rattle.law_obligations.specs.Units.{units_of, script_of}
 use Rattle.law_obligations.specs.Times.{timed_from}
@@ -26,11 +26,11 @@ use Rattle.smv_problem.specs.declared.report.UnitResult.{UnitResult}
 use Rattle.smv_problem.specs.declared.report.Plan.{Plan}
 use Rattle.law_problems.specs.Parts.{IsCaseOf, entry_of, case_with, cases_fault, fault_at_unit}
 use Rattle.law_reports.specs.Reports.{IsResultOf, AreResultsFrom}
-use Rattle.law_plan_cases.specs.Told.{IsToldBy}
-use Rattle.law_plan_cases.specs.Laws.{IsAt}
-use Rattle.law_plan_cases.proofs.Plans.{is_entry, told_is}
+use Rattle.law_reports.specs.Told.{IsToldBy}
+use Rattle.law_reports.specs.PlanLaws.{IsAt}
+use Rattle.law_reports.proofs.Plans.{is_entry, told_is}
 use Rattle.smv_decide.specs.Leaves.{classes_in, AreCases}
-use Rattle.law_plans_of_texts.specs.Rooms.{HasRoom, IsWholePlan}
+use Rattle.law_valid_texts.specs.Rooms.{HasRoom, IsWholePlan}
 
 some_is : {X : Type 0} {x y : X} → Some x ≡ Some y → x ≡ y
 some_is e = cc

@@ -1,1 +1,2 @@
 pub mod Numbers
+pub use Rattle.smv_decide.specs.Leaves

@@ -1,10 +1,10 @@
 // The verdict of a leaf.
 ghost use Rattle.std.specs.Prelude.{◌≡◌, ◌≤◌, IfOk, OnOk};
-ghost use Rattle.smv_abstraction.specs.LeafCases.{leaf_cases};
+ghost use Rattle.law_obligations.specs.LeafCases.{leaf_cases};
 ghost use Rattle.law_obligations.specs.Units.{units_of};
 ghost use Rattle.law_problems.specs.Parts.{IsPart, case_with};
-ghost use Rattle.law_plan_cases.specs.Told.{IsToldBy};
-ghost use Rattle.law_plans_of_texts.specs.Rooms.{HasRoom};
+ghost use Rattle.law_reports.specs.Told.{IsToldBy};
+ghost use Rattle.law_valid_texts.specs.Rooms.{HasRoom};
 ghost use Rattle.smv_chosen_table.specs.Tables.{IsIndex, AreBaseDefs};
 ghost use Rattle.smv_obligations.specs.Shared.{IsShared};
 ghost use Rattle.smv_decide.specs.Tasks.{IsTask, case_in};

@@ -1,6 +1,6 @@
 //! What is decided of the units of a plan, leaf by leaf: `prove_plan` gives a result for each unit in flat order, `prove_unit` that of one unit alone.
 //!
-//! For the calls that prove a text. `leaf` decides one leaf by its cases, `units` makes a unit's result. What a plan must be is said in `law_plans_of_texts` (`specs/Rooms`), that a report is right in
+//! For the calls that prove a text. `leaf` decides one leaf by its cases, `units` makes a unit's result. What a plan must be is said in `law_valid_texts` (`specs/Rooms`), that a report is right in
 //! `law_reports`. What is made once for a design (what its problems have in common, the table of its base definitions) goes from unit to unit, so a unit costs what its own cases and picks are.
 #![tactic(auto)]
 
@@ -9,12 +9,13 @@ ghost use Rattle.law_obligations.specs.Outlines.{Entry};
 ghost use Rattle.law_obligations.specs.Units.{script_of};
 ghost use Rattle.law_reports.specs.Reports.{IsReportOf};
 ghost use Rattle.law_valid_texts.specs.Reports.{IsReportOfUnit};
-ghost use Rattle.law_plans_of_texts.specs.Rooms.{IsWholePlan};
+ghost use Rattle.law_valid_texts.specs.Rooms.{IsWholePlan};
 
 pub mod leaf;
 pub mod units;
 
 use smv_core::Seq;
+pub use smv_decide::relations;
 use smv_problem::{Budgets, Plan, Report};
 use std::alloc::{AllocError, Global};
 use units::{result_alone, results};

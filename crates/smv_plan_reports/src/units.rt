@@ -3,7 +3,7 @@ ghost use Rattle.std.specs.Prelude.{◌≡◌, ◌≤◌, ◌<◌, Some, length,
 ghost use Rattle.law_obligations.specs.Outlines.{Entry};
 ghost use Rattle.law_obligations.specs.Units.{script_of};
 ghost use Rattle.law_reports.specs.Reports.{IsResultOf, AreResultsFrom};
-ghost use Rattle.law_plans_of_texts.specs.Rooms.{IsWholePlan};
+ghost use Rattle.law_valid_texts.specs.Rooms.{IsWholePlan};
 ghost use Rattle.smv_chosen_table.specs.Tables.{IsIndex, AreBaseDefs};
 ghost use Rattle.smv_obligations.specs.Shared.{IsShared};
 ghost use Rattle.smv_plan_reports.specs.Numbers.{AreNumbers};
@@ -15,7 +15,7 @@ use smv_core::flat::{Def, Design, Param};
 use smv_name_numbers::{name_numbers, set_numbers};
 use smv_obligations::{Shared, in_common};
 use smv_problem::{Budgets, Plan, UnitResult};
-use smv_split_tables::names::{copy_name, unit_name};
+use smv_splits::names::{copy_name, unit_name};
 use std::alloc::{AllocError, Global};
 
 /// The numbers of the names of a design: of its constants, list by list, and of its set types.

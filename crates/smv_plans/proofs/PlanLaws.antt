@@ -11,7 +11,7 @@ use Rattle.smv_core.specs.declared.flat.Unit.{Unit}
 use Rattle.law_obligations.specs.Units.{units_of}
 use Rattle.law_splits.proofs.Splits.{one_leaf_each}
 use Rattle.smv_uses.proofs.There.{one_choice_each}
-use Rattle.smv_leaves.specs.Answers.{AreLeaves}
+use Rattle.smv_split_faults.specs.Answers.{AreLeaves}
 use Rattle.smv_instances.specs.FirstFault.{first_of, or_else}
 use Rattle.law_splits.specs.Leaves.{leaves_of}
 use Rattle.law_splits.specs.SplitFaults.{first_fault_of_splits}

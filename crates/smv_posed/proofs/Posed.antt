@@ -5,14 +5,14 @@ use Rattle.smv_core.specs.declared.flat.Case.{Case as CaseData}
 use Rattle.smv_core.specs.declared.flat.Choice.{Choice}
 use Rattle.smv_core.specs.declared.flat.Design.{Design}
 use Rattle.smv_core.specs.declared.flat.Leaf.{Leaf}
-use Rattle.smv_abstraction.specs.Sets.{Has, first, later}
-use Rattle.smv_abstraction.specs.LeafCases.{leaf_cases}
+use Rattle.law_obligations.specs.Sets.{Has, first, later}
+use Rattle.law_obligations.specs.LeafCases.{leaf_cases}
 use Rattle.smv_problem.specs.declared.report.Plan.{Plan}
 use Rattle.law_problems.specs.Parts.{IsCaseOf}
-use Rattle.law_plans_of_texts.specs.Rooms.{HasRoom, IsWholePlan}
-use Rattle.law_read_plans.specs.Laws.{PlansOfValidTextsAreWhole}
+use Rattle.law_valid_texts.specs.Rooms.{HasRoom, IsWholePlan}
+use Rattle.law_valid_texts.specs.ReadPlanLaws.{PlansOfValidTextsAreWhole}
 use Rattle.smv_read_design.specs.Answers.{HasPlan}
-use Rattle.smv_decide.specs.Leaves.{classes_in}
+use Rattle.smv_plan_reports.specs.Leaves.{classes_in}
 use Rattle.smv_plan_reports.proofs.PlanLaws.{cases_are}
 
 pub whole_if : PlansOfValidTextsAreWhole → (text : List ℕ) (result : Result Plan Refusal) → IfOk result (HasPlan text) → IfOk result IsWholePlan

@@ -5,10 +5,10 @@ ghost use Rattle.smv_rings.specs.Lists.{IsRel};
 ghost use Rattle.smv_problem.specs.WellFormed.{IsProblem};
 
 use bdd_store::Store;
+use smv_plan_reports::relations;
 use smv_problem::Problem;
-use smv_relations::relations;
+use smv_readings::state_bits;
 use smv_rings::Rel;
-use smv_state_bits::state_bits;
 use std::alloc::{AllocError, Global};
 
 /// The functions of a case.

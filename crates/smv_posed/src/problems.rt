@@ -2,9 +2,9 @@
 
 ghost use Rattle.std.specs.Prelude.{◌<◌, IfOk, IfSome};
 ghost use Rattle.smv_problem.specs.WellFormed.{IsProblem};
-ghost use Rattle.law_plans_of_texts.specs.Rooms.{IsWholePlan};
+ghost use Rattle.law_valid_texts.specs.Rooms.{IsWholePlan};
 
-use law_read_plans::laws::plans_of_valid_texts_are_whole;
+use law_valid_texts::read_plans::plans_of_valid_texts_are_whole;
 use smv_cases::calls::cases;
 use smv_chosen_table::chosen_defs;
 use smv_core::Refusal;

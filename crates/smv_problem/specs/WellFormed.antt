@@ -14,18 +14,18 @@ use Rattle.smv_core.specs.declared.flat.Flat.{Flat, Nothing, Assign, If', First'
 use Rattle.smv_core.specs.declared.flat.Def.{Def}
 use Rattle.smv_core.specs.declared.flat.Guard.{Guard}
 use Rattle.smv_core.specs.declared.flat.Raw.{Raw}
-use Rattle.smv_abstraction.specs.Sets.{Has}
-use Rattle.smv_abstraction.specs.Places.{Place, is_named, World, places_in}
-use Rattle.smv_abstraction.specs.May.{AbsState}
-use Rattle.smv_abstraction.specs.declared.abstract_type.Rest.TheVariants.{Gaps}
-use Rattle.smv_abstraction.specs.Covers.{AreApart, IsIndexType}
-use Rattle.smv_abstraction.specs.Soundness.{over_of}
-use Rattle.smv_abstraction.specs.Pictures.{IsAbsState, AreNamedOf}
-use Rattle.smv_abstraction.specs.Obligations.{Demanded, defined, holds}
+use Rattle.law_obligations.specs.Sets.{Has}
+use Rattle.law_obligations.specs.Places.{Place, is_named, World, places_in}
+use Rattle.law_obligations.specs.May.{AbsState}
+use Rattle.smv_core.specs.declared.abstract_type.Rest.TheVariants.{Gaps}
+use Rattle.law_obligations.specs.Covers.{AreApart, IsIndexType}
+use Rattle.law_obligations.specs.Soundness.{over_of}
+use Rattle.law_obligations.specs.Pictures.{IsAbsState, AreNamedOf}
+use Rattle.law_obligations.specs.Obligations.{Demanded, defined, holds}
 use Rattle.law_obligations.specs.Cones.{AbsElement, element}
-use Rattle.law_flat_kinds.specs.FlatKinds as kinds
-use Rattle.law_flat_kinds.specs.FlatKinds.{Kind, set_type, Vars, kind_of}
-use Rattle.law_codes.specs.Readings.{Case, IsCase, state_bits}
+use Rattle.law_designs.specs.FlatKinds as kinds
+use Rattle.law_designs.specs.FlatKinds.{Kind, set_type, Vars, kind_of}
+use Rattle.law_obligations.specs.Readings.{Case, IsCase, state_bits}
 use Rattle.smv_problem.specs.declared.problem.AbsState.{AbsState as StateData}
 use Rattle.smv_problem.specs.declared.problem.Problem.{Problem}
 use Rattle.smv_problem.specs.Written.{written, written_state}

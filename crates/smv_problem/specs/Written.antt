@@ -9,14 +9,14 @@ use Rattle.smv_core.specs.declared.flat.Family.{Family}
 use Rattle.smv_core.specs.declared.flat.Class.{Class}
 use Rattle.smv_core.specs.declared.flat.Class.TheVariants as class
 use Rattle.smv_core.specs.declared.flat.Element.{Element}
-use Rattle.smv_abstraction.specs.declared.abstract_type.AbsType.{AbsType}
-use Rattle.smv_abstraction.specs.Places.{Place, named, rest, World, AbsOutcome}
-use Rattle.smv_abstraction.specs.May.{AbsState}
-use Rattle.smv_abstraction.specs.Obligations.{Demanded, defined, holds}
+use Rattle.smv_core.specs.declared.abstract_type.AbsType.{AbsType}
+use Rattle.law_obligations.specs.Places.{Place, named, rest, World, AbsOutcome}
+use Rattle.law_obligations.specs.May.{AbsState}
+use Rattle.law_obligations.specs.Obligations.{Demanded, defined, holds}
 use Rattle.law_obligations.specs.Outlines.{place_of}
 use Rattle.law_obligations.specs.Cones.{AbsElement}
-use Rattle.law_flat_kinds.specs.FlatKinds.{Kind, enumeration, kind_of}
-use Rattle.law_codes.specs.Readings.{Case}
+use Rattle.law_designs.specs.FlatKinds.{Kind, enumeration, kind_of}
+use Rattle.law_obligations.specs.Readings.{Case}
 use Rattle.smv_spots.specs.declared.spots.Spot.{Spot}
 use Rattle.smv_spots.specs.declared.spots.Spot.TheVariants as spot
 use Rattle.smv_problem.specs.declared.problem.AbsValue.{AbsValue}

@@ -1,6 +1,6 @@
 // The problem of a case as data: what the evaluator, the encoder and the trace read.
-use smv_abstraction::AbsType;
 use smv_core::Seq;
+use smv_core::abstract_type::AbsType;
 use smv_core::flat::{Element, Family, Flat, FlatExpr, Guard};
 use smv_spots::spots::Spot;
 

@@ -6,7 +6,7 @@ use Rattle.smv_core.specs.declared.flat.Simple.{Simple}
 use Rattle.smv_core.specs.declared.flat.Simple.TheVariants.{Range, Enum, Set}
 use Rattle.smv_core.specs.declared.flat.SetInfo.{SetInfo}
 use Rattle.smv_core.specs.declared.flat.Design.{Design}
-use Rattle.smv_abstraction.specs.Places.{World, named_in, rests_in, places_in, is_among, same_place, as_place}
+use Rattle.law_obligations.specs.Places.{World, named_in, rests_in, places_in, is_among, same_place, as_place}
 use Rattle.smv_spots.specs.declared.spots.Spot.{Spot}
 use Rattle.smv_spots.specs.declared.spots.Spot.TheVariants as spot
 use Rattle.smv_spots.specs.declared.places.Sort.TheVariants as sort

@@ -2,10 +2,10 @@
 use Rattle.std.specs.Prelude.{◌≡◌, ℕ, List, [], length, get_or, slice_get, Option, Some, None, Bool, true, false, ◌&&◌, bytes_eq, nat_eq}
 use Rattle.std.specs.List.{list_any}
 use Rattle.smv_core.specs.Values.{Name}
-use Rattle.smv_abstraction.specs.Places.{World}
-use Rattle.smv_abstraction.specs.declared.abstract_type.Rest.{Rest}
-use Rattle.smv_abstraction.specs.declared.abstract_type.Rest.TheVariants as beside
-use Rattle.smv_abstraction.specs.declared.abstract_type.AbsType.{AbsType}
+use Rattle.law_obligations.specs.Places.{World}
+use Rattle.smv_core.specs.declared.abstract_type.Rest.{Rest}
+use Rattle.smv_core.specs.declared.abstract_type.Rest.TheVariants as beside
+use Rattle.smv_core.specs.declared.abstract_type.AbsType.{AbsType}
 use Rattle.smv_spots.specs.Spots.{is_ordset, both_or_none, is_same_set, AreTypes}
 use Rattle.smv_problem.specs.declared.problem.Problem.{Problem}
 

@@ -1,7 +1,7 @@
 // What comparisons of spots may give.
 ghost use Rattle.std.specs.Prelude.{◌≡◌, ◌∷◌, [], slice_get, Some};
 ghost use Rattle.smv_core.specs.Values.{below};
-ghost use Rattle.smv_abstraction.specs.Places.{World, unsure, equal_places, below_places, may_compare};
+ghost use Rattle.law_obligations.specs.Places.{World, unsure, equal_places, below_places, may_compare};
 ghost use Rattle.smv_spots.specs.Spots.{place_in, outcome_in, of_set};
 ghost use Rattle.smv_spots.specs.Answers.{answers_of, turned_of};
 ghost use Rattle.smv_problem_spots.specs.Worlds.{IsWorldOf};

@@ -3,7 +3,7 @@ ghost use Rattle.std.specs.Prelude.{◌≡◌, get_or, slice_get};
 ghost use Rattle.smv_spots.specs.Spots.{classes_of, count_beside, rests_of};
 ghost use Rattle.smv_problem_spots.specs.Worlds.{count_at, is_one_set, name_number_at, is_one_constant, is_gaps, has_gaps};
 
-use smv_abstraction::abstract_type::Rest;
+use smv_core::abstract_type::Rest;
 use smv_problem::Problem;
 
 // Gaps around classes.

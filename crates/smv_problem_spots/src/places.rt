@@ -2,7 +2,7 @@
 ghost use Rattle.std.specs.Prelude.{◌≡◌, ◌-◌, ◌&&◌, map, IfOk, get_or, slice_get, option_map, nat_eq, nat_lt, nat_le, []};
 ghost use Rattle.std.specs.List.{list_any};
 ghost use Rattle.smv_core.specs.Values.{constant};
-ghost use Rattle.smv_abstraction.specs.Places.{World, named_in, rests_in, places_in, is_among, as_place};
+ghost use Rattle.law_obligations.specs.Places.{World, named_in, rests_in, places_in, is_among, as_place};
 ghost use Rattle.smv_spots.specs.Spots.{place_in, outcome_in, classes_of, rests_of};
 ghost use Rattle.smv_problem_spots.specs.Worlds.{IsWorldOf, is_one_set, is_listed_constant};
 

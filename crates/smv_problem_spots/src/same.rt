@@ -1,6 +1,6 @@
 // Spots that are the same place.
 ghost use Rattle.std.specs.Prelude.{◌≡◌, ◌&&◌};
-ghost use Rattle.smv_abstraction.specs.Places.{World, same_place};
+ghost use Rattle.law_obligations.specs.Places.{World, same_place};
 ghost use Rattle.smv_spots.specs.Spots.{place_in};
 ghost use Rattle.smv_spots.specs.declared.spots.Spot.TheVariants.{Class, Rest, Constant};
 ghost use Rattle.smv_problem_spots.specs.Worlds.{IsWorldOf};

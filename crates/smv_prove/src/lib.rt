@@ -5,16 +5,16 @@
 #![tactic(auto)]
 
 ghost use Rattle.std.specs.Prelude.{◌≡◌, ◌≤◌, true, IfOk, Some, None, length};
-ghost use Rattle.law_answers.specs.Dues.{IsFault, decides, limit};
+ghost use Rattle.smv_read_design.specs.Dues.{IsFault, decides, limit};
 ghost use Rattle.law_valid_texts.specs.Reports.{IsRightReport, IsUnitReport, HasNoUnit};
-ghost use Rattle.smv_command.specs.declared.Command.{Command};
+ghost use Rattle.smv_command.specs.declared.commands.Command.{Command};
 ghost use Rattle.smv_problem.specs.declared.report.Report.{Report};
 ghost use Rattle.smv_lex.specs.Answers.{IfFault};
 ghost use Rattle.smv_prove.specs.Ready.{IsReady};
 
 mod named;
 
-use law_read_plans::laws::plans_of_valid_texts_are_whole;
+use law_valid_texts::read_plans::plans_of_valid_texts_are_whole;
 use named::place_named;
 use smv_core::Refusal;
 use smv_plan_reports::{prove_plan, prove_unit};

@@ -4,7 +4,7 @@ ghost use Rattle.law_obligations.specs.Outlines.{place_of};
 ghost use Rattle.smv_prove.specs.Named.{is_named};
 
 use smv_core::flat::{Design, Unit};
-use smv_split_tables::names::unit_name;
+use smv_splits::names::unit_name;
 use std::alloc::{AllocError, Global};
 
 /// The place of the first of these units that has the name, if one has.

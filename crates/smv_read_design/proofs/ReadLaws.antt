@@ -16,14 +16,14 @@ use Rattle.smv_cases.specs.Faults.{Refuses}
 use Rattle.smv_problem.specs.declared.report.Plan.{Plan}
 use Rattle.smv_plans.specs.Plans.{IsPlan}
 use Rattle.smv_front.specs.TextFault.{text_fault}
-use Rattle.law_true_reports.specs.Joined.{flat_design}
-use Rattle.law_text_reports.specs.Plans.{IsTree}
+use Rattle.law_valid_texts.specs.Joined.{flat_design}
+use Rattle.law_valid_texts.specs.Plans.{IsTree}
 use Rattle.law_valid_texts.specs.Faults as valid
 use Rattle.law_valid_texts.specs.Faults.{pass_fault}
 use Rattle.law_answers.specs.Dues.{faulty, malformed, limit}
-use Rattle.law_parts_of_texts.specs.Laws.{LeavesAreParts, LeavesHaveFewCases}
-use Rattle.law_read_plans.specs.Laws.{WidthsAreLast, ReadTextsAreFaultless, PlansAreOfTexts}
-use Rattle.smv_widths.specs.Widths.{faults_of_widths, AreParts}
+use Rattle.law_valid_texts.specs.PartLaws.{LeavesAreParts, LeavesHaveFewCases}
+use Rattle.law_valid_texts.specs.ReadPlanLaws.{WidthsAreLast, ReadTextsAreFaultless, PlansAreOfTexts}
+use Rattle.smv_read_design.specs.Widths.{faults_of_widths, AreParts}
 use Rattle.smv_read_design.specs.Answers.{HasPlan, IsFaultOf}
 
 -- ---- a plan of a text without a fault of the passes up to cases

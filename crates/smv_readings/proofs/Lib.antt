@@ -1,4 +1,6 @@
 pub mod Spelling
-pub mod Values
+pub mod ReadValues
 pub mod Written
 pub mod Loops
+pub mod Logarithms
+pub mod Counts

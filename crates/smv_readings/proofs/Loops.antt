@@ -5,10 +5,10 @@ use Rattle.std.proofs.Math.Seq.{drop-cons}
 use Rattle.std.proofs.lemmas.List.{get_or-take, get_or-drop, length-take, length-take-le, length-drop}
 use Rattle.smv_core.specs.declared.flat.Family.{Family}
 use Rattle.smv_core.specs.declared.flat.Element.{Element}
-use Rattle.smv_abstraction.specs.declared.abstract_type.AbsType.{AbsType}
-use Rattle.law_codes.specs.Codes.{bits_for, code_from}
+use Rattle.smv_core.specs.declared.abstract_type.AbsType.{AbsType}
+use Rattle.law_obligations.specs.Codes.{bits_for, code_from}
 use Rattle.smv_problem.specs.declared.problem.AbsValue.{AbsValue}
-use Rattle.smv_state_bits.specs.StateBits.{count_for, bits_of_family, bits_of_elements}
+use Rattle.smv_readings.specs.StateBits.{count_for, bits_of_family, bits_of_elements}
 use Rattle.smv_readings.specs.States.{bits_in, values_for, value_of, value_at, values_from}
 use Rattle.smv_readings.proofs.Spelling.{code_same, bits_short}
 

@@ -1,7 +1,7 @@
 -- Codes, bit by bit.
 use Rattle.std.proofs.Common.{◌≡◌, ℕ, zero, suc, ◌+◌, ◌*◌, ◌^◌, ◌<◌, ◌≤◌, Bool, true, false, cond, refl, sym, ap, subst, ◌∙◌, arith}
-use Rattle.law_codes.specs.Codes.{bits_for, code_from}
-use Rattle.law_codes.proofs.Codes.{bits_are}
+use Rattle.law_obligations.specs.Codes.{bits_for, code_from}
+use Rattle.law_obligations.proofs.Codes.{bits_are}
 
 one_more : (x y : Bool) (p a b : ℕ) → a ≡ 2 * b + cond y 1 0 → cond x (2 * p) 0 + a ≡ 2 * (cond x p 0 + b) + cond y 1 0
 one_more true y p a b e = omega arith

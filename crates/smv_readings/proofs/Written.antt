@@ -11,28 +11,28 @@ use Rattle.smv_core.specs.declared.flat.Simple.{Simple}
 use Rattle.smv_core.specs.declared.flat.Simple.TheVariants.{Range, Enum, Set}
 use Rattle.smv_core.specs.declared.flat.SetInfo.{SetInfo}
 use Rattle.smv_core.specs.declared.flat.Family.{Family}
-use Rattle.smv_abstraction.specs.declared.abstract_type.AbsType.{AbsType}
-use Rattle.smv_abstraction.specs.Sets.{Has, first, later}
-use Rattle.smv_abstraction.specs.Places.{Place, named, rest, World, rests_beside, places_of, places_in}
-use Rattle.smv_abstraction.specs.May.{AbsState}
-use Rattle.smv_abstraction.proofs.Tests.{true_or_false}
+use Rattle.smv_core.specs.declared.abstract_type.AbsType.{AbsType}
+use Rattle.law_obligations.specs.Sets.{Has, first, later}
+use Rattle.law_obligations.specs.Places.{Place, named, rest, World, rests_beside, places_of, places_in}
+use Rattle.law_obligations.specs.May.{AbsState}
+use Rattle.law_obligations.proofs.Tests.{true_or_false}
 use Rattle.law_obligations.specs.Outlines.{place_of}
 use Rattle.law_obligations.specs.Cones.{AbsElement, element, same_element}
 use Rattle.law_obligations.proofs.ConeFacts.{same_element-itself, same_element-family, same_element-indexes}
-use Rattle.law_flat_kinds.specs.FlatKinds.{kind_of}
-use Rattle.law_codes.specs.Bits.{Bits}
-use Rattle.law_codes.specs.Codes.{bits_for, code_from, value_of_code}
-use Rattle.law_codes.specs.Readings.{Case, Slot, bits_of, code_of, slots_from, state_bits, reading}
-use Rattle.law_codes.specs.Readings as codes
-use Rattle.law_codes.proofs.ReadBack.{slot_element, reads_slot}
+use Rattle.law_designs.specs.FlatKinds.{kind_of}
+use Rattle.law_obligations.specs.Bits.{Bits}
+use Rattle.law_obligations.specs.Codes.{bits_for, code_from, value_of_code}
+use Rattle.law_obligations.specs.Readings.{Case, Slot, bits_of, code_of, slots_from, state_bits, reading}
+use Rattle.law_obligations.specs.Readings as codes
+use Rattle.law_obligations.proofs.ReadBack.{slot_element, reads_slot}
 use Rattle.smv_problem.specs.Written.{written, written_element, written_type, written_place, written_state, kind_in}
 use Rattle.smv_problem.specs.WellFormed.{AreDistinct, AreApartElements, IsWellFormed, IsProblem, OfCases}
 use Rattle.smv_problem.specs.declared.problem.AbsValue.{AbsValue}
 use Rattle.smv_problem.specs.declared.problem.AbsValue.TheVariants.{Number, Constant, Named, Rest}
 use Rattle.smv_problem.specs.declared.problem.AbsState.{AbsState as StateData}
 use Rattle.smv_problem.specs.declared.problem.Problem.{Problem}
-use Rattle.smv_state_bits.specs.StateBits.{count_for, bits_of_family, bits_in as bits_of_problem}
-use Rattle.smv_state_bits.proofs.Counts.{values-counted, bits-of-cases}
+use Rattle.smv_readings.specs.StateBits.{count_for, bits_of_family, bits_in as bits_of_problem}
+use Rattle.smv_readings.proofs.Counts.{values-counted, bits-of-cases}
 use Rattle.smv_readings.specs.States.{bits_in, values_beside, values_in, values_for, value_of, values_from, state_in, IsNarrow, AreNarrow}
 
 -- ---- the values of a type

@@ -6,11 +6,11 @@ use Rattle.smv_core.specs.declared.flat.Simple.{Simple}
 use Rattle.smv_core.specs.declared.flat.Simple.TheVariants.{Range, Enum, Set}
 use Rattle.smv_core.specs.declared.flat.Family.{Family}
 use Rattle.smv_core.specs.declared.flat.Element.{Element}
-use Rattle.smv_abstraction.specs.declared.abstract_type.Rest.TheVariants.{Gaps}
-use Rattle.smv_abstraction.specs.declared.abstract_type.AbsType.{AbsType}
-use Rattle.smv_abstraction.specs.Places.{rests_beside}
-use Rattle.law_codes.specs.Codes.{code_from}
-use Rattle.smv_state_bits.specs.StateBits.{bits_of_family}
+use Rattle.smv_core.specs.declared.abstract_type.Rest.TheVariants.{Gaps}
+use Rattle.smv_core.specs.declared.abstract_type.AbsType.{AbsType}
+use Rattle.law_obligations.specs.Places.{rests_beside}
+use Rattle.law_obligations.specs.Codes.{code_from}
+use Rattle.smv_readings.specs.StateBits.{bits_of_family}
 use Rattle.smv_problem.specs.declared.problem.AbsValue.{AbsValue}
 use Rattle.smv_problem.specs.declared.problem.AbsValue.TheVariants.{Number, Constant, Named, Rest}
 use Rattle.smv_problem.specs.declared.problem.AbsState.{AbsState}

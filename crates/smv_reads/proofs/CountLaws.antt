@@ -6,10 +6,10 @@ use Rattle.smv_core.specs.Flat.{flat_index}
 use Rattle.smv_core.specs.declared.flat.Simple.{Simple}
 use Rattle.smv_core.specs.declared.flat.FlatExpr.{FlatExpr}
 use Rattle.smv_core.specs.declared.flat.Flat.{Flat, Nothing, If, If', First, Forall, Forall', Assign, First', Row_of-Flat, end_of-Flat, more_of-Flat, items-the_row-Flat, items_hidden-the_row-Flat-1}
-use Rattle.smv_abstraction.specs.Places.{Place, places_in, bind_place}
-use Rattle.smv_abstraction.proofs.Tests.{or_left, or_right, or_cases, and_both, left_of, right_of, true_or_false}
-use Rattle.smv_abstraction.proofs.Members.{any-some}
-use Rattle.smv_abstraction.proofs.OneOfEach.{map_long}
+use Rattle.law_obligations.specs.Places.{Place, places_in, bind_place}
+use Rattle.law_obligations.proofs.Tests.{or_left, or_right, or_cases, and_both, left_of, right_of, true_or_false}
+use Rattle.law_obligations.proofs.Members.{any-some}
+use Rattle.law_obligations.proofs.OneOfEach.{map_long}
 use Rattle.law_obligations.specs.Reads.{is_own, is_bound_to, has_counting, have_counting}
 use Rattle.smv_spots.specs.declared.spots.Spot.{Spot}
 use Rattle.smv_reads.specs.declared.bindings.View.{View}

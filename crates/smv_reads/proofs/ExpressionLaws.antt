@@ -9,8 +9,8 @@ use Rattle.smv_core.specs.declared.flat.Simple.{Simple}
 use Rattle.smv_core.specs.declared.flat.FlatSigned.{FlatSigned}
 use Rattle.smv_core.specs.declared.flat.FlatMember.{FlatMember, One, Span as SpanOf}
 use Rattle.smv_core.specs.declared.flat.FlatExpr.{FlatExpr, Number, Var, Loop, Constant, Not, Iff, Compare, Within, Modulo, Choose, All, Any, Each, Read, Read', And, And', Or, Or', Implies, Implies', Sum, Sum', List as ListOf, List', Row_of-FlatExpr, end_of-FlatExpr, more_of-FlatExpr, Row_of-FlatMember, end_of-FlatMember, more_of-FlatMember, Row_of-FlatSigned, end_of-FlatSigned, more_of-FlatSigned, items-the_row-FlatExpr, items-the_row-FlatMember, items-the_row-FlatSigned, items_hidden-the_row-FlatExpr-0, items_hidden-the_row-FlatSigned-2, items_hidden-the_row-FlatMember-3}
-use Rattle.smv_abstraction.specs.Places.{Place, named_in, bind_place}
-use Rattle.smv_abstraction.proofs.OneOfEach.{map_joined}
+use Rattle.law_obligations.specs.Places.{Place, named_in, bind_place}
+use Rattle.law_obligations.proofs.OneOfEach.{map_joined}
 use Rattle.law_obligations.specs.Reads.{indexes_read, reads_each, reads_signed, reads_members}
 use Rattle.law_obligations.specs.Cones.{AbsElement, elements_at, elements_read}
 use Rattle.smv_problem.specs.Written.{written_element}

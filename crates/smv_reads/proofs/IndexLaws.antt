@@ -12,13 +12,13 @@ use Rattle.smv_core.specs.declared.flat.Element.{Element}
 use Rattle.smv_core.specs.declared.flat.Class.{Class}
 use Rattle.smv_core.specs.declared.flat.Class.TheVariants as class
 use Rattle.smv_core.specs.declared.flat.FlatExpr.{FlatExpr}
-use Rattle.smv_abstraction.specs.Sets.{Has, first, later, one_of_each}
-use Rattle.smv_abstraction.specs.Places.{Place, named, rest, named_in}
-use Rattle.smv_abstraction.specs.Covers.{IsIndexType}
-use Rattle.smv_abstraction.proofs.OneOfEach.{map_joined, joined_again, get_Has}
-use Rattle.smv_abstraction.specs.declared.abstract_type.AbsType.{AbsType}
+use Rattle.law_obligations.specs.Sets.{Has, first, later, one_of_each}
+use Rattle.law_obligations.specs.Places.{Place, named, rest, named_in}
+use Rattle.law_obligations.specs.Covers.{IsIndexType}
+use Rattle.law_obligations.proofs.OneOfEach.{map_joined, joined_again, get_Has}
+use Rattle.smv_core.specs.declared.abstract_type.AbsType.{AbsType}
 use Rattle.law_obligations.specs.Cones.{element, index_places, each_index, elements_in}
-use Rattle.law_cones.proofs.Writing.{choices_written}
+use Rattle.law_problems.proofs.Writing.{choices_written}
 use Rattle.smv_problem.specs.Written.{written_class, written_element}
 use Rattle.smv_spots.specs.declared.spots.Spot.{Spot}
 use Rattle.smv_spots.specs.declared.places.Sort.TheVariants as sort

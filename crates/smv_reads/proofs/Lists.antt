@@ -1,8 +1,8 @@
 -- Lists that are made of lists, and variables that are bound.
 use Rattle.std.proofs.Common.{◌≡◌, ℕ, zero, suc, List, [], ◌∷◌, ◌++◌, map, take, slice_get, option_map, Bool, true, false, ◌||◌, if◌then◌else◌, refl, ap, ◌∙◌}
 use Rattle.std.specs.List.{flat_map, list_any}
-use Rattle.smv_abstraction.specs.Places.{bind_place}
-use Rattle.smv_abstraction.proofs.OneOfEach.{map_joined}
+use Rattle.law_obligations.specs.Places.{bind_place}
+use Rattle.law_obligations.proofs.OneOfEach.{map_joined}
 use Rattle.smv_spots.specs.declared.spots.Spot.{Spot}
 use Rattle.smv_reads.specs.declared.bindings.View.{View}
 use Rattle.smv_reads.specs.Views.{place_in, places, bind_spot}

@@ -7,11 +7,11 @@ use Rattle.smv_core.specs.declared.flat.Simple.{Simple}
 use Rattle.smv_core.specs.declared.flat.Def.{Def}
 use Rattle.smv_core.specs.declared.flat.FlatExpr.{FlatExpr}
 use Rattle.smv_core.specs.declared.flat.Flat.{Flat, Nothing, If, First, Forall, Assign, First', Row_of-Flat, end_of-Flat, more_of-Flat, items-the_row-Flat, items_hidden-the_row-Flat-1}
-use Rattle.smv_abstraction.specs.Places.{Place, named_in, places_in, bind_place}
-use Rattle.smv_abstraction.proofs.OneOfEach.{map_joined}
+use Rattle.law_obligations.specs.Places.{Place, named_in, places_in, bind_place}
+use Rattle.law_obligations.proofs.OneOfEach.{map_joined}
 use Rattle.law_obligations.specs.Reads.{is_own, part_reads, parts_read}
 use Rattle.law_obligations.specs.Cones.{AbsElement, elements_at, elements_read}
-use Rattle.law_cones.proofs.Counting.{uncounted}
+use Rattle.law_problems.proofs.Counting.{uncounted}
 use Rattle.smv_problem.specs.Written.{written_element}
 use Rattle.smv_spots.specs.declared.spots.Spot.{Spot}
 use Rattle.smv_reads.specs.declared.bindings.View.{View}

@@ -3,7 +3,7 @@ use Rattle.std.specs.Prelude.{List, ◌∷◌, map, length, slice_get, Option, S
 use Rattle.smv_core.specs.Assignments.{Index, bare}
 use Rattle.smv_core.specs.Flat.{flat_index}
 use Rattle.smv_core.specs.declared.flat.Flat.{Flat, Nothing, Assign, If', First', Forall', Row_of-Flat, end_of-Flat, more_of-Flat}
-use Rattle.smv_abstraction.specs.Places.{Place, same_place}
+use Rattle.law_obligations.specs.Places.{Place, same_place}
 use Rattle.law_obligations.specs.Reads.{is_bound_to}
 
 -- a left side's index fits an element's: a variable alone lies there, and any other may

@@ -10,7 +10,7 @@ use Rattle.smv_core.specs.declared.flat.Flat.{Flat}
 use Rattle.smv_core.specs.declared.flat.FlatExpr.{FlatExpr}
 use Rattle.smv_core.specs.declared.flat.FlatSigned.{FlatSigned, out-FlatSigned}
 use Rattle.smv_core.specs.declared.flat.FlatMember.{FlatMember, One, Span as SpanOf}
-use Rattle.smv_abstraction.specs.Places.{named_in, places_in, bind_place}
+use Rattle.law_obligations.specs.Places.{named_in, places_in, bind_place}
 use Rattle.law_obligations.specs.Reads.{is_own, has_counting, part_reads}
 use Rattle.law_obligations.specs.Cones.{index_places, each_index, elements_at, elements_read, elements_of_def}
 use Rattle.smv_problem.specs.Written.{written_class, written_element}

@@ -7,14 +7,14 @@ use Rattle.smv_core.specs.declared.flat.Simple.{Simple}
 use Rattle.smv_core.specs.declared.flat.Simple.TheVariants.{Range, Enum, Set}
 use Rattle.smv_core.specs.declared.flat.Class.{Class}
 use Rattle.smv_core.specs.declared.flat.Class.TheVariants as class
-use Rattle.smv_abstraction.specs.declared.abstract_type.AbsType.{AbsType}
-use Rattle.smv_abstraction.specs.declared.abstract_type.Rest.TheVariants as beside
-use Rattle.smv_abstraction.specs.Sets.{Has}
-use Rattle.smv_abstraction.specs.Places.{Place, named, same_place, World, world}
-use Rattle.smv_abstraction.specs.Covers.{by_name}
+use Rattle.smv_core.specs.declared.abstract_type.AbsType.{AbsType}
+use Rattle.smv_core.specs.declared.abstract_type.Rest.TheVariants as beside
+use Rattle.law_obligations.specs.Sets.{Has}
+use Rattle.law_obligations.specs.Places.{Place, named, same_place, World, world}
+use Rattle.law_obligations.specs.Covers.{by_name}
 use Rattle.law_obligations.specs.Outlines.{names_of}
 use Rattle.law_obligations.specs.Reads.{is_bound_to}
-use Rattle.law_cones.specs.Order.{AreIndexed}
+use Rattle.law_problems.specs.Order.{AreIndexed}
 use Rattle.smv_spots.specs.declared.spots.Spot.{Spot}
 use Rattle.smv_spots.specs.declared.spots.Spot.TheVariants as spot
 use Rattle.smv_spots.specs.Spots.{place_by, classes_of, IsWorld}

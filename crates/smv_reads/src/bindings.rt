@@ -1,10 +1,10 @@
 // Where variables and indexes lie.
 ghost use Rattle.std.specs.Prelude.{◌≡◌, IfOk, take};
-ghost use Rattle.smv_abstraction.specs.Places.{named_in, places_in};
+ghost use Rattle.law_obligations.specs.Places.{named_in, places_in};
 ghost use Rattle.smv_reads.specs.Views as spec;
 ghost use Rattle.smv_reads.specs.Views.{IsView, world_of, places, bind_spot};
 
-use smv_abstraction::AbsType;
+use smv_core::abstract_type::AbsType;
 use smv_core::flat::{Class, Design, Simple};
 use smv_spots::places::{named_over, rests_over};
 use smv_spots::spots::Spot;

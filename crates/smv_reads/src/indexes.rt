@@ -4,10 +4,10 @@ ghost use Rattle.smv_core.specs.Values.{numbers_from};
 ghost use Rattle.smv_core.specs.Flat.{flat_index};
 ghost use Rattle.smv_core.specs.declared.flat.Class.TheVariants as class;
 ghost use Rattle.smv_core.specs.declared.flat.Simple.{Simple};
-ghost use Rattle.smv_abstraction.specs.declared.abstract_type.AbsType.{AbsType};
-ghost use Rattle.smv_abstraction.specs.Sets.{Has};
-ghost use Rattle.smv_abstraction.specs.Places.{named_in};
-ghost use Rattle.smv_abstraction.specs.Covers.{IsIndexType};
+ghost use Rattle.smv_core.specs.declared.abstract_type.AbsType.{AbsType};
+ghost use Rattle.law_obligations.specs.Sets.{Has};
+ghost use Rattle.law_obligations.specs.Places.{named_in};
+ghost use Rattle.law_obligations.specs.Covers.{IsIndexType};
 ghost use Rattle.law_obligations.specs.Cones.{index_places};
 ghost use Rattle.law_obligations.specs.Reads as reads;
 ghost use Rattle.smv_problem.specs.Written.{written_class};
@@ -18,8 +18,8 @@ ghost use Rattle.smv_reads.specs.Views.{IsView, world_of, places, place_in, clas
 ghost use Rattle.smv_reads.specs.Reading.{choice_in, choices_in};
 
 use crate::bindings::{View, spot_in};
-use smv_abstraction::AbsType;
 use smv_core::Seq;
+use smv_core::abstract_type::AbsType;
 use smv_core::flat::{Class, FlatExpr, Simple};
 use smv_indexes::{Index, known};
 use smv_spots::same::is_same;

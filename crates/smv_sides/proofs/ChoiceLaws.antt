@@ -7,14 +7,14 @@ use Rattle.smv_core.specs.Values.{Truth}
 use Rattle.smv_core.specs.Outcome.{is_true}
 use Rattle.smv_core.specs.declared.flat.FlatExpr.{FlatExpr, Each}
 use Rattle.smv_core.specs.declared.flat.Simple.{Simple}
-use Rattle.smv_abstraction.specs.Places.{Place, World, is_among, same_place, named_in, rests_in, places_in, AbsOutcome, bind_place}
-use Rattle.smv_abstraction.specs.May.{AbsState, Kept, seen, may}
-use Rattle.smv_abstraction.specs.Right.{gives, is_false, is_neither}
-use Rattle.law_outcomes.specs.Mix.{Mix}
-use Rattle.law_outcomes.specs.RightSides.{may_hold, must_hold}
-use Rattle.law_outcomes.proofs.Anys.{any-append, any-ext}
-use Rattle.law_outcomes.proofs.MixLaws.{or_same}
-use Rattle.law_outcomes.proofs.RightLaws.{may_Each, must_Each}
+use Rattle.law_obligations.specs.Places.{Place, World, is_among, same_place, named_in, rests_in, places_in, AbsOutcome, bind_place}
+use Rattle.law_obligations.specs.May.{AbsState, Kept, seen, may}
+use Rattle.law_obligations.specs.Right.{gives, is_false, is_neither}
+use Rattle.law_obligations.specs.Mix.{Mix}
+use Rattle.law_obligations.specs.RightSides.{may_hold, must_hold}
+use Rattle.law_obligations.proofs.Anys.{any-append, any-ext}
+use Rattle.law_obligations.proofs.MixLaws.{or_same}
+use Rattle.law_obligations.proofs.RightLaws.{may_Each, must_Each}
 use Rattle.smv_spots.specs.declared.spots.Spot.{Spot}
 use Rattle.smv_spots.specs.Spots.{place_in, outcome_in}
 use Rattle.smv_problem.specs.declared.problem.Problem.{Problem}

@@ -5,15 +5,15 @@ use Rattle.std.proofs.Math.Seq.{drop-cons}
 use Rattle.smv_core.specs.Values.{number, numbers_from}
 use Rattle.smv_core.specs.declared.flat.FlatExpr.{FlatExpr, List as Listed}
 use Rattle.smv_core.specs.declared.flat.FlatMember.{FlatMember, One, Span}
-use Rattle.smv_abstraction.specs.Places.{Place, named, is_among, AbsOutcome}
-use Rattle.smv_abstraction.specs.May.{may}
-use Rattle.smv_abstraction.specs.Right.{gives, is_outside, may_give_some, may_allow, must_allow}
-use Rattle.smv_abstraction.proofs.Tests.{true_or_false}
-use Rattle.law_outcomes.specs.Mix.{is_there}
-use Rattle.law_outcomes.specs.Combined.{of_member}
-use Rattle.law_outcomes.proofs.Anys.{any-ext, any-map, any-flat_map}
-use Rattle.law_outcomes.proofs.MixLaws.{or_same}
-use Rattle.law_outcomes.proofs.RightLaws.{may_Listed, must_Listed, surely_of_member}
+use Rattle.law_obligations.specs.Places.{Place, named, is_among, AbsOutcome}
+use Rattle.law_obligations.specs.May.{may}
+use Rattle.law_obligations.specs.Right.{gives, is_outside, may_give_some, may_allow, must_allow}
+use Rattle.law_obligations.proofs.Tests.{true_or_false}
+use Rattle.law_obligations.specs.Mix.{is_there}
+use Rattle.law_obligations.specs.Combined.{of_member}
+use Rattle.law_obligations.proofs.Anys.{any-ext, any-map, any-flat_map}
+use Rattle.law_obligations.proofs.MixLaws.{or_same}
+use Rattle.law_obligations.proofs.RightLaws.{may_Listed, must_Listed, surely_of_member}
 use Rattle.smv_spots.specs.declared.spots.Spot.{Spot}
 use Rattle.smv_spots.specs.Spots.{place_in}
 use Rattle.smv_problem.specs.declared.problem.Problem.{Problem}

@@ -2,7 +2,7 @@
 use Rattle.std.proofs.Common.{◌≡◌, ◌<◌, ◌≤◌, ℕ, suc, ◌+◌, ◌-◌, List, [], ◌∷◌, arith, Bool, true, false, ◌||◌, Some, refl, sym, ap, ◌∙◌}
 use Rattle.std.specs.List.{list_any}
 use Rattle.smv_core.specs.Values.{number, numbers_from}
-use Rattle.smv_abstraction.specs.Places.{named, World}
+use Rattle.law_obligations.specs.Places.{named, World}
 use Rattle.smv_spots.specs.declared.spots.Spot.TheVariants as spot
 use Rattle.smv_spots.specs.Spots.{outcome_in}
 use Rattle.smv_problem.specs.declared.problem.Problem.{Problem}

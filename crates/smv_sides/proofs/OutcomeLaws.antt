@@ -2,11 +2,11 @@
 use Rattle.std.proofs.Common.{◌≡◌, ℕ, List, Bool, not, ◌&&◌, sym, ap, ◌∙◌, subst}
 use Rattle.std.specs.List.{list_any}
 use Rattle.smv_core.specs.declared.flat.FlatExpr.{FlatExpr}
-use Rattle.smv_abstraction.specs.Places.{World, AbsOutcome}
-use Rattle.smv_abstraction.specs.Right.{gives_surely, same_outcome}
-use Rattle.law_outcomes.specs.RightSides.{some_differ}
-use Rattle.law_outcomes.proofs.Anys.{any-ext}
-use Rattle.law_outcomes.proofs.RightLaws.{only-some}
+use Rattle.law_obligations.specs.Places.{World, AbsOutcome}
+use Rattle.law_obligations.specs.Right.{gives_surely, same_outcome}
+use Rattle.law_obligations.specs.RightSides.{some_differ}
+use Rattle.law_obligations.proofs.Anys.{any-ext}
+use Rattle.law_obligations.proofs.RightLaws.{only-some}
 use Rattle.smv_spots.specs.declared.spots.Spot.{Spot}
 use Rattle.smv_problem.specs.declared.problem.Problem.{Problem}
 use Rattle.smv_problem_spots.specs.Worlds.{IsWorldOf}

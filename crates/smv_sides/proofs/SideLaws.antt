@@ -5,14 +5,14 @@ use Rattle.smv_core.specs.Outcome.{is_true}
 use Rattle.smv_core.specs.declared.flat.Simple.{Simple}
 use Rattle.smv_core.specs.declared.flat.FlatMember.{FlatMember}
 use Rattle.smv_core.specs.declared.flat.FlatExpr.{FlatExpr, Choose, Choose', Each, Each', None', Some', List as ListOf, List', out-FlatExpr, roll-FlatExpr, roll-out-FlatExpr, end_of-FlatExpr, more_of-FlatExpr, items-the_row-FlatMember, items_shown-the_row-FlatMember-3}
-use Rattle.smv_abstraction.specs.Places.{is_among}
-use Rattle.smv_abstraction.specs.May.{seen, may}
-use Rattle.smv_abstraction.specs.Right.{may_allow, must_allow, is_false, is_neither, chosen_surely}
-use Rattle.law_outcomes.specs.Mix.{Mix, mix_by}
-use Rattle.law_outcomes.specs.RightSides.{is_plain, surely_by}
-use Rattle.law_outcomes.proofs.MixLaws.{or_same}
-use Rattle.law_outcomes.proofs.RightLaws.{may_plain, must_plain, may_Choose, must_Choose, chosen-mix}
-use Rattle.law_outcomes.proofs.WalkLaws.{any-branch}
+use Rattle.law_obligations.specs.Places.{is_among}
+use Rattle.law_obligations.specs.May.{seen, may}
+use Rattle.law_obligations.specs.Right.{may_allow, must_allow, is_false, is_neither, chosen_surely}
+use Rattle.law_obligations.specs.Mix.{Mix, mix_by}
+use Rattle.law_obligations.specs.RightSides.{is_plain, surely_by}
+use Rattle.law_obligations.proofs.MixLaws.{or_same}
+use Rattle.law_obligations.proofs.RightLaws.{may_plain, must_plain, may_Choose, must_Choose, chosen-mix}
+use Rattle.law_obligations.proofs.WalkLaws.{any-branch}
 use Rattle.smv_spots.specs.declared.spots.Spot.{Spot}
 use Rattle.smv_spots.specs.Spots.{place_in}
 use Rattle.smv_problem.specs.declared.problem.Problem.{Problem}

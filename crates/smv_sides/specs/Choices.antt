@@ -3,9 +3,9 @@ use Rattle.std.specs.Prelude.{◌≡◌, ℕ, List, map, Option, Some, Bool, ◌
 use Rattle.std.specs.List.{list_any}
 use Rattle.smv_core.specs.declared.flat.FlatExpr.{FlatExpr}
 use Rattle.smv_core.specs.declared.flat.Simple.{Simple}
-use Rattle.smv_abstraction.specs.Places.{Place, World, named_in, rests_in, places_in, AbsOutcome, bind_place}
-use Rattle.smv_abstraction.specs.May.{AbsState, Kept}
-use Rattle.law_outcomes.specs.RightSides.{may_hold, must_hold}
+use Rattle.law_obligations.specs.Places.{Place, World, named_in, rests_in, places_in, AbsOutcome, bind_place}
+use Rattle.law_obligations.specs.May.{AbsState, Kept}
+use Rattle.law_obligations.specs.RightSides.{may_hold, must_hold}
 use Rattle.smv_spots.specs.declared.spots.Spot.{Spot}
 use Rattle.smv_spots.specs.Spots.{place_in}
 use Rattle.smv_conditions.specs.declared.offers.Offer.{Offer}

@@ -4,8 +4,8 @@ use Rattle.std.specs.List.{list_any}
 use Rattle.smv_core.specs.Values.{number, numbers_from}
 use Rattle.smv_core.specs.declared.flat.FlatExpr.{FlatExpr}
 use Rattle.smv_core.specs.declared.flat.FlatMember.{FlatMember, One, Span}
-use Rattle.smv_abstraction.specs.Places.{named}
-use Rattle.smv_abstraction.specs.Right.{may_allow, must_allow, gives_only}
+use Rattle.law_obligations.specs.Places.{named}
+use Rattle.law_obligations.specs.Right.{may_allow, must_allow, gives_only}
 use Rattle.smv_spots.specs.declared.spots.Spot.{Spot}
 use Rattle.smv_spots.specs.Spots.{place_in}
 use Rattle.smv_problem.specs.declared.problem.Problem.{Problem}

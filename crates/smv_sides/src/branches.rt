@@ -2,7 +2,7 @@
 ghost use Rattle.std.specs.Prelude.{◌≡◌, ℕ, Bool, IfOk, if◌then◌else◌};
 ghost use Rattle.smv_conditions.specs.Keep.{KeepsConditions};
 ghost use Rattle.smv_conditions.specs.Chances.{AreMade, mix_at};
-ghost use Rattle.law_outcomes.specs.RightSides.{surely_by};
+ghost use Rattle.law_obligations.specs.RightSides.{surely_by};
 
 use smv_conditions::chances::Chances;
 use smv_conditions::conditions::Conditions;

@@ -1,6 +1,6 @@
 // What a comprehension may choose, and what it chooses for certain.
 ghost use Rattle.std.specs.Prelude.{[], ◌∷◌, map, IfOk, OnOk, option_copied};
-ghost use Rattle.law_outcomes.specs.RightSides.{may_hold, must_hold};
+ghost use Rattle.law_obligations.specs.RightSides.{may_hold, must_hold};
 ghost use Rattle.smv_spots.specs.Spots.{place_in};
 ghost use Rattle.smv_conditions.specs.Keep.{KeepsConditions};
 ghost use Rattle.smv_conditions.specs.Offers.{AreOffersMade};
@@ -13,8 +13,7 @@ use smv_conditions::conditions::Conditions;
 use smv_conditions::offers::Offer;
 use smv_core::flat::{FlatExpr, Simple};
 use smv_core::seq::Seq;
-use smv_outcome_lists::bindings::bound_to;
-use smv_outcomes::truth_of;
+use smv_outcomes::{bound_to, truth_of};
 use smv_problem::Problem;
 use smv_problem_spots::places::{named_over, rests_over};
 use smv_spots::spots::Spot;

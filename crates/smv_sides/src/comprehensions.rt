@@ -2,7 +2,7 @@
 ghost use Rattle.std.specs.Prelude.{◌≡◌, ℕ, Bool, true, not, ◌||◌, IfOk, option_copied};
 ghost use Rattle.smv_core.specs.Flat.{Numbered};
 ghost use Rattle.smv_core.specs.declared.flat.FlatExpr.{Each};
-ghost use Rattle.smv_abstraction.specs.Places.{World};
+ghost use Rattle.law_obligations.specs.Places.{World};
 ghost use Rattle.smv_problem_spots.specs.Worlds.{IsWorldOf};
 ghost use Rattle.smv_conditions.specs.Keep.{KeepsConditions};
 ghost use Rattle.smv_cells.specs.Cells.{AreCellsMade};

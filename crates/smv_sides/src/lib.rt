@@ -12,3 +12,4 @@ pub mod outcomes;
 pub mod sides;
 
 pub use sides::{may_allow, must_allow};
+pub use smv_outcomes as expressions;

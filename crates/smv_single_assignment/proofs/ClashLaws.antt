@@ -6,8 +6,8 @@ use Rattle.std.proofs.lemmas.List.{append-nil, append_assoc}
 use Rattle.smv_instances.specs.Scopes.{first_of_places}
 use Rattle.smv_scope.specs.ScopeFault.{least}
 use Rattle.smv_scope.proofs.LeastLaws.{first-none, first-assoc, least-append}
-use Rattle.law_single_assignment.specs.Standing.{Standing}
-use Rattle.law_single_assignment.specs.SingleFaults.{later_places, cross, meet, mixed, are_mixed}
+use Rattle.law_designs.specs.Standing.{Standing}
+use Rattle.law_designs.specs.SingleFaults.{later_places, cross, meet, mixed, are_mixed}
 use Rattle.smv_single_assignment.specs.Held.{among}
 
 pub first-comm : (a b : Option ℕ) → first_of_places a b ≡ first_of_places b a

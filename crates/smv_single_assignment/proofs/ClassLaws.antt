@@ -13,9 +13,9 @@ use Rattle.smv_core.specs.Assignments.{Index, fixed, bare, computed}
 use Rattle.smv_core.specs.Conflicts.{are_two_constants}
 use Rattle.smv_core.specs.Flat.{flat_index}
 use Rattle.smv_core.specs.declared.flat.FlatExpr.{FlatExpr}
-use Rattle.law_flattening.specs.WholeText.{is_one_layer}
-use Rattle.law_single_assignment.specs.Standing.{Standing}
-use Rattle.law_single_assignment.specs.SingleFaults.{may_meet, differ}
+use Rattle.law_designs.specs.WholeText.{is_one_layer}
+use Rattle.law_designs.specs.Standing.{Standing}
+use Rattle.law_designs.specs.SingleFaults.{may_meet, differ}
 use Rattle.smv_single_assignment.specs.Links.{AreClassed}
 use Rattle.smv_single_assignment.specs.Classes.{constant_value, constant_in, value_by, kept_if, kept_at, AreSteady, AreRefined, same_key, number_at}
 use Rattle.smv_single_assignment.specs.declared.classes.Criterion.{Criterion}

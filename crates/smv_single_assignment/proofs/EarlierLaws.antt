@@ -9,8 +9,8 @@ use Rattle.smv_instances.specs.Scopes.{first_of_places}
 use Rattle.smv_instances.specs.NameFaults.{place_if}
 use Rattle.smv_scope.specs.ScopeFault.{least}
 use Rattle.smv_scope.proofs.LeastLaws.{first-assoc, least-append}
-use Rattle.law_single_assignment.specs.Standing.{Standing}
-use Rattle.law_single_assignment.specs.SingleFaults.{meet, are_mixed, may_meet, is_comb, later_places, mixed}
+use Rattle.law_designs.specs.Standing.{Standing}
+use Rattle.law_designs.specs.SingleFaults.{meet, are_mixed, may_meet, is_comb, later_places, mixed}
 use Rattle.smv_single_assignment.specs.declared.assignments.Assignment.{Assignment}
 use Rattle.smv_single_assignment.specs.declared.clashes.Clash.{Clash}
 use Rattle.smv_single_assignment.specs.declared.clashes.Clash.TheVariants.{Meet, Cross, Mixed}

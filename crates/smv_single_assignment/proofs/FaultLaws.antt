@@ -8,9 +8,9 @@ use Rattle.smv_core.specs.declared.flat.Raw.{Raw}
 use Rattle.smv_instances.specs.FirstFault.{first_of, faults_at}
 use Rattle.smv_scope.specs.ScopeFault.{least, fault_at, earlier_of}
 use Rattle.smv_scope.proofs.FirstLaws.{first-both, first-at}
-use Rattle.law_flattening.specs.WholeText.{claims_of}
-use Rattle.law_single_assignment.specs.SingleFaults.{meet, mixed, lacking, unnamed, conflicting, assigned_in, first_fault_of_single}
-use Rattle.law_single_assignment.specs.Standing.{statements_of}
+use Rattle.law_designs.specs.WholeText.{claims_of}
+use Rattle.law_designs.specs.SingleFaults.{meet, mixed, lacking, unnamed, conflicting, assigned_in, first_fault_of_single}
+use Rattle.law_designs.specs.Standing.{statements_of}
 use Rattle.smv_single_assignment.specs.Held.{among, assigned_of, conflicts_of}
 use Rattle.smv_single_assignment.proofs.StandingLaws.{items-assigned, items-conflicts}
 

@@ -7,7 +7,7 @@ use Rattle.std.proofs.lemmas.List.{append-nil, append_assoc, take-append-drop, g
 use Rattle.std.proofs.Math.Seq.{drop-append_seam, take-append_seam, get_or-append_seam}
 use Rattle.smv_core.specs.Walk.{same_kind}
 use Rattle.smv_core.specs.declared.tree.Kind.{Kind}
-use Rattle.law_single_assignment.specs.Standing.{Standing}
+use Rattle.law_designs.specs.Standing.{Standing}
 use Rattle.smv_single_assignment.specs.declared.assignments.Assignment.{Assignment}
 use Rattle.smv_single_assignment.specs.Held.{standing_of}
 use Rattle.smv_single_assignment.specs.Links.{IsBehind, StandsAt, between}

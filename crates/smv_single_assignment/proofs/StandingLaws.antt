@@ -10,8 +10,8 @@ use Rattle.smv_core.specs.declared.flat.FlatStmt.{FlatStmt, Assign, If, Default,
 use Rattle.smv_core.specs.declared.flat.FlatItem.{FlatItem}
 use Rattle.smv_core.specs.declared.flat.FlatItem.TheVariants as item
 use mathlib.Core.Former.{Count}
-use Rattle.law_single_assignment.specs.Standing.{count, standing, standing_in, statements_from, assigned_by}
-use Rattle.law_single_assignment.specs.SingleFaults.{conflicts, conflicts_in, conflicting, later_places, cross, meet}
+use Rattle.law_designs.specs.Standing.{count, standing, standing_in, statements_from, assigned_by}
+use Rattle.law_designs.specs.SingleFaults.{conflicts, conflicts_in, conflicting, later_places, cross, meet}
 use Rattle.smv_single_assignment.specs.Held.{among, assigned_of, conflicts_of}
 use Rattle.smv_single_assignment.proofs.Computing.{computing}
 

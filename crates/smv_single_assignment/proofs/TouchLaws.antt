@@ -6,8 +6,8 @@ use Rattle.std.proofs.lemmas.Option.{slice_get_within}
 use Rattle.smv_core.specs.Walk.{same_kind}
 use Rattle.smv_core.specs.declared.tree.Kind.{Kind}
 use Rattle.smv_core.specs.declared.tree.Kind.TheVariants.{Comb, Init, Next}
-use Rattle.law_single_assignment.specs.Standing.{Standing}
-use Rattle.law_single_assignment.specs.SingleFaults.{may_meet, meet}
+use Rattle.law_designs.specs.Standing.{Standing}
+use Rattle.law_designs.specs.SingleFaults.{may_meet, meet}
 use Rattle.smv_single_assignment.specs.declared.links.Table.{Table}
 use Rattle.smv_single_assignment.specs.Links.{AreClassed, IsBehind, IsTable, held, links_of}
 use Rattle.smv_single_assignment.specs.Shared.{AreApart}

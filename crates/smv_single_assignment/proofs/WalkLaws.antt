@@ -7,8 +7,8 @@ use Rattle.smv_scope.specs.ScopeFault.{least}
 use Rattle.smv_core.specs.declared.flat.FlatExpr.{FlatExpr}
 use Rattle.smv_core.specs.declared.flat.FlatStmt.{FlatStmt, If, Default, Forall, Block}
 use Rattle.smv_core.specs.declared.flat.Simple.{Simple}
-use Rattle.law_single_assignment.specs.Standing.{Standing, standing}
-use Rattle.law_single_assignment.specs.SingleFaults.{conflicts, cross, later_places, meet}
+use Rattle.law_designs.specs.Standing.{Standing, standing}
+use Rattle.law_designs.specs.SingleFaults.{conflicts, cross, later_places, meet}
 use Rattle.smv_single_assignment.specs.declared.conflicts.Walked.{Walked}
 use Rattle.smv_single_assignment.specs.Held.{among}
 use Rattle.smv_single_assignment.specs.Links.{StandsAt, between}

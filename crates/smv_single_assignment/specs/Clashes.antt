@@ -2,8 +2,8 @@
 use Rattle.std.specs.Prelude.{Bool, ◌&&◌}
 use Rattle.smv_core.specs.Walk.{same_kind}
 use Rattle.smv_core.specs.declared.tree.Kind.{Kind}
-use Rattle.law_single_assignment.specs.Standing.{Standing}
-use Rattle.law_single_assignment.specs.SingleFaults.{meet, cross, are_mixed}
+use Rattle.law_designs.specs.Standing.{Standing}
+use Rattle.law_designs.specs.SingleFaults.{meet, cross, are_mixed}
 use Rattle.smv_single_assignment.specs.declared.clashes.Clash.{Clash}
 use Rattle.smv_single_assignment.specs.declared.clashes.Clash.TheVariants.{Meet, Cross, Mixed}
 

@@ -6,7 +6,7 @@ use Rattle.smv_core.specs.Values.{number}
 use Rattle.smv_core.specs.Assignments.{Index, fixed}
 use Rattle.smv_core.specs.Flat.{flat_index}
 use Rattle.smv_core.specs.declared.flat.FlatExpr.{FlatExpr}
-use Rattle.law_single_assignment.specs.Standing.{Standing}
+use Rattle.law_designs.specs.Standing.{Standing}
 use Rattle.smv_single_assignment.specs.declared.classes.Criterion.{Criterion}
 use Rattle.smv_single_assignment.specs.declared.classes.Criterion.TheVariants.{Family, Layer, Constant}
 

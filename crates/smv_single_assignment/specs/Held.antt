@@ -2,8 +2,8 @@
 use Rattle.std.specs.Prelude.{ℕ, List, [], ◌∷◌, ◌++◌, flat_map, Bool}
 use Rattle.smv_core.specs.declared.flat.FlatItem.{FlatItem}
 use Rattle.smv_core.specs.declared.flat.FlatItem.TheVariants as item
-use Rattle.law_single_assignment.specs.Standing.{Standing, standing}
-use Rattle.law_single_assignment.specs.SingleFaults.{conflicts, later_places}
+use Rattle.law_designs.specs.Standing.{Standing, standing}
+use Rattle.law_designs.specs.SingleFaults.{conflicts, later_places}
 use Rattle.smv_single_assignment.specs.declared.assignments.Assignment.{Assignment}
 
 -- the assignment that is held

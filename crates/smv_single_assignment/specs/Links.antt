@@ -3,8 +3,8 @@ use Rattle.std.specs.Prelude.{◌≡◌, ◌<◌, ◌≤◌, ◌+◌, ◌-◌, �
 use Rattle.smv_core.specs.Walk.{same_kind}
 use Rattle.smv_core.specs.declared.tree.Kind.{Kind}
 use Rattle.smv_core.specs.declared.tree.Kind.TheVariants.{Comb, Init, Next}
-use Rattle.law_single_assignment.specs.Standing.{Standing}
-use Rattle.law_single_assignment.specs.SingleFaults.{may_meet}
+use Rattle.law_designs.specs.Standing.{Standing}
+use Rattle.law_designs.specs.SingleFaults.{may_meet}
 use Rattle.smv_single_assignment.specs.declared.links.Table.{Table}
 use Rattle.smv_single_assignment.specs.Held.{standing_of}
 use Rattle.smv_single_assignment.specs.Shared.{AreShared}

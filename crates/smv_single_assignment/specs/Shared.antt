@@ -8,8 +8,8 @@ use Rattle.smv_core.specs.Assignments.{Index, bare}
 use Rattle.smv_core.specs.Conflicts.{are_both}
 use Rattle.smv_core.specs.Flat.{flat_index}
 use Rattle.smv_core.specs.declared.flat.FlatExpr.{FlatExpr}
-use Rattle.law_single_assignment.specs.Standing.{Standing}
-use Rattle.law_single_assignment.specs.SingleFaults.{may_meet, meet, share}
+use Rattle.law_designs.specs.Standing.{Standing}
+use Rattle.law_designs.specs.SingleFaults.{may_meet, meet, share}
 use Rattle.smv_single_assignment.specs.Places.{any_two}
 
 -- each two that may meet share each variable that is around both

@@ -1,7 +1,7 @@
 -- What is found in statements.
 use Rattle.std.specs.Prelude.{◌≡◌, ◌+◌, ℕ, List, length}
 use Rattle.smv_scope.specs.ScopeFault.{least}
-use Rattle.law_single_assignment.specs.Standing.{Standing}
+use Rattle.law_designs.specs.Standing.{Standing}
 use Rattle.smv_single_assignment.specs.declared.conflicts.Walked.{Walked}
 
 -- the first of these places, and the place behind these assignments from a place on

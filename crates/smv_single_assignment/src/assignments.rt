@@ -1,6 +1,6 @@
 // The assignments of a flattened text, in flat order.
 ghost use Rattle.std.specs.Prelude.{◌≡◌, [], ◌∷◌, ◌++◌, map, flat_map, IfOk, OnOk};
-ghost use Rattle.law_single_assignment.specs.Standing.{standing};
+ghost use Rattle.law_designs.specs.Standing.{standing};
 ghost use Rattle.smv_single_assignment.specs.Held.{standing_of, assigned_of};
 
 use smv_core::flat::{FlatExpr, FlatItem, FlatStmt};

@@ -2,8 +2,8 @@
 ghost use Rattle.std.specs.Prelude.{◌≡◌};
 ghost use Rattle.std.specs.List.{list_all};
 ghost use Rattle.smv_core.specs.Walk as walk;
-ghost use Rattle.law_flattening.specs.WholeText.{is_one_layer};
-ghost use Rattle.law_single_assignment.specs.SingleFaults as spec;
+ghost use Rattle.law_designs.specs.WholeText.{is_one_layer};
+ghost use Rattle.law_designs.specs.SingleFaults as spec;
 ghost use Rattle.smv_single_assignment.specs.Held.{standing_of};
 ghost use Rattle.smv_single_assignment.specs.Clashes.{clash_by};
 

@@ -3,8 +3,8 @@ ghost use Rattle.std.specs.Prelude.{◌≡◌, ◌≤◌, ℕ, [], length, IfOk}
 ghost use Rattle.std.specs.List.{flat_map};
 ghost use Rattle.smv_instances.specs.Scopes.{first_of_places};
 ghost use Rattle.smv_scope.specs.ScopeFault.{least};
-ghost use Rattle.law_single_assignment.specs.Standing.{standing};
-ghost use Rattle.law_single_assignment.specs.SingleFaults as spec;
+ghost use Rattle.law_designs.specs.Standing.{standing};
+ghost use Rattle.law_designs.specs.SingleFaults as spec;
 ghost use Rattle.smv_single_assignment.specs.Held.{among, assigned_of, conflicts_of};
 ghost use Rattle.smv_single_assignment.specs.Links.{IsTable, StandsAt, between, held};
 ghost use Rattle.smv_single_assignment.specs.Shared.{AreInside};

@@ -2,8 +2,8 @@
 ghost use Rattle.std.specs.Prelude.{◌≡◌, ◌≤◌, ◌<◌, ℕ, length, slice_get, Some, false};
 ghost use Rattle.std.specs.List.{list_any};
 ghost use Rattle.smv_scope.specs.ScopeFault.{least};
-ghost use Rattle.law_single_assignment.specs.Standing.{Standing};
-ghost use Rattle.law_single_assignment.specs.SingleFaults.{later_places, cross, meet};
+ghost use Rattle.law_designs.specs.Standing.{Standing};
+ghost use Rattle.law_designs.specs.SingleFaults.{later_places, cross, meet};
 ghost use Rattle.smv_single_assignment.specs.Clashes.{clash_by, clashes_of};
 ghost use Rattle.smv_single_assignment.specs.Links.{IsTable, held, between};
 ghost use Rattle.smv_single_assignment.specs.Shared.{AreApart, AreInside};

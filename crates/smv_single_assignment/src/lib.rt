@@ -1,11 +1,11 @@
 //! The first fault of single assignment of a flattened text.
 //!
-//! For `smv_front`. It meets `law_single_assignment/specs/SingleFaults`; assignments are compared only within classes.
+//! For `smv_front`. It meets `law_designs/specs/SingleFaults`; assignments are compared only within classes.
 #![tactic(auto)]
 
 ghost use Rattle.std.specs.Prelude.{◌≡◌, IfOk};
 ghost use Rattle.smv_scope.specs.ScopeFault.{fault_at};
-ghost use Rattle.law_single_assignment.specs.SingleFaults.{first_fault_of_single};
+ghost use Rattle.law_designs.specs.SingleFaults.{first_fault_of_single};
 
 pub mod assignments;
 pub mod clashes;

@@ -1,7 +1,7 @@
 // `:=` beside `init` or `next`.
 ghost use Rattle.std.specs.Prelude.{◌≡◌, ℕ};
 ghost use Rattle.smv_scope.specs.ScopeFault.{least};
-ghost use Rattle.law_single_assignment.specs.SingleFaults.{mixed};
+ghost use Rattle.law_designs.specs.SingleFaults.{mixed};
 ghost use Rattle.smv_single_assignment.specs.Links.{IsTable, held};
 
 use crate::clashes::Clash;

@@ -4,8 +4,8 @@ ghost use Rattle.std.specs.List.{list_any, flat_map};
 ghost use Rattle.smv_core.specs.Types.{names_of};
 ghost use Rattle.smv_core.specs.Outcome.{same_path};
 ghost use Rattle.smv_scope.specs.ScopeFault.{least};
-ghost use Rattle.law_flattening.specs.WholeText.{claims_of};
-ghost use Rattle.law_single_assignment.specs.SingleFaults as spec;
+ghost use Rattle.law_designs.specs.WholeText.{claims_of};
+ghost use Rattle.law_designs.specs.SingleFaults as spec;
 ghost use Rattle.smv_single_assignment.specs.Held.{standing_of};
 
 use crate::assignments::Assignment;

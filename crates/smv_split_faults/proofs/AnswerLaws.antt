@@ -14,8 +14,8 @@ use Rattle.smv_scope.proofs.LeastLaws.{least-append}
 use Rattle.smv_scope.proofs.FirstLaws.{first-both, first-at}
 use Rattle.law_obligations.specs.Units.{units_of}
 use Rattle.law_splits.specs.SplitFaults.{astray, split_again, misfits, mismatches, cuts_of, first_fault_of_splits}
-use Rattle.law_split_chains.proofs.Types.{types_tell}
-use Rattle.smv_split_groups.specs.Groups.{first_lost}
+use Rattle.law_splits.proofs.Types.{types_tell}
+use Rattle.smv_splits.specs.Groups.{first_lost}
 use Rattle.smv_split_faults.specs.Waiting.{shown_of_unit}
 
 earlier-none : (f : Option Fault) → earlier_of f None ≡ f

@@ -1,3 +1,4 @@
 mod AnswerLaws
 mod WaitingLaws
 mod WalkLaws
+mod NoneLeft

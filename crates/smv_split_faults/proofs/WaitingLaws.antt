@@ -10,14 +10,14 @@ use Rattle.smv_core.specs.declared.flat.Simple.{Simple}
 use Rattle.smv_core.specs.declared.flat.Design.{Design}
 use Rattle.smv_core.specs.declared.flat.Param.{Param}
 use Rattle.smv_core.specs.declared.flat.FlatSplit.{FlatSplit}
-use Rattle.smv_abstraction.proofs.OneOfEach.{get_after}
+use Rattle.law_obligations.proofs.OneOfEach.{get_after}
 use Rattle.smv_instances.specs.Scopes.{first_of_places}
 use Rattle.smv_scope.specs.ScopeFault.{least}
 use Rattle.smv_scope.proofs.LeastLaws.{first-none, first-assoc, least-append}
 use Rattle.smv_scope.proofs.TableLaws.{from_here}
 use Rattle.law_splits.specs.Leaves.{named_by, splits_of}
-use Rattle.law_split_chains.specs.Chains.{other_type, other_types}
-use Rattle.smv_split_groups.specs.Groups.{numbers_with, names_split}
+use Rattle.law_splits.specs.Chains.{other_type, other_types}
+use Rattle.smv_splits.specs.Groups.{numbers_with, names_split}
 use Rattle.smv_split_faults.specs.Waiting.{Wait, waits, splits_at, following}
 
 each-append : {X Y : Type 0} (f : X → List Y) (xs ys : List X) → flat_map f (xs ++ ys) ≡ flat_map f xs ++ flat_map f ys

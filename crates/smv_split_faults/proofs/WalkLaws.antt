@@ -6,14 +6,14 @@ use Rattle.std.proofs.lemmas.List.{append_assoc, append-nil, length-take}
 use Rattle.smv_core.specs.Values.{Name}
 use Rattle.smv_core.specs.declared.flat.Simple.{Simple}
 use Rattle.smv_core.specs.declared.flat.Design.{Design}
-use Rattle.smv_abstraction.specs.Sets.{Has, first, later}
-use Rattle.smv_abstraction.proofs.Members.{Has-cases, Has-left, Has-right, Has-uncons, Has-from_map}
+use Rattle.law_obligations.specs.Sets.{Has, first, later}
+use Rattle.law_obligations.proofs.Members.{Has-cases, Has-left, Has-right, Has-uncons, Has-from_map}
 use Rattle.smv_instances.specs.Scopes.{first_of_places}
 use Rattle.smv_scope.specs.ScopeFault.{least}
 use Rattle.smv_scope.proofs.LeastLaws.{first-none, first-assoc, least-append}
 use Rattle.smv_references.proofs.AgainLaws.{first-comm}
 use Rattle.law_splits.specs.Leaves.{splits_of}
-use Rattle.law_split_chains.specs.Chains.{new_types, mismatches_by, from_split, shown}
+use Rattle.law_splits.specs.Chains.{new_types, mismatches_by, from_split, shown}
 use Rattle.smv_split_faults.specs.Waiting.{Wait, waits, following}
 
 -- ---- lists

@@ -6,7 +6,7 @@ use Rattle.smv_core.specs.declared.flat.FlatSplit.{FlatSplit}
 use Rattle.smv_core.specs.declared.flat.Unit.{Unit}
 use Rattle.law_obligations.specs.Outlines.{unit_in}
 use Rattle.law_splits.specs.Leaves.{name_of, splits_of}
-use Rattle.law_split_chains.specs.Chains.{shown, unit_types}
+use Rattle.law_splits.specs.Chains.{shown, unit_types}
 use Rattle.smv_split_faults.specs.declared.mismatches.Waiting.{Waiting}
 
 -- a split, how many parameters stand before it, and how many splits at most are followed behind it

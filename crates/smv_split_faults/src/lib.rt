@@ -1,54 +1,15 @@
-//! The first fault of splits of a design, 23 and 24: `split_fault`, by `first_fault_of_splits` of `law_splits`.
+//! The leaves of a design's units, or the first fault of its splits, 23 and 24: `leaves` and `split_fault`, by the definitions of `law_splits`.
 //!
-//! For the pass over splits. `smv_split_groups` has fault 23, `smv_split_misfits` what a split alone shows of fault 24, and `mismatches` what it shows beside the
-//! parameters of what it is of: all splits that a unit leads to are met once, each with the types of the parameters before it. To change it: `specs/Waiting` has
-//! the splits that wait to be met; the law of `law_split_chains` says that types are enough.
+//! For `smv_plans`. `smv_splits` has fault 23 and what a split alone shows of fault 24; `mismatches` what it shows beside the parameters of what it is of: all splits that a unit leads
+//! to are met once, each with the types of the parameters before it. To change it: `specs/Waiting` has the splits that wait to be met; `specs/Answers` says when there are leaves; a law
+//! of `law_splits` says that types are enough.
 #![tactic(auto)]
 
-ghost use Rattle.std.specs.Prelude.{◌≡◌, IfOk};
-ghost use Rattle.law_obligations.specs.Units.{units_of};
-ghost use Rattle.law_splits.specs.SplitFaults.{first_fault_of_splits};
-ghost use Rattle.smv_scope.specs.ScopeFault.{fault_at};
-
+mod faults;
+mod leaf;
+pub mod leaf_laws;
 pub mod mismatches;
 pub mod types;
 
-use crate::mismatches::first_mismatch;
-use smv_core::fault::Fault;
-use smv_core::flat::{Design, Unit};
-use smv_scope::places::first_of;
-use smv_scope::scope::earlier;
-use smv_split_groups::groups::make_tables;
-use smv_split_groups::lost::first_lost;
-use smv_split_misfits::misfits::first_misfit;
-use smv_split_tables::names::{index_of, names_split};
-use std::alloc::{AllocError, Global};
-
-// A fault of this number at a place.
-fn fault(number: u8, at: Option<u32>) -> Option<Fault>
-    ensures { result ≡ fault_at number at }
-{
-    match at {
-        Some(at) => Some(Fault { number, at }),
-        None => None,
-    }
-}
-
-/// The first fault of splits of a design, 23 and 24, by place and then by number.
-pub fn split_fault(
-    alloc: Global,
-    design: &Design,
-    units: &[Unit],
-) -> Result<Option<Fault>, AllocError>
-    requires { units.now ≡ units_of design.now }
-    ensures { IfOk result (λ fault. fault ≡ first_fault_of_splits design.now) }
-{
-    let splits = design.splits.as_slice();
-    let names = names_split(alloc, splits)?;
-    let named = index_of(alloc, &names)?;
-    let tables = make_tables(alloc, design, named, &names)?;
-    let lost = first_lost(alloc, &tables, &names, units)?;
-    let mismatch = first_mismatch(alloc, &tables, units)?;
-    let misfit = first_misfit(alloc, design.families.as_slice(), splits)?;
-    Ok(earlier(fault(23, lost), fault(24, first_of(misfit, mismatch))))
-}
+pub use faults::split_fault;
+pub use leaf::leaves;

@@ -2,8 +2,8 @@
 ghost use Rattle.std.specs.Prelude.{◌≡◌, ◌++◌, flat_map, length, map, option_copied, option_to_list, slice_get, take, IfOk, OnOk};
 ghost use Rattle.smv_instances.specs.Scopes.{first_of_places};
 ghost use Rattle.smv_scope.specs.ScopeFault.{least};
-ghost use Rattle.law_split_chains.specs.Chains as chains;
-ghost use Rattle.smv_split_groups.specs.Groups.{AreTables};
+ghost use Rattle.law_splits.specs.Chains as chains;
+ghost use Rattle.smv_splits.specs.Groups.{AreTables};
 ghost use Rattle.smv_split_faults.specs.Waiting as spec;
 ghost use Rattle.smv_split_faults.specs.Waiting.{held, waits, following};
 
@@ -11,9 +11,9 @@ use crate::types::first_shown;
 use smv_core::flat::{FlatSplit, Simple, Unit};
 use smv_core::name::Name;
 use smv_scope::places::first_of;
-use smv_split_groups::groups::{Tables, group};
-use smv_split_tables::names::unit_name;
-use smv_split_tables::params::{add_types, own_types};
+use smv_splits::groups::{Tables, group};
+use smv_splits::names::unit_name;
+use smv_splits::params::{add_types, own_types};
 use std::alloc::{AllocError, Global};
 
 /// A split that waits to be met, with how many parameters stand before it, and how many splits at most are followed behind it.

@@ -4,7 +4,7 @@ ghost use Rattle.std.specs.List.{list_any};
 ghost use Rattle.smv_scope.specs.ScopeFault.{least};
 ghost use Rattle.law_splits.specs.Leaves.{with_name};
 ghost use Rattle.law_splits.specs.SplitFaults as spec;
-ghost use Rattle.law_split_chains.specs.Chains as chains;
+ghost use Rattle.law_splits.specs.Chains as chains;
 
 use smv_core::flat::{FlatSplit, Param, Simple};
 use smv_core::tree::Word;

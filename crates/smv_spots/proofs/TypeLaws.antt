@@ -8,10 +8,10 @@ use Rattle.smv_core.specs.declared.flat.Simple.{Simple as FlatSimple}
 use Rattle.smv_core.specs.declared.flat.Simple.TheVariants.{Range, Enum, Set}
 use Rattle.smv_core.specs.declared.flat.SetInfo.{SetInfo}
 use Rattle.smv_core.specs.declared.flat.Design.{Design}
-use Rattle.smv_abstraction.specs.declared.abstract_type.AbsType.{AbsType}
-use Rattle.smv_abstraction.specs.declared.abstract_type.Rest.{Rest}
-use Rattle.smv_abstraction.specs.declared.abstract_type.Rest.TheVariants as beside
-use Rattle.smv_abstraction.specs.Places.{Place, named, rest, World, named_in, rests_in, places_in, named_of, rests_of, rests_beside, is_among, same_place}
+use Rattle.smv_core.specs.declared.abstract_type.AbsType.{AbsType}
+use Rattle.smv_core.specs.declared.abstract_type.Rest.{Rest}
+use Rattle.smv_core.specs.declared.abstract_type.Rest.TheVariants as beside
+use Rattle.law_obligations.specs.Places.{Place, named, rest, World, named_in, rests_in, places_in, named_of, rests_of, rests_beside, is_among, same_place}
 use Rattle.smv_spots.specs.declared.spots.Spot.{Spot}
 use Rattle.smv_spots.specs.declared.spots.Spot.TheVariants as spot
 use Rattle.smv_spots.specs.declared.places.Sort.TheVariants as sort

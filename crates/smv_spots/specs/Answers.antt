@@ -3,7 +3,7 @@ use Rattle.std.specs.Prelude.{List}
 use Rattle.std.specs.List.{list_any}
 use Rattle.smv_core.specs.Values.{Truth}
 use Rattle.smv_core.specs.Outcome.{is_true}
-use Rattle.smv_abstraction.specs.Right.{is_false, is_neither}
+use Rattle.law_obligations.specs.Right.{is_false, is_neither}
 use Rattle.smv_spots.specs.declared.answers.Answers.{Answers}
 
 -- which are among these

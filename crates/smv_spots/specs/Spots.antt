@@ -4,10 +4,10 @@ use Rattle.smv_core.specs.Values.{Name, Value, number, constant, scalar, ordinal
 use Rattle.smv_core.specs.Flat.{Numbered}
 use Rattle.smv_core.specs.declared.flat.SetInfo.{SetInfo}
 use Rattle.smv_core.specs.declared.flat.Design.{Design}
-use Rattle.smv_abstraction.specs.Places.{Place, named, rest, AbsOutcome, World}
-use Rattle.smv_abstraction.specs.declared.abstract_type.Rest.{Rest as Beside}
-use Rattle.smv_abstraction.specs.declared.abstract_type.Rest.TheVariants as beside
-use Rattle.smv_abstraction.specs.declared.abstract_type.AbsType.{AbsType}
+use Rattle.law_obligations.specs.Places.{Place, named, rest, AbsOutcome, World}
+use Rattle.smv_core.specs.declared.abstract_type.Rest.{Rest as Beside}
+use Rattle.smv_core.specs.declared.abstract_type.Rest.TheVariants as beside
+use Rattle.smv_core.specs.declared.abstract_type.AbsType.{AbsType}
 use Rattle.smv_spots.specs.declared.spots.Spot.{Spot}
 use Rattle.smv_spots.specs.declared.spots.Spot.TheVariants.{Number, Constant, Class, Rest}
 use Rattle.smv_spots.specs.declared.places.Sort.{Sort}

@@ -1,7 +1,7 @@
 // What comparisons of spots may give.
 ghost use Rattle.std.specs.Prelude.{◌≡◌, ◌∷◌, [], slice_get};
 ghost use Rattle.smv_core.specs.Values.{below};
-ghost use Rattle.smv_abstraction.specs.Places.{unsure, equal_places, below_places, may_compare};
+ghost use Rattle.law_obligations.specs.Places.{unsure, equal_places, below_places, may_compare};
 ghost use Rattle.smv_spots.specs.Spots.{place_by, outcome_by, of_set};
 ghost use Rattle.smv_spots.specs.Answers.{answers_of, turned_of};
 

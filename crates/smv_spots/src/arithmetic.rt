@@ -2,7 +2,7 @@
 ghost use Rattle.std.specs.Prelude.{◌≡◌, get_or, slice_get, option_map, []};
 ghost use Rattle.smv_core.specs.Flat.{Numbered};
 ghost use Rattle.smv_core.specs.Values.{add, modulo, constant};
-ghost use Rattle.smv_abstraction.specs.Places.{valued, as_place};
+ghost use Rattle.law_obligations.specs.Places.{valued, as_place};
 ghost use Rattle.smv_spots.specs.Spots.{outcome_in, outcome_by};
 
 use crate::spots::Spot;

@@ -2,13 +2,13 @@
 ghost use Rattle.std.specs.Prelude.{◌≡◌, ◌-◌, ◌&&◌, map, length, IfOk, get_or, slice_get, bytes_eq, nat_lt, nat_le, []};
 ghost use Rattle.std.specs.List.{list_any};
 ghost use Rattle.smv_core.specs.Values.{numbers_from};
-ghost use Rattle.smv_abstraction.specs.Places.{World, named_in, rests_in, places_in, is_among};
+ghost use Rattle.law_obligations.specs.Places.{World, named_in, rests_in, places_in, is_among};
 ghost use Rattle.smv_spots.specs.Spots.{place_by, spot_of, is_same_set, classes_of, count_beside, rests_of, IsWorld};
 ghost use Rattle.smv_core.specs.declared.flat.Design.{Design};
 
 use crate::names::{constant_name, is_one_set};
 use crate::spots::Spot;
-use smv_abstraction::abstract_type::{AbsType, Rest};
+use smv_core::abstract_type::{AbsType, Rest};
 use smv_core::flat::{Design, Simple};
 use std::alloc::{AllocError, Global};
 

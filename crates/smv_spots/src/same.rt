@@ -1,6 +1,6 @@
 // Spots that are the same place.
 ghost use Rattle.std.specs.Prelude.{◌≡◌};
-ghost use Rattle.smv_abstraction.specs.Places.{same_place};
+ghost use Rattle.law_obligations.specs.Places.{same_place};
 ghost use Rattle.smv_spots.specs.Spots.{place_by};
 
 use crate::names::{constant_name, is_one_set};

@@ -9,13 +9,13 @@ use Rattle.smv_core.specs.declared.flat.FlatSigned.{FlatSigned}
 use Rattle.smv_core.specs.declared.flat.FlatMember.{FlatMember, One, Span as SpanOf}
 use Rattle.smv_core.specs.declared.flat.FlatExpr.{FlatExpr, Number, Var, Loop, Constant, Not, Iff, Compare, Within, Modulo, Choose, All, Any, Each, Read, Read', And, And', Or, Or', Implies, Implies', Sum, Sum', List as ListOf, List', Row_of-FlatExpr, end_of-FlatExpr, more_of-FlatExpr, Row_of-FlatMember, end_of-FlatMember, more_of-FlatMember, Row_of-FlatSigned, end_of-FlatSigned, more_of-FlatSigned, items-the_row-FlatExpr, items-the_row-FlatMember, items-the_row-FlatSigned, items_hidden-the_row-FlatExpr-0, items_hidden-the_row-FlatSigned-2, items_hidden-the_row-FlatMember-3}
 use mathlib.Core.Former.{Count}
-use Rattle.law_flattening.proofs.FlatLists.{boxes}
+use Rattle.law_designs.proofs.FlatLists.{boxes}
 use Rattle.smv_instances.specs.FirstFault.{first_of}
 use Rattle.smv_scope.specs.ScopeFault.{earlier_of}
 use Rattle.smv_scope.proofs.FirstLaws.{earlier-assoc, first-both}
-use Rattle.law_flat_kinds.specs.FlatKinds.{Vars, inside}
-use Rattle.law_set_types.specs.Operands.{met, disordered, wanted_at}
-use Rattle.law_set_types.specs.SetFaults as spec
+use Rattle.law_designs.specs.FlatKinds.{Vars, inside}
+use Rattle.law_designs.specs.SetOperands.{met, disordered, wanted_at}
+use Rattle.law_designs.specs.SetFaults as spec
 use Rattle.smv_symmetric.specs.Plain.{first_among, sort_in, operand, member_operand, members_in, members_of, fault_in, both_faults, member_fault, signed_fault, compared, chosen, listed, looked_for}
 
 -- the members of a listed set

@@ -11,11 +11,11 @@ use Rattle.smv_core.specs.declared.flat.FlatStmt.{FlatStmt, Assign, If', Block',
 use Rattle.smv_core.specs.declared.flat.FlatItem.{FlatItem}
 use Rattle.smv_core.specs.declared.flat.FlatItem.TheVariants as item
 use Rattle.smv_instances.specs.FirstFault.{first_of}
-use Rattle.law_flat_kinds.specs.FlatKinds.{Kind, number, takes, are_numbers, common, compares, element, assigns, Vars, inside, is_binder, kind_in, kinds_in, summands, members_in, looked_through, is_condition, value_in, keeps_kinds, all_keep_kinds, are_binders, bound_by, is_size, is_kinded_family, is_kinded_item, is_kinded}
-use Rattle.law_flat_kinds.proofs.Operands.{both, pair, all-some, takes-some, numbers-some, each-some, if-some, common-some, number_if-true, compares-some, two-some, chosen-some, element-some}
-use Rattle.law_set_types.specs.Operands.{Operand, first_at, is_loop, met, disordered, wanted_at, wanted_of}
-use Rattle.law_set_types.specs.SetFaults as spec
-use Rattle.law_set_types.specs.SetFaults.{first_fault_of_sets}
+use Rattle.law_designs.specs.FlatKinds.{Kind, number, takes, are_numbers, common, compares, element, assigns, Vars, inside, is_binder, kind_in, kinds_in, summands, members_in, looked_through, is_condition, value_in, keeps_kinds, all_keep_kinds, are_binders, bound_by, is_size, is_kinded_family, is_kinded_item, is_kinded}
+use Rattle.law_designs.proofs.Operands.{both, pair, all-some, takes-some, numbers-some, each-some, if-some, common-some, number_if-true, compares-some, two-some, chosen-some, element-some}
+use Rattle.law_designs.specs.SetOperands.{Operand, first_at, is_loop, met, disordered, wanted_at, wanted_of}
+use Rattle.law_designs.specs.SetFaults as spec
+use Rattle.law_designs.specs.SetFaults.{first_fault_of_sets}
 use Rattle.smv_symmetric.specs.Plain.{first_among, sort_in, item_fault}
 use Rattle.smv_symmetric.proofs.KindLaws.{value-kind, value-is}
 use Rattle.smv_symmetric.proofs.TurnLaws.{first-each}

@@ -8,8 +8,8 @@ use Rattle.smv_core.specs.declared.flat.FlatSigned.{FlatSigned}
 use Rattle.smv_core.specs.declared.flat.FlatMember.{FlatMember, One, Span as SpanOf}
 use Rattle.smv_core.specs.declared.flat.FlatExpr.{FlatExpr, Number, Var, Loop, Constant, Not, Iff, Compare, Within, Modulo, Choose, All, Any, Each, Read, And, Or, Implies, Sum, List as ListOf, List', Row_of-FlatMember, end_of-FlatMember, more_of-FlatMember, items-the_row-FlatMember, items_hidden-the_row-FlatMember-3}
 use mathlib.Core.Former.{Count}
-use Rattle.law_flattening.proofs.FlatLists.{boxes}
-use Rattle.law_flat_kinds.specs.FlatKinds.{Vars, number, enumeration, kind_of, joined}
+use Rattle.law_designs.proofs.FlatLists.{boxes}
+use Rattle.law_designs.specs.FlatKinds.{Vars, number, enumeration, kind_of, joined}
 use Rattle.smv_symmetric.specs.Plain.{value_kind, variable_kind, joined_all, kind_in, member_kinds, member_kind}
 
 module _ (raw : Raw) (vars : Vars) where

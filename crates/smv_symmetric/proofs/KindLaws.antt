@@ -5,8 +5,8 @@ use Rattle.smv_core.specs.declared.flat.Family.{Family}
 use Rattle.smv_core.specs.declared.flat.Raw.{Raw}
 use Rattle.smv_core.specs.declared.flat.FlatMember.{One, Span as SpanOf}
 use Rattle.smv_core.specs.declared.flat.FlatExpr.{FlatExpr, Number, Read', Var, Loop, Constant, Not', And', Or', Implies', Iff', Compare', Within', Sum', Modulo', Choose', All', Any', List', Each', end_of-FlatExpr, more_of-FlatExpr, Row_of-FlatMember, end_of-FlatMember, more_of-FlatMember}
-use Rattle.law_flat_kinds.specs.FlatKinds.{Kind, number, kind_of, joins, joined, number_if, common_after, common, chosen, element, take_each, takes, Vars, kind_in, members_in, value_in}
-use Rattle.law_flat_kinds.proofs.Operands.{if-some, chosen-some}
+use Rattle.law_designs.specs.FlatKinds.{Kind, number, kind_of, joins, joined, number_if, common_after, common, chosen, element, take_each, takes, Vars, kind_in, members_in, value_in}
+use Rattle.law_designs.proofs.Operands.{if-some, chosen-some}
 use Rattle.smv_symmetric.specs.Plain as plain
 
 -- ---- operands

@@ -7,8 +7,8 @@ use Rattle.smv_core.specs.declared.flat.FlatMember.{FlatMember}
 use Rattle.smv_core.specs.declared.flat.FlatSigned.{FlatSigned}
 use Rattle.smv_core.specs.declared.flat.FlatExpr.{FlatExpr, Number, Read, Var, Loop, Constant, All, Any, Each, List as ListOf, Not, Iff, Compare, Within, Modulo, Choose, And, And', Or, Or', Implies, Implies', Sum, Row_of-FlatExpr, end_of-FlatExpr, more_of-FlatExpr, items-the_row-FlatExpr, items_hidden-the_row-FlatExpr-0}
 use mathlib.Core.Former.{Count}
-use Rattle.law_flattening.proofs.FlatLists.{boxes}
-use Rattle.law_set_types.specs.Operands.{first_at_of}
+use Rattle.law_designs.proofs.FlatLists.{boxes}
+use Rattle.law_designs.specs.SetOperands.{first_at_of}
 use Rattle.smv_symmetric.specs.Plain.{place, first_place}
 
 row-first : (n : _) (row : Row_of-FlatExpr n) → first_at_of row ≡ first_place (items-the_row-FlatExpr n row)

@@ -13,13 +13,13 @@ use Rattle.smv_core.specs.declared.flat.FlatExpr.{FlatExpr}
 use Rattle.smv_core.specs.declared.flat.FlatStmt.{FlatStmt, Assign, If, Default, Forall, Block, Block', Row_of-FlatStmt, end_of-FlatStmt, more_of-FlatStmt, items-the_row-FlatStmt, items_hidden-the_row-FlatStmt-1}
 use Rattle.smv_core.specs.declared.flat.FlatItem.TheVariants as item
 use mathlib.Core.Former.{Count}
-use Rattle.law_flattening.proofs.FlatLists.{boxes}
+use Rattle.law_designs.proofs.FlatLists.{boxes}
 use Rattle.smv_instances.specs.FirstFault.{first_of}
 use Rattle.smv_scope.specs.ScopeFault.{earlier_of}
 use Rattle.smv_scope.proofs.FirstLaws.{earlier-assoc, first-both}
-use Rattle.law_flat_kinds.specs.FlatKinds.{Vars, inside, bound_by}
-use Rattle.law_set_types.specs.Operands.{wanted_at, wanted_of}
-use Rattle.law_set_types.specs.SetFaults as spec
+use Rattle.law_designs.specs.FlatKinds.{Vars, inside, bound_by}
+use Rattle.law_designs.specs.SetOperands.{wanted_at, wanted_of}
+use Rattle.law_designs.specs.SetFaults as spec
 use Rattle.smv_symmetric.specs.Plain.{first_among, sort_in, operand, fault_in, assigned_fault, statement_fault, both_statement_faults, item_fault}
 use Rattle.smv_symmetric.proofs.TurnLaws.{first-each}
 

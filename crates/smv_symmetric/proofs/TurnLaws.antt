@@ -6,7 +6,7 @@ use Rattle.smv_core.specs.declared.fault.Fault.{Fault}
 use Rattle.smv_instances.specs.FirstFault.{first_of}
 use Rattle.smv_scope.specs.ScopeFault.{earlier_of}
 use Rattle.smv_scope.proofs.FirstLaws.{earlier-assoc, first-both}
-use Rattle.law_set_types.specs.Operands.{Operand, is_of_set, is_number, number_fault, met}
+use Rattle.law_designs.specs.SetOperands.{Operand, is_of_set, is_number, number_fault, met}
 use Rattle.smv_symmetric.specs.Plain.{first_among, fault_if_number}
 
 pub earlier-none : (f : Option Fault) → earlier_of f None ≡ f

@@ -12,9 +12,9 @@ use Rattle.smv_core.specs.declared.flat.FlatItem.{FlatItem}
 use Rattle.smv_core.specs.declared.flat.Raw.{Raw}
 use Rattle.smv_instances.specs.FirstFault.{first_of}
 use Rattle.smv_scope.specs.ScopeFault.{earlier_of}
-use Rattle.law_flat_kinds.specs.FlatKinds.{Kind, number, enumeration, kind_of, joined, Vars}
-use Rattle.law_set_types.specs.Operands.{Operand, first_at, is_number, number_fault, met, disordered, wanted_at, wanted_of}
-use Rattle.law_set_types.specs.SetFaults as faults
+use Rattle.law_designs.specs.FlatKinds.{Kind, number, enumeration, kind_of, joined, Vars}
+use Rattle.law_designs.specs.SetOperands.{Operand, first_at, is_number, number_fault, met, disordered, wanted_at, wanted_of}
+use Rattle.law_designs.specs.SetFaults as faults
 
 -- the kind of an element of a family, and of a variable
 abbrev pub value_kind : Option Family → Kind

@@ -1,7 +1,7 @@
 // The first fault of set types in an expression.
 ghost use Rattle.std.specs.Prelude.{◌≡◌, [], map, IfOk};
-ghost use Rattle.law_flat_kinds.specs.FlatKinds as kinds;
-ghost use Rattle.law_flat_kinds.specs.FlatKinds.{kind_of};
+ghost use Rattle.law_designs.specs.FlatKinds as kinds;
+ghost use Rattle.law_designs.specs.FlatKinds.{kind_of};
 ghost use Rattle.smv_symmetric.specs.Plain as plain;
 
 use crate::operands::{add_members, disordered, met, operand_of, wanted_at};

@@ -1,6 +1,6 @@
 // The kinds of expressions that have one.
 ghost use Rattle.std.specs.Prelude.{◌≡◌, map, slice_get};
-ghost use Rattle.law_flat_kinds.specs.FlatKinds as spec;
+ghost use Rattle.law_designs.specs.FlatKinds as spec;
 ghost use Rattle.smv_symmetric.specs.Plain as plain;
 ghost use Rattle.smv_symmetric.specs.Held.{held};
 

@@ -1,11 +1,11 @@
 //! The first fault of set types of a flattened text, 21 or 22: `symmetric_fault`, for the pass behind single assignment, loops and layers.
 //! `kinds` has the kind of an expression, `operands` what meets a set type, `expressions` and `statements` the walk. The walk is by `specs/Plain`: there each
-//! expression has a kind, and `proofs/KindLaws` says that in a text that keeps the rules of kinds it is the kind by which `law_set_types` defines the faults.
+//! expression has a kind, and `proofs/KindLaws` says that in a text that keeps the rules of kinds it is the kind by which `law_designs` defines the faults.
 #![tactic(auto)]
 
 ghost use Rattle.std.specs.Prelude.{◌≡◌, true, IfOk};
-ghost use Rattle.law_flat_kinds.specs.FlatKinds.{is_kinded};
-ghost use Rattle.law_set_types.specs.SetFaults.{first_fault_of_sets};
+ghost use Rattle.law_designs.specs.FlatKinds.{is_kinded};
+ghost use Rattle.law_designs.specs.SetFaults.{first_fault_of_sets};
 
 pub mod expressions;
 pub mod kinds;

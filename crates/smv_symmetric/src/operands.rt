@@ -2,8 +2,8 @@
 ghost use Rattle.std.specs.Prelude.{◌≡◌, map, flat_map, zip, slice_get, Some, OnOk, ◌++◌};
 ghost use Rattle.std.specs.List.{list_any};
 ghost use Rattle.smv_instances.specs.FirstFault.{first_of};
-ghost use Rattle.law_flat_kinds.specs.FlatKinds.{kind_of};
-ghost use Rattle.law_set_types.specs.Operands as spec;
+ghost use Rattle.law_designs.specs.FlatKinds.{kind_of};
+ghost use Rattle.law_designs.specs.SetOperands as spec;
 ghost use Rattle.smv_symmetric.specs.Plain as plain;
 ghost use Rattle.smv_symmetric.specs.Held.{as_met};
 

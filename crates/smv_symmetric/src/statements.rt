@@ -1,6 +1,6 @@
 // The first fault of set types in statements and items.
 ghost use Rattle.std.specs.Prelude.{◌≡◌, [], map, IfOk};
-ghost use Rattle.law_flat_kinds.specs.FlatKinds.{kind_of, bound_by};
+ghost use Rattle.law_designs.specs.FlatKinds.{kind_of, bound_by};
 ghost use Rattle.smv_symmetric.specs.Plain as plain;
 
 use crate::expressions::{fault_in, faults_in, inside};

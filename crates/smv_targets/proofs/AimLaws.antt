@@ -1,9 +1,9 @@
 -- What a target's conditions mean, and that they go on to mean it.
 use Rattle.std.proofs.Common.{◌≡◌, ℕ, List, [], ◌∷◌, map, Bool, true, false, not, ◌&&◌, ◌||◌, Option, Some, None, refl, sym, ap, ◌∙◌, subst, if◌then◌else◌}
 use Rattle.smv_core.specs.Flat.{Numbered}
-use Rattle.smv_abstraction.specs.Places.{Place, named, rest, same_place, is_named, is_among, AbsOutcome}
-use Rattle.smv_abstraction.specs.Right.{gives, gives_surely, is_outside}
-use Rattle.smv_abstraction.proofs.Same.{same_place-is}
+use Rattle.law_obligations.specs.Places.{Place, named, rest, same_place, is_named, is_among, AbsOutcome}
+use Rattle.law_obligations.specs.Right.{gives, gives_surely, is_outside}
+use Rattle.law_obligations.proofs.Same.{same_place-is}
 use Rattle.smv_spots.specs.Spots.{place_in}
 use Rattle.smv_problem.specs.declared.problem.Problem.{Problem}
 use Rattle.smv_conditions.specs.Keep.{KeepsConditions}

@@ -1,8 +1,8 @@
 -- The condition that an outcome stands for is one of the target's.
 use Rattle.std.proofs.Common.{◌≡◌, ℕ, List, [], ◌∷◌, Bool, Option, Some, None, IfSome, sym, subst}
-use Rattle.smv_abstraction.specs.Sets.{Has, first, later}
-use Rattle.smv_abstraction.specs.Places.{Place, named, rest, World}
-use Rattle.smv_abstraction.specs.declared.abstract_type.Rest.TheVariants as beside
+use Rattle.law_obligations.specs.Sets.{Has, first, later}
+use Rattle.law_obligations.specs.Places.{Place, named, rest, World}
+use Rattle.smv_core.specs.declared.abstract_type.Rest.TheVariants as beside
 use Rattle.smv_spots.specs.declared.spots.Spot.{Spot}
 use Rattle.smv_spots.specs.Spots.{place_in}
 use Rattle.smv_conditions.specs.Keep.{KeepsConditions}

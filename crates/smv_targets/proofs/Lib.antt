@@ -1,3 +1,4 @@
 pub mod GivenLaws
 pub mod OfferedLaws
 pub mod AimLaws
+pub mod TargetLaws

@@ -2,13 +2,13 @@
 use Rattle.std.proofs.Common.{◌≡◌, ℕ, List, [], ◌∷◌, length, arith, Bool, true, false, not, ◌&&◌, ◌||◌, refl, sym, ap, ◌∙◌}
 use Rattle.std.specs.List.{list_any}
 use Rattle.smv_core.specs.Flat.{Numbered}
-use Rattle.smv_abstraction.specs.Places.{AbsOutcome}
-use Rattle.smv_abstraction.specs.Right.{same_outcome}
-use Rattle.smv_abstraction.proofs.Same.{same_outcome-itself, same_outcome-is}
+use Rattle.law_obligations.specs.Places.{AbsOutcome}
+use Rattle.law_obligations.specs.Right.{same_outcome}
+use Rattle.law_obligations.proofs.Same.{same_outcome-itself, same_outcome-is}
 use Rattle.smv_spots.specs.Spots.{outcome_in}
 use Rattle.smv_conditions.specs.declared.offers.Offer.{Offer}
 use Rattle.smv_conditions.specs.Offers.{any_offer}
-use Rattle.law_outcomes.proofs.MixLaws.{or_same}
+use Rattle.law_obligations.proofs.MixLaws.{or_same}
 use Rattle.smv_targets.specs.Offered.{differs_from, differs_in, two_differ}
 
 pub and_same : {a b c d : Bool} → a ≡ c → b ≡ d → (a && b) ≡ (c && d)

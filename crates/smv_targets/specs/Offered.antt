@@ -1,8 +1,8 @@
 -- What outcomes with conditions give a target, and when two of them differ.
 use Rattle.std.specs.Prelude.{ℕ, List, Bool, not}
 use Rattle.smv_core.specs.Flat.{Numbered}
-use Rattle.smv_abstraction.specs.Places.{AbsOutcome}
-use Rattle.smv_abstraction.specs.Right.{same_outcome}
+use Rattle.law_obligations.specs.Places.{AbsOutcome}
+use Rattle.law_obligations.specs.Right.{same_outcome}
 use Rattle.smv_conditions.specs.declared.offers.Offer.{Offer}
 use Rattle.smv_conditions.specs.Offers.{any_offer}
 use Rattle.smv_targets.specs.declared.targets.Target.{Target}

@@ -1,8 +1,8 @@
 -- The element whose value is asked about, and when it has which value.
 use Rattle.std.specs.Prelude.{◌≡◌, ℕ, List, [], ◌∷◌, map, Option, Some, None, Bool, true, false, not, if◌then◌else◌}
 use Rattle.smv_core.specs.Flat.{Numbered}
-use Rattle.smv_abstraction.specs.Places.{Place, named, rest, same_place, is_among, AbsOutcome}
-use Rattle.smv_abstraction.specs.Right.{gives, gives_surely, is_outside}
+use Rattle.law_obligations.specs.Places.{Place, named, rest, same_place, is_among, AbsOutcome}
+use Rattle.law_obligations.specs.Right.{gives, gives_surely, is_outside}
 use Rattle.smv_spots.specs.Spots.{place_in}
 use Rattle.smv_problem.specs.declared.problem.Problem.{Problem}
 use Rattle.smv_cells.specs.declared.cells.Cell.{Cell}

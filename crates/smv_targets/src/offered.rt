@@ -2,8 +2,8 @@
 ghost use Rattle.std.specs.Prelude.{◌≡◌, ℕ, Bool, true, IfOk};
 ghost use Rattle.std.specs.List.{list_any};
 ghost use Rattle.smv_core.specs.Flat.{Numbered};
-ghost use Rattle.smv_abstraction.specs.Places.{World};
-ghost use Rattle.smv_abstraction.specs.Right.{same_outcome};
+ghost use Rattle.law_obligations.specs.Places.{World};
+ghost use Rattle.law_obligations.specs.Right.{same_outcome};
 ghost use Rattle.smv_spots.specs.Spots.{outcome_in};
 ghost use Rattle.smv_problem_spots.specs.Worlds.{IsWorldOf};
 ghost use Rattle.smv_conditions.specs.Keep.{KeepsConditions};

@@ -1,7 +1,7 @@
 // The element whose value is asked about.
 ghost use Rattle.std.specs.Prelude.{◌≡◌, IfSome};
-ghost use Rattle.smv_abstraction.specs.Sets.{Has};
-ghost use Rattle.smv_abstraction.specs.Places.{World};
+ghost use Rattle.law_obligations.specs.Sets.{Has};
+ghost use Rattle.law_obligations.specs.Places.{World};
 ghost use Rattle.smv_spots.specs.Spots.{place_in, outcome_in};
 ghost use Rattle.smv_problem_spots.specs.Worlds.{IsWorldOf};
 ghost use Rattle.smv_targets.specs.Targets.{at_place, given_at, within, beyond, conditions_at, conditions_of};

@@ -10,14 +10,14 @@ use Rattle.smv_print.specs.Canonical.{canonical}
 use Rattle.smv_report.specs.Lines.{fault_text}
 use Rattle.smv_problem.specs.declared.report.Budgets.{Budgets}
 use Rattle.smv_problem.specs.declared.report.Report.{Report}
-use Rattle.smv_command.specs.declared.Command.{Command}
-use Rattle.smv_command.specs.declared.Command.TheVariants.{Only, Print, Generated}
-use Rattle.smv_status.specs.declared.Status.{Status}
-use Rattle.smv_status.specs.declared.Status.TheVariants as status
+use Rattle.smv_command.specs.declared.commands.Command.{Command}
+use Rattle.smv_command.specs.declared.commands.Command.TheVariants.{Only, Print, Generated}
+use Rattle.smv_command.specs.declared.exit.Status.{Status}
+use Rattle.smv_command.specs.declared.exit.Status.TheVariants as status
 use Rattle.smv_gen.specs.Generated.{generated_text}
 use Rattle.law_valid_texts.specs.Reports.{IsUnitReport, HasNoUnit}
 use Rattle.smv_top.proofs.Endings.{line_31}
-use Rattle.law_answers.specs.Dues.{IsDue, IsDueTo, IsFault, IsReportFor, text_for, usage_line, decided, printed, refused, too_long, malformed, unnamed, decides, limit, lines_for, proved_by, status_of}
+use Rattle.smv_answers.specs.Dues.{IsDue, IsDueTo, IsFault, IsReportFor, text_for, usage_line, decided, printed, refused, too_long, malformed, unnamed, decides, limit, lines_for, proved_by, status_of}
 
 pub due_report : (command : Command) (text : List ℕ) (report : Report) (due : Status) (answer : List ℕ) → IsReportFor command text report → due ≡ status_of (proved_by command) report → answer ≡ lines_for command report → IsDue command text due answer
 due_report command text report due answer is e f = rw e (rw f (decided report is))

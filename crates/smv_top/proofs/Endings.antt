@@ -9,13 +9,13 @@ use Rattle.std.specs.Io.KnownBytes.{Appends}
 use Rattle.smv_io.specs.Transfers.{TookFront}
 use Rattle.smv_problem.specs.declared.report.Report.{Report}
 use Rattle.smv_report.specs.Lines.{fault_text}
-use Rattle.smv_command.specs.declared.Command.{Command}
-use Rattle.smv_command.specs.declared.Command.TheVariants.{Prove, Only, Print, Generated}
-use Rattle.smv_status.specs.declared.Status.{Status}
-use Rattle.smv_status.specs.declared.Status.TheVariants.{AllProved, SomeFalse, SomeUnknown, Refused, Usage, ReadFault, WriteFault, OutOfMemory, PartProved, Printed as printed_out, Generated as all_generated}
+use Rattle.smv_command.specs.declared.commands.Command.{Command}
+use Rattle.smv_command.specs.declared.commands.Command.TheVariants.{Prove, Only, Print, Generated}
+use Rattle.smv_command.specs.declared.exit.Status.{Status}
+use Rattle.smv_command.specs.declared.exit.Status.TheVariants.{AllProved, SomeFalse, SomeUnknown, Refused, Usage, ReadFault, WriteFault, OutOfMemory, PartProved, Printed as printed_out, Generated as all_generated}
 use Rattle.law_valid_texts.specs.Reports.{IsSoundDesign}
-use Rattle.law_answers.specs.Dues.{IsDue, IsDueTo, decided, printed, refused, is_false, is_unknown, proved_by, status_of, Gave, Ends}
-use Rattle.law_answers.specs.Laws.{OneStatus, ProvedIsSound}
+use Rattle.smv_answers.specs.Dues.{IsDue, IsDueTo, decided, printed, refused, is_false, is_unknown, proved_by, status_of, Gave, Ends}
+use Rattle.smv_answers.specs.Laws.{OneStatus, ProvedIsSound}
 use Rattle.smv_top.specs.Clauses.{Completes}
 
 -- ---- what the source gave

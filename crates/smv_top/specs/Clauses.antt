@@ -1,9 +1,9 @@
 -- What is said of a call without faults of its source and its sink.
 use Rattle.std.specs.Prelude.{◌≡◌, ◌⊎◌, ℕ, List, Option}
-use Rattle.smv_command.specs.declared.Command.{Command}
-use Rattle.smv_status.specs.declared.Status.{Status}
-use Rattle.smv_status.specs.declared.Status.TheVariants.{OutOfMemory}
-use Rattle.law_answers.specs.Dues.{IsDueTo}
+use Rattle.smv_command.specs.declared.commands.Command.{Command}
+use Rattle.smv_command.specs.declared.exit.Status.{Status}
+use Rattle.smv_command.specs.declared.exit.Status.TheVariants.{OutOfMemory}
+use Rattle.smv_answers.specs.Dues.{IsDueTo}
 
 -- the status to which an answer is due, unless memory ran out
 abbrev pub Completes : Status → Option Command → List ℕ → Type 0

@@ -9,23 +9,21 @@ ghost use Rattle.std.specs.Io.KnownBytes.{Appends};
 ghost use Rattle.smv_io.specs.Causes.{Rose};
 ghost use Rattle.smv_io.specs.Transfers.{TookFront};
 ghost use Rattle.smv_command.specs.Ranges.{IsInRange};
-ghost use Rattle.smv_command.specs.declared.Command.TheVariants as variant;
-ghost use Rattle.smv_words.specs.Commands.{command_of};
+ghost use Rattle.smv_command.specs.declared.commands.Command.TheVariants as variant;
+ghost use Rattle.smv_command.specs.Commands.{command_of};
 ghost use Rattle.law_valid_texts.specs.Reports.{IsSoundDesign};
-ghost use Rattle.law_answers.specs.Dues.{Gave, Ends, reads, text_for};
+ghost use Rattle.smv_answers.specs.Dues.{Gave, Ends, reads, text_for};
 ghost use Rattle.smv_top.specs.Clauses.{Completes};
 
 mod answers;
 
 use answers::answer_to;
-use law_answers::laws::{one_status, proved_is_sound};
+use smv_answers::laws::{one_status, proved_is_sound};
 use smv_answers::usage;
-use smv_command::Command;
+use smv_command::words_laws::numbers_are_in_range;
+use smv_command::{Command, Status, command_of};
 use smv_gen::generate;
 use smv_io::{ReadError, Sink, Source, read_all, write_all};
-use smv_status::Status;
-use smv_words::command_of;
-use smv_words::laws::numbers_are_in_range;
 use std::alloc::Global;
 
 // The most bytes that a text has.

@@ -14,12 +14,12 @@ use Rattle.smv_rings.specs.Lists.{Lists, State}
 use Rattle.smv_rings.specs.Paths.{IsViolating}
 use Rattle.smv_rings.specs.Schedule.{ring}
 use Rattle.smv_search.specs.Runs.{rings_to}
-use Rattle.smv_abstraction.specs.May.{AbsState}
-use Rattle.law_codes.specs.CasePaths.{IsShortest, states_from}
-use Rattle.law_codes.specs.Readings.{Case, reading, state_bits}
-use Rattle.law_case_lists.specs.CaseLists.{case_lists}
-use Rattle.law_case_lists.specs.Laws.{readings}
-use Rattle.law_case_lists.proofs.Paths.{least_is_least}
+use Rattle.law_obligations.specs.May.{AbsState}
+use Rattle.law_obligations.specs.CasePaths.{IsShortest, states_from}
+use Rattle.law_obligations.specs.Readings.{Case, reading, state_bits}
+use Rattle.law_reports.specs.CaseLists.{case_lists}
+use Rattle.law_reports.specs.ListLaws.{readings}
+use Rattle.law_reports.proofs.Paths.{least_is_least}
 use Rattle.smv_problem.specs.Written.{written_state}
 use Rattle.smv_problem.specs.WellFormed.{IsWellFormed, OfCases}
 use Rattle.smv_problem.specs.declared.problem.Problem.{Problem}

@@ -11,23 +11,23 @@ use Rattle.smv_core.specs.declared.flat.Simple.TheVariants.{Range, Enum, Set}
 use Rattle.smv_core.specs.declared.flat.SetInfo.{SetInfo}
 use Rattle.smv_core.specs.declared.flat.Class.{Class}
 use Rattle.smv_core.specs.declared.flat.Class.TheVariants as class
-use Rattle.smv_abstraction.specs.Sets.{Has, first, later}
-use Rattle.smv_abstraction.specs.Places.{Place, named, rest, World, rests_in, places_in}
-use Rattle.smv_abstraction.specs.Pictures.{AreNamedOf}
-use Rattle.smv_abstraction.specs.Covers.{IsIndexType, AreApart}
-use Rattle.smv_abstraction.proofs.Members.{Has-left, Has-uncons}
-use Rattle.smv_abstraction.proofs.Tests.{true_or_false}
-use Rattle.smv_abstraction.proofs.OneOfEach.{get_Has}
+use Rattle.law_obligations.specs.Sets.{Has, first, later}
+use Rattle.law_obligations.specs.Places.{Place, named, rest, World, rests_in, places_in}
+use Rattle.law_obligations.specs.Pictures.{AreNamedOf}
+use Rattle.law_obligations.specs.Covers.{IsIndexType, AreApart}
+use Rattle.law_obligations.proofs.Members.{Has-left, Has-uncons}
+use Rattle.law_obligations.proofs.Tests.{true_or_false}
+use Rattle.law_obligations.proofs.OneOfEach.{get_Has}
 use Rattle.law_obligations.specs.Outlines.{place_of}
-use Rattle.law_flat_kinds.specs.FlatKinds.{Kind, enumeration, set_type, kind_of}
+use Rattle.law_designs.specs.FlatKinds.{Kind, enumeration, set_type, kind_of}
 use Rattle.smv_spots.specs.declared.spots.Spot.{Spot}
 use Rattle.smv_spots.specs.declared.spots.Spot.TheVariants as spot
 use Rattle.smv_spots.specs.Spots.{place_in, outcome_in, of_set}
 use Rattle.smv_problem.specs.declared.problem.AbsValue.TheVariants as value
 use Rattle.smv_problem.specs.Written.{written_class, written_place, written_spot, set_number, constant_or, constant_from}
 use Rattle.smv_problem.specs.WellFormed.{AreOf}
-use Rattle.law_written_values.specs.Values.{value_in, IsPlaceOf, a_number, a_constant, a_class, a_rest}
-use Rattle.law_written_values.proofs.Alike.{have_kinds}
+use Rattle.law_problems.specs.Values.{value_in, IsPlaceOf, a_number, a_constant, a_class, a_rest}
+use Rattle.law_problems.proofs.Alike.{have_kinds}
 use Rattle.smv_typed_spots.specs.TypedSpots.{class_spot, class_spots, value_spot}
 
 inner : {X : Type 0} {x y : X} → Some x ≡ Some y → x ≡ y

@@ -1,6 +1,6 @@
 // Indexes and values as spots.
 ghost use Rattle.std.specs.Prelude.{◌≡◌, [], IfOk, slice_get};
-ghost use Rattle.smv_abstraction.specs.Soundness.{over_of};
+ghost use Rattle.law_obligations.specs.Soundness.{over_of};
 ghost use Rattle.smv_typed_spots.specs.TypedSpots as spec;
 
 use smv_core::Seq;

@@ -6,8 +6,8 @@ use Rattle.smv_core.specs.declared.fault.Refusal.{Refusal}
 use Rattle.smv_core.specs.declared.fault.Refusal.TheVariants as refusal
 use Rattle.smv_core.specs.declared.tree.Text.{Text}
 use Rattle.smv_core.specs.declared.flat.Raw.{Raw}
-use Rattle.law_kinds.specs.KindFaults.{first_fault_of_kinds}
-use Rattle.law_flattening.specs.Flattening.{flatten}
+use Rattle.law_designs.specs.KindFaults.{first_fault_of_kinds}
+use Rattle.law_designs.specs.Flattening.{flatten}
 
 -- some tokens spell the text
 abbrev pub IsSpelled : Text → Type 0

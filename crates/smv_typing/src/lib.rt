@@ -1,12 +1,12 @@
 //! The pass over kinds: the flattened text of a text that keeps their rules, or the first fault of kinds.
 //!
-//! For `smv_front`. `Typed` keeps in its invariant that no part breaks a rule of kinds (`law_flat_kinds`).
+//! For `smv_front`. `Typed` keeps in its invariant that no part breaks a rule of kinds (`law_designs`).
 #![tactic(auto)]
 
 ghost use Rattle.std.specs.Prelude.{◌≡◌, None, true};
 ghost use Rattle.smv_instances.specs.Said.{AreNoted};
 ghost use Rattle.smv_instances.specs.FirstFault.{first_fault};
-ghost use Rattle.law_flat_kinds.specs.FlatKinds.{is_kinded};
+ghost use Rattle.law_designs.specs.FlatKinds.{is_kinded};
 ghost use Rattle.smv_typing.specs.Answers.{IsSpelled, IsTyped};
 
 mod depth;
@@ -15,7 +15,7 @@ mod weights;
 
 use crate::depth::is_too_deep;
 use crate::nodes::check_nodes;
-use law_kinds_after_flattening::laws::flattened_texts_are_kinded;
+use law_sound_texts::kinds_after_flattening::flattened_texts_are_kinded;
 use smv_core::Refusal;
 use smv_core::flat::Raw;
 use smv_core::tree::Text;
@@ -37,7 +37,7 @@ impl Model for Typed {
     ghost use Rattle.smv_core.specs.declared.flat.Raw.{Raw};
     ghost use Rattle.smv_core.specs.contracts.flat.FlatExpr as expr;
     ghost use Rattle.smv_core.specs.contracts.flat.FlatStmt as stmt;
-    ghost use Rattle.law_flat_kinds.specs.FlatKinds.{is_kinded};
+    ghost use Rattle.law_designs.specs.FlatKinds.{is_kinded};
 
     ghost Value = { Raw };
 

@@ -10,7 +10,7 @@ use Rattle.smv_core.specs.declared.flat.Family.{Family}
 use Rattle.smv_core.specs.declared.flat.FlatSigned.{FlatSigned}
 use Rattle.smv_core.specs.declared.flat.FlatMember.{FlatMember, One, Span as SpanOf}
 use Rattle.smv_core.specs.declared.flat.FlatExpr.{FlatExpr, Number, Var, Loop, Constant, Not, Iff, Compare, Within, Modulo, Choose, All, Any, Each, Read, Read', And, And', Or, Or', Implies, Implies', Sum, Sum', List as ListOf, List', Row_of-FlatExpr, end_of-FlatExpr, more_of-FlatExpr, Row_of-FlatMember, end_of-FlatMember, more_of-FlatMember, Row_of-FlatSigned, end_of-FlatSigned, more_of-FlatSigned, items-the_row-FlatExpr, items-the_row-FlatMember, items-the_row-FlatSigned, items_hidden-the_row-FlatExpr-0, items_hidden-the_row-FlatSigned-2, items_hidden-the_row-FlatMember-3}
-use Rattle.smv_abstraction.specs.Places.{Place, named, bind_place}
+use Rattle.law_obligations.specs.Places.{Place, named, bind_place}
 use Rattle.law_obligations.specs.Reads.{reads_each, reads_signed, reads_members}
 use Rattle.law_obligations.specs.Times.{if_there}
 use Rattle.smv_unit_tables.specs.Reads.{read_in, read_in_term, read_in_member}

@@ -9,7 +9,7 @@ use Rattle.smv_core.specs.declared.flat.Simple.{Simple}
 use Rattle.smv_core.specs.declared.flat.Family.{Family}
 use Rattle.smv_core.specs.declared.flat.FlatExpr.{FlatExpr}
 use Rattle.smv_core.specs.declared.flat.Flat.{Flat, Nothing, Assign, If, If', First, First', Forall, Forall', Row_of-Flat, end_of-Flat, more_of-Flat, items-the_row-Flat, items_hidden-the_row-Flat-1}
-use Rattle.smv_abstraction.specs.Places.{Place, named, bind_place}
+use Rattle.law_obligations.specs.Places.{Place, named, bind_place}
 use Rattle.law_obligations.specs.Reads.{has_counting, have_counting, parts_read}
 use Rattle.law_obligations.specs.Times.{if_there}
 use Rattle.smv_unit_tables.specs.Reads.{read_in, part_reads, has_assignment}

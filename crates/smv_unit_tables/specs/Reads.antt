@@ -9,7 +9,7 @@ use Rattle.smv_core.specs.declared.flat.FlatExpr.{FlatExpr}
 use Rattle.smv_core.specs.declared.flat.FlatSigned.{FlatSigned, out-FlatSigned}
 use Rattle.smv_core.specs.declared.flat.FlatMember.{FlatMember, One, Span as SpanOf}
 use Rattle.smv_core.specs.declared.flat.Flat.{Flat}
-use Rattle.smv_abstraction.specs.Places.{named}
+use Rattle.law_obligations.specs.Places.{named}
 use Rattle.law_obligations.specs.Reads.{has_counting}
 use Rattle.law_obligations.specs.Times.{families_read, families_of_part}
 

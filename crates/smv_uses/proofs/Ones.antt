@@ -9,9 +9,9 @@ use Rattle.smv_core.specs.declared.flat.FlatUsing.{FlatUsing}
 use Rattle.smv_core.specs.declared.flat.Leaf.{Leaf}
 use Rattle.smv_core.specs.declared.flat.Pick.{Pick}
 use Rattle.smv_core.specs.declared.flat.Assumed.{Assumed}
-use Rattle.smv_abstraction.specs.Sets.{Has, first, later as behind}
-use Rattle.smv_abstraction.proofs.Members.{Has-from_map, Has-left, Has-right, Has-map, Has-flat_map}
-use Rattle.smv_abstraction.proofs.OneOfEach.{Has-from_flat_map}
+use Rattle.law_obligations.specs.Sets.{Has, first, later as behind}
+use Rattle.law_obligations.proofs.Members.{Has-from_map, Has-left, Has-right, Has-map, Has-flat_map}
+use Rattle.law_obligations.proofs.OneOfEach.{Has-from_flat_map}
 use Rattle.law_obligations.specs.Units.{units_of}
 use Rattle.law_obligations.proofs.Lookups.{find-some}
 use Rattle.law_splits.specs.Leaves.{named_by, leaves_of}

@@ -14,10 +14,10 @@ use Rattle.smv_core.specs.declared.flat.Choice.{Choice}
 use Rattle.smv_core.specs.declared.flat.Pick.{Pick}
 use Rattle.smv_core.specs.declared.flat.Assumed.{Assumed}
 use Rattle.smv_core.specs.declared.flat.Keep.{Keep}
-use Rattle.smv_abstraction.specs.Sets.{Has}
-use Rattle.smv_abstraction.proofs.Members.{Has-from_map, Has-uncons}
-use Rattle.smv_abstraction.proofs.Tests.{not_true}
-use Rattle.smv_abstraction.proofs.OneOfEach.{Has-from_flat_map, map_long}
+use Rattle.law_obligations.specs.Sets.{Has}
+use Rattle.law_obligations.proofs.Members.{Has-from_map, Has-uncons}
+use Rattle.law_obligations.proofs.Tests.{not_true}
+use Rattle.law_obligations.proofs.OneOfEach.{Has-from_flat_map, map_long}
 use Rattle.law_obligations.specs.Units.{units_of}
 use Rattle.law_obligations.proofs.Lookups.{inner, Has-option, Has-from_filter}
 use Rattle.law_splits.specs.Leaves.{leaves_of}

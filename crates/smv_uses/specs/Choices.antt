@@ -13,7 +13,7 @@ use Rattle.smv_core.specs.declared.flat.Leaf.{Leaf}
 use Rattle.smv_core.specs.declared.flat.Choice.{Choice}
 use Rattle.smv_core.specs.declared.flat.Pick.{Pick}
 use Rattle.smv_core.specs.declared.flat.Keep.{Keep}
-use Rattle.law_flattening.specs.WholeText.{is_one_layer}
+use Rattle.law_designs.specs.WholeText.{is_one_layer}
 use Rattle.law_obligations.specs.Outlines.{unit_in, map_in}
 use Rattle.law_obligations.specs.Units.{units_of}
 use Rattle.law_splits.specs.Leaves.{named_by, leaves_of}

@@ -13,8 +13,8 @@ use Rattle.smv_core.specs.declared.flat.Leaf.{Leaf}
 use Rattle.smv_core.specs.declared.flat.Pick.{Pick}
 use Rattle.smv_instances.specs.NameFaults.{place_if}
 use Rattle.smv_instances.specs.FirstFault.{faults_at, first_of}
-use Rattle.smv_abstraction.specs.Cases.{is_set}
-use Rattle.law_flattening.specs.WholeText.{is_one_layer}
+use Rattle.law_obligations.specs.Cases.{is_set}
+use Rattle.law_designs.specs.WholeText.{is_one_layer}
 use Rattle.law_obligations.specs.Units.{units_of}
 use Rattle.law_splits.specs.Leaves.{named_by, with_name, leaves_of}
 use Rattle.law_splits.specs.SplitFaults.{names_one, doubled, miscounted, same_type}

@@ -8,10 +8,10 @@ use Rattle.smv_core.specs.declared.flat.SetInfo.{SetInfo}
 use Rattle.smv_core.specs.declared.flat.Simple.{Simple}
 use Rattle.smv_core.specs.declared.flat.FlatExpr.{FlatExpr}
 use Rattle.smv_core.specs.declared.flat.Flat.{Flat, Nothing, Assign, If, First, First', Forall, Row_of-Flat, end_of-Flat, more_of-Flat, items-the_row-Flat, items_hidden-the_row-Flat-1}
-use Rattle.smv_abstraction.specs.Places.{Place}
-use Rattle.smv_abstraction.specs.Demands.{fits_place}
-use Rattle.smv_abstraction.proofs.Computing.{computing}
-use Rattle.law_outcomes.proofs.Anys.{any-append}
+use Rattle.law_obligations.specs.Places.{Place}
+use Rattle.law_obligations.specs.Demands.{fits_place}
+use Rattle.law_obligations.proofs.Computing.{computing}
+use Rattle.law_obligations.proofs.Anys.{any-append}
 use Rattle.smv_spots.specs.Spots.{of_set, place_in}
 use Rattle.smv_spots.specs.declared.spots.Spot.{Spot}
 use Rattle.smv_spots.specs.declared.spots.Spot.TheVariants.{Class}

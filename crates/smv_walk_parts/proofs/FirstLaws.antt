@@ -1,6 +1,6 @@
 -- The first result of several parts.
 use Rattle.std.proofs.Common.{◌≡◌, ℕ, List, [], ◌∷◌, map, length, Bool, sym, ap, ◌∙◌, arith, subst}
-use Rattle.law_outcomes.specs.Gist.{Gist, first_gist, first_all}
+use Rattle.law_obligations.specs.Gist.{Gist, first_gist, first_all}
 use Rattle.smv_conditions.specs.declared.gists.Gists.{Gists}
 use Rattle.smv_conditions.specs.Keep.{KeepsConditions}
 use Rattle.smv_conditions.specs.Gists.{AreGistsMade, gist_at}

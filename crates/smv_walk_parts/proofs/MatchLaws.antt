@@ -4,11 +4,11 @@ use Rattle.smv_core.specs.Values.{Truth}
 use Rattle.smv_core.specs.Flat.{Numbered}
 use Rattle.smv_core.specs.Outcome.{is_true}
 use Rattle.smv_core.specs.declared.flat.FlatExpr.{FlatExpr}
-use Rattle.smv_abstraction.specs.Places.{AbsOutcome}
-use Rattle.smv_abstraction.specs.Right.{is_false, is_neither}
-use Rattle.law_outcomes.specs.Mix.{mix_by, only_yes, none_at_all, and_mix}
-use Rattle.law_outcomes.specs.Gist.{matches_all}
-use Rattle.law_outcomes.proofs.MixLaws.{same_mix}
+use Rattle.law_obligations.specs.Places.{AbsOutcome}
+use Rattle.law_obligations.specs.Right.{is_false, is_neither}
+use Rattle.law_obligations.specs.Mix.{mix_by, only_yes, none_at_all, and_mix}
+use Rattle.law_obligations.specs.Gist.{matches_all}
+use Rattle.law_obligations.proofs.MixLaws.{same_mix}
 use Rattle.smv_spots.specs.declared.spots.Spot.{Spot}
 use Rattle.smv_spots.specs.Spots.{place_in, outcome_in}
 use Rattle.smv_conditions.specs.declared.offers.Offer.{Offer}

@@ -7,11 +7,11 @@ use Rattle.smv_core.specs.Flat.{Numbered}
 use Rattle.smv_core.specs.Outcome.{is_true}
 use Rattle.smv_core.specs.declared.flat.Flat.{Flat}
 use Rattle.smv_core.specs.declared.flat.FlatExpr.{FlatExpr}
-use Rattle.smv_abstraction.specs.Places.{Place, AbsOutcome}
-use Rattle.smv_abstraction.specs.Demands.{fits_place, concerns_place}
-use Rattle.smv_abstraction.specs.Right.{is_false, is_neither}
-use Rattle.law_outcomes.specs.Mix.{Mix}
-use Rattle.law_outcomes.specs.Gist.{at_index, is_known, matches_all}
+use Rattle.law_obligations.specs.Places.{Place, AbsOutcome}
+use Rattle.law_obligations.specs.Demands.{fits_place, concerns_place}
+use Rattle.law_obligations.specs.Right.{is_false, is_neither}
+use Rattle.law_obligations.specs.Mix.{Mix}
+use Rattle.law_obligations.specs.Gist.{at_index, is_known, matches_all}
 use Rattle.smv_spots.specs.declared.spots.Spot.{Spot}
 use Rattle.smv_spots.specs.Spots.{place_in}
 use Rattle.smv_conditions.specs.declared.offers.Offer.{Offer}

@@ -2,7 +2,7 @@
 ghost use Rattle.std.specs.Prelude.{◌≡◌, map};
 ghost use Rattle.std.specs.List.{list_any};
 ghost use Rattle.smv_core.specs.Flat.{Numbered, flat_index};
-ghost use Rattle.smv_abstraction.specs.Demands.{fits_place, concerns_place};
+ghost use Rattle.law_obligations.specs.Demands.{fits_place, concerns_place};
 ghost use Rattle.smv_spots.specs.Spots.{place_in};
 ghost use Rattle.smv_indexes.specs.Indexes.{index_of};
 ghost use Rattle.smv_walk_parts.specs.Parts as spec;

@@ -1,6 +1,6 @@
 // Whether an assignment is to the element that is asked for.
 ghost use Rattle.std.specs.Prelude.{◌≡◌, ℕ, Bool, IfOk, drop};
-ghost use Rattle.smv_abstraction.specs.Places.{World};
+ghost use Rattle.law_obligations.specs.Places.{World};
 ghost use Rattle.smv_spots.specs.Spots.{outcome_in};
 ghost use Rattle.smv_problem_spots.specs.Worlds.{IsWorldOf};
 ghost use Rattle.smv_conditions.specs.Keep.{KeepsConditions};

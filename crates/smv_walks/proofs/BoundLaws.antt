@@ -2,7 +2,7 @@
 use Rattle.std.proofs.Common.{◌≡◌, ℕ, List, ◌++◌, map, sym, ap, ◌∙◌}
 use Rattle.std.proofs.lemmas.List.{map-append}
 use Rattle.smv_core.specs.declared.flat.Simple.{Simple}
-use Rattle.smv_abstraction.specs.Places.{Place, World, named_in, rests_in, places_in, bind_place}
+use Rattle.law_obligations.specs.Places.{Place, World, named_in, rests_in, places_in, bind_place}
 use Rattle.smv_spots.specs.declared.spots.Spot.{Spot}
 use Rattle.smv_spots.specs.Spots.{place_in}
 

@@ -3,7 +3,7 @@ use Rattle.std.proofs.Common.{◌≡◌, ℕ, List, [], ◌∷◌, ◌++◌, map
 use Rattle.std.specs.Prelude.{IfSome}
 use Rattle.std.proofs.lemmas.List.{append-nil}
 use Rattle.smv_core.specs.declared.flat.Flat.{Flat}
-use Rattle.law_outcomes.specs.Gist.{Gist, nothing_alone, first_gist, first_all}
+use Rattle.law_obligations.specs.Gist.{Gist, nothing_alone, first_gist, first_all}
 use Rattle.smv_spots.specs.declared.spots.Spot.{Spot}
 use Rattle.smv_problem.specs.declared.problem.Problem.{Problem}
 use Rattle.smv_conditions.specs.declared.gists.Gists.{Gists}

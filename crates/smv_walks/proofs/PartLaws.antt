@@ -5,14 +5,14 @@ use Rattle.std.proofs.lemmas.List.{append-nil}
 use Rattle.smv_core.specs.declared.flat.Simple.{Simple}
 use Rattle.smv_core.specs.declared.flat.Flat.{Flat, Nothing, Assign, If, First, Forall}
 use Rattle.smv_core.specs.declared.flat.FlatExpr.{FlatExpr}
-use Rattle.smv_abstraction.specs.Places.{Place, World, is_among, places_in, bind_place}
-use Rattle.smv_abstraction.specs.May.{seen, may}
-use Rattle.smv_abstraction.specs.Results.{results}
-use Rattle.law_outcomes.specs.Mix.{Mix, is_filled}
-use Rattle.law_outcomes.specs.Gist.{Gist, gist_of, nothing_alone, if_gist, first_all, assigned_gist, matches_all}
-use Rattle.law_outcomes.proofs.MixLaws.{filled}
-use Rattle.law_outcomes.proofs.WalkLaws.{gist-if, gist-first, gist-assigned}
-use Rattle.law_outcomes.proofs.ResultLaws.{results-If, results-First, results-Forall}
+use Rattle.law_obligations.specs.Places.{Place, World, is_among, places_in, bind_place}
+use Rattle.law_obligations.specs.May.{seen, may}
+use Rattle.law_obligations.specs.Results.{results}
+use Rattle.law_obligations.specs.Mix.{Mix, is_filled}
+use Rattle.law_obligations.specs.Gist.{Gist, gist_of, nothing_alone, if_gist, first_all, assigned_gist, matches_all}
+use Rattle.law_obligations.proofs.MixLaws.{filled}
+use Rattle.law_obligations.proofs.WalkLaws.{gist-if, gist-first, gist-assigned}
+use Rattle.law_obligations.proofs.ResultLaws.{results-If, results-First, results-Forall}
 use Rattle.smv_spots.specs.declared.spots.Spot.{Spot}
 use Rattle.smv_spots.specs.Spots.{place_in}
 use Rattle.smv_problem.specs.declared.problem.Problem.{Problem}
@@ -26,14 +26,14 @@ use Rattle.smv_cells.specs.declared.cells.Cell.{Cell}
 use Rattle.smv_cells.specs.Cells.{AreCellsMade}
 use Rattle.smv_cells.specs.Seen.{View, IsView, IsSeen, outcomes}
 use Rattle.smv_cells.proofs.SeenLaws.{keeps_trans}
-use Rattle.smv_outcomes.specs.Outcomes.{mix_in, IsTruthOf}
+use Rattle.smv_sides.specs.Outcomes.{mix_in, IsTruthOf}
 use Rattle.smv_targets.specs.declared.targets.Target.{Target}
 use Rattle.smv_targets.specs.Targets.{Aim, IsTarget, IsAim, IsTargetMade, IsSo}
 use Rattle.smv_targets.proofs.AimLaws.{target_on, aim_on}
 use Rattle.smv_walk_parts.specs.Parts.{IsMatch}
 use Rattle.smv_walk_parts.proofs.FirstLaws.{gist_kept, gists_kept}
-use Rattle.smv_elsewhere.specs.Elsewhere.{is_elsewhere}
-use Rattle.smv_elsewhere.proofs.ElsewhereLaws.{never_matches}
+use Rattle.smv_walk_parts.specs.Elsewhere.{is_elsewhere}
+use Rattle.smv_walk_parts.proofs.ElsewhereLaws.{never_matches}
 use Rattle.smv_walks.specs.Passed.{gist_or_nothing}
 use Rattle.smv_walks.specs.declared.walks.Way.{Way}
 use Rattle.smv_walks.specs.declared.walks.Way.TheVariants.{May, Must}

@@ -3,12 +3,12 @@ use Rattle.std.proofs.Common.{◌≡◌, ℕ, List, [], ◌∷◌, map, true, �
 use Rattle.std.specs.List.{list_all, flat_map}
 use Rattle.smv_core.specs.declared.flat.FlatExpr.{FlatExpr}
 use Rattle.smv_core.specs.declared.flat.Flat.{Flat, Nothing, Assign, If', First', Forall', Row_of-Flat, end_of-Flat, more_of-Flat}
-use Rattle.smv_abstraction.specs.Sets.{one_of_each, pairs}
-use Rattle.smv_abstraction.specs.Places.{Place, World, places_in, bind_place}
-use Rattle.smv_abstraction.specs.May.{AbsState, Kept, seen, may}
-use Rattle.smv_abstraction.specs.Results.{first_result, taken, assigned, results, results_each}
-use Rattle.law_outcomes.specs.Mix.{is_there}
-use Rattle.law_outcomes.proofs.MixLaws.{there-map, there-append, there-choices}
+use Rattle.law_obligations.specs.Sets.{one_of_each, pairs}
+use Rattle.law_obligations.specs.Places.{Place, World, places_in, bind_place}
+use Rattle.law_obligations.specs.May.{AbsState, Kept, seen, may}
+use Rattle.law_obligations.specs.Results.{first_result, taken, assigned, results, results_each}
+use Rattle.law_obligations.specs.Mix.{is_there}
+use Rattle.law_obligations.proofs.MixLaws.{there-map, there-append, there-choices}
 
 -- what is made of each member of a list with a member
 there-flat_map : {X Y : Type 0} (f : X → List Y) (xs : List X) → is_there xs ≡ true → ((x : X) → is_there (f x) ≡ true) → is_there (flat_map f xs) ≡ true

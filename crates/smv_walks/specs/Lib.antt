@@ -1,2 +1,4 @@
 pub mod Passed
 pub mod Walks
+pub mod Demands
+pub mod Given

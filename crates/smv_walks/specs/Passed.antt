@@ -1,6 +1,6 @@
 -- Gists that are left out where nothing alone is possible.
 use Rattle.std.specs.Prelude.{ℕ, List, [], ◌∷◌, Option, Some, None, Bool}
-use Rattle.law_outcomes.specs.Gist.{Gist, nothing_alone}
+use Rattle.law_obligations.specs.Gist.{Gist, nothing_alone}
 use Rattle.smv_conditions.specs.declared.gists.Gists.{Gists}
 use Rattle.smv_conditions.specs.Gists.{gist_at}
 

@@ -2,12 +2,12 @@
 use Rattle.std.specs.Prelude.{◌≡◌, ℕ, List, ◌++◌, map, Option, Bool, not}
 use Rattle.smv_core.specs.declared.flat.Flat.{Flat}
 use Rattle.smv_core.specs.declared.flat.FlatExpr.{FlatExpr}
-use Rattle.smv_abstraction.specs.Sets.{one_of_each}
-use Rattle.smv_abstraction.specs.Places.{Place, is_among}
-use Rattle.smv_abstraction.specs.May.{may}
-use Rattle.smv_abstraction.specs.Right.{may_allow, must_allow}
-use Rattle.smv_abstraction.specs.Results.{assigned, results}
-use Rattle.law_outcomes.specs.Gist.{Gist, gist_of, if_gist, first_all}
+use Rattle.law_obligations.specs.Sets.{one_of_each}
+use Rattle.law_obligations.specs.Places.{Place, is_among}
+use Rattle.law_obligations.specs.May.{may}
+use Rattle.law_obligations.specs.Right.{may_allow, must_allow}
+use Rattle.law_obligations.specs.Results.{assigned, results}
+use Rattle.law_obligations.specs.Gist.{Gist, gist_of, if_gist, first_all}
 use Rattle.smv_spots.specs.declared.spots.Spot.{Spot}
 use Rattle.smv_spots.specs.Spots.{place_in}
 use Rattle.smv_problem.specs.declared.problem.Problem.{Problem}
@@ -16,7 +16,7 @@ use Rattle.smv_conditions.specs.Gists.{gist_at}
 use Rattle.smv_cells.specs.declared.cells.Cell.{Cell}
 use Rattle.smv_targets.specs.declared.targets.Target.{Target}
 use Rattle.smv_targets.specs.Targets.{Aim, IsAim}
-use Rattle.smv_outcomes.specs.Outcomes.{mix_in}
+use Rattle.smv_sides.specs.Outcomes.{mix_in}
 use Rattle.smv_walks.specs.Passed.{gist_or_nothing}
 use Rattle.smv_walks.specs.declared.walks.Way.{Way}
 use Rattle.smv_walks.specs.declared.walks.Way.TheVariants.{May, Must}

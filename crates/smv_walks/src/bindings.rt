@@ -1,13 +1,13 @@
 // The bindings inside a `forall`.
 ghost use Rattle.std.specs.Prelude.{◌≡◌, map, IfOk};
-ghost use Rattle.smv_abstraction.specs.Places.{World, places_in, bind_place};
+ghost use Rattle.law_obligations.specs.Places.{World, places_in, bind_place};
 ghost use Rattle.smv_spots.specs.Spots.{place_in};
 ghost use Rattle.smv_problem_spots.specs.Worlds.{IsWorldOf};
 
 use smv_core::flat::Simple;
 use smv_core::seq::Seq;
-use smv_outcomes::bindings::{bound_named, bound_rests};
 use smv_problem::Problem;
+use smv_sides::expressions::bindings::{bound_named, bound_rests};
 use smv_spots::spots::Spot;
 use std::alloc::{AllocError, Global};
 

@@ -1,6 +1,6 @@
 // Gists that are left out where nothing alone is possible.
 ghost use Rattle.std.specs.Prelude.{◌≡◌, ◌&&◌, ◌++◌, is_none, ℕ, Bool, IfOk, IfSome, OnOk, map};
-ghost use Rattle.law_outcomes.specs.Gist.{first_all};
+ghost use Rattle.law_obligations.specs.Gist.{first_all};
 ghost use Rattle.smv_conditions.specs.Keep.{KeepsConditions};
 ghost use Rattle.smv_conditions.specs.Gists.{AreGistsMade, gist_at};
 ghost use Rattle.smv_walk_parts.specs.Parts.{AllGistsMade};

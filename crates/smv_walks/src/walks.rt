@@ -14,13 +14,12 @@ use smv_conditions::conditions::Conditions;
 use smv_conditions::gists::{Gists, assigned_of, if_of};
 use smv_core::flat::{Flat, FlatExpr};
 use smv_core::seq::Seq;
-use smv_elsewhere::is_elsewhere;
-use smv_outcomes::truth_of;
 use smv_problem::Problem;
+use smv_sides::expressions::truth_of;
 use smv_sides::{may_allow, must_allow};
 use smv_spots::spots::Spot;
 use smv_targets::Target;
-use smv_walk_parts::matched;
+use smv_walk_parts::{is_elsewhere, matched};
 use std::alloc::{AllocError, Global};
 
 /// What is asked of a result: that it may allow the element's value, or that it does not allow it for certain.

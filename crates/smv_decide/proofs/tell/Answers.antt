@@ -1,6 +1,6 @@
 use Rattle.std.proofs.Common.{sym, ap, subst}
 use Rattle.smv_rings.specs.Lists.{lists_of}
-use Rattle.law_case_lists.specs.CaseLists.{case_lists}
+use Rattle.law_reports.specs.CaseLists.{case_lists}
 use Rattle.smv_decide.specs.declared.Decided.{Decided}
 use Rattle.smv_decide.specs.Decisions.{IsDecided}
 use Rattle.smv_decide.proofs.Deciding.{reached_in, shown_by}

@@ -1,6 +1,6 @@
 use Rattle.std.proofs.Common.{◌≡◌, List, map, sym, ap, ◌∙◌}
-use Rattle.law_flattening.specs.Flattening.{different}
-use Rattle.law_single_assignment.specs.Definitions.{same_definition}
+use Rattle.law_designs.specs.Flattening.{different}
+use Rattle.law_designs.specs.Definitions.{same_definition}
 use Rattle.smv_design.specs.declared.heads.Noted.{Noted}
 use Rattle.smv_design.specs.Acts.{head_of, statement_of, heads_from}
 use Rattle.smv_design.specs.Definitions.{def_among}

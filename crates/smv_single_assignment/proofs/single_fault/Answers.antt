@@ -1,8 +1,8 @@
 use Rattle.std.proofs.Common.{◌≡◌, map, ◌++◌, ap, ◌∙◌}
 use Rattle.std.specs.List.{flat_map}
 use Rattle.smv_scope.specs.ScopeFault.{least, fault_at, earlier_of}
-use Rattle.law_flattening.specs.WholeText.{claims_of}
-use Rattle.law_single_assignment.specs.SingleFaults.{meet, mixed, lacking, unnamed}
+use Rattle.law_designs.specs.WholeText.{claims_of}
+use Rattle.law_designs.specs.SingleFaults.{meet, mixed, lacking, unnamed}
 use Rattle.smv_single_assignment.specs.Held.{among, assigned_of, conflicts_of, standing_of}
 use Rattle.smv_single_assignment.proofs.FaultLaws.{single-first}
 use Rattle.smv_single_assignment.proofs.single_fault.Goals as goal

@@ -1,6 +1,6 @@
 use Rattle.std.proofs.Common.{ap, refl, sym, ◌∙◌, Some, Err, length, ◌<◌}
 use Rattle.std.proofs.KnownBytes.{Keeps-refl}
-use Rattle.law_answers.specs.Dues.{limit}
+use Rattle.smv_answers.specs.Dues.{limit}
 use Rattle.smv_top.proofs.Endings.{longer, some_given, given, finished}
 use Rattle.smv_top.proofs.DueLaws.{due_long, due_at}
 use Rattle.smv_top.proofs.of_source.Goals as goal

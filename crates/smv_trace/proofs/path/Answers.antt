@@ -1,7 +1,7 @@
 use Rattle.std.proofs.Common.{◌<◌, ℕ, List, Bool, sym, subst}
 use Rattle.std.specs.List.{All}
 use Rattle.std.specs.Global.{Vec}
-use Rattle.law_codes.specs.Readings.{state_bits}
+use Rattle.law_obligations.specs.Readings.{state_bits}
 use Rattle.smv_rings.specs.Lists.{State, lists_of}
 use Rattle.smv_rings.specs.Paths.{IsViolating}
 use Rattle.smv_rings.proofs.Refs.{live_each}

@@ -1,6 +1,6 @@
 use Rattle.std.proofs.Common.{◌≡◌, map, take, Bool}
 use Rattle.std.specs.Global.{Vec}
-use Rattle.law_codes.specs.Readings.{reading}
+use Rattle.law_obligations.specs.Readings.{reading}
 use Rattle.smv_problem.specs.Written.{written_state}
 use Rattle.smv_problem.specs.WellFormed.{OfCases}
 use Rattle.smv_ring_paths.specs.BitPaths.{state_of}

@@ -1,5 +1,5 @@
 use Rattle.std.proofs.Common.{Some, None, true≢false}
-use Rattle.smv_command.specs.declared.Command.TheVariants.{Prove, Only, Print, Generated}
+use Rattle.smv_command.specs.declared.commands.Command.TheVariants.{Prove, Only, Print, Generated}
 use Rattle.law_answers.specs.Laws.{UnreadIsDue}
 use Rattle.law_answers.proofs.laws.unread_is_due.Goals as goal
 

@@ -1,12 +1,12 @@
 use Rattle.smv_instances.specs.FirstFault.{first_fault}
-use Rattle.law_kinds.specs.KindFaults.{first_fault_of_kinds}
-use Rattle.law_flattening.specs.Flattening.{flatten}
-use Rattle.law_single_assignment.specs.SingleFaults.{first_fault_of_single}
-use Rattle.law_loops_and_layers.specs.FirstFault.{first_fault_of_design}
-use Rattle.law_set_types.specs.SetFaults.{first_fault_of_sets}
+use Rattle.law_designs.specs.KindFaults.{first_fault_of_kinds}
+use Rattle.law_designs.specs.Flattening.{flatten}
+use Rattle.law_designs.specs.SingleFaults.{first_fault_of_single}
+use Rattle.law_designs.specs.FirstFault.{first_fault_of_design}
+use Rattle.law_designs.specs.SetFaults.{first_fault_of_sets}
 use Rattle.law_splits.specs.SplitFaults.{first_fault_of_splits}
 use Rattle.smv_uses.specs.UseFaults.{first_fault_of_uses}
-use Rattle.law_true_reports.specs.Joined.{flat_design}
+use Rattle.law_valid_texts.specs.Joined.{flat_design}
 use Rattle.law_valid_texts.specs.Faults.{pass_fault}
 use Rattle.law_fault_places.proofs.PassLaws.{passes-within}
 use Rattle.law_fault_places.proofs.passes.pass_faults_are_within.Goals as goal

@@ -1,7 +1,7 @@
 use Rattle.std.proofs.Common.{◌∙◌, length, slice_get, ap, sym, arith}
-use Rattle.smv_abstraction.specs.Cases.{type_in}
-use Rattle.smv_abstraction.specs.LeafCases as leaf
-use Rattle.smv_abstraction.specs.LeafCases.{kept_of}
+use Rattle.law_obligations.specs.Cases.{type_in}
+use Rattle.law_obligations.specs.LeafCases as leaf
+use Rattle.law_obligations.specs.LeafCases.{kept_of}
 use Rattle.smv_cases.specs.Slots.{parameters_of}
 use Rattle.smv_cases.proofs.SlotLaws.{get_some}
 use Rattle.smv_cases.proofs.TypeLaws.{types_more, types_all}

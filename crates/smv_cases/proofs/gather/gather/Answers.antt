@@ -1,5 +1,5 @@
 use Rattle.std.proofs.Common.{◌∙◌, [], ap, length, arith}
-use Rattle.smv_abstraction.specs.LeafCases.{leaf_cases}
+use Rattle.law_obligations.specs.LeafCases.{leaf_cases}
 use Rattle.smv_cases.specs.Slots.{grown_of}
 use Rattle.smv_cases.proofs.SlotLaws.{told, leaf_grows}
 use Rattle.smv_cases.proofs.gather.gather.Goals as goal

@@ -1,7 +1,7 @@
 use Rattle.std.proofs.Common.{ap, sym, ◌∙◌, not}
 use Rattle.std.specs.List.{list_all}
-use Rattle.smv_abstraction.specs.Cases.{those_of, is_of, is_allowed}
-use Rattle.smv_abstraction.specs.Cases as cases
+use Rattle.law_obligations.specs.Cases.{those_of, is_of, is_allowed}
+use Rattle.law_obligations.specs.Cases as cases
 use Rattle.smv_cases.specs.Growing.{counted}
 use Rattle.smv_cases.specs.Slots.{treatment_of, parameters_of}
 use Rattle.smv_cases.proofs.RuleLaws.{allowed_so}

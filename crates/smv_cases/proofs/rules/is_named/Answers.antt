@@ -1,5 +1,5 @@
 use Rattle.std.proofs.Common.{◌≡◌, false, ◌∷◌, subst, sym}
-use Rattle.smv_abstraction.specs.Cases.{are_named}
+use Rattle.law_obligations.specs.Cases.{are_named}
 use Rattle.smv_cases.proofs.RuleLaws.{number_not_named, rest_not_named}
 use Rattle.smv_cases.proofs.rules.is_named.Goals as goal
 

@@ -1,5 +1,5 @@
 use Rattle.std.proofs.Common.{ap, sym, ◌∙◌}
-use Rattle.smv_abstraction.specs.Cases.{used, named_among, abstract_type}
+use Rattle.law_obligations.specs.Cases.{used, named_among, abstract_type}
 use Rattle.smv_cases.specs.Slots.{treatment_of, parameters_of}
 use Rattle.smv_cases.proofs.RuleLaws.{listed_counted}
 use Rattle.smv_cases.proofs.rules.type_in.Goals as goal

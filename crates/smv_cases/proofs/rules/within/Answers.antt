@@ -1,5 +1,5 @@
 use Rattle.std.proofs.Common.{◌+◌, refl, subst, sym}
-use Rattle.smv_abstraction.specs.Cases.{is_of}
+use Rattle.law_obligations.specs.Cases.{is_of}
 use Rattle.smv_cases.specs.Growing.{widest}
 use Rattle.smv_cases.specs.Slots.{treatment_of, AreLimits}
 use Rattle.smv_cases.proofs.RuleLaws.{gaps_below}

@@ -1,7 +1,7 @@
 use Rattle.std.proofs.Common.{◌+◌, ◌++◌, drop, ◌∙◌, ap, sym, subst, arith}
 use Rattle.smv_core.specs.declared.flat.Param.{Param}
-use Rattle.smv_abstraction.specs.LeafCases as leaf
-use Rattle.smv_abstraction.specs.LeafCases.{treatments_of, stays}
+use Rattle.law_obligations.specs.LeafCases as leaf
+use Rattle.law_obligations.specs.LeafCases.{treatments_of, stays}
 use Rattle.smv_cases.specs.Slots.{parameter_of, parameters_of, AreSlots}
 use Rattle.smv_cases.proofs.SlotLaws.{slots_more, parameters_more, get_some, made}
 use Rattle.smv_cases.proofs.slots.slots.Goals as goal

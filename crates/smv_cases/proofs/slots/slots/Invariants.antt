@@ -1,6 +1,6 @@
 use Rattle.std.proofs.Common.{◌≡◌, ◌++◌, drop}
-use Rattle.smv_abstraction.specs.LeafCases as leaf
-use Rattle.smv_abstraction.specs.LeafCases.{treatments_of}
+use Rattle.law_obligations.specs.LeafCases as leaf
+use Rattle.law_obligations.specs.LeafCases.{treatments_of}
 use Rattle.smv_cases.specs.Slots.{parameters_of, AreSlots}
 use Rattle.smv_cases.proofs.slots.slots.Given as goal
 

@@ -3,7 +3,7 @@ use Rattle.std.specs.List.{flat_map}
 use Rattle.smv_elements.specs.Elements.{put_all}
 use Rattle.smv_spots.specs.declared.spots.Spot.{Spot}
 use Rattle.smv_core.specs.declared.flat.Param.{Param}
-use Rattle.smv_abstraction.specs.Places.{named_in}
+use Rattle.law_obligations.specs.Places.{named_in}
 use Rattle.smv_reads.specs.Views.{world_of, places}
 use Rattle.smv_reads.specs.Reading.{read_in}
 use Rattle.smv_reads.proofs.Joins.{turn-kept, turns-over, on-ok-more}

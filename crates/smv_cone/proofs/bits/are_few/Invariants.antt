@@ -1,5 +1,5 @@
 use Rattle.std.proofs.Common.{◌≡◌, ◌≤◌, ◌+◌, drop}
-use Rattle.smv_state_bits.specs.StateBits.{bits_of_elements}
+use Rattle.smv_readings.specs.StateBits.{bits_of_elements}
 use Rattle.smv_cone.proofs.bits.are_few.Given as goal
 
 abbrev pub invariant-loop-x : goal.invariant-loop-x

@@ -2,7 +2,7 @@ use Rattle.std.proofs.Common.{List, nat_le, ap, subst, sym, ◌∙◌}
 use Rattle.smv_core.specs.declared.flat.Family.{Family}
 use Rattle.smv_core.specs.declared.flat.Element.{Element}
 use Rattle.smv_elements.specs.Elements.{AreInOrder, HaveSame}
-use Rattle.smv_state_bits.specs.StateBits.{bits_of_elements}
+use Rattle.smv_readings.specs.StateBits.{bits_of_elements}
 use Rattle.smv_cone.proofs.Ends.{full-bits, many-bits, few-bits}
 use Rattle.smv_cone.proofs.calls.in_order.Goals as goal
 

@@ -1,4 +1,4 @@
-use Rattle.law_plan_cases.specs.Told.{lists_for}
+use Rattle.law_reports.specs.Told.{lists_for}
 use Rattle.smv_decide.specs.Tasks.{case_in}
 use Rattle.smv_decide.proofs.Told.{none_true, Has_at, next_true, told_here, told_all}
 use Rattle.smv_decide.proofs.leaves.decide_cases.Goals as goal

@@ -1,6 +1,6 @@
 use Rattle.std.proofs.Common.{take}
-use Rattle.law_verdicts.specs.Verdicts.{AreTrueCases}
-use Rattle.law_plan_cases.specs.Told.{lists_for}
+use Rattle.law_reports.specs.Verdicts.{AreTrueCases}
+use Rattle.law_reports.specs.Told.{lists_for}
 use Rattle.smv_obligations.specs.Shared.{IsShared}
 use Rattle.smv_decide.specs.Leaves.{classes_in}
 use Rattle.smv_decide.specs.Tasks.{case_in}

@@ -1,8 +1,8 @@
 use Rattle.std.proofs.Common.{◌≡◌, ◌∷◌, List, ◌++◌, map, ap, sym, ◌∙◌}
 use Rattle.smv_core.specs.declared.flat.FlatItem.{FlatItem}
-use Rattle.law_flattening.specs.WholeText.{claims_of}
-use Rattle.law_single_assignment.specs.Standing.{statements_from}
-use Rattle.law_single_assignment.specs.Definitions.{splits_of, uses_of}
+use Rattle.law_designs.specs.WholeText.{claims_of}
+use Rattle.law_designs.specs.Standing.{statements_from}
+use Rattle.law_designs.specs.Definitions.{splits_of, uses_of}
 use Rattle.smv_design.specs.Acts.{head_of, heads_from, statement_of}
 use Rattle.smv_design.proofs.ItemLaws.{more-statements, more-heads, more-claims, more-splits, more-uses}
 use Rattle.smv_design.proofs.acts.take_apart.Goals as goal

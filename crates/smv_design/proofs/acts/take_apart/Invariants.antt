@@ -1,7 +1,7 @@
 use Rattle.std.proofs.Common.{◌≡◌, ◌++◌, map}
-use Rattle.law_flattening.specs.WholeText.{claims_of}
-use Rattle.law_single_assignment.specs.Standing.{statements_from}
-use Rattle.law_single_assignment.specs.Definitions.{splits_of, uses_of}
+use Rattle.law_designs.specs.WholeText.{claims_of}
+use Rattle.law_designs.specs.Standing.{statements_from}
+use Rattle.law_designs.specs.Definitions.{splits_of, uses_of}
 use Rattle.smv_design.specs.Acts.{head_of, heads_from, statement_of}
 use Rattle.smv_design.proofs.acts.take_apart.Given as goal
 

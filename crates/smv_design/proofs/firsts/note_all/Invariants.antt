@@ -1,5 +1,5 @@
 use Rattle.std.proofs.Common.{List, ◌++◌, map, take}
-use Rattle.law_single_assignment.specs.Definitions.{Head}
+use Rattle.law_designs.specs.Definitions.{Head}
 use Rattle.smv_design.specs.Acts.{head_of}
 use Rattle.smv_design.specs.Firsts.{IsGathered}
 use Rattle.smv_design.proofs.firsts.note_all.Given as goal

@@ -3,7 +3,7 @@ use Rattle.smv_core.specs.Walk.{same_kind}
 use Rattle.smv_core.specs.declared.flat.FlatExpr.{FlatExpr}
 use Rattle.smv_core.specs.declared.flat.Flat.{Flat}
 use Rattle.smv_core.specs.declared.flat.Flat as flat
-use Rattle.law_single_assignment.specs.Definitions.{joined, each_value}
+use Rattle.law_designs.specs.Definitions.{joined, each_value}
 use Rattle.smv_design.specs.Parts.{size, kept}
 use Rattle.smv_design.specs.Groups.{same_owner, filled, used, held, one_more}
 use Rattle.smv_design.specs.Told.{told, told_from}

@@ -1,6 +1,6 @@
 use Rattle.std.proofs.Common.{◌≡◌, ◌++◌}
 use Rattle.std.specs.List.{flat_map}
-use Rattle.law_single_assignment.specs.Definitions.{each_value}
+use Rattle.law_designs.specs.Definitions.{each_value}
 use Rattle.smv_design.specs.declared.owners.Owner.{Owner}
 use Rattle.smv_design.specs.Parts.{kept}
 use Rattle.smv_design.specs.Groups.{parts_for}

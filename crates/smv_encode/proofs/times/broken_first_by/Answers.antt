@@ -1,10 +1,10 @@
 use Rattle.std.proofs.Common.{ap, ◌∙◌, false, List}
 use Rattle.std.specs.List.{list_all}
 use Rattle.smv_core.specs.declared.flat.Guard.{Guard}
-use Rattle.smv_abstraction.specs.Obligations.{may_hold}
+use Rattle.law_obligations.specs.Obligations.{may_hold}
 use Rattle.bdd_store.specs.Diagram.{table}
-use Rattle.law_case_lists.specs.CaseLists.{old_state}
-use Rattle.smv_coded_cells.specs.Coded.{view_at}
+use Rattle.law_reports.specs.CaseLists.{old_state}
+use Rattle.smv_encode.specs.Coded.{view_at}
 use Rattle.smv_encode.proofs.Calls.{list_kept, list_seen, guards_are, has_all, both_function}
 use Rattle.smv_encode.proofs.times.broken_first_by.Goals as goal
 

@@ -1,13 +1,13 @@
 use Rattle.std.proofs.Common.{ap, sym, subst, ◌∙◌, true, List}
 use Rattle.std.specs.List.{list_all}
 use Rattle.smv_core.specs.declared.flat.Guard.{Guard}
-use Rattle.smv_abstraction.specs.Obligations.{may_hold}
+use Rattle.law_obligations.specs.Obligations.{may_hold}
 use Rattle.bdd_store.specs.declared.Ref.{Ref}
 use Rattle.bdd_store.specs.Diagram.{table}
-use Rattle.law_case_lists.specs.CaseLists.{new_state}
+use Rattle.law_reports.specs.CaseLists.{new_state}
 use Rattle.smv_cells.specs.declared.cells.Cell.{Cell}
 use Rattle.smv_cells.specs.Seen.{IsSeen}
-use Rattle.smv_coded_cells.specs.Coded.{view_at}
+use Rattle.smv_encode.specs.Coded.{view_at}
 use Rattle.smv_encode.proofs.Calls.{live_on, cells_on, guards_are, has_all, both_function}
 use Rattle.smv_encode.proofs.times.broken_step_by.Goals as goal
 

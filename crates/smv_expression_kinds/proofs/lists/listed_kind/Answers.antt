@@ -1,6 +1,6 @@
 use Rattle.std.proofs.Common.{ap, sym, ◌∙◌}
 use Rattle.smv_core.specs.Types.{names_of}
-use Rattle.law_kinds.specs.Kinds.{enumeration}
+use Rattle.law_designs.specs.Kinds.{enumeration}
 use Rattle.smv_expression_kinds.proofs.ListLaws.{list-equal}
 use Rattle.smv_expression_kinds.proofs.lists.listed_kind.Goals as goal
 

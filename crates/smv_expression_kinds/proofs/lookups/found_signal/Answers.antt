@@ -1,7 +1,7 @@
 use Rattle.std.proofs.Common.{◌≡◌, IfOk, drop, ap, sym, ◌∙◌, subst}
 use Rattle.std.specs.Prelude.{Option, option_map, option_and_then}
 use Rattle.smv_scope.specs.declared.tables.Own.{Own as HeldOwn}
-use Rattle.law_kinds.specs.Types.{Whole}
+use Rattle.law_designs.specs.Types.{Whole}
 use Rattle.smv_expression_kinds.specs.Found.{whole_of, inner_leads}
 use Rattle.smv_expression_kinds.proofs.PathLaws.{take-rest}
 use Rattle.smv_expression_kinds.proofs.ScopeLaws.{signal-is}

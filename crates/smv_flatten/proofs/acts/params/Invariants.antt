@@ -1,5 +1,5 @@
 use Rattle.std.proofs.Common.{◌≡◌, ◌++◌, drop}
-use Rattle.law_flattening.specs.Flattening.{params_from}
+use Rattle.law_designs.specs.Flattening.{params_from}
 use Rattle.smv_flatten_families.specs.Held.{scope_here}
 use Rattle.smv_flatten.specs.Leaves.{binders_of}
 use Rattle.smv_flatten.proofs.acts.params.Given as goal

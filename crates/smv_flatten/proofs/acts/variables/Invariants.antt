@@ -1,5 +1,5 @@
 use Rattle.std.proofs.Common.{◌≡◌, [], drop}
-use Rattle.law_flattening.specs.Flattening.{within}
+use Rattle.law_designs.specs.Flattening.{within}
 use Rattle.smv_flatten_statements.specs.Around.{around_of}
 use Rattle.smv_flatten.specs.Leaves.{binders_of}
 use Rattle.smv_flatten.proofs.acts.variables.Given as goal

@@ -1,7 +1,7 @@
 use Rattle.std.proofs.Common.{◌++◌, ◌<◌, None, map, length, get_or, sym, ap, ◌∙◌, arith}
 use Rattle.smv_core.specs.declared.tree.Word.{Word}
 use Rattle.smv_core.specs.declared.tree.Role.TheVariants.{Plain}
-use Rattle.law_flattening.specs.Entries.{connection}
+use Rattle.law_designs.specs.Entries.{connection}
 use Rattle.smv_flatten_families.specs.Held.{scope_here}
 use Rattle.smv_flatten.specs.Leaves.{binders_of}
 use Rattle.smv_flatten.specs.Items.{act_item}

@@ -1,5 +1,5 @@
 use Rattle.std.proofs.Common.{ap, ◌∙◌}
-use Rattle.law_flattening.specs.Statements.{flat_expr}
+use Rattle.law_designs.specs.Statements.{flat_expr}
 use Rattle.smv_flatten_families.specs.Held.{scope_here}
 use Rattle.smv_flatten.specs.Leaves.{binders_of}
 use Rattle.smv_flatten.proofs.ConnectionLaws.{input-made}

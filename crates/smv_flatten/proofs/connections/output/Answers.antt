@@ -1,6 +1,6 @@
 use Rattle.std.proofs.Common.{◌++◌, ap, ◌∙◌}
 use Rattle.smv_core.specs.Outcome.{fields_of}
-use Rattle.law_flattening.specs.Numbers.{family_number}
+use Rattle.law_designs.specs.Numbers.{family_number}
 use Rattle.smv_flatten_families.specs.Held.{instance_of, scope_here}
 use Rattle.smv_flatten_statements.specs.Flattened.{path_indexes}
 use Rattle.smv_flatten.specs.Leaves.{binders_of}

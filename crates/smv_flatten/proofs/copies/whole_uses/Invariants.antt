@@ -1,6 +1,6 @@
 use Rattle.std.proofs.Common.{◌≡◌, ◌++◌, map, drop}
 use Rattle.smv_flatten_families.specs.Held.{scope_here}
-use Rattle.law_flattening.specs.Flattening.{whole_use}
+use Rattle.law_designs.specs.Flattening.{whole_use}
 use Rattle.smv_flatten.proofs.copies.whole_uses.Given as goal
 
 abbrev pub invariant-loop-part : goal.invariant-loop-part

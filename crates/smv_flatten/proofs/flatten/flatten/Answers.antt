@@ -1,5 +1,5 @@
 use Rattle.std.proofs.Common.{ap, ◌∙◌}
-use Rattle.law_flattening.specs.Flattening.{flatten}
+use Rattle.law_designs.specs.Flattening.{flatten}
 use Rattle.smv_flatten.proofs.flatten.flatten.Goals as goal
 
 pub returns : goal.returns

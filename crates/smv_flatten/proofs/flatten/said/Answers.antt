@@ -1,6 +1,6 @@
 use Rattle.std.proofs.Common.{ap, ◌∙◌, refl}
 use Rattle.std.specs.List.{flat_map}
-use Rattle.law_flattening.specs.Flattening.{layers_of, with_places}
+use Rattle.law_designs.specs.Flattening.{layers_of, with_places}
 use Rattle.smv_flatten.specs.Items.{flat_met}
 use Rattle.smv_flatten.specs.Met.{entries_met}
 use Rattle.smv_flatten.proofs.FlatLaws.{whole}

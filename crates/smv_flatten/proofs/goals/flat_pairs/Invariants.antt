@@ -1,5 +1,5 @@
 use Rattle.std.proofs.Common.{◌≡◌, ◌++◌, map, drop}
-use Rattle.law_flattening.specs.Flattening.{flat_pair}
+use Rattle.law_designs.specs.Flattening.{flat_pair}
 use Rattle.smv_flatten_families.specs.Held.{scope_here}
 use Rattle.smv_flatten_statements.specs.Around.{around_of}
 use Rattle.smv_flatten.proofs.goals.flat_pairs.Given as goal

@@ -1,5 +1,5 @@
 use Rattle.std.proofs.Common.{◌≡◌, ◌++◌, take, drop, length}
-use Rattle.law_flattening.specs.Flattening.{with_places}
+use Rattle.law_designs.specs.Flattening.{with_places}
 use Rattle.smv_flatten.proofs.places.placed.Given as goal
 
 abbrev pub invariant-loop-i : goal.invariant-loop-i

@@ -1,6 +1,6 @@
 use Rattle.std.proofs.Common.{◌≡◌, ◌++◌, ◌∷◌, drop}
 use Rattle.std.specs.List.{flat_map}
-use Rattle.law_flattening.specs.Flattening.{dot}
+use Rattle.law_designs.specs.Flattening.{dot}
 use Rattle.smv_flatten_families.proofs.dots.dotted.Given as goal
 
 abbrev pub invariant-loop-name : goal.invariant-loop-name

@@ -5,7 +5,7 @@ use Rattle.std.proofs.lemmas.Result.{IfOk-weaker}
 use Rattle.std.specs.Prelude.{Some, None, option_map}
 use Rattle.smv_core.specs.Types.{find_name}
 use Rattle.smv_core.specs.declared.flat.FlatExpr.{Constant}
-use Rattle.law_flattening.specs.Numbers.{constant_in}
+use Rattle.law_designs.specs.Numbers.{constant_in}
 use Rattle.smv_flatten_families.proofs.FoundLaws.{constants-here}
 use Rattle.smv_flatten_families.proofs.ConstantLaws.{constant-is, constant-none, no-name}
 use Rattle.smv_flatten_families.proofs.lookups.constant.Goals as goal

@@ -3,7 +3,7 @@ use Rattle.smv_flatten_families.specs.Held.{scope_here}
 use Rattle.std.proofs.lemmas.Result.{IfOk-weaker}
 use Rattle.std.specs.Prelude.{Some, None}
 use Rattle.smv_core.specs.declared.flat.Simple.TheVariants.{Enum}
-use Rattle.law_flattening.specs.Numbers.{flat_over}
+use Rattle.law_designs.specs.Numbers.{flat_over}
 use Rattle.smv_flatten_families.specs.Simples.{numbering}
 use Rattle.smv_flatten_families.proofs.FoundLaws.{over-found}
 use Rattle.smv_flatten_families.proofs.lookups.over.Goals as goal

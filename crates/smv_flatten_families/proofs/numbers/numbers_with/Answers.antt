@@ -1,7 +1,7 @@
 use Rattle.std.proofs.Common.{[], length, map, ap, ◌∙◌}
 use Rattle.std.specs.List.{flat_map}
 use Rattle.smv_core.specs.FlatOrder.{main, modules}
-use Rattle.law_flattening.specs.Flattening.{set_of}
+use Rattle.law_designs.specs.Flattening.{set_of}
 use Rattle.smv_flatten_families.specs.Paths.{first_place}
 use Rattle.smv_flatten_families.specs.Families.{in_place, written, instance_places}
 use Rattle.smv_flatten_families.proofs.BuildLaws.{families-are, paths-are}

@@ -1,6 +1,6 @@
 use Rattle.std.proofs.Common.{◌≡◌, ◌+◌, ◌≤◌, drop, length}
 use Rattle.std.specs.List.{flat_map}
-use Rattle.law_flattening.specs.Flattening.{set_of}
+use Rattle.law_designs.specs.Flattening.{set_of}
 use Rattle.smv_flatten_families.proofs.sets.count_sets.Given as goal
 
 abbrev pub invariant-loop-top : goal.invariant-loop-top

@@ -2,7 +2,7 @@ use Rattle.std.proofs.Common.{◌≡◌, List, Some, None, IfOk, ap, subst, sym,
 use Rattle.smv_core.specs.Outcome.{fields_of}
 use Rattle.smv_core.specs.declared.tree.Part.{Part}
 use Rattle.smv_core.specs.declared.flat.FlatExpr.{FlatExpr, Read}
-use Rattle.law_flattening.specs.Numbers.{variable_at, constant_in, flat_path}
+use Rattle.law_designs.specs.Numbers.{variable_at, constant_in, flat_path}
 use Rattle.smv_flatten_families.specs.Held.{scope_here}
 use Rattle.smv_flatten_statements.specs.Around.{around_of}
 use Rattle.smv_flatten_statements.specs.Flattened.{path_indexes}

@@ -1,5 +1,5 @@
 use Rattle.std.proofs.Common.{◌≡◌, ◌+◌, ◌≤◌, drop}
-use Rattle.law_flattening.specs.Numbers.{bound_in}
+use Rattle.law_designs.specs.Numbers.{bound_in}
 use Rattle.smv_flatten_statements.specs.Around.{around_of}
 use Rattle.smv_flatten_statements.proofs.vars.bound_in.Given as goal
 

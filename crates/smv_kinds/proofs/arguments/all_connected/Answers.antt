@@ -3,7 +3,7 @@ use Rattle.smv_core.specs.Types.{find_name}
 use Rattle.smv_core.specs.declared.fault.Fault.{Fault}
 use Rattle.smv_core.specs.declared.tree.Word.{Word}
 use Rattle.smv_core.specs.declared.tree.Expr.{Expr}
-use Rattle.law_kinds.specs.KindFaults.{connected}
+use Rattle.law_designs.specs.KindFaults.{connected}
 use Rattle.smv_expression_kinds.specs.Found.{scope_of}
 use Rattle.smv_kinds.proofs.ArgumentLaws.{args-step, args-done}
 use Rattle.smv_kinds.proofs.arguments.all_connected.Goals as goal

@@ -1,7 +1,7 @@
 use Rattle.std.proofs.Common.{◌≡◌, ◌++◌, drop, zip}
 use Rattle.std.specs.List.{flat_map}
 use Rattle.smv_core.specs.Types.{find_name}
-use Rattle.law_kinds.specs.KindFaults.{connected}
+use Rattle.law_designs.specs.KindFaults.{connected}
 use Rattle.smv_expression_kinds.specs.Found.{scope_of}
 use Rattle.smv_kinds.proofs.arguments.all_connected.Given as goal
 

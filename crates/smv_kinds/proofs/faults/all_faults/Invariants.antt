@@ -1,7 +1,7 @@
 use Rattle.std.proofs.Common.{◌≡◌, ◌++◌, [], drop}
 use Rattle.smv_instances.specs.Scopes.{pieces, constants}
-use Rattle.law_kinds.specs.References.{modules_from}
-use Rattle.law_kinds.specs.KindFaults.{in_tops}
+use Rattle.law_designs.specs.References.{modules_from}
+use Rattle.law_designs.specs.KindFaults.{in_tops}
 use Rattle.smv_expression_kinds.specs.Forms.{types_before}
 use Rattle.smv_kinds.proofs.faults.all_faults.Given as goal
 

@@ -2,7 +2,7 @@ use Rattle.std.proofs.Common.{◌≡◌, [], ◌++◌, OnOk, ap, ◌∙◌, subs
 use Rattle.std.specs.Prelude.{List}
 use Rattle.std.specs.List.{flat_map}
 use Rattle.smv_core.specs.declared.fault.Fault.{Fault}
-use Rattle.law_kinds.specs.KindFaults.{in_item}
+use Rattle.law_designs.specs.KindFaults.{in_item}
 use Rattle.smv_expression_kinds.specs.Found.{scope_of}
 use Rattle.smv_operand_kinds.proofs.KindLaws.{vars-none}
 use Rattle.smv_kinds.proofs.TopLaws.{top-Alias, top-Module}

@@ -5,8 +5,8 @@ use Rattle.smv_instances.specs.Scopes.{Own}
 use Rattle.smv_instances.specs.Said.{said_of}
 use Rattle.smv_instances.specs.declared.mentions.What.{What as NotedWhat}
 use Rattle.smv_scope.specs.Held.{own_of}
-use Rattle.law_kinds.specs.References.{Scope}
-use Rattle.law_kinds.specs.KindFaults.{connected}
+use Rattle.law_designs.specs.References.{Scope}
+use Rattle.law_designs.specs.KindFaults.{connected}
 use Rattle.smv_expression_kinds.specs.Found.{scope_of}
 use Rattle.smv_kinds.specs.Found.{argument_faults}
 use Rattle.smv_expression_kinds.proofs.ScopeLaws.{own-here}

@@ -1,7 +1,7 @@
 use Rattle.std.proofs.Common.{◌++◌, ap, sym, ◌∙◌}
 use Rattle.std.specs.List.{flat_map}
 use Rattle.std.proofs.lemmas.List.{append-nil}
-use Rattle.law_kinds.specs.KindFaults.{formal_faults}
+use Rattle.law_designs.specs.KindFaults.{formal_faults}
 use Rattle.smv_expression_kinds.specs.Found.{scope_of}
 use Rattle.smv_kinds.proofs.ItemLaws.{plain-formals, abstract-formals}
 use Rattle.smv_kinds.proofs.items.declared.Goals as goal

@@ -1,6 +1,6 @@
 use Rattle.std.proofs.Common.{◌≡◌, ◌++◌, drop}
 use Rattle.std.specs.List.{flat_map}
-use Rattle.law_kinds.specs.KindFaults.{in_stmt}
+use Rattle.law_designs.specs.KindFaults.{in_stmt}
 use Rattle.smv_expression_kinds.specs.Found.{vars_of, scope_of}
 use Rattle.smv_kinds.specs.Found.{arm_faults}
 use Rattle.smv_kinds.proofs.statements.+statements.Given as goal

@@ -1,6 +1,6 @@
 use Rattle.std.proofs.Common.{◌≡◌, ◌++◌, map, drop}
-use Rattle.law_kinds.specs.Kinds.{alike_with, kind_with}
-use Rattle.law_kinds.specs.Operands.{operand}
+use Rattle.law_designs.specs.Kinds.{alike_with, kind_with}
+use Rattle.law_designs.specs.Operands.{operand}
 use Rattle.smv_expression_kinds.specs.Forms.{kind_of}
 use Rattle.smv_expression_kinds.specs.Found.{vars_of, scope_of}
 use Rattle.smv_kinds.proofs.statements.all_fitting.Given as goal

@@ -2,8 +2,8 @@ use Rattle.std.proofs.Common.{◌++◌, map, ap, ◌∙◌}
 use Rattle.std.specs.Prelude.{List}
 use Rattle.smv_core.specs.declared.tree.Arm.{Arm}
 use Rattle.smv_core.specs.declared.tree.Expr.{Expr}
-use Rattle.law_kinds.specs.Kinds.{Kind, Operand, alike_with, kind_with}
-use Rattle.law_kinds.specs.Operands.{operand}
+use Rattle.law_designs.specs.Kinds.{Kind, Operand, alike_with, kind_with}
+use Rattle.law_designs.specs.Operands.{operand}
 use Rattle.smv_expression_kinds.specs.Forms.{kind_of}
 use Rattle.smv_expression_kinds.specs.Found.{vars_of, scope_of}
 use Rattle.smv_kinds.specs.Found.{labels_of}

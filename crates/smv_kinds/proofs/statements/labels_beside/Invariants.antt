@@ -1,6 +1,6 @@
 use Rattle.std.proofs.Common.{◌≡◌, ◌++◌, drop}
 use Rattle.std.specs.List.{flat_map}
-use Rattle.law_kinds.specs.Kinds.{alike_with}
+use Rattle.law_designs.specs.Kinds.{alike_with}
 use Rattle.smv_expression_kinds.specs.Forms.{kind_of}
 use Rattle.smv_expression_kinds.specs.Found.{vars_of, scope_of}
 use Rattle.smv_kinds.specs.Found.{labels_of}

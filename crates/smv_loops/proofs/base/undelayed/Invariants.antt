@@ -1,6 +1,6 @@
 use Rattle.std.proofs.Common.{◌≡◌, ◌++◌, map, filter, drop}
 use Rattle.std.specs.List.{flat_map}
-use Rattle.law_loops_and_layers.specs.Loops.{is_base}
+use Rattle.law_designs.specs.Loops.{is_base}
 use Rattle.smv_loops.specs.Bases.{undelayed_of}
 use Rattle.smv_loops.specs.Held.{reading_of}
 use Rattle.smv_loops.proofs.base.undelayed.Given as goal

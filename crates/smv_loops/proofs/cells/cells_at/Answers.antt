@@ -1,7 +1,7 @@
 use Rattle.std.proofs.Common.{◌≡◌, ◌++◌, ◌<◌, ℕ, List, Some, map, slice_get, get_or, length, sym, ap, subst, ◌∙◌, arith}
 use Rattle.std.specs.Result.{OnOk}
 use Rattle.smv_core.specs.declared.flat.Simple.{Simple}
-use Rattle.law_loops_and_layers.specs.Loops.{cells_of}
+use Rattle.law_designs.specs.Loops.{cells_of}
 use Rattle.smv_loops.specs.Cells.{base, number_in}
 use Rattle.smv_loops.specs.Held.{index_of}
 use Rattle.smv_loops.specs.Numbers.{places}

@@ -1,7 +1,7 @@
 use Rattle.std.proofs.Common.{List, refl, sym, ap, ◌∙◌}
 use Rattle.std.specs.List.{flat_map}
-use Rattle.law_loops_and_layers.specs.Reading.{Reading}
-use Rattle.law_loops_and_layers.specs.Loops.{hold_a_cycle}
+use Rattle.law_designs.specs.Reading.{Reading}
+use Rattle.law_designs.specs.Loops.{hold_a_cycle}
 use Rattle.smv_loops.specs.Edges.{edges_at}
 use Rattle.smv_loops.proofs.ClosingLaws.{take-whole}
 use Rattle.smv_loops.proofs.loops.first_closing.Goals as goal

@@ -1,7 +1,7 @@
 use Rattle.std.proofs.Common.{◌≡◌, ◌<◌, map, length, false, sym, ap, ◌∙◌, arith}
 use Rattle.std.specs.List.{flat_map}
 use Rattle.std.specs.Option.{MatchOption}
-use Rattle.law_loops_and_layers.specs.Loops.{hold_a_cycle, in_order, undelayed_in}
+use Rattle.law_designs.specs.Loops.{hold_a_cycle, in_order, undelayed_in}
 use Rattle.smv_loops.specs.Edges.{edges_at, IsFirst}
 use Rattle.smv_loops.specs.Held.{reading_of}
 use Rattle.smv_loops.proofs.AnyOrderLaws.{ordered-none}

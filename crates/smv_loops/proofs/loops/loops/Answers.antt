@@ -3,8 +3,8 @@ use Rattle.std.specs.List.{flat_map}
 use Rattle.std.specs.List.Sorted.{IsPermutation}
 use Rattle.std.specs.Option.{MatchOption}
 use Rattle.smv_core.specs.declared.flat.Family.{Family}
-use Rattle.law_loops_and_layers.specs.Reading.{Reading}
-use Rattle.law_loops_and_layers.specs.Loops.{edges_of, hold_a_cycle, in_order, undelayed_in}
+use Rattle.law_designs.specs.Reading.{Reading}
+use Rattle.law_designs.specs.Loops.{edges_of, hold_a_cycle, in_order, undelayed_in}
 use Rattle.smv_loops.specs.Edges.{edges_at, IsFirst}
 use Rattle.smv_loops.specs.Held.{reading_of}
 use Rattle.smv_loops.specs.Order.{AreAfterTheirReads, cells_from}

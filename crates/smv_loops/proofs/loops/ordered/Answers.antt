@@ -2,7 +2,7 @@ use Rattle.std.proofs.Common.{◌≡◌, ℕ, List, map, sym, ap, subst, ◌∙�
 use Rattle.std.specs.List.{flat_map}
 use Rattle.std.specs.List.Sorted.{IsPermutation}
 use Rattle.std.proofs.lemmas.Result.{IfOk-weaker}
-use Rattle.law_loops_and_layers.specs.Loops.{Edge}
+use Rattle.law_designs.specs.Loops.{Edge}
 use Rattle.smv_loops.specs.declared.listed.Listed.{Listed}
 use Rattle.smv_loops.specs.Held.{reading_of}
 use Rattle.smv_loops.specs.Edges.{edges_at}

@@ -1,6 +1,6 @@
 use Rattle.std.proofs.Common.{◌≡◌, List, map, slice_get, IfSome, subst}
 use Rattle.std.specs.List.{All}
-use Rattle.law_loops_and_layers.specs.Loops.{cells_of}
+use Rattle.law_designs.specs.Loops.{cells_of}
 use Rattle.smv_loops.specs.declared.rows.Row.{Row}
 use Rattle.smv_loops.specs.Cells.{number_in}
 use Rattle.smv_loops.specs.Held.{index_of}

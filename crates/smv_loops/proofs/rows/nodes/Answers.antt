@@ -1,7 +1,7 @@
 use Rattle.std.proofs.Common.{◌≡◌, ◌+◌, ◌++◌, ℕ, List, map, length, slice_get, ap, ◌∙◌, arith}
 use Rattle.std.specs.List.{flat_map}
 use Rattle.smv_core.specs.Assignments.{Index}
-use Rattle.law_loops_and_layers.specs.Loops.{cells_of}
+use Rattle.law_designs.specs.Loops.{cells_of}
 use Rattle.smv_loops.specs.Cells.{number_in}
 use Rattle.smv_loops.specs.Edges.{total}
 use Rattle.smv_loops.specs.Held.{index_in, index_of}

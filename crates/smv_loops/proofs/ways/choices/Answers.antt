@@ -1,7 +1,7 @@
 use Rattle.std.proofs.Common.{◌≡◌, ℕ, List, Option, sym, ap, ◌∙◌, subst}
 use Rattle.std.specs.Prelude.{IfOk}
 use Rattle.smv_core.specs.Assignments.{computed}
-use Rattle.law_loops_and_layers.specs.Loops.{at_index}
+use Rattle.law_designs.specs.Loops.{at_index}
 use Rattle.smv_loops.proofs.WayLaws.{at-Range}
 use Rattle.smv_loops.proofs.ways.choices.Goals as goal
 

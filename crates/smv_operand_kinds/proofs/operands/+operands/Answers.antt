@@ -1,7 +1,7 @@
 use Rattle.std.proofs.Common.{map, ap, sym, ◌∙◌}
-use Rattle.law_kinds.specs.Kinds.{Operand}
+use Rattle.law_designs.specs.Kinds.{Operand}
 use Rattle.smv_core.specs.declared.tree.Expr.{Expr}
-use Rattle.law_kinds.specs.Operands.{operand}
+use Rattle.law_designs.specs.Operands.{operand}
 use Rattle.smv_expression_kinds.specs.Found.{vars_of, scope_of}
 use Rattle.smv_operand_kinds.specs.Found.{begin, or_zero}
 use Rattle.smv_operand_kinds.proofs.KindLaws.{begin-first, drop-none}

@@ -1,8 +1,8 @@
 use Rattle.std.proofs.Common.{◌≡◌, ◌++◌, map, drop}
 use Rattle.std.specs.List.{flat_map}
 use Rattle.std.specs.Prelude.{None}
-use Rattle.law_kinds.specs.Kinds.{takes_number, alike_with, kind_with}
-use Rattle.law_kinds.specs.Operands.{operand}
+use Rattle.law_designs.specs.Kinds.{takes_number, alike_with, kind_with}
+use Rattle.law_designs.specs.Operands.{operand}
 use Rattle.smv_expression_kinds.specs.Forms.{kind_of}
 use Rattle.smv_expression_kinds.specs.Found.{vars_of, scope_of}
 use Rattle.smv_operand_kinds.specs.Found.{begin, kinds_left, path_faults, addend, member}

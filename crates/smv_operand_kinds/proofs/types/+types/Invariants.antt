@@ -1,7 +1,7 @@
 use Rattle.std.proofs.Common.{◌≡◌, ◌++◌, drop}
 use Rattle.std.specs.List.{flat_map}
 use Rattle.smv_core.specs.declared.tree.Field.{out-Field}
-use Rattle.law_kinds.specs.Types.{type_faults}
+use Rattle.law_designs.specs.Types.{type_faults}
 use Rattle.smv_expression_kinds.specs.Found.{scope_of}
 use Rattle.smv_operand_kinds.proofs.types.+types.Given as goal
 

@@ -1,6 +1,6 @@
 use Rattle.std.proofs.Common.{◌||◌, ◌∙◌, ap}
 use Rattle.smv_core.specs.Values.{add}
-use Rattle.smv_abstraction.specs.Places.{valued, as_place}
+use Rattle.law_obligations.specs.Places.{valued, as_place}
 use Rattle.smv_conditions.specs.Offers.{any_offer}
 use Rattle.smv_outcome_lists.proofs.PairLaws.{no_offer}
 use Rattle.smv_outcome_lists.proofs.pairs.added_of.Goals as goal

@@ -1,6 +1,6 @@
 use Rattle.std.proofs.Common.{◌∙◌, ap, subst, List}
 use Rattle.smv_core.specs.declared.flat.Class.{Class}
-use Rattle.law_plan_cases.specs.Told.{IsToldBy}
+use Rattle.law_reports.specs.Told.{IsToldBy}
 use Rattle.smv_decide.specs.Leaves.{classes_in}
 use Rattle.smv_decide.specs.Tasks.{case_in}
 use Rattle.smv_plan_reports.proofs.PlanLaws.{cases_are}

@@ -1,8 +1,8 @@
 use Rattle.std.proofs.Common.{List, [], ap, sym, subst, ◌∙◌}
 use Rattle.smv_core.specs.declared.flat.Class.{Class}
 use Rattle.smv_core.specs.declared.flat.Simple.{Simple}
-use Rattle.smv_abstraction.specs.Sets.{Has}
-use Rattle.smv_abstraction.proofs.OneOfEach.{get_Has}
+use Rattle.law_obligations.specs.Sets.{Has}
+use Rattle.law_obligations.proofs.OneOfEach.{get_Has}
 use Rattle.smv_elements.specs.Elements.{put_all}
 use Rattle.smv_reads.specs.Reading.{elements_from, choices_in, read_at}
 use Rattle.smv_reads.proofs.Joins.{on-ok-more}

@@ -1,5 +1,5 @@
 use Rattle.std.proofs.Common.{◌∙◌}
-use Rattle.law_outcomes.proofs.MixLaws.{or_same}
+use Rattle.law_obligations.proofs.MixLaws.{or_same}
 use Rattle.smv_targets.proofs.GivenLaws.{target_kept}
 use Rattle.smv_sides.proofs.comprehensions.also_given.Goals as goal
 

@@ -1,7 +1,7 @@
 use Rattle.std.proofs.Common.{◌≡◌, List, ◌++◌, map, OnOk, subst, ap, sym, ◌∙◌}
 use Rattle.std.proofs.lemmas.List.{append_assoc}
 use Rattle.smv_core.specs.declared.flat.FlatStmt.{FlatStmt}
-use Rattle.law_single_assignment.specs.Standing.{Standing, standing}
+use Rattle.law_designs.specs.Standing.{Standing, standing}
 use Rattle.smv_single_assignment.specs.Held.{standing_of}
 use Rattle.smv_single_assignment.proofs.StandingLaws.{standing-If, standing-Default, standing-Forall}
 use Rattle.smv_single_assignment.proofs.assignments.+statements.Goals as goal

@@ -1,6 +1,6 @@
 use Rattle.std.proofs.Common.{◌≡◌, ◌++◌, map, drop}
 use Rattle.std.specs.List.{flat_map}
-use Rattle.law_single_assignment.specs.Standing.{standing}
+use Rattle.law_designs.specs.Standing.{standing}
 use Rattle.smv_single_assignment.specs.Held.{standing_of}
 use Rattle.smv_single_assignment.proofs.assignments.+statements.Given as goal
 

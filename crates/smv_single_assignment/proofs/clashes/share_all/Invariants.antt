@@ -1,6 +1,6 @@
 use Rattle.std.proofs.Common.{◌≡◌, drop}
 use Rattle.std.specs.List.{list_all}
-use Rattle.law_single_assignment.specs.SingleFaults as spec
+use Rattle.law_designs.specs.SingleFaults as spec
 use Rattle.smv_single_assignment.specs.Held.{standing_of}
 use Rattle.smv_single_assignment.proofs.clashes.share_all.Given as goal
 

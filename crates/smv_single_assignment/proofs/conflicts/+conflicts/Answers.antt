@@ -1,7 +1,7 @@
 use Rattle.std.proofs.Common.{◌∙◌, ap, refl}
 use Rattle.smv_instances.specs.Scopes.{first_of_places}
-use Rattle.law_single_assignment.specs.Standing.{standing}
-use Rattle.law_single_assignment.specs.SingleFaults.{conflicts, cross}
+use Rattle.law_designs.specs.Standing.{standing}
+use Rattle.law_designs.specs.SingleFaults.{conflicts, cross}
 use Rattle.smv_single_assignment.specs.Links.{held}
 use Rattle.smv_single_assignment.proofs.WalkLaws.{two-walked, part-walked, of-If, of-Default, of-Block, of-Forall}
 use Rattle.smv_single_assignment.specs.Shared.{AreInside}

@@ -1,7 +1,7 @@
 use Rattle.std.proofs.Common.{take}
 use Rattle.std.specs.List.{flat_map}
-use Rattle.law_single_assignment.specs.Standing.{standing}
-use Rattle.law_single_assignment.specs.SingleFaults as spec
+use Rattle.law_designs.specs.Standing.{standing}
+use Rattle.law_designs.specs.SingleFaults as spec
 use Rattle.smv_single_assignment.specs.Held.{among}
 use Rattle.smv_single_assignment.specs.Links.{StandsAt, held}
 use Rattle.smv_single_assignment.specs.Walks.{IsWalked}

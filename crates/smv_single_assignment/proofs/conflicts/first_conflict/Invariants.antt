@@ -1,6 +1,6 @@
 use Rattle.std.proofs.Common.{take}
 use Rattle.std.specs.List.{flat_map}
-use Rattle.law_single_assignment.specs.SingleFaults as spec
+use Rattle.law_designs.specs.SingleFaults as spec
 use Rattle.smv_single_assignment.specs.Held.{among, assigned_of, conflicts_of}
 use Rattle.smv_single_assignment.specs.Walks.{IsWalked}
 use Rattle.smv_single_assignment.proofs.conflicts.first_conflict.Given as goal

@@ -1,6 +1,6 @@
 use Rattle.std.proofs.Common.{◌≡◌, ◌<◌, length, get_or, subst, arith}
 use Rattle.std.specs.Prelude.{slice_get, Some}
-use Rattle.law_single_assignment.specs.Standing.{Standing}
+use Rattle.law_designs.specs.Standing.{Standing}
 use Rattle.smv_single_assignment.specs.Links.{held, IsBehind}
 use Rattle.smv_single_assignment.proofs.LinkLaws.{got-some, held-length}
 use Rattle.smv_single_assignment.proofs.EarlierLaws.{kind-here}

@@ -2,7 +2,7 @@ use Rattle.std.proofs.Common.{◌≡◌, ◌<◌, length, ap, ◌∙◌, arith}
 use Rattle.std.specs.Prelude.{slice_get, Some}
 use Rattle.smv_instances.specs.NameFaults.{place_if}
 use Rattle.smv_scope.specs.ScopeFault.{least}
-use Rattle.law_single_assignment.specs.Standing.{Standing}
+use Rattle.law_designs.specs.Standing.{Standing}
 use Rattle.smv_single_assignment.specs.Clashes.{clash_by}
 use Rattle.smv_single_assignment.specs.Links.{held, between}
 use Rattle.smv_single_assignment.proofs.LinkLaws.{got-some, held-length}

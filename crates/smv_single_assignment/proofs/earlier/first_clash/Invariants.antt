@@ -2,7 +2,7 @@ use Rattle.std.proofs.Common.{◌≡◌}
 use Rattle.smv_scope.specs.ScopeFault.{least}
 use Rattle.smv_single_assignment.specs.Clashes.{clash_by}
 use Rattle.smv_single_assignment.specs.Links.{held, between}
-use Rattle.law_single_assignment.specs.SingleFaults.{later_places}
+use Rattle.law_designs.specs.SingleFaults.{later_places}
 use Rattle.smv_single_assignment.proofs.earlier.first_clash.Given as goal
 
 abbrev pub invariant-loop-place : goal.invariant-loop-place

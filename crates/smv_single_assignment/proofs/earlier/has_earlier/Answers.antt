@@ -1,7 +1,7 @@
 use Rattle.std.proofs.Common.{◌||◌, ap, sym, ◌∙◌}
 use Rattle.std.specs.List.{list_any}
 use Rattle.smv_core.specs.declared.tree.Kind.TheVariants.{Comb, Next}
-use Rattle.law_single_assignment.specs.SingleFaults.{is_comb}
+use Rattle.law_designs.specs.SingleFaults.{is_comb}
 use Rattle.smv_single_assignment.specs.Clashes.{clash_by, clashes_of}
 use Rattle.smv_single_assignment.specs.Links.{held, between}
 use Rattle.smv_single_assignment.proofs.EarlierLaws.{one-kind-Meet, one-kind-Cross, mixed-by, mixed-other, kind-here}

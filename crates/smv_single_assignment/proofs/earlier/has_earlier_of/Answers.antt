@@ -1,6 +1,6 @@
 use Rattle.std.proofs.Common.{◌≡◌, ◌<◌, ◌+◌, ◌-◌, length, get_or, false, sym, ◌∙◌, arith}
 use Rattle.std.specs.Prelude.{slice_get, Some}
-use Rattle.law_single_assignment.specs.Standing.{Standing}
+use Rattle.law_designs.specs.Standing.{Standing}
 use Rattle.smv_single_assignment.specs.Clashes.{clashes_of}
 use Rattle.smv_single_assignment.specs.Links.{held}
 use Rattle.smv_single_assignment.proofs.LinkLaws.{got-some, between-true, between-false}

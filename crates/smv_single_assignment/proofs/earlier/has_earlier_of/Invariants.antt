@@ -1,6 +1,6 @@
 use Rattle.std.proofs.Common.{◌≡◌, ◌≤◌, ◌<◌, ◌-◌, ℕ, get_or, false}
 use Rattle.std.specs.Prelude.{Some, slice_get}
-use Rattle.law_single_assignment.specs.Standing.{Standing}
+use Rattle.law_designs.specs.Standing.{Standing}
 use Rattle.smv_single_assignment.specs.Clashes.{clashes_of}
 use Rattle.smv_single_assignment.specs.Links.{held}
 use Rattle.smv_single_assignment.proofs.earlier.has_earlier_of.Given as goal

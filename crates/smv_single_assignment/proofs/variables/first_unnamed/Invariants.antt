@@ -2,8 +2,8 @@ use Rattle.std.proofs.Common.{◌≡◌, drop}
 use Rattle.std.specs.List.{flat_map}
 use Rattle.smv_instances.specs.Scopes.{first_of_places}
 use Rattle.smv_scope.specs.ScopeFault.{least}
-use Rattle.law_flattening.specs.WholeText.{claims_of}
-use Rattle.law_single_assignment.specs.SingleFaults as spec
+use Rattle.law_designs.specs.WholeText.{claims_of}
+use Rattle.law_designs.specs.SingleFaults as spec
 use Rattle.smv_single_assignment.proofs.variables.first_unnamed.Given as goal
 
 abbrev pub invariant-loop-x : goal.invariant-loop-x

@@ -1,6 +1,6 @@
 use Rattle.std.proofs.Common.{◌≡◌, drop}
 use Rattle.std.specs.List.{list_any}
-use Rattle.law_single_assignment.specs.SingleFaults as spec
+use Rattle.law_designs.specs.SingleFaults as spec
 use Rattle.smv_single_assignment.proofs.variables.is_index.Given as goal
 
 abbrev pub invariant-loop-x : goal.invariant-loop-x

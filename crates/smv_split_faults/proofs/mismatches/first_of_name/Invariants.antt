@@ -1,6 +1,6 @@
 use Rattle.std.proofs.Common.{map, length}
 use Rattle.smv_scope.specs.ScopeFault.{least}
-use Rattle.law_split_chains.specs.Chains.{shown}
+use Rattle.law_splits.specs.Chains.{shown}
 use Rattle.smv_split_faults.specs.Waiting.{held}
 use Rattle.smv_split_faults.proofs.WalkLaws.{Goes, size}
 use Rattle.smv_split_faults.proofs.mismatches.first_of_name.Given as goal

@@ -1,7 +1,7 @@
 use Rattle.std.proofs.Common.{◌∙◌, ◌≡◌, ◌-◌, List, map, ap, sym, arith}
 use Rattle.smv_core.specs.Values.{numbers_from}
 use Rattle.smv_core.specs.declared.flat.Simple.{Simple}
-use Rattle.smv_abstraction.specs.Places.{rests_in}
+use Rattle.law_obligations.specs.Places.{rests_in}
 use Rattle.smv_spots.specs.declared.spots.Spot.{Spot}
 use Rattle.smv_spots.specs.declared.places.Sort.TheVariants as sort
 use Rattle.smv_spots.specs.Spots.{place_by, spot_of}

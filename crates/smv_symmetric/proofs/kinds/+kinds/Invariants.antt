@@ -1,5 +1,5 @@
 use Rattle.std.proofs.Common.{◌≡◌, map, drop}
-use Rattle.law_flat_kinds.specs.FlatKinds.{kind_of}
+use Rattle.law_designs.specs.FlatKinds.{kind_of}
 use Rattle.smv_symmetric.specs.Plain.{joined_after, member_kind}
 use Rattle.smv_symmetric.specs.Held.{held}
 use Rattle.smv_symmetric.proofs.kinds.+kinds.Given as goal

@@ -1,5 +1,5 @@
 use Rattle.std.proofs.Common.{◌≡◌, ◌++◌, map, drop}
-use Rattle.law_flat_kinds.specs.FlatKinds.{kind_of}
+use Rattle.law_designs.specs.FlatKinds.{kind_of}
 use Rattle.smv_symmetric.specs.Plain.{member_operand}
 use Rattle.smv_symmetric.specs.Held.{as_met}
 use Rattle.smv_symmetric.proofs.operands.add_members.Given as goal

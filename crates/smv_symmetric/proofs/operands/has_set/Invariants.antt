@@ -1,6 +1,6 @@
 use Rattle.std.proofs.Common.{◌≡◌, map, drop}
 use Rattle.std.specs.List.{list_any}
-use Rattle.law_set_types.specs.Operands.{is_of_set}
+use Rattle.law_designs.specs.SetOperands.{is_of_set}
 use Rattle.smv_symmetric.specs.Held.{as_met}
 use Rattle.smv_symmetric.proofs.operands.has_set.Given as goal
 

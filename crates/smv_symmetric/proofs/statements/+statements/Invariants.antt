@@ -1,6 +1,6 @@
 use Rattle.std.proofs.Common.{◌≡◌, map, drop}
 use Rattle.smv_scope.specs.ScopeFault.{earlier_of}
-use Rattle.law_flat_kinds.specs.FlatKinds.{kind_of}
+use Rattle.law_designs.specs.FlatKinds.{kind_of}
 use Rattle.smv_symmetric.specs.Plain.{first_among, statement_fault}
 use Rattle.smv_symmetric.proofs.statements.+statements.Given as goal
 

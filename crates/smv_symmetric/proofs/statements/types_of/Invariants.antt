@@ -1,5 +1,5 @@
 use Rattle.std.proofs.Common.{◌≡◌, ◌++◌, map, drop}
-use Rattle.law_flat_kinds.specs.FlatKinds.{kind_of}
+use Rattle.law_designs.specs.FlatKinds.{kind_of}
 use Rattle.smv_symmetric.proofs.statements.types_of.Given as goal
 
 abbrev pub invariant-loop-p : goal.invariant-loop-p

@@ -1,5 +1,5 @@
 use Rattle.std.proofs.Common.{◌∙◌, sym}
-use Rattle.law_outcomes.proofs.MixLaws.{or_same}
+use Rattle.law_obligations.proofs.MixLaws.{or_same}
 use Rattle.smv_conditions.proofs.OfferLaws.{first_made}
 use Rattle.smv_conditions.proofs.AddLaws.{rest_kept, offers_same}
 use Rattle.smv_cells.proofs.SeenLaws.{keeps_trans, keeps_same}

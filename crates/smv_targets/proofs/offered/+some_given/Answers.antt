@@ -1,5 +1,5 @@
 use Rattle.std.proofs.Common.{◌∙◌, ap}
-use Rattle.law_outcomes.proofs.MixLaws.{or_same}
+use Rattle.law_obligations.proofs.MixLaws.{or_same}
 use Rattle.smv_conditions.proofs.OfferLaws.{first_made}
 use Rattle.smv_targets.specs.Offered.{given_test}
 use Rattle.smv_targets.proofs.GivenLaws.{condition_made, target_kept}

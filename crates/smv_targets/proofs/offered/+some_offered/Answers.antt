@@ -1,5 +1,5 @@
 use Rattle.std.proofs.Common.{◌∙◌}
-use Rattle.law_outcomes.proofs.MixLaws.{or_same}
+use Rattle.law_obligations.proofs.MixLaws.{or_same}
 use Rattle.smv_conditions.proofs.OfferLaws.{first_made}
 use Rattle.smv_targets.proofs.OfferedLaws.{none_offered, also_offered}
 use Rattle.smv_targets.proofs.offered.+some_offered.Goals as goal

@@ -1,5 +1,5 @@
 use Rattle.std.proofs.Common.{◌∙◌, sym}
-use Rattle.law_outcomes.proofs.MixLaws.{or_same}
+use Rattle.law_obligations.proofs.MixLaws.{or_same}
 use Rattle.smv_conditions.proofs.OfferLaws.{first_made}
 use Rattle.smv_targets.proofs.OfferedLaws.{none_offered, one_offered, same_skipped, other_added}
 use Rattle.smv_targets.proofs.offered.+some_other.Goals as goal

@@ -1,5 +1,5 @@
 use Rattle.std.proofs.Common.{◌<◌, length, arith}
-use Rattle.law_answers.specs.Dues.{limit}
+use Rattle.smv_answers.specs.Dues.{limit}
 use Rattle.smv_top.proofs.DueLaws.{both_ok, due_length}
 use Rattle.smv_top.proofs.answers.answer_to.Goals as goal
 

@@ -1,7 +1,7 @@
 use Rattle.std.proofs.Common.{◌≡◌, true}
 use Rattle.smv_problem.specs.declared.report.Report.{Report}
-use Rattle.smv_command.specs.declared.Command.{Command}
-use Rattle.law_answers.specs.Dues.{IsFault, decides}
+use Rattle.smv_command.specs.declared.commands.Command.{Command}
+use Rattle.smv_answers.specs.Dues.{IsFault, decides}
 use Rattle.smv_top.proofs.DueLaws.{both_ok, due_report, due_fault, fault_of}
 use Rattle.smv_top.proofs.answers.decided.Goals as goal
 

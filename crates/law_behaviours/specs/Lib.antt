@@ -1,2 +1,0 @@
-pub mod TextRuns
-pub mod WorkedText

@@ -1,4 +1,0 @@
-mod WholeExprs
-mod WholeDefs
-mod Filled
-mod Scripts

@@ -1,5 +1,0 @@
-use Rattle.law_cones.proofs.Counting.{uncounted}
-use Rattle.law_cones.proofs.laws.what_counts.Goals as goal
-
-pub returns : goal.returns
-returns c every places counts read part b e = uncounted every places counts read part b e

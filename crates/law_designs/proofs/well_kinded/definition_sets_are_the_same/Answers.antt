@@ -1,0 +1,9 @@
+use Rattle.smv_core.specs.FlatOrder.{design_of}
+use Rattle.smv_core.specs.Allowed.{every_value}
+use Rattle.law_designs.proofs.TypeNumbers.{types-of-text}
+use Rattle.law_designs.proofs.SameSets.{set-same}
+use Rattle.law_designs.proofs.RightText.{well_kinded-right}
+use Rattle.law_designs.proofs.well_kinded.definition_sets_are_the_same.Goals as goal
+
+pub returns : goal.returns
+returns c = λ text h sizes s t states layer kind x f found. set-same text sizes s t states (types-of-text text h.3 sizes) layer kind x (every_value (design_of text) sizes x) f found (well_kinded-right text h)

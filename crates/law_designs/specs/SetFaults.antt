@@ -1,0 +1,114 @@
+-- The faults of set types: a flattened text treats the values of a set type alike where it has none.
+use Rattle.std.specs.Prelude.{List, [], ◌∷◌, ◌++◌, map, flat_map, slice_get, Option, Some, false}
+use Rattle.smv_core.specs.declared.fault.Fault.{Fault}
+use Rattle.smv_core.specs.declared.flat.FlatMember.{One, Span as SpanOf}
+use Rattle.smv_core.specs.declared.flat.FlatExpr.{FlatExpr, Number, Read', Var, Loop, Constant, Not', And', Or', Implies', Iff', Compare', Within', Sum', Modulo', Choose', All', Any', List', Each', Held-FlatExpr-Each-2, None', Some', Row_of-FlatExpr, end_of-FlatExpr, more_of-FlatExpr, Row_of-FlatMember, end_of-FlatMember, more_of-FlatMember, Row_of-FlatSigned, end_of-FlatSigned, more_of-FlatSigned}
+use Rattle.smv_core.specs.declared.flat.FlatStmt.{FlatStmt, Assign, If', Block', Default', Forall', Row_of-FlatStmt, end_of-FlatStmt, more_of-FlatStmt}
+use Rattle.smv_core.specs.declared.flat.FlatItem.{FlatItem}
+use Rattle.smv_core.specs.declared.flat.FlatItem.TheVariants as item
+use Rattle.smv_core.specs.declared.flat.Raw.{Raw}
+use Rattle.smv_instances.specs.FirstFault.{first_of}
+use Rattle.law_designs.specs.FlatKinds.{Kind, number, Vars, inside, value_in, bound_by}
+use Rattle.law_designs.specs.SetOperands.{Operand, first_at, is_loop, met, wanted_at, wanted_of, disordered}
+
+-- in a flattened text whose expressions have these kinds
+module _ (raw : Raw) (kind_at : Vars → FlatExpr → Option Kind) where
+  -- ---- operands
+
+  abbrev pub operand : Vars → FlatExpr → Operand
+  operand vars e = record { kind = kind_at vars e; at = first_at e; is_loop = is_loop e }
+
+  abbrev pub operands : {m : _} → Vars → Row_of-FlatExpr m → List Operand
+  operands vars end_of-FlatExpr = []
+  operands vars (more_of-FlatExpr e others) = operand vars e ∷ operands vars others
+
+  -- the members of a listed set: the numbers of a span are one operand
+  abbrev pub members_of : {m : _} → Vars → Row_of-FlatMember m → List Operand
+  members_of vars end_of-FlatMember = []
+  members_of vars (more_of-FlatMember (One e) others) = operand vars e ∷ members_of vars others
+  members_of vars (more_of-FlatMember (SpanOf span at) others) = record { kind = Some number; at = at; is_loop = false } ∷ members_of vars others
+
+  -- what stands right of `in`
+  abbrev pub listed : Vars → FlatExpr → List Operand
+  listed vars (List' shape members at) = members_of vars members
+  listed vars _ = []
+
+  -- ---- expressions
+
+  abbrev mutual
+    -- in an expression inside these variables: the sides of comparisons, what is left of an `in` with the members, the members of a listed set, the branches of `?:`, and indexes
+    pub faults_in : Vars → FlatExpr → List Fault
+    faults_in vars (Number value at) = []
+    faults_in vars (Read' family shape indexes at) = faults_each vars indexes ++ wanted_at (slice_get raw.families family) (operands vars indexes)
+    faults_in vars (Var var at) = []
+    faults_in vars (Loop value at) = []
+    faults_in vars (Constant list value at) = []
+    faults_in vars (Not' shape (more_of-FlatExpr e end_of-FlatExpr) at) = faults_in vars e
+    faults_in vars (And' shape parts) = faults_each vars parts
+    faults_in vars (Or' shape parts) = faults_each vars parts
+    faults_in vars (Implies' shape parts) = faults_each vars parts
+    faults_in vars (Iff' l (more_of-FlatExpr left end_of-FlatExpr) r (more_of-FlatExpr right end_of-FlatExpr)) = faults_in vars left ++ faults_in vars right
+    faults_in vars (Compare' op l (more_of-FlatExpr left end_of-FlatExpr) r (more_of-FlatExpr right end_of-FlatExpr)) =
+        faults_in vars left ++ faults_in vars right ++ met (operand vars left ∷ operand vars right ∷ [])
+        ++ disordered raw.sets op (operand vars left) ++ disordered raw.sets op (operand vars right)
+    faults_in vars (Within' l (more_of-FlatExpr left end_of-FlatExpr) r (more_of-FlatExpr set end_of-FlatExpr)) =
+        faults_in vars left ++ faults_in vars set ++ met (operand vars left ∷ listed vars set)
+    faults_in vars (Sum' f (more_of-FlatExpr head end_of-FlatExpr) shape more) = faults_in vars head ++ faults_signed vars more
+    faults_in vars (Modulo' shape (more_of-FlatExpr e end_of-FlatExpr) by at) = faults_in vars e
+    faults_in vars (Choose' c (more_of-FlatExpr cond end_of-FlatExpr) l (more_of-FlatExpr left end_of-FlatExpr) r (more_of-FlatExpr right end_of-FlatExpr)) =
+        faults_in vars cond ++ faults_in vars left ++ faults_in vars right ++ met (operand vars left ∷ operand vars right ∷ [])
+    faults_in vars (All' shape (more_of-FlatExpr body end_of-FlatExpr) var over at) = faults_in (inside vars over) body
+    faults_in vars (Any' shape (more_of-FlatExpr body end_of-FlatExpr) var over at) = faults_in (inside vars over) body
+    faults_in vars (List' shape members at) = faults_members vars members ++ met (members_of vars members)
+    faults_in vars (Each' var over cond at) = faults_held (inside vars over) cond
+
+    pub faults_each : {m : _} → Vars → Row_of-FlatExpr m → List Fault
+    faults_each vars end_of-FlatExpr = []
+    faults_each vars (more_of-FlatExpr e others) = faults_in vars e ++ faults_each vars others
+
+    pub faults_signed : {m : _} → Vars → Row_of-FlatSigned m → List Fault
+    faults_signed vars end_of-FlatSigned = []
+    faults_signed vars (more_of-FlatSigned minus e others) = faults_in vars e ++ faults_signed vars others
+
+    pub faults_members : {m : _} → Vars → Row_of-FlatMember m → List Fault
+    faults_members vars end_of-FlatMember = []
+    faults_members vars (more_of-FlatMember (One e) others) = faults_in vars e ++ faults_members vars others
+    faults_members vars (more_of-FlatMember (SpanOf span at) others) = faults_members vars others
+
+    pub faults_held : Vars → Held-FlatExpr-Each-2 → List Fault
+    faults_held vars None' = []
+    faults_held vars (Some' shape (more_of-FlatExpr cond end_of-FlatExpr)) = faults_in vars cond
+
+  -- ---- statements
+
+  abbrev mutual
+    -- in a statement: its conditions, left sides and values, and values against their targets
+    pub faults_of : Vars → FlatStmt → List Fault
+    faults_of vars (Assign kind family left value at) =
+        flat_map (faults_in vars) left ++ wanted_at (slice_get raw.families family) (map (operand vars) left)
+        ++ faults_in vars value ++ wanted_of (slice_get raw.families family) (operand vars value)
+    faults_of vars (If' cond l (more_of-FlatStmt left end_of-FlatStmt) r (more_of-FlatStmt right end_of-FlatStmt)) = faults_in vars cond ++ faults_of vars left ++ faults_of vars right
+    faults_of vars (Block' shape parts) = faults_of_each vars parts
+    faults_of vars (Default' l (more_of-FlatStmt left end_of-FlatStmt) r (more_of-FlatStmt right end_of-FlatStmt)) = faults_of vars left ++ faults_of vars right
+    faults_of vars (Forall' var over shape (more_of-FlatStmt body end_of-FlatStmt)) = faults_of (inside vars over) body
+
+    pub faults_of_each : {m : _} → Vars → Row_of-FlatStmt m → List Fault
+    faults_of_each vars end_of-FlatStmt = []
+    faults_of_each vars (more_of-FlatStmt part rest) = faults_of vars part ++ faults_of_each vars rest
+
+  -- ---- items
+
+  -- What the equations of a split meet is compared later: here they are read alone.
+  abbrev pub item_faults : FlatItem → List Fault
+  item_faults (item.Act layer act) = faults_of [] act
+  item_faults (item.Claim c) = faults_in (bound_by raw c.params) c.body
+  item_faults (item.Split s) = flat_map (λ pair. faults_in (bound_by raw s.bound) pair.left) s.pairs
+  item_faults (item.Using u) = []
+
+-- all faults of set types of a flattened text
+abbrev pub faults_of_sets : Raw → List Fault
+faults_of_sets raw = flat_map (item_faults raw (value_in raw)) raw.items
+
+-- The first of them, 21 or 22. A text with an earlier fault is not asked for.
+abbrev pub first_fault_of_sets : Raw → Option Fault
+first_fault_of_sets raw = first_of (faults_of_sets raw)

@@ -1,0 +1,159 @@
+-- What the grammar gives of each tree: what stands as an index type, which lists are not empty, which sets stand right of `in`, and where names are declared.
+use Rattle.std.specs.Prelude.{List, [], ◌∷◌}
+use Rattle.std.specs.List.{AllByRecursion}
+use Rattle.smv_core.specs.Walk.{indexes_of}
+use Rattle.smv_core.specs.declared.tree.Path.{out-Path}
+use Rattle.smv_core.specs.declared.tree.Part.{Field, At}
+use Rattle.smv_core.specs.declared.tree.Member.{One, Span as SpanOf}
+use Rattle.smv_core.specs.declared.tree.TypeExpr.{TypeExpr, Enum, Array', Struct', end_of-TypeExpr, more_of-TypeExpr, Row_of-Field, end_of-Field, more_of-Field}
+use Rattle.smv_core.specs.declared.tree.Expr.{Expr, Number, Signal', Not', And', Or', Implies', Iff', Compare', Within', Sum', Modulo', Choose', All', Any', List', Each', Held-Expr-Each-2, None', Some', Row_of-Expr, end_of-Expr, more_of-Expr, Row_of-Part, end_of-Part, more_of-Part, Row_of-Member, end_of-Member, more_of-Member, Row_of-Signed, end_of-Signed, more_of-Signed}
+use Rattle.smv_core.specs.declared.tree.Stmt.{Stmt, Assign, Block', If', Switch', Default', For', Forall', Held-Stmt-If-2, Row_of-Stmt, end_of-Stmt, more_of-Stmt, Row_of-Arm, end_of-Arm, more_of-Arm}
+use Rattle.smv_core.specs.declared.tree.Stmt as stmt
+use Rattle.smv_core.specs.declared.tree.Item.{Item, Declare, Instance, Layer, Claim, Split, Using, Act, Row_of-Item, end_of-Item, more_of-Item}
+use Rattle.smv_core.specs.declared.tree.Item as item
+use Rattle.smv_core.specs.declared.tree.Pair.{Pair}
+use Rattle.smv_core.specs.declared.tree.Top.{Top}
+use Rattle.smv_core.specs.declared.tree.Top.TheVariants.{SetType, Alias, Module}
+use Rattle.smv_core.specs.declared.tree.Text.{Text}
+use Rattle.law_designs.specs.Agreement.{IsIndexType}
+
+-- ---- lists
+
+-- a list that is not empty
+abbrev pub HasOne : {X : Type 0} → List X → Type 0
+HasOne [] = ⊥
+HasOne (x ∷ xs) = Unit {0}
+
+-- ---- types
+
+abbrev mutual
+  -- each array in a type has an index type, and each enumeration a constant
+  pub TypeIsWritten : TypeExpr → Type 0
+  TypeIsWritten (Array' i (more_of-TypeExpr index end_of-TypeExpr) o (more_of-TypeExpr of end_of-TypeExpr)) = IsIndexType index × TypeIsWritten of
+  TypeIsWritten (Enum names at) = HasOne names
+  TypeIsWritten (Struct' shape fields) = FieldsAreWritten fields
+  TypeIsWritten _ = Unit {0}
+
+  pub FieldsAreWritten : {m : _} → Row_of-Field m → Type 0
+  FieldsAreWritten end_of-Field = Unit {0}
+  FieldsAreWritten (more_of-Field names of at rest) = TypeIsWritten of × FieldsAreWritten rest
+
+-- ---- expressions
+
+-- a listed set or a comprehension
+abbrev pub IsSet : Expr → Type 0
+IsSet (List' shape members at) = Unit {0}
+IsSet (Each' var over cond at) = Unit {0}
+IsSet _ = ⊥
+
+-- a listed set has a member
+abbrev pub HasMember : {m : _} → Row_of-Member m → Type 0
+HasMember end_of-Member = ⊥
+HasMember (more_of-Member member rest) = Unit {0}
+
+abbrev mutual
+  -- each binder in an expression has an index type, each listed set a member, and right of each `in` stands a set
+  pub IsWritten : Expr → Type 0
+  IsWritten (Number value at) = Unit {0}
+  IsWritten (Signal' shape parts at) = IndexesAreWritten parts
+  IsWritten (Not' shape (more_of-Expr e end_of-Expr) at) = IsWritten e
+  IsWritten (And' shape parts) = PartsAreWritten parts
+  IsWritten (Or' shape parts) = PartsAreWritten parts
+  IsWritten (Implies' shape parts) = PartsAreWritten parts
+  IsWritten (Iff' l (more_of-Expr left end_of-Expr) r (more_of-Expr right end_of-Expr)) = IsWritten left × IsWritten right
+  IsWritten (Compare' op l (more_of-Expr left end_of-Expr) r (more_of-Expr right end_of-Expr)) = IsWritten left × IsWritten right
+  IsWritten (Within' l (more_of-Expr left end_of-Expr) r (more_of-Expr set end_of-Expr)) = IsWritten left × IsWritten set × IsSet set
+  IsWritten (Sum' f (more_of-Expr first end_of-Expr) shape more) = IsWritten first × TermsAreWritten more
+  IsWritten (Modulo' shape (more_of-Expr e end_of-Expr) by at) = IsWritten e
+  IsWritten (Choose' c (more_of-Expr cond end_of-Expr) l (more_of-Expr left end_of-Expr) r (more_of-Expr right end_of-Expr)) = IsWritten cond × IsWritten left × IsWritten right
+  IsWritten (All' shape (more_of-Expr body end_of-Expr) var over at) = IsWritten body × IsIndexType over
+  IsWritten (Any' shape (more_of-Expr body end_of-Expr) var over at) = IsWritten body × IsIndexType over
+  IsWritten (List' shape members at) = HasMember members × MembersAreWritten members
+  IsWritten (Each' var over cond at) = ConditionIsWritten cond × IsIndexType over
+
+  pub PartsAreWritten : {m : _} → Row_of-Expr m → Type 0
+  PartsAreWritten end_of-Expr = Unit {0}
+  PartsAreWritten (more_of-Expr e rest) = IsWritten e × PartsAreWritten rest
+
+  pub IndexesAreWritten : {m : _} → Row_of-Part m → Type 0
+  IndexesAreWritten end_of-Part = Unit {0}
+  IndexesAreWritten (more_of-Part (Field word) rest) = IndexesAreWritten rest
+  IndexesAreWritten (more_of-Part (At index) rest) = IsWritten index × IndexesAreWritten rest
+
+  pub TermsAreWritten : {m : _} → Row_of-Signed m → Type 0
+  TermsAreWritten end_of-Signed = Unit {0}
+  TermsAreWritten (more_of-Signed minus e rest) = IsWritten e × TermsAreWritten rest
+
+  pub MembersAreWritten : {m : _} → Row_of-Member m → Type 0
+  MembersAreWritten end_of-Member = Unit {0}
+  MembersAreWritten (more_of-Member (One e) rest) = IsWritten e × MembersAreWritten rest
+  MembersAreWritten (more_of-Member (SpanOf span at) rest) = MembersAreWritten rest
+
+  pub ConditionIsWritten : Held-Expr-Each-2 → Type 0
+  ConditionIsWritten None' = Unit {0}
+  ConditionIsWritten (Some' shape (more_of-Expr cond end_of-Expr)) = IsWritten cond
+
+abbrev pub AreWritten : List Expr → Type 0
+AreWritten es = AllByRecursion IsWritten es
+
+-- ---- statements
+
+abbrev mutual
+  -- the same of each expression in a statement, and of its binders
+  pub StatementIsWritten : Stmt → Type 0
+  StatementIsWritten (Assign kind left value at) = AreWritten (indexes_of (out-Path left).parts) × IsWritten value
+  StatementIsWritten (Block' shape parts) = StatementsAreWritten parts
+  StatementIsWritten (If' cond l (more_of-Stmt left end_of-Stmt) right at) = IsWritten cond × StatementIsWritten left × BranchIsWritten right
+  StatementIsWritten (Switch' on shape arms other at) = IsWritten on × ArmsAreWritten arms × BranchIsWritten other
+  StatementIsWritten (Default' l (more_of-Stmt left end_of-Stmt) r (more_of-Stmt right end_of-Stmt) at) = StatementIsWritten left × StatementIsWritten right
+  StatementIsWritten (For' var from to closed step shape (more_of-Stmt body end_of-Stmt) at) = StatementIsWritten body
+  StatementIsWritten (Forall' var over shape (more_of-Stmt body end_of-Stmt) at) = StatementIsWritten body × IsIndexType over
+
+  pub StatementsAreWritten : {m : _} → Row_of-Stmt m → Type 0
+  StatementsAreWritten end_of-Stmt = Unit {0}
+  StatementsAreWritten (more_of-Stmt part rest) = StatementIsWritten part × StatementsAreWritten rest
+
+  pub BranchIsWritten : Held-Stmt-If-2 → Type 0
+  BranchIsWritten stmt.None' = Unit {0}
+  BranchIsWritten (stmt.Some' shape (more_of-Stmt part end_of-Stmt)) = StatementIsWritten part
+
+  pub ArmsAreWritten : {m : _} → Row_of-Arm m → Type 0
+  ArmsAreWritten end_of-Arm = Unit {0}
+  ArmsAreWritten (more_of-Arm labels body rest) = AreWritten labels × StatementIsWritten body × ArmsAreWritten rest
+
+-- ---- items
+
+abbrev mutual
+  -- what may stand inside a `forall` or braces of a module: no declaration, no instance and no layer
+  pub InnerIsWritten : Item → Type 0
+  InnerIsWritten (Declare role words of at) = ⊥
+  InnerIsWritten (Instance words name args at) = ⊥
+  InnerIsWritten (Layer name body at) = ⊥
+  InnerIsWritten (item.Forall' var over shape (more_of-Item body end_of-Item) at) = InnerIsWritten body × IsIndexType over
+  InnerIsWritten (item.Block' shape items) = InnersAreWritten items
+  InnerIsWritten (Claim name vars body at) = IsWritten body
+  InnerIsWritten (Split name vars of pairs at) = AllByRecursion (λ (pair : Pair). IsWritten pair.left) pairs
+  InnerIsWritten (Using uses proves at) = Unit {0}
+  InnerIsWritten (Act act) = StatementIsWritten act
+
+  pub InnersAreWritten : {m : _} → Row_of-Item m → Type 0
+  InnersAreWritten end_of-Item = Unit {0}
+  InnersAreWritten (more_of-Item part rest) = InnerIsWritten part × InnersAreWritten rest
+
+-- what stands in a module
+abbrev pub ItemIsWritten : Item → Type 0
+ItemIsWritten (Declare role words of at) = TypeIsWritten of
+ItemIsWritten (Instance words name args at) = AreWritten args
+ItemIsWritten (Layer name body at) = AllByRecursion StatementIsWritten body
+ItemIsWritten part = InnerIsWritten part
+
+-- ---- the text
+
+abbrev pub TopIsWritten : Top → Type 0
+TopIsWritten (SetType word ordered span at) = Unit {0}
+TopIsWritten (Alias word of at) = TypeIsWritten of
+TopIsWritten (Module word formals body at) = AllByRecursion ItemIsWritten body
+
+-- a tree that is as the grammar has it in these points
+abbrev pub TextIsWritten : Text → Type 0
+TextIsWritten text = AllByRecursion TopIsWritten text.tops

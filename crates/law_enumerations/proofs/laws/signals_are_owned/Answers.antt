@@ -1,5 +1,0 @@
-use Rattle.law_enumerations.proofs.Signals.{signals-owned}
-use Rattle.law_enumerations.proofs.laws.signals_are_owned.Goals as goal
-
-pub returns : goal.returns
-returns c = λ text names. signals-owned text names

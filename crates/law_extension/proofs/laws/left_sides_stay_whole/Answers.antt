@@ -1,5 +1,0 @@
-use Rattle.law_extension.proofs.LeftSides.{whole_design}
-use Rattle.law_extension.proofs.laws.left_sides_stay_whole.Goals as goal
-
-pub returns : goal.returns
-returns c = λ raw whole. whole_design raw whole

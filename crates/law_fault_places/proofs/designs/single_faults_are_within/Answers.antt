@@ -1,0 +1,5 @@
+use Rattle.law_fault_places.proofs.Single.{first-within}
+use Rattle.law_fault_places.proofs.designs.single_faults_are_within.Goals as goal
+
+pub returns : goal.returns
+returns c = λ n raw h. first-within n raw h

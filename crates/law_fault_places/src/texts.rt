@@ -1,0 +1,29 @@
+// Laws of the places of faults, each the contract of a function that does nothing.
+ghost use Rattle.law_fault_places.specs.FaultsOfTexts.{TreesOfTextsAreWithin, FaultsAreWithin, RefusalsTellFaults};
+
+use crate::passes::pass_faults_are_within;
+use crate::trees::spelled_trees_are_within;
+use smv_parse::one_answer;
+
+/// Each word, number and sign of the tree that a text spells stands within the text.
+pub fn trees_of_texts_are_within()
+    ensures { TreesOfTextsAreWithin }
+{
+    spelled_trees_are_within();
+}
+
+/// The first fault of a text under a command has a number of 1 to 31, and a place of at most the text's length.
+pub fn faults_are_within()
+    ensures { FaultsAreWithin }
+{
+    one_answer();
+    trees_of_texts_are_within();
+    pass_faults_are_within();
+}
+
+/// A refusal that is due tells a fault of such a number and place.
+pub fn refusals_tell_faults()
+    ensures { RefusalsTellFaults }
+{
+    faults_are_within();
+}

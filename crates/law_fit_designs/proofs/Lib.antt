@@ -1,4 +1,0 @@
-mod Names
-mod Orders
-mod Parts
-mod Constants

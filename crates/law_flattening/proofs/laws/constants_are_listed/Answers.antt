@@ -1,5 +1,0 @@
-use Rattle.law_flattening.proofs.Constants.{constant-listed}
-use Rattle.law_flattening.proofs.laws.constants_are_listed.Goals as goal
-
-pub returns : goal.returns
-returns c = λ text instance name own e. constant-listed text instance name own e

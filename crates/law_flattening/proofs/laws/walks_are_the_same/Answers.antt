@@ -1,6 +1,0 @@
-use Rattle.law_flattening.proofs.TypeNumbers.{types-of-text}
-use Rattle.law_flattening.proofs.SameText.{walk_of_text}
-use Rattle.law_flattening.proofs.laws.walks_are_the_same.Goals as goal
-
-pub returns : goal.returns
-returns c = λ text faultless sizes s t states kind x every f found instance vars act b agree right. walk_of_text text sizes s t states (types-of-text text faultless sizes) kind x every f found instance vars act b agree right

@@ -1,8 +1,0 @@
-use Rattle.law_found_elements.proofs.Bits.{found-bits, cone-bits}
-use Rattle.law_found_elements.proofs.laws.bits_of_cones.Goals as goal
-
-pub returns-clause-each : goal.returns-clause-each
-returns-clause-each c w found = found-bits w found
-
-pub returns-clause-all : goal.returns-clause-all
-returns-clause-all c w o entry params indexed found apart all = cone-bits w o entry params indexed found apart all

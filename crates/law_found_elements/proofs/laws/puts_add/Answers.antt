@@ -1,5 +1,0 @@
-use Rattle.law_found_elements.proofs.Putting.{added}
-use Rattle.law_found_elements.proofs.laws.puts_add.Goals as goal
-
-pub returns : goal.returns
-returns c w indexed found put of_found of_put apart = added w indexed found put of_found of_put apart

@@ -1,5 +1,0 @@
-use Rattle.law_found_elements.proofs.Sorting.{sorted-written}
-use Rattle.law_found_elements.proofs.laws.sorted_is_written.Goals as goal
-
-pub returns : goal.returns
-returns c w o entry params indexed found all sorted order same = sorted-written w o entry params indexed found all sorted order same

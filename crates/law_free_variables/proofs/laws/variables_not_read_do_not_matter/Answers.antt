@@ -1,5 +1,0 @@
-use Rattle.law_free_variables.proofs.FreeVariables.{may_alike}
-use Rattle.law_free_variables.proofs.laws.variables_not_read_do_not_matter.Goals as goal
-
-pub returns : goal.returns
-returns c w kept a e b bs h = may_alike w kept a e b bs h

@@ -1,3 +1,0 @@
-mod Renamed
-mod Standing
-mod Guards

@@ -1,7 +1,0 @@
-// The laws.
-ghost use Rattle.law_kept_stores.specs.Laws.{KeptTablesKeep};
-
-/// A sound store in which each live Ref of an earlier one is live with its table keeps that one.
-pub fn kept_tables_keep()
-    ensures { KeptTablesKeep }
-{}

@@ -1,8 +1,0 @@
-use Rattle.law_single_assignment.specs.Definitions.{def_of, first_heads}
-use Rattle.law_single_assignment.proofs.SameResults.{all-map}
-use Rattle.law_left_sides.specs.Placed.{IsFree}
-use Rattle.law_left_sides.proofs.Free.{def_free}
-use Rattle.law_left_sides.proofs.conflicts.definitions_have_no_conflict.Goals as goal
-
-pub returns : goal.returns
-returns c = λ raw placed faultless. all-map (def_of raw) (IsFree raw) (λ head. def_free raw placed faultless head) (first_heads raw)

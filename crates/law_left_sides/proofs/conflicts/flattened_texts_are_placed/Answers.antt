@@ -1,5 +1,0 @@
-use Rattle.law_left_sides.proofs.Flattened.{text_placed}
-use Rattle.law_left_sides.proofs.conflicts.flattened_texts_are_placed.Goals as goal
-
-pub returns : goal.returns
-returns c = λ text whole. text_placed text whole

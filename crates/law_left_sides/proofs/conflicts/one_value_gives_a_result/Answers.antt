@@ -1,8 +1,0 @@
-use Rattle.law_single_assignment.specs.Definitions.{def_of, first_heads}
-use Rattle.law_single_assignment.proofs.SameResults.{all-map}
-use Rattle.law_left_sides.specs.Placed.{OneValueGives}
-use Rattle.law_left_sides.proofs.Free.{def_single}
-use Rattle.law_left_sides.proofs.conflicts.one_value_gives_a_result.Goals as goal
-
-pub returns : goal.returns
-returns c = λ raw placed faultless. all-map (def_of raw) (OneValueGives raw) (λ head. def_single raw placed faultless head) (first_heads raw)

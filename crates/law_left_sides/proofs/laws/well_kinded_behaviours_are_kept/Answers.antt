@@ -1,4 +1,0 @@
-use Rattle.law_left_sides.proofs.laws.well_kinded_behaviours_are_kept.Goals as goal
-
-pub returns : goal.returns
-returns c = λ text h none layers. c.text_behaviours_are_kept.ensures text h none (c.left_sides_have_no_fewer.ensures text h) layers

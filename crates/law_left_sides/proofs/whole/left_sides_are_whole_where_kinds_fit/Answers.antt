@@ -1,5 +1,0 @@
-use Rattle.law_left_sides.proofs.LeftSides.{raw-whole}
-use Rattle.law_left_sides.proofs.whole.left_sides_are_whole_where_kinds_fit.Goals as goal
-
-pub returns : goal.returns
-returns c = λ raw kinded. raw-whole raw kinded

@@ -1,3 +1,0 @@
-pub mod Cycles
-pub mod Orders
-pub mod Descents

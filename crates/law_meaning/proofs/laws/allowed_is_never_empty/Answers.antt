@@ -1,5 +1,0 @@
-use Rattle.law_meaning.proofs.NeverEmpty.{allowed-filled}
-use Rattle.law_meaning.proofs.laws.allowed_is_never_empty.Goals as goal
-
-pub returns : goal.returns
-returns c d sizes layer x before now some = allowed-filled d sizes layer x some before now

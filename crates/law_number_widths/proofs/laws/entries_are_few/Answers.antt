@@ -1,7 +1,0 @@
-use Rattle.std.proofs.Common.{arith}
-use Rattle.law_number_widths.proofs.Limits.{within-limits}
-use Rattle.law_number_widths.proofs.FewEntries.{text-few}
-use Rattle.law_number_widths.proofs.laws.entries_are_few.Goals as goal
-
-pub returns : goal.returns
-returns c = λ text none. let a = text-few text in let b = (within-limits text none).statements in omega (arith, a, b)

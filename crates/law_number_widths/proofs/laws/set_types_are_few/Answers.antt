@@ -1,5 +1,0 @@
-use Rattle.law_number_widths.proofs.SetTypes.{sets-few}
-use Rattle.law_number_widths.proofs.laws.set_types_are_few.Goals as goal
-
-pub returns : goal.returns
-returns c = λ bytes n tokens text le read spelled. sets-few bytes n tokens text le read spelled

@@ -1,2 +1,0 @@
-pub mod NumbersFit
-pub mod RangesFit

@@ -1,5 +1,0 @@
-use Rattle.law_obligations.proofs.Plans.{is_plan}
-use Rattle.law_obligations.proofs.laws.scripts_are_plans.Goals as goal
-
-pub returns : goal.returns
-returns c s checked = is_plan s checked

@@ -1,7 +1,0 @@
-use Rattle.smv_abstraction.specs.May.{seen}
-use Rattle.law_outcomes.proofs.MixLaws.{mix-conjunction, mix-disjunction, mix-implication}
-use Rattle.law_outcomes.proofs.IffLaws.{mix-iff}
-use Rattle.law_outcomes.proofs.laws.operators_mix.Goals as goal
-
-pub returns : goal.returns
-returns c = record { conjunctions = mix-conjunction seen; disjunctions = mix-disjunction seen; implications = mix-implication seen; equivalences = mix-iff }

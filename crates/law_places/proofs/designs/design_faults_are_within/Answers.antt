@@ -1,5 +1,0 @@
-use Rattle.law_places.proofs.Loops.{first-within}
-use Rattle.law_places.proofs.designs.design_faults_are_within.Goals as goal
-
-pub returns : goal.returns
-returns c = λ n d h. first-within n d h

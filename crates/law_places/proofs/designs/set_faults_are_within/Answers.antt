@@ -1,5 +1,0 @@
-use Rattle.law_places.proofs.Sets.{first-within}
-use Rattle.law_places.proofs.designs.set_faults_are_within.Goals as goal
-
-pub returns : goal.returns
-returns c = λ n raw h. first-within n raw h

@@ -1,5 +1,0 @@
-use Rattle.law_places.proofs.DesignLaws.{design-within}
-use Rattle.law_places.proofs.flat.designs_are_within.Goals as goal
-
-pub returns : goal.returns
-returns c = λ n raw h. design-within n raw h

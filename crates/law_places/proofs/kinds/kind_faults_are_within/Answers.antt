@@ -1,5 +1,0 @@
-use Rattle.law_places.proofs.KindFaults.{first-within}
-use Rattle.law_places.proofs.kinds.kind_faults_are_within.Goals as goal
-
-pub returns : goal.returns
-returns c = λ n text h. first-within n text h

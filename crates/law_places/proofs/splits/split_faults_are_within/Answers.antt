@@ -1,5 +1,0 @@
-use Rattle.law_places.proofs.SplitLaws.{first-within}
-use Rattle.law_places.proofs.splits.split_faults_are_within.Goals as goal
-
-pub returns : goal.returns
-returns c = λ n d h. first-within n d h

@@ -1,5 +1,0 @@
-use Rattle.law_plan_cases.proofs.Plans.{is_entry}
-use Rattle.law_plan_cases.proofs.laws.parts_are_entries.Goals as goal
-
-pub returns : goal.returns
-returns c d leaves choices u leaf choice at = is_entry d leaves choices u leaf choice at

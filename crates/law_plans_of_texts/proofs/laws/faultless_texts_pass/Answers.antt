@@ -1,7 +1,0 @@
-use Rattle.law_splits.specs.SplitFaults.{faults_of_splits}
-use Rattle.law_true_reports.specs.Joined.{flat_design}
-use Rattle.law_plans_of_texts.proofs.Plans.{none_there}
-use Rattle.law_plans_of_texts.proofs.laws.faultless_texts_pass.Goals as goal
-
-pub returns : goal.returns
-returns c tree faultless = record { kinds = faultless.kinds; single = faultless.single; design = faultless.design; splits = none_there (faults_of_splits (flat_design tree)) faultless.splits }

@@ -1,3 +1,0 @@
-pub mod Faultless
-pub mod Rooms
-pub mod Laws

@@ -1,0 +1,10 @@
+// Laws of the definitions, each the contract of a function that does nothing.
+ghost use Rattle.law_problems.specs.ValueLaws.{PlacesHaveKinds, PlacesAreAlike, PlacesAreEqualAsWritten, PlacesAreBelowAsWritten};
+
+/// Places of one kind compare as they are written.
+pub fn places_compare_as_written()
+    ensures kinds { PlacesHaveKinds }
+    ensures alike { PlacesAreAlike }
+    ensures equal { PlacesAreEqualAsWritten }
+    ensures below { PlacesAreBelowAsWritten }
+{}

@@ -1,4 +1,0 @@
-pub mod Standing
-pub mod SingleFaults
-pub mod Definitions
-pub mod Laws

@@ -1,0 +1,6 @@
+use Rattle.law_sound_texts.proofs.Filled.{kept}
+use Rattle.law_sound_texts.proofs.WholeDefs.{claims-whole}
+use Rattle.law_sound_texts.proofs.checked_scripts.claims_read_whole_elements.Goals as goal
+
+pub returns : goal.returns
+returns c = λ raw h. claims-whole raw (kept raw h).1

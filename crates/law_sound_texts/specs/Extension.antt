@@ -1,0 +1,53 @@
+-- The law of extension: what a design adds to its implementation, the abstract signals, takes no behaviour from it; and there are runs.
+use Rattle.std.specs.Prelude.{◌≡◌, ◌≤◌, ℕ, List, filter, length, not, slice_get, Some, Bool, false}
+use Rattle.std.specs.List.{AllZip}
+use Rattle.smv_core.specs.Values.{Value, Sizes}
+use Rattle.smv_core.specs.Flat.{FlatState}
+use Rattle.smv_core.specs.declared.flat.Family.{Family}
+use Rattle.smv_core.specs.declared.flat.Def.{Def}
+use Rattle.smv_core.specs.declared.flat.Design.{Design}
+use Rattle.smv_core.specs.declared.flat.Raw.{Raw}
+use Rattle.law_designs.specs.Standing.{Standing}
+use Rattle.law_designs.specs.SingleFaults.{assigned_in}
+use Rattle.law_designs.specs.Laws.{index_count}
+use Rattle.law_obligations.specs.Sets.{Has}
+use Rattle.law_obligations.specs.Soundness.{AreSizes, at_sizes, IsRun}
+use Rattle.law_obligations.specs.Outlines.{names_of, bases}
+use Rattle.law_obligations.specs.Checked.{IsFilled}
+use Rattle.law_designs.specs.Reading.{Reading}
+use Rattle.law_designs.specs.LayerFaults.{is_abstract, assignments_of}
+
+-- each left side has an index for each type of its family
+abbrev pub HasWholeLeftSides : Design → Type 0
+HasWholeLeftSides d = (def : Def) → Has d.defs def → (f : Family) → slice_get d.families def.family ≡ Some f → (a : Reading) → Has (assignments_of def) a → length f.over ≤ length a.left
+
+-- so it is in a flattened text
+abbrev pub RawHasWholeLeftSides : Raw → Type 0
+RawHasWholeLeftSides raw = (a : Standing) → Has (assigned_in raw) a → index_count raw a.family ≤ length a.left
+
+-- no family has a type without values
+abbrev pub AreFilled : Design → Type 0
+AreFilled d = (f : Family) → Has d.families f → IsFilled d f.value
+
+-- two states give the elements of each family that is not among these the same values
+abbrev pub AgreeOutside : (ℕ → Bool) → FlatState → FlatState → Type 0
+AgreeOutside among s t = (family : ℕ) → among family ≡ false → (indexes : List Value) → t family indexes ≡ s family indexes
+
+module _ (d : Design) where
+  -- the family is that of an abstract signal
+  abbrev pub is_added : ℕ → Bool
+  is_added family = is_abstract d (slice_get d.families family)
+
+  -- the base definitions of the families that are not among these
+  abbrev pub bases_outside : (ℕ → Bool) → List Def
+  bases_outside among = filter (λ (def : Def). not (among def.family)) (bases d)
+
+  -- at any sizes each behaviour of the implementation, states in which the base definitions of all families that are not abstract hold, is that of a run: the same states
+  -- but for the abstract families
+  abbrev pub KeepsBehaviours : Type 0
+  KeepsBehaviours = (sizes : Sizes) (behaviour : List FlatState) → IsRun (at_sizes (names_of d) sizes) (bases_outside is_added) behaviour →
+      (run : List FlatState) × AllZip (AgreeOutside is_added) behaviour run × IsRun (at_sizes (names_of d) sizes) (bases d) run
+
+  -- at all sizes there is a run of each length
+  abbrev pub HasRuns : Type 0
+  HasRuns = (sizes : Sizes) → AreSizes (names_of d) sizes → (times : ℕ) → (run : List FlatState) × (length run ≡ times) × IsRun (at_sizes (names_of d) sizes) (bases d) run

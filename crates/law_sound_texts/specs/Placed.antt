@@ -1,0 +1,38 @@
+-- A flattened text as flattening makes it, and what the law of conflicts says of it.
+use Rattle.std.specs.Prelude.{◌≡◌, ◌≤◌, ℕ, suc, List, length}
+use Rattle.smv_core.specs.Values.{Value}
+use Rattle.smv_core.specs.Flat.{Numbered}
+use Rattle.smv_core.specs.declared.flat.Raw.{Raw}
+use Rattle.smv_core.specs.declared.flat.Def.{Def}
+use Rattle.smv_core.specs.declared.flat.FlatStmt.{FlatStmt, Assign, If', Block', Default', Forall', Row_of-FlatStmt, end_of-FlatStmt, more_of-FlatStmt}
+use Rattle.law_obligations.specs.Sets.{Has}
+use Rattle.law_obligations.specs.Bound.{IsSingle}
+use Rattle.law_obligations.specs.FlatConflicts.{IsConflictFree}
+use Rattle.law_designs.specs.Standing.{Statement, statements_of}
+use Rattle.law_designs.specs.Laws.{index_count}
+
+module _ (counts : ℕ → ℕ) where
+  abbrev mutual
+    -- inside so many `forall`s: each `forall` has the number of those around it, and no left side has more indexes than its family
+    pub IsPlaced : ℕ → FlatStmt → Type 0
+    IsPlaced around (Assign kind family left value at) = length left ≤ counts family
+    IsPlaced around (If' cond l (more_of-FlatStmt left end_of-FlatStmt) r (more_of-FlatStmt right end_of-FlatStmt)) = IsPlaced around left × IsPlaced around right
+    IsPlaced around (Block' shape parts) = ArePlaced around parts
+    IsPlaced around (Default' l (more_of-FlatStmt left end_of-FlatStmt) r (more_of-FlatStmt right end_of-FlatStmt)) = IsPlaced around left × IsPlaced around right
+    IsPlaced around (Forall' var over shape (more_of-FlatStmt body end_of-FlatStmt)) = (var ≡ around) × IsPlaced (suc around) body
+
+    pub ArePlaced : {m : _} → ℕ → Row_of-FlatStmt m → Type 0
+    ArePlaced around end_of-FlatStmt = Unit {0}
+    ArePlaced around (more_of-FlatStmt part rest) = IsPlaced around part × ArePlaced around rest
+
+-- so it is for each statement of the text
+abbrev pub RawIsPlaced : Raw → Type 0
+RawIsPlaced raw = (s : Statement) → Has (statements_of raw) s → IsPlaced (index_count raw) 0 s.act
+
+-- no two assignments of a definition conflict
+abbrev pub IsFree : Raw → Def → Type 0
+IsFree raw def = IsConflictFree (index_count raw def.family) def
+
+-- at most one value of each `forall` variable of the definition gives an element of its family a result, in each state
+abbrev pub OneValueGives : Raw → Def → Type 0
+OneValueGives raw def = (n : Numbered) (indexes every : List Value) → length indexes ≡ index_count raw def.family → IsSingle n def indexes every

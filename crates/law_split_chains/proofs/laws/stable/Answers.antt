@@ -1,5 +1,0 @@
-use Rattle.law_split_chains.proofs.Stable as laws
-use Rattle.law_split_chains.proofs.laws.stable.Goals as goal
-
-pub returns : goal.returns
-returns c d s h e = laws.leads_at_last d s h e

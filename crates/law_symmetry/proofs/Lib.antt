@@ -1,2 +1,0 @@
-pub mod Concerned
-pub mod Exchanged

@@ -1,7 +1,0 @@
-use Rattle.law_true_reports.specs.Joined.{script_with}
-use Rattle.law_reports.specs.Reports.{told_of}
-use Rattle.law_true_reports.proofs.laws.true_reports_are_sound.Goals as goal
-
-pub returns : goal.returns
-returns c = λ text passes choices each nodes images report right all.
-    c.true_texts_are_sound.ensures text passes choices each nodes images (told_of report.units) (c.reports_tell.ensures.tells (script_with text choices) nodes images report right) (c.reports_tell.ensures.true_units report all)

@@ -1,6 +1,0 @@
-use Rattle.law_flattening.specs.Flattening.{flatten}
-use Rattle.law_true_reports.proofs.Ready.{is-read, have-values}
-use Rattle.law_true_reports.proofs.laws.well_kinded_are_ready.Goals as goal
-
-pub returns : goal.returns
-returns c = λ text well. let kinds = c.flattened_texts_are_kinded.ensures text well in (is-read (flatten text) kinds, have-values (flatten text) kinds)

@@ -1,7 +1,0 @@
-use Rattle.law_flattening.proofs.TypeNumbers.{types-of-text}
-use Rattle.law_flattening.proofs.SameClaims.{claims-of-text}
-use Rattle.law_well_kinded.proofs.RightText.{well_kinded-right}
-use Rattle.law_well_kinded.proofs.laws.claims_are_the_same.Goals as goal
-
-pub returns : goal.returns
-returns c = λ text h sizes s t states. claims-of-text text sizes s t states (types-of-text text h.3 sizes) (well_kinded-right text h)

@@ -1,5 +1,0 @@
-use Rattle.law_well_kinded.proofs.RightText.{right-text}
-use Rattle.law_well_kinded.proofs.laws.expressions_are_right.Goals as goal
-
-pub returns : goal.returns
-returns c = λ text written names kinds. right-text text written names kinds

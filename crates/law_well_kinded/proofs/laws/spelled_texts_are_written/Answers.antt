@@ -1,5 +1,0 @@
-use Rattle.law_well_kinded.proofs.WrittenRules.{spelled-written}
-use Rattle.law_well_kinded.proofs.laws.spelled_texts_are_written.Goals as goal
-
-pub returns : goal.returns
-returns c = λ n tokens text spelled. spelled-written n tokens text spelled

@@ -1,4 +1,0 @@
-pub mod Deep
-pub mod Written
-pub mod WellKinded
-pub mod LeftSides

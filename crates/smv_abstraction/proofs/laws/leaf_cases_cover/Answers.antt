@@ -1,5 +1,0 @@
-use Rattle.smv_abstraction.proofs.CoverLeaf.{leaf_cases_cover}
-use Rattle.smv_abstraction.proofs.laws.leaf_cases_cover.Goals as goal
-
-pub returns : goal.returns
-returns c n apart sized params indexed keeps values typed = leaf_cases_cover n apart sized params indexed keeps values typed

@@ -1,5 +1,0 @@
-use Rattle.smv_abstraction.proofs.ScopesKeep.{outcome_alike}
-use Rattle.smv_abstraction.proofs.laws.outcomes_keep_scopes.Goals as goal
-
-pub returns : goal.returns
-returns c n s e scope b d reads long alike = outcome_alike n s e scope b d (record { long = long; alike = alike }) reads

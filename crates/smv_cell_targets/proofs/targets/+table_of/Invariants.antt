@@ -1,5 +1,0 @@
-use Rattle.std.proofs.Common.{length}
-use Rattle.smv_cell_targets.proofs.targets.+table_of.Given as goal
-
-abbrev pub decreases-table_of : goal.decreases-table_of
-decreases-table_of g l = length l.spots.now

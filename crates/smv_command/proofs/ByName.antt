@@ -1,0 +1,62 @@
+-- What the name of a subcommand says of its command.
+use Rattle.std.proofs.Common.{◌≡◌, ◌∙◌, List, ap, codes, Some, None, is_some, refl, subst, sym, true, false}
+use Rattle.std.specs.Str.{bytes_eq}
+use Rattle.std.proofs.lemmas.Slice.Eq.{bytes_eq-Decides}
+use Rattle.std.specs.Prelude.{option_map}
+use Rattle.clap.specs.Walk.{Row, Text}
+use Rattle.smv_command.specs.declared.commands.Command.TheVariants.{Prove, Only, Print, Generated}
+use Rattle.smv_command.specs.Ranges.{most_copies}
+use Rattle.smv_command.specs.Commands.{both, budgets_in, name_in, named, number_in}
+use Rattle.smv_command.proofs.Values.{both_some, map_some}
+
+pub prove_is : (rows : List Row) → named (codes "prove") rows ≡ option_map Prove (budgets_in rows)
+unfolding named
+prove_is rows = refl
+
+pub only_is : (rows : List Row) → named (codes "only") rows ≡ option_map (λ p. Only p.0 p.1) (both (name_in rows) (budgets_in rows))
+unfolding named
+only_is rows = refl
+
+pub print_is : (rows : List Row) → named (codes "print") rows ≡ Some Print
+unfolding named
+print_is rows = refl
+
+pub generated_is : (rows : List Row) → named (codes "generated") rows ≡ option_map Generated (number_in most_copies (codes "N") rows)
+unfolding named
+generated_is rows = refl
+
+pub no_name : (word : Text) (rows : List Row) → bytes_eq word (codes "prove") ≡ false → bytes_eq word (codes "only") ≡ false → bytes_eq word (codes "print") ≡ false
+    → bytes_eq word (codes "generated") ≡ false → named word rows ≡ None
+unfolding named
+no_name word rows t1 t2 t3 t4 = rw (t1, t2, t3, t4) refl
+
+-- ---- the same at a word that is the name
+
+at_word : (word w : Text) (rows : List Row) → bytes_eq word w ≡ true → named word rows ≡ named w rows
+at_word word w rows e = subst (λ (u : Text). named word rows ≡ named u rows) ((bytes_eq-Decides word w).0 e) refl
+
+pub at_prove : (word : Text) (rows : List Row) → bytes_eq word (codes "prove") ≡ true → named word rows ≡ option_map Prove (budgets_in rows)
+at_prove word rows e = at_word word (codes "prove") rows e ∙ prove_is rows
+
+pub at_only : (word : Text) (rows : List Row) → bytes_eq word (codes "only") ≡ true → named word rows ≡ option_map (λ p. Only p.0 p.1) (both (name_in rows) (budgets_in rows))
+at_only word rows e = at_word word (codes "only") rows e ∙ only_is rows
+
+pub at_print : (word : Text) (rows : List Row) → bytes_eq word (codes "print") ≡ true → named word rows ≡ Some Print
+at_print word rows e = at_word word (codes "print") rows e ∙ print_is rows
+
+pub at_generated : (word : Text) (rows : List Row) → bytes_eq word (codes "generated") ≡ true → named word rows ≡ option_map Generated (number_in most_copies (codes "N") rows)
+at_generated word rows e = at_word word (codes "generated") rows e ∙ generated_is rows
+
+-- ---- what a named command was given
+
+pub given_to_prove : (word : Text) (rows : List Row) → bytes_eq word (codes "prove") ≡ true → is_some (named word rows) ≡ true → is_some (budgets_in rows) ≡ true
+given_to_prove word rows e there = map_some Prove (budgets_in rows) (ap is_some (sym (at_prove word rows e)) ∙ there)
+
+pub given_to_only : (word : Text) (rows : List Row) → bytes_eq word (codes "only") ≡ true → is_some (named word rows) ≡ true
+    → (is_some (name_in rows) ≡ true) × (is_some (budgets_in rows) ≡ true)
+given_to_only word rows e there =
+    both_some (name_in rows) (budgets_in rows) (map_some (λ p. Only p.0 p.1) (both (name_in rows) (budgets_in rows)) (ap is_some (sym (at_only word rows e)) ∙ there))
+
+pub given_to_generated : (word : Text) (rows : List Row) → bytes_eq word (codes "generated") ≡ true → is_some (named word rows) ≡ true
+    → is_some (number_in most_copies (codes "N") rows) ≡ true
+given_to_generated word rows e there = map_some Generated (number_in most_copies (codes "N") rows) (ap is_some (sym (at_generated word rows e)) ∙ there)

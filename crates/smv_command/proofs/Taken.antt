@@ -1,0 +1,108 @@
+-- What the matches of words that are taken have, subcommand by subcommand.
+use Rattle.std.proofs.Common.{◌≡◌, ◌∙◌, ◌||◌, Bool, true, false, not, List, [], ◌∷◌, Option, inl, inr, refl, sym, ap, arith, subst, is_some, codes, true≢false, pos}
+use Rattle.std.specs.Prelude.{option_and_then}
+use Rattle.clap.specs.Walk.{Row, Rule, Text, nothing_held, rows_after, settled, walk, with_default}
+use Rattle.clap.specs.Simple.{Shape, built, built_leaf, filled, inherited, marked_built, subcommand_of, with_index, with_leaf_noted}
+use Rattle.clap.specs.Faults.{fault_of, level_fault}
+use Rattle.clap.specs.declared.builder.value_parser.ValueParser.TheVariants.{Signed}
+use Rattle.clap.proofs.ValueTestLemmas.{accepts-Accepts}
+use Rattle.smv_command.specs.Ranges.{most_nodes, most_steps, most_copies}
+use Rattle.smv_command.specs.CommandLine as line
+use Rattle.smv_command.specs.Commands.{budgets_in, name_in, named, number_in}
+use Rattle.smv_command.specs.declared.commands.Command.TheVariants.{Prove, Only, Generated}
+use Rattle.smv_command.proofs.Rows.{AllFit, Among, EachKnown, HasValue, IsKnown, are_known, built_entered, has_default, has_given, kept_by_default, level_is, value_of}
+use Rattle.smv_command.proofs.Values.{both_given, map_given, number_given}
+use Rattle.smv_command.proofs.ByName.{prove_is, only_is, print_is, generated_is}
+
+-- the subcommands as a parse sees them, once the command is built
+abbrev above : Shape
+above = with_leaf_noted (marked_built line.smv.top)
+
+abbrev seen : Shape → Shape
+seen s = built_leaf (inherited above s)
+
+abbrev nodes : Rule
+nodes = filled line.nodes
+
+abbrev steps : Rule
+steps = filled line.steps
+
+abbrev name : Rule
+name = with_index 1 (filled line.name)
+
+abbrev copies : Rule
+copies = with_index 1 (filled line.copies)
+
+abbrev budgets : List Rule
+budgets = nodes ∷ steps ∷ []
+
+each_of_budgets : EachKnown budgets budgets
+each_of_budgets = (record { by_id = refl; valued = refl }, (record { by_id = refl; valued = refl }, tt))
+
+each_of_only : EachKnown (name ∷ budgets) (name ∷ budgets)
+each_of_only = (record { by_id = refl; valued = refl }, (record { by_id = refl; valued = refl }, (record { by_id = refl; valued = refl }, tt)))
+
+each_of_generated : EachKnown (copies ∷ []) (copies ∷ [])
+each_of_generated = (record { by_id = refl; valued = refl }, tt)
+
+nodes_given : (rows : List Row) → HasValue nodes rows → is_some (number_in most_nodes (codes "nodes") rows) ≡ true
+nodes_given rows v = number_given most_nodes (codes "nodes") rows v.written (omega arith) v.one (accepts-Accepts false (Signed (pos 1) (pos most_nodes)) v.written v.passing)
+
+steps_given : (rows : List Row) → HasValue steps rows → is_some (number_in most_steps (codes "steps") rows) ≡ true
+steps_given rows v = number_given most_steps (codes "steps") rows v.written (omega arith) v.one (accepts-Accepts false (Signed (pos 1) (pos most_steps)) v.written v.passing)
+
+copies_given : (rows : List Row) → HasValue copies rows → is_some (number_in most_copies (codes "N") rows) ≡ true
+copies_given rows v = number_given most_copies (codes "N") rows v.written (omega arith) v.one (accepts-Accepts false (Signed (pos 1) (pos most_copies)) v.written v.passing)
+
+budgets_given : (c : List Rule) (rows : List Row) → IsKnown c nodes → IsKnown c steps → AllFit c (with_default (with_default rows nodes) steps)
+    → is_some (budgets_in (with_default (with_default rows nodes) steps)) ≡ true
+budgets_given c rows known_nodes known_steps fits =
+    let end = with_default (with_default rows nodes) steps in
+    both_given (λ p. record { nodes = p.0; steps = p.1 }) (number_in most_nodes (codes "nodes") end) (number_in most_steps (codes "steps") end)
+    (nodes_given end (value_of c nodes end known_nodes fits (kept_by_default (codes "nodes") (with_default rows nodes) steps (has_default rows nodes (codes "1000000") [] refl))))
+    (steps_given end (value_of c steps end known_steps fits (has_default (with_default rows nodes) steps (codes "1000") [] refl)))
+
+-- the test that nothing required is absent
+absent : (g x : Bool) → (not g || x) ≡ false → (g ≡ true) × (x ≡ false)
+absent true x e = (refl, e)
+absent false x e = absurd (true≢false e)
+
+-- what a subcommand's level without a fault gives
+abbrev Gives : List Text → Shape → Type 0
+Gives rest s = level_fault s [] nothing_held rest false [] ≡ [] → is_some (named s.name (rows_after s.rules [] rest)) ≡ true
+
+prove_given : (rest : List Text) → Gives rest (seen line.prove)
+prove_given rest e =
+    let level = level_is (seen line.prove) [] rest false [] (are_known budgets each_of_budgets) each_of_budgets e in
+    ap is_some (prove_is (rows_after budgets [] rest)) ∙ map_given Prove (budgets_in (rows_after budgets [] rest))
+    (budgets_given budgets (settled budgets (walk budgets [] nothing_held rest).held).rows each_of_budgets.0 each_of_budgets.1.0 level.fits)
+
+only_given : (rest : List Text) → Gives rest (seen line.only)
+only_given rest e =
+    let c = name ∷ budgets in
+    let rows = rows_after c [] rest in
+    let level = level_is (seen line.only) [] rest false [] (are_known c each_of_only) each_of_only e in
+    let named = value_of c name rows each_of_only.0 level.fits (has_given (codes "NAME") rows (absent _ _ level.given).0) in
+    ap is_some (only_is rows) ∙ both_given (λ p. Only p.0 p.1) (name_in rows) (budgets_in rows) (ap is_some named.first)
+    (budgets_given c (with_default (settled c (walk c [] nothing_held rest).held).rows name) each_of_only.1.0 each_of_only.1.1.0 level.fits)
+
+generated_given : (rest : List Text) → Gives rest (seen line.generated)
+generated_given rest e =
+    let c = copies ∷ [] in
+    let rows = rows_after c [] rest in
+    let level = level_is (seen line.generated) [] rest false [] (are_known c each_of_generated) each_of_generated e in
+    let given = value_of c copies rows each_of_generated.0 level.fits (has_given (codes "N") rows (absent _ _ level.given).0) in
+    ap is_some (generated_is rows) ∙ map_given Generated (number_in most_copies (codes "N") rows) (copies_given rows given)
+
+among_gives : (s : Shape) (rest : List Text) → Among s (built line.smv).subs → Gives rest s
+among_gives s rest (inl is) = subst (Gives rest) (sym is) (prove_given rest)
+among_gives s rest (inr (inl is)) = subst (Gives rest) (sym is) (only_given rest)
+among_gives s rest (inr (inr (inl is))) = subst (Gives rest) (sym is) (λ e. ap is_some (print_is (rows_after [] [] rest)))
+among_gives s rest (inr (inr (inr (inl is)))) = subst (Gives rest) (sym is) (generated_given rest)
+among_gives s rest (inr (inr (inr (inr never)))) = absurd never
+
+-- words without a fault name a command
+pub taken_named : (words : List Text) → fault_of line.smv words ≡ [] → is_some (option_and_then (λ found. named found.0 found.1) (subcommand_of line.smv words)) ≡ true
+taken_named words e =
+    let entered = built_entered (built line.smv) words tt refl e in
+    ap (λ (o : Option (Text × List Row)). is_some (option_and_then (λ found. named found.0 found.1) o)) entered.is ∙ among_gives entered.shape entered.rest entered.among entered.fault

@@ -1,0 +1,24 @@
+-- Subcommand by subcommand, what a parse reads of the command that was built so far.
+use Rattle.std.proofs.Common.{◌∙◌, ◌≡◌, List, [], ◌∷◌, ap, ap₂, false}
+use Rattle.std.proofs.lemmas.Result.{IfOk-weaker}
+use Rattle.clap.specs.Simple.{App, Shape, app_of, with_subcommand}
+use Rattle.smv_command.specs.CommandLine as line
+use Rattle.smv_command.proofs.command_line.smv.Goals as goal
+
+-- the command with the subcommands so far
+abbrev so_far : List Shape → App
+so_far subs = record { top = record line.bare { is_leaf = false }; subs = subs }
+
+abbrev top_of : App → Shape
+top_of a = a.top
+
+pub returns : goal.returns
+returns c =
+    let with_1 : app_of c.in_ok-subcommand.field-0 ≡ so_far (line.prove ∷ []) =
+    c.in_ok-subcommand.ensures.shape c.in_ok-prove.ensures.local ∙ ap₂ with_subcommand c.bare.ensures (ap top_of c.in_ok-prove.ensures.app) in
+    let with_2 : app_of c.in_ok-subcommand-2.field-0 ≡ so_far (line.prove ∷ line.only ∷ []) =
+    c.in_ok-subcommand-2.ensures.shape c.in_ok-only.ensures.local ∙ ap₂ with_subcommand with_1 (ap top_of c.in_ok-only.ensures.app) in
+    let with_3 : app_of c.in_ok-subcommand-3.field-0 ≡ so_far (line.prove ∷ line.only ∷ line.print ∷ []) =
+    c.in_ok-subcommand-3.ensures.shape c.new.ensures.local ∙ ap₂ with_subcommand with_2 (ap top_of c.new.ensures.app) in
+    IfOk-weaker c.subcommand-4.result _ _ (λ command added. added.shape c.in_ok-generated.ensures.local ∙ ap₂ with_subcommand with_3 (ap top_of c.in_ok-generated.ensures.app))
+    c.subcommand-4.ensures

@@ -1,0 +1,55 @@
+-- Branch by branch: the name says what the command is made of.
+use Rattle.std.proofs.Common.{◌∙◌, ap, ap₂, arith, codes, is_some, sym, true≢false}
+use Rattle.std.specs.Prelude.{option_map}
+use Rattle.clap.specs.Matches.{found_of}
+use Rattle.clap.specs.Walk.{rows_of}
+use Rattle.smv_command.specs.Ranges.{most_copies}
+use Rattle.smv_command.specs.declared.commands.Command.TheVariants.{Prove, Only, Generated}
+use Rattle.smv_command.specs.Commands.{both}
+use Rattle.smv_command.proofs.Values.{number_ranged}
+use Rattle.smv_command.proofs.ByName.{at_generated, at_only, at_print, at_prove, given_to_generated, given_to_only, given_to_prove, no_name}
+use Rattle.smv_command.proofs.words.named.Goals as goal
+
+pub budgets_in-budgets-requires : goal.budgets_in-budgets-requires
+budgets_in-budgets-requires c = given_to_prove c.args.word.now (rows_of (found_of c.args.matches.now)) (sym c.eq.ensures ∙ c.if-eq.true) c.requires
+
+pub returns-then-eq : goal.returns-then-eq
+returns-then-eq c = at_prove c.args.word.now (rows_of (found_of c.args.matches.now)) (sym c.eq.ensures ∙ c.if-eq.true) ∙ ap (option_map Prove) c.budgets_in-budgets.ensures
+
+pub text_in-requires : goal.text_in-requires
+text_in-requires c = (given_to_only c.args.word.now (rows_of (found_of c.args.matches.now)) (sym c.eq-else-eq.ensures ∙ c.if-eq-2.true) c.requires).0
+
+pub budgets_in-budgets-requires-then-eq-2 : goal.budgets_in-budgets-requires-then-eq-2
+budgets_in-budgets-requires-then-eq-2 c = (given_to_only c.args.word.now (rows_of (found_of c.args.matches.now)) (sym c.eq-else-eq.ensures ∙ c.if-eq-2.true) c.requires).1
+
+pub returns-in_ok-name : goal.returns-in_ok-name
+returns-in_ok-name c =
+    at_only c.args.word.now (rows_of (found_of c.args.matches.now)) (sym c.eq-else-eq.ensures ∙ c.if-eq-2.true)
+    ∙ ap₂ (λ x y. option_map (λ p. Only p.0 p.1) (both x y)) c.in_ok-name.ensures c.budgets_in-budgets-then-eq-2.ensures
+
+pub returns-then-eq-3 : goal.returns-then-eq-3
+returns-then-eq-3 c = at_print c.args.word.now (rows_of (found_of c.args.matches.now)) (sym c.eq-else-eq-2.ensures ∙ c.if-eq-3.true)
+
+pub number_in-copies-requires : goal.number_in-copies-requires
+number_in-copies-requires c =
+    (most_copies, omega arith, given_to_generated c.args.word.now (rows_of (found_of c.args.matches.now)) (sym c.eq-else-eq-3.ensures ∙ c.if-eq-4.true) c.requires)
+
+pub overflow_cast-copies : goal.overflow_cast-copies
+overflow_cast-copies c =
+    let rows = rows_of (found_of c.args.matches.now) in
+    let given = given_to_generated c.args.word.now rows (sym c.eq-else-eq-3.ensures ∙ c.if-eq-4.true) c.requires in
+    let range = number_ranged most_copies (codes "N") rows c.number_in-copies.result (c.number_in-copies.ensures most_copies given) in
+    omega (arith, range.1)
+
+pub returns-then-eq-4 : goal.returns-then-eq-4
+returns-then-eq-4 c =
+    let rows = rows_of (found_of c.args.matches.now) in
+    let is_generated = sym c.eq-else-eq-3.ensures ∙ c.if-eq-4.true in
+    at_generated c.args.word.now rows is_generated ∙ ap (option_map Generated) (c.number_in-copies.ensures most_copies (given_to_generated c.args.word.now rows is_generated c.requires))
+
+pub unreachable-requires : goal.unreachable-requires
+unreachable-requires c =
+    let none =
+    no_name c.args.word.now (rows_of (found_of c.args.matches.now)) (sym c.eq.ensures ∙ c.if-eq.false) (sym c.eq-else-eq.ensures ∙ c.if-eq-2.false) (sym c.eq-else-eq-2.ensures ∙ c.if-eq-3.false)
+    (sym c.eq-else-eq-3.ensures ∙ c.if-eq-4.false) in
+    true≢false (sym (ap is_some (sym none) ∙ c.requires))

@@ -1,0 +1,79 @@
+use Rattle.std.proofs.Common.{◌≡◌, ◌≤◌, ℕ, Bool, List, [], ◌∷◌, Option, Some, None, codes, refl, subst, true, false}
+use Rattle.std.specs.Prelude.{if◌then◌else◌, option_and_then, option_map}
+use Rattle.std.specs.Str.{bytes_eq}
+use Rattle.clap.specs.Kinds.{Kinds}
+use Rattle.clap.specs.Walk.{Row, Text}
+use Rattle.clap.specs.Simple.{subcommand_of}
+use Rattle.clap.specs.Faults.{fault_of}
+use Rattle.smv_command.specs.CommandLine.{smv}
+use Rattle.smv_command.specs.Commands.{both, budgets_in, command_of, where_faultless, name_in, named, number_in}
+use Rattle.smv_command.specs.Ranges.{AreInRange, IsInRange, most_nodes, most_steps, most_copies}
+use Rattle.smv_problem.specs.declared.report.Budgets.{Budgets}
+use Rattle.smv_command.specs.declared.commands.Command.{Command}
+use Rattle.smv_command.specs.declared.commands.Command.TheVariants.{Prove, Only, Generated}
+use Rattle.smv_command.proofs.Values.{number_ranged}
+use Rattle.smv_command.proofs.words_laws.numbers_are_in_range.Goals as goal
+
+-- a command in its range, where there is one
+abbrev InRange : Option Command → Type 0
+InRange None = Unit {0}
+InRange (Some command) = IsInRange command
+
+-- each of these budgets is in range
+abbrev BothInRange : Option Budgets → Type 0
+BothInRange None = Unit {0}
+BothInRange (Some budgets) = AreInRange budgets
+
+budgets_ranged : (rows : List Row) → BothInRange (budgets_in rows)
+budgets_ranged rows = go (number_in most_nodes (codes "nodes") rows) (number_in most_steps (codes "steps") rows) (number_ranged most_nodes (codes "nodes") rows) (number_ranged most_steps (codes "steps") rows)
+  where
+    go : (x y : Option ℕ) → ((n : ℕ) → x ≡ Some n → (1 ≤ n) × (n ≤ most_nodes)) → ((n : ℕ) → y ≡ Some n → (1 ≤ n) × (n ≤ most_steps))
+        → BothInRange (option_map (λ p. record { nodes = p.0; steps = p.1 }) (both x y))
+    go None y p q = tt
+    go (Some n) None p q = tt
+    go (Some n) (Some m) p q =
+        let a = p n refl in
+        let b = q m refl in
+        record { some_nodes = a.0; few_nodes = a.1; some_steps = b.0; few_steps = b.1 }
+
+plain : (f : Budgets → Command) (o : Option Budgets) → ((b : Budgets) → AreInRange b → IsInRange (f b)) → BothInRange o → InRange (option_map f o)
+plain f None same r = tt
+plain f (Some b) same r = same b r
+
+behind : {A : Type 0} (f : A × Budgets → Command) (x : Option A) (o : Option Budgets) → ((a : A) (b : Budgets) → AreInRange b → IsInRange (f (a, b))) → BothInRange o
+    → InRange (option_map f (both x o))
+behind f None o same r = tt
+behind f (Some a) None same r = tt
+behind f (Some a) (Some b) same r = same a b r
+
+copies_ranged : (rows : List Row) → InRange (option_map Generated (number_in most_copies (codes "N") rows))
+copies_ranged rows = go (number_in most_copies (codes "N") rows) (number_ranged most_copies (codes "N") rows)
+  where
+    go : (x : Option ℕ) → ((n : ℕ) → x ≡ Some n → (1 ≤ n) × (n ≤ most_copies)) → InRange (option_map Generated x)
+    go None p = tt
+    go (Some n) p = p n refl
+
+chosen : (b : Bool) (x y : Option Command) → InRange x → InRange y → InRange (if b then x else y)
+chosen true x y p q = p
+chosen false x y p q = q
+
+named_ranged : (word : Text) (rows : List Row) → InRange (named word rows)
+unfolding named
+named_ranged word rows =
+    let r = budgets_ranged rows in
+    chosen (bytes_eq word (codes "prove")) _ _ (plain Prove (budgets_in rows) (λ b p. p) r)
+    (chosen (bytes_eq word (codes "only")) _ _ (behind (λ p. Only p.0 p.1) (name_in rows) (budgets_in rows) (λ a b p. p) r)
+    (chosen (bytes_eq word (codes "print")) _ _ tt
+    (chosen (bytes_eq word (codes "generated")) _ _ (copies_ranged rows) tt)))
+
+words_ranged : (words : List Text) → InRange (command_of words)
+unfolding command_of
+words_ranged words = go (fault_of smv words) (subcommand_of smv words)
+  where
+    go : (ks : Kinds) (o : Option (Text × List Row)) → InRange (where_faultless ks (option_and_then (λ found. named found.0 found.1) o))
+    go (k ∷ ks) o = tt
+    go [] None = tt
+    go [] (Some found) = named_ranged found.0 found.1
+
+pub returns : goal.returns
+returns c words command e = subst InRange e (words_ranged words)

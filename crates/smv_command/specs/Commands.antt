@@ -1,0 +1,55 @@
+-- The command that words are: what a reader has to believe, beside `CommandLine` and clap's definition of a simple command.
+use Rattle.std.specs.Prelude.{◌≡◌, ℕ, List, [], ◌∷◌, codes, Option, Some, None, option_map, option_and_then, if◌then◌else◌}
+use Rattle.std.specs.Str.{bytes_eq}
+use Rattle.std.specs.Str.Parse.{digits_value, without_leading_plus}
+use Rattle.clap.specs.Kinds.{Kinds}
+use Rattle.clap.specs.ValueTests.{is_unsigned_in}
+use Rattle.clap.specs.Walk.{Row, Text, first_of, one_of}
+use Rattle.clap.specs.Simple.{subcommand_of}
+use Rattle.clap.specs.Faults.{fault_of}
+use Rattle.smv_problem.specs.declared.report.Budgets.{Budgets}
+use Rattle.smv_command.specs.declared.commands.Command.{Command}
+use Rattle.smv_command.specs.declared.commands.Command.TheVariants.{Prove, Only, Print, Generated}
+use Rattle.smv_command.specs.Ranges.{most_nodes, most_steps, most_copies}
+use Rattle.smv_command.specs.CommandLine.{smv}
+
+-- two values, where both are there
+abbrev pub both : {A B : Type 0} → Option A → Option B → Option (A × B)
+both (Some a) (Some b) = Some (a, b)
+both _ _ = None
+
+-- the number from 1 to `most` that a text spells: digits, maybe behind a `+`
+abbrev pub number : ℕ → Text → Option ℕ
+number most text = if is_unsigned_in 1 most text then Some (digits_value 10 (without_leading_plus text)) else None
+
+-- the number of an argument, among the values that a subcommand was given
+abbrev pub number_in : ℕ → Text → List Row → Option ℕ
+number_in most id rows = option_and_then (number most) (one_of id rows)
+
+abbrev pub budgets_in : List Row → Option Budgets
+budgets_in rows = option_map (λ p. record { nodes = p.0; steps = p.1 }) (both (number_in most_nodes (codes "nodes") rows) (number_in most_steps (codes "steps") rows))
+
+abbrev pub name_in : List Row → Option Text
+name_in rows = first_of (codes "NAME") rows
+
+-- the command of a subcommand's name and values
+unfoldable pub named : Text → List Row → Option Command
+named word rows =
+    if bytes_eq word (codes "prove") then option_map Prove (budgets_in rows)
+    else (if bytes_eq word (codes "only") then option_map (λ p. Only p.0 p.1) (both (name_in rows) (budgets_in rows))
+    else (if bytes_eq word (codes "print") then Some Print
+    else (if bytes_eq word (codes "generated") then option_map Generated (number_in most_copies (codes "N") rows)
+    else None)))
+
+-- the words are taken: clap finds no fault in them, and so gives matches
+abbrev pub AreTaken : List Text → Type 0
+AreTaken words = fault_of smv words ≡ []
+
+-- a value, where there is no fault
+abbrev pub where_faultless : {X : Type 0} → Kinds → Option X → Option X
+where_faultless [] found = found
+where_faultless (k ∷ ks) found = None
+
+-- the command that the words are: that of the subcommand that clap finds in them
+unfoldable pub command_of : List Text → Option Command
+command_of words = where_faultless (fault_of smv words) (option_and_then (λ found. named found.0 found.1) (subcommand_of smv words))

@@ -1,0 +1,97 @@
+// The command that the words of a command line are, read by clap.
+ghost use Rattle.std.specs.Prelude.{◌≡◌, ◌≤◌, ℕ, Some, is_some, map, option_and_then, true, IfOk};
+ghost use Rattle.std.specs.String.{string_bytes};
+ghost use Rattle.clap.specs.Matches.{found_of};
+ghost use Rattle.clap.specs.Walk.{first_of, rows_of};
+ghost use Rattle.clap.specs.Simple.{subcommand_rows_of};
+ghost use Rattle.smv_command.specs.Commands.{budgets_in, command_of, named, number_in};
+
+use crate::Command;
+use crate::command_line::smv;
+use clap::ArgMatches;
+use clap::error::ErrorKind;
+use smv_core::Name;
+use smv_problem::Budgets;
+use std::alloc::{AllocError, Global};
+
+/// The command that the words are, or none where clap gives no matches. The words are those behind the program's name.
+pub fn command_of(alloc: Global, words: &[String]) -> Result<Option<Command>, AllocError>
+    ensures { IfOk result (λ found. found ≡ command_of (map string_bytes words.now)) }
+{
+    match smv(alloc)?.try_get_matches_from(words) {
+        Ok(matches) => Ok(Some(command_in(alloc, &matches)?)),
+        Err(error) => {
+            if error.kind() == ErrorKind::OutOfMemory {
+                Err(AllocError)
+            } else {
+                Ok(None)
+            }
+        }
+    }
+}
+
+// The command that the matches name.
+fn command_in(alloc: Global, matches: &ArgMatches<'_>) -> Result<Command, AllocError>
+    requires { is_some (option_and_then (λ found. named found.0 found.1) (subcommand_rows_of matches.now)) ≡ true }
+    ensures { IfOk result (λ command. option_and_then (λ found. named found.0 found.1) (subcommand_rows_of matches.now) ≡ Some command) }
+{
+    match matches.subcommand() {
+        Some((word, inner)) => named(alloc, word, inner),
+        None => unreachable!(),
+    }
+}
+
+// The command of this name, with the values of its matches.
+fn named(alloc: Global, word: &str, matches: &ArgMatches<'_>) -> Result<Command, AllocError>
+    requires { is_some (named word.now (rows_of (found_of matches.now))) ≡ true }
+    ensures { IfOk result (λ command. named word.now (rows_of (found_of matches.now)) ≡ Some command) }
+{
+    if word == "prove" {
+        let budgets = budgets_in(matches);
+        Ok(Command::Prove { budgets })
+    } else if word == "only" {
+        let name = text_in(alloc, matches, "NAME")?;
+        let budgets = budgets_in(matches);
+        Ok(Command::Only { name, budgets })
+    } else if word == "print" {
+        Ok(Command::Print)
+    } else if word == "generated" {
+        let copies = number_in(matches, "N") as u16;
+        Ok(Command::Generated { copies })
+    } else {
+        unreachable!()
+    }
+}
+
+// The two budgets of a command.
+fn budgets_in(matches: &ArgMatches<'_>) -> Budgets
+    requires { is_some (budgets_in (rows_of (found_of matches.now))) ≡ true }
+    ensures { budgets_in (rows_of (found_of matches.now)) ≡ Some result }
+{
+    Budgets {
+        nodes: number_in(matches, "nodes"),
+        steps: number_in(matches, "steps"),
+    }
+}
+
+// The number of an argument.
+fn number_in(matches: &ArgMatches<'_>, id: &str) -> u32
+    requires { (most : ℕ) × (most ≤ 4294967295) × (is_some (number_in most id.now (rows_of (found_of matches.now))) ≡ true) }
+    ensures { (most : ℕ) → is_some (number_in most id.now (rows_of (found_of matches.now))) ≡ true → number_in most id.now (rows_of (found_of matches.now)) ≡ Some result }
+{
+    match matches.get_one::<u32>(id) {
+        Some(number) => number,
+        None => unreachable!(),
+    }
+}
+
+// The text of an argument.
+fn text_in(alloc: Global, matches: &ArgMatches<'_>, id: &str) -> Result<Name, AllocError>
+    requires { is_some (first_of id.now (rows_of (found_of matches.now))) ≡ true }
+    ensures { IfOk result (λ text. first_of id.now (rows_of (found_of matches.now)) ≡ Some text) }
+{
+    match matches.get_str(id) {
+        Some(text) => Ok(Name::from_vec(text.as_bytes().to_vec(alloc)?)),
+        None => unreachable!(),
+    }
+}

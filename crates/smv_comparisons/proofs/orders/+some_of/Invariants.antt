@@ -1,5 +1,0 @@
-use Rattle.std.proofs.Common.{length}
-use Rattle.smv_comparisons.proofs.orders.+some_of.Given as goal
-
-abbrev pub decreases-some_of : goal.decreases-some_of
-decreases-some_of g l = length l.offers.now

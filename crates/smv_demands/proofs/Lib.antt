@@ -1,3 +1,0 @@
-pub mod GivenLaws
-pub mod StepLaws
-pub mod DemandLaws

@@ -1,5 +1,0 @@
-use Rattle.std.proofs.Common.{length}
-use Rattle.smv_demands.proofs.demands.+some_rest.Given as goal
-
-abbrev pub decreases-some_rest : goal.decreases-some_rest
-decreases-some_rest l = length l.indexes.now

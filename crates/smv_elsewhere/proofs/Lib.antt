@@ -1,3 +1,0 @@
-pub mod KnownLaws
-pub mod LeftLaws
-pub mod ElsewhereLaws

@@ -1,0 +1,111 @@
+use Rattle.std.proofs.Common.{List, sym, subst, false}
+use Rattle.bdd_store.specs.declared.Ref.{Ref}
+use Rattle.bdd_store.specs.Diagram.{Keeps, IsLive, table}
+use Rattle.bdd_codes.proofs.CodeLaws.{keeps_then}
+use Rattle.smv_cells.specs.declared.cells.Cell.{Cell}
+use Rattle.smv_cells.specs.Cells.{AreCellsMade}
+use Rattle.smv_cells.specs.Seen.{IsSeen}
+use Rattle.smv_encode.specs.Coded.{view_at}
+use Rattle.smv_encode.specs.Encoded.{AreCellsOf}
+use Rattle.smv_encode.proofs.Calls.{live_on, cells_on, vars_on}
+use Rattle.smv_encode.proofs.Adds.{live_kept}
+use Rattle.smv_encode.proofs.Whole.{later_list, later_one, lists_are, rel_is}
+use Rattle.smv_encode.proofs.lists.relations.Goals as goal
+
+pub now_first-requires-clause-vars : goal.now_first-requires-clause-vars
+now_first-requires-clause-vars c = vars_on c.args.problem.now c.args.store.now c.cells_of.new.store c.in_ok-cells.ensures.keeps c.requires.vars
+
+pub before_first-requires : goal.before_first-requires
+before_first-requires c = record { cells = live_on c.cells_of.new.store c.now_first.new.store c.in_ok-cells.cells c.in_ok-now_first.ensures.keeps c.in_ok-cells.ensures.live }
+
+pub broken_first_by-requires : goal.broken_first_by-requires
+broken_first_by-requires c =
+    let k = keeps_then c.cells_of.new.store c.now_first.new.store c.before_first.new.store c.in_ok-now_first.ensures.keeps c.in_ok-before_first.ensures.keeps in
+    let live = live_on c.cells_of.new.store c.before_first.new.store c.in_ok-cells.cells k c.in_ok-cells.ensures.live in
+    record { live = subst (AreCellsMade (IsLive c.before_first.new.store)) (sym c.as_slice.ensures.value) live.current }
+
+pub now_step-requires-clause-vars : goal.now_step-requires-clause-vars
+now_step-requires-clause-vars c =
+    let k = keeps_then c.args.store.now c.cells_of.new.store c.now_first.new.store c.in_ok-cells.ensures.keeps c.in_ok-now_first.ensures.keeps in
+    let l = keeps_then c.args.store.now c.now_first.new.store c.before_first.new.store k c.in_ok-before_first.ensures.keeps in
+    let m = keeps_then c.args.store.now c.before_first.new.store c.broken_first_by.new.store l c.in_ok-broken_first.ensures.keeps in
+    vars_on c.args.problem.now c.args.store.now c.broken_first_by.new.store m c.requires.vars
+
+pub now_step-requires-clause-cells : goal.now_step-requires-clause-cells
+now_step-requires-clause-cells c =
+    let k = keeps_then c.cells_of.new.store c.now_first.new.store c.before_first.new.store c.in_ok-now_first.ensures.keeps c.in_ok-before_first.ensures.keeps in
+    let l = keeps_then c.cells_of.new.store c.before_first.new.store c.broken_first_by.new.store k c.in_ok-broken_first.ensures.keeps in
+    live_on c.cells_of.new.store c.broken_first_by.new.store c.in_ok-cells.cells l c.in_ok-cells.ensures.live
+
+pub before_step-requires : goal.before_step-requires
+before_step-requires c =
+    let k = keeps_then c.cells_of.new.store c.now_first.new.store c.before_first.new.store c.in_ok-now_first.ensures.keeps c.in_ok-before_first.ensures.keeps in
+    let l = keeps_then c.cells_of.new.store c.before_first.new.store c.broken_first_by.new.store k c.in_ok-broken_first.ensures.keeps in
+    let m = keeps_then c.cells_of.new.store c.broken_first_by.new.store c.now_step.new.store l c.in_ok-now_step.ensures.keeps in
+    record { cells = live_on c.cells_of.new.store c.now_step.new.store c.in_ok-cells.cells m c.in_ok-cells.ensures.live }
+
+pub broken_step_by-requires : goal.broken_step_by-requires
+broken_step_by-requires c =
+    let k = keeps_then c.cells_of.new.store c.now_first.new.store c.before_first.new.store c.in_ok-now_first.ensures.keeps c.in_ok-before_first.ensures.keeps in
+    let l = keeps_then c.cells_of.new.store c.before_first.new.store c.broken_first_by.new.store k c.in_ok-broken_first.ensures.keeps in
+    let m = keeps_then c.cells_of.new.store c.broken_first_by.new.store c.now_step.new.store l c.in_ok-now_step.ensures.keeps in
+    let n = keeps_then c.cells_of.new.store c.now_step.new.store c.before_step.new.store m c.in_ok-before_step.ensures.keeps in
+    record { live = live_on c.cells_of.new.store c.before_step.new.store c.in_ok-cells.cells n c.in_ok-cells.ensures.live }
+
+pub returns-clause-lists : goal.returns-clause-lists
+returns-clause-lists c = λ d is well.
+    let p = c.args.problem.now in
+    let cells = c.in_ok-cells.cells in
+    let live = c.in_ok-cells.ensures.live in
+    let s1 = c.cells_of.new.store in
+    let s2 = c.now_first.new.store in
+    let s3 = c.before_first.new.store in
+    let s4 = c.broken_first_by.new.store in
+    let s5 = c.now_step.new.store in
+    let s6 = c.before_step.new.store in
+    let s7 = c.broken_step_by.new.store in
+    let k2 : Keeps s1 s2 = c.in_ok-now_first.ensures.keeps in
+    let k3 : Keeps s1 s3 = keeps_then s1 s2 s3 k2 c.in_ok-before_first.ensures.keeps in
+    let k4 : Keeps s1 s4 = keeps_then s1 s3 s4 k3 c.in_ok-broken_first.ensures.keeps in
+    let k5 : Keeps s1 s5 = keeps_then s1 s4 s5 k4 c.in_ok-now_step.ensures.keeps in
+    let k6 : Keeps s1 s6 = keeps_then s1 s5 s6 k5 c.in_ok-before_step.ensures.keeps in
+    let l6 : Keeps s6 s7 = c.in_ok-broken_step.ensures.keeps in
+    let l5 : Keeps s5 s7 = keeps_then s5 s6 s7 c.in_ok-before_step.ensures.keeps l6 in
+    let l4 : Keeps s4 s7 = keeps_then s4 s5 s7 c.in_ok-now_step.ensures.keeps l5 in
+    let l3 : Keeps s3 s7 = keeps_then s3 s4 s7 c.in_ok-broken_first.ensures.keeps l4 in
+    let l2 : Keeps s2 s7 = keeps_then s2 s3 s7 c.in_ok-before_first.ensures.keeps l3 in
+    let are : AreCellsOf d s1 p cells = c.in_ok-cells.ensures.cells d is well in
+    let at : IsSeen table s3 p c.as_slice.result.now (view_at d false) = subst (λ (cs : List (Cell Ref)). IsSeen table s3 p cs (view_at d false)) (sym c.as_slice.ensures.value) (cells_on d s1 s3 p cells k3 live are).current in
+    lists_are d s7 _
+    (later_list s2 s7 c.in_ok-now_first.now_first.items _ l2 c.in_ok-now_first.ensures.live (c.in_ok-now_first.ensures.list d is well are))
+    (later_list s3 s7 c.in_ok-before_first.before_first.items _ l3 c.in_ok-before_first.ensures.live (c.in_ok-before_first.ensures.list d is well (cells_on d s1 s2 p cells k2 live are)))
+    (later_one s4 s7 c.in_ok-broken_first.broken_first _ l4 c.in_ok-broken_first.ensures.live (c.in_ok-broken_first.ensures.means d is well at))
+    (later_list s5 s7 c.in_ok-now_step.now_step.items _ l5 c.in_ok-now_step.ensures.live (c.in_ok-now_step.ensures.list d is well (cells_on d s1 s4 p cells k4 live are)))
+    (later_list s6 s7 c.in_ok-before_step.before_step.items _ l6 c.in_ok-before_step.ensures.live (c.in_ok-before_step.ensures.list d is well (cells_on d s1 s5 p cells k5 live are)))
+    (c.in_ok-broken_step.ensures.means d is well (cells_on d s1 s6 p cells k6 live are))
+    (c.state_bits-bits.ensures d is well)
+
+pub returns-clause-rel : goal.returns-clause-rel
+returns-clause-rel c =
+    let s0 = c.args.store.now in
+    let s1 = c.cells_of.new.store in
+    let s2 = c.now_first.new.store in
+    let s3 = c.before_first.new.store in
+    let s4 = c.broken_first_by.new.store in
+    let s5 = c.now_step.new.store in
+    let s6 = c.before_step.new.store in
+    let s7 = c.broken_step_by.new.store in
+    let l6 : Keeps s6 s7 = c.in_ok-broken_step.ensures.keeps in
+    let l5 : Keeps s5 s7 = keeps_then s5 s6 s7 c.in_ok-before_step.ensures.keeps l6 in
+    let l4 : Keeps s4 s7 = keeps_then s4 s5 s7 c.in_ok-now_step.ensures.keeps l5 in
+    let l3 : Keeps s3 s7 = keeps_then s3 s4 s7 c.in_ok-broken_first.ensures.keeps l4 in
+    let l2 : Keeps s2 s7 = keeps_then s2 s3 s7 c.in_ok-before_first.ensures.keeps l3 in
+    let l1 : Keeps s1 s7 = keeps_then s1 s2 s7 c.in_ok-now_first.ensures.keeps l2 in
+    let l0 : Keeps s0 s7 = keeps_then s0 s1 s7 c.in_ok-cells.ensures.keeps l1 in
+    rel_is s7 _ c.args.problem.now c.requires.well_formed (returns-clause-lists c) (vars_on c.args.problem.now s0 s7 l0 c.requires.vars)
+    (live_kept s2 s7 c.in_ok-now_first.now_first.items l2 c.in_ok-now_first.ensures.live)
+    (live_kept s3 s7 c.in_ok-before_first.before_first.items l3 c.in_ok-before_first.ensures.live)
+    (l4.live c.in_ok-broken_first.broken_first c.in_ok-broken_first.ensures.live)
+    (live_kept s5 s7 c.in_ok-now_step.now_step.items l5 c.in_ok-now_step.ensures.live)
+    (live_kept s6 s7 c.in_ok-before_step.before_step.items l6 c.in_ok-before_step.ensures.live)
+    c.in_ok-broken_step.ensures.live c.state_bits-bits.ensures

@@ -1,2 +1,0 @@
-mod GuardLaws
-mod LinkLaws

@@ -1,2 +1,0 @@
-pub mod ChosenDemands
-pub mod Parts

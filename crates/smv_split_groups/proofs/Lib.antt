@@ -1,3 +1,0 @@
-pub mod GroupLaws
-mod LedLaws
-mod LostLaws

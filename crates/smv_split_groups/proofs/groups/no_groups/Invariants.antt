@@ -1,6 +1,0 @@
-use Rattle.std.proofs.Common.{◌≡◌, [], replicate}
-use Rattle.graph_search.specs.Walks.{lists}
-use Rattle.smv_split_groups.proofs.groups.no_groups.Given as goal
-
-abbrev pub invariant-loop-place : goal.invariant-loop-place
-invariant-loop-place l = lists l.groups.items ≡ replicate l._place []

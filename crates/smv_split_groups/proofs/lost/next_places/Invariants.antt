@@ -1,7 +1,0 @@
-use Rattle.std.proofs.Common.{◌≡◌, ◌++◌, map, drop, length}
-use Rattle.smv_split_groups.specs.Groups.{next_place}
-use Rattle.smv_split_groups.proofs.lost.next_places.Given as goal
-
-abbrev pub invariant-loop-split : goal.invariant-loop-split
-invariant-loop-split l =
-    l.next.items ++ map (next_place l.tables.named (length l.tables.design.now.splits)) (drop l.split-index l.tables.design.now.splits) ≡ map (next_place l.tables.named (length l.tables.design.now.splits)) l.tables.design.now.splits

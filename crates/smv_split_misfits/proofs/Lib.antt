@@ -1,5 +1,0 @@
-mod KindLaws
-mod MisfitLaws
-mod RightLaws
-pub mod StandingLaws
-mod StrayLaws

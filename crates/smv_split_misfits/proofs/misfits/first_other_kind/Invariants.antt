@@ -1,9 +1,0 @@
-use Rattle.std.proofs.Common.{◌≡◌, drop}
-use Rattle.std.specs.List.{flat_map}
-use Rattle.smv_instances.specs.Scopes.{first_of_places}
-use Rattle.smv_scope.specs.ScopeFault.{least}
-use Rattle.smv_split_misfits.specs.Parts as parts
-use Rattle.smv_split_misfits.proofs.misfits.first_other_kind.Given as goal
-
-abbrev pub invariant-loop-pair : goal.invariant-loop-pair
-invariant-loop-pair l = first_of_places l.found (least (flat_map (parts.other_kind_in l.families l.bound) (drop l.pair-index l.pairs))) ≡ least (flat_map (parts.other_kind_in l.families l.bound) l.pairs)

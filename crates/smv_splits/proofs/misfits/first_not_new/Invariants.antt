@@ -1,0 +1,9 @@
+use Rattle.std.proofs.Common.{◌≡◌, drop}
+use Rattle.std.specs.List.{flat_map}
+use Rattle.smv_instances.specs.Scopes.{first_of_places}
+use Rattle.smv_scope.specs.ScopeFault.{least}
+use Rattle.smv_splits.specs.Parts as parts
+use Rattle.smv_splits.proofs.misfits.first_not_new.Given as goal
+
+abbrev pub invariant-loop-pair : goal.invariant-loop-pair
+invariant-loop-pair l = first_of_places l.found (least (flat_map (parts.not_new_in l.new) (drop l.pair-index l.pairs))) ≡ least (flat_map (parts.not_new_in l.new) l.pairs)

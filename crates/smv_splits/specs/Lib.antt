@@ -1,0 +1,5 @@
+pub mod Renaming
+pub mod Looked
+pub mod Parts
+pub mod Links
+pub mod Groups

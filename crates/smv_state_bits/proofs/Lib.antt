@@ -1,2 +1,0 @@
-pub mod Logarithms
-pub mod Counts

@@ -1,0 +1,8 @@
+use Rattle.smv_walks.proofs.DemandLaws.{element_given, old_kept}
+use Rattle.smv_walks.proofs.given.element_gives.Goals as goal
+
+pub returns-clause-is : goal.returns-clause-is
+returns-clause-is g c = element_given _ _ _ _ _ _ c.in_ok-target.ensures.keeps _ _ _ c.requires.old_made c.requires.cells_made _ _ _ _ _ _ _ _ c.in_ok-indexes.ensures c.in_ok-target.ensures.is c.in_ok-r.ensures.is
+
+pub target_gives-requires-clause-old_made : goal.target_gives-requires-clause-old_made
+target_gives-requires-clause-old_made g c = old_kept _ _ _ _ _ _ c.in_ok-target.ensures.keeps c.requires.old_made

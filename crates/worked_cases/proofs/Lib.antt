@@ -1,4 +1,0 @@
-pub mod WorkedTimes
-pub mod WorkedCases
-pub mod WorkedTypes
-pub mod WorkedDemands

@@ -1,8 +1,0 @@
-use Rattle.worked_cases.proofs.WorkedDemands as rows
-use Rattle.worked_cases.proofs.laws.worked_demands.Goals as goal
-
-pub returns-clause-itself : goal.returns-clause-itself
-returns-clause-itself c = rows.itself-demanded
-
-pub returns-clause-where_kept : goal.returns-clause-where_kept
-returns-clause-where_kept c = rows.where_kept-demanded

@@ -1,5 +1,0 @@
-pub mod Worked
-pub mod WorkedTimes
-pub mod WorkedCases
-pub mod WorkedTypes
-pub mod WorkedDemands

@@ -1,2 +1,0 @@
-mod Meets
-pub mod WorkedTexts

@@ -1,4 +1,0 @@
-pub mod Worked
-pub mod WorkedTexts
-pub mod Tomasulo
-pub mod Right

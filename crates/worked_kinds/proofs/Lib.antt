@@ -1,4 +1,0 @@
-pub mod Computing
-pub mod WorkedKinds
-pub mod WorkedPlaces
-pub mod Tomasulo

@@ -1,9 +1,0 @@
--- By computing what is found in the machine's text.
-use Rattle.std.proofs.Common.{refl}
-use Rattle.worked_kinds.specs.Worked.{AreFound}
-use Rattle.worked_kinds.specs.Tomasulo as w
-use Rattle.worked_kinds.proofs.Computing.{computing}
-
-pub rows : AreFound w.rows
-unfolding computing
-rows = refl

@@ -1,4 +1,0 @@
-pub mod Worked
-pub mod WorkedKinds
-pub mod WorkedPlaces
-pub mod Tomasulo

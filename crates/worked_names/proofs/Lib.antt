@@ -1,4 +1,0 @@
-pub mod Computing
-pub mod WorkedNames
-pub mod Tomasulo
-pub mod Limits

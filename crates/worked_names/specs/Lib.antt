@@ -1,4 +1,0 @@
-pub mod Worked
-pub mod WorkedNames
-pub mod Tomasulo
-pub mod Limits

@@ -1,8 +1,0 @@
--- By computing.
-use Rattle.std.proofs.Common.{refl}
-use Rattle.std.specs.Fmt.{digits}
-use Rattle.worked_report_lines.proofs.laws.worked_reports.Goals as goal
-
-pub returns : goal.returns
-unfolding digits
-returns c = record { empty = refl; proved = refl; unknown = (refl, refl); shown = refl; several = refl; generated = (refl, refl) }

@@ -1,4 +1,0 @@
-pub mod Computing
-pub mod WorkedFaults
-pub mod WorkedDesigns
-pub mod Conditions

@@ -1,8 +1,0 @@
-use Rattle.worked_single_assignment.proofs.Conditions.{small-whole, machine-whole}
-use Rattle.worked_single_assignment.proofs.laws.conditions_are_met.Goals as goal
-
-pub returns-clause-small : goal.returns-clause-small
-returns-clause-small c = small-whole
-
-pub returns-clause-tomasulo : goal.returns-clause-tomasulo
-returns-clause-tomasulo c = machine-whole

@@ -1,0 +1,13 @@
+-- How a worked text is stated: its bytes, or a flattened text, and whether that keeps the rules of kinds, ranges and sets.
+use Rattle.std.specs.Prelude.{ℕ, List, ◌≡◌, map, Some, Bool, option_map}
+use Rattle.smv_core.specs.declared.flat.Raw.{Raw}
+use Rattle.worked_texts.specs.FlatteningWorked.{flattened}
+use Rattle.law_designs.specs.FlatKinds.{is_kinded}
+
+-- the flattened text of each text has the answer that was worked out for it
+abbrev pub AreAnswered : List (List ℕ × Bool) → Type 0
+AreAnswered rows = map (λ (text, answer). option_map is_kinded (flattened text)) rows ≡ map (λ (text, answer). Some answer) rows
+
+-- so has each flattened text
+abbrev pub AreJudged : List (Raw × Bool) → Type 0
+AreJudged rows = map (λ (raw, answer). is_kinded raw) rows ≡ map (λ (raw, answer). answer) rows

@@ -1,0 +1,152 @@
+-- Worked words. The words of a row are written as one text, with a blank between two of them: so two blanks in a row, or one at an end, stand beside an empty word.
+use Rattle.std.specs.Prelude.{◌≡◌, ℕ, List, [], ◌∷◌, map, codes, Some, None, ◌==◌, if◌then◌else◌}
+use Rattle.clap.specs.Walk.{Text}
+use Rattle.smv_command.specs.declared.commands.Command.{Command}
+use Rattle.smv_command.specs.declared.commands.Command.TheVariants.{Prove, Only, Print, Generated}
+use Rattle.smv_command.specs.Commands.{command_of}
+
+abbrev pub in_first : ℕ → List Text → List Text
+in_first byte [] = (byte ∷ []) ∷ []
+in_first byte (word ∷ words) = (byte ∷ word) ∷ words
+
+-- the words of a text, between its blanks
+abbrev pub words_of : List ℕ → List Text
+words_of [] = [] ∷ []
+words_of (byte ∷ bytes) = if byte == 32 then [] ∷ words_of bytes else in_first byte (words_of bytes)
+
+abbrev pub AreNone : List Text → Type 0
+AreNone rows = map (λ row. command_of (words_of row)) rows ≡ map (λ row. None) rows
+
+abbrev pub AreCommands : List (Text × Command) → Type 0
+AreCommands rows = map (λ row. command_of (words_of row.0)) rows ≡ map (λ row. Some row.1) rows
+
+-- no command's name, or an argument that is missing or too many
+abbrev pub no_commands : List Text
+no_commands =
+    []
+    ∷ codes " prove"
+    ∷ codes "-- prove"
+    ∷ codes "--"
+    ∷ codes "Prove"
+    ∷ codes "prov"
+    ∷ codes "help"
+    ∷ codes "help prove"
+    ∷ codes "only"
+    ∷ codes "generated"
+    ∷ codes "prove p"
+    ∷ codes "prove "
+    ∷ codes "print p"
+    ∷ codes "only p q"
+    ∷ codes "generated 5 6"
+    ∷ []
+
+-- options that there are not, that have no value, or that stand twice
+abbrev pub other_options : List Text
+other_options =
+    codes "--help"
+    ∷ codes "-h"
+    ∷ codes "--version"
+    ∷ codes "-V"
+    ∷ codes "prove --help"
+    ∷ codes "prove -h"
+    ∷ codes "prove -- --"
+    ∷ codes "prove -- --nodes 5"
+    ∷ codes "prove --node 5"
+    ∷ codes "prove --NODES 5"
+    ∷ codes "prove -n 5"
+    ∷ codes "prove --nodes"
+    ∷ codes "prove --nodes="
+    ∷ codes "prove --nodes "
+    ∷ codes "prove --nodes --steps 5"
+    ∷ codes "prove --nodes 5 --steps"
+    ∷ codes "prove --nodes --"
+    ∷ codes "prove --nodes -- 5"
+    ∷ codes "prove --nodes 5 --nodes 5"
+    ∷ codes "prove --nodes 5 --nodes=5"
+    ∷ []
+
+-- numbers outside their range, or not spelled as such
+abbrev pub other_numbers : List Text
+other_numbers =
+    codes "prove --nodes 0"
+    ∷ codes "prove --nodes==5"
+    ∷ codes "prove --nodes -1"
+    ∷ codes "prove --nodes=-1"
+    ∷ codes "prove --nodes -0"
+    ∷ codes "prove --nodes=-0"
+    ∷ codes "prove --nodes ++5"
+    ∷ codes "prove --nodes 1_000"
+    ∷ codes "prove --nodes 0x10"
+    ∷ codes "prove --nodes 16777217"
+    ∷ codes "prove --nodes 4294967295"
+    ∷ codes "prove --nodes 4294967296"
+    ∷ codes "prove --nodes 18446744073709551616"
+    ∷ codes "prove --steps 0"
+    ∷ codes "prove --steps 100001"
+    ∷ codes "generated 0"
+    ∷ codes "generated 201"
+    ∷ []
+
+-- options before the command or of another one, and names that begin as options do
+abbrev pub other_places : List Text
+other_places =
+    codes "--nodes 5 prove"
+    ∷ codes "only -p"
+    ∷ codes "only --p"
+    ∷ codes "only --nodes p"
+    ∷ codes "print --nodes 5"
+    ∷ codes "generated --nodes 5 5"
+    ∷ []
+
+-- budgets, and their defaults
+abbrev pub budgets : List (Text × Command)
+budgets =
+    (codes "prove", Prove (record { nodes = 1000000; steps = 1000 }))
+    ∷ (codes "prove --", Prove (record { nodes = 1000000; steps = 1000 }))
+    ∷ (codes "prove --steps=8", Prove (record { nodes = 1000000; steps = 8 }))
+    ∷ (codes "prove --nodes=5", Prove (record { nodes = 5; steps = 1000 }))
+    ∷ (codes "prove --nodes 5", Prove (record { nodes = 5; steps = 1000 }))
+    ∷ (codes "prove --nodes +5", Prove (record { nodes = 5; steps = 1000 }))
+    ∷ (codes "prove --nodes=+5", Prove (record { nodes = 5; steps = 1000 }))
+    ∷ (codes "prove --nodes 05", Prove (record { nodes = 5; steps = 1000 }))
+    ∷ (codes "prove --nodes 000000000000000000000005", Prove (record { nodes = 5; steps = 1000 }))
+    ∷ (codes "prove --nodes 5 --", Prove (record { nodes = 5; steps = 1000 }))
+    ∷ (codes "prove --steps 6 --nodes 5", Prove (record { nodes = 5; steps = 6 }))
+    ∷ []
+
+-- the least and the most
+abbrev pub bounds : List (Text × Command)
+bounds =
+    (codes "prove --nodes 16777216", Prove (record { nodes = 16777216; steps = 1000 }))
+    ∷ (codes "prove --nodes 1", Prove (record { nodes = 1; steps = 1000 }))
+    ∷ (codes "prove --steps 100000", Prove (record { nodes = 1000000; steps = 100000 }))
+    ∷ (codes "generated 1", Generated 1)
+    ∷ (codes "generated 200", Generated 200)
+    ∷ (codes "generated +007", Generated 7)
+    ∷ []
+
+-- names: behind `--` any word is one
+abbrev pub names : List (Text × Command)
+names =
+    (codes "only p", Only (codes "p") (record { nodes = 1000000; steps = 1000 }))
+    ∷ (codes "only -- p", Only (codes "p") (record { nodes = 1000000; steps = 1000 }))
+    ∷ (codes "only p --", Only (codes "p") (record { nodes = 1000000; steps = 1000 }))
+    ∷ (codes "only -", Only (codes "-") (record { nodes = 1000000; steps = 1000 }))
+    ∷ (codes "only -- -p", Only (codes "-p") (record { nodes = 1000000; steps = 1000 }))
+    ∷ (codes "only -- --", Only (codes "--") (record { nodes = 1000000; steps = 1000 }))
+    ∷ (codes "only -- --nodes", Only (codes "--nodes") (record { nodes = 1000000; steps = 1000 }))
+    ∷ (codes "only ", Only [] (record { nodes = 1000000; steps = 1000 }))
+    ∷ (codes "only prove", Only (codes "prove") (record { nodes = 1000000; steps = 1000 }))
+    ∷ (codes "only help", Only (codes "help") (record { nodes = 1000000; steps = 1000 }))
+    ∷ (codes "only p --nodes 5", Only (codes "p") (record { nodes = 5; steps = 1000 }))
+    ∷ (codes "only --nodes 5 p", Only (codes "p") (record { nodes = 5; steps = 1000 }))
+    ∷ (codes "only --nodes=5 -- p", Only (codes "p") (record { nodes = 5; steps = 1000 }))
+    ∷ (codes "only --steps 7 p --nodes 5", Only (codes "p") (record { nodes = 5; steps = 7 }))
+    ∷ []
+
+-- a command that takes nothing
+abbrev pub plain : List (Text × Command)
+plain =
+    (codes "print", Print)
+    ∷ (codes "print --", Print)
+    ∷ []

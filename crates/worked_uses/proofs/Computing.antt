@@ -1,6 +1,0 @@
--- What a worked text computes with.
-use Rattle.worked_flattening.proofs.Computing as texts
-
-unfoldable pub computing : Unit {0}
-unfolding texts.computing Rattle.smv_core.specs.declared.flat.Flat.TheBlock.hidden-the_row-Flat-0 Rattle.smv_core.specs.declared.flat.Flat.TheBlock.shape-the_row-Flat-0 Rattle.smv_core.specs.declared.flat.Flat.TheBlock.hidden-the_row-Flat-1 Rattle.smv_core.specs.declared.flat.Flat.TheBlock.shape-the_row-Flat-1
-computing = tt

@@ -1,9 +1,0 @@
--- The definition computes at words that are written out.
-use Rattle.std.proofs.Common.{refl}
-use Rattle.clap.proofs.OnLiterals.{clap_on_literals}
-use Rattle.smv_words.specs.Commands.{command_of, named}
-use Rattle.worked_words.proofs.laws.worked_words.Goals as goal
-
-pub returns : goal.returns
-unfolding clap_on_literals command_of named
-returns c = record { nothing = refl; none = refl; options = refl; numbers = refl; places = refl; budgets = refl; bounds = refl; names = refl; plain = refl }
