@@ -1,3 +1,4 @@
 pub mod Dues
 pub mod Laws
 pub mod OneAnswer
+pub use Rattle.law_valid_texts.specs.Reports

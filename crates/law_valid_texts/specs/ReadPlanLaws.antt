@@ -8,7 +8,7 @@ use Rattle.smv_instances.specs.FirstFault.{first_of, or_else}
 use Rattle.law_obligations.specs.Checked.{IsChecked, IsProved}
 use Rattle.smv_uses.specs.Choices.{choices_of}
 use Rattle.smv_problem.specs.declared.report.Plan.{Plan}
-use Rattle.smv_plans.specs.Plans.{IsPlan}
+use Rattle.smv_front.specs.Plans.{IsPlan}
 use Rattle.smv_front.specs.TextFault.{text_fault}
 use Rattle.law_valid_texts.specs.Joined.{flat_design}
 use Rattle.law_valid_texts.specs.Plans.{IsPlanOf}

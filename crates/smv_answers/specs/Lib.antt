@@ -1,2 +1,3 @@
 pub use Rattle.law_answers.specs.Dues
 pub use Rattle.law_answers.specs.Laws
+pub use Rattle.law_answers.specs.Reports

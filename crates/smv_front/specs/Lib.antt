@@ -1,1 +1,2 @@
 pub mod TextFault
+pub use Rattle.smv_plans.specs.Plans

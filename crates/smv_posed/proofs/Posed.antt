@@ -9,8 +9,8 @@ use Rattle.law_obligations.specs.Sets.{Has, first, later}
 use Rattle.law_obligations.specs.LeafCases.{leaf_cases}
 use Rattle.smv_problem.specs.declared.report.Plan.{Plan}
 use Rattle.law_problems.specs.Parts.{IsCaseOf}
-use Rattle.law_valid_texts.specs.Rooms.{HasRoom, IsWholePlan}
-use Rattle.law_valid_texts.specs.ReadPlanLaws.{PlansOfValidTextsAreWhole}
+use Rattle.smv_plan_reports.specs.Rooms.{HasRoom, IsWholePlan}
+use Rattle.smv_read_design.specs.ReadPlanLaws.{PlansOfValidTextsAreWhole}
 use Rattle.smv_read_design.specs.Answers.{HasPlan}
 use Rattle.smv_plan_reports.specs.Leaves.{classes_in}
 use Rattle.smv_plan_reports.proofs.PlanLaws.{cases_are}

@@ -2,16 +2,15 @@
 
 ghost use Rattle.std.specs.Prelude.{◌<◌, IfOk, IfSome};
 ghost use Rattle.smv_problem.specs.WellFormed.{IsProblem};
-ghost use Rattle.law_valid_texts.specs.Rooms.{IsWholePlan};
+ghost use Rattle.smv_plan_reports.specs.Rooms.{IsWholePlan};
 
-use law_valid_texts::read_plans::plans_of_valid_texts_are_whole;
 use smv_cases::calls::cases;
 use smv_chosen_table::chosen_defs;
 use smv_core::Refusal;
 use smv_obligations::problem;
 use smv_plan_reports::units::numbers_of;
 use smv_problem::{Plan, Problem};
-use smv_read_design::read_design;
+use smv_read_design::{plans_of_valid_texts_are_whole, read_design};
 use std::alloc::Global;
 
 /// The plan of a text that is no longer than texts may be.

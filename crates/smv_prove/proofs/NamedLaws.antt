@@ -11,7 +11,7 @@ use Rattle.law_obligations.specs.Units.{units_of, script_of}
 use Rattle.law_reports.specs.Reports.{IsReportOf}
 use Rattle.smv_problem.specs.declared.report.Plan.{Plan}
 use Rattle.smv_problem.specs.declared.report.Report.{Report}
-use Rattle.law_valid_texts.specs.Reports.{named_from, unit_named, HasNoUnit, IsReportOfUnit, IsRightReport, IsUnitReport}
+use Rattle.smv_plan_reports.specs.Reports.{named_from, unit_named, HasNoUnit, IsReportOfUnit, IsRightReport, IsUnitReport}
 use Rattle.smv_prove.specs.Named.{is_named}
 use Rattle.smv_prove.specs.Ready.{IsReady}
 

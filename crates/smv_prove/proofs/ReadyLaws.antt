@@ -5,9 +5,9 @@ use Rattle.smv_core.specs.declared.tree.Text.{Text}
 use Rattle.law_obligations.specs.Units.{script_of}
 use Rattle.smv_problem.specs.declared.report.Plan.{Plan}
 use Rattle.smv_plans.specs.Plans.{IsPlan}
-use Rattle.law_valid_texts.specs.Joined.{flat_design}
-use Rattle.law_valid_texts.specs.Reports.{script_of_tree}
-use Rattle.law_valid_texts.specs.ReadPlanLaws.{PlansOfValidTextsAreWhole}
+use Rattle.smv_read_design.specs.Joined.{flat_design}
+use Rattle.smv_plan_reports.specs.Reports.{script_of_tree}
+use Rattle.smv_read_design.specs.ReadPlanLaws.{PlansOfValidTextsAreWhole}
 use Rattle.smv_read_design.specs.Answers.{HasPlan}
 use Rattle.smv_prove.specs.Ready.{IsReady}
 

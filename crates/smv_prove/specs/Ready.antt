@@ -3,8 +3,8 @@ use Rattle.std.specs.Prelude.{◌≡◌, ℕ, List}
 use Rattle.smv_core.specs.declared.tree.Text.{Text}
 use Rattle.law_obligations.specs.Units.{script_of}
 use Rattle.smv_problem.specs.declared.report.Plan.{Plan}
-use Rattle.law_valid_texts.specs.Reports.{IsValid, script_of_tree}
-use Rattle.law_valid_texts.specs.Rooms.{IsWholePlan}
+use Rattle.smv_plan_reports.specs.Reports.{IsValid, script_of_tree}
+use Rattle.smv_plan_reports.specs.Rooms.{IsWholePlan}
 
 -- the text is valid, the plan is as the calls that decide plans take it, and its script is that of the text
 pub record IsReady (text : List ℕ) (plan : Plan) : Type 0 where

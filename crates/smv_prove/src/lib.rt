@@ -6,7 +6,7 @@
 
 ghost use Rattle.std.specs.Prelude.{◌≡◌, ◌≤◌, true, IfOk, Some, None, length};
 ghost use Rattle.smv_read_design.specs.Dues.{IsFault, decides, limit};
-ghost use Rattle.law_valid_texts.specs.Reports.{IsRightReport, IsUnitReport, HasNoUnit};
+ghost use Rattle.smv_plan_reports.specs.Reports.{IsRightReport, IsUnitReport, HasNoUnit};
 ghost use Rattle.smv_command.specs.declared.commands.Command.{Command};
 ghost use Rattle.smv_problem.specs.declared.report.Report.{Report};
 ghost use Rattle.smv_lex.specs.Answers.{IfFault};
@@ -14,12 +14,11 @@ ghost use Rattle.smv_prove.specs.Ready.{IsReady};
 
 mod named;
 
-use law_valid_texts::read_plans::plans_of_valid_texts_are_whole;
 use named::place_named;
 use smv_core::Refusal;
 use smv_plan_reports::{prove_plan, prove_unit};
 use smv_problem::{Budgets, Plan, Report};
-use smv_read_design::read_design;
+use smv_read_design::{plans_of_valid_texts_are_whole, read_design};
 use std::alloc::Global;
 
 /// A report of all units of a text, in flat order, or the text's first fault.

@@ -14,7 +14,7 @@ use Rattle.law_splits.specs.Leaves.{leaves_of}
 use Rattle.smv_uses.proofs.There.{one_choice_each}
 use Rattle.smv_cases.specs.Faults.{Refuses}
 use Rattle.smv_problem.specs.declared.report.Plan.{Plan}
-use Rattle.smv_plans.specs.Plans.{IsPlan}
+use Rattle.smv_front.specs.Plans.{IsPlan}
 use Rattle.smv_front.specs.TextFault.{text_fault}
 use Rattle.law_valid_texts.specs.Joined.{flat_design}
 use Rattle.law_valid_texts.specs.Plans.{IsTree}

@@ -3,7 +3,7 @@ use Rattle.std.specs.Prelude.{◌≡◌, ℕ, List, true}
 use Rattle.smv_core.specs.declared.fault.Fault.{Fault}
 use Rattle.smv_core.specs.declared.tree.Text.{Text}
 use Rattle.smv_problem.specs.declared.report.Plan.{Plan}
-use Rattle.smv_plans.specs.Plans.{IsPlan}
+use Rattle.smv_front.specs.Plans.{IsPlan}
 use Rattle.smv_command.specs.declared.commands.Command.{Command}
 use Rattle.law_valid_texts.specs.Joined.{flat_design}
 use Rattle.law_valid_texts.specs.Reports.{IsValid}

@@ -3,7 +3,7 @@ ghost use Rattle.std.specs.Prelude.{◌≡◌, ◌≤◌, IfOk, length};
 ghost use Rattle.smv_lex.specs.Answers.{IfFault};
 ghost use Rattle.smv_typing.specs.Answers.{IsSpelled};
 ghost use Rattle.smv_cases.specs.Faults.{Refuses};
-ghost use Rattle.smv_plans.specs.Plans.{IsPlan};
+ghost use Rattle.smv_front.specs.Plans.{IsPlan};
 ghost use Rattle.smv_front.specs.TextFault.{text_fault};
 ghost use Rattle.law_valid_texts.specs.Joined.{flat_design};
 ghost use Rattle.law_valid_texts.specs.Faults.{pass_fault};

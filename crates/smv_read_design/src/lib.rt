@@ -8,4 +8,5 @@ mod designs;
 mod widths;
 
 pub use designs::read_design;
+pub use law_valid_texts::read_plans::plans_of_valid_texts_are_whole;
 pub use widths::width_fault;

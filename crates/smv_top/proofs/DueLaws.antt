@@ -15,7 +15,7 @@ use Rattle.smv_command.specs.declared.commands.Command.TheVariants.{Only, Print,
 use Rattle.smv_command.specs.declared.exit.Status.{Status}
 use Rattle.smv_command.specs.declared.exit.Status.TheVariants as status
 use Rattle.smv_gen.specs.Generated.{generated_text}
-use Rattle.law_valid_texts.specs.Reports.{IsUnitReport, HasNoUnit}
+use Rattle.smv_answers.specs.Reports.{IsUnitReport, HasNoUnit}
 use Rattle.smv_top.proofs.Endings.{line_31}
 use Rattle.smv_answers.specs.Dues.{IsDue, IsDueTo, IsFault, IsReportFor, text_for, usage_line, decided, printed, refused, too_long, malformed, unnamed, decides, limit, lines_for, proved_by, status_of}
 

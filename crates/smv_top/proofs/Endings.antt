@@ -13,7 +13,7 @@ use Rattle.smv_command.specs.declared.commands.Command.{Command}
 use Rattle.smv_command.specs.declared.commands.Command.TheVariants.{Prove, Only, Print, Generated}
 use Rattle.smv_command.specs.declared.exit.Status.{Status}
 use Rattle.smv_command.specs.declared.exit.Status.TheVariants.{AllProved, SomeFalse, SomeUnknown, Refused, Usage, ReadFault, WriteFault, OutOfMemory, PartProved, Printed as printed_out, Generated as all_generated}
-use Rattle.law_valid_texts.specs.Reports.{IsSoundDesign}
+use Rattle.smv_answers.specs.Reports.{IsSoundDesign}
 use Rattle.smv_answers.specs.Dues.{IsDue, IsDueTo, decided, printed, refused, is_false, is_unknown, proved_by, status_of, Gave, Ends}
 use Rattle.smv_answers.specs.Laws.{OneStatus, ProvedIsSound}
 use Rattle.smv_top.specs.Clauses.{Completes}

@@ -3,7 +3,7 @@ ghost use Rattle.std.specs.Prelude.{◌≡◌, ◌≤◌, true, length, IfOk};
 ghost use Rattle.smv_problem.specs.declared.report.Report.{Report};
 ghost use Rattle.smv_command.specs.Ranges.{IsInRange, AreInRange};
 ghost use Rattle.smv_command.specs.declared.commands.Command.TheVariants as variant;
-ghost use Rattle.law_valid_texts.specs.Reports.{IsRightReport};
+ghost use Rattle.smv_answers.specs.Reports.{IsRightReport};
 ghost use Rattle.smv_answers.specs.Dues.{IsDue, IsReportFor, decides, limit, default_nodes, default_steps};
 
 use smv_answers::{Answer, printed, refused, reported};

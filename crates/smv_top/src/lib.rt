@@ -11,7 +11,7 @@ ghost use Rattle.smv_io.specs.Transfers.{TookFront};
 ghost use Rattle.smv_command.specs.Ranges.{IsInRange};
 ghost use Rattle.smv_command.specs.declared.commands.Command.TheVariants as variant;
 ghost use Rattle.smv_command.specs.Commands.{command_of};
-ghost use Rattle.law_valid_texts.specs.Reports.{IsSoundDesign};
+ghost use Rattle.smv_answers.specs.Reports.{IsSoundDesign};
 ghost use Rattle.smv_answers.specs.Dues.{Gave, Ends, reads, text_for};
 ghost use Rattle.smv_top.specs.Clauses.{Completes};
 

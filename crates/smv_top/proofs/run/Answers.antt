@@ -1,4 +1,4 @@
-use Rattle.law_valid_texts.specs.Reports.{IsSoundDesign}
+use Rattle.smv_answers.specs.Reports.{IsSoundDesign}
 use Rattle.smv_answers.specs.Dues.{Ends}
 use Rattle.smv_top.specs.Clauses.{Completes}
 use Rattle.smv_top.proofs.Endings.{of_told, all_proved_is_sound, completed}

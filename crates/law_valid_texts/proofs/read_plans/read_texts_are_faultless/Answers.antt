@@ -7,7 +7,7 @@ use Rattle.law_designs.specs.FirstFault.{first_fault_of_design}
 use Rattle.law_designs.specs.SetFaults.{first_fault_of_sets}
 use Rattle.law_splits.specs.SplitFaults.{first_fault_of_splits}
 use Rattle.smv_uses.specs.UseFaults.{first_fault_of_uses}
-use Rattle.smv_plans.specs.Plans.{plan_fault}
+use Rattle.smv_front.specs.Plans.{plan_fault}
 use Rattle.smv_front.specs.TextFault.{design_fault, raw_fault, text_fault}
 use Rattle.law_valid_texts.specs.Joined.{flat_design}
 use Rattle.law_valid_texts.specs.Faults.{faults_of_cases}

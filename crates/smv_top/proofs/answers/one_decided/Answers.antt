@@ -1,7 +1,7 @@
 use Rattle.std.proofs.Common.{◌≡◌, subst, true, Option}
 use Rattle.smv_problem.specs.declared.report.Report.{Report}
 use Rattle.smv_command.specs.declared.commands.Command.{Command}
-use Rattle.law_valid_texts.specs.Reports.{IsUnitReport, HasNoUnit}
+use Rattle.smv_answers.specs.Reports.{IsUnitReport, HasNoUnit}
 use Rattle.smv_answers.specs.Dues.{IsFault, decides}
 use Rattle.smv_top.proofs.DueLaws.{both_ok, due_report, due_fault, due_no_unit, report_of_unit, decides_one, fault_of}
 use Rattle.smv_top.proofs.answers.one_decided.Goals as goal
