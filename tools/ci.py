@@ -3,7 +3,7 @@
 
     tools/ci.py                                 tools/gate.py --remember -o TABLE runs it, and writes where the time goes
 
-Kit 13b sums a crate's files, and lists the crates below it, anew for each path of crates.txt that leads there: some four million times here, which takes hours.
+Kit 13b sums a crate's files, and lists the crates below it, anew for each path of crates.txt that leads there (`tools/sums.py` tells how often): a quarter of an hour of one processor here.
 Here each crate's sum and list are made once for a run. Nothing else differs: every proof, edit, test and program is what a plain `rt ci` runs. The gate's
 judge is a plain `rt ci` all the same.
 """
