@@ -22,7 +22,7 @@ ghost use Rattle.bdd_ops.specs.declared.Stop.TheVariants.{OutOfMemory};
 
 use bdd_store::{Known, Operation, Ref, Store};
 use memo_table::Memo;
-pub use questions::{implies, pick, support, value};
+pub use questions::{implies, is_never, pick, support, value};
 use std::alloc::{AllocError, Global};
 use std::collections::HashSet;
 
@@ -616,7 +616,7 @@ pub fn exists(alloc: Global, store: &mut Store, f: Ref, var: u32) -> Result<Ref,
     answer
 }
 
-/// The conjunction, or none where it has more beads than `most`: at most one node more than that is made.
+/// The conjunction, if it can be made by at most `most` new nodes; none comes only where it has more beads than `most`. At most one node more than that is made.
 pub fn and_within(
     alloc: Global,
     store: &mut Store,
@@ -652,7 +652,7 @@ pub fn and_within(
     }
 }
 
-/// The disjunction, or none where it has more beads than `most`: at most one node more than that is made.
+/// The disjunction, if it can be made by at most `most` new nodes; none comes only where it has more beads than `most`. At most one node more than that is made.
 pub fn or_within(
     alloc: Global,
     store: &mut Store,
@@ -688,7 +688,7 @@ pub fn or_within(
     }
 }
 
-/// The disjunction of the function with the variable at 0 and with it at 1, or none where it has more beads than `most`: at most one node more than that is made.
+/// The disjunction of the function with the variable at 0 and with it at 1, if it can be made by at most `most` new nodes; none comes only where it has more beads than `most`. At most one node more than that is made.
 pub fn exists_within(
     alloc: Global,
     store: &mut Store,

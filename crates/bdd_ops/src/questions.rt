@@ -114,7 +114,7 @@ fn toward_one(store: &Store, f: Ref) -> (bool, Ref)
 }
 
 /// The function is 0 everywhere.
-fn is_never(store: &Store, f: Ref) -> bool
+pub fn is_never(store: &Store, f: Ref) -> bool
     requires { IsLive store.now f }
     ensures { IsTrue result ↔ IsConstant store.now f false }
 {

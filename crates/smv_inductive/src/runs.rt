@@ -1,13 +1,13 @@
 // Operations on P, a set of states or of pairs of them, one after another. A clause names the path of a look by its length;
 // here it does not matter, and is 1.
-ghost use Rattle.std.specs.Prelude.{◌≡◌, ◌↔◌, false, IsTrue, IfOk, OnOk, [], ◌∷◌, ◌++◌, map};
+ghost use Rattle.std.specs.Prelude.{◌≡◌, ◌↔◌, IsTrue, IfOk, OnOk, [], ◌∷◌, ◌++◌, map};
 ghost use Rattle.bdd_store.specs.declared.Ref.{Ref};
-ghost use Rattle.bdd_store.specs.Diagram.{IsLive, IsConstant, table, Keeps};
+ghost use Rattle.bdd_store.specs.Diagram.{IsLive, table, Keeps};
 ghost use Rattle.smv_rings.specs.declared.ops.Op.TheVariants.{And};
 ghost use Rattle.smv_rings.specs.Ops.{IsOneOf, act_of, acts_of, refs_in, refs_in_all, FitsAct, FitsActs};
 ghost use Rattle.smv_inductive.specs.Runs.{Leaves, StaysWithin};
 
-use bdd_ops::implies;
+use bdd_ops::{implies, is_never};
 use bdd_store::{Ref, Store};
 use smv_rings::{Op, apply};
 use std::alloc::{AllocError, Global};
@@ -67,17 +67,6 @@ fn step(alloc: Global, store: &mut Store, p: Ref, op: Op) -> Result<Option<Ref>,
         return Ok(None);
     }
     Ok(Some(made))
-}
-
-// The function is 0 everywhere.
-fn is_never(store: &Store, f: Ref) -> bool
-    requires { IsLive store.now f }
-    ensures { IsTrue result ↔ IsConstant store.now f false }
-{
-    match store.is_constant(f) {
-        Some(x) => !x,
-        None => false,
-    }
 }
 
 // Conjunctions with functions.

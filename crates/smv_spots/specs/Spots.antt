@@ -54,9 +54,6 @@ place_by design p = place_of design.sets design.enums p
 abbrev pub outcome_in : Numbered → Option Spot → AbsOutcome
 outcome_in n o = option_map (place_in n) o
 
-abbrev pub outcome_by : Design → Option Spot → AbsOutcome
-outcome_by design o = option_map (place_by design) o
-
 -- a spot by its last number
 abbrev pub spot_of : Sort → ℕ → Spot
 spot_of sort.Number k = Number k

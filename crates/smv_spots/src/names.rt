@@ -14,8 +14,8 @@ fn set_name(design: &Design, set: u16) -> &[u8]
     }
 }
 
-/// Whether a set type is an ordset.
-pub fn is_ordered(design: &Design, set: u16) -> bool
+// Whether a set type is an ordset.
+fn is_ordered(design: &Design, set: u16) -> bool
     ensures { result ≡ is_ordset (slice_get design.now.sets set) }
 {
     match design.sets.as_slice().get(set as usize) {

@@ -1,12 +1,10 @@
 // The places of a type.
-ghost use Rattle.std.specs.Prelude.{◌≡◌, ◌-◌, ◌&&◌, map, length, IfOk, get_or, slice_get, bytes_eq, nat_lt, nat_le, []};
-ghost use Rattle.std.specs.List.{list_any};
+ghost use Rattle.std.specs.Prelude.{◌≡◌, ◌-◌, map, length, IfOk, get_or, slice_get, []};
 ghost use Rattle.smv_core.specs.Values.{numbers_from};
-ghost use Rattle.law_obligations.specs.Places.{World, named_in, rests_in, places_in, is_among};
-ghost use Rattle.smv_spots.specs.Spots.{place_by, spot_of, is_same_set, classes_of, count_beside, rests_of, IsWorld};
+ghost use Rattle.law_obligations.specs.Places.{World, named_in, rests_in};
+ghost use Rattle.smv_spots.specs.Spots.{place_by, spot_of, classes_of, count_beside, rests_of, IsWorld};
 ghost use Rattle.smv_core.specs.declared.flat.Design.{Design};
 
-use crate::names::{constant_name, is_one_set};
 use crate::spots::Spot;
 use smv_core::abstract_type::{AbsType, Rest};
 use smv_core::flat::{Design, Simple};
@@ -127,63 +125,5 @@ pub fn rests_over(alloc: Global, types: &[AbsType], over: Simple) -> Result<Vec<
             let spots = spots_from(alloc, Sort::Rest { set }, 0, rests(types, set))?;
             Ok(spots)
         }
-    }
-}
-
-// Whether a number is in a range.
-fn is_number(low: u8, high: u8, value: u16) -> bool
-    ensures { result ≡ (nat_le low value && nat_le value high) }
-{
-    u16::from(low) <= value && value <= u16::from(high)
-}
-
-// Whether an enumeration has a constant of that name.
-fn is_constant(design: &Design, list: u16, other: u16, value: u16) -> bool
-    ensures { result ≡ list_any (bytes_eq (get_or (get_or design.now.enums other []) value [])) (get_or design.now.enums list []) }
-{
-    let Some(names) = design.enums.as_slice().get(list as usize) else {
-        return false;
-    };
-    let name = constant_name(design, other, value);
-    for one in names.as_slice() {
-        if name == one.as_bytes() {
-            return true;
-        }
-    }
-    false
-}
-
-// Whether a set type has a class of that number.
-fn is_class(design: &Design, types: &[AbsType], set: u16, other: u16, class: u16) -> bool
-    ensures { result ≡ (nat_lt class (classes_of (slice_get types.now set)) && is_same_set (slice_get design.now.sets other) (slice_get design.now.sets set)) }
-{
-    u32::from(class) < classes(types, set) && is_one_set(design, other, set)
-}
-
-// Whether it has a rest of that number.
-fn is_rest(design: &Design, types: &[AbsType], set: u16, other: u16, rest: u16) -> bool
-    ensures { result ≡ (nat_lt rest (rests_of (slice_get types.now set)) && is_same_set (slice_get design.now.sets other) (slice_get design.now.sets set)) }
-{
-    u32::from(rest) < rests(types, set) && is_one_set(design, other, set)
-}
-
-/// Whether a spot is in a type.
-pub fn is_in_type(design: &Design, types: &[AbsType], over: Simple, p: Spot) -> bool
-    ensures { (w : World) → IsWorld design.now types.now w → result ≡ is_among (places_in w over) (place_by design.now p) }
-{
-    match over {
-        Simple::Range { low, high } => match p {
-            Spot::Number { value } => is_number(low, high, value),
-            _ => false,
-        },
-        Simple::Enum { list } => match p {
-            Spot::Constant { list: other, value } => is_constant(design, list, other, value),
-            _ => false,
-        },
-        Simple::Set { set } => match p {
-            Spot::Class { set: other, class } => is_class(design, types, set, other, class),
-            Spot::Rest { set: other, rest } => is_rest(design, types, set, other, rest),
-            _ => false,
-        },
     }
 }
