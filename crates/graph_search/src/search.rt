@@ -85,17 +85,6 @@ pub fn reached(
     Ok(seen)
 }
 
-/// The same nodes, each once.
-pub fn distinct(alloc: Global, nodes: usize, list: &[usize]) -> Result<Vec<usize>, AllocError>
-    requires { (x : ℕ) → Contains list.now x → x < nodes }
-    ensures { IfOk result (λ once. (x : ℕ) → Contains once.items x ↔ Contains list.now x) }
-{
-    let mut seen = unseen(alloc, nodes)?;
-    let mut queue = Vec::new(alloc);
-    see_all(&mut seen, &mut queue, list)?;
-    Ok(queue)
-}
-
 /// No node was seen.
 pub fn unseen(alloc: Global, nodes: usize) -> Result<Vec<bool>, AllocError>
     ensures { IfOk result (λ seen. seen.items ≡ replicate nodes false) }
