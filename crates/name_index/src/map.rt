@@ -47,9 +47,10 @@ impl<'a, T> NameMap<'a, T> {
 }
 
 impl<'a, T: Drop> NameMap<'a, T> {
-    /// Puts a name and its value at the end.
+    /// Puts a name and its value at the end. Where memory is refused, nothing changes.
     pub fn push(&mut self, name: &'a Name, value: T) -> Result<(), AllocError>
-        ensures { OnOk result (self.new ≡ self.old ++ (name.now, value) ∷ []) }
+        ensures ok { OnOk result (self.new ≡ self.old ++ (name.now, value) ∷ []) }
+        ensures err { OnErr result (self.new ≡ self.old) }
     {
         put(&mut self.names, &mut self.values, name, value)?;
         Ok(())
