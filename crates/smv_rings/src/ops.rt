@@ -1,9 +1,9 @@
 // The operations of a turn.
-ghost use Rattle.std.specs.Prelude.{◌≡◌, ℕ, suc, ◌*◌, ◌<◌, ◌⊎◌, ◌&&◌, ◌||◌, not, List, [], ◌∷◌, ◌++◌, map, length, IfOk, OnOk, IfSome, IsNone};
+ghost use Rattle.std.specs.Prelude.{◌≡◌, ◌≢◌, ℕ, suc, ◌+◌, ◌*◌, ◌<◌, ◌≤◌, ◌⊎◌, ◌&&◌, ◌||◌, not, List, [], ◌∷◌, ◌++◌, map, length, IfOk, OnOk, IfSome, IsNone};
 ghost use Rattle.std.specs.List.{filter};
 ghost use Rattle.bdd_store.specs.declared.Ref.{Ref};
 ghost use Rattle.bdd_store.specs.Beads.{truth_table, bead_count};
-ghost use Rattle.bdd_store.specs.Diagram.{Diagram, IsLive, AreLive, Keeps, table};
+ghost use Rattle.bdd_store.specs.Diagram.{Diagram, IsLive, AreLive, Keeps, beads, held, table};
 ghost use Rattle.bdd_ops.specs.Functions.{Function, bit_at};
 ghost use Rattle.smv_rings.specs.Lists.{IsRel, lists_of, refs_of};
 ghost use Rattle.smv_rings.specs.Schedule.{made_by, turn, evens};
@@ -36,6 +36,7 @@ pub fn apply(alloc: Global, store: &mut Store, p: Ref, op: Op) -> Result<Ref, Al
     ensures live { IfOk result (λ r. IsLive store.new r) }
     ensures table { IfOk result (λ r. table store.new r ≡ made_by (act_of store.old 0 op) (table store.old p)) }
     ensures keeps { Keeps store.old store.new }
+    ensures held { IfOk result (λ r. held store.new ≤ held store.old + beads store.new r) }
 {
     match op {
         Op::And(f) => and(alloc, store, p, f),
@@ -64,6 +65,8 @@ pub fn apply_within(
     ensures table { IfOk result (λ o. IfSome o (λ r. table store.new r ≡ made_by (act_of store.old 0 op) (table store.old p))) }
     ensures large { IfOk result (λ o. IsNone o → most < bead_count store.old.vars (truth_table store.old.vars 0 (made_by (act_of store.old 0 op) (table store.old p)) ∷ [])) }
     ensures keeps { Keeps store.old store.new }
+    ensures held { IfOk result (λ o. IfSome o (λ r. held store.new ≤ held store.old + beads store.new r)) }
+    ensures made { op ≢ Op.Rename → held store.new ≤ held store.old + (most + 1) }
 {
     match op {
         Op::And(f) => and_within(alloc, store, p, f, most),

@@ -1,13 +1,14 @@
 // Operations on P, one after another.
-ghost use Rattle.std.specs.Prelude.{◌≡◌, ◌↔◌, ℕ, Bool, false, IsTrue, IfOk, OnOk, [], ◌∷◌, ◌++◌, map};
+ghost use Rattle.std.specs.Prelude.{◌≡◌, ◌≢◌, ◌↔◌, ℕ, ◌+◌, ◌≤◌, Bool, false, IsTrue, IfOk, OnOk, [], ◌∷◌, ◌++◌, map};
 ghost use Rattle.bdd_store.specs.declared.Ref.{Ref};
-ghost use Rattle.bdd_store.specs.Diagram.{Diagram, IsLive, Keeps, table};
+ghost use Rattle.bdd_store.specs.Diagram.{Diagram, IsLive, Keeps, beads, held, table};
 ghost use Rattle.smv_rings.specs.Schedule.{made_by};
 ghost use Rattle.smv_rings.specs.Schedule.Act.{Join};
 ghost use Rattle.smv_rings.specs.Lists.{IsRel, lists_of, refs_of};
 ghost use Rattle.smv_rings.specs.Ops.{IsOneOf, act_of, acts_of, refs_in, refs_in_all, FitsAct, FitsActs};
 ghost use Rattle.smv_search.specs.Keeping.{AllHeld, KeepsRefs, beads_in, IsPast};
 ghost use Rattle.smv_search.specs.Runs.{Runs, first_of, behind_first, opening};
+ghost use Rattle.smv_search.specs.Verdict.{margin};
 
 use super::counts::{Stop, append, most_told};
 use bdd_store::{Ref, Store};
@@ -78,6 +79,8 @@ fn make(alloc: Global, store: &mut Store, p: Ref, op: Op, nodes: u32) -> Result<
     ensures table { IfOk result (λ r. table store.new r ≡ made_by (act_of store.old 0 op) (table store.old p)) }
     ensures large { IsPast (beads_in store.old.vars (made_by (act_of store.old 0 op) (table store.old p))) nodes result }
     ensures keeps { Keeps store.old store.new }
+    ensures held { IfOk result (λ r. held store.new ≤ held store.old + beads store.new r) }
+    ensures made { op ≢ Op.Rename → held store.new ≤ held store.old + (nodes + margin + 1) }
 {
     let most = most_told(nodes);
     match apply_within(alloc, store, p, op, most)? {
