@@ -16,6 +16,9 @@ use Rattle.smv_conditions.specs.Chain.{AllMade}
 use Rattle.smv_cells.specs.Seen.{View, outcomes}
 use Rattle.smv_outcomes.specs.Outcomes.{mix_in, IsTruthOf, AreTruthsAlong}
 
+head_is : {X : Type 0} {x y : X} {xs ys : List X} → x ∷ xs ≡ y ∷ ys → x ≡ y
+head_is e = cc
+
 -- the same for each
 pub no_same : {C : Type 0} (x : Chances C) (bs : List (List Spot)) (each : List (Chances C)) → length bs ≡ 0 → each ≡ each ++ map (λ b. x) bs
 no_same x [] each e = sym (append-nil each)
@@ -75,3 +78,22 @@ module _ {S C : Type 0} (holds : S → C → (ℕ → Bool) → Bool) (s : S) (v
       ∙ (map_over (mix_at holds s a) x bs
       ∙ (ap (map (λ b. mix_at holds s a x)) is
       ∙ (ap (λ m. m ∷ map (λ b. mix_at holds s a x) others) here ∙ (ap (λ l. mix_in v a first body ∷ l) (all_alike a body (mix_at holds s a x) first others here agree) ∙ ap (map (λ b. mix_in v a b body)) (sym is))))))
+
+  -- what it is under the first of some bindings it is under each that agrees with that one
+  pub alike_behind : (body : FlatExpr) (before more bs : List (List Spot)) (known others each : List (Chances C)) (first shown : List Spot) (x : Chances C) → before ≡ first ∷ more → known ≡ x ∷ others → shown ≡ first →
+      AllAgree (λ k. occurs k body) shown bs → AreTruthsAlong holds s v body before [] known → each ≡ map (λ b. x) bs → AreTruthsAlong holds s v body bs [] each
+  unfolding AreTruthsAlong
+  alike_behind body before more bs known others each first shown x is is' e h truth made a =
+      let heads : mix_at holds s a x ∷ (map (mix_at holds s a) others ++ []) ≡ mix_in v a first body ∷ map (λ b. mix_in v a b body) more =
+      ap (λ l. map (mix_at holds s a) l ++ []) (sym is') ∙ (truth a ∙ ap (map (λ b. mix_in v a b body)) is) in
+      let here : mix_at holds s a x ≡ mix_in v a first body = head_is heads in
+      let agree : AllAgree (λ k. occurs k body) first bs = subst (λ b. AllAgree (λ k. occurs k body) b bs) e h in
+      append-nil (map (mix_at holds s a) each)
+      ∙ (ap (map (mix_at holds s a)) made
+      ∙ (map_over (mix_at holds s a) x bs
+      ∙ all_alike a body (mix_at holds s a x) first bs here agree))
+
+  -- the same, where the expression, its bindings and its truth values are shown again
+  pub along_shown : (body shown again : FlatExpr) (inners inners' others : List (List Spot)) (each each' : List (Chances C)) → shown ≡ body → again ≡ body → inners' ≡ inners → others ≡ inners → each' ≡ each → AreTruthsAlong holds s v shown inners' [] each → AreTruthsAlong holds s v again others [] each'
+  along_shown body shown again inners inners' others each each' e e' f f' d h =
+      subst (λ x. AreTruthsAlong holds s v x others [] each') (e ∙ sym e') (subst (λ bs. AreTruthsAlong holds s v shown bs [] each') (f ∙ sym f') (subst (AreTruthsAlong holds s v shown inners' []) (sym d) h))

@@ -140,7 +140,16 @@ pub fn may_of<S: Conditions>(
             let named = bound_named(alloc, problem, b, *var, *over)?;
             let rests = bound_rests(alloc, problem, b, *var, *over)?;
             let each = truths_along(s, alloc, problem, cells, body.get(), named.as_slice())?;
-            let others = truths_along(s, alloc, problem, cells, body.get(), rests.as_slice())?;
+            let others = truths_behind(
+                s,
+                alloc,
+                problem,
+                cells,
+                body.get(),
+                named.as_slice(),
+                each.as_slice(),
+                rests.as_slice(),
+            )?;
             let z = all_of(s, alloc, each.as_slice(), others.as_slice())?;
             Ok(May::Truths(z))
         }
@@ -153,7 +162,16 @@ pub fn may_of<S: Conditions>(
             let named = bound_named(alloc, problem, b, *var, *over)?;
             let rests = bound_rests(alloc, problem, b, *var, *over)?;
             let each = truths_along(s, alloc, problem, cells, body.get(), named.as_slice())?;
-            let others = truths_along(s, alloc, problem, cells, body.get(), rests.as_slice())?;
+            let others = truths_behind(
+                s,
+                alloc,
+                problem,
+                cells,
+                body.get(),
+                named.as_slice(),
+                each.as_slice(),
+                rests.as_slice(),
+            )?;
             let z = any_of(s, alloc, each.as_slice(), others.as_slice())?;
             Ok(May::Truths(z))
         }
@@ -260,6 +278,37 @@ fn truths_along<S: Conditions>(
         return Ok(same);
     }
     let each = truths_apart(s, alloc, problem, cells, body, bindings)?;
+    Ok(each)
+}
+
+// The truth values that an expression may have under each of these bindings, where those under others are known; it is not worked out again where all agree on what it reads.
+#[cycle(expressions)]
+fn truths_behind<S: Conditions>(
+    s: &mut S,
+    alloc: Global,
+    problem: &Problem,
+    cells: &[Cell<S::Condition>],
+    body: &FlatExpr,
+    before: &[Seq<Spot>],
+    known: &[Chances<S::Condition>],
+    bindings: &[Seq<Spot>],
+) -> Result<Vec<Chances<S::Condition>>, AllocError>
+    requires cells_made { AreCellsMade (S.IsMade s.old) cells.now }
+    requires known_made { AllMade (S.IsMade s.old) known.now }
+    ensures keeps { KeepsConditions S.IsMade S.holds S.room s.old s.new }
+    ensures made { IfOk result (λ each. AllMade (S.IsMade s.new) each.items) }
+    ensures cells { IfOk result (λ each. AreCellsMade (S.IsMade s.new) cells.now) }
+    ensures are { IfOk result (λ each. (v : View) → IsSeen S.holds s.old problem.entry.now cells.now v → AreTruthsAlong S.holds s.old v body.now before.now [] known.now → AreTruthsAlong S.holds s.new v body.now bindings.now [] each.items) }
+{
+    if let Some((first, _)) = before.split_first() {
+        if let Some((x, _)) = known.split_first() {
+            if all_agree(body, first.as_slice(), bindings) {
+                let same = same_for_each(alloc, *x, bindings)?;
+                return Ok(same);
+            }
+        }
+    }
+    let each = truths_along(s, alloc, problem, cells, body, bindings)?;
     Ok(each)
 }
 

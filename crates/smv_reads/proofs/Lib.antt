@@ -1,7 +1,9 @@
 pub mod Computing
 pub mod Lists
 pub mod Joins
+pub mod Again
 pub mod Froms
+pub mod FreeLaws
 pub mod IndexLaws
 pub mod ExpressionLaws
 pub mod CountLaws

@@ -1,5 +1,5 @@
 -- What is read in a case, as elements are written. These words stay closed until a law opens them.
-use Rattle.std.specs.Prelude.{ℕ, List, [], ◌∷◌, ◌++◌, map, flat_map, Option, Some, None, Bool, if◌then◌else◌}
+use Rattle.std.specs.Prelude.{◌≡◌, ℕ, List, [], ◌∷◌, ◌++◌, map, flat_map, Option, Some, None, Bool, if◌then◌else◌}
 use Rattle.std.specs.List.{list_any}
 use Rattle.smv_core.specs.Flat.{flat_index}
 use Rattle.smv_core.specs.declared.flat.Simple.{Simple}
@@ -13,10 +13,11 @@ use Rattle.smv_core.specs.declared.flat.FlatMember.{FlatMember, One, Span as Spa
 use Rattle.law_obligations.specs.Places.{named_in, places_in, bind_place}
 use Rattle.law_obligations.specs.Reads.{is_own, has_counting, part_reads}
 use Rattle.law_obligations.specs.Cones.{index_places, each_index, elements_at, elements_read, elements_of_def}
+use Rattle.smv_elements.specs.Elements.{put_all}
 use Rattle.smv_problem.specs.Written.{written_class, written_element}
 use Rattle.smv_spots.specs.declared.spots.Spot.{Spot}
 use Rattle.smv_reads.specs.declared.bindings.View.{View}
-use Rattle.smv_reads.specs.Views.{world_of, places}
+use Rattle.smv_reads.specs.Views.{world_of, places, bind_spot}
 
 -- the elements of a family whose indexes begin with these classes and go on with one of each of these
 abbrev pub elements_from : ℕ → List Class → List (List Class) → List Element
@@ -73,3 +74,7 @@ module _ (v : View) where
     -- what its definition reads
     unfoldable pub read_of : Def → List Element
     read_of def = map written_element (elements_of_def (world_of v) (places v own) def)
+
+-- where a variable takes these spots alone, its body has the same elements put as where it takes all of those
+abbrev pub DoForAll : List Spot → ℕ → FlatExpr → List Spot → List Spot → Type 0
+DoForAll b var body some all = (v : View) (found : List Element) → put_all found (flat_map (λ p. read_in v (bind_spot b var p) body) some) ≡ put_all found (flat_map (λ p. read_in v (bind_spot b var p) body) all)

@@ -3,12 +3,13 @@ ghost use Rattle.std.specs.Prelude.{◌≡◌, ◌++◌, OnOk};
 ghost use Rattle.std.specs.List.{flat_map};
 ghost use Rattle.smv_elements.specs.Elements.{put_all};
 ghost use Rattle.smv_reads.specs.Views.{IsView};
-ghost use Rattle.smv_reads.specs.Reading.{read_at, read_in, read_in_term, read_in_member, read_over};
+ghost use Rattle.smv_reads.specs.Reading.{read_at, read_in, read_in_term, read_in_member, read_over, DoForAll};
 
-use crate::bindings::{View, bound, spots_named};
+use crate::bindings::{View, bound, first_spots, spots_named};
 use crate::references::put_reference;
 use smv_core::flat::{FlatExpr, FlatMember, FlatSigned, Simple};
 use smv_elements::Found;
+use smv_free_variables::reading::is_read;
 use smv_spots::spots::Spot;
 use std::alloc::{AllocError, Global};
 
@@ -181,7 +182,19 @@ fn read_member(
     }
 }
 
-// The body of a quantifier or the condition of a comprehension, at each place of its variable.
+// The spots of a variable at which its body is walked: all of them, or one where the body does not read the variable.
+fn turns<'a>(spots: &'a [Spot], bindings: &[Spot], var: u16, body: &FlatExpr) -> &'a [Spot]
+    ensures { DoForAll bindings.now var body.now result.now spots.now }
+{
+    let place = first_spots(bindings, var as usize).len();
+    if is_read(body, place) {
+        spots
+    } else {
+        first_spots(spots, 1)
+    }
+}
+
+// The body of a quantifier or the condition of a comprehension, at the places of its variable.
 #[cycle(expressions)]
 #[tactic(auto, using(crate::proofs::Joins::joins, crate::proofs::ExpressionLaws::over))]
 fn read_over(
@@ -197,7 +210,8 @@ fn read_over(
     ensures { OnOk result (found.new ≡ put_all found.old (read_over view.now bindings.now var over body.now)) }
 {
     let spots = spots_named(alloc, view, over)?;
-    for p in spots.as_slice() {
+    let taken = turns(spots.as_slice(), bindings, var, body);
+    for p in taken {
         let inner = bound(alloc, bindings, var, *p)?;
         let inside = inner.as_slice();
         read_expression(alloc, view, found, inside, body)?;

@@ -15,7 +15,7 @@ use Rattle.smv_outcomes.proofs.GatherLaws.{chances_kept, chances_shown, chances_
 use Rattle.smv_outcomes.proofs.ElementLaws.{read_of_it, sum_of_it}
 use Rattle.smv_outcomes.proofs.SetLaws.{members_listed, no_members, numbers_added, within_of_it}
 use Rattle.smv_outcomes.proofs.QuantifierLaws.{all_of_it, any_of_it}
-use Rattle.smv_outcomes.proofs.AlikeLaws.{no_bindings, alike_made, alike_along}
+use Rattle.smv_outcomes.proofs.AlikeLaws.{no_bindings, alike_made, alike_along, alike_behind, along_shown}
 use Rattle.smv_outcomes.proofs.expressions.+expressions.Goals as goal
 
 pub may_of-returns-in_ok-m-in-Number-clause-is : goal.may_of-returns-in_ok-m-in-Number-clause-is
@@ -107,25 +107,27 @@ may_of-chosen-requires-clause-yes_made g t c = slice_made _ _ _ _ _ _ _ c.as_sli
 
 pub may_of-returns-in_ok-z-in-All-clause-is : goal.may_of-returns-in_ok-z-in-All-clause-is
 may_of-returns-in_ok-z-in-All-clause-is g t c v h =
-    all_of_it _ _ _ _ _ _ v h.view c.in_ok-others-in-All.ensures.keeps _ _ _ _ _ _ _ _ _ _ _ _ _ _ _ _ _ c.get-in-All.ensures c.get-in-All-2.ensures c.as_slice-in-All.ensures.value c.as_slice-in-All-2.ensures.value c.as_slice-in-All-3.ensures.value c.as_slice-in-All-4.ensures.value
-    (c.in_ok-named-in-All.ensures v.world h.world) (c.in_ok-rests-in-All.ensures v.world h.world) c.in_ok-each-in-All.ensures.made (c.in_ok-each-in-All.ensures.are v h) (c.in_ok-others-in-All.ensures.are v (seen_on _ _ _ _ _ _ _ v c.in_ok-each-in-All.ensures.keeps c.requires.cells_made h)) c.in-All.is c.in_ok-z-in-All.ensures.mix
+    all_of_it _ _ _ _ _ _ v h.view c.in_ok-others-in-All.ensures.keeps _ _ _ _ _ _ _ _ _ _ _ _ _ _ _ _ _ c.get-in-All.ensures c.get-in-All-2.ensures c.as_slice-in-All.ensures.value c.as_slice-in-All-4.ensures.value c.as_slice-in-All-5.ensures.value c.as_slice-in-All-6.ensures.value
+    (c.in_ok-named-in-All.ensures v.world h.world) (c.in_ok-rests-in-All.ensures v.world h.world) c.in_ok-each-in-All.ensures.made (c.in_ok-each-in-All.ensures.are v h) (c.in_ok-others-in-All.ensures.are v (seen_on _ _ _ _ _ _ _ v c.in_ok-each-in-All.ensures.keeps c.requires.cells_made h)
+    (along_shown _ _ v _ _ _ _ _ _ _ _ c.get-in-All.ensures c.get-in-All-2.ensures c.as_slice-in-All.ensures.value c.as_slice-in-All-2.ensures.value c.as_slice-in-All-3.ensures.value (c.in_ok-each-in-All.ensures.are v h))) c.in-All.is c.in_ok-z-in-All.ensures.mix
 
 pub may_of-returns-in_ok-z-in-All-clause-cells : goal.may_of-returns-in_ok-z-in-All-clause-cells
 may_of-returns-in_ok-z-in-All-clause-cells g t c = cells_kept _ _ _ _ _ _ c.in_ok-z-in-All.ensures.keeps c.in_ok-others-in-All.ensures.cells
 
 pub may_of-returns-in_ok-z-in-Any-clause-is : goal.may_of-returns-in_ok-z-in-Any-clause-is
 may_of-returns-in_ok-z-in-Any-clause-is g t c v h =
-    any_of_it _ _ _ _ _ _ v h.view c.in_ok-others-in-Any.ensures.keeps _ _ _ _ _ _ _ _ _ _ _ _ _ _ _ _ _ c.get-in-Any.ensures c.get-in-Any-2.ensures c.as_slice-in-Any.ensures.value c.as_slice-in-Any-2.ensures.value c.as_slice-in-Any-3.ensures.value c.as_slice-in-Any-4.ensures.value
-    (c.in_ok-named-in-Any.ensures v.world h.world) (c.in_ok-rests-in-Any.ensures v.world h.world) c.in_ok-each-in-Any.ensures.made (c.in_ok-each-in-Any.ensures.are v h) (c.in_ok-others-in-Any.ensures.are v (seen_on _ _ _ _ _ _ _ v c.in_ok-each-in-Any.ensures.keeps c.requires.cells_made h)) c.in-Any.is c.in_ok-z-in-Any.ensures.mix
+    any_of_it _ _ _ _ _ _ v h.view c.in_ok-others-in-Any.ensures.keeps _ _ _ _ _ _ _ _ _ _ _ _ _ _ _ _ _ c.get-in-Any.ensures c.get-in-Any-2.ensures c.as_slice-in-Any.ensures.value c.as_slice-in-Any-4.ensures.value c.as_slice-in-Any-5.ensures.value c.as_slice-in-Any-6.ensures.value
+    (c.in_ok-named-in-Any.ensures v.world h.world) (c.in_ok-rests-in-Any.ensures v.world h.world) c.in_ok-each-in-Any.ensures.made (c.in_ok-each-in-Any.ensures.are v h) (c.in_ok-others-in-Any.ensures.are v (seen_on _ _ _ _ _ _ _ v c.in_ok-each-in-Any.ensures.keeps c.requires.cells_made h)
+    (along_shown _ _ v _ _ _ _ _ _ _ _ c.get-in-Any.ensures c.get-in-Any-2.ensures c.as_slice-in-Any.ensures.value c.as_slice-in-Any-2.ensures.value c.as_slice-in-Any-3.ensures.value (c.in_ok-each-in-Any.ensures.are v h))) c.in-Any.is c.in_ok-z-in-Any.ensures.mix
 
 pub may_of-returns-in_ok-z-in-Any-clause-cells : goal.may_of-returns-in_ok-z-in-Any-clause-cells
 may_of-returns-in_ok-z-in-Any-clause-cells g t c = cells_kept _ _ _ _ _ _ c.in_ok-z-in-Any.ensures.keeps c.in_ok-others-in-Any.ensures.cells
 
 pub may_of-all_of-requires-clause-named_made : goal.may_of-all_of-requires-clause-named_made
-may_of-all_of-requires-clause-named_made g t c = chances_shown _ _ _ _ _ _ _ c.as_slice-in-All-3.ensures.value c.in_ok-others-in-All.ensures.keeps c.in_ok-each-in-All.ensures.made
+may_of-all_of-requires-clause-named_made g t c = chances_shown _ _ _ _ _ _ _ c.as_slice-in-All-5.ensures.value c.in_ok-others-in-All.ensures.keeps c.in_ok-each-in-All.ensures.made
 
 pub may_of-any_of-requires-clause-named_made : goal.may_of-any_of-requires-clause-named_made
-may_of-any_of-requires-clause-named_made g t c = chances_shown _ _ _ _ _ _ _ c.as_slice-in-Any-3.ensures.value c.in_ok-others-in-Any.ensures.keeps c.in_ok-each-in-Any.ensures.made
+may_of-any_of-requires-clause-named_made g t c = chances_shown _ _ _ _ _ _ _ c.as_slice-in-Any-5.ensures.value c.in_ok-others-in-Any.ensures.keeps c.in_ok-each-in-Any.ensures.made
 
 pub may_of-returns-in_ok-m-in-List-clause-is : goal.may_of-returns-in_ok-m-in-List-clause-is
 may_of-returns-in_ok-m-in-List-clause-is g t c v h = none_of_list _ _ v _ _ _ _ _ c.in-List.is c.in_ok-m-in-List.ensures.offers
@@ -238,7 +240,14 @@ truths_along-returns-then-all_agree-clause-made g t c = alike_made _ _ _ _ c.in_
 pub truths_along-returns-then-all_agree-clause-are : goal.truths_along-returns-then-all_agree-clause-are
 truths_along-returns-then-all_agree-clause-are g t c v h =
     let k = c.in-Some.ensures.cases in
-    alike_along _ _ v _ _ _ _ _ _ _ _ k.0 c.as_slice-b.ensures c.as_slice-b.ensures (c.all_agree.ensures c.if-all_agree.true) (c.in_ok-x.ensures.is v h) c.in_ok-same.ensures
+    alike_along _ _ v _ _ _ _ _ _ _ _ k.0 c.as_slice-b.ensures c.as_slice-b.ensures (c.all_agree.ensures.0 c.if-all_agree.true) (c.in_ok-x.ensures.is v h) c.in_ok-same.ensures
+
+pub truths_behind-returns-then-all_agree-clause-made : goal.truths_behind-returns-then-all_agree-clause-made
+truths_behind-returns-then-all_agree-clause-made g t c = alike_made _ _ _ _ c.in_ok-same.ensures (subst (AllMade (g.S.Conditions.IsMade c.args.s.now)) c.in-Some-split_first.ensures.cases.0 c.requires.known_made).0
+
+pub truths_behind-returns-then-all_agree-clause-are : goal.truths_behind-returns-then-all_agree-clause-are
+truths_behind-returns-then-all_agree-clause-are g t c v h known =
+    alike_behind _ _ v _ _ _ _ _ _ _ _ _ _ c.in-Some.ensures.cases.0 c.in-Some-split_first.ensures.cases.0 c.as_slice.ensures (c.all_agree.ensures.0 c.if-all_agree.true) known c.in_ok-same.ensures
 
 pub lists_each-loop-part-init : goal.lists_each-loop-part-init
 lists_each-loop-part-init g t c = record { keeps = keeps_same _ _ _ _; made = subst (AreListsMade _) (sym c.new-each.ensures.items) tt; cells_made = c.requires.cells_made; is = λ v h. lists_begin _ _ v _ _ _ _ refl c.new-each.ensures.items }

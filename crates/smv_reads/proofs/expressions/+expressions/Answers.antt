@@ -21,16 +21,17 @@ read_members-returns t c = turns-over (read_in_member c.args.view.now c.args.bin
 
 pub read_over-loop-p-init : goal.read_over-loop-p-init
 read_over-loop-p-init t c =
-    ap (put_all c.args.found.now) (sym (over-spots c.args.view.now c.args.bindings.now c.args.var c.args.over c.args.body.now c.as_slice-p-items.result.now (ap (places c.args.view.now) c.as_slice-p-items.ensures.value ∙ c.in_ok-spots.ensures)))
+    c.turns-taken.ensures c.args.view.now c.args.found.now
+    ∙ ap (put_all c.args.found.now) (sym (over-spots c.args.view.now c.args.bindings.now c.args.var c.args.over c.args.body.now c.as_slice.result.now (ap (places c.args.view.now) c.as_slice.ensures.value ∙ c.in_ok-spots.ensures)))
 
 pub read_over-loop-p-preserved : goal.read_over-loop-p-preserved
 read_over-loop-p-preserved t c =
-    turn-kept (λ (p : Spot). read_in c.args.view.now (bind_spot c.args.bindings.now c.args.var p) c.args.body.now) c.as_slice-p-items.result.now c.loop-p.p-index _ c.loop-p.found _ _ c.loop-p-test.true
+    turn-kept (λ (p : Spot). read_in c.args.view.now (bind_spot c.args.bindings.now c.args.var p) c.args.body.now) c.turns-taken.result.now c.loop-p.p-index _ c.loop-p.found _ _ c.loop-p-test.true
     (c.in_ok-read_expression.ensures ∙ ap (λ (b : List Spot). put_all c.loop-p.found (read_in c.args.view.now b c.args.body.now)) (c.as_slice-inside.ensures.value ∙ c.in_ok-inner.ensures)) c.loop-p.invariant
 
 pub read_over-returns : goal.read_over-returns
 read_over-returns t c =
-    turns-over (λ (p : Spot). read_in c.args.view.now (bind_spot c.args.bindings.now c.args.var p) c.args.body.now) c.as_slice-p-items.result.now c.loop-p.p-index c.loop-p.found _ c.loop-p-test.false c.loop-p.invariant
+    turns-over (λ (p : Spot). read_in c.args.view.now (bind_spot c.args.bindings.now c.args.var p) c.args.body.now) c.turns-taken.result.now c.loop-p.p-index c.loop-p.found _ c.loop-p-test.false c.loop-p.invariant
 
 pub read_signed-loop-x-preserved : goal.read_signed-loop-x-preserved
 read_signed-loop-x-preserved t c = item-kept (read_in_term c.args.view.now c.args.bindings.now) c.args.more.now c.loop-x.x-index c.x-item.result c.loop-x.found _ _ c.loop-x-test.true c.x-item.is c.in_ok-read_expression.ensures c.loop-x.invariant

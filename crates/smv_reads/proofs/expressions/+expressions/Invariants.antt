@@ -15,4 +15,4 @@ abbrev pub invariant-read_members-loop-x : goal.invariant-read_members-loop-x
 invariant-read_members-loop-x l = put_all l.found (flat_map (read_in_member l.view l.bindings) (drop l.x-index l.members)) ≡ put_all l.initial.found (flat_map (read_in_member l.view l.bindings) l.members)
 
 abbrev pub invariant-read_over-loop-p : goal.invariant-read_over-loop-p
-invariant-read_over-loop-p l = put_all l.found (flat_map (λ p. read_in l.view (bind_spot l.bindings l.var p) l.body) (drop l.p-index l.p-items)) ≡ put_all l.initial.found (read_over l.view l.bindings l.var l.fn.over l.body)
+invariant-read_over-loop-p l = put_all l.found (flat_map (λ p. read_in l.view (bind_spot l.bindings l.var p) l.body) (drop l.p-index l.taken)) ≡ put_all l.initial.found (read_over l.view l.bindings l.var l.fn.over l.body)
