@@ -8,7 +8,7 @@ use Rattle.smv_read_report.specs.declared.reading.FalseUnit.{FalseUnit}
 use Rattle.smv_read_report.specs.declared.reading.ReportFault.{ReportFault}
 use Rattle.smv_read_report.specs.Reports.{report_of}
 use Rattle.smv_waveforms.specs.Vcd.{vcd}
-use Rattle.smv_wave_run.specs.Dues.{Ends, Gave, Goes, IsDueTo, Sinks, answer_for, status_for}
+use Rattle.smv_wave_run.specs.Dues.{Ends, Gave, Goes, IsDueTo, LeavesAlone, Sinks, answer_for, status_for}
 
 pub some_given : (left : Option (List ℕ)) → (text : List ℕ) × Gave left text
 some_given None = ([], tt)
@@ -35,6 +35,42 @@ pub finished : (bare : Bool) (text answer : List ℕ) (s : Sinks) (status result
     (result ≡ status → Goes status Appends s answer) → (result ≡ WriteFault → Goes status TookFront s answer) → (result ≡ status) ⊎ (result ≡ WriteFault) → Ends result bare text s
 finished bare text answer s status result is due taken front (inl same) = subst (λ r. Ends r bare text s) (sym same) (whole bare text answer s status is due (taken same))
 finished bare text answer s status result is due taken front (inr fault) = subst (λ r. Ends r bare text s) (sym fault) (status, answer, due, front fault)
+
+-- ---- what is left alone
+
+-- a status under which a dump is written
+abbrev is_dump : Status → Bool
+is_dump Written = true
+is_dump _ = false
+
+-- any other is not that of a dump
+no_dump : (status : Status) → is_dump status ≡ false → status ≢ Written
+no_dump status other same = true≢false (sym (ap is_dump same) ∙ other)
+
+module _ {K N : Type 0} (dump_old dump_new : K) (note_old note_new : N) where
+  after_whole : (status : Status) → is_answered status ≡ true → (status ≡ Written → note_new ≡ note_old) → (status ≢ Written → dump_new ≡ dump_old) → LeavesAlone status dump_old dump_new note_old note_new
+  after_whole Written is dumped noted = dumped refl
+  after_whole NoFalseUnit is dumped noted = noted (no_dump NoFalseUnit refl)
+  after_whole Refused is dumped noted = noted (no_dump Refused refl)
+  after_whole Usage is dumped noted = noted (no_dump Usage refl)
+  after_whole ReadFault is dumped noted = absurd (true≢false (sym is))
+  after_whole WriteFault is dumped noted = absurd (true≢false (sym is))
+  after_whole OutOfMemory is dumped noted = absurd (true≢false (sym is))
+
+  after_front : (status : Status) → is_answered status ≡ true → (status ≡ Written → note_new ≡ note_old) → (status ≢ Written → dump_new ≡ dump_old) → LeavesAlone WriteFault dump_old dump_new note_old note_new
+  after_front Written is dumped noted = inr (dumped refl)
+  after_front NoFalseUnit is dumped noted = inl (noted (no_dump NoFalseUnit refl))
+  after_front Refused is dumped noted = inl (noted (no_dump Refused refl))
+  after_front Usage is dumped noted = inl (noted (no_dump Usage refl))
+  after_front ReadFault is dumped noted = absurd (true≢false (sym is))
+  after_front WriteFault is dumped noted = absurd (true≢false (sym is))
+  after_front OutOfMemory is dumped noted = absurd (true≢false (sym is))
+
+  -- where an answer was written whole, or a front of it
+  pub left_alone : (status result : Status) → is_answered status ≡ true → (status ≡ Written → note_new ≡ note_old) → (status ≢ Written → dump_new ≡ dump_old) → (result ≡ status) ⊎ (result ≡ WriteFault) →
+      LeavesAlone result dump_old dump_new note_old note_new
+  left_alone status result is dumped noted (inl same) = rw same (after_whole status is dumped noted)
+  left_alone status result is dumped noted (inr fault) = rw fault (after_front status is dumped noted)
 
 -- ---- what is due to a text
 

@@ -1,5 +1,5 @@
 -- What a call owes: its status, its whole answer, and where that goes.
-use Rattle.std.specs.Prelude.{◌≡◌, ℕ, List, [], ◌∷◌, ◌++◌, codes, Option, Result, Ok, Err, Bool, true, false, IfSome}
+use Rattle.std.specs.Prelude.{◌≡◌, ℕ, List, [], ◌∷◌, ◌++◌, codes, Option, Result, Ok, Err, Bool, true, false, ◌⊎◌, IfSome}
 use Rattle.std.specs.Fmt.{decimal}
 use Rattle.std.specs.Io.KnownBytes.{Appends, Keeps}
 use Rattle.smv_io.specs.Transfers.{TookFront}
@@ -64,3 +64,11 @@ Ends ReadFault bare text s = Keeps s.dump_old s.dump_new × Keeps s.note_old s.n
 Ends OutOfMemory bare text s = Keeps s.dump_old s.dump_new × Keeps s.note_old s.note_new
 Ends WriteFault bare text s = (due : Status) × (answer : List ℕ) × IsDueTo bare text due answer × Goes due TookFront s answer
 Ends ended bare text s = (answer : List ℕ) × IsDueTo bare text ended answer × Goes ended Appends s answer
+
+-- What a call leaves alone of the sink of dumps and of that of notes, each before and after it: a dump the one of notes, any other answer the one of dumps; under a fault of a sink the other; and both where there is no answer.
+abbrev pub LeavesAlone : {K N : Type 0} → Status → K → K → N → N → Type 0
+LeavesAlone Written dump_old dump_new note_old note_new = note_new ≡ note_old
+LeavesAlone WriteFault dump_old dump_new note_old note_new = (dump_new ≡ dump_old) ⊎ (note_new ≡ note_old)
+LeavesAlone ReadFault dump_old dump_new note_old note_new = (dump_new ≡ dump_old) × (note_new ≡ note_old)
+LeavesAlone OutOfMemory dump_old dump_new note_old note_new = (dump_new ≡ dump_old) × (note_new ≡ note_old)
+LeavesAlone ended dump_old dump_new note_old note_new = dump_new ≡ dump_old

@@ -4,13 +4,13 @@
 //! `smv_read_report`'s `specs/Reports` says.
 #![tactic(auto)]
 
-ghost use Rattle.std.specs.Prelude.{◌≡◌, ◌≢◌, ◌⊎◌, ◌==◌, ◌++◌, List, ℕ, length, true, Ok, IfOk, OnOk};
+ghost use Rattle.std.specs.Prelude.{◌≡◌, ◌≢◌, ◌⊎◌, ◌==◌, ◌++◌, List, ℕ, length, true, false, Ok, IfOk, OnOk};
 ghost use Rattle.std.specs.Fmt.{decimal};
 ghost use Rattle.std.specs.Io.KnownBytes.{Appends};
 ghost use Rattle.smv_io.specs.Causes.{Rose};
 ghost use Rattle.smv_io.specs.Transfers.{TookFront};
 ghost use Rattle.smv_read_report.specs.Reports.{report_of};
-ghost use Rattle.smv_wave_run.specs.Dues.{Ends, Gave, Goes, answer_for, fault_line, number_of, status_for};
+ghost use Rattle.smv_wave_run.specs.Dues.{Ends, Gave, Goes, LeavesAlone, answer_for, fault_line, number_of, status_for};
 
 use itoa::Buffer;
 use smv_io::{ReadError, Sink, Source, read_all, write_all};
@@ -84,6 +84,10 @@ pub fn run<S: Source, K: Sink, N: Sink>(
     // A fault comes only where a count rose in this call.
     ensures read_fault { result ≡ Status.ReadFault → Rose (S.faults source.old) (S.faults source.new) }
     ensures write_fault { result ≡ Status.WriteFault → Rose (K.faults dump.old) (K.faults dump.new) ⊎ Rose (N.faults notes.old) (N.faults notes.new) }
+
+    // Words leave the source alone, an answer the sink to which it does not go, and a call without an answer both sinks.
+    ensures unread { (length words.now == 0) ≡ false → source.new ≡ source.old }
+    ensures alone { LeavesAlone result dump.old dump.new notes.old notes.new }
 {
     if words.is_empty() {
         of_source(alloc, source, dump, notes)
@@ -102,6 +106,7 @@ fn of_source<S: Source, K: Sink, N: Sink>(
     ensures ends { (text : List ℕ) × Gave (S.left source.old) text × Ends result true text (record { dump_old = K.taken dump.old; dump_new = K.taken dump.new; note_old = N.taken notes.old; note_new = N.taken notes.new }) }
     ensures read_fault { result ≡ Status.ReadFault → Rose (S.faults source.old) (S.faults source.new) }
     ensures write_fault { result ≡ Status.WriteFault → Rose (K.faults dump.old) (K.faults dump.new) ⊎ Rose (N.faults notes.old) (N.faults notes.new) }
+    ensures alone { LeavesAlone result dump.old dump.new notes.old notes.new }
 {
     match read_all(alloc, source, LIMIT) {
         Err(ReadError::ReadFault) => Status::ReadFault,
@@ -171,6 +176,8 @@ fn finish<K: Sink, N: Sink>(dump: &mut K, notes: &mut N, answer: &[u8], status: 
     ensures front { result ≡ Status.WriteFault → Goes status TookFront (record { dump_old = K.taken dump.old; dump_new = K.taken dump.new; note_old = N.taken notes.old; note_new = N.taken notes.new }) answer.now }
     ensures cause { result ≡ Status.WriteFault → Rose (K.faults dump.old) (K.faults dump.new) ⊎ Rose (N.faults notes.old) (N.faults notes.new) }
     ensures either { (result ≡ status) ⊎ (result ≡ Status.WriteFault) }
+    ensures dumped { status ≡ Status.Written → notes.new ≡ notes.old }
+    ensures noted { status ≢ Status.Written → dump.new ≡ dump.old }
 {
     match status {
         Status::Written => put(dump, answer, Status::Written),

@@ -1,7 +1,7 @@
 -- Nothing is read, or the answer to what is read is written.
 use Rattle.std.proofs.Common.{true}
 use Rattle.std.proofs.KnownBytes.{Keeps-refl}
-use Rattle.smv_wave_run.proofs.Endings.{due_to, finished, is_told, some_given}
+use Rattle.smv_wave_run.proofs.Endings.{due_to, finished, is_told, left_alone, some_given}
 use Rattle.smv_wave_run.proofs.of_source.Goals as goal
 
 pub returns-in-Err-ReadFault-clause-ends : goal.returns-in-Err-ReadFault-clause-ends
@@ -22,3 +22,9 @@ returns-in-Ok-answer_to-clause-ends g c =
       c.in-Ok.ensures.all,
       finished true text _ _ _ _ (is_told _ _ told.status) (due_to text _ _ _ _ c.deref.ensures.value told.status told.bytes c.deref-in-Ok-answer_to.ensures.value) f.taken f.front f.either,
     )
+
+pub returns-in-Ok-answer_to-clause-alone : goal.returns-in-Ok-answer_to-clause-alone
+returns-in-Ok-answer_to-clause-alone g c =
+    let f = c.finish.ensures in
+    let told = c.in-Ok-answer_to.ensures in
+    left_alone _ _ _ _ _ _ (is_told _ _ told.status) f.dumped f.noted f.either
