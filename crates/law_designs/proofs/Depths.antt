@@ -7,7 +7,6 @@ use Rattle.std.specs.Str.{bytes_eq}
 use Rattle.smv_core.specs.Values.{Name}
 use Rattle.smv_core.specs.Types.{find_name}
 use Rattle.smv_core.specs.FlatOrder.{Body, modules}
-use Rattle.smv_core.specs.declared.fault.Fault.{Fault}
 use Rattle.smv_core.specs.declared.tree.Word.{Word}
 use Rattle.smv_core.specs.declared.tree.Text.{Text}
 use Rattle.smv_core.specs.declared.tree.Top.{Top}
@@ -15,31 +14,12 @@ use Rattle.smv_core.specs.declared.tree.Top.TheVariants.{SetType, Alias, Module}
 use Rattle.smv_instances.specs.Mentions.{Mention, declares, binds, follows, names_type, lists_constants, has_fields, instantiates, in_item}
 use Rattle.smv_instances.specs.Scopes.{Known, Piece, Body as ModuleBody, piece_of, known_after, pieces_from, pieces, body_if_module, module_named}
 use Rattle.smv_instances.specs.NameFaults.{place_if, repeated, undeclared_in, doubled_in, without_main, recursive, recursive_in, used_in, used_if_module, contains}
-use Rattle.smv_instances.specs.FirstFault.{comes_before, earlier, first_of, faults_at, faults_of_names, fault_of_size, or_else, first_fault}
+use Rattle.smv_instances.specs.FirstFault.{first_of, faults_at, faults_of_names, fault_of_size, first_fault}
 use Rattle.law_designs.proofs.Lists.{bytes_eq-is, IsAmong, any-of}
 use Rattle.law_designs.proofs.Chains.{uses, Leads, leads-more}
+use Rattle.law_designs.proofs.Faultless.{empty-both, no_fault-in, none-first}
 
 -- ---- no fault
-
-empty-both : {X : Type 0} (xs ys : List X) → xs ++ ys ≡ [] → (xs ≡ []) × (ys ≡ [])
-empty-both [] ys e = (refl, e)
-empty-both (x ∷ xs) ys e = absurd (cc (e))
-
-no_fault-in : (fs : List Fault) → first_of fs ≡ None → fs ≡ []
-no_fault-in [] e = refl
-no_fault-in (f ∷ fs) e = absurd (by_rest (first_of fs) e)
-  where
-    by_order : (b : Bool) (g : Fault) → cond b (Some g) (Some f) ≡ None → ⊥
-    by_order true g e = cc (e)
-    by_order false g e = cc (e)
-
-    by_rest : (o : Option Fault) → earlier f o ≡ None → ⊥
-    by_rest None e = cc (e)
-    by_rest (Some g) e = by_order (comes_before g f) g e
-
-none-first : (o p : Option Fault) → or_else o p ≡ None → o ≡ None
-none-first None p e = refl
-none-first (Some f) p e = absurd (cc (e))
 
 no_places : (number : ℕ) (places : List ℕ) → faults_at (number, places) ≡ [] → places ≡ []
 no_places number [] e = refl

@@ -1,6 +1,6 @@
 -- A text without faults of names, size and kinds is right, and its left sides are whole.
 use Rattle.law_designs.proofs.Opening.{opening}
-use Rattle.std.proofs.Common.{◌≡◌, ℕ, zero, suc, ◌<◌, ◌≤◌, List, [], ◌∷◌, ◌++◌, map, flat_map, length, get_or, All, None, refl, arith}
+use Rattle.std.proofs.Common.{◌≡◌, ℕ, ◌≤◌, List, [], ◌∷◌, ◌++◌, map, flat_map, length, None, refl}
 use Rattle.std.specs.List.{AllByRecursion}
 use Rattle.smv_core.specs.Types.{types_from}
 use Rattle.smv_core.specs.FlatOrder.{modules, main, families_in}
@@ -20,15 +20,7 @@ use Rattle.law_designs.proofs.Faultless.{empty-both, empty-each, no_fault-in, no
 use Rattle.law_designs.proofs.Modules.{AreModules, tops-modules}
 use Rattle.law_designs.proofs.WrittenEntries.{text-right}
 use Rattle.law_designs.proofs.LeftSides.{text-whole}
-
-all-each : {X : Type 0} (P : X → Type 0) (xs : List X) → AllByRecursion P xs → All P xs
-unfolding opening
-all-each P [] h = λ k d lt. absurd (omega (arith, lt))
-all-each {X} P (x ∷ xs) h = λ k d lt. by_place k lt d (all-each P xs h.1)
-  where
-    by_place : (k : ℕ) → k < length (x ∷ xs) → (d : X) → All P xs → P (get_or (x ∷ xs) k d)
-    by_place zero lt d rest = h.0
-    by_place (suc k) lt d rest = rest k d (omega (arith, lt))
+use Rattle.law_designs.proofs.TypeNumbers.{all-each}
 
 -- the faults of names behind fault 8, and behind fault 7
 abbrev behind_eight : List Piece → List (ℕ × List ℕ)

@@ -22,7 +22,7 @@ use Rattle.smv_instances.specs.Mentions.{Mention, in_type, in_fields, in_item}
 use Rattle.smv_instances.specs.Mentions as mentions
 use Rattle.smv_instances.specs.Scopes.{Piece, Known, pieces, pieces_from, known_after}
 use Rattle.smv_instances.specs.NameFaults.{repeated, place_if, undeclared_in, doubled_in, without_main, recursive_in, miscounted_in}
-use Rattle.smv_instances.specs.FirstFault.{comes_before, earlier, first_of, faults_at, faults_of_names, fault_of_size, or_else, first_fault}
+use Rattle.smv_instances.specs.FirstFault.{first_of, faults_at, faults_of_names, fault_of_size, first_fault}
 use Rattle.smv_core.specs.declared.fault.Fault.{Fault}
 use Rattle.smv_core.specs.declared.tree.Span.{Span}
 use Rattle.std.specs.Option.{option_or}
@@ -32,35 +32,16 @@ use Rattle.law_designs.specs.Agreement.{IsIndexType, numbers_in}
 use Rattle.law_designs.proofs.Numbered.{IsNumbered, IsNumberedOrNone, HasNumbers, AreNumbered}
 use Rattle.law_designs.proofs.Lookups.{any-found, find-passes, any-behind}
 use Rattle.law_designs.proofs.Different.{different-keeps}
+use Rattle.law_designs.proofs.Faultless.{each-append, each-front, each-behind, each-map, each-more, no_fault-in, none-first}
 
 pub paths-decide : (p q : Path) → Decides (same_path p q) (p ≡ q)
 paths-decide p q = slice_eq-Decides bytes_eq-Decides p q (same_path p q) refl
-
-each-append : {X : Type 0} (P : X → Type 0) (xs ys : List X) → AllByRecursion P xs → AllByRecursion P ys → AllByRecursion P (xs ++ ys)
-each-append P [] ys h k = k
-each-append P (x ∷ xs) ys h k = (h.0, each-append P xs ys h.1 k)
-
-each-front : {X : Type 0} (P : X → Type 0) (xs ys : List X) → AllByRecursion P (xs ++ ys) → AllByRecursion P xs
-each-front P [] ys h = tt
-each-front P (x ∷ xs) ys h = (h.0, each-front P xs ys h.1)
-
-each-behind : {X : Type 0} (P : X → Type 0) (xs ys : List X) → AllByRecursion P (xs ++ ys) → AllByRecursion P ys
-each-behind P [] ys h = h
-each-behind P (x ∷ xs) ys h = each-behind P xs ys h.1
-
-each-map : {X Y : Type 0} (P : X → Type 0) (Q : Y → Type 0) (f : X → Y) → ((x : X) → P x → Q (f x)) → (xs : List X) → AllByRecursion P xs → AllByRecursion Q (map f xs)
-each-map P Q f h [] k = tt
-each-map P Q f h (x ∷ xs) k = (h x k.0, each-map P Q f h xs k.1)
-
-each-more : {X : Type 0} (P Q : X → Type 0) → ((x : X) → P x → Q x) → (xs : List X) → AllByRecursion P xs → AllByRecursion Q xs
-each-more P Q h [] k = tt
-each-more P Q h (x ∷ xs) k = (h x k.0, each-more P Q h xs k.1)
 
 each-flat_map : {X Y : Type 0} (Q : Y → Type 0) (f : X → List Y) → ((x : X) → AllByRecursion Q (f x)) → (xs : List X) → AllByRecursion Q (flat_map f xs)
 each-flat_map Q f h [] = tt
 each-flat_map Q f h (x ∷ xs) = each-append Q (f x) (flat_map f xs) (h x) (each-flat_map Q f h xs)
 
-all-each : {X : Type 0} (P : X → Type 0) (xs : List X) → AllByRecursion P xs → All P xs
+pub all-each : {X : Type 0} (P : X → Type 0) (xs : List X) → AllByRecursion P xs → All P xs
 all-each P [] h = λ k d lt. absurd (omega (arith, lt))
 all-each {X} P (x ∷ xs) h = λ k d lt. by_place k lt d (all-each P xs h.1)
   where
@@ -311,22 +292,6 @@ module _ (scope : Scope) (n : Numbered) (same_enums : n.enums ≡ scope.enums) (
       )
 
 -- ---- the text
-
-no_fault-in : (fs : List Fault) → first_of fs ≡ None → fs ≡ []
-no_fault-in [] e = refl
-no_fault-in (f ∷ fs) e = absurd (by_rest (first_of fs) e)
-  where
-    by_order : (b : Bool) (g : Fault) → cond b (Some g) (Some f) ≡ None → ⊥
-    by_order true g e = cc (e)
-    by_order false g e = cc (e)
-
-    by_rest : (o : Option Fault) → earlier f o ≡ None → ⊥
-    by_rest None e = cc (e)
-    by_rest (Some g) e = by_order (comes_before g f) g e
-
-none-first : (o p : Option Fault) → or_else o p ≡ None → o ≡ None
-none-first None p e = refl
-none-first (Some f) p e = absurd (cc (e))
 
 no_places : (number : ℕ) (places : List ℕ) → faults_at (number, places) ≡ [] → places ≡ []
 no_places number [] e = refl

@@ -90,21 +90,21 @@ one-member : (n : _) (row : Row_of-Member n) → HasOne (items-the_row-Member n 
 one-member n end_of-Member h = h
 one-member n (more_of-Member member rest) h = tt
 
-abbrev exprs_in : Expr → (n : Count) × Row_of-Expr n
+abbrev pub exprs_in : Expr → (n : Count) × Row_of-Expr n
 exprs_in (And' shape row) = (_, row)
 exprs_in (Or' shape row) = (_, row)
 exprs_in (Implies' shape row) = (_, row)
 exprs_in _ = (_, end_of-Expr)
 
-abbrev parts_in : Expr → (n : Count) × Row_of-Part n
+abbrev pub parts_in : Expr → (n : Count) × Row_of-Part n
 parts_in (Signal' shape row at) = (_, row)
 parts_in _ = (_, end_of-Part)
 
-abbrev members_in : Expr → (n : Count) × Row_of-Member n
+abbrev pub members_in : Expr → (n : Count) × Row_of-Member n
 members_in (List' shape row at) = (_, row)
 members_in _ = (_, end_of-Member)
 
-abbrev terms_in : Expr → (n : Count) × Row_of-Signed n
+abbrev pub terms_in : Expr → (n : Count) × Row_of-Signed n
 terms_in (Sum' f first shape row) = (_, row)
 terms_in _ = (_, end_of-Signed)
 
@@ -206,15 +206,15 @@ unfolding computing
 arms-row n end_of-Arm h = tt
 arms-row n (more_of-Arm labels body rest) h = (h.0.0, h.0.1, arms-row _ rest h.1)
 
-abbrev stmts_in : Stmt → (n : Count) × Row_of-Stmt n
+abbrev pub stmts_in : Stmt → (n : Count) × Row_of-Stmt n
 stmts_in (Block' shape row) = (_, row)
 stmts_in _ = (_, end_of-Stmt)
 
-abbrev arms_in : Stmt → (n : Count) × Row_of-Arm n
+abbrev pub arms_in : Stmt → (n : Count) × Row_of-Arm n
 arms_in (Switch' on shape row other at) = (_, row)
 arms_in _ = (_, end_of-Arm)
 
-abbrev other_in : Stmt → Held-Stmt-If-2
+abbrev pub other_in : Stmt → Held-Stmt-If-2
 other_in (Switch' on shape row other at) = other
 other_in _ = None'
 
@@ -263,7 +263,7 @@ items-row : (n : _) (row : Row_of-Item n) → AllByRecursion InnerIsWritten (ite
 items-row n end_of-Item h = tt
 items-row n (more_of-Item part rest) h = (h.0, items-row _ rest h.1)
 
-abbrev items_in : Item → (n : Count) × Row_of-Item n
+abbrev pub items_in : Item → (n : Count) × Row_of-Item n
 items_in (item.Block' shape row) = (_, row)
 items_in _ = (_, end_of-Item)
 

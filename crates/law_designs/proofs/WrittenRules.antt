@@ -35,18 +35,18 @@ use Rattle.law_designs.proofs.WrittenForms.{FieldIsWritten, written-Struct, writ
 abbrev pub Gives : {A : Type 0} → (A → Type 0) → Rule A → Type 0
 Gives {A} P r = (ts : Tokens) (a : A) (rest : Tokens) → r ts a rest → P a
 
-many-gives : {A : Type 0} (P : A → Type 0) (r : Rule A) → Gives P r → (ts : Tokens) (xs : List A) (rest : Tokens) → many r ts xs rest → AllByRecursion P xs
+pub many-gives : {A : Type 0} (P : A → Type 0) (r : Rule A) → Gives P r → (ts : Tokens) (xs : List A) (rest : Tokens) → many r ts xs rest → AllByRecursion P xs
 many-gives P r h ts [] rest x = tt
 many-gives P r h ts (a ∷ more) rest x = (h ts a x.0 x.1, many-gives P r h x.0 more rest x.2)
 
-separated-gives : {A : Type 0} (P : A → Type 0) (r : Rule A) → Gives P r → Gives (AllByRecursion P) (separated r)
+pub separated-gives : {A : Type 0} (P : A → Type 0) (r : Rule A) → Gives P r → Gives (AllByRecursion P) (separated r)
 separated-gives {A} P r h ts xs rest x =
     subst (AllByRecursion P) x.3.3.0 (h ts x.0 x.1 x.2, many-gives P (token comma >> r) (λ ts a rest y. h y.1 a rest y.3) x.1 x.3.0 x.3.1 x.3.2)
 
 separated-one : {A : Type 0} (r : Rule A) → Gives HasOne (separated r)
 separated-one r ts xs rest x = subst HasOne x.3.3.0 tt
 
-or_none-gives : {A : Type 0} (P : A → Type 0) (r : Rule A) → Gives P r → Gives (AllByRecursion P) (separated_or_none r)
+pub or_none-gives : {A : Type 0} (P : A → Type 0) (r : Rule A) → Gives P r → Gives (AllByRecursion P) (separated_or_none r)
 or_none-gives P r h ts xs rest (inl x) = separated-gives P r h ts xs rest x
 or_none-gives P r h ts xs rest (inr x) = subst (AllByRecursion P) x.0 tt
 

@@ -18,7 +18,8 @@ use Rattle.law_designs.specs.WholeText.{is_one_layer, claims_of}
 use Rattle.law_designs.specs.Standing.{count, Statement, statements_from, statements_of, Standing, standing, standing_in, assigned_by}
 use Rattle.law_designs.specs.Definitions.{is_nothing, joined, first_part, flat_of, flats_of, part_of, set_of, Head, head, heads_of, same_definition, first_heads, def_of, splits_of, uses_of, design_of_raw}
 use Rattle.law_designs.proofs.FlatParts.{boxes, rows_of}
-use Rattle.law_fault_places.proofs.TreeLists.{all-joined, all-mapped, all-flat, all-filtered, all-zipped}
+use Rattle.law_designs.proofs.Faultless.{each-append, each-map}
+use Rattle.law_fault_places.proofs.TreeLists.{all-flat, all-filtered, all-zipped}
 use Rattle.law_fault_places.specs.FlatPlaces.{FlatExprIsWithin, FlatExprsAreWithin, ActIsWithin, ActsAreWithin, ClaimIsWithin, SplitIsWithin, UsingIsWithin, FlatItemIsWithin, RawIsWithin, PartOfIsWithin, PartsOfAreWithin, DefIsWithin, DesignIsWithin}
 
 pub different-all : {X : Type 0} (P : X → Type 0) (same : X → X → Bool) (xs : List X) → AllByRecursion P xs → AllByRecursion P (different same xs)
@@ -49,15 +50,15 @@ module _ (n : ℕ) where
       pub standing-within : (around : List ℕ) (act : FlatStmt) → ActIsWithin n act → AllByRecursion StandingIsWithin (standing layer around act)
       standing-within around (Assign kind family left value at) h = ((h.1, h.0), tt)
       standing-within around (If' cond l (more_of-FlatStmt left end_of-FlatStmt) r (more_of-FlatStmt right end_of-FlatStmt)) h =
-          all-joined StandingIsWithin (standing layer around left) (standing layer around right) (standing-within around left h.1) (standing-within around right h.2)
+          each-append StandingIsWithin (standing layer around left) (standing layer around right) (standing-within around left h.1) (standing-within around right h.2)
       standing-within around (Block' shape parts) h = standing_in-within around parts h
       standing-within around (Default' l (more_of-FlatStmt left end_of-FlatStmt) r (more_of-FlatStmt right end_of-FlatStmt)) h =
-          all-joined StandingIsWithin (standing layer around left) (standing layer around right) (standing-within around left h.0) (standing-within around right h.1)
+          each-append StandingIsWithin (standing layer around left) (standing layer around right) (standing-within around left h.0) (standing-within around right h.1)
       standing-within around (Forall' var over shape (more_of-FlatStmt body end_of-FlatStmt)) h = standing-within (var ∷ around) body h
 
       pub standing_in-within : {m : _} (around : List ℕ) (row : Row_of-FlatStmt m) → ActsAreWithin n row → AllByRecursion StandingIsWithin (standing_in layer around row)
       standing_in-within around end_of-FlatStmt h = tt
-      standing_in-within around (more_of-FlatStmt part rest) h = all-joined StandingIsWithin (standing layer around part) (standing_in layer around rest) (standing-within around part h.0) (standing_in-within around rest h.1)
+      standing_in-within around (more_of-FlatStmt part rest) h = each-append StandingIsWithin (standing layer around part) (standing_in layer around rest) (standing-within around part h.0) (standing_in-within around rest h.1)
 
   pub assigned-within : (s : Statement) → SaidIsWithin s → AllByRecursion StandingIsWithin (assigned_by s)
   assigned-within s h = standing-within s.layer [] s.act h
@@ -112,7 +113,7 @@ module _ (n : ℕ) where
 
     part-within : (statements : List Statement) → AllByRecursion SaidIsWithin statements → PartOfIsWithin n (part_of kind family statements)
     part-within statements h =
-        first_part-within (map (λ (s : Statement). flat_of kind family s.place s.act) statements) (all-mapped SaidIsWithin (PartOfIsWithin n) (λ (s : Statement). flat_of kind family s.place s.act) (λ s own. flat-within s.place s.act own) statements h)
+        first_part-within (map (λ (s : Statement). flat_of kind family s.place s.act) statements) (each-map SaidIsWithin (PartOfIsWithin n) (λ (s : Statement). flat_of kind family s.place s.act) (λ s own. flat-within s.place s.act own) statements h)
 
   -- ---- definitions
 
@@ -121,7 +122,7 @@ module _ (n : ℕ) where
 
   heads-within : (s : Statement) → SaidIsWithin s → AllByRecursion HeadIsWithin (heads_of s)
   heads-within s h =
-      all-mapped (λ (p : Standing × ℕ). StandingIsWithin p.0) HeadIsWithin (λ (p : Standing × ℕ). head p.0 p.1) (λ p own. own.1)
+      each-map (λ (p : Standing × ℕ). StandingIsWithin p.0) HeadIsWithin (λ (p : Standing × ℕ). head p.0 p.1) (λ p own. own.1)
       (zip (assigned_by s) (numbers_from s.place (count s.act))) (all-zipped StandingIsWithin (assigned_by s) (numbers_from s.place (count s.act)) (assigned-within s h))
 
   first-heads-within : (raw : Raw) → RawIsWithin n raw → AllByRecursion HeadIsWithin (first_heads raw)
@@ -159,7 +160,7 @@ module _ (n : ℕ) where
   -- the design of a flattened text keeps its places
   pub design-within : (raw : Raw) → RawIsWithin n raw → DesignIsWithin n (design_of_raw raw)
   design-within raw h = record {
-    defs = all-mapped HeadIsWithin (DefIsWithin n) (def_of raw) (def-within raw h) (first_heads raw) (first-heads-within raw h);
+    defs = each-map HeadIsWithin (DefIsWithin n) (def_of raw) (def-within raw h) (first_heads raw) (first-heads-within raw h);
     claims = claims-within raw.items h;
     splits = splits-within raw.items h;
     uses = uses-within raw.items h;

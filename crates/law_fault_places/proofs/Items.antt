@@ -28,8 +28,9 @@ use Rattle.law_designs.specs.Numbers.{Scope}
 use Rattle.law_designs.specs.Statements.{first_token}
 use Rattle.law_designs.specs.Entries.{Binders, Goal, claim, split, using, Entry, layer, statement, goal, inside_binder, formal, given_to, connection, connections, instance_entries, item_entries, items_entries, entries_in, entries}
 use Rattle.law_designs.specs.Flattening.{flat_assignments, scope_in, within, flat_pair, flat_goal, whole, whole_use, prefix_at, with_places, layers_of, flat_entry, flatten}
+use Rattle.law_designs.proofs.Faultless.{each-append, each-map}
 use Rattle.law_fault_places.specs.TreePlaces.{WordIsWithin, WordsAreWithin, TypeIsWithin, ExprIsWithin, ExprsAreWithin, PartsAreWithin, PathIsWithin, StatementIsWithin, RefIsWithin, UseIsWithin, PairIsWithin, ItemIsWithin, ItemsAreWithin, TopIsWithin, TextIsWithin}
-use Rattle.law_fault_places.proofs.TreeLists.{all-joined, all-mapped, all-flat, any-mapped}
+use Rattle.law_fault_places.proofs.TreeLists.{all-flat, any-mapped}
 use Rattle.law_fault_places.proofs.TreeForms.{row-parts, within-Signal, within-Assign, within-Forall}
 use Rattle.law_fault_places.specs.FlatPlaces.{FlatPairIsWithin, FlatItemIsWithin, RawIsWithin}
 use Rattle.law_fault_places.proofs.Flattened.{first-within, expr-within, act-within}
@@ -97,8 +98,8 @@ module _ (n : ℕ) where
           AllByRecursion EntryIsWithin (flat_map (λ (word : Word). instance_entries types bodies inside here name args word.name) words)
       instances-within all name args h [] = tt
       instances-within all name args h (word ∷ words) =
-          all-joined EntryIsWithin (instance_entries types bodies inside here name args word.name) (flat_map (λ (word : Word). instance_entries types bodies inside here name args word.name) words)
-          (all-joined EntryIsWithin (map (λ act. statement (record { layer = None; instance = here; act = act })) (connections (body_of types bodies name) word.name args)) (inside (here ++ word.name ∷ []) name)
+          each-append EntryIsWithin (instance_entries types bodies inside here name args word.name) (flat_map (λ (word : Word). instance_entries types bodies inside here name args word.name) words)
+          (each-append EntryIsWithin (map (λ act. statement (record { layer = None; instance = here; act = act })) (connections (body_of types bodies name) word.name args)) (inside (here ++ word.name ∷ []) name)
           (said-within None (connections (body_of types bodies name) word.name args) (connections-within (body_of types bodies name) word.name args h)) (all (here ++ word.name ∷ []) name))
           (instances-within all name args h words)
 
@@ -108,7 +109,7 @@ module _ (n : ℕ) where
         item-within all (Instance words name args at) h = instances-within all name.name args h.2 words
         item-within all (Layer name body at) h = (tt, said-within (Some name.name) body h.1)
         item-within all (Forall' var over shape (more_of-Item body end_of-Item) at) h =
-            all-mapped EntryIsWithin EntryIsWithin (inside_binder var over) (inside-within var over h.1 h.2) (item_entries types bodies inside here body) (item-within all body h.3)
+            each-map EntryIsWithin EntryIsWithin (inside_binder var over) (inside-within var over h.1 h.2) (item_entries types bodies inside here body) (item-within all body h.3)
         item-within all (Block' shape items) h = items-within all items h
         item-within all (Claim name vars body at) h = (h, tt)
         item-within all (Split name vars of pairs at) h = (h, tt)
@@ -117,7 +118,7 @@ module _ (n : ℕ) where
 
         items-within : {m : _} → ((there : Path) (name : Name) → AllByRecursion EntryIsWithin (inside there name)) → (row : Row_of-Item m) → ItemsAreWithin n row → AllByRecursion EntryIsWithin (items_entries types bodies inside here row)
         items-within all end_of-Item h = tt
-        items-within all (more_of-Item x rest) h = all-joined EntryIsWithin (item_entries types bodies inside here x) (items_entries types bodies inside here rest) (item-within all x h.0) (items-within all rest h.1)
+        items-within all (more_of-Item x rest) h = each-append EntryIsWithin (item_entries types bodies inside here x) (items_entries types bodies inside here rest) (item-within all x h.0) (items-within all rest h.1)
 
     entries-within : ((name : Name) → AllByRecursion (ItemIsWithin n) (body_of types bodies name).items) → (k : ℕ) (here : Path) (name : Name) → AllByRecursion EntryIsWithin (entries_in types bodies k here name)
     entries-within items zero here name = tt
@@ -143,7 +144,7 @@ module _ (n : ℕ) where
 
   module _ (scope : Scope) where
     whole-within : (of : Ref) → RefIsWithin n of → RefIsWithin n (whole scope of)
-    whole-within of h = (all-joined (WordIsWithin n) (prefix_at scope of.at) of.path (any-mapped (WordIsWithin n) (λ (name : Name). record { name = name; at = of.at }) (λ name. h.3) scope.instance) h.0, h.1, h.2, h.3)
+    whole-within of h = (each-append (WordIsWithin n) (prefix_at scope of.at) of.path (any-mapped (WordIsWithin n) (λ (name : Name). record { name = name; at = of.at }) (λ name. h.3) scope.instance) h.0, h.1, h.2, h.3)
 
     use-within : (x : Use) → UseIsWithin n x → UseIsWithin n (whole_use scope x)
     use-within (PlainUse of) h = whole-within of h
@@ -158,7 +159,7 @@ module _ (n : ℕ) where
     goal-within binders (claim word vars body at) h = (h.1, expr-within n scope (within [] binders) body h.2, h.3)
     goal-within binders (split word vars of pairs at) h = (h.1, whole-within of h.2, pairs-within binders pairs h.3, h.4)
     goal-within binders (using uses proves at) h =
-        (all-mapped (UseIsWithin n) (UseIsWithin n) (whole_use scope) use-within uses h.0, all-mapped (RefIsWithin n) (RefIsWithin n) (whole scope) whole-within proves h.1, h.2)
+        (each-map (UseIsWithin n) (UseIsWithin n) (whole_use scope) use-within uses h.0, each-map (RefIsWithin n) (RefIsWithin n) (whole scope) whole-within proves h.1, h.2)
 
   entry-within : (text : Text) (layers : List Name) (e : Entry) → EntryIsWithin e → AllByRecursion (FlatItemIsWithin n) (flat_entry text layers e)
   entry-within text layers (layer name) h = tt

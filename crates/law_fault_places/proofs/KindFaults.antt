@@ -26,9 +26,10 @@ use Rattle.law_designs.specs.Types.{Types, leads, value_kind, types_after, index
 use Rattle.law_designs.specs.References.{Module, module_of, modules_from, Scope, Vars, signal_at, reference}
 use Rattle.law_designs.specs.Operands.{bind, operand, value, target}
 use Rattle.law_designs.specs.KindFaults.{assigned, in_stmt, in_block, in_branch, in_arms, labels, formal_faults, are_constant, given, gives, connected, in_arguments, in_item, in_items, in_top, in_tops, faults_of_kinds, first_fault_of_kinds}
+use Rattle.law_designs.proofs.Faultless.{each-append, each-map}
 use Rattle.law_fault_places.specs.TreePlaces.{WordIsWithin, ExprIsWithin, ExprsAreWithin, StatementIsWithin, StatementsAreWithin, BranchIsWithin, ArmsAreWithin, PairIsWithin, ItemIsWithin, ItemsAreWithin, TopIsWithin, TextIsWithin}
 use Rattle.law_fault_places.specs.FaultPlaces.{IsFaultOf}
-use Rattle.law_fault_places.proofs.TreeLists.{all-joined, all-mapped, all-flat, zipped-all}
+use Rattle.law_fault_places.proofs.TreeLists.{all-flat, zipped-all}
 use Rattle.law_fault_places.proofs.Firsts.{first-one}
 use Rattle.law_fault_places.proofs.TreeForms.{row-parts}
 use Rattle.law_fault_places.specs.KindFaultPlaces.{numbers_of_kinds}
@@ -46,8 +47,8 @@ module _ (n : ℕ) where
     unfolding in_stmt in_block in_branch in_arms labels
     labels-within vars end_of-Arm h = tt
     labels-within vars (more_of-Arm words body rest) h =
-        all-joined (IsOperandWithin n) (map (operand scope vars) words) (labels scope vars rest)
-        (all-mapped (ExprIsWithin n) (IsOperandWithin n) (operand scope vars) (operand-within n scope vars) words h.0) (labels-within vars rest h.2)
+        each-append (IsOperandWithin n) (map (operand scope vars) words) (labels scope vars rest)
+        (each-map (ExprIsWithin n) (IsOperandWithin n) (operand scope vars) (operand-within n scope vars) words h.0) (labels-within vars rest h.2)
 
     mutual
       unfolding in_stmt in_block in_branch in_arms labels

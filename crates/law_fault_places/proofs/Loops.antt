@@ -10,8 +10,9 @@ use Rattle.law_designs.specs.Reading.{Reference, references, references_of, refe
 use Rattle.law_designs.specs.Loops.{is_base, Edge, edges_of, hold_a_cycle, put, in_order, undelayed, undelayed_in, closing, looping}
 use Rattle.law_designs.specs.LayerFaults.{assignments_of, is_abstract, outside_layers, leaking, assigned_outside}
 use Rattle.law_designs.specs.FirstFault.{faults_of_loops, first_fault_of_loops, faults_of_layers, first_fault_of_layers, first_fault_of_design}
+use Rattle.law_designs.proofs.Faultless.{each-append, each-map}
 use Rattle.law_fault_places.specs.FaultPlaces.{IsFaultOf}
-use Rattle.law_fault_places.proofs.TreeLists.{all-joined, all-mapped, all-flat, all-filtered}
+use Rattle.law_fault_places.proofs.TreeLists.{all-flat, all-filtered}
 use Rattle.law_fault_places.proofs.Firsts.{first-one, either-one, AreUpTo, faults-placed, lists-placed}
 use Rattle.law_fault_places.specs.FlatPlaces.{FlatExprIsWithin, FlatRowIsWithin, FlatTermsAreWithin, FlatMembersAreWithin, FlatConditionIsWithin, PartOfIsWithin, PartsOfAreWithin, DefIsWithin, DesignIsWithin}
 use Rattle.law_fault_places.specs.DesignFaultPlaces.{numbers_of_designs}
@@ -26,7 +27,7 @@ module _ (n : ℕ) where
   ReferencesAreWithin rs = AllByRecursion ReferenceIsWithin rs
 
   join : (xs ys : List Reference) → ReferencesAreWithin xs → ReferencesAreWithin ys → ReferencesAreWithin (xs ++ ys)
-  join xs ys h g = all-joined ReferenceIsWithin xs ys h g
+  join xs ys h g = each-append ReferenceIsWithin xs ys h g
 
   mutual
     references-within : (e : FlatExpr) → FlatExprIsWithin n e → ReferencesAreWithin (references e)
@@ -84,19 +85,19 @@ module _ (n : ℕ) where
           ((h.0, join (around ++ (flat_map references left)) (references value) (join around (flat_map references left) a (all-flat (FlatExprIsWithin n) ReferenceIsWithin references references-within left h.1)) (references-within value h.2)), tt)
       readings-within around (If' cond l (more_of-Flat left end_of-Flat) r (more_of-Flat right end_of-Flat)) a h =
           let inside : ReferencesAreWithin (around ++ references cond) = join around (references cond) a (references-within cond h.0) in
-          all-joined ReadingIsWithin (readings family (around ++ references cond) left) (readings family (around ++ references cond) right) (readings-within (around ++ references cond) left inside h.1) (readings-within (around ++ references cond) right inside h.2)
+          each-append ReadingIsWithin (readings family (around ++ references cond) left) (readings family (around ++ references cond) right) (readings-within (around ++ references cond) left inside h.1) (readings-within (around ++ references cond) right inside h.2)
       readings-within around (First' shape parts) a h = parts-within around parts a h
       readings-within around (Forall' var over shape (more_of-Flat body end_of-Flat)) a h = readings-within around body a h
 
       parts-within : {m : _} (around : List Reference) (row : Row_of-Flat m) → ReferencesAreWithin around → PartsOfAreWithin n row → ReadingsAreWithin (readings_of family around row)
       parts-within around end_of-Flat a h = tt
-      parts-within around (more_of-Flat part rest) a h = all-joined ReadingIsWithin (readings family around part) (readings_of family around rest) (readings-within around part a h.0) (parts-within around rest a h.1)
+      parts-within around (more_of-Flat part rest) a h = each-append ReadingIsWithin (readings family around part) (readings_of family around rest) (readings-within around part a h.0) (parts-within around rest a h.1)
 
   -- ---- loops
 
   undelayed-within : (def : Def) → DefIsWithin n def → ReadingsAreWithin (undelayed def)
   undelayed-within def h =
-      all-joined ReadingIsWithin (readings def.family [] def.comb) (readings def.family [] def.init) (readings-within def.family [] def.comb tt h.2) (readings-within def.family [] def.init tt h.0)
+      each-append ReadingIsWithin (readings def.family [] def.comb) (readings def.family [] def.init) (readings-within def.family [] def.comb tt h.2) (readings-within def.family [] def.init tt h.0)
 
   put-within : (a : Reading) (more : List Reading) → ReadingIsWithin a → ReadingsAreWithin more → ReadingsAreWithin (put a more)
   put-within a [] h g = (h, tt)
@@ -127,7 +128,7 @@ module _ (n : ℕ) where
 
   assignments-within : (def : Def) → DefIsWithin n def → ReadingsAreWithin (assignments_of def)
   assignments-within def h =
-      all-joined ReadingIsWithin ((readings def.family [] def.init) ++ (readings def.family [] def.next)) (readings def.family [] def.comb) (all-joined ReadingIsWithin (readings def.family [] def.init) (readings def.family [] def.next) (readings-within def.family [] def.init tt h.0) (readings-within def.family [] def.next tt h.1)) (readings-within def.family [] def.comb tt h.2)
+      each-append ReadingIsWithin ((readings def.family [] def.init) ++ (readings def.family [] def.next)) (readings def.family [] def.comb) (each-append ReadingIsWithin (readings def.family [] def.init) (readings def.family [] def.next) (readings-within def.family [] def.init tt h.0) (readings-within def.family [] def.next tt h.1)) (readings-within def.family [] def.comb tt h.2)
 
   module _ (d : Design) (h : DesignIsWithin n d) where
     outside-within : ReadingsAreWithin (outside_layers d)
@@ -137,13 +138,13 @@ module _ (n : ℕ) where
     leaking-within =
         let reads = flat_map (λ (a : Reading). a.reads) (outside_layers d) in
         let test = λ (r : Reference). is_abstract d (slice_get d.families r.family) in
-        all-mapped ReferenceIsWithin (λ (at : ℕ). at ≤ n) (λ (r : Reference). r.at) (λ r own. own) (filter test reads)
+        each-map ReferenceIsWithin (λ (at : ℕ). at ≤ n) (λ (r : Reference). r.at) (λ r own. own) (filter test reads)
         (all-filtered ReferenceIsWithin test reads (all-flat ReadingIsWithin ReferenceIsWithin (λ (a : Reading). a.reads) (λ a own. own.1) (outside_layers d) outside-within))
 
     assigned-within : AreUpTo n (assigned_outside d)
     assigned-within =
         let test = λ (a : Reading). is_abstract d (slice_get d.families a.family) in
-        all-mapped ReadingIsWithin (λ (at : ℕ). at ≤ n) (λ (a : Reading). a.at) (λ a own. own.0) (filter test (outside_layers d)) (all-filtered ReadingIsWithin test (outside_layers d) outside-within)
+        each-map ReadingIsWithin (λ (at : ℕ). at ≤ n) (λ (a : Reading). a.at) (λ a own. own.0) (filter test (outside_layers d)) (all-filtered ReadingIsWithin test (outside_layers d) outside-within)
 
   pub first-within : (d : Design) → DesignIsWithin n d → IfSome (first_fault_of_design d) (IsFaultOf numbers_of_designs n)
   first-within d h =

@@ -12,9 +12,10 @@ use Rattle.smv_instances.specs.Scopes.{Piece, pieces, Scope, Own, scope_of, has_
 use Rattle.smv_instances.specs.NameFaults.{place_if, is_type, is_port, is_port_if_own, undeclared, formal_undeclared, repeated, later, own_at, is_of_other_list, places_of, doubled, declared_words, contains, recursive, takes_other, miscounted, formals_of, undeclared_in, doubled_in, recursive_in, miscounted_in, name_faults}
 use Rattle.smv_instances.specs.Sizes.{is_too_large}
 use Rattle.smv_instances.specs.FirstFault.{first_of, faults_of_names, fault_at_main, fault_of_size, first_fault}
+use Rattle.law_designs.proofs.Faultless.{each-append, each-map}
 use Rattle.law_fault_places.specs.TreePlaces.{WordIsWithin, WordsAreWithin, TextIsWithin}
 use Rattle.law_fault_places.specs.FaultPlaces.{IsFaultOf}
-use Rattle.law_fault_places.proofs.TreeLists.{all-joined, all-mapped, all-flat, all-filtered}
+use Rattle.law_fault_places.proofs.TreeLists.{all-flat, all-filtered}
 use Rattle.law_fault_places.proofs.Firsts.{first-one, either-one, AreUpTo, lists-placed, placed-if, named-one, mapped-one, unwrapped-one}
 use Rattle.law_fault_places.specs.NameFaultPlaces.{numbers_of_names}
 use Rattle.law_fault_places.proofs.Said.{MentionIsWithin, AreSaidWithin}
@@ -22,7 +23,7 @@ use Rattle.law_fault_places.proofs.Scopes.{IsUpTo, IsPieceWithin, ArePiecesWithi
 
 module _ (n : ℕ) where
   both : (xs ys : List ℕ) → AreUpTo n xs → AreUpTo n ys → AreUpTo n (xs ++ ys)
-  both xs ys h g = all-joined (IsUpTo n) xs ys h g
+  both xs ys h g = each-append (IsUpTo n) xs ys h g
 
   -- ---- fault 7
 
@@ -56,7 +57,7 @@ module _ (n : ℕ) where
   doubled-within scope good (has_fields words) h = repeated-within [] words h
   doubled-within scope good (lists_constants words) h =
       let test = λ (word : Word). is_of_other_list words (find_name scope.constants word.name) in
-      both (repeated [] words) (places_of (filter test words)) (repeated-within [] words h) (all-mapped (WordIsWithin n) (IsUpTo n) (λ (word : Word). word.at) (λ word own. own) (filter test words) (all-filtered (WordIsWithin n) test words h))
+      both (repeated [] words) (places_of (filter test words)) (repeated-within [] words h) (each-map (WordIsWithin n) (IsUpTo n) (λ (word : Word). word.at) (λ word own. own) (filter test words) (all-filtered (WordIsWithin n) test words h))
   doubled-within scope good (declares word what) h = later-within (constant_at scope word.name) word.at (constant-within n scope good word.name) h
   doubled-within scope good (binds bound var) h =
       both ((later bound var.at) ++ (later (constant_at scope var.name) var.at)) (later (own_at scope var.name) var.at)
@@ -129,7 +130,7 @@ module _ (n : ℕ) where
         (
           refl,
           both (repeated [] (map (λ (piece : Piece). piece.word) tops)) (flat_map (doubled_in tops) tops)
-              (repeated-within [] (map (λ (piece : Piece). piece.word) tops) (all-mapped (IsPieceWithin n) (WordIsWithin n) (λ (piece : Piece). piece.word) (λ piece own. own.word) tops good))
+              (repeated-within [] (map (λ (piece : Piece). piece.word) tops) (each-map (IsPieceWithin n) (WordIsWithin n) (λ (piece : Piece). piece.word) (λ piece own. own.word) tops good))
               (all-flat (IsPieceWithin n) (IsUpTo n) (doubled_in tops) doubled-in tops good),
         ),
         (

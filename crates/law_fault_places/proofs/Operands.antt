@@ -12,9 +12,10 @@ use Rattle.law_designs.specs.Kinds.{Kind, no_kind, joins, joined, accepts, is_nu
 use Rattle.law_designs.specs.Types.{Whole, Types, index_kind, is_reversed, range_faults, size_faults, is_index, index_faults, type_faults, field_faults}
 use Rattle.law_designs.specs.References.{reference}
 use Rattle.law_designs.specs.Operands.{compared, remainder}
+use Rattle.law_designs.proofs.Faultless.{each-append}
 use Rattle.law_fault_places.specs.TreePlaces.{TypeIsWithin, FieldsAreWithin}
 use Rattle.law_fault_places.specs.FaultPlaces.{IsFaultOf}
-use Rattle.law_fault_places.proofs.TreeLists.{all-joined, all-flat, zipped-all}
+use Rattle.law_fault_places.proofs.TreeLists.{all-flat, zipped-all}
 use Rattle.law_fault_places.proofs.Firsts.{faults-placed, placed-if}
 use Rattle.law_fault_places.specs.KindFaultPlaces.{numbers_of_kinds}
 
@@ -26,7 +27,7 @@ module _ (n : ℕ) where
   AreWithin faults = AllByRecursion IsWithin faults
 
   pub both : (xs ys : List Fault) → AreWithin xs → AreWithin ys → AreWithin (xs ++ ys)
-  both xs ys h g = all-joined IsWithin xs ys h g
+  both xs ys h g = each-append IsWithin xs ys h g
 
   -- a fault of these numbers where a rule is broken
   pub placed : (number : ℕ) → list_any (nat_eq number) numbers_of_kinds ≡ true → (b : Bool) (at : ℕ) → at ≤ n → AreWithin (faults_at (number, place_if b at))

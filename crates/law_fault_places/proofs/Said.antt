@@ -16,8 +16,9 @@ use Rattle.smv_core.specs.declared.tree.Item.{Item, Declare, Instance, Layer, Cl
 use Rattle.smv_core.specs.declared.tree.Item as item
 use Rattle.smv_instances.specs.Mentions.{What, signal, instance, Mention, declares, binds, follows, names_type, lists_constants, has_fields, instantiates, first_place, bound_at, path_in, binder_in, fields_in, in_type, in_fields, in_expr, in_row, in_parts, in_sum, in_members, in_held, in_part, in_path, in_stmt, in_block, in_branch, in_arms, declared_as, in_item, in_items}
 use Rattle.smv_instances.specs.Scopes.{words_of}
+use Rattle.law_designs.proofs.Faultless.{each-append, each-map}
 use Rattle.law_fault_places.specs.TreePlaces.{WordIsWithin, WordsAreWithin, TypeIsWithin, FieldsAreWithin, ExprIsWithin, RowIsWithin, PartsAreWithin, TermsAreWithin, MembersAreWithin, ConditionIsWithin, ExprsAreWithin, PartIsWithin, PathIsWithin, StatementIsWithin, StatementsAreWithin, BranchIsWithin, ArmsAreWithin, PairIsWithin, ItemIsWithin, ItemsAreWithin}
-use Rattle.law_fault_places.proofs.TreeLists.{all-joined, all-mapped, all-flat}
+use Rattle.law_fault_places.proofs.TreeLists.{all-flat}
 use Rattle.law_fault_places.proofs.TreeForms.{row-parts}
 
 module _ (n : ℕ) where
@@ -35,7 +36,7 @@ module _ (n : ℕ) where
   AreSaidWithin said = AllByRecursion MentionIsWithin said
 
   both : (xs ys : List Mention) → AreSaidWithin xs → AreSaidWithin ys → AreSaidWithin (xs ++ ys)
-  both xs ys h g = all-joined MentionIsWithin xs ys h g
+  both xs ys h g = each-append MentionIsWithin xs ys h g
 
   -- ---- variables and paths
 
@@ -65,13 +66,13 @@ module _ (n : ℕ) where
   binder-said vars var v h = (bound-within vars var.name v, h)
 
   inside : (vars : List Word) (var : Word) → WordsAreWithin n vars → WordIsWithin n var → WordsAreWithin n (vars ++ var ∷ [])
-  inside vars var v h = all-joined (WordIsWithin n) vars (var ∷ []) v (h, tt)
+  inside vars var v h = each-append (WordIsWithin n) vars (var ∷ []) v (h, tt)
 
   -- ---- types
 
   fields-words : {m : _} (row : Row_of-Field m) → FieldsAreWithin n row → WordsAreWithin n (fields_in row)
   fields-words end_of-Field h = tt
-  fields-words (more_of-Field names of at rest) h = all-joined (WordIsWithin n) names (fields_in rest) h.0 (fields-words rest h.3)
+  fields-words (more_of-Field names of at rest) h = each-append (WordIsWithin n) names (fields_in rest) h.0 (fields-words rest h.3)
 
   mutual
     unfolding in_type in_fields
@@ -181,7 +182,7 @@ module _ (n : ℕ) where
   -- ---- items
 
   declared-said : (what : What) (words : List Word) → WordsAreWithin n words → AreSaidWithin (declared_as what words)
-  declared-said what words h = all-mapped (WordIsWithin n) MentionIsWithin (λ (word : Word). declares word what) (λ word own. own) words h
+  declared-said what words h = each-map (WordIsWithin n) MentionIsWithin (λ (word : Word). declares word what) (λ word own. own) words h
 
   mutual
     unfolding in_item in_items

@@ -11,8 +11,9 @@ use Rattle.smv_core.specs.declared.tree.Text.{Text}
 use Rattle.smv_core.specs.declared.tree.TypeExpr.{TypeExpr, Boolean, Range, Enum, Named, Array', Struct', end_of-TypeExpr, more_of-TypeExpr, Row_of-Field, end_of-Field, more_of-Field}
 use Rattle.smv_instances.specs.Mentions.{What, signal, instance, goal, Mention, declares, binds, follows, names_type, lists_constants, has_fields, instantiates, in_item}
 use Rattle.smv_instances.specs.Scopes.{Fields, no_field, Known, fields_if_type, has_name, fields_of, field_among, known_after, Piece, piece_of, pieces_from, pieces, Body, body_if_module, module_named, Own, own_names, behind, Constant, constants_in, constants, Scope, scope_of, first_of_places, is_before, constant_at, resolved, path_places}
+use Rattle.law_designs.proofs.Faultless.{each-append, each-map}
 use Rattle.law_fault_places.specs.TreePlaces.{WordIsWithin, WordsAreWithin, ItemIsWithin, TopIsWithin, TextIsWithin}
-use Rattle.law_fault_places.proofs.TreeLists.{all-joined, all-mapped, all-flat}
+use Rattle.law_fault_places.proofs.TreeLists.{all-flat}
 use Rattle.law_fault_places.proofs.Firsts.{AreUpTo, named-one, mapped-one, unwrapped-one}
 use Rattle.law_fault_places.proofs.Said.{MentionIsWithin, AreSaidWithin, type-said, item-said}
 
@@ -58,9 +59,9 @@ module _ (n : ℕ) where
           by false xs ys p q = q
 
   known-after : (known : Known) → IsKnownWithin known → (top : Top) → IsKnownWithin (known_after known top)
-  known-after known good (SetType word ordered span at) = all-joined (λ (entry : Name × Option Fields). IfSome entry.1 AreFieldsWithin) known ((word.name, Some no_field) ∷ []) good (none-within, tt)
-  known-after known good (Alias word of at) = all-joined (λ (entry : Name × Option Fields). IfSome entry.1 AreFieldsWithin) known ((word.name, Some (fields_of known of)) ∷ []) good (fields-within known good of, tt)
-  known-after known good (Module word formals body at) = all-joined (λ (entry : Name × Option Fields). IfSome entry.1 AreFieldsWithin) known ((word.name, None) ∷ []) good (tt, tt)
+  known-after known good (SetType word ordered span at) = each-append (λ (entry : Name × Option Fields). IfSome entry.1 AreFieldsWithin) known ((word.name, Some no_field) ∷ []) good (none-within, tt)
+  known-after known good (Alias word of at) = each-append (λ (entry : Name × Option Fields). IfSome entry.1 AreFieldsWithin) known ((word.name, Some (fields_of known of)) ∷ []) good (fields-within known good of, tt)
+  known-after known good (Module word formals body at) = each-append (λ (entry : Name × Option Fields). IfSome entry.1 AreFieldsWithin) known ((word.name, None) ∷ []) good (tt, tt)
 
   -- ---- pieces and modules
 
@@ -98,7 +99,7 @@ module _ (n : ℕ) where
       by (Some formals) = record { known = h.known; said = h.said }
 
   pub named-pieces : (tops : List Piece) → ArePiecesWithin tops → AllByRecursion (λ (entry : Name × Piece). IsPieceWithin entry.1) (map (λ (piece : Piece). (piece.word.name, piece)) tops)
-  named-pieces tops h = all-mapped IsPieceWithin (λ (entry : Name × Piece). IsPieceWithin entry.1) (λ (piece : Piece). (piece.word.name, piece)) (λ piece own. own) tops h
+  named-pieces tops h = each-map IsPieceWithin (λ (entry : Name × Piece). IsPieceWithin entry.1) (λ (piece : Piece). (piece.word.name, piece)) (λ piece own. own) tops h
 
   module-within : (tops : List Piece) → ArePiecesWithin tops → (name : Name) → IfSome (module_named tops name) IsBodyWithin
   module-within tops h name =
@@ -125,8 +126,8 @@ module _ (n : ℕ) where
   listed-within : (said : List Mention) → AreSaidWithin n said → AreConstantsWithin (constants_in said)
   listed-within [] h = tt
   listed-within (lists_constants words ∷ more) h =
-      all-joined (λ (entry : Name × Constant). entry.1.at ≤ n) (map (λ (word : Word). (word.name, record { at = word.at; names = names_of words })) words) (constants_in more)
-      (all-mapped (WordIsWithin n) (λ (entry : Name × Constant). entry.1.at ≤ n) (λ (word : Word). (word.name, record { at = word.at; names = names_of words })) (λ word own. own) words h.0) (listed-within more h.1)
+      each-append (λ (entry : Name × Constant). entry.1.at ≤ n) (map (λ (word : Word). (word.name, record { at = word.at; names = names_of words })) words) (constants_in more)
+      (each-map (WordIsWithin n) (λ (entry : Name × Constant). entry.1.at ≤ n) (λ (word : Word). (word.name, record { at = word.at; names = names_of words })) (λ word own. own) words h.0) (listed-within more h.1)
   listed-within (declares word what ∷ more) h = listed-within more h.1
   listed-within (binds bound var ∷ more) h = listed-within more h.1
   listed-within (follows bound parts ∷ more) h = listed-within more h.1

@@ -16,8 +16,9 @@ use Rattle.smv_core.specs.declared.flat.Raw.{Raw}
 use Rattle.law_designs.specs.FlatKinds.{Kind, Vars, inside, value_in, bound_by, kind_of}
 use Rattle.law_designs.specs.SetOperands.{first_at, first_at_of, Operand, is_number, is_of_set, number_fault, met, wanted, wanted_at, wanted_of, is_order, lacks_order, disordered}
 use Rattle.law_designs.specs.SetFaults.{operand, operands, members_of, listed, faults_in, faults_each, faults_signed, faults_members, faults_held, faults_of, faults_of_each, item_faults, faults_of_sets, first_fault_of_sets}
+use Rattle.law_designs.proofs.Faultless.{each-append, each-map}
 use Rattle.law_fault_places.specs.FaultPlaces.{IsFaultOf}
-use Rattle.law_fault_places.proofs.TreeLists.{all-joined, all-mapped, all-flat, all-filtered, zipped-all}
+use Rattle.law_fault_places.proofs.TreeLists.{all-flat, all-filtered, zipped-all}
 use Rattle.law_fault_places.proofs.Firsts.{first-one}
 use Rattle.law_fault_places.specs.FlatPlaces.{FlatExprIsWithin, FlatRowIsWithin, FlatTermsAreWithin, FlatMembersAreWithin, FlatConditionIsWithin, FlatExprsAreWithin, FlatPairIsWithin, ActIsWithin, ActsAreWithin, FlatItemIsWithin, RawIsWithin}
 use Rattle.law_fault_places.specs.DesignFaultPlaces.{numbers_of_sets}
@@ -30,7 +31,7 @@ module _ (n : ℕ) where
   AreWithin faults = AllByRecursion IsWithin faults
 
   both : (xs ys : List Fault) → AreWithin xs → AreWithin ys → AreWithin (xs ++ ys)
-  both xs ys h g = all-joined IsWithin xs ys h g
+  both xs ys h g = each-append IsWithin xs ys h g
 
   -- ---- places of expressions
 
@@ -79,7 +80,7 @@ module _ (n : ℕ) where
   met-within xs h = by (list_any (λ (x : Operand). is_of_set x.kind) xs)
     where
       by : (b : Bool) → AreWithin (cond b (map number_fault (filter (λ (x : Operand). is_number x.kind) xs)) [])
-      by true = all-mapped OperandIsWithin IsWithin number_fault number-within (filter (λ (x : Operand). is_number x.kind) xs) (all-filtered OperandIsWithin (λ (x : Operand). is_number x.kind) xs h)
+      by true = each-map OperandIsWithin IsWithin number_fault number-within (filter (λ (x : Operand). is_number x.kind) xs) (all-filtered OperandIsWithin (λ (x : Operand). is_number x.kind) xs h)
       by false = tt
 
   wanted-within : (t : Simple) (x : Operand) → OperandIsWithin x → AreWithin (wanted t x)
@@ -180,7 +181,7 @@ module _ (n : ℕ) where
     -- ---- statements
 
     left-within : (vars : Vars) (es : List FlatExpr) → FlatExprsAreWithin n es → OperandsAreWithin (map (operand raw kind_at vars) es)
-    left-within vars es h = all-mapped (FlatExprIsWithin n) OperandIsWithin (operand raw kind_at vars) first-place es h
+    left-within vars es h = each-map (FlatExprIsWithin n) OperandIsWithin (operand raw kind_at vars) first-place es h
 
     mutual
       of-within : (vars : Vars) (act : FlatStmt) → ActIsWithin n act → AreWithin (faults_of raw kind_at vars act)

@@ -10,8 +10,9 @@ use Rattle.smv_core.specs.declared.flat.FlatStmt.{FlatStmt, Assign, If', Block',
 use Rattle.law_designs.specs.WholeText.{claims_of}
 use Rattle.law_designs.specs.Standing.{Statement, statements_of, Standing, standing, standing_in, assigned_by}
 use Rattle.law_designs.specs.SingleFaults.{later_places, meet, cross, conflicts, conflicts_in, conflicting, are_mixed, mixed, has_variables, lacking, unnamed, assigned_in, single_faults, faults_of_single, first_fault_of_single}
+use Rattle.law_designs.proofs.Faultless.{each-append, each-map}
 use Rattle.law_fault_places.specs.FaultPlaces.{IsFaultOf}
-use Rattle.law_fault_places.proofs.TreeLists.{all-joined, all-mapped, all-flat, all-filtered, any-flat}
+use Rattle.law_fault_places.proofs.TreeLists.{all-flat, all-filtered, any-flat}
 use Rattle.law_fault_places.proofs.Firsts.{first-one, AreUpTo, placed-if, lists-placed}
 use Rattle.law_fault_places.specs.FlatPlaces.{ActIsWithin, ActsAreWithin, ClaimIsWithin, RawIsWithin}
 use Rattle.law_fault_places.proofs.DesignLaws.{SaidIsWithin, statements-within, StandingIsWithin, standing-within, standing_in-within, assigned-within, claims-within}
@@ -22,12 +23,12 @@ module _ (n : ℕ) where
   IsUpTo at = at ≤ n
 
   both : (xs ys : List ℕ) → AreUpTo n xs → AreUpTo n ys → AreUpTo n (xs ++ ys)
-  both xs ys h g = all-joined IsUpTo xs ys h g
+  both xs ys h g = each-append IsUpTo xs ys h g
 
   later-within : (clash : Standing → Standing → Bool) (earlier later : List Standing) → AllByRecursion (StandingIsWithin n) later → AreUpTo n (later_places clash earlier later)
   later-within clash earlier later h =
       any-flat IsUpTo (λ (a : Standing). map (λ (b : Standing). b.at) (filter (clash a) later))
-      (λ a. all-mapped (StandingIsWithin n) IsUpTo (λ (b : Standing). b.at) (λ b own. own.1) (filter (clash a) later) (all-filtered (StandingIsWithin n) (clash a) later h)) earlier
+      (λ a. each-map (StandingIsWithin n) IsUpTo (λ (b : Standing). b.at) (λ b own. own.1) (filter (clash a) later) (all-filtered (StandingIsWithin n) (clash a) later h)) earlier
 
   module _ (layer : Option ℕ) where
     mutual

@@ -13,6 +13,7 @@ use Rattle.smv_core.specs.declared.flat.FlatPair.{FlatPair}
 use Rattle.smv_core.specs.declared.flat.FlatMember.{One, Span as SpanOf}
 use Rattle.smv_core.specs.declared.flat.FlatExpr.{FlatExpr, Number, Read', Var, Loop, Constant, Not', And', Or', Implies', Iff', Compare', Within', Sum', Modulo', Choose', All', Any', List', Each', Held-FlatExpr-Each-2, None', Some', Row_of-FlatExpr, end_of-FlatExpr, more_of-FlatExpr, Row_of-FlatMember, end_of-FlatMember, more_of-FlatMember, Row_of-FlatSigned, end_of-FlatSigned, more_of-FlatSigned}
 use Rattle.smv_instances.specs.NameFaults.{place_if}
+use Rattle.law_designs.proofs.Faultless.{each-append, each-map}
 use Rattle.law_obligations.specs.Outlines.{unit_in}
 use Rattle.law_obligations.specs.Units.{units_of}
 use Rattle.law_splits.specs.Variables.{Reading, readings, readings_each, readings_signed, readings_members, readings_held}
@@ -20,7 +21,7 @@ use Rattle.law_splits.specs.Leaves.{named_by, with_name, name_of, own_params, sp
 use Rattle.law_splits.specs.SplitFaults.{leads_to_unit, astray, split_again, names_one, bracketed, unbound, doubled, equations_of, not_in_one, not_new, is_of_kind, other_kind, is_stray, strays, miscounted, is_of_variables, same_type, other_type, misfits, mismatches, cuts, cuts_of, split_faults, faults_of_splits, first_fault_of_splits}
 use Rattle.law_fault_places.specs.TreePlaces.{WordIsWithin, WordsAreWithin}
 use Rattle.law_fault_places.specs.FaultPlaces.{IsFaultOf}
-use Rattle.law_fault_places.proofs.TreeLists.{all-joined, all-mapped, all-flat, all-filtered, all-zipped, any-flat}
+use Rattle.law_fault_places.proofs.TreeLists.{all-flat, all-filtered, all-zipped, any-flat}
 use Rattle.law_fault_places.proofs.Firsts.{first-one, AreUpTo, placed-if, lists-placed}
 use Rattle.law_fault_places.specs.FlatPlaces.{FlatExprIsWithin, FlatRowIsWithin, FlatTermsAreWithin, FlatMembersAreWithin, FlatConditionIsWithin, FlatPairIsWithin, SplitIsWithin, DesignIsWithin}
 use Rattle.law_fault_places.specs.ProofFaultPlaces.{numbers_of_splits}
@@ -30,7 +31,7 @@ module _ (n : ℕ) where
   IsUpTo at = at ≤ n
 
   both : (xs ys : List ℕ) → AreUpTo n xs → AreUpTo n ys → AreUpTo n (xs ++ ys)
-  both xs ys h g = all-joined IsUpTo xs ys h g
+  both xs ys h g = each-append IsUpTo xs ys h g
 
   -- ---- variables that are read
 
@@ -38,7 +39,7 @@ module _ (n : ℕ) where
   ReadingsAreWithin rs = AllByRecursion (λ (r : Reading). r.at ≤ n) rs
 
   join : (xs ys : List Reading) → ReadingsAreWithin xs → ReadingsAreWithin ys → ReadingsAreWithin (xs ++ ys)
-  join xs ys h g = all-joined (λ (r : Reading). r.at ≤ n) xs ys h g
+  join xs ys h g = each-append (λ (r : Reading). r.at ≤ n) xs ys h g
 
   mutual
     readings-within : (e : FlatExpr) → FlatExprIsWithin n e → ReadingsAreWithin (readings e)
@@ -90,7 +91,7 @@ module _ (n : ℕ) where
   again-within (s ∷ more) h =
       let test = λ (t : FlatSplit). bytes_eq (named_by t.of) (named_by s.of) in
       both (map (λ (t : FlatSplit). t.of.at) (filter test more)) (split_again more)
-      (all-mapped (SplitIsWithin n) IsUpTo (λ (t : FlatSplit). t.of.at) (λ t own. own.1.3) (filter test more) (all-filtered (SplitIsWithin n) test more h.1)) (again-within more h.1)
+      (each-map (SplitIsWithin n) IsUpTo (λ (t : FlatSplit). t.of.at) (λ t own. own.1.3) (filter test more) (all-filtered (SplitIsWithin n) test more h.1)) (again-within more h.1)
 
   -- ---- fault 24
 
@@ -106,7 +107,7 @@ module _ (n : ℕ) where
   doubled-within (word ∷ more) h =
       let test = λ (other : Word). bytes_eq other.name word.name in
       both (map (λ (other : Word). other.at) (filter test more)) (doubled more)
-      (all-mapped (WordIsWithin n) IsUpTo (λ (other : Word). other.at) (λ word own. own) (filter test more) (all-filtered (WordIsWithin n) test more h.1)) (doubled-within more h.1)
+      (each-map (WordIsWithin n) IsUpTo (λ (other : Word). other.at) (λ word own. own) (filter test more) (all-filtered (WordIsWithin n) test more h.1)) (doubled-within more h.1)
 
   pub miscounted-within : (count : ℕ) (words : List Word) → WordsAreWithin n words → AreUpTo n (miscounted count words)
   miscounted-within count [] h = tt
@@ -115,12 +116,12 @@ module _ (n : ℕ) where
   strays-within : (s : FlatSplit) → AllByRecursion (FlatPairIsWithin n) s.pairs → AreUpTo n (strays s)
   strays-within s h =
       all-flat (FlatPairIsWithin n) IsUpTo (λ (pair : FlatPair). map (λ (r : Reading). r.at) (filter (is_stray s) (readings pair.left)))
-      (λ pair own. all-mapped (λ (r : Reading). r.at ≤ n) IsUpTo (λ (r : Reading). r.at) (λ r le. le) (filter (is_stray s) (readings pair.left))
+      (λ pair own. each-map (λ (r : Reading). r.at ≤ n) IsUpTo (λ (r : Reading). r.at) (λ r le. le) (filter (is_stray s) (readings pair.left))
       (all-filtered (λ (r : Reading). r.at ≤ n) (is_stray s) (readings pair.left) (readings-within pair.left own.0))) s.pairs h
 
   misfits-within : (families : List Family) (s : FlatSplit) → SplitIsWithin n s → AreUpTo n (misfits families s)
   misfits-within families s h =
-      let brackets : WordsAreWithin n (bracketed s) = all-joined (WordIsWithin n) s.vars s.of.names h.0 h.1.1 in
+      let brackets : WordsAreWithin n (bracketed s) = each-append (WordIsWithin n) s.vars s.of.names h.0 h.1.1 in
       both ((unbound s) ++ (doubled (bracketed s)) ++ (not_in_one s) ++ (not_new s) ++ (other_kind families s)) (strays s)
       (both ((unbound s) ++ (doubled (bracketed s)) ++ (not_in_one s) ++ (not_new s)) (other_kind families s)
       (both ((unbound s) ++ (doubled (bracketed s)) ++ (not_in_one s)) (not_new s)

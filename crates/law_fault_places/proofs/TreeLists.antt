@@ -1,23 +1,16 @@
 -- What holds of each element of lists holds of each of what is made of them.
-use Rattle.std.proofs.Common.{ℕ, Bool, true, false, cond, List, [], ◌∷◌, ◌++◌, map, filter, zip, IfSome, slice_get, zero, suc}
+use Rattle.std.proofs.Common.{ℕ, Bool, true, false, cond, List, [], ◌∷◌, map, filter, zip, IfSome, slice_get, zero, suc}
 use Rattle.std.specs.List.{AllByRecursion, flat_map}
-
-pub all-joined : {X : Type 0} (P : X → Type 0) (xs ys : List X) → AllByRecursion P xs → AllByRecursion P ys → AllByRecursion P (xs ++ ys)
-all-joined P [] ys h g = g
-all-joined P (x ∷ xs) ys h g = (h.0, all-joined P xs ys h.1 g)
-
-pub all-mapped : {X Y : Type 0} (P : X → Type 0) (Q : Y → Type 0) (f : X → Y) → ((x : X) → P x → Q (f x)) → (xs : List X) → AllByRecursion P xs → AllByRecursion Q (map f xs)
-all-mapped P Q f k [] h = tt
-all-mapped P Q f k (x ∷ xs) h = (k x h.0, all-mapped P Q f k xs h.1)
+use Rattle.law_designs.proofs.Faultless.{each-append}
 
 pub all-flat : {X Y : Type 0} (P : X → Type 0) (Q : Y → Type 0) (f : X → List Y) → ((x : X) → P x → AllByRecursion Q (f x)) → (xs : List X) → AllByRecursion P xs → AllByRecursion Q (flat_map f xs)
 all-flat P Q f k [] h = tt
-all-flat P Q f k (x ∷ xs) h = all-joined Q (f x) (flat_map f xs) (k x h.0) (all-flat P Q f k xs h.1)
+all-flat P Q f k (x ∷ xs) h = each-append Q (f x) (flat_map f xs) (k x h.0) (all-flat P Q f k xs h.1)
 
 -- the same of any list, where it holds of all that is made
 pub any-flat : {X Y : Type 0} (Q : Y → Type 0) (f : X → List Y) → ((x : X) → AllByRecursion Q (f x)) → (xs : List X) → AllByRecursion Q (flat_map f xs)
 any-flat Q f k [] = tt
-any-flat Q f k (x ∷ xs) = all-joined Q (f x) (flat_map f xs) (k x) (any-flat Q f k xs)
+any-flat Q f k (x ∷ xs) = each-append Q (f x) (flat_map f xs) (k x) (any-flat Q f k xs)
 
 pub any-mapped : {X Y : Type 0} (Q : Y → Type 0) (f : X → Y) → ((x : X) → Q (f x)) → (xs : List X) → AllByRecursion Q (map f xs)
 any-mapped Q f k [] = tt

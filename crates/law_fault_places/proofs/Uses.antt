@@ -23,9 +23,10 @@ use Rattle.smv_uses.specs.declared.meaning.Meaning.TheVariants.{Definition, Clai
 use Rattle.smv_uses.specs.Uses.{set_named, meaning_of, Used, used_by, used_in, Braces, braces_by, braces_in, pick_by, assumed_by, picks_in, assumed_in}
 use Rattle.smv_uses.specs.Choices.{Proof, proofs_in, own_map, is_own}
 use Rattle.smv_uses.specs.UseFaults.{later, leaf_named, unknown_uses, unknown_leaves, same_leaf, proved_again, same_map, same_family, chosen_again, proved_leaves, picked_again, assumed_again, braces_of_sets, kept_again, no_sets, is_param_over, proved_by, no_params, unbound_names, other_types, misnamed, use_faults, faults_of_uses, first_fault_of_uses}
+use Rattle.law_designs.proofs.Faultless.{each-append, each-map}
 use Rattle.law_fault_places.specs.TreePlaces.{WordIsWithin, WordsAreWithin, RefIsWithin, UseIsWithin}
 use Rattle.law_fault_places.specs.FaultPlaces.{IsFaultOf}
-use Rattle.law_fault_places.proofs.TreeLists.{all-joined, all-mapped, all-flat, all-filtered, all-zipped, any-flat, any-mapped}
+use Rattle.law_fault_places.proofs.TreeLists.{all-flat, all-filtered, all-zipped, any-flat, any-mapped}
 use Rattle.law_fault_places.proofs.Firsts.{first-one, AreUpTo, placed-if, lists-placed}
 use Rattle.law_fault_places.specs.FlatPlaces.{UsingIsWithin, DesignIsWithin}
 use Rattle.law_fault_places.specs.ProofFaultPlaces.{numbers_of_uses}
@@ -33,14 +34,14 @@ use Rattle.law_fault_places.proofs.SplitLaws.{words-placed, doubled-within, misc
 
 later-all : {X : Type 0} (P : X → Type 0) (clash : X → X → Bool) (xs : List X) → AllByRecursion P xs → AllByRecursion P (later clash xs)
 later-all P clash [] h = tt
-later-all P clash (x ∷ more) h = all-joined P (filter (clash x) more) (later clash more) (all-filtered P (clash x) more h.1) (later-all P clash more h.1)
+later-all P clash (x ∷ more) h = each-append P (filter (clash x) more) (later clash more) (all-filtered P (clash x) more h.1) (later-all P clash more h.1)
 
 module _ (n : ℕ) where
   abbrev IsUpTo : ℕ → Type 0
   IsUpTo at = at ≤ n
 
   both : (xs ys : List ℕ) → AreUpTo n xs → AreUpTo n ys → AreUpTo n (xs ++ ys)
-  both xs ys h g = all-joined IsUpTo xs ys h g
+  both xs ys h g = each-append IsUpTo xs ys h g
 
   -- ---- what is used
 
@@ -104,15 +105,15 @@ module _ (n : ℕ) where
 
     proofs-within : (uses : List FlatUsing) → AllByRecursion (UsingIsWithin n) uses → AllByRecursion (RefIsWithin n) (map (λ (proof : Proof). proof.of) (proofs_in uses))
     proofs-within uses h =
-        all-mapped (λ (proof : Proof). RefIsWithin n proof.of) (RefIsWithin n) (λ (proof : Proof). proof.of) (λ proof own. own) (proofs_in uses)
+        each-map (λ (proof : Proof). RefIsWithin n proof.of) (RefIsWithin n) (λ (proof : Proof). proof.of) (λ proof own. own) (proofs_in uses)
         (all-flat (UsingIsWithin n) (λ (proof : Proof). RefIsWithin n proof.of) (λ (using : FlatUsing). map (λ (of : Ref). record { using = using; of = of }) using.proves)
-        (λ using own. all-mapped (RefIsWithin n) (λ (proof : Proof). RefIsWithin n proof.of) (λ (of : Ref). record { using = using; of = of }) (λ of le. le) using.proves own.1) uses h)
+        (λ using own. each-map (RefIsWithin n) (λ (proof : Proof). RefIsWithin n proof.of) (λ (of : Ref). record { using = using; of = of }) (λ of le. le) using.proves own.1) uses h)
 
     proved_again-within : (leaves : List Leaf) → AllByRecursion (UsingIsWithin n) d.uses → AreUpTo n (proved_again d leaves)
     proved_again-within leaves h =
         let refs = map (λ (proof : Proof). proof.of) (proofs_in d.uses) in
         let test = λ (of : Ref). is_some (leaf_named leaves of) in
-        all-mapped (RefIsWithin n) IsUpTo (λ (of : Ref). of.at) (λ of own. own.3) (later same_leaf (filter test refs))
+        each-map (RefIsWithin n) IsUpTo (λ (of : Ref). of.at) (λ of own. own.3) (later same_leaf (filter test refs))
         (later-all (RefIsWithin n) same_leaf (filter test refs) (all-filtered (RefIsWithin n) test refs (proofs-within d.uses h)))
 
     module _ (units : List Unit) (leaves : List Leaf) where
@@ -125,21 +126,21 @@ module _ (n : ℕ) where
       picked-within using h =
           let own = later same_map (picks_in d using.uses) in
           let others = flat_map (chosen_again d units leaves using) (proved_leaves d units leaves using) in
-          all-mapped (λ (p : ℕ × Pick). p.0 ≤ n) IsUpTo (λ (p : ℕ × Pick). p.0) (λ p le. le) (own ++ others)
-          (all-joined (λ (p : ℕ × Pick). p.0 ≤ n) own others (later-all (λ (p : ℕ × Pick). p.0 ≤ n) same_map (picks_in d using.uses) (picks-within using.uses h.0))
+          each-map (λ (p : ℕ × Pick). p.0 ≤ n) IsUpTo (λ (p : ℕ × Pick). p.0) (λ p le. le) (own ++ others)
+          (each-append (λ (p : ℕ × Pick). p.0 ≤ n) own others (later-all (λ (p : ℕ × Pick). p.0 ≤ n) same_map (picks_in d using.uses) (picks-within using.uses h.0))
           (any-flat (λ (p : ℕ × Pick). p.0 ≤ n) (chosen_again d units leaves using) (chosen-within using h) (proved_leaves d units leaves using)))
 
     assumed_again-within : (using : FlatUsing) → UsingIsWithin n using → AreUpTo n (assumed_again d using)
     assumed_again-within using h =
         let clash = λ (a b : ℕ × Assumed). nat_eq a.1.claim b.1.claim in
-        all-mapped (λ (p : ℕ × Assumed). p.0 ≤ n) IsUpTo (λ (p : ℕ × Assumed). p.0) (λ p le. le) (later clash (assumed_in d using.uses))
+        each-map (λ (p : ℕ × Assumed). p.0 ≤ n) IsUpTo (λ (p : ℕ × Assumed). p.0) (λ p le. le) (later clash (assumed_in d using.uses))
         (later-all (λ (p : ℕ × Assumed). p.0 ≤ n) clash (assumed_in d using.uses) (assumed-within using.uses h.0))
 
     kept_again-within : (using : FlatUsing) → UsingIsWithin n using → AreUpTo n (kept_again d using)
     kept_again-within using h =
         let test = λ (braces : Braces). is_some (set_named d braces.set.name) in
         let clash = λ (braces other : Braces). bytes_eq braces.set.name other.set.name in
-        all-mapped BracesAreWithin IsUpTo (λ (braces : Braces). braces.set.at) (λ braces own. own.0) (later clash (braces_of_sets d using))
+        each-map BracesAreWithin IsUpTo (λ (braces : Braces). braces.set.at) (λ braces own. own.0) (later clash (braces_of_sets d using))
         (later-all BracesAreWithin clash (braces_of_sets d using) (all-filtered BracesAreWithin test (braces_in using.uses) (braces-within using.uses h.0)))
 
     again-within : (leaves : List Leaf) (using : FlatUsing) → UsingIsWithin n using → AreUpTo n (picked_again d (units_of d) leaves using ++ assumed_again d using ++ kept_again d using)

@@ -9,14 +9,10 @@ use Rattle.smv_core.specs.Conflicts.{are_two_constants, are_both, differ, share,
 use Rattle.smv_core.specs.declared.tree.Word.{Word}
 use Rattle.smv_core.specs.declared.tree.Stmt.{Stmt, Assign, Block', If', Switch', Default', For', Forall', Held-Stmt-If-2, None', Some', Row_of-Stmt, end_of-Stmt, more_of-Stmt, Row_of-Arm, end_of-Arm, more_of-Arm}
 use Rattle.law_meaning.proofs.AtMostOne.{same-is, same-refl, AllHave, AreApart}
+use Rattle.law_meaning.proofs.Symmetry.{bool-same}
 
 same-sym : (u v : Value) → same u v ≡ true → same v u ≡ true
 same-sym u v h = subst (λ w. same w u ≡ true) (same-is u v h) (same-refl u)
-
-bool-same : (p q : Bool) → (p ≡ true → q ≡ true) → (q ≡ true → p ≡ true) → p ≡ q
-bool-same true q h k = sym (h refl)
-bool-same false true h k = k refl
-bool-same false false h k = refl
 
 two_constants-sym : (i j : Index) → are_two_constants i j ≡ true → are_two_constants j i ≡ true
 two_constants-sym (fixed (Some u)) (fixed (Some v)) h = subst (λ b. not b ≡ true) (bool-same (same u v) (same v u) (same-sym u v) (same-sym v u)) h

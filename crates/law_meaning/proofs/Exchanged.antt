@@ -14,7 +14,7 @@ use Rattle.law_meaning.proofs.AtMostOne.{at_most_one}
 use Rattle.law_meaning.proofs.ConflictLaws.{apart-forall}
 use Rattle.law_meaning.proofs.Symmetry.{Has, Pictured, PicturedWalk, IsSingleIn, AreSingleIn, HeldIsSingle, ArmsAreSingle, allowed_by-ren, walk-ren}
 
-has : {X : Type 0} (xs : List X) (x : X) → Contains xs x → Has xs x
+pub has : {X : Type 0} (xs : List X) (x : X) → Contains xs x → Has xs x
 has [] x p = absurd (omega (arith, p.1))
 has {X} (y ∷ ys) x p = at_place p.0 p.1 p.2 (has ys x)
   where
@@ -22,7 +22,7 @@ has {X} (y ∷ ys) x p = at_place p.0 p.1 p.2 (has ys x)
     at_place zero h e rest = inl e
     at_place (suc n) h e rest = inr (rest (n, omega (arith, h), e))
 
-contains : {X : Type 0} (xs : List X) (x : X) → Has xs x → Contains xs x
+pub contains : {X : Type 0} (xs : List X) (x : X) → Has xs x → Contains xs x
 contains [] x p = absurd p
 contains (y ∷ ys) x (inl e) = (0, omega arith, e)
 contains (y ∷ ys) x (inr p) = Contains-append_right (y ∷ []) ys x (contains ys x p)

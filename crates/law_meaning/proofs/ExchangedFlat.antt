@@ -1,5 +1,5 @@
 -- What a definition allows, and what holds of a unit's instance, with the values of scalarsets exchanged.
-use Rattle.std.proofs.Common.{◌≡◌, ℕ, zero, suc, ◌+◌, ◌-◌, ◌<◌, ◌≤◌, List, [], ◌∷◌, map, length, get_or, Some, None, Option, Bool, true, false, ◌||◌, if◌then◌else◌, unwrap_or, ◌⊎◌, inl, inr, ⊎_elim, refl, sym, ap, subst, ◌∙◌, arith, Contains}
+use Rattle.std.proofs.Common.{◌≡◌, ℕ, ◌+◌, ◌-◌, ◌<◌, List, [], ◌∷◌, map, Some, None, Option, Bool, true, false, ◌||◌, if◌then◌else◌, unwrap_or, inl, inr, refl, sym, ap, subst, ◌∙◌, arith, Contains}
 use Rattle.std.specs.List.{list_any}
 use Rattle.std.proofs.lemmas.List.Elements.{Contains-append_right}
 use Rattle.smv_core.specs.Values.{Name, Value, number, constant, scalar, ordinal, Simple, range, choice, scalarset, ordset, Sizes, values_of, numbers_from}
@@ -14,47 +14,12 @@ use Rattle.smv_core.specs.declared.tree.Kind.{Kind}
 use Rattle.smv_core.specs.declared.tree.Kind.TheVariants.{Comb, Init, Next}
 use Rattle.smv_core.specs.declared.tree.TypeExpr.{TypeExpr}
 use Rattle.law_meaning.specs.Exchange.{Exchanges, exchanged, exchanged_outcome, exchanged_bindings, exchanged_element, AreExchangedStates, AreExchangedValues, AreExchangedWalks}
-use Rattle.law_meaning.proofs.Symmetry.{Has, outcome-ren}
-use Rattle.law_meaning.proofs.Exchanged.{walked}
+use Rattle.law_meaning.proofs.Symmetry.{Has, outcome-ren, has-map, has-unmap, numbers-have, have-numbers}
+use Rattle.law_meaning.proofs.Exchanged.{walked, has, contains}
 use Rattle.law_meaning.specs.Laws.{AreExchangedBefore, IsPlain}
 use Rattle.law_meaning.proofs.Concerned.{all-numbers, concerns-same}
 
 -- ---- members of lists
-
-has : {X : Type 0} (xs : List X) (x : X) → Contains xs x → Has xs x
-has [] x p = absurd (omega (arith, p.1))
-has {X} (y ∷ ys) x p = at_place p.0 p.1 p.2 (has ys x)
-  where
-    at_place : (n : ℕ) → n < length (y ∷ ys) → get_or (y ∷ ys) n x ≡ x → (Contains ys x → Has ys x) → Has (y ∷ ys) x
-    at_place zero h e rest = inl e
-    at_place (suc n) h e rest = inr (rest (n, omega (arith, h), e))
-
-contains : {X : Type 0} (xs : List X) (x : X) → Has xs x → Contains xs x
-contains [] x p = absurd p
-contains (y ∷ ys) x (inl e) = (0, omega arith, e)
-contains (y ∷ ys) x (inr p) = Contains-append_right (y ∷ []) ys x (contains ys x p)
-
-has-map : {X Y : Type 0} (h : X → Y) (xs : List X) (x : X) → Has xs x → Has (map h xs) (h x)
-has-map h [] x p = p
-has-map h (y ∷ ys) x (inl e) = inl (ap h e)
-has-map h (y ∷ ys) x (inr p) = inr (has-map h ys x p)
-
-has-unmap : {X Y : Type 0} (h : X → Y) (xs : List X) (y : Y) → Has (map h xs) y → (x : X) × Has xs x × (h x ≡ y)
-has-unmap h [] y p = absurd p
-has-unmap h (x ∷ xs) y (inl e) = (x, inl refl, e)
-has-unmap h (x ∷ xs) y (inr p) = let q = has-unmap h xs y p in (q.0, inr q.1, q.2)
-
-numbers-have : (from k n : ℕ) → from ≤ n → n < from + k → Has (numbers_from from k) n
-numbers-have from zero n low high = absurd (omega (arith, low, high))
-numbers-have from (suc k) n low high = ⊎_elim (λ e. inl e) (λ lt. inr (numbers-have (from + 1) k n (omega (arith, lt)) (omega (arith, high)))) (eq_or_above from n low)
-  where
-    eq_or_above : (a b : ℕ) → a ≤ b → (a ≡ b) ⊎ (a < b)
-    eq_or_above a b h = grind (arith, h)
-
-have-numbers : (from k n : ℕ) → Has (numbers_from from k) n → n < from + k
-have-numbers from zero n p = absurd p
-have-numbers from (suc k) n (inl e) = omega (arith, e)
-have-numbers from (suc k) n (inr p) = let h = have-numbers (from + 1) k n p in omega (arith, h)
 
 module _ (sizes : Sizes) (f g : Name → ℕ → ℕ) (ex : Exchanges sizes f g) where
   -- ---- the values of a type

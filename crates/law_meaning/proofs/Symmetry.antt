@@ -29,12 +29,12 @@ abbrev pub Has : {X : Type 0} → List X → X → Type 0
 Has [] x = ⊥
 Has (y ∷ ys) x = (y ≡ x) ⊎ Has ys x
 
-has-map : {X Y : Type 0} (h : X → Y) (xs : List X) (x : X) → Has xs x → Has (map h xs) (h x)
+pub has-map : {X Y : Type 0} (h : X → Y) (xs : List X) (x : X) → Has xs x → Has (map h xs) (h x)
 has-map h [] x p = p
 has-map h (y ∷ ys) x (inl e) = inl (ap h e)
 has-map h (y ∷ ys) x (inr p) = inr (has-map h ys x p)
 
-has-unmap : {X Y : Type 0} (h : X → Y) (xs : List X) (y : Y) → Has (map h xs) y → (x : X) × Has xs x × (h x ≡ y)
+pub has-unmap : {X Y : Type 0} (h : X → Y) (xs : List X) (y : Y) → Has (map h xs) y → (x : X) × Has xs x × (h x ≡ y)
 has-unmap h [] y p = absurd p
 has-unmap h (x ∷ xs) y (inl e) = (x, inl refl, e)
 has-unmap h (x ∷ xs) y (inr p) = let q = has-unmap h xs y p in (q.0, inr q.1, q.2)
@@ -118,7 +118,7 @@ disjunction-by_conjunction : (us : List Truth) → disjunction us ≡ not_of (co
 disjunction-by_conjunction [] = refl
 disjunction-by_conjunction (u ∷ us) = or-by_and u (disjunction us) ∙ ap (λ w. not_of (and_of (not_of u) w)) (ap not_of (disjunction-by_conjunction us) ∙ not-not (conjunction (map not_of us)))
 
-bool-same : (p q : Bool) → (p ≡ true → q ≡ true) → (q ≡ true → p ≡ true) → p ≡ q
+pub bool-same : (p q : Bool) → (p ≡ true → q ≡ true) → (q ≡ true → p ≡ true) → p ≡ q
 bool-same true q h k = sym (h refl)
 bool-same false true h k = k refl
 bool-same false false h k = refl
@@ -137,14 +137,14 @@ ren-bit f None = refl
 ren-bit f (Some false) = refl
 ren-bit f (Some true) = refl
 
-numbers-have : (first k n : ℕ) → first ≤ n → n < first + k → Has (numbers_from first k) n
+pub numbers-have : (first k n : ℕ) → first ≤ n → n < first + k → Has (numbers_from first k) n
 numbers-have first zero n low high = absurd (omega (arith, low, high))
 numbers-have first (suc k) n low high = ⊎_elim (λ e. inl e) (λ lt. inr (numbers-have (first + 1) k n (omega (arith, lt)) (omega (arith, high)))) (eq_or_above first n low)
   where
     eq_or_above : (a b : ℕ) → a ≤ b → (a ≡ b) ⊎ (a < b)
     eq_or_above a b h = grind (arith, h)
 
-have-numbers : (first k n : ℕ) → Has (numbers_from first k) n → n < first + k
+pub have-numbers : (first k n : ℕ) → Has (numbers_from first k) n → n < first + k
 have-numbers first zero n p = absurd p
 have-numbers first (suc k) n (inl e) = omega (arith, e)
 have-numbers first (suc k) n (inr p) = let h = have-numbers (first + 1) k n p in omega (arith, h)

@@ -16,14 +16,15 @@ use Rattle.law_obligations.specs.Placings.{AreBelow}
 use Rattle.law_obligations.specs.Cases.{Treatment, whole, reduced, ordered, Parameter, used, abstract_type, is_of, is_set, those_of, type_in, is_allowed, candidates, numbered}
 use Rattle.law_obligations.specs.Covers.{value_at, place_at, by_name, types_at, AreApart, IsTreated, AreTreated, IsIndexType, AreCovered}
 use Rattle.law_obligations.proofs.Members.{Picks, Has-choices, Has-map, Has-from_map, all-holds}
-use Rattle.law_obligations.proofs.RightKeeps.{Has-filter}
 use Rattle.law_obligations.proofs.Plain.{range_is_placed, choice_is_placed}
 use Rattle.law_obligations.proofs.Same.{nat_eq-itself}
 use Rattle.law_obligations.proofs.CoverScalarsets.{named_set, Suits, whole_suits, unknown_suits, known_suits, below_used}
 use Rattle.law_obligations.proofs.CoverOrdsets.{ordset_suits}
 use Rattle.law_obligations.proofs.CoverNames.{by_name-at, numbered-at, numbered-Has, treatment_at, set_at}
-use Rattle.law_obligations.proofs.CoverParams.{map-same, Has-from_choices, Stands, of_its_type, Stands-Has, length-map, those_of-map, those_of-few, those_of-Has, those_of-is, picked, all_stand}
+use Rattle.law_obligations.proofs.CoverParams.{map-same, Has-from_choices, Stands, of_its_type, Stands-Has, those_of-map, those_of-few, those_of-Has, those_of-is, picked, all_stand}
 use Rattle.law_obligations.proofs.CoverClasses.{number_of, class_at, class_of, value_by_number, class_of-value, placed-value, spot_is_of, spot_candidate, named_candidate, counts, type_in-is, allowed, named_classes}
+use Rattle.law_obligations.proofs.OneOfEach.{map_long}
+use Rattle.law_obligations.proofs.Lookups.{Has-filter}
 
 -- each treatment that a set type may have suits it
 suits : (is_ordered : Bool) (size : ℕ) (t : Treatment) (vs : List ℕ) → IsTreated is_ordered size t → AreBelow size vs → Suits t is_ordered size vs
@@ -155,7 +156,7 @@ module _ (n : Numbered) (treatments : List Treatment) (apart : AreApart n.sets) 
         (ap (λ a. a.rest) type_is) (ap (λ a. a.named) type_is) (λ j. ap (λ f. f j) k.spots_are)
 
     few_listed : (t : Treatment) → length (listed n params values typed t i) ≤ length params
-    few_listed t = subst (λ m. m ≤ length params) (sym (length-map number_of (those_of (counts t) i params values))) (those_of-few (counts t) i params values)
+    few_listed t = subst (λ m. m ≤ length params) (sym (map_long number_of (those_of (counts t) i params values))) (those_of-few (counts t) i params values)
 
     near : (t : Treatment) (s : Suits t info.ordered (n.sizes info.name) (listed n params values typed t i)) (k : ℕ) → k < n.sizes info.name →
         (abstract_type t (used s.classes)).named ≤ length params → Has (candidates treatments (length params) (Set i)) (class_at (s.spot k))

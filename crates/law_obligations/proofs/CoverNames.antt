@@ -1,5 +1,5 @@
 -- Set types by their names and by their numbers.
-use Rattle.std.proofs.Common.{◌≡◌, ◌≢◌, ℕ, zero, suc, ◌+◌, List, [], ◌∷◌, map, false, refl, ap, subst, inl, inr, arith, slice_get, Some}
+use Rattle.std.proofs.Common.{◌≡◌, ◌≢◌, ℕ, zero, suc, ◌+◌, List, [], ◌∷◌, map, false, refl, ap, inl, inr, arith, slice_get, Some}
 use Rattle.std.specs.Str.{bytes_eq}
 use Rattle.std.proofs.lemmas.Slice.Eq.{bytes_eq-Decides}
 use Rattle.smv_core.specs.Values.{Name, Sizes}
@@ -8,14 +8,7 @@ use Rattle.law_obligations.specs.Sets.{Has, first, later}
 use Rattle.law_obligations.specs.Cases.{Treatment, numbered}
 use Rattle.law_obligations.specs.Covers.{by_name, AreApart, AreTreated}
 use Rattle.law_obligations.proofs.Tests.{true_or_false}
-
-slice_get-Has : {X : Type 0} (xs : List X) (j : ℕ) (x : X) → slice_get xs j ≡ Some x → Has xs x
-slice_get-Has [] j x e = absurd (cc)
-slice_get-Has {X} (y ∷ xs) zero x e = subst (Has (y ∷ xs)) (same y x e) first
-  where
-    same : (y x : X) → Some y ≡ Some x → y ≡ x
-    same y x e = cc
-slice_get-Has (y ∷ xs) (suc j) x e = later (slice_get-Has xs j x e)
+use Rattle.law_obligations.proofs.OneOfEach.{get_Has}
 
 apart : (a b : Name) → a ≢ b → bytes_eq a b ≡ false
 apart a b n = elim (true_or_false (bytes_eq a b)) [ inl e ↦ absurd (n ((bytes_eq-Decides a b).0 e)) | inr e ↦ e ]
@@ -35,7 +28,7 @@ by_name-at {X} missing (i ∷ sets) (y ∷ xs) zero info x a e f =
     same_info : (y x : SetInfo) → Some y ≡ Some x → y ≡ x
     same_info y x e = cc
 by_name-at missing (i ∷ sets) (y ∷ xs) (suc j) info x a e f =
-    rw (apart i.name info.name (a.0 info (slice_get-Has sets j info e))) (by_name-at missing sets xs j info x a.1 e f)
+    rw (apart i.name info.name (a.0 info (get_Has sets j info e))) (by_name-at missing sets xs j info x a.1 e f)
 
 -- the set types with their numbers, each changed
 pub numbered-at : {X : Type 0} (f : ℕ × Treatment → X) (k i j : ℕ) (ts : List Treatment) (t : Treatment) → i ≡ k + j → slice_get ts j ≡ Some t → slice_get (map f (numbered k ts)) j ≡ Some (f (i, t))

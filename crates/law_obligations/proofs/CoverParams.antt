@@ -1,6 +1,5 @@
 -- The parameters of a leaf with their values.
-use Rattle.std.proofs.Common.{◌≡◌, ℕ, suc, ◌≤◌, List, [], ◌∷◌, map, length, Bool, true, ◌&&◌, refl, sym, ap, subst, inl, inr, arith}
-use Rattle.std.specs.List.{flat_map}
+use Rattle.std.proofs.Common.{◌≡◌, ℕ, ◌≤◌, List, [], ◌∷◌, map, length, Bool, true, ◌&&◌, refl, sym, ap, subst, inl, inr, arith}
 use Rattle.smv_core.specs.Values.{Value}
 use Rattle.smv_core.specs.Flat.{Numbered, values_in, simple_in}
 use Rattle.smv_core.specs.declared.flat.Simple.{Simple}
@@ -11,8 +10,9 @@ use Rattle.law_obligations.specs.Places.{Place}
 use Rattle.law_obligations.specs.Cases.{Parameter, is_set, those_of}
 use Rattle.law_obligations.specs.Covers.{place_at, places_at}
 use Rattle.law_obligations.proofs.Tests.{true_or_false, and_both, left_of}
-use Rattle.law_obligations.proofs.Members.{Picks, none, more, Has-cases, Has-from_map}
+use Rattle.law_obligations.proofs.Members.{Picks, none, more, Has-from_map}
 use Rattle.law_obligations.proofs.Same.{nat_eq-is}
+use Rattle.law_obligations.proofs.OneOfEach.{map_long, Has-from_flat_map}
 
 pub map-map : {X Y Z : Type 0} (g : Y → Z) (f : X → Y) (xs : List X) → map g (map f xs) ≡ map (λ x. g (f x)) xs
 map-map g f [] = refl
@@ -21,13 +21,6 @@ map-map g f (x ∷ xs) = ap (λ z. g (f x) ∷ z) (map-map g f xs)
 pub map-same : {X Y : Type 0} (f g : X → Y) (xs : List X) → ((x : X) → Has xs x → f x ≡ g x) → map f xs ≡ map g xs
 map-same f g [] each = refl
 map-same f g (x ∷ xs) each = rw (each x first, map-same f g xs (λ y h. each y (later h))) refl
-
-Has-from_flat_map : {X Y : Type 0} (f : X → List Y) (xs : List X) {y : Y} → Has (flat_map f xs) y → (x : X) × Has xs x × Has (f x) y
-Has-from_flat_map f [] h = elim h [ ]
-Has-from_flat_map f (x ∷ xs) h = elim (Has-cases (f x) (flat_map f xs) h) [
-  | inl l ↦ (x, first, l)
-  | inr r ↦ let s = Has-from_flat_map f xs r in (s.0, later s.1, s.2)
-]
 
 -- one of each list, list by list
 pub Has-from_choices : {X : Type 0} (xss : List (List X)) (ys : List X) → Has (one_of_each xss) ys → Picks xss ys
@@ -77,10 +70,6 @@ those_of-few test set (p ∷ params) (x ∷ xs) = let r = those_of-few test set 
       | inl e ↦ rw e (omega (arith, r))
       | inr e ↦ rw e (omega (arith, r))
     ]
-
-pub length-map : {X Y : Type 0} (f : X → Y) (xs : List X) → length (map f xs) ≡ length xs
-length-map f [] = refl
-length-map f (x ∷ xs) = ap suc (length-map f xs)
 
 -- a value at a parameter of a set type that is listed so
 pub those_of-Has : (test : Bool → Bool) (set : ℕ) (params : List Parameter) (values : List Value) (p : Parameter) (v : Value) → Stands params values p v →

@@ -10,18 +10,15 @@ use Rattle.law_obligations.specs.Sets.{pairs}
 use Rattle.law_obligations.specs.Mix.{mix_by, iff_mix, is_there}
 use Rattle.law_obligations.proofs.Anys.{any-flat_map, any-ext, any-or, any-pairs, any-first, any-second}
 use Rattle.law_obligations.proofs.MixLaws.{same_mix, or_same, and_there, there_and, seen-shown}
-
-map-append : {X Y : Type 0} (f : X → Y) (xs ys : List X) → map f (xs ++ ys) ≡ map f xs ++ map f ys
-map-append f [] ys = refl
-map-append f (x ∷ xs) ys = ap (λ zs. f x ∷ zs) (map-append f xs ys)
+use Rattle.law_obligations.proofs.OneOfEach.{map_joined}
 
 flat-map : {X Y Z : Type 0} (f : Y → Z) (g : X → List Y) (xs : List X) → flat_map (λ x. map f (g x)) xs ≡ map f (flat_map g xs)
 flat-map f g [] = refl
-flat-map f g (x ∷ xs) = ap (λ l. map f (g x) ++ l) (flat-map f g xs) ∙ sym (map-append f (g x) (flat_map g xs))
+flat-map f g (x ∷ xs) = ap (λ l. map f (g x) ++ l) (flat-map f g xs) ∙ sym (map_joined f (g x) (flat_map g xs))
 
 pub pairs-map : {X Y V Z : Type 0} (f : V → Z) (g : X → Y → List V) (xs : List X) (ys : List Y) → pairs (λ x y. map f (g x y)) xs ys ≡ map f (pairs g xs ys)
 pairs-map f g [] ys = refl
-pairs-map f g (x ∷ xs) ys = ap (λ l. l ++ pairs (λ x y. map f (g x y)) xs ys) (flat-map f (g x) ys) ∙ (ap (λ l. map f (flat_map (g x) ys) ++ l) (pairs-map f g xs ys) ∙ sym (map-append f (flat_map (g x) ys) (pairs g xs ys)))
+pairs-map f g (x ∷ xs) ys = ap (λ l. l ++ pairs (λ x y. map f (g x y)) xs ys) (flat-map f (g x) ys) ∙ (ap (λ l. map f (flat_map (g x) ys) ++ l) (pairs-map f g xs ys) ∙ sym (map_joined f (flat_map (g x) ys) (pairs g xs ys)))
 
 no_iff : (u v : Truth) → is_false (iff_of u v) ≡ ((is_false u && is_true v) || (is_true u && is_false v))
 no_iff (Some true) (Some true) = refl

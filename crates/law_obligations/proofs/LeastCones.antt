@@ -14,7 +14,7 @@ use Rattle.law_obligations.specs.Sets.{Has, one_of_each}
 use Rattle.law_obligations.specs.Places.{Place, named, same_place, is_named, World, named_in, places_in}
 use Rattle.law_obligations.specs.Cases.{cases}
 use Rattle.law_obligations.specs.Soundness.{FlatUnit, map_of, claim_of, over_of}
-use Rattle.law_obligations.proofs.Members.{Has-map, Has-from_map, Has-flat_map, Has-cases, Has-uncons, any-found, any-some}
+use Rattle.law_obligations.proofs.Members.{Has-map, Has-from_map, Has-flat_map, Has-uncons, any-found, any-some}
 use Rattle.law_obligations.proofs.Same.{nat_eq-itself, nat_eq-is}
 use Rattle.law_obligations.proofs.Spots.{Has-numbers}
 use Rattle.law_obligations.proofs.OneOfEach.{AreOf, are_of, one_of, get_past, get_Has, Has-from_flat_map}
@@ -30,11 +30,8 @@ use Rattle.law_obligations.proofs.Lookups.{Has-tested, Has-filter, Has-from_filt
 use Rattle.law_obligations.proofs.OutlineFacts.{unit-def}
 use Rattle.law_obligations.proofs.ConeFacts.{same_element-itself, same_element-family, same_element-indexes}
 use Rattle.law_obligations.proofs.Least.{reached_is_least}
-use Rattle.law_obligations.proofs.ReadsWithin.{reads_within, part_within}
+use Rattle.law_obligations.proofs.ReadsWithin.{reads_within, part_within, either}
 use Rattle.law_obligations.proofs.Plans.{own_are}
-
-either : {X : Type 0} {P : Type 0} (xs ys : List X) {y : X} → Has (xs ++ ys) y → (Has xs y → P) → (Has ys y → P) → P
-either xs ys h f g = elim (Has-cases xs ys h) [ inl l ↦ f l | inr r ↦ g r ]
 
 same_element-is : (x y : AbsElement) → same_element x y ≡ true → x ≡ y
 same_element-is x y e = ap (λ family. element family x.indexes) (same_element-family x y e) ∙ ap (element y.family) (same_element-indexes x y e)

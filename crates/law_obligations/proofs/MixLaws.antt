@@ -11,6 +11,7 @@ use Rattle.law_obligations.specs.Sets.{one_of_each, parts}
 use Rattle.law_obligations.specs.Mix.{Mix, mix_of, mix_by, is_filled, not_mix, and_mix, or_mix, implies_mix, and_all, or_all, implies_all, or_none, shown_of}
 use Rattle.law_obligations.proofs.Anys.{any-append, any-map, any-flat_map, any-ext, any-and, any-or, any-pairs, any-first, any-second, any-choices}
 use Rattle.law_obligations.specs.Mix.{is_there}
+use Rattle.law_obligations.proofs.OneOfEach.{map_joined}
 
 -- parts of a mix that are equal
 pub same_mix : {m n : Mix} → m.no ≡ n.no → m.yes ≡ n.yes → m.neither ≡ n.neither → m ≡ n
@@ -304,10 +305,6 @@ conjunction-append : (us vs : List Truth) → conjunction (us ++ vs) ≡ and_of 
 conjunction-append [] vs = sym (one_and (conjunction vs))
 conjunction-append (u ∷ us) vs = ap (and_of u) (conjunction-append us vs) ∙ sym (and_assoc u (conjunction us) (conjunction vs))
 
-pub map-append : {X Y : Type 0} (f : X → Y) (xs ys : List X) → map f (xs ++ ys) ≡ map f xs ++ map f ys
-map-append f [] ys = refl
-map-append f (x ∷ xs) ys = ap (λ zs. f x ∷ zs) (map-append f xs ys)
-
 pub there-parts : {X : Type 0} (xs : List X) → is_there (parts xs) ≡ true
 there-parts [] = refl
 there-parts (x ∷ xs) = there-append (parts xs) (map (λ ys. x ∷ ys) (parts xs)) (there-parts xs)
@@ -346,7 +343,7 @@ mix-quantified at_named at_rests h =
     part p = any-flat_map (λ u. p (seen u)) (λ us. flat_map (both_seen us) (parts at_rests)) (one_of_each at_named)
         ∙ any-ext (λ us. list_any (λ u. p (seen u)) (flat_map (both_seen us) (parts at_rests))) (λ us. list_any (λ vs. p (and_of (all_seen us) (all_seen vs))) (parts at_rests)) (one_of_each at_named) (λ us.
         any-flat_map (λ u. p (seen u)) (both_seen us) (parts at_rests)
-        ∙ any-ext (λ vs. list_any (λ u. p (seen u)) (both_seen us vs)) (λ vs. p (and_of (all_seen us) (all_seen vs))) (parts at_rests) (λ vs. one (p (seen (shown (conjunction (map seen (us ++ vs)))))) ∙ ap p (seen-shown (conjunction (map seen (us ++ vs))) ∙ (ap conjunction (map-append seen us vs) ∙ conjunction-append (map seen us) (map seen vs)))))
+        ∙ any-ext (λ vs. list_any (λ u. p (seen u)) (both_seen us vs)) (λ vs. p (and_of (all_seen us) (all_seen vs))) (parts at_rests) (λ vs. one (p (seen (shown (conjunction (map seen (us ++ vs)))))) ∙ ap p (seen-shown (conjunction (map seen (us ++ vs))) ∙ (ap conjunction (map_joined seen us vs) ∙ conjunction-append (map seen us) (map seen vs)))))
 
 one : (b : Bool) → (b || false) ≡ b
 one true = refl

@@ -14,7 +14,7 @@ use Rattle.law_obligations.proofs.OneOfEach.{Has-from_flat_map}
 use Rattle.law_obligations.specs.Reads.{indexes_read, reads, reads_each, reads_signed, reads_members, reads_held, has_counting, part_reads, parts_read}
 use Rattle.law_obligations.proofs.Lookups.{Has-tested}
 
-either : {X : Type 0} {P : Type 0} (xs ys : List X) {y : X} → Has (xs ++ ys) y → (Has xs y → P) → (Has ys y → P) → P
+pub either : {X : Type 0} {P : Type 0} (xs ys : List X) {y : X} → Has (xs ++ ys) y → (Has xs y → P) → (Has ys y → P) → P
 either xs ys h f g = elim (Has-cases xs ys h) [ inl l ↦ f l | inr r ↦ g r ]
 
 module _ {X : Type 0} (places : Simple → List Place) (read : ℕ → List Index → List Place → List X) (P : X → Type 0)

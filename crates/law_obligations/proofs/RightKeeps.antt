@@ -14,32 +14,14 @@ use Rattle.law_obligations.specs.May.{AbsState, Kept, seen, may, may_members}
 use Rattle.law_obligations.specs.Right.{gives, is_outside, gives_surely, same_outcome, gives_only, may_give_some, is_false, is_neither, chosen_surely, may_meet, must_meet, may_allow, must_allow, must_give_some}
 use Rattle.law_obligations.specs.Pictures.{Placing, placed, ArePlaced, IsState, IsPicture, IsValue, AreValues}
 use Rattle.law_obligations.proofs.Tests.{left_of, right_of, or_left, or_right, or_cases, and_both, true_or_false, not_true}
-use Rattle.law_obligations.proofs.Members.{Has-right, Has-cases, Has-uncons, Has-map, Has-from_map, Picks, any-found, any-some, all-each, all-holds}
+use Rattle.law_obligations.proofs.Members.{Has-right, Has-cases, Has-map, Has-from_map, Picks, any-found, any-some, all-each, all-holds}
 use Rattle.law_obligations.proofs.Members.Picks.{more as one_more}
 use Rattle.law_obligations.proofs.Same.{same_place-itself, same_place-is, Has-is_in, is_among-Has}
 use Rattle.law_obligations.proofs.Facts.{IsOutcome, AreOutcomes, placed_outcome, of_type, same_in, back}
 use Rattle.law_obligations.proofs.Operators.{seen_placed}
 use Rattle.law_obligations.proofs.Fitted.{IsOut, GivesValue, itself, outside, SomeGives, Given, fit_is, given_fits}
 use Rattle.law_obligations.proofs.MayKeeps.{bind_are, bind_placed, outcome_is, members_are, keeps, keeps_members}
-
-pub Has-filter : {X : Type 0} (f : X → Bool) {xs : List X} {x : X} → Has xs x → f x ≡ true → Has (filter f xs) x
-Has-filter f first e = rw e first
-Has-filter f (later {y = y} {xs = xs} h) e = past (f y) (Has-filter f h e)
-  where
-    past : {x : _} (b : Bool) → Has (filter f xs) x → Has (if b then y ∷ filter f xs else filter f xs) x
-    past true h = later h
-    past false h = h
-
-Has-from_filter : {X : Type 0} (f : X → Bool) (xs : List X) {x : X} → Has (filter f xs) x → Has xs x × (f x ≡ true)
-Has-from_filter f [] h = elim h [ ]
-Has-from_filter {X} f (y ∷ xs) {x} h = at (f y) refl h (λ k. Has-from_filter f xs k)
-  where
-    at : (b : Bool) → f y ≡ b → Has (if b then y ∷ filter f xs else filter f xs) x → (Has (filter f xs) x → Has xs x × (f x ≡ true)) → Has (y ∷ xs) x × (f x ≡ true)
-    at true e h ih = elim (Has-uncons h) [
-      | inl i ↦ (subst (Has (y ∷ xs)) (sym i) first, ap f i ∙ e)
-      | inr k ↦ let r = ih k in (later r.0, r.1)
-    ]
-    at false e h ih = let r = ih h in (later r.0, r.1)
+use Rattle.law_obligations.proofs.Lookups.{Has-filter, Has-from_filter}
 
 false_true : {b : Bool} → b ≡ false → b ≡ true → ⊥
 false_true p q = cc

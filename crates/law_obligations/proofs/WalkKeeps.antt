@@ -23,7 +23,9 @@ use Rattle.law_obligations.proofs.Same.{same-is}
 use Rattle.law_obligations.proofs.Facts.{IsOutcome, placed_outcome, of_type, equal_values}
 use Rattle.law_obligations.proofs.Operators.{seen_placed}
 use Rattle.law_obligations.proofs.MayKeeps.{bind_are, bind_placed, outcome_is, keeps}
-use Rattle.law_obligations.proofs.NeverEmpty.{has_choice, filled_each, may_filled}
+use Rattle.law_obligations.proofs.Filled.{has_choice, filled_each}
+use Rattle.law_obligations.proofs.NeverEmpty.{may_filled}
+use Rattle.law_obligations.proofs.OneOfEach.{map_long}
 
 clash : {b : Bool} → b ≡ true → b ≡ false → ⊥
 clash p q = cc
@@ -61,10 +63,6 @@ bound_length [] zero v e = refl
 bound_length [] (suc var) v e = absurd (omega arith)
 bound_length (x ∷ b) zero v e = absurd (omega arith)
 bound_length (x ∷ b) (suc var) v e = ap suc (bound_length b var v (omega arith))
-
-map_length : {X Y : Type 0} (f : X → Y) (xs : List X) → length (map f xs) ≡ length xs
-map_length f [] = refl
-map_length f (x ∷ xs) = ap suc (map_length f xs)
 
 -- indexes at numbers, constants and classes
 abbrev AllNamed : List Place → Type 0
@@ -388,7 +386,7 @@ module _ (n : Numbered) (types : Name → AbsType) (spots : Placing) (facts : Ar
     walk_keeps (First' shape parts) b h bound one =
         let rs = walks_keep parts b h bound one in (first_result rs.0, Has-map first_result (Has-choices rs.1), rs.2)
     walk_keeps (Forall' var over shape (more_of-Flat body end_of-Flat)) b h bound one =
-        let count = sym (map_length (placed spots) x.indexes) in
+        let count = sym (map_long (placed spots) x.indexes) in
         forall_keeps over (λ v. flat_result n s x every body (bind b var v)) (λ p. At body (bind_place (map (placed spots) b) var p))
         (λ v k. let r = walk_keeps body (bind b var v) (bind_are n b var v h (of_type n over v k))
         (subst (λ m. IsBound m (length x.indexes) body) (sym (bound_length b var v (sym bound.0))) bound.2) one.1 in
@@ -396,7 +394,7 @@ module _ (n : Numbered) (types : Name → AbsType) (spots : Placing) (facts : Ar
         (λ p l. let r = rest_not_named (world n types) (simple_in n over) p l in
         nothing_at_rest n types spots facts s is_state kept a (map (placed spots) x.indexes) (classes_named n spots x.indexes classes) (length x.indexes) count everything right body
         (bind_place (map (placed spots) b) var p) var r.0
-        (place_bound (map (placed spots) b) var p (map_length (placed spots) b ∙ sym bound.0) ∙ ap Some r.1) bound.1)
+        (place_bound (map (placed spots) b) var p (map_long (placed spots) b ∙ sym bound.0) ∙ ap Some r.1) bound.1)
         (λ v k l. nothing_at n types spots facts s is_state x every body (bind b var v) var v (value_bound b var v (sym bound.0)) (not_at_class over v l) bound.1)
         (λ u v hu hv. one.0 b h (sym bound.0) u v hu hv)
 

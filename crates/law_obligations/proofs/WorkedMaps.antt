@@ -110,12 +110,12 @@ problem_a = problem_of (outline_of the_script) entry_a (timed (outline_of the_sc
 abbrev problem_b : Problem
 problem_b = problem_of (outline_of the_script) entry_b (timed (outline_of the_script) (graph the_script) 1 entry_b) []
 
-last_false : (a b : Bool) {c : Bool} → c ≡ false → (a && (b && c)) ≡ false
+pub last_false : (a b : Bool) {c : Bool} → c ≡ false → (a && (b && c)) ≡ false
 last_false true true e = e
 last_false true false e = refl
 last_false false b e = refl
 
-middle_false : (a : Bool) {b : Bool} (c : Bool) → b ≡ false → (a && (b && c)) ≡ false
+pub middle_false : (a : Bool) {b : Bool} (c : Bool) → b ≡ false → (a && (b && c)) ≡ false
 middle_false true c e = rw e refl
 middle_false false c e = refl
 

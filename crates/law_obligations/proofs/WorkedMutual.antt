@@ -1,5 +1,5 @@
 -- The worked plan of two maps that use each other has what a plan has to have, and no violating path.
-use Rattle.std.proofs.Common.{◌≡◌, ℕ, zero, suc, arith, List, [], ◌∷◌, Bool, true, false, ◌&&◌, refl, sym, subst, inl, inr, Option, Some, None}
+use Rattle.std.proofs.Common.{◌≡◌, ℕ, zero, suc, arith, List, [], ◌∷◌, false, refl, sym, subst, inl, inr, Option, Some, None}
 use Rattle.std.specs.List.{slice_get}
 use Rattle.smv_core.specs.Values.{number, Sizes}
 use Rattle.smv_core.specs.declared.flat.Class.{Class}
@@ -16,6 +16,7 @@ use Rattle.law_obligations.specs.WorkedObligations.{stepping, zeroed}
 use Rattle.law_obligations.specs.WorkedSoundness.{of_bits, bit_problem, bit_leaf, mutual_plan}
 use Rattle.law_obligations.proofs.WorkedPlans.{one_of_one, one_of_two}
 use Rattle.law_obligations.proofs.Computing.{computing}
+use Rattle.law_obligations.proofs.WorkedMaps.{last_false, middle_false}
 
 is_stepping_a : IsDefinition mutual_plan (stepping 0 0 1)
 unfolding computing
@@ -114,15 +115,6 @@ is_plan = record {
   are_apart = ((λ other h. elim h [ ]), tt);
   have_values = λ sizes h. have_values sizes;
 }
-
-last_false : (a b : Bool) {c : Bool} → c ≡ false → (a && (b && c)) ≡ false
-last_false true true e = e
-last_false true false e = refl
-last_false false b e = refl
-
-middle_false : (a : Bool) {b : Bool} (c : Bool) → b ≡ false → (a && (b && c)) ≡ false
-middle_false true c e = rw e refl
-middle_false false c e = refl
 
 -- a state whose element of this family is 0, if there is a state
 abbrev IsZero : ℕ → Option AbsState → Type 0

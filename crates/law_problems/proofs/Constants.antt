@@ -13,11 +13,13 @@ use Rattle.smv_instances.specs.Scopes.{Piece, Scope, pieces, scope_of}
 use Rattle.smv_instances.specs.NameFaults.{place_if, repeated, places_of, is_of_other_list, doubled, doubled_in, declared_words, formals_of, undeclared_in, name_faults}
 use Rattle.smv_instances.specs.FirstFault.{comes_before, earlier, first_of, faults_at, faults_of_names, fault_of_size, or_else}
 use Rattle.law_designs.specs.Flattening.{different, enum_of}
+use Rattle.law_designs.proofs.Faultless.{empty-both}
 use Rattle.law_obligations.specs.Sets.{Has, first, later}
 use Rattle.law_obligations.proofs.OneOfEach.{Has-from_flat_map}
+use Rattle.law_obligations.proofs.Lookups.{Has-from_filter}
 use Rattle.smv_problem.specs.WellFormed.{AreDistinct}
 use Rattle.law_problems.specs.Fit.{ConstantsAreDistinct}
-use Rattle.law_problems.proofs.FitOrders.{none-both, none-each}
+use Rattle.law_problems.proofs.FitOrders.{none-each}
 
 none-map : {X Y : Type 0} (f : X → Y) (xs : List X) → map f xs ≡ [] → xs ≡ []
 none-map f [] e = refl
@@ -58,32 +60,23 @@ any-seen name (other ∷ seen) (later h) = by_test (bytes_eq name other) (any-se
 unseen : (seen : List Name) (words : List Word) → repeated seen words ≡ [] → (name : Name) → Has (names_of words) name → Has seen name → ⊥
 unseen seen [] e name h k = elim h [ ]
 unseen seen (word ∷ words) e _ first k =
-    let no : list_any (bytes_eq word.name) seen ≡ false = not-placed (list_any (bytes_eq word.name) seen) word.at (none-both (place_if (list_any (bytes_eq word.name) seen) word.at) (repeated (word.name ∷ seen) words) e).0 in
+    let no : list_any (bytes_eq word.name) seen ≡ false = not-placed (list_any (bytes_eq word.name) seen) word.at (empty-both (place_if (list_any (bytes_eq word.name) seen) word.at) (repeated (word.name ∷ seen) words) e).0 in
     let yes : list_any (bytes_eq word.name) seen ≡ true = any-seen word.name seen k in
     cc (no, yes)
-unseen seen (word ∷ words) e name (later h) k = unseen (word.name ∷ seen) words (none-both (place_if (list_any (bytes_eq word.name) seen) word.at) (repeated (word.name ∷ seen) words) e).1 name h (later k)
+unseen seen (word ∷ words) e name (later h) k = unseen (word.name ∷ seen) words (empty-both (place_if (list_any (bytes_eq word.name) seen) word.at) (repeated (word.name ∷ seen) words) e).1 name h (later k)
 
 distinct : (seen : List Name) (words : List Word) → repeated seen words ≡ [] → AreDistinct (names_of words)
 distinct seen [] e = tt
 distinct seen (word ∷ words) e =
-    let rest : repeated (word.name ∷ seen) words ≡ [] = (none-both (place_if (list_any (bytes_eq word.name) seen) word.at) (repeated (word.name ∷ seen) words) e).1 in
+    let rest : repeated (word.name ∷ seen) words ≡ [] = (empty-both (place_if (list_any (bytes_eq word.name) seen) word.at) (repeated (word.name ∷ seen) words) e).1 in
     (λ other h same. unseen (word.name ∷ seen) words rest other h (subst (Has (word.name ∷ seen)) same first), distinct (word.name ∷ seen) words rest)
 
 -- ---- the enumerations of a text
 
-Has-from_filter : {X : Type 0} (p : X → Bool) (xs : List X) {x : X} → Has (filter p xs) x → Has xs x
-Has-from_filter p [] h = elim h [ ]
-Has-from_filter p (y ∷ xs) {x} h = by_test (p y) x h (λ k. Has-from_filter p xs k)
-  where
-    by_test : (b : Bool) (x : _) → Has (cond b (y ∷ filter p xs) (filter p xs)) x → (Has (filter p xs) x → Has xs x) → Has (y ∷ xs) x
-    by_test true _ first rest = first
-    by_test true x (later k) rest = later (rest k)
-    by_test false x k rest = later (rest k)
-
 from-different : {X : Type 0} (same : X → X → Bool) (xs : List X) {x : X} → Has (different same xs) x → Has xs x
 from-different same [] h = elim h [ ]
 from-different same (y ∷ xs) first = first
-from-different same (y ∷ xs) (later h) = later (from-different same xs (Has-from_filter (λ z. not (same y z)) (different same xs) h))
+from-different same (y ∷ xs) (later h) = later (from-different same xs (Has-from_filter (λ z. not (same y z)) (different same xs) h).0)
 
 -- the words of an enumeration that is said
 from-enum : (m : Mention) (list : List Name) → Has (enum_of m) list → (words : List Word) × (m ≡ lists_constants words) × (list ≡ names_of words)
@@ -100,23 +93,23 @@ in_mention : (scope : Scope) (m : Mention) → doubled scope m ≡ [] → (list 
 in_mention scope m e list h =
     let w = from-enum m list h in
     let in_list : doubled scope (lists_constants w.0) ≡ [] = subst (λ (m : Mention). doubled scope m ≡ []) w.1 e in
-    subst AreDistinct (sym w.2) (distinct [] w.0 (none-both (repeated [] w.0) (places_of (filter (λ word. is_of_other_list w.0 (find_name scope.constants word.name)) w.0)) in_list).0)
+    subst AreDistinct (sym w.2) (distinct [] w.0 (empty-both (repeated [] w.0) (places_of (filter (λ word. is_of_other_list w.0 (find_name scope.constants word.name)) w.0)) in_list).0)
 
 in_piece : (tops : List Piece) (piece : Piece) → doubled_in tops piece ≡ [] → (m : Mention) → Has piece.mentions m → (list : List Name) → Has (enum_of m) list → AreDistinct list
 in_piece tops piece e m i list h =
     let declared : List ℕ = repeated [] (declared_words piece.mentions) in
     let mentioned : List ℕ = flat_map (doubled (scope_of tops piece)) piece.mentions in
-    let said : mentioned ≡ [] = (none-both (repeated [] (formals_of piece) ++ declared) mentioned e).1 in
+    let said : mentioned ≡ [] = (empty-both (repeated [] (formals_of piece) ++ declared) mentioned e).1 in
     in_mention (scope_of tops piece) m (none-each (doubled (scope_of tops piece)) piece.mentions said i) list h
 
 pub constants_are_distinct : ConstantsAreDistinct
 constants_are_distinct text e list h =
     let tops : List Piece = pieces text in
     let none : flat_map faults_at (name_faults tops) ≡ [] = none-left (faults_of_names text) (none-first (first_of (faults_of_names text)) (fault_of_size text) e) in
-    let behind_seven = (none-both (faults_at (7, flat_map (undeclared_in tops) tops)) _ none).1 in
+    let behind_seven = (empty-both (faults_at (7, flat_map (undeclared_in tops) tops)) _ none).1 in
     let eight : (repeated [] (map (λ (piece : Piece). piece.word) tops) ++ flat_map (doubled_in tops) tops) ≡ [] =
-    none-map _ (repeated [] (map (λ (piece : Piece). piece.word) tops) ++ flat_map (doubled_in tops) tops) (none-both (faults_at (8, repeated [] (map (λ (piece : Piece). piece.word) tops) ++ flat_map (doubled_in tops) tops)) _ behind_seven).0 in
-    let all_pieces : flat_map (doubled_in tops) tops ≡ [] = (none-both (repeated [] (map (λ (piece : Piece). piece.word) tops)) (flat_map (doubled_in tops) tops) eight).1 in
+    none-map _ (repeated [] (map (λ (piece : Piece). piece.word) tops) ++ flat_map (doubled_in tops) tops) (empty-both (faults_at (8, repeated [] (map (λ (piece : Piece). piece.word) tops) ++ flat_map (doubled_in tops) tops)) _ behind_seven).0 in
+    let all_pieces : flat_map (doubled_in tops) tops ≡ [] = (empty-both (repeated [] (map (λ (piece : Piece). piece.word) tops)) (flat_map (doubled_in tops) tops) eight).1 in
     let said : Has (flat_map (λ (piece : Piece). flat_map enum_of piece.mentions) tops) list = from-different same_path (flat_map (λ (piece : Piece). flat_map enum_of piece.mentions) tops) h in
     let r = Has-from_flat_map (λ (piece : Piece). flat_map enum_of piece.mentions) tops said in
     let q = Has-from_flat_map enum_of r.0.mentions r.2 in

@@ -16,6 +16,7 @@ use Rattle.law_designs.specs.FlatKinds.{Kind, number, enumeration, set_type, Var
 use Rattle.law_designs.proofs.Operands.{both, pair, all-some, takes-some, numbers-some, each-some, common-some, number_if-true, compares-some, two-some, chosen-some, element-some, if-some}
 use Rattle.law_designs.specs.SetOperands.{first_at, is_loop, disordered, met, lacks_order, is_unordered}
 use Rattle.law_designs.specs.SetFaults.{operand, listed, faults_in, faults_each, faults_signed, faults_members, faults_held}
+use Rattle.law_designs.proofs.Faultless.{empty-both}
 use Rattle.law_obligations.specs.Sets.{Has, first, later}
 use Rattle.law_obligations.proofs.Members.{Has-cases, Has-uncons, all-each}
 use Rattle.law_obligations.proofs.OneOfEach.{get_Has}
@@ -24,14 +25,10 @@ use Rattle.law_problems.proofs.Names.{bare, same}
 
 -- ---- lists of faults
 
-pub none-both : {X : Type 0} (xs ys : List X) → xs ++ ys ≡ [] → (xs ≡ []) × (ys ≡ [])
-none-both [] ys e = (refl, e)
-none-both (x ∷ xs) ys e = absurd (cc (e))
-
 pub none-each : {X Y : Type 0} (f : X → List Y) (xs : List X) → flat_map f xs ≡ [] → {x : X} → Has xs x → f x ≡ []
 none-each f [] e h = elim h [ ]
-none-each f (y ∷ xs) e first = (none-both (f y) (flat_map f xs) e).0
-none-each f (y ∷ xs) e (later h) = none-each f xs (none-both (f y) (flat_map f xs) e).1 h
+none-each f (y ∷ xs) e first = (empty-both (f y) (flat_map f xs) e).0
+none-each f (y ∷ xs) e (later h) = none-each f xs (empty-both (f y) (flat_map f xs) e).1 h
 
 lt-there : {X : Type 0} (xs : List X) (k : ℕ) → nat_lt k (length xs) ≡ true → slice_get xs k ≡ None → ⊥
 lt-there [] k h e = grind arith
@@ -215,7 +212,7 @@ module _ (raw : Raw) where
       orders vars all (Number value at) h n = refl
       orders vars all (Read' family shape indexes at) h n =
           let g : (f : Family) × (slice_get raw.families family ≡ Some f) × (take_each f.over (kinds_in raw vars indexes) ≡ true) = element-some (slice_get raw.families family) (kinds_in raw vars indexes) h in
-          row-orders vars all indexes (each-some g.0.over (kinds_in raw vars indexes) g.2) (none-both _ _ n).0
+          row-orders vars all indexes (each-some g.0.over (kinds_in raw vars indexes) g.2) (empty-both _ _ n).0
       orders vars all (Var var at) h n = refl
       orders vars all (Loop value at) h n = refl
       orders vars all (Constant list value at) h n = refl
@@ -226,7 +223,7 @@ module _ (raw : Raw) where
       orders vars all (Iff' l (more_of-FlatExpr left end_of-FlatExpr) r (more_of-FlatExpr right end_of-FlatExpr)) h n =
           let g : (is_some (kind_in raw vars left) ≡ true) × (is_some (kind_in raw vars right) ≡ true) =
           two-some (kind_in raw vars left) (kind_in raw vars right) (numbers-some (kind_in raw vars left ∷ kind_in raw vars right ∷ []) (number_if-true _ h)) in
-          let f : (faults vars left ≡ []) × (faults vars right ≡ []) = none-both _ _ n in
+          let f : (faults vars left ≡ []) × (faults vars right ≡ []) = empty-both _ _ n in
           pair _ _ (orders vars all left g.0 f.0) (orders vars all right g.1 f.1)
       orders vars all (Compare' op l (more_of-FlatExpr left end_of-FlatExpr) r (more_of-FlatExpr right end_of-FlatExpr)) h n =
           let g : (is_some (kind_in raw vars left) ≡ true) × (is_some (kind_in raw vars right) ≡ true) =
@@ -234,22 +231,22 @@ module _ (raw : Raw) where
           let on_left : List Fault = disordered raw.sets op (operand raw (value_in raw) vars left) in
           let on_right : List Fault = disordered raw.sets op (operand raw (value_in raw) vars right) in
           let meets : List Fault = met (operand raw (value_in raw) vars left ∷ operand raw (value_in raw) vars right ∷ []) in
-          let a : ((faults vars left ++ faults vars right ++ meets ++ on_left) ≡ []) × (on_right ≡ []) = none-both _ _ n in
-          let b : ((faults vars left ++ faults vars right ++ meets) ≡ []) × (on_left ≡ []) = none-both _ _ a.0 in
-          let c : ((faults vars left ++ faults vars right) ≡ []) × (meets ≡ []) = none-both _ _ b.0 in
-          let d : (faults vars left ≡ []) × (faults vars right ≡ []) = none-both _ _ c.0 in
+          let a : ((faults vars left ++ faults vars right ++ meets ++ on_left) ≡ []) × (on_right ≡ []) = empty-both _ _ n in
+          let b : ((faults vars left ++ faults vars right ++ meets) ≡ []) × (on_left ≡ []) = empty-both _ _ a.0 in
+          let c : ((faults vars left ++ faults vars right) ≡ []) × (meets ≡ []) = empty-both _ _ b.0 in
+          let d : (faults vars left ≡ []) × (faults vars right ≡ []) = empty-both _ _ c.0 in
           pair _ _ (either-both (not (is_order op)) _ _ (side op vars all left g.0 b.1) (side op vars all right g.1 a.1)) (pair _ _ (orders vars all left g.0 d.0) (orders vars all right g.1 d.1))
       orders vars all (Within' l (more_of-FlatExpr left end_of-FlatExpr) r (more_of-FlatExpr set end_of-FlatExpr)) h n =
           let g : (is_some (kind_in raw vars left) ≡ true) × (all-some (looked_through raw vars set) ≡ true) =
           both _ _ (common-some (kind_in raw vars left ∷ looked_through raw vars set) (number_if-true _ h)) in
           let meets : List Fault = met (operand raw (value_in raw) vars left ∷ listed raw (value_in raw) vars set) in
-          let a : ((faults vars left ++ faults vars set) ≡ []) × (meets ≡ []) = none-both _ _ n in
-          let b : (faults vars left ≡ []) × (faults vars set ≡ []) = none-both _ _ a.0 in
+          let a : ((faults vars left ++ faults vars set) ≡ []) × (meets ≡ []) = empty-both _ _ n in
+          let b : (faults vars left ≡ []) × (faults vars set ≡ []) = empty-both _ _ a.0 in
           pair _ _ (orders vars all left g.0 b.0) (set-orders vars all set g.1 b.1)
       orders vars all (Sum' f (more_of-FlatExpr head end_of-FlatExpr) shape more) h n =
           let g : (is_some (kind_in raw vars head) ≡ true) × (all-some (summands raw vars more) ≡ true) =
           both _ _ (numbers-some (kind_in raw vars head ∷ summands raw vars more) (number_if-true _ h)) in
-          let a : (faults vars head ≡ []) × (faults_signed raw (value_in raw) vars more ≡ []) = none-both _ _ n in
+          let a : (faults vars head ≡ []) × (faults_signed raw (value_in raw) vars more ≡ []) = empty-both _ _ n in
           pair _ _ (orders vars all head g.0 a.0) (signed-orders vars all more g.1 a.1)
       orders vars all (Modulo' shape (more_of-FlatExpr e end_of-FlatExpr) by at) h n =
           orders vars all e (takes-some number (kind_in raw vars e) (both (takes number (kind_in raw vars e)) (nat_lt 0 by) (number_if-true _ h)).0) n
@@ -257,9 +254,9 @@ module _ (raw : Raw) where
           let g : (is_some (kind_in raw vars cond) ≡ true) × (is_some (kind_in raw vars left) ≡ true) × (is_some (kind_in raw vars right) ≡ true) =
           chosen-some (kind_in raw vars cond) (kind_in raw vars left) (kind_in raw vars right) h in
           let meets : List Fault = met (operand raw (value_in raw) vars left ∷ operand raw (value_in raw) vars right ∷ []) in
-          let a : ((faults vars cond ++ faults vars left ++ faults vars right) ≡ []) × (meets ≡ []) = none-both _ _ n in
-          let b : ((faults vars cond ++ faults vars left) ≡ []) × (faults vars right ≡ []) = none-both _ _ a.0 in
-          let d : (faults vars cond ≡ []) × (faults vars left ≡ []) = none-both _ _ b.0 in
+          let a : ((faults vars cond ++ faults vars left ++ faults vars right) ≡ []) × (meets ≡ []) = empty-both _ _ n in
+          let b : ((faults vars cond ++ faults vars left) ≡ []) × (faults vars right ≡ []) = empty-both _ _ a.0 in
+          let d : (faults vars cond ≡ []) × (faults vars left ≡ []) = empty-both _ _ b.0 in
           pair _ _ (orders vars all cond g.0 d.0) (pair _ _ (orders vars all left g.1 d.1) (orders vars all right g.2 b.1))
       orders vars all (All' shape (more_of-FlatExpr body end_of-FlatExpr) var over at) h n =
           let g : (is_binder raw vars var over ≡ true) × (takes number (kind_in raw (inside vars over) body) ≡ true) = both (is_binder raw vars var over) (takes number (kind_in raw (inside vars over) body)) (number_if-true _ h) in
@@ -274,27 +271,27 @@ module _ (raw : Raw) where
       row-orders vars all end_of-FlatExpr h n = refl
       row-orders vars all (more_of-FlatExpr e rest) h n =
           let g : (is_some (kind_in raw vars e) ≡ true) × (all-some (kinds_in raw vars rest) ≡ true) = both _ _ h in
-          let a : (faults vars e ≡ []) × (faults_each raw (value_in raw) vars rest ≡ []) = none-both _ _ n in
+          let a : (faults vars e ≡ []) × (faults_each raw (value_in raw) vars rest ≡ []) = empty-both _ _ n in
           pair _ _ (orders vars all e g.0 a.0) (row-orders vars all rest g.1 a.1)
 
       signed-orders : {m : _} (vars : Vars) → AreThere vars → (row : Row_of-FlatSigned m) → all-some (summands raw vars row) ≡ true → faults_signed raw (value_in raw) vars row ≡ [] → signed_keep_orders (bare raw) vars row ≡ true
       signed-orders vars all end_of-FlatSigned h n = refl
       signed-orders vars all (more_of-FlatSigned minus e rest) h n =
           let g : (is_some (kind_in raw vars e) ≡ true) × (all-some (summands raw vars rest) ≡ true) = both _ _ h in
-          let a : (faults vars e ≡ []) × (faults_signed raw (value_in raw) vars rest ≡ []) = none-both _ _ n in
+          let a : (faults vars e ≡ []) × (faults_signed raw (value_in raw) vars rest ≡ []) = empty-both _ _ n in
           pair _ _ (orders vars all e g.0 a.0) (signed-orders vars all rest g.1 a.1)
 
       members-orders : {m : _} (vars : Vars) → AreThere vars → (row : Row_of-FlatMember m) → all-some (members_in raw vars row) ≡ true → faults_members raw (value_in raw) vars row ≡ [] → members_keep_orders (bare raw) vars row ≡ true
       members-orders vars all end_of-FlatMember h n = refl
       members-orders vars all (more_of-FlatMember (One e) rest) h n =
           let g : (is_some (kind_in raw vars e) ≡ true) × (all-some (members_in raw vars rest) ≡ true) = both _ _ h in
-          let a : (faults vars e ≡ []) × (faults_members raw (value_in raw) vars rest ≡ []) = none-both _ _ n in
+          let a : (faults vars e ≡ []) × (faults_members raw (value_in raw) vars rest ≡ []) = empty-both _ _ n in
           pair _ _ (orders vars all e g.0 a.0) (members-orders vars all rest g.1 a.1)
       members-orders vars all (more_of-FlatMember (SpanOf span at) rest) h n =
           members-orders vars all rest (both (is_some (number_if (nat_le span.low span.high))) (all-some (members_in raw vars rest)) h).1 n
 
       set-orders : (vars : Vars) → AreThere vars → (e : FlatExpr) → all-some (looked_through raw vars e) ≡ true → faults vars e ≡ [] → keeps_orders (bare raw) vars e ≡ true
-      set-orders vars all (List' shape members at) h n = members-orders vars all members h (none-both _ _ n).0
+      set-orders vars all (List' shape members at) h n = members-orders vars all members h (empty-both _ _ n).0
       set-orders vars all _ h n = absurd (cc (h))
 
     -- ---- values
@@ -305,7 +302,7 @@ module _ (raw : Raw) where
     held-orders vars all var over (Some' shape (more_of-FlatExpr cond end_of-FlatExpr)) at b h n = orders (inside vars over) (inside-there vars all var over b) cond (takes-some number (kind_in raw (inside vars over) cond) h) n
 
     pub value-orders : (vars : Vars) → AreThere vars → (e : FlatExpr) → is_some (value_in raw vars e) ≡ true → faults vars e ≡ [] → keeps_orders (bare raw) vars e ≡ true
-    value-orders vars all (List' shape members at) h n = members-orders vars all members (common-some (members_in raw vars members) h) (none-both _ _ n).0
+    value-orders vars all (List' shape members at) h n = members-orders vars all members (common-some (members_in raw vars members) h) (empty-both _ _ n).0
     value-orders vars all (Each' var over held at) h n =
         let t = if-some (is_binder raw vars var over && is_condition raw (inside vars over) held) (Some (kind_of over)) h in
         let g : (is_binder raw vars var over ≡ true) × (is_condition raw (inside vars over) held ≡ true) = both _ _ t.0 in
@@ -314,9 +311,9 @@ module _ (raw : Raw) where
         let g : (is_some (kind_in raw vars cond) ≡ true) × (is_some (value_in raw vars left) ≡ true) × (is_some (value_in raw vars right) ≡ true) =
         chosen-some (kind_in raw vars cond) (value_in raw vars left) (value_in raw vars right) h in
         let meets : List Fault = met (operand raw (value_in raw) vars left ∷ operand raw (value_in raw) vars right ∷ []) in
-        let a : ((faults vars cond ++ faults vars left ++ faults vars right) ≡ []) × (meets ≡ []) = none-both _ _ n in
-        let b : ((faults vars cond ++ faults vars left) ≡ []) × (faults vars right ≡ []) = none-both _ _ a.0 in
-        let d : (faults vars cond ≡ []) × (faults vars left ≡ []) = none-both _ _ b.0 in
+        let a : ((faults vars cond ++ faults vars left ++ faults vars right) ≡ []) × (meets ≡ []) = empty-both _ _ n in
+        let b : ((faults vars cond ++ faults vars left) ≡ []) × (faults vars right ≡ []) = empty-both _ _ a.0 in
+        let d : (faults vars cond ≡ []) × (faults vars left ≡ []) = empty-both _ _ b.0 in
         pair _ _ (orders vars all cond g.0 d.0) (pair _ _ (value-orders vars all left g.1 d.1) (value-orders vars all right g.2 b.1))
     value-orders vars all (Number value at) h n = refl
     value-orders vars all (Read' family shape indexes at) h n = orders vars all (Read' family shape indexes at) h n
@@ -340,5 +337,5 @@ module _ (raw : Raw) where
     left-orders vars all [] h n = refl
     left-orders vars all (e ∷ es) h n =
         let g : (is_some (kind_in raw vars e) ≡ true) × (all-some (map (kind_in raw vars) es) ≡ true) = both _ _ h in
-        let a : (faults vars e ≡ []) × (flat_map (faults_in raw (value_in raw) vars) es ≡ []) = none-both _ _ n in
+        let a : (faults vars e ≡ []) × (flat_map (faults_in raw (value_in raw) vars) es ≡ []) = empty-both _ _ n in
         pair _ _ (orders vars all e g.0 a.0) (left-orders vars all es g.1 a.1)

@@ -2,6 +2,7 @@
 use Rattle.std.proofs.Common.{◌≡◌, ◌≢◌, ℕ, zero, suc, ◌+◌, ◌-◌, ◌<◌, ◌≤◌, List, [], ◌∷◌, ◌++◌, map, take, length, Bool, true, false, ◌&&◌, if◌then◌else◌, refl, sym, ap, subst, ◌∙◌, ◌⊎◌, inl, inr, Option, Some, None, option_to_list, nat_lt, arith}
 use Rattle.std.specs.Prelude.{IfSome, IsTrue}
 use Rattle.std.specs.List.{flat_map, slice_get, zip, list_all}
+use Rattle.std.proofs.lemmas.Simd.{map-map}
 use Rattle.smv_core.specs.Values.{numbers_from}
 use Rattle.smv_core.specs.declared.flat.Simple.{Simple}
 use Rattle.smv_core.specs.declared.flat.Simple.TheVariants.{Range, Enum, Set}
@@ -57,10 +58,6 @@ use Rattle.law_problems.specs.Parts.{outlined, entry_of, case_with, IsPart, IsCa
 use Rattle.law_problems.proofs.Unlike.{AreUnlike, unlike-filter, unlike-elements, apart_elements}
 
 -- ---- lists
-
-map-map : {X Y Z : Type 0} (g : Y → Z) (f : X → Y) (xs : List X) → map g (map f xs) ≡ map (λ x. g (f x)) xs
-map-map g f [] = refl
-map-map g f (x ∷ xs) = ap (λ zs. g (f x) ∷ zs) (map-map g f xs)
 
 units-are : (us : List Unit) (leaves : List Leaf) (choices : List Choice) → length leaves ≡ length us → length choices ≡ length us → map (λ entry. entry.unit) (entries_of us leaves choices) ≡ us
 units-are [] leaves choices l c = refl

@@ -1,8 +1,7 @@
 -- The guards of leaves have kinds and keep orders.
-use Rattle.std.proofs.Common.{◌≡◌, ℕ, suc, ◌+◌, ◌-◌, ◌<◌, ◌≤◌, List, [], ◌∷◌, ◌++◌, map, zip, length, append_assoc, false, ◌&&◌, refl, sym, ap, subst, ◌∙◌, inl, inr, Option, Some, None, arith}
+use Rattle.std.proofs.Common.{◌≡◌, ℕ, suc, ◌+◌, ◌-◌, List, [], ◌∷◌, ◌++◌, map, zip, length, append_assoc, refl, sym, ap, subst, ◌∙◌, inl, inr, arith}
 use Rattle.std.specs.Prelude.{IsTrue}
 use Rattle.std.specs.List.{flat_map, slice_get}
-use Rattle.std.specs.Option.{is_none}
 use Rattle.smv_core.specs.declared.flat.Design.{Design}
 use Rattle.smv_core.specs.declared.flat.Param.{Param}
 use Rattle.smv_core.specs.declared.flat.FlatSplit.{FlatSplit}
@@ -20,35 +19,18 @@ use Rattle.law_obligations.specs.Units.{units_of}
 use Rattle.law_designs.specs.FlatKinds.{Vars, kind_of, kind_in}
 use Rattle.smv_problem.specs.WellFormed.{as_raw, keeps_orders}
 use Rattle.law_splits.specs.Variables.{Reading, readings, renamed, IsNumbered}
-use Rattle.law_splits.specs.Leaves.{with_name, name_of, own_params, Cut, new, all_params, stands_for, number_in, guard_of, guards_of, params_after, chain_of, leaf_of, leaves_from, leaves_of}
-use Rattle.law_splits.specs.SplitFaults.{is_stray, faults_of_splits}
+use Rattle.law_splits.specs.Leaves.{with_name, name_of, own_params, Cut, new, all_params, number_in, guard_of, guards_of, params_after, chain_of, leaf_of, leaves_from, leaves_of}
+use Rattle.law_splits.specs.SplitFaults.{faults_of_splits}
 use Rattle.law_splits.specs.SplitLaws.{IsRead}
-use Rattle.law_splits.proofs.Lists.{is_less, is_not_less}
 use Rattle.law_splits.proofs.Good.{good_chain}
 use Rattle.law_splits.proofs.Chains.{Follows, chain_follows, adds}
 use Rattle.law_splits.proofs.Splits.{IsLeafOf, leaf_of_unit}
+use Rattle.law_splits.proofs.Equations.{IsFine, fine, number_inner, number_old}
 use Rattle.law_problems.specs.Kinded.{KindsStandFor, EquationsKeepKinds, EquationsKeepOrders, kinds_of, IsKinded, HasKindedSplits, GuardsHaveKinds}
 use Rattle.law_problems.proofs.Renamed.{Alike, same, same_orders}
 use Rattle.law_problems.proofs.Standing.{stands, chain_cut}
 
 -- ---- an equation in a leaf
-
--- a variable bound around a split that its brackets name
-abbrev IsFine : FlatSplit → ℕ → Type 0
-IsFine split v = v < length split.bound → (k : ℕ) × (stands_for split v ≡ Some k)
-
-found : (o : Option ℕ) → is_none o ≡ false → (k : ℕ) × (o ≡ Some k)
-found None e = absurd (cc)
-found (Some k) e = (k, refl)
-
-fine : (split : FlatSplit) (x : Reading) → is_stray split x ≡ false → IsFine split x.var
-fine split x e l = found (stands_for split x.var) (sym (ap (λ b. b && is_none (stands_for split x.var)) (is_less x.var (length split.bound) l)) ∙ e)
-
-number_inner : (split : FlatSplit) (count v : ℕ) → length split.bound ≤ v → number_in split count v ≡ count + (v - length split.bound)
-number_inner split count v l = rw (is_not_less v (length split.bound) l) refl
-
-number_old : (split : FlatSplit) (count v k : ℕ) → v < length split.bound → stands_for split v ≡ Some k → number_in split count v ≡ k
-number_old split count v k l e = rw (is_less v (length split.bound) l) (rw e refl)
 
 module _ (raw : Raw) (split : FlatSplit) (e : FlatExpr) (numbered : IsNumbered (length split.bound) e) (all_fine : (x : Reading) → Has (readings e) x → IsFine split x.var) (own vars : Vars) (stand : KindsStandFor split own vars) where
   abbrev width : ℕ

@@ -31,30 +31,23 @@ use Rattle.law_designs.specs.FlatKinds.{Kind, number, takes, assigns, element, V
 use Rattle.law_designs.proofs.Operands.{both, pair, all-some, takes-some, each-some, element-some}
 use Rattle.law_designs.specs.SetFaults.{operand, faults_in, faults_of, faults_of_each, item_faults, faults_of_sets}
 use Rattle.law_designs.specs.SetOperands.{wanted_at, wanted_of}
+use Rattle.law_designs.proofs.Faultless.{empty-both}
 use Rattle.law_obligations.specs.Sets.{Has, first, later}
 use Rattle.law_obligations.specs.Covers.{IsIndexType}
 use Rattle.law_obligations.proofs.Members.{Has-from_map, all-each}
 use Rattle.law_obligations.proofs.Same.{nat_eq-is}
+use Rattle.law_obligations.proofs.Lookups.{Has-from_filter}
 use Rattle.smv_problem.specs.WellFormed.{keeps_orders, is_part, are_parts}
 use Rattle.law_problems.specs.Kinded.{kinds_of, IsKinded}
 use Rattle.law_problems.specs.Fit.{DesignsAreFit, SplitsAreKinded, SizesAreFew}
 use Rattle.law_problems.proofs.Names.{bare, same, same_binder, same_value, same_list}
-use Rattle.law_problems.proofs.FitOrders.{none-both, none-each, is_there, AreThere, none-there, inside-there, index-there, orders, value-orders, left-orders}
+use Rattle.law_problems.proofs.FitOrders.{none-each, is_there, AreThere, none-there, inside-there, index-there, orders, value-orders, left-orders}
 use mathlib.Core.Former.{Count}
 
 -- what lets a box of a definition's part compute
 unfoldable boxes : Unit {0}
 unfolding Rattle.smv_core.specs.declared.flat.Flat.TheBlock.hidden-the_row-Flat-0 Rattle.smv_core.specs.declared.flat.Flat.TheBlock.shape-the_row-Flat-0 denote.Hole.Carrier.hidden
 boxes = tt
-
-Has-from_filter : {X : Type 0} (p : X → Bool) (xs : List X) {x : X} → Has (filter p xs) x → Has xs x
-Has-from_filter p [] h = elim h [ ]
-Has-from_filter p (y ∷ xs) {x} h = by_test (p y) x h (λ k. Has-from_filter p xs k)
-  where
-    by_test : (b : Bool) (x : _) → Has (cond b (y ∷ filter p xs) (filter p xs)) x → (Has (filter p xs) x → Has xs x) → Has (y ∷ xs) x
-    by_test true _ first rest = first
-    by_test true x (later k) rest = later (rest k)
-    by_test false x k rest = later (rest k)
 
 -- no first fault, no fault
 none-left : (faults : List Fault) → first_of faults ≡ None → faults ≡ []
@@ -133,7 +126,7 @@ module _ (raw : Raw) (families_kept : list_all (is_kinded_family raw) raw.famili
     part-joined vars (p ∷ q ∷ more) h = part-First vars (p ∷ q ∷ more) h
 
     part-first_part : (vars : Vars) (parts : List Flat) → EachIsPart vars parts → IsPart vars (first_part parts)
-    part-first_part vars parts h = part-joined vars (filter (λ p. not (is_nothing p)) parts) (λ p k. h p (Has-from_filter (λ p. not (is_nothing p)) parts k))
+    part-first_part vars parts h = part-joined vars (filter (λ p. not (is_nothing p)) parts) (λ p k. h p (Has-from_filter (λ p. not (is_nothing p)) parts k).0)
 
     part-cond : (vars : Vars) (b : Bool) (p q : Flat) → IsPart vars p → IsPart vars q → IsPart vars (cond b p q)
     part-cond vars true p q h k = h
@@ -169,9 +162,9 @@ module _ (raw : Raw) (families_kept : list_all (is_kinded_family raw) raw.famili
             let indexes : List Fault = wanted_at (slice_get raw.families other) (map (operand raw (value_in raw) vars) left) in
             let values : List Fault = faults_in raw (value_in raw) vars value in
             let targets : List Fault = wanted_of (slice_get raw.families other) (operand raw (value_in raw) vars value) in
-            let a : ((lefts ++ indexes ++ values) ≡ []) × (targets ≡ []) = none-both _ _ n in
-            let b : ((lefts ++ indexes) ≡ []) × (values ≡ []) = none-both _ _ a.0 in
-            let c : (lefts ≡ []) × (indexes ≡ []) = none-both _ _ b.0 in
+            let a : ((lefts ++ indexes ++ values) ≡ []) × (targets ≡ []) = empty-both _ _ n in
+            let b : ((lefts ++ indexes) ≡ []) × (values ≡ []) = empty-both _ _ a.0 in
+            let c : (lefts ≡ []) × (indexes ≡ []) = empty-both _ _ b.0 in
             by_test (same_kind which kind) (nat_eq other family) refl c.0 b.1
           where
             by_test : (s t : Bool) → nat_eq other family ≡ t → flat_map (faults_in raw (value_in raw) vars) left ≡ [] → faults_in raw (value_in raw) vars value ≡ [] →
@@ -184,8 +177,8 @@ module _ (raw : Raw) (families_kept : list_all (is_kinded_family raw) raw.famili
         part_of_act vars all k (If' test l (more_of-FlatStmt left end_of-FlatStmt) r (more_of-FlatStmt right end_of-FlatStmt)) h n =
             let g : (takes number (kind_in raw vars test) ≡ true) × ((keeps_kinds raw vars left && keeps_kinds raw vars right) ≡ true) = both _ _ h in
             let s : (keeps_kinds raw vars left ≡ true) × (keeps_kinds raw vars right ≡ true) = both _ _ g.1 in
-            let a : ((faults_in raw (value_in raw) vars test ++ faults vars left) ≡ []) × (faults vars right ≡ []) = none-both _ _ n in
-            let b : (faults_in raw (value_in raw) vars test ≡ []) × (faults vars left ≡ []) = none-both _ _ a.0 in
+            let a : ((faults_in raw (value_in raw) vars test ++ faults vars left) ≡ []) × (faults vars right ≡ []) = empty-both _ _ n in
+            let b : (faults_in raw (value_in raw) vars test ≡ []) × (faults vars left ≡ []) = empty-both _ _ a.0 in
             part-cond vars (is_nothing (flat_of kind family k left) && is_nothing (flat_of kind family (k + count left) right)) Nothing (If test (flat_of kind family k left) (flat_of kind family (k + count left) right)) refl
             (part-If vars test (flat_of kind family k left) (flat_of kind family (k + count left) right) (ap (takes number) (same raw vars test) ∙ g.0)
             (orders raw families_kept vars all test (takes-some number (kind_in raw vars test) g.0) b.0)
@@ -193,7 +186,7 @@ module _ (raw : Raw) (families_kept : list_all (is_kinded_family raw) raw.famili
         part_of_act vars all k (Block' shape parts) h n = part-first_part vars (flats_of kind family k parts) (parts_of_acts vars all k parts h n)
         part_of_act vars all k (Default' l (more_of-FlatStmt left end_of-FlatStmt) r (more_of-FlatStmt right end_of-FlatStmt)) h n =
             let s : (keeps_kinds raw vars left ≡ true) × (keeps_kinds raw vars right ≡ true) = both _ _ h in
-            let b : (faults vars left ≡ []) × (faults vars right ≡ []) = none-both _ _ n in
+            let b : (faults vars left ≡ []) × (faults vars right ≡ []) = empty-both _ _ n in
             part-first_part vars (flat_of kind family (k + count left) right ∷ flat_of kind family k left ∷ [])
             (two (flat_of kind family (k + count left) right) (flat_of kind family k left) (part_of_act vars all (k + count left) right s.1 b.1) (part_of_act vars all k left s.0 b.0))
           where
@@ -211,7 +204,7 @@ module _ (raw : Raw) (families_kept : list_all (is_kinded_family raw) raw.famili
         parts_of_acts vars all k end_of-FlatStmt h n p i = elim i [ ]
         parts_of_acts vars all k (more_of-FlatStmt part rest) h n p i =
             let g : (keeps_kinds raw vars part ≡ true) × (all_keep_kinds raw vars rest ≡ true) = both _ _ h in
-            let a : (faults vars part ≡ []) × (faults_of_each raw (value_in raw) vars rest ≡ []) = none-both _ _ n in
+            let a : (faults vars part ≡ []) × (faults_of_each raw (value_in raw) vars rest ≡ []) = empty-both _ _ n in
             one_of (flat_of kind family k part) (flats_of kind family (k + count part) rest) (part_of_act vars all k part g.0 a.0) (parts_of_acts vars all (k + count part) rest g.1 a.1) p i
           where
             one_of : (q : Flat) (qs : List Flat) → IsPart vars q → EachIsPart vars qs → EachIsPart vars (q ∷ qs)
@@ -253,7 +246,7 @@ module _ (raw : Raw) (families_kept : list_all (is_kinded_family raw) raw.famili
     part-kept kind head =
         as-true _ (part-first_part head.family [] (map (λ (s : Statement). flat_of kind head.family s.place s.act) (set_of raw head.layer)) (λ p i.
         let r : (s : Statement) × Has (set_of raw head.layer) s × (p ≡ flat_of kind head.family s.place s.act) = Has-from_map (λ (s : Statement). flat_of kind head.family s.place s.act) (set_of raw head.layer) i in
-        let there : Has (statements_of raw) r.0 = Has-from_filter (λ (s : Statement). is_one_layer head.layer s.layer) (statements_of raw) r.1 in
+        let there : Has (statements_of raw) r.0 = (Has-from_filter (λ (s : Statement). is_one_layer head.layer s.layer) (statements_of raw) r.1).0 in
         let act = statement-item 0 raw.items r.0 there in
         let kept : keeps_kinds raw [] r.0.act ≡ true = all-each (is_kinded_item raw) items_kept act.1 in
         let free : faults_of raw (value_in raw) [] r.0.act ≡ [] = none-each (item_faults raw (value_in raw)) raw.items none act.1 in

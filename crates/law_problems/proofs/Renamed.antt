@@ -1,5 +1,5 @@
 -- An expression whose variables have other numbers has the same kind, and keeps the same orders, where these numbers have the same kinds.
-use Rattle.std.proofs.Common.{◌≡◌, ℕ, zero, suc, ◌+◌, ◌-◌, ◌<◌, ◌≤◌, List, [], ◌∷◌, ◌++◌, length, refl, sym, ap, subst, ◌∙◌, ◌⊎◌, arith, inl, inr, Some, true, not, ◌&&◌, ◌||◌, nat_eq, nat_lt, nat_le, is_some}
+use Rattle.std.proofs.Common.{◌≡◌, ℕ, suc, ◌+◌, ◌-◌, ◌<◌, ◌≤◌, List, [], ◌∷◌, ◌++◌, length, refl, sym, ap, subst, ◌∙◌, ◌⊎◌, arith, inl, inr, Some, true, not, ◌&&◌, ◌||◌, nat_eq, nat_lt, nat_le, is_some}
 use Rattle.std.specs.List.{slice_get}
 use Rattle.smv_core.specs.declared.flat.Simple.{Simple}
 use Rattle.smv_core.specs.declared.flat.Raw.{Raw}
@@ -14,12 +14,7 @@ use Rattle.smv_problem.specs.WellFormed.{is_order, has_order, keeps_orders, all_
 use Rattle.law_splits.specs.Variables.{Reading, readings, readings_each, readings_signed, readings_members, renamed, renamed_each, renamed_signed, renamed_members, IsNumbered, AreNumbered, AreSignedNumbered, AreMembersNumbered}
 use Rattle.law_splits.proofs.Lists.{get_longer}
 use Rattle.law_splits.proofs.RenamedReads.{less_or_same}
-
--- a place within a list
-get_within : {X : Type 0} (xs : List X) (k : ℕ) → k < length xs → (x : X) × (slice_get xs k ≡ Some x)
-get_within [] k l = absurd (omega (arith, l))
-get_within (x ∷ xs) zero l = (x, refl)
-get_within (x ∷ xs) (suc k) l = get_within xs k (omega (arith, l))
+use Rattle.law_splits.proofs.RenamedOutcomes.{get_within}
 
 same_length : (a b : ℕ) → b ≡ a → nat_eq a b ≡ true
 same_length a b e = grind arith

@@ -25,12 +25,9 @@ use Rattle.law_designs.specs.FlatKinds.{kind_of, set_type}
 use Rattle.law_splits.specs.Leaves.{named_by, with_name, name_of, own_params, Cut, cut, old, all_params, stands_for, onward, onward_if, chain}
 use Rattle.law_splits.specs.SplitFaults.{astray, split_again, names_one, doubled, bracketed, not_in_one, not_new, other_kind, strays, same_type, is_of_variables, miscounted, other_type, misfits, mismatches, cuts, cuts_of, faults_of_splits}
 use Rattle.law_splits.proofs.Lists.{get_longer, get_map}
+use Rattle.law_splits.proofs.Good.{kept}
+use Rattle.law_splits.proofs.RenamedOutcomes.{get_within}
 use Rattle.law_problems.specs.Kinded.{kinds_of}
-
--- a place that is not there
-kept : (b : Bool) (at : ℕ) → (Has (place_if (not b) at) at → ⊥) → b ≡ true
-kept true at none = refl
-kept false at none = absurd (none first)
 
 absent : (b : Bool) (at : ℕ) → (Has (place_if b at) at → ⊥) → b ≡ false
 absent true at none = absurd (none first)
@@ -94,11 +91,6 @@ has_zip (x ∷ xs) [] k e i = absurd (cc)
 has_zip (w ∷ xs) (z ∷ ys) zero {x} {y} e i = subst (λ v. Has (zip (w ∷ xs) (z ∷ ys)) (v, y)) (inner e) (subst (λ v. Has (zip (w ∷ xs) (z ∷ ys)) (w, v)) (inner i) first)
 has_zip (x ∷ xs) (y ∷ ys) (suc k) e i = later (has_zip xs ys k e i)
 
-get_below : {X : Type 0} (xs : List X) (k : ℕ) → k < length xs → (x : X) × (slice_get xs k ≡ Some x)
-get_below [] k l = absurd (omega (arith, l))
-get_below (x ∷ xs) zero l = (x, refl)
-get_below (x ∷ xs) (suc k) l = get_below xs k (omega (arith, l))
-
 past : {X : Type 0} (xs : List X) (k : ℕ) {x : X} → slice_get xs k ≡ Some x → k < length xs
 past [] k e = absurd (cc)
 past (y ∷ xs) zero e = omega arith
@@ -152,7 +144,7 @@ module _ (d : Design) (none : faults_of_splits d ≡ []) where
           let n = named_at c.split.bound c.split.of.names (are_bound c.split is_split) k p found.1 in
           let long = counted (length c.params) c.split.of.names (λ at h. no_mismatch c is_cut at (Has-left (other_type c) h)) k n.is_at in
           let short = past c.split.of.names k n.is_at in
-          let q = get_below c.params k (omega (arith, long, short)) in
+          let q = get_within c.params k (omega (arith, long, short)) in
           let same = of_type n.word p q.0 n.is_named (has_zip c.split.of.names c.params k n.is_at q.1) (get_Has c.params k q.0 q.1) in
           let bound = find-some (λ p. bytes_eq p.name n.word.name) c.split.bound (from_list (find (λ p. bytes_eq p.name n.word.name) c.split.bound) p n.is_named) in
           let place = Has_get bound.0 in

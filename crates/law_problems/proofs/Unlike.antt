@@ -50,10 +50,10 @@ unlike-filter {X} p (x ∷ xs) u = at (p x) (unlike-filter p xs u.1)
     at true v = (λ y h. u.0 y (Has-from_filter p xs h).0, v)
     at false v = v
 
-head_is : {X : Type 0} {x y : X} {xs ys : List X} → x ∷ xs ≡ y ∷ ys → x ≡ y
+pub head_is : {X : Type 0} {x y : X} {xs ys : List X} → x ∷ xs ≡ y ∷ ys → x ≡ y
 head_is e = cc
 
-tail_is : {X : Type 0} {x y : X} {xs ys : List X} → x ∷ xs ≡ y ∷ ys → xs ≡ ys
+pub tail_is : {X : Type 0} {x y : X} {xs ys : List X} → x ∷ xs ≡ y ∷ ys → xs ≡ ys
 tail_is e = cc
 
 pub unlike-one_of_each : {X : Type 0} (xss : List (List X)) → AreAllUnlike xss → AreUnlike (one_of_each xss)

@@ -1,6 +1,7 @@
 -- Indexes and elements as they are written.
 use Rattle.std.proofs.Common.{◌≡◌, ℕ, ◌+◌, ◌-◌, List, [], ◌∷◌, ◌++◌, map, Bool, true, false, cond, refl, sym, ap, subst, ◌∙◌, Option, Some, None}
 use Rattle.std.specs.List.{flat_map, slice_get}
+use Rattle.std.proofs.lemmas.Simd.{map-map}
 use Rattle.smv_core.specs.Values.{Value, number, scalar, ordinal, values_of, numbers_from}
 use Rattle.smv_core.specs.Values as values
 use Rattle.smv_core.specs.Flat.{set_type}
@@ -21,10 +22,7 @@ use Rattle.law_obligations.specs.Cones.{AbsElement, element, elements_of, elemen
 use Rattle.smv_problem.specs.Written.{written_class, written_element}
 use Rattle.law_problems.specs.Order.{AreIndexed}
 use Rattle.law_problems.specs.Written.{classes_of, named_classes}
-
-map-map : {X Y Z : Type 0} (g : Y → Z) (f : X → Y) (xs : List X) → map g (map f xs) ≡ map (λ x. g (f x)) xs
-map-map g f [] = refl
-map-map g f (x ∷ xs) = ap (λ zs. g (f x) ∷ zs) (map-map g f xs)
+use Rattle.law_problems.proofs.Unlike.{head_is, tail_is}
 
 -- what a value makes of each number is written so
 written-each : (f : ℕ → Value) (g : ℕ → Class) → ((k : ℕ) → written_class (named (f k)) ≡ g k) → (ks : List ℕ) → map written_class (map named (map f ks)) ≡ map g ks
@@ -68,11 +66,6 @@ choices_written (ps ∷ pss) =
     ∙ sym (map-flat_map (λ c. map (λ cs. c ∷ cs) (one_of_each (map (map written_class) pss))) written_class ps))
 
 -- elements
-head_is : {X : Type 0} {x y : X} {xs ys : List X} → x ∷ xs ≡ y ∷ ys → x ≡ y
-head_is e = cc
-
-tail_is : {X : Type 0} {x y : X} {xs ys : List X} → x ∷ xs ≡ y ∷ ys → xs ≡ ys
-tail_is e = cc
 
 -- members of one such list that are written alike are one
 one_each : (f : ℕ → Value) (g : ℕ → Class) → ((k : ℕ) → written_class (named (f k)) ≡ g k) → ((k l : ℕ) → g k ≡ g l → k ≡ l) → (ks : List ℕ) (p q : Place) → Has (map named (map f ks)) p → Has (map named (map f ks)) q → written_class p ≡ written_class q → p ≡ q

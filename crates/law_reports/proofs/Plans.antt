@@ -2,6 +2,7 @@
 use Rattle.std.proofs.Common.{◌≡◌, ℕ, zero, suc, ◌+◌, ◌<◌, List, [], ◌∷◌, map, length, refl, sym, ap, subst, ◌∙◌, Option, Some, arith}
 use Rattle.std.specs.Prelude.{unwrap_or}
 use Rattle.std.specs.List.{slice_get}
+use Rattle.std.proofs.lemmas.Option.{slice_get_within}
 use Rattle.smv_core.specs.declared.flat.Design.{Design}
 use Rattle.smv_core.specs.declared.flat.Unit.{Unit}
 use Rattle.smv_core.specs.declared.flat.Unit.TheVariants.{Claim}
@@ -24,11 +25,6 @@ use Rattle.law_reports.specs.PlanLaws.{IsAt}
 
 some_is : {X : Type 0} {x y : X} → Some x ≡ Some y → x ≡ y
 some_is e = cc
-
-get_below : {X : Type 0} (xs : List X) (u : ℕ) (x : X) → slice_get xs u ≡ Some x → u < length xs
-get_below [] u x e = absurd (cc)
-get_below (y ∷ xs) zero x e = omega arith
-get_below (y ∷ xs) (suc u) x e = let below = get_below xs u x e in omega arith
 
 get_there : {X : Type 0} (xs : List X) (u : ℕ) → u < length xs → (x : X) × (slice_get xs u ≡ Some x)
 get_there [] u lt = absurd (omega arith)
@@ -71,7 +67,7 @@ module _ (d : Design) (leaves : List Leaf) (choices : List Choice) (u : ℕ) (le
   pub is_entry : slice_get (script_of d leaves choices).entries u ≡ Some (entry_of d leaf choice)
   is_entry =
       let count = at.each_leaf in
-      let below = get_below leaves u leaf at.is_leaf in
+      let below = slice_get_within leaves u leaf at.is_leaf in
       let unit = get_there (units_of d) u (omega arith) in
       let own : unit.0 ≡ unwrap_or (slice_get (units_of d) leaf.unit) (Claim 0) = sym (ap (λ (n : ℕ). unwrap_or (slice_get (units_of d) n) (Claim 0)) at.is_unit ∙ ap (λ (o : Option Unit). unwrap_or o (Claim 0)) unit.1) in
       entries_at (units_of d) leaves choices u unit.0 leaf choice unit.1 at.is_leaf at.is_choice ∙ ap (λ (x : Unit). Some (let entry : Entry = record { unit = x; leaf = leaf; choice = choice } in entry)) own

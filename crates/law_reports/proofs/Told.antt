@@ -1,5 +1,6 @@
 -- What right reports tell.
-use Rattle.std.proofs.Common.{◌≡◌, ℕ, suc, ◌-◌, List, [], ◌∷◌, map, length, ap, subst, ◌∙◌, refl, arith}
+use Rattle.std.proofs.Common.{◌≡◌, ℕ, suc, ◌-◌, List, [], ◌∷◌, length, ap, subst, ◌∙◌, arith}
+use Rattle.std.proofs.lemmas.List.{length-map}
 use Rattle.law_obligations.specs.Sets.{first, later}
 use Rattle.law_obligations.specs.Outlines.{Entry, Script}
 use Rattle.smv_search.specs.Verdict.Verdict.{Reached}
@@ -12,16 +13,12 @@ use Rattle.smv_problem.specs.Written.{written_state}
 use Rattle.law_reports.specs.Verdicts.{fails, IsUnitVerdict, AreVerdictsFrom, AllTrue}
 use Rattle.law_reports.specs.Reports.{IsToldOf, AreResultsFrom, told, told_of, AllTrueUnits}
 
-length-map : {X Y : Type 0} (f : X → Y) (xs : List X) → length (map f xs) ≡ length xs
-length-map f [] = refl
-length-map f (x ∷ xs) = let e = length-map f xs in omega arith
-
 module _ (s : Script) (nodes images : ℕ) where
-  is_told : (u : ℕ) (entry : Entry) (v : Verdict) → IsToldOf s nodes images u entry v → IsUnitVerdict s nodes images u entry (told v)
+  pub is_told : (u : ℕ) (entry : Entry) (v : Verdict) → IsToldOf s nodes images u entry v → IsUnitVerdict s nodes images u entry (told v)
   is_told u entry True h = h
   is_told u entry (False case elements path) (k, verdict, shown) =
       let long = shown.is_shortest.is_so_long in
-      let written = ap (λ (xs : List StateData). length xs) shown.path_is ∙ length-map (written_state (case_at s u entry case.classes)) shown.states in
+      let written = ap (λ (xs : List StateData). length xs) shown.path_is ∙ length-map shown.states (written_state (case_at s u entry case.classes)) in
       let same : k ≡ length path - 1 = omega arith in
       subst (λ (n : ℕ). IsUnitVerdict s nodes images u entry (fails case.classes (Reached n))) same verdict
   is_told u entry (UnknownNodes case count) h = h

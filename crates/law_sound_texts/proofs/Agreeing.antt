@@ -13,8 +13,10 @@ use Rattle.smv_core.specs.declared.flat.Family.{Family}
 use Rattle.smv_core.specs.declared.flat.FlatMember.{One, Span as SpanOf}
 use Rattle.smv_core.specs.declared.flat.FlatExpr.{FlatExpr, Number, Read', Var, Loop, Constant, Not', And', Or', Implies', Iff', Compare', Within', Sum', Modulo', Choose', All', Any', List', Each', Held-FlatExpr-Each-2, None', Some', Row_of-FlatExpr, end_of-FlatExpr, more_of-FlatExpr, Row_of-FlatMember, end_of-FlatMember, more_of-FlatMember, Row_of-FlatSigned, end_of-FlatSigned, more_of-FlatSigned}
 use Rattle.law_obligations.specs.Sets.{Has, first, later}
+use Rattle.law_obligations.proofs.Members.{Has-left, Has-right}
+use Rattle.law_obligations.proofs.Same.{Has-is_in, same-itself}
+use Rattle.law_obligations.proofs.Lookups.{inner}
 use Rattle.law_designs.specs.Reading.{Reference, indexes_of, references, references_of, references_signed, references_members, references_held}
-use Rattle.law_sound_texts.proofs.Lists.{inner, Has-left, Has-right, Has-is_in, same-itself}
 
 -- ---- constant indexes
 

@@ -20,7 +20,8 @@ use Rattle.law_sound_texts.proofs.Lists.{left_of}
 use Rattle.law_sound_texts.specs.Carried.{UnitsHold}
 use Rattle.law_sound_texts.specs.WorkedTexts.{agreeing_layers, HoldsInBoth}
 use Rattle.law_sound_texts.proofs.Times.{always-gives}
-use Rattle.law_sound_texts.proofs.WorkedTexts.{computing, all-one}
+use Rattle.law_sound_texts.proofs.WorkedTexts.{computing}
+use Rattle.law_sound_texts.proofs.WorkedText.{all-one}
 
 abbrev d : Design
 d = design_of agreeing_layers

@@ -25,9 +25,11 @@ use Rattle.law_obligations.specs.Soundness as flat
 use Rattle.law_obligations.specs.Soundness.{map_of, over_of, params_of, values_of_family, values_over, is_held, meets_base}
 use Rattle.law_obligations.specs.Outlines as outline
 use Rattle.law_obligations.specs.Outlines.{bases}
+use Rattle.law_obligations.proofs.Members.{Has-from_map, all-holds}
+use Rattle.law_obligations.proofs.OneOfEach.{get_Has}
 use Rattle.law_designs.specs.LayerFaults.{is_abstract}
 use Rattle.law_sound_texts.specs.TextExtension.{FamiliesAreFound, IsSameLayer, LayersAreSame}
-use Rattle.law_sound_texts.proofs.Lists.{both_true, Has-from_map, all-holds, get-Has, is_in-Has}
+use Rattle.law_sound_texts.proofs.Lists.{both_true, is_in-Has}
 use Rattle.law_sound_texts.proofs.Faultless.{IsFaultless, IsBase, base_is}
 use Rattle.law_sound_texts.proofs.Texts.{Contains-Has, All-each, in_text, indexes_same, to_flat, to_text, text_same, flat_same, flat_typed, demand_same, no_layer}
 
@@ -83,7 +85,7 @@ module _ (text : Text) (sizes : Sizes) (families : AllZip (IsSameFamily (numbers
       let x : Element = record { path = r.0.path; indexes = vs } in
       let over : Has (indexes_in sizes r.0) vs = subst (λ l. Has l vs) (indexes_same text sizes families found base.its_family r.0 r.2) (subst (λ o. Has (values_over n (over_of o)) vs) base.is_there j) in
       let all : All (λ vs. Contains (allowed_by_base d sizes r.0 (record { path = r.0.path; indexes = vs }) before s) (s r.0.path vs)) (indexes_in sizes r.0) =
-      All-each (λ (h : Family). All (λ vs. Contains (allowed_by_base d sizes h (record { path = h.path; indexes = vs }) before s) (s h.path vs)) (indexes_in sizes h)) d.families r.0 meets (get-Has d.families def.family r.0 r.1) in
+      All-each (λ (h : Family). All (λ vs. Contains (allowed_by_base d sizes h (record { path = h.path; indexes = vs }) before s) (s h.path vs)) (indexes_in sizes h)) d.families r.0 meets (get_Has d.families def.family r.0 r.1) in
       let one : Contains (allowed_by_base d sizes r.0 x before s) (s r.0.path vs) = All-each (λ vs. Contains (allowed_by_base d sizes r.0 (record { path = r.0.path; indexes = vs }) before s) (s r.0.path vs)) (indexes_in sizes r.0) vs all over in
       let l : ItsLayer text r.0 def = its_layer def base r.0 r.1 base.its_family base.is_there r.2 in
       let text_has : Has (allowed d sizes l.0 x before s) (s r.0.path vs) = subst (λ o. Has (by_layer x o) (s r.0.path vs)) l.1 (Contains-Has (allowed_by_base d sizes r.0 x before s) (s r.0.path vs) one) in

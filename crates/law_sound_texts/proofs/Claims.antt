@@ -1,8 +1,8 @@
 -- Claims that hold in the design hold in the text.
-use Rattle.std.proofs.Common.{◌≡◌, zero, suc, ℕ, List, [], map, length, Some, None, true, refl, sym, ap, subst, ◌∙◌, slice_get}
+use Rattle.std.proofs.Common.{◌≡◌, ℕ, List, [], map, length, Some, None, true, sym, ap, subst, ◌∙◌, slice_get}
 use Rattle.std.specs.List.{AllZip}
 use Rattle.std.proofs.lemmas.List.{length-map}
-use Rattle.smv_core.specs.Values.{Name, Value, Sizes, number, constant, scalar, ordinal, truth, Outcome}
+use Rattle.smv_core.specs.Values.{Name, Value, Sizes, number, truth}
 use Rattle.smv_core.specs.Types.{values_over as values_of_type}
 use Rattle.smv_core.specs.FlatOrder.{Design, design_of, Claimed}
 use Rattle.smv_core.specs.Outcome.{State, outcome, is_true}
@@ -27,21 +27,13 @@ use Rattle.law_obligations.specs.Soundness as flat
 use Rattle.law_obligations.specs.Soundness.{claim_of, params_of, values_over, is_held}
 use Rattle.law_obligations.specs.Outlines.{names_of, bases, as_claim}
 use Rattle.law_obligations.specs.Checked.{HoldsAlways}
-use Rattle.law_sound_texts.proofs.Lists.{inner}
-use Rattle.law_sound_texts.proofs.Texts.{Has-get, zip_right}
+use Rattle.law_obligations.proofs.OneOfEach.{Has_get}
+use Rattle.law_obligations.proofs.GuardsKeep.{is_one}
+use Rattle.law_obligations.proofs.Lookups.{inner}
+use Rattle.law_sound_texts.proofs.Texts.{zip_right}
 use Rattle.law_sound_texts.specs.Carried.{UnitsHold}
 use Rattle.law_sound_texts.proofs.Units.{claim-unit}
 use Rattle.law_sound_texts.proofs.Times.{at-each-time, one-choices, choice-length}
-
--- an outcome that counts as true is 1
-one : (o : Outcome) → is_true (truth o) ≡ true → o ≡ Some (number 1)
-one None e = absurd (cc (e))
-one (Some (number zero)) e = absurd (cc (e))
-one (Some (number (suc zero))) e = refl
-one (Some (number (suc (suc k)))) e = absurd (cc (e))
-one (Some (constant name)) e = absurd (cc (e))
-one (Some (scalar name k)) e = absurd (cc (e))
-one (Some (ordinal name k)) e = absurd (cc (e))
 
 module _ (text : Text) (sizes : Sizes) where
   abbrev d : Design
@@ -56,7 +48,7 @@ module _ (text : Text) (sizes : Sizes) where
   abbrev n : Numbered
   n = numbers_in text sizes
 
-  -- the claims of the text and of the flattened text, one for one, in states that are the same
+  -- the claims of the text and of the flattened text, is_one for is_one, in states that are the same
   abbrev pub ClaimsAreSame : Type 0
   ClaimsAreSame = (s : State) (t : FlatState) → AreSameStates d.families s t → AllZip (IsSameClaim text sizes s t) (claims_of raw.items) (claims_met d.met)
 
@@ -68,7 +60,7 @@ module _ (text : Text) (sizes : Sizes) where
       (run : List State) (ts : List FlatState) (states : AllZip (AreSameStates d.families) run ts) (is : flat.IsRun n (bases f) ts) where
     pub claim_holds : (c : Claimed) → Has (claims_met d.met) c → (vs : List Value) → Has (instances d sizes (tree.claim_of c)) vs → AtEachTime (Holds d sizes (tree.claim_of c) vs) None run
     claim_holds c there vs i =
-        let k : (k : ℕ) × (slice_get (claims_met d.met) k ≡ Some c) = Has-get there in
+        let k : (k : ℕ) × (slice_get (claims_met d.met) k ≡ Some c) = Has_get there in
         let t : (t : FlatState) × AreSameStates d.families (λ path vs. number 0) t = same (λ path vs. number 0) in
         let r : (fc : FlatClaim) × (slice_get (claims_of raw.items) k.0 ≡ Some fc) × IsSameClaim text sizes (λ path vs. number 0) t.0 fc c =
         zip_right (IsSameClaim text sizes (λ path vs. number 0) t.0) (claims_of raw.items) (claims_met d.met) (claims (λ path vs. number 0) t.0 t.1) k.0 c k.1 in
@@ -84,4 +76,4 @@ module _ (text : Text) (sizes : Sizes) where
             let r : (other : FlatClaim) × (slice_get (claims_of raw.items) k ≡ Some other) × IsSameClaim text sizes s t other c =
             zip_right (IsSameClaim text sizes s t) (claims_of raw.items) (claims_met d.met) (claims s t same_states) k c at in
             let own : r.0 ≡ fc = inner (sym r.1 ∙ flat_at) in
-            sym (r.2.2 vs long) ∙ (ap (λ (c : FlatClaim). flat_outcome n t c.body vs) own ∙ one (flat_outcome n t fc.body vs) held)
+            sym (r.2.2 vs long) ∙ (ap (λ (c : FlatClaim). flat_outcome n t c.body vs) own ∙ is_one (flat_outcome n t fc.body vs) held)

@@ -1,19 +1,21 @@
 -- Each definition of the design is of a family to which some assignment assigns.
-use Rattle.std.proofs.Common.{◌≡◌, ℕ, List, [], ◌∷◌, ◌++◌, map, filter, zip, All, Some, Bool, true, false, not, cond, refl, sym, subst, slice_get}
+use Rattle.std.proofs.Common.{◌≡◌, ℕ, List, [], ◌∷◌, ◌++◌, map, zip, All, Some, refl, sym, subst, slice_get}
 use Rattle.std.specs.List.{flat_map}
 use Rattle.smv_core.specs.Values.{numbers_from}
 use Rattle.smv_core.specs.declared.flat.Def.{Def}
 use Rattle.smv_core.specs.declared.flat.Family.{Family}
 use Rattle.smv_core.specs.declared.flat.Raw.{Raw}
-use Rattle.law_designs.specs.Flattening.{different}
 use Rattle.law_obligations.specs.Sets.{Has, first, later}
 use Rattle.law_obligations.specs.FlatConflicts.{IsConflictFree}
+use Rattle.law_obligations.proofs.Members.{Has-from_map}
+use Rattle.law_obligations.proofs.OneOfEach.{Has-from_flat_map}
 use Rattle.law_designs.specs.Standing.{count, Statement, statements_of, Standing, assigned_by}
 use Rattle.law_designs.specs.Definitions.{Head, head, heads_of, same_definition, first_heads, def_of, design_of_raw}
+use Rattle.law_designs.proofs.Lookups.{all-head, all-tail}
 use Rattle.law_sound_texts.specs.Placed.{IsFree}
 use Rattle.law_sound_texts.specs.Exact.{LeftSidesAreExact, DefinitionsAreFree}
 use Rattle.law_sound_texts.proofs.Counts.{count-is}
-use Rattle.law_sound_texts.proofs.ExactStatements.{Has-from_flat_map, all-head, all-tail}
+use Rattle.law_sound_texts.proofs.Lists.{Has-from_different, Has-kept}
 
 Has-left : {X : Type 0} (xs ys : List X) {x : X} → Has xs x → Has (xs ++ ys) x
 Has-left [] ys h = elim h [ ]
@@ -28,25 +30,6 @@ Has-flat_map : {X Y : Type 0} (f : X → List Y) (xs : List X) {x : X} {y : Y} �
 Has-flat_map f [] h k = elim h [ ]
 Has-flat_map f (x ∷ xs) first k = Has-left (f x) (flat_map f xs) k
 Has-flat_map f (x ∷ xs) (later h) k = Has-right (f x) (flat_map f xs) (Has-flat_map f xs h k)
-
-Has-from_map : {X Y : Type 0} (f : X → Y) (xs : List X) {y : Y} → Has (map f xs) y → (x : X) × Has xs x × (y ≡ f x)
-Has-from_map f [] h = elim h [ ]
-Has-from_map f (x ∷ xs) first = (x, first, refl)
-Has-from_map f (x ∷ xs) (later h) = let r = Has-from_map f xs h in (r.0, later r.1, r.2)
-
-Has-from_filter : {X : Type 0} (p : X → Bool) (xs : List X) {x : X} → Has (filter p xs) x → Has xs x
-Has-from_filter p [] h = elim h [ ]
-Has-from_filter p (y ∷ xs) {x} h = by_test (p y) x h (λ k. Has-from_filter p xs k)
-  where
-    by_test : (b : Bool) (x : _) → Has (cond b (y ∷ filter p xs) (filter p xs)) x → (Has (filter p xs) x → Has xs x) → Has (y ∷ xs) x
-    by_test true _ first rest = first
-    by_test true x (later k) rest = later (rest k)
-    by_test false x k rest = later (rest k)
-
-Has-from_different : {X : Type 0} (same : X → X → Bool) (xs : List X) {x : X} → Has (different same xs) x → Has xs x
-Has-from_different same [] h = elim h [ ]
-Has-from_different same (y ∷ xs) first = first
-Has-from_different same (y ∷ xs) (later h) = later (Has-from_different same xs (Has-from_filter (λ z. not (same y z)) (different same xs) h))
 
 -- the head of an assignment has its family
 head_family : (as' : List Standing) (ks : List ℕ) {h : Head} → Has (map (λ (a, k). head a k) (zip as' ks)) h → (a : Standing) × Has as' a × (h.family ≡ a.family)

@@ -22,7 +22,8 @@ use Rattle.law_obligations.specs.Sets.{Has, one_of_each}
 use Rattle.law_obligations.specs.Circular.{always}
 use Rattle.law_obligations.specs.Soundness.{claim_of, params_of, values_over, is_held}
 use Rattle.law_obligations.proofs.CoverParams.{map-map}
-use Rattle.law_sound_texts.proofs.Lists.{inner, get-Has}
+use Rattle.law_obligations.proofs.OneOfEach.{get_Has}
+use Rattle.law_obligations.proofs.Lookups.{inner}
 use Rattle.law_sound_texts.proofs.Texts.{zip_left}
 use Rattle.law_sound_texts.proofs.Claims.{ClaimsAreSame, types}
 use Rattle.law_sound_texts.proofs.Times.{always-from, one-choices, choice-length}
@@ -46,7 +47,7 @@ module _ (text : Text) (sizes : Sizes) (claims : ClaimsAreSame text sizes) (same
       let over : Has (choices (types text sizes r.0)) vs = subst (λ l. Has l vs) (ap one_of_each (map-map (values_in n) (λ (p : Param). p.over) fc.params ∙ r.2.1) ∙ one-choices (types text sizes r.0)) i in
       let long : length vs ≡ length r.0.params = choice-length (types text sizes r.0) vs over ∙ length-map r.0.params (λ ((name, over) : Name × TypeExpr). values_of_type d.types sizes over) in
       always-from d.families (Holds d sizes (tree.claim_of r.0) vs) (is_held n (claim_of fc) vs) (λ before fore b s t same_states held. says r.0 r.1 long s t same_states held) None None tt run ts states
-      (holds r.0 (get-Has (claims_met d.met) k r.0 r.1) vs over)
+      (holds r.0 (get_Has (claims_met d.met) k r.0 r.1) vs over)
     where
       says : (c : Claimed) → slice_get (claims_met d.met) k ≡ Some c → length vs ≡ length c.params → (s : State) (t : FlatState) → AreSameStates d.families s t → outcome (scene_at d sizes c.instance) s c.body (bound c.params vs []) ≡ Some (number 1) →
           is_true (truth (flat_outcome n t fc.body vs)) ≡ true

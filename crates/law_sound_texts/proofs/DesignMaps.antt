@@ -16,7 +16,7 @@ use Rattle.smv_core.specs.declared.flat.Def.{Def}
 use Rattle.smv_core.specs.declared.flat.Design.{Design as FlatDesign}
 use Rattle.smv_core.specs.declared.flat.Family.{Family as FlatFamily}
 use Rattle.smv_core.specs.declared.flat.Raw.{Raw}
-use Rattle.law_designs.specs.Flattening.{FlatAssigned, different, flat_assignments, flatten, layer_number}
+use Rattle.law_designs.specs.Flattening.{FlatAssigned, flat_assignments, flatten, layer_number}
 use Rattle.law_designs.specs.Agreement.{AreSameStates, IsSameFamily, numbers_in}
 use Rattle.law_designs.specs.RawAllowed.{AreSameBefore}
 use Rattle.law_designs.specs.SameActs.{IsSameAct, layered_acts}
@@ -24,25 +24,22 @@ use Rattle.law_designs.specs.Standing.{Standing, Statement, assigned_by, stateme
 use Rattle.law_designs.specs.Definitions.{Head, def_of, design_of_raw, first_heads, head, heads_of, same_definition}
 use Rattle.law_designs.specs.Laws.{AllowsAsTheText}
 use Rattle.law_obligations.specs.Sets.{Has, first, later}
-use Rattle.law_obligations.proofs.Members.{Has-uncons}
+use Rattle.law_obligations.proofs.Members.{Has-uncons, Has-from_map, Has-flat_map, any-found}
 use Rattle.law_obligations.specs.Circular.{always}
 use Rattle.law_obligations.specs.Soundness.{map_of, over_of, params_of, values_of_family, values_over, is_held}
 use Rattle.law_obligations.specs.Outlines as outline
 use Rattle.law_obligations.specs.Units.{is_base_in, is_refinement}
+use Rattle.law_obligations.proofs.OneOfEach.{Has-from_flat_map, get_Has, Has_get}
+use Rattle.law_obligations.proofs.Same.{nat_eq-itself}
 use Rattle.law_sound_texts.specs.TextExtension.{FamiliesAreFound, IsSameLayer, LayersAreSame}
-use Rattle.law_sound_texts.proofs.Lists.{any-found, clash, get-Has, Has-flat_map, Has-from_filter, Has-from_flat_map, Has-from_map, is_in-Has, nat_eq-itself}
+use Rattle.law_sound_texts.proofs.Lists.{clash, is_in-Has, Has-from_different}
 use Rattle.law_sound_texts.proofs.Faultless.{IsFaultless}
-use Rattle.law_sound_texts.proofs.Texts.{Contains-Has, Has-get, demand_same, in_raw, in_text, indexes_same, zip_left}
+use Rattle.law_sound_texts.proofs.Texts.{Contains-Has, demand_same, in_raw, in_text, indexes_same, zip_left}
 use Rattle.law_sound_texts.specs.Exact.{IsExact, LeftSidesAreExact}
 use Rattle.law_sound_texts.proofs.FirstHeads.{IsOne, assigns, standing-one}
 use Rattle.law_sound_texts.proofs.SameLayers.{statements-zip}
 use Rattle.law_sound_texts.proofs.TextUnits.{map-there}
 use Rattle.law_sound_texts.proofs.Times.{always-from}
-
-from-different : {X : Type 0} (same : X → X → Bool) (xs : List X) {x : X} → Has (different same xs) x → Has xs x
-from-different same [] h = elim h [ ]
-from-different same (y ∷ xs) first = first
-from-different same (y ∷ xs) (later h) = later (from-different same xs (Has-from_filter (λ z. not (same y z)) (different same xs) h).0)
 
 -- an assignment of the statement, by which its family is among those that the statement assigns
 abbrev IsMade : Head → Statement → Type 0
@@ -125,25 +122,25 @@ module _ (text : Text) (sizes : Sizes) (families : AllZip (IsSameFamily (numbers
 
   its_map : (head : Head) → Has (first_heads raw) head → is_refinement f head.family head.layer ≡ true → ItsMap (def_of raw head)
   its_map head m is =
-      let s : (s : Statement) × Has (statements_of raw) s × Has (heads_of s) head = Has-from_flat_map heads_of (statements_of raw) (from-different same_definition (flat_map heads_of (statements_of raw)) m) in
+      let s : (s : Statement) × Has (statements_of raw) s × Has (heads_of s) head = Has-from_flat_map heads_of (statements_of raw) (Has-from_different same_definition (flat_map heads_of (statements_of raw)) m) in
       let p : IsMade head s.0 = made s.0 head s.2 in
       let g : IsExact raw p.0 = exact p.0 (Has-flat_map assigned_by s.1 p.1) in
       let h : (h : Family) × (slice_get d.families head.family ≡ Some h) × IsSameFamily n g.0 h = in_text text sizes families found head.family g.0 (ap (slice_get raw.families) p.2 ∙ g.1) in
-      let j : (j : ℕ) × (slice_get (statements_of raw) j ≡ Some s.0) = Has-get s.1 in
+      let j : (j : ℕ) × (slice_get (statements_of raw) j ≡ Some s.0) = Has_get s.1 in
       let x : (x : Said) × (slice_get (flat_map said_in d.met) j.0 ≡ Some x) × IsSameAct text (s.0.layer, s.0.act) x =
       zip_left (λ (s : Statement) x. IsSameAct text (s.layer, s.act) x) (statements_of raw) (flat_map said_in d.met) (statements-zip text 0 raw.items (flat_map said_in d.met) acts) j.0 s.0 j.1 in
       let defined : is_defined_by h.0.path x.0 ≡ true = is_defined head.family h.0 h.1 s.0 x.0 x.2 p.4 in
-      (h.0, h.1, by_layer h.0 h.1 x.0 (get-Has (flat_map said_in d.met) j.0 x.0 x.1) defined x.0.layer refl (p.3 ∙ x.2.0))
+      (h.0, h.1, by_layer h.0 h.1 x.0 (get_Has (flat_map said_in d.met) j.0 x.0 x.1) defined x.0.layer refl (p.3 ∙ x.2.0))
     where
       found_at : (h : Family) → Has d.families h → family_at d.families h.path ≡ Some h
-      found_at h m = let k = Has-get m in (found k.0 h k.1).0
+      found_at h m = let k = Has_get m in (found k.0 h k.1).0
 
       by_layer : (h : Family) → slice_get d.families head.family ≡ Some h → (x : Said) → Has (flat_map said_in d.met) x → is_defined_by h.path x ≡ true → (o : Option Name) → x.layer ≡ o → head.layer ≡ option_map (layer_number raw.layers) x.layer →
           (layer : Name) × (Some (layer_number raw.layers layer) ≡ head.layer) × Has (units d) (tree.map_of layer h)
       by_layer h at x there defined None outside same = absurd (clash is (ap (is_refinement f head.family) (same ∙ ap (option_map (layer_number raw.layers)) outside)))
       by_layer h at x there defined (Some layer) in_layer same =
           let own : head.layer ≡ Some (layer_number raw.layers layer) = same ∙ ap (option_map (layer_number raw.layers)) in_layer in
-          (layer, sym own, map-there d found_at x there layer in_layer h (get-Has d.families head.family h at) defined (refines h head.family at layer (subst (λ o. is_refinement f head.family o ≡ true) own is)))
+          (layer, sym own, map-there d found_at x there layer in_layer h (get_Has d.families head.family h at) defined (refines h head.family at layer (subst (λ o. is_refinement f head.family o ≡ true) own is)))
 
   module _ (run : List State) (ts : List FlatState) (states : AllZip (AreSameStates d.families) run ts)
       (holds : (layer : Name) (h : Family) → Has (units d) (tree.map_of layer h) → (vs : List Value) → Has (indexes_in sizes h) vs → AtEachTime (Holds d sizes (tree.map_of layer h) vs) None run) where

@@ -30,8 +30,9 @@ use Rattle.law_designs.proofs.LeadTypes.{IsFamilyAt}
 use Rattle.law_designs.proofs.Modules.{AreModules, AreFound, modules-found}
 use Rattle.law_designs.proofs.LeftSides.{types, bodies, all_modules, all_constants, scope_of, IsModuleHere, Includes, IncludesAll, signal-there, formal-there}
 use Rattle.law_obligations.specs.Sets.{Has, first}
+use Rattle.law_obligations.proofs.Members.{Has-left, Has-right}
+use Rattle.law_obligations.proofs.OneOfEach.{Has-from_flat_map}
 use Rattle.law_sound_texts.specs.TextExtension.{FamiliesAreFound}
-use Rattle.law_sound_texts.proofs.Lists.{Has-left, Has-right, Has-from_flat_map}
 use Rattle.law_sound_texts.proofs.FamiliesFound.{Once, AreFine, IsBehind, AreBehind, AllApart, BodyIsFine, own_words, AreThere, once-left, once-right, once-apart, items-once, item-behind, items-behind, families-there, own-fine}
 use Rattle.law_sound_texts.proofs.Relation.{IsKind, flat_kind}
 use Rattle.law_sound_texts.proofs.Variables.{SignalsAreKinded, ConstantsAreKinded, IndexesAreKinded, AreApart}

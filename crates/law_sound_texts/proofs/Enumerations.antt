@@ -1,5 +1,5 @@
 -- Each enumeration of a text has a constant.
-use Rattle.std.proofs.Common.{◌≡◌, ◌<◌, List, [], ◌∷◌, ◌++◌, flat_map, filter, length, Bool, true, false, cond, not, nat_lt, refl, sym, subst, arith}
+use Rattle.std.proofs.Common.{◌≡◌, ◌<◌, List, [], ◌∷◌, ◌++◌, flat_map, length, Bool, true, not, nat_lt, refl, sym, subst, arith}
 use Rattle.std.specs.List.{AllByRecursion, list_all}
 use Rattle.std.proofs.lemmas.Bool.{lt-ltb}
 use Rattle.std.proofs.lemmas.Grind.{flat_map-append}
@@ -28,6 +28,7 @@ use Rattle.law_designs.specs.Flattening.{different, enum_of, enums_of}
 use Rattle.law_designs.specs.Agreement.{IsIndexType}
 use Rattle.law_designs.specs.Written.{HasOne, TypeIsWritten, FieldsAreWritten, IsWritten, AreWritten, PartsAreWritten, IndexesAreWritten, TermsAreWritten, MembersAreWritten, ConditionIsWritten, StatementIsWritten, StatementsAreWritten, BranchIsWritten, ArmsAreWritten, InnerIsWritten, InnersAreWritten, ItemIsWritten, TopIsWritten}
 use Rattle.law_designs.proofs.Faultless.{each-append}
+use Rattle.law_sound_texts.proofs.Lists.{filter-each}
 
 -- each enumeration that is said has a constant
 abbrev AreFull : List Mention → Type 0
@@ -201,14 +202,6 @@ full-pieces known (Module word formals body at ∷ tops) h =
     (full-each ItemIsWritten (in_item []) full-item body h.0) (full-pieces (known_after known (Module word formals body at)) tops h.1)
 
 -- ---- each list once
-
-filter-each : {X : Type 0} (P : X → Type 0) (p : X → Bool) (xs : List X) → AllByRecursion P xs → AllByRecursion P (filter p xs)
-filter-each P p [] h = tt
-filter-each P p (x ∷ xs) h = by_test (p x) (filter-each P p xs h.1)
-  where
-    by_test : (b : Bool) → AllByRecursion P (filter p xs) → AllByRecursion P (cond b (x ∷ filter p xs) (filter p xs))
-    by_test true rest = (h.0, rest)
-    by_test false rest = rest
 
 different-each : {X : Type 0} (P : X → Type 0) (same : X → X → Bool) (xs : List X) → AllByRecursion P xs → AllByRecursion P (different same xs)
 different-each P same [] h = tt

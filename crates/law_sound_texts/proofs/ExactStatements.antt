@@ -1,6 +1,7 @@
 -- Whole left sides of a text are exact in the flattened text.
-use Rattle.std.proofs.Common.{◌≡◌, ℕ, suc, ◌+◌, List, [], ◌∷◌, ◌++◌, map, All, Option, Some, sym, subst, ◌∙◌, ◌⊎◌, inl, inr, length, slice_get, arith}
+use Rattle.std.proofs.Common.{◌≡◌, ℕ, ◌+◌, List, [], ◌∷◌, ◌++◌, map, All, Option, Some, sym, subst, ◌∙◌, inl, inr, length, slice_get}
 use Rattle.std.specs.List.{AllZip, flat_map}
+use Rattle.std.proofs.lemmas.List.{length-map}
 use Rattle.smv_core.specs.Values.{Name, Path}
 use Rattle.smv_core.specs.FlatOrder.{design_of}
 use Rattle.smv_core.specs.Outcome.{fields_of}
@@ -25,31 +26,19 @@ use Rattle.law_designs.specs.Flattening.{flat_assignments, flat_entry, layers_of
 use Rattle.law_designs.specs.Agreement.{IsSameFamily}
 use Rattle.law_designs.specs.LeftSides.{StatementLeads, StatementsLead, BranchLeads, ArmsLead, EntryLeads, TextLeads}
 use Rattle.law_obligations.specs.Sets.{Has, first, later}
+use Rattle.law_obligations.proofs.Members.{Has-cases}
+use Rattle.law_obligations.proofs.OneOfEach.{Has-from_flat_map}
 use Rattle.law_designs.specs.Standing.{count, Statement, statements_from, statements_of, Standing, standing, standing_in, assigned_by}
+use Rattle.law_designs.proofs.Lookups.{all-head, all-tail}
 use Rattle.law_sound_texts.specs.TextExtension.{FamiliesAreFound}
 use Rattle.law_sound_texts.specs.Exact.{LeftSidesAreExact}
-use Rattle.law_sound_texts.proofs.Counts.{map-length, same-count}
+use Rattle.law_sound_texts.proofs.Counts.{same-count}
 use mathlib.Core.Former.{Count}
 
 -- what lets a box of a statement compute
 unfoldable boxes : Unit {0}
 unfolding Rattle.smv_core.specs.declared.flat.FlatStmt.TheBlock.hidden-the_row-FlatStmt-0 Rattle.smv_core.specs.declared.flat.FlatStmt.TheBlock.shape-the_row-FlatStmt-0 denote.Hole.Carrier.hidden
 boxes = tt
-
-Has-cases : {X : Type 0} (xs ys : List X) {x : X} → Has (xs ++ ys) x → Has xs x ⊎ Has ys x
-Has-cases [] ys h = inr h
-Has-cases (y ∷ xs) ys first = inl first
-Has-cases (y ∷ xs) ys (later h) = elim (Has-cases xs ys h) [ inl k ↦ inl (later k) | inr k ↦ inr k ]
-
-pub Has-from_flat_map : {X Y : Type 0} (f : X → List Y) (xs : List X) {y : Y} → Has (flat_map f xs) y → (x : X) × Has xs x × Has (f x) y
-Has-from_flat_map f [] h = elim h [ ]
-Has-from_flat_map f (x ∷ xs) h = elim (Has-cases (f x) (flat_map f xs) h) [ inl k ↦ (x, first, k) | inr k ↦ let r = Has-from_flat_map f xs k in (r.0, later r.1, r.2) ]
-
-pub all-head : {X : Type 0} (P : X → Type 0) (x : X) (xs : List X) → All P (x ∷ xs) → P x
-all-head P x xs h = h 0 x (omega arith)
-
-pub all-tail : {X : Type 0} (P : X → Type 0) (x : X) (xs : List X) → All P (x ∷ xs) → All P xs
-all-tail P x xs h = λ k d lt. h (suc k) d (omega (arith, lt))
 
 module _ (families : List FlatFamily) where
   abbrev mutual
@@ -158,7 +147,7 @@ module _ (text : Text) (n : Numbered) (found : FamiliesAreFound text) (same : Al
       stmt-exact vars (stmt.Assign kind left value at) h =
           let f = same-count n (flatten text).families (design_of text).families same h.0 h.1 h.2 in
           let number : family_number scope (instance ++ fields_of (out-Path left).parts) ≡ h.0 = subst (λ path. family_number scope path ≡ h.0) h.3 (found h.0 h.1 h.2).1 in
-          (f.0, subst (λ k. slice_get families k ≡ Some f.0) (sym number) f.1, map-length (flat_expr scope vars) (indexes_of (out-Path left).parts) ∙ sym h.4 ∙ sym f.2)
+          (f.0, subst (λ k. slice_get families k ≡ Some f.0) (sym number) f.1, length-map (indexes_of (out-Path left).parts) (flat_expr scope vars) ∙ sym h.4 ∙ sym f.2)
       stmt-exact vars (stmt.Block' shape parts) h = exact-Block families (flat_parts scope vars parts) (parts-exact vars parts h)
       stmt-exact vars (stmt.If' test l (more_of-Stmt left end_of-Stmt) right at) h =
           exact-If families (flat_expr scope vars test) (flat_stmt scope vars left) (flat_branch scope vars right) (stmt-exact vars left h.0) (branch-exact vars right h.1)

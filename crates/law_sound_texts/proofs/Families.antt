@@ -1,9 +1,10 @@
 -- The families of a text without faults have types that break no rule, and so have binders.
 use Rattle.law_designs.proofs.Opening.{opening}
-use Rattle.std.proofs.Common.{◌≡◌, ℕ, zero, suc, ◌<◌, ◌≤◌, List, [], ◌∷◌, ◌++◌, map, flat_map, length, get_or, slice_get, Option, Some, None, unwrap_or, Bool, true, false, cond, ◌||◌, All, nat_lt, nat_le, refl, sym, ap, ◌∙◌, subst, arith}
+use Rattle.std.proofs.Common.{◌≡◌, ℕ, zero, suc, ◌≤◌, List, [], ◌∷◌, ◌++◌, map, flat_map, length, get_or, slice_get, Option, Some, None, unwrap_or, Bool, true, false, cond, ◌||◌, All, nat_lt, nat_le, refl, sym, ap, ◌∙◌, subst, arith}
 use Rattle.std.specs.Str.{bytes_eq}
 use Rattle.std.specs.List.{AllByRecursion, list_all, position_or_len}
 use Rattle.std.proofs.lemmas.Bool.{and_from, le-leb, lt-ltb, ltb-false, or_parts}
+use Rattle.std.proofs.lemmas.Option.{slice_get_within}
 use Rattle.smv_core.specs.Values.{Name, Path, Simple, range, choice, scalarset, ordset, Sizes}
 use Rattle.smv_core.specs.Types as tree
 use Rattle.smv_core.specs.Types.{Family, Shape, find_name, simple, simple_of, shape_of, shape_of_fields, shape_or_none, one_value, array_of, indexed, behind, types_from}
@@ -244,11 +245,6 @@ module _ (all_modules : List (Name × Module)) (constants : List (Name × Consta
 
 -- ---- the flattened text
 
-get-below : {X : Type 0} (xs : List X) (k : ℕ) (x : X) → slice_get xs k ≡ Some x → k < length xs
-get-below [] k x e = absurd (cc (e))
-get-below (y ∷ xs) zero x e = omega arith
-get-below (y ∷ xs) (suc k) x e = let rest = get-below xs k x e in omega (arith, rest)
-
 abbrev names_in : Simple → List Name
 names_in (choice names) = names
 names_in _ = []
@@ -264,7 +260,7 @@ module _ (text : Text) (sizes : Sizes) (here : Path) where
     where
       by_found : (o : Option SetInfo) → slice_get (flatten text).sets k ≡ o → is_set (set_type o) ≡ true → nat_lt k (length (flatten text).sets) ≡ true
       by_found None e h = absurd (cc (h))
-      by_found (Some info) e h = lt-ltb k (length (flatten text).sets) (get-below (flatten text).sets k info e)
+      by_found (Some info) e h = lt-ltb k (length (flatten text).sets) (slice_get_within (flatten text).sets k info e)
 
   pub type-kept : (t : Simple) → IsFit t → IsNumbered (scope_in text here) (numbers_in text sizes) t → is_type (flatten text) (flat_simple (scope_in text here) t) ≡ true
   type-kept (range low high) fit n = and_from (nat_le low high) (nat_le high 255) (le-leb low high fit.0) (le-leb high 255 fit.1)

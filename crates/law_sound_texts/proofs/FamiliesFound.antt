@@ -21,10 +21,14 @@ use Rattle.smv_instances.specs.Scopes.{Known, Piece, piece_of, known_after, piec
 use Rattle.smv_instances.specs.NameFaults.{place_if, repeated, doubled, declared_words, doubled_in, formals_of, name_faults}
 use Rattle.smv_instances.specs.FirstFault.{first_of, faults_at, fault_of_size, faults_of_names, first_fault}
 use Rattle.law_designs.specs.Entries.{placed_of_item, placed_in}
+use Rattle.law_designs.proofs.Faultless.{no_fault-in, unplaced}
 use Rattle.law_obligations.specs.Sets.{Has, first, later}
+use Rattle.law_obligations.proofs.Members.{Has-left, Has-right, Has-cases, Has-from_map}
+use Rattle.law_obligations.proofs.OneOfEach.{Has-from_flat_map}
+use Rattle.law_obligations.proofs.Lookups.{inner}
 use Rattle.law_sound_texts.specs.TextExtension.{FamiliesAreFound}
-use Rattle.law_sound_texts.proofs.Lists.{inner, true_or_false, Has-left, Has-right, Has-cases, Has-from_map, Has-from_flat_map}
-use Rattle.law_sound_texts.proofs.Faultless.{nil-left, nil-right, nil-map, no-faults, or_else-none}
+use Rattle.law_sound_texts.proofs.Lists.{true_or_false}
+use Rattle.law_sound_texts.proofs.NoFaults.{nil-left, nil-right, nil-map, none-both, nil-flat_map}
 
 -- ---- names that are apart
 
@@ -53,10 +57,6 @@ once-apart [] vs p w v i j = elim i [ ]
 once-apart (u ∷ ws) vs p _ v first j = p.0 v (Has-right ws j)
 once-apart (u ∷ ws) vs p w v (later i) j = once-apart ws vs p.1 w v i j
 
-not-placed : (b : Bool) (at : ℕ) → place_if b at ≡ [] → b ≡ false
-not-placed true at e = absurd (cc (e))
-not-placed false at e = refl
-
 unseen : (name other : Name) (seen : List Name) → list_any (bytes_eq name) (other ∷ seen) ≡ false → other ≡ name → ⊥
 unseen name other seen e same = by_test (bytes_eq name other) ((bytes_eq-Decides name other).1 (sym same)) e
   where
@@ -74,7 +74,7 @@ unseen-more name other seen e = by_test (bytes_eq name other) e
 never_twice : (seen : List Name) (ws : List Word) → repeated seen ws ≡ [] → Once ws × ((w : Word) → Has ws w → list_any (bytes_eq w.name) seen ≡ false)
 never_twice seen [] e = (tt, λ w i. elim i [ ])
 never_twice seen (w ∷ ws) e =
-    let here : list_any (bytes_eq w.name) seen ≡ false = not-placed (list_any (bytes_eq w.name) seen) w.at (nil-left (place_if (list_any (bytes_eq w.name) seen) w.at) (repeated (w.name ∷ seen) ws) e) in
+    let here : list_any (bytes_eq w.name) seen ≡ false = unplaced (list_any (bytes_eq w.name) seen) w.at (nil-left (place_if (list_any (bytes_eq w.name) seen) w.at) (repeated (w.name ∷ seen) ws) e) in
     let rest : Once ws × ((v : Word) → Has ws v → list_any (bytes_eq v.name) (w.name ∷ seen) ≡ false) = never_twice (w.name ∷ seen) ws (nil-right (place_if (list_any (bytes_eq w.name) seen) w.at) (repeated (w.name ∷ seen) ws) e) in
     ((λ v i. unseen v.name w.name seen (rest.1 v i), rest.0), unseen_each w ws here (λ v i. unseen-more v.name w.name seen (rest.1 v i)))
   where
@@ -342,11 +342,6 @@ modules-fine known (Module word formals body at ∷ tops) fine entry (later i) =
 
 -- ---- no fault of names
 
-nil-flat_map : {X Y : Type 0} (F : X → List Y) (xs : List X) → flat_map F xs ≡ [] → (x : X) → Has xs x → F x ≡ []
-nil-flat_map F [] e y h = elim h [ ]
-nil-flat_map F (x ∷ xs) e y first = nil-left (F x) (flat_map F xs) e
-nil-flat_map F (x ∷ xs) e y (later h) = nil-flat_map F xs (nil-right (F x) (flat_map F xs) e) y h
-
 fine-if : (tops : List Piece) (piece : Piece) (m : Mention) → doubled (scope_of tops piece) m ≡ [] → IsFine m
 fine-if tops piece (has_fields words) e = (never_twice [] words e).0
 fine-if tops piece (declares word what) e = tt
@@ -358,7 +353,7 @@ fine-if tops piece (mentions.instantiates w n) e = tt
 
 pub pieces-fine : (text : Text) → first_fault text ≡ None → (p : Piece) → Has (pieces text) p → PieceIsFine p
 pieces-fine text e p i =
-    let none : flat_map faults_at (name_faults (pieces text)) ≡ [] = no-faults (faults_of_names text) (or_else-none (first_of (faults_of_names text)) (fault_of_size text) e).0 in
+    let none : flat_map faults_at (name_faults (pieces text)) ≡ [] = no_fault-in (faults_of_names text) (none-both (first_of (faults_of_names text)) (fault_of_size text) e).0 in
     let eight : repeated [] (map (λ (piece : Piece). piece.word) (pieces text)) ++ flat_map (doubled_in (pieces text)) (pieces text) ≡ [] =
     nil-map _ (repeated [] (map (λ (piece : Piece). piece.word) (pieces text)) ++ flat_map (doubled_in (pieces text)) (pieces text)) (nil-flat_map faults_at (name_faults (pieces text)) none (8, repeated [] (map (λ (piece : Piece). piece.word) (pieces text)) ++ flat_map (doubled_in (pieces text)) (pieces text)) (later first)) in
     let own : doubled_in (pieces text) p ≡ [] = nil-flat_map (doubled_in (pieces text)) (pieces text) (nil-right (repeated [] (map (λ (piece : Piece). piece.word) (pieces text))) (flat_map (doubled_in (pieces text)) (pieces text)) eight) p i in

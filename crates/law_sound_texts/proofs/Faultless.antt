@@ -1,5 +1,5 @@
 -- What a design without a fault of loops and of layers has, and its base definitions.
-use Rattle.std.proofs.Common.{◌≡◌, ℕ, ◌<◌, ◌≤◌, List, [], ◌∷◌, ◌++◌, map, filter, length, Option, Some, None, Bool, true, false, not, ◌&&◌, ◌||◌, cond, refl, sym, ap, subst, ◌∙◌, ◌⊎◌, inl, inr, slice_get, option_to_list, is_none, nat_eq, nat_lt, arith}
+use Rattle.std.proofs.Common.{◌≡◌, ℕ, ◌<◌, ◌≤◌, List, [], ◌∷◌, ◌++◌, filter, length, Option, Some, None, Bool, true, false, not, ◌&&◌, ◌||◌, cond, refl, sym, ap, subst, ◌∙◌, ◌⊎◌, inl, inr, slice_get, option_to_list, is_none, nat_eq, nat_lt, arith}
 use Rattle.std.specs.List.{flat_map, list_any}
 use Rattle.std.proofs.lemmas.List.{append-nil, append_assoc}
 use Rattle.std.proofs.lemmas.Bool.Decides.{nat_tests}
@@ -9,31 +9,25 @@ use Rattle.smv_core.specs.declared.flat.Family.{Family}
 use Rattle.smv_core.specs.declared.flat.Cell.{Cell}
 use Rattle.smv_core.specs.declared.flat.Def.{Def}
 use Rattle.smv_core.specs.declared.flat.Design.{Design}
-use Rattle.smv_instances.specs.FirstFault.{comes_before, earlier as earlier_fault, first_of, or_else, faults_at}
+use Rattle.smv_instances.specs.FirstFault.{comes_before, earlier as earlier_fault, faults_at}
 use Rattle.law_obligations.specs.Sets.{Has, first, later}
 use Rattle.law_obligations.specs.Outlines.{earlier, earliest, may_be_base, base_of, bases}
+use Rattle.law_obligations.proofs.Members.{Has-left, Has-right, Has-cases, Has-flat_map, any-some}
+use Rattle.law_obligations.proofs.OneOfEach.{Has-from_flat_map}
+use Rattle.law_obligations.proofs.Lookups.{Has-filter, Has-from_filter, inner}
+use Rattle.law_obligations.proofs.Same.{nat_eq-itself, nat_eq-is}
 use Rattle.law_designs.specs.Reading.{Reference, Reading, readings}
 use Rattle.law_designs.specs.Loops as delay
 use Rattle.law_designs.specs.Loops.{Edge, edges_of, hold_a_cycle, is_behind, is_base, put, in_order, undelayed, undelayed_in, closing, looping}
 use Rattle.law_designs.specs.LayerFaults.{is_abstract, assignments_of, outside_layers, leaking, assigned_outside}
 use Rattle.law_designs.specs.FirstFault.{first_fault_of_loops, first_fault_of_layers, first_fault_of_design}
 use Rattle.law_designs.specs.LoopLaws.{AreFalling}
-use Rattle.law_sound_texts.proofs.Lists.{clash, inner, left_of, right_of, both_true, Has-left, Has-right, Has-cases, Has-flat_map, Has-from_flat_map, Has-filter, Has-from_filter, none_passes, some_or_none, any-some, nat_eq-itself, nat_eq-is}
+use Rattle.law_designs.proofs.Faultless.{no_fault-in}
+use Rattle.law_sound_texts.proofs.Lists.{clash, left_of, right_of, both_true, none_passes, some_or_none}
 use Rattle.law_sound_texts.proofs.Results.{reading_is}
+use Rattle.law_sound_texts.proofs.NoFaults.{nil-left, nil-right, nil-map, none-both}
 
 -- ---- no faults
-
-pub nil-left : {X : Type 0} (xs ys : List X) → xs ++ ys ≡ [] → xs ≡ []
-nil-left [] ys e = refl
-nil-left (x ∷ xs) ys e = absurd (cc (e))
-
-pub nil-right : {X : Type 0} (xs ys : List X) → xs ++ ys ≡ [] → ys ≡ []
-nil-right [] ys e = e
-nil-right (x ∷ xs) ys e = absurd (cc (e))
-
-pub nil-map : {X Y : Type 0} (f : X → Y) (xs : List X) → map f xs ≡ [] → xs ≡ []
-nil-map f [] e = refl
-nil-map f (x ∷ xs) e = absurd (cc (e))
 
 no-earlier : (f : Fault) (o : Option Fault) → earlier_fault f o ≡ None → ⊥
 no-earlier f None e = cc
@@ -43,14 +37,6 @@ no-earlier f (Some g) e = by_test (comes_before g f) e
     by_test true e = cc
     by_test false e = cc
 
-pub no-faults : (faults : List Fault) → first_of faults ≡ None → faults ≡ []
-no-faults [] e = refl
-no-faults (f ∷ faults) e = absurd (no-earlier f (first_of faults) e)
-
-pub or_else-none : (f g : Option Fault) → or_else f g ≡ None → (f ≡ None) × (g ≡ None)
-or_else-none None g e = (refl, e)
-or_else-none (Some f) g e = absurd (cc (e))
-
 pub record IsFaultless (d : Design) : Type 0 where
   pub no_loops : looping d ≡ []
   pub no_leaks : leaking d ≡ []
@@ -58,9 +44,9 @@ pub record IsFaultless (d : Design) : Type 0 where
 
 pub is_faultless : (d : Design) → first_fault_of_design d ≡ None → IsFaultless d
 is_faultless d e =
-    let both : (first_fault_of_loops d ≡ None) × (first_fault_of_layers d ≡ None) = or_else-none (first_fault_of_loops d) (first_fault_of_layers d) e in
-    let loops : faults_at (18, looping d) ≡ [] = no-faults (faults_at (18, looping d)) both.0 in
-    let layers : faults_at (19, leaking d) ++ (faults_at (20, assigned_outside d) ++ []) ≡ [] = no-faults _ both.1 in
+    let both : (first_fault_of_loops d ≡ None) × (first_fault_of_layers d ≡ None) = none-both (first_fault_of_loops d) (first_fault_of_layers d) e in
+    let loops : faults_at (18, looping d) ≡ [] = no_fault-in (faults_at (18, looping d)) both.0 in
+    let layers : faults_at (19, leaking d) ++ (faults_at (20, assigned_outside d) ++ []) ≡ [] = no_fault-in _ both.1 in
     record {
       no_loops = nil-map _ (looping d) loops;
       no_leaks = nil-map _ (leaking d) (nil-left (faults_at (19, leaking d)) (faults_at (20, assigned_outside d) ++ []) layers);

@@ -17,9 +17,10 @@ use Rattle.smv_instances.specs.Sizes.{count_different, constant_names}
 use Rattle.law_designs.specs.Flattening.{different, enum_of, flatten}
 use Rattle.law_designs.proofs.TypeNumbers.{paths-decide}
 use Rattle.law_designs.proofs.Operands.{both}
-use Rattle.law_sound_texts.proofs.Items.{all-joined}
-use Rattle.law_sound_texts.proofs.FewEntries.{each-kept}
-use Rattle.law_sound_texts.proofs.Limits.{nil-both, nil-each, nil-map, not-placed, none-named, within-limits}
+use Rattle.law_designs.proofs.Faultless.{empty-both, empty-each, unplaced, each-append, each-more}
+use Rattle.law_sound_texts.proofs.Limits.{none-named, within-limits}
+use Rattle.law_sound_texts.proofs.NoFaults.{nil-map}
+use Rattle.law_sound_texts.proofs.Lists.{neither, filter-each}
 
 -- ---- names in lists
 
@@ -48,10 +49,6 @@ not-turned x y e = by_test (bytes_eq y x) refl
     by_test true h = let k : bytes_eq x y ≡ true = is-same x y (sym (same-is y x h)) in absurd (cc (e, k))
     by_test false h = h
 
-or-false : (a b : Bool) → (a || b) ≡ false → (a ≡ false) × (b ≡ false)
-or-false true b e = absurd (cc (e))
-or-false false b e = (refl, e)
-
 -- in a list, where it is not the first
 in-rest : (a b : Bool) → (a || b) ≡ true → a ≡ false → b ≡ true
 in-rest true b e h = absurd (cc (h))
@@ -77,11 +74,11 @@ without-each P Q y h (x ∷ xs) k = by_test (bytes_eq x y) refl (without-each P 
 -- what is not in a list is not in a part of it
 out-of-part : (y z : Name) (xs : List Name) → IsOut xs z → IsOut (without y xs) z
 out-of-part y z [] e = e
-out-of-part y z (x ∷ xs) e = by_test (bytes_eq x y) (out-of-part y z xs (or-false (bytes_eq z x) (list_any (bytes_eq z) xs) e).1)
+out-of-part y z (x ∷ xs) e = by_test (bytes_eq x y) (out-of-part y z xs (neither (bytes_eq z x) (list_any (bytes_eq z) xs) e).1)
   where
     by_test : (b : Bool) → IsOut (without y xs) z → IsOut (cond (not b) (x ∷ without y xs) (without y xs)) z
     by_test true rest = rest
-    by_test false rest = out-of-both (bytes_eq z x) (list_any (bytes_eq z) (without y xs)) (or-false (bytes_eq z x) (list_any (bytes_eq z) xs) e).0 rest
+    by_test false rest = out-of-both (bytes_eq z x) (list_any (bytes_eq z) (without y xs)) (neither (bytes_eq z x) (list_any (bytes_eq z) xs) e).0 rest
 
 without-once : (y : Name) (xs : List Name) → AreOnce xs → AreOnce (without y xs)
 without-once y [] h = tt
@@ -95,7 +92,7 @@ without-once y (x ∷ xs) h = by_test (bytes_eq x y) (without-once y xs h.1)
 without-none : (y : Name) (xs : List Name) → IsOut xs y → length (without y xs) ≡ length xs
 without-none y [] h = refl
 without-none y (x ∷ xs) h =
-    let g : (bytes_eq y x ≡ false) × IsOut xs y = or-false (bytes_eq y x) (list_any (bytes_eq y) xs) h in
+    let g : (bytes_eq y x ≡ false) × IsOut xs y = neither (bytes_eq y x) (list_any (bytes_eq y) xs) h in
     by_test (bytes_eq x y) (not-turned y x g.0) (without-none y xs g.1)
   where
     by_test : (b : Bool) → b ≡ false → length (without y xs) ≡ length xs → length (cond (not b) (x ∷ without y xs) (without y xs)) ≡ suc (length xs)
@@ -152,18 +149,18 @@ pub record IsFine (known : List (Name × Constant)) (names : List Name) : Type 0
 once-named : (seen : List Name) (words : List Word) → repeated seen words ≡ [] → AreOnce (names_of words) × AllByRecursion (IsOut seen) (names_of words)
 once-named seen [] e = (tt, tt)
 once-named seen (word ∷ more) e =
-    let g : (place_if (list_any (bytes_eq word.name) seen) word.at ≡ []) × (repeated (word.name ∷ seen) more ≡ []) = nil-both (place_if (list_any (bytes_eq word.name) seen) word.at) (repeated (word.name ∷ seen) more) e in
+    let g : (place_if (list_any (bytes_eq word.name) seen) word.at ≡ []) × (repeated (word.name ∷ seen) more ≡ []) = empty-both (place_if (list_any (bytes_eq word.name) seen) word.at) (repeated (word.name ∷ seen) more) e in
     let rest = once-named (word.name ∷ seen) more g.1 in
-    ((first-out (names_of more) rest.1, rest.0), (not-placed (list_any (bytes_eq word.name) seen) word.at g.0, others (names_of more) rest.1))
+    ((first-out (names_of more) rest.1, rest.0), (unplaced (list_any (bytes_eq word.name) seen) word.at g.0, others (names_of more) rest.1))
   where
     first-out : (xs : List Name) → AllByRecursion (IsOut (word.name ∷ seen)) xs → IsOut xs word.name
     first-out [] h = refl
     first-out (x ∷ xs) h =
-        out-of-both (bytes_eq word.name x) (list_any (bytes_eq word.name) xs) (not-turned x word.name (or-false (bytes_eq x word.name) (list_any (bytes_eq x) seen) h.0).0) (first-out xs h.1)
+        out-of-both (bytes_eq word.name x) (list_any (bytes_eq word.name) xs) (not-turned x word.name (neither (bytes_eq x word.name) (list_any (bytes_eq x) seen) h.0).0) (first-out xs h.1)
 
     others : (xs : List Name) → AllByRecursion (IsOut (word.name ∷ seen)) xs → AllByRecursion (IsOut seen) xs
     others [] h = tt
-    others (x ∷ xs) h = ((or-false (bytes_eq x word.name) (list_any (bytes_eq x) seen) h.0).1, others xs h.1)
+    others (x ∷ xs) h = ((neither (bytes_eq x word.name) (list_any (bytes_eq x) seen) h.0).1, others xs h.1)
 
 -- what is among the names is found
 found-in : (known : List (Name × Constant)) (name : Name) → IsIn (map (λ (name, c). name) known) name → (c : Constant) × (find_name known name ≡ Some c)
@@ -201,7 +198,7 @@ each-parts P (x ∷ xs) ys h = let r = each-parts P xs ys h.1 in ((h.0, r.0), r.
 -- each name is in its list
 all-in : (xs : List Name) → AllByRecursion (IsIn xs) xs
 all-in [] = tt
-all-in (x ∷ xs) = (by_own (bytes_eq x x) (is-same x x refl), each-kept (IsIn xs) (IsIn (x ∷ xs)) (λ y h. by_other (bytes_eq y x) h) xs (all-in xs))
+all-in (x ∷ xs) = (by_own (bytes_eq x x) (is-same x x refl), each-more (IsIn xs) (IsIn (x ∷ xs)) (λ y h. by_other (bytes_eq y x) h) xs (all-in xs))
   where
     by_own : (b : Bool) → b ≡ true → (b || list_any (bytes_eq x) xs) ≡ true
     by_own true e = refl
@@ -231,7 +228,7 @@ module _ (tops : List Piece) where
   mentions-fine : (piece : Piece) (ms : List Mention) → AreKnown (constants_in ms) → AllByRecursion (λ m. doubled (scope_of tops piece) m ≡ []) ms → AllByRecursion (IsFine known) (flat_map enum_of ms)
   mentions-fine piece [] k h = tt
   mentions-fine piece (lists_constants words ∷ ms) k h =
-      let own : (repeated [] words ≡ []) × (places_of (filter (λ (word : Word). is_of_other_list words (find_name known word.name)) words) ≡ []) = nil-both (repeated [] words) (places_of (filter (λ (word : Word). is_of_other_list words (find_name known word.name)) words)) h.0 in
+      let own : (repeated [] words ≡ []) × (places_of (filter (λ (word : Word). is_of_other_list words (find_name known word.name)) words) ≡ []) = empty-both (repeated [] words) (places_of (filter (λ (word : Word). is_of_other_list words (find_name known word.name)) words)) h.0 in
       let parts = known-parts (map (λ (word : Word). (word.name, record { at = word.at; names = names_of words })) words) (constants_in ms) k in
       let there : AllByRecursion (IsIn (names_in known)) (names_of words) = subst (AllByRecursion (IsIn (names_in known))) (word-names words (names_of words)) parts.0 in
       (record { once = (once-named [] words own.0).0; there = there; own = each-own known words words (nil-map _ (filter (λ (word : Word). is_of_other_list words (find_name known word.name)) words) own.1) there }, mentions-fine piece ms parts.1 h.1)
@@ -247,9 +244,9 @@ module _ (tops : List Piece) where
   pieces-fine [] k h = tt
   pieces-fine (piece ∷ some) k h =
       let parts = known-parts (constants_in piece.mentions) (flat_map (λ (piece : Piece). constants_in piece.mentions) some) k in
-      let own = nil-both (repeated [] (formals_of piece) ++ repeated [] (declared_words piece.mentions)) (flat_map (doubled (scope_of tops piece)) piece.mentions) h.0 in
-      all-joined (IsFine known) (flat_map enum_of piece.mentions) (flat_map (λ (piece : Piece). flat_map enum_of piece.mentions) some)
-      (mentions-fine piece piece.mentions parts.0 (nil-each (doubled (scope_of tops piece)) piece.mentions own.1)) (pieces-fine some parts.1 h.1)
+      let own = empty-both (repeated [] (formals_of piece) ++ repeated [] (declared_words piece.mentions)) (flat_map (doubled (scope_of tops piece)) piece.mentions) h.0 in
+      each-append (IsFine known) (flat_map enum_of piece.mentions) (flat_map (λ (piece : Piece). flat_map enum_of piece.mentions) some)
+      (mentions-fine piece piece.mentions parts.0 (empty-each (doubled (scope_of tops piece)) piece.mentions own.1)) (pieces-fine some parts.1 h.1)
 
 -- ---- different lists
 
@@ -257,14 +254,6 @@ module _ (tops : List Piece) where
 abbrev AreApart : List (List Name) → Type 0
 AreApart [] = Unit {0}
 AreApart (l ∷ ls) = AllByRecursion (λ m. same_path l m ≡ false) ls × AreApart ls
-
-filter-each : {X : Type 0} (P : X → Type 0) (p : X → Bool) (xs : List X) → AllByRecursion P xs → AllByRecursion P (filter p xs)
-filter-each P p [] h = tt
-filter-each P p (x ∷ xs) h = by_test (p x) (filter-each P p xs h.1)
-  where
-    by_test : (b : Bool) → AllByRecursion P (filter p xs) → AllByRecursion P (cond b (x ∷ filter p xs) (filter p xs))
-    by_test true rest = (h.0, rest)
-    by_test false rest = rest
 
 filter-apart : (p : List Name → Bool) (ls : List (List Name)) → AreApart ls → AreApart (filter p ls)
 filter-apart p [] h = tt
@@ -349,7 +338,7 @@ text-fine text e =
 
 -- no enumeration has more constants than there are different ones
 pub constants-few : (text : Text) → first_fault text ≡ None → AllByRecursion (λ (names : List Name). length names ≤ 4096) (flatten text).enums
-constants-few text e = each-kept (IsFine (constants (pieces text))) (λ (names : List Name). length names ≤ 4096) (λ names f. few names f) (flatten text).enums (text-fine text e)
+constants-few text e = each-more (IsFine (constants (pieces text))) (λ (names : List Name). length names ≤ 4096) (λ names f. few names f) (flatten text).enums (text-fine text e)
   where
     few : (names : List Name) → IsFine (constants (pieces text)) names → length names ≤ 4096
     few names f =

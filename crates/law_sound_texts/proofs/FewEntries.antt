@@ -21,9 +21,9 @@ use Rattle.smv_core.specs.declared.flat.FlatItem.TheVariants as flat
 use Rattle.smv_instances.specs.Sizes.{Sized, sized_from, statements, statements_of_item, statements_of_items, statements_in}
 use Rattle.law_designs.specs.Entries.{claim, split, using, Entry, layer, statement, goal, inside_binder, given_to, connection, connections, instance_entries, item_entries, items_entries, entries_in, entries}
 use Rattle.law_designs.specs.Flattening.{different, layer_of, layers_of, layer_number, flat_assignments, with_places, flat_entry, flatten}
+use Rattle.law_designs.proofs.Faultless.{each-append, each-more}
 use Rattle.law_sound_texts.specs.NumbersFit.{IsShort}
 use Rattle.law_sound_texts.proofs.Fitting.{LayerFits}
-use Rattle.law_sound_texts.proofs.Items.{all-joined}
 
 -- ---- lengths and sums
 
@@ -150,10 +150,6 @@ abbrev IsLess : ℕ → ℕ → Entry → Type 0
 IsLess h n (statement x) = h < n
 IsLess h n _ = Unit {0}
 
-pub each-kept : {X : Type 0} (P Q : X → Type 0) → ((x : X) → P x → Q x) → (xs : List X) → AllByRecursion P xs → AllByRecursion Q xs
-each-kept P Q k [] h = tt
-each-kept P Q k (x ∷ xs) h = (k x h.0, each-kept P Q k xs h.1)
-
 less-kept : (h n i m : ℕ) → h ≡ i → n ≡ m → (e : Entry) → IsLess h n e → IsLess i m e
 less-kept h n i m p q (layer name) less = tt
 less-kept h n i m p q (statement x) less = omega (arith, p, q, less)
@@ -163,11 +159,11 @@ less-kept h n i m p q (goal instance binders g) less = tt
 less-each : (es : List Entry) (h n : ℕ) → h ≤ n → AllByRecursion (IsLess (h + length (heads es)) (n + length es)) es
 less-each [] h n le = tt
 less-each (layer name ∷ es) h n le =
-    (tt, each-kept (IsLess (h + 1 + length (heads es)) (n + 1 + length es)) _ (less-kept (h + 1 + length (heads es)) (n + 1 + length es) _ _ (omega arith) (omega arith)) es (less-each es (h + 1) (n + 1) (omega (arith, le))))
+    (tt, each-more (IsLess (h + 1 + length (heads es)) (n + 1 + length es)) _ (less-kept (h + 1 + length (heads es)) (n + 1 + length es) _ _ (omega arith) (omega arith)) es (less-each es (h + 1) (n + 1) (omega (arith, le))))
 less-each (statement x ∷ es) h n le =
-    (let a = heads-few es in omega (arith, a, le), each-kept (IsLess (h + length (heads es)) (n + 1 + length es)) _ (less-kept (h + length (heads es)) (n + 1 + length es) _ _ refl (omega arith)) es (less-each es h (n + 1) (omega (arith, le))))
+    (let a = heads-few es in omega (arith, a, le), each-more (IsLess (h + length (heads es)) (n + 1 + length es)) _ (less-kept (h + length (heads es)) (n + 1 + length es) _ _ refl (omega arith)) es (less-each es h (n + 1) (omega (arith, le))))
 less-each (goal instance binders g ∷ es) h n le =
-    (tt, each-kept (IsLess (h + length (heads es)) (n + 1 + length es)) _ (less-kept (h + length (heads es)) (n + 1 + length es) _ _ refl (omega arith)) es (less-each es h (n + 1) (omega (arith, le))))
+    (tt, each-more (IsLess (h + length (heads es)) (n + 1 + length es)) _ (less-kept (h + length (heads es)) (n + 1 + length es) _ _ refl (omega arith)) es (less-each es h (n + 1) (omega (arith, le))))
 
 filter-few : {X : Type 0} (p : X → Bool) (xs : List X) → length (filter p xs) ≤ length xs
 filter-few p [] = omega arith
@@ -203,7 +199,7 @@ module _ (text : Text) (layers : List Name) where
 
   entries-fit : (h n : ℕ) → length layers ≤ h → n ≤ 65536 → (es : List Entry) → AllByRecursion (IsLess h n) es → AllByRecursion LayerFits (flat_map (flat_entry text layers) es)
   entries-fit h n a b [] less = tt
-  entries-fit h n a b (e ∷ es) less = all-joined LayerFits (flat_entry text layers e) (flat_map (flat_entry text layers) es) (entry-fits h n a b e less.0) (entries-fit h n a b es less.1)
+  entries-fit h n a b (e ∷ es) less = each-append LayerFits (flat_entry text layers e) (flat_map (flat_entry text layers) es) (entry-fits h n a b e less.0) (entries-fit h n a b es less.1)
 
 places-fit : (k : ℕ) (items : List FlatItem) → AllByRecursion LayerFits items → AllByRecursion LayerFits (with_places k items)
 places-fit k [] h = tt

@@ -7,7 +7,7 @@ use Rattle.law_designs.specs.Flattening.{different}
 use Rattle.law_designs.specs.Laws.{AreInOrder}
 use Rattle.law_obligations.specs.Outlines.{earlier, earliest}
 use Rattle.law_obligations.proofs.Lookups.{find-some}
-use Rattle.law_sound_texts.proofs.Lists.{all-each}
+use Rattle.law_obligations.proofs.Members.{all-each}
 
 -- two lookups find what is related, or both find nothing
 abbrev pub FindAlike : {X Y : Type 0} → (X → Y → Type 0) → Option X → Option Y → Type 0

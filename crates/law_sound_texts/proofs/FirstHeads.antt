@@ -21,9 +21,12 @@ use Rattle.law_designs.specs.Definitions.{flat_of, set_of, part_of, Head, head, 
 use Rattle.law_designs.proofs.FlatParts.{indexes-first_part}
 use Rattle.law_designs.proofs.SameResults.{concerned-same}
 use Rattle.law_obligations.specs.Sets.{Has, first}
+use Rattle.law_obligations.proofs.Members.{Has-left, Has-right, Has-cases, Has-map, Has-flat_map, any-found, any-some}
+use Rattle.law_obligations.proofs.Lookups.{Has-filter}
+use Rattle.law_obligations.proofs.Same.{nat_eq-itself}
 use Rattle.law_designs.specs.Reading.{Reference, references, Reading, readings, readings_of}
 use Rattle.law_designs.specs.LayerFaults.{assignments_of}
-use Rattle.law_sound_texts.proofs.Lists.{both_true, Has-left, Has-right, Has-cases, Has-map, Has-flat_map, Has-filter, any-found, any-some, nat_eq-itself}
+use Rattle.law_sound_texts.proofs.Lists.{both_true}
 use Rattle.law_sound_texts.proofs.FirstFound.{FindAlike, find-zip, zip-append, any-is-find}
 
 -- ---- the assignments of a statement, in three forms

@@ -1,5 +1,5 @@
 -- Where each assignment takes one index for each type of its family, no left side has more.
-use Rattle.std.proofs.Common.{◌≡◌, ℕ, suc, ◌+◌, List, [], ◌∷◌, ◌++◌, map, length, slice_get, Option, Some, None, Bool, true, false, ◌&&◌, if◌then◌else◌, nat_le, nat_lt, refl, ap, arith}
+use Rattle.std.proofs.Common.{◌≡◌, ℕ, suc, ◌+◌, List, [], ◌∷◌, map, length, slice_get, Option, Some, None, Bool, true, false, ◌&&◌, if◌then◌else◌, nat_le, nat_lt, refl, ap, arith}
 use Rattle.std.specs.List.{flat_map, list_all}
 use Rattle.smv_core.specs.declared.flat.Simple.{Simple}
 use Rattle.smv_core.specs.declared.flat.Family.{Family}
@@ -13,6 +13,7 @@ use Rattle.smv_core.specs.Values.{Name}
 use Rattle.law_designs.specs.Standing.{count, statements_from, Standing, standing, standing_in, assigned_by}
 use Rattle.law_designs.specs.Laws.{index_count, left_sides_are_whole}
 use Rattle.law_designs.specs.FlatKinds.{Kind, number, kind_of, takes, take_each, assigns, element, Vars, inside, is_size, kind_in, value_in, is_binder, keeps_kinds, all_keep_kinds, is_kinded_item, is_kinded_family, is_kinded}
+use Rattle.law_sound_texts.proofs.Lists.{all-append}
 
 both : (a b : Bool) → (a && b) ≡ true → (a ≡ true) × (b ≡ true)
 both true b e = (refl, e)
@@ -24,10 +25,6 @@ pair false b e f = absurd (cc (e))
 
 at_most : (k n : ℕ) → k ≡ n → nat_le k n ≡ true
 at_most k n e = grind arith
-
-all-joined : {X : Type 0} (p : X → Bool) (xs ys : List X) → list_all p xs ≡ true → list_all p ys ≡ true → list_all p (xs ++ ys) ≡ true
-all-joined p [] ys e f = f
-all-joined p (x ∷ xs) ys e f = let g : (p x ≡ true) × (list_all p xs ≡ true) = both (p x) (list_all p xs) e in pair (p x) (list_all p (xs ++ ys)) g.0 (all-joined p xs ys g.1 f)
 
 one-for-each : (g : FlatExpr → Option Kind) (over : List Simple) (left : List FlatExpr) → take_each over (map g left) ≡ true → length left ≡ length over
 one-for-each g [] [] e = refl
@@ -55,11 +52,11 @@ module _ (raw : Raw) where
       stmt-whole around vars (Assign kind family left value at) e = pair _ true (target-whole vars family left (value_in raw vars value) (slice_get raw.families family) refl e) refl
       stmt-whole around vars (If' test l (more_of-FlatStmt left end_of-FlatStmt) r (more_of-FlatStmt right end_of-FlatStmt)) e =
           let g : (keeps_kinds raw vars left ≡ true) × (keeps_kinds raw vars right ≡ true) = both _ _ (both (takes number (kind_in raw vars test)) (keeps_kinds raw vars left && keeps_kinds raw vars right) e).1 in
-          all-joined whole (standing layer around left) (standing layer around right) (stmt-whole around vars left g.0) (stmt-whole around vars right g.1)
+          all-append whole (standing layer around left) (standing layer around right) (stmt-whole around vars left g.0) (stmt-whole around vars right g.1)
       stmt-whole around vars (Block' shape parts) e = all-whole around vars parts e
       stmt-whole around vars (Default' l (more_of-FlatStmt left end_of-FlatStmt) r (more_of-FlatStmt right end_of-FlatStmt)) e =
           let g : (keeps_kinds raw vars left ≡ true) × (keeps_kinds raw vars right ≡ true) = both _ _ e in
-          all-joined whole (standing layer around left) (standing layer around right) (stmt-whole around vars left g.0) (stmt-whole around vars right g.1)
+          all-append whole (standing layer around left) (standing layer around right) (stmt-whole around vars left g.0) (stmt-whole around vars right g.1)
       stmt-whole around vars (Forall' var over shape (more_of-FlatStmt body end_of-FlatStmt)) e =
           stmt-whole (var ∷ around) (inside vars over) body (both (is_binder raw vars var over) (keeps_kinds raw (inside vars over) body) e).1
 
@@ -67,13 +64,13 @@ module _ (raw : Raw) where
       all-whole around vars end_of-FlatStmt e = refl
       all-whole around vars (more_of-FlatStmt part rest) e =
           let g : (keeps_kinds raw vars part ≡ true) × (all_keep_kinds raw vars rest ≡ true) = both _ _ e in
-          all-joined whole (standing layer around part) (standing_in layer around rest) (stmt-whole around vars part g.0) (all-whole around vars rest g.1)
+          all-append whole (standing layer around part) (standing_in layer around rest) (stmt-whole around vars part g.0) (all-whole around vars rest g.1)
 
   items-whole : (k : ℕ) (items : List FlatItem) → list_all (is_kinded_item raw) items ≡ true → list_all whole (flat_map assigned_by (statements_from k items)) ≡ true
   items-whole k [] e = refl
   items-whole k (item.Act layer act ∷ items) e =
       let g : (keeps_kinds raw [] act ≡ true) × (list_all (is_kinded_item raw) items ≡ true) = both _ _ e in
-      all-joined whole (standing layer [] act) (flat_map assigned_by (statements_from (k + count act) items)) (stmt-whole layer [] [] act g.0) (items-whole (k + count act) items g.1)
+      all-append whole (standing layer [] act) (flat_map assigned_by (statements_from (k + count act) items)) (stmt-whole layer [] [] act g.0) (items-whole (k + count act) items g.1)
   items-whole k (item.Claim c ∷ items) e = items-whole (k + 1) items (both (is_kinded_item raw (item.Claim c)) (list_all (is_kinded_item raw) items) e).1
   items-whole k (item.Split s ∷ items) e = items-whole k items (both (is_kinded_item raw (item.Split s)) (list_all (is_kinded_item raw) items) e).1
   items-whole k (item.Using u ∷ items) e = items-whole k items (both (is_kinded_item raw (item.Using u)) (list_all (is_kinded_item raw) items) e).1

@@ -28,9 +28,10 @@ use Rattle.law_designs.specs.Definitions.{is_nothing, joined, first_part, branch
 use Rattle.law_designs.proofs.FlatParts.{boxes, rows_of, indexes-row, indexes-kept}
 use Rattle.law_designs.specs.Laws.{index_count}
 use Rattle.law_sound_texts.specs.Placed.{IsPlaced, ArePlaced, RawIsPlaced, IsFree, OneValueGives}
-use Rattle.law_sound_texts.proofs.FaultlessSides.{nil-left, nil-right, no-clash, no-conflict, no-lack}
+use Rattle.law_sound_texts.proofs.FaultlessSides.{no-clash, no-conflict, no-lack}
 use Rattle.law_sound_texts.proofs.Comes.{Comes, comes, comes_in, comes_of, layer-is, part, chosen}
 use mathlib.Core.Former.{Count}
+use Rattle.law_sound_texts.proofs.NoFaults.{nil-left, nil-right}
 
 clash : {b : Bool} → b ≡ true → b ≡ false → ⊥
 clash p q = cc

@@ -28,21 +28,14 @@ use Rattle.law_designs.specs.Numbers.{Scope}
 use Rattle.law_designs.specs.Statements.{flat_expr, first_token}
 use Rattle.law_designs.specs.Entries.{Binders, Goal, claim, split, using, Entry, layer, statement, goal, inside_binder, formal, given_to, connection, connections, instance_entries, item_entries, items_entries, entries_in, entries}
 use Rattle.law_designs.specs.Flattening.{flat_assignments, scope_in, within, params_from, flat_pair, flat_goal, with_places, layers_of, flat_entry, flatten}
+use Rattle.law_designs.proofs.Faultless.{each-append, each-map}
 use Rattle.law_sound_texts.proofs.Shallow.{most, IsShallow, AreShallow, IndexesAreShallow, StatementIsShallow, InnerIsShallow, InnersAreShallow, ItemIsShallow, TopIsShallow, TextIsShallow}
 use Rattle.law_sound_texts.proofs.ShallowForms.{PartIsShallow, PathIsShallow, shallow-Signal, shallow-Assign, shallow-Forall}
 use Rattle.law_sound_texts.proofs.FlatShallow.{FlatIsShallow, ActIsShallow, expr-shallow, act-shallow}
 
-pub all-joined : {X : Type 0} (P : X → Type 0) (xs ys : List X) → AllByRecursion P xs → AllByRecursion P ys → AllByRecursion P (xs ++ ys)
-all-joined P [] ys h g = g
-all-joined P (x ∷ xs) ys h g = (h.0, all-joined P xs ys h.1 g)
-
-all-mapped : {X Y : Type 0} (P : X → Type 0) (Q : Y → Type 0) (f : X → Y) → ((x : X) → P x → Q (f x)) → (xs : List X) → AllByRecursion P xs → AllByRecursion Q (map f xs)
-all-mapped P Q f k [] h = tt
-all-mapped P Q f k (x ∷ xs) h = (k x h.0, all-mapped P Q f k xs h.1)
-
 all-flat : {X Y : Type 0} (P : X → Type 0) (Q : Y → Type 0) (f : X → List Y) → ((x : X) → P x → AllByRecursion Q (f x)) → (xs : List X) → AllByRecursion P xs → AllByRecursion Q (flat_map f xs)
 all-flat P Q f k [] h = tt
-all-flat P Q f k (x ∷ xs) h = all-joined Q (f x) (flat_map f xs) (k x h.0) (all-flat P Q f k xs h.1)
+all-flat P Q f k (x ∷ xs) h = each-append Q (f x) (flat_map f xs) (k x h.0) (all-flat P Q f k xs h.1)
 
 -- ---- what is met in flat order
 
@@ -116,7 +109,7 @@ module _ (types : Types) (bodies : List (Name × Body)) where
       inner-shallow k (Instance words name args at) h = absurd h
       inner-shallow k (Layer name body at) h = absurd h
       inner-shallow k (Forall' var over shape (more_of-Item body end_of-Item) at) h =
-          all-mapped (EntryIsShallow (suc k)) (EntryIsShallow k) (inside_binder var over) (inside-shallow k var over h.0) (met_in body) (inner-shallow (suc k) body h.1)
+          each-map (EntryIsShallow (suc k)) (EntryIsShallow k) (inside_binder var over) (inside-shallow k var over h.0) (met_in body) (inner-shallow (suc k) body h.1)
       inner-shallow k (Block' shape items) h = inners-shallow k items h
       inner-shallow k (Claim name vars body at) h = (h, tt)
       inner-shallow k (Split name vars of pairs at) h = (h, tt)
@@ -125,7 +118,7 @@ module _ (types : Types) (bodies : List (Name × Body)) where
 
       inners-shallow : {m : _} (k : ℕ) (row : Row_of-Item m) → InnersAreShallow k row → AllByRecursion (EntryIsShallow k) (items_entries types bodies inside here row)
       inners-shallow k end_of-Item h = tt
-      inners-shallow k (more_of-Item x rest) h = all-joined (EntryIsShallow k) (met_in x) (items_entries types bodies inside here rest) (inner-shallow k x h.0) (inners-shallow k rest h.1)
+      inners-shallow k (more_of-Item x rest) h = each-append (EntryIsShallow k) (met_in x) (items_entries types bodies inside here rest) (inner-shallow k x h.0) (inners-shallow k rest h.1)
 
     -- statements of a layer or of connections
     said-shallow : (number : Option Name) (acts : List Stmt) → AllByRecursion (StatementIsShallow 0) acts →
@@ -137,8 +130,8 @@ module _ (types : Types) (bodies : List (Name × Body)) where
         AllByRecursion (EntryIsShallow 0) (flat_map (λ (word : Word). instance_entries types bodies inside here name args word.name) words)
     instances-shallow all name args h [] = tt
     instances-shallow all name args h (word ∷ words) =
-        all-joined (EntryIsShallow 0) (instance_entries types bodies inside here name args word.name) (flat_map (λ (word : Word). instance_entries types bodies inside here name args word.name) words)
-        (all-joined (EntryIsShallow 0) (map (λ act. statement (record { layer = None; instance = here; act = act })) (connections (body_of types bodies name) word.name args)) (inside (here ++ word.name ∷ []) name)
+        each-append (EntryIsShallow 0) (instance_entries types bodies inside here name args word.name) (flat_map (λ (word : Word). instance_entries types bodies inside here name args word.name) words)
+        (each-append (EntryIsShallow 0) (map (λ act. statement (record { layer = None; instance = here; act = act })) (connections (body_of types bodies name) word.name args)) (inside (here ++ word.name ∷ []) name)
         (said-shallow None (connections (body_of types bodies name) word.name args) (connections-shallow (body_of types bodies name) word.name args h)) (all (here ++ word.name ∷ []) name))
         (instances-shallow all name args h words)
 
@@ -196,7 +189,7 @@ module _ (scope : Scope) where
       inside-flat (λ k. FlatIsShallow k (flat_expr scope (within [] binders) body)) (claim word vars body at) (λ m own. expr-shallow scope m (within [] binders) body own) 0 0 binders h
   goal-flat binders (split word vars of pairs at) h =
       inside-flat (λ k. AllByRecursion (λ (pair : FlatPair). FlatIsShallow k pair.left) (map (flat_pair scope (within [] binders)) pairs)) (split word vars of pairs at)
-      (λ m own. all-mapped (λ (pair : Pair). IsShallow m pair.left) (λ (pair : FlatPair). FlatIsShallow m pair.left) (flat_pair scope (within [] binders)) (λ pair h. expr-shallow scope m (within [] binders) pair.left h) pairs own) 0 0 binders h
+      (λ m own. each-map (λ (pair : Pair). IsShallow m pair.left) (λ (pair : FlatPair). FlatIsShallow m pair.left) (flat_pair scope (within [] binders)) (λ pair h. expr-shallow scope m (within [] binders) pair.left h) pairs own) 0 0 binders h
   goal-flat binders (using uses proves at) h = inside-flat (λ k. Unit {0}) (using uses proves at) (λ m own. tt) 0 0 binders h
 
 entry-flat : (text : Text) (layers : List Name) (e : Entry) → EntryIsShallow 0 e → AllByRecursion FlatItemIsShallow (flat_entry text layers e)

@@ -1,6 +1,6 @@
 -- The flattened text of a text without faults is kinded.
 use Rattle.law_designs.proofs.Opening.{opening}
-use Rattle.std.proofs.Common.{◌≡◌, ℕ, ◌+◌, ◌-◌, ◌<◌, ◌≤◌, List, [], ◌∷◌, ◌++◌, map, flat_map, length, Option, Some, None, option_map, Bool, true, All, nat_lt, nat_le, refl, sym, ap, ◌∙◌, subst, arith}
+use Rattle.std.proofs.Common.{◌≡◌, ℕ, ◌+◌, ◌-◌, ◌<◌, ◌≤◌, List, [], ◌∷◌, map, flat_map, length, Option, Some, None, option_map, Bool, true, All, nat_lt, nat_le, refl, sym, ap, ◌∙◌, subst, arith}
 use Rattle.std.specs.List.{AllByRecursion, list_all}
 use Rattle.std.proofs.lemmas.Bool.{and_from, le-leb, lt-ltb}
 use Rattle.smv_core.specs.Values.{Name, Path, Sizes}
@@ -37,15 +37,11 @@ use Rattle.law_designs.proofs.RightText.{modules-of}
 use Rattle.law_obligations.specs.Sets.{Has}
 use Rattle.law_sound_texts.specs.TextExtension.{FamiliesAreFound}
 use Rattle.law_sound_texts.proofs.FamiliesFound.{PieceIsFine, AllApart, BodyIsFine, types-all, modules-fine, pieces-fine}
-use Rattle.law_sound_texts.proofs.Lists.{left_of, right_of}
+use Rattle.law_sound_texts.proofs.Lists.{left_of, right_of, all-append}
 use Rattle.law_sound_texts.proofs.Families.{AreFit, TableIsFit, range-fit, table-fit, families-fit, families-kept}
 use Rattle.law_sound_texts.proofs.Enumerations.{enumerations-kept}
 use Rattle.law_sound_texts.proofs.Connections.{has_kind, inside_params, params-bound, EntryKeeps}
 use Rattle.law_sound_texts.proofs.Entries.{text-keeps}
-
-all-append : {X : Type 0} (p : X → Bool) (xs ys : List X) → list_all p xs ≡ true → list_all p ys ≡ true → list_all p (xs ++ ys) ≡ true
-all-append p [] ys h k = k
-all-append p (x ∷ xs) ys h k = and_from (p x) (list_all p (xs ++ ys)) (left_of (p x) (list_all p xs) h) (all-append p xs ys (right_of (p x) (list_all p xs) h) k)
 
 -- ---- set types
 

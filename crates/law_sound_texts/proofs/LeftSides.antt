@@ -17,10 +17,13 @@ use Rattle.law_designs.specs.Standing.{count, Statement, statements_of, Standing
 use Rattle.law_designs.specs.Definitions.{is_nothing, joined, first_part, flat_of, flats_of, set_of, part_of, Head, def_of, first_heads, design_of_raw}
 use Rattle.law_designs.specs.Laws.{index_count}
 use Rattle.law_obligations.specs.Sets.{Has, first, later}
+use Rattle.law_obligations.proofs.Members.{Has-left, Has-right, Has-cases, Has-from_map, Has-flat_map}
+use Rattle.law_obligations.proofs.Lookups.{Has-from_filter}
+use Rattle.law_obligations.proofs.Same.{nat_eq-is}
 use Rattle.law_designs.specs.Reading.{Reference, references, Reading, readings, readings_of}
 use Rattle.law_designs.specs.LayerFaults.{assignments_of}
 use Rattle.law_sound_texts.specs.Extension.{HasWholeLeftSides, RawHasWholeLeftSides}
-use Rattle.law_sound_texts.proofs.Lists.{right_of, Has-left, Has-right, Has-cases, Has-from_map, Has-from_filter, Has-flat_map, nat_eq-is}
+use Rattle.law_sound_texts.proofs.Lists.{right_of}
 use mathlib.Core.Former.{Count}
 
 -- what lets a box of a definition's part compute

@@ -59,6 +59,7 @@ mod FlatShallow
 mod Items
 mod Fitting
 mod Limits
+mod NoFaults
 mod FewFamilies
 mod FewEntries
 mod FewConstants

@@ -1,6 +1,7 @@
 -- Maps that hold in the design hold in the text.
 use Rattle.std.proofs.Common.{◌≡◌, ℕ, List, [], ◌∷◌, length, Option, Some, None, Bool, true, false, not, nat_eq, refl, sym, ap, subst, ◌∙◌, inl, inr, slice_get, option_to_list, All, Contains, arith}
 use Rattle.std.specs.List.{AllZip, list_all, list_any}
+use Rattle.std.proofs.lemmas.Option.{slice_get_within}
 use Rattle.smv_core.specs.Values.{Name, Value, Sizes, values_of}
 use Rattle.smv_core.specs.Types.{Family}
 use Rattle.smv_core.specs.FlatOrder.{Design, design_of}
@@ -31,10 +32,14 @@ use Rattle.law_obligations.specs.Outlines as outline
 use Rattle.law_obligations.specs.Outlines.{names_of, bases, as_map, is_in_layer}
 use Rattle.law_obligations.specs.Units.{is_base_in, is_refinement}
 use Rattle.law_obligations.specs.Checked.{HoldsAlways}
+use Rattle.law_obligations.proofs.Members.{Has-flat_map, all-each}
+use Rattle.law_obligations.proofs.OneOfEach.{get_Has, Has_get}
+use Rattle.law_obligations.proofs.Same.{Has-is_in, nat_eq-is}
+use Rattle.law_obligations.proofs.Spots.{Has-numbers}
 use Rattle.law_sound_texts.specs.TextExtension.{FamiliesAreFound}
-use Rattle.law_sound_texts.proofs.Lists.{left_of, right_of, Has-flat_map, Has-numbers, some_or_none, all-each, get-Has, Has-is_in, nat_eq-is}
+use Rattle.law_sound_texts.proofs.Lists.{left_of, right_of, some_or_none}
 use Rattle.law_sound_texts.proofs.Faultless.{IsFaultless, IsBase, base_by}
-use Rattle.law_sound_texts.proofs.Texts.{Has-Contains, All-each, Has-get, get_below, in_raw, indexes_same, demand_same}
+use Rattle.law_sound_texts.proofs.Texts.{Has-Contains, All-each, in_raw, indexes_same, demand_same}
 use Rattle.law_sound_texts.specs.Carried.{UnitsHold}
 use Rattle.law_sound_texts.proofs.Units.{map-unit}
 use Rattle.law_sound_texts.proofs.Times.{always-gives, always-true, at-each-time}
@@ -107,7 +112,7 @@ module _ (text : Text) (sizes : Sizes) (families : AllZip (IsSameFamily (numbers
         let own : (def.family ≡ k) × IsBase f def = base_by f faultless k def is_base in
         let r : (g : FlatFamily) × (slice_get raw.families k ≡ Some g) × IsSameFamily n g h = in_raw text sizes families found k h at in
         let there : Has (bases f) def =
-        Has-flat_map (λ family. option_to_list (outline.base_of f family)) (Has-numbers 0 (length raw.families) k (omega arith) (let l = get_below raw.families k r.0 r.1 in omega (arith, l)))
+        Has-flat_map (λ family. option_to_list (outline.base_of f family)) (Has-numbers 0 (length raw.families) k (omega arith) (let l = slice_get_within raw.families k r.0 r.1 in omega (arith, l)))
         (subst (λ o. Has (option_to_list o) def) (sym is_base) first) in
         always-gives (meets_base n (bases f)) (is_held n (map_of def) vs)
         (λ fore t meets. all-each (λ vs. is_held n (map_of def) vs fore t) (all-each (λ (def : Def). list_all (λ vs. is_held n (map_of def) vs fore t) (values_over n (params_of n (map_of def)))) meets there) (over def own.0)) None ts is.keeps_base
@@ -115,7 +120,7 @@ module _ (text : Text) (sizes : Sizes) (families : AllZip (IsSameFamily (numbers
     -- a refinement always holds, where the units hold
     by_unit : (def : Def) → Has f.defs def → def.family ≡ k → is_refinement f def.family def.layer ≡ true → always (is_held n (map_of def) vs) None ts ≡ true
     by_unit def m own refines =
-        let j : (j : ℕ) × (slice_get f.defs j ≡ Some def) = Has-get m in
+        let j : (j : ℕ) × (slice_get f.defs j ≡ Some def) = Has_get m in
         let always_holds : HoldsAlways f (map_of def) = subst (λ o. HoldsAlways f (as_map o)) j.1 (hold (Map j.0) (map-unit f j.0 def j.1 refines)) in
         always_holds sizes are ts is vs (over def own)
 
@@ -129,7 +134,7 @@ module _ (text : Text) (sizes : Sizes) (families : AllZip (IsSameFamily (numbers
             let all : raw_allowed raw sizes (Some layer) (flat_element (scope_in text []) x) (every_value d sizes x) fore t ≡ every_value d sizes x = free sizes (Some layer) (flat_element (scope_in text []) x) lacks (every_value d sizes x) fore t in
             let same_values : allowed d sizes (Some layer) x before s ≡ values_of sizes h.value = sym (frees (Some layer) x h (found k h at).0 before fore b s t same) ∙ (all ∙ ap (values_at sizes) (found k h at).0) in
             let of_family : All (λ vs. Contains (values_of sizes h.value) (s h.path vs)) (indexes_in sizes h) =
-            All-each (λ (h : Family). All (λ vs. Contains (values_of sizes h.value) (s h.path vs)) (indexes_in sizes h)) d.families h typed (get-Has d.families k h at) in
+            All-each (λ (h : Family). All (λ vs. Contains (values_of sizes h.value) (s h.path vs)) (indexes_in sizes h)) d.families h typed (get_Has d.families k h at) in
             subst (λ l. Contains l (s h.path vs)) (sym same_values) (All-each (λ vs. Contains (values_of sizes h.value) (s h.path vs)) (indexes_in sizes h) vs of_family i)
 
     -- a definition of the layer is a refinement, or the layer has the family's base definition

@@ -15,7 +15,7 @@ use Rattle.law_designs.proofs.TypeNumbers.{paths-decide}
 use Rattle.law_designs.proofs.Lookups.{find-passes}
 use Rattle.law_designs.proofs.Modules.{IsApart}
 use Rattle.law_obligations.specs.Sets.{Has, first, later}
-use Rattle.law_sound_texts.proofs.Lists.{Has-left, Has-right, Has-cases}
+use Rattle.law_obligations.proofs.Members.{Has-left, Has-right, Has-cases}
 use Rattle.law_sound_texts.proofs.FamiliesFound.{AreDisjoint, AreBehind, AllApart, BodyIsFine, own_words, AreThere, same-name, items-once, items-behind, families-there}
 
 find-Has : {X : Type 0} (p : X → Bool) (xs : List X) (x : X) → find p xs ≡ Some x → Has xs x

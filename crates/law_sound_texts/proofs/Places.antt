@@ -11,8 +11,12 @@ use Rattle.smv_core.specs.declared.flat.Family.{Family}
 use Rattle.smv_core.specs.declared.flat.Cell.{Cell}
 use Rattle.law_obligations.specs.Sets.{Has, first, later, one_of_each}
 use Rattle.law_obligations.specs.Soundness.{values_over}
+use Rattle.law_obligations.proofs.Members.{Has-map, Has-from_map, Has-flat_map}
+use Rattle.law_obligations.proofs.OneOfEach.{Has-from_flat_map}
+use Rattle.law_obligations.proofs.Lookups.{Has-filter}
+use Rattle.law_obligations.proofs.Same.{Has-is_in}
 use Rattle.law_designs.specs.Loops.{is_constant, at_index, ways, cells_of}
-use Rattle.law_sound_texts.proofs.Lists.{left_of, right_of, Has-map, Has-from_map, Has-flat_map, Has-from_flat_map, Has-filter, is_in-Has, Has-is_in}
+use Rattle.law_sound_texts.proofs.Lists.{left_of, right_of, is_in-Has}
 use Rattle.law_sound_texts.proofs.Agreeing.{is_plain, MayBe}
 
 -- what a cell has for a value of a type

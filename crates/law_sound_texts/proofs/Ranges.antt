@@ -11,12 +11,15 @@ use Rattle.smv_instances.specs.Scopes.{Constant, constants, pieces}
 use Rattle.law_designs.specs.References.{Module, modules_from}
 use Rattle.law_designs.specs.Types.{Types, types_after, is_reversed, range_faults, size_faults, index_faults, type_faults, field_faults}
 use Rattle.law_designs.specs.KindFaults.{in_top, in_tops, faults_of_kinds, first_fault_of_kinds}
+use Rattle.law_designs.proofs.Faultless.{empty-both, unplaced, no_fault-in}
 use Rattle.law_sound_texts.specs.RangesFit.{SpanFits, IndexFits, RangesFit, FieldsFit, TopFits, NamedRangesFit}
-use Rattle.law_sound_texts.proofs.Limits.{nil-both, nil-map, not-placed, no-faults, neither, not-less}
+use Rattle.law_sound_texts.proofs.Limits.{not-less}
+use Rattle.law_sound_texts.proofs.NoFaults.{nil-map}
+use Rattle.law_sound_texts.proofs.Lists.{neither}
 
 range-fits : (span : Span) (at : ℕ) → range_faults span at ≡ [] → SpanFits span
 range-fits span at e =
-    let g : (is_reversed span ≡ false) × (nat_lt 255 span.high ≡ false) = neither (is_reversed span) (nat_lt 255 span.high) (not-placed (is_reversed span || nat_lt 255 span.high) at (nil-map _ _ e)) in
+    let g : (is_reversed span ≡ false) × (nat_lt 255 span.high ≡ false) = neither (is_reversed span) (nat_lt 255 span.high) (unplaced (is_reversed span || nat_lt 255 span.high) at (nil-map _ _ e)) in
     let a = not-less span.high span.low g.0 in
     let b = not-less 255 span.high g.1 in
     (omega (arith, a, b), omega (arith, b))
@@ -37,7 +40,7 @@ module _ (types : Types) where
     type-fits : (t : TypeExpr) → type_faults types t ≡ [] → RangesFit t
     type-fits (Range span at) e = range-fits span at e
     type-fits (Array' i (more_of-TypeExpr index end_of-TypeExpr) o (more_of-TypeExpr of end_of-TypeExpr)) e =
-        let g : (index_faults types index ≡ []) × (type_faults types of ≡ []) = nil-both (index_faults types index) (type_faults types of) e in
+        let g : (index_faults types index ≡ []) × (type_faults types of ≡ []) = empty-both (index_faults types index) (type_faults types of) e in
         (index-fits index g.0, type-fits of g.1)
     type-fits (Struct' shape fields) e = fields-fit fields e
     type-fits Boolean e = tt
@@ -47,13 +50,13 @@ module _ (types : Types) where
     fields-fit : {m : _} (fields : Row_of-Field m) → field_faults types fields ≡ [] → FieldsFit fields
     fields-fit end_of-Field e = tt
     fields-fit (more_of-Field names of at rest) e =
-        let g : (type_faults types of ≡ []) × (field_faults types rest ≡ []) = nil-both (type_faults types of) (field_faults types rest) e in
+        let g : (type_faults types of ≡ []) × (field_faults types rest ≡ []) = empty-both (type_faults types of) (field_faults types rest) e in
         (type-fits of g.0, fields-fit rest g.1)
 
 tops-fit : (modules : List (Name × Module)) (known : List (Name × Constant)) (types : Types) (tops : List Top) → in_tops modules known types tops ≡ [] → AllByRecursion TopFits tops
 tops-fit modules known types [] e = tt
 tops-fit modules known types (top ∷ tops) e =
-    let g : (in_top modules known types top ≡ []) × (in_tops modules known (types_after types top) tops ≡ []) = nil-both (in_top modules known types top) (in_tops modules known (types_after types top) tops) e in
+    let g : (in_top modules known types top ≡ []) × (in_tops modules known (types_after types top) tops ≡ []) = empty-both (in_top modules known types top) (in_tops modules known (types_after types top) tops) e in
     (own top g.0, tops-fit modules known (types_after types top) tops g.1)
   where
     own : (x : Top) → in_top modules known types x ≡ [] → TopFits x
@@ -62,4 +65,4 @@ tops-fit modules known types (top ∷ tops) e =
     own (ModuleOf word formals body at) e = tt
 
 pub named-fit : (text : Text) → first_fault_of_kinds text ≡ None → NamedRangesFit text
-named-fit text none = tops-fit (modules_from [] text.tops) (constants (pieces text)) [] text.tops (no-faults (faults_of_kinds text) none)
+named-fit text none = tops-fit (modules_from [] text.tops) (constants (pieces text)) [] text.tops (no_fault-in (faults_of_kinds text) none)

@@ -13,16 +13,15 @@ use Rattle.smv_core.specs.Flat.{Numbered, FlatState, FlatBindings, FlatElement, 
 use Rattle.smv_core.specs.declared.flat.FlatExpr.{FlatExpr, List', Each', Choose', end_of-FlatExpr, more_of-FlatExpr}
 use Rattle.smv_core.specs.declared.flat.Flat.{Flat, Nothing, Assign, If', First', Forall', Row_of-Flat, end_of-Flat, more_of-Flat}
 use Rattle.law_obligations.specs.Sets.{Has, first, later}
+use Rattle.law_obligations.proofs.Members.{Has-left, Has-right, Has-cases}
+use Rattle.law_obligations.proofs.Same.{Has-is_in}
+use Rattle.law_obligations.proofs.Lookups.{inner}
 use Rattle.law_designs.specs.Reading.{Reference, references, Reading, readings, readings_of}
-use Rattle.law_sound_texts.proofs.Lists.{inner, Has-left, Has-right, Has-cases, Has-is_in, some_or_none}
+use Rattle.law_designs.proofs.FlatParts.{if_walk-none}
+use Rattle.law_sound_texts.proofs.Lists.{some_or_none}
 use Rattle.law_sound_texts.proofs.Agreeing.{is_plain, index_plain, misfits, AgreeAt, at_left, at_right, same_outcome, same_allowed, same_left}
 
 -- ---- lists of results
-
-if_none : (every : List Value) (o : Truth) → if_walk every o None None ≡ None
-if_none every None = refl
-if_none every (Some true) = refl
-if_none every (Some false) = refl
 
 first_nones : (F : Value → Walk) → ((v : Value) → F v ≡ None) → (vs : List Value) → walk.first (map F vs) ≡ None
 first_nones F h [] = refl
@@ -118,7 +117,7 @@ module _ (keep : List Index → Bool) (n : Numbered) (x : FlatElement) (every : 
           let p : result_by keep n s x every left b ≡ None = nothing_kept (around ++ references test) left b (λ a k. h a (Has-left (readings family (around ++ references test) right) k)) in
           let q : result_by keep n s x every right b ≡ None = nothing_kept (around ++ references test) right b (λ a k. h a (Has-right (readings family (around ++ references test) left) k)) in
           ap (λ w. if_walk every (truth (flat_outcome n s test b)) w (result_by keep n s x every right b)) p ∙
-          (ap (λ w. if_walk every (truth (flat_outcome n s test b)) None w) q ∙ if_none every (truth (flat_outcome n s test b)))
+          (ap (λ w. if_walk every (truth (flat_outcome n s test b)) None w) q ∙ if_walk-none every (truth (flat_outcome n s test b)))
       nothing_kept around (First' shape parts) b h = none_kept around parts b h
       nothing_kept around (Forall' var over shape (more_of-Flat body end_of-Flat)) b h =
           first_nones (λ v. result_by keep n s x every body (bind b var v)) (λ v. nothing_kept around body (bind b var v) h) (values_in n over)
@@ -171,7 +170,7 @@ module _ (keep : List Index → Bool) (n : Numbered) (x : FlatElement) (every : 
             of_nothing (result_by keep n t x every left b) (result_by keep n t x every right b) no_left no_right
           where
             of_nothing : (v w : Walk) → v ≡ None → w ≡ None → if_walk every (truth (flat_outcome n s test b)) v w ≡ if_walk every (truth (flat_outcome n t test b)) v w
-            of_nothing v w e f = rw (e, f) (if_none every (truth (flat_outcome n s test b)) ∙ sym (if_none every (truth (flat_outcome n t test b))))
+            of_nothing v w e f = rw (e, f) (if_walk-none every (truth (flat_outcome n s test b)) ∙ sym (if_walk-none every (truth (flat_outcome n t test b))))
 
     mutual
       pub same_result : (around : List Reference) (def : Flat) (b : FlatBindings) → AgreeWhere (readings family around def) → result_by keep n s x every def b ≡ result_by keep n t x every def b

@@ -14,10 +14,13 @@ use Rattle.law_obligations.specs.Circular.{always}
 use Rattle.law_obligations.specs.Soundness.{map_of, AreSizes, at_sizes, over_of, values_of_family, params_of, values_over, is_held, meets_base, IsTyped, IsRun, HasValue}
 use Rattle.law_obligations.specs.Outlines.{names_of, bases}
 use Rattle.law_obligations.proofs.Plans.{filled_value}
+use Rattle.law_obligations.proofs.Members.{Has-left, Has-right, all-each, all-holds}
+use Rattle.law_obligations.proofs.OneOfEach.{get_Has}
+use Rattle.law_obligations.proofs.Lookups.{Has-filter, Has-from_filter}
 use Rattle.law_designs.specs.Reading.{Reference, Reading, readings}
 use Rattle.law_designs.specs.LayerFaults.{assignments_of}
 use Rattle.law_sound_texts.specs.Extension.{HasWholeLeftSides, AreFilled, AgreeOutside, bases_outside}
-use Rattle.law_sound_texts.proofs.Lists.{clash, true_or_false, left_of, right_of, both_true, Has-left, Has-right, Has-filter, Has-from_filter, all-holds, all-each, get-Has, is_in-Has}
+use Rattle.law_sound_texts.proofs.Lists.{clash, true_or_false, left_of, right_of, both_true, is_in-Has}
 use Rattle.law_sound_texts.proofs.Results.{all_result, same_result}
 use Rattle.law_sound_texts.proofs.Places.{AreOver, are_over}
 use Rattle.law_sound_texts.proofs.Faultless.{IsFaultless, Falls, IsBase, base_is}
@@ -168,7 +171,7 @@ module _ (d : Design) (sizes : Sizes) (have : (f : Family) → Has d.families f 
   some_typed : IsTyped (at_sizes (names_of d) sizes) some_state
   unfolding some_state
   some_typed family f there vs k =
-      let v : HasValue (at_sizes (names_of d) sizes) f.value = have f (get-Has d.families family f there) in
+      let v : HasValue (at_sizes (names_of d) sizes) f.value = have f (get_Has d.families family f there) in
       subst (λ o. Has (values_in (at_sizes (names_of d) sizes) f.value) (value_or (values_of_family (at_sizes (names_of d) sizes) o))) (sym there) (value_or-Has (values_in (at_sizes (names_of d) sizes) f.value) v.0 v.1)
 
   none_outside : (before : Option FlatState) (s : FlatState) → meets_base (at_sizes (names_of d) sizes) (bases_outside d (λ family. true)) before s ≡ true

@@ -22,16 +22,20 @@ use Rattle.law_designs.specs.Laws.{AreInOrder}
 use Rattle.law_obligations.specs.Sets.{Has}
 use Rattle.law_obligations.specs.Outlines as outline
 use Rattle.law_obligations.specs.Outlines.{may_be_base}
-use Rattle.law_obligations.proofs.Lookups.{find-some}
+use Rattle.law_obligations.proofs.Lookups.{find-some, Has-filter}
+use Rattle.law_obligations.proofs.Members.{Has-map, Has-flat_map}
+use Rattle.law_obligations.proofs.Same.{nat_eq-is}
 use Rattle.law_designs.specs.Reading.{Reading}
 use Rattle.law_designs.specs.LayerFaults.{is_abstract, assignments_of, outside_layers, leaking, assigned_outside}
 use Rattle.law_designs.specs.FirstFault.{first_fault_of_layers}
+use Rattle.law_designs.proofs.Faultless.{no_fault-in}
 use Rattle.law_sound_texts.specs.TextExtension.{FamiliesAreFound, IsSameLayer, LayersAreSame}
-use Rattle.law_sound_texts.proofs.Lists.{clash, right_of, none_passes, Has-map, Has-filter, Has-flat_map, nat_eq-is}
-use Rattle.law_sound_texts.proofs.Faultless.{nil-left, nil-right, nil-map, no-faults, is_its}
+use Rattle.law_sound_texts.proofs.Lists.{clash, right_of, none_passes}
+use Rattle.law_sound_texts.proofs.Faultless.{is_its}
 use Rattle.law_sound_texts.proofs.Texts.{zip_right}
 use Rattle.law_sound_texts.proofs.FirstFound.{FindAlike, find-zip, find-map, find-same, find-both, find-neither, find-different, earliest-is-first}
 use Rattle.law_sound_texts.proofs.FirstHeads.{IsAt, is_head_of, assigns, first-head, has_assignment}
+use Rattle.law_sound_texts.proofs.NoFaults.{nil-left, nil-right, nil-map}
 
 -- the statements beside those of the text
 pub statements-zip : (text : Text) (k : ℕ) (items : List FlatItem) (said : List Said) → AllZip (IsSameAct text) (layered_acts items) said → AllZip (λ (s : Statement) x. IsSameAct text (s.layer, s.act) x) (statements_from k items) said
@@ -46,7 +50,7 @@ statements-zip text k (item.Using c ∷ items) said h = statements-zip text k it
 -- no abstract signal is assigned outside layers
 no-outside : (d : FlatDesign) → first_fault_of_layers d ≡ None → (def : Def) → Has d.defs def → def.layer ≡ None → (a : Reading) → Has (assignments_of def) a → is_abstract d (slice_get d.families def.family) ≡ false
 no-outside d none def there outside a m =
-    let faults : faults_at (19, leaking d) ++ (faults_at (20, assigned_outside d) ++ []) ≡ [] = no-faults _ none in
+    let faults : faults_at (19, leaking d) ++ (faults_at (20, assigned_outside d) ++ []) ≡ [] = no_fault-in _ none in
     let empty : assigned_outside d ≡ [] = nil-map _ (assigned_outside d) (nil-left (faults_at (20, assigned_outside d)) [] (nil-right (faults_at (19, leaking d)) (faults_at (20, assigned_outside d) ++ []) faults)) in
     subst (λ k. is_abstract d (slice_get d.families k) ≡ false) (is_its def a m)
     (none_passes (λ (a : Reading). is_abstract d (slice_get d.families a.family)) (outside_layers d) (nil-map _ _ empty) a (Has-flat_map assignments_of (Has-filter (λ (def : Def). is_none def.layer) there (ap is_none outside)) m))

@@ -1,5 +1,5 @@
 -- In a text without a fault of names no two set types have one name.
-use Rattle.std.proofs.Common.{◌≡◌, ℕ, List, [], ◌∷◌, ◌++◌, map, Option, Some, None, Bool, true, false, ◌||◌, cond, refl, subst, ◌∙◌}
+use Rattle.std.proofs.Common.{◌≡◌, List, [], ◌∷◌, ◌++◌, map, Option, Some, None, Bool, true, false, ◌||◌, refl, subst, ◌∙◌}
 use Rattle.std.specs.List.{flat_map, list_any}
 use Rattle.std.specs.Str.{bytes_eq}
 use Rattle.std.proofs.lemmas.Slice.Eq.{bytes_eq-Decides}
@@ -12,34 +12,12 @@ use Rattle.smv_core.specs.declared.tree.Top.{Top}
 use Rattle.smv_core.specs.declared.tree.Top.TheVariants.{SetType, Alias, Module}
 use Rattle.smv_instances.specs.Scopes.{Known, Piece, known_after, pieces, pieces_from}
 use Rattle.smv_instances.specs.NameFaults.{place_if, repeated, doubled_in, undeclared_in, name_faults}
-use Rattle.smv_instances.specs.FirstFault.{comes_before, earlier, first_of, faults_at, faults_of_names, fault_of_size, or_else, first_fault}
+use Rattle.smv_instances.specs.FirstFault.{first_of, faults_at, faults_of_names, fault_of_size, or_else, first_fault}
 use Rattle.law_designs.specs.Flattening.{set_of, flatten}
+use Rattle.law_designs.proofs.Faultless.{no_fault-in, unplaced}
 use Rattle.law_obligations.specs.Sets.{Has, first, later}
 use Rattle.law_obligations.specs.Covers.{AreApart}
-
-nil-left : {X : Type 0} (xs ys : List X) → xs ++ ys ≡ [] → xs ≡ []
-nil-left [] ys e = refl
-nil-left (x ∷ xs) ys e = absurd (cc (e))
-
-nil-right : {X : Type 0} (xs ys : List X) → xs ++ ys ≡ [] → ys ≡ []
-nil-right [] ys e = e
-nil-right (x ∷ xs) ys e = absurd (cc (e))
-
-nil-map : {X Y : Type 0} (f : X → Y) (xs : List X) → map f xs ≡ [] → xs ≡ []
-nil-map f [] e = refl
-nil-map f (x ∷ xs) e = absurd (cc (e))
-
-no-faults : (faults : List Fault) → first_of faults ≡ None → faults ≡ []
-no-faults [] e = refl
-no-faults (f ∷ faults) e = absurd (by_rest (first_of faults) e)
-  where
-    by_order : (b : Bool) (g : Fault) → cond b (Some g) (Some f) ≡ None → ⊥
-    by_order true g e = cc (e)
-    by_order false g e = cc (e)
-
-    by_rest : (o : Option Fault) → earlier f o ≡ None → ⊥
-    by_rest None e = cc (e)
-    by_rest (Some g) e = by_order (comes_before g f) g e
+use Rattle.law_sound_texts.proofs.NoFaults.{nil-left, nil-right, nil-map}
 
 none-first : (o p : Option Fault) → or_else o p ≡ None → o ≡ None
 none-first None p e = refl
@@ -52,13 +30,9 @@ words_of ps = map (λ (piece : Piece). piece.word) ps
 none-repeated : (text : Text) → first_fault text ≡ None → repeated [] (words_of (pieces text)) ≡ []
 none-repeated text e =
     let tops : List Piece = pieces text in
-    let none : flat_map faults_at (name_faults tops) ≡ [] = no-faults (faults_of_names text) (none-first (first_of (faults_of_names text)) (fault_of_size text) e) in
+    let none : flat_map faults_at (name_faults tops) ≡ [] = no_fault-in (faults_of_names text) (none-first (first_of (faults_of_names text)) (fault_of_size text) e) in
     let behind_seven = nil-right (faults_at (7, flat_map (undeclared_in tops) tops)) _ none in
     nil-left (repeated [] (words_of tops)) (flat_map (doubled_in tops) tops) (nil-map _ (repeated [] (words_of tops) ++ flat_map (doubled_in tops) tops) (nil-left (faults_at (8, repeated [] (words_of tops) ++ flat_map (doubled_in tops) tops)) _ behind_seven))
-
-not-placed : (b : Bool) (at : ℕ) → place_if b at ≡ [] → b ≡ false
-not-placed true at e = absurd (cc (e))
-not-placed false at e = refl
 
 any-seen : (name : Name) (seen : List Name) → Has seen name → list_any (bytes_eq name) seen ≡ true
 any-seen name [] h = elim h [ ]
@@ -73,7 +47,7 @@ any-seen name (other ∷ seen) (later h) = by_test (bytes_eq name other) (any-se
 unseen : (seen : List Name) (words : List Word) → repeated seen words ≡ [] → (word : Word) → Has words word → (name : Name) → Has seen name → name ≡ word.name → ⊥
 unseen seen [] e word h name k same = elim h [ ]
 unseen seen (word ∷ words) e _ first name k same =
-    let no : list_any (bytes_eq word.name) seen ≡ false = not-placed (list_any (bytes_eq word.name) seen) word.at (nil-left (place_if (list_any (bytes_eq word.name) seen) word.at) (repeated (word.name ∷ seen) words) e) in
+    let no : list_any (bytes_eq word.name) seen ≡ false = unplaced (list_any (bytes_eq word.name) seen) word.at (nil-left (place_if (list_any (bytes_eq word.name) seen) word.at) (repeated (word.name ∷ seen) words) e) in
     let yes : list_any (bytes_eq word.name) seen ≡ true = any-seen word.name seen (subst (Has seen) same k) in
     cc (no, yes)
 unseen seen (other ∷ words) e word (later h) name k same = unseen (other.name ∷ seen) words (nil-right (place_if (list_any (bytes_eq other.name) seen) other.at) (repeated (other.name ∷ seen) words) e) word h name (later k) same

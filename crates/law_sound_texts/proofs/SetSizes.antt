@@ -19,10 +19,11 @@ use Rattle.law_designs.specs.KindFaults.{in_top, in_tops, first_fault_of_kinds, 
 use Rattle.law_designs.specs.Flattening.{set_of, flatten}
 use Rattle.law_designs.proofs.Lookups.{all-head, all-tail}
 use Rattle.law_designs.specs.Definitions.{design_of_raw}
+use Rattle.law_designs.proofs.Faultless.{no_fault-in}
 use Rattle.law_obligations.specs.Sets.{Has, first, later}
 use Rattle.law_obligations.specs.Soundness as flat
 use Rattle.law_obligations.specs.Outlines.{names_of}
-use Rattle.law_sound_texts.proofs.Faultless.{nil-left, nil-right, nil-map, no-faults}
+use Rattle.law_sound_texts.proofs.NoFaults.{nil-left, nil-right, nil-map}
 
 -- the span of a size that has no fault is not reversed
 not-reversed : (span : Span) (at : ℕ) → range_faults span at ≡ [] → span.low ≤ span.high
@@ -50,4 +51,4 @@ module _ (modules : List (Name × kinds_of.Module)) (constants : List (Name × C
       by_top (Module word formals body at) e own info k rest = rest info k
 
 pub same_sizes : (text : Text) (sizes : Sizes) → first_fault_of_kinds text ≡ None → AreSizes text sizes → flat.AreSizes (names_of (design_of_raw (flatten text))) sizes
-same_sizes text sizes none are = sets-sized (modules_from [] text.tops) (constants (pieces text)) sizes [] text.tops (no-faults (faults_of_kinds text) none) are
+same_sizes text sizes none are = sets-sized (modules_from [] text.tops) (constants (pieces text)) sizes [] text.tops (no_fault-in (faults_of_kinds text) none) are

@@ -11,52 +11,18 @@ use Rattle.smv_core.specs.declared.tree.Signed.{Signed, roll-Signed, out-Signed}
 use Rattle.smv_core.specs.declared.tree.Member.{Member, One, Span as SpanOf}
 use Rattle.smv_core.specs.declared.tree.Arm.{Arm, roll-Arm, out-Arm}
 use Rattle.smv_core.specs.declared.tree.TypeExpr.{TypeExpr}
-use Rattle.smv_core.specs.declared.tree.Expr.{Expr, Signal, Signal', Not, And, And', Or, Or', Implies, Implies', Iff, Compare, Within, Sum, Sum', Modulo, Choose, All, Any, List as ListOf, List', Each}
+use Rattle.smv_core.specs.declared.tree.Expr.{Expr, Signal, Not, And, Or, Implies, Iff, Compare, Within, Sum, Modulo, Choose, All, Any, List as ListOf, Each}
 use Rattle.smv_core.specs.declared.tree.Expr.{Row_of-Expr, end_of-Expr, more_of-Expr, Row_of-Part, end_of-Part, more_of-Part, Row_of-Member, end_of-Member, more_of-Member, Row_of-Signed, end_of-Signed, more_of-Signed}
 use Rattle.smv_core.specs.declared.tree.Expr.{items-the_row-Part, items-the_row-Expr, items-the_row-Member, items-the_row-Signed, items_hidden-the_row-Part-0, items_hidden-the_row-Expr-2, items_hidden-the_row-Member-4, items_hidden-the_row-Signed-3}
-use Rattle.smv_core.specs.declared.tree.Stmt.{Stmt, Assign, Block, Block', If, Switch, Switch', Default, For, Forall, Held-Stmt-If-2, None', Row_of-Stmt, end_of-Stmt, more_of-Stmt, Row_of-Arm, end_of-Arm, more_of-Arm}
+use Rattle.smv_core.specs.declared.tree.Stmt.{Stmt, Assign, Block, If, Switch, Default, For, Forall, Row_of-Stmt, end_of-Stmt, more_of-Stmt, Row_of-Arm, end_of-Arm, more_of-Arm}
 use Rattle.smv_core.specs.declared.tree.Stmt.{items-the_row-Stmt, items-the_row-Arm, items_hidden-the_row-Stmt-0, items_hidden-the_row-Arm-2}
 use Rattle.smv_core.specs.declared.tree.Item as item
 use Rattle.smv_core.specs.declared.tree.Item.{Item, Row_of-Item, end_of-Item, more_of-Item, items-the_row-Item, items_hidden-the_row-Item-1}
-use mathlib.Core.Former.{Count}
 use Rattle.smv_instances.proofs.Computing.{computing}
+use Rattle.law_designs.proofs.WrittenForms.{exprs_in, parts_in, members_in, terms_in, stmts_in, arms_in, other_in, items_in}
 use Rattle.law_sound_texts.proofs.Shallow.{most, IsShallow, AreShallow, PartsAreShallow, IndexesAreShallow, TermsAreShallow, MembersAreShallow, StatementIsShallow, StatementsAreShallow, BranchIsShallow, ArmsAreShallow, InnerIsShallow, InnersAreShallow}
 
 -- ---- rows and boxes
-
-abbrev exprs_in : Expr → (n : Count) × Row_of-Expr n
-exprs_in (And' shape row) = (_, row)
-exprs_in (Or' shape row) = (_, row)
-exprs_in (Implies' shape row) = (_, row)
-exprs_in _ = (_, end_of-Expr)
-
-abbrev parts_in : Expr → (n : Count) × Row_of-Part n
-parts_in (Signal' shape row at) = (_, row)
-parts_in _ = (_, end_of-Part)
-
-abbrev members_in : Expr → (n : Count) × Row_of-Member n
-members_in (List' shape row at) = (_, row)
-members_in _ = (_, end_of-Member)
-
-abbrev terms_in : Expr → (n : Count) × Row_of-Signed n
-terms_in (Sum' f first shape row) = (_, row)
-terms_in _ = (_, end_of-Signed)
-
-abbrev stmts_in : Stmt → (n : Count) × Row_of-Stmt n
-stmts_in (Block' shape row) = (_, row)
-stmts_in _ = (_, end_of-Stmt)
-
-abbrev arms_in : Stmt → (n : Count) × Row_of-Arm n
-arms_in (Switch' on shape row other at) = (_, row)
-arms_in _ = (_, end_of-Arm)
-
-abbrev other_in : Stmt → Held-Stmt-If-2
-other_in (Switch' on shape row other at) = other
-other_in _ = None'
-
-abbrev items_in : Item → (n : Count) × Row_of-Item n
-items_in (item.Block' shape row) = (_, row)
-items_in _ = (_, end_of-Item)
 
 module _ (k : ℕ) where
   -- ---- expressions

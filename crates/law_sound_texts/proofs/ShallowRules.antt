@@ -20,32 +20,15 @@ use Rattle.smv_core.specs.declared.tree.Role.TheVariants as role
 use Rattle.smv_core.specs.declared.tree.Text.{Text}
 use Rattle.smv_core.specs.Signs.{comma, ampersand, bar, arrow}
 use Rattle.smv_core.specs.Signs as w
-use Rattle.smv_core.specs.Notation.{Tokens, Rule, found, same_kind, with_place, ◌>>◌, many, optional, token, separated, separated_or_none}
+use Rattle.smv_core.specs.Notation.{Tokens, Rule, found, same_kind, with_place, ◌>>◌, many, optional, token}
 use Rattle.smv_core.specs.Grammar as g
 use Rattle.smv_core.specs.Grammar.{Rules, no_rules, rules, below, chain, sum_of, named}
 use Rattle.smv_core.specs.Spelling.{Spells}
 use Rattle.smv_instances.proofs.Computing.{computing}
+use Rattle.law_designs.proofs.LeadTypes.{some-same}
+use Rattle.law_designs.proofs.WrittenRules.{Gives, many-gives, separated-gives, or_none-gives}
 use Rattle.law_sound_texts.proofs.Shallow.{most, IsShallow, AreShallow, StatementIsShallow, InnerIsShallow, ItemIsShallow, TopIsShallow, TextIsShallow}
 use Rattle.law_sound_texts.proofs.ShallowForms.{PartIsShallow, PathIsShallow, MemberIsShallow, TermIsShallow, shallow-And, shallow-Or, shallow-Implies, shallow-List, shallow-Signal, shallow-Sum, shallow-Not, shallow-Modulo, shallow-Iff, shallow-Compare, shallow-Within, shallow-Choose, shallow-All, shallow-Any, IsShallowOrNone, shallow-Each, shallow-term, ArmIsShallow, OtherIsShallow, shallow-Assign, shallow-Block, shallow-If, shallow-Switch, shallow-Default, shallow-For, shallow-Forall, shallow-arm, shallow_inner-Block, shallow_inner-Forall}
-
-some-same : {A : Type 0} (a b : A) → Some a ≡ Some b → a ≡ b
-some-same a b e = cc
-
--- what a rule spells has this property
-abbrev pub Gives : {A : Type 0} → (A → Type 0) → Rule A → Type 0
-Gives {A} P r = (ts : Tokens) (a : A) (rest : Tokens) → r ts a rest → P a
-
-many-gives : {A : Type 0} (P : A → Type 0) (r : Rule A) → Gives P r → (ts : Tokens) (xs : List A) (rest : Tokens) → many r ts xs rest → AllByRecursion P xs
-many-gives P r h ts [] rest x = tt
-many-gives P r h ts (a ∷ more) rest x = (h ts a x.0 x.1, many-gives P r h x.0 more rest x.2)
-
-separated-gives : {A : Type 0} (P : A → Type 0) (r : Rule A) → Gives P r → Gives (AllByRecursion P) (separated r)
-separated-gives {A} P r h ts xs rest x =
-    subst (AllByRecursion P) x.3.3.0 (h ts x.0 x.1 x.2, many-gives P (token comma >> r) (λ ts a rest y. h y.1 a rest y.3) x.1 x.3.0 x.3.1 x.3.2)
-
-or_none-gives : {A : Type 0} (P : A → Type 0) (r : Rule A) → Gives P r → Gives (AllByRecursion P) (separated_or_none r)
-or_none-gives P r h ts xs rest (inl x) = separated-gives P r h ts xs rest x
-or_none-gives P r h ts xs rest (inr x) = subst (AllByRecursion P) x.0 tt
 
 module _ (around : ℕ) where
   named-path : (word : Word) (parts : List Part) → AllByRecursion (PartIsShallow around) parts → (PathIsShallow around) (named word parts)

@@ -25,10 +25,10 @@ use Rattle.law_obligations.specs.Soundness as flat
 use Rattle.law_obligations.specs.Soundness.{FlatUnit, params_of, values_over, is_held}
 use Rattle.law_obligations.specs.Outlines.{names_of, bases, unit_in, as_map, as_claim}
 use Rattle.law_obligations.specs.Units.{units_of}
+use Rattle.law_obligations.proofs.OneOfEach.{get_Has, Has_get}
 use Rattle.law_sound_texts.specs.TextExtension.{FamiliesAreFound, LayersAreSame}
 use Rattle.law_sound_texts.proofs.Faultless.{IsFaultless}
-use Rattle.law_sound_texts.proofs.Lists.{get-Has}
-use Rattle.law_sound_texts.proofs.Texts.{All-each, Has-get, to_flat, flat_same}
+use Rattle.law_sound_texts.proofs.Texts.{All-each, to_flat, flat_same}
 use Rattle.law_sound_texts.specs.Exact.{LeftSidesAreExact}
 use Rattle.law_sound_texts.specs.Carried.{RunsAreCarriedBack}
 use Rattle.law_sound_texts.proofs.Units.{IsOfDesign, unit-of}
@@ -56,13 +56,13 @@ module _ (text : Text) (sizes : Sizes) (families : AllZip (IsSameFamily (numbers
   AlwaysHeld ts unit = (vs : List Value) → Has (values_over n (params_of n unit)) vs → always (is_held n unit vs) None ts ≡ true
 
   found_at : (h : Family) → Has d.families h → family_at d.families h.path ≡ Some h
-  found_at h m = let k = Has-get m in (found k.0 h k.1).0
+  found_at h m = let k = Has_get m in (found k.0 h k.1).0
 
   by_unit : (run : List State) (ts : List FlatState) → AllZip (AreSameStates d.families) run ts → ((u : ProofUnit) → Has (units d) u → (vs : List Value) → Has (instances d sizes u) vs → AtEachTime (Holds d sizes u vs) None run) →
       (unit : DesignUnit) → IsOfDesign f unit → AlwaysHeld ts (unit_in f unit)
   by_unit run ts states holds (Map k) (def, at, refines) =
       subst (λ o. AlwaysHeld ts (as_map o)) (sym at)
-      (λ vs i. map_always text sizes families found allows faultless layers acts exact run ts states (λ layer h m vs j. holds (tree.map_of layer h) m vs j) def (get-Has f.defs k def at) refines vs i)
+      (λ vs i. map_always text sizes families found allows faultless layers acts exact run ts states (λ layer h m vs j. holds (tree.map_of layer h) m vs j) def (get_Has f.defs k def at) refines vs i)
   by_unit run ts states holds (Claim k) (c, at) =
       subst (λ o. AlwaysHeld ts (as_claim o)) (sym at)
       (λ vs i. claim_always text sizes claims (λ s. (to_flat text sizes families found s, flat_same text sizes families found s)) run ts states (λ c m vs j. holds (tree.claim_of c) (claim-there d found_at c m) vs j) k c at vs i)

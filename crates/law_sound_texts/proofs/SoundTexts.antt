@@ -16,11 +16,12 @@ use Rattle.law_obligations.specs.Soundness as flat
 use Rattle.law_obligations.specs.Outlines.{Entry, Outline, Script, outline_of, names_of, bases, unit_in}
 use Rattle.law_obligations.specs.Checked as script
 use Rattle.law_obligations.specs.Checked.{HoldsAlways}
+use Rattle.law_obligations.proofs.Members.{Has-from_map}
+use Rattle.law_obligations.proofs.OneOfEach.{Has_get}
 use Rattle.smv_core.specs.declared.flat.Design.{Design}
 use Rattle.law_sound_texts.specs.TextExtension.{FamiliesAreFound}
 use Rattle.law_sound_texts.proofs.Faultless.{IsFaultless}
-use Rattle.law_sound_texts.proofs.Lists.{Has-from_map}
-use Rattle.law_sound_texts.proofs.Texts.{Each-All, All-each, Has-get, to_flat, flat_same}
+use Rattle.law_sound_texts.proofs.Texts.{Each-All, All-each, to_flat, flat_same}
 use Rattle.law_sound_texts.specs.Carried.{UnitsHold, outlined}
 use Rattle.law_sound_texts.proofs.TextUnits.{IsOfText, unit-is}
 use Rattle.law_sound_texts.proofs.Claims.{ClaimsAreSame, claim_holds}
@@ -35,7 +36,7 @@ module _ (text : Text) (sizes : Sizes) (families : AllZip (IsSameFamily (numbers
   typed (first_state ∷ run) is s m = All-each (IsTyped (design_of text) sizes) (first_state ∷ run) s is.0 m
 
   unit_holds : (u : ProofUnit) → IsOfText (design_of text) u → (vs : List Value) → Has (instances (design_of text) sizes u) vs → AtEachTime (Holds (design_of text) sizes u vs) None run
-  unit_holds (map_of layer h) there vs i = let k = Has-get there in map_holds text sizes families found allows faultless free frees hold are run ts states (typed run is) is_flat layer h k.0 k.1 vs i
+  unit_holds (map_of layer h) there vs i = let k = Has_get there in map_holds text sizes families found allows faultless free frees hold are run ts states (typed run is) is_flat layer h k.0 k.1 vs i
   unit_holds (claim_of c) there vs i = claim_holds text sizes claims (λ s. (to_flat text sizes families found s, flat_same text sizes families found s)) hold are run ts states is_flat c there vs i
 
   pub units_hold : All (λ unit. All (λ vs. AtEachTime (Holds (design_of text) sizes unit vs) None run) (instances (design_of text) sizes unit)) (units (design_of text))

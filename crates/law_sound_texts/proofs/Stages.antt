@@ -11,10 +11,11 @@ use Rattle.smv_core.specs.declared.flat.Design.{Design}
 use Rattle.law_obligations.specs.Sets.{Has, first, later}
 use Rattle.law_obligations.specs.Soundness.{at_sizes, values_of_family, IsTyped}
 use Rattle.law_obligations.specs.Outlines.{names_of, base_of}
+use Rattle.law_obligations.proofs.Members.{Has-left, Has-right, Has-map, Has-flat_map}
 use Rattle.law_designs.specs.Reading.{Reference, Reading, readings}
 use Rattle.law_designs.specs.Loops.{cells, cells_of, edges_of, undelayed}
 use Rattle.law_sound_texts.specs.Extension.{HasWholeLeftSides}
-use Rattle.law_sound_texts.proofs.Lists.{true_or_false, right_of, Has-left, Has-right, Has-map, Has-flat_map}
+use Rattle.law_sound_texts.proofs.Lists.{true_or_false, right_of}
 use Rattle.law_sound_texts.proofs.Agreeing.{MayBe, AgreeAt}
 use Rattle.law_sound_texts.proofs.Results.{concerns, result_by, all_result, IsReading, reading_is, same_result, AreSome, IsSome, all_some, some_or_every, result_some, result_within, within_allowed}
 use Rattle.law_sound_texts.proofs.Places.{cell_at, has_cell, AreOver, are_over, over_long, may_be, is_over, over-are, are-over, over-Has}

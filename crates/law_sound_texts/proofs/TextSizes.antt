@@ -12,7 +12,7 @@ use Rattle.law_designs.specs.Definitions.{design_of_raw}
 use Rattle.law_obligations.specs.Sets.{Has, first}
 use Rattle.law_obligations.specs.Soundness as flat
 use Rattle.law_obligations.specs.Outlines.{names_of}
-use Rattle.law_sound_texts.proofs.Lists.{Has-flat_map}
+use Rattle.law_obligations.proofs.Members.{Has-flat_map}
 use Rattle.law_sound_texts.proofs.Texts.{Each-All}
 
 module _ (sizes : Sizes) where

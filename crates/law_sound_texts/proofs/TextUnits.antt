@@ -12,9 +12,10 @@ use Rattle.smv_core.specs.Sound.{ProofUnit, map_of, claim_of, same_unit, once, m
 use Rattle.law_designs.specs.WholeText.{claims_met}
 use Rattle.law_designs.proofs.SameWalks.{path-equal}
 use Rattle.law_obligations.specs.Sets.{Has, first, later}
-use Rattle.law_obligations.proofs.Members.{Has-uncons}
-use Rattle.law_obligations.proofs.Lookups.{find-some, Has-option}
-use Rattle.law_sound_texts.proofs.Lists.{inner, left_of, right_of, any-some, Has-filter, Has-flat_map, Has-from_flat_map, Has-from_filter}
+use Rattle.law_obligations.proofs.Members.{Has-uncons, Has-flat_map, any-some}
+use Rattle.law_obligations.proofs.Lookups.{find-some, Has-option, Has-filter, Has-from_filter, inner}
+use Rattle.law_obligations.proofs.OneOfEach.{Has-from_flat_map}
+use Rattle.law_sound_texts.proofs.Lists.{left_of, right_of}
 
 from-once : (us : List ProofUnit) (u : ProofUnit) → Has (once us) u → Has us u
 from-once [] u h = elim h [ ]

@@ -3,6 +3,7 @@ use Rattle.std.proofs.Common.{◌≡◌, ℕ, zero, suc, ◌<◌, List, [], ◌�
 use Rattle.std.specs.List.{flat_map, list_any, list_all, AllZip}
 use Rattle.std.proofs.lemmas.List.Elements.{All-contains}
 use Rattle.std.proofs.lemmas.Slice.Zip.{AllZip-long}
+use Rattle.std.proofs.lemmas.Option.{slice_get_within}
 use Rattle.smv_core.specs.Values.{Value, Sizes, values_of}
 use Rattle.smv_core.specs.Types.{Family}
 use Rattle.smv_core.specs.FlatOrder.{Design, design_of}
@@ -30,10 +31,15 @@ use Rattle.law_obligations.specs.Soundness as flat
 use Rattle.law_obligations.specs.Soundness.{map_of, over_of, params_of, values_of_family, values_over, is_held, meets_base}
 use Rattle.law_obligations.specs.Outlines as outline
 use Rattle.law_obligations.specs.Outlines.{bases, earliest, may_be_base}
+use Rattle.law_obligations.proofs.Members.{Has-from_map, Has-flat_map, all-each, all-holds}
+use Rattle.law_obligations.proofs.OneOfEach.{get_Has, Has_get}
+use Rattle.law_obligations.proofs.Lookups.{Has-filter, Has-from_filter, inner}
+use Rattle.law_obligations.proofs.Same.{Has-is_in}
+use Rattle.law_obligations.proofs.Spots.{Has-numbers}
 use Rattle.law_designs.specs.LayerFaults.{is_abstract}
 use Rattle.law_sound_texts.specs.Extension.{AgreeOutside, is_added, bases_outside, KeepsBehaviours}
 use Rattle.law_sound_texts.specs.TextExtension.{MeetsImplementation, IsBehaviour, AgreeImplemented, FamiliesAreFound, IsSameLayer, LayersAreSame}
-use Rattle.law_sound_texts.proofs.Lists.{inner, left_of, right_of, both_true, Has-from_map, Has-flat_map, Has-filter, Has-from_filter, all-holds, all-each, get-Has, Has-numbers, is_in-Has, Has-is_in, some_or_none}
+use Rattle.law_sound_texts.proofs.Lists.{left_of, right_of, both_true, is_in-Has, some_or_none}
 use Rattle.law_sound_texts.proofs.Faultless.{IsFaultless, IsBase, base_by, base_is}
 
 -- ---- members
@@ -57,15 +63,6 @@ Each-All P xs h = λ k x l. h (get_or xs k x) (get-in xs k x l)
 
 pub All-each : {X : Type 0} (P : X → Type 0) (xs : List X) (x : X) → All P xs → Has xs x → P x
 All-each P xs x h k = All-contains P xs x h (Has-Contains k)
-
-pub Has-get : {X : Type 0} {xs : List X} {x : X} → Has xs x → (k : ℕ) × (slice_get xs k ≡ Some x)
-Has-get first = (0, refl)
-Has-get (later h) = let r = Has-get h in (suc r.0, r.1)
-
-pub get_below : {X : Type 0} (xs : List X) (k : ℕ) (x : X) → slice_get xs k ≡ Some x → k < length xs
-get_below [] k x e = absurd (cc (e))
-get_below (y ∷ xs) zero x e = omega arith
-get_below (y ∷ xs) (suc k) x e = let l = get_below xs k x e in omega (arith, l)
 
 pub zip_right : {X Y : Type 0} (R : X → Y → Type 0) (xs : List X) (ys : List Y) → AllZip R xs ys → (k : ℕ) (y : Y) → slice_get ys k ≡ Some y → (x : X) × (slice_get xs k ≡ Some x) × R x y
 zip_right R [] [] h k y e = absurd (cc (e))
@@ -142,7 +139,7 @@ module _ (text : Text) (sizes : Sizes) (families : AllZip (IsSameFamily (numbers
   flat_typed s typed k g e vs i =
       let r : (h : Family) × (slice_get d.families k ≡ Some h) × IsSameFamily n g h = in_text k g e in
       let all : All (λ vs. Contains (values_of sizes r.0.value) (s r.0.path vs)) (indexes_in sizes r.0) =
-      All-each (λ (h : Family). All (λ vs. Contains (values_of sizes h.value) (s h.path vs)) (indexes_in sizes h)) d.families r.0 typed (get-Has d.families k r.0 r.1) in
+      All-each (λ (h : Family). All (λ vs. Contains (values_of sizes h.value) (s h.path vs)) (indexes_in sizes h)) d.families r.0 typed (get_Has d.families k r.0 r.1) in
       let one : Contains (values_of sizes r.0.value) (s r.0.path vs) =
       All-each (λ vs. Contains (values_of sizes r.0.value) (s r.0.path vs)) (indexes_in sizes r.0) vs all (subst (λ l. Has l vs) (indexes_same g r.0 r.2) i) in
       subst (λ l. Has l (to_flat s k vs)) (sym (values_same g r.0 r.2)) (subst (Has (values_of sizes r.0.value)) (sym (flat_same s k r.0 r.1 vs)) (Contains-Has (values_of sizes r.0.value) (s r.0.path vs) one))
@@ -153,7 +150,7 @@ module _ (text : Text) (sizes : Sizes) (families : AllZip (IsSameFamily (numbers
       subst (Has (values_of sizes h.value)) (text_same t k h e vs) (subst (λ l. Has l (t k vs)) (values_same r.0 h r.2) (typed k r.0 r.1 vs (subst (λ l. Has l vs) (sym (indexes_same r.0 h r.2)) i)))
 
   text_typed : (t : FlatState) → flat.IsTyped n t → IsTyped d sizes (to_text t)
-  text_typed t typed = Each-All _ d.families (λ h m. let k = Has-get m in Each-All _ (indexes_in sizes h) (λ vs i. Has-Contains (typed_at t typed k.0 h k.1 vs i)))
+  text_typed t typed = Each-All _ d.families (λ h m. let k = Has_get m in Each-All _ (indexes_in sizes h) (λ vs i. Has-Contains (typed_at t typed k.0 h k.1 vs i)))
 
   -- ---- demands
 
@@ -201,7 +198,7 @@ module _ (text : Text) (sizes : Sizes) (families : AllZip (IsSameFamily (numbers
             let plain : r.0.is_abstract ≡ false = sym (r.2.3) ∙ (ap (is_abstract f) (sym base.is_there) ∙ out) in
             let over : Has (indexes_in sizes r.0) vs = subst (λ l. Has l vs) (indexes_same base.its_family r.0 r.2) (subst (λ o. Has (values_over n (over_of o)) vs) base.is_there j) in
             let all : All (λ vs. Contains (allowed_by_base d sizes r.0 (record { path = r.0.path; indexes = vs }) before s) (s r.0.path vs)) (indexes_in sizes r.0) =
-            All-each (λ (h : Family). All (λ vs. Contains (allowed_by_base d sizes h (record { path = h.path; indexes = vs }) before s) (s h.path vs)) (indexes_in sizes h)) (filter (λ (h : Family). not h.is_abstract) d.families) r.0 meets (Has-filter (λ (h : Family). not h.is_abstract) (get-Has d.families def.family r.0 r.1) (ap not plain)) in
+            All-each (λ (h : Family). All (λ vs. Contains (allowed_by_base d sizes h (record { path = h.path; indexes = vs }) before s) (s h.path vs)) (indexes_in sizes h)) (filter (λ (h : Family). not h.is_abstract) d.families) r.0 meets (Has-filter (λ (h : Family). not h.is_abstract) (get_Has d.families def.family r.0 r.1) (ap not plain)) in
             let one : Contains (allowed_by_base d sizes r.0 x before s) (s r.0.path vs) =
             All-each (λ vs. Contains (allowed_by_base d sizes r.0 (record { path = r.0.path; indexes = vs }) before s) (s r.0.path vs)) (indexes_in sizes r.0) vs all over in
             let text_has : Has (allowed d sizes None x before s) (s r.0.path vs) = subst (λ l. Has l (s r.0.path vs)) (implemented_at r.0 vs before s plain) (Contains-Has (allowed_by_base d sizes r.0 x before s) (s r.0.path vs) one) in
@@ -267,7 +264,7 @@ module _ (text : Text) (sizes : Sizes) (families : AllZip (IsSameFamily (numbers
             let own : (def.family ≡ k) × IsBase f def = base_by f faultless k def is in
             let r : (g : FlatFamily) × (slice_get raw.families k ≡ Some g) × IsSameFamily n g h = in_raw k h e in
             let there : Has (bases f) def =
-            Has-flat_map (λ family. option_to_list (outline.base_of f family)) (Has-numbers 0 (length raw.families) k (omega arith) (let l = get_below raw.families k r.0 r.1 in omega (arith, l)))
+            Has-flat_map (λ family. option_to_list (outline.base_of f family)) (Has-numbers 0 (length raw.families) k (omega arith) (let l = slice_get_within raw.families k r.0 r.1 in omega (arith, l)))
             (subst (λ o. Has (option_to_list o) def) (sym is) first) in
             let over : Has (values_over n (params_of n (map_of def))) vs =
             subst (λ j. Has (values_over n (over_of (slice_get raw.families j))) vs) (sym own.0) (subst (λ o. Has (values_over n (over_of o)) vs) (sym r.1) (subst (λ l. Has l vs) (sym (indexes_same r.0 h r.2)) i)) in
@@ -304,7 +301,7 @@ module _ (text : Text) (sizes : Sizes) (families : AllZip (IsSameFamily (numbers
 
       meets_text : (before : Option State) (fore : Option FlatState) → AreSameBefore d.families before fore → (t : FlatState) → flat.IsTyped n t → meets_base n (bases f) fore t ≡ true → MeetsBase d sizes before (to_text t)
       meets_text before fore b t typed meets =
-          Each-All _ d.families (λ h m. let k = Has-get m in Each-All _ (indexes_in sizes h) (λ vs i. Has-Contains (by_abstract before fore b t typed meets k.0 h k.1 vs i h.is_abstract refl)))
+          Each-All _ d.families (λ h m. let k = Has_get m in Each-All _ (indexes_in sizes h) (λ vs i. Has-Contains (by_abstract before fore b t typed meets k.0 h k.1 vs i h.is_abstract refl)))
 
       runs_text : (before : Option State) (fore : Option FlatState) → AreSameBefore d.families before fore → (ts : List FlatState) → ((t : FlatState) → Has ts t → flat.IsTyped n t) → always (meets_base n (bases f)) fore ts ≡ true →
           AtEachTime (MeetsBase d sizes) before (map to_text ts)
@@ -320,7 +317,7 @@ module _ (text : Text) (sizes : Sizes) (families : AllZip (IsSameFamily (numbers
       agree_text s t agree =
           Each-All _ (filter (λ (h : Family). not h.is_abstract) d.families) (λ h m.
           let there : Has d.families h × (not h.is_abstract ≡ true) = Has-from_filter (λ (h : Family). not h.is_abstract) d.families m in
-          let k : (k : ℕ) × (slice_get d.families k ≡ Some h) = Has-get there.0 in
+          let k : (k : ℕ) × (slice_get d.families k ≡ Some h) = Has_get there.0 in
           Each-All _ (indexes_in sizes h) (λ vs i. sym (text_same t k.0 h k.1 vs) ∙ (agree k.0 (not_added k.0 h k.1 (plain h.is_abstract there.1)) vs ∙ flat_same s k.0 h k.1 vs)))
         where
           plain : (b : Bool) → not b ≡ true → b ≡ false

@@ -10,7 +10,9 @@ use Rattle.law_designs.specs.Agreement.{AreSameStates}
 use Rattle.law_designs.specs.RawAllowed.{AreSameBefore}
 use Rattle.law_obligations.specs.Sets.{Has, first, later, one_of_each}
 use Rattle.law_obligations.specs.Circular.{Demand, always}
-use Rattle.law_sound_texts.proofs.Lists.{left_of, right_of, both_true, Has-from_map, Has-from_flat_map}
+use Rattle.law_obligations.proofs.Members.{Has-from_map}
+use Rattle.law_obligations.proofs.OneOfEach.{Has-from_flat_map}
+use Rattle.law_sound_texts.proofs.Lists.{left_of, right_of, both_true}
 
 -- a demand that gives another gives it always
 pub always-gives : (D E : Demand FlatState) → ((fore : Option FlatState) (t : FlatState) → D fore t ≡ true → E fore t ≡ true) → (fore : Option FlatState) (ts : List FlatState) → always D fore ts ≡ true → always E fore ts ≡ true

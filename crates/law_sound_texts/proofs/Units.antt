@@ -7,10 +7,10 @@ use Rattle.smv_core.specs.declared.flat.Design.{Design}
 use Rattle.smv_core.specs.declared.flat.Unit.{Unit}
 use Rattle.smv_core.specs.declared.flat.Unit.TheVariants.{Map, Claim}
 use Rattle.law_obligations.specs.Sets.{Has, first, later}
-use Rattle.law_obligations.proofs.Members.{Has-uncons}
-use Rattle.law_obligations.proofs.Lookups.{Has-tested}
+use Rattle.law_obligations.proofs.Members.{Has-uncons, Has-left, Has-right, Has-cases, Has-map, Has-from_map, Has-flat_map}
+use Rattle.law_obligations.proofs.Lookups.{Has-tested, inner}
 use Rattle.law_obligations.specs.Units.{is_refinement, maps, claims, put, in_order, units_of}
-use Rattle.law_sound_texts.proofs.Lists.{inner, Has-left, Has-right, Has-cases, Has-map, Has-from_map, Has-flat_map, Has-from_flat_map}
+use Rattle.law_obligations.proofs.OneOfEach.{Has-from_flat_map}
 
 put-here : (x : ℕ × Unit) (units : List (ℕ × Unit)) → Has (put x units) x
 put-here x [] = first

@@ -20,29 +20,17 @@ use Rattle.law_designs.specs.Definitions.{is_nothing, joined, first_part, flat_o
 use Rattle.law_designs.specs.FlatKinds.{Kind as KindOf, number, takes, assigns, element, Vars, inside, bound_by, are_binders, is_binder, kind_in, value_in, keeps_kinds, all_keep_kinds, is_kinded_item}
 use Rattle.law_obligations.specs.Sets.{Has, first, later}
 use Rattle.law_obligations.specs.Whole.{IsWhole, IsWholeFlat, AreWholeFlats, IsWholeDef}
+use Rattle.law_obligations.proofs.Members.{Has-from_map}
 use Rattle.law_sound_texts.specs.Whole.{ReadsWholeInClaims, ReadsWholeInDefinitions}
 use Rattle.law_designs.proofs.Operands.{both, takes-some}
 use Rattle.law_sound_texts.proofs.WholeExprs.{expr-whole, value-whole, indexes-whole}
 use mathlib.Core.Former.{Count}
+use Rattle.law_sound_texts.proofs.Lists.{Has-kept}
 
 -- what lets a box of a definition's part compute
 unfoldable boxes : Unit {0}
 unfolding Rattle.smv_core.specs.declared.flat.Flat.TheBlock.hidden-the_row-Flat-0 Rattle.smv_core.specs.declared.flat.Flat.TheBlock.shape-the_row-Flat-0 denote.Hole.Carrier.hidden
 boxes = tt
-
-Has-from_filter : {X : Type 0} (p : X → Bool) (xs : List X) {x : X} → Has (filter p xs) x → Has xs x
-Has-from_filter p [] h = elim h [ ]
-Has-from_filter p (y ∷ xs) {x} h = by_test (p y) x h (λ k. Has-from_filter p xs k)
-  where
-    by_test : (b : Bool) (x : _) → Has (cond b (y ∷ filter p xs) (filter p xs)) x → (Has (filter p xs) x → Has xs x) → Has (y ∷ xs) x
-    by_test true _ first rest = first
-    by_test true x (later k) rest = later (rest k)
-    by_test false x k rest = later (rest k)
-
-Has-from_map : {X Y : Type 0} (f : X → Y) (xs : List X) {y : Y} → Has (map f xs) y → (x : X) × Has xs x × (y ≡ f x)
-Has-from_map f [] h = elim h [ ]
-Has-from_map f (x ∷ xs) first = (x, first, refl)
-Has-from_map f (x ∷ xs) (later h) = let r = Has-from_map f xs h in (r.0, later r.1, r.2)
 
 -- ---- parts of a definition
 
@@ -78,7 +66,7 @@ module _ (raw : Raw) where
   whole-joined (p ∷ q ∷ more) h = whole-First (p ∷ q ∷ more) h
 
   whole-first_part : (parts : List Flat) → EachIsWhole parts → IsWholePart (first_part parts)
-  whole-first_part parts h = whole-joined (filter (λ p. not (is_nothing p)) parts) (λ p k. h p (Has-from_filter (λ p. not (is_nothing p)) parts k))
+  whole-first_part parts h = whole-joined (filter (λ p. not (is_nothing p)) parts) (λ p k. h p (Has-kept (λ p. not (is_nothing p)) parts k))
 
   whole-cond : (b : Bool) (p q : Flat) → IsWholePart p → IsWholePart q → IsWholePart (cond b p q)
   whole-cond true p q h k = h
@@ -159,7 +147,7 @@ module _ (raw : Raw) where
   part-whole h kind head =
       whole-first_part (map (λ (s : Statement). flat_of kind head.family s.place s.act) (set_of raw head.layer)) (λ p i.
       let r : (s : Statement) × Has (set_of raw head.layer) s × (p ≡ flat_of kind head.family s.place s.act) = Has-from_map (λ (s : Statement). flat_of kind head.family s.place s.act) (set_of raw head.layer) i in
-      let there : Has (statements_of raw) r.0 = Has-from_filter (λ (s : Statement). is_one_layer head.layer s.layer) (statements_of raw) r.1 in
+      let there : Has (statements_of raw) r.0 = Has-kept (λ (s : Statement). is_one_layer head.layer s.layer) (statements_of raw) r.1 in
       subst IsWholePart (sym r.2) (whole_of kind head.family [] r.0.place r.0.act (statement-kept 0 raw.items h r.0 there)))
 
   pub definitions-whole : list_all (is_kinded_item raw) raw.items ≡ true → ReadsWholeInDefinitions (design_of_raw raw)

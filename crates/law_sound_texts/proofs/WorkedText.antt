@@ -17,7 +17,7 @@ pub takes_the_first : TakesTheFirst
 unfolding computing
 takes_the_first = (refl, refl, refl, refl)
 
-all-one : {X : Type 0} (P : X → Type 0) (x : X) → P x → All P (x ∷ [])
+pub all-one : {X : Type 0} (P : X → Type 0) (x : X) → P x → All P (x ∷ [])
 all-one P x h zero d l = h
 all-one P x h (suc k) d l = absurd (omega (arith, l))
 

@@ -16,9 +16,10 @@ use Rattle.law_obligations.specs.Circular.{always}
 use Rattle.law_obligations.specs.Soundness.{at_sizes, is_held}
 use Rattle.law_obligations.specs.Soundness as flat
 use Rattle.law_obligations.specs.Outlines.{names_of, bases, unit_in}
+use Rattle.law_obligations.proofs.Lookups.{inner}
 use Rattle.law_sound_texts.specs.WorkedText.{two_layers, the_signal, all_of}
-use Rattle.law_sound_texts.proofs.WorkedText.{runs_are_of_the_first}
-use Rattle.law_sound_texts.proofs.Lists.{clash, inner}
+use Rattle.law_sound_texts.proofs.WorkedText.{runs_are_of_the_first, all-one}
+use Rattle.law_sound_texts.proofs.Lists.{clash}
 use Rattle.law_sound_texts.specs.Carried.{UnitsHold}
 use Rattle.law_sound_texts.specs.WorkedTexts.{HasOneMap, HoldsInNeither}
 
@@ -33,10 +34,6 @@ has_one_map = (refl, refl)
 
 one_each : Sizes
 one_each name = 1
-
-pub all-one : {X : Type 0} (P : X → Type 0) (x : X) → P x → All P (x ∷ [])
-all-one P x h zero d l = h
-all-one P x h (suc k) d l = absurd (omega (arith, l))
 
 -- the map says that the signal is 0
 says_zero : (before : _) → Holds (design_of two_layers) one_each (map_of (codes "A") the_signal) [] before (all_of 1) → ⊥

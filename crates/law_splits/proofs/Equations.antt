@@ -11,20 +11,20 @@ use Rattle.law_splits.proofs.RenamedOutcomes.{same}
 use Rattle.law_splits.proofs.Lists.{is_less, is_not_less}
 
 -- a variable bound around a split that its brackets name
-abbrev IsFine : FlatSplit → ℕ → Type 0
+abbrev pub IsFine : FlatSplit → ℕ → Type 0
 IsFine split v = v < length split.bound → (k : ℕ) × (stands_for split v ≡ Some k)
 
-found : (o : Option ℕ) → is_none o ≡ false → (k : ℕ) × (o ≡ Some k)
+pub found : (o : Option ℕ) → is_none o ≡ false → (k : ℕ) × (o ≡ Some k)
 found None e = absurd (cc)
 found (Some k) e = (k, refl)
 
-fine : (split : FlatSplit) (x : Reading) → is_stray split x ≡ false → IsFine split x.var
+pub fine : (split : FlatSplit) (x : Reading) → is_stray split x ≡ false → IsFine split x.var
 fine split x e l = found (stands_for split x.var) (sym (ap (λ b. b && is_none (stands_for split x.var)) (is_less x.var (length split.bound) l)) ∙ e)
 
-number_inner : (split : FlatSplit) (count v : ℕ) → length split.bound ≤ v → number_in split count v ≡ count + (v - length split.bound)
+pub number_inner : (split : FlatSplit) (count v : ℕ) → length split.bound ≤ v → number_in split count v ≡ count + (v - length split.bound)
 number_inner split count v l = rw (is_not_less v (length split.bound) l) refl
 
-number_old : (split : FlatSplit) (count v k : ℕ) → v < length split.bound → stands_for split v ≡ Some k → number_in split count v ≡ k
+pub number_old : (split : FlatSplit) (count v k : ℕ) → v < length split.bound → stands_for split v ≡ Some k → number_in split count v ≡ k
 number_old split count v k l e = rw (is_less v (length split.bound) l) (rw e refl)
 
 pub equations_keep_outcomes : EquationsKeepOutcomes

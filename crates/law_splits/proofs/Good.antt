@@ -27,7 +27,7 @@ use Rattle.law_splits.proofs.Lists.{is_less, one_only, at_most_each, option_long
 use Rattle.law_splits.proofs.OneCut.{IsGood}
 
 -- a place that is not there
-kept : (b : Bool) (at : ℕ) → (Has (place_if (not b) at) at → ⊥) → b ≡ true
+pub kept : (b : Bool) (at : ℕ) → (Has (place_if (not b) at) at → ⊥) → b ≡ true
 kept true at none = refl
 kept false at none = absurd (none first)
 

@@ -16,7 +16,7 @@ use Rattle.law_splits.proofs.Lists.{get_longer}
 use Rattle.law_splits.proofs.RenamedReads.{less_or_same}
 
 -- a place within a list
-get_within : {X : Type 0} (xs : List X) (k : ℕ) → k < length xs → (x : X) × (slice_get xs k ≡ Some x)
+pub get_within : {X : Type 0} (xs : List X) (k : ℕ) → k < length xs → (x : X) × (slice_get xs k ≡ Some x)
 get_within [] k l = absurd (omega (arith, l))
 get_within (x ∷ xs) zero l = (x, refl)
 get_within (x ∷ xs) (suc k) l = get_within xs k (omega (arith, l))

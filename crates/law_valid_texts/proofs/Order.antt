@@ -1,13 +1,14 @@
 -- The passes one behind the other, and the lengths of a plan's lists.
-use Rattle.std.proofs.Common.{◌≡◌, ◌∙◌, ℕ, suc, List, [], ◌∷◌, map, length, Option, Some, None, refl, arith}
+use Rattle.std.proofs.Common.{◌≡◌, ◌∙◌, [], ◌∷◌, length, Option, Some, None, refl}
+use Rattle.std.proofs.lemmas.List.{length-map}
 use Rattle.smv_core.specs.declared.fault.Fault.{Fault}
 use Rattle.smv_core.specs.declared.flat.Design.{Design}
-use Rattle.smv_core.specs.declared.flat.Unit.{Unit}
 use Rattle.smv_instances.specs.FirstFault.{or_else}
 use Rattle.law_obligations.specs.Units.{units_of}
-use Rattle.law_splits.specs.Leaves.{leaves_from, leaves_of}
+use Rattle.law_splits.specs.Leaves.{leaves_of}
 use Rattle.smv_uses.specs.Choices.{choice_of, choices_of}
 use Rattle.law_valid_texts.specs.Faults.{first_there}
+use Rattle.law_valid_texts.proofs.Places.{leaf_each}
 
 -- the first of nine, the last of which comes behind all others
 pub nested : (a b c d e f g h i : Option Fault) →
@@ -27,14 +28,6 @@ pub none-both : (a b : Option Fault) → or_else a b ≡ None → (a ≡ None) �
 none-both None b e = (refl, e)
 none-both (Some x) b e = absurd (cc (e))
 
-length-map : {X Y : Type 0} (f : X → Y) (xs : List X) → length (map f xs) ≡ length xs
-length-map f [] = refl
-length-map f (x ∷ xs) = let e = length-map f xs in omega arith
-
-leaf_each : (d : Design) (u : ℕ) (units : List Unit) → length (leaves_from d u units) ≡ length units
-leaf_each d u [] = refl
-leaf_each d u (unit ∷ units) = let e = leaf_each d (suc u) units in omega arith
-
 -- a choice for each unit
 pub choice_each : (d : Design) → length (choices_of d) ≡ length (units_of d)
-choice_each d = length-map (choice_of d (units_of d)) (leaves_of d) ∙ leaf_each d 0 (units_of d)
+choice_each d = length-map (leaves_of d) (choice_of d (units_of d)) ∙ leaf_each d 0 (units_of d)

@@ -27,12 +27,12 @@ leaves_are_in_place tree plan is u leaf e =
     let place = from_place plan.design 0 (units_of plan.design) u leaf there in
     omega (arith, place)
 
-one_each : (d : Design) (u : ℕ) (units : List Unit) → length (leaves_from d u units) ≡ length units
-one_each d u [] = refl
-one_each d u (unit ∷ units) = ap suc (one_each d (suc u) units)
+pub leaf_each : (d : Design) (u : ℕ) (units : List Unit) → length (leaves_from d u units) ≡ length units
+leaf_each d u [] = refl
+leaf_each d u (unit ∷ units) = ap suc (leaf_each d (suc u) units)
 
 pub each_leaf : (tree : Text) (plan : Plan) → IsPlanOf tree plan → length plan.leaves ≡ length (units_of plan.design)
-each_leaf tree plan is = ap (λ (leaves : List Leaf). length leaves) is.leaves ∙ one_each plan.design 0 (units_of plan.design)
+each_leaf tree plan is = ap (λ (leaves : List Leaf). length leaves) is.leaves ∙ leaf_each plan.design 0 (units_of plan.design)
 
 pub each_choice : (tree : Text) (plan : Plan) → IsPlanOf tree plan → length plan.choices ≡ length (units_of plan.design)
 each_choice tree plan is = is.choices ∙ ap (λ (units : List Unit). length units) is.units

@@ -1,11 +1,9 @@
 -- A plan of a text, its script, and what no first fault says.
-use Rattle.std.proofs.Common.{◌≡◌, ◌∙◌, List, [], ◌∷◌, Option, Some, None, Bool, true, false, ap, refl}
-use Rattle.std.specs.Prelude.{if◌then◌else◌}
+use Rattle.std.proofs.Common.{◌≡◌, ◌∙◌, List, [], ◌∷◌, Option, Some, None, ap, refl}
 use Rattle.smv_core.specs.declared.tree.Text.{Text}
 use Rattle.smv_core.specs.declared.fault.Fault.{Fault}
 use Rattle.smv_core.specs.declared.flat.Design.{Design}
 use Rattle.smv_core.specs.declared.flat.Leaf.{Leaf}
-use Rattle.smv_instances.specs.FirstFault.{comes_before, earlier, first_of}
 use Rattle.law_obligations.specs.Units.{script_of}
 use Rattle.law_splits.specs.Leaves.{leaves_of}
 use Rattle.smv_problem.specs.declared.report.Plan.{Plan}
@@ -13,19 +11,6 @@ use Rattle.law_valid_texts.specs.Joined.{script_with}
 use Rattle.law_valid_texts.specs.Plans.{IsPlanOf}
 use Rattle.law_valid_texts.specs.Faults.{first_there}
 use Rattle.law_valid_texts.specs.Faultless.{script_of_plan}
-
--- no first fault, no fault
-pub none_there : (faults : List Fault) → first_of faults ≡ None → faults ≡ []
-none_there [] e = refl
-none_there (f ∷ faults) e = go (first_of faults) e
-  where
-    pick : (g : Fault) (b : Bool) → (if b then Some g else Some f) ≡ None → f ∷ faults ≡ []
-    pick g true e = let bad : ⊥ = cc in absurd bad
-    pick g false e = let bad : ⊥ = cc in absurd bad
-
-    go : (o : Option Fault) → earlier f o ≡ None → f ∷ faults ≡ []
-    go None e = let bad : ⊥ = cc in absurd bad
-    go (Some g) e = pick g (comes_before g f) e
 
 first_absent : (f : Option Fault) (faults : List (Option Fault)) → first_there (f ∷ faults) ≡ None → (f ≡ None) × (first_there faults ≡ None)
 first_absent None faults e = (refl, e)

@@ -1,7 +1,8 @@
 -- What the rules of kinds say of splits, claims and families, as the laws of leaves ask for it.
-use Rattle.std.proofs.Common.{◌≡◌, ◌≤◌, ◌<◌, ℕ, zero, suc, List, [], ◌∷◌, map, length, slice_get, Option, Some, None, is_some, Bool, true, ◌&&◌, nat_le, nat_lt, nat_eq, subst, refl, arith}
+use Rattle.std.proofs.Common.{◌≡◌, ◌≤◌, ◌<◌, ℕ, zero, suc, List, [], ◌∷◌, length, slice_get, Option, Some, None, is_some, Bool, true, ◌&&◌, nat_le, nat_lt, nat_eq, subst, refl, arith}
 use Rattle.std.specs.Prelude.{IfSome}
 use Rattle.std.specs.List.{list_all}
+use Rattle.std.proofs.lemmas.List.{length-map}
 use Rattle.smv_core.specs.Values.{Name}
 use Rattle.smv_core.specs.declared.flat.Simple.{Simple}
 use Rattle.smv_core.specs.declared.flat.Simple.TheVariants.{Range, Enum, Set}
@@ -29,10 +30,6 @@ get-below : {X : Type 0} (xs : List X) (k : ℕ) → is_some (slice_get xs k) �
 get-below [] k h = absurd (cc (h))
 get-below (x ∷ xs) zero h = omega arith
 get-below (x ∷ xs) (suc k) h = let lt = get-below xs k h in omega arith
-
-length-map : {X Y : Type 0} (f : X → Y) (xs : List X) → length (map f xs) ≡ length xs
-length-map f [] = refl
-length-map f (x ∷ xs) = let e = length-map f xs in omega arith
 
 length-inside : (vars : Vars) (over : Simple) → length (inside vars over) ≡ suc (length vars)
 length-inside [] over = refl
@@ -183,6 +180,6 @@ module _ (raw : Raw) where
     families = λ f i t j. index-type t (each-holds (is_index_type raw) f.over (both (list_all (is_index_type raw) f.over) (is_type raw f.value) (each-holds (is_kinded_family raw) raw.families (rest-kept e).0 f i)).0 t j);
     claims = λ c i p j. binders-index [] c.params (claim-item raw.items (rest-kept e).1 c i) p j;
     bound = λ s i p j. binders-index [] s.bound (split-item raw.items (rest-kept e).1 s i).0 p j;
-    numbered = λ s i pair j. subst (λ (n : ℕ). IsNumbered n pair.left) (length-map (λ (p : Param). kind_of p.over) s.bound)
+    numbered = λ s i pair j. subst (λ (n : ℕ). IsNumbered n pair.left) (length-map s.bound (λ (p : Param). kind_of p.over))
         (expr-numbered (bound_by raw s.bound) pair.left (each-holds (λ (pair : FlatPair). is_some (kind_in raw (bound_by raw s.bound) pair.left)) s.pairs (split-item raw.items (rest-kept e).1 s i).1 pair j));
   }

@@ -1,46 +1,30 @@
 -- Leaves and cases in a text without a fault of cases and of state bits.
-use Rattle.std.proofs.Common.{◌≡◌, ◌≤◌, ℕ, List, [], ◌∷◌, ◌++◌, flat_map, length, Option, Some, None, Bool, true, false, ◌||◌, cond, nat_lt, refl, subst, arith}
+use Rattle.std.proofs.Common.{◌≡◌, ◌≤◌, ℕ, List, [], ◌∷◌, flat_map, length, Option, Some, None, Bool, true, false, ◌||◌, nat_lt, refl, subst, arith}
 use Rattle.std.specs.Prelude.{if◌then◌else◌}
 use Rattle.std.specs.Option.{option_to_list}
 use Rattle.std.specs.List.{slice_get}
 use Rattle.smv_core.specs.declared.tree.Text.{Text}
-use Rattle.smv_core.specs.declared.fault.Fault.{Fault}
 use Rattle.smv_core.specs.declared.flat.Design.{Design}
 use Rattle.smv_core.specs.declared.flat.Leaf.{Leaf}
 use Rattle.smv_core.specs.declared.flat.Choice.{Choice}
 use Rattle.smv_core.specs.declared.flat.Class.{Class}
-use Rattle.smv_instances.specs.FirstFault.{comes_before, earlier, first_of}
+use Rattle.smv_instances.specs.FirstFault.{first_of}
 use Rattle.law_obligations.specs.Sets.{Has, first, later}
 use Rattle.law_obligations.specs.LeafCases.{leaf_cases}
 use Rattle.law_splits.specs.Leaves.{leaves_of}
 use Rattle.smv_uses.specs.Choices.{choices_of}
 use Rattle.smv_problem.specs.declared.report.Plan.{Plan}
+use Rattle.law_designs.proofs.Faultless.{empty-both, no_fault-in}
 use Rattle.law_problems.specs.Parts.{IsCaseOf, cases_fault, width_fault, fault_at_unit}
 use Rattle.law_valid_texts.specs.Plans.{IsPlanOf}
 use Rattle.law_valid_texts.specs.Faults.{parts_of, faults_of_cases, faults_of_widths}
 use Rattle.law_valid_texts.specs.PartLaws.{CasesAreOfLeaves}
 use Rattle.law_valid_texts.proofs.Places.{beside}
 
-none-left : (faults : List Fault) → first_of faults ≡ None → faults ≡ []
-none-left [] e = refl
-none-left (f ∷ faults) e = absurd (by_rest (first_of faults) e)
-  where
-    by_order : (b : Bool) (g : Fault) → cond b (Some g) (Some f) ≡ None → ⊥
-    by_order true g e = cc (e)
-    by_order false g e = cc (e)
-
-    by_rest : (o : Option Fault) → earlier f o ≡ None → ⊥
-    by_rest None e = cc (e)
-    by_rest (Some g) e = by_order (comes_before g f) g e
-
-none-both : {X : Type 0} (xs ys : List X) → xs ++ ys ≡ [] → (xs ≡ []) × (ys ≡ [])
-none-both [] ys e = (refl, e)
-none-both (x ∷ xs) ys e = absurd (cc (e))
-
 none-each : {X Y : Type 0} (f : X → List Y) (xs : List X) → flat_map f xs ≡ [] → {x : X} → Has xs x → f x ≡ []
 none-each f [] e h = elim h [ ]
-none-each f (y ∷ xs) e first = (none-both (f y) (flat_map f xs) e).0
-none-each f (y ∷ xs) e (later h) = none-each f xs (none-both (f y) (flat_map f xs) e).1 h
+none-each f (y ∷ xs) e first = (empty-both (f y) (flat_map f xs) e).0
+none-each f (y ∷ xs) e (later h) = none-each f xs (empty-both (f y) (flat_map f xs) e).1 h
 
 absent : {X : Type 0} (o : Option X) → option_to_list o ≡ [] → o ≡ None
 absent None e = refl
@@ -69,11 +53,11 @@ in_parts tree plan is stated u leaf choice e i =
 
 pub no_cases_fault : (d : Design) → first_of (faults_of_cases d) ≡ None → (leaf : Leaf) (choice : Choice) → Has (parts_of d) (leaf, choice) → cases_fault d leaf choice ≡ None
 no_cases_fault d none leaf choice h =
-    absent (cases_fault d leaf choice) (none-each (λ (leaf, choice). option_to_list (cases_fault d leaf choice)) (parts_of d) (none-left (faults_of_cases d) none) h)
+    absent (cases_fault d leaf choice) (none-each (λ (leaf, choice). option_to_list (cases_fault d leaf choice)) (parts_of d) (no_fault-in (faults_of_cases d) none) h)
 
 pub no_width_fault : (d : Design) → first_of (faults_of_widths d) ≡ None → (leaf : Leaf) (choice : Choice) → Has (parts_of d) (leaf, choice) → (classes : List Class) → IsCaseOf d leaf choice classes →
     width_fault d leaf choice classes ≡ None
 no_width_fault d none leaf choice h classes is =
     let of_leaf : flat_map (λ classes. option_to_list (width_fault d leaf choice classes)) (leaf_cases d.sets leaf.params choice.keeps) ≡ [] =
-    none-each (λ (leaf, choice). flat_map (λ classes. option_to_list (width_fault d leaf choice classes)) (leaf_cases d.sets leaf.params choice.keeps)) (parts_of d) (none-left (faults_of_widths d) none) h in
+    none-each (λ (leaf, choice). flat_map (λ classes. option_to_list (width_fault d leaf choice classes)) (leaf_cases d.sets leaf.params choice.keeps)) (parts_of d) (no_fault-in (faults_of_widths d) none) h in
     absent (width_fault d leaf choice classes) (none-each (λ classes. option_to_list (width_fault d leaf choice classes)) (leaf_cases d.sets leaf.params choice.keeps) of_leaf is.is_case)

@@ -3,6 +3,8 @@ use Rattle.std.proofs.Common.{◌≡◌, ◌≢◌, ℕ, zero, suc, List, [], �
 use Rattle.std.specs.Prelude.{unwrap_or}
 use Rattle.std.specs.List.{flat_map, slice_get}
 use Rattle.std.proofs.lemmas.Slice.Eq.{bytes_eq-Decides}
+use Rattle.std.proofs.lemmas.List.{length-map}
+use Rattle.std.proofs.lemmas.Option.{slice_get-map}
 use Rattle.smv_core.specs.Values.{Name}
 use Rattle.smv_core.specs.declared.flat.SetInfo.{SetInfo}
 use Rattle.smv_core.specs.declared.abstract_type.Rest.{Rest}
@@ -27,15 +29,6 @@ get_map : {X Y : Type 0} (f : X → Y) (d : X) (e : Y) → e ≡ f d → (xs : L
 get_map f d e same [] k = same
 get_map f d e same (x ∷ xs) zero = refl
 get_map f d e same (x ∷ xs) (suc k) = get_map f d e same xs k
-
-slice_map : {X Y : Type 0} (f : X → Y) (xs : List X) (k : ℕ) → slice_get (map f xs) k ≡ option_map f (slice_get xs k)
-slice_map f [] k = refl
-slice_map f (x ∷ xs) zero = refl
-slice_map f (x ∷ xs) (suc k) = slice_map f xs k
-
-length_map : {X Y : Type 0} (f : X → Y) (xs : List X) → length (map f xs) ≡ length xs
-length_map f [] = refl
-length_map f (x ∷ xs) = ap (λ n. suc n) (length_map f xs)
 
 -- ---- numbers of names
 
@@ -138,7 +131,7 @@ module _ (c : Case) (well : IsWellFormed c) where
       at false e = no_gaps (w.rests info.name) (well.ungapped info h e)
 
   ordered_of : (set : ℕ) → is_ordset (slice_get w.classes.sets set) ≡ has_gaps (slice_get (map (written_type w) w.classes.sets) set)
-  ordered_of set = at (slice_get w.classes.sets set) refl ∙ sym (ap has_gaps (slice_map (written_type w) w.classes.sets set))
+  ordered_of set = at (slice_get w.classes.sets set) refl ∙ sym (ap has_gaps (slice_get-map (written_type w) w.classes.sets set))
     where
       at : (o : Option SetInfo) → slice_get w.classes.sets set ≡ o → is_ordset o ≡ has_gaps (option_map (written_type w) o)
       at None e = refl
@@ -149,7 +142,7 @@ module _ (c : Case) (well : IsWellFormed c) where
   world_of_case = record {
     families = refl;
     lists = λ list. sym (get_map length [] 0 refl w.classes.enums list);
-    names = λ list. ap (λ (ns : List ℕ). length ns) (get_map (map (name_number w.classes.enums)) [] [] refl w.classes.enums list) ∙ (length_map (name_number w.classes.enums) (get_or w.classes.enums list []) ∙ sym (get_map length [] 0 refl w.classes.enums list));
+    names = λ list. ap (λ (ns : List ℕ). length ns) (get_map (map (name_number w.classes.enums)) [] [] refl w.classes.enums list) ∙ (length-map (get_or w.classes.enums list []) (name_number w.classes.enums) ∙ sym (get_map length [] 0 refl w.classes.enums list));
     forms = types_written w w.classes.sets;
     ordered = ordered_of;
     sets = λ s t.

@@ -3,9 +3,14 @@ use Rattle.smv_core.specs.declared.tree.Text.{Text}
 use Rattle.law_obligations.specs.Outlines.{Entry}
 use Rattle.law_reports.specs.Verdicts.{LeafVerdict}
 use Rattle.law_reports.specs.Reports.{IsReportOf, IsToldOf, told, told_of}
+use Rattle.law_reports.proofs.Told.{is_told}
 use Rattle.law_valid_texts.specs.Reports.{IsReportOfUnit, script_of_tree, unit_named}
-use Rattle.law_valid_texts.proofs.Told.{is_told, same_pair}
 use Rattle.law_valid_texts.proofs.valid_texts.reports_agree.Goals as goal
+
+same_pair : (p q : ℕ × Entry) → Some p ≡ Some q → (p.0 ≡ q.0) × (p.1 ≡ q.1)
+same_pair p q e =
+    let same : p ≡ q = cc in
+    (ap (λ (r : ℕ × Entry). r.0) same, ap (λ (r : ℕ × Entry). r.1) same)
 
 pub returns-clause-texts : goal.returns-clause-texts
 returns-clause-texts c text nodes steps report other right other_right =

@@ -5,11 +5,12 @@ use Rattle.law_designs.specs.Flattening.{flatten}
 use Rattle.law_designs.specs.SingleFaults.{first_fault_of_single}
 use Rattle.law_designs.specs.FirstFault.{first_fault_of_design}
 use Rattle.law_designs.specs.SetFaults.{first_fault_of_sets}
+use Rattle.law_designs.proofs.Faultless.{no_fault-in}
 use Rattle.law_splits.specs.SplitFaults.{faults_of_splits, first_fault_of_splits}
 use Rattle.smv_uses.specs.UseFaults.{first_fault_of_uses}
 use Rattle.law_valid_texts.specs.Joined.{flat_design}
 use Rattle.law_valid_texts.specs.Faults.{faults_of_cases, faults_of_widths, pass_fault}
-use Rattle.law_valid_texts.proofs.Told.{all_absent, none_there}
+use Rattle.law_valid_texts.proofs.Plans.{all_absent}
 use Rattle.law_valid_texts.proofs.valid_texts.valid_texts_pass.Goals as goal
 
 pub returns : goal.returns
@@ -23,5 +24,5 @@ returns c text tree valid =
       kinds = (64, valid.is_tree.tokens, valid.is_tree.spelled, absent.0, absent.1);
       single = absent.2;
       design = absent.3;
-      splits = none_there (faults_of_splits d) absent.5;
+      splits = no_fault-in (faults_of_splits d) absent.5;
     }
