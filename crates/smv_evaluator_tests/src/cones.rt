@@ -1,40 +1,70 @@
 //! The elements of cases, and how many bits they have.
 
-use smv_core::Refusal;
+ghost use Rattle.smv_problem.specs.WellFormed.{IsProblem};
+
+use crate::questions::{Question, hold};
 use smv_core::flat::Design;
 use smv_posed::elements::tell_element;
-use smv_posed::problems::{plan_of, problem_at};
 use smv_posed::texts::{ALONE, LASTING, MUTEX, PARTED, REDUCED, RESTS, SPLIT, TOTAL};
 use smv_problem::Problem;
-use smv_readings::state_bits;
+use smv_readings::{family_bits, state_bits};
 use std::alloc::{AllocError, Global};
 use std::test::Fail;
 
-// The elements of a problem.
-fn told(alloc: Global, design: &Design, problem: &Problem) -> Result<Vec<u8>, AllocError> {
+// The digit of the bits of a family's element, of which no element has ten.
+fn bits_digit(problem: &Problem, family: u16) -> u8 {
+    let bits = family_bits(
+        problem.families.as_slice(),
+        problem.lists.as_slice(),
+        problem.types.as_slice(),
+        family,
+    );
+    b'0' + (bits % 10) as u8
+}
+
+// The elements of a problem, if wanted with their bits.
+fn told(
+    alloc: Global,
+    design: &Design,
+    problem: &Problem,
+    has_bits: bool,
+) -> Result<Vec<u8>, AllocError> {
     let mut line = Vec::new(alloc);
     for x in problem.elements.as_slice() {
         if !line.is_empty() {
             line.push(b' ')?;
         }
         tell_element(&mut line, design, x)?;
+        if has_bits {
+            line.extend_from_slice(&[b':', bits_digit(problem, x.family)])?;
+        }
     }
     Ok(line)
 }
 
-// The elements of a case and how many bits they have, or none where there is no such case.
-fn cone(
+// Whether a line has these words without their marks.
+fn is_unmarked(line: &[u8], words: &str) -> bool {
+    let mut rest = line.iter();
+    for byte in words.as_bytes() {
+        if *byte != b'\'' && rest.next() != Some(byte) {
+            return false;
+        }
+    }
+    rest.next().is_none()
+}
+
+/// Whether a problem has these elements, in their words with their bits or without, and so many bits.
+pub fn is_cone(
     alloc: Global,
-    text: &str,
-    unit: usize,
-    case: usize,
-) -> Result<Option<(Vec<u8>, u16)>, Refusal> {
-    let plan = plan_of(alloc, text)?;
-    let Some(problem) = problem_at(alloc, &plan, unit, case)? else {
-        return Ok(None);
-    };
-    let line = told(alloc, &plan.design, &problem)?;
-    Ok(Some((line, state_bits(&problem))))
+    design: &Design,
+    problem: &Problem,
+    elements: &str,
+    bits: u16,
+) -> Result<bool, AllocError>
+    requires { IsProblem problem.now }
+{
+    let line = told(alloc, design, problem, elements.contains(':'))?;
+    Ok(is_unmarked(line.as_slice(), elements) && state_bits(problem) == bits)
 }
 
 const AT_REST: &str =
@@ -92,16 +122,20 @@ const CONES: &[(&str, usize, usize, &str, u16)] = &[
     (THREE, 0, 4, "a", 2),
 ];
 
+// Fails with the first text of which a case has other elements.
+fn all_have_cones(alloc: Global) -> Result<(), Fail> {
+    for (text, unit, case, elements, bits) in CONES {
+        let question = Question::Cone {
+            elements,
+            bits: *bits,
+        };
+        hold(alloc, text, *unit, *case, question)?;
+    }
+    Ok(())
+}
+
 // By the rules of cones and codes: what stands above each row.
 #[test]
 fn cones_are_what_the_rules_say(rt: HostRuntime) -> Result<(), Fail> {
-    for (text, unit, case, elements, bits) in CONES {
-        let Some((line, count)) = cone(rt.alloc(), text, *unit, *case)? else {
-            assert!(rt; false, "{text} has no case {case}");
-            return Ok(());
-        };
-        assert_eq!(rt; line.as_slice(), elements.as_bytes(), "{text} case {case}");
-        assert_eq!(rt; count, *bits, "{text} case {case}");
-    }
-    Ok(())
+    all_have_cones(rt.alloc())
 }

@@ -1,135 +1,171 @@
-//! What is met, broken and certain in one state or two.
+//! What is met, broken and certain in one state or two, and what the body of a claim may be there.
 
 ghost use Rattle.smv_problem.specs.WellFormed.{IsProblem};
 
-use crate::states::{States, keys, keys_of, states_of};
-use smv_core::Refusal;
-use smv_eval::{broken, is_state, met, must};
-use smv_posed::problems::posed;
+use crate::questions::{Question, hold};
+use crate::states::{are_values, state_of};
+use smv_eval::{broken, is_state, may, met, must};
 use smv_posed::texts::{
     ALL, ALONE, AT_ONCE, CLAIMS, COPIED, EACH, GROWS, GUARDED, INDEX, LASTING, MARKED, MUTEX, OPEN,
     OUTSIDE, PARTED, PLACED, REDUCED, RESTS, RISING, SOMETIMES, SPLIT, STAYS, STEPPED, TOTAL,
     UNKNOWN,
 };
-use smv_problem::{Demand, Problem};
+use smv_problem::{AbsState, Demand, Problem};
 use std::alloc::{AllocError, Global};
 use std::test::Fail;
 
+/// Which demands of a problem are asked about: those that hold at each time, or those that hold up to the time before the last.
+#[derive(Clone, Copy)]
+pub enum When {
+    Now,
+    Before,
+}
+
+/// What is asked of a state, and the answer.
+#[derive(Clone, Copy)]
+pub enum Asked {
+    /// The values that the body of the target, a claim, may have.
+    MayBe { values: &'static str },
+    /// Whether the demand at a place is met.
+    IsMet { when: When, place: usize, met: bool },
+    /// Whether the target is broken.
+    IsBroken { broken: bool },
+    /// The values that the target, a map, is certain to allow.
+    IsCertain { values: &'static str },
+}
+
 // Whether these are states of a problem.
-fn are_states(problem: &Problem, states: &States) -> bool {
-    is_state(problem, &states.new)
-        && match &states.old {
+fn are_states(problem: &Problem, old: Option<&AbsState>, new: &AbsState) -> bool {
+    is_state(problem, new)
+        && match old {
             Some(old) => is_state(problem, old),
             None => true,
         }
 }
 
-// Which demands of a problem are asked about: those that hold at each time, or those that hold up to the time before the last.
-#[derive(Clone, Copy)]
-enum When {
-    Now,
-    Before,
-}
-
 // The demand at a place.
-fn demand_at<'a>(problem: &'a Problem, when: When, place: usize) -> Option<&'a Demand> {
+fn demand_at(problem: &Problem, when: When, place: usize) -> Option<&Demand> {
     match when {
         When::Now => problem.now.as_slice().get(place),
         When::Before => problem.before.as_slice().get(place),
     }
 }
 
-// Whether the demand at a place is met, or none where there is no such demand or state.
-fn met_in(
+// Whether these are the values that the body of a claim may have in a state.
+fn may_be(
     alloc: Global,
     problem: &Problem,
-    when: When,
-    place: usize,
-    states: &States,
-) -> Result<Option<bool>, AllocError>
+    new: &AbsState,
+    values: &str,
+) -> Result<bool, AllocError>
     requires { IsProblem problem.now }
 {
-    if !are_states(problem, states) {
-        return Ok(None);
-    }
-    let Some(demand) = demand_at(problem, when, place) else {
-        return Ok(None);
+    let Demand::Holds { body, bindings } = &problem.target else {
+        return Ok(false);
     };
-    let met = met(alloc, problem, demand, states.old.as_ref(), &states.new)?;
-    Ok(Some(met))
+    let found = may(alloc, problem, body, bindings.as_slice(), new)?;
+    Ok(are_values(found.as_slice(), values))
 }
 
-// The same of the first case of a text's unit, or none where there is no such case.
+// Whether the demand at a place is there, and is met or not.
 fn is_met(
     alloc: Global,
-    text: &str,
-    unit: usize,
-    when: When,
-    place: usize,
-    states: &States,
-) -> Result<Option<bool>, Refusal> {
-    let Some(problem) = posed(alloc, text, unit, 0)? else {
-        return Ok(None);
-    };
-    let met = met_in(alloc, &problem, when, place, states)?;
-    Ok(met)
-}
-
-// Whether the target is broken, or none where there is no such state.
-fn broken_in(alloc: Global, problem: &Problem, states: &States) -> Result<Option<bool>, AllocError>
+    problem: &Problem,
+    demand: Option<&Demand>,
+    old: Option<&AbsState>,
+    new: &AbsState,
+    want: bool,
+) -> Result<bool, AllocError>
     requires { IsProblem problem.now }
 {
-    if !are_states(problem, states) {
-        return Ok(None);
-    }
-    let broken = broken(alloc, problem, states.old.as_ref(), &states.new)?;
-    Ok(Some(broken))
+    let Some(demand) = demand else {
+        return Ok(false);
+    };
+    let met = met(alloc, problem, demand, old, new)?;
+    Ok(met == want)
 }
 
-// The same of a case of a text, or none where there is no such case.
+// Whether the target is broken or not.
 fn is_broken(
     alloc: Global,
-    text: &str,
-    unit: usize,
-    case: usize,
-    states: &States,
-) -> Result<Option<bool>, Refusal> {
-    let Some(problem) = posed(alloc, text, unit, case)? else {
-        return Ok(None);
-    };
-    let broken = broken_in(alloc, &problem, states)?;
-    Ok(broken)
-}
-
-// The values that the target is certain to be allowed, or none where there is no such state.
-fn must_in(
-    alloc: Global,
     problem: &Problem,
-    states: &States,
-) -> Result<Option<Vec<u32>>, AllocError>
+    old: Option<&AbsState>,
+    new: &AbsState,
+    want: bool,
+) -> Result<bool, AllocError>
     requires { IsProblem problem.now }
 {
-    if !are_states(problem, states) {
-        return Ok(None);
-    }
-    let values = must(
-        alloc,
-        problem,
-        &problem.target,
-        states.old.as_ref(),
-        &states.new,
-    )?;
-    let keys = keys(alloc, values.as_slice())?;
-    Ok(Some(keys))
+    let broken = broken(alloc, problem, old, new)?;
+    Ok(broken == want)
 }
 
-// The same of the first case of a text's first unit, or none where there is no such case.
-fn must_be(alloc: Global, text: &str, states: &States) -> Result<Option<Vec<u32>>, Refusal> {
-    let Some(problem) = posed(alloc, text, 0, 0)? else {
-        return Ok(None);
-    };
-    let values = must_in(alloc, &problem, states)?;
-    Ok(values)
+// Whether these are the values that the target is certain to allow.
+fn is_certain(
+    alloc: Global,
+    problem: &Problem,
+    old: Option<&AbsState>,
+    new: &AbsState,
+    values: &str,
+) -> Result<bool, AllocError>
+    requires { IsProblem problem.now }
+{
+    let found = must(alloc, problem, &problem.target, old, new)?;
+    Ok(are_values(found.as_slice(), values))
+}
+
+// Whether these are states of a problem, and the answer to a question about them is right.
+fn is_answered_in(
+    alloc: Global,
+    problem: &Problem,
+    old: Option<&AbsState>,
+    new: &AbsState,
+    asked: Asked,
+) -> Result<bool, AllocError>
+    requires { IsProblem problem.now }
+{
+    if !are_states(problem, old, new) {
+        return Ok(false);
+    }
+    match asked {
+        Asked::MayBe { values } => may_be(alloc, problem, new, values),
+        Asked::IsMet { when, place, met } => {
+            let demand = demand_at(problem, when, place);
+            is_met(alloc, problem, demand, old, new, met)
+        }
+        Asked::IsBroken { broken } => is_broken(alloc, problem, old, new, broken),
+        Asked::IsCertain { values } => is_certain(alloc, problem, old, new, values),
+    }
+}
+
+// The same behind the state with the values of these words.
+fn is_answered_behind(
+    alloc: Global,
+    problem: &Problem,
+    old: &str,
+    new: &AbsState,
+    asked: Asked,
+) -> Result<bool, AllocError>
+    requires { IsProblem problem.now }
+{
+    let old = state_of(alloc, old)?;
+    is_answered_in(alloc, problem, Some(&old), new, asked)
+}
+
+/// The same of the states with the values of these words.
+pub fn is_answered(
+    alloc: Global,
+    problem: &Problem,
+    old: Option<&str>,
+    new: &str,
+    asked: Asked,
+) -> Result<bool, AllocError>
+    requires { IsProblem problem.now }
+{
+    let new = state_of(alloc, new)?;
+    match old {
+        Some(old) => is_answered_behind(alloc, problem, old, &new, asked),
+        None => is_answered_in(alloc, problem, None, &new, asked),
+    }
 }
 
 // The text, the unit, which demand of its first case, the states before and now, and whether it is met.
@@ -204,19 +240,28 @@ const MET: &[(&str, usize, When, usize, Option<&str>, &str, bool)] = &[
     (LASTING, 0, When::Now, 0, Some("0"), "1", false),
 ];
 
+// Fails with the first text of which a demand is otherwise.
+fn all_are_met_so(alloc: Global) -> Result<(), Fail> {
+    for (text, unit, when, place, old, new, met) in MET {
+        let asked = Asked::IsMet {
+            when: *when,
+            place: *place,
+            met: *met,
+        };
+        let question = Question::InState {
+            old: *old,
+            new,
+            asked,
+        };
+        hold(alloc, text, *unit, 0, question)?;
+    }
+    Ok(())
+}
+
 // By the rules of definitions: at time 0, after a state, and where nothing is given.
 #[test]
 fn demands_are_met_where_their_rules_say(rt: HostRuntime) -> Result<(), Fail> {
-    for (text, unit, when, place, old, new, want) in MET {
-        let states = states_of(rt.alloc(), *old, new)?;
-        let got = is_met(rt.alloc(), text, *unit, *when, *place, &states)?;
-        assert_eq!(rt;
-            got,
-            Some(*want),
-            "{text} unit {unit} demand {place} in {new}"
-        );
-    }
-    Ok(())
+    all_are_met_so(rt.alloc())
 }
 
 // The text, the unit, the case, the states before and now, and whether the target is broken.
@@ -286,15 +331,23 @@ const BROKEN: &[(&str, usize, usize, Option<&str>, &str, bool)] = &[
     (REDUCED, 0, 1, None, "", true),
 ];
 
+// Fails with the first text whose target is otherwise.
+fn all_are_broken_so(alloc: Global) -> Result<(), Fail> {
+    for (text, unit, case, old, new, broken) in BROKEN {
+        let question = Question::InState {
+            old: *old,
+            new,
+            asked: Asked::IsBroken { broken: *broken },
+        };
+        hold(alloc, text, *unit, *case, question)?;
+    }
+    Ok(())
+}
+
 // By the rules of claims, maps and guards.
 #[test]
 fn targets_are_broken_where_their_rules_say(rt: HostRuntime) -> Result<(), Fail> {
-    for (text, unit, case, old, new, want) in BROKEN {
-        let states = states_of(rt.alloc(), *old, new)?;
-        let got = is_broken(rt.alloc(), text, *unit, *case, &states)?;
-        assert_eq!(rt; got, Some(*want), "{text} case {case} in {new}");
-    }
-    Ok(())
+    all_are_broken_so(rt.alloc())
 }
 
 const MEMBERS: &str = "module main() { x : 0..2; layer L : { x := {0, 2}; } }";
@@ -339,14 +392,21 @@ const MUST: &[(&str, Option<&str>, &str, &str)] = &[
     (KEPT, Some("*0 1"), "*0 0", ""),
 ];
 
+// Fails with the first text whose map is certain to allow other values.
+fn all_are_certain_so(alloc: Global) -> Result<(), Fail> {
+    for (text, old, new, values) in MUST {
+        let question = Question::InState {
+            old: *old,
+            new,
+            asked: Asked::IsCertain { values },
+        };
+        hold(alloc, text, 0, 0, question)?;
+    }
+    Ok(())
+}
+
 // By the rules of what is certain.
 #[test]
 fn values_are_certain_where_their_rules_say(rt: HostRuntime) -> Result<(), Fail> {
-    for (text, old, new, values) in MUST {
-        let states = states_of(rt.alloc(), *old, new)?;
-        let got = must_be(rt.alloc(), text, &states)?;
-        let want = keys_of(rt.alloc(), values)?;
-        assert_eq!(rt; got, Some(want), "{text} in {new}");
-    }
-    Ok(())
+    all_are_certain_so(rt.alloc())
 }

@@ -1,49 +1,10 @@
 //! What expressions may be in a state.
 
-ghost use Rattle.smv_problem.specs.WellFormed.{IsProblem};
-
-use crate::states::{keys, keys_of, state_of};
-use smv_core::Refusal;
-use smv_eval::{is_state, may};
-use smv_posed::problems::posed;
+use crate::demands::Asked;
+use crate::questions::{Question, hold};
 use smv_posed::texts::{ALL, INDEX, ORDER};
-use smv_problem::{AbsState, Demand, Problem};
-use std::alloc::{AllocError, Global};
+use std::alloc::Global;
 use std::test::Fail;
-
-// What the body of a claim may be in a state, or none where it is no such state.
-fn may_in(
-    alloc: Global,
-    problem: &Problem,
-    state: &AbsState,
-) -> Result<Option<Vec<u32>>, AllocError>
-    requires { IsProblem problem.now }
-{
-    if !is_state(problem, state) {
-        return Ok(None);
-    }
-    let Demand::Holds { body, bindings } = &problem.target else {
-        return Ok(None);
-    };
-    let values = may(alloc, problem, body, bindings.as_slice(), state)?;
-    let keys = keys(alloc, values.as_slice())?;
-    Ok(Some(keys))
-}
-
-// The same of a case of a text's first claim, or none where there is no such case.
-fn may_be(
-    alloc: Global,
-    text: &str,
-    case: usize,
-    state: &str,
-) -> Result<Option<Vec<u32>>, Refusal> {
-    let state = state_of(alloc, state)?;
-    let Some(problem) = posed(alloc, text, 0, case)? else {
-        return Ok(None);
-    };
-    let values = may_in(alloc, &problem, &state)?;
-    Ok(values)
-}
 
 const SUM: &str = "module main() { x : 0..255; p : assert G (x + x + 2 = 0); }";
 
@@ -114,13 +75,21 @@ const ROWS: &[(&str, usize, &str, &str)] = &[
     (ALL, 0, "", "0 1"),
 ];
 
+// Fails with the first text whose claim may have other values.
+fn all_may_be_so(alloc: Global) -> Result<(), Fail> {
+    for (text, case, state, values) in ROWS {
+        let question = Question::InState {
+            old: None,
+            new: state,
+            asked: Asked::MayBe { values },
+        };
+        hold(alloc, text, 0, *case, question)?;
+    }
+    Ok(())
+}
+
 // The answers follow from the rules by which outcomes are formed, each row by that which stands above it.
 #[test]
 fn expressions_may_be_what_their_rules_say(rt: HostRuntime) -> Result<(), Fail> {
-    for (text, case, state, values) in ROWS {
-        let got = may_be(rt.alloc(), text, *case, state)?;
-        let want = keys_of(rt.alloc(), values)?;
-        assert_eq!(rt; got, Some(want), "{text} in {state}");
-    }
-    Ok(())
+    all_may_be_so(rt.alloc())
 }

@@ -14,7 +14,6 @@ use smv_posed::bits::{Bits, value_at};
 use smv_posed::functions::Functions;
 use smv_problem::{Demand, Problem};
 use smv_readings::{family_bits, read_state, state_bits, values};
-use smv_rings::Rel;
 use std::alloc::{AllocError, Global};
 
 /// How many functions were met and how many were not, and how many of them the evaluator finds otherwise.
@@ -72,30 +71,35 @@ pub const NO_TALLY: Tally = Tally {
     step: NO_TIME,
 };
 
-// Whether the code of each element is that of a value.
-fn codes_are_values(
-    alloc: Global,
-    problem: &Problem,
-    bits: &[bool],
-) -> Result<Vec<bool>, AllocError> {
-    let families = problem.families.as_slice();
-    let lists = problem.lists.as_slice();
-    let types = problem.types.as_slice();
-    let mut are = Vec::new(alloc);
-    let mut bits = bits.iter();
-    for x in problem.elements.as_slice() {
-        let mut code: u32 = 0;
-        for _ in 0..family_bits(families, lists, types, x.family) {
-            let bit = bits.next() == Some(&true);
-            code = code.wrapping_mul(2).wrapping_add(u32::from(bit));
-        }
-        let count = match families.get(x.family as usize) {
-            Some(family) => values(lists, types, family.value),
-            None => 0,
-        };
-        are.push(code < count)?;
+// The bits of an element of a family.
+fn bits_of(problem: &Problem, family: u16) -> usize {
+    family_bits(
+        problem.families.as_slice(),
+        problem.lists.as_slice(),
+        problem.types.as_slice(),
+        family,
+    ) as usize
+}
+
+// How many values a family has.
+fn values_of(problem: &Problem, family: u16) -> u32 {
+    match problem.families.as_slice().get(family as usize) {
+        Some(family) => values(
+            problem.lists.as_slice(),
+            problem.types.as_slice(),
+            family.value,
+        ),
+        None => 0,
     }
-    Ok(are)
+}
+
+// The number that bits spell.
+fn code_of(bits: &[bool]) -> u32 {
+    let mut code: u32 = 0;
+    for bit in bits {
+        code = code.wrapping_mul(2).wrapping_add(u32::from(*bit));
+    }
+    code
 }
 
 // Whether a demand is the definition of an element.
@@ -128,12 +132,16 @@ fn elements_held(
     problem: &Problem,
     old: Option<&[Cell<bool>]>,
     new: &[Cell<bool>],
-    are_values: &[bool],
+    bits: &[bool],
 ) -> Result<Vec<bool>, AllocError> {
     let mut held = Vec::new(alloc);
-    for (x, is_value) in problem.elements.as_slice().iter().zip(are_values) {
+    let mut rest = bits;
+    for x in problem.elements.as_slice() {
+        let (own, others) = rest.split_at(bits_of(problem, x.family).min(rest.len()));
+        let is_value = code_of(own) < values_of(problem, x.family);
+        rest = others;
         let met = is_met_now(alloc, problem, old, new, x)?;
-        held.push(*is_value && met)?;
+        held.push(is_value && met)?;
     }
     Ok(held)
 }
@@ -169,28 +177,14 @@ fn held_in(
     new: &[Cell<bool>],
     bits: &[bool],
 ) -> Result<Held, AllocError> {
-    let are_values = codes_are_values(alloc, problem, bits)?;
-    let now = elements_held(alloc, problem, old, new, are_values.as_slice())?;
-    let before = before_held(alloc, problem, old, new)?;
     let broken = is_broken_by(alloc, problem, old, new)?;
+    let before = before_held(alloc, problem, old, new)?;
+    let now = elements_held(alloc, problem, old, new, bits)?;
     Ok(Held {
         now,
         before,
         broken,
     })
-}
-
-// In the order of the functions of a step: those of elements that move come first.
-fn moved_first(alloc: Global, held: &[bool], moves: &[bool]) -> Result<Vec<bool>, AllocError> {
-    let mut all = Vec::new(alloc);
-    for wanted in [true, false] {
-        for (held, moves) in held.iter().zip(moves) {
-            if *moves == wanted {
-                all.push(*held)?;
-            }
-        }
-    }
-    Ok(all)
 }
 
 // Looks at the functions of a list; one is otherwise where there are more or fewer of them than wanted.
@@ -206,11 +200,62 @@ fn look_at(seen: &mut Seen, store: &Store, functions: &[Ref], wants: &[bool], bi
     }
 }
 
-// Looks at the functions of time 0.
-#[tactic(auto, using(smv_posed::proofs::LiveFunctions::now_first_live, smv_posed::proofs::LiveFunctions::before_first_live, smv_posed::proofs::LiveFunctions::broken_first_live))]
-fn look_at_first(time: &mut Time, store: &Store, rel: &Rel, held: &Held, bits: &Bits)
-    requires { IsRel store.now rel.now }
+// Looks at the functions of the elements that move, or of those that do not, from a place on; they end where this says.
+fn look_at_those(
+    seen: &mut Seen,
+    store: &Store,
+    functions: &[Ref],
+    wants: &[bool],
+    moves: &[bool],
+    bits: &Bits,
+    moving: bool,
+    start: usize,
+) -> usize
+    requires { AreLive store.now functions.now }
 {
+    let mut place = start;
+    for (want, moves) in wants.iter().zip(moves) {
+        if *moves == moving && place < functions.len() {
+            seen.add(value_at(store, functions[place], bits), *want);
+            place += 1;
+        }
+    }
+    place
+}
+
+// The same of all: those of elements that move come first.
+fn look_at_moved(
+    seen: &mut Seen,
+    store: &Store,
+    functions: &[Ref],
+    wants: &[bool],
+    moves: &[bool],
+    bits: &Bits,
+)
+    requires { AreLive store.now functions.now }
+{
+    let start = look_at_those(seen, store, functions, wants, moves, bits, true, 0);
+    let end = look_at_those(seen, store, functions, wants, moves, bits, false, start);
+    if end != functions.len() || end != wants.len() {
+        seen.otherwise = seen.otherwise.saturating_add(1);
+    }
+}
+
+// Looks at the functions of time 0, in the state of these cells.
+#[tactic(auto, using(smv_posed::proofs::LiveFunctions::now_first_live, smv_posed::proofs::LiveFunctions::before_first_live, smv_posed::proofs::LiveFunctions::broken_first_live))]
+fn look_at_first(
+    alloc: Global,
+    problem: &Problem,
+    functions: &Functions,
+    bits: &Bits,
+    cells: &[Cell<bool>],
+    time: &mut Time,
+) -> Result<(), AllocError>
+    requires { IsRel functions.now.store functions.now.rel }
+{
+    let held = held_in(alloc, problem, None, cells, bits.current.as_slice())?;
+    let store = &functions.store;
+    let rel = &functions.rel;
     let now = rel.now_first.as_slice();
     look_at(&mut time.now, store, now, held.now.as_slice(), bits);
     let before = rel.before_first.as_slice();
@@ -221,17 +266,30 @@ fn look_at_first(time: &mut Time, store: &Store, rel: &Rel, held: &Held, bits: &
         held.before.as_slice(),
         bits,
     );
-    let broken = value_at(store, rel.broken_first, bits);
-    time.broken.add(broken, held.broken);
+    time.broken
+        .add(value_at(store, rel.broken_first, bits), held.broken);
+    Ok(())
 }
 
-// Looks at those of a step.
+// Looks at those of a step, from the state of these cells to that of those.
 #[tactic(auto, using(smv_posed::proofs::LiveFunctions::now_step_live, smv_posed::proofs::LiveFunctions::before_step_live, smv_posed::proofs::LiveFunctions::broken_step_live))]
-fn look_at_step(time: &mut Time, store: &Store, rel: &Rel, held: &Held, bits: &Bits)
-    requires { IsRel store.now rel.now }
+fn look_at_step(
+    alloc: Global,
+    problem: &Problem,
+    moves: &[bool],
+    functions: &Functions,
+    bits: &Bits,
+    old: &[Cell<bool>],
+    new: &[Cell<bool>],
+    time: &mut Time,
+) -> Result<(), AllocError>
+    requires { IsRel functions.now.store functions.now.rel }
 {
+    let held = held_in(alloc, problem, Some(old), new, bits.next.as_slice())?;
+    let store = &functions.store;
+    let rel = &functions.rel;
     let now = rel.now_step.as_slice();
-    look_at(&mut time.now, store, now, held.now.as_slice(), bits);
+    look_at_moved(&mut time.now, store, now, held.now.as_slice(), moves, bits);
     let before = rel.before_step.as_slice();
     look_at(
         &mut time.before,
@@ -240,8 +298,9 @@ fn look_at_step(time: &mut Time, store: &Store, rel: &Rel, held: &Held, bits: &B
         held.before.as_slice(),
         bits,
     );
-    let broken = value_at(store, rel.broken_step, bits);
-    time.broken.add(broken, held.broken);
+    time.broken
+        .add(value_at(store, rel.broken_step, bits), held.broken);
+    Ok(())
 }
 
 // The cells of the state that these bits are read as, or none where there are more bits or fewer than the problem has.
@@ -260,22 +319,35 @@ fn cells_at(
     Ok(Some(cells))
 }
 
-// What the evaluator finds at the two times of a step from these cells to those, a step's functions in their order.
-fn held_at(
+// Looks at those of a step from the state of these cells; at none where there are more bits or fewer than the problem has.
+fn look_from(
     alloc: Global,
     problem: &Problem,
     moves: &[bool],
-    old: &[Cell<bool>],
-    new: &[Cell<bool>],
+    functions: &Functions,
     bits: &Bits,
-) -> Result<(Held, Held), AllocError> {
-    let first = held_in(alloc, problem, None, old, bits.current.as_slice())?;
-    let mut step = held_in(alloc, problem, Some(old), new, bits.next.as_slice())?;
-    step.now = moved_first(alloc, step.now.as_slice(), moves)?;
-    Ok((first, step))
+    old: &[Cell<bool>],
+    time: &mut Time,
+) -> Result<(), AllocError>
+    requires well_formed { IsProblem problem.now }
+    requires rel { IsRel functions.now.store functions.now.rel }
+{
+    let Some(new) = cells_at(alloc, problem, bits.next.as_slice())? else {
+        return Ok(());
+    };
+    look_at_step(
+        alloc,
+        problem,
+        moves,
+        functions,
+        bits,
+        old,
+        new.as_slice(),
+        time,
+    )
 }
 
-/// Looks at each function of a problem at these bits, where these elements move by `next`; not where there are more bits or fewer than the problem has.
+/// Looks at each function of a problem at these bits, where these elements move by `next`; at none where there are more bits or fewer than the problem has.
 pub fn look(
     alloc: Global,
     problem: &Problem,
@@ -283,19 +355,22 @@ pub fn look(
     functions: &Functions,
     bits: &Bits,
     tally: &mut Tally,
-) -> Result<bool, AllocError>
+) -> Result<(), AllocError>
     requires well_formed { IsProblem problem.now }
     requires rel { IsRel functions.now.store functions.now.rel }
 {
     let Some(old) = cells_at(alloc, problem, bits.current.as_slice())? else {
-        return Ok(false);
+        return Ok(());
     };
-    let Some(new) = cells_at(alloc, problem, bits.next.as_slice())? else {
-        return Ok(false);
-    };
-    let (first, step) = held_at(alloc, problem, moves, old.as_slice(), new.as_slice(), bits)?;
-    let store = &functions.store;
-    look_at_first(&mut tally.first, store, &functions.rel, &first, bits);
-    look_at_step(&mut tally.step, store, &functions.rel, &step, bits);
-    Ok(true)
+    let cells = old.as_slice();
+    look_at_first(alloc, problem, functions, bits, cells, &mut tally.first)?;
+    look_from(
+        alloc,
+        problem,
+        moves,
+        functions,
+        bits,
+        cells,
+        &mut tally.step,
+    )
 }

@@ -3,12 +3,12 @@
 ghost use Rattle.smv_rings.specs.Lists.{IsRel};
 ghost use Rattle.smv_problem.specs.WellFormed.{IsProblem};
 
-use crate::functions::{NO_TALLY, Time, look};
+use crate::functions::{NO_TALLY, Seen, Time, look};
 use crate::machine::marks;
+use crate::questions::{Question, holds};
 use smv_core::Refusal;
 use smv_posed::bits::{Bits, spelled};
-use smv_posed::functions::{Functions, functions_of};
-use smv_posed::problems::posed;
+use smv_posed::functions::Functions;
 use smv_posed::texts::MACHINE;
 use smv_problem::Problem;
 use std::alloc::{AllocError, Global};
@@ -17,11 +17,11 @@ use std::test::Fail;
 // What a station looks at before it takes a result.
 const TEST: &str = " & st[i].ta = bt";
 
-// The machine without a station's test of the tag on the bus.
-fn late_machine(alloc: Global) -> Result<String, AllocError> {
+// The machine, without a station's test of the tag on the bus or with it.
+fn machine(alloc: Global, is_late: bool) -> Result<String, AllocError> {
     match MACHINE.split_once(TEST) {
-        Some((before, behind)) => format!(in alloc; "{before}{behind}"),
-        None => String::from_str(alloc, MACHINE),
+        Some((before, behind)) if is_late => format!(in alloc; "{before}{behind}"),
+        _ => String::from_str(alloc, MACHINE),
     }
 }
 
@@ -51,72 +51,82 @@ fn bits_from(alloc: Global, place: usize) -> Result<Bits, AllocError> {
     })
 }
 
-// How many functions are met and unmet of what holds now, of what held before, and how many targets are broken and not; and how many of these are otherwise than the evaluator finds.
-type Counts = ((u32, u32), (u32, u32), (u32, u32), u32);
+/// How many functions are met and unmet of what holds now, of what held before, and how many targets are broken and not; and how many of these are otherwise than the evaluator finds.
+pub type Counts = ((u32, u32), (u32, u32), (u32, u32), u32);
 
-fn counts(time: Time) -> Counts {
-    let otherwise = time
+// Whether so many were met and so many were not.
+fn is_seen(seen: Seen, (met, unmet): (u32, u32)) -> bool {
+    seen.met == met && seen.unmet == unmet
+}
+
+// Whether this was counted at a time.
+fn is_counted(time: Time, (now, before, broken, otherwise): Counts) -> bool {
+    let others = time
         .now
         .otherwise
         .saturating_add(time.before.otherwise)
         .saturating_add(time.broken.otherwise);
-    (
-        (time.now.met, time.now.unmet),
-        (time.before.met, time.before.unmet),
-        (time.broken.met, time.broken.unmet),
-        otherwise,
-    )
+    is_seen(time.now, now)
+        && is_seen(time.before, before)
+        && is_seen(time.broken, broken)
+        && others == otherwise
 }
 
-// What is counted at time 0 and in each step of the path.
-fn counts_along(
+// Whether this is counted in the step from a place of the path, and that at its first time.
+fn is_counted_from(
     alloc: Global,
     problem: &Problem,
     functions: &Functions,
-) -> Result<Vec<Counts>, AllocError>
+    moves: &[bool],
+    place: usize,
+    first: Counts,
+    step: Counts,
+) -> Result<bool, AllocError>
     requires well_formed { IsProblem problem.now }
     requires rel { IsRel functions.now.store functions.now.rel }
 {
-    let moves = marks(alloc, ELEMENTS)?;
-    let mut all = Vec::new(alloc);
-    for place in 0..3 {
-        let bits = bits_from(alloc, place)?;
-        let mut tally = NO_TALLY;
-        look(
-            alloc,
-            problem,
-            moves.as_slice(),
-            functions,
-            &bits,
-            &mut tally,
-        )?;
-        if place == 0 {
-            all.push(counts(tally.first))?;
+    let bits = bits_from(alloc, place)?;
+    let mut tally = NO_TALLY;
+    look(alloc, problem, moves, functions, &bits, &mut tally)?;
+    Ok(is_counted(tally.step, step) && (place > 0 || is_counted(tally.first, first)))
+}
+
+// The same of each step of the path.
+fn is_counted_along(
+    alloc: Global,
+    problem: &Problem,
+    functions: &Functions,
+    moves: &[bool],
+    first: Counts,
+    steps: &[Counts],
+) -> Result<bool, AllocError>
+    requires well_formed { IsProblem problem.now }
+    requires rel { IsRel functions.now.store functions.now.rel }
+{
+    for place in 0..steps.len() {
+        let step = steps[place];
+        if !is_counted_from(alloc, problem, functions, moves, place, first, step)? {
+            return Ok(false);
         }
-        all.push(counts(tally.step))?;
     }
-    Ok(all)
+    Ok(true)
 }
 
-// The same of a text's case in which a station waits for another one, or none where there is no such case.
-fn counts_of(alloc: Global, text: &str) -> Result<Option<Vec<Counts>>, Refusal> {
-    let Some(problem) = posed(alloc, text, 1, 1)? else {
-        return Ok(None);
+/// Whether this is counted at time 0 and in each step of the path.
+pub fn is_along(
+    alloc: Global,
+    problem: &Problem,
+    functions: &Functions,
+    counts: &[Counts],
+) -> Result<bool, AllocError>
+    requires well_formed { IsProblem problem.now }
+    requires rel { IsRel functions.now.store functions.now.rel }
+{
+    let Some((first, steps)) = counts.split_first() else {
+        return Ok(false);
     };
-    let functions = functions_of(alloc, &problem)?;
-    let counts = counts_along(alloc, &problem, &functions)?;
-    Ok(Some(counts))
-}
-
-// The same of the machine, without the station's test or with it.
-fn counts_without(alloc: Global, is_late: bool) -> Result<Option<Vec<Counts>>, Refusal> {
-    if is_late {
-        let late = late_machine(alloc)?;
-        let counts = counts_of(alloc, late.as_str())?;
-        return Ok(counts);
-    }
-    let counts = counts_of(alloc, MACHINE)?;
-    Ok(counts)
+    let moves = marks(alloc, ELEMENTS)?;
+    is_counted_along(alloc, problem, functions, moves.as_slice(), *first, steps)
 }
 
 // All 23 elements and both definitions that hold up to the time before are as they should be, and the target is broken or not.
@@ -133,15 +143,24 @@ const ROWS: &[(bool, &[Counts])] = &[
     (false, &[ALL, ALL, ALL, NOT_TAKEN]),
 ];
 
+// Whether this is counted of the machine's case in which a station waits for another one.
+fn is_counted_of(alloc: Global, is_late: bool, counts: &'static [Counts]) -> Result<bool, Refusal> {
+    let text = machine(alloc, is_late)?;
+    holds(alloc, text.as_str(), 1, 1, Question::IsAlong { counts })
+}
+
+// Fails, with whether the test is left out, where something else is counted.
+fn all_are_counted(alloc: Global) -> Result<(), Fail> {
+    for (is_late, counts) in ROWS {
+        if !is_counted_of(alloc, *is_late, counts)? {
+            return Err(Fail::new(*is_late));
+        }
+    }
+    Ok(())
+}
+
 // Derived state by state from the machine's text: what moves, what is kept and what the map of a station's operand says.
 #[test]
 fn a_station_takes_what_it_did_not_wait_for(rt: HostRuntime) -> Result<(), Fail> {
-    for (is_late, want) in ROWS {
-        let Some(got) = counts_without(rt.alloc(), *is_late)? else {
-            assert!(rt; false, "late {is_late}: there is no such case");
-            return Ok(());
-        };
-        assert_eq!(rt; got.as_slice(), *want, "late {is_late}");
-    }
-    Ok(())
+    all_are_counted(rt.alloc())
 }

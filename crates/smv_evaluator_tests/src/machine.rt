@@ -3,18 +3,16 @@
 ghost use Rattle.smv_rings.specs.Lists.{IsRel};
 ghost use Rattle.smv_problem.specs.WellFormed.{IsProblem};
 
-use crate::functions::{NO_TALLY, Seen, Tally, look};
+use crate::cones::is_cone;
+use crate::functions::{NO_TALLY, Seen, Tally, Time, look};
+use crate::questions::{Question, hold};
 use rand_core::utils::NextWord;
 use rand_pcg::Pcg32;
-use smv_core::Refusal;
 use smv_core::flat::Design;
 use smv_posed::bits::Bits;
-use smv_posed::elements::tell_element;
-use smv_posed::functions::{Functions, functions_of};
-use smv_posed::problems::{plan_of, posed, problem_at};
+use smv_posed::functions::Functions;
 use smv_posed::texts::MACHINE;
 use smv_problem::Problem;
-use smv_readings::{family_bits, state_bits};
 use smv_spots::spots::Spot;
 use std::alloc::{AllocError, Global};
 use std::test::Fail;
@@ -79,18 +77,6 @@ const CASES: &[Case] = &[
     ),
 ];
 
-// The words without marks, a blank behind each.
-fn unmarked(alloc: Global, words: &str) -> Result<Vec<u8>, AllocError> {
-    let mut line = Vec::new(alloc);
-    for byte in words.as_bytes() {
-        if *byte != b'\'' {
-            line.push(*byte)?;
-        }
-    }
-    line.push(b' ')?;
-    Ok(line)
-}
-
 /// Which words have a mark.
 pub fn marks(alloc: Global, words: &str) -> Result<Vec<bool>, AllocError> {
     let mut marks = Vec::new(alloc);
@@ -100,65 +86,56 @@ pub fn marks(alloc: Global, words: &str) -> Result<Vec<bool>, AllocError> {
     Ok(marks)
 }
 
-// The elements of a problem with their bits, of which no element has ten.
-fn elements_told(alloc: Global, design: &Design, problem: &Problem) -> Result<Vec<u8>, AllocError> {
-    let families = problem.families.as_slice();
-    let lists = problem.lists.as_slice();
-    let types = problem.types.as_slice();
-    let mut line = Vec::new(alloc);
-    for x in problem.elements.as_slice() {
-        let bits = family_bits(families, lists, types, x.family);
-        tell_element(&mut line, design, x)?;
-        line.extend_from_slice(&[b':', b'0' + (bits % 10) as u8, b' '])?;
-    }
-    Ok(line)
-}
-
-// What the parameters of a case stand for: classes, and `?` for anything else.
-fn classes_told(alloc: Global, problem: &Problem) -> Result<Vec<u8>, AllocError> {
-    let mut line = Vec::new(alloc);
+// Whether the parameters of a case stand for these classes.
+fn are_classes(problem: &Problem, classes: &str) -> bool {
+    let mut rest = classes.as_bytes().iter();
     for spot in problem.bindings.as_slice() {
-        match spot {
-            Spot::Class { class, .. } => {
-                line.push(b'#')?;
-                line.push(b'0' + (*class % 10) as u8)?;
-            }
-            _ => line.push(b'?')?,
+        let Spot::Class { class, .. } = spot else {
+            return false;
+        };
+        let digit = b'0' + (*class % 10) as u8;
+        if rest.next() != Some(&b'#') || rest.next() != Some(&digit) {
+            return false;
         }
     }
-    Ok(line)
+    rest.next().is_none()
 }
 
-// The classes, the elements and the bits of a case, and how many definitions of it hold up to the time before.
-type Told = (Vec<u8>, Vec<u8>, u16, usize);
-
-fn told_of(alloc: Global, design: &Design, problem: &Problem) -> Result<Told, AllocError>
+/// Whether the parameters of a case stand for these classes, it has these elements with their bits and so many bits together, and so many definitions hold up to the time before.
+pub fn is_told(
+    alloc: Global,
+    design: &Design,
+    problem: &Problem,
+    classes: &str,
+    elements: &str,
+    bits: u16,
+    before: u32,
+) -> Result<bool, AllocError>
     requires { IsProblem problem.now }
 {
-    let classes = classes_told(alloc, problem)?;
-    let elements = elements_told(alloc, design, problem)?;
-    Ok((classes, elements, state_bits(problem), problem.before.len()))
+    if !are_classes(problem, classes) || problem.before.len() != before as usize {
+        return Ok(false);
+    }
+    is_cone(alloc, design, problem, elements, bits)
 }
 
-fn told(alloc: Global, unit: usize, case: usize) -> Result<Option<Told>, Refusal> {
-    let plan = plan_of(alloc, MACHINE)?;
-    let Some(problem) = problem_at(alloc, &plan, unit, case)? else {
-        return Ok(None);
-    };
-    let told = told_of(alloc, &plan.design, &problem)?;
-    Ok(Some(told))
+// Fails where a case has other elements.
+fn all_are_told(alloc: Global) -> Result<(), Fail> {
+    for (unit, case, classes, elements, bits, before) in CASES {
+        let question = Question::Told {
+            classes,
+            elements,
+            bits: *bits,
+            before: *before,
+        };
+        hold(alloc, MACHINE, *unit, *case, question)?;
+    }
+    Ok(())
 }
 
 #[test]
 fn cones_of_the_machine_are_what_the_rules_say(rt: HostRuntime) -> Result<(), Fail> {
-    for (unit, case, classes, elements, bits, before) in CASES {
-        let got = told(rt.alloc(), *unit, *case)?;
-        let classes = classes.as_bytes().to_vec(rt.alloc())?;
-        let elements = unmarked(rt.alloc(), elements)?;
-        let want = (classes, elements, *bits, *before as usize);
-        assert_eq!(rt; got, Some(want), "unit {unit} case {case}");
-    }
-    Ok(())
+    all_are_told(rt.alloc())
 }
 
 const ROUNDS: u32 = 1000;
@@ -182,7 +159,7 @@ fn tally_in(
     problem: &Problem,
     moves: &[bool],
     functions: &Functions,
-) -> Result<Option<Tally>, AllocError>
+) -> Result<Tally, AllocError>
     requires well_formed { IsProblem problem.now }
     requires rel { IsRel functions.now.store functions.now.rel }
 {
@@ -191,25 +168,8 @@ fn tally_in(
     let mut tally = NO_TALLY;
     for _ in 0..ROUNDS {
         let bits = random(alloc, &mut numbers, count)?;
-        if !look(alloc, problem, moves, functions, &bits, &mut tally)? {
-            return Ok(None);
-        }
+        look(alloc, problem, moves, functions, &bits, &mut tally)?;
     }
-    Ok(Some(tally))
-}
-
-// The same of a case.
-fn tally_of(
-    alloc: Global,
-    unit: usize,
-    case: usize,
-    moves: &[bool],
-) -> Result<Option<Tally>, Refusal> {
-    let Some(problem) = posed(alloc, MACHINE, unit, case)? else {
-        return Ok(None);
-    };
-    let functions = functions_of(alloc, &problem)?;
-    let tally = tally_in(alloc, &problem, moves, &functions)?;
     Ok(tally)
 }
 
@@ -220,22 +180,42 @@ fn is_whole(seen: Seen, functions: u32) -> bool {
     seen.otherwise == 0 && seen.met.saturating_add(seen.unmet) == looks && (functions == 0 || some)
 }
 
+// The same of so many elements' functions, of so many definitions', and of the target's.
+fn is_whole_time(time: Time, elements: u32, before: u32) -> bool {
+    is_whole(time.now, elements) && is_whole(time.before, before) && is_whole(time.broken, 1)
+}
+
+/// Whether each function of a case with these elements, and so many definitions that hold up to the time before, has the value that the evaluator finds, wherever it is looked at.
+pub fn are_as_found(
+    alloc: Global,
+    problem: &Problem,
+    functions: &Functions,
+    elements: &str,
+    before: u32,
+) -> Result<bool, AllocError>
+    requires well_formed { IsProblem problem.now }
+    requires rel { IsRel functions.now.store functions.now.rel }
+{
+    let moves = marks(alloc, elements)?;
+    let tally = tally_in(alloc, problem, moves.as_slice(), functions)?;
+    let count = u32::try_from(moves.len()).unwrap_or(0);
+    Ok(is_whole_time(tally.first, count, before) && is_whole_time(tally.step, count, before))
+}
+
+// Fails where a function of a case is otherwise.
+fn all_are_as_found(alloc: Global) -> Result<(), Fail> {
+    for (unit, case, _, elements, _, before) in CASES {
+        let question = Question::IsAsFound {
+            elements,
+            before: *before,
+        };
+        hold(alloc, MACHINE, *unit, *case, question)?;
+    }
+    Ok(())
+}
+
 // Both sides have the same definitions; here both are built and run. Whatever an assignment spells, each function has the value that the evaluator finds in its states.
 #[test]
 fn functions_of_the_machine_are_what_the_evaluator_finds(rt: HostRuntime) -> Result<(), Fail> {
-    for (unit, case, _, elements, _, before) in CASES {
-        let moves = marks(rt.alloc(), elements)?;
-        let count = u32::try_from(moves.len()).unwrap_or(0);
-        let Some(tally) = tally_of(rt.alloc(), *unit, *case, moves.as_slice())? else {
-            assert!(rt; false, "unit {unit} has no case {case}");
-            return Ok(());
-        };
-        for (time, place) in [(tally.first, 0), (tally.step, 1)] {
-            let whole = is_whole(time.now, count)
-                && is_whole(time.before, *before)
-                && is_whole(time.broken, 1);
-            assert!(rt; whole, "unit {unit} case {case} at time {place}");
-        }
-    }
-    Ok(())
+    all_are_as_found(rt.alloc())
 }

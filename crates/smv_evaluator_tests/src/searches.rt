@@ -1,66 +1,66 @@
 //! What a search over the relations of a case finds under budgets.
 
 ghost use Rattle.smv_rings.specs.Lists.{IsRel};
+ghost use Rattle.smv_problem.specs.WellFormed.{IsProblem};
 
-use smv_core::Refusal;
+use crate::questions::{Question, hold};
 use smv_posed::functions::{Functions, functions_of};
-use smv_posed::problems::posed;
 use smv_posed::texts::{
     ALL, ALONE, CLAIMS, EACH, GROWS, GUARDED, INDEX, LASTING, MARKED, MUTEX, OUTSIDE, PARTED,
     RESTS, RISING, SPLIT, STEPPED, TOTAL,
 };
+use smv_problem::Problem;
 use smv_search::{Outcome, search};
 use std::alloc::{AllocError, Global};
 use std::test::Fail;
 
-// What is found, without diagrams.
-#[derive(Clone, Copy, Debug, PartialEq)]
-enum Found {
+/// What is found, without diagrams.
+#[derive(Clone, Copy)]
+pub enum Found {
     Closed,
     Reaches(u32),
     OutOfNodes(usize),
     OutOfSteps,
 }
 
-// What a search over these functions finds.
-fn found_in(
+// Whether this is what was found.
+fn is_outcome(outcome: &Outcome, found: Found) -> bool {
+    match (outcome, found) {
+        (Outcome::Closed { set: _ }, Found::Closed) => true,
+        (Outcome::Reaches { depth, rings: _ }, Found::Reaches(want)) => *depth == want,
+        (Outcome::OutOfNodes { count }, Found::OutOfNodes(want)) => *count == want,
+        (Outcome::OutOfSteps, Found::OutOfSteps) => true,
+        _ => false,
+    }
+}
+
+// Whether a search over these functions finds this.
+fn is_found_in(
     alloc: Global,
     functions: &mut Functions,
     nodes: u32,
     steps: u32,
-) -> Result<Found, AllocError>
+    found: Found,
+) -> Result<bool, AllocError>
     requires { IsRel functions.old.store functions.old.rel }
 {
-    let outcome = search(
-        alloc,
-        &functions.rel,
-        &mut functions.store,
-        nodes,
-        steps.max(1),
-    )?;
-    Ok(match outcome {
-        Outcome::Closed { set: _ } => Found::Closed,
-        Outcome::Reaches { depth, rings: _ } => Found::Reaches(depth),
-        Outcome::OutOfNodes { count } => Found::OutOfNodes(count),
-        Outcome::OutOfSteps => Found::OutOfSteps,
-    })
+    let steps = steps.max(1);
+    let outcome = search(alloc, &functions.rel, &mut functions.store, nodes, steps)?;
+    Ok(is_outcome(&outcome, found))
 }
 
-// What a search of a case of a unit finds.
-fn find(
+/// Whether a search of a case finds this.
+pub fn is_found(
     alloc: Global,
-    text: &str,
-    unit: usize,
-    case: usize,
+    problem: &Problem,
     nodes: u32,
     steps: u32,
-) -> Result<Option<Found>, Refusal> {
-    let Some(problem) = posed(alloc, text, unit, case)? else {
-        return Ok(None);
-    };
-    let mut functions = functions_of(alloc, &problem)?;
-    let found = found_in(alloc, &mut functions, nodes, steps)?;
-    Ok(Some(found))
+    found: Found,
+) -> Result<bool, AllocError>
+    requires { IsProblem problem.now }
+{
+    let mut functions = functions_of(alloc, problem)?;
+    is_found_in(alloc, &mut functions, nodes, steps, found)
 }
 
 const TOGGLE: &str =
@@ -117,16 +117,21 @@ const ROWS: &[(&str, usize, usize, u32, u32, Found)] = &[
     (PARTED, 0, 2, 1000, 100, Found::Closed),
 ];
 
+// Fails with the first text of which a search finds something else.
+fn all_are_found(alloc: Global) -> Result<(), Fail> {
+    for (text, unit, case, nodes, steps, found) in ROWS {
+        let question = Question::Finds {
+            nodes: *nodes,
+            steps: *steps,
+            found: *found,
+        };
+        hold(alloc, text, *unit, *case, question)?;
+    }
+    Ok(())
+}
+
 // By counting values, rings and beads by hand, and for the others by the verdicts that their rules give.
 #[test]
 fn searches_find_what_was_counted(rt: HostRuntime) -> Result<(), Fail> {
-    for (text, unit, case, nodes, steps, want) in ROWS {
-        let got = find(rt.alloc(), text, *unit, *case, *nodes, *steps)?;
-        assert_eq!(rt;
-            got,
-            Some(*want),
-            "{text} unit {unit} case {case} under {nodes} nodes and {steps} steps"
-        );
-    }
-    Ok(())
+    all_are_found(rt.alloc())
 }

@@ -16,7 +16,8 @@ fn number_of(digits: &[u8]) -> u16 {
 }
 
 // A number, the place of a constant behind `=`, a class behind `#`, a rest behind `*`, or `-` for Undefined.
-fn value_of(word: &[u8]) -> AbsValue {
+fn value_of(word: &str) -> AbsValue {
+    let word = word.as_bytes();
     match word.split_first() {
         Some((b'=', digits)) => AbsValue::Constant {
             place: number_of(digits),
@@ -34,39 +35,13 @@ fn value_of(word: &[u8]) -> AbsValue {
     }
 }
 
-// The values of these words.
-fn values_of(alloc: Global, words: &str) -> Result<Seq<AbsValue>, AllocError> {
-    let mut values = Seq::new(alloc);
-    for word in words.split_ascii_whitespace() {
-        values.push(value_of(word.as_bytes()))?;
-    }
-    Ok(values)
-}
-
 /// The state with the values of these words.
 pub fn state_of(alloc: Global, words: &str) -> Result<AbsState, AllocError> {
-    let values = values_of(alloc, words)?;
+    let mut values = Seq::new(alloc);
+    for word in words.split_ascii_whitespace() {
+        values.push(value_of(word))?;
+    }
     Ok(AbsState { values })
-}
-
-/// The state before, where there is one, and the state now.
-#[derive(Drop)]
-pub struct States {
-    pub old: Option<AbsState>,
-    pub new: AbsState,
-}
-
-/// Those with the values of these words.
-pub fn states_of(alloc: Global, old: Option<&str>, new: &str) -> Result<States, AllocError> {
-    let new = state_of(alloc, new)?;
-    let Some(words) = old else {
-        return Ok(States { old: None, new });
-    };
-    let old = state_of(alloc, words)?;
-    Ok(States {
-        old: Some(old),
-        new,
-    })
 }
 
 // A number for a value, another one for each.
@@ -80,19 +55,25 @@ fn key(value: AbsValue) -> u32 {
     }
 }
 
-/// The numbers of values in rising order: the same for the same values, each as often.
-pub fn keys(alloc: Global, values: &[AbsValue]) -> Result<Vec<u32>, AllocError> {
-    let mut keys = Vec::new(alloc);
+// How often a value is among these.
+fn times(values: &[AbsValue], wanted: AbsValue) -> usize {
+    let mut times: usize = 0;
     for value in values {
-        keys.push(key(*value))?;
+        if key(*value) == key(wanted) {
+            times = times.saturating_add(1);
+        }
     }
-    keys.sort_unstable();
-    Ok(keys)
+    times
 }
 
-/// Those of the values of these words.
-pub fn keys_of(alloc: Global, words: &str) -> Result<Vec<u32>, AllocError> {
-    let values = values_of(alloc, words)?;
-    let keys = keys(alloc, values.as_slice())?;
-    Ok(keys)
+/// Whether values are those of these words, each of them once.
+pub fn are_values(values: &[AbsValue], words: &str) -> bool {
+    let mut count: usize = 0;
+    for word in words.split_ascii_whitespace() {
+        if times(values, value_of(word)) != 1 {
+            return false;
+        }
+        count = count.saturating_add(1);
+    }
+    values.len() == count
 }

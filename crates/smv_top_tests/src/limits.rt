@@ -28,6 +28,10 @@ enum Form {
     /// Names of types, each of a struct with the one before in it, and so two deep: itself and the type of its field; and
     /// a signal of the last.
     Types,
+    /// Quantifiers over a boolean inside one another, of whose variables the body reads none.
+    Quantifiers,
+    /// The same over a scalarset of which one value is a class and the others are at the rest.
+    QuantifiersOverRests,
     /// Blanks.
     Blanks,
 }
@@ -44,6 +48,18 @@ fn text_of(alloc: Global, form: Form, count: u32) -> Result<String, AllocError> 
         ),
         Form::Arms => arms(alloc, count),
         Form::Types => types(alloc, count),
+        Form::Quantifiers => quantifiers(
+            alloc,
+            "module main() { x : boolean; p : assert G ",
+            "boolean",
+            count,
+        ),
+        Form::QuantifiersOverRests => quantifiers(
+            alloc,
+            "scalarset T undefined; module main() { x : boolean; forall (k in T) p[k] : assert G ",
+            "T",
+            count,
+        ),
         Form::Blanks => repeated(alloc, " ", count),
     }
 }
@@ -103,6 +119,17 @@ fn types(alloc: Global, count: u32) -> Result<String, AllocError> {
     Ok(text)
 }
 
+fn quantifiers(alloc: Global, head: &str, over: &str, count: u32) -> Result<String, AllocError> {
+    let mut text = String::from_str(alloc, head)?;
+    text.push_str(&repeated(alloc, "&[ ", count)?)?;
+    text.push_str("(x | ~x)")?;
+    for number in 0..count {
+        text.push_str(&format!(in alloc; " : v{number} in {over} ]")?)?;
+    }
+    text.push_str("; }")?;
+    Ok(text)
+}
+
 // A form with a number of parts, and its status and answer.
 type FormRow = (Form, u32, u8, &'static str);
 
@@ -148,6 +175,12 @@ const DEPTHS: &[FormRow] = &[
 ];
 
 const TRUE: &str = "p: true\nproved 1 of 1\n";
+
+// A body that reads none of the variables around it is walked and worked out once, however many there are.
+const NESTS: &[FormRow] = &[
+    (Form::Quantifiers, 60, 0, TRUE),
+    (Form::QuantifiersOverRests, 60, 0, TRUE),
+];
 
 // A claim has up to 8 parameters, and up to 4,096 cases: 16 times 256, of which the last is looked at too, while 17 times 241
 // are one more. Over a scalarset without an end it has as many as there are ways to part its parameters into classes: 877 for
@@ -217,4 +250,9 @@ fn as_many_signals_statements_and_bytes_as_the_limit_and_one_more(
 #[test]
 fn as_deep_as_the_limit_and_one_deeper(rt: HostRuntime) -> Result<(), Fail> {
     all_forms_are_answered(rt.alloc(), DEPTHS)
+}
+
+#[test]
+fn sixty_quantifiers_inside_one_another(rt: HostRuntime) -> Result<(), Fail> {
+    all_forms_are_answered(rt.alloc(), NESTS)
 }

@@ -165,6 +165,34 @@ const ROWS: &[Row] = &[
         1,
         "p: false at 0\n time 0: a = *0, b = *0, c = *0\nproved 0 of 1\n",
     ),
+    // Two ranges of many values: they overlap from 20 to 40. What each comparison says is true of them.
+    (
+        "prove",
+        "module main() { x : 0..40; y : 20..90; less : assert G (x < y | x >= 20); most : assert G (x <= y | x > 20); more : assert G (x > y -> y < 40); least : assert G (x >= y -> y <= 40); same : assert G (x = y -> x >= 20 & y <= 40); other : assert G (x ~= y | x in {20..40}); }",
+        0,
+        "less: true\nmost: true\nmore: true\nleast: true\nsame: true\nother: true\nproved 6 of 6\n",
+    ),
+    // Each fails for one pair of values alone, at the end of one of the ranges.
+    (
+        "prove",
+        "module main() { x : 0..40; y : 20..90; less : assert G (x < y | x < 40 | y < 40); most : assert G (x <= y | x < 40 | y < 39); more : assert G (x > y | x < 40 | y > 40); least : assert G (x >= y | x < 40 | y > 41); same : assert G (x = y | x < 20 | x > 20 | y > 21); other : assert G (x ~= y | x > 20); }",
+        1,
+        "less: false at 0\n time 0: x = 40, y = 40\nmost: false at 0\n time 0: x = 40, y = 39\nmore: false at 0\n time 0: x = 40, y = 40\nleast: false at 0\n time 0: x = 40, y = 41\nsame: false at 0\n time 0: x = 20, y = 21\nother: false at 0\n time 0: x = 20, y = 20\nproved 0 of 6\n",
+    ),
+    // Two that share no value.
+    (
+        "prove",
+        "module main() { x : 0..40; y : 50..90; less : assert G (x < y); most : assert G (x <= y); more : assert G (x > y | x > 0 | y < 90); least : assert G (x >= y | x < 40 | y > 50); same : assert G (x = y | x > 0 | y > 50); other : assert G (x ~= y); }",
+        1,
+        "less: true\nmost: true\nmore: false at 0\n time 0: x = 0, y = 90\nleast: false at 0\n time 0: x = 40, y = 50\nsame: false at 0\n time 0: x = 0, y = 50\nother: true\nproved 3 of 6\n",
+    ),
+    // Two that are the same.
+    (
+        "prove",
+        "module main() { x, y : 3..60; less : assert G (x < y -> x < 60 & y > 3); most : assert G (x <= y | y < x); more : assert G (x > y -> x > 3 & y < 60); least : assert G (x >= y | y > x); same : assert G (x = y -> x < 60); other : assert G (x ~= y | x > 3); }",
+        1,
+        "less: true\nmost: true\nmore: true\nleast: true\nsame: false at 0\n time 0: x = 60, y = 60\nother: false at 0\n time 0: x = 3, y = 3\nproved 4 of 6\n",
+    ),
     (
         "print",
         "module main(){x:boolean;p:assert G (x|(~x));}",
