@@ -1,6 +1,0 @@
-use Rattle.bdd_store.specs.Diagram.{table}
-use Rattle.bdd_ops.proofs.KnownLaws.{never_const}
-use Rattle.smv_inductive.proofs.runs.is_never.Goals as goal
-
-pub returns-in-Some : goal.returns-in-Some
-returns-in-Some c = never_const (table c.args.store.now c.args.f) c.in-Some.x c.in-Some.ensures.some
