@@ -1,2 +1,4 @@
 pub mod Reading
 pub mod Alike
+pub mod Placeless
+pub mod Known

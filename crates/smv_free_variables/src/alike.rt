@@ -16,8 +16,8 @@ fn is_same(e: &FlatExpr, var: usize, p: Spot, q: Spot) -> bool
     is_outcome(Some(p), Some(q)) || !is_read(e, var)
 }
 
-// Whether two bindings are of equally many variables and agree on those that an expression reads.
-fn agree(e: &FlatExpr, b: &[Spot], c: &[Spot]) -> bool
+/// Whether two bindings are of equally many variables and agree on those that an expression reads.
+pub fn agree(e: &FlatExpr, b: &[Spot], c: &[Spot]) -> bool
     ensures { IsTrue result ↔ Agree (λ k. occurs k e.now) b.now c.now }
 {
     let Some((p, ps)) = b.split_last() else {
