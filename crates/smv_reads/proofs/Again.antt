@@ -1,5 +1,5 @@
 -- Elements that are put again change nothing, so what is the same at each place of a variable is put at one of them.
-use Rattle.std.proofs.Common.{◌≡◌, suc, List, [], ◌∷◌, ◌++◌, length, take, Bool, true, false, ◌||◌, if◌then◌else◌, refl, sym, ap, ◌∙◌, inl, inr, arith}
+use Rattle.std.proofs.Common.{◌≡◌, suc, List, [], ◌∷◌, ◌++◌, length, take, Bool, true, false, ◌||◌, if◌then◌else◌, refl, sym, ap, subst, ◌∙◌, inl, inr, arith}
 use Rattle.std.specs.List.{flat_map}
 use Rattle.smv_core.specs.declared.flat.Element.{Element}
 use Rattle.law_obligations.proofs.Tests.{or_left, or_right, or_cases}
@@ -74,6 +74,15 @@ settled-all found (x ∷ xs) h = ap (λ l. put_all l xs) (settled-put found x h.
 
 pub put-again : (found xs : List Element) → put_all (put_all found xs) xs ≡ put_all found xs
 put-again found xs = settled-all (put_all found xs) xs (all-settle found xs)
+
+settled-kept : (found xs ys : List Element) → AreSettled found ys → AreSettled (put_all found xs) ys
+unfolding AreSettled
+settled-kept found xs [] h = tt
+settled-kept found xs (y ∷ ys) h = (all-keep found xs y h.0, settled-kept found xs ys h.1)
+
+-- what changes nothing changes nothing later
+pub put-later : (found xs ys : List Element) → put_all found ys ≡ found → put_all (put_all found xs) ys ≡ put_all found xs
+put-later found xs ys e = settled-all (put_all found xs) ys (settled-kept found xs ys (subst (λ l. AreSettled l ys) e (all-settle found ys)))
 
 -- ---- for each of a list the same
 

@@ -199,8 +199,12 @@ agree-along g f [] (y ∷ c) h = absurd h
 agree-along g f (x ∷ b) [] h = absurd h
 agree-along g f (x ∷ b) (y ∷ c) h = (λ t. ap g (h.0 t), agree-along g (λ k. f (suc k)) b c h.1)
 
+-- bindings that agree on what an expression reads
+pub read-alike : (v : View) (e : FlatExpr) (b c : List Spot) → Agree (λ k. occurs k e) b c → read_in v b e ≡ read_in v c e
+unfolding read_in occurs
+read-alike v e b c h = ap (map written_element) (reads-alike (world_of v) e (places v b) (places v c) (agree-along (place_in v) (λ k. occurs_in k e) b c h))
+
 -- an expression in which the last variable does not occur
 pub unread : (v : View) (b : List Spot) (var : ℕ) (e : FlatExpr) → occurs (length (take var b)) e ≡ false → (p q : Spot) → read_in v (bind_spot b var q) e ≡ read_in v (bind_spot b var p) e
-unfolding read_in occurs
-unread v b var e f p q =
-    ap (map written_element) (reads-alike (world_of v) e (places v (bind_spot b var q)) (places v (bind_spot b var p)) (agree-along (place_in v) (λ k. occurs_in k e) (bind_spot b var q) (bind_spot b var p) (last-unread (λ k. occurs_in k e) (take var b) q p f)))
+unfolding occurs
+unread v b var e f p q = read-alike v e (bind_spot b var q) (bind_spot b var p) (last-unread (λ k. occurs_in k e) (take var b) q p f)

@@ -52,3 +52,7 @@ turns-over f xs k found all l h = sym (ap (put_all found) (no-turn f xs k l) ∙
 pub on-ok-more : {X E : Type 0} (r : Result X E) (new a b : List Element) → a ≡ b → OnOk r (new ≡ a) → OnOk r (new ≡ b)
 on-ok-more (Ok x) new a b e h = h ∙ e
 on-ok-more (Err x) new a b e h = tt
+
+pub on-ok-then : {X E P Q : Type 0} (r : Result X E) → OnOk r P → (P → Q) → OnOk r Q
+on-ok-then (Ok x) h f = f h
+on-ok-then (Err x) h f = tt

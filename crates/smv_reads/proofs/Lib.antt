@@ -4,6 +4,7 @@ pub mod Joins
 pub mod Again
 pub mod Froms
 pub mod FreeLaws
+pub mod WalkLaws
 pub mod IndexLaws
 pub mod ExpressionLaws
 pub mod CountLaws

@@ -10,12 +10,14 @@ use Rattle.smv_core.specs.declared.flat.Flat.{Flat}
 use Rattle.smv_core.specs.declared.flat.FlatExpr.{FlatExpr}
 use Rattle.smv_core.specs.declared.flat.FlatSigned.{FlatSigned, out-FlatSigned}
 use Rattle.smv_core.specs.declared.flat.FlatMember.{FlatMember, One, Span as SpanOf}
+use Rattle.law_obligations.specs.Sets.{Has}
 use Rattle.law_obligations.specs.Places.{named_in, places_in, bind_place}
 use Rattle.law_obligations.specs.Reads.{is_own, has_counting, part_reads}
 use Rattle.law_obligations.specs.Cones.{index_places, each_index, elements_at, elements_read, elements_of_def}
 use Rattle.smv_elements.specs.Elements.{put_all}
 use Rattle.smv_problem.specs.Written.{written_class, written_element}
 use Rattle.smv_spots.specs.declared.spots.Spot.{Spot}
+use Rattle.smv_free_variables.specs.declared.known.Entry.{Entry}
 use Rattle.smv_reads.specs.declared.bindings.View.{View}
 use Rattle.smv_reads.specs.Views.{world_of, places, bind_spot}
 
@@ -78,3 +80,7 @@ module _ (v : View) where
 -- where a variable takes these spots alone, its body has the same elements put as where it takes all of those
 abbrev pub DoForAll : List Spot → ℕ → FlatExpr → List Spot → List Spot → Type 0
 DoForAll b var body some all = (v : View) (found : List Element) → put_all found (flat_map (λ p. read_in v (bind_spot b var p) body) some) ≡ put_all found (flat_map (λ p. read_in v (bind_spot b var p) body) all)
+
+-- the elements that each expression of a table reads under its bindings have been put: put again they change nothing
+unfoldable pub AreWalked : {A : Type 0} → View → List Element → List (Entry A) → Type 0
+AreWalked {A} v found entries = (x : Entry A) → Has entries x → put_all found (read_in v x.bindings x.of.now) ≡ found
