@@ -6,3 +6,4 @@ pub mod Choices
 pub mod Adds
 pub mod Whole
 pub mod Kept
+pub mod KnownCases

@@ -8,8 +8,10 @@ use Rattle.law_reports.specs.CaseLists.{old_state, new_state, met_first, met_ste
 use Rattle.smv_problem.specs.declared.problem.Problem.{Problem}
 use Rattle.smv_cells.specs.Cells.{AreCellsMade}
 use Rattle.smv_cells.specs.Seen.{IsSeen}
+use Rattle.smv_outcomes.specs.Remembered.{AreKnown}
 use Rattle.smv_encode.specs.Coded.{view_at}
 use Rattle.smv_encode.specs.declared.cells.Cells.{Cells}
+use Rattle.smv_encode.specs.declared.cells.CaseKnown.{CaseKnown}
 
 -- a demand is met: at time 0, or in a step
 abbrev pub met_at : Case → Bool → Demanded → Function
@@ -35,3 +37,8 @@ pub record AreLiveCells (d : Diagram) (cells : Cells) : Type 0 where
 pub record AreCellsOf (c : Case) (d : Diagram) (p : Problem) (cells : Cells) : Type 0 where
   pub current : IsSeen table d p cells.current.items (view_at c false)
   pub next : IsSeen table d p cells.next.items (view_at c true)
+
+-- what is known of expressions is right for both cells
+pub record AreKnownOfCase (d : Diagram) (p : Problem) (cells : Cells) (known : CaseKnown) : Type 0 where
+  pub current : AreKnown IsLive table d p cells.current.items known.current.entries.items
+  pub next : AreKnown IsLive table d p cells.next.items known.next.entries.items

@@ -1,5 +1,5 @@
 // The cells of both times.
-ghost use Rattle.std.specs.Prelude.{◌≡◌, ◌*◌, IfOk};
+ghost use Rattle.std.specs.Prelude.{◌≡◌, ◌*◌, [], IfOk};
 ghost use Rattle.bdd_store.specs.Diagram.{Keeps};
 ghost use Rattle.law_obligations.specs.Readings.{state_bits};
 ghost use Rattle.smv_problem.specs.WellFormed.{IsProblem, OfCases};
@@ -8,6 +8,8 @@ ghost use Rattle.smv_encode.specs.Encoded.{AreLiveCells, AreCellsOf};
 use crate::cells_at;
 use bdd_store::{Ref, Store};
 use smv_cells::Cell;
+use smv_conditions::chances::Chances;
+use smv_outcomes::{Known, nothing_known};
 use smv_problem::Problem;
 use std::alloc::{AllocError, Global};
 
@@ -16,6 +18,24 @@ use std::alloc::{AllocError, Global};
 pub struct Cells {
     pub current: Vec<Cell<Ref>>,
     pub next: Vec<Cell<Ref>>,
+}
+
+/// What is known of the expressions of a case in the state of the current bits, and in that of the next ones.
+#[derive(Drop)]
+pub struct CaseKnown<'a> {
+    pub current: Known<'a, Chances<Ref>>,
+    pub next: Known<'a, Chances<Ref>>,
+}
+
+/// Nothing yet.
+pub fn nothing_known_of_case<'a>(alloc: Global) -> CaseKnown<'a>
+    ensures current { result.current.entries.items ≡ [] }
+    ensures next { result.next.entries.items ≡ [] }
+{
+    CaseKnown {
+        current: nothing_known(alloc),
+        next: nothing_known(alloc),
+    }
 }
 
 /// The cells of a problem.

@@ -8,14 +8,16 @@ ghost use Rattle.smv_problem.specs.Written.{written_demand};
 ghost use Rattle.smv_problem.specs.WellFormed.{IsProblem, OfCases, IsFit};
 ghost use Rattle.smv_encode.specs.Encoded.{IsKept};
 
-use crate::cells::cells_of;
+use crate::cells::{cells_of, nothing_known_of_case};
 use crate::cells_at;
 use crate::times::{broken_first_by, broken_step_by, first_by, step_by};
 use bdd_store::{Ref, Store};
+use smv_outcomes::nothing_known;
 use smv_problem::{Demand, Problem};
 use std::alloc::{AllocError, Global};
 
 /// Where a demand is met at time 0, in the state of the current bits.
+#[tactic(auto, using(smv_outcomes::proofs::KnownLaws::none_known))]
 pub fn first(
     alloc: Global,
     problem: &Problem,
@@ -29,7 +31,9 @@ pub fn first(
     ensures keeps { Keeps store.old store.new }
 {
     let current = cells_at(alloc, problem, store, false)?;
-    let r = first_by(alloc, problem, current.as_slice(), demand, store)?;
+    let mut known = nothing_known(alloc);
+    let now = current.as_slice();
+    let r = first_by(alloc, problem, now, &mut known, demand, store)?;
     Ok(r)
 }
 
@@ -47,11 +51,13 @@ pub fn step(
     ensures keeps { Keeps store.old store.new }
 {
     let cells = cells_of(alloc, problem, store)?;
-    let r = step_by(alloc, problem, &cells, demand, store)?;
+    let mut known = nothing_known_of_case(alloc);
+    let r = step_by(alloc, problem, &cells, &mut known, demand, store)?;
     Ok(r)
 }
 
 /// Where the target is broken at time 0, and each guard may hold.
+#[tactic(auto, using(smv_outcomes::proofs::KnownLaws::none_known))]
 pub fn broken_first(alloc: Global, problem: &Problem, store: &mut Store) -> Result<Ref, AllocError>
     requires well_formed { IsProblem problem.now }
     requires vars { OfCases problem.now (λ c. store.old.vars ≡ 2 * state_bits c) }
@@ -60,7 +66,8 @@ pub fn broken_first(alloc: Global, problem: &Problem, store: &mut Store) -> Resu
     ensures keeps { Keeps store.old store.new }
 {
     let current = cells_at(alloc, problem, store, false)?;
-    let r = broken_first_by(alloc, problem, current.as_slice(), store)?;
+    let mut known = nothing_known(alloc);
+    let r = broken_first_by(alloc, problem, current.as_slice(), &mut known, store)?;
     Ok(r)
 }
 
@@ -73,6 +80,7 @@ pub fn broken_step(alloc: Global, problem: &Problem, store: &mut Store) -> Resul
     ensures keeps { Keeps store.old store.new }
 {
     let cells = cells_of(alloc, problem, store)?;
-    let r = broken_step_by(alloc, problem, &cells, store)?;
+    let mut known = nothing_known_of_case(alloc);
+    let r = broken_step_by(alloc, problem, &cells, &mut known, store)?;
     Ok(r)
 }

@@ -8,10 +8,10 @@ ghost use Rattle.law_obligations.specs.Readings.{Slot, slots_from};
 ghost use Rattle.law_reports.specs.CaseLists.{is_claim as is_claim_of, those_of, met_step};
 ghost use Rattle.smv_problem.specs.WellFormed.{OfCases};
 ghost use Rattle.smv_readings.specs.StateBits.{bits_of_family, bits_of_elements};
-ghost use Rattle.smv_encode.specs.Encoded.{met_at as met_function, AreLiveCells, AreCellsOf};
+ghost use Rattle.smv_encode.specs.Encoded.{met_at as met_function, AreLiveCells, AreCellsOf, AreKnownOfCase};
 ghost use Rattle.smv_encode.specs.Parts.{AreDemands, AreElements, AddsFunctions, element_at as element_function, is_turn};
 
-use crate::cells::Cells;
+use crate::cells::{CaseKnown, Cells};
 use crate::chosen::{defines, is_claim, moves};
 use crate::times::met_at;
 use crate::{value_at, width};
@@ -30,138 +30,160 @@ pub enum Turn {
 }
 
 // The function of a demand.
-fn add_met(
+fn add_met<'a>(
     alloc: Global,
     problem: &Problem,
     cells: &Cells,
+    known: &mut CaseKnown<'a>,
     step: bool,
-    demand: &Demand,
+    demand: &'a Demand,
     store: &mut Store,
     out: &mut Vec<Ref>,
 ) -> Result<(), AllocError>
     requires cells { AreLiveCells store.old cells.now }
+    requires known { AreKnownOfCase store.old problem.now cells.now known.old }
     requires out { AreLive store.old out.old.items }
     ensures keeps { Keeps store.old store.new }
     ensures out { OnOk result (AreLive store.new out.new.items) }
+    ensures known { OnOk result (AreKnownOfCase store.new problem.entry.now cells.now known.new) }
     ensures adds { OnOk result (OfCases problem.entry.now (λ c. AreCellsOf c store.old problem.entry.now cells.now → (d : Demanded) → AreDemands c (d ∷ []) (demand.now ∷ []) → AddsFunctions store.old store.new out.old.items out.new.items (met_function c step d ∷ []))) }
 {
-    let r = met_at(alloc, problem, cells, step, demand, store)?;
+    let r = met_at(alloc, problem, cells, known, step, demand, store)?;
     out.push(r)?;
     Ok(())
 }
 
 /// The functions of these demands.
-pub fn add_all(
+pub fn add_all<'a>(
     alloc: Global,
     problem: &Problem,
     cells: &Cells,
+    known: &mut CaseKnown<'a>,
     step: bool,
-    demands: &[Demand],
+    demands: &'a [Demand],
     store: &mut Store,
     out: &mut Vec<Ref>,
 ) -> Result<(), AllocError>
     requires cells { AreLiveCells store.old cells.now }
+    requires known { AreKnownOfCase store.old problem.now cells.now known.old }
     requires out { AreLive store.old out.old.items }
     ensures keeps { Keeps store.old store.new }
     ensures out { OnOk result (AreLive store.new out.new.items) }
+    ensures known { OnOk result (AreKnownOfCase store.new problem.entry.now cells.now known.new) }
     ensures adds { OnOk result (OfCases problem.entry.now (λ c. AreCellsOf c store.old problem.entry.now cells.now → (ds : List Demanded) → AreDemands c ds demands.now → AddsFunctions store.old store.new out.old.items out.new.items (map (met_function c step) ds))) }
 {
     for demand in demands {
-        add_met(alloc, problem, cells, step, demand, store, out)?;
+        add_met(alloc, problem, cells, known, step, demand, store, out)?;
     }
     Ok(())
 }
 
 // The function of a demand, where it is taken.
-fn add_met_if(
+fn add_met_if<'a>(
     alloc: Global,
     problem: &Problem,
     cells: &Cells,
+    known: &mut CaseKnown<'a>,
     step: bool,
     taken: bool,
-    demand: &Demand,
+    demand: &'a Demand,
     store: &mut Store,
     out: &mut Vec<Ref>,
 ) -> Result<(), AllocError>
     requires cells { AreLiveCells store.old cells.now }
+    requires known { AreKnownOfCase store.old problem.now cells.now known.old }
     requires out { AreLive store.old out.old.items }
     ensures keeps { Keeps store.old store.new }
     ensures out { OnOk result (AreLive store.new out.new.items) }
+    ensures known { OnOk result (AreKnownOfCase store.new problem.entry.now cells.now known.new) }
     ensures adds { OnOk result (OfCases problem.entry.now (λ c. AreCellsOf c store.old problem.entry.now cells.now → (d : Demanded) → AreDemands c (d ∷ []) (demand.now ∷ []) → AddsFunctions store.old store.new out.old.items out.new.items (if taken then met_function c step d ∷ [] else []))) }
 {
     if taken {
-        add_met(alloc, problem, cells, step, demand, store, out)?;
+        add_met(alloc, problem, cells, known, step, demand, store, out)?;
         return Ok(());
     }
     Ok(())
 }
 
 /// The functions of those of claims.
-pub fn add_claims(
+pub fn add_claims<'a>(
     alloc: Global,
     problem: &Problem,
     cells: &Cells,
+    known: &mut CaseKnown<'a>,
     step: bool,
-    demands: &[Demand],
+    demands: &'a [Demand],
     store: &mut Store,
     out: &mut Vec<Ref>,
 ) -> Result<(), AllocError>
     requires cells { AreLiveCells store.old cells.now }
+    requires known { AreKnownOfCase store.old problem.now cells.now known.old }
     requires out { AreLive store.old out.old.items }
     ensures keeps { Keeps store.old store.new }
     ensures out { OnOk result (AreLive store.new out.new.items) }
+    ensures known { OnOk result (AreKnownOfCase store.new problem.entry.now cells.now known.new) }
     ensures adds { OnOk result (OfCases problem.entry.now (λ c. AreCellsOf c store.old problem.entry.now cells.now → (ds : List Demanded) → AreDemands c ds demands.now → AddsFunctions store.old store.new out.old.items out.new.items (map (met_function c step) (filter is_claim_of ds)))) }
 {
     for demand in demands {
         let taken = is_claim(demand);
-        add_met_if(alloc, problem, cells, step, taken, demand, store, out)?;
+        add_met_if(
+            alloc, problem, cells, known, step, taken, demand, store, out,
+        )?;
     }
     Ok(())
 }
 
 // The functions of those that define an element.
-fn add_own(
+fn add_own<'a>(
     alloc: Global,
     problem: &Problem,
     cells: &Cells,
+    known: &mut CaseKnown<'a>,
     step: bool,
     element: &Element,
-    demands: &[Demand],
+    demands: &'a [Demand],
     store: &mut Store,
     out: &mut Vec<Ref>,
 ) -> Result<(), AllocError>
     requires cells { AreLiveCells store.old cells.now }
+    requires known { AreKnownOfCase store.old problem.now cells.now known.old }
     requires out { AreLive store.old out.old.items }
     ensures keeps { Keeps store.old store.new }
     ensures out { OnOk result (AreLive store.new out.new.items) }
+    ensures known { OnOk result (AreKnownOfCase store.new problem.entry.now cells.now known.new) }
     ensures adds { OnOk result (OfCases problem.entry.now (λ c. AreCellsOf c store.old problem.entry.now cells.now → (x : AbsElement) → AreElements c (x ∷ []) (element.now ∷ []) → (ds : List Demanded) → AreDemands c ds demands.now → AddsFunctions store.old store.new out.old.items out.new.items (map (met_function c step) (those_of ds x)))) }
 {
     for demand in demands {
         let taken = defines(element, demand);
-        add_met_if(alloc, problem, cells, step, taken, demand, store, out)?;
+        add_met_if(
+            alloc, problem, cells, known, step, taken, demand, store, out,
+        )?;
     }
     Ok(())
 }
 
 // Where a demand is met too, if it is taken.
-fn met_too(
+fn met_too<'a>(
     alloc: Global,
     problem: &Problem,
     cells: &Cells,
+    known: &mut CaseKnown<'a>,
     step: bool,
     taken: bool,
-    demand: &Demand,
+    demand: &'a Demand,
     others: Ref,
     store: &mut Store,
 ) -> Result<Ref, AllocError>
     requires cells { AreLiveCells store.old cells.now }
+    requires known { AreKnownOfCase store.old problem.now cells.now known.old }
     requires others { IsLive store.old others }
     ensures keeps { Keeps store.old store.new }
     ensures live { IfOk result (λ r. IsLive store.new r) }
+    ensures known { IfOk result (λ r. AreKnownOfCase store.new problem.entry.now cells.now known.new) }
     ensures means { IfOk result (λ r. OfCases problem.entry.now (λ c. AreCellsOf c store.old problem.entry.now cells.now → (d : Demanded) → AreDemands c (d ∷ []) (demand.now ∷ []) → (a : ℕ → Bool) → table store.new r a ≡ (table store.old others a && (if taken then met_function c step d a else true)))) }
 {
     if taken {
-        let met = met_at(alloc, problem, cells, step, demand, store)?;
+        let met = met_at(alloc, problem, cells, known, step, demand, store)?;
         let r = and(alloc, store, others, met)?;
         return Ok(r);
     }
@@ -169,47 +191,53 @@ fn met_too(
 }
 
 // Where all demands that define an element are met.
-fn own_met(
+fn own_met<'a>(
     alloc: Global,
     problem: &Problem,
     cells: &Cells,
+    known: &mut CaseKnown<'a>,
     step: bool,
     element: &Element,
-    demands: &[Demand],
+    demands: &'a [Demand],
     store: &mut Store,
 ) -> Result<Ref, AllocError>
     requires cells { AreLiveCells store.old cells.now }
+    requires known { AreKnownOfCase store.old problem.now cells.now known.old }
     ensures keeps { Keeps store.old store.new }
     ensures live { IfOk result (λ r. IsLive store.new r) }
+    ensures known { IfOk result (λ r. AreKnownOfCase store.new problem.entry.now cells.now known.new) }
     ensures means { IfOk result (λ r. OfCases problem.entry.now (λ c. AreCellsOf c store.old problem.entry.now cells.now → (x : AbsElement) → AreElements c (x ∷ []) (element.now ∷ []) → (ds : List Demanded) → AreDemands c ds demands.now → (a : ℕ → Bool) → table store.new r a ≡ list_all (λ d. met_function c step d a) (those_of ds x))) }
 {
     let mut r = store.constant(true);
     for demand in demands {
         let taken = defines(element, demand);
-        r = met_too(alloc, problem, cells, step, taken, demand, r, store)?;
+        r = met_too(alloc, problem, cells, known, step, taken, demand, r, store)?;
     }
     Ok(r)
 }
 
 // The function of an element: its code is that of a value, and its definition that holds now is met.
-fn element_at(
+fn element_at<'a>(
     alloc: Global,
-    problem: &Problem,
+    problem: &'a Problem,
     cells: &Cells,
+    known: &mut CaseKnown<'a>,
     step: bool,
     bit: u32,
     element: &Element,
     store: &mut Store,
 ) -> Result<Ref, AllocError>
     requires cells { AreLiveCells store.old cells.now }
+    requires known { AreKnownOfCase store.old problem.now cells.now known.old }
     requires room { 2 * (bit + bits_of_family problem.now.families problem.now.lists problem.now.types element.now.family) ≤ store.old.vars }
     ensures keeps { Keeps store.old store.new }
     ensures live { IfOk result (λ r. IsLive store.new r) }
+    ensures known { IfOk result (λ r. AreKnownOfCase store.new problem.entry.now cells.now known.new) }
     ensures means { IfOk result (λ r. OfCases problem.entry.now (λ c. AreCellsOf c store.old problem.entry.now cells.now → (x : AbsElement) → AreElements c (x ∷ []) (element.now ∷ []) → table store.new r ≡ element_function c step (record { element = x; bit = bit }))) }
 {
     let value = value_at(alloc, problem, store, step, bit, element.family)?;
     let demands = problem.now.as_slice();
-    let met = own_met(alloc, problem, cells, step, element, demands, store)?;
+    let met = own_met(alloc, problem, cells, known, step, element, demands, store)?;
     let r = and(alloc, store, value, met)?;
     Ok(r)
 }
@@ -238,10 +266,11 @@ fn is_its_turn(
 }
 
 // The function of an element, where it is taken.
-fn add_element_if(
+fn add_element_if<'a>(
     alloc: Global,
-    problem: &Problem,
+    problem: &'a Problem,
     cells: &Cells,
+    known: &mut CaseKnown<'a>,
     step: bool,
     taken: bool,
     bit: u32,
@@ -250,14 +279,16 @@ fn add_element_if(
     out: &mut Vec<Ref>,
 ) -> Result<(), AllocError>
     requires cells { AreLiveCells store.old cells.now }
+    requires known { AreKnownOfCase store.old problem.now cells.now known.old }
     requires room { 2 * (bit + bits_of_family problem.now.families problem.now.lists problem.now.types element.now.family) ≤ store.old.vars }
     requires out { AreLive store.old out.old.items }
     ensures keeps { Keeps store.old store.new }
     ensures out { OnOk result (AreLive store.new out.new.items) }
+    ensures known { OnOk result (AreKnownOfCase store.new problem.entry.now cells.now known.new) }
     ensures adds { OnOk result (OfCases problem.entry.now (λ c. AreCellsOf c store.old problem.entry.now cells.now → (x : AbsElement) → AreElements c (x ∷ []) (element.now ∷ []) → AddsFunctions store.old store.new out.old.items out.new.items (if taken then element_function c step (record { element = x; bit = bit }) ∷ [] else []))) }
 {
     if taken {
-        let r = element_at(alloc, problem, cells, step, bit, element, store)?;
+        let r = element_at(alloc, problem, cells, known, step, bit, element, store)?;
         out.push(r)?;
         return Ok(());
     }
@@ -265,10 +296,11 @@ fn add_element_if(
 }
 
 /// The functions of the elements whose turn it is, by the demands of now. The first has this bit.
-pub fn add_elements(
+pub fn add_elements<'a>(
     alloc: Global,
-    problem: &Problem,
+    problem: &'a Problem,
     cells: &Cells,
+    known: &mut CaseKnown<'a>,
     step: bool,
     turn: Turn,
     bit: u32,
@@ -277,10 +309,12 @@ pub fn add_elements(
     out: &mut Vec<Ref>,
 ) -> Result<(), AllocError>
     requires cells { AreLiveCells store.old cells.now }
+    requires known { AreKnownOfCase store.old problem.now cells.now known.old }
     requires room { 2 * (bit + bits_of_elements problem.now.families problem.now.lists problem.now.types elements.now) ≤ store.old.vars }
     requires out { AreLive store.old out.old.items }
     ensures keeps { Keeps store.old store.new }
     ensures out { OnOk result (AreLive store.new out.new.items) }
+    ensures known { OnOk result (AreKnownOfCase store.new problem.entry.now cells.now known.new) }
     ensures adds { OnOk result (OfCases problem.entry.now (λ c. AreCellsOf c store.old problem.entry.now cells.now → (xs : List AbsElement) → AreElements c xs elements.now → AddsFunctions store.old store.new out.old.items out.new.items (map (element_function c step) (filter (is_turn c.problem.now turn) (slots_from c.problem.world bit xs))))) }
 {
     let _ = store.vars();
@@ -288,59 +322,69 @@ pub fn add_elements(
         return Ok(());
     };
     let taken = is_its_turn(alloc, problem, problem.now.as_slice(), turn, element)?;
-    add_element_if(alloc, problem, cells, step, taken, bit, element, store, out)?;
+    add_element_if(
+        alloc, problem, cells, known, step, taken, bit, element, store, out,
+    )?;
     let behind = bit + width(problem, element.family);
     add_elements(
-        alloc, problem, cells, step, turn, behind, others, store, out,
+        alloc, problem, cells, known, step, turn, behind, others, store, out,
     )?;
     Ok(())
 }
 
 // The functions of the demands of before that define an element, where it is taken.
-fn add_own_if(
+fn add_own_if<'a>(
     alloc: Global,
-    problem: &Problem,
+    problem: &'a Problem,
     cells: &Cells,
+    known: &mut CaseKnown<'a>,
     taken: bool,
     element: &Element,
     store: &mut Store,
     out: &mut Vec<Ref>,
 ) -> Result<(), AllocError>
     requires cells { AreLiveCells store.old cells.now }
+    requires known { AreKnownOfCase store.old problem.now cells.now known.old }
     requires out { AreLive store.old out.old.items }
     ensures keeps { Keeps store.old store.new }
     ensures out { OnOk result (AreLive store.new out.new.items) }
+    ensures known { OnOk result (AreKnownOfCase store.new problem.entry.now cells.now known.new) }
     ensures adds { OnOk result (OfCases problem.entry.now (λ c. AreCellsOf c store.old problem.entry.now cells.now → (x : AbsElement) → AreElements c (x ∷ []) (element.now ∷ []) → AddsFunctions store.old store.new out.old.items out.new.items (map (met_step c) (if taken then those_of c.problem.before x else [])))) }
 {
     if taken {
         let demands = problem.before.as_slice();
-        add_own(alloc, problem, cells, true, element, demands, store, out)?;
+        add_own(
+            alloc, problem, cells, known, true, element, demands, store, out,
+        )?;
         return Ok(());
     }
     Ok(())
 }
 
 /// Those of the elements whose turn it is, by the demands of before: in a step.
-pub fn add_before(
+pub fn add_before<'a>(
     alloc: Global,
-    problem: &Problem,
+    problem: &'a Problem,
     cells: &Cells,
+    known: &mut CaseKnown<'a>,
     turn: Turn,
     elements: &[Element],
     store: &mut Store,
     out: &mut Vec<Ref>,
 ) -> Result<(), AllocError>
     requires cells { AreLiveCells store.old cells.now }
+    requires known { AreKnownOfCase store.old problem.now cells.now known.old }
     requires out { AreLive store.old out.old.items }
     ensures keeps { Keeps store.old store.new }
     ensures out { OnOk result (AreLive store.new out.new.items) }
+    ensures known { OnOk result (AreKnownOfCase store.new problem.entry.now cells.now known.new) }
     ensures adds { OnOk result (OfCases problem.entry.now (λ c. AreCellsOf c store.old problem.entry.now cells.now → (xs : List AbsElement) → AreElements c xs elements.now → (bit : ℕ) → AddsFunctions store.old store.new out.old.items out.new.items (map (met_step c) (flat_map (λ (slot : Slot). those_of c.problem.before slot.element) (filter (is_turn c.problem.before turn) (slots_from c.problem.world bit xs)))))) }
 {
     let Some((element, others)) = elements.split_first() else {
         return Ok(());
     };
     let taken = is_its_turn(alloc, problem, problem.before.as_slice(), turn, element)?;
-    add_own_if(alloc, problem, cells, taken, element, store, out)?;
-    add_before(alloc, problem, cells, turn, others, store, out)?;
+    add_own_if(alloc, problem, cells, known, taken, element, store, out)?;
+    add_before(alloc, problem, cells, known, turn, others, store, out)?;
     Ok(())
 }

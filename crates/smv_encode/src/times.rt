@@ -10,48 +10,60 @@ ghost use Rattle.smv_problem.specs.Written.{written_demand};
 ghost use Rattle.smv_problem.specs.WellFormed.{OfCases, IsFit};
 ghost use Rattle.smv_cells.specs.Cells.{AreCellsMade};
 ghost use Rattle.smv_cells.specs.Seen.{IsSeen};
+ghost use Rattle.smv_outcomes.specs.Remembered.{AreKnown};
 ghost use Rattle.smv_encode.specs.Coded.{view_at, state_at};
-ghost use Rattle.smv_encode.specs.Encoded.{met_at as met_function, broken_at, IsKept, AreLiveCells, AreCellsOf};
+ghost use Rattle.smv_encode.specs.Encoded.{met_at as met_function, broken_at, IsKept, AreLiveCells, AreCellsOf, AreKnownOfCase};
 
-use crate::cells::Cells;
+use crate::cells::{CaseKnown, Cells};
 use bdd_ops::and;
 use bdd_store::{Ref, Store};
 use smv_cells::Cell;
+use smv_conditions::chances::Chances;
 use smv_core::flat::Guard;
+use smv_outcomes::{Known, nothing_known};
 use smv_problem::{Demand, Problem};
 use smv_walks::demands::{broken, may_hold, met};
 use std::alloc::{AllocError, Global};
 
 /// Where a demand is met at time 0, by the cells of the current bits.
-pub fn first_by(
+pub fn first_by<'a>(
     alloc: Global,
     problem: &Problem,
     current: &[Cell<Ref>],
-    demand: &Demand,
+    known: &mut Known<'a, Chances<Ref>>,
+    demand: &'a Demand,
     store: &mut Store,
 ) -> Result<Ref, AllocError>
     requires live { AreCellsMade (IsLive store.old) current.now }
+    requires known { AreKnown IsLive table store.old problem.now current.now known.old.entries.items }
     ensures keeps { Keeps store.old store.new }
     ensures live { IfOk result (λ r. IsLive store.new r) }
+    ensures known { IfOk result (λ r. AreKnown IsLive table store.new problem.entry.now current.now known.new.entries.items) }
     ensures means { IfOk result (λ r. OfCases problem.entry.now (λ c. IsSeen table store.old problem.entry.now current.now (view_at c false) → (d : Demanded) → demand.now ≡ written_demand c.problem.world.classes d → IsFit c d → IsKept c d → table store.new r ≡ met_first c d)) }
 {
     let _ = store.vars();
-    let r = met(store, alloc, problem, None, current, demand);
+    let mut past = nothing_known(alloc);
+    let r = met(
+        store, alloc, problem, None, &mut past, current, known, demand,
+    );
     let _ = store.vars();
     r
 }
 
 /// Where it is met in a step, by those of the current and of the next bits.
-pub fn step_by(
+pub fn step_by<'a>(
     alloc: Global,
     problem: &Problem,
     cells: &Cells,
-    demand: &Demand,
+    known: &mut CaseKnown<'a>,
+    demand: &'a Demand,
     store: &mut Store,
 ) -> Result<Ref, AllocError>
     requires live { AreLiveCells store.old cells.now }
+    requires known { AreKnownOfCase store.old problem.now cells.now known.old }
     ensures keeps { Keeps store.old store.new }
     ensures live { IfOk result (λ r. IsLive store.new r) }
+    ensures known { IfOk result (λ r. AreKnownOfCase store.new problem.entry.now cells.now known.new) }
     ensures means { IfOk result (λ r. OfCases problem.entry.now (λ c. AreCellsOf c store.old problem.entry.now cells.now → (d : Demanded) → demand.now ≡ written_demand c.problem.world.classes d → IsFit c d → IsKept c d → table store.new r ≡ met_step c d)) }
 {
     let _ = store.vars();
@@ -61,7 +73,9 @@ pub fn step_by(
         alloc,
         problem,
         Some(old),
+        &mut known.current,
         cells.next.as_slice(),
+        &mut known.next,
         demand,
     );
     let _ = store.vars();
@@ -69,97 +83,117 @@ pub fn step_by(
 }
 
 /// Where it is met: at time 0, or in a step.
-pub fn met_at(
+pub fn met_at<'a>(
     alloc: Global,
     problem: &Problem,
     cells: &Cells,
+    known: &mut CaseKnown<'a>,
     step: bool,
-    demand: &Demand,
+    demand: &'a Demand,
     store: &mut Store,
 ) -> Result<Ref, AllocError>
     requires live { AreLiveCells store.old cells.now }
+    requires known { AreKnownOfCase store.old problem.now cells.now known.old }
     ensures keeps { Keeps store.old store.new }
     ensures live { IfOk result (λ r. IsLive store.new r) }
+    ensures known { IfOk result (λ r. AreKnownOfCase store.new problem.entry.now cells.now known.new) }
     ensures means { IfOk result (λ r. OfCases problem.entry.now (λ c. AreCellsOf c store.old problem.entry.now cells.now → (d : Demanded) → demand.now ≡ written_demand c.problem.world.classes d → IsFit c d → IsKept c d → table store.new r ≡ met_function c step d)) }
 {
     if step {
-        let r = step_by(alloc, problem, cells, demand, store)?;
+        let r = step_by(alloc, problem, cells, known, demand, store)?;
         Ok(r)
     } else {
-        let r = first_by(alloc, problem, cells.current.as_slice(), demand, store)?;
+        let current = cells.current.as_slice();
+        let r = first_by(alloc, problem, current, &mut known.current, demand, store)?;
         Ok(r)
     }
 }
 
 // Where a guard may hold in the state of these cells.
-fn guard_by(
+fn guard_by<'a>(
     alloc: Global,
     problem: &Problem,
     now: &[Cell<Ref>],
-    guard: &Guard,
+    known: &mut Known<'a, Chances<Ref>>,
+    guard: &'a Guard,
     store: &mut Store,
 ) -> Result<Ref, AllocError>
     requires live { AreCellsMade (IsLive store.old) now.now }
+    requires known { AreKnown IsLive table store.old problem.now now.now known.old.entries.items }
     ensures keeps { Keeps store.old store.new }
     ensures live { IfOk result (λ r. IsLive store.new r) }
+    ensures known { IfOk result (λ r. AreKnown IsLive table store.new problem.entry.now now.now known.new.entries.items) }
     ensures means { IfOk result (λ r. OfCases problem.entry.now (λ c. (next : Bool) → IsSeen table store.old problem.entry.now now.now (view_at c next) → Has c.problem.guards guard.now → (a : ℕ → Bool) → table store.new r a ≡ may_hold_in c.problem (state_at c next a) guard.now)) }
 {
     let _ = store.vars();
-    let r = may_hold(store, alloc, problem, now, guard);
+    let r = may_hold(store, alloc, problem, now, known, guard);
     let _ = store.vars();
     r
 }
 
 // Where each of these guards may hold.
-fn guards_by(
+fn guards_by<'a>(
     alloc: Global,
     problem: &Problem,
     now: &[Cell<Ref>],
-    guards: &[Guard],
+    known: &mut Known<'a, Chances<Ref>>,
+    guards: &'a [Guard],
     store: &mut Store,
 ) -> Result<Ref, AllocError>
     requires live { AreCellsMade (IsLive store.old) now.now }
+    requires known { AreKnown IsLive table store.old problem.now now.now known.old.entries.items }
     ensures keeps { Keeps store.old store.new }
     ensures live { IfOk result (λ r. IsLive store.new r) }
+    ensures known { IfOk result (λ r. AreKnown IsLive table store.new problem.entry.now now.now known.new.entries.items) }
     ensures means { IfOk result (λ r. OfCases problem.entry.now (λ c. (next : Bool) → IsSeen table store.old problem.entry.now now.now (view_at c next) → ((g : GuardData) → Has guards.now g → Has c.problem.guards g) → (a : ℕ → Bool) → table store.new r a ≡ list_all (may_hold_in c.problem (state_at c next a)) guards.now)) }
 {
     let Some((guard, others)) = guards.split_first() else {
         return Ok(store.constant(true));
     };
-    let held = guard_by(alloc, problem, now, guard, store)?;
-    let all_held = guards_by(alloc, problem, now, others, store)?;
+    let held = guard_by(alloc, problem, now, known, guard, store)?;
+    let all_held = guards_by(alloc, problem, now, known, others, store)?;
     let r = and(alloc, store, held, all_held)?;
     Ok(r)
 }
 
 // Where the target is broken at time 0.
-fn target_first(
+fn target_first<'a>(
     alloc: Global,
-    problem: &Problem,
+    problem: &'a Problem,
     current: &[Cell<Ref>],
+    known: &mut Known<'a, Chances<Ref>>,
     store: &mut Store,
 ) -> Result<Ref, AllocError>
     requires live { AreCellsMade (IsLive store.old) current.now }
+    requires known { AreKnown IsLive table store.old problem.now current.now known.old.entries.items }
     ensures keeps { Keeps store.old store.new }
     ensures live { IfOk result (λ r. IsLive store.new r) }
+    ensures known { IfOk result (λ r. AreKnown IsLive table store.new problem.entry.now current.now known.new.entries.items) }
     ensures means { IfOk result (λ r. OfCases problem.entry.now (λ c. IsSeen table store.old problem.entry.now current.now (view_at c false) → (a : ℕ → Bool) → table store.new r a ≡ is_broken c.problem None (old_state c a) c.problem.target)) }
 {
     let _ = store.vars();
-    let r = broken(store, alloc, problem, None, current, &problem.target);
+    let mut past = nothing_known(alloc);
+    let target = &problem.target;
+    let r = broken(
+        store, alloc, problem, None, &mut past, current, known, target,
+    );
     let _ = store.vars();
     r
 }
 
 // Where it is broken in a step.
-fn target_step(
+fn target_step<'a>(
     alloc: Global,
-    problem: &Problem,
+    problem: &'a Problem,
     cells: &Cells,
+    known: &mut CaseKnown<'a>,
     store: &mut Store,
 ) -> Result<Ref, AllocError>
     requires live { AreLiveCells store.old cells.now }
+    requires known { AreKnownOfCase store.old problem.now cells.now known.old }
     ensures keeps { Keeps store.old store.new }
     ensures live { IfOk result (λ r. IsLive store.new r) }
+    ensures known { IfOk result (λ r. AreKnownOfCase store.new problem.entry.now cells.now known.new) }
     ensures means { IfOk result (λ r. OfCases problem.entry.now (λ c. AreCellsOf c store.old problem.entry.now cells.now → (a : ℕ → Bool) → table store.new r a ≡ is_broken c.problem (Some (old_state c a)) (new_state c a) c.problem.target)) }
 {
     let _ = store.vars();
@@ -169,7 +203,9 @@ fn target_step(
         alloc,
         problem,
         Some(old),
+        &mut known.current,
         cells.next.as_slice(),
+        &mut known.next,
         &problem.target,
     );
     let _ = store.vars();
@@ -177,38 +213,46 @@ fn target_step(
 }
 
 /// Where the target is broken at time 0, and each guard may hold.
-pub fn broken_first_by(
+pub fn broken_first_by<'a>(
     alloc: Global,
-    problem: &Problem,
+    problem: &'a Problem,
     current: &[Cell<Ref>],
+    known: &mut Known<'a, Chances<Ref>>,
     store: &mut Store,
 ) -> Result<Ref, AllocError>
     requires live { AreCellsMade (IsLive store.old) current.now }
+    requires known { AreKnown IsLive table store.old problem.now current.now known.old.entries.items }
     ensures keeps { Keeps store.old store.new }
     ensures live { IfOk result (λ r. IsLive store.new r) }
+    ensures known { IfOk result (λ r. AreKnown IsLive table store.new problem.entry.now current.now known.new.entries.items) }
     ensures means { IfOk result (λ r. OfCases problem.entry.now (λ c. IsSeen table store.old problem.entry.now current.now (view_at c false) → table store.new r ≡ broken_at c false)) }
 {
-    let held = guards_by(alloc, problem, current, problem.guards.as_slice(), store)?;
-    let broken = target_first(alloc, problem, current, store)?;
+    let guards = problem.guards.as_slice();
+    let held = guards_by(alloc, problem, current, known, guards, store)?;
+    let broken = target_first(alloc, problem, current, known, store)?;
     let r = and(alloc, store, held, broken)?;
     Ok(r)
 }
 
 /// Where it is broken in a step, and each guard may hold.
-pub fn broken_step_by(
+pub fn broken_step_by<'a>(
     alloc: Global,
-    problem: &Problem,
+    problem: &'a Problem,
     cells: &Cells,
+    known: &mut CaseKnown<'a>,
     store: &mut Store,
 ) -> Result<Ref, AllocError>
     requires live { AreLiveCells store.old cells.now }
+    requires known { AreKnownOfCase store.old problem.now cells.now known.old }
     ensures keeps { Keeps store.old store.new }
     ensures live { IfOk result (λ r. IsLive store.new r) }
+    ensures known { IfOk result (λ r. AreKnownOfCase store.new problem.entry.now cells.now known.new) }
     ensures means { IfOk result (λ r. OfCases problem.entry.now (λ c. AreCellsOf c store.old problem.entry.now cells.now → table store.new r ≡ broken_at c true)) }
 {
     let guards = problem.guards.as_slice();
-    let held = guards_by(alloc, problem, cells.next.as_slice(), guards, store)?;
-    let broken = target_step(alloc, problem, cells, store)?;
+    let next = cells.next.as_slice();
+    let held = guards_by(alloc, problem, next, &mut known.next, guards, store)?;
+    let broken = target_step(alloc, problem, cells, known, store)?;
     let r = and(alloc, store, held, broken)?;
     Ok(r)
 }

@@ -6,3 +6,4 @@ pub mod StateHeld
 pub mod SureLaws
 pub mod StateSure
 pub mod PathLaws
+pub mod KnownLaws

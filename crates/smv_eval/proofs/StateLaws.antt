@@ -20,7 +20,7 @@ use Rattle.law_obligations.proofs.Members.{Has-left, Has-right, Has-cases, Has-m
 use Rattle.law_obligations.proofs.Tests.{true_or_false, left_of, right_of, and_both, same_tests}
 use Rattle.law_obligations.proofs.Spots.{Has-numbers, numbers-Has}
 use Rattle.law_obligations.proofs.OneOfEach.{get_Has}
-use Rattle.law_obligations.specs.Cones.{AbsElement, element, same_places, same_element, kept}
+use Rattle.law_obligations.specs.Cones.{AbsElement, element, same_places, same_element}
 use Rattle.law_obligations.proofs.ConeFacts.{same_element-itself, same_element-family, same_element-indexes}
 use Rattle.law_designs.specs.FlatKinds.{kind_of}
 use Rattle.law_obligations.specs.Readings.{Case}

@@ -13,12 +13,13 @@ ghost use Rattle.smv_eval.specs.Held.{IsNowBy, AreReadBy};
 use smv_cells::Cell;
 use smv_conditions::stores::Plain;
 use smv_core::flat::Guard;
+use smv_outcomes::nothing_known;
 use smv_problem::{Demand, Problem};
 use smv_walks::demands;
 use std::alloc::{AllocError, Global};
 
 /// A demand is met.
-#[tactic(auto, using(crate::proofs::HeldLaws::cells_made, crate::proofs::HeldLaws::old_made))]
+#[tactic(auto, using(crate::proofs::HeldLaws::cells_made, crate::proofs::HeldLaws::old_made, smv_outcomes::proofs::KnownLaws::none_known, crate::proofs::KnownLaws::none_past))]
 pub fn demand_met(
     alloc: Global,
     problem: &Problem,
@@ -29,7 +30,11 @@ pub fn demand_met(
     ensures { IfOk result (λ met. (p : Case) (before : Option Abstract) (now : Abstract) → AreReadBy problem.entry.now (option_copied old.entry) cells.now p before now → (d : Demanded) → IsDemand p d → demand.now ≡ written_demand p.world.classes d → met ≡ is_met p before now d) }
 {
     let mut plain = Plain {};
-    let met = demands::met(&mut plain, alloc, problem, old, cells, demand)?;
+    let mut past = nothing_known(alloc);
+    let mut known = nothing_known(alloc);
+    let met = demands::met(
+        &mut plain, alloc, problem, old, &mut past, cells, &mut known, demand,
+    )?;
     Ok(met)
 }
 
@@ -54,7 +59,7 @@ pub fn all_met(
 }
 
 // Each of these guards may hold.
-#[tactic(auto, using(crate::proofs::HeldLaws::cells_made))]
+#[tactic(auto, using(crate::proofs::HeldLaws::cells_made, smv_outcomes::proofs::KnownLaws::none_known))]
 fn all_may_hold(
     alloc: Global,
     problem: &Problem,
@@ -67,7 +72,8 @@ fn all_may_hold(
         return Ok(true);
     };
     let mut plain = Plain {};
-    if !demands::may_hold(&mut plain, alloc, problem, cells, guard)? {
+    let mut known = nothing_known(alloc);
+    if !demands::may_hold(&mut plain, alloc, problem, cells, &mut known, guard)? {
         return Ok(false);
     }
     let hold = all_may_hold(alloc, problem, cells, others)?;
@@ -75,7 +81,7 @@ fn all_may_hold(
 }
 
 // The target is broken.
-#[tactic(auto, using(crate::proofs::HeldLaws::cells_made, crate::proofs::HeldLaws::old_made))]
+#[tactic(auto, using(crate::proofs::HeldLaws::cells_made, crate::proofs::HeldLaws::old_made, smv_outcomes::proofs::KnownLaws::none_known, crate::proofs::KnownLaws::none_past))]
 fn target_broken(
     alloc: Global,
     problem: &Problem,
@@ -86,7 +92,11 @@ fn target_broken(
     ensures { IfOk result (λ broken. (p : Case) (before : Option Abstract) (now : Abstract) → AreReadBy problem.entry.now (option_copied old.entry) cells.now p before now → (d : Demanded) → IsTargetOf p d → target.now ≡ written_demand p.world.classes d → broken ≡ is_broken p before now d) }
 {
     let mut plain = Plain {};
-    let broken = demands::broken(&mut plain, alloc, problem, old, cells, target)?;
+    let mut past = nothing_known(alloc);
+    let mut known = nothing_known(alloc);
+    let broken = demands::broken(
+        &mut plain, alloc, problem, old, &mut past, cells, &mut known, target,
+    )?;
     Ok(broken)
 }
 

@@ -20,6 +20,7 @@ use smv_conditions::offers::Offer;
 use smv_conditions::stores::Plain;
 use smv_core::Seq;
 use smv_core::flat::{Element, Flat};
+use smv_outcomes::nothing_known;
 use smv_problem::{AbsValue, Demand, Problem};
 use smv_spots::spots::Spot;
 use smv_targets::places_for;
@@ -28,7 +29,7 @@ use smv_walks::given::target_gives;
 use std::alloc::{AllocError, Global};
 
 // Whether the definition of an element allows it this value for certain.
-#[tactic(auto, using(crate::proofs::SureLaws::cells_made, crate::proofs::SureLaws::old_made))]
+#[tactic(auto, using(crate::proofs::SureLaws::cells_made, crate::proofs::SureLaws::old_made, smv_outcomes::proofs::KnownLaws::none_known, crate::proofs::KnownLaws::none_past))]
 fn is_sure(
     alloc: Global,
     problem: &Problem,
@@ -46,12 +47,16 @@ fn is_sure(
     let target = target_at(alloc, problem, element, value)?;
     let mut plain = Plain {};
     let family = element.family;
+    let mut past = nothing_known(alloc);
+    let mut known = nothing_known(alloc);
     let not_sure = target_gives(
         &mut plain,
         alloc,
         problem,
         old,
+        &mut past,
         cells,
+        &mut known,
         &target,
         Way::Must,
         family,

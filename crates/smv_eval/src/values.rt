@@ -18,6 +18,7 @@ use smv_conditions::stores::Plain;
 use smv_core::Seq;
 use smv_core::flat::{FlatExpr, Simple};
 use smv_outcomes::expressions::offers_for;
+use smv_outcomes::nothing_known;
 use smv_problem::{AbsState, AbsValue, Problem};
 use smv_problem_spots::numbers::{constants, name_number};
 use smv_spots::spots::Spot;
@@ -168,7 +169,7 @@ pub fn values_of(
 }
 
 /// What an expression may be in an abstract state, each outcome once; its variables are of index types.
-#[tactic(auto, using(crate::proofs::ValueLaws::cells_made))]
+#[tactic(auto, using(crate::proofs::ValueLaws::cells_made, smv_outcomes::proofs::KnownLaws::none_known))]
 pub fn may(
     alloc: Global,
     problem: &Problem,
@@ -182,7 +183,16 @@ pub fn may(
 {
     let cells = cells_of(alloc, problem, s)?;
     let mut plain = Plain {};
-    let offers = offers_for(&mut plain, alloc, problem, cells.as_slice(), e, bindings)?;
+    let mut known = nothing_known(alloc);
+    let offers = offers_for(
+        &mut plain,
+        alloc,
+        problem,
+        cells.as_slice(),
+        &mut known,
+        e,
+        bindings,
+    )?;
     let values = values_of(alloc, problem, list_in(problem, e), offers.as_slice())?;
     Ok(values)
 }

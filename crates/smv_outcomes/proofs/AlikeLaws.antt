@@ -42,7 +42,7 @@ alike_made IsMade x bs each e m = subst (AllMade IsMade) (sym e) (at bs)
     at (b ∷ bs) = (m, at bs)
 
 -- bindings that agree are at places that agree
-placed_alike : {X Y : Type 0} (place : X → Y) (f : ℕ → Bool) (b c : List X) → Agree f b c → Agree f (map place b) (map place c)
+pub placed_alike : {X Y : Type 0} (place : X → Y) (f : ℕ → Bool) (b c : List X) → Agree f b c → Agree f (map place b) (map place c)
 placed_alike place f [] [] h = tt
 placed_alike place f [] (y ∷ c) h = absurd h
 placed_alike place f (x ∷ b) [] h = absurd h

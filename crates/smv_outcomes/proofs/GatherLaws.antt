@@ -25,13 +25,16 @@ use Rattle.smv_cells.specs.declared.cells.Cell.{Cell}
 use Rattle.smv_cells.specs.Cells.{AreCellsMade}
 use Rattle.smv_cells.specs.Seen.{View, IsSeen, outcomes}
 use Rattle.smv_outcome_lists.specs.Lists.{AreListsMade}
+use Rattle.smv_free_variables.specs.declared.known.Entry.{Entry}
+use Rattle.smv_outcomes.specs.Remembered.{AreKnown}
 use Rattle.smv_outcomes.specs.Outcomes.{mix_in, member_in, AreOffersOf, IsTruthOf, AreTruthsOf, AreTruthsAlong, AreListsOf, AreMembersOf, AddsMember, IsSumOf}
 
--- what a loop over parts keeps: conditions that were made, and that what is gathered is right for each view
-pub record Gathering {S C : Type 0} (IsMade : S → C → Type 0) (holds : S → C → (ℕ → Bool) → Bool) (room : S → ℕ) (start s : S) (problem : Problem) (cells : List (Cell C)) (Made : Type 0) (are : View → Type 0) : Type 0 where
+-- what a loop over parts keeps: conditions that were made, what is known, and that what is gathered is right for each view
+pub record Gathering {S C : Type 0} (IsMade : S → C → Type 0) (holds : S → C → (ℕ → Bool) → Bool) (room : S → ℕ) (start s : S) (problem : Problem) (cells : List (Cell C)) (entries : List (Entry (Chances C))) (Made : Type 0) (are : View → Type 0) : Type 0 where
   pub keeps : KeepsConditions IsMade holds room start s
   pub made : Made
   pub cells_made : AreCellsMade (IsMade s) cells
+  pub known : AreKnown IsMade holds s problem cells entries
   pub is : (v : View) → IsSeen holds start problem cells v → are v
 
 map_more : {X Y : Type 0} (f : X → Y) (xs : List X) (x : X) → map f (xs ++ x ∷ []) ≡ map f xs ++ f x ∷ []

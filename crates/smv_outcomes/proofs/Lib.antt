@@ -4,3 +4,4 @@ pub mod ElementLaws
 pub mod SetLaws
 pub mod QuantifierLaws
 pub mod AlikeLaws
+pub mod KnownLaws

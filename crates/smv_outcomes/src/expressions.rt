@@ -7,6 +7,7 @@ ghost use Rattle.smv_conditions.specs.Offers.{IsMayMade, AreOffersMade};
 ghost use Rattle.smv_cells.specs.Cells.{AreCellsMade};
 ghost use Rattle.smv_cells.specs.Seen.{View, IsSeen};
 ghost use Rattle.smv_outcome_lists.specs.Lists.{AreListsMade};
+ghost use Rattle.smv_outcomes.specs.Remembered.{AreKnown, Remembers};
 ghost use Rattle.smv_outcomes.specs.Outcomes.{IsMayOf, AreOffersOf, IsTruthOf, AreTruthsOf, AreTruthsAlong, AreListsOf, AreMembersOf, AddsMember, AreListedIn, IsSumOf};
 
 use crate::bindings::{bound_named, bound_rests, same_for_each};
@@ -17,6 +18,7 @@ use smv_conditions::offers::{May, Offer, single, truths_of};
 use smv_core::flat::{FlatExpr, FlatMember, FlatSigned};
 use smv_core::seq::Seq;
 use smv_free_variables::alike::all_agree;
+use smv_free_variables::known::Known;
 use smv_outcome_lists::combined::{chosen, matched, offers_of, valued};
 use smv_outcome_lists::compared_lists;
 use smv_outcome_lists::members::{add_numbers, within_of};
@@ -35,20 +37,108 @@ fn variable(b: &[Spot], var: u16) -> Option<Spot>
     b.get(var as usize).copied()
 }
 
-/// What an expression may be.
+// Whether an expression is looked for among what is known before it is worked out: where that costs more than to look. The parts of a short chain are looked for by themselves.
+fn is_looked_for(e: &FlatExpr) -> bool {
+    match e {
+        FlatExpr::All { .. } => true,
+        FlatExpr::Any { .. } => true,
+        FlatExpr::And { parts } => parts.len() > 2,
+        FlatExpr::Or { parts } => parts.len() > 2,
+        FlatExpr::Implies { parts } => parts.len() > 2,
+        _ => false,
+    }
+}
+
+/// What an expression may be. What is known of an expression that differs by its places in the text alone, under bindings that agree on what it reads, is not worked out again.
 #[cycle(expressions)]
-pub fn may_of<S: Conditions>(
+pub fn may_of<'a, S: Conditions>(
     s: &mut S,
     alloc: Global,
     problem: &Problem,
     cells: &[Cell<S::Condition>],
-    e: &FlatExpr,
+    known: &mut Known<'a, Chances<S::Condition>>,
+    e: &'a FlatExpr,
     b: &[Spot],
 ) -> Result<May<S::Condition>, AllocError>
     requires cells_made { AreCellsMade (S.IsMade s.old) cells.now }
+    requires known { AreKnown S.IsMade S.holds s.old problem.now cells.now known.old.entries.items }
     ensures keeps { KeepsConditions S.IsMade S.holds S.room s.old s.new }
     ensures made { IfOk result (λ m. IsMayMade (S.IsMade s.new) m) }
     ensures cells { IfOk result (λ m. AreCellsMade (S.IsMade s.new) cells.now) }
+    ensures known { IfOk result (λ m. AreKnown S.IsMade S.holds s.new problem.entry.now cells.now known.new.entries.items) }
+    ensures is { IfOk result (λ m. (v : View) → IsSeen S.holds s.old problem.entry.now cells.now v → IsMayOf S.holds s.new v e.now b.now m) }
+{
+    if is_looked_for(e) {
+        let m = may_once(s, alloc, problem, cells, known, e, b)?;
+        return Ok(m);
+    }
+    let m = may_anew(s, alloc, problem, cells, known, e, b)?;
+    Ok(m)
+}
+
+// Truth values are remembered.
+fn remember<'a, C: Copy>(
+    alloc: Global,
+    known: &mut Known<'a, Chances<C>>,
+    e: &'a FlatExpr,
+    b: &[Spot],
+    m: &May<C>,
+) -> Result<(), AllocError>
+    ensures { OnOk result (Remembers known.old.entries.items known.new.entries.items e.entry b.now m.now) }
+{
+    match m {
+        May::Truths(x) => {
+            known.remember(alloc, e, b, *x)?;
+            Ok(())
+        }
+        May::Values(_) => Ok(()),
+    }
+}
+
+// What an expression may be, if that is known, and else worked out and remembered.
+#[cycle(expressions)]
+fn may_once<'a, S: Conditions>(
+    s: &mut S,
+    alloc: Global,
+    problem: &Problem,
+    cells: &[Cell<S::Condition>],
+    known: &mut Known<'a, Chances<S::Condition>>,
+    e: &'a FlatExpr,
+    b: &[Spot],
+) -> Result<May<S::Condition>, AllocError>
+    requires cells_made { AreCellsMade (S.IsMade s.old) cells.now }
+    requires known { AreKnown S.IsMade S.holds s.old problem.now cells.now known.old.entries.items }
+    ensures keeps { KeepsConditions S.IsMade S.holds S.room s.old s.new }
+    ensures made { IfOk result (λ m. IsMayMade (S.IsMade s.new) m) }
+    ensures cells { IfOk result (λ m. AreCellsMade (S.IsMade s.new) cells.now) }
+    ensures known { IfOk result (λ m. AreKnown S.IsMade S.holds s.new problem.entry.now cells.now known.new.entries.items) }
+    ensures is { IfOk result (λ m. (v : View) → IsSeen S.holds s.old problem.entry.now cells.now v → IsMayOf S.holds s.new v e.now b.now m) }
+{
+    if let Some(x) = known.find(e, b) {
+        return Ok(May::Truths(x));
+    }
+    let m = may_anew(s, alloc, problem, cells, known, e, b)?;
+    remember(alloc, known, e, b, &m)?;
+    Ok(m)
+}
+
+// What an expression may be, by its parts.
+#[cycle(expressions)]
+fn may_anew<'a, S: Conditions>(
+    s: &mut S,
+    alloc: Global,
+    problem: &Problem,
+    cells: &[Cell<S::Condition>],
+    known: &mut Known<'a, Chances<S::Condition>>,
+    e: &'a FlatExpr,
+    b: &[Spot],
+) -> Result<May<S::Condition>, AllocError>
+    requires cells_made { AreCellsMade (S.IsMade s.old) cells.now }
+    requires known { AreKnown S.IsMade S.holds s.old problem.now cells.now known.old.entries.items }
+    ensures keeps { KeepsConditions S.IsMade S.holds S.room s.old s.new }
+    ensures made { IfOk result (λ m. IsMayMade (S.IsMade s.new) m) }
+    ensures cells { IfOk result (λ m. AreCellsMade (S.IsMade s.new) cells.now) }
+    ensures known { IfOk result (λ m. AreKnown S.IsMade S.holds s.new problem.entry.now cells.now known.new.entries.items) }
     ensures is { IfOk result (λ m. (v : View) → IsSeen S.holds s.old problem.entry.now cells.now v → IsMayOf S.holds s.new v e.now b.now m) }
 {
     match e {
@@ -73,61 +163,61 @@ pub fn may_of<S: Conditions>(
             indexes,
             ..
         } => {
-            let uss = lists_each(s, alloc, problem, cells, indexes.as_slice(), b)?;
+            let uss = lists_each(s, alloc, problem, cells, known, indexes.as_slice(), b)?;
             let offers = read_of(s, alloc, problem, cells, *family, uss.as_slice())?;
             Ok(valued(offers))
         }
         FlatExpr::Not { of, .. } => {
-            let x = truth_of(s, alloc, problem, cells, of.get(), b)?;
+            let x = truth_of(s, alloc, problem, cells, known, of.get(), b)?;
             Ok(May::Truths(negated(x)))
         }
         FlatExpr::And { parts } => {
-            let each = truths_each(s, alloc, problem, cells, parts.as_slice(), b)?;
+            let each = truths_each(s, alloc, problem, cells, known, parts.as_slice(), b)?;
             let x = chain_of(s, alloc, Join::And, each.as_slice())?;
             Ok(May::Truths(x))
         }
         FlatExpr::Or { parts } => {
-            let each = truths_each(s, alloc, problem, cells, parts.as_slice(), b)?;
+            let each = truths_each(s, alloc, problem, cells, known, parts.as_slice(), b)?;
             let x = chain_of(s, alloc, Join::Or, each.as_slice())?;
             Ok(May::Truths(x))
         }
         FlatExpr::Implies { parts } => {
-            let each = truths_each(s, alloc, problem, cells, parts.as_slice(), b)?;
+            let each = truths_each(s, alloc, problem, cells, known, parts.as_slice(), b)?;
             let x = chain_of(s, alloc, Join::Implies, each.as_slice())?;
             Ok(May::Truths(x))
         }
         FlatExpr::Iff { left, right } => {
-            let x = truth_of(s, alloc, problem, cells, left.get(), b)?;
-            let y = truth_of(s, alloc, problem, cells, right.get(), b)?;
+            let x = truth_of(s, alloc, problem, cells, known, left.get(), b)?;
+            let y = truth_of(s, alloc, problem, cells, known, right.get(), b)?;
             let z = matched(s, alloc, x, y)?;
             Ok(May::Truths(z))
         }
         FlatExpr::Compare { op, left, right } => {
-            let us = offers_for(s, alloc, problem, cells, left.get(), b)?;
-            let vs = offers_for(s, alloc, problem, cells, right.get(), b)?;
+            let us = offers_for(s, alloc, problem, cells, known, left.get(), b)?;
+            let vs = offers_for(s, alloc, problem, cells, known, right.get(), b)?;
             let z = compared_lists(s, alloc, problem, *op, us.as_slice(), vs.as_slice())?;
             Ok(May::Truths(z))
         }
         FlatExpr::Within { left, set } => {
-            let us = offers_for(s, alloc, problem, cells, left.get(), b)?;
-            let vss = members_for(s, alloc, problem, cells, set.get(), b)?;
+            let us = offers_for(s, alloc, problem, cells, known, left.get(), b)?;
+            let vss = members_for(s, alloc, problem, cells, known, set.get(), b)?;
             let z = within_of(s, alloc, problem, us.as_slice(), vss.as_slice())?;
             Ok(May::Truths(z))
         }
         FlatExpr::Sum { first, more } => {
-            let us = offers_for(s, alloc, problem, cells, first.get(), b)?;
-            let sum = sum_of(s, alloc, problem, cells, us, more.as_slice(), b)?;
+            let us = offers_for(s, alloc, problem, cells, known, first.get(), b)?;
+            let sum = sum_of(s, alloc, problem, cells, known, us, more.as_slice(), b)?;
             Ok(valued(sum))
         }
         FlatExpr::Modulo { of, by, .. } => {
-            let us = offers_for(s, alloc, problem, cells, of.get(), b)?;
+            let us = offers_for(s, alloc, problem, cells, known, of.get(), b)?;
             let rest = remainders_of(s, alloc, us.as_slice(), *by)?;
             Ok(valued(rest))
         }
         FlatExpr::Choose { cond, yes, no } => {
-            let x = truth_of(s, alloc, problem, cells, cond.get(), b)?;
-            let us = offers_for(s, alloc, problem, cells, yes.get(), b)?;
-            let vs = offers_for(s, alloc, problem, cells, no.get(), b)?;
+            let x = truth_of(s, alloc, problem, cells, known, cond.get(), b)?;
+            let us = offers_for(s, alloc, problem, cells, known, yes.get(), b)?;
+            let vs = offers_for(s, alloc, problem, cells, known, no.get(), b)?;
             let offers = chosen(s, alloc, x, us.as_slice(), vs.as_slice())?;
             Ok(valued(offers))
         }
@@ -139,12 +229,21 @@ pub fn may_of<S: Conditions>(
         } => {
             let named = bound_named(alloc, problem, b, *var, *over)?;
             let rests = bound_rests(alloc, problem, b, *var, *over)?;
-            let each = truths_along(s, alloc, problem, cells, body.get(), named.as_slice())?;
+            let each = truths_along(
+                s,
+                alloc,
+                problem,
+                cells,
+                known,
+                body.get(),
+                named.as_slice(),
+            )?;
             let others = truths_behind(
                 s,
                 alloc,
                 problem,
                 cells,
+                known,
                 body.get(),
                 named.as_slice(),
                 each.as_slice(),
@@ -161,12 +260,21 @@ pub fn may_of<S: Conditions>(
         } => {
             let named = bound_named(alloc, problem, b, *var, *over)?;
             let rests = bound_rests(alloc, problem, b, *var, *over)?;
-            let each = truths_along(s, alloc, problem, cells, body.get(), named.as_slice())?;
+            let each = truths_along(
+                s,
+                alloc,
+                problem,
+                cells,
+                known,
+                body.get(),
+                named.as_slice(),
+            )?;
             let others = truths_behind(
                 s,
                 alloc,
                 problem,
                 cells,
+                known,
                 body.get(),
                 named.as_slice(),
                 each.as_slice(),
@@ -188,65 +296,74 @@ pub fn may_of<S: Conditions>(
 
 /// The outcomes that an expression may have, each once.
 #[cycle(expressions)]
-pub fn offers_for<S: Conditions>(
+pub fn offers_for<'a, S: Conditions>(
     s: &mut S,
     alloc: Global,
     problem: &Problem,
     cells: &[Cell<S::Condition>],
-    e: &FlatExpr,
+    known: &mut Known<'a, Chances<S::Condition>>,
+    e: &'a FlatExpr,
     b: &[Spot],
 ) -> Result<Vec<Offer<S::Condition>>, AllocError>
     requires cells_made { AreCellsMade (S.IsMade s.old) cells.now }
+    requires known { AreKnown S.IsMade S.holds s.old problem.now cells.now known.old.entries.items }
     ensures keeps { KeepsConditions S.IsMade S.holds S.room s.old s.new }
     ensures made { IfOk result (λ offers. AreOffersMade (S.IsMade s.new) offers.items) }
     ensures cells { IfOk result (λ offers. AreCellsMade (S.IsMade s.new) cells.now) }
+    ensures known { IfOk result (λ offers. AreKnown S.IsMade S.holds s.new problem.entry.now cells.now known.new.entries.items) }
     ensures are { IfOk result (λ offers. (v : View) → IsSeen S.holds s.old problem.entry.now cells.now v → AreOffersOf S.holds s.new v e.now b.now offers.items) }
 {
-    let m = may_of(s, alloc, problem, cells, e, b)?;
+    let m = may_of(s, alloc, problem, cells, known, e, b)?;
     let offers = offers_of(s, alloc, &m)?;
     Ok(offers)
 }
 
 /// The truth values that an expression may have.
 #[cycle(expressions)]
-pub fn truth_of<S: Conditions>(
+pub fn truth_of<'a, S: Conditions>(
     s: &mut S,
     alloc: Global,
     problem: &Problem,
     cells: &[Cell<S::Condition>],
-    e: &FlatExpr,
+    known: &mut Known<'a, Chances<S::Condition>>,
+    e: &'a FlatExpr,
     b: &[Spot],
 ) -> Result<Chances<S::Condition>, AllocError>
     requires cells_made { AreCellsMade (S.IsMade s.old) cells.now }
+    requires known { AreKnown S.IsMade S.holds s.old problem.now cells.now known.old.entries.items }
     ensures keeps { KeepsConditions S.IsMade S.holds S.room s.old s.new }
     ensures made { IfOk result (λ x. AreMade (S.IsMade s.new) x) }
     ensures cells { IfOk result (λ x. AreCellsMade (S.IsMade s.new) cells.now) }
+    ensures known { IfOk result (λ x. AreKnown S.IsMade S.holds s.new problem.entry.now cells.now known.new.entries.items) }
     ensures is { IfOk result (λ x. (v : View) → IsSeen S.holds s.old problem.entry.now cells.now v → IsTruthOf S.holds s.new v e.now b.now x) }
 {
-    let m = may_of(s, alloc, problem, cells, e, b)?;
+    let m = may_of(s, alloc, problem, cells, known, e, b)?;
     let x = truths_of(s, alloc, &m)?;
     Ok(x)
 }
 
 // The truth values that each of these expressions may have.
 #[cycle(expressions)]
-fn truths_each<S: Conditions>(
+fn truths_each<'a, S: Conditions>(
     s: &mut S,
     alloc: Global,
     problem: &Problem,
     cells: &[Cell<S::Condition>],
-    parts: &[FlatExpr],
+    known: &mut Known<'a, Chances<S::Condition>>,
+    parts: &'a [FlatExpr],
     b: &[Spot],
 ) -> Result<Vec<Chances<S::Condition>>, AllocError>
     requires cells_made { AreCellsMade (S.IsMade s.old) cells.now }
+    requires known { AreKnown S.IsMade S.holds s.old problem.now cells.now known.old.entries.items }
     ensures keeps { KeepsConditions S.IsMade S.holds S.room s.old s.new }
     ensures made { IfOk result (λ each. AllMade (S.IsMade s.new) each.items) }
     ensures cells { IfOk result (λ each. AreCellsMade (S.IsMade s.new) cells.now) }
+    ensures known { IfOk result (λ each. AreKnown S.IsMade S.holds s.new problem.entry.now cells.now known.new.entries.items) }
     ensures are { IfOk result (λ each. (v : View) → IsSeen S.holds s.old problem.entry.now cells.now v → AreTruthsOf S.holds s.new v b.now parts.now [] each.items) }
 {
     let mut each = Vec::new(alloc);
     for part in parts {
-        let x = truth_of(s, alloc, problem, cells, part, b)?;
+        let x = truth_of(s, alloc, problem, cells, known, part, b)?;
         each.push(x)?;
     }
     Ok(each)
@@ -254,18 +371,21 @@ fn truths_each<S: Conditions>(
 
 // The truth values that an expression may have under each of these bindings; it is worked out once where they agree on what it reads.
 #[cycle(expressions)]
-fn truths_along<S: Conditions>(
+fn truths_along<'a, S: Conditions>(
     s: &mut S,
     alloc: Global,
     problem: &Problem,
     cells: &[Cell<S::Condition>],
-    body: &FlatExpr,
+    known: &mut Known<'a, Chances<S::Condition>>,
+    body: &'a FlatExpr,
     bindings: &[Seq<Spot>],
 ) -> Result<Vec<Chances<S::Condition>>, AllocError>
     requires cells_made { AreCellsMade (S.IsMade s.old) cells.now }
+    requires known { AreKnown S.IsMade S.holds s.old problem.now cells.now known.old.entries.items }
     ensures keeps { KeepsConditions S.IsMade S.holds S.room s.old s.new }
     ensures made { IfOk result (λ each. AllMade (S.IsMade s.new) each.items) }
     ensures cells { IfOk result (λ each. AreCellsMade (S.IsMade s.new) cells.now) }
+    ensures known { IfOk result (λ each. AreKnown S.IsMade S.holds s.new problem.entry.now cells.now known.new.entries.items) }
     ensures are { IfOk result (λ each. (v : View) → IsSeen S.holds s.old problem.entry.now cells.now v → AreTruthsAlong S.holds s.new v body.now bindings.now [] each.items) }
 {
     let Some((first, others)) = bindings.split_first() else {
@@ -273,64 +393,70 @@ fn truths_along<S: Conditions>(
     };
     let b = first.as_slice();
     if all_agree(body, b, others) {
-        let x = truth_of(s, alloc, problem, cells, body, b)?;
+        let x = truth_of(s, alloc, problem, cells, known, body, b)?;
         let same = same_for_each(alloc, x, bindings)?;
         return Ok(same);
     }
-    let each = truths_apart(s, alloc, problem, cells, body, bindings)?;
+    let each = truths_apart(s, alloc, problem, cells, known, body, bindings)?;
     Ok(each)
 }
 
-// The truth values that an expression may have under each of these bindings, where those under others are known; it is not worked out again where all agree on what it reads.
+// The truth values that an expression may have under each of these bindings, where those under others are given; it is not worked out again where all agree on what it reads.
 #[cycle(expressions)]
-fn truths_behind<S: Conditions>(
+fn truths_behind<'a, S: Conditions>(
     s: &mut S,
     alloc: Global,
     problem: &Problem,
     cells: &[Cell<S::Condition>],
-    body: &FlatExpr,
+    known: &mut Known<'a, Chances<S::Condition>>,
+    body: &'a FlatExpr,
     before: &[Seq<Spot>],
-    known: &[Chances<S::Condition>],
+    given: &[Chances<S::Condition>],
     bindings: &[Seq<Spot>],
 ) -> Result<Vec<Chances<S::Condition>>, AllocError>
     requires cells_made { AreCellsMade (S.IsMade s.old) cells.now }
-    requires known_made { AllMade (S.IsMade s.old) known.now }
+    requires known { AreKnown S.IsMade S.holds s.old problem.now cells.now known.old.entries.items }
+    requires given_made { AllMade (S.IsMade s.old) given.now }
     ensures keeps { KeepsConditions S.IsMade S.holds S.room s.old s.new }
     ensures made { IfOk result (λ each. AllMade (S.IsMade s.new) each.items) }
     ensures cells { IfOk result (λ each. AreCellsMade (S.IsMade s.new) cells.now) }
-    ensures are { IfOk result (λ each. (v : View) → IsSeen S.holds s.old problem.entry.now cells.now v → AreTruthsAlong S.holds s.old v body.now before.now [] known.now → AreTruthsAlong S.holds s.new v body.now bindings.now [] each.items) }
+    ensures known { IfOk result (λ each. AreKnown S.IsMade S.holds s.new problem.entry.now cells.now known.new.entries.items) }
+    ensures are { IfOk result (λ each. (v : View) → IsSeen S.holds s.old problem.entry.now cells.now v → AreTruthsAlong S.holds s.old v body.now before.now [] given.now → AreTruthsAlong S.holds s.new v body.now bindings.now [] each.items) }
 {
     if let Some((first, _)) = before.split_first() {
-        if let Some((x, _)) = known.split_first() {
+        if let Some((x, _)) = given.split_first() {
             if all_agree(body, first.as_slice(), bindings) {
                 let same = same_for_each(alloc, *x, bindings)?;
                 return Ok(same);
             }
         }
     }
-    let each = truths_along(s, alloc, problem, cells, body, bindings)?;
+    let each = truths_along(s, alloc, problem, cells, known, body, bindings)?;
     Ok(each)
 }
 
 // The truth values that an expression may have under each of these bindings, one by one.
 #[cycle(expressions)]
-fn truths_apart<S: Conditions>(
+fn truths_apart<'a, S: Conditions>(
     s: &mut S,
     alloc: Global,
     problem: &Problem,
     cells: &[Cell<S::Condition>],
-    body: &FlatExpr,
+    known: &mut Known<'a, Chances<S::Condition>>,
+    body: &'a FlatExpr,
     bindings: &[Seq<Spot>],
 ) -> Result<Vec<Chances<S::Condition>>, AllocError>
     requires cells_made { AreCellsMade (S.IsMade s.old) cells.now }
+    requires known { AreKnown S.IsMade S.holds s.old problem.now cells.now known.old.entries.items }
     ensures keeps { KeepsConditions S.IsMade S.holds S.room s.old s.new }
     ensures made { IfOk result (λ each. AllMade (S.IsMade s.new) each.items) }
     ensures cells { IfOk result (λ each. AreCellsMade (S.IsMade s.new) cells.now) }
+    ensures known { IfOk result (λ each. AreKnown S.IsMade S.holds s.new problem.entry.now cells.now known.new.entries.items) }
     ensures are { IfOk result (λ each. (v : View) → IsSeen S.holds s.old problem.entry.now cells.now v → AreTruthsAlong S.holds s.new v body.now bindings.now [] each.items) }
 {
     let mut each = Vec::new(alloc);
     for inner in bindings {
-        let x = truth_of(s, alloc, problem, cells, body, inner.as_slice())?;
+        let x = truth_of(s, alloc, problem, cells, known, body, inner.as_slice())?;
         each.push(x)?;
     }
     Ok(each)
@@ -338,23 +464,26 @@ fn truths_apart<S: Conditions>(
 
 // The outcomes of each of these expressions.
 #[cycle(expressions)]
-fn lists_each<S: Conditions>(
+fn lists_each<'a, S: Conditions>(
     s: &mut S,
     alloc: Global,
     problem: &Problem,
     cells: &[Cell<S::Condition>],
-    parts: &[FlatExpr],
+    known: &mut Known<'a, Chances<S::Condition>>,
+    parts: &'a [FlatExpr],
     b: &[Spot],
 ) -> Result<Vec<Seq<Offer<S::Condition>>>, AllocError>
     requires cells_made { AreCellsMade (S.IsMade s.old) cells.now }
+    requires known { AreKnown S.IsMade S.holds s.old problem.now cells.now known.old.entries.items }
     ensures keeps { KeepsConditions S.IsMade S.holds S.room s.old s.new }
     ensures made { IfOk result (λ each. AreListsMade (S.IsMade s.new) each.items) }
     ensures cells { IfOk result (λ each. AreCellsMade (S.IsMade s.new) cells.now) }
+    ensures known { IfOk result (λ each. AreKnown S.IsMade S.holds s.new problem.entry.now cells.now known.new.entries.items) }
     ensures are { IfOk result (λ each. (v : View) → IsSeen S.holds s.old problem.entry.now cells.now v → AreListsOf S.holds s.new v b.now parts.now [] each.items) }
 {
     let mut each = Vec::new(alloc);
     for part in parts {
-        let us = offers_for(s, alloc, problem, cells, part, b)?;
+        let us = offers_for(s, alloc, problem, cells, known, part, b)?;
         each.push(Seq::from_vec(us))?;
     }
     Ok(each)
@@ -362,23 +491,26 @@ fn lists_each<S: Conditions>(
 
 // The outcomes of each member of a listed set; what is none has no member.
 #[cycle(expressions)]
-fn members_for<S: Conditions>(
+fn members_for<'a, S: Conditions>(
     s: &mut S,
     alloc: Global,
     problem: &Problem,
     cells: &[Cell<S::Condition>],
-    set: &FlatExpr,
+    known: &mut Known<'a, Chances<S::Condition>>,
+    set: &'a FlatExpr,
     b: &[Spot],
 ) -> Result<Vec<Seq<Offer<S::Condition>>>, AllocError>
     requires cells_made { AreCellsMade (S.IsMade s.old) cells.now }
+    requires known { AreKnown S.IsMade S.holds s.old problem.now cells.now known.old.entries.items }
     ensures keeps { KeepsConditions S.IsMade S.holds S.room s.old s.new }
     ensures made { IfOk result (λ each. AreListsMade (S.IsMade s.new) each.items) }
     ensures cells { IfOk result (λ each. AreCellsMade (S.IsMade s.new) cells.now) }
+    ensures known { IfOk result (λ each. AreKnown S.IsMade S.holds s.new problem.entry.now cells.now known.new.entries.items) }
     ensures are { IfOk result (λ each. (v : View) → IsSeen S.holds s.old problem.entry.now cells.now v → AreListedIn S.holds s.new v b.now set.now each.items) }
 {
     match set {
         FlatExpr::List { members, .. } => {
-            let each = members_each(s, alloc, problem, cells, members.as_slice(), b)?;
+            let each = members_each(s, alloc, problem, cells, known, members.as_slice(), b)?;
             Ok(each)
         }
         _ => Ok(Vec::new(alloc)),
@@ -387,48 +519,54 @@ fn members_for<S: Conditions>(
 
 // The outcomes of each of these members; a span has each of its numbers.
 #[cycle(expressions)]
-fn members_each<S: Conditions>(
+fn members_each<'a, S: Conditions>(
     s: &mut S,
     alloc: Global,
     problem: &Problem,
     cells: &[Cell<S::Condition>],
-    members: &[FlatMember],
+    known: &mut Known<'a, Chances<S::Condition>>,
+    members: &'a [FlatMember],
     b: &[Spot],
 ) -> Result<Vec<Seq<Offer<S::Condition>>>, AllocError>
     requires cells_made { AreCellsMade (S.IsMade s.old) cells.now }
+    requires known { AreKnown S.IsMade S.holds s.old problem.now cells.now known.old.entries.items }
     ensures keeps { KeepsConditions S.IsMade S.holds S.room s.old s.new }
     ensures made { IfOk result (λ each. AreListsMade (S.IsMade s.new) each.items) }
     ensures cells { IfOk result (λ each. AreCellsMade (S.IsMade s.new) cells.now) }
+    ensures known { IfOk result (λ each. AreKnown S.IsMade S.holds s.new problem.entry.now cells.now known.new.entries.items) }
     ensures are { IfOk result (λ each. (v : View) → IsSeen S.holds s.old problem.entry.now cells.now v → AreMembersOf S.holds s.new v b.now members.now [] each.items) }
 {
     let mut each = Vec::new(alloc);
     for member in members {
-        add_member(s, alloc, problem, cells, &mut each, member, b)?;
+        add_member(s, alloc, problem, cells, known, &mut each, member, b)?;
     }
     Ok(each)
 }
 
 // The outcomes of a member, behind those of others.
 #[cycle(expressions)]
-fn add_member<S: Conditions>(
+fn add_member<'a, S: Conditions>(
     s: &mut S,
     alloc: Global,
     problem: &Problem,
     cells: &[Cell<S::Condition>],
+    known: &mut Known<'a, Chances<S::Condition>>,
     each: &mut Vec<Seq<Offer<S::Condition>>>,
-    member: &FlatMember,
+    member: &'a FlatMember,
     b: &[Spot],
 ) -> Result<(), AllocError>
     requires cells_made { AreCellsMade (S.IsMade s.old) cells.now }
+    requires known { AreKnown S.IsMade S.holds s.old problem.now cells.now known.old.entries.items }
     requires each_made { AreListsMade (S.IsMade s.old) each.old.items }
     ensures keeps { KeepsConditions S.IsMade S.holds S.room s.old s.new }
     ensures made { OnOk result (AreListsMade (S.IsMade s.new) each.new.items) }
     ensures cells { OnOk result (AreCellsMade (S.IsMade s.new) cells.now) }
+    ensures known { OnOk result (AreKnown S.IsMade S.holds s.new problem.entry.now cells.now known.new.entries.items) }
     ensures adds { OnOk result ((v : View) → IsSeen S.holds s.old problem.entry.now cells.now v → AddsMember S.holds s.new v b.now member.now each.old.items each.new.items) }
 {
     match member {
         FlatMember::One { of } => {
-            let us = offers_for(s, alloc, problem, cells, of, b)?;
+            let us = offers_for(s, alloc, problem, cells, known, of, b)?;
             each.push(Seq::from_vec(us))?;
             Ok(())
         }
@@ -441,25 +579,28 @@ fn add_member<S: Conditions>(
 
 // A chain of sums and differences that begins with these outcomes.
 #[cycle(expressions)]
-fn sum_of<S: Conditions>(
+fn sum_of<'a, S: Conditions>(
     s: &mut S,
     alloc: Global,
     problem: &Problem,
     cells: &[Cell<S::Condition>],
+    known: &mut Known<'a, Chances<S::Condition>>,
     first: Vec<Offer<S::Condition>>,
-    more: &[FlatSigned],
+    more: &'a [FlatSigned],
     b: &[Spot],
 ) -> Result<Vec<Offer<S::Condition>>, AllocError>
     requires cells_made { AreCellsMade (S.IsMade s.old) cells.now }
+    requires known { AreKnown S.IsMade S.holds s.old problem.now cells.now known.old.entries.items }
     requires first_made { AreOffersMade (S.IsMade s.old) first.items }
     ensures keeps { KeepsConditions S.IsMade S.holds S.room s.old s.new }
     ensures made { IfOk result (λ sum. AreOffersMade (S.IsMade s.new) sum.items) }
     ensures cells { IfOk result (λ sum. AreCellsMade (S.IsMade s.new) cells.now) }
+    ensures known { IfOk result (λ sum. AreKnown S.IsMade S.holds s.new problem.entry.now cells.now known.new.entries.items) }
     ensures is { IfOk result (λ sum. (v : View) → IsSeen S.holds s.old problem.entry.now cells.now v → IsSumOf S.holds s.old s.new v b.now first.items more.now [] sum.items) }
 {
     let mut sum = first;
     for signed in more {
-        let vs = offers_for(s, alloc, problem, cells, &signed.of, b)?;
+        let vs = offers_for(s, alloc, problem, cells, known, &signed.of, b)?;
         let others = vs.as_slice();
         sum = added_of(s, alloc, signed.minus, sum.as_slice(), others)?;
     }

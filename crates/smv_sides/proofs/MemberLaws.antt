@@ -22,6 +22,7 @@ use Rattle.smv_cells.specs.declared.cells.Cell.{Cell}
 use Rattle.smv_cells.specs.Cells.{AreCellsMade}
 use Rattle.smv_cells.specs.Seen.{outcomes}
 use Rattle.smv_outcomes.specs.Outcomes.{member_in}
+use Rattle.smv_outcomes.specs.Remembered.{Entries, AreKnown}
 use Rattle.smv_targets.specs.declared.targets.Target.{Target}
 use Rattle.smv_targets.specs.declared.targets.Sense.{Sense}
 use Rattle.smv_targets.specs.declared.targets.Sense.TheVariants as sense
@@ -30,10 +31,11 @@ use Rattle.smv_targets.proofs.AimLaws.{aim_on}
 use Rattle.smv_sides.specs.Sides.{IsOfTarget, numbers_mean, member_means, members_mean, some_means, member_allows, members_allow, stands_for, may_allowed, must_allowed}
 
 -- what a loop over members keeps: with the members that are still to come, some member allows the value
-pub record Listing {S C : Type 0} (IsMade : S → C → Type 0) (holds : S → C → (ℕ → Bool) → Bool) (room : S → ℕ) (start s : S) (problem : Problem) (cells : List (Cell C)) (x : Target C) (b : List Spot) (rest all : List FlatMember) (r : C) : Type 0 where
+pub record Listing {S C : Type 0} (IsMade : S → C → Type 0) (holds : S → C → (ℕ → Bool) → Bool) (room : S → ℕ) (start s : S) (problem : Problem) (cells : List (Cell C)) (entries : Entries C) (x : Target C) (b : List Spot) (rest all : List FlatMember) (r : C) : Type 0 where
   pub keeps : KeepsConditions IsMade holds room start s
   pub made : IsMade s r
   pub cells_made : AreCellsMade (IsMade s) cells
+  pub known : AreKnown IsMade holds s problem cells entries
   pub target_made : IsTargetMade (IsMade s) x
   pub is : (z : Aim) → IsAim holds start problem cells x z → (a : ℕ → Bool) → (holds s r a || members_allow b rest z a) ≡ members_allow b all z a
 
@@ -94,10 +96,11 @@ module _ {S C : Type 0} (IsMade : S → C → Type 0) (holds : S → C → (ℕ 
       whole a ∙ (or_same (one z (aim_on IsMade holds room s mid problem cells x z l made target aim) a) (o.same more m a ∙ rest z aim a) ∙ ap (list_any (λ (y : FlatMember). member_means k b y z a)) (sym e))
 
 -- What a loop over members keeps, from the last to the first: some member that was taken means it.
-pub record Gathered {S C : Type 0} (IsMade : S → C → Type 0) (holds : S → C → (ℕ → Bool) → Bool) (room : S → ℕ) (start s : S) (problem : Problem) (cells : List (Cell C)) (x : Target C) (k : Sense) (b : List Spot) (taken : List FlatMember) (r : C) : Type 0 where
+pub record Gathered {S C : Type 0} (IsMade : S → C → Type 0) (holds : S → C → (ℕ → Bool) → Bool) (room : S → ℕ) (start s : S) (problem : Problem) (cells : List (Cell C)) (entries : Entries C) (x : Target C) (k : Sense) (b : List Spot) (taken : List FlatMember) (r : C) : Type 0 where
   pub keeps : KeepsConditions IsMade holds room start s
   pub made : IsMade s r
   pub cells_made : AreCellsMade (IsMade s) cells
+  pub known : AreKnown IsMade holds s problem cells entries
   pub target_made : IsTargetMade (IsMade s) x
   pub is : IsSo holds start s problem cells x (members_mean k b taken) r
 

@@ -6,6 +6,7 @@ ghost use Rattle.law_obligations.specs.Places.{World};
 ghost use Rattle.smv_problem_spots.specs.Worlds.{IsWorldOf};
 ghost use Rattle.smv_conditions.specs.Keep.{KeepsConditions};
 ghost use Rattle.smv_cells.specs.Cells.{AreCellsMade};
+ghost use Rattle.smv_outcomes.specs.Remembered.{AreKnown};
 ghost use Rattle.smv_conditions.specs.Offers.{AreOffersMade, any_offer};
 ghost use Rattle.smv_targets.specs.Targets.{IsTargetMade, IsSo};
 ghost use Rattle.smv_targets.specs.Offered.{given_test};
@@ -13,9 +14,11 @@ ghost use Rattle.smv_sides.specs.Sides.{may_allowed, must_allowed};
 
 use crate::choices::choices_of;
 use smv_cells::Cell;
+use smv_conditions::chances::Chances;
 use smv_conditions::conditions::Conditions;
 use smv_conditions::offers::Offer;
 use smv_core::flat::{FlatExpr, Simple};
+use smv_outcomes::Known;
 use smv_problem::Problem;
 use smv_spots::spots::Spot;
 use smv_targets::offered::{some_given, some_offered};
@@ -62,26 +65,29 @@ fn none_offered<S: Conditions>(
 }
 
 /// What a comprehension may allow: a value that may be chosen, and everything where none is for certain.
-pub fn may_choose<S: Conditions>(
+pub fn may_choose<'a, S: Conditions>(
     s: &mut S,
     alloc: Global,
     problem: &Problem,
     cells: &[Cell<S::Condition>],
+    known: &mut Known<'a, Chances<S::Condition>>,
     target: &Target<S::Condition>,
     var: u16,
     over: Simple,
-    cond: Option<&FlatExpr>,
+    cond: Option<&'a FlatExpr>,
     b: &[Spot],
 ) -> Result<S::Condition, AllocError>
     requires cells_made { AreCellsMade (S.IsMade s.old) cells.now }
+    requires known { AreKnown S.IsMade S.holds s.old problem.now cells.now known.old.entries.items }
     requires target_made { IsTargetMade (S.IsMade s.old) target.now }
     ensures keeps { KeepsConditions S.IsMade S.holds S.room s.old s.new }
     ensures made { IfOk result (λ r. S.IsMade s.new r) }
     ensures cells { IfOk result (λ r. AreCellsMade (S.IsMade s.new) cells.now) }
+    ensures known { IfOk result (λ r. AreKnown S.IsMade S.holds s.new problem.entry.now cells.now known.new.entries.items) }
     ensures target { IfOk result (λ r. IsTargetMade (S.IsMade s.new) target.now) }
     ensures is { IfOk result (λ r. (at : ℕ) → IsSo S.holds s.old s.new problem.entry.now cells.now target.now (may_allowed b.now (Each var over (option_copied cond.entry) at)) r) }
 {
-    let choices = choices_of(s, alloc, problem, cells, var, over, cond, b)?;
+    let choices = choices_of(s, alloc, problem, cells, known, var, over, cond, b)?;
     let none = none_offered(s, alloc, choices.named.as_slice())?;
     let possible = choices.possible.as_slice();
     let r = also_given(s, alloc, problem, target, Sense::May, possible, none)?;
@@ -89,26 +95,29 @@ pub fn may_choose<S: Conditions>(
 }
 
 /// What a comprehension allows for certain: a value that is chosen for certain, and everything where none may be chosen or one outside the type is for certain.
-pub fn must_choose<S: Conditions>(
+pub fn must_choose<'a, S: Conditions>(
     s: &mut S,
     alloc: Global,
     problem: &Problem,
     cells: &[Cell<S::Condition>],
+    known: &mut Known<'a, Chances<S::Condition>>,
     target: &Target<S::Condition>,
     var: u16,
     over: Simple,
-    cond: Option<&FlatExpr>,
+    cond: Option<&'a FlatExpr>,
     b: &[Spot],
 ) -> Result<S::Condition, AllocError>
     requires cells_made { AreCellsMade (S.IsMade s.old) cells.now }
+    requires known { AreKnown S.IsMade S.holds s.old problem.now cells.now known.old.entries.items }
     requires target_made { IsTargetMade (S.IsMade s.old) target.now }
     ensures keeps { KeepsConditions S.IsMade S.holds S.room s.old s.new }
     ensures made { IfOk result (λ r. S.IsMade s.new r) }
     ensures cells { IfOk result (λ r. AreCellsMade (S.IsMade s.new) cells.now) }
+    ensures known { IfOk result (λ r. AreKnown S.IsMade S.holds s.new problem.entry.now cells.now known.new.entries.items) }
     ensures target { IfOk result (λ r. IsTargetMade (S.IsMade s.new) target.now) }
     ensures is { IfOk result (λ r. (at : ℕ) → IsSo S.holds s.old s.new problem.entry.now cells.now target.now (must_allowed b.now (Each var over (option_copied cond.entry) at)) r) }
 {
-    let choices = choices_of(s, alloc, problem, cells, var, over, cond, b)?;
+    let choices = choices_of(s, alloc, problem, cells, known, var, over, cond, b)?;
     let none = none_offered(s, alloc, choices.possible.as_slice())?;
     let named = choices.named.as_slice();
     let outside = also_given(s, alloc, problem, target, Sense::Outside, named, none)?;

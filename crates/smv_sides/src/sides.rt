@@ -2,6 +2,7 @@
 ghost use Rattle.std.specs.Prelude.{IfOk};
 ghost use Rattle.smv_conditions.specs.Keep.{KeepsConditions};
 ghost use Rattle.smv_cells.specs.Cells.{AreCellsMade};
+ghost use Rattle.smv_outcomes.specs.Remembered.{AreKnown};
 ghost use Rattle.smv_targets.specs.Targets.{IsTargetMade, IsSo};
 ghost use Rattle.smv_sides.specs.Sides.{may_allowed, must_allowed, member_allows, members_allow};
 
@@ -10,38 +11,42 @@ use crate::comprehensions::{may_choose, must_choose};
 use crate::members::{has_some, some_of_members};
 use crate::outcomes::{only_outcome, some_number, some_outcome};
 use smv_cells::Cell;
+use smv_conditions::chances::Chances;
 use smv_conditions::conditions::Conditions;
 use smv_conditions::gists::chosen;
 use smv_core::flat::{FlatExpr, FlatMember};
-use smv_outcomes::truth_of;
+use smv_outcomes::{Known, truth_of};
 use smv_problem::Problem;
 use smv_spots::spots::Spot;
 use smv_targets::targets::{Sense, Target};
 use std::alloc::{AllocError, Global};
 
 /// What a right side may allow of the target's value.
-pub fn may_allow<S: Conditions>(
+pub fn may_allow<'a, S: Conditions>(
     s: &mut S,
     alloc: Global,
     problem: &Problem,
     cells: &[Cell<S::Condition>],
+    known: &mut Known<'a, Chances<S::Condition>>,
     target: &Target<S::Condition>,
-    e: &FlatExpr,
+    e: &'a FlatExpr,
     b: &[Spot],
 ) -> Result<S::Condition, AllocError>
     requires cells_made { AreCellsMade (S.IsMade s.old) cells.now }
+    requires known { AreKnown S.IsMade S.holds s.old problem.now cells.now known.old.entries.items }
     requires target_made { IsTargetMade (S.IsMade s.old) target.now }
     ensures keeps { KeepsConditions S.IsMade S.holds S.room s.old s.new }
     ensures made { IfOk result (λ r. S.IsMade s.new r) }
     ensures cells { IfOk result (λ r. AreCellsMade (S.IsMade s.new) cells.now) }
+    ensures known { IfOk result (λ r. AreKnown S.IsMade S.holds s.new problem.entry.now cells.now known.new.entries.items) }
     ensures target { IfOk result (λ r. IsTargetMade (S.IsMade s.new) target.now) }
     ensures is { IfOk result (λ r. IsSo S.holds s.old s.new problem.entry.now cells.now target.now (may_allowed b.now e.now) r) }
 {
     match e {
         FlatExpr::Choose { cond, yes, no } => {
-            let left = may_allow(s, alloc, problem, cells, target, yes.get(), b)?;
-            let right = may_allow(s, alloc, problem, cells, target, no.get(), b)?;
-            let x = truth_of(s, alloc, problem, cells, cond.get(), b)?;
+            let left = may_allow(s, alloc, problem, cells, known, target, yes.get(), b)?;
+            let right = may_allow(s, alloc, problem, cells, known, target, no.get(), b)?;
+            let x = truth_of(s, alloc, problem, cells, known, cond.get(), b)?;
             let r = chosen(s, alloc, x, right, left, target.always)?;
             Ok(r)
         }
@@ -50,7 +55,7 @@ pub fn may_allow<S: Conditions>(
             if !has_some(all) {
                 return Ok(target.always);
             }
-            let r = some_of_members(s, alloc, problem, cells, target, Sense::May, all, b)?;
+            let r = some_of_members(s, alloc, problem, cells, known, target, Sense::May, all, b)?;
             Ok(r)
         }
         FlatExpr::Each {
@@ -60,17 +65,19 @@ pub fn may_allow<S: Conditions>(
             ..
         } => match cond {
             None => {
-                let r = may_choose(s, alloc, problem, cells, target, *var, *over, None, b)?;
+                let r = may_choose(
+                    s, alloc, problem, cells, known, target, *var, *over, None, b,
+                )?;
                 Ok(r)
             }
             Some(cond) => {
                 let met = Some(cond.get());
-                let r = may_choose(s, alloc, problem, cells, target, *var, *over, met, b)?;
+                let r = may_choose(s, alloc, problem, cells, known, target, *var, *over, met, b)?;
                 Ok(r)
             }
         },
         _ => {
-            let r = some_outcome(s, alloc, problem, cells, target, Sense::May, e, b)?;
+            let r = some_outcome(s, alloc, problem, cells, known, target, Sense::May, e, b)?;
             Ok(r)
         }
     }
@@ -78,33 +85,37 @@ pub fn may_allow<S: Conditions>(
 
 /// What a right side allows for certain of the target's value.
 #[cycle(sides)]
-pub fn must_allow<S: Conditions>(
+pub fn must_allow<'a, S: Conditions>(
     s: &mut S,
     alloc: Global,
     problem: &Problem,
     cells: &[Cell<S::Condition>],
+    known: &mut Known<'a, Chances<S::Condition>>,
     target: &Target<S::Condition>,
-    e: &FlatExpr,
+    e: &'a FlatExpr,
     b: &[Spot],
 ) -> Result<S::Condition, AllocError>
     requires cells_made { AreCellsMade (S.IsMade s.old) cells.now }
+    requires known { AreKnown S.IsMade S.holds s.old problem.now cells.now known.old.entries.items }
     requires target_made { IsTargetMade (S.IsMade s.old) target.now }
     ensures keeps { KeepsConditions S.IsMade S.holds S.room s.old s.new }
     ensures made { IfOk result (λ r. S.IsMade s.new r) }
     ensures cells { IfOk result (λ r. AreCellsMade (S.IsMade s.new) cells.now) }
+    ensures known { IfOk result (λ r. AreKnown S.IsMade S.holds s.new problem.entry.now cells.now known.new.entries.items) }
     ensures target { IfOk result (λ r. IsTargetMade (S.IsMade s.new) target.now) }
     ensures is { IfOk result (λ r. IsSo S.holds s.old s.new problem.entry.now cells.now target.now (must_allowed b.now e.now) r) }
 {
     match e {
         FlatExpr::Choose { cond, yes, no } => {
-            let left = must_allow(s, alloc, problem, cells, target, yes.get(), b)?;
-            let right = must_allow(s, alloc, problem, cells, target, no.get(), b)?;
-            let x = truth_of(s, alloc, problem, cells, cond.get(), b)?;
+            let left = must_allow(s, alloc, problem, cells, known, target, yes.get(), b)?;
+            let right = must_allow(s, alloc, problem, cells, known, target, no.get(), b)?;
+            let x = truth_of(s, alloc, problem, cells, known, cond.get(), b)?;
             let r = surely_of(s, alloc, x, left, right)?;
             Ok(r)
         }
         FlatExpr::List { members, .. } => {
-            let r = sure_of_members(s, alloc, problem, cells, target, members.as_slice(), b)?;
+            let all = members.as_slice();
+            let r = sure_of_members(s, alloc, problem, cells, known, target, all, b)?;
             Ok(r)
         }
         FlatExpr::Each {
@@ -114,17 +125,19 @@ pub fn must_allow<S: Conditions>(
             ..
         } => match cond {
             None => {
-                let r = must_choose(s, alloc, problem, cells, target, *var, *over, None, b)?;
+                let r = must_choose(
+                    s, alloc, problem, cells, known, target, *var, *over, None, b,
+                )?;
                 Ok(r)
             }
             Some(cond) => {
                 let met = Some(cond.get());
-                let r = must_choose(s, alloc, problem, cells, target, *var, *over, met, b)?;
+                let r = must_choose(s, alloc, problem, cells, known, target, *var, *over, met, b)?;
                 Ok(r)
             }
         },
         _ => {
-            let r = only_outcome(s, alloc, problem, cells, target, e, b)?;
+            let r = only_outcome(s, alloc, problem, cells, known, target, e, b)?;
             Ok(r)
         }
     }
@@ -132,26 +145,29 @@ pub fn must_allow<S: Conditions>(
 
 // Some member allows the value for certain, or can only be outside the type.
 #[cycle(sides)]
-fn sure_of_members<S: Conditions>(
+fn sure_of_members<'a, S: Conditions>(
     s: &mut S,
     alloc: Global,
     problem: &Problem,
     cells: &[Cell<S::Condition>],
+    known: &mut Known<'a, Chances<S::Condition>>,
     target: &Target<S::Condition>,
-    members: &[FlatMember],
+    members: &'a [FlatMember],
     b: &[Spot],
 ) -> Result<S::Condition, AllocError>
     requires cells_made { AreCellsMade (S.IsMade s.old) cells.now }
+    requires known { AreKnown S.IsMade S.holds s.old problem.now cells.now known.old.entries.items }
     requires target_made { IsTargetMade (S.IsMade s.old) target.now }
     ensures keeps { KeepsConditions S.IsMade S.holds S.room s.old s.new }
     ensures made { IfOk result (λ r. S.IsMade s.new r) }
     ensures cells { IfOk result (λ r. AreCellsMade (S.IsMade s.new) cells.now) }
+    ensures known { IfOk result (λ r. AreKnown S.IsMade S.holds s.new problem.entry.now cells.now known.new.entries.items) }
     ensures target { IfOk result (λ r. IsTargetMade (S.IsMade s.new) target.now) }
     ensures is { IfOk result (λ r. IsSo S.holds s.old s.new problem.entry.now cells.now target.now (members_allow b.now members.now) r) }
 {
     let mut some = s.constant(false);
     for member in members {
-        let here = sure_of_member(s, alloc, problem, cells, target, member, b)?;
+        let here = sure_of_member(s, alloc, problem, cells, known, target, member, b)?;
         some = s.either(alloc, some, here)?;
     }
     Ok(some)
@@ -159,27 +175,40 @@ fn sure_of_members<S: Conditions>(
 
 // A member allows the value for certain, or can only be outside the type.
 #[cycle(sides)]
-fn sure_of_member<S: Conditions>(
+fn sure_of_member<'a, S: Conditions>(
     s: &mut S,
     alloc: Global,
     problem: &Problem,
     cells: &[Cell<S::Condition>],
+    known: &mut Known<'a, Chances<S::Condition>>,
     target: &Target<S::Condition>,
-    member: &FlatMember,
+    member: &'a FlatMember,
     b: &[Spot],
 ) -> Result<S::Condition, AllocError>
     requires cells_made { AreCellsMade (S.IsMade s.old) cells.now }
+    requires known { AreKnown S.IsMade S.holds s.old problem.now cells.now known.old.entries.items }
     requires target_made { IsTargetMade (S.IsMade s.old) target.now }
     ensures keeps { KeepsConditions S.IsMade S.holds S.room s.old s.new }
     ensures made { IfOk result (λ r. S.IsMade s.new r) }
     ensures cells { IfOk result (λ r. AreCellsMade (S.IsMade s.new) cells.now) }
+    ensures known { IfOk result (λ r. AreKnown S.IsMade S.holds s.new problem.entry.now cells.now known.new.entries.items) }
     ensures target { IfOk result (λ r. IsTargetMade (S.IsMade s.new) target.now) }
     ensures is { IfOk result (λ r. IsSo S.holds s.old s.new problem.entry.now cells.now target.now (member_allows b.now member.now) r) }
 {
     match member {
         FlatMember::One { of } => {
-            let here = must_allow(s, alloc, problem, cells, target, of, b)?;
-            let some = some_outcome(s, alloc, problem, cells, target, Sense::Inside, of, b)?;
+            let here = must_allow(s, alloc, problem, cells, known, target, of, b)?;
+            let some = some_outcome(
+                s,
+                alloc,
+                problem,
+                cells,
+                known,
+                target,
+                Sense::Inside,
+                of,
+                b,
+            )?;
             let none = s.opposite(alloc, some)?;
             let r = s.either(alloc, none, here)?;
             Ok(r)

@@ -8,6 +8,7 @@ ghost use Rattle.smv_conditions.specs.Chances.{AreMade, mix_at};
 ghost use Rattle.smv_conditions.specs.Offers.{AreOffersMade};
 ghost use Rattle.smv_cells.specs.Cells.{AreCellsMade};
 ghost use Rattle.smv_cells.specs.Seen.{View, IsSeen};
+ghost use Rattle.smv_outcomes.specs.Remembered.{AreKnown};
 ghost use Rattle.smv_walk_parts.specs.Parts.{index_test, index_mix, IsMatch};
 
 use smv_cells::Cell;
@@ -15,7 +16,7 @@ use smv_conditions::chances::{Chances, both, none, sure};
 use smv_conditions::conditions::Conditions;
 use smv_conditions::offers::{Offer, with_chance};
 use smv_core::flat::FlatExpr;
-use smv_outcomes::offers_for;
+use smv_outcomes::{Known, offers_for};
 use smv_problem::Problem;
 use smv_problem_spots::same::is_same;
 use smv_spots::spots::Spot;
@@ -68,26 +69,38 @@ fn others_of(indexes: &[Spot]) -> &[Spot]
 }
 
 /// Whether an assignment with these left sides is to the element of these indexes.
-pub fn matched<S: Conditions>(
+pub fn matched<'a, S: Conditions>(
     s: &mut S,
     alloc: Global,
     problem: &Problem,
     cells: &[Cell<S::Condition>],
+    known: &mut Known<'a, Chances<S::Condition>>,
     indexes: &[Spot],
-    left: &[FlatExpr],
+    left: &'a [FlatExpr],
     b: &[Spot],
 ) -> Result<Chances<S::Condition>, AllocError>
     requires cells_made { AreCellsMade (S.IsMade s.old) cells.now }
+    requires known { AreKnown S.IsMade S.holds s.old problem.now cells.now known.old.entries.items }
     ensures keeps { KeepsConditions S.IsMade S.holds S.room s.old s.new }
     ensures made { IfOk result (λ z. AreMade (S.IsMade s.new) z) }
     ensures cells { IfOk result (λ z. AreCellsMade (S.IsMade s.new) cells.now) }
+    ensures known { IfOk result (λ z. AreKnown S.IsMade S.holds s.new problem.entry.now cells.now known.new.entries.items) }
     ensures is { IfOk result (λ z. (v : View) → IsSeen S.holds s.old problem.entry.now cells.now v → IsMatch S.holds s.new v indexes.now left.now b.now z) }
 {
     let Some((e, others)) = left.split_first() else {
         return Ok(sure(s));
     };
-    let x = matched(s, alloc, problem, cells, others_of(indexes), others, b)?;
-    let offers = offers_for(s, alloc, problem, cells, e, b)?;
+    let x = matched(
+        s,
+        alloc,
+        problem,
+        cells,
+        known,
+        others_of(indexes),
+        others,
+        b,
+    )?;
+    let offers = offers_for(s, alloc, problem, cells, known, e, b)?;
     let y = index_chances(
         s,
         alloc,

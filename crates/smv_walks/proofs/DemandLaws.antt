@@ -36,6 +36,8 @@ use Rattle.smv_cells.specs.declared.cells.Cell.{Cell}
 use Rattle.smv_cells.specs.Cells.{AreCellsMade}
 use Rattle.smv_cells.specs.Seen.{View, IsSeen, outcomes}
 use Rattle.smv_cells.proofs.SeenLaws.{cells_kept, seen_on}
+use Rattle.smv_outcomes.specs.Remembered.{AreKnown, Entries}
+use Rattle.smv_outcomes.proofs.KnownLaws.{known_kept}
 use Rattle.smv_sides.specs.Outcomes.{IsTruthOf, AreOffersOf, mix_in}
 use Rattle.smv_targets.specs.declared.targets.Target.{Target}
 use Rattle.smv_targets.specs.Targets.{Aim, IsTarget, IsSo}
@@ -44,7 +46,7 @@ use Rattle.smv_typed_spots.specs.TypedSpots.{class_spots}
 use Rattle.smv_typed_spots.proofs.TypedLaws.{indexes_placed, spots_placed}
 use Rattle.smv_walks.specs.declared.walks.Way.{Way}
 use Rattle.smv_walks.specs.declared.walks.Way.TheVariants.{May, Must}
-use Rattle.smv_walks.specs.Demands.{view_of, at_before, HaveValues, IsReadBefore, AreRead, AreOldMade, IsDemand, IsTargetOf, IsDemanded, IsGuard, guard_test}
+use Rattle.smv_walks.specs.Demands.{view_of, at_before, HaveValues, IsReadBefore, AreRead, AreOldMade, AreOldKnown, IsDemand, IsTargetOf, IsDemanded, IsGuard, guard_test}
 use Rattle.smv_walks.specs.Given.{aim_at, now_in, next_in, IsSoOf, IsGivenAt, IsGiven, IsTargets, IsWritten, IsMapBroken}
 use Rattle.smv_walks.proofs.GivenLaws.{possible-comb, possible-init, possible-next}
 
@@ -59,6 +61,18 @@ old_kept IsMade holds room s t (Some old) k m = cells_kept IsMade holds room s t
 
 pub before_made : {C : Type 0} (IsMade : C → Type 0) (old : Option (List (Cell C))) (before : List (Cell C)) → old ≡ Some before → AreOldMade IsMade old → AreCellsMade IsMade before
 before_made IsMade old before e m = subst (AreOldMade IsMade) e m
+
+-- what is known where expressions are read by the cells before stays so
+pub old_known_kept : {S C : Type 0} (IsMade : S → C → Type 0) (holds : S → C → (ℕ → Bool) → Bool) (room : S → ℕ) (s t : S) (problem : Problem) (old : Option (List (Cell C))) (entries : Entries C) → KeepsConditions IsMade holds room s t → AreOldMade (IsMade s) old → AreOldKnown IsMade holds s problem old entries → AreOldKnown IsMade holds t problem old entries
+old_known_kept IsMade holds room s t problem None entries k m known = tt
+old_known_kept IsMade holds room s t problem (Some old) entries k m known = known_kept IsMade holds room s t problem old entries k m known
+
+module _ {S C : Type 0} (IsMade : S → C → Type 0) (holds : S → C → (ℕ → Bool) → Bool) (s : S) (problem : Problem) (old : Option (List (Cell C))) (before : List (Cell C)) (entries : Entries C) where
+  pub before_known : old ≡ Some before → AreOldKnown IsMade holds s problem old entries → AreKnown IsMade holds s problem before entries
+  before_known e known = subst (λ o. AreOldKnown IsMade holds s problem o entries) e known
+
+  pub known_before : old ≡ Some before → AreKnown IsMade holds s problem before entries → AreOldKnown IsMade holds s problem old entries
+  known_before e known = subst (λ o. AreOldKnown IsMade holds s problem o entries) (sym e) known
 
 -- the element of a demand in the view of now
 element_of : (p : Case) (now : (ℕ → Bool) → AbsState) → HaveValues p now → (family : ℕ) (indexes : List Place) → p.kept family indexes ≡ true → IsElementOf (view_of p now) family indexes

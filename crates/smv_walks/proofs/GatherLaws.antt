@@ -11,6 +11,7 @@ use Rattle.smv_conditions.specs.Keep.{KeepsConditions}
 use Rattle.smv_conditions.specs.Gists.{AreGistsMade, gist_at}
 use Rattle.smv_cells.specs.declared.cells.Cell.{Cell}
 use Rattle.smv_cells.specs.Cells.{AreCellsMade}
+use Rattle.smv_outcomes.specs.Remembered.{AreKnown, Entries}
 use Rattle.smv_targets.specs.declared.targets.Target.{Target}
 use Rattle.smv_targets.specs.Targets.{IsTargetMade}
 use Rattle.smv_targets.proofs.AimLaws.{aim_on}
@@ -20,11 +21,12 @@ use Rattle.smv_walks.specs.declared.walks.Way.{Way}
 use Rattle.smv_walks.specs.Walks.{gist_in, IsPassedOf, AreGistsOf, AreGistsAlong}
 use Rattle.smv_walks.specs.Passed.{listed, gist_or_nothing}
 
--- what a loop over parts keeps: conditions that were made, and that what is gathered is right
-pub record Gathering {S C : Type 0} (IsMade : S → C → Type 0) (holds : S → C → (ℕ → Bool) → Bool) (room : S → ℕ) (start s : S) (cells : List (Cell C)) (t : Target C) (each : List (Gists C)) (Are : Type 0) : Type 0 where
+-- what a loop over parts keeps: conditions that were made, what is known, and that what is gathered is right
+pub record Gathering {S C : Type 0} (IsMade : S → C → Type 0) (holds : S → C → (ℕ → Bool) → Bool) (room : S → ℕ) (start s : S) (problem : Problem) (cells : List (Cell C)) (entries : Entries C) (t : Target C) (each : List (Gists C)) (Are : Type 0) : Type 0 where
   pub keeps : KeepsConditions IsMade holds room start s
   pub made : AllGistsMade (IsMade s) each
   pub cells_made : AreCellsMade (IsMade s) cells
+  pub known : AreKnown IsMade holds s problem cells entries
   pub target_made : IsTargetMade (IsMade s) t
   pub are : Are
 

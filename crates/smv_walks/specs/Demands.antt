@@ -19,6 +19,7 @@ use Rattle.smv_problem.specs.WellFormed.{AreOf}
 use Rattle.smv_cells.specs.declared.cells.Cell.{Cell}
 use Rattle.smv_cells.specs.Cells.{AreCellsMade}
 use Rattle.smv_cells.specs.Seen.{View, IsSeen}
+use Rattle.smv_outcomes.specs.Remembered.{AreKnown, Entries}
 
 -- a case with the abstract state that each assignment is read as
 unfoldable pub view_of : Case → ((ℕ → Bool) → AbsState) → View
@@ -68,6 +69,11 @@ pub record IsGuard (p : Case) (bindings : List Spot) (g : Guard) : Type 0 where
 abbrev pub AreOldMade : {C : Type 0} → (C → Type 0) → Option (List (Cell C)) → Type 0
 AreOldMade IsMade None = Unit {0}
 AreOldMade IsMade (Some old) = AreCellsMade IsMade old
+
+-- what is known of expressions where they are read by the cells before, where there are any
+abbrev pub AreOldKnown : {S C : Type 0} → (S → C → Type 0) → (S → C → (ℕ → Bool) → Bool) → S → Problem → Option (List (Cell C)) → Entries C → Type 0
+AreOldKnown IsMade holds_at s problem None entries = Unit {0}
+AreOldKnown IsMade holds_at s problem (Some old) entries = AreKnown IsMade holds_at s problem old entries
 
 -- an outcome is outside a type, or may be equal to a place
 abbrev pub guard_test : World → Simple → Place → AbsOutcome → Bool

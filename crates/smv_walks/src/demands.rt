@@ -12,37 +12,45 @@ ghost use Rattle.smv_conditions.specs.Keep.{KeepsConditions};
 ghost use Rattle.smv_conditions.specs.Offers.{AreOffersMade, any_offer};
 ghost use Rattle.smv_cells.specs.Cells.{AreCellsMade};
 ghost use Rattle.smv_cells.specs.Seen.{IsSeen};
-ghost use Rattle.smv_walks.specs.Demands.{AreOldMade, IsDemand, IsTargetOf, IsGuard, view_of, IsDemanded, guard_test};
+ghost use Rattle.smv_outcomes.specs.Remembered.{AreKnown};
+ghost use Rattle.smv_walks.specs.Demands.{AreOldMade, AreOldKnown, IsDemand, IsTargetOf, IsGuard, view_of, IsDemanded, guard_test};
 ghost use Rattle.smv_walks.specs.Given.{IsWritten, IsMapBroken};
 
 use crate::Way;
 use crate::given::element_gives;
 use smv_cells::Cell;
+use smv_conditions::chances::Chances;
 use smv_conditions::conditions::Conditions;
 use smv_conditions::offers::Offer;
 use smv_core::flat::{Class, Element, Flat, Guard, Simple};
 use smv_problem::{Demand, Problem};
 use smv_problem_spots::answers::equal;
 use smv_problem_spots::places::is_in_type;
-use smv_sides::expressions::{offers_for, truth_of};
+use smv_sides::expressions::{Known, offers_for, truth_of};
 use smv_spots::spots::Spot;
 use std::alloc::{AllocError, Global};
 
 /// Where a demand is met at a time: at time 0, where there are no cells before, or at a later one.
-pub fn met<S: Conditions>(
+pub fn met<'a, S: Conditions>(
     s: &mut S,
     alloc: Global,
     problem: &Problem,
     old: Option<&[Cell<S::Condition>]>,
+    past: &mut Known<'a, Chances<S::Condition>>,
     cells: &[Cell<S::Condition>],
-    demand: &Demand,
+    known: &mut Known<'a, Chances<S::Condition>>,
+    demand: &'a Demand,
 ) -> Result<S::Condition, AllocError>
     requires cells_made { AreCellsMade (S.IsMade s.old) cells.now }
+    requires known { AreKnown S.IsMade S.holds s.old problem.now cells.now known.old.entries.items }
     requires old_made { AreOldMade (S.IsMade s.old) (option_copied old) }
+    requires past { AreOldKnown S.IsMade S.holds s.old problem.now (option_copied old) past.old.entries.items }
     ensures keeps { KeepsConditions S.IsMade S.holds S.room s.old s.new }
     ensures made { IfOk result (λ r. S.IsMade s.new r) }
     ensures cells { IfOk result (λ r. AreCellsMade (S.IsMade s.new) cells.now) }
     ensures old { IfOk result (λ r. AreOldMade (S.IsMade s.new) (option_copied old.entry)) }
+    ensures known { IfOk result (λ r. AreKnown S.IsMade S.holds s.new problem.entry.now cells.now known.new.entries.items) }
+    ensures past { IfOk result (λ r. AreOldKnown S.IsMade S.holds s.new problem.entry.now (option_copied old.entry) past.new.entries.items) }
     ensures is { IfOk result (λ r. IsDemanded IsDemand S.holds s.old s.new problem.entry.now (option_copied old.entry) cells.now demand.now (λ p before now d. is_met p before now d) r) }
 {
     match demand {
@@ -57,7 +65,9 @@ pub fn met<S: Conditions>(
                 alloc,
                 problem,
                 old,
+                past,
                 cells,
+                known,
                 Way::May,
                 element,
                 init,
@@ -67,7 +77,7 @@ pub fn met<S: Conditions>(
             Ok(r)
         }
         Demand::Holds { body, bindings } => {
-            let x = truth_of(s, alloc, problem, cells, body, bindings.as_slice())?;
+            let x = truth_of(s, alloc, problem, cells, known, body, bindings.as_slice())?;
             Ok(x.yes)
         }
     }
@@ -95,21 +105,27 @@ fn some_rest(indexes: &[Class]) -> bool
 }
 
 // Where a refinement map is broken at an element.
-fn map_broken<S: Conditions>(
+fn map_broken<'a, S: Conditions>(
     s: &mut S,
     alloc: Global,
     problem: &Problem,
     old: Option<&[Cell<S::Condition>]>,
+    past: &mut Known<'a, Chances<S::Condition>>,
     cells: &[Cell<S::Condition>],
+    known: &mut Known<'a, Chances<S::Condition>>,
     element: &Element,
-    init: &Flat,
-    next: &Flat,
-    comb: &Flat,
+    init: &'a Flat,
+    next: &'a Flat,
+    comb: &'a Flat,
 ) -> Result<S::Condition, AllocError>
     requires cells_made { AreCellsMade (S.IsMade s.old) cells.now }
+    requires known { AreKnown S.IsMade S.holds s.old problem.now cells.now known.old.entries.items }
     requires old_made { AreOldMade (S.IsMade s.old) (option_copied old) }
+    requires past { AreOldKnown S.IsMade S.holds s.old problem.now (option_copied old) past.old.entries.items }
     ensures keeps { KeepsConditions S.IsMade S.holds S.room s.old s.new }
     ensures made { IfOk result (λ r. S.IsMade s.new r) }
+    ensures known { IfOk result (λ r. AreKnown S.IsMade S.holds s.new problem.entry.now cells.now known.new.entries.items) }
+    ensures past { IfOk result (λ r. AreOldKnown S.IsMade S.holds s.new problem.entry.now (option_copied old.entry) past.new.entries.items) }
     ensures is { IfOk result (λ r. IsMapBroken S.holds s.old s.new problem.entry.now (option_copied old.entry) cells.now (IsWritten element.now init.now next.now comb.now) r) }
 {
     if some_rest(element.indexes.as_slice()) {
@@ -120,7 +136,9 @@ fn map_broken<S: Conditions>(
         alloc,
         problem,
         old,
+        past,
         cells,
+        known,
         Way::Must,
         element,
         init,
@@ -131,20 +149,26 @@ fn map_broken<S: Conditions>(
 }
 
 /// Where a target is broken at a time.
-pub fn broken<S: Conditions>(
+pub fn broken<'a, S: Conditions>(
     s: &mut S,
     alloc: Global,
     problem: &Problem,
     old: Option<&[Cell<S::Condition>]>,
+    past: &mut Known<'a, Chances<S::Condition>>,
     cells: &[Cell<S::Condition>],
-    target: &Demand,
+    known: &mut Known<'a, Chances<S::Condition>>,
+    target: &'a Demand,
 ) -> Result<S::Condition, AllocError>
     requires cells_made { AreCellsMade (S.IsMade s.old) cells.now }
+    requires known { AreKnown S.IsMade S.holds s.old problem.now cells.now known.old.entries.items }
     requires old_made { AreOldMade (S.IsMade s.old) (option_copied old) }
+    requires past { AreOldKnown S.IsMade S.holds s.old problem.now (option_copied old) past.old.entries.items }
     ensures keeps { KeepsConditions S.IsMade S.holds S.room s.old s.new }
     ensures made { IfOk result (λ r. S.IsMade s.new r) }
     ensures cells { IfOk result (λ r. AreCellsMade (S.IsMade s.new) cells.now) }
     ensures old { IfOk result (λ r. AreOldMade (S.IsMade s.new) (option_copied old.entry)) }
+    ensures known { IfOk result (λ r. AreKnown S.IsMade S.holds s.new problem.entry.now cells.now known.new.entries.items) }
+    ensures past { IfOk result (λ r. AreOldKnown S.IsMade S.holds s.new problem.entry.now (option_copied old.entry) past.new.entries.items) }
     ensures is { IfOk result (λ r. IsDemanded IsTargetOf S.holds s.old s.new problem.entry.now (option_copied old.entry) cells.now target.now (λ p before now d. is_broken p before now d) r) }
 {
     match target {
@@ -154,11 +178,13 @@ pub fn broken<S: Conditions>(
             next,
             comb,
         } => {
-            let r = map_broken(s, alloc, problem, old, cells, element, init, next, comb)?;
+            let r = map_broken(
+                s, alloc, problem, old, past, cells, known, element, init, next, comb,
+            )?;
             Ok(r)
         }
         Demand::Holds { body, bindings } => {
-            let x = truth_of(s, alloc, problem, cells, body, bindings.as_slice())?;
+            let x = truth_of(s, alloc, problem, cells, known, body, bindings.as_slice())?;
             let r = s.either(alloc, x.no, x.neither)?;
             Ok(r)
         }
@@ -208,24 +234,27 @@ fn variable(b: &[Spot], var: u16) -> Option<Spot>
 }
 
 /// Where a guard may hold.
-pub fn may_hold<S: Conditions>(
+pub fn may_hold<'a, S: Conditions>(
     s: &mut S,
     alloc: Global,
     problem: &Problem,
     cells: &[Cell<S::Condition>],
-    guard: &Guard,
+    known: &mut Known<'a, Chances<S::Condition>>,
+    guard: &'a Guard,
 ) -> Result<S::Condition, AllocError>
     requires cells_made { AreCellsMade (S.IsMade s.old) cells.now }
+    requires known { AreKnown S.IsMade S.holds s.old problem.now cells.now known.old.entries.items }
     ensures keeps { KeepsConditions S.IsMade S.holds S.room s.old s.new }
     ensures made { IfOk result (λ r. S.IsMade s.new r) }
     ensures cells { IfOk result (λ r. AreCellsMade (S.IsMade s.new) cells.now) }
+    ensures known { IfOk result (λ r. AreKnown S.IsMade S.holds s.new problem.entry.now cells.now known.new.entries.items) }
     ensures is { IfOk result (λ r. (p : Case) (now : (ℕ → Bool) → AbsState) → IsSeen S.holds s.old problem.entry.now cells.now (view_of p now) → IsGuard p problem.entry.now.bindings guard.now → (a : ℕ → Bool) → S.holds s.new r a ≡ spec.may_hold p (now a) guard.now) }
 {
     let b = problem.bindings.as_slice();
     let Some(i) = variable(b, guard.var) else {
         return Ok(s.constant(false));
     };
-    let offers = offers_for(s, alloc, problem, cells, &guard.expr, b)?;
+    let offers = offers_for(s, alloc, problem, cells, known, &guard.expr, b)?;
     let r = some_may_be_it(s, alloc, problem, guard.over, i, offers.as_slice())?;
     Ok(r)
 }

@@ -3,6 +3,7 @@ ghost use Rattle.std.specs.Prelude.{◌≡◌, IfOk, IfSome, []};
 ghost use Rattle.smv_conditions.specs.Keep.{KeepsConditions};
 ghost use Rattle.smv_conditions.specs.Gists.{AreGistsMade};
 ghost use Rattle.smv_cells.specs.Cells.{AreCellsMade};
+ghost use Rattle.smv_outcomes.specs.Remembered.{AreKnown};
 ghost use Rattle.smv_targets.specs.Targets.{IsTargetMade, IsSo};
 ghost use Rattle.smv_walk_parts.specs.Parts.{AllGistsMade};
 ghost use Rattle.smv_walks.specs.Walks.{everything_of, right_of, gist_in, gist_assigned, IsGistsOf, IsPassedOf, IsTaken, AreGistsOf, AreGistsAlong};
@@ -10,12 +11,13 @@ ghost use Rattle.smv_walks.specs.Walks.{everything_of, right_of, gist_in, gist_a
 use crate::bindings::bound_over;
 use crate::passed::{add_some, are_passed, first_of_some, or_nothing};
 use smv_cells::Cell;
+use smv_conditions::chances::Chances;
 use smv_conditions::conditions::Conditions;
 use smv_conditions::gists::{Gists, assigned_of, if_of};
 use smv_core::flat::{Flat, FlatExpr};
 use smv_core::seq::Seq;
 use smv_problem::Problem;
-use smv_sides::expressions::truth_of;
+use smv_sides::expressions::{Known, truth_of};
 use smv_sides::{may_allow, must_allow};
 use smv_spots::spots::Spot;
 use smv_targets::Target;
@@ -43,31 +45,34 @@ pub fn everything<S: Conditions>(s: &S, target: &Target<S::Condition>, way: Way)
 }
 
 // Whether a right side passes what is asked.
-fn right<S: Conditions>(
+fn right<'a, S: Conditions>(
     s: &mut S,
     alloc: Global,
     problem: &Problem,
     cells: &[Cell<S::Condition>],
+    known: &mut Known<'a, Chances<S::Condition>>,
     target: &Target<S::Condition>,
     way: Way,
-    value: &FlatExpr,
+    value: &'a FlatExpr,
     b: &[Spot],
 ) -> Result<S::Condition, AllocError>
     requires cells_made { AreCellsMade (S.IsMade s.old) cells.now }
+    requires known { AreKnown S.IsMade S.holds s.old problem.now cells.now known.old.entries.items }
     requires target_made { IsTargetMade (S.IsMade s.old) target.now }
     ensures keeps { KeepsConditions S.IsMade S.holds S.room s.old s.new }
     ensures made { IfOk result (λ r. S.IsMade s.new r) }
     ensures cells { IfOk result (λ r. AreCellsMade (S.IsMade s.new) cells.now) }
+    ensures known { IfOk result (λ r. AreKnown S.IsMade S.holds s.new problem.entry.now cells.now known.new.entries.items) }
     ensures target { IfOk result (λ r. IsTargetMade (S.IsMade s.new) target.now) }
     ensures is { IfOk result (λ r. IsSo S.holds s.old s.new problem.entry.now cells.now target.now (right_of way b.now value.now) r) }
 {
     match way {
         Way::May => {
-            let r = may_allow(s, alloc, problem, cells, target, value, b)?;
+            let r = may_allow(s, alloc, problem, cells, known, target, value, b)?;
             Ok(r)
         }
         Way::Must => {
-            let c = must_allow(s, alloc, problem, cells, target, value, b)?;
+            let c = must_allow(s, alloc, problem, cells, known, target, value, b)?;
             let r = s.opposite(alloc, c)?;
             Ok(r)
         }
@@ -75,52 +80,67 @@ fn right<S: Conditions>(
 }
 
 // What an assignment with this left side may give.
-fn assigned<S: Conditions>(
+fn assigned<'a, S: Conditions>(
     s: &mut S,
     alloc: Global,
     problem: &Problem,
     cells: &[Cell<S::Condition>],
+    known: &mut Known<'a, Chances<S::Condition>>,
     target: &Target<S::Condition>,
     way: Way,
-    left: &[FlatExpr],
-    value: &FlatExpr,
+    left: &'a [FlatExpr],
+    value: &'a FlatExpr,
     b: &[Spot],
 ) -> Result<Gists<S::Condition>, AllocError>
     requires cells_made { AreCellsMade (S.IsMade s.old) cells.now }
+    requires known { AreKnown S.IsMade S.holds s.old problem.now cells.now known.old.entries.items }
     requires target_made { IsTargetMade (S.IsMade s.old) target.now }
     ensures keeps { KeepsConditions S.IsMade S.holds S.room s.old s.new }
     ensures made { IfOk result (λ g. AreGistsMade (S.IsMade s.new) g) }
     ensures cells { IfOk result (λ g. AreCellsMade (S.IsMade s.new) cells.now) }
+    ensures known { IfOk result (λ g. AreKnown S.IsMade S.holds s.new problem.entry.now cells.now known.new.entries.items) }
     ensures target { IfOk result (λ g. IsTargetMade (S.IsMade s.new) target.now) }
     ensures is { IfOk result (λ g. IsGistsOf S.holds s.old s.new problem.entry.now cells.now target.now (λ z a. gist_assigned way z a b.now left.now value.now) g) }
 {
-    let r = right(s, alloc, problem, cells, target, way, value, b)?;
-    let x = matched(s, alloc, problem, cells, target.indexes.as_slice(), left, b)?;
+    let r = right(s, alloc, problem, cells, known, target, way, value, b)?;
+    let x = matched(
+        s,
+        alloc,
+        problem,
+        cells,
+        known,
+        target.indexes.as_slice(),
+        left,
+        b,
+    )?;
     let open = everything(s, target, way);
     let g = assigned_of(s, alloc, open, r, x)?;
     Ok(g)
 }
 
 // What a condition gives of two branches; it isn't looked at where both are left out.
-fn taken<S: Conditions>(
+fn taken<'a, S: Conditions>(
     s: &mut S,
     alloc: Global,
     problem: &Problem,
     cells: &[Cell<S::Condition>],
+    known: &mut Known<'a, Chances<S::Condition>>,
     target: &Target<S::Condition>,
     way: Way,
-    cond: &FlatExpr,
+    cond: &'a FlatExpr,
     g: Option<Gists<S::Condition>>,
     h: Option<Gists<S::Condition>>,
     b: &[Spot],
 ) -> Result<Option<Gists<S::Condition>>, AllocError>
     requires cells_made { AreCellsMade (S.IsMade s.old) cells.now }
+    requires known { AreKnown S.IsMade S.holds s.old problem.now cells.now known.old.entries.items }
     requires target_made { IsTargetMade (S.IsMade s.old) target.now }
     requires g_made { IfSome g (λ g. AreGistsMade (S.IsMade s.old) g) }
     requires h_made { IfSome h (λ h. AreGistsMade (S.IsMade s.old) h) }
     ensures keeps { KeepsConditions S.IsMade S.holds S.room s.old s.new }
     ensures made { IfOk result (λ o. IfSome o (λ k. AreGistsMade (S.IsMade s.new) k)) }
     ensures cells { IfOk result (λ o. AreCellsMade (S.IsMade s.new) cells.now) }
+    ensures known { IfOk result (λ o. AreKnown S.IsMade S.holds s.new problem.entry.now cells.now known.new.entries.items) }
     ensures target { IfOk result (λ o. IsTargetMade (S.IsMade s.new) target.now) }
     ensures is { IfOk result (λ o. IsTaken S.holds s.old s.new problem.entry.now cells.now target.now way b.now cond.now g h o) }
 {
@@ -129,7 +149,7 @@ fn taken<S: Conditions>(
     }
     let above = or_nothing(s, g);
     let below = or_nothing(s, h);
-    let x = truth_of(s, alloc, problem, cells, cond, b)?;
+    let x = truth_of(s, alloc, problem, cells, known, cond, b)?;
     let open = everything(s, target, way);
     let k = if_of(s, alloc, open, x, above, below)?;
     Ok(Some(k))
@@ -138,21 +158,24 @@ fn taken<S: Conditions>(
 // The gist of what a part may give; none where that is nothing alone, since each of its assignments is known to be elsewhere. Their right sides and the conditions around them are not
 // looked at then.
 #[cycle(walks)]
-fn passed<S: Conditions>(
+fn passed<'a, S: Conditions>(
     s: &mut S,
     alloc: Global,
     problem: &Problem,
     cells: &[Cell<S::Condition>],
+    known: &mut Known<'a, Chances<S::Condition>>,
     target: &Target<S::Condition>,
     way: Way,
-    part: &Flat,
+    part: &'a Flat,
     b: &[Spot],
 ) -> Result<Option<Gists<S::Condition>>, AllocError>
     requires cells_made { AreCellsMade (S.IsMade s.old) cells.now }
+    requires known { AreKnown S.IsMade S.holds s.old problem.now cells.now known.old.entries.items }
     requires target_made { IsTargetMade (S.IsMade s.old) target.now }
     ensures keeps { KeepsConditions S.IsMade S.holds S.room s.old s.new }
     ensures made { IfOk result (λ o. IfSome o (λ g. AreGistsMade (S.IsMade s.new) g)) }
     ensures cells { IfOk result (λ o. AreCellsMade (S.IsMade s.new) cells.now) }
+    ensures known { IfOk result (λ o. AreKnown S.IsMade S.holds s.new problem.entry.now cells.now known.new.entries.items) }
     ensures target { IfOk result (λ o. IsTargetMade (S.IsMade s.new) target.now) }
     ensures is { IfOk result (λ o. IsPassedOf S.holds s.old s.new problem.entry.now cells.now target.now (λ z a. gist_in way z a b.now part.now) o) }
 {
@@ -164,18 +187,20 @@ fn passed<S: Conditions>(
             if is_elsewhere(problem, indexes, lefts, b) {
                 return Ok(None);
             }
-            let g = assigned(s, alloc, problem, cells, target, way, lefts, value, b)?;
+            let g = assigned(
+                s, alloc, problem, cells, known, target, way, lefts, value, b,
+            )?;
             Ok(Some(g))
         }
         Flat::If { cond, yes, no } => {
-            let g = passed(s, alloc, problem, cells, target, way, yes.get(), b)?;
-            let h = passed(s, alloc, problem, cells, target, way, no.get(), b)?;
-            let k = taken(s, alloc, problem, cells, target, way, cond, g, h, b)?;
+            let g = passed(s, alloc, problem, cells, known, target, way, yes.get(), b)?;
+            let h = passed(s, alloc, problem, cells, known, target, way, no.get(), b)?;
+            let k = taken(s, alloc, problem, cells, known, target, way, cond, g, h, b)?;
             Ok(k)
         }
         Flat::First { parts } => {
             let all = parts.as_slice();
-            let each = gists_each(s, alloc, problem, cells, target, way, all, b)?;
+            let each = gists_each(s, alloc, problem, cells, known, target, way, all, b)?;
             let list = each.as_slice();
             let g = first_of_some(s, alloc, list)?;
             Ok(g)
@@ -184,7 +209,9 @@ fn passed<S: Conditions>(
             let inners = bound_over(alloc, problem, b, *var, *over)?;
             let bindings = inners.as_slice();
             let inner = body.get();
-            let found = gists_along(s, alloc, problem, cells, target, way, inner, bindings)?;
+            let found = gists_along(
+                s, alloc, problem, cells, known, target, way, inner, bindings,
+            )?;
             let gists = found.as_slice();
             let g = first_of_some(s, alloc, gists)?;
             Ok(g)
@@ -194,27 +221,30 @@ fn passed<S: Conditions>(
 
 // The gists of these parts, but for those that are nothing alone.
 #[cycle(walks)]
-fn gists_each<S: Conditions>(
+fn gists_each<'a, S: Conditions>(
     s: &mut S,
     alloc: Global,
     problem: &Problem,
     cells: &[Cell<S::Condition>],
+    known: &mut Known<'a, Chances<S::Condition>>,
     target: &Target<S::Condition>,
     way: Way,
-    parts: &[Flat],
+    parts: &'a [Flat],
     b: &[Spot],
 ) -> Result<Vec<Gists<S::Condition>>, AllocError>
     requires cells_made { AreCellsMade (S.IsMade s.old) cells.now }
+    requires known { AreKnown S.IsMade S.holds s.old problem.now cells.now known.old.entries.items }
     requires target_made { IsTargetMade (S.IsMade s.old) target.now }
     ensures keeps { KeepsConditions S.IsMade S.holds S.room s.old s.new }
     ensures made { IfOk result (λ each. AllGistsMade (S.IsMade s.new) each.items) }
     ensures cells { IfOk result (λ each. AreCellsMade (S.IsMade s.new) cells.now) }
+    ensures known { IfOk result (λ each. AreKnown S.IsMade S.holds s.new problem.entry.now cells.now known.new.entries.items) }
     ensures target { IfOk result (λ each. IsTargetMade (S.IsMade s.new) target.now) }
     ensures are { IfOk result (λ each. AreGistsOf S.holds s.old s.new problem.entry.now cells.now target.now way b.now parts.now [] each.items) }
 {
     let mut each = Vec::new(alloc);
     for part in parts {
-        let g = passed(s, alloc, problem, cells, target, way, part, b)?;
+        let g = passed(s, alloc, problem, cells, known, target, way, part, b)?;
         add_some(&mut each, g)?;
     }
     Ok(each)
@@ -222,21 +252,24 @@ fn gists_each<S: Conditions>(
 
 // The gists of a part under each of these bindings, but for those that are nothing alone.
 #[cycle(walks)]
-fn gists_along<S: Conditions>(
+fn gists_along<'a, S: Conditions>(
     s: &mut S,
     alloc: Global,
     problem: &Problem,
     cells: &[Cell<S::Condition>],
+    known: &mut Known<'a, Chances<S::Condition>>,
     target: &Target<S::Condition>,
     way: Way,
-    body: &Flat,
+    body: &'a Flat,
     bindings: &[Seq<Spot>],
 ) -> Result<Vec<Gists<S::Condition>>, AllocError>
     requires cells_made { AreCellsMade (S.IsMade s.old) cells.now }
+    requires known { AreKnown S.IsMade S.holds s.old problem.now cells.now known.old.entries.items }
     requires target_made { IsTargetMade (S.IsMade s.old) target.now }
     ensures keeps { KeepsConditions S.IsMade S.holds S.room s.old s.new }
     ensures made { IfOk result (λ each. AllGistsMade (S.IsMade s.new) each.items) }
     ensures cells { IfOk result (λ each. AreCellsMade (S.IsMade s.new) cells.now) }
+    ensures known { IfOk result (λ each. AreKnown S.IsMade S.holds s.new problem.entry.now cells.now known.new.entries.items) }
     ensures target { IfOk result (λ each. IsTargetMade (S.IsMade s.new) target.now) }
     ensures are { IfOk result (λ each. AreGistsAlong S.holds s.old s.new problem.entry.now cells.now target.now way body.now bindings.now [] each.items) }
 {
@@ -247,6 +280,7 @@ fn gists_along<S: Conditions>(
             alloc,
             problem,
             cells,
+            known,
             target,
             way,
             body,
@@ -258,25 +292,28 @@ fn gists_along<S: Conditions>(
 }
 
 /// The gist of what a part of a definition may give the element of the target.
-pub fn gists_of<S: Conditions>(
+pub fn gists_of<'a, S: Conditions>(
     s: &mut S,
     alloc: Global,
     problem: &Problem,
     cells: &[Cell<S::Condition>],
+    known: &mut Known<'a, Chances<S::Condition>>,
     target: &Target<S::Condition>,
     way: Way,
-    part: &Flat,
+    part: &'a Flat,
     b: &[Spot],
 ) -> Result<Gists<S::Condition>, AllocError>
     requires cells_made { AreCellsMade (S.IsMade s.old) cells.now }
+    requires known { AreKnown S.IsMade S.holds s.old problem.now cells.now known.old.entries.items }
     requires target_made { IsTargetMade (S.IsMade s.old) target.now }
     ensures keeps { KeepsConditions S.IsMade S.holds S.room s.old s.new }
     ensures made { IfOk result (λ g. AreGistsMade (S.IsMade s.new) g) }
     ensures cells { IfOk result (λ g. AreCellsMade (S.IsMade s.new) cells.now) }
+    ensures known { IfOk result (λ g. AreKnown S.IsMade S.holds s.new problem.entry.now cells.now known.new.entries.items) }
     ensures target { IfOk result (λ g. IsTargetMade (S.IsMade s.new) target.now) }
     ensures is { IfOk result (λ g. IsGistsOf S.holds s.old s.new problem.entry.now cells.now target.now (λ z a. gist_in way z a b.now part.now) g) }
 {
-    let o = passed(s, alloc, problem, cells, target, way, part, b)?;
+    let o = passed(s, alloc, problem, cells, known, target, way, part, b)?;
     let g = or_nothing(s, o);
     Ok(g)
 }

@@ -17,7 +17,7 @@ returns-in_default-clause-adds t c = λ d is well are xs h bit.
 pub add_before-requires : goal.add_before-requires
 add_before-requires t c =
     let cells : AreLiveCells c.add_own_if.new.store c.args.cells.now = live_on c.args.store.now c.add_own_if.new.store c.args.cells.now c.in_ok-add_own_if.ensures.keeps c.requires.cells in
-    search (rules, cells, c.in_ok-add_own_if.ensures.out)
+    search (rules, cells, c.in_ok-add_own_if.ensures.out, c.in_ok-add_own_if.ensures.known)
 
 pub returns-clause-adds : goal.returns-clause-adds
 returns-clause-adds t c = λ d is well are xs h bit.

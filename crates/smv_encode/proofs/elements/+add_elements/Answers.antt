@@ -32,7 +32,7 @@ add_elements-requires t c =
     let same = c.in_ok-add_element_if.ensures.keeps.vars in
     let room : 2 * (c.args.bit + c.width.result + bits_of_elements c.args.problem.now.families c.args.problem.now.lists c.args.problem.now.types c.in-Some.others.now) ≤ c.add_element_if.new.store.vars = omega (arith, bits, same) in
     let cells : AreLiveCells c.add_element_if.new.store c.args.cells.now = live_on c.args.store.now c.add_element_if.new.store c.args.cells.now c.in_ok-add_element_if.ensures.keeps c.requires.cells in
-    search (rules, room, cells, c.in_ok-add_element_if.ensures.out)
+    search (rules, room, cells, c.in_ok-add_element_if.ensures.out, c.in_ok-add_element_if.ensures.known)
 
 pub returns-clause-adds : goal.returns-clause-adds
 returns-clause-adds t c = λ d is well are xs h.

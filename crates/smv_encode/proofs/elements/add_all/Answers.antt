@@ -13,6 +13,7 @@ pub loop-demand-preserved : goal.loop-demand-preserved
 loop-demand-preserved c = record {
   keeps = keeps_then c.args.store.now c.loop-demand.store c.add_met.new.store c.loop-demand.invariant.keeps c.in_ok-add_met.ensures.keeps;
   out = c.in_ok-add_met.ensures.out;
+  known = c.in_ok-add_met.ensures.known;
   adds = λ d is well are ds h.
       demand_adds d c.args.store.now c.loop-demand.store c.add_met.new.store ds c.args.demands.now c.loop-demand.demand-index c.args.out.now.items c.loop-demand.out.items c.add_met.new.out.items (map (met_at d c.args.step)) (λ (x : Demanded). met_at d c.args.step x ∷ []) (map_snoc (met_at d c.args.step))
       c.demand-item.result c.loop-demand-test.true c.demand-item.is h (c.loop-demand.invariant.adds d is well are ds h)

@@ -15,6 +15,7 @@ pub loop-demand-preserved : goal.loop-demand-preserved
 loop-demand-preserved c = record {
   keeps = keeps_then c.args.store.now c.loop-demand.store c.add_met_if.new.store c.loop-demand.invariant.keeps c.in_ok-add_met_if.ensures.keeps;
   out = c.in_ok-add_met_if.ensures.out;
+  known = c.in_ok-add_met_if.ensures.known;
   adds = λ d is well are ds h.
       demand_adds d c.args.store.now c.loop-demand.store c.add_met_if.new.store ds c.args.demands.now c.loop-demand.demand-index c.args.out.now.items c.loop-demand.out.items c.add_met_if.new.out.items (λ (xs : List Demanded). map (met_at d c.args.step) (filter is_claim xs))
       (λ (y : Demanded). if is_claim y then met_at d c.args.step y ∷ [] else []) (filter_snoc (met_at d c.args.step) is_claim)

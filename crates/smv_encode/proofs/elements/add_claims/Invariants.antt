@@ -4,7 +4,7 @@ use Rattle.law_obligations.specs.Obligations.{Demanded}
 use Rattle.law_reports.specs.CaseLists.{is_claim}
 use Rattle.bdd_store.specs.Diagram.{AreLive, Keeps}
 use Rattle.smv_problem.specs.WellFormed.{OfCases}
-use Rattle.smv_encode.specs.Encoded.{met_at, AreCellsOf}
+use Rattle.smv_encode.specs.Encoded.{met_at, AreCellsOf, AreKnownOfCase}
 use Rattle.smv_encode.specs.Parts.{AreDemands, AddsFunctions}
 use Rattle.smv_encode.proofs.elements.add_claims.Given as goal
 
@@ -12,5 +12,6 @@ abbrev pub invariant-loop-demand : goal.invariant-loop-demand
 invariant-loop-demand l = record {
   keeps : Keeps l.initial.store l.store;
   out : AreLive l.store l.out.items;
+  known : AreKnownOfCase l.store l.problem l.cells l.known;
   adds : OfCases l.problem (λ c. AreCellsOf c l.initial.store l.problem l.cells → (ds : List Demanded) → AreDemands c ds l.demands → AddsFunctions l.initial.store l.store l.initial.out.items l.out.items (map (met_at c l.step) (filter is_claim (take l.demand-index ds))));
 }

@@ -14,6 +14,7 @@ pub loop-demand-preserved : goal.loop-demand-preserved
 loop-demand-preserved c = record {
   keeps = keeps_then c.args.store.now c.loop-demand.store c.met_too.new.store c.loop-demand.invariant.keeps c.in_ok-r.ensures.keeps;
   live = c.in_ok-r.ensures.live;
+  known = c.in_ok-r.ensures.known;
   means = λ d is well are x hx ds h a.
       own_next d ds c.args.demands.now c.loop-demand.demand-index x (λ (y : Demanded). met_at d c.args.step y a) c.demand-item.result c.defines-taken.result (table c.loop-demand.store c.loop-demand.r a) (table c.met_too.new.store c.in_ok-r.r a)
       c.loop-demand-test.true c.demand-item.is h (own_tells d well x c.args.element.now hx c.demand-item.result c.defines-taken.result c.defines-taken.ensures) (c.loop-demand.invariant.means d is well are x hx ds h a)

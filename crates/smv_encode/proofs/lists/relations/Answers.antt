@@ -1,4 +1,4 @@
-use Rattle.std.proofs.Common.{List, sym, subst, false}
+use Rattle.std.proofs.Common.{refl, List, sym, subst, false}
 use Rattle.bdd_store.specs.declared.Ref.{Ref}
 use Rattle.bdd_store.specs.Diagram.{Keeps, IsLive, table}
 use Rattle.bdd_codes.proofs.CodeLaws.{keeps_then}
@@ -10,19 +10,27 @@ use Rattle.smv_encode.specs.Encoded.{AreCellsOf}
 use Rattle.smv_encode.proofs.Calls.{live_on, cells_on, vars_on}
 use Rattle.smv_encode.proofs.Adds.{live_kept}
 use Rattle.smv_encode.proofs.Whole.{later_list, later_one, lists_are, rel_is}
+use Rattle.smv_outcomes.specs.Remembered.{AreKnown}
+use Rattle.smv_encode.proofs.KnownCases.{none_known_of_case, current_known}
 use Rattle.smv_encode.proofs.lists.relations.Goals as goal
 
 pub now_first-requires-clause-vars : goal.now_first-requires-clause-vars
 now_first-requires-clause-vars c = vars_on c.args.problem.now c.args.store.now c.cells_of.new.store c.in_ok-cells.ensures.keeps c.requires.vars
 
 pub before_first-requires : goal.before_first-requires
-before_first-requires c = record { cells = live_on c.cells_of.new.store c.now_first.new.store c.in_ok-cells.cells c.in_ok-now_first.ensures.keeps c.in_ok-cells.ensures.live }
+before_first-requires c = record {
+  cells = live_on c.cells_of.new.store c.now_first.new.store c.in_ok-cells.cells c.in_ok-now_first.ensures.keeps c.in_ok-cells.ensures.live;
+  known = c.in_ok-now_first.ensures.known;
+}
 
 pub broken_first_by-requires : goal.broken_first_by-requires
 broken_first_by-requires c =
     let k = keeps_then c.cells_of.new.store c.now_first.new.store c.before_first.new.store c.in_ok-now_first.ensures.keeps c.in_ok-before_first.ensures.keeps in
     let live = live_on c.cells_of.new.store c.before_first.new.store c.in_ok-cells.cells k c.in_ok-cells.ensures.live in
-    record { live = subst (AreCellsMade (IsLive c.before_first.new.store)) (sym c.as_slice.ensures.value) live.current }
+    record {
+      live = subst (AreCellsMade (IsLive c.before_first.new.store)) (sym c.as_slice-current.ensures.value) live.current;
+      known = subst (λ (cs : List (Cell Ref)). AreKnown IsLive table c.before_first.new.store c.args.problem.now cs c.before_first.new.known.current.entries.items) (sym c.as_slice-current.ensures.value) c.in_ok-before_first.ensures.known.current;
+    }
 
 pub now_step-requires-clause-vars : goal.now_step-requires-clause-vars
 now_step-requires-clause-vars c =
@@ -42,7 +50,7 @@ before_step-requires c =
     let k = keeps_then c.cells_of.new.store c.now_first.new.store c.before_first.new.store c.in_ok-now_first.ensures.keeps c.in_ok-before_first.ensures.keeps in
     let l = keeps_then c.cells_of.new.store c.before_first.new.store c.broken_first_by.new.store k c.in_ok-broken_first.ensures.keeps in
     let m = keeps_then c.cells_of.new.store c.broken_first_by.new.store c.now_step.new.store l c.in_ok-now_step.ensures.keeps in
-    record { cells = live_on c.cells_of.new.store c.now_step.new.store c.in_ok-cells.cells m c.in_ok-cells.ensures.live }
+    record { cells = live_on c.cells_of.new.store c.now_step.new.store c.in_ok-cells.cells m c.in_ok-cells.ensures.live; known = c.in_ok-now_step.ensures.known }
 
 pub broken_step_by-requires : goal.broken_step_by-requires
 broken_step_by-requires c =
@@ -50,7 +58,7 @@ broken_step_by-requires c =
     let l = keeps_then c.cells_of.new.store c.before_first.new.store c.broken_first_by.new.store k c.in_ok-broken_first.ensures.keeps in
     let m = keeps_then c.cells_of.new.store c.broken_first_by.new.store c.now_step.new.store l c.in_ok-now_step.ensures.keeps in
     let n = keeps_then c.cells_of.new.store c.now_step.new.store c.before_step.new.store m c.in_ok-before_step.ensures.keeps in
-    record { live = live_on c.cells_of.new.store c.before_step.new.store c.in_ok-cells.cells n c.in_ok-cells.ensures.live }
+    record { live = live_on c.cells_of.new.store c.before_step.new.store c.in_ok-cells.cells n c.in_ok-cells.ensures.live; known = c.in_ok-before_step.ensures.known }
 
 pub returns-clause-lists : goal.returns-clause-lists
 returns-clause-lists c = λ d is well.
@@ -75,7 +83,7 @@ returns-clause-lists c = λ d is well.
     let l3 : Keeps s3 s7 = keeps_then s3 s4 s7 c.in_ok-broken_first.ensures.keeps l4 in
     let l2 : Keeps s2 s7 = keeps_then s2 s3 s7 c.in_ok-before_first.ensures.keeps l3 in
     let are : AreCellsOf d s1 p cells = c.in_ok-cells.ensures.cells d is well in
-    let at : IsSeen table s3 p c.as_slice.result.now (view_at d false) = subst (λ (cs : List (Cell Ref)). IsSeen table s3 p cs (view_at d false)) (sym c.as_slice.ensures.value) (cells_on d s1 s3 p cells k3 live are).current in
+    let at : IsSeen table s3 p c.as_slice-current.result.now (view_at d false) = subst (λ (cs : List (Cell Ref)). IsSeen table s3 p cs (view_at d false)) (sym c.as_slice-current.ensures.value) (cells_on d s1 s3 p cells k3 live are).current in
     lists_are d s7 _
     (later_list s2 s7 c.in_ok-now_first.now_first.items _ l2 c.in_ok-now_first.ensures.live (c.in_ok-now_first.ensures.list d is well are))
     (later_list s3 s7 c.in_ok-before_first.before_first.items _ l3 c.in_ok-before_first.ensures.live (c.in_ok-before_first.ensures.list d is well (cells_on d s1 s2 p cells k2 live are)))
@@ -109,3 +117,12 @@ returns-clause-rel c =
     (live_kept s5 s7 c.in_ok-now_step.now_step.items l5 c.in_ok-now_step.ensures.live)
     (live_kept s6 s7 c.in_ok-before_step.before_step.items l6 c.in_ok-before_step.ensures.live)
     c.in_ok-broken_step.ensures.live c.state_bits-bits.ensures
+
+pub now_first-requires-clause-known : goal.now_first-requires-clause-known
+now_first-requires-clause-known c = none_known_of_case c.cells_of.new.store c.args.problem.now c.in_ok-cells.cells c.nothing_known_of_case-known.result c.nothing_known_of_case-known.ensures.current c.nothing_known_of_case-known.ensures.next
+
+pub now_step-requires-clause-known : goal.now_step-requires-clause-known
+now_step-requires-clause-known c =
+    let k = keeps_then c.cells_of.new.store c.now_first.new.store c.before_first.new.store c.in_ok-now_first.ensures.keeps c.in_ok-before_first.ensures.keeps in
+    let live = live_on c.cells_of.new.store c.before_first.new.store c.in_ok-cells.cells k c.in_ok-cells.ensures.live in
+    current_known c.before_first.new.store c.broken_first_by.new.store c.args.problem.now c.in_ok-cells.cells c.before_first.new.known _ _ refl c.as_slice-current.ensures.value c.in_ok-broken_first.ensures.keeps live c.in_ok-before_first.ensures.known c.in_ok-broken_first.ensures.known

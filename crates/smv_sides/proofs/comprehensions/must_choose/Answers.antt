@@ -1,5 +1,6 @@
 use Rattle.smv_cells.proofs.SeenLaws.{keeps_trans, cells_kept}
 use Rattle.smv_targets.proofs.GivenLaws.{target_kept}
+use Rattle.smv_outcomes.proofs.KnownLaws.{known_kept}
 use Rattle.smv_sides.proofs.OutcomeLaws.{shown_made, shown_kept}
 use Rattle.smv_sides.proofs.ChoiceLaws.{chooses_must}
 use Rattle.smv_sides.proofs.comprehensions.must_choose.Goals as goal
@@ -28,3 +29,6 @@ returns-clause-cells g c = cells_kept _ _ _ _ _ _ (keeps_trans _ _ _ _ _ _ (keep
 pub returns-clause-is : goal.returns-clause-is
 returns-clause-is g c at = chooses_must _ _ _ _ _ _ _ _ _ _ _ _ _ _ _ at _ _ _ _ _ _ _ _ _ c.as_slice.ensures c.as_slice-named.ensures c.as_slice-rests.ensures c.in_ok-choices.ensures.keeps c.in_ok-none.ensures.keeps c.in_ok-outside.ensures.keeps c.in_ok-here.ensures.keeps
     c.requires.target_made c.in_ok-choices.ensures.made.named c.in_ok-choices.ensures.made.rests c.in_ok-choices.ensures.are c.in_ok-none.ensures.holds c.in_ok-outside.ensures.holds c.in_ok-here.ensures.holds c.in_ok-r.ensures.holds
+
+pub returns-clause-known : goal.returns-clause-known
+returns-clause-known g c = known_kept _ _ _ _ _ _ _ _ (keeps_trans _ _ _ _ _ _ (keeps_trans _ _ _ _ _ _ (keeps_trans _ _ _ _ _ _ c.in_ok-none.ensures.keeps c.in_ok-outside.ensures.keeps) c.in_ok-here.ensures.keeps) c.in_ok-r.ensures.keeps) c.in_ok-choices.ensures.cells c.in_ok-choices.ensures.known

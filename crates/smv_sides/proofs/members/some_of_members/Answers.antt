@@ -1,5 +1,6 @@
 use Rattle.smv_cells.proofs.SeenLaws.{keeps_same, keeps_trans, cells_kept}
 use Rattle.smv_targets.proofs.GivenLaws.{target_kept}
+use Rattle.smv_outcomes.proofs.KnownLaws.{known_kept}
 use Rattle.smv_sides.proofs.MemberLaws.{members_go, gathered_none, gathered_all, longer}
 use Rattle.smv_sides.proofs.members.some_of_members.Goals as goal
 
@@ -8,6 +9,7 @@ loop-place-init g c = record {
   keeps = keeps_same _ _ _ _;
   made = c.constant-some.ensures.made;
   cells_made = c.requires.cells_made;
+  known = c.requires.known;
   target_made = c.requires.target_made;
   is = gathered_none _ _ _ _ _ _ _ c.args.members.now _ c.constant-some.ensures.holds;
 }
@@ -19,6 +21,7 @@ loop-place-preserved g c =
       keeps = keeps_trans _ _ _ _ _ _ c.loop-place.invariant.keeps (keeps_trans _ _ _ _ _ _ c.in_ok-here.ensures.keeps c.in_ok-some.ensures.keeps);
       made = c.in_ok-some.ensures.made;
       cells_made = cells_kept _ _ _ _ _ _ c.in_ok-some.ensures.keeps c.in_ok-here.ensures.cells;
+      known = known_kept _ _ _ _ _ _ _ _ c.in_ok-some.ensures.keeps c.in_ok-here.ensures.cells c.in_ok-here.ensures.known;
       target_made = target_kept _ _ _ _ _ _ c.in_ok-some.ensures.keeps c.in_ok-here.ensures.target;
       is = members_go _ _ _ _ _ _ _ _ _ _ _ _ _ _ _ _ _ _ step c.loop-place.invariant.keeps c.in_ok-here.ensures.keeps c.loop-place.invariant.made c.requires.cells_made c.requires.target_made c.loop-place.invariant.is c.in_ok-here.ensures.is c.in_ok-some.ensures.holds;
     }
@@ -31,6 +34,9 @@ returns-clause-made g c = c.loop-place.invariant.made
 
 pub returns-clause-cells : goal.returns-clause-cells
 returns-clause-cells g c = c.loop-place.invariant.cells_made
+
+pub returns-clause-known : goal.returns-clause-known
+returns-clause-known g c = c.loop-place.invariant.known
 
 pub returns-clause-target : goal.returns-clause-target
 returns-clause-target g c = c.loop-place.invariant.target_made

@@ -1,5 +1,6 @@
 use Rattle.smv_cells.proofs.SeenLaws.{cells_kept}
 use Rattle.smv_targets.proofs.GivenLaws.{target_kept}
+use Rattle.smv_outcomes.proofs.KnownLaws.{known_kept}
 use Rattle.smv_sides.proofs.MemberLaws.{listed_none, listed_some}
 use Rattle.smv_sides.proofs.SideLaws.{chosen_may, plain_may, plain_one}
 use Rattle.smv_sides.proofs.sides.+may_allow.Goals as goal
@@ -25,6 +26,10 @@ returns-in_ok-r-in_default g t c = record {
   keeps = c.in_ok-r-in_default.ensures.keeps;
   made = c.in_ok-r-in_default.ensures.made;
   cells = c.in_ok-r-in_default.ensures.cells;
+  known = c.in_ok-r-in_default.ensures.known;
   target = c.in_ok-r-in_default.ensures.target;
   is = plain_may _ _ _ _ _ _ _ _ _ (plain_one _ c.in_default.not-Choose c.in_default.not-List c.in_default.not-Each) c.in_ok-r-in_default.ensures.is;
 }
+
+pub returns-in_ok-r-in-Choose-clause-known : goal.returns-in_ok-r-in-Choose-clause-known
+returns-in_ok-r-in-Choose-clause-known g t c = known_kept _ _ _ _ _ _ _ _ c.in_ok-r-in-Choose.ensures.keeps c.in_ok-x-in-Choose.ensures.cells c.in_ok-x-in-Choose.ensures.known

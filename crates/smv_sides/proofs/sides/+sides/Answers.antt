@@ -2,6 +2,7 @@ use Rattle.std.proofs.Common.{◌≡◌, ◌∷◌, [], ◌+◌, drop, arith, ru
 use Rattle.std.proofs.lemmas.Grind.{common_steps}
 use Rattle.smv_cells.proofs.SeenLaws.{keeps_same, keeps_trans, cells_kept}
 use Rattle.smv_targets.proofs.GivenLaws.{target_kept}
+use Rattle.smv_outcomes.proofs.KnownLaws.{known_kept}
 use Rattle.smv_sides.proofs.MemberLaws.{listed_must, sure_one, sure_span, listing_begins, listing_goes, listing_done}
 use Rattle.smv_sides.proofs.SideLaws.{chosen_must, plain_must, plain_one}
 use Rattle.smv_sides.proofs.sides.+sides.Goals as goal
@@ -14,10 +15,10 @@ pub must_allow-returns-in_ok-r-in-Choose-clause-cells : goal.must_allow-returns-
 must_allow-returns-in_ok-r-in-Choose-clause-cells g t c = cells_kept _ _ _ _ _ _ c.in_ok-r-in-Choose.ensures.keeps c.in_ok-x-in-Choose.ensures.cells
 
 pub must_allow-returns-in_ok-r-in-List-clause-is : goal.must_allow-returns-in_ok-r-in-List-clause-is
-must_allow-returns-in_ok-r-in-List-clause-is g t c = listed_must _ _ _ _ _ _ _ _ _ _ _ _ c.in-List.is c.as_slice.ensures c.in_ok-r-in-List.ensures.is
+must_allow-returns-in_ok-r-in-List-clause-is g t c = listed_must _ _ _ _ _ _ _ _ _ _ _ _ c.in-List.is c.as_slice-all.ensures c.in_ok-r-in-List.ensures.is
 
 pub sure_of_members-loop-member-init : goal.sure_of_members-loop-member-init
-sure_of_members-loop-member-init g t c = record { keeps = keeps_same _ _ _ _; made = c.constant-some.ensures.made; cells_made = c.requires.cells_made; target_made = c.requires.target_made; is = λ z aim a. listing_begins g.S.Conditions.IsMade g.S.Conditions.holds g.S.Conditions.room _ _ _ _ c.constant-some.ensures.holds z a }
+sure_of_members-loop-member-init g t c = record { keeps = keeps_same _ _ _ _; made = c.constant-some.ensures.made; cells_made = c.requires.cells_made; known = c.requires.known; target_made = c.requires.target_made; is = λ z aim a. listing_begins g.S.Conditions.IsMade g.S.Conditions.holds g.S.Conditions.room _ _ _ _ c.constant-some.ensures.holds z a }
 
 pub sure_of_members-loop-member-preserved : goal.sure_of_members-loop-member-preserved
 sure_of_members-loop-member-preserved g t c =
@@ -26,6 +27,7 @@ sure_of_members-loop-member-preserved g t c =
       keeps = keeps_trans _ _ _ _ _ _ c.loop-member.invariant.keeps (keeps_trans _ _ _ _ _ _ c.in_ok-here.ensures.keeps c.in_ok-some.ensures.keeps);
       made = c.in_ok-some.ensures.made;
       cells_made = cells_kept _ _ _ _ _ _ c.in_ok-some.ensures.keeps c.in_ok-here.ensures.cells;
+      known = known_kept _ _ _ _ _ _ _ _ c.in_ok-some.ensures.keeps c.in_ok-here.ensures.cells c.in_ok-here.ensures.known;
       target_made = target_kept _ _ _ _ _ _ c.in_ok-some.ensures.keeps c.in_ok-here.ensures.target;
       is = listing_goes _ _ _ _ _ _ _ _ _ _ _ _ _ _ _ _ _ _ step c.loop-member.invariant.keeps c.in_ok-here.ensures.keeps c.loop-member.invariant.made c.requires.cells_made c.requires.target_made c.loop-member.invariant.is c.in_ok-here.ensures.is c.in_ok-some.ensures.holds;
     }
@@ -38,6 +40,9 @@ sure_of_members-returns-clause-made g t c = c.loop-member.invariant.made
 
 pub sure_of_members-returns-clause-cells : goal.sure_of_members-returns-clause-cells
 sure_of_members-returns-clause-cells g t c = c.loop-member.invariant.cells_made
+
+pub sure_of_members-returns-clause-known : goal.sure_of_members-returns-clause-known
+sure_of_members-returns-clause-known g t c = c.loop-member.invariant.known
 
 pub sure_of_members-returns-clause-target : goal.sure_of_members-returns-clause-target
 sure_of_members-returns-clause-target g t c = c.loop-member.invariant.target_made
@@ -65,6 +70,7 @@ must_allow-returns-in_ok-r-in_default g t c = record {
   keeps = c.in_ok-r-in_default.ensures.keeps;
   made = c.in_ok-r-in_default.ensures.made;
   cells = c.in_ok-r-in_default.ensures.cells;
+  known = c.in_ok-r-in_default.ensures.known;
   target = c.in_ok-r-in_default.ensures.target;
   is = plain_must _ _ _ _ _ _ _ _ _ (plain_one _ c.in_default.not-Choose c.in_default.not-List c.in_default.not-Each) c.in_ok-r-in_default.ensures.is;
 }
@@ -74,3 +80,12 @@ sure_of_member-returns-in_ok-r-in-One-clause-cells g t c = cells_kept _ _ _ _ _ 
 
 pub sure_of_member-returns-in_ok-r-in-One-clause-target : goal.sure_of_member-returns-in_ok-r-in-One-clause-target
 sure_of_member-returns-in_ok-r-in-One-clause-target g t c = target_kept _ _ _ _ _ _ c.in_ok-r-in-One.ensures.keeps (target_kept _ _ _ _ _ _ c.in_ok-none-in-One.ensures.keeps c.in_ok-some-in-One.ensures.target)
+
+pub must_allow-returns-in_ok-r-in-Choose-clause-known : goal.must_allow-returns-in_ok-r-in-Choose-clause-known
+must_allow-returns-in_ok-r-in-Choose-clause-known g t c = known_kept _ _ _ _ _ _ _ _ c.in_ok-r-in-Choose.ensures.keeps c.in_ok-x-in-Choose.ensures.cells c.in_ok-x-in-Choose.ensures.known
+
+pub sure_of_member-returns-in_ok-r-in-Span-clause-known : goal.sure_of_member-returns-in_ok-r-in-Span-clause-known
+sure_of_member-returns-in_ok-r-in-Span-clause-known g t c = known_kept _ _ _ _ _ _ _ _ c.in_ok-r-in-Span.ensures.keeps c.requires.cells_made c.requires.known
+
+pub sure_of_member-returns-in_ok-r-in-One-clause-known : goal.sure_of_member-returns-in_ok-r-in-One-clause-known
+sure_of_member-returns-in_ok-r-in-One-clause-known g t c = known_kept _ _ _ _ _ _ _ _ c.in_ok-r-in-One.ensures.keeps (cells_kept _ _ _ _ _ _ c.in_ok-none-in-One.ensures.keeps c.in_ok-some-in-One.ensures.cells) (known_kept _ _ _ _ _ _ _ _ c.in_ok-none-in-One.ensures.keeps c.in_ok-some-in-One.ensures.cells c.in_ok-some-in-One.ensures.known)

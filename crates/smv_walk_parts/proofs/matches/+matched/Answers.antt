@@ -1,5 +1,6 @@
 use Rattle.std.proofs.Common.{◌∙◌}
 use Rattle.smv_cells.proofs.SeenLaws.{keeps_trans, cells_kept, seen_on}
+use Rattle.smv_outcomes.proofs.KnownLaws.{known_kept}
 use Rattle.smv_walk_parts.proofs.MatchLaws.{no_index, one_match}
 use Rattle.smv_walk_parts.proofs.matches.+matched.Goals as goal
 
@@ -11,6 +12,9 @@ returns-clause-keeps g t c = keeps_trans _ _ _ _ _ _ c.in_ok-x.ensures.keeps (ke
 
 pub returns-clause-cells : goal.returns-clause-cells
 returns-clause-cells g t c = cells_kept _ _ _ _ _ _ (keeps_trans _ _ _ _ _ _ c.in_ok-y.ensures.keeps c.in_ok-z.ensures.keeps) c.in_ok-offers.ensures.cells
+
+pub returns-clause-known : goal.returns-clause-known
+returns-clause-known g t c = known_kept _ _ _ _ _ _ _ _ (keeps_trans _ _ _ _ _ _ c.in_ok-y.ensures.keeps c.in_ok-z.ensures.keeps) c.in_ok-offers.ensures.cells c.in_ok-offers.ensures.known
 
 pub returns-clause-is : goal.returns-clause-is
 returns-clause-is g t c v h =

@@ -1,5 +1,6 @@
 use Rattle.smv_cells.proofs.SeenLaws.{keeps_trans, cells_kept}
-use Rattle.smv_walks.proofs.DemandLaws.{element_broken, claim_broken, old_kept}
+use Rattle.smv_outcomes.proofs.KnownLaws.{known_kept}
+use Rattle.smv_walks.proofs.DemandLaws.{element_broken, claim_broken, old_kept, old_known_kept}
 use Rattle.smv_walks.proofs.demands.broken.Goals as goal
 
 pub returns-in_ok-r-in-Defined-clause-is : goal.returns-in_ok-r-in-Defined-clause-is
@@ -19,3 +20,9 @@ returns-in_ok-r-in-Holds-clause-cells g c = cells_kept _ _ _ _ _ _ c.in_ok-r-in-
 
 pub returns-in_ok-r-in-Holds-clause-old : goal.returns-in_ok-r-in-Holds-clause-old
 returns-in_ok-r-in-Holds-clause-old g c = old_kept _ _ _ _ _ _ (keeps_trans _ _ _ _ _ _ c.in_ok-x-in-Holds.ensures.keeps c.in_ok-r-in-Holds.ensures.keeps) c.requires.old_made
+
+pub returns-in_ok-r-in-Holds-clause-known : goal.returns-in_ok-r-in-Holds-clause-known
+returns-in_ok-r-in-Holds-clause-known g c = known_kept _ _ _ _ _ _ _ _ c.in_ok-r-in-Holds.ensures.keeps c.in_ok-x-in-Holds.ensures.cells c.in_ok-x-in-Holds.ensures.known
+
+pub returns-in_ok-r-in-Holds-clause-past : goal.returns-in_ok-r-in-Holds-clause-past
+returns-in_ok-r-in-Holds-clause-past g c = old_known_kept _ _ _ _ _ _ _ _ (keeps_trans _ _ _ _ _ _ c.in_ok-x-in-Holds.ensures.keeps c.in_ok-r-in-Holds.ensures.keeps) c.requires.old_made c.requires.past

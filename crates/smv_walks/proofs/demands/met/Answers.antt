@@ -1,6 +1,6 @@
 use Rattle.std.proofs.Common.{refl}
 use Rattle.smv_cells.proofs.SeenLaws.{cells_kept}
-use Rattle.smv_walks.proofs.DemandLaws.{element_met, claim_met, old_kept}
+use Rattle.smv_walks.proofs.DemandLaws.{element_met, claim_met, old_kept, old_known_kept}
 use Rattle.smv_walks.proofs.demands.met.Goals as goal
 
 pub returns-in_ok-r-in-Defined-clause-is : goal.returns-in_ok-r-in-Defined-clause-is
@@ -17,3 +17,6 @@ returns-in_ok-x-in-Holds-clause-is g c = claim_met _ _ _ _ _ _ _ _ _ _ _ _ c.in-
 
 pub returns-in_ok-x-in-Holds-clause-old : goal.returns-in_ok-x-in-Holds-clause-old
 returns-in_ok-x-in-Holds-clause-old g c = old_kept _ _ _ _ _ _ c.in_ok-x-in-Holds.ensures.keeps c.requires.old_made
+
+pub returns-in_ok-x-in-Holds-clause-past : goal.returns-in_ok-x-in-Holds-clause-past
+returns-in_ok-x-in-Holds-clause-past g c = old_known_kept _ _ _ _ _ _ _ _ c.in_ok-x-in-Holds.ensures.keeps c.requires.old_made c.requires.past

@@ -1,5 +1,6 @@
 use Rattle.std.proofs.Common.{refl}
 use Rattle.smv_cells.proofs.SeenLaws.{keeps_trans, cells_kept}
+use Rattle.smv_outcomes.proofs.KnownLaws.{known_kept}
 use Rattle.smv_walks.proofs.StepLaws.{part_gives_it}
 use Rattle.smv_walks.proofs.given.part_gives.Goals as goal
 
@@ -11,3 +12,6 @@ returns-clause-cells g c = cells_kept _ _ _ _ _ _ (keeps_trans _ _ _ _ _ _ c.in_
 
 pub both-requires-clause-d_made : goal.both-requires-clause-d_made
 both-requires-clause-d_made g c = c.in_ok-g.ensures.keeps.made _ c.requires.nothing_made
+
+pub returns-clause-known : goal.returns-clause-known
+returns-clause-known g c = known_kept _ _ _ _ _ _ _ _ (keeps_trans _ _ _ _ _ _ c.in_ok-kept.ensures.keeps c.in_ok-r.ensures.keeps) c.in_ok-g.ensures.cells c.in_ok-g.ensures.known

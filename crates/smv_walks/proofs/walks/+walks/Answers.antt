@@ -3,6 +3,7 @@ use Rattle.std.proofs.lemmas.Grind.{common_steps}
 use Rattle.smv_core.specs.declared.flat.Flat.{Flat}
 use Rattle.smv_spots.specs.declared.spots.Spot.{Spot}
 use Rattle.smv_cells.proofs.SeenLaws.{keeps_same, keeps_trans, cells_kept}
+use Rattle.smv_outcomes.proofs.KnownLaws.{known_kept}
 use Rattle.smv_targets.proofs.GivenLaws.{target_kept}
 use Rattle.smv_walk_parts.specs.Parts.{AllGistsMade}
 use Rattle.smv_walks.specs.Walks.{AreGistsOf, AreGistsAlong}
@@ -32,6 +33,9 @@ passed-returns-in_ok-g-in-First-clause-is g t c = First_of_it _ _ _ _ _ _ _ _ _ 
 pub passed-returns-in_ok-g-in-First-clause-cells : goal.passed-returns-in_ok-g-in-First-clause-cells
 passed-returns-in_ok-g-in-First-clause-cells g t c = cells_kept _ _ _ _ _ _ c.in_ok-g-in-First.ensures.keeps c.in_ok-each-in-First.ensures.cells
 
+pub passed-returns-in_ok-g-in-First-clause-known : goal.passed-returns-in_ok-g-in-First-clause-known
+passed-returns-in_ok-g-in-First-clause-known g t c = known_kept _ _ _ _ _ _ _ _ c.in_ok-g-in-First.ensures.keeps c.in_ok-each-in-First.ensures.cells c.in_ok-each-in-First.ensures.known
+
 pub passed-returns-in_ok-g-in-First-clause-target : goal.passed-returns-in_ok-g-in-First-clause-target
 passed-returns-in_ok-g-in-First-clause-target g t c = target_kept _ _ _ _ _ _ c.in_ok-g-in-First.ensures.keeps c.in_ok-each-in-First.ensures.target
 
@@ -41,11 +45,14 @@ passed-returns-in_ok-g-in-Forall-clause-is g t c = Forall_of_it _ _ _ _ _ _ _ _ 
 pub passed-returns-in_ok-g-in-Forall-clause-cells : goal.passed-returns-in_ok-g-in-Forall-clause-cells
 passed-returns-in_ok-g-in-Forall-clause-cells g t c = cells_kept _ _ _ _ _ _ c.in_ok-g-in-Forall.ensures.keeps c.in_ok-found-in-Forall.ensures.cells
 
+pub passed-returns-in_ok-g-in-Forall-clause-known : goal.passed-returns-in_ok-g-in-Forall-clause-known
+passed-returns-in_ok-g-in-Forall-clause-known g t c = known_kept _ _ _ _ _ _ _ _ c.in_ok-g-in-Forall.ensures.keeps c.in_ok-found-in-Forall.ensures.cells c.in_ok-found-in-Forall.ensures.known
+
 pub passed-returns-in_ok-g-in-Forall-clause-target : goal.passed-returns-in_ok-g-in-Forall-clause-target
 passed-returns-in_ok-g-in-Forall-clause-target g t c = target_kept _ _ _ _ _ _ c.in_ok-g-in-Forall.ensures.keeps c.in_ok-found-in-Forall.ensures.target
 
 pub gists_each-loop-part-init : goal.gists_each-loop-part-init
-gists_each-loop-part-init g t c = record { keeps = keeps_same _ _ _ _; made = subst (AllGistsMade _) (sym c.new-each.ensures.items) tt; cells_made = c.requires.cells_made; target_made = c.requires.target_made; are = gists_begin _ _ _ _ _ _ _ _ _ _ refl c.new-each.ensures.items }
+gists_each-loop-part-init g t c = record { keeps = keeps_same _ _ _ _; made = subst (AllGistsMade _) (sym c.new-each.ensures.items) tt; cells_made = c.requires.cells_made; known = c.requires.known; target_made = c.requires.target_made; are = gists_begin _ _ _ _ _ _ _ _ _ _ refl c.new-each.ensures.items }
 
 pub gists_each-loop-part-preserved : goal.gists_each-loop-part-preserved
 gists_each-loop-part-preserved g t c =
@@ -54,6 +61,7 @@ gists_each-loop-part-preserved g t c =
       keeps = keeps_trans _ _ _ _ _ _ c.loop-part.invariant.keeps c.in_ok-g.ensures.keeps;
       made = gists_added _ _ _ _ _ _ _ _ c.in_ok-g.ensures.keeps c.in_ok-add_some.ensures c.loop-part.invariant.made c.in_ok-g.ensures.made;
       cells_made = c.in_ok-g.ensures.cells;
+      known = c.in_ok-g.ensures.known;
       target_made = c.in_ok-g.ensures.target;
       are = gists_go _ _ _ _ _ _ _ _ _ _ c.loop-part.invariant.keeps c.in_ok-g.ensures.keeps c.requires.cells_made c.requires.target_made _ _ _ _ _ _ _ _ step c.in_ok-add_some.ensures c.loop-part.invariant.made c.loop-part.invariant.are c.in_ok-g.ensures.is;
     }
@@ -73,6 +81,9 @@ gists_each-returns-clause-made g t c = c.loop-part.invariant.made
 pub gists_each-returns-clause-cells : goal.gists_each-returns-clause-cells
 gists_each-returns-clause-cells g t c = c.loop-part.invariant.cells_made
 
+pub gists_each-returns-clause-known : goal.gists_each-returns-clause-known
+gists_each-returns-clause-known g t c = c.loop-part.invariant.known
+
 pub gists_each-returns-clause-target : goal.gists_each-returns-clause-target
 gists_each-returns-clause-target g t c = c.loop-part.invariant.target_made
 
@@ -82,7 +93,7 @@ gists_each-returns-clause-are g t c =
     subst (λ (rest : List Flat). AreGistsOf g.S.Conditions.holds c.args.s.now c.loop-part.s c.args.problem.now c.args.cells.now c.args.target.now c.args.way c.args.b.now c.args.parts.now rest c.loop-part.each.items) end c.loop-part.invariant.are
 
 pub gists_along-loop-inner-init : goal.gists_along-loop-inner-init
-gists_along-loop-inner-init g t c = record { keeps = keeps_same _ _ _ _; made = subst (AllGistsMade _) (sym c.new-each.ensures.items) tt; cells_made = c.requires.cells_made; target_made = c.requires.target_made; are = along_begins _ _ _ _ _ _ _ _ _ _ refl c.new-each.ensures.items }
+gists_along-loop-inner-init g t c = record { keeps = keeps_same _ _ _ _; made = subst (AllGistsMade _) (sym c.new-each.ensures.items) tt; cells_made = c.requires.cells_made; known = c.requires.known; target_made = c.requires.target_made; are = along_begins _ _ _ _ _ _ _ _ _ _ refl c.new-each.ensures.items }
 
 pub gists_along-loop-inner-preserved : goal.gists_along-loop-inner-preserved
 gists_along-loop-inner-preserved g t c =
@@ -91,6 +102,7 @@ gists_along-loop-inner-preserved g t c =
       keeps = keeps_trans _ _ _ _ _ _ c.loop-inner.invariant.keeps c.in_ok-g.ensures.keeps;
       made = gists_added _ _ _ _ _ _ _ _ c.in_ok-g.ensures.keeps c.in_ok-add_some.ensures c.loop-inner.invariant.made c.in_ok-g.ensures.made;
       cells_made = c.in_ok-g.ensures.cells;
+      known = c.in_ok-g.ensures.known;
       target_made = c.in_ok-g.ensures.target;
       are = along_goes _ _ _ _ _ _ _ _ _ _ c.loop-inner.invariant.keeps c.in_ok-g.ensures.keeps c.requires.cells_made c.requires.target_made _ _ _ _ _ _ _ _ _ step c.in_ok-add_some.ensures c.as_slice.ensures c.loop-inner.invariant.made c.loop-inner.invariant.are c.in_ok-g.ensures.is;
     }
@@ -109,6 +121,9 @@ gists_along-returns-clause-made g t c = c.loop-inner.invariant.made
 
 pub gists_along-returns-clause-cells : goal.gists_along-returns-clause-cells
 gists_along-returns-clause-cells g t c = c.loop-inner.invariant.cells_made
+
+pub gists_along-returns-clause-known : goal.gists_along-returns-clause-known
+gists_along-returns-clause-known g t c = c.loop-inner.invariant.known
 
 pub gists_along-returns-clause-target : goal.gists_along-returns-clause-target
 gists_along-returns-clause-target g t c = c.loop-inner.invariant.target_made

@@ -1,4 +1,5 @@
 use Rattle.smv_cells.proofs.SeenLaws.{keeps_trans, cells_kept}
+use Rattle.smv_outcomes.proofs.KnownLaws.{known_kept}
 use Rattle.smv_targets.proofs.GivenLaws.{target_kept}
 use Rattle.smv_walks.proofs.PartLaws.{assigned_of_it}
 use Rattle.smv_walks.proofs.walks.assigned.Goals as goal
@@ -14,3 +15,6 @@ returns-clause-target g c = target_kept _ _ _ _ _ _ (keeps_trans _ _ _ _ _ _ c.i
 
 pub everything-open-requires : goal.everything-open-requires
 everything-open-requires g c = record { target_made = target_kept _ _ _ _ _ _ c.in_ok-x.ensures.keeps c.in_ok-r.ensures.target }
+
+pub returns-clause-known : goal.returns-clause-known
+returns-clause-known g c = known_kept _ _ _ _ _ _ _ _ c.in_ok-g.ensures.keeps c.in_ok-x.ensures.cells c.in_ok-x.ensures.known

@@ -1,4 +1,5 @@
 use Rattle.smv_cells.proofs.SeenLaws.{keeps_trans, cells_kept}
+use Rattle.smv_outcomes.proofs.KnownLaws.{known_kept}
 use Rattle.smv_targets.proofs.GivenLaws.{target_kept}
 use Rattle.smv_walk_parts.proofs.FirstLaws.{gists_kept}
 use Rattle.smv_walks.proofs.PartLaws.{taken_none, taken_of_it}
@@ -25,3 +26,6 @@ if_of-requires-clause-g_made g c = gists_kept _ _ _ _ _ _ c.in_ok-x.ensures.keep
 
 pub if_of-requires-clause-h_made : goal.if_of-requires-clause-h_made
 if_of-requires-clause-h_made g c = gists_kept _ _ _ _ _ _ c.in_ok-x.ensures.keeps c.or_nothing-below.ensures.made
+
+pub returns-clause-known : goal.returns-clause-known
+returns-clause-known g c = known_kept _ _ _ _ _ _ _ _ c.in_ok-k.ensures.keeps c.in_ok-x.ensures.cells c.in_ok-x.ensures.known
