@@ -32,6 +32,9 @@ enum Form {
     Quantifiers,
     /// The same over a scalarset of which one value is a class and the others are at the rest.
     QuantifiersOverRests,
+    /// Quantifiers inside one another, each of which reads its own variable and that of the next around it: in a chain, and in the branch of a conditional.
+    Chain,
+    Branches,
     /// Blanks.
     Blanks,
 }
@@ -60,6 +63,8 @@ fn text_of(alloc: Global, form: Form, count: u32) -> Result<String, AllocError> 
             "T",
             count,
         ),
+        Form::Chain => linked(alloc, " & ", "", count),
+        Form::Branches => linked(alloc, " ? ", " : 0", count),
         Form::Blanks => repeated(alloc, " ", count),
     }
 }
@@ -130,6 +135,24 @@ fn quantifiers(alloc: Global, head: &str, over: &str, count: u32) -> Result<Stri
     Ok(text)
 }
 
+// Quantifiers inside one another, each behind what it reads and before what ends its part.
+fn linked(alloc: Global, behind: &str, before: &str, count: u32) -> Result<String, AllocError> {
+    let mut text = String::from_str(
+        alloc,
+        "module main() { b : array 0..1 of boolean; p : assert G &[ (b[v0] | ~b[v0])",
+    )?;
+    for number in 1..count {
+        let last = number - 1;
+        text.push_str(&format!(in alloc; "{behind}&[ (b[v{last}] & b[v{number}] -> b[v{last}])")?)?;
+    }
+    for number in 1..count {
+        let var = count - number;
+        text.push_str(&format!(in alloc; " : v{var} in 0..1 ]{before}")?)?;
+    }
+    text.push_str(" : v0 in 0..1 ]; }")?;
+    Ok(text)
+}
+
 // A form with a number of parts, and its status and answer.
 type FormRow = (Form, u32, u8, &'static str);
 
@@ -176,10 +199,12 @@ const DEPTHS: &[FormRow] = &[
 
 const TRUE: &str = "p: true\nproved 1 of 1\n";
 
-// A body that reads none of the variables around it is walked and worked out once, however many there are.
+// A quantifier is walked and worked out once for each different binding of what it reads, however many there are around it.
 const NESTS: &[FormRow] = &[
     (Form::Quantifiers, 60, 0, TRUE),
     (Form::QuantifiersOverRests, 60, 0, TRUE),
+    (Form::Chain, 60, 0, TRUE),
+    (Form::Branches, 30, 0, TRUE),
 ];
 
 // A claim has up to 8 parameters, and up to 4,096 cases: 16 times 256, of which the last is looked at too, while 17 times 241
