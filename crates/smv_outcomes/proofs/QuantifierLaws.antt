@@ -17,6 +17,7 @@ use Rattle.law_obligations.proofs.QuantifierLaws.{mix-quantified-any, quantified
 use Rattle.smv_spots.specs.declared.spots.Spot.{Spot}
 use Rattle.smv_spots.specs.Spots.{place_in}
 use Rattle.smv_conditions.specs.declared.chances.Chances.{Chances}
+use Rattle.smv_conditions.specs.declared.offers.May.{May}
 use Rattle.smv_conditions.specs.declared.offers.May.TheVariants.{Truths}
 use Rattle.smv_conditions.specs.Keep.{KeepsConditions}
 use Rattle.smv_conditions.specs.Chances.{mix_at}
@@ -89,6 +90,10 @@ quantified_offers : {S C : Type 0} (holds : S → C → (ℕ → Bool) → Bool)
     Offers n holds s a (Truths z) (quantified join at_named at_rests)
 quantified_offers holds n s a z join at_named at_rests e =
     shown_offers holds n s a z (quantified join at_named at_rests) (flat_map (λ us. flat_map (λ vs. join (map seen (us ++ vs)) ∷ []) (parts at_rests)) (one_of_each at_named)) (quantified-shown join at_named at_rests) e
+
+-- of the same expression
+pub may_shown : {S C : Type 0} (holds : S → C → (ℕ → Bool) → Bool) (s : S) (v : View) (e d : FlatExpr) (b : List Spot) (m : May C) → e ≡ d → IsMayOf holds s v d b m → IsMayOf holds s v e b m
+may_shown holds s v e d b m is h = subst (λ x. IsMayOf holds s v x b m) (sym is) h
 
 module _ {S C : Type 0} (IsMade : S → C → Type 0) (holds : S → C → (ℕ → Bool) → Bool) (room : S → ℕ) (s1 s2 t : S) (v : View) (view : IsView v) (k : KeepsConditions IsMade holds room s1 s2) (whole body l r : FlatExpr) (var at : ℕ) (over : Simple) (b : List Spot) (named named' rests rests' : List (List Spot)) (each each' others others' : List (Chances C)) (z : Chances C)
     (e : l ≡ body) (f : r ≡ body) (en : named' ≡ named) (er : rests' ≡ rests) (de : each' ≡ each) (dl : others' ≡ others)

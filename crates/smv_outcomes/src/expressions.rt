@@ -1,5 +1,7 @@
 // What expressions may be.
-ghost use Rattle.std.specs.Prelude.{◌≡◌, IfOk, OnOk, [], slice_get};
+ghost use Rattle.std.specs.Prelude.{◌≡◌, ℕ, IfOk, OnOk, [], slice_get};
+ghost use Rattle.smv_core.specs.declared.flat.FlatExpr.{All, Any};
+ghost use Rattle.smv_conditions.specs.declared.offers.May.TheVariants.{Truths};
 ghost use Rattle.smv_conditions.specs.Keep.{KeepsConditions};
 ghost use Rattle.smv_conditions.specs.Chances.{AreMade};
 ghost use Rattle.smv_conditions.specs.Chain.{AllMade};
@@ -15,7 +17,7 @@ use smv_cells::Cell;
 use smv_conditions::chances::{Chances, Join, chain_of, negated};
 use smv_conditions::conditions::Conditions;
 use smv_conditions::offers::{May, Offer, single, truths_of};
-use smv_core::flat::{FlatExpr, FlatMember, FlatSigned};
+use smv_core::flat::{FlatExpr, FlatMember, FlatSigned, Simple};
 use smv_core::seq::Seq;
 use smv_free_variables::alike::all_agree;
 use smv_free_variables::known::Known;
@@ -227,29 +229,7 @@ fn may_anew<'a, S: Conditions>(
             over,
             ..
         } => {
-            let named = bound_named(alloc, problem, b, *var, *over)?;
-            let rests = bound_rests(alloc, problem, b, *var, *over)?;
-            let each = truths_along(
-                s,
-                alloc,
-                problem,
-                cells,
-                known,
-                body.get(),
-                named.as_slice(),
-            )?;
-            let others = truths_behind(
-                s,
-                alloc,
-                problem,
-                cells,
-                known,
-                body.get(),
-                named.as_slice(),
-                each.as_slice(),
-                rests.as_slice(),
-            )?;
-            let z = all_of(s, alloc, each.as_slice(), others.as_slice())?;
+            let z = all_over(s, alloc, problem, cells, known, body.get(), *var, *over, b)?;
             Ok(May::Truths(z))
         }
         FlatExpr::Any {
@@ -258,29 +238,7 @@ fn may_anew<'a, S: Conditions>(
             over,
             ..
         } => {
-            let named = bound_named(alloc, problem, b, *var, *over)?;
-            let rests = bound_rests(alloc, problem, b, *var, *over)?;
-            let each = truths_along(
-                s,
-                alloc,
-                problem,
-                cells,
-                known,
-                body.get(),
-                named.as_slice(),
-            )?;
-            let others = truths_behind(
-                s,
-                alloc,
-                problem,
-                cells,
-                known,
-                body.get(),
-                named.as_slice(),
-                each.as_slice(),
-                rests.as_slice(),
-            )?;
-            let z = any_of(s, alloc, each.as_slice(), others.as_slice())?;
+            let z = any_over(s, alloc, problem, cells, known, body.get(), *var, *over, b)?;
             Ok(May::Truths(z))
         }
         FlatExpr::List { .. } => {
@@ -292,6 +250,88 @@ fn may_anew<'a, S: Conditions>(
             Ok(m)
         }
     }
+}
+
+// The conjunction of a body over all values of a type.
+#[cycle(expressions)]
+fn all_over<'a, S: Conditions>(
+    s: &mut S,
+    alloc: Global,
+    problem: &Problem,
+    cells: &[Cell<S::Condition>],
+    known: &mut Known<'a, Chances<S::Condition>>,
+    body: &'a FlatExpr,
+    var: u16,
+    over: Simple,
+    b: &[Spot],
+) -> Result<Chances<S::Condition>, AllocError>
+    requires cells_made { AreCellsMade (S.IsMade s.old) cells.now }
+    requires known { AreKnown S.IsMade S.holds s.old problem.now cells.now known.old.entries.items }
+    ensures keeps { KeepsConditions S.IsMade S.holds S.room s.old s.new }
+    ensures made { IfOk result (λ z. AreMade (S.IsMade s.new) z) }
+    ensures cells { IfOk result (λ z. AreCellsMade (S.IsMade s.new) cells.now) }
+    ensures known { IfOk result (λ z. AreKnown S.IsMade S.holds s.new problem.entry.now cells.now known.new.entries.items) }
+    ensures is { IfOk result (λ z. (v : View) → IsSeen S.holds s.old problem.entry.now cells.now v → (at : ℕ) → IsMayOf S.holds s.new v (All body.now var over at) b.now (Truths z)) }
+{
+    let named = bound_named(alloc, problem, b, var, over)?;
+    let rests = bound_rests(alloc, problem, b, var, over)?;
+    let bindings = named.as_slice();
+    let each = truths_along(s, alloc, problem, cells, known, body, bindings)?;
+    let given = each.as_slice();
+    let others = truths_behind(
+        s,
+        alloc,
+        problem,
+        cells,
+        known,
+        body,
+        bindings,
+        given,
+        rests.as_slice(),
+    )?;
+    let z = all_of(s, alloc, given, others.as_slice())?;
+    Ok(z)
+}
+
+// The disjunction of a body over all values of a type.
+#[cycle(expressions)]
+fn any_over<'a, S: Conditions>(
+    s: &mut S,
+    alloc: Global,
+    problem: &Problem,
+    cells: &[Cell<S::Condition>],
+    known: &mut Known<'a, Chances<S::Condition>>,
+    body: &'a FlatExpr,
+    var: u16,
+    over: Simple,
+    b: &[Spot],
+) -> Result<Chances<S::Condition>, AllocError>
+    requires cells_made { AreCellsMade (S.IsMade s.old) cells.now }
+    requires known { AreKnown S.IsMade S.holds s.old problem.now cells.now known.old.entries.items }
+    ensures keeps { KeepsConditions S.IsMade S.holds S.room s.old s.new }
+    ensures made { IfOk result (λ z. AreMade (S.IsMade s.new) z) }
+    ensures cells { IfOk result (λ z. AreCellsMade (S.IsMade s.new) cells.now) }
+    ensures known { IfOk result (λ z. AreKnown S.IsMade S.holds s.new problem.entry.now cells.now known.new.entries.items) }
+    ensures is { IfOk result (λ z. (v : View) → IsSeen S.holds s.old problem.entry.now cells.now v → (at : ℕ) → IsMayOf S.holds s.new v (Any body.now var over at) b.now (Truths z)) }
+{
+    let named = bound_named(alloc, problem, b, var, over)?;
+    let rests = bound_rests(alloc, problem, b, var, over)?;
+    let bindings = named.as_slice();
+    let each = truths_along(s, alloc, problem, cells, known, body, bindings)?;
+    let given = each.as_slice();
+    let others = truths_behind(
+        s,
+        alloc,
+        problem,
+        cells,
+        known,
+        body,
+        bindings,
+        given,
+        rests.as_slice(),
+    )?;
+    let z = any_of(s, alloc, given, others.as_slice())?;
+    Ok(z)
 }
 
 /// The outcomes that an expression may have, each once.

@@ -1,6 +1,6 @@
-use Rattle.std.proofs.Common.{◌≡◌, ◌∷◌, [], ◌+◌, List, drop, arith, refl, sym, subst}
+use Rattle.std.proofs.Common.{◌≡◌, ◌∷◌, [], ◌+◌, List, drop, arith, refl, sym, ap, ◌∙◌, subst}
 use Rattle.std.proofs.lemmas.Grind.{common_steps}
-use Rattle.smv_core.specs.declared.flat.FlatExpr.{FlatExpr}
+use Rattle.smv_core.specs.declared.flat.FlatExpr.{FlatExpr, All, Any}
 use Rattle.smv_core.specs.declared.flat.FlatMember.{FlatMember}
 use Rattle.smv_core.specs.declared.flat.FlatSigned.{FlatSigned}
 use Rattle.smv_spots.specs.declared.spots.Spot.{Spot}
@@ -14,7 +14,7 @@ use Rattle.smv_outcomes.proofs.ExpressionLaws.{truth_is, offers_are, number_of, 
 use Rattle.smv_outcomes.proofs.GatherLaws.{chances_kept, chances_shown, chances_pushed, lists_pushed, truths_begin, along_begins, lists_begin, members_begin, sum_begins, truths_go, along_goes, lists_go, members_go, member_pushed, sum_goes}
 use Rattle.smv_outcomes.proofs.ElementLaws.{read_of_it, sum_of_it}
 use Rattle.smv_outcomes.proofs.SetLaws.{members_listed, no_members, numbers_added, within_of_it}
-use Rattle.smv_outcomes.proofs.QuantifierLaws.{all_of_it, any_of_it}
+use Rattle.smv_outcomes.proofs.QuantifierLaws.{may_shown, all_of_it, any_of_it}
 use Rattle.smv_outcomes.proofs.AlikeLaws.{no_bindings, alike_made, alike_along, alike_behind, along_shown}
 use Rattle.smv_outcomes.proofs.KnownLaws.{known_kept, seen_before, found_made, found_is, known_more}
 use Rattle.smv_outcomes.proofs.expressions.+expressions.Goals as goal
@@ -105,30 +105,6 @@ may_anew-returns-in_ok-offers-in-Choose-clause-cells g t c = cells_kept _ _ _ _ 
 
 pub may_anew-chosen-requires-clause-yes_made : goal.may_anew-chosen-requires-clause-yes_made
 may_anew-chosen-requires-clause-yes_made g t c = slice_made _ _ _ _ _ _ _ c.as_slice-in-Choose.ensures.value c.in_ok-vs-in-Choose.ensures.keeps c.in_ok-us-in-Choose.ensures.made
-
-pub may_anew-returns-in_ok-z-in-All-clause-is : goal.may_anew-returns-in_ok-z-in-All-clause-is
-may_anew-returns-in_ok-z-in-All-clause-is g t c v h =
-    all_of_it _ _ _ _ _ _ v h.view c.in_ok-others-in-All.ensures.keeps _ _ _ _ _ _ _ _ _ _ _ _ _ _ _ _ _ c.get-in-All.ensures c.get-in-All-2.ensures c.as_slice-in-All.ensures.value c.as_slice-in-All-4.ensures.value c.as_slice-in-All-5.ensures.value c.as_slice-in-All-6.ensures.value
-    (c.in_ok-named-in-All.ensures v.world h.world) (c.in_ok-rests-in-All.ensures v.world h.world) c.in_ok-each-in-All.ensures.made (c.in_ok-each-in-All.ensures.are v h) (c.in_ok-others-in-All.ensures.are v (seen_on _ _ _ _ _ _ _ v c.in_ok-each-in-All.ensures.keeps c.requires.cells_made h)
-    (along_shown _ _ v _ _ _ _ _ _ _ _ c.get-in-All.ensures c.get-in-All-2.ensures c.as_slice-in-All.ensures.value c.as_slice-in-All-2.ensures.value c.as_slice-in-All-3.ensures.value (c.in_ok-each-in-All.ensures.are v h))) c.in-All.is c.in_ok-z-in-All.ensures.mix
-
-pub may_anew-returns-in_ok-z-in-All-clause-cells : goal.may_anew-returns-in_ok-z-in-All-clause-cells
-may_anew-returns-in_ok-z-in-All-clause-cells g t c = cells_kept _ _ _ _ _ _ c.in_ok-z-in-All.ensures.keeps c.in_ok-others-in-All.ensures.cells
-
-pub may_anew-returns-in_ok-z-in-Any-clause-is : goal.may_anew-returns-in_ok-z-in-Any-clause-is
-may_anew-returns-in_ok-z-in-Any-clause-is g t c v h =
-    any_of_it _ _ _ _ _ _ v h.view c.in_ok-others-in-Any.ensures.keeps _ _ _ _ _ _ _ _ _ _ _ _ _ _ _ _ _ c.get-in-Any.ensures c.get-in-Any-2.ensures c.as_slice-in-Any.ensures.value c.as_slice-in-Any-4.ensures.value c.as_slice-in-Any-5.ensures.value c.as_slice-in-Any-6.ensures.value
-    (c.in_ok-named-in-Any.ensures v.world h.world) (c.in_ok-rests-in-Any.ensures v.world h.world) c.in_ok-each-in-Any.ensures.made (c.in_ok-each-in-Any.ensures.are v h) (c.in_ok-others-in-Any.ensures.are v (seen_on _ _ _ _ _ _ _ v c.in_ok-each-in-Any.ensures.keeps c.requires.cells_made h)
-    (along_shown _ _ v _ _ _ _ _ _ _ _ c.get-in-Any.ensures c.get-in-Any-2.ensures c.as_slice-in-Any.ensures.value c.as_slice-in-Any-2.ensures.value c.as_slice-in-Any-3.ensures.value (c.in_ok-each-in-Any.ensures.are v h))) c.in-Any.is c.in_ok-z-in-Any.ensures.mix
-
-pub may_anew-returns-in_ok-z-in-Any-clause-cells : goal.may_anew-returns-in_ok-z-in-Any-clause-cells
-may_anew-returns-in_ok-z-in-Any-clause-cells g t c = cells_kept _ _ _ _ _ _ c.in_ok-z-in-Any.ensures.keeps c.in_ok-others-in-Any.ensures.cells
-
-pub may_anew-all_of-requires-clause-named_made : goal.may_anew-all_of-requires-clause-named_made
-may_anew-all_of-requires-clause-named_made g t c = chances_shown _ _ _ _ _ _ _ c.as_slice-in-All-5.ensures.value c.in_ok-others-in-All.ensures.keeps c.in_ok-each-in-All.ensures.made
-
-pub may_anew-any_of-requires-clause-named_made : goal.may_anew-any_of-requires-clause-named_made
-may_anew-any_of-requires-clause-named_made g t c = chances_shown _ _ _ _ _ _ _ c.as_slice-in-Any-5.ensures.value c.in_ok-others-in-Any.ensures.keeps c.in_ok-each-in-Any.ensures.made
 
 pub may_anew-returns-in_ok-m-in-List-clause-is : goal.may_anew-returns-in_ok-m-in-List-clause-is
 may_anew-returns-in_ok-m-in-List-clause-is g t c v h = none_of_list _ _ v _ _ _ _ _ c.in-List.is c.in_ok-m-in-List.ensures.offers
@@ -381,12 +357,6 @@ may_anew-returns-in_ok-rest-in-Modulo-clause-known g t c = known_kept _ _ _ _ _ 
 pub may_anew-returns-in_ok-offers-in-Choose-clause-known : goal.may_anew-returns-in_ok-offers-in-Choose-clause-known
 may_anew-returns-in_ok-offers-in-Choose-clause-known g t c = known_kept _ _ _ _ _ _ _ _ c.in_ok-offers-in-Choose.ensures.keeps c.in_ok-vs-in-Choose.ensures.cells c.in_ok-vs-in-Choose.ensures.known
 
-pub may_anew-returns-in_ok-z-in-All-clause-known : goal.may_anew-returns-in_ok-z-in-All-clause-known
-may_anew-returns-in_ok-z-in-All-clause-known g t c = known_kept _ _ _ _ _ _ _ _ c.in_ok-z-in-All.ensures.keeps c.in_ok-others-in-All.ensures.cells c.in_ok-others-in-All.ensures.known
-
-pub may_anew-returns-in_ok-z-in-Any-clause-known : goal.may_anew-returns-in_ok-z-in-Any-clause-known
-may_anew-returns-in_ok-z-in-Any-clause-known g t c = known_kept _ _ _ _ _ _ _ _ c.in_ok-z-in-Any.ensures.keeps c.in_ok-others-in-Any.ensures.cells c.in_ok-others-in-Any.ensures.known
-
 pub truth_of-returns-clause-known : goal.truth_of-returns-clause-known
 truth_of-returns-clause-known g t c = known_kept _ _ _ _ _ _ _ _ c.in_ok-x.ensures.keeps c.in_ok-m.ensures.cells c.in_ok-m.ensures.known
 
@@ -420,3 +390,39 @@ may_once-returns-in-Some-clause-is g t c v h = found_is _ _ _ _ _ _ _ _ _ c.in-S
 pub may_once-returns-clause-known : goal.may_once-returns-clause-known
 may_once-returns-clause-known g t c =
     known_more _ _ _ _ _ _ _ _ _ _ c.in_ok-remember.ensures c.in_ok-m.ensures.made (λ v h. c.in_ok-m.ensures.is v (seen_before _ _ _ _ _ _ _ v c.in_ok-m.ensures.keeps c.requires.cells_made h)) c.in_ok-m.ensures.known
+
+pub may_anew-returns-in_ok-z-in-All-clause-is : goal.may_anew-returns-in_ok-z-in-All-clause-is
+may_anew-returns-in_ok-z-in-All-clause-is g t c v h = may_shown _ _ v _ _ _ _ (c.in-All.is ∙ ap (λ x. All x c.in-All.var c.in-All.over c.in-All.at) (sym c.get-in-All.ensures)) (c.in_ok-z-in-All.ensures.is v h c.in-All.at)
+
+pub all_over-returns-clause-is : goal.all_over-returns-clause-is
+all_over-returns-clause-is g t c v h at =
+    all_of_it _ _ _ _ _ _ v h.view c.in_ok-others.ensures.keeps _ _ _ _ _ _ _ _ _ _ _ _ _ _ _ _ _ refl refl c.as_slice-bindings.ensures.value c.as_slice.ensures.value c.as_slice-given.ensures.value c.as_slice-2.ensures.value
+    (c.in_ok-named.ensures v.world h.world) (c.in_ok-rests.ensures v.world h.world) c.in_ok-each.ensures.made (c.in_ok-each.ensures.are v h) (c.in_ok-others.ensures.are v (seen_on _ _ _ _ _ _ _ v c.in_ok-each.ensures.keeps c.requires.cells_made h)
+    (along_shown _ _ v _ _ _ _ _ _ _ _ refl refl refl refl c.as_slice-given.ensures.value (c.in_ok-each.ensures.are v h))) refl c.in_ok-z.ensures.mix
+
+pub all_over-returns-clause-cells : goal.all_over-returns-clause-cells
+all_over-returns-clause-cells g t c = cells_kept _ _ _ _ _ _ c.in_ok-z.ensures.keeps c.in_ok-others.ensures.cells
+
+pub all_over-returns-clause-known : goal.all_over-returns-clause-known
+all_over-returns-clause-known g t c = known_kept _ _ _ _ _ _ _ _ c.in_ok-z.ensures.keeps c.in_ok-others.ensures.cells c.in_ok-others.ensures.known
+
+pub all_over-all_of-requires-clause-named_made : goal.all_over-all_of-requires-clause-named_made
+all_over-all_of-requires-clause-named_made g t c = chances_shown _ _ _ _ _ _ _ c.as_slice-given.ensures.value c.in_ok-others.ensures.keeps c.in_ok-each.ensures.made
+
+pub may_anew-returns-in_ok-z-in-Any-clause-is : goal.may_anew-returns-in_ok-z-in-Any-clause-is
+may_anew-returns-in_ok-z-in-Any-clause-is g t c v h = may_shown _ _ v _ _ _ _ (c.in-Any.is ∙ ap (λ x. Any x c.in-Any.var c.in-Any.over c.in-Any.at) (sym c.get-in-Any.ensures)) (c.in_ok-z-in-Any.ensures.is v h c.in-Any.at)
+
+pub any_over-returns-clause-is : goal.any_over-returns-clause-is
+any_over-returns-clause-is g t c v h at =
+    any_of_it _ _ _ _ _ _ v h.view c.in_ok-others.ensures.keeps _ _ _ _ _ _ _ _ _ _ _ _ _ _ _ _ _ refl refl c.as_slice-bindings.ensures.value c.as_slice.ensures.value c.as_slice-given.ensures.value c.as_slice-2.ensures.value
+    (c.in_ok-named.ensures v.world h.world) (c.in_ok-rests.ensures v.world h.world) c.in_ok-each.ensures.made (c.in_ok-each.ensures.are v h) (c.in_ok-others.ensures.are v (seen_on _ _ _ _ _ _ _ v c.in_ok-each.ensures.keeps c.requires.cells_made h)
+    (along_shown _ _ v _ _ _ _ _ _ _ _ refl refl refl refl c.as_slice-given.ensures.value (c.in_ok-each.ensures.are v h))) refl c.in_ok-z.ensures.mix
+
+pub any_over-returns-clause-cells : goal.any_over-returns-clause-cells
+any_over-returns-clause-cells g t c = cells_kept _ _ _ _ _ _ c.in_ok-z.ensures.keeps c.in_ok-others.ensures.cells
+
+pub any_over-returns-clause-known : goal.any_over-returns-clause-known
+any_over-returns-clause-known g t c = known_kept _ _ _ _ _ _ _ _ c.in_ok-z.ensures.keeps c.in_ok-others.ensures.cells c.in_ok-others.ensures.known
+
+pub any_over-any_of-requires-clause-named_made : goal.any_over-any_of-requires-clause-named_made
+any_over-any_of-requires-clause-named_made g t c = chances_shown _ _ _ _ _ _ _ c.as_slice-given.ensures.value c.in_ok-others.ensures.keeps c.in_ok-each.ensures.made
