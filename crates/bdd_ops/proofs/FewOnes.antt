@@ -4,7 +4,7 @@ use Rattle.std.specs.List.{IsDistinct, AllByRecursion}
 use Rattle.bdd_store.specs.declared.Ref.{Ref}
 use Rattle.bdd_store.specs.Graph.{below}
 use Rattle.bdd_store.specs.Beads.{count_distinct}
-use Rattle.bdd_store.specs.Diagram.{Diagram, IsLive, IsSound, IsProper, Reaches, beads}
+use Rattle.bdd_store.specs.Diagram.{Diagram, IsLive, IsReduced, IsProper, Reaches, beads}
 use Rattle.bdd_store.proofs.Few.{beads_are}
 use Rattle.bdd_store.proofs.Sets.{member, Subset, subset_count, eqb_is, or_true}
 use Rattle.bdd_ops.specs.Memo.{same_one}
@@ -38,7 +38,7 @@ places_below d f (p ∷ ps) all q e = elim (or_true (eqb q p.place) (member q (p
   | inr later ↦ places_below d f ps all.1 q later
 ]
 
-pub few_ones_below : (d : Diagram) → IsSound d → (f : Ref) → IsLive d f → (ps : List Ref) → IsDistinct same_one ps → AllByRecursion (IsBelow d f) ps → length ps ≤ beads d f
+pub few_ones_below : (d : Diagram) → IsReduced d → (f : Ref) → IsLive d f → (ps : List Ref) → IsDistinct same_one ps → AllByRecursion (IsBelow d f) ps → length ps ≤ beads d f
 few_ones_below d ok f live ps distinct all =
     let few = subset_count (places ps) (below d.nodes d.vars 0 f.place) (places_below d f ps all) in
     omega (arith, few, count_places ps distinct, beads_are d ok f live)

@@ -9,7 +9,7 @@ use Rattle.bdd_store.specs.declared.Ref.{Ref}
 use Rattle.bdd_store.specs.declared.chains.Node.{Node}
 use Rattle.bdd_store.specs.Graph.{with_at, below, var_at, Reduced}
 use Rattle.bdd_store.specs.Beads.{truth_table, same_block, blocks_of, count_distinct, bead_count}
-use Rattle.bdd_store.specs.Diagram.{Diagram, IsLive, IsSound, IsProper, Reaches, Keeps, table, first_var, held}
+use Rattle.bdd_store.specs.Diagram.{Diagram, IsLive, IsReduced, IsProper, Reaches, Keeps, table, first_var, held}
 use Rattle.bdd_store.proofs.Blocks.{block, block_at, length-block, blocks_alike, same_block-refl, same_block-true, truth_table_walk, blocks_below}
 use Rattle.bdd_store.proofs.Counts.{Each, IsNode, count_distinct-map}
 use Rattle.bdd_store.proofs.Functions.{length-table, with_agree}
@@ -138,11 +138,11 @@ own_values e q proper =
     ap (truth_table (e.vars - v) v) (fun_ext (λ a. ap (λ p. eqb p 1) (walk_skip e.nodes e.vars (e.vars - v) 0 v q.place a (omega (arith, proper)) (omega arith) (omega arith))))
     ∙ truth_table_walk e.nodes (e.vars - v) v q.place
 
-table_blocks : (e : Diagram) → IsSound e → (r : Ref) → IsLive e r → blocks_of e.vars (truth_table e.vars 0 (table e r)) ≡ map (block_at e.vars e.nodes) (below e.nodes e.vars 0 r.place)
-unfolding IsSound IsLive table
+table_blocks : (e : Diagram) → IsReduced e → (r : Ref) → IsLive e r → blocks_of e.vars (truth_table e.vars 0 (table e r)) ≡ map (block_at e.vars e.nodes) (below e.nodes e.vars 0 r.place)
+unfolding IsReduced IsLive table
 table_blocks e ok r live = ap (blocks_of e.vars) (truth_table_walk e.nodes e.vars 0 r.place) ∙ blocks_below e.vars e.nodes ok e.vars 0 r.place (omega arith) live (omega arith)
 
-pub bead_reached : (e : Diagram) → IsSound e → (r : Ref) → IsLive e r → (F : Function) → ((a : ℕ → Bool) → table e r a ≡ F a) → (q : Ref) → Reaches e r q → IsBeadOf e F q
+pub bead_reached : (e : Diagram) → IsReduced e → (r : Ref) → IsLive e r → (F : Function) → ((a : ℕ → Bool) → table e r a ≡ F a) → (q : Ref) → Reaches e r q → IsBeadOf e F q
 unfolding IsBeadOf Reaches
 bead_reached e ok r live F is q reaches proper =
     let here : member q.place (below e.nodes e.vars 0 r.place) ≡ true = reaches proper in
@@ -152,7 +152,7 @@ bead_reached e ok r live F is q reaches proper =
     ∙ own_block e.vars e.nodes q.place (below e.nodes e.vars 0 r.place) here
 
 -- what a result adds
-pub adds_fresh : (d e : Diagram) → IsSound e → (r : Ref) → IsLive e r → (F : Function) → ((a : ℕ → Bool) → table e r a ≡ F a) → IsFreshBelow d e r → Adds d e F
+pub adds_fresh : (d e : Diagram) → IsReduced e → (r : Ref) → IsLive e r → (F : Function) → ((a : ℕ → Bool) → table e r a ≡ F a) → IsFreshBelow d e r → Adds d e F
 adds_fresh d e ok r live F is fresh q live_q = elim (fresh q live_q) [ inl old ↦ inl old | inr reached ↦ inr (bead_reached e ok r live F is q reached) ]
 
 -- what one call adds after another
@@ -260,8 +260,8 @@ node_test n ns ok r q node_r node_q = by_test (eqb (code (block_at n ns r)) (cod
 node_code : Diagram → ℕ → ℕ
 node_code e q = code (block_at e.vars e.nodes q)
 
-count_nodes : (e : Diagram) → IsSound e → (l : List ℕ) → Each (IsNode e.vars e.nodes) l → count_distinct eqb (map (node_code e) l) ≡ count_distinct eqb l
-unfolding IsSound node_code
+count_nodes : (e : Diagram) → IsReduced e → (l : List ℕ) → Each (IsNode e.vars e.nodes) l → count_distinct eqb (map (node_code e) l) ≡ count_distinct eqb l
+unfolding IsReduced node_code
 count_nodes e ok l each = count_distinct-map (λ q. code (block_at e.vars e.nodes q)) eqb eqb (IsNode e.vars e.nodes) (node_test e.vars e.nodes ok) l each
 
 is_node : (e : Diagram) (q : ℕ) → IsLive e (ref q) → IsProper e (ref q) → IsNode e.vars e.nodes q
@@ -290,7 +290,7 @@ new_code d e keeps F adds q is =
     ]
 
 -- a store that grew by beads of one function grew by no more than their number
-pub held_grown : (d e : Diagram) → IsSound e → Keeps d e → (F : Function) → Adds d e F → held e ≤ held d + bead_count d.vars (truth_table d.vars 0 F ∷ [])
+pub held_grown : (d e : Diagram) → IsReduced e → Keeps d e → (F : Function) → Adds d e F → held e ≤ held d + bead_count d.vars (truth_table d.vars 0 F ∷ [])
 unfolding bead_count
 held_grown d e ok keeps F adds =
     let old = held_places d.vars d.nodes 0 in
@@ -308,12 +308,12 @@ held_grown d e ok keeps F adds =
 free_from : (F : Function) (v : ℕ) → ((a c : ℕ → Bool) → ((w : ℕ) → v ≤ w → a w ≡ c w) → F a ≡ F c) → FreeBefore v F
 free_from F v from w lt y a = from (with_at a w y) a (λ u le. with_other a w y u (omega (arith, le, lt)))
 
-pub join_free : (d : Diagram) → IsSound d → (unit : Bool) (f g : Ref) (v : ℕ) → v ≤ first_var d f → v ≤ first_var d g → FreeBefore v (λ a. joined unit (table d f a) (table d g a))
+pub join_free : (d : Diagram) → IsReduced d → (unit : Bool) (f g : Ref) (v : ℕ) → v ≤ first_var d f → v ≤ first_var d g → FreeBefore v (λ a. joined unit (table d f a) (table d g a))
 join_free d ok unit f g v le_f le_g = free_from (λ a. joined unit (table d f a) (table d g a)) v (λ a c same.
     ap (λ y. joined unit y (table d g a)) (depends_first d ok f a c (λ w le. same w (omega (arith, le, le_f))))
     ∙ ap (λ y. joined unit (table d f c) y) (depends_first d ok g a c (λ w le. same w (omega (arith, le, le_g)))))
 
-pub some_free : (d : Diagram) → IsSound d → (w : ℕ) (f : Ref) (v : ℕ) → v ≤ first_var d f → FreeBefore v (some_at w (table d f))
+pub some_free : (d : Diagram) → IsReduced d → (w : ℕ) (f : Ref) (v : ℕ) → v ≤ first_var d f → FreeBefore v (some_at w (table d f))
 some_free d ok w f v le_f = free_from (some_at w (table d f)) v (λ a c same.
     let at : (x : Bool) → table d f (with_at a w x) ≡ table d f (with_at c w x) = λ x. depends_first d ok f (with_at a w x) (with_at c w x) (λ u le. with_agree a c w x u (λ ne. same u (omega (arith, le, le_f)))) in
     ap (λ y. y || table d f (with_at a w true)) (at false) ∙ ap (λ y. table d f (with_at c w false) || y) (at true))
@@ -328,11 +328,11 @@ pub join_fixed : (unit : Bool) (v : ℕ) (x : Bool) (F G A B : Function) → ((a
 join_fixed unit v x F G A B is_a is_b a = ap (λ y. joined unit y (B a)) (is_a a) ∙ ap (λ y. joined unit (F (with_at a v x)) y) (is_b a)
 
 -- a refused node adds nothing; one that was too many is a bead
-pub adds_node : (d e : Diagram) → IsSound e → (r : Ref) → IsLive e r → (F : Function) → ((a : ℕ → Bool) → table e r a ≡ F a) → ((q : Ref) → IsLive e q → IsLive d q ⊎ (q ≡ r)) → Adds d e F
+pub adds_node : (d e : Diagram) → IsReduced e → (r : Ref) → IsLive e r → (F : Function) → ((a : ℕ → Bool) → table e r a ≡ F a) → ((q : Ref) → IsLive e q → IsLive d q ⊎ (q ≡ r)) → Adds d e F
 adds_node d e ok r live F is fresh = adds_fresh d e ok r live F is (λ q live_q. elim (fresh q live_q) [ inl old ↦ inl old | inr same ↦ inr (subst (Reaches e r) (sym same) (reaches_self e r)) ])
 
 -- what a join of branches adds is of the join
-pub join_branch : (d m e : Diagram) → IsSound d → (unit : Bool) (f g fx gx : Ref) (v : ℕ) (x : Bool) → v < d.vars → v ≤ first_var d f → v ≤ first_var d g → Keeps d m → IsLive d fx → IsLive d gx
+pub join_branch : (d m e : Diagram) → IsReduced d → (unit : Bool) (f g fx gx : Ref) (v : ℕ) (x : Bool) → v < d.vars → v ≤ first_var d f → v ≤ first_var d g → Keeps d m → IsLive d fx → IsLive d gx
     → ((a : ℕ → Bool) → table d fx a ≡ table d f (with_at a v x)) → ((a : ℕ → Bool) → table d gx a ≡ table d g (with_at a v x)) → Keeps m e
     → Adds m e (λ a. joined unit (table m fx a) (table m gx a)) → Adds m e (λ a. joined unit (table d f a) (table d g a))
 join_branch d m e ok unit f g fx gx v x lt le_f le_g first live_f live_g is_f is_g second adds =
@@ -342,14 +342,14 @@ join_branch d m e ok unit f g fx gx v x lt le_f le_g first live_f live_g is_f is
     (join_fixed unit v x (table d f) (table d g) (table m fx) (table m gx) (λ a. first.tables fx live_f a ∙ is_f a) (λ a. first.tables gx live_g a ∙ is_g a)) adds
 
 -- and what a branch's quantification adds
-pub some_branch : (d m e : Diagram) → IsSound d → (w : ℕ) (f fx : Ref) (v : ℕ) (x : Bool) → v < d.vars → v ≤ first_var d f → v ≢ w → Keeps d m → IsLive d fx
+pub some_branch : (d m e : Diagram) → IsReduced d → (w : ℕ) (f fx : Ref) (v : ℕ) (x : Bool) → v < d.vars → v ≤ first_var d f → v ≢ w → Keeps d m → IsLive d fx
     → ((a : ℕ → Bool) → table d fx a ≡ table d f (with_at a v x)) → Keeps m e → Adds m e (some_at w (table m fx)) → Adds m e (some_at w (table d f))
 some_branch d m e ok w f fx v x lt le ne first live is second adds =
     adds_branch m e (some_at w (table d f)) (some_at w (table m fx)) v x (omega (arith, lt, first.vars, second.vars)) (some_free d ok w f v le)
     (some_fixed w v x (table d f) (table m fx) ne (λ a. first.tables fx live a ∙ is a)) adds
 
 -- what a result that was made for an operation adds
-pub adds_made : (e n : Diagram) → IsSound n → (op : Operation) (r : Ref) → IsResult n op r → (F : Function) → ((a : ℕ → Bool) → made n op a ≡ F a) → ((q : Ref) → IsLive n q → IsLive e q ⊎ (q ≡ r)) → Adds e n F
+pub adds_made : (e n : Diagram) → IsReduced n → (op : Operation) (r : Ref) → IsResult n op r → (F : Function) → ((a : ℕ → Bool) → made n op a ≡ F a) → ((q : Ref) → IsLive n q → IsLive e q ⊎ (q ≡ r)) → Adds e n F
 adds_made e n ok op r is F same fresh = adds_node e n ok r is.live F (λ a. is.table a ∙ same a) fresh
 
 pub on_err : {A E : Type 0} → (r : Result A E) (P : Type 0) → P → OnErr r P

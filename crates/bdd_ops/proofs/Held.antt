@@ -7,7 +7,7 @@ use Rattle.bdd_store.specs.declared.Ref.{Ref}
 use Rattle.bdd_store.specs.declared.chains.Node.{Node}
 use Rattle.bdd_store.specs.Graph.{var_at, below}
 use Rattle.bdd_store.specs.Beads.{count_distinct}
-use Rattle.bdd_store.specs.Diagram.{Diagram, IsLive, IsSound, Reaches, Keeps, first_var, held, beads}
+use Rattle.bdd_store.specs.Diagram.{Diagram, IsLive, IsReduced, Reaches, Keeps, first_var, held, beads}
 use Rattle.bdd_store.proofs.Few.{beads_are}
 use Rattle.bdd_store.proofs.Laws.{reaches_self}
 use Rattle.bdd_store.proofs.Sets.{member, Subset, subset_count, member_append, eqb_is, eqb_same, or_true, or_left, or_right}
@@ -131,7 +131,7 @@ new_held d e keeps r fresh q is =
       | inr reached ↦ or_right (member f.0 (held_places d.vars d.nodes 0)) (member f.0 (below e.nodes e.vars 0 r.place)) (reached_below e r f.0 reached proper)
     ])
 
-pub held_bound : (d e : Diagram) → IsSound e → Keeps d e → (r : Ref) → IsLive e r → IsFreshBelow d e r → held e ≤ held d + beads e r
+pub held_bound : (d e : Diagram) → IsReduced e → Keeps d e → (r : Ref) → IsLive e r → IsFreshBelow d e r → held e ≤ held d + beads e r
 held_bound d e ok keeps r live fresh =
     let few = subset_count (held_places e.vars e.nodes 0) (held_places d.vars d.nodes 0 ++ below e.nodes e.vars 0 r.place) (new_held d e keeps r fresh) in
     omega (arith, few, count_both (held_places d.vars d.nodes 0) (below e.nodes e.vars 0 r.place), count_held d, count_held e, beads_are e ok r live)

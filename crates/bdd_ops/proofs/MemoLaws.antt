@@ -5,7 +5,7 @@ use Rattle.std.specs.List.{IsDistinct, AllByRecursion}
 use Rattle.std.specs.Map.{lookup}
 use Rattle.std.proofs.lemmas.Bool.Decides.{nat_tests}
 use Rattle.bdd_store.specs.declared.Ref.{Ref}
-use Rattle.bdd_store.specs.Diagram.{Diagram, IsLive, IsSound, IsProper, Keeps, table, first_var, beads}
+use Rattle.bdd_store.specs.Diagram.{Diagram, IsLive, IsReduced, IsProper, Keeps, table, first_var, beads}
 use Rattle.bdd_ops.specs.Functions.{Function}
 use Rattle.memo_table.specs.Results.{Results, same_pair, result_of}
 use Rattle.bdd_ops.specs.Memo.{joined, same_one, IsJoin, IsImage, AreJoins, AreImages}
@@ -164,7 +164,7 @@ firsts_below : (d : Diagram) (f : Ref) (ps : List (Ref × Ref)) → AllByRecursi
 firsts_below d f [] all = tt
 firsts_below d f (p ∷ ps) all = (all.0.below, firsts_below d f ps all.1)
 
-pub few_twice : (d : Diagram) (f : Ref) → IsSound d → IsLive d f → (ps : List (Ref × Ref)) → IsDistinct same_pair ps → AllByRecursion (IsTwiceBelow d f) ps → length ps ≤ beads d f
+pub few_twice : (d : Diagram) (f : Ref) → IsReduced d → IsLive d f → (ps : List (Ref × Ref)) → IsDistinct same_pair ps → AllByRecursion (IsTwiceBelow d f) ps → length ps ≤ beads d f
 few_twice d f ok live ps distinct all =
     let few = few_ones_below d ok f live (firsts ps) (distinct_firsts d f ps all distinct) (firsts_below d f ps all) in
     omega (arith, few, length_firsts ps)

@@ -5,7 +5,7 @@ use Rattle.std.specs.Map.{lookup}
 use Rattle.std.proofs.lemmas.List.{length-append}
 use Rattle.bdd_store.specs.declared.Ref.{Ref}
 use Rattle.bdd_store.specs.declared.Operation.{Operation}
-use Rattle.bdd_store.specs.Diagram.{Diagram, IsLive, IsSound, IsProper, Reaches, Keeps, beads}
+use Rattle.bdd_store.specs.Diagram.{Diagram, IsLive, IsReduced, IsProper, Reaches, Keeps, beads}
 use Rattle.bdd_store.specs.declared.results.Entry.{Entry}
 use Rattle.bdd_store.specs.Sure.{IsSure}
 use Rattle.bdd_store.proofs.Laws.{reaches_self}
@@ -161,14 +161,14 @@ module _ (op : Ref × Ref → Operation) (IsPair : Ref × Ref → Type 0) (turn 
       distinct_more apart once = (apart, once)
 
   -- calls are at most as many as pairs of nodes
-  pub few_news : (s t : State) (f g : Ref) (k n : ℕ) → IsSound t.0 → Keeps s.0 t.0 → IsLive s.0 f → IsLive s.0 g → (news : News op IsPair turn s t f g k n) → length news.pairs ≤ beads t.0 f * beads t.0 g
+  pub few_news : (s t : State) (f g : Ref) (k n : ℕ) → IsReduced t.0 → Keeps s.0 t.0 → IsLive s.0 f → IsLive s.0 g → (news : News op IsPair turn s t f g k n) → length news.pairs ≤ beads t.0 f * beads t.0 g
   few_news s t f g k n ok keeps live_f live_g news =
       few_pairs_below t.0 ok f g (keeps.live f live_f) (keeps.live g live_g) news.pairs news.once (all_map _ _ (λ p is.
       let r = is.reached f g live_f live_g (reaches_self s.0 f) (reaches_self s.0 g) in
       let below : IsPairBelow t.0 f g p = record { first = r.0; first_proper = is.first_proper; second = r.1; second_proper = is.second_proper } in below) news.pairs news.each)
 
 -- or as nodes, where each is both operands
-pub few_same : (op : Ref × Ref → Operation) (turn : ℕ) (s t : State) (f : Ref) (k n : ℕ) → IsSound t.0 → Keeps s.0 t.0 → IsLive s.0 f → (news : News op SamePair turn s t f f k n) → length news.pairs ≤ beads t.0 f
+pub few_same : (op : Ref × Ref → Operation) (turn : ℕ) (s t : State) (f : Ref) (k n : ℕ) → IsReduced t.0 → Keeps s.0 t.0 → IsLive s.0 f → (news : News op SamePair turn s t f f k n) → length news.pairs ≤ beads t.0 f
 few_same op turn s t f k n ok keeps live news =
     few_twice t.0 f ok (keeps.live f live) news.pairs news.once (all_map _ _ (λ p is.
     let r = is.reached f f live live (reaches_self s.0 f) (reaches_self s.0 f) in

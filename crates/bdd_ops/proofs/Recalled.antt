@@ -2,7 +2,7 @@
 use Rattle.std.proofs.Common.{◌≡◌, ℕ, ◌+◌, ◌-◌, ◌≤◌, Bool, true, false, ◌||◌, not, cond, min, sym, ◌∙◌, ap, arith}
 use Rattle.bdd_store.specs.declared.Ref.{Ref}
 use Rattle.bdd_store.specs.Graph.{with_at}
-use Rattle.bdd_store.specs.Diagram.{Diagram, IsLive, table, IsSound, first_var, Keeps}
+use Rattle.bdd_store.specs.Diagram.{Diagram, IsLive, table, IsReduced, first_var, Keeps}
 use Rattle.bdd_store.proofs.Functions.{with_agree}
 use Rattle.bdd_store.proofs.Laws.{depends_first, first_least}
 use Rattle.bdd_ops.specs.Functions.{Function, some_at}
@@ -10,7 +10,7 @@ use Rattle.bdd_ops.specs.Memo.{joined, changed}
 use Rattle.bdd_ops.proofs.MemoLaws.{first_within, joined_cond}
 use Rattle.bdd_ops.proofs.Tables.{split_at}
 
-module _ (d : Diagram) (ok : IsSound d) (r : Ref) (live : IsLive d r) where
+module _ (d : Diagram) (ok : IsReduced d) (r : Ref) (live : IsLive d r) where
   pub join_first : (unit : Bool) (f g : Ref) → IsLive d f → ((a : ℕ → Bool) → table d r a ≡ joined unit (table d f a) (table d g a)) → min (first_var d f) (first_var d g) ≤ first_var d r
   join_first unit f g live_f is =
       let within = first_within d f live_f in

@@ -10,7 +10,7 @@ ghost use Rattle.std.specs.Prelude.{◌≡◌, ◌⊎◌, ℕ, ◌+◌, ◌-◌,
 ghost use Rattle.bdd_store.specs.declared.Ref.{Ref};
 ghost use Rattle.bdd_store.specs.Graph.{with_at};
 ghost use Rattle.bdd_store.specs.Beads.{truth_table, bead_count};
-ghost use Rattle.bdd_store.specs.Diagram.{Diagram, IsLive, table, IsSound, IsCanonical, first_var, IsProper, Reaches, Keeps, beads, held};
+ghost use Rattle.bdd_store.specs.Diagram.{Diagram, IsLive, table, IsReduced, IsCanonical, first_var, IsProper, Reaches, Keeps, beads, held};
 ghost use Rattle.bdd_store.specs.Results.{AreOperands, AreResults, IsResult, made};
 ghost use Rattle.bdd_store.specs.declared.results.Entry.{Entry};
 ghost use Rattle.bdd_store.specs.Sure.{IsSure};
@@ -101,7 +101,7 @@ fn result_node(
     ensures none_fresh { OnErr result ((q : Ref) → IsLive store.new q → IsLive store.old q) }
     ensures held { held store.new ≤ held store.old + (if is_ok result then 1 else 0) }
     ensures keeps { Keeps store.old store.new }
-    ensures sound { IsSound store.new }
+    ensures sound { IsReduced store.new }
     ensures calls { store.new.calls ≤ store.old.calls + (if is_ok result then 1 else 0) }
     ensures right { IfOk result (λ r. IsResult store.new operation r) }
     ensures known { (es : List Entry) → AreResults store.old es → AreResults store.new es }
@@ -134,7 +134,7 @@ fn node_within(
     ensures reached { IfOk result (λ r. (q : Ref) → IsLive store.old q → Reaches store.old low q ⊎ Reaches store.old high q → Reaches store.new r q) }
     ensures fresh { IfOk result (λ r. (q : Ref) → IsLive store.new q → IsLive store.old q ⊎ (q ≡ r)) }
     ensures keeps { Keeps store.old store.new }
-    ensures sound { IsSound store.new }
+    ensures sound { IsReduced store.new }
     ensures calls { store.new.calls ≤ store.old.calls + 1 }
     ensures right { IfOk result (λ r. IsResult store.new operation r) }
     ensures known { (es : List Entry) → AreResults store.old es → AreResults store.new es }
@@ -213,7 +213,7 @@ fn join_from<const UNIT: bool>(
 ) -> Result<Ref, Stop>
     requires f_live { IsLive store.old f }
     requires g_live { IsLive store.old g }
-    requires sound { IsSound store.old }
+    requires sound { IsReduced store.old }
     requires known { AreResults store.old known.old }
     requires memo { AreJoins UNIT store.old memo.old }
     requires room { held store.old ≤ limit }
@@ -222,7 +222,7 @@ fn join_from<const UNIT: bool>(
     ensures table { IfOk result (λ r. (a : ℕ → Bool) → table store.new r a ≡ joined UNIT (table store.old f a) (table store.old g a)) }
     ensures fresh { IfOk result (IsFreshBelow store.old store.new) }
     ensures keeps { Keeps store.old store.new }
-    ensures sound { IsSound store.new }
+    ensures sound { IsReduced store.new }
     ensures known { AreResults store.new known.new }
     ensures memo { AreJoins UNIT store.new memo.new }
     ensures adds { OnErr result (Adds store.old store.new (λ a. joined UNIT (table store.old f a) (table store.old g a))) }
@@ -273,7 +273,7 @@ fn change_from<const BACK: u32, const FLIP: bool>(
     requires back { BACK ≡ (if FLIP then 0 else 1) }
     requires live { IsLive store.old f }
     requires later { IsProper store.old f → BACK ≤ first_var store.old f }
-    requires sound { IsSound store.old }
+    requires sound { IsReduced store.old }
     requires known { AreResults store.old known.old }
     requires memo { AreImages (changed BACK FLIP) BACK store.old memo.old }
     ensures live { IfOk result (λ r. IsLive store.new r) }
@@ -281,7 +281,7 @@ fn change_from<const BACK: u32, const FLIP: bool>(
     ensures table { IfOk result (λ r. (a : ℕ → Bool) → table store.new r a ≡ changed BACK FLIP (table store.old f) a) }
     ensures fresh { IfOk result (IsFreshBelow store.old store.new) }
     ensures keeps { Keeps store.old store.new }
-    ensures sound { IsSound store.new }
+    ensures sound { IsReduced store.new }
     ensures known { AreResults store.new known.new }
     ensures memo { AreImages (changed BACK FLIP) BACK store.new memo.new }
     ensures news { News (change_of FLIP) SamePair turn (store.old, (known.old, memo.old)) (store.new, (known.new, memo.new)) f f (first_var store.old f) (if is_ok result then 0 else 1) }
@@ -323,7 +323,7 @@ fn exists_from(
     limit: usize,
 ) -> Result<Ref, Stop>
     requires live { IsLive store.old f }
-    requires sound { IsSound store.old }
+    requires sound { IsReduced store.old }
     requires known { AreResults store.old known.old }
     requires joins { AreJoins false store.old joins.old }
     requires memo { AreImages (some_at var) 0 store.old memo.old }
@@ -333,7 +333,7 @@ fn exists_from(
     ensures table { IfOk result (λ r. (a : ℕ → Bool) → table store.new r a ≡ some_at var (table store.old f) a) }
     ensures fresh { IfOk result (IsFreshBelow store.old store.new) }
     ensures keeps { Keeps store.old store.new }
-    ensures sound { IsSound store.new }
+    ensures sound { IsReduced store.new }
     ensures known { AreResults store.new known.new }
     ensures joins { AreJoins false store.new joins.new }
     ensures memo { AreImages (some_at var) 0 store.new memo.new }
@@ -388,7 +388,7 @@ fn join_within<const UNIT: bool>(
     ensures first { IfOk result (λ r. min (first_var store.old f) (first_var store.old g) ≤ first_var store.new r) }
     ensures table { IfOk result (λ r. (a : ℕ → Bool) → table store.new r a ≡ joined UNIT (table store.old f a) (table store.old g a)) }
     ensures keeps { Keeps store.old store.new }
-    ensures sound { IsSound store.new }
+    ensures sound { IsReduced store.new }
     ensures calls { store.new.calls ≤ store.old.calls + (beads store.old f + 2) * (beads store.old g + 2) }
     ensures fresh { IfOk result (IsFreshBelow store.old store.new) }
     ensures held { IfOk result (λ r. held store.new ≤ held store.old + beads store.new r) }
@@ -417,7 +417,7 @@ fn join<const UNIT: bool>(
     ensures first { IfOk result (λ r. min (first_var store.old f) (first_var store.old g) ≤ first_var store.new r) }
     ensures table { IfOk result (λ r. (a : ℕ → Bool) → table store.new r a ≡ joined UNIT (table store.old f a) (table store.old g a)) }
     ensures keeps { Keeps store.old store.new }
-    ensures sound { IsSound store.new }
+    ensures sound { IsReduced store.new }
     ensures calls { store.new.calls ≤ store.old.calls + (beads store.old f + 2) * (beads store.old g + 2) }
     ensures fresh { IfOk result (IsFreshBelow store.old store.new) }
     ensures held { IfOk result (λ r. held store.new ≤ held store.old + beads store.new r) }
@@ -445,7 +445,7 @@ fn change<const BACK: u32, const FLIP: bool>(
     ensures first { IfOk result (λ r. first_var store.old f ≤ first_var store.new r + BACK) }
     ensures table { IfOk result (λ r. (a : ℕ → Bool) → table store.new r a ≡ changed BACK FLIP (table store.old f) a) }
     ensures keeps { Keeps store.old store.new }
-    ensures sound { IsSound store.new }
+    ensures sound { IsReduced store.new }
     ensures calls { store.new.calls ≤ store.old.calls + (beads store.old f + 2) }
     ensures fresh { IfOk result (IsFreshBelow store.old store.new) }
     ensures held { IfOk result (λ r. held store.new ≤ held store.old + beads store.new r) }
@@ -473,7 +473,7 @@ fn quantify_within(
     ensures first { IfOk result (λ r. first_var store.old f ≤ first_var store.new r) }
     ensures table { IfOk result (λ r. (a : ℕ → Bool) → table store.new r a ≡ some_at var (table store.old f) a) }
     ensures keeps { Keeps store.old store.new }
-    ensures sound { IsSound store.new }
+    ensures sound { IsReduced store.new }
     ensures fresh { IfOk result (IsFreshBelow store.old store.new) }
     ensures held { IfOk result (λ r. held store.new ≤ held store.old + beads store.new r) }
     ensures known { AreResults store.new known.new }
@@ -501,7 +501,7 @@ fn quantify(
     ensures first { IfOk result (λ r. first_var store.old f ≤ first_var store.new r) }
     ensures table { IfOk result (λ r. (a : ℕ → Bool) → table store.new r a ≡ some_at var (table store.old f) a) }
     ensures keeps { Keeps store.old store.new }
-    ensures sound { IsSound store.new }
+    ensures sound { IsReduced store.new }
     ensures fresh { IfOk result (IsFreshBelow store.old store.new) }
     ensures held { IfOk result (λ r. held store.new ≤ held store.old + beads store.new r) }
     ensures known { AreResults store.new known.new }
@@ -521,7 +521,7 @@ pub fn and(alloc: Global, store: &mut Store, f: Ref, g: Ref) -> Result<Ref, Allo
     ensures first { IfOk result (λ r. min (first_var store.old f) (first_var store.old g) ≤ first_var store.new r) }
     ensures table { IfOk result (λ r. (a : ℕ → Bool) → table store.new r a ≡ (table store.old f a && table store.old g a)) }
     ensures keeps { Keeps store.old store.new }
-    ensures sound { IsSound store.new }
+    ensures sound { IsReduced store.new }
     ensures canonical { IsCanonical store.new }
     ensures calls { store.new.calls ≤ store.old.calls + (beads store.old f + 2) * (beads store.old g + 2) }
     ensures fresh { IfOk result (IsFreshBelow store.old store.new) }
@@ -542,7 +542,7 @@ pub fn or(alloc: Global, store: &mut Store, f: Ref, g: Ref) -> Result<Ref, Alloc
     ensures first { IfOk result (λ r. min (first_var store.old f) (first_var store.old g) ≤ first_var store.new r) }
     ensures table { IfOk result (λ r. (a : ℕ → Bool) → table store.new r a ≡ (table store.old f a || table store.old g a)) }
     ensures keeps { Keeps store.old store.new }
-    ensures sound { IsSound store.new }
+    ensures sound { IsReduced store.new }
     ensures canonical { IsCanonical store.new }
     ensures calls { store.new.calls ≤ store.old.calls + (beads store.old f + 2) * (beads store.old g + 2) }
     ensures fresh { IfOk result (IsFreshBelow store.old store.new) }
@@ -562,7 +562,7 @@ pub fn not(alloc: Global, store: &mut Store, f: Ref) -> Result<Ref, AllocError>
     ensures first { IfOk result (λ r. first_var store.old f ≤ first_var store.new r) }
     ensures table { IfOk result (λ r. (a : ℕ → Bool) → table store.new r a ≡ not (table store.old f a)) }
     ensures keeps { Keeps store.old store.new }
-    ensures sound { IsSound store.new }
+    ensures sound { IsReduced store.new }
     ensures canonical { IsCanonical store.new }
     ensures calls { store.new.calls ≤ store.old.calls + (beads store.old f + 2) }
     ensures fresh { IfOk result (IsFreshBelow store.old store.new) }
@@ -583,7 +583,7 @@ pub fn rename(alloc: Global, store: &mut Store, f: Ref) -> Result<Ref, AllocErro
     ensures first { IfOk result (λ r. first_var store.old f ≤ first_var store.new r + 1) }
     ensures table { IfOk result (λ r. (a : ℕ → Bool) → table store.new r a ≡ lowered (table store.old f) a) }
     ensures keeps { Keeps store.old store.new }
-    ensures sound { IsSound store.new }
+    ensures sound { IsReduced store.new }
     ensures canonical { IsCanonical store.new }
     ensures calls { store.new.calls ≤ store.old.calls + (beads store.old f + 2) }
     ensures fresh { IfOk result (IsFreshBelow store.old store.new) }
@@ -604,7 +604,7 @@ pub fn exists(alloc: Global, store: &mut Store, f: Ref, var: u32) -> Result<Ref,
     ensures first { IfOk result (λ r. first_var store.old f ≤ first_var store.new r) }
     ensures table { IfOk result (λ r. (a : ℕ → Bool) → table store.new r a ≡ some_at var (table store.old f) a) }
     ensures keeps { Keeps store.old store.new }
-    ensures sound { IsSound store.new }
+    ensures sound { IsReduced store.new }
     ensures canonical { IsCanonical store.new }
     ensures fresh { IfOk result (IsFreshBelow store.old store.new) }
     ensures held { IfOk result (λ r. held store.new ≤ held store.old + beads store.new r) }
@@ -630,7 +630,7 @@ pub fn and_within(
     ensures first { IfOk result (λ o. IfSome o (λ r. min (first_var store.old f) (first_var store.old g) ≤ first_var store.new r)) }
     ensures table { IfOk result (λ o. IfSome o (λ r. (a : ℕ → Bool) → table store.new r a ≡ (table store.old f a && table store.old g a))) }
     ensures keeps { Keeps store.old store.new }
-    ensures sound { IsSound store.new }
+    ensures sound { IsReduced store.new }
     ensures canonical { IsCanonical store.new }
     ensures calls { store.new.calls ≤ store.old.calls + (beads store.old f + 2) * (beads store.old g + 2) }
     ensures fresh { IfOk result (λ o. IfSome o (IsFreshBelow store.old store.new)) }
@@ -666,7 +666,7 @@ pub fn or_within(
     ensures first { IfOk result (λ o. IfSome o (λ r. min (first_var store.old f) (first_var store.old g) ≤ first_var store.new r)) }
     ensures table { IfOk result (λ o. IfSome o (λ r. (a : ℕ → Bool) → table store.new r a ≡ (table store.old f a || table store.old g a))) }
     ensures keeps { Keeps store.old store.new }
-    ensures sound { IsSound store.new }
+    ensures sound { IsReduced store.new }
     ensures canonical { IsCanonical store.new }
     ensures calls { store.new.calls ≤ store.old.calls + (beads store.old f + 2) * (beads store.old g + 2) }
     ensures fresh { IfOk result (λ o. IfSome o (IsFreshBelow store.old store.new)) }
@@ -702,7 +702,7 @@ pub fn exists_within(
     ensures first { IfOk result (λ o. IfSome o (λ r. first_var store.old f ≤ first_var store.new r)) }
     ensures table { IfOk result (λ o. IfSome o (λ r. (a : ℕ → Bool) → table store.new r a ≡ some_at var (table store.old f) a)) }
     ensures keeps { Keeps store.old store.new }
-    ensures sound { IsSound store.new }
+    ensures sound { IsReduced store.new }
     ensures canonical { IsCanonical store.new }
     ensures fresh { IfOk result (λ o. IfSome o (IsFreshBelow store.old store.new)) }
     ensures held { IfOk result (λ o. IfSome o (λ r. held store.new ≤ held store.old + beads store.new r)) }

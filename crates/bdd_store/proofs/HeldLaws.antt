@@ -6,7 +6,7 @@ use Rattle.std.proofs.lemmas.Bool.Decides.{nat_tests}
 use Rattle.bdd_store.specs.declared.Ref.{Ref}
 use Rattle.bdd_store.specs.declared.chains.Node.{Node}
 use Rattle.bdd_store.specs.Graph.{var_at, Live, below, Reduced}
-use Rattle.bdd_store.specs.Diagram.{Diagram, IsLive, AreLive, IsSound, first_var, Reaches, Keeps, beads, held, tables_of}
+use Rattle.bdd_store.specs.Diagram.{Diagram, IsLive, AreLive, IsReduced, first_var, Reaches, Keeps, beads, held, tables_of}
 use Rattle.bdd_store.specs.Beads.{bead_count, count_distinct}
 use Rattle.bdd_store.specs.Chains.{node_count}
 use Rattle.bdd_store.specs.Seen.{places_of}
@@ -83,8 +83,8 @@ below_most n ns ok ps live =
     )
 
 -- so beads are no more than the nodes that are held
-pub beads_most : (d : Diagram) → IsSound d → (rs : List Ref) → AreLive d rs → bead_count d.vars (tables_of d rs) ≤ held d
-unfolding IsSound
+pub beads_most : (d : Diagram) → IsReduced d → (rs : List Ref) → AreLive d rs → bead_count d.vars (tables_of d rs) ≤ held d
+unfolding IsReduced
 beads_most d ok rs live =
     let each = places_live d rs live in
     let is = ap (bead_count d.vars) (tables_are d rs) ∙ beads_below d.vars d.nodes ok (places_of rs) each in
@@ -103,7 +103,7 @@ count_append [] ys = omega arith
 count_append (x ∷ xs) ys = count_append_step x xs ys (member x xs) (member x (xs ++ ys)) refl refl (count_append xs ys)
 
 -- where each new node is reached from r, at most r's beads are new
-pub held_grows : (d e : Diagram) → IsSound e → Keeps d e → (r : Ref) → IsLive e r → ((q : Ref) → IsLive e q → IsLive d q ⊎ Reaches e r q) → held e ≤ held d + beads e r
+pub held_grows : (d e : Diagram) → IsReduced e → Keeps d e → (r : Ref) → IsLive e r → ((q : Ref) → IsLive e q → IsLive d q ⊎ Reaches e r q) → held e ≤ held d + beads e r
 unfolding IsLive first_var Reaches
 held_grows d e ok keeps r live fresh =
     let few = subset_count (nodes_of e.vars e.nodes) (nodes_of d.vars d.nodes ++ below e.nodes e.vars 0 r.place) (λ q is.

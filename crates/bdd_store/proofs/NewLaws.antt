@@ -4,7 +4,7 @@ use Rattle.bdd_store.specs.declared.Ref.{Ref}
 use Rattle.bdd_store.specs.declared.chains.Node.{Node}
 use Rattle.bdd_store.specs.Graph.{var_at, Live, Reduced}
 use Rattle.bdd_store.specs.Chains.{Stored, node_count}
-use Rattle.bdd_store.specs.Diagram.{Diagram, IsLive, IsSound, IsProper, first_var, held, HasMarks}
+use Rattle.bdd_store.specs.Diagram.{Diagram, IsLive, IsReduced, IsProper, first_var, held, HasMarks}
 use Rattle.bdd_store.specs.Seen.{flag}
 use Rattle.bdd_store.proofs.Puts.{count_cons, node_none}
 use Rattle.bdd_store.proofs.NodeLaws.{held_is}
@@ -61,8 +61,8 @@ clear_flag (suc (suc q)) = refl
 
 -- what its contract says
 module _ (d : Diagram) (nd : Node) (is_last : nd.var ≡ d.vars) (ends : nd.next ≡ 0) (nodes : d.nodes ≡ nd ∷ nd ∷ []) where
-  pub new_sound : IsSound d
-  unfolding IsSound
+  pub new_sound : IsReduced d
+  unfolding IsReduced
   new_sound = subst (Reduced d.vars) (sym nodes) (new_reduced d.vars nd is_last ends)
 
   pub new_empty : (r : Ref) → IsLive d r → IsProper d r → ⊥

@@ -5,7 +5,7 @@ use Rattle.std.specs.Prelude.{Result, Ok, Err, OnErr}
 use Rattle.bdd_store.specs.declared.Ref.{Ref}
 use Rattle.bdd_store.specs.declared.chains.Node.{Node}
 use Rattle.bdd_store.specs.Graph.{var_at, low_at, high_at, Live, step, walk, below, Reduced}
-use Rattle.bdd_store.specs.Diagram.{Diagram, IsLive, ref_at, table, IsSound, first_var, IsProper, Reaches, held, Keeps, HasMarks, KeepsMarks}
+use Rattle.bdd_store.specs.Diagram.{Diagram, IsLive, ref_at, table, IsReduced, first_var, IsProper, Reaches, held, Keeps, HasMarks, KeepsMarks}
 use Rattle.bdd_store.specs.Steps.{Grows, Stays, Gives, IsFound}
 use Rattle.bdd_store.specs.Seen.{flag, places_of}
 use Rattle.bdd_store.specs.Chains.{bucket_of, home, start, InChain, AllOf, Chained, Matches, SameGraph, Puts, node_count}
@@ -31,8 +31,8 @@ pub same_extends : (n : ℕ) (ns ms : List Node) → ms ≡ ns → Extends n ns 
 same_extends n ns ms e r live = subst (λ l. Live n l r × Matches l r (var_at ns r) (low_at ns r) (high_at ns r)) (sym e) (live, (refl, refl, refl))
 
 -- so the tables stay
-pub extends_keeps : (d e : Diagram) → IsSound d → e.vars ≡ d.vars → Extends d.vars d.nodes e.nodes → Keeps d e
-unfolding IsSound IsLive table first_var Reaches
+pub extends_keeps : (d e : Diagram) → IsReduced d → e.vars ≡ d.vars → Extends d.vars d.nodes e.nodes → Keeps d e
+unfolding IsReduced IsLive table first_var Reaches
 extends_keeps d e ok same_vars more =
     let n = d.vars in
     let ns = d.nodes in
@@ -55,8 +55,8 @@ all_below_kept n ns ms ok more (p ∷ ps) live =
     ∙ ap (λ l. below ns n 0 p ++ l) (all_below_kept n ns ms ok more ps live.1)
 
 -- and the marks
-pub extends_marks : (d e : Diagram) → IsSound d → e.vars ≡ d.vars → Extends d.vars d.nodes e.nodes → ((q : ℕ) → flag e.marks q ≡ flag d.marks q) → KeepsMarks d e
-unfolding IsSound HasMarks
+pub extends_marks : (d e : Diagram) → IsReduced d → e.vars ≡ d.vars → Extends d.vars d.nodes e.nodes → ((q : ℕ) → flag e.marks q ≡ flag d.marks q) → KeepsMarks d e
+unfolding IsReduced HasMarks
 extends_marks d e ok same_vars more same fs live is q =
     same q ∙ is q ∙ sym (ap (λ m. member q (flat_map (below e.nodes m 0) (places_of fs))) same_vars ∙ ap (member q) (all_below_kept d.vars d.nodes e.nodes ok more (places_of fs) (places_live d fs live)))
 
@@ -64,14 +64,14 @@ pub marks_trans : (d e f : Diagram) → Keeps d e → KeepsMarks d e → KeepsMa
 marks_trans d e f keeps first second fs live is = second fs (λ i lt. keeps.live (ref_at fs i) (live i lt)) (first fs live is)
 
 -- the same nodes
-pub same_keeps : (d e : Diagram) → IsSound d → e.vars ≡ d.vars → e.nodes ≡ d.nodes → Keeps d e
+pub same_keeps : (d e : Diagram) → IsReduced d → e.vars ≡ d.vars → e.nodes ≡ d.nodes → Keeps d e
 same_keeps d e ok same_vars same_nodes = extends_keeps d e ok same_vars (same_extends d.vars d.nodes e.nodes same_nodes)
 
-pub same_marks : (d e : Diagram) → IsSound d → e.vars ≡ d.vars → e.nodes ≡ d.nodes → e.marks ≡ d.marks → KeepsMarks d e
+pub same_marks : (d e : Diagram) → IsReduced d → e.vars ≡ d.vars → e.nodes ≡ d.nodes → e.marks ≡ d.marks → KeepsMarks d e
 same_marks d e ok same_vars same_nodes same = extends_marks d e ok same_vars (same_extends d.vars d.nodes e.nodes same_nodes) (λ q. ap (λ l. flag l q) same)
 
-pub same_sound : (d e : Diagram) → IsSound d → e.vars ≡ d.vars → e.nodes ≡ d.nodes → IsSound e
-unfolding IsSound
+pub same_sound : (d e : Diagram) → IsReduced d → e.vars ≡ d.vars → e.nodes ≡ d.nodes → IsReduced e
+unfolding IsReduced
 same_sound d e ok same_vars same_nodes = subst (λ ns. Reduced e.vars ns) (sym same_nodes) (subst (λ n. Reduced n d.nodes) (sym same_vars) ok)
 
 pub same_live : (d e : Diagram) → e.vars ≡ d.vars → e.nodes ≡ d.nodes → (q : Ref) → IsLive e q → IsLive d q
@@ -105,8 +105,8 @@ reduced_graph n ns ms ok same =
     }
 
 -- the table of a node, by its children's
-pub node_table : (d : Diagram) → IsSound d → (r lo hi : Ref) (v : ℕ) → IsLive d r → v < d.vars → Matches d.nodes r.place v lo.place hi.place → (a : ℕ → Bool) → table d r a ≡ cond (a v) (table d hi a) (table d lo a)
-unfolding IsSound IsLive table
+pub node_table : (d : Diagram) → IsReduced d → (r lo hi : Ref) (v : ℕ) → IsLive d r → v < d.vars → Matches d.nodes r.place v lo.place hi.place → (a : ℕ → Bool) → table d r a ≡ cond (a v) (table d hi a) (table d lo a)
+unfolding IsReduced IsLive table
 node_table d ok r lo hi v live lt is a =
     let n = d.vars in
     let ns = d.nodes in
@@ -194,12 +194,12 @@ module _ (n : ℕ) (ns : List Node) (ok : Reduced n ns) where
       (subst (Live n ns) (sym is_child) (step_live n ns ok (var_at ns r) r x live lt)) (omega arith)
       (λ lt_child. subst (λ p. member p (below ns n 0 r) ≡ true) (sym is_child) (below_branch n ns ok n 0 r r x (omega arith) live (omega arith) (below_self ns n 0 r (omega arith) (omega arith)) (omega (arith, lt_child, ap (var_at ns) is_child)))) inside
 
-pub reaches_child : (d : Diagram) → IsSound d → (r child q : Ref) (x : Bool) → IsLive d r → IsProper d r → child.place ≡ cond x (high_at d.nodes r.place) (low_at d.nodes r.place) → Reaches d child q → Reaches d r q
-unfolding IsSound IsLive first_var Reaches
+pub reaches_child : (d : Diagram) → IsReduced d → (r child q : Ref) (x : Bool) → IsLive d r → IsProper d r → child.place ≡ cond x (high_at d.nodes r.place) (low_at d.nodes r.place) → Reaches d child q → Reaches d r q
+unfolding IsReduced IsLive first_var Reaches
 reaches_child d ok r child q x live lt is_child is proper = child_below d.vars d.nodes ok r.place child.place q.place x live lt (is_child ∙ sym (step_here d.nodes (var_at d.nodes r.place) r.place x refl)) (is proper)
 
 -- a node of the diagram gives itself
-node_gives : (d e : Diagram) → IsSound e → Keeps d e → (var : ℕ) (lo hi r : Ref) → var < e.vars → IsLive d lo → IsLive d hi → IsLive e r → Matches e.nodes r.place var lo.place hi.place
+node_gives : (d e : Diagram) → IsReduced e → Keeps d e → (var : ℕ) (lo hi r : Ref) → var < e.vars → IsLive d lo → IsLive d hi → IsLive e r → Matches e.nodes r.place var lo.place hi.place
     → ((q : Ref) → IsLive e q → IsLive d q ⊎ (q ≡ r)) → Gives d e var lo hi r
 unfolding first_var
 node_gives d e ok keeps var lo hi r var_in lo_live hi_live live is fresh =
@@ -218,14 +218,14 @@ node_gives d e ok keeps var lo hi r var_in lo_live hi_live live is fresh =
     }
 
 -- the same nodes: nothing new
-pub same_grows : (d e : Diagram) → IsSound d → e.vars ≡ d.vars → e.nodes ≡ d.nodes → e.marks ≡ d.marks → Grows d e
+pub same_grows : (d e : Diagram) → IsReduced d → e.vars ≡ d.vars → e.nodes ≡ d.nodes → e.marks ≡ d.marks → Grows d e
 same_grows d e ok same_vars same_nodes same = record { sound = same_sound d e ok same_vars same_nodes; keeps = same_keeps d e ok same_vars same_nodes; marks = same_marks d e ok same_vars same_nodes same }
 
-pub same_stays : (d e : Diagram) → IsSound d → e.vars ≡ d.vars → e.nodes ≡ d.nodes → e.marks ≡ d.marks → Stays d e
+pub same_stays : (d e : Diagram) → IsReduced d → e.vars ≡ d.vars → e.nodes ≡ d.nodes → e.marks ≡ d.marks → Stays d e
 same_stays d e ok same_vars same_nodes same = record { grows = same_grows d e ok same_vars same_nodes same; only = same_live d e same_vars same_nodes; held = same_held d e same_vars same_nodes }
 
-pub graph_stays : (d e : Diagram) → IsSound d → e.vars ≡ d.vars → SameGraph d.nodes e.nodes → e.marks ≡ d.marks → Stays d e
-unfolding IsSound IsLive
+pub graph_stays : (d e : Diagram) → IsReduced d → e.vars ≡ d.vars → SameGraph d.nodes e.nodes → e.marks ≡ d.marks → Stays d e
+unfolding IsReduced IsLive
 graph_stays d e ok same_vars graph same =
     let more = graph_extends d.vars d.nodes e.nodes graph in
     record {
@@ -239,7 +239,7 @@ graph_stays d e ok same_vars graph same =
     }
 
 -- a node that was found
-pub found_gives : (d e : Diagram) → IsSound d → e.vars ≡ d.vars → e.nodes ≡ d.nodes → (var : ℕ) (lo hi r : Ref) → var < d.vars → IsLive d lo → IsLive d hi → (r.place < length d.nodes) × Matches d.nodes r.place var lo.place hi.place → Gives d e var lo hi r
+pub found_gives : (d e : Diagram) → IsReduced d → e.vars ≡ d.vars → e.nodes ≡ d.nodes → (var : ℕ) (lo hi r : Ref) → var < d.vars → IsLive d lo → IsLive d hi → (r.place < length d.nodes) × Matches d.nodes r.place var lo.place hi.place → Gives d e var lo hi r
 unfolding IsLive
 found_gives d e ok same_vars same_nodes var lo hi r var_in lo_live hi_live is =
     let live : IsLive d r = (is.0, omega (arith, is.1.0, var_in), λ at. absurd (omega (arith, is.1.0, var_in, at))) in
@@ -252,7 +252,7 @@ cond_same true y = refl
 cond_same false y = refl
 
 -- two equal children: their function
-pub child_gives : (d e : Diagram) → IsSound d → e.vars ≡ d.vars → e.nodes ≡ d.nodes → (var : ℕ) (lo hi : Ref) → IsLive d lo → var < first_var d lo → lo.place ≡ hi.place → Gives d e var lo hi lo
+pub child_gives : (d e : Diagram) → IsReduced d → e.vars ≡ d.vars → e.nodes ≡ d.nodes → (var : ℕ) (lo hi : Ref) → IsLive d lo → var < first_var d lo → lo.place ≡ hi.place → Gives d e var lo hi lo
 child_gives d e ok same_vars same_nodes var lo hi lo_live later same =
     let keeps = same_keeps d e ok same_vars same_nodes in
     let one : lo ≡ hi = same_place lo hi same in
@@ -270,13 +270,13 @@ pub record IsPut (d e : Diagram) (var : ℕ) (lo hi r : Ref) : Type 0 where
   pub gives : Gives d e var lo hi r
   pub absent : (q : Ref) → IsLive d q → IsFound d var lo hi q → ⊥
 
-pub put_gives : (d e : Diagram) → IsSound d → e.vars ≡ d.vars → ((q : ℕ) → flag e.marks q ≡ flag d.marks q) → (var : ℕ) (lo hi r : Ref) → var < d.vars → IsLive d lo → IsLive d hi → var < first_var d lo → var < first_var d hi → lo.place ≢ hi.place
+pub put_gives : (d e : Diagram) → IsReduced d → e.vars ≡ d.vars → ((q : ℕ) → flag e.marks q ≡ flag d.marks q) → (var : ℕ) (lo hi r : Ref) → var < d.vars → IsLive d lo → IsLive d hi → var < first_var d lo → var < first_var d hi → lo.place ≢ hi.place
     → ((p : ℕ) → Live d.vars d.nodes p → Matches d.nodes p var lo.place hi.place → ⊥)
     → Puts d.vars d.nodes e.nodes r.place var lo.place hi.place → IsPut d e var lo hi r
-unfolding IsSound IsLive first_var
+unfolding IsReduced IsLive first_var
 put_gives d e ok same_vars same_flags var lo hi r var_in lo_live hi_live lo_later hi_later differ absent puts =
     let reduced = reduced_put d.vars d.nodes e.nodes r.place var lo.place hi.place ok puts var_in lo_live hi_live lo_later hi_later differ absent in
-    let sound : IsSound e = subst (λ m. Reduced m e.nodes) (sym same_vars) reduced in
+    let sound : IsReduced e = subst (λ m. Reduced m e.nodes) (sym same_vars) reduced in
     let keeps = extends_keeps d e ok same_vars puts.same in
     let live : IsLive e r = subst (λ m. Live m e.nodes r.place) (sym same_vars) puts.live in
     let fresh : (q : Ref) → IsLive e q → IsLive d q ⊎ (q ≡ r) = λ q live_q. elim (puts.only q.place (subst (λ m. Live m e.nodes q.place) same_vars live_q)) [ inl old ↦ inl old | inr at ↦ inr (same_place q r at) ] in
@@ -305,7 +305,7 @@ pub stays_from : (d f e : Diagram) → d ≡ f → Stays d e → Stays f e
 stays_from d f e same stays = subst (λ x. Stays x e) same stays
 
 -- the same nodes, and the same flags one by one
-pub flags_grows : (d e : Diagram) → IsSound d → e.vars ≡ d.vars → e.nodes ≡ d.nodes → ((q : ℕ) → flag e.marks q ≡ flag d.marks q) → Grows d e
+pub flags_grows : (d e : Diagram) → IsReduced d → e.vars ≡ d.vars → e.nodes ≡ d.nodes → ((q : ℕ) → flag e.marks q ≡ flag d.marks q) → Grows d e
 flags_grows d e ok same_vars same_nodes same = record { sound = same_sound d e ok same_vars same_nodes; keeps = same_keeps d e ok same_vars same_nodes; marks = extends_marks d e ok same_vars (same_extends d.vars d.nodes e.nodes same_nodes) same }
 
 pub on_err : {A E : Type 0} (r : Result A E) (P : Type 0) → P → OnErr r P

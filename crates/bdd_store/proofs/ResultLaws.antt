@@ -9,7 +9,7 @@ use Rattle.bdd_store.specs.declared.Operation.TheVariants.{And, Or, Not, Rename,
 use Rattle.bdd_store.specs.declared.results.Entry.{Entry}
 use Rattle.bdd_store.specs.declared.chains.Node.{Node}
 use Rattle.bdd_store.specs.Graph.{Reduced, with_at}
-use Rattle.bdd_store.specs.Diagram.{Diagram, table, IsSound, Keeps}
+use Rattle.bdd_store.specs.Diagram.{Diagram, table, IsReduced, Keeps}
 use Rattle.bdd_store.specs.Results.{AreOperands, made, IsResult, entry_at, no_entry, AreResults, diagram_of}
 use Rattle.bdd_store.proofs.Laws.{zero_constant}
 use Rattle.bdd_store.proofs.NodeLaws.{Extends, extends_keeps, same_keeps}
@@ -40,22 +40,22 @@ results_kept d e keeps es all i lt = result_kept d e keeps _ _ (all i lt)
 
 -- where nodes stay
 pub known_extends : (n : ℕ) (ns ms : List Node) (es : List Entry) → Reduced n ns → Extends n ns ms → AreResults (diagram_of n ns) es → AreResults (diagram_of n ms) es
-unfolding IsSound
+unfolding IsReduced
 known_extends n ns ms es ok more = results_kept (diagram_of n ns) (diagram_of n ms) (extends_keeps (diagram_of n ns) (diagram_of n ms) ok refl more) es
 
 -- in a Store's own diagram
 pub known_here : (n : ℕ) (ns : List Node) (d : Diagram) (es : List Entry) → Reduced n ns → d.vars ≡ n → d.nodes ≡ ns → AreResults (diagram_of n ns) es → AreResults d es
-unfolding IsSound
+unfolding IsReduced
 known_here n ns d es ok vars nodes = results_kept (diagram_of n ns) d (same_keeps (diagram_of n ns) d ok vars nodes) es
 
-pub result_there : (n : ℕ) (ns : List Node) (d : Diagram) (o : Operation) (r : Ref) → IsSound d → n ≡ d.vars → ns ≡ d.nodes → IsResult d o r → IsResult (diagram_of n ns) o r
+pub result_there : (n : ℕ) (ns : List Node) (d : Diagram) (o : Operation) (r : Ref) → IsReduced d → n ≡ d.vars → ns ≡ d.nodes → IsResult d o r → IsResult (diagram_of n ns) o r
 result_there n ns d o r ok vars nodes = result_kept d (diagram_of n ns) (same_keeps d (diagram_of n ns) ok vars nodes) o r
 
-pub known_there : (n : ℕ) (ns : List Node) (d : Diagram) (es : List Entry) → IsSound d → n ≡ d.vars → ns ≡ d.nodes → AreResults d es → AreResults (diagram_of n ns) es
+pub known_there : (n : ℕ) (ns : List Node) (d : Diagram) (es : List Entry) → IsReduced d → n ≡ d.vars → ns ≡ d.nodes → AreResults d es → AreResults (diagram_of n ns) es
 known_there n ns d es ok vars nodes all i lt = result_there n ns d _ _ ok vars nodes (all i lt)
 
 -- the conjunction of the constant 0 with itself
-pub never_result : (d : Diagram) → IsSound d → (z : Ref) → z.place ≡ 0 → IsResult d (And z z) z
+pub never_result : (d : Diagram) → IsReduced d → (z : Ref) → z.place ≡ 0 → IsResult d (And z z) z
 never_result d ok z e =
     let zero = zero_constant d ok z e in
     record {

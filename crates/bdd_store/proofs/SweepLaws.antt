@@ -9,7 +9,7 @@ use Rattle.bdd_store.specs.declared.Ref.{Ref}
 use Rattle.bdd_store.specs.declared.chains.Node.{Node}
 use Rattle.bdd_store.specs.Graph.{var_at, low_at, high_at, Live, step, below, Reduced}
 use Rattle.bdd_store.specs.Beads.{truth_table, bead_count}
-use Rattle.bdd_store.specs.Diagram.{Diagram, IsLive, AreLive, ref_at, table, tables_of, IsSound, first_var, Reaches, Keeps, IsKept, Sweeps, held}
+use Rattle.bdd_store.specs.Diagram.{Diagram, IsLive, AreLive, ref_at, table, tables_of, IsReduced, first_var, Reaches, Keeps, IsKept, Sweeps, held}
 use Rattle.bdd_store.specs.Chains.{GivesBack, SameGraph, node_count}
 use Rattle.bdd_store.specs.Seen.{flag, SeenIs, places_of}
 use Rattle.bdd_store.proofs.Walks.{step_here}
@@ -170,21 +170,21 @@ tables_kept d e keeps (r ∷ rs) live =
     ∙ ap (λ ts. truth_table d.vars 0 (table d r) ∷ ts) (tables_kept d e keeps rs (λ i lt. live (suc i) (omega arith)))
 
 -- the whole sweep: the nodes that are not marked are given back, and then the links change
-module _ (d e : Diagram) (ms : List Node) (marks : List Bool) (roots : List Ref) (ok : IsSound d) (same_vars : e.vars ≡ d.vars) (gives : GivesBack d.vars d.nodes ms marks) (graph : SameGraph ms e.nodes) (live : AreLive d roots)
+module _ (d e : Diagram) (ms : List Node) (marks : List Bool) (roots : List Ref) (ok : IsReduced d) (same_vars : e.vars ≡ d.vars) (gives : GivesBack d.vars d.nodes ms marks) (graph : SameGraph ms e.nodes) (live : AreLive d roots)
     (seen : SeenIs marks (flat_map (below d.nodes d.vars 0) (places_of roots))) where
   pub each_root : Each (Live d.vars d.nodes) (places_of roots)
   each_root = places_live d roots live
 
   stands_e : (r : Ref) → IsLive d r → Stands marks r.place → IsLive e r
-  unfolding IsSound IsLive
+  unfolding IsReduced IsLive
   stands_e r live_r stands = subst (λ m. Live m e.nodes r.place) (sym same_vars) (live_graph d.vars ms e.nodes graph r.place (stands_live d.vars d.nodes ms marks (places_of roots) ok gives each_root seen r.place live_r stands))
 
   e_stands : (r : Ref) → IsLive e r → IsLive d r × Stands marks r.place
-  unfolding IsSound IsLive
+  unfolding IsReduced IsLive
   e_stands r live_r = live_stands d.vars d.nodes ms marks (places_of roots) ok gives each_root seen r.place (graph_live d.vars ms e.nodes graph r.place (subst (λ m. Live m e.nodes r.place) same_vars live_r))
 
   kept_stands : (r : Ref) → IsKept d roots r → Stands marks r.place
-  unfolding IsSound IsLive first_var Reaches
+  unfolding IsReduced IsLive first_var Reaches
   kept_stands r kept = elim (cases_lt (var_at d.nodes r.place) d.vars) [
     | inr last ↦ inl (kept.0.2 (omega (arith, last, kept.0.1)))
     | inl proper ↦ elim kept.1 [
@@ -194,7 +194,7 @@ module _ (d e : Diagram) (ms : List Node) (marks : List Bool) (roots : List Ref)
   ]
 
   stands_kept : (r : Ref) → IsLive d r → Stands marks r.place → IsKept d roots r
-  unfolding IsSound first_var Reaches
+  unfolding IsReduced first_var Reaches
   stands_kept r live_r stands = (
     live_r,
     elim stands [
@@ -208,12 +208,12 @@ module _ (d e : Diagram) (ms : List Node) (marks : List Bool) (roots : List Ref)
       not_small (suc zero) small lt = omega (arith, ok.one_last)
       not_small (suc (suc q)) small lt = omega arith
 
-  pub swept_sound : IsSound e
-  unfolding IsSound
+  pub swept_sound : IsReduced e
+  unfolding IsReduced
   swept_sound = subst (λ m. Reduced m e.nodes) (sym same_vars) (reduced_graph d.vars ms e.nodes (swept_reduced d.vars d.nodes ms marks (places_of roots) ok gives each_root seen) graph)
 
   back_all : Extends e.vars e.nodes d.nodes
-  unfolding IsSound
+  unfolding IsReduced
   back_all r live_r =
       let in_ms = graph_live d.vars ms e.nodes graph r (subst (λ m. Live m e.nodes r) same_vars live_r) in
       let is = back_extends d.vars d.nodes ms marks (places_of roots) ok gives each_root seen r in_ms in
@@ -224,7 +224,7 @@ module _ (d e : Diagram) (ms : List Node) (marks : List Bool) (roots : List Ref)
   swept_back = extends_keeps e d swept_sound (sym same_vars) back_all
 
   below_same : (f : Ref) → IsLive e f → below d.nodes d.vars 0 f.place ≡ below e.nodes e.vars 0 f.place
-  unfolding IsSound IsLive
+  unfolding IsReduced IsLive
   below_same f live_f = ap (λ m. below d.nodes m 0 f.place) (sym same_vars) ∙ below_kept e.vars e.nodes d.nodes swept_sound (λ r live_r. (back_all r live_r).1) e.vars 0 f.place (omega arith) live_f
 
   reached_e : (f r : Ref) → IsLive e f → IsLive e r → Reaches d f r → Reaches e f r
@@ -257,7 +257,7 @@ module _ (d e : Diagram) (ms : List Node) (marks : List Bool) (roots : List Ref)
   swept_tables = tables_kept e d swept_back roots roots_live
 
   pub swept_counted : length marks ≡ length d.nodes → node_count e.vars e.nodes ≡ count_by (λ (s : Bool). s) marks
-  unfolding IsSound
+  unfolding IsReduced
   swept_counted len = ap (λ m. node_count m e.nodes) same_vars ∙ counted_graph d.vars ms e.nodes graph ∙ swept_count d.vars d.nodes ms marks (places_of roots) ok gives each_root seen len
 
   pub swept_held : length marks ≡ length d.nodes → held e ≡ bead_count d.vars (tables_of d roots)

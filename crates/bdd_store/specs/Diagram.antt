@@ -37,8 +37,8 @@ tables_of d [] = []
 tables_of d (r ∷ rs) = truth_table d.vars 0 (table d r) ∷ tables_of d rs
 
 -- what every store keeps; with it equal tables are equal Refs
-unfoldable pub IsSound : Diagram → Type 0
-IsSound d = Reduced d.vars d.nodes
+unfoldable pub IsReduced : Diagram → Type 0
+IsReduced d = Reduced d.vars d.nodes
 
 -- live Refs are equal exactly where their tables are
 abbrev pub IsCanonical : Diagram → Type 0

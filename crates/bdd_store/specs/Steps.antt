@@ -1,11 +1,11 @@
 -- What a call of `node` does, in parts that its steps share.
 use Rattle.std.specs.Prelude.{◌≡◌, ℕ, ◌≤◌, ◌⊎◌, Bool, if◌then◌else◌}
 use Rattle.bdd_store.specs.declared.Ref.{Ref}
-use Rattle.bdd_store.specs.Diagram.{Diagram, IsLive, table, IsSound, first_var, Reaches, held, Keeps, KeepsMarks}
+use Rattle.bdd_store.specs.Diagram.{Diagram, IsLive, table, IsReduced, first_var, Reaches, held, Keeps, KeepsMarks}
 
 -- every live Ref stays
 pub record Grows (old new : Diagram) : Type 0 where
-  pub sound : IsSound new
+  pub sound : IsReduced new
   pub keeps : Keeps old new
   pub marks : KeepsMarks old new
 

@@ -6,7 +6,7 @@
 
 ghost use Rattle.std.specs.Prelude.{◌≡◌, ◌↔◌, ◌⊎◌, ℕ, ◌+◌, ◌-◌, ◌<◌, ◌≤◌, Bool, true, false, IfOk, OnOk, OnErr, IfSome, IfNone, IsNone, if◌then◌else◌, is_ok, min, vec_capacity};
 ghost use Rattle.std.specs.Prelude.{List, [], ◌∷◌};
-ghost use Rattle.bdd_store.specs.Diagram.{Diagram, IsLive, AreLive, table, tables_of, IsSound, IsCanonical, first_var, IsConstant, IsProper, DependsFrom, Reaches, held, Keeps, HasMarks, KeepsMarks, IsKept, Sweeps};
+ghost use Rattle.bdd_store.specs.Diagram.{Diagram, IsLive, AreLive, table, tables_of, IsReduced, IsCanonical, first_var, IsConstant, IsProper, DependsFrom, Reaches, held, Keeps, HasMarks, KeepsMarks, IsKept, Sweeps};
 ghost use Rattle.bdd_store.specs.Steps.{Grows, Stays, Gives, IsFound};
 ghost use Rattle.bdd_store.specs.Results.{AreResults};
 ghost use Rattle.bdd_store.specs.Beads.{bead_count};
@@ -91,7 +91,7 @@ impl Store {
         ensures empty { IfOk result (λ s. (r : Ref) → IsLive s r → IsProper s r → ⊥) }
         ensures held { IfOk result (λ s. held s ≡ 0) }
         ensures marks { IfOk result (λ s. HasMarks s []) }
-        ensures sound { IfOk result IsSound }
+        ensures sound { IfOk result IsReduced }
         ensures canonical { IfOk result IsCanonical }
     {
         let last = Node {
@@ -122,7 +122,7 @@ impl Store {
     #[inline(always)]
     pub fn vars(&self) -> u32
         ensures vars { result ≡ self.now.vars }
-        ensures sound { IsSound self.now }
+        ensures sound { IsReduced self.now }
         ensures canonical { IsCanonical self.now }
     {
         self.vars
@@ -164,7 +164,7 @@ impl Store {
         ensures none_fresh { (q : Ref) → IsLive self.new q → IsLive self.old q }
         ensures held { held self.new ≡ held self.old }
         ensures marks { KeepsMarks self.old self.new }
-        ensures sound { IsSound self.new }
+        ensures sound { IsReduced self.new }
         ensures canonical { IsCanonical self.new }
         ensures calls { self.new.calls ≡ self.old.calls }
         ensures spare { self.old.spare ≤ self.new.spare }
@@ -195,7 +195,7 @@ impl Store {
         // What stays.
         ensures keeps { Keeps self.old self.new }
         ensures marks { KeepsMarks self.old self.new }
-        ensures sound { IsSound self.new }
+        ensures sound { IsReduced self.new }
         ensures canonical { IsCanonical self.new }
 
         // At most one node is new.
@@ -348,7 +348,7 @@ impl Store {
         ensures keeps { Keeps self.old self.new }
         ensures none_fresh { (q : Ref) → IsLive self.new q → IsLive self.old q }
         ensures held { held self.new ≡ held self.old }
-        ensures sound { IsSound self.new }
+        ensures sound { IsReduced self.new }
         ensures canonical { IsCanonical self.new }
         ensures calls { self.new.calls ≡ self.old.calls }
         ensures spare { self.new.spare ≡ self.old.spare }
@@ -371,7 +371,7 @@ impl Store {
         ensures held { held self.new ≡ bead_count self.new.vars (tables_of self.new roots.now) }
         ensures beads { held self.new ≡ bead_count self.old.vars (tables_of self.old roots.now) }
         ensures marks { HasMarks self.new [] }
-        ensures sound { IsSound self.new }
+        ensures sound { IsReduced self.new }
         ensures canonical { IsCanonical self.new }
         ensures calls { self.new.calls ≡ self.old.calls }
         ensures spare { self.old.spare ≤ self.new.spare }

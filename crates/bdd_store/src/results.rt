@@ -1,7 +1,7 @@
 //! The results of operations: a table in which a later result takes the place of an earlier one.
 
 ghost use Rattle.std.specs.Prelude.{◌≡◌, ℕ, ◌<◌, ◌≤◌, IfSome, IfNone, IsTrue, vec_len};
-ghost use Rattle.bdd_store.specs.Diagram.{Diagram, IsSound};
+ghost use Rattle.bdd_store.specs.Diagram.{Diagram, IsReduced};
 ghost use Rattle.bdd_store.specs.Results.{IsResult, AreResults};
 ghost use Rattle.bdd_store.specs.Sure.{slot_of, IsSure};
 
@@ -88,7 +88,7 @@ pub(crate) fn counted(has: usize, calls: u64, before: u64, hits: u64) -> (u64, u
 
 // An entry that is right in every store: the conjunction of the constant 0 with itself.
 fn never() -> Entry
-    ensures { (d : Diagram) → IsSound d → IsResult d result.operation result.answer }
+    ensures { (d : Diagram) → IsReduced d → IsResult d result.operation result.answer }
 {
     let zero = Ref { place: 0 };
     Entry {
@@ -156,7 +156,7 @@ fn put(results: &mut Vec<Entry>, operation: Operation, answer: Ref, turn: u32) -
 // Puts the first results of a table at their places.
 fn spread(results: &mut Vec<Entry>, has: usize)
     requires { has ≤ vec_len results.old }
-    ensures { (d : Diagram) → IsSound d → AreResults d results.old.items → AreResults d results.new.items }
+    ensures { (d : Diagram) → IsReduced d → AreResults d results.old.items → AreResults d results.new.items }
 {
     let never = never();
     for at in 0..has {
@@ -169,7 +169,7 @@ fn spread(results: &mut Vec<Entry>, has: usize)
 
 /// Makes so many places, where there is memory for that.
 pub fn widen(results: &mut Vec<Entry>, places: usize)
-    ensures { (d : Diagram) → IsSound d → AreResults d results.old.items → AreResults d results.new.items }
+    ensures { (d : Diagram) → IsReduced d → AreResults d results.old.items → AreResults d results.new.items }
 {
     let has = results.len();
     if places > has && results.resize(places, never()).is_ok() {
@@ -179,7 +179,7 @@ pub fn widen(results: &mut Vec<Entry>, places: usize)
 
 /// Forgets all results.
 pub fn forget(results: &mut Vec<Entry>)
-    ensures { (d : Diagram) → IsSound d → AreResults d results.new.items }
+    ensures { (d : Diagram) → IsReduced d → AreResults d results.new.items }
 {
     let never = never();
     for entry in results.iter_mut() {

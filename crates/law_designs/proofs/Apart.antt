@@ -1,10 +1,10 @@
 -- No two definitions of a design are of one family in one definition set.
 use Rattle.std.proofs.Common.{◌≡◌, ℕ, List, [], ◌∷◌, map, filter, Bool, true, false, not, ◌&&◌, ◌||◌, cond, nat_eq, refl, ap, ◌∙◌, arith}
 use Rattle.std.specs.List.{list_any}
-use Rattle.smv_core.specs.declared.flat.Raw.{Raw}
+use Rattle.smv_core.specs.declared.flat.FlatText.{FlatText}
 use Rattle.law_designs.specs.Flattening.{different}
 use Rattle.law_designs.specs.WholeText.{is_one_layer}
-use Rattle.law_designs.specs.Definitions.{Head, same_definition, first_heads, def_of, design_of_raw}
+use Rattle.law_designs.specs.Definitions.{Head, same_definition, first_heads, def_of, design_of_flat_text}
 use Rattle.law_designs.specs.Laws.{is_of_family, AreApart}
 
 module _ {X : Type 0} (same : X → X → Bool) where
@@ -46,20 +46,20 @@ module _ {X : Type 0} (same : X → X → Bool) where
 turned : (a b : ℕ) → nat_eq a b ≡ nat_eq b a
 turned a b = grind arith
 
-module _ (raw : Raw) where
-  one-same : (h g : Head) → is_of_family h.layer h.family (def_of raw g) ≡ same_definition h g
+module _ (flat_text : FlatText) where
+  one-same : (h g : Head) → is_of_family h.layer h.family (def_of flat_text g) ≡ same_definition h g
   one-same h g = ap (λ b. is_one_layer h.layer g.layer && b) (turned g.family h.family)
 
-  any-same : (h : Head) (heads : List Head) → list_any (is_of_family h.layer h.family) (map (def_of raw) heads) ≡ list_any (same_definition h) heads
+  any-same : (h : Head) (heads : List Head) → list_any (is_of_family h.layer h.family) (map (def_of flat_text) heads) ≡ list_any (same_definition h) heads
   any-same h [] = refl
   any-same h (g ∷ heads) = or-same _ (same_definition h g) _ (list_any (same_definition h) heads) (one-same h g) (any-same h heads)
     where
       or-same : (a b c d : Bool) → a ≡ b → c ≡ d → (a || c) ≡ (b || d)
       or-same a b c d p q = rw (p, q) refl
 
-  defs-apart : (heads : List Head) → Different same_definition heads → AreApart (map (def_of raw) heads)
+  defs-apart : (heads : List Head) → Different same_definition heads → AreApart (map (def_of flat_text) heads)
   defs-apart [] h = tt
   defs-apart (g ∷ heads) h = (any-same g heads ∙ h.0, defs-apart heads h.1)
 
-  pub apart : AreApart (design_of_raw raw).defs
-  apart = defs-apart (first_heads raw) (are-different same_definition _)
+  pub apart : AreApart (design_of_flat_text flat_text).defs
+  apart = defs-apart (first_heads flat_text) (are-different same_definition _)

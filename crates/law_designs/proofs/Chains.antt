@@ -3,8 +3,8 @@ use Rattle.std.proofs.Common.{◌≡◌, ℕ, zero, suc, ◌≤◌, List, true, 
 use Rattle.std.specs.List.{list_any}
 use Rattle.std.specs.Str.{bytes_eq}
 use Rattle.smv_core.specs.Values.{Name}
-use Rattle.smv_instances.specs.Scopes.{Piece, module_named}
-use Rattle.smv_instances.specs.NameFaults.{used_if_module, contains}
+use Rattle.smv_mentions.specs.Scopes.{Piece, module_named}
+use Rattle.smv_mentions.specs.NameFaults.{used_if_module, contains}
 use Rattle.law_designs.proofs.Lists.{bytes_eq-is, bytes_eq-refl, IsAmong, or-left, or-right, or-either, any-of, of-any}
 
 module _ (tops : List Piece) where

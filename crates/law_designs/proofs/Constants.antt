@@ -9,8 +9,8 @@ use Rattle.smv_core.specs.Types.{find_name, names_of}
 use Rattle.smv_core.specs.Outcome.{same_path}
 use Rattle.smv_core.specs.declared.tree.Word.{Word}
 use Rattle.smv_core.specs.declared.tree.Text.{Text}
-use Rattle.smv_instances.specs.Mentions.{Mention, declares, binds, follows, names_type, lists_constants, has_fields, instantiates}
-use Rattle.smv_instances.specs.Scopes.{Constant, Piece, constants, constants_in, pieces}
+use Rattle.smv_mentions.specs.Mentions.{Mention, declares, binds, follows, names_type, lists_constants, has_fields, instantiates}
+use Rattle.smv_mentions.specs.Scopes.{Constant, Piece, constants, constants_in, pieces}
 use Rattle.law_designs.specs.Flattening.{different, enum_of, scope_in}
 use Rattle.law_designs.specs.Agreement.{IsConstant}
 use Rattle.law_designs.proofs.Lookups.{same_test, any-found, find-passes, any-flat_map}

@@ -8,10 +8,10 @@ use Rattle.smv_core.specs.Types.{Types, find_name}
 use Rattle.smv_core.specs.FlatOrder.{Body, body_of, modules, families_of_item, families_in, item_met, met_in}
 use Rattle.smv_core.specs.declared.tree.Text.{Text}
 use Rattle.smv_core.specs.declared.tree.Item.{Item}
-use Rattle.smv_instances.specs.Mentions.{in_item}
-use Rattle.smv_instances.specs.Scopes.{pieces}
-use Rattle.smv_instances.specs.NameFaults.{used_in}
-use Rattle.smv_instances.specs.FirstFault.{first_fault}
+use Rattle.smv_mentions.specs.Mentions.{in_item}
+use Rattle.smv_mentions.specs.Scopes.{pieces}
+use Rattle.smv_mentions.specs.NameFaults.{used_in}
+use Rattle.smv_mentions.specs.FirstFault.{first_fault}
 use Rattle.law_designs.specs.Entries.{placed_of_item, placed_in, item_entries, entries_in}
 use Rattle.law_designs.specs.Deep.{IsDeepEnough}
 use Rattle.law_designs.proofs.Lists.{bytes_eq-is, IsAmong}

@@ -11,10 +11,10 @@ use Rattle.smv_core.specs.declared.tree.Word.{Word}
 use Rattle.smv_core.specs.declared.tree.Text.{Text}
 use Rattle.smv_core.specs.declared.tree.Top.{Top}
 use Rattle.smv_core.specs.declared.tree.Top.TheVariants.{SetType, Alias, Module}
-use Rattle.smv_instances.specs.Mentions.{Mention, declares, binds, follows, names_type, lists_constants, has_fields, instantiates, in_item}
-use Rattle.smv_instances.specs.Scopes.{Known, Piece, Body as ModuleBody, piece_of, known_after, pieces_from, pieces, body_if_module, module_named}
-use Rattle.smv_instances.specs.NameFaults.{place_if, repeated, undeclared_in, doubled_in, without_main, recursive, recursive_in, used_in, used_if_module, contains}
-use Rattle.smv_instances.specs.FirstFault.{first_of, faults_at, faults_of_names, fault_of_size, first_fault}
+use Rattle.smv_mentions.specs.Mentions.{Mention, declares, binds, follows, names_type, lists_constants, has_fields, instantiates, in_item}
+use Rattle.smv_mentions.specs.Scopes.{Known, Piece, Body as ModuleBody, piece_of, known_after, pieces_from, pieces, body_if_module, module_named}
+use Rattle.smv_mentions.specs.NameFaults.{place_if, repeated, undeclared_in, doubled_in, without_main, recursive, recursive_in, used_in, used_if_module, contains}
+use Rattle.smv_mentions.specs.FirstFault.{first_of, faults_at, faults_of_names, fault_of_size, first_fault}
 use Rattle.law_designs.proofs.Lists.{bytes_eq-is, IsAmong, any-of}
 use Rattle.law_designs.proofs.Chains.{uses, Leads, leads-more}
 use Rattle.law_designs.proofs.Faultless.{empty-both, no_fault-in, none-first}

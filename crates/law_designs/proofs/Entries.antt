@@ -17,7 +17,7 @@ use Rattle.smv_core.specs.declared.tree.Expr.{Expr, Signal'}
 use Rattle.smv_core.specs.declared.tree.Stmt.{Stmt, Forall}
 use Rattle.smv_core.specs.declared.tree.Item.{Item, Declare, Instance, Layer, Forall', Block', Claim, Split, Using, Act, Row_of-Item, end_of-Item, more_of-Item}
 use Rattle.law_designs.specs.Entries.{Binders, claim, split, using, Entry, layer, statement, goal, inside_binder, connection, given_to, connections, item_entries, items_entries, entries_in, entries}
-use Rattle.smv_instances.proofs.Computing.{computing}
+use Rattle.smv_mentions.proofs.Computing.{computing}
 
 -- two statements give each element the same everywhere, and have the same assignments
 abbrev pub AreAlikeActs : Stmt → Stmt → Type 0

@@ -8,8 +8,8 @@ use Rattle.smv_core.specs.Types.{find_name}
 use Rattle.smv_core.specs.declared.fault.Fault.{Fault}
 use Rattle.smv_core.specs.declared.tree.Op.{Op}
 use Rattle.smv_core.specs.declared.tree.Op.TheVariants.{Equal, Differ, Less, AtMost, Greater, AtLeast}
-use Rattle.smv_instances.specs.NameFaults.{place_if}
-use Rattle.smv_instances.specs.FirstFault.{comes_before, earlier, first_of, faults_at, or_else}
+use Rattle.smv_mentions.specs.NameFaults.{place_if}
+use Rattle.smv_mentions.specs.FirstFault.{comes_before, earlier, first_of, faults_at, or_else}
 use Rattle.law_designs.specs.Kinds.{Kind, no_kind, Operand, takes_number, takes, alike_with, alike, joined, is_number, accepts, joins, has_order, unless}
 use Rattle.law_designs.specs.Types.{Whole}
 use Rattle.law_designs.specs.References.{reference}

@@ -4,7 +4,7 @@ use Rattle.std.specs.List.{flat_map}
 use Rattle.smv_core.specs.Values.{Value, Outcome, number, numbers_from, truth, bit, add, modulo, not_of, iff_of, conjunction, disjunction, implication, equal, compare}
 use Rattle.smv_core.specs.Outcome.{branch, fit, is_true}
 use Rattle.smv_core.specs.Walk.{first, first_of, if_walk}
-use Rattle.smv_core.specs.Flat.{Numbered, FlatState, FlatBindings, FlatElement, bind, values_in, flat_element_at, flat_outcome, flat_outcomes, flat_sum, flat_listed, flat_members, flat_allowed_by, flat_walk, flat_walks}
+use Rattle.smv_core.specs.FlatMeaning.{Numbered, FlatState, FlatBindings, FlatElement, bind, values_in, flat_element_at, flat_outcome, flat_outcomes, flat_sum, flat_listed, flat_members, flat_allowed_by, flat_walk, flat_walks}
 use Rattle.smv_core.specs.declared.tree.Kind.{Kind}
 use Rattle.smv_core.specs.declared.tree.Op.{Op}
 use Rattle.smv_core.specs.declared.flat.Simple.{Simple}

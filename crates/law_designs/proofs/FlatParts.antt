@@ -3,16 +3,16 @@ use Rattle.std.proofs.Common.{◌≡◌, ℕ, List, [], ◌∷◌, ◌++◌, map
 use Rattle.std.specs.List.{flat_map}
 use Rattle.smv_core.specs.Values.{Value, Truth, truth}
 use Rattle.smv_core.specs.Walk.{Walk, first, first_of, if_walk}
-use Rattle.smv_core.specs.Flat.{Numbered, FlatState, FlatBindings, FlatElement, bind, values_in, flat_outcome, flat_result, flat_results, indexes_assigned, indexes_assigned_in}
+use Rattle.smv_core.specs.FlatMeaning.{Numbered, FlatState, FlatBindings, FlatElement, bind, values_in, flat_outcome, flat_result, flat_results, indexes_assigned, indexes_assigned_in}
 use Rattle.smv_core.specs.declared.flat.Simple.{Simple}
 use Rattle.smv_core.specs.declared.flat.FlatExpr.{FlatExpr}
-use Rattle.smv_core.specs.declared.flat.Flat.{Flat, Nothing, If, First, Forall, Assign, If', First', Forall', Row_of-Flat, end_of-Flat, more_of-Flat, items-the_row-Flat, items_hidden-the_row-Flat-1}
+use Rattle.smv_core.specs.declared.flat.DefBody.{DefBody, Nothing, If, First, Forall, Assign, If', First', Forall', Row_of-DefBody, end_of-DefBody, more_of-DefBody, items-the_row-DefBody, items_hidden-the_row-DefBody-1}
 use Rattle.law_designs.specs.Definitions.{is_nothing, joined, first_part, branches, each_value}
 use mathlib.Core.Former.{Count}
 
 -- what lets a box of a definition's part compute
 unfoldable pub boxes : Unit {0}
-unfolding Rattle.smv_core.specs.declared.flat.Flat.TheBlock.hidden-the_row-Flat-0 Rattle.smv_core.specs.declared.flat.Flat.TheBlock.shape-the_row-Flat-0 denote.Hole.Carrier.hidden
+unfolding Rattle.smv_core.specs.declared.flat.DefBody.TheBlock.hidden-the_row-DefBody-0 Rattle.smv_core.specs.declared.flat.DefBody.TheBlock.shape-the_row-DefBody-0 denote.Hole.Carrier.hidden
 boxes = tt
 
 append-nil : {X : Type 0} (xs : List X) → xs ++ [] ≡ xs
@@ -20,11 +20,11 @@ append-nil [] = refl
 append-nil (x ∷ xs) = ap (λ l. x ∷ l) (append-nil xs)
 
 -- the parts of a `First`
-abbrev pub rows_of : Flat → (k : Count) × Row_of-Flat k
+abbrev pub rows_of : DefBody → (k : Count) × Row_of-DefBody k
 rows_of (First' shape row) = (_, row)
-rows_of _ = (_, end_of-Flat)
+rows_of _ = (_, end_of-DefBody)
 
-pub nothing-is : (p : Flat) → is_nothing p ≡ true → p ≡ Nothing
+pub nothing-is : (p : DefBody) → is_nothing p ≡ true → p ≡ Nothing
 nothing-is Nothing e = refl
 nothing-is (Assign left value place at) e = absurd (cc)
 nothing-is (If' c l left r right) e = absurd (cc)
@@ -33,32 +33,32 @@ nothing-is (Forall' var over shape body) e = absurd (cc)
 
 -- ---- indexes
 
-pub indexes-row : (k : _) (row : Row_of-Flat k) → indexes_assigned_in row ≡ flat_map indexes_assigned (items-the_row-Flat k row)
-indexes-row k end_of-Flat = refl
-indexes-row k (more_of-Flat part rest) = ap (λ l. indexes_assigned part ++ l) (indexes-row _ rest)
+pub indexes-row : (k : _) (row : Row_of-DefBody k) → indexes_assigned_in row ≡ flat_map indexes_assigned (items-the_row-DefBody k row)
+indexes-row k end_of-DefBody = refl
+indexes-row k (more_of-DefBody part rest) = ap (λ l. indexes_assigned part ++ l) (indexes-row _ rest)
 
-pub indexes-First : (parts : List Flat) → indexes_assigned (First parts) ≡ flat_map indexes_assigned parts
+pub indexes-First : (parts : List DefBody) → indexes_assigned (First parts) ≡ flat_map indexes_assigned parts
 indexes-First parts =
-    let row : (k : Count) × Row_of-Flat k = rows_of (First parts) in
-    indexes-row row.0 row.1 ∙ ap (flat_map indexes_assigned) (items_hidden-the_row-Flat-1 parts)
+    let row : (k : Count) × Row_of-DefBody k = rows_of (First parts) in
+    indexes-row row.0 row.1 ∙ ap (flat_map indexes_assigned) (items_hidden-the_row-DefBody-1 parts)
 
-indexes-If : (cond : FlatExpr) (left right : Flat) → indexes_assigned (If cond left right) ≡ indexes_assigned left ++ indexes_assigned right
+indexes-If : (cond : FlatExpr) (left right : DefBody) → indexes_assigned (If cond left right) ≡ indexes_assigned left ++ indexes_assigned right
 unfolding boxes
 indexes-If cond left right = refl
 
-indexes-Forall : (var : ℕ) (over : Simple) (body : Flat) → indexes_assigned (Forall var over body) ≡ indexes_assigned body
+indexes-Forall : (var : ℕ) (over : Simple) (body : DefBody) → indexes_assigned (Forall var over body) ≡ indexes_assigned body
 unfolding boxes
 indexes-Forall var over body = refl
 
-indexes-joined : (parts : List Flat) → indexes_assigned (joined parts) ≡ flat_map indexes_assigned parts
+indexes-joined : (parts : List DefBody) → indexes_assigned (joined parts) ≡ flat_map indexes_assigned parts
 indexes-joined [] = refl
 indexes-joined (part ∷ []) = sym (append-nil (indexes_assigned part))
 indexes-joined (part ∷ other ∷ more) = indexes-First (part ∷ other ∷ more)
 
-indexes-nothing : (p : Flat) → is_nothing p ≡ true → indexes_assigned p ≡ []
+indexes-nothing : (p : DefBody) → is_nothing p ≡ true → indexes_assigned p ≡ []
 indexes-nothing p e = ap indexes_assigned (nothing-is p e)
 
-pub indexes-kept : (parts : List Flat) → flat_map indexes_assigned (filter (λ p. not (is_nothing p)) parts) ≡ flat_map indexes_assigned parts
+pub indexes-kept : (parts : List DefBody) → flat_map indexes_assigned (filter (λ p. not (is_nothing p)) parts) ≡ flat_map indexes_assigned parts
 indexes-kept [] = refl
 indexes-kept (p ∷ ps) = by_test (is_nothing p) refl (indexes-kept ps)
   where
@@ -66,10 +66,10 @@ indexes-kept (p ∷ ps) = by_test (is_nothing p) refl (indexes-kept ps)
     by_test true e rest = rest ∙ ap (λ l. l ++ flat_map indexes_assigned ps) (sym (indexes-nothing p e))
     by_test false e rest = ap (λ l. indexes_assigned p ++ l) rest
 
-pub indexes-first_part : (parts : List Flat) → indexes_assigned (first_part parts) ≡ flat_map indexes_assigned parts
+pub indexes-first_part : (parts : List DefBody) → indexes_assigned (first_part parts) ≡ flat_map indexes_assigned parts
 indexes-first_part parts = indexes-joined (filter (λ p. not (is_nothing p)) parts) ∙ indexes-kept parts
 
-pub indexes-branches : (test : FlatExpr) (left right : Flat) → indexes_assigned (branches test left right) ≡ indexes_assigned left ++ indexes_assigned right
+pub indexes-branches : (test : FlatExpr) (left right : DefBody) → indexes_assigned (branches test left right) ≡ indexes_assigned left ++ indexes_assigned right
 indexes-branches test left right = by_tests (is_nothing left) (is_nothing right) refl refl
   where
     by_tests : (b c : Bool) → is_nothing left ≡ b → is_nothing right ≡ c → indexes_assigned (cond (b && c) Nothing (If test left right)) ≡ indexes_assigned left ++ indexes_assigned right
@@ -77,7 +77,7 @@ indexes-branches test left right = by_tests (is_nothing left) (is_nothing right)
     by_tests true false h k = indexes-If test left right
     by_tests false c h k = indexes-If test left right
 
-pub indexes-each_value : (var : ℕ) (over : Simple) (body : Flat) → indexes_assigned (each_value var over body) ≡ indexes_assigned body
+pub indexes-each_value : (var : ℕ) (over : Simple) (body : DefBody) → indexes_assigned (each_value var over body) ≡ indexes_assigned body
 indexes-each_value var over body = by_test (is_nothing body) refl
   where
     by_test : (b : Bool) → is_nothing body ≡ b → indexes_assigned (cond b Nothing (Forall var over body)) ≡ indexes_assigned body
@@ -107,35 +107,35 @@ first-of-none None = refl
 first-of-none (Some vs) = refl
 
 module _ (n : Numbered) (s : FlatState) (x : FlatElement) (every : List Value) where
-  abbrev result : FlatBindings → Flat → Walk
+  abbrev result : FlatBindings → DefBody → Walk
   result b p = flat_result n s x every p b
 
-  results-row : (k : _) (row : Row_of-Flat k) (b : FlatBindings) → flat_results n s x every row b ≡ first (map (result b) (items-the_row-Flat k row))
-  results-row k end_of-Flat b = refl
-  results-row k (more_of-Flat part rest) b = ap (λ w. first_of (flat_result n s x every part b) w) (results-row _ rest b)
+  results-row : (k : _) (row : Row_of-DefBody k) (b : FlatBindings) → flat_results n s x every row b ≡ first (map (result b) (items-the_row-DefBody k row))
+  results-row k end_of-DefBody b = refl
+  results-row k (more_of-DefBody part rest) b = ap (λ w. first_of (flat_result n s x every part b) w) (results-row _ rest b)
 
-  result-First : (parts : List Flat) (b : FlatBindings) → flat_result n s x every (First parts) b ≡ first (map (result b) parts)
+  result-First : (parts : List DefBody) (b : FlatBindings) → flat_result n s x every (First parts) b ≡ first (map (result b) parts)
   result-First parts b =
-      let row : (k : Count) × Row_of-Flat k = rows_of (First parts) in
-      results-row row.0 row.1 b ∙ ap (λ l. first (map (result b) l)) (items_hidden-the_row-Flat-1 parts)
+      let row : (k : Count) × Row_of-DefBody k = rows_of (First parts) in
+      results-row row.0 row.1 b ∙ ap (λ l. first (map (result b) l)) (items_hidden-the_row-DefBody-1 parts)
 
-  result-If : (test : FlatExpr) (left right : Flat) (b : FlatBindings) → flat_result n s x every (If test left right) b ≡ if_walk every (truth (flat_outcome n s test b)) (flat_result n s x every left b) (flat_result n s x every right b)
+  result-If : (test : FlatExpr) (left right : DefBody) (b : FlatBindings) → flat_result n s x every (If test left right) b ≡ if_walk every (truth (flat_outcome n s test b)) (flat_result n s x every left b) (flat_result n s x every right b)
   unfolding boxes
   result-If test left right b = refl
 
-  result-Forall : (var : ℕ) (over : Simple) (body : Flat) (b : FlatBindings) → flat_result n s x every (Forall var over body) b ≡ first (map (λ v. flat_result n s x every body (bind b var v)) (values_in n over))
+  result-Forall : (var : ℕ) (over : Simple) (body : DefBody) (b : FlatBindings) → flat_result n s x every (Forall var over body) b ≡ first (map (λ v. flat_result n s x every body (bind b var v)) (values_in n over))
   unfolding boxes
   result-Forall var over body b = refl
 
-  result-joined : (parts : List Flat) (b : FlatBindings) → flat_result n s x every (joined parts) b ≡ first (map (result b) parts)
+  result-joined : (parts : List DefBody) (b : FlatBindings) → flat_result n s x every (joined parts) b ≡ first (map (result b) parts)
   result-joined [] b = refl
   result-joined (part ∷ []) b = sym (first-of-none (flat_result n s x every part b))
   result-joined (part ∷ other ∷ more) b = result-First (part ∷ other ∷ more) b
 
-  result-nothing : (p : Flat) → is_nothing p ≡ true → (b : FlatBindings) → flat_result n s x every p b ≡ None
+  result-nothing : (p : DefBody) → is_nothing p ≡ true → (b : FlatBindings) → flat_result n s x every p b ≡ None
   result-nothing p e b = ap (result b) (nothing-is p e)
 
-  result-kept : (parts : List Flat) (b : FlatBindings) → first (map (result b) (filter (λ p. not (is_nothing p)) parts)) ≡ first (map (result b) parts)
+  result-kept : (parts : List DefBody) (b : FlatBindings) → first (map (result b) (filter (λ p. not (is_nothing p)) parts)) ≡ first (map (result b) parts)
   result-kept [] b = refl
   result-kept (p ∷ ps) b = by_test (is_nothing p) refl (result-kept ps b)
     where
@@ -143,10 +143,10 @@ module _ (n : Numbered) (s : FlatState) (x : FlatElement) (every : List Value) w
       by_test true e rest = rest ∙ ap (λ w. first_of w (first (map (result b) ps))) (sym (result-nothing p e b))
       by_test false e rest = ap (λ w. first_of (result b p) w) rest
 
-  pub result-first_part : (parts : List Flat) (b : FlatBindings) → flat_result n s x every (first_part parts) b ≡ first (map (result b) parts)
+  pub result-first_part : (parts : List DefBody) (b : FlatBindings) → flat_result n s x every (first_part parts) b ≡ first (map (result b) parts)
   result-first_part parts b = result-joined (filter (λ p. not (is_nothing p)) parts) b ∙ result-kept parts b
 
-  pub result-branches : (test : FlatExpr) (left right : Flat) (b : FlatBindings) →
+  pub result-branches : (test : FlatExpr) (left right : DefBody) (b : FlatBindings) →
       flat_result n s x every (branches test left right) b ≡ if_walk every (truth (flat_outcome n s test b)) (flat_result n s x every left b) (flat_result n s x every right b)
   result-branches test left right b = by_tests (is_nothing left) (is_nothing right) refl refl
     where
@@ -156,7 +156,7 @@ module _ (n : Numbered) (s : FlatState) (x : FlatElement) (every : List Value) w
       by_tests true false h k = result-If test left right b
       by_tests false d h k = result-If test left right b
 
-  pub result-each_value : (var : ℕ) (over : Simple) (body : Flat) (b : FlatBindings) →
+  pub result-each_value : (var : ℕ) (over : Simple) (body : DefBody) (b : FlatBindings) →
       flat_result n s x every (each_value var over body) b ≡ first (map (λ v. flat_result n s x every body (bind b var v)) (values_in n over))
   result-each_value var over body b = by_test (is_nothing body) refl
     where

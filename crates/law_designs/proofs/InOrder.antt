@@ -3,12 +3,12 @@ use Rattle.std.proofs.Common.{◌≡◌, ℕ, zero, suc, ◌+◌, ◌<◌, ◌�
 use Rattle.std.specs.List.{flat_map, list_all}
 use Rattle.smv_core.specs.Values.{numbers_from}
 use Rattle.smv_core.specs.declared.flat.Def.{Def}
-use Rattle.smv_core.specs.declared.flat.Raw.{Raw}
+use Rattle.smv_core.specs.declared.flat.FlatText.{FlatText}
 use Rattle.smv_core.specs.declared.flat.FlatItem.{FlatItem}
 use Rattle.smv_core.specs.declared.flat.FlatItem.TheVariants as item
 use Rattle.law_designs.specs.Flattening.{different}
 use Rattle.law_designs.specs.Standing.{count, statements_from, statements_of, Standing, assigned_by}
-use Rattle.law_designs.specs.Definitions.{Head, head, heads_of, same_definition, first_heads, def_of, design_of_raw}
+use Rattle.law_designs.specs.Definitions.{Head, head, heads_of, same_definition, first_heads, def_of, design_of_flat_text}
 use Rattle.law_designs.specs.Laws.{AreInOrder}
 
 -- the places go up, the first from a number on
@@ -47,17 +47,17 @@ different-up k (h ∷ hs) a = (a.0, filter-up (λ g. not (same_definition h g)) 
 below : (j k p : ℕ) → j < k → k ≤ p → nat_lt j p ≡ true
 below j k p lt le = grind arith
 
-module _ (raw : Raw) where
-  all-above : (j k : ℕ) (hs : List Head) → j < k → Ascending k hs → list_all (λ (other : Def). nat_lt j other.place) (map (def_of raw) hs) ≡ true
+module _ (flat_text : FlatText) where
+  all-above : (j k : ℕ) (hs : List Head) → j < k → Ascending k hs → list_all (λ (other : Def). nat_lt j other.place) (map (def_of flat_text) hs) ≡ true
   all-above j k [] lt a = refl
   all-above j k (h ∷ hs) lt a = both (nat_lt j h.place) _ (below j k h.place lt a.0) (all-above j (suc h.place) hs (omega (arith, lt, a.0)) a.1)
     where
       both : (b c : Bool) → b ≡ true → c ≡ true → (b && c) ≡ true
       both b c e f = rw (e, f) refl
 
-  defs-up : (k : ℕ) (hs : List Head) → Ascending k hs → AreInOrder (map (def_of raw) hs)
+  defs-up : (k : ℕ) (hs : List Head) → Ascending k hs → AreInOrder (map (def_of flat_text) hs)
   defs-up k [] a = tt
   defs-up k (h ∷ hs) a = (all-above h.place (suc h.place) hs (omega arith) a.1, defs-up (suc h.place) hs a.1)
 
-  pub in_order : AreInOrder (design_of_raw raw).defs
-  in_order = defs-up 0 (first_heads raw) (different-up 0 (flat_map heads_of (statements_of raw)) (statements-up 0 raw.items))
+  pub in_order : AreInOrder (design_of_flat_text flat_text).defs
+  in_order = defs-up 0 (first_heads flat_text) (different-up 0 (flat_map heads_of (statements_of flat_text)) (statements-up 0 flat_text.items))

@@ -1,7 +1,7 @@
 -- A recursion through instances, which a number bounds: past the number of modules it is the same.
 use Rattle.std.proofs.Common.{◌≡◌, ℕ, zero, suc, ◌+◌, ◌<◌, ◌≤◌, List, [], ◌∷◌, length, Bool, true, false, ◌⊎◌, inl, inr, refl, sym, subst, ◌∙◌, arith}
 use Rattle.smv_core.specs.Values.{Name, Path}
-use Rattle.smv_instances.specs.Scopes.{Piece}
+use Rattle.smv_mentions.specs.Scopes.{Piece}
 use Rattle.law_designs.proofs.Lists.{IsAmong, without, without-fewer, among-without}
 use Rattle.law_designs.proofs.Chains.{uses, Leads, leads-next, leads-first}
 

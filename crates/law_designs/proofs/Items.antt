@@ -7,8 +7,8 @@ use Rattle.smv_core.specs.FlatOrder.{Body, Met, said, connections, body_of, fami
 use Rattle.smv_core.specs.declared.tree.Word.{Word}
 use Rattle.smv_core.specs.declared.tree.Expr.{Expr}
 use Rattle.smv_core.specs.declared.tree.Item.{Item, Declare, Instance, Layer, Forall', Block', Claim, Split, Using, Act, Row_of-Item, end_of-Item, more_of-Item}
-use Rattle.smv_instances.specs.Mentions.{Mention, declares, binds, follows, names_type, lists_constants, has_fields, instantiates, declared_as, in_item, in_items, in_type, in_expr, binder_in, instance}
-use Rattle.smv_instances.specs.NameFaults.{used_in}
+use Rattle.smv_mentions.specs.Mentions.{Mention, declares, binds, follows, names_type, lists_constants, has_fields, instantiates, declared_as, in_item, in_items, in_type, in_expr, binder_in, instance}
+use Rattle.smv_mentions.specs.NameFaults.{used_in}
 use Rattle.law_designs.specs.Entries as flat
 use Rattle.law_designs.specs.Entries.{Entry, statement, inside_binder, placed_of_item, instance_entries, item_entries, items_entries}
 use Rattle.law_designs.proofs.Lists.{IsAmong, among-front, among-behind}

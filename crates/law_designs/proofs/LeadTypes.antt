@@ -12,8 +12,8 @@ use Rattle.smv_core.specs.Walk.{indexes_of}
 use Rattle.smv_core.specs.declared.tree.Word.{Word}
 use Rattle.smv_core.specs.declared.tree.Part.{Part, Field, At}
 use Rattle.smv_core.specs.declared.tree.TypeExpr.{TypeExpr, Boolean, Range, Enum, Named, Array', Struct', end_of-TypeExpr, more_of-TypeExpr, Row_of-Field, end_of-Field, more_of-Field}
-use Rattle.smv_instances.specs.Mentions.{What, signal, instance, goal}
-use Rattle.smv_instances.specs.Scopes.{Own, has_name}
+use Rattle.smv_mentions.specs.Mentions.{What, signal, instance, goal}
+use Rattle.smv_mentions.specs.Scopes.{Own, has_name}
 use Rattle.law_designs.specs.Kinds.{Kind, number, enumeration, set_type}
 use Rattle.law_designs.specs.Types.{Whole, Leads, single, under, value_kind, Types, leads, leads_field, index_kind, is_index, index_faults, type_faults, field_faults}
 use Rattle.law_designs.specs.References.{Module}

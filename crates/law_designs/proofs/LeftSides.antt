@@ -23,11 +23,11 @@ use Rattle.smv_core.specs.declared.tree.Stmt.{Stmt, Assign, Block', If', Switch'
 use Rattle.smv_core.specs.declared.tree.Stmt as stmt
 use Rattle.smv_core.specs.declared.tree.Item.{Item, Declare, Instance, Layer, Claim, Split, Using, Act, Row_of-Item, end_of-Item, more_of-Item}
 use Rattle.smv_core.specs.declared.tree.Item as item
-use Rattle.smv_instances.specs.Mentions.{What, signal}
-use Rattle.smv_instances.specs.Mentions as mentions
-use Rattle.smv_instances.specs.Scopes.{Own, Constant, constants, pieces}
-use Rattle.smv_instances.specs.NameFaults.{is_port, is_port_if_own}
-use Rattle.smv_instances.proofs.Computing.{computing}
+use Rattle.smv_mentions.specs.Mentions.{What, signal}
+use Rattle.smv_mentions.specs.Mentions as mentions
+use Rattle.smv_mentions.specs.Scopes.{Own, Constant, constants, pieces}
+use Rattle.smv_mentions.specs.NameFaults.{is_port, is_port_if_own}
+use Rattle.smv_mentions.proofs.Computing.{computing}
 use Rattle.law_designs.specs.Kinds.{Kind, number, Operand, takes, takes_number, alike}
 use Rattle.law_designs.specs.Types.{Whole, leads, value_kind, index_faults}
 use Rattle.law_designs.specs.References as kinds

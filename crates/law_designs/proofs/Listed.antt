@@ -6,10 +6,10 @@ use Rattle.smv_core.specs.Types.{find_name, names_of}
 use Rattle.smv_core.specs.Outcome.{same_path}
 use Rattle.smv_core.specs.declared.tree.Word.{Word}
 use Rattle.smv_core.specs.declared.tree.Text.{Text}
-use Rattle.smv_instances.specs.Mentions.{Mention, declares, binds, follows, names_type, lists_constants, has_fields, instantiates}
-use Rattle.smv_instances.specs.Scopes.{Piece, Constant, Scope, constants, pieces, scope_of}
-use Rattle.smv_instances.specs.NameFaults.{is_of_other_list, places_of, repeated, declared_words, doubled, doubled_in, formals_of, undeclared_in, without_main, recursive_in, miscounted_in}
-use Rattle.smv_instances.specs.FirstFault.{first_of, faults_at, faults_of_names, fault_of_size, first_fault}
+use Rattle.smv_mentions.specs.Mentions.{Mention, declares, binds, follows, names_type, lists_constants, has_fields, instantiates}
+use Rattle.smv_mentions.specs.Scopes.{Piece, Constant, Scope, constants, pieces, scope_of}
+use Rattle.smv_mentions.specs.NameFaults.{is_of_other_list, places_of, repeated, declared_words, doubled, doubled_in, formals_of, undeclared_in, without_main, recursive_in, miscounted_in}
+use Rattle.smv_mentions.specs.FirstFault.{first_of, faults_at, faults_of_names, fault_of_size, first_fault}
 use Rattle.law_designs.specs.Kinds.{enumeration}
 use Rattle.law_designs.proofs.TypeNumbers.{paths-decide}
 use Rattle.law_designs.proofs.Faultless.{empty-both, empty-three, empty-each, each-more, no_fault-in, none-first, no_places}

@@ -10,10 +10,10 @@ use Rattle.smv_core.specs.FlatOrder as order
 use Rattle.smv_core.specs.declared.tree.Word.{Word}
 use Rattle.smv_core.specs.declared.tree.Top.{Top}
 use Rattle.smv_core.specs.declared.tree.Top.TheVariants.{SetType, Alias, Module as ModuleOf}
-use Rattle.smv_instances.specs.Mentions as mentions
-use Rattle.smv_instances.specs.Mentions.{Mention, declares, binds, follows, names_type, lists_constants, has_fields, instantiates}
-use Rattle.smv_instances.specs.Scopes.{Known, Piece, Constant, Own, Scope, constant_at, constants as constants_of, piece_of, known_after, pieces_from, scope_of}
-use Rattle.smv_instances.specs.NameFaults.{later, own_at, repeated, declared_words, doubled, doubled_in, is_port_if_own, formal_undeclared, formals_of, undeclared, undeclared_in}
+use Rattle.smv_mentions.specs.Mentions as mentions
+use Rattle.smv_mentions.specs.Mentions.{Mention, declares, binds, follows, names_type, lists_constants, has_fields, instantiates}
+use Rattle.smv_mentions.specs.Scopes.{Known, Piece, Constant, Own, Scope, constant_at, constants as constants_of, piece_of, known_after, pieces_from, scope_of}
+use Rattle.smv_mentions.specs.NameFaults.{later, own_at, repeated, declared_words, doubled, doubled_in, is_port_if_own, formal_undeclared, formals_of, undeclared, undeclared_in}
 use Rattle.law_designs.specs.Kinds.{set_type}
 use Rattle.law_designs.specs.Types.{single, Types, leads, types_after}
 use Rattle.law_designs.specs.References.{Module, module_of, modules_from}

@@ -3,7 +3,7 @@ use Rattle.std.proofs.Common.{◌≡◌, [], All, Option, Some, None}
 use Rattle.smv_core.specs.Values.{Simple, Sizes}
 use Rattle.smv_core.specs.Types.{Family, simple}
 use Rattle.smv_core.specs.FlatOrder.{design_of}
-use Rattle.smv_core.specs.Flat.{Numbered, simple_in}
+use Rattle.smv_core.specs.FlatMeaning.{Numbered, simple_in}
 use Rattle.smv_core.specs.declared.tree.TypeExpr.{TypeExpr}
 use Rattle.smv_core.specs.declared.tree.Text.{Text}
 use Rattle.law_designs.specs.Numbers.{Scope, flat_simple}

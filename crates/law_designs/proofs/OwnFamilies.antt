@@ -17,10 +17,10 @@ use Rattle.smv_core.specs.declared.tree.Part.{Part, Field, At}
 use Rattle.smv_core.specs.declared.tree.Expr.{Expr}
 use Rattle.smv_core.specs.declared.tree.Item.{Item, Declare, Instance, Layer, Claim, Split, Using, Act}
 use Rattle.smv_core.specs.declared.tree.Item as item
-use Rattle.smv_instances.specs.Mentions as mentions
-use Rattle.smv_instances.specs.Mentions.{What, signal, instance, goal, in_type, in_expr, in_stmt, instantiates}
-use Rattle.smv_instances.specs.Scopes.{Own, own_names}
-use Rattle.smv_instances.specs.NameFaults.{place_if}
+use Rattle.smv_mentions.specs.Mentions as mentions
+use Rattle.smv_mentions.specs.Mentions.{What, signal, instance, goal, in_type, in_expr, in_stmt, instantiates}
+use Rattle.smv_mentions.specs.Scopes.{Own, own_names}
+use Rattle.smv_mentions.specs.NameFaults.{place_if}
 use Rattle.law_designs.specs.Types.{Whole, leads, type_faults}
 use Rattle.law_designs.specs.References as kinds
 use Rattle.law_designs.specs.References.{behind}

@@ -15,8 +15,8 @@ use Rattle.smv_core.specs.declared.tree.Stmt as stmt
 use Rattle.smv_core.specs.declared.tree.Item.{Item, Declare, Instance, Layer, Claim, Split, Using, Act, Row_of-Item, end_of-Item, more_of-Item}
 use Rattle.smv_core.specs.declared.tree.Item as item
 use Rattle.smv_core.specs.declared.tree.Pair.{Pair}
-use Rattle.smv_instances.specs.Mentions.{What, goal, Mention, declares, binds, follows, names_type, lists_constants, has_fields, instantiates, path_in, in_type, in_fields, in_expr, in_row, in_parts, in_sum, in_members, in_held, in_part, in_path, in_stmt, in_block, in_branch, in_arms, declared_as, in_item, in_items}
-use Rattle.smv_instances.specs.Scopes.{Own, own_names}
+use Rattle.smv_mentions.specs.Mentions.{What, goal, Mention, declares, binds, follows, names_type, lists_constants, has_fields, instantiates, path_in, in_type, in_fields, in_expr, in_row, in_parts, in_sum, in_members, in_held, in_part, in_path, in_stmt, in_block, in_branch, in_arms, declared_as, in_item, in_items}
+use Rattle.smv_mentions.specs.Scopes.{Own, own_names}
 use Rattle.law_designs.specs.Written.{InnerIsWritten, InnersAreWritten}
 use Rattle.law_designs.proofs.Faultless.{each-append}
 use Rattle.law_designs.proofs.LeadTypes.{some-same}

@@ -5,9 +5,9 @@ use Rattle.std.specs.List.{AllByRecursion}
 use Rattle.smv_core.specs.Types.{types_from}
 use Rattle.smv_core.specs.FlatOrder.{modules, main, families_in}
 use Rattle.smv_core.specs.declared.tree.Text.{Text}
-use Rattle.smv_instances.specs.Scopes.{Piece, constants, pieces}
-use Rattle.smv_instances.specs.NameFaults.{repeated, undeclared_in, doubled_in, without_main, recursive_in, miscounted_in}
-use Rattle.smv_instances.specs.FirstFault.{first_of, faults_at, faults_of_names, fault_of_size, first_fault}
+use Rattle.smv_mentions.specs.Scopes.{Piece, constants, pieces}
+use Rattle.smv_mentions.specs.NameFaults.{repeated, undeclared_in, doubled_in, without_main, recursive_in, miscounted_in}
+use Rattle.smv_mentions.specs.FirstFault.{first_of, faults_at, faults_of_names, fault_of_size, first_fault}
 use Rattle.law_designs.specs.References.{modules_from}
 use Rattle.law_designs.specs.KindFaults.{faults_of_kinds, first_fault_of_kinds}
 use Rattle.law_designs.specs.Entries.{entries}

@@ -17,7 +17,7 @@ use Rattle.law_designs.specs.Numbers.{family_number}
 use Rattle.law_designs.specs.Statements.{flat_stmt}
 use Rattle.law_designs.specs.Entries.{claim, split, using, Entry, layer, statement, goal, entries}
 use Rattle.law_designs.specs.Flattening.{FlatAssigned, flat_assignments, scope_in, flatten, flat_entry, with_places, layers_of, layer_number}
-use Rattle.law_designs.specs.RawAllowed.{flat_concerns}
+use Rattle.law_designs.specs.FlatTextAllowed.{flat_concerns}
 use Rattle.law_designs.specs.SameActs.{layered_acts, IsSameAct}
 use Rattle.law_designs.proofs.SameFamilies.{families-same}
 use Rattle.law_designs.proofs.SameConcerns.{concerned-same}

@@ -9,7 +9,7 @@ use Rattle.smv_core.specs.Allowed.{scene_at}
 use Rattle.smv_core.specs.Sound.{bound}
 use Rattle.smv_core.specs.Assignments.{Around, any}
 use Rattle.smv_core.specs.Conflicts.{Agrees}
-use Rattle.smv_core.specs.Flat.{FlatState, flat_outcome, values_in}
+use Rattle.smv_core.specs.FlatMeaning.{FlatState, flat_outcome, values_in}
 use Rattle.smv_core.specs.declared.tree.Word.{Word}
 use Rattle.smv_core.specs.declared.tree.Text.{Text}
 use Rattle.smv_core.specs.declared.tree.Expr.{Expr}

@@ -9,7 +9,7 @@ use Rattle.smv_core.specs.Outcome.{fields_of, family_at, same_path}
 use Rattle.smv_core.specs.Walk.{Element, same_kind, indexes_of, steps_of}
 use Rattle.smv_core.specs.Allowed.{is_layer, said_in, assignments_in, is_concerned}
 use Rattle.smv_core.specs.Assignments.{Around, loop, any, index_of, fits, Assigned, assignments, assignments_of, assignments_held, assignments_arms, concerns}
-use Rattle.smv_core.specs.Flat.{FlatElement, flat_index}
+use Rattle.smv_core.specs.FlatMeaning.{FlatElement, flat_index}
 use Rattle.smv_core.specs.declared.tree.Kind.{Kind}
 use Rattle.smv_core.specs.declared.tree.Text.{Text}
 use Rattle.smv_core.specs.declared.tree.Path.{out-Path}
@@ -26,7 +26,7 @@ use Rattle.law_designs.specs.Entries.{claim, split, using, Entry, layer, stateme
 use Rattle.law_designs.specs.Flattening.{flat_assignments, flat_assignments_in, scope_in, flatten, flat_entry, layers_of, layer_number}
 use Rattle.law_designs.specs.Agreement.{flat_element}
 use Rattle.law_designs.specs.WholeText.{is_one_layer, acts_of}
-use Rattle.law_designs.specs.RawAllowed.{flat_concerns}
+use Rattle.law_designs.specs.FlatTextAllowed.{flat_concerns}
 use Rattle.law_designs.proofs.FlatLists.{boxes}
 use Rattle.law_designs.proofs.Lookups.{any-flat_map}
 use Rattle.law_designs.proofs.SameWalks.{number-same}

@@ -3,7 +3,7 @@ use Rattle.std.proofs.Common.{◌≡◌, ℕ, zero, suc, List, [], ◌∷◌, �
 use Rattle.std.specs.List.{AllZip}
 use Rattle.std.proofs.lemmas.List.{map-append}
 use Rattle.smv_core.specs.Values.{Name, Path, Simple, Sizes}
-use Rattle.smv_core.specs.Flat.{simple_in}
+use Rattle.smv_core.specs.FlatMeaning.{simple_in}
 use Rattle.smv_core.specs.Types.{Types, Family, shape_of, types_from}
 use Rattle.smv_core.specs.FlatOrder.{Body, families_of_item, families_in, body_of, modules, main, declared_as, design_of}
 use Rattle.smv_core.specs.declared.tree.Text.{Text}

@@ -5,7 +5,7 @@ use Rattle.smv_core.specs.Values.{Name, Path, Value, number, Outcome, same, add,
 use Rattle.smv_core.specs.Types.{Family}
 use Rattle.smv_core.specs.Outcome.{fields_of, family_at}
 use Rattle.smv_core.specs.Assignments.{Around, loop, any, Index, fixed, bare, computed, index_of, index_of_name, index_of_path, index_of_sum, add_fixed, modulo_fixed, fits}
-use Rattle.smv_core.specs.Flat.{flat_index, flat_index_sum}
+use Rattle.smv_core.specs.FlatMeaning.{flat_index, flat_index_sum}
 use Rattle.smv_core.specs.declared.tree.Expr.{Expr, Number, Signal', Not', And', Or', Implies', Iff', Compare', Within', Sum', Modulo', Choose', All', Any', List', Each', None', Some', Row_of-Signed, end_of-Signed, more_of-Signed, end_of-Expr, more_of-Expr, items-the_row-Part}
 use Rattle.smv_core.specs.declared.flat.FlatExpr.{FlatExpr, Loop, Var, Modulo, Sum, Sum', Row_of-FlatSigned, end_of-FlatSigned, more_of-FlatSigned, items-the_row-FlatSigned, items_hidden-the_row-FlatSigned-2}
 use Rattle.smv_core.specs.declared.flat.FlatSigned.{FlatSigned, out-FlatSigned}

@@ -6,7 +6,7 @@ use Rattle.smv_core.specs.Types.{Types, Family, values_over}
 use Rattle.smv_core.specs.Outcome.{State, Bindings, Scene, outcome, truths, indexes, sum_with, listed, members_of, branch, fields_of, family_at, is_true, fit, allowed_by}
 use Rattle.smv_core.specs.Assignments.{Around, loop, any}
 use Rattle.smv_core.specs.Conflicts.{Agrees}
-use Rattle.smv_core.specs.Flat.{Numbered, FlatState, FlatBindings, bind, values_in, flat_outcome, flat_listed, flat_allowed_by}
+use Rattle.smv_core.specs.FlatMeaning.{Numbered, FlatState, FlatBindings, bind, values_in, flat_outcome, flat_listed, flat_allowed_by}
 use Rattle.smv_core.specs.declared.tree.Op.{Op}
 use Rattle.smv_core.specs.declared.tree.TypeExpr.{TypeExpr}
 use Rattle.smv_core.specs.declared.tree.Part.{Field, At}

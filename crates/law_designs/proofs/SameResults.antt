@@ -4,20 +4,20 @@ use Rattle.std.specs.List.{flat_map, list_any, list_all}
 use Rattle.smv_core.specs.Values.{Name, Value, Sizes, truth}
 use Rattle.smv_core.specs.Walk.{Walk, first, first_of, if_walk, same_kind}
 use Rattle.smv_core.specs.Assignments.{Index, fits}
-use Rattle.smv_core.specs.Flat.{Numbered, FlatState, FlatBindings, FlatElement, bind, values_in, flat_outcome, flat_assigned, flat_index, flat_walk, flat_walks, flat_result, indexes_assigned, is_concerned_by, flat_kept, flat_stepped, flat_allowed}
+use Rattle.smv_core.specs.FlatMeaning.{Numbered, FlatState, FlatBindings, FlatElement, bind, values_in, flat_outcome, flat_assigned, flat_index, flat_walk, flat_walks, flat_result, indexes_assigned, is_concerned_by, flat_kept, flat_stepped, flat_allowed}
 use Rattle.smv_core.specs.declared.tree.Kind.{Kind}
 use Rattle.smv_core.specs.declared.tree.Kind.TheVariants.{Comb, Init, Next}
 use Rattle.smv_core.specs.declared.flat.FlatStmt.{FlatStmt, Assign, If', Block', Default', Forall', Row_of-FlatStmt, end_of-FlatStmt, more_of-FlatStmt}
-use Rattle.smv_core.specs.declared.flat.Flat.{Flat, Nothing}
-use Rattle.smv_core.specs.declared.flat.Flat as flat
+use Rattle.smv_core.specs.declared.flat.DefBody.{DefBody, Nothing}
+use Rattle.smv_core.specs.declared.flat.DefBody as flat
 use Rattle.smv_core.specs.declared.flat.Def.{Def}
-use Rattle.smv_core.specs.declared.flat.Raw.{Raw}
+use Rattle.smv_core.specs.declared.flat.FlatText.{FlatText}
 use Rattle.smv_core.specs.declared.flat.FlatItem.{FlatItem}
 use Rattle.smv_core.specs.declared.flat.FlatItem.TheVariants as item
 use Rattle.law_designs.specs.Flattening.{flat_assignments, flat_assignments_in, layer_number}
 use Rattle.law_designs.specs.Agreement.{numbers_of}
-use Rattle.law_designs.specs.WholeText.{is_one_layer, acts_of, raw_walk}
-use Rattle.law_designs.specs.RawAllowed.{flat_concerns, raw_is_concerned, raw_kept, raw_stepped, raw_allowed}
+use Rattle.law_designs.specs.WholeText.{is_one_layer, acts_of, flat_text_walk}
+use Rattle.law_designs.specs.FlatTextAllowed.{flat_concerns, flat_text_is_concerned, flat_text_kept, flat_text_stepped, flat_text_allowed}
 use Rattle.law_designs.specs.Standing.{count, Statement, statements_from}
 use Rattle.law_designs.specs.Definitions.{flat_of, flats_of, part_of, set_of, Head, def_of}
 use Rattle.law_designs.proofs.FlatParts.{first-same, indexes-first_part, indexes-branches, indexes-each_value, result-first_part, result-branches, result-each_value}
@@ -98,15 +98,15 @@ module _ (x : FlatElement) (kind : Kind) where
     pub concerned-same : (k : ℕ) (act : FlatStmt) → is_concerned_by (flat_of kind x.family k act) x ≡ concerned act
     concerned-same k (Assign which other left value at) = one-concerned (same_kind which kind) (nat_eq other x.family) left value k at
     concerned-same k (If' test l (more_of-FlatStmt left end_of-FlatStmt) r (more_of-FlatStmt right end_of-FlatStmt)) =
-        let p : Flat = flat_of kind x.family k left in
-        let q : Flat = flat_of kind x.family (k + count left) right in
+        let p : DefBody = flat_of kind x.family k left in
+        let q : DefBody = flat_of kind x.family (k + count left) right in
         ap (list_any fit) (indexes-branches test p q) ∙ any-append fit (indexes_assigned p) (indexes_assigned q)
         ∙ or-same _ _ (concerned left) (concerned right) (concerned-same k left) (concerned-same (k + count left) right)
         ∙ sym (any-append (flat_concerns kind x) (flat_assignments left) (flat_assignments right))
     concerned-same k (Block' shape parts) = ap (list_any fit) (indexes-first_part (flats_of kind x.family k parts)) ∙ all-concerned k parts
     concerned-same k (Default' l (more_of-FlatStmt left end_of-FlatStmt) r (more_of-FlatStmt right end_of-FlatStmt)) =
-        let p : Flat = flat_of kind x.family k left in
-        let q : Flat = flat_of kind x.family (k + count left) right in
+        let p : DefBody = flat_of kind x.family k left in
+        let q : DefBody = flat_of kind x.family (k + count left) right in
         ap (list_any fit) (indexes-first_part (q ∷ p ∷ [])) ∙ any-append fit (indexes_assigned q) (indexes_assigned p ++ [])
         ∙ or-same _ _ (concerned right) (concerned left) (concerned-same (k + count left) right) (any-append fit (indexes_assigned p) [] ∙ or-false (list_any fit (indexes_assigned p)) ∙ concerned-same k left)
         ∙ or-turned (concerned right) (concerned left)
@@ -161,41 +161,41 @@ cond-same a b u v w x h k l = rw (h, k, l) refl
 or_every-same : (every vs ws : List Value) (u v : Walk) → u ≡ v → vs ≡ ws → unwrap_or u vs ≡ unwrap_or v ws
 or_every-same every vs ws u v h k = rw (h, k) refl
 
-module _ (raw : Raw) (sizes : Sizes) (layer : Option Name) (x : FlatElement) (every : List Value) where
+module _ (flat_text : FlatText) (sizes : Sizes) (layer : Option Name) (x : FlatElement) (every : List Value) where
   abbrev n : Numbered
-  n = numbers_of raw sizes
+  n = numbers_of flat_text sizes
 
   abbrev number : Option ℕ
-  number = option_map (layer_number raw.layers) layer
+  number = option_map (layer_number flat_text.layers) layer
 
-  pub part-walk : (kind : Kind) (s : FlatState) → flat_result n s x every (part_of kind x.family (set_of raw number)) [] ≡ raw_walk raw sizes s layer x every kind
-  part-walk kind s = part-result n x every kind s (set_of raw number) ∙ ap (λ l. first (map (λ act. flat_walk n s x every kind act []) l)) (set-acts number 0 raw.items)
+  pub part-walk : (kind : Kind) (s : FlatState) → flat_result n s x every (part_of kind x.family (set_of flat_text number)) [] ≡ flat_text_walk flat_text sizes s layer x every kind
+  part-walk kind s = part-result n x every kind s (set_of flat_text number) ∙ ap (λ l. first (map (λ act. flat_walk n s x every kind act []) l)) (set-acts number 0 flat_text.items)
 
-  pub part-concerns : (kind : Kind) → is_concerned_by (part_of kind x.family (set_of raw number)) x ≡ raw_is_concerned raw sizes layer x every kind
-  part-concerns kind = part-concerned n x every kind (set_of raw number) ∙ ap (list_any (λ act. list_any (flat_concerns kind x) (flat_assignments act))) (set-acts number 0 raw.items)
+  pub part-concerns : (kind : Kind) → is_concerned_by (part_of kind x.family (set_of flat_text number)) x ≡ flat_text_is_concerned flat_text sizes layer x every kind
+  part-concerns kind = part-concerned n x every kind (set_of flat_text number) ∙ ap (list_any (λ act. list_any (flat_concerns kind x) (flat_assignments act))) (set-acts number 0 flat_text.items)
 
   module _ (head : Head) where
     abbrev def : Def
-    def = def_of raw head
+    def = def_of flat_text head
 
-    kept-same : number ≡ head.layer → x.family ≡ head.family → (old : FlatState) → flat_kept n def x every old ≡ raw_kept raw sizes layer x every old
+    kept-same : number ≡ head.layer → x.family ≡ head.family → (old : FlatState) → flat_kept n def x every old ≡ flat_text_kept flat_text sizes layer x every old
     kept-same h k old =
-        cond-same _ (raw_is_concerned raw sizes layer x every Next) (old x.family x.indexes ∷ []) (old x.family x.indexes ∷ []) every every
-        (ap (λ l. is_concerned_by (part_of Next head.family (set_of raw l)) x) (sym h) ∙ ap (λ f. is_concerned_by (part_of Next f (set_of raw number)) x) (sym k) ∙ part-concerns Next) refl refl
+        cond-same _ (flat_text_is_concerned flat_text sizes layer x every Next) (old x.family x.indexes ∷ []) (old x.family x.indexes ∷ []) every every
+        (ap (λ l. is_concerned_by (part_of Next head.family (set_of flat_text l)) x) (sym h) ∙ ap (λ f. is_concerned_by (part_of Next f (set_of flat_text number)) x) (sym k) ∙ part-concerns Next) refl refl
 
-    result-is : number ≡ head.layer → x.family ≡ head.family → (kind : Kind) (s : FlatState) → flat_result n s x every (part_of kind head.family (set_of raw head.layer)) [] ≡ raw_walk raw sizes s layer x every kind
+    result-is : number ≡ head.layer → x.family ≡ head.family → (kind : Kind) (s : FlatState) → flat_result n s x every (part_of kind head.family (set_of flat_text head.layer)) [] ≡ flat_text_walk flat_text sizes s layer x every kind
     result-is h k kind s =
-        ap (λ l. flat_result n s x every (part_of kind head.family (set_of raw l)) []) (sym h) ∙ ap (λ f. flat_result n s x every (part_of kind f (set_of raw number)) []) (sym k) ∙ part-walk kind s
+        ap (λ l. flat_result n s x every (part_of kind head.family (set_of flat_text l)) []) (sym h) ∙ ap (λ f. flat_result n s x every (part_of kind f (set_of flat_text number)) []) (sym k) ∙ part-walk kind s
 
-    stepped-same : number ≡ head.layer → x.family ≡ head.family → (before : Option FlatState) (now : FlatState) → flat_stepped n def x every before now ≡ raw_stepped raw sizes layer x every before now
-    stepped-same h k None now = or_every-same every every every _ (raw_walk raw sizes now layer x every Init) (result-is h k Init now) refl
-    stepped-same h k (Some old) now = or_every-same every _ (raw_kept raw sizes layer x every old) _ (raw_walk raw sizes old layer x every Next) (result-is h k Next old) (kept-same h k old)
+    stepped-same : number ≡ head.layer → x.family ≡ head.family → (before : Option FlatState) (now : FlatState) → flat_stepped n def x every before now ≡ flat_text_stepped flat_text sizes layer x every before now
+    stepped-same h k None now = or_every-same every every every _ (flat_text_walk flat_text sizes now layer x every Init) (result-is h k Init now) refl
+    stepped-same h k (Some old) now = or_every-same every _ (flat_text_kept flat_text sizes layer x every old) _ (flat_text_walk flat_text sizes old layer x every Next) (result-is h k Next old) (kept-same h k old)
 
-    pub allowed-same : number ≡ head.layer → x.family ≡ head.family → (before : Option FlatState) (now : FlatState) → flat_allowed n def x every before now ≡ raw_allowed raw sizes layer x every before now
+    pub allowed-same : number ≡ head.layer → x.family ≡ head.family → (before : Option FlatState) (now : FlatState) → flat_allowed n def x every before now ≡ flat_text_allowed flat_text sizes layer x every before now
     allowed-same h k before now =
-        cond-same _ (raw_is_concerned raw sizes layer x every Comb) _ (unwrap_or (raw_walk raw sizes now layer x every Comb) every) _ (raw_stepped raw sizes layer x every before now)
-        (ap (λ l. is_concerned_by (part_of Comb head.family (set_of raw l)) x) (sym h) ∙ ap (λ f. is_concerned_by (part_of Comb f (set_of raw number)) x) (sym k) ∙ part-concerns Comb)
-        (or_every-same every every every _ (raw_walk raw sizes now layer x every Comb) (result-is h k Comb now) refl) (stepped-same h k before now)
+        cond-same _ (flat_text_is_concerned flat_text sizes layer x every Comb) _ (unwrap_or (flat_text_walk flat_text sizes now layer x every Comb) every) _ (flat_text_stepped flat_text sizes layer x every before now)
+        (ap (λ l. is_concerned_by (part_of Comb head.family (set_of flat_text l)) x) (sym h) ∙ ap (λ f. is_concerned_by (part_of Comb f (set_of flat_text number)) x) (sym k) ∙ part-concerns Comb)
+        (or_every-same every every every _ (flat_text_walk flat_text sizes now layer x every Comb) (result-is h k Comb now) refl) (stepped-same h k before now)
 
 -- so it is for each definition that is made of a list of first assignments
 pub all-map : {X Y : Type 0} (f : X → Y) (P : Y → Type 0) → ((x : X) → P (f x)) → (xs : List X) → All P (map f xs)

@@ -6,7 +6,7 @@ use Rattle.smv_core.specs.FlatOrder.{Met, said, claimed, Said, design_of}
 use Rattle.smv_core.specs.Outcome.{State, family_at}
 use Rattle.smv_core.specs.Walk.{Element, Walk, walk, first}
 use Rattle.smv_core.specs.Allowed.{scene_at, is_layer, said_in, definition_set}
-use Rattle.smv_core.specs.Flat.{FlatState, FlatElement, flat_walk}
+use Rattle.smv_core.specs.FlatMeaning.{FlatState, FlatElement, flat_walk}
 use Rattle.smv_core.specs.declared.tree.Kind.{Kind}
 use Rattle.smv_core.specs.declared.tree.Text.{Text}
 use Rattle.smv_core.specs.declared.flat.FlatStmt.{FlatStmt}
@@ -17,7 +17,7 @@ use Rattle.law_designs.specs.Entries.{claim, split, using, Entry, layer, stateme
 use Rattle.law_designs.specs.Flattening.{scope_in, flatten, flat_entry, with_places, flat_assignments, layers_of, layer_number}
 use Rattle.law_designs.specs.Agreement.{AreSameStates, flat_element, numbers_in}
 use Rattle.law_designs.proofs.Numbered.{AreNumbered}
-use Rattle.law_designs.specs.WholeText.{is_one_layer, acts_of, raw_walk, EntryIsRight, TextIsRight}
+use Rattle.law_designs.specs.WholeText.{is_one_layer, acts_of, flat_text_walk, EntryIsRight, TextIsRight}
 use Rattle.law_designs.proofs.Lookups.{all-head, all-tail}
 use Rattle.law_designs.proofs.Entries.{AreAlike, entries-alike}
 use Rattle.law_designs.proofs.Layers.{AreListed, layers-listed, layer-same}
@@ -73,7 +73,7 @@ module _ (text : Text) (sizes : Sizes) (s : State) (t : FlatState) (states : Are
       ∙ h.2.0 (scene_at (design_of text) sizes y.instance) s kind x every [] ∙ ap (λ i. walk (scene_at (design_of text) sizes i) s kind x every z.act []) h.1)
       (acts-same es ms h.3 (all-tail (EntryIsRight text) (statement y) es right) listed.1)
 
-  pub set-same : TextIsRight text → raw_walk (flatten text) sizes t wanted flat_x every kind ≡ first (map tw (definition_set (design_of text) wanted))
+  pub set-same : TextIsRight text → flat_text_walk (flatten text) sizes t wanted flat_x every kind ≡ first (map tw (definition_set (design_of text) wanted))
   set-same right =
       ap (λ acts. first (map fw acts)) (acts-placed (option_map (layer_number layers) wanted) 0 (flat_map (flat_entry text layers) (entries text)))
       ∙ acts-same (entries text) (design_of text).met (entries-alike text) right (layers-listed text)

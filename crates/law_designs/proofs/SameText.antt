@@ -8,7 +8,7 @@ use Rattle.smv_core.specs.Walk.{Element, walk}
 use Rattle.smv_core.specs.Allowed.{scene_at}
 use Rattle.smv_core.specs.Assignments.{Around}
 use Rattle.smv_core.specs.Conflicts.{Agrees}
-use Rattle.smv_core.specs.Flat.{FlatState, flat_outcome, flat_allowed_by, flat_walk}
+use Rattle.smv_core.specs.FlatMeaning.{FlatState, flat_outcome, flat_allowed_by, flat_walk}
 use Rattle.smv_core.specs.declared.tree.Kind.{Kind}
 use Rattle.smv_core.specs.declared.tree.Text.{Text}
 use Rattle.smv_core.specs.declared.tree.Expr.{Expr}

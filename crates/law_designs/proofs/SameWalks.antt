@@ -8,7 +8,7 @@ use Rattle.smv_core.specs.Outcome.{State, Bindings, Scene, outcome, allowed_by, 
 use Rattle.smv_core.specs.Walk.{Element, Walk, walk, walk_parts, walk_held, walk_arms, first, first_of, if_walk, assigned, is_label, steps_of, same_kind, indexes_of}
 use Rattle.smv_core.specs.Assignments.{Around, loop, any}
 use Rattle.smv_core.specs.Conflicts.{Agrees}
-use Rattle.smv_core.specs.Flat.{Numbered, FlatState, FlatBindings, FlatElement, bind, values_in, flat_outcome, flat_listed, flat_allowed_by, flat_assigned, flat_walk}
+use Rattle.smv_core.specs.FlatMeaning.{Numbered, FlatState, FlatBindings, FlatElement, bind, values_in, flat_outcome, flat_listed, flat_allowed_by, flat_assigned, flat_walk}
 use Rattle.smv_core.specs.declared.tree.Kind.{Kind}
 use Rattle.smv_core.specs.declared.tree.TypeExpr.{TypeExpr}
 use Rattle.smv_core.specs.declared.tree.Path.{out-Path}

@@ -12,8 +12,8 @@ use Rattle.smv_core.specs.declared.tree.Top.TheVariants.{SetType, Alias, Module 
 use Rattle.smv_core.specs.declared.tree.TypeExpr.{TypeExpr, Boolean, Range, Enum, Named, Array', Struct', end_of-TypeExpr, more_of-TypeExpr, Row_of-Field, end_of-Field, more_of-Field}
 use Rattle.smv_core.specs.declared.tree.Item.{Item, Declare, Instance, Layer, Claim, Split, Using, Act, Row_of-Item, end_of-Item, more_of-Item}
 use Rattle.smv_core.specs.declared.tree.Item as item
-use Rattle.smv_instances.specs.Mentions.{What, signal, instance, goal, Mention, in_type, in_fields, in_expr, in_stmt, declared_as, instantiates, in_item, in_items}
-use Rattle.smv_instances.specs.Scopes.{Own, Constant, Known, Piece, has_name, own_names, known_after, pieces_from, pieces, constants}
+use Rattle.smv_mentions.specs.Mentions.{What, signal, instance, goal, Mention, in_type, in_fields, in_expr, in_stmt, declared_as, instantiates, in_item, in_items}
+use Rattle.smv_mentions.specs.Scopes.{Own, Constant, Known, Piece, has_name, own_names, known_after, pieces_from, pieces, constants}
 use Rattle.law_designs.specs.Kinds.{Kind, number, enumeration, set_type}
 use Rattle.law_designs.specs.Types.{Whole, Leads, single, under, value_kind, Types, leads, leads_field}
 use Rattle.law_designs.specs.References.{Module, modules_from, behind, signal_at}

@@ -10,7 +10,7 @@ use Rattle.smv_core.specs.Values.{Name, Path, Simple, choice, scalarset, ordset,
 use Rattle.smv_core.specs.Types.{Types, Family, Shape, find_name, names_of, simple, simple_of, shape_of, shape_of_fields, shape_or_none, one_value, array_of, indexed, behind, types_from}
 use Rattle.smv_core.specs.FlatOrder.{Body, modules, main, body_of, families_of_item, families_in, declared_as, design_of}
 use Rattle.smv_core.specs.Outcome.{same_path}
-use Rattle.smv_core.specs.Flat.{Numbered, set_type}
+use Rattle.smv_core.specs.FlatMeaning.{Numbered, set_type}
 use Rattle.smv_core.specs.declared.tree.Word.{Word}
 use Rattle.smv_core.specs.declared.tree.Text.{Text}
 use Rattle.smv_core.specs.declared.tree.Top.{Top}
@@ -18,11 +18,11 @@ use Rattle.smv_core.specs.declared.tree.Top.TheVariants.{SetType, Alias, Module}
 use Rattle.smv_core.specs.declared.tree.TypeExpr.{TypeExpr, Boolean, Range, Enum, Named, Array', Struct', end_of-TypeExpr, more_of-TypeExpr, Row_of-Field, end_of-Field, more_of-Field}
 use Rattle.smv_core.specs.declared.tree.Item.{Item, Declare, Instance, Layer, Forall', Block', Claim, Split, Using, Act}
 use Rattle.smv_core.specs.declared.flat.SetInfo.{SetInfo}
-use Rattle.smv_instances.specs.Mentions.{Mention, in_type, in_fields, in_item}
-use Rattle.smv_instances.specs.Mentions as mentions
-use Rattle.smv_instances.specs.Scopes.{Piece, Known, pieces, pieces_from, known_after}
-use Rattle.smv_instances.specs.NameFaults.{repeated, place_if, undeclared_in, doubled_in, without_main, recursive_in, miscounted_in}
-use Rattle.smv_instances.specs.FirstFault.{first_of, faults_at, faults_of_names, fault_of_size, first_fault}
+use Rattle.smv_mentions.specs.Mentions.{Mention, in_type, in_fields, in_item}
+use Rattle.smv_mentions.specs.Mentions as mentions
+use Rattle.smv_mentions.specs.Scopes.{Piece, Known, pieces, pieces_from, known_after}
+use Rattle.smv_mentions.specs.NameFaults.{repeated, place_if, undeclared_in, doubled_in, without_main, recursive_in, miscounted_in}
+use Rattle.smv_mentions.specs.FirstFault.{first_of, faults_at, faults_of_names, fault_of_size, first_fault}
 use Rattle.smv_core.specs.declared.fault.Fault.{Fault}
 use Rattle.smv_core.specs.declared.tree.Span.{Span}
 use Rattle.std.specs.Option.{option_or}

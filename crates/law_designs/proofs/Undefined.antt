@@ -3,17 +3,17 @@ use Rattle.std.proofs.Common.{◌≡◌, ℕ, zero, suc, ◌+◌, List, [], ◌�
 use Rattle.std.specs.List.{flat_map, list_any}
 use Rattle.smv_core.specs.Values.{Name, Value, Sizes, truth, numbers_from}
 use Rattle.smv_core.specs.Walk.{Walk, first, first_of, if_walk, same_kind}
-use Rattle.smv_core.specs.Flat.{Numbered, FlatState, FlatBindings, FlatElement, bind, values_in, flat_outcome, flat_walk, flat_walks}
+use Rattle.smv_core.specs.FlatMeaning.{Numbered, FlatState, FlatBindings, FlatElement, bind, values_in, flat_outcome, flat_walk, flat_walks}
 use Rattle.smv_core.specs.declared.tree.Kind.{Kind}
 use Rattle.smv_core.specs.declared.tree.Kind.TheVariants.{Comb, Init, Next}
 use Rattle.smv_core.specs.declared.flat.FlatStmt.{FlatStmt, Assign, If', Block', Default', Forall', Row_of-FlatStmt, end_of-FlatStmt, more_of-FlatStmt}
-use Rattle.smv_core.specs.declared.flat.Raw.{Raw}
+use Rattle.smv_core.specs.declared.flat.FlatText.{FlatText}
 use Rattle.law_designs.specs.Flattening.{different, flat_assignments, flat_assignments_in, layer_number}
 use Rattle.law_designs.specs.Agreement.{numbers_of}
-use Rattle.law_designs.specs.WholeText.{is_one_layer, raw_walk}
-use Rattle.law_designs.specs.RawAllowed.{flat_concerns, raw_is_concerned, raw_kept, raw_stepped, raw_allowed}
+use Rattle.law_designs.specs.WholeText.{is_one_layer, flat_text_walk}
+use Rattle.law_designs.specs.FlatTextAllowed.{flat_concerns, flat_text_is_concerned, flat_text_kept, flat_text_stepped, flat_text_allowed}
 use Rattle.law_designs.specs.Standing.{count, Statement, statements_of, Standing, standing, standing_in, assigned_by}
-use Rattle.law_designs.specs.Definitions.{Head, head, heads_of, same_definition, first_heads, def_of, design_of_raw}
+use Rattle.law_designs.specs.Definitions.{Head, head, heads_of, same_definition, first_heads, def_of, design_of_flat_text}
 use Rattle.law_designs.specs.Laws.{is_of_family}
 use Rattle.law_designs.proofs.FlatParts.{if_walk-none, first-none}
 use Rattle.law_designs.proofs.SameResults.{or-same, any-append, set-acts}
@@ -189,9 +189,9 @@ module _ (n : Numbered) (s : FlatState) (x : FlatElement) (every : List Value) (
 
 -- ---- definition sets
 
-module _ (raw : Raw) (sizes : Sizes) (layer : Option Name) (x : FlatElement) (every : List Value) where
+module _ (flat_text : FlatText) (sizes : Sizes) (layer : Option Name) (x : FlatElement) (every : List Value) where
   abbrev number : Option ℕ
-  number = option_map (layer_number raw.layers) layer
+  number = option_map (layer_number flat_text.layers) layer
 
   abbrev acts : List Statement → List FlatStmt
   acts set = map (λ (s : Statement). s.act) (filter (λ s. is_one_layer number s.layer) set)
@@ -208,14 +208,14 @@ module _ (raw : Raw) (sizes : Sizes) (layer : Option Name) (x : FlatElement) (ev
       or-right (list_any (of_standing number x.family) (assigned_by s)) (list_any (of_standing number x.family) (flat_map assigned_by set)) (sym (any-append (of_standing number x.family) (assigned_by s) (flat_map assigned_by set)) ∙ e)
 
   module _ (kind : Kind) where
-    set-walk : (t : FlatState) (set : List Statement) → lacking set → first (map (λ act. flat_walk (numbers_of raw sizes) t x every kind act []) (acts set)) ≡ None
+    set-walk : (t : FlatState) (set : List Statement) → lacking set → first (map (λ act. flat_walk (numbers_of flat_text sizes) t x every kind act []) (acts set)) ≡ None
     set-walk t [] e = refl
     set-walk t (s ∷ set) e = by_test (is_one_layer number s.layer) refl (set-walk t set (lacks-behind s set e))
       where
-        by_test : (b : Bool) → is_one_layer number s.layer ≡ b → first (map (λ act. flat_walk (numbers_of raw sizes) t x every kind act []) (acts set)) ≡ None →
-            first (map (λ act. flat_walk (numbers_of raw sizes) t x every kind act []) (map (λ (s : Statement). s.act) (cond b (s ∷ filter (λ s. is_one_layer number s.layer) set) (filter (λ s. is_one_layer number s.layer) set)))) ≡ None
+        by_test : (b : Bool) → is_one_layer number s.layer ≡ b → first (map (λ act. flat_walk (numbers_of flat_text sizes) t x every kind act []) (acts set)) ≡ None →
+            first (map (λ act. flat_walk (numbers_of flat_text sizes) t x every kind act []) (map (λ (s : Statement). s.act) (cond b (s ∷ filter (λ s. is_one_layer number s.layer) set) (filter (λ s. is_one_layer number s.layer) set)))) ≡ None
         by_test true h rest =
-            ap (λ w. first_of w (first (map (λ act. flat_walk (numbers_of raw sizes) t x every kind act []) (acts set)))) (walk-none (numbers_of raw sizes) t x every kind number s.layer h [] s.act (lacks-here s set e) []) ∙ rest
+            ap (λ w. first_of w (first (map (λ act. flat_walk (numbers_of flat_text sizes) t x every kind act []) (acts set)))) (walk-none (numbers_of flat_text sizes) t x every kind number s.layer h [] s.act (lacks-here s set e) []) ∙ rest
         by_test false h rest = rest
 
     set-concern : (t : FlatState) (set : List Statement) → lacking set → list_any (λ act. list_any (flat_concerns kind x) (flat_assignments act)) (acts set) ≡ false
@@ -226,23 +226,23 @@ module _ (raw : Raw) (sizes : Sizes) (layer : Option Name) (x : FlatElement) (ev
             list_any (λ act. list_any (flat_concerns kind x) (flat_assignments act)) (map (λ (s : Statement). s.act) (cond b (s ∷ filter (λ s. is_one_layer number s.layer) set) (filter (λ s. is_one_layer number s.layer) set))) ≡ false
         by_test true h rest =
             or-same (list_any (flat_concerns kind x) (flat_assignments s.act)) (list_any (λ act. list_any (flat_concerns kind x) (flat_assignments act)) (acts set)) false false
-            (concerns-none (numbers_of raw sizes) t x every kind number s.layer h [] s.act (lacks-here s set e)) rest
+            (concerns-none (numbers_of flat_text sizes) t x every kind number s.layer h [] s.act (lacks-here s set e)) rest
         by_test false h rest = rest
 
-    raw-none : (t : FlatState) → lacking (statements_of raw) → raw_walk raw sizes t layer x every kind ≡ None
-    raw-none t e = sym (ap (λ l. first (map (λ act. flat_walk (numbers_of raw sizes) t x every kind act []) l)) (set-acts number 0 raw.items)) ∙ set-walk t (statements_of raw) e
+    flat_text-none : (t : FlatState) → lacking (statements_of flat_text) → flat_text_walk flat_text sizes t layer x every kind ≡ None
+    flat_text-none t e = sym (ap (λ l. first (map (λ act. flat_walk (numbers_of flat_text sizes) t x every kind act []) l)) (set-acts number 0 flat_text.items)) ∙ set-walk t (statements_of flat_text) e
 
-    raw-unconcerned : (t : FlatState) → lacking (statements_of raw) → raw_is_concerned raw sizes layer x every kind ≡ false
-    raw-unconcerned t e = sym (ap (list_any (λ act. list_any (flat_concerns kind x) (flat_assignments act))) (set-acts number 0 raw.items)) ∙ set-concern t (statements_of raw) e
+    flat_text-unconcerned : (t : FlatState) → lacking (statements_of flat_text) → flat_text_is_concerned flat_text sizes layer x every kind ≡ false
+    flat_text-unconcerned t e = sym (ap (list_any (λ act. list_any (flat_concerns kind x) (flat_assignments act))) (set-acts number 0 flat_text.items)) ∙ set-concern t (statements_of flat_text) e
 
-  stepped-free : (before : Option FlatState) (now : FlatState) → lacking (statements_of raw) → raw_stepped raw sizes layer x every before now ≡ every
-  stepped-free None now e = ap (λ w. unwrap_or w every) (raw-none Init now e)
+  stepped-free : (before : Option FlatState) (now : FlatState) → lacking (statements_of flat_text) → flat_text_stepped flat_text sizes layer x every before now ≡ every
+  stepped-free None now e = ap (λ w. unwrap_or w every) (flat_text-none Init now e)
   stepped-free (Some old) now e =
-      ap (λ w. unwrap_or w (raw_kept raw sizes layer x every old)) (raw-none Next old e) ∙ ap (λ b. cond b (old x.family x.indexes ∷ []) every) (raw-unconcerned Next now e)
+      ap (λ w. unwrap_or w (flat_text_kept flat_text sizes layer x every old)) (flat_text-none Next old e) ∙ ap (λ b. cond b (old x.family x.indexes ∷ []) every) (flat_text-unconcerned Next now e)
 
-  free : (before : Option FlatState) (now : FlatState) → lacking (statements_of raw) → raw_allowed raw sizes layer x every before now ≡ every
+  free : (before : Option FlatState) (now : FlatState) → lacking (statements_of flat_text) → flat_text_allowed flat_text sizes layer x every before now ≡ every
   free before now e =
-      ap (λ b. cond b (unwrap_or (raw_walk raw sizes now layer x every Comb) every) (raw_stepped raw sizes layer x every before now)) (raw-unconcerned Comb now e) ∙ stepped-free before now e
+      ap (λ b. cond b (unwrap_or (flat_text_walk flat_text sizes now layer x every Comb) every) (flat_text_stepped flat_text sizes layer x every before now)) (flat_text-unconcerned Comb now e) ∙ stepped-free before now e
 
   heads-alike : (a b : Head) → same_definition a b ≡ true → of_head number x.family a ≡ of_head number x.family b
   heads-alike a b e = by_parts (is_one_layer a.layer b.layer) (nat_eq a.family b.family) refl refl e
@@ -264,12 +264,12 @@ module _ (raw : Raw) (sizes : Sizes) (layer : Option Name) (x : FlatElement) (ev
       by_parts true false h k e = absurd (cc (e))
       by_parts false q h k e = absurd (cc (e))
 
-  defs-any : (heads : List Head) → list_any (is_of_family number x.family) (map (def_of raw) heads) ≡ list_any (of_head number x.family) heads
+  defs-any : (heads : List Head) → list_any (is_of_family number x.family) (map (def_of flat_text) heads) ≡ list_any (of_head number x.family) heads
   defs-any [] = refl
   defs-any (h ∷ heads) = ap (λ b. of_head number x.family h || b) (defs-any heads)
 
-  pub free-without : list_any (is_of_family number x.family) (design_of_raw raw).defs ≡ false → (before : Option FlatState) (now : FlatState) → raw_allowed raw sizes layer x every before now ≡ every
+  pub free-without : list_any (is_of_family number x.family) (design_of_flat_text flat_text).defs ≡ false → (before : Option FlatState) (now : FlatState) → flat_text_allowed flat_text sizes layer x every before now ≡ every
   free-without e before now =
       free before now
-      (sym (all-heads-any number x.family (statements_of raw))
-      ∙ none-before same_definition (of_head number x.family) heads-alike (flat_map heads_of (statements_of raw)) (sym (defs-any (first_heads raw)) ∙ e))
+      (sym (all-heads-any number x.family (statements_of flat_text))
+      ∙ none-before same_definition (of_head number x.family) heads-alike (flat_map heads_of (statements_of flat_text)) (sym (defs-any (first_heads flat_text)) ∙ e))

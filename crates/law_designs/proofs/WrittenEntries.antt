@@ -18,11 +18,11 @@ use Rattle.smv_core.specs.declared.tree.Expr.{Expr, Signal', Row_of-Part, end_of
 use Rattle.smv_core.specs.declared.tree.Stmt.{Stmt}
 use Rattle.smv_core.specs.declared.tree.Item.{Item, Declare, Instance, Layer, Claim, Split, Using, Act, Row_of-Item, end_of-Item, more_of-Item}
 use Rattle.smv_core.specs.declared.tree.Item as item
-use Rattle.smv_instances.specs.Mentions.{What, signal}
-use Rattle.smv_instances.specs.Mentions as mentions
-use Rattle.smv_instances.specs.Scopes.{Own, Constant, constants, pieces}
-use Rattle.smv_instances.specs.NameFaults.{is_port, is_port_if_own}
-use Rattle.smv_instances.proofs.Computing.{computing}
+use Rattle.smv_mentions.specs.Mentions.{What, signal}
+use Rattle.smv_mentions.specs.Mentions as mentions
+use Rattle.smv_mentions.specs.Scopes.{Own, Constant, constants, pieces}
+use Rattle.smv_mentions.specs.NameFaults.{is_port, is_port_if_own}
+use Rattle.smv_mentions.proofs.Computing.{computing}
 use Rattle.law_designs.specs.Kinds.{Kind, Operand, takes}
 use Rattle.law_designs.specs.Types.{leads, value_kind, index_faults}
 use Rattle.law_designs.specs.References as kinds

@@ -20,7 +20,7 @@ use Rattle.smv_core.specs.declared.tree.Stmt.{items-the_row-Stmt, items-the_row-
 use Rattle.smv_core.specs.declared.tree.Item as item
 use Rattle.smv_core.specs.declared.tree.Item.{Item, Row_of-Item, end_of-Item, more_of-Item, items-the_row-Item, items_hidden-the_row-Item-1}
 use mathlib.Core.Former.{Count}
-use Rattle.smv_instances.proofs.Computing.{computing}
+use Rattle.smv_mentions.proofs.Computing.{computing}
 use Rattle.law_designs.specs.Agreement.{IsIndexType}
 use Rattle.law_designs.specs.Written.{HasOne, TypeIsWritten, FieldsAreWritten, IsSet, HasMember, IsWritten, AreWritten, PartsAreWritten, IndexesAreWritten, TermsAreWritten, MembersAreWritten, StatementIsWritten, StatementsAreWritten, BranchIsWritten, ArmsAreWritten, InnerIsWritten, InnersAreWritten}
 

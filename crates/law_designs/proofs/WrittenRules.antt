@@ -25,7 +25,7 @@ use Rattle.smv_core.specs.Notation.{Tokens, Rule, found, same_kind, with_place, 
 use Rattle.smv_core.specs.Grammar as g
 use Rattle.smv_core.specs.Grammar.{Rules, no_rules, rules, below, chain, sum_of, named}
 use Rattle.smv_core.specs.Spelling.{Spells}
-use Rattle.smv_instances.proofs.Computing.{computing}
+use Rattle.smv_mentions.proofs.Computing.{computing}
 use Rattle.law_designs.specs.Agreement.{IsIndexType}
 use Rattle.law_designs.specs.Written.{HasOne, TypeIsWritten, IsSet, IsWritten, AreWritten, StatementIsWritten, InnerIsWritten, ItemIsWritten, TopIsWritten, TextIsWritten}
 use Rattle.law_designs.proofs.LeadTypes.{some-same}

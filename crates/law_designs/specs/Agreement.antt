@@ -7,7 +7,7 @@ use Rattle.smv_core.specs.Types.{Family}
 use Rattle.smv_core.specs.Outcome.{State, Bindings, fields_of, family_at}
 use Rattle.smv_core.specs.Walk.{Element, indexes_of}
 use Rattle.smv_core.specs.Assignments.{Around, loop, any}
-use Rattle.smv_core.specs.Flat.{Numbered, FlatState, FlatBindings, FlatElement, simple_in}
+use Rattle.smv_core.specs.FlatMeaning.{Numbered, FlatState, FlatBindings, FlatElement, simple_in}
 use Rattle.smv_core.specs.declared.tree.TypeExpr.{TypeExpr, Boolean, Range, Named}
 use Rattle.smv_core.specs.declared.tree.Part.{Field, At}
 use Rattle.smv_core.specs.declared.tree.Path.{out-Path}
@@ -16,15 +16,15 @@ use Rattle.smv_core.specs.declared.tree.Expr.{Expr, Number, Signal', Not', And',
 use Rattle.smv_core.specs.declared.tree.Stmt.{Stmt, Assign, Block', If', Switch', Default', For', Forall', Held-Stmt-If-2, Row_of-Stmt, end_of-Stmt, more_of-Stmt, Row_of-Arm, end_of-Arm, more_of-Arm}
 use Rattle.smv_core.specs.declared.tree.Stmt as stmt
 use Rattle.smv_core.specs.declared.flat.FlatExpr.{FlatExpr}
-use Rattle.smv_core.specs.declared.flat.Raw.{Raw}
+use Rattle.smv_core.specs.declared.flat.FlatText.{FlatText}
 use Rattle.smv_core.specs.declared.tree.Text.{Text}
 use Rattle.law_designs.specs.Numbers.{Scope, family_number, variable_at}
 use Rattle.law_designs.specs.Flattening.{flatten, dotted}
 use Rattle.smv_core.specs.declared.flat.Family.{Family as FlatFamily}
 
 -- what the numbers in a flattened text stand for, at sizes
-abbrev pub numbers_of : Raw → Sizes → Numbered
-numbers_of raw sizes = record { sets = raw.sets; enums = raw.enums; families = raw.families; sizes = sizes }
+abbrev pub numbers_of : FlatText → Sizes → Numbered
+numbers_of flat_text sizes = record { sets = flat_text.sets; enums = flat_text.enums; families = flat_text.families; sizes = sizes }
 
 -- two states give each family of the list the same values
 abbrev pub AreSameStates : List Family → State → FlatState → Type 0

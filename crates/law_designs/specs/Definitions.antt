@@ -11,10 +11,10 @@ use Rattle.smv_core.specs.declared.flat.FlatItem.{FlatItem}
 use Rattle.smv_core.specs.declared.flat.FlatItem.TheVariants as item
 use Rattle.smv_core.specs.declared.flat.FlatSplit.{FlatSplit}
 use Rattle.smv_core.specs.declared.flat.FlatUsing.{FlatUsing}
-use Rattle.smv_core.specs.declared.flat.Flat.{Flat, Nothing, If, First, Forall}
-use Rattle.smv_core.specs.declared.flat.Flat as flat
+use Rattle.smv_core.specs.declared.flat.DefBody.{DefBody, Nothing, If, First, Forall}
+use Rattle.smv_core.specs.declared.flat.DefBody as flat
 use Rattle.smv_core.specs.declared.flat.Def.{Def}
-use Rattle.smv_core.specs.declared.flat.Raw.{Raw}
+use Rattle.smv_core.specs.declared.flat.FlatText.{FlatText}
 use Rattle.smv_core.specs.declared.flat.Design.{Design}
 use Rattle.law_designs.specs.Flattening.{different}
 use Rattle.law_designs.specs.WholeText.{is_one_layer, claims_of}
@@ -22,26 +22,26 @@ use Rattle.law_designs.specs.Standing.{count, Statement, statements_of, Standing
 
 -- ---- parts of a definition
 
-abbrev pub is_nothing : Flat → Bool
+abbrev pub is_nothing : DefBody → Bool
 is_nothing Nothing = true
 is_nothing _ = false
 
 -- some parts as one: one alone is itself
-abbrev pub joined : List Flat → Flat
+abbrev pub joined : List DefBody → DefBody
 joined [] = Nothing
 joined (part ∷ []) = part
 joined (part ∷ other ∷ more) = First (part ∷ other ∷ more)
 
 -- the first result of some parts: those without a result are left out
-abbrev pub first_part : List Flat → Flat
+abbrev pub first_part : List DefBody → DefBody
 first_part parts = joined (filter (λ part. not (is_nothing part)) parts)
 
 -- the branches of an `if`, where one of them has a result
-abbrev pub branches : FlatExpr → Flat → Flat → Flat
+abbrev pub branches : FlatExpr → DefBody → DefBody → DefBody
 branches cond left right = if is_nothing left && is_nothing right then Nothing else If cond left right
 
 -- what stands under a `forall`, where it has a result
-abbrev pub each_value : ℕ → Simple → Flat → Flat
+abbrev pub each_value : ℕ → Simple → DefBody → DefBody
 each_value var over body = if is_nothing body then Nothing else Forall var over body
 
 -- ---- what statements say of one family, for one kind of assignment
@@ -49,26 +49,26 @@ each_value var over body = if is_nothing body then Nothing else Forall var over 
 module _ (kind : Kind) (family : ℕ) where
   abbrev mutual
     -- a statement whose first assignment has this place; the second part of a `default` goes before the first
-    pub flat_of : ℕ → FlatStmt → Flat
+    pub flat_of : ℕ → FlatStmt → DefBody
     flat_of k (Assign which other left value at) = if same_kind which kind && nat_eq other family then flat.Assign left value k at else Nothing
     flat_of k (If' cond l (more_of-FlatStmt left end_of-FlatStmt) r (more_of-FlatStmt right end_of-FlatStmt)) = branches cond (flat_of k left) (flat_of (k + count left) right)
     flat_of k (Block' shape parts) = first_part (flats_of k parts)
     flat_of k (Default' l (more_of-FlatStmt left end_of-FlatStmt) r (more_of-FlatStmt right end_of-FlatStmt)) = first_part (flat_of (k + count left) right ∷ flat_of k left ∷ [])
     flat_of k (Forall' var over shape (more_of-FlatStmt body end_of-FlatStmt)) = each_value var over (flat_of k body)
 
-    pub flats_of : {m : _} → ℕ → Row_of-FlatStmt m → List Flat
+    pub flats_of : {m : _} → ℕ → Row_of-FlatStmt m → List DefBody
     flats_of k end_of-FlatStmt = []
     flats_of k (more_of-FlatStmt part rest) = flat_of k part ∷ flats_of (k + count part) rest
 
   -- some statements, in flat order
-  abbrev pub part_of : List Statement → Flat
+  abbrev pub part_of : List Statement → DefBody
   part_of statements = first_part (map (λ s. flat_of s.place s.act) statements)
 
 -- ---- definitions
 
 -- a definition set: all statements of the layer of this number, or all those outside layers
-abbrev pub set_of : Raw → Option ℕ → List Statement
-set_of raw layer = filter (λ s. is_one_layer layer s.layer) (statements_of raw)
+abbrev pub set_of : FlatText → Option ℕ → List Statement
+set_of flat_text layer = filter (λ s. is_one_layer layer s.layer) (statements_of flat_text)
 
 -- an assignment by its layer and its family, with its place in flat order and its offset
 pub record Head : Type 0 where
@@ -88,13 +88,13 @@ abbrev pub same_definition : Head → Head → Bool
 same_definition a b = is_one_layer a.layer b.layer && nat_eq a.family b.family
 
 -- the first assignment of each family in each definition set, in flat order
-abbrev pub first_heads : Raw → List Head
-first_heads raw = different same_definition (flat_map heads_of (statements_of raw))
+abbrev pub first_heads : FlatText → List Head
+first_heads flat_text = different same_definition (flat_map heads_of (statements_of flat_text))
 
 -- the definition whose first assignment is this one
-abbrev pub def_of : Raw → Head → Def
-def_of raw head =
-    let set = set_of raw head.layer in
+abbrev pub def_of : FlatText → Head → Def
+def_of flat_text head =
+    let set = set_of flat_text head.layer in
     record {
       family = head.family;
       layer = head.layer;
@@ -118,14 +118,14 @@ uses_of (item.Using u ∷ items) = u ∷ uses_of items
 uses_of (_ ∷ items) = uses_of items
 
 -- The design, its definitions by their first assignments in flat order. For a flattened text with a fault of single assignment it may be anything.
-abbrev pub design_of_raw : Raw → Design
-design_of_raw raw = record {
-  sets = raw.sets;
-  enums = raw.enums;
-  layers = raw.layers;
-  families = raw.families;
-  defs = map (def_of raw) (first_heads raw);
-  claims = claims_of raw.items;
-  splits = splits_of raw.items;
-  uses = uses_of raw.items;
+abbrev pub design_of_flat_text : FlatText → Design
+design_of_flat_text flat_text = record {
+  sets = flat_text.sets;
+  enums = flat_text.enums;
+  layers = flat_text.layers;
+  families = flat_text.families;
+  defs = map (def_of flat_text) (first_heads flat_text);
+  claims = claims_of flat_text.items;
+  splits = splits_of flat_text.items;
+  uses = uses_of flat_text.items;
 }

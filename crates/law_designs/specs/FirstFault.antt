@@ -2,7 +2,7 @@
 use Rattle.std.specs.Prelude.{List, [], ◌∷◌, flat_map, Option}
 use Rattle.smv_core.specs.declared.fault.Fault.{Fault}
 use Rattle.smv_core.specs.declared.flat.Design.{Design}
-use Rattle.smv_instances.specs.FirstFault.{faults_at, first_of, or_else}
+use Rattle.smv_mentions.specs.FirstFault.{faults_at, first_of, or_else}
 use Rattle.law_designs.specs.Loops.{looping}
 use Rattle.law_designs.specs.LayerFaults.{leaking, assigned_outside}
 

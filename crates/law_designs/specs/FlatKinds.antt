@@ -12,7 +12,7 @@ use Rattle.smv_core.specs.declared.flat.FlatExpr.{FlatExpr, Number, Read', Var, 
 use Rattle.smv_core.specs.declared.flat.FlatStmt.{FlatStmt, Assign, If', Block', Default', Forall', Row_of-FlatStmt, end_of-FlatStmt, more_of-FlatStmt}
 use Rattle.smv_core.specs.declared.flat.FlatItem.{FlatItem}
 use Rattle.smv_core.specs.declared.flat.FlatItem.TheVariants as item
-use Rattle.smv_core.specs.declared.flat.Raw.{Raw}
+use Rattle.smv_core.specs.declared.flat.FlatText.{FlatText}
 
 -- ---- kinds
 
@@ -114,14 +114,14 @@ Vars = List Kind
 abbrev pub inside : Vars → Simple → Vars
 inside vars over = vars ++ kind_of over ∷ []
 
-module _ (raw : Raw) where
+module _ (flat_text : FlatText) where
   -- ---- types
 
   -- a range from low to high within 255, an enumeration with a constant, or a set type of the text
   abbrev pub is_type : Simple → Bool
   is_type (Range low high) = nat_le low high && nat_le high 255
-  is_type (Enum list) = nat_lt 0 (length (get_or raw.enums list []))
-  is_type (Set set) = nat_lt set (length raw.sets)
+  is_type (Enum list) = nat_lt 0 (length (get_or flat_text.enums list []))
+  is_type (Set set) = nat_lt set (length flat_text.sets)
 
   -- an index type is a range or a set type
   abbrev pub is_index_type : Simple → Bool
@@ -136,13 +136,13 @@ module _ (raw : Raw) where
 
   -- a constant of an enumeration of the text
   abbrev pub constant : ℕ → ℕ → Option Kind
-  constant list value = if nat_lt value (length (get_or raw.enums list [])) then Some (enumeration list) else None
+  constant list value = if nat_lt value (length (get_or flat_text.enums list [])) then Some (enumeration list) else None
 
   abbrev mutual
     -- the kind of an expression where no set may stand
     pub kind_in : Vars → FlatExpr → Option Kind
     kind_in vars (Number value at) = Some number
-    kind_in vars (Read' family shape indexes at) = element (slice_get raw.families family) (kinds_in vars indexes)
+    kind_in vars (Read' family shape indexes at) = element (slice_get flat_text.families family) (kinds_in vars indexes)
     kind_in vars (Var var at) = slice_get vars var
     kind_in vars (Loop value at) = Some number
     kind_in vars (Constant list value at) = constant list value
@@ -197,7 +197,7 @@ module _ (raw : Raw) where
   abbrev mutual
     -- no part of a statement breaks a rule
     pub keeps_kinds : Vars → FlatStmt → Bool
-    keeps_kinds vars (Assign kind family left value at) = assigns (element (slice_get raw.families family) (map (kind_in vars) left)) (value_in vars value)
+    keeps_kinds vars (Assign kind family left value at) = assigns (element (slice_get flat_text.families family) (map (kind_in vars) left)) (value_in vars value)
     keeps_kinds vars (If' cond l (more_of-FlatStmt left end_of-FlatStmt) r (more_of-FlatStmt right end_of-FlatStmt)) = takes number (kind_in vars cond) && (keeps_kinds vars left && keeps_kinds vars right)
     keeps_kinds vars (Block' shape parts) = all_keep_kinds vars parts
     keeps_kinds vars (Default' l (more_of-FlatStmt left end_of-FlatStmt) r (more_of-FlatStmt right end_of-FlatStmt)) = keeps_kinds vars left && keeps_kinds vars right
@@ -236,5 +236,5 @@ is_size None = true
 is_size (Some n) = nat_lt 0 n && nat_le n 256
 
 -- No part of the flattened text breaks a rule of kinds, ranges and sets. That the argument of an output has constant indexes is a rule of the text alone: here it is an assignment as others are.
-abbrev pub is_kinded : Raw → Bool
-is_kinded raw = list_all (λ info. is_size info.size) raw.sets && (list_all (λ names. nat_lt 0 (length names)) raw.enums && (list_all (is_kinded_family raw) raw.families && list_all (is_kinded_item raw) raw.items))
+abbrev pub is_kinded : FlatText → Bool
+is_kinded flat_text = list_all (λ info. is_size info.size) flat_text.sets && (list_all (λ names. nat_lt 0 (length names)) flat_text.enums && (list_all (is_kinded_family flat_text) flat_text.families && list_all (is_kinded_item flat_text) flat_text.items))

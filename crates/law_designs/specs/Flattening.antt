@@ -6,7 +6,7 @@ use Rattle.smv_core.specs.Values.{Name, Path}
 use Rattle.smv_core.specs.Types.{Family, types_from, names_of}
 use Rattle.smv_core.specs.Outcome.{same_path}
 use Rattle.smv_core.specs.Assignments.{Around, any, Index}
-use Rattle.smv_core.specs.Flat.{flat_index}
+use Rattle.smv_core.specs.FlatMeaning.{flat_index}
 use Rattle.smv_core.specs.declared.tree.Kind.{Kind}
 use Rattle.smv_core.specs.declared.tree.Word.{Word}
 use Rattle.smv_core.specs.declared.tree.Span.{Span}
@@ -24,9 +24,9 @@ use Rattle.smv_core.specs.declared.flat.FlatItem.{FlatItem}
 use Rattle.smv_core.specs.declared.flat.FlatItem.TheVariants as item
 use Rattle.smv_core.specs.declared.flat.FlatStmt.{FlatStmt, Assign, If', Block', Default', Forall', Row_of-FlatStmt, end_of-FlatStmt, more_of-FlatStmt}
 use Rattle.smv_core.specs.declared.flat.FlatPair.{FlatPair}
-use Rattle.smv_core.specs.declared.flat.Raw.{Raw}
-use Rattle.smv_instances.specs.Mentions.{Mention, lists_constants}
-use Rattle.smv_instances.specs.Scopes.{pieces}
+use Rattle.smv_core.specs.declared.flat.FlatText.{FlatText}
+use Rattle.smv_mentions.specs.Mentions.{Mention, lists_constants}
+use Rattle.smv_mentions.specs.Scopes.{pieces}
 use Rattle.law_designs.specs.Numbers.{Scope, flat_simple, flat_over}
 use Rattle.law_designs.specs.Statements.{flat_expr, flat_stmt}
 use Rattle.law_designs.specs.Entries.{Binders, Goal, claim, split, using, Entry, layer, statement, goal, placed_families, entries}
@@ -174,7 +174,7 @@ flat_entry text layers (statement x) = item.Act (option_map (layer_number layers
 flat_entry text layers (goal instance binders g) = flat_goal (scope_in text instance) binders g ∷ []
 
 -- The flattened text. For a text with a fault of names, kinds, ranges or sizes it may be anything.
-abbrev pub flatten : Text → Raw
+abbrev pub flatten : Text → FlatText
 flatten text =
     let scope = scope_in text [] in
     let met = entries text in

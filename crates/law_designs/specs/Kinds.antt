@@ -4,8 +4,8 @@ use Rattle.std.specs.Str.{bytes_eq}
 use Rattle.smv_core.specs.Values.{Name}
 use Rattle.smv_core.specs.Outcome.{same_path}
 use Rattle.smv_core.specs.declared.fault.Fault.{Fault}
-use Rattle.smv_instances.specs.NameFaults.{place_if}
-use Rattle.smv_instances.specs.FirstFault.{faults_at}
+use Rattle.smv_mentions.specs.NameFaults.{place_if}
+use Rattle.smv_mentions.specs.FirstFault.{faults_at}
 
 -- ---- kinds
 

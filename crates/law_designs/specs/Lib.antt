@@ -9,7 +9,7 @@ pub mod Entries
 pub mod Flattening
 pub mod Agreement
 pub mod WholeText
-pub mod RawAllowed
+pub mod FlatTextAllowed
 pub mod SameActs
 pub mod FlatKinds
 pub mod SetOperands

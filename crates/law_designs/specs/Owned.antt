@@ -5,8 +5,8 @@ use Rattle.smv_core.specs.Values.{Name}
 use Rattle.smv_core.specs.Types.{find_name}
 use Rattle.smv_core.specs.declared.tree.Text.{Text}
 use Rattle.smv_core.specs.declared.tree.Part.{Part}
-use Rattle.smv_instances.specs.Scopes.{Constant, pieces, constants}
-use Rattle.smv_instances.specs.FirstFault.{first_fault}
+use Rattle.smv_mentions.specs.Scopes.{Constant, pieces, constants}
+use Rattle.smv_mentions.specs.FirstFault.{first_fault}
 use Rattle.law_designs.specs.Kinds.{Kind, enumeration}
 use Rattle.law_designs.specs.Types.{Whole}
 use Rattle.law_designs.specs.References.{Module, modules_from, signal_at}

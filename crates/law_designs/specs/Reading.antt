@@ -1,10 +1,10 @@
 -- The assignments of a definition, each with what it reads.
 use Rattle.std.specs.Prelude.{ℕ, List, [], ◌∷◌, ◌++◌, map, flat_map}
 use Rattle.smv_core.specs.Assignments.{Index}
-use Rattle.smv_core.specs.Flat.{flat_index}
+use Rattle.smv_core.specs.FlatMeaning.{flat_index}
 use Rattle.smv_core.specs.declared.flat.FlatMember.{One, Span as SpanOf}
 use Rattle.smv_core.specs.declared.flat.FlatExpr.{FlatExpr, Number, Read', Var, Loop, Constant, Not', And', Or', Implies', Iff', Compare', Within', Sum', Modulo', Choose', All', Any', List', Each', Held-FlatExpr-Each-2, None', Some', Row_of-FlatExpr, end_of-FlatExpr, more_of-FlatExpr, Row_of-FlatMember, end_of-FlatMember, more_of-FlatMember, Row_of-FlatSigned, end_of-FlatSigned, more_of-FlatSigned}
-use Rattle.smv_core.specs.declared.flat.Flat.{Flat, Nothing, Assign, If', First', Forall', Row_of-Flat, end_of-Flat, more_of-Flat}
+use Rattle.smv_core.specs.declared.flat.DefBody.{DefBody, Nothing, Assign, If', First', Forall', Row_of-DefBody, end_of-DefBody, more_of-DefBody}
 
 -- ---- what an expression reads
 
@@ -72,14 +72,14 @@ pub record Reading : Type 0 where
 module _ (family : ℕ) where
   abbrev mutual
     -- the assignments of a part of the family's definition, where the conditions around it read this
-    pub readings : List Reference → Flat → List Reading
+    pub readings : List Reference → DefBody → List Reading
     readings around Nothing = []
     readings around (Assign left value place at) =
         record { family = family; left = map flat_index left; reads = around ++ flat_map references left ++ references value; place = place; at = at } ∷ []
-    readings around (If' cond l (more_of-Flat left end_of-Flat) r (more_of-Flat right end_of-Flat)) = readings (around ++ references cond) left ++ readings (around ++ references cond) right
+    readings around (If' cond l (more_of-DefBody left end_of-DefBody) r (more_of-DefBody right end_of-DefBody)) = readings (around ++ references cond) left ++ readings (around ++ references cond) right
     readings around (First' shape parts) = readings_of around parts
-    readings around (Forall' var over shape (more_of-Flat body end_of-Flat)) = readings around body
+    readings around (Forall' var over shape (more_of-DefBody body end_of-DefBody)) = readings around body
 
-    pub readings_of : {m : _} → List Reference → Row_of-Flat m → List Reading
-    readings_of around end_of-Flat = []
-    readings_of around (more_of-Flat part rest) = readings around part ++ readings_of around rest
+    pub readings_of : {m : _} → List Reference → Row_of-DefBody m → List Reading
+    readings_of around end_of-DefBody = []
+    readings_of around (more_of-DefBody part rest) = readings around part ++ readings_of around rest

@@ -7,9 +7,9 @@ use Rattle.smv_core.specs.declared.tree.Top.{Top}
 use Rattle.smv_core.specs.declared.tree.Top.TheVariants.{Module as ModuleOf}
 use Rattle.smv_core.specs.declared.tree.Part.{Field}
 use Rattle.smv_core.specs.declared.tree.Item.{Item}
-use Rattle.smv_instances.specs.Mentions.{What, signal, instance, in_item}
-use Rattle.smv_instances.specs.Scopes.{Own, Constant, own_names}
-use Rattle.smv_instances.specs.FirstFault.{faults_at}
+use Rattle.smv_mentions.specs.Mentions.{What, signal, instance, in_item}
+use Rattle.smv_mentions.specs.Scopes.{Own, Constant, own_names}
+use Rattle.smv_mentions.specs.FirstFault.{faults_at}
 use Rattle.law_designs.specs.Kinds.{Kind, enumeration, no_kind, Operand, takes}
 use Rattle.law_designs.specs.Types.{Whole, Leads, single, Types, leads, types_after}
 

@@ -6,13 +6,13 @@ use Rattle.smv_core.specs.declared.flat.FlatExpr.{FlatExpr, Number, Read', Var, 
 use Rattle.smv_core.specs.declared.flat.FlatStmt.{FlatStmt, Assign, If', Block', Default', Forall', Row_of-FlatStmt, end_of-FlatStmt, more_of-FlatStmt}
 use Rattle.smv_core.specs.declared.flat.FlatItem.{FlatItem}
 use Rattle.smv_core.specs.declared.flat.FlatItem.TheVariants as item
-use Rattle.smv_core.specs.declared.flat.Raw.{Raw}
-use Rattle.smv_instances.specs.FirstFault.{first_of}
+use Rattle.smv_core.specs.declared.flat.FlatText.{FlatText}
+use Rattle.smv_mentions.specs.FirstFault.{first_of}
 use Rattle.law_designs.specs.FlatKinds.{Kind, number, Vars, inside, value_in, bound_by}
 use Rattle.law_designs.specs.SetOperands.{Operand, first_at, is_loop, met, wanted_at, wanted_of, disordered}
 
 -- in a flattened text whose expressions have these kinds
-module _ (raw : Raw) (kind_at : Vars → FlatExpr → Option Kind) where
+module _ (flat_text : FlatText) (kind_at : Vars → FlatExpr → Option Kind) where
   -- ---- operands
 
   abbrev pub operand : Vars → FlatExpr → Operand
@@ -39,7 +39,7 @@ module _ (raw : Raw) (kind_at : Vars → FlatExpr → Option Kind) where
     -- in an expression inside these variables: the sides of comparisons, what is left of an `in` with the members, the members of a listed set, the branches of `?:`, and indexes
     pub faults_in : Vars → FlatExpr → List Fault
     faults_in vars (Number value at) = []
-    faults_in vars (Read' family shape indexes at) = faults_each vars indexes ++ wanted_at (slice_get raw.families family) (operands vars indexes)
+    faults_in vars (Read' family shape indexes at) = faults_each vars indexes ++ wanted_at (slice_get flat_text.families family) (operands vars indexes)
     faults_in vars (Var var at) = []
     faults_in vars (Loop value at) = []
     faults_in vars (Constant list value at) = []
@@ -50,7 +50,7 @@ module _ (raw : Raw) (kind_at : Vars → FlatExpr → Option Kind) where
     faults_in vars (Iff' l (more_of-FlatExpr left end_of-FlatExpr) r (more_of-FlatExpr right end_of-FlatExpr)) = faults_in vars left ++ faults_in vars right
     faults_in vars (Compare' op l (more_of-FlatExpr left end_of-FlatExpr) r (more_of-FlatExpr right end_of-FlatExpr)) =
         faults_in vars left ++ faults_in vars right ++ met (operand vars left ∷ operand vars right ∷ [])
-        ++ disordered raw.sets op (operand vars left) ++ disordered raw.sets op (operand vars right)
+        ++ disordered flat_text.sets op (operand vars left) ++ disordered flat_text.sets op (operand vars right)
     faults_in vars (Within' l (more_of-FlatExpr left end_of-FlatExpr) r (more_of-FlatExpr set end_of-FlatExpr)) =
         faults_in vars left ++ faults_in vars set ++ met (operand vars left ∷ listed vars set)
     faults_in vars (Sum' f (more_of-FlatExpr head end_of-FlatExpr) shape more) = faults_in vars head ++ faults_signed vars more
@@ -85,8 +85,8 @@ module _ (raw : Raw) (kind_at : Vars → FlatExpr → Option Kind) where
     -- in a statement: its conditions, left sides and values, and values against their targets
     pub faults_of : Vars → FlatStmt → List Fault
     faults_of vars (Assign kind family left value at) =
-        flat_map (faults_in vars) left ++ wanted_at (slice_get raw.families family) (map (operand vars) left)
-        ++ faults_in vars value ++ wanted_of (slice_get raw.families family) (operand vars value)
+        flat_map (faults_in vars) left ++ wanted_at (slice_get flat_text.families family) (map (operand vars) left)
+        ++ faults_in vars value ++ wanted_of (slice_get flat_text.families family) (operand vars value)
     faults_of vars (If' cond l (more_of-FlatStmt left end_of-FlatStmt) r (more_of-FlatStmt right end_of-FlatStmt)) = faults_in vars cond ++ faults_of vars left ++ faults_of vars right
     faults_of vars (Block' shape parts) = faults_of_each vars parts
     faults_of vars (Default' l (more_of-FlatStmt left end_of-FlatStmt) r (more_of-FlatStmt right end_of-FlatStmt)) = faults_of vars left ++ faults_of vars right
@@ -101,14 +101,14 @@ module _ (raw : Raw) (kind_at : Vars → FlatExpr → Option Kind) where
   -- What the equations of a split meet is compared later: here they are read alone.
   abbrev pub item_faults : FlatItem → List Fault
   item_faults (item.Act layer act) = faults_of [] act
-  item_faults (item.Claim c) = faults_in (bound_by raw c.params) c.body
-  item_faults (item.Split s) = flat_map (λ pair. faults_in (bound_by raw s.bound) pair.left) s.pairs
+  item_faults (item.Claim c) = faults_in (bound_by flat_text c.params) c.body
+  item_faults (item.Split s) = flat_map (λ pair. faults_in (bound_by flat_text s.bound) pair.left) s.pairs
   item_faults (item.Using u) = []
 
 -- all faults of set types of a flattened text
-abbrev pub faults_of_sets : Raw → List Fault
-faults_of_sets raw = flat_map (item_faults raw (value_in raw)) raw.items
+abbrev pub faults_of_sets : FlatText → List Fault
+faults_of_sets flat_text = flat_map (item_faults flat_text (value_in flat_text)) flat_text.items
 
 -- The first of them, 21 or 22. A text with an earlier fault is not asked for.
-abbrev pub first_fault_of_sets : Raw → Option Fault
-first_fault_of_sets raw = first_of (faults_of_sets raw)
+abbrev pub first_fault_of_sets : FlatText → Option Fault
+first_fault_of_sets flat_text = first_of (faults_of_sets flat_text)

@@ -6,16 +6,16 @@ use Rattle.smv_core.specs.Outcome.{same_path}
 use Rattle.smv_core.specs.Walk.{same_kind}
 use Rattle.smv_core.specs.Assignments.{Index}
 use Rattle.smv_core.specs.Conflicts.{are_two_constants, are_both}
-use Rattle.smv_core.specs.Flat.{flat_index}
+use Rattle.smv_core.specs.FlatMeaning.{flat_index}
 use Rattle.smv_core.specs.declared.fault.Fault.{Fault}
 use Rattle.smv_core.specs.declared.tree.Kind.{Kind}
 use Rattle.smv_core.specs.declared.tree.Kind.TheVariants.{Comb}
 use Rattle.smv_core.specs.declared.flat.Claim.{Claim}
-use Rattle.smv_core.specs.declared.flat.Raw.{Raw}
+use Rattle.smv_core.specs.declared.flat.FlatText.{FlatText}
 use Rattle.smv_core.specs.declared.flat.FlatExpr.{FlatExpr, Var}
 use Rattle.smv_core.specs.declared.flat.FlatStmt.{FlatStmt, Assign, If', Block', Default', Forall', Row_of-FlatStmt, end_of-FlatStmt, more_of-FlatStmt}
-use Rattle.smv_instances.specs.NameFaults.{place_if}
-use Rattle.smv_instances.specs.FirstFault.{faults_at, first_of}
+use Rattle.smv_mentions.specs.NameFaults.{place_if}
+use Rattle.smv_mentions.specs.FirstFault.{faults_at, first_of}
 use Rattle.law_designs.specs.WholeText.{is_one_layer, claims_of}
 use Rattle.law_designs.specs.Standing.{Statement, statements_of, Standing, standing, standing_in, assigned_by}
 
@@ -105,19 +105,19 @@ unnamed c = place_if (not (same_path (names_of c.vars) (map (λ p. p.name) c.par
 -- ---- the faults of a flattened text
 
 -- the assignments in flat order
-abbrev pub assigned_in : Raw → List Standing
-assigned_in raw = flat_map assigned_by (statements_of raw)
+abbrev pub assigned_in : FlatText → List Standing
+assigned_in flat_text = flat_map assigned_by (statements_of flat_text)
 
 -- all places of each fault of single assignment, each with its number
-abbrev pub single_faults : Raw → List (ℕ × List ℕ)
-single_faults raw =
-    (15, conflicting (statements_of raw))
-    ∷ (16, mixed (assigned_in raw))
-    ∷ (17, flat_map lacking (assigned_in raw) ++ flat_map unnamed (claims_of raw.items)) ∷ []
+abbrev pub single_faults : FlatText → List (ℕ × List ℕ)
+single_faults flat_text =
+    (15, conflicting (statements_of flat_text))
+    ∷ (16, mixed (assigned_in flat_text))
+    ∷ (17, flat_map lacking (assigned_in flat_text) ++ flat_map unnamed (claims_of flat_text.items)) ∷ []
 
-abbrev pub faults_of_single : Raw → List Fault
-faults_of_single raw = flat_map faults_at (single_faults raw)
+abbrev pub faults_of_single : FlatText → List Fault
+faults_of_single flat_text = flat_map faults_at (single_faults flat_text)
 
 -- The first fault of a flattened text among 15 to 17. A text with an earlier fault is not asked for.
-abbrev pub first_fault_of_single : Raw → Option Fault
-first_fault_of_single raw = first_of (faults_of_single raw)
+abbrev pub first_fault_of_single : FlatText → Option Fault
+first_fault_of_single flat_text = first_of (faults_of_single flat_text)

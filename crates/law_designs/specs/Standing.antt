@@ -1,7 +1,7 @@
 -- The statements of a flattened text in flat order, and the assignments in them as the rules of single assignment see them.
 use Rattle.std.specs.Prelude.{ℕ, ◌+◌, List, [], ◌∷◌, ◌++◌, length, Option}
 use Rattle.smv_core.specs.declared.tree.Kind.{Kind}
-use Rattle.smv_core.specs.declared.flat.Raw.{Raw}
+use Rattle.smv_core.specs.declared.flat.FlatText.{FlatText}
 use Rattle.smv_core.specs.declared.flat.FlatItem.{FlatItem}
 use Rattle.smv_core.specs.declared.flat.FlatItem.TheVariants as item
 use Rattle.smv_core.specs.declared.flat.FlatExpr.{FlatExpr}
@@ -27,8 +27,8 @@ statements_from k (item.Act layer act ∷ items) = record { layer = layer; place
 statements_from k (item.Claim c ∷ items) = statements_from (k + 1) items
 statements_from k (_ ∷ items) = statements_from k items
 
-abbrev pub statements_of : Raw → List Statement
-statements_of raw = statements_from 0 raw.items
+abbrev pub statements_of : FlatText → List Statement
+statements_of flat_text = statements_from 0 flat_text.items
 
 -- ---- assignments
 

@@ -3,7 +3,7 @@ use Rattle.std.specs.Prelude.{◌≡◌, ℕ, None}
 use Rattle.smv_core.specs.Notation.{Tokens}
 use Rattle.smv_core.specs.Spelling.{Spells}
 use Rattle.smv_core.specs.declared.tree.Text.{Text}
-use Rattle.smv_instances.specs.FirstFault.{first_fault}
+use Rattle.smv_mentions.specs.FirstFault.{first_fault}
 use Rattle.law_designs.specs.KindFaults.{first_fault_of_kinds}
 
 -- some tokens spell the text, and it has no fault of names, size, kinds, ranges and sets

@@ -7,14 +7,14 @@ use Rattle.smv_core.specs.Outcome.{State, outcome}
 use Rattle.smv_core.specs.Allowed.{scene_at}
 use Rattle.smv_core.specs.Sound.{bound}
 use Rattle.smv_core.specs.Walk.{Walk, first}
-use Rattle.smv_core.specs.Flat.{FlatState, FlatElement, flat_walk, flat_outcome, values_in}
+use Rattle.smv_core.specs.FlatMeaning.{FlatState, FlatElement, flat_walk, flat_outcome, values_in}
 use Rattle.smv_core.specs.declared.tree.Kind.{Kind}
 use Rattle.smv_core.specs.declared.tree.Text.{Text}
 use Rattle.smv_core.specs.declared.flat.Claim.{Claim}
 use Rattle.smv_core.specs.declared.flat.FlatStmt.{FlatStmt}
 use Rattle.smv_core.specs.declared.flat.FlatItem.{FlatItem}
 use Rattle.smv_core.specs.declared.flat.FlatItem.TheVariants as item
-use Rattle.smv_core.specs.declared.flat.Raw.{Raw}
+use Rattle.smv_core.specs.declared.flat.FlatText.{FlatText}
 use Rattle.law_designs.specs.Entries.{Binders, claim, Entry, statement, goal, entries}
 use Rattle.law_designs.specs.Flattening.{scope_in, layer_number, within, dotted}
 use Rattle.law_designs.specs.Agreement.{numbers_of, numbers_in, IsIndexType, IsRight, StatementIsRight}
@@ -32,8 +32,8 @@ acts_of number (item.Act other act ∷ items) = if is_one_layer number other the
 acts_of number (_ ∷ items) = acts_of number items
 
 -- the first result of the statements of a layer, or of those outside layers
-abbrev pub raw_walk : Raw → Sizes → FlatState → Option Name → FlatElement → List Value → Kind → Walk
-raw_walk raw sizes t name x every kind = first (map (λ act. flat_walk (numbers_of raw sizes) t x every kind act []) (acts_of (option_map (layer_number raw.layers) name) raw.items))
+abbrev pub flat_text_walk : FlatText → Sizes → FlatState → Option Name → FlatElement → List Value → Kind → Walk
+flat_text_walk flat_text sizes t name x every kind = first (map (λ act. flat_walk (numbers_of flat_text sizes) t x every kind act []) (acts_of (option_map (layer_number flat_text.layers) name) flat_text.items))
 
 -- the claims, in flat order
 abbrev pub claims_of : List FlatItem → List Claim

@@ -3,7 +3,7 @@ ghost use Rattle.std.specs.Prelude.{◌≡◌, None};
 ghost use Rattle.smv_core.specs.Types.{Types};
 ghost use Rattle.smv_core.specs.FlatOrder.{families_in, met_in};
 ghost use Rattle.smv_core.specs.declared.tree.Text.{Text};
-ghost use Rattle.smv_instances.specs.FirstFault.{first_fault};
+ghost use Rattle.smv_mentions.specs.FirstFault.{first_fault};
 ghost use Rattle.law_designs.specs.Entries.{placed_in, entries_in};
 ghost use Rattle.law_designs.specs.Deep.{IsDeepEnough};
 

@@ -9,13 +9,13 @@ ghost use Rattle.smv_core.specs.Walk.{Element, walk};
 ghost use Rattle.smv_core.specs.Allowed.{allowed, every_value, said_in, scene_at, walk_set};
 ghost use Rattle.smv_core.specs.Assignments.{Around};
 ghost use Rattle.smv_core.specs.Conflicts.{Agrees};
-ghost use Rattle.smv_core.specs.Flat.{FlatState, flat_outcome, flat_allowed_by, flat_walk};
+ghost use Rattle.smv_core.specs.FlatMeaning.{FlatState, flat_outcome, flat_allowed_by, flat_walk};
 ghost use Rattle.smv_core.specs.declared.tree.Kind.{Kind};
 ghost use Rattle.smv_core.specs.declared.tree.Text.{Text};
 ghost use Rattle.smv_core.specs.declared.tree.Expr.{Expr};
 ghost use Rattle.smv_core.specs.declared.tree.Stmt.{Stmt};
-ghost use Rattle.smv_instances.specs.FirstFault.{first_fault};
-ghost use Rattle.smv_instances.specs.Scopes.{Constant, constants, pieces};
+ghost use Rattle.smv_mentions.specs.FirstFault.{first_fault};
+ghost use Rattle.smv_mentions.specs.Scopes.{Constant, constants, pieces};
 ghost use Rattle.law_designs.specs.Statements.{flat_expr, flat_stmt};
 ghost use Rattle.law_designs.specs.Flattening.{flatten, scope_in};
 ghost use Rattle.law_designs.specs.Agreement.{
@@ -29,8 +29,8 @@ ghost use Rattle.law_designs.specs.Agreement.{
   values_bound,
 };
 ghost use Rattle.law_designs.specs.SameActs.{IsSameAct, layered_acts};
-ghost use Rattle.law_designs.specs.RawAllowed.{AreSameBefore, raw_allowed};
-ghost use Rattle.law_designs.specs.WholeText.{IsSameClaim, TextIsRight, claims_met, claims_of, raw_walk};
+ghost use Rattle.law_designs.specs.FlatTextAllowed.{AreSameBefore, flat_text_allowed};
+ghost use Rattle.law_designs.specs.WholeText.{IsSameClaim, TextIsRight, claims_met, claims_of, flat_text_walk};
 
 /// In a text without faults of names the outcome of a flattened expression is that of the expression, in each instance, at all sizes, in each state and with all
 /// values of the variables around it, where each name in it is a variable, a signal or a listed constant and each
@@ -72,14 +72,14 @@ pub fn families_are_the_same()
 pub fn definition_sets_are_the_same()
     ensures { (text : Text) → first_fault text ≡ None → (sizes : Sizes) (s : State) (t : FlatState) → AreSameStates (design_of text).families s t → TextIsRight text →
         (layer : Option Name) (kind : Kind) (x : Element) (f : Family) → family_at (design_of text).families x.path ≡ Some f →
-        raw_walk (flatten text) sizes t layer (flat_element (scope_in text []) x) (every_value (design_of text) sizes x) kind ≡ walk_set (design_of text) sizes layer x kind s }
+        flat_text_walk (flatten text) sizes t layer (flat_element (scope_in text []) x) (every_value (design_of text) sizes x) kind ≡ walk_set (design_of text) sizes layer x kind s }
 {}
 
 /// Under the same conditions the flattened text allows each element of each family, in a layer or outside layers, the values that the text allows it.
 pub fn allowed_values_are_the_same()
     ensures { (text : Text) → first_fault text ≡ None → TextIsRight text → (sizes : Sizes) (layer : Option Name) (x : Element) (f : Family) → family_at (design_of text).families x.path ≡ Some f →
         (before : Option State) (flat_before : Option FlatState) → AreSameBefore (design_of text).families before flat_before → (now : State) (flat_now : FlatState) → AreSameStates (design_of text).families now flat_now →
-        raw_allowed (flatten text) sizes layer (flat_element (scope_in text []) x) (every_value (design_of text) sizes x) flat_before flat_now ≡ allowed (design_of text) sizes layer x before now }
+        flat_text_allowed (flatten text) sizes layer (flat_element (scope_in text []) x) (every_value (design_of text) sizes x) flat_before flat_now ≡ allowed (design_of text) sizes layer x before now }
 {}
 
 /// Under the same conditions the claims of the flattened text are those of the text, one for one.

@@ -8,19 +8,19 @@ use Rattle.smv_core.specs.declared.tree.Kind.TheVariants.{Comb, Init, Next}
 use Rattle.smv_core.specs.declared.flat.Simple.{Simple}
 use Rattle.smv_core.specs.declared.flat.FlatExpr.{FlatExpr}
 use Rattle.smv_core.specs.declared.flat.FlatStmt.{FlatStmt, Assign, If', Block', Default', Forall', Row_of-FlatStmt, end_of-FlatStmt, more_of-FlatStmt}
-use Rattle.smv_core.specs.declared.flat.Flat.{Flat, Nothing, If, First, Forall, Row_of-Flat, end_of-Flat, more_of-Flat, items-the_row-Flat, items_hidden-the_row-Flat-1}
-use Rattle.smv_core.specs.declared.flat.Flat as part
+use Rattle.smv_core.specs.declared.flat.DefBody.{DefBody, Nothing, If, First, Forall, Row_of-DefBody, end_of-DefBody, more_of-DefBody, items-the_row-DefBody, items_hidden-the_row-DefBody-1}
+use Rattle.smv_core.specs.declared.flat.DefBody as part
 use Rattle.smv_core.specs.declared.flat.FlatItem.{FlatItem}
 use Rattle.smv_core.specs.declared.flat.FlatItem.TheVariants as item
-use Rattle.smv_core.specs.declared.flat.Raw.{Raw}
+use Rattle.smv_core.specs.declared.flat.FlatText.{FlatText}
 use Rattle.law_designs.specs.Flattening.{different}
 use Rattle.law_designs.specs.WholeText.{is_one_layer, claims_of}
 use Rattle.law_designs.specs.Standing.{count, Statement, statements_from, statements_of, Standing, standing, standing_in, assigned_by}
-use Rattle.law_designs.specs.Definitions.{is_nothing, joined, first_part, flat_of, flats_of, part_of, set_of, Head, head, heads_of, same_definition, first_heads, def_of, splits_of, uses_of, design_of_raw}
+use Rattle.law_designs.specs.Definitions.{is_nothing, joined, first_part, flat_of, flats_of, part_of, set_of, Head, head, heads_of, same_definition, first_heads, def_of, splits_of, uses_of, design_of_flat_text}
 use Rattle.law_designs.proofs.FlatParts.{boxes, rows_of}
 use Rattle.law_designs.proofs.Faultless.{each-append, each-map}
 use Rattle.law_fault_places.proofs.TreeLists.{all-flat, all-filtered, all-zipped}
-use Rattle.law_fault_places.specs.FlatPlaces.{FlatExprIsWithin, FlatExprsAreWithin, ActIsWithin, ActsAreWithin, ClaimIsWithin, SplitIsWithin, UsingIsWithin, FlatItemIsWithin, RawIsWithin, PartOfIsWithin, PartsOfAreWithin, DefIsWithin, DesignIsWithin}
+use Rattle.law_fault_places.specs.FlatPlaces.{FlatExprIsWithin, FlatExprsAreWithin, ActIsWithin, ActsAreWithin, ClaimIsWithin, SplitIsWithin, UsingIsWithin, FlatItemIsWithin, FlatTextIsWithin, PartOfIsWithin, PartsOfAreWithin, DefIsWithin, DesignIsWithin}
 
 pub different-all : {X : Type 0} (P : X → Type 0) (same : X → X → Bool) (xs : List X) → AllByRecursion P xs → AllByRecursion P (different same xs)
 different-all P same [] h = tt
@@ -39,8 +39,8 @@ module _ (n : ℕ) where
   from-within k (item.Split s ∷ items) h = from-within k items h.1
   from-within k (item.Using u ∷ items) h = from-within k items h.1
 
-  pub statements-within : (raw : Raw) → RawIsWithin n raw → AllByRecursion SaidIsWithin (statements_of raw)
-  statements-within raw h = from-within 0 raw.items h
+  pub statements-within : (flat_text : FlatText) → FlatTextIsWithin n flat_text → AllByRecursion SaidIsWithin (statements_of flat_text)
+  statements-within flat_text h = from-within 0 flat_text.items h
 
   abbrev pub StandingIsWithin : Standing → Type 0
   StandingIsWithin a = FlatExprsAreWithin n a.left × (a.at ≤ n)
@@ -65,30 +65,30 @@ module _ (n : ℕ) where
 
   -- ---- parts of definitions
 
-  parts-row : (k : _) (row : Row_of-Flat k) → AllByRecursion (PartOfIsWithin n) (items-the_row-Flat k row) → PartsOfAreWithin n row
-  parts-row k end_of-Flat h = tt
-  parts-row k (more_of-Flat one rest) h = (h.0, parts-row _ rest h.1)
+  parts-row : (k : _) (row : Row_of-DefBody k) → AllByRecursion (PartOfIsWithin n) (items-the_row-DefBody k row) → PartsOfAreWithin n row
+  parts-row k end_of-DefBody h = tt
+  parts-row k (more_of-DefBody one rest) h = (h.0, parts-row _ rest h.1)
 
-  first-within : (parts : List Flat) → AllByRecursion (PartOfIsWithin n) parts → PartOfIsWithin n (First parts)
-  first-within parts h = parts-row (rows_of (First parts)).0 (rows_of (First parts)).1 (subst (AllByRecursion (PartOfIsWithin n)) (sym (items_hidden-the_row-Flat-1 parts)) h)
+  first-within : (parts : List DefBody) → AllByRecursion (PartOfIsWithin n) parts → PartOfIsWithin n (First parts)
+  first-within parts h = parts-row (rows_of (First parts)).0 (rows_of (First parts)).1 (subst (AllByRecursion (PartOfIsWithin n)) (sym (items_hidden-the_row-DefBody-1 parts)) h)
 
-  if-within : (cond : FlatExpr) (left right : Flat) → FlatExprIsWithin n cond → PartOfIsWithin n left → PartOfIsWithin n right → PartOfIsWithin n (If cond left right)
+  if-within : (cond : FlatExpr) (left right : DefBody) → FlatExprIsWithin n cond → PartOfIsWithin n left → PartOfIsWithin n right → PartOfIsWithin n (If cond left right)
   unfolding boxes
   if-within cond left right h g k = (h, g, k)
 
-  forall-within : (var : ℕ) (over : Simple) (body : Flat) → PartOfIsWithin n body → PartOfIsWithin n (Forall var over body)
+  forall-within : (var : ℕ) (over : Simple) (body : DefBody) → PartOfIsWithin n body → PartOfIsWithin n (Forall var over body)
   unfolding boxes
   forall-within var over body h = h
 
-  joined-within : (parts : List Flat) → AllByRecursion (PartOfIsWithin n) parts → PartOfIsWithin n (joined parts)
+  joined-within : (parts : List DefBody) → AllByRecursion (PartOfIsWithin n) parts → PartOfIsWithin n (joined parts)
   joined-within [] h = tt
   joined-within (one ∷ []) h = h.0
   joined-within (one ∷ other ∷ more) h = first-within (one ∷ other ∷ more) h
 
-  first_part-within : (parts : List Flat) → AllByRecursion (PartOfIsWithin n) parts → PartOfIsWithin n (first_part parts)
+  first_part-within : (parts : List DefBody) → AllByRecursion (PartOfIsWithin n) parts → PartOfIsWithin n (first_part parts)
   first_part-within parts h = joined-within (filter (λ p. not (is_nothing p)) parts) (all-filtered (PartOfIsWithin n) (λ p. not (is_nothing p)) parts h)
 
-  either-within : (b : Bool) (x y : Flat) → PartOfIsWithin n x → PartOfIsWithin n y → PartOfIsWithin n (cond b x y)
+  either-within : (b : Bool) (x y : DefBody) → PartOfIsWithin n x → PartOfIsWithin n y → PartOfIsWithin n (cond b x y)
   either-within true x y h g = h
   either-within false x y h g = g
 
@@ -125,13 +125,13 @@ module _ (n : ℕ) where
       each-map (λ (p : Standing × ℕ). StandingIsWithin p.0) HeadIsWithin (λ (p : Standing × ℕ). head p.0 p.1) (λ p own. own.1)
       (zip (assigned_by s) (numbers_from s.place (count s.act))) (all-zipped StandingIsWithin (assigned_by s) (numbers_from s.place (count s.act)) (assigned-within s h))
 
-  first-heads-within : (raw : Raw) → RawIsWithin n raw → AllByRecursion HeadIsWithin (first_heads raw)
-  first-heads-within raw h = different-all HeadIsWithin same_definition (flat_map heads_of (statements_of raw)) (all-flat SaidIsWithin HeadIsWithin heads_of heads-within (statements_of raw) (statements-within raw h))
+  first-heads-within : (flat_text : FlatText) → FlatTextIsWithin n flat_text → AllByRecursion HeadIsWithin (first_heads flat_text)
+  first-heads-within flat_text h = different-all HeadIsWithin same_definition (flat_map heads_of (statements_of flat_text)) (all-flat SaidIsWithin HeadIsWithin heads_of heads-within (statements_of flat_text) (statements-within flat_text h))
 
-  def-within : (raw : Raw) → RawIsWithin n raw → (own : Head) → HeadIsWithin own → DefIsWithin n (def_of raw own)
-  def-within raw h own le =
-      let set = set_of raw own.layer in
-      let said : AllByRecursion SaidIsWithin set = all-filtered SaidIsWithin (λ (s : Statement). is_one_layer own.layer s.layer) (statements_of raw) (statements-within raw h) in
+  def-within : (flat_text : FlatText) → FlatTextIsWithin n flat_text → (own : Head) → HeadIsWithin own → DefIsWithin n (def_of flat_text own)
+  def-within flat_text h own le =
+      let set = set_of flat_text own.layer in
+      let said : AllByRecursion SaidIsWithin set = all-filtered SaidIsWithin (λ (s : Statement). is_one_layer own.layer s.layer) (statements_of flat_text) (statements-within flat_text h) in
       (part-within Init own.family set said, part-within Next own.family set said, part-within Comb own.family set said, le)
 
   -- ---- designs
@@ -158,10 +158,10 @@ module _ (n : ℕ) where
   uses-within (item.Using u ∷ items) h = (h.0, uses-within items h.1)
 
   -- the design of a flattened text keeps its places
-  pub design-within : (raw : Raw) → RawIsWithin n raw → DesignIsWithin n (design_of_raw raw)
-  design-within raw h = record {
-    defs = each-map HeadIsWithin (DefIsWithin n) (def_of raw) (def-within raw h) (first_heads raw) (first-heads-within raw h);
-    claims = claims-within raw.items h;
-    splits = splits-within raw.items h;
-    uses = uses-within raw.items h;
+  pub design-within : (flat_text : FlatText) → FlatTextIsWithin n flat_text → DesignIsWithin n (design_of_flat_text flat_text)
+  design-within flat_text h = record {
+    defs = each-map HeadIsWithin (DefIsWithin n) (def_of flat_text) (def-within flat_text h) (first_heads flat_text) (first-heads-within flat_text h);
+    claims = claims-within flat_text.items h;
+    splits = splits-within flat_text.items h;
+    uses = uses-within flat_text.items h;
   }

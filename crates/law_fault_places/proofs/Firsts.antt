@@ -6,8 +6,8 @@ use Rattle.std.specs.Option.{option_map, unwrap_or}
 use Rattle.smv_core.specs.Values.{Name}
 use Rattle.smv_core.specs.Types.{find_name}
 use Rattle.smv_core.specs.declared.fault.Fault.{Fault}
-use Rattle.smv_instances.specs.NameFaults.{place_if}
-use Rattle.smv_instances.specs.FirstFault.{comes_before, earlier, first_of, faults_at, or_else}
+use Rattle.smv_mentions.specs.NameFaults.{place_if}
+use Rattle.smv_mentions.specs.FirstFault.{comes_before, earlier, first_of, faults_at, or_else}
 use Rattle.law_fault_places.specs.FaultPlaces.{IsFaultOf}
 use Rattle.law_fault_places.proofs.TreeLists.{all-flat}
 

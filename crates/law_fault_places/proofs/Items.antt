@@ -23,7 +23,7 @@ use Rattle.smv_core.specs.declared.tree.Top.TheVariants.{SetType, Alias, Module}
 use Rattle.smv_core.specs.declared.tree.Text.{Text}
 use Rattle.smv_core.specs.declared.flat.FlatItem.{FlatItem}
 use Rattle.smv_core.specs.declared.flat.FlatItem.TheVariants as item
-use Rattle.smv_instances.proofs.Computing.{computing}
+use Rattle.smv_mentions.proofs.Computing.{computing}
 use Rattle.law_designs.specs.Numbers.{Scope}
 use Rattle.law_designs.specs.Statements.{first_token}
 use Rattle.law_designs.specs.Entries.{Binders, Goal, claim, split, using, Entry, layer, statement, goal, inside_binder, formal, given_to, connection, connections, instance_entries, item_entries, items_entries, entries_in, entries}
@@ -32,7 +32,7 @@ use Rattle.law_designs.proofs.Faultless.{each-append, each-map}
 use Rattle.law_fault_places.specs.TreePlaces.{WordIsWithin, WordsAreWithin, TypeIsWithin, ExprIsWithin, ExprsAreWithin, PartsAreWithin, PathIsWithin, StatementIsWithin, RefIsWithin, UseIsWithin, PairIsWithin, ItemIsWithin, ItemsAreWithin, TopIsWithin, TextIsWithin}
 use Rattle.law_fault_places.proofs.TreeLists.{all-flat, any-mapped}
 use Rattle.law_fault_places.proofs.TreeForms.{row-parts, within-Signal, within-Assign, within-Forall}
-use Rattle.law_fault_places.specs.FlatPlaces.{FlatPairIsWithin, FlatItemIsWithin, RawIsWithin}
+use Rattle.law_fault_places.specs.FlatPlaces.{FlatPairIsWithin, FlatItemIsWithin, FlatTextIsWithin}
 use Rattle.law_fault_places.proofs.Flattened.{first-within, expr-within, act-within}
 
 module _ (n : ℕ) where
@@ -174,7 +174,7 @@ module _ (n : ℕ) where
   places-within k (item.Using u ∷ items) h = (h.0, places-within k items h.1)
 
   -- the flattened text keeps the places of its tree
-  pub flatten-within : (text : Text) → TextIsWithin n text → RawIsWithin n (flatten text)
+  pub flatten-within : (text : Text) → TextIsWithin n text → FlatTextIsWithin n (flatten text)
   flatten-within text h =
       let layers = layers_of (entries text) in
       places-within 0 (flat_map (flat_entry text layers) (entries text)) (all-flat EntryIsWithin (FlatItemIsWithin n) (flat_entry text layers) (entry-within text layers) (entries text) (text-within text h))

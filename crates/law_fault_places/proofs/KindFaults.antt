@@ -18,9 +18,9 @@ use Rattle.smv_core.specs.declared.tree.Expr.{Expr, Signal', items-the_row-Part}
 use Rattle.smv_core.specs.declared.tree.Stmt.{Stmt, Assign, Block', If', Switch', Default', For', Forall', Held-Stmt-If-2, None', Some', Row_of-Stmt, end_of-Stmt, more_of-Stmt, Row_of-Arm, end_of-Arm, more_of-Arm}
 use Rattle.smv_core.specs.declared.tree.Item.{Item, Declare, Instance, Layer, Claim, Split, Using, Act, Row_of-Item, end_of-Item, more_of-Item}
 use Rattle.smv_core.specs.declared.tree.Item as item
-use Rattle.smv_instances.specs.Mentions.{What, signal, instance, goal}
-use Rattle.smv_instances.specs.Scopes.{Own, Constant, pieces, constants}
-use Rattle.smv_instances.specs.FirstFault.{faults_at}
+use Rattle.smv_mentions.specs.Mentions.{What, signal, instance, goal}
+use Rattle.smv_mentions.specs.Scopes.{Own, Constant, pieces, constants}
+use Rattle.smv_mentions.specs.FirstFault.{faults_at}
 use Rattle.law_designs.specs.Kinds.{Kind, number, Operand, takes, takes_number, alike}
 use Rattle.law_designs.specs.Types.{Types, leads, value_kind, types_after, index_faults, type_faults}
 use Rattle.law_designs.specs.References.{Module, module_of, modules_from, Scope, Vars, signal_at, reference}

@@ -3,7 +3,7 @@ use Rattle.std.proofs.Common.{◌≤◌, ℕ, Bool, true, false, cond, List, [],
 use Rattle.std.specs.List.{AllByRecursion, flat_map}
 use Rattle.smv_core.specs.declared.flat.FlatMember.{One, Span as SpanOf}
 use Rattle.smv_core.specs.declared.flat.FlatExpr.{FlatExpr, Number, Read', Var, Loop, Constant, Not', And', Or', Implies', Iff', Compare', Within', Sum', Modulo', Choose', All', Any', List', Each', Held-FlatExpr-Each-2, None', Some', Row_of-FlatExpr, end_of-FlatExpr, more_of-FlatExpr, Row_of-FlatMember, end_of-FlatMember, more_of-FlatMember, Row_of-FlatSigned, end_of-FlatSigned, more_of-FlatSigned}
-use Rattle.smv_core.specs.declared.flat.Flat.{Flat, Nothing, Assign, If', First', Forall', Row_of-Flat, end_of-Flat, more_of-Flat}
+use Rattle.smv_core.specs.declared.flat.DefBody.{DefBody, Nothing, Assign, If', First', Forall', Row_of-DefBody, end_of-DefBody, more_of-DefBody}
 use Rattle.smv_core.specs.declared.flat.Def.{Def}
 use Rattle.smv_core.specs.declared.flat.Design.{Design}
 use Rattle.law_designs.specs.Reading.{Reference, references, references_of, references_signed, references_members, references_held, Reading, readings, readings_of}
@@ -79,19 +79,19 @@ module _ (n : ℕ) where
 
   module _ (family : ℕ) where
     mutual
-      readings-within : (around : List Reference) (p : Flat) → ReferencesAreWithin around → PartOfIsWithin n p → ReadingsAreWithin (readings family around p)
+      readings-within : (around : List Reference) (p : DefBody) → ReferencesAreWithin around → PartOfIsWithin n p → ReadingsAreWithin (readings family around p)
       readings-within around Nothing a h = tt
       readings-within around (Assign left value place at) a h =
           ((h.0, join (around ++ (flat_map references left)) (references value) (join around (flat_map references left) a (all-flat (FlatExprIsWithin n) ReferenceIsWithin references references-within left h.1)) (references-within value h.2)), tt)
-      readings-within around (If' cond l (more_of-Flat left end_of-Flat) r (more_of-Flat right end_of-Flat)) a h =
+      readings-within around (If' cond l (more_of-DefBody left end_of-DefBody) r (more_of-DefBody right end_of-DefBody)) a h =
           let inside : ReferencesAreWithin (around ++ references cond) = join around (references cond) a (references-within cond h.0) in
           each-append ReadingIsWithin (readings family (around ++ references cond) left) (readings family (around ++ references cond) right) (readings-within (around ++ references cond) left inside h.1) (readings-within (around ++ references cond) right inside h.2)
       readings-within around (First' shape parts) a h = parts-within around parts a h
-      readings-within around (Forall' var over shape (more_of-Flat body end_of-Flat)) a h = readings-within around body a h
+      readings-within around (Forall' var over shape (more_of-DefBody body end_of-DefBody)) a h = readings-within around body a h
 
-      parts-within : {m : _} (around : List Reference) (row : Row_of-Flat m) → ReferencesAreWithin around → PartsOfAreWithin n row → ReadingsAreWithin (readings_of family around row)
-      parts-within around end_of-Flat a h = tt
-      parts-within around (more_of-Flat part rest) a h = each-append ReadingIsWithin (readings family around part) (readings_of family around rest) (readings-within around part a h.0) (parts-within around rest a h.1)
+      parts-within : {m : _} (around : List Reference) (row : Row_of-DefBody m) → ReferencesAreWithin around → PartsOfAreWithin n row → ReadingsAreWithin (readings_of family around row)
+      parts-within around end_of-DefBody a h = tt
+      parts-within around (more_of-DefBody part rest) a h = each-append ReadingIsWithin (readings family around part) (readings_of family around rest) (readings-within around part a h.0) (parts-within around rest a h.1)
 
   -- ---- loops
 

@@ -7,11 +7,11 @@ use Rattle.smv_core.specs.Types.{find_name}
 use Rattle.smv_core.specs.FlatOrder.{main}
 use Rattle.smv_core.specs.declared.tree.Word.{Word}
 use Rattle.smv_core.specs.declared.tree.Text.{Text}
-use Rattle.smv_instances.specs.Mentions.{Mention, declares, binds, follows, names_type, lists_constants, has_fields, instantiates}
-use Rattle.smv_instances.specs.Scopes.{Piece, pieces, Scope, Own, scope_of, has_name, module_named, constant_at, words_of}
-use Rattle.smv_instances.specs.NameFaults.{place_if, is_type, is_port, is_port_if_own, undeclared, formal_undeclared, repeated, later, own_at, is_of_other_list, places_of, doubled, declared_words, contains, recursive, takes_other, miscounted, formals_of, undeclared_in, doubled_in, recursive_in, miscounted_in, name_faults}
-use Rattle.smv_instances.specs.Sizes.{is_too_large}
-use Rattle.smv_instances.specs.FirstFault.{first_of, faults_of_names, fault_at_main, fault_of_size, first_fault}
+use Rattle.smv_mentions.specs.Mentions.{Mention, declares, binds, follows, names_type, lists_constants, has_fields, instantiates}
+use Rattle.smv_mentions.specs.Scopes.{Piece, pieces, Scope, Own, scope_of, has_name, module_named, constant_at, words_of}
+use Rattle.smv_mentions.specs.NameFaults.{place_if, is_type, is_port, is_port_if_own, undeclared, formal_undeclared, repeated, later, own_at, is_of_other_list, places_of, doubled, declared_words, contains, recursive, takes_other, miscounted, formals_of, undeclared_in, doubled_in, recursive_in, miscounted_in, name_faults}
+use Rattle.smv_mentions.specs.Sizes.{is_too_large}
+use Rattle.smv_mentions.specs.FirstFault.{first_of, faults_of_names, fault_at_main, fault_of_size, first_fault}
 use Rattle.law_designs.proofs.Faultless.{each-append, each-map}
 use Rattle.law_fault_places.specs.TreePlaces.{WordIsWithin, WordsAreWithin, TextIsWithin}
 use Rattle.law_fault_places.specs.FaultPlaces.{IsFaultOf}

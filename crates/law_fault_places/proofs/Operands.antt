@@ -6,8 +6,8 @@ use Rattle.smv_core.specs.declared.tree.Op.{Op}
 use Rattle.smv_core.specs.declared.tree.Op.TheVariants.{Equal, Differ, Less, AtMost, Greater, AtLeast}
 use Rattle.smv_core.specs.declared.tree.Span.{Span}
 use Rattle.smv_core.specs.declared.tree.TypeExpr.{TypeExpr, Boolean, Range, Enum, Named, Array', Struct', end_of-TypeExpr, more_of-TypeExpr, Row_of-Field, end_of-Field, more_of-Field}
-use Rattle.smv_instances.specs.NameFaults.{place_if}
-use Rattle.smv_instances.specs.FirstFault.{faults_at}
+use Rattle.smv_mentions.specs.NameFaults.{place_if}
+use Rattle.smv_mentions.specs.FirstFault.{faults_at}
 use Rattle.law_designs.specs.Kinds.{Kind, no_kind, joins, joined, accepts, is_number, has_order, Operand, unless, takes_number, takes, alike_with, alike, ordered, first_at, number_at, of_numbers, of_alike, chosen, listed, stray_set}
 use Rattle.law_designs.specs.Types.{Whole, Types, index_kind, is_reversed, range_faults, size_faults, is_index, index_faults, type_faults, field_faults}
 use Rattle.law_designs.specs.References.{reference}

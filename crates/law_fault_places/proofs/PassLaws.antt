@@ -11,7 +11,7 @@ use Rattle.smv_core.specs.declared.flat.Unit.TheVariants as unit
 use Rattle.smv_core.specs.declared.flat.Leaf.{Leaf}
 use Rattle.smv_core.specs.declared.flat.Choice.{Choice}
 use Rattle.smv_core.specs.declared.flat.Class.{Class}
-use Rattle.smv_instances.specs.FirstFault.{first_of}
+use Rattle.smv_mentions.specs.FirstFault.{first_of}
 use Rattle.law_obligations.specs.LeafCases.{leaf_cases}
 use Rattle.law_obligations.specs.Outlines.{as_map, as_claim, unit_in}
 use Rattle.law_obligations.specs.Units.{units_of}

@@ -29,7 +29,7 @@ use Rattle.smv_core.specs.Notation.{Tokens, Rule, nothing, ◌>>=◌, ◌>>◌, 
 use Rattle.smv_core.specs.Grammar as g
 use Rattle.smv_core.specs.Grammar.{Rules, no_rules, rules, below, chain, sum_of, named, place_of, Turns, RefPart, Dotted, Bracketed, dotted, bracketed}
 use Rattle.smv_core.specs.Spelling.{Spells}
-use Rattle.smv_instances.proofs.Computing.{computing}
+use Rattle.smv_mentions.proofs.Computing.{computing}
 use Rattle.law_fault_places.specs.TreePlaces.{WordIsWithin, WordsAreWithin, TypeIsWithin, ExprIsWithin, ExprsAreWithin, PartIsWithin, PathIsWithin, StatementIsWithin, RefIsWithin, UseIsWithin, PairIsWithin, ItemIsWithin, TopIsWithin, TextIsWithin}
 use Rattle.law_fault_places.proofs.TreeForms.{FieldIsWithin, within-Struct, within-Array, within-field, MemberIsWithin, TermIsWithin, within-And, within-Or, within-Implies, within-List, within-Signal, within-Sum, within-Not, within-Modulo, within-Iff, within-Compare, within-Within, within-Choose, within-All, within-Any, IsWithinOrNone, within-Each, within-term, ArmIsWithin, OtherIsWithin, within-Assign, within-Block, within-If, within-Switch, within-Default, within-For, within-Forall, within-arm, within_item-Block, within_item-Forall}
 

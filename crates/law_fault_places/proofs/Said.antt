@@ -14,8 +14,8 @@ use Rattle.smv_core.specs.declared.tree.Stmt.{Stmt, Assign, Block', If', Switch'
 use Rattle.smv_core.specs.declared.tree.Stmt as stmt
 use Rattle.smv_core.specs.declared.tree.Item.{Item, Declare, Instance, Layer, Claim, Split, Using, Act, Row_of-Item, end_of-Item, more_of-Item}
 use Rattle.smv_core.specs.declared.tree.Item as item
-use Rattle.smv_instances.specs.Mentions.{What, signal, instance, Mention, declares, binds, follows, names_type, lists_constants, has_fields, instantiates, first_place, bound_at, path_in, binder_in, fields_in, in_type, in_fields, in_expr, in_row, in_parts, in_sum, in_members, in_held, in_part, in_path, in_stmt, in_block, in_branch, in_arms, declared_as, in_item, in_items}
-use Rattle.smv_instances.specs.Scopes.{words_of}
+use Rattle.smv_mentions.specs.Mentions.{What, signal, instance, Mention, declares, binds, follows, names_type, lists_constants, has_fields, instantiates, first_place, bound_at, path_in, binder_in, fields_in, in_type, in_fields, in_expr, in_row, in_parts, in_sum, in_members, in_held, in_part, in_path, in_stmt, in_block, in_branch, in_arms, declared_as, in_item, in_items}
+use Rattle.smv_mentions.specs.Scopes.{words_of}
 use Rattle.law_designs.proofs.Faultless.{each-append, each-map}
 use Rattle.law_fault_places.specs.TreePlaces.{WordIsWithin, WordsAreWithin, TypeIsWithin, FieldsAreWithin, ExprIsWithin, RowIsWithin, PartsAreWithin, TermsAreWithin, MembersAreWithin, ConditionIsWithin, ExprsAreWithin, PartIsWithin, PathIsWithin, StatementIsWithin, StatementsAreWithin, BranchIsWithin, ArmsAreWithin, PairIsWithin, ItemIsWithin, ItemsAreWithin}
 use Rattle.law_fault_places.proofs.TreeLists.{all-flat}

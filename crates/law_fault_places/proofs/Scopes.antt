@@ -9,8 +9,8 @@ use Rattle.smv_core.specs.declared.tree.Top.{Top}
 use Rattle.smv_core.specs.declared.tree.Top.TheVariants.{SetType, Alias, Module}
 use Rattle.smv_core.specs.declared.tree.Text.{Text}
 use Rattle.smv_core.specs.declared.tree.TypeExpr.{TypeExpr, Boolean, Range, Enum, Named, Array', Struct', end_of-TypeExpr, more_of-TypeExpr, Row_of-Field, end_of-Field, more_of-Field}
-use Rattle.smv_instances.specs.Mentions.{What, signal, instance, goal, Mention, declares, binds, follows, names_type, lists_constants, has_fields, instantiates, in_item}
-use Rattle.smv_instances.specs.Scopes.{Fields, no_field, Known, fields_if_type, has_name, fields_of, field_among, known_after, Piece, piece_of, pieces_from, pieces, Body, body_if_module, module_named, Own, own_names, behind, Constant, constants_in, constants, Scope, scope_of, first_of_places, is_before, constant_at, resolved, path_places}
+use Rattle.smv_mentions.specs.Mentions.{What, signal, instance, goal, Mention, declares, binds, follows, names_type, lists_constants, has_fields, instantiates, in_item}
+use Rattle.smv_mentions.specs.Scopes.{Fields, no_field, Known, fields_if_type, has_name, fields_of, field_among, known_after, Piece, piece_of, pieces_from, pieces, Body, body_if_module, module_named, Own, own_names, behind, Constant, constants_in, constants, Scope, scope_of, first_of_places, is_before, constant_at, resolved, path_places}
 use Rattle.law_designs.proofs.Faultless.{each-append, each-map}
 use Rattle.law_fault_places.specs.TreePlaces.{WordIsWithin, WordsAreWithin, ItemIsWithin, TopIsWithin, TextIsWithin}
 use Rattle.law_fault_places.proofs.TreeLists.{all-flat}

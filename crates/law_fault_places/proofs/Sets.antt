@@ -12,7 +12,7 @@ use Rattle.smv_core.specs.declared.flat.FlatExpr.{FlatExpr, Number, Read', Var, 
 use Rattle.smv_core.specs.declared.flat.FlatStmt.{FlatStmt, Assign, If', Block', Default', Forall', Row_of-FlatStmt, end_of-FlatStmt, more_of-FlatStmt}
 use Rattle.smv_core.specs.declared.flat.FlatItem.{FlatItem}
 use Rattle.smv_core.specs.declared.flat.FlatItem.TheVariants as item
-use Rattle.smv_core.specs.declared.flat.Raw.{Raw}
+use Rattle.smv_core.specs.declared.flat.FlatText.{FlatText}
 use Rattle.law_designs.specs.FlatKinds.{Kind, Vars, inside, value_in, bound_by, kind_of}
 use Rattle.law_designs.specs.SetOperands.{first_at, first_at_of, Operand, is_number, is_of_set, number_fault, met, wanted, wanted_at, wanted_of, is_order, lacks_order, disordered}
 use Rattle.law_designs.specs.SetFaults.{operand, operands, members_of, listed, faults_in, faults_each, faults_signed, faults_members, faults_held, faults_of, faults_of_each, item_faults, faults_of_sets, first_fault_of_sets}
@@ -20,7 +20,7 @@ use Rattle.law_designs.proofs.Faultless.{each-append, each-map}
 use Rattle.law_fault_places.specs.FaultPlaces.{IsFaultOf}
 use Rattle.law_fault_places.proofs.TreeLists.{all-flat, all-filtered, zipped-all}
 use Rattle.law_fault_places.proofs.Firsts.{first-one}
-use Rattle.law_fault_places.specs.FlatPlaces.{FlatExprIsWithin, FlatRowIsWithin, FlatTermsAreWithin, FlatMembersAreWithin, FlatConditionIsWithin, FlatExprsAreWithin, FlatPairIsWithin, ActIsWithin, ActsAreWithin, FlatItemIsWithin, RawIsWithin}
+use Rattle.law_fault_places.specs.FlatPlaces.{FlatExprIsWithin, FlatRowIsWithin, FlatTermsAreWithin, FlatMembersAreWithin, FlatConditionIsWithin, FlatExprsAreWithin, FlatPairIsWithin, ActIsWithin, ActsAreWithin, FlatItemIsWithin, FlatTextIsWithin}
 use Rattle.law_fault_places.specs.DesignFaultPlaces.{numbers_of_sets}
 
 module _ (n : ℕ) where
@@ -105,31 +105,31 @@ module _ (n : ℕ) where
       by true = (record { number = refl; place = h }, tt)
       by false = tt
 
-  module _ (raw : Raw) (kind_at : Vars → FlatExpr → Option Kind) where
-    operands-within : {m : _} (vars : Vars) (row : Row_of-FlatExpr m) → FlatRowIsWithin n row → OperandsAreWithin (operands raw kind_at vars row)
+  module _ (flat_text : FlatText) (kind_at : Vars → FlatExpr → Option Kind) where
+    operands-within : {m : _} (vars : Vars) (row : Row_of-FlatExpr m) → FlatRowIsWithin n row → OperandsAreWithin (operands flat_text kind_at vars row)
     operands-within vars end_of-FlatExpr h = tt
     operands-within vars (more_of-FlatExpr e others) h = (first-place e h.0, operands-within vars others h.1)
 
-    members-within : {m : _} (vars : Vars) (row : Row_of-FlatMember m) → FlatMembersAreWithin n row → OperandsAreWithin (members_of raw kind_at vars row)
+    members-within : {m : _} (vars : Vars) (row : Row_of-FlatMember m) → FlatMembersAreWithin n row → OperandsAreWithin (members_of flat_text kind_at vars row)
     members-within vars end_of-FlatMember h = tt
     members-within vars (more_of-FlatMember (One e) others) h = (first-place e h.0, members-within vars others h.1)
     members-within vars (more_of-FlatMember (SpanOf span at) others) h = (h.0, members-within vars others h.1)
 
-    listed-within : (vars : Vars) (e : FlatExpr) → FlatExprIsWithin n e → OperandsAreWithin (listed raw kind_at vars e)
+    listed-within : (vars : Vars) (e : FlatExpr) → FlatExprIsWithin n e → OperandsAreWithin (listed flat_text kind_at vars e)
     listed-within vars (List' shape members at) h = members-within vars members h.1
     listed-within vars _ h = tt
 
     -- ---- expressions
 
     abbrev of : Vars → FlatExpr → List Fault
-    of = faults_in raw kind_at
+    of = faults_in flat_text kind_at
 
     mutual
       in-within : (vars : Vars) (e : FlatExpr) → FlatExprIsWithin n e → AreWithin (of vars e)
       in-within vars (Number value at) h = tt
       in-within vars (Read' family shape indexes at) h =
-          both (faults_each raw kind_at vars indexes) (wanted_at (slice_get raw.families family) (operands raw kind_at vars indexes)) (each-within vars indexes h.1)
-          (wanted_at-within (slice_get raw.families family) (operands raw kind_at vars indexes) (operands-within vars indexes h.1))
+          both (faults_each flat_text kind_at vars indexes) (wanted_at (slice_get flat_text.families family) (operands flat_text kind_at vars indexes)) (each-within vars indexes h.1)
+          (wanted_at-within (slice_get flat_text.families family) (operands flat_text kind_at vars indexes) (operands-within vars indexes h.1))
       in-within vars (Var var at) h = tt
       in-within vars (Loop value at) h = tt
       in-within vars (Constant list value at) h = tt
@@ -139,76 +139,76 @@ module _ (n : ℕ) where
       in-within vars (Implies' shape parts) h = each-within vars parts h
       in-within vars (Iff' l (more_of-FlatExpr left end_of-FlatExpr) r (more_of-FlatExpr right end_of-FlatExpr)) h = both (of vars left) (of vars right) (in-within vars left h.0) (in-within vars right h.1)
       in-within vars (Compare' op l (more_of-FlatExpr left end_of-FlatExpr) r (more_of-FlatExpr right end_of-FlatExpr)) h =
-          let x = operand raw kind_at vars left in
-          let y = operand raw kind_at vars right in
+          let x = operand flat_text kind_at vars left in
+          let y = operand flat_text kind_at vars right in
           let xh : OperandIsWithin x = first-place left h.0 in
           let yh : OperandIsWithin y = first-place right h.1 in
-          both ((of vars left) ++ (of vars right) ++ (met (x ∷ y ∷ [])) ++ (disordered raw.sets op x)) (disordered raw.sets op y)
-          (both ((of vars left) ++ (of vars right) ++ (met (x ∷ y ∷ []))) (disordered raw.sets op x)
+          both ((of vars left) ++ (of vars right) ++ (met (x ∷ y ∷ [])) ++ (disordered flat_text.sets op x)) (disordered flat_text.sets op y)
+          (both ((of vars left) ++ (of vars right) ++ (met (x ∷ y ∷ []))) (disordered flat_text.sets op x)
           (both ((of vars left) ++ (of vars right)) (met (x ∷ y ∷ []))
-          (both (of vars left) (of vars right) (in-within vars left h.0) (in-within vars right h.1)) (met-within (x ∷ y ∷ []) (xh, (yh, tt)))) (disordered-within raw.sets op x xh)) (disordered-within raw.sets op y yh)
+          (both (of vars left) (of vars right) (in-within vars left h.0) (in-within vars right h.1)) (met-within (x ∷ y ∷ []) (xh, (yh, tt)))) (disordered-within flat_text.sets op x xh)) (disordered-within flat_text.sets op y yh)
       in-within vars (Within' l (more_of-FlatExpr left end_of-FlatExpr) r (more_of-FlatExpr set end_of-FlatExpr)) h =
-          both ((of vars left) ++ (of vars set)) (met (operand raw kind_at vars left ∷ listed raw kind_at vars set)) (both (of vars left) (of vars set) (in-within vars left h.0) (in-within vars set h.1)) (met-within (operand raw kind_at vars left ∷ listed raw kind_at vars set) (first-place left h.0, listed-within vars set h.1))
-      in-within vars (Sum' f (more_of-FlatExpr head end_of-FlatExpr) shape more) h = both (of vars head) (faults_signed raw kind_at vars more) (in-within vars head h.0) (signed-within vars more h.1)
+          both ((of vars left) ++ (of vars set)) (met (operand flat_text kind_at vars left ∷ listed flat_text kind_at vars set)) (both (of vars left) (of vars set) (in-within vars left h.0) (in-within vars set h.1)) (met-within (operand flat_text kind_at vars left ∷ listed flat_text kind_at vars set) (first-place left h.0, listed-within vars set h.1))
+      in-within vars (Sum' f (more_of-FlatExpr head end_of-FlatExpr) shape more) h = both (of vars head) (faults_signed flat_text kind_at vars more) (in-within vars head h.0) (signed-within vars more h.1)
       in-within vars (Modulo' shape (more_of-FlatExpr e end_of-FlatExpr) by at) h = in-within vars e h.1
       in-within vars (Choose' c (more_of-FlatExpr cond end_of-FlatExpr) l (more_of-FlatExpr left end_of-FlatExpr) r (more_of-FlatExpr right end_of-FlatExpr)) h =
-          let x = operand raw kind_at vars left in
-          let y = operand raw kind_at vars right in
+          let x = operand flat_text kind_at vars left in
+          let y = operand flat_text kind_at vars right in
           both ((of vars cond) ++ (of vars left) ++ (of vars right)) (met (x ∷ y ∷ [])) (both ((of vars cond) ++ (of vars left)) (of vars right) (both (of vars cond) (of vars left) (in-within vars cond h.0) (in-within vars left h.1)) (in-within vars right h.2)) (met-within (x ∷ y ∷ []) (first-place left h.1, (first-place right h.2, tt)))
       in-within vars (All' shape (more_of-FlatExpr body end_of-FlatExpr) var over at) h = in-within (inside vars over) body h.1
       in-within vars (Any' shape (more_of-FlatExpr body end_of-FlatExpr) var over at) h = in-within (inside vars over) body h.1
       in-within vars (List' shape members at) h =
-          both (faults_members raw kind_at vars members) (met (members_of raw kind_at vars members)) (faults_members-within vars members h.1) (met-within (members_of raw kind_at vars members) (members-within vars members h.1))
+          both (faults_members flat_text kind_at vars members) (met (members_of flat_text kind_at vars members)) (faults_members-within vars members h.1) (met-within (members_of flat_text kind_at vars members) (members-within vars members h.1))
       in-within vars (Each' var over cond at) h = held-within (inside vars over) cond h.1
 
-      each-within : {m : _} (vars : Vars) (row : Row_of-FlatExpr m) → FlatRowIsWithin n row → AreWithin (faults_each raw kind_at vars row)
+      each-within : {m : _} (vars : Vars) (row : Row_of-FlatExpr m) → FlatRowIsWithin n row → AreWithin (faults_each flat_text kind_at vars row)
       each-within vars end_of-FlatExpr h = tt
-      each-within vars (more_of-FlatExpr e others) h = both (of vars e) (faults_each raw kind_at vars others) (in-within vars e h.0) (each-within vars others h.1)
+      each-within vars (more_of-FlatExpr e others) h = both (of vars e) (faults_each flat_text kind_at vars others) (in-within vars e h.0) (each-within vars others h.1)
 
-      signed-within : {m : _} (vars : Vars) (row : Row_of-FlatSigned m) → FlatTermsAreWithin n row → AreWithin (faults_signed raw kind_at vars row)
+      signed-within : {m : _} (vars : Vars) (row : Row_of-FlatSigned m) → FlatTermsAreWithin n row → AreWithin (faults_signed flat_text kind_at vars row)
       signed-within vars end_of-FlatSigned h = tt
-      signed-within vars (more_of-FlatSigned minus e others) h = both (of vars e) (faults_signed raw kind_at vars others) (in-within vars e h.0) (signed-within vars others h.1)
+      signed-within vars (more_of-FlatSigned minus e others) h = both (of vars e) (faults_signed flat_text kind_at vars others) (in-within vars e h.0) (signed-within vars others h.1)
 
-      faults_members-within : {m : _} (vars : Vars) (row : Row_of-FlatMember m) → FlatMembersAreWithin n row → AreWithin (faults_members raw kind_at vars row)
+      faults_members-within : {m : _} (vars : Vars) (row : Row_of-FlatMember m) → FlatMembersAreWithin n row → AreWithin (faults_members flat_text kind_at vars row)
       faults_members-within vars end_of-FlatMember h = tt
-      faults_members-within vars (more_of-FlatMember (One e) others) h = both (of vars e) (faults_members raw kind_at vars others) (in-within vars e h.0) (faults_members-within vars others h.1)
+      faults_members-within vars (more_of-FlatMember (One e) others) h = both (of vars e) (faults_members flat_text kind_at vars others) (in-within vars e h.0) (faults_members-within vars others h.1)
       faults_members-within vars (more_of-FlatMember (SpanOf span at) others) h = faults_members-within vars others h.1
 
-      held-within : (vars : Vars) (cond : Held-FlatExpr-Each-2) → FlatConditionIsWithin n cond → AreWithin (faults_held raw kind_at vars cond)
+      held-within : (vars : Vars) (cond : Held-FlatExpr-Each-2) → FlatConditionIsWithin n cond → AreWithin (faults_held flat_text kind_at vars cond)
       held-within vars None' h = tt
       held-within vars (Some' shape (more_of-FlatExpr cond end_of-FlatExpr)) h = in-within vars cond h
 
     -- ---- statements
 
-    left-within : (vars : Vars) (es : List FlatExpr) → FlatExprsAreWithin n es → OperandsAreWithin (map (operand raw kind_at vars) es)
-    left-within vars es h = each-map (FlatExprIsWithin n) OperandIsWithin (operand raw kind_at vars) first-place es h
+    left-within : (vars : Vars) (es : List FlatExpr) → FlatExprsAreWithin n es → OperandsAreWithin (map (operand flat_text kind_at vars) es)
+    left-within vars es h = each-map (FlatExprIsWithin n) OperandIsWithin (operand flat_text kind_at vars) first-place es h
 
     mutual
-      of-within : (vars : Vars) (act : FlatStmt) → ActIsWithin n act → AreWithin (faults_of raw kind_at vars act)
+      of-within : (vars : Vars) (act : FlatStmt) → ActIsWithin n act → AreWithin (faults_of flat_text kind_at vars act)
       of-within vars (Assign kind family left value at) h =
-          let f = slice_get raw.families family in
-          both ((flat_map (of vars) left) ++ (wanted_at f (map (operand raw kind_at vars) left)) ++ (of vars value)) (wanted_of f (operand raw kind_at vars value))
-          (both ((flat_map (of vars) left) ++ (wanted_at f (map (operand raw kind_at vars) left))) (of vars value)
-          (both (flat_map (of vars) left) (wanted_at f (map (operand raw kind_at vars) left)) (all-flat (FlatExprIsWithin n) IsWithin (of vars) (in-within vars) left h.1) (wanted_at-within f (map (operand raw kind_at vars) left) (left-within vars left h.1))) (in-within vars value h.2)) (wanted_of-within f (operand raw kind_at vars value) (first-place value h.2))
+          let f = slice_get flat_text.families family in
+          both ((flat_map (of vars) left) ++ (wanted_at f (map (operand flat_text kind_at vars) left)) ++ (of vars value)) (wanted_of f (operand flat_text kind_at vars value))
+          (both ((flat_map (of vars) left) ++ (wanted_at f (map (operand flat_text kind_at vars) left))) (of vars value)
+          (both (flat_map (of vars) left) (wanted_at f (map (operand flat_text kind_at vars) left)) (all-flat (FlatExprIsWithin n) IsWithin (of vars) (in-within vars) left h.1) (wanted_at-within f (map (operand flat_text kind_at vars) left) (left-within vars left h.1))) (in-within vars value h.2)) (wanted_of-within f (operand flat_text kind_at vars value) (first-place value h.2))
       of-within vars (If' cond l (more_of-FlatStmt left end_of-FlatStmt) r (more_of-FlatStmt right end_of-FlatStmt)) h =
-          both ((of vars cond) ++ (faults_of raw kind_at vars left)) (faults_of raw kind_at vars right) (both (of vars cond) (faults_of raw kind_at vars left) (in-within vars cond h.0) (of-within vars left h.1)) (of-within vars right h.2)
+          both ((of vars cond) ++ (faults_of flat_text kind_at vars left)) (faults_of flat_text kind_at vars right) (both (of vars cond) (faults_of flat_text kind_at vars left) (in-within vars cond h.0) (of-within vars left h.1)) (of-within vars right h.2)
       of-within vars (Block' shape parts) h = of_each-within vars parts h
       of-within vars (Default' l (more_of-FlatStmt left end_of-FlatStmt) r (more_of-FlatStmt right end_of-FlatStmt)) h =
-          both (faults_of raw kind_at vars left) (faults_of raw kind_at vars right) (of-within vars left h.0) (of-within vars right h.1)
+          both (faults_of flat_text kind_at vars left) (faults_of flat_text kind_at vars right) (of-within vars left h.0) (of-within vars right h.1)
       of-within vars (Forall' var over shape (more_of-FlatStmt body end_of-FlatStmt)) h = of-within (inside vars over) body h
 
-      of_each-within : {m : _} (vars : Vars) (row : Row_of-FlatStmt m) → ActsAreWithin n row → AreWithin (faults_of_each raw kind_at vars row)
+      of_each-within : {m : _} (vars : Vars) (row : Row_of-FlatStmt m) → ActsAreWithin n row → AreWithin (faults_of_each flat_text kind_at vars row)
       of_each-within vars end_of-FlatStmt h = tt
-      of_each-within vars (more_of-FlatStmt part rest) h = both (faults_of raw kind_at vars part) (faults_of_each raw kind_at vars rest) (of-within vars part h.0) (of_each-within vars rest h.1)
+      of_each-within vars (more_of-FlatStmt part rest) h = both (faults_of flat_text kind_at vars part) (faults_of_each flat_text kind_at vars rest) (of-within vars part h.0) (of_each-within vars rest h.1)
 
     -- ---- items
 
-    item-within : (x : FlatItem) → FlatItemIsWithin n x → AreWithin (item_faults raw kind_at x)
+    item-within : (x : FlatItem) → FlatItemIsWithin n x → AreWithin (item_faults flat_text kind_at x)
     item-within (item.Act layer act) h = of-within [] act h
-    item-within (item.Claim c) h = in-within (bound_by raw c.params) c.body h.1
-    item-within (item.Split s) h = all-flat (FlatPairIsWithin n) IsWithin (λ (pair : FlatPair). of (bound_by raw s.bound) pair.left) (λ pair own. in-within (bound_by raw s.bound) pair.left own.0) s.pairs h.2
+    item-within (item.Claim c) h = in-within (bound_by flat_text c.params) c.body h.1
+    item-within (item.Split s) h = all-flat (FlatPairIsWithin n) IsWithin (λ (pair : FlatPair). of (bound_by flat_text s.bound) pair.left) (λ pair own. in-within (bound_by flat_text s.bound) pair.left own.0) s.pairs h.2
     item-within (item.Using u) h = tt
 
-  pub first-within : (raw : Raw) → RawIsWithin n raw → IfSome (first_fault_of_sets raw) (IsFaultOf numbers_of_sets n)
-  first-within raw h =
-      first-one (IsFaultOf numbers_of_sets n) (faults_of_sets raw) (all-flat (FlatItemIsWithin n) IsWithin (item_faults raw (value_in raw)) (item-within raw (value_in raw)) raw.items h)
+  pub first-within : (flat_text : FlatText) → FlatTextIsWithin n flat_text → IfSome (first_fault_of_sets flat_text) (IsFaultOf numbers_of_sets n)
+  first-within flat_text h =
+      first-one (IsFaultOf numbers_of_sets n) (faults_of_sets flat_text) (all-flat (FlatItemIsWithin n) IsWithin (item_faults flat_text (value_in flat_text)) (item-within flat_text (value_in flat_text)) flat_text.items h)

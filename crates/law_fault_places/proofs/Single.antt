@@ -5,7 +5,7 @@ use Rattle.smv_core.specs.Types.{names_of}
 use Rattle.smv_core.specs.Outcome.{same_path}
 use Rattle.smv_core.specs.declared.flat.Claim.{Claim}
 use Rattle.smv_core.specs.declared.flat.Param.{Param}
-use Rattle.smv_core.specs.declared.flat.Raw.{Raw}
+use Rattle.smv_core.specs.declared.flat.FlatText.{FlatText}
 use Rattle.smv_core.specs.declared.flat.FlatStmt.{FlatStmt, Assign, If', Block', Default', Forall', Row_of-FlatStmt, end_of-FlatStmt, more_of-FlatStmt}
 use Rattle.law_designs.specs.WholeText.{claims_of}
 use Rattle.law_designs.specs.Standing.{Statement, statements_of, Standing, standing, standing_in, assigned_by}
@@ -14,7 +14,7 @@ use Rattle.law_designs.proofs.Faultless.{each-append, each-map}
 use Rattle.law_fault_places.specs.FaultPlaces.{IsFaultOf}
 use Rattle.law_fault_places.proofs.TreeLists.{all-flat, all-filtered, any-flat}
 use Rattle.law_fault_places.proofs.Firsts.{first-one, AreUpTo, placed-if, lists-placed}
-use Rattle.law_fault_places.specs.FlatPlaces.{ActIsWithin, ActsAreWithin, ClaimIsWithin, RawIsWithin}
+use Rattle.law_fault_places.specs.FlatPlaces.{ActIsWithin, ActsAreWithin, ClaimIsWithin, FlatTextIsWithin}
 use Rattle.law_fault_places.proofs.DesignLaws.{SaidIsWithin, statements-within, StandingIsWithin, standing-within, standing_in-within, assigned-within, claims-within}
 use Rattle.law_fault_places.specs.DesignFaultPlaces.{numbers_of_single}
 
@@ -67,19 +67,19 @@ module _ (n : ℕ) where
   unnamed-within : (c : Claim) → ClaimIsWithin n c → AreUpTo n (unnamed c)
   unnamed-within c h = placed-if n (not (same_path (names_of c.vars) (map (λ (p : Param). p.name) c.params))) c.at h.2
 
-  pub first-within : (raw : Raw) → RawIsWithin n raw → IfSome (first_fault_of_single raw) (IsFaultOf numbers_of_single n)
-  first-within raw h =
-      let said = statements-within n raw h in
-      let assigned : AllByRecursion (StandingIsWithin n) (assigned_in raw) = assigned-all (statements_of raw) said in
-      first-one (IsFaultOf numbers_of_single n) (faults_of_single raw) (lists-placed numbers_of_single n (single_faults raw) (
-        (refl, conflicting-within (statements_of raw) said),
+  pub first-within : (flat_text : FlatText) → FlatTextIsWithin n flat_text → IfSome (first_fault_of_single flat_text) (IsFaultOf numbers_of_single n)
+  first-within flat_text h =
+      let said = statements-within n flat_text h in
+      let assigned : AllByRecursion (StandingIsWithin n) (assigned_in flat_text) = assigned-all (statements_of flat_text) said in
+      first-one (IsFaultOf numbers_of_single n) (faults_of_single flat_text) (lists-placed numbers_of_single n (single_faults flat_text) (
+        (refl, conflicting-within (statements_of flat_text) said),
         (
-          (refl, mixed-within (assigned_in raw) assigned),
+          (refl, mixed-within (assigned_in flat_text) assigned),
           (
             (
               refl,
-              both (flat_map lacking (assigned_in raw)) (flat_map unnamed (claims_of raw.items)) (all-flat (StandingIsWithin n) IsUpTo lacking lacking-within (assigned_in raw) assigned)
-                  (all-flat (ClaimIsWithin n) IsUpTo unnamed unnamed-within (claims_of raw.items) (claims-within n raw.items h)),
+              both (flat_map lacking (assigned_in flat_text)) (flat_map unnamed (claims_of flat_text.items)) (all-flat (StandingIsWithin n) IsUpTo lacking lacking-within (assigned_in flat_text) assigned)
+                  (all-flat (ClaimIsWithin n) IsUpTo unnamed unnamed-within (claims_of flat_text.items) (claims-within n flat_text.items h)),
             ),
             tt,
           ),

@@ -14,15 +14,15 @@ use Rattle.smv_core.specs.declared.flat.Unit.{Unit}
 use Rattle.smv_core.specs.declared.flat.Leaf.{Leaf}
 use Rattle.smv_core.specs.declared.flat.Pick.{Pick}
 use Rattle.smv_core.specs.declared.flat.Assumed.{Assumed}
-use Rattle.smv_instances.specs.NameFaults.{place_if}
+use Rattle.smv_mentions.specs.NameFaults.{place_if}
 use Rattle.law_obligations.specs.Units.{units_of}
 use Rattle.law_splits.specs.Leaves.{with_name, leaves_of}
 use Rattle.law_splits.specs.SplitFaults.{names_one, doubled, miscounted, same_type}
-use Rattle.smv_uses.specs.declared.meaning.Meaning.{Meaning}
-use Rattle.smv_uses.specs.declared.meaning.Meaning.TheVariants.{Definition, Claim}
-use Rattle.smv_uses.specs.Uses.{set_named, meaning_of, Used, used_by, used_in, Braces, braces_by, braces_in, pick_by, assumed_by, picks_in, assumed_in}
-use Rattle.smv_uses.specs.Choices.{Proof, proofs_in, own_map, is_own}
-use Rattle.smv_uses.specs.UseFaults.{later, leaf_named, unknown_uses, unknown_leaves, same_leaf, proved_again, same_map, same_family, chosen_again, proved_leaves, picked_again, assumed_again, braces_of_sets, kept_again, no_sets, is_param_over, proved_by, no_params, unbound_names, other_types, misnamed, use_faults, faults_of_uses, first_fault_of_uses}
+use Rattle.law_uses.specs.declared.meaning.Meaning.{Meaning}
+use Rattle.law_uses.specs.declared.meaning.Meaning.TheVariants.{Definition, Claim}
+use Rattle.law_uses.specs.Uses.{set_named, meaning_of, Used, used_by, used_in, Braces, braces_by, braces_in, pick_by, assumed_by, picks_in, assumed_in}
+use Rattle.law_uses.specs.Choices.{Proof, proofs_in, own_map, is_own}
+use Rattle.law_uses.specs.UseFaults.{later, leaf_named, unknown_uses, unknown_leaves, same_leaf, proved_again, same_map, same_family, chosen_again, proved_leaves, picked_again, assumed_again, braces_of_sets, kept_again, no_sets, is_param_over, proved_by, no_params, unbound_names, other_types, misnamed, use_faults, faults_of_uses, first_fault_of_uses}
 use Rattle.law_designs.proofs.Faultless.{each-append, each-map}
 use Rattle.law_fault_places.specs.TreePlaces.{WordIsWithin, WordsAreWithin, RefIsWithin, UseIsWithin}
 use Rattle.law_fault_places.specs.FaultPlaces.{IsFaultOf}

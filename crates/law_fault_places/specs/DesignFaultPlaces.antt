@@ -1,19 +1,19 @@
 -- The numbers and places of the first faults of single assignment, of loops and layers, and of set types.
 use Rattle.std.specs.Prelude.{ℕ, List, [], ◌∷◌, IfSome}
-use Rattle.smv_core.specs.declared.flat.Raw.{Raw}
+use Rattle.smv_core.specs.declared.flat.FlatText.{FlatText}
 use Rattle.smv_core.specs.declared.flat.Design.{Design}
 use Rattle.law_designs.specs.SingleFaults.{first_fault_of_single}
 use Rattle.law_designs.specs.FirstFault.{first_fault_of_design}
 use Rattle.law_designs.specs.SetFaults.{first_fault_of_sets}
 use Rattle.law_fault_places.specs.FaultPlaces.{IsFaultOf}
-use Rattle.law_fault_places.specs.FlatPlaces.{RawIsWithin, DesignIsWithin}
+use Rattle.law_fault_places.specs.FlatPlaces.{FlatTextIsWithin, DesignIsWithin}
 
 -- the numbers of single assignment
 abbrev pub numbers_of_single : List ℕ
 numbers_of_single = 15 ∷ 16 ∷ 17 ∷ []
 
 abbrev pub SingleFaultsAreWithin : Type 0
-SingleFaultsAreWithin = (n : ℕ) (raw : Raw) → RawIsWithin n raw → IfSome (first_fault_of_single raw) (IsFaultOf numbers_of_single n)
+SingleFaultsAreWithin = (n : ℕ) (flat_text : FlatText) → FlatTextIsWithin n flat_text → IfSome (first_fault_of_single flat_text) (IsFaultOf numbers_of_single n)
 
 -- those of loops and layers
 abbrev pub numbers_of_designs : List ℕ
@@ -27,4 +27,4 @@ abbrev pub numbers_of_sets : List ℕ
 numbers_of_sets = 21 ∷ 22 ∷ []
 
 abbrev pub SetFaultsAreWithin : Type 0
-SetFaultsAreWithin = (n : ℕ) (raw : Raw) → RawIsWithin n raw → IfSome (first_fault_of_sets raw) (IsFaultOf numbers_of_sets n)
+SetFaultsAreWithin = (n : ℕ) (flat_text : FlatText) → FlatTextIsWithin n flat_text → IfSome (first_fault_of_sets flat_text) (IsFaultOf numbers_of_sets n)

@@ -5,8 +5,8 @@ use Rattle.smv_core.specs.declared.tree.Text.{Text}
 use Rattle.smv_core.specs.declared.flat.FlatMember.{One, Span as SpanOf}
 use Rattle.smv_core.specs.declared.flat.FlatExpr.{FlatExpr, Number, Read', Var, Loop, Constant, Not', And', Or', Implies', Iff', Compare', Within', Sum', Modulo', Choose', All', Any', List', Each', Held-FlatExpr-Each-2, None', Some', Row_of-FlatExpr, end_of-FlatExpr, more_of-FlatExpr, Row_of-FlatMember, end_of-FlatMember, more_of-FlatMember, Row_of-FlatSigned, end_of-FlatSigned, more_of-FlatSigned}
 use Rattle.smv_core.specs.declared.flat.FlatStmt.{FlatStmt, Assign, If', Block', Default', Forall', Row_of-FlatStmt, end_of-FlatStmt, more_of-FlatStmt}
-use Rattle.smv_core.specs.declared.flat.Flat.{Flat, Nothing, First', Row_of-Flat, end_of-Flat, more_of-Flat}
-use Rattle.smv_core.specs.declared.flat.Flat as part
+use Rattle.smv_core.specs.declared.flat.DefBody.{DefBody, Nothing, First', Row_of-DefBody, end_of-DefBody, more_of-DefBody}
+use Rattle.smv_core.specs.declared.flat.DefBody as part
 use Rattle.smv_core.specs.declared.flat.FlatPair.{FlatPair}
 use Rattle.smv_core.specs.declared.flat.FlatSplit.{FlatSplit}
 use Rattle.smv_core.specs.declared.flat.FlatUsing.{FlatUsing}
@@ -14,10 +14,10 @@ use Rattle.smv_core.specs.declared.flat.Claim.{Claim}
 use Rattle.smv_core.specs.declared.flat.Def.{Def}
 use Rattle.smv_core.specs.declared.flat.FlatItem.{FlatItem}
 use Rattle.smv_core.specs.declared.flat.FlatItem.TheVariants as item
-use Rattle.smv_core.specs.declared.flat.Raw.{Raw}
+use Rattle.smv_core.specs.declared.flat.FlatText.{FlatText}
 use Rattle.smv_core.specs.declared.flat.Design.{Design}
 use Rattle.law_designs.specs.Flattening.{flatten}
-use Rattle.law_designs.specs.Definitions.{design_of_raw}
+use Rattle.law_designs.specs.Definitions.{design_of_flat_text}
 use Rattle.law_fault_places.specs.TreePlaces.{WordIsWithin, WordsAreWithin, RefIsWithin, UseIsWithin, TextIsWithin}
 
 module _ (n : ℕ) where
@@ -100,22 +100,22 @@ module _ (n : ℕ) where
   FlatItemIsWithin (item.Using u) = UsingIsWithin u
 
   -- a flattened text
-  abbrev pub RawIsWithin : Raw → Type 0
-  RawIsWithin raw = AllByRecursion FlatItemIsWithin raw.items
+  abbrev pub FlatTextIsWithin : FlatText → Type 0
+  FlatTextIsWithin flat_text = AllByRecursion FlatItemIsWithin flat_text.items
 
   -- ---- designs
 
   abbrev mutual
-    pub PartOfIsWithin : Flat → Type 0
+    pub PartOfIsWithin : DefBody → Type 0
     PartOfIsWithin Nothing = Unit {0}
     PartOfIsWithin (part.Assign left value place at) = (at ≤ n) × FlatExprsAreWithin left × FlatExprIsWithin value
-    PartOfIsWithin (part.If' cond l (more_of-Flat left end_of-Flat) r (more_of-Flat right end_of-Flat)) = FlatExprIsWithin cond × PartOfIsWithin left × PartOfIsWithin right
+    PartOfIsWithin (part.If' cond l (more_of-DefBody left end_of-DefBody) r (more_of-DefBody right end_of-DefBody)) = FlatExprIsWithin cond × PartOfIsWithin left × PartOfIsWithin right
     PartOfIsWithin (First' shape parts) = PartsOfAreWithin parts
-    PartOfIsWithin (part.Forall' var over shape (more_of-Flat body end_of-Flat)) = PartOfIsWithin body
+    PartOfIsWithin (part.Forall' var over shape (more_of-DefBody body end_of-DefBody)) = PartOfIsWithin body
 
-    pub PartsOfAreWithin : {m : _} → Row_of-Flat m → Type 0
-    PartsOfAreWithin end_of-Flat = Unit {0}
-    PartsOfAreWithin (more_of-Flat one rest) = PartOfIsWithin one × PartsOfAreWithin rest
+    pub PartsOfAreWithin : {m : _} → Row_of-DefBody m → Type 0
+    PartsOfAreWithin end_of-DefBody = Unit {0}
+    PartsOfAreWithin (more_of-DefBody one rest) = PartOfIsWithin one × PartsOfAreWithin rest
 
   abbrev pub DefIsWithin : Def → Type 0
   DefIsWithin def = PartOfIsWithin def.init × PartOfIsWithin def.next × PartOfIsWithin def.comb × (def.at ≤ n)
@@ -130,8 +130,8 @@ module _ (n : ℕ) where
 
 -- what is flattened keeps places
 abbrev pub FlattenedTextsAreWithin : Type 0
-FlattenedTextsAreWithin = (n : ℕ) (text : Text) → TextIsWithin n text → RawIsWithin n (flatten text)
+FlattenedTextsAreWithin = (n : ℕ) (text : Text) → TextIsWithin n text → FlatTextIsWithin n (flatten text)
 
 -- and so does the design of a flattened text
 abbrev pub DesignsAreWithin : Type 0
-DesignsAreWithin = (n : ℕ) (raw : Raw) → RawIsWithin n raw → DesignIsWithin n (design_of_raw raw)
+DesignsAreWithin = (n : ℕ) (flat_text : FlatText) → FlatTextIsWithin n flat_text → DesignIsWithin n (design_of_flat_text flat_text)

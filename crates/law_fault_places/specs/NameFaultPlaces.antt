@@ -1,7 +1,7 @@
 -- The numbers and places of the first fault of names and size.
 use Rattle.std.specs.Prelude.{ℕ, List, [], ◌∷◌, IfSome}
 use Rattle.smv_core.specs.declared.tree.Text.{Text}
-use Rattle.smv_instances.specs.FirstFault.{first_fault}
+use Rattle.smv_mentions.specs.FirstFault.{first_fault}
 use Rattle.law_fault_places.specs.TreePlaces.{TextIsWithin}
 use Rattle.law_fault_places.specs.FaultPlaces.{IsFaultOf}
 

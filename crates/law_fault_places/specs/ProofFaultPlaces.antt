@@ -2,7 +2,7 @@
 use Rattle.std.specs.Prelude.{ℕ, List, [], ◌∷◌, IfSome}
 use Rattle.smv_core.specs.declared.flat.Design.{Design}
 use Rattle.law_splits.specs.SplitFaults.{first_fault_of_splits}
-use Rattle.smv_uses.specs.UseFaults.{first_fault_of_uses}
+use Rattle.law_uses.specs.UseFaults.{first_fault_of_uses}
 use Rattle.law_fault_places.specs.FaultPlaces.{IsFaultOf}
 use Rattle.law_fault_places.specs.FlatPlaces.{DesignIsWithin}
 

@@ -4,7 +4,7 @@ use Rattle.std.specs.List.{list_all}
 use Rattle.std.proofs.lemmas.List.Elements.{All-nil, All-cons, Contains-append_right}
 use Rattle.smv_core.specs.Values.{Value, number, Sizes, Outcome, same, is_in, values_of}
 use Rattle.smv_core.specs.Types.{Family}
-use Rattle.smv_core.specs.FlatOrder.{Design}
+use Rattle.smv_core.specs.FlatOrder.{TextDesign}
 use Rattle.smv_core.specs.Outcome.{State, outcome}
 use Rattle.smv_core.specs.Allowed.{allowed, allowed_by_base, scene_at}
 use Rattle.smv_core.specs.Sound.{ProofUnit, map_of, claim_of, instances, indexes_in, bound, Holds, IsTyped, MeetsBase, EachElement, IsRun, AtEachTime}
@@ -51,7 +51,7 @@ abbrev is_one : Outcome → Bool
 is_one (Some (number (suc zero))) = true
 is_one _ = false
 
-module _ (d : Design) (sizes : Sizes) where
+module _ (d : TextDesign) (sizes : Sizes) where
   abbrev each_element : (Family → List Value → Bool) → Bool
   each_element test = list_all (λ f. list_all (test f) (indexes_in sizes f)) d.families
 

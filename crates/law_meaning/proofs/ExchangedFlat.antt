@@ -4,7 +4,7 @@ use Rattle.std.specs.List.{list_any}
 use Rattle.std.proofs.lemmas.List.Elements.{Contains-append_right}
 use Rattle.smv_core.specs.Values.{Name, Value, number, constant, scalar, ordinal, Simple, range, choice, scalarset, ordset, Sizes, values_of, numbers_from}
 use Rattle.smv_core.specs.Types.{Family}
-use Rattle.smv_core.specs.FlatOrder.{Design, Said, Claimed}
+use Rattle.smv_core.specs.FlatOrder.{TextDesign, Said, Claimed}
 use Rattle.smv_core.specs.Outcome.{State, Bindings, outcome, family_at}
 use Rattle.smv_core.specs.Walk.{Element, Walk, walk, first, first_of}
 use Rattle.smv_core.specs.Assignments.{concerns}
@@ -95,7 +95,7 @@ module _ (sizes : Sizes) (f g : Name → ℕ → ℕ) (ex : Exchanges sizes f g)
 
   -- ---- definitions
 
-  module _ (d : Design) (layer : Option Name) (x : Element) (plain : IsPlain d layer x) where
+  module _ (d : TextDesign) (layer : Option Name) (x : Element) (plain : IsPlain d layer x) where
     abbrev There : Element
     There = exchanged_element f x
 
@@ -152,13 +152,13 @@ module _ (sizes : Sizes) (f g : Name → ℕ → ℕ) (ex : Exchanges sizes f g)
   bound-there (p ∷ params) [] b = refl
   bound-there (p ∷ params) (v ∷ vs) b = bound-there params vs ((p.0, v) ∷ b)
 
-  pub claim : (d : Design) (c : Claimed) (vs : List Value) (now then' : State) → AreExchangedStates f now then' → outcome (scene_at d sizes c.instance) now c.body (bound c.params vs []) ≡ Some (number 1) →
+  pub claim : (d : TextDesign) (c : Claimed) (vs : List Value) (now then' : State) → AreExchangedStates f now then' → outcome (scene_at d sizes c.instance) now c.body (bound c.params vs []) ≡ Some (number 1) →
       outcome (scene_at d sizes c.instance) then' c.body (bound c.params (map (exchanged f) vs) []) ≡ Some (number 1)
   claim d c vs now then' are e =
       ap (outcome (scene_at d sizes c.instance) then' c.body) (bound-there c.params vs []) ∙ outcome-ren sizes f g ex d.types d.families c.instance now then' are c.body (bound c.params vs [])
       ∙ ap (exchanged_outcome f) e
 
-  pub map-there : (d : Design) (layer : Name) (family : Family) (vs : List Value) → IsPlain d (Some layer) (record { path = family.path; indexes = vs }) →
+  pub map-there : (d : TextDesign) (layer : Name) (family : Family) (vs : List Value) → IsPlain d (Some layer) (record { path = family.path; indexes = vs }) →
       (before there : Option State) → AreExchangedBefore f before there → (now then' : State) → AreExchangedStates f now then' →
       Holds d sizes (map_of layer family) vs before now → Holds d sizes (map_of layer family) (map (exchanged f) vs) there then'
   map-there d layer family vs plain before there p now then' are h =

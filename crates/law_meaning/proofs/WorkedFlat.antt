@@ -1,7 +1,7 @@
 -- Designs that were flattened by hand: what their definitions allow. The answers are those of the same text on the tree.
 use Rattle.std.proofs.Common.{◌≡◌, ℕ, List, [], ◌∷◌, refl, Some, None, false, zero, suc}
 use Rattle.smv_core.specs.Values.{Name, Value, number, constant}
-use Rattle.smv_core.specs.Flat.{Numbered, FlatState, FlatElement, flat_outcome, flat_walk, flat_allowed}
+use Rattle.smv_core.specs.FlatMeaning.{Numbered, FlatState, FlatElement, flat_outcome, flat_walk, flat_allowed}
 use Rattle.smv_core.specs.declared.tree.Kind.TheVariants.{Comb}
 use Rattle.smv_core.specs.declared.tree.Op.TheVariants.{Equal}
 use Rattle.smv_core.specs.declared.flat.Simple.{Simple}
@@ -11,12 +11,12 @@ use Rattle.smv_core.specs.declared.flat.Def.{Def}
 use Rattle.smv_core.specs.declared.flat.FlatExpr.{FlatExpr, Number, Read, Var, Loop, Constant, All, Any, Compare, Sum}
 use Rattle.smv_core.specs.declared.flat.FlatSigned.{roll-FlatSigned}
 use Rattle.smv_core.specs.declared.flat.FlatStmt as stmt
-use Rattle.smv_core.specs.declared.flat.Flat.{Flat, Nothing, Assign, If, First, Forall}
+use Rattle.smv_core.specs.declared.flat.DefBody.{DefBody, Nothing, Assign, If, First, Forall}
 use Rattle.law_meaning.proofs.Built.{r, g, t, numbers}
 
 -- where a theorem unfolds this, the definitions compute on a flat type that is written out
 unfoldable pub computing_flat : Unit {0}
-unfolding Rattle.smv_core.specs.declared.flat.FlatExpr.TheBlock.hidden-the_row-FlatExpr-0 Rattle.smv_core.specs.declared.flat.FlatExpr.TheBlock.shape-the_row-FlatExpr-0 Rattle.smv_core.specs.declared.flat.FlatExpr.TheBlock.hidden-the_row-FlatExpr-1 Rattle.smv_core.specs.declared.flat.FlatExpr.TheBlock.shape-the_row-FlatExpr-1 Rattle.smv_core.specs.declared.flat.FlatExpr.TheBlock.hidden-the_row-FlatSigned-2 Rattle.smv_core.specs.declared.flat.FlatExpr.TheBlock.shape-the_row-FlatSigned-2 Rattle.smv_core.specs.declared.flat.FlatExpr.TheBlock.hidden-the_row-FlatMember-3 Rattle.smv_core.specs.declared.flat.FlatExpr.TheBlock.shape-the_row-FlatMember-3 Rattle.smv_core.specs.declared.flat.FlatStmt.TheBlock.hidden-the_row-FlatStmt-0 Rattle.smv_core.specs.declared.flat.FlatStmt.TheBlock.shape-the_row-FlatStmt-0 Rattle.smv_core.specs.declared.flat.FlatStmt.TheBlock.hidden-the_row-FlatStmt-1 Rattle.smv_core.specs.declared.flat.FlatStmt.TheBlock.shape-the_row-FlatStmt-1 Rattle.smv_core.specs.declared.flat.Flat.TheBlock.hidden-the_row-Flat-0 Rattle.smv_core.specs.declared.flat.Flat.TheBlock.shape-the_row-Flat-0 Rattle.smv_core.specs.declared.flat.Flat.TheBlock.hidden-the_row-Flat-1 Rattle.smv_core.specs.declared.flat.Flat.TheBlock.shape-the_row-Flat-1 denote.Hole.Carrier.hidden
+unfolding Rattle.smv_core.specs.declared.flat.FlatExpr.TheBlock.hidden-the_row-FlatExpr-0 Rattle.smv_core.specs.declared.flat.FlatExpr.TheBlock.shape-the_row-FlatExpr-0 Rattle.smv_core.specs.declared.flat.FlatExpr.TheBlock.hidden-the_row-FlatExpr-1 Rattle.smv_core.specs.declared.flat.FlatExpr.TheBlock.shape-the_row-FlatExpr-1 Rattle.smv_core.specs.declared.flat.FlatExpr.TheBlock.hidden-the_row-FlatSigned-2 Rattle.smv_core.specs.declared.flat.FlatExpr.TheBlock.shape-the_row-FlatSigned-2 Rattle.smv_core.specs.declared.flat.FlatExpr.TheBlock.hidden-the_row-FlatMember-3 Rattle.smv_core.specs.declared.flat.FlatExpr.TheBlock.shape-the_row-FlatMember-3 Rattle.smv_core.specs.declared.flat.FlatStmt.TheBlock.hidden-the_row-FlatStmt-0 Rattle.smv_core.specs.declared.flat.FlatStmt.TheBlock.shape-the_row-FlatStmt-0 Rattle.smv_core.specs.declared.flat.FlatStmt.TheBlock.hidden-the_row-FlatStmt-1 Rattle.smv_core.specs.declared.flat.FlatStmt.TheBlock.shape-the_row-FlatStmt-1 Rattle.smv_core.specs.declared.flat.DefBody.TheBlock.hidden-the_row-DefBody-0 Rattle.smv_core.specs.declared.flat.DefBody.TheBlock.shape-the_row-DefBody-0 Rattle.smv_core.specs.declared.flat.DefBody.TheBlock.hidden-the_row-DefBody-1 Rattle.smv_core.specs.declared.flat.DefBody.TheBlock.shape-the_row-DefBody-1 denote.Hole.Carrier.hidden
 computing_flat = tt
 
 abbrev family : Name → List Simple → Simple → Family
@@ -49,7 +49,7 @@ c_is k family indexes = at_family family
     at_family (suc zero) = number k
     at_family _ = number 0
 
-abbrev only : Flat → Def
+abbrev only : DefBody → Def
 only comb = record { family = 0; layer = None; init = Nothing; next = Nothing; comb = comb; place = 0; at = 0 }
 
 abbrev x : FlatElement

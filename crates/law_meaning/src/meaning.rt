@@ -1,7 +1,7 @@
 // Laws of the definitions, each the contract of a function that does nothing.
 ghost use Rattle.std.specs.Prelude.{◌≡◌, ◌∷◌, ℕ, List, Option, false, is_none};
 ghost use Rattle.smv_core.specs.Values.{Name, Value, Simple, Sizes, values_of};
-ghost use Rattle.smv_core.specs.FlatOrder.{Design};
+ghost use Rattle.smv_core.specs.FlatOrder.{TextDesign};
 ghost use Rattle.smv_core.specs.Outcome.{State, Scene, Bindings, outcome, allowed_by};
 ghost use Rattle.smv_core.specs.Walk.{Element, walk};
 ghost use Rattle.smv_core.specs.Allowed.{allowed, every_value, IsFilled};
@@ -23,7 +23,7 @@ ghost use Rattle.law_meaning.specs.Exchange.{
 
 /// A definition always allows an element some value, where the element's type has one.
 pub fn allowed_is_never_empty()
-    ensures { (d : Design) (sizes : Sizes) (layer : Option Name) (x : Element) (before : Option State) (now : State) → IsFilled (every_value d sizes x) → IsFilled (allowed d sizes layer x before now) }
+    ensures { (d : TextDesign) (sizes : Sizes) (layer : Option Name) (x : Element) (before : Option State) (now : State) → IsFilled (every_value d sizes x) → IsFilled (allowed d sizes layer x before now) }
 {}
 
 /// Where no assignments conflict and each left side has its `forall` variables, no two values of a `forall` variable give an element a result.

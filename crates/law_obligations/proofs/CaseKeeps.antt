@@ -3,7 +3,7 @@ use Rattle.std.proofs.Common.{◌≡◌, ℕ, zero, suc, List, [], ◌∷◌, ma
 use Rattle.std.specs.List.{list_all}
 use Rattle.smv_core.specs.Values.{Name, Value, number, Sizes, truth, is_in, values_of}
 use Rattle.smv_core.specs.Outcome.{is_true}
-use Rattle.smv_core.specs.Flat.{Numbered, FlatState, FlatElement, values_in, simple_in, flat_outcome, flat_allowed}
+use Rattle.smv_core.specs.FlatMeaning.{Numbered, FlatState, FlatElement, values_in, simple_in, flat_outcome, flat_allowed}
 use Rattle.smv_core.specs.declared.flat.Def.{Def}
 use Rattle.smv_core.specs.declared.flat.Family.{Family}
 use Rattle.smv_core.specs.declared.flat.Guard.{Guard}
@@ -14,11 +14,11 @@ use Rattle.law_obligations.specs.Places.{Place, named, is_named, World, world, n
 use Rattle.law_obligations.specs.May.{AbsState}
 use Rattle.law_obligations.specs.Guards.{guard_holds}
 use Rattle.law_obligations.specs.Demands.{is_defined, is_broken_map, is_assumed, is_broken_claim, may_guard}
-use Rattle.law_obligations.specs.Obligations.{Demanded, Problem, is_met, is_broken, may_hold}
+use Rattle.law_obligations.specs.Obligations.{Demanded, AbstractProblem, is_met, is_broken, may_hold}
 use Rattle.law_obligations.specs.Pictures.{Placing, placed, ArePlaced, AreOfTypes, IsState, IsPicture, ArePictured, AreValues, KeepsNamed, IsAbsState}
 use Rattle.law_obligations.specs.Bound.{AreAtClasses, IsSingle}
 use Rattle.law_obligations.specs.FlatConflicts.{IsConflictFree}
-use Rattle.law_obligations.specs.Soundness.{FlatUnit, map_of, claim_of, Plan, at_sizes, over_of, values_of_family, params_of, values_over, is_held, IsUnit, said_at, IsKept, IsOf}
+use Rattle.law_obligations.specs.Soundness.{FlatUnit, map_of, claim_of, ProofPlan, at_sizes, over_of, values_of_family, params_of, values_over, is_held, IsUnit, said_at, IsKept, IsOf}
 use Rattle.law_obligations.proofs.Tests.{true_or_false, left_of, right_of}
 use Rattle.law_obligations.proofs.Members.{Has-from_map}
 use Rattle.law_obligations.proofs.Same.{is_in-Has, Has-is_in}
@@ -68,7 +68,7 @@ number_placed spots [] k = refl
 number_placed spots (x ∷ xs) zero = refl
 number_placed spots (x ∷ xs) (suc k) = number_placed spots xs k
 
-module _ (plan : Plan) (sizes : Sizes) (p : Problem) (types : Name → AbsType) (is_world : p.world ≡ world plan.names types) (spots : Placing)
+module _ (plan : ProofPlan) (sizes : Sizes) (p : AbstractProblem) (types : Name → AbsType) (is_world : p.world ≡ world plan.names types) (spots : Placing)
     (facts : ArePlaced (at_sizes plan.names sizes) (world plan.names types) spots) (keeps_named : KeepsNamed p.world p.kept) where
   abbrev n : Numbered
   n = at_sizes plan.names sizes

@@ -2,7 +2,7 @@
 use Rattle.std.proofs.Common.{◌≡◌, ℕ, zero, suc, ◌+◌, ◌-◌, ◌<◌, ◌≤◌, List, [], ◌∷◌, ◌++◌, map, length, take, Bool, true, false, ◌&&◌, not, refl, sym, ap, subst, ◌∙◌, inl, inr, Option, Some, None, nat_eq, nat_lt, arith}
 use Rattle.std.specs.List.{slice_get, list_any, list_all}
 use Rattle.smv_core.specs.Values.{Name, number, scalar, ordinal, numbers_from}
-use Rattle.smv_core.specs.Flat.{Numbered, simple_in, set_type}
+use Rattle.smv_core.specs.FlatMeaning.{Numbered, simple_in, set_type}
 use Rattle.smv_core.specs.declared.flat.Simple.{Simple}
 use Rattle.smv_core.specs.declared.flat.Simple.TheVariants.{Range, Enum, Set}
 use Rattle.smv_core.specs.declared.flat.SetInfo.{SetInfo}

@@ -2,7 +2,7 @@
 use Rattle.std.proofs.Common.{◌≡◌, ℕ, zero, suc, ◌+◌, ◌-◌, ◌<◌, ◌≤◌, List, [], ◌∷◌, map, length, get_or, Bool, true, false, refl, sym, ap, subst, ◌∙◌, arith, slice_get, Option, Some, None}
 use Rattle.std.specs.List.{list_all}
 use Rattle.smv_core.specs.Values.{Value, number, values_of, numbers_from}
-use Rattle.smv_core.specs.Flat.{Numbered, values_in, simple_in, set_type}
+use Rattle.smv_core.specs.FlatMeaning.{Numbered, values_in, simple_in, set_type}
 use Rattle.smv_core.specs.declared.flat.Simple.{Simple as FlatSimple}
 use Rattle.smv_core.specs.declared.flat.Simple.TheVariants.{Range, Enum, Set}
 use Rattle.smv_core.specs.declared.flat.SetInfo.{SetInfo}

@@ -1,7 +1,7 @@
 -- Every instance of a leaf has a case with a placing.
 use Rattle.std.proofs.Common.{◌≡◌, ℕ, ◌+◌, List, [], ◌∷◌, map, Bool, true, false, sym, subst, Option, Some, None, IfSome}
 use Rattle.smv_core.specs.Values.{Value, Sizes}
-use Rattle.smv_core.specs.Flat.{Numbered, values_in}
+use Rattle.smv_core.specs.FlatMeaning.{Numbered, values_in}
 use Rattle.smv_core.specs.declared.flat.SetInfo.{SetInfo}
 use Rattle.smv_core.specs.declared.flat.Param.{Param}
 use Rattle.smv_core.specs.declared.flat.Keep.{Keep}

@@ -1,7 +1,7 @@
 -- The parameters of a leaf with their values.
 use Rattle.std.proofs.Common.{◌≡◌, ℕ, ◌≤◌, List, [], ◌∷◌, map, length, Bool, true, ◌&&◌, refl, sym, ap, subst, inl, inr, arith}
 use Rattle.smv_core.specs.Values.{Value}
-use Rattle.smv_core.specs.Flat.{Numbered, values_in, simple_in}
+use Rattle.smv_core.specs.FlatMeaning.{Numbered, values_in, simple_in}
 use Rattle.smv_core.specs.declared.flat.Simple.{Simple}
 use Rattle.smv_core.specs.declared.flat.Simple.TheVariants.{Range, Enum, Set}
 use Rattle.smv_core.specs.declared.flat.Class.{Class}

@@ -4,11 +4,11 @@ use Rattle.std.specs.List.{list_any, list_all, slice_get, zip}
 use Rattle.smv_core.specs.Values.{Name, Value, number, constant, scalar, ordinal}
 use Rattle.smv_core.specs.Walk.{Walk}
 use Rattle.smv_core.specs.Assignments.{Index, fixed, bare, computed, add_fixed, modulo_fixed, fits}
-use Rattle.smv_core.specs.Flat.{Numbered, FlatState, FlatElement, values_in, simple_in, flat_index, flat_index_sum, indexes_assigned, indexes_assigned_in, is_concerned_by, flat_result, flat_kept, flat_stepped, flat_allowed}
+use Rattle.smv_core.specs.FlatMeaning.{Numbered, FlatState, FlatElement, values_in, simple_in, flat_index, flat_index_sum, indexes_assigned, indexes_assigned_in, is_concerned_by, flat_result, flat_kept, flat_stepped, flat_allowed}
 use Rattle.smv_core.specs.declared.flat.Def.{Def}
 use Rattle.smv_core.specs.declared.flat.Family.{Family}
 use Rattle.smv_core.specs.declared.flat.FlatExpr.{FlatExpr, Number, Var, Loop, Sum', Modulo', Row_of-FlatSigned, end_of-FlatSigned, more_of-FlatSigned, more_of-FlatExpr, end_of-FlatExpr}
-use Rattle.smv_core.specs.declared.flat.Flat.{Flat, Nothing, Assign, If', First', Forall', Row_of-Flat, end_of-Flat, more_of-Flat}
+use Rattle.smv_core.specs.declared.flat.DefBody.{DefBody, Nothing, Assign, If', First', Forall', Row_of-DefBody, end_of-DefBody, more_of-DefBody}
 use Rattle.smv_core.specs.declared.abstract_type.AbsType.{AbsType}
 use Rattle.law_obligations.specs.Sets.{Has, first, later}
 use Rattle.law_obligations.specs.Places.{Place, world, places_in, same_place, is_named, is_among}
@@ -109,22 +109,22 @@ indexes_same n spots (i ∷ is) [] p h = refl
 indexes_same n spots (i ∷ is) (x ∷ xs) p h = rw (fits_same spots i x (p i first) h.0.1) (ap (λ b. fits i x && b) (indexes_same n spots is xs (λ j k. p j (later k)) h.1))
 
 mutual
-  assigned_numeric : (def : Flat) (is : List Index) → Has (indexes_assigned def) is → (i : Index) → Has is i → IsNumeric i
+  assigned_numeric : (def : DefBody) (is : List Index) → Has (indexes_assigned def) is → (i : Index) → Has is i → IsNumeric i
   assigned_numeric Nothing is h i k = elim h [ ]
   assigned_numeric (Assign left value place offset) _ first i k = let e = Has-from_map flat_index left k in subst IsNumeric (sym e.2) (index_numeric e.0)
   assigned_numeric (Assign left value place offset) is (later h) i k = elim h [ ]
-  assigned_numeric (If' cond l (more_of-Flat left end_of-Flat) r (more_of-Flat right end_of-Flat)) is h i k =
+  assigned_numeric (If' cond l (more_of-DefBody left end_of-DefBody) r (more_of-DefBody right end_of-DefBody)) is h i k =
       elim (Has-cases (indexes_assigned left) (indexes_assigned right) h) [ inl p ↦ assigned_numeric left is p i k | inr p ↦ assigned_numeric right is p i k ]
   assigned_numeric (First' shape parts) is h i k = assigned_numeric_in parts is h i k
-  assigned_numeric (Forall' var over shape (more_of-Flat body end_of-Flat)) is h i k = assigned_numeric body is h i k
+  assigned_numeric (Forall' var over shape (more_of-DefBody body end_of-DefBody)) is h i k = assigned_numeric body is h i k
 
-  assigned_numeric_in : {m : _} (row : Row_of-Flat m) (is : List Index) → Has (indexes_assigned_in row) is → (i : Index) → Has is i → IsNumeric i
-  assigned_numeric_in end_of-Flat is h i k = elim h [ ]
-  assigned_numeric_in (more_of-Flat part others) is h i k =
+  assigned_numeric_in : {m : _} (row : Row_of-DefBody m) (is : List Index) → Has (indexes_assigned_in row) is → (i : Index) → Has is i → IsNumeric i
+  assigned_numeric_in end_of-DefBody is h i k = elim h [ ]
+  assigned_numeric_in (more_of-DefBody part others) is h i k =
       elim (Has-cases (indexes_assigned part) (indexes_assigned_in others) h) [ inl p ↦ assigned_numeric part is p i k | inr p ↦ assigned_numeric_in others is p i k ]
 
 -- an element at classes is concerned exactly where the values' element is
-concerned_same : (n : Numbered) (spots : Placing) (def : Flat) (x : FlatElement) → AreAtClasses n spots x.indexes → concerns_place def (map (placed spots) x.indexes) ≡ is_concerned_by def x
+concerned_same : (n : Numbered) (spots : Placing) (def : DefBody) (x : FlatElement) → AreAtClasses n spots x.indexes → concerns_place def (map (placed spots) x.indexes) ≡ is_concerned_by def x
 concerned_same n spots def x h = at (indexes_assigned def) (assigned_numeric def)
   where
     at : (iss : List (List Index)) → ((is : List Index) → Has iss is → (i : Index) → Has is i → IsNumeric i) →
@@ -151,7 +151,7 @@ module _ (n : Numbered) (types : Name → AbsType) (spots : Placing) (facts : Ar
   here v h = is_among-Has ((facts f.value).is_somewhere v h)
 
   -- the parts of a definition
-  module _ (s : FlatState) (is_state : IsState n s) (a : AbsState) (picture : IsPicture n spots kept s a) (part : Flat) (bound : IsBound 0 (length xs) part) (one : OneGives n s x values part)
+  module _ (s : FlatState) (is_state : IsState n s) (a : AbsState) (picture : IsPicture n spots kept s a) (part : DefBody) (bound : IsBound 0 (length xs) part) (one : OneGives n s x values part)
       (nothing : Place → Bool) (left : List Value) where
     part_may : ((v : Value) → Has left v → nothing (placed spots v) ≡ true) → (v : Value) → Has (unwrap_or (flat_result n s x values part []) left) v →
         may_give (world n types) kept def qs every part a nothing (placed spots v) ≡ true

@@ -6,7 +6,7 @@ use Rattle.smv_core.specs.Values.{Truth}
 use Rattle.smv_core.specs.Outcome.{is_true}
 use Rattle.smv_core.specs.declared.tree.Op.{Op}
 use Rattle.smv_core.specs.declared.flat.Def.{Def}
-use Rattle.smv_core.specs.declared.flat.Flat.{Flat}
+use Rattle.smv_core.specs.declared.flat.DefBody.{DefBody}
 use Rattle.law_obligations.specs.Sets.{pairs}
 use Rattle.law_obligations.specs.Right.{is_false, is_neither, may_allow, must_allow}
 use Rattle.law_obligations.specs.Places.{Place, World, AbsOutcome, is_among, may_compare}
@@ -54,7 +54,7 @@ or_else-all p nothing (Some x ∷ rs) = ap (λ b. x p && b) (or_else-all p nothi
     at true g k = refl
     at false g k = refl
 
-module _ (w : World) (kept : Kept) (def : Def) (indexes : List Place) (every : List Place) (part : Flat) (a : AbsState) (nothing : Place → Bool) (p : Place) where
+module _ (w : World) (kept : Kept) (def : Def) (indexes : List Place) (every : List Place) (part : DefBody) (a : AbsState) (nothing : Place → Bool) (p : Place) where
   pub may-given : may_give w kept def indexes every part a nothing p ≡ given_by (gist_of (λ x. x p) (results w kept a indexes (λ q. is_among every q) (may_allow w kept a every) part [])) (nothing p)
   may-given = or_else-any p nothing (results w kept a indexes (λ q. is_among every q) (may_allow w kept a every) part [])
 

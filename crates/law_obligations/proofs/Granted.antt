@@ -12,7 +12,7 @@ use Rattle.smv_core.specs.declared.flat.Timing.TheVariants.{Now, Before}
 use Rattle.smv_core.specs.declared.flat.Timed.{Timed}
 use Rattle.law_obligations.specs.Sets.{Has, one_of_each}
 use Rattle.law_obligations.specs.Places.{named_in}
-use Rattle.law_obligations.specs.Obligations.{Demanded, defined, holds, Problem}
+use Rattle.law_obligations.specs.Obligations.{Demanded, defined, holds, AbstractProblem}
 use Rattle.law_obligations.specs.Soundness.{FlatUnit, map_of, claim_of, over_of, LeafProof, IsOf, IsGranted, by_base, by_use}
 use Rattle.law_obligations.proofs.Tests.{and_both, left_of, right_of, or_left, or_right}
 use Rattle.law_obligations.proofs.Members.{Has-cases, Has-from_map, any-found}
@@ -77,7 +77,7 @@ module _ (s : Script) (u : ℕ) (entry : Entry) (is_there : slice_get s.entries 
   abbrev times : Timed
   times = timed o (graph s) u entry
 
-  abbrev p : Problem
+  abbrev p : AbstractProblem
   p = problem_of o entry times classes
 
   abbrev the_cone : List AbsElement

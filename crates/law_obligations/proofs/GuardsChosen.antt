@@ -2,7 +2,7 @@
 use Rattle.std.proofs.Common.{◌≡◌, ℕ, suc, ◌+◌, ◌<◌, ◌≤◌, List, [], ◌∷◌, ◌++◌, map, length, get_or, true, false, refl, sym, ap, subst, ◌∙◌, ◌⊎◌, inl, inr, arith, Some, nat_eq}
 use Rattle.std.specs.List.{slice_get}
 use Rattle.smv_core.specs.Values.{Value, number}
-use Rattle.smv_core.specs.Flat.{Numbered, FlatState, values_in, flat_outcome}
+use Rattle.smv_core.specs.FlatMeaning.{Numbered, FlatState, values_in, flat_outcome}
 use Rattle.smv_core.specs.declared.flat.Guard.{Guard}
 use Rattle.smv_core.specs.declared.flat.Simple.{Simple as FlatSimple}
 use Rattle.law_obligations.specs.Sets.{Has, first, later, one_of_each}

@@ -3,7 +3,7 @@ use Rattle.std.proofs.Common.{◌≡◌, zero, suc, List, map, Bool, true, false
 use Rattle.std.specs.List.{list_all}
 use Rattle.smv_core.specs.Values.{Name, Value, number, constant, scalar, ordinal, Outcome, truth, same, is_in}
 use Rattle.smv_core.specs.Outcome.{is_true}
-use Rattle.smv_core.specs.Flat.{Numbered, FlatState, values_in, flat_outcome}
+use Rattle.smv_core.specs.FlatMeaning.{Numbered, FlatState, values_in, flat_outcome}
 use Rattle.smv_core.specs.declared.flat.FlatExpr.{FlatExpr}
 use Rattle.smv_core.specs.declared.flat.Simple.{Simple as FlatSimple}
 use Rattle.smv_core.specs.declared.abstract_type.AbsType.{AbsType}

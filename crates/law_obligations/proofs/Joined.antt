@@ -2,7 +2,7 @@
 use Rattle.std.proofs.Common.{◌≡◌, ℕ, zero, suc, ◌≤◌, List, [], ◌∷◌, ◌++◌, map, take, length, get_or, Bool, true, false, ◌&&◌, if◌then◌else◌, refl, sym, ap, subst, ◌∙◌, Option, Some, None, option_map, nat_eq}
 use Rattle.std.specs.List.{list_all, slice_get}
 use Rattle.smv_core.specs.Values.{Name, Value, number, Sizes}
-use Rattle.smv_core.specs.Flat.{Numbered, FlatState, simple_in, values_in}
+use Rattle.smv_core.specs.FlatMeaning.{Numbered, FlatState, simple_in, values_in}
 use Rattle.smv_core.specs.declared.flat.Class.{Class}
 use Rattle.smv_core.specs.declared.flat.Guard.{Guard}
 use Rattle.smv_core.specs.declared.flat.Simple.TheVariants.{Range, Enum, Set}
@@ -17,8 +17,8 @@ use Rattle.law_obligations.specs.Cases.{Parameter}
 use Rattle.law_obligations.specs.LeafCases.{treatments_of, parameters_of, leaf_cases}
 use Rattle.law_obligations.specs.Covers.{place_at, places_at, types_at}
 use Rattle.law_obligations.specs.Circular.{Demand, Obligation, always, is_violating_after, Circle, AreHeld, IsShown, ShowsFailures, HasNoViolation}
-use Rattle.law_obligations.specs.Obligations.{Demanded, Problem, is_met, is_broken, may_hold, obligation}
-use Rattle.law_obligations.specs.Soundness.{FlatUnit, map_of, claim_of, LeafProof, Plan, at_sizes, AreSizes, over_of, params_of, values_over, is_held, meets_base, IsRun, HasValue, IsUnit, IsSound, HasNoViolatingPath, said_at, IsKept, IsGranted, by_base, by_use, own_places, IsCase, IsPlan}
+use Rattle.law_obligations.specs.Obligations.{Demanded, AbstractProblem, is_met, is_broken, may_hold, obligation}
+use Rattle.law_obligations.specs.Soundness.{FlatUnit, map_of, claim_of, LeafProof, ProofPlan, at_sizes, AreSizes, over_of, params_of, values_over, is_held, meets_base, IsRun, HasValue, IsUnit, IsSoundPlan, HasNoViolatingPath, said_at, IsKept, IsGranted, by_base, by_use, own_places, IsCase, IsPlan}
 use Rattle.law_obligations.proofs.Tests.{and_both}
 use Rattle.law_obligations.proofs.Members.{Has-right, Has-from_map, all-each, all-holds}
 use Rattle.law_obligations.proofs.Same.{nat_eq-itself, nat_eq-is}
@@ -84,7 +84,7 @@ places_same n sizes [] classes = refl
 places_same n sizes (p ∷ params) [] = refl
 places_same n sizes (p ∷ params) (c ∷ classes) = ap (λ t. place_at t c ∷ places_at (at_sizes n sizes) params classes) (type_same n sizes p.over) ∙ ap (λ ps. place_at (simple_in n p.over) c ∷ ps) (places_same n sizes params classes)
 
-module _ (plan : Plan) (sizes : Sizes) where
+module _ (plan : ProofPlan) (sizes : Sizes) where
   abbrev n : Numbered
   n = at_sizes plan.names sizes
 
@@ -104,7 +104,7 @@ module _ (plan : Plan) (sizes : Sizes) where
     classes : List Class
     is_case : Has (leaf_cases plan.names.sets leaf.params leaf.keeps) classes
 
-  abbrev problem_of : CaseOf → Problem
+  abbrev problem_of : CaseOf → AbstractProblem
   problem_of c = c.leaf.problem c.classes
 
   -- an abstract state of a case
@@ -174,7 +174,7 @@ module _ (plan : Plan) (sizes : Sizes) where
         }
 
     -- what is granted is met in the pictures of a case
-    module _ (p : Problem) (u : ℕ) (leaf : LeafProof) (classes : List Class) (is_case : IsCase plan u leaf classes p) (spots : Placing)
+    module _ (p : AbstractProblem) (u : ℕ) (leaf : LeafProof) (classes : List Class) (is_case : IsCase plan u leaf classes p) (spots : Placing)
         (facts : ArePlaced n (world plan.names (types_at plan.names.sets (treatments_of leaf.keeps 0 plan.names.sets) (parameters_of leaf.keeps leaf.params) classes)) spots) where
       abbrev types : Name → AbsType
       types = types_at plan.names.sets (treatments_of leaf.keeps 0 plan.names.sets) (parameters_of leaf.keeps leaf.params) classes
@@ -199,7 +199,7 @@ module _ (plan : Plan) (sizes : Sizes) where
 
     -- the instance is broken in its case, and its guards may hold there
     module _ (i : Instance) (s : Known n) (c : HasCase i s.state) (is_case : IsCase plan i.place i.leaf c.classes (i.leaf.problem c.classes)) where
-      abbrev p : Problem
+      abbrev p : AbstractProblem
       p = i.leaf.problem c.classes
 
       abbrev seen_in : Known n → AbsState
@@ -300,7 +300,7 @@ module _ (plan : Plan) (sizes : Sizes) where
         ∙ (always_mapped fixed (is_held n i.leaf.unit i.values) None run ∙ holds)
 
 -- where no case of any leaf has a violating path, every unit holds at every time of every run, for all sizes
-pub sound : (plan : Plan) → IsPlan plan → HasNoViolatingPath plan → IsSound plan
+pub sound : (plan : ProofPlan) → IsPlan plan → HasNoViolatingPath plan → IsSoundPlan plan
 sound plan is_plan none sizes are_sizes run is_run leaf is_leaf values are_values =
     let at = Has_get is_leaf in
     in_run plan sizes is_plan are_sizes none run is_run (record { place = at.0; leaf = leaf; is_leaf = at.1; values = values; are_values = are_values })

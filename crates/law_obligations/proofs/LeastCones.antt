@@ -6,7 +6,7 @@ use Rattle.smv_core.specs.Assignments.{Index, fixed, bare, computed}
 use Rattle.smv_core.specs.declared.flat.Family.{Family}
 use Rattle.smv_core.specs.declared.flat.Def.{Def}
 use Rattle.smv_core.specs.declared.flat.Claim.{Claim}
-use Rattle.smv_core.specs.declared.flat.Flat.{Flat}
+use Rattle.smv_core.specs.declared.flat.DefBody.{DefBody}
 use Rattle.smv_core.specs.declared.flat.FlatExpr.{FlatExpr}
 use Rattle.smv_core.specs.declared.flat.Class.{Class}
 use Rattle.smv_core.specs.declared.flat.Assumed.{Assumed}
@@ -68,14 +68,14 @@ module _ (w : World) where
   read_within : (e : FlatExpr) (b : List Place) (y : AbsElement) → Has (elements_read w e b) y → Has (elements w) y
   read_within e b y h = reads_within (named_in w) (elements_at w) (Has (elements w)) at_within e b y h
 
-  abbrev part : List Place → Flat → List AbsElement
+  abbrev part : List Place → DefBody → List AbsElement
   part indexes p = part_reads (places_in w) (is_own indexes) (named_in w) (elements_at w) p []
 
   def_within : (indexes : List Place) (def : Def) (y : AbsElement) → Has (elements_of_def w indexes def) y → Has (elements w) y
   def_within indexes def y h = either (part indexes def.init ++ part indexes def.next) (part indexes def.comb) h
       (λ k. either (part indexes def.init) (part indexes def.next) k (of_part def.init) (of_part def.next)) (of_part def.comb)
     where
-      of_part : (p : Flat) → Has (part indexes p) y → Has (elements w) y
+      of_part : (p : DefBody) → Has (part indexes p) y → Has (elements w) y
       of_part p k = part_within (named_in w) (elements_at w) (Has (elements w)) at_within (places_in w) (is_own indexes) p [] y k
 
   assumed_within : (o : Option Claim) (y : AbsElement) → Has (elements_assumed w o) y → Has (elements w) y
@@ -157,7 +157,7 @@ module _ (s : Script) (checked : IsChecked s) where
   families_within e k h = reads_within (λ over. named (number 0) ∷ []) (λ family indexes b. if_there family (slice_get o.design.families family)) (Has all)
       (λ family indexes b y q. there_within family y (slice_get o.design.families family) refl q) e [] k h
 
-  family_part : (p : Flat) (k : ℕ) → Has (families_of_part o.design.families p) k → Has all k
+  family_part : (p : DefBody) (k : ℕ) → Has (families_of_part o.design.families p) k → Has all k
   family_part p k h = part_within (λ over. named (number 0) ∷ []) (λ family indexes b. if_there family (slice_get o.design.families family)) (Has all)
       (λ family indexes b y q. there_within family y (slice_get o.design.families family) refl q) (λ over. named (number 0) ∷ []) (λ left b. true) p [] k h
 

@@ -3,7 +3,7 @@ use Rattle.std.proofs.Common.{◌≡◌, ℕ, zero, suc, ◌+◌, ◌-◌, List,
 use Rattle.std.specs.List.{flat_map, slice_get, zip}
 use Rattle.smv_core.specs.Values.{Name, Value, number, constant, scalar, ordinal, Outcome, Truth, truth, bit, value_in, all_defined, equal, compare, add, modulo, numbers_from, not_of, iff_of, conjunction, disjunction, implication, is_in}
 use Rattle.smv_core.specs.Outcome.{branch}
-use Rattle.smv_core.specs.Flat.{Numbered, FlatState, bind, values_in, flat_element_at, flat_outcome, flat_outcomes, flat_sum, flat_listed, flat_members}
+use Rattle.smv_core.specs.FlatMeaning.{Numbered, FlatState, bind, values_in, flat_element_at, flat_outcome, flat_outcomes, flat_sum, flat_listed, flat_members}
 use Rattle.smv_core.specs.declared.flat.Simple.{Simple as FlatSimple}
 use Rattle.smv_core.specs.declared.flat.Family.{Family}
 use Rattle.smv_core.specs.declared.flat.FlatMember.{One, Span as SpanOf}

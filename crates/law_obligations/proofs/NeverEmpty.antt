@@ -1,7 +1,7 @@
 -- What an expression may be is never empty, whatever the places of its variables, since each type has a value.
 use Rattle.std.proofs.Common.{List, []}
 use Rattle.smv_core.specs.Values.{Name}
-use Rattle.smv_core.specs.Flat.{Numbered, FlatState}
+use Rattle.smv_core.specs.FlatMeaning.{Numbered, FlatState}
 use Rattle.smv_core.specs.declared.abstract_type.AbsType.{AbsType}
 use Rattle.smv_core.specs.declared.flat.FlatExpr.{FlatExpr}
 use Rattle.law_obligations.specs.Places.{Place, world}

@@ -7,10 +7,10 @@ use Rattle.smv_core.specs.Walk as walk
 use Rattle.smv_core.specs.Walk.{Walk, if_walk, is_other}
 use Rattle.smv_core.specs.Assignments.{Index, fixed, bare, computed, add_fixed, modulo_fixed}
 use Rattle.smv_core.specs.Conflicts.{are_two_constants, are_both}
-use Rattle.smv_core.specs.Flat.{Numbered, FlatState, FlatElement, bind, values_in, flat_index, flat_index_sum, indexes_assigned, indexes_assigned_in, flat_outcome, flat_sum, flat_result, flat_results}
+use Rattle.smv_core.specs.FlatMeaning.{Numbered, FlatState, FlatElement, bind, values_in, flat_index, flat_index_sum, indexes_assigned, indexes_assigned_in, flat_outcome, flat_sum, flat_result, flat_results}
 use Rattle.smv_core.specs.declared.flat.Def.{Def}
 use Rattle.smv_core.specs.declared.flat.FlatExpr.{FlatExpr, Number, Var, Loop, Sum', Modulo', Row_of-FlatSigned, end_of-FlatSigned, more_of-FlatSigned, more_of-FlatExpr, end_of-FlatExpr}
-use Rattle.smv_core.specs.declared.flat.Flat.{Flat, Nothing, Assign, If', First', Forall', Row_of-Flat, end_of-Flat, more_of-Flat}
+use Rattle.smv_core.specs.declared.flat.DefBody.{DefBody, Nothing, Assign, If', First', Forall', Row_of-DefBody, end_of-DefBody, more_of-DefBody}
 use Rattle.law_obligations.specs.Sets.{Has, first, later}
 use Rattle.law_obligations.specs.Bound.{HasVariable, HaveVariable, IsBound, AreBound, OneGives, OneOfEachGives, IsSingle}
 use Rattle.law_obligations.specs.FlatConflicts.{AreExcused, EachTwo, HasNoConflict, HaveNoConflict, IsConflictFree}
@@ -124,7 +124,7 @@ module _ (n : Numbered) (s : FlatState) where
     found_some F all each (y ∷ ys) h = elim (gives_first (F y) (walk.first (map F ys)) h) [ inl g ↦ each y g | inr g ↦ found_some F all each ys g ]
 
     mutual
-      found : (count : ℕ) (def : Flat) (b : List Value) → slice_get b k ≡ Some v → HasVariable k count def → Gives (flat_result n s x every def b) → Found (indexes_assigned def)
+      found : (count : ℕ) (def : DefBody) (b : List Value) → slice_get b k ≡ Some v → HasVariable k count def → Gives (flat_result n s x every def b) → Found (indexes_assigned def)
       found count Nothing b i h g = absurd (cc)
       found count (Assign left value place offset) b i h g = record {
         by = map flat_index left;
@@ -133,18 +133,18 @@ module _ (n : Numbered) (s : FlatState) where
         is_value = i;
         fit = fit_all b left x.indexes (gives_unless (list_any (λ (u, v). is_other u v) (zip (map (λ e. flat_outcome n s e b) left) x.indexes)) _ g);
       }
-      found count (If' cond l (more_of-Flat left end_of-Flat) r (more_of-Flat right end_of-Flat)) b i h g =
+      found count (If' cond l (more_of-DefBody left end_of-DefBody) r (more_of-DefBody right end_of-DefBody)) b i h g =
           elim (gives_if every (truth (flat_outcome n s cond b)) (flat_result n s x every left b) (flat_result n s x every right b) g) [
             | inl p ↦ found_left (indexes_assigned left) (indexes_assigned right) (found count left b i h.0 p)
             | inr p ↦ found_right (indexes_assigned left) (indexes_assigned right) (found count right b i h.1 p)
           ]
       found count (First' shape parts) b i h g = found_in count parts b i h g
-      found count (Forall' var over shape (more_of-Flat body end_of-Flat)) b i h g =
+      found count (Forall' var over shape (more_of-DefBody body end_of-DefBody)) b i h g =
           found_some (λ u. flat_result n s x every body (bind b var u)) (indexes_assigned body) (λ u p. found count body (bind b var u) (value_kept b var k u v i h.0) h.1 p) (values_in n over) g
 
-      found_in : {m : _} (count : ℕ) (row : Row_of-Flat m) (b : List Value) → slice_get b k ≡ Some v → HaveVariable k count row → Gives (flat_results n s x every row b) → Found (indexes_assigned_in row)
-      found_in count end_of-Flat b i h g = absurd (cc)
-      found_in count (more_of-Flat part others) b i h g =
+      found_in : {m : _} (count : ℕ) (row : Row_of-DefBody m) (b : List Value) → slice_get b k ≡ Some v → HaveVariable k count row → Gives (flat_results n s x every row b) → Found (indexes_assigned_in row)
+      found_in count end_of-DefBody b i h g = absurd (cc)
+      found_in count (more_of-DefBody part others) b i h g =
           elim (gives_first (flat_result n s x every part b) (flat_results n s x every others b) g) [
             | inl p ↦ found_left (indexes_assigned part) (indexes_assigned_in others) (found count part b i h.0 p)
             | inr p ↦ found_right (indexes_assigned part) (indexes_assigned_in others) (found_in count others b i h.1 p)
@@ -210,42 +210,42 @@ only_member first = refl
 only_member (later h) = elim h [ ]
 
 mutual
-  has_variable : (around count k : ℕ) (def : Flat) → k < around → HasNoConflict around count def → HasVariable k count def
+  has_variable : (around count k : ℕ) (def : DefBody) → k < around → HasNoConflict around count def → HasVariable k count def
   has_variable around count k Nothing l h = tt
   has_variable around count k (Assign left value place offset) l h = h.1 k l
-  has_variable around count k (If' cond l' (more_of-Flat left end_of-Flat) r (more_of-Flat right end_of-Flat)) l h = (has_variable around count k left l h.0, has_variable around count k right l h.1)
+  has_variable around count k (If' cond l' (more_of-DefBody left end_of-DefBody) r (more_of-DefBody right end_of-DefBody)) l h = (has_variable around count k left l h.0, has_variable around count k right l h.1)
   has_variable around count k (First' shape parts) l h = have_variable around count k parts l h
-  has_variable around count k (Forall' var over shape (more_of-Flat body end_of-Flat)) l h = (subst (λ m. k < m) (sym h.0) l, has_variable (suc around) count k body (omega arith) h.1)
+  has_variable around count k (Forall' var over shape (more_of-DefBody body end_of-DefBody)) l h = (subst (λ m. k < m) (sym h.0) l, has_variable (suc around) count k body (omega arith) h.1)
 
-  have_variable : {m : _} (around count k : ℕ) (row : Row_of-Flat m) → k < around → HaveNoConflict around count row → HaveVariable k count row
-  have_variable around count k end_of-Flat l h = tt
-  have_variable around count k (more_of-Flat part others) l h = (has_variable around count k part l h.0, have_variable around count k others l h.1)
+  have_variable : {m : _} (around count k : ℕ) (row : Row_of-DefBody m) → k < around → HaveNoConflict around count row → HaveVariable k count row
+  have_variable around count k end_of-DefBody l h = tt
+  have_variable around count k (more_of-DefBody part others) l h = (has_variable around count k part l h.0, have_variable around count k others l h.1)
 
 mutual
-  is_bound : (around count : ℕ) (def : Flat) → HasNoConflict around count def → IsBound around count def
+  is_bound : (around count : ℕ) (def : DefBody) → HasNoConflict around count def → IsBound around count def
   is_bound around count Nothing h = tt
   is_bound around count (Assign left value place offset) h = tt
-  is_bound around count (If' cond l (more_of-Flat left end_of-Flat) r (more_of-Flat right end_of-Flat)) h = (is_bound around count left h.0, is_bound around count right h.1)
+  is_bound around count (If' cond l (more_of-DefBody left end_of-DefBody) r (more_of-DefBody right end_of-DefBody)) h = (is_bound around count left h.0, is_bound around count right h.1)
   is_bound around count (First' shape parts) h = are_bound around count parts h
-  is_bound around count (Forall' var over shape (more_of-Flat body end_of-Flat)) h =
+  is_bound around count (Forall' var over shape (more_of-DefBody body end_of-DefBody)) h =
       (h.0, subst (λ m. HasVariable m count body) (sym h.0) (has_variable (suc around) count around body (omega arith) h.1), is_bound (suc around) count body h.1)
 
-  are_bound : {m : _} (around count : ℕ) (row : Row_of-Flat m) → HaveNoConflict around count row → AreBound around count row
-  are_bound around count end_of-Flat h = tt
-  are_bound around count (more_of-Flat part others) h = (is_bound around count part h.0, are_bound around count others h.1)
+  are_bound : {m : _} (around count : ℕ) (row : Row_of-DefBody m) → HaveNoConflict around count row → AreBound around count row
+  are_bound around count end_of-DefBody h = tt
+  are_bound around count (more_of-DefBody part others) h = (is_bound around count part h.0, are_bound around count others h.1)
 
 mutual
-  is_short : (around count : ℕ) (def : Flat) → HasNoConflict around count def → (is : List Index) → Has (indexes_assigned def) is → length is ≤ count
+  is_short : (around count : ℕ) (def : DefBody) → HasNoConflict around count def → (is : List Index) → Has (indexes_assigned def) is → length is ≤ count
   is_short around count Nothing h is k = elim k [ ]
   is_short around count (Assign left value place offset) h is k = subst (λ m. m ≤ count) (sym (map_long flat_index left) ∙ ap length (sym (only_member k))) h.0
-  is_short around count (If' cond l (more_of-Flat left end_of-Flat) r (more_of-Flat right end_of-Flat)) h is k =
+  is_short around count (If' cond l (more_of-DefBody left end_of-DefBody) r (more_of-DefBody right end_of-DefBody)) h is k =
       elim (Has-cases (indexes_assigned left) (indexes_assigned right) k) [ inl p ↦ is_short around count left h.0 is p | inr p ↦ is_short around count right h.1 is p ]
   is_short around count (First' shape parts) h is k = are_short around count parts h is k
-  is_short around count (Forall' var over shape (more_of-Flat body end_of-Flat)) h is k = is_short (suc around) count body h.1 is k
+  is_short around count (Forall' var over shape (more_of-DefBody body end_of-DefBody)) h is k = is_short (suc around) count body h.1 is k
 
-  are_short : {m : _} (around count : ℕ) (row : Row_of-Flat m) → HaveNoConflict around count row → (is : List Index) → Has (indexes_assigned_in row) is → length is ≤ count
-  are_short around count end_of-Flat h is k = elim k [ ]
-  are_short around count (more_of-Flat part others) h is k =
+  are_short : {m : _} (around count : ℕ) (row : Row_of-DefBody m) → HaveNoConflict around count row → (is : List Index) → Has (indexes_assigned_in row) is → length is ≤ count
+  are_short around count end_of-DefBody h is k = elim k [ ]
+  are_short around count (more_of-DefBody part others) h is k =
       elim (Has-cases (indexes_assigned part) (indexes_assigned_in others) k) [ inl p ↦ is_short around count part h.0 is p | inr p ↦ are_short around count others h.1 is p ]
 
 -- two left sides in one order or the other
@@ -263,24 +263,24 @@ two_parts around k iss jss l left right each is js p q = at (Has-cases iss jss p
     at (inr p) (inl q) = inr (two_of around k js is l (each js is q p))
 
 mutual
-  any_two : (around count k : ℕ) (def : Flat) → k < around → HasNoConflict around count def → (is js : List Index) → Has (indexes_assigned def) is → Has (indexes_assigned def) js → AreTwoEither k is js
+  any_two : (around count k : ℕ) (def : DefBody) → k < around → HasNoConflict around count def → (is js : List Index) → Has (indexes_assigned def) is → Has (indexes_assigned def) js → AreTwoEither k is js
   any_two around count k Nothing l h is js p q = elim p [ ]
   any_two around count k (Assign left value place offset) l h is js p q =
       let v = h.1 k l in
       inl (inr (subst (λ is. list_any (λ (i, j). are_both k i j) (zip is js) ≡ true) (sym (only_member p))
       (subst (λ js. list_any (λ (i, j). are_both k i j) (zip (map flat_index left) js) ≡ true) (sym (only_member q)) (shares_itself k v.2 left v.0 v.3))))
-  any_two around count k (If' cond l' (more_of-Flat left end_of-Flat) r (more_of-Flat right end_of-Flat)) l h is js p q =
+  any_two around count k (If' cond l' (more_of-DefBody left end_of-DefBody) r (more_of-DefBody right end_of-DefBody)) l h is js p q =
       two_parts around k (indexes_assigned left) (indexes_assigned right) l (any_two around count k left l h.0) (any_two around count k right l h.1) h.2 is js p q
   any_two around count k (First' shape parts) l h is js p q = any_two_in around count k parts l h is js p q
-  any_two around count k (Forall' var over shape (more_of-Flat body end_of-Flat)) l h is js p q = any_two (suc around) count k body (omega arith) h.1 is js p q
+  any_two around count k (Forall' var over shape (more_of-DefBody body end_of-DefBody)) l h is js p q = any_two (suc around) count k body (omega arith) h.1 is js p q
 
-  any_two_in : {m : _} (around count k : ℕ) (row : Row_of-Flat m) → k < around → HaveNoConflict around count row → (is js : List Index) → Has (indexes_assigned_in row) is → Has (indexes_assigned_in row) js → AreTwoEither k is js
-  any_two_in around count k end_of-Flat l h is js p q = elim p [ ]
-  any_two_in around count k (more_of-Flat part others) l h is js p q =
+  any_two_in : {m : _} (around count k : ℕ) (row : Row_of-DefBody m) → k < around → HaveNoConflict around count row → (is js : List Index) → Has (indexes_assigned_in row) is → Has (indexes_assigned_in row) js → AreTwoEither k is js
+  any_two_in around count k end_of-DefBody l h is js p q = elim p [ ]
+  any_two_in around count k (more_of-DefBody part others) l h is js p q =
       two_parts around k (indexes_assigned part) (indexes_assigned_in others) l (any_two around count k part l h.0) (any_two_in around count k others l h.1) h.2 is js p q
 
 module _ (n : Numbered) (s : FlatState) (x : FlatElement) (every : List Value) where
-  at_most_one : (around : ℕ) (body : Flat) → HasNoConflict (suc around) (length x.indexes) body → (b : List Value) → length b ≡ around → (u v : Value) →
+  at_most_one : (around : ℕ) (body : DefBody) → HasNoConflict (suc around) (length x.indexes) body → (b : List Value) → length b ≡ around → (u v : Value) →
       Gives (flat_result n s x every body (bind b around u)) → Gives (flat_result n s x every body (bind b around v)) → u ≡ v
   at_most_one around body h b long u v gives_u gives_v =
       let count = length x.indexes in
@@ -293,20 +293,20 @@ module _ (n : Numbered) (s : FlatState) (x : FlatElement) (every : List Value) w
       ]
 
   mutual
-    one_gives : (around : ℕ) (def : Flat) → HasNoConflict around (length x.indexes) def → OneGives n s x every def
+    one_gives : (around : ℕ) (def : DefBody) → HasNoConflict around (length x.indexes) def → OneGives n s x every def
     one_gives around Nothing h = tt
     one_gives around (Assign left value place offset) h = tt
-    one_gives around (If' cond l (more_of-Flat left end_of-Flat) r (more_of-Flat right end_of-Flat)) h = (one_gives around left h.0, one_gives around right h.1)
+    one_gives around (If' cond l (more_of-DefBody left end_of-DefBody) r (more_of-DefBody right end_of-DefBody)) h = (one_gives around left h.0, one_gives around right h.1)
     one_gives around (First' shape parts) h = one_of_each_gives around parts h
-    one_gives around (Forall' var over shape (more_of-Flat body end_of-Flat)) h = (
+    one_gives around (Forall' var over shape (more_of-DefBody body end_of-DefBody)) h = (
       λ b are long u v p q gives_u gives_v. at_most_one around body h.1 b (long ∙ h.0) u v
           (subst (λ m. Gives (flat_result n s x every body (bind b m u))) h.0 gives_u) (subst (λ m. Gives (flat_result n s x every body (bind b m v))) h.0 gives_v),
       one_gives (suc around) body h.1,
     )
 
-    one_of_each_gives : {m : _} (around : ℕ) (row : Row_of-Flat m) → HaveNoConflict around (length x.indexes) row → OneOfEachGives n s x every row
-    one_of_each_gives around end_of-Flat h = tt
-    one_of_each_gives around (more_of-Flat part others) h = (one_gives around part h.0, one_of_each_gives around others h.1)
+    one_of_each_gives : {m : _} (around : ℕ) (row : Row_of-DefBody m) → HaveNoConflict around (length x.indexes) row → OneOfEachGives n s x every row
+    one_of_each_gives around end_of-DefBody h = tt
+    one_of_each_gives around (more_of-DefBody part others) h = (one_gives around part h.0, one_of_each_gives around others h.1)
 
 -- a definition without conflicts, for each of its elements
 pub is_single : (n : Numbered) (def : Def) (indexes : List Value) (every : List Value) → IsConflictFree (length indexes) def → IsSingle n def indexes every

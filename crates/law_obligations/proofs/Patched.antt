@@ -6,11 +6,11 @@ use Rattle.smv_core.specs.Values.{Value, number, Outcome, truth, bit, value_in, 
 use Rattle.smv_core.specs.Outcome.{branch, fit, is_true}
 use Rattle.smv_core.specs.Walk as walk
 use Rattle.smv_core.specs.Walk.{if_walk, is_other}
-use Rattle.smv_core.specs.Flat.{Numbered, FlatState, FlatElement, bind, values_in, flat_element_at, flat_outcome, flat_outcomes, flat_sum, flat_listed, flat_members, flat_meets, flat_allowed_by, flat_assigned, flat_result, flat_results, is_concerned_by, flat_kept, flat_stepped, flat_allowed}
+use Rattle.smv_core.specs.FlatMeaning.{Numbered, FlatState, FlatElement, bind, values_in, flat_element_at, flat_outcome, flat_outcomes, flat_sum, flat_listed, flat_members, flat_meets, flat_allowed_by, flat_assigned, flat_result, flat_results, is_concerned_by, flat_kept, flat_stepped, flat_allowed}
 use Rattle.smv_core.specs.declared.flat.Simple.{Simple as FlatSimple}
 use Rattle.smv_core.specs.declared.flat.Family.{Family}
 use Rattle.smv_core.specs.declared.flat.Def.{Def}
-use Rattle.smv_core.specs.declared.flat.Flat.{Flat, Nothing, Assign, If', First', Forall', Row_of-Flat, end_of-Flat, more_of-Flat}
+use Rattle.smv_core.specs.declared.flat.DefBody.{DefBody, Nothing, Assign, If', First', Forall', Row_of-DefBody, end_of-DefBody, more_of-DefBody}
 use Rattle.smv_core.specs.declared.flat.FlatMember.{One, Span as SpanOf}
 use Rattle.smv_core.specs.declared.flat.FlatExpr.{FlatExpr, Number, Read', Var, Loop, Constant, Not', And', Or', Implies', Iff', Compare', Within', Sum', Modulo', Choose', All', Any', List', Each', Held-FlatExpr-Each-2, None', Some', Row_of-FlatExpr, end_of-FlatExpr, more_of-FlatExpr, Row_of-FlatMember, end_of-FlatMember, more_of-FlatMember, Row_of-FlatSigned, end_of-FlatSigned, more_of-FlatSigned}
 use Rattle.law_obligations.specs.Sets.{Has, first, later}
@@ -130,21 +130,21 @@ module _ (n : Numbered) (s t : FlatState) (same : (family : ℕ) (f : Family) �
     assigned_same us value b r = ap (λ vs. if list_any (λ (u, v). is_other u v) (zip us x.indexes) then None else if list_any is_none us then Some every else Some vs) (allowed_same every value b r)
 
     mutual
-      pub result_same : (def : Flat) (b : List Value) → IsWholeFlat n.families def → flat_result n s x every def b ≡ flat_result n t x every def b
+      pub result_same : (def : DefBody) (b : List Value) → IsWholeFlat n.families def → flat_result n s x every def b ≡ flat_result n t x every def b
       result_same Nothing b r = refl
       result_same (Assign left value place offset) b r =
           ap (λ us. flat_assigned n s x every us value b) (left_same left b r.0) ∙ assigned_same (map (λ e. flat_outcome n t e b) left) value b r.1
-      result_same (If' cond l (more_of-Flat left end_of-Flat) r' (more_of-Flat right end_of-Flat)) b r =
+      result_same (If' cond l (more_of-DefBody left end_of-DefBody) r' (more_of-DefBody right end_of-DefBody)) b r =
           ap (λ u. if_walk every (truth u) (flat_result n s x every left b) (flat_result n s x every right b)) (outcome_same cond b r.0)
           ∙ (ap (λ w. if_walk every (truth (flat_outcome n t cond b)) w (flat_result n s x every right b)) (result_same left b r.1)
           ∙ ap (λ w. if_walk every (truth (flat_outcome n t cond b)) (flat_result n t x every left b) w) (result_same right b r.2))
       result_same (First' shape parts) b r = results_same parts b r
-      result_same (Forall' var over shape (more_of-Flat body end_of-Flat)) b r =
+      result_same (Forall' var over shape (more_of-DefBody body end_of-DefBody)) b r =
           ap walk.first (map_alike (λ v. flat_result n s x every body (bind b var v)) (λ v. flat_result n t x every body (bind b var v)) (λ v. result_same body (bind b var v) r) (values_in n over))
 
-      results_same : {m : _} (row : Row_of-Flat m) (b : List Value) → AreWholeFlats n.families row → flat_results n s x every row b ≡ flat_results n t x every row b
-      results_same end_of-Flat b r = refl
-      results_same (more_of-Flat part others) b r =
+      results_same : {m : _} (row : Row_of-DefBody m) (b : List Value) → AreWholeFlats n.families row → flat_results n s x every row b ≡ flat_results n t x every row b
+      results_same end_of-DefBody b r = refl
+      results_same (more_of-DefBody part others) b r =
           ap (λ w. walk.first_of w (flat_results n s x every others b)) (result_same part b r.0) ∙ ap (walk.first_of (flat_result n t x every part b)) (results_same others b r.1)
 
 -- two states with one value for each element

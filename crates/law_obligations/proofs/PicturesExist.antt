@@ -2,7 +2,7 @@
 use Rattle.std.proofs.Common.{◌≡◌, ℕ, List, [], ◌∷◌, map, Bool, true, false, refl, sym, ap, subst, ◌∙◌, Option, Some, None}
 use Rattle.std.specs.List.{slice_get}
 use Rattle.smv_core.specs.Values.{Name, Value, number}
-use Rattle.smv_core.specs.Flat.{Numbered, FlatState, values_in}
+use Rattle.smv_core.specs.FlatMeaning.{Numbered, FlatState, values_in}
 use Rattle.smv_core.specs.declared.flat.Family.{Family}
 use Rattle.smv_core.specs.declared.flat.Simple.{Simple as FlatSimple}
 use Rattle.smv_core.specs.declared.abstract_type.AbsType.{AbsType}

@@ -14,7 +14,7 @@ use Rattle.law_obligations.proofs.Lookups.{find-some, none_or_some}
 use Rattle.law_obligations.proofs.ConeFacts.{same_element-itself, same_element-family, same_element-indexes}
 use Rattle.law_obligations.specs.Bits.{Bits}
 use Rattle.law_obligations.specs.Codes.{code_from, value_of_code}
-use Rattle.law_obligations.specs.Readings.{Case, IsCase, Slot, values_in, values_of, bits_of, bits_of_all, slots_from, code_of, is_value, read_at, slots, state_bits, are_values, reading}
+use Rattle.law_obligations.specs.Readings.{PosedCase, IsCase, Slot, values_in, values_of, bits_of, bits_of_all, slots_from, code_of, is_value, read_at, slots, state_bits, are_values, reading}
 use Rattle.law_obligations.proofs.Codes.{bits_are, spell, code_spelled, code_agree, value_Has, Has_value}
 
 module _ (w : World) where
@@ -107,7 +107,7 @@ module _ (w : World) where
       at_place s n k e own others more _ first = ap (value_of_code (values_of w x)) own ∙ e
       at_place s n k e own others more slot (later h) = ap (value_of_code (values_of w slot.element)) (others slot h) ∙ more.is_place slot h
 
-module _ (c : Case) where
+module _ (c : PosedCase) where
   w : World
   w = c.problem.world
 

@@ -2,11 +2,11 @@
 use Rattle.std.proofs.Common.{ℕ, List, [], ◌++◌, map, Bool, ◌||◌, if◌then◌else◌, inl, inr}
 use Rattle.std.specs.List.{flat_map}
 use Rattle.smv_core.specs.Assignments.{Index}
-use Rattle.smv_core.specs.Flat.{flat_index}
+use Rattle.smv_core.specs.FlatMeaning.{flat_index}
 use Rattle.smv_core.specs.declared.flat.Simple.{Simple}
 use Rattle.smv_core.specs.declared.flat.FlatMember.{One, Span as SpanOf}
 use Rattle.smv_core.specs.declared.flat.FlatExpr.{FlatExpr, Number, Read', Var, Loop, Constant, Not', And', Or', Implies', Iff', Compare', Within', Sum', Modulo', Choose', All', Any', List', Each', Held-FlatExpr-Each-2, None', Some', Row_of-FlatExpr, end_of-FlatExpr, more_of-FlatExpr, Row_of-FlatMember, end_of-FlatMember, more_of-FlatMember, Row_of-FlatSigned, end_of-FlatSigned, more_of-FlatSigned}
-use Rattle.smv_core.specs.declared.flat.Flat.{Flat, Nothing, Assign, If', First', Forall', Row_of-Flat, end_of-Flat, more_of-Flat}
+use Rattle.smv_core.specs.declared.flat.DefBody.{DefBody, Nothing, Assign, If', First', Forall', Row_of-DefBody, end_of-DefBody, more_of-DefBody}
 use Rattle.law_obligations.specs.Sets.{Has}
 use Rattle.law_obligations.specs.Places.{Place, bind_place}
 use Rattle.law_obligations.proofs.Members.{Has-cases}
@@ -62,17 +62,17 @@ module _ {X : Type 0} (places : Simple → List Place) (read : ℕ → List Inde
 
   module _ (every : Simple → List Place) (counts : List Index → List Place → Bool) where
     mutual
-      pub part_within : (part : Flat) (b : List Place) (y : X) → Has (part_reads every counts places read part b) y → P y
+      pub part_within : (part : DefBody) (b : List Place) (y : X) → Has (part_reads every counts places read part b) y → P y
       part_within Nothing b y h = elim h [ ]
       part_within (Assign left value place at) b y h = let t = Has-tested (counts (map flat_index left) b) h in
           either (flat_map (λ e. reads places read e b) left) (reads places read value b) t.1 (λ k. let r = Has-from_flat_map (λ e. reads places read e b) left k in reads_within r.0 b y r.2) (reads_within value b y)
-      part_within (If' cond l (more_of-Flat left end_of-Flat) r (more_of-Flat right end_of-Flat)) b y h =
+      part_within (If' cond l (more_of-DefBody left end_of-DefBody) r (more_of-DefBody right end_of-DefBody)) b y h =
           either ((if has_counting every counts left b || has_counting every counts right b then reads places read cond b else []) ++ part_reads every counts places read left b) (part_reads every counts places read right b) h
           (λ k. either (if has_counting every counts left b || has_counting every counts right b then reads places read cond b else []) (part_reads every counts places read left b) k
           (λ q. reads_within cond b y (Has-tested (has_counting every counts left b || has_counting every counts right b) q).1) (part_within left b y)) (part_within right b y)
       part_within (First' shape parts) b y h = parts_within parts b y h
-      part_within (Forall' var over shape (more_of-Flat body end_of-Flat)) b y h = let r = Has-from_flat_map (λ p. part_reads every counts places read body (bind_place b var p)) (every over) h in part_within body (bind_place b var r.0) y r.2
+      part_within (Forall' var over shape (more_of-DefBody body end_of-DefBody)) b y h = let r = Has-from_flat_map (λ p. part_reads every counts places read body (bind_place b var p)) (every over) h in part_within body (bind_place b var r.0) y r.2
 
-      parts_within : {m : _} (row : Row_of-Flat m) (b : List Place) (y : X) → Has (parts_read every counts places read row b) y → P y
-      parts_within end_of-Flat b y h = elim h [ ]
-      parts_within (more_of-Flat part others) b y h = either (part_reads every counts places read part b) (parts_read every counts places read others b) h (part_within part b y) (parts_within others b y)
+      parts_within : {m : _} (row : Row_of-DefBody m) (b : List Place) (y : X) → Has (parts_read every counts places read row b) y → P y
+      parts_within end_of-DefBody b y h = elim h [ ]
+      parts_within (more_of-DefBody part others) b y h = either (part_reads every counts places read part b) (parts_read every counts places read others b) h (part_within part b y) (parts_within others b y)

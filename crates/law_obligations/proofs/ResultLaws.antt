@@ -3,7 +3,7 @@ use Rattle.std.proofs.Common.{◌≡◌, ℕ, List, [], ◌∷◌, map, Option, 
 use Rattle.std.specs.List.{flat_map}
 use Rattle.smv_core.specs.declared.flat.Simple.{Simple}
 use Rattle.smv_core.specs.declared.flat.FlatExpr.{FlatExpr}
-use Rattle.smv_core.specs.declared.flat.Flat.{Flat, Nothing, Assign, If, First, First', Forall, Row_of-Flat, end_of-Flat, more_of-Flat, items-the_row-Flat, items_hidden-the_row-Flat-1}
+use Rattle.smv_core.specs.declared.flat.DefBody.{DefBody, Nothing, Assign, If, First, First', Forall, Row_of-DefBody, end_of-DefBody, more_of-DefBody, items-the_row-DefBody, items_hidden-the_row-DefBody-1}
 use Rattle.law_obligations.specs.Sets.{one_of_each, pairs}
 use Rattle.law_obligations.specs.Places.{Place, World, places_in, bind_place}
 use Rattle.law_obligations.specs.May.{AbsState, Kept, seen, may}
@@ -13,7 +13,7 @@ use mathlib.Core.Former.{Count}
 
 module _ (w : World) (kept : Kept) (a : AbsState) (indexes : List Place) {X : Type 0} (everything : X) (right : FlatExpr → List Place → X) where
   -- the results of a part
-  abbrev part : Flat → List Place → List (Option X)
+  abbrev part : DefBody → List Place → List (Option X)
   part def b = results w kept a indexes everything right def b
 
   pub results-Nothing : (b : List Place) → part Nothing b ≡ None ∷ []
@@ -23,22 +23,22 @@ module _ (w : World) (kept : Kept) (a : AbsState) (indexes : List Place) {X : Ty
       part (Assign left value place at) b ≡ map (λ us. assigned w kept a indexes everything right us value b) (one_of_each (map (λ e. may w kept a e b) left))
   results-Assign left value place at b = refl
 
-  pub results-If : (cond : FlatExpr) (x y : Flat) (b : List Place) → part (If cond x y) b ≡ flat_map (λ u. pairs (λ r q. taken everything (seen u) r q ∷ []) (part x b) (part y b)) (may w kept a cond b)
+  pub results-If : (cond : FlatExpr) (x y : DefBody) (b : List Place) → part (If cond x y) b ≡ flat_map (λ u. pairs (λ r q. taken everything (seen u) r q ∷ []) (part x b) (part y b)) (may w kept a cond b)
   unfolding computing
   results-If cond x y b = refl
 
-  parts-row : (m : _) (row : Row_of-Flat m) (b : List Place) → results_each w kept a indexes everything right row b ≡ map (λ d. part d b) (items-the_row-Flat m row)
+  parts-row : (m : _) (row : Row_of-DefBody m) (b : List Place) → results_each w kept a indexes everything right row b ≡ map (λ d. part d b) (items-the_row-DefBody m row)
   unfolding computing
-  parts-row m end_of-Flat b = refl
-  parts-row m (more_of-Flat d rest) b = ap (λ l. part d b ∷ l) (parts-row _ rest b)
+  parts-row m end_of-DefBody b = refl
+  parts-row m (more_of-DefBody d rest) b = ap (λ l. part d b ∷ l) (parts-row _ rest b)
 
-  abbrev parts_in : Flat → (m : Count) × Row_of-Flat m
+  abbrev parts_in : DefBody → (m : Count) × Row_of-DefBody m
   parts_in (First' shape row) = (_, row)
-  parts_in _ = (_, end_of-Flat)
+  parts_in _ = (_, end_of-DefBody)
 
-  pub results-First : (parts : List Flat) (b : List Place) → part (First parts) b ≡ map first_result (one_of_each (map (λ d. part d b) parts))
-  results-First parts b = ap (λ l. map first_result (one_of_each l)) (parts-row (parts_in (First parts)).0 (parts_in (First parts)).1 b ∙ ap (map (λ d. part d b)) (items_hidden-the_row-Flat-1 parts))
+  pub results-First : (parts : List DefBody) (b : List Place) → part (First parts) b ≡ map first_result (one_of_each (map (λ d. part d b) parts))
+  results-First parts b = ap (λ l. map first_result (one_of_each l)) (parts-row (parts_in (First parts)).0 (parts_in (First parts)).1 b ∙ ap (map (λ d. part d b)) (items_hidden-the_row-DefBody-1 parts))
 
-  pub results-Forall : (var : ℕ) (over : Simple) (body : Flat) (b : List Place) → part (Forall var over body) b ≡ map first_result (one_of_each (map (λ p. part body (bind_place b var p)) (places_in w over)))
+  pub results-Forall : (var : ℕ) (over : Simple) (body : DefBody) (b : List Place) → part (Forall var over body) b ≡ map first_result (one_of_each (map (λ p. part body (bind_place b var p)) (places_in w over)))
   unfolding computing
   results-Forall var over body b = refl

@@ -3,7 +3,7 @@ use Rattle.std.proofs.Common.{◌≡◌, ℕ, ◌+◌, ◌-◌, List, [], ◌∷
 use Rattle.std.specs.List.{list_any, list_all, filter}
 use Rattle.smv_core.specs.Values.{Name, Value, number, Outcome, Truth, truth, numbers_from, is_in, Simple, range, choice, scalarset, ordset}
 use Rattle.smv_core.specs.Outcome.{branch, fit, is_true}
-use Rattle.smv_core.specs.Flat.{Numbered, FlatState, bind, values_in, simple_in, flat_outcome, flat_members, flat_meets, flat_allowed_by}
+use Rattle.smv_core.specs.FlatMeaning.{Numbered, FlatState, bind, values_in, simple_in, flat_outcome, flat_members, flat_meets, flat_allowed_by}
 use Rattle.smv_core.specs.declared.flat.Simple.{Simple as FlatSimple}
 use Rattle.smv_core.specs.declared.flat.FlatMember.{One, Span as SpanOf}
 use Rattle.smv_core.specs.declared.flat.FlatExpr.{FlatExpr, Choose', List', Each', Held-FlatExpr-Each-2, None', Some', end_of-FlatExpr, more_of-FlatExpr, Row_of-FlatMember, end_of-FlatMember, more_of-FlatMember}

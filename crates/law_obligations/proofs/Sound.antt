@@ -17,11 +17,11 @@ use Rattle.law_obligations.proofs.Joined.{sound}
 use Rattle.law_obligations.specs.Outlines.{Entry, Script, entries_of, unit_in}
 use Rattle.law_obligations.specs.Units.{units_of, script_of}
 use Rattle.law_obligations.specs.Problems.{proof_of, proofs_from, plan_of}
-use Rattle.law_obligations.specs.Checked.{IsChecked, IsProved, HoldsAlways, IsSound}
+use Rattle.law_obligations.specs.Checked.{IsChecked, IsProved, HoldsAlways, IsSoundScript}
 use Rattle.law_obligations.proofs.Granted.{proofs-get}
 use Rattle.law_obligations.proofs.Plans.{from_leaf, is_plan}
 
-pub proved_is_sound : (s : Script) → IsChecked s → IsProved s → IsSound s
+pub proved_is_sound : (s : Script) → IsChecked s → IsProved s → IsSoundScript s
 proved_is_sound s checked proved entry h sizes are_sizes run is_run values are_values =
     let g = Has_get h in
     sound (plan_of s) (is_plan s checked) none sizes are_sizes run is_run (proof_of s g.0 entry) (get_Has (proofs_from s 0 s.entries) g.0 _ (proofs-get s 0 g.0 s.entries g.0 entry (omega arith) g.1)) values are_values

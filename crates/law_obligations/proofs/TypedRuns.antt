@@ -3,7 +3,7 @@ use Rattle.std.proofs.Common.{◌≡◌, ℕ, List, [], ◌∷◌, map, length, 
 use Rattle.std.specs.List.{slice_get}
 use Rattle.smv_core.specs.Values.{Value, truth, is_in}
 use Rattle.smv_core.specs.Outcome.{is_true}
-use Rattle.smv_core.specs.Flat.{Numbered, FlatState, values_in, flat_allowed}
+use Rattle.smv_core.specs.FlatMeaning.{Numbered, FlatState, values_in, flat_allowed}
 use Rattle.smv_core.specs.declared.flat.Claim.{Claim}
 use Rattle.smv_core.specs.declared.flat.Def.{Def}
 use Rattle.smv_core.specs.declared.flat.Family.{Family}

@@ -5,10 +5,10 @@ use Rattle.std.specs.Option.{is_none}
 use Rattle.smv_core.specs.Values.{Name, Value, Outcome, Truth, truth, same, Simple, range, choice, scalarset, ordset}
 use Rattle.smv_core.specs.Walk as walk
 use Rattle.smv_core.specs.Walk.{Walk, if_walk, is_other}
-use Rattle.smv_core.specs.Flat.{Numbered, FlatState, FlatElement, bind, values_in, simple_in, flat_outcome, flat_allowed_by, flat_assigned, flat_result, flat_results}
+use Rattle.smv_core.specs.FlatMeaning.{Numbered, FlatState, FlatElement, bind, values_in, simple_in, flat_outcome, flat_allowed_by, flat_assigned, flat_result, flat_results}
 use Rattle.smv_core.specs.declared.flat.Simple.{Simple as FlatSimple}
 use Rattle.smv_core.specs.declared.flat.FlatExpr.{FlatExpr, Var}
-use Rattle.smv_core.specs.declared.flat.Flat.{Flat, Nothing, Assign, If', First', Forall', Row_of-Flat, end_of-Flat, more_of-Flat}
+use Rattle.smv_core.specs.declared.flat.DefBody.{DefBody, Nothing, Assign, If', First', Forall', Row_of-DefBody, end_of-DefBody, more_of-DefBody}
 use Rattle.smv_core.specs.declared.abstract_type.AbsType.{AbsType}
 use Rattle.law_obligations.specs.Sets.{Has, first, later, one_of_each, pairs}
 use Rattle.law_obligations.specs.Places.{Place, named, rest, World, world, rests_of, named_in, rests_in, places_in, same_place, is_named, AbsOutcome, equal_places, bind_place}
@@ -169,20 +169,20 @@ module _ (n : Numbered) (types : Name → AbsType) (spots : Placing) (facts : Ar
         or_right (is_other (flat_outcome n s y b) z) (elsewhere_value left b xs j var offset v (omega arith) e i (λ y k. h y (later k)))
 
     mutual
-      nothing_at : (def : Flat) (b : List Value) (var : ℕ) (v : Value) → slice_get b var ≡ Some v → ((y : Value) → Has x.indexes y → same v y ≡ false) → HasVariable var (length x.indexes) def →
+      nothing_at : (def : DefBody) (b : List Value) (var : ℕ) (v : Value) → slice_get b var ≡ Some v → ((y : Value) → Has x.indexes y → same v y ≡ false) → HasVariable var (length x.indexes) def →
           flat_result n s x every def b ≡ None
       nothing_at Nothing b var v i h k = refl
       nothing_at (Assign left value place offset) b var v i h (j, l, o, e) = rw (elsewhere_value left b x.indexes j var o v l e i h) refl
-      nothing_at (If' cond l (more_of-Flat left end_of-Flat) r (more_of-Flat right end_of-Flat)) b var v i h k =
+      nothing_at (If' cond l (more_of-DefBody left end_of-DefBody) r (more_of-DefBody right end_of-DefBody)) b var v i h k =
           rw (nothing_at left b var v i h k.0, nothing_at right b var v i h k.1) (if_none every (truth (flat_outcome n s cond b)))
       nothing_at (First' shape parts) b var v i h k = nothing_in parts b var v i h k
-      nothing_at (Forall' other over shape (more_of-Flat body end_of-Flat)) b var v i h k =
+      nothing_at (Forall' other over shape (more_of-DefBody body end_of-DefBody)) b var v i h k =
           first_nones (λ u. flat_result n s x every body (bind b other u)) (values_in n over) (λ u m. nothing_at body (bind b other u) var v (value_kept b other var u v i k.0) h k.1)
 
-      nothing_in : {m : _} (row : Row_of-Flat m) (b : List Value) (var : ℕ) (v : Value) → slice_get b var ≡ Some v → ((y : Value) → Has x.indexes y → same v y ≡ false) → HaveVariable var (length x.indexes) row →
+      nothing_in : {m : _} (row : Row_of-DefBody m) (b : List Value) (var : ℕ) (v : Value) → slice_get b var ≡ Some v → ((y : Value) → Has x.indexes y → same v y ≡ false) → HaveVariable var (length x.indexes) row →
           flat_results n s x every row b ≡ None
-      nothing_in end_of-Flat b var v i h k = refl
-      nothing_in (more_of-Flat part others) b var v i h k = rw (nothing_at part b var v i h k.0) (nothing_in others b var v i h k.1)
+      nothing_in end_of-DefBody b var v i h k = refl
+      nothing_in (more_of-DefBody part others) b var v i h k = rw (nothing_at part b var v i h k.0) (nothing_in others b var v i h k.1)
 
   module _ (kept : Kept) (a : AbsState) (indexes : List Place) (all_named : AllNamed indexes) (count : ℕ) (counted : count ≡ length indexes) {X : Type 0} (everything : X) (right : FlatExpr → List Place → X) where
     -- so does a rest
@@ -200,11 +200,11 @@ module _ (n : Numbered) (types : Name → AbsType) (spots : Placing) (facts : Ar
     elsewhere_rest (y ∷ left) b (q ∷ qs) _ (suc j) var offset r c l e i (one_more {x = u} {ys = us} h others) =
         or_right (is_elsewhere u q) (elsewhere_rest left b qs us j var offset r c.1 (omega arith) e i others)
 
-    abbrev Results : Flat → List Place → List (Option X)
+    abbrev Results : DefBody → List Place → List (Option X)
     Results def b = results (world n types) kept a indexes everything right def b
 
     mutual
-      nothing_at_rest : (def : Flat) (b : List Place) (var : ℕ) (r : Value) → slice_get b var ≡ Some (rest r) → HasVariable var count def → Has (Results def b) None
+      nothing_at_rest : (def : DefBody) (b : List Place) (var : ℕ) (r : Value) → slice_get b var ≡ Some (rest r) → HasVariable var count def → Has (Results def b) None
       nothing_at_rest Nothing b var r i k = first
       nothing_at_rest (Assign left value place offset) b var r i (j, l, o, e) =
           let us = has_choice (map (λ e. may (world n types) kept a e b) left) (filled_each (λ e. may (world n types) kept a e b) left (λ e. may_filled n types spots facts s is_state kept a e b)) in
@@ -214,7 +214,7 @@ module _ (n : Numbered) (types : Name → AbsType) (spots : Placing) (facts : Ar
         where
           by_test : {t : Bool} (u : Bool) (y : X) → t ≡ true → (if t then None else if u then Some everything else Some y) ≡ None
           by_test u y e = rw e refl
-      nothing_at_rest (If' cond l (more_of-Flat left end_of-Flat) r' (more_of-Flat right' end_of-Flat)) b var r i k =
+      nothing_at_rest (If' cond l (more_of-DefBody left end_of-DefBody) r' (more_of-DefBody right' end_of-DefBody)) b var r i k =
           let u = may_filled n types spots facts s is_state kept a cond b in
           Has-flat_map (λ u. pairs (λ x y. taken everything (seen u) x y ∷ []) (Results left b) (Results right' b)) u.1
           (Has-pairs (λ x y. taken everything (seen u.0) x y ∷ []) (nothing_at_rest left b var r i k.0) (nothing_at_rest right' b var r i k.1)
@@ -222,14 +222,14 @@ module _ (n : Numbered) (types : Name → AbsType) (spots : Placing) (facts : Ar
       nothing_at_rest (First' shape parts) b var r i k =
           let rs = nothing_in_rest parts b var r i k in
           subst (Has (Results (First' shape parts) b)) rs.2 (Has-map first_result (Has-choices rs.1))
-      nothing_at_rest (Forall' other over shape (more_of-Flat body end_of-Flat)) b var r i k =
+      nothing_at_rest (Forall' other over shape (more_of-DefBody body end_of-DefBody)) b var r i k =
           let rs = none_list (λ p. Results body (bind_place b other p)) (places_in (world n types) over) (λ p m. nothing_at_rest body (bind_place b other p) var r (place_kept b other var p (rest r) i k.0) k.1) in
-          subst (Has (Results (Forall' other over shape (more_of-Flat body end_of-Flat)) b)) rs.2 (Has-map first_result (Has-choices rs.1))
+          subst (Has (Results (Forall' other over shape (more_of-DefBody body end_of-DefBody)) b)) rs.2 (Has-map first_result (Has-choices rs.1))
 
-      nothing_in_rest : {m : _} (row : Row_of-Flat m) (b : List Place) (var : ℕ) (r : Value) → slice_get b var ≡ Some (rest r) → HaveVariable var count row →
+      nothing_in_rest : {m : _} (row : Row_of-DefBody m) (b : List Place) (var : ℕ) (r : Value) → slice_get b var ≡ Some (rest r) → HaveVariable var count row →
           (rs : List (Option X)) × Picks (results_each (world n types) kept a indexes everything right row b) rs × (first_result rs ≡ None)
-      nothing_in_rest end_of-Flat b var r i k = ([], no_pick, refl)
-      nothing_in_rest (more_of-Flat part others) b var r i k =
+      nothing_in_rest end_of-DefBody b var r i k = ([], no_pick, refl)
+      nothing_in_rest (more_of-DefBody part others) b var r i k =
           let rs = nothing_in_rest others b var r i k.1 in (None ∷ rs.0, one_more (nothing_at_rest part b var r i k.0) rs.1, rs.2)
 
 -- a result, and a possible result: both Nothing, or values and what stands for them
@@ -277,10 +277,10 @@ module _ (n : Numbered) (types : Name → AbsType) (spots : Placing) (facts : Ar
     (kept : Kept) (a : AbsState) (picture : IsPicture n spots kept s a) (x : FlatElement) (classes : AreAtClasses n spots x.indexes)
     {X : Type 0} (R : List Value → X → Type 0) (every : List Value) (everything : X) (all_related : R every everything) (right : FlatExpr → List Place → X)
     (right_related : (e : FlatExpr) (b : List Value) → AreValues n b → R (flat_allowed_by n s every e b) (right e (map (placed spots) b))) where
-  abbrev At : Flat → List Place → List (Option X)
+  abbrev At : DefBody → List Place → List (Option X)
   At def b = results (world n types) kept a (map (placed spots) x.indexes) everything right def b
 
-  abbrev Kept' : Flat → List Value → Type 0
+  abbrev Kept' : DefBody → List Value → Type 0
   Kept' def b = (r : Option X) × Has (At def (map (placed spots) b)) r × Related R (flat_result n s x every def b) r
 
   each_picks : (left : List FlatExpr) (b : List Value) → AreValues n b → Picks (map (λ e. may (world n types) kept a e (map (placed spots) b)) left) (map (placed_outcome spots) (map (λ e. flat_outcome n s e b) left))
@@ -365,7 +365,7 @@ module _ (n : Numbered) (types : Name → AbsType) (spots : Placing) (facts : Ar
   ]
 
   mutual
-    pub walk_keeps : (def : Flat) (b : List Value) → AreValues n b → IsBound (length b) (length x.indexes) def → OneGives n s x every def →
+    pub walk_keeps : (def : DefBody) (b : List Value) → AreValues n b → IsBound (length b) (length x.indexes) def → OneGives n s x every def →
         (r : Option X) × Has (results (world n types) kept a (map (placed spots) x.indexes) everything right def (map (placed spots) b)) r × Related R (flat_result n s x every def b) r
     walk_keeps Nothing b h bound one = (None, first, tt)
     walk_keeps (Assign left value place offset) b h bound one = (
@@ -373,7 +373,7 @@ module _ (n : Numbered) (types : Name → AbsType) (spots : Placing) (facts : Ar
       Has-map (λ us. assigned (world n types) kept a (map (placed spots) x.indexes) everything right us value (map (placed spots) b)) (Has-choices (each_picks left b h)),
       assigned_related (map (λ e. flat_outcome n s e b) left) value b h (outcomes_of n types spots facts s is_state left b h),
     )
-    walk_keeps (If' cond l (more_of-Flat left end_of-Flat) r' (more_of-Flat right' end_of-Flat)) b h bound one =
+    walk_keeps (If' cond l (more_of-DefBody left end_of-DefBody) r' (more_of-DefBody right' end_of-DefBody)) b h bound one =
         let p = walk_keeps left b h bound.0 one.0 in
         let q = walk_keeps right' b h bound.1 one.1 in
         let c = flat_outcome n s cond b in (
@@ -385,7 +385,7 @@ module _ (n : Numbered) (types : Name → AbsType) (spots : Placing) (facts : Ar
         )
     walk_keeps (First' shape parts) b h bound one =
         let rs = walks_keep parts b h bound one in (first_result rs.0, Has-map first_result (Has-choices rs.1), rs.2)
-    walk_keeps (Forall' var over shape (more_of-Flat body end_of-Flat)) b h bound one =
+    walk_keeps (Forall' var over shape (more_of-DefBody body end_of-DefBody)) b h bound one =
         let count = sym (map_long (placed spots) x.indexes) in
         forall_keeps over (λ v. flat_result n s x every body (bind b var v)) (λ p. At body (bind_place (map (placed spots) b) var p))
         (λ v k. let r = walk_keeps body (bind b var v) (bind_are n b var v h (of_type n over v k))
@@ -398,10 +398,10 @@ module _ (n : Numbered) (types : Name → AbsType) (spots : Placing) (facts : Ar
         (λ v k l. nothing_at n types spots facts s is_state x every body (bind b var v) var v (value_bound b var v (sym bound.0)) (not_at_class over v l) bound.1)
         (λ u v hu hv. one.0 b h (sym bound.0) u v hu hv)
 
-    walks_keep : {m : _} (row : Row_of-Flat m) (b : List Value) → AreValues n b → AreBound (length b) (length x.indexes) row → OneOfEachGives n s x every row →
+    walks_keep : {m : _} (row : Row_of-DefBody m) (b : List Value) → AreValues n b → AreBound (length b) (length x.indexes) row → OneOfEachGives n s x every row →
         (rs : List (Option X)) × Picks (results_each (world n types) kept a (map (placed spots) x.indexes) everything right row (map (placed spots) b)) rs × Related R (flat_results n s x every row b) (first_result rs)
-    walks_keep end_of-Flat b h bound one = ([], no_pick, tt)
-    walks_keep (more_of-Flat part others) b h bound one =
+    walks_keep end_of-DefBody b h bound one = ([], no_pick, tt)
+    walks_keep (more_of-DefBody part others) b h bound one =
         let r = walk_keeps part b h bound.0 one.0 in
         let rs = walks_keep others b h bound.1 one.1 in
         (r.0 ∷ rs.0, one_more r.1 rs.1, first_related R every everything all_related (flat_result n s x every part b) (flat_results n s x every others b) r.0 (first_result rs.0) r.2 rs.2)

@@ -10,7 +10,7 @@ use Rattle.smv_core.specs.declared.flat.Family.{Family}
 use Rattle.smv_core.specs.declared.flat.Def.{Def}
 use Rattle.smv_core.specs.declared.flat.Guard.{Guard}
 use Rattle.smv_core.specs.declared.flat.Param.{Param}
-use Rattle.smv_core.specs.declared.flat.Flat.{Flat, Nothing, If, First, Forall}
+use Rattle.smv_core.specs.declared.flat.DefBody.{DefBody, Nothing, If, First, Forall}
 use Rattle.smv_core.specs.declared.flat.FlatExpr.{FlatExpr, And, Or, Choose}
 use Rattle.law_obligations.specs.Sets.{Has, first, later}
 use Rattle.law_obligations.specs.Bound.{HasVariable}
@@ -38,7 +38,7 @@ lookup P (x ∷ xs) all first = all.0
 lookup P (x ∷ xs) all (later h) = lookup P xs all.1 h
 
 -- a part of a definition under so many variables, for so many indexes
-record IsGood (around count : ℕ) (part : Flat) : Type 0 where
+record IsGood (around count : ℕ) (part : DefBody) : Type 0 where
   conflict : HasNoConflict around count part
   whole : IsWholeFlat signals part
 
@@ -58,11 +58,11 @@ variable (suc k) e l = absurd (omega arith)
 good_set_at : (e : FlatExpr) → IsWhole signals e → IsGood 1 1 (set_at i e)
 good_set_at e w = record { conflict = (omega arith, λ k l. variable k e l); whole = ((λ d h. subst (IsWhole signals) (sym (one_of_one h)) tt), w) }
 
-good_if : (around count : ℕ) (c : FlatExpr) (part : Flat) → IsWhole signals c → IsGood around count part → IsGood around count (If c part Nothing)
+good_if : (around count : ℕ) (c : FlatExpr) (part : DefBody) → IsWhole signals c → IsGood around count part → IsGood around count (If c part Nothing)
 unfolding computing
 good_if around count c part w g = record { conflict = (g.conflict, tt, λ is js h k. elim k [ ]); whole = (w, g.whole, tt) }
 
-good_forall : (t : Simple) (part : Flat) → IsGood 1 1 part → IsGood 0 1 (Forall 0 t part)
+good_forall : (t : Simple) (part : DefBody) → IsGood 1 1 part → IsGood 0 1 (Forall 0 t part)
 unfolding computing
 good_forall t part g = record { conflict = (refl, g.conflict); whole = g.whole }
 

@@ -11,7 +11,7 @@ use Rattle.law_obligations.specs.May.{AbsState}
 use Rattle.law_obligations.specs.Pictures.{IsAbsState}
 use Rattle.law_obligations.specs.Circular.{is_violating_after}
 use Rattle.law_obligations.specs.LeafCases.{leaf_cases}
-use Rattle.law_obligations.specs.Obligations.{Problem, obligation}
+use Rattle.law_obligations.specs.Obligations.{AbstractProblem, obligation}
 use Rattle.law_obligations.specs.Soundness.{IsDefinition}
 use Rattle.law_obligations.proofs.WorkedPlans.{one_of_one, one_of_two}
 use Rattle.law_obligations.proofs.Computing.{computing}
@@ -104,10 +104,10 @@ checked = record {
   are_split = are_split;
 }
 
-abbrev problem_a : Problem
+abbrev problem_a : AbstractProblem
 problem_a = problem_of (outline_of the_script) entry_a (timed (outline_of the_script) (graph the_script) 0 entry_a) []
 
-abbrev problem_b : Problem
+abbrev problem_b : AbstractProblem
 problem_b = problem_of (outline_of the_script) entry_b (timed (outline_of the_script) (graph the_script) 1 entry_b) []
 
 pub last_false : (a b : Bool) {c : Bool} → c ≡ false → (a && (b && c)) ≡ false
@@ -124,7 +124,7 @@ abbrev IsZero : Option AbsState → Type 0
 IsZero None = Unit {0}
 IsZero (Some s) = s 1 [] ≡ named (number 0)
 
-abbrev AreStates : Problem → List AbsState → Type 0
+abbrev AreStates : AbstractProblem → List AbsState → Type 0
 AreStates p path = (a : AbsState) → Has path a → IsAbsState p.world p.kept a
 
 none_at_a : (old : Option AbsState) → IsZero old → (a : AbsState) → IsAbsState problem_a.world problem_a.kept a → is_violating_after (obligation problem_a) old (a ∷ []) ≡ false
@@ -156,7 +156,7 @@ none_b old [] h = refl
 none_b old (a ∷ []) h = none_at_b old a (h a first)
 none_b old (a ∷ b ∷ path) h = let o = obligation problem_b in last_false (o.now old a) (o.before old a) (none_b (Some a) (b ∷ path) (λ c l. h c (later l)))
 
-abbrev HasNone : Problem → Type 0
+abbrev HasNone : AbstractProblem → Type 0
 HasNone p = (path : List AbsState) → AreStates p path → is_violating_after (obligation p) None path ≡ false
 
 at_a : (entry : Entry) → entry_a ≡ entry → (classes : List Class) → Has (leaf_cases the_script.design.sets entry.leaf.params entry.choice.keeps) classes →

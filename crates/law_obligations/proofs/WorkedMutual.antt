@@ -10,7 +10,7 @@ use Rattle.law_obligations.specs.May.{AbsState}
 use Rattle.law_obligations.specs.Pictures.{IsAbsState, KeepsNamed}
 use Rattle.law_obligations.specs.LeafCases.{leaf_cases}
 use Rattle.law_obligations.specs.Circular.{is_violating_after}
-use Rattle.law_obligations.specs.Obligations.{Problem, obligation}
+use Rattle.law_obligations.specs.Obligations.{AbstractProblem, obligation}
 use Rattle.law_obligations.specs.Soundness.{at_sizes, HasValue, LeafProof, by_base, by_use, IsCase, IsDefinition, IsLeaf, HaveValues, IsPlan, HasNoViolatingPath}
 use Rattle.law_obligations.specs.WorkedObligations.{stepping, zeroed}
 use Rattle.law_obligations.specs.WorkedSoundness.{of_bits, bit_problem, bit_leaf, mutual_plan}
@@ -121,7 +121,7 @@ abbrev IsZero : ℕ → Option AbsState → Type 0
 IsZero of None = Unit {0}
 IsZero of (Some s) = s of [] ≡ named (number 0)
 
-abbrev AreStates : Problem → List AbsState → Type 0
+abbrev AreStates : AbstractProblem → List AbsState → Type 0
 AreStates p path = (a : AbsState) → Has path a → IsAbsState p.world p.kept a
 
 -- a was 0 where b was 0 before, and at first

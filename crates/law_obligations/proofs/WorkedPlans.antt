@@ -13,7 +13,7 @@ use Rattle.law_obligations.specs.Pictures.{IsAbsState, KeepsNamed}
 use Rattle.law_obligations.specs.LeafCases.{leaf_cases}
 use Rattle.law_obligations.specs.Scopes.{ReadsOnly, before}
 use Rattle.law_obligations.specs.Circular.{is_violating_after}
-use Rattle.law_obligations.specs.Obligations.{Problem, obligation}
+use Rattle.law_obligations.specs.Obligations.{AbstractProblem, obligation}
 use Rattle.law_obligations.specs.Soundness.{at_sizes, AreSizes, HasValue, LeafProof, IsCase, IsLeaf, HaveValues, IsPlan, HasNoViolatingPath}
 use Rattle.law_obligations.specs.Covers.{IsIndexType}
 use Rattle.law_obligations.specs.Worked.{p, signal}
@@ -102,7 +102,7 @@ is_plan = record {
 abbrev only_case : List Class
 only_case = Named 0 ∷ []
 
-abbrev only_problem : Problem
+abbrev only_problem : AbstractProblem
 only_problem = split_problem only_case
 
 -- no state of it is violating: a is at the class where the guard may hold, and b is at the class or at the rest

@@ -16,7 +16,7 @@ use Rattle.law_obligations.specs.Covers.{IsIndexType}
 use Rattle.law_obligations.specs.Scopes.{ReadsOnly, before}
 use Rattle.law_obligations.specs.Guards.{AreGuards}
 use Rattle.law_obligations.specs.LeafCases.{leaf_cases}
-use Rattle.law_obligations.specs.Obligations.{Problem, obligation}
+use Rattle.law_obligations.specs.Obligations.{AbstractProblem, obligation}
 use Rattle.law_obligations.specs.Whole.{IsWhole}
 use Rattle.law_obligations.proofs.WorkedPlans.{one_of_one, one_of_two}
 use Rattle.law_obligations.proofs.Computing.{computing}
@@ -72,7 +72,7 @@ checked = record {
 }
 
 -- the one case, with its class and the rest
-abbrev the_problem : Problem
+abbrev the_problem : AbstractProblem
 the_problem = problem_of (outline_of the_script) the_entry (timed (outline_of the_script) (graph the_script) 0 the_entry) (Named 0 ∷ [])
 
 none_at : (old : Option AbsState) (a : AbsState) → IsAbsState the_problem.world the_problem.kept a → is_violating_after (obligation the_problem) old (a ∷ []) ≡ false
@@ -88,7 +88,7 @@ none_after old [] h = refl
 none_after old (a ∷ []) h = none_at old a (h a first)
 none_after old (a ∷ b ∷ path) h = none_after (Some a) (b ∷ path) (λ c k. h c (later k))
 
-abbrev HasNone : Problem → Type 0
+abbrev HasNone : AbstractProblem → Type 0
 HasNone p = (path : List AbsState) → ((a : AbsState) → Has path a → IsAbsState p.world p.kept a) → is_violating_after (obligation p) None path ≡ false
 
 at_entry : (entry : Entry) → the_entry ≡ entry → (classes : List Class) → Has (leaf_cases the_script.design.sets entry.leaf.params entry.choice.keeps) classes →

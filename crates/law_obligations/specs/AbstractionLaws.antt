@@ -1,7 +1,7 @@
 -- The laws: what the crate's public functions say.
 use Rattle.std.specs.Prelude.{◌≡◌, ◌<◌, ℕ, List, map, length, slice_get, Option, Some, option_map, IfSome, Bool, true, false, ◌&&◌, nat_lt, ◌++◌, get_or}
 use Rattle.smv_core.specs.Values.{Name, Value, number, range, choice, scalarset, ordset, Sizes}
-use Rattle.smv_core.specs.Flat.{Numbered, FlatState, values_in, flat_outcome, flat_allowed_by, flat_allowed}
+use Rattle.smv_core.specs.FlatMeaning.{Numbered, FlatState, values_in, flat_outcome, flat_allowed_by, flat_allowed}
 use Rattle.smv_core.specs.declared.flat.FlatExpr.{FlatExpr}
 use Rattle.smv_core.specs.declared.flat.Def.{Def}
 use Rattle.smv_core.specs.declared.flat.Family.{Family}
@@ -28,7 +28,7 @@ use Rattle.law_obligations.specs.Circular.{Circle, ShowsFailures, HasNoViolation
 use Rattle.law_obligations.specs.Uses.{is_now, rank_of}
 use Rattle.law_obligations.specs.Scopes.{ReadsOnly}
 use Rattle.law_obligations.specs.FlatConflicts.{IsConflictFree}
-use Rattle.law_obligations.specs.Soundness.{Plan, IsPlan, HasNoViolatingPath, IsSound}
+use Rattle.law_obligations.specs.Soundness.{ProofPlan, IsPlan, HasNoViolatingPath, IsSoundPlan}
 
 -- a rank that falls along the uses that are now
 abbrev pub FallsAlong : (ℕ → ℕ → Bool) → (ℕ → ℕ) → Type 0
@@ -154,4 +154,4 @@ ConflictsLeaveOneResult = (n : Numbered) (def : Def) (indexes every : List Value
 
 -- where no case of any leaf has a violating path, every unit holds at every time of every run, for all sizes
 abbrev pub NoViolatingPathIsSound : Type 0
-NoViolatingPathIsSound = (plan : Plan) → IsPlan plan → HasNoViolatingPath plan → IsSound plan
+NoViolatingPathIsSound = (plan : ProofPlan) → IsPlan plan → HasNoViolatingPath plan → IsSoundPlan plan

@@ -1,56 +1,56 @@
 -- What the laws of definitions need: each `forall` variable is an index of each left side under it, and at most one of its values gives a result.
 use Rattle.std.specs.Prelude.{◌≡◌, ◌<◌, ℕ, suc, List, [], ◌∷◌, length, slice_get, is_none, Some, true, false}
 use Rattle.smv_core.specs.Values.{Value}
-use Rattle.smv_core.specs.Flat.{Numbered, FlatState, FlatElement, bind, values_in, flat_result}
+use Rattle.smv_core.specs.FlatMeaning.{Numbered, FlatState, FlatElement, bind, values_in, flat_result}
 use Rattle.smv_core.specs.declared.flat.Def.{Def}
 use Rattle.smv_core.specs.declared.flat.FlatExpr.{Var}
-use Rattle.smv_core.specs.declared.flat.Flat.{Flat, Nothing, Assign, If', First', Forall', Row_of-Flat, end_of-Flat, more_of-Flat}
+use Rattle.smv_core.specs.declared.flat.DefBody.{DefBody, Nothing, Assign, If', First', Forall', Row_of-DefBody, end_of-DefBody, more_of-DefBody}
 use Rattle.law_obligations.specs.Sets.{Has}
 use Rattle.law_obligations.specs.Places.{is_named}
 use Rattle.law_obligations.specs.Pictures.{Placing, placed, IsState, IsValue, AreValues}
 
 abbrev mutual
   -- each assignment has the variable of this number alone as one of so many indexes, under binders of greater numbers
-  pub HasVariable : ℕ → ℕ → Flat → Type 0
+  pub HasVariable : ℕ → ℕ → DefBody → Type 0
   HasVariable var count Nothing = Unit {0}
   HasVariable var count (Assign left value place at) = (j : ℕ) × (j < count) × (offset : ℕ) × (slice_get left j ≡ Some (Var var offset))
-  HasVariable var count (If' cond l (more_of-Flat left end_of-Flat) r (more_of-Flat right end_of-Flat)) = HasVariable var count left × HasVariable var count right
+  HasVariable var count (If' cond l (more_of-DefBody left end_of-DefBody) r (more_of-DefBody right end_of-DefBody)) = HasVariable var count left × HasVariable var count right
   HasVariable var count (First' shape parts) = HaveVariable var count parts
-  HasVariable var count (Forall' other over shape (more_of-Flat body end_of-Flat)) = (var < other) × HasVariable var count body
+  HasVariable var count (Forall' other over shape (more_of-DefBody body end_of-DefBody)) = (var < other) × HasVariable var count body
 
-  pub HaveVariable : {m : _} → ℕ → ℕ → Row_of-Flat m → Type 0
-  HaveVariable var count end_of-Flat = Unit {0}
-  HaveVariable var count (more_of-Flat part others) = HasVariable var count part × HaveVariable var count others
+  pub HaveVariable : {m : _} → ℕ → ℕ → Row_of-DefBody m → Type 0
+  HaveVariable var count end_of-DefBody = Unit {0}
+  HaveVariable var count (more_of-DefBody part others) = HasVariable var count part × HaveVariable var count others
 
 abbrev mutual
   -- under so many variables: each `forall` has the next number, and each assignment under it has its variable
-  pub IsBound : ℕ → ℕ → Flat → Type 0
+  pub IsBound : ℕ → ℕ → DefBody → Type 0
   IsBound around count Nothing = Unit {0}
   IsBound around count (Assign left value place at) = Unit {0}
-  IsBound around count (If' cond l (more_of-Flat left end_of-Flat) r (more_of-Flat right end_of-Flat)) = IsBound around count left × IsBound around count right
+  IsBound around count (If' cond l (more_of-DefBody left end_of-DefBody) r (more_of-DefBody right end_of-DefBody)) = IsBound around count left × IsBound around count right
   IsBound around count (First' shape parts) = AreBound around count parts
-  IsBound around count (Forall' var over shape (more_of-Flat body end_of-Flat)) = (var ≡ around) × HasVariable var count body × IsBound (suc around) count body
+  IsBound around count (Forall' var over shape (more_of-DefBody body end_of-DefBody)) = (var ≡ around) × HasVariable var count body × IsBound (suc around) count body
 
-  pub AreBound : {m : _} → ℕ → ℕ → Row_of-Flat m → Type 0
-  AreBound around count end_of-Flat = Unit {0}
-  AreBound around count (more_of-Flat part others) = IsBound around count part × AreBound around count others
+  pub AreBound : {m : _} → ℕ → ℕ → Row_of-DefBody m → Type 0
+  AreBound around count end_of-DefBody = Unit {0}
+  AreBound around count (more_of-DefBody part others) = IsBound around count part × AreBound around count others
 
 module _ (n : Numbered) (s : FlatState) (x : FlatElement) (every : List Value) where
   abbrev mutual
     -- at most one value of each `forall` variable gives the element a result
-    pub OneGives : Flat → Type 0
+    pub OneGives : DefBody → Type 0
     OneGives Nothing = Unit {0}
     OneGives (Assign left value place at) = Unit {0}
-    OneGives (If' cond l (more_of-Flat left end_of-Flat) r (more_of-Flat right end_of-Flat)) = OneGives left × OneGives right
+    OneGives (If' cond l (more_of-DefBody left end_of-DefBody) r (more_of-DefBody right end_of-DefBody)) = OneGives left × OneGives right
     OneGives (First' shape parts) = OneOfEachGives parts
-    OneGives (Forall' var over shape (more_of-Flat body end_of-Flat)) =
+    OneGives (Forall' var over shape (more_of-DefBody body end_of-DefBody)) =
         ((b : List Value) → AreValues n b → length b ≡ var → (u v : Value) → Has (values_in n over) u → Has (values_in n over) v →
         is_none (flat_result n s x every body (bind b var u)) ≡ false → is_none (flat_result n s x every body (bind b var v)) ≡ false → u ≡ v)
         × OneGives body
 
-    pub OneOfEachGives : {m : _} → Row_of-Flat m → Type 0
-    OneOfEachGives end_of-Flat = Unit {0}
-    OneOfEachGives (more_of-Flat part others) = OneGives part × OneOfEachGives others
+    pub OneOfEachGives : {m : _} → Row_of-DefBody m → Type 0
+    OneOfEachGives end_of-DefBody = Unit {0}
+    OneOfEachGives (more_of-DefBody part others) = OneGives part × OneOfEachGives others
 
 -- values of a design that lie at numbers, constants and classes
 abbrev pub AreAtClasses : Numbered → Placing → List Value → Type 0

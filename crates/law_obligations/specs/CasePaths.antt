@@ -4,24 +4,24 @@ use Rattle.law_obligations.specs.Sets.{Has}
 use Rattle.law_obligations.specs.May.{AbsState}
 use Rattle.law_obligations.specs.Pictures.{IsAbsState}
 use Rattle.law_obligations.specs.Circular.{always, is_violating}
-use Rattle.law_obligations.specs.Obligations.{Problem, obligation}
+use Rattle.law_obligations.specs.Obligations.{AbstractProblem, obligation}
 use Rattle.law_obligations.specs.Bits.{Bits}
-use Rattle.law_obligations.specs.Readings.{Case, are_values, reading}
+use Rattle.law_obligations.specs.Readings.{PosedCase, are_values, reading}
 
-abbrev pub AreAbsStates : Problem → List AbsState → Type 0
+abbrev pub AreAbsStates : AbstractProblem → List AbsState → Type 0
 AreAbsStates p path = (a : AbsState) → Has path a → IsAbsState p.world p.kept a
 
 -- a violating path of abstract states
-pub record IsViolatingPath (p : Problem) (path : List AbsState) : Type 0 where
+pub record IsViolatingPath (p : AbstractProblem) (path : List AbsState) : Type 0 where
   pub are_states : AreAbsStates p path
   pub is_violating : is_violating (obligation p) path ≡ true
 
 -- no path of abstract states is violating
-abbrev pub HasNone : Problem → Type 0
+abbrev pub HasNone : AbstractProblem → Type 0
 HasNone p = (path : List AbsState) → AreAbsStates p path → is_violating (obligation p) path ≡ false
 
 -- one of so many steps is, and none of fewer
-pub record IsShortest (p : Problem) (steps : ℕ) (path : List AbsState) : Type 0 where
+pub record IsShortest (p : AbstractProblem) (steps : ℕ) (path : List AbsState) : Type 0 where
   pub is_path : IsViolatingPath p path
   pub is_so_long : length path ≡ suc steps
   pub is_least : (other : List AbsState) → IsViolatingPath p other → suc steps ≤ length other
@@ -38,7 +38,7 @@ states_from path i zero = path i ∷ []
 states_from path i (suc more) = path i ∷ states_from path (suc i) more
 
 -- ring k: the last states of paths of at most k steps at every time of which all demands are met
-pub record IsInRing (p : Problem) (k : ℕ) (a : AbsState) : Type 0 where
+pub record IsInRing (p : AbstractProblem) (k : ℕ) (a : AbsState) : Type 0 where
   pub path : List AbsState
   pub are_states : AreAbsStates p path
   pub steps : length path ≤ suc k
@@ -47,7 +47,7 @@ pub record IsInRing (p : Problem) (k : ℕ) (a : AbsState) : Type 0 where
 
 -- The four conditions of induction, said of a case and a set of assignments of its bits: it has all states in which everything holds at time 0, it is closed under
 -- steps in which everything holds, no state with the demands of now at time 0 is broken, and no step from it with the demands of now is broken.
-pub record IsInvariant (c : Case) (set : Bits → Bool) : Type 0 where
+pub record IsInvariant (c : PosedCase) (set : Bits → Bool) : Type 0 where
   pub starts : (s : Bits) → are_values c s ≡ true → (obligation c.problem).now None (reading c s) ≡ true → (obligation c.problem).before None (reading c s) ≡ true → set s ≡ true
   pub closed : (s t : Bits) → set s ≡ true → are_values c t ≡ true → (obligation c.problem).now (Some (reading c s)) (reading c t) ≡ true → (obligation c.problem).before (Some (reading c s)) (reading c t) ≡ true → set t ≡ true
   pub safe_first : (s : Bits) → are_values c s ≡ true → (obligation c.problem).now None (reading c s) ≡ true → (obligation c.problem).broken None (reading c s) ≡ true → ⊥

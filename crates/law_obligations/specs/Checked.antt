@@ -1,7 +1,7 @@
 -- What the passes before the search give of a script.
 use Rattle.std.specs.Prelude.{◌≡◌, ◌≤◌, ℕ, List, [], ◌++◌, map, length, get_or, slice_get, Some, None, true, false}
 use Rattle.smv_core.specs.Values.{Name, Value, Sizes}
-use Rattle.smv_core.specs.Flat.{Numbered, FlatState}
+use Rattle.smv_core.specs.FlatMeaning.{Numbered, FlatState}
 use Rattle.smv_core.specs.declared.flat.Design.{Design}
 use Rattle.smv_core.specs.declared.flat.Simple.{Simple}
 use Rattle.smv_core.specs.declared.flat.Simple.TheVariants.{Range, Enum, Set}
@@ -18,7 +18,7 @@ use Rattle.law_obligations.specs.Whole.{IsWhole}
 use Rattle.law_obligations.specs.May.{AbsState}
 use Rattle.law_obligations.specs.Pictures.{IsAbsState}
 use Rattle.law_obligations.specs.Circular.{always, is_violating}
-use Rattle.law_obligations.specs.Obligations.{Problem, obligation}
+use Rattle.law_obligations.specs.Obligations.{AbstractProblem, obligation}
 use Rattle.law_obligations.specs.LeafCases.{leaf_cases}
 use Rattle.law_obligations.specs.Soundness.{FlatUnit, at_sizes, AreSizes, params_of, values_over, is_held, IsRun, IsDefinition}
 use Rattle.law_obligations.specs.Outlines.{Entry, Script, outline_of, names_of, bases, unit_in}
@@ -54,7 +54,7 @@ abbrev pub IsProved : Script → Type 0
 IsProved s = (u : ℕ) (entry : Entry) → slice_get s.entries u ≡ Some entry → (classes : List Class) →
     Has (leaf_cases s.design.sets entry.leaf.params entry.choice.keeps) classes → HasNone (problem_of (outline_of s) entry (timed (outline_of s) (graph s) u entry) classes)
   where
-    HasNone : Problem → Type 0
+    HasNone : AbstractProblem → Type 0
     HasNone p = (path : List AbsState) → ((a : AbsState) → Has path a → IsAbsState p.world p.kept a) → is_violating (obligation p) path ≡ false
 
 -- every instance of a unit holds at every time of every run, for all sizes
@@ -66,5 +66,5 @@ HoldsAlways d unit = (sizes : Sizes) → AreSizes (names_of d) sizes → (run : 
     Instances n run = (values : List Value) → Has (values_over n (params_of n unit)) values → always (is_held n unit values) None run ≡ true
 
 -- so does each unit of a script
-abbrev pub IsSound : Script → Type 0
-IsSound s = (entry : Entry) → Has s.entries entry → HoldsAlways s.design (unit_in s.design entry.unit)
+abbrev pub IsSoundScript : Script → Type 0
+IsSoundScript s = (entry : Entry) → Has s.entries entry → HoldsAlways s.design (unit_in s.design entry.unit)

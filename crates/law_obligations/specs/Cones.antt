@@ -6,7 +6,7 @@ use Rattle.smv_core.specs.Assignments.{Index, fixed, bare, computed}
 use Rattle.smv_core.specs.declared.flat.Family.{Family}
 use Rattle.smv_core.specs.declared.flat.Def.{Def}
 use Rattle.smv_core.specs.declared.flat.Claim.{Claim}
-use Rattle.smv_core.specs.declared.flat.Flat.{Flat}
+use Rattle.smv_core.specs.declared.flat.DefBody.{DefBody}
 use Rattle.smv_core.specs.declared.flat.FlatExpr.{FlatExpr}
 use Rattle.law_obligations.specs.Sets.{one_of_each}
 use Rattle.law_obligations.specs.Places.{Place, named, same_place, is_named, World, named_in, places_in}
@@ -69,7 +69,7 @@ module _ (w : World) where
   abbrev pub elements_of_def : List Place → Def → List AbsElement
   elements_of_def indexes def = of_part def.init ++ of_part def.next ++ of_part def.comb
     where
-      of_part : Flat → List AbsElement
+      of_part : DefBody → List AbsElement
       of_part part = part_reads (places_in w) (is_own indexes) (named_in w) elements_at part []
 
   -- those that an assumed claim reads, at all numbers and classes

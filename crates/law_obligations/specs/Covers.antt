@@ -2,7 +2,7 @@
 use Rattle.std.specs.Prelude.{◌≡◌, ◌≢◌, ℕ, List, [], ◌∷◌, map, Some, None, Bool, true, false, if◌then◌else◌}
 use Rattle.std.specs.Str.{bytes_eq}
 use Rattle.smv_core.specs.Values.{Name, Value, number, scalar, ordinal, Simple, scalarset, ordset, Sizes}
-use Rattle.smv_core.specs.Flat.{Numbered, simple_in}
+use Rattle.smv_core.specs.FlatMeaning.{Numbered, simple_in}
 use Rattle.smv_core.specs.declared.flat.Simple.{Simple as FlatSimple}
 use Rattle.smv_core.specs.declared.flat.Simple.TheVariants.{Enum}
 use Rattle.smv_core.specs.declared.flat.SetInfo.{SetInfo}

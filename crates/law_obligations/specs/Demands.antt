@@ -3,10 +3,10 @@ use Rattle.std.specs.Prelude.{List, [], zip, slice_get, Option, Some, None, Bool
 use Rattle.std.specs.List.{list_any, list_all}
 use Rattle.smv_core.specs.Assignments.{Index, fixed, fits}
 use Rattle.smv_core.specs.Outcome.{is_true}
-use Rattle.smv_core.specs.Flat.{indexes_assigned}
+use Rattle.smv_core.specs.FlatMeaning.{indexes_assigned}
 use Rattle.smv_core.specs.declared.flat.Def.{Def}
 use Rattle.smv_core.specs.declared.flat.Family.{Family}
-use Rattle.smv_core.specs.declared.flat.Flat.{Flat}
+use Rattle.smv_core.specs.declared.flat.DefBody.{DefBody}
 use Rattle.smv_core.specs.declared.flat.FlatExpr.{FlatExpr}
 use Rattle.smv_core.specs.declared.flat.Simple.{Simple as FlatSimple}
 use Rattle.law_obligations.specs.Places.{Place, named, rest, same_place, is_named, is_among, World, places_in, AbsOutcome, equal_places}
@@ -21,7 +21,7 @@ fits_place (fixed u) (rest v) = false
 fits_place _ (rest v) = true
 
 -- some assignment concerns the element of these indexes
-abbrev pub concerns_place : Flat → List Place → Bool
+abbrev pub concerns_place : DefBody → List Place → Bool
 concerns_place def indexes = list_any (λ is. list_all (λ (i, q). fits_place i q) (zip is indexes)) (indexes_assigned def)
 
 -- a result, or what Nothing stands for
@@ -38,11 +38,11 @@ module _ (w : World) (kept : Kept) where
   -- for an element, by its indexes, whose definition this is and whose type has these places
   module _ (def : Def) (indexes : List Place) (every : List Place) where
     -- some possible result of a part, read in a state, may allow the place
-    abbrev pub may_give : Flat → AbsState → (Place → Bool) → Place → Bool
+    abbrev pub may_give : DefBody → AbsState → (Place → Bool) → Place → Bool
     may_give part a nothing p = list_any (λ r. or_else r nothing p) (results w kept a indexes (λ p. is_among every p) (may_allow w kept a every) part [])
 
     -- all possible results of a part allow the place for certain
-    abbrev pub must_give : Flat → AbsState → (Place → Bool) → Place → Bool
+    abbrev pub must_give : DefBody → AbsState → (Place → Bool) → Place → Bool
     must_give part a nothing p = list_all (λ r. or_else r nothing p) (results w kept a indexes (λ p. is_among every p) (must_allow w kept a every) part [])
 
     -- after a state Nothing stands for the value before, if some `next` concerns the element

@@ -1,7 +1,7 @@
 -- Guards of splits in a state: `e = i` holds where the outcome of e is i, or is no value of the type of i.
 use Rattle.std.specs.Prelude.{List, Some, None, Bool, true, not, ◌||◌, ◌≡◌, ◌≤◌, ℕ, slice_get}
 use Rattle.smv_core.specs.Values.{Value, Outcome, same, is_in}
-use Rattle.smv_core.specs.Flat.{Numbered, FlatState, FlatBindings, values_in, flat_outcome}
+use Rattle.smv_core.specs.FlatMeaning.{Numbered, FlatState, FlatBindings, values_in, flat_outcome}
 use Rattle.smv_core.specs.declared.flat.FlatExpr.{FlatExpr}
 use Rattle.smv_core.specs.declared.flat.Guard.{Guard}
 use Rattle.smv_core.specs.declared.flat.Simple.{Simple as FlatSimple}

@@ -16,7 +16,7 @@ use Rattle.law_obligations.specs.Units.{units_of, script_of}
 use Rattle.law_obligations.specs.Times.{first_families, next_families, same_time}
 use Rattle.law_obligations.specs.Cones.{first_elements, next_elements, cone}
 use Rattle.law_obligations.specs.Problems.{world_of, params_at, uses_at, plan_of}
-use Rattle.law_obligations.specs.Checked.{IsChecked, IsProved, HoldsAlways, IsSound}
+use Rattle.law_obligations.specs.Checked.{IsChecked, IsProved, HoldsAlways, IsSoundScript}
 
 -- what is reached is the least set, where some list has all that may be reached
 abbrev pub ReachedIsLeast : Type 0 → Type 0
@@ -46,7 +46,7 @@ ScriptsArePlans = (s : Script) → IsChecked s → IsPlan (plan_of s)
 
 -- where no case of any leaf has a violating path, every unit holds at every time of every run, for all sizes
 abbrev pub ProvedIsSound : Type 0
-ProvedIsSound = (s : Script) → IsChecked s → IsProved s → IsSound s
+ProvedIsSound = (s : Script) → IsChecked s → IsProved s → IsSoundScript s
 
 -- so of a design, where each of its units has a leaf and a choice
 abbrev pub ProvedUnitsHold : Type 0

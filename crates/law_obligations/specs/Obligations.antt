@@ -17,7 +17,7 @@ pub data Demanded : Type 0 where
 
 -- a case of a leaf: what it sees, the elements it keeps, what is demanded at each time and at each time but the last, the target, and the
 -- guards with the places of the leaf's parameters
-pub record Problem : Type 0 where
+pub record AbstractProblem : Type 0 where
   pub world : World
   pub kept : Kept
   pub now : List Demanded
@@ -26,7 +26,7 @@ pub record Problem : Type 0 where
   pub guards : List Guard
   pub params : List Place
 
-module _ (p : Problem) where
+module _ (p : AbstractProblem) where
   -- a demand is met
   abbrev pub is_met : Option AbsState → AbsState → Demanded → Bool
   is_met old now (defined def indexes) = is_defined p.world p.kept def indexes old now

@@ -1,7 +1,7 @@
 -- Outlines and scripts of proofs: a design with its units; and with the leaf of each unit and what each leaf's proof uses.
 use Rattle.std.specs.Prelude.{ℕ, suc, List, [], ◌∷◌, map, flat_map, filter, find, length, slice_get, option_to_list, option_and_then, is_none, Option, Some, None, option_map, Bool, false, ◌&&◌, ◌||◌, if◌then◌else◌, nat_eq, nat_lt}
 use Rattle.smv_core.specs.Values.{numbers_from}
-use Rattle.smv_core.specs.Flat.{Numbered}
+use Rattle.smv_core.specs.FlatMeaning.{Numbered}
 use Rattle.smv_core.specs.declared.flat.Design.{Design}
 use Rattle.smv_core.specs.declared.flat.Family.{Family}
 use Rattle.smv_core.specs.declared.flat.Def.{Def}

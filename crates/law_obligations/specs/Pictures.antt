@@ -1,7 +1,7 @@
 -- Placings: where the values of a design lie in a case, and when an abstract state is the picture of a state.
 use Rattle.std.specs.Prelude.{◌≡◌, ℕ, List, [], ◌∷◌, map, slice_get, Option, Some, None, true, false}
 use Rattle.smv_core.specs.Values.{Name, Value, number, constant, scalar, ordinal, Simple, Sizes, values_of, same, below}
-use Rattle.smv_core.specs.Flat.{Numbered, FlatState, values_in, simple_in}
+use Rattle.smv_core.specs.FlatMeaning.{Numbered, FlatState, values_in, simple_in}
 use Rattle.smv_core.specs.declared.flat.Family.{Family}
 use Rattle.smv_core.specs.declared.flat.Simple.{Simple as FlatSimple}
 use Rattle.law_obligations.specs.Sets.{Has}

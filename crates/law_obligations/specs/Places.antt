@@ -2,7 +2,7 @@
 use Rattle.std.specs.Prelude.{ℕ, ◌+◌, List, [], ◌∷◌, ◌++◌, map, take, Option, Some, None, option_map, Bool, true, false, if◌then◌else◌}
 use Rattle.std.specs.List.{list_any}
 use Rattle.smv_core.specs.Values.{Name, Value, scalar, ordinal, Simple, range, choice, scalarset, ordset, Outcome, Truth, values_of, numbers_from, same, below, not_of}
-use Rattle.smv_core.specs.Flat.{Numbered, simple_in}
+use Rattle.smv_core.specs.FlatMeaning.{Numbered, simple_in}
 use Rattle.smv_core.specs.declared.tree.Op.{Op}
 use Rattle.smv_core.specs.declared.tree.Op.TheVariants.{Equal, Differ, Less, AtMost, Greater, AtLeast}
 use Rattle.smv_core.specs.declared.flat.Simple.{Simple as FlatSimple}

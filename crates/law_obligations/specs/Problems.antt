@@ -13,8 +13,8 @@ use Rattle.law_obligations.specs.Places.{Place, World, world, named_in}
 use Rattle.law_obligations.specs.Cases.{Treatment, Parameter}
 use Rattle.law_obligations.specs.LeafCases.{treatments_of, parameters_of}
 use Rattle.law_obligations.specs.Covers.{types_at, places_at}
-use Rattle.law_obligations.specs.Obligations.{Demanded, defined, holds, Problem}
-use Rattle.law_obligations.specs.Soundness.{params_of, said_at, LeafProof, Plan}
+use Rattle.law_obligations.specs.Obligations.{Demanded, defined, holds, AbstractProblem}
+use Rattle.law_obligations.specs.Soundness.{params_of, said_at, LeafProof, ProofPlan}
 use Rattle.law_obligations.specs.Outlines.{Entry, Outline, Script, outline_of, names_of, bases, unit_in, map_in, claim_unit, picked_unit, assumed, chosen}
 use Rattle.law_obligations.specs.Times.{is_unit, graph, timed}
 use Rattle.law_obligations.specs.Cones.{AbsElement, element, same_element, cone, kept}
@@ -77,7 +77,7 @@ module _ (o : Outline) (entry : Entry) (times : Timed) (w : World) (own : List P
 
 -- the problem of a case: the elements of its cone, the base definitions and the uses that are now, the uses that are before, the target at
 -- the unit's own parameters, and the guards
-abbrev pub problem_of : Outline → Entry → Timed → List Class → Problem
+abbrev pub problem_of : Outline → Entry → Timed → List Class → AbstractProblem
 problem_of o entry times classes =
     let w = world_of o entry classes in
     let params = params_at o entry classes in
@@ -123,5 +123,5 @@ proofs_from s u [] = []
 proofs_from s u (entry ∷ entries) = proof_of s u entry ∷ proofs_from s (suc u) entries
 
 -- the plan of proof of a script
-abbrev pub plan_of : Script → Plan
+abbrev pub plan_of : Script → ProofPlan
 plan_of s = record { names = names_of s.design; base = bases s.design; leaves = proofs_from s 0 s.entries; uses_now = uses_at s Now; uses_before = uses_at s Before }

@@ -7,14 +7,14 @@ use Rattle.smv_core.specs.declared.flat.Def.{Def}
 use Rattle.law_obligations.specs.Sets.{Has}
 use Rattle.law_obligations.specs.Places.{Place, named, World, places_in}
 use Rattle.law_obligations.specs.May.{AbsState}
-use Rattle.law_obligations.specs.Obligations.{defined, Problem}
+use Rattle.law_obligations.specs.Obligations.{defined, AbstractProblem}
 use Rattle.law_obligations.specs.Cones.{AbsElement, element, same_element, kept}
 use Rattle.law_obligations.specs.Bits.{Bits}
 use Rattle.law_obligations.specs.Codes.{bits_for, code_from, value_of_code}
 
 -- a problem with the elements of its cone, in order
-pub record Case : Type 0 where
-  pub problem : Problem
+pub record PosedCase : Type 0 where
+  pub problem : AbstractProblem
   pub elements : List AbsElement
 
 module _ (w : World) where
@@ -57,7 +57,7 @@ module _ (w : World) (s : Bits) where
   read_at (Some slot) = value_of_code (values_of w slot.element) (code_of slot)
   read_at None = named (number 0)
 
-module _ (c : Case) where
+module _ (c : PosedCase) where
   abbrev pub slots : List Slot
   slots = slots_from c.problem.world 0 c.elements
 

@@ -2,11 +2,11 @@
 use Rattle.std.specs.Prelude.{ℕ, List, [], ◌∷◌, ◌++◌, map, flat_map, zip, slice_get, Option, Some, None, Bool, true, false, ◌||◌, if◌then◌else◌}
 use Rattle.std.specs.List.{list_any, list_all}
 use Rattle.smv_core.specs.Assignments.{Index, bare}
-use Rattle.smv_core.specs.Flat.{flat_index}
+use Rattle.smv_core.specs.FlatMeaning.{flat_index}
 use Rattle.smv_core.specs.declared.flat.Simple.{Simple}
 use Rattle.smv_core.specs.declared.flat.FlatMember.{One, Span as SpanOf}
 use Rattle.smv_core.specs.declared.flat.FlatExpr.{FlatExpr, Number, Read', Var, Loop, Constant, Not', And', Or', Implies', Iff', Compare', Within', Sum', Modulo', Choose', All', Any', List', Each', Held-FlatExpr-Each-2, None', Some', Row_of-FlatExpr, end_of-FlatExpr, more_of-FlatExpr, Row_of-FlatMember, end_of-FlatMember, more_of-FlatMember, Row_of-FlatSigned, end_of-FlatSigned, more_of-FlatSigned}
-use Rattle.smv_core.specs.declared.flat.Flat.{Flat, Nothing, Assign, If', First', Forall', Row_of-Flat, end_of-Flat, more_of-Flat}
+use Rattle.smv_core.specs.declared.flat.DefBody.{DefBody, Nothing, Assign, If', First', Forall', Row_of-DefBody, end_of-DefBody, more_of-DefBody}
 use Rattle.law_obligations.specs.Places.{Place, same_place, bind_place}
 
 -- the indexes of a reference
@@ -73,29 +73,29 @@ module _ {X : Type 0} (places : Simple → List Place) (read : ℕ → List Inde
 module _ (every : Simple → List Place) (counts : List Index → List Place → Bool) where
   abbrev mutual
     -- some assignment counts
-    pub has_counting : Flat → List Place → Bool
+    pub has_counting : DefBody → List Place → Bool
     has_counting Nothing b = false
     has_counting (Assign left value place at) b = counts (map flat_index left) b
-    has_counting (If' cond l (more_of-Flat left end_of-Flat) r (more_of-Flat right end_of-Flat)) b = has_counting left b || has_counting right b
+    has_counting (If' cond l (more_of-DefBody left end_of-DefBody) r (more_of-DefBody right end_of-DefBody)) b = has_counting left b || has_counting right b
     has_counting (First' shape parts) b = have_counting parts b
-    has_counting (Forall' var over shape (more_of-Flat body end_of-Flat)) b = list_any (λ p. has_counting body (bind_place b var p)) (every over)
+    has_counting (Forall' var over shape (more_of-DefBody body end_of-DefBody)) b = list_any (λ p. has_counting body (bind_place b var p)) (every over)
 
-    pub have_counting : {m : _} → Row_of-Flat m → List Place → Bool
-    have_counting end_of-Flat b = false
-    have_counting (more_of-Flat part others) b = has_counting part b || have_counting others b
+    pub have_counting : {m : _} → Row_of-DefBody m → List Place → Bool
+    have_counting end_of-DefBody b = false
+    have_counting (more_of-DefBody part others) b = has_counting part b || have_counting others b
 
   module _ {X : Type 0} (places : Simple → List Place) (read : ℕ → List Index → List Place → List X) where
     abbrev mutual
       -- what the values and the indexes of the assignments that count, and the conditions around them, read
-      pub part_reads : Flat → List Place → List X
+      pub part_reads : DefBody → List Place → List X
       part_reads Nothing b = []
       part_reads (Assign left value place at) b =
           if counts (map flat_index left) b then flat_map (λ e. reads places read e b) left ++ reads places read value b else []
-      part_reads (If' cond l (more_of-Flat left end_of-Flat) r (more_of-Flat right end_of-Flat)) b =
+      part_reads (If' cond l (more_of-DefBody left end_of-DefBody) r (more_of-DefBody right end_of-DefBody)) b =
           (if has_counting left b || has_counting right b then reads places read cond b else []) ++ part_reads left b ++ part_reads right b
       part_reads (First' shape parts) b = parts_read parts b
-      part_reads (Forall' var over shape (more_of-Flat body end_of-Flat)) b = flat_map (λ p. part_reads body (bind_place b var p)) (every over)
+      part_reads (Forall' var over shape (more_of-DefBody body end_of-DefBody)) b = flat_map (λ p. part_reads body (bind_place b var p)) (every over)
 
-      pub parts_read : {m : _} → Row_of-Flat m → List Place → List X
-      parts_read end_of-Flat b = []
-      parts_read (more_of-Flat part others) b = part_reads part b ++ parts_read others b
+      pub parts_read : {m : _} → Row_of-DefBody m → List Place → List X
+      parts_read end_of-DefBody b = []
+      parts_read (more_of-DefBody part others) b = part_reads part b ++ parts_read others b

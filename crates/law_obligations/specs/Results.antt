@@ -5,7 +5,7 @@ use Rattle.std.specs.List.{list_any}
 use Rattle.smv_core.specs.Values.{Truth}
 use Rattle.smv_core.specs.Outcome.{branch}
 use Rattle.smv_core.specs.declared.flat.FlatExpr.{FlatExpr}
-use Rattle.smv_core.specs.declared.flat.Flat.{Flat, Nothing, Assign, If', First', Forall', Row_of-Flat, end_of-Flat, more_of-Flat}
+use Rattle.smv_core.specs.declared.flat.DefBody.{DefBody, Nothing, Assign, If', First', Forall', Row_of-DefBody, end_of-DefBody, more_of-DefBody}
 use Rattle.law_obligations.specs.Sets.{one_of_each, pairs}
 use Rattle.law_obligations.specs.Places.{Place, same_place, World, places_in, AbsOutcome, bind_place}
 use Rattle.law_obligations.specs.May.{AbsState, Kept, seen, may}
@@ -45,15 +45,15 @@ module _ (w : World) (kept : Kept) (a : AbsState) (indexes : List Place) {X : Ty
 
   abbrev mutual
     -- every choice of indexes, conditions and results of the parts
-    pub results : Flat → List Place → List (Option X)
+    pub results : DefBody → List Place → List (Option X)
     results Nothing b = None ∷ []
     results (Assign left value place at) b = map (λ us. assigned us value b) (one_of_each (map (λ e. may w kept a e b) left))
-    results (If' cond l (more_of-Flat left end_of-Flat) r (more_of-Flat right' end_of-Flat)) b =
+    results (If' cond l (more_of-DefBody left end_of-DefBody) r (more_of-DefBody right' end_of-DefBody)) b =
         flat_map (λ u. pairs (λ x y. taken everything (seen u) x y ∷ []) (results left b) (results right' b)) (may w kept a cond b)
     results (First' shape parts) b = map first_result (one_of_each (results_each parts b))
-    results (Forall' var over shape (more_of-Flat body end_of-Flat)) b =
+    results (Forall' var over shape (more_of-DefBody body end_of-DefBody)) b =
         map first_result (one_of_each (map (λ p. results body (bind_place b var p)) (places_in w over)))
 
-    pub results_each : {m : _} → Row_of-Flat m → List Place → List (List (Option X))
-    results_each end_of-Flat b = []
-    results_each (more_of-Flat part others) b = results part b ∷ results_each others b
+    pub results_each : {m : _} → Row_of-DefBody m → List Place → List (List (Option X))
+    results_each end_of-DefBody b = []
+    results_each (more_of-DefBody part others) b = results part b ∷ results_each others b

@@ -11,15 +11,15 @@ use Rattle.law_obligations.specs.Times.{graph, timed}
 use Rattle.law_obligations.specs.Cones.{cone}
 use Rattle.law_obligations.specs.Problems.{world_of, params_at, problem_of}
 use Rattle.law_obligations.specs.Checked.{IsChecked, IsProved}
-use Rattle.law_obligations.specs.Readings.{Case, IsCase}
+use Rattle.law_obligations.specs.Readings.{PosedCase, IsCase}
 use Rattle.law_obligations.specs.CasePaths.{HasNone}
 
 -- the problem of a case and the elements of its cone
-abbrev pub case_of : Outline → Entry → Timed → List Class → Case
+abbrev pub case_of : Outline → Entry → Timed → List Class → PosedCase
 case_of o entry times classes = record { problem = problem_of o entry times classes; elements = cone (world_of o entry classes) o entry (params_at o entry classes) }
 
 -- that of the leaf of the unit at this place
-abbrev pub case_at : Script → ℕ → Entry → List Class → Case
+abbrev pub case_at : Script → ℕ → Entry → List Class → PosedCase
 case_at s u entry classes = case_of (outline_of s) entry (timed (outline_of s) (graph s) u entry) classes
 
 -- the classes of a leaf's cases, in order

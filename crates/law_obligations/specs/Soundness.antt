@@ -3,7 +3,7 @@ use Rattle.std.specs.Prelude.{◌≡◌, ◌<◌, ℕ, List, [], ◌++◌, map, 
 use Rattle.std.specs.List.{list_all}
 use Rattle.smv_core.specs.Values.{Value, Sizes, truth, is_in}
 use Rattle.smv_core.specs.Outcome.{is_true}
-use Rattle.smv_core.specs.Flat.{Numbered, FlatState, values_in, flat_outcome, flat_allowed}
+use Rattle.smv_core.specs.FlatMeaning.{Numbered, FlatState, values_in, flat_outcome, flat_allowed}
 use Rattle.smv_core.specs.declared.flat.Claim.{Claim}
 use Rattle.smv_core.specs.declared.flat.Class.{Class}
 use Rattle.smv_core.specs.declared.flat.Def.{Def}
@@ -18,7 +18,7 @@ use Rattle.law_obligations.specs.Places.{Place, is_named, world, named_in}
 use Rattle.law_obligations.specs.May.{AbsState}
 use Rattle.law_obligations.specs.Pictures.{KeepsNamed, IsAbsState}
 use Rattle.law_obligations.specs.Circular.{Demand, always, is_violating}
-use Rattle.law_obligations.specs.Obligations.{Demanded, defined, holds, Problem, obligation}
+use Rattle.law_obligations.specs.Obligations.{Demanded, defined, holds, AbstractProblem, obligation}
 use Rattle.law_obligations.specs.LeafCases.{treatments_of, parameters_of, leaf_cases}
 use Rattle.law_obligations.specs.Covers.{types_at, places_at, AreApart, IsIndexType}
 use Rattle.law_obligations.specs.Guards.{AreGuards}
@@ -37,10 +37,10 @@ pub record LeafProof : Type 0 where
   pub params : List Param
   pub guards : List Guard
   pub keeps : List Keep
-  pub problem : List Class → Problem
+  pub problem : List Class → AbstractProblem
 
 -- a plan of proof of a design: its names, its base definitions, the leaf of each unit in flat order, and which unit uses which now and before, by their places
-pub record Plan : Type 0 where
+pub record ProofPlan : Type 0 where
   pub names : Numbered
   pub base : List Def
   pub leaves : List LeafProof
@@ -98,13 +98,13 @@ module _ (n : Numbered) where
   HasValue t = (v : Value) × Has (values_in n t) v
 
 -- every unit holds at every time of every run, for all sizes
-abbrev pub IsSound : Plan → Type 0
-IsSound plan = (sizes : Sizes) → AreSizes plan.names sizes → (run : List FlatState) → IsRun (at_sizes plan.names sizes) plan.base run →
+abbrev pub IsSoundPlan : ProofPlan → Type 0
+IsSoundPlan plan = (sizes : Sizes) → AreSizes plan.names sizes → (run : List FlatState) → IsRun (at_sizes plan.names sizes) plan.base run →
     (leaf : LeafProof) → Has plan.leaves leaf → (values : List Value) → Has (values_over (at_sizes plan.names sizes) (params_of plan.names leaf.unit)) values →
     always (is_held (at_sizes plan.names sizes) leaf.unit values) None run ≡ true
 
 -- no case of any leaf has a violating path of abstract states
-abbrev pub HasNoViolatingPath : Plan → Type 0
+abbrev pub HasNoViolatingPath : ProofPlan → Type 0
 HasNoViolatingPath plan = (leaf : LeafProof) → Has plan.leaves leaf → (classes : List Class) → Has (leaf_cases plan.names.sets leaf.params leaf.keeps) classes →
     (path : List AbsState) → ((a : AbsState) → Has path a → IsAbsState (leaf.problem classes).world (leaf.problem classes).kept a) → is_violating (obligation (leaf.problem classes)) path ≡ false
 
@@ -114,31 +114,31 @@ said_at (map_of def) places = defined def places
 said_at (claim_of claim) places = holds claim.body places
 
 -- an element of a map is kept; a claim keeps none of its own
-abbrev pub IsKept : Problem → FlatUnit → List Place → Type 0
+abbrev pub IsKept : AbstractProblem → FlatUnit → List Place → Type 0
 IsKept p (map_of def) places = p.kept def.family places ≡ true
 IsKept p (claim_of claim) places = Unit {0}
 
-module _ (plan : Plan) where
+module _ (plan : ProofPlan) where
   -- a demand is what the unit says of one instance at numbers, constants and classes; the element of a map is kept
-  pub record IsOf (p : Problem) (unit : FlatUnit) (d : Demanded) : Type 0 where
+  pub record IsOf (p : AbstractProblem) (unit : FlatUnit) (d : Demanded) : Type 0 where
     pub places : List Place
     pub are_named : Has (one_of_each (map (named_in p.world) (params_of plan.names unit))) places
     pub is_kept : IsKept p unit places
     pub is_said : d ≡ said_at unit places
 
   -- a demand is granted by a base definition, or by a unit that is used
-  pub data IsGranted (uses : ℕ → Bool) (p : Problem) (d : Demanded) : Type 0 where
+  pub data IsGranted (uses : ℕ → Bool) (p : AbstractProblem) (d : Demanded) : Type 0 where
     by_base : (def : Def) → Has plan.base def → IsOf p (map_of def) d → IsGranted uses p d
     by_use : (v : ℕ) → uses v ≡ true → (used : LeafProof) → slice_get plan.leaves v ≡ Some used → IsOf p used.unit d → IsGranted uses p d
 
   -- where the parameters of the unit itself stand
-  abbrev pub own_places : LeafProof → Problem → List Place
+  abbrev pub own_places : LeafProof → AbstractProblem → List Place
   own_places leaf p = take (length (params_of plan.names leaf.unit)) p.params
 
   -- The problem of a case of the leaf at this place. It sees the design in the abstract types of the case, and the parameters at its classes.
   -- It keeps elements at numbers, constants and classes alone. Its target is the unit at its own parameters; the element of a map is kept if
   -- it is at numbers, constants and classes. Its guards are the leaf's. It demands no more than base definitions and what the unit uses.
-  pub record IsCase (u : ℕ) (leaf : LeafProof) (classes : List Class) (p : Problem) : Type 0 where
+  pub record IsCase (u : ℕ) (leaf : LeafProof) (classes : List Class) (p : AbstractProblem) : Type 0 where
     pub is_world : p.world ≡ world plan.names (types_at plan.names.sets (treatments_of leaf.keeps 0 plan.names.sets) (parameters_of leaf.keeps leaf.params) classes)
     pub are_params : p.params ≡ places_at plan.names (parameters_of leaf.keeps leaf.params) classes
     pub keeps_named : KeepsNamed p.world p.kept

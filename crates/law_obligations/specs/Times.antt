@@ -10,7 +10,7 @@ use Rattle.smv_core.specs.declared.flat.Timing.{Timing}
 use Rattle.smv_core.specs.declared.flat.Timing.TheVariants.{Now, Before}
 use Rattle.smv_core.specs.declared.flat.Timed.{Timed}
 use Rattle.smv_core.specs.declared.flat.FlatExpr.{FlatExpr}
-use Rattle.smv_core.specs.declared.flat.Flat.{Flat}
+use Rattle.smv_core.specs.declared.flat.DefBody.{DefBody}
 use Rattle.law_obligations.specs.Places.{named}
 use Rattle.law_obligations.specs.Soundness.{FlatUnit, map_of, claim_of}
 use Rattle.law_obligations.specs.Uses.{is_now}
@@ -33,7 +33,7 @@ module _ (families : List Family) where
   families_read e = reads (λ over. named (number 0) ∷ []) (λ family indexes b. if_there family (slice_get families family)) e []
 
   -- those that a part of a definition reads
-  abbrev pub families_of_part : Flat → List ℕ
+  abbrev pub families_of_part : DefBody → List ℕ
   families_of_part part =
       part_reads (λ over. named (number 0) ∷ []) (λ left b. true) (λ over. named (number 0) ∷ []) (λ family indexes b. if_there family (slice_get families family)) part []
 

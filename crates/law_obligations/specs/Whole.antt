@@ -3,7 +3,7 @@ use Rattle.std.specs.Prelude.{List, [], ◌∷◌, slice_get, Option, Some, None
 use Rattle.smv_core.specs.declared.flat.Simple.{Simple as FlatSimple}
 use Rattle.smv_core.specs.declared.flat.Family.{Family}
 use Rattle.smv_core.specs.declared.flat.Def.{Def}
-use Rattle.smv_core.specs.declared.flat.Flat.{Flat, Nothing, Assign, If', First', Forall', Row_of-Flat, end_of-Flat, more_of-Flat}
+use Rattle.smv_core.specs.declared.flat.DefBody.{DefBody, Nothing, Assign, If', First', Forall', Row_of-DefBody, end_of-DefBody, more_of-DefBody}
 use Rattle.smv_core.specs.declared.flat.FlatMember.{One, Span as SpanOf}
 use Rattle.smv_core.specs.declared.flat.FlatExpr.{FlatExpr, Number, Read', Var, Loop, Constant, Not', And', Or', Implies', Iff', Compare', Within', Sum', Modulo', Choose', All', Any', List', Each', Held-FlatExpr-Each-2, None', Some', Row_of-FlatExpr, end_of-FlatExpr, more_of-FlatExpr, Row_of-FlatMember, end_of-FlatMember, more_of-FlatMember, Row_of-FlatSigned, end_of-FlatSigned, more_of-FlatSigned}
 use Rattle.law_obligations.specs.Sets.{Has}
@@ -61,16 +61,16 @@ module _ (families : List Family) where
 
   abbrev mutual
     -- each expression of a definition is whole
-    pub IsWholeFlat : Flat → Type 0
+    pub IsWholeFlat : DefBody → Type 0
     IsWholeFlat Nothing = Unit {0}
     IsWholeFlat (Assign left value place at) = ((e : FlatExpr) → Has left e → IsWhole e) × IsWhole value
-    IsWholeFlat (If' cond l (more_of-Flat left end_of-Flat) r (more_of-Flat right end_of-Flat)) = IsWhole cond × IsWholeFlat left × IsWholeFlat right
+    IsWholeFlat (If' cond l (more_of-DefBody left end_of-DefBody) r (more_of-DefBody right end_of-DefBody)) = IsWhole cond × IsWholeFlat left × IsWholeFlat right
     IsWholeFlat (First' shape parts) = AreWholeFlats parts
-    IsWholeFlat (Forall' var over shape (more_of-Flat body end_of-Flat)) = IsWholeFlat body
+    IsWholeFlat (Forall' var over shape (more_of-DefBody body end_of-DefBody)) = IsWholeFlat body
 
-    pub AreWholeFlats : {m : _} → Row_of-Flat m → Type 0
-    AreWholeFlats end_of-Flat = Unit {0}
-    AreWholeFlats (more_of-Flat part others) = IsWholeFlat part × AreWholeFlats others
+    pub AreWholeFlats : {m : _} → Row_of-DefBody m → Type 0
+    AreWholeFlats end_of-DefBody = Unit {0}
+    AreWholeFlats (more_of-DefBody part others) = IsWholeFlat part × AreWholeFlats others
 
   pub record IsWholeDef (def : Def) : Type 0 where
     pub init : IsWholeFlat def.init

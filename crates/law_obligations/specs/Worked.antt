@@ -3,7 +3,7 @@ use Rattle.std.specs.Prelude.{◌≡◌, ℕ, zero, suc, List, [], ◌∷◌, ma
 use Rattle.std.specs.Str.{bytes_eq}
 use Rattle.std.specs.List.{list_all}
 use Rattle.smv_core.specs.Values.{Name, Value, number, constant, scalar, ordinal}
-use Rattle.smv_core.specs.Flat.{Numbered}
+use Rattle.smv_core.specs.FlatMeaning.{Numbered}
 use Rattle.smv_core.specs.declared.tree.Op.TheVariants.{Equal, Differ, Less, AtMost, Greater, AtLeast}
 use Rattle.smv_core.specs.declared.flat.Simple.{Simple}
 use Rattle.smv_core.specs.declared.flat.Simple.TheVariants.{Range, Enum, Set}

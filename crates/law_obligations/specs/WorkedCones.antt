@@ -6,7 +6,7 @@ use Rattle.smv_core.specs.declared.flat.Class.{Class}
 use Rattle.smv_core.specs.declared.flat.Class.TheVariants.{Named, Rest}
 use Rattle.smv_core.specs.declared.flat.Family.{Family}
 use Rattle.smv_core.specs.declared.flat.Def.{Def}
-use Rattle.smv_core.specs.declared.flat.Flat.{Forall}
+use Rattle.smv_core.specs.declared.flat.DefBody.{Forall}
 use Rattle.smv_core.specs.declared.flat.FlatExpr.{Var, And, All}
 use Rattle.law_obligations.specs.Places.{named, rest}
 use Rattle.law_obligations.specs.May.{AbsState, may}

@@ -2,15 +2,15 @@
 use Rattle.std.specs.Prelude.{List, [], ◌∷◌}
 use Rattle.smv_core.specs.declared.flat.Simple.TheVariants.{Set}
 use Rattle.smv_core.specs.declared.flat.FlatExpr.{FlatExpr}
-use Rattle.smv_core.specs.declared.flat.Flat.{Flat, Assign, If, First, Forall}
+use Rattle.smv_core.specs.declared.flat.DefBody.{DefBody, Assign, If, First, Forall}
 use Rattle.law_obligations.specs.FlatConflicts.{HasNoConflict}
 use Rattle.law_obligations.specs.Worked.{signal, variable, num}
 
-abbrev pub assign : List FlatExpr → Flat
+abbrev pub assign : List FlatExpr → DefBody
 assign left = Assign left (num 0) 0 0
 
 -- forall (i in P) if (c) x[i][i][d] := 0; else if (c) x[i][d][i] := 0; else x[d][i][i] := 0: each two share an index for i, though no one index serves all three
-abbrev pub pairs_share : Flat
+abbrev pub pairs_share : DefBody
 pairs_share = Forall 0 (Set 0) (If (signal 1) (assign (variable ∷ variable ∷ signal 0 ∷ []))
     (If (signal 1) (assign (variable ∷ signal 0 ∷ variable ∷ [])) (assign (signal 0 ∷ variable ∷ variable ∷ []))))
 

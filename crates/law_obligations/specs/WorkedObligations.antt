@@ -2,20 +2,20 @@
 use Rattle.std.specs.Prelude.{◌≡◌, ℕ, List, [], ◌∷◌, map, get_or, Some, None, Bool, true, false, codes}
 use Rattle.std.specs.List.{list_any}
 use Rattle.smv_core.specs.Values.{number}
-use Rattle.smv_core.specs.Flat.{Numbered}
+use Rattle.smv_core.specs.FlatMeaning.{Numbered}
 use Rattle.smv_core.specs.declared.tree.Op.TheVariants.{Equal, Less}
 use Rattle.smv_core.specs.declared.flat.Simple.TheVariants.{Range, Set}
 use Rattle.smv_core.specs.declared.flat.Family.{Family}
 use Rattle.smv_core.specs.declared.flat.Def.{Def}
 use Rattle.smv_core.specs.declared.flat.Guard.{Guard}
-use Rattle.smv_core.specs.declared.flat.Flat.{Nothing, Assign, Forall}
+use Rattle.smv_core.specs.declared.flat.DefBody.{Nothing, Assign, Forall}
 use Rattle.smv_core.specs.declared.flat.FlatExpr.{FlatExpr, Read, Var, Not, And, Or, Implies, Compare, All, Any}
 use Rattle.smv_core.specs.declared.abstract_type.Rest.TheVariants as beside
 use Rattle.law_obligations.specs.Sets.{one_of_each}
 use Rattle.law_obligations.specs.Circular.{is_violating}
 use Rattle.law_obligations.specs.Places.{Place, named, rest, World, world, places_in}
 use Rattle.law_obligations.specs.May.{AbsState}
-use Rattle.law_obligations.specs.Obligations.{defined, holds, Problem, obligation}
+use Rattle.law_obligations.specs.Obligations.{defined, holds, AbstractProblem, obligation}
 use Rattle.law_obligations.specs.Worked.{family, all_kept, p, i, signal, variable, num}
 
 -- one set type and these families, in a case with so many classes
@@ -43,18 +43,18 @@ abbrev pub bits : List ℕ → AbsState
 bits ks = state (map bit ks)
 
 -- a path of this problem violates it
-abbrev pub violates : Problem → List AbsState → Bool
+abbrev pub violates : AbstractProblem → List AbsState → Bool
 violates problem path = is_violating (obligation problem) path
 
 -- some path of one state, or of two states, whose families have these values violates it
-abbrev pub some_state : Problem → List (List Place) → Bool
+abbrev pub some_state : AbstractProblem → List (List Place) → Bool
 some_state problem values = list_any (λ vs. violates problem (state vs ∷ [])) (one_of_each values)
 
-abbrev pub some_step : Problem → List (List Place) → Bool
+abbrev pub some_step : AbstractProblem → List (List Place) → Bool
 some_step problem values = list_any (λ vs. list_any (λ us. violates problem (state vs ∷ state us ∷ [])) (one_of_each values)) (one_of_each values)
 
 -- a claim alone
-abbrev pub claim_of : World → List Place → FlatExpr → Problem
+abbrev pub claim_of : World → List Place → FlatExpr → AbstractProblem
 claim_of w params body = record { world = w; kept = all_kept; now = []; before = []; target = holds body params; guards = []; params = params }
 
 abbrev pub guard : ℕ → FlatExpr → Guard
@@ -89,7 +89,7 @@ transitive = Implies (And (Compare Less (signal 0) (signal 1) ∷ Compare Less (
 abbrev pub three_of_I : List Family
 three_of_I = family (codes "a") [] (Set 0) ∷ family (codes "b") [] (Set 0) ∷ family (codes "c") [] (Set 0) ∷ []
 
-abbrev pub split_twice : ℕ → List Place → Problem
+abbrev pub split_twice : ℕ → List Place → AbstractProblem
 split_twice classes params = record (claim_of (ordinals three_of_I classes) params transitive) { guards = guard 0 (signal 0) ∷ guard 1 (signal 1) ∷ [] }
 
 abbrev pub three_places : ℕ → List (List Place)
@@ -117,7 +117,7 @@ written = family (codes "d") [] (Set 0) ∷ family (codes "v") (Set 0 ∷ []) (R
 abbrev pub writes : Def
 writes = record { family = 1; layer = None; init = Forall 0 (Set 0) (Assign (variable ∷ []) (num 0) 0 0); next = Assign (signal 0 ∷ []) (num 1) 1 0; comb = Nothing; place = 0; at = 0 }
 
-abbrev pub never_written : Problem
+abbrev pub never_written : AbstractProblem
 never_written = record (claim_of (scalars written 1) (named (p 0) ∷ []) (Not (Read 1 (variable ∷ []) 0) 0)) { now = defined writes (named (p 0) ∷ []) ∷ [] }
 
 -- v[#0] is written where d was #0, and kept where d was at the rest
@@ -145,7 +145,7 @@ stepping of first after = record { family = of; layer = None; init = Assign [] (
 abbrev pub zeroed : ℕ → Def
 zeroed of = record { family = of; layer = Some 0; init = Nothing; next = Nothing; comb = Assign [] (num 0) 0 0; place = 0; at = 0 }
 
-abbrev pub map_problem : Def → Def → Def → Problem
+abbrev pub map_problem : Def → Def → Def → AbstractProblem
 map_problem target base used = record { world = two_bits; kept = all_kept; now = defined base [] ∷ []; before = defined used [] ∷ []; target = defined target []; guards = []; params = [] }
 
 abbrev pub both_bits : List (List Place)
@@ -169,7 +169,7 @@ compared = record { family = 1; layer = Some 0; init = Nothing; next = Nothing; 
 abbrev pub all_one : Def
 all_one = record { family = 2; layer = Some 0; init = Nothing; next = Nothing; comb = Forall 0 (Set 0) (Assign (variable ∷ []) (num 1) 0 0); place = 0; at = 0 }
 
-abbrev pub map_alone : ℕ → Def → List Place → Problem
+abbrev pub map_alone : ℕ → Def → List Place → AbstractProblem
 map_alone classes def indexes = record { world = scalars uncertain classes; kept = all_kept; now = []; before = []; target = defined def indexes; guards = []; params = indexes }
 
 abbrev pub CertainMaps : Type 0

@@ -5,11 +5,11 @@ use Rattle.smv_core.specs.declared.flat.Simple.TheVariants.{Set}
 use Rattle.smv_core.specs.declared.flat.Class.{Class}
 use Rattle.smv_core.specs.declared.flat.Class.TheVariants.{Named}
 use Rattle.smv_core.specs.declared.flat.Guard.{Guard}
-use Rattle.smv_core.specs.declared.flat.Flat.{Nothing, If, Forall}
+use Rattle.smv_core.specs.declared.flat.DefBody.{Nothing, If, Forall}
 use Rattle.smv_core.specs.declared.flat.FlatExpr.{FlatExpr, Implies}
 use Rattle.law_obligations.specs.Places.{Place, named, rest, places_in}
 use Rattle.law_obligations.specs.LeafCases.{leaf_cases}
-use Rattle.law_obligations.specs.Obligations.{Demanded, defined, Problem}
+use Rattle.law_obligations.specs.Obligations.{Demanded, defined, AbstractProblem}
 use Rattle.law_obligations.specs.Worked.{p}
 use Rattle.law_obligations.specs.WorkedObligations.{state, bit as at_bit, violates, some_state, some_step}
 use Rattle.law_obligations.specs.Outlines.{Entry, Script, outline_of}
@@ -21,7 +21,7 @@ use Rattle.law_obligations.specs.WorkedTimes.{claims_of_x, two_maps}
 use Rattle.law_obligations.specs.WorkedCones.{arrays, at_reg}
 
 -- some case of the leaf at a place has a problem that passes a test
-abbrev pub some_case : Script → ℕ → (Problem → Bool) → Bool
+abbrev pub some_case : Script → ℕ → (AbstractProblem → Bool) → Bool
 some_case o u test = in_leaf (slice_get o.entries u)
   where
     in_leaf : Option Entry → Bool
@@ -90,7 +90,7 @@ WrittenIndex = (has_path never_written 0 ((named (p 0) ∷ at_bit 0 ∷ []) ∷ 
     × (some_case never_written 0 (λ q. some_state q (places_in q.world (Set 0) ∷ a_bit ∷ [])) ≡ false)
 
 -- the demands of two leaves of the Tomasulo machine: the lemma of the register now, that of the bus before
-abbrev pub demanded : Entry → ℕ → List Class → (Problem → List Demanded) → List Demanded
+abbrev pub demanded : Entry → ℕ → List Class → (AbstractProblem → List Demanded) → List Demanded
 demanded entry u classes of_time = of_time (problem_of (outline_of machine_script) entry (timed (outline_of machine_script) (graph machine_script) u entry) classes)
 
 abbrev pub TomasuloDemands : Type 0
@@ -103,7 +103,7 @@ TomasuloDemands = (demanded rd1 0 (Named 0 ∷ Named 0 ∷ []) (λ p. p.now)
 abbrev pub zero : List Place
 zero = at_bit 0 ∷ []
 
-abbrev pub rd1_values : Problem → List (List Place)
+abbrev pub rd1_values : AbstractProblem → List (List Place)
 rd1_values p = zero ∷ zero ∷ zero ∷ zero ∷ zero ∷ zero ∷ places_in p.world reg ∷ zero ∷ zero ∷ zero ∷ zero ∷ zero ∷ places_in p.world word ∷ a_bit ∷ zero ∷ places_in p.world word
     ∷ zero ∷ zero ∷ zero ∷ zero ∷ places_in p.world word ∷ []
 

@@ -5,7 +5,7 @@ use Rattle.smv_core.specs.declared.flat.Simple.{Simple}
 use Rattle.smv_core.specs.declared.flat.Simple.TheVariants.{Range, Set}
 use Rattle.smv_core.specs.declared.flat.FlatExpr.{FlatExpr, Number, Read, Var, Compare, Choose, List as Listed, Each}
 use Rattle.smv_core.specs.declared.flat.FlatMember.{FlatMember, One}
-use Rattle.smv_core.specs.declared.flat.Flat.{Flat, Nothing, Assign, If, First, Forall}
+use Rattle.smv_core.specs.declared.flat.DefBody.{DefBody, Nothing, Assign, If, First, Forall}
 use Rattle.law_obligations.specs.Places.{Place, named, places_in}
 use Rattle.law_obligations.specs.Right.{may_allow, must_allow}
 use Rattle.law_obligations.specs.Results.{results}
@@ -55,7 +55,7 @@ told (Number k at) b = k
 told e b = 8
 
 -- the possible results of a definition for the element at class 0
-abbrev pub results_at_0 : Flat → List (Option ℕ)
+abbrev pub results_at_0 : DefBody → List (Option ℕ)
 results_at_0 def = results small_world all_kept at_rests (named (p 0) ∷ []) 9 told def (named (p 0) ∷ [])
 
 -- for v[#0]: `v[k] := 1` at k = #0; `v[d] := 1` with d at the rest; under `if (d = d)`; after a statement that may give 1; and `forall (k in P) v[k] := 1`

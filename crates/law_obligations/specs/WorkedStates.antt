@@ -6,7 +6,7 @@ use Rattle.smv_core.specs.declared.tree.Op.TheVariants.{Less, AtLeast}
 use Rattle.smv_core.specs.declared.flat.Simple.TheVariants.{Range, Set}
 use Rattle.smv_core.specs.declared.flat.Class.{Class}
 use Rattle.smv_core.specs.declared.flat.Guard.{Guard}
-use Rattle.smv_core.specs.declared.flat.Flat.{Forall}
+use Rattle.smv_core.specs.declared.flat.DefBody.{Forall}
 use Rattle.smv_core.specs.declared.flat.FlatSigned.{roll-FlatSigned}
 use Rattle.smv_core.specs.declared.flat.FlatExpr.{FlatExpr, Var, And, Or, Implies, Compare, Sum, All, Any, Each}
 use Rattle.law_obligations.specs.Sets.{one_of_each}
@@ -14,7 +14,7 @@ use Rattle.law_obligations.specs.Places.{Place, named, World, places_in}
 use Rattle.law_obligations.specs.May.{AbsState}
 use Rattle.law_obligations.specs.Circular.{is_violating}
 use Rattle.law_obligations.specs.LeafCases.{leaf_cases}
-use Rattle.law_obligations.specs.Obligations.{Problem, obligation}
+use Rattle.law_obligations.specs.Obligations.{AbstractProblem, obligation}
 use Rattle.law_obligations.specs.Outlines.{Entry, Script, outline_of}
 use Rattle.law_obligations.specs.Times.{graph, timed}
 use Rattle.law_obligations.specs.Cones.{AbsElement, element, same_element, cone}
@@ -35,7 +35,7 @@ abbrev pub states_over : World → List AbsElement → List AbsState
 states_over w elements = map (state_of elements) (one_of_each (map (λ x. flat_map (λ f. places_in w f.value) (option_to_list (slice_get w.classes.families x.family))) elements))
 
 -- some case of the leaf at a place has a problem whose states pass a test
-abbrev pub some_states : Script → ℕ → (Problem → List AbsState → Bool) → Bool
+abbrev pub some_states : Script → ℕ → (AbstractProblem → List AbsState → Bool) → Bool
 some_states s u test = in_leaf (slice_get s.entries u)
   where
     in_case : Entry → List Class → Bool

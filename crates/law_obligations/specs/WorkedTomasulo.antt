@@ -11,7 +11,7 @@ use Rattle.smv_core.specs.declared.flat.Unit.TheVariants.{Map}
 use Rattle.smv_core.specs.declared.flat.Param.{Param}
 use Rattle.smv_core.specs.declared.flat.Guard.{Guard}
 use Rattle.smv_core.specs.declared.flat.Pick.{Pick}
-use Rattle.smv_core.specs.declared.flat.Flat.{Flat, Nothing, Assign, If, First, Forall}
+use Rattle.smv_core.specs.declared.flat.DefBody.{DefBody, Nothing, Assign, If, First, Forall}
 use Rattle.smv_core.specs.declared.flat.FlatExpr.{FlatExpr, Number, Read, Var, Not, And, Or, Compare, Choose}
 use Rattle.law_obligations.specs.Outlines.{Entry, Script}
 
@@ -134,20 +134,20 @@ abbrev pub num : ℕ → FlatExpr
 num k = Number k 0
 
 -- an assignment to a signal and to an element, and `if` without `else`
-abbrev pub set : FlatExpr → Flat
+abbrev pub set : FlatExpr → DefBody
 set e = Assign [] e 0 0
 
-abbrev pub set_at : FlatExpr → FlatExpr → Flat
+abbrev pub set_at : FlatExpr → FlatExpr → DefBody
 set_at index e = Assign (index ∷ []) e 0 0
 
-abbrev pub when : List FlatExpr → Flat → Flat
+abbrev pub when : List FlatExpr → DefBody → DefBody
 when conds body = If (And conds) body Nothing
 
 -- a definition by `:=`, and one by `init` and `next`
-abbrev pub always : ℕ → Option ℕ → Flat → ℕ → Def
+abbrev pub always : ℕ → Option ℕ → DefBody → ℕ → Def
 always family layer comb place = record { family = family; layer = layer; init = Nothing; next = Nothing; comb = comb; place = place; at = 0 }
 
-abbrev pub stepwise : ℕ → Option ℕ → Flat → Flat → ℕ → Def
+abbrev pub stepwise : ℕ → Option ℕ → DefBody → DefBody → ℕ → Def
 stepwise family layer init next place = record { family = family; layer = layer; init = init; next = next; comb = Nothing; place = place; at = 0 }
 
 -- an instruction is issued to the register, or to the station, of the variable

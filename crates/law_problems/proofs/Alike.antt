@@ -5,9 +5,9 @@ use Rattle.std.specs.List.{slice_get}
 use Rattle.std.specs.Str.{bytes_eq}
 use Rattle.std.proofs.lemmas.Slice.Eq.{bytes_eq-Decides}
 use Rattle.smv_core.specs.Values.{Name, Value, number, constant, scalar, ordinal, Truth, same, below, not_of, numbers_from}
-use Rattle.smv_core.specs.Flat.{Numbered, simple_in}
+use Rattle.smv_core.specs.FlatMeaning.{Numbered, simple_in}
 use Rattle.smv_core.specs.Values as values
-use Rattle.smv_core.specs.Flat as flat
+use Rattle.smv_core.specs.FlatMeaning as flat
 use Rattle.smv_core.specs.declared.flat.Simple.{Simple}
 use Rattle.smv_core.specs.declared.flat.Simple.TheVariants.{Range, Enum, Set}
 use Rattle.smv_core.specs.declared.flat.SetInfo.{SetInfo}

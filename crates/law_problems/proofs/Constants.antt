@@ -8,10 +8,10 @@ use Rattle.smv_core.specs.Types.{find_name, names_of}
 use Rattle.smv_core.specs.Outcome.{same_path}
 use Rattle.smv_core.specs.declared.fault.Fault.{Fault}
 use Rattle.smv_core.specs.declared.tree.Word.{Word}
-use Rattle.smv_instances.specs.Mentions.{Mention, declares, instantiates, lists_constants, has_fields, names_type, binds, follows}
-use Rattle.smv_instances.specs.Scopes.{Piece, Scope, pieces, scope_of}
-use Rattle.smv_instances.specs.NameFaults.{place_if, repeated, places_of, is_of_other_list, doubled, doubled_in, declared_words, formals_of, undeclared_in, name_faults}
-use Rattle.smv_instances.specs.FirstFault.{comes_before, earlier, first_of, faults_at, faults_of_names, fault_of_size, or_else}
+use Rattle.smv_mentions.specs.Mentions.{Mention, declares, instantiates, lists_constants, has_fields, names_type, binds, follows}
+use Rattle.smv_mentions.specs.Scopes.{Piece, Scope, pieces, scope_of}
+use Rattle.smv_mentions.specs.NameFaults.{place_if, repeated, places_of, is_of_other_list, doubled, doubled_in, declared_words, formals_of, undeclared_in, name_faults}
+use Rattle.smv_mentions.specs.FirstFault.{comes_before, earlier, first_of, faults_at, faults_of_names, fault_of_size, or_else}
 use Rattle.law_designs.specs.Flattening.{different, enum_of}
 use Rattle.law_designs.proofs.Faultless.{empty-both}
 use Rattle.law_obligations.specs.Sets.{Has, first, later}

@@ -50,10 +50,10 @@ use Rattle.law_obligations.proofs.CasePlaces.{IsThere, case_places, treatment_th
 use Rattle.law_obligations.proofs.ConeFacts.{in_cone-is, same_element-family, same_element-indexes, own_kept}
 use Rattle.law_designs.specs.FlatKinds as kinds
 use Rattle.law_designs.specs.FlatKinds.{Kind, kind_of}
-use Rattle.law_obligations.specs.Readings.{Case, IsCase, state_bits}
+use Rattle.law_obligations.specs.Readings.{PosedCase, IsCase, state_bits}
 use Rattle.law_obligations.specs.Scripts.{case_of}
 use Rattle.law_obligations.proofs.ScriptCases.{is_case, filled}
-use Rattle.smv_problem.specs.WellFormed.{as_raw, keeps_orders, AreOf, IsFit, IsFitGuard, IsWellFormed}
+use Rattle.smv_problem.specs.WellFormed.{as_flat_text, keeps_orders, AreOf, IsFit, IsFitGuard, IsWellFormed}
 use Rattle.law_problems.specs.Parts.{outlined, entry_of, case_with, IsPart, IsCaseOf}
 use Rattle.law_problems.proofs.Unlike.{AreUnlike, unlike-filter, unlike-elements, apart_elements}
 
@@ -196,7 +196,7 @@ module _ (d : Design) (leaf : Leaf) (choice : Choice) (part : IsPart d leaf choi
   abbrev entry : Entry
   entry = entry_of d leaf choice
 
-  abbrev c : Case
+  abbrev c : PosedCase
   c = case_with d leaf choice times classes
 
   abbrev w : World
@@ -265,14 +265,14 @@ module _ (d : Design) (leaf : Leaf) (choice : Choice) (part : IsPart d leaf choi
   fits_claim : (claim : FlatClaim) → Has d.claims claim ⊎ (claim ≡ nothing_claimed) → (b : List Place) → AreOf w (map (λ p. p.over) claim.params) b → IsFit c (holds claim.body b)
   fits_claim claim (inl h) b are =
       let f = part.is_fit.claims claim h in
-      let k = taken-kind Kind.number (kinds.kind_in (as_raw (names_of d)) (map (λ p. kind_of p.over) claim.params) claim.body) f.0 in
+      let k = taken-kind Kind.number (kinds.kind_in (as_flat_text (names_of d)) (map (λ p. kind_of p.over) claim.params) claim.body) f.0 in
       let same : map kind_of (map (λ p. p.over) claim.params) ≡ map (λ p. kind_of p.over) claim.params = map-map kind_of (λ p. p.over) claim.params in (
         map (λ p. p.over) claim.params,
         k.0,
         record {
           are_of = are;
-          has_kind = ap (λ vars. kinds.kind_in (as_raw (names_of d)) vars claim.body) same ∙ k.1;
-          has_orders = subst (λ vars. IsTrue (keeps_orders (as_raw (names_of d)) vars claim.body)) (sym same) f.1;
+          has_kind = ap (λ vars. kinds.kind_in (as_flat_text (names_of d)) vars claim.body) same ∙ k.1;
+          has_orders = subst (λ vars. IsTrue (keeps_orders (as_flat_text (names_of d)) vars claim.body)) (sym same) f.1;
         },
         k.2,
       )
@@ -399,8 +399,8 @@ module _ (d : Design) (leaf : Leaf) (choice : Choice) (part : IsPart d leaf choi
         kind = k.0;
         is_of = record {
           are_of = places-are w (map (λ p. p.over) leaf.params) (params_at o entry classes) params-are;
-          has_kind = ap (λ vars. kinds.kind_in (as_raw (names_of d)) vars g.expr) same ∙ k.1;
-          has_orders = subst (λ vars. IsTrue (keeps_orders (as_raw (names_of d)) vars g.expr)) (sym same) k.2;
+          has_kind = ap (λ vars. kinds.kind_in (as_flat_text (names_of d)) vars g.expr) same ∙ k.1;
+          has_orders = subst (λ vars. IsTrue (keeps_orders (as_flat_text (names_of d)) vars g.expr)) (sym same) k.2;
         };
         has_param = split.are_guards.is_of_type g h;
       }

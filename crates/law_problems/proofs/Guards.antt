@@ -9,7 +9,7 @@ use Rattle.smv_core.specs.declared.flat.FlatExpr.{FlatExpr}
 use Rattle.smv_core.specs.declared.flat.Unit.{Unit}
 use Rattle.smv_core.specs.declared.flat.Guard.{Guard}
 use Rattle.smv_core.specs.declared.flat.Leaf.{Leaf}
-use Rattle.smv_core.specs.declared.flat.Raw.{Raw}
+use Rattle.smv_core.specs.declared.flat.FlatText.{FlatText}
 use Rattle.law_obligations.specs.Sets.{Has, first, later}
 use Rattle.law_obligations.specs.Covers.{IsIndexType}
 use Rattle.law_obligations.proofs.Members.{Has-uncons, Has-left, Has-from_map}
@@ -17,7 +17,7 @@ use Rattle.law_obligations.proofs.OneOfEach.{Has-from_flat_map, map_long}
 use Rattle.law_obligations.specs.Outlines.{names_of, unit_in}
 use Rattle.law_obligations.specs.Units.{units_of}
 use Rattle.law_designs.specs.FlatKinds.{Vars, kind_of, kind_in}
-use Rattle.smv_problem.specs.WellFormed.{as_raw, keeps_orders}
+use Rattle.smv_problem.specs.WellFormed.{as_flat_text, keeps_orders}
 use Rattle.law_splits.specs.Variables.{Reading, readings, renamed, IsNumbered}
 use Rattle.law_splits.specs.Leaves.{with_name, name_of, own_params, Cut, new, all_params, number_in, guard_of, guards_of, params_after, chain_of, leaf_of, leaves_from, leaves_of}
 use Rattle.law_splits.specs.SplitFaults.{faults_of_splits}
@@ -32,31 +32,31 @@ use Rattle.law_problems.proofs.Standing.{stands, chain_cut}
 
 -- ---- an equation in a leaf
 
-module _ (raw : Raw) (split : FlatSplit) (e : FlatExpr) (numbered : IsNumbered (length split.bound) e) (all_fine : (x : Reading) → Has (readings e) x → IsFine split x.var) (own vars : Vars) (stand : KindsStandFor split own vars) where
+module _ (flat_text : FlatText) (split : FlatSplit) (e : FlatExpr) (numbered : IsNumbered (length split.bound) e) (all_fine : (x : Reading) → Has (readings e) x → IsFine split x.var) (own vars : Vars) (stand : KindsStandFor split own vars) where
   abbrev width : ℕ
   width = length split.bound
 
   abbrev number : ℕ → ℕ
   number = number_in split (length vars)
 
-  is_alike : Alike raw width (length vars) number (number_inner split (length vars)) (IsFine split) width own vars
+  is_alike : Alike flat_text width (length vars) number (number_inner split (length vars)) (IsFine split) width own vars
   is_alike = record {
     long = stand.0;
     other_long = let i = number_inner split (length vars) width (omega arith) in omega (arith, i);
     alike = λ v l f. let k = f l in ap (slice_get vars) (number_old split (length vars) v k.0 l k.1) ∙ stand.1 v k.0 l k.1;
   }
 
-  kinds_kept : kind_in raw vars (renamed number e) ≡ kind_in raw own e
-  kinds_kept = same raw width (length vars) number (number_inner split (length vars)) (IsFine split) e width own vars (omega arith) numbered all_fine is_alike
+  kinds_kept : kind_in flat_text vars (renamed number e) ≡ kind_in flat_text own e
+  kinds_kept = same flat_text width (length vars) number (number_inner split (length vars)) (IsFine split) e width own vars (omega arith) numbered all_fine is_alike
 
-  orders_kept : keeps_orders raw vars (renamed number e) ≡ keeps_orders raw own e
-  orders_kept = same_orders raw width (length vars) number (number_inner split (length vars)) (IsFine split) e width own vars (omega arith) numbered all_fine is_alike
+  orders_kept : keeps_orders flat_text vars (renamed number e) ≡ keeps_orders flat_text own e
+  orders_kept = same_orders flat_text width (length vars) number (number_inner split (length vars)) (IsFine split) e width own vars (omega arith) numbered all_fine is_alike
 
 pub equations_keep_kinds : EquationsKeepKinds
-equations_keep_kinds raw split e numbered none own vars stand = kinds_kept raw split e numbered (λ x h. fine split x (none x h)) own vars stand
+equations_keep_kinds flat_text split e numbered none own vars stand = kinds_kept flat_text split e numbered (λ x h. fine split x (none x h)) own vars stand
 
 pub equations_keep_orders : EquationsKeepOrders
-equations_keep_orders raw split e numbered none own vars stand = orders_kept raw split e numbered (λ x h. fine split x (none x h)) own vars stand
+equations_keep_orders flat_text split e numbered none own vars stand = orders_kept flat_text split e numbered (λ x h. fine split x (none x h)) own vars stand
 
 -- ---- the guards of a leaf
 
@@ -118,7 +118,7 @@ module _ (d : Design) (read : IsRead d) (none : faults_of_splits d ≡ []) (kind
           λ v k l e. subst (λ ps. slice_get (kinds_of ps) k ≡ slice_get (kinds_of c.split.bound) v) (sym rest.1)
               (stands d none c there.0 there.1 first_ones (kinded.in_place c.split there.0) rest.0 v k e),
         ) in
-        let raw = as_raw (names_of d) in
+        let flat_text = as_flat_text (names_of d) in
         let kind = kinded.kinded c.split there.0 pair b.1 in
         let numbered = good.are_numbered pair b.1 in
         let all_fine : (x : Reading) → Has (readings pair.left) x → IsFine c.split x.var = λ x k. good.stand pair b.1 x k in
@@ -127,8 +127,8 @@ module _ (d : Design) (read : IsRead d) (none : faults_of_splits d ≡ []) (kind
         ap (λ (g : Guard). g.expr) q.2 ∙ ap (λ n. renamed (number_in c.split n) pair.left) (sym long) in
         subst (IsKinded d (kinds_of all)) (sym expr) (
           kind.0,
-          kinds_kept raw c.split pair.left numbered all_fine (kinds_of c.split.bound) (kinds_of all) stand ∙ kind.1,
-          subst IsTrue (sym (orders_kept raw c.split pair.left numbered all_fine (kinds_of c.split.bound) (kinds_of all) stand)) kind.2,
+          kinds_kept flat_text c.split pair.left numbered all_fine (kinds_of c.split.bound) (kinds_of all) stand ∙ kind.1,
+          subst IsTrue (sym (orders_kept flat_text c.split pair.left numbered all_fine (kinds_of c.split.bound) (kinds_of all) stand)) kind.2,
         )
 
 pub guards_have_kinds : GuardsHaveKinds

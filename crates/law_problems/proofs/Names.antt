@@ -3,28 +3,28 @@ use Rattle.std.proofs.Common.{◌≡◌, ℕ, List, [], ◌∷◌, map, slice_ge
 use Rattle.std.specs.Prelude.{if◌then◌else◌}
 use Rattle.smv_core.specs.declared.flat.Simple.{Simple}
 use Rattle.smv_core.specs.declared.flat.Simple.TheVariants.{Range, Enum, Set}
-use Rattle.smv_core.specs.declared.flat.Raw.{Raw}
+use Rattle.smv_core.specs.declared.flat.FlatText.{FlatText}
 use Rattle.smv_core.specs.declared.flat.FlatMember.{One, Span as SpanOf}
 use Rattle.smv_core.specs.declared.flat.FlatExpr.{FlatExpr, Number, Read', Var, Loop, Constant, Not', And', Or', Implies', Iff', Compare', Within', Sum', Modulo', Choose', All', Any', List', Each', Held-FlatExpr-Each-2, None', Some', Row_of-FlatExpr, end_of-FlatExpr, more_of-FlatExpr, Row_of-FlatMember, end_of-FlatMember, more_of-FlatMember, Row_of-FlatSigned, end_of-FlatSigned, more_of-FlatSigned}
-use Rattle.law_designs.specs.Definitions.{design_of_raw}
+use Rattle.law_designs.specs.Definitions.{design_of_flat_text}
 use Rattle.law_obligations.specs.Outlines.{names_of}
 use Rattle.law_designs.specs.FlatKinds.{number, Vars, kind_of, takes, are_numbers, number_if, common, compares, chosen, element, inside, is_binder, is_condition, kind_in, kinds_in, summands, members_in, looked_through, value_in}
-use Rattle.smv_problem.specs.WellFormed.{as_raw}
+use Rattle.smv_problem.specs.WellFormed.{as_flat_text}
 
 -- the names alone of the design of a flattened text
-abbrev pub bare : Raw → Raw
-bare raw = as_raw (names_of (design_of_raw raw))
+abbrev pub bare : FlatText → FlatText
+bare flat_text = as_flat_text (names_of (design_of_flat_text flat_text))
 
-module _ (raw : Raw) where
-  pub same_binder : (vars : Vars) (var : ℕ) (over : Simple) → is_binder (bare raw) vars var over ≡ is_binder raw vars var over
+module _ (flat_text : FlatText) where
+  pub same_binder : (vars : Vars) (var : ℕ) (over : Simple) → is_binder (bare flat_text) vars var over ≡ is_binder flat_text vars var over
   same_binder vars var (Range low high) = refl
   same_binder vars var (Enum list) = refl
   same_binder vars var (Set set) = refl
 
   mutual
-    pub same : (vars : Vars) (e : FlatExpr) → kind_in (bare raw) vars e ≡ kind_in raw vars e
+    pub same : (vars : Vars) (e : FlatExpr) → kind_in (bare flat_text) vars e ≡ kind_in flat_text vars e
     same vars (Number value place) = refl
-    same vars (Read' family shape indexes place) = ap (element (slice_get raw.families family)) (same_each vars indexes)
+    same vars (Read' family shape indexes place) = ap (element (slice_get flat_text.families family)) (same_each vars indexes)
     same vars (Var var place) = refl
     same vars (Loop value place) = refl
     same vars (Constant list value place) = refl
@@ -33,33 +33,33 @@ module _ (raw : Raw) where
     same vars (Or' shape parts) = ap (λ us. number_if (are_numbers us)) (same_each vars parts)
     same vars (Implies' shape parts) = ap (λ us. number_if (are_numbers us)) (same_each vars parts)
     same vars (Iff' o (more_of-FlatExpr x end_of-FlatExpr) p (more_of-FlatExpr y end_of-FlatExpr)) =
-        ap (λ u. number_if (are_numbers (u ∷ kind_in (bare raw) vars y ∷ []))) (same vars x) ∙ ap (λ u. number_if (are_numbers (kind_in raw vars x ∷ u ∷ []))) (same vars y)
+        ap (λ u. number_if (are_numbers (u ∷ kind_in (bare flat_text) vars y ∷ []))) (same vars x) ∙ ap (λ u. number_if (are_numbers (kind_in flat_text vars x ∷ u ∷ []))) (same vars y)
     same vars (Compare' op o (more_of-FlatExpr x end_of-FlatExpr) p (more_of-FlatExpr y end_of-FlatExpr)) =
-        ap (λ u. number_if (compares op (common (u ∷ kind_in (bare raw) vars y ∷ [])))) (same vars x) ∙ ap (λ u. number_if (compares op (common (kind_in raw vars x ∷ u ∷ [])))) (same vars y)
+        ap (λ u. number_if (compares op (common (u ∷ kind_in (bare flat_text) vars y ∷ [])))) (same vars x) ∙ ap (λ u. number_if (compares op (common (kind_in flat_text vars x ∷ u ∷ [])))) (same vars y)
     same vars (Within' o (more_of-FlatExpr x end_of-FlatExpr) p (more_of-FlatExpr set end_of-FlatExpr)) =
-        ap (λ u. number_if (is_some (common (u ∷ looked_through (bare raw) vars set)))) (same vars x) ∙ ap (λ us. number_if (is_some (common (kind_in raw vars x ∷ us)))) (same_listed vars set)
+        ap (λ u. number_if (is_some (common (u ∷ looked_through (bare flat_text) vars set)))) (same vars x) ∙ ap (λ us. number_if (is_some (common (kind_in flat_text vars x ∷ us)))) (same_listed vars set)
     same vars (Sum' o (more_of-FlatExpr x end_of-FlatExpr) shape more) =
-        ap (λ u. number_if (are_numbers (u ∷ summands (bare raw) vars more))) (same vars x) ∙ ap (λ us. number_if (are_numbers (kind_in raw vars x ∷ us))) (same_summands vars more)
+        ap (λ u. number_if (are_numbers (u ∷ summands (bare flat_text) vars more))) (same vars x) ∙ ap (λ us. number_if (are_numbers (kind_in flat_text vars x ∷ us))) (same_summands vars more)
     same vars (Modulo' shape (more_of-FlatExpr e end_of-FlatExpr) by place) = ap (λ u. number_if (takes number u && nat_lt 0 by)) (same vars e)
     same vars (Choose' t (more_of-FlatExpr test end_of-FlatExpr) o (more_of-FlatExpr x end_of-FlatExpr) p (more_of-FlatExpr y end_of-FlatExpr)) =
-        ap (λ u. chosen u (kind_in (bare raw) vars x) (kind_in (bare raw) vars y)) (same vars test)
-        ∙ (ap (λ u. chosen (kind_in raw vars test) u (kind_in (bare raw) vars y)) (same vars x) ∙ ap (λ u. chosen (kind_in raw vars test) (kind_in raw vars x) u) (same vars y))
+        ap (λ u. chosen u (kind_in (bare flat_text) vars x) (kind_in (bare flat_text) vars y)) (same vars test)
+        ∙ (ap (λ u. chosen (kind_in flat_text vars test) u (kind_in (bare flat_text) vars y)) (same vars x) ∙ ap (λ u. chosen (kind_in flat_text vars test) (kind_in flat_text vars x) u) (same vars y))
     same vars (All' shape (more_of-FlatExpr body end_of-FlatExpr) var over place) =
-        ap (λ t. number_if (t && takes number (kind_in (bare raw) (inside vars over) body))) (same_binder vars var over) ∙ ap (λ u. number_if (is_binder raw vars var over && takes number u)) (same (inside vars over) body)
+        ap (λ t. number_if (t && takes number (kind_in (bare flat_text) (inside vars over) body))) (same_binder vars var over) ∙ ap (λ u. number_if (is_binder flat_text vars var over && takes number u)) (same (inside vars over) body)
     same vars (Any' shape (more_of-FlatExpr body end_of-FlatExpr) var over place) =
-        ap (λ t. number_if (t && takes number (kind_in (bare raw) (inside vars over) body))) (same_binder vars var over) ∙ ap (λ u. number_if (is_binder raw vars var over && takes number u)) (same (inside vars over) body)
+        ap (λ t. number_if (t && takes number (kind_in (bare flat_text) (inside vars over) body))) (same_binder vars var over) ∙ ap (λ u. number_if (is_binder flat_text vars var over && takes number u)) (same (inside vars over) body)
     same vars (List' shape members place) = refl
     same vars (Each' var over held place) = refl
 
-    same_each : {k : _} (vars : Vars) (row : Row_of-FlatExpr k) → kinds_in (bare raw) vars row ≡ kinds_in raw vars row
+    same_each : {k : _} (vars : Vars) (row : Row_of-FlatExpr k) → kinds_in (bare flat_text) vars row ≡ kinds_in flat_text vars row
     same_each vars end_of-FlatExpr = refl
-    same_each vars (more_of-FlatExpr e others) = ap (λ u. u ∷ kinds_in (bare raw) vars others) (same vars e) ∙ ap (λ us. kind_in raw vars e ∷ us) (same_each vars others)
+    same_each vars (more_of-FlatExpr e others) = ap (λ u. u ∷ kinds_in (bare flat_text) vars others) (same vars e) ∙ ap (λ us. kind_in flat_text vars e ∷ us) (same_each vars others)
 
-    same_summands : {k : _} (vars : Vars) (row : Row_of-FlatSigned k) → summands (bare raw) vars row ≡ summands raw vars row
+    same_summands : {k : _} (vars : Vars) (row : Row_of-FlatSigned k) → summands (bare flat_text) vars row ≡ summands flat_text vars row
     same_summands vars end_of-FlatSigned = refl
-    same_summands vars (more_of-FlatSigned minus e others) = ap (λ u. u ∷ summands (bare raw) vars others) (same vars e) ∙ ap (λ us. kind_in raw vars e ∷ us) (same_summands vars others)
+    same_summands vars (more_of-FlatSigned minus e others) = ap (λ u. u ∷ summands (bare flat_text) vars others) (same vars e) ∙ ap (λ us. kind_in flat_text vars e ∷ us) (same_summands vars others)
 
-    same_listed : (vars : Vars) (e : FlatExpr) → looked_through (bare raw) vars e ≡ looked_through raw vars e
+    same_listed : (vars : Vars) (e : FlatExpr) → looked_through (bare flat_text) vars e ≡ looked_through flat_text vars e
     same_listed vars (List' shape members place) = same_members vars members
     same_listed vars (Number value place) = refl
     same_listed vars (Read' family shape indexes place) = refl
@@ -80,23 +80,23 @@ module _ (raw : Raw) where
     same_listed vars (Any' shape body var over place) = refl
     same_listed vars (Each' var over held place) = refl
 
-    same_members : {k : _} (vars : Vars) (row : Row_of-FlatMember k) → members_in (bare raw) vars row ≡ members_in raw vars row
+    same_members : {k : _} (vars : Vars) (row : Row_of-FlatMember k) → members_in (bare flat_text) vars row ≡ members_in flat_text vars row
     same_members vars end_of-FlatMember = refl
-    same_members vars (more_of-FlatMember (One e) others) = ap (λ u. u ∷ members_in (bare raw) vars others) (same vars e) ∙ ap (λ us. kind_in raw vars e ∷ us) (same_members vars others)
+    same_members vars (more_of-FlatMember (One e) others) = ap (λ u. u ∷ members_in (bare flat_text) vars others) (same vars e) ∙ ap (λ us. kind_in flat_text vars e ∷ us) (same_members vars others)
     same_members vars (more_of-FlatMember (SpanOf span place) others) = ap (λ us. number_if (nat_le span.low span.high) ∷ us) (same_members vars others)
 
-  same_condition : (vars : Vars) (held : Held-FlatExpr-Each-2) → is_condition (bare raw) vars held ≡ is_condition raw vars held
+  same_condition : (vars : Vars) (held : Held-FlatExpr-Each-2) → is_condition (bare flat_text) vars held ≡ is_condition flat_text vars held
   same_condition vars None' = refl
   same_condition vars (Some' shape (more_of-FlatExpr test end_of-FlatExpr)) = ap (takes number) (same vars test)
 
-  pub same_value : (vars : Vars) (e : FlatExpr) → value_in (bare raw) vars e ≡ value_in raw vars e
+  pub same_value : (vars : Vars) (e : FlatExpr) → value_in (bare flat_text) vars e ≡ value_in flat_text vars e
   same_value vars (List' shape members place) = ap common (same_members vars members)
   same_value vars (Each' var over held place) =
-      ap (λ t. if t && is_condition (bare raw) (inside vars over) held then Some (kind_of over) else None) (same_binder vars var over)
-      ∙ ap (λ t. if is_binder raw vars var over && t then Some (kind_of over) else None) (same_condition (inside vars over) held)
+      ap (λ t. if t && is_condition (bare flat_text) (inside vars over) held then Some (kind_of over) else None) (same_binder vars var over)
+      ∙ ap (λ t. if is_binder flat_text vars var over && t then Some (kind_of over) else None) (same_condition (inside vars over) held)
   same_value vars (Choose' t (more_of-FlatExpr test end_of-FlatExpr) o (more_of-FlatExpr x end_of-FlatExpr) p (more_of-FlatExpr y end_of-FlatExpr)) =
-      ap (λ u. chosen u (value_in (bare raw) vars x) (value_in (bare raw) vars y)) (same vars test)
-      ∙ (ap (λ u. chosen (kind_in raw vars test) u (value_in (bare raw) vars y)) (same_value vars x) ∙ ap (λ u. chosen (kind_in raw vars test) (value_in raw vars x) u) (same_value vars y))
+      ap (λ u. chosen u (value_in (bare flat_text) vars x) (value_in (bare flat_text) vars y)) (same vars test)
+      ∙ (ap (λ u. chosen (kind_in flat_text vars test) u (value_in (bare flat_text) vars y)) (same_value vars x) ∙ ap (λ u. chosen (kind_in flat_text vars test) (value_in flat_text vars x) u) (same_value vars y))
   same_value vars (Number value place) = refl
   same_value vars (Read' family shape indexes place) = same vars (Read' family shape indexes place)
   same_value vars (Var var place) = refl
@@ -114,6 +114,6 @@ module _ (raw : Raw) where
   same_value vars (All' shape body var over place) = same vars (All' shape body var over place)
   same_value vars (Any' shape body var over place) = same vars (Any' shape body var over place)
 
-  pub same_list : (vars : Vars) (es : List FlatExpr) → map (kind_in (bare raw) vars) es ≡ map (kind_in raw vars) es
+  pub same_list : (vars : Vars) (es : List FlatExpr) → map (kind_in (bare flat_text) vars) es ≡ map (kind_in flat_text vars) es
   same_list vars [] = refl
-  same_list vars (e ∷ es) = ap (λ u. u ∷ map (kind_in (bare raw) vars) es) (same vars e) ∙ ap (λ us. kind_in raw vars e ∷ us) (same_list vars es)
+  same_list vars (e ∷ es) = ap (λ u. u ∷ map (kind_in (bare flat_text) vars) es) (same vars e) ∙ ap (λ us. kind_in flat_text vars e ∷ us) (same_list vars es)

@@ -4,7 +4,7 @@ use Rattle.std.specs.List.{flat_map, slice_get}
 use Rattle.std.proofs.lemmas.Simd.{map-map}
 use Rattle.smv_core.specs.Values.{Value, number, scalar, ordinal, values_of, numbers_from}
 use Rattle.smv_core.specs.Values as values
-use Rattle.smv_core.specs.Flat.{set_type}
+use Rattle.smv_core.specs.FlatMeaning.{set_type}
 use Rattle.smv_core.specs.declared.flat.Family.{Family}
 use Rattle.smv_core.specs.declared.flat.Simple.{Simple}
 use Rattle.smv_core.specs.declared.flat.Simple.TheVariants.{Range, Enum, Set}

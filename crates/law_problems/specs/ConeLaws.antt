@@ -2,7 +2,7 @@
 use Rattle.std.specs.Prelude.{◌≡◌, ◌≤◌, ◌+◌, ℕ, List, [], ◌++◌, map, length, slice_get, Some, Bool, true, false}
 use Rattle.smv_core.specs.Assignments.{Index}
 use Rattle.smv_core.specs.declared.flat.Simple.{Simple}
-use Rattle.smv_core.specs.declared.flat.Flat.{Flat}
+use Rattle.smv_core.specs.declared.flat.DefBody.{DefBody}
 use Rattle.law_obligations.specs.Sets.{Has, one_of_each}
 use Rattle.law_obligations.specs.Places.{Place, World, named_in}
 use Rattle.law_obligations.specs.Covers.{IsIndexType}
@@ -40,7 +40,7 @@ FoundHasNoMoreBits = (w : World) (found all : List AbsElement) → AreApartEleme
 
 -- a part of a definition in which no assignment counts reads nothing
 abbrev pub UncountedReadsNothing : Type 0 → Type 0
-UncountedReadsNothing X = (every places : Simple → List Place) (counts : List Index → List Place → Bool) (read : ℕ → List Index → List Place → List X) (part : Flat) (b : List Place) →
+UncountedReadsNothing X = (every places : Simple → List Place) (counts : List Index → List Place → Bool) (read : ℕ → List Index → List Place → List X) (part : DefBody) (b : List Place) →
     has_counting every counts part b ≡ false → part_reads every counts places read part b ≡ []
 
 -- the numbers and classes of an index type are written as those of its world

@@ -1,7 +1,7 @@
 -- The laws: what the crate's public functions say.
 use Rattle.std.specs.Prelude.{◌≡◌, List, true, slice_get, Some}
 use Rattle.smv_core.specs.Values.{Name}
-use Rattle.smv_core.specs.Flat.{Numbered}
+use Rattle.smv_core.specs.FlatMeaning.{Numbered}
 use Rattle.smv_core.specs.declared.flat.Simple.{Simple}
 use Rattle.smv_core.specs.declared.flat.SetInfo.{SetInfo}
 use Rattle.law_obligations.specs.Sets.{Has}

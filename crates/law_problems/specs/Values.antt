@@ -1,7 +1,7 @@
 -- Values as they are written: when a place is of a kind, and how written values compare.
 use Rattle.std.specs.Prelude.{◌≡◌, ℕ, List, [], ◌∷◌, get_or, slice_get, Some, None, Bool, true, false, not, if◌then◌else◌, nat_eq, nat_lt}
 use Rattle.smv_core.specs.Values.{Name, Value, number, constant, scalar, ordinal, Truth}
-use Rattle.smv_core.specs.Flat.{Numbered}
+use Rattle.smv_core.specs.FlatMeaning.{Numbered}
 use Rattle.smv_core.specs.declared.flat.SetInfo.{SetInfo}
 use Rattle.law_obligations.specs.Sets.{Has}
 use Rattle.law_obligations.specs.Places.{Place, named, rest, unsure}

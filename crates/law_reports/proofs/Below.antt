@@ -11,7 +11,7 @@ use Rattle.law_obligations.specs.May.{AbsState}
 use Rattle.law_obligations.specs.Obligations.{Demanded, is_met, obligation}
 use Rattle.law_obligations.proofs.Members.{Has-cases, Has-from_map}
 use Rattle.law_obligations.proofs.Lookups.{Has-from_filter}
-use Rattle.law_obligations.specs.Readings.{Case, Slot, is_value, slots, state_bits, reading}
+use Rattle.law_obligations.specs.Readings.{PosedCase, Slot, is_value, slots, state_bits, reading}
 use Rattle.law_reports.specs.CaseLists.{current, next, those_of, moves, moving_first, met_first, met_step, element_first, element_step, claims, before_in_step, case_lists, old_state, new_state}
 use Rattle.law_obligations.proofs.ReadBack.{reading_agree, code_of_agree}
 
@@ -33,7 +33,7 @@ current_free b a = λ i k. at_each k i
 is_current : (g : State → Bool) → IsCurrent (λ a. g (current a))
 is_current g b a = ap g (current_free b a)
 
-module _ (c : Case) where
+module _ (c : PosedCase) where
   abbrev Agree : (ℕ → Bool) → (ℕ → Bool) → Type 0
   Agree a d = (v : ℕ) → v < 2 * state_bits c → a v ≡ d v
 

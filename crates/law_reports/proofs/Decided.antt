@@ -13,12 +13,12 @@ use Rattle.smv_rings.proofs.PathLaws.{violating_of, violates_of}
 use Rattle.smv_search.specs.declared.Outcome.{Outcome}
 use Rattle.smv_search.specs.declared.Outcome.TheVariants.{Closed, Reaches, OutOfNodes, OutOfSteps}
 use Rattle.smv_search.specs.Answers.{Answers}
-use Rattle.smv_search.specs.Verdict.{Budget, Verdict, IsVerdict}
-use Rattle.smv_search.specs.Verdict.Verdict.{Reached, Shut}
+use Rattle.smv_search.specs.Events.{Budget, Event, IsFirstEvent}
+use Rattle.smv_search.specs.Events.Event.{Reached, Shut}
 use Rattle.smv_search.proofs.Unique.{first_once}
 use Rattle.smv_rings.specs.Schedule.{schedule}
 use Rattle.smv_search.proofs.Meaning.{true_means, false_means}
-use Rattle.law_obligations.specs.Readings.{Case, IsCase}
+use Rattle.law_obligations.specs.Readings.{PosedCase, IsCase}
 use Rattle.law_obligations.specs.CasePaths.{HasNone, IsShortest}
 use Rattle.law_reports.specs.CaseLists.{case_lists}
 use Rattle.law_reports.specs.ListLaws.{readings}
@@ -34,7 +34,7 @@ use Rattle.law_reports.specs.VerdictLaws.{Says}
 abbrev budget : Lists → ℕ → ℕ → Budget
 budget l nodes images = record { vars = 2 * l.bits; nodes = nodes; images = images }
 
-one : (l : Lists) (nodes images : ℕ) (v w : Verdict) → IsVerdict l nodes images v → IsVerdict l nodes images w → v ≡ w
+one : (l : Lists) (nodes images : ℕ) (v w : Event) → IsFirstEvent l nodes images v → IsFirstEvent l nodes images w → v ≡ w
 one l nodes images v w a b = first_once (budget l nodes images) (schedule l images) v w a b
 
 true_false : {b : Bool} → b ≡ true → b ≡ false → ⊥
@@ -42,7 +42,7 @@ true_false e f = cc
 
 module _ (lists : List Class → Lists) (nodes images : ℕ) where
   -- a case is not true and something else
-  clash : (classes : List Class) (v : Verdict) → IsTrueCase lists nodes images classes → IsVerdict (lists classes) nodes images v → is_shut v ≡ false → ⊥
+  clash : (classes : List Class) (v : Event) → IsTrueCase lists nodes images classes → IsFirstEvent (lists classes) nodes images v → is_shut v ≡ false → ⊥
   clash classes v t is not = true_false (ap is_shut (one (lists classes) nodes images v (Shut t.0) is t.1)) not
 
   head_is : {X : Type 0} {x y : X} {xs ys : List X} → x ∷ xs ≡ y ∷ ys → x ≡ y
@@ -51,12 +51,12 @@ module _ (lists : List Class → Lists) (nodes images : ℕ) where
   tail_is : {X : Type 0} {x y : X} {xs ys : List X} → x ∷ xs ≡ y ∷ ys → xs ≡ ys
   tail_is e = cc
 
-  same_first : (before others : List (List Class)) (c d : List Class) (behind more : List (List Class)) (v w : Verdict) → before ++ (c ∷ behind) ≡ others ++ (d ∷ more) →
-      AreTrueCases lists nodes images before → AreTrueCases lists nodes images others → IsVerdict (lists c) nodes images v → is_shut v ≡ false → IsVerdict (lists d) nodes images w → is_shut w ≡ false →
+  same_first : (before others : List (List Class)) (c d : List Class) (behind more : List (List Class)) (v w : Event) → before ++ (c ∷ behind) ≡ others ++ (d ∷ more) →
+      AreTrueCases lists nodes images before → AreTrueCases lists nodes images others → IsFirstEvent (lists c) nodes images v → is_shut v ≡ false → IsFirstEvent (lists d) nodes images w → is_shut w ≡ false →
       fails c v ≡ fails d w
   same_first [] [] c d behind more v w e tb to iv nv iw nw =
       let same : c ≡ d = head_is e in
-      let verdict : v ≡ w = one (lists d) nodes images v w (subst (λ (x : List Class). IsVerdict (lists x) nodes images v) same iv) iw in
+      let verdict : v ≡ w = one (lists d) nodes images v w (subst (λ (x : List Class). IsFirstEvent (lists x) nodes images v) same iv) iw in
       ap (λ (x : List Class). fails x v) same ∙ ap (fails d) verdict
   same_first [] (x ∷ others) c d behind more v w e tb to iv nv iw nw =
       absurd (clash c v (subst (IsTrueCase lists nodes images) (sym (head_is e)) (to x first)) iv nv)
@@ -87,13 +87,13 @@ module _ (s : Script) (nodes images : ℕ) where
 
 -- ---- what verdicts say
 
-module _ (c : Case) (is : IsCase c) (nodes images : ℕ) where
-  pub shut_none : (k : ℕ) → IsVerdict (case_lists c) nodes images (Shut k) → HasNone c.problem
+module _ (c : PosedCase) (is : IsCase c) (nodes images : ℕ) where
+  pub shut_none : (k : ℕ) → IsFirstEvent (case_lists c) nodes images (Shut k) → HasNone c.problem
   shut_none k v =
       let means = true_means (case_lists c) (budget (case_lists c) nodes images) (are_lists c) images k v in
       none_is_none c is (λ j path p. means.1 j (path j) (violates_of (case_lists c) j path p))
 
-  pub reached_shortest : (k : ℕ) → IsVerdict (case_lists c) nodes images (Reached k) → (path : List AbsState) × IsShortest c.problem k path
+  pub reached_shortest : (k : ℕ) → IsFirstEvent (case_lists c) nodes images (Reached k) → (path : List AbsState) × IsShortest c.problem k path
   reached_shortest k v =
       let means = false_means (case_lists c) (budget (case_lists c) nodes images) (are_lists c) images k v in
       let path = violating_of (case_lists c) k means.0.0 means.0.1 in

@@ -13,7 +13,7 @@ use Rattle.law_obligations.proofs.OneOfEach.{Has-from_flat_map}
 use Rattle.law_obligations.specs.Cones.{AbsElement, element, same_element}
 use Rattle.law_obligations.proofs.Lookups.{Has-filter, Has-from_filter}
 use Rattle.law_obligations.proofs.ConeFacts.{same_element-itself}
-use Rattle.law_obligations.specs.Readings.{Case, IsCase, Slot, is_value, slots, are_values, reading}
+use Rattle.law_obligations.specs.Readings.{PosedCase, IsCase, Slot, is_value, slots, are_values, reading}
 use Rattle.law_reports.specs.CaseLists.{current, next, defines, is_claim, those_of, moves, moving_first, met_first, met_step, element_first, element_step, claims, before_in_step, case_lists}
 use Rattle.law_obligations.proofs.ReadBack.{slot_of}
 use Rattle.law_reports.proofs.Below.{in_slots}
@@ -43,7 +43,7 @@ each_holds : (fs : List Function) (a : ℕ → Bool) → ((f : Function) → Has
 each_holds [] a each = refl
 each_holds (f ∷ fs) a each = and_both (each f first) (each_holds fs a (λ g h. each g (later h)))
 
-module _ (c : Case) (is : IsCase c) where
+module _ (c : PosedCase) (is : IsCase c) where
   slots_in : (demands : List Demanded) (slot : Slot) → Has (slots c) slot → Has (moving_first demands (slots c)) slot
   slots_in demands slot h = elim (true_or_false (moves demands slot)) [
     | inl e ↦ Has-left (filter (λ slot. not (moves demands slot)) (slots c)) (Has-filter (moves demands) h e)

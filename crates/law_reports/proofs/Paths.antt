@@ -12,7 +12,7 @@ use Rattle.law_obligations.specs.Circular.{always, is_violating}
 use Rattle.law_obligations.specs.Obligations.{obligation}
 use Rattle.law_obligations.proofs.Tests.{and_both, left_of, right_of, true_or_false}
 use Rattle.law_obligations.proofs.Members.{Has-cases}
-use Rattle.law_obligations.specs.Readings.{Case, IsCase, are_values, reading}
+use Rattle.law_obligations.specs.Readings.{PosedCase, IsCase, are_values, reading}
 use Rattle.law_obligations.specs.CasePaths.{AreAbsStates, IsViolatingPath, HasNone, IsShortest, last_of, states_from, IsInRing, IsInvariant}
 use Rattle.law_obligations.proofs.ReadBack.{reading_is_state, state_is_read}
 use Rattle.law_obligations.proofs.Listed.{before_at, Violating, to_list, from_list, at_time, each_time, length_states, Has_states, states_of_list, last_more, length_more, always_more}
@@ -23,7 +23,7 @@ use Rattle.law_reports.proofs.Means.{current_both, first_to, first_from, before_
 some_is : {X : Type 0} {x y : X} → Some x ≡ Some y → x ≡ y
 some_is e = cc
 
-module _ (c : Case) (is : IsCase c) where
+module _ (c : PosedCase) (is : IsCase c) where
   abbrev now_met : Option AbsState → AbsState → Bool
   now_met old now = (obligation c.problem).now old now
 

@@ -14,7 +14,7 @@ use Rattle.law_obligations.specs.LeafCases.{leaf_cases}
 use Rattle.law_obligations.specs.Outlines.{Entry, Outline, Script, entries_of, outline_of}
 use Rattle.law_obligations.specs.Units.{units_of, script_of}
 use Rattle.law_obligations.specs.Times.{graph, timed, timed_from, all_timed}
-use Rattle.law_obligations.specs.Readings.{Case}
+use Rattle.law_obligations.specs.Readings.{PosedCase}
 use Rattle.law_obligations.specs.Scripts.{case_of, case_at, classes_of}
 use Rattle.smv_problem.specs.declared.report.Verdict.{Verdict}
 use Rattle.smv_problem.specs.declared.report.Verdict.TheVariants.{True, False, UnknownNodes, UnknownSteps}
@@ -87,4 +87,4 @@ module _ (d : Design) (leaves : List Leaf) (choices : List Choice) (u : ℕ) (le
     pub told_is : (nodes images : ℕ) (verdict : Verdict) → IsToldBy (case_with d leaf choice times) nodes images (leaf_cases d.sets leaf.params choice.keeps) verdict → IsToldOf (script_of d leaves choices) nodes images u (entry_of d leaf choice) verdict
     told_is nodes images verdict told =
         told_same s u (entry_of d leaf choice) nodes images verdict
-        (subst (λ (case_for : List Class → Case). IsToldBy case_for nodes images (leaf_cases d.sets leaf.params choice.keeps) verdict) (λ i classes. case_is classes i) told)
+        (subst (λ (case_for : List Class → PosedCase). IsToldBy case_for nodes images (leaf_cases d.sets leaf.params choice.keeps) verdict) (λ i classes. case_is classes i) told)

@@ -7,7 +7,7 @@ use Rattle.law_obligations.specs.May.{AbsState}
 use Rattle.law_obligations.specs.Obligations.{Demanded, defined, holds, is_met, obligation}
 use Rattle.law_obligations.specs.Cones.{AbsElement, element, same_element}
 use Rattle.smv_rings.specs.Lists.{Lists, State}
-use Rattle.law_obligations.specs.Readings.{Case, Slot, is_value, slots, state_bits, reading}
+use Rattle.law_obligations.specs.Readings.{PosedCase, Slot, is_value, slots, state_bits, reading}
 
 -- the current and the next bits of an assignment
 abbrev pub current : (ℕ → Bool) → State
@@ -42,7 +42,7 @@ moves demands slot = list_any is_by_next (those_of demands slot.element)
 abbrev pub moving_first : List Demanded → List Slot → List Slot
 moving_first demands slots = filter (moves demands) slots ++ filter (λ slot. not (moves demands slot)) slots
 
-module _ (c : Case) where
+module _ (c : PosedCase) where
   -- the states that an assignment is read as
   abbrev pub old_state : (ℕ → Bool) → AbsState
   old_state a = reading c (current a)

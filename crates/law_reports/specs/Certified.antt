@@ -11,7 +11,7 @@ use Rattle.smv_search.specs.Keeping.{KeepsRefs}
 use Rattle.smv_search.specs.Answers.{Answers, IsProof, found}
 
 -- the check may be called of the set in this store, and is true of it
-pub record Passes (d : Diagram) (rel : Rel) (set : Ref) : Type 0 where
+pub record PassesCheck (d : Diagram) (rel : Rel) (set : Ref) : Type 0 where
   pub rel_is : IsRel d rel
   pub live : IsLive d set
   pub current : IsCurrent (table d set)
@@ -21,4 +21,4 @@ pub record Passes (d : Diagram) (rel : Rel) (set : Ref) : Type 0 where
 abbrev pub ClosedSetsPass : Type 0
 ClosedSetsPass = (old new : Diagram) (rel : Rel) (nodes images : ℕ) (set : Ref) → IsRel old rel → KeepsRefs old new (refs_of rel) →
     ((r : Ref) → IsOneOf r (found (Closed set)) → IsLive new r) → Answers new (lists_of old rel) nodes images (Closed set) → IsProof new (lists_of old rel) nodes (Closed set) →
-    Passes new rel set
+    PassesCheck new rel set

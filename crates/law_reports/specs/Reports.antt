@@ -5,8 +5,8 @@ use Rattle.law_obligations.specs.Sets.{Has}
 use Rattle.law_obligations.specs.May.{AbsState}
 use Rattle.law_obligations.specs.Outlines.{Entry, Script, unit_in}
 use Rattle.law_splits.specs.Leaves.{name_of}
-use Rattle.smv_search.specs.Verdict.Verdict.{Counted, Reached, Images}
-use Rattle.law_obligations.specs.Readings.{Case}
+use Rattle.smv_search.specs.Events.Event.{Counted, Reached, Images}
+use Rattle.law_obligations.specs.Readings.{PosedCase}
 use Rattle.law_obligations.specs.CasePaths.{IsShortest}
 use Rattle.law_obligations.specs.Scripts.{case_at}
 use Rattle.smv_problem.specs.declared.problem.AbsState.{AbsState as StateData}
@@ -18,7 +18,7 @@ use Rattle.smv_problem.specs.Written.{written_element, written_state}
 use Rattle.law_reports.specs.Verdicts.{LeafVerdict, all_true, fails, IsUnitVerdict}
 
 -- a shortest violating path of a case, written as data
-pub record IsShown (c : Case) (steps : ℕ) (elements : List Element) (path : List StateData) : Type 0 where
+pub record IsShown (c : PosedCase) (steps : ℕ) (elements : List Element) (path : List StateData) : Type 0 where
   pub states : List AbsState
   pub is_shortest : IsShortest c.problem steps states
   pub elements_are : elements ≡ map written_element c.elements

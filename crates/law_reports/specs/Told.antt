@@ -2,8 +2,8 @@
 use Rattle.std.specs.Prelude.{ℕ, List}
 use Rattle.smv_core.specs.declared.flat.Class.{Class}
 use Rattle.smv_rings.specs.Lists.{Lists}
-use Rattle.smv_search.specs.Verdict.Verdict.{Counted, Reached, Images}
-use Rattle.law_obligations.specs.Readings.{Case}
+use Rattle.smv_search.specs.Events.Event.{Counted, Reached, Images}
+use Rattle.law_obligations.specs.Readings.{PosedCase}
 use Rattle.law_reports.specs.CaseLists.{case_lists}
 use Rattle.smv_problem.specs.declared.report.Verdict.{Verdict}
 use Rattle.smv_problem.specs.declared.report.Verdict.TheVariants.{True, False, UnknownNodes, UnknownSteps}
@@ -11,7 +11,7 @@ use Rattle.law_reports.specs.Verdicts.{AreTrueCases, FailsFirst}
 use Rattle.law_reports.specs.Reports.{IsShown}
 
 -- where each case, with its elements, is known by its classes, and for budgets of nodes and of images
-module _ (case_for : List Class → Case) (nodes images : ℕ) where
+module _ (case_for : List Class → PosedCase) (nodes images : ℕ) where
   abbrev pub lists_for : List Class → Lists
   lists_for classes = case_lists (case_for classes)
 

@@ -3,13 +3,13 @@ use Rattle.std.specs.Prelude.{◌≡◌, ℕ, List}
 use Rattle.bdd_store.specs.Diagram.{Diagram}
 use Rattle.law_obligations.specs.May.{AbsState}
 use Rattle.law_obligations.specs.Outlines.{Entry, Script}
-use Rattle.law_obligations.specs.Checked.{IsChecked, IsProved, IsSound}
+use Rattle.law_obligations.specs.Checked.{IsChecked, IsProved, IsSoundScript}
 use Rattle.smv_search.specs.declared.Outcome.{Outcome}
 use Rattle.smv_search.specs.declared.Outcome.TheVariants.{Closed, Reaches, OutOfNodes, OutOfSteps}
 use Rattle.smv_search.specs.Answers.{Answers}
-use Rattle.smv_search.specs.Verdict.{IsVerdict}
-use Rattle.smv_search.specs.Verdict.Verdict.{Reached, Shut}
-use Rattle.law_obligations.specs.Readings.{Case, IsCase}
+use Rattle.smv_search.specs.Events.{IsFirstEvent}
+use Rattle.smv_search.specs.Events.Event.{Reached, Shut}
+use Rattle.law_obligations.specs.Readings.{PosedCase, IsCase}
 use Rattle.law_obligations.specs.CasePaths.{HasNone, IsShortest}
 use Rattle.law_reports.specs.CaseLists.{case_lists}
 use Rattle.law_obligations.specs.Scripts.{HaveValues}
@@ -25,21 +25,21 @@ OneVerdictEach = (s : Script) (nodes images : ℕ) (vs ws : List LeafVerdict) �
 
 -- where two rings of a case are equal before a path is found, its problem has no violating path
 abbrev pub ShutCasesHaveNone : Type 0
-ShutCasesHaveNone = (c : Case) → IsCase c → (nodes images k : ℕ) → IsVerdict (case_lists c) nodes images (Shut k) → HasNone c.problem
+ShutCasesHaveNone = (c : PosedCase) → IsCase c → (nodes images k : ℕ) → IsFirstEvent (case_lists c) nodes images (Shut k) → HasNone c.problem
 
 -- where a violating path of k steps is found, its problem has one, and none of fewer steps
 abbrev pub ReachedCasesHaveShortest : Type 0
-ReachedCasesHaveShortest = (c : Case) → IsCase c → (nodes images k : ℕ) → IsVerdict (case_lists c) nodes images (Reached k) → (path : List AbsState) × IsShortest c.problem k path
+ReachedCasesHaveShortest = (c : PosedCase) → IsCase c → (nodes images k : ℕ) → IsFirstEvent (case_lists c) nodes images (Reached k) → (path : List AbsState) × IsShortest c.problem k path
 
 -- what a search over the lists of a case answers says so of its problem
-abbrev pub Says : Case → Outcome → Type 0
+abbrev pub Says : PosedCase → Outcome → Type 0
 Says c (Closed set) = HasNone c.problem
 Says c (Reaches depth rings) = (path : List AbsState) × IsShortest c.problem depth path
 Says c (OutOfNodes count) = Unit {0}
 Says c OutOfSteps = Unit {0}
 
 abbrev pub SearchesDecide : Type 0
-SearchesDecide = (c : Case) → IsCase c → (d : Diagram) (nodes images : ℕ) (o : Outcome) → Answers d (case_lists c) nodes images o → Says c o
+SearchesDecide = (c : PosedCase) → IsCase c → (d : Diagram) (nodes images : ℕ) (o : Outcome) → Answers d (case_lists c) nodes images o → Says c o
 
 -- a checked script whose units are all true is proved
 abbrev pub TrueScriptsAreProved : Type 0
@@ -47,4 +47,4 @@ TrueScriptsAreProved = (s : Script) → IsChecked s → HaveValues s.design → 
 
 -- and sound
 abbrev pub TrueScriptsAreSound : Type 0
-TrueScriptsAreSound = (s : Script) → IsChecked s → HaveValues s.design → (nodes images : ℕ) (verdicts : List LeafVerdict) → AreVerdicts s nodes images verdicts → AllTrue verdicts → IsSound s
+TrueScriptsAreSound = (s : Script) → IsChecked s → HaveValues s.design → (nodes images : ℕ) (verdicts : List LeafVerdict) → AreVerdicts s nodes images verdicts → AllTrue verdicts → IsSoundScript s

@@ -4,18 +4,18 @@ use Rattle.smv_core.specs.declared.flat.Class.{Class}
 use Rattle.law_obligations.specs.Sets.{Has}
 use Rattle.law_obligations.specs.Outlines.{Entry, Script}
 use Rattle.smv_rings.specs.Lists.{Lists}
-use Rattle.smv_search.specs.Verdict.{Verdict, IsVerdict}
-use Rattle.smv_search.specs.Verdict.Verdict.{Counted, Reached, Shut, Images}
+use Rattle.smv_search.specs.Events.{Event, IsFirstEvent}
+use Rattle.smv_search.specs.Events.Event.{Counted, Reached, Shut, Images}
 use Rattle.law_reports.specs.CaseLists.{case_lists}
 use Rattle.law_obligations.specs.Scripts.{case_at, classes_of}
 
 -- true, or the first case that is not and what is decided of it
 pub data LeafVerdict : Type 0 where
   all_true : LeafVerdict
-  fails : List Class → Verdict → LeafVerdict
+  fails : List Class → Event → LeafVerdict
 
 -- no violating path exists
-abbrev pub is_shut : Verdict → Bool
+abbrev pub is_shut : Event → Bool
 is_shut (Shut k) = true
 is_shut (Counted n) = false
 is_shut (Reached k) = false
@@ -24,18 +24,18 @@ is_shut Images = false
 -- for cases, by the lists of functions of each, and for budgets of nodes and of images
 module _ (lists : List Class → Lists) (nodes images : ℕ) where
   abbrev pub IsTrueCase : List Class → Type 0
-  IsTrueCase classes = (k : ℕ) × IsVerdict (lists classes) nodes images (Shut k)
+  IsTrueCase classes = (k : ℕ) × IsFirstEvent (lists classes) nodes images (Shut k)
 
   abbrev pub AreTrueCases : List (List Class) → Type 0
   AreTrueCases cases = (classes : List Class) → Has cases classes → IsTrueCase classes
 
   -- the first case that is not true
-  pub record FailsFirst (cases : List (List Class)) (classes : List Class) (v : Verdict) : Type 0 where
+  pub record FailsFirst (cases : List (List Class)) (classes : List Class) (v : Event) : Type 0 where
     pub before : List (List Class)
     pub behind : List (List Class)
     pub stands : cases ≡ before ++ (classes ∷ behind)
     pub are_true : AreTrueCases before
-    pub is_verdict : IsVerdict (lists classes) nodes images v
+    pub is_verdict : IsFirstEvent (lists classes) nodes images v
     pub is_not : is_shut v ≡ false
 
   -- the verdict of a leaf with these cases

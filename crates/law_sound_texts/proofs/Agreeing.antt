@@ -7,7 +7,7 @@ use Rattle.smv_core.specs.Values.{Value, number, constant, scalar, ordinal, Outc
 use Rattle.smv_core.specs.Outcome.{branch, fit, is_true}
 use Rattle.smv_core.specs.Walk.{is_other}
 use Rattle.smv_core.specs.Assignments.{Index, fixed, bare, computed, add_fixed, modulo_fixed, fits}
-use Rattle.smv_core.specs.Flat.{Numbered, FlatState, FlatBindings, bind, values_in, flat_index, flat_index_sum, flat_element_at, flat_outcome, flat_outcomes, flat_sum, flat_listed, flat_members, flat_meets, flat_allowed_by}
+use Rattle.smv_core.specs.FlatMeaning.{Numbered, FlatState, FlatBindings, bind, values_in, flat_index, flat_index_sum, flat_element_at, flat_outcome, flat_outcomes, flat_sum, flat_listed, flat_members, flat_meets, flat_allowed_by}
 use Rattle.smv_core.specs.declared.flat.Simple.{Simple as FlatSimple}
 use Rattle.smv_core.specs.declared.flat.Family.{Family}
 use Rattle.smv_core.specs.declared.flat.FlatMember.{One, Span as SpanOf}

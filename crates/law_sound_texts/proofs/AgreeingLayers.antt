@@ -1,15 +1,15 @@
 -- The map of the text whose layers agree: each run keeps the base definition, which says the same.
 use Rattle.std.proofs.Common.{◌≡◌, List, [], ◌∷◌, Option, Some, None, true, All, arith, codes}
 use Rattle.smv_core.specs.Values.{Value, Sizes}
-use Rattle.smv_core.specs.FlatOrder.{Design, design_of}
+use Rattle.smv_core.specs.FlatOrder.{TextDesign, design_of}
 use Rattle.smv_core.specs.Outcome.{State}
 use Rattle.smv_core.specs.Sound.{AtEachTime, MeetsBase, Holds, IsRun, instances, map_of, units}
-use Rattle.smv_core.specs.Flat.{FlatState}
+use Rattle.smv_core.specs.FlatMeaning.{FlatState}
 use Rattle.smv_core.specs.declared.flat.Design.{Design as FlatDesign}
 use Rattle.smv_core.specs.declared.flat.Unit.{Unit as DesignUnit}
 use Rattle.smv_core.specs.declared.flat.Unit.TheVariants.{Map}
 use Rattle.law_designs.specs.Flattening.{flatten}
-use Rattle.law_designs.specs.Definitions.{design_of_raw}
+use Rattle.law_designs.specs.Definitions.{design_of_flat_text}
 use Rattle.law_obligations.specs.Sets.{Has, first, later}
 use Rattle.law_obligations.specs.Circular.{always}
 use Rattle.law_obligations.specs.Soundness.{at_sizes, is_held, meets_base}
@@ -23,11 +23,11 @@ use Rattle.law_sound_texts.proofs.Times.{always-gives}
 use Rattle.law_sound_texts.proofs.WorkedTexts.{computing}
 use Rattle.law_sound_texts.proofs.WorkedText.{all-one}
 
-abbrev d : Design
+abbrev d : TextDesign
 d = design_of agreeing_layers
 
 abbrev f : FlatDesign
-f = design_of_raw (flatten agreeing_layers)
+f = design_of_flat_text (flatten agreeing_layers)
 
 each-time : (P Q : Option State → State → Type 0) → ((before : Option State) (s : State) → P before s → Q before s) → (before : Option State) (run : List State) → AtEachTime P before run → AtEachTime Q before run
 each-time P Q gives before [] h = tt

@@ -3,21 +3,21 @@ use Rattle.std.proofs.Common.{◌≡◌, List, [], ◌∷◌, map, Option, Some,
 use Rattle.std.specs.List.{list_all, AllZip}
 use Rattle.smv_core.specs.Values.{Name, Value, Sizes}
 use Rattle.smv_core.specs.Types.{Family}
-use Rattle.smv_core.specs.FlatOrder.{Design, design_of}
+use Rattle.smv_core.specs.FlatOrder.{TextDesign, design_of}
 use Rattle.smv_core.specs.Outcome.{State}
 use Rattle.smv_core.specs.Walk.{Element}
 use Rattle.smv_core.specs.Allowed.{Base, base_of, layer_that_defines, allowed, allowed_by_base, every_value}
 use Rattle.smv_core.specs.Sound.{indexes_in, AtEachTime, IsTyped, MeetsBase, IsRun}
-use Rattle.smv_core.specs.Flat.{Numbered, FlatState, flat_allowed}
+use Rattle.smv_core.specs.FlatMeaning.{Numbered, FlatState, flat_allowed}
 use Rattle.smv_core.specs.declared.tree.Text.{Text}
 use Rattle.smv_core.specs.declared.flat.Def.{Def}
 use Rattle.smv_core.specs.declared.flat.Design.{Design as FlatDesign}
 use Rattle.smv_core.specs.declared.flat.Family.{Family as FlatFamily}
-use Rattle.smv_core.specs.declared.flat.Raw.{Raw}
+use Rattle.smv_core.specs.declared.flat.FlatText.{FlatText}
 use Rattle.law_designs.specs.Flattening.{flatten, layer_number}
 use Rattle.law_designs.specs.Agreement.{AreSameStates, IsSameFamily, numbers_in}
-use Rattle.law_designs.specs.RawAllowed.{AreSameBefore}
-use Rattle.law_designs.specs.Definitions.{design_of_raw}
+use Rattle.law_designs.specs.FlatTextAllowed.{AreSameBefore}
+use Rattle.law_designs.specs.Definitions.{design_of_flat_text}
 use Rattle.law_designs.specs.Laws.{AllowsAsTheText}
 use Rattle.law_obligations.specs.Sets.{Has}
 use Rattle.law_obligations.specs.Circular.{always}
@@ -43,15 +43,15 @@ module _ (text : Text) (sizes : Sizes) (families : AllZip (IsSameFamily (numbers
   same_texts (t ∷ ts) = (text_same text sizes families found t, same_texts ts)
 
 module _ (text : Text) (sizes : Sizes) (families : AllZip (IsSameFamily (numbers_in text sizes)) (flatten text).families (design_of text).families) (found : FamiliesAreFound text)
-    (allows : All (AllowsAsTheText text) (design_of_raw (flatten text)).defs) (faultless : IsFaultless (design_of_raw (flatten text))) (layers : LayersAreSame text) where
-  abbrev d : Design
+    (allows : All (AllowsAsTheText text) (design_of_flat_text (flatten text)).defs) (faultless : IsFaultless (design_of_flat_text (flatten text))) (layers : LayersAreSame text) where
+  abbrev d : TextDesign
   d = design_of text
 
-  abbrev raw : Raw
-  raw = flatten text
+  abbrev flat_text : FlatText
+  flat_text = flatten text
 
   abbrev f : FlatDesign
-  f = design_of_raw (flatten text)
+  f = design_of_flat_text (flatten text)
 
   abbrev n : Numbered
   n = numbers_in text sizes
@@ -59,7 +59,7 @@ module _ (text : Text) (sizes : Sizes) (families : AllZip (IsSameFamily (numbers
   abbrev carried : State → FlatState
   carried = to_flat text sizes families found
 
-  its_layer : (def : Def) → IsBase f def → (h : Family) → slice_get d.families def.family ≡ Some h → (g : FlatFamily) → slice_get raw.families def.family ≡ Some g → IsSameFamily n g h → ItsLayer text h def
+  its_layer : (def : Def) → IsBase f def → (h : Family) → slice_get d.families def.family ≡ Some h → (g : FlatFamily) → slice_get flat_text.families def.family ≡ Some g → IsSameFamily n g h → ItsLayer text h def
   its_layer def base h e g there same = by_abstract h.is_abstract refl
     where
       by_bases : (l : Base) (o : Option Def) → base_of d h ≡ l → o ≡ Some def → IsSameLayer text l o → ItsLayer text h def
@@ -89,9 +89,9 @@ module _ (text : Text) (sizes : Sizes) (families : AllZip (IsSameFamily (numbers
       let one : Contains (allowed_by_base d sizes r.0 x before s) (s r.0.path vs) = All-each (λ vs. Contains (allowed_by_base d sizes r.0 (record { path = r.0.path; indexes = vs }) before s) (s r.0.path vs)) (indexes_in sizes r.0) vs all over in
       let l : ItsLayer text r.0 def = its_layer def base r.0 r.1 base.its_family base.is_there r.2 in
       let text_has : Has (allowed d sizes l.0 x before s) (s r.0.path vs) = subst (λ o. Has (by_layer x o) (s r.0.path vs)) l.1 (Contains-Has (allowed_by_base d sizes r.0 x before s) (s r.0.path vs) one) in
-      let same : flat_allowed n def (record { family = def.family; indexes = vs }) (values_of_family n (slice_get raw.families def.family)) fore (carried s) ≡ allowed d sizes l.0 x before s =
+      let same : flat_allowed n def (record { family = def.family; indexes = vs }) (values_of_family n (slice_get flat_text.families def.family)) fore (carried s) ≡ allowed d sizes l.0 x before s =
       demand_same text sizes families found allows faultless def.family r.0 r.1 def base.is_def_of refl l.0 l.2 vs before fore b s (carried s) (flat_same text sizes families found s) in
-      is_in-Has (flat_allowed n def (record { family = def.family; indexes = vs }) (values_of_family n (slice_get raw.families def.family)) fore (carried s)) (carried s def.family vs)
+      is_in-Has (flat_allowed n def (record { family = def.family; indexes = vs }) (values_of_family n (slice_get flat_text.families def.family)) fore (carried s)) (carried s def.family vs)
       (subst (λ l. Has l (carried s def.family vs)) (sym same) (subst (Has (allowed d sizes l.0 x before s)) (sym (flat_same text sizes families found s def.family r.0 r.1 vs)) text_has))
     where
       by_layer : Element → Base → List Value

@@ -3,12 +3,12 @@ use Rattle.std.proofs.Common.{◌≡◌, ℕ, ◌+◌, List, [], ◌∷◌, ◌+
 use Rattle.std.specs.List.{flat_map}
 use Rattle.smv_core.specs.Walk.{same_kind}
 use Rattle.smv_core.specs.Assignments.{Index}
-use Rattle.smv_core.specs.Flat.{flat_index, indexes_assigned}
+use Rattle.smv_core.specs.FlatMeaning.{flat_index, indexes_assigned}
 use Rattle.smv_core.specs.declared.tree.Kind.{Kind}
 use Rattle.smv_core.specs.declared.tree.Kind.TheVariants.{Comb, Init, Next}
 use Rattle.smv_core.specs.declared.flat.FlatStmt.{FlatStmt, Assign, If', Block', Default', Forall', Row_of-FlatStmt, end_of-FlatStmt, more_of-FlatStmt}
-use Rattle.smv_core.specs.declared.flat.Flat.{Flat, Nothing}
-use Rattle.smv_core.specs.declared.flat.Flat as flat
+use Rattle.smv_core.specs.declared.flat.DefBody.{DefBody, Nothing}
+use Rattle.smv_core.specs.declared.flat.DefBody as flat
 use Rattle.law_designs.specs.WholeText.{is_one_layer}
 use Rattle.law_obligations.specs.Sets.{Has, first, later}
 use Rattle.law_obligations.proofs.Tests.{left_of, right_of}
@@ -96,7 +96,7 @@ layer-is None (Some k) e = absurd (cc (e))
 layer-is (Some j) None e = absurd (cc (e))
 
 module _ (layer : Option ℕ) (kind : Kind) (family : ℕ) where
-  abbrev pub part : Statement → Flat
+  abbrev pub part : Statement → DefBody
   part s = flat_of kind family s.place s.act
 
   abbrev pub chosen : List Statement → List Statement

@@ -21,11 +21,11 @@ use Rattle.smv_core.specs.declared.tree.Item.{Item, Declare, Instance, Layer, Cl
 use Rattle.smv_core.specs.declared.tree.Item as item
 use Rattle.smv_core.specs.declared.flat.Param.{Param}
 use Rattle.smv_core.specs.declared.flat.FlatPair.{FlatPair}
-use Rattle.smv_instances.specs.Mentions as said
-use Rattle.smv_instances.specs.Mentions.{What, signal}
-use Rattle.smv_instances.specs.Scopes.{Own}
-use Rattle.smv_instances.specs.NameFaults.{is_port, is_port_if_own}
-use Rattle.smv_instances.proofs.Computing.{computing}
+use Rattle.smv_mentions.specs.Mentions as said
+use Rattle.smv_mentions.specs.Mentions.{What, signal}
+use Rattle.smv_mentions.specs.Scopes.{Own}
+use Rattle.smv_mentions.specs.NameFaults.{is_port, is_port_if_own}
+use Rattle.smv_mentions.proofs.Computing.{computing}
 use Rattle.law_designs.specs.Kinds.{Kind, Operand, takes}
 use Rattle.law_designs.specs.Types.{Whole, leads, value_kind, index_faults}
 use Rattle.law_designs.specs.References.{Module, Vars, signal_at, reference}

@@ -12,8 +12,8 @@ use Rattle.smv_core.specs.Types.{find_name, names_of}
 use Rattle.smv_core.specs.Outcome.{same_path}
 use Rattle.smv_core.specs.declared.tree.Word.{Word}
 use Rattle.smv_core.specs.declared.tree.Text.{Text}
-use Rattle.smv_instances.specs.Mentions.{Mention, declares, binds, follows, names_type, lists_constants, has_fields, instantiates}
-use Rattle.smv_instances.specs.Scopes.{Constant, Piece, constants, constants_in, pieces}
+use Rattle.smv_mentions.specs.Mentions.{Mention, declares, binds, follows, names_type, lists_constants, has_fields, instantiates}
+use Rattle.smv_mentions.specs.Scopes.{Constant, Piece, constants, constants_in, pieces}
 use Rattle.law_designs.specs.Kinds.{enumeration}
 use Rattle.law_designs.specs.FlatKinds as typed
 use Rattle.law_designs.specs.FlatKinds.{kind_in}

@@ -3,9 +3,9 @@ use Rattle.std.proofs.Common.{◌≡◌, ◌≤◌, ℕ, zero, suc, List, [], �
 use Rattle.std.specs.List.{AllZip}
 use Rattle.std.proofs.lemmas.List.{length-map}
 use Rattle.smv_core.specs.Types.{Family}
-use Rattle.smv_core.specs.Flat.{Numbered, simple_in}
+use Rattle.smv_core.specs.FlatMeaning.{Numbered, simple_in}
 use Rattle.smv_core.specs.declared.flat.Family.{Family as FlatFamily}
-use Rattle.smv_core.specs.declared.flat.Raw.{Raw}
+use Rattle.smv_core.specs.declared.flat.FlatText.{FlatText}
 use Rattle.law_designs.specs.Agreement.{IsSameFamily}
 use Rattle.law_designs.specs.Laws.{index_count}
 
@@ -31,5 +31,5 @@ abbrev count_of : Option FlatFamily → ℕ
 count_of None = 0
 count_of (Some f) = length f.over
 
-pub count-is : (raw : Raw) (family : ℕ) (f : FlatFamily) → slice_get raw.families family ≡ Some f → index_count raw family ≡ length f.over
-count-is raw family f e = ap count_of e
+pub count-is : (flat_text : FlatText) (family : ℕ) (f : FlatFamily) → slice_get flat_text.families family ≡ Some f → index_count flat_text family ≡ length f.over
+count-is flat_text family f e = ap count_of e

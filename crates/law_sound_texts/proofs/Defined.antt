@@ -4,13 +4,13 @@ use Rattle.std.specs.List.{flat_map}
 use Rattle.smv_core.specs.Values.{numbers_from}
 use Rattle.smv_core.specs.declared.flat.Def.{Def}
 use Rattle.smv_core.specs.declared.flat.Family.{Family}
-use Rattle.smv_core.specs.declared.flat.Raw.{Raw}
+use Rattle.smv_core.specs.declared.flat.FlatText.{FlatText}
 use Rattle.law_obligations.specs.Sets.{Has, first, later}
 use Rattle.law_obligations.specs.FlatConflicts.{IsConflictFree}
 use Rattle.law_obligations.proofs.Members.{Has-from_map}
 use Rattle.law_obligations.proofs.OneOfEach.{Has-from_flat_map}
 use Rattle.law_designs.specs.Standing.{count, Statement, statements_of, Standing, assigned_by}
-use Rattle.law_designs.specs.Definitions.{Head, head, heads_of, same_definition, first_heads, def_of, design_of_raw}
+use Rattle.law_designs.specs.Definitions.{Head, head, heads_of, same_definition, first_heads, def_of, design_of_flat_text}
 use Rattle.law_designs.proofs.Lookups.{all-head, all-tail}
 use Rattle.law_sound_texts.specs.Placed.{IsFree}
 use Rattle.law_sound_texts.specs.Exact.{LeftSidesAreExact, DefinitionsAreFree}
@@ -43,17 +43,17 @@ all-has P [] h k = elim k [ ]
 all-has P (x ∷ xs) h first = all-head P x xs h
 all-has P (x ∷ xs) h (later k) = all-has P xs (all-tail P x xs h) k
 
-module _ (raw : Raw) (exact : LeftSidesAreExact raw) where
-  of-head : (h : Head) → Has (first_heads raw) h → (f : Family) × (slice_get raw.families h.family ≡ Some f)
+module _ (flat_text : FlatText) (exact : LeftSidesAreExact flat_text) where
+  of-head : (h : Head) → Has (first_heads flat_text) h → (f : Family) × (slice_get flat_text.families h.family ≡ Some f)
   of-head h p =
-      let s : (s : Statement) × Has (statements_of raw) s × Has (heads_of s) h = Has-from_flat_map heads_of (statements_of raw) (Has-from_different same_definition (flat_map heads_of (statements_of raw)) p) in
+      let s : (s : Statement) × Has (statements_of flat_text) s × Has (heads_of s) h = Has-from_flat_map heads_of (statements_of flat_text) (Has-from_different same_definition (flat_map heads_of (statements_of flat_text)) p) in
       let a : (a : Standing) × Has (assigned_by s.0) a × (h.family ≡ a.family) = head_family (assigned_by s.0) (numbers_from s.0.place (count s.0.act)) s.2 in
-      let f = exact a.0 (Has-flat_map assigned_by (statements_of raw) s.1 a.1) in
-      (f.0, subst (λ k. slice_get raw.families k ≡ Some f.0) (sym a.2) f.1)
+      let f = exact a.0 (Has-flat_map assigned_by (statements_of flat_text) s.1 a.1) in
+      (f.0, subst (λ k. slice_get flat_text.families k ≡ Some f.0) (sym a.2) f.1)
 
-  pub are_free : All (IsFree raw) (design_of_raw raw).defs → DefinitionsAreFree (design_of_raw raw)
+  pub are_free : All (IsFree flat_text) (design_of_flat_text flat_text).defs → DefinitionsAreFree (design_of_flat_text flat_text)
   are_free free def p =
-      let h : (h : Head) × Has (first_heads raw) h × (def ≡ def_of raw h) = Has-from_map (def_of raw) (first_heads raw) p in
-      let f : (f : Family) × (slice_get raw.families h.0.family ≡ Some f) = of-head h.0 h.1 in
-      let there : slice_get raw.families def.family ≡ Some f.0 = subst (λ (def : Def). slice_get raw.families def.family ≡ Some f.0) (sym h.2) f.1 in
-      (f.0, there, subst (λ n. IsConflictFree n def) (count-is raw def.family f.0 there) (all-has (IsFree raw) (design_of_raw raw).defs free p))
+      let h : (h : Head) × Has (first_heads flat_text) h × (def ≡ def_of flat_text h) = Has-from_map (def_of flat_text) (first_heads flat_text) p in
+      let f : (f : Family) × (slice_get flat_text.families h.0.family ≡ Some f) = of-head h.0 h.1 in
+      let there : slice_get flat_text.families def.family ≡ Some f.0 = subst (λ (def : Def). slice_get flat_text.families def.family ≡ Some f.0) (sym h.2) f.1 in
+      (f.0, there, subst (λ n. IsConflictFree n def) (count-is flat_text def.family f.0 there) (all-has (IsFree flat_text) (design_of_flat_text flat_text).defs free p))

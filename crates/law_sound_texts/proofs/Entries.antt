@@ -13,7 +13,7 @@ use Rattle.smv_core.specs.declared.tree.Expr.{Expr}
 use Rattle.smv_core.specs.declared.tree.Stmt.{Stmt}
 use Rattle.smv_core.specs.declared.tree.Item.{Item, Declare, Instance, Layer, Claim, Split, Using, Act}
 use Rattle.smv_core.specs.declared.tree.Item as item
-use Rattle.smv_instances.specs.Mentions as said
+use Rattle.smv_mentions.specs.Mentions as said
 use Rattle.law_designs.specs.References.{Module}
 use Rattle.law_designs.specs.KindFaults.{in_arguments, in_stmt, in_item}
 use Rattle.law_designs.specs.FlatKinds.{keeps_kinds}

@@ -21,9 +21,9 @@ use Rattle.smv_core.specs.declared.tree.Stmt.{Stmt, Assign, Block', If', Switch'
 use Rattle.smv_core.specs.declared.tree.Stmt as stmt
 use Rattle.smv_core.specs.declared.tree.Item.{Item, Declare, Instance, Layer, Claim, Split, Using, Act, Row_of-Item, end_of-Item, more_of-Item}
 use Rattle.smv_core.specs.declared.tree.Item as item
-use Rattle.smv_instances.specs.Mentions.{What, Mention, instantiates, path_in, in_type, in_fields, in_expr, in_row, in_parts, in_sum, in_members, in_held, in_part, in_path, in_stmt, in_block, in_branch, in_arms, declared_as, in_item, in_items}
-use Rattle.smv_instances.specs.Mentions as mentions
-use Rattle.smv_instances.specs.Scopes.{Known, pieces, pieces_from, known_after}
+use Rattle.smv_mentions.specs.Mentions.{What, Mention, instantiates, path_in, in_type, in_fields, in_expr, in_row, in_parts, in_sum, in_members, in_held, in_part, in_path, in_stmt, in_block, in_branch, in_arms, declared_as, in_item, in_items}
+use Rattle.smv_mentions.specs.Mentions as mentions
+use Rattle.smv_mentions.specs.Scopes.{Known, pieces, pieces_from, known_after}
 use Rattle.law_designs.specs.Flattening.{different, enum_of, enums_of}
 use Rattle.law_designs.specs.Agreement.{IsIndexType}
 use Rattle.law_designs.specs.Written.{HasOne, TypeIsWritten, FieldsAreWritten, IsWritten, AreWritten, PartsAreWritten, IndexesAreWritten, TermsAreWritten, MembersAreWritten, ConditionIsWritten, StatementIsWritten, StatementsAreWritten, BranchIsWritten, ArmsAreWritten, InnerIsWritten, InnersAreWritten, ItemIsWritten, TopIsWritten}

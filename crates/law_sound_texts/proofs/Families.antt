@@ -10,7 +10,7 @@ use Rattle.smv_core.specs.Types as tree
 use Rattle.smv_core.specs.Types.{Family, Shape, find_name, simple, simple_of, shape_of, shape_of_fields, shape_or_none, one_value, array_of, indexed, behind, types_from}
 use Rattle.smv_core.specs.FlatOrder.{Body, declared_as, families_of_item, families_in, design_of}
 use Rattle.smv_core.specs.Outcome.{same_path, family_at}
-use Rattle.smv_core.specs.Flat.{set_type}
+use Rattle.smv_core.specs.FlatMeaning.{set_type}
 use Rattle.smv_core.specs.declared.tree.Word.{Word}
 use Rattle.smv_core.specs.declared.tree.Text.{Text}
 use Rattle.smv_core.specs.declared.tree.Span.{Span}
@@ -20,8 +20,8 @@ use Rattle.smv_core.specs.declared.tree.TypeExpr.{TypeExpr, Boolean, Range, Enum
 use Rattle.smv_core.specs.declared.tree.Item.{Item, Declare, Instance}
 use Rattle.smv_core.specs.declared.flat.SetInfo.{SetInfo}
 use Rattle.smv_core.specs.declared.flat.Family.{Family as FlatFamily}
-use Rattle.smv_instances.specs.Scopes.{Constant}
-use Rattle.smv_instances.specs.NameFaults.{place_if}
+use Rattle.smv_mentions.specs.Scopes.{Constant}
+use Rattle.smv_mentions.specs.NameFaults.{place_if}
 use Rattle.law_designs.specs.Kinds as kind
 use Rattle.law_designs.specs.Types.{Types, Whole, single, leads, index_kind, is_index, is_reversed, range_faults, index_faults, type_faults, field_faults}
 use Rattle.law_designs.specs.References.{Module}

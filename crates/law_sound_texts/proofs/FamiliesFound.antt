@@ -15,11 +15,11 @@ use Rattle.smv_core.specs.declared.tree.Top.{Top}
 use Rattle.smv_core.specs.declared.tree.Top.TheVariants.{SetType, Alias, Module}
 use Rattle.smv_core.specs.declared.tree.TypeExpr.{TypeExpr, Boolean, Range, Enum, Named, Array', Struct', end_of-TypeExpr, more_of-TypeExpr, Row_of-Field, end_of-Field, more_of-Field}
 use Rattle.smv_core.specs.declared.tree.Item.{Item, Declare, Instance}
-use Rattle.smv_instances.specs.Mentions.{Mention, declares, has_fields, fields_in, in_type, in_fields, in_item}
-use Rattle.smv_instances.specs.Mentions as mentions
-use Rattle.smv_instances.specs.Scopes.{Known, Piece, piece_of, known_after, pieces_from, pieces, scope_of}
-use Rattle.smv_instances.specs.NameFaults.{place_if, repeated, doubled, declared_words, doubled_in, formals_of, name_faults}
-use Rattle.smv_instances.specs.FirstFault.{first_of, faults_at, fault_of_size, faults_of_names, first_fault}
+use Rattle.smv_mentions.specs.Mentions.{Mention, declares, has_fields, fields_in, in_type, in_fields, in_item}
+use Rattle.smv_mentions.specs.Mentions as mentions
+use Rattle.smv_mentions.specs.Scopes.{Known, Piece, piece_of, known_after, pieces_from, pieces, scope_of}
+use Rattle.smv_mentions.specs.NameFaults.{place_if, repeated, doubled, declared_words, doubled_in, formals_of, name_faults}
+use Rattle.smv_mentions.specs.FirstFault.{first_of, faults_at, fault_of_size, faults_of_names, first_fault}
 use Rattle.law_designs.specs.Entries.{placed_of_item, placed_in}
 use Rattle.law_designs.proofs.Faultless.{no_fault-in, unplaced}
 use Rattle.law_obligations.specs.Sets.{Has, first, later}

@@ -9,7 +9,7 @@ use Rattle.smv_core.specs.declared.flat.Family.{Family}
 use Rattle.smv_core.specs.declared.flat.Cell.{Cell}
 use Rattle.smv_core.specs.declared.flat.Def.{Def}
 use Rattle.smv_core.specs.declared.flat.Design.{Design}
-use Rattle.smv_instances.specs.FirstFault.{comes_before, earlier as earlier_fault, faults_at}
+use Rattle.smv_mentions.specs.FirstFault.{comes_before, earlier as earlier_fault, faults_at}
 use Rattle.law_obligations.specs.Sets.{Has, first, later}
 use Rattle.law_obligations.specs.Outlines.{earlier, earliest, may_be_base, base_of, bases}
 use Rattle.law_obligations.proofs.Members.{Has-left, Has-right, Has-cases, Has-flat_map, any-some}

@@ -9,11 +9,11 @@ use Rattle.smv_core.specs.Types.{find_name, names_of}
 use Rattle.smv_core.specs.Outcome.{same_path}
 use Rattle.smv_core.specs.declared.tree.Word.{Word}
 use Rattle.smv_core.specs.declared.tree.Text.{Text}
-use Rattle.smv_instances.specs.Mentions.{Mention, declares, binds, follows, names_type, lists_constants, has_fields, instantiates}
-use Rattle.smv_instances.specs.Scopes.{Constant, Piece, constants, constants_in, pieces, scope_of}
-use Rattle.smv_instances.specs.NameFaults.{place_if, places_of, repeated, is_of_other_list, doubled, declared_words, formals_of, doubled_in}
-use Rattle.smv_instances.specs.FirstFault.{first_fault}
-use Rattle.smv_instances.specs.Sizes.{count_different, constant_names}
+use Rattle.smv_mentions.specs.Mentions.{Mention, declares, binds, follows, names_type, lists_constants, has_fields, instantiates}
+use Rattle.smv_mentions.specs.Scopes.{Constant, Piece, constants, constants_in, pieces, scope_of}
+use Rattle.smv_mentions.specs.NameFaults.{place_if, places_of, repeated, is_of_other_list, doubled, declared_words, formals_of, doubled_in}
+use Rattle.smv_mentions.specs.FirstFault.{first_fault}
+use Rattle.smv_mentions.specs.Sizes.{count_different, constant_names}
 use Rattle.law_designs.specs.Flattening.{different, enum_of, flatten}
 use Rattle.law_designs.proofs.TypeNumbers.{paths-decide}
 use Rattle.law_designs.proofs.Operands.{both}

@@ -18,7 +18,7 @@ use Rattle.smv_core.specs.declared.tree.Item as item
 use Rattle.smv_core.specs.declared.tree.Text.{Text}
 use Rattle.smv_core.specs.declared.flat.FlatItem.{FlatItem}
 use Rattle.smv_core.specs.declared.flat.FlatItem.TheVariants as flat
-use Rattle.smv_instances.specs.Sizes.{Sized, sized_from, statements, statements_of_item, statements_of_items, statements_in}
+use Rattle.smv_mentions.specs.Sizes.{Sized, sized_from, statements, statements_of_item, statements_of_items, statements_in}
 use Rattle.law_designs.specs.Entries.{claim, split, using, Entry, layer, statement, goal, inside_binder, given_to, connection, connections, instance_entries, item_entries, items_entries, entries_in, entries}
 use Rattle.law_designs.specs.Flattening.{different, layer_of, layers_of, layer_number, flat_assignments, with_places, flat_entry, flatten}
 use Rattle.law_designs.proofs.Faultless.{each-append, each-more}

@@ -12,7 +12,7 @@ use Rattle.smv_core.specs.declared.tree.Item.{Item, Declare, Instance}
 use Rattle.smv_core.specs.declared.tree.Top.{Top}
 use Rattle.smv_core.specs.declared.tree.Top.TheVariants.{SetType, Alias, Module}
 use Rattle.smv_core.specs.declared.tree.Text.{Text}
-use Rattle.smv_instances.specs.Sizes.{Extent, Sized, sized, size_of, under, extents_of, extents_of_fields, sized_after, sized_from, Thing, family, instance, things_of_item, things_in}
+use Rattle.smv_mentions.specs.Sizes.{Extent, Sized, sized, size_of, under, extents_of, extents_of_fields, sized_after, sized_from, Thing, family, instance, things_of_item, things_in}
 use Rattle.law_designs.specs.Entries.{placed_of_item, placed_in, placed_families}
 use Rattle.law_designs.specs.Flattening.{flatten}
 

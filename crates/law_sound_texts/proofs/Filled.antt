@@ -5,8 +5,8 @@ use Rattle.smv_core.specs.Values.{Name}
 use Rattle.smv_core.specs.declared.flat.Simple.{Simple}
 use Rattle.smv_core.specs.declared.flat.Simple.TheVariants.{Range, Enum, Set}
 use Rattle.smv_core.specs.declared.flat.SetInfo.{SetInfo}
-use Rattle.smv_core.specs.declared.flat.Raw.{Raw}
-use Rattle.law_designs.specs.Definitions.{design_of_raw}
+use Rattle.smv_core.specs.declared.flat.FlatText.{FlatText}
+use Rattle.law_designs.specs.Definitions.{design_of_flat_text}
 use Rattle.law_designs.specs.FlatKinds.{is_type, is_index_type, is_size, is_kinded_item, is_kinded_family, is_kinded}
 use Rattle.law_obligations.specs.Sets.{Has, first, later}
 use Rattle.law_obligations.specs.Checked.{IsFilled}
@@ -34,18 +34,18 @@ each-holds p [] h x i = elim i [ ]
 each-holds p (y ∷ xs) h _ first = (both (p y) (list_all p xs) h).0
 each-holds p (y ∷ xs) h x (later i) = each-holds p xs (both (p y) (list_all p xs) h).1 x i
 
-module _ (raw : Raw) where
-  type-filled : (t : Simple) → is_type raw t ≡ true → IsFilled (design_of_raw raw) t
+module _ (flat_text : FlatText) where
+  type-filled : (t : Simple) → is_type flat_text t ≡ true → IsFilled (design_of_flat_text flat_text) t
   type-filled (Range low high) h = le-true low high (both (nat_le low high) (nat_le high 255) h).0
-  type-filled (Enum list) h = some-has (get_or raw.enums list []) (lt-true 0 (length (get_or raw.enums list [])) h)
-  type-filled (Set set) h = there raw.sets set (lt-true set (length raw.sets) h)
+  type-filled (Enum list) h = some-has (get_or flat_text.enums list []) (lt-true 0 (length (get_or flat_text.enums list [])) h)
+  type-filled (Set set) h = there flat_text.sets set (lt-true set (length flat_text.sets) h)
 
   -- the two parts of the rules that the laws rest on
-  pub kept : is_kinded raw ≡ true → (list_all (is_kinded_family raw) raw.families ≡ true) × (list_all (is_kinded_item raw) raw.items ≡ true)
+  pub kept : is_kinded flat_text ≡ true → (list_all (is_kinded_family flat_text) flat_text.families ≡ true) × (list_all (is_kinded_item flat_text) flat_text.items ≡ true)
   kept e =
-      both (list_all (is_kinded_family raw) raw.families) (list_all (is_kinded_item raw) raw.items)
-      (both (list_all (λ (names : List Name). nat_lt 0 (length names)) raw.enums) (list_all (is_kinded_family raw) raw.families && list_all (is_kinded_item raw) raw.items)
-      (both (list_all (λ (info : SetInfo). is_size info.size) raw.sets) (list_all (λ (names : List Name). nat_lt 0 (length names)) raw.enums && (list_all (is_kinded_family raw) raw.families && list_all (is_kinded_item raw) raw.items)) e).1).1
+      both (list_all (is_kinded_family flat_text) flat_text.families) (list_all (is_kinded_item flat_text) flat_text.items)
+      (both (list_all (λ (names : List Name). nat_lt 0 (length names)) flat_text.enums) (list_all (is_kinded_family flat_text) flat_text.families && list_all (is_kinded_item flat_text) flat_text.items)
+      (both (list_all (λ (info : SetInfo). is_size info.size) flat_text.sets) (list_all (λ (names : List Name). nat_lt 0 (length names)) flat_text.enums && (list_all (is_kinded_family flat_text) flat_text.families && list_all (is_kinded_item flat_text) flat_text.items)) e).1).1
 
-  pub families-filled : is_kinded raw ≡ true → AreFilled (design_of_raw raw)
-  families-filled e f i = type-filled f.value (both (list_all (is_index_type raw) f.over) (is_type raw f.value) (each-holds (is_kinded_family raw) raw.families (kept e).0 f i)).1
+  pub families-filled : is_kinded flat_text ≡ true → AreFilled (design_of_flat_text flat_text)
+  families-filled e f i = type-filled f.value (both (list_all (is_index_type flat_text) f.over) (is_type flat_text f.value) (each-holds (is_kinded_family flat_text) flat_text.families (kept e).0 f i)).1

@@ -6,15 +6,15 @@ use Rattle.std.proofs.lemmas.List.Folds.{find-append}
 use Rattle.smv_core.specs.Values.{numbers_from}
 use Rattle.smv_core.specs.Walk.{same_kind}
 use Rattle.smv_core.specs.Assignments.{Index, fits}
-use Rattle.smv_core.specs.Flat.{FlatElement, indexes_assigned, indexes_assigned_in}
+use Rattle.smv_core.specs.FlatMeaning.{FlatElement, indexes_assigned, indexes_assigned_in}
 use Rattle.smv_core.specs.declared.tree.Kind.{Kind}
 use Rattle.smv_core.specs.declared.tree.Kind.TheVariants.{Comb, Init, Next}
-use Rattle.smv_core.specs.declared.flat.Flat.{Flat, Nothing, Assign, If', First', Forall', Row_of-Flat, end_of-Flat, more_of-Flat}
+use Rattle.smv_core.specs.declared.flat.DefBody.{DefBody, Nothing, Assign, If', First', Forall', Row_of-DefBody, end_of-DefBody, more_of-DefBody}
 use Rattle.smv_core.specs.declared.flat.FlatStmt.{FlatStmt, Row_of-FlatStmt, end_of-FlatStmt, more_of-FlatStmt}
 use Rattle.smv_core.specs.declared.flat.FlatStmt as stmt
-use Rattle.smv_core.specs.declared.flat.Raw.{Raw}
+use Rattle.smv_core.specs.declared.flat.FlatText.{FlatText}
 use Rattle.law_designs.specs.Flattening.{FlatAssigned, flat_assignments, flat_assignments_in}
-use Rattle.law_designs.specs.RawAllowed.{flat_concerns}
+use Rattle.law_designs.specs.FlatTextAllowed.{flat_concerns}
 use Rattle.law_designs.specs.WholeText.{is_one_layer}
 use Rattle.law_designs.specs.Standing.{Statement, statements_of, Standing, standing, standing_in, assigned_by}
 use Rattle.law_designs.specs.Definitions.{flat_of, set_of, part_of, Head, head, heads_of, def_of}
@@ -102,24 +102,24 @@ module _ (family : ℕ) where
   read-right as' bs r = (r.0, Has-right as' r.1)
 
   mutual
-    is-read : (around : List Reference) (part : Flat) (is : List Index) → Has (indexes_assigned part) is → IsRead (readings family around part)
+    is-read : (around : List Reference) (part : DefBody) (is : List Index) → Has (indexes_assigned part) is → IsRead (readings family around part)
     is-read around Nothing is h = elim h [ ]
     is-read around (Assign left value place at) is h = (_, first)
-    is-read around (If' test l (more_of-Flat left end_of-Flat) r (more_of-Flat right end_of-Flat)) is h = elim (Has-cases (indexes_assigned left) (indexes_assigned right) h) [
+    is-read around (If' test l (more_of-DefBody left end_of-DefBody) r (more_of-DefBody right end_of-DefBody)) is h = elim (Has-cases (indexes_assigned left) (indexes_assigned right) h) [
       | inl k ↦ read-left (readings family (around ++ references test) left) (readings family (around ++ references test) right) (is-read (around ++ references test) left is k)
       | inr k ↦ read-right (readings family (around ++ references test) left) (readings family (around ++ references test) right) (is-read (around ++ references test) right is k)
     ]
     is-read around (First' shape parts) is h = are-read around parts is h
-    is-read around (Forall' var over shape (more_of-Flat body end_of-Flat)) is h = is-read around body is h
+    is-read around (Forall' var over shape (more_of-DefBody body end_of-DefBody)) is h = is-read around body is h
 
-    are-read : {m : _} (around : List Reference) (parts : Row_of-Flat m) (is : List Index) → Has (indexes_assigned_in parts) is → IsRead (readings_of family around parts)
-    are-read around end_of-Flat is h = elim h [ ]
-    are-read around (more_of-Flat part rest) is h = elim (Has-cases (indexes_assigned part) (indexes_assigned_in rest) h) [
+    are-read : {m : _} (around : List Reference) (parts : Row_of-DefBody m) (is : List Index) → Has (indexes_assigned_in parts) is → IsRead (readings_of family around parts)
+    are-read around end_of-DefBody is h = elim h [ ]
+    are-read around (more_of-DefBody part rest) is h = elim (Has-cases (indexes_assigned part) (indexes_assigned_in rest) h) [
       | inl k ↦ read-left (readings family around part) (readings_of family around rest) (is-read around part is k)
       | inr k ↦ read-right (readings family around part) (readings_of family around rest) (are-read around rest is k)
     ]
 
-module _ (raw : Raw) (h : Head) (s : Statement) (there : Has (statements_of raw) s) (here : h.layer ≡ s.layer) where
+module _ (flat_text : FlatText) (h : Head) (s : Statement) (there : Has (statements_of flat_text) s) (here : h.layer ≡ s.layer) where
   abbrev x : FlatElement
   x = record { family = h.family; indexes = [] }
 
@@ -137,21 +137,21 @@ module _ (raw : Raw) (h : Head) (s : Statement) (there : Has (statements_of raw)
   layer-itself (Some k) = nat_eq-itself k
 
   -- one of the assignment's kind
-  part-read : (a : FlatAssigned) → Has (flat_assignments s.act) a → nat_eq a.family h.family ≡ true → IsRead h.family (readings h.family [] (part_of a.kind h.family (set_of raw h.layer)))
+  part-read : (a : FlatAssigned) → Has (flat_assignments s.act) a → nat_eq a.family h.family ≡ true → IsRead h.family (readings h.family [] (part_of a.kind h.family (set_of flat_text h.layer)))
   part-read a m e =
       let concerned : list_any (flat_concerns a.kind x) (flat_assignments s.act) ≡ true =
       any-found (flat_concerns a.kind x) m (both_true (same_kind a.kind a.kind) _ (kind-itself a.kind) (both_true (nat_eq a.family h.family) _ e (all-fit a.indexes))) in
       let is : (is : List Index) × Has (indexes_assigned (flat_of a.kind h.family s.place s.act)) is × (list_all (λ (i, v). fits i v) (zip is []) ≡ true) =
       any-some (λ is. list_all (λ (i, v). fits i v) (zip is [])) (indexes_assigned (flat_of a.kind h.family s.place s.act)) (concerned-same x a.kind s.place s.act ∙ concerned) in
-      let own : Has (set_of raw h.layer) s = Has-filter (λ (s : Statement). is_one_layer h.layer s.layer) there (subst (λ l. is_one_layer h.layer l ≡ true) here (layer-itself h.layer)) in
-      is-read h.family [] (part_of a.kind h.family (set_of raw h.layer)) is.0
-      (subst (λ l. Has l is.0) (sym (indexes-first_part (map (λ (s : Statement). flat_of a.kind h.family s.place s.act) (set_of raw h.layer))))
+      let own : Has (set_of flat_text h.layer) s = Has-filter (λ (s : Statement). is_one_layer h.layer s.layer) there (subst (λ l. is_one_layer h.layer l ≡ true) here (layer-itself h.layer)) in
+      is-read h.family [] (part_of a.kind h.family (set_of flat_text h.layer)) is.0
+      (subst (λ l. Has l is.0) (sym (indexes-first_part (map (λ (s : Statement). flat_of a.kind h.family s.place s.act) (set_of flat_text h.layer))))
       (Has-flat_map indexes_assigned (Has-map (λ (s : Statement). flat_of a.kind h.family s.place s.act) own) is.1))
 
   abbrev part : Kind → List Reading
-  part kind = readings h.family [] (part_of kind h.family (set_of raw h.layer))
+  part kind = readings h.family [] (part_of kind h.family (set_of flat_text h.layer))
 
-  pub has_assignment : assigns h.family s ≡ true → (a : Reading) × Has (assignments_of (def_of raw h)) a
+  pub has_assignment : assigns h.family s ≡ true → (a : Reading) × Has (assignments_of (def_of flat_text h)) a
   has_assignment e =
       let a : (a : FlatAssigned) × Has (flat_assignments s.act) a × (nat_eq a.family h.family ≡ true) = any-some (λ (a : FlatAssigned). nat_eq a.family h.family) (flat_assignments s.act) e in
       by_kind a.0.kind (part-read a.0 a.1 a.2)

@@ -22,7 +22,7 @@ use Rattle.law_obligations.specs.Sets.{Has, first, later}
 use Rattle.law_obligations.proofs.Members.{Has-left, Has-right, Has-from_map, Has-flat_map, all-each}
 use Rattle.law_designs.specs.Standing.{count, Statement, statements_from, Standing, standing, standing_in, assigned_by}
 use Rattle.law_designs.specs.Laws.{index_count, left_sides_are_whole}
-use Rattle.law_sound_texts.specs.Placed.{IsPlaced, ArePlaced, RawIsPlaced}
+use Rattle.law_sound_texts.specs.Placed.{IsPlaced, ArePlaced, FlatTextIsPlaced}
 use mathlib.Core.Former.{Count}
 
 abbrev mutual
@@ -155,7 +155,7 @@ module _ (counts : ℕ → ℕ) (layer : Option ℕ) where
     all-placed n around (more_of-FlatStmt p rest) h whole =
         (placed n around p h.0 (λ a q. whole a (Has-left (standing_in layer around rest) q)), all-placed n around rest h.1 (λ a q. whole a (Has-right (standing layer around p) q)))
 
-pub text_placed : (text : Text) → left_sides_are_whole (flatten text) ≡ true → RawIsPlaced (flatten text)
+pub text_placed : (text : Text) → left_sides_are_whole (flatten text) ≡ true → FlatTextIsPlaced (flatten text)
 text_placed text whole s h =
     placed (index_count (flatten text)) s.layer 0 [] s.act
     (statements-numbered 0 (flatten text).items (places-numbered 0 (flat_map (flat_entry text (layers_of (entries text))) (entries text)) (entries-numbered text (layers_of (entries text)) (entries text))) s h)

@@ -5,15 +5,15 @@ use Rattle.smv_core.specs.Values.{same}
 use Rattle.smv_core.specs.Walk.{same_kind}
 use Rattle.smv_core.specs.Assignments.{Index, fixed, bare, computed}
 use Rattle.smv_core.specs.Conflicts.{are_two_constants, are_both}
-use Rattle.smv_core.specs.Flat.{flat_index, indexes_assigned}
+use Rattle.smv_core.specs.FlatMeaning.{flat_index, indexes_assigned}
 use Rattle.smv_core.specs.declared.tree.Kind.{Kind}
 use Rattle.smv_core.specs.declared.tree.Kind.TheVariants.{Comb, Init, Next}
 use Rattle.smv_core.specs.declared.flat.Simple.{Simple}
 use Rattle.smv_core.specs.declared.flat.FlatExpr.{FlatExpr, Var}
 use Rattle.smv_core.specs.declared.flat.FlatStmt.{FlatStmt, Assign, If', Block', Default', Forall', Row_of-FlatStmt, end_of-FlatStmt, more_of-FlatStmt}
-use Rattle.smv_core.specs.declared.flat.Flat.{Flat, Nothing, If, First, Forall, Row_of-Flat, end_of-Flat, more_of-Flat, items-the_row-Flat, items_hidden-the_row-Flat-1}
-use Rattle.smv_core.specs.declared.flat.Flat as flat
-use Rattle.smv_core.specs.declared.flat.Raw.{Raw}
+use Rattle.smv_core.specs.declared.flat.DefBody.{DefBody, Nothing, If, First, Forall, Row_of-DefBody, end_of-DefBody, more_of-DefBody, items-the_row-DefBody, items_hidden-the_row-DefBody-1}
+use Rattle.smv_core.specs.declared.flat.DefBody as flat
+use Rattle.smv_core.specs.declared.flat.FlatText.{FlatText}
 use Rattle.law_designs.specs.WholeText.{is_one_layer}
 use Rattle.law_obligations.specs.Sets.{Has, first, later}
 use Rattle.law_obligations.specs.Bound.{HasVariable}
@@ -27,7 +27,7 @@ use Rattle.law_designs.specs.SingleFaults.{differ, share, meet, cross, later_pla
 use Rattle.law_designs.specs.Definitions.{is_nothing, joined, first_part, branches, each_value, flat_of, flats_of, Head, def_of}
 use Rattle.law_designs.proofs.FlatParts.{boxes, rows_of, indexes-row, indexes-kept}
 use Rattle.law_designs.specs.Laws.{index_count}
-use Rattle.law_sound_texts.specs.Placed.{IsPlaced, ArePlaced, RawIsPlaced, IsFree, OneValueGives}
+use Rattle.law_sound_texts.specs.Placed.{IsPlaced, ArePlaced, FlatTextIsPlaced, IsFree, OneValueGives}
 use Rattle.law_sound_texts.proofs.FaultlessSides.{no-clash, no-conflict, no-lack}
 use Rattle.law_sound_texts.proofs.Comes.{Comes, comes, comes_in, comes_of, layer-is, part, chosen}
 use mathlib.Core.Former.{Count}
@@ -161,32 +161,32 @@ module _ (layer : Option ℕ) (kind : Kind) (family : ℕ) where
 
 -- ---- parts of a definition
 
-abbrev AreFree : ℕ → ℕ → List Flat → Type 0
+abbrev AreFree : ℕ → ℕ → List DefBody → Type 0
 AreFree n c [] = Unit {0}
 AreFree n c (p ∷ ps) = HasNoConflict n c p × AreFree n c ps × EachTwo n (indexes_assigned p) (flat_map indexes_assigned ps)
 
 module _ (n c : ℕ) where
-  free-row : (k : _) (row : Row_of-Flat k) → AreFree n c (items-the_row-Flat k row) → HaveNoConflict n c row
-  free-row k end_of-Flat h = tt
-  free-row k (more_of-Flat p rest) h = (h.0, free-row _ rest h.1, subst (EachTwo n (indexes_assigned p)) (sym (indexes-row _ rest)) h.2)
+  free-row : (k : _) (row : Row_of-DefBody k) → AreFree n c (items-the_row-DefBody k row) → HaveNoConflict n c row
+  free-row k end_of-DefBody h = tt
+  free-row k (more_of-DefBody p rest) h = (h.0, free-row _ rest h.1, subst (EachTwo n (indexes_assigned p)) (sym (indexes-row _ rest)) h.2)
 
-  free-First : (parts : List Flat) → AreFree n c parts → HasNoConflict n c (First parts)
-  free-First parts h = let row : (k : Count) × Row_of-Flat k = rows_of (First parts) in free-row row.0 row.1 (subst (AreFree n c) (sym (items_hidden-the_row-Flat-1 parts)) h)
+  free-First : (parts : List DefBody) → AreFree n c parts → HasNoConflict n c (First parts)
+  free-First parts h = let row : (k : Count) × Row_of-DefBody k = rows_of (First parts) in free-row row.0 row.1 (subst (AreFree n c) (sym (items_hidden-the_row-DefBody-1 parts)) h)
 
-  free-If : (test : FlatExpr) (p q : Flat) → HasNoConflict n c p → HasNoConflict n c q → EachTwo n (indexes_assigned p) (indexes_assigned q) → HasNoConflict n c (If test p q)
+  free-If : (test : FlatExpr) (p q : DefBody) → HasNoConflict n c p → HasNoConflict n c q → EachTwo n (indexes_assigned p) (indexes_assigned q) → HasNoConflict n c (If test p q)
   unfolding boxes
   free-If test p q h k e = (h, k, e)
 
-  free-Forall : (var : ℕ) (over : Simple) (p : Flat) → var ≡ n → HasNoConflict (suc n) c p → HasNoConflict n c (Forall var over p)
+  free-Forall : (var : ℕ) (over : Simple) (p : DefBody) → var ≡ n → HasNoConflict (suc n) c p → HasNoConflict n c (Forall var over p)
   unfolding boxes
   free-Forall var over p e h = (e, h)
 
-  free-joined : (parts : List Flat) → AreFree n c parts → HasNoConflict n c (joined parts)
+  free-joined : (parts : List DefBody) → AreFree n c parts → HasNoConflict n c (joined parts)
   free-joined [] h = tt
   free-joined (p ∷ []) h = h.0
   free-joined (p ∷ q ∷ more) h = free-First (p ∷ q ∷ more) h
 
-  free-kept : (parts : List Flat) → AreFree n c parts → AreFree n c (filter (λ p. not (is_nothing p)) parts)
+  free-kept : (parts : List DefBody) → AreFree n c parts → AreFree n c (filter (λ p. not (is_nothing p)) parts)
   free-kept [] h = tt
   free-kept (p ∷ ps) h = by_test (is_nothing p) (free-kept ps h.1)
     where
@@ -194,17 +194,17 @@ module _ (n c : ℕ) where
       by_test true rest = rest
       by_test false rest = (h.0, rest, subst (EachTwo n (indexes_assigned p)) (sym (indexes-kept ps)) h.2)
 
-  free-first_part : (parts : List Flat) → AreFree n c parts → HasNoConflict n c (first_part parts)
+  free-first_part : (parts : List DefBody) → AreFree n c parts → HasNoConflict n c (first_part parts)
   free-first_part parts h = free-joined (filter (λ p. not (is_nothing p)) parts) (free-kept parts h)
 
-  free-branches : (test : FlatExpr) (p q : Flat) → HasNoConflict n c p → HasNoConflict n c q → EachTwo n (indexes_assigned p) (indexes_assigned q) → HasNoConflict n c (branches test p q)
+  free-branches : (test : FlatExpr) (p q : DefBody) → HasNoConflict n c p → HasNoConflict n c q → EachTwo n (indexes_assigned p) (indexes_assigned q) → HasNoConflict n c (branches test p q)
   free-branches test p q h k e = by_test (is_nothing p && is_nothing q)
     where
       by_test : (b : Bool) → HasNoConflict n c (cond b Nothing (If test p q))
       by_test true = tt
       by_test false = free-If test p q h k e
 
-  free-each_value : (var : ℕ) (over : Simple) (p : Flat) → var ≡ n → HasNoConflict (suc n) c p → HasNoConflict n c (each_value var over p)
+  free-each_value : (var : ℕ) (over : Simple) (p : DefBody) → var ≡ n → HasNoConflict (suc n) c p → HasNoConflict n c (each_value var over p)
   free-each_value var over p e h = by_test (is_nothing p)
     where
       by_test : (b : Bool) → HasNoConflict n c (cond b Nothing (Forall var over p))
@@ -294,14 +294,14 @@ module _ (counts : ℕ → ℕ) (layer : Option ℕ) (kind : Kind) (family : ℕ
       )
       by_test false h rest = rest
 
-module _ (raw : Raw) (placed : RawIsPlaced raw) (faultless : first_fault_of_single raw ≡ None) (head : Head) where
-  part_free : (kind : Kind) → HasNoConflict 0 (index_count raw head.family) (first_part (map (part head.layer kind head.family) (chosen head.layer kind head.family (statements_of raw))))
+module _ (flat_text : FlatText) (placed : FlatTextIsPlaced flat_text) (faultless : first_fault_of_single flat_text ≡ None) (head : Head) where
+  part_free : (kind : Kind) → HasNoConflict 0 (index_count flat_text head.family) (first_part (map (part head.layer kind head.family) (chosen head.layer kind head.family (statements_of flat_text))))
   part_free kind =
-      free-first_part 0 (index_count raw head.family) (map (part head.layer kind head.family) (chosen head.layer kind head.family (statements_of raw)))
-      (set_free (index_count raw) head.layer kind head.family (statements_of raw) (no-conflict raw faultless) placed (λ a h. no-lack raw faultless a h))
+      free-first_part 0 (index_count flat_text head.family) (map (part head.layer kind head.family) (chosen head.layer kind head.family (statements_of flat_text)))
+      (set_free (index_count flat_text) head.layer kind head.family (statements_of flat_text) (no-conflict flat_text faultless) placed (λ a h. no-lack flat_text faultless a h))
 
-  pub def_free : IsFree raw (def_of raw head)
+  pub def_free : IsFree flat_text (def_of flat_text head)
   def_free = record { init = part_free Init; next = part_free Next; comb = part_free Comb }
 
-  pub def_single : OneValueGives raw (def_of raw head)
-  def_single n indexes every e = is_single n (def_of raw head) indexes every (subst (λ c. IsConflictFree c (def_of raw head)) (sym e) def_free)
+  pub def_single : OneValueGives flat_text (def_of flat_text head)
+  def_single n indexes every e = is_single n (def_of flat_text head) indexes every (subst (λ c. IsConflictFree c (def_of flat_text head)) (sym e) def_free)

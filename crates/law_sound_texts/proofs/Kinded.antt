@@ -14,8 +14,8 @@ use Rattle.smv_core.specs.declared.tree.Top.TheVariants.{SetType, Alias, Module 
 use Rattle.smv_core.specs.declared.flat.FlatItem.{FlatItem}
 use Rattle.smv_core.specs.declared.flat.FlatItem.TheVariants as item
 use Rattle.smv_core.specs.declared.flat.Param.{Param}
-use Rattle.smv_core.specs.declared.flat.Raw.{Raw}
-use Rattle.smv_instances.specs.Scopes.{Constant, Piece, constants, pieces}
+use Rattle.smv_core.specs.declared.flat.FlatText.{FlatText}
+use Rattle.smv_mentions.specs.Scopes.{Constant, Piece, constants, pieces}
 use Rattle.law_designs.specs.Types.{Types, size_faults, types_after}
 use Rattle.law_designs.specs.References.{Module, modules_from}
 use Rattle.law_designs.specs.KindFaults.{in_top, in_tops, faults_of_kinds}
@@ -65,20 +65,20 @@ sets-kept ms cs ks (ModuleOf word formals body at ∷ tops) h = sets-kept ms cs 
 
 -- ---- items
 
-places-kept : (raw : Raw) (k : ℕ) (items : List FlatItem) → list_all (is_kinded_item raw) items ≡ true → list_all (is_kinded_item raw) (with_places k items) ≡ true
-places-kept raw k [] h = refl
-places-kept raw k (item.Act number act ∷ items) h =
-    and_from (is_kinded_item raw (item.Act number act)) (list_all (is_kinded_item raw) (with_places (k + length (flat_assignments act)) items)) (left_of (is_kinded_item raw (item.Act number act)) (list_all (is_kinded_item raw) items) h)
-    (places-kept raw (k + length (flat_assignments act)) items (right_of (is_kinded_item raw (item.Act number act)) (list_all (is_kinded_item raw) items) h))
-places-kept raw k (item.Claim c ∷ items) h =
-    and_from (is_kinded_item raw (item.Claim c)) (list_all (is_kinded_item raw) (with_places (k + 1) items)) (left_of (is_kinded_item raw (item.Claim c)) (list_all (is_kinded_item raw) items) h)
-    (places-kept raw (k + 1) items (right_of (is_kinded_item raw (item.Claim c)) (list_all (is_kinded_item raw) items) h))
-places-kept raw k (item.Split s ∷ items) h =
-    and_from (is_kinded_item raw (item.Split s)) (list_all (is_kinded_item raw) (with_places k items)) (left_of (is_kinded_item raw (item.Split s)) (list_all (is_kinded_item raw) items) h)
-    (places-kept raw k items (right_of (is_kinded_item raw (item.Split s)) (list_all (is_kinded_item raw) items) h))
-places-kept raw k (item.Using u ∷ items) h =
-    and_from (is_kinded_item raw (item.Using u)) (list_all (is_kinded_item raw) (with_places k items)) (left_of (is_kinded_item raw (item.Using u)) (list_all (is_kinded_item raw) items) h)
-    (places-kept raw k items (right_of (is_kinded_item raw (item.Using u)) (list_all (is_kinded_item raw) items) h))
+places-kept : (flat_text : FlatText) (k : ℕ) (items : List FlatItem) → list_all (is_kinded_item flat_text) items ≡ true → list_all (is_kinded_item flat_text) (with_places k items) ≡ true
+places-kept flat_text k [] h = refl
+places-kept flat_text k (item.Act number act ∷ items) h =
+    and_from (is_kinded_item flat_text (item.Act number act)) (list_all (is_kinded_item flat_text) (with_places (k + length (flat_assignments act)) items)) (left_of (is_kinded_item flat_text (item.Act number act)) (list_all (is_kinded_item flat_text) items) h)
+    (places-kept flat_text (k + length (flat_assignments act)) items (right_of (is_kinded_item flat_text (item.Act number act)) (list_all (is_kinded_item flat_text) items) h))
+places-kept flat_text k (item.Claim c ∷ items) h =
+    and_from (is_kinded_item flat_text (item.Claim c)) (list_all (is_kinded_item flat_text) (with_places (k + 1) items)) (left_of (is_kinded_item flat_text (item.Claim c)) (list_all (is_kinded_item flat_text) items) h)
+    (places-kept flat_text (k + 1) items (right_of (is_kinded_item flat_text (item.Claim c)) (list_all (is_kinded_item flat_text) items) h))
+places-kept flat_text k (item.Split s ∷ items) h =
+    and_from (is_kinded_item flat_text (item.Split s)) (list_all (is_kinded_item flat_text) (with_places k items)) (left_of (is_kinded_item flat_text (item.Split s)) (list_all (is_kinded_item flat_text) items) h)
+    (places-kept flat_text k items (right_of (is_kinded_item flat_text (item.Split s)) (list_all (is_kinded_item flat_text) items) h))
+places-kept flat_text k (item.Using u ∷ items) h =
+    and_from (is_kinded_item flat_text (item.Using u)) (list_all (is_kinded_item flat_text) (with_places k items)) (left_of (is_kinded_item flat_text (item.Using u)) (list_all (is_kinded_item flat_text) items) h)
+    (places-kept flat_text k items (right_of (is_kinded_item flat_text (item.Using u)) (list_all (is_kinded_item flat_text) items) h))
 
 module _ (text : Text) (layers : List Name) where
   abbrev params : Path → Binders → List Param

@@ -4,10 +4,10 @@ use Rattle.std.specs.List.{AllByRecursion, list_any}
 use Rattle.smv_core.specs.Types.{find_name}
 use Rattle.smv_core.specs.FlatOrder.{modules, main}
 use Rattle.smv_core.specs.declared.tree.Text.{Text}
-use Rattle.smv_instances.specs.Scopes.{Piece, body_if_module, pieces}
-use Rattle.smv_instances.specs.NameFaults.{place_if, repeated, doubled_in, without_main, name_faults}
-use Rattle.smv_instances.specs.FirstFault.{first_of, faults_at, faults_of_names, fault_at_main, fault_of_size, first_fault}
-use Rattle.smv_instances.specs.Sizes.{sized_from, things_in, is_too_wide, count_different, constant_names, statements_in, is_too_large}
+use Rattle.smv_mentions.specs.Scopes.{Piece, body_if_module, pieces}
+use Rattle.smv_mentions.specs.NameFaults.{place_if, repeated, doubled_in, without_main, name_faults}
+use Rattle.smv_mentions.specs.FirstFault.{first_of, faults_at, faults_of_names, fault_at_main, fault_of_size, first_fault}
+use Rattle.smv_mentions.specs.Sizes.{sized_from, things_in, is_too_wide, count_different, constant_names, statements_in, is_too_large}
 use Rattle.law_sound_texts.proofs.NoFaults.{nil-map, none-both}
 use Rattle.law_sound_texts.proofs.Lists.{neither}
 use Rattle.law_designs.proofs.Faultless.{empty-both, empty-each, no_fault-in}

@@ -4,25 +4,25 @@ use Rattle.std.specs.List.{AllZip, list_all, list_any}
 use Rattle.std.proofs.lemmas.Option.{slice_get_within}
 use Rattle.smv_core.specs.Values.{Name, Value, Sizes, values_of}
 use Rattle.smv_core.specs.Types.{Family}
-use Rattle.smv_core.specs.FlatOrder.{Design, design_of}
+use Rattle.smv_core.specs.FlatOrder.{TextDesign, design_of}
 use Rattle.smv_core.specs.Outcome.{State, family_at}
 use Rattle.smv_core.specs.Walk.{Element}
 use Rattle.smv_core.specs.Allowed.{allowed, every_value, values_at}
 use Rattle.smv_core.specs.Sound as tree
 use Rattle.smv_core.specs.Sound.{indexes_in, Holds, AtEachTime, IsTyped}
-use Rattle.smv_core.specs.Flat.{Numbered, FlatState, flat_allowed}
+use Rattle.smv_core.specs.FlatMeaning.{Numbered, FlatState, flat_allowed}
 use Rattle.smv_core.specs.declared.tree.Text.{Text}
 use Rattle.smv_core.specs.declared.flat.Def.{Def}
 use Rattle.smv_core.specs.declared.flat.Design.{Design as FlatDesign}
 use Rattle.smv_core.specs.declared.flat.Family.{Family as FlatFamily}
-use Rattle.smv_core.specs.declared.flat.Raw.{Raw}
+use Rattle.smv_core.specs.declared.flat.FlatText.{FlatText}
 use Rattle.smv_core.specs.declared.flat.Unit.TheVariants.{Map}
 use Rattle.law_designs.specs.Numbers.{family_number}
 use Rattle.law_designs.specs.Flattening.{flatten, layer_number, scope_in}
 use Rattle.law_designs.specs.Agreement.{AreSameStates, IsSameFamily, flat_element, numbers_in}
-use Rattle.law_designs.specs.RawAllowed.{AreSameBefore, raw_allowed}
+use Rattle.law_designs.specs.FlatTextAllowed.{AreSameBefore, flat_text_allowed}
 use Rattle.law_designs.specs.WholeText.{is_one_layer}
-use Rattle.law_designs.specs.Definitions.{design_of_raw}
+use Rattle.law_designs.specs.Definitions.{design_of_flat_text}
 use Rattle.law_designs.specs.Laws.{AllowsAsTheText, IsFreeWithout, is_of_family}
 use Rattle.law_obligations.specs.Sets.{Has, first, later}
 use Rattle.law_obligations.specs.Circular.{always}
@@ -39,7 +39,7 @@ use Rattle.law_obligations.proofs.Spots.{Has-numbers}
 use Rattle.law_sound_texts.specs.TextExtension.{FamiliesAreFound}
 use Rattle.law_sound_texts.proofs.Lists.{left_of, right_of, some_or_none}
 use Rattle.law_sound_texts.proofs.Faultless.{IsFaultless, IsBase, base_by}
-use Rattle.law_sound_texts.proofs.Texts.{Has-Contains, All-each, in_raw, indexes_same, demand_same}
+use Rattle.law_sound_texts.proofs.Texts.{Has-Contains, All-each, in_flat_text, indexes_same, demand_same}
 use Rattle.law_sound_texts.specs.Carried.{UnitsHold}
 use Rattle.law_sound_texts.proofs.Units.{map-unit}
 use Rattle.law_sound_texts.proofs.Times.{always-gives, always-true, at-each-time}
@@ -59,29 +59,29 @@ in-layer number None e = absurd (cc (e))
 in-layer number (Some other) e = ap Some (sym (nat_eq-is other number e))
 
 module _ (text : Text) (sizes : Sizes) (families : AllZip (IsSameFamily (numbers_in text sizes)) (flatten text).families (design_of text).families) (found : FamiliesAreFound text)
-    (allows : All (AllowsAsTheText text) (design_of_raw (flatten text)).defs) (faultless : IsFaultless (design_of_raw (flatten text))) (free : IsFreeWithout (flatten text) (design_of_raw (flatten text)).defs) where
-  abbrev d : Design
+    (allows : All (AllowsAsTheText text) (design_of_flat_text (flatten text)).defs) (faultless : IsFaultless (design_of_flat_text (flatten text))) (free : IsFreeWithout (flatten text) (design_of_flat_text (flatten text)).defs) where
+  abbrev d : TextDesign
   d = design_of text
 
-  abbrev raw : Raw
-  raw = flatten text
+  abbrev flat_text : FlatText
+  flat_text = flatten text
 
   abbrev f : FlatDesign
-  f = design_of_raw (flatten text)
+  f = design_of_flat_text (flatten text)
 
   abbrev n : Numbered
   n = numbers_in text sizes
 
   -- the flattened text allows what the text allows, in each layer
-  abbrev pub RawAllowsSame : Type 0
-  RawAllowsSame = (layer : Option Name) (x : Element) (h : Family) → family_at d.families x.path ≡ Some h → (before : Option State) (fore : Option FlatState) → AreSameBefore d.families before fore → (s : State) (t : FlatState) → AreSameStates d.families s t →
-      raw_allowed raw sizes layer (flat_element (scope_in text []) x) (every_value d sizes x) fore t ≡ allowed d sizes layer x before s
+  abbrev pub FlatTextAllowsSame : Type 0
+  FlatTextAllowsSame = (layer : Option Name) (x : Element) (h : Family) → family_at d.families x.path ≡ Some h → (before : Option State) (fore : Option FlatState) → AreSameBefore d.families before fore → (s : State) (t : FlatState) → AreSameStates d.families s t →
+      flat_text_allowed flat_text sizes layer (flat_element (scope_in text []) x) (every_value d sizes x) fore t ≡ allowed d sizes layer x before s
 
-  module _ (frees : RawAllowsSame) (hold : UnitsHold f) (are : flat.AreSizes (names_of f) sizes)
+  module _ (frees : FlatTextAllowsSame) (hold : UnitsHold f) (are : flat.AreSizes (names_of f) sizes)
       (run : List State) (ts : List FlatState) (states : AllZip (AreSameStates d.families) run ts) (typed : (s : State) → Has run s → IsTyped d sizes s) (is : flat.IsRun n (bases f) ts)
       (layer : Name) (h : Family) (k : ℕ) (at : slice_get d.families k ≡ Some h) (vs : List Value) (i : Has (indexes_in sizes h) vs) where
     abbrev number : ℕ
-    number = layer_number raw.layers layer
+    number = layer_number flat_text.layers layer
 
     abbrev x : Element
     x = record { path = h.path; indexes = vs }
@@ -91,8 +91,8 @@ module _ (text : Text) (sizes : Sizes) (families : AllZip (IsSameFamily (numbers
 
     over : (def : Def) → def.family ≡ k → Has (values_over n (params_of n (map_of def))) vs
     over def own =
-        let r : (g : FlatFamily) × (slice_get raw.families k ≡ Some g) × IsSameFamily n g h = in_raw text sizes families found k h at in
-        subst (λ j. Has (values_over n (over_of (slice_get raw.families j))) vs) (sym own) (subst (λ o. Has (values_over n (over_of o)) vs) (sym r.1) (subst (λ l. Has l vs) (sym (indexes_same text sizes families found r.0 h r.2)) i))
+        let r : (g : FlatFamily) × (slice_get flat_text.families k ≡ Some g) × IsSameFamily n g h = in_flat_text text sizes families found k h at in
+        subst (λ j. Has (values_over n (over_of (slice_get flat_text.families j))) vs) (sym own) (subst (λ o. Has (values_over n (over_of o)) vs) (sym r.1) (subst (λ l. Has l vs) (sym (indexes_same text sizes families found r.0 h r.2)) i))
 
     -- a definition of the layer that always holds
     by_def : (def : Def) → Has f.defs def → def.family ≡ k → Some number ≡ def.layer → always (is_held n (map_of def) vs) None ts ≡ true → AtEachTime Allows None run
@@ -100,9 +100,9 @@ module _ (text : Text) (sizes : Sizes) (families : AllZip (IsSameFamily (numbers
       where
         gives : (before : Option State) (fore : Option FlatState) → AreSameBefore d.families before fore → (s : State) (t : FlatState) → AreSameStates d.families s t → IsTyped d sizes s → is_held n (map_of def) vs fore t ≡ true → Allows before s
         gives before fore b s t same typed held =
-            let flat_has : Has (flat_allowed n def (record { family = def.family; indexes = vs }) (values_of_family n (slice_get raw.families def.family)) fore t) (t def.family vs) = Has-is_in _ _ held in
-            let at_k : Has (flat_allowed n def (record { family = k; indexes = vs }) (values_of_family n (slice_get raw.families k)) fore t) (t k vs) =
-            subst (λ j. Has (flat_allowed n def (record { family = j; indexes = vs }) (values_of_family n (slice_get raw.families j)) fore t) (t j vs)) own flat_has in
+            let flat_has : Has (flat_allowed n def (record { family = def.family; indexes = vs }) (values_of_family n (slice_get flat_text.families def.family)) fore t) (t def.family vs) = Has-is_in _ _ held in
+            let at_k : Has (flat_allowed n def (record { family = k; indexes = vs }) (values_of_family n (slice_get flat_text.families k)) fore t) (t k vs) =
+            subst (λ j. Has (flat_allowed n def (record { family = j; indexes = vs }) (values_of_family n (slice_get flat_text.families j)) fore t) (t j vs)) own flat_has in
             Has-Contains (subst (Has (allowed d sizes (Some layer) x before s)) (same k h at vs)
             (subst (λ l. Has l (t k vs)) (demand_same text sizes families found allows faultless k h at def m own (Some layer) in_layer vs before fore b s t same) at_k))
 
@@ -110,9 +110,9 @@ module _ (text : Text) (sizes : Sizes) (families : AllZip (IsSameFamily (numbers
     by_base : (def : Def) → outline.base_of f k ≡ Some def → always (is_held n (map_of def) vs) None ts ≡ true
     by_base def is_base =
         let own : (def.family ≡ k) × IsBase f def = base_by f faultless k def is_base in
-        let r : (g : FlatFamily) × (slice_get raw.families k ≡ Some g) × IsSameFamily n g h = in_raw text sizes families found k h at in
+        let r : (g : FlatFamily) × (slice_get flat_text.families k ≡ Some g) × IsSameFamily n g h = in_flat_text text sizes families found k h at in
         let there : Has (bases f) def =
-        Has-flat_map (λ family. option_to_list (outline.base_of f family)) (Has-numbers 0 (length raw.families) k (omega arith) (let l = slice_get_within raw.families k r.0 r.1 in omega (arith, l)))
+        Has-flat_map (λ family. option_to_list (outline.base_of f family)) (Has-numbers 0 (length flat_text.families) k (omega arith) (let l = slice_get_within flat_text.families k r.0 r.1 in omega (arith, l)))
         (subst (λ o. Has (option_to_list o) def) (sym is_base) first) in
         always-gives (meets_base n (bases f)) (is_held n (map_of def) vs)
         (λ fore t meets. all-each (λ vs. is_held n (map_of def) vs fore t) (all-each (λ (def : Def). list_all (λ vs. is_held n (map_of def) vs fore t) (values_over n (params_of n (map_of def)))) meets there) (over def own.0)) None ts is.keeps_base
@@ -131,7 +131,7 @@ module _ (text : Text) (sizes : Sizes) (families : AllZip (IsSameFamily (numbers
         gives : (before : Option State) (fore : Option FlatState) → AreSameBefore d.families before fore → (s : State) (t : FlatState) → AreSameStates d.families s t → IsTyped d sizes s → true ≡ true → Allows before s
         gives before fore b s t same typed held =
             let lacks : list_any (is_of_family (Some number) (family_number (scope_in text []) h.path)) f.defs ≡ false = subst (λ j. list_any (is_of_family (Some number) j) f.defs ≡ false) (sym (found k h at).1) none in
-            let all : raw_allowed raw sizes (Some layer) (flat_element (scope_in text []) x) (every_value d sizes x) fore t ≡ every_value d sizes x = free sizes (Some layer) (flat_element (scope_in text []) x) lacks (every_value d sizes x) fore t in
+            let all : flat_text_allowed flat_text sizes (Some layer) (flat_element (scope_in text []) x) (every_value d sizes x) fore t ≡ every_value d sizes x = free sizes (Some layer) (flat_element (scope_in text []) x) lacks (every_value d sizes x) fore t in
             let same_values : allowed d sizes (Some layer) x before s ≡ values_of sizes h.value = sym (frees (Some layer) x h (found k h at).0 before fore b s t same) ∙ (all ∙ ap (values_at sizes) (found k h at).0) in
             let of_family : All (λ vs. Contains (values_of sizes h.value) (s h.path vs)) (indexes_in sizes h) =
             All-each (λ (h : Family). All (λ vs. Contains (values_of sizes h.value) (s h.path vs)) (indexes_in sizes h)) d.families h typed (get_Has d.families k h at) in

@@ -8,9 +8,9 @@ use Rattle.smv_core.specs.FlatOrder.{Body, families_of_item, families_in}
 use Rattle.smv_core.specs.Outcome.{family_at, same_path}
 use Rattle.smv_core.specs.declared.tree.Word.{Word}
 use Rattle.smv_core.specs.declared.tree.Item.{Item}
-use Rattle.smv_instances.specs.Mentions.{Mention, declares, binds, follows, names_type, lists_constants, has_fields, instantiates, in_item}
-use Rattle.smv_instances.specs.Scopes.{Own, Constant}
-use Rattle.smv_instances.specs.NameFaults.{declared_words}
+use Rattle.smv_mentions.specs.Mentions.{Mention, declares, binds, follows, names_type, lists_constants, has_fields, instantiates, in_item}
+use Rattle.smv_mentions.specs.Scopes.{Own, Constant}
+use Rattle.smv_mentions.specs.NameFaults.{declared_words}
 use Rattle.law_designs.proofs.TypeNumbers.{paths-decide}
 use Rattle.law_designs.proofs.Lookups.{find-passes}
 use Rattle.law_designs.proofs.Modules.{IsApart}

@@ -3,7 +3,7 @@ use Rattle.std.proofs.Common.{◌≡◌, ℕ, suc, ◌+◌, ◌-◌, ◌≤◌, 
 use Rattle.std.specs.List.{list_all}
 use Rattle.smv_core.specs.Values.{Value, number, constant, scalar, ordinal, scalarset, ordset, Sizes, values_of, is_in, numbers_from}
 use Rattle.smv_core.specs.Assignments.{Index, fixed, bare, computed, fits}
-use Rattle.smv_core.specs.Flat.{Numbered, values_in, set_type}
+use Rattle.smv_core.specs.FlatMeaning.{Numbered, values_in, set_type}
 use Rattle.smv_core.specs.declared.flat.Simple.{Simple}
 use Rattle.smv_core.specs.declared.flat.Simple.TheVariants.{Range, Enum, Set}
 use Rattle.smv_core.specs.declared.flat.SetInfo.{SetInfo}

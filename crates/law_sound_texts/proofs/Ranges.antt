@@ -7,7 +7,7 @@ use Rattle.smv_core.specs.declared.tree.Text.{Text}
 use Rattle.smv_core.specs.declared.tree.Top.{Top}
 use Rattle.smv_core.specs.declared.tree.Top.TheVariants.{SetType, Alias, Module as ModuleOf}
 use Rattle.smv_core.specs.declared.tree.TypeExpr.{TypeExpr, Boolean, Range, Enum, Named, Array', Struct', end_of-TypeExpr, more_of-TypeExpr, Row_of-Field, end_of-Field, more_of-Field}
-use Rattle.smv_instances.specs.Scopes.{Constant, constants, pieces}
+use Rattle.smv_mentions.specs.Scopes.{Constant, constants, pieces}
 use Rattle.law_designs.specs.References.{Module, modules_from}
 use Rattle.law_designs.specs.Types.{Types, types_after, is_reversed, range_faults, size_faults, index_faults, type_faults, field_faults}
 use Rattle.law_designs.specs.KindFaults.{in_top, in_tops, faults_of_kinds, first_fault_of_kinds}

@@ -8,7 +8,7 @@ use Rattle.smv_core.specs.Outcome.{same_path}
 use Rattle.smv_core.specs.declared.tree.Op.{Op}
 use Rattle.smv_core.specs.declared.tree.Op.TheVariants.{Equal, Differ, Less, AtMost, Greater, AtLeast}
 use Rattle.smv_core.specs.declared.flat.Simple.{Simple}
-use Rattle.smv_instances.specs.NameFaults.{place_if}
+use Rattle.smv_mentions.specs.NameFaults.{place_if}
 use Rattle.law_designs.specs.Kinds.{Kind, number, enumeration, set_type, no_kind, Operand, joins, joined, accepts, has_order, unless, takes_number, takes, alike_with, alike, kind_with, chosen}
 use Rattle.law_designs.specs.Operands.{compared}
 use Rattle.law_designs.specs.FlatKinds as typed

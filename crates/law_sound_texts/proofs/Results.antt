@@ -9,9 +9,9 @@ use Rattle.smv_core.specs.Outcome.{branch, fit}
 use Rattle.smv_core.specs.Walk as walk
 use Rattle.smv_core.specs.Walk.{Walk, if_walk, unless_nothing, is_other}
 use Rattle.smv_core.specs.Assignments.{Index, fits}
-use Rattle.smv_core.specs.Flat.{Numbered, FlatState, FlatBindings, FlatElement, bind, values_in, flat_index, flat_outcome, flat_members, flat_meets, flat_allowed_by, flat_assigned, flat_result, flat_results}
+use Rattle.smv_core.specs.FlatMeaning.{Numbered, FlatState, FlatBindings, FlatElement, bind, values_in, flat_index, flat_outcome, flat_members, flat_meets, flat_allowed_by, flat_assigned, flat_result, flat_results}
 use Rattle.smv_core.specs.declared.flat.FlatExpr.{FlatExpr, List', Each', Choose', end_of-FlatExpr, more_of-FlatExpr}
-use Rattle.smv_core.specs.declared.flat.Flat.{Flat, Nothing, Assign, If', First', Forall', Row_of-Flat, end_of-Flat, more_of-Flat}
+use Rattle.smv_core.specs.declared.flat.DefBody.{DefBody, Nothing, Assign, If', First', Forall', Row_of-DefBody, end_of-DefBody, more_of-DefBody}
 use Rattle.law_obligations.specs.Sets.{Has, first, later}
 use Rattle.law_obligations.proofs.Members.{Has-left, Has-right, Has-cases}
 use Rattle.law_obligations.proofs.Same.{Has-is_in}
@@ -32,32 +32,32 @@ first_nones F h (v ∷ vs) = rw (h v) (first_nones F h vs)
 -- those that pass a test alone
 module _ (keep : List Index → Bool) (n : Numbered) (s : FlatState) (x : FlatElement) (every : List Value) where
   abbrev mutual
-    pub result_by : Flat → FlatBindings → Walk
+    pub result_by : DefBody → FlatBindings → Walk
     result_by Nothing b = None
     result_by (Assign left value place at) b = cond (keep (map flat_index left)) (flat_assigned n s x every (map (λ e. flat_outcome n s e b) left) value b) None
-    result_by (If' test l (more_of-Flat left end_of-Flat) r (more_of-Flat right end_of-Flat)) b = if_walk every (truth (flat_outcome n s test b)) (result_by left b) (result_by right b)
+    result_by (If' test l (more_of-DefBody left end_of-DefBody) r (more_of-DefBody right end_of-DefBody)) b = if_walk every (truth (flat_outcome n s test b)) (result_by left b) (result_by right b)
     result_by (First' shape parts) b = results_by parts b
-    result_by (Forall' var over shape (more_of-Flat body end_of-Flat)) b = walk.first (map (λ v. result_by body (bind b var v)) (values_in n over))
+    result_by (Forall' var over shape (more_of-DefBody body end_of-DefBody)) b = walk.first (map (λ v. result_by body (bind b var v)) (values_in n over))
 
-    pub results_by : {m : _} → Row_of-Flat m → FlatBindings → Walk
-    results_by end_of-Flat b = None
-    results_by (more_of-Flat part rest) b = walk.first_of (result_by part b) (results_by rest b)
+    pub results_by : {m : _} → Row_of-DefBody m → FlatBindings → Walk
+    results_by end_of-DefBody b = None
+    results_by (more_of-DefBody part rest) b = walk.first_of (result_by part b) (results_by rest b)
 
 -- all assignments
 mutual
-  pub all_result : (n : Numbered) (s : FlatState) (x : FlatElement) (every : List Value) (def : Flat) (b : FlatBindings) → result_by (λ is. true) n s x every def b ≡ flat_result n s x every def b
+  pub all_result : (n : Numbered) (s : FlatState) (x : FlatElement) (every : List Value) (def : DefBody) (b : FlatBindings) → result_by (λ is. true) n s x every def b ≡ flat_result n s x every def b
   all_result n s x every Nothing b = refl
   all_result n s x every (Assign left value place at) b = refl
-  all_result n s x every (If' test l (more_of-Flat left end_of-Flat) r (more_of-Flat right end_of-Flat)) b =
+  all_result n s x every (If' test l (more_of-DefBody left end_of-DefBody) r (more_of-DefBody right end_of-DefBody)) b =
       ap (λ w. if_walk every (truth (flat_outcome n s test b)) w (result_by (λ is. true) n s x every right b)) (all_result n s x every left b) ∙
       ap (λ w. if_walk every (truth (flat_outcome n s test b)) (flat_result n s x every left b) w) (all_result n s x every right b)
   all_result n s x every (First' shape parts) b = all_results n s x every parts b
-  all_result n s x every (Forall' var over shape (more_of-Flat body end_of-Flat)) b =
+  all_result n s x every (Forall' var over shape (more_of-DefBody body end_of-DefBody)) b =
       ap (λ (F : Value → Walk). walk.first (map F (values_in n over))) (fun_ext (λ v. all_result n s x every body (bind b var v)))
 
-  all_results : {m : _} (n : Numbered) (s : FlatState) (x : FlatElement) (every : List Value) (parts : Row_of-Flat m) (b : FlatBindings) → results_by (λ is. true) n s x every parts b ≡ flat_results n s x every parts b
-  all_results n s x every end_of-Flat b = refl
-  all_results n s x every (more_of-Flat part rest) b =
+  all_results : {m : _} (n : Numbered) (s : FlatState) (x : FlatElement) (every : List Value) (parts : Row_of-DefBody m) (b : FlatBindings) → results_by (λ is. true) n s x every parts b ≡ flat_results n s x every parts b
+  all_results n s x every end_of-DefBody b = refl
+  all_results n s x every (more_of-DefBody part rest) b =
       ap (λ w. walk.first_of w (results_by (λ is. true) n s x every rest b)) (all_result n s x every part b) ∙
       ap (λ w. walk.first_of (flat_result n s x every part b) w) (all_results n s x every rest b)
 
@@ -78,24 +78,24 @@ module _ (family : ℕ) where
   less around more a h = record { is_of = h.is_of; are_plain = h.are_plain; reads_around = λ r k. h.reads_around r (Has-left more k) }
 
   mutual
-    pub reading_is : (around : List Reference) (def : Flat) (a : Reading) → Has (readings family around def) a → IsReading family around a
+    pub reading_is : (around : List Reference) (def : DefBody) (a : Reading) → Has (readings family around def) a → IsReading family around a
     reading_is around Nothing a h = elim h [ ]
     reading_is around (Assign left value place at) a h = at_one a h
       where
         at_one : (a : Reading) → Has (readings family around (Assign left value place at)) a → IsReading family around a
         at_one _ first = record { is_of = refl; are_plain = all_plain left; reads_around = λ r k. Has-left (references value) (Has-left (flat_map references left) k) }
         at_one a (later h) = elim h [ ]
-    reading_is around (If' test l (more_of-Flat left end_of-Flat) r (more_of-Flat right end_of-Flat)) a h =
+    reading_is around (If' test l (more_of-DefBody left end_of-DefBody) r (more_of-DefBody right end_of-DefBody)) a h =
         elim (Has-cases (readings family (around ++ references test) left) (readings family (around ++ references test) right) h) [
           | inl k ↦ less around (references test) a (reading_is (around ++ references test) left a k)
           | inr k ↦ less around (references test) a (reading_is (around ++ references test) right a k)
         ]
     reading_is around (First' shape parts) a h = readings_are around parts a h
-    reading_is around (Forall' var over shape (more_of-Flat body end_of-Flat)) a h = reading_is around body a h
+    reading_is around (Forall' var over shape (more_of-DefBody body end_of-DefBody)) a h = reading_is around body a h
 
-    readings_are : {m : _} (around : List Reference) (parts : Row_of-Flat m) (a : Reading) → Has (readings_of family around parts) a → IsReading family around a
-    readings_are around end_of-Flat a h = elim h [ ]
-    readings_are around (more_of-Flat part rest) a h =
+    readings_are : {m : _} (around : List Reference) (parts : Row_of-DefBody m) (a : Reading) → Has (readings_of family around parts) a → IsReading family around a
+    readings_are around end_of-DefBody a h = elim h [ ]
+    readings_are around (more_of-DefBody part rest) a h =
         elim (Has-cases (readings family around part) (readings_of family around rest) h) [ inl k ↦ reading_is around part a k | inr k ↦ readings_are around rest a k ]
 
 -- ---- states that agree
@@ -105,26 +105,26 @@ module _ (keep : List Index → Bool) (n : Numbered) (x : FlatElement) (every : 
   kept a = keep a.left
 
   -- the assignments of two branches
-  abbrev both : List Reference → Flat → Flat → List Reading
+  abbrev both : List Reference → DefBody → DefBody → List Reading
   both around left right = readings family around left ++ readings family around right
 
   module _ (s : FlatState) where
     mutual
-      nothing_kept : (around : List Reference) (def : Flat) (b : FlatBindings) → ((a : Reading) → Has (readings family around def) a → kept a ≡ false) → result_by keep n s x every def b ≡ None
+      nothing_kept : (around : List Reference) (def : DefBody) (b : FlatBindings) → ((a : Reading) → Has (readings family around def) a → kept a ≡ false) → result_by keep n s x every def b ≡ None
       nothing_kept around Nothing b h = refl
       nothing_kept around (Assign left value place at) b h = ap (λ c. cond c (flat_assigned n s x every (map (λ e. flat_outcome n s e b) left) value b) None) (h _ first)
-      nothing_kept around (If' test l (more_of-Flat left end_of-Flat) r (more_of-Flat right end_of-Flat)) b h =
+      nothing_kept around (If' test l (more_of-DefBody left end_of-DefBody) r (more_of-DefBody right end_of-DefBody)) b h =
           let p : result_by keep n s x every left b ≡ None = nothing_kept (around ++ references test) left b (λ a k. h a (Has-left (readings family (around ++ references test) right) k)) in
           let q : result_by keep n s x every right b ≡ None = nothing_kept (around ++ references test) right b (λ a k. h a (Has-right (readings family (around ++ references test) left) k)) in
           ap (λ w. if_walk every (truth (flat_outcome n s test b)) w (result_by keep n s x every right b)) p ∙
           (ap (λ w. if_walk every (truth (flat_outcome n s test b)) None w) q ∙ if_walk-none every (truth (flat_outcome n s test b)))
       nothing_kept around (First' shape parts) b h = none_kept around parts b h
-      nothing_kept around (Forall' var over shape (more_of-Flat body end_of-Flat)) b h =
+      nothing_kept around (Forall' var over shape (more_of-DefBody body end_of-DefBody)) b h =
           first_nones (λ v. result_by keep n s x every body (bind b var v)) (λ v. nothing_kept around body (bind b var v) h) (values_in n over)
 
-      none_kept : {m : _} (around : List Reference) (parts : Row_of-Flat m) (b : FlatBindings) → ((a : Reading) → Has (readings_of family around parts) a → kept a ≡ false) → results_by keep n s x every parts b ≡ None
-      none_kept around end_of-Flat b h = refl
-      none_kept around (more_of-Flat part rest) b h =
+      none_kept : {m : _} (around : List Reference) (parts : Row_of-DefBody m) (b : FlatBindings) → ((a : Reading) → Has (readings_of family around parts) a → kept a ≡ false) → results_by keep n s x every parts b ≡ None
+      none_kept around end_of-DefBody b h = refl
+      none_kept around (more_of-DefBody part rest) b h =
           ap (λ w. walk.first_of w (results_by keep n s x every rest b)) (nothing_kept around part b (λ a k. h a (Has-left (readings_of family around rest) k))) ∙
           none_kept around rest b (λ a k. h a (Has-right (readings family around part) k))
 
@@ -146,7 +146,7 @@ module _ (keep : List Index → Bool) (n : Numbered) (x : FlatElement) (every : 
         ap (λ vs. cond (list_any (λ (u, v). is_other u v) (zip (map (λ e. flat_outcome n t e b) left) x.indexes)) None (cond (list_any is_none (map (λ e. flat_outcome n t e b) left)) (Some every) (Some vs)))
         (same_allowed n s t every value b c)
 
-    same_if : (test : FlatExpr) (around : List Reference) (left right : Flat) (b : FlatBindings) → AgreeWhere (readings family (around ++ references test) left ++ readings family (around ++ references test) right) →
+    same_if : (test : FlatExpr) (around : List Reference) (left right : DefBody) (b : FlatBindings) → AgreeWhere (readings family (around ++ references test) left ++ readings family (around ++ references test) right) →
         result_by keep n s x every left b ≡ result_by keep n t x every left b → result_by keep n s x every right b ≡ result_by keep n t x every right b →
         if_walk every (truth (flat_outcome n s test b)) (result_by keep n s x every left b) (result_by keep n s x every right b) ≡ if_walk every (truth (flat_outcome n t test b)) (result_by keep n t x every left b) (result_by keep n t x every right b)
     same_if test around left right b h p q =
@@ -173,7 +173,7 @@ module _ (keep : List Index → Bool) (n : Numbered) (x : FlatElement) (every : 
             of_nothing v w e f = rw (e, f) (if_walk-none every (truth (flat_outcome n s test b)) ∙ sym (if_walk-none every (truth (flat_outcome n t test b))))
 
     mutual
-      pub same_result : (around : List Reference) (def : Flat) (b : FlatBindings) → AgreeWhere (readings family around def) → result_by keep n s x every def b ≡ result_by keep n t x every def b
+      pub same_result : (around : List Reference) (def : DefBody) (b : FlatBindings) → AgreeWhere (readings family around def) → result_by keep n s x every def b ≡ result_by keep n t x every def b
       same_result around Nothing b h = refl
       same_result around (Assign left value place at) b h = by_test (keep (map flat_index left)) refl
         where
@@ -182,17 +182,17 @@ module _ (keep : List Index → Bool) (n : Numbered) (x : FlatElement) (every : 
           by_test true e = same_assigned left value b (at_right n s t around (flat_map references left) (at_left n s t (around ++ flat_map references left) (references value) (h _ first e)))
               (at_right n s t (around ++ flat_map references left) (references value) (h _ first e))
           by_test false e = refl
-      same_result around (If' test l (more_of-Flat left end_of-Flat) r (more_of-Flat right end_of-Flat)) b h =
+      same_result around (If' test l (more_of-DefBody left end_of-DefBody) r (more_of-DefBody right end_of-DefBody)) b h =
           same_if test around left right b h
           (same_result (around ++ references test) left b (where_left (readings family (around ++ references test) left) (readings family (around ++ references test) right) h))
           (same_result (around ++ references test) right b (where_right (readings family (around ++ references test) left) (readings family (around ++ references test) right) h))
       same_result around (First' shape parts) b h = same_results around parts b h
-      same_result around (Forall' var over shape (more_of-Flat body end_of-Flat)) b h =
+      same_result around (Forall' var over shape (more_of-DefBody body end_of-DefBody)) b h =
           ap (λ (F : Value → Walk). walk.first (map F (values_in n over))) (fun_ext (λ v. same_result around body (bind b var v) h))
 
-      same_results : {m : _} (around : List Reference) (parts : Row_of-Flat m) (b : FlatBindings) → AgreeWhere (readings_of family around parts) → results_by keep n s x every parts b ≡ results_by keep n t x every parts b
-      same_results around end_of-Flat b h = refl
-      same_results around (more_of-Flat part rest) b h =
+      same_results : {m : _} (around : List Reference) (parts : Row_of-DefBody m) (b : FlatBindings) → AgreeWhere (readings_of family around parts) → results_by keep n s x every parts b ≡ results_by keep n t x every parts b
+      same_results around end_of-DefBody b h = refl
+      same_results around (more_of-DefBody part rest) b h =
           ap (λ w. walk.first_of w (results_by keep n s x every rest b)) (same_result around part b (where_left (readings family around part) (readings_of family around rest) h)) ∙
           ap (λ w. walk.first_of (result_by keep n t x every part b) w) (same_results around rest b (where_right (readings family around part) (readings_of family around rest) h))
 
@@ -286,18 +286,18 @@ module _ (every : List Value) (one : (v : Value) × Has every v) where
           (cond_some (list_any is_none us) (Some every) (Some (flat_allowed_by n s every value b)) all_some (allowed_some value b))
 
       mutual
-        pub result_some : (def : Flat) (b : FlatBindings) → IsSome every (result_by keep n s x every def b)
+        pub result_some : (def : DefBody) (b : FlatBindings) → IsSome every (result_by keep n s x every def b)
         result_some Nothing b = tt
         result_some (Assign left value place at) b =
             cond_some (keep (map flat_index left)) (flat_assigned n s x every (map (λ e. flat_outcome n s e b) left) value b) None (assigned_some (map (λ e. flat_outcome n s e b) left) value b) tt
-        result_some (If' test l (more_of-Flat left end_of-Flat) r (more_of-Flat right end_of-Flat)) b =
+        result_some (If' test l (more_of-DefBody left end_of-DefBody) r (more_of-DefBody right end_of-DefBody)) b =
             if_some (truth (flat_outcome n s test b)) (result_by keep n s x every left b) (result_by keep n s x every right b) (result_some left b) (result_some right b)
         result_some (First' shape parts) b = results_some parts b
-        result_some (Forall' var over shape (more_of-Flat body end_of-Flat)) b = firsts_some (λ v. result_by keep n s x every body (bind b var v)) (λ v. result_some body (bind b var v)) (values_in n over)
+        result_some (Forall' var over shape (more_of-DefBody body end_of-DefBody)) b = firsts_some (λ v. result_by keep n s x every body (bind b var v)) (λ v. result_some body (bind b var v)) (values_in n over)
 
-        results_some : {m : _} (parts : Row_of-Flat m) (b : FlatBindings) → IsSome every (results_by keep n s x every parts b)
-        results_some end_of-Flat b = tt
-        results_some (more_of-Flat part rest) b = first_some (result_by keep n s x every part b) (results_by keep n s x every rest b) (result_some part b) (results_some rest b)
+        results_some : {m : _} (parts : Row_of-DefBody m) (b : FlatBindings) → IsSome every (results_by keep n s x every parts b)
+        results_some end_of-DefBody b = tt
+        results_some (more_of-DefBody part rest) b = first_some (result_by keep n s x every part b) (results_by keep n s x every rest b) (result_some part b) (results_some rest b)
 
 -- ---- within what the definition gives
 
@@ -340,7 +340,7 @@ module _ (every : List Value) (one : (v : Value) × Has every v) where
       within_first (F v) (walk.first (map F vs)) (G v) (walk.first (map G vs)) (firsts_some every one F some vs) (h v) (within_firsts F G some h vs)
 
   module _ (n : Numbered) (s : FlatState) (x : FlatElement) where
-    abbrev sure : Flat → FlatBindings → Walk
+    abbrev sure : DefBody → FlatBindings → Walk
     sure def b = result_by (concerns x) n s x every def b
 
     within_assigned : (left : List FlatExpr) (value : FlatExpr) (b : FlatBindings) (c : Bool) → concerns x (map flat_index left) ≡ c →
@@ -355,18 +355,18 @@ module _ (every : List Value) (one : (v : Value) × Has every v) where
         by_cause false false (inr e) = absurd (cc (e))
 
     mutual
-      pub result_within : (def : Flat) (b : FlatBindings) → IsWithin every (result_by (concerns x) n s x every def b) (flat_result n s x every def b)
+      pub result_within : (def : DefBody) (b : FlatBindings) → IsWithin every (result_by (concerns x) n s x every def b) (flat_result n s x every def b)
       result_within Nothing b = inl refl
       result_within (Assign left value place at) b = within_assigned left value b (concerns x (map flat_index left)) refl
-      result_within (If' test l (more_of-Flat left end_of-Flat) r (more_of-Flat right end_of-Flat)) b =
+      result_within (If' test l (more_of-DefBody left end_of-DefBody) r (more_of-DefBody right end_of-DefBody)) b =
           within_if (truth (flat_outcome n s test b)) (sure left b) (sure right b) (flat_result n s x every left b) (flat_result n s x every right b) (result_within left b) (result_within right b)
       result_within (First' shape parts) b = results_within parts b
-      result_within (Forall' var over shape (more_of-Flat body end_of-Flat)) b =
+      result_within (Forall' var over shape (more_of-DefBody body end_of-DefBody)) b =
           within_firsts (λ v. sure body (bind b var v)) (λ v. flat_result n s x every body (bind b var v)) (λ v. result_some every one n s (concerns x) x body (bind b var v)) (λ v. result_within body (bind b var v)) (values_in n over)
 
-      results_within : {m : _} (parts : Row_of-Flat m) (b : FlatBindings) → IsWithin every (results_by (concerns x) n s x every parts b) (flat_results n s x every parts b)
-      results_within end_of-Flat b = inl refl
-      results_within (more_of-Flat part rest) b =
+      results_within : {m : _} (parts : Row_of-DefBody m) (b : FlatBindings) → IsWithin every (results_by (concerns x) n s x every parts b) (flat_results n s x every parts b)
+      results_within end_of-DefBody b = inl refl
+      results_within (more_of-DefBody part rest) b =
           within_first (sure part b) (results_by (concerns x) n s x every rest b) (flat_result n s x every part b) (flat_results n s x every rest b)
           (results_some every one n s (concerns x) x rest b) (result_within part b) (results_within rest b)
 

@@ -3,10 +3,10 @@ use Rattle.std.proofs.Common.{◌≡◌, ℕ, zero, suc, ◌+◌, ◌-◌, List,
 use Rattle.std.specs.List.{list_all, AllZip}
 use Rattle.std.proofs.lemmas.Slice.Zip.{AllZip-long}
 use Rattle.smv_core.specs.Values.{Value, number, Sizes, is_in}
-use Rattle.smv_core.specs.Flat.{Numbered, FlatState, FlatElement, values_in, flat_result, is_concerned_by, flat_kept, flat_stepped, flat_allowed}
+use Rattle.smv_core.specs.FlatMeaning.{Numbered, FlatState, FlatElement, values_in, flat_result, is_concerned_by, flat_kept, flat_stepped, flat_allowed}
 use Rattle.smv_core.specs.declared.flat.Family.{Family}
 use Rattle.smv_core.specs.declared.flat.Cell.{Cell}
-use Rattle.smv_core.specs.declared.flat.Flat.{Flat}
+use Rattle.smv_core.specs.declared.flat.DefBody.{DefBody}
 use Rattle.smv_core.specs.declared.flat.Def.{Def}
 use Rattle.smv_core.specs.declared.flat.Design.{Design}
 use Rattle.law_obligations.specs.Sets.{Has, first, later}
@@ -40,7 +40,7 @@ abbrev ReadsNone : (ℕ → Bool) → Def → Type 0
 ReadsNone among def = (a : Reading) → Has (assignments_of def) a → (r : Reference) → Has a.reads r → among r.family ≡ false
 
 module _ (n : Numbered) (among : ℕ → Bool) (def : Def) (reads : ReadsNone among def) (x : FlatElement) (every : List Value) where
-  same_plain : (s t : FlatState) → AgreeOutside among s t → (flat : Flat) → ((a : Reading) → Has (readings def.family [] flat) a → Has (assignments_of def) a) → flat_result n s x every flat [] ≡ flat_result n t x every flat []
+  same_plain : (s t : FlatState) → AgreeOutside among s t → (flat : DefBody) → ((a : Reading) → Has (readings def.family [] flat) a → Has (assignments_of def) a) → flat_result n s x every flat [] ≡ flat_result n t x every flat []
   same_plain s t agree flat within =
       sym (all_result n s x every flat []) ∙
       (same_result (λ is. true) n x every def.family s t [] flat [] (λ a m c r i f known vs may. sym (agree r.family (reads a (within a m) r i) vs)) ∙ all_result n t x every flat [])

@@ -10,9 +10,9 @@ use Rattle.smv_core.specs.declared.tree.Word.{Word}
 use Rattle.smv_core.specs.declared.tree.Text.{Text}
 use Rattle.smv_core.specs.declared.tree.Top.{Top}
 use Rattle.smv_core.specs.declared.tree.Top.TheVariants.{SetType, Alias, Module}
-use Rattle.smv_instances.specs.Scopes.{Known, Piece, known_after, pieces, pieces_from}
-use Rattle.smv_instances.specs.NameFaults.{place_if, repeated, doubled_in, undeclared_in, name_faults}
-use Rattle.smv_instances.specs.FirstFault.{first_of, faults_at, faults_of_names, fault_of_size, or_else, first_fault}
+use Rattle.smv_mentions.specs.Scopes.{Known, Piece, known_after, pieces, pieces_from}
+use Rattle.smv_mentions.specs.NameFaults.{place_if, repeated, doubled_in, undeclared_in, name_faults}
+use Rattle.smv_mentions.specs.FirstFault.{first_of, faults_at, faults_of_names, fault_of_size, or_else, first_fault}
 use Rattle.law_designs.specs.Flattening.{set_of, flatten}
 use Rattle.law_designs.proofs.Faultless.{no_fault-in, unplaced}
 use Rattle.law_obligations.specs.Sets.{Has, first, later}

@@ -9,8 +9,8 @@ use Rattle.smv_core.specs.declared.tree.Text.{Text}
 use Rattle.smv_core.specs.declared.tree.Top.{Top}
 use Rattle.smv_core.specs.declared.tree.Top.TheVariants.{SetType, Alias, Module}
 use Rattle.smv_core.specs.declared.flat.SetInfo.{SetInfo}
-use Rattle.smv_instances.specs.Scopes.{Constant, constants, pieces}
-use Rattle.smv_instances.specs.NameFaults.{place_if}
+use Rattle.smv_mentions.specs.Scopes.{Constant, constants, pieces}
+use Rattle.smv_mentions.specs.NameFaults.{place_if}
 use Rattle.law_designs.specs.Types as kinds
 use Rattle.law_designs.specs.Types.{is_reversed, range_faults, types_after}
 use Rattle.law_designs.specs.References as kinds_of
@@ -18,7 +18,7 @@ use Rattle.law_designs.specs.References.{modules_from}
 use Rattle.law_designs.specs.KindFaults.{in_top, in_tops, first_fault_of_kinds, faults_of_kinds}
 use Rattle.law_designs.specs.Flattening.{set_of, flatten}
 use Rattle.law_designs.proofs.Lookups.{all-head, all-tail}
-use Rattle.law_designs.specs.Definitions.{design_of_raw}
+use Rattle.law_designs.specs.Definitions.{design_of_flat_text}
 use Rattle.law_designs.proofs.Faultless.{no_fault-in}
 use Rattle.law_obligations.specs.Sets.{Has, first, later}
 use Rattle.law_obligations.specs.Soundness as flat
@@ -50,5 +50,5 @@ module _ (modules : List (Name × kinds_of.Module)) (constants : List (Name × C
       by_top (Alias word of at) e own info k rest = rest info k
       by_top (Module word formals body at) e own info k rest = rest info k
 
-pub same_sizes : (text : Text) (sizes : Sizes) → first_fault_of_kinds text ≡ None → AreSizes text sizes → flat.AreSizes (names_of (design_of_raw (flatten text))) sizes
+pub same_sizes : (text : Text) (sizes : Sizes) → first_fault_of_kinds text ≡ None → AreSizes text sizes → flat.AreSizes (names_of (design_of_flat_text (flatten text))) sizes
 same_sizes text sizes none are = sets-sized (modules_from [] text.tops) (constants (pieces text)) sizes [] text.tops (no_fault-in (faults_of_kinds text) none) are

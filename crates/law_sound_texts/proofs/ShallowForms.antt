@@ -18,7 +18,7 @@ use Rattle.smv_core.specs.declared.tree.Stmt.{Stmt, Assign, Block, If, Switch, D
 use Rattle.smv_core.specs.declared.tree.Stmt.{items-the_row-Stmt, items-the_row-Arm, items_hidden-the_row-Stmt-0, items_hidden-the_row-Arm-2}
 use Rattle.smv_core.specs.declared.tree.Item as item
 use Rattle.smv_core.specs.declared.tree.Item.{Item, Row_of-Item, end_of-Item, more_of-Item, items-the_row-Item, items_hidden-the_row-Item-1}
-use Rattle.smv_instances.proofs.Computing.{computing}
+use Rattle.smv_mentions.proofs.Computing.{computing}
 use Rattle.law_designs.proofs.WrittenForms.{exprs_in, parts_in, members_in, terms_in, stmts_in, arms_in, other_in, items_in}
 use Rattle.law_sound_texts.proofs.Shallow.{most, IsShallow, AreShallow, PartsAreShallow, IndexesAreShallow, TermsAreShallow, MembersAreShallow, StatementIsShallow, StatementsAreShallow, BranchIsShallow, ArmsAreShallow, InnerIsShallow, InnersAreShallow}
 

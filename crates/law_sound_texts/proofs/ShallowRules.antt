@@ -24,7 +24,7 @@ use Rattle.smv_core.specs.Notation.{Tokens, Rule, found, same_kind, with_place, 
 use Rattle.smv_core.specs.Grammar as g
 use Rattle.smv_core.specs.Grammar.{Rules, no_rules, rules, below, chain, sum_of, named}
 use Rattle.smv_core.specs.Spelling.{Spells}
-use Rattle.smv_instances.proofs.Computing.{computing}
+use Rattle.smv_mentions.proofs.Computing.{computing}
 use Rattle.law_designs.proofs.LeadTypes.{some-same}
 use Rattle.law_designs.proofs.WrittenRules.{Gives, many-gives, separated-gives, or_none-gives}
 use Rattle.law_sound_texts.proofs.Shallow.{most, IsShallow, AreShallow, StatementIsShallow, InnerIsShallow, ItemIsShallow, TopIsShallow, TextIsShallow}

@@ -2,14 +2,14 @@
 use Rattle.std.proofs.Common.{◌≡◌, List, [], ◌∷◌, flat_map, All, Some, None, true, refl, sym, subst, arith}
 use Rattle.std.specs.List.{AllZip}
 use Rattle.smv_core.specs.Values.{Value, Sizes}
-use Rattle.smv_core.specs.FlatOrder.{Design, design_of}
+use Rattle.smv_core.specs.FlatOrder.{TextDesign, design_of}
 use Rattle.smv_core.specs.Outcome.{State}
 use Rattle.smv_core.specs.Allowed.{said_in}
 use Rattle.smv_core.specs.Types.{Family}
 use Rattle.smv_core.specs.Outcome.{family_at}
 use Rattle.smv_core.specs.Sound as tree
 use Rattle.smv_core.specs.Sound.{ProofUnit, AtEachTime, Holds, IsSound, instances, units}
-use Rattle.smv_core.specs.Flat.{Numbered, FlatState}
+use Rattle.smv_core.specs.FlatMeaning.{Numbered, FlatState}
 use Rattle.smv_core.specs.declared.tree.Text.{Text}
 use Rattle.smv_core.specs.declared.flat.Design.{Design as FlatDesign}
 use Rattle.smv_core.specs.declared.flat.Unit.{Unit as DesignUnit}
@@ -17,7 +17,7 @@ use Rattle.smv_core.specs.declared.flat.Unit.TheVariants.{Map, Claim}
 use Rattle.law_designs.specs.Flattening.{flatten}
 use Rattle.law_designs.specs.Agreement.{AreSameStates, IsSameFamily, numbers_in}
 use Rattle.law_designs.specs.SameActs.{IsSameAct, layered_acts}
-use Rattle.law_designs.specs.Definitions.{design_of_raw}
+use Rattle.law_designs.specs.Definitions.{design_of_flat_text}
 use Rattle.law_designs.specs.Laws.{AllowsAsTheText}
 use Rattle.law_obligations.specs.Sets.{Has}
 use Rattle.law_obligations.specs.Circular.{always}
@@ -39,14 +39,14 @@ use Rattle.law_sound_texts.proofs.DesignClaims.{claim_always}
 use Rattle.law_sound_texts.proofs.DesignMaps.{map_always}
 
 module _ (text : Text) (sizes : Sizes) (families : AllZip (IsSameFamily (numbers_in text sizes)) (flatten text).families (design_of text).families) (found : FamiliesAreFound text)
-    (allows : All (AllowsAsTheText text) (design_of_raw (flatten text)).defs) (faultless : IsFaultless (design_of_raw (flatten text))) (layers : LayersAreSame text)
+    (allows : All (AllowsAsTheText text) (design_of_flat_text (flatten text)).defs) (faultless : IsFaultless (design_of_flat_text (flatten text))) (layers : LayersAreSame text)
     (acts : AllZip (IsSameAct text) (layered_acts (flatten text).items) (flat_map said_in (design_of text).met)) (exact : LeftSidesAreExact (flatten text)) (claims : ClaimsAreSame text sizes)
-    (back : RunsAreCarriedBack text) (sound : IsSound text) (are : flat.AreSizes (names_of (design_of_raw (flatten text))) sizes) where
-  abbrev d : Design
+    (back : RunsAreCarriedBack text) (sound : IsSound text) (are : flat.AreSizes (names_of (design_of_flat_text (flatten text))) sizes) where
+  abbrev d : TextDesign
   d = design_of text
 
   abbrev f : FlatDesign
-  f = design_of_raw (flatten text)
+  f = design_of_flat_text (flatten text)
 
   abbrev n : Numbered
   n = numbers_in text sizes

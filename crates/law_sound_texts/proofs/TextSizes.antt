@@ -8,7 +8,7 @@ use Rattle.smv_core.specs.declared.tree.Top.{Top}
 use Rattle.smv_core.specs.declared.tree.Top.TheVariants.{SetType, Alias, Module}
 use Rattle.smv_core.specs.declared.flat.SetInfo.{SetInfo}
 use Rattle.law_designs.specs.Flattening.{set_of, flatten}
-use Rattle.law_designs.specs.Definitions.{design_of_raw}
+use Rattle.law_designs.specs.Definitions.{design_of_flat_text}
 use Rattle.law_obligations.specs.Sets.{Has, first}
 use Rattle.law_obligations.specs.Soundness as flat
 use Rattle.law_obligations.specs.Outlines.{names_of}
@@ -25,5 +25,5 @@ module _ (sizes : Sizes) where
   top-sized (Alias word of at) each = tt
   top-sized (Module word formals body at) each = tt
 
-  pub text_sizes : (text : Text) → flat.AreSizes (names_of (design_of_raw (flatten text))) sizes → AreSizes text sizes
+  pub text_sizes : (text : Text) → flat.AreSizes (names_of (design_of_flat_text (flatten text))) sizes → AreSizes text sizes
   text_sizes text are = Each-All (IsSizedTop sizes) text.tops (λ top m. top-sized top (λ info k. are info (Has-flat_map set_of m k)))

@@ -4,7 +4,7 @@ use Rattle.std.specs.Str.{bytes_eq}
 use Rattle.std.proofs.lemmas.Slice.Eq.{bytes_eq-Decides}
 use Rattle.smv_core.specs.Values.{Name}
 use Rattle.smv_core.specs.Types.{Family}
-use Rattle.smv_core.specs.FlatOrder.{Design, Met, said, claimed, Said, Claimed}
+use Rattle.smv_core.specs.FlatOrder.{TextDesign, Met, said, claimed, Said, Claimed}
 use Rattle.smv_core.specs.Outcome.{family_at, same_path}
 use Rattle.smv_core.specs.Assignments.{Assigned}
 use Rattle.smv_core.specs.Allowed.{assignments_in, is_defined_by, said_in}
@@ -69,7 +69,7 @@ only h = elim (Has-uncons h) [
   | inr k ↦ elim k [ ]
 ]
 
-module _ (d : Design) where
+module _ (d : TextDesign) where
   -- a map is of a family of the text, and a claim is one of its claims
   abbrev pub IsOfText : ProofUnit → Type 0
   IsOfText (map_of layer h) = Has d.families h

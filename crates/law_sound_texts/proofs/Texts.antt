@@ -6,24 +6,24 @@ use Rattle.std.proofs.lemmas.Slice.Zip.{AllZip-long}
 use Rattle.std.proofs.lemmas.Option.{slice_get_within}
 use Rattle.smv_core.specs.Values.{Value, Sizes, values_of}
 use Rattle.smv_core.specs.Types.{Family}
-use Rattle.smv_core.specs.FlatOrder.{Design, design_of}
+use Rattle.smv_core.specs.FlatOrder.{TextDesign, design_of}
 use Rattle.smv_core.specs.Outcome.{State, family_at}
 use Rattle.smv_core.specs.Walk.{Element}
 use Rattle.smv_core.specs.Allowed.{Base, base_of, layer_that_defines, allowed, allowed_by_base, every_value, values_at}
 use Rattle.smv_core.specs.Sound.{choices, indexes_in, AtEachTime, IsTyped, MeetsBase, IsRun}
-use Rattle.smv_core.specs.Flat.{Numbered, FlatState, simple_in, values_in, flat_allowed}
+use Rattle.smv_core.specs.FlatMeaning.{Numbered, FlatState, simple_in, values_in, flat_allowed}
 use Rattle.smv_core.specs.declared.tree.Text.{Text}
 use Rattle.smv_core.specs.declared.flat.Simple.{Simple as FlatSimple}
 use Rattle.smv_core.specs.declared.flat.Family.{Family as FlatFamily}
 use Rattle.smv_core.specs.declared.flat.Def.{Def}
 use Rattle.smv_core.specs.declared.flat.Design.{Design as FlatDesign}
-use Rattle.smv_core.specs.declared.flat.Raw.{Raw}
+use Rattle.smv_core.specs.declared.flat.FlatText.{FlatText}
 use Rattle.law_designs.specs.Numbers.{family_number}
 use Rattle.law_designs.specs.Flattening.{flatten, scope_in, layer_number}
 use Rattle.law_designs.specs.Agreement.{AreSameStates, IsSameFamily, flat_element, numbers_in}
-use Rattle.law_designs.specs.RawAllowed.{AreSameBefore, raw_allowed}
+use Rattle.law_designs.specs.FlatTextAllowed.{AreSameBefore, flat_text_allowed}
 use Rattle.law_designs.specs.WholeText.{is_one_layer}
-use Rattle.law_designs.specs.Definitions.{design_of_raw}
+use Rattle.law_designs.specs.Definitions.{design_of_flat_text}
 use Rattle.law_designs.specs.Laws.{AllowsAsTheText, IsFreeWithout, is_of_family}
 use Rattle.law_obligations.specs.Sets.{Has, first, later}
 use Rattle.law_obligations.specs.Circular.{always}
@@ -85,28 +85,28 @@ over_same n [] = refl
 over_same n (t ∷ over) = ap (λ l. flat_map (λ v. map (λ vs. v ∷ vs) l) (values_in n t)) (over_same n over)
 
 -- what the base definition of a text allows, by the layer that has it
-abbrev by_layer : Design → Sizes → Element → Option State → State → Base → List Value
+abbrev by_layer : TextDesign → Sizes → Element → Option State → State → Base → List Value
 by_layer d sizes x before now None = every_value d sizes x
 by_layer d sizes x before now (Some layer) = allowed d sizes layer x before now
 
 module _ (text : Text) (sizes : Sizes) (families : AllZip (IsSameFamily (numbers_in text sizes)) (flatten text).families (design_of text).families) (found : FamiliesAreFound text) where
-  abbrev d : Design
+  abbrev d : TextDesign
   d = design_of text
 
-  abbrev raw : Raw
-  raw = flatten text
+  abbrev flat_text : FlatText
+  flat_text = flatten text
 
   abbrev f : FlatDesign
-  f = design_of_raw (flatten text)
+  f = design_of_flat_text (flatten text)
 
   abbrev n : Numbered
   n = numbers_in text sizes
 
-  pub in_text : (k : ℕ) (g : FlatFamily) → slice_get raw.families k ≡ Some g → (h : Family) × (slice_get d.families k ≡ Some h) × IsSameFamily n g h
-  in_text k g e = zip_left (IsSameFamily n) raw.families d.families families k g e
+  pub in_text : (k : ℕ) (g : FlatFamily) → slice_get flat_text.families k ≡ Some g → (h : Family) × (slice_get d.families k ≡ Some h) × IsSameFamily n g h
+  in_text k g e = zip_left (IsSameFamily n) flat_text.families d.families families k g e
 
-  pub in_raw : (k : ℕ) (h : Family) → slice_get d.families k ≡ Some h → (g : FlatFamily) × (slice_get raw.families k ≡ Some g) × IsSameFamily n g h
-  in_raw k h e = zip_right (IsSameFamily n) raw.families d.families families k h e
+  pub in_flat_text : (k : ℕ) (h : Family) → slice_get d.families k ≡ Some h → (g : FlatFamily) × (slice_get flat_text.families k ≡ Some g) × IsSameFamily n g h
+  in_flat_text k h e = zip_right (IsSameFamily n) flat_text.families d.families families k h e
 
   pub indexes_same : (g : FlatFamily) (h : Family) → IsSameFamily n g h → values_over n g.over ≡ indexes_in sizes h
   indexes_same g h same = over_same n g.over ∙ ap (λ types. choices (map (values_of sizes) types)) same.1
@@ -114,8 +114,8 @@ module _ (text : Text) (sizes : Sizes) (families : AllZip (IsSameFamily (numbers
   pub values_same : (g : FlatFamily) (h : Family) → IsSameFamily n g h → values_in n g.value ≡ values_of sizes h.value
   values_same g h same = ap (values_of sizes) same.2
 
-  pub every_same : (k : ℕ) (h : Family) → slice_get d.families k ≡ Some h → (vs : List Value) → values_of_family n (slice_get raw.families k) ≡ every_value d sizes (record { path = h.path; indexes = vs })
-  every_same k h e vs = let r = in_raw k h e in ap (values_of_family n) r.1 ∙ (values_same r.0 h r.2 ∙ sym (ap (values_at sizes) (found k h e).0))
+  pub every_same : (k : ℕ) (h : Family) → slice_get d.families k ≡ Some h → (vs : List Value) → values_of_family n (slice_get flat_text.families k) ≡ every_value d sizes (record { path = h.path; indexes = vs })
+  every_same k h e vs = let r = in_flat_text k h e in ap (values_of_family n) r.1 ∙ (values_same r.0 h r.2 ∙ sym (ap (values_at sizes) (found k h e).0))
 
   -- ---- states
 
@@ -146,7 +146,7 @@ module _ (text : Text) (sizes : Sizes) (families : AllZip (IsSameFamily (numbers
 
   typed_at : (t : FlatState) → flat.IsTyped n t → (k : ℕ) (h : Family) → slice_get d.families k ≡ Some h → (vs : List Value) → Has (indexes_in sizes h) vs → Has (values_of sizes h.value) (to_text t h.path vs)
   typed_at t typed k h e vs i =
-      let r : (g : FlatFamily) × (slice_get raw.families k ≡ Some g) × IsSameFamily n g h = in_raw k h e in
+      let r : (g : FlatFamily) × (slice_get flat_text.families k ≡ Some g) × IsSameFamily n g h = in_flat_text k h e in
       subst (Has (values_of sizes h.value)) (text_same t k h e vs) (subst (λ l. Has l (t k vs)) (values_same r.0 h r.2) (typed k r.0 r.1 vs (subst (λ l. Has l vs) (sym (indexes_same r.0 h r.2)) i)))
 
   text_typed : (t : FlatState) → flat.IsTyped n t → IsTyped d sizes (to_text t)
@@ -156,9 +156,9 @@ module _ (text : Text) (sizes : Sizes) (families : AllZip (IsSameFamily (numbers
 
   module _ (allows : All (AllowsAsTheText text) f.defs) (faultless : IsFaultless f) where
     -- a definition allows an element what the text allows it in the definition's layer
-    pub demand_same : (k : ℕ) (h : Family) → slice_get d.families k ≡ Some h → (def : Def) → Has f.defs def → def.family ≡ k → (layer : Option (List ℕ)) → option_map (layer_number raw.layers) layer ≡ def.layer → (vs : List Value) →
+    pub demand_same : (k : ℕ) (h : Family) → slice_get d.families k ≡ Some h → (def : Def) → Has f.defs def → def.family ≡ k → (layer : Option (List ℕ)) → option_map (layer_number flat_text.layers) layer ≡ def.layer → (vs : List Value) →
         (before : Option State) (fore : Option FlatState) → AreSameBefore d.families before fore → (s : State) (t : FlatState) → AreSameStates d.families s t →
-        flat_allowed n def (record { family = k; indexes = vs }) (values_of_family n (slice_get raw.families k)) fore t ≡ allowed d sizes layer (record { path = h.path; indexes = vs }) before s
+        flat_allowed n def (record { family = k; indexes = vs }) (values_of_family n (slice_get flat_text.families k)) fore t ≡ allowed d sizes layer (record { path = h.path; indexes = vs }) before s
     demand_same k h e def m own layer is vs before fore b s t states =
         let x : Element = record { path = h.path; indexes = vs } in
         let number : family_number (scope_in text []) h.path ≡ k = (found k h e).1 in
@@ -167,14 +167,14 @@ module _ (text : Text) (sizes : Sizes) (families : AllZip (IsSameFamily (numbers
         All-each (AllowsAsTheText text) f.defs def allows m sizes layer is x h (found k h e).0 (number ∙ sym own) before fore b s t states)
 
     not_added : (k : ℕ) (h : Family) → slice_get d.families k ≡ Some h → h.is_abstract ≡ false → is_added f k ≡ false
-    not_added k h e a = let r = in_raw k h e in ap (is_abstract f) r.1 ∙ (r.2.3 ∙ a)
+    not_added k h e a = let r = in_flat_text k h e in ap (is_abstract f) r.1 ∙ (r.2.3 ∙ a)
 
     -- of a family that is not abstract the base definition of the text is that outside layers
     pub implemented_at : (h : Family) (vs : List Value) (before : Option State) (s : State) → h.is_abstract ≡ false →
         allowed_by_base d sizes h (record { path = h.path; indexes = vs }) before s ≡ allowed d sizes None (record { path = h.path; indexes = vs }) before s
     implemented_at h vs before s a = ap (by_layer d sizes (record { path = h.path; indexes = vs }) before s) (ap (λ b. cond b (layer_that_defines h.path d.met) (Some None)) a)
 
-    pub no_layer : (o : Option ℕ) → is_none o ≡ true → option_map (layer_number raw.layers) None ≡ o
+    pub no_layer : (o : Option ℕ) → is_none o ≡ true → option_map (layer_number flat_text.layers) None ≡ o
     no_layer None e = refl
     no_layer (Some k) e = absurd (cc (e))
 
@@ -202,9 +202,9 @@ module _ (text : Text) (sizes : Sizes) (families : AllZip (IsSameFamily (numbers
             let one : Contains (allowed_by_base d sizes r.0 x before s) (s r.0.path vs) =
             All-each (λ vs. Contains (allowed_by_base d sizes r.0 (record { path = r.0.path; indexes = vs }) before s) (s r.0.path vs)) (indexes_in sizes r.0) vs all over in
             let text_has : Has (allowed d sizes None x before s) (s r.0.path vs) = subst (λ l. Has l (s r.0.path vs)) (implemented_at r.0 vs before s plain) (Contains-Has (allowed_by_base d sizes r.0 x before s) (s r.0.path vs) one) in
-            let same : flat_allowed n def (record { family = def.family; indexes = vs }) (values_of_family n (slice_get raw.families def.family)) fore (to_flat s) ≡ allowed d sizes None x before s =
+            let same : flat_allowed n def (record { family = def.family; indexes = vs }) (values_of_family n (slice_get flat_text.families def.family)) fore (to_flat s) ≡ allowed d sizes None x before s =
             demand_same def.family r.0 r.1 def base.is_def_of refl None (no_layer def.layer (base.is_outside out)) vs before fore b s (to_flat s) (flat_same s) in
-            is_in-Has (flat_allowed n def (record { family = def.family; indexes = vs }) (values_of_family n (slice_get raw.families def.family)) fore (to_flat s)) (to_flat s def.family vs)
+            is_in-Has (flat_allowed n def (record { family = def.family; indexes = vs }) (values_of_family n (slice_get flat_text.families def.family)) fore (to_flat s)) (to_flat s def.family vs)
             (subst (λ l. Has l (to_flat s def.family vs)) (sym same) (subst (Has (allowed d sizes None x before s)) (sym (flat_same s def.family r.0 r.1 vs)) text_has))
 
     behaves : (before : Option State) (fore : Option FlatState) → AreSameBefore d.families before fore → (states : List State) → AtEachTime (MeetsImplementation d sizes) before states →
@@ -214,11 +214,11 @@ module _ (text : Text) (sizes : Sizes) (families : AllZip (IsSameFamily (numbers
 
     -- ---- to the text
 
-    module _ (layers : LayersAreSame text) (free : IsFreeWithout raw f.defs)
+    module _ (layers : LayersAreSame text) (free : IsFreeWithout flat_text f.defs)
         (frees : (x : Element) (h : Family) → family_at d.families x.path ≡ Some h → (before : Option State) (fore : Option FlatState) → AreSameBefore d.families before fore → (s : State) (t : FlatState) → AreSameStates d.families s t →
-        raw_allowed raw sizes None (flat_element (scope_in text []) x) (every_value d sizes x) fore t ≡ allowed d sizes None x before s) where
+        flat_text_allowed flat_text sizes None (flat_element (scope_in text []) x) (every_value d sizes x) fore t ≡ allowed d sizes None x before s) where
       -- without a definition outside layers a family that is not abstract is free
-      nothing_outside : (k : ℕ) (g : FlatFamily) → slice_get raw.families k ≡ Some g → g.is_abstract ≡ false → outline.base_of f k ≡ None → list_any (is_of_family None k) f.defs ≡ false
+      nothing_outside : (k : ℕ) (g : FlatFamily) → slice_get flat_text.families k ≡ Some g → g.is_abstract ≡ false → outline.base_of f k ≡ None → list_any (is_of_family None k) f.defs ≡ false
       nothing_outside k g e a none = no_any (some_or_none (is_of_family None k) f.defs)
         where
           earliest-none : (defs : List Def) (x : Def) → earliest defs ≡ None → Has defs x → ⊥
@@ -237,7 +237,7 @@ module _ (text : Text) (sizes : Sizes) (families : AllZip (IsSameFamily (numbers
           no x i t =
               let may : may_be_base f k (Some g) x ≡ true =
               both_true (nat_eq x.family k) (g.is_abstract || is_none x.layer) (right_of (is_one_layer None x.layer) (nat_eq x.family k) t) (or_right g.is_abstract (is_none x.layer) (outside x.layer (left_of (is_one_layer None x.layer) (nat_eq x.family k) t))) in
-              earliest-none (filter (may_be_base f k (slice_get raw.families k)) f.defs) x none (Has-filter (may_be_base f k (slice_get raw.families k)) i (subst (λ o. may_be_base f k o x ≡ true) (sym e) may))
+              earliest-none (filter (may_be_base f k (slice_get flat_text.families k)) f.defs) x none (Has-filter (may_be_base f k (slice_get flat_text.families k)) i (subst (λ o. may_be_base f k o x ≡ true) (sym e) may))
 
           no_any : ((x : Def) × Has f.defs x × (is_of_family None k x ≡ true)) ⊎ ((x : Def) → Has f.defs x → is_of_family None k x ≡ false) → list_any (is_of_family None k) f.defs ≡ false
           no_any (inl (x, i, t)) = absurd (no x i t)
@@ -259,28 +259,28 @@ module _ (text : Text) (sizes : Sizes) (families : AllZip (IsSameFamily (numbers
         is_any : Has (every_value d sizes x) v
         is_any = subst (λ l. Has l v) (sym (ap (values_at sizes) (found k h e).0)) (typed_at t typed k h e vs i)
 
-        by_def : (def : Def) → outline.base_of f k ≡ Some def → (layer : Option (List ℕ)) → option_map (layer_number raw.layers) layer ≡ def.layer → Has (allowed d sizes layer x before (to_text t)) v
+        by_def : (def : Def) → outline.base_of f k ≡ Some def → (layer : Option (List ℕ)) → option_map (layer_number flat_text.layers) layer ≡ def.layer → Has (allowed d sizes layer x before (to_text t)) v
         by_def def is layer same =
             let own : (def.family ≡ k) × IsBase f def = base_by f faultless k def is in
-            let r : (g : FlatFamily) × (slice_get raw.families k ≡ Some g) × IsSameFamily n g h = in_raw k h e in
+            let r : (g : FlatFamily) × (slice_get flat_text.families k ≡ Some g) × IsSameFamily n g h = in_flat_text k h e in
             let there : Has (bases f) def =
-            Has-flat_map (λ family. option_to_list (outline.base_of f family)) (Has-numbers 0 (length raw.families) k (omega arith) (let l = slice_get_within raw.families k r.0 r.1 in omega (arith, l)))
+            Has-flat_map (λ family. option_to_list (outline.base_of f family)) (Has-numbers 0 (length flat_text.families) k (omega arith) (let l = slice_get_within flat_text.families k r.0 r.1 in omega (arith, l)))
             (subst (λ o. Has (option_to_list o) def) (sym is) first) in
             let over : Has (values_over n (params_of n (map_of def))) vs =
-            subst (λ j. Has (values_over n (over_of (slice_get raw.families j))) vs) (sym own.0) (subst (λ o. Has (values_over n (over_of o)) vs) (sym r.1) (subst (λ l. Has l vs) (sym (indexes_same r.0 h r.2)) i)) in
+            subst (λ j. Has (values_over n (over_of (slice_get flat_text.families j))) vs) (sym own.0) (subst (λ o. Has (values_over n (over_of o)) vs) (sym r.1) (subst (λ l. Has l vs) (sym (indexes_same r.0 h r.2)) i)) in
             let held : is_held n (map_of def) vs fore t ≡ true = all-each (λ vs. is_held n (map_of def) vs fore t) (all-each (λ (def : Def). list_all (λ vs. is_held n (map_of def) vs fore t) (values_over n (params_of n (map_of def)))) meets there) over in
-            let flat_has : Has (flat_allowed n def (record { family = def.family; indexes = vs }) (values_of_family n (slice_get raw.families def.family)) fore t) (t def.family vs) = Has-is_in _ _ held in
-            let at_k : Has (flat_allowed n def (record { family = k; indexes = vs }) (values_of_family n (slice_get raw.families k)) fore t) (t k vs) =
-            subst (λ j. Has (flat_allowed n def (record { family = j; indexes = vs }) (values_of_family n (slice_get raw.families j)) fore t) (t j vs)) own.0 flat_has in
+            let flat_has : Has (flat_allowed n def (record { family = def.family; indexes = vs }) (values_of_family n (slice_get flat_text.families def.family)) fore t) (t def.family vs) = Has-is_in _ _ held in
+            let at_k : Has (flat_allowed n def (record { family = k; indexes = vs }) (values_of_family n (slice_get flat_text.families k)) fore t) (t k vs) =
+            subst (λ j. Has (flat_allowed n def (record { family = j; indexes = vs }) (values_of_family n (slice_get flat_text.families j)) fore t) (t j vs)) own.0 flat_has in
             subst (Has (allowed d sizes layer x before (to_text t))) (text_same t k h e vs)
             (subst (λ l. Has l (t k vs)) (demand_same k h e def own.1.is_def_of own.0 layer same vs before fore b (to_text t) t (text_same t)) at_k)
 
         by_nothing : h.is_abstract ≡ false → outline.base_of f k ≡ None → Has (allowed d sizes None x before (to_text t)) v
         by_nothing plain none =
-            let r : (g : FlatFamily) × (slice_get raw.families k ≡ Some g) × IsSameFamily n g h = in_raw k h e in
+            let r : (g : FlatFamily) × (slice_get flat_text.families k ≡ Some g) × IsSameFamily n g h = in_flat_text k h e in
             let number : family_number (scope_in text []) h.path ≡ k = (found k h e).1 in
             let lacks : list_any (is_of_family None (family_number (scope_in text []) h.path)) f.defs ≡ false = subst (λ j. list_any (is_of_family None j) f.defs ≡ false) (sym number) (nothing_outside k r.0 r.1 (r.2.3 ∙ plain) none) in
-            let all : raw_allowed raw sizes None (flat_element (scope_in text []) x) (every_value d sizes x) fore t ≡ every_value d sizes x = free sizes None (flat_element (scope_in text []) x) lacks (every_value d sizes x) fore t in
+            let all : flat_text_allowed flat_text sizes None (flat_element (scope_in text []) x) (every_value d sizes x) fore t ≡ every_value d sizes x = free sizes None (flat_element (scope_in text []) x) lacks (every_value d sizes x) fore t in
             subst (λ l. Has l v) (sym all ∙ frees x h (found k h e).0 before fore b (to_text t) t (text_same t)) is_any
 
         by_abstract : (a : Bool) → h.is_abstract ≡ a → Has (allowed_by_base d sizes h x before (to_text t)) v

@@ -5,9 +5,9 @@ use Rattle.smv_core.specs.Values.{Value}
 use Rattle.smv_core.specs.Types.{Family}
 use Rattle.smv_core.specs.Outcome.{State}
 use Rattle.smv_core.specs.Sound.{AtEachTime, choices}
-use Rattle.smv_core.specs.Flat.{FlatState}
+use Rattle.smv_core.specs.FlatMeaning.{FlatState}
 use Rattle.law_designs.specs.Agreement.{AreSameStates}
-use Rattle.law_designs.specs.RawAllowed.{AreSameBefore}
+use Rattle.law_designs.specs.FlatTextAllowed.{AreSameBefore}
 use Rattle.law_obligations.specs.Sets.{Has, first, later, one_of_each}
 use Rattle.law_obligations.specs.Circular.{Demand, always}
 use Rattle.law_obligations.proofs.Members.{Has-from_map}

@@ -11,11 +11,11 @@ use Rattle.smv_core.specs.Walk.{indexes_of}
 use Rattle.smv_core.specs.Assignments.{Around, loop, any}
 use Rattle.smv_core.specs.declared.tree.TypeExpr.{TypeExpr}
 use Rattle.smv_core.specs.declared.tree.Part.{Part}
-use Rattle.smv_core.specs.declared.flat.Raw.{Raw}
+use Rattle.smv_core.specs.declared.flat.FlatText.{FlatText}
 use Rattle.smv_core.specs.declared.flat.Family.{Family as FlatFamily}
 use Rattle.smv_core.specs.declared.flat.FlatExpr.{FlatExpr, Var, Loop}
-use Rattle.smv_instances.specs.Mentions.{Mention}
-use Rattle.smv_instances.specs.Scopes.{Constant}
+use Rattle.smv_mentions.specs.Mentions.{Mention}
+use Rattle.smv_mentions.specs.Scopes.{Constant}
 use Rattle.law_designs.specs.Kinds.{Kind, number, enumeration}
 use Rattle.law_designs.specs.Types.{Whole, index_kind, index_faults}
 use Rattle.law_designs.specs.References as kinds
@@ -32,7 +32,7 @@ pub nothing-behind : {X : Type 0} (xs : List X) → xs ≡ xs ++ []
 nothing-behind [] = refl
 nothing-behind (x ∷ xs) = ap (λ l. x ∷ l) (nothing-behind xs)
 
-module _ (raw : Raw) (scope : kinds.Scope) (flat : Scope) where
+module _ (flat_text : FlatText) (scope : kinds.Scope) (flat : Scope) where
   abbrev pub AreApart : List Mention → Type 0
   AreApart ms = AllByRecursion (IsApart scope.here.own scope.constants) ms
 
@@ -45,18 +45,18 @@ module _ (raw : Raw) (scope : kinds.Scope) (flat : Scope) where
   -- a whole signal is a family, found by its path in the text and in the flattened text, whose types have the kinds of the signal
   abbrev pub SignalsAreKinded : Type 0
   SignalsAreKinded = (parts : List Part) (w : Whole) → signal_at scope parts ≡ Some w →
-      (f : Family) × (g : FlatFamily) × (family_at flat.families (flat.instance ++ fields_of parts) ≡ Some f) × (slice_get raw.families (family_number flat (flat.instance ++ fields_of parts)) ≡ Some g)
+      (f : Family) × (g : FlatFamily) × (family_at flat.families (flat.instance ++ fields_of parts) ≡ Some f) × (slice_get flat_text.families (family_number flat (flat.instance ++ fields_of parts)) ≡ Some g)
       × AreOfKinds flat g.over w.over × (kind_of g.value ≡ flat_kind flat w.value) × IsKind w.value × (length w.over ≡ length (indexes_of parts))
 
   -- a constant is no family, and has the kind of its enumeration
   abbrev pub ConstantsAreKinded : Type 0
   ConstantsAreKinded = (name : Name) (c : Constant) → find_name scope.constants name ≡ Some c →
-      (family_at flat.families (flat.instance ++ name ∷ []) ≡ None) × ((vars : typed.Vars) (at : ℕ) → kind_in raw vars (constant_in flat (name ∷ []) at) ≡ Some (flat_kind flat (enumeration c.names)))
+      (family_at flat.families (flat.instance ++ name ∷ []) ≡ None) × ((vars : typed.Vars) (at : ℕ) → kind_in flat_text vars (constant_in flat (name ∷ []) at) ≡ Some (flat_kind flat (enumeration c.names)))
 
   -- an index type without faults is one of the flattened text, of the same kind
   abbrev pub IndexesAreKinded : Type 0
   IndexesAreKinded = (over : TypeExpr) → IsIndexType over → index_faults scope.here.types over ≡ [] →
-      (is_index_type raw (flat_over flat over) ≡ true) × (kind_of (flat_over flat over) ≡ flat_kind flat (index_kind scope.here.types over)) × IsKind (index_kind scope.here.types over)
+      (is_index_type flat_text (flat_over flat over) ≡ true) × (kind_of (flat_over flat over) ≡ flat_kind flat (index_kind scope.here.types over)) × IsKind (index_kind scope.here.types over)
 
   -- ---- variables
 
@@ -83,7 +83,7 @@ module _ (raw : Raw) (scope : kinds.Scope) (flat : Scope) where
 
   -- a variable has its kind
   abbrev IsVariable : typed.Vars → Around → Name → ℕ → Kind → Type 0
-  IsVariable fv around name at kind = (x : FlatExpr) × (variable around name at ≡ Some x) × HasKind flat (kind_in raw fv x) kind × (value_in raw fv x ≡ kind_in raw fv x)
+  IsVariable fv around name at kind = (x : FlatExpr) × (variable around name at ≡ Some x) × HasKind flat (kind_in flat_text fv x) kind × (value_in flat_text fv x ≡ kind_in flat_text fv x)
 
   bound-kinded : (vars : Vars) (around : Around) → AreVars vars around → (name : Name) (at : ℕ) (kind : Kind) → find_name vars name ≡ Some kind → (more : typed.Vars) → IsVariable (kinds_bound vars around ++ more) around name at kind
   bound-kinded [] [] same name at kind e more = absurd (cc (e))
@@ -91,15 +91,15 @@ module _ (raw : Raw) (scope : kinds.Scope) (flat : Scope) where
   bound-kinded [] ((other, loop n) ∷ around) same name at kind e more = absurd same
   bound-kinded (v ∷ vars) [] same name at kind e more = absurd same
   bound-kinded ((other, own) ∷ vars) ((third, loop n) ∷ around) same name at kind e more =
-      subst (λ o. (x : FlatExpr) × (cond (bytes_eq o name) (Some (Loop n at)) (variable around name at) ≡ Some x) × HasKind flat (kind_in raw (kinds_bound vars around ++ more) x) kind × (value_in raw (kinds_bound vars around ++ more) x ≡ kind_in raw (kinds_bound vars around ++ more) x))
+      subst (λ o. (x : FlatExpr) × (cond (bytes_eq o name) (Some (Loop n at)) (variable around name at) ≡ Some x) × HasKind flat (kind_in flat_text (kinds_bound vars around ++ more) x) kind × (value_in flat_text (kinds_bound vars around ++ more) x ≡ kind_in flat_text (kinds_bound vars around ++ more) x))
       same.0 (by_test (bytes_eq other name) e (λ e. bound-kinded vars around same.3 name at kind e more))
     where
       by_test : (b : Bool) → cond b (Some own) (find_name vars name) ≡ Some kind → (find_name vars name ≡ Some kind → IsVariable (kinds_bound vars around ++ more) around name at kind) →
-          (x : FlatExpr) × (cond b (Some (Loop n at)) (variable around name at) ≡ Some x) × HasKind flat (kind_in raw (kinds_bound vars around ++ more) x) kind × (value_in raw (kinds_bound vars around ++ more) x ≡ kind_in raw (kinds_bound vars around ++ more) x)
+          (x : FlatExpr) × (cond b (Some (Loop n at)) (variable around name at) ≡ Some x) × HasKind flat (kind_in flat_text (kinds_bound vars around ++ more) x) kind × (value_in flat_text (kinds_bound vars around ++ more) x ≡ kind_in flat_text (kinds_bound vars around ++ more) x)
       by_test true e rest = let k : number ≡ kind = sym same.1 ∙ cc in (Loop n at, refl, subst (λ k. HasKind flat (Some typed.number) k) k (refl, tt), refl)
       by_test false e rest = rest e
   bound-kinded ((other, own) ∷ vars) ((third, any) ∷ around) same name at kind e more =
-      subst (λ o. (x : FlatExpr) × (cond (bytes_eq o name) (Some (Var (bound_in around) at)) (variable around name at) ≡ Some x) × HasKind flat (kind_in raw whole x) kind × (value_in raw whole x ≡ kind_in raw whole x))
+      subst (λ o. (x : FlatExpr) × (cond (bytes_eq o name) (Some (Var (bound_in around) at)) (variable around name at) ≡ Some x) × HasKind flat (kind_in flat_text whole x) kind × (value_in flat_text whole x ≡ kind_in flat_text whole x))
       same.0 (by_test (bytes_eq other name) e (λ e. subst (λ fv. IsVariable fv around name at kind) (sym seam) (bound-kinded vars around same.3 name at kind e (flat_kind flat own ∷ more))))
     where
       whole : typed.Vars
@@ -113,8 +113,8 @@ module _ (raw : Raw) (scope : kinds.Scope) (flat : Scope) where
           ∙ subst (λ k. slice_get (kinds_bound vars around ++ flat_kind flat own ∷ more) k ≡ Some (flat_kind flat own)) (bound-length vars around same.3) (slice_get-behind (kinds_bound vars around) (flat_kind flat own) more)
 
       by_test : (b : Bool) → cond b (Some own) (find_name vars name) ≡ Some kind → (find_name vars name ≡ Some kind → IsVariable whole around name at kind) →
-          (x : FlatExpr) × (cond b (Some (Var (bound_in around) at)) (variable around name at) ≡ Some x) × HasKind flat (kind_in raw whole x) kind × (value_in raw whole x ≡ kind_in raw whole x)
-      by_test true e rest = let k : own ≡ kind = cc in (Var (bound_in around) at, refl, subst (λ k. HasKind flat (kind_in raw whole (Var (bound_in around) at)) k) k (at_seam, same.1), refl)
+          (x : FlatExpr) × (cond b (Some (Var (bound_in around) at)) (variable around name at) ≡ Some x) × HasKind flat (kind_in flat_text whole x) kind × (value_in flat_text whole x ≡ kind_in flat_text whole x)
+      by_test true e rest = let k : own ≡ kind = cc in (Var (bound_in around) at, refl, subst (λ k. HasKind flat (kind_in flat_text whole (Var (bound_in around) at)) k) k (at_seam, same.1), refl)
       by_test false e rest = rest e
 
   pub variable-kinded : (vars : Vars) (around : Around) → AreVars vars around → (name : Name) (at : ℕ) (kind : Kind) → find_name vars name ≡ Some kind → IsVariable (kinds_bound vars around) around name at kind
@@ -150,8 +150,8 @@ module _ (raw : Raw) (scope : kinds.Scope) (flat : Scope) where
     inside-same vars around over i fine = ap (λ k. kinds_bound vars around ++ k ∷ []) (indexes over i fine).1
 
     pub binder-kinded : (vars : Vars) (around : Around) → AreVars vars around → (over : TypeExpr) → IsIndexType over → index_faults scope.here.types over ≡ [] → (test : typed.Vars → Bool) →
-        test (kinds_bound vars around ++ flat_kind flat (index_kind scope.here.types over) ∷ []) ≡ true → (is_binder raw (kinds_bound vars around) (bound_in around) (flat_over flat over) && test (inside (kinds_bound vars around) (flat_over flat over))) ≡ true
+        test (kinds_bound vars around ++ flat_kind flat (index_kind scope.here.types over) ∷ []) ≡ true → (is_binder flat_text (kinds_bound vars around) (bound_in around) (flat_over flat over) && test (inside (kinds_bound vars around) (flat_over flat over))) ≡ true
     binder-kinded vars around same over i fine test h =
-        and_from (is_binder raw (kinds_bound vars around) (bound_in around) (flat_over flat over)) (test (inside (kinds_bound vars around) (flat_over flat over)))
-        (and_from (nat_eq (bound_in around) (length (kinds_bound vars around))) (is_index_type raw (flat_over flat over)) (eq-eqb (bound_in around) (length (kinds_bound vars around)) (sym (bound-length vars around same))) (indexes over i fine).0)
+        and_from (is_binder flat_text (kinds_bound vars around) (bound_in around) (flat_over flat over)) (test (inside (kinds_bound vars around) (flat_over flat over)))
+        (and_from (nat_eq (bound_in around) (length (kinds_bound vars around))) (is_index_type flat_text (flat_over flat over)) (eq-eqb (bound_in around) (length (kinds_bound vars around)) (sym (bound-length vars around same))) (indexes over i fine).0)
         (ap test (inside-same vars around over i fine) ∙ h)

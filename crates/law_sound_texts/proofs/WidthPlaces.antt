@@ -23,8 +23,8 @@ use Rattle.smv_core.specs.declared.flat.FlatStmt as act
 use Rattle.smv_core.specs.declared.flat.FlatItem.{FlatItem}
 use Rattle.smv_core.specs.declared.flat.FlatItem.TheVariants as flat
 use Rattle.smv_core.specs.declared.flat.FlatStmt.{FlatStmt, Row_of-FlatStmt, end_of-FlatStmt, more_of-FlatStmt, items-the_row-FlatStmt, items_hidden-the_row-FlatStmt-1}
-use Rattle.smv_instances.specs.Sizes.{Sized, sized_from, statements, statements_in_row, statements_in_branch, statements_in_arms, statements_of_item, statements_of_items, statements_in}
-use Rattle.smv_instances.proofs.Computing.{computing}
+use Rattle.smv_mentions.specs.Sizes.{Sized, sized_from, statements, statements_in_row, statements_in_branch, statements_in_arms, statements_of_item, statements_of_items, statements_in}
+use Rattle.smv_mentions.proofs.Computing.{computing}
 use Rattle.law_designs.specs.Numbers.{Scope, bound_in, flat_over}
 use Rattle.law_designs.specs.Statements.{flat_expr, flat_stmt, flat_parts, flat_branch, flat_arms, first_label}
 use Rattle.law_designs.specs.Entries.{claim, split, using, Entry, layer, statement, goal, inside_binder, given_to, connection, connections, instance_entries, item_entries, items_entries, entries_in, entries}

@@ -4,13 +4,13 @@ use Rattle.smv_core.specs.FlatOrder.{design_of}
 use Rattle.smv_core.specs.Values.{Sizes, number}
 use Rattle.smv_core.specs.Types.{IsSizedTop}
 use Rattle.smv_core.specs.Sound.{map_of, instances, Holds, AtEachTime, IsSound}
-use Rattle.smv_core.specs.Flat.{FlatState, values_in}
+use Rattle.smv_core.specs.FlatMeaning.{FlatState, values_in}
 use Rattle.smv_core.specs.declared.flat.Design.{Design}
 use Rattle.smv_core.specs.declared.flat.Family.{Family}
 use Rattle.smv_core.specs.declared.flat.SetInfo.{SetInfo}
 use Rattle.smv_core.specs.declared.flat.Unit.TheVariants.{Map}
 use Rattle.law_designs.specs.Flattening.{flatten}
-use Rattle.law_designs.specs.Definitions.{design_of_raw}
+use Rattle.law_designs.specs.Definitions.{design_of_flat_text}
 use Rattle.law_obligations.specs.Sets.{Has, first, later}
 use Rattle.law_obligations.specs.Circular.{always}
 use Rattle.law_obligations.specs.Soundness.{at_sizes, is_held}
@@ -25,7 +25,7 @@ use Rattle.law_sound_texts.specs.WorkedTexts.{HasOneMap, HoldsInNeither}
 
 -- what it computes with
 unfoldable pub computing : Unit {0}
-unfolding Rattle.smv_core.specs.declared.tree.Expr.TheBlock.hidden-the_row-Part-0 Rattle.smv_core.specs.declared.tree.Expr.TheBlock.shape-the_row-Part-0 Rattle.smv_core.specs.declared.tree.Stmt.TheBlock.hidden-the_row-Stmt-0 Rattle.smv_core.specs.declared.tree.Stmt.TheBlock.shape-the_row-Stmt-0 Rattle.smv_core.specs.declared.tree.Item.TheBlock.hidden-the_row-Item-0 Rattle.smv_core.specs.declared.tree.Item.TheBlock.shape-the_row-Item-0 Rattle.smv_core.specs.declared.flat.FlatStmt.TheBlock.hidden-the_row-FlatStmt-0 Rattle.smv_core.specs.declared.flat.FlatStmt.TheBlock.shape-the_row-FlatStmt-0 Rattle.smv_core.specs.declared.flat.Flat.TheBlock.hidden-the_row-Flat-0 Rattle.smv_core.specs.declared.flat.Flat.TheBlock.shape-the_row-Flat-0 denote.Hole.Carrier.hidden
+unfolding Rattle.smv_core.specs.declared.tree.Expr.TheBlock.hidden-the_row-Part-0 Rattle.smv_core.specs.declared.tree.Expr.TheBlock.shape-the_row-Part-0 Rattle.smv_core.specs.declared.tree.Stmt.TheBlock.hidden-the_row-Stmt-0 Rattle.smv_core.specs.declared.tree.Stmt.TheBlock.shape-the_row-Stmt-0 Rattle.smv_core.specs.declared.tree.Item.TheBlock.hidden-the_row-Item-0 Rattle.smv_core.specs.declared.tree.Item.TheBlock.shape-the_row-Item-0 Rattle.smv_core.specs.declared.flat.FlatStmt.TheBlock.hidden-the_row-FlatStmt-0 Rattle.smv_core.specs.declared.flat.FlatStmt.TheBlock.shape-the_row-FlatStmt-0 Rattle.smv_core.specs.declared.flat.DefBody.TheBlock.hidden-the_row-DefBody-0 Rattle.smv_core.specs.declared.flat.DefBody.TheBlock.shape-the_row-DefBody-0 denote.Hole.Carrier.hidden
 computing = tt
 
 pub has_one_map : HasOneMap
@@ -56,7 +56,7 @@ one_there : FlatState
 one_there k vs = number 1
 
 abbrev d : Design
-d = design_of_raw (flatten two_layers)
+d = design_of_flat_text (flatten two_layers)
 
 is_run : flat.IsRun (at_sizes (names_of d) one_each) (bases d) (one_there ∷ [])
 unfolding computing one_there

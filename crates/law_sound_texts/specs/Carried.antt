@@ -5,7 +5,7 @@ use Rattle.smv_core.specs.Values.{Sizes}
 use Rattle.smv_core.specs.FlatOrder.{design_of}
 use Rattle.smv_core.specs.Outcome.{State}
 use Rattle.smv_core.specs.Sound as tree
-use Rattle.smv_core.specs.Flat.{FlatState}
+use Rattle.smv_core.specs.FlatMeaning.{FlatState}
 use Rattle.smv_core.specs.declared.tree.Text.{Text}
 use Rattle.smv_core.specs.declared.flat.Design.{Design}
 use Rattle.smv_core.specs.declared.flat.Unit.{Unit}
@@ -13,7 +13,7 @@ use Rattle.smv_core.specs.declared.flat.Leaf.{Leaf}
 use Rattle.smv_core.specs.declared.flat.Choice.{Choice}
 use Rattle.law_designs.specs.Agreement.{AreSameStates}
 use Rattle.law_designs.specs.Flattening.{flatten}
-use Rattle.law_designs.specs.Definitions.{design_of_raw}
+use Rattle.law_designs.specs.Definitions.{design_of_flat_text}
 use Rattle.law_obligations.specs.Sets.{Has}
 use Rattle.law_obligations.specs.Soundness.{at_sizes, IsRun}
 use Rattle.law_obligations.specs.Outlines.{Outline, names_of, bases, unit_in}
@@ -23,12 +23,12 @@ use Rattle.law_sound_texts.specs.Whole.{HasSplits}
 
 -- at any sizes the states of each run of a text, with its families by their numbers, are a run of its design
 abbrev pub RunsAreCarried : Text → Type 0
-RunsAreCarried text = (sizes : Sizes) (run : List State) → tree.IsRun (design_of text) sizes run → let d = design_of_raw (flatten text) in
+RunsAreCarried text = (sizes : Sizes) (run : List State) → tree.IsRun (design_of text) sizes run → let d = design_of_flat_text (flatten text) in
     (flat_run : List FlatState) × AllZip (AreSameStates (design_of text).families) run flat_run × IsRun (at_sizes (names_of d) sizes) (bases d) flat_run
 
 -- and each run of its design that is not empty is such a run of the text
 abbrev pub RunsAreCarriedBack : Text → Type 0
-RunsAreCarriedBack text = (sizes : Sizes) (flat_run : List FlatState) → 0 < length flat_run → let d = design_of_raw (flatten text) in IsRun (at_sizes (names_of d) sizes) (bases d) flat_run →
+RunsAreCarriedBack text = (sizes : Sizes) (flat_run : List FlatState) → 0 < length flat_run → let d = design_of_flat_text (flatten text) in IsRun (at_sizes (names_of d) sizes) (bases d) flat_run →
     (run : List State) × AllZip (AreSameStates (design_of text).families) run flat_run × tree.IsRun (design_of text) sizes run
 
 -- every instance of every unit of a design holds at every time of every run, for all sizes

@@ -2,11 +2,11 @@
 use Rattle.std.specs.Prelude.{◌≡◌, ◌≤◌, ℕ, List, filter, length, not, slice_get, Some, Bool, false}
 use Rattle.std.specs.List.{AllZip}
 use Rattle.smv_core.specs.Values.{Value, Sizes}
-use Rattle.smv_core.specs.Flat.{FlatState}
+use Rattle.smv_core.specs.FlatMeaning.{FlatState}
 use Rattle.smv_core.specs.declared.flat.Family.{Family}
 use Rattle.smv_core.specs.declared.flat.Def.{Def}
 use Rattle.smv_core.specs.declared.flat.Design.{Design}
-use Rattle.smv_core.specs.declared.flat.Raw.{Raw}
+use Rattle.smv_core.specs.declared.flat.FlatText.{FlatText}
 use Rattle.law_designs.specs.Standing.{Standing}
 use Rattle.law_designs.specs.SingleFaults.{assigned_in}
 use Rattle.law_designs.specs.Laws.{index_count}
@@ -22,8 +22,8 @@ abbrev pub HasWholeLeftSides : Design → Type 0
 HasWholeLeftSides d = (def : Def) → Has d.defs def → (f : Family) → slice_get d.families def.family ≡ Some f → (a : Reading) → Has (assignments_of def) a → length f.over ≤ length a.left
 
 -- so it is in a flattened text
-abbrev pub RawHasWholeLeftSides : Raw → Type 0
-RawHasWholeLeftSides raw = (a : Standing) → Has (assigned_in raw) a → index_count raw a.family ≤ length a.left
+abbrev pub FlatTextHasWholeLeftSides : FlatText → Type 0
+FlatTextHasWholeLeftSides flat_text = (a : Standing) → Has (assigned_in flat_text) a → index_count flat_text a.family ≤ length a.left
 
 -- no family has a type without values
 abbrev pub AreFilled : Design → Type 0

@@ -13,7 +13,7 @@ use Rattle.smv_core.specs.declared.flat.FlatExpr.{FlatExpr, Number, Read', Var, 
 use Rattle.smv_core.specs.declared.flat.FlatStmt.{FlatStmt, Assign, If', Block', Default', Forall', Row_of-FlatStmt, end_of-FlatStmt, more_of-FlatStmt}
 use Rattle.smv_core.specs.declared.flat.FlatItem.{FlatItem}
 use Rattle.smv_core.specs.declared.flat.FlatItem.TheVariants as item
-use Rattle.smv_core.specs.declared.flat.Raw.{Raw}
+use Rattle.smv_core.specs.declared.flat.FlatText.{FlatText}
 
 -- a number of 16 bits
 abbrev pub IsShort : ℕ → Type 0
@@ -102,11 +102,11 @@ PlaceFits _ = Unit {0}
 
 -- Each number of a flattened text fits its field: the numbers and sizes of all set types, the numbers of all enumerations and of their constants, and those in families and
 -- items.
-pub record NumbersFit (raw : Raw) : Type 0 where
-  pub set_types : length raw.sets ≤ 65536
-  pub sizes : AllByRecursion (λ (info : SetInfo). IfSome info.size IsShort) raw.sets
-  pub enumerations : length raw.enums ≤ 65536
-  pub constants : AllByRecursion (λ (names : List Name). length names ≤ 65536) raw.enums
-  pub families : AllByRecursion FamilyFits raw.families
-  pub items : AllByRecursion ItemFits raw.items
-  pub places : AllByRecursion PlaceFits raw.items
+pub record NumbersFit (flat_text : FlatText) : Type 0 where
+  pub set_types : length flat_text.sets ≤ 65536
+  pub sizes : AllByRecursion (λ (info : SetInfo). IfSome info.size IsShort) flat_text.sets
+  pub enumerations : length flat_text.enums ≤ 65536
+  pub constants : AllByRecursion (λ (names : List Name). length names ≤ 65536) flat_text.enums
+  pub families : AllByRecursion FamilyFits flat_text.families
+  pub items : AllByRecursion ItemFits flat_text.items
+  pub places : AllByRecursion PlaceFits flat_text.items

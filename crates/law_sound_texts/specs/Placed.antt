@@ -1,8 +1,8 @@
 -- A flattened text as flattening makes it, and what the law of conflicts says of it.
 use Rattle.std.specs.Prelude.{◌≡◌, ◌≤◌, ℕ, suc, List, length}
 use Rattle.smv_core.specs.Values.{Value}
-use Rattle.smv_core.specs.Flat.{Numbered}
-use Rattle.smv_core.specs.declared.flat.Raw.{Raw}
+use Rattle.smv_core.specs.FlatMeaning.{Numbered}
+use Rattle.smv_core.specs.declared.flat.FlatText.{FlatText}
 use Rattle.smv_core.specs.declared.flat.Def.{Def}
 use Rattle.smv_core.specs.declared.flat.FlatStmt.{FlatStmt, Assign, If', Block', Default', Forall', Row_of-FlatStmt, end_of-FlatStmt, more_of-FlatStmt}
 use Rattle.law_obligations.specs.Sets.{Has}
@@ -26,13 +26,13 @@ module _ (counts : ℕ → ℕ) where
     ArePlaced around (more_of-FlatStmt part rest) = IsPlaced around part × ArePlaced around rest
 
 -- so it is for each statement of the text
-abbrev pub RawIsPlaced : Raw → Type 0
-RawIsPlaced raw = (s : Statement) → Has (statements_of raw) s → IsPlaced (index_count raw) 0 s.act
+abbrev pub FlatTextIsPlaced : FlatText → Type 0
+FlatTextIsPlaced flat_text = (s : Statement) → Has (statements_of flat_text) s → IsPlaced (index_count flat_text) 0 s.act
 
 -- no two assignments of a definition conflict
-abbrev pub IsFree : Raw → Def → Type 0
-IsFree raw def = IsConflictFree (index_count raw def.family) def
+abbrev pub IsFree : FlatText → Def → Type 0
+IsFree flat_text def = IsConflictFree (index_count flat_text def.family) def
 
 -- at most one value of each `forall` variable of the definition gives an element of its family a result, in each state
-abbrev pub OneValueGives : Raw → Def → Type 0
-OneValueGives raw def = (n : Numbered) (indexes every : List Value) → length indexes ≡ index_count raw def.family → IsSingle n def indexes every
+abbrev pub OneValueGives : FlatText → Def → Type 0
+OneValueGives flat_text def = (n : Numbered) (indexes every : List Value) → length indexes ≡ index_count flat_text def.family → IsSingle n def indexes every

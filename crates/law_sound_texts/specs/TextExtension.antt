@@ -3,7 +3,7 @@ use Rattle.std.specs.Prelude.{◌≡◌, ℕ, List, [], ◌∷◌, filter, not, 
 use Rattle.std.specs.List.{AllZip}
 use Rattle.smv_core.specs.Values.{Value, Sizes}
 use Rattle.smv_core.specs.Types.{Family}
-use Rattle.smv_core.specs.FlatOrder.{Design, design_of}
+use Rattle.smv_core.specs.FlatOrder.{TextDesign, design_of}
 use Rattle.smv_core.specs.Outcome.{State, family_at}
 use Rattle.smv_core.specs.Allowed.{Base, base_of, allowed_by_base}
 use Rattle.smv_core.specs.Sound.{indexes_in, AtEachTime, IsTyped, IsRun}
@@ -11,10 +11,10 @@ use Rattle.smv_core.specs.declared.tree.Text.{Text}
 use Rattle.smv_core.specs.declared.flat.Def.{Def}
 use Rattle.law_designs.specs.Numbers.{family_number}
 use Rattle.law_designs.specs.Flattening.{flatten, scope_in, layer_number}
-use Rattle.law_designs.specs.Definitions.{design_of_raw}
+use Rattle.law_designs.specs.Definitions.{design_of_flat_text}
 use Rattle.law_obligations.specs.Outlines as outline
 
-module _ (d : Design) (sizes : Sizes) where
+module _ (d : TextDesign) (sizes : Sizes) where
   -- each element of each family that is not abstract
   abbrev pub EachImplemented : (Family → List Value → Type 0) → Type 0
   EachImplemented P = All (λ f. All (P f) (indexes_in sizes f)) (filter (λ (f : Family). not f.is_abstract) d.families)
@@ -46,7 +46,7 @@ module _ (text : Text) where
 
   -- so it is for each abstract family
   abbrev pub LayersAreSame : Type 0
-  LayersAreSame = (k : ℕ) (f : Family) → slice_get (design_of text).families k ≡ Some f → f.is_abstract ≡ true → IsSameLayer (base_of (design_of text) f) (outline.base_of (design_of_raw (flatten text)) k)
+  LayersAreSame = (k : ℕ) (f : Family) → slice_get (design_of text).families k ≡ Some f → f.is_abstract ≡ true → IsSameLayer (base_of (design_of text) f) (outline.base_of (design_of_flat_text (flatten text)) k)
 
   -- at any sizes each behaviour of the implementation is that of a run: the same states but for the abstract families
   abbrev pub KeepsTextBehaviours : Type 0

@@ -19,7 +19,7 @@ use Rattle.smv_core.specs.declared.tree.Top.TheVariants.{Module}
 use Rattle.smv_core.specs.declared.tree.Text.{Text}
 use Rattle.smv_core.specs.declared.flat.Def.{Def}
 use Rattle.law_designs.specs.Flattening.{flatten}
-use Rattle.law_designs.specs.Definitions.{design_of_raw}
+use Rattle.law_designs.specs.Definitions.{design_of_flat_text}
 use Rattle.law_obligations.specs.Outlines as outline
 use Rattle.law_designs.specs.FirstFault.{first_fault_of_design}
 
@@ -46,9 +46,9 @@ all_of value path indexes = number value
 abbrev pub TakesTheFirst : Type 0
 TakesTheFirst =
     ((design_of two_layers).families ≡ the_signal ∷ [])
-    × (first_fault_of_design (design_of_raw (flatten two_layers)) ≡ None)
+    × (first_fault_of_design (design_of_flat_text (flatten two_layers)) ≡ None)
     × (base_of (design_of two_layers) the_signal ≡ Some (Some (codes "B")))
-    × (option_map (λ (def : Def). def.layer) (outline.base_of (design_of_raw (flatten two_layers)) 0) ≡ Some (Some 0))
+    × (option_map (λ (def : Def). def.layer) (outline.base_of (design_of_flat_text (flatten two_layers)) 0) ≡ Some (Some 0))
 
 -- so a run has the value 1 at each of its two times, and none has the value 0 at one
 abbrev pub RunsAreOfTheFirst : Type 0

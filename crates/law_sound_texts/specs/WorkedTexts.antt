@@ -9,18 +9,18 @@ use Rattle.smv_core.specs.declared.tree.Top.TheVariants.{Module}
 use Rattle.smv_core.specs.declared.tree.TypeExpr.TheVariants.{Boolean}
 use Rattle.smv_core.specs.declared.flat.Unit.TheVariants.{Map}
 use Rattle.law_designs.specs.Flattening.{flatten}
-use Rattle.law_designs.specs.Definitions.{design_of_raw}
+use Rattle.law_designs.specs.Definitions.{design_of_flat_text}
 use Rattle.law_obligations.specs.Units.{units_of}
 use Rattle.law_sound_texts.specs.WorkedText.{two_layers, the_signal, word, layer_that_sets}
 use Rattle.law_sound_texts.specs.Carried.{UnitsHold}
 
 -- the map of the layer A is the one unit of the text, and the second definition that of the design
 abbrev pub HasOneMap : Type 0
-HasOneMap = (units (design_of two_layers) ≡ map_of (codes "A") the_signal ∷ []) × (units_of (design_of_raw (flatten two_layers)) ≡ Map 1 ∷ [])
+HasOneMap = (units (design_of two_layers) ≡ map_of (codes "A") the_signal ∷ []) × (units_of (design_of_flat_text (flatten two_layers)) ≡ Map 1 ∷ [])
 
 -- it holds neither in the text nor in the design
 abbrev pub HoldsInNeither : Type 0
-HoldsInNeither = (IsSound two_layers → ⊥) × (UnitsHold (design_of_raw (flatten two_layers)) → ⊥)
+HoldsInNeither = (IsSound two_layers → ⊥) × (UnitsHold (design_of_flat_text (flatten two_layers)) → ⊥)
 
 -- module main() { abstract s : boolean; layer B : { s := 1; } layer A : { s := 1; } }
 abbrev pub agreeing_layers : Text
@@ -28,4 +28,4 @@ agreeing_layers = record { tops = Module (word (codes "main")) [] (Declare Abstr
 
 -- here it holds in both
 abbrev pub HoldsInBoth : Type 0
-HoldsInBoth = IsSound agreeing_layers × UnitsHold (design_of_raw (flatten agreeing_layers))
+HoldsInBoth = IsSound agreeing_layers × UnitsHold (design_of_flat_text (flatten agreeing_layers))

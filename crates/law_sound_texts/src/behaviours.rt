@@ -1,10 +1,10 @@
 // Laws of the behaviours and runs of texts, each the contract of a function that does nothing.
 ghost use Rattle.std.specs.Prelude.{◌≡◌, None};
 ghost use Rattle.smv_core.specs.declared.tree.Text.{Text};
-ghost use Rattle.smv_instances.specs.FirstFault.{first_fault};
+ghost use Rattle.smv_mentions.specs.FirstFault.{first_fault};
 ghost use Rattle.law_designs.specs.Flattening.{flatten};
 ghost use Rattle.law_designs.specs.WellKinded.{IsWellKinded};
-ghost use Rattle.law_designs.specs.Definitions.{design_of_raw};
+ghost use Rattle.law_designs.specs.Definitions.{design_of_flat_text};
 ghost use Rattle.law_designs.specs.FirstFault.{first_fault_of_design, first_fault_of_layers};
 ghost use Rattle.law_sound_texts.specs.TextExtension.{KeepsTextBehaviours, LayersAreSame};
 ghost use Rattle.law_sound_texts.specs.TextRuns.{HasTextRuns};
@@ -24,7 +24,7 @@ use law_designs::well_kinded::{
 
 /// In a text without a fault of names, size and layers the layer that defines an abstract signal first is that of its base definition in the design.
 pub fn layers_are_same()
-    ensures { (text : Text) → first_fault text ≡ None → first_fault_of_layers (design_of_raw (flatten text)) ≡ None → LayersAreSame text }
+    ensures { (text : Text) → first_fault text ≡ None → first_fault_of_layers (design_of_flat_text (flatten text)) ≡ None → LayersAreSame text }
 {
     families_are_the_same();
     families_are_found();
@@ -34,7 +34,7 @@ pub fn layers_are_same()
 
 /// In a text that is spelled and has no fault of names, size, kinds, loops and layers the abstract signals take no behaviour from the implementation.
 pub fn behaviours_of_texts_are_kept()
-    ensures { (text : Text) → IsWellKinded text → first_fault_of_design (design_of_raw (flatten text)) ≡ None → KeepsTextBehaviours text }
+    ensures { (text : Text) → IsWellKinded text → first_fault_of_design (design_of_flat_text (flatten text)) ≡ None → KeepsTextBehaviours text }
 {
     layers_are_same();
     well_kinded_behaviours_are_kept();
@@ -42,7 +42,7 @@ pub fn behaviours_of_texts_are_kept()
 
 /// And it has runs of each length from 1 on, at all sizes.
 pub fn texts_have_runs()
-    ensures { (text : Text) → IsWellKinded text → first_fault_of_design (design_of_raw (flatten text)) ≡ None → HasTextRuns text }
+    ensures { (text : Text) → IsWellKinded text → first_fault_of_design (design_of_flat_text (flatten text)) ≡ None → HasTextRuns text }
 {
     layers_are_same();
     flattened_texts_are_kinded();

@@ -1,14 +1,14 @@
 // Laws of what a design adds to its implementation, each the contract of a function that does nothing.
 ghost use Rattle.std.specs.Prelude.{◌≡◌, None};
 ghost use Rattle.smv_core.specs.declared.flat.Design.{Design};
-ghost use Rattle.smv_core.specs.declared.flat.Raw.{Raw};
+ghost use Rattle.smv_core.specs.declared.flat.FlatText.{FlatText};
 ghost use Rattle.smv_core.specs.declared.tree.Text.{Text};
-ghost use Rattle.smv_instances.specs.FirstFault.{first_fault};
+ghost use Rattle.smv_mentions.specs.FirstFault.{first_fault};
 ghost use Rattle.law_designs.specs.Flattening.{flatten};
 ghost use Rattle.law_designs.specs.WellKinded.{IsWellKinded};
-ghost use Rattle.law_designs.specs.Definitions.{design_of_raw};
+ghost use Rattle.law_designs.specs.Definitions.{design_of_flat_text};
 ghost use Rattle.law_designs.specs.FirstFault.{first_fault_of_design};
-ghost use Rattle.law_sound_texts.specs.Extension.{AreFilled, HasRuns, HasWholeLeftSides, KeepsBehaviours, RawHasWholeLeftSides};
+ghost use Rattle.law_sound_texts.specs.Extension.{AreFilled, HasRuns, HasWholeLeftSides, KeepsBehaviours, FlatTextHasWholeLeftSides};
 ghost use Rattle.law_sound_texts.specs.TextExtension.{FamiliesAreFound, KeepsTextBehaviours, LayersAreSame};
 
 use law_designs::flattening::families_are_the_same;
@@ -37,7 +37,7 @@ pub fn runs_exist()
 
 /// The left sides of a design are whole where those of the flattened text are from which it is made.
 pub fn left_sides_stay_whole()
-    ensures { (raw : Raw) → RawHasWholeLeftSides raw → HasWholeLeftSides (design_of_raw raw) }
+    ensures { (flat_text : FlatText) → FlatTextHasWholeLeftSides flat_text → HasWholeLeftSides (design_of_flat_text flat_text) }
 {}
 
 /// In a text without a fault of names or size each family is found by its path, in the text and in the flattened text: no two have one path.
@@ -48,7 +48,7 @@ pub fn families_are_found()
 /// So it is for texts: in a text that is spelled and has no fault of names, size, kinds, loops and layers the abstract signals take no behaviour from the
 /// implementation, where the layer that defines an abstract signal first is that of its base definition in the design.
 pub fn text_behaviours_are_kept()
-    ensures { (text : Text) → IsWellKinded text → first_fault_of_design (design_of_raw (flatten text)) ≡ None → RawHasWholeLeftSides (flatten text) → LayersAreSame text → KeepsTextBehaviours text }
+    ensures { (text : Text) → IsWellKinded text → first_fault_of_design (design_of_flat_text (flatten text)) ≡ None → FlatTextHasWholeLeftSides (flatten text) → LayersAreSame text → KeepsTextBehaviours text }
 {
     behaviours_are_kept();
     left_sides_stay_whole();

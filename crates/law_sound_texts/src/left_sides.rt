@@ -2,14 +2,14 @@
 ghost use Rattle.std.specs.Prelude.{◌≡◌, All, None, true};
 ghost use Rattle.smv_core.specs.declared.tree.Text.{Text};
 ghost use Rattle.law_designs.specs.Flattening.{flatten};
-ghost use Rattle.smv_instances.specs.FirstFault.{first_fault};
+ghost use Rattle.smv_mentions.specs.FirstFault.{first_fault};
 ghost use Rattle.law_designs.specs.WellKinded.{IsWellKinded};
-ghost use Rattle.law_designs.specs.Definitions.{design_of_raw};
+ghost use Rattle.law_designs.specs.Definitions.{design_of_flat_text};
 ghost use Rattle.law_designs.specs.Laws.{left_sides_are_whole};
 ghost use Rattle.law_designs.specs.SingleFaults.{first_fault_of_single};
 ghost use Rattle.law_sound_texts.specs.Placed.{IsFree, OneValueGives};
 ghost use Rattle.law_designs.specs.FirstFault.{first_fault_of_design};
-ghost use Rattle.law_sound_texts.specs.Extension.{RawHasWholeLeftSides};
+ghost use Rattle.law_sound_texts.specs.Extension.{FlatTextHasWholeLeftSides};
 ghost use Rattle.law_sound_texts.specs.TextExtension.{KeepsTextBehaviours, LayersAreSame};
 ghost use Rattle.law_obligations.specs.Covers.{AreApart};
 ghost use Rattle.law_sound_texts.specs.Exact.{DefinitionsAreFree, LeftSidesAreExact};
@@ -40,14 +40,14 @@ pub fn left_sides_have_no_more()
 
 /// And none has fewer.
 pub fn left_sides_have_no_fewer()
-    ensures { (text : Text) → IsWellKinded text → RawHasWholeLeftSides (flatten text) }
+    ensures { (text : Text) → IsWellKinded text → FlatTextHasWholeLeftSides (flatten text) }
 {
     left_sides_are_exact();
 }
 
 /// Where such a text has no fault of single assignment, no two assignments of a definition of its design conflict.
 pub fn text_definitions_have_no_conflict()
-    ensures { (text : Text) → IsWellKinded text → first_fault_of_single (flatten text) ≡ None → All (IsFree (flatten text)) (design_of_raw (flatten text)).defs }
+    ensures { (text : Text) → IsWellKinded text → first_fault_of_single (flatten text) ≡ None → All (IsFree (flatten text)) (design_of_flat_text (flatten text)).defs }
 {
     left_sides_have_no_more();
     flattened_texts_are_placed();
@@ -56,7 +56,7 @@ pub fn text_definitions_have_no_conflict()
 
 /// And at most one value of each `forall` variable of a definition gives an element a result.
 pub fn one_value_gives_a_text_result()
-    ensures { (text : Text) → IsWellKinded text → first_fault_of_single (flatten text) ≡ None → All (OneValueGives (flatten text)) (design_of_raw (flatten text)).defs }
+    ensures { (text : Text) → IsWellKinded text → first_fault_of_single (flatten text) ≡ None → All (OneValueGives (flatten text)) (design_of_flat_text (flatten text)).defs }
 {
     left_sides_have_no_more();
     flattened_texts_are_placed();
@@ -65,7 +65,7 @@ pub fn one_value_gives_a_text_result()
 
 /// So each definition is one of a family, and no two of its assignments conflict, as the soundness of the search asks of it.
 pub fn definitions_are_of_families()
-    ensures { (text : Text) → IsWellKinded text → first_fault_of_single (flatten text) ≡ None → DefinitionsAreFree (design_of_raw (flatten text)) }
+    ensures { (text : Text) → IsWellKinded text → first_fault_of_single (flatten text) ≡ None → DefinitionsAreFree (design_of_flat_text (flatten text)) }
 {
     left_sides_are_exact();
     text_definitions_have_no_conflict();
@@ -74,7 +74,7 @@ pub fn definitions_are_of_families()
 /// Where such a text has no fault of loops and layers, its abstract signals take no behaviour from the implementation, where the layer that defines an abstract signal
 /// first is that of its base definition in the design.
 pub fn well_kinded_behaviours_are_kept()
-    ensures { (text : Text) → IsWellKinded text → first_fault_of_design (design_of_raw (flatten text)) ≡ None → LayersAreSame text → KeepsTextBehaviours text }
+    ensures { (text : Text) → IsWellKinded text → first_fault_of_design (design_of_flat_text (flatten text)) ≡ None → LayersAreSame text → KeepsTextBehaviours text }
 {
     left_sides_have_no_fewer();
     text_behaviours_are_kept();
@@ -82,5 +82,5 @@ pub fn well_kinded_behaviours_are_kept()
 
 /// No two set types of the design of a text without a fault of names and size have one name.
 pub fn set_types_are_apart()
-    ensures { (text : Text) → first_fault text ≡ None → AreApart (design_of_raw (flatten text)).sets }
+    ensures { (text : Text) → first_fault text ≡ None → AreApart (design_of_flat_text (flatten text)).sets }
 {}

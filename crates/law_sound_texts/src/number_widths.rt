@@ -5,7 +5,7 @@ ghost use Rattle.smv_core.specs.Notation.{Tokens};
 ghost use Rattle.smv_core.specs.Spelling.{Spells};
 ghost use Rattle.smv_core.specs.Values.{Name};
 ghost use Rattle.smv_core.specs.declared.tree.Text.{Text};
-ghost use Rattle.smv_instances.specs.FirstFault.{first_fault};
+ghost use Rattle.smv_mentions.specs.FirstFault.{first_fault};
 ghost use Rattle.law_designs.specs.Entries.{entries};
 ghost use Rattle.law_designs.specs.Flattening.{flatten};
 ghost use Rattle.smv_lex.specs.Lexing.{lexed};

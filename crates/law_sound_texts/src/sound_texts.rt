@@ -4,7 +4,7 @@ ghost use Rattle.smv_core.specs.Sound.{IsSound};
 ghost use Rattle.smv_core.specs.declared.tree.Text.{Text};
 ghost use Rattle.law_designs.specs.Flattening.{flatten};
 ghost use Rattle.law_designs.specs.WellKinded.{IsWellKinded};
-ghost use Rattle.law_designs.specs.Definitions.{design_of_raw};
+ghost use Rattle.law_designs.specs.Definitions.{design_of_flat_text};
 ghost use Rattle.law_designs.specs.SingleFaults.{first_fault_of_single};
 ghost use Rattle.law_obligations.specs.Outlines.{Script, outline_of};
 ghost use Rattle.law_obligations.specs.Checked as script;
@@ -28,7 +28,7 @@ use law_obligations::obligations::proved_is_sound;
 
 /// Each run of a text that is spelled and has no fault of names, size, kinds, loops and layers is a run of its design.
 pub fn runs_of_texts_are_runs_of_designs()
-    ensures { (text : Text) → IsWellKinded text → first_fault_of_design (design_of_raw (flatten text)) ≡ None → RunsAreCarried text }
+    ensures { (text : Text) → IsWellKinded text → first_fault_of_design (design_of_flat_text (flatten text)) ≡ None → RunsAreCarried text }
 {
     layers_are_same();
     families_are_the_same();
@@ -40,7 +40,7 @@ pub fn runs_of_texts_are_runs_of_designs()
 
 /// And each run of its design that is not empty is one of the text.
 pub fn runs_of_designs_are_runs_of_texts()
-    ensures { (text : Text) → IsWellKinded text → first_fault_of_design (design_of_raw (flatten text)) ≡ None → RunsAreCarriedBack text }
+    ensures { (text : Text) → IsWellKinded text → first_fault_of_design (design_of_flat_text (flatten text)) ≡ None → RunsAreCarriedBack text }
 {
     layers_are_same();
     families_are_the_same();
@@ -54,7 +54,7 @@ pub fn runs_of_designs_are_runs_of_texts()
 
 /// So each unit of the text holds at each time of each of its runs, for all sizes, where each unit of the design does.
 pub fn sound_designs_are_sound_texts()
-    ensures { (text : Text) → IsWellKinded text → first_fault_of_design (design_of_raw (flatten text)) ≡ None → UnitsHold (design_of_raw (flatten text)) → IsSound text }
+    ensures { (text : Text) → IsWellKinded text → first_fault_of_design (design_of_flat_text (flatten text)) ≡ None → UnitsHold (design_of_flat_text (flatten text)) → IsSound text }
 {
     runs_of_texts_are_runs_of_designs();
     families_are_the_same();
@@ -69,7 +69,7 @@ pub fn sound_designs_are_sound_texts()
 
 /// And each unit of the design holds, where each unit of the text does.
 pub fn sound_texts_are_sound_designs()
-    ensures { (text : Text) → IsWellKinded text → first_fault_of_design (design_of_raw (flatten text)) ≡ None → IsSound text → UnitsHold (design_of_raw (flatten text)) }
+    ensures { (text : Text) → IsWellKinded text → first_fault_of_design (design_of_flat_text (flatten text)) ≡ None → IsSound text → UnitsHold (design_of_flat_text (flatten text)) }
 {
     runs_of_designs_are_runs_of_texts();
     layers_are_same();
@@ -85,7 +85,7 @@ pub fn sound_texts_are_sound_designs()
 
 /// A text is sound where a script of its design with all the units is.
 pub fn sound_scripts_are_sound_texts()
-    ensures { (text : Text) → IsWellKinded text → first_fault_of_design (design_of_raw (flatten text)) ≡ None → (s : Script) → outline_of s ≡ outlined (design_of_raw (flatten text)) → script.IsSound s → IsSound text }
+    ensures { (text : Text) → IsWellKinded text → first_fault_of_design (design_of_flat_text (flatten text)) ≡ None → (s : Script) → outline_of s ≡ outlined (design_of_flat_text (flatten text)) → script.IsSoundScript s → IsSound text }
 {
     sound_designs_are_sound_texts();
 }
@@ -93,7 +93,7 @@ pub fn sound_scripts_are_sound_texts()
 /// And where the text has no fault of single assignment either and its design has a proof: a leaf and a choice for each unit, and no case of a leaf has a violating
 /// path.
 pub fn proved_texts_are_sound()
-    ensures { (text : Text) → IsWellKinded text → first_fault_of_single (flatten text) ≡ None → first_fault_of_design (design_of_raw (flatten text)) ≡ None → HasProof (design_of_raw (flatten text)) → IsSound text }
+    ensures { (text : Text) → IsWellKinded text → first_fault_of_single (flatten text) ≡ None → first_fault_of_design (design_of_flat_text (flatten text)) ≡ None → HasProof (design_of_flat_text (flatten text)) → IsSound text }
 {
     sound_designs_are_sound_texts();
     scripts_are_checked();

@@ -1,7 +1,7 @@
 -- Values of the parameters that splits add, at which all guards of a leaf hold.
 use Rattle.std.proofs.Common.{◌+◌, ◌-◌, ◌<◌, ◌≤◌, List, ◌++◌, map, length, Bool, true, false, sym, subst, arith}
 use Rattle.smv_core.specs.Values.{Name, Value, number, scalar, ordinal, Sizes, values_of}
-use Rattle.smv_core.specs.Flat.{Numbered, values_in, set_type}
+use Rattle.smv_core.specs.FlatMeaning.{Numbered, values_in, set_type}
 use Rattle.smv_core.specs.declared.flat.Design.{Design}
 use Rattle.smv_core.specs.declared.flat.Simple.{Simple}
 use Rattle.smv_core.specs.declared.flat.Simple.TheVariants.{Range, Enum, Set}

@@ -9,7 +9,7 @@ use Rattle.smv_core.specs.declared.flat.Param.{Param}
 use Rattle.smv_core.specs.declared.flat.FlatSplit.{FlatSplit}
 use Rattle.law_obligations.specs.Sets.{Has}
 use Rattle.law_obligations.specs.Soundness.{FlatUnit, map_of, claim_of, over_of}
-use Rattle.smv_instances.specs.NameFaults.{place_if}
+use Rattle.smv_mentions.specs.NameFaults.{place_if}
 use Rattle.law_obligations.specs.Outlines.{unit_in}
 use Rattle.law_obligations.specs.Units.{units_of}
 use Rattle.law_splits.specs.Leaves.{named_by, with_name, name_of, splits_of, bound_as}

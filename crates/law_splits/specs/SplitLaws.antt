@@ -1,7 +1,7 @@
 -- The laws: what the crate's public functions say.
 use Rattle.std.specs.Prelude.{◌≡◌, ◌≢◌, ◌<◌, ℕ, List, [], ◌++◌, map, zip, length, get_or, slice_get, Some, true, false}
 use Rattle.smv_core.specs.Values.{Value, number, Sizes}
-use Rattle.smv_core.specs.Flat.{Numbered, FlatState, flat_outcome}
+use Rattle.smv_core.specs.FlatMeaning.{Numbered, FlatState, flat_outcome}
 use Rattle.smv_core.specs.declared.flat.Simple.{Simple}
 use Rattle.smv_core.specs.declared.flat.Design.{Design}
 use Rattle.smv_core.specs.declared.flat.Family.{Family}

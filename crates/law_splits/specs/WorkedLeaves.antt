@@ -14,7 +14,7 @@ use Rattle.smv_core.specs.declared.flat.FlatSplit.{FlatSplit}
 use Rattle.smv_core.specs.declared.flat.FlatPair.{FlatPair}
 use Rattle.smv_core.specs.declared.flat.Guard.{Guard}
 use Rattle.smv_core.specs.declared.flat.Leaf.{Leaf}
-use Rattle.smv_core.specs.declared.flat.Flat.{Forall}
+use Rattle.smv_core.specs.declared.flat.DefBody.{Forall}
 use Rattle.smv_core.specs.declared.flat.FlatExpr.{FlatExpr, Read, Var, Any}
 use Rattle.law_obligations.specs.WorkedTomasulo as machine
 use Rattle.law_obligations.specs.WorkedTomasulo.{bit, word, reg, tag, rd, bt, r, ir_tag, st_ta, aux_a, aux_res, aux_src, one, at, equal, i, num, set_at, always, guard, tomasulo, machine_script}

@@ -6,7 +6,7 @@ use Rattle.std.specs.Prelude.{slice_index_or}
 use Rattle.smv_core.specs.Values.{number, numbers_from}
 use Rattle.smv_core.specs.declared.flat.Family.{Family}
 use Rattle.smv_core.specs.declared.flat.Def.{Def}
-use Rattle.smv_core.specs.declared.flat.Flat.{Flat}
+use Rattle.smv_core.specs.declared.flat.DefBody.{DefBody}
 use Rattle.smv_core.specs.declared.flat.FlatExpr.{FlatExpr}
 use Rattle.smv_core.specs.declared.flat.Assumed.{Assumed}
 use Rattle.law_obligations.specs.Sets.{Has, first, later}
@@ -45,7 +45,7 @@ module _ (fs : List Family) where
   families_within e k h = reads_within (λ over. named (number 0) ∷ []) (λ family indexes b. if_there family (slice_get fs family)) below
       (λ family indexes b y q. there_within family y (slice_get fs family) refl q) e [] k h
 
-  family_part : (p : Flat) (k : ℕ) → Has (families_of_part fs p) k → below k
+  family_part : (p : DefBody) (k : ℕ) → Has (families_of_part fs p) k → below k
   family_part p k h = part_within (λ over. named (number 0) ∷ []) (λ family indexes b. if_there family (slice_get fs family)) below
       (λ family indexes b y q. there_within family y (slice_get fs family) refl q) (λ over. named (number 0) ∷ []) (λ left b. true) p [] k h
 

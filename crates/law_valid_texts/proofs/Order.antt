@@ -3,10 +3,10 @@ use Rattle.std.proofs.Common.{◌≡◌, ◌∙◌, [], ◌∷◌, length, Optio
 use Rattle.std.proofs.lemmas.List.{length-map}
 use Rattle.smv_core.specs.declared.fault.Fault.{Fault}
 use Rattle.smv_core.specs.declared.flat.Design.{Design}
-use Rattle.smv_instances.specs.FirstFault.{or_else}
+use Rattle.smv_mentions.specs.FirstFault.{or_else}
 use Rattle.law_obligations.specs.Units.{units_of}
 use Rattle.law_splits.specs.Leaves.{leaves_of}
-use Rattle.smv_uses.specs.Choices.{choice_of, choices_of}
+use Rattle.law_uses.specs.Choices.{choice_of, choices_of}
 use Rattle.law_valid_texts.specs.Faults.{first_there}
 use Rattle.law_valid_texts.proofs.Places.{leaf_each}
 

@@ -1,7 +1,7 @@
 -- What the passes up to cases leave of a text.
 use Rattle.std.specs.Prelude.{◌≡◌, None}
 use Rattle.smv_core.specs.declared.tree.Text.{Text}
-use Rattle.smv_instances.specs.FirstFault.{first_of}
+use Rattle.smv_mentions.specs.FirstFault.{first_of}
 use Rattle.law_designs.specs.Flattening.{flatten}
 use Rattle.law_designs.specs.WellKinded.{IsWellKinded}
 use Rattle.law_designs.specs.SingleFaults.{first_fault_of_single}
@@ -10,7 +10,7 @@ use Rattle.law_designs.specs.SetFaults.{first_fault_of_sets}
 use Rattle.law_splits.specs.SplitFaults.{first_fault_of_splits}
 use Rattle.law_obligations.specs.Outlines.{Script}
 use Rattle.law_obligations.specs.Units.{script_of}
-use Rattle.smv_uses.specs.UseFaults.{first_fault_of_uses}
+use Rattle.law_uses.specs.UseFaults.{first_fault_of_uses}
 use Rattle.smv_problem.specs.declared.report.Plan.{Plan}
 use Rattle.law_valid_texts.specs.Joined.{flat_design}
 use Rattle.law_valid_texts.specs.Faults.{faults_of_cases}

@@ -5,7 +5,7 @@ use Rattle.smv_core.specs.declared.tree.Text.{Text}
 use Rattle.smv_core.specs.declared.flat.Design.{Design}
 use Rattle.smv_core.specs.declared.flat.Leaf.{Leaf}
 use Rattle.smv_core.specs.declared.flat.Choice.{Choice}
-use Rattle.smv_instances.specs.FirstFault.{first_fault, first_of}
+use Rattle.smv_mentions.specs.FirstFault.{first_fault, first_of}
 use Rattle.law_designs.specs.KindFaults.{first_fault_of_kinds}
 use Rattle.law_designs.specs.Flattening.{flatten}
 use Rattle.law_designs.specs.SingleFaults.{first_fault_of_single}
@@ -14,8 +14,8 @@ use Rattle.law_designs.specs.SetFaults.{first_fault_of_sets}
 use Rattle.law_splits.specs.Leaves.{leaves_of}
 use Rattle.law_splits.specs.SplitFaults.{first_fault_of_splits}
 use Rattle.law_obligations.specs.LeafCases.{leaf_cases}
-use Rattle.smv_uses.specs.Choices.{choices_of}
-use Rattle.smv_uses.specs.UseFaults.{first_fault_of_uses}
+use Rattle.law_uses.specs.Choices.{choices_of}
+use Rattle.law_uses.specs.UseFaults.{first_fault_of_uses}
 use Rattle.law_problems.specs.Parts.{cases_fault, width_fault}
 use Rattle.law_valid_texts.specs.Joined.{flat_design}
 

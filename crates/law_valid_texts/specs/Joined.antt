@@ -7,7 +7,7 @@ use Rattle.smv_core.specs.declared.flat.Choice.{Choice}
 use Rattle.law_designs.specs.Flattening.{flatten}
 use Rattle.law_designs.specs.WellKinded.{IsWellKinded}
 use Rattle.law_designs.specs.SingleFaults.{first_fault_of_single}
-use Rattle.law_designs.specs.Definitions.{design_of_raw}
+use Rattle.law_designs.specs.Definitions.{design_of_flat_text}
 use Rattle.law_designs.specs.FirstFault.{first_fault_of_design}
 use Rattle.law_obligations.specs.Outlines.{Script}
 use Rattle.law_obligations.specs.Units.{units_of, script_of}
@@ -21,7 +21,7 @@ use Rattle.law_reports.specs.Verdicts.{LeafVerdict, AreVerdicts, AllTrue}
 
 -- the design of a text
 abbrev pub flat_design : Text → Design
-flat_design text = design_of_raw (flatten text)
+flat_design text = design_of_flat_text (flatten text)
 
 -- its units with their leaves and these choices
 abbrev pub script_with : Text → List Choice → Script

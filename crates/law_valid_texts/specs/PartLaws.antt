@@ -5,10 +5,10 @@ use Rattle.smv_core.specs.declared.flat.Design.{Design}
 use Rattle.smv_core.specs.declared.flat.Leaf.{Leaf}
 use Rattle.smv_core.specs.declared.flat.Choice.{Choice}
 use Rattle.smv_core.specs.declared.flat.Class.{Class}
-use Rattle.smv_instances.specs.FirstFault.{first_of}
+use Rattle.smv_mentions.specs.FirstFault.{first_of}
 use Rattle.law_obligations.specs.Sets.{Has}
 use Rattle.law_obligations.specs.LeafCases.{leaf_cases}
-use Rattle.smv_uses.specs.Choices.{choices_of}
+use Rattle.law_uses.specs.Choices.{choices_of}
 use Rattle.smv_problem.specs.declared.report.Plan.{Plan}
 use Rattle.law_problems.specs.Parts.{IsPart, IsCaseOf, cases_fault}
 use Rattle.law_valid_texts.specs.Joined.{flat_design}

@@ -2,7 +2,7 @@
 use Rattle.std.specs.Prelude.{◌≡◌, ℕ, List, None}
 use Rattle.smv_core.specs.Sound.{IsSound}
 use Rattle.smv_core.specs.declared.tree.Text.{Text}
-use Rattle.smv_instances.specs.FirstFault.{first_of}
+use Rattle.smv_mentions.specs.FirstFault.{first_of}
 use Rattle.law_obligations.specs.Checked.{IsChecked, IsProved}
 use Rattle.law_obligations.specs.Scripts.{HaveValues}
 use Rattle.smv_problem.specs.declared.report.Plan.{Plan}

@@ -4,9 +4,9 @@ use Rattle.smv_core.specs.Notation.{Tokens}
 use Rattle.smv_core.specs.Spelling.{Spells}
 use Rattle.smv_core.specs.Sound.{IsSound}
 use Rattle.smv_core.specs.declared.tree.Text.{Text}
-use Rattle.smv_instances.specs.FirstFault.{first_of, or_else}
+use Rattle.smv_mentions.specs.FirstFault.{first_of, or_else}
 use Rattle.law_obligations.specs.Checked.{IsChecked, IsProved}
-use Rattle.smv_uses.specs.Choices.{choices_of}
+use Rattle.law_uses.specs.Choices.{choices_of}
 use Rattle.smv_problem.specs.declared.report.Plan.{Plan}
 use Rattle.smv_front.specs.Plans.{IsPlan}
 use Rattle.smv_front.specs.TextFault.{text_fault}

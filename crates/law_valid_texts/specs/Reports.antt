@@ -5,7 +5,7 @@ use Rattle.smv_core.specs.Sound.{IsSound}
 use Rattle.smv_core.specs.declared.tree.Text.{Text}
 use Rattle.law_obligations.specs.Outlines.{Entry, Script, unit_in}
 use Rattle.law_splits.specs.Leaves.{name_of}
-use Rattle.smv_uses.specs.Choices.{choices_of}
+use Rattle.law_uses.specs.Choices.{choices_of}
 use Rattle.smv_problem.specs.declared.report.UnitResult.{UnitResult}
 use Rattle.smv_problem.specs.declared.report.Report.{Report}
 use Rattle.law_reports.specs.Reports.{IsReportOf, IsResultOf}

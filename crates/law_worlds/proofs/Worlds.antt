@@ -16,7 +16,7 @@ use Rattle.law_obligations.proofs.Same.{nat_eq-is, nat_eq-itself}
 use Rattle.law_obligations.proofs.Members.{Has-left, Has-right}
 use Rattle.law_obligations.proofs.OneOfEach.{get_Has}
 use Rattle.law_obligations.specs.Outlines.{place_of}
-use Rattle.law_obligations.specs.Readings.{Case}
+use Rattle.law_obligations.specs.Readings.{PosedCase}
 use Rattle.smv_spots.specs.Spots.{is_ordset, name_of, both_or_none, AreTypes}
 use Rattle.smv_problem.specs.Written.{written, written_type, name_number, set_numbers_of}
 use Rattle.smv_problem.specs.WellFormed.{IsWellFormed}
@@ -119,7 +119,7 @@ no_gaps beside.None h = refl
 no_gaps beside.One h = refl
 no_gaps beside.Gaps h = absurd (h refl)
 
-module _ (c : Case) (well : IsWellFormed c) where
+module _ (c : PosedCase) (well : IsWellFormed c) where
   abbrev w : World
   w = c.problem.world
 

@@ -1,7 +1,7 @@
 -- What the kept elements of a case may be, and what a read of an element finds.
 use Rattle.std.specs.Prelude.{ℕ, List, [], ◌∷◌, map, Some, Bool, ◌&&◌, if◌then◌else◌, nat_eq}
 use Rattle.std.specs.List.{list_any}
-use Rattle.smv_core.specs.Flat.{Numbered}
+use Rattle.smv_core.specs.FlatMeaning.{Numbered}
 use Rattle.law_obligations.specs.Places.{Place, AbsOutcome}
 use Rattle.law_obligations.specs.Cones.{same_places}
 use Rattle.smv_spots.specs.Spots.{place_in}

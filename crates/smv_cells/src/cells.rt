@@ -1,7 +1,7 @@
 // What the kept elements of a case may be.
 ghost use Rattle.std.specs.Prelude.{◌≡◌, ℕ, Bool, OnOk, map, Some};
 ghost use Rattle.std.specs.List.{list_any};
-ghost use Rattle.smv_core.specs.Flat.{Numbered};
+ghost use Rattle.smv_core.specs.FlatMeaning.{Numbered};
 ghost use Rattle.law_obligations.specs.Places.{AbsOutcome, World};
 ghost use Rattle.law_obligations.specs.Cones.{same_places};
 ghost use Rattle.smv_spots.specs.Spots.{place_in};

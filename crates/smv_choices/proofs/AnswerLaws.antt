@@ -12,8 +12,8 @@ use Rattle.smv_core.specs.declared.flat.Assumed.{Assumed}
 use Rattle.std.specs.Prelude.{ℕ, Option}
 use Rattle.law_obligations.specs.Units.{units_of}
 use Rattle.law_splits.specs.Leaves.{leaves_of}
-use Rattle.smv_uses.specs.Choices.{choices_of}
-use Rattle.smv_uses.specs.UseFaults.{first_fault_of_uses}
+use Rattle.law_uses.specs.Choices.{choices_of}
+use Rattle.law_uses.specs.UseFaults.{first_fault_of_uses}
 use Rattle.smv_choices.specs.declared.keeps.Kept.{Kept}
 use Rattle.smv_choices.specs.Readings.{Said, reading_in, first_fault, proofs, choice_of}
 use Rattle.smv_choices.proofs.PartLaws.{choices-made}

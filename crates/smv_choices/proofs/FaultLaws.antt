@@ -21,9 +21,9 @@ use Rattle.smv_core.specs.declared.flat.Leaf.{Leaf}
 use Rattle.smv_core.specs.declared.flat.Pick.{Pick}
 use Rattle.smv_core.specs.declared.flat.Assumed.{Assumed}
 use Rattle.law_obligations.specs.Cases.{is_set}
-use Rattle.smv_instances.specs.NameFaults.{place_if}
-use Rattle.smv_instances.specs.Scopes.{first_of_places}
-use Rattle.smv_instances.specs.FirstFault.{first_of, faults_at}
+use Rattle.smv_mentions.specs.NameFaults.{place_if}
+use Rattle.smv_mentions.specs.Scopes.{first_of_places}
+use Rattle.smv_mentions.specs.FirstFault.{first_of, faults_at}
 use Rattle.smv_scope.specs.ScopeFault.{least, fault_at, earlier_of}
 use Rattle.smv_scope.proofs.LeastLaws.{first-none, first-assoc, least-append}
 use Rattle.smv_scope.proofs.FirstLaws.{first-both, first-at}
@@ -35,10 +35,10 @@ use Rattle.law_splits.specs.SplitFaults.{doubled, miscounted, same_type}
 use Rattle.name_index.specs.Position.{position}
 use Rattle.smv_references.specs.Again.{Key, same_key, again}
 use Rattle.smv_references.proofs.AgainLaws.{clashing, in_pairs, again-first, swapped, bytes-flip}
-use Rattle.smv_uses.specs.Uses.{set_named, Braces, braces_in, picks_in, assumed_in}
-use Rattle.smv_uses.specs.Choices.{Proof, proofs_in, names_leaf, own_map, is_own}
-use Rattle.smv_uses.specs.UseFaults as spec
-use Rattle.smv_uses.specs.UseFaults.{later, leaf_named, same_leaf, same_map, same_family, is_param_over, first_fault_of_uses}
+use Rattle.law_uses.specs.Uses.{set_named, Braces, braces_in, picks_in, assumed_in}
+use Rattle.law_uses.specs.Choices.{Proof, proofs_in, names_leaf, own_map, is_own}
+use Rattle.law_uses.specs.UseFaults as spec
+use Rattle.law_uses.specs.UseFaults.{later, leaf_named, same_leaf, same_map, same_family, is_param_over, first_fault_of_uses}
 use Rattle.smv_choices.specs.Parts as parts
 use Rattle.smv_choices.specs.Parts.{at_place, picks_by, claims_by, proved_as, unknown_as, proved_one, unknown_one, first_among, map_keys, family_keys, claim_keys, set_keys, is_param_in, fits, names_misfit, braces_misfit, other_types_in}
 use Rattle.smv_choices.specs.Readings.{Said, reading_in, unknown_in, leaf_key, leaf_keys, twice_in, misfit_in, first_fault}

@@ -18,16 +18,16 @@ use Rattle.smv_core.specs.declared.flat.Leaf.{Leaf}
 use Rattle.smv_core.specs.declared.flat.Keep.{Keep as FlatKeep}
 use Rattle.smv_core.specs.declared.flat.Pick.{Pick}
 use Rattle.smv_core.specs.declared.flat.Assumed.{Assumed}
-use Rattle.smv_instances.specs.NameFaults.{place_if}
+use Rattle.smv_mentions.specs.NameFaults.{place_if}
 use Rattle.law_obligations.specs.Outlines.{as_map, as_claim, map_in}
 use Rattle.law_obligations.specs.Units.{units_of}
 use Rattle.law_splits.specs.Leaves.{named_by, leaves_of}
 use Rattle.name_index.specs.Position.{position}
-use Rattle.smv_uses.specs.declared.meaning.Meaning.{Meaning}
-use Rattle.smv_uses.specs.declared.meaning.Meaning.TheVariants.{Definition, Claim}
-use Rattle.smv_uses.specs.Uses.{Used, braces_in, meaning_of, used_in, pick_by, assumed_by, picks_in, assumed_in}
-use Rattle.smv_uses.specs.Choices as spec
-use Rattle.smv_uses.specs.Choices.{Proof, proofs_in, is_among, kept_params, choices_of}
+use Rattle.law_uses.specs.declared.meaning.Meaning.{Meaning}
+use Rattle.law_uses.specs.declared.meaning.Meaning.TheVariants.{Definition, Claim}
+use Rattle.law_uses.specs.Uses.{Used, braces_in, meaning_of, used_in, pick_by, assumed_by, picks_in, assumed_in}
+use Rattle.law_uses.specs.Choices as spec
+use Rattle.law_uses.specs.Choices.{Proof, proofs_in, is_among, kept_params, choices_of}
 use Rattle.smv_choices.specs.Parts.{picks_meant, claims_meant, picks_by, claims_by, unknown_by, kept_as, kept_one, kept_from, keep_with, sets_of, choice_with, without_places}
 use Rattle.smv_choices.specs.Readings.{Said, Proving, reading_in, proofs, names_held, choice_held, choice_of}
 

@@ -4,8 +4,8 @@ use Rattle.smv_core.specs.declared.fault.Refusal.{Refusal}
 use Rattle.smv_core.specs.declared.fault.Refusal.TheVariants as refusal
 use Rattle.smv_core.specs.declared.flat.Design.{Design}
 use Rattle.smv_core.specs.declared.flat.Choice.{Choice}
-use Rattle.smv_uses.specs.Choices.{choices_of}
-use Rattle.smv_uses.specs.UseFaults.{first_fault_of_uses}
+use Rattle.law_uses.specs.Choices.{choices_of}
+use Rattle.law_uses.specs.UseFaults.{first_fault_of_uses}
 
 -- the choice of each leaf, where the design has no fault of uses, or else the first such fault; or memory ran out
 abbrev pub AreChosen : Design → Result (List Choice) Refusal → Type 0

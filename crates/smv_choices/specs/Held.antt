@@ -1,7 +1,7 @@
 -- What the tables of the code hold.
 use Rattle.std.specs.Prelude.{◌≡◌, ℕ, map, Bool, ◌&&◌, nat_eq}
 use Rattle.std.specs.HashSet.{HashSet, contains}
-use Rattle.smv_uses.specs.Uses.{is_defined_in}
+use Rattle.law_uses.specs.Uses.{is_defined_in}
 use Rattle.smv_choices.specs.declared.tables.Tables.{Tables}
 
 abbrev pub same_pair : ℕ × ℕ → ℕ × ℕ → Bool

@@ -17,18 +17,18 @@ use Rattle.smv_core.specs.declared.flat.Keep.{Keep as FlatKeep}
 use Rattle.smv_core.specs.declared.flat.Pick.{Pick}
 use Rattle.smv_core.specs.declared.flat.Assumed.{Assumed}
 use Rattle.law_obligations.specs.Cases.{is_set}
-use Rattle.smv_instances.specs.NameFaults.{place_if}
-use Rattle.smv_instances.specs.Scopes.{first_of_places}
+use Rattle.smv_mentions.specs.NameFaults.{place_if}
+use Rattle.smv_mentions.specs.Scopes.{first_of_places}
 use Rattle.smv_scope.specs.ScopeFault.{least}
 use Rattle.law_splits.specs.Leaves.{with_name}
 use Rattle.law_splits.specs.SplitFaults.{names_one, doubled, miscounted, same_type}
 use Rattle.name_index.specs.Position.{position}
 use Rattle.smv_references.specs.Again.{Key, same_key, again}
-use Rattle.smv_uses.specs.declared.meaning.Meaning.{Meaning}
-use Rattle.smv_uses.specs.declared.meaning.Meaning.TheVariants.{Definition, Claim}
-use Rattle.smv_uses.specs.Uses.{meaning_of}
-use Rattle.smv_uses.specs.Choices.{own_map, is_own}
-use Rattle.smv_uses.specs.UseFaults.{leaf_named}
+use Rattle.law_uses.specs.declared.meaning.Meaning.{Meaning}
+use Rattle.law_uses.specs.declared.meaning.Meaning.TheVariants.{Definition, Claim}
+use Rattle.law_uses.specs.Uses.{meaning_of}
+use Rattle.law_uses.specs.Choices.{own_map, is_own}
+use Rattle.law_uses.specs.UseFaults.{leaf_named}
 use Rattle.smv_choices.specs.declared.keeps.Kept.{Kept}
 
 -- ---- uses

@@ -11,11 +11,11 @@ use Rattle.smv_core.specs.declared.flat.Leaf.{Leaf}
 use Rattle.smv_core.specs.declared.flat.Choice.{Choice}
 use Rattle.smv_core.specs.declared.flat.Pick.{Pick}
 use Rattle.smv_core.specs.declared.flat.Assumed.{Assumed}
-use Rattle.smv_instances.specs.Scopes.{first_of_places}
+use Rattle.smv_mentions.specs.Scopes.{first_of_places}
 use Rattle.smv_scope.specs.ScopeFault.{least, fault_at, earlier_of}
 use Rattle.law_splits.specs.Leaves.{named_by}
 use Rattle.smv_references.specs.Again.{same_key, again}
-use Rattle.smv_uses.specs.Choices.{own_map, nothing_used}
+use Rattle.law_uses.specs.Choices.{own_map, nothing_used}
 use Rattle.smv_choices.specs.declared.keeps.Kept.{Kept}
 use Rattle.smv_choices.specs.declared.readings.Proved.{Proved}
 use Rattle.smv_choices.specs.declared.readings.Reading.{Reading}

@@ -43,7 +43,7 @@ fn first_unknown(all: &[Reading]) -> Option<u32>
 }
 
 // The names of the leaves that these prove, more.
-#[tactic(auto, using(smv_instances::proofs::Notes::noting))]
+#[tactic(auto, using(smv_mentions::proofs::Notes::noting))]
 fn add_leaves<'a>(out: &mut Vec<(u32, &'a Name)>, proved: &[Proved<'a>]) -> Result<(), AllocError>
     ensures { OnOk result (map placed out.new.items ≡ map placed out.old.items ++ map readings.leaf_key (map pair_of proved.now)) }
 {
@@ -54,7 +54,7 @@ fn add_leaves<'a>(out: &mut Vec<(u32, &'a Name)>, proved: &[Proved<'a>]) -> Resu
 }
 
 // The names of the leaves that are proved, in flat order.
-#[tactic(auto, using(smv_instances::proofs::Notes::noting))]
+#[tactic(auto, using(smv_mentions::proofs::Notes::noting))]
 fn leaf_names<'a>(alloc: Global, all: &[Reading<'a>]) -> Result<Vec<(u32, &'a Name)>, AllocError>
     ensures { IfOk result (λ names. map placed names.items ≡ flat_map readings.leaf_keys (map reading all.now)) }
 {

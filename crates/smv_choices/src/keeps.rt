@@ -18,7 +18,7 @@ pub struct Kept<'a> {
 }
 
 // The names of these words.
-#[tactic(auto, using(smv_instances::proofs::Notes::noting))]
+#[tactic(auto, using(smv_mentions::proofs::Notes::noting))]
 fn names_of<'a>(alloc: Global, words: &'a [Word]) -> Result<NameIndex<'a>, AllocError>
     ensures { IfOk result (λ names. names ≡ map (λ word. word.name) words.now) }
 {
@@ -30,7 +30,7 @@ fn names_of<'a>(alloc: Global, words: &'a [Word]) -> Result<NameIndex<'a>, Alloc
 }
 
 // The braces of one use more, where they are of a set type.
-#[tactic(auto, using(smv_instances::proofs::Notes::noting))]
+#[tactic(auto, using(smv_mentions::proofs::Notes::noting))]
 fn add_kept<'a>(
     kept: &mut Vec<Kept<'a>>,
     alloc: Global,
@@ -53,7 +53,7 @@ fn add_kept<'a>(
 }
 
 /// The braces of some uses, each read once for all leaves that are proved with them.
-#[tactic(auto, using(smv_instances::proofs::Notes::noting))]
+#[tactic(auto, using(smv_mentions::proofs::Notes::noting))]
 pub fn all_kept<'a>(
     alloc: Global,
     sets: &NameIndex,
@@ -96,7 +96,7 @@ fn keep(alloc: Global, of: &Ref, kept: &Kept) -> Result<Keep, AllocError>
 }
 
 /// What each of some braces keeps by the brackets of a reference.
-#[tactic(auto, using(smv_instances::proofs::Notes::noting))]
+#[tactic(auto, using(smv_mentions::proofs::Notes::noting))]
 pub fn all_keeps(alloc: Global, of: &Ref, kept: &[Kept]) -> Result<Vec<Keep>, AllocError>
     ensures { IfOk result (λ keeps. keeps.items ≡ map (keep_with of.now) kept.now) }
 {

@@ -2,7 +2,7 @@
 ghost use Rattle.std.specs.Prelude.{◌≡◌, map, filter, not, IfOk, Some, option_map, option_copied};
 ghost use Rattle.std.specs.List.{list_any};
 ghost use Rattle.law_splits.specs.Leaves.{named_by};
-ghost use Rattle.smv_uses.specs.Choices as spec;
+ghost use Rattle.law_uses.specs.Choices as spec;
 ghost use Rattle.smv_choices.specs.Held.{AreTables};
 ghost use Rattle.smv_choices.specs.Parts.{choice_with, without_places};
 ghost use Rattle.smv_choices.specs.Readings as readings;
@@ -43,7 +43,7 @@ fn has_own(own: Option<&Def>, picks: &[(u32, Pick)]) -> bool
 }
 
 // The choices besides the leaf's own map.
-#[tactic(auto, using(smv_instances::proofs::Notes::noting))]
+#[tactic(auto, using(smv_mentions::proofs::Notes::noting))]
 fn besides(alloc: Global, own: Option<&Def>, picks: &[(u32, Pick)]) -> Result<Seq<Pick>, AllocError>
     ensures { IfOk result (λ out. out ≡ filter (λ p. not (spec.is_own (option_copied own.entry) p)) (without_places picks.now)) }
 {
@@ -57,7 +57,7 @@ fn besides(alloc: Global, own: Option<&Def>, picks: &[(u32, Pick)]) -> Result<Se
 }
 
 // The claims that are assumed.
-#[tactic(auto, using(smv_instances::proofs::Notes::noting))]
+#[tactic(auto, using(smv_mentions::proofs::Notes::noting))]
 fn assumed(alloc: Global, claims: &[(u32, Assumed)]) -> Result<Seq<Assumed>, AllocError>
     ensures { IfOk result (λ out. out ≡ without_places claims.now) }
 {
@@ -144,7 +144,7 @@ fn choice_of(
 }
 
 /// What each of some leaves uses, where this is what each `using` says.
-#[tactic(auto, using(smv_instances::proofs::Notes::noting))]
+#[tactic(auto, using(smv_mentions::proofs::Notes::noting))]
 pub fn all_choices(
     alloc: Global,
     units: &[Unit],

@@ -1,4 +1,4 @@
-//! What the proof of each leaf uses, or the first fault of uses of a design, 26 to 28: `choices`, by the definitions of `smv_uses`.
+//! What the proof of each leaf uses, or the first fault of uses of a design, 26 to 28: `choices`, by the definitions of `law_uses`.
 //! `tables` has the names of a design, each found by its hash, and which layers define which families; `meanings` what a reference means; `found` what each
 //! `using` chooses, assumes and leaves unknown; `readings` that with what it proves, once for the faults and for the choices; `twice` and `misfits` the faults 27
 //! and 28, `faults` the first of all; `proofs_of` the `using` that proves a leaf; `leaf_choices` the choices. No step looks through a list for each use.

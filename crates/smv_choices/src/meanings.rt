@@ -1,8 +1,8 @@
 // What references mean.
 ghost use Rattle.std.specs.Prelude.{◌≡◌, option_map, Some, None, IfOk};
 ghost use Rattle.name_index.specs.Position.{position};
-ghost use Rattle.smv_uses.specs.Uses as uses;
-ghost use Rattle.smv_uses.specs.declared.meaning.Meaning.TheVariants as means;
+ghost use Rattle.law_uses.specs.Uses as uses;
+ghost use Rattle.law_uses.specs.declared.meaning.Meaning.TheVariants as means;
 ghost use Rattle.smv_choices.specs.Held.{AreTables};
 
 use crate::tables::Tables;
@@ -10,7 +10,7 @@ use name_index::NameIndex;
 use smv_core::name::Name;
 use smv_core::tree::Ref;
 use smv_references::names::path_of;
-use smv_uses::meaning::Meaning;
+use law_uses::meaning::Meaning;
 use std::alloc::{AllocError, Global};
 
 /// The number of a name, where it fits. No text within the limits has one that does not.

@@ -1,6 +1,6 @@
 // Names of a `using` that do not fit.
 ghost use Rattle.std.specs.Prelude.{◌≡◌, [], map, flat_map, not, false, slice_index_or, IfOk, OnOk};
-ghost use Rattle.smv_instances.specs.NameFaults as faults;
+ghost use Rattle.smv_mentions.specs.NameFaults as faults;
 ghost use Rattle.smv_scope.specs.ScopeFault.{least};
 ghost use Rattle.law_obligations.specs.Cases as cases;
 ghost use Rattle.smv_choices.specs.Held.{AreTables};

@@ -1,7 +1,7 @@
 // The map that a leaf itself is of.
 ghost use Rattle.std.specs.Prelude.{◌≡◌, option_copied};
 ghost use Rattle.law_designs.specs.WholeText.{is_one_layer};
-ghost use Rattle.smv_uses.specs.Choices as choices;
+ghost use Rattle.law_uses.specs.Choices as choices;
 
 use smv_core::flat::{Def, Design, Leaf, Pick, Unit};
 

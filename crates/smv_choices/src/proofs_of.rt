@@ -19,7 +19,7 @@ pub struct Proof<'a> {
 }
 
 // Those of one `using` more.
-#[tactic(auto, using(smv_instances::proofs::Notes::noting))]
+#[tactic(auto, using(smv_mentions::proofs::Notes::noting))]
 fn add_using<'a>(out: &mut Vec<Proof<'a>>, by: &'a Reading<'a>) -> Result<(), AllocError>
     ensures { OnOk result (map proof_held out.new.items ≡ map proof_held out.old.items ++ proofs_with (reading by.now)) }
 {
@@ -30,7 +30,7 @@ fn add_using<'a>(out: &mut Vec<Proof<'a>>, by: &'a Reading<'a>) -> Result<(), Al
 }
 
 /// All of them, in flat order.
-#[tactic(auto, using(smv_instances::proofs::Notes::noting))]
+#[tactic(auto, using(smv_mentions::proofs::Notes::noting))]
 pub fn all_proofs<'a>(alloc: Global, all: &'a [Reading<'a>]) -> Result<Vec<Proof<'a>>, AllocError>
     ensures { IfOk result (λ out. map proof_held out.items ≡ flat_map proofs_with (map reading all.now)) }
 {
@@ -53,7 +53,7 @@ pub fn names_of_proofs(alloc: Global, proofs: &[Proof]) -> Result<Vec<Name>, All
 }
 
 /// Each name by its first place.
-#[tactic(auto, using(smv_instances::proofs::Notes::noting))]
+#[tactic(auto, using(smv_mentions::proofs::Notes::noting))]
 pub fn index_of<'a>(alloc: Global, names: &'a [Name]) -> Result<NameIndex<'a>, AllocError>
     ensures { IfOk result (λ index. index ≡ names.now) }
 {

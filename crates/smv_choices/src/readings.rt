@@ -1,8 +1,8 @@
 // Each `using` with what it uses and which leaves it proves.
 ghost use Rattle.std.specs.Prelude.{◌≡◌, ◌++◌, map, flat_map, option_copied, IfOk, OnOk};
-ghost use Rattle.smv_instances.specs.Scopes.{first_of_places};
+ghost use Rattle.smv_mentions.specs.Scopes.{first_of_places};
 ghost use Rattle.smv_scope.specs.ScopeFault.{least};
-ghost use Rattle.smv_uses.specs.UseFaults.{leaf_named};
+ghost use Rattle.law_uses.specs.UseFaults.{leaf_named};
 ghost use Rattle.smv_choices.specs.Held.{AreTables};
 ghost use Rattle.smv_choices.specs.Parts as parts;
 ghost use Rattle.smv_choices.specs.Readings.{reading, reading_in, pair_of};
@@ -41,7 +41,7 @@ pub struct Reading<'a> {
 }
 
 // The names of the leaves.
-#[tactic(auto, using(smv_instances::proofs::Notes::noting))]
+#[tactic(auto, using(smv_mentions::proofs::Notes::noting))]
 fn names_of_leaves<'a>(alloc: Global, leaves: &'a [Leaf]) -> Result<NameIndex<'a>, AllocError>
     ensures { IfOk result (λ names. names ≡ map (λ leaf. leaf.name) leaves.now) }
 {
@@ -77,7 +77,7 @@ fn leaf_for<'a>(
 }
 
 // One reference after `prove` more.
-#[tactic(auto, using(smv_instances::proofs::Notes::noting, smv_scope::proofs::LeastLaws::leasts))]
+#[tactic(auto, using(smv_mentions::proofs::Notes::noting, smv_scope::proofs::LeastLaws::leasts))]
 fn add_proved<'a>(
     out: &mut ProvedBy<'a>,
     of: &'a Ref,
@@ -99,7 +99,7 @@ fn add_proved<'a>(
 }
 
 // What some references after `prove` name.
-#[tactic(auto, using(smv_instances::proofs::Notes::noting, smv_scope::proofs::LeastLaws::leasts))]
+#[tactic(auto, using(smv_mentions::proofs::Notes::noting, smv_scope::proofs::LeastLaws::leasts))]
 fn proved_by<'a>(
     alloc: Global,
     leaves: &'a [Leaf],
@@ -145,7 +145,7 @@ fn read<'a>(
 }
 
 /// Each `using` of a design with what it uses and what it proves.
-#[tactic(auto, using(smv_instances::proofs::Notes::noting))]
+#[tactic(auto, using(smv_mentions::proofs::Notes::noting))]
 pub fn all_readings<'a>(
     alloc: Global,
     tables: &Tables<'a>,

@@ -21,7 +21,7 @@ pub struct Tables<'a> {
     pub defined: HashSet<(u16, u16)>,
 }
 
-#[tactic(auto, using(smv_instances::proofs::Notes::noting))]
+#[tactic(auto, using(smv_mentions::proofs::Notes::noting))]
 fn names_of_families<'a>(alloc: Global, families: &'a [Family]) -> Result<NameIndex<'a>, AllocError>
     ensures { IfOk result (λ names. names ≡ map (λ family. family.name) families.now) }
 {
@@ -32,7 +32,7 @@ fn names_of_families<'a>(alloc: Global, families: &'a [Family]) -> Result<NameIn
     Ok(names)
 }
 
-#[tactic(auto, using(smv_instances::proofs::Notes::noting))]
+#[tactic(auto, using(smv_mentions::proofs::Notes::noting))]
 fn names_of_claims<'a>(alloc: Global, claims: &'a [Claim]) -> Result<NameIndex<'a>, AllocError>
     ensures { IfOk result (λ names. names ≡ map (λ claim. claim.name) claims.now) }
 {
@@ -43,7 +43,7 @@ fn names_of_claims<'a>(alloc: Global, claims: &'a [Claim]) -> Result<NameIndex<'
     Ok(names)
 }
 
-#[tactic(auto, using(smv_instances::proofs::Notes::noting))]
+#[tactic(auto, using(smv_mentions::proofs::Notes::noting))]
 fn names_of_layers<'a>(alloc: Global, layers: &'a [Name]) -> Result<NameIndex<'a>, AllocError>
     ensures { IfOk result (λ names. names ≡ layers.now) }
 {
@@ -54,7 +54,7 @@ fn names_of_layers<'a>(alloc: Global, layers: &'a [Name]) -> Result<NameIndex<'a
     Ok(names)
 }
 
-#[tactic(auto, using(smv_instances::proofs::Notes::noting))]
+#[tactic(auto, using(smv_mentions::proofs::Notes::noting))]
 fn names_of_sets<'a>(alloc: Global, sets: &'a [SetInfo]) -> Result<NameIndex<'a>, AllocError>
     ensures { IfOk result (λ names. names ≡ map (λ info. info.name) sets.now) }
 {

@@ -1,7 +1,7 @@
 // What is said twice in a `using`.
 ghost use Rattle.std.specs.Prelude.{◌≡◌, ◌++◌, ℕ, map, true, not, cond, nat_eq, None, if◌then◌else◌, option_copied, IfOk, OnOk};
 ghost use Rattle.smv_references.specs.Again.{placed};
-ghost use Rattle.smv_uses.specs.Choices.{own_map};
+ghost use Rattle.law_uses.specs.Choices.{own_map};
 ghost use Rattle.smv_choices.specs.Held.{AreTables, is_seen};
 ghost use Rattle.smv_choices.specs.Parts as parts;
 ghost use Rattle.smv_choices.specs.Readings as readings;
@@ -23,7 +23,7 @@ use std::collections::HashSet;
 type Key = (u32, (u16, Option<u16>));
 
 // The definitions of layers that are chosen, by family and layer.
-#[tactic(auto, using(smv_instances::proofs::Notes::noting))]
+#[tactic(auto, using(smv_mentions::proofs::Notes::noting))]
 fn map_keys(alloc: Global, picks: &[(u32, Pick)]) -> Result<Vec<Key>, AllocError>
     ensures { IfOk result (λ keys. keys.items ≡ parts.map_keys picks.now) }
 {
@@ -34,7 +34,7 @@ fn map_keys(alloc: Global, picks: &[(u32, Pick)]) -> Result<Vec<Key>, AllocError
     Ok(keys)
 }
 
-#[tactic(auto, using(smv_instances::proofs::Notes::noting))]
+#[tactic(auto, using(smv_mentions::proofs::Notes::noting))]
 fn add_map_key(keys: &mut Vec<Key>, at: u32, pick: Pick) -> Result<(), AllocError>
     ensures { OnOk result (keys.new.items ≡ keys.old.items ++ parts.map_key at pick) }
 {
@@ -45,7 +45,7 @@ fn add_map_key(keys: &mut Vec<Key>, at: u32, pick: Pick) -> Result<(), AllocErro
 }
 
 // The definitions that are chosen besides the leaf's own map, by family.
-#[tactic(auto, using(smv_instances::proofs::Notes::noting))]
+#[tactic(auto, using(smv_mentions::proofs::Notes::noting))]
 fn family_keys(
     alloc: Global,
     own: Option<&Def>,
@@ -60,7 +60,7 @@ fn family_keys(
     Ok(keys)
 }
 
-#[tactic(auto, using(smv_instances::proofs::Notes::noting))]
+#[tactic(auto, using(smv_mentions::proofs::Notes::noting))]
 fn add_family_key(
     keys: &mut Vec<Key>,
     own: Option<&Def>,
@@ -76,7 +76,7 @@ fn add_family_key(
 }
 
 // The claims that are assumed.
-#[tactic(auto, using(smv_instances::proofs::Notes::noting))]
+#[tactic(auto, using(smv_mentions::proofs::Notes::noting))]
 fn claim_keys(alloc: Global, claims: &[(u32, Assumed)]) -> Result<Vec<Key>, AllocError>
     ensures { IfOk result (λ keys. keys.items ≡ parts.claim_keys claims.now) }
 {
@@ -88,7 +88,7 @@ fn claim_keys(alloc: Global, claims: &[(u32, Assumed)]) -> Result<Vec<Key>, Allo
 }
 
 // The set types that have braces.
-#[tactic(auto, using(smv_instances::proofs::Notes::noting))]
+#[tactic(auto, using(smv_mentions::proofs::Notes::noting))]
 fn set_names<'a>(
     alloc: Global,
     sets: &NameIndex,
@@ -103,7 +103,7 @@ fn set_names<'a>(
     Ok(names)
 }
 
-#[tactic(auto, using(smv_instances::proofs::Notes::noting))]
+#[tactic(auto, using(smv_mentions::proofs::Notes::noting))]
 fn add_set_name<'a>(
     names: &mut Vec<(u32, &'a Name)>,
     sets: &NameIndex,

@@ -1,6 +1,6 @@
 -- What is added to a list of outcomes.
 use Rattle.std.specs.Prelude.{◌≡◌, ℕ, List, [], ◌∷◌, Some, None, Bool, ◌&&◌, ◌||◌}
-use Rattle.smv_core.specs.Flat.{Numbered}
+use Rattle.smv_core.specs.FlatMeaning.{Numbered}
 use Rattle.law_obligations.specs.Places.{AbsOutcome}
 use Rattle.smv_conditions.specs.declared.offers.Offer.{Offer}
 use Rattle.smv_spots.specs.declared.spots.Spot.TheVariants as spot

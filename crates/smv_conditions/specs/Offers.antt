@@ -2,7 +2,7 @@
 use Rattle.std.specs.Prelude.{◌≡◌, ℕ, List, [], ◌∷◌, Bool, ◌&&◌, ◌||◌}
 use Rattle.std.specs.List.{list_any}
 use Rattle.smv_core.specs.Values.{Truth}
-use Rattle.smv_core.specs.Flat.{Numbered}
+use Rattle.smv_core.specs.FlatMeaning.{Numbered}
 use Rattle.smv_core.specs.Outcome.{is_true}
 use Rattle.law_obligations.specs.Places.{AbsOutcome}
 use Rattle.law_obligations.specs.May.{seen}

@@ -1,6 +1,6 @@
 // Lists of outcomes that grow, each outcome under a further condition.
 ghost use Rattle.std.specs.Prelude.{◌≡◌, ℕ, Bool, ◌&&◌, OnOk, IfOk, IfSome, slice_get};
-ghost use Rattle.smv_core.specs.Flat.{Numbered};
+ghost use Rattle.smv_core.specs.FlatMeaning.{Numbered};
 ghost use Rattle.law_obligations.specs.Places.{AbsOutcome};
 ghost use Rattle.smv_spots.specs.Spots.{outcome_in};
 ghost use Rattle.smv_conditions.specs.Keep.{KeepsConditions};

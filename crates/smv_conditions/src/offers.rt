@@ -1,6 +1,6 @@
 // What an expression may be: outcomes, each with a condition under which it is possible.
 ghost use Rattle.std.specs.Prelude.{◌≡◌, ℕ, Bool, true, false, IfOk, [], ◌∷◌};
-ghost use Rattle.smv_core.specs.Flat.{Numbered};
+ghost use Rattle.smv_core.specs.FlatMeaning.{Numbered};
 ghost use Rattle.smv_conditions.specs.Keep.{KeepsConditions};
 ghost use Rattle.smv_conditions.specs.Chances.{AreMade, mix_at};
 ghost use Rattle.smv_conditions.specs.Offers.{AreOffersMade, IsMayMade, Offers, with_truth, offers_mix, may_mix};

@@ -3,7 +3,7 @@ use Rattle.std.proofs.Common.{◌≡◌, ℕ, suc, ◌+◌, ◌-◌, ◌<◌, �
 use Rattle.std.specs.Prelude.{IfSome, unwrap_or}
 use Rattle.std.specs.List.{slice_get}
 use Rattle.smv_core.specs.Values.{scalar, ordinal, scalarset, ordset, numbers_from}
-use Rattle.smv_core.specs.Flat.{simple_in, set_type}
+use Rattle.smv_core.specs.FlatMeaning.{simple_in, set_type}
 use Rattle.smv_core.specs.declared.flat.Simple.{Simple}
 use Rattle.smv_core.specs.declared.flat.Simple.TheVariants.{Range, Enum, Set}
 use Rattle.smv_core.specs.declared.flat.SetInfo.{SetInfo}

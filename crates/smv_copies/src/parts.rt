@@ -3,7 +3,7 @@ ghost use Rattle.std.specs.Prelude.{◌≡◌, IfOk};
 
 use crate::{copy_expression, copy_expressions};
 use smv_core::boxed::Boxed;
-use smv_core::flat::{Class, Family, Flat, Guard, Simple};
+use smv_core::flat::{Class, Family, DefBody, Guard, Simple};
 use smv_core::{Name, Seq};
 use std::alloc::{AllocError, Global};
 
@@ -81,12 +81,12 @@ pub fn copy_guards(alloc: Global, guards: &[Guard]) -> Result<Seq<Guard>, AllocE
 
 /// A copy of a part of a definition.
 #[cycle(parts)]
-pub fn copy_part(alloc: Global, part: &Flat) -> Result<Flat, AllocError>
+pub fn copy_part(alloc: Global, part: &DefBody) -> Result<DefBody, AllocError>
     ensures { IfOk result (λ copy. copy ≡ part.now) }
 {
     match part {
-        Flat::Nothing => Ok(Flat::Nothing),
-        Flat::Assign {
+        DefBody::Nothing => Ok(DefBody::Nothing),
+        DefBody::Assign {
             left,
             value,
             place,
@@ -94,26 +94,26 @@ pub fn copy_part(alloc: Global, part: &Flat) -> Result<Flat, AllocError>
         } => {
             let left = copy_expressions(left.as_slice(), alloc)?;
             let value = copy_expression(value, alloc)?;
-            Ok(Flat::Assign {
+            Ok(DefBody::Assign {
                 left,
                 value,
                 place: *place,
                 at: *at,
             })
         }
-        Flat::If { cond, yes, no } => {
+        DefBody::If { cond, yes, no } => {
             let cond = copy_expression(cond, alloc)?;
             let yes = copy_boxed(alloc, yes)?;
             let no = copy_boxed(alloc, no)?;
-            Ok(Flat::If { cond, yes, no })
+            Ok(DefBody::If { cond, yes, no })
         }
-        Flat::First { parts } => {
+        DefBody::First { parts } => {
             let parts = copy_parts(alloc, parts.as_slice())?;
-            Ok(Flat::First { parts })
+            Ok(DefBody::First { parts })
         }
-        Flat::Forall { var, over, body } => {
+        DefBody::Forall { var, over, body } => {
             let body = copy_boxed(alloc, body)?;
-            Ok(Flat::Forall {
+            Ok(DefBody::Forall {
                 var: *var,
                 over: *over,
                 body,
@@ -124,7 +124,7 @@ pub fn copy_part(alloc: Global, part: &Flat) -> Result<Flat, AllocError>
 
 // A copy in a place of its own.
 #[cycle(parts)]
-fn copy_boxed(alloc: Global, part: &Boxed<Flat>) -> Result<Boxed<Flat>, AllocError>
+fn copy_boxed(alloc: Global, part: &Boxed<DefBody>) -> Result<Boxed<DefBody>, AllocError>
     ensures { IfOk result (λ copy. copy ≡ part.now) }
 {
     let copy = copy_part(alloc, part.get())?;
@@ -132,7 +132,7 @@ fn copy_boxed(alloc: Global, part: &Boxed<Flat>) -> Result<Boxed<Flat>, AllocErr
 }
 
 #[cycle(parts)]
-fn copy_parts(alloc: Global, parts: &[Flat]) -> Result<Seq<Flat>, AllocError>
+fn copy_parts(alloc: Global, parts: &[DefBody]) -> Result<Seq<DefBody>, AllocError>
     ensures { IfOk result (λ copies. copies ≡ parts.now) }
 {
     let mut copies = Seq::new(alloc);

@@ -7,7 +7,7 @@ pub mod Assignments
 pub mod Allowed
 pub mod Sound
 pub mod Conflicts
-pub mod Flat
+pub mod FlatMeaning
 pub mod Violating
 pub mod formers
 pub mod Signs

@@ -229,7 +229,7 @@ pub struct Family {
 
 /// The flattened text: its set types, enumerations and layers, each at the place where it is first met, and its families and items in flat order.
 #[derive(Drop)]
-pub struct Raw {
+pub struct FlatText {
     pub sets: Seq<SetInfo>,
     pub enums: Seq<Seq<Name>>,
     pub layers: Seq<Name>,
@@ -307,7 +307,7 @@ impl Drop for FlatStmt {
 }
 
 /// What a definition says of one family for one kind of assignment.
-pub enum Flat {
+pub enum DefBody {
     /// No result.
     Nothing,
     /// An assignment, by its indexes, its value, its place in flat order and its offset.
@@ -319,38 +319,38 @@ pub enum Flat {
     },
     If {
         cond: FlatExpr,
-        yes: Boxed<Flat>,
-        no: Boxed<Flat>,
+        yes: Boxed<DefBody>,
+        no: Boxed<DefBody>,
     },
     /// The first result of its parts.
     First {
-        parts: Seq<Flat>,
+        parts: Seq<DefBody>,
     },
     Forall {
         var: u16,
         over: Simple,
-        body: Boxed<Flat>,
+        body: Boxed<DefBody>,
     },
 }
 
 /// Written out, so that what lets one go calls this in place of an arm for each variant.
-impl Drop for Flat {
+impl Drop for DefBody {
     fn drop(self) {
         match self {
-            Flat::Nothing => (),
-            Flat::Assign {
+            DefBody::Nothing => (),
+            DefBody::Assign {
                 left: _,
                 value: _,
                 place: _,
                 at: _,
             } => (),
-            Flat::If {
+            DefBody::If {
                 cond: _,
                 yes: _,
                 no: _,
             } => (),
-            Flat::First { parts: _ } => (),
-            Flat::Forall {
+            DefBody::First { parts: _ } => (),
+            DefBody::Forall {
                 var: _,
                 over: _,
                 body: _,
@@ -364,9 +364,9 @@ impl Drop for Flat {
 pub struct Def {
     pub family: u16,
     pub layer: Option<u16>,
-    pub init: Flat,
-    pub next: Flat,
-    pub comb: Flat,
+    pub init: DefBody,
+    pub next: DefBody,
+    pub comb: DefBody,
     pub place: u32,
     pub at: u32,
 }

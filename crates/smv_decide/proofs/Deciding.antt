@@ -9,10 +9,10 @@ use Rattle.smv_search.specs.declared.Outcome.{Outcome}
 use Rattle.smv_search.specs.declared.Outcome.TheVariants.{Reaches}
 use Rattle.smv_search.specs.Answers.{found, Answers, IsLeast}
 use Rattle.smv_search.specs.Keeping.{KeepsRefs}
-use Rattle.smv_search.specs.Verdict.{IsVerdict}
-use Rattle.smv_search.specs.Verdict.Verdict.{Reached}
+use Rattle.smv_search.specs.Events.{IsFirstEvent}
+use Rattle.smv_search.specs.Events.Event.{Reached}
 use Rattle.smv_search.proofs.Start.{lists_kept}
-use Rattle.law_obligations.specs.Readings.{Case}
+use Rattle.law_obligations.specs.Readings.{PosedCase}
 use Rattle.law_obligations.specs.CasePaths.{IsShortest}
 use Rattle.law_obligations.specs.May.{AbsState}
 use Rattle.smv_problem.specs.declared.problem.AbsState.{AbsState as StateData}
@@ -27,9 +27,9 @@ pub found_after : (old new : Diagram) (rel : Rel) (nodes steps : ℕ) (o : Outco
 found_after old new rel nodes steps o keeps answers least live =
     subst (λ (l : Lists). IsFound new l nodes steps o) (sym (lists_kept old new rel keeps)) (record { answers = answers; least = least; live = live })
 
-pub reached_in : (d : Diagram) (l m : Lists) (nodes steps depth : ℕ) (o : Outcome) (rings : _) → IsFound d l nodes steps o → o ≡ Reaches depth rings → l ≡ m → IsVerdict m nodes steps (Reached depth)
-reached_in d l m nodes steps depth o rings found e same = subst (λ (l : Lists). IsVerdict l nodes steps (Reached depth)) same (subst (Answers d l nodes steps) e found.answers).0
+pub reached_in : (d : Diagram) (l m : Lists) (nodes steps depth : ℕ) (o : Outcome) (rings : _) → IsFound d l nodes steps o → o ≡ Reaches depth rings → l ≡ m → IsFirstEvent m nodes steps (Reached depth)
+reached_in d l m nodes steps depth o rings found e same = subst (λ (l : Lists). IsFirstEvent l nodes steps (Reached depth)) same (subst (Answers d l nodes steps) e found.answers).0
 
-pub shown_by : (p : Problem) (c : Case) (steps : ℕ) (states : List StateData) → p ≡ written c → (path : List AbsState) × IsShortest c.problem steps path × (states ≡ map (written_state c) path) → IsShown c steps p.elements states
+pub shown_by : (p : Problem) (c : PosedCase) (steps : ℕ) (states : List StateData) → p ≡ written c → (path : List AbsState) × IsShortest c.problem steps path × (states ≡ map (written_state c) path) → IsShown c steps p.elements states
 unfolding written
 shown_by p c steps states e s = record { states = s.0; is_shortest = s.1; elements_are = ap (λ (q : Problem). q.elements) e; path_is = s.2 }

@@ -8,12 +8,12 @@ use Rattle.smv_core.specs.declared.flat.Case.{Case as CaseData}
 use Rattle.law_obligations.specs.Sets.{Has, first, later}
 use Rattle.law_obligations.proofs.Members.{Has-cases}
 use Rattle.smv_rings.specs.Lists.{Lists}
-use Rattle.smv_search.specs.Verdict.{Verdict as SearchVerdict, IsVerdict}
-use Rattle.smv_search.specs.Verdict.Verdict.{Counted, Reached, Images}
+use Rattle.smv_search.specs.Events.{Event as SearchVerdict, IsFirstEvent}
+use Rattle.smv_search.specs.Events.Event.{Counted, Reached, Images}
 use Rattle.smv_problem.specs.declared.report.Verdict.{Verdict}
 use Rattle.smv_problem.specs.declared.report.Verdict.TheVariants.{True}
 use Rattle.law_reports.specs.Verdicts.{is_shut, IsTrueCase, AreTrueCases, FailsFirst}
-use Rattle.law_obligations.specs.Readings.{Case}
+use Rattle.law_obligations.specs.Readings.{PosedCase}
 use Rattle.law_reports.specs.Told.{lists_for, IsToldBy}
 use Rattle.smv_decide.specs.declared.Decision.{Decision}
 use Rattle.smv_decide.specs.declared.Decision.TheVariants as decided
@@ -31,7 +31,7 @@ module _ (lists : List Class → Lists) (nodes steps : ℕ) where
       only first = is
       only (later h) = elim h [ ]
 
-  fails : (before : List (List Class)) (c : List Class) (behind cases : List (List Class)) (v : SearchVerdict) → cases ≡ before ++ (c ∷ behind) → AreTrueCases lists nodes steps before → IsVerdict (lists c) nodes steps v → is_shut v ≡ false → FailsFirst lists nodes steps cases c v
+  fails : (before : List (List Class)) (c : List Class) (behind cases : List (List Class)) (v : SearchVerdict) → cases ≡ before ++ (c ∷ behind) → AreTrueCases lists nodes steps before → IsFirstEvent (lists c) nodes steps v → is_shut v ≡ false → FailsFirst lists nodes steps cases c v
   fails before c behind cases v stands are is not = record { before = before; behind = behind; stands = stands; are_true = are; is_verdict = is; is_not = not }
 
 some_is : {x y : Verdict} → Some x ≡ Some y → x ≡ y
@@ -49,7 +49,7 @@ Has_at xs i x lt is = subst (Has xs) (sym is) (there xs i x lt)
     there (x ∷ xs) zero d lt = first
     there (x ∷ xs) (suc i) d lt = later (there xs i d (omega arith))
 
-module _ (case_for : List Class → Case) (nodes steps : ℕ) where
+module _ (case_for : List Class → PosedCase) (nodes steps : ℕ) where
   abbrev lists : List Class → Lists
   lists = lists_for case_for nodes steps
 

@@ -6,20 +6,20 @@ use Rattle.smv_rings.specs.Ops.{IsOneOf}
 use Rattle.smv_rings.specs.Lists.{Lists}
 use Rattle.smv_search.specs.declared.Outcome.{Outcome}
 use Rattle.smv_search.specs.Answers.{found, Answers, IsLeast}
-use Rattle.smv_search.specs.Verdict.{IsVerdict}
-use Rattle.smv_search.specs.Verdict.Verdict.{Counted, Reached, Shut, Images}
-use Rattle.law_obligations.specs.Readings.{Case}
+use Rattle.smv_search.specs.Events.{IsFirstEvent}
+use Rattle.smv_search.specs.Events.Event.{Counted, Reached, Shut, Images}
+use Rattle.law_obligations.specs.Readings.{PosedCase}
 use Rattle.law_reports.specs.CaseLists.{case_lists}
 use Rattle.law_reports.specs.Reports.{IsShown}
 use Rattle.smv_decide.specs.declared.Decision.{Decision}
 use Rattle.smv_decide.specs.declared.Decision.TheVariants.{True, False, UnknownNodes, UnknownSteps}
 
 -- its verdict; a false one is shown by a shortest violating path
-abbrev pub IsDecided : ℕ → ℕ → Case → Decision → Type 0
-IsDecided nodes steps c True = (k : ℕ) × IsVerdict (case_lists c) nodes steps (Shut k)
-IsDecided nodes steps c (False elements path) = (k : ℕ) × IsVerdict (case_lists c) nodes steps (Reached k) × IsShown c k elements path
-IsDecided nodes steps c (UnknownNodes count) = IsVerdict (case_lists c) nodes steps (Counted count)
-IsDecided nodes steps c UnknownSteps = IsVerdict (case_lists c) nodes steps Images
+abbrev pub IsDecided : ℕ → ℕ → PosedCase → Decision → Type 0
+IsDecided nodes steps c True = (k : ℕ) × IsFirstEvent (case_lists c) nodes steps (Shut k)
+IsDecided nodes steps c (False elements path) = (k : ℕ) × IsFirstEvent (case_lists c) nodes steps (Reached k) × IsShown c k elements path
+IsDecided nodes steps c (UnknownNodes count) = IsFirstEvent (case_lists c) nodes steps (Counted count)
+IsDecided nodes steps c UnknownSteps = IsFirstEvent (case_lists c) nodes steps Images
 
 -- what a search found, in the store in which it ended
 pub record IsFound (d : Diagram) (l : Lists) (nodes steps : ℕ) (o : Outcome) : Type 0 where

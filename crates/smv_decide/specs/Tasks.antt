@@ -2,7 +2,7 @@
 use Rattle.std.specs.Prelude.{◌≡◌, List}
 use Rattle.smv_core.specs.declared.flat.Class.{Class}
 use Rattle.law_obligations.specs.Units.{units_of}
-use Rattle.law_obligations.specs.Readings.{Case}
+use Rattle.law_obligations.specs.Readings.{PosedCase}
 use Rattle.law_problems.specs.Parts.{IsPart, case_with, outlined}
 use Rattle.smv_chosen_table.specs.Tables.{IsTable}
 use Rattle.smv_decide.specs.declared.tasks.Task.{Task}
@@ -14,5 +14,5 @@ pub record IsTask (t : Task) : Type 0 where
   pub table : IsTable (outlined t.design.now) t.choice.now.picks t.table.now
 
 -- the leaf's case of these classes
-abbrev pub case_in : Task → List Class → Case
+abbrev pub case_in : Task → List Class → PosedCase
 case_in t classes = case_with t.design.now t.leaf.now t.choice.now t.timed.now classes

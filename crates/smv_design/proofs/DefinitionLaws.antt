@@ -7,9 +7,9 @@ use Rattle.smv_core.specs.Values.{numbers_from}
 use Rattle.smv_core.specs.declared.tree.Kind.{Kind}
 use Rattle.smv_core.specs.declared.tree.Kind.TheVariants.{Comb, Init, Next}
 use Rattle.smv_core.specs.declared.flat.FlatStmt.{FlatStmt, Assign, If', Block', Default', Forall', Row_of-FlatStmt, end_of-FlatStmt, more_of-FlatStmt}
-use Rattle.smv_core.specs.declared.flat.Flat.{Flat}
+use Rattle.smv_core.specs.declared.flat.DefBody.{DefBody}
 use Rattle.smv_core.specs.declared.flat.Def.{Def}
-use Rattle.smv_core.specs.declared.flat.Raw.{Raw}
+use Rattle.smv_core.specs.declared.flat.FlatText.{FlatText}
 use Rattle.smv_core.specs.declared.flat.Claim.{Claim}
 use Rattle.smv_core.specs.declared.flat.FlatSplit.{FlatSplit}
 use Rattle.smv_core.specs.declared.flat.FlatUsing.{FlatUsing}
@@ -17,7 +17,7 @@ use Rattle.smv_core.specs.declared.flat.Design.{Design}
 use Rattle.law_designs.specs.Flattening.{different, flat_assignments, flat_assignments_in}
 use Rattle.law_designs.specs.WholeText.{is_one_layer, claims_of}
 use Rattle.law_designs.specs.Standing.{count, Statement, statements_from, Standing, standing, standing_in}
-use Rattle.law_designs.specs.Definitions.{Head, head, heads_of, is_nothing, joined, flat_of, part_of, same_definition, first_heads, def_of, splits_of, uses_of, design_of_raw}
+use Rattle.law_designs.specs.Definitions.{Head, head, heads_of, is_nothing, joined, flat_of, part_of, same_definition, first_heads, def_of, splits_of, uses_of, design_of_flat_text}
 use Rattle.smv_design.specs.declared.heads.Noted.{Noted}
 use Rattle.smv_design.specs.declared.acts.Act.{Act}
 use Rattle.smv_design.specs.declared.owners.Owner.{Owner}
@@ -37,7 +37,7 @@ module _ (owner : Owner) (kind : Kind) where
   abbrev in_set : List Act → List Statement
   in_set acts = filter (λ (s : Statement). is_one_layer owner.layer s.layer) (map statement_of acts)
 
-  abbrev set_says : List Act → List Flat
+  abbrev set_says : List Act → List DefBody
   set_says acts = filter (λ part. not (is_nothing part)) (map (λ s. flat_of kind owner.family s.place s.act) (in_set acts))
 
   told-set : (acts : List Act) → told_by kind owner acts ≡ set_says acts
@@ -51,15 +51,15 @@ module _ (owner : Owner) (kind : Kind) where
       by false e rest = ap (λ p. kept p ++ told_by kind owner acts) (told-elsewhere kind a.layer owner a.place a.act e) ∙ rest
 
   -- so what is told gives the owner's part of the definition
-  pub told-part : (acts : List Act) (parts : List Flat) → parts ≡ told_by kind owner acts → joined parts ≡ part_of kind owner.family (in_set acts)
+  pub told-part : (acts : List Act) (parts : List DefBody) → parts ≡ told_by kind owner acts → joined parts ≡ part_of kind owner.family (in_set acts)
   told-part acts parts e = ap joined (e ∙ told-set acts)
 
 -- ---- definitions
 
-abbrev def_with : Noted → Flat → Flat → Flat → Def
+abbrev def_with : Noted → DefBody → DefBody → DefBody → Def
 def_with h init next comb = record { family = h.family; layer = h.layer; init = init; next = next; comb = comb; place = h.place; at = h.at }
 
-def-same : (h : Noted) (i n c i' n' c' : Flat) → i ≡ i' → n ≡ n' → c ≡ c' → def_with h i n c ≡ def_with h i' n' c'
+def-same : (h : Noted) (i n c i' n' c' : DefBody) → i ≡ i' → n ≡ n' → c ≡ c' → def_with h i n c ≡ def_with h i' n' c'
 def-same h i n c i' n' c' e f g = ap (λ p. def_with h p n c) e ∙ ap (λ p. def_with h i' p c) f ∙ ap (λ p. def_with h i' n' p) g
 
 pub all-said : (said : Said) (acts : List Act) (heads : List Noted) → IsSaid said acts → AreSaid said (map statement_of acts) heads
@@ -164,17 +164,17 @@ heads-all (s ∷ ss) = ap (λ l. l ++ flat_map (λ (s : Statement). heads_in s.l
 -- ---- the design
 
 -- the definitions that are made of the first assignments
-pub defs-are : (raw : Raw) (acts : List Act) (heads firsts : List Noted) → map statement_of acts ≡ statements_from 0 raw.items → map head_of heads ≡ heads_from 0 raw.items
-    → map head_of firsts ≡ different same_definition (map head_of heads) → map (def_among (map statement_of acts)) (map head_of firsts) ≡ map (def_of raw) (first_heads raw)
-defs-are raw acts heads firsts statements noted first =
-    ap (map (def_among (map statement_of acts))) (first ∙ ap (different same_definition) (noted ∙ heads-all (statements_from 0 raw.items)))
-    ∙ ap (λ ss. map (def_among ss) (first_heads raw)) statements
+pub defs-are : (flat_text : FlatText) (acts : List Act) (heads firsts : List Noted) → map statement_of acts ≡ statements_from 0 flat_text.items → map head_of heads ≡ heads_from 0 flat_text.items
+    → map head_of firsts ≡ different same_definition (map head_of heads) → map (def_among (map statement_of acts)) (map head_of firsts) ≡ map (def_of flat_text) (first_heads flat_text)
+defs-are flat_text acts heads firsts statements noted first =
+    ap (map (def_among (map statement_of acts))) (first ∙ ap (different same_definition) (noted ∙ heads-all (statements_from 0 flat_text.items)))
+    ∙ ap (λ ss. map (def_among ss) (first_heads flat_text)) statements
 
-abbrev design_with : Raw → List Def → List Claim → List FlatSplit → List FlatUsing → Design
-design_with raw defs claims splits uses = record { sets = raw.sets; enums = raw.enums; layers = raw.layers; families = raw.families; defs = defs; claims = claims; splits = splits; uses = uses }
+abbrev design_with : FlatText → List Def → List Claim → List FlatSplit → List FlatUsing → Design
+design_with flat_text defs claims splits uses = record { sets = flat_text.sets; enums = flat_text.enums; layers = flat_text.layers; families = flat_text.families; defs = defs; claims = claims; splits = splits; uses = uses }
 
-pub design-same : (raw : Raw) (defs : List Def) (claims : List Claim) (splits : List FlatSplit) (uses : List FlatUsing) → defs ≡ map (def_of raw) (first_heads raw) → claims ≡ claims_of raw.items → splits ≡ splits_of raw.items → uses ≡ uses_of raw.items
-    → design_with raw defs claims splits uses ≡ design_of_raw raw
-design-same raw defs claims splits uses e f g h =
-    ap (λ l. design_with raw l claims splits uses) e ∙ ap (λ l. design_with raw (map (def_of raw) (first_heads raw)) l splits uses) f
-    ∙ ap (λ l. design_with raw (map (def_of raw) (first_heads raw)) (claims_of raw.items) l uses) g ∙ ap (λ l. design_with raw (map (def_of raw) (first_heads raw)) (claims_of raw.items) (splits_of raw.items) l) h
+pub design-same : (flat_text : FlatText) (defs : List Def) (claims : List Claim) (splits : List FlatSplit) (uses : List FlatUsing) → defs ≡ map (def_of flat_text) (first_heads flat_text) → claims ≡ claims_of flat_text.items → splits ≡ splits_of flat_text.items → uses ≡ uses_of flat_text.items
+    → design_with flat_text defs claims splits uses ≡ design_of_flat_text flat_text
+design-same flat_text defs claims splits uses e f g h =
+    ap (λ l. design_with flat_text l claims splits uses) e ∙ ap (λ l. design_with flat_text (map (def_of flat_text) (first_heads flat_text)) l splits uses) f
+    ∙ ap (λ l. design_with flat_text (map (def_of flat_text) (first_heads flat_text)) (claims_of flat_text.items) l uses) g ∙ ap (λ l. design_with flat_text (map (def_of flat_text) (first_heads flat_text)) (claims_of flat_text.items) (splits_of flat_text.items) l) h

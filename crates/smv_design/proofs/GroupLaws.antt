@@ -5,7 +5,7 @@ use Rattle.std.specs.Map.{keys_of, lookup}
 use Rattle.std.specs.HashMap.{HashMap, UpdatesBy}
 use Rattle.std.proofs.lemmas.List.{append-nil, append_assoc}
 use Rattle.smv_core.specs.declared.flat.FlatExpr.{FlatExpr}
-use Rattle.smv_core.specs.declared.flat.Flat.{Flat}
+use Rattle.smv_core.specs.declared.flat.DefBody.{DefBody}
 use Rattle.law_designs.specs.Definitions.{is_nothing}
 use Rattle.smv_design.specs.declared.owners.Owner.{Owner}
 use Rattle.smv_design.specs.declared.parts.Part.{Part}
@@ -15,7 +15,7 @@ use Rattle.smv_design.specs.Groups.{same_owner, parts_for, no_sides, filled, mor
 use Rattle.smv_design.proofs.OwnerLaws.{owners-equal, owners-turned}
 
 -- an owner that had no parts gets its first
-pub first-part : {S : Type 0} (m m' : HashMap Owner Sides S) (owner : Owner) (is_second : Bool) (says : Flat) (sides : Sides) → used m owner ≡ None → sides ≡ more no_sides is_second says
+pub first-part : {S : Type 0} (m m' : HashMap Owner Sides S) (owner : Owner) (is_second : Bool) (says : DefBody) (sides : Sides) → used m owner ≡ None → sides ≡ more no_sides is_second says
     → UpdatesBy same_owner (same_owner owner) m m' (Some sides) → (other : Owner) → used m' other ≡ one_more (used m other) (same_owner owner other) is_second says
 first-part m m' owner is_second says sides none one updates other = updates.0 other ∙ by (same_owner owner other) refl
   where
@@ -32,14 +32,14 @@ none-held groups owner e = rw e refl
 -- ---- more parts
 
 pub filled-none : (s : Sides) (is_second : Bool) → filled s is_second [] ≡ s
-filled-none s true = ap (λ (l : List Flat). let t : Sides = record { first = s.first; second = l } in t) (append-nil s.second)
-filled-none s false = ap (λ (l : List Flat). let t : Sides = record { first = l; second = s.second } in t) (append-nil s.first)
+filled-none s true = ap (λ (l : List DefBody). let t : Sides = record { first = s.first; second = l } in t) (append-nil s.second)
+filled-none s false = ap (λ (l : List DefBody). let t : Sides = record { first = l; second = s.second } in t) (append-nil s.first)
 
-pub filled-both : (s : Sides) (is_second : Bool) (xs ys : List Flat) → filled (filled s is_second xs) is_second ys ≡ filled s is_second (xs ++ ys)
-filled-both s true xs ys = ap (λ (l : List Flat). let t : Sides = record { first = s.first; second = l } in t) (append_assoc s.second xs ys)
-filled-both s false xs ys = ap (λ (l : List Flat). let t : Sides = record { first = l; second = s.second } in t) (append_assoc s.first xs ys)
+pub filled-both : (s : Sides) (is_second : Bool) (xs ys : List DefBody) → filled (filled s is_second xs) is_second ys ≡ filled s is_second (xs ++ ys)
+filled-both s true xs ys = ap (λ (l : List DefBody). let t : Sides = record { first = s.first; second = l } in t) (append_assoc s.second xs ys)
+filled-both s false xs ys = ap (λ (l : List DefBody). let t : Sides = record { first = l; second = s.second } in t) (append_assoc s.first xs ys)
 
-filled-more : (s : Sides) (is_second : Bool) (says : Flat) (rest : List Flat) → filled (more s is_second says) is_second rest ≡ filled s is_second (says ∷ rest)
+filled-more : (s : Sides) (is_second : Bool) (says : DefBody) (rest : List DefBody) → filled (more s is_second says) is_second rest ≡ filled s is_second (says ∷ rest)
 filled-more s is_second says rest = filled-both s is_second (says ∷ []) rest
 
 -- one more part of a list
@@ -58,7 +58,7 @@ filled-end s is_second owner parts e = ap (λ l. filled s is_second (parts_for o
 
 module _ (test : Option FlatExpr) (owner : Owner) where
   -- what these entries come to for the owner
-  abbrev pub drained : List (Owner × Sides) → List Flat
+  abbrev pub drained : List (Owner × Sides) → List DefBody
   drained [] = []
   drained ((o, s) ∷ es) = cond (same_owner o owner) (kept (combine test s)) [] ++ drained es
 
@@ -102,7 +102,7 @@ parts-end (p ∷ ps) qs owner = by (same_owner p.owner owner) (parts-end ps qs o
     by false rest = rest
 
 -- one more part, if it has a result
-pub kept-part : (ps qs : List Part) (owner other : Owner) (says : Flat) → is_nothing says ≡ false → qs ≡ ps ++ record { owner = owner; says = says } ∷ [] → parts_for other qs ≡ parts_for other ps ++ cond (same_owner owner other) (kept says) []
+pub kept-part : (ps qs : List Part) (owner other : Owner) (says : DefBody) → is_nothing says ≡ false → qs ≡ ps ++ record { owner = owner; says = says } ∷ [] → parts_for other qs ≡ parts_for other ps ++ cond (same_owner owner other) (kept says) []
 kept-part ps qs owner other says some new = ap (parts_for other) new ∙ parts-end ps (record { owner = owner; says = says } ∷ []) other ∙ ap (λ l. parts_for other ps ++ l) (by (same_owner owner other))
   where
     by : (b : Bool) → cond b (says ∷ []) [] ≡ cond b (kept says) []

@@ -8,8 +8,8 @@ use Rattle.smv_core.specs.declared.tree.Kind.{Kind}
 use Rattle.smv_core.specs.declared.flat.Simple.{Simple}
 use Rattle.smv_core.specs.declared.flat.FlatExpr.{FlatExpr}
 use Rattle.smv_core.specs.declared.flat.FlatStmt.{FlatStmt, Assign, If, Default, Forall, Block, Block', Row_of-FlatStmt, end_of-FlatStmt, more_of-FlatStmt, items-the_row-FlatStmt, items_hidden-the_row-FlatStmt-1}
-use Rattle.smv_core.specs.declared.flat.Flat.{Flat, Nothing}
-use Rattle.smv_core.specs.declared.flat.Flat as flat
+use Rattle.smv_core.specs.declared.flat.DefBody.{DefBody, Nothing}
+use Rattle.smv_core.specs.declared.flat.DefBody as flat
 use Rattle.law_designs.specs.Flattening.{flat_assignments, flat_assignments_in}
 use Rattle.law_designs.proofs.FlatLists.{boxes}
 use Rattle.law_designs.specs.WholeText.{is_one_layer}
@@ -95,24 +95,24 @@ pub ruleset heads = (heads-Assign, heads-If, heads-Default, heads-Forall, heads-
 -- ---- parts
 
 -- a part that was kept, as one
-pub one-kept : (part : Flat) → joined (kept part) ≡ part
+pub one-kept : (part : DefBody) → joined (kept part) ≡ part
 one-kept Nothing = refl
 one-kept (flat.Assign left value place at) = refl
 one-kept (flat.If' cond l left r right) = refl
 one-kept (flat.First' shape parts) = refl
 one-kept (flat.Forall' var over shape body) = refl
 
-kept-each : (var : ℕ) (over : Simple) (part : Flat) → flat_map (λ p. kept (each_value var over p)) (kept part) ≡ kept (each_value var over part)
+kept-each : (var : ℕ) (over : Simple) (part : DefBody) → flat_map (λ p. kept (each_value var over p)) (kept part) ≡ kept (each_value var over part)
 kept-each var over part = by (is_nothing part) refl
   where
     by : (b : Bool) → is_nothing part ≡ b → flat_map (λ p. kept (each_value var over p)) (cond b [] (part ∷ [])) ≡ kept (cond b Nothing (flat.Forall var over part))
     by true e = refl
     by false e = append-nil (kept (each_value var over part)) ∙ ap (λ b. kept (cond b Nothing (flat.Forall var over part))) e
 
-abbrev kept_of : List Flat → List Flat
+abbrev kept_of : List DefBody → List DefBody
 kept_of parts = filter (λ part. not (is_nothing part)) parts
 
-pub more-kept : (part : Flat) (parts : List Flat) → kept_of (part ∷ parts) ≡ kept part ++ kept_of parts
+pub more-kept : (part : DefBody) (parts : List DefBody) → kept_of (part ∷ parts) ≡ kept part ++ kept_of parts
 more-kept part parts = by (is_nothing part)
   where
     by : (b : Bool) → cond (not b) (part ∷ kept_of parts) (kept_of parts) ≡ (cond b [] (part ∷ [])) ++ kept_of parts
@@ -122,7 +122,7 @@ more-kept part parts = by (is_nothing part)
 -- ---- what they say
 
 module _ (kind : Kind) (family : ℕ) where
-  abbrev said_from : ℕ → List FlatStmt → List Flat
+  abbrev said_from : ℕ → List FlatStmt → List DefBody
   said_from k [] = []
   said_from k (x ∷ xs) = kept (said kind family k x) ++ said_from (k + size x) xs
 
@@ -173,7 +173,7 @@ module _ (kind : Kind) (layer : Option ℕ) (owner : Owner) where
   unfolding told
   told-Default k l r = by is_of
     where
-      both : (a b : Flat) → first_part (a ∷ b ∷ []) ≡ joined (kept a ++ kept b)
+      both : (a b : DefBody) → first_part (a ∷ b ∷ []) ≡ joined (kept a ++ kept b)
       both a b = ap joined (more-kept a (b ∷ []) ∙ ap (λ l. kept a ++ l) (more-kept b [] ∙ append-nil (kept b)))
 
       by : (b : Bool) → cond b (said kind owner.family k (Default l r)) Nothing ≡ joined (kept (cond b (said kind owner.family (k + size l) r) Nothing) ++ kept (cond b (said kind owner.family k l) Nothing))
@@ -264,17 +264,17 @@ module _ (kind : Kind) (layer : Option ℕ) (owner : Owner) where
       ∙ ap (filled (or_none before) is_second) (Assign-made k which family left value at e)
 
   -- the sides of an `if`, each of which is as one what its branch says
-  pub If-added : (sides one two : Sides) (ps qs : List Flat) (k : ℕ) (test : FlatExpr) (l r : FlatStmt) → sides ≡ no_sides → one ≡ filled sides false ps → two ≡ filled one true qs
+  pub If-added : (sides one two : Sides) (ps qs : List DefBody) (k : ℕ) (test : FlatExpr) (l r : FlatStmt) → sides ≡ no_sides → one ≡ filled sides false ps → two ≡ filled one true qs
       → joined ps ≡ told kind layer owner k l → joined qs ≡ told kind layer owner (k + size l) r → kept (combine (Some test) two) ≡ kept (told kind layer owner k (If test l r))
   If-added sides one two ps qs k test l r none first second left right =
       ap (λ s. kept (combine (Some test) s)) (second ∙ ap (λ s. filled s true qs) (first ∙ ap (λ s. filled s false ps) none))
       ∙ ap (λ p. kept (branches test p (joined qs))) left ∙ ap (λ p. kept (branches test (told kind layer owner k l) p)) right ∙ ap kept (sym (told-If k test l r))
 
   -- what stands alone, as one
-  pub alone : (inner all : Sides) (ps : List Flat) (k : ℕ) (act : FlatStmt) → inner ≡ no_sides → all ≡ filled inner false ps → joined ps ≡ told kind layer owner k act → joined all.first ≡ told kind layer owner k act
+  pub alone : (inner all : Sides) (ps : List DefBody) (k : ℕ) (act : FlatStmt) → inner ≡ no_sides → all ≡ filled inner false ps → joined ps ≡ told kind layer owner k act → joined all.first ≡ told kind layer owner k act
   alone inner all ps k act none more says = ap (λ (s : Sides). joined s.first) (more ∙ ap (λ s. filled s false ps) none) ∙ says
 
-  pub Default-added : (k : ℕ) (l r : FlatStmt) (first second : List Flat) → joined first ≡ told kind layer owner k l → joined second ≡ told kind layer owner (k + size l) r
+  pub Default-added : (k : ℕ) (l r : FlatStmt) (first second : List DefBody) → joined first ≡ told kind layer owner k l → joined second ≡ told kind layer owner (k + size l) r
       → kept (joined (kept (joined second) ++ kept (joined first))) ≡ kept (told kind layer owner k (Default l r))
   Default-added k l r first second left right =
       ap (λ p. kept (joined (kept p ++ kept (joined first)))) right ∙ ap (λ p. kept (joined (kept (told kind layer owner (k + size l) r) ++ kept p))) left ∙ Default-made k l r

@@ -3,7 +3,7 @@ use Rattle.std.specs.Prelude.{List, [], ◌∷◌, ◌++◌, Option, Some, None,
 use Rattle.std.specs.Option.{option_eq}
 use Rattle.std.specs.HashMap.{HashMap, get_by}
 use Rattle.smv_core.specs.declared.flat.FlatExpr.{FlatExpr}
-use Rattle.smv_core.specs.declared.flat.Flat.{Flat}
+use Rattle.smv_core.specs.declared.flat.DefBody.{DefBody}
 use Rattle.law_designs.specs.Definitions.{joined, branches}
 use Rattle.smv_design.specs.declared.owners.Owner.{Owner}
 use Rattle.smv_design.specs.declared.parts.Part.{Part}
@@ -14,7 +14,7 @@ abbrev pub same_owner : Owner → Owner → Bool
 same_owner a b = option_eq nat_eq a.layer b.layer && nat_eq a.family b.family
 
 -- what these parts say of an owner
-abbrev pub parts_for : Owner → List Part → List Flat
+abbrev pub parts_for : Owner → List Part → List DefBody
 parts_for owner [] = []
 parts_for owner (p ∷ ps) = if same_owner p.owner owner then p.says ∷ parts_for owner ps else parts_for owner ps
 
@@ -24,18 +24,18 @@ abbrev pub no_sides : Sides
 no_sides = record { first = []; second = [] }
 
 -- more parts on one side
-abbrev pub filled : Sides → Bool → List Flat → Sides
+abbrev pub filled : Sides → Bool → List DefBody → Sides
 filled sides is_second parts = record {
   first = if is_second then sides.first else sides.first ++ parts;
   second = if is_second then sides.second ++ parts else sides.second;
 }
 
 -- one more part
-abbrev pub more : Sides → Bool → Flat → Sides
+abbrev pub more : Sides → Bool → DefBody → Sides
 more sides is_second says = filled sides is_second (says ∷ [])
 
 -- the parts as one: those of an `if` of this condition, or of several statements
-abbrev pub combine : Option FlatExpr → Sides → Flat
+abbrev pub combine : Option FlatExpr → Sides → DefBody
 combine (Some cond) sides = branches cond (joined sides.first) (joined sides.second)
 combine None sides = joined sides.first
 
@@ -53,5 +53,5 @@ abbrev pub held : {S : Type 0} → HashMap Owner Sides S → Owner → Sides
 held groups owner = or_none (used groups owner)
 
 -- one more part, where it is the owner's
-abbrev pub one_more : Option Sides → Bool → Bool → Flat → Option Sides
+abbrev pub one_more : Option Sides → Bool → Bool → DefBody → Option Sides
 one_more sides is_it is_second says = if is_it then Some (more (or_none sides) is_second says) else sides

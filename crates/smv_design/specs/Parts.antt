@@ -2,7 +2,7 @@
 use Rattle.std.specs.Prelude.{ℕ, ◌+◌, List, [], ◌∷◌, if◌then◌else◌}
 use Rattle.smv_core.specs.declared.tree.Kind.{Kind}
 use Rattle.smv_core.specs.declared.flat.FlatStmt.{FlatStmt}
-use Rattle.smv_core.specs.declared.flat.Flat.{Flat}
+use Rattle.smv_core.specs.declared.flat.DefBody.{DefBody}
 use Rattle.law_designs.specs.Standing.{count}
 use Rattle.law_designs.specs.Definitions.{is_nothing, flat_of}
 
@@ -16,9 +16,9 @@ sizes [] = 0
 sizes (x ∷ xs) = size x + sizes xs
 
 -- a part, where it has a result
-abbrev pub kept : Flat → List Flat
+abbrev pub kept : DefBody → List DefBody
 kept part = if is_nothing part then [] else part ∷ []
 
 -- what a statement says, whose first assignment has this place
-unfoldable pub said : Kind → ℕ → ℕ → FlatStmt → Flat
+unfoldable pub said : Kind → ℕ → ℕ → FlatStmt → DefBody
 said kind family k act = flat_of kind family k act

@@ -12,7 +12,7 @@ use crate::heads::Noted;
 use crate::owners::Owner;
 use crate::parts::joined;
 use crate::statements::gathered;
-use smv_core::flat::{Def, Flat};
+use smv_core::flat::{Def, DefBody};
 use smv_core::tree::Kind;
 use std::alloc::{AllocError, Global};
 use std::collections::HashMap;
@@ -37,7 +37,7 @@ pub fn said_by(acts: &[Act], alloc: Global) -> Result<Said, AllocError>
 }
 
 // Takes out what is said of an owner, as one part.
-fn taken(groups: &mut HashMap<Owner, Sides>, owner: Owner) -> Flat
+fn taken(groups: &mut HashMap<Owner, Sides>, owner: Owner) -> DefBody
     ensures part { result ≡ joined_of (held groups.old owner).first }
     ensures others { (other : Owner) → same_owner owner other ≡ false → used groups.new other ≡ used groups.old other }
 {
@@ -46,7 +46,7 @@ fn taken(groups: &mut HashMap<Owner, Sides>, owner: Owner) -> Flat
             let Sides { first, second: _ } = sides;
             joined(first.into_vec())
         }
-        None => Flat::Nothing,
+        None => DefBody::Nothing,
     }
 }
 

@@ -6,7 +6,7 @@ ghost use Rattle.smv_design.specs.Groups.{same_owner, parts_for, no_sides, more,
 
 use crate::owners::Owner;
 use crate::parts::{Part, branches, joined, keep};
-use smv_core::flat::{Flat, FlatExpr};
+use smv_core::flat::{DefBody, FlatExpr};
 use smv_core::seq::Seq;
 use std::alloc::{AllocError, Global};
 use std::collections::HashMap;
@@ -14,12 +14,12 @@ use std::collections::HashMap;
 /// The parts that are said of one owner, in their order: those of the first branch of an `if` and those of its second. Elsewhere all are first.
 #[derive(Drop)]
 pub struct Sides {
-    pub first: Seq<Flat>,
-    pub second: Seq<Flat>,
+    pub first: Seq<DefBody>,
+    pub second: Seq<DefBody>,
 }
 
 // One more part.
-fn put(sides: &mut Sides, is_second: bool, says: Flat) -> Result<(), AllocError>
+fn put(sides: &mut Sides, is_second: bool, says: DefBody) -> Result<(), AllocError>
     ensures { OnOk result (sides.new ≡ more sides.old is_second says) }
 {
     if is_second {
@@ -31,7 +31,7 @@ fn put(sides: &mut Sides, is_second: bool, says: Flat) -> Result<(), AllocError>
 }
 
 // One part alone.
-fn only(is_second: bool, says: Flat, alloc: Global) -> Result<Sides, AllocError>
+fn only(is_second: bool, says: DefBody, alloc: Global) -> Result<Sides, AllocError>
     ensures { IfOk result (λ sides. sides ≡ more no_sides is_second says) }
 {
     let one = Seq::from_vec(vec![in alloc; says]?);
@@ -88,7 +88,7 @@ pub fn add_all(
 }
 
 // The parts of an owner as one: those of an `if` of this condition, or of several statements.
-fn combined(cond: Option<&FlatExpr>, sides: Sides, alloc: Global) -> Result<Flat, AllocError>
+fn combined(cond: Option<&FlatExpr>, sides: Sides, alloc: Global) -> Result<DefBody, AllocError>
     ensures { IfOk result (λ part. part ≡ combine (option_copied cond.entry) sides) }
 {
     let Sides { first, second } = sides;

@@ -19,7 +19,7 @@ pub struct Noted {
 
 /// Notes the assignments of a statement of a layer, the first of which has this place, and gives the place behind them.
 #[cycle(heads)]
-#[tactic(auto, using(smv_instances::proofs::Notes::noting, crate::proofs::StatementLaws::heads, crate::proofs::StatementLaws::counts))]
+#[tactic(auto, using(smv_mentions::proofs::Notes::noting, crate::proofs::StatementLaws::heads, crate::proofs::StatementLaws::counts))]
 pub fn note_heads(
     out: &mut Seq<Noted>,
     act: &FlatStmt,
@@ -53,7 +53,7 @@ pub fn note_heads(
 }
 
 #[cycle(heads)]
-#[tactic(auto, using(smv_instances::proofs::Notes::noting))]
+#[tactic(auto, using(smv_mentions::proofs::Notes::noting))]
 fn note_all_heads(
     out: &mut Seq<Noted>,
     acts: &[FlatStmt],

@@ -4,7 +4,7 @@
 #![tactic(auto)]
 
 ghost use Rattle.std.specs.Prelude.{◌≡◌, IfOk};
-ghost use Rattle.law_designs.specs.Definitions.{design_of_raw};
+ghost use Rattle.law_designs.specs.Definitions.{design_of_flat_text};
 
 pub mod acts;
 pub mod definitions;
@@ -19,22 +19,22 @@ pub mod statements;
 use crate::acts::{Items, take_apart};
 use crate::definitions::definitions;
 use crate::firsts::first_heads;
-use smv_core::flat::{Design, Raw};
+use smv_core::flat::{Design, FlatText};
 use smv_core::seq::Seq;
 use std::alloc::{AllocError, Global};
 
 /// The design of a flattened text: its assignments gathered into one definition for each family and definition set, in the order of their first assignments.
 /// `AllocError` also where a place does not fit its field, which no text within the limits has.
-pub fn design(alloc: Global, raw: Raw) -> Result<Design, AllocError>
-    ensures { IfOk result (λ design. design ≡ design_of_raw raw) }
+pub fn design(alloc: Global, flat_text: FlatText) -> Result<Design, AllocError>
+    ensures { IfOk result (λ design. design ≡ design_of_flat_text flat_text) }
 {
-    let Raw {
+    let FlatText {
         sets,
         enums,
         layers,
         families,
         items,
-    } = raw;
+    } = flat_text;
     let Items {
         acts,
         heads,

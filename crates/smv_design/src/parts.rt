@@ -9,7 +9,7 @@ ghost use Rattle.smv_design.specs.Groups.{parts_for, same_owner};
 use crate::owners::Owner;
 use smv_copies::copy_expression;
 use smv_core::boxed::Boxed;
-use smv_core::flat::{Flat, FlatExpr, Simple};
+use smv_core::flat::{DefBody, FlatExpr, Simple};
 use smv_core::seq::Seq;
 use smv_core::tree::Kind;
 use std::alloc::{AllocError, Global};
@@ -18,7 +18,7 @@ use std::alloc::{AllocError, Global};
 #[derive(Drop)]
 pub struct Part {
     pub owner: Owner,
-    pub says: Flat,
+    pub says: DefBody,
 }
 
 /// Whether two kinds are the same.
@@ -31,14 +31,14 @@ pub fn is_same(a: Kind, b: Kind) -> bool
     )
 }
 
-fn is_nothing(part: &Flat) -> bool
+fn is_nothing(part: &DefBody) -> bool
     ensures { result ≡ has_no_result part.now }
 {
-    matches!(part, Flat::Nothing)
+    matches!(part, DefBody::Nothing)
 }
 
 /// Puts a part at the end, where it has a result.
-pub fn keep(parts: &mut Vec<Part>, owner: Owner, says: Flat) -> Result<(), AllocError>
+pub fn keep(parts: &mut Vec<Part>, owner: Owner, says: DefBody) -> Result<(), AllocError>
     ensures { OnOk result ((other : Owner) → parts_for other parts.new.items ≡ parts_for other parts.old.items ++ (if same_owner owner other then kept says else [])) }
 {
     if !is_nothing(&says) {
@@ -48,50 +48,50 @@ pub fn keep(parts: &mut Vec<Part>, owner: Owner, says: Flat) -> Result<(), Alloc
 }
 
 /// Some parts as one: one alone is itself.
-pub fn joined(parts: Vec<Flat>) -> Flat
+pub fn joined(parts: Vec<DefBody>) -> DefBody
     ensures { result ≡ joined_of parts.items }
 {
     let mut parts = parts;
     if parts.len() > 1 {
-        return Flat::First {
+        return DefBody::First {
             parts: Seq::from_vec(parts),
         };
     }
     match parts.pop() {
         Some(part) => part,
-        None => Flat::Nothing,
+        None => DefBody::Nothing,
     }
 }
 
 // An `if` of these branches.
-fn chosen(cond: &FlatExpr, yes: Flat, no: Flat, alloc: Global) -> Result<Flat, AllocError>
-    ensures { IfOk result (λ part. part ≡ Flat.If cond.now yes no) }
+fn chosen(cond: &FlatExpr, yes: DefBody, no: DefBody, alloc: Global) -> Result<DefBody, AllocError>
+    ensures { IfOk result (λ part. part ≡ DefBody.If cond.now yes no) }
 {
     let yes = Boxed::new(alloc, yes)?;
     let no = Boxed::new(alloc, no)?;
     let cond = copy_expression(cond, alloc)?;
-    Ok(Flat::If { cond, yes, no })
+    Ok(DefBody::If { cond, yes, no })
 }
 
 /// The branches of an `if`, where one of them has a result.
-pub fn branches(cond: &FlatExpr, yes: Flat, no: Flat, alloc: Global) -> Result<Flat, AllocError>
+pub fn branches(cond: &FlatExpr, yes: DefBody, no: DefBody, alloc: Global) -> Result<DefBody, AllocError>
     ensures { IfOk result (λ part. part ≡ branches_of cond.now yes no) }
 {
     if is_nothing(&yes) && is_nothing(&no) {
-        return Ok(Flat::Nothing);
+        return Ok(DefBody::Nothing);
     }
     chosen(cond, yes, no, alloc)
 }
 
 /// What stands under a `forall`, where it has a result.
-pub fn each_value(var: u16, over: Simple, body: Flat, alloc: Global) -> Result<Flat, AllocError>
+pub fn each_value(var: u16, over: Simple, body: DefBody, alloc: Global) -> Result<DefBody, AllocError>
     ensures { IfOk result (λ part. part ≡ each_value_of var over body) }
 {
     if is_nothing(&body) {
-        return Ok(Flat::Nothing);
+        return Ok(DefBody::Nothing);
     }
     let body = Boxed::new(alloc, body)?;
-    Ok(Flat::Forall { var, over, body })
+    Ok(DefBody::Forall { var, over, body })
 }
 
 // A copy of each of these indexes, in no more memory than they take.
@@ -112,12 +112,12 @@ pub fn assigned(
     place: u32,
     at: u32,
     alloc: Global,
-) -> Result<Flat, AllocError>
-    ensures { IfOk result (λ part. part ≡ Flat.Assign left.now value.now place at) }
+) -> Result<DefBody, AllocError>
+    ensures { IfOk result (λ part. part ≡ DefBody.Assign left.now value.now place at) }
 {
     let left = copied(left, alloc)?;
     let value = copy_expression(value, alloc)?;
-    Ok(Flat::Assign {
+    Ok(DefBody::Assign {
         left,
         value,
         place,

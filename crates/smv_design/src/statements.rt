@@ -1,6 +1,6 @@
 // What statements say, for one kind of assignment: each statement is gone over once, and gives what it says of all owners.
 ghost use Rattle.std.specs.Prelude.{◌≡◌, ◌+◌, ◌++◌, List, IfOk, OnOk, flat_map};
-ghost use Rattle.smv_core.specs.declared.flat.Flat.{Flat};
+ghost use Rattle.smv_core.specs.declared.flat.DefBody.{DefBody};
 ghost use Rattle.law_designs.specs.Definitions.{joined as joined_of, each_value as each_value_of};
 ghost use Rattle.smv_design.specs.declared.owners.Owner.{Owner};
 ghost use Rattle.smv_design.specs.Parts.{kept, size, sizes};
@@ -148,7 +148,7 @@ fn add_branch(
     is_second: bool,
     alloc: Global,
 ) -> Result<u32, AllocError>
-    ensures parts { OnOk result ((owner : Owner) → (parts : List Flat) × (held groups.new owner ≡ filled (held groups.old owner) is_second parts) × (joined_of parts ≡ told kind layer owner place act.now)) }
+    ensures parts { OnOk result ((owner : Owner) → (parts : List DefBody) × (held groups.new owner ≡ filled (held groups.old owner) is_second parts) × (joined_of parts ≡ told kind layer owner place act.now)) }
     ensures after { IfOk result (λ after. after ≡ place + size act.now) }
 {
     match act {

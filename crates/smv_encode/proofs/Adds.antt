@@ -8,7 +8,7 @@ use Rattle.smv_core.specs.declared.flat.Element.{Element}
 use Rattle.law_obligations.specs.Sets.{Has, first, later}
 use Rattle.law_obligations.specs.Obligations.{Demanded}
 use Rattle.law_obligations.specs.Cones.{AbsElement}
-use Rattle.law_obligations.specs.Readings.{Case, Slot, bits_of, is_value, slots_from}
+use Rattle.law_obligations.specs.Readings.{PosedCase, Slot, bits_of, is_value, slots_from}
 use Rattle.bdd_codes.specs.Codes.{bits_at}
 use Rattle.law_reports.specs.CaseLists.{is_claim, is_by_next, defines, those_of}
 use Rattle.bdd_store.specs.declared.Ref.{Ref}
@@ -70,12 +70,12 @@ live_kept d e rs k live i lt = k.live (ref_at rs i) (live i lt)
 -- ---- one demand after the other
 
 -- the demand at a place
-record IsNext (c : Case) (ds : List Demanded) (i : ℕ) (demand : Demand) : Type 0 where
+record IsNext (c : PosedCase) (ds : List Demanded) (i : ℕ) (demand : Demand) : Type 0 where
   x : Demanded
   taken : take (i + 1) ds ≡ take i ds ++ x ∷ []
   one : AreDemands c (x ∷ []) (demand ∷ [])
 
-next_demand : (c : Case) (ds : List Demanded) (demands : List Demand) (i : ℕ) (demand : Demand) → i < length demands → demand ≡ get_or demands i demand → AreDemands c ds demands → IsNext c ds i demand
+next_demand : (c : PosedCase) (ds : List Demanded) (demands : List Demand) (i : ℕ) (demand : Demand) → i < length demands → demand ≡ get_or demands i demand → AreDemands c ds demands → IsNext c ds i demand
 next_demand c [] [] i demand lt at h = absurd (omega arith)
 next_demand c [] (g ∷ gs) i demand lt at h = absurd (let f = h.written in cc)
 next_demand c (d ∷ ds) [] i demand lt at h = absurd (omega arith)
@@ -107,12 +107,12 @@ length-map : {X Y : Type 0} (f : X → Y) (xs : List X) → length (map f xs) �
 length-map f [] = refl
 length-map f (x ∷ xs) = ap (λ n. suc n) (length-map f xs)
 
-all_taken : (c : Case) (ds : List Demanded) (demands : List Demand) (i : ℕ) → length demands ≤ i → AreDemands c ds demands → take i ds ≡ ds
+all_taken : (c : PosedCase) (ds : List Demanded) (demands : List Demand) (i : ℕ) → length demands ≤ i → AreDemands c ds demands → take i ds ≡ ds
 all_taken c ds demands i le h =
     let long : length demands ≡ length ds = ap (λ (gs : List Demand). length gs) h.written ∙ length-map (written_demand c.problem.world.classes) ds in
     take_whole ds i (omega (arith, long, le))
 
-module _ (c : Case) (d e f : Diagram) (ds : List Demanded) (demands : List Demand) (i : ℕ) (rs ss ts : List Ref) (g : List Demanded → List Function) where
+module _ (c : PosedCase) (d e f : Diagram) (ds : List Demanded) (demands : List Demand) (i : ℕ) (rs ss ts : List Ref) (g : List Demanded → List Function) where
   pub demand_adds : (h : Demanded → List Function) → ((xs : List Demanded) (x : Demanded) → g (xs ++ x ∷ []) ≡ g xs ++ h x) → (demand : Demand) → i < length demands → demand ≡ get_or demands i demand → AreDemands c ds demands
       → AddsFunctions d e rs ss (g (take i ds)) → ((x : Demanded) → AreDemands c (x ∷ []) (demand ∷ []) → AddsFunctions e f ss ts (h x)) → AddsFunctions d f rs ts (g (take (i + 1) ds))
   demand_adds h snoc demand lt at are before one =
@@ -138,7 +138,7 @@ filter_snoc m p (y ∷ xs) x = by (p y) (filter_snoc m p xs x)
     by false e = e
 
 -- what is taken by a test that is told
-pub told_adds : (c : Case) (e f : Diagram) (ss ts : List Ref) (demand : Demand) (m : Demanded → Function) (p : Demanded → Bool) (b : Bool) → ((x : Demanded) → AreDemands c (x ∷ []) (demand ∷ []) → b ≡ p x)
+pub told_adds : (c : PosedCase) (e f : Diagram) (ss ts : List Ref) (demand : Demand) (m : Demanded → Function) (p : Demanded → Bool) (b : Bool) → ((x : Demanded) → AreDemands c (x ∷ []) (demand ∷ []) → b ≡ p x)
     → ((x : Demanded) → AreDemands c (x ∷ []) (demand ∷ []) → AddsFunctions e f ss ts (if b then m x ∷ [] else [])) → (x : Demanded) → AreDemands c (x ∷ []) (demand ∷ []) → AddsFunctions e f ss ts (if p x then m x ∷ [] else [])
 told_adds c e f ss ts demand m p b tells adds x h = subst (λ (t : Bool). AddsFunctions e f ss ts (if t then m x ∷ [] else [])) (tells x h) (adds x h)
 
@@ -164,7 +164,7 @@ all_snoc m p (y ∷ xs) x = by (p y) (all_snoc m p xs x)
     by true e = ap (λ (t : Bool). m y && t) e ∙ both (m y) (list_all m (filter p xs)) (if p x then m x else true)
     by false e = e
 
-pub own_next : (c : Case) (ds : List Demanded) (demands : List Demand) (i : ℕ) (x : AbsElement) (m : Demanded → Bool) (demand : Demand) (b u z : Bool) → i < length demands → demand ≡ get_or demands i demand → AreDemands c ds demands → ((y : Demanded) → AreDemands c (y ∷ []) (demand ∷ []) → b ≡ defines x y)
+pub own_next : (c : PosedCase) (ds : List Demanded) (demands : List Demand) (i : ℕ) (x : AbsElement) (m : Demanded → Bool) (demand : Demand) (b u z : Bool) → i < length demands → demand ≡ get_or demands i demand → AreDemands c ds demands → ((y : Demanded) → AreDemands c (y ∷ []) (demand ∷ []) → b ≡ defines x y)
     → u ≡ list_all m (those_of (take i ds) x) → ((y : Demanded) → AreDemands c (y ∷ []) (demand ∷ []) → z ≡ (u && (if b then m y else true))) → z ≡ list_all m (those_of (take (i + 1) ds) x)
 own_next c ds demands i x m demand b u z lt at are tells before one =
     let r = next_demand c ds demands i demand lt at are in
@@ -174,14 +174,14 @@ own_next c ds demands i x m demand b u z lt at are tells before one =
     ∙ sym (all_snoc m (defines x) (take i ds) r.x)
     ∙ sym (ap (λ (ys : List Demanded). list_all m (those_of ys x)) r.taken)
 
-pub own_end : (c : Case) (ds : List Demanded) (demands : List Demand) (i : ℕ) (x : AbsElement) (m : Demanded → Bool) (u : Bool) → length demands ≤ i → AreDemands c ds demands → u ≡ list_all m (those_of (take i ds) x) → u ≡ list_all m (those_of ds x)
+pub own_end : (c : PosedCase) (ds : List Demanded) (demands : List Demand) (i : ℕ) (x : AbsElement) (m : Demanded → Bool) (u : Bool) → length demands ≤ i → AreDemands c ds demands → u ≡ list_all m (those_of (take i ds) x) → u ≡ list_all m (those_of ds x)
 own_end c ds demands i x m u le are before = before ∙ ap (λ (ys : List Demanded). list_all m (those_of ys x)) (all_taken c ds demands i le are)
 
 pub too_taken : (b o u z w : Bool) → b ≡ true → z ≡ (o && w) → w ≡ u → z ≡ (o && (if b then u else true))
 too_taken b o u z w on is same = is ∙ ap (λ (t : Bool). o && t) same ∙ sym (ap (λ (t : Bool). o && (if t then u else true)) on)
 
 -- what a call tells of an element and a demand
-pub own_tells : (c : Case) → IsWellFormed c → (x : AbsElement) (x' : Element) → AreElements c (x ∷ []) (x' ∷ []) → (demand : Demand) (b : Bool) → b ≡ is_of x' demand → (y : Demanded) → AreDemands c (y ∷ []) (demand ∷ []) → b ≡ defines x y
+pub own_tells : (c : PosedCase) → IsWellFormed c → (x : AbsElement) (x' : Element) → AreElements c (x ∷ []) (x' ∷ []) → (demand : Demand) (b : Bool) → b ≡ is_of x' demand → (y : Demanded) → AreDemands c (y ∷ []) (demand ∷ []) → b ≡ defines x y
 own_tells c well x x' h demand b is y k =
     is
     ∙ ap (λ (z : Element). is_of z demand) (one_element h.written)
@@ -194,7 +194,7 @@ own_tells c well x x' h demand b is y k =
     one_demand : {u v : Demand} → u ∷ [] ≡ v ∷ [] → u ≡ v
     one_demand e = cc
 
-pub claim_tells : (c : Case) (demand : Demand) (b : Bool) → b ≡ is_held demand → (y : Demanded) → AreDemands c (y ∷ []) (demand ∷ []) → b ≡ is_claim y
+pub claim_tells : (c : PosedCase) (demand : Demand) (b : Bool) → b ≡ is_held demand → (y : Demanded) → AreDemands c (y ∷ []) (demand ∷ []) → b ≡ is_claim y
 claim_tells c demand b is y k = is ∙ ap is_held (one_demand k.written) ∙ held_written c.problem.world.classes y
   where
     one_demand : {u v : Demand} → u ∷ [] ≡ v ∷ [] → u ≡ v
@@ -202,14 +202,14 @@ claim_tells c demand b is y k = is ∙ ap is_held (one_demand k.written) ∙ hel
 
 -- ---- the first element and the others
 
-record AreMoreElements (c : Case) (xs : List AbsElement) (x' : Element) (others : List Element) : Type 0 where
+record AreMoreElements (c : PosedCase) (xs : List AbsElement) (x' : Element) (others : List Element) : Type 0 where
   x : AbsElement
   rest : List AbsElement
   are : xs ≡ x ∷ rest
   one : AreElements c (x ∷ []) (x' ∷ [])
   more : AreElements c rest others
 
-elements_more : (c : Case) (xs : List AbsElement) (elements : List Element) (x' : Element) (others : List Element) → elements ≡ x' ∷ others → AreElements c xs elements → AreMoreElements c xs x' others
+elements_more : (c : PosedCase) (xs : List AbsElement) (elements : List Element) (x' : Element) (others : List Element) → elements ≡ x' ∷ others → AreElements c xs elements → AreMoreElements c xs x' others
 elements_more c [] elements x' others e h = absurd (let f = sym h.written ∙ e in cc)
 elements_more c (x ∷ xs) elements x' others e h =
     let f : written_element x ∷ map written_element xs ≡ x' ∷ others = sym h.written ∙ e in
@@ -231,11 +231,11 @@ elements_more c (x ∷ xs) elements x' others e h =
     only first = first
     only (later m) = elim m [ ]
 
-no_elements : (c : Case) (xs : List AbsElement) (elements : List Element) → elements ≡ [] → AreElements c xs elements → xs ≡ []
+no_elements : (c : PosedCase) (xs : List AbsElement) (elements : List Element) → elements ≡ [] → AreElements c xs elements → xs ≡ []
 no_elements c [] elements e h = refl
 no_elements c (x ∷ xs) elements e h = absurd (let f = sym h.written ∙ e in cc)
 
-module _ (c : Case) (d e f : Diagram) (xs : List AbsElement) (elements : List Element) (rs ss ts : List Ref) (t : Slot → Bool) where
+module _ (c : PosedCase) (d e f : Diagram) (xs : List AbsElement) (elements : List Element) (rs ss ts : List Ref) (t : Slot → Bool) where
   pub no_element : elements ≡ [] → AreElements c xs elements → (bit : ℕ) (g : List Slot → List Function) → g [] ≡ [] → AddsFunctions d d rs rs (g (filter t (slots_from c.problem.world bit xs)))
   no_element none h bit g empty = subst (AddsFunctions d d rs rs) (sym (ap (λ (ys : List AbsElement). g (filter t (slots_from c.problem.world bit ys))) (no_elements c xs elements none h) ∙ empty)) (adds_none d rs)
 
@@ -295,24 +295,24 @@ before_taken d e rs ss m ds b is_on h = subst (λ (t : Bool). AddsFunctions d e 
 pub before_skipped : (d : Diagram) (rs : List Ref) (m : Demanded → Function) (ds : List Demanded) (b : Bool) → b ≡ false → AddsFunctions d d rs rs (map m (if b then ds else []))
 before_skipped d rs m ds b is_off = subst (λ (t : Bool). AddsFunctions d d rs rs (map m (if t then ds else []))) (sym is_off) (adds_none d rs)
 
-pub one_demand : (c : Case) (x : Demanded) (demand : Demand) → AreDemands c (x ∷ []) (demand ∷ []) → demand ≡ written_demand c.problem.world.classes x
+pub one_demand : (c : PosedCase) (x : Demanded) (demand : Demand) → AreDemands c (x ∷ []) (demand ∷ []) → demand ≡ written_demand c.problem.world.classes x
 one_demand c x demand h = inner h.written
   where
     inner : {u v : Demand} → u ∷ [] ≡ v ∷ [] → u ≡ v
     inner e = cc
 
-pub one_element : (c : Case) (x : AbsElement) (x' : Element) → AreElements c (x ∷ []) (x' ∷ []) → x' ≡ written_element x
+pub one_element : (c : PosedCase) (x : AbsElement) (x' : Element) → AreElements c (x ∷ []) (x' ∷ []) → x' ≡ written_element x
 one_element c x x' h = inner h.written
   where
     inner : {u v : Element} → u ∷ [] ≡ v ∷ [] → u ≡ v
     inner e = cc
 
-pub demands_shown : (c : Case) (ds : List Demanded) (demands shown : List Demand) → shown ≡ demands → AreDemands c ds demands → AreDemands c ds shown
+pub demands_shown : (c : PosedCase) (ds : List Demanded) (demands shown : List Demand) → shown ≡ demands → AreDemands c ds demands → AreDemands c ds shown
 demands_shown c ds demands shown e h = subst (AreDemands c ds) (sym e) h
 
 -- ---- the function of an element
 
-pub element_is : (c : Case) (step : Bool) (slot : Slot) (f v m : Function) → ((a : ℕ → Bool) → f a ≡ (v a && m a)) → ((a : ℕ → Bool) → v a ≡ is_value c.problem.world (bits_at step a) slot)
+pub element_is : (c : PosedCase) (step : Bool) (slot : Slot) (f v m : Function) → ((a : ℕ → Bool) → f a ≡ (v a && m a)) → ((a : ℕ → Bool) → v a ≡ is_value c.problem.world (bits_at step a) slot)
     → ((a : ℕ → Bool) → m a ≡ list_all (λ d. met_at c step d a) (those_of c.problem.now slot.element)) → f ≡ element_at c step slot
 element_is c false slot f v m is ev em = λ i a. (is a ∙ ap (λ (b : Bool). b && m a) (ev a) ∙ ap (λ (b : Bool). is_value c.problem.world (bits_at false a) slot && b) (em a)) i
 element_is c true slot f v m is ev em = λ i a. (is a ∙ ap (λ (b : Bool). b && m a) (ev a) ∙ ap (λ (b : Bool). is_value c.problem.world (bits_at true a) slot && b) (em a)) i

@@ -4,15 +4,15 @@ use Rattle.std.specs.List.{list_all}
 use Rattle.smv_core.specs.declared.flat.Guard.{Guard}
 use Rattle.law_obligations.specs.Sets.{Has, first, later}
 use Rattle.law_obligations.specs.May.{AbsState}
-use Rattle.law_obligations.specs.Obligations.{Problem as Obligations, Demanded, is_met, is_broken, may_hold}
-use Rattle.law_obligations.specs.Readings.{Case, state_bits}
+use Rattle.law_obligations.specs.Obligations.{AbstractProblem as Obligations, Demanded, is_met, is_broken, may_hold}
+use Rattle.law_obligations.specs.Readings.{PosedCase, state_bits}
 use Rattle.law_reports.specs.CaseLists.{old_state, new_state, met_first, met_step}
 use Rattle.smv_problem.specs.declared.problem.Problem.{Problem}
 use Rattle.smv_problem.specs.declared.problem.Demand.{Demand}
 use Rattle.smv_problem.specs.Written.{written, written_demand}
 use Rattle.smv_problem.specs.WellFormed.{IsFit, OfCases}
 use Rattle.bdd_store.specs.declared.Ref.{Ref}
-use Rattle.bdd_store.specs.Diagram.{Diagram, IsLive, IsSound, table, Keeps}
+use Rattle.bdd_store.specs.Diagram.{Diagram, IsLive, IsReduced, table, Keeps}
 use Rattle.bdd_ops.specs.Functions.{Function}
 use Rattle.smv_encode.specs.Laws.{KeepsTables}
 use Rattle.smv_encode.proofs.Kept.{keeps}
@@ -31,7 +31,7 @@ use Rattle.smv_encode.proofs.ReadCases.{read_first, read_step, seen_state, is_de
 -- ---- what calls keep
 
 -- what conditions keep, the store keeps
-pub store_keeps : (d e : Diagram) → IsSound d → IsSound e → KeepsConditions IsLive table (λ (s : Diagram). s.vars) d e → Keeps d e
+pub store_keeps : (d e : Diagram) → IsReduced d → IsReduced e → KeepsConditions IsLive table (λ (s : Diagram). s.vars) d e → Keeps d e
 store_keeps d e old new k = let tables : KeepsTables d e = record { vars = k.stays; live = k.made; tables = k.same } in keeps d e old new tables
 
 pub list_kept : (d e : Diagram) (cells : List (Cell Ref)) → Keeps d e → AreCellsMade (IsLive d) cells → AreCellsMade (IsLive e) cells
@@ -43,7 +43,7 @@ list_seen d e p cells v k live seen = seen_on IsLive table (λ (s : Diagram). s.
 pub live_on : (d e : Diagram) (cells : Cells) → Keeps d e → AreLiveCells d cells → AreLiveCells e cells
 live_on d e cells k live = record { current = list_kept d e cells.current.items k live.current; next = list_kept d e cells.next.items k live.next }
 
-pub cells_on : (c : Case) (d e : Diagram) (p : Problem) (cells : Cells) → Keeps d e → AreLiveCells d cells → AreCellsOf c d p cells → AreCellsOf c e p cells
+pub cells_on : (c : PosedCase) (d e : Diagram) (p : Problem) (cells : Cells) → Keeps d e → AreLiveCells d cells → AreCellsOf c d p cells → AreCellsOf c e p cells
 cells_on c d e p cells k live are = record {
   current = list_seen d e p cells.current.items (view_at c false) k live.current are.current;
   next = list_seen d e p cells.next.items (view_at c true) k live.next are.next;
@@ -76,7 +76,7 @@ module _ {E : Type 0} (d e : Diagram) (p : Problem) (demand : Demand) where
 
 -- ---- the target
 
-target_is : (p : Problem) (c : Case) → p ≡ written c → p.target ≡ written_demand c.problem.world.classes c.problem.target
+target_is : (p : Problem) (c : PosedCase) → p ≡ written c → p.target ≡ written_demand c.problem.world.classes c.problem.target
 unfolding written
 target_is p c is = ap (λ (q : Problem). q.target) is
 
@@ -106,13 +106,13 @@ pub guard_means : {E : Type 0} (d e : Diagram) (p : Problem) (cells : List (Cell
 guard_means d e p cells g (Ok r) says = λ c is well next seen h a. says c.problem (state_at c next) (seen_state c well d p next cells seen) (is_guard c well p is g h) a
 guard_means d e p cells g (Err x) says = tt
 
-pub no_guards : (c : Case) (s : AbsState) (gs : List Guard) (z : Bool) → gs ≡ [] → z ≡ true → z ≡ list_all (may_hold c.problem s) gs
+pub no_guards : (c : PosedCase) (s : AbsState) (gs : List Guard) (z : Bool) → gs ≡ [] → z ≡ true → z ≡ list_all (may_hold c.problem s) gs
 no_guards c s gs z none is = is ∙ sym (ap (λ (hs : List Guard). list_all (may_hold c.problem s) hs) none)
 
-pub one_guard : (c : Case) (s : AbsState) (gs others : List Guard) (g : Guard) (x y z : Bool) → gs ≡ g ∷ others → x ≡ may_hold c.problem s g → y ≡ list_all (may_hold c.problem s) others → z ≡ (x && y) → z ≡ list_all (may_hold c.problem s) gs
+pub one_guard : (c : PosedCase) (s : AbsState) (gs others : List Guard) (g : Guard) (x y z : Bool) → gs ≡ g ∷ others → x ≡ may_hold c.problem s g → y ≡ list_all (may_hold c.problem s) others → z ≡ (x && y) → z ≡ list_all (may_hold c.problem s) gs
 one_guard c s gs others g x y z e ex ey ez = ez ∙ ap (λ (b : Bool). b && y) ex ∙ ap (λ (b : Bool). may_hold c.problem s g && b) ey ∙ sym (ap (λ (hs : List Guard). list_all (may_hold c.problem s) hs) e)
 
-pub guards_are : (p : Problem) (c : Case) → p ≡ written c → p.guards ≡ c.problem.guards
+pub guards_are : (p : Problem) (c : PosedCase) → p ≡ written c → p.guards ≡ c.problem.guards
 unfolding written
 guards_are p c is = ap (λ (q : Problem). q.guards) is
 
@@ -149,8 +149,8 @@ pub target_says : {E : Type 0} (d e : Diagram) (p : Problem) (cells : Cells) (r 
 target_says d e p cells (Ok r) says = λ c is well are a. says c is well are.current are.next a
 target_says d e p cells (Err x) says = tt
 
-pub first_guard : (c : Case) (gs others : List Guard) (g : Guard) → gs ≡ g ∷ others → ((h : Guard) → Has gs h → Has c.problem.guards h) → Has c.problem.guards g
+pub first_guard : (c : PosedCase) (gs others : List Guard) (g : Guard) → gs ≡ g ∷ others → ((h : Guard) → Has gs h → Has c.problem.guards h) → Has c.problem.guards g
 first_guard c gs others g e among = among g (subst (λ (hs : List Guard). Has hs g) (sym e) first)
 
-pub later_guard : (c : Case) (gs others : List Guard) (g : Guard) → gs ≡ g ∷ others → ((h : Guard) → Has gs h → Has c.problem.guards h) → (h : Guard) → Has others h → Has c.problem.guards h
+pub later_guard : (c : PosedCase) (gs others : List Guard) (g : Guard) → gs ≡ g ∷ others → ((h : Guard) → Has gs h → Has c.problem.guards h) → (h : Guard) → Has others h → Has c.problem.guards h
 later_guard c gs others g e among h m = among h (subst (λ (hs : List Guard). Has hs h) (sym e) (later m))

@@ -2,7 +2,7 @@
 use Rattle.std.proofs.Common.{◌≡◌, ℕ, List, [], ◌∷◌, map, Bool, true, false, ◌&&◌, ◌||◌, if◌then◌else◌, refl, sym, ap, subst, ◌∙◌, inl, inr, zero, suc, ◌+◌, ◌<◌, ◌≤◌, length, drop, get_or, arith}
 use Rattle.std.specs.List.{list_any, slice_get}
 use Rattle.std.proofs.Math.Seq.{drop-cons}
-use Rattle.smv_core.specs.Flat.{Numbered}
+use Rattle.smv_core.specs.FlatMeaning.{Numbered}
 use Rattle.smv_core.specs.declared.flat.Class.{Class}
 use Rattle.smv_core.specs.declared.flat.Element.{Element}
 use Rattle.law_obligations.specs.Sets.{Has, first, later}
@@ -14,7 +14,7 @@ use Rattle.law_obligations.proofs.Tests.{true_or_false}
 use Rattle.law_obligations.specs.Cones.{AbsElement, element, same_element}
 use Rattle.law_obligations.proofs.Lookups.{find-some}
 use Rattle.law_obligations.proofs.ConeFacts.{same_element-itself, same_element-family, same_element-indexes}
-use Rattle.law_obligations.specs.Readings.{Case, Slot, slots}
+use Rattle.law_obligations.specs.Readings.{PosedCase, Slot, slots}
 use Rattle.law_obligations.proofs.ReadBack.{found, slot_element}
 use Rattle.law_reports.specs.CaseLists.{defines, is_claim, is_by_next, those_of}
 use Rattle.smv_spots.specs.declared.spots.Spot.{Spot}
@@ -31,7 +31,7 @@ use Rattle.smv_encode.specs.Encoded.{IsKept}
 use Rattle.smv_encode.specs.ChosenDemands.{is_held, is_of, is_moving}
 use Rattle.smv_encode.specs.Parts.{AreDemands}
 
-module _ (c : Case) (well : IsWellFormed c) where
+module _ (c : PosedCase) (well : IsWellFormed c) where
   pub written_once : (x y : AbsElement) → Has c.elements x → Has c.elements y → written_element x ≡ written_element y → x ≡ y
   written_once x y hx hy e =
       let family : x.family ≡ y.family = ap (λ (z : Element). z.family) e in

@@ -14,7 +14,7 @@ use Rattle.law_obligations.specs.Cones.{AbsElement, element, same_element, same_
 use Rattle.law_obligations.proofs.ConeFacts.{same_element-itself, same_element-family, same_element-indexes}
 use Rattle.law_obligations.specs.Bits.{Bits}
 use Rattle.law_obligations.specs.Codes.{bits_for, code_from, value_of_code}
-use Rattle.law_obligations.specs.Readings.{Case, Slot, values_in, values_of, bits_of, slots_from, is_value, state_bits, reading}
+use Rattle.law_obligations.specs.Readings.{PosedCase, Slot, values_in, values_of, bits_of, slots_from, is_value, state_bits, reading}
 use Rattle.law_obligations.proofs.ReadBack.{reads_slot}
 use Rattle.law_obligations.proofs.Codes.{bits_are}
 use Rattle.law_worlds.proofs.Filled.{case_filled}
@@ -55,7 +55,7 @@ family_counted : (w : World) (o : Option Family) → count_for (map (λ (l : Lis
 family_counted w None = refl
 family_counted w (Some f) = sym (values-counted w f.value)
 
-module _ (p : Problem) (c : Case) (is : p ≡ written c) where
+module _ (p : Problem) (c : PosedCase) (is : p ≡ written c) where
   pub count_is : (family : ℕ) → count_for p.lists p.types (slice_get p.families family) ≡ length (values_in c.problem.world (slice_get c.problem.world.classes.families family))
   unfolding written
   count_is family = ap (λ (q : Problem). count_for q.lists q.types (slice_get q.families family)) is ∙ family_counted c.problem.world (slice_get c.problem.world.classes.families family)
@@ -94,7 +94,7 @@ module _ (p : Problem) (c : Case) (is : p ≡ written c) where
 
 -- ---- cells stay those of their elements
 
-pub coded_kept : (c : Case) (d e : Diagram) (next : Bool) (bit : ℕ) (x : AbsElement) (cell : Cell Ref) → Keeps d e → AreOffersMade (IsLive d) cell.values → IsCoded c d next bit x cell → IsCoded c e next bit x cell
+pub coded_kept : (c : PosedCase) (d e : Diagram) (next : Bool) (bit : ℕ) (x : AbsElement) (cell : Cell Ref) → Keeps d e → AreOffersMade (IsLive d) cell.values → IsCoded c d next bit x cell → IsCoded c e next bit x cell
 coded_kept c d e next bit x cell k made h = record {
   family = h.family;
   indexes = h.indexes;
@@ -103,7 +103,7 @@ coded_kept c d e next bit x cell k made h = record {
 
 -- ---- each of them is the cell of a slot
 
-has_slot : (c : Case) (d : Diagram) (next : Bool) (b : ℕ) (xs : List AbsElement) (cells : List (Cell Ref)) → AreCoded c d next b xs cells → (cell : Cell Ref) → Has cells cell →
+has_slot : (c : PosedCase) (d : Diagram) (next : Bool) (b : ℕ) (xs : List AbsElement) (cells : List (Cell Ref)) → AreCoded c d next b xs cells → (cell : Cell Ref) → Has cells cell →
     (slot : Slot) × Has (slots_from c.problem.world b xs) slot × IsCoded c d next slot.bit slot.element cell
 has_slot c d next b [] [] are cell h = elim h [ ]
 has_slot c d next b [] (y ∷ cells) are cell h = absurd are
@@ -125,7 +125,7 @@ same_turned x y = elim (true_or_false (same_element x y)) [
   ]
 ]
 
-cells_of_elements : (c : Case) (d : Diagram) (next : Bool) (b : ℕ) (xs : List AbsElement) (cells : List (Cell Ref)) → AreCoded c d next b xs cells → (family : ℕ) (ps : List Place) →
+cells_of_elements : (c : PosedCase) (d : Diagram) (next : Bool) (b : ℕ) (xs : List AbsElement) (cells : List (Cell Ref)) → AreCoded c d next b xs cells → (family : ℕ) (ps : List Place) →
     list_any (same_element (element family ps)) xs ≡ list_any (is_cell_of c.problem.world.classes family ps) cells
 cells_of_elements c d next b [] [] are family ps = refl
 cells_of_elements c d next b [] (y ∷ cells) are family ps = absurd are
@@ -140,14 +140,14 @@ cells_of_elements c d next b (x ∷ xs) (y ∷ cells) are family ps =
 
 -- ---- so they are seen
 
-pub case_view : (c : Case) (next : Bool) → IsWellFormed c → IsView (view_at c next)
+pub case_view : (c : PosedCase) (next : Bool) → IsWellFormed c → IsView (view_at c next)
 case_view c next well = record { filled = λ a e b. case_filled c well (state_at c next a) e b }
 
 code_is : (next : Bool) (bit width : ℕ) (a : ℕ → Bool) → code_at next bit width a ≡ code_from (bits_at next a) bit width
 unfolding code_at
 code_is next bit width a = refl
 
-pub coded_seen : (c : Case) (d : Diagram) (next : Bool) (p : Problem) (cells : List (Cell Ref)) → IsWellFormed c → IsWorldOf p c.problem.world → AreCoded c d next 0 c.elements cells → IsSeen table d p cells (view_at c next)
+pub coded_seen : (c : PosedCase) (d : Diagram) (next : Bool) (p : Problem) (cells : List (Cell Ref)) → IsWellFormed c → IsWorldOf p c.problem.world → AreCoded c d next 0 c.elements cells → IsSeen table d p cells (view_at c next)
 coded_seen c d next p cells well world are = record {
   view = case_view c next well;
   world = world;
@@ -167,7 +167,7 @@ coded_seen c d next p cells well world are = record {
 
 -- ---- "the code is that of a value"
 
-pub value_is : (p : Problem) (c : Case) (is : p ≡ written c) (next : Bool) (bit width count family : ℕ) → width ≡ bits_of_family p.families p.lists p.types family → count ≡ count_for p.lists p.types (slice_get p.families family) → (x : AbsElement) → x.family ≡ family → (a : ℕ → Bool)
+pub value_is : (p : Problem) (c : PosedCase) (is : p ≡ written c) (next : Bool) (bit width count family : ℕ) → width ≡ bits_of_family p.families p.lists p.types family → count ≡ count_for p.lists p.types (slice_get p.families family) → (x : AbsElement) → x.family ≡ family → (a : ℕ → Bool)
     → nat_lt (code_at next bit width a) count ≡ is_value c.problem.world (bits_at next a) (record { element = x; bit = bit })
 unfolding code_at
 value_is p c is next bit width count family wide many x same a =
@@ -177,7 +177,7 @@ value_is p c is next bit width count family wide many x same a =
 
 -- ---- what the calls need
 
-pub problem_world : (p : Problem) (c : Case) → p ≡ written c → IsWellFormed c → IsWorldOf p c.problem.world
+pub problem_world : (p : Problem) (c : PosedCase) → p ≡ written c → IsWellFormed c → IsWorldOf p c.problem.world
 problem_world p c is well = subst (λ (q : Problem). IsWorldOf q c.problem.world) (sym is) (world_of_case c well)
 
 -- the bits of a family are few, and they have a code for each of its values
@@ -198,7 +198,7 @@ spots_counted p (c, is, well) family spots values =
 
 -- ---- indexes
 
-index_types : (c : Case) → IsWellFormed c → (family : ℕ) (t : Simple) → Has (over_of (slice_get c.problem.world.classes.families family)) t → IsIndexType t
+index_types : (c : PosedCase) → IsWellFormed c → (family : ℕ) (t : Simple) → Has (over_of (slice_get c.problem.world.classes.families family)) t → IsIndexType t
 index_types c well family t h = by (slice_get c.problem.world.classes.families family) refl h
   where
     by : (o : Option Family) → slice_get c.problem.world.classes.families family ≡ o → Has (over_of o) t → IsIndexType t
@@ -206,10 +206,10 @@ index_types c well family t h = by (slice_get c.problem.world.classes.families f
     by (Some f) e h = well.index_types f (get_Has c.problem.world.classes.families family f e) t h
 
 -- an element's indexes, by how they are written
-pub indexes_back : (c : Case) → IsWellFormed c → (x : AbsElement) → Has c.elements x → map (place_in c.problem.world.classes) (class_spots (over_of (slice_get c.problem.world.classes.families x.family)) (map written_class x.indexes)) ≡ x.indexes
+pub indexes_back : (c : PosedCase) → IsWellFormed c → (x : AbsElement) → Has c.elements x → map (place_in c.problem.world.classes) (class_spots (over_of (slice_get c.problem.world.classes.families x.family)) (map written_class x.indexes)) ≡ x.indexes
 indexes_back c well x h = classes_placed c.problem.world (over_of (slice_get c.problem.world.classes.families x.family)) x.indexes (index_types c well x.family) (well.indexes x h)
 
-pub placed_indexes : (p : Problem) (c : Case) → p ≡ written c → IsWellFormed c → (x : AbsElement) (x' : Element) → Has c.elements x → x' ≡ written_element x → (spots : List Spot) → spots ≡ class_spots (over_of (slice_get p.families x'.family)) x'.indexes → map (place_in c.problem.world.classes) spots ≡ x.indexes
+pub placed_indexes : (p : Problem) (c : PosedCase) → p ≡ written c → IsWellFormed c → (x : AbsElement) (x' : Element) → Has c.elements x → x' ≡ written_element x → (spots : List Spot) → spots ≡ class_spots (over_of (slice_get p.families x'.family)) x'.indexes → map (place_in c.problem.world.classes) spots ≡ x.indexes
 unfolding written
 placed_indexes p c is well x x' h e spots at =
     ap (map (place_in c.problem.world.classes)) (at
@@ -262,7 +262,7 @@ coded_more p d e next bit width elements others x' old mid new cell is pushed k 
     tail_is : {u v : Element} {us vs : List Element} → u ∷ us ≡ v ∷ vs → us ≡ vs
     tail_is e = cc
 
-    by : (c : Case) → p ≡ written c → IsWellFormed c → (xs : List AbsElement) → AreAmong c.elements xs → x' ∷ others ≡ map written_element xs → AreCoded c e next bit xs (cell ∷ more.0)
+    by : (c : PosedCase) → p ≡ written c → IsWellFormed c → (xs : List AbsElement) → AreAmong c.elements xs → x' ∷ others ≡ map written_element xs → AreCoded c e next bit xs (cell ∷ more.0)
     by c same well [] among f = absurd (cc)
     by c same well (x ∷ xs) among f =
         let same_width : width ≡ bits_of c.problem.world x = wide ∙ ap (λ (y : Element). bits_of_family p.families p.lists p.types y.family) (head_is f) ∙ width_is p c same x in (

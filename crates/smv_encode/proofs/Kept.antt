@@ -4,7 +4,7 @@ use Rattle.std.proofs.lemmas.Bool.{cases_lt}
 use Rattle.bdd_store.specs.declared.Ref.{Ref}
 use Rattle.bdd_store.specs.declared.chains.Node.{Node}
 use Rattle.bdd_store.specs.Graph.{var_at, Live, step, walk, below, Reduced, with_at}
-use Rattle.bdd_store.specs.Diagram.{Diagram, IsLive, IsSound, table, first_var, Reaches, Keeps}
+use Rattle.bdd_store.specs.Diagram.{Diagram, IsLive, IsReduced, table, first_var, Reaches, Keeps}
 use Rattle.bdd_store.proofs.Walks.{step_past, step_live}
 use Rattle.bdd_store.proofs.Canonical.{walks_alike}
 use Rattle.bdd_store.proofs.Tables.{walk_branch}
@@ -55,7 +55,7 @@ module _ (n : ℕ) (ns ms : List Node) (old : Reduced n ns) (new : Reduced n ms)
 
 -- ---- the law
 
-module _ (d e : Diagram) (old : IsSound d) (new : IsSound e) (k : KeepsTables d e) where
+module _ (d e : Diagram) (old : IsReduced d) (new : IsReduced e) (k : KeepsTables d e) where
   within : (c : Diagram) (r : Ref) → IsLive c r → first_var c r ≤ c.vars
   unfolding IsLive first_var
   within c r is = is.1
@@ -70,7 +70,7 @@ module _ (d e : Diagram) (old : IsSound d) (new : IsSound e) (k : KeepsTables d 
       omega arith
 
   below_kept : (f : Ref) → IsLive d f → below e.nodes e.vars 0 f.place ≡ below d.nodes d.vars 0 f.place
-  unfolding IsLive IsSound table first_var
+  unfolding IsLive IsReduced table first_var
   below_kept f is =
       let ref : ℕ → Ref = λ p. record { place = p } in
       ap (λ (n : ℕ). below e.nodes n 0 f.place) k.vars

@@ -5,7 +5,7 @@ use Rattle.std.proofs.lemmas.List.{append-nil}
 use Rattle.std.proofs.Math.ListN.{get_or-map}
 use Rattle.std.proofs.Math.Seq.{drop-cons}
 use Rattle.smv_core.specs.Values.{number}
-use Rattle.smv_core.specs.Flat.{Numbered}
+use Rattle.smv_core.specs.FlatMeaning.{Numbered}
 use Rattle.law_obligations.specs.Places.{Place, named, AbsOutcome}
 use Rattle.law_obligations.specs.Codes.{value_of_code}
 use Rattle.smv_spots.specs.declared.spots.Spot.{Spot}

@@ -17,7 +17,7 @@ use Rattle.law_obligations.specs.Cones.{AbsElement, element, same_element, kept}
 use Rattle.law_obligations.proofs.Lookups.{find-some}
 use Rattle.law_obligations.proofs.ConeFacts.{same_element-itself, same_element-family}
 use Rattle.law_obligations.specs.Bits.{Bits}
-use Rattle.law_obligations.specs.Readings.{Case, Slot, slots, reading}
+use Rattle.law_obligations.specs.Readings.{PosedCase, Slot, slots, reading}
 use Rattle.law_obligations.proofs.ReadBack.{found, slot_element, reading_is_state}
 use Rattle.law_reports.specs.CaseLists.{old_state, new_state}
 use Rattle.smv_problem.specs.declared.problem.Problem.{Problem}
@@ -31,7 +31,7 @@ use Rattle.smv_encode.specs.Coded.{state_at, view_at}
 use Rattle.smv_walks.specs.Demands.{view_of, HaveValues, AreRead, IsDemand, IsTargetOf, IsGuard}
 use Rattle.smv_encode.specs.Encoded.{IsKept}
 
-module _ (c : Case) (well : IsWellFormed c) where
+module _ (c : PosedCase) (well : IsWellFormed c) where
   -- ---- values
 
   some_family : (family : ℕ) (ps : List Place) → c.problem.kept family ps ≡ true → (f : Family) × (slice_get c.problem.world.classes.families family ≡ Some f)

@@ -6,7 +6,7 @@ use Rattle.law_obligations.specs.Obligations.{Demanded, defined, holds}
 use Rattle.law_obligations.proofs.Members.{any-found}
 use Rattle.law_obligations.specs.Cones.{AbsElement, element, same_element}
 use Rattle.law_obligations.proofs.ConeFacts.{same_element-itself}
-use Rattle.law_obligations.specs.Readings.{Case, Slot, slots, state_bits}
+use Rattle.law_obligations.specs.Readings.{PosedCase, Slot, slots, state_bits}
 use Rattle.law_reports.specs.CaseLists.{those_of, moves, moving_first, claims, element_first, element_step, met_first, met_step, before_in_step, case_lists}
 use Rattle.law_reports.proofs.Below.{are_lists}
 use Rattle.bdd_store.specs.declared.Ref.{Ref}
@@ -27,7 +27,7 @@ use Rattle.smv_encode.proofs.Adds.{adds_then, kept_functions}
 
 -- ---- the elements and the demands of a case
 
-module _ (p : Problem) (c : Case) (is : p ≡ written c) where
+module _ (p : Problem) (c : PosedCase) (is : p ≡ written c) where
   pub elements_are : AreElements c c.elements p.elements
   unfolding written
   elements_are = record { written = ap (λ (q : Problem). q.elements) is; among = λ x h. h }
@@ -89,7 +89,7 @@ moving_turns ds ss f gs =
     sym (append_assoc (map f (filter (moves ds) ss)) (map f (filter (λ slot. not (moves ds slot)) ss)) gs)
     ∙ ap (λ (xs : List Function). xs ++ gs) (sym (map-append f (filter (moves ds) ss) (filter (λ slot. not (moves ds slot)) ss)))
 
-pub before_turns : (c : Case) (m : Demanded → Function) →
+pub before_turns : (c : PosedCase) (m : Demanded → Function) →
     map m (flat_map (λ (slot : Slot). those_of c.problem.before slot.element) (filter (is_turn c.problem.before turn.Moving) (slots c)))
     ++ (map m (flat_map (λ (slot : Slot). those_of c.problem.before slot.element) (filter (is_turn c.problem.before turn.Others) (slots c))) ++ map m (claims c c.problem.before))
     ≡ map m (before_in_step c)
@@ -103,7 +103,7 @@ before_turns c m =
 
 -- ---- all lists
 
-pub lists_are : (c : Case) (d : Diagram) (rel : Rel) → map (table d) rel.now_first.items ≡ map (element_first c) (slots c) ++ map (met_first c) (claims c c.problem.now) → map (table d) rel.before_first.items ≡ map (met_first c) c.problem.before
+pub lists_are : (c : PosedCase) (d : Diagram) (rel : Rel) → map (table d) rel.now_first.items ≡ map (element_first c) (slots c) ++ map (met_first c) (claims c c.problem.now) → map (table d) rel.before_first.items ≡ map (met_first c) c.problem.before
     → table d rel.broken_first ≡ broken_at c false → map (table d) rel.now_step.items ≡ map (element_step c) (moving_first c.problem.now (slots c)) ++ map (met_step c) (claims c c.problem.now)
     → map (table d) rel.before_step.items ≡ map (met_step c) (before_in_step c) → table d rel.broken_step ≡ broken_at c true → rel.bits ≡ state_bits c → lists_of d rel ≡ case_lists c
 unfolding lists_of case_lists
@@ -153,5 +153,5 @@ later_one d e r f k live is = (λ i a. k.tables r live a i) ∙ is
 pub no_refs : (d : Diagram) (rs : List Ref) → rs ≡ [] → AreLive d rs
 no_refs d rs e = subst (AreLive d) (sym e) (live_none d)
 
-pub elements_shown : (c : Case) (xs : List AbsElement) (elements shown : List Element) → shown ≡ elements → AreElements c xs elements → AreElements c xs shown
+pub elements_shown : (c : PosedCase) (xs : List AbsElement) (elements shown : List Element) → shown ≡ elements → AreElements c xs elements → AreElements c xs shown
 elements_shown c xs elements shown e h = subst (AreElements c xs) (sym e) h

@@ -6,7 +6,7 @@ use Rattle.law_obligations.specs.Places.{AbsOutcome}
 use Rattle.law_obligations.specs.May.{AbsState}
 use Rattle.law_obligations.specs.Cones.{AbsElement}
 use Rattle.law_obligations.specs.Codes.{value_of_code}
-use Rattle.law_obligations.specs.Readings.{Case, bits_of, values_of, reading}
+use Rattle.law_obligations.specs.Readings.{PosedCase, bits_of, values_of, reading}
 use Rattle.smv_spots.specs.declared.spots.Spot.{Spot}
 use Rattle.smv_spots.specs.Spots.{place_in}
 use Rattle.smv_problem.specs.declared.problem.Problem.{Problem}
@@ -20,11 +20,11 @@ use Rattle.smv_cells.specs.declared.cells.Cell.{Cell}
 use Rattle.smv_cells.specs.Seen.{View}
 
 -- the state that the current bits of an assignment are read as, or that of the next bits
-abbrev pub state_at : Case → Bool → (ℕ → Bool) → AbsState
+abbrev pub state_at : PosedCase → Bool → (ℕ → Bool) → AbsState
 state_at c next a = reading c (bits_at next a)
 
 -- a case in these states
-abbrev pub view_at : Case → Bool → View
+abbrev pub view_at : PosedCase → Bool → View
 view_at c next = record { world = c.problem.world; kept = c.problem.kept; state = state_at c next }
 
 -- values, each under its condition
@@ -40,7 +40,7 @@ HaveValues p elements = (x : Element) → Has elements x → 1 ≤ count_for p.l
 abbrev pub AreAmong : List AbsElement → List AbsElement → Type 0
 AreAmong all xs = (x : AbsElement) → Has xs x → Has all x
 
-module _ (c : Case) (d : Diagram) (next : Bool) where
+module _ (c : PosedCase) (d : Diagram) (next : Bool) where
   -- the cell of an element, whose value is that of its code from this bit on
   pub record IsCoded (bit : ℕ) (x : AbsElement) (cell : Cell Ref) : Type 0 where
     pub family : cell.family ≡ x.family

@@ -3,7 +3,7 @@ use Rattle.std.specs.Prelude.{◌≡◌, Some, None, Bool, true, false}
 use Rattle.bdd_store.specs.Diagram.{Diagram, IsLive, table}
 use Rattle.bdd_ops.specs.Functions.{Function}
 use Rattle.law_obligations.specs.Obligations.{Demanded, defined, holds, obligation}
-use Rattle.law_obligations.specs.Readings.{Case}
+use Rattle.law_obligations.specs.Readings.{PosedCase}
 use Rattle.law_reports.specs.CaseLists.{old_state, new_state, met_first, met_step}
 use Rattle.smv_problem.specs.declared.problem.Problem.{Problem}
 use Rattle.smv_cells.specs.Cells.{AreCellsMade}
@@ -14,17 +14,17 @@ use Rattle.smv_encode.specs.declared.cells.Cells.{Cells}
 use Rattle.smv_encode.specs.declared.cells.CaseKnown.{CaseKnown}
 
 -- a demand is met: at time 0, or in a step
-abbrev pub met_at : Case → Bool → Demanded → Function
+abbrev pub met_at : PosedCase → Bool → Demanded → Function
 met_at c false demand = met_first c demand
 met_at c true demand = met_step c demand
 
 -- the target is broken, and each guard may hold
-abbrev pub broken_at : Case → Bool → Function
+abbrev pub broken_at : PosedCase → Bool → Function
 broken_at c false a = (obligation c.problem).broken None (old_state c a)
 broken_at c true a = (obligation c.problem).broken (Some (old_state c a)) (new_state c a)
 
 -- the element of a definition is kept; of a claim nothing is asked
-abbrev pub IsKept : Case → Demanded → Type 0
+abbrev pub IsKept : PosedCase → Demanded → Type 0
 IsKept c (defined def indexes) = c.problem.kept def.family indexes ≡ true
 IsKept c (holds body b) = Unit {0}
 
@@ -34,7 +34,7 @@ pub record AreLiveCells (d : Diagram) (cells : Cells) : Type 0 where
   pub next : AreCellsMade (IsLive d) cells.next.items
 
 -- the cells of a case in the states of the current and of the next bits
-pub record AreCellsOf (c : Case) (d : Diagram) (p : Problem) (cells : Cells) : Type 0 where
+pub record AreCellsOf (c : PosedCase) (d : Diagram) (p : Problem) (cells : Cells) : Type 0 where
   pub current : IsSeen table d p cells.current.items (view_at c false)
   pub next : IsSeen table d p cells.next.items (view_at c true)
 

@@ -1,7 +1,7 @@
 -- The law of stores that keep tables.
 use Rattle.std.specs.Prelude.{◌≡◌, ℕ, Bool}
 use Rattle.bdd_store.specs.declared.Ref.{Ref}
-use Rattle.bdd_store.specs.Diagram.{Diagram, IsLive, IsSound, table, Keeps}
+use Rattle.bdd_store.specs.Diagram.{Diagram, IsLive, IsReduced, table, Keeps}
 
 -- each live Ref is live after, with its table, over the same variables
 pub record KeepsTables (old new : Diagram) : Type 0 where
@@ -11,4 +11,4 @@ pub record KeepsTables (old new : Diagram) : Type 0 where
 
 -- such a store keeps all of the earlier one: its nodes are those of the tables
 abbrev pub KeptTablesKeep : Type 0
-KeptTablesKeep = (old new : Diagram) → IsSound old → IsSound new → KeepsTables old new → Keeps old new
+KeptTablesKeep = (old new : Diagram) → IsReduced old → IsReduced new → KeepsTables old new → Keeps old new

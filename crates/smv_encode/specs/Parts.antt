@@ -7,7 +7,7 @@ use Rattle.smv_core.specs.declared.flat.Element.{Element}
 use Rattle.law_obligations.specs.Sets.{Has}
 use Rattle.law_obligations.specs.Obligations.{Demanded}
 use Rattle.law_obligations.specs.Cones.{AbsElement}
-use Rattle.law_obligations.specs.Readings.{Case, Slot}
+use Rattle.law_obligations.specs.Readings.{PosedCase, Slot}
 use Rattle.law_reports.specs.CaseLists.{moves, element_first, element_step}
 use Rattle.smv_problem.specs.declared.problem.Demand.{Demand}
 use Rattle.smv_problem.specs.Written.{written_demand, written_element}
@@ -17,13 +17,13 @@ use Rattle.smv_encode.specs.declared.elements.Turn.{Turn}
 use Rattle.smv_encode.specs.declared.elements.Turn.TheVariants as turn
 
 -- these are demands of a case, as they are written: each keeps the rules of kinds, and its element is kept
-pub record AreDemands (c : Case) (ds : List Demanded) (demands : List Demand) : Type 0 where
+pub record AreDemands (c : PosedCase) (ds : List Demanded) (demands : List Demand) : Type 0 where
   pub written : demands ≡ map (written_demand c.problem.world.classes) ds
   pub fit : (d : Demanded) → Has ds d → IsFit c d
   pub kept : (d : Demanded) → Has ds d → IsKept c d
 
 -- these are elements of a case, as they are written
-pub record AreElements (c : Case) (xs : List AbsElement) (elements : List Element) : Type 0 where
+pub record AreElements (c : PosedCase) (xs : List AbsElement) (elements : List Element) : Type 0 where
   pub written : elements ≡ map written_element xs
   pub among : (x : AbsElement) → Has xs x → Has c.elements x
 
@@ -32,7 +32,7 @@ abbrev pub AddsFunctions : Diagram → Diagram → List Ref → List Ref → Lis
 AddsFunctions d e old new more = map (table e) new ≡ map (table d) old ++ more
 
 -- the function of an element: at time 0, or in a step
-abbrev pub element_at : Case → Bool → Slot → Function
+abbrev pub element_at : PosedCase → Bool → Slot → Function
 element_at c false slot = element_first c slot
 element_at c true slot = element_step c slot
 

@@ -1,7 +1,7 @@
 // Which demands are those of claims or of an element, and which elements they move.
 ghost use Rattle.std.specs.Prelude.{◌≡◌, ◌&&◌, List, map, IfOk};
 ghost use Rattle.std.specs.List.{list_any};
-ghost use Rattle.smv_core.specs.Flat.{Numbered};
+ghost use Rattle.smv_core.specs.FlatMeaning.{Numbered};
 ghost use Rattle.law_obligations.specs.Sets.{Has};
 ghost use Rattle.law_obligations.specs.Obligations.{Demanded};
 ghost use Rattle.law_obligations.specs.Cones.{AbsElement};

@@ -19,7 +19,7 @@ use Rattle.law_obligations.proofs.Members.{any-found, any-some}
 use Rattle.law_obligations.proofs.OneOfEach.{get_Has}
 use Rattle.law_obligations.specs.Cones.{AbsElement, element, same_element}
 use Rattle.law_obligations.proofs.ConeFacts.{same_element-itself, same_element-family}
-use Rattle.law_obligations.specs.Readings.{Case}
+use Rattle.law_obligations.specs.Readings.{PosedCase}
 use Rattle.smv_problem.specs.declared.problem.Problem.{Problem}
 use Rattle.smv_problem.specs.declared.problem.Demand.{Demand}
 use Rattle.smv_problem.specs.Written.{written, written_demand, written_spot}
@@ -56,14 +56,14 @@ steady_at None a = refl
 steady_at (Some b) a = refl
 
 -- what is said of a demand at each assignment is said of the states
-pub plainly_said : (Of : oblig.Problem → Demanded → Type 0) (problem : Problem) (old : Option (List (Cell Bool))) (cells : List (Cell Bool)) (demand : Demand) (says : oblig.Problem → Option AbsState → AbsState → Demanded → Bool) (s t : Plain) (r : Bool) →
-    IsDemanded Of plainly s t problem old cells demand says r → (p : oblig.Problem) (before : Option AbsState) (now : AbsState) → AreReadBy problem old cells p before now → (d : Demanded) → Of p d → demand ≡ written_demand p.world.classes d → r ≡ says p before now d
+pub plainly_said : (Of : oblig.AbstractProblem → Demanded → Type 0) (problem : Problem) (old : Option (List (Cell Bool))) (cells : List (Cell Bool)) (demand : Demand) (says : oblig.AbstractProblem → Option AbsState → AbsState → Demanded → Bool) (s t : Plain) (r : Bool) →
+    IsDemanded Of plainly s t problem old cells demand says r → (p : oblig.AbstractProblem) (before : Option AbsState) (now : AbsState) → AreReadBy problem old cells p before now → (d : Demanded) → Of p d → demand ≡ written_demand p.world.classes d → r ≡ says p before now d
 unfolding IsDemanded
 plainly_said Of problem old cells demand says s t r is p before now read d of same = is p (steady before) (λ a. now) (read s) d of same (λ v. false) ∙ ap (λ b. says p b now d) (steady_at before (λ v. false))
 
 -- ---- demands of a well-formed case
 
-module _ (c : Case) (well : IsWellFormed c) where
+module _ (c : PosedCase) (well : IsWellFormed c) where
   kept_is : (x : AbsElement) → Has c.elements x → c.problem.kept x.family x.indexes ≡ true
   kept_is x h = ap (λ (k : Kept). k x.family x.indexes) well.is_case.are_kept ∙ any-found (same_element (element x.family x.indexes)) h (same_element-itself x)
 
@@ -138,10 +138,10 @@ module _ (c : Case) (well : IsWellFormed c) where
 -- ---- demands one after the other
 
 abbrev IsMetBy : Problem → Option (List (Cell Bool)) → List (Cell Bool) → Demand → Bool → Type 0
-IsMetBy problem old cells demand met = (p : oblig.Problem) (before : Option AbsState) (now : AbsState) → AreReadBy problem old cells p before now → (d : Demanded) → IsDemand p d → demand ≡ written_demand p.world.classes d → met ≡ is_met p before now d
+IsMetBy problem old cells demand met = (p : oblig.AbstractProblem) (before : Option AbsState) (now : AbsState) → AreReadBy problem old cells p before now → (d : Demanded) → IsDemand p d → demand ≡ written_demand p.world.classes d → met ≡ is_met p before now d
 
 abbrev AreMetBy : Problem → Option (List (Cell Bool)) → List (Cell Bool) → List Demand → Bool → Type 0
-AreMetBy problem old cells all met = (p : oblig.Problem) (before : Option AbsState) (now : AbsState) → AreReadBy problem old cells p before now → (ds : List Demanded) → ((d : Demanded) → Has ds d → IsDemand p d) → all ≡ map (written_demand p.world.classes) ds → met ≡ list_all (is_met p before now) ds
+AreMetBy problem old cells all met = (p : oblig.AbstractProblem) (before : Option AbsState) (now : AbsState) → AreReadBy problem old cells p before now → (ds : List Demanded) → ((d : Demanded) → Has ds d → IsDemand p d) → all ≡ map (written_demand p.world.classes) ds → met ≡ list_all (is_met p before now) ds
 
 head_is : {X : Type 0} {x y : X} {xs ys : List X} → x ∷ xs ≡ y ∷ ys → x ≡ y
 head_is e = cc
@@ -165,17 +165,17 @@ module _ (problem : Problem) (old : Option (List (Cell Bool))) (cells : List (Ce
 -- ---- guards one after the other
 
 abbrev IsGuardHeld : Problem → List (Cell Bool) → Guard → Bool → Type 0
-IsGuardHeld problem cells guard hold = (p : oblig.Problem) (now : AbsState) → IsNowBy problem cells p now → IsGuard p problem.bindings guard → hold ≡ may_hold p now guard
+IsGuardHeld problem cells guard hold = (p : oblig.AbstractProblem) (now : AbsState) → IsNowBy problem cells p now → IsGuard p problem.bindings guard → hold ≡ may_hold p now guard
 
 abbrev IsHeld : Problem → List (Cell Bool) → List Guard → Bool → Type 0
-IsHeld problem cells guards hold = (p : oblig.Problem) (now : AbsState) → IsNowBy problem cells p now → ((g : Guard) → Has guards g → IsGuard p problem.bindings g) → hold ≡ list_all (may_hold p now) guards
+IsHeld problem cells guards hold = (p : oblig.AbstractProblem) (now : AbsState) → IsNowBy problem cells p now → ((g : Guard) → Has guards g → IsGuard p problem.bindings g) → hold ≡ list_all (may_hold p now) guards
 
 pub guard_held : (problem : Problem) (cells : List (Cell Bool)) (guard : Guard) (s t : Plain) (hold : Bool) →
-    ((p : oblig.Problem) (now : (ℕ → Bool) → AbsState) → IsSeen plainly s problem cells (demands.view_of p now) → IsGuard p problem.bindings guard → (a : ℕ → Bool) → plainly t hold a ≡ may_hold p (now a) guard) → IsGuardHeld problem cells guard hold
+    ((p : oblig.AbstractProblem) (now : (ℕ → Bool) → AbsState) → IsSeen plainly s problem cells (demands.view_of p now) → IsGuard p problem.bindings guard → (a : ℕ → Bool) → plainly t hold a ≡ may_hold p (now a) guard) → IsGuardHeld problem cells guard hold
 guard_held problem cells guard s t hold is p now read g = is p (λ a. now) (read s) g (λ v. false)
 
 module _ (problem : Problem) (cells : List (Cell Bool)) (guards others : List Guard) (guard : Guard) (split : guards ≡ guard ∷ others) (hold : Bool) (is : IsGuardHeld problem cells guard hold) where
-  all_is : (p : oblig.Problem) (now : AbsState) → IsNowBy problem cells p now → ((g : Guard) → Has guards g → IsGuard p problem.bindings g) → hold ≡ may_hold p now guard
+  all_is : (p : oblig.AbstractProblem) (now : AbsState) → IsNowBy problem cells p now → ((g : Guard) → Has guards g → IsGuard p problem.bindings g) → hold ≡ may_hold p now guard
   all_is p now read each = is p now read (each guard (subst (λ gs. Has gs guard) (sym split) first))
 
   pub first_not_held : hold ≡ false → IsHeld problem cells guards false
@@ -187,7 +187,7 @@ module _ (problem : Problem) (cells : List (Cell Bool)) (guards others : List Gu
 
 -- ---- the obligation of a case
 
-held_is : (problem : Problem) (old : Option (List (Cell Bool))) (cells : List (Cell Bool)) (guards : List Guard) → guards ≡ problem.guards → (hold : Bool) → IsHeld problem cells guards hold → (c : Case) → problem ≡ written c → IsWellFormed c → (before : Option AbsState) (now : AbsState) → AreReadBy problem old cells c.problem before now →
+held_is : (problem : Problem) (old : Option (List (Cell Bool))) (cells : List (Cell Bool)) (guards : List Guard) → guards ≡ problem.guards → (hold : Bool) → IsHeld problem cells guards hold → (c : PosedCase) → problem ≡ written c → IsWellFormed c → (before : Option AbsState) (now : AbsState) → AreReadBy problem old cells c.problem before now →
     hold ≡ list_all (may_hold c.problem now) c.problem.guards
 held_is problem old cells guards same hold each c is well before now read =
     each c.problem now (λ s. (read s).now) (λ g h. guard_is c well problem is g (subst (λ gs. Has gs g) same h)) ∙ ap (list_all (may_hold c.problem now)) (same ∙ guards_are c well problem is)
@@ -199,7 +199,7 @@ not_held problem old cells guards same hold each f c is well before now read = a
 
 -- all may
 pub held_broken : (problem : Problem) (old : Option (List (Cell Bool))) (cells : List (Cell Bool)) (guards : List Guard) → guards ≡ problem.guards → (hold broken : Bool) → IsHeld problem cells guards hold → hold ≡ true →
-    ((p : oblig.Problem) (before : Option AbsState) (now : AbsState) → AreReadBy problem old cells p before now → (d : Demanded) → IsTargetOf p d → problem.target ≡ written_demand p.world.classes d → broken ≡ is_broken p before now d) →
+    ((p : oblig.AbstractProblem) (before : Option AbsState) (now : AbsState) → AreReadBy problem old cells p before now → (d : Demanded) → IsTargetOf p d → problem.target ≡ written_demand p.world.classes d → broken ≡ is_broken p before now d) →
     OfCases problem (λ c. (before : Option AbsState) (now : AbsState) → AreReadBy problem old cells c.problem before now → broken ≡ (obligation c.problem).broken before now)
 held_broken problem old cells guards same hold broken each t target c is well before now read =
     target c.problem before now read c.problem.target (the_target c well) (target_written c well problem is)

@@ -3,8 +3,8 @@ use Rattle.std.proofs.Common.{◌≡◌, ℕ, zero, suc, ◌+◌, ◌-◌, ◌�
 use Rattle.std.specs.List.{flat_map, slice_get, zip}
 use Rattle.smv_core.specs.Values.{number, constant, scalar, ordinal, Outcome, Truth, add, modulo, numbers_from, not_of, iff_of, conjunction, disjunction, implication}
 use Rattle.smv_core.specs.Values as values
-use Rattle.smv_core.specs.Flat as flat
-use Rattle.smv_core.specs.Flat.{simple_in}
+use Rattle.smv_core.specs.FlatMeaning as flat
+use Rattle.smv_core.specs.FlatMeaning.{simple_in}
 use Rattle.smv_core.specs.Outcome.{branch}
 use Rattle.smv_core.specs.declared.flat.Family.{Family}
 use Rattle.smv_core.specs.declared.flat.SetInfo.{SetInfo}
@@ -20,7 +20,7 @@ use Rattle.law_obligations.specs.Pictures.{IsAbsState}
 use Rattle.law_obligations.proofs.Members.{Has-cases, Has-from_map, Has-uncons}
 use Rattle.law_obligations.proofs.Spots.{numbers-Has}
 use Rattle.law_obligations.proofs.OneOfEach.{Has-from_flat_map, get_Has}
-use Rattle.law_obligations.specs.Readings.{Case}
+use Rattle.law_obligations.specs.Readings.{PosedCase}
 use Rattle.smv_problem.specs.WellFormed.{AreOf, IsWellFormed}
 
 -- a class or a rest below 256
@@ -195,7 +195,7 @@ rest_small beside.None n g small gaps h = elim h [ ]
 rest_small beside.One n g small gaps h = elim (Has-uncons h) [ inl e ↦ omega (arith, e) | inr k ↦ elim k [ ] ]
 rest_small beside.Gaps n g small gaps h = let b = numbers-Has 0 (n + 1) g h in let l = gaps refl in omega (arith, b, l)
 
-module _ (c : Case) (well : IsWellFormed c) where
+module _ (c : PosedCase) (well : IsWellFormed c) where
   abbrev w : World
   w = c.problem.world
 

@@ -8,7 +8,7 @@ use Rattle.law_obligations.specs.Pictures.{IsAbsState}
 use Rattle.law_obligations.specs.Circular.{is_violating_after}
 use Rattle.law_obligations.specs.Obligations.{Demanded, is_met, obligation}
 use Rattle.law_obligations.specs.Obligations as oblig
-use Rattle.law_obligations.specs.Readings.{Case}
+use Rattle.law_obligations.specs.Readings.{PosedCase}
 use Rattle.law_obligations.specs.CasePaths.{AreAbsStates, IsViolatingPath}
 use Rattle.smv_problem.specs.declared.problem.AbsState.{AbsState as StateData}
 use Rattle.smv_problem.specs.declared.problem.Problem.{Problem}
@@ -32,7 +32,7 @@ abbrev AreCellsOf : Problem → StateData → List (Cell Bool) → Type 0
 AreCellsOf p state cells = OfStates p state (λ c a. (s : Plain) → IsSeen plainly s p cells (view_of c a))
 
 abbrev AreMet : Problem → Option (List (Cell Bool)) → List (Cell Bool) → List Demand → Bool → Type 0
-AreMet p old cells demands met = (q : oblig.Problem) (before : Option AbsState) (now : AbsState) → AreReadBy p old cells q before now → (ds : List Demanded) → ((d : Demanded) → Has ds d → IsDemand q d) → demands ≡ map (written_demand q.world.classes) ds → met ≡ list_all (is_met q before now) ds
+AreMet p old cells demands met = (q : oblig.AbstractProblem) (before : Option AbsState) (now : AbsState) → AreReadBy p old cells q before now → (ds : List Demanded) → ((d : Demanded) → Has ds d → IsDemand q d) → demands ≡ map (written_demand q.world.classes) ds → met ≡ list_all (is_met q before now) ds
 
 abbrev IsBroken : Problem → Option (List (Cell Bool)) → List (Cell Bool) → Bool → Type 0
 IsBroken p old cells broken = OfCases p (λ c. (before : Option AbsState) (now : AbsState) → AreReadBy p old cells c.problem before now → broken ≡ (obligation c.problem).broken before now)
@@ -69,7 +69,7 @@ nothing_violates p old states e c is well before read (a ∷ path) all same = ab
 module _ (p : Problem) (old : Option (List (Cell Bool))) (states : List StateData) (state : StateData) (others : List StateData) (split : states ≡ state ∷ others) where
   -- what is so of a path that begins at a state
   by_first : (violates : Bool) →
-      ((c : Case) → p ≡ written c → IsWellFormed c → (before : Option AbsState) → IsBeforeBy p old c.problem before → (a : AbsState) (path : List AbsState) → IsAbsState c.problem.world c.problem.kept a → AreAbsStates c.problem path → state ≡ written_state c a → others ≡ map (written_state c) path → violates ≡ is_violating_after (obligation c.problem) before (a ∷ path)) →
+      ((c : PosedCase) → p ≡ written c → IsWellFormed c → (before : Option AbsState) → IsBeforeBy p old c.problem before → (a : AbsState) (path : List AbsState) → IsAbsState c.problem.world c.problem.kept a → AreAbsStates c.problem path → state ≡ written_state c a → others ≡ map (written_state c) path → violates ≡ is_violating_after (obligation c.problem) before (a ∷ path)) →
       Violates p old states violates
   by_first violates says c is well before read [] all same = absurd (clash (sym split ∙ same))
     where
@@ -85,17 +85,17 @@ module _ (p : Problem) (old : Option (List (Cell Bool))) (states : List StateDat
       clash e = cc
 
   module _ (cells : List (Cell Bool)) (seen : AreCellsOf p state cells) (met : Bool) (are_met : AreMet p old cells p.now met) where
-    read_by : (c : Case) → p ≡ written c → IsWellFormed c → (before : Option AbsState) → IsBeforeBy p old c.problem before → (a : AbsState) → IsAbsState c.problem.world c.problem.kept a → state ≡ written_state c a → AreReadBy p old cells c.problem before a
+    read_by : (c : PosedCase) → p ≡ written c → IsWellFormed c → (before : Option AbsState) → IsBeforeBy p old c.problem before → (a : AbsState) → IsAbsState c.problem.world c.problem.kept a → state ≡ written_state c a → AreReadBy p old cells c.problem before a
     read_by c is well before read a abs same = are_read c well p old cells before a read abs (seen c is well a abs same)
 
-    now_is : (c : Case) → p ≡ written c → IsWellFormed c → (before : Option AbsState) → IsBeforeBy p old c.problem before → (a : AbsState) → IsAbsState c.problem.world c.problem.kept a → state ≡ written_state c a → met ≡ (obligation c.problem).now before a
+    now_is : (c : PosedCase) → p ≡ written c → IsWellFormed c → (before : Option AbsState) → IsBeforeBy p old c.problem before → (a : AbsState) → IsAbsState c.problem.world c.problem.kept a → state ≡ written_state c a → met ≡ (obligation c.problem).now before a
     now_is c is well before read a abs same = are_met c.problem before a (read_by c is well before read a abs same) c.problem.now (now_demands c well) (now_written c well p is)
 
     -- a demand of now is not met
     pub not_now : met ≡ false → Violates p old states false
     not_now f = by_first false (λ c is well before read a path abs all same rest. at c before a path (sym f ∙ now_is c is well before read a abs same))
       where
-        at : (c : Case) (before : Option AbsState) (a : AbsState) (path : List AbsState) → false ≡ (obligation c.problem).now before a → false ≡ is_violating_after (obligation c.problem) before (a ∷ path)
+        at : (c : PosedCase) (before : Option AbsState) (a : AbsState) (path : List AbsState) → false ≡ (obligation c.problem).now before a → false ≡ is_violating_after (obligation c.problem) before (a ∷ path)
         at c before a [] e = ap (λ b. b && (obligation c.problem).broken before a) e
         at c before a (t ∷ path) e = ap (λ b. b && ((obligation c.problem).before before a && is_violating_after (obligation c.problem) (Some a) (t ∷ path))) e
 
@@ -104,7 +104,7 @@ module _ (p : Problem) (old : Option (List (Cell Bool))) (states : List StateDat
     last_broken m none broken is_broken = by_first broken (λ c is well before read a path abs all same rest.
         at c before a path (sym none ∙ rest) (is_broken c is well before a (read_by c is well before read a abs same)) (sym m ∙ now_is c is well before read a abs same))
       where
-        at : (c : Case) (before : Option AbsState) (a : AbsState) (path : List AbsState) → [] ≡ map (written_state c) path → broken ≡ (obligation c.problem).broken before a → true ≡ (obligation c.problem).now before a → broken ≡ is_violating_after (obligation c.problem) before (a ∷ path)
+        at : (c : PosedCase) (before : Option AbsState) (a : AbsState) (path : List AbsState) → [] ≡ map (written_state c) path → broken ≡ (obligation c.problem).broken before a → true ≡ (obligation c.problem).now before a → broken ≡ is_violating_after (obligation c.problem) before (a ∷ path)
         at c before a [] n e t = e ∙ ap (λ b. b && (obligation c.problem).broken before a) t
         at c before a (x ∷ path) n e t = absurd (clash n)
           where
@@ -112,10 +112,10 @@ module _ (p : Problem) (old : Option (List (Cell Bool))) (states : List StateDat
             clash e = cc
 
     module _ (m : met ≡ true) (some : others ≡ [] → ⊥) (before_met : Bool) (are_before : AreMet p old cells p.before before_met) where
-      before_is : (c : Case) → p ≡ written c → IsWellFormed c → (before : Option AbsState) → IsBeforeBy p old c.problem before → (a : AbsState) → IsAbsState c.problem.world c.problem.kept a → state ≡ written_state c a → before_met ≡ (obligation c.problem).before before a
+      before_is : (c : PosedCase) → p ≡ written c → IsWellFormed c → (before : Option AbsState) → IsBeforeBy p old c.problem before → (a : AbsState) → IsAbsState c.problem.world c.problem.kept a → state ≡ written_state c a → before_met ≡ (obligation c.problem).before before a
       before_is c is well before read a abs same = are_before c.problem before a (read_by c is well before read a abs same) c.problem.before (before_demands c well) (before_written c well p is)
 
-      after : (c : Case) (before : Option AbsState) (a : AbsState) (path : List AbsState) → others ≡ map (written_state c) path → true ≡ (obligation c.problem).now before a →
+      after : (c : PosedCase) (before : Option AbsState) (a : AbsState) (path : List AbsState) → others ≡ map (written_state c) path → true ≡ (obligation c.problem).now before a →
           ((obligation c.problem).before before a && is_violating_after (obligation c.problem) (Some a) path) ≡ is_violating_after (obligation c.problem) before (a ∷ path)
       after c before a [] rest t = absurd (some rest)
       after c before a (x ∷ path) rest t = ap (λ b. b && ((obligation c.problem).before before a && is_violating_after (obligation c.problem) (Some a) (x ∷ path))) t

@@ -4,7 +4,7 @@ use Rattle.law_obligations.specs.May.{AbsState}
 use Rattle.law_obligations.specs.Pictures.{IsAbsState}
 use Rattle.law_obligations.specs.Obligations.{Demanded, defined, holds, is_met, obligation}
 use Rattle.law_obligations.specs.Obligations as oblig
-use Rattle.law_obligations.specs.Readings.{Case}
+use Rattle.law_obligations.specs.Readings.{PosedCase}
 use Rattle.smv_problem.specs.declared.problem.Problem.{Problem}
 use Rattle.smv_problem.specs.declared.problem.Demand.{Demand}
 use Rattle.smv_problem.specs.declared.problem.AbsState.{AbsState as StateData}
@@ -30,23 +30,23 @@ abbrev pub AreCellsOf : Problem → StateData → List (Cell Bool) → Type 0
 AreCellsOf p state cells = OfStates p state (λ c a. (s : Plain) → IsSeen plainly s p cells (view_of c a))
 
 -- what cells read of states that are written so, at time 0 and later
-pub read_first : (p : Problem) (new : StateData) (cells : List (Cell Bool)) → AreCellsOf p new cells → (c : Case) → p ≡ written c → IsWellFormed c → (a : AbsState) → IsAbsState c.problem.world c.problem.kept a → new ≡ written_state c a →
+pub read_first : (p : Problem) (new : StateData) (cells : List (Cell Bool)) → AreCellsOf p new cells → (c : PosedCase) → p ≡ written c → IsWellFormed c → (a : AbsState) → IsAbsState c.problem.world c.problem.kept a → new ≡ written_state c a →
     (before : Option AbsState) → None ≡ written_before c before → (before ≡ None) × AreReadBy p None cells c.problem None a
 read_first p new cells seen c is well a abs same None e = (refl, are_read c well p None cells None a (λ s. tt) abs (seen c is well a abs same))
 read_first p new cells seen c is well a abs same (Some b) e = absurd (cc)
 
-pub read_later : (p : Problem) (old new : StateData) (olds cells : List (Cell Bool)) → AreCellsOf p old olds → AreCellsOf p new cells → (c : Case) → p ≡ written c → IsWellFormed c → (a : AbsState) → IsAbsState c.problem.world c.problem.kept a → new ≡ written_state c a →
+pub read_later : (p : Problem) (old new : StateData) (olds cells : List (Cell Bool)) → AreCellsOf p old olds → AreCellsOf p new cells → (c : PosedCase) → p ≡ written c → IsWellFormed c → (a : AbsState) → IsAbsState c.problem.world c.problem.kept a → new ≡ written_state c a →
     (before : Option AbsState) → IsBefore c before → Some old ≡ written_before c before → AreReadBy p (Some olds) cells c.problem before a
 read_later p old new olds cells seen_old seen c is well a abs same None abs_before e = absurd (cc)
 read_later p old new olds cells seen_old seen c is well a abs same (Some b) abs_before e =
     are_read c well p (Some olds) cells (Some b) a (is_before_by c well p olds b abs_before (seen_old c is well b abs_before (inner e))) abs (seen c is well a abs same)
 
-pub fit_kept : (c : Case) (well : IsWellFormed c) (d : Demanded) → IsFit c d → IsKept c.problem d → IsDemand c.problem d
+pub fit_kept : (c : PosedCase) (well : IsWellFormed c) (d : Demanded) → IsFit c d → IsKept c.problem d → IsDemand c.problem d
 fit_kept c well (defined def indexes) fit k = (k, types_of c well def.family, fit.3)
 fit_kept c well (holds body b) fit k = (well.set_types, fit.0, fit.2.are_of)
 
 abbrev IsMetBy : Problem → Option (List (Cell Bool)) → List (Cell Bool) → Demand → Bool → Type 0
-IsMetBy problem old cells demand met = (p : oblig.Problem) (before : Option AbsState) (now : AbsState) → AreReadBy problem old cells p before now → (d : Demanded) → IsDemand p d → demand ≡ written_demand p.world.classes d → met ≡ is_met p before now d
+IsMetBy problem old cells demand met = (p : oblig.AbstractProblem) (before : Option AbsState) (now : AbsState) → AreReadBy problem old cells p before now → (d : Demanded) → IsDemand p d → demand ≡ written_demand p.world.classes d → met ≡ is_met p before now d
 
 abbrev IsMet : Problem → Option StateData → StateData → Demand → Bool → Type 0
 IsMet p old new demand met = OfStates p new (λ c a. (before : Option AbsState) (d : Demanded) → IsBefore c before → old ≡ written_before c before → demand ≡ written_demand c.problem.world.classes d → IsFit c d → IsKept c.problem d → met ≡ is_met c.problem before a d)

@@ -4,7 +4,7 @@ use Rattle.std.specs.Prelude.{◌↔◌, IsTrue, unwrap_or}
 use Rattle.std.specs.List.{slice_get, list_any}
 use Rattle.std.proofs.lemmas.Bool.Decides.{nat_tests}
 use Rattle.smv_core.specs.Values.{Name, number, numbers_from}
-use Rattle.smv_core.specs.Flat.{Numbered}
+use Rattle.smv_core.specs.FlatMeaning.{Numbered}
 use Rattle.smv_core.specs.declared.flat.Simple.{Simple}
 use Rattle.smv_core.specs.declared.flat.Simple.TheVariants.{Range, Enum, Set}
 use Rattle.smv_core.specs.declared.flat.Family.{Family}
@@ -23,7 +23,7 @@ use Rattle.law_obligations.proofs.OneOfEach.{get_Has}
 use Rattle.law_obligations.specs.Cones.{AbsElement, element, same_places, same_element}
 use Rattle.law_obligations.proofs.ConeFacts.{same_element-itself, same_element-family, same_element-indexes}
 use Rattle.law_designs.specs.FlatKinds.{kind_of}
-use Rattle.law_obligations.specs.Readings.{Case}
+use Rattle.law_obligations.specs.Readings.{PosedCase}
 use Rattle.smv_spots.specs.Spots.{place_in, outcome_in, classes_of, rests_of, count_beside}
 use Rattle.smv_spots.proofs.TypeLaws.{numbers_beside}
 use Rattle.smv_problem.specs.declared.problem.AbsValue.{AbsValue}
@@ -141,7 +141,7 @@ or_none false = refl
 abbrev value_of : Numbered → AbsState → AbsElement → AbsValue
 value_of n a x = written_place n (kind_in (slice_get n.families x.family)) (a x.family x.indexes)
 
-module _ (c : Case) (well : IsWellFormed c) (p : Problem) (is : p ≡ written c) where
+module _ (c : PosedCase) (well : IsWellFormed c) (p : Problem) (is : p ≡ written c) where
   abbrev w : World
   w = c.problem.world
 

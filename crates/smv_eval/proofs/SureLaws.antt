@@ -1,18 +1,18 @@
 -- The target of an element that would have a value, and the values that are sure.
 use Rattle.std.proofs.Common.{◌≡◌, ℕ, zero, suc, ◌+◌, ◌<◌, ◌≤◌, List, [], ◌∷◌, ◌++◌, map, length, drop, get_or, Bool, true, false, not, ◌&&◌, ◌||◌, if◌then◌else◌, refl, sym, ap, subst, ◌∙◌, inl, inr, Option, Some, None, arith}
 use Rattle.std.specs.List.{filter, slice_get, list_any}
-use Rattle.smv_core.specs.Flat.{Numbered}
+use Rattle.smv_core.specs.FlatMeaning.{Numbered}
 use Rattle.smv_core.specs.declared.flat.Def.{Def}
 use Rattle.smv_core.specs.declared.flat.Element.{Element}
 use Rattle.smv_core.specs.declared.flat.Family.{Family}
-use Rattle.smv_core.specs.declared.flat.Flat.{Flat}
+use Rattle.smv_core.specs.declared.flat.DefBody.{DefBody}
 use Rattle.smv_core.specs.declared.flat.FlatExpr.{FlatExpr}
 use Rattle.smv_core.specs.declared.flat.Simple.{Simple}
 use Rattle.law_obligations.specs.Sets.{Has, first, later}
 use Rattle.law_obligations.specs.Places.{Place, World, same_place, is_among, AbsOutcome}
 use Rattle.law_obligations.specs.May.{AbsState, Kept}
 use Rattle.law_obligations.specs.Demands.{must_be, places_of_family}
-use Rattle.law_obligations.specs.Obligations.{Problem as Case, defined}
+use Rattle.law_obligations.specs.Obligations.{AbstractProblem as Case, defined}
 use Rattle.law_obligations.specs.Soundness.{over_of}
 use Rattle.law_obligations.proofs.Members.{Has-from_map, Has-uncons}
 use Rattle.law_obligations.proofs.Same.{same_place-is, is_among-Has}
@@ -160,7 +160,7 @@ world_of : (problem : Problem) (old : Option (List (Cell Bool))) (cells : List (
 unfolding demands.view_of
 world_of problem old cells s p before now read = (read s).now.world
 
-module _ (problem : Problem) (old : Option (List (Cell Bool))) (cells : List (Cell Bool)) (element : Element) (init next comb : Flat) where
+module _ (problem : Problem) (old : Option (List (Cell Bool))) (cells : List (Cell Bool)) (element : Element) (init next comb : DefBody) where
   abbrev pub AllowsSurely : Spot → Bool → Type 0
   AllowsSurely value sure = OfElement problem old cells element init next comb (λ p def indexes before now. is_among (every_of p def) (place_in p.world.classes value) ≡ true → sure ≡ is_sure p def indexes before now (place_in p.world.classes value))
 
@@ -227,15 +227,15 @@ list_is : (o : Option Family) → list_for o ≡ list_of (kind_in o)
 list_is None = refl
 list_is (Some f) = kind_list f.value
 
-places_narrow : (c : readings.Case) → IsWellFormed c → (o : Option Family) (p : Place) → Has (places_of_family c.problem.world c.problem.kept o) p → IsNarrow (Some p)
+places_narrow : (c : readings.PosedCase) → IsWellFormed c → (o : Option Family) (p : Place) → Has (places_of_family c.problem.world c.problem.kept o) p → IsNarrow (Some p)
 places_narrow c well None p h = elim h [ ]
 places_narrow c well (Some f) p h = type_narrow c well f.value p h
 
-families_are : (c : readings.Case) (p : Problem) → p ≡ written c → p.families ≡ c.problem.world.classes.families
+families_are : (c : readings.PosedCase) (p : Problem) → p ≡ written c → p.families ≡ c.problem.world.classes.families
 unfolding written
 families_are c p is = ap (λ (q : Problem). q.families) is
 
-pub values_said : (problem : Problem) (old : Option (List (Cell Bool))) (cells : List (Cell Bool)) (element : Element) (init next comb : Flat) (every sliced : List Spot) (offers given : List (Offer Bool)) (list : Option ℕ) (values : List AbsValue) →
+pub values_said : (problem : Problem) (old : Option (List (Cell Bool))) (cells : List (Cell Bool)) (element : Element) (init next comb : DefBody) (every sliced : List Spot) (offers given : List (Offer Bool)) (list : Option ℕ) (values : List AbsValue) →
     ArePlaces problem element.family every → sliced ≡ every → AreSure problem old cells element init next comb sliced offers → given ≡ offers → list ≡ list_for (slice_get problem.families element.family) → values ≡ with_offers problem list [] given →
     OfCases problem (λ c. (before : Option AbsState) (now : AbsState) → AreReadBy problem old cells c.problem before now → (def : Def) (indexes : List Place) → IsDemand c.problem (defined def indexes) → IsWritten element init next comb c.problem def indexes (λ a. now) → IsSetOf (sure_values c.problem def indexes before now) values)
 values_said problem old cells element init next comb every sliced offers given list values are_places is_sliced sure is_given is_list is_values c is well before now read def indexes demand asked =
@@ -262,10 +262,10 @@ abbrev pub AreSureBy : Problem → Option (List (Cell Bool)) → List (Cell Bool
 AreSureBy problem old cells demand values = OfCases problem (λ c. (before : Option AbsState) (now : AbsState) → AreReadBy problem old cells c.problem before now → (def : Def) (indexes : List Place) → demand ≡ written_demand c.problem.world.classes (defined def indexes) →
     IsFit c (defined def indexes) → IsKept c.problem (defined def indexes) → IsSetOf (sure_values c.problem def indexes before now) values)
 
-written_inner : {element other : Element} {a b c d e f : Flat} → Defined element a b c ≡ Defined other d e f → (element ≡ other) × (a ≡ d) × (b ≡ e) × (c ≡ f)
+written_inner : {element other : Element} {a b c d e f : DefBody} → Defined element a b c ≡ Defined other d e f → (element ≡ other) × (a ≡ d) × (b ≡ e) × (c ≡ f)
 written_inner e = (cc, cc, cc, cc)
 
-pub definition_said : (problem : Problem) (old : Option (List (Cell Bool))) (cells : List (Cell Bool)) (demand : Demand) (element : Element) (init next comb : Flat) (values : List AbsValue) → demand ≡ Defined element init next comb →
+pub definition_said : (problem : Problem) (old : Option (List (Cell Bool))) (cells : List (Cell Bool)) (demand : Demand) (element : Element) (init next comb : DefBody) (values : List AbsValue) → demand ≡ Defined element init next comb →
     OfCases problem (λ c. (before : Option AbsState) (now : AbsState) → AreReadBy problem old cells c.problem before now → (def : Def) (indexes : List Place) → IsDemand c.problem (defined def indexes) → IsWritten element init next comb c.problem def indexes (λ a. now) → IsSetOf (sure_values c.problem def indexes before now) values) →
     AreSureBy problem old cells demand values
 definition_said problem old cells demand element init next comb values e are c is well before now read def indexes f fit kept =
@@ -276,5 +276,5 @@ definition_said problem old cells demand element init next comb values e are c i
 pub claim_said : (problem : Problem) (old : Option (List (Cell Bool))) (cells : List (Cell Bool)) (demand : Demand) (body : FlatExpr) (bindings : List Spot) (values : List AbsValue) → demand ≡ Holds body bindings → AreSureBy problem old cells demand values
 claim_said problem old cells demand body bindings values e c is well before now read def indexes f fit kept = absurd (other (sym e ∙ f))
   where
-    other : {element : Element} {init next comb : Flat} → Holds body bindings ≡ Defined element init next comb → ⊥
+    other : {element : Element} {init next comb : DefBody} → Holds body bindings ≡ Defined element init next comb → ⊥
     other e = cc

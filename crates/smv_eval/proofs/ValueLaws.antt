@@ -3,12 +3,12 @@ use Rattle.std.proofs.Common.{◌≡◌, ◌≢◌, ℕ, zero, suc, ◌+◌, ◌
 use Rattle.std.specs.Prelude.{unwrap_or, position}
 use Rattle.std.specs.List.{slice_get, list_any, position_or_len}
 use Rattle.smv_core.specs.Values.{scalar, ordinal}
-use Rattle.smv_core.specs.Flat.{Numbered}
+use Rattle.smv_core.specs.FlatMeaning.{Numbered}
 use Rattle.smv_core.specs.declared.flat.SetInfo.{SetInfo}
 use Rattle.smv_core.specs.declared.flat.Simple.{Simple}
 use Rattle.smv_core.specs.declared.flat.Simple.TheVariants.{Range, Enum, Set}
 use Rattle.smv_core.specs.declared.flat.Family.{Family}
-use Rattle.smv_core.specs.declared.flat.Raw.{Raw}
+use Rattle.smv_core.specs.declared.flat.FlatText.{FlatText}
 use Rattle.smv_core.specs.declared.flat.FlatExpr.{FlatExpr, Number, Read', Var, Loop, Constant, Not', And', Or', Implies', Iff', Compare', Within', Sum', Modulo', Choose, Choose', All', Any', List', Each', end_of-FlatExpr, more_of-FlatExpr}
 use Rattle.law_obligations.specs.Sets.{Has, first, later}
 use Rattle.law_obligations.specs.Places.{Place, named, rest, World, AbsOutcome}
@@ -23,7 +23,7 @@ use Rattle.law_obligations.proofs.OneOfEach.{get_Has}
 use Rattle.law_obligations.specs.Outlines.{place_of}
 use Rattle.law_designs.specs.FlatKinds as kinds
 use Rattle.law_designs.specs.FlatKinds.{Kind, enumeration, set_type, kind_of, joins, joined}
-use Rattle.law_obligations.specs.Readings.{Case}
+use Rattle.law_obligations.specs.Readings.{PosedCase}
 use Rattle.smv_spots.specs.declared.spots.Spot.{Spot}
 use Rattle.smv_spots.specs.declared.spots.Spot.TheVariants as spot
 use Rattle.smv_spots.specs.Spots.{place_in as place_at, outcome_in, of_set}
@@ -32,7 +32,7 @@ use Rattle.smv_problem.specs.declared.problem.AbsValue.TheVariants as value
 use Rattle.smv_problem.specs.declared.problem.AbsState.{AbsState as StateData}
 use Rattle.smv_problem.specs.declared.problem.Problem.{Problem}
 use Rattle.smv_problem.specs.Written.{written, written_spot, written_outcome, written_constant}
-use Rattle.smv_problem.specs.WellFormed.{IsWellFormed, IsOfKind, OfStates, as_raw}
+use Rattle.smv_problem.specs.WellFormed.{IsWellFormed, IsOfKind, OfStates, as_flat_text}
 use Rattle.smv_typed_spots.proofs.TypedLaws.{spots_placed}
 use Rattle.smv_problem_spots.specs.Worlds.{IsWorldOf, count_at, name_at, name_number_at}
 use Rattle.law_worlds.proofs.Worlds.{world_of_case}
@@ -89,7 +89,7 @@ number_is false kind e = absurd (cc)
 abbrev NoLists : List Kind → Type 0
 NoLists vars = (k : Kind) → Has vars k → list_of k ≡ None
 
-module _ (raw : Raw) (families : List Family) (same : raw.families ≡ families) where
+module _ (flat_text : FlatText) (families : List Family) (same : flat_text.families ≡ families) where
   choose_kind : (cond left right : Option Kind) (kind : Kind) → kinds.chosen cond left right ≡ Some kind → (k : Kind) × (left ≡ Some k) × (list_of k ≡ list_of kind)
   choose_kind cond left right kind e = at (kinds.takes Kind.number cond) e
     where
@@ -117,16 +117,16 @@ module _ (raw : Raw) (families : List Family) (same : raw.families ≡ families)
       at true e = kind_list f.value ∙ ap list_of (inner e)
       at false e = absurd (cc)
 
-  constant_kind : (list value : ℕ) (kind : Kind) → kinds.constant raw list value ≡ Some kind → Some list ≡ list_of kind
-  constant_kind list value kind e = at (nat_lt value (length (get_or raw.enums list []))) e
+  constant_kind : (list value : ℕ) (kind : Kind) → kinds.constant flat_text list value ≡ Some kind → Some list ≡ list_of kind
+  constant_kind list value kind e = at (nat_lt value (length (get_or flat_text.enums list []))) e
     where
       at : (b : Bool) → (if b then Some (enumeration list) else None) ≡ Some kind → Some list ≡ list_of kind
       at true e = ap list_of (inner e)
       at false e = absurd (cc)
 
-  list_is : (vars : List Kind) → NoLists vars → (e : FlatExpr) (kind : Kind) → kinds.kind_in raw vars e ≡ Some kind → list_in families e ≡ list_of kind
+  list_is : (vars : List Kind) → NoLists vars → (e : FlatExpr) (kind : Kind) → kinds.kind_in flat_text vars e ≡ Some kind → list_in families e ≡ list_of kind
   list_is vars none (Number value at) kind e = ap list_of (inner e)
-  list_is vars none (Read' family shape indexes at) kind e = ap (λ fs. list_for (slice_get fs family)) (sym same) ∙ read_kind (slice_get raw.families family) (kinds.kinds_in raw vars indexes) kind e
+  list_is vars none (Read' family shape indexes at) kind e = ap (λ fs. list_for (slice_get fs family)) (sym same) ∙ read_kind (slice_get flat_text.families family) (kinds.kinds_in flat_text vars indexes) kind e
   list_is vars none (Var var at) kind e = sym (none kind (get_Has vars var kind e))
   list_is vars none (Loop value at) kind e = ap list_of (inner e)
   list_is vars none (Constant list value at) kind e = constant_kind list value kind e
@@ -140,7 +140,7 @@ module _ (raw : Raw) (families : List Family) (same : raw.families ≡ families)
   list_is vars none (Sum' f (more_of-FlatExpr head end_of-FlatExpr) shape more) kind e = number_is _ kind e
   list_is vars none (Modulo' shape (more_of-FlatExpr of end_of-FlatExpr) by at) kind e = number_is _ kind e
   list_is vars none (Choose' c (more_of-FlatExpr test end_of-FlatExpr) l (more_of-FlatExpr left end_of-FlatExpr) r (more_of-FlatExpr right end_of-FlatExpr)) kind e =
-      let k = choose_kind (kinds.kind_in raw vars test) (kinds.kind_in raw vars left) (kinds.kind_in raw vars right) kind e in
+      let k = choose_kind (kinds.kind_in flat_text vars test) (kinds.kind_in flat_text vars left) (kinds.kind_in flat_text vars right) kind e in
       list_is vars none left k.0 k.1 ∙ k.2
   list_is vars none (All' shape (more_of-FlatExpr body end_of-FlatExpr) var over at) kind e = number_is _ kind e
   list_is vars none (Any' shape (more_of-FlatExpr body end_of-FlatExpr) var over at) kind e = number_is _ kind e
@@ -399,14 +399,14 @@ plain_offers : (n : Numbered) (s : Plain) (q : AbsOutcome → Bool) (offers : Li
 unfolding any_offer
 plain_offers n s q offers = refl
 
-module _ (c : Case) (well : IsWellFormed c) (p : Problem) (is : p ≡ written c) (a : AbsState) (state : IsAbsState c.problem.world c.problem.kept a) (e : FlatExpr) (over : List Simple) (b : List Place) (kind : Kind)
+module _ (c : PosedCase) (well : IsWellFormed c) (p : Problem) (is : p ≡ written c) (a : AbsState) (state : IsAbsState c.problem.world c.problem.kept a) (e : FlatExpr) (over : List Simple) (b : List Place) (kind : Kind)
     (index_types : (t : Simple) → Has over t → IsIndexType t) (of_kind : IsOfKind c e over b kind) (spots : List Spot) (bound : spots ≡ map (written_spot c.problem.world.classes) b) where
   families_are : p.families ≡ c.problem.world.classes.families
   unfolding written
   families_are = ap (λ (q : Problem). q.families) is
 
   kind_is : list_in p.families e ≡ list_of kind
-  kind_is = list_is (as_raw c.problem.world.classes) p.families (sym families_are) (map kind_of over) (index_lists over index_types) e kind of_kind.has_kind
+  kind_is = list_is (as_flat_text c.problem.world.classes) p.families (sym families_are) (map kind_of over) (index_lists over index_types) e kind of_kind.has_kind
 
   places_are : map (place_at c.problem.world.classes) spots ≡ b
   places_are = ap (map (place_at c.problem.world.classes)) bound ∙ spots_placed c.problem.world well.set_types over b of_kind.are_of

@@ -1,7 +1,7 @@
 -- How states that are given are read by cells at plain conditions.
 use Rattle.std.specs.Prelude.{◌≡◌, ℕ, List, Option, Some, None, Bool, true}
 use Rattle.law_obligations.specs.May.{AbsState}
-use Rattle.law_obligations.specs.Obligations.{Problem as Case, Demanded, defined, holds}
+use Rattle.law_obligations.specs.Obligations.{AbstractProblem as Case, Demanded, defined, holds}
 use Rattle.smv_problem.specs.declared.problem.Problem.{Problem}
 use Rattle.smv_conditions.specs.declared.stores.Plain.{Plain}
 use Rattle.smv_cells.specs.declared.cells.Cell.{Cell}

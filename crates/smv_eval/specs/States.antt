@@ -6,7 +6,7 @@ use Rattle.smv_core.specs.declared.flat.Family.{Family}
 use Rattle.smv_core.specs.declared.flat.Element.{Element}
 use Rattle.law_obligations.specs.Soundness.{over_of}
 use Rattle.law_obligations.specs.May.{AbsState}
-use Rattle.law_obligations.specs.Readings.{Case}
+use Rattle.law_obligations.specs.Readings.{PosedCase}
 use Rattle.smv_spots.specs.Spots.{classes_of, rests_of}
 use Rattle.smv_problem.specs.declared.problem.Problem.{Problem}
 use Rattle.smv_problem.specs.declared.problem.AbsValue.{AbsValue}
@@ -53,5 +53,5 @@ abbrev pub plainly : Plain → Bool → (ℕ → Bool) → Bool
 plainly s c a = c
 
 -- a case in one state, at each assignment
-abbrev pub view_of : Case → AbsState → View
+abbrev pub view_of : PosedCase → AbsState → View
 view_of c a = record { world = c.problem.world; kept = c.problem.kept; state = λ assignment. a }

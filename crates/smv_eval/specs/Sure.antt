@@ -3,11 +3,11 @@ use Rattle.std.specs.Prelude.{◌≡◌, List, map, slice_get, Option, Some, Boo
 use Rattle.std.specs.List.{filter}
 use Rattle.smv_core.specs.declared.flat.Def.{Def}
 use Rattle.smv_core.specs.declared.flat.Element.{Element}
-use Rattle.smv_core.specs.declared.flat.Flat.{Flat}
+use Rattle.smv_core.specs.declared.flat.DefBody.{DefBody}
 use Rattle.law_obligations.specs.Places.{Place, World, is_among, same_place}
 use Rattle.law_obligations.specs.May.{AbsState}
 use Rattle.law_obligations.specs.Demands.{must_be, places_of_family}
-use Rattle.law_obligations.specs.Obligations.{Problem as Case, defined}
+use Rattle.law_obligations.specs.Obligations.{AbstractProblem as Case, defined}
 use Rattle.law_obligations.specs.Soundness.{over_of}
 use Rattle.smv_spots.specs.declared.spots.Spot.{Spot}
 use Rattle.smv_spots.specs.Spots.{place_in}
@@ -54,7 +54,7 @@ abbrev pub IsTargetAt : Problem → Element → Spot → Target Bool → Type 0
 IsTargetAt problem element value t = (v : View) (indexes : List Place) → IsWorldOf problem v.world → map (place_in v.world.classes) (class_spots (over_of (slice_get problem.families element.family)) element.indexes) ≡ indexes →
     is_among (places_of_family v.world v.kept (slice_get v.world.classes.families element.family)) (place_in v.world.classes value) ≡ true → (s : Plain) → IsTarget plainly s t (aim_at v element.family indexes (λ a. place_in v.world.classes value))
 
-module _ (problem : Problem) (old : Option (List (Cell Bool))) (cells : List (Cell Bool)) (element : Element) (init next comb : Flat) where
+module _ (problem : Problem) (old : Option (List (Cell Bool))) (cells : List (Cell Bool)) (element : Element) (init next comb : DefBody) where
   -- what is said of the element of each case that is written so, in the states that these cells read
   abbrev pub OfElement : (Case → Def → List Place → Option AbsState → AbsState → Type 0) → Type 0
   OfElement says = (p : Case) (before : Option AbsState) (now : AbsState) → AreReadBy problem old cells p before now → (def : Def) (indexes : List Place) → IsDemand p (defined def indexes) → IsWritten element init next comb p def indexes (λ a. now) → says p def indexes before now

@@ -3,7 +3,7 @@ ghost use Rattle.std.specs.Prelude.{◌≡◌, List, Option, IfOk, map, option_c
 ghost use Rattle.std.specs.List.{list_all};
 ghost use Rattle.law_obligations.specs.Sets.{Has};
 ghost use Rattle.law_obligations.specs.May.{AbsState as Abstract};
-ghost use Rattle.law_obligations.specs.Obligations.{Problem as Case, Demanded, is_met, is_broken, may_hold, obligation};
+ghost use Rattle.law_obligations.specs.Obligations.{AbstractProblem as Case, Demanded, is_met, is_broken, may_hold, obligation};
 ghost use Rattle.smv_problem.specs.Written.{written_demand};
 ghost use Rattle.smv_problem.specs.WellFormed.{OfCases};
 ghost use Rattle.smv_core.specs.declared.flat.Guard.{Guard as GuardOf};

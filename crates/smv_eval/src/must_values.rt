@@ -19,7 +19,7 @@ use smv_cells::Cell;
 use smv_conditions::offers::Offer;
 use smv_conditions::stores::Plain;
 use smv_core::Seq;
-use smv_core::flat::{Element, Flat};
+use smv_core::flat::{Element, DefBody};
 use smv_outcomes::nothing_known;
 use smv_problem::{AbsValue, Demand, Problem};
 use smv_spots::spots::Spot;
@@ -36,9 +36,9 @@ fn is_sure(
     old: Option<&[Cell<bool>]>,
     cells: &[Cell<bool>],
     element: &Element,
-    init: &Flat,
-    next: &Flat,
-    comb: &Flat,
+    init: &DefBody,
+    next: &DefBody,
+    comb: &DefBody,
     value: Spot,
 ) -> Result<bool, AllocError>
     ensures { IfOk result (λ sure. OfElement problem.entry.now (option_copied old.entry) cells.now element.entry.now init.now next.now comb.now (λ p def indexes before now.
@@ -74,9 +74,9 @@ fn sure_offers(
     old: Option<&[Cell<bool>]>,
     cells: &[Cell<bool>],
     element: &Element,
-    init: &Flat,
-    next: &Flat,
-    comb: &Flat,
+    init: &DefBody,
+    next: &DefBody,
+    comb: &DefBody,
     places: &[Spot],
 ) -> Result<Vec<Offer<bool>>, AllocError>
     ensures { IfOk result (λ offers. OfElement problem.entry.now (option_copied old.entry) cells.now element.entry.now init.now next.now comb.now (λ p def indexes before now.
@@ -102,9 +102,9 @@ fn element_values(
     old: Option<&[Cell<bool>]>,
     cells: &[Cell<bool>],
     element: &Element,
-    init: &Flat,
-    next: &Flat,
-    comb: &Flat,
+    init: &DefBody,
+    next: &DefBody,
+    comb: &DefBody,
 ) -> Result<Seq<AbsValue>, AllocError>
     ensures { IfOk result (λ values. OfCases problem.entry.now (λ c. (before : Option Abstract) (now : Abstract) → AreReadBy problem.entry.now (option_copied old.entry) cells.now c.problem before now → (def : Def) (indexes : List Place) →
         IsDemand c.problem (defined def indexes) → IsWritten element.entry.now init.now next.now comb.now c.problem def indexes (λ a. now) → IsSetOf (sure_values_of c.problem def indexes before now) values)) }

@@ -10,7 +10,7 @@ use Rattle.smv_core.specs.declared.tree.Part.{Part, Field as FieldPart, At}
 use Rattle.smv_core.specs.declared.tree.Field.{Field, out-Field}
 use Rattle.smv_core.specs.declared.tree.TypeExpr.{TypeExpr, Boolean, Range, Enum, Named, Struct, Struct', Array, Row_of-Field, end_of-Field, more_of-Field, items-the_row-Field, items_hidden-the_row-Field-1}
 use mathlib.Core.Former.{Count}
-use Rattle.smv_instances.specs.Scopes.{has_name}
+use Rattle.smv_mentions.specs.Scopes.{has_name}
 use Rattle.smv_scope.specs.Numbered.{field_named}
 use Rattle.law_designs.specs.Kinds.{number, enumeration}
 use Rattle.law_designs.specs.Types.{Types, Leads, Whole, single, under, value_kind, leads, leads_field}
@@ -20,7 +20,7 @@ use Rattle.smv_expression_kinds.specs.declared.tables.Form.{Form}
 use Rattle.smv_expression_kinds.specs.declared.tables.Form.TheVariants as form
 use Rattle.smv_expression_kinds.specs.Forms.{kind_of, types_before, type_before, types_in, leads_at, form_leads, AreForms}
 use Rattle.smv_expression_kinds.proofs.PlaceLaws.{named-leads}
-use Rattle.smv_instances.proofs.Computing.{computing}
+use Rattle.smv_mentions.proofs.Computing.{computing}
 
 module _ (types : Types) where
   pub leads-Boolean : (parts : List Part) → leads types Boolean parts ≡ single number parts

@@ -6,7 +6,7 @@ use Rattle.smv_core.specs.Values.{Name, Path}
 use Rattle.smv_core.specs.Types.{find_name, names_of}
 use Rattle.smv_core.specs.Outcome.{same_path}
 use Rattle.smv_core.specs.declared.tree.Word.{Word}
-use Rattle.smv_instances.specs.Scopes.{Constant}
+use Rattle.smv_mentions.specs.Scopes.{Constant}
 use Rattle.law_designs.specs.Owned.{owner}
 
 pub list-equal : (p q : Path) → same_path p q ≡ true → p ≡ q

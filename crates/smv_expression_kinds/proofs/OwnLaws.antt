@@ -9,8 +9,8 @@ use Rattle.smv_core.specs.declared.tree.Text.{Text}
 use Rattle.smv_core.specs.declared.tree.Item.{Item}
 use Rattle.smv_core.specs.declared.tree.Top.{Top}
 use Rattle.smv_core.specs.declared.tree.Top.TheVariants.{SetType, Alias, Module as ModuleOf}
-use Rattle.smv_instances.specs.Mentions.{Mention}
-use Rattle.smv_instances.specs.Scopes.{Known, Own, piece_of, known_after, pieces_from, own_names}
+use Rattle.smv_mentions.specs.Mentions.{Mention}
+use Rattle.smv_mentions.specs.Scopes.{Known, Own, piece_of, known_after, pieces_from, own_names}
 use Rattle.smv_scope.specs.Numbered.{mentions_at}
 use Rattle.law_designs.specs.Types.{Types}
 use Rattle.smv_expression_kinds.specs.Forms.{module_in}

@@ -8,10 +8,10 @@ use Rattle.smv_core.specs.declared.tree.Part.{Part, Field, At}
 use Rattle.smv_core.specs.declared.tree.Top.{Top}
 use Rattle.smv_core.specs.declared.tree.Top.TheVariants.{SetType, Alias, Module as ModuleOf}
 use Rattle.smv_core.specs.Types.{find_name}
-use Rattle.smv_instances.specs.Scopes.{Own, pieces, constants}
+use Rattle.smv_mentions.specs.Scopes.{Own, pieces, constants}
 use Rattle.smv_core.specs.declared.tree.Role.{Role}
 use Rattle.smv_core.specs.declared.tree.TypeExpr.{TypeExpr}
-use Rattle.smv_instances.specs.Mentions.{What, signal}
+use Rattle.smv_mentions.specs.Mentions.{What, signal}
 use Rattle.law_designs.specs.Types.{Types, Whole, leads, value_kind, index_kind, types_after}
 use Rattle.law_designs.specs.References.{Module, modules_from, behind, signal_at}
 use Rattle.law_designs.specs.Owned.{IsOwned, LeadsOwned}

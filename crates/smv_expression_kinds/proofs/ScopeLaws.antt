@@ -10,8 +10,8 @@ use Rattle.smv_core.specs.declared.tree.Text.{Text}
 use Rattle.smv_core.specs.declared.tree.Top.{Top}
 use Rattle.smv_core.specs.declared.tree.Top.TheVariants.{SetType, Alias, Module as ModuleOf}
 use Rattle.smv_core.specs.declared.tree.Part.{Part, Field, At}
-use Rattle.smv_instances.specs.Mentions.{instance}
-use Rattle.smv_instances.specs.Scopes.{Own, Constant, pieces, constants}
+use Rattle.smv_mentions.specs.Mentions.{instance}
+use Rattle.smv_mentions.specs.Scopes.{Own, Constant, pieces, constants}
 use Rattle.law_designs.specs.Kinds.{Kind, enumeration}
 use Rattle.law_designs.specs.Types.{Types, Whole, single, types_after}
 use Rattle.law_designs.specs.References.{Module, modules_from, Scope, Vars, behind, signal_at, constant_at, variable_at, reference_at}

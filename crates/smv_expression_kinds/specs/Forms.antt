@@ -8,8 +8,8 @@ use Rattle.smv_core.specs.declared.tree.Top.TheVariants.{SetType as SetTypeOf, A
 use Rattle.smv_core.specs.declared.tree.Part.{Part, Field, At}
 use Rattle.smv_core.specs.declared.tree.Field.{out-Field}
 use Rattle.smv_core.specs.declared.fault.Fault.{Fault}
-use Rattle.smv_instances.specs.NameFaults.{place_if}
-use Rattle.smv_instances.specs.FirstFault.{faults_at}
+use Rattle.smv_mentions.specs.NameFaults.{place_if}
+use Rattle.smv_mentions.specs.FirstFault.{faults_at}
 use Rattle.smv_scope.specs.Numbered.{field_named}
 use Rattle.smv_scope.specs.Held.{AreTables}
 use Rattle.smv_scope.specs.Compared.{listed}

@@ -11,8 +11,8 @@ use Rattle.smv_expression_kinds.specs.declared.paths.Whole.{Whole as HeldWhole}
 use Rattle.smv_expression_kinds.specs.declared.paths.Reached.{Reached}
 use Rattle.smv_scope.specs.declared.paths.Inner.{Inner}
 use Rattle.smv_scope.specs.declared.tables.Tables.{Tables as ScopeTables}
-use Rattle.smv_instances.specs.Scopes.{pieces, constants}
-use Rattle.smv_instances.specs.Said.{said_of}
+use Rattle.smv_mentions.specs.Scopes.{pieces, constants}
+use Rattle.smv_mentions.specs.Said.{said_of}
 use Rattle.smv_expression_kinds.specs.declared.lookups.Var.{Var}
 use Rattle.smv_expression_kinds.specs.declared.lookups.Scope.{Scope as HeldScope}
 

@@ -1,8 +1,8 @@
 // Kinds: what sort of value an operand has, and which fit together.
 ghost use Rattle.std.specs.Prelude.{◌≡◌, ◌++◌, IfOk, OnOk};
 ghost use Rattle.smv_core.specs.Types.{names_of};
-ghost use Rattle.smv_instances.specs.NameFaults.{place_if};
-ghost use Rattle.smv_instances.specs.FirstFault.{faults_at};
+ghost use Rattle.smv_mentions.specs.NameFaults.{place_if};
+ghost use Rattle.smv_mentions.specs.FirstFault.{faults_at};
 ghost use Rattle.law_designs.specs.Kinds as spec;
 ghost use Rattle.law_designs.specs.Types as types;
 ghost use Rattle.smv_scope.specs.Compared.{listed};

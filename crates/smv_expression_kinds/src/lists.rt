@@ -2,7 +2,7 @@
 ghost use Rattle.std.specs.Prelude.{◌≡◌, option_map};
 ghost use Rattle.smv_core.specs.Types.{names_of};
 ghost use Rattle.smv_core.specs.Outcome.{same_path};
-ghost use Rattle.smv_instances.specs.Scopes.{pieces, constants};
+ghost use Rattle.smv_mentions.specs.Scopes.{pieces, constants};
 ghost use Rattle.law_designs.specs.Kinds.{enumeration};
 ghost use Rattle.smv_scope.specs.Compared.{listed};
 ghost use Rattle.smv_scope.specs.Held.{AreTables};

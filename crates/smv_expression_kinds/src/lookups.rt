@@ -2,7 +2,7 @@
 ghost use Rattle.std.specs.Prelude.{◌≡◌, [], option_map, IfOk};
 ghost use Rattle.smv_core.specs.Types.{find_name};
 ghost use Rattle.smv_scope.specs.declared.tables.Tables.{Tables as ScopeTables};
-ghost use Rattle.smv_instances.specs.Scopes.{constants, pieces};
+ghost use Rattle.smv_mentions.specs.Scopes.{constants, pieces};
 ghost use Rattle.smv_scope.specs.Held.{AreTables};
 ghost use Rattle.law_designs.specs.Kinds as kinds;
 ghost use Rattle.law_designs.specs.Types as types;

@@ -3,9 +3,9 @@ ghost use Rattle.std.specs.Prelude.{◌≡◌, ◌≤◌, ◌<◌, ◌++◌, ◌
 ghost use Rattle.smv_core.specs.declared.tree.Part.{Part};
 ghost use Rattle.smv_scope.specs.Held.{AreTables};
 ghost use Rattle.smv_scope.specs.declared.tables.Tables.{Tables as ScopeTables};
-ghost use Rattle.smv_instances.specs.FirstFault.{first_fault};
+ghost use Rattle.smv_mentions.specs.FirstFault.{first_fault};
 ghost use Rattle.law_designs.specs.Types.{leads, value_kind};
-ghost use Rattle.smv_instances.specs.Said.{AreNoted};
+ghost use Rattle.smv_mentions.specs.Said.{AreNoted};
 ghost use Rattle.smv_expression_kinds.specs.Forms.{kind_of, types_before, type_before, types_in, modules_in, leads_at, form_leads, AreForms, AreKindTables};
 
 use crate::kinds::ValueKind;
@@ -14,7 +14,7 @@ use law_designs::enumerations::signals_are_owned;
 use name_index::map::NameMap;
 use smv_core::name::Name;
 use smv_core::tree::{Field, Text, Top, TypeExpr};
-use smv_instances::pieces::Piece;
+use smv_mentions::pieces::Piece;
 use smv_scope::build::tables as scope_tables;
 use smv_scope::tables::{Tables as ScopeTables, item_at};
 use std::alloc::{AllocError, Global};
@@ -76,7 +76,7 @@ fn add_type<'a>(
 }
 
 // The number of each type.
-#[tactic(auto, using(smv_instances::proofs::Notes::noting, crate::proofs::PlaceLaws::steps))]
+#[tactic(auto, using(smv_mentions::proofs::Notes::noting, crate::proofs::PlaceLaws::steps))]
 fn types_of<'a>(alloc: Global, tops: &'a [Top]) -> Result<NameMap<'a, usize>, AllocError>
     ensures { IfOk result (λ types. types ≡ types_in 0 tops.now) }
 {
@@ -106,7 +106,7 @@ fn add_module<'a>(
 }
 
 // The number of each module.
-#[tactic(auto, using(smv_instances::proofs::Notes::noting, crate::proofs::PlaceLaws::steps))]
+#[tactic(auto, using(smv_mentions::proofs::Notes::noting, crate::proofs::PlaceLaws::steps))]
 fn modules_of<'a>(alloc: Global, tops: &'a [Top]) -> Result<NameMap<'a, usize>, AllocError>
     ensures { IfOk result (λ modules. modules ≡ modules_in 0 tops.now) }
 {

@@ -19,7 +19,7 @@ use Rattle.smv_core.specs.declared.tree.Expr.{Expr, Signal, Signal', Row_of-Part
 use Rattle.smv_core.specs.declared.flat.FlatExpr.{FlatExpr, Read, Constant}
 use Rattle.smv_core.specs.declared.flat.FlatStmt.{Assign}
 use mathlib.Core.Former.{Count}
-use Rattle.smv_instances.proofs.Computing.{computing}
+use Rattle.smv_mentions.proofs.Computing.{computing}
 use Rattle.law_designs.specs.Numbers.{Scope, family_number, or_signal}
 use Rattle.law_designs.specs.Statements.{flat_expr, first_token}
 use Rattle.law_designs.specs.Entries.{Binders, formal, given_to, connection, placed_families}

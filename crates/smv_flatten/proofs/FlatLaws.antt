@@ -17,10 +17,10 @@ use Rattle.smv_core.specs.declared.tree.Item.{Item}
 use Rattle.smv_core.specs.declared.flat.FlatStmt as flat
 use Rattle.smv_core.specs.declared.flat.SetInfo.{SetInfo}
 use Rattle.smv_core.specs.declared.flat.Family.{Family as FlatFamily}
-use Rattle.smv_core.specs.declared.flat.Raw.{Raw}
+use Rattle.smv_core.specs.declared.flat.FlatText.{FlatText}
 use Rattle.smv_core.specs.declared.flat.FlatItem.{FlatItem}
 use Rattle.smv_core.specs.declared.flat.FlatItem.TheVariants as item
-use Rattle.smv_instances.proofs.Computing.{computing}
+use Rattle.smv_mentions.proofs.Computing.{computing}
 use Rattle.law_designs.specs.Numbers.{Scope, bound_in, flat_over}
 use Rattle.law_designs.specs.Entries as entries
 use Rattle.law_designs.specs.Entries.{Binders, Entry, Goal, layer, statement, goal, inside_binder}
@@ -147,24 +147,24 @@ pub flat-all : (text : Text) (layers : List Name) (all : List Met) → flat_map 
 unfolding flat_said
 flat-all text layers all = sym (flat_map-flat_map (flat_entry text layers) (entries_met text) all)
 
-abbrev raw_of : List SetInfo → List (List Name) → List Name → List FlatFamily → List FlatItem → Raw
-raw_of sets enums layers families items = record { sets = sets; enums = enums; layers = layers; families = families; items = items }
+abbrev flat_text_of : List SetInfo → List (List Name) → List Name → List FlatFamily → List FlatItem → FlatText
+flat_text_of sets enums layers families items = record { sets = sets; enums = enums; layers = layers; families = families; items = items }
 
 -- the whole
 pub whole : (text : Text) (numbers : Numbers) → numbers.text.now ≡ text → AreNumbers numbers → (all : List Met) → flat_map (entries_met numbers.text.now) all ≡ entries.entries numbers.text.now →
     (names : List Name) → names ≡ layers_of (flat_map (entries_met numbers.text.now) all) → (items : List FlatItem) → items ≡ with_places 0 (flat_map (flat_met numbers.text.now names) all) →
-    raw_of numbers.sets numbers.enums names numbers.families items ≡ flatten text
+    flat_text_of numbers.sets numbers.enums names numbers.families items ≡ flatten text
 whole text numbers is numbered all met names named items placed =
     let t : Text = numbers.text.now in
     let layers : List Name = layers_of (entries.entries t) in
     let same : names ≡ layers = named ∙ ap layers_of met in
     let done : items ≡ with_places 0 (flat_map (flat_entry t layers) (entries.entries t)) =
     placed ∙ ap (with_places 0) (flat-all t names all ∙ ap (λ l. flat_map (flat_entry t names) l) met ∙ ap (λ l. flat_map (flat_entry t l) (entries.entries t)) same) in
-    ap (λ x. raw_of x numbers.enums names numbers.families items) numbered.sets
-    ∙ ap (λ x. raw_of (scope_in t []).sets x names numbers.families items) numbered.enums
-    ∙ ap (λ x. raw_of (scope_in t []).sets (enums_of t) x numbers.families items) same
-    ∙ ap (λ x. raw_of (scope_in t []).sets (enums_of t) layers x items) numbered.families
-    ∙ ap (λ x. raw_of (scope_in t []).sets (enums_of t) layers (map (flat_family (scope_in t [])) (entries.placed_families t)) x) done
+    ap (λ x. flat_text_of x numbers.enums names numbers.families items) numbered.sets
+    ∙ ap (λ x. flat_text_of (scope_in t []).sets x names numbers.families items) numbered.enums
+    ∙ ap (λ x. flat_text_of (scope_in t []).sets (enums_of t) x numbers.families items) same
+    ∙ ap (λ x. flat_text_of (scope_in t []).sets (enums_of t) layers x items) numbered.families
+    ∙ ap (λ x. flat_text_of (scope_in t []).sets (enums_of t) layers (map (flat_family (scope_in t [])) (entries.placed_families t)) x) done
     ∙ ap flatten is
 
 pub ruleset items = (said-Act, said-Layer, said-Claim, said-Split, said-Using)

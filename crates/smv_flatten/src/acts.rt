@@ -103,7 +103,7 @@ pub fn statement<'a>(
 }
 
 /// Statements inside these binders, whose variables are `vars`.
-#[tactic(auto, using(smv_instances::proofs::Notes::noting))]
+#[tactic(auto, using(smv_mentions::proofs::Notes::noting))]
 pub fn statements<'a>(
     alloc: Global,
     here: Here<'a, '_>,
@@ -125,7 +125,7 @@ pub fn statements<'a>(
 }
 
 /// The parameters that binders bind.
-#[tactic(auto, using(smv_instances::proofs::Notes::noting, crate::proofs::ItemLaws::binders))]
+#[tactic(auto, using(smv_mentions::proofs::Notes::noting, crate::proofs::ItemLaws::binders))]
 pub fn params<'a>(
     alloc: Global,
     here: Here<'a, '_>,

@@ -100,7 +100,7 @@ fn output<'a>(
 }
 
 // The definition of an output's argument, where it is a path.
-#[tactic(auto, using(smv_instances::proofs::Notes::noting, crate::proofs::ConnectionLaws::paths))]
+#[tactic(auto, using(smv_mentions::proofs::Notes::noting, crate::proofs::ConnectionLaws::paths))]
 fn add_output<'a>(
     alloc: Global,
     here: Here<'a, '_>,
@@ -140,7 +140,7 @@ fn add_output<'a>(
 }
 
 // The connection of a formal of this role with its argument.
-#[tactic(auto, using(smv_instances::proofs::Notes::noting))]
+#[tactic(auto, using(smv_mentions::proofs::Notes::noting))]
 fn add_connection<'a>(
     alloc: Global,
     here: Here<'a, '_>,
@@ -169,7 +169,7 @@ fn add_connection<'a>(
 }
 
 /// The connections of an instance, in the order of its formals, which have these roles.
-#[tactic(auto, using(smv_instances::proofs::Notes::noting))]
+#[tactic(auto, using(smv_mentions::proofs::Notes::noting))]
 pub fn connections<'a>(
     alloc: Global,
     here: Here<'a, '_>,

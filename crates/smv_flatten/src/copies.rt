@@ -36,7 +36,7 @@ pub fn copied_words(alloc: Global, words: &[Word]) -> Result<Seq<Word>, AllocErr
 }
 
 // Names in a text, one behind another.
-#[tactic(auto, using(smv_instances::proofs::Notes::noting))]
+#[tactic(auto, using(smv_mentions::proofs::Notes::noting))]
 fn add_words(alloc: Global, words: &[Word], out: &mut Seq<Word>) -> Result<(), AllocError>
     ensures { OnOk result (out.new ≡ out.old ++ words.now) }
 {
@@ -48,7 +48,7 @@ fn add_words(alloc: Global, words: &[Word], out: &mut Seq<Word>) -> Result<(), A
 }
 
 // The names of an instance, each at this place.
-#[tactic(auto, using(smv_instances::proofs::Notes::noting))]
+#[tactic(auto, using(smv_mentions::proofs::Notes::noting))]
 fn prefix(alloc: Global, here: Here, at: u32, out: &mut Seq<Word>) -> Result<(), AllocError>
     ensures { OnOk result (out.new ≡ out.old ++ map (word_at at) (instance_of here.entry)) }
 {
@@ -70,7 +70,7 @@ fn copied_layer(alloc: Global, layer: &Option<Word>) -> Result<Option<Word>, All
 }
 
 /// A reference with the names of its instance in front.
-#[tactic(auto, using(smv_instances::proofs::Notes::noting), unfolding(smv_flatten_families::specs::Held::scope_here))]
+#[tactic(auto, using(smv_mentions::proofs::Notes::noting), unfolding(smv_flatten_families::specs::Held::scope_here))]
 pub fn whole(alloc: Global, here: Here, of: &Ref) -> Result<Ref, AllocError>
     ensures { IfOk result (λ copy. copy ≡ flattening.whole (scope_here here.entry) of.now) }
 {
@@ -89,7 +89,7 @@ pub fn whole(alloc: Global, here: Here, of: &Ref) -> Result<Ref, AllocError>
 }
 
 /// References with the names of their instance in front.
-#[tactic(auto, using(smv_instances::proofs::Notes::noting))]
+#[tactic(auto, using(smv_mentions::proofs::Notes::noting))]
 pub fn all_whole(alloc: Global, here: Here, refs: &[Ref]) -> Result<Seq<Ref>, AllocError>
     ensures { IfOk result (λ copies. copies ≡ map (flattening.whole (scope_here here.entry)) refs.now) }
 {
@@ -127,7 +127,7 @@ fn whole_use(alloc: Global, here: Here, part: &Use) -> Result<Use, AllocError>
 }
 
 /// All that a `using` names.
-#[tactic(auto, using(smv_instances::proofs::Notes::noting))]
+#[tactic(auto, using(smv_mentions::proofs::Notes::noting))]
 pub fn whole_uses(alloc: Global, here: Here, uses: &[Use]) -> Result<Seq<Use>, AllocError>
     ensures { IfOk result (λ copies. copies ≡ map (flattening.whole_use (scope_here here.entry)) uses.now) }
 {

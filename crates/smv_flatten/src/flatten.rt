@@ -1,7 +1,7 @@
 // The flattened text.
 ghost use Rattle.std.specs.Prelude.{◌≡◌, ◌++◌, ◌∷◌, [], map, flat_map, IfOk, OnOk};
 ghost use Rattle.smv_core.specs.FlatOrder.{modules};
-ghost use Rattle.smv_instances.specs.Said.{AreNoted};
+ghost use Rattle.smv_mentions.specs.Said.{AreNoted};
 ghost use Rattle.law_designs.specs.Flattening as flattening;
 ghost use Rattle.law_designs.specs.Flattening.{within};
 ghost use Rattle.smv_flatten_families.specs.Held.{AreNumbers, instance_of};
@@ -20,13 +20,13 @@ use crate::met::{Met, all_met};
 use crate::places::placed;
 use crate::roles::{role_table, roles_named};
 use name_index::map::NameMap;
-use smv_core::flat::{FlatItem, Raw};
+use smv_core::flat::{FlatItem, FlatText};
 use smv_core::name::Name;
 use smv_core::seq::Seq;
 use smv_core::tree::{Role, Text};
 use smv_flatten_families::numbers::{Here, Numbers, body_of, numbers_of};
 use smv_flatten_statements::vars::Var;
-use smv_instances::pieces::Piece;
+use smv_mentions::pieces::Piece;
 use std::alloc::{AllocError, Global};
 
 // One item more.
@@ -38,7 +38,7 @@ fn put(item: FlatItem, out: &mut Vec<FlatItem>) -> Result<(), AllocError>
 }
 
 // What an item inside these binders is, whose variables are `vars`.
-#[tactic(auto, using(smv_instances::proofs::Notes::noting, crate::proofs::FlatLaws::items))]
+#[tactic(auto, using(smv_mentions::proofs::Notes::noting, crate::proofs::FlatLaws::items))]
 fn add_item<'a>(
     alloc: Global,
     here: Here<'a, '_>,
@@ -98,7 +98,7 @@ fn add_item<'a>(
 }
 
 // What is met as items of the flattened text.
-#[tactic(auto, using(smv_instances::proofs::Notes::noting))]
+#[tactic(auto, using(smv_mentions::proofs::Notes::noting))]
 fn add_met<'a>(
     alloc: Global,
     numbers: &Numbers<'a>,
@@ -131,7 +131,7 @@ fn add_met<'a>(
 }
 
 // All that is met as items of the flattened text, without the places of claims.
-#[tactic(auto, using(smv_instances::proofs::Notes::noting))]
+#[tactic(auto, using(smv_mentions::proofs::Notes::noting))]
 fn items_of<'a>(
     alloc: Global,
     numbers: &Numbers<'a>,
@@ -174,7 +174,7 @@ fn said(alloc: Global, numbers: &Numbers) -> Result<LayeredItems, AllocError>
 }
 
 // The flattened text of these parts. What was only looked up in is let go.
-fn raw_of(numbers: Numbers, said: LayeredItems) -> Raw
+fn flat_text_of(numbers: Numbers, said: LayeredItems) -> FlatText
     ensures { result ≡ record { sets = numbers.entry.sets; enums = numbers.entry.enums; layers = said.layers; families = numbers.entry.families; items = said.items } }
 {
     let Numbers {
@@ -184,7 +184,7 @@ fn raw_of(numbers: Numbers, said: LayeredItems) -> Raw
         ..
     } = numbers;
     let LayeredItems { layers, items } = said;
-    Raw {
+    FlatText {
         sets,
         enums,
         layers,
@@ -194,11 +194,11 @@ fn raw_of(numbers: Numbers, said: LayeredItems) -> Raw
 }
 
 /// The flattened text of a text whose tops were noted. Also where a number does not fit its field, which no text within the limits has, no memory is said to be left.
-pub fn flatten<'a>(alloc: Global, text: &'a Text, pieces: &[Piece<'a>]) -> Result<Raw, AllocError>
+pub fn flatten<'a>(alloc: Global, text: &'a Text, pieces: &[Piece<'a>]) -> Result<FlatText, AllocError>
     requires { AreNoted pieces.now text.now }
-    ensures { IfOk result (λ raw. raw ≡ flattening.flatten text.now) }
+    ensures { IfOk result (λ flat_text. flat_text ≡ flattening.flatten text.now) }
 {
     let numbers = numbers_of(alloc, text, pieces)?;
     let said = said(alloc, &numbers)?;
-    Ok(raw_of(numbers, said))
+    Ok(flat_text_of(numbers, said))
 }

@@ -64,7 +64,7 @@ pub fn claimed<'a>(
 }
 
 // The equations of a split.
-#[tactic(auto, using(smv_instances::proofs::Notes::noting))]
+#[tactic(auto, using(smv_mentions::proofs::Notes::noting))]
 fn flat_pairs<'a>(
     alloc: Global,
     here: Here<'a, '_>,

@@ -66,7 +66,7 @@ pub fn copied<'a>(alloc: Global, around: &[Binder<'a>]) -> Result<Vec<Binder<'a>
 
 // What an item says.
 #[cycle(leaves)]
-#[tactic(auto, using(smv_instances::proofs::Notes::noting, crate::proofs::LeafLaws::equations))]
+#[tactic(auto, using(smv_mentions::proofs::Notes::noting, crate::proofs::LeafLaws::equations))]
 fn leaves_of<'a>(
     alloc: Global,
     out: &mut Vec<Leaf<'a>>,
@@ -156,7 +156,7 @@ fn leaves_of<'a>(
 
 /// What these items say.
 #[cycle(leaves)]
-#[tactic(auto, using(smv_instances::proofs::Notes::noting))]
+#[tactic(auto, using(smv_mentions::proofs::Notes::noting))]
 pub fn all_leaves<'a>(
     alloc: Global,
     out: &mut Vec<Leaf<'a>>,
@@ -173,7 +173,7 @@ pub fn all_leaves<'a>(
 
 // What an item inside one more binder says.
 #[cycle(leaves)]
-#[tactic(auto, using(smv_instances::proofs::Notes::noting))]
+#[tactic(auto, using(smv_mentions::proofs::Notes::noting))]
 fn bound<'a>(
     alloc: Global,
     out: &mut Vec<Leaf<'a>>,
@@ -190,7 +190,7 @@ fn bound<'a>(
 }
 
 // Instances of a module, each with these arguments.
-#[tactic(auto, using(smv_instances::proofs::Notes::noting))]
+#[tactic(auto, using(smv_mentions::proofs::Notes::noting))]
 fn instances<'a>(
     alloc: Global,
     out: &mut Vec<Leaf<'a>>,
@@ -208,7 +208,7 @@ fn instances<'a>(
 }
 
 // One item more.
-#[tactic(auto, using(smv_instances::proofs::Notes::noting))]
+#[tactic(auto, using(smv_mentions::proofs::Notes::noting))]
 fn say<'a>(
     alloc: Global,
     out: &mut Vec<Leaf<'a>>,

@@ -42,7 +42,7 @@ fn copied_path<'a>(alloc: Global, path: &[&'a Name]) -> Result<Vec<&'a Name>, Al
 }
 
 // An item more.
-#[tactic(auto, using(smv_instances::proofs::Notes::noting, crate::proofs::MetLaws::noting))]
+#[tactic(auto, using(smv_mentions::proofs::Notes::noting, crate::proofs::MetLaws::noting))]
 fn note<'a>(
     alloc: Global,
     numbers: &Numbers<'a>,
@@ -64,7 +64,7 @@ fn note<'a>(
 
 // What a module inside binders says as an instance. No chain of instances inside it is longer than `left`.
 #[cycle(walk)]
-#[tactic(auto, using(smv_instances::proofs::Notes::noting, crate::proofs::MetLaws::walks))]
+#[tactic(auto, using(smv_mentions::proofs::Notes::noting, crate::proofs::MetLaws::walks))]
 fn walk<'a>(
     alloc: Global,
     numbers: &Numbers<'a>,
@@ -87,7 +87,7 @@ fn walk<'a>(
 
 // What these items say.
 #[cycle(walk)]
-#[tactic(auto, using(smv_instances::proofs::Notes::noting))]
+#[tactic(auto, using(smv_mentions::proofs::Notes::noting))]
 fn meet_all<'a>(
     alloc: Global,
     numbers: &Numbers<'a>,
@@ -107,7 +107,7 @@ fn meet_all<'a>(
 
 // What an item says.
 #[cycle(walk)]
-#[tactic(auto, using(smv_instances::proofs::Notes::noting, crate::proofs::MetLaws::meets))]
+#[tactic(auto, using(smv_mentions::proofs::Notes::noting, crate::proofs::MetLaws::meets))]
 fn meet<'a>(
     alloc: Global,
     numbers: &Numbers<'a>,

@@ -11,7 +11,7 @@ use smv_core::tree::{Item, Role, Text, Top, Word};
 use std::alloc::{AllocError, Global};
 
 // These names in one role.
-#[tactic(auto, using(smv_instances::proofs::Notes::noting))]
+#[tactic(auto, using(smv_mentions::proofs::Notes::noting))]
 fn add_words<'a>(
     declared: &mut NameMap<'a, Role>,
     role: Role,
@@ -26,7 +26,7 @@ fn add_words<'a>(
 }
 
 // The signals that an item declares.
-#[tactic(auto, using(smv_instances::proofs::Notes::noting))]
+#[tactic(auto, using(smv_mentions::proofs::Notes::noting))]
 fn add_item<'a>(declared: &mut NameMap<'a, Role>, item: &'a Item) -> Result<(), AllocError>
     ensures { OnOk result (declared.new ≡ declared.old ++ roles_declared item.now) }
 {
@@ -44,7 +44,7 @@ fn add_item<'a>(declared: &mut NameMap<'a, Role>, item: &'a Item) -> Result<(), 
 }
 
 // The signals that items declare, each with its role.
-#[tactic(auto, using(smv_instances::proofs::Notes::noting))]
+#[tactic(auto, using(smv_mentions::proofs::Notes::noting))]
 fn all_declared<'a>(alloc: Global, items: &'a [Item]) -> Result<NameMap<'a, Role>, AllocError>
     ensures { IfOk result (λ declared. declared ≡ flat_map roles_declared items.now) }
 {
@@ -66,7 +66,7 @@ fn role_in(declared: &NameMap<'_, Role>, name: &Name) -> Role
 }
 
 // The roles of the formals of a module.
-#[tactic(auto, using(smv_instances::proofs::Notes::noting, crate::proofs::RoleLaws::roles))]
+#[tactic(auto, using(smv_mentions::proofs::Notes::noting, crate::proofs::RoleLaws::roles))]
 fn roles_of(alloc: Global, formals: &[Word], items: &[Item]) -> Result<Seq<Role>, AllocError>
     ensures { IfOk result (λ roles. roles ≡ map (λ word. role_of items.now word.name) formals.now) }
 {
@@ -79,7 +79,7 @@ fn roles_of(alloc: Global, formals: &[Word], items: &[Item]) -> Result<Seq<Role>
 }
 
 // The roles of the formals of a top, where it is a module.
-#[tactic(auto, using(smv_instances::proofs::Notes::noting))]
+#[tactic(auto, using(smv_mentions::proofs::Notes::noting))]
 fn add_top<'a>(
     alloc: Global,
     table: &mut NameMap<'a, Seq<Role>>,
@@ -103,7 +103,7 @@ fn add_top<'a>(
 }
 
 /// The roles of the formals of each module of a text.
-#[tactic(auto, using(smv_instances::proofs::Notes::noting, crate::proofs::RoleLaws::tops))]
+#[tactic(auto, using(smv_mentions::proofs::Notes::noting, crate::proofs::RoleLaws::tops))]
 pub fn role_table<'a>(alloc: Global, text: &'a Text) -> Result<NameMap<'a, Seq<Role>>, AllocError>
     ensures { IfOk result (λ table. table ≡ map roles_beside (modules text.now.tops)) }
 {

@@ -16,10 +16,10 @@ use Rattle.smv_core.specs.declared.tree.Text.{Text}
 use Rattle.smv_core.specs.declared.tree.Top.{Top}
 use Rattle.smv_core.specs.declared.tree.Top.TheVariants.{SetType, Alias, Module}
 use Rattle.smv_core.specs.declared.flat.Family.{Family as FlatFamily}
-use Rattle.smv_instances.specs.declared.pieces.Piece.{Piece as NotedPiece}
-use Rattle.smv_instances.specs.Mentions.{Mention}
-use Rattle.smv_instances.specs.Scopes.{Known, piece_of, known_after, pieces_from}
-use Rattle.smv_instances.specs.Said.{said, told, told_by, AreNoted}
+use Rattle.smv_mentions.specs.declared.pieces.Piece.{Piece as NotedPiece}
+use Rattle.smv_mentions.specs.Mentions.{Mention}
+use Rattle.smv_mentions.specs.Scopes.{Known, piece_of, known_after, pieces_from}
+use Rattle.smv_mentions.specs.Said.{said, told, told_by, AreNoted}
 use Rattle.law_designs.specs.Flattening.{set_of, enum_of, enums_of, different, flat_family, scope_in, dot, dotted}
 use Rattle.law_designs.specs.Entries.{placed_in, placed_families}
 use Rattle.smv_flatten_families.specs.Paths.{path_of, first_place, found_or}

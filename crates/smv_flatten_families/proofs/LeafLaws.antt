@@ -17,7 +17,7 @@ use Rattle.smv_core.specs.declared.tree.Field.{Field, out-Field}
 use Rattle.smv_core.specs.declared.tree.TypeExpr.{TypeExpr, Boolean, Range, Enum, Named, Struct, Struct', Array, Row_of-Field, end_of-Field, more_of-Field, items-the_row-Field, items_hidden-the_row-Field-1}
 use mathlib.Core.Former.{Count}
 use Rattle.law_designs.specs.Numbers.{flat_simple}
-use Rattle.smv_instances.proofs.Computing.{computing}
+use Rattle.smv_mentions.proofs.Computing.{computing}
 use Rattle.smv_flatten_families.specs.Simples.{numbering}
 use Rattle.smv_flatten_families.specs.Types.{Leaf, leaf_of, one_leaf, under, behind, types_of, leaves, named_leaves, alone, array_leaves, field_leaves}
 

@@ -16,7 +16,7 @@ fn add_dotted(bytes: &mut Vec<u8>, name: &Name) -> Result<(), AllocError>
 }
 
 /// The names that lead to something as one name, with a dot between each two.
-#[tactic(auto, using(smv_instances::proofs::Notes::noting, crate::proofs::BuildLaws::dots))]
+#[tactic(auto, using(smv_mentions::proofs::Notes::noting, crate::proofs::BuildLaws::dots))]
 pub fn dotted(alloc: Global, names: &[&Name]) -> Result<Name, AllocError>
     ensures { IfOk result (λ name. name ≡ flattening.dotted (path_of names.now)) }
 {

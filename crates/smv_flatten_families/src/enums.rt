@@ -3,7 +3,7 @@ ghost use Rattle.std.specs.Prelude.{◌≡◌, List, [], ◌∷◌, ◌++◌, ma
 ghost use Rattle.std.specs.List.{flat_map};
 ghost use Rattle.smv_core.specs.Values.{Path};
 ghost use Rattle.smv_core.specs.Types.{names_of};
-ghost use Rattle.smv_instances.specs.Said.{said};
+ghost use Rattle.smv_mentions.specs.Said.{said};
 ghost use Rattle.law_designs.specs.Flattening.{enum_of};
 ghost use Rattle.smv_flatten_families.specs.Lists.{AreLists, constants_from, constants_of_list};
 
@@ -14,8 +14,8 @@ use name_index::map::NameMap;
 use smv_core::name::Name;
 use smv_core::seq::Seq;
 use smv_core::tree::Word;
-use smv_instances::mentions::Mention;
-use smv_instances::pieces::Piece;
+use smv_mentions::mentions::Mention;
+use smv_mentions::pieces::Piece;
 use std::alloc::{AllocError, Global};
 use std::collections::HashMap;
 
@@ -34,7 +34,7 @@ pub struct Lists<'a> {
 }
 
 // One list more, where an enumeration lists its constants.
-#[tactic(auto, using(smv_instances::proofs::Notes::noting))]
+#[tactic(auto, using(smv_mentions::proofs::Notes::noting))]
 fn add_list<'a>(lists: &mut Vec<&'a [Word]>, mention: &Mention<'a>) -> Result<(), AllocError>
     ensures { OnOk result (map (λ words. names_of words.now) lists.new.items ≡ map (λ words. names_of words.now) lists.old.items ++ enum_of (said mention.now)) }
 {
@@ -48,7 +48,7 @@ fn add_list<'a>(lists: &mut Vec<&'a [Word]>, mention: &Mention<'a>) -> Result<()
 }
 
 // The lists of these enumerations more.
-#[tactic(auto, using(smv_instances::proofs::Notes::noting))]
+#[tactic(auto, using(smv_mentions::proofs::Notes::noting))]
 fn add_lists<'a>(lists: &mut Vec<&'a [Word]>, mentions: &[Mention<'a>]) -> Result<(), AllocError>
     ensures { OnOk result (map (λ words. names_of words.now) lists.new.items ≡ map (λ words. names_of words.now) lists.old.items ++ flat_map (λ mention. enum_of (said mention)) mentions.now) }
 {
@@ -59,7 +59,7 @@ fn add_lists<'a>(lists: &mut Vec<&'a [Word]>, mentions: &[Mention<'a>]) -> Resul
 }
 
 /// The lists of all enumerations, as often as they are written.
-#[tactic(auto, using(smv_instances::proofs::Notes::noting))]
+#[tactic(auto, using(smv_mentions::proofs::Notes::noting))]
 pub fn all_lists<'a>(alloc: Global, pieces: &[Piece<'a>]) -> Result<Vec<&'a [Word]>, AllocError>
     ensures { IfOk result (λ lists. map (λ words. names_of words.now) lists.items ≡ flat_map (λ piece. flat_map (λ mention. enum_of (said mention)) piece.mentions.items) pieces.now) }
 {
@@ -105,7 +105,7 @@ pub fn different_lists<'a>(alloc: Global, all: &[&'a [Word]]) -> Result<Lists<'a
 }
 
 /// These lists once more.
-#[tactic(auto, using(smv_instances::proofs::Notes::noting))]
+#[tactic(auto, using(smv_mentions::proofs::Notes::noting))]
 pub fn copied_lists(alloc: Global, lists: &[&[Word]]) -> Result<Seq<Seq<Name>>, AllocError>
     ensures { IfOk result (λ copies. copies ≡ map (λ words. names_of words.now) lists.now) }
 {
@@ -118,7 +118,7 @@ pub fn copied_lists(alloc: Global, lists: &[&[Word]]) -> Result<Seq<Seq<Name>>, 
 }
 
 // The constants of the list of a number.
-#[tactic(auto, using(smv_instances::proofs::Notes::noting))]
+#[tactic(auto, using(smv_mentions::proofs::Notes::noting))]
 fn add_constants<'a>(
     constants: &mut NameMap<'a, Constant>,
     list: u16,
@@ -134,7 +134,7 @@ fn add_constants<'a>(
 }
 
 /// The constants of these lists, each with the number of its list and its place there.
-#[tactic(auto, using(smv_instances::proofs::Notes::noting))]
+#[tactic(auto, using(smv_mentions::proofs::Notes::noting))]
 pub fn all_constants<'a>(
     alloc: Global,
     lists: &[&'a [Word]],

@@ -39,7 +39,7 @@ pub struct Stem<'a, 'n> {
 // ---- a signal
 
 // One value.
-#[tactic(auto, using(smv_instances::proofs::Notes::noting))]
+#[tactic(auto, using(smv_mentions::proofs::Notes::noting))]
 fn add_one<'a>(
     alloc: Global,
     out: &mut Vec<Placed<'a>>,
@@ -71,7 +71,7 @@ fn more_over(alloc: Global, over: &[Simple], t: Simple) -> Result<Vec<Simple>, A
 
 // The families of a signal that has a form. The count falls with each level; no memory holds a type of more levels than it counts.
 #[cycle(families)]
-#[tactic(auto, using(smv_instances::proofs::Notes::noting, crate::proofs::StemLaws::stems))]
+#[tactic(auto, using(smv_mentions::proofs::Notes::noting, crate::proofs::StemLaws::stems))]
 fn add_form<'a>(
     types: &Types<'a>,
     out: &mut Vec<Placed<'a>>,
@@ -98,7 +98,7 @@ fn add_form<'a>(
 
 // Those of an array.
 #[cycle(families)]
-#[tactic(auto, using(smv_instances::proofs::Notes::noting, crate::proofs::StemLaws::stems))]
+#[tactic(auto, using(smv_mentions::proofs::Notes::noting, crate::proofs::StemLaws::stems))]
 fn add_array<'a>(
     types: &Types<'a>,
     out: &mut Vec<Placed<'a>>,
@@ -124,7 +124,7 @@ fn add_array<'a>(
 
 // Those of fields.
 #[cycle(families)]
-#[tactic(auto, using(smv_instances::proofs::Notes::noting, crate::proofs::StemLaws::stems))]
+#[tactic(auto, using(smv_mentions::proofs::Notes::noting, crate::proofs::StemLaws::stems))]
 fn add_fields<'a>(
     types: &Types<'a>,
     out: &mut Vec<Placed<'a>>,
@@ -144,7 +144,7 @@ fn add_fields<'a>(
 
 // Those of fields of one type.
 #[cycle(families)]
-#[tactic(auto, using(smv_instances::proofs::Notes::noting, crate::proofs::StemLaws::stems))]
+#[tactic(auto, using(smv_mentions::proofs::Notes::noting, crate::proofs::StemLaws::stems))]
 fn add_field<'a>(
     types: &Types<'a>,
     out: &mut Vec<Placed<'a>>,
@@ -165,7 +165,7 @@ fn add_field<'a>(
 
 // Those behind one more name.
 #[cycle(families)]
-#[tactic(auto, using(smv_instances::proofs::Notes::noting, crate::proofs::StemLaws::stems))]
+#[tactic(auto, using(smv_mentions::proofs::Notes::noting, crate::proofs::StemLaws::stems))]
 fn add_named<'a>(
     types: &Types<'a>,
     out: &mut Vec<Placed<'a>>,
@@ -215,7 +215,7 @@ pub fn module_named<'a>(modules: &NameMap<'a, Body<'a>>, name: &Name) -> Body<'a
 }
 
 // The families of one declared signal.
-#[tactic(auto, using(smv_instances::proofs::Notes::noting, crate::proofs::StemLaws::stems))]
+#[tactic(auto, using(smv_mentions::proofs::Notes::noting, crate::proofs::StemLaws::stems))]
 fn add_signal<'a>(
     types: &Types<'a>,
     out: &mut Vec<Placed<'a>>,
@@ -238,7 +238,7 @@ fn add_signal<'a>(
 }
 
 // The families of declared signals of one type.
-#[tactic(auto, using(smv_instances::proofs::Notes::noting))]
+#[tactic(auto, using(smv_mentions::proofs::Notes::noting))]
 fn add_signals<'a>(
     types: &Types<'a>,
     out: &mut Vec<Placed<'a>>,
@@ -259,7 +259,7 @@ fn add_signals<'a>(
 
 /// The families of an instance of a module; no chain of instances inside it is longer than this number.
 #[cycle(instances)]
-#[tactic(auto, using(smv_instances::proofs::Notes::noting))]
+#[tactic(auto, using(smv_mentions::proofs::Notes::noting))]
 pub fn add_instance<'a>(
     types: &Types<'a>,
     modules: &NameMap<'a, Body<'a>>,
@@ -284,7 +284,7 @@ pub fn add_instance<'a>(
 
 // The families of an item.
 #[cycle(instances)]
-#[tactic(auto, using(smv_instances::proofs::Notes::noting, crate::proofs::ItemLaws::equations))]
+#[tactic(auto, using(smv_mentions::proofs::Notes::noting, crate::proofs::ItemLaws::equations))]
 fn add_item<'a>(
     types: &Types<'a>,
     modules: &NameMap<'a, Body<'a>>,
@@ -319,7 +319,7 @@ fn add_item<'a>(
 
 // The families of instances of one module.
 #[cycle(instances)]
-#[tactic(auto, using(smv_instances::proofs::Notes::noting))]
+#[tactic(auto, using(smv_mentions::proofs::Notes::noting))]
 fn add_instances<'a>(
     types: &Types<'a>,
     modules: &NameMap<'a, Body<'a>>,

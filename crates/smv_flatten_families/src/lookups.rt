@@ -92,7 +92,7 @@ pub fn constant(here: Here, parts: &[Part], at: u32) -> Result<FlatExpr, AllocEr
 }
 
 // These names, and those of a path behind them, without its indexes.
-#[tactic(auto, using(smv_instances::proofs::Notes::noting))]
+#[tactic(auto, using(smv_mentions::proofs::Notes::noting))]
 fn key_of_parts<'p>(
     alloc: Global,
     names: &[&'p Name],

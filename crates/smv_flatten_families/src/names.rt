@@ -18,7 +18,7 @@ pub fn copied(alloc: Global, name: &Name) -> Result<Name, AllocError>
 }
 
 /// The names of words once more.
-#[tactic(auto, using(smv_instances::proofs::Notes::noting))]
+#[tactic(auto, using(smv_mentions::proofs::Notes::noting))]
 pub fn copied_names(alloc: Global, words: &[Word]) -> Result<Seq<Name>, AllocError>
     ensures { IfOk result (λ names. names ≡ names_of words.now) }
 {
@@ -31,7 +31,7 @@ pub fn copied_names(alloc: Global, words: &[Word]) -> Result<Seq<Name>, AllocErr
 }
 
 /// The names of words as a key.
-#[tactic(auto, using(smv_instances::proofs::Notes::noting))]
+#[tactic(auto, using(smv_mentions::proofs::Notes::noting))]
 pub fn key_of_words<'a>(alloc: Global, words: &'a [Word]) -> Result<Names<'a>, AllocError>
     ensures { IfOk result (λ names. names ≡ names_of words.now) }
 {
@@ -43,7 +43,7 @@ pub fn key_of_words<'a>(alloc: Global, words: &'a [Word]) -> Result<Names<'a>, A
 }
 
 /// The names that lead somewhere, and one more.
-#[tactic(auto, using(smv_instances::proofs::Notes::noting))]
+#[tactic(auto, using(smv_mentions::proofs::Notes::noting))]
 pub fn longer<'a>(
     alloc: Global,
     here: &[&'a Name],

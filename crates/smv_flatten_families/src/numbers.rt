@@ -6,7 +6,7 @@ ghost use Rattle.smv_core.specs.Types as shapes;
 ghost use Rattle.smv_core.specs.FlatOrder as flat_order;
 ghost use Rattle.smv_core.specs.FlatOrder.{main, modules};
 ghost use Rattle.smv_core.specs.Outcome.{same_path};
-ghost use Rattle.smv_instances.specs.Said.{AreNoted};
+ghost use Rattle.smv_mentions.specs.Said.{AreNoted};
 ghost use Rattle.smv_flatten_families.specs.Paths.{first_place};
 ghost use Rattle.smv_flatten_families.specs.Families.{body_beside, body_now, in_place, instance_places, written};
 ghost use Rattle.smv_flatten_families.specs.Types.{AreTypes};
@@ -27,7 +27,7 @@ use smv_core::flat::{Family, SetInfo};
 use smv_core::name::Name;
 use smv_core::seq::Seq;
 use smv_core::tree::{Item, Text, Top, Word};
-use smv_instances::pieces::Piece;
+use smv_mentions::pieces::Piece;
 use std::alloc::{AllocError, Global};
 use std::collections::HashMap;
 
@@ -68,7 +68,7 @@ pub struct Body<'a> {
 }
 
 // One module more, where a top is one.
-#[tactic(auto, using(smv_instances::proofs::Notes::noting))]
+#[tactic(auto, using(smv_mentions::proofs::Notes::noting))]
 fn add_module<'a>(modules: &mut NameMap<'a, Body<'a>>, top: &'a Top) -> Result<(), AllocError>
     ensures { OnOk result (map body_beside modules.new ≡ map body_beside modules.old ++ flat_order.modules (top.now ∷ [])) }
 {
@@ -94,7 +94,7 @@ fn add_module<'a>(modules: &mut NameMap<'a, Body<'a>>, top: &'a Top) -> Result<(
 }
 
 // The modules of a text by their names.
-#[tactic(auto, using(smv_instances::proofs::Notes::noting, crate::proofs::ModuleLaws::steps))]
+#[tactic(auto, using(smv_mentions::proofs::Notes::noting, crate::proofs::ModuleLaws::steps))]
 fn modules_of<'a>(alloc: Global, tops: &'a [Top]) -> Result<NameMap<'a, Body<'a>>, AllocError>
     ensures { IfOk result (λ held. map body_beside held ≡ modules tops.now) }
 {
@@ -145,7 +145,7 @@ fn written_family(alloc: Global, placed: &Placed) -> Result<Family, AllocError>
 }
 
 // The families as they are written.
-#[tactic(auto, using(smv_instances::proofs::Notes::noting))]
+#[tactic(auto, using(smv_mentions::proofs::Notes::noting))]
 fn written_families(alloc: Global, all: &[Placed]) -> Result<Seq<Family>, AllocError>
     ensures { IfOk result (λ families. families ≡ map (λ placed. written (in_place placed)) all.now) }
 {

@@ -25,7 +25,7 @@ fn size_of(span: Option<Span>) -> Result<Option<u16>, AllocError>
 }
 
 // One set type more, where a top is one.
-#[tactic(auto, using(smv_instances::proofs::Notes::noting))]
+#[tactic(auto, using(smv_mentions::proofs::Notes::noting))]
 fn add_set(alloc: Global, sets: &mut Seq<SetInfo>, top: &Top) -> Result<(), AllocError>
     ensures { OnOk result (sets.new ≡ sets.old ++ set_of top.now) }
 {
@@ -50,7 +50,7 @@ fn add_set(alloc: Global, sets: &mut Seq<SetInfo>, top: &Top) -> Result<(), Allo
 }
 
 /// The set types, in the order of their tops.
-#[tactic(auto, using(smv_instances::proofs::Notes::noting))]
+#[tactic(auto, using(smv_mentions::proofs::Notes::noting))]
 pub fn sets_of(alloc: Global, tops: &[Top]) -> Result<Seq<SetInfo>, AllocError>
     ensures { IfOk result (λ sets. sets ≡ flat_map set_of tops.now) }
 {
@@ -62,7 +62,7 @@ pub fn sets_of(alloc: Global, tops: &[Top]) -> Result<Seq<SetInfo>, AllocError>
 }
 
 // The name of one set type more, where a top is one.
-#[tactic(auto, using(smv_instances::proofs::Notes::noting))]
+#[tactic(auto, using(smv_mentions::proofs::Notes::noting))]
 fn add_set_name<'a>(names: &mut NameIndex<'a>, top: &'a Top) -> Result<(), AllocError>
     ensures { OnOk result (names.new ≡ names.old ++ map (λ info. info.name) (set_of top.now)) }
 {
@@ -77,7 +77,7 @@ fn add_set_name<'a>(names: &mut NameIndex<'a>, top: &'a Top) -> Result<(), Alloc
 }
 
 /// The names of the set types.
-#[tactic(auto, using(smv_instances::proofs::Notes::noting))]
+#[tactic(auto, using(smv_mentions::proofs::Notes::noting))]
 pub fn set_names<'a>(alloc: Global, tops: &'a [Top]) -> Result<NameIndex<'a>, AllocError>
     ensures { IfOk result (λ names. names ≡ flat_map (λ top. map (λ info. info.name) (set_of top)) tops.now) }
 {

@@ -17,7 +17,7 @@ use Rattle.smv_core.specs.declared.flat.FlatExpr as flat
 use Rattle.smv_core.specs.declared.flat.FlatSigned.{roll-FlatSigned}
 use Rattle.smv_core.specs.declared.flat.FlatMember as member
 use mathlib.Core.Former.{Count}
-use Rattle.smv_instances.proofs.Computing.{computing}
+use Rattle.smv_mentions.proofs.Computing.{computing}
 use Rattle.law_designs.specs.Numbers.{Scope, bound_in, flat_over, flat_path}
 use Rattle.law_designs.specs.Statements.{flat_row, flat_indexes, flat_signed, flat_members}
 use Rattle.smv_flatten_statements.specs.Flattened.{expression_of, signed_of, member_of}

@@ -9,7 +9,7 @@ use Rattle.smv_core.specs.declared.tree.Member.{Member}
 use Rattle.smv_core.specs.declared.tree.Expr.{Expr, Number, Signal, Not, And, And', Or, Or', Implies, Implies', Iff, Compare, Within, Sum, Modulo, Choose, All, Any, List as ListOf, Each}
 use Rattle.smv_core.specs.declared.tree.Expr.{Row_of-Expr, end_of-Expr, more_of-Expr, items-the_row-Expr, items_hidden-the_row-Expr-2}
 use mathlib.Core.Former.{Count}
-use Rattle.smv_instances.proofs.Computing.{computing}
+use Rattle.smv_mentions.proofs.Computing.{computing}
 use Rattle.law_designs.specs.Statements.{first_token_of}
 use Rattle.smv_flatten_statements.specs.Flattened.{begins_at, first_begins_at}
 

@@ -16,7 +16,7 @@ use Rattle.smv_core.specs.declared.flat.FlatExpr as flat
 use Rattle.smv_core.specs.declared.flat.FlatStmt.{FlatStmt}
 use Rattle.smv_core.specs.declared.flat.FlatStmt as act
 use mathlib.Core.Former.{Count}
-use Rattle.smv_instances.proofs.Computing.{computing}
+use Rattle.smv_mentions.proofs.Computing.{computing}
 use Rattle.law_designs.specs.Numbers.{Scope, bound_in, flat_over, family_number}
 use Rattle.law_designs.specs.Statements.{first_label, flat_parts, flat_branch, flat_arms}
 use Rattle.smv_flatten_statements.specs.Flattened.{begins_at, first_begins_at, expression_of, path_indexes, label_of, is_one_of, statement_of, branch_of, arms_of, turns_of}

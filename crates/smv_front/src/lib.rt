@@ -7,19 +7,19 @@ ghost use Rattle.std.specs.Prelude.{◌≡◌, true, IfOk};
 ghost use Rattle.law_designs.specs.FlatKinds.{is_kinded};
 ghost use Rattle.law_designs.specs.FirstFault.{first_fault_of_design};
 ghost use Rattle.law_designs.specs.Flattening.{flatten};
-ghost use Rattle.law_designs.specs.Definitions.{design_of_raw};
+ghost use Rattle.law_designs.specs.Definitions.{design_of_flat_text};
 ghost use Rattle.smv_typing.specs.Answers.{IsSpelled};
 ghost use Rattle.smv_cases.specs.Faults.{Refuses};
-ghost use Rattle.smv_instances.specs.FirstFault.{or_else};
+ghost use Rattle.smv_mentions.specs.FirstFault.{or_else};
 ghost use Rattle.smv_plans.specs.Plans.{plan_fault, IsPlan};
 ghost use Rattle.smv_front.specs.TextFault as spec;
 
 use crate::types::are_too_deep;
-use smv_core::flat::{Design, Raw};
+use smv_core::flat::{Design, FlatText};
 use smv_core::tree::Text;
 use smv_core::{Fault, Refusal};
 use smv_design::design;
-use smv_instances::pieces::pieces;
+use smv_mentions::pieces::pieces;
 use smv_layers::layers::layer_fault;
 use smv_loops::loops::loop_fault;
 use smv_names::first_fault;
@@ -54,13 +54,13 @@ fn set_plan(alloc: Global, design: Design, of_sets: Option<Fault>) -> Result<Pla
 }
 
 // The plan of a flattened text without a fault of single assignment, or its first fault: of its design, or else of its set types, or else of the rules of proof.
-fn design_plan(alloc: Global, raw: Raw) -> Result<Plan, Refusal>
-    requires { is_kinded raw ≡ true }
-    ensures plan { IfOk result (IsPlan (design_of_raw raw)) }
-    ensures refuses { Refuses (spec.design_fault raw) result }
+fn design_plan(alloc: Global, flat_text: FlatText) -> Result<Plan, Refusal>
+    requires { is_kinded flat_text ≡ true }
+    ensures plan { IfOk result (IsPlan (design_of_flat_text flat_text)) }
+    ensures refuses { Refuses (spec.design_fault flat_text) result }
 {
-    let of_sets = symmetric_fault(alloc, &raw)?;
-    let design = design(alloc, raw)?;
+    let of_sets = symmetric_fault(alloc, &flat_text)?;
+    let design = design(alloc, flat_text)?;
     match design_fault(alloc, &design)? {
         Some(fault) => Err(Refusal::Fault(fault)),
         None => set_plan(alloc, design, of_sets),
@@ -68,14 +68,14 @@ fn design_plan(alloc: Global, raw: Raw) -> Result<Plan, Refusal>
 }
 
 // The plan of a flattened text, or its first fault: of single assignment, or else a later one.
-fn raw_plan(alloc: Global, raw: Raw) -> Result<Plan, Refusal>
-    requires { is_kinded raw ≡ true }
-    ensures plan { IfOk result (IsPlan (design_of_raw raw)) }
-    ensures refuses { Refuses (spec.raw_fault raw) result }
+fn flat_text_plan(alloc: Global, flat_text: FlatText) -> Result<Plan, Refusal>
+    requires { is_kinded flat_text ≡ true }
+    ensures plan { IfOk result (IsPlan (design_of_flat_text flat_text)) }
+    ensures refuses { Refuses (spec.flat_text_fault flat_text) result }
 {
-    match single_fault(alloc, &raw)? {
+    match single_fault(alloc, &flat_text)? {
         Some(fault) => Err(Refusal::Fault(fault)),
-        None => design_plan(alloc, raw),
+        None => design_plan(alloc, flat_text),
     }
 }
 
@@ -86,7 +86,7 @@ fn raw_plan(alloc: Global, raw: Raw) -> Result<Plan, Refusal>
 #[tactic(auto, using(crate::proofs::FaultLaws::text_answers))]
 pub fn read_plan(alloc: Global, text: &Text) -> Result<Plan, Refusal>
     requires { IsSpelled text.now }
-    ensures plan { IfOk result (IsPlan (design_of_raw (flatten text.now))) }
+    ensures plan { IfOk result (IsPlan (design_of_flat_text (flatten text.now))) }
     ensures refuses { Refuses (spec.text_fault text.now) result }
 {
     if are_too_deep(alloc, text)? {
@@ -97,7 +97,7 @@ pub fn read_plan(alloc: Global, text: &Text) -> Result<Plan, Refusal>
         Some(fault) => Err(Refusal::Fault(fault)),
         None => {
             let typed = kinds(alloc, text, &pieces)?;
-            raw_plan(alloc, typed.into_raw())
+            flat_text_plan(alloc, typed.into_raw())
         }
     }
 }

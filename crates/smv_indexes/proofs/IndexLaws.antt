@@ -3,7 +3,7 @@ use Rattle.std.proofs.Common.{◌≡◌, ℕ, zero, suc, ◌<◌, ◌%◌, List,
 use Rattle.std.specs.Prelude.{Option, Some, None}
 use Rattle.smv_core.specs.Values.{number, modulo}
 use Rattle.smv_core.specs.Assignments.{Index, fixed, bare, computed, add_fixed, modulo_fixed}
-use Rattle.smv_core.specs.Flat.{flat_index, flat_index_sum}
+use Rattle.smv_core.specs.FlatMeaning.{flat_index, flat_index_sum}
 use Rattle.smv_core.specs.declared.tree.Op.{Op}
 use Rattle.smv_core.specs.declared.flat.Simple.{Simple}
 use Rattle.smv_core.specs.declared.flat.FlatSigned.{FlatSigned}

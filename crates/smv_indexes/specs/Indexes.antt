@@ -2,7 +2,7 @@
 use Rattle.std.specs.Prelude.{ℕ, List, [], ◌∷◌, Option, option_map}
 use Rattle.smv_core.specs.Values.{Outcome, number}
 use Rattle.smv_core.specs.Assignments.{Index, fixed, bare, computed, add_fixed}
-use Rattle.smv_core.specs.Flat.{flat_index}
+use Rattle.smv_core.specs.FlatMeaning.{flat_index}
 use Rattle.smv_core.specs.declared.flat.FlatSigned.{FlatSigned, out-FlatSigned}
 use Rattle.smv_indexes.specs.declared.Index.{Index as Known}
 use Rattle.smv_indexes.specs.declared.Index.TheVariants.{Fixed, Bare, Computed}

@@ -5,7 +5,7 @@
 ghost use Rattle.std.specs.Prelude.{◌≡◌, false, Some};
 ghost use Rattle.smv_core.specs.Values.{add, modulo};
 ghost use Rattle.smv_core.specs.Assignments.{add_fixed, modulo_fixed};
-ghost use Rattle.smv_core.specs.Flat.{flat_index};
+ghost use Rattle.smv_core.specs.FlatMeaning.{flat_index};
 ghost use Rattle.smv_indexes.specs.Indexes.{outcome_of, index_of, added_all};
 
 use smv_core::flat::{FlatExpr, FlatSigned};

@@ -12,7 +12,7 @@ use Rattle.smv_rings.specs.declared.ops.Op.TheVariants.{And, Exists, Look, Renam
 use Rattle.smv_rings.specs.Ops.{IsOneOf, act_of, acts_of, refs_in, refs_in_all, FitsAct, FitsActs}
 use Rattle.smv_rings.proofs.Fits.{fits_any}
 use Rattle.smv_rings.proofs.Refs.{one_left, one_right}
-use Rattle.smv_inductive.specs.Runs.{Passes, AllPass, Leaves, StaysWithin}
+use Rattle.smv_inductive.specs.Runs.{FindsNothing, AllFindNothing, Leaves, StaysWithin}
 
 pub keeps_self : (d : Diagram) → Keeps d d
 keeps_self d = record { vars = refl; live = λ r live. live; tables = λ r live a. refl; reached = λ f r f_live live reaches. reaches; firsts = λ r live. refl }
@@ -64,7 +64,7 @@ pub record IsLeft (d : Diagram) (start : Ref) (all : List Op) (e : Diagram) (p :
   pub refs : (r : Ref) → IsOneOf r (refs_in_all left) → IsLive d r
   pub fits : FitsActs d.vars (table e p) (acts_of d 1 left)
   pub leads : after (table d start) (acts_of d 1 all) ≡ after (table e p) (acts_of d 1 left)
-  pub passed : AllPass (table d start) (acts_of d 1 all) ↔ AllPass (table e p) (acts_of d 1 left)
+  pub passed : AllFindNothing (table d start) (acts_of d 1 all) ↔ AllFindNothing (table e p) (acts_of d 1 left)
 
 pub left_all : (d : Diagram) (start : Ref) (all : List Op) → IsLive d start → ((r : Ref) → IsOneOf r (refs_in_all all) → IsLive d r) → FitsActs d.vars (table d start) (acts_of d 1 all) → IsLeft d start all d start all
 left_all d start all live refs fits = record { keeps = keeps_self d; live = live; refs = refs; fits = fits; leads = refl; passed = ((λ h. h), λ h. h) }
@@ -92,8 +92,8 @@ module _ (d : Diagram) (start : Ref) (all : List Op) (e : Diagram) (p : Ref) (i 
   pub op_fits : FitsAct e.vars (table e p) (act_of e 1 (get_or all i o))
   op_fits = subst (λ (n : ℕ). FitsAct n (table e p) (act_of e 1 op)) (sym next.keeps.vars) (subst (FitsAct d.vars (table e p)) (sym same) next.fits.0)
 
-  pub op_finds : (f : Diagram) (r : Option Ref) → r ≡ None → Leaves f (table e p) (act_of e 1 (get_or all i o) ∷ []) r → AllPass (table d start) (acts_of d 1 all) → ⊥
-  op_finds f r none finds pass = subst (Leaves f (table e p) (act_of e 1 op ∷ [])) none finds (subst (λ (act : Act). Passes act (table e p)) (sym same) (next.passed.0 pass).0, tt)
+  pub op_finds : (f : Diagram) (r : Option Ref) → r ≡ None → Leaves f (table e p) (act_of e 1 (get_or all i o) ∷ []) r → AllFindNothing (table d start) (acts_of d 1 all) → ⊥
+  op_finds f r none finds pass = subst (Leaves f (table e p) (act_of e 1 op ∷ [])) none finds (subst (λ (act : Act). FindsNothing act (table e p)) (sym same) (next.passed.0 pass).0, tt)
 
   pub op_leaves : (f : Diagram) (r : Option Ref) (q : Ref) → r ≡ Some q → Keeps e f → Leaves f (table e p) (act_of e 1 (get_or all i o) ∷ []) r → IsLeft d start all f q (drop (i + 1) all)
   op_leaves f r q some keeps leaves =
@@ -106,8 +106,8 @@ module _ (d : Diagram) (start : Ref) (all : List Op) (e : Diagram) (p : Ref) (i 
         fits = subst (λ (g : Function). FitsActs d.vars g (acts_of d 1 rest)) (sym at.2) next.fits.1;
         leads = next.leads ∙ ap (λ g. after g (acts_of d 1 rest)) (sym at.2);
         passed = (
-          (λ pass. subst (λ (g : Function). AllPass g (acts_of d 1 rest)) (sym at.2) (next.passed.0 pass).1),
-          (λ pass. next.passed.1 (at.0.0, subst (λ (g : Function). AllPass g (acts_of d 1 rest)) at.2 pass)),
+          (λ pass. subst (λ (g : Function). AllFindNothing g (acts_of d 1 rest)) (sym at.2) (next.passed.0 pass).1),
+          (λ pass. next.passed.1 (at.0.0, subst (λ (g : Function). AllFindNothing g (acts_of d 1 rest)) at.2 pass)),
         );
       })
 

@@ -11,7 +11,7 @@ use Rattle.smv_rings.proofs.Early.{and_true, true_and, true_or_left}
 use Rattle.smv_rings.proofs.Turns.{current_agree, after_append}
 use Rattle.smv_rings.proofs.Image.{image_to, image_from, image_below, image_current, look_to, look_from, both_at}
 use Rattle.smv_rings.proofs.Rings.{ring_facts, ring_to, ring_from}
-use Rattle.smv_inductive.specs.Runs.{AllPass, StaysWithin}
+use Rattle.smv_inductive.specs.Runs.{AllFindNothing, StaysWithin}
 use Rattle.smv_inductive.specs.Halves.{HoldsFirst, HoldsOn}
 use Rattle.smv_inductive.specs.Laws.{EqualRingsAreInductive}
 
@@ -58,14 +58,14 @@ quiet_ands : (fs : List Function) → Quiet (map Join fs)
 quiet_ands [] = tt
 quiet_ands (f ∷ fs) = quiet_ands fs
 
-pass_quiet : (acts : List Act) (p : Function) → Quiet acts → AllPass p acts
+pass_quiet : (acts : List Act) (p : Function) → Quiet acts → AllFindNothing p acts
 pass_quiet [] p quiet = tt
 pass_quiet (Join f ∷ acts) p quiet = (tt, pass_quiet acts (conj p f) quiet)
 pass_quiet (Out v ∷ acts) p quiet = (tt, pass_quiet acts (left_by (Out v) p) quiet)
 pass_quiet (Look_at k f ∷ acts) p quiet = absurd quiet
 pass_quiet (Lower ∷ acts) p quiet = (tt, pass_quiet acts (left_by Lower p) quiet)
 
-pass_behind : (xs ys : List Act) (p : Function) → Quiet xs → AllPass p (xs ++ ys) ↔ AllPass (after p xs) ys
+pass_behind : (xs ys : List Act) (p : Function) → Quiet xs → AllFindNothing p (xs ++ ys) ↔ AllFindNothing (after p xs) ys
 pass_behind [] ys p quiet = ((λ h. h), λ h. h)
 pass_behind (Join f ∷ xs) ys p quiet = let more = pass_behind xs ys (conj p f) quiet in ((λ h. more.0 h.1), λ h. (tt, more.1 h))
 pass_behind (Out v ∷ xs) ys p quiet = let more = pass_behind xs ys (left_by (Out v) p) quiet in ((λ h. more.0 h.1), λ h. (tt, more.1 h))
@@ -73,7 +73,7 @@ pass_behind (Look_at k f ∷ xs) ys p quiet = absurd quiet
 pass_behind (Lower ∷ xs) ys p quiet = let more = pass_behind xs ys (left_by Lower p) quiet in ((λ h. more.0 h.1), λ h. (tt, more.1 h))
 
 -- one look
-look_means : (xs ys : List Act) (k : ℕ) (f p : Function) → Quiet xs → Quiet ys → AllPass p (xs ++ (Look_at k f ∷ ys)) ↔ ((a : ℕ → Bool) → after p xs a && f a ≡ false)
+look_means : (xs ys : List Act) (k : ℕ) (f p : Function) → Quiet xs → Quiet ys → AllFindNothing p (xs ++ (Look_at k f ∷ ys)) ↔ ((a : ℕ → Bool) → after p xs a && f a ≡ false)
 look_means xs ys k f p quiet more = (
   (λ pass. ((pass_behind xs (Look_at k f ∷ ys) p quiet).0 pass).0),
   (λ none. (pass_behind xs (Look_at k f ∷ ys) p quiet).1 (none, pass_quiet ys (after p xs) more)),
@@ -94,9 +94,9 @@ first_left k l =
     ∙ after_ands l.before_first (after always (map Join l.now_first))
     ∙ ap (λ p. conj p (all_of l.before_first)) (after_ands l.now_first always)
 
-first_looks : (k : ℕ) (l : Lists) → AllPass always (first_acts k l) ↔ ((a : ℕ → Bool) → all_of l.now_first a && l.broken_first a ≡ false)
+first_looks : (k : ℕ) (l : Lists) → AllFindNothing always (first_acts k l) ↔ ((a : ℕ → Bool) → all_of l.now_first a && l.broken_first a ≡ false)
 first_looks k l =
-    subst (λ (p : Function). AllPass always (map Join l.now_first ++ (Look_at k l.broken_first ∷ map Join l.before_first)) ↔ ((a : ℕ → Bool) → p a && l.broken_first a ≡ false))
+    subst (λ (p : Function). AllFindNothing always (map Join l.now_first ++ (Look_at k l.broken_first ∷ map Join l.before_first)) ↔ ((a : ℕ → Bool) → p a && l.broken_first a ≡ false))
     (after_ands l.now_first always)
     (look_means (map Join l.now_first) (map Join l.before_first) k l.broken_first always (quiet_ands l.now_first) (quiet_ands l.before_first))
 
@@ -140,7 +140,7 @@ module _ (l : Lists) (ok : IsLists l) (set : Function) (below : DependsBelow (2 
       (quiet_outs (filter (λ v. depends (vars l) l.broken_step v && reads_none (vars l) l.before_step v) (evens l.bits)))
       (quiet_append (joins l l.before_step []) (Lower ∷ []) (quiet_joins l.before_step []) tt)
 
-  turn_looks : (k : ℕ) → AllPass set (turn l k) ↔ ((a : ℕ → Bool) → after set (forth l) a && l.broken_step a ≡ false)
+  turn_looks : (k : ℕ) → AllFindNothing set (turn l k) ↔ ((a : ℕ → Bool) → after set (forth l) a && l.broken_step a ≡ false)
   turn_looks k = look_means (forth l) (back l) (suc k) l.broken_step set quiet_forth quiet_back
 
   pub steps_mean : (k : ℕ) → StaysWithin set (turn l k) set ↔ HoldsOn l set

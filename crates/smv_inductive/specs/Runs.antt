@@ -7,23 +7,23 @@ use Rattle.smv_rings.specs.Schedule.{Act, left_by, after}
 use Rattle.smv_rings.specs.Schedule.Act.{Join, Out, Look_at, Lower}
 
 -- a look finds nothing
-abbrev pub Passes : Act → Function → Type 0
-Passes (Join f) p = Unit {0}
-Passes (Out v) p = Unit {0}
-Passes (Look_at k f) p = (a : ℕ → Bool) → p a && f a ≡ false
-Passes Lower p = Unit {0}
+abbrev pub FindsNothing : Act → Function → Type 0
+FindsNothing (Join f) p = Unit {0}
+FindsNothing (Out v) p = Unit {0}
+FindsNothing (Look_at k f) p = (a : ℕ → Bool) → p a && f a ≡ false
+FindsNothing Lower p = Unit {0}
 
 -- no look finds anything
-abbrev pub AllPass : Function → List Act → Type 0
-AllPass p [] = Unit {0}
-AllPass p (act ∷ acts) = Passes act p × AllPass (left_by act p) acts
+abbrev pub AllFindNothing : Function → List Act → Type 0
+AllFindNothing p [] = Unit {0}
+AllFindNothing p (act ∷ acts) = FindsNothing act p × AllFindNothing (left_by act p) acts
 
 -- what acts leave, or none where a look finds something
 abbrev pub Leaves : Diagram → Function → List Act → Option Ref → Type 0
-Leaves d p acts (Some r) = AllPass p acts × IsLive d r × (table d r ≡ after p acts)
-Leaves d p acts None = AllPass p acts → ⊥
+Leaves d p acts (Some r) = AllFindNothing p acts × IsLive d r × (table d r ≡ after p acts)
+Leaves d p acts None = AllFindNothing p acts → ⊥
 
 -- no look finds anything, and what acts leave is within the set
 pub record StaysWithin (p : Function) (acts : List Act) (set : Function) : Type 0 where
-  pub passes : AllPass p acts
+  pub passes : AllFindNothing p acts
   pub within : (a : ℕ → Bool) → after p acts a ≡ true → set a ≡ true

@@ -17,7 +17,7 @@ use Rattle.smv_core.specs.declared.tree.Expr.{Row_of-Part, end_of-Part, Row_of-S
 use mathlib.Core.Former.{Count}
 use Rattle.law_designs.specs.KindFaults.{is_fixed, are_constant}
 use Rattle.smv_kinds.specs.Found.{is_constant, part_constant}
-use Rattle.smv_instances.proofs.Computing.{computing}
+use Rattle.smv_mentions.proofs.Computing.{computing}
 
 path-not : (path : List Name) → is_fixed (index_of_path [] path) ≡ false
 path-not [] = refl

@@ -18,7 +18,7 @@ use Rattle.law_designs.specs.Types.{Types, index_faults, type_faults}
 use Rattle.law_designs.specs.References.{Scope, Vars}
 use Rattle.law_designs.specs.Operands.{operand, bind}
 use Rattle.law_designs.specs.KindFaults.{in_stmt, in_item, in_items, in_arguments, formal_faults}
-use Rattle.smv_instances.proofs.Computing.{computing}
+use Rattle.smv_mentions.proofs.Computing.{computing}
 
 module _ (scope : Scope) (vars : Vars) where
   items-row : (n : _) (row : Row_of-Item n) → in_items scope vars row ≡ flat_map (in_item scope vars) (items-the_row-Item n row)

@@ -18,7 +18,7 @@ use Rattle.law_designs.specs.References.{Scope, Vars}
 use Rattle.law_designs.specs.Operands.{operand, value, target, bind}
 use Rattle.law_designs.specs.KindFaults.{assigned, in_stmt, in_block, in_branch, in_arms, labels}
 use Rattle.smv_kinds.specs.Found.{labels_of, arm_faults}
-use Rattle.smv_instances.proofs.Computing.{computing}
+use Rattle.smv_mentions.proofs.Computing.{computing}
 
 module _ (scope : Scope) (vars : Vars) where
   -- an `else` or `default`, or none

@@ -16,7 +16,7 @@ use Rattle.law_designs.specs.References.{Scope, Vars}
 use Rattle.law_designs.specs.Operands.{operand, value, bind}
 use Rattle.smv_operand_kinds.specs.Found.{member}
 use Rattle.smv_operand_kinds.proofs.OperandLaws.{members_of, members-row}
-use Rattle.smv_instances.proofs.Computing.{computing}
+use Rattle.smv_mentions.proofs.Computing.{computing}
 
 module _ (scope : Scope) (vars : Vars) where
   pub value-List : (parts : List Member) (at : ℕ) → value scope vars (ListOf parts at) ≡ listed at (map (member scope vars) parts)

@@ -4,7 +4,7 @@ ghost use Rattle.std.specs.List.{list_all};
 ghost use Rattle.smv_core.specs.Types.{find_name};
 ghost use Rattle.smv_core.specs.declared.tree.Path.{out-Path};
 ghost use Rattle.smv_core.specs.declared.tree.Signed.{out-Signed};
-ghost use Rattle.smv_instances.specs.FirstFault.{faults_at};
+ghost use Rattle.smv_mentions.specs.FirstFault.{faults_at};
 ghost use Rattle.law_designs.specs.Operands as operands;
 ghost use Rattle.law_designs.specs.KindFaults as spec;
 ghost use Rattle.smv_expression_kinds.specs.Forms.{kind_of, AreKindTables};
@@ -91,7 +91,7 @@ fn is_constant_part(part: &Part) -> bool
 }
 
 // An output's argument is a path with constant indexes, which takes a value of this kind.
-#[tactic(auto, using(smv_instances::proofs::Notes::noting, crate::proofs::ArgumentLaws::equations, smv_operand_kinds::proofs::KindLaws::value_fits, smv_operand_kinds::proofs::KindLaws::no_vars))]
+#[tactic(auto, using(smv_mentions::proofs::Notes::noting, crate::proofs::ArgumentLaws::equations, smv_operand_kinds::proofs::KindLaws::value_fits, smv_operand_kinds::proofs::KindLaws::no_vars))]
 fn given<'a>(
     path: &'a Path,
     scope: &Scope<'a, '_>,
@@ -116,7 +116,7 @@ fn given<'a>(
 }
 
 // An output's argument, which takes a value of this kind.
-#[tactic(auto, using(smv_instances::proofs::Notes::noting, crate::proofs::ArgumentLaws::equations, smv_operand_kinds::proofs::KindLaws::no_vars))]
+#[tactic(auto, using(smv_mentions::proofs::Notes::noting, crate::proofs::ArgumentLaws::equations, smv_operand_kinds::proofs::KindLaws::no_vars))]
 fn gives<'a>(
     x: &'a Expr,
     scope: &Scope<'a, '_>,
@@ -148,7 +148,7 @@ fn gives<'a>(
 }
 
 // An output's argument that is no path.
-#[tactic(auto, using(smv_instances::proofs::Notes::noting, smv_operand_kinds::proofs::KindLaws::no_vars))]
+#[tactic(auto, using(smv_mentions::proofs::Notes::noting, smv_operand_kinds::proofs::KindLaws::no_vars))]
 fn no_path<'a>(
     x: &'a Expr,
     scope: &Scope<'a, '_>,
@@ -164,7 +164,7 @@ fn no_path<'a>(
 }
 
 // An argument of a formal.
-#[tactic(auto, using(smv_instances::proofs::Notes::noting, smv_operand_kinds::proofs::KindLaws::value_fits, smv_operand_kinds::proofs::KindLaws::no_vars))]
+#[tactic(auto, using(smv_mentions::proofs::Notes::noting, smv_operand_kinds::proofs::KindLaws::value_fits, smv_operand_kinds::proofs::KindLaws::no_vars))]
 fn argument<'a>(
     x: &'a Expr,
     scope: &Scope<'a, '_>,
@@ -186,7 +186,7 @@ fn argument<'a>(
 }
 
 // An argument of the first of these formals of a module, if there is one.
-#[tactic(auto, using(smv_instances::proofs::Notes::noting, crate::proofs::ArgumentLaws::zips))]
+#[tactic(auto, using(smv_mentions::proofs::Notes::noting, crate::proofs::ArgumentLaws::zips))]
 fn connected<'a>(
     x: &'a Expr,
     scope: &Scope<'a, '_>,
@@ -220,7 +220,7 @@ fn behind_first(words: &[Word]) -> &[Word]
 }
 
 // The arguments of these formals of a module.
-#[tactic(auto, using(smv_instances::proofs::Notes::noting, crate::proofs::ArgumentLaws::zips))]
+#[tactic(auto, using(smv_mentions::proofs::Notes::noting, crate::proofs::ArgumentLaws::zips))]
 fn all_connected<'a>(
     args: &'a [Expr],
     scope: &Scope<'a, '_>,
@@ -243,7 +243,7 @@ fn all_connected<'a>(
 }
 
 /// The arguments of an instance of the module of a name.
-#[tactic(auto, using(smv_instances::proofs::Notes::noting))]
+#[tactic(auto, using(smv_mentions::proofs::Notes::noting))]
 pub fn arguments<'a>(
     args: &'a [Expr],
     name: &'a Word,

@@ -1,8 +1,8 @@
 // The first fault of kinds, ranges and sets in a text.
 ghost use Rattle.std.specs.Prelude.{◌≡◌, ◌++◌, [], Some, None, slice_get, IfOk, OnOk};
-ghost use Rattle.smv_instances.specs.Scopes.{pieces as pieces_of, constants};
-ghost use Rattle.smv_instances.specs.Said.{AreNoted};
-ghost use Rattle.smv_instances.specs.FirstFault as first;
+ghost use Rattle.smv_mentions.specs.Scopes.{pieces as pieces_of, constants};
+ghost use Rattle.smv_mentions.specs.Said.{AreNoted};
+ghost use Rattle.smv_mentions.specs.FirstFault as first;
 ghost use Rattle.law_designs.specs.References.{modules_from};
 ghost use Rattle.law_designs.specs.KindFaults.{in_top, faults_of_kinds, first_fault_of_kinds};
 ghost use Rattle.smv_expression_kinds.specs.Forms.{types_before, AreKindTables};
@@ -12,13 +12,13 @@ use smv_core::fault::Fault;
 use smv_core::tree::{Text, Top};
 use smv_expression_kinds::lookups::Scope;
 use smv_expression_kinds::tables::{Tables, tables_of};
-use smv_instances::pieces::Piece;
+use smv_mentions::pieces::Piece;
 use smv_operand_kinds::types::{size_faults, type_faults};
 use smv_scope::scope::earlier;
 use std::alloc::{AllocError, Global};
 
 // The faults in the top of a number.
-#[tactic(auto, using(smv_instances::proofs::Notes::noting, smv_operand_kinds::proofs::KindLaws::no_vars))]
+#[tactic(auto, using(smv_mentions::proofs::Notes::noting, smv_operand_kinds::proofs::KindLaws::no_vars))]
 fn top_faults<'a>(
     top: &'a Top,
     scope: &Scope<'a, '_>,
@@ -37,7 +37,7 @@ fn top_faults<'a>(
 }
 
 // All faults of a text.
-#[tactic(auto, using(smv_instances::proofs::Notes::noting))]
+#[tactic(auto, using(smv_mentions::proofs::Notes::noting))]
 fn all_faults(tables: &Tables, alloc: Global) -> Result<Vec<Fault>, AllocError>
     requires { AreKindTables tables.now }
     ensures { IfOk result (λ out. out.items ≡ faults_of_kinds tables.now.names.text.now) }

@@ -2,8 +2,8 @@
 ghost use Rattle.std.specs.Prelude.{◌≡◌, Some};
 ghost use Rattle.smv_core.specs.Types.{find_name};
 ghost use Rattle.smv_core.specs.declared.tree.Expr.{Expr};
-ghost use Rattle.smv_instances.specs.Mentions.{signal};
-ghost use Rattle.smv_instances.specs.Scopes.{pieces, constants};
+ghost use Rattle.smv_mentions.specs.Mentions.{signal};
+ghost use Rattle.smv_mentions.specs.Scopes.{pieces, constants};
 ghost use Rattle.law_designs.specs.Owned.{IsOwned};
 ghost use Rattle.law_designs.specs.Types.{index_kind};
 ghost use Rattle.law_designs.specs.References as references;
@@ -17,7 +17,7 @@ use smv_core::tree::{Role, TypeExpr};
 use smv_expression_kinds::kinds::ValueKind;
 use smv_expression_kinds::lookups::{Scope, kind_by_first};
 use smv_expression_kinds::paths::own_in;
-use smv_instances::mentions::What;
+use smv_mentions::mentions::What;
 
 /// A formal of a module, where it has a role.
 #[derive(Clone, Copy)]

@@ -18,7 +18,7 @@ use std::alloc::{AllocError, Global};
 
 // The faults in an item.
 #[cycle(items)]
-#[tactic(auto, using(smv_instances::proofs::Notes::noting, crate::proofs::ItemLaws::equations))]
+#[tactic(auto, using(smv_mentions::proofs::Notes::noting, crate::proofs::ItemLaws::equations))]
 fn item<'a>(
     x: &'a Item,
     scope: &Scope<'a, '_>,
@@ -63,7 +63,7 @@ fn item<'a>(
 
 // The type and the body of a `forall`.
 #[cycle(items)]
-#[tactic(auto, using(smv_instances::proofs::Notes::noting))]
+#[tactic(auto, using(smv_mentions::proofs::Notes::noting))]
 fn each_value<'a>(
     body: &'a Item,
     var: &'a Word,
@@ -83,7 +83,7 @@ fn each_value<'a>(
 
 /// All of these items.
 #[cycle(items)]
-#[tactic(auto, using(smv_instances::proofs::Notes::noting))]
+#[tactic(auto, using(smv_mentions::proofs::Notes::noting))]
 pub fn items<'a>(
     parts: &'a [Item],
     scope: &Scope<'a, '_>,
@@ -101,7 +101,7 @@ pub fn items<'a>(
 }
 
 // Signals of a role: formals are simple.
-#[tactic(auto, using(smv_instances::proofs::Notes::noting, crate::proofs::ItemLaws::no_formals))]
+#[tactic(auto, using(smv_mentions::proofs::Notes::noting, crate::proofs::ItemLaws::no_formals))]
 fn declared<'a>(
     of: &'a TypeExpr,
     words: &'a [Word],
@@ -121,7 +121,7 @@ fn declared<'a>(
 }
 
 // A claim is a number.
-#[tactic(auto, using(smv_instances::proofs::Notes::noting))]
+#[tactic(auto, using(smv_mentions::proofs::Notes::noting))]
 fn claimed<'a>(
     x: &'a Expr,
     scope: &Scope<'a, '_>,
@@ -137,7 +137,7 @@ fn claimed<'a>(
 }
 
 // The left sides of all of these equations.
-#[tactic(auto, using(smv_instances::proofs::Notes::noting))]
+#[tactic(auto, using(smv_mentions::proofs::Notes::noting))]
 fn all_pairs<'a>(
     pairs: &'a [Pair],
     scope: &Scope<'a, '_>,

@@ -19,7 +19,7 @@ use std::alloc::{AllocError, Global};
 
 /// The faults in a statement.
 #[cycle(statements)]
-#[tactic(auto, using(smv_instances::proofs::Notes::noting, crate::proofs::StatementLaws::equations))]
+#[tactic(auto, using(smv_mentions::proofs::Notes::noting, crate::proofs::StatementLaws::equations))]
 pub fn statement<'a>(
     x: &'a Stmt,
     scope: &Scope<'a, '_>,
@@ -70,7 +70,7 @@ pub fn statement<'a>(
 
 // The body of a `for`.
 #[cycle(statements)]
-#[tactic(auto, using(smv_instances::proofs::Notes::noting))]
+#[tactic(auto, using(smv_mentions::proofs::Notes::noting))]
 fn each_number<'a>(
     body: &'a Stmt,
     var: &'a Word,
@@ -88,7 +88,7 @@ fn each_number<'a>(
 
 // The type and the body of a `forall`.
 #[cycle(statements)]
-#[tactic(auto, using(smv_instances::proofs::Notes::noting))]
+#[tactic(auto, using(smv_mentions::proofs::Notes::noting))]
 fn each_value<'a>(
     body: &'a Stmt,
     var: &'a Word,
@@ -108,7 +108,7 @@ fn each_value<'a>(
 
 /// All of these statements.
 #[cycle(statements)]
-#[tactic(auto, using(smv_instances::proofs::Notes::noting))]
+#[tactic(auto, using(smv_mentions::proofs::Notes::noting))]
 pub fn block<'a>(
     parts: &'a [Stmt],
     scope: &Scope<'a, '_>,
@@ -127,7 +127,7 @@ pub fn block<'a>(
 
 // The statements of all of these arms.
 #[cycle(statements)]
-#[tactic(auto, using(smv_instances::proofs::Notes::noting), unfolding(crate::specs::Found::arm_faults))]
+#[tactic(auto, using(smv_mentions::proofs::Notes::noting), unfolding(crate::specs::Found::arm_faults))]
 fn all_arms<'a>(
     arms: &'a [Arm],
     scope: &Scope<'a, '_>,
@@ -145,7 +145,7 @@ fn all_arms<'a>(
 }
 
 // What a `switch` looks at, and the labels of its arms: all are of one kind.
-#[tactic(auto, using(smv_instances::proofs::Notes::noting, smv_operand_kinds::proofs::KindLaws::first_fits))]
+#[tactic(auto, using(smv_mentions::proofs::Notes::noting, smv_operand_kinds::proofs::KindLaws::first_fits))]
 fn labels<'a>(
     on: &'a Expr,
     arms: &'a [Arm],
@@ -162,7 +162,7 @@ fn labels<'a>(
 }
 
 // The labels of these arms, beside this kind.
-#[tactic(auto, using(smv_instances::proofs::Notes::noting, smv_operand_kinds::proofs::KindLaws::all_in_turn), unfolding(crate::specs::Found::labels_of))]
+#[tactic(auto, using(smv_mentions::proofs::Notes::noting, smv_operand_kinds::proofs::KindLaws::all_in_turn), unfolding(crate::specs::Found::labels_of))]
 fn labels_beside<'a>(
     arms: &'a [Arm],
     scope: &Scope<'a, '_>,
@@ -182,7 +182,7 @@ fn labels_beside<'a>(
 }
 
 // Expressions beside this kind, and the kind of all together.
-#[tactic(auto, using(smv_instances::proofs::Notes::noting), unfolding(law_designs::specs::Kinds::alike_with, law_designs::specs::Kinds::kind_with, law_designs::specs::Kinds::unless, smv_expression_kinds::specs::Forms::misfit))]
+#[tactic(auto, using(smv_mentions::proofs::Notes::noting), unfolding(law_designs::specs::Kinds::alike_with, law_designs::specs::Kinds::kind_with, law_designs::specs::Kinds::unless, smv_expression_kinds::specs::Forms::misfit))]
 fn all_fitting<'a>(
     parts: &'a [Expr],
     scope: &Scope<'a, '_>,

@@ -17,7 +17,7 @@ use smv_operand_kinds::types::{index_faults, index_kind, inside};
 use std::alloc::{AllocError, Global};
 
 /// The value of an assignment: a set may stand there, also as a branch of `?:`.
-#[tactic(auto, using(smv_instances::proofs::Notes::noting, crate::proofs::ValueLaws::same, crate::proofs::ValueLaws::kinds, crate::proofs::ValueLaws::ats, crate::proofs::ValueLaws::faults, smv_operand_kinds::proofs::KindLaws::sides_fit))]
+#[tactic(auto, using(smv_mentions::proofs::Notes::noting, crate::proofs::ValueLaws::same, crate::proofs::ValueLaws::kinds, crate::proofs::ValueLaws::ats, crate::proofs::ValueLaws::faults, smv_operand_kinds::proofs::KindLaws::sides_fit))]
 pub fn value<'a>(
     x: &'a Expr,
     scope: &Scope<'a, '_>,
@@ -64,7 +64,7 @@ pub fn value<'a>(
 }
 
 // A listed set.
-#[tactic(auto, using(smv_instances::proofs::Notes::noting))]
+#[tactic(auto, using(smv_mentions::proofs::Notes::noting))]
 fn listed<'a>(
     members: &'a [Member],
     scope: &Scope<'a, '_>,
@@ -83,7 +83,7 @@ fn listed<'a>(
 }
 
 // All values of a type.
-#[tactic(auto, using(smv_instances::proofs::Notes::noting))]
+#[tactic(auto, using(smv_mentions::proofs::Notes::noting))]
 fn every_value<'a>(
     over: &'a TypeExpr,
     scope: &Scope<'a, '_>,
@@ -101,7 +101,7 @@ fn every_value<'a>(
 }
 
 // The values of a type at which a condition holds.
-#[tactic(auto, using(smv_instances::proofs::Notes::noting, smv_operand_kinds::proofs::KindLaws::number_fits))]
+#[tactic(auto, using(smv_mentions::proofs::Notes::noting, smv_operand_kinds::proofs::KindLaws::number_fits))]
 fn chosen_values<'a>(
     cond: &'a Expr,
     var: &'a Word,
@@ -124,7 +124,7 @@ fn chosen_values<'a>(
 }
 
 /// What an assignment sets: a signal.
-#[tactic(auto, using(smv_instances::proofs::Notes::noting))]
+#[tactic(auto, using(smv_mentions::proofs::Notes::noting))]
 pub fn target<'a>(
     path: &'a Path,
     scope: &Scope<'a, '_>,
@@ -142,7 +142,7 @@ pub fn target<'a>(
 }
 
 /// An assignment.
-#[tactic(auto, using(smv_instances::proofs::Notes::noting, smv_operand_kinds::proofs::KindLaws::value_fits))]
+#[tactic(auto, using(smv_mentions::proofs::Notes::noting, smv_operand_kinds::proofs::KindLaws::value_fits))]
 pub fn assignment<'a>(
     path: &'a Path,
     x: &'a Expr,

@@ -6,9 +6,9 @@ use Rattle.std.proofs.lemmas.List.{map-append, append-nil}
 use Rattle.smv_core.specs.declared.fault.Fault.{Fault}
 use Rattle.smv_core.specs.declared.flat.Family.{Family}
 use Rattle.smv_core.specs.declared.flat.Def.{Def}
-use Rattle.smv_core.specs.declared.flat.Flat.{Flat}
+use Rattle.smv_core.specs.declared.flat.DefBody.{DefBody}
 use Rattle.smv_core.specs.declared.flat.Design.{Design}
-use Rattle.smv_instances.specs.FirstFault.{first_of, faults_at}
+use Rattle.smv_mentions.specs.FirstFault.{first_of, faults_at}
 use Rattle.smv_scope.specs.ScopeFault.{earlier_of}
 use Rattle.smv_scope.proofs.FirstLaws.{earlier-assoc, first-both}
 use Rattle.law_designs.specs.Reading.{Reference, Reading, readings}
@@ -44,7 +44,7 @@ module _ (fs : List Family) where
   of_def : (def : Def) → first_among (map (reading_fault fs) (assignments_of def))
       ≡ earlier_of (part_fault fs def.family None def.init) (earlier_of (part_fault fs def.family None def.next) (part_fault fs def.family None def.comb))
   of_def def =
-      let part : Flat → List Reading = readings def.family [] in
+      let part : DefBody → List Reading = readings def.family [] in
       both (part def.init ++ part def.next) (part def.comb) ∙ ap (λ f. earlier_of f (first_among (map (reading_fault fs) (part def.comb)))) (both (part def.init) (part def.next))
       ∙ earlier-assoc (first_among (map (reading_fault fs) (part def.init))) (first_among (map (reading_fault fs) (part def.next))) (first_among (map (reading_fault fs) (part def.comb)))
       ∙ ap (λ f. earlier_of f (earlier_of (first_among (map (reading_fault fs) (part def.next))) (first_among (map (reading_fault fs) (part def.comb))))) (part-reads fs def.family [] def.init)

@@ -7,7 +7,7 @@ use Rattle.smv_core.specs.declared.fault.Fault.{Fault}
 use Rattle.smv_core.specs.declared.flat.Simple.{Simple}
 use Rattle.smv_core.specs.declared.flat.Family.{Family}
 use Rattle.smv_core.specs.declared.flat.FlatExpr.{FlatExpr}
-use Rattle.smv_core.specs.declared.flat.Flat.{Flat, Nothing, Assign, If, If', First, First', Forall, Forall', Row_of-Flat, end_of-Flat, more_of-Flat, items-the_row-Flat, items_hidden-the_row-Flat-1}
+use Rattle.smv_core.specs.declared.flat.DefBody.{DefBody, Nothing, Assign, If, If', First, First', Forall, Forall', Row_of-DefBody, end_of-DefBody, more_of-DefBody, items-the_row-DefBody, items_hidden-the_row-DefBody-1}
 use mathlib.Core.Former.{Count}
 use Rattle.smv_scope.specs.ScopeFault.{earlier_of}
 use Rattle.law_designs.specs.Reading.{Reference, Reading, references, readings, readings_of}
@@ -15,7 +15,7 @@ use Rattle.smv_layers.specs.Leaks.{first_among, first_read, read_fault, fault_if
 use Rattle.smv_layers.proofs.FaultLaws.{read-append, read-flat_map, among-append, earlier-none}
 
 unfoldable boxes : Unit {0}
-unfolding Rattle.smv_core.specs.declared.flat.Flat.TheBlock.hidden-the_row-Flat-0 Rattle.smv_core.specs.declared.flat.Flat.TheBlock.shape-the_row-Flat-0 denote.Hole.Carrier.hidden
+unfolding Rattle.smv_core.specs.declared.flat.DefBody.TheBlock.hidden-the_row-DefBody-0 Rattle.smv_core.specs.declared.flat.DefBody.TheBlock.shape-the_row-DefBody-0 denote.Hole.Carrier.hidden
 boxes = tt
 
 -- the first fault of an assignment
@@ -23,14 +23,14 @@ abbrev pub reading_fault : List Family → Reading → Option Fault
 reading_fault fs a = earlier_of (first_read fs a.reads) (fault_if_abstract fs 20 a.family a.at)
 
 module _ (fs : List Family) (family : ℕ) where
-  parts-row : (around : Option Fault) (n : _) (row : Row_of-Flat n) → parts_fault fs family around row ≡ first_among (map (part_fault fs family around) (items-the_row-Flat n row))
+  parts-row : (around : Option Fault) (n : _) (row : Row_of-DefBody n) → parts_fault fs family around row ≡ first_among (map (part_fault fs family around) (items-the_row-DefBody n row))
   unfolding part_fault
-  parts-row around n end_of-Flat = refl
-  parts-row around n (more_of-Flat part rest) = ap (earlier_of (part_fault fs family around part)) (parts-row around _ rest)
+  parts-row around n end_of-DefBody = refl
+  parts-row around n (more_of-DefBody part rest) = ap (earlier_of (part_fault fs family around part)) (parts-row around _ rest)
 
-  abbrev parts_in : Flat → (k : Count) × Row_of-Flat k
+  abbrev parts_in : DefBody → (k : Count) × Row_of-DefBody k
   parts_in (First' shape row) = (_, row)
-  parts_in _ = (_, end_of-Flat)
+  parts_in _ = (_, end_of-DefBody)
 
   pub part-Nothing : (around : Option Fault) → part_fault fs family around Nothing ≡ None
   unfolding part_fault
@@ -40,17 +40,17 @@ module _ (fs : List Family) (family : ℕ) where
   unfolding part_fault
   part-Assign around left value place at = refl
 
-  pub part-If : (around : Option Fault) (cond : FlatExpr) (left right : Flat) →
+  pub part-If : (around : Option Fault) (cond : FlatExpr) (left right : DefBody) →
       part_fault fs family around (If cond left right) ≡ earlier_of (part_fault fs family (earlier_of around (read_fault fs cond)) left) (part_fault fs family (earlier_of around (read_fault fs cond)) right)
   unfolding part_fault boxes
   part-If around cond left right = refl
 
-  pub part-First : (around : Option Fault) (parts : List Flat) → part_fault fs family around (First parts) ≡ first_among (map (part_fault fs family around) parts)
+  pub part-First : (around : Option Fault) (parts : List DefBody) → part_fault fs family around (First parts) ≡ first_among (map (part_fault fs family around) parts)
   unfolding part_fault
   part-First around parts =
-      parts-row around (parts_in (First parts)).0 (parts_in (First parts)).1 ∙ ap (λ l. first_among (map (part_fault fs family around) l)) (items_hidden-the_row-Flat-1 parts)
+      parts-row around (parts_in (First parts)).0 (parts_in (First parts)).1 ∙ ap (λ l. first_among (map (part_fault fs family around) l)) (items_hidden-the_row-DefBody-1 parts)
 
-  pub part-Forall : (around : Option Fault) (var : ℕ) (over : Simple) (body : Flat) → part_fault fs family around (Forall var over body) ≡ part_fault fs family around body
+  pub part-Forall : (around : Option Fault) (var : ℕ) (over : Simple) (body : DefBody) → part_fault fs family around (Forall var over body) ≡ part_fault fs family around body
   unfolding part_fault boxes
   part-Forall around var over body = refl
 
@@ -77,18 +77,18 @@ module _ (fs : List Family) (family : ℕ) where
   mutual
     unfolding part_fault
 
-    pub part-reads : (reads : List Reference) (part : Flat) → first_among (map (reading_fault fs) (readings family reads part)) ≡ part_fault fs family (first_read fs reads) part
+    pub part-reads : (reads : List Reference) (part : DefBody) → first_among (map (reading_fault fs) (readings family reads part)) ≡ part_fault fs family (first_read fs reads) part
     part-reads reads Nothing = refl
     part-reads reads (Assign left value place at) = earlier-none _ ∙ ap (λ f. earlier_of f (fault_if_abstract fs 20 family at)) (assigned-reads reads left value)
-    part-reads reads (If' cond l (more_of-Flat left end_of-Flat) r (more_of-Flat right end_of-Flat)) =
+    part-reads reads (If' cond l (more_of-DefBody left end_of-DefBody) r (more_of-DefBody right end_of-DefBody)) =
         both (readings family (reads ++ references cond) left) (readings family (reads ++ references cond) right) _ _
         (part-reads (reads ++ references cond) left ∙ ap (λ f. part_fault fs family f left) (condition-reads reads cond))
         (part-reads (reads ++ references cond) right ∙ ap (λ f. part_fault fs family f right) (condition-reads reads cond))
     part-reads reads (First' shape parts) = parts-read reads _ parts
-    part-reads reads (Forall' var over shape (more_of-Flat body end_of-Flat)) = part-reads reads body
+    part-reads reads (Forall' var over shape (more_of-DefBody body end_of-DefBody)) = part-reads reads body
 
-    parts-read : (reads : List Reference) (m : _) (row : Row_of-Flat m) → first_among (map (reading_fault fs) (readings_of family reads row)) ≡ parts_fault fs family (first_read fs reads) row
-    parts-read reads m end_of-Flat = refl
-    parts-read reads m (more_of-Flat part rest) = both (readings family reads part) (readings_of family reads rest) _ _ (part-reads reads part) (parts-read reads _ rest)
+    parts-read : (reads : List Reference) (m : _) (row : Row_of-DefBody m) → first_among (map (reading_fault fs) (readings_of family reads row)) ≡ parts_fault fs family (first_read fs reads) row
+    parts-read reads m end_of-DefBody = refl
+    parts-read reads m (more_of-DefBody part rest) = both (readings family reads part) (readings_of family reads rest) _ _ (part-reads reads part) (parts-read reads _ rest)
 
 pub ruleset equations = (part-Nothing, part-Assign, part-If, part-First, part-Forall)

@@ -6,8 +6,8 @@ use Rattle.smv_core.specs.declared.flat.Def.{Def}
 use Rattle.smv_core.specs.declared.flat.FlatExpr.{FlatExpr}
 use Rattle.smv_core.specs.declared.flat.FlatMember.{FlatMember, One, Span as SpanOf}
 use Rattle.smv_core.specs.declared.flat.FlatSigned.{FlatSigned, out-FlatSigned}
-use Rattle.smv_core.specs.declared.flat.Flat.{Flat, Nothing, Assign, If', First', Forall', Row_of-Flat, end_of-Flat, more_of-Flat}
-use Rattle.smv_instances.specs.FirstFault.{first_of, faults_at}
+use Rattle.smv_core.specs.declared.flat.DefBody.{DefBody, Nothing, Assign, If', First', Forall', Row_of-DefBody, end_of-DefBody, more_of-DefBody}
+use Rattle.smv_mentions.specs.FirstFault.{first_of, faults_at}
 use Rattle.smv_scope.specs.ScopeFault.{earlier_of}
 use Rattle.law_designs.specs.Reading.{Reference, references}
 
@@ -48,17 +48,17 @@ module _ (families : List Family) where
 
     unfoldable mutual
       -- the first fault in a part of the family's definition, where this is the first of the conditions around it
-      pub part_fault : Option Fault → Flat → Option Fault
+      pub part_fault : Option Fault → DefBody → Option Fault
       part_fault around Nothing = None
       part_fault around (Assign left value place at) = assigned_fault around left value at
-      part_fault around (If' cond l (more_of-Flat left end_of-Flat) r (more_of-Flat right end_of-Flat)) =
+      part_fault around (If' cond l (more_of-DefBody left end_of-DefBody) r (more_of-DefBody right end_of-DefBody)) =
           earlier_of (part_fault (earlier_of around (read_fault cond)) left) (part_fault (earlier_of around (read_fault cond)) right)
       part_fault around (First' shape parts) = parts_fault around parts
-      part_fault around (Forall' var over shape (more_of-Flat body end_of-Flat)) = part_fault around body
+      part_fault around (Forall' var over shape (more_of-DefBody body end_of-DefBody)) = part_fault around body
 
-      pub parts_fault : {m : _} → Option Fault → Row_of-Flat m → Option Fault
-      parts_fault around end_of-Flat = None
-      parts_fault around (more_of-Flat part rest) = earlier_of (part_fault around part) (parts_fault around rest)
+      pub parts_fault : {m : _} → Option Fault → Row_of-DefBody m → Option Fault
+      parts_fault around end_of-DefBody = None
+      parts_fault around (more_of-DefBody part rest) = earlier_of (part_fault around part) (parts_fault around rest)
 
   -- the first fault of a definition outside layers
   abbrev pub def_fault : Def → Option Fault

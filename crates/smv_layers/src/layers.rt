@@ -6,7 +6,7 @@ ghost use Rattle.smv_layers.specs.Leaks.{first_among};
 
 use crate::expressions::{fault_if_abstract, read_fault, read_faults};
 use smv_core::fault::Fault;
-use smv_core::flat::{Def, Design, Family, Flat, FlatExpr};
+use smv_core::flat::{Def, Design, Family, DefBody, FlatExpr};
 use smv_scope::scope::earlier;
 
 // The first fault of an assignment, where this is the first of the conditions around it.
@@ -28,24 +28,24 @@ fn assigned_fault(
 // The first fault in a part of a family's definition. A condition is read by the assignments under it.
 #[cycle(parts)]
 #[tactic(auto, using(crate::proofs::PartLaws::equations))]
-fn part_fault(families: &[Family], family: u16, around: Option<Fault>, part: &Flat) -> Option<Fault>
+fn part_fault(families: &[Family], family: u16, around: Option<Fault>, part: &DefBody) -> Option<Fault>
     ensures { result ≡ spec.part_fault families.now family around part.now }
 {
     match part {
-        Flat::Nothing => None,
-        Flat::Assign {
+        DefBody::Nothing => None,
+        DefBody::Assign {
             left,
             value,
             at,
             ..
         } => assigned_fault(families, family, around, left.as_slice(), value, *at),
-        Flat::If { cond, yes, no } => {
+        DefBody::If { cond, yes, no } => {
             let around = earlier(around, read_fault(families, cond));
             let first = part_fault(families, family, around, yes.get());
             earlier(first, part_fault(families, family, around, no.get()))
         }
-        Flat::First { parts } => part_faults(families, family, around, parts.as_slice()),
-        Flat::Forall { body, .. } => part_fault(families, family, around, body.get()),
+        DefBody::First { parts } => part_faults(families, family, around, parts.as_slice()),
+        DefBody::Forall { body, .. } => part_fault(families, family, around, body.get()),
     }
 }
 
@@ -55,7 +55,7 @@ fn part_faults(
     families: &[Family],
     family: u16,
     around: Option<Fault>,
-    parts: &[Flat],
+    parts: &[DefBody],
 ) -> Option<Fault>
     ensures { result ≡ first_among (map (spec.part_fault families.now family around) parts.now) }
 {

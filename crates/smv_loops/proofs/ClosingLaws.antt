@@ -8,7 +8,7 @@ use Rattle.smv_core.specs.declared.flat.Family.{Family}
 use Rattle.smv_core.specs.declared.flat.Design.{Design}
 use Rattle.law_designs.specs.Reading.{Reading}
 use Rattle.law_designs.specs.Loops.{Edge, hold_a_cycle, edges_of, closing, undelayed_in, in_order, is_base}
-use Rattle.smv_instances.specs.FirstFault.{first_of, faults_at}
+use Rattle.smv_mentions.specs.FirstFault.{first_of, faults_at}
 use Rattle.law_designs.specs.FirstFault.{first_fault_of_loops}
 use Rattle.smv_loops.specs.declared.ranks.Links.{Links}
 use Rattle.smv_loops.specs.declared.rows.Row.{Row}

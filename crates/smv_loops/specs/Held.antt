@@ -2,11 +2,11 @@
 use Rattle.std.specs.Prelude.{ℕ, List, [], ◌∷◌, map, Option, option_map}
 use Rattle.smv_core.specs.Values.{Outcome, number}
 use Rattle.smv_core.specs.Assignments.{Index, fixed, bare, computed, add_fixed}
-use Rattle.smv_core.specs.Flat.{flat_index}
+use Rattle.smv_core.specs.FlatMeaning.{flat_index}
 use Rattle.smv_core.specs.declared.flat.FlatSigned.{FlatSigned, out-FlatSigned}
 use Rattle.smv_core.specs.declared.flat.FlatExpr.{FlatExpr}
 use Rattle.smv_core.specs.declared.flat.FlatMember.{FlatMember, One, Span as SpanOf}
-use Rattle.smv_core.specs.declared.flat.Flat.{Flat}
+use Rattle.smv_core.specs.declared.flat.DefBody.{DefBody}
 use Rattle.law_designs.specs.Reading.{Reference, Reading, references, readings}
 use Rattle.smv_loops.specs.declared.index.Index.{Index as HeldIndex}
 use Rattle.smv_loops.specs.declared.index.Index.TheVariants.{Fixed, Bare, Computed}
@@ -28,7 +28,7 @@ index_in e = flat_index e
 unfoldable pub read_in : FlatExpr → List Reference
 read_in e = references e
 
-unfoldable pub assigned_in : ℕ → List Reference → Flat → List Reading
+unfoldable pub assigned_in : ℕ → List Reference → DefBody → List Reading
 assigned_in family around part = readings family around part
 
 abbrev pub read_in_term : FlatSigned → List Reference

@@ -2,7 +2,7 @@
 ghost use Rattle.std.specs.Prelude.{◌≡◌, ◌∷◌, ◌++◌, map, flat_map, IfOk, OnOk};
 ghost use Rattle.smv_loops.specs.Held.{assigned_in, index_in, read_in, read_in_member, read_in_term, reference_of, reading_of};
 
-use smv_core::flat::{Flat, FlatExpr, FlatMember, FlatSigned};
+use smv_core::flat::{DefBody, FlatExpr, FlatMember, FlatSigned};
 use std::alloc::{AllocError, Global};
 
 /// A reference to a signal: its family, its indexes and its offset.
@@ -140,13 +140,13 @@ pub fn readings<'a>(
     out: &mut Vec<Held<'a>>,
     family: u16,
     around: &[Read<'a>],
-    x: &'a Flat,
+    x: &'a DefBody,
 ) -> Result<(), AllocError>
     ensures { OnOk result (map reading_of out.new.items ≡ map reading_of out.old.items ++ assigned_in family (map reference_of around.now) x.now) }
 {
     match x {
-        Flat::Nothing => Ok(()),
-        Flat::Assign {
+        DefBody::Nothing => Ok(()),
+        DefBody::Assign {
             left,
             value,
             place,
@@ -163,13 +163,13 @@ pub fn readings<'a>(
             })?;
             Ok(())
         }
-        Flat::If { cond, yes, no } => {
+        DefBody::If { cond, yes, no } => {
             let inside = inside(alloc, around, cond)?;
             readings(alloc, out, family, inside.as_slice(), yes.get())?;
             readings(alloc, out, family, inside.as_slice(), no.get())
         }
-        Flat::First { parts } => all_readings(alloc, out, family, around, parts.as_slice()),
-        Flat::Forall { body, .. } => readings(alloc, out, family, around, body.get()),
+        DefBody::First { parts } => all_readings(alloc, out, family, around, parts.as_slice()),
+        DefBody::Forall { body, .. } => readings(alloc, out, family, around, body.get()),
     }
 }
 
@@ -180,7 +180,7 @@ fn all_readings<'a>(
     out: &mut Vec<Held<'a>>,
     family: u16,
     around: &[Read<'a>],
-    parts: &'a [Flat],
+    parts: &'a [DefBody],
 ) -> Result<(), AllocError>
     ensures { OnOk result (map reading_of out.new.items ≡ map reading_of out.old.items ++ flat_map (assigned_in family (map reference_of around.now)) parts.now) }
 {

@@ -4,9 +4,9 @@ use Rattle.std.specs.Prelude.{Option}
 use Rattle.std.specs.List.{flat_map}
 use Rattle.smv_core.specs.declared.fault.Fault.{Fault}
 use Rattle.smv_core.specs.declared.tree.Text.{Text}
-use Rattle.smv_instances.specs.Scopes.{pieces}
-use Rattle.smv_instances.specs.NameFaults.{undeclared_in, doubled_in, repeated, without_main, recursive_in, miscounted_in}
-use Rattle.smv_instances.specs.FirstFault.{first_of, faults_at, faults_of_names}
+use Rattle.smv_mentions.specs.Scopes.{pieces}
+use Rattle.smv_mentions.specs.NameFaults.{undeclared_in, doubled_in, repeated, without_main, recursive_in, miscounted_in}
+use Rattle.smv_mentions.specs.FirstFault.{first_of, faults_at, faults_of_names}
 use Rattle.smv_scope.specs.ScopeFault.{earlier_of, FirstOfBoth, AnyOrder, first_scope_fault}
 use Rattle.smv_size.specs.Recursion.{first_recursion}
 

@@ -4,12 +4,12 @@
 #![tactic(auto)]
 
 ghost use Rattle.std.specs.Prelude.{◌≡◌, IfOk};
-ghost use Rattle.smv_instances.specs.FirstFault as spec;
-ghost use Rattle.smv_instances.specs.Said.{AreNoted};
+ghost use Rattle.smv_mentions.specs.FirstFault as spec;
+ghost use Rattle.smv_mentions.specs.Said.{AreNoted};
 
 use smv_core::Fault;
 use smv_core::tree::Text;
-use smv_instances::pieces::Piece;
+use smv_mentions::pieces::Piece;
 use smv_scope::scope::{any_order, earlier, first_of_both, scope_fault};
 use smv_size::recursion::recursion_fault;
 use smv_size::size::size_fault;

@@ -12,7 +12,7 @@ use Rattle.law_obligations.specs.Soundness.{said_at}
 use Rattle.law_obligations.specs.Outlines.{Entry, Outline, names_of, unit_in}
 use Rattle.law_obligations.specs.Cones.{cone, kept}
 use Rattle.law_obligations.specs.Problems.{demands}
-use Rattle.law_obligations.specs.Readings.{Case}
+use Rattle.law_obligations.specs.Readings.{PosedCase}
 use Rattle.law_problems.specs.Parts.{case_with, bits_with, fault_at_unit, width_fault}
 use Rattle.law_problems.proofs.Forms.{is_well_formed}
 use Rattle.smv_problem.specs.WellFormed.{IsWellFormed}
@@ -31,7 +31,7 @@ use Rattle.smv_obligations.specs.Demands.{said, target_in, demands_in, problem_i
 use Rattle.smv_obligations.proofs.DemandLaws.{bindings-are, target-is, demands-are}
 
 -- the case of these parts
-abbrev case_by : Timed → World → Outline → Entry → List Place → Case
+abbrev case_by : Timed → World → Outline → Entry → List Place → PosedCase
 case_by times w o entry params =
     let own = take (length (sound.params_of (names_of o.design) (unit_in o.design entry.unit))) params in
     let elements = cone w o entry params in
@@ -49,7 +49,7 @@ case_by times w o entry params =
     }
 
 module _ (p : Part) (h : IsPartOf p) (times : Timed) where
-  abbrev the_case : Case
+  abbrev the_case : PosedCase
   the_case = case_with p.view.design.now p.leaf.now p.choice.now times p.classes.now
 
   case-is : the_case ≡ case_by times (world_of p.view) (outline_of p) (entry_of p) (params_of p)

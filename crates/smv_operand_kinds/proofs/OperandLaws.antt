@@ -16,14 +16,14 @@ use Rattle.std.specs.Prelude.{Option, nat_eq}
 use mathlib.Core.Former.{Count}
 use Rattle.std.specs.List.{flat_map}
 use Rattle.std.proofs.lemmas.List.{append-nil, append_assoc}
-use Rattle.smv_instances.specs.NameFaults.{place_if}
-use Rattle.smv_instances.specs.FirstFault.{faults_at}
+use Rattle.smv_mentions.specs.NameFaults.{place_if}
+use Rattle.smv_mentions.specs.FirstFault.{faults_at}
 use Rattle.law_designs.specs.Kinds.{number, no_kind, joined, has_order, Operand, number_at, of_numbers, of_alike, takes_number, unless, alike_with, ordered, chosen, stray_set}
 use Rattle.law_designs.specs.References.{Scope, Vars, reference_at, reference}
 use Rattle.law_designs.specs.Operands.{operand, operands, indexes, summands, members, looked_through, compared, remainder, reduced, bind}
 use Rattle.smv_expression_kinds.specs.Forms.{misfit}
 use Rattle.smv_operand_kinds.specs.Found.{member, addend, begins_at, order_faults}
-use Rattle.smv_instances.proofs.Computing.{computing}
+use Rattle.smv_mentions.proofs.Computing.{computing}
 
 module _ (scope : Scope) (vars : Vars) where
   exprs-row : (n : _) (row : Row_of-Expr n) → operands scope vars row ≡ map (operand scope vars) (items-the_row-Expr n row)

@@ -7,7 +7,7 @@ use Rattle.smv_core.specs.declared.tree.Field.{Field, out-Field}
 use Rattle.smv_core.specs.declared.tree.TypeExpr.{TypeExpr, Boolean, Range, Enum, Named, Struct, Struct', Array, Row_of-Field, end_of-Field, more_of-Field, items-the_row-Field, items_hidden-the_row-Field-1}
 use mathlib.Core.Former.{Count}
 use Rattle.law_designs.specs.Types.{Types, index_faults, type_faults, field_faults, range_faults}
-use Rattle.smv_instances.proofs.Computing.{computing}
+use Rattle.smv_mentions.proofs.Computing.{computing}
 
 module _ (types : Types) where
   pub faults-Boolean : type_faults types Boolean ≡ []

@@ -25,7 +25,7 @@ use std::alloc::{AllocError, Global};
 
 /// An expression where no set may stand.
 #[cycle(operands)]
-#[tactic(auto, using(smv_instances::proofs::Notes::noting, crate::proofs::OperandLaws::kinds, crate::proofs::OperandLaws::ats, crate::proofs::OperandLaws::faults, crate::proofs::KindLaws::first_fits, crate::proofs::KindLaws::sides_fit))]
+#[tactic(auto, using(smv_mentions::proofs::Notes::noting, crate::proofs::OperandLaws::kinds, crate::proofs::OperandLaws::ats, crate::proofs::OperandLaws::faults, crate::proofs::KindLaws::first_fits, crate::proofs::KindLaws::sides_fit))]
 pub fn operand<'a>(
     x: &'a Expr,
     scope: &Scope<'a, '_>,
@@ -101,7 +101,7 @@ pub fn operand<'a>(
 
 /// An expression where a number is wanted, and where it begins.
 #[cycle(operands)]
-#[tactic(auto, using(smv_instances::proofs::Notes::noting, crate::proofs::KindLaws::number_fits))]
+#[tactic(auto, using(smv_mentions::proofs::Notes::noting, crate::proofs::KindLaws::number_fits))]
 pub fn number<'a>(
     x: &'a Expr,
     scope: &Scope<'a, '_>,
@@ -120,7 +120,7 @@ pub fn number<'a>(
 
 // A number made of numbers.
 #[cycle(operands)]
-#[tactic(auto, using(smv_instances::proofs::Notes::noting, crate::proofs::KindLaws::begins))]
+#[tactic(auto, using(smv_mentions::proofs::Notes::noting, crate::proofs::KindLaws::begins))]
 fn numbers<'a>(
     parts: &'a [Expr],
     scope: &Scope<'a, '_>,
@@ -143,7 +143,7 @@ fn numbers<'a>(
 
 // What a sum adds.
 #[cycle(operands)]
-#[tactic(auto, using(smv_instances::proofs::Notes::noting), unfolding(crate::specs::Found::addend))]
+#[tactic(auto, using(smv_mentions::proofs::Notes::noting), unfolding(crate::specs::Found::addend))]
 fn summands<'a>(
     more: &'a [Signed],
     scope: &Scope<'a, '_>,
@@ -162,7 +162,7 @@ fn summands<'a>(
 
 // A number made of a number at each value of a type.
 #[cycle(operands)]
-#[tactic(auto, using(smv_instances::proofs::Notes::noting, crate::proofs::KindLaws::number_fits))]
+#[tactic(auto, using(smv_mentions::proofs::Notes::noting, crate::proofs::KindLaws::number_fits))]
 fn reduced<'a>(
     body: &'a Expr,
     var: &'a Word,
@@ -186,7 +186,7 @@ fn reduced<'a>(
 
 // What stands right of `in`, beside this kind.
 #[cycle(operands)]
-#[tactic(auto, using(smv_instances::proofs::Notes::noting, crate::proofs::OperandLaws::through, crate::proofs::KindLaws::stray_fits))]
+#[tactic(auto, using(smv_mentions::proofs::Notes::noting, crate::proofs::OperandLaws::through, crate::proofs::KindLaws::stray_fits))]
 fn looked_through<'a>(
     set: &'a Expr,
     scope: &Scope<'a, '_>,
@@ -226,7 +226,7 @@ fn looked_through<'a>(
 
 /// The members of a listed set, beside this kind, and the kind of all together.
 #[cycle(operands)]
-#[tactic(auto, using(smv_instances::proofs::Notes::noting), unfolding(law_designs::specs::Kinds::alike_with, law_designs::specs::Kinds::kind_with, law_designs::specs::Kinds::unless, smv_expression_kinds::specs::Forms::misfit))]
+#[tactic(auto, using(smv_mentions::proofs::Notes::noting), unfolding(law_designs::specs::Kinds::alike_with, law_designs::specs::Kinds::kind_with, law_designs::specs::Kinds::unless, smv_expression_kinds::specs::Forms::misfit))]
 pub fn all_members<'a>(
     members: &'a [Member],
     scope: &Scope<'a, '_>,
@@ -248,7 +248,7 @@ pub fn all_members<'a>(
 
 // A member of a listed set, beside this kind, and the kind of both.
 #[cycle(operands)]
-#[tactic(auto, using(smv_instances::proofs::Notes::noting))]
+#[tactic(auto, using(smv_mentions::proofs::Notes::noting))]
 fn member<'a>(
     x: &'a Member,
     scope: &Scope<'a, '_>,
@@ -272,7 +272,7 @@ fn member<'a>(
 
 /// An expression beside this kind, and the kind of both.
 #[cycle(operands)]
-#[tactic(auto, using(smv_instances::proofs::Notes::noting))]
+#[tactic(auto, using(smv_mentions::proofs::Notes::noting))]
 pub fn fitting<'a>(
     x: &'a Expr,
     scope: &Scope<'a, '_>,
@@ -291,7 +291,7 @@ pub fn fitting<'a>(
 
 /// A path that leads to this, or nowhere.
 #[cycle(operands)]
-#[tactic(auto, using(smv_instances::proofs::Notes::noting, crate::proofs::KindLaws::references))]
+#[tactic(auto, using(smv_mentions::proofs::Notes::noting, crate::proofs::KindLaws::references))]
 pub fn referred<'a>(
     path: &'a Path,
     scope: &Scope<'a, '_>,
@@ -321,7 +321,7 @@ pub fn referred<'a>(
 
 // The indexes of a path, behind a reference over these kinds or one that leads nowhere.
 #[cycle(operands)]
-#[tactic(auto, using(smv_instances::proofs::Notes::noting))]
+#[tactic(auto, using(smv_mentions::proofs::Notes::noting))]
 fn indexes<'a>(
     parts: &'a [Part],
     scope: &Scope<'a, '_>,
@@ -343,7 +343,7 @@ fn indexes<'a>(
 
 // A part of a path, where these kinds are left.
 #[cycle(operands)]
-#[tactic(auto, using(smv_instances::proofs::Notes::noting, crate::proofs::KindLaws::value_fits))]
+#[tactic(auto, using(smv_mentions::proofs::Notes::noting, crate::proofs::KindLaws::value_fits))]
 fn index<'a>(
     part: &'a Part,
     scope: &Scope<'a, '_>,
@@ -419,7 +419,7 @@ pub fn operand_at<'a>(kind: ValueKind<'a>, at: u32) -> Operand<'a>
 }
 
 /// The two branches of a choice whose condition begins at this place.
-#[tactic(auto, using(smv_instances::proofs::Notes::noting))]
+#[tactic(auto, using(smv_mentions::proofs::Notes::noting))]
 pub fn chosen<'a>(
     names: &ScopeTables<'a, '_>,
     at: u32,
@@ -436,7 +436,7 @@ pub fn chosen<'a>(
 }
 
 // A comparison of these sides.
-#[tactic(auto, using(smv_instances::proofs::Notes::noting))]
+#[tactic(auto, using(smv_mentions::proofs::Notes::noting))]
 fn compared<'a>(
     names: &ScopeTables<'a, '_>,
     op: Op,
@@ -454,7 +454,7 @@ fn compared<'a>(
 }
 
 // Both sides have an order, where there is one between them.
-#[tactic(auto, using(smv_instances::proofs::Notes::noting))]
+#[tactic(auto, using(smv_mentions::proofs::Notes::noting))]
 fn ordered<'a>(
     op: Op,
     left: Operand<'a>,

@@ -1,8 +1,8 @@
 // The faults in types, and variables over them.
 ghost use Rattle.std.specs.Prelude.{◌≡◌, ◌++◌, ◌∷◌, [], flat_map, is_none, not, IfOk, OnOk};
 ghost use Rattle.smv_core.specs.declared.tree.Field.{out-Field};
-ghost use Rattle.smv_instances.specs.NameFaults.{place_if};
-ghost use Rattle.smv_instances.specs.FirstFault.{faults_at};
+ghost use Rattle.smv_mentions.specs.NameFaults.{place_if};
+ghost use Rattle.smv_mentions.specs.FirstFault.{faults_at};
 ghost use Rattle.law_designs.specs.Types as spec;
 ghost use Rattle.smv_scope.specs.declared.tables.Tables.{Tables as ScopeTables};
 ghost use Rattle.law_designs.specs.Operands as operands;
@@ -102,7 +102,7 @@ pub fn index_faults<'a>(
 
 /// The faults in a type.
 #[cycle(types)]
-#[tactic(auto, using(smv_instances::proofs::Notes::noting, crate::proofs::TypeLaws::equations))]
+#[tactic(auto, using(smv_mentions::proofs::Notes::noting, crate::proofs::TypeLaws::equations))]
 pub fn type_faults<'a>(
     of: &'a TypeExpr,
     scope: &Scope<'a, '_>,
@@ -126,7 +126,7 @@ pub fn type_faults<'a>(
 
 // The faults in the types of these fields.
 #[cycle(types)]
-#[tactic(auto, using(smv_instances::proofs::Notes::noting))]
+#[tactic(auto, using(smv_mentions::proofs::Notes::noting))]
 fn field_faults<'a>(
     fields: &'a [Field],
     scope: &Scope<'a, '_>,
@@ -142,7 +142,7 @@ fn field_faults<'a>(
 }
 
 /// Fault 12 at each of these formals, unless their type is one of single values.
-#[tactic(auto, using(smv_instances::proofs::Notes::noting))]
+#[tactic(auto, using(smv_mentions::proofs::Notes::noting))]
 pub fn formal_faults<'a>(
     of: &'a TypeExpr,
     words: &'a [Word],
@@ -157,7 +157,7 @@ pub fn formal_faults<'a>(
 }
 
 // Fault 12 at each of these words, unless they are simple.
-#[tactic(auto, using(smv_instances::proofs::Notes::noting))]
+#[tactic(auto, using(smv_mentions::proofs::Notes::noting))]
 fn faults_unless(out: &mut Vec<Fault>, simple: bool, words: &[Word]) -> Result<(), AllocError>
     ensures { OnOk result (out.new.items ≡ out.old.items ++ flat_map (λ word. faults_at (12, place_if (not simple) word.at)) words.now) }
 {

@@ -1,7 +1,7 @@
 -- Reads, index by index.
 use Rattle.std.proofs.Common.{◌≡◌, ℕ, ◌+◌, List, [], ◌∷◌, ◌++◌, map, length, Option, Some, None, Bool, true, false, ◌&&◌, ◌||◌, if◌then◌else◌, refl, sym, ap, ◌∙◌, arith, subst}
 use Rattle.std.proofs.lemmas.List.{map-append}
-use Rattle.smv_core.specs.Flat.{Numbered}
+use Rattle.smv_core.specs.FlatMeaning.{Numbered}
 use Rattle.smv_core.specs.declared.flat.Simple.{Simple}
 use Rattle.law_obligations.specs.Places.{Place, World, AbsOutcome, places_in}
 use Rattle.law_obligations.specs.May.{place_within}

@@ -1,6 +1,6 @@
 -- What stands right of `in`: outcomes of each of several members.
 use Rattle.std.specs.Prelude.{ℕ, List, [], ◌∷◌, map, Bool}
-use Rattle.smv_core.specs.Flat.{Numbered}
+use Rattle.smv_core.specs.FlatMeaning.{Numbered}
 use Rattle.smv_core.specs.declared.tree.Op.TheVariants.{Equal}
 use Rattle.law_obligations.specs.Places.{AbsOutcome}
 use Rattle.smv_conditions.specs.declared.offers.Offer.{Offer}

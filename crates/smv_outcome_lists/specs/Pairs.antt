@@ -1,7 +1,7 @@
 -- What comparisons of lists of outcomes may give.
 use Rattle.std.specs.Prelude.{ℕ, List, Bool, ◌&&◌, ◌||◌}
 use Rattle.std.specs.List.{list_any}
-use Rattle.smv_core.specs.Flat.{Numbered}
+use Rattle.smv_core.specs.FlatMeaning.{Numbered}
 use Rattle.smv_core.specs.Outcome.{is_true}
 use Rattle.smv_core.specs.declared.tree.Op.{Op}
 use Rattle.law_obligations.specs.Right.{is_false, is_neither}

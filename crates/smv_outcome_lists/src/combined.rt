@@ -1,6 +1,6 @@
 // What operators make of what their parts may be.
 ghost use Rattle.std.specs.Prelude.{◌≡◌, ℕ, Bool, IfOk, map};
-ghost use Rattle.smv_core.specs.Flat.{Numbered};
+ghost use Rattle.smv_core.specs.FlatMeaning.{Numbered};
 ghost use Rattle.law_obligations.specs.Places.{AbsOutcome};
 ghost use Rattle.smv_conditions.specs.Keep.{KeepsConditions};
 ghost use Rattle.law_obligations.specs.Mix.{iff_mix};

@@ -1,6 +1,6 @@
 // `in`: an outcome of the left side against the outcomes of each member.
 ghost use Rattle.std.specs.Prelude.{◌≡◌, ℕ, Bool, Some, ◌+◌, ◌-◌, ◌++◌, map, IfOk, OnOk};
-ghost use Rattle.smv_core.specs.Flat.{Numbered};
+ghost use Rattle.smv_core.specs.FlatMeaning.{Numbered};
 ghost use Rattle.smv_core.specs.Values.{number, numbers_from};
 ghost use Rattle.law_obligations.specs.Places.{AbsOutcome, World, named};
 ghost use Rattle.smv_spots.specs.Spots.{place_in, outcome_in};

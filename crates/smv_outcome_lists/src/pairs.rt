@@ -1,6 +1,6 @@
 // Operators on each two outcomes of two lists.
 ghost use Rattle.std.specs.Prelude.{◌≡◌, ℕ, Bool, ◌&&◌, ◌||◌, IfOk, OnOk};
-ghost use Rattle.smv_core.specs.Flat.{Numbered};
+ghost use Rattle.smv_core.specs.FlatMeaning.{Numbered};
 ghost use Rattle.smv_core.specs.Values.{add, modulo};
 ghost use Rattle.law_obligations.specs.Places.{World, AbsOutcome, valued, as_place};
 ghost use Rattle.smv_spots.specs.Spots.{outcome_in};

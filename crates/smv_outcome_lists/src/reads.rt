@@ -1,7 +1,7 @@
 // Elements at indexes that may each have several outcomes.
 ghost use Rattle.std.specs.Prelude.{◌≡◌, ℕ, Bool, IfOk, OnOk, map, slice_get, [], ◌∷◌};
 ghost use Rattle.std.specs.Prelude.{None};
-ghost use Rattle.smv_core.specs.Flat.{Numbered};
+ghost use Rattle.smv_core.specs.FlatMeaning.{Numbered};
 ghost use Rattle.law_obligations.specs.Places.{AbsOutcome, World, places_in};
 ghost use Rattle.law_obligations.specs.May.{place_within};
 ghost use Rattle.smv_spots.specs.Spots.{place_in, outcome_in};

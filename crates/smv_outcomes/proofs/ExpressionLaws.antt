@@ -5,7 +5,7 @@ use Rattle.std.specs.Option.{option_map}
 use Rattle.std.proofs.lemmas.Option.{slice_get-map}
 use Rattle.std.proofs.lemmas.List.{append-nil}
 use Rattle.smv_core.specs.Values.{Truth, constant, modulo, not_of, iff_of, conjunction, disjunction, implication}
-use Rattle.smv_core.specs.Flat.{Numbered}
+use Rattle.smv_core.specs.FlatMeaning.{Numbered}
 use Rattle.smv_core.specs.Outcome.{is_true, branch}
 use Rattle.smv_core.specs.declared.tree.Op.{Op}
 use Rattle.smv_core.specs.declared.flat.FlatExpr.{FlatExpr, Not, And, Or, Implies, Number, Loop, Var, Constant, Iff, Compare, Choose, Modulo, List as ListOf, Each}

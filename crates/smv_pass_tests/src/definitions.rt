@@ -2,7 +2,7 @@
 
 use crate::texts::designed;
 use smv_core::Refusal;
-use smv_core::flat::{Def, Design, Flat};
+use smv_core::flat::{Def, Design, DefBody};
 use std::alloc::{AllocError, Global};
 use std::test::Fail;
 
@@ -13,31 +13,31 @@ fn digit(n: u32) -> u8 {
 
 // An assignment is `a` and its place, an `if` has round brackets and a first result has pointed ones.
 #[cycle(parts)]
-fn show(out: &mut Vec<u8>, part: &Flat) -> Result<(), AllocError> {
+fn show(out: &mut Vec<u8>, part: &DefBody) -> Result<(), AllocError> {
     match part {
-        Flat::Nothing => out.push(b'-')?,
-        Flat::Assign { place, .. } => {
+        DefBody::Nothing => out.push(b'-')?,
+        DefBody::Assign { place, .. } => {
             out.push(b'a')?;
             out.push(digit(*place))?;
         }
-        Flat::If { yes, no, .. } => {
+        DefBody::If { yes, no, .. } => {
             out.push(b'(')?;
             show(out, yes.get())?;
             show(out, no.get())?;
             out.push(b')')?;
         }
-        Flat::First { parts } => {
+        DefBody::First { parts } => {
             out.push(b'<')?;
             show_all(out, parts.as_slice())?;
             out.push(b'>')?;
         }
-        Flat::Forall { body, .. } => show(out, body.get())?,
+        DefBody::Forall { body, .. } => show(out, body.get())?,
     }
     Ok(())
 }
 
 #[cycle(parts)]
-fn show_all(out: &mut Vec<u8>, parts: &[Flat]) -> Result<(), AllocError> {
+fn show_all(out: &mut Vec<u8>, parts: &[DefBody]) -> Result<(), AllocError> {
     for part in parts {
         show(out, part)?;
     }

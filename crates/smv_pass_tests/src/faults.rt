@@ -19,8 +19,8 @@ enum Pass {
 fn first_fault(alloc: Global, pass: Pass, text: &str) -> Result<Option<Fault>, Refusal> {
     match pass {
         Pass::SingleAssignment => {
-            let raw = flattened(alloc, text)?;
-            Ok(single_fault(alloc, &raw)?)
+            let flat_text = flattened(alloc, text)?;
+            Ok(single_fault(alloc, &flat_text)?)
         }
         Pass::Loops => {
             let design = designed(alloc, text)?;

@@ -2,8 +2,8 @@
 
 use crate::texts::tree;
 use smv_core::Refusal;
-use smv_instances::mentions::Mention;
-use smv_instances::pieces::{Piece, pieces};
+use smv_mentions::mentions::Mention;
+use smv_mentions::pieces::{Piece, pieces};
 use std::alloc::{AllocError, Global};
 use std::test::Fail;
 

@@ -1,11 +1,11 @@
 //! Texts as the passes take them. No earlier pass looks for faults, so that each stands alone.
 
 use smv_core::Refusal;
-use smv_core::flat::{Design, Raw};
+use smv_core::flat::{Design, FlatText};
 use smv_core::tree::Text;
 use smv_design::design;
 use smv_flatten::flatten::flatten;
-use smv_instances::pieces::pieces;
+use smv_mentions::pieces::pieces;
 use smv_parse::parse;
 use std::alloc::{AllocError, Global};
 use std::test::Fail;
@@ -17,15 +17,15 @@ pub fn tree(alloc: Global, text: &str) -> Result<Text, Refusal> {
     parse(alloc, text.as_bytes())
 }
 
-pub fn flattened(alloc: Global, text: &str) -> Result<Raw, Refusal> {
+pub fn flattened(alloc: Global, text: &str) -> Result<FlatText, Refusal> {
     let tree = tree(alloc, text)?;
     let pieces = pieces(alloc, &tree)?;
     Ok(flatten(alloc, &tree, &pieces)?)
 }
 
 pub fn designed(alloc: Global, text: &str) -> Result<Design, Refusal> {
-    let raw = flattened(alloc, text)?;
-    Ok(design(alloc, raw)?)
+    let flat_text = flattened(alloc, text)?;
+    Ok(design(alloc, flat_text)?)
 }
 
 // A text whose body stands between these, where `@` marks a place: the text without the mark, and its offset. A body

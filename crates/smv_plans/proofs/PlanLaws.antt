@@ -10,13 +10,13 @@ use Rattle.smv_core.specs.declared.flat.Choice.{Choice}
 use Rattle.smv_core.specs.declared.flat.Unit.{Unit}
 use Rattle.law_obligations.specs.Units.{units_of}
 use Rattle.law_splits.proofs.Splits.{one_leaf_each}
-use Rattle.smv_uses.proofs.There.{one_choice_each}
+use Rattle.law_uses.proofs.There.{one_choice_each}
 use Rattle.smv_split_faults.specs.Answers.{AreLeaves}
-use Rattle.smv_instances.specs.FirstFault.{first_of, or_else}
+use Rattle.smv_mentions.specs.FirstFault.{first_of, or_else}
 use Rattle.law_splits.specs.Leaves.{leaves_of}
 use Rattle.law_splits.specs.SplitFaults.{first_fault_of_splits}
-use Rattle.smv_uses.specs.Choices.{choices_of}
-use Rattle.smv_uses.specs.UseFaults.{first_fault_of_uses}
+use Rattle.law_uses.specs.Choices.{choices_of}
+use Rattle.law_uses.specs.UseFaults.{first_fault_of_uses}
 use Rattle.smv_cases.specs.Faults.{Refuses}
 use Rattle.smv_choices.specs.Answers.{AreChosen}
 use Rattle.smv_problem.specs.declared.report.Plan.{Plan}

@@ -4,13 +4,13 @@ use Rattle.smv_core.specs.declared.fault.Fault.{Fault}
 use Rattle.smv_core.specs.declared.flat.Design.{Design}
 use Rattle.smv_core.specs.declared.flat.Leaf.{Leaf}
 use Rattle.smv_core.specs.declared.flat.Choice.{Choice}
-use Rattle.smv_instances.specs.FirstFault.{first_of, or_else}
+use Rattle.smv_mentions.specs.FirstFault.{first_of, or_else}
 use Rattle.law_obligations.specs.Units.{units_of, script_of}
 use Rattle.law_obligations.specs.Times.{all_timed}
 use Rattle.law_splits.specs.Leaves.{leaves_of}
 use Rattle.law_splits.specs.SplitFaults.{first_fault_of_splits}
-use Rattle.smv_uses.specs.Choices.{choices_of}
-use Rattle.smv_uses.specs.UseFaults.{first_fault_of_uses}
+use Rattle.law_uses.specs.Choices.{choices_of}
+use Rattle.law_uses.specs.UseFaults.{first_fault_of_uses}
 use Rattle.smv_cases.specs.Faults.{cases_fault}
 use Rattle.smv_problem.specs.declared.report.Plan.{Plan}
 

@@ -5,7 +5,7 @@
 
 ghost use Rattle.std.specs.Prelude.{◌≡◌, None, length, IfOk};
 ghost use Rattle.law_obligations.specs.Units.{units_of};
-ghost use Rattle.smv_instances.specs.FirstFault.{first_of};
+ghost use Rattle.smv_mentions.specs.FirstFault.{first_of};
 ghost use Rattle.smv_cases.specs.Faults.{cases_fault, Refuses};
 ghost use Rattle.smv_plans.specs.Plans.{faults_of_cases, plan_fault, IsPlan};
 
@@ -14,7 +14,7 @@ use smv_choices::choices;
 use smv_core::flat::{Choice, Design, Leaf, Unit};
 use smv_core::{Fault, Refusal};
 use smv_layers::units::units;
-use smv_order::order;
+use smv_use_times::order;
 use smv_problem::Plan;
 use smv_scope::scope::earlier;
 use smv_split_faults::leaves;

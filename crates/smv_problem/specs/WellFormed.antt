@@ -2,7 +2,7 @@
 use Rattle.std.specs.Prelude.{◌≡◌, ◌≢◌, ◌≤◌, ◌<◌, ℕ, List, [], ◌∷◌, map, length, slice_get, Option, Some, None, Bool, true, false, not, ◌&&◌, ◌||◌, IsTrue}
 use Rattle.std.specs.List.{list_all}
 use Rattle.smv_core.specs.Values.{Name}
-use Rattle.smv_core.specs.Flat.{Numbered}
+use Rattle.smv_core.specs.FlatMeaning.{Numbered}
 use Rattle.smv_core.specs.declared.flat.SetInfo.{SetInfo}
 use Rattle.smv_core.specs.declared.flat.Simple.{Simple}
 use Rattle.smv_core.specs.declared.flat.Family.{Family}
@@ -10,10 +10,10 @@ use Rattle.smv_core.specs.declared.tree.Op.{Op}
 use Rattle.smv_core.specs.declared.tree.Op.TheVariants.{Equal, Differ}
 use Rattle.smv_core.specs.declared.flat.FlatMember.{One, Span as SpanOf}
 use Rattle.smv_core.specs.declared.flat.FlatExpr.{FlatExpr, Number, Read', Var, Loop, Constant, Not', And', Or', Implies', Iff', Compare', Within', Sum', Modulo', Choose', All', Any', List', Each', None', Some', Row_of-FlatExpr, end_of-FlatExpr, more_of-FlatExpr, Row_of-FlatMember, end_of-FlatMember, more_of-FlatMember, Row_of-FlatSigned, end_of-FlatSigned, more_of-FlatSigned}
-use Rattle.smv_core.specs.declared.flat.Flat.{Flat, Nothing, Assign, If', First', Forall', Row_of-Flat, end_of-Flat, more_of-Flat}
+use Rattle.smv_core.specs.declared.flat.DefBody.{DefBody, Nothing, Assign, If', First', Forall', Row_of-DefBody, end_of-DefBody, more_of-DefBody}
 use Rattle.smv_core.specs.declared.flat.Def.{Def}
 use Rattle.smv_core.specs.declared.flat.Guard.{Guard}
-use Rattle.smv_core.specs.declared.flat.Raw.{Raw}
+use Rattle.smv_core.specs.declared.flat.FlatText.{FlatText}
 use Rattle.law_obligations.specs.Sets.{Has}
 use Rattle.law_obligations.specs.Places.{Place, is_named, World, places_in}
 use Rattle.law_obligations.specs.May.{AbsState}
@@ -25,7 +25,7 @@ use Rattle.law_obligations.specs.Obligations.{Demanded, defined, holds}
 use Rattle.law_obligations.specs.Cones.{AbsElement, element}
 use Rattle.law_designs.specs.FlatKinds as kinds
 use Rattle.law_designs.specs.FlatKinds.{Kind, set_type, Vars, kind_of}
-use Rattle.law_obligations.specs.Readings.{Case, IsCase, state_bits}
+use Rattle.law_obligations.specs.Readings.{PosedCase, IsCase, state_bits}
 use Rattle.smv_problem.specs.declared.problem.AbsState.{AbsState as StateData}
 use Rattle.smv_problem.specs.declared.problem.Problem.{Problem}
 use Rattle.smv_problem.specs.Written.{written, written_state}
@@ -36,8 +36,8 @@ AreDistinct [] = Unit {0}
 AreDistinct (name ∷ names) = ((other : Name) → Has names other → name ≢ other) × AreDistinct names
 
 -- the set types, enumerations and families as a flattened text without items, for the rules of kinds
-abbrev pub as_raw : Numbered → Raw
-as_raw n = record { sets = n.sets; enums = n.enums; layers = []; families = n.families; items = [] }
+abbrev pub as_flat_text : Numbered → FlatText
+as_flat_text n = record { sets = n.sets; enums = n.enums; layers = []; families = n.families; items = [] }
 
 -- places of these types
 abbrev pub AreOf : World → List Simple → List Place → Type 0
@@ -61,11 +61,11 @@ abbrev pub is_ordset : Option SetInfo → Bool
 is_ordset (Some info) = info.ordered
 is_ordset None = false
 
-abbrev pub has_order : Raw → Option Kind → Bool
-has_order raw (Some (set_type set)) = is_ordset (slice_get raw.sets set)
-has_order raw kind = true
+abbrev pub has_order : FlatText → Option Kind → Bool
+has_order flat_text (Some (set_type set)) = is_ordset (slice_get flat_text.sets set)
+has_order flat_text kind = true
 
-module _ (raw : Raw) where
+module _ (flat_text : FlatText) where
   abbrev mutual
     -- each order in an expression stands over numbers or an ordset
     pub keeps_orders : Vars → FlatExpr → Bool
@@ -80,7 +80,7 @@ module _ (raw : Raw) where
     keeps_orders vars (Implies' shape parts) = all_keep_orders vars parts
     keeps_orders vars (Iff' l (more_of-FlatExpr left end_of-FlatExpr) r (more_of-FlatExpr right end_of-FlatExpr)) = keeps_orders vars left && keeps_orders vars right
     keeps_orders vars (Compare' op l (more_of-FlatExpr left end_of-FlatExpr) r (more_of-FlatExpr right end_of-FlatExpr)) =
-        (not (is_order op) || (has_order raw (kinds.kind_in raw vars left) && has_order raw (kinds.kind_in raw vars right))) && (keeps_orders vars left && keeps_orders vars right)
+        (not (is_order op) || (has_order flat_text (kinds.kind_in flat_text vars left) && has_order flat_text (kinds.kind_in flat_text vars right))) && (keeps_orders vars left && keeps_orders vars right)
     keeps_orders vars (Within' l (more_of-FlatExpr left end_of-FlatExpr) r (more_of-FlatExpr set end_of-FlatExpr)) = keeps_orders vars left && keeps_orders vars set
     keeps_orders vars (Sum' f (more_of-FlatExpr head end_of-FlatExpr) shape more) = keeps_orders vars head && signed_keep_orders vars more
     keeps_orders vars (Modulo' shape (more_of-FlatExpr e end_of-FlatExpr) by at) = keeps_orders vars e
@@ -109,22 +109,22 @@ module _ (raw : Raw) where
 
 -- no part of what a definition says of a family breaks a rule of kinds and orders, where these are the kinds of the variables around it
 abbrev mutual
-  pub is_part : Raw → ℕ → Vars → Flat → Bool
-  is_part raw family vars Nothing = true
-  is_part raw family vars (Assign left value place at) =
-      kinds.assigns (kinds.element (slice_get raw.families family) (map (kinds.kind_in raw vars) left)) (kinds.value_in raw vars value) && (list_all (keeps_orders raw vars) left && keeps_orders raw vars value)
-  is_part raw family vars (If' cond l (more_of-Flat left end_of-Flat) r (more_of-Flat right end_of-Flat)) =
-      (kinds.takes Kind.number (kinds.kind_in raw vars cond) && keeps_orders raw vars cond) && (is_part raw family vars left && is_part raw family vars right)
-  is_part raw family vars (First' shape parts) = are_parts raw family vars parts
-  is_part raw family vars (Forall' var over shape (more_of-Flat body end_of-Flat)) = kinds.is_binder raw vars var over && is_part raw family (kinds.inside vars over) body
+  pub is_part : FlatText → ℕ → Vars → DefBody → Bool
+  is_part flat_text family vars Nothing = true
+  is_part flat_text family vars (Assign left value place at) =
+      kinds.assigns (kinds.element (slice_get flat_text.families family) (map (kinds.kind_in flat_text vars) left)) (kinds.value_in flat_text vars value) && (list_all (keeps_orders flat_text vars) left && keeps_orders flat_text vars value)
+  is_part flat_text family vars (If' cond l (more_of-DefBody left end_of-DefBody) r (more_of-DefBody right end_of-DefBody)) =
+      (kinds.takes Kind.number (kinds.kind_in flat_text vars cond) && keeps_orders flat_text vars cond) && (is_part flat_text family vars left && is_part flat_text family vars right)
+  is_part flat_text family vars (First' shape parts) = are_parts flat_text family vars parts
+  is_part flat_text family vars (Forall' var over shape (more_of-DefBody body end_of-DefBody)) = kinds.is_binder flat_text vars var over && is_part flat_text family (kinds.inside vars over) body
 
-  pub are_parts : {m : _} → Raw → ℕ → Vars → Row_of-Flat m → Bool
-  are_parts raw family vars end_of-Flat = true
-  are_parts raw family vars (more_of-Flat part more) = is_part raw family vars part && are_parts raw family vars more
+  pub are_parts : {m : _} → FlatText → ℕ → Vars → Row_of-DefBody m → Bool
+  are_parts flat_text family vars end_of-DefBody = true
+  are_parts flat_text family vars (more_of-DefBody part more) = is_part flat_text family vars part && are_parts flat_text family vars more
 
-module _ (c : Case) where
-  abbrev pub names : Raw
-  names = as_raw c.problem.world.classes
+module _ (c : PosedCase) where
+  abbrev pub names : FlatText
+  names = as_flat_text c.problem.world.classes
 
   -- an expression of this kind, where the variables around it are over these types and stand at these places
   pub record IsOfKind (e : FlatExpr) (over : List Simple) (b : List Place) (kind : Kind) : Type 0 where
@@ -169,21 +169,21 @@ module _ (c : Case) where
 
 -- the problem of such a case
 abbrev pub IsProblem : Problem → Type 0
-IsProblem p = (c : Case) × (p ≡ written c) × IsWellFormed c
+IsProblem p = (c : PosedCase) × (p ≡ written c) × IsWellFormed c
 
 -- what is said of each such case that is written so
-abbrev pub OfCases : Problem → (Case → Type 0) → Type 0
-OfCases p says = (c : Case) → p ≡ written c → IsWellFormed c → says c
+abbrev pub OfCases : Problem → (PosedCase → Type 0) → Type 0
+OfCases p says = (c : PosedCase) → p ≡ written c → IsWellFormed c → says c
 
 -- an abstract state of each such case
-abbrev pub OfStates : Problem → StateData → (Case → AbsState → Type 0) → Type 0
+abbrev pub OfStates : Problem → StateData → (PosedCase → AbsState → Type 0) → Type 0
 OfStates p s says = OfCases p (λ c. (a : AbsState) → IsAbsState c.problem.world c.problem.kept a → s ≡ written_state c a → says c a)
 
 -- a state before, if there is one
-abbrev pub IsBefore : Case → Option AbsState → Type 0
+abbrev pub IsBefore : PosedCase → Option AbsState → Type 0
 IsBefore c None = Unit {0}
 IsBefore c (Some a) = IsAbsState c.problem.world c.problem.kept a
 
 -- the problem of this case, which is well formed
-abbrev pub IsProblemOf : Case → Problem → Type 0
+abbrev pub IsProblemOf : PosedCase → Problem → Type 0
 IsProblemOf c p = (p ≡ written c) × IsWellFormed c

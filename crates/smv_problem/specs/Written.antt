@@ -3,7 +3,7 @@
 use Rattle.std.specs.Prelude.{ℕ, suc, List, [], ◌∷◌, map, flat_map, length, get_or, slice_get, unwrap_or, Option, Some, None}
 use Rattle.std.specs.Str.{bytes_eq}
 use Rattle.smv_core.specs.Values.{Name, number, constant, scalar, ordinal}
-use Rattle.smv_core.specs.Flat.{Numbered}
+use Rattle.smv_core.specs.FlatMeaning.{Numbered}
 use Rattle.smv_core.specs.declared.flat.SetInfo.{SetInfo}
 use Rattle.smv_core.specs.declared.flat.Family.{Family}
 use Rattle.smv_core.specs.declared.flat.Class.{Class}
@@ -16,7 +16,7 @@ use Rattle.law_obligations.specs.Obligations.{Demanded, defined, holds}
 use Rattle.law_obligations.specs.Outlines.{place_of}
 use Rattle.law_obligations.specs.Cones.{AbsElement}
 use Rattle.law_designs.specs.FlatKinds.{Kind, enumeration, kind_of}
-use Rattle.law_obligations.specs.Readings.{Case}
+use Rattle.law_obligations.specs.Readings.{PosedCase}
 use Rattle.smv_spots.specs.declared.spots.Spot.{Spot}
 use Rattle.smv_spots.specs.declared.spots.Spot.TheVariants as spot
 use Rattle.smv_problem.specs.declared.problem.AbsValue.{AbsValue}
@@ -102,7 +102,7 @@ name_number enums name = unwrap_or (place_of (bytes_eq name) ([] ∷ flat_map (�
 abbrev pub set_numbers_of : List SetInfo → List ℕ
 set_numbers_of sets = map (λ (info : SetInfo). name_number (map (λ (other : SetInfo). other.name) sets ∷ []) info.name) sets
 
-module _ (c : Case) where
+module _ (c : PosedCase) where
   -- the problem of a case
   unfoldable pub written : Problem
   written = record {

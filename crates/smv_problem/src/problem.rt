@@ -1,7 +1,7 @@
 // The problem of a case as data: what the evaluator, the encoder and the trace read.
 use smv_core::Seq;
 use smv_core::abstract_type::AbsType;
-use smv_core::flat::{Element, Family, Flat, FlatExpr, Guard};
+use smv_core::flat::{Element, Family, DefBody, FlatExpr, Guard};
 use smv_spots::spots::Spot;
 
 /// What an outcome may be in a case: a number, a constant by its place in its enumeration, a class or a rest of a set type, or Undefined.
@@ -25,9 +25,9 @@ pub struct AbsState {
 pub enum Demand {
     Defined {
         element: Element,
-        init: Flat,
-        next: Flat,
-        comb: Flat,
+        init: DefBody,
+        next: DefBody,
+        comb: DefBody,
     },
     Holds {
         body: FlatExpr,

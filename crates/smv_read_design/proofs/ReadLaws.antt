@@ -8,10 +8,10 @@ use Rattle.smv_core.specs.declared.flat.Design.{Design}
 use Rattle.smv_lex.specs.Answers.{IfFault}
 use Rattle.smv_parse.specs.Spelling.{SpellsText, HasFault, levels}
 use Rattle.smv_typing.specs.Answers.{IsSpelled}
-use Rattle.smv_instances.specs.FirstFault.{first_of, or_else}
+use Rattle.smv_mentions.specs.FirstFault.{first_of, or_else}
 use Rattle.law_obligations.specs.Units.{units_of}
 use Rattle.law_splits.specs.Leaves.{leaves_of}
-use Rattle.smv_uses.proofs.There.{one_choice_each}
+use Rattle.law_uses.proofs.There.{one_choice_each}
 use Rattle.smv_cases.specs.Faults.{Refuses}
 use Rattle.smv_problem.specs.declared.report.Plan.{Plan}
 use Rattle.smv_front.specs.Plans.{IsPlan}

@@ -4,7 +4,7 @@ ghost use Rattle.smv_core.specs.declared.flat.Class.{Class};
 ghost use Rattle.smv_core.specs.declared.flat.Leaf.{Leaf};
 ghost use Rattle.smv_core.specs.declared.flat.Choice.{Choice};
 ghost use Rattle.law_obligations.specs.Sets.{Has};
-ghost use Rattle.smv_instances.specs.FirstFault.{first_of};
+ghost use Rattle.smv_mentions.specs.FirstFault.{first_of};
 ghost use Rattle.law_obligations.specs.Units.{units_of};
 ghost use Rattle.smv_cases.specs.Slots.{classes_of};
 ghost use Rattle.smv_chosen_table.specs.Tables.{IsIndex, IsTable, AreBaseDefs};

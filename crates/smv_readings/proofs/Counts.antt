@@ -4,7 +4,7 @@ use Rattle.std.specs.Prelude.{get_or}
 use Rattle.std.specs.List.{slice_get}
 use Rattle.std.proofs.lemmas.List.{length-append}
 use Rattle.smv_core.specs.Values.{Name, Value, number, constant, scalar, ordinal, scalarset, ordset, numbers_from}
-use Rattle.smv_core.specs.Flat.{set_type}
+use Rattle.smv_core.specs.FlatMeaning.{set_type}
 use Rattle.smv_core.specs.declared.flat.Simple.{Simple}
 use Rattle.smv_core.specs.declared.flat.Simple.TheVariants.{Range, Enum, Set}
 use Rattle.smv_core.specs.declared.flat.SetInfo.{SetInfo}
@@ -14,7 +14,7 @@ use Rattle.smv_core.specs.declared.abstract_type.AbsType.{AbsType}
 use Rattle.law_obligations.specs.Places.{named, rest, World, rests_beside, places_of, places_in}
 use Rattle.law_obligations.specs.Cones.{AbsElement}
 use Rattle.law_obligations.specs.Codes.{bits_for}
-use Rattle.law_obligations.specs.Readings.{Case, values_in, bits_of, bits_of_all, state_bits}
+use Rattle.law_obligations.specs.Readings.{PosedCase, values_in, bits_of, bits_of_all, state_bits}
 use Rattle.smv_problem.specs.Written.{written, written_element, written_type}
 use Rattle.smv_problem.specs.WellFormed.{IsProblem}
 use Rattle.smv_problem.specs.declared.problem.Problem.{Problem}
@@ -108,11 +108,11 @@ module _ (w : World) where
       ap (λ n. bits_for n + bits_of_elements w.classes.families lists types (map written_element xs)) (sym (family-counted (slice_get w.classes.families x.family))) ∙ ap (λ n. bits_of w x + n) (bits-counted xs)
 
 -- the bits of a problem are the state bits of each case that is written so
-pub bits-are-those : (c : Case) → bits_in (written c) ≡ state_bits c
+pub bits-are-those : (c : PosedCase) → bits_in (written c) ≡ state_bits c
 unfolding written
 bits-are-those c = bits-counted c.problem.world c.elements
 
-pub bits-of-cases : (p : Problem) (c : Case) → p ≡ written c → bits_in p ≡ state_bits c
+pub bits-of-cases : (p : Problem) (c : PosedCase) → p ≡ written c → bits_in p ≡ state_bits c
 bits-of-cases p c same = ap bits_in same ∙ bits-are-those c
 
 pub bits-few : (p : Problem) → IsProblem p → bits_in p ≤ 1024

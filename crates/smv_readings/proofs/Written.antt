@@ -6,7 +6,7 @@ use Rattle.std.specs.Str.{bytes_eq}
 use Rattle.std.proofs.lemmas.Slice.Eq.{bytes_eq-Decides}
 use Rattle.std.proofs.lemmas.List.Elements.{All-nil, All-cons}
 use Rattle.smv_core.specs.Values.{Name, Value, number, constant, scalar, ordinal, scalarset, ordset, numbers_from}
-use Rattle.smv_core.specs.Flat.{set_type}
+use Rattle.smv_core.specs.FlatMeaning.{set_type}
 use Rattle.smv_core.specs.declared.flat.Simple.{Simple}
 use Rattle.smv_core.specs.declared.flat.Simple.TheVariants.{Range, Enum, Set}
 use Rattle.smv_core.specs.declared.flat.SetInfo.{SetInfo}
@@ -22,7 +22,7 @@ use Rattle.law_obligations.proofs.ConeFacts.{same_element-itself, same_element-f
 use Rattle.law_designs.specs.FlatKinds.{kind_of}
 use Rattle.law_obligations.specs.Bits.{Bits}
 use Rattle.law_obligations.specs.Codes.{bits_for, code_from, value_of_code}
-use Rattle.law_obligations.specs.Readings.{Case, Slot, bits_of, code_of, slots_from, state_bits, reading}
+use Rattle.law_obligations.specs.Readings.{PosedCase, Slot, bits_of, code_of, slots_from, state_bits, reading}
 use Rattle.law_obligations.specs.Readings as codes
 use Rattle.law_obligations.proofs.ReadBack.{slot_element, reads_slot}
 use Rattle.smv_problem.specs.Written.{written, written_element, written_type, written_place, written_state, kind_in}
@@ -164,7 +164,7 @@ slot_found w b (x ∷ xs) apart slot (later h) = elim (true_or_false (same_eleme
 ]
 
 -- ---- the state of a case, written
-pub state_written : (p : Problem) (c : Case) (s : Bits) → p ≡ written c → IsWellFormed c → state_in p s ≡ written_state c (reading c s)
+pub state_written : (p : Problem) (c : PosedCase) (s : Bits) → p ≡ written c → IsWellFormed c → state_in p s ≡ written_state c (reading c s)
 unfolding written
 state_written p c s is well =
     ap (λ (q : Problem). state_in q s) is

@@ -2,10 +2,10 @@
 use Rattle.std.proofs.Common.{◌≡◌, ℕ, zero, suc, ◌-◌, ◌≤◌, List, [], ◌∷◌, ◌++◌, map, take, length, slice_get, Option, Some, None, Bool, true, false, ◌&&◌, ◌||◌, nat_lt, refl, sym, ap, subst, ◌∙◌, inl, inr, arith}
 use Rattle.std.specs.List.{list_any}
 use Rattle.smv_core.specs.Assignments.{Index, fixed, bare, computed}
-use Rattle.smv_core.specs.Flat.{flat_index}
+use Rattle.smv_core.specs.FlatMeaning.{flat_index}
 use Rattle.smv_core.specs.declared.flat.Simple.{Simple}
 use Rattle.smv_core.specs.declared.flat.FlatExpr.{FlatExpr}
-use Rattle.smv_core.specs.declared.flat.Flat.{Flat, Nothing, If, If', First, Forall, Forall', Assign, First', Row_of-Flat, end_of-Flat, more_of-Flat, items-the_row-Flat, items_hidden-the_row-Flat-1}
+use Rattle.smv_core.specs.declared.flat.DefBody.{DefBody, Nothing, If, If', First, Forall, Forall', Assign, First', Row_of-DefBody, end_of-DefBody, more_of-DefBody, items-the_row-DefBody, items_hidden-the_row-DefBody-1}
 use Rattle.law_obligations.specs.Places.{Place, places_in, bind_place}
 use Rattle.law_obligations.proofs.Tests.{or_left, or_right, or_cases, and_both, left_of, right_of, true_or_false}
 use Rattle.law_obligations.proofs.Members.{any-some}
@@ -20,9 +20,9 @@ use Rattle.smv_reads.proofs.Computing.{boxes}
 use Rattle.smv_reads.proofs.Lists.{any-map, any-each, bound-places}
 use mathlib.Core.Former.{Count}
 
-abbrev rows_of : Flat → (k : Count) × Row_of-Flat k
+abbrev rows_of : DefBody → (k : Count) × Row_of-DefBody k
 rows_of (First' shape row) = (_, row)
-rows_of _ = (_, end_of-Flat)
+rows_of _ = (_, end_of-DefBody)
 
 -- ---- left sides
 
@@ -43,10 +43,10 @@ pub ruleset own_laws = (own-nil, own-none, own-cons)
 -- ---- what counts
 
 module _ (v : View) (own b : List Spot) where
-  parts-row : (k : _) (row : Row_of-Flat k) → have_counting (places_in (world_of v)) (is_own (places v own)) row (places v b) ≡ list_any (counts_in v own b) (items-the_row-Flat k row)
+  parts-row : (k : _) (row : Row_of-DefBody k) → have_counting (places_in (world_of v)) (is_own (places v own)) row (places v b) ≡ list_any (counts_in v own b) (items-the_row-DefBody k row)
   unfolding counts_in
-  parts-row k end_of-Flat = refl
-  parts-row k (more_of-Flat part rest) = ap (λ c. counts_in v own b part || c) (parts-row _ rest)
+  parts-row k end_of-DefBody = refl
+  parts-row k (more_of-DefBody part rest) = ap (λ c. counts_in v own b part || c) (parts-row _ rest)
 
   pub count-Nothing : counts_in v own b Nothing ≡ false
   unfolding counts_in
@@ -56,22 +56,22 @@ module _ (v : View) (own b : List Spot) where
   unfolding counts_in
   count-Assign left value place at = refl
 
-  pub count-If : (cond : FlatExpr) (x y : Flat) → counts_in v own b (If cond x y) ≡ (counts_in v own b x || counts_in v own b y)
+  pub count-If : (cond : FlatExpr) (x y : DefBody) → counts_in v own b (If cond x y) ≡ (counts_in v own b x || counts_in v own b y)
   unfolding counts_in boxes
   count-If cond x y = refl
 
-  pub count-First : (parts : List Flat) → counts_in v own b (First parts) ≡ list_any (counts_in v own b) parts
+  pub count-First : (parts : List DefBody) → counts_in v own b (First parts) ≡ list_any (counts_in v own b) parts
   unfolding counts_in
   count-First parts =
-      let row : (k : Count) × Row_of-Flat k = rows_of (First parts) in
-      parts-row row.0 row.1 ∙ ap (list_any (counts_in v own b)) (items_hidden-the_row-Flat-1 parts)
+      let row : (k : Count) × Row_of-DefBody k = rows_of (First parts) in
+      parts-row row.0 row.1 ∙ ap (list_any (counts_in v own b)) (items_hidden-the_row-DefBody-1 parts)
 
-  pub count-Forall : (var : ℕ) (over : Simple) (body : Flat) → counts_in v own b (Forall var over body) ≡ counts_over v own b var over body
+  pub count-Forall : (var : ℕ) (over : Simple) (body : DefBody) → counts_in v own b (Forall var over body) ≡ counts_over v own b var over body
   unfolding counts_in counts_over boxes
   count-Forall var over body = refl
 
   -- at the spots of a variable
-  pub over-spots : (var : ℕ) (over : Simple) (body : Flat) (spots : List Spot) → places v spots ≡ places_in (world_of v) over → counts_over v own b var over body ≡ list_any (λ p. counts_in v own (bind_spot b var p) body) spots
+  pub over-spots : (var : ℕ) (over : Simple) (body : DefBody) (spots : List Spot) → places v spots ≡ places_in (world_of v) over → counts_over v own b var over body ≡ list_any (λ p. counts_in v own (bind_spot b var p) body) spots
   unfolding counts_in counts_over
   over-spots var over body spots e =
       let f : Place → Bool = λ p. has_counting (places_in (world_of v)) (is_own (places v own)) body (bind_place (places v b) var p) in
@@ -86,10 +86,10 @@ pub ruleset over = (over-spots)
 -- ---- what may count
 
 module _ (own b : List Place) where
-  may-row : (k : _) (row : Row_of-Flat k) → some_may_count own b row ≡ list_any (may_count own b) (items-the_row-Flat k row)
+  may-row : (k : _) (row : Row_of-DefBody k) → some_may_count own b row ≡ list_any (may_count own b) (items-the_row-DefBody k row)
   unfolding may_count
-  may-row k end_of-Flat = refl
-  may-row k (more_of-Flat part rest) = ap (λ c. may_count own b part || c) (may-row _ rest)
+  may-row k end_of-DefBody = refl
+  may-row k (more_of-DefBody part rest) = ap (λ c. may_count own b part || c) (may-row _ rest)
 
   pub may-Nothing : may_count own b Nothing ≡ false
   unfolding may_count
@@ -99,17 +99,17 @@ module _ (own b : List Place) where
   unfolding may_count
   may-Assign left value place at = refl
 
-  pub may-If : (cond : FlatExpr) (x y : Flat) → may_count own b (If cond x y) ≡ (may_count own b x || may_count own b y)
+  pub may-If : (cond : FlatExpr) (x y : DefBody) → may_count own b (If cond x y) ≡ (may_count own b x || may_count own b y)
   unfolding may_count boxes
   may-If cond x y = refl
 
-  pub may-First : (parts : List Flat) → may_count own b (First parts) ≡ list_any (may_count own b) parts
+  pub may-First : (parts : List DefBody) → may_count own b (First parts) ≡ list_any (may_count own b) parts
   unfolding may_count
   may-First parts =
-      let row : (k : Count) × Row_of-Flat k = rows_of (First parts) in
-      may-row row.0 row.1 ∙ ap (list_any (may_count own b)) (items_hidden-the_row-Flat-1 parts)
+      let row : (k : Count) × Row_of-DefBody k = rows_of (First parts) in
+      may-row row.0 row.1 ∙ ap (list_any (may_count own b)) (items_hidden-the_row-DefBody-1 parts)
 
-  pub may-Forall : (var : ℕ) (over : Simple) (body : Flat) → may_count own b (Forall var over body) ≡ (nat_lt var (length b) || may_count own b body)
+  pub may-Forall : (var : ℕ) (over : Simple) (body : DefBody) → may_count own b (Forall var over body) ≡ (nat_lt var (length b) || may_count own b body)
   unfolding may_count boxes
   may-Forall var over body = refl
 
@@ -155,16 +155,16 @@ module _ (every : Simple → List Place) (own b : List Place) where
   mutual
     unfolding may_count
 
-    counting-may : (part : Flat) (more : List Place) → has_counting every (is_own own) part (b ++ more) ≡ true → may_count own b part ≡ true
+    counting-may : (part : DefBody) (more : List Place) → has_counting every (is_own own) part (b ++ more) ≡ true → may_count own b part ≡ true
     counting-may Nothing more e = e
     counting-may (Assign left value place at) more e = own-may b more (map flat_index left) own e
-    counting-may (If' cond l (more_of-Flat left end_of-Flat) r (more_of-Flat right end_of-Flat)) more e =
+    counting-may (If' cond l (more_of-DefBody left end_of-DefBody) r (more_of-DefBody right end_of-DefBody)) more e =
         elim (or_cases (has_counting every (is_own own) left (b ++ more)) (has_counting every (is_own own) right (b ++ more)) e) [
           | inl h ↦ or_left (may_count own b right) (counting-may left more h)
           | inr h ↦ or_right (may_count own b left) (counting-may right more h)
         ]
     counting-may (First' shape parts) more e = some-counting-may parts more e
-    counting-may (Forall' var over shape (more_of-Flat body end_of-Flat)) more e = elim (true_or_false (nat_lt var (length b))) [
+    counting-may (Forall' var over shape (more_of-DefBody body end_of-DefBody)) more e = elim (true_or_false (nat_lt var (length b))) [
       | inl t ↦ or_left (may_count own b body) t
       | inr f ↦
           let some = any-some (λ p. has_counting every (is_own own) body (bind_place (b ++ more) var p)) (every over) e in
@@ -173,9 +173,9 @@ module _ (every : Simple → List Place) (own b : List Place) where
           or_right (nat_lt var (length b)) (counting-may body (take (var - length b) more ++ some.0 ∷ []) (ap (has_counting every (is_own own) body) (sym joined) ∙ some.2))
     ]
 
-    some-counting-may : {m : _} → (parts : Row_of-Flat m) (more : List Place) → have_counting every (is_own own) parts (b ++ more) ≡ true → some_may_count own b parts ≡ true
-    some-counting-may end_of-Flat more e = e
-    some-counting-may (more_of-Flat part others) more e =
+    some-counting-may : {m : _} → (parts : Row_of-DefBody m) (more : List Place) → have_counting every (is_own own) parts (b ++ more) ≡ true → some_may_count own b parts ≡ true
+    some-counting-may end_of-DefBody more e = e
+    some-counting-may (more_of-DefBody part others) more e =
         elim (or_cases (has_counting every (is_own own) part (b ++ more)) (have_counting every (is_own own) others (b ++ more)) e) [
           | inl h ↦ or_left (some_may_count own b others) (counting-may part more h)
           | inr h ↦ or_right (may_count own b part) (some-counting-may others more h)
@@ -185,7 +185,7 @@ nothing-behind : (b : List Place) → b ++ [] ≡ b
 nothing-behind [] = refl
 nothing-behind (p ∷ b) = ap (λ ps. p ∷ ps) (nothing-behind b)
 
-pub none-may : (v : View) (own b : List Spot) (part : Flat) → may_count (places v own) (places v b) part ≡ false → counts_in v own b part ≡ false
+pub none-may : (v : View) (own b : List Spot) (part : DefBody) → may_count (places v own) (places v b) part ≡ false → counts_in v own b part ≡ false
 unfolding counts_in
 none-may v own b part e = elim (true_or_false (has_counting (places_in (world_of v)) (is_own (places v own)) part (places v b))) [
   | inl t ↦

@@ -1,12 +1,12 @@
 -- What is read in a case, as elements are written. These words stay closed until a law opens them.
 use Rattle.std.specs.Prelude.{◌≡◌, ℕ, List, [], ◌∷◌, ◌++◌, map, flat_map, Option, Some, None, Bool, if◌then◌else◌}
 use Rattle.std.specs.List.{list_any}
-use Rattle.smv_core.specs.Flat.{flat_index}
+use Rattle.smv_core.specs.FlatMeaning.{flat_index}
 use Rattle.smv_core.specs.declared.flat.Simple.{Simple}
 use Rattle.smv_core.specs.declared.flat.Class.{Class}
 use Rattle.smv_core.specs.declared.flat.Element.{Element}
 use Rattle.smv_core.specs.declared.flat.Def.{Def}
-use Rattle.smv_core.specs.declared.flat.Flat.{Flat}
+use Rattle.smv_core.specs.declared.flat.DefBody.{DefBody}
 use Rattle.smv_core.specs.declared.flat.FlatExpr.{FlatExpr}
 use Rattle.smv_core.specs.declared.flat.FlatSigned.{FlatSigned, out-FlatSigned}
 use Rattle.smv_core.specs.declared.flat.FlatMember.{FlatMember, One, Span as SpanOf}
@@ -56,20 +56,20 @@ module _ (v : View) where
   -- for an element with these indexes
   module _ (own : List Spot) where
     -- some assignment of a part of its family's definition has them, also at some place of one more variable
-    unfoldable pub counts_in : List Spot → Flat → Bool
+    unfoldable pub counts_in : List Spot → DefBody → Bool
     counts_in b part = has_counting (places_in (world_of v)) (is_own (places v own)) part (places v b)
 
-    unfoldable pub counts_over : List Spot → ℕ → Simple → Flat → Bool
+    unfoldable pub counts_over : List Spot → ℕ → Simple → DefBody → Bool
     counts_over b var over body = list_any (λ p. has_counting (places_in (world_of v)) (is_own (places v own)) body (bind_place (places v b) var p)) (places_in (world_of v) over)
 
     -- what such assignments and the conditions around them read
-    unfoldable pub read_by : List Spot → Flat → List Element
+    unfoldable pub read_by : List Spot → DefBody → List Element
     read_by b part = map written_element (part_reads (places_in (world_of v)) (is_own (places v own)) (named_in (world_of v)) (elements_at (world_of v)) part (places v b))
 
     abbrev pub read_by_assignment : List Spot → List FlatExpr → FlatExpr → List Element
     read_by_assignment b left value = if is_own (places v own) (map flat_index left) (places v b) then flat_map (read_in b) left ++ read_in b value else []
 
-    unfoldable pub read_by_over : List Spot → ℕ → Simple → Flat → List Element
+    unfoldable pub read_by_over : List Spot → ℕ → Simple → DefBody → List Element
     read_by_over b var over body =
         map written_element (flat_map (λ p. part_reads (places_in (world_of v)) (is_own (places v own)) (named_in (world_of v)) (elements_at (world_of v)) body (bind_place (places v b) var p)) (places_in (world_of v) over))
 

@@ -1,7 +1,7 @@
 // Which assignments count for an element.
 ghost use Rattle.std.specs.Prelude.{◌≡◌, ◌||◌, map, IfOk};
 ghost use Rattle.std.specs.List.{list_any};
-ghost use Rattle.smv_core.specs.Flat.{flat_index};
+ghost use Rattle.smv_core.specs.FlatMeaning.{flat_index};
 ghost use Rattle.law_obligations.specs.Reads as reads;
 ghost use Rattle.smv_indexes.specs.Indexes.{index_of};
 ghost use Rattle.smv_reads.specs.Views.{IsView, places, place_in};
@@ -10,7 +10,7 @@ ghost use Rattle.smv_reads.specs.Counts as spec;
 
 use crate::bindings::{View, bound, spots_over};
 use crate::indexes::is_bound_to;
-use smv_core::flat::{Flat, FlatExpr, Simple};
+use smv_core::flat::{DefBody, FlatExpr, Simple};
 use smv_indexes::{Index, known};
 use smv_spots::same::is_same;
 use smv_spots::spots::Spot;
@@ -74,24 +74,24 @@ fn may_be_own(view: &View, own: &[Spot], bindings: &[Spot], left: &[FlatExpr]) -
 /// Some assignment of a part may count once the variables below are bound.
 #[cycle(may_count)]
 #[tactic(auto, using(crate::proofs::CountLaws::may_equations))]
-pub fn may_count(view: &View, own: &[Spot], bindings: &[Spot], part: &Flat) -> bool
+pub fn may_count(view: &View, own: &[Spot], bindings: &[Spot], part: &DefBody) -> bool
     ensures { result ≡ spec.may_count (places view.now own.now) (places view.now bindings.now) part.now }
 {
     match part {
-        Flat::Nothing => false,
-        Flat::Assign { left, .. } => may_be_own(view, own, bindings, left.as_slice()),
-        Flat::If { yes, no, .. } => {
+        DefBody::Nothing => false,
+        DefBody::Assign { left, .. } => may_be_own(view, own, bindings, left.as_slice()),
+        DefBody::If { yes, no, .. } => {
             may_count(view, own, bindings, yes.get()) || may_count(view, own, bindings, no.get())
         }
-        Flat::First { parts } => some_may_count(view, own, bindings, parts.as_slice()),
-        Flat::Forall { var, body, .. } => {
+        DefBody::First { parts } => some_may_count(view, own, bindings, parts.as_slice()),
+        DefBody::Forall { var, body, .. } => {
             (*var as usize) < bindings.len() || may_count(view, own, bindings, body.get())
         }
     }
 }
 
 #[cycle(may_count)]
-fn some_may_count(view: &View, own: &[Spot], bindings: &[Spot], parts: &[Flat]) -> bool
+fn some_may_count(view: &View, own: &[Spot], bindings: &[Spot], parts: &[DefBody]) -> bool
     ensures { result ≡ list_any (spec.may_count (places view.now own.now) (places view.now bindings.now)) parts.now }
 {
     for part in parts {
@@ -110,23 +110,23 @@ pub fn counts(
     view: &View,
     own: &[Spot],
     bindings: &[Spot],
-    part: &Flat,
+    part: &DefBody,
 ) -> Result<bool, AllocError>
     requires { IsView view.now }
     ensures { IfOk result (λ counts. counts ≡ counts_in view.now own.now bindings.now part.now) }
 {
     match part {
-        Flat::Nothing => Ok(false),
-        Flat::Assign { left, .. } => Ok(is_own(view, own, bindings, left.as_slice())),
-        Flat::If { yes, no, .. } => {
+        DefBody::Nothing => Ok(false),
+        DefBody::Assign { left, .. } => Ok(is_own(view, own, bindings, left.as_slice())),
+        DefBody::If { yes, no, .. } => {
             if counts(alloc, view, own, bindings, yes.get())? {
                 Ok(true)
             } else {
                 counts(alloc, view, own, bindings, no.get())
             }
         }
-        Flat::First { parts } => some_counts(alloc, view, own, bindings, parts.as_slice()),
-        Flat::Forall { var, over, body } => {
+        DefBody::First { parts } => some_counts(alloc, view, own, bindings, parts.as_slice()),
+        DefBody::Forall { var, over, body } => {
             counts_over(alloc, view, own, bindings, *var, *over, body.get())
         }
     }
@@ -138,8 +138,8 @@ pub fn either_counts(
     view: &View,
     own: &[Spot],
     bindings: &[Spot],
-    yes: &Flat,
-    no: &Flat,
+    yes: &DefBody,
+    no: &DefBody,
 ) -> Result<bool, AllocError>
     requires { IsView view.now }
     ensures { IfOk result (λ counts. counts ≡ (counts_in view.now own.now bindings.now yes.now || counts_in view.now own.now bindings.now no.now)) }
@@ -157,7 +157,7 @@ fn some_counts(
     view: &View,
     own: &[Spot],
     bindings: &[Spot],
-    parts: &[Flat],
+    parts: &[DefBody],
 ) -> Result<bool, AllocError>
     requires { IsView view.now }
     ensures { IfOk result (λ counts. counts ≡ list_any (counts_in view.now own.now bindings.now) parts.now) }
@@ -180,7 +180,7 @@ fn counts_over(
     bindings: &[Spot],
     var: u16,
     over: Simple,
-    body: &Flat,
+    body: &DefBody,
 ) -> Result<bool, AllocError>
     requires { IsView view.now }
     ensures { IfOk result (λ counts. counts ≡ counts_over view.now own.now bindings.now var over body.now) }
@@ -203,7 +203,7 @@ fn counts_inside(
     view: &View,
     own: &[Spot],
     bindings: &[Spot],
-    part: &Flat,
+    part: &DefBody,
 ) -> Result<bool, AllocError>
     requires { IsView view.now }
     ensures { IfOk result (λ counts. counts ≡ counts_in view.now own.now bindings.now part.now) }

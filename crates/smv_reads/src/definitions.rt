@@ -8,7 +8,7 @@ ghost use Rattle.smv_reads.specs.Reading.{read_by, read_by_assignment, read_by_o
 use crate::bindings::{View, bound, spots_over};
 use crate::counts::{either_counts, is_own, may_count};
 use crate::expressions::{walk_each, walk_expression};
-use smv_core::flat::{Def, Flat, FlatExpr, Simple};
+use smv_core::flat::{Def, DefBody, FlatExpr, Simple};
 use smv_elements::Found;
 use smv_free_variables::{Known, nothing_known};
 use smv_spots::spots::Spot;
@@ -42,7 +42,7 @@ fn read_part<'a>(
     walked: &mut Known<'a, ()>,
     own: &[Spot],
     bindings: &[Spot],
-    part: &'a Flat,
+    part: &'a DefBody,
 ) -> Result<(), AllocError>
     requires view { IsView view.now }
     requires walked { AreWalked view.now found.old walked.old.entries.items }
@@ -50,8 +50,8 @@ fn read_part<'a>(
     ensures walked { OnOk result (AreWalked view.now found.new walked.new.entries.items) }
 {
     match part {
-        Flat::Nothing => Ok(()),
-        Flat::Assign { left, value, .. } => {
+        DefBody::Nothing => Ok(()),
+        DefBody::Assign { left, value, .. } => {
             read_assignment(
                 alloc,
                 view,
@@ -63,7 +63,7 @@ fn read_part<'a>(
                 value,
             )
         }
-        Flat::If { cond, yes, no } => {
+        DefBody::If { cond, yes, no } => {
             if either_counts(alloc, view, own, bindings, yes.get(), no.get())? {
                 walk_expression(alloc, view, found, walked, bindings, cond)?;
                 read_part(alloc, view, found, walked, own, bindings, yes.get())?;
@@ -72,10 +72,10 @@ fn read_part<'a>(
                 Ok(())
             }
         }
-        Flat::First { parts } => {
+        DefBody::First { parts } => {
             read_parts(alloc, view, found, walked, own, bindings, parts.as_slice())
         }
-        Flat::Forall { var, over, body } => {
+        DefBody::Forall { var, over, body } => {
             read_turns(
                 alloc,
                 view,
@@ -125,7 +125,7 @@ fn read_parts<'a>(
     walked: &mut Known<'a, ()>,
     own: &[Spot],
     bindings: &[Spot],
-    parts: &'a [Flat],
+    parts: &'a [DefBody],
 ) -> Result<(), AllocError>
     requires view { IsView view.now }
     requires walked { AreWalked view.now found.old walked.old.entries.items }
@@ -150,7 +150,7 @@ fn read_turns<'a>(
     bindings: &[Spot],
     var: u16,
     over: Simple,
-    body: &'a Flat,
+    body: &'a DefBody,
 ) -> Result<(), AllocError>
     requires view { IsView view.now }
     requires walked { AreWalked view.now found.old walked.old.entries.items }
@@ -175,7 +175,7 @@ fn read_turn<'a>(
     walked: &mut Known<'a, ()>,
     own: &[Spot],
     bindings: &[Spot],
-    body: &'a Flat,
+    body: &'a DefBody,
 ) -> Result<(), AllocError>
     requires view { IsView view.now }
     requires walked { AreWalked view.now found.old walked.old.entries.items }

@@ -1,7 +1,7 @@
 // Which classes the indexes of a reference may be.
 ghost use Rattle.std.specs.Prelude.{◌≡◌, ◌≤◌, ◌+◌, ◌-◌, map, IfOk, option_copied, slice_get};
 ghost use Rattle.smv_core.specs.Values.{numbers_from};
-ghost use Rattle.smv_core.specs.Flat.{flat_index};
+ghost use Rattle.smv_core.specs.FlatMeaning.{flat_index};
 ghost use Rattle.smv_core.specs.declared.flat.Class.TheVariants as class;
 ghost use Rattle.smv_core.specs.declared.flat.Simple.{Simple};
 ghost use Rattle.smv_core.specs.declared.abstract_type.AbsType.{AbsType};

@@ -6,7 +6,7 @@ use Rattle.std.specs.HashSet.{HashSet, contains}
 use Rattle.std.proofs.Common.{Bor}
 use Rattle.smv_core.specs.Values.{Name}
 use Rattle.smv_core.specs.declared.tree.Word.{Word}
-use Rattle.smv_instances.specs.NameFaults.{place_if}
+use Rattle.smv_mentions.specs.NameFaults.{place_if}
 
 -- a number, or two
 abbrev pub Key : Type 0

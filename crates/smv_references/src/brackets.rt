@@ -1,7 +1,7 @@
 // The names in the brackets of a reference.
 ghost use Rattle.std.specs.Prelude.{◌≡◌, ◌++◌, map, flat_map, find, not, option_copied, IfOk, OnOk};
 ghost use Rattle.std.specs.Str.{bytes_eq};
-ghost use Rattle.smv_instances.specs.NameFaults as faults;
+ghost use Rattle.smv_mentions.specs.NameFaults as faults;
 ghost use Rattle.smv_scope.specs.ScopeFault.{least};
 ghost use Rattle.law_splits.specs.SplitFaults as splits;
 ghost use Rattle.smv_references.specs.Again.{placed, placed_words};
@@ -44,7 +44,7 @@ pub fn first_unbound(bound: &[Param], words: &[Word]) -> Option<u32>
 }
 
 /// These words more, each with its place.
-#[tactic(auto, using(smv_instances::proofs::Notes::noting))]
+#[tactic(auto, using(smv_mentions::proofs::Notes::noting))]
 pub fn add_words<'a>(out: &mut Vec<(u32, &'a Name)>, words: &'a [Word]) -> Result<(), AllocError>
     ensures { OnOk result (map placed out.new.items ≡ map placed out.old.items ++ placed_words words.now) }
 {

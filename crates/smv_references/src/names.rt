@@ -20,7 +20,7 @@ fn add_word(bytes: &mut Vec<u8>, index: usize, word: &Word) -> Result<(), AllocE
 }
 
 // The bytes of the path of a reference, with a dot between each two names.
-#[tactic(auto, using(smv_instances::proofs::Notes::noting))]
+#[tactic(auto, using(smv_mentions::proofs::Notes::noting))]
 fn path_bytes(alloc: Global, of: &Ref) -> Result<Vec<u8>, AllocError>
     ensures { IfOk result (λ bytes. bytes.items ≡ dotted_from 0 of.now.path) }
 {
@@ -40,7 +40,7 @@ pub fn path_of(alloc: Global, of: &Ref) -> Result<Name, AllocError>
 }
 
 /// The name of what a reference names, with its layer.
-#[tactic(auto, using(smv_instances::proofs::Notes::noting, crate::proofs::NameLaws::dots))]
+#[tactic(auto, using(smv_mentions::proofs::Notes::noting, crate::proofs::NameLaws::dots))]
 pub fn name_of(alloc: Global, of: &Ref) -> Result<Name, AllocError>
     ensures { IfOk result (λ name. name ≡ named_by of.now) }
 {

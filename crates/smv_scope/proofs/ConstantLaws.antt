@@ -7,8 +7,8 @@ use Rattle.std.specs.List.{flat_map}
 use Rattle.smv_core.specs.Outcome.{same_path}
 use Rattle.smv_core.specs.Types.{names_of}
 use Rattle.smv_core.specs.declared.tree.Word.{Word}
-use Rattle.smv_instances.specs.NameFaults.{places_of, place_if}
-use Rattle.smv_instances.specs.Scopes.{first_of_places}
+use Rattle.smv_mentions.specs.NameFaults.{places_of, place_if}
+use Rattle.smv_mentions.specs.Scopes.{first_of_places}
 use Rattle.smv_scope.specs.ScopeFault.{least}
 use Rattle.smv_scope.proofs.LeastLaws.{first-none}
 

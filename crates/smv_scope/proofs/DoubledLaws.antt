@@ -4,12 +4,12 @@ use Rattle.std.specs.Prelude.{Option, Some, slice_get}
 use Rattle.std.specs.List.{flat_map}
 use Rattle.smv_core.specs.declared.tree.Word.{Word}
 use Rattle.smv_core.specs.declared.tree.Text.{Text}
-use Rattle.smv_instances.specs.declared.pieces.Piece.{Piece as NotedPiece}
-use Rattle.smv_instances.specs.declared.mentions.Mention.{Mention as Noted}
-use Rattle.smv_instances.specs.Mentions.{Mention, declares, binds, follows, names_type, lists_constants, has_fields, instantiates}
-use Rattle.smv_instances.specs.Scopes.{Scope, pieces, scope_of, first_of_places}
-use Rattle.smv_instances.specs.NameFaults.{repeated, declared_words, doubled, doubled_in, formals_of}
-use Rattle.smv_instances.specs.Said.{said, told, AreNoted}
+use Rattle.smv_mentions.specs.declared.pieces.Piece.{Piece as NotedPiece}
+use Rattle.smv_mentions.specs.declared.mentions.Mention.{Mention as Noted}
+use Rattle.smv_mentions.specs.Mentions.{Mention, declares, binds, follows, names_type, lists_constants, has_fields, instantiates}
+use Rattle.smv_mentions.specs.Scopes.{Scope, pieces, scope_of, first_of_places}
+use Rattle.smv_mentions.specs.NameFaults.{repeated, declared_words, doubled, doubled_in, formals_of}
+use Rattle.smv_mentions.specs.Said.{said, told, AreNoted}
 use Rattle.smv_scope.specs.ScopeFault.{least}
 use Rattle.smv_scope.specs.Numbered.{scope_at}
 use Rattle.smv_scope.specs.Held.{piece_noted}

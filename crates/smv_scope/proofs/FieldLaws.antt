@@ -5,16 +5,16 @@ use Rattle.smv_core.specs.declared.tree.Word.{Word}
 use Rattle.smv_core.specs.declared.tree.Field.{Field, out-Field}
 use Rattle.smv_core.specs.declared.tree.TypeExpr.{TypeExpr, Named, Struct, Struct', Array, Row_of-Field, end_of-Field, more_of-Field, items-the_row-Field, items_hidden-the_row-Field-1}
 use mathlib.Core.Former.{Count}
-use Rattle.smv_instances.specs.Scopes.{Known, fields_of, field_among, has_name}
+use Rattle.smv_mentions.specs.Scopes.{Known, fields_of, field_among, has_name}
 use Rattle.smv_scope.specs.Numbered.{field_in, field_named, known_before, type_number}
 use Rattle.smv_scope.specs.Held.{AreLed, fields_led}
 use Rattle.smv_scope.specs.declared.tables.Led.{Led}
 use Rattle.smv_scope.proofs.Numbers.{named-fields, fields_of_number}
 use Rattle.smv_core.specs.declared.tree.Text.{Text}
 use denote.Ref.{Bor}
-use Rattle.smv_instances.specs.Said.{words_at}
+use Rattle.smv_mentions.specs.Said.{words_at}
 use Rattle.smv_scope.specs.ScopeFault.{least}
-use Rattle.smv_instances.proofs.Computing.{computing}
+use Rattle.smv_mentions.proofs.Computing.{computing}
 
 module _ (known : Known) where
   pub fields-Array : (index of : TypeExpr) (words : List Word) → fields_of known (Array index of) words ≡ fields_of known of words

@@ -4,10 +4,10 @@ use Rattle.std.specs.Prelude.{Option, Some, None}
 use Rattle.std.specs.List.{flat_map}
 use Rattle.std.proofs.lemmas.Bool.Decides.{nat_tests}
 use Rattle.smv_core.specs.declared.fault.Fault.{Fault}
-use Rattle.smv_instances.specs.FirstFault.{comes_before, earlier, first_of, faults_at}
-use Rattle.smv_instances.specs.Mentions.{first_place}
-use Rattle.smv_instances.specs.Scopes.{Piece}
-use Rattle.smv_instances.specs.NameFaults.{undeclared_in, doubled_in, repeated, without_main, miscounted_in}
+use Rattle.smv_mentions.specs.FirstFault.{comes_before, earlier, first_of, faults_at}
+use Rattle.smv_mentions.specs.Mentions.{first_place}
+use Rattle.smv_mentions.specs.Scopes.{Piece}
+use Rattle.smv_mentions.specs.NameFaults.{undeclared_in, doubled_in, repeated, without_main, miscounted_in}
 use Rattle.smv_scope.specs.ScopeFault.{earlier_of, least, fault_at, scope_faults}
 
 before-trans : (f g h : Fault) → comes_before g f ≡ true → comes_before h g ≡ true → comes_before h f ≡ true

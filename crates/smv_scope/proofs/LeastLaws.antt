@@ -3,7 +3,7 @@ use Rattle.std.specs.List.{flat_map}
 use Rattle.smv_scope.proofs.TableLaws.{from_here}
 use Rattle.std.proofs.Common.{◌≡◌, ℕ, ◌+◌, ◌<◌, length, get_or, drop, List, [], ◌∷◌, ◌++◌, refl, ap, sym, ◌∙◌, arith}
 use Rattle.std.specs.Prelude.{Option, Some, None}
-use Rattle.smv_instances.specs.Scopes.{first_of_places}
+use Rattle.smv_mentions.specs.Scopes.{first_of_places}
 use Rattle.smv_scope.specs.ScopeFault.{least}
 
 pub first-none : (a : Option ℕ) → first_of_places a None ≡ a

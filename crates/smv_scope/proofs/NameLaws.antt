@@ -5,7 +5,7 @@ use Rattle.std.specs.Str.{bytes_eq}
 use Rattle.smv_core.specs.Values.{Name}
 use Rattle.smv_core.specs.Types.{names_of}
 use Rattle.smv_core.specs.declared.tree.Word.{Word}
-use Rattle.smv_instances.specs.Scopes.{has_name}
+use Rattle.smv_mentions.specs.Scopes.{has_name}
 use Rattle.name_index.specs.Position.{position}
 
 -- a name of these words has a place among them

@@ -9,8 +9,8 @@ use Rattle.smv_core.specs.declared.tree.Word.{Word}
 use Rattle.smv_core.specs.declared.tree.Text.{Text}
 use Rattle.smv_core.specs.declared.tree.Top.{Top}
 use Rattle.smv_core.specs.declared.tree.Top.TheVariants.{SetType, Alias, Module}
-use Rattle.smv_instances.specs.Scopes.{Known, Fields, known_after, fields_if_type, no_field}
-use Rattle.smv_instances.specs.NameFaults.{is_type}
+use Rattle.smv_mentions.specs.Scopes.{Known, Fields, known_after, fields_if_type, no_field}
+use Rattle.smv_mentions.specs.NameFaults.{is_type}
 use Rattle.name_index.specs.Position.{position}
 use Rattle.name_index.proofs.Finding.{find_name-pairs, position-take, position-within}
 use Rattle.smv_scope.specs.Numbered.{known_from, known_before, top_word, top_names, value_of, fields_at, is_type_top, type_number}

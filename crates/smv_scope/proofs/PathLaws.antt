@@ -4,8 +4,8 @@ use Rattle.std.specs.Prelude.{Option, Some, None, option_map, unwrap_or}
 use Rattle.std.specs.List.{flat_map}
 use Rattle.smv_core.specs.declared.tree.Word.{Word}
 use Rattle.smv_core.specs.declared.tree.Part.{Part, Field, At}
-use Rattle.smv_instances.specs.Mentions.{instance}
-use Rattle.smv_instances.specs.Scopes.{Known, Piece, Body, behind, module_named, words_of}
+use Rattle.smv_mentions.specs.Mentions.{instance}
+use Rattle.smv_mentions.specs.Scopes.{Known, Piece, Body, behind, module_named, words_of}
 use Rattle.smv_scope.specs.Numbered.{inside_of, word_in}
 
 pub words-flat : (parts : List Part) → words_of parts ≡ flat_map word_in parts

@@ -10,10 +10,10 @@ use Rattle.smv_core.specs.declared.tree.Word.{Word}
 use Rattle.smv_core.specs.declared.tree.Text.{Text}
 use Rattle.smv_core.specs.declared.tree.Top.{Top}
 use Rattle.smv_core.specs.declared.tree.Top.TheVariants.{SetType, Alias, Module}
-use Rattle.smv_instances.specs.declared.pieces.Piece.{Piece as NotedPiece}
-use Rattle.smv_instances.specs.Mentions.{Mention}
-use Rattle.smv_instances.specs.Scopes.{Known, Piece, Body, Own, piece_of, known_after, pieces_from, pieces, body_if_module, module_named, own_names, constants, Scope, scope_of}
-use Rattle.smv_instances.specs.Said.{said, told, told_by, AreNoted}
+use Rattle.smv_mentions.specs.declared.pieces.Piece.{Piece as NotedPiece}
+use Rattle.smv_mentions.specs.Mentions.{Mention}
+use Rattle.smv_mentions.specs.Scopes.{Known, Piece, Body, Own, piece_of, known_after, pieces_from, pieces, body_if_module, module_named, own_names, constants, Scope, scope_of}
+use Rattle.smv_mentions.specs.Said.{said, told, told_by, AreNoted}
 use Rattle.name_index.specs.Position.{position}
 use Rattle.name_index.proofs.Finding.{find_name-place}
 use Rattle.smv_scope.specs.Numbered.{known_from, known_before, top_word, top_names, mentions_at, scope_at}

@@ -6,9 +6,9 @@ use Rattle.std.specs.Str.{bytes_eq}
 use Rattle.std.proofs.lemmas.Slice.Eq.{bytes_eq-Decides}
 use Rattle.smv_core.specs.Values.{Name}
 use Rattle.smv_core.specs.declared.tree.Word.{Word}
-use Rattle.smv_instances.specs.Scopes.{first_of_places}
-use Rattle.smv_instances.specs.NameFaults.{place_if, repeated}
-use Rattle.smv_instances.specs.Said.{words_at}
+use Rattle.smv_mentions.specs.Scopes.{first_of_places}
+use Rattle.smv_mentions.specs.NameFaults.{place_if, repeated}
+use Rattle.smv_mentions.specs.Said.{words_at}
 use Rattle.name_index.specs.Position.{position}
 use Rattle.smv_scope.specs.ScopeFault.{least}
 use Rattle.smv_scope.specs.Rules.{repeated_after}

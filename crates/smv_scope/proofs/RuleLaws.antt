@@ -5,10 +5,10 @@ use Rattle.std.specs.List.{flat_map}
 use Rattle.std.proofs.lemmas.List.{length-map}
 use Rattle.smv_core.specs.declared.tree.Word.{Word}
 use Rattle.smv_core.specs.declared.tree.Text.{Text}
-use Rattle.smv_instances.specs.declared.pieces.Piece.{Piece as NotedPiece}
-use Rattle.smv_instances.specs.Scopes.{Piece, Scope, pieces, scope_of, first_of_places}
-use Rattle.smv_instances.specs.NameFaults.{formal_undeclared, undeclared, undeclared_in, formals_of}
-use Rattle.smv_instances.specs.Said.{said, told, AreNoted}
+use Rattle.smv_mentions.specs.declared.pieces.Piece.{Piece as NotedPiece}
+use Rattle.smv_mentions.specs.Scopes.{Piece, Scope, pieces, scope_of, first_of_places}
+use Rattle.smv_mentions.specs.NameFaults.{formal_undeclared, undeclared, undeclared_in, formals_of}
+use Rattle.smv_mentions.specs.Said.{said, told, AreNoted}
 use Rattle.smv_scope.specs.ScopeFault.{least}
 use Rattle.smv_scope.specs.Numbered.{scope_at}
 use Rattle.smv_scope.specs.Held.{piece_noted}

@@ -6,10 +6,10 @@ use Rattle.smv_core.specs.Values.{Name}
 use Rattle.smv_core.specs.Types.{names_of}
 use Rattle.smv_core.specs.declared.tree.Word.{Word}
 use Rattle.smv_core.specs.declared.tree.Text.{Text}
-use Rattle.smv_instances.specs.Scopes.{Fields, Known, Piece, Own, Constant, Body, no_field, own_names, constants as all_constants, pieces}
-use Rattle.smv_instances.specs.Mentions.{Mention, lists_constants}
-use Rattle.smv_instances.specs.declared.pieces.Piece.{Piece as NotedPiece}
-use Rattle.smv_instances.specs.Said.{said, said_of, AreNoted}
+use Rattle.smv_mentions.specs.Scopes.{Fields, Known, Piece, Own, Constant, Body, no_field, own_names, constants as all_constants, pieces}
+use Rattle.smv_mentions.specs.Mentions.{Mention, lists_constants}
+use Rattle.smv_mentions.specs.declared.pieces.Piece.{Piece as NotedPiece}
+use Rattle.smv_mentions.specs.Said.{said, said_of, AreNoted}
 use Rattle.smv_scope.specs.Numbered.{known_before, field_in, fields_at, top_names, mentions_at}
 use Rattle.smv_scope.specs.declared.tables.Led.{Led}
 use Rattle.smv_scope.specs.declared.tables.Own.{Own as HeldOwn}

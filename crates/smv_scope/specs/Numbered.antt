@@ -10,8 +10,8 @@ use Rattle.smv_core.specs.declared.tree.Top.TheVariants.{SetType, Alias, Module}
 use Rattle.smv_core.specs.declared.tree.Field.{Field, out-Field}
 use Rattle.smv_core.specs.declared.tree.Part.{Part, Field as PartField, At}
 use Rattle.smv_core.specs.Types.{find_name}
-use Rattle.smv_instances.specs.Mentions.{Mention}
-use Rattle.smv_instances.specs.Scopes.{Fields, Known, Body, Own, Scope, known_after, pieces, constants, own_names, no_field, has_name, fields_of, fields_if_type}
+use Rattle.smv_mentions.specs.Mentions.{Mention}
+use Rattle.smv_mentions.specs.Scopes.{Fields, Known, Body, Own, Scope, known_after, pieces, constants, own_names, no_field, has_name, fields_of, fields_if_type}
 
 -- what is known after these tops
 abbrev pub known_from : Known → List Top → Known

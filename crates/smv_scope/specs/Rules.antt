@@ -4,8 +4,8 @@ use Rattle.smv_core.specs.Values.{Name}
 use Rattle.smv_core.specs.Types.{find_name}
 use Rattle.smv_core.specs.declared.tree.Word.{Word}
 use Rattle.smv_core.specs.declared.tree.Text.{Text}
-use Rattle.smv_instances.specs.Scopes.{Piece, constants, pieces}
-use Rattle.smv_instances.specs.NameFaults.{undeclared_in, doubled_in, miscounted_in, place_if, places_of, is_of_other_list}
+use Rattle.smv_mentions.specs.Scopes.{Piece, constants, pieces}
+use Rattle.smv_mentions.specs.NameFaults.{undeclared_in, doubled_in, miscounted_in, place_if, places_of, is_of_other_list}
 use Rattle.name_index.specs.Position.{position}
 use Rattle.smv_scope.specs.declared.rules.Rule.{Rule}
 use Rattle.smv_scope.specs.declared.rules.Rule.TheVariants.{Declared, Once, Counted}

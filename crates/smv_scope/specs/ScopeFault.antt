@@ -2,9 +2,9 @@
 use Rattle.std.specs.Prelude.{◌≡◌, ℕ, List, [], ◌∷◌, ◌++◌, map, flat_map, Option, Some, None, option_map}
 use Rattle.smv_core.specs.declared.fault.Fault.{Fault}
 use Rattle.smv_core.specs.declared.tree.Text.{Text}
-use Rattle.smv_instances.specs.Scopes.{Piece, pieces, first_of_places}
-use Rattle.smv_instances.specs.NameFaults.{undeclared_in, doubled_in, repeated, without_main, miscounted_in}
-use Rattle.smv_instances.specs.FirstFault.{earlier, first_of, faults_at}
+use Rattle.smv_mentions.specs.Scopes.{Piece, pieces, first_of_places}
+use Rattle.smv_mentions.specs.NameFaults.{undeclared_in, doubled_in, repeated, without_main, miscounted_in}
+use Rattle.smv_mentions.specs.FirstFault.{earlier, first_of, faults_at}
 
 -- all places of each of these faults, each with its number
 abbrev pub scope_faults : List Piece → List (ℕ × List ℕ)

@@ -2,8 +2,8 @@
 ghost use Rattle.std.specs.Prelude.{◌≡◌, ◌≤◌, [], ◌∷◌, ◌++◌, List, map, min, length, Some, IfOk, OnOk};
 ghost use Rattle.std.specs.List.{flat_map};
 ghost use Rattle.smv_core.specs.declared.tree.Word.{Word};
-ghost use Rattle.smv_instances.specs.Scopes.{own_names};
-ghost use Rattle.smv_instances.specs.Said.{said, AreNoted};
+ghost use Rattle.smv_mentions.specs.Scopes.{own_names};
+ghost use Rattle.smv_mentions.specs.Said.{said, AreNoted};
 ghost use Rattle.smv_scope.specs.Numbered.{top_names, top_word, fields_at};
 ghost use Rattle.smv_scope.specs.Held.{AreLed, AreTables, fields_led, own_beside, lists_of, constants_of_list, constant_beside};
 
@@ -13,8 +13,8 @@ use name_index::NameIndex;
 use name_index::map::NameMap;
 use smv_core::name::Name;
 use smv_core::tree::{Text, Top, Word};
-use smv_instances::mentions::Mention;
-use smv_instances::pieces::Piece;
+use smv_mentions::mentions::Mention;
+use smv_mentions::pieces::Piece;
 use std::alloc::{AllocError, Global};
 
 // The name of a top.
@@ -29,7 +29,7 @@ fn top_name(top: &Top) -> &Name
 }
 
 // The names of the tops.
-#[tactic(auto, using(smv_instances::proofs::Notes::noting))]
+#[tactic(auto, using(smv_mentions::proofs::Notes::noting))]
 fn names_of_tops<'a>(alloc: Global, tops: &'a [Top]) -> Result<NameIndex<'a>, AllocError>
     ensures { IfOk result (λ names. names ≡ map (λ top. (top_word top).name) tops.now) }
 {
@@ -79,7 +79,7 @@ fn structs_of<'a>(
 }
 
 // One name more, where something is declared.
-#[tactic(auto, using(smv_instances::proofs::Notes::noting))]
+#[tactic(auto, using(smv_mentions::proofs::Notes::noting))]
 fn add_own<'a>(own: &mut NameMap<'a, Own<'a>>, mention: &Mention<'a>) -> Result<(), AllocError>
     ensures { OnOk result (map own_beside own.new ≡ map own_beside own.old ++ own_names (said mention.now ∷ [])) }
 {
@@ -93,7 +93,7 @@ fn add_own<'a>(own: &mut NameMap<'a, Own<'a>>, mention: &Mention<'a>) -> Result<
 }
 
 // The names that are declared.
-#[tactic(auto, using(smv_instances::proofs::Notes::noting))]
+#[tactic(auto, using(smv_mentions::proofs::Notes::noting))]
 fn own_in<'a>(alloc: Global, mentions: &[Mention<'a>]) -> Result<NameMap<'a, Own<'a>>, AllocError>
     ensures { IfOk result (λ own. map own_beside own ≡ flat_map (λ mention. own_names (said mention ∷ [])) mentions.now) }
 {
@@ -105,7 +105,7 @@ fn own_in<'a>(alloc: Global, mentions: &[Mention<'a>]) -> Result<NameMap<'a, Own
 }
 
 // For each top the names that it declares.
-#[tactic(auto, using(smv_instances::proofs::Notes::noting))]
+#[tactic(auto, using(smv_mentions::proofs::Notes::noting))]
 fn all_own<'a>(alloc: Global, pieces: &[Piece<'a>]) -> Result<Vec<NameMap<'a, Own<'a>>>, AllocError>
     ensures { IfOk result (λ all. map (λ own. map own_beside own) all.items ≡ map (λ piece. flat_map (λ mention. own_names (said mention ∷ [])) piece.mentions.items) pieces.now) }
 {
@@ -118,7 +118,7 @@ fn all_own<'a>(alloc: Global, pieces: &[Piece<'a>]) -> Result<Vec<NameMap<'a, Ow
 }
 
 // One list more, where an enumeration lists its constants.
-#[tactic(auto, using(smv_instances::proofs::Notes::noting))]
+#[tactic(auto, using(smv_mentions::proofs::Notes::noting))]
 fn add_list<'a>(lists: &mut Vec<&'a [Word]>, mention: &Mention<'a>) -> Result<(), AllocError>
     ensures { OnOk result (map (λ words. words.now) lists.new.items ≡ map (λ words. words.now) lists.old.items ++ lists_of (said mention.now)) }
 {
@@ -132,7 +132,7 @@ fn add_list<'a>(lists: &mut Vec<&'a [Word]>, mention: &Mention<'a>) -> Result<()
 }
 
 // The lists of these enumerations more.
-#[tactic(auto, using(smv_instances::proofs::Notes::noting))]
+#[tactic(auto, using(smv_mentions::proofs::Notes::noting))]
 fn add_lists<'a>(lists: &mut Vec<&'a [Word]>, mentions: &[Mention<'a>]) -> Result<(), AllocError>
     ensures { OnOk result (map (λ words. words.now) lists.new.items ≡ map (λ words. words.now) lists.old.items ++ flat_map (λ mention. lists_of (said mention)) mentions.now) }
 {
@@ -143,7 +143,7 @@ fn add_lists<'a>(lists: &mut Vec<&'a [Word]>, mentions: &[Mention<'a>]) -> Resul
 }
 
 // The lists of all enumerations.
-#[tactic(auto, using(smv_instances::proofs::Notes::noting))]
+#[tactic(auto, using(smv_mentions::proofs::Notes::noting))]
 fn all_lists<'a>(alloc: Global, pieces: &[Piece<'a>]) -> Result<Vec<&'a [Word]>, AllocError>
     ensures { IfOk result (λ lists. map (λ words. words.now) lists.items ≡ flat_map (λ piece. flat_map (λ mention. lists_of (said mention)) piece.mentions.items) pieces.now) }
 {
@@ -155,7 +155,7 @@ fn all_lists<'a>(alloc: Global, pieces: &[Piece<'a>]) -> Result<Vec<&'a [Word]>,
 }
 
 // The constants of the list of a number.
-#[tactic(auto, using(smv_instances::proofs::Notes::noting))]
+#[tactic(auto, using(smv_mentions::proofs::Notes::noting))]
 fn add_constants<'a>(
     constants: &mut NameMap<'a, Constant>,
     number: usize,

@@ -2,8 +2,8 @@
 ghost use Rattle.std.specs.Prelude.{◌≡◌};
 ghost use Rattle.smv_core.specs.Outcome.{same_path};
 ghost use Rattle.smv_core.specs.Types.{names_of, find_name};
-ghost use Rattle.smv_instances.specs.NameFaults.{is_of_other_list};
-ghost use Rattle.smv_instances.specs.Scopes.{pieces, constants};
+ghost use Rattle.smv_mentions.specs.NameFaults.{is_of_other_list};
+ghost use Rattle.smv_mentions.specs.Scopes.{pieces, constants};
 ghost use Rattle.smv_scope.specs.Compared as spec;
 ghost use Rattle.smv_scope.specs.Compared.{IsCompared};
 ghost use Rattle.smv_scope.specs.Held.{AreTables};

@@ -2,10 +2,10 @@
 ghost use Rattle.std.specs.Prelude.{◌≡◌, [], ◌∷◌, ◌++◌, Some, IfOk, OnOk, slice_get, map, is_some};
 ghost use Rattle.std.specs.List.{flat_map};
 ghost use Rattle.smv_core.specs.declared.tree.Field.{out-Field};
-ghost use Rattle.smv_instances.specs.Scopes as scopes;
-ghost use Rattle.smv_instances.specs.Scopes.{pieces};
-ghost use Rattle.smv_instances.specs.Said.{said, words_at};
-ghost use Rattle.smv_instances.specs.NameFaults as faults;
+ghost use Rattle.smv_mentions.specs.Scopes as scopes;
+ghost use Rattle.smv_mentions.specs.Scopes.{pieces};
+ghost use Rattle.smv_mentions.specs.Said.{said, words_at};
+ghost use Rattle.smv_mentions.specs.NameFaults as faults;
 ghost use Rattle.name_index.specs.Position.{position};
 ghost use Rattle.smv_scope.specs.ScopeFault.{least};
 ghost use Rattle.smv_scope.specs.Numbered.{scope_at};
@@ -18,8 +18,8 @@ use crate::tables::{Tables, constant_at, own_name};
 use crate::undeclared::formals_of;
 use name_index::NameIndex;
 use smv_core::tree::{Field, Word};
-use smv_instances::mentions::Mention;
-use smv_instances::pieces::Piece;
+use smv_mentions::mentions::Mention;
+use smv_mentions::pieces::Piece;
 use std::alloc::{AllocError, Global};
 
 // ---- words of one list
@@ -48,7 +48,7 @@ fn repeated<'a>(alloc: Global, words: &[&'a Word]) -> Result<Option<u32>, AllocE
 }
 
 // These words more.
-#[tactic(auto, using(smv_instances::proofs::Notes::noting))]
+#[tactic(auto, using(smv_mentions::proofs::Notes::noting))]
 fn add_words<'a>(out: &mut Vec<&'a Word>, words: &'a [Word]) -> Result<(), AllocError>
     ensures { OnOk result (words_at out.new.items ≡ words_at out.old.items ++ words.now) }
 {
@@ -68,7 +68,7 @@ fn repeated_in(alloc: Global, words: &[Word]) -> Result<Option<u32>, AllocError>
 }
 
 // The names of fields.
-#[tactic(auto, using(smv_instances::proofs::Notes::noting))]
+#[tactic(auto, using(smv_mentions::proofs::Notes::noting))]
 fn field_words<'a>(alloc: Global, fields: &'a [Field]) -> Result<Vec<&'a Word>, AllocError>
     ensures { IfOk result (λ words. words_at words.items ≡ flat_map (λ field. (out-Field field).names) fields.now) }
 {
@@ -88,7 +88,7 @@ fn doubled_field(alloc: Global, fields: &[Field]) -> Result<Option<u32>, AllocEr
 }
 
 // The word that is declared, where something is.
-#[tactic(auto, using(smv_instances::proofs::Notes::noting))]
+#[tactic(auto, using(smv_mentions::proofs::Notes::noting))]
 fn add_declared<'a>(out: &mut Vec<&'a Word>, mention: &Mention<'a>) -> Result<(), AllocError>
     ensures { OnOk result (words_at out.new.items ≡ words_at out.old.items ++ faults.declared_words (said mention.now ∷ [])) }
 {
@@ -102,7 +102,7 @@ fn add_declared<'a>(out: &mut Vec<&'a Word>, mention: &Mention<'a>) -> Result<()
 }
 
 // The words that are declared.
-#[tactic(auto, using(smv_instances::proofs::Notes::noting))]
+#[tactic(auto, using(smv_mentions::proofs::Notes::noting))]
 fn declared_words<'a>(alloc: Global, mentions: &[Mention<'a>]) -> Result<Vec<&'a Word>, AllocError>
     ensures { IfOk result (λ words. words_at words.items ≡ flat_map (λ mention. faults.declared_words (said mention ∷ [])) mentions.now) }
 {
@@ -122,7 +122,7 @@ fn doubled_declared(alloc: Global, mentions: &[Mention]) -> Result<Option<u32>, 
 }
 
 // The words of the tops.
-#[tactic(auto, using(smv_instances::proofs::Notes::noting))]
+#[tactic(auto, using(smv_mentions::proofs::Notes::noting))]
 fn top_words<'a>(alloc: Global, pieces: &[Piece<'a>]) -> Result<Vec<&'a Word>, AllocError>
     ensures { IfOk result (λ words. words_at words.items ≡ map (λ piece. piece.word.now) pieces.now) }
 {

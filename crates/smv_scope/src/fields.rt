@@ -1,8 +1,8 @@
 // The fields of types.
 ghost use Rattle.std.specs.Prelude.{◌≡◌, ◌≤◌, List, length, min, option_map, slice_get};
 ghost use Rattle.smv_core.specs.declared.tree.Word.{Word};
-ghost use Rattle.smv_instances.specs.Scopes as scopes;
-ghost use Rattle.smv_instances.specs.Said.{words_at};
+ghost use Rattle.smv_mentions.specs.Scopes as scopes;
+ghost use Rattle.smv_mentions.specs.Said.{words_at};
 ghost use Rattle.smv_scope.specs.ScopeFault.{least};
 ghost use Rattle.smv_scope.specs.Numbered as spec;
 ghost use Rattle.smv_scope.specs.Numbered.{known_before, top_names, type_number, is_type_top};

@@ -1,6 +1,6 @@
 //! The first fault of a text's scopes: names that are not declared or declared twice, no module `main`, wrong numbers of arguments.
 //!
-//! For `smv_names`. It meets `smv_instances/specs/NameFaults`; every look-up is by hash.
+//! For `smv_names`. It meets `smv_mentions/specs/NameFaults`; every look-up is by hash.
 #![tactic(auto)]
 
 pub mod build;

@@ -1,9 +1,9 @@
 // Names behind names, and paths.
 ghost use Rattle.std.specs.Prelude.{◌≡◌, option_map, IfOk, OnOk, ◌++◌, []};
 ghost use Rattle.std.specs.List.{flat_map};
-ghost use Rattle.smv_instances.specs.Scopes as scopes;
-ghost use Rattle.smv_instances.specs.Scopes.{pieces, path_places, resolved};
-ghost use Rattle.smv_instances.specs.Said.{words_at, said_of};
+ghost use Rattle.smv_mentions.specs.Scopes as scopes;
+ghost use Rattle.smv_mentions.specs.Scopes.{pieces, path_places, resolved};
+ghost use Rattle.smv_mentions.specs.Said.{words_at, said_of};
 ghost use Rattle.smv_scope.specs.ScopeFault.{least};
 ghost use Rattle.smv_scope.specs.Numbered.{known_before, scope_at, inside_of, word_in};
 ghost use Rattle.smv_scope.specs.Held.{AreTables, inner_of, own_of};
@@ -13,7 +13,7 @@ use crate::places::{first_of, is_before, no_field};
 use crate::tables::{Own, Tables, constant_at, module_named, own_name};
 use smv_core::name::Name;
 use smv_core::tree::{Part, Word};
-use smv_instances::mentions::What;
+use smv_mentions::mentions::What;
 use std::alloc::{AllocError, Global};
 
 /// A name in a module: the number of the module's top, and the name.

@@ -1,8 +1,8 @@
 // Places in a text.
 ghost use Rattle.std.specs.Prelude.{◌≡◌};
-ghost use Rattle.smv_instances.specs.Scopes as scopes;
-ghost use Rattle.smv_instances.specs.Said.{words_at};
-ghost use Rattle.smv_instances.specs.NameFaults as faults;
+ghost use Rattle.smv_mentions.specs.Scopes as scopes;
+ghost use Rattle.smv_mentions.specs.Said.{words_at};
+ghost use Rattle.smv_mentions.specs.NameFaults as faults;
 ghost use Rattle.smv_scope.specs.ScopeFault.{least};
 
 use smv_core::tree::Word;

@@ -1,9 +1,9 @@
 // The rules about names, each by the first place where it is broken.
 ghost use Rattle.std.specs.Prelude.{◌≡◌, Some, IfOk, slice_get};
 ghost use Rattle.std.specs.List.{flat_map};
-ghost use Rattle.smv_instances.specs.Scopes.{pieces};
-ghost use Rattle.smv_instances.specs.Said.{said};
-ghost use Rattle.smv_instances.specs.NameFaults as faults;
+ghost use Rattle.smv_mentions.specs.Scopes.{pieces};
+ghost use Rattle.smv_mentions.specs.Said.{said};
+ghost use Rattle.smv_mentions.specs.NameFaults as faults;
 ghost use Rattle.smv_scope.specs.ScopeFault.{least};
 ghost use Rattle.smv_scope.specs.Held.{AreTables, piece_noted};
 ghost use Rattle.smv_scope.specs.Rules.{broken};
@@ -13,8 +13,8 @@ use crate::places::{first_of, place_if};
 use crate::tables::{Tables, module_named};
 use crate::undeclared::undeclared_in;
 use smv_core::name::Name;
-use smv_instances::mentions::Mention;
-use smv_instances::pieces::Piece;
+use smv_mentions::mentions::Mention;
+use smv_mentions::pieces::Piece;
 use std::alloc::{AllocError, Global};
 
 /// A rule about the names in a top.

@@ -1,10 +1,10 @@
 // The first fault of a text's scopes.
 ghost use Rattle.std.specs.Prelude.{◌≡◌, ◌++◌, [], map, IfOk};
 ghost use Rattle.std.specs.List.{flat_map};
-ghost use Rattle.smv_instances.specs.Scopes.{pieces};
-ghost use Rattle.smv_instances.specs.Said.{AreNoted};
-ghost use Rattle.smv_instances.specs.NameFaults as faults;
-ghost use Rattle.smv_instances.specs.FirstFault as first;
+ghost use Rattle.smv_mentions.specs.Scopes.{pieces};
+ghost use Rattle.smv_mentions.specs.Said.{AreNoted};
+ghost use Rattle.smv_mentions.specs.NameFaults as faults;
+ghost use Rattle.smv_mentions.specs.FirstFault as first;
 ghost use Rattle.smv_scope.specs.ScopeFault.{least, fault_at, earlier_of, first_scope_fault, FirstOfBoth, AnyOrder};
 ghost use Rattle.smv_scope.specs.Held.{AreTables};
 
@@ -15,7 +15,7 @@ use crate::rules::{Rule, first_broken, without_main};
 use crate::tables::Tables;
 use smv_core::fault::Fault;
 use smv_core::tree::Text;
-use smv_instances::pieces::Piece;
+use smv_mentions::pieces::Piece;
 use std::alloc::{AllocError, Global};
 
 // Whether a fault comes before another.

@@ -1,8 +1,8 @@
 // What is looked up in a text.
 ghost use Rattle.std.specs.Prelude.{◌≡◌, option_map, option_copied, slice_get};
 ghost use Rattle.smv_core.specs.Types.{find_name};
-ghost use Rattle.smv_instances.specs.Scopes as scopes;
-ghost use Rattle.smv_instances.specs.Scopes.{pieces, own_names, constants, body_if_module};
+ghost use Rattle.smv_mentions.specs.Scopes as scopes;
+ghost use Rattle.smv_mentions.specs.Scopes.{pieces, own_names, constants, body_if_module};
 ghost use Rattle.smv_scope.specs.Numbered.{mentions_at};
 ghost use Rattle.smv_scope.specs.Held.{AreTables, body_of, own_of};
 
@@ -10,8 +10,8 @@ use name_index::NameIndex;
 use name_index::map::NameMap;
 use smv_core::name::Name;
 use smv_core::tree::{Field, Text, Word};
-use smv_instances::mentions::What;
-use smv_instances::pieces::Piece;
+use smv_mentions::mentions::What;
+use smv_mentions::pieces::Piece;
 
 /// The struct to which a type leads through arrays and names: its fields, and the number of the top in which it stands.
 #[derive(Clone, Copy)]

@@ -3,10 +3,10 @@ ghost use Rattle.std.specs.Prelude.{◌≡◌, [], Some, IfOk, slice_get, not, i
 ghost use Rattle.smv_core.specs.Types.{find_name};
 ghost use Rattle.std.specs.List.{flat_map};
 ghost use Rattle.smv_core.specs.Types.{names_of};
-ghost use Rattle.smv_instances.specs.Scopes as scopes;
-ghost use Rattle.smv_instances.specs.Scopes.{pieces};
-ghost use Rattle.smv_instances.specs.Said.{said, said_of};
-ghost use Rattle.smv_instances.specs.NameFaults as faults;
+ghost use Rattle.smv_mentions.specs.Scopes as scopes;
+ghost use Rattle.smv_mentions.specs.Scopes.{pieces};
+ghost use Rattle.smv_mentions.specs.Said.{said, said_of};
+ghost use Rattle.smv_mentions.specs.NameFaults as faults;
 ghost use Rattle.smv_scope.specs.ScopeFault.{least};
 ghost use Rattle.smv_scope.specs.Numbered.{scope_at, known_before};
 ghost use Rattle.smv_scope.specs.Held.{AreTables, AreFormals, piece_noted};
@@ -18,8 +18,8 @@ use crate::tables::{Tables, module_named, own_name};
 use name_index::NameIndex;
 use smv_core::name::Name;
 use smv_core::tree::{Role, Word};
-use smv_instances::mentions::{Mention, What};
-use smv_instances::pieces::Piece;
+use smv_mentions::mentions::{Mention, What};
+use smv_mentions::pieces::Piece;
 use std::alloc::{AllocError, Global};
 
 /// The formals of a module, and where each name is among them.
@@ -30,7 +30,7 @@ pub struct Formals<'a> {
 }
 
 // Where the names of the formals are among them.
-#[tactic(auto, using(smv_instances::proofs::Notes::noting))]
+#[tactic(auto, using(smv_mentions::proofs::Notes::noting))]
 fn index_of<'a>(alloc: Global, words: &'a [Word]) -> Result<NameIndex<'a>, AllocError>
     ensures { IfOk result (λ index. index ≡ names_of words.now) }
 {

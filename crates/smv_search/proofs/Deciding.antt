@@ -15,8 +15,8 @@ use Rattle.smv_rings.proofs.Whole.{map_append}
 use Rattle.smv_search.specs.declared.counts.Stop.{Stop}
 use Rattle.smv_search.specs.declared.counts.Stop.TheVariants.{TooMany, OutOfMemory}
 use Rattle.smv_search.specs.declared.turns.End.{End}
-use Rattle.smv_search.specs.Verdict.{Budget, Verdict, AllPass, First}
-use Rattle.smv_search.specs.Verdict.Verdict.{Counted, Reached}
+use Rattle.smv_search.specs.Events.{Budget, Event, AllUneventful, First}
+use Rattle.smv_search.specs.Events.Event.{Counted, Reached}
 use Rattle.smv_search.specs.Keeping.{AllHeld, KeepsRefs}
 use Rattle.smv_search.specs.Runs.{IsEnd, IsEndLive}
 use Rattle.smv_search.specs.Answers.{Begins}
@@ -24,7 +24,7 @@ use Rattle.smv_search.proofs.Keep.{keeps_then, keeps_some}
 use Rattle.smv_search.proofs.TurnLaws.{first_longer}
 use Rattle.smv_search.proofs.Start.{lists_kept, functions_are}
 
-first_more : (l : Lists) (b : Budget) (v : Verdict) (n : ℕ) → First b (schedule l 0) v → First b (schedule l n) v
+first_more : (l : Lists) (b : Budget) (v : Event) (n : ℕ) → First b (schedule l 0) v → First b (schedule l n) v
 first_more l b v n first = let e : n + 0 ≡ n = omega arith in subst (λ (i : ℕ). First b (schedule l i) v) e (first_longer l b v 0 n first)
 
 -- the plan of a turn fits each ring
@@ -49,7 +49,7 @@ module _ (d e : Diagram) (rel : Rel) (keeps : KeepsRefs d e (refs_of rel)) (node
     begun_none is = first_more (lists_of d rel) (budget_at d) (Reached 0) steps (subst (Begins e (lists_of d rel) (budget_at d)) is begins)
 
     module _ (first : Ref) (some : r ≡ Ok (Some first)) (live now pushed : List Ref) (own : live ≡ refs_of rel) (same : now ≡ live) (push_is : pushed ≡ now ++ (first ∷ [])) where
-      got : AllPass (budget_at d) (schedule (lists_of d rel) 0) × IsLive e first × (table e first ≡ ring (lists_of d rel) 0)
+      got : AllUneventful (budget_at d) (schedule (lists_of d rel) 0) × IsLive e first × (table e first ≡ ring (lists_of d rel) 0)
       got = subst (Begins e (lists_of d rel) (budget_at d)) some begins
 
       pushed_is : pushed ≡ refs_of rel ++ (first ∷ [])
@@ -73,10 +73,10 @@ module _ (d e : Diagram) (rel : Rel) (keeps : KeepsRefs d e (refs_of rel)) (node
       pub kept_pushed : map (table e) pushed ≡ kept_at (lists_of e rel) 0
       kept_pushed = ap (map (table e)) pushed_is ∙ map_append (table e) (refs_of rel) (first ∷ []) ∙ ap (λ fs. fs ++ (table e first ∷ [])) (functions_are e rel) ∙ ap (λ f. functions (lists_of e rel) ++ (f ∷ [])) ring_at
 
-      pub passed_at : AllPass (budget_at e) (schedule (lists_of e rel) 0)
+      pub passed_at : AllUneventful (budget_at e) (schedule (lists_of e rel) 0)
       passed_at =
-          subst (λ l. AllPass (budget_at e) (schedule l 0)) (sym (lists_kept d e rel keeps)) (
-          subst (λ (n : ℕ). AllPass (record { vars = n; nodes = nodes; images = steps }) (schedule (lists_of d rel) 0)) (sym keeps.vars) got.0)
+          subst (λ l. AllUneventful (budget_at e) (schedule l 0)) (sym (lists_kept d e rel keeps)) (
+          subst (λ (n : ℕ). AllUneventful (record { vars = n; nodes = nodes; images = steps }) (schedule (lists_of d rel) 0)) (sym keeps.vars) got.0)
 
       module _ (f : Diagram) (result : Result End Stop) where
         pub end_at : IsEnd f (lists_of e rel) (budget_at e) result → IsEnd f (lists_of d rel) (budget_at d) result

@@ -12,8 +12,8 @@ use Rattle.smv_rings.specs.declared.ops.Op.{Op}
 use Rattle.smv_rings.specs.declared.ops.Op.TheVariants.{And, Exists, Look, Rename}
 use Rattle.smv_search.specs.declared.counts.Stop.{Stop}
 use Rattle.smv_search.specs.declared.counts.Stop.TheVariants.{TooMany, OutOfMemory}
-use Rattle.smv_search.specs.Verdict.{Budget, Verdict, AllPass, First}
-use Rattle.smv_search.specs.Verdict.Verdict.{Counted, Reached}
+use Rattle.smv_search.specs.Events.{Budget, Event, AllUneventful, First}
+use Rattle.smv_search.specs.Events.Event.{Counted, Reached}
 use Rattle.smv_rings.specs.Ops.{act_of, acts_of, refs_in, refs_in_all, FitsAct, FitsActs}
 use Rattle.smv_search.specs.Runs.{Runs, Ran}
 use Rattle.smv_search.proofs.Keep.{map_kept, keeps_then}
@@ -23,13 +23,13 @@ pub nil_append : (xs : List Line) → xs ++ [] ≡ xs
 nil_append [] = refl
 nil_append (x ∷ xs) = ap (λ ys. x ∷ ys) (nil_append xs)
 
-pub pass_append : (b : Budget) (xs ys : List Line) → AllPass b xs → AllPass b ys → AllPass b (xs ++ ys)
-unfolding AllPass
+pub pass_append : (b : Budget) (xs ys : List Line) → AllUneventful b xs → AllUneventful b ys → AllUneventful b (xs ++ ys)
+unfolding AllUneventful
 pass_append b [] ys p q = q
 pass_append b (x ∷ xs) ys p q = (p.0, pass_append b xs ys p.1 q)
 
 -- the first event behind lines that pass
-pub first_behind : (b : Budget) (xs ys zs : List Line) (v : Verdict) → AllPass b xs → First b ys v → First b (xs ++ (ys ++ zs)) v
+pub first_behind : (b : Budget) (xs ys zs : List Line) (v : Event) → AllUneventful b xs → First b ys v → First b (xs ++ (ys ++ zs)) v
 unfolding First
 first_behind b xs ys zs v pass (before, line, behind, is, passed, decides) = (
   xs ++ before,
@@ -41,11 +41,11 @@ first_behind b xs ys zs v pass (before, line, behind, is, passed, decides) = (
 )
 
 pub ran_start : (b : Budget) (kept : List Function) (p : Function) (acts : List Act) → Ran b kept p acts p acts
-unfolding AllPass
+unfolding AllUneventful
 ran_start b kept p acts = record { done = []; passed = tt; is_left = refl; leads = refl }
 
 module _ (b : Budget) (kept : List Function) (start : Function) (acts : List Act) (p : Function) where
-  pub ran_on : (act : Act) (left : List Act) → Ran b kept start acts p (act ∷ left) → AllPass b (lines kept p (act ∷ [])) → Ran b kept start acts (left_by act p) left
+  pub ran_on : (act : Act) (left : List Act) → Ran b kept start acts p (act ∷ left) → AllUneventful b (lines kept p (act ∷ [])) → Ran b kept start acts (left_by act p) left
   ran_on act left ran pass = record {
     done = ran.done ++ lines kept p (act ∷ []);
     passed = pass_append b ran.done (lines kept p (act ∷ [])) ran.passed pass;
@@ -53,11 +53,11 @@ module _ (b : Budget) (kept : List Function) (start : Function) (acts : List Act
     leads = ran.leads;
   }
 
-  pub ran_first : (act : Act) (left : List Act) (v : Verdict) → Ran b kept start acts p (act ∷ left) → First b (lines kept p (act ∷ [])) v → First b (lines kept start acts) v
+  pub ran_first : (act : Act) (left : List Act) (v : Event) → Ran b kept start acts p (act ∷ left) → First b (lines kept p (act ∷ [])) v → First b (lines kept start acts) v
   ran_first act left v ran first = subst (λ ls. First b ls v) (sym ran.is_left) (first_behind b ran.done (lines kept p (act ∷ [])) (lines kept (left_by act p) left) v ran.passed first)
 
-  pub ran_end : Ran b kept start acts p [] → AllPass b (lines kept start acts) × (p ≡ after start acts)
-  ran_end ran = (subst (AllPass b) (sym (nil_append ran.done) ∙ sym ran.is_left) ran.passed, sym ran.leads)
+  pub ran_end : Ran b kept start acts p [] → AllUneventful b (lines kept start acts) × (p ≡ after start acts)
+  ran_end ran = (subst (AllUneventful b) (sym (nil_append ran.done) ∙ sym ran.is_left) ran.passed, sym ran.leads)
 
 pub act_kept : (d e : Diagram) (k : ℕ) (op : Op) (refs : List Ref) → KeepsRefs d e refs → ((r : Ref) → IsOneOf r (refs_in op) → IsOneOf r refs) → act_of e k op ≡ act_of d k op
 act_kept d e k (And f) refs keeps sub = ap Join (keeps.tables f (sub f (inl refl)))
@@ -147,5 +147,5 @@ drop_all [] (suc i) le = refl
 drop_all (op ∷ ops) zero le = absurd (omega arith)
 drop_all (op ∷ ops) (suc i) le = drop_all ops i (omega arith)
 
-pub ran_all : (d : Diagram) (b : Budget) (kept : List Function) (start p : Function) (ops : List Op) (i k : ℕ) → length ops ≤ i → Ran b kept start (acts_of d k ops) p (acts_of d k (drop i ops)) → AllPass b (lines kept start (acts_of d k ops)) × (p ≡ after start (acts_of d k ops))
+pub ran_all : (d : Diagram) (b : Budget) (kept : List Function) (start p : Function) (ops : List Op) (i k : ℕ) → length ops ≤ i → Ran b kept start (acts_of d k ops) p (acts_of d k (drop i ops)) → AllUneventful b (lines kept start (acts_of d k ops)) × (p ≡ after start (acts_of d k ops))
 ran_all d b kept start p ops i k le ran = ran_end b kept start (acts_of d k ops) p (subst (λ left. Ran b kept start (acts_of d k ops) p (acts_of d k left)) (drop_all ops i le) ran)

@@ -11,8 +11,8 @@ use Rattle.smv_rings.specs.Schedule.Act.{Join, Out, Look_at, Lower}
 use Rattle.smv_rings.proofs.Rings.{looked_to, looked_from, closed_inductive, inductive_safe}
 use Rattle.smv_rings.proofs.Early.{equal_or_not}
 use Rattle.smv_rings.proofs.Few.{images_few}
-use Rattle.smv_search.specs.Verdict.{Budget, Verdict, count, Passes, Settles, Decides, AllPass, First}
-use Rattle.smv_search.specs.Verdict.Verdict.{Reached, Shut, Images}
+use Rattle.smv_search.specs.Events.{Budget, Event, count, IsUneventful, Settles, Decides, AllUneventful, First}
+use Rattle.smv_search.specs.Events.Event.{Reached, Shut, Images}
 
 -- lines at which nothing is looked at
 abbrev pub Quiet : List Line → Type 0
@@ -74,28 +74,28 @@ nil_cons [] behind line e = cc
 nil_cons (x ∷ before) behind line e = cc
 
 -- the first event of two lists is in the first, or the first passes
-pub first_split : (b : Budget) (xs ys : List Line) (v : Verdict) → First b (xs ++ ys) v → First b xs v ⊎ (AllPass b xs × First b ys v)
-unfolding First AllPass
+pub first_split : (b : Budget) (xs ys : List Line) (v : Event) → First b (xs ++ ys) v → First b xs v ⊎ (AllUneventful b xs × First b ys v)
+unfolding First AllUneventful
 first_split b [] ys v first = inr (tt, first)
 first_split b (x ∷ xs) ys v ([], line, behind, is, passed, decides) = inl ([], x, xs, refl, tt, subst (λ z. Decides b z v) (sym (cons_head x line (xs ++ ys) behind is)) decides)
 first_split b (x ∷ xs) ys v (z ∷ before, line, behind, is, passed, decides) =
-    let x_passes : Passes b x = subst (Passes b) (sym (cons_head x z (xs ++ ys) (before ++ (line ∷ behind)) is)) passed.0 in
+    let x_passes : IsUneventful b x = subst (IsUneventful b) (sym (cons_head x z (xs ++ ys) (before ++ (line ∷ behind)) is)) passed.0 in
     elim (first_split b xs ys v (before, line, behind, cons_tail x z (xs ++ ys) (before ++ (line ∷ behind)) is, passed.1, decides)) [
       | inl f ↦ inl (x ∷ f.0, f.1, f.2, ap (λ ls. x ∷ ls) f.3, (x_passes, f.4), f.5)
       | inr f ↦ inr ((x_passes, f.0), f.1)
     ]
 
-pub pass_split : (b : Budget) (xs ys : List Line) → AllPass b (xs ++ ys) → AllPass b xs × AllPass b ys
-unfolding AllPass
+pub pass_split : (b : Budget) (xs ys : List Line) → AllUneventful b (xs ++ ys) → AllUneventful b xs × AllUneventful b ys
+unfolding AllUneventful
 pass_split b [] ys p = (tt, p)
 pass_split b (x ∷ xs) ys p = let more = pass_split b xs ys p.1 in ((p.0, more.0), more.1)
 
-first_one : (b : Budget) (line : Line) (v : Verdict) → First b (line ∷ []) v → Decides b line v
+first_one : (b : Budget) (line : Line) (v : Event) → First b (line ∷ []) v → Decides b line v
 unfolding First
 first_one b line v ([], x, behind, is, passed, decides) = subst (λ z. Decides b z v) (sym (cons_head line x [] behind is)) decides
 first_one b line v (z ∷ before, x, behind, is, passed, decides) = absurd (nil_cons before behind x (cons_tail line z [] (before ++ (x ∷ behind)) is))
 
-first_none : (b : Budget) (v : Verdict) → First b [] v → ⊥
+first_none : (b : Budget) (v : Event) → First b [] v → ⊥
 unfolding First
 first_none b v (before, line, behind, is, passed, decides) = nil_cons before behind line is
 
@@ -125,13 +125,13 @@ module _ (l : Lists) (b : Budget) where
   turn_split k = lines_append (kept_at l k) (ring l k) (forth l) (Look_at (suc k) l.broken_step ∷ back l)
 
   -- lines that pass found nothing
-  passed_turn : (k : ℕ) → AllPass b (lines (kept_at l k) (ring l k) (turn l k)) → looked l (suc k) ≡ never
-  unfolding AllPass look_line
+  passed_turn : (k : ℕ) → AllUneventful b (lines (kept_at l k) (ring l k) (turn l k)) → looked l (suc k) ≡ never
+  unfolding AllUneventful look_line
   passed_turn k pass =
-      let all = pass_split b (lines (kept_at l k) (ring l k) (forth l)) _ (subst (AllPass b) (turn_split k) pass) in
+      let all = pass_split b (lines (kept_at l k) (ring l k) (forth l)) _ (subst (AllUneventful b) (turn_split k) pass) in
       all.1.0.1
 
-  pub passed_schedule : (k j : ℕ) → j < k → AllPass b (schedule l k) → looked l (suc j) ≡ never
+  pub passed_schedule : (k j : ℕ) → j < k → AllUneventful b (schedule l k) → looked l (suc j) ≡ never
   passed_schedule zero j lt pass = absurd (omega arith)
   passed_schedule (suc k) j lt pass =
       let all = pass_split b (schedule l k) (turn_lines l k) pass in
@@ -174,9 +174,9 @@ module _ (l : Lists) (b : Budget) where
   unfolding ahead
   quiet_ahead = quiet_append (one_by_one [] (functions l)) (first_lines (functions l) l.now_first) (quiet_ones [] (functions l)) (quiet_firsts (functions l) l.now_first)
 
-  passed_start : AllPass b (schedule l 0) → looked l 0 ≡ never
-  unfolding AllPass first_look
-  passed_start pass = let all = pass_split b ahead _ (subst (AllPass b) start_split pass) in all.1.0.1
+  passed_start : AllUneventful b (schedule l 0) → looked l 0 ≡ never
+  unfolding AllUneventful first_look
+  passed_start pass = let all = pass_split b ahead _ (subst (AllUneventful b) start_split pass) in all.1.0.1
 
   found_start : (j : ℕ) → First b (schedule l 0) (Reached j) → (j ≡ 0) × (looked l 0 ≢ never)
   unfolding first_look
@@ -188,11 +188,11 @@ module _ (l : Lists) (b : Budget) where
     ]
   ]
 
-  start_passed : (k : ℕ) → AllPass b (schedule l k) → AllPass b (schedule l 0)
+  start_passed : (k : ℕ) → AllUneventful b (schedule l k) → AllUneventful b (schedule l 0)
   start_passed zero pass = pass
   start_passed (suc k) pass = start_passed k (pass_split b (schedule l k) (turn_lines l k) pass).0
 
-  all_passed : (k j : ℕ) → j ≤ k → AllPass b (schedule l k) → looked l j ≡ never
+  all_passed : (k j : ℕ) → j ≤ k → AllUneventful b (schedule l k) → looked l j ≡ never
   all_passed k zero le pass = passed_start (start_passed k pass)
   all_passed k (suc j) le pass = passed_schedule k j (omega arith) pass
 
@@ -306,8 +306,8 @@ module _ (l : Lists) (b : Budget) where
       let inductive = closed_inductive l ok k is.0 (is.1 0 (omega arith)) (is.1 (suc k) (omega arith)) in
       (inductive, inductive_safe l (ring l k) inductive)
 
-  passed_grows : (n k : ℕ) → k < n → AllPass b (schedule l n) → ring l (suc k) ≢ ring l k
-  unfolding AllPass
+  passed_grows : (n k : ℕ) → k < n → AllUneventful b (schedule l n) → ring l (suc k) ≢ ring l k
+  unfolding AllUneventful
   passed_grows zero k lt pass = absurd (omega arith)
   passed_grows (suc n) k lt pass =
       let all = pass_split b (schedule l n) (turn_lines l n) pass in

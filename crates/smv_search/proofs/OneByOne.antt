@@ -11,8 +11,8 @@ use Rattle.smv_rings.specs.Schedule.Look.{Pass}
 use Rattle.smv_rings.proofs.Whole.{map_append}
 use Rattle.smv_search.specs.declared.counts.Stop.{Stop}
 use Rattle.smv_search.specs.declared.counts.Stop.TheVariants.{TooMany, OutOfMemory}
-use Rattle.smv_search.specs.Verdict.{Budget, count, told, AllPass, First}
-use Rattle.smv_search.specs.Verdict.Verdict.{Counted}
+use Rattle.smv_search.specs.Events.{Budget, count, told, AllUneventful, First}
+use Rattle.smv_search.specs.Events.Event.{Counted}
 use Rattle.smv_search.specs.Keeping.{beads_of, IsTally}
 use Rattle.smv_search.specs.Runs.{TakesIn, Took}
 use Rattle.smv_search.proofs.Loops.{nil_append, pass_append}
@@ -21,11 +21,11 @@ abbrev pub line_of : List Function → Function → Line
 line_of kept f = record { kept = kept; source = []; made = f; look = Pass }
 
 took_start : (b : Budget) (fs : List Function) → Took b fs [] fs
-unfolding AllPass
+unfolding AllUneventful
 took_start b fs = record { done = []; passed = tt; is_left = refl }
 
 took_on : (b : Budget) (fs kept left : List Function) (f : Function) → Took b fs kept (f ∷ left) → count b.vars (line_of kept f) ≤ b.nodes → Took b fs (kept ++ (f ∷ [])) left
-unfolding AllPass
+unfolding AllUneventful
 took_on b fs kept left f took le = record {
   done = took.done ++ (line_of kept f ∷ []);
   passed = pass_append b took.done (line_of kept f ∷ []) took.passed ((le, tt), tt);
@@ -36,8 +36,8 @@ took_first : (b : Budget) (fs kept left : List Function) (f : Function) (n : ℕ
 unfolding First
 took_first b fs kept left f n took many = (took.done, line_of kept f, one_by_one (kept ++ (f ∷ [])) left, took.is_left, took.passed, many)
 
-took_end : (b : Budget) (fs kept : List Function) → Took b fs kept [] → AllPass b (one_by_one [] fs)
-took_end b fs kept took = subst (AllPass b) (sym (nil_append took.done) ∙ sym took.is_left) took.passed
+took_end : (b : Budget) (fs kept : List Function) → Took b fs kept [] → AllUneventful b (one_by_one [] fs)
+took_end b fs kept took = subst (AllUneventful b) (sym (nil_append took.done) ∙ sym took.is_left) took.passed
 
 take_all : {A : Type 0} → (xs : List A) (i : ℕ) → length xs ≤ i → take i xs ≡ xs
 take_all [] zero le = refl
@@ -88,7 +88,7 @@ module _ (d : Diagram) (all : List Ref) (nodes images : ℕ) where
       (subst (λ m. nodes < m) same many.0, many.1 ∙ ap (told nodes) same)
   stop_at i OutOfMemory lt took many = tt
 
-  pub end_at : (i : ℕ) → length all ≤ i → TookAt i → AllPass budget (one_by_one [] (map (table d) all))
+  pub end_at : (i : ℕ) → length all ≤ i → TookAt i → AllUneventful budget (one_by_one [] (map (table d) all))
   end_at i le took = took_end budget (map (table d) all) (map (table d) (take i all)) (subst (λ rs. Took budget (map (table d) all) (map (table d) (take i all)) (map (table d) rs)) (drop_of_length-le all le) took)
 
 pub take_live : (d : Diagram) (all : List Ref) (i : ℕ) → AreLive d all → AreLive d (take i all)

@@ -13,8 +13,8 @@ use Rattle.smv_rings.specs.Ops.{IsOneOf}
 use Rattle.smv_rings.proofs.PathLaws.{violating_of, violates_of}
 use Rattle.smv_search.specs.declared.Outcome.{Outcome}
 use Rattle.smv_search.specs.declared.Outcome.TheVariants.{Closed, Reaches, OutOfNodes, OutOfSteps}
-use Rattle.smv_search.specs.Verdict.{Budget, Verdict, count, First, IsVerdict}
-use Rattle.smv_search.specs.Verdict.Verdict.{Counted, Reached, Shut, Images}
+use Rattle.smv_search.specs.Events.{Budget, Event, count, First, IsFirstEvent}
+use Rattle.smv_search.specs.Events.Event.{Counted, Reached, Shut, Images}
 use Rattle.smv_search.specs.Keeping.{AllHeld, KeepsRefs}
 use Rattle.smv_search.specs.Runs.{rings_to}
 use Rattle.smv_search.specs.Answers.{found, Answers, IsProof, IsLeast, IsFew, IsTold}
@@ -61,7 +61,7 @@ module _ (l : Lists) (b : Budget) (ok : IsLists l) where
       pub answers : b.vars ≡ 2 * l.bits → Answers e l b.nodes b.images o
       answers bits = by_case o told sub
         where
-          of_budget : (v : Verdict) → First b (schedule l b.images) v → IsVerdict l b.nodes b.images v
+          of_budget : (v : Event) → First b (schedule l b.images) v → IsFirstEvent l b.nodes b.images v
           of_budget v first = subst (λ (n : ℕ). First (record { vars = n; nodes = b.nodes; images = b.images }) (schedule l b.images) v) bits first
 
           by_case : (o : Outcome) → IsTold d l b o → ((r : Ref) → IsOneOf r (found o) → IsOneOf r roots) → Answers e l b.nodes b.images o

@@ -3,7 +3,7 @@ use Rattle.std.proofs.Common.{refl}
 use Rattle.bdd_store.specs.Beads.{truth_table, same_bit, same_block, blocks_of, count_distinct, bead_count}
 use Rattle.bdd_store.specs.Graph.{with_at}
 use Rattle.bdd_ops.specs.Functions.{depends}
-use Rattle.smv_search.specs.Verdict.{count}
+use Rattle.smv_search.specs.Events.{count}
 use Rattle.smv_search.specs.Laws.{ToggleCounts}
 
 pub toggle_counts : ToggleCounts

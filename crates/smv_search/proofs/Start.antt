@@ -18,8 +18,8 @@ use Rattle.smv_rings.proofs.Turns.{after_append}
 use Rattle.smv_rings.proofs.Refs.{each_live, live_each, in_now_first, in_before_first, in_broken_first, in_now_step, in_before_step, in_broken_step}
 use Rattle.smv_search.specs.declared.counts.Stop.{Stop}
 use Rattle.smv_search.specs.declared.counts.Stop.TheVariants.{TooMany, OutOfMemory}
-use Rattle.smv_search.specs.Verdict.{Budget, Verdict, count, AllPass, First}
-use Rattle.smv_search.specs.Verdict.Verdict.{Counted, Reached}
+use Rattle.smv_search.specs.Events.{Budget, Event, count, AllUneventful, First}
+use Rattle.smv_search.specs.Events.Event.{Counted, Reached}
 use Rattle.smv_search.specs.Keeping.{AllHeld, KeepsRefs, beads_of}
 use Rattle.smv_search.specs.Runs.{Runs, TakesIn, first_of, behind_first, opening}
 use Rattle.smv_search.specs.Answers.{Begins}
@@ -127,25 +127,25 @@ again_within n f fs = beads_monotone n (map (truth_table n 0) ((f ∷ fs) ++ (f 
   | inr last ↦ subst (λ u. one_of (map (truth_table n 0) (f ∷ fs)) u ≡ true) (sym last) (one_here n [] fs f)
 ])
 
-heads_pass : (b : Budget) (fs gs : List Function) → bead_count b.vars (map (truth_table b.vars 0) (fs ++ gs)) ≤ b.nodes → AllPass b (heads (fs ++ gs) fs)
-unfolding AllPass count
+heads_pass : (b : Budget) (fs gs : List Function) → bead_count b.vars (map (truth_table b.vars 0) (fs ++ gs)) ≤ b.nodes → AllUneventful b (heads (fs ++ gs) fs)
+unfolding AllUneventful count
 heads_pass b [] gs le = tt
 heads_pass b (f ∷ fs) gs le = ((omega (arith, again_within b.vars f (fs ++ gs), le), tt), tt)
 
 -- ---- what a search answers up to ring 0
 module _ (l : Lists) (b : Budget) (e : Diagram) where
   takes_stop : (s : Stop) → TakesIn b (functions l) (Err s) → Begins e l b (Err s)
-  unfolding AllPass
+  unfolding AllUneventful
   takes_stop (TooMany n) first = first_behind b [] (one_by_one [] (functions l)) (first_lines (functions l) l.now_first ++ lines (functions l) (first_all l.now_first) (Look_at 0 l.broken_first ∷ map Join l.before_first)) (Counted n) tt first
   takes_stop OutOfMemory first = tt
 
-  run_first : (v : Verdict) → AllPass b (ahead_of l) → First b (lines (functions l) (first_of l.now_first) (opening l)) v → First b (schedule l 0) v
+  run_first : (v : Event) → AllUneventful b (ahead_of l) → First b (lines (functions l) (first_of l.now_first) (opening l)) v → First b (schedule l 0) v
   run_first v pass first =
       subst (λ ls. First b ls v) (ap (λ ls. ahead_of l ++ ls) (nil_append (lines (functions l) (first_of l.now_first) (opening l))) ∙ sym (start_is l))
       (first_behind b (ahead_of l) (lines (functions l) (first_of l.now_first) (opening l)) [] v pass first)
 
-  begins : (r : Result (Option Ref) Stop) → AllPass b (ahead_of l) → Runs e b (functions l) (first_of l.now_first) (opening l) 0 r → Begins e l b r
-  begins (Ok (Some r)) pass runs = (subst (AllPass b) (sym (start_is l)) (pass_append b (ahead_of l) (lines (functions l) (first_of l.now_first) (opening l)) pass runs.0), runs.1, runs.2 ∙ ring_is l)
+  begins : (r : Result (Option Ref) Stop) → AllUneventful b (ahead_of l) → Runs e b (functions l) (first_of l.now_first) (opening l) 0 r → Begins e l b r
+  begins (Ok (Some r)) pass runs = (subst (AllUneventful b) (sym (start_is l)) (pass_append b (ahead_of l) (lines (functions l) (first_of l.now_first) (opening l)) pass runs.0), runs.1, runs.2 ∙ ring_is l)
   begins (Ok None) pass runs = run_first (Reached 0) pass runs
   begins (Err (TooMany n)) pass runs = run_first (Counted n) pass runs
   begins (Err OutOfMemory) pass runs = tt
@@ -186,14 +186,14 @@ module _ (d : Diagram) (rel : Rel) (all : List Ref) (own : all ≡ refs_of rel) 
   pub begin_stop : (s : Stop) → TakesIn budget_of (map (table d) all) (Err s) → Begins d (lists_of d rel) budget_of (Err s)
   begin_stop s takes = takes_stop (lists_of d rel) budget_of d s (subst (λ fs. TakesIn budget_of fs (Err s)) all_functions takes)
 
-  ahead_pass : AllPass budget_of (one_by_one [] (map (table d) all)) → beads_of d all ≤ nodes → AllPass budget_of (ahead_of (lists_of d rel))
+  ahead_pass : AllUneventful budget_of (one_by_one [] (map (table d) all)) → beads_of d all ≤ nodes → AllUneventful budget_of (ahead_of (lists_of d rel))
   unfolding beads_of lists_of
   ahead_pass pass within =
-      pass_append budget_of (one_by_one [] (functions (lists_of d rel))) (heads (functions (lists_of d rel)) (lists_of d rel).now_first) (subst (λ fs. AllPass budget_of (one_by_one [] fs)) all_functions pass)
+      pass_append budget_of (one_by_one [] (functions (lists_of d rel))) (heads (functions (lists_of d rel)) (lists_of d rel).now_first) (subst (λ fs. AllUneventful budget_of (one_by_one [] fs)) all_functions pass)
       (heads_pass budget_of (lists_of d rel).now_first ((lists_of d rel).before_first ++ ((lists_of d rel).broken_first ∷ ((lists_of d rel).now_step ++ ((lists_of d rel).before_step ++ ((lists_of d rel).broken_step ∷ [])))))
       (subst (λ fs. bead_count d.vars (map (truth_table d.vars 0) fs) ≤ nodes) all_functions within))
 
-  pub begin_run : (e : Diagram) (r : Result (Option Ref) Stop) (start : Function) (acts : List Act) → AllPass budget_of (one_by_one [] (map (table d) all)) → beads_of d all ≤ nodes → start ≡ first_of (map (table d) rel.now_first.items) → acts ≡ opening (lists_of d rel)
+  pub begin_run : (e : Diagram) (r : Result (Option Ref) Stop) (start : Function) (acts : List Act) → AllUneventful budget_of (one_by_one [] (map (table d) all)) → beads_of d all ≤ nodes → start ≡ first_of (map (table d) rel.now_first.items) → acts ≡ opening (lists_of d rel)
       → Runs e budget_of (map (table d) all) start acts 0 r → Begins e (lists_of d rel) budget_of r
   unfolding lists_of
   begin_run e r start acts pass within start_same acts_same runs =

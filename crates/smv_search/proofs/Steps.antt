@@ -16,8 +16,8 @@ use Rattle.smv_rings.specs.declared.ops.Op.{Op}
 use Rattle.smv_rings.specs.declared.ops.Op.TheVariants.{And, Exists, Look, Rename}
 use Rattle.smv_search.specs.declared.counts.Stop.{Stop}
 use Rattle.smv_search.specs.declared.counts.Stop.TheVariants.{TooMany, OutOfMemory}
-use Rattle.smv_search.specs.Verdict.{Budget, count, told, Goes, Settles, AllPass, First}
-use Rattle.smv_search.specs.Verdict.Verdict.{Reached}
+use Rattle.smv_search.specs.Events.{Budget, count, told, Goes, Settles, AllUneventful, First}
+use Rattle.smv_search.specs.Events.Event.{Reached}
 use Rattle.smv_rings.specs.Ops.{act_of}
 use Rattle.smv_search.specs.Runs.{Runs}
 use Rattle.std.specs.Result.{IsErrAnd}
@@ -78,7 +78,7 @@ module _ (d e f : Diagram) (live : List Ref) (p made : Ref) (op : Op) (nodes : �
 
   -- too many beads
   pub step_stops : (err : Stop) (k images : ℕ) → IsTally {A = Option Ref} (beads_of e (live ++ (p ∷ made ∷ []))) nodes (Err err) → Runs f (budget images) (map (table d) live) (table d p) (act_of d k op ∷ []) k (Err err)
-  unfolding First AllPass
+  unfolding First AllUneventful
   step_stops (TooMany n) k images tally = ([], line_of k, [], refl, tt, (subst (λ m. nodes < m) (counts k) tally.0, tally.1 ∙ ap (told nodes) (counts k)))
   step_stops OutOfMemory k images tally = tt
 
@@ -87,8 +87,8 @@ module _ (d e f : Diagram) (live : List Ref) (p made : Ref) (op : Op) (nodes : �
 
   -- a look that finds nothing
   pub look_passes : (g : Ref) → op ≡ Look g → beads_of e (live ++ (p ∷ made ∷ [])) ≤ nodes → ((a : ℕ → Bool) → table f made a ≡ false) → (k images : ℕ)
-      → AllPass (budget images) (line_of k ∷ []) × IsLive f p × (table f p ≡ left_by (act_of d k op) (table d p))
-  unfolding AllPass
+      → AllUneventful (budget images) (line_of k ∷ []) × IsLive f p × (table f p ≡ left_by (act_of d k op) (table d p))
+  unfolding AllUneventful
   look_passes g e le none k images =
       let made_never : made_by (act_of d k op) (table d p) ≡ never = sym (made_table k) ∙ (λ i a. none a i) in (
         ((within k le, subst (λ o. Goes images (made_by (act_of d k op) (table d p)) (look_of (act_of d k o))) (sym e) made_never), tt),
@@ -99,15 +99,15 @@ module _ (d e f : Diagram) (live : List Ref) (p made : Ref) (op : Op) (nodes : �
   -- a look that finds something
   pub look_decides : (g : Ref) → op ≡ Look g → beads_of e (live ++ (p ∷ made ∷ [])) ≤ nodes → (((a : ℕ → Bool) → table f made a ≡ false) → ⊥) → (k images : ℕ)
       → First (budget images) (line_of k ∷ []) (Reached k)
-  unfolding First AllPass
+  unfolding First AllUneventful
   look_decides g e le some k images =
       let differs : made_by (act_of d k op) (table d p) ≢ never = λ same. some (λ a. ap (λ h. h a) (made_table k ∙ same)) in
       ([], line_of k, [], refl, tt, (within k le, subst (λ o. Settles images (made_by (act_of d k op) (table d p)) (look_of (act_of d k o)) (Reached k)) (sym e) (differs, refl)))
 
   -- any other operation
   pub plain_passes : ((g : Ref) → op ≡ Look g → ⊥) → beads_of e (live ++ (p ∷ made ∷ [])) ≤ nodes → (k images : ℕ)
-      → AllPass (budget images) (line_of k ∷ []) × IsLive f made × (table f made ≡ left_by (act_of d k op) (table d p))
-  unfolding AllPass
+      → AllUneventful (budget images) (line_of k ∷ []) × IsLive f made × (table f made ≡ left_by (act_of d k op) (table d p))
+  unfolding AllUneventful
   plain_passes other le k images = (((within k le, goes op other), tt), made_live, made_table k ∙ leaves op other)
     where
       goes : (o : Op) → ((g : Ref) → o ≡ Look g → ⊥) → Goes images (made_by (act_of d k op) (table d p)) (look_of (act_of d k o))
@@ -144,7 +144,7 @@ past_tally A B line n nodes OutOfMemory past = tt
 -- so the operation that would have made it ends the search
 pub past_stops : (d e : Diagram) (live : List Ref) (p : Ref) (op : Op) (nodes : ℕ) (err : Stop) → IsPast {A = Ref} (beads_in d.vars (made_by (act_of d 0 op) (table d p))) nodes (Err err) → (k images : ℕ)
     → Runs e (record { vars = d.vars; nodes = nodes; images = images }) (map (table d) live) (table d p) (act_of d k op ∷ []) k (Err err)
-unfolding First AllPass
+unfolding First AllUneventful
 past_stops d e live p op nodes OutOfMemory past k images = tt
 past_stops d e live p op nodes (TooMany c) past k images =
     let line : Line = record { kept = map (table d) live; source = table d p ∷ []; made = made_by (act_of d k op) (table d p); look = look_of (act_of d k op) } in

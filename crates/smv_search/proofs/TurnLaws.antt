@@ -12,8 +12,8 @@ use Rattle.smv_rings.specs.declared.ops.Op.{Op}
 use Rattle.smv_search.specs.declared.counts.Stop.{Stop}
 use Rattle.smv_search.specs.declared.counts.Stop.TheVariants.{TooMany, OutOfMemory}
 use Rattle.smv_search.specs.declared.turns.End.TheVariants.{Closed}
-use Rattle.smv_search.specs.Verdict.{Budget, Verdict, count, told, AllPass, First}
-use Rattle.smv_search.specs.Verdict.Verdict.{Counted, Reached, Shut, Images}
+use Rattle.smv_search.specs.Events.{Budget, Event, count, told, AllUneventful, First}
+use Rattle.smv_search.specs.Events.Event.{Counted, Reached, Shut, Images}
 use Rattle.smv_rings.specs.Ops.{act_of, acts_of, refs_in, refs_in_all, FitsActs}
 use Rattle.smv_search.specs.Runs.{Runs, IsEnd, rings_to}
 use Rattle.smv_search.proofs.Keep.{map_kept, keeps_then, keeps_some}
@@ -29,14 +29,14 @@ acts_kept d e k (op ∷ ops) refs keeps sub =
     ∙ ap (λ acts. act_of d k op ∷ acts) (acts_kept d e k ops refs keeps (λ r one. sub r (one_right r (refs_in op) (refs_in_all ops) one)))
 
 -- an event of a schedule is one of each longer schedule
-pub first_longer : (l : Lists) (b : Budget) (v : Verdict) (n m : ℕ) → First b (schedule l n) v → First b (schedule l (m + n)) v
-unfolding AllPass
+pub first_longer : (l : Lists) (b : Budget) (v : Event) (n m : ℕ) → First b (schedule l n) v → First b (schedule l (m + n)) v
+unfolding AllUneventful
 first_longer l b v n zero first = let e : 0 + n ≡ n = omega arith in subst (λ (i : ℕ). First b (schedule l i) v) (sym e) first
 first_longer l b v n (suc m) first =
     let e : suc m + n ≡ suc (m + n) = omega arith in
     subst (λ (i : ℕ). First b (schedule l i) v) (sym e) (first_behind b [] (schedule l (m + n)) (turn_lines l (m + n)) v tt (first_longer l b v n m first))
 
-pub first_images : (l : Lists) (b : Budget) (v : Verdict) (k n : ℕ) → k < n → First b (schedule l (suc k)) v → First b (schedule l n) v
+pub first_images : (l : Lists) (b : Budget) (v : Event) (k n : ℕ) → k < n → First b (schedule l (suc k)) v → First b (schedule l n) v
 first_images l b v k n lt first = let e : (n - suc k) + suc k ≡ n = omega arith in subst (λ (i : ℕ). First b (schedule l i) v) e (first_longer l b v (suc k) (n - suc k) first)
 
 module _ (l : Lists) (b : Budget) (k : ℕ) where
@@ -46,28 +46,28 @@ module _ (l : Lists) (b : Budget) (k : ℕ) where
   abbrev pub closing : Line
   closing = record { kept = kept_at l k; source = after (ring l k) (turn l k) ∷ []; made = ring l (suc k); look = Ring (suc k) (ring l k) }
 
-  pub in_turn : (v : Verdict) → AllPass b (schedule l k) → First b acts_lines v → First b (schedule l (suc k)) v
+  pub in_turn : (v : Event) → AllUneventful b (schedule l k) → First b acts_lines v → First b (schedule l (suc k)) v
   in_turn v passed first = first_behind b (schedule l k) acts_lines (closing ∷ []) v passed first
 
-  pub at_close : (v : Verdict) → AllPass b (schedule l k) → AllPass b acts_lines → First b (closing ∷ []) v → First b (schedule l (suc k)) v
+  pub at_close : (v : Event) → AllUneventful b (schedule l k) → AllUneventful b acts_lines → First b (closing ∷ []) v → First b (schedule l (suc k)) v
   at_close v passed pass first =
       subst (λ ls. First b ls v) (append_assoc (schedule l k) acts_lines (closing ∷ [])) (
       first_behind b (schedule l k ++ acts_lines) (closing ∷ []) [] v (pass_append b (schedule l k) acts_lines passed pass) first)
 
   pub counts_close : (n : ℕ) → (b.nodes < count b.vars closing) × (n ≡ told b.nodes (count b.vars closing)) → First b (closing ∷ []) (Counted n)
-  unfolding First AllPass
+  unfolding First AllUneventful
   counts_close n is = ([], closing, [], refl, tt, is)
 
   pub shuts : count b.vars closing ≤ b.nodes → ring l (suc k) ≡ ring l k → First b (closing ∷ []) (Shut k)
-  unfolding First AllPass
+  unfolding First AllUneventful
   shuts le same = ([], closing, [], refl, tt, (le, (same, refl)))
 
   pub last_image : count b.vars closing ≤ b.nodes → ring l (suc k) ≢ ring l k → suc k ≡ b.images → First b (closing ∷ []) Images
-  unfolding First AllPass
+  unfolding First AllUneventful
   last_image le ne is = ([], closing, [], refl, tt, (le, (ne, is)))
 
-  pub passes_on : AllPass b (schedule l k) → AllPass b acts_lines → count b.vars closing ≤ b.nodes → ring l (suc k) ≢ ring l k → suc k ≢ b.images → AllPass b (schedule l (suc k))
-  unfolding AllPass
+  pub passes_on : AllUneventful b (schedule l k) → AllUneventful b acts_lines → count b.vars closing ≤ b.nodes → ring l (suc k) ≢ ring l k → suc k ≢ b.images → AllUneventful b (schedule l (suc k))
+  unfolding AllUneventful
   passes_on passed pass le ne more = pass_append b (schedule l k) (turn_lines l k) passed (pass_append b acts_lines (closing ∷ []) pass ((le, (ne, more)), tt))
 
 module _ (l : Lists) (d e : Diagram) (refs now : List Ref) (plan : List Op) (last : Ref) (k nodes images : ℕ)
@@ -85,7 +85,7 @@ module _ (l : Lists) (d e : Diagram) (refs now : List Ref) (plan : List Op) (las
       subst (λ p. FitsActs e.vars p (acts_of d 0 plan)) (sym ring_is) (
       subst (λ n. FitsActs n (ring l k) (acts_of d 0 plan)) (sym keeps.vars) (fits k)))
 
-  module _ (f : Diagram) (now_f : List Ref) (r : Result (Option Ref) Stop) (run_keeps : KeepsRefs e f now) (passed : AllPass budget (schedule l k))
+  module _ (f : Diagram) (now_f : List Ref) (r : Result (Option Ref) Stop) (run_keeps : KeepsRefs e f now) (passed : AllUneventful budget (schedule l k))
       (runs : (k images : ℕ) → Runs f (record { vars = e.vars; nodes = nodes; images = images }) (map (table e) now) (table e last) (acts_of e k plan) k r) where
     pub keeps_f : KeepsRefs d f refs
     keeps_f = keeps_then d e f refs keeps (keeps_some e f now refs more run_keeps)
@@ -112,7 +112,7 @@ module _ (l : Lists) (d e : Diagram) (refs now : List Ref) (plan : List Op) (las
       image_is : table f image ≡ after (ring l k) (turn l k)
       image_is = (runs_turn (Ok (Some image)) is).2
 
-      lines_pass : AllPass budget (acts_lines l budget k)
+      lines_pass : AllUneventful budget (acts_lines l budget k)
       lines_pass = (runs_turn (Ok (Some image)) is).0
 
       last_is : table f last ≡ ring l k
@@ -162,7 +162,7 @@ module _ (l : Lists) (d e : Diagram) (refs now : List Ref) (plan : List Op) (las
           differs : IsCanonical g → (next ≡ last → ⊥) → ring l (suc k) ≢ ring l k
           differs canonical ne same = ne (canonical next last live_next (close_keeps.live last last_one_f) (λ a. ap (λ p. p a) (next_g ∙ same ∙ sym last_g)))
 
-          pub goes_passed : IsCanonical g → (next ≡ last → ⊥) → suc k < images → AllPass budget (schedule l (suc k))
+          pub goes_passed : IsCanonical g → (next ≡ last → ⊥) → suc k < images → AllUneventful budget (schedule l (suc k))
           goes_passed canonical ne less = passes_on l budget k passed lines_pass (tally_close (Ok next) ok) (differs canonical ne) (omega arith)
 
           pub goes_ended : IsCanonical g → (next ≡ last → ⊥) → suc k ≡ images → First budget (schedule l images) Images

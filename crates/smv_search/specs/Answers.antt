@@ -10,8 +10,8 @@ use Rattle.smv_search.specs.declared.Outcome.{Outcome}
 use Rattle.smv_search.specs.declared.Outcome.TheVariants.{Closed, Reaches, OutOfNodes, OutOfSteps}
 use Rattle.smv_search.specs.declared.counts.Stop.{Stop}
 use Rattle.smv_search.specs.declared.counts.Stop.TheVariants.{TooMany, OutOfMemory}
-use Rattle.smv_search.specs.Verdict.{Budget, AllPass, First, IsVerdict}
-use Rattle.smv_search.specs.Verdict.Verdict.{Counted, Reached, Shut, Images}
+use Rattle.smv_search.specs.Events.{Budget, AllUneventful, First, IsFirstEvent}
+use Rattle.smv_search.specs.Events.Event.{Counted, Reached, Shut, Images}
 use Rattle.smv_search.specs.Runs.{rings_to}
 
 -- the functions of an outcome
@@ -24,10 +24,10 @@ found OutOfSteps = []
 -- the outcome is the verdict of the case, with the ring that equals the next one, or with the rings before the last
 -- state of a shortest violating path
 abbrev pub Answers : Diagram → Lists → ℕ → ℕ → Outcome → Type 0
-Answers d l nodes images (Closed set) = (k : ℕ) × IsVerdict l nodes images (Shut k) × (table d set ≡ ring l k)
-Answers d l nodes images (Reaches depth rings) = IsVerdict l nodes images (Reached depth) × (map (table d) rings.items ≡ rings_to l depth)
-Answers d l nodes images (OutOfNodes count) = IsVerdict l nodes images (Counted count)
-Answers d l nodes images OutOfSteps = IsVerdict l nodes images Images
+Answers d l nodes images (Closed set) = (k : ℕ) × IsFirstEvent l nodes images (Shut k) × (table d set ≡ ring l k)
+Answers d l nodes images (Reaches depth rings) = IsFirstEvent l nodes images (Reached depth) × (map (table d) rings.items ≡ rings_to l depth)
+Answers d l nodes images (OutOfNodes count) = IsFirstEvent l nodes images (Counted count)
+Answers d l nodes images OutOfSteps = IsFirstEvent l nodes images Images
 
 -- a closed set meets the four conditions, no violating path has any length, and the set is within the budget
 abbrev pub IsProof : Diagram → Lists → ℕ → Outcome → Type 0
@@ -54,7 +54,7 @@ IsFew l images OutOfSteps = images < 2 ^ l.bits
 
 -- ring 0, or the event before it
 abbrev pub Begins : Diagram → Lists → Budget → Result (Option Ref) Stop → Type 0
-Begins d l b (Ok (Some r)) = AllPass b (schedule l 0) × IsLive d r × (table d r ≡ ring l 0)
+Begins d l b (Ok (Some r)) = AllUneventful b (schedule l 0) × IsLive d r × (table d r ≡ ring l 0)
 Begins d l b (Ok None) = First b (schedule l 0) (Reached 0)
 Begins d l b (Err (TooMany n)) = First b (schedule l 0) (Counted n)
 Begins d l b (Err OutOfMemory) = Unit {0}

@@ -3,11 +3,11 @@ use Rattle.std.specs.Prelude.{◌≡◌, ℕ, ◌&&◌, ◌||◌, not, [], ◌�
 use Rattle.smv_rings.specs.Functions.{never}
 use Rattle.smv_rings.specs.Lists.{Lists}
 use Rattle.smv_rings.specs.Schedule.{schedule}
-use Rattle.smv_search.specs.Verdict.{Verdict, IsVerdict, count}
+use Rattle.smv_search.specs.Events.{Event, IsFirstEvent, count}
 
 -- a case has one verdict for its budgets
 abbrev pub OneVerdict : Type 0
-OneVerdict = (l : Lists) (nodes images : ℕ) (v w : Verdict) → IsVerdict l nodes images v → IsVerdict l nodes images w → v ≡ w
+OneVerdict = (l : Lists) (nodes images : ℕ) (v w : Event) → IsFirstEvent l nodes images v → IsFirstEvent l nodes images w → v ≡ w
 
 -- one bit that is 0 at first and changes at each step, with a claim that always holds
 abbrev pub toggle : Lists

@@ -1,4 +1,4 @@
-pub mod Verdict
+pub mod Events
 pub mod Keeping
 pub mod Runs
 pub mod Answers

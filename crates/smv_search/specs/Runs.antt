@@ -12,12 +12,12 @@ use Rattle.smv_search.specs.declared.counts.Stop.{Stop}
 use Rattle.smv_search.specs.declared.counts.Stop.TheVariants.{TooMany, OutOfMemory}
 use Rattle.smv_search.specs.declared.turns.End.{End}
 use Rattle.smv_search.specs.declared.turns.End.TheVariants.{Closed, Reaches, OutOfSteps}
-use Rattle.smv_search.specs.Verdict.{Budget, AllPass, First}
-use Rattle.smv_search.specs.Verdict.Verdict.{Counted, Reached, Shut, Images}
+use Rattle.smv_search.specs.Events.{Budget, AllUneventful, First}
+use Rattle.smv_search.specs.Events.Event.{Counted, Reached, Shut, Images}
 
 -- P after the acts, or the first event of their lines
 abbrev pub Runs : Diagram → Budget → List Function → Function → List Act → ℕ → Result (Option Ref) Stop → Type 0
-Runs e b kept p acts k (Ok (Some r)) = AllPass b (lines kept p acts) × IsLive e r × (table e r ≡ after p acts)
+Runs e b kept p acts k (Ok (Some r)) = AllUneventful b (lines kept p acts) × IsLive e r × (table e r ≡ after p acts)
 Runs e b kept p acts k (Ok None) = First b (lines kept p acts) (Reached k)
 Runs e b kept p acts k (Err (TooMany n)) = First b (lines kept p acts) (Counted n)
 Runs e b kept p acts k (Err OutOfMemory) = Unit {0}
@@ -25,20 +25,20 @@ Runs e b kept p acts k (Err OutOfMemory) = Unit {0}
 -- the lines so far pass, and what is left is that of the acts that are left
 pub record Ran (b : Budget) (kept : List Function) (start : Function) (acts : List Act) (p : Function) (left : List Act) : Type 0 where
   pub done : List Line
-  pub passed : AllPass b done
+  pub passed : AllUneventful b done
   pub is_left : lines kept start acts ≡ done ++ lines kept p left
   pub leads : after start acts ≡ after p left
 
 -- these functions were appended one by one, or there were too many beads
 abbrev pub TakesIn : Budget → List Function → Result (Unit {0}) Stop → Type 0
-TakesIn b fs (Ok x) = AllPass b (one_by_one [] fs)
+TakesIn b fs (Ok x) = AllUneventful b (one_by_one [] fs)
 TakesIn b fs (Err (TooMany n)) = First b (one_by_one [] fs) (Counted n)
 TakesIn b fs (Err OutOfMemory) = Unit {0}
 
 -- the lines of the functions so far pass, and these are left
 pub record Took (b : Budget) (fs kept left : List Function) : Type 0 where
   pub done : List Line
-  pub passed : AllPass b done
+  pub passed : AllUneventful b done
   pub is_left : one_by_one [] fs ≡ done ++ one_by_one kept left
 
 -- what is done up to ring 0, as acts on the first function of what holds now, or on the constant

@@ -6,7 +6,7 @@ ghost use Rattle.smv_rings.specs.Functions.{disj};
 ghost use Rattle.smv_rings.specs.Schedule.{Look, functions, turn, kept_at, ring, schedule};
 ghost use Rattle.smv_rings.specs.Lists.{IsLists, lists_of};
 ghost use Rattle.smv_rings.specs.Ops.{IsOneOf, acts_of, refs_in_all, FitsActs};
-ghost use Rattle.smv_search.specs.Verdict.{count, AllPass};
+ghost use Rattle.smv_search.specs.Events.{count, AllUneventful};
 ghost use Rattle.smv_search.specs.Keeping.{AllHeld, KeepsRefs, beads_in, IsTally, IsPast};
 ghost use Rattle.smv_search.specs.Runs.{IsEnd, IsEndLive};
 
@@ -46,7 +46,7 @@ pub fn turns(
     requires fits { (k : ℕ) → FitsActs store.old.vars (ring (lists_of store.old rel.now) k) (acts_of store.old 0 plan.now) }
     requires kept { map (table store.old) live.old.items ≡ kept_at (lists_of store.old rel.now) 0 }
     requires ring { table store.old first ≡ ring (lists_of store.old rel.now) 0 }
-    requires passed { AllPass (record { vars = store.old.vars; nodes = nodes; images = steps }) (schedule (lists_of store.old rel.now) 0) }
+    requires passed { AllUneventful (record { vars = store.old.vars; nodes = nodes; images = steps }) (schedule (lists_of store.old rel.now) 0) }
     ensures keeps { KeepsRefs store.old store.new live.old.items }
     ensures end { IsEnd store.new (lists_of store.old rel.now) (record { vars = store.old.vars; nodes = nodes; images = steps }) result }
     ensures rings { (own : List Ref) → live.old.items ≡ own ++ (first ∷ []) → map (table store.old) own ≡ functions (lists_of store.old rel.now) → IsEndLive store.new (lists_of store.old rel.now) own live.new.items result }

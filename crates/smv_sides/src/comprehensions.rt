@@ -1,6 +1,6 @@
 // Comprehensions as right sides.
 ghost use Rattle.std.specs.Prelude.{◌≡◌, ℕ, Bool, true, not, ◌||◌, IfOk, option_copied};
-ghost use Rattle.smv_core.specs.Flat.{Numbered};
+ghost use Rattle.smv_core.specs.FlatMeaning.{Numbered};
 ghost use Rattle.smv_core.specs.declared.flat.FlatExpr.{Each};
 ghost use Rattle.law_obligations.specs.Places.{World};
 ghost use Rattle.smv_problem_spots.specs.Worlds.{IsWorldOf};

@@ -5,8 +5,8 @@ use Rattle.std.specs.List.{flat_map, list_any}
 use Rattle.smv_core.specs.Walk.{same_kind}
 use Rattle.smv_core.specs.declared.tree.Kind.{Kind}
 use Rattle.smv_core.specs.declared.tree.Kind.TheVariants.{Comb, Init, Next}
-use Rattle.smv_instances.specs.Scopes.{first_of_places}
-use Rattle.smv_instances.specs.NameFaults.{place_if}
+use Rattle.smv_mentions.specs.Scopes.{first_of_places}
+use Rattle.smv_mentions.specs.NameFaults.{place_if}
 use Rattle.smv_scope.specs.ScopeFault.{least}
 use Rattle.smv_scope.proofs.LeastLaws.{first-assoc, least-append}
 use Rattle.law_designs.specs.Standing.{Standing}

@@ -4,8 +4,8 @@ use Rattle.std.specs.Prelude.{Option}
 use Rattle.std.specs.List.{flat_map}
 use Rattle.std.proofs.lemmas.List.{append-nil}
 use Rattle.smv_core.specs.declared.fault.Fault.{Fault}
-use Rattle.smv_core.specs.declared.flat.Raw.{Raw}
-use Rattle.smv_instances.specs.FirstFault.{first_of, faults_at}
+use Rattle.smv_core.specs.declared.flat.FlatText.{FlatText}
+use Rattle.smv_mentions.specs.FirstFault.{first_of, faults_at}
 use Rattle.smv_scope.specs.ScopeFault.{least, fault_at, earlier_of}
 use Rattle.smv_scope.proofs.FirstLaws.{first-both, first-at}
 use Rattle.law_designs.specs.WholeText.{claims_of}
@@ -21,10 +21,10 @@ two n places o rest later at is =
 one : (n : ℕ) (places : List ℕ) (o : Option ℕ) → o ≡ least places → fault_at n o ≡ first_of (faults_at (n, places) ++ [])
 one n places o at = ap (fault_at n) at ∙ sym (first-at n places) ∙ ap first_of (sym (append-nil (faults_at (n, places))))
 
-pub single-first : (raw : Raw) (a b c : Option ℕ) → a ≡ least (among meet conflicts_of assigned_of raw.items) → b ≡ least (mixed (flat_map assigned_of raw.items)) → c ≡ least (flat_map lacking (flat_map assigned_of raw.items) ++ flat_map unnamed (claims_of raw.items))
-    → earlier_of (fault_at 15 a) (earlier_of (fault_at 16 b) (fault_at 17 c)) ≡ first_fault_of_single raw
-single-first raw a b c first second third =
-    let all : flat_map assigned_of raw.items ≡ assigned_in raw = sym (items-assigned 0 raw.items) in
-    two 15 (conflicting (statements_of raw)) a _ _ (first ∙ ap least (sym (items-conflicts 0 raw.items)))
-    (two 16 (mixed (assigned_in raw)) b _ _ (second ∙ ap (λ l. least (mixed l)) all)
-    (one 17 (flat_map lacking (assigned_in raw) ++ flat_map unnamed (claims_of raw.items)) c (third ∙ ap (λ l. least (flat_map lacking l ++ flat_map unnamed (claims_of raw.items))) all)))
+pub single-first : (flat_text : FlatText) (a b c : Option ℕ) → a ≡ least (among meet conflicts_of assigned_of flat_text.items) → b ≡ least (mixed (flat_map assigned_of flat_text.items)) → c ≡ least (flat_map lacking (flat_map assigned_of flat_text.items) ++ flat_map unnamed (claims_of flat_text.items))
+    → earlier_of (fault_at 15 a) (earlier_of (fault_at 16 b) (fault_at 17 c)) ≡ first_fault_of_single flat_text
+single-first flat_text a b c first second third =
+    let all : flat_map assigned_of flat_text.items ≡ assigned_in flat_text = sym (items-assigned 0 flat_text.items) in
+    two 15 (conflicting (statements_of flat_text)) a _ _ (first ∙ ap least (sym (items-conflicts 0 flat_text.items)))
+    (two 16 (mixed (assigned_in flat_text)) b _ _ (second ∙ ap (λ l. least (mixed l)) all)
+    (one 17 (flat_map lacking (assigned_in flat_text) ++ flat_map unnamed (claims_of flat_text.items)) c (third ∙ ap (λ l. least (flat_map lacking l ++ flat_map unnamed (claims_of flat_text.items))) all)))

@@ -4,7 +4,7 @@ use Rattle.std.specs.Option.{option_eq}
 use Rattle.std.specs.HashMap.{HashMap, get}
 use Rattle.smv_core.specs.Values.{number}
 use Rattle.smv_core.specs.Assignments.{Index, fixed}
-use Rattle.smv_core.specs.Flat.{flat_index}
+use Rattle.smv_core.specs.FlatMeaning.{flat_index}
 use Rattle.smv_core.specs.declared.flat.FlatExpr.{FlatExpr}
 use Rattle.law_designs.specs.Standing.{Standing}
 use Rattle.smv_single_assignment.specs.declared.classes.Criterion.{Criterion}

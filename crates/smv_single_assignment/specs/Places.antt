@@ -3,7 +3,7 @@ use Rattle.std.specs.Prelude.{ℕ, List, [], ◌∷◌, map, zip, Option, option
 use Rattle.std.specs.List.{list_any}
 use Rattle.smv_core.specs.Values.{Outcome, number}
 use Rattle.smv_core.specs.Assignments.{Index, fixed, bare, computed, add_fixed}
-use Rattle.smv_core.specs.Flat.{flat_index}
+use Rattle.smv_core.specs.FlatMeaning.{flat_index}
 use Rattle.smv_core.specs.declared.flat.FlatExpr.{FlatExpr}
 use Rattle.smv_core.specs.declared.flat.FlatSigned.{FlatSigned, out-FlatSigned}
 use Rattle.smv_single_assignment.specs.declared.places.Place.{Place}

@@ -6,7 +6,7 @@ use Rattle.std.specs.HashMap.{HashMap, get}
 use Rattle.std.specs.Global.{Vec}
 use Rattle.smv_core.specs.Assignments.{Index, bare}
 use Rattle.smv_core.specs.Conflicts.{are_both}
-use Rattle.smv_core.specs.Flat.{flat_index}
+use Rattle.smv_core.specs.FlatMeaning.{flat_index}
 use Rattle.smv_core.specs.declared.flat.FlatExpr.{FlatExpr}
 use Rattle.law_designs.specs.Standing.{Standing}
 use Rattle.law_designs.specs.SingleFaults.{may_meet, meet, share}

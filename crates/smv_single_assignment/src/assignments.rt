@@ -39,7 +39,7 @@ pub fn inside(alloc: Global, var: u16, around: &[u16]) -> Result<Vec<u16>, Alloc
 
 // The assignments of a statement of a layer, inside these variables.
 #[cycle(statements)]
-#[tactic(auto, using(smv_instances::proofs::Notes::noting, crate::proofs::StandingLaws::equations))]
+#[tactic(auto, using(smv_mentions::proofs::Notes::noting, crate::proofs::StandingLaws::equations))]
 fn statement<'a>(
     x: &'a FlatStmt,
     layer: Option<u16>,
@@ -86,7 +86,7 @@ fn statement<'a>(
 
 // Those of all of these statements.
 #[cycle(statements)]
-#[tactic(auto, using(smv_instances::proofs::Notes::noting))]
+#[tactic(auto, using(smv_mentions::proofs::Notes::noting))]
 fn block<'a>(
     parts: &'a [FlatStmt],
     layer: Option<u16>,
@@ -103,7 +103,7 @@ fn block<'a>(
 }
 
 // Those of an item.
-#[tactic(auto, using(smv_instances::proofs::Notes::noting))]
+#[tactic(auto, using(smv_mentions::proofs::Notes::noting))]
 fn item<'a>(x: &'a FlatItem, alloc: Global, out: &mut Vec<Assignment<'a>>) -> Result<(), AllocError>
     ensures { OnOk result (map standing_of out.new.items ≡ map standing_of out.old.items ++ assigned_of x.now) }
 {
@@ -116,7 +116,7 @@ fn item<'a>(x: &'a FlatItem, alloc: Global, out: &mut Vec<Assignment<'a>>) -> Re
 }
 
 /// The assignments of these items.
-#[tactic(auto, using(smv_instances::proofs::Notes::noting))]
+#[tactic(auto, using(smv_mentions::proofs::Notes::noting))]
 pub fn assignments<'a>(
     items: &'a [FlatItem],
     alloc: Global,

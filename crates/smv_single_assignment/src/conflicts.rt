@@ -1,7 +1,7 @@
 // Conflicts of assignments.
 ghost use Rattle.std.specs.Prelude.{◌≡◌, ◌≤◌, ℕ, [], length, IfOk};
 ghost use Rattle.std.specs.List.{flat_map};
-ghost use Rattle.smv_instances.specs.Scopes.{first_of_places};
+ghost use Rattle.smv_mentions.specs.Scopes.{first_of_places};
 ghost use Rattle.smv_scope.specs.ScopeFault.{least};
 ghost use Rattle.law_designs.specs.Standing.{standing};
 ghost use Rattle.law_designs.specs.SingleFaults as spec;

@@ -26,7 +26,7 @@ use crate::mixed::first_mixed;
 use crate::shared::are_shared;
 use crate::variables::first_without;
 use smv_core::Fault;
-use smv_core::flat::Raw;
+use smv_core::flat::FlatText;
 use smv_scope::scope::earlier;
 use std::alloc::{AllocError, Global};
 
@@ -41,10 +41,10 @@ fn fault(number: u8, at: Option<u32>) -> Option<Fault>
 }
 
 /// The first fault of a flattened text among 15 to 17, or none.
-pub fn single_fault(alloc: Global, raw: &Raw) -> Result<Option<Fault>, AllocError>
-    ensures { IfOk result (λ fault. fault ≡ first_fault_of_single raw.now) }
+pub fn single_fault(alloc: Global, flat_text: &FlatText) -> Result<Option<Fault>, AllocError>
+    ensures { IfOk result (λ fault. fault ≡ first_fault_of_single flat_text.now) }
 {
-    let items = raw.items.as_slice();
+    let items = flat_text.items.as_slice();
     let all = assignments(items, alloc)?;
     let without = first_without(&all, items);
     let classes = classes(alloc, &all)?;

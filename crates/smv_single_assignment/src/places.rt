@@ -3,7 +3,7 @@ ghost use Rattle.std.specs.Prelude.{◌≡◌, false, Some};
 ghost use Rattle.smv_core.specs.Values.{add, modulo};
 ghost use Rattle.smv_core.specs.Assignments.{add_fixed, modulo_fixed};
 ghost use Rattle.smv_core.specs.Conflicts.{are_two_constants, are_both};
-ghost use Rattle.smv_core.specs.Flat.{flat_index};
+ghost use Rattle.smv_core.specs.FlatMeaning.{flat_index};
 ghost use Rattle.smv_single_assignment.specs.Classes.{constant_in, constant_value};
 ghost use Rattle.smv_single_assignment.specs.Places.{outcome_of, index_of, added_all, any_two};
 

@@ -12,12 +12,12 @@ use Rattle.smv_core.specs.Values.{Name}
 use Rattle.smv_core.specs.Types.{names_of}
 use Rattle.smv_core.specs.declared.tree.Word.{Word}
 use Rattle.smv_core.specs.declared.tree.Text.{Text}
-use Rattle.smv_instances.specs.Mentions.{Mention, declares, binds, follows, names_type, lists_constants, has_fields, instantiates}
-use Rattle.smv_instances.specs.Scopes.{Piece, Constant, constants, constants_in, pieces}
-use Rattle.smv_instances.specs.Sizes.{count_different, constant_names}
-use Rattle.smv_instances.specs.Said.{said, told, told_by}
-use Rattle.smv_instances.specs.declared.mentions.Mention.{Mention as NotedMention}
-use Rattle.smv_instances.specs.declared.pieces.Piece.{Piece as NotedPiece}
+use Rattle.smv_mentions.specs.Mentions.{Mention, declares, binds, follows, names_type, lists_constants, has_fields, instantiates}
+use Rattle.smv_mentions.specs.Scopes.{Piece, Constant, constants, constants_in, pieces}
+use Rattle.smv_mentions.specs.Sizes.{count_different, constant_names}
+use Rattle.smv_mentions.specs.Said.{said, told, told_by}
+use Rattle.smv_mentions.specs.declared.mentions.Mention.{Mention as NotedMention}
+use Rattle.smv_mentions.specs.declared.pieces.Piece.{Piece as NotedPiece}
 use Rattle.std.proofs.lemmas.List.{take_more}
 use Rattle.std.proofs.lemmas.Grind.{flat_map-append}
 use Rattle.smv_size.specs.Recursion.{Told}

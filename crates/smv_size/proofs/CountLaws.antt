@@ -12,8 +12,8 @@ use Rattle.smv_core.specs.declared.tree.Arm.{Arm, out-Arm}
 use Rattle.smv_core.specs.declared.tree.Stmt.{Stmt, Block, Block', If, Switch, Switch', Default, For, Forall, Held-Stmt-If-2, None', Row_of-Stmt, end_of-Stmt, more_of-Stmt, Row_of-Arm, end_of-Arm, more_of-Arm}
 use Rattle.smv_core.specs.declared.tree.Stmt.{items-the_row-Stmt, items-the_row-Arm, items_hidden-the_row-Stmt-0, items_hidden-the_row-Arm-2}
 use mathlib.Core.Former.{Count}
-use Rattle.smv_instances.specs.Sizes.{statements, statements_in_row, statements_in_branch, statements_in_arms}
-use Rattle.smv_instances.proofs.Computing.{computing}
+use Rattle.smv_mentions.specs.Sizes.{statements, statements_in_row, statements_in_branch, statements_in_arms}
+use Rattle.smv_mentions.proofs.Computing.{computing}
 use Rattle.smv_size.specs.Limits.{capped}
 
 -- capped numbers give capped sums and products

@@ -7,9 +7,9 @@ use Rattle.smv_core.specs.Values.{Name}
 use Rattle.smv_core.specs.declared.tree.Field.{Field, out-Field}
 use Rattle.smv_core.specs.declared.tree.TypeExpr.{TypeExpr, Struct, Struct', Array, Row_of-Field, end_of-Field, more_of-Field, items-the_row-Field, items_hidden-the_row-Field-1}
 use mathlib.Core.Former.{Count}
-use Rattle.smv_instances.specs.Sizes.{Extent, Sized, size_of, under, extents_of, extents_of_fields, sized_from, sized_after}
+use Rattle.smv_mentions.specs.Sizes.{Extent, Sized, size_of, under, extents_of, extents_of_fields, sized_from, sized_after}
 use Rattle.smv_core.specs.declared.tree.Top.{Top}
-use Rattle.smv_instances.proofs.Computing.{computing}
+use Rattle.smv_mentions.proofs.Computing.{computing}
 
 -- one element more in a loop
 pub flat_map-turn : {A X : Type 0} (f : A → List X) (xs : List A) (i : ℕ) (x : A) → i < length xs → x ≡ get_or xs i x → flat_map f (take i xs) ++ f x ≡ flat_map f (take (i + 1) xs)

@@ -12,8 +12,8 @@ use Rattle.smv_core.specs.declared.tree.TypeExpr.{TypeExpr}
 use Rattle.smv_core.specs.declared.tree.Stmt.{Stmt}
 use Rattle.smv_core.specs.declared.tree.Item.{Item, Layer, Forall, Block, Block', Row_of-Item, end_of-Item, more_of-Item, items-the_row-Item, items_hidden-the_row-Item-1}
 use mathlib.Core.Former.{Count}
-use Rattle.smv_instances.specs.Sizes.{Sized, statements, statements_of_item, statements_of_items}
-use Rattle.smv_instances.proofs.Computing.{computing}
+use Rattle.smv_mentions.specs.Sizes.{Sized, statements, statements_of_item, statements_of_items}
+use Rattle.smv_mentions.proofs.Computing.{computing}
 
 pub sum-turn : {A : Type 0} (f : A → ℕ) (xs : List A) (i : ℕ) (x : A) → i < length xs → x ≡ get_or xs i x → sum (map f (take i xs)) + f x ≡ sum (map f (take (i + 1) xs))
 sum-turn {A} f xs i x h at =

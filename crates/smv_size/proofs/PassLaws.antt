@@ -12,7 +12,7 @@ use Rattle.smv_core.specs.Values.{Name}
 use Rattle.smv_core.specs.FlatOrder.{Body}
 use Rattle.smv_core.specs.declared.tree.Word.{Word}
 use Rattle.smv_core.specs.declared.tree.Item.{Item, Declare, Instance, Layer, Forall', Block', Claim, Split, Using, Act, Row_of-Item, end_of-Item, more_of-Item}
-use Rattle.smv_instances.specs.Sizes.{Sized, Thing, instance, is_too_wide, body_named, things_of_item, things_in, statements_of_item, statements_of_items, statements_in}
+use Rattle.smv_mentions.specs.Sizes.{Sized, Thing, instance, is_too_wide, body_named, things_of_item, things_in, statements_of_item, statements_of_items, statements_in}
 use Rattle.smv_size.specs.Limits.{capped}
 use Rattle.smv_size.specs.Summary.{things_told, module_names, module_bodies, no_module, told_of, body_told, empty_told, AreTold}
 use Rattle.smv_size.specs.Pass.{AreNoMore, AreAtMost}

@@ -5,10 +5,10 @@ use Rattle.std.specs.Str.{bytes_eq}
 use Rattle.smv_core.specs.Types.{find_name}
 use Rattle.smv_core.specs.FlatOrder.{main}
 use Rattle.smv_core.specs.declared.tree.Text.{Text}
-use Rattle.smv_instances.specs.Scopes.{Piece, pieces}
-use Rattle.smv_instances.specs.FirstFault.{fault_at_main}
-use Rattle.smv_instances.specs.Said.{told, told_by}
-use Rattle.smv_instances.specs.declared.pieces.Piece.{Piece as NotedPiece}
+use Rattle.smv_mentions.specs.Scopes.{Piece, pieces}
+use Rattle.smv_mentions.specs.FirstFault.{fault_at_main}
+use Rattle.smv_mentions.specs.Said.{told, told_by}
+use Rattle.smv_mentions.specs.declared.pieces.Piece.{Piece as NotedPiece}
 use Rattle.smv_size.specs.Recursion.{Told}
 use Rattle.smv_size.specs.Place.{main_told}
 use Rattle.smv_size.proofs.RecursionLaws.{tell, tell_all}

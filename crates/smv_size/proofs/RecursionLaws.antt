@@ -15,11 +15,11 @@ use Rattle.smv_core.specs.declared.tree.Word.{Word}
 use Rattle.smv_core.specs.declared.tree.Text.{Text}
 use Rattle.smv_core.specs.declared.tree.Top.{Top}
 use Rattle.smv_core.specs.declared.tree.Top.TheVariants.{SetType, Alias, Module}
-use Rattle.smv_instances.specs.Mentions.{Mention, declares, binds, follows, names_type, lists_constants, has_fields, instantiates, first_place}
-use Rattle.smv_instances.specs.Scopes.{Known, known_after, Piece, piece_of, pieces_from, pieces, body_if_module, module_named}
-use Rattle.smv_instances.specs.NameFaults.{used_in, used_if_module, contains, recursive, recursive_in, place_if}
-use Rattle.smv_instances.specs.FirstFault.{comes_before, earlier, first_of, faults_at}
-use Rattle.smv_instances.specs.Said.{told_by}
+use Rattle.smv_mentions.specs.Mentions.{Mention, declares, binds, follows, names_type, lists_constants, has_fields, instantiates, first_place}
+use Rattle.smv_mentions.specs.Scopes.{Known, known_after, Piece, piece_of, pieces_from, pieces, body_if_module, module_named}
+use Rattle.smv_mentions.specs.NameFaults.{used_in, used_if_module, contains, recursive, recursive_in, place_if}
+use Rattle.smv_mentions.specs.FirstFault.{comes_before, earlier, first_of, faults_at}
+use Rattle.smv_mentions.specs.Said.{told_by}
 use Rattle.smv_size.specs.Recursion.{first_recursion, recursion_at, least_from, Told, names_told, places_used, module_graph, leads_back, recursive_at, recursive_told, least_recursive}
 
 -- ---- places of names

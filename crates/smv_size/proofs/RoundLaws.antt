@@ -7,7 +7,7 @@ use Rattle.name_index.specs.Position.{position}
 use Rattle.smv_core.specs.Values.{Name}
 use Rattle.smv_core.specs.Types.{find_name}
 use Rattle.smv_core.specs.FlatOrder.{Body}
-use Rattle.smv_instances.specs.Sizes.{Sized, things_in, statements_in}
+use Rattle.smv_mentions.specs.Sizes.{Sized, things_in, statements_in}
 use Rattle.smv_size.specs.Summary.{module_names, module_bodies, no_module, size_named, module_told, body_told, empty_told, AreTold}
 use Rattle.smv_size.specs.declared.modules.ModuleSize.{ModuleSize}
 

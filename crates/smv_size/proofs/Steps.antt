@@ -7,8 +7,8 @@ use Rattle.std.proofs.lemmas.List.Sums.{fold-append}
 use Rattle.std.proofs.lemmas.List.Elements.{filter_map-append}
 use Rattle.std.proofs.lemmas.Grind.{flat_map-append}
 use Rattle.name_index.proofs.Finding.{position-within}
-use Rattle.smv_instances.specs.Mentions.{Mention, declares, binds, follows, names_type, lists_constants, has_fields, instantiates, first_place}
-use Rattle.smv_instances.specs.NameFaults.{used_in, place_if}
+use Rattle.smv_mentions.specs.Mentions.{Mention, declares, binds, follows, names_type, lists_constants, has_fields, instantiates, first_place}
+use Rattle.smv_mentions.specs.NameFaults.{used_in, place_if}
 use Rattle.smv_size.specs.Recursion.{least_from, is_at_most}
 
 -- the instances of a list of mentions, one behind the other

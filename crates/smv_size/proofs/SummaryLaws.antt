@@ -10,7 +10,7 @@ use Rattle.std.proofs.lemmas.List.Folds.{list_any-append}
 use Rattle.std.proofs.Math.Nat.{mul-le-mul_left, mul_comm}
 use Rattle.smv_core.specs.Values.{Name}
 use Rattle.smv_core.specs.Types.{find_name}
-use Rattle.smv_instances.specs.Sizes.{Extent, Sized, sized, under, Thing, family, instance, is_too_wide}
+use Rattle.smv_mentions.specs.Sizes.{Extent, Sized, sized, under, Thing, family, instance, is_too_wide}
 use Rattle.smv_size.specs.Limits.{capped}
 use Rattle.smv_size.proofs.TurnLaws.{lt_same}
 use Rattle.smv_size.specs.Summary.{greatest, families_told, size_or_one, type_told, types_told, things_told}

@@ -1,9 +1,9 @@
 -- The constants of all enumerations of a text, by what its tops say.
 use Rattle.std.specs.Prelude.{◌≡◌, ◌+◌, List, ◌++◌, map, flat_map, length}
 use Rattle.smv_core.specs.Values.{Name}
-use Rattle.smv_instances.specs.Mentions.{Mention}
-use Rattle.smv_instances.specs.Scopes.{constants_in}
-use Rattle.smv_instances.specs.Sizes.{count_different}
+use Rattle.smv_mentions.specs.Mentions.{Mention}
+use Rattle.smv_mentions.specs.Scopes.{constants_in}
+use Rattle.smv_mentions.specs.Sizes.{count_different}
 use Rattle.smv_size.specs.Recursion.{Told}
 
 -- the constants that are listed

@@ -3,7 +3,7 @@ use Rattle.std.specs.Prelude.{◌≡◌, ℕ, ◌≤◌, min, List, length, true
 use Rattle.std.specs.List.{list_any}
 use Rattle.smv_core.specs.Values.{Name}
 use Rattle.smv_core.specs.FlatOrder.{Body}
-use Rattle.smv_instances.specs.Sizes.{Sized, Thing, is_too_wide, things_in, statements_in}
+use Rattle.smv_mentions.specs.Sizes.{Sized, Thing, is_too_wide, things_in, statements_in}
 use Rattle.smv_size.specs.Limits.{capped}
 use Rattle.smv_size.specs.Summary.{AreToldOf}
 use Rattle.smv_size.specs.declared.modules.ModuleSize.{ModuleSize}

@@ -7,10 +7,10 @@ use Rattle.smv_core.specs.Values.{Name}
 use Rattle.smv_core.specs.declared.fault.Fault.{Fault}
 use Rattle.smv_core.specs.declared.tree.Word.{Word}
 use Rattle.smv_core.specs.declared.tree.Text.{Text}
-use Rattle.smv_instances.specs.Mentions.{Mention, instantiates, first_place}
-use Rattle.smv_instances.specs.Scopes.{pieces}
-use Rattle.smv_instances.specs.NameFaults.{used_in, recursive_in, place_if}
-use Rattle.smv_instances.specs.FirstFault.{first_of, faults_at}
+use Rattle.smv_mentions.specs.Mentions.{Mention, instantiates, first_place}
+use Rattle.smv_mentions.specs.Scopes.{pieces}
+use Rattle.smv_mentions.specs.NameFaults.{used_in, recursive_in, place_if}
+use Rattle.smv_mentions.specs.FirstFault.{first_of, faults_at}
 
 -- the first fault of a module that contains itself, at an instance from whose module its own is reached
 abbrev pub first_recursion : Text → Option Fault

@@ -4,7 +4,7 @@ use Rattle.std.specs.List.{list_any}
 use Rattle.name_index.specs.Position.{position}
 use Rattle.smv_core.specs.Values.{Name}
 use Rattle.smv_core.specs.FlatOrder.{Body}
-use Rattle.smv_instances.specs.Sizes.{Extent, Sized, Thing, is_too_wide, body_named, things_of_item, things_in, statements_of_item, statements_in}
+use Rattle.smv_mentions.specs.Sizes.{Extent, Sized, Thing, is_too_wide, body_named, things_of_item, things_in, statements_of_item, statements_in}
 use Rattle.smv_size.specs.Limits.{capped}
 use Rattle.smv_size.specs.declared.types.Families.{Families}
 use Rattle.smv_size.specs.declared.types.TypeSize.{TypeSize}

@@ -1,15 +1,15 @@
 // How many constants of all enumerations are different, up to a limit.
 ghost use Rattle.std.specs.Prelude.{◌≡◌, ℕ, ◌+◌, [], ◌∷◌, map, length, min, nat_lt, OnOk, IfOk};
 ghost use Rattle.smv_core.specs.Types.{names_of};
-ghost use Rattle.smv_instances.specs.Said.{AreNoted, said};
-ghost use Rattle.smv_instances.specs.Sizes.{count_different, constant_names};
+ghost use Rattle.smv_mentions.specs.Said.{AreNoted, said};
+ghost use Rattle.smv_mentions.specs.Sizes.{count_different, constant_names};
 ghost use Rattle.smv_size.specs.Constants.{Counts, constants_said};
 
 use name_index::NameIndex;
 use smv_core::name::Name;
 use smv_core::tree::{Text, Word};
-use smv_instances::mentions::Mention;
-use smv_instances::pieces::Piece;
+use smv_mentions::mentions::Mention;
+use smv_mentions::pieces::Piece;
 use std::alloc::{AllocError, Global};
 
 // The constants that a text may have.

@@ -1,6 +1,6 @@
 //! A module that contains itself, and the size of a text.
 //!
-//! For `smv_names`. It meets `smv_instances/specs/Sizes`: one pass in a good order, and rounds only where that did not settle.
+//! For `smv_names`. It meets `smv_mentions/specs/Sizes`: one pass in a good order, and rounds only where that did not settle.
 #![tactic(auto)]
 
 pub mod constants;

@@ -4,7 +4,7 @@ ghost use Rattle.smv_core.specs.Values.{Name};
 ghost use Rattle.smv_core.specs.FlatOrder.{Body};
 ghost use Rattle.smv_core.specs.FlatOrder as flat;
 ghost use Rattle.smv_core.specs.declared.tree.Word.{Word};
-ghost use Rattle.smv_instances.specs.Sizes.{Extent, Sized, Thing, family, instance, things_of_item, statements_of_item};
+ghost use Rattle.smv_mentions.specs.Sizes.{Extent, Sized, Thing, family, instance, things_of_item, statements_of_item};
 ghost use Rattle.smv_size.specs.Limits.{capped};
 ghost use Rattle.smv_size.specs.Summary.{families_told, types_told, things_told, module_bodies, body_of, empty_told, body_told, AreToldOf};
 ghost use Rattle.smv_size.specs.Summary as spec;

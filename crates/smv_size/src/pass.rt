@@ -2,7 +2,7 @@
 ghost use Rattle.std.specs.Prelude.{◌≡◌, ℕ, ◌+◌, List, map, length, IfOk};
 ghost use Rattle.smv_core.specs.Values.{Name};
 ghost use Rattle.smv_core.specs.FlatOrder.{Body};
-ghost use Rattle.smv_instances.specs.Sizes.{Sized};
+ghost use Rattle.smv_mentions.specs.Sizes.{Sized};
 ghost use Rattle.smv_size.specs.Summary.{types_told, module_bodies, body_of};
 ghost use Rattle.smv_size.specs.Summary as spec;
 ghost use Rattle.smv_size.specs.Pass.{AreAtMost};

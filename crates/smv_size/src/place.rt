@@ -2,14 +2,14 @@
 ghost use Rattle.std.specs.Prelude.{◌≡◌, map};
 ghost use Rattle.smv_core.specs.Types.{find_name};
 ghost use Rattle.smv_core.specs.FlatOrder.{main};
-ghost use Rattle.smv_instances.specs.Scopes as noted;
-ghost use Rattle.smv_instances.specs.FirstFault as first;
-ghost use Rattle.smv_instances.specs.Said.{AreNoted, told};
+ghost use Rattle.smv_mentions.specs.Scopes as noted;
+ghost use Rattle.smv_mentions.specs.FirstFault as first;
+ghost use Rattle.smv_mentions.specs.Said.{AreNoted, told};
 ghost use Rattle.smv_size.specs.Place as spec;
 
 use smv_core::fault::Fault;
 use smv_core::tree::Text;
-use smv_instances::pieces::Piece;
+use smv_mentions::pieces::Piece;
 
 /// The fault of a text that is too large, at the word `main` of its module.
 pub fn fault_at_main(text: &Text, pieces: &[Piece]) -> Option<Fault>

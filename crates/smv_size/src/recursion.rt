@@ -4,8 +4,8 @@ ghost use Rattle.std.specs.List.{filter_map};
 ghost use Rattle.name_index.specs.Position.{position};
 ghost use Rattle.graphs.specs.Graph.{lists, IsGraph};
 ghost use Rattle.graphs.specs.Ranks.{Descends};
-ghost use Rattle.smv_instances.specs.Said.{AreNoted, said, told};
-ghost use Rattle.smv_instances.specs.NameFaults.{used_in};
+ghost use Rattle.smv_mentions.specs.Said.{AreNoted, said, told};
+ghost use Rattle.smv_mentions.specs.NameFaults.{used_in};
 ghost use Rattle.smv_size.specs.Recursion as spec;
 ghost use Rattle.smv_size.specs.Recursion.{first_recursion, recursion_at, least_from, module_graph, names_told, places_used, recursive_at, recursive_told};
 
@@ -13,8 +13,8 @@ use graphs::ranks;
 use name_index::NameIndex;
 use smv_core::fault::Fault;
 use smv_core::tree::Text;
-use smv_instances::mentions::Mention;
-use smv_instances::pieces::Piece;
+use smv_mentions::mentions::Mention;
+use smv_mentions::pieces::Piece;
 use std::alloc::{AllocError, Global};
 
 /// The first fault of a module that contains itself: an instance from whose module its own is reached.

@@ -1,10 +1,10 @@
 // The fault of a text that is too large.
 ghost use Rattle.std.specs.Prelude.{◌≡◌, [], ◌||◌, length, nat_lt, None, IfOk};
 ghost use Rattle.smv_core.specs.FlatOrder.{main, modules};
-ghost use Rattle.smv_instances.specs.FirstFault.{first_of, faults_of_names, fault_of_size};
-ghost use Rattle.smv_instances.specs.Said.{AreNoted};
-ghost use Rattle.smv_instances.specs.Sizes as sizes;
-ghost use Rattle.smv_instances.specs.Sizes.{sized_from};
+ghost use Rattle.smv_mentions.specs.FirstFault.{first_of, faults_of_names, fault_of_size};
+ghost use Rattle.smv_mentions.specs.Said.{AreNoted};
+ghost use Rattle.smv_mentions.specs.Sizes as sizes;
+ghost use Rattle.smv_mentions.specs.Sizes.{sized_from};
 ghost use Rattle.smv_size.specs.Summary.{module_told};
 
 use crate::constants::too_many_constants;
@@ -15,7 +15,7 @@ use crate::types::type_sizes;
 use smv_core::fault::Fault;
 use smv_core::name::Name;
 use smv_core::tree::{Text, Top};
-use smv_instances::pieces::Piece;
+use smv_mentions::pieces::Piece;
 use std::alloc::{AllocError, Global};
 
 // The families and instances together, and the statements, that a text may have.

@@ -3,7 +3,7 @@ ghost use Rattle.std.specs.Prelude.{◌≡◌, ◌+◌, ◌*◌, ◌≤◌, leng
 ghost use Rattle.std.specs.List.{sum_by};
 ghost use Rattle.smv_core.specs.Walk.{steps_of};
 ghost use Rattle.smv_core.specs.declared.tree.Arm.{out-Arm};
-ghost use Rattle.smv_instances.specs.Sizes as sizes;
+ghost use Rattle.smv_mentions.specs.Sizes as sizes;
 ghost use Rattle.smv_size.specs.Limits.{capped};
 
 use smv_core::tree::{Arm, Stmt};

@@ -4,8 +4,8 @@ ghost use Rattle.std.specs.List.{list_any};
 ghost use Rattle.smv_core.specs.Values.{Name};
 ghost use Rattle.smv_core.specs.declared.tree.Field.{out-Field};
 ghost use Rattle.smv_core.specs.declared.tree.Word.{Word};
-ghost use Rattle.smv_instances.specs.Sizes.{Extent, Sized, one_value, family, is_too_wide, extents_of, sized_from, sized_after};
-ghost use Rattle.smv_instances.specs.Sizes as sizes;
+ghost use Rattle.smv_mentions.specs.Sizes.{Extent, Sized, one_value, family, is_too_wide, extents_of, sized_from, sized_after};
+ghost use Rattle.smv_mentions.specs.Sizes as sizes;
 ghost use Rattle.smv_size.specs.Summary.{families_told, type_told, types_told, size_or_one};
 
 use name_index::map::NameMap;

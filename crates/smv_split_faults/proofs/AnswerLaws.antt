@@ -7,8 +7,8 @@ use Rattle.smv_core.specs.declared.flat.Design.{Design}
 use Rattle.smv_core.specs.declared.flat.Family.{Family}
 use Rattle.smv_core.specs.declared.flat.FlatSplit.{FlatSplit}
 use Rattle.smv_core.specs.declared.flat.Unit.{Unit}
-use Rattle.smv_instances.specs.Scopes.{first_of_places}
-use Rattle.smv_instances.specs.FirstFault.{first_of, faults_at}
+use Rattle.smv_mentions.specs.Scopes.{first_of_places}
+use Rattle.smv_mentions.specs.FirstFault.{first_of, faults_at}
 use Rattle.smv_scope.specs.ScopeFault.{least, fault_at, earlier_of}
 use Rattle.smv_scope.proofs.LeastLaws.{least-append}
 use Rattle.smv_scope.proofs.FirstLaws.{first-both, first-at}

@@ -1,7 +1,7 @@
 -- Where there is no first fault there is none.
 use Rattle.std.proofs.Common.{◌≡◌, List, [], ◌∷◌, Bool, true, false, cond, refl, Option, Some, None}
 use Rattle.smv_core.specs.declared.fault.Fault.{Fault}
-use Rattle.smv_instances.specs.FirstFault.{comes_before, earlier, first_of}
+use Rattle.smv_mentions.specs.FirstFault.{comes_before, earlier, first_of}
 use Rattle.law_splits.specs.SplitFaults.{faults_of_splits}
 use Rattle.smv_split_faults.specs.Answers.{NoneAreLeft}
 

@@ -1,6 +1,6 @@
 // What splits show of the parameters of what they are of.
 ghost use Rattle.std.specs.Prelude.{◌≡◌, ◌++◌, flat_map, length, map, option_copied, option_to_list, slice_get, take, IfOk, OnOk};
-ghost use Rattle.smv_instances.specs.Scopes.{first_of_places};
+ghost use Rattle.smv_mentions.specs.Scopes.{first_of_places};
 ghost use Rattle.smv_scope.specs.ScopeFault.{least};
 ghost use Rattle.law_splits.specs.Chains as chains;
 ghost use Rattle.smv_splits.specs.Groups.{AreTables};

@@ -8,8 +8,8 @@ use Rattle.smv_core.specs.declared.flat.FlatMember.{FlatMember, One, Span as Spa
 use Rattle.smv_core.specs.declared.flat.FlatExpr.{FlatExpr, Number, Var, Loop, Constant, Not, Iff, Compare, Within, Modulo, Choose, All, Any, Each, Read, Read', And, And', Or, Or', Implies, Implies', Sum, Sum', List as ListOf, List', Row_of-FlatExpr, end_of-FlatExpr, more_of-FlatExpr, Row_of-FlatMember, end_of-FlatMember, more_of-FlatMember, Row_of-FlatSigned, end_of-FlatSigned, more_of-FlatSigned, items-the_row-FlatExpr, items-the_row-FlatMember, items-the_row-FlatSigned, items_hidden-the_row-FlatExpr-0, items_hidden-the_row-FlatSigned-2, items_hidden-the_row-FlatMember-3}
 use mathlib.Core.Former.{Count}
 use Rattle.law_designs.proofs.FlatLists.{boxes}
-use Rattle.smv_instances.specs.NameFaults.{place_if}
-use Rattle.smv_instances.specs.Scopes.{first_of_places}
+use Rattle.smv_mentions.specs.NameFaults.{place_if}
+use Rattle.smv_mentions.specs.Scopes.{first_of_places}
 use Rattle.smv_scope.specs.ScopeFault.{least}
 use Rattle.smv_scope.proofs.LeastLaws.{first-assoc, first-none}
 use Rattle.law_splits.specs.Variables.{Reading, readings, readings_each, readings_signed, readings_members}

@@ -168,7 +168,7 @@ fn rename(expr: &FlatExpr, numbers: Numbers, alloc: Global) -> Result<FlatExpr, 
 
 // A copy in a place of its own.
 #[cycle(renames)]
-#[tactic(auto, using(crate::proofs::RenamedLaws::equations, smv_instances::proofs::Notes::noting))]
+#[tactic(auto, using(crate::proofs::RenamedLaws::equations, smv_mentions::proofs::Notes::noting))]
 fn rename_boxed(
     expr: &Boxed<FlatExpr>,
     numbers: Numbers,
@@ -182,7 +182,7 @@ fn rename_boxed(
 
 // Other numbers in each expression, in their order.
 #[cycle(renames)]
-#[tactic(auto, using(crate::proofs::RenamedLaws::equations, smv_instances::proofs::Notes::noting))]
+#[tactic(auto, using(crate::proofs::RenamedLaws::equations, smv_mentions::proofs::Notes::noting))]
 fn rename_all(
     exprs: &[FlatExpr],
     numbers: Numbers,
@@ -199,7 +199,7 @@ fn rename_all(
 
 // Other numbers in what a sum adds or takes away.
 #[cycle(renames)]
-#[tactic(auto, using(crate::proofs::RenamedLaws::equations, smv_instances::proofs::Notes::noting))]
+#[tactic(auto, using(crate::proofs::RenamedLaws::equations, smv_mentions::proofs::Notes::noting))]
 fn rename_signed(
     signed: &FlatSigned,
     numbers: Numbers,
@@ -215,7 +215,7 @@ fn rename_signed(
 }
 
 #[cycle(renames)]
-#[tactic(auto, using(crate::proofs::RenamedLaws::equations, smv_instances::proofs::Notes::noting))]
+#[tactic(auto, using(crate::proofs::RenamedLaws::equations, smv_mentions::proofs::Notes::noting))]
 fn rename_all_signed(
     all: &[FlatSigned],
     numbers: Numbers,
@@ -232,7 +232,7 @@ fn rename_all_signed(
 
 // Other numbers in a member of a listed set.
 #[cycle(renames)]
-#[tactic(auto, using(crate::proofs::RenamedLaws::equations, smv_instances::proofs::Notes::noting))]
+#[tactic(auto, using(crate::proofs::RenamedLaws::equations, smv_mentions::proofs::Notes::noting))]
 fn rename_member(
     member: &FlatMember,
     numbers: Numbers,
@@ -253,7 +253,7 @@ fn rename_member(
 }
 
 #[cycle(renames)]
-#[tactic(auto, using(crate::proofs::RenamedLaws::equations, smv_instances::proofs::Notes::noting))]
+#[tactic(auto, using(crate::proofs::RenamedLaws::equations, smv_mentions::proofs::Notes::noting))]
 fn rename_members(
     members: &[FlatMember],
     numbers: Numbers,

@@ -28,7 +28,7 @@ fn number_given(place: Option<usize>) -> Result<u16, AllocError>
 }
 
 // The numbers of the parameters for which some variables stand.
-#[tactic(auto, using(smv_instances::proofs::Notes::noting))]
+#[tactic(auto, using(smv_mentions::proofs::Notes::noting))]
 fn all_given(alloc: Global, places: &[Option<usize>]) -> Result<Vec<u16>, AllocError>
     ensures { IfOk result (λ given. given.items ≡ map (λ place. unwrap_or place 0) places.now) }
 {
@@ -63,7 +63,7 @@ fn guard(alloc: Global, numbers: Numbers, pair: &FlatPair, p: &Param) -> Result<
 }
 
 // The guard of an equation, where its right is one of the new parameters, more.
-#[tactic(auto, using(smv_instances::proofs::Notes::noting))]
+#[tactic(auto, using(smv_mentions::proofs::Notes::noting))]
 fn add_guard(
     alloc: Global,
     out: &mut Vec<Guard>,
@@ -84,7 +84,7 @@ fn add_guard(
 }
 
 // The guards of these equations more.
-#[tactic(auto, using(smv_instances::proofs::Notes::noting))]
+#[tactic(auto, using(smv_mentions::proofs::Notes::noting))]
 fn add_pairs(
     alloc: Global,
     out: &mut Vec<Guard>,
@@ -116,7 +116,7 @@ fn add_guards(alloc: Global, out: &mut Vec<Guard>, link: Link, count: u16) -> Re
 }
 
 /// The guards of a chain of splits in a leaf with so many parameters.
-#[tactic(auto, using(smv_instances::proofs::Notes::noting))]
+#[tactic(auto, using(smv_mentions::proofs::Notes::noting))]
 pub fn all_guards(alloc: Global, links: &[Link], count: usize) -> Result<Vec<Guard>, AllocError>
     ensures { IfOk result (λ guards. guards.items ≡ flat_map (spec.guards_at count) (map link_held links.now)) }
 {

@@ -45,7 +45,7 @@ fn add_splits_of(
 }
 
 // The splits of units.
-#[tactic(auto, using(smv_instances::proofs::Notes::noting))]
+#[tactic(auto, using(smv_mentions::proofs::Notes::noting))]
 fn splits_of_units(alloc: Global, tables: &Tables, units: &[Unit]) -> Result<Vec<usize>, AllocError>
     requires { AreTables tables.now }
     ensures { IfOk result (λ splits. splits.items ≡ flat_map (parts.splits_of_unit tables.now.design.now tables.now.named) units.now) }

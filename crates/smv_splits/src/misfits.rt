@@ -1,7 +1,7 @@
 // The first misfit of some splits.
 ghost use Rattle.std.specs.Prelude.{◌≡◌, map, flat_map, not, IfOk};
 ghost use Rattle.std.specs.List.{list_any};
-ghost use Rattle.smv_instances.specs.NameFaults as faults;
+ghost use Rattle.smv_mentions.specs.NameFaults as faults;
 ghost use Rattle.smv_scope.specs.ScopeFault.{least};
 ghost use Rattle.law_splits.specs.Leaves.{with_name};
 ghost use Rattle.law_splits.specs.SplitFaults as spec;
@@ -54,7 +54,7 @@ fn first_not_in_one(rights: &Rights, words: &[Word]) -> Option<u32>
 }
 
 // The names of these words.
-#[tactic(auto, using(smv_instances::proofs::Notes::noting))]
+#[tactic(auto, using(smv_mentions::proofs::Notes::noting))]
 fn names_of<'a>(alloc: Global, words: &'a [Word]) -> Result<NameIndex<'a>, AllocError>
     ensures { IfOk result (λ names. names ≡ map (λ word. word.name) words.now) }
 {

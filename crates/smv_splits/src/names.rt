@@ -28,7 +28,7 @@ pub fn no_name(alloc: Global) -> Name
 }
 
 // A name with a layer, or without one.
-#[tactic(auto, using(smv_instances::proofs::Notes::noting))]
+#[tactic(auto, using(smv_mentions::proofs::Notes::noting))]
 fn with_layer(alloc: Global, name: &Name, layer: Option<&Name>) -> Result<Name, AllocError>
     ensures { IfOk result (λ whole. whole ≡ in_layer name.now (option_copied layer.entry)) }
 {
@@ -108,7 +108,7 @@ pub fn names_split(alloc: Global, splits: &[FlatSplit]) -> Result<Vec<Name>, All
 }
 
 /// Each name by its first place.
-#[tactic(auto, using(smv_instances::proofs::Notes::noting))]
+#[tactic(auto, using(smv_mentions::proofs::Notes::noting))]
 pub fn index_of<'a>(alloc: Global, names: &'a [Name]) -> Result<NameIndex<'a>, AllocError>
     ensures { IfOk result (λ index. index ≡ names.now) }
 {

@@ -36,7 +36,7 @@ fn number_behind(first: usize, index: usize) -> Result<u16, AllocError>
 }
 
 // Parameters without names over these types.
-#[tactic(auto, using(smv_instances::proofs::Notes::noting))]
+#[tactic(auto, using(smv_mentions::proofs::Notes::noting))]
 fn nameless_params(alloc: Global, types: &[Simple]) -> Result<Vec<Param>, AllocError>
     ensures { IfOk result (λ params. params.items ≡ numbered 0 (map nameless types.now)) }
 {
@@ -141,7 +141,7 @@ fn new_type(bound: &[Param], word: &Word) -> Simple
 }
 
 /// The types of the parameters that a split adds, behind these.
-#[tactic(auto, using(smv_instances::proofs::Notes::noting))]
+#[tactic(auto, using(smv_mentions::proofs::Notes::noting))]
 pub fn add_types(out: &mut Vec<Simple>, split: &FlatSplit) -> Result<(), AllocError>
     ensures { OnOk result (out.new.items ≡ out.old.items ++ new_types split.now) }
 {
@@ -161,7 +161,7 @@ fn new_param(alloc: Global, bound: &[Param], word: &Word, var: u16) -> Result<Pa
 }
 
 /// The parameters that a split adds, numbered from this number on, behind these.
-#[tactic(auto, using(smv_instances::proofs::Notes::noting))]
+#[tactic(auto, using(smv_mentions::proofs::Notes::noting))]
 pub fn add_new(
     alloc: Global,
     out: &mut Vec<Param>,

@@ -23,7 +23,7 @@ fn add_variable(vars: &mut Vec<u16>, bound: &[Param], word: &Word) -> Result<(),
 }
 
 // The variables that the names in the brackets of what is split name, in their order.
-#[tactic(auto, using(smv_instances::proofs::Notes::noting))]
+#[tactic(auto, using(smv_mentions::proofs::Notes::noting))]
 fn variables_named(alloc: Global, split: &FlatSplit) -> Result<Vec<u16>, AllocError>
     ensures { IfOk result (λ vars. vars.items ≡ map (λ p. p.var) (old split.now)) }
 {

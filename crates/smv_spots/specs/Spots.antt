@@ -1,7 +1,7 @@
 -- Spots as places: values of a case by the numbers of their types.
 use Rattle.std.specs.Prelude.{◌≡◌, ℕ, ◌+◌, List, [], ◌∷◌, get_or, slice_get, Option, Some, None, option_map, Bool, true, false, ◌&&◌, bytes_eq, if◌then◌else◌}
 use Rattle.smv_core.specs.Values.{Name, Value, number, constant, scalar, ordinal}
-use Rattle.smv_core.specs.Flat.{Numbered}
+use Rattle.smv_core.specs.FlatMeaning.{Numbered}
 use Rattle.smv_core.specs.declared.flat.SetInfo.{SetInfo}
 use Rattle.smv_core.specs.declared.flat.Design.{Design}
 use Rattle.law_obligations.specs.Places.{Place, named, rest, AbsOutcome, World}

@@ -1,6 +1,6 @@
 // Arithmetic on outcomes.
 ghost use Rattle.std.specs.Prelude.{◌≡◌};
-ghost use Rattle.smv_core.specs.Flat.{Numbered};
+ghost use Rattle.smv_core.specs.FlatMeaning.{Numbered};
 ghost use Rattle.smv_core.specs.Values.{add, modulo};
 ghost use Rattle.law_obligations.specs.Places.{valued, as_place};
 ghost use Rattle.smv_spots.specs.Spots.{outcome_in};

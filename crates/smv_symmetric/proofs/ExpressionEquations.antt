@@ -4,13 +4,13 @@ use Rattle.std.specs.Prelude.{Option, Some, None, slice_get}
 use Rattle.smv_core.specs.declared.fault.Fault.{Fault}
 use Rattle.smv_core.specs.declared.tree.Op.{Op}
 use Rattle.smv_core.specs.declared.flat.Simple.{Simple}
-use Rattle.smv_core.specs.declared.flat.Raw.{Raw}
+use Rattle.smv_core.specs.declared.flat.FlatText.{FlatText}
 use Rattle.smv_core.specs.declared.flat.FlatSigned.{FlatSigned}
 use Rattle.smv_core.specs.declared.flat.FlatMember.{FlatMember, One, Span as SpanOf}
 use Rattle.smv_core.specs.declared.flat.FlatExpr.{FlatExpr, Number, Var, Loop, Constant, Not, Iff, Compare, Within, Modulo, Choose, All, Any, Each, Read, Read', And, And', Or, Or', Implies, Implies', Sum, Sum', List as ListOf, List', Row_of-FlatExpr, end_of-FlatExpr, more_of-FlatExpr, Row_of-FlatMember, end_of-FlatMember, more_of-FlatMember, Row_of-FlatSigned, end_of-FlatSigned, more_of-FlatSigned, items-the_row-FlatExpr, items-the_row-FlatMember, items-the_row-FlatSigned, items_hidden-the_row-FlatExpr-0, items_hidden-the_row-FlatSigned-2, items_hidden-the_row-FlatMember-3}
 use mathlib.Core.Former.{Count}
 use Rattle.law_designs.proofs.FlatLists.{boxes}
-use Rattle.smv_instances.specs.FirstFault.{first_of}
+use Rattle.smv_mentions.specs.FirstFault.{first_of}
 use Rattle.smv_scope.specs.ScopeFault.{earlier_of}
 use Rattle.smv_scope.proofs.FirstLaws.{earlier-assoc, first-both}
 use Rattle.law_designs.specs.FlatKinds.{Vars, inside}
@@ -108,41 +108,41 @@ pub ruleset lists = (members-List, members-Number, members-Read, members-Var, me
 three : (a b c : List Fault) → first_of (a ++ b ++ c) ≡ earlier_of (earlier_of (first_of a) (first_of b)) (first_of c)
 three a b c = first-both (a ++ b) c ∙ ap (λ f. earlier_of f (first_of c)) (first-both a b)
 
-module _ (raw : Raw) (vars : Vars) where
+module _ (flat_text : FlatText) (vars : Vars) where
   abbrev all_in : FlatExpr → List Fault
-  all_in e = spec.faults_in raw (sort_in raw) vars e
+  all_in e = spec.faults_in flat_text (sort_in flat_text) vars e
 
   -- ---- rows
 
-  exprs-row : (n : _) (row : Row_of-FlatExpr n) → first_of (spec.faults_each raw (sort_in raw) vars row) ≡ first_among (map (fault_in raw vars) (items-the_row-FlatExpr n row))
+  exprs-row : (n : _) (row : Row_of-FlatExpr n) → first_of (spec.faults_each flat_text (sort_in flat_text) vars row) ≡ first_among (map (fault_in flat_text vars) (items-the_row-FlatExpr n row))
   unfolding fault_in
   exprs-row n end_of-FlatExpr = refl
-  exprs-row n (more_of-FlatExpr e rest) = first-both (all_in e) (spec.faults_each raw (sort_in raw) vars rest) ∙ ap (earlier_of (fault_in raw vars e)) (exprs-row _ rest)
+  exprs-row n (more_of-FlatExpr e rest) = first-both (all_in e) (spec.faults_each flat_text (sort_in flat_text) vars rest) ∙ ap (earlier_of (fault_in flat_text vars e)) (exprs-row _ rest)
 
-  operands-row : (n : _) (row : Row_of-FlatExpr n) → spec.operands raw (sort_in raw) vars row ≡ map (operand raw vars) (items-the_row-FlatExpr n row)
+  operands-row : (n : _) (row : Row_of-FlatExpr n) → spec.operands flat_text (sort_in flat_text) vars row ≡ map (operand flat_text vars) (items-the_row-FlatExpr n row)
   operands-row n end_of-FlatExpr = refl
-  operands-row n (more_of-FlatExpr e rest) = ap (λ l. operand raw vars e ∷ l) (operands-row _ rest)
+  operands-row n (more_of-FlatExpr e rest) = ap (λ l. operand flat_text vars e ∷ l) (operands-row _ rest)
 
-  signed-row : (n : _) (row : Row_of-FlatSigned n) → first_of (spec.faults_signed raw (sort_in raw) vars row) ≡ first_among (map (signed_fault raw vars) (items-the_row-FlatSigned n row))
+  signed-row : (n : _) (row : Row_of-FlatSigned n) → first_of (spec.faults_signed flat_text (sort_in flat_text) vars row) ≡ first_among (map (signed_fault flat_text vars) (items-the_row-FlatSigned n row))
   unfolding fault_in boxes
   signed-row n end_of-FlatSigned = refl
-  signed-row n (more_of-FlatSigned minus e rest) = first-both (all_in e) (spec.faults_signed raw (sort_in raw) vars rest) ∙ ap (earlier_of (fault_in raw vars e)) (signed-row _ rest)
+  signed-row n (more_of-FlatSigned minus e rest) = first-both (all_in e) (spec.faults_signed flat_text (sort_in flat_text) vars rest) ∙ ap (earlier_of (fault_in flat_text vars e)) (signed-row _ rest)
 
-  members-row : (n : _) (row : Row_of-FlatMember n) → first_of (spec.faults_members raw (sort_in raw) vars row) ≡ first_among (map (member_fault raw vars) (items-the_row-FlatMember n row))
+  members-row : (n : _) (row : Row_of-FlatMember n) → first_of (spec.faults_members flat_text (sort_in flat_text) vars row) ≡ first_among (map (member_fault flat_text vars) (items-the_row-FlatMember n row))
   unfolding fault_in boxes
   members-row n end_of-FlatMember = refl
-  members-row n (more_of-FlatMember (One e) rest) = first-both (all_in e) (spec.faults_members raw (sort_in raw) vars rest) ∙ ap (earlier_of (fault_in raw vars e)) (members-row _ rest)
+  members-row n (more_of-FlatMember (One e) rest) = first-both (all_in e) (spec.faults_members flat_text (sort_in flat_text) vars rest) ∙ ap (earlier_of (fault_in flat_text vars e)) (members-row _ rest)
   members-row n (more_of-FlatMember (SpanOf span at) rest) = members-row _ rest
 
-  member_operands-row : (n : _) (row : Row_of-FlatMember n) → spec.members_of raw (sort_in raw) vars row ≡ map (member_operand raw vars) (items-the_row-FlatMember n row)
+  member_operands-row : (n : _) (row : Row_of-FlatMember n) → spec.members_of flat_text (sort_in flat_text) vars row ≡ map (member_operand flat_text vars) (items-the_row-FlatMember n row)
   member_operands-row n end_of-FlatMember = refl
-  member_operands-row n (more_of-FlatMember (One e) rest) = ap (λ l. operand raw vars e ∷ l) (member_operands-row _ rest)
-  member_operands-row n (more_of-FlatMember (SpanOf span at) rest) = ap (λ l. member_operand raw vars (SpanOf span at) ∷ l) (member_operands-row _ rest)
+  member_operands-row n (more_of-FlatMember (One e) rest) = ap (λ l. operand flat_text vars e ∷ l) (member_operands-row _ rest)
+  member_operands-row n (more_of-FlatMember (SpanOf span at) rest) = ap (λ l. member_operand flat_text vars (SpanOf span at) ∷ l) (member_operands-row _ rest)
 
   -- what stands right of `in`
-  listed-row : (set : FlatExpr) → spec.listed raw (sort_in raw) vars set ≡ map (member_operand raw vars) (members_of set)
+  listed-row : (set : FlatExpr) → spec.listed flat_text (sort_in flat_text) vars set ≡ map (member_operand flat_text vars) (members_of set)
   unfolding members_of
-  listed-row (List' shape row at) = member_operands-row _ row ∙ ap (map (member_operand raw vars)) (sym (own-members _ row))
+  listed-row (List' shape row at) = member_operands-row _ row ∙ ap (map (member_operand flat_text vars)) (sym (own-members _ row))
   listed-row _ = refl
 
   abbrev exprs_in : FlatExpr → (k : Count) × Row_of-FlatExpr k
@@ -158,110 +158,110 @@ module _ (raw : Raw) (vars : Vars) where
 
   -- ---- expressions
 
-  pub fault-Number : (value at : ℕ) → fault_in raw vars (Number value at) ≡ None
+  pub fault-Number : (value at : ℕ) → fault_in flat_text vars (Number value at) ≡ None
   unfolding fault_in
   fault-Number value at = refl
 
-  pub fault-Var : (var at : ℕ) → fault_in raw vars (Var var at) ≡ None
+  pub fault-Var : (var at : ℕ) → fault_in flat_text vars (Var var at) ≡ None
   unfolding fault_in
   fault-Var var at = refl
 
-  pub fault-Loop : (value at : ℕ) → fault_in raw vars (Loop value at) ≡ None
+  pub fault-Loop : (value at : ℕ) → fault_in flat_text vars (Loop value at) ≡ None
   unfolding fault_in
   fault-Loop value at = refl
 
-  pub fault-Constant : (list value at : ℕ) → fault_in raw vars (Constant list value at) ≡ None
+  pub fault-Constant : (list value at : ℕ) → fault_in flat_text vars (Constant list value at) ≡ None
   unfolding fault_in
   fault-Constant list value at = refl
 
   pub fault-Read : (family : ℕ) (es : List FlatExpr) (at : ℕ) →
-      fault_in raw vars (Read family es at) ≡ earlier_of (first_among (map (fault_in raw vars) es)) (first_of (wanted_at (slice_get raw.families family) (map (operand raw vars) es)))
+      fault_in flat_text vars (Read family es at) ≡ earlier_of (first_among (map (fault_in flat_text vars) es)) (first_of (wanted_at (slice_get flat_text.families family) (map (operand flat_text vars) es)))
   unfolding fault_in
   fault-Read family es at =
       let row : (k : Count) × Row_of-FlatExpr k = exprs_in (Read family es at) in
       let same = items_hidden-the_row-FlatExpr-0 es in
-      first-both (spec.faults_each raw (sort_in raw) vars row.1) (wanted_at (slice_get raw.families family) (spec.operands raw (sort_in raw) vars row.1))
-      ∙ ap (λ f. earlier_of f (first_of (wanted_at (slice_get raw.families family) (spec.operands raw (sort_in raw) vars row.1)))) (exprs-row row.0 row.1 ∙ ap (λ l. first_among (map (fault_in raw vars) l)) same)
-      ∙ ap (λ l. earlier_of (first_among (map (fault_in raw vars) es)) (first_of (wanted_at (slice_get raw.families family) l))) (operands-row row.0 row.1 ∙ ap (map (operand raw vars)) same)
+      first-both (spec.faults_each flat_text (sort_in flat_text) vars row.1) (wanted_at (slice_get flat_text.families family) (spec.operands flat_text (sort_in flat_text) vars row.1))
+      ∙ ap (λ f. earlier_of f (first_of (wanted_at (slice_get flat_text.families family) (spec.operands flat_text (sort_in flat_text) vars row.1)))) (exprs-row row.0 row.1 ∙ ap (λ l. first_among (map (fault_in flat_text vars) l)) same)
+      ∙ ap (λ l. earlier_of (first_among (map (fault_in flat_text vars) es)) (first_of (wanted_at (slice_get flat_text.families family) l))) (operands-row row.0 row.1 ∙ ap (map (operand flat_text vars)) same)
 
-  pub fault-And : (es : List FlatExpr) → fault_in raw vars (And es) ≡ first_among (map (fault_in raw vars) es)
+  pub fault-And : (es : List FlatExpr) → fault_in flat_text vars (And es) ≡ first_among (map (fault_in flat_text vars) es)
   unfolding fault_in
-  fault-And es = exprs-row (exprs_in (And es)).0 (exprs_in (And es)).1 ∙ ap (λ l. first_among (map (fault_in raw vars) l)) (items_hidden-the_row-FlatExpr-0 es)
+  fault-And es = exprs-row (exprs_in (And es)).0 (exprs_in (And es)).1 ∙ ap (λ l. first_among (map (fault_in flat_text vars) l)) (items_hidden-the_row-FlatExpr-0 es)
 
-  pub fault-Or : (es : List FlatExpr) → fault_in raw vars (Or es) ≡ first_among (map (fault_in raw vars) es)
+  pub fault-Or : (es : List FlatExpr) → fault_in flat_text vars (Or es) ≡ first_among (map (fault_in flat_text vars) es)
   unfolding fault_in
-  fault-Or es = exprs-row (exprs_in (Or es)).0 (exprs_in (Or es)).1 ∙ ap (λ l. first_among (map (fault_in raw vars) l)) (items_hidden-the_row-FlatExpr-0 es)
+  fault-Or es = exprs-row (exprs_in (Or es)).0 (exprs_in (Or es)).1 ∙ ap (λ l. first_among (map (fault_in flat_text vars) l)) (items_hidden-the_row-FlatExpr-0 es)
 
-  pub fault-Implies : (es : List FlatExpr) → fault_in raw vars (Implies es) ≡ first_among (map (fault_in raw vars) es)
+  pub fault-Implies : (es : List FlatExpr) → fault_in flat_text vars (Implies es) ≡ first_among (map (fault_in flat_text vars) es)
   unfolding fault_in
-  fault-Implies es = exprs-row (exprs_in (Implies es)).0 (exprs_in (Implies es)).1 ∙ ap (λ l. first_among (map (fault_in raw vars) l)) (items_hidden-the_row-FlatExpr-0 es)
+  fault-Implies es = exprs-row (exprs_in (Implies es)).0 (exprs_in (Implies es)).1 ∙ ap (λ l. first_among (map (fault_in flat_text vars) l)) (items_hidden-the_row-FlatExpr-0 es)
 
-  pub fault-List : (ms : List FlatMember) (at : ℕ) → fault_in raw vars (ListOf ms at) ≡ earlier_of (first_among (map (member_fault raw vars) ms)) (listed raw vars ms)
+  pub fault-List : (ms : List FlatMember) (at : ℕ) → fault_in flat_text vars (ListOf ms at) ≡ earlier_of (first_among (map (member_fault flat_text vars) ms)) (listed flat_text vars ms)
   unfolding fault_in
   fault-List ms at =
       let row : (k : Count) × Row_of-FlatMember k = row_of (ListOf ms at) in
       let same = items_hidden-the_row-FlatMember-3 ms in
-      first-both (spec.faults_members raw (sort_in raw) vars row.1) (met (spec.members_of raw (sort_in raw) vars row.1))
-      ∙ ap (λ f. earlier_of f (first_of (met (spec.members_of raw (sort_in raw) vars row.1)))) (members-row row.0 row.1 ∙ ap (λ l. first_among (map (member_fault raw vars) l)) same)
-      ∙ ap (λ l. earlier_of (first_among (map (member_fault raw vars) ms)) (first_of (met l))) (member_operands-row row.0 row.1 ∙ ap (map (member_operand raw vars)) same)
+      first-both (spec.faults_members flat_text (sort_in flat_text) vars row.1) (met (spec.members_of flat_text (sort_in flat_text) vars row.1))
+      ∙ ap (λ f. earlier_of f (first_of (met (spec.members_of flat_text (sort_in flat_text) vars row.1)))) (members-row row.0 row.1 ∙ ap (λ l. first_among (map (member_fault flat_text vars) l)) same)
+      ∙ ap (λ l. earlier_of (first_among (map (member_fault flat_text vars) ms)) (first_of (met l))) (member_operands-row row.0 row.1 ∙ ap (map (member_operand flat_text vars)) same)
 
-  pub fault-Sum : (head : FlatExpr) (more : List FlatSigned) → fault_in raw vars (Sum head more) ≡ earlier_of (fault_in raw vars head) (first_among (map (signed_fault raw vars) more))
+  pub fault-Sum : (head : FlatExpr) (more : List FlatSigned) → fault_in flat_text vars (Sum head more) ≡ earlier_of (fault_in flat_text vars head) (first_among (map (signed_fault flat_text vars) more))
   unfolding fault_in boxes
   fault-Sum head more =
       let row : (k : Count) × Row_of-FlatSigned k = signed_in (Sum head more) in
-      first-both (all_in head) (spec.faults_signed raw (sort_in raw) vars row.1)
-      ∙ ap (earlier_of (fault_in raw vars head)) (signed-row row.0 row.1 ∙ ap (λ l. first_among (map (signed_fault raw vars) l)) (items_hidden-the_row-FlatSigned-2 more))
+      first-both (all_in head) (spec.faults_signed flat_text (sort_in flat_text) vars row.1)
+      ∙ ap (earlier_of (fault_in flat_text vars head)) (signed-row row.0 row.1 ∙ ap (λ l. first_among (map (signed_fault flat_text vars) l)) (items_hidden-the_row-FlatSigned-2 more))
 
-  pub fault-Not : (e : FlatExpr) (at : ℕ) → fault_in raw vars (Not e at) ≡ fault_in raw vars e
+  pub fault-Not : (e : FlatExpr) (at : ℕ) → fault_in flat_text vars (Not e at) ≡ fault_in flat_text vars e
   unfolding fault_in boxes
   fault-Not e at = refl
 
-  pub fault-Modulo : (e : FlatExpr) (by at : ℕ) → fault_in raw vars (Modulo e by at) ≡ fault_in raw vars e
+  pub fault-Modulo : (e : FlatExpr) (by at : ℕ) → fault_in flat_text vars (Modulo e by at) ≡ fault_in flat_text vars e
   unfolding fault_in boxes
   fault-Modulo e by at = refl
 
-  pub fault-Iff : (l r : FlatExpr) → fault_in raw vars (Iff l r) ≡ both_faults raw vars l r
+  pub fault-Iff : (l r : FlatExpr) → fault_in flat_text vars (Iff l r) ≡ both_faults flat_text vars l r
   unfolding fault_in boxes
   fault-Iff l r = first-both (all_in l) (all_in r)
 
-  pub fault-Compare : (op : Op) (l r : FlatExpr) → fault_in raw vars (Compare op l r) ≡ earlier_of (both_faults raw vars l r) (compared raw vars op l r)
+  pub fault-Compare : (op : Op) (l r : FlatExpr) → fault_in flat_text vars (Compare op l r) ≡ earlier_of (both_faults flat_text vars l r) (compared flat_text vars op l r)
   unfolding fault_in boxes
   fault-Compare op l r =
-      let sides = met (operand raw vars l ∷ operand raw vars r ∷ []) in
-      let left = disordered raw.sets op (operand raw vars l) in
-      let right = disordered raw.sets op (operand raw vars r) in
+      let sides = met (operand flat_text vars l ∷ operand flat_text vars r ∷ []) in
+      let left = disordered flat_text.sets op (operand flat_text vars l) in
+      let right = disordered flat_text.sets op (operand flat_text vars r) in
       three (all_in l ++ all_in r ++ sides) left right
       ∙ ap (λ f. earlier_of (earlier_of f (first_of left)) (first_of right)) (three (all_in l) (all_in r) sides)
-      ∙ ap (λ f. earlier_of f (first_of right)) (earlier-assoc (both_faults raw vars l r) (first_of sides) (first_of left))
-      ∙ earlier-assoc (both_faults raw vars l r) (earlier_of (first_of sides) (first_of left)) (first_of right)
-      ∙ ap (earlier_of (both_faults raw vars l r)) (earlier-assoc (first_of sides) (first_of left) (first_of right))
+      ∙ ap (λ f. earlier_of f (first_of right)) (earlier-assoc (both_faults flat_text vars l r) (first_of sides) (first_of left))
+      ∙ earlier-assoc (both_faults flat_text vars l r) (earlier_of (first_of sides) (first_of left)) (first_of right)
+      ∙ ap (earlier_of (both_faults flat_text vars l r)) (earlier-assoc (first_of sides) (first_of left) (first_of right))
 
-  pub fault-Within : (l r : FlatExpr) → fault_in raw vars (Within l r) ≡ earlier_of (both_faults raw vars l r) (looked_for raw vars l r)
+  pub fault-Within : (l r : FlatExpr) → fault_in flat_text vars (Within l r) ≡ earlier_of (both_faults flat_text vars l r) (looked_for flat_text vars l r)
   unfolding fault_in boxes
   fault-Within l r =
-      three (all_in l) (all_in r) (met (operand raw vars l ∷ spec.listed raw (sort_in raw) vars r))
-      ∙ ap (λ m. earlier_of (both_faults raw vars l r) (first_of (met (operand raw vars l ∷ m)))) (listed-row r)
+      three (all_in l) (all_in r) (met (operand flat_text vars l ∷ spec.listed flat_text (sort_in flat_text) vars r))
+      ∙ ap (λ m. earlier_of (both_faults flat_text vars l r) (first_of (met (operand flat_text vars l ∷ m)))) (listed-row r)
 
-  pub fault-Choose : (c l r : FlatExpr) → fault_in raw vars (Choose c l r) ≡ earlier_of (earlier_of (fault_in raw vars c) (both_faults raw vars l r)) (chosen raw vars l r)
+  pub fault-Choose : (c l r : FlatExpr) → fault_in flat_text vars (Choose c l r) ≡ earlier_of (earlier_of (fault_in flat_text vars c) (both_faults flat_text vars l r)) (chosen flat_text vars l r)
   unfolding fault_in boxes
   fault-Choose c l r =
-      let sides = met (operand raw vars l ∷ operand raw vars r ∷ []) in
+      let sides = met (operand flat_text vars l ∷ operand flat_text vars r ∷ []) in
       first-both (all_in c ++ all_in l ++ all_in r) sides
-      ∙ ap (λ f. earlier_of f (first_of sides)) (three (all_in c) (all_in l) (all_in r) ∙ earlier-assoc (fault_in raw vars c) (fault_in raw vars l) (fault_in raw vars r))
+      ∙ ap (λ f. earlier_of f (first_of sides)) (three (all_in c) (all_in l) (all_in r) ∙ earlier-assoc (fault_in flat_text vars c) (fault_in flat_text vars l) (fault_in flat_text vars r))
 
-  pub fault-All : (body : FlatExpr) (var : ℕ) (over : Simple) (at : ℕ) → fault_in raw vars (All body var over at) ≡ fault_in raw (inside vars over) body
+  pub fault-All : (body : FlatExpr) (var : ℕ) (over : Simple) (at : ℕ) → fault_in flat_text vars (All body var over at) ≡ fault_in flat_text (inside vars over) body
   unfolding fault_in boxes
   fault-All body var over at = refl
 
-  pub fault-Any : (body : FlatExpr) (var : ℕ) (over : Simple) (at : ℕ) → fault_in raw vars (Any body var over at) ≡ fault_in raw (inside vars over) body
+  pub fault-Any : (body : FlatExpr) (var : ℕ) (over : Simple) (at : ℕ) → fault_in flat_text vars (Any body var over at) ≡ fault_in flat_text (inside vars over) body
   unfolding fault_in boxes
   fault-Any body var over at = refl
 
-  pub fault-Each : (var : ℕ) (over : Simple) (at : ℕ) → fault_in raw vars (Each var over None at) ≡ None
+  pub fault-Each : (var : ℕ) (over : Simple) (at : ℕ) → fault_in flat_text vars (Each var over None at) ≡ None
   unfolding fault_in boxes
   fault-Each var over at = refl
 
-  pub fault-Each_if : (var : ℕ) (over : Simple) (cond : FlatExpr) (at : ℕ) → fault_in raw vars (Each var over (Some cond) at) ≡ fault_in raw (inside vars over) cond
+  pub fault-Each_if : (var : ℕ) (over : Simple) (cond : FlatExpr) (at : ℕ) → fault_in flat_text vars (Each var over (Some cond) at) ≡ fault_in flat_text (inside vars over) cond
   unfolding fault_in boxes
   fault-Each_if var over cond at = refl
 

@@ -2,7 +2,7 @@
 use Rattle.std.proofs.Common.{◌≡◌, List, [], ◌∷◌, Bool, true, false, if◌then◌else◌, refl, ap, ◌∙◌, subst}
 use Rattle.std.specs.Prelude.{Option, Some, None, is_some, slice_get, nat_le, nat_lt, length, get_or}
 use Rattle.smv_core.specs.declared.flat.Family.{Family}
-use Rattle.smv_core.specs.declared.flat.Raw.{Raw}
+use Rattle.smv_core.specs.declared.flat.FlatText.{FlatText}
 use Rattle.smv_core.specs.declared.flat.FlatMember.{One, Span as SpanOf}
 use Rattle.smv_core.specs.declared.flat.FlatExpr.{FlatExpr, Number, Read', Var, Loop, Constant, Not', And', Or', Implies', Iff', Compare', Within', Sum', Modulo', Choose', All', Any', List', Each', end_of-FlatExpr, more_of-FlatExpr, Row_of-FlatMember, end_of-FlatMember, more_of-FlatMember}
 use Rattle.law_designs.specs.FlatKinds.{Kind, number, kind_of, joins, joined, number_if, common_after, common, chosen, element, take_each, takes, Vars, kind_in, members_in, value_in}
@@ -39,23 +39,23 @@ chosen-is cond left right a b e p q = at (takes number cond) refl (ap (λ l. com
 
 -- ---- expressions
 
-module _ (raw : Raw) where
+module _ (flat_text : FlatText) where
   -- where no set may stand, a value has the same kind
-  pub value-kind : (vars : Vars) (e : FlatExpr) → is_some (kind_in raw vars e) ≡ true → value_in raw vars e ≡ kind_in raw vars e
+  pub value-kind : (vars : Vars) (e : FlatExpr) → is_some (kind_in flat_text vars e) ≡ true → value_in flat_text vars e ≡ kind_in flat_text vars e
   value-kind vars (List' shape members at) h = absurd (cc (h))
   value-kind vars (Each' var over cond at) h = absurd (cc (h))
   value-kind vars (Choose' c (more_of-FlatExpr cond end_of-FlatExpr) l (more_of-FlatExpr left end_of-FlatExpr) r (more_of-FlatExpr right end_of-FlatExpr)) h =
-      let t = chosen-some (kind_in raw vars cond) (kind_in raw vars left) (kind_in raw vars right) h in
-      ap (λ o. chosen (kind_in raw vars cond) o (value_in raw vars right)) (value-kind vars left t.1) ∙ ap (λ o. chosen (kind_in raw vars cond) (kind_in raw vars left) o) (value-kind vars right t.2)
+      let t = chosen-some (kind_in flat_text vars cond) (kind_in flat_text vars left) (kind_in flat_text vars right) h in
+      ap (λ o. chosen (kind_in flat_text vars cond) o (value_in flat_text vars right)) (value-kind vars left t.1) ∙ ap (λ o. chosen (kind_in flat_text vars cond) (kind_in flat_text vars left) o) (value-kind vars right t.2)
   value-kind vars _ h = refl
 
-  pub kind-is : (vars : Vars) (e : FlatExpr) → is_some (kind_in raw vars e) ≡ true → kind_in raw vars e ≡ Some (plain.kind_in raw vars e)
+  pub kind-is : (vars : Vars) (e : FlatExpr) → is_some (kind_in flat_text vars e) ≡ true → kind_in flat_text vars e ≡ Some (plain.kind_in flat_text vars e)
   unfolding plain.kind_in
   kind-is vars (Number value at) h = refl
-  kind-is vars (Read' family shape indexes at) h = element-is (slice_get raw.families family) _ h
+  kind-is vars (Read' family shape indexes at) h = element-is (slice_get flat_text.families family) _ h
   kind-is vars (Var var at) h = variable-is (slice_get vars var) h
   kind-is vars (Loop value at) h = refl
-  kind-is vars (Constant list value at) h = if-is (nat_lt value (length (get_or raw.enums list []))) _ h
+  kind-is vars (Constant list value at) h = if-is (nat_lt value (length (get_or flat_text.enums list []))) _ h
   kind-is vars (Not' shape (more_of-FlatExpr e end_of-FlatExpr) at) h = number-is _ h
   kind-is vars (And' shape parts) h = number-is _ h
   kind-is vars (Or' shape parts) h = number-is _ h
@@ -66,64 +66,64 @@ module _ (raw : Raw) where
   kind-is vars (Sum' f (more_of-FlatExpr head end_of-FlatExpr) shape more) h = number-is _ h
   kind-is vars (Modulo' shape (more_of-FlatExpr e end_of-FlatExpr) by at) h = number-is _ h
   kind-is vars (Choose' c (more_of-FlatExpr cond end_of-FlatExpr) l (more_of-FlatExpr left end_of-FlatExpr) r (more_of-FlatExpr right end_of-FlatExpr)) h =
-      let t = chosen-some (kind_in raw vars cond) (kind_in raw vars left) (kind_in raw vars right) h in
-      chosen-is (kind_in raw vars cond) (kind_in raw vars left) (kind_in raw vars right) _ _ h (kind-is vars left t.1) (kind-is vars right t.2)
+      let t = chosen-some (kind_in flat_text vars cond) (kind_in flat_text vars left) (kind_in flat_text vars right) h in
+      chosen-is (kind_in flat_text vars cond) (kind_in flat_text vars left) (kind_in flat_text vars right) _ _ h (kind-is vars left t.1) (kind-is vars right t.2)
   kind-is vars (All' shape (more_of-FlatExpr body end_of-FlatExpr) var over at) h = number-is _ h
   kind-is vars (Any' shape (more_of-FlatExpr body end_of-FlatExpr) var over at) h = number-is _ h
   kind-is vars (List' shape members at) h = absurd (cc (h))
   kind-is vars (Each' var over cond at) h = absurd (cc (h))
 
-  members-after : (vars : Vars) (kind : Kind) (k : _) (row : Row_of-FlatMember k) → is_some (common_after kind (members_in raw vars row)) ≡ true →
-      common_after kind (members_in raw vars row) ≡ Some (plain.joined_after kind (plain.member_kinds raw vars row))
+  members-after : (vars : Vars) (kind : Kind) (k : _) (row : Row_of-FlatMember k) → is_some (common_after kind (members_in flat_text vars row)) ≡ true →
+      common_after kind (members_in flat_text vars row) ≡ Some (plain.joined_after kind (plain.member_kinds flat_text vars row))
   unfolding plain.kind_in
   members-after vars kind k end_of-FlatMember h = refl
   members-after vars kind k (more_of-FlatMember (One e) rest) h =
-      at (kind_in raw vars e) (plain.kind_in raw vars e) (kind-is vars e) (λ k. members-after vars k _ rest) h
+      at (kind_in flat_text vars e) (plain.kind_in flat_text vars e) (kind-is vars e) (λ k. members-after vars k _ rest) h
     where
       at : (o : Option Kind) (other : Kind) → (is_some o ≡ true → o ≡ Some other) →
-          ((k : Kind) → is_some (common_after k (members_in raw vars rest)) ≡ true → common_after k (members_in raw vars rest) ≡ Some (plain.joined_after k (plain.member_kinds raw vars rest))) →
-          is_some (common_after kind (o ∷ members_in raw vars rest)) ≡ true → common_after kind (o ∷ members_in raw vars rest) ≡ Some (plain.joined_after (joined kind other) (plain.member_kinds raw vars rest))
+          ((k : Kind) → is_some (common_after k (members_in flat_text vars rest)) ≡ true → common_after k (members_in flat_text vars rest) ≡ Some (plain.joined_after k (plain.member_kinds flat_text vars rest))) →
+          is_some (common_after kind (o ∷ members_in flat_text vars rest)) ≡ true → common_after kind (o ∷ members_in flat_text vars rest) ≡ Some (plain.joined_after (joined kind other) (plain.member_kinds flat_text vars rest))
       at None other same more h = absurd (cc (h))
       at (Some own) other same more h =
           let e : own ≡ other = let p = same refl in cc in
-          let t = if-some (joins kind own) (common_after (joined kind own) (members_in raw vars rest)) h in
-          ap (λ t. if t then common_after (joined kind own) (members_in raw vars rest) else None) t.0
+          let t = if-some (joins kind own) (common_after (joined kind own) (members_in flat_text vars rest)) h in
+          ap (λ t. if t then common_after (joined kind own) (members_in flat_text vars rest) else None) t.0
           ∙ more (joined kind own) t.1
-          ∙ ap (λ o. Some (plain.joined_after (joined kind o) (plain.member_kinds raw vars rest))) e
+          ∙ ap (λ o. Some (plain.joined_after (joined kind o) (plain.member_kinds flat_text vars rest))) e
   members-after vars kind k (more_of-FlatMember (SpanOf span at) rest) h = on (nat_le span.low span.high) (members-after vars (joined kind number) _ rest) h
     where
-      on : (b : Bool) → (is_some (common_after (joined kind number) (members_in raw vars rest)) ≡ true → common_after (joined kind number) (members_in raw vars rest) ≡ Some (plain.joined_after (joined kind number) (plain.member_kinds raw vars rest))) →
-          is_some (common_after kind (number_if b ∷ members_in raw vars rest)) ≡ true → common_after kind (number_if b ∷ members_in raw vars rest) ≡ Some (plain.joined_after (joined kind number) (plain.member_kinds raw vars rest))
+      on : (b : Bool) → (is_some (common_after (joined kind number) (members_in flat_text vars rest)) ≡ true → common_after (joined kind number) (members_in flat_text vars rest) ≡ Some (plain.joined_after (joined kind number) (plain.member_kinds flat_text vars rest))) →
+          is_some (common_after kind (number_if b ∷ members_in flat_text vars rest)) ≡ true → common_after kind (number_if b ∷ members_in flat_text vars rest) ≡ Some (plain.joined_after (joined kind number) (plain.member_kinds flat_text vars rest))
       on false more h = absurd (cc (h))
       on true more h =
-          let t = if-some (joins kind number) (common_after (joined kind number) (members_in raw vars rest)) h in
-          ap (λ t. if t then common_after (joined kind number) (members_in raw vars rest) else None) t.0 ∙ more t.1
+          let t = if-some (joins kind number) (common_after (joined kind number) (members_in flat_text vars rest)) h in
+          ap (λ t. if t then common_after (joined kind number) (members_in flat_text vars rest) else None) t.0 ∙ more t.1
 
-  members-all : (vars : Vars) (k : _) (row : Row_of-FlatMember k) → is_some (common (members_in raw vars row)) ≡ true → common (members_in raw vars row) ≡ Some (plain.joined_all (plain.member_kinds raw vars row))
+  members-all : (vars : Vars) (k : _) (row : Row_of-FlatMember k) → is_some (common (members_in flat_text vars row)) ≡ true → common (members_in flat_text vars row) ≡ Some (plain.joined_all (plain.member_kinds flat_text vars row))
   unfolding plain.kind_in
   members-all vars k end_of-FlatMember h = absurd (cc (h))
-  members-all vars k (more_of-FlatMember (One e) rest) h = at (kind_in raw vars e) (plain.kind_in raw vars e) (kind-is vars e) h
+  members-all vars k (more_of-FlatMember (One e) rest) h = at (kind_in flat_text vars e) (plain.kind_in flat_text vars e) (kind-is vars e) h
     where
-      at : (o : Option Kind) (other : Kind) → (is_some o ≡ true → o ≡ Some other) → is_some (common (o ∷ members_in raw vars rest)) ≡ true →
-          common (o ∷ members_in raw vars rest) ≡ Some (plain.joined_after other (plain.member_kinds raw vars rest))
+      at : (o : Option Kind) (other : Kind) → (is_some o ≡ true → o ≡ Some other) → is_some (common (o ∷ members_in flat_text vars rest)) ≡ true →
+          common (o ∷ members_in flat_text vars rest) ≡ Some (plain.joined_after other (plain.member_kinds flat_text vars rest))
       at None other same h = absurd (cc (h))
       at (Some own) other same h =
           let e : own ≡ other = let p = same refl in cc in
-          members-after vars own _ rest h ∙ ap (λ o. Some (plain.joined_after o (plain.member_kinds raw vars rest))) e
+          members-after vars own _ rest h ∙ ap (λ o. Some (plain.joined_after o (plain.member_kinds flat_text vars rest))) e
   members-all vars k (more_of-FlatMember (SpanOf span at) rest) h = on (nat_le span.low span.high) h
     where
-      on : (b : Bool) → is_some (common (number_if b ∷ members_in raw vars rest)) ≡ true → common (number_if b ∷ members_in raw vars rest) ≡ Some (plain.joined_after number (plain.member_kinds raw vars rest))
+      on : (b : Bool) → is_some (common (number_if b ∷ members_in flat_text vars rest)) ≡ true → common (number_if b ∷ members_in flat_text vars rest) ≡ Some (plain.joined_after number (plain.member_kinds flat_text vars rest))
       on false h = absurd (cc (h))
       on true h = members-after vars number _ rest h
 
   -- the kind of a value
-  pub value-is : (vars : Vars) (e : FlatExpr) → is_some (value_in raw vars e) ≡ true → value_in raw vars e ≡ Some (plain.kind_in raw vars e)
+  pub value-is : (vars : Vars) (e : FlatExpr) → is_some (value_in flat_text vars e) ≡ true → value_in flat_text vars e ≡ Some (plain.kind_in flat_text vars e)
   unfolding plain.kind_in
   value-is vars (List' shape members at) h = members-all vars _ members h
   value-is vars (Each' var over cond at) h = if-is _ _ h
   value-is vars (Choose' c (more_of-FlatExpr cond end_of-FlatExpr) l (more_of-FlatExpr left end_of-FlatExpr) r (more_of-FlatExpr right end_of-FlatExpr)) h =
-      let t = chosen-some (kind_in raw vars cond) (value_in raw vars left) (value_in raw vars right) h in
-      chosen-is (kind_in raw vars cond) (value_in raw vars left) (value_in raw vars right) _ _ h (value-is vars left t.1) (value-is vars right t.2)
+      let t = chosen-some (kind_in flat_text vars cond) (value_in flat_text vars left) (value_in flat_text vars right) h in
+      chosen-is (kind_in flat_text vars cond) (value_in flat_text vars left) (value_in flat_text vars right) _ _ h (value-is vars left t.1) (value-is vars right t.2)
   value-is vars (Number value at) h = refl
   value-is vars (Read' family shape indexes at) h = kind-is vars (Read' family shape indexes at) h
   value-is vars (Var var at) h = kind-is vars (Var var at) h

@@ -9,8 +9,8 @@ use Rattle.smv_core.specs.declared.flat.FlatSigned.{FlatSigned, out-FlatSigned}
 use Rattle.smv_core.specs.declared.flat.FlatExpr.{FlatExpr, Read', Var, Constant, Choose', List', Each', end_of-FlatExpr, more_of-FlatExpr, Row_of-FlatMember, end_of-FlatMember, more_of-FlatMember}
 use Rattle.smv_core.specs.declared.flat.FlatStmt.{FlatStmt}
 use Rattle.smv_core.specs.declared.flat.FlatItem.{FlatItem}
-use Rattle.smv_core.specs.declared.flat.Raw.{Raw}
-use Rattle.smv_instances.specs.FirstFault.{first_of}
+use Rattle.smv_core.specs.declared.flat.FlatText.{FlatText}
+use Rattle.smv_mentions.specs.FirstFault.{first_of}
 use Rattle.smv_scope.specs.ScopeFault.{earlier_of}
 use Rattle.law_designs.specs.FlatKinds.{Kind, number, enumeration, kind_of, joined, Vars}
 use Rattle.law_designs.specs.SetOperands.{Operand, first_at, is_number, number_fault, met, disordered, wanted_at, wanted_of}
@@ -60,11 +60,11 @@ abbrev pub first_place : List FlatExpr → ℕ
 first_place [] = 0
 first_place (e ∷ more) = place e
 
-module _ (raw : Raw) where
+module _ (flat_text : FlatText) where
   unfoldable mutual
     -- the kind of an expression
     pub kind_in : Vars → FlatExpr → Kind
-    kind_in vars (Read' family shape indexes at) = value_kind (slice_get raw.families family)
+    kind_in vars (Read' family shape indexes at) = value_kind (slice_get flat_text.families family)
     kind_in vars (Var var at) = variable_kind (slice_get vars var)
     kind_in vars (Constant list value at) = enumeration list
     kind_in vars (Choose' c cond l (more_of-FlatExpr left end_of-FlatExpr) r (more_of-FlatExpr right end_of-FlatExpr)) = joined (kind_in vars left) (kind_in vars right)
@@ -87,7 +87,7 @@ module _ (raw : Raw) where
   sort_in vars e = Some (kind_in vars e)
 
   abbrev pub operand : Vars → FlatExpr → Operand
-  operand vars e = faults.operand raw sort_in vars e
+  operand vars e = faults.operand flat_text sort_in vars e
 
   abbrev pub member_operand : Vars → FlatMember → Operand
   member_operand vars (One e) = operand vars e
@@ -96,7 +96,7 @@ module _ (raw : Raw) where
   -- ---- the first faults of parts
 
   unfoldable pub fault_in : Vars → FlatExpr → Option Fault
-  fault_in vars e = first_of (faults.faults_in raw sort_in vars e)
+  fault_in vars e = first_of (faults.faults_in flat_text sort_in vars e)
 
   abbrev pub both_faults : Vars → FlatExpr → FlatExpr → Option Fault
   both_faults vars left right = earlier_of (fault_in vars left) (fault_in vars right)
@@ -112,7 +112,7 @@ module _ (raw : Raw) where
   abbrev pub compared : Vars → Op → FlatExpr → FlatExpr → Option Fault
   compared vars op left right =
       earlier_of (first_of (met (operand vars left ∷ operand vars right ∷ [])))
-      (earlier_of (first_of (disordered raw.sets op (operand vars left))) (first_of (disordered raw.sets op (operand vars right))))
+      (earlier_of (first_of (disordered flat_text.sets op (operand vars left))) (first_of (disordered flat_text.sets op (operand vars right))))
 
   abbrev pub chosen : Vars → FlatExpr → FlatExpr → Option Fault
   chosen vars left right = first_of (met (operand vars left ∷ operand vars right ∷ []))
@@ -125,14 +125,14 @@ module _ (raw : Raw) where
 
   abbrev pub assigned_fault : Vars → ℕ → List FlatExpr → FlatExpr → Option Fault
   assigned_fault vars family left value =
-      earlier_of (earlier_of (earlier_of (first_among (map (fault_in vars) left)) (first_of (wanted_at (slice_get raw.families family) (map (operand vars) left)))) (fault_in vars value))
-      (first_of (wanted_of (slice_get raw.families family) (operand vars value)))
+      earlier_of (earlier_of (earlier_of (first_among (map (fault_in vars) left)) (first_of (wanted_at (slice_get flat_text.families family) (map (operand vars) left)))) (fault_in vars value))
+      (first_of (wanted_of (slice_get flat_text.families family) (operand vars value)))
 
   unfoldable pub statement_fault : Vars → FlatStmt → Option Fault
-  statement_fault vars act = first_of (faults.faults_of raw sort_in vars act)
+  statement_fault vars act = first_of (faults.faults_of flat_text sort_in vars act)
 
   abbrev pub both_statement_faults : Vars → FlatStmt → FlatStmt → Option Fault
   both_statement_faults vars left right = earlier_of (statement_fault vars left) (statement_fault vars right)
 
   unfoldable pub item_fault : FlatItem → Option Fault
-  item_fault x = first_of (faults.item_faults raw sort_in x)
+  item_fault x = first_of (faults.item_faults flat_text sort_in x)

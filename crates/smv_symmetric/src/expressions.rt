@@ -6,13 +6,13 @@ ghost use Rattle.smv_symmetric.specs.Plain as plain;
 
 use crate::operands::{add_members, disordered, met, operand_of, wanted_at};
 use smv_core::fault::Fault;
-use smv_core::flat::{FlatExpr, FlatMember, FlatSigned, Raw, Simple};
+use smv_core::flat::{FlatExpr, FlatMember, FlatSigned, FlatText, Simple};
 use smv_core::tree::Op;
 use smv_scope::scope::earlier;
 use std::alloc::{AllocError, Global};
 
 /// The variables that are bound, with one more over this type.
-#[tactic(auto, using(smv_instances::proofs::Notes::noting))]
+#[tactic(auto, using(smv_mentions::proofs::Notes::noting))]
 pub fn inside(alloc: Global, vars: &[Simple], over: Simple) -> Result<Vec<Simple>, AllocError>
     ensures { IfOk result (λ inner. map kind_of inner.items ≡ kinds.inside (map kind_of vars.now) over) }
 {
@@ -23,49 +23,49 @@ pub fn inside(alloc: Global, vars: &[Simple], over: Simple) -> Result<Vec<Simple
 }
 
 // The first fault of the two sides of a comparison, besides those inside them.
-fn compared(raw: &Raw, vars: &[Simple], op: Op, left: &FlatExpr, right: &FlatExpr) -> Option<Fault>
-    ensures { result ≡ plain.compared raw.now (map kind_of vars.now) op left.now right.now }
+fn compared(flat_text: &FlatText, vars: &[Simple], op: Op, left: &FlatExpr, right: &FlatExpr) -> Option<Fault>
+    ensures { result ≡ plain.compared flat_text.now (map kind_of vars.now) op left.now right.now }
 {
-    let left = operand_of(raw, vars, left);
-    let right = operand_of(raw, vars, right);
-    let order = earlier(disordered(raw, op, left), disordered(raw, op, right));
+    let left = operand_of(flat_text, vars, left);
+    let right = operand_of(flat_text, vars, right);
+    let order = earlier(disordered(flat_text, op, left), disordered(flat_text, op, right));
     earlier(met(&[left, right]), order)
 }
 
 // The same of two branches of `?:`.
-fn chosen(raw: &Raw, vars: &[Simple], yes: &FlatExpr, no: &FlatExpr) -> Option<Fault>
-    ensures { result ≡ plain.chosen raw.now (map kind_of vars.now) yes.now no.now }
+fn chosen(flat_text: &FlatText, vars: &[Simple], yes: &FlatExpr, no: &FlatExpr) -> Option<Fault>
+    ensures { result ≡ plain.chosen flat_text.now (map kind_of vars.now) yes.now no.now }
 {
-    met(&[operand_of(raw, vars, yes), operand_of(raw, vars, no)])
+    met(&[operand_of(flat_text, vars, yes), operand_of(flat_text, vars, no)])
 }
 
 // The same of the members of a listed set.
 fn listed(
     alloc: Global,
-    raw: &Raw,
+    flat_text: &FlatText,
     vars: &[Simple],
     members: &[FlatMember],
 ) -> Result<Option<Fault>, AllocError>
-    ensures { IfOk result (λ fault. fault ≡ plain.listed raw.now (map kind_of vars.now) members.now) }
+    ensures { IfOk result (λ fault. fault ≡ plain.listed flat_text.now (map kind_of vars.now) members.now) }
 {
     let mut operands = Vec::new(alloc);
-    add_members(&mut operands, raw, vars, members)?;
+    add_members(&mut operands, flat_text, vars, members)?;
     Ok(met(&operands))
 }
 
 // The same of what is left of `in` with the members that are listed there.
 fn looked_for(
     alloc: Global,
-    raw: &Raw,
+    flat_text: &FlatText,
     vars: &[Simple],
     left: &FlatExpr,
     set: &FlatExpr,
 ) -> Result<Option<Fault>, AllocError>
-    ensures { IfOk result (λ fault. fault ≡ plain.looked_for raw.now (map kind_of vars.now) left.now set.now) }
+    ensures { IfOk result (λ fault. fault ≡ plain.looked_for flat_text.now (map kind_of vars.now) left.now set.now) }
 {
     let mut operands = Vec::new(alloc);
-    operands.push(operand_of(raw, vars, left))?;
-    add_members(&mut operands, raw, vars, members_of(set))?;
+    operands.push(operand_of(flat_text, vars, left))?;
+    add_members(&mut operands, flat_text, vars, members_of(set))?;
     Ok(met(&operands))
 }
 
@@ -90,11 +90,11 @@ fn members_of(set: &FlatExpr) -> &[FlatMember]
 #[tactic(auto, using(crate::proofs::ExpressionEquations::equations))]
 pub fn fault_in(
     alloc: Global,
-    raw: &Raw,
+    flat_text: &FlatText,
     vars: &[Simple],
     x: &FlatExpr,
 ) -> Result<Option<Fault>, AllocError>
-    ensures { IfOk result (λ fault. fault ≡ plain.fault_in raw.now (map kind_of vars.now) x.now) }
+    ensures { IfOk result (λ fault. fault ≡ plain.fault_in flat_text.now (map kind_of vars.now) x.now) }
 {
     match x {
         FlatExpr::Number { .. } => Ok(None),
@@ -103,56 +103,56 @@ pub fn fault_in(
             indexes,
             ..
         } => {
-            let parts = faults_in(alloc, raw, vars, indexes.as_slice())?;
-            Ok(earlier(parts, wanted_at(raw, *family, vars, indexes.as_slice())))
+            let parts = faults_in(alloc, flat_text, vars, indexes.as_slice())?;
+            Ok(earlier(parts, wanted_at(flat_text, *family, vars, indexes.as_slice())))
         }
         FlatExpr::Var { .. } => Ok(None),
         FlatExpr::Loop { .. } => Ok(None),
         FlatExpr::Constant { .. } => Ok(None),
-        FlatExpr::Not { of, .. } => fault_in(alloc, raw, vars, of.get()),
-        FlatExpr::And { parts } => faults_in(alloc, raw, vars, parts.as_slice()),
-        FlatExpr::Or { parts } => faults_in(alloc, raw, vars, parts.as_slice()),
-        FlatExpr::Implies { parts } => faults_in(alloc, raw, vars, parts.as_slice()),
+        FlatExpr::Not { of, .. } => fault_in(alloc, flat_text, vars, of.get()),
+        FlatExpr::And { parts } => faults_in(alloc, flat_text, vars, parts.as_slice()),
+        FlatExpr::Or { parts } => faults_in(alloc, flat_text, vars, parts.as_slice()),
+        FlatExpr::Implies { parts } => faults_in(alloc, flat_text, vars, parts.as_slice()),
         FlatExpr::Iff { left, right } => {
-            let first = fault_in(alloc, raw, vars, left.get())?;
-            let second = fault_in(alloc, raw, vars, right.get())?;
+            let first = fault_in(alloc, flat_text, vars, left.get())?;
+            let second = fault_in(alloc, flat_text, vars, right.get())?;
             Ok(earlier(first, second))
         }
         FlatExpr::Compare { op, left, right } => {
-            let first = fault_in(alloc, raw, vars, left.get())?;
-            let second = fault_in(alloc, raw, vars, right.get())?;
+            let first = fault_in(alloc, flat_text, vars, left.get())?;
+            let second = fault_in(alloc, flat_text, vars, right.get())?;
             let parts = earlier(first, second);
-            Ok(earlier(parts, compared(raw, vars, *op, left.get(), right.get())))
+            Ok(earlier(parts, compared(flat_text, vars, *op, left.get(), right.get())))
         }
         FlatExpr::Within { left, set } => {
-            let first = fault_in(alloc, raw, vars, left.get())?;
-            let second = fault_in(alloc, raw, vars, set.get())?;
-            let other = looked_for(alloc, raw, vars, left.get(), set.get())?;
+            let first = fault_in(alloc, flat_text, vars, left.get())?;
+            let second = fault_in(alloc, flat_text, vars, set.get())?;
+            let other = looked_for(alloc, flat_text, vars, left.get(), set.get())?;
             Ok(earlier(earlier(first, second), other))
         }
         FlatExpr::Sum { first, more } => {
-            let head = fault_in(alloc, raw, vars, first.get())?;
-            let other = signed_faults(alloc, raw, vars, more.as_slice())?;
+            let head = fault_in(alloc, flat_text, vars, first.get())?;
+            let other = signed_faults(alloc, flat_text, vars, more.as_slice())?;
             Ok(earlier(head, other))
         }
-        FlatExpr::Modulo { of, .. } => fault_in(alloc, raw, vars, of.get()),
+        FlatExpr::Modulo { of, .. } => fault_in(alloc, flat_text, vars, of.get()),
         FlatExpr::Choose { cond, yes, no } => {
-            let first = fault_in(alloc, raw, vars, cond.get())?;
-            let second = fault_in(alloc, raw, vars, yes.get())?;
-            let third = fault_in(alloc, raw, vars, no.get())?;
+            let first = fault_in(alloc, flat_text, vars, cond.get())?;
+            let second = fault_in(alloc, flat_text, vars, yes.get())?;
+            let third = fault_in(alloc, flat_text, vars, no.get())?;
             let parts = earlier(first, earlier(second, third));
-            Ok(earlier(parts, chosen(raw, vars, yes.get(), no.get())))
+            Ok(earlier(parts, chosen(flat_text, vars, yes.get(), no.get())))
         }
-        FlatExpr::All { body, over, .. } => bound_fault(alloc, raw, vars, *over, body.get()),
-        FlatExpr::Any { body, over, .. } => bound_fault(alloc, raw, vars, *over, body.get()),
+        FlatExpr::All { body, over, .. } => bound_fault(alloc, flat_text, vars, *over, body.get()),
+        FlatExpr::Any { body, over, .. } => bound_fault(alloc, flat_text, vars, *over, body.get()),
         FlatExpr::List { members, .. } => {
-            let parts = member_faults(alloc, raw, vars, members.as_slice())?;
-            let other = listed(alloc, raw, vars, members.as_slice())?;
+            let parts = member_faults(alloc, flat_text, vars, members.as_slice())?;
+            let other = listed(alloc, flat_text, vars, members.as_slice())?;
             Ok(earlier(parts, other))
         }
         FlatExpr::Each { over, cond, .. } => match cond {
             None => Ok(None),
-            Some(cond) => bound_fault(alloc, raw, vars, *over, cond.get()),
+            Some(cond) => bound_fault(alloc, flat_text, vars, *over, cond.get()),
         },
     }
 }
@@ -161,15 +161,15 @@ pub fn fault_in(
 #[cycle(expressions)]
 fn bound_fault(
     alloc: Global,
-    raw: &Raw,
+    flat_text: &FlatText,
     vars: &[Simple],
     over: Simple,
     x: &FlatExpr,
 ) -> Result<Option<Fault>, AllocError>
-    ensures { IfOk result (λ fault. fault ≡ plain.fault_in raw.now (kinds.inside (map kind_of vars.now) over) x.now) }
+    ensures { IfOk result (λ fault. fault ≡ plain.fault_in flat_text.now (kinds.inside (map kind_of vars.now) over) x.now) }
 {
     let inner = inside(alloc, vars, over)?;
-    fault_in(alloc, raw, inner.as_slice(), x)
+    fault_in(alloc, flat_text, inner.as_slice(), x)
 }
 
 /// The first fault in some expressions.
@@ -177,15 +177,15 @@ fn bound_fault(
 #[tactic(auto, using(crate::proofs::TurnLaws::in_turn))]
 pub fn faults_in(
     alloc: Global,
-    raw: &Raw,
+    flat_text: &FlatText,
     vars: &[Simple],
     parts: &[FlatExpr],
 ) -> Result<Option<Fault>, AllocError>
-    ensures { IfOk result (λ fault. fault ≡ plain.first_among (map (plain.fault_in raw.now (map kind_of vars.now)) parts.now)) }
+    ensures { IfOk result (λ fault. fault ≡ plain.first_among (map (plain.fault_in flat_text.now (map kind_of vars.now)) parts.now)) }
 {
     let mut found = None;
     for x in parts {
-        let fault = fault_in(alloc, raw, vars, x)?;
+        let fault = fault_in(alloc, flat_text, vars, x)?;
         found = earlier(found, fault);
     }
     Ok(found)
@@ -195,15 +195,15 @@ pub fn faults_in(
 #[tactic(auto, using(crate::proofs::TurnLaws::in_turn))]
 fn signed_faults(
     alloc: Global,
-    raw: &Raw,
+    flat_text: &FlatText,
     vars: &[Simple],
     more: &[FlatSigned],
 ) -> Result<Option<Fault>, AllocError>
-    ensures { IfOk result (λ fault. fault ≡ plain.first_among (map (plain.signed_fault raw.now (map kind_of vars.now)) more.now)) }
+    ensures { IfOk result (λ fault. fault ≡ plain.first_among (map (plain.signed_fault flat_text.now (map kind_of vars.now)) more.now)) }
 {
     let mut found = None;
     for x in more {
-        let fault = fault_in(alloc, raw, vars, &x.of)?;
+        let fault = fault_in(alloc, flat_text, vars, &x.of)?;
         found = earlier(found, fault);
     }
     Ok(found)
@@ -213,15 +213,15 @@ fn signed_faults(
 #[tactic(auto, using(crate::proofs::TurnLaws::in_turn))]
 fn member_faults(
     alloc: Global,
-    raw: &Raw,
+    flat_text: &FlatText,
     vars: &[Simple],
     members: &[FlatMember],
 ) -> Result<Option<Fault>, AllocError>
-    ensures { IfOk result (λ fault. fault ≡ plain.first_among (map (plain.member_fault raw.now (map kind_of vars.now)) members.now)) }
+    ensures { IfOk result (λ fault. fault ≡ plain.first_among (map (plain.member_fault flat_text.now (map kind_of vars.now)) members.now)) }
 {
     let mut found = None;
     for x in members {
-        let fault = member_fault(alloc, raw, vars, x)?;
+        let fault = member_fault(alloc, flat_text, vars, x)?;
         found = earlier(found, fault);
     }
     Ok(found)
@@ -230,14 +230,14 @@ fn member_faults(
 #[cycle(expressions)]
 fn member_fault(
     alloc: Global,
-    raw: &Raw,
+    flat_text: &FlatText,
     vars: &[Simple],
     x: &FlatMember,
 ) -> Result<Option<Fault>, AllocError>
-    ensures { IfOk result (λ fault. fault ≡ plain.member_fault raw.now (map kind_of vars.now) x.now) }
+    ensures { IfOk result (λ fault. fault ≡ plain.member_fault flat_text.now (map kind_of vars.now) x.now) }
 {
     match x {
-        FlatMember::One { of } => fault_in(alloc, raw, vars, of),
+        FlatMember::One { of } => fault_in(alloc, flat_text, vars, of),
         FlatMember::Span { .. } => Ok(None),
     }
 }

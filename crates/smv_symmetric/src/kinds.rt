@@ -4,7 +4,7 @@ ghost use Rattle.law_designs.specs.FlatKinds as spec;
 ghost use Rattle.smv_symmetric.specs.Plain as plain;
 ghost use Rattle.smv_symmetric.specs.Held.{held};
 
-use smv_core::flat::{FlatExpr, FlatMember, Raw, Simple};
+use smv_core::flat::{FlatExpr, FlatMember, FlatText, Simple};
 
 /// What sort of value an expression has: a number, a constant of an enumeration, or a value of a set type, by their numbers.
 #[derive(Clone, Copy)]
@@ -41,10 +41,10 @@ fn joined(kind: Kind, other: Kind) -> Kind
 }
 
 // The kind of an element of a family.
-fn value_kind(raw: &Raw, family: u16) -> Kind
-    ensures { held result ≡ plain.value_kind (slice_get raw.now.families family) }
+fn value_kind(flat_text: &FlatText, family: u16) -> Kind
+    ensures { held result ≡ plain.value_kind (slice_get flat_text.now.families family) }
 {
-    match raw.families.as_slice().get(usize::from(family)) {
+    match flat_text.families.as_slice().get(usize::from(family)) {
         Some(found) => kind_of(found.value),
         None => Kind::Number,
     }
@@ -63,17 +63,17 @@ fn variable_kind(vars: &[Simple], var: u16) -> Kind
 /// The kind of an expression inside these variables.
 #[cycle(kinds)]
 #[tactic(auto, using(crate::proofs::KindEquations::equations))]
-pub fn kind_in(raw: &Raw, vars: &[Simple], x: &FlatExpr) -> Kind
-    ensures { held result ≡ plain.kind_in raw.now (map spec.kind_of vars.now) x.now }
+pub fn kind_in(flat_text: &FlatText, vars: &[Simple], x: &FlatExpr) -> Kind
+    ensures { held result ≡ plain.kind_in flat_text.now (map spec.kind_of vars.now) x.now }
 {
     match x {
-        FlatExpr::Read { family, .. } => value_kind(raw, *family),
+        FlatExpr::Read { family, .. } => value_kind(flat_text, *family),
         FlatExpr::Var { var, .. } => variable_kind(vars, *var),
         FlatExpr::Constant { list, .. } => Kind::Enumeration { list: *list },
         FlatExpr::Choose { yes, no, .. } => {
-            joined(kind_in(raw, vars, yes.get()), kind_in(raw, vars, no.get()))
+            joined(kind_in(flat_text, vars, yes.get()), kind_in(flat_text, vars, no.get()))
         }
-        FlatExpr::List { members, .. } => members_kind(raw, vars, members.as_slice()),
+        FlatExpr::List { members, .. } => members_kind(flat_text, vars, members.as_slice()),
         FlatExpr::Each { over, .. } => kind_of(*over),
         FlatExpr::Number { .. } | FlatExpr::Loop { .. } | FlatExpr::Not { .. } => Kind::Number,
         FlatExpr::And { .. } | FlatExpr::Or { .. } | FlatExpr::Implies { .. } => Kind::Number,
@@ -85,15 +85,15 @@ pub fn kind_in(raw: &Raw, vars: &[Simple], x: &FlatExpr) -> Kind
 
 // The kind of all members of a listed set together.
 #[cycle(kinds)]
-fn members_kind(raw: &Raw, vars: &[Simple], members: &[FlatMember]) -> Kind
-    ensures { held result ≡ plain.joined_all (map (plain.member_kind raw.now (map spec.kind_of vars.now)) members.now) }
+fn members_kind(flat_text: &FlatText, vars: &[Simple], members: &[FlatMember]) -> Kind
+    ensures { held result ≡ plain.joined_all (map (plain.member_kind flat_text.now (map spec.kind_of vars.now)) members.now) }
 {
     match members {
         [] => Kind::Number,
         [first, more @ ..] => {
-            let mut kind = member_kind(raw, vars, first);
+            let mut kind = member_kind(flat_text, vars, first);
             for x in more {
-                kind = joined(kind, member_kind(raw, vars, x));
+                kind = joined(kind, member_kind(flat_text, vars, x));
             }
             kind
         }
@@ -102,11 +102,11 @@ fn members_kind(raw: &Raw, vars: &[Simple], members: &[FlatMember]) -> Kind
 
 // The kind of a member: the numbers of a span are numbers.
 #[cycle(kinds)]
-fn member_kind(raw: &Raw, vars: &[Simple], x: &FlatMember) -> Kind
-    ensures { held result ≡ plain.member_kind raw.now (map spec.kind_of vars.now) x.now }
+fn member_kind(flat_text: &FlatText, vars: &[Simple], x: &FlatMember) -> Kind
+    ensures { held result ≡ plain.member_kind flat_text.now (map spec.kind_of vars.now) x.now }
 {
     match x {
-        FlatMember::One { of } => kind_in(raw, vars, of),
+        FlatMember::One { of } => kind_in(flat_text, vars, of),
         FlatMember::Span { .. } => Kind::Number,
     }
 }

@@ -14,16 +14,16 @@ pub mod statements;
 
 use crate::statements::items_fault;
 use smv_core::Fault;
-use smv_core::flat::Raw;
+use smv_core::flat::FlatText;
 use std::alloc::{AllocError, Global};
 
 /// The first fault of a flattened text among 21 and 22, by place and then by number, or none: a number or the variable of a `for` that meets a set type, or
 /// a value of a scalarset beside an order. The text keeps the rules of kinds.
-pub fn symmetric_fault(alloc: Global, raw: &Raw) -> Result<Option<Fault>, AllocError>
-    requires { is_kinded raw.now ≡ true }
-    ensures { IfOk result (λ fault. fault ≡ first_fault_of_sets raw.now) }
+pub fn symmetric_fault(alloc: Global, flat_text: &FlatText) -> Result<Option<Fault>, AllocError>
+    requires { is_kinded flat_text.now ≡ true }
+    ensures { IfOk result (λ fault. fault ≡ first_fault_of_sets flat_text.now) }
 {
-    let items = raw.items.as_slice();
-    let fault = items_fault(alloc, raw, items)?;
+    let items = flat_text.items.as_slice();
+    let fault = items_fault(alloc, flat_text, items)?;
     Ok(fault)
 }

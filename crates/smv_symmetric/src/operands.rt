@@ -1,7 +1,7 @@
 // What meets a set type.
 ghost use Rattle.std.specs.Prelude.{◌≡◌, map, flat_map, zip, slice_get, Some, OnOk, ◌++◌};
 ghost use Rattle.std.specs.List.{list_any};
-ghost use Rattle.smv_instances.specs.FirstFault.{first_of};
+ghost use Rattle.smv_mentions.specs.FirstFault.{first_of};
 ghost use Rattle.law_designs.specs.FlatKinds.{kind_of};
 ghost use Rattle.law_designs.specs.SetOperands as spec;
 ghost use Rattle.smv_symmetric.specs.Plain as plain;
@@ -9,7 +9,7 @@ ghost use Rattle.smv_symmetric.specs.Held.{as_met};
 
 use crate::kinds::{Kind, kind_in, kind_of};
 use smv_core::fault::Fault;
-use smv_core::flat::{FlatExpr, FlatMember, Raw, SetInfo, Simple};
+use smv_core::flat::{FlatExpr, FlatMember, FlatText, SetInfo, Simple};
 use smv_core::tree::Op;
 use smv_scope::scope::earlier;
 use std::alloc::AllocError;
@@ -78,22 +78,22 @@ fn is_loop(x: &FlatExpr) -> bool
 
 /// An expression as an operand, inside these variables.
 #[tactic(auto, unfolding(crate::specs::Plain::place))]
-pub fn operand_of(raw: &Raw, vars: &[Simple], x: &FlatExpr) -> Operand
-    ensures { as_met result ≡ plain.operand raw.now (map kind_of vars.now) x.now }
+pub fn operand_of(flat_text: &FlatText, vars: &[Simple], x: &FlatExpr) -> Operand
+    ensures { as_met result ≡ plain.operand flat_text.now (map kind_of vars.now) x.now }
 {
     Operand {
-        kind: kind_in(raw, vars, x),
+        kind: kind_in(flat_text, vars, x),
         at: first_at(x),
         is_loop: is_loop(x),
     }
 }
 
 // A member of a listed set: the numbers of a span are one operand.
-fn member_operand(raw: &Raw, vars: &[Simple], x: &FlatMember) -> Operand
-    ensures { as_met result ≡ plain.member_operand raw.now (map kind_of vars.now) x.now }
+fn member_operand(flat_text: &FlatText, vars: &[Simple], x: &FlatMember) -> Operand
+    ensures { as_met result ≡ plain.member_operand flat_text.now (map kind_of vars.now) x.now }
 {
     match x {
-        FlatMember::One { of } => operand_of(raw, vars, of),
+        FlatMember::One { of } => operand_of(flat_text, vars, of),
         FlatMember::Span { at, .. } => Operand {
             kind: Kind::Number,
             at: *at,
@@ -103,17 +103,17 @@ fn member_operand(raw: &Raw, vars: &[Simple], x: &FlatMember) -> Operand
 }
 
 /// These members more.
-#[tactic(auto, using(smv_instances::proofs::Notes::noting))]
+#[tactic(auto, using(smv_mentions::proofs::Notes::noting))]
 pub fn add_members(
     out: &mut Vec<Operand>,
-    raw: &Raw,
+    flat_text: &FlatText,
     vars: &[Simple],
     members: &[FlatMember],
 ) -> Result<(), AllocError>
-    ensures { OnOk result (map as_met out.new.items ≡ map as_met out.old.items ++ map (plain.member_operand raw.now (map kind_of vars.now)) members.now) }
+    ensures { OnOk result (map as_met out.new.items ≡ map as_met out.old.items ++ map (plain.member_operand flat_text.now (map kind_of vars.now)) members.now) }
 {
     for x in members {
-        out.push(member_operand(raw, vars, x))?;
+        out.push(member_operand(flat_text, vars, x))?;
     }
     Ok(())
 }
@@ -207,36 +207,36 @@ pub fn wanted(over: Simple, x: Operand) -> Option<Fault>
 
 // The first fault of indexes over these types.
 #[tactic(auto, using(crate::proofs::TurnLaws::in_turn))]
-fn wanted_each(raw: &Raw, vars: &[Simple], over: &[Simple], indexes: &[FlatExpr]) -> Option<Fault>
-    ensures { result ≡ first_of (flat_map (λ (t, x). spec.wanted t x) (zip over.now (map (plain.operand raw.now (map kind_of vars.now)) indexes.now))) }
+fn wanted_each(flat_text: &FlatText, vars: &[Simple], over: &[Simple], indexes: &[FlatExpr]) -> Option<Fault>
+    ensures { result ≡ first_of (flat_map (λ (t, x). spec.wanted t x) (zip over.now (map (plain.operand flat_text.now (map kind_of vars.now)) indexes.now))) }
 {
     match over {
         [] => None,
         [t, others @ ..] => match indexes {
             [] => None,
             [x, more @ ..] => earlier(
-                wanted(*t, operand_of(raw, vars, x)),
-                wanted_each(raw, vars, others, more),
+                wanted(*t, operand_of(flat_text, vars, x)),
+                wanted_each(flat_text, vars, others, more),
             ),
         },
     }
 }
 
 /// The first fault of the indexes of an element of a family.
-pub fn wanted_at(raw: &Raw, family: u16, vars: &[Simple], indexes: &[FlatExpr]) -> Option<Fault>
-    ensures { result ≡ first_of (spec.wanted_at (slice_get raw.now.families family) (map (plain.operand raw.now (map kind_of vars.now)) indexes.now)) }
+pub fn wanted_at(flat_text: &FlatText, family: u16, vars: &[Simple], indexes: &[FlatExpr]) -> Option<Fault>
+    ensures { result ≡ first_of (spec.wanted_at (slice_get flat_text.now.families family) (map (plain.operand flat_text.now (map kind_of vars.now)) indexes.now)) }
 {
-    match raw.families.as_slice().get(usize::from(family)) {
-        Some(found) => wanted_each(raw, vars, found.over.as_slice(), indexes),
+    match flat_text.families.as_slice().get(usize::from(family)) {
+        Some(found) => wanted_each(flat_text, vars, found.over.as_slice(), indexes),
         None => None,
     }
 }
 
 /// The fault of a value of an element of a family.
-pub fn wanted_of(raw: &Raw, family: u16, x: Operand) -> Option<Fault>
-    ensures { result ≡ first_of (spec.wanted_of (slice_get raw.now.families family) (as_met x)) }
+pub fn wanted_of(flat_text: &FlatText, family: u16, x: Operand) -> Option<Fault>
+    ensures { result ≡ first_of (spec.wanted_of (slice_get flat_text.now.families family) (as_met x)) }
 {
-    match raw.families.as_slice().get(usize::from(family)) {
+    match flat_text.families.as_slice().get(usize::from(family)) {
         Some(found) => wanted(found.value, x),
         None => None,
     }
@@ -277,10 +277,10 @@ fn lacks_order(sets: &[SetInfo], x: Operand) -> bool
 }
 
 /// The fault of a value of a scalarset beside an order.
-pub fn disordered(raw: &Raw, op: Op, x: Operand) -> Option<Fault>
-    ensures { result ≡ first_of (spec.disordered raw.now.sets op (as_met x)) }
+pub fn disordered(flat_text: &FlatText, op: Op, x: Operand) -> Option<Fault>
+    ensures { result ≡ first_of (spec.disordered flat_text.now.sets op (as_met x)) }
 {
-    if is_order(op) && lacks_order(raw.sets.as_slice(), x) {
+    if is_order(op) && lacks_order(flat_text.sets.as_slice(), x) {
         Some(Fault {
             number: 21,
             at: x.at,

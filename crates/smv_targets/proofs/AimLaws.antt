@@ -1,6 +1,6 @@
 -- What a target's conditions mean, and that they go on to mean it.
 use Rattle.std.proofs.Common.{◌≡◌, ℕ, List, [], ◌∷◌, map, Bool, true, false, not, ◌&&◌, ◌||◌, Option, Some, None, refl, sym, ap, ◌∙◌, subst, if◌then◌else◌}
-use Rattle.smv_core.specs.Flat.{Numbered}
+use Rattle.smv_core.specs.FlatMeaning.{Numbered}
 use Rattle.law_obligations.specs.Places.{Place, named, rest, same_place, is_named, is_among, AbsOutcome}
 use Rattle.law_obligations.specs.Right.{gives, gives_surely, is_outside}
 use Rattle.law_obligations.proofs.Same.{same_place-is}

@@ -1,7 +1,7 @@
 -- Lists of outcomes, and which of them differ.
 use Rattle.std.proofs.Common.{◌≡◌, ℕ, List, [], ◌∷◌, length, arith, Bool, true, false, not, ◌&&◌, ◌||◌, refl, sym, ap, ◌∙◌}
 use Rattle.std.specs.List.{list_any}
-use Rattle.smv_core.specs.Flat.{Numbered}
+use Rattle.smv_core.specs.FlatMeaning.{Numbered}
 use Rattle.law_obligations.specs.Places.{AbsOutcome}
 use Rattle.law_obligations.specs.Right.{same_outcome}
 use Rattle.law_obligations.proofs.Same.{same_outcome-itself, same_outcome-is}

@@ -1,6 +1,6 @@
 -- The targets that elements have by their cells.
 use Rattle.std.specs.Prelude.{◌≡◌, ℕ, List, [], ◌∷◌, map, slice_get, Some, None, Bool, true, false}
-use Rattle.smv_core.specs.Flat.{Numbered}
+use Rattle.smv_core.specs.FlatMeaning.{Numbered}
 use Rattle.law_obligations.specs.Places.{Place, same_place, is_among, AbsOutcome}
 use Rattle.law_obligations.specs.Demands.{places_of_family}
 use Rattle.smv_spots.specs.declared.spots.Spot.{Spot}

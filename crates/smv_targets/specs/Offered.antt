@@ -1,6 +1,6 @@
 -- What outcomes with conditions give a target, and when two of them differ.
 use Rattle.std.specs.Prelude.{ℕ, List, Bool, not}
-use Rattle.smv_core.specs.Flat.{Numbered}
+use Rattle.smv_core.specs.FlatMeaning.{Numbered}
 use Rattle.law_obligations.specs.Places.{AbsOutcome}
 use Rattle.law_obligations.specs.Right.{same_outcome}
 use Rattle.smv_conditions.specs.declared.offers.Offer.{Offer}

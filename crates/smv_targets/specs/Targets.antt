@@ -1,6 +1,6 @@
 -- The element whose value is asked about, and when it has which value.
 use Rattle.std.specs.Prelude.{◌≡◌, ℕ, List, [], ◌∷◌, map, Option, Some, None, Bool, true, false, not, if◌then◌else◌}
-use Rattle.smv_core.specs.Flat.{Numbered}
+use Rattle.smv_core.specs.FlatMeaning.{Numbered}
 use Rattle.law_obligations.specs.Places.{Place, named, rest, same_place, is_among, AbsOutcome}
 use Rattle.law_obligations.specs.Right.{gives, gives_surely, is_outside}
 use Rattle.smv_spots.specs.Spots.{place_in}

@@ -1,7 +1,7 @@
 // What outcomes with conditions give a target.
 ghost use Rattle.std.specs.Prelude.{◌≡◌, ℕ, Bool, true, IfOk};
 ghost use Rattle.std.specs.List.{list_any};
-ghost use Rattle.smv_core.specs.Flat.{Numbered};
+ghost use Rattle.smv_core.specs.FlatMeaning.{Numbered};
 ghost use Rattle.law_obligations.specs.Places.{World};
 ghost use Rattle.law_obligations.specs.Right.{same_outcome};
 ghost use Rattle.smv_spots.specs.Spots.{outcome_in};

@@ -16,7 +16,7 @@ use Rattle.smv_rings.specs.Schedule.{ring}
 use Rattle.smv_search.specs.Runs.{rings_to}
 use Rattle.law_obligations.specs.May.{AbsState}
 use Rattle.law_obligations.specs.CasePaths.{IsShortest, states_from}
-use Rattle.law_obligations.specs.Readings.{Case, reading, state_bits}
+use Rattle.law_obligations.specs.Readings.{PosedCase, reading, state_bits}
 use Rattle.law_reports.specs.CaseLists.{case_lists}
 use Rattle.law_reports.specs.ListLaws.{readings}
 use Rattle.law_reports.proofs.Paths.{least_is_least}
@@ -71,10 +71,10 @@ read_all f (s ∷ []) (suc n) e = absurd (omega arith)
 read_all f (s ∷ t ∷ xs) zero e = absurd (omega arith)
 read_all f (s ∷ t ∷ xs) (suc n) e = ap (λ ys. f s ∷ ys) (shifted (λ i. f (by_time (s ∷ t ∷ xs) i)) 0 n ∙ read_all f (t ∷ xs) n (omega arith))
 
-abbrev written_all : Case → List (Vec Bool) → List StateData
+abbrev written_all : PosedCase → List (Vec Bool) → List StateData
 written_all c states = map (λ (state : Vec Bool). written_state c (reading c (state_of state))) states
 
-module _ (c : Case) (well : IsWellFormed c) where
+module _ (c : PosedCase) (well : IsWellFormed c) where
   each_written : (states : List (Vec Bool)) → written_all c states ≡ map (written_state c) (map (reading c) (states_of states))
   each_written [] = refl
   each_written (state ∷ states) = ap (λ (vs : List StateData). written_state c (reading c (state_of state)) ∷ vs) (each_written states)
@@ -91,11 +91,11 @@ module _ (c : Case) (well : IsWellFormed c) where
         is ∙ each_written states ∙ ap (map (written_state c)) (sym (read_all (reading c) (states_of states) depth many)),
       )
 
-bits_are : (l : Lists) (c : Case) → l ≡ case_lists c → l.bits ≡ state_bits c
+bits_are : (l : Lists) (c : PosedCase) → l ≡ case_lists c → l.bits ≡ state_bits c
 unfolding case_lists
 bits_are l c e = ap (λ (m : Lists). m.bits) e
 
-pub have_bits : (l : Lists) (c : Case) → l ≡ case_lists c → (states : List (Vec Bool)) → All (HasBits l.bits) states → All (HasBits (state_bits c)) states
+pub have_bits : (l : Lists) (c : PosedCase) → l ≡ case_lists c → (states : List (Vec Bool)) → All (HasBits l.bits) states → All (HasBits (state_bits c)) states
 have_bits l c lists states all = All-weaker (HasBits l.bits) (HasBits (state_bits c)) (λ state has. has ∙ bits_are l c lists) states all
 
 -- so is what a call reads

@@ -4,8 +4,8 @@
 #![tactic(auto)]
 
 ghost use Rattle.std.specs.Prelude.{◌≡◌, None, true};
-ghost use Rattle.smv_instances.specs.Said.{AreNoted};
-ghost use Rattle.smv_instances.specs.FirstFault.{first_fault};
+ghost use Rattle.smv_mentions.specs.Said.{AreNoted};
+ghost use Rattle.smv_mentions.specs.FirstFault.{first_fault};
 ghost use Rattle.law_designs.specs.FlatKinds.{is_kinded};
 ghost use Rattle.smv_typing.specs.Answers.{IsSpelled, IsTyped};
 
@@ -17,10 +17,10 @@ use crate::depth::is_too_deep;
 use crate::nodes::check_nodes;
 use law_sound_texts::kinds_after_flattening::flattened_texts_are_kinded;
 use smv_core::Refusal;
-use smv_core::flat::Raw;
+use smv_core::flat::FlatText;
 use smv_core::tree::Text;
 use smv_flatten::flatten::flatten;
-use smv_instances::pieces::Piece;
+use smv_mentions::pieces::Piece;
 use smv_kinds::faults::kinds_fault;
 use std::alloc::Global;
 use std::marker::Model;
@@ -28,41 +28,41 @@ use std::marker::Model;
 /// A flattened text no part of which breaks a rule of kinds, ranges and sets. Contracts see the flattened text.
 #[derive(Drop)]
 pub struct Typed {
-    raw: Raw,
+    flat_text: FlatText,
 }
 
 impl Model for Typed {
     ghost use Rattle.std.specs.Prelude.{◌≡◌, true};
     ghost use Rattle.std.specs.Coded.{codes};
-    ghost use Rattle.smv_core.specs.declared.flat.Raw.{Raw};
+    ghost use Rattle.smv_core.specs.declared.flat.FlatText.{FlatText};
     ghost use Rattle.smv_core.specs.contracts.flat.FlatExpr as expr;
     ghost use Rattle.smv_core.specs.contracts.flat.FlatStmt as stmt;
     ghost use Rattle.law_designs.specs.FlatKinds.{is_kinded};
 
-    ghost Value = { Raw };
+    ghost Value = { FlatText };
 
     ghost coded = { Prim.hlevel (codes, expr.the_row.coded, stmt.the_row.coded) };
 
-    ghost view = { λ typed. typed.raw };
+    ghost view = { λ typed. typed.flat_text };
 
-    ghost invariant = { λ typed. is_kinded typed.raw ≡ true };
+    ghost invariant = { λ typed. is_kinded typed.flat_text ≡ true };
 }
 
 impl Typed {
     /// The flattened text.
-    pub fn raw(&self) -> &Raw
+    pub fn flat_text(&self) -> &FlatText
         ensures same { result.now ≡ self.now }
         ensures kinded { is_kinded result.now ≡ true }
     {
-        &self.raw
+        &self.flat_text
     }
 
     /// The flattened text, alone.
-    pub fn into_raw(self) -> Raw
+    pub fn into_raw(self) -> FlatText
         ensures same { result ≡ self }
         ensures kinded { is_kinded result ≡ true }
     {
-        self.raw
+        self.flat_text
     }
 }
 
@@ -83,6 +83,6 @@ pub fn kinds(alloc: Global, text: &Text, pieces: &[Piece]) -> Result<Typed, Refu
         return Err(Refusal::OutOfMemory);
     }
     check_nodes(alloc, text)?;
-    let raw = flatten(alloc, text, pieces)?;
-    Ok(Typed { raw })
+    let flat_text = flatten(alloc, text, pieces)?;
+    Ok(Typed { flat_text })
 }

@@ -7,7 +7,7 @@ use Rattle.smv_core.specs.Assignments.{Index}
 use Rattle.smv_core.specs.declared.flat.Simple.{Simple}
 use Rattle.smv_core.specs.declared.flat.FlatMember.{One, Span as SpanOf}
 use Rattle.smv_core.specs.declared.flat.FlatExpr.{FlatExpr, Number, Read', Var, Loop, Constant, Not', And', Or', Implies', Iff', Compare', Within', Sum', Modulo', Choose', All', Any', List', Each', Held-FlatExpr-Each-2, None', Some', Row_of-FlatExpr, end_of-FlatExpr, more_of-FlatExpr, Row_of-FlatMember, end_of-FlatMember, more_of-FlatMember, Row_of-FlatSigned, end_of-FlatSigned, more_of-FlatSigned}
-use Rattle.smv_core.specs.declared.flat.Flat.{Flat, Nothing, Assign, If', First', Forall', Row_of-Flat, end_of-Flat, more_of-Flat}
+use Rattle.smv_core.specs.declared.flat.DefBody.{DefBody, Nothing, Assign, If', First', Forall', Row_of-DefBody, end_of-DefBody, more_of-DefBody}
 use Rattle.law_obligations.specs.Places.{Place, named, bind_place}
 use Rattle.law_obligations.specs.Reads.{reads, reads_each, reads_signed, reads_members, reads_held, has_counting, have_counting, part_reads, parts_read}
 
@@ -69,17 +69,17 @@ module _ (f : ℕ → List ℕ) where
     held_alike (Some' shape (more_of-FlatExpr cond end_of-FlatExpr)) b c = alike cond b c
 
 mutual
-  pub counting_alike : (part : Flat) (b c : List Place) → has_counting one all_count part b ≡ has_counting one all_count part c
+  pub counting_alike : (part : DefBody) (b c : List Place) → has_counting one all_count part b ≡ has_counting one all_count part c
   counting_alike Nothing b c = refl
   counting_alike (Assign left value place at) b c = refl
-  counting_alike (If' cond l (more_of-Flat left end_of-Flat) r (more_of-Flat right end_of-Flat)) b c =
+  counting_alike (If' cond l (more_of-DefBody left end_of-DefBody) r (more_of-DefBody right end_of-DefBody)) b c =
       ap (λ t. t || has_counting one all_count right b) (counting_alike left b c) ∙ ap (λ t. has_counting one all_count left c || t) (counting_alike right b c)
   counting_alike (First' shape parts) b c = countings_alike parts b c
-  counting_alike (Forall' var over shape (more_of-Flat body end_of-Flat)) b c = ap (λ t. t || false) (counting_alike body (bind_place b var (named (number 0))) (bind_place c var (named (number 0))))
+  counting_alike (Forall' var over shape (more_of-DefBody body end_of-DefBody)) b c = ap (λ t. t || false) (counting_alike body (bind_place b var (named (number 0))) (bind_place c var (named (number 0))))
 
-  countings_alike : {m : _} (row : Row_of-Flat m) (b c : List Place) → have_counting one all_count row b ≡ have_counting one all_count row c
-  countings_alike end_of-Flat b c = refl
-  countings_alike (more_of-Flat part others) b c =
+  countings_alike : {m : _} (row : Row_of-DefBody m) (b c : List Place) → have_counting one all_count row b ≡ have_counting one all_count row c
+  countings_alike end_of-DefBody b c = refl
+  countings_alike (more_of-DefBody part others) b c =
       ap (λ t. t || have_counting one all_count others b) (counting_alike part b c) ∙ ap (λ t. has_counting one all_count part c || t) (countings_alike others b c)
 
 module _ (f : ℕ → List ℕ) where
@@ -88,17 +88,17 @@ module _ (f : ℕ → List ℕ) where
   indexes_alike (e ∷ left) b c = both (alike f e b c) (indexes_alike left b c)
 
   mutual
-    pub part_alike : (part : Flat) (b c : List Place) → part_reads one all_count one (by_family f) part b ≡ part_reads one all_count one (by_family f) part c
+    pub part_alike : (part : DefBody) (b c : List Place) → part_reads one all_count one (by_family f) part b ≡ part_reads one all_count one (by_family f) part c
     part_alike Nothing b c = refl
     part_alike (Assign left value place at) b c = both (indexes_alike left b c) (alike f value b c)
-    part_alike (If' cond l (more_of-Flat left end_of-Flat) r (more_of-Flat right end_of-Flat)) b c =
+    part_alike (If' cond l (more_of-DefBody left end_of-DefBody) r (more_of-DefBody right end_of-DefBody)) b c =
         both (both
         (ap (λ t. if t then reads one (by_family f) cond b else []) (ap (λ t. t || has_counting one all_count right b) (counting_alike left b c) ∙ ap (λ t. has_counting one all_count left c || t) (counting_alike right b c))
         ∙ ap (λ l. if has_counting one all_count left c || has_counting one all_count right c then l else []) (alike f cond b c))
         (part_alike left b c)) (part_alike right b c)
     part_alike (First' shape parts) b c = parts_alike parts b c
-    part_alike (Forall' var over shape (more_of-Flat body end_of-Flat)) b c = ap (λ l. l ++ []) (part_alike body (bind_place b var (named (number 0))) (bind_place c var (named (number 0))))
+    part_alike (Forall' var over shape (more_of-DefBody body end_of-DefBody)) b c = ap (λ l. l ++ []) (part_alike body (bind_place b var (named (number 0))) (bind_place c var (named (number 0))))
 
-    parts_alike : {m : _} (row : Row_of-Flat m) (b c : List Place) → parts_read one all_count one (by_family f) row b ≡ parts_read one all_count one (by_family f) row c
-    parts_alike end_of-Flat b c = refl
-    parts_alike (more_of-Flat part others) b c = both (part_alike part b c) (parts_alike others b c)
+    parts_alike : {m : _} (row : Row_of-DefBody m) (b c : List Place) → parts_read one all_count one (by_family f) row b ≡ parts_read one all_count one (by_family f) row c
+    parts_alike end_of-DefBody b c = refl
+    parts_alike (more_of-DefBody part others) b c = both (part_alike part b c) (parts_alike others b c)

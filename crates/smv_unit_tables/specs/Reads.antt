@@ -8,7 +8,7 @@ use Rattle.smv_core.specs.declared.flat.Claim.{Claim}
 use Rattle.smv_core.specs.declared.flat.FlatExpr.{FlatExpr}
 use Rattle.smv_core.specs.declared.flat.FlatSigned.{FlatSigned, out-FlatSigned}
 use Rattle.smv_core.specs.declared.flat.FlatMember.{FlatMember, One, Span as SpanOf}
-use Rattle.smv_core.specs.declared.flat.Flat.{Flat}
+use Rattle.smv_core.specs.declared.flat.DefBody.{DefBody}
 use Rattle.law_obligations.specs.Places.{named}
 use Rattle.law_obligations.specs.Reads.{has_counting}
 use Rattle.law_obligations.specs.Times.{families_read, families_of_part}
@@ -17,11 +17,11 @@ use Rattle.law_obligations.specs.Times.{families_read, families_of_part}
 unfoldable pub read_in : List Family → FlatExpr → List ℕ
 read_in families e = families_read families e
 
-unfoldable pub part_reads : List Family → Flat → List ℕ
+unfoldable pub part_reads : List Family → DefBody → List ℕ
 part_reads families part = families_of_part families part
 
 -- a part of a definition has an assignment
-unfoldable pub has_assignment : Flat → Bool
+unfoldable pub has_assignment : DefBody → Bool
 has_assignment part = has_counting (λ over. named (number 0) ∷ []) (λ left b. true) part []
 
 module _ (families : List Family) where

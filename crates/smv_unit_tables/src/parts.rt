@@ -4,32 +4,32 @@ ghost use Rattle.std.specs.List.{list_any};
 ghost use Rattle.smv_unit_tables.specs.Reads.{has_assignment, part_reads};
 
 use crate::expressions::{add_all, add_read};
-use smv_core::flat::{Family, Flat};
+use smv_core::flat::{Family, DefBody};
 use std::alloc::AllocError;
 
 /// Puts the families that a part of a definition reads behind others: what its assignments read, and the conditions around them. Whether it has an assignment.
 #[cycle(parts)]
 #[tactic(auto, using(crate::proofs::ReadLaws::listing, crate::proofs::PartLaws::equations))]
-pub fn add_part(out: &mut Vec<usize>, families: &[Family], x: &Flat) -> Result<bool, AllocError>
+pub fn add_part(out: &mut Vec<usize>, families: &[Family], x: &DefBody) -> Result<bool, AllocError>
     ensures some { IfOk result (λ some. some ≡ has_assignment x.now) }
     ensures reads { IfOk result (λ some. out.new.items ≡ out.old.items ++ part_reads families.now x.now) }
 {
     match x {
-        Flat::Nothing => Ok(false),
-        Flat::Assign { left, value, .. } => {
+        DefBody::Nothing => Ok(false),
+        DefBody::Assign { left, value, .. } => {
             add_all(out, families, left.as_slice())?;
             add_read(out, families, value)?;
             Ok(true)
         }
-        Flat::If { cond, yes, no } => {
+        DefBody::If { cond, yes, no } => {
             let count = out.len();
             add_read(out, families, cond)?;
             let first = add_part(out, families, yes.get())?;
             let second = add_part(out, families, no.get())?;
             Ok(keep_if(out, first, second, count))
         }
-        Flat::First { parts } => add_parts(out, families, parts.as_slice()),
-        Flat::Forall { body, .. } => add_part(out, families, body.get()),
+        DefBody::First { parts } => add_parts(out, families, parts.as_slice()),
+        DefBody::Forall { body, .. } => add_part(out, families, body.get()),
     }
 }
 
@@ -47,7 +47,7 @@ fn keep_if(out: &mut Vec<usize>, first: bool, second: bool, count: usize) -> boo
 
 #[cycle(parts)]
 #[tactic(auto, using(crate::proofs::ReadLaws::listing, crate::proofs::PartLaws::steps))]
-fn add_parts(out: &mut Vec<usize>, families: &[Family], parts: &[Flat]) -> Result<bool, AllocError>
+fn add_parts(out: &mut Vec<usize>, families: &[Family], parts: &[DefBody]) -> Result<bool, AllocError>
     ensures some { IfOk result (λ some. some ≡ list_any has_assignment parts.now) }
     ensures reads { IfOk result (λ some. out.new.items ≡ out.old.items ++ flat_map (part_reads families.now) parts.now) }
 {

@@ -3,11 +3,11 @@ use Rattle.std.proofs.Common.{◌≡◌, ℕ, List, [], ◌∷◌, map, length, 
 use Rattle.std.specs.List.{list_any}
 use Rattle.smv_core.specs.Values.{number, scalar, ordinal, same}
 use Rattle.smv_core.specs.Assignments.{Index, fixed}
-use Rattle.smv_core.specs.Flat.{Numbered, flat_index, indexes_assigned, indexes_assigned_in}
+use Rattle.smv_core.specs.FlatMeaning.{Numbered, flat_index, indexes_assigned, indexes_assigned_in}
 use Rattle.smv_core.specs.declared.flat.SetInfo.{SetInfo}
 use Rattle.smv_core.specs.declared.flat.Simple.{Simple}
 use Rattle.smv_core.specs.declared.flat.FlatExpr.{FlatExpr}
-use Rattle.smv_core.specs.declared.flat.Flat.{Flat, Nothing, Assign, If, First, First', Forall, Row_of-Flat, end_of-Flat, more_of-Flat, items-the_row-Flat, items_hidden-the_row-Flat-1}
+use Rattle.smv_core.specs.declared.flat.DefBody.{DefBody, Nothing, Assign, If, First, First', Forall, Row_of-DefBody, end_of-DefBody, more_of-DefBody, items-the_row-DefBody, items_hidden-the_row-DefBody-1}
 use Rattle.law_obligations.specs.Places.{Place}
 use Rattle.law_obligations.specs.Demands.{fits_place}
 use Rattle.law_obligations.proofs.Computing.{computing}
@@ -56,19 +56,19 @@ module _ (n : Numbered) (left : List FlatExpr) (indexes : List Spot) (x : FlatEx
   fit_not e = e ∙ (ap (λ d. d && all_fit (map flat_index xs) (map (place_in n) qs)) (sym e ∙ is) ∙ more)
 
 -- the assignments of a part
-abbrev rows_of : Flat → (k : Count) × Row_of-Flat k
+abbrev rows_of : DefBody → (k : Count) × Row_of-DefBody k
 rows_of (First' shape row) = (_, row)
-rows_of _ = (_, end_of-Flat)
+rows_of _ = (_, end_of-DefBody)
 
 one_alone : (b : Bool) → (b || false) ≡ b
 one_alone true = refl
 one_alone false = refl
 
 module _ (qs : List Place) where
-  parts-row : (k : _) (row : Row_of-Flat k) → list_any (λ is. all_fit is qs) (indexes_assigned_in row) ≡ list_any (is_concerned qs) (items-the_row-Flat k row)
+  parts-row : (k : _) (row : Row_of-DefBody k) → list_any (λ is. all_fit is qs) (indexes_assigned_in row) ≡ list_any (is_concerned qs) (items-the_row-DefBody k row)
   unfolding is_concerned
-  parts-row k end_of-Flat = refl
-  parts-row k (more_of-Flat part rest) = any-append (λ is. all_fit is qs) (indexes_assigned part) (indexes_assigned_in rest) ∙ ap (λ c. is_concerned qs part || c) (parts-row _ rest)
+  parts-row k end_of-DefBody = refl
+  parts-row k (more_of-DefBody part rest) = any-append (λ is. all_fit is qs) (indexes_assigned part) (indexes_assigned_in rest) ∙ ap (λ c. is_concerned qs part || c) (parts-row _ rest)
 
   pub concerned-Nothing : is_concerned qs Nothing ≡ false
   unfolding is_concerned
@@ -78,17 +78,17 @@ module _ (qs : List Place) where
   unfolding is_concerned
   concerned-Assign left value place at = one_alone (all_fit (map flat_index left) qs)
 
-  pub concerned-If : (cond : FlatExpr) (x y : Flat) → is_concerned qs (If cond x y) ≡ (is_concerned qs x || is_concerned qs y)
+  pub concerned-If : (cond : FlatExpr) (x y : DefBody) → is_concerned qs (If cond x y) ≡ (is_concerned qs x || is_concerned qs y)
   unfolding is_concerned computing
   concerned-If cond x y = any-append (λ is. all_fit is qs) (indexes_assigned x) (indexes_assigned y)
 
-  pub concerned-First : (parts : List Flat) → is_concerned qs (First parts) ≡ list_any (is_concerned qs) parts
+  pub concerned-First : (parts : List DefBody) → is_concerned qs (First parts) ≡ list_any (is_concerned qs) parts
   unfolding is_concerned
   concerned-First parts =
-      let row : (k : Count) × Row_of-Flat k = rows_of (First parts) in
-      parts-row row.0 row.1 ∙ ap (list_any (is_concerned qs)) (items_hidden-the_row-Flat-1 parts)
+      let row : (k : Count) × Row_of-DefBody k = rows_of (First parts) in
+      parts-row row.0 row.1 ∙ ap (list_any (is_concerned qs)) (items_hidden-the_row-DefBody-1 parts)
 
-  pub concerned-Forall : (var : ℕ) (over : Simple) (body : Flat) → is_concerned qs (Forall var over body) ≡ is_concerned qs body
+  pub concerned-Forall : (var : ℕ) (over : Simple) (body : DefBody) → is_concerned qs (Forall var over body) ≡ is_concerned qs body
   unfolding is_concerned computing
   concerned-Forall var over body = refl
 

@@ -1,7 +1,7 @@
 -- Whether an assignment is to the element, index by index.
 use Rattle.std.proofs.Common.{◌≡◌, ℕ, List, [], ◌∷◌, map, drop, length, slice_get, Option, Bool, refl, sym, ap, ◌∙◌, arith, subst}
 use Rattle.smv_core.specs.Values.{Truth}
-use Rattle.smv_core.specs.Flat.{Numbered}
+use Rattle.smv_core.specs.FlatMeaning.{Numbered}
 use Rattle.smv_core.specs.Outcome.{is_true}
 use Rattle.smv_core.specs.declared.flat.FlatExpr.{FlatExpr}
 use Rattle.law_obligations.specs.Places.{AbsOutcome}

@@ -3,9 +3,9 @@ use Rattle.std.specs.Prelude.{◌≡◌, ℕ, List, [], ◌∷◌, map, zip, Opt
 use Rattle.std.specs.List.{list_all}
 use Rattle.smv_core.specs.Values.{Truth}
 use Rattle.smv_core.specs.Assignments.{Index}
-use Rattle.smv_core.specs.Flat.{Numbered}
+use Rattle.smv_core.specs.FlatMeaning.{Numbered}
 use Rattle.smv_core.specs.Outcome.{is_true}
-use Rattle.smv_core.specs.declared.flat.Flat.{Flat}
+use Rattle.smv_core.specs.declared.flat.DefBody.{DefBody}
 use Rattle.smv_core.specs.declared.flat.FlatExpr.{FlatExpr}
 use Rattle.law_obligations.specs.Places.{Place, AbsOutcome}
 use Rattle.law_obligations.specs.Demands.{fits_place, concerns_place}
@@ -44,5 +44,5 @@ abbrev pub all_fit : List Index → List Place → Bool
 all_fit is qs = list_all (λ (i, q). fits_place i q) (zip is qs)
 
 -- some assignment of a part concerns the element of these indexes
-unfoldable pub is_concerned : List Place → Flat → Bool
+unfoldable pub is_concerned : List Place → DefBody → Bool
 is_concerned qs part = concerns_place part qs

@@ -1,14 +1,14 @@
 // Which elements a definition concerns, as far as the constants in its left sides tell.
 ghost use Rattle.std.specs.Prelude.{◌≡◌, map};
 ghost use Rattle.std.specs.List.{list_any};
-ghost use Rattle.smv_core.specs.Flat.{Numbered, flat_index};
+ghost use Rattle.smv_core.specs.FlatMeaning.{Numbered, flat_index};
 ghost use Rattle.law_obligations.specs.Demands.{fits_place, concerns_place};
 ghost use Rattle.smv_spots.specs.Spots.{place_in};
 ghost use Rattle.smv_indexes.specs.Indexes.{index_of};
 ghost use Rattle.smv_walk_parts.specs.Parts as spec;
 ghost use Rattle.smv_walk_parts.specs.Parts.{all_fit};
 
-use smv_core::flat::{Flat, FlatExpr};
+use smv_core::flat::{DefBody, FlatExpr};
 use smv_indexes::{Index, known};
 use smv_spots::spots::Spot;
 
@@ -48,23 +48,23 @@ fn fit(left: &[FlatExpr], indexes: &[Spot]) -> bool
 // Whether some assignment of a part concerns the element.
 #[cycle(concerned)]
 #[tactic(auto, using(crate::proofs::ConcernLaws::equations))]
-fn is_concerned(part: &Flat, indexes: &[Spot]) -> bool
+fn is_concerned(part: &DefBody, indexes: &[Spot]) -> bool
     ensures { (n : Numbered) → result ≡ spec.is_concerned (map (place_in n) indexes.now) part.now }
 {
     match part {
-        Flat::Nothing => false,
-        Flat::Assign { left, .. } => fit(left.as_slice(), indexes),
-        Flat::If { yes, no, .. } => {
+        DefBody::Nothing => false,
+        DefBody::Assign { left, .. } => fit(left.as_slice(), indexes),
+        DefBody::If { yes, no, .. } => {
             is_concerned(yes.get(), indexes) || is_concerned(no.get(), indexes)
         }
-        Flat::First { parts } => some_is_concerned(parts.as_slice(), indexes),
-        Flat::Forall { body, .. } => is_concerned(body.get(), indexes),
+        DefBody::First { parts } => some_is_concerned(parts.as_slice(), indexes),
+        DefBody::Forall { body, .. } => is_concerned(body.get(), indexes),
     }
 }
 
 // Whether some assignment of these parts concerns it.
 #[cycle(concerned)]
-fn some_is_concerned(parts: &[Flat], indexes: &[Spot]) -> bool
+fn some_is_concerned(parts: &[DefBody], indexes: &[Spot]) -> bool
     ensures { (n : Numbered) → result ≡ list_any (spec.is_concerned (map (place_in n) indexes.now)) parts.now }
 {
     for part in parts {
@@ -77,7 +77,7 @@ fn some_is_concerned(parts: &[Flat], indexes: &[Spot]) -> bool
 
 /// Whether some assignment of a definition concerns the element of these indexes.
 #[tactic(auto, unfolding(crate::specs::Parts::is_concerned))]
-pub fn concerns(part: &Flat, indexes: &[Spot]) -> bool
+pub fn concerns(part: &DefBody, indexes: &[Spot]) -> bool
     ensures { (n : Numbered) → result ≡ concerns_place part.now (map (place_in n) indexes.now) }
 {
     is_concerned(part, indexes)

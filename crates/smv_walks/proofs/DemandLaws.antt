@@ -2,13 +2,13 @@
 use Rattle.std.proofs.Common.{◌≡◌, ℕ, zero, suc, List, [], ◌∷◌, length, map, slice_get, get_or, Option, Some, None, Bool, true, false, not, ◌&&◌, ◌||◌, refl, sym, ap, subst, ◌∙◌, arith}
 use Rattle.std.specs.List.{list_any, list_all}
 use Rattle.smv_core.specs.Values.{number, constant, scalar, ordinal, Truth}
-use Rattle.smv_core.specs.Flat.{Numbered}
+use Rattle.smv_core.specs.FlatMeaning.{Numbered}
 use Rattle.smv_core.specs.Outcome.{is_true}
 use Rattle.smv_core.specs.declared.flat.Class.{Class}
 use Rattle.smv_core.specs.declared.flat.Class.TheVariants as class
 use Rattle.smv_core.specs.declared.flat.Def.{Def}
 use Rattle.smv_core.specs.declared.flat.Element.{Element}
-use Rattle.smv_core.specs.declared.flat.Flat.{Flat}
+use Rattle.smv_core.specs.declared.flat.DefBody.{DefBody}
 use Rattle.smv_core.specs.declared.flat.FlatExpr.{FlatExpr}
 use Rattle.smv_core.specs.declared.flat.Guard.{Guard}
 use Rattle.smv_core.specs.declared.flat.Simple.{Simple}
@@ -17,7 +17,7 @@ use Rattle.law_obligations.specs.May.{AbsState, may, seen}
 use Rattle.law_obligations.specs.Right.{is_false, is_neither}
 use Rattle.law_obligations.specs.Soundness.{over_of}
 use Rattle.law_obligations.specs.Demands.{concerns_place, places_of_family, must_be}
-use Rattle.law_obligations.specs.Obligations.{Problem as Case, defined, holds as claimed, is_met, is_broken, may_hold}
+use Rattle.law_obligations.specs.Obligations.{AbstractProblem as Case, defined, holds as claimed, is_met, is_broken, may_hold}
 use Rattle.law_obligations.specs.Mix.{Mix, mix_by}
 use Rattle.smv_spots.specs.declared.spots.Spot.{Spot}
 use Rattle.smv_spots.specs.Spots.{place_in, outcome_in}
@@ -79,7 +79,7 @@ element_of : (p : Case) (now : (ℕ → Bool) → AbsState) → HaveValues p now
 unfolding view_of
 element_of p now values family indexes kept = record { kept = kept; of_type = λ a. values a family indexes kept }
 
-module _ {S C : Type 0} (holds : S → C → (ℕ → Bool) → Bool) (s t : S) (problem : Problem) (cells : List (Cell C)) (x : Target C) (way : Way) (family : ℕ) (init next comb : Flat) where
+module _ {S C : Type 0} (holds : S → C → (ℕ → Bool) → Bool) (s t : S) (problem : Problem) (cells : List (Cell C)) (x : Target C) (way : Way) (family : ℕ) (init next comb : DefBody) where
   abbrev Asked : Case → Def → List Place → ((ℕ → Bool) → AbsState) → ((ℕ → Bool) → Place) → Type 0
   Asked = IsTargets holds s x family init next comb
 
@@ -89,8 +89,8 @@ module _ {S C : Type 0} (holds : S → C → (ℕ → Bool) → Bool) (s t : S) 
       let target : IsTarget holds s x (aim_at (view_of p now) def.family indexes value) = asked.target in
       let z : Aim = aim_at (view_of p now) def.family indexes value in
       is z (record { seen = read.now; target = target }) a
-      ∙ (ap (λ (part : Flat). now_in way part z a) (sym asked.definition.comb)
-      ∙ sym (possible-comb way z a def (at_before before a) (ap (λ (part : Flat). concerns_place part indexes) asked.definition.comb ∙ (ap (concerns_place comb) (sym (ap (map (place_in p.world.classes)) e ∙ target.indexes)) ∙ (sym (concerned p.world.classes) ∙ yes_it)))))
+      ∙ (ap (λ (part : DefBody). now_in way part z a) (sym asked.definition.comb)
+      ∙ sym (possible-comb way z a def (at_before before a) (ap (λ (part : DefBody). concerns_place part indexes) asked.definition.comb ∙ (ap (concerns_place comb) (sym (ap (map (place_in p.world.classes)) e ∙ target.indexes)) ∙ (sym (concerned p.world.classes) ∙ yes_it)))))
 
   pub init_given : (old : Option (List (Cell C))) (b : Bool) (r : C) (shown : List Spot) → old ≡ None → shown ≡ x.indexes → ((n : Numbered) → b ≡ concerns_place comb (map (place_in n) shown)) → b ≡ false → IsSo holds s t problem cells x (now_in way init) r → IsGivenAt holds s t problem old cells way Asked r
   unfolding IsGivenAt IsSo view_of
@@ -98,8 +98,8 @@ module _ {S C : Type 0} (holds : S → C → (ℕ → Bool) → Bool) (s t : S) 
       let target : IsTarget holds s x (aim_at (view_of p now) def.family indexes value) = asked.target in
       let z : Aim = aim_at (view_of p now) def.family indexes value in
       is z (record { seen = read.now; target = target }) a
-      ∙ (ap (λ (part : Flat). now_in way part z a) (sym asked.definition.init)
-      ∙ sym (possible-init way z a def (ap (λ (part : Flat). concerns_place part indexes) asked.definition.comb ∙ (ap (concerns_place comb) (sym (ap (map (place_in p.world.classes)) e ∙ target.indexes)) ∙ (sym (concerned p.world.classes) ∙ not_it)))))
+      ∙ (ap (λ (part : DefBody). now_in way part z a) (sym asked.definition.init)
+      ∙ sym (possible-init way z a def (ap (λ (part : DefBody). concerns_place part indexes) asked.definition.comb ∙ (ap (concerns_place comb) (sym (ap (map (place_in p.world.classes)) e ∙ target.indexes)) ∙ (sym (concerned p.world.classes) ∙ not_it)))))
   init_given old b r shown none e concerned not_it is p (Some before) now read def indexes value demand asked a = absurd (subst (λ o. IsReadBefore holds s problem o p (Some before)) none read.before)
 
   pub next_given : (old : Option (List (Cell C))) (before_cells : List (Cell C)) (b : Bool) (r : C) (shown : List Spot) → old ≡ Some before_cells → shown ≡ x.indexes → ((n : Numbered) → b ≡ concerns_place comb (map (place_in n) shown)) → b ≡ false → IsSoOf holds s t problem before_cells x family (next_in way family next) r →
@@ -112,8 +112,8 @@ module _ {S C : Type 0} (holds : S → C → (ℕ → Bool) → Bool) (s t : S) 
       let seen_before : IsReadBefore holds s problem (Some before_cells) p (Some before) = subst (λ o. IsReadBefore holds s problem o p (Some before)) some read.before in
       let is_of : IsSoOf holds s t problem before_cells x def.family (next_in way def.family next) r = subst (λ f. IsSoOf holds s t problem before_cells x f (next_in way f next) r) (sym asked.definition.family) is in
       is_of z (record { seen = seen_before.0; target = record { indexes = target.indexes; every = target.every; held = target.held; always = target.always; never = target.never; of_type = target.of_type } }) (element_of p before seen_before.1 def.family indexes demand.0) refl a
-      ∙ (ap (λ (part : Flat). next_in way def.family part z a) (sym asked.definition.next)
-      ∙ sym (possible-next way z a def (now a) (ap (λ (part : Flat). concerns_place part indexes) asked.definition.comb ∙ (ap (concerns_place comb) (sym (ap (map (place_in p.world.classes)) e ∙ target.indexes)) ∙ (sym (concerned p.world.classes) ∙ not_it)))))
+      ∙ (ap (λ (part : DefBody). next_in way def.family part z a) (sym asked.definition.next)
+      ∙ sym (possible-next way z a def (now a) (ap (λ (part : DefBody). concerns_place part indexes) asked.definition.comb ∙ (ap (concerns_place comb) (sym (ap (map (place_in p.world.classes)) e ∙ target.indexes)) ∙ (sym (concerned p.world.classes) ∙ not_it)))))
 
 -- ---- an element, by its target
 
@@ -136,7 +136,7 @@ module _ {S C : Type 0} (IsMade : S → C → Type 0) (holds : S → C → (ℕ 
       AreRead holds s problem old cells p before now → AreRead holds t problem old cells p before now
   read_on s t problem old cells p before now k m n h = record { now = seen_on IsMade holds room s t problem cells (view_of p now) k n h.now; values = h.values; before = read_before_on s t problem old p before k m h.before }
 
-  pub element_given : (s0 s1 s2 : S) → KeepsConditions IsMade holds room s0 s1 → (problem : Problem) (old : Option (List (Cell C))) (cells : List (Cell C)) → AreOldMade (IsMade s0) old → AreCellsMade (IsMade s0) cells → (way : Way) (element : Element) (init next comb : Flat) (spots : List Spot) (x : Target C) (r : C) →
+  pub element_given : (s0 s1 s2 : S) → KeepsConditions IsMade holds room s0 s1 → (problem : Problem) (old : Option (List (Cell C))) (cells : List (Cell C)) → AreOldMade (IsMade s0) old → AreCellsMade (IsMade s0) cells → (way : Way) (element : Element) (init next comb : DefBody) (spots : List Spot) (x : Target C) (r : C) →
       spots ≡ class_spots (over_of (slice_get problem.families element.family)) element.indexes → ((v : View) → IsSeen holds s0 problem cells v → (ps : List Place) → map (place_in v.world.classes) spots ≡ ps → IsElementOf v element.family ps → IsTarget holds s1 x (aim_of v element.family ps)) →
       IsGivenAt holds s1 s2 problem old cells way (IsTargets holds s1 x element.family init next comb) r → IsGiven holds s0 s2 problem old cells way (IsWritten element init next comb) r
   unfolding IsGivenAt IsGiven view_of
@@ -154,19 +154,19 @@ module _ {S C : Type 0} (IsMade : S → C → Type 0) (holds : S → C → (ℕ 
 
 -- ---- demands as they are written
 
-written_inner : {element other : Element} {a b c d e f : Flat} → Defined element a b c ≡ Defined other d e f → (element ≡ other) × (a ≡ d) × (b ≡ e) × (c ≡ f)
+written_inner : {element other : Element} {a b c d e f : DefBody} → Defined element a b c ≡ Defined other d e f → (element ≡ other) × (a ≡ d) × (b ≡ e) × (c ≡ f)
 written_inner e = (cc, cc, cc, cc)
 
 claim_inner : {body other : FlatExpr} {bindings others : List Spot} → Holds body bindings ≡ Holds other others → (body ≡ other) × (bindings ≡ others)
 claim_inner e = (cc, cc)
 
 module _ {S C : Type 0} (holds : S → C → (ℕ → Bool) → Bool) (s t : S) (problem : Problem) (old : Option (List (Cell C))) (cells : List (Cell C)) (demand : Demand) (r : C) where
-  as_written : (element : Element) (init next comb : Flat) → demand ≡ Defined element init next comb → (p : Case) (def : Def) (indexes : List Place) (now : (ℕ → Bool) → AbsState) → demand ≡ written_demand p.world.classes (defined def indexes) → IsWritten element init next comb p def indexes now
+  as_written : (element : Element) (init next comb : DefBody) → demand ≡ Defined element init next comb → (p : Case) (def : Def) (indexes : List Place) (now : (ℕ → Bool) → AbsState) → demand ≡ written_demand p.world.classes (defined def indexes) → IsWritten element init next comb p def indexes now
   as_written element init next comb e p def indexes now f =
       let same = written_inner (sym e ∙ f) in
       (record { family = ap (λ (x : Element). x.family) (sym same.0); init = sym same.1; next = sym same.2; comb = sym same.3 }, ap (λ (x : Element). x.indexes) same.0)
 
-  pub element_met : (element : Element) (init next comb : Flat) → demand ≡ Defined element init next comb → IsGiven holds s t problem old cells May (IsWritten element init next comb) r → IsDemanded IsDemand holds s t problem old cells demand (λ p before now d. is_met p before now d) r
+  pub element_met : (element : Element) (init next comb : DefBody) → demand ≡ Defined element init next comb → IsGiven holds s t problem old cells May (IsWritten element init next comb) r → IsDemanded IsDemand holds s t problem old cells demand (λ p before now d. is_met p before now d) r
   unfolding IsDemanded IsGiven
   element_met element init next comb e is p before now read (defined def indexes) fit f a = is p before now read def indexes fit (as_written element init next comb e p def indexes now f) a
   element_met element init next comb e is p before now read (claimed body b) fit f a = absurd (other (sym e ∙ f))
@@ -174,7 +174,7 @@ module _ {S C : Type 0} (holds : S → C → (ℕ → Bool) → Bool) (s t : S) 
       other : {body : FlatExpr} {bindings : List Spot} → Defined element init next comb ≡ Holds body bindings → ⊥
       other e = cc
 
-  pub element_broken : (element : Element) (init next comb : Flat) → demand ≡ Defined element init next comb → IsMapBroken holds s t problem old cells (IsWritten element init next comb) r → IsDemanded IsTargetOf holds s t problem old cells demand (λ p before now d. is_broken p before now d) r
+  pub element_broken : (element : Element) (init next comb : DefBody) → demand ≡ Defined element init next comb → IsMapBroken holds s t problem old cells (IsWritten element init next comb) r → IsDemanded IsTargetOf holds s t problem old cells demand (λ p before now d. is_broken p before now d) r
   unfolding IsDemanded IsMapBroken
   element_broken element init next comb e is p before now read (defined def indexes) fit f a = is p before now read def indexes fit (as_written element init next comb e p def indexes now f) a
   element_broken element init next comb e is p before now read (claimed body b) fit f a = absurd (other (sym e ∙ f))
@@ -197,7 +197,7 @@ module _ {S C : Type 0} (holds : S → C → (ℕ → Bool) → Bool) (s t : S) 
   unfolding IsDemanded mix_at
   claim_met body bindings shown x e g is_yes truth p before now read (defined def indexes) fit f a = absurd (other (sym e ∙ f))
     where
-      other : {element : Element} {init next comb : Flat} → Holds body bindings ≡ Defined element init next comb → ⊥
+      other : {element : Element} {init next comb : DefBody} → Holds body bindings ≡ Defined element init next comb → ⊥
       other e = cc
   claim_met body bindings shown x e g is_yes truth p before now read (claimed other b) fit f a =
       ap (λ c. holds t c a) is_yes ∙ ap (λ (m : Mix). m.yes) (claim_truth body bindings shown x e g truth p now read.now other b fit f a)
@@ -224,7 +224,7 @@ pub claim_broken : {S C : Type 0} (holds : S → C → (ℕ → Bool) → Bool) 
 unfolding IsDemanded mix_at
 claim_broken holds s t u problem old cells demand r body bindings shown x e g truth made p before now read (defined def indexes) fit f a = absurd (other (sym e ∙ f))
   where
-    other : {element : Element} {init next comb : Flat} → Holds body bindings ≡ Defined element init next comb → ⊥
+    other : {element : Element} {init next comb : DefBody} → Holds body bindings ≡ Defined element init next comb → ⊥
     other e = cc
 claim_broken holds s t u problem old cells demand r body bindings shown x e g truth made p before now read (claimed other b) fit f a =
     let is = claim_truth holds s t problem old cells demand r body bindings shown x e g truth p now read.now other b fit f a in
@@ -299,7 +299,7 @@ module _ (c : Class) (cs all : List Class) (b : Bool) (whole : all ≡ c ∷ cs)
       tail : {x y : Class} {xs ys : List Class} → x ∷ xs ≡ y ∷ ys → xs ≡ ys
       tail e = cc
 
-pub map_at_rest : {S C : Type 0} (holds : S → C → (ℕ → Bool) → Bool) (s : S) (problem : Problem) (old : Option (List (Cell C))) (cells : List (Cell C)) (element : Element) (init next comb : Flat) (classes : List Class) (b : Bool) (r : C) → classes ≡ element.indexes → ((ps : List Place) → classes ≡ map written_class ps → b ≡ not (list_all is_named ps)) → b ≡ true →
+pub map_at_rest : {S C : Type 0} (holds : S → C → (ℕ → Bool) → Bool) (s : S) (problem : Problem) (old : Option (List (Cell C))) (cells : List (Cell C)) (element : Element) (init next comb : DefBody) (classes : List Class) (b : Bool) (r : C) → classes ≡ element.indexes → ((ps : List Place) → classes ≡ map written_class ps → b ≡ not (list_all is_named ps)) → b ≡ true →
     ((a : ℕ → Bool) → holds s r a ≡ true) → IsMapBroken holds s s problem old cells (IsWritten element init next comb) r
 unfolding IsMapBroken
 map_at_rest holds s problem old cells element init next comb classes b r e some yes_it always p before now read def indexes demand asked a =
@@ -309,7 +309,7 @@ all_named : {A : Type 0} {b : Bool} → false ≡ not b → (b ≡ true → A) �
 all_named {b = true} e h = h.0 refl
 all_named {b = false} e h = absurd (cc)
 
-pub map_given : {S C : Type 0} (holds : S → C → (ℕ → Bool) → Bool) (s t : S) (problem : Problem) (old : Option (List (Cell C))) (cells : List (Cell C)) (element : Element) (init next comb : Flat) (classes : List Class) (b : Bool) (r : C) → classes ≡ element.indexes → ((ps : List Place) → classes ≡ map written_class ps → b ≡ not (list_all is_named ps)) → b ≡ false →
+pub map_given : {S C : Type 0} (holds : S → C → (ℕ → Bool) → Bool) (s t : S) (problem : Problem) (old : Option (List (Cell C))) (cells : List (Cell C)) (element : Element) (init next comb : DefBody) (classes : List Class) (b : Bool) (r : C) → classes ≡ element.indexes → ((ps : List Place) → classes ≡ map written_class ps → b ≡ not (list_all is_named ps)) → b ≡ false →
     IsGiven holds s t problem old cells Must (IsWritten element init next comb) r → IsMapBroken holds s t problem old cells (IsWritten element init next comb) r
 unfolding IsMapBroken IsGiven
 map_given holds s t problem old cells element init next comb classes b r e some not_it is p before now read def indexes demand asked a =

@@ -2,7 +2,7 @@
 use Rattle.std.proofs.Common.{◌≡◌, ℕ, List, [], ◌∷◌, ◌++◌, map, length, Option, Some, None, Bool, refl, sym, ap, ◌∙◌, subst, arith}
 use Rattle.std.specs.Prelude.{IfSome}
 use Rattle.std.proofs.lemmas.List.{append-nil}
-use Rattle.smv_core.specs.declared.flat.Flat.{Flat}
+use Rattle.smv_core.specs.declared.flat.DefBody.{DefBody}
 use Rattle.law_obligations.specs.Gist.{Gist, nothing_alone, first_gist, first_all}
 use Rattle.smv_spots.specs.declared.spots.Spot.{Spot}
 use Rattle.smv_problem.specs.declared.problem.Problem.{Problem}
@@ -83,11 +83,11 @@ pub gists_added : {S C : Type 0} (IsMade : S → C → Type 0) (holds : S → C 
 gists_added IsMade holds room s t old new o k e m n = subst (AllGistsMade (IsMade t)) (sym e) (after_some (IsMade t) old o (all_kept IsMade holds room s t old k m) n)
 
 module _ {S C : Type 0} (holds : S → C → (ℕ → Bool) → Bool) (s : S) (problem : Problem) (cells : List (Cell C)) (t : Target C) (way : Way) where
-  pub gists_begin : (b : List Spot) (all rest : List Flat) (each : List (Gists C)) → rest ≡ all → each ≡ [] → AreGistsOf holds s s problem cells t way b all rest each
+  pub gists_begin : (b : List Spot) (all rest : List DefBody) (each : List (Gists C)) → rest ≡ all → each ≡ [] → AreGistsOf holds s s problem cells t way b all rest each
   unfolding AreGistsOf
   gists_begin b all rest each e d z aim a = ap (λ l. first_all (map (gist_at holds s a) l ++ map (gist_in way z a b) rest)) d ∙ ap (λ l. first_all (map (gist_in way z a b) l)) e
 
-  pub along_begins : (body : Flat) (all rest : List (List Spot)) (each : List (Gists C)) → rest ≡ all → each ≡ [] → AreGistsAlong holds s s problem cells t way body all rest each
+  pub along_begins : (body : DefBody) (all rest : List (List Spot)) (each : List (Gists C)) → rest ≡ all → each ≡ [] → AreGistsAlong holds s s problem cells t way body all rest each
   unfolding AreGistsAlong
   along_begins body all rest each e d z aim a = ap (λ l. first_all (map (gist_at holds s a) l ++ map (λ b. gist_in way z a b body) rest)) d ∙ ap (λ l. first_all (map (λ b. gist_in way z a b body) l)) e
 
@@ -96,13 +96,13 @@ module _ {S C : Type 0} (IsMade : S → C → Type 0) (holds : S → C → (ℕ 
   gists_same a [] m = refl
   gists_same a (g ∷ gs) m = ap (λ y. y ∷ map (gist_at holds t a) gs) (gist_kept IsMade holds room a s t g k m.0) ∙ ap (λ ys. gist_at holds s a g ∷ ys) (gists_same a gs m.1)
 
-  pub gists_go : (b : List Spot) (part : Flat) (all rest more : List Flat) (each longer : List (Gists C)) (o : Option (Gists C)) → rest ≡ part ∷ more → longer ≡ each ++ listed o → AllGistsMade (IsMade s) each → AreGistsOf holds start s problem cells x way b all rest each →
+  pub gists_go : (b : List Spot) (part : DefBody) (all rest more : List DefBody) (each longer : List (Gists C)) (o : Option (Gists C)) → rest ≡ part ∷ more → longer ≡ each ++ listed o → AllGistsMade (IsMade s) each → AreGistsOf holds start s problem cells x way b all rest each →
       IsPassedOf holds s t problem cells x (λ z a. gist_in way z a b part) o → AreGistsOf holds start t problem cells x way b all more longer
   unfolding AreGistsOf IsPassedOf
   gists_go b part all rest more each longer o e d m before here z aim a =
       one_more holds s t a (gist_in way z a b) each longer o part all rest more e d (gists_same a each m) (before z aim a) (here z (aim_on IsMade holds room start s problem cells x z before_it cells_made target_made aim) a)
 
-  pub along_goes : (body : Flat) (inner shown : List Spot) (all rest more : List (List Spot)) (each longer : List (Gists C)) (o : Option (Gists C)) → rest ≡ inner ∷ more → longer ≡ each ++ listed o → shown ≡ inner → AllGistsMade (IsMade s) each → AreGistsAlong holds start s problem cells x way body all rest each →
+  pub along_goes : (body : DefBody) (inner shown : List Spot) (all rest more : List (List Spot)) (each longer : List (Gists C)) (o : Option (Gists C)) → rest ≡ inner ∷ more → longer ≡ each ++ listed o → shown ≡ inner → AllGistsMade (IsMade s) each → AreGistsAlong holds start s problem cells x way body all rest each →
       IsPassedOf holds s t problem cells x (λ z a. gist_in way z a shown body) o → AreGistsAlong holds start t problem cells x way body all more longer
   unfolding AreGistsAlong IsPassedOf
   along_goes body inner shown all rest more each longer o e d f m before here z aim a =

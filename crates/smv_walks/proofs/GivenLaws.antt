@@ -2,7 +2,7 @@
 use Rattle.std.proofs.Common.{◌≡◌, ℕ, List, [], ◌∷◌, Option, Some, None, Bool, true, false, not, ◌&&◌, ◌||◌, refl, sym, ap, ◌∙◌, if◌then◌else◌}
 use Rattle.std.specs.List.{list_any, list_all}
 use Rattle.smv_core.specs.declared.flat.Def.{Def}
-use Rattle.smv_core.specs.declared.flat.Flat.{Flat}
+use Rattle.smv_core.specs.declared.flat.DefBody.{DefBody}
 use Rattle.law_obligations.specs.Places.{Place, same_place, is_named, is_among}
 use Rattle.law_obligations.specs.May.{AbsState}
 use Rattle.law_obligations.specs.Demands.{concerns_place, or_else, may_give, must_give, may_step, must_step}
@@ -34,7 +34,7 @@ passes-gist f b [] = refl
 passes-gist f b (None ∷ rs) = ap (λ c. b || c) (passes-gist f b rs) ∙ nothing_first b (gist_of f rs).given (gist_of f rs).nothing
 passes-gist f b (Some x ∷ rs) = ap (λ c. f x || c) (passes-gist f b rs) ∙ given_first (f x) (gist_of f rs).given (gist_of f rs).nothing b
 
-pub part-gist : (way : Way) (z : Aim) (a : ℕ → Bool) (part : Flat) (b : Bool) → gives_in way z a part b ≡ ((gist_in way z a [] part).given || ((gist_in way z a [] part).nothing && b))
+pub part-gist : (way : Way) (z : Aim) (a : ℕ → Bool) (part : DefBody) (b : Bool) → gives_in way z a part b ≡ ((gist_in way z a [] part).given || ((gist_in way z a [] part).nothing && b))
 unfolding gives_in gist_in
 part-gist way z a part b = passes-gist (asked way (z.value a)) b (results z.view.world z.view.kept (z.view.state a) z.indexes (λ p. is_among z.every p) (allowed way z a) part [])
 
@@ -96,7 +96,7 @@ possible-next Must z a def now e =
 
 -- ---- what Nothing stands for
 
-pub nothing-everything : (way : Way) (family : ℕ) (next : Flat) (z : Aim) (a : ℕ → Bool) → concerns_place next z.indexes ≡ false → asked way (z.value a) (λ p. is_among z.every p) ≡ nothing_in way family next z a
+pub nothing-everything : (way : Way) (family : ℕ) (next : DefBody) (z : Aim) (a : ℕ → Bool) → concerns_place next z.indexes ≡ false → asked way (z.value a) (λ p. is_among z.every p) ≡ nothing_in way family next z a
 unfolding nothing_in
 nothing-everything May family next z a e = ap (λ c. kept_after May c z.every (z.view.state a family z.indexes) (z.value a)) (sym e)
 nothing-everything Must family next z a e = ap (λ c. not (kept_after Must c z.every (z.view.state a family z.indexes) (z.value a))) (sym e)
@@ -109,7 +109,7 @@ named_alike q p = at (same_place q p) refl
     at true e = ap is_named (same_place-is q p e)
     at false e = refl
 
-pub nothing-kept : (way : Way) (family : ℕ) (next : Flat) (z : Aim) (a : ℕ → Bool) → concerns_place next z.indexes ≡ true → is_among z.every (z.view.state a family z.indexes) ≡ true → keeps_asked way z.every (Some (z.view.state a family z.indexes)) (z.value a) ≡ nothing_in way family next z a
+pub nothing-kept : (way : Way) (family : ℕ) (next : DefBody) (z : Aim) (a : ℕ → Bool) → concerns_place next z.indexes ≡ true → is_among z.every (z.view.state a family z.indexes) ≡ true → keeps_asked way z.every (Some (z.view.state a family z.indexes)) (z.value a) ≡ nothing_in way family next z a
 unfolding nothing_in
 nothing-kept May family next z a e there = ap (λ c. kept_after May c z.every (z.view.state a family z.indexes) (z.value a)) (sym e)
 nothing-kept Must family next z a e there =

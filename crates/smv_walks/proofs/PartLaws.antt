@@ -3,7 +3,7 @@ use Rattle.std.proofs.Common.{◌≡◌, ℕ, List, [], ◌∷◌, map, Option, 
 use Rattle.std.specs.Prelude.{IfSome}
 use Rattle.std.proofs.lemmas.List.{append-nil}
 use Rattle.smv_core.specs.declared.flat.Simple.{Simple}
-use Rattle.smv_core.specs.declared.flat.Flat.{Flat, Nothing, Assign, If, First, Forall}
+use Rattle.smv_core.specs.declared.flat.DefBody.{DefBody, Nothing, Assign, If, First, Forall}
 use Rattle.smv_core.specs.declared.flat.FlatExpr.{FlatExpr}
 use Rattle.law_obligations.specs.Places.{Place, World, is_among, places_in, bind_place}
 use Rattle.law_obligations.specs.May.{seen, may}
@@ -66,12 +66,12 @@ assigned_is way z view a b left value =
     sym (gist-assigned z.view.world z.view.kept (z.view.state a) z.indexes (λ p. is_among z.every p) (allowed way z a) (asked way (z.value a)) value bs (map (λ e. may z.view.world z.view.kept (z.view.state a) e bs) left)
     (left-there z.view.world z.view.kept (z.view.state a) z.indexes (λ p. is_among z.every p) (allowed way z a) (λ e c. view.filled a e c) left bs))
 
-pub assign_is : (way : Way) (z : Aim) (a : ℕ → Bool) (b : List Spot) (left shown : List FlatExpr) (value : FlatExpr) (place at : ℕ) (part : Flat) → part ≡ Assign left value place at → shown ≡ left → gist_assigned way z a b shown value ≡ gist_in way z a b part
+pub assign_is : (way : Way) (z : Aim) (a : ℕ → Bool) (b : List Spot) (left shown : List FlatExpr) (value : FlatExpr) (place at : ℕ) (part : DefBody) → part ≡ Assign left value place at → shown ≡ left → gist_assigned way z a b shown value ≡ gist_in way z a b part
 unfolding gist_in gist_assigned
 assign_is way z a b left shown value place at part e f = ap (λ l. gist_assigned way z a b l value) f ∙ ap (gist_in way z a b) (sym e)
 
 -- a conditional
-pub if_is : (way : Way) (z : Aim) → IsView z.view → (a : ℕ → Bool) (b : List Spot) (cond : FlatExpr) (above below : Flat) →
+pub if_is : (way : Way) (z : Aim) → IsView z.view → (a : ℕ → Bool) (b : List Spot) (cond : FlatExpr) (above below : DefBody) →
     if_gist (asked way (z.value a) (λ p. is_among z.every p)) (mix_in z.view a b cond) (gist_in way z a b above) (gist_in way z a b below) ≡ gist_in way z a b (If cond above below)
 unfolding gist_in mix_in outcomes
 if_is way z view a b cond above below =
@@ -82,18 +82,18 @@ if_is way z view a b cond above below =
     (results-there z.view.world z.view.kept (z.view.state a) z.indexes anything (allowed way z a) (λ e c. view.filled a e c) above bs) (results-there z.view.world z.view.kept (z.view.state a) z.indexes anything (allowed way z a) (λ e c. view.filled a e c) below bs))
 
 -- the first of several parts
-pub first_is : (way : Way) (z : Aim) → IsView z.view → (a : ℕ → Bool) (b : List Spot) (parts : List Flat) → first_all (map (gist_in way z a b) parts) ≡ gist_in way z a b (First parts)
+pub first_is : (way : Way) (z : Aim) → IsView z.view → (a : ℕ → Bool) (b : List Spot) (parts : List DefBody) → first_all (map (gist_in way z a b) parts) ≡ gist_in way z a b (First parts)
 unfolding gist_in
 first_is way z view a b parts =
     let bs : List Place = map (place_in z.view.world.classes) b in
     let anything : Place → Bool = λ p. is_among z.every p in
-    let part_results : Flat → List (Option (Place → Bool)) = λ part. results z.view.world z.view.kept (z.view.state a) z.indexes anything (allowed way z a) part bs in
+    let part_results : DefBody → List (Option (Place → Bool)) = λ part. results z.view.world z.view.kept (z.view.state a) z.indexes anything (allowed way z a) part bs in
     sym (ap (gist_of (asked way (z.value a))) (results-First z.view.world z.view.kept (z.view.state a) z.indexes anything (allowed way z a) parts bs)
     ∙ (gist-first anything (asked way (z.value a)) (map part_results parts) (all-there z.view.world z.view.kept (z.view.state a) z.indexes anything (allowed way z a) (λ e c. view.filled a e c) parts bs)
     ∙ ap first_all (map-map (gist_of (asked way (z.value a))) part_results parts)))
 
 -- a part at each place of a variable
-pub forall_is : (way : Way) (z : Aim) → IsView z.view → (a : ℕ → Bool) (b : List Spot) (var : ℕ) (over : Simple) (body : Flat) (inners : List (List Spot)) →
+pub forall_is : (way : Way) (z : Aim) → IsView z.view → (a : ℕ → Bool) (b : List Spot) (var : ℕ) (over : Simple) (body : DefBody) (inners : List (List Spot)) →
     map (map (place_in z.view.world.classes)) inners ≡ map (bind_place (map (place_in z.view.world.classes) b) var) (places_in z.view.world over) → first_all (map (λ c. gist_in way z a c body) inners) ≡ gist_in way z a b (Forall var over body)
 unfolding gist_in
 forall_is way z view a b var over body inners bound =
@@ -132,11 +132,11 @@ unfolding mix_in outcomes
 condition_filled v view a b cond = filled seen (may v.world v.kept (v.state a) cond (map (place_in v.world.classes) b)) ∙ view.filled a cond (map (place_in v.world.classes) b)
 
 module _ {S C : Type 0} (holds : S → C → (ℕ → Bool) → Bool) (problem : Problem) (cells : List (Cell C)) (t : Target C) (way : Way) (b : List Spot) where
-  pub Nothing_of_it : (s0 s1 : S) (part : Flat) → part ≡ Nothing → IsPassedOf holds s0 s1 problem cells t (λ z a. gist_in way z a b part) None
+  pub Nothing_of_it : (s0 s1 : S) (part : DefBody) → part ≡ Nothing → IsPassedOf holds s0 s1 problem cells t (λ z a. gist_in way z a b part) None
   unfolding IsPassedOf
   Nothing_of_it s0 s1 part e z aim a = nothing_is way z a b ∙ ap (gist_in way z a b) (sym e)
 
-  pub Assign_elsewhere : (s0 s1 : S) (left shown : List FlatExpr) (value : FlatExpr) (place at : ℕ) (part : Flat) (indexes : List Spot) (known : Bool) → part ≡ Assign left value place at → shown ≡ left → indexes ≡ t.indexes →
+  pub Assign_elsewhere : (s0 s1 : S) (left shown : List FlatExpr) (value : FlatExpr) (place at : ℕ) (part : DefBody) (indexes : List Spot) (known : Bool) → part ≡ Assign left value place at → shown ≡ left → indexes ≡ t.indexes →
       ((w : World) → IsWorldOf problem w → known ≡ is_elsewhere w (map (place_in w.classes) indexes) shown (map (place_in w.classes) b)) → known ≡ true → IsPassedOf holds s0 s1 problem cells t (λ z a. gist_in way z a b part) None
   unfolding IsPassedOf
   Assign_elsewhere s0 s1 left shown value place at part indexes known e f same is so z aim a =
@@ -144,11 +144,11 @@ module _ {S C : Type 0} (holds : S → C → (ℕ → Bool) → Bool) (problem :
       elsewhere_is way z aim.seen.view a b shown value (ap (λ qs. is_elsewhere z.view.world qs shown bs) (sym (ap (map (place_in z.view.world.classes)) same ∙ aim.target.indexes)) ∙ (sym (is z.view.world aim.seen.world) ∙ so))
       ∙ assign_is way z a b left shown value place at part e f
 
-  pub Assign_of_it : (s0 s1 : S) (left shown : List FlatExpr) (value : FlatExpr) (place at : ℕ) (part : Flat) (g : Gists C) → part ≡ Assign left value place at → shown ≡ left → IsGistsOf holds s0 s1 problem cells t (λ z a. gist_assigned way z a b shown value) g → IsPassedOf holds s0 s1 problem cells t (λ z a. gist_in way z a b part) (Some g)
+  pub Assign_of_it : (s0 s1 : S) (left shown : List FlatExpr) (value : FlatExpr) (place at : ℕ) (part : DefBody) (g : Gists C) → part ≡ Assign left value place at → shown ≡ left → IsGistsOf holds s0 s1 problem cells t (λ z a. gist_assigned way z a b shown value) g → IsPassedOf holds s0 s1 problem cells t (λ z a. gist_in way z a b part) (Some g)
   unfolding IsGistsOf IsPassedOf
   Assign_of_it s0 s1 left shown value place at part g e f h z aim a = h z aim a ∙ assign_is way z a b left shown value place at part e f
 
-  pub First_of_it : (s0 s1 s2 : S) (parts shown : List Flat) (part : Flat) (each each' : List (Gists C)) (o : Option (Gists C)) → part ≡ First parts → shown ≡ parts → each' ≡ each → AreGistsOf holds s0 s1 problem cells t way b shown [] each →
+  pub First_of_it : (s0 s1 s2 : S) (parts shown : List DefBody) (part : DefBody) (each each' : List (Gists C)) (o : Option (Gists C)) → part ≡ First parts → shown ≡ parts → each' ≡ each → AreGistsOf holds s0 s1 problem cells t way b shown [] each →
       ((a : ℕ → Bool) → gist_or_nothing holds s2 a o ≡ first_all (map (gist_at holds s1 a) each')) → IsPassedOf holds s0 s2 problem cells t (λ z a. gist_in way z a b part) o
   unfolding IsPassedOf AreGistsOf
   First_of_it s0 s1 s2 parts shown part each each' o e f d are made z aim a =
@@ -156,13 +156,13 @@ module _ {S C : Type 0} (holds : S → C → (ℕ → Bool) → Bool) (problem :
       ∙ (ap (λ l. first_all (map (gist_at holds s1 a) l)) d ∙ (ap first_all (sym (append-nil (map (gist_at holds s1 a) each))) ∙ (are z aim a ∙ ap (λ l. first_all (map (gist_in way z a b) l)) f))
       ∙ (first_is way z aim.seen.view a b parts ∙ ap (gist_in way z a b) (sym e)))
 
-  pub Forall_of_it : (s0 s1 s2 : S) (var : ℕ) (over : Simple) (body shown part : Flat) (inners inners' : List (List Spot)) (each each' : List (Gists C)) (o : Option (Gists C)) → part ≡ Forall var over body → shown ≡ body → inners' ≡ inners → each' ≡ each →
+  pub Forall_of_it : (s0 s1 s2 : S) (var : ℕ) (over : Simple) (body shown part : DefBody) (inners inners' : List (List Spot)) (each each' : List (Gists C)) (o : Option (Gists C)) → part ≡ Forall var over body → shown ≡ body → inners' ≡ inners → each' ≡ each →
       ((z : Aim) → IsAim holds s0 problem cells t z → map (map (place_in z.view.world.classes)) inners ≡ map (bind_place (map (place_in z.view.world.classes) b) var) (places_in z.view.world over)) → AreGistsAlong holds s0 s1 problem cells t way shown inners' [] each →
       ((a : ℕ → Bool) → gist_or_nothing holds s2 a o ≡ first_all (map (gist_at holds s1 a) each')) → IsPassedOf holds s0 s2 problem cells t (λ z a. gist_in way z a b part) o
   unfolding IsPassedOf AreGistsAlong
   Forall_of_it s0 s1 s2 var over body shown part inners inners' each each' o e f i d bound are made z aim a =
       made a
-      ∙ (ap (λ l. first_all (map (gist_at holds s1 a) l)) d ∙ (ap first_all (sym (append-nil (map (gist_at holds s1 a) each))) ∙ (are z aim a ∙ (ap (λ l. first_all (map (λ c. gist_in way z a c shown) l)) i ∙ ap (λ (p : Flat). first_all (map (λ c. gist_in way z a c p) inners)) f)))
+      ∙ (ap (λ l. first_all (map (gist_at holds s1 a) l)) d ∙ (ap first_all (sym (append-nil (map (gist_at holds s1 a) each))) ∙ (are z aim a ∙ (ap (λ l. first_all (map (λ c. gist_in way z a c shown) l)) i ∙ ap (λ (p : DefBody). first_all (map (λ c. gist_in way z a c p) inners)) f)))
       ∙ (forall_is way z aim.seen.view a b var over body inners (bound z aim) ∙ ap (gist_in way z a b) (sym e)))
 
   pub taken_none : (s0 s1 : S) (cond : FlatExpr) (g h : Option (Gists C)) (both : Bool) → both ≡ (is_none g && is_none h) → both ≡ true → IsTaken holds s0 s1 problem cells t way b cond g h None
@@ -171,7 +171,7 @@ module _ {S C : Type 0} (holds : S → C → (ℕ → Bool) → Bool) (problem :
   taken_none s0 s1 cond (Some g) h both e f z aim a = absurd (cc)
   taken_none s0 s1 cond None (Some h) both e f z aim a = absurd (cc)
 
-  pub whole_of_it : (s0 s1 : S) (part : Flat) (o : Option (Gists C)) (g : Gists C) → IsPassedOf holds s0 s1 problem cells t (λ z a. gist_in way z a b part) o → ((a : ℕ → Bool) → gist_at holds s1 a g ≡ gist_or_nothing holds s1 a o) → IsGistsOf holds s0 s1 problem cells t (λ z a. gist_in way z a b part) g
+  pub whole_of_it : (s0 s1 : S) (part : DefBody) (o : Option (Gists C)) (g : Gists C) → IsPassedOf holds s0 s1 problem cells t (λ z a. gist_in way z a b part) o → ((a : ℕ → Bool) → gist_at holds s1 a g ≡ gist_or_nothing holds s1 a o) → IsGistsOf holds s0 s1 problem cells t (λ z a. gist_in way z a b part) g
   unfolding IsPassedOf IsGistsOf
   whole_of_it s0 s1 part o g is made z aim a = made a ∙ is z aim a
 
@@ -217,7 +217,7 @@ module _ {S C : Type 0} (IsMade : S → C → Type 0) (holds : S → C → (ℕ 
       ∙ ap (if_gist all (mix_in z.view a b cond) (gist_or_nothing holds s0 a g)) (gist_kept IsMade holds room a s0 s1 below k01 below_made ∙ is_below a)))))
 
   pub If_of_it : (s0 s1 s2 s3 : S) → KeepsConditions IsMade holds room s0 s1 → KeepsConditions IsMade holds room s1 s2 → AreCellsMade (IsMade s0) cells → IsTargetMade (IsMade s0) t →
-      (cond : FlatExpr) (above below left right part : Flat) (g h k : Option (Gists C)) → part ≡ If cond above below → left ≡ above → right ≡ below → IfSome g (λ g. AreGistsMade (IsMade s1) g) →
+      (cond : FlatExpr) (above below left right part : DefBody) (g h k : Option (Gists C)) → part ≡ If cond above below → left ≡ above → right ≡ below → IfSome g (λ g. AreGistsMade (IsMade s1) g) →
       IsPassedOf holds s0 s1 problem cells t (λ z a. gist_in way z a b left) g → IsPassedOf holds s1 s2 problem cells t (λ z a. gist_in way z a b right) h → IsTaken holds s2 s3 problem cells t way b cond g h k → IsPassedOf holds s0 s3 problem cells t (λ z a. gist_in way z a b part) k
   unfolding IsPassedOf IsTaken
   If_of_it s0 s1 s2 s3 k01 k12 cells_made target_made cond above below left right part g h k e f d g_made are_g are_h took z aim a =

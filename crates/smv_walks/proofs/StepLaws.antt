@@ -1,7 +1,7 @@
 -- What conditions say of the parts of a definition.
 use Rattle.std.proofs.Common.{◌≡◌, ℕ, List, [], map, slice_get, Option, Some, Bool, true, false, not, ◌&&◌, ◌||◌, sym, ap, ◌∙◌}
 use Rattle.smv_core.specs.declared.flat.Family.{Family}
-use Rattle.smv_core.specs.declared.flat.Flat.{Flat}
+use Rattle.smv_core.specs.declared.flat.DefBody.{DefBody}
 use Rattle.law_obligations.specs.Places.{is_among, AbsOutcome}
 use Rattle.law_obligations.specs.Demands.{concerns_place, places_of_family}
 use Rattle.smv_spots.specs.declared.spots.Spot.{Spot}
@@ -48,7 +48,7 @@ module _ {S C : Type 0} (holds : S → C → (ℕ → Bool) → Bool) where
       opposite a ∙ (ap not (given_passes s0 t Surely z h a u before any (holds s1 c a) (some z w a) ∙ given_means holds s0 t z h a Surely u) ∙ ap (λ way. keeps_asked way z.every u (z.value a)) (sym e))
 
   -- everything, where no assignment concerns the element
-  pub nothing_open : (s : S) (problem : Problem) (cells : List (Cell C)) (t : Target C) (way : Way) (family : ℕ) (next : Flat) (indexes : List Spot) (b : Bool) (r : C) → indexes ≡ t.indexes → ((z : Aim) → b ≡ concerns_place next (map (place_in z.view.world.classes) indexes)) → b ≡ false → r ≡ everything_of t way →
+  pub nothing_open : (s : S) (problem : Problem) (cells : List (Cell C)) (t : Target C) (way : Way) (family : ℕ) (next : DefBody) (indexes : List Spot) (b : Bool) (r : C) → indexes ≡ t.indexes → ((z : Aim) → b ≡ concerns_place next (map (place_in z.view.world.classes) indexes)) → b ≡ false → r ≡ everything_of t way →
       IsSoOf holds s s problem cells t family (nothing_in way family next) r
   unfolding IsSoOf
   nothing_open s problem cells t way family next indexes b r e concerned not_it is z aim element every a =
@@ -58,7 +58,7 @@ module _ {S C : Type 0} (holds : S → C → (ℕ → Bool) → Bool) where
 
 module _ {S C : Type 0} (IsMade : S → C → Type 0) (holds : S → C → (ℕ → Bool) → Bool) (room : S → ℕ) where
   -- a part's gist, and what Nothing stands for
-  pub part_gives_it : (s0 s1 s2 s3 : S) → KeepsConditions IsMade holds room s0 s1 → KeepsConditions IsMade holds room s1 s2 → (problem : Problem) (cells : List (Cell C)) (t : Target C) (way : Way) (part : Flat) (b : List Spot) (nothing kept r : C) (g : Gists C) → b ≡ [] → IsMade s0 nothing → AreGistsMade (IsMade s1) g →
+  pub part_gives_it : (s0 s1 s2 s3 : S) → KeepsConditions IsMade holds room s0 s1 → KeepsConditions IsMade holds room s1 s2 → (problem : Problem) (cells : List (Cell C)) (t : Target C) (way : Way) (part : DefBody) (b : List Spot) (nothing kept r : C) (g : Gists C) → b ≡ [] → IsMade s0 nothing → AreGistsMade (IsMade s1) g →
       IsGistsOf holds s0 s1 problem cells t (λ z a. gist_in way z a b part) g → ((a : ℕ → Bool) → holds s2 kept a ≡ (holds s1 g.nothing a && holds s1 nothing a)) → ((a : ℕ → Bool) → holds s3 r a ≡ (holds s2 g.given a || holds s2 kept a)) →
       IsSo holds s0 s3 problem cells t (λ z a. gives_in way z a part (holds s0 nothing a)) r
   unfolding IsSo IsGistsOf gist_at
@@ -70,7 +70,7 @@ module _ {S C : Type 0} (IsMade : S → C → Type 0) (holds : S → C → (ℕ 
       ∙ sym (part-gist way z a part (holds s0 nothing a))))
 
   -- the value before, where some does
-  pub nothing_before : (s0 s1 s2 : S) → KeepsConditions IsMade holds room s0 s1 → (problem : Problem) (cells : List (Cell C)) → AreCellsMade (IsMade s0) cells → (t : Target C) → IsTargetMade (IsMade s0) t → (way : Way) (family : ℕ) (next : Flat) (indexes every every' : List Spot) (before before' : List (Offer C)) (b : Bool) (r : C) →
+  pub nothing_before : (s0 s1 s2 : S) → KeepsConditions IsMade holds room s0 s1 → (problem : Problem) (cells : List (Cell C)) → AreCellsMade (IsMade s0) cells → (t : Target C) → IsTargetMade (IsMade s0) t → (way : Way) (family : ℕ) (next : DefBody) (indexes every every' : List Spot) (before before' : List (Offer C)) (b : Bool) (r : C) →
       indexes ≡ t.indexes → every' ≡ every → before' ≡ before → ((z : Aim) → b ≡ concerns_place next (map (place_in z.view.world.classes) indexes)) → b ≡ true →
       ((z : Aim) → IsWorldOf problem z.view.world → map (place_in z.view.world.classes) every ≡ places_of_family z.view.world z.view.kept (slice_get z.view.world.classes.families family)) →
       ((z : Aim) → IsWorldOf problem z.view.world → (p : AbsOutcome → Bool) (a : ℕ → Bool) → any_offer z.view.world.classes holds s1 a p before ≡ cell_any z.view.world.classes holds s0 a p family (map (place_in z.view.world.classes) indexes) (map (place_in z.view.world.classes) every') cells) →
@@ -90,12 +90,12 @@ module _ {S C : Type 0} (IsMade : S → C → Type 0) (holds : S → C → (ℕ 
       ∙ nothing-kept way family next z a (ap (concerns_place next) (sym (ap (map (place_in n)) e ∙ aim.target.indexes)) ∙ (sym (concerned z) ∙ yes_it)) (ap (λ l. is_among l (z.view.state a family z.indexes)) is_every ∙ element.of_type a)
 
   -- `next`, by what Nothing stands for
-  pub next_gives_it : (s0 s1 s2 : S) → KeepsConditions IsMade holds room s0 s1 → (problem : Problem) (cells : List (Cell C)) → AreCellsMade (IsMade s0) cells → (t : Target C) → IsTargetMade (IsMade s0) t → (way : Way) (family : ℕ) (next : Flat) (nothing r : C) →
+  pub next_gives_it : (s0 s1 s2 : S) → KeepsConditions IsMade holds room s0 s1 → (problem : Problem) (cells : List (Cell C)) → AreCellsMade (IsMade s0) cells → (t : Target C) → IsTargetMade (IsMade s0) t → (way : Way) (family : ℕ) (next : DefBody) (nothing r : C) →
       IsSoOf holds s0 s1 problem cells t family (nothing_in way family next) nothing → IsSo holds s1 s2 problem cells t (λ z a. gives_in way z a next (holds s1 nothing a)) r → IsSoOf holds s0 s2 problem cells t family (next_in way family next) r
   unfolding IsSoOf IsSo next_in
   next_gives_it s0 s1 s2 k problem cells cells_made t target_made way family next nothing r anything part z aim element is_every a =
       part z (aim_on IsMade holds room s0 s1 problem cells t z k cells_made target_made aim) a ∙ ap (gives_in way z a next) (anything z aim element is_every a)
 
-pub now_gives_it : {S C : Type 0} (holds : S → C → (ℕ → Bool) → Bool) (s0 s1 : S) (problem : Problem) (cells : List (Cell C)) (t : Target C) (way : Way) (part : Flat) (anything r : C) → anything ≡ everything_of t way → IsSo holds s0 s1 problem cells t (λ z a. gives_in way z a part (holds s0 anything a)) r → IsSo holds s0 s1 problem cells t (now_in way part) r
+pub now_gives_it : {S C : Type 0} (holds : S → C → (ℕ → Bool) → Bool) (s0 s1 : S) (problem : Problem) (cells : List (Cell C)) (t : Target C) (way : Way) (part : DefBody) (anything r : C) → anything ≡ everything_of t way → IsSo holds s0 s1 problem cells t (λ z a. gives_in way z a part (holds s0 anything a)) r → IsSo holds s0 s1 problem cells t (now_in way part) r
 unfolding IsSo now_in
 now_gives_it holds s0 s1 problem cells t way part anything r e h z aim a = h z aim a ∙ ap (gives_in way z a part) (ap (λ c. holds s0 c a) e ∙ everything_passes holds s0 t way z aim.target a)

@@ -8,7 +8,7 @@ use Rattle.law_obligations.specs.Places.{Place, World, AbsOutcome, is_named, is_
 use Rattle.law_obligations.specs.May.{AbsState}
 use Rattle.law_obligations.specs.Right.{is_outside}
 use Rattle.law_obligations.specs.Demands.{places_of_family, may_equal}
-use Rattle.law_obligations.specs.Obligations.{Problem as Case, Demanded, defined, holds}
+use Rattle.law_obligations.specs.Obligations.{AbstractProblem as Case, Demanded, defined, holds}
 use Rattle.law_obligations.specs.Soundness.{over_of}
 use Rattle.law_obligations.specs.Covers.{IsIndexType, AreApart}
 use Rattle.smv_spots.specs.declared.spots.Spot.{Spot}

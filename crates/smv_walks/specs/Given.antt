@@ -3,13 +3,13 @@ use Rattle.std.specs.Prelude.{◌≡◌, ℕ, List, [], map, slice_get, Option, 
 use Rattle.std.specs.List.{list_any}
 use Rattle.smv_core.specs.declared.flat.Def.{Def}
 use Rattle.smv_core.specs.declared.flat.Element.{Element}
-use Rattle.smv_core.specs.declared.flat.Flat.{Flat}
+use Rattle.smv_core.specs.declared.flat.DefBody.{DefBody}
 use Rattle.law_obligations.specs.Places.{Place, World, same_place, is_named, is_among, AbsOutcome}
 use Rattle.law_obligations.specs.May.{AbsState, Kept}
 use Rattle.law_obligations.specs.Right.{gives_surely}
 use Rattle.law_obligations.specs.Results.{results}
 use Rattle.law_obligations.specs.Demands.{concerns_place, may_be, must_be, places_of_family, is_broken_map}
-use Rattle.law_obligations.specs.Obligations.{Problem as Case, defined}
+use Rattle.law_obligations.specs.Obligations.{AbstractProblem as Case, defined}
 use Rattle.smv_problem.specs.declared.problem.Problem.{Problem}
 use Rattle.smv_problem.specs.Written.{written_class}
 use Rattle.smv_cells.specs.declared.cells.Cell.{Cell}
@@ -32,7 +32,7 @@ abbrev pub aim_at : View → ℕ → List Place → ((ℕ → Bool) → Place) �
 aim_at v family ps value = record { view = v; indexes = ps; every = places_of_family v.world v.kept (slice_get v.world.classes.families family); value = value }
 
 -- some possible result of a part passes what is asked, where Nothing does so by `b`
-unfoldable pub gives_in : Way → Aim → (ℕ → Bool) → Flat → Bool → Bool
+unfoldable pub gives_in : Way → Aim → (ℕ → Bool) → DefBody → Bool → Bool
 gives_in way z a part b = list_any (passes_or (asked way (z.value a)) b) (results z.view.world z.view.kept (z.view.state a) z.indexes (λ p. is_among z.every p) (allowed way z a) part [])
 
 -- an outcome as the value before passes
@@ -46,14 +46,14 @@ kept_after May concerned every q p = if concerned then same_place q p else is_am
 kept_after Must concerned every q p = if concerned then same_place q p && is_named p else is_among every p
 
 -- it passes; the view is that of the state before
-unfoldable pub nothing_in : Way → ℕ → Flat → Aim → (ℕ → Bool) → Bool
+unfoldable pub nothing_in : Way → ℕ → DefBody → Aim → (ℕ → Bool) → Bool
 nothing_in way family next z a = asked way (z.value a) (kept_after way (concerns_place next z.indexes) z.every (z.view.state a family z.indexes))
 
 -- some possible result of `next` passes after the state before, and one of another part in the state now
-unfoldable pub next_in : Way → ℕ → Flat → Aim → (ℕ → Bool) → Bool
+unfoldable pub next_in : Way → ℕ → DefBody → Aim → (ℕ → Bool) → Bool
 next_in way family next z a = gives_in way z a next (nothing_in way family next z a)
 
-unfoldable pub now_in : Way → Flat → Aim → (ℕ → Bool) → Bool
+unfoldable pub now_in : Way → DefBody → Aim → (ℕ → Bool) → Bool
 now_in way part z a = gives_in way z a part (asked way (z.value a) (λ p. is_among z.every p))
 
 -- the definition of an element may allow the place, or doesn't allow it for certain
@@ -62,7 +62,7 @@ possible May w kept def indexes every before now p = may_be w kept def indexes e
 possible Must w kept def indexes every before now p = not (must_be w kept def indexes every before now p)
 
 -- a definition of this family with these parts
-pub record IsDefinition (of_family : ℕ) (first later always : Flat) (def : Def) : Type 0 where
+pub record IsDefinition (of_family : ℕ) (first later always : DefBody) (def : Def) : Type 0 where
   pub family : def.family ≡ of_family
   pub init : def.init ≡ first
   pub next : def.next ≡ later
@@ -84,11 +84,11 @@ module _ {S C : Type 0} (holds : S → C → (ℕ → Bool) → Bool) (start s :
       (a : ℕ → Bool) → holds s r a ≡ possible way p.world p.kept def indexes (places_of_family p.world p.kept (slice_get p.world.classes.families def.family)) (at_before before a) (now a) (now a def.family indexes)
 
 -- the element and the value are those of a target, or the element is written so
-pub record IsTargets {S C : Type 0} (holds : S → C → (ℕ → Bool) → Bool) (start : S) (t : Target C) (family : ℕ) (init next comb : Flat) (p : Case) (def : Def) (indexes : List Place) (now : (ℕ → Bool) → AbsState) (value : (ℕ → Bool) → Place) : Type 0 where
+pub record IsTargets {S C : Type 0} (holds : S → C → (ℕ → Bool) → Bool) (start : S) (t : Target C) (family : ℕ) (init next comb : DefBody) (p : Case) (def : Def) (indexes : List Place) (now : (ℕ → Bool) → AbsState) (value : (ℕ → Bool) → Place) : Type 0 where
   pub definition : IsDefinition family init next comb def
   pub target : IsTarget holds start t (aim_at (view_of p now) def.family indexes value)
 
-abbrev pub IsWritten : Element → Flat → Flat → Flat → Case → Def → List Place → ((ℕ → Bool) → AbsState) → Type 0
+abbrev pub IsWritten : Element → DefBody → DefBody → DefBody → Case → Def → List Place → ((ℕ → Bool) → AbsState) → Type 0
 IsWritten element init next comb p def indexes now = IsDefinition element.family init next comb def × (element.indexes ≡ map written_class indexes)
 
 -- a condition, made later, holds where the refinement map of an element of a case that is written so is broken

@@ -1,6 +1,6 @@
 -- What is asked of the possible results of a definition.
 use Rattle.std.specs.Prelude.{◌≡◌, ℕ, List, ◌++◌, map, Option, Bool, not}
-use Rattle.smv_core.specs.declared.flat.Flat.{Flat}
+use Rattle.smv_core.specs.declared.flat.DefBody.{DefBody}
 use Rattle.smv_core.specs.declared.flat.FlatExpr.{FlatExpr}
 use Rattle.law_obligations.specs.Sets.{one_of_each}
 use Rattle.law_obligations.specs.Places.{Place, is_among}
@@ -40,10 +40,10 @@ unfoldable pub right_of : Way → List Spot → FlatExpr → Aim → (ℕ → Bo
 right_of way b value z a = asked way (z.value a) (allowed way z a value (map (place_in z.view.world.classes) b))
 
 -- the gist of the possible results of a part for the element, its variables at these places, and at these spots
-abbrev pub gist_over : Way → Aim → (ℕ → Bool) → List Place → Flat → Gist
+abbrev pub gist_over : Way → Aim → (ℕ → Bool) → List Place → DefBody → Gist
 gist_over way z a b part = gist_of (asked way (z.value a)) (results z.view.world z.view.kept (z.view.state a) z.indexes (λ p. is_among z.every p) (allowed way z a) part b)
 
-unfoldable pub gist_in : Way → Aim → (ℕ → Bool) → List Spot → Flat → Gist
+unfoldable pub gist_in : Way → Aim → (ℕ → Bool) → List Spot → DefBody → Gist
 gist_in way z a b part = gist_over way z a (map (place_in z.view.world.classes) b) part
 
 -- that of an assignment with this left side
@@ -65,9 +65,9 @@ module _ {S C : Type 0} (holds : S → C → (ℕ → Bool) → Bool) (start s :
   IsTaken way b cond g h k = IsPassedOf (λ z a. if_gist (asked way (z.value a) (λ p. is_among z.every p)) (mix_in z.view a b cond) (gist_or_nothing holds start a g) (gist_or_nothing holds start a h)) k
 
   -- the first of those of each of these parts, of which the last are still to come
-  unfoldable pub AreGistsOf : Way → List Spot → List Flat → List Flat → List (Gists C) → Type 0
+  unfoldable pub AreGistsOf : Way → List Spot → List DefBody → List DefBody → List (Gists C) → Type 0
   AreGistsOf way b all rest each = (z : Aim) → IsAim holds start problem cells t z → (a : ℕ → Bool) → first_all (map (gist_at holds s a) each ++ map (gist_in way z a b) rest) ≡ first_all (map (gist_in way z a b) all)
 
   -- those of a part under each of these bindings
-  unfoldable pub AreGistsAlong : Way → Flat → List (List Spot) → List (List Spot) → List (Gists C) → Type 0
+  unfoldable pub AreGistsAlong : Way → DefBody → List (List Spot) → List (List Spot) → List (Gists C) → Type 0
   AreGistsAlong way body all rest each = (z : Aim) → IsAim holds start problem cells t z → (a : ℕ → Bool) → first_all (map (gist_at holds s a) each ++ map (λ b. gist_in way z a b body) rest) ≡ first_all (map (λ b. gist_in way z a b body) all)

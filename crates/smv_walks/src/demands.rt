@@ -3,7 +3,7 @@ ghost use Rattle.std.specs.Prelude.{◌≡◌, ℕ, List, Bool, IfOk, not, map, 
 ghost use Rattle.std.specs.List.{list_all};
 ghost use Rattle.law_obligations.specs.Places.{Place, World, is_named};
 ghost use Rattle.law_obligations.specs.May.{AbsState};
-ghost use Rattle.law_obligations.specs.Obligations.{Problem as Case, is_met, is_broken};
+ghost use Rattle.law_obligations.specs.Obligations.{AbstractProblem as Case, is_met, is_broken};
 ghost use Rattle.law_obligations.specs.Obligations as spec;
 ghost use Rattle.smv_problem.specs.Written.{written_class};
 ghost use Rattle.smv_spots.specs.Spots.{place_in, outcome_in};
@@ -22,7 +22,7 @@ use smv_cells::Cell;
 use smv_conditions::chances::Chances;
 use smv_conditions::conditions::Conditions;
 use smv_conditions::offers::Offer;
-use smv_core::flat::{Class, Element, Flat, Guard, Simple};
+use smv_core::flat::{Class, Element, DefBody, Guard, Simple};
 use smv_problem::{Demand, Problem};
 use smv_problem_spots::answers::equal;
 use smv_problem_spots::places::is_in_type;
@@ -114,9 +114,9 @@ fn map_broken<'a, S: Conditions>(
     cells: &[Cell<S::Condition>],
     known: &mut Known<'a, Chances<S::Condition>>,
     element: &Element,
-    init: &'a Flat,
-    next: &'a Flat,
-    comb: &'a Flat,
+    init: &'a DefBody,
+    next: &'a DefBody,
+    comb: &'a DefBody,
 ) -> Result<S::Condition, AllocError>
     requires cells_made { AreCellsMade (S.IsMade s.old) cells.now }
     requires known { AreKnown S.IsMade S.holds s.old problem.now cells.now known.old.entries.items }

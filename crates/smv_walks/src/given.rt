@@ -15,7 +15,7 @@ use smv_cells::Cell;
 use smv_conditions::chances::Chances;
 use smv_conditions::conditions::Conditions;
 use smv_conditions::offers::Offer;
-use smv_core::flat::{Element, Flat};
+use smv_core::flat::{Element, DefBody};
 use smv_problem::Problem;
 use smv_sides::expressions::Known;
 use smv_targets::{Sense, Target, places_for, some_given, target_of, value_of};
@@ -32,7 +32,7 @@ fn part_gives<'a, S: Conditions>(
     known: &mut Known<'a, Chances<S::Condition>>,
     target: &Target<S::Condition>,
     way: Way,
-    part: &'a Flat,
+    part: &'a DefBody,
     nothing: S::Condition,
 ) -> Result<S::Condition, AllocError>
     requires cells_made { AreCellsMade (S.IsMade s.old) cells.now }
@@ -89,7 +89,7 @@ fn nothing_passes<S: Conditions>(
     target: &Target<S::Condition>,
     way: Way,
     family: u16,
-    next: &Flat,
+    next: &DefBody,
 ) -> Result<S::Condition, AllocError>
     requires old_made { AreCellsMade (S.IsMade s.old) old.now }
     requires target_made { IsTargetMade (S.IsMade s.old) target.now }
@@ -119,7 +119,7 @@ fn next_gives<'a, S: Conditions>(
     target: &Target<S::Condition>,
     way: Way,
     family: u16,
-    next: &'a Flat,
+    next: &'a DefBody,
 ) -> Result<S::Condition, AllocError>
     requires old_made { AreCellsMade (S.IsMade s.old) old.now }
     requires known { AreKnown S.IsMade S.holds s.old problem.now old.now known.old.entries.items }
@@ -143,7 +143,7 @@ fn now_gives<'a, S: Conditions>(
     known: &mut Known<'a, Chances<S::Condition>>,
     target: &Target<S::Condition>,
     way: Way,
-    part: &'a Flat,
+    part: &'a DefBody,
 ) -> Result<S::Condition, AllocError>
     requires cells_made { AreCellsMade (S.IsMade s.old) cells.now }
     requires known { AreKnown S.IsMade S.holds s.old problem.now cells.now known.old.entries.items }
@@ -170,9 +170,9 @@ pub fn target_gives<'a, S: Conditions>(
     target: &Target<S::Condition>,
     way: Way,
     family: u16,
-    init: &'a Flat,
-    next: &'a Flat,
-    comb: &'a Flat,
+    init: &'a DefBody,
+    next: &'a DefBody,
+    comb: &'a DefBody,
 ) -> Result<S::Condition, AllocError>
     requires cells_made { AreCellsMade (S.IsMade s.old) cells.now }
     requires known { AreKnown S.IsMade S.holds s.old problem.now cells.now known.old.entries.items }
@@ -212,9 +212,9 @@ pub fn element_gives<'a, S: Conditions>(
     known: &mut Known<'a, Chances<S::Condition>>,
     way: Way,
     element: &Element,
-    init: &'a Flat,
-    next: &'a Flat,
-    comb: &'a Flat,
+    init: &'a DefBody,
+    next: &'a DefBody,
+    comb: &'a DefBody,
 ) -> Result<S::Condition, AllocError>
     requires cells_made { AreCellsMade (S.IsMade s.old) cells.now }
     requires known { AreKnown S.IsMade S.holds s.old problem.now cells.now known.old.entries.items }

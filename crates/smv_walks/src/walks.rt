@@ -14,7 +14,7 @@ use smv_cells::Cell;
 use smv_conditions::chances::Chances;
 use smv_conditions::conditions::Conditions;
 use smv_conditions::gists::{Gists, assigned_of, if_of};
-use smv_core::flat::{Flat, FlatExpr};
+use smv_core::flat::{DefBody, FlatExpr};
 use smv_core::seq::Seq;
 use smv_problem::Problem;
 use smv_sides::expressions::{Known, truth_of};
@@ -166,7 +166,7 @@ fn passed<'a, S: Conditions>(
     known: &mut Known<'a, Chances<S::Condition>>,
     target: &Target<S::Condition>,
     way: Way,
-    part: &'a Flat,
+    part: &'a DefBody,
     b: &[Spot],
 ) -> Result<Option<Gists<S::Condition>>, AllocError>
     requires cells_made { AreCellsMade (S.IsMade s.old) cells.now }
@@ -180,8 +180,8 @@ fn passed<'a, S: Conditions>(
     ensures is { IfOk result (λ o. IsPassedOf S.holds s.old s.new problem.entry.now cells.now target.now (λ z a. gist_in way z a b.now part.now) o) }
 {
     match part {
-        Flat::Nothing => Ok(None),
-        Flat::Assign { left, value, .. } => {
+        DefBody::Nothing => Ok(None),
+        DefBody::Assign { left, value, .. } => {
             let lefts = left.as_slice();
             let indexes = target.indexes.as_slice();
             if is_elsewhere(problem, indexes, lefts, b) {
@@ -192,20 +192,20 @@ fn passed<'a, S: Conditions>(
             )?;
             Ok(Some(g))
         }
-        Flat::If { cond, yes, no } => {
+        DefBody::If { cond, yes, no } => {
             let g = passed(s, alloc, problem, cells, known, target, way, yes.get(), b)?;
             let h = passed(s, alloc, problem, cells, known, target, way, no.get(), b)?;
             let k = taken(s, alloc, problem, cells, known, target, way, cond, g, h, b)?;
             Ok(k)
         }
-        Flat::First { parts } => {
+        DefBody::First { parts } => {
             let all = parts.as_slice();
             let each = gists_each(s, alloc, problem, cells, known, target, way, all, b)?;
             let list = each.as_slice();
             let g = first_of_some(s, alloc, list)?;
             Ok(g)
         }
-        Flat::Forall { var, over, body } => {
+        DefBody::Forall { var, over, body } => {
             let inners = bound_over(alloc, problem, b, *var, *over)?;
             let bindings = inners.as_slice();
             let inner = body.get();
@@ -229,7 +229,7 @@ fn gists_each<'a, S: Conditions>(
     known: &mut Known<'a, Chances<S::Condition>>,
     target: &Target<S::Condition>,
     way: Way,
-    parts: &'a [Flat],
+    parts: &'a [DefBody],
     b: &[Spot],
 ) -> Result<Vec<Gists<S::Condition>>, AllocError>
     requires cells_made { AreCellsMade (S.IsMade s.old) cells.now }
@@ -260,7 +260,7 @@ fn gists_along<'a, S: Conditions>(
     known: &mut Known<'a, Chances<S::Condition>>,
     target: &Target<S::Condition>,
     way: Way,
-    body: &'a Flat,
+    body: &'a DefBody,
     bindings: &[Seq<Spot>],
 ) -> Result<Vec<Gists<S::Condition>>, AllocError>
     requires cells_made { AreCellsMade (S.IsMade s.old) cells.now }
@@ -300,7 +300,7 @@ pub fn gists_of<'a, S: Conditions>(
     known: &mut Known<'a, Chances<S::Condition>>,
     target: &Target<S::Condition>,
     way: Way,
-    part: &'a Flat,
+    part: &'a DefBody,
     b: &[Spot],
 ) -> Result<Gists<S::Condition>, AllocError>
     requires cells_made { AreCellsMade (S.IsMade s.old) cells.now }

@@ -1,6 +1,6 @@
 -- What a worked text computes with.
 use Rattle.smv_lex.specs.Lexing as l
-use Rattle.smv_instances.specs.Mentions as m
+use Rattle.smv_mentions.specs.Mentions as m
 use Rattle.law_grammar.specs.Expressions as e
 use Rattle.law_grammar.specs.Types as t
 use Rattle.law_grammar.specs.Statements as s

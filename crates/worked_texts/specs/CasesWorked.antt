@@ -10,7 +10,7 @@ use Rattle.smv_core.specs.declared.flat.Class.{Class}
 use Rattle.smv_core.specs.declared.flat.Class.TheVariants.{Number, Named}
 use Rattle.worked_texts.specs.Worked.{Answer, answer_of}
 use Rattle.worked_texts.specs.FlatteningWorked.{flattened}
-use Rattle.law_designs.specs.Definitions.{design_of_raw}
+use Rattle.law_designs.specs.Definitions.{design_of_flat_text}
 use Rattle.smv_core.specs.declared.abstract_type.AbsType.{AbsType}
 use Rattle.smv_core.specs.declared.abstract_type.Rest.TheVariants as beside
 use Rattle.law_obligations.specs.Cases.{type_in, numbered}
@@ -22,7 +22,7 @@ use Rattle.law_obligations.specs.Units.{script_of}
 use Rattle.law_obligations.specs.Times.{all_timed}
 use Rattle.law_obligations.specs.Problems.{problem_of}
 use Rattle.law_splits.specs.Leaves.{leaves_of}
-use Rattle.smv_uses.specs.Choices.{choices_of}
+use Rattle.law_uses.specs.Choices.{choices_of}
 use Rattle.smv_cases.specs.Faults.{cases_fault}
 
 -- ---- texts
@@ -33,7 +33,7 @@ script_in d = script_of d (leaves_of d) (choices_of d)
 
 -- the times of the uses of these bytes, where their names and size have no fault
 abbrev pub timed_in : List ℕ → Option (List Timed)
-timed_in text = option_map (λ raw. all_timed (script_in (design_of_raw raw))) (flattened text)
+timed_in text = option_map (λ flat_text. all_timed (script_in (design_of_flat_text flat_text))) (flattened text)
 
 -- each text has the times that were worked out for it, one list of picks and one of claims for each leaf
 abbrev pub AreTimed : List (List ℕ × List Timed) → Type 0
@@ -44,7 +44,7 @@ abbrev cases_of : Script → List (List (List Class))
 cases_of s = map (λ entry. leaf_cases s.design.sets entry.leaf.params entry.choice.keeps) s.entries
 
 abbrev pub cases_in : List ℕ → Option (List (List (List Class)))
-cases_in text = option_map (λ raw. cases_of (script_in (design_of_raw raw))) (flattened text)
+cases_in text = option_map (λ flat_text. cases_of (script_in (design_of_flat_text flat_text))) (flattened text)
 
 -- each text has the cases that were worked out for it
 abbrev pub HaveCases : List (List ℕ × List (List (List Class))) → Type 0
@@ -57,7 +57,7 @@ types_for sets entry =
     map (λ classes. map (λ (set, t). type_in t set params classes) (numbered 0 (treatments_of entry.choice.keeps 0 sets))) (leaf_cases sets entry.leaf.params entry.choice.keeps)
 
 abbrev pub types_in : List ℕ → Option (List (List (List AbsType)))
-types_in text = option_map (λ raw. let s = script_in (design_of_raw raw) in map (types_for s.design.sets) s.entries) (flattened text)
+types_in text = option_map (λ flat_text. let s = script_in (design_of_flat_text flat_text) in map (types_for s.design.sets) s.entries) (flattened text)
 
 -- each text has the types that were worked out for it
 abbrev pub HaveTypes : List (List ℕ × List (List (List AbsType))) → Type 0
@@ -78,7 +78,7 @@ demands_for s (entry, times) =
     (leaf_cases s.design.sets entry.leaf.params entry.choice.keeps)
 
 abbrev pub demands_in : List ℕ → Option (List (List (List Told × List Told)))
-demands_in text = option_map (λ raw. let s = script_in (design_of_raw raw) in map (demands_for s) (zip s.entries (all_timed s))) (flattened text)
+demands_in text = option_map (λ flat_text. let s = script_in (design_of_flat_text flat_text) in map (demands_for s) (zip s.entries (all_timed s))) (flattened text)
 
 -- each text has the demands that were worked out for it
 abbrev pub HaveDemands : List (List ℕ × List (List (List Told × List Told))) → Type 0
@@ -86,7 +86,7 @@ HaveDemands rows = map (λ (text, demands). demands_in text) rows ≡ map (λ (t
 
 -- of each leaf the fault of too many parameters or cases
 abbrev pub limits_in : List ℕ → Option (List Answer)
-limits_in text = option_map (λ raw. let d = design_of_raw raw in map (λ (leaf, choice). answer_of (cases_fault d leaf choice)) (zip (leaves_of d) (choices_of d))) (flattened text)
+limits_in text = option_map (λ flat_text. let d = design_of_flat_text flat_text in map (λ (leaf, choice). answer_of (cases_fault d leaf choice)) (zip (leaves_of d) (choices_of d))) (flattened text)
 
 -- each text has the faults that were worked out for it
 abbrev pub KeepLimits : List (List ℕ × List Answer) → Type 0

@@ -1,6 +1,6 @@
 -- How a worked text is stated: its bytes, or a flattened text, and whether that keeps the rules of kinds, ranges and sets.
 use Rattle.std.specs.Prelude.{ℕ, List, ◌≡◌, map, Some, Bool, option_map}
-use Rattle.smv_core.specs.declared.flat.Raw.{Raw}
+use Rattle.smv_core.specs.declared.flat.FlatText.{FlatText}
 use Rattle.worked_texts.specs.FlatteningWorked.{flattened}
 use Rattle.law_designs.specs.FlatKinds.{is_kinded}
 
@@ -9,5 +9,5 @@ abbrev pub AreAnswered : List (List ℕ × Bool) → Type 0
 AreAnswered rows = map (λ (text, answer). option_map is_kinded (flattened text)) rows ≡ map (λ (text, answer). Some answer) rows
 
 -- so has each flattened text
-abbrev pub AreJudged : List (Raw × Bool) → Type 0
-AreJudged rows = map (λ (raw, answer). is_kinded raw) rows ≡ map (λ (raw, answer). answer) rows
+abbrev pub AreJudged : List (FlatText × Bool) → Type 0
+AreJudged rows = map (λ (flat_text, answer). is_kinded flat_text) rows ≡ map (λ (flat_text, answer). answer) rows

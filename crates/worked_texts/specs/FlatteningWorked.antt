@@ -13,52 +13,52 @@ use Rattle.smv_core.specs.declared.flat.FlatSigned.{FlatSigned, roll-FlatSigned}
 use Rattle.smv_core.specs.declared.flat.FlatStmt.{FlatStmt}
 use Rattle.smv_core.specs.declared.flat.FlatItem.{FlatItem}
 use Rattle.smv_core.specs.declared.flat.FlatItem.TheVariants.{Act}
-use Rattle.smv_core.specs.declared.flat.Raw.{Raw}
+use Rattle.smv_core.specs.declared.flat.FlatText.{FlatText}
 use Rattle.smv_lex.specs.Lexing.{Lexed, lexed}
 use Rattle.law_grammar.specs.Parsing.{Halt}
 use Rattle.law_grammar.specs.Items.{read_text}
-use Rattle.smv_instances.specs.FirstFault.{first_fault}
+use Rattle.smv_mentions.specs.FirstFault.{first_fault}
 use Rattle.law_designs.specs.Flattening.{flatten}
 
 -- ---- texts
 
-abbrev unless_fault : Text → Option Fault → Option Raw
+abbrev unless_fault : Text → Option Fault → Option FlatText
 unless_fault text None = Some (flatten text)
 unless_fault text (Some fault) = None
 
-abbrev of_tree : Result Text Halt → Option Raw
+abbrev of_tree : Result Text Halt → Option FlatText
 of_tree (Ok text) = unless_fault text (first_fault text)
 of_tree (Err halt) = None
 
-abbrev of_tokens : Lexed → Option Raw
+abbrev of_tokens : Lexed → Option FlatText
 of_tokens (Ok tokens) = of_tree (read_text 64 tokens)
 of_tokens (Err fault) = None
 
 -- the flattened text of these bytes, where they spell a text whose names and size have no fault
-abbrev pub flattened : List ℕ → Option Raw
+abbrev pub flattened : List ℕ → Option FlatText
 flattened text = of_tokens (lexed text)
 
 -- each text has the part that was worked out for it
-abbrev pub AreFlattened : {X : Type 0} → (Raw → X) → List (List ℕ × X) → Type 0
+abbrev pub AreFlattened : {X : Type 0} → (FlatText → X) → List (List ℕ × X) → Type 0
 AreFlattened part rows = map (λ (text, x). option_map part (flattened text)) rows ≡ map (λ (text, x). Some x) rows
 
 -- ---- parts of a flattened text
 
-abbrev pub families : Raw → List Family
-families raw = raw.families
+abbrev pub families : FlatText → List Family
+families flat_text = flat_text.families
 
-abbrev pub items : Raw → List FlatItem
-items raw = raw.items
+abbrev pub items : FlatText → List FlatItem
+items flat_text = flat_text.items
 
 -- what is listed in front: the set types, the enumerations and the layers
 abbrev pub Front : Type 0
 Front = List SetInfo × List (List Name) × List Name
 
-abbrev pub front : Raw → Front
-front raw = (raw.sets, raw.enums, raw.layers)
+abbrev pub front : FlatText → Front
+front flat_text = (flat_text.sets, flat_text.enums, flat_text.layers)
 
-abbrev pub whole : Raw → Raw
-whole raw = raw
+abbrev pub whole : FlatText → FlatText
+whole flat_text = flat_text
 
 -- ---- short words
 

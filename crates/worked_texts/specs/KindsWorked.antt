@@ -5,7 +5,7 @@ use Rattle.smv_core.specs.declared.tree.Text.{Text}
 use Rattle.smv_lex.specs.Lexing.{Lexed, lexed}
 use Rattle.law_grammar.specs.Parsing.{Halt}
 use Rattle.law_grammar.specs.Items.{read_text}
-use Rattle.smv_instances.specs.FirstFault.{first_fault, or_else}
+use Rattle.smv_mentions.specs.FirstFault.{first_fault, or_else}
 use Rattle.law_designs.specs.KindFaults.{first_fault_of_kinds}
 
 -- what a text is found to have: a fault of a number at a place, none, or no tree

@@ -7,7 +7,7 @@ use Rattle.smv_core.specs.declared.tree.Top.TheVariants.{Module}
 use Rattle.smv_core.specs.declared.tree.TypeExpr.{Boolean}
 use Rattle.smv_core.specs.declared.tree.Role.TheVariants.{Plain}
 use Rattle.smv_core.specs.declared.tree.Item.{Declare, Instance}
-use Rattle.smv_instances.specs.Sizes.{is_too_large}
+use Rattle.smv_mentions.specs.Sizes.{is_too_large}
 
 abbrev word : List ℕ → Word
 word name = record { name = name; at = 0 }

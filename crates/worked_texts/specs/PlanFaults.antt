@@ -1,14 +1,14 @@
 -- Worked texts by theme, each with the first fault of the rules of proof. Each answer was worked out by hand, the places too.
 use Rattle.std.specs.Prelude.{ℕ, List, [], ◌∷◌, ◌≡◌, map, codes, Option, Some, None}
-use Rattle.smv_core.specs.declared.flat.Raw.{Raw}
+use Rattle.smv_core.specs.declared.flat.FlatText.{FlatText}
 use Rattle.worked_texts.specs.Worked.{Answer, fault, valid, unread, answer_of}
 use Rattle.worked_texts.specs.FlatteningWorked.{flattened}
-use Rattle.law_designs.specs.Definitions.{design_of_raw}
+use Rattle.law_designs.specs.Definitions.{design_of_flat_text}
 use Rattle.smv_plans.specs.Plans.{plan_fault}
 
-abbrev of_flattened : Option Raw → Answer
+abbrev of_flattened : Option FlatText → Answer
 of_flattened None = unread
-of_flattened (Some raw) = answer_of (plan_fault (design_of_raw raw))
+of_flattened (Some flat_text) = answer_of (plan_fault (design_of_flat_text flat_text))
 
 -- the first fault of the rules of proof in these bytes, where their names and size have none
 abbrev pub found_in : List ℕ → Answer

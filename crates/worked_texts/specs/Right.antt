@@ -4,7 +4,7 @@ use Rattle.smv_core.specs.declared.tree.Text.{Text}
 use Rattle.smv_lex.specs.Lexing.{Lexed, lexed}
 use Rattle.law_grammar.specs.Parsing.{Halt}
 use Rattle.law_grammar.specs.Items.{read_text}
-use Rattle.smv_instances.specs.FirstFault.{first_fault}
+use Rattle.smv_mentions.specs.FirstFault.{first_fault}
 use Rattle.law_designs.specs.WholeText.{TextIsRight}
 
 -- an instance, an enumeration, a loop, a switch, binders and a claim

@@ -1,21 +1,21 @@
 -- How a worked text is stated: its bytes, and its first fault of uses or the choices of its leaves; and short words for choices.
 use Rattle.std.specs.Prelude.{ℕ, List, [], ◌≡◌, map, Option, Some, None, true, false, option_map}
-use Rattle.smv_core.specs.declared.flat.Raw.{Raw}
+use Rattle.smv_core.specs.declared.flat.FlatText.{FlatText}
 use Rattle.smv_core.specs.declared.flat.Choice.{Choice}
 use Rattle.smv_core.specs.declared.flat.Pick.{Pick}
 use Rattle.smv_core.specs.declared.flat.Assumed.{Assumed}
 use Rattle.smv_core.specs.declared.flat.Keep.{Keep}
 use Rattle.worked_texts.specs.Worked.{Answer, unread, answer_of}
 use Rattle.worked_texts.specs.FlatteningWorked.{flattened}
-use Rattle.law_designs.specs.Definitions.{design_of_raw}
-use Rattle.smv_uses.specs.Choices.{choices_of, nothing_used}
-use Rattle.smv_uses.specs.UseFaults.{first_fault_of_uses}
+use Rattle.law_designs.specs.Definitions.{design_of_flat_text}
+use Rattle.law_uses.specs.Choices.{choices_of, nothing_used}
+use Rattle.law_uses.specs.UseFaults.{first_fault_of_uses}
 
 -- ---- texts
 
-abbrev of_flattened : Option Raw → Answer
+abbrev of_flattened : Option FlatText → Answer
 of_flattened None = unread
-of_flattened (Some raw) = answer_of (first_fault_of_uses (design_of_raw raw))
+of_flattened (Some flat_text) = answer_of (first_fault_of_uses (design_of_flat_text flat_text))
 
 -- the first fault of uses in these bytes, where their names and size have none
 abbrev pub found_in : List ℕ → Answer
@@ -27,7 +27,7 @@ AreFound rows = map (λ (text, answer). found_in text) rows ≡ map (λ (text, a
 
 -- the choices of the leaves of these bytes
 abbrev pub chosen_in : List ℕ → Option (List Choice)
-chosen_in text = option_map (λ raw. choices_of (design_of_raw raw)) (flattened text)
+chosen_in text = option_map (λ flat_text. choices_of (design_of_flat_text flat_text)) (flattened text)
 
 -- each text has the choices that were worked out for it
 abbrev pub AreChosen : List (List ℕ × List Choice) → Type 0

@@ -5,7 +5,7 @@ use Rattle.smv_core.specs.declared.tree.Text.{Text}
 use Rattle.smv_lex.specs.Lexing.{Lexed, lexed}
 use Rattle.law_grammar.specs.Parsing.{Halt}
 use Rattle.law_grammar.specs.Items.{read_text}
-use Rattle.smv_instances.specs.FirstFault.{first_fault}
+use Rattle.smv_mentions.specs.FirstFault.{first_fault}
 
 -- what a text is found to have: a fault of a number at a place, none, or no tree
 pub data Answer : Type 0 where

@@ -3,7 +3,7 @@
 use Rattle.std.specs.Prelude.{ℕ, List, [], ◌∷◌, codes}
 use Rattle.smv_core.specs.declared.flat.Choice.{Choice}
 use Rattle.worked_texts.specs.Tomasulo.{machine}
-use Rattle.smv_uses.specs.Choices.{nothing_used}
+use Rattle.law_uses.specs.Choices.{nothing_used}
 use Rattle.worked_texts.specs.UsesWorked.{in_layer, free, early, claim, early_claim, keep, picking, assuming, uses, itself, keeping, keeping_beside}
 
 -- the rows of the language's definition

@@ -4,21 +4,21 @@ use Rattle.smv_core.specs.declared.tree.Use.TheVariants.{Plain}
 use Rattle.smv_core.specs.declared.flat.Simple.TheVariants.{Range, Enum, Set}
 use Rattle.smv_core.specs.declared.flat.FlatMember.{One}
 use Rattle.smv_core.specs.declared.flat.FlatExpr.{Number, Read, Var, Loop, Not, Or, Within, List as ListOf, Each}
-use Rattle.smv_core.specs.declared.flat.Flat.{Flat, Nothing, Assign, If, First, Forall}
+use Rattle.smv_core.specs.declared.flat.DefBody.{DefBody, Nothing, Assign, If, First, Forall}
 use Rattle.smv_core.specs.declared.flat.Def.{Def}
 use Rattle.smv_core.specs.declared.flat.Design.{Design}
 use Rattle.worked_texts.specs.Tomasulo.{machine}
 use Rattle.worked_texts.specs.FlatteningWorked.{of_type, unsized, word, param}
 
 -- the definition of a family in a layer or outside layers, by its parts and by the place and the offset of its first assignment
-abbrev pub def : Option ℕ → ℕ → Flat → Flat → Flat → ℕ → ℕ → Def
+abbrev pub def : Option ℕ → ℕ → DefBody → DefBody → DefBody → ℕ → ℕ → Def
 def layer family init next comb place at = record { family = family; layer = layer; init = init; next = next; comb = comb; place = place; at = at }
 
 -- one that has `:=` alone, and one that has `next` alone
-abbrev pub comb_of : Option ℕ → ℕ → ℕ → ℕ → Flat → Def
+abbrev pub comb_of : Option ℕ → ℕ → ℕ → ℕ → DefBody → Def
 comb_of layer family place at comb = def layer family Nothing Nothing comb place at
 
-abbrev pub next_of : Option ℕ → ℕ → ℕ → ℕ → Flat → Def
+abbrev pub next_of : Option ℕ → ℕ → ℕ → ℕ → DefBody → Def
 next_of layer family place at next = def layer family Nothing next Nothing place at
 
 abbrev pub definitions : List (List ℕ × List Def)

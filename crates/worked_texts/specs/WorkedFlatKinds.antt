@@ -6,7 +6,7 @@ use Rattle.smv_core.specs.declared.flat.FlatExpr.{Number, Read, Var, Constant, A
 use Rattle.smv_core.specs.declared.flat.FlatStmt.{Assign, Forall}
 use Rattle.smv_core.specs.declared.flat.FlatItem.{FlatItem}
 use Rattle.smv_core.specs.declared.flat.Family.{Family}
-use Rattle.smv_core.specs.declared.flat.Raw.{Raw}
+use Rattle.smv_core.specs.declared.flat.FlatText.{FlatText}
 use Rattle.worked_texts.specs.Tomasulo.{machine}
 use Rattle.worked_texts.specs.Right.{small}
 use Rattle.worked_texts.specs.FlatteningWorked.{of_type, unsized, outside}
@@ -113,31 +113,31 @@ places =
 
 -- ---- flattened texts that no text has
 
-abbrev raw_of : List Family → List FlatItem → Raw
-raw_of families items = record { sets = unsized (codes "P") ∷ []; enums = (codes "red" ∷ []) ∷ []; layers = []; families = families; items = items }
+abbrev flat_text_of : List Family → List FlatItem → FlatText
+flat_text_of families items = record { sets = unsized (codes "P") ∷ []; enums = (codes "red" ∷ []) ∷ []; layers = []; families = families; items = items }
 
 -- a number for each family, and a constant for each enumeration
 abbrev bit : Family
 bit = of_type (codes "x") [] (Range 0 1) 0
 
-abbrev pub numbers : List (Raw × Bool)
+abbrev pub numbers : List (FlatText × Bool)
 numbers =
-    (raw_of (bit ∷ []) (outside (Assign Comb 0 [] (Number 1 0) 0) ∷ []), true) ∷
+    (flat_text_of (bit ∷ []) (outside (Assign Comb 0 [] (Number 1 0) 0) ∷ []), true) ∷
     -- no family, enumeration, constant or variable of this number
-    (raw_of (bit ∷ []) (outside (Assign Comb 1 [] (Number 1 0) 0) ∷ []), false) ∷
-    (raw_of (bit ∷ []) (outside (Assign Comb 0 [] (Read 1 [] 0) 0) ∷ []), false) ∷
-    (raw_of (bit ∷ []) (outside (Assign Comb 0 [] (Var 0 0) 0) ∷ []), false) ∷
-    (raw_of (of_type (codes "c") [] (Enum 0) 0 ∷ []) (outside (Assign Comb 0 [] (Constant 0 0 0) 0) ∷ []), true) ∷
-    (raw_of (of_type (codes "c") [] (Enum 0) 0 ∷ []) (outside (Assign Comb 0 [] (Constant 0 1 0) 0) ∷ []), false) ∷
-    (raw_of (of_type (codes "c") [] (Enum 1) 0 ∷ []) [], false) ∷
-    (raw_of (of_type (codes "y") [] (Set 0) 0 ∷ []) [], true) ∷
-    (raw_of (of_type (codes "y") [] (Set 1) 0 ∷ []) [], false) ∷
+    (flat_text_of (bit ∷ []) (outside (Assign Comb 1 [] (Number 1 0) 0) ∷ []), false) ∷
+    (flat_text_of (bit ∷ []) (outside (Assign Comb 0 [] (Read 1 [] 0) 0) ∷ []), false) ∷
+    (flat_text_of (bit ∷ []) (outside (Assign Comb 0 [] (Var 0 0) 0) ∷ []), false) ∷
+    (flat_text_of (of_type (codes "c") [] (Enum 0) 0 ∷ []) (outside (Assign Comb 0 [] (Constant 0 0 0) 0) ∷ []), true) ∷
+    (flat_text_of (of_type (codes "c") [] (Enum 0) 0 ∷ []) (outside (Assign Comb 0 [] (Constant 0 1 0) 0) ∷ []), false) ∷
+    (flat_text_of (of_type (codes "c") [] (Enum 1) 0 ∷ []) [], false) ∷
+    (flat_text_of (of_type (codes "y") [] (Set 0) 0 ∷ []) [], true) ∷
+    (flat_text_of (of_type (codes "y") [] (Set 1) 0 ∷ []) [], false) ∷
     -- a variable with the number of another
-    (raw_of (bit ∷ []) (outside (Forall 0 (Range 0 1) (Assign Comb 0 [] (All (Var 1 0) 1 (Range 0 1) 0) 0)) ∷ []), true) ∷
-    (raw_of (bit ∷ []) (outside (Forall 0 (Range 0 1) (Assign Comb 0 [] (All (Var 0 0) 0 (Range 0 1) 0) 0)) ∷ []), false) ∷
+    (flat_text_of (bit ∷ []) (outside (Forall 0 (Range 0 1) (Assign Comb 0 [] (All (Var 1 0) 1 (Range 0 1) 0) 0)) ∷ []), true) ∷
+    (flat_text_of (bit ∷ []) (outside (Forall 0 (Range 0 1) (Assign Comb 0 [] (All (Var 0 0) 0 (Range 0 1) 0) 0)) ∷ []), false) ∷
     -- an enumeration of nothing, and a set type of no value
-    (record (raw_of [] []) { enums = [] ∷ [] }, false) ∷
-    (record (raw_of [] []) { sets = record (unsized (codes "P")) { size = Some 0 } ∷ [] }, false) ∷ []
+    (record (flat_text_of [] []) { enums = [] ∷ [] }, false) ∷
+    (record (flat_text_of [] []) { sets = record (unsized (codes "P")) { size = Some 0 } ∷ [] }, false) ∷ []
 
 -- the reduced Tomasulo machine
 abbrev pub tomasulo : List (List ℕ × Bool)

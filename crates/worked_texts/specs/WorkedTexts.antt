@@ -6,7 +6,7 @@ use Rattle.smv_core.specs.declared.tree.Use.TheVariants.{Plain, Early, Keep}
 use Rattle.smv_core.specs.declared.flat.Simple.TheVariants.{Range, Enum, Set}
 use Rattle.smv_core.specs.declared.flat.Family.{Family}
 use Rattle.smv_core.specs.declared.flat.FlatItem.{FlatItem}
-use Rattle.smv_core.specs.declared.flat.Raw.{Raw}
+use Rattle.smv_core.specs.declared.flat.FlatText.{FlatText}
 use Rattle.smv_core.specs.declared.flat.FlatItem.TheVariants.{Claim as Claimed, Split as Splits, Using as Uses}
 use Rattle.smv_core.specs.declared.flat.FlatMember.{One, Span}
 use Rattle.smv_core.specs.declared.flat.FlatExpr.{Number, Read, Var, Loop, Constant, Not, And, Or, Implies, Iff, Compare, Within, Sum, Modulo, Choose, All, Any, List as ListOf, Each}
@@ -144,7 +144,7 @@ goals =
     (codes "module k() { p : assert G 1; using p prove p; } module m() { n : k(); } module main() { o : m(); }", Claimed (record { name = codes "o.n.p"; vars = []; params = []; body = Number 1 26; place = 0; at = 13 }) ∷ Uses (record { prefix = codes "o.n"; bound = []; uses = Plain (record { path = word (codes "o") 35 ∷ word (codes "n") 35 ∷ word (codes "p") 35 ∷ []; names = []; layer = None; free = false; at = 35 }) ∷ []; proves = record { path = word (codes "o") 43 ∷ word (codes "n") 43 ∷ word (codes "p") 43 ∷ []; names = []; layer = None; free = false; at = 43 } ∷ []; at = 29 }) ∷ []) ∷ []
 
 -- a whole flattened text
-abbrev pub wholes : List (List ℕ × Raw)
+abbrev pub wholes : List (List ℕ × FlatText)
 wholes =
     -- a set type, a module with an input, an enumeration, a layer, an instance and a claim
     (

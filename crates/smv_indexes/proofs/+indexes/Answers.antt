@@ -1,6 +1,6 @@
 use Rattle.std.proofs.Common.{ap, sym, ◌∙◌}
 use Rattle.smv_core.specs.Assignments.{modulo_fixed}
-use Rattle.smv_core.specs.Flat.{flat_index}
+use Rattle.smv_core.specs.FlatMeaning.{flat_index}
 use Rattle.smv_indexes.specs.Indexes.{added_all}
 use Rattle.smv_indexes.proofs.IndexLaws.{index-Sum, index-Modulo}
 use Rattle.smv_indexes.proofs.+indexes.Goals as goal

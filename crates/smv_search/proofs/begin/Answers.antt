@@ -6,7 +6,7 @@ use Rattle.smv_rings.specs.Ops.{IsOneOf, acts_of, refs_in_all, FitsActs}
 use Rattle.smv_search.specs.Answers.{Begins}
 use Rattle.smv_search.specs.Keeping.{AllHeld, beads_of}
 use Rattle.smv_rings.specs.Schedule.{one_by_one}
-use Rattle.smv_search.specs.Verdict.{AllPass}
+use Rattle.smv_search.specs.Events.{AllUneventful}
 use Rattle.smv_search.proofs.Keep.{keeps_self}
 use Rattle.smv_search.proofs.Steps.{handed_on}
 use Rattle.smv_search.proofs.Start.{rel_held, begin_stop, begin_run, opening_fits}
@@ -37,7 +37,7 @@ run-requires-clause-fits c =
 pub returns-clause-begins : goal.returns-clause-begins
 returns-clause-begins c images =
     begin_run c.args.store.now c.args.rel.now c.args.live.now.items c.requires.own c.args.nodes images c.run.new.store c.run.result (table c.args.store.now c.first-start.result) (acts_of c.args.store.now 0 c.deref-2.result.now)
-    (subst (λ (rs : List Ref). AllPass (record { vars = c.args.store.now.vars; nodes = c.args.nodes; images = images }) (one_by_one [] (map (table c.args.store.now) rs))) c.deref.ensures.value (c.in_ok-take_in.ensures.takes images))
+    (subst (λ (rs : List Ref). AllUneventful (record { vars = c.args.store.now.vars; nodes = c.args.nodes; images = images }) (one_by_one [] (map (table c.args.store.now) rs))) c.deref.ensures.value (c.in_ok-take_in.ensures.takes images))
     (subst (λ (rs : List Ref). beads_of c.args.store.now rs ≤ c.args.nodes) c.deref.ensures.value c.in_ok-take_in.ensures.within)
     c.first-start.ensures.table (ap (acts_of c.args.store.now 0) c.deref-2.ensures.value ∙ c.in_ok-ops.ensures.acts c.args.store.now)
     (c.run.ensures.runs 0 images)

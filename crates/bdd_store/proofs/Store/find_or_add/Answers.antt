@@ -3,7 +3,7 @@ use Rattle.std.proofs.lemmas.List.{get_or_default}
 use Rattle.bdd_store.specs.declared.chains.Node.{Node}
 use Rattle.bdd_store.specs.contracts.Store.{the_view}
 use Rattle.bdd_store.specs.Chains.{bucket_of, start, InChain, IsFalling, AllOf, Matches, Chained, Puts}
-use Rattle.bdd_store.specs.Diagram.{Diagram, IsSound, held}
+use Rattle.bdd_store.specs.Diagram.{Diagram, IsReduced, held}
 use Rattle.bdd_store.specs.Seen.{flag}
 use Rattle.bdd_store.proofs.ChainLaws.{chain_falling}
 use Rattle.bdd_store.proofs.Puts.{counted_few, counted_full}
@@ -13,20 +13,20 @@ use Rattle.bdd_store.proofs.Store.find_or_add.Goals as goal
 
 -- both children are one
 pub returns-then-low-high-clause-grows : goal.returns-then-low-high-clause-grows
-unfolding IsSound
+unfolding IsReduced
 returns-then-low-high-clause-grows c =
     let d = c.args.self.now in
-    let ok : IsSound d = subst IsSound c.self.view_is c.self.invariant.reduced in
+    let ok : IsReduced d = subst IsReduced c.self.view_is c.self.invariant.reduced in
     let same_vars = ap (λ (x : Diagram). x.vars) c.self.view_is in
     let same_nodes = ap (λ (x : Diagram). x.nodes) c.self.view_is in
     let same_marks = ap (λ (x : Diagram). x.marks) c.self.view_is in
     same_grows d _ ok same_vars same_nodes same_marks
 
 pub returns-then-low-high-clause-gives : goal.returns-then-low-high-clause-gives
-unfolding IsSound
+unfolding IsReduced
 returns-then-low-high-clause-gives c =
     let d = c.args.self.now in
-    let ok : IsSound d = subst IsSound c.self.view_is c.self.invariant.reduced in
+    let ok : IsReduced d = subst IsReduced c.self.view_is c.self.invariant.reduced in
     let same_vars = ap (λ (x : Diagram). x.vars) c.self.view_is in
     let same_nodes = ap (λ (x : Diagram). x.nodes) c.self.view_is in
     let same_marks = ap (λ (x : Diagram). x.marks) c.self.view_is in
@@ -55,20 +55,20 @@ find-found-requires-clause-falling c =
 
 -- the node was found
 pub returns-then-found-ne0-clause-grows : goal.returns-then-found-ne0-clause-grows
-unfolding IsSound
+unfolding IsReduced
 returns-then-found-ne0-clause-grows c =
     let d = c.args.self.now in
-    let ok : IsSound d = subst IsSound c.self.view_is c.self.invariant.reduced in
+    let ok : IsReduced d = subst IsReduced c.self.view_is c.self.invariant.reduced in
     let same_vars = ap (λ (x : Diagram). x.vars) c.self.view_is in
     let same_nodes = ap (λ (x : Diagram). x.nodes) c.self.view_is in
     let same_marks = ap (λ (x : Diagram). x.marks) c.self.view_is in
     same_grows d _ ok same_vars same_nodes same_marks
 
 pub returns-then-found-ne0-clause-gives : goal.returns-then-found-ne0-clause-gives
-unfolding IsSound
+unfolding IsReduced
 returns-then-found-ne0-clause-gives c =
     let d = c.args.self.now in
-    let ok : IsSound d = subst IsSound c.self.view_is c.self.invariant.reduced in
+    let ok : IsReduced d = subst IsReduced c.self.view_is c.self.invariant.reduced in
     let same_vars = ap (λ (x : Diagram). x.vars) c.self.view_is in
     let same_nodes = ap (λ (x : Diagram). x.nodes) c.self.view_is in
     let same_marks = ap (λ (x : Diagram). x.marks) c.self.view_is in
@@ -91,10 +91,10 @@ returns-then-found-ne0-clause-held_found c q live is =
 
 -- there was no room
 pub returns-in_err-place-clause-grows : goal.returns-in_err-place-clause-grows
-unfolding IsSound
+unfolding IsReduced
 returns-in_err-place-clause-grows c =
     let d = c.args.self.now in
-    let ok : IsSound d = subst IsSound c.self.view_is c.self.invariant.reduced in
+    let ok : IsReduced d = subst IsReduced c.self.view_is c.self.invariant.reduced in
     let same_vars = ap (λ (x : Diagram). x.vars) c.self.view_is in
     let same_nodes = ap (λ (x : Diagram). x.nodes) c.self.view_is in
     let same_marks = ap (λ (x : Diagram). x.marks) c.self.view_is in
@@ -140,10 +140,10 @@ overflow_add-self c =
     omega (arith, counted_few c.self.inside.vars c.self.inside.nodes.items is.reduced.constants is.reduced.zero_last is.reduced.one_last, is.held_counted, is.few)
 
 pub invariant_of-self-2 : goal.invariant_of-self-2
-unfolding IsSound
+unfolding IsReduced
 invariant_of-self-2 c =
     let d = c.args.self.now in
-    let ok : IsSound d = subst IsSound c.self.view_is c.self.invariant.reduced in
+    let ok : IsReduced d = subst IsReduced c.self.view_is c.self.invariant.reduced in
     let same_vars = ap (λ (x : Diagram). x.vars) c.self.view_is in
     let same_nodes = ap (λ (x : Diagram). x.nodes) c.self.view_is in
     let same_marks = ap (λ (x : Diagram). x.marks) c.self.view_is in
@@ -170,10 +170,10 @@ invariant_of-self-2 c =
     }
 
 pub returns-clause-grows : goal.returns-clause-grows
-unfolding IsSound
+unfolding IsReduced
 returns-clause-grows c =
     let d = c.args.self.now in
-    let ok : IsSound d = subst IsSound c.self.view_is c.self.invariant.reduced in
+    let ok : IsReduced d = subst IsReduced c.self.view_is c.self.invariant.reduced in
     let same_vars = ap (λ (x : Diagram). x.vars) c.self.view_is in
     let same_nodes = ap (λ (x : Diagram). x.nodes) c.self.view_is in
     let same_marks = ap (λ (x : Diagram). x.marks) c.self.view_is in
@@ -190,10 +190,10 @@ returns-clause-grows c =
     put.grows
 
 pub returns-clause-gives : goal.returns-clause-gives
-unfolding IsSound
+unfolding IsReduced
 returns-clause-gives c =
     let d = c.args.self.now in
-    let ok : IsSound d = subst IsSound c.self.view_is c.self.invariant.reduced in
+    let ok : IsReduced d = subst IsReduced c.self.view_is c.self.invariant.reduced in
     let same_vars = ap (λ (x : Diagram). x.vars) c.self.view_is in
     let same_nodes = ap (λ (x : Diagram). x.nodes) c.self.view_is in
     let same_marks = ap (λ (x : Diagram). x.marks) c.self.view_is in
@@ -215,10 +215,10 @@ returns-clause-held c =
     omega (arith, held_is e, c.in_ok-place.ensures.counted, held_is (the_view c.self.inside), ap held c.self.view_is)
 
 pub returns-clause-held_found : goal.returns-clause-held_found
-unfolding IsSound
+unfolding IsReduced
 returns-clause-held_found c q live is =
     let d = c.args.self.now in
-    let ok : IsSound d = subst IsSound c.self.view_is c.self.invariant.reduced in
+    let ok : IsReduced d = subst IsReduced c.self.view_is c.self.invariant.reduced in
     let same_vars = ap (λ (x : Diagram). x.vars) c.self.view_is in
     let same_nodes = ap (λ (x : Diagram). x.nodes) c.self.view_is in
     let same_marks = ap (λ (x : Diagram). x.marks) c.self.view_is in

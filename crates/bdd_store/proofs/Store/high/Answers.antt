@@ -1,5 +1,5 @@
 use Rattle.std.proofs.Common.{length, true, ap, subst, arith}
-use Rattle.bdd_store.specs.Diagram.{Diagram, IsSound, IsLive}
+use Rattle.bdd_store.specs.Diagram.{Diagram, IsReduced, IsLive}
 use Rattle.bdd_store.proofs.Laws.{proper_iff, branch, read_node}
 use Rattle.bdd_store.proofs.Store.high.Goals as goal
 
@@ -10,33 +10,33 @@ index-requires c =
     omega (arith, c.self.inside.nodes.ok.0, c.requires.live.0)
 
 pub returns-clause-live : goal.returns-clause-live
-unfolding IsSound IsLive
+unfolding IsReduced IsLive
 returns-clause-live c =
-    let ok : IsSound c.args.self.now = subst IsSound c.self.view_is c.self.invariant.reduced in
+    let ok : IsReduced c.args.self.now = subst IsReduced c.self.view_is c.self.invariant.reduced in
     let same = ap (λ (d : Diagram). d.nodes) c.self.view_is in
     let read = read_node c.self.inside.nodes.items c.args.self.now.nodes c.args.r.place c.index.result.now (omega (arith, ap length same, c.requires.live.0)) c.index.ensures same in
     (branch c.args.self.now ok c.args.r _ true c.requires.live ((proper_iff c.args.self.now ok c.args.r c.requires.live).to c.requires.proper) (ap (λ n. n.high) read)).live
 
 pub returns-clause-table : goal.returns-clause-table
-unfolding IsSound IsLive
+unfolding IsReduced IsLive
 returns-clause-table c =
-    let ok : IsSound c.args.self.now = subst IsSound c.self.view_is c.self.invariant.reduced in
+    let ok : IsReduced c.args.self.now = subst IsReduced c.self.view_is c.self.invariant.reduced in
     let same = ap (λ (d : Diagram). d.nodes) c.self.view_is in
     let read = read_node c.self.inside.nodes.items c.args.self.now.nodes c.args.r.place c.index.result.now (omega (arith, ap length same, c.requires.live.0)) c.index.ensures same in
     (branch c.args.self.now ok c.args.r _ true c.requires.live ((proper_iff c.args.self.now ok c.args.r c.requires.live).to c.requires.proper) (ap (λ n. n.high) read)).tables
 
 pub returns-clause-first : goal.returns-clause-first
-unfolding IsSound IsLive
+unfolding IsReduced IsLive
 returns-clause-first c =
-    let ok : IsSound c.args.self.now = subst IsSound c.self.view_is c.self.invariant.reduced in
+    let ok : IsReduced c.args.self.now = subst IsReduced c.self.view_is c.self.invariant.reduced in
     let same = ap (λ (d : Diagram). d.nodes) c.self.view_is in
     let read = read_node c.self.inside.nodes.items c.args.self.now.nodes c.args.r.place c.index.result.now (omega (arith, ap length same, c.requires.live.0)) c.index.ensures same in
     (branch c.args.self.now ok c.args.r _ true c.requires.live ((proper_iff c.args.self.now ok c.args.r c.requires.live).to c.requires.proper) (ap (λ n. n.high) read)).first
 
 pub returns-clause-reached : goal.returns-clause-reached
-unfolding IsSound IsLive
+unfolding IsReduced IsLive
 returns-clause-reached c =
-    let ok : IsSound c.args.self.now = subst IsSound c.self.view_is c.self.invariant.reduced in
+    let ok : IsReduced c.args.self.now = subst IsReduced c.self.view_is c.self.invariant.reduced in
     let same = ap (λ (d : Diagram). d.nodes) c.self.view_is in
     let read = read_node c.self.inside.nodes.items c.args.self.now.nodes c.args.r.place c.index.result.now (omega (arith, ap length same, c.requires.live.0)) c.index.ensures same in
     (branch c.args.self.now ok c.args.r _ true c.requires.live ((proper_iff c.args.self.now ok c.args.r c.requires.live).to c.requires.proper) (ap (λ n. n.high) read)).reached

@@ -1,11 +1,11 @@
 use Rattle.std.proofs.Common.{refl}
-use Rattle.bdd_store.specs.Diagram.{IsSound}
+use Rattle.bdd_store.specs.Diagram.{IsReduced}
 use Rattle.bdd_store.specs.Results.{AreResults, diagram_of}
 use Rattle.bdd_store.proofs.ResultLaws.{known_here}
 use Rattle.bdd_store.proofs.Store.lend.Goals as goal
 
 pub returns-clause-known : goal.returns-clause-known
-unfolding IsSound
+unfolding IsReduced
 returns-clause-known c =
     let d = diagram_of c.self.inside.vars c.self.inside.nodes.items in
     let was : AreResults d c.replace-results.result.items = rw c.replace-results.ensures.value c.self.invariant.known in

@@ -1,5 +1,5 @@
 use Rattle.std.proofs.Common.{refl, sym, ◌∙◌, subst, arith}
-use Rattle.bdd_store.specs.Diagram.{IsSound}
+use Rattle.bdd_store.specs.Diagram.{IsReduced}
 use Rattle.bdd_store.specs.contracts.Store.{the_view}
 use Rattle.bdd_store.proofs.NodeLaws.{graph_extends, reduced_graph, graph_stays, same_stays, stays_from}
 use Rattle.bdd_store.proofs.ResultLaws.{known_extends}
@@ -7,7 +7,7 @@ use Rattle.bdd_store.proofs.Puts.{counted_graph}
 use Rattle.bdd_store.proofs.Store.make_room.Goals as goal
 
 pub invariant_of-self : goal.invariant_of-self
-unfolding IsSound
+unfolding IsReduced
 invariant_of-self c =
     let is = c.self.invariant in
     let graph = c.grow-self-inside.ensures.same in
@@ -22,9 +22,9 @@ invariant_of-self c =
     }
 
 pub returns-then-len-clause-stays : goal.returns-then-len-clause-stays
-unfolding IsSound
+unfolding IsReduced
 returns-then-len-clause-stays c = stays_from (the_view c.self.inside) c.args.self.now _ c.self.view_is (graph_stays (the_view c.self.inside) _ c.self.invariant.reduced refl c.grow-self-inside.ensures.same refl)
 
 pub returns-else-len-clause-stays : goal.returns-else-len-clause-stays
-unfolding IsSound
-returns-else-len-clause-stays c = same_stays c.args.self.now c.args.self.now (subst IsSound c.self.view_is c.self.invariant.reduced) refl refl refl
+unfolding IsReduced
+returns-else-len-clause-stays c = same_stays c.args.self.now c.args.self.now (subst IsReduced c.self.view_is c.self.invariant.reduced) refl refl refl

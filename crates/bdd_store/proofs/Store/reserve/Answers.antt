@@ -1,6 +1,6 @@
 use Rattle.std.proofs.Common.{◌∙◌, ap, subst, arith}
 use Rattle.bdd_store.specs.contracts.Store.{the_view}
-use Rattle.bdd_store.specs.Diagram.{Diagram, IsSound}
+use Rattle.bdd_store.specs.Diagram.{Diagram, IsReduced}
 use Rattle.bdd_store.specs.Steps.{Stays}
 use Rattle.bdd_store.proofs.Laws.{equal_refs}
 use Rattle.bdd_store.proofs.Puts.{counted_few}
@@ -17,41 +17,41 @@ pub overflow_add-used-2 : goal.overflow_add-used-2
 overflow_add-used-2 c = omega (arith, c.if-n-used.false, counted_few c.self.inside.vars c.self.inside.nodes.items c.self.invariant.reduced.constants c.self.invariant.reduced.zero_last c.self.invariant.reduced.one_last, c.self.invariant.held_counted, c.self.invariant.few)
 
 pub returns-then-n-used-clause-sound : goal.returns-then-n-used-clause-sound
-unfolding IsSound
+unfolding IsReduced
 returns-then-n-used-clause-sound c =
-    subst IsSound c.self.view_is c.self.invariant.reduced
+    subst IsReduced c.self.view_is c.self.invariant.reduced
 
 pub returns-then-n-used-clause-canonical : goal.returns-then-n-used-clause-canonical
-unfolding IsSound
+unfolding IsReduced
 returns-then-n-used-clause-canonical c =
-    let ok : IsSound c.args.self.now = subst IsSound c.self.view_is c.self.invariant.reduced in
+    let ok : IsReduced c.args.self.now = subst IsReduced c.self.view_is c.self.invariant.reduced in
     equal_refs c.args.self.now ok
 
 pub returns-in_err-reserve-clause-sound : goal.returns-in_err-reserve-clause-sound
-unfolding IsSound
+unfolding IsReduced
 returns-in_err-reserve-clause-sound c =
     let d = c.args.self.now in
-    let ok : IsSound c.args.self.now = subst IsSound c.self.view_is c.self.invariant.reduced in
+    let ok : IsReduced c.args.self.now = subst IsReduced c.self.view_is c.self.invariant.reduced in
     let same_vars = ap (λ (x : Diagram). x.vars) c.self.view_is in
     let same_nodes = c.reserve.ensures.items ∙ ap (λ (x : Diagram). x.nodes) c.self.view_is in
     let e : Diagram = the_view (record c.self.inside { nodes = c.reserve.new.self }) in
     same_sound d e ok same_vars same_nodes
 
 pub returns-in_err-reserve-clause-canonical : goal.returns-in_err-reserve-clause-canonical
-unfolding IsSound
+unfolding IsReduced
 returns-in_err-reserve-clause-canonical c =
     let d = c.args.self.now in
-    let ok : IsSound c.args.self.now = subst IsSound c.self.view_is c.self.invariant.reduced in
+    let ok : IsReduced c.args.self.now = subst IsReduced c.self.view_is c.self.invariant.reduced in
     let same_vars = ap (λ (x : Diagram). x.vars) c.self.view_is in
     let same_nodes = c.reserve.ensures.items ∙ ap (λ (x : Diagram). x.nodes) c.self.view_is in
     let e : Diagram = the_view (record c.self.inside { nodes = c.reserve.new.self }) in
     equal_refs e (same_sound d e ok same_vars same_nodes)
 
 pub returns-clause-keeps : goal.returns-clause-keeps
-unfolding IsSound
+unfolding IsReduced
 returns-clause-keeps c =
     let d = c.args.self.now in
-    let ok : IsSound c.args.self.now = subst IsSound c.self.view_is c.self.invariant.reduced in
+    let ok : IsReduced c.args.self.now = subst IsReduced c.self.view_is c.self.invariant.reduced in
     let same_vars = ap (λ (x : Diagram). x.vars) c.self.view_is in
     let same_nodes = c.reserve.ensures.items ∙ ap (λ (x : Diagram). x.nodes) c.self.view_is in
     let e : Diagram = the_view (record c.self.inside { nodes = c.reserve.new.self; marks = c.reserve-2.new.self }) in
@@ -59,10 +59,10 @@ returns-clause-keeps c =
     stays.grows.keeps
 
 pub returns-clause-none_fresh : goal.returns-clause-none_fresh
-unfolding IsSound
+unfolding IsReduced
 returns-clause-none_fresh c =
     let d = c.args.self.now in
-    let ok : IsSound c.args.self.now = subst IsSound c.self.view_is c.self.invariant.reduced in
+    let ok : IsReduced c.args.self.now = subst IsReduced c.self.view_is c.self.invariant.reduced in
     let same_vars = ap (λ (x : Diagram). x.vars) c.self.view_is in
     let same_nodes = c.reserve.ensures.items ∙ ap (λ (x : Diagram). x.nodes) c.self.view_is in
     let e : Diagram = the_view (record c.self.inside { nodes = c.reserve.new.self; marks = c.reserve-2.new.self }) in
@@ -70,10 +70,10 @@ returns-clause-none_fresh c =
     stays.only
 
 pub returns-clause-held : goal.returns-clause-held
-unfolding IsSound
+unfolding IsReduced
 returns-clause-held c =
     let d = c.args.self.now in
-    let ok : IsSound c.args.self.now = subst IsSound c.self.view_is c.self.invariant.reduced in
+    let ok : IsReduced c.args.self.now = subst IsReduced c.self.view_is c.self.invariant.reduced in
     let same_vars = ap (λ (x : Diagram). x.vars) c.self.view_is in
     let same_nodes = c.reserve.ensures.items ∙ ap (λ (x : Diagram). x.nodes) c.self.view_is in
     let e : Diagram = the_view (record c.self.inside { nodes = c.reserve.new.self; marks = c.reserve-2.new.self }) in
@@ -81,10 +81,10 @@ returns-clause-held c =
     stays.held
 
 pub returns-clause-marks : goal.returns-clause-marks
-unfolding IsSound
+unfolding IsReduced
 returns-clause-marks c =
     let d = c.args.self.now in
-    let ok : IsSound c.args.self.now = subst IsSound c.self.view_is c.self.invariant.reduced in
+    let ok : IsReduced c.args.self.now = subst IsReduced c.self.view_is c.self.invariant.reduced in
     let same_vars = ap (λ (x : Diagram). x.vars) c.self.view_is in
     let same_nodes = c.reserve.ensures.items ∙ ap (λ (x : Diagram). x.nodes) c.self.view_is in
     let e : Diagram = the_view (record c.self.inside { nodes = c.reserve.new.self; marks = c.reserve-2.new.self }) in
@@ -92,20 +92,20 @@ returns-clause-marks c =
     stays.grows.marks
 
 pub returns-clause-sound : goal.returns-clause-sound
-unfolding IsSound
+unfolding IsReduced
 returns-clause-sound c =
     let d = c.args.self.now in
-    let ok : IsSound c.args.self.now = subst IsSound c.self.view_is c.self.invariant.reduced in
+    let ok : IsReduced c.args.self.now = subst IsReduced c.self.view_is c.self.invariant.reduced in
     let same_vars = ap (λ (x : Diagram). x.vars) c.self.view_is in
     let same_nodes = c.reserve.ensures.items ∙ ap (λ (x : Diagram). x.nodes) c.self.view_is in
     let e : Diagram = the_view (record c.self.inside { nodes = c.reserve.new.self; marks = c.reserve-2.new.self }) in
     same_sound d e ok same_vars same_nodes
 
 pub returns-clause-canonical : goal.returns-clause-canonical
-unfolding IsSound
+unfolding IsReduced
 returns-clause-canonical c =
     let d = c.args.self.now in
-    let ok : IsSound c.args.self.now = subst IsSound c.self.view_is c.self.invariant.reduced in
+    let ok : IsReduced c.args.self.now = subst IsReduced c.self.view_is c.self.invariant.reduced in
     let same_vars = ap (λ (x : Diagram). x.vars) c.self.view_is in
     let same_nodes = c.reserve.ensures.items ∙ ap (λ (x : Diagram). x.nodes) c.self.view_is in
     let e : Diagram = the_view (record c.self.inside { nodes = c.reserve.new.self; marks = c.reserve-2.new.self }) in

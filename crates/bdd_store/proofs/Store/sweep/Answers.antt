@@ -8,7 +8,7 @@ use Rattle.bdd_store.specs.Beads.{bead_count}
 use Rattle.bdd_store.specs.Seen.{SeenIs, places_of}
 use Rattle.bdd_store.specs.Chains.{GivesBack}
 use Rattle.bdd_store.specs.Results.{diagram_of}
-use Rattle.bdd_store.specs.Diagram.{Diagram, IsLive, AreLive, ref_at, IsSound, HasMarks, tables_of, held}
+use Rattle.bdd_store.specs.Diagram.{Diagram, IsLive, AreLive, ref_at, IsReduced, HasMarks, tables_of, held}
 use Rattle.bdd_store.proofs.Laws.{equal_refs}
 use Rattle.bdd_store.proofs.CountLaws.{none_counted, count_is}
 use Rattle.bdd_store.proofs.NodeLaws.{held_is}
@@ -22,10 +22,10 @@ count_below-self-inside-requires-clause-live c =
     subst (λ (ns : List Node). (i : ℕ) → i < length c.args.roots.now → Live c.self.inside.vars ns (ref_at c.args.roots.now i).place) (sym c.deref.ensures.value) (subst (λ (x : Diagram). AreLive x c.args.roots.now) (sym c.self.view_is) c.requires)
 
 pub invariant_of-self : goal.invariant_of-self
-unfolding IsSound
+unfolding IsReduced
 invariant_of-self c =
     let d = c.args.self.now in
-    let ok : IsSound d = subst IsSound c.self.view_is c.self.invariant.reduced in
+    let ok : IsReduced d = subst IsReduced c.self.view_is c.self.invariant.reduced in
     let same_vars = ap (λ (x : Diagram). x.vars) c.self.view_is in
     let roots = c.args.roots.now in
     let ms = c.give_back.new.nodes.items in
@@ -46,10 +46,10 @@ invariant_of-self c =
     }
 
 pub returns-clause-sweeps : goal.returns-clause-sweeps
-unfolding IsSound
+unfolding IsReduced
 returns-clause-sweeps c =
     let d = c.args.self.now in
-    let ok : IsSound d = subst IsSound c.self.view_is c.self.invariant.reduced in
+    let ok : IsReduced d = subst IsReduced c.self.view_is c.self.invariant.reduced in
     let same_vars = ap (λ (x : Diagram). x.vars) c.self.view_is in
     let roots = c.args.roots.now in
     let ms = c.give_back.new.nodes.items in
@@ -61,10 +61,10 @@ returns-clause-sweeps c =
     swept d e ms marks roots ok same_vars gives c.link_all-self-inside.ensures.same c.requires seen
 
 pub returns-clause-kept : goal.returns-clause-kept
-unfolding IsSound
+unfolding IsReduced
 returns-clause-kept c =
     let d = c.args.self.now in
-    let ok : IsSound d = subst IsSound c.self.view_is c.self.invariant.reduced in
+    let ok : IsReduced d = subst IsReduced c.self.view_is c.self.invariant.reduced in
     let same_vars = ap (λ (x : Diagram). x.vars) c.self.view_is in
     let roots = c.args.roots.now in
     let ms = c.give_back.new.nodes.items in
@@ -76,10 +76,10 @@ returns-clause-kept c =
     swept_kept d e ms marks roots ok same_vars gives c.link_all-self-inside.ensures.same c.requires seen
 
 pub returns-clause-beads : goal.returns-clause-beads
-unfolding IsSound
+unfolding IsReduced
 returns-clause-beads c =
     let d = c.args.self.now in
-    let ok : IsSound d = subst IsSound c.self.view_is c.self.invariant.reduced in
+    let ok : IsReduced d = subst IsReduced c.self.view_is c.self.invariant.reduced in
     let same_vars = ap (λ (x : Diagram). x.vars) c.self.view_is in
     let roots = c.args.roots.now in
     let ms = c.give_back.new.nodes.items in
@@ -91,10 +91,10 @@ returns-clause-beads c =
     swept_held d e ms marks roots ok same_vars gives c.link_all-self-inside.ensures.same c.requires seen len
 
 pub returns-clause-held : goal.returns-clause-held
-unfolding IsSound
+unfolding IsReduced
 returns-clause-held c =
     let d = c.args.self.now in
-    let ok : IsSound d = subst IsSound c.self.view_is c.self.invariant.reduced in
+    let ok : IsReduced d = subst IsReduced c.self.view_is c.self.invariant.reduced in
     let same_vars = ap (λ (x : Diagram). x.vars) c.self.view_is in
     let roots = c.args.roots.now in
     let ms = c.give_back.new.nodes.items in
@@ -111,10 +111,10 @@ returns-clause-marks c =
     c.clear-2.ensures.clear
 
 pub returns-clause-sound : goal.returns-clause-sound
-unfolding IsSound
+unfolding IsReduced
 returns-clause-sound c =
     let d = c.args.self.now in
-    let ok : IsSound d = subst IsSound c.self.view_is c.self.invariant.reduced in
+    let ok : IsReduced d = subst IsReduced c.self.view_is c.self.invariant.reduced in
     let same_vars = ap (λ (x : Diagram). x.vars) c.self.view_is in
     let roots = c.args.roots.now in
     let ms = c.give_back.new.nodes.items in
@@ -126,10 +126,10 @@ returns-clause-sound c =
     swept_sound d e ms marks roots ok same_vars gives c.link_all-self-inside.ensures.same c.requires seen
 
 pub returns-clause-canonical : goal.returns-clause-canonical
-unfolding IsSound
+unfolding IsReduced
 returns-clause-canonical c =
     let d = c.args.self.now in
-    let ok : IsSound d = subst IsSound c.self.view_is c.self.invariant.reduced in
+    let ok : IsReduced d = subst IsReduced c.self.view_is c.self.invariant.reduced in
     let same_vars = ap (λ (x : Diagram). x.vars) c.self.view_is in
     let roots = c.args.roots.now in
     let ms = c.give_back.new.nodes.items in
@@ -141,10 +141,10 @@ returns-clause-canonical c =
     equal_refs e (swept_sound d e ms marks roots ok same_vars gives c.link_all-self-inside.ensures.same c.requires seen)
 
 pub returns-clause-spare : goal.returns-clause-spare
-unfolding IsSound
+unfolding IsReduced
 returns-clause-spare c =
     let d = c.args.self.now in
-    let ok : IsSound d = subst IsSound c.self.view_is c.self.invariant.reduced in
+    let ok : IsReduced d = subst IsReduced c.self.view_is c.self.invariant.reduced in
     let same_vars = ap (λ (x : Diagram). x.vars) c.self.view_is in
     let roots = c.args.roots.now in
     let ms = c.give_back.new.nodes.items in

@@ -1,15 +1,15 @@
 use Rattle.std.proofs.Common.{ap, sym, subst}
-use Rattle.bdd_store.specs.Diagram.{Diagram, IsSound}
+use Rattle.bdd_store.specs.Diagram.{Diagram, IsReduced}
 use Rattle.bdd_store.specs.Results.{AreResults}
 use Rattle.bdd_store.proofs.ResultLaws.{known_there}
 use Rattle.bdd_store.proofs.Store.take_back.Goals as goal
 
 pub invariant_of-self : goal.invariant_of-self
-unfolding IsSound
+unfolding IsReduced
 invariant_of-self c =
     let is = c.self.invariant in
     let d = c.args.self.now in
-    let ok : IsSound d = subst IsSound c.self.view_is is.reduced in
+    let ok : IsReduced d = subst IsReduced c.self.view_is is.reduced in
     let same_vars = ap (λ (x : Diagram). x.vars) c.self.view_is in
     let same_nodes = ap (λ (x : Diagram). x.nodes) c.self.view_is in
     record {

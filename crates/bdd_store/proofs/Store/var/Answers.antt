@@ -1,5 +1,5 @@
 use Rattle.std.proofs.Common.{length, ap, subst, arith}
-use Rattle.bdd_store.specs.Diagram.{Diagram, IsSound, IsLive, first_var}
+use Rattle.bdd_store.specs.Diagram.{Diagram, IsReduced, IsLive, first_var}
 use Rattle.bdd_store.proofs.Laws.{read_node, depends_first, first_least}
 use Rattle.bdd_store.proofs.Store.var.Goals as goal
 
@@ -19,16 +19,16 @@ pub returns-clause-within : goal.returns-clause-within
 returns-clause-within c = omega (arith, returns-clause-var c, c.requires.proper)
 
 pub returns-clause-from : goal.returns-clause-from
-unfolding IsSound
+unfolding IsReduced
 returns-clause-from c =
-    let ok : IsSound c.args.self.now = subst IsSound c.self.view_is c.self.invariant.reduced in
+    let ok : IsReduced c.args.self.now = subst IsReduced c.self.view_is c.self.invariant.reduced in
     let is = returns-clause-var c in
     rw is (depends_first c.args.self.now ok c.args.r)
 
 pub returns-clause-first : goal.returns-clause-first
-unfolding IsSound
+unfolding IsReduced
 returns-clause-first c free =
-    let ok : IsSound c.args.self.now = subst IsSound c.self.view_is c.self.invariant.reduced in
+    let ok : IsReduced c.args.self.now = subst IsReduced c.self.view_is c.self.invariant.reduced in
     let is = returns-clause-var c in
     let within = returns-clause-within c in
     let least = first_least c.args.self.now ok c.args.r _ c.requires.live (omega arith) free in

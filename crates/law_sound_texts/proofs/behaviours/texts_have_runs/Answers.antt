@@ -1,11 +1,11 @@
 use Rattle.std.proofs.Common.{◌≡◌, ◌<◌, None, List, length, map, sym, subst, ◌∙◌}
 use Rattle.std.proofs.lemmas.List.{length-map}
-use Rattle.smv_core.specs.Flat.{FlatState}
+use Rattle.smv_core.specs.FlatMeaning.{FlatState}
 use Rattle.smv_core.specs.declared.flat.Design.{Design}
-use Rattle.smv_instances.specs.FirstFault.{first_fault}
+use Rattle.smv_mentions.specs.FirstFault.{first_fault}
 use Rattle.law_designs.specs.Flattening.{flatten}
 use Rattle.law_designs.specs.WholeText.{TextIsRight}
-use Rattle.law_designs.specs.Definitions.{design_of_raw}
+use Rattle.law_designs.specs.Definitions.{design_of_flat_text}
 use Rattle.law_obligations.specs.Soundness.{at_sizes, IsRun}
 use Rattle.law_obligations.specs.Outlines.{bases, names_of}
 use Rattle.law_sound_texts.proofs.Faultless.{is_faultless}
@@ -17,7 +17,7 @@ use Rattle.law_sound_texts.proofs.NoFaults.{none-both}
 pub returns : goal.returns
 returns c = λ text well none sizes are times some.
     let named : first_fault text ≡ None = well.3 in
-    let d : Design = design_of_raw (flatten text) in
+    let d : Design = design_of_flat_text (flatten text) in
     let right : TextIsRight text = c.expressions_are_right.ensures text (c.spelled_texts_are_written.ensures well.0 well.1 text well.2) named well.4 in
     let families = c.families_are_the_same.ensures text named sizes in
     let found = c.families_are_found.ensures text named in

@@ -3,4 +3,4 @@ use Rattle.law_sound_texts.proofs.WholeDefs.{claims-whole}
 use Rattle.law_sound_texts.proofs.checked_scripts.claims_read_whole_elements.Goals as goal
 
 pub returns : goal.returns
-returns c = λ raw h. claims-whole raw (kept raw h).1
+returns c = λ flat_text h. claims-whole flat_text (kept flat_text h).1

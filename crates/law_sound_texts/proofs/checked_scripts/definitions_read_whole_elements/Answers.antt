@@ -3,4 +3,4 @@ use Rattle.law_sound_texts.proofs.WholeDefs.{definitions-whole}
 use Rattle.law_sound_texts.proofs.checked_scripts.definitions_read_whole_elements.Goals as goal
 
 pub returns : goal.returns
-returns c = λ raw h. definitions-whole raw (kept raw h).1
+returns c = λ flat_text h. definitions-whole flat_text (kept flat_text h).1

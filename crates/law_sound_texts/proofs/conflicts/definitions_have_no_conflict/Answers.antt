@@ -5,4 +5,4 @@ use Rattle.law_sound_texts.proofs.Free.{def_free}
 use Rattle.law_sound_texts.proofs.conflicts.definitions_have_no_conflict.Goals as goal
 
 pub returns : goal.returns
-returns c = λ raw placed faultless. all-map (def_of raw) (IsFree raw) (λ head. def_free raw placed faultless head) (first_heads raw)
+returns c = λ flat_text placed faultless. all-map (def_of flat_text) (IsFree flat_text) (λ head. def_free flat_text placed faultless head) (first_heads flat_text)

@@ -5,4 +5,4 @@ use Rattle.law_sound_texts.proofs.Free.{def_single}
 use Rattle.law_sound_texts.proofs.conflicts.one_value_gives_a_result.Goals as goal
 
 pub returns : goal.returns
-returns c = λ raw placed faultless. all-map (def_of raw) (OneValueGives raw) (λ head. def_single raw placed faultless head) (first_heads raw)
+returns c = λ flat_text placed faultless. all-map (def_of flat_text) (OneValueGives flat_text) (λ head. def_single flat_text placed faultless head) (first_heads flat_text)

@@ -1,8 +1,8 @@
 use Rattle.std.proofs.Common.{◌≡◌, None, map}
-use Rattle.smv_instances.specs.FirstFault.{first_fault}
+use Rattle.smv_mentions.specs.FirstFault.{first_fault}
 use Rattle.law_designs.specs.Flattening.{flatten}
 use Rattle.law_designs.specs.WholeText.{TextIsRight}
-use Rattle.law_designs.specs.Definitions.{design_of_raw}
+use Rattle.law_designs.specs.Definitions.{design_of_flat_text}
 use Rattle.law_sound_texts.proofs.Faultless.{is_faultless}
 use Rattle.law_sound_texts.proofs.Texts.{to_text, text_run}
 use Rattle.law_sound_texts.proofs.CarriedRuns.{same_texts}
@@ -17,6 +17,6 @@ returns c = λ text well none sizes run some is.
     let found = c.families_are_found.ensures text named in (
       map (to_text text sizes families found) run,
       same_texts text sizes families found run,
-      text_run text sizes families found (c.definitions_allow_as_the_text.ensures text named right) (is_faultless (design_of_raw (flatten text)) none) (c.layers_are_same.ensures text named (none-both _ _ none).1)
+      text_run text sizes families found (c.definitions_allow_as_the_text.ensures text named right) (is_faultless (design_of_flat_text (flatten text)) none) (c.layers_are_same.ensures text named (none-both _ _ none).1)
           (c.what_has_no_definition_is_free.ensures (flatten text)) (λ x h e before fore b s t states. c.allowed_values_are_the_same.ensures text well sizes None x h e before fore b s t states) run some is,
     )

@@ -1,6 +1,6 @@
 use Rattle.std.proofs.Common.{◌≡◌, subst, sym, None}
 use Rattle.smv_core.specs.declared.flat.Design.{Design}
-use Rattle.smv_instances.specs.FirstFault.{first_of}
+use Rattle.smv_mentions.specs.FirstFault.{first_of}
 use Rattle.law_valid_texts.specs.Faults.{faults_of_widths}
 use Rattle.law_valid_texts.proofs.Rooms.{in_parts, no_width_fault}
 use Rattle.law_valid_texts.proofs.parts_of_texts.leaves_have_room.Goals as goal

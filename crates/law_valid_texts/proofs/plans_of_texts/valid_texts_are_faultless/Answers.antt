@@ -1,12 +1,12 @@
 -- Pass by pass.
-use Rattle.smv_instances.specs.FirstFault.{first_fault, first_of}
+use Rattle.smv_mentions.specs.FirstFault.{first_fault, first_of}
 use Rattle.law_designs.specs.KindFaults.{first_fault_of_kinds}
 use Rattle.law_designs.specs.Flattening.{flatten}
 use Rattle.law_designs.specs.SingleFaults.{first_fault_of_single}
 use Rattle.law_designs.specs.FirstFault.{first_fault_of_design}
 use Rattle.law_designs.specs.SetFaults.{first_fault_of_sets}
 use Rattle.law_splits.specs.SplitFaults.{first_fault_of_splits}
-use Rattle.smv_uses.specs.UseFaults.{first_fault_of_uses}
+use Rattle.law_uses.specs.UseFaults.{first_fault_of_uses}
 use Rattle.law_valid_texts.specs.Joined.{flat_design}
 use Rattle.law_valid_texts.specs.Faults.{faults_of_cases, faults_of_widths, pass_fault}
 use Rattle.law_valid_texts.proofs.Plans.{all_absent}

@@ -7,7 +7,7 @@ use Rattle.smv_core.specs.declared.flat.Unit.{Unit}
 use Rattle.law_obligations.specs.Units.{units_of, script_of}
 use Rattle.law_obligations.specs.Times.{all_timed}
 use Rattle.law_splits.specs.Leaves.{leaves_of}
-use Rattle.smv_uses.specs.Choices.{choices_of}
+use Rattle.law_uses.specs.Choices.{choices_of}
 use Rattle.law_valid_texts.specs.Joined.{flat_design}
 use Rattle.law_valid_texts.proofs.Order.{choice_each}
 use Rattle.law_valid_texts.proofs.read_plans.plans_are_of_texts.Goals as goal

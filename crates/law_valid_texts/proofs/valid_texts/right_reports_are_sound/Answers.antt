@@ -2,7 +2,7 @@ use Rattle.std.proofs.Common.{◌∙◌}
 use Rattle.std.proofs.lemmas.List.{length-map}
 use Rattle.law_obligations.specs.Units.{units_of}
 use Rattle.law_splits.specs.Leaves.{leaves_of}
-use Rattle.smv_uses.specs.Choices.{choice_of, choices_of}
+use Rattle.law_uses.specs.Choices.{choice_of, choices_of}
 use Rattle.law_valid_texts.specs.Joined.{flat_design}
 use Rattle.law_valid_texts.proofs.Places.{leaf_each}
 use Rattle.law_valid_texts.proofs.valid_texts.right_reports_are_sound.Goals as goal

@@ -1,5 +1,5 @@
 -- Pass by pass.
-use Rattle.smv_instances.specs.FirstFault.{first_fault, first_of}
+use Rattle.smv_mentions.specs.FirstFault.{first_fault, first_of}
 use Rattle.law_designs.specs.KindFaults.{first_fault_of_kinds}
 use Rattle.law_designs.specs.Flattening.{flatten}
 use Rattle.law_designs.specs.SingleFaults.{first_fault_of_single}
@@ -7,7 +7,7 @@ use Rattle.law_designs.specs.FirstFault.{first_fault_of_design}
 use Rattle.law_designs.specs.SetFaults.{first_fault_of_sets}
 use Rattle.law_designs.proofs.Faultless.{no_fault-in}
 use Rattle.law_splits.specs.SplitFaults.{faults_of_splits, first_fault_of_splits}
-use Rattle.smv_uses.specs.UseFaults.{first_fault_of_uses}
+use Rattle.law_uses.specs.UseFaults.{first_fault_of_uses}
 use Rattle.law_valid_texts.specs.Joined.{flat_design}
 use Rattle.law_valid_texts.specs.Faults.{faults_of_cases, faults_of_widths, pass_fault}
 use Rattle.law_valid_texts.proofs.Plans.{all_absent}

@@ -1,5 +1,5 @@
 use Rattle.std.proofs.Common.{◌≡◌, map, drop}
-use Rattle.smv_instances.specs.Scopes.{first_of_places}
+use Rattle.smv_mentions.specs.Scopes.{first_of_places}
 use Rattle.smv_choices.specs.Parts as parts
 use Rattle.smv_choices.specs.Readings as readings
 use Rattle.smv_choices.specs.Readings.{reading}

@@ -1,6 +1,6 @@
 use Rattle.std.proofs.Common.{◌≡◌, ◌++◌, drop, filter, not}
 use Rattle.std.specs.Prelude.{option_copied}
-use Rattle.smv_uses.specs.Choices.{is_own}
+use Rattle.law_uses.specs.Choices.{is_own}
 use Rattle.smv_choices.specs.Parts.{without_places}
 use Rattle.smv_choices.proofs.leaf_choices.besides.Given as goal
 

@@ -1,7 +1,7 @@
 use Rattle.std.proofs.Common.{◌≡◌, drop}
 use Rattle.std.specs.Prelude.{option_copied}
 use Rattle.std.specs.List.{list_any}
-use Rattle.smv_uses.specs.Choices.{is_own}
+use Rattle.law_uses.specs.Choices.{is_own}
 use Rattle.smv_choices.specs.Parts.{without_places}
 use Rattle.smv_choices.proofs.leaf_choices.has_own.Given as goal
 

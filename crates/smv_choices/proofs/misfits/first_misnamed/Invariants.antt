@@ -1,5 +1,5 @@
 use Rattle.std.proofs.Common.{◌≡◌, map, drop}
-use Rattle.smv_instances.specs.Scopes.{first_of_places}
+use Rattle.smv_mentions.specs.Scopes.{first_of_places}
 use Rattle.smv_choices.specs.Parts as parts
 use Rattle.smv_choices.specs.Readings.{pair_of}
 use Rattle.smv_choices.proofs.misfits.first_misnamed.Given as goal

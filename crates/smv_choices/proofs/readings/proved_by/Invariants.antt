@@ -1,6 +1,6 @@
 use Rattle.std.proofs.Common.{◌≡◌, ◌++◌, map, drop}
 use Rattle.std.specs.List.{flat_map}
-use Rattle.smv_instances.specs.Scopes.{first_of_places}
+use Rattle.smv_mentions.specs.Scopes.{first_of_places}
 use Rattle.smv_scope.specs.ScopeFault.{least}
 use Rattle.smv_choices.specs.Parts.{proved_one, unknown_one}
 use Rattle.smv_choices.specs.Readings.{pair_of}

@@ -4,7 +4,7 @@ use Rattle.std.specs.List.{slice_get}
 use Rattle.smv_core.specs.declared.tree.Ref.{Ref}
 use Rattle.smv_core.specs.declared.flat.Leaf.{Leaf}
 use Rattle.law_obligations.specs.Outlines.{unit_in, map_in}
-use Rattle.smv_uses.specs.Choices.{own_map}
+use Rattle.law_uses.specs.Choices.{own_map}
 use Rattle.smv_choices.specs.Held.{is_seen}
 use Rattle.smv_choices.specs.Parts.{chosen_again}
 use Rattle.smv_choices.specs.Readings.{pair_of}

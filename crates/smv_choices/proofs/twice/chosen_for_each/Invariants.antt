@@ -1,7 +1,7 @@
 use Rattle.std.proofs.Common.{◌≡◌, ℕ, map, drop, true}
 use Rattle.std.specs.Prelude.{option_and_then}
 use Rattle.std.specs.List.{slice_get}
-use Rattle.smv_instances.specs.Scopes.{first_of_places}
+use Rattle.smv_mentions.specs.Scopes.{first_of_places}
 use Rattle.law_obligations.specs.Outlines.{unit_in, map_in}
 use Rattle.smv_choices.specs.Held.{is_seen}
 use Rattle.smv_choices.specs.Parts as parts

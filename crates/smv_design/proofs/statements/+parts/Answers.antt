@@ -1,8 +1,8 @@
 use Rattle.std.proofs.Common.{◌≡◌, ◌+◌, List, Bool, false, flat_map, sym, ap, ◌∙◌}
 use Rattle.smv_core.specs.Walk.{same_kind}
 use Rattle.smv_core.specs.declared.flat.FlatExpr.{FlatExpr}
-use Rattle.smv_core.specs.declared.flat.Flat.{Flat}
-use Rattle.smv_core.specs.declared.flat.Flat as flat
+use Rattle.smv_core.specs.declared.flat.DefBody.{DefBody}
+use Rattle.smv_core.specs.declared.flat.DefBody as flat
 use Rattle.law_designs.specs.Definitions.{joined, each_value}
 use Rattle.smv_design.specs.Parts.{size, kept}
 use Rattle.smv_design.specs.Groups.{same_owner, filled, used, held, one_more}
@@ -86,5 +86,5 @@ add_said-returns-in_ok-add_all-in-Forall-clause-parts t c = λ owner.
     (body.2 ∙ ap (told kind layer owner place) c.get-in-Forall.ensures) in
     c.in_ok-add_all-in-Forall.ensures owner
     ∙ ap (filled (held c.args.groups.now owner) c.args.is_second) (c.in_ok-parts-in-Forall.ensures owner
-    ∙ ap (λ (l : List Flat). flat_map (λ p. kept (each_value c.in-Forall.var c.in-Forall.over p)) l) (c.in_ok-merged-in-Forall.ensures owner ∙ ap kept says)
+    ∙ ap (λ (l : List DefBody). flat_map (λ p. kept (each_value c.in-Forall.var c.in-Forall.over p)) l) (c.in_ok-merged-in-Forall.ensures owner ∙ ap kept says)
     ∙ Forall-made kind layer owner place c.in-Forall.var c.in-Forall.over c.in-Forall.body ∙ ap (λ act. kept (told kind layer owner place act)) (sym c.in-Forall.is))

@@ -1,6 +1,6 @@
 use Rattle.std.proofs.Common.{◌≡◌, ◌&&◌, map, drop}
 use Rattle.std.specs.List.{list_any}
-use Rattle.smv_core.specs.Flat.{Numbered}
+use Rattle.smv_core.specs.FlatMeaning.{Numbered}
 use Rattle.smv_spots.specs.Spots.{place_in}
 use Rattle.smv_encode.specs.ChosenDemands.{is_of, is_moving}
 use Rattle.smv_encode.proofs.chosen.some_moves.Given as goal

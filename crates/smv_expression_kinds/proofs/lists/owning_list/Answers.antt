@@ -1,7 +1,7 @@
 use Rattle.std.proofs.Common.{ap, sym, ◌∙◌}
 use Rattle.std.specs.Prelude.{option_map}
 use Rattle.std.specs.Option.{option_copied}
-use Rattle.smv_instances.specs.Scopes.{Constant, pieces, constants}
+use Rattle.smv_mentions.specs.Scopes.{Constant, pieces, constants}
 use Rattle.smv_scope.specs.Held.{constant_of}
 use Rattle.smv_scope.proofs.PieceLaws.{constant-found}
 use Rattle.smv_expression_kinds.proofs.ListLaws.{owner-none, owner-first}

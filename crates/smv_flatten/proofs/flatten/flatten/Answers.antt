@@ -3,4 +3,4 @@ use Rattle.law_designs.specs.Flattening.{flatten}
 use Rattle.smv_flatten.proofs.flatten.flatten.Goals as goal
 
 pub returns : goal.returns
-returns c = c.raw_of.ensures ∙ c.in_ok-said.ensures ∙ ap flatten c.in_ok-numbers.ensures.text
+returns c = c.flat_text_of.ensures ∙ c.in_ok-said.ensures ∙ ap flatten c.in_ok-numbers.ensures.text

@@ -4,7 +4,7 @@ use Rattle.std.proofs.lemmas.Grind.{common_steps}
 use Rattle.smv_core.specs.Types.{find_name}
 use Rattle.smv_core.specs.FlatOrder.{role_of}
 use Rattle.smv_core.specs.declared.tree.Role.TheVariants.{Plain}
-use Rattle.smv_instances.proofs.Notes.{noting}
+use Rattle.smv_mentions.proofs.Notes.{noting}
 use Rattle.smv_flatten.proofs.RoleLaws.{role-found}
 use Rattle.smv_flatten.proofs.roles.roles_of.Goals as goal
 

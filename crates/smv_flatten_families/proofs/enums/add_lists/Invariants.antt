@@ -1,7 +1,7 @@
 use Rattle.std.proofs.Common.{◌≡◌, ◌++◌, map, drop}
 use Rattle.std.specs.List.{flat_map}
 use Rattle.smv_core.specs.Types.{names_of}
-use Rattle.smv_instances.specs.Said.{said}
+use Rattle.smv_mentions.specs.Said.{said}
 use Rattle.law_designs.specs.Flattening.{enum_of}
 use Rattle.smv_flatten_families.proofs.enums.add_lists.Given as goal
 

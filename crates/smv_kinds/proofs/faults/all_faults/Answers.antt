@@ -1,7 +1,7 @@
 use Rattle.std.proofs.Common.{◌≡◌, [], arith}
 use Rattle.std.specs.Prelude.{Some, slice_get}
 use Rattle.std.proofs.lemmas.Option.{slice_get_read}
-use Rattle.smv_instances.specs.Scopes.{pieces, constants}
+use Rattle.smv_mentions.specs.Scopes.{pieces, constants}
 use Rattle.law_designs.specs.References.{modules_from}
 use Rattle.smv_kinds.proofs.TopLaws.{tops-step}
 use Rattle.smv_kinds.proofs.faults.all_faults.Goals as goal

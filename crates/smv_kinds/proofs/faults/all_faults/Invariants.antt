@@ -1,5 +1,5 @@
 use Rattle.std.proofs.Common.{◌≡◌, ◌++◌, [], drop}
-use Rattle.smv_instances.specs.Scopes.{pieces, constants}
+use Rattle.smv_mentions.specs.Scopes.{pieces, constants}
 use Rattle.law_designs.specs.References.{modules_from}
 use Rattle.law_designs.specs.KindFaults.{in_tops}
 use Rattle.smv_expression_kinds.specs.Forms.{types_before}

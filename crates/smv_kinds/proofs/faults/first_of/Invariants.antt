@@ -1,5 +1,5 @@
 use Rattle.std.proofs.Common.{◌≡◌, drop}
-use Rattle.smv_instances.specs.FirstFault.{first_of}
+use Rattle.smv_mentions.specs.FirstFault.{first_of}
 use Rattle.smv_scope.specs.ScopeFault.{earlier_of}
 use Rattle.smv_kinds.proofs.faults.first_of.Given as goal
 

@@ -1,9 +1,9 @@
 use Rattle.std.proofs.Common.{◌≡◌, ap, sym, ◌∙◌, subst}
 use Rattle.std.specs.Prelude.{Option, Some, option_map}
 use Rattle.smv_core.specs.declared.tree.Expr.{Expr}
-use Rattle.smv_instances.specs.Scopes.{Own}
-use Rattle.smv_instances.specs.Said.{said_of}
-use Rattle.smv_instances.specs.declared.mentions.What.{What as NotedWhat}
+use Rattle.smv_mentions.specs.Scopes.{Own}
+use Rattle.smv_mentions.specs.Said.{said_of}
+use Rattle.smv_mentions.specs.declared.mentions.What.{What as NotedWhat}
 use Rattle.smv_scope.specs.Held.{own_of}
 use Rattle.law_designs.specs.References.{Scope}
 use Rattle.law_designs.specs.KindFaults.{connected}

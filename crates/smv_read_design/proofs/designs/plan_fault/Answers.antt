@@ -1,5 +1,5 @@
 use Rattle.std.proofs.Common.{◌∙◌, ap}
-use Rattle.smv_instances.specs.FirstFault.{first_of}
+use Rattle.smv_mentions.specs.FirstFault.{first_of}
 use Rattle.smv_read_design.specs.Widths.{faults_of_widths}
 use Rattle.smv_read_design.proofs.ReadLaws.{each_ok, widths_found}
 use Rattle.smv_read_design.proofs.designs.plan_fault.Goals as goal

@@ -1,6 +1,6 @@
 use Rattle.std.proofs.Common.{Bool, filter, ap, sym, ◌∙◌}
 use Rattle.smv_core.specs.Assignments.{Index}
-use Rattle.smv_core.specs.Flat.{flat_index}
+use Rattle.smv_core.specs.FlatMeaning.{flat_index}
 use Rattle.smv_core.specs.declared.flat.Class.{Class}
 use Rattle.smv_indexes.specs.Indexes.{index_of}
 use Rattle.smv_reads.specs.Views.{places, place_in, spot_in, classes_in, may_lie}

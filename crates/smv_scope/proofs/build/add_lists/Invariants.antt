@@ -1,6 +1,6 @@
 use Rattle.std.proofs.Common.{◌≡◌, ◌++◌, map, drop}
 use Rattle.std.specs.List.{flat_map}
-use Rattle.smv_instances.specs.Said.{said}
+use Rattle.smv_mentions.specs.Said.{said}
 use Rattle.smv_scope.specs.Held.{lists_of}
 use Rattle.smv_scope.proofs.build.add_lists.Given as goal
 

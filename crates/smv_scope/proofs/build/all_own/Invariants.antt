@@ -1,7 +1,7 @@
 use Rattle.std.proofs.Common.{◌≡◌, ◌++◌, [], ◌∷◌, map, drop}
 use Rattle.std.specs.List.{flat_map}
-use Rattle.smv_instances.specs.Scopes.{own_names}
-use Rattle.smv_instances.specs.Said.{said}
+use Rattle.smv_mentions.specs.Scopes.{own_names}
+use Rattle.smv_mentions.specs.Said.{said}
 use Rattle.smv_scope.specs.Held.{own_beside}
 use Rattle.smv_scope.proofs.build.all_own.Given as goal
 

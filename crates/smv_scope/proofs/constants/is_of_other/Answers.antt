@@ -1,6 +1,6 @@
 use Rattle.std.proofs.Common.{◌∙◌, ap, sym, not}
 use Rattle.std.specs.Option.{option_map, option_copied}
-use Rattle.smv_instances.specs.NameFaults.{is_of_other_list}
+use Rattle.smv_mentions.specs.NameFaults.{is_of_other_list}
 use Rattle.smv_scope.specs.Held.{constant_of}
 use Rattle.smv_scope.proofs.PieceLaws.{constant-found}
 use Rattle.smv_scope.proofs.constants.is_of_other.Goals as goal

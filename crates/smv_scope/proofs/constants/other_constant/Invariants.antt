@@ -1,8 +1,8 @@
 use Rattle.std.proofs.Common.{◌≡◌, drop}
 use Rattle.std.specs.List.{flat_map}
 use Rattle.smv_core.specs.Types.{find_name}
-use Rattle.smv_instances.specs.Scopes.{pieces, constants, first_of_places}
-use Rattle.smv_instances.specs.NameFaults.{place_if, is_of_other_list}
+use Rattle.smv_mentions.specs.Scopes.{pieces, constants, first_of_places}
+use Rattle.smv_mentions.specs.NameFaults.{place_if, is_of_other_list}
 use Rattle.smv_scope.specs.Compared.{IsCompared}
 use Rattle.smv_scope.specs.ScopeFault.{least}
 use Rattle.smv_scope.proofs.constants.other_constant.Given as goal

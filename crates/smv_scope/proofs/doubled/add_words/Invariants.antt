@@ -1,5 +1,5 @@
 use Rattle.std.proofs.Common.{◌≡◌, ◌++◌, drop}
-use Rattle.smv_instances.specs.Said.{words_at}
+use Rattle.smv_mentions.specs.Said.{words_at}
 use Rattle.smv_scope.proofs.doubled.add_words.Given as goal
 
 abbrev pub invariant-loop-word : goal.invariant-loop-word

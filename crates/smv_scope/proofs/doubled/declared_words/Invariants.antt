@@ -1,7 +1,7 @@
 use Rattle.std.proofs.Common.{◌≡◌, ◌++◌, [], ◌∷◌, drop}
 use Rattle.std.specs.List.{flat_map}
-use Rattle.smv_instances.specs.NameFaults as faults
-use Rattle.smv_instances.specs.Said.{said, words_at}
+use Rattle.smv_mentions.specs.NameFaults as faults
+use Rattle.smv_mentions.specs.Said.{said, words_at}
 use Rattle.smv_scope.proofs.doubled.declared_words.Given as goal
 
 abbrev pub invariant-loop-mention : goal.invariant-loop-mention

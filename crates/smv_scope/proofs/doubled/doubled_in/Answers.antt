@@ -1,7 +1,7 @@
 use Rattle.std.proofs.Common.{◌∙◌, ap, [], ◌∷◌}
 use Rattle.std.specs.List.{flat_map}
-use Rattle.smv_instances.specs.Said.{said}
-use Rattle.smv_instances.specs.NameFaults.{repeated, declared_words, doubled}
+use Rattle.smv_mentions.specs.Said.{said}
+use Rattle.smv_mentions.specs.NameFaults.{repeated, declared_words, doubled}
 use Rattle.smv_scope.specs.ScopeFault.{least}
 use Rattle.smv_scope.specs.Numbered.{scope_at}
 use Rattle.smv_scope.proofs.DoubledLaws.{doubled-whole}

@@ -1,7 +1,7 @@
 use Rattle.std.proofs.Common.{◌≡◌, ◌++◌, drop}
 use Rattle.std.specs.List.{flat_map}
 use Rattle.smv_core.specs.declared.tree.Field.{out-Field}
-use Rattle.smv_instances.specs.Said.{words_at}
+use Rattle.smv_mentions.specs.Said.{words_at}
 use Rattle.smv_scope.proofs.doubled.field_words.Given as goal
 
 abbrev pub invariant-loop-field : goal.invariant-loop-field

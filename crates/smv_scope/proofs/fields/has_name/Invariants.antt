@@ -1,5 +1,5 @@
 use Rattle.std.proofs.Common.{◌≡◌, drop}
-use Rattle.smv_instances.specs.Scopes.{has_name}
+use Rattle.smv_mentions.specs.Scopes.{has_name}
 use Rattle.smv_scope.proofs.fields.has_name.Given as goal
 
 abbrev pub invariant-loop-word : goal.invariant-loop-word

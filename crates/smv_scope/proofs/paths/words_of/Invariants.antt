@@ -1,6 +1,6 @@
 use Rattle.std.proofs.Common.{◌≡◌, ◌++◌, drop}
 use Rattle.std.specs.List.{flat_map}
-use Rattle.smv_instances.specs.Said.{words_at}
+use Rattle.smv_mentions.specs.Said.{words_at}
 use Rattle.smv_scope.specs.Numbered.{word_in}
 use Rattle.smv_scope.proofs.paths.words_of.Given as goal
 

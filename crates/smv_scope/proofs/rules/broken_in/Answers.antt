@@ -1,8 +1,8 @@
 use Rattle.std.proofs.Common.{◌∙◌, ap, sym}
 use Rattle.std.specs.List.{flat_map}
-use Rattle.smv_instances.specs.Scopes.{pieces}
-use Rattle.smv_instances.specs.Said.{said}
-use Rattle.smv_instances.specs.NameFaults.{miscounted}
+use Rattle.smv_mentions.specs.Scopes.{pieces}
+use Rattle.smv_mentions.specs.Said.{said}
+use Rattle.smv_mentions.specs.NameFaults.{miscounted}
 use Rattle.smv_scope.specs.ScopeFault.{least}
 use Rattle.smv_scope.specs.Held.{piece_noted}
 use Rattle.smv_scope.specs.Rules.{broken}

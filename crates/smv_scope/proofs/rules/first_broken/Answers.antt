@@ -2,7 +2,7 @@ use Rattle.std.proofs.Common.{refl, ap, sym, ◌∙◌}
 use Rattle.smv_scope.specs.ScopeFault.{least}
 use Rattle.smv_scope.specs.Held.{piece_noted}
 use Rattle.std.proofs.lemmas.Option.{slice_get_read}
-use Rattle.smv_instances.specs.Scopes.{pieces}
+use Rattle.smv_mentions.specs.Scopes.{pieces}
 use Rattle.smv_scope.specs.Rules.{broken}
 use Rattle.smv_scope.proofs.RuleLaws.{tops-step, tops-end}
 use Rattle.smv_scope.proofs.rules.first_broken.Goals as goal

@@ -1,8 +1,8 @@
 use Rattle.std.proofs.Common.{◌≡◌, drop}
 use Rattle.std.specs.List.{flat_map}
-use Rattle.smv_instances.specs.Scopes.{first_of_places, pieces}
-use Rattle.smv_instances.specs.Said.{said}
-use Rattle.smv_instances.specs.NameFaults.{miscounted}
+use Rattle.smv_mentions.specs.Scopes.{first_of_places, pieces}
+use Rattle.smv_mentions.specs.Said.{said}
+use Rattle.smv_mentions.specs.NameFaults.{miscounted}
 use Rattle.smv_scope.specs.ScopeFault.{least}
 use Rattle.smv_scope.proofs.rules.miscounted_in.Given as goal
 

@@ -1,4 +1,4 @@
-use Rattle.smv_instances.specs.Scopes.{pieces}
+use Rattle.smv_mentions.specs.Scopes.{pieces}
 use Rattle.smv_scope.specs.ScopeFault.{first_scope_fault}
 use Rattle.smv_scope.proofs.FirstLaws.{scope-first}
 use Rattle.smv_scope.proofs.scope.scope_fault_of.Goals as goal

@@ -1,6 +1,6 @@
 use Rattle.std.proofs.Common.{◌∙◌, ap, sym}
 use Rattle.std.specs.Option.{option_map, option_copied}
-use Rattle.smv_instances.specs.Scopes.{Constant}
+use Rattle.smv_mentions.specs.Scopes.{Constant}
 use Rattle.smv_scope.specs.Held.{constant_of}
 use Rattle.smv_scope.proofs.PieceLaws.{constant-found}
 use Rattle.smv_scope.proofs.tables.constant_at.Goals as goal

@@ -1,5 +1,5 @@
 use Rattle.smv_scope.proofs.PieceLaws.{module-some, module-not, piece-none}
-use Rattle.smv_instances.specs.Scopes.{body_if_module}
+use Rattle.smv_mentions.specs.Scopes.{body_if_module}
 use Rattle.std.proofs.Common.{ap}
 use Rattle.smv_scope.proofs.tables.module_at.Goals as goal
 

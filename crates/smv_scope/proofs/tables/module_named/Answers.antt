@@ -1,5 +1,5 @@
 use Rattle.smv_scope.proofs.PieceLaws.{module-found}
-use Rattle.smv_instances.specs.Scopes.{body_if_module, pieces}
+use Rattle.smv_mentions.specs.Scopes.{body_if_module, pieces}
 use Rattle.std.specs.Option.{option_and_then}
 use Rattle.std.specs.List.{slice_get}
 use Rattle.std.proofs.Common.{ap, ◌∙◌}

@@ -1,5 +1,5 @@
-use Rattle.smv_instances.specs.Said.{said}
-use Rattle.smv_instances.specs.NameFaults.{undeclared}
+use Rattle.smv_mentions.specs.Said.{said}
+use Rattle.smv_mentions.specs.NameFaults.{undeclared}
 use Rattle.smv_scope.specs.Numbered.{scope_at}
 use Rattle.smv_scope.proofs.LeastLaws.{least-step}
 use Rattle.smv_scope.proofs.undeclared.undeclared_mentions.Goals as goal

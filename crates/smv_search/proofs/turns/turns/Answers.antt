@@ -5,8 +5,8 @@ use Rattle.smv_search.proofs.Keep.{same_place, place_same}
 use Rattle.smv_rings.specs.Lists.{lists_of}
 use Rattle.smv_rings.specs.Schedule.{ring, kept_at, schedule}
 use Rattle.smv_rings.specs.Ops.{IsOneOf}
-use Rattle.smv_search.specs.Verdict.{AllPass, First}
-use Rattle.smv_search.specs.Verdict.Verdict.{Reached}
+use Rattle.smv_search.specs.Events.{AllUneventful, First}
+use Rattle.smv_search.specs.Events.Event.{Reached}
 use Rattle.smv_search.specs.Runs.{IsEnd, rings_to}
 use Rattle.smv_search.proofs.Steps.{handed_on}
 use Rattle.smv_search.proofs.TurnLaws.{plan_now, fits_now, keeps_f, run_stops, run_finds, image_live, held_f, keeps_g, close_stops, closes, goes_passed, goes_ended, kept_g, next_g, up, pushed_more, pushed_next, pushed_held, end_rings}
@@ -68,7 +68,7 @@ loop-k-preserved c =
       last = pushed_next c.close.new.live.items c.push.new.self.items c.in_ok-next.next items;
       kept = ap (map (table c.close.new.store)) (items ∙ ap (λ rs. rs ++ (c.in_ok-next.next ∷ [])) c.in_ok-next.ensures.same) ∙ up (λ n. map (table c.close.new.store) (c.run.new.live.items ++ (c.in_ok-next.next ∷ [])) ≡ kept_at (lists_of c.args.store.now c.args.rel.now) n) c.loop-k.k (kept_g (lists_of c.args.store.now c.args.rel.now) c.args.store.now c.loop-k.store c.args.live.now.items c.loop-k.live.items c.args.plan.now c.loop-k.last c.loop-k.k c.args.nodes c.args.steps c.requires.refs c.requires.plan c.requires.fits c.loop-k.invariant.keeps c.loop-k.invariant.more c.loop-k.invariant.kept c.loop-k.invariant.ring c.loop-k-test.true c.run.new.store c.run.new.live.items c.run.result c.run.ensures.keeps (c.loop-k.invariant.passed c.loop-k-test.true) c.run.ensures.runs c.in-Some.image (c.in_ok-image.was ∙ ap Ok c.in-Some.is) c.in_ok-image.ensures.same c.loop-k.invariant.last c.close.new.store c.close.result c.close.ensures.keeps c.close.ensures.count c.in_ok-next.next c.in_ok-next.was c.in_ok-next.ensures.live c.in_ok-next.ensures.table);
       ring = up (λ n. table c.close.new.store c.in_ok-next.next ≡ ring (lists_of c.args.store.now c.args.rel.now) n) c.loop-k.k (next_g (lists_of c.args.store.now c.args.rel.now) c.args.store.now c.loop-k.store c.args.live.now.items c.loop-k.live.items c.args.plan.now c.loop-k.last c.loop-k.k c.args.nodes c.args.steps c.requires.refs c.requires.plan c.requires.fits c.loop-k.invariant.keeps c.loop-k.invariant.more c.loop-k.invariant.kept c.loop-k.invariant.ring c.loop-k-test.true c.run.new.store c.run.new.live.items c.run.result c.run.ensures.keeps (c.loop-k.invariant.passed c.loop-k-test.true) c.run.ensures.runs c.in-Some.image (c.in_ok-image.was ∙ ap Ok c.in-Some.is) c.in_ok-image.ensures.same c.loop-k.invariant.last c.close.new.store c.close.result c.close.ensures.keeps c.close.ensures.count c.in_ok-next.next c.in_ok-next.was c.in_ok-next.ensures.live c.in_ok-next.ensures.table);
-      passed = λ less. up (λ n. AllPass (record { vars = c.args.store.now.vars; nodes = c.args.nodes; images = c.args.steps }) (schedule (lists_of c.args.store.now c.args.rel.now) n)) c.loop-k.k (goes_passed (lists_of c.args.store.now c.args.rel.now) c.args.store.now c.loop-k.store c.args.live.now.items c.loop-k.live.items c.args.plan.now c.loop-k.last c.loop-k.k c.args.nodes c.args.steps c.requires.refs c.requires.plan c.requires.fits c.loop-k.invariant.keeps c.loop-k.invariant.more c.loop-k.invariant.kept c.loop-k.invariant.ring c.loop-k-test.true c.run.new.store c.run.new.live.items c.run.result c.run.ensures.keeps (c.loop-k.invariant.passed c.loop-k-test.true) c.run.ensures.runs c.in-Some.image (c.in_ok-image.was ∙ ap Ok c.in-Some.is) c.in_ok-image.ensures.same c.loop-k.invariant.last c.close.new.store c.close.result c.close.ensures.keeps c.close.ensures.count c.in_ok-next.next c.in_ok-next.was c.in_ok-next.ensures.live c.in_ok-next.ensures.table c.vars.ensures.canonical ne (omega arith));
+      passed = λ less. up (λ n. AllUneventful (record { vars = c.args.store.now.vars; nodes = c.args.nodes; images = c.args.steps }) (schedule (lists_of c.args.store.now c.args.rel.now) n)) c.loop-k.k (goes_passed (lists_of c.args.store.now c.args.rel.now) c.args.store.now c.loop-k.store c.args.live.now.items c.loop-k.live.items c.args.plan.now c.loop-k.last c.loop-k.k c.args.nodes c.args.steps c.requires.refs c.requires.plan c.requires.fits c.loop-k.invariant.keeps c.loop-k.invariant.more c.loop-k.invariant.kept c.loop-k.invariant.ring c.loop-k-test.true c.run.new.store c.run.new.live.items c.run.result c.run.ensures.keeps (c.loop-k.invariant.passed c.loop-k-test.true) c.run.ensures.runs c.in-Some.image (c.in_ok-image.was ∙ ap Ok c.in-Some.is) c.in_ok-image.ensures.same c.loop-k.invariant.last c.close.new.store c.close.result c.close.ensures.keeps c.close.ensures.count c.in_ok-next.next c.in_ok-next.was c.in_ok-next.ensures.live c.in_ok-next.ensures.table c.vars.ensures.canonical ne (omega arith));
       ended = λ is. goes_ended (lists_of c.args.store.now c.args.rel.now) c.args.store.now c.loop-k.store c.args.live.now.items c.loop-k.live.items c.args.plan.now c.loop-k.last c.loop-k.k c.args.nodes c.args.steps c.requires.refs c.requires.plan c.requires.fits c.loop-k.invariant.keeps c.loop-k.invariant.more c.loop-k.invariant.kept c.loop-k.invariant.ring c.loop-k-test.true c.run.new.store c.run.new.live.items c.run.result c.run.ensures.keeps (c.loop-k.invariant.passed c.loop-k-test.true) c.run.ensures.runs c.in-Some.image (c.in_ok-image.was ∙ ap Ok c.in-Some.is) c.in_ok-image.ensures.same c.loop-k.invariant.last c.close.new.store c.close.result c.close.ensures.keeps c.close.ensures.count c.in_ok-next.next c.in_ok-next.was c.in_ok-next.ensures.live c.in_ok-next.ensures.table c.vars.ensures.canonical ne (omega arith);
     }
 

@@ -5,8 +5,8 @@ use Rattle.smv_rings.specs.Lists.{lists_of}
 use Rattle.smv_rings.specs.Schedule.{kept_at, ring, schedule}
 use Rattle.smv_search.specs.Keeping.{KeepsRefs, AllHeld}
 use Rattle.smv_rings.specs.Ops.{IsOneOf}
-use Rattle.smv_search.specs.Verdict.{AllPass, First}
-use Rattle.smv_search.specs.Verdict.Verdict.{Images}
+use Rattle.smv_search.specs.Events.{AllUneventful, First}
+use Rattle.smv_search.specs.Events.Event.{Images}
 use Rattle.smv_search.proofs.turns.turns.Given as goal
 
 abbrev pub invariant-loop-k : goal.invariant-loop-k
@@ -18,6 +18,6 @@ invariant-loop-k l = record {
   last : IsOneOf l.last l.live.items;
   kept : map (table l.store) l.live.items ≡ kept_at (lists_of l.initial.store l.rel) l.k;
   ring : table l.store l.last ≡ ring (lists_of l.initial.store l.rel) l.k;
-  passed : l.k < l.steps → AllPass (record { vars = l.initial.store.vars; nodes = l.nodes; images = l.steps }) (schedule (lists_of l.initial.store l.rel) l.k);
+  passed : l.k < l.steps → AllUneventful (record { vars = l.initial.store.vars; nodes = l.nodes; images = l.steps }) (schedule (lists_of l.initial.store l.rel) l.k);
   ended : l.k ≡ l.steps → First (record { vars = l.initial.store.vars; nodes = l.nodes; images = l.steps }) (schedule (lists_of l.initial.store l.rel) l.steps) Images;
 }

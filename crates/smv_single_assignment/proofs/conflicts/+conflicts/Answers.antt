@@ -1,5 +1,5 @@
 use Rattle.std.proofs.Common.{◌∙◌, ap, refl}
-use Rattle.smv_instances.specs.Scopes.{first_of_places}
+use Rattle.smv_mentions.specs.Scopes.{first_of_places}
 use Rattle.law_designs.specs.Standing.{standing}
 use Rattle.law_designs.specs.SingleFaults.{conflicts, cross}
 use Rattle.smv_single_assignment.specs.Links.{held}

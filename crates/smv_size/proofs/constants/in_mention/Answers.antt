@@ -1,7 +1,7 @@
 use Rattle.std.proofs.Common.{[], ◌∷◌, List, sym, ap, subst, ◌∙◌}
 use Rattle.std.specs.Prelude.{OnOk}
 use Rattle.smv_core.specs.Values.{Name}
-use Rattle.smv_instances.specs.Said.{said}
+use Rattle.smv_mentions.specs.Said.{said}
 use Rattle.smv_size.specs.Constants.{Counts, constants_said}
 use Rattle.smv_size.proofs.ConstantLaws.{said-listed}
 use Rattle.smv_size.proofs.constants.in_mention.Goals as goal

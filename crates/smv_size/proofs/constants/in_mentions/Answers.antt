@@ -1,6 +1,6 @@
 use Rattle.std.proofs.Common.{subst, map}
 use Rattle.std.proofs.lemmas.List.{take_all}
-use Rattle.smv_instances.specs.Said.{said}
+use Rattle.smv_mentions.specs.Said.{said}
 use Rattle.smv_size.specs.Constants.{Counts, constants_said}
 use Rattle.smv_size.proofs.ConstantLaws.{counts-mention, counts-none}
 use Rattle.smv_size.proofs.constants.in_mentions.Goals as goal

@@ -1,6 +1,6 @@
 use Rattle.std.proofs.Common.{◌≡◌, take, length, map}
 use Rattle.std.specs.Prelude.{min}
-use Rattle.smv_instances.specs.Said.{said}
+use Rattle.smv_mentions.specs.Said.{said}
 use Rattle.smv_size.specs.Constants.{Counts, constants_said}
 use Rattle.smv_size.proofs.constants.in_mentions.Given as goal
 

@@ -2,8 +2,8 @@ use Rattle.std.proofs.Common.{◌≡◌, [], List, map, length, ap, sym, subst, 
 use Rattle.std.specs.Prelude.{min, nat_lt}
 use Rattle.std.proofs.lemmas.List.{take_all}
 use Rattle.smv_core.specs.Values.{Name}
-use Rattle.smv_instances.specs.Said.{said, told}
-use Rattle.smv_instances.specs.Sizes.{count_different, constant_names}
+use Rattle.smv_mentions.specs.Said.{said, told}
+use Rattle.smv_mentions.specs.Sizes.{count_different, constant_names}
 use Rattle.smv_size.specs.Constants.{Counts, constants_said, constants_told}
 use Rattle.smv_size.proofs.ConstantLaws.{counts-piece, counts-none, counts-all, told-names, limit-same}
 use Rattle.smv_size.proofs.constants.too_many_constants.Goals as goal

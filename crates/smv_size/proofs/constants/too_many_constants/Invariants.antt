@@ -1,6 +1,6 @@
 use Rattle.std.proofs.Common.{◌≡◌, take, length, map, []}
 use Rattle.std.specs.Prelude.{min}
-use Rattle.smv_instances.specs.Said.{told}
+use Rattle.smv_mentions.specs.Said.{told}
 use Rattle.smv_size.specs.Constants.{Counts, constants_told}
 use Rattle.smv_size.proofs.constants.too_many_constants.Given as goal
 

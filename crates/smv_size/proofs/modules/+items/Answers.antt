@@ -6,7 +6,7 @@ use Rattle.smv_core.specs.FlatOrder.{Body}
 use Rattle.smv_core.specs.declared.tree.Word.{Word}
 use Rattle.smv_core.specs.declared.tree.Expr.{Expr}
 use Rattle.smv_core.specs.declared.tree.Item.{Item, Instance}
-use Rattle.smv_instances.specs.Sizes.{Sized, body_named, statements_of_item, statements}
+use Rattle.smv_mentions.specs.Sizes.{Sized, body_named, statements_of_item, statements}
 use Rattle.smv_size.specs.Limits.{capped}
 use Rattle.smv_size.specs.declared.modules.ModuleSize.{ModuleSize}
 use Rattle.smv_size.proofs.CountLaws.{sum_is}

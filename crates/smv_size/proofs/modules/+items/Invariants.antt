@@ -1,7 +1,7 @@
 use Rattle.std.proofs.Common.{◌≡◌, ℕ, List, map, take, sum}
 use Rattle.smv_core.specs.Values.{Name}
 use Rattle.smv_core.specs.FlatOrder.{Body}
-use Rattle.smv_instances.specs.Sizes.{Sized, Thing, statements_of_item}
+use Rattle.smv_mentions.specs.Sizes.{Sized, Thing, statements_of_item}
 use Rattle.smv_size.specs.Limits.{capped}
 use Rattle.smv_size.specs.Summary.{AreToldOf}
 use Rattle.smv_size.proofs.modules.+items.Given as goal

@@ -1,7 +1,7 @@
 use Rattle.std.proofs.Common.{◌≡◌, ℕ, List, map, take}
 use Rattle.smv_core.specs.Values.{Name}
 use Rattle.smv_core.specs.FlatOrder.{Body}
-use Rattle.smv_instances.specs.Sizes.{Sized, Thing}
+use Rattle.smv_mentions.specs.Sizes.{Sized, Thing}
 use Rattle.smv_size.specs.Summary.{types_told, body_of, body_told, AreToldOf}
 use Rattle.smv_size.proofs.modules.next_sizes.Given as goal
 

@@ -1,7 +1,7 @@
 use Rattle.std.proofs.Common.{ap, sym, ◌∙◌, flat_map}
 use Rattle.smv_core.specs.declared.tree.Item.{Item}
 use Rattle.smv_core.specs.declared.tree.Word.{Word}
-use Rattle.smv_instances.specs.Sizes.{family, extents_of, things_of_item}
+use Rattle.smv_mentions.specs.Sizes.{family, extents_of, things_of_item}
 use Rattle.smv_size.specs.Summary.{things_told}
 use Rattle.smv_size.specs.declared.modules.ModuleSize.{ModuleSize}
 use Rattle.smv_size.proofs.MetLaws.{map-flat_map}

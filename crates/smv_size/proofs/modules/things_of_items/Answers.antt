@@ -1,7 +1,7 @@
 use Rattle.std.proofs.Common.{take, ap, ◌∙◌}
 use Rattle.std.specs.List.{flat_map}
 use Rattle.std.proofs.lemmas.List.{take_all}
-use Rattle.smv_instances.specs.Sizes.{things_of_item}
+use Rattle.smv_mentions.specs.Sizes.{things_of_item}
 use Rattle.smv_size.specs.Summary.{things_told}
 use Rattle.smv_size.proofs.ExtentLaws.{flat_map-turn}
 use Rattle.smv_size.proofs.modules.things_of_items.Goals as goal

@@ -2,7 +2,7 @@ use Rattle.std.proofs.Common.{◌≡◌, ℕ, List, take}
 use Rattle.std.specs.List.{flat_map}
 use Rattle.smv_core.specs.Values.{Name}
 use Rattle.smv_core.specs.FlatOrder.{Body}
-use Rattle.smv_instances.specs.Sizes.{Sized, Thing, things_of_item}
+use Rattle.smv_mentions.specs.Sizes.{Sized, Thing, things_of_item}
 use Rattle.smv_size.specs.Summary.{things_told, types_told, AreToldOf}
 use Rattle.smv_size.proofs.modules.things_of_items.Given as goal
 

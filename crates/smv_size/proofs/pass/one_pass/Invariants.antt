@@ -1,7 +1,7 @@
 use Rattle.std.proofs.Common.{◌≡◌, List, map}
 use Rattle.smv_core.specs.Values.{Name}
 use Rattle.smv_core.specs.FlatOrder.{Body}
-use Rattle.smv_instances.specs.Sizes.{Sized}
+use Rattle.smv_mentions.specs.Sizes.{Sized}
 use Rattle.smv_size.specs.Summary.{types_told, module_names, module_bodies, body_of}
 use Rattle.smv_size.specs.Pass.{AreAtMost}
 use Rattle.smv_size.proofs.pass.one_pass.Given as goal

@@ -1,5 +1,5 @@
 use Rattle.std.proofs.Common.{map, ◌∙◌}
-use Rattle.smv_instances.specs.Said.{told}
+use Rattle.smv_mentions.specs.Said.{told}
 use Rattle.smv_size.proofs.PlaceLaws.{main_is}
 use Rattle.smv_size.proofs.place.fault_at_main.Goals as goal
 

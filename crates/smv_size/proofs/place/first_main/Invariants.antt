@@ -1,5 +1,5 @@
 use Rattle.std.proofs.Common.{◌≡◌, map, drop}
-use Rattle.smv_instances.specs.Said.{told}
+use Rattle.smv_mentions.specs.Said.{told}
 use Rattle.smv_size.specs.Place.{main_told}
 use Rattle.smv_size.proofs.place.first_main.Given as goal
 

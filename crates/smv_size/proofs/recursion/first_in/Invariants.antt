@@ -1,7 +1,7 @@
 use Rattle.std.proofs.Common.{◌≡◌, map, drop}
 use Rattle.std.specs.List.{flat_map}
 use Rattle.graphs.specs.Graph.{lists}
-use Rattle.smv_instances.specs.Said.{said}
+use Rattle.smv_mentions.specs.Said.{said}
 use Rattle.smv_size.specs.Recursion.{least_from, recursive_at}
 use Rattle.smv_size.proofs.recursion.first_in.Given as goal
 

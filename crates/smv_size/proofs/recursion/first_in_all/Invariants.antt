@@ -1,7 +1,7 @@
 use Rattle.std.proofs.Common.{◌≡◌, map, drop}
 use Rattle.std.specs.List.{flat_map}
 use Rattle.graphs.specs.Graph.{lists}
-use Rattle.smv_instances.specs.Said.{told}
+use Rattle.smv_mentions.specs.Said.{told}
 use Rattle.smv_size.specs.Recursion.{least_from, recursive_told}
 use Rattle.smv_size.proofs.recursion.first_in_all.Given as goal
 

@@ -4,7 +4,7 @@ use Rattle.std.specs.List.{flat_map}
 use Rattle.smv_core.specs.Values.{Name}
 use Rattle.graphs.specs.Graph.{lists, IsGraph}
 use Rattle.graphs.proofs.SearchLaws.{length_held}
-use Rattle.smv_instances.specs.Said.{told}
+use Rattle.smv_mentions.specs.Said.{told}
 use Rattle.smv_size.specs.Recursion.{names_told, module_graph, least_from, recursive_told}
 use Rattle.smv_size.proofs.RecursionLaws.{graph_holds, graph_long}
 use Rattle.smv_size.proofs.recursion.first_recursive.Goals as goal

@@ -1,6 +1,6 @@
 use Rattle.std.proofs.Common.{◌≡◌, ◌++◌, map, drop}
 use Rattle.graphs.specs.Graph.{lists}
-use Rattle.smv_instances.specs.Said.{told}
+use Rattle.smv_mentions.specs.Said.{told}
 use Rattle.smv_size.specs.Recursion.{module_graph}
 use Rattle.smv_size.proofs.recursion.graph.Given as goal
 

@@ -1,8 +1,8 @@
 use Rattle.std.proofs.Common.{◌≡◌, ◌++◌, map, drop}
 use Rattle.std.specs.List.{filter_map}
 use Rattle.name_index.specs.Position.{position}
-use Rattle.smv_instances.specs.Said.{said}
-use Rattle.smv_instances.specs.NameFaults.{used_in}
+use Rattle.smv_mentions.specs.Said.{said}
+use Rattle.smv_mentions.specs.NameFaults.{used_in}
 use Rattle.smv_size.proofs.recursion.instances.Given as goal
 
 abbrev pub invariant-loop-mention : goal.invariant-loop-mention

@@ -1,5 +1,5 @@
 use Rattle.std.proofs.Common.{map, ap, ◌∙◌}
-use Rattle.smv_instances.specs.Said.{told}
+use Rattle.smv_mentions.specs.Said.{told}
 use Rattle.smv_size.specs.Recursion.{recursion_at}
 use Rattle.smv_size.proofs.RecursionLaws.{least_is_first}
 use Rattle.smv_size.proofs.recursion.recursion_fault.Goals as goal

@@ -1,7 +1,7 @@
 use Rattle.std.proofs.Common.{◌≡◌, ℕ, ◌+◌, ◌-◌, List, length, map, sym, subst, ap, ◌∙◌, arith}
 use Rattle.std.proofs.lemmas.Slice.Eq.{slice_eq-Decides}
 use Rattle.smv_core.specs.FlatOrder.{Body}
-use Rattle.smv_instances.specs.Sizes.{things_in, statements_in}
+use Rattle.smv_mentions.specs.Sizes.{things_in, statements_in}
 use Rattle.smv_size.specs.Summary.{AreTold, empty_told, body_told}
 use Rattle.smv_size.specs.declared.modules.ModuleSize.{ModuleSize}
 use Rattle.smv_size.proofs.RoundLaws.{told-empty, told-next, told-later}

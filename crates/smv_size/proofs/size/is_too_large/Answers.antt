@@ -2,7 +2,7 @@ use Rattle.std.proofs.Common.{[], List, length, ap, ◌∙◌}
 use Rattle.std.specs.Prelude.{nat_lt}
 use Rattle.smv_core.specs.FlatOrder.{main, modules}
 use Rattle.smv_core.specs.declared.tree.Top.{Top}
-use Rattle.smv_instances.specs.Sizes.{sized_from, body_named, things_in, statements_in, count_different, constant_names}
+use Rattle.smv_mentions.specs.Sizes.{sized_from, body_named, things_in, statements_in, count_different, constant_names}
 use Rattle.smv_size.specs.Limits.{capped}
 use Rattle.smv_size.specs.Summary.{module_told}
 use Rattle.smv_size.proofs.SummaryLaws.{above}

@@ -1,7 +1,7 @@
 use Rattle.std.proofs.Common.{[], List, ap, ◌∙◌}
 use Rattle.smv_core.specs.Values.{Name}
 use Rattle.smv_core.specs.FlatOrder.{main}
-use Rattle.smv_instances.specs.Sizes.{sized_from}
+use Rattle.smv_mentions.specs.Sizes.{sized_from}
 use Rattle.smv_size.specs.Summary.{size_named}
 use Rattle.smv_size.specs.declared.modules.ModuleSize.{ModuleSize}
 use Rattle.smv_size.proofs.size.size_of_main.Goals as goal

@@ -3,7 +3,7 @@ use Rattle.std.specs.List.{sum_by}
 use Rattle.smv_core.specs.Walk.{steps_of}
 use Rattle.smv_core.specs.declared.tree.Arm.{Arm, out-Arm}
 use Rattle.smv_core.specs.declared.tree.Stmt.{Stmt, If, Switch}
-use Rattle.smv_instances.specs.Sizes as sizes
+use Rattle.smv_mentions.specs.Sizes as sizes
 use Rattle.smv_size.specs.Limits.{capped}
 use Rattle.smv_size.proofs.CountLaws.{sum_is, product_is, statements-Default, statements-For, statements-Forall, statements-If, statements-If_else, statements-Switch, statements-Switch_default}
 use Rattle.smv_size.proofs.statements.+counts.Goals as goal

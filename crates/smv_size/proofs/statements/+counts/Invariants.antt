@@ -1,7 +1,7 @@
 use Rattle.std.proofs.Common.{◌≡◌, take}
 use Rattle.std.specs.List.{sum_by}
 use Rattle.smv_core.specs.declared.tree.Arm.{out-Arm}
-use Rattle.smv_instances.specs.Sizes as sizes
+use Rattle.smv_mentions.specs.Sizes as sizes
 use Rattle.smv_size.specs.Limits.{capped}
 use Rattle.smv_size.proofs.statements.+counts.Given as goal
 

@@ -1,7 +1,7 @@
 use Rattle.std.proofs.Common.{ap, sym, ◌∙◌, take}
 use Rattle.std.specs.List.{flat_map}
-use Rattle.smv_instances.specs.Sizes.{under, extents_of}
-use Rattle.smv_instances.specs.Sizes as sizes
+use Rattle.smv_mentions.specs.Sizes.{under, extents_of}
+use Rattle.smv_mentions.specs.Sizes as sizes
 use Rattle.std.specs.Prelude.{map}
 use Rattle.smv_size.specs.Summary.{families_told}
 use Rattle.smv_size.proofs.ExtentLaws.{extents-Array, extents-Struct, extents_of_field, flat_map-turn}

@@ -2,7 +2,7 @@ use Rattle.std.proofs.Common.{◌≡◌, List, take}
 use Rattle.std.specs.List.{flat_map}
 use Rattle.smv_core.specs.Values.{Name}
 use Rattle.smv_core.specs.declared.tree.Field.{out-Field}
-use Rattle.smv_instances.specs.Sizes.{Sized, extents_of}
+use Rattle.smv_mentions.specs.Sizes.{Sized, extents_of}
 use Rattle.smv_size.specs.Summary.{families_told, types_told}
 use Rattle.smv_size.proofs.types.+families.Given as goal
 

@@ -1,5 +1,5 @@
 use Rattle.std.proofs.Common.{[], take, ap, ◌∙◌}
-use Rattle.smv_instances.specs.Sizes.{sized_from}
+use Rattle.smv_mentions.specs.Sizes.{sized_from}
 use Rattle.smv_size.specs.Summary.{types_told}
 use Rattle.smv_size.proofs.ExtentLaws.{sized-turn}
 use Rattle.smv_size.proofs.types.type_sizes.Goals as goal

@@ -1,5 +1,5 @@
 use Rattle.std.proofs.Common.{map, ap}
-use Rattle.smv_instances.specs.Sizes.{Extent}
+use Rattle.smv_mentions.specs.Sizes.{Extent}
 use Rattle.smv_size.specs.Summary.{greatest}
 use Rattle.smv_size.specs.declared.types.Families.{Families}
 use Rattle.smv_size.proofs.SummaryLaws.{told-under}

@@ -1,5 +1,5 @@
 use Rattle.std.proofs.Common.{◌≡◌, map, drop}
-use Rattle.smv_instances.specs.Scopes.{first_of_places}
+use Rattle.smv_mentions.specs.Scopes.{first_of_places}
 use Rattle.smv_splits.specs.Parts as parts
 use Rattle.smv_splits.proofs.misfits.first_stray.Given as goal
 

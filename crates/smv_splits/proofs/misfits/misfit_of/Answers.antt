@@ -1,5 +1,5 @@
 use Rattle.std.proofs.Common.{ap, ◌∙◌}
-use Rattle.smv_instances.specs.Scopes.{first_of_places}
+use Rattle.smv_mentions.specs.Scopes.{first_of_places}
 use Rattle.smv_splits.proofs.MisfitLaws.{split-first}
 use Rattle.smv_splits.proofs.misfits.misfit_of.Goals as goal
 

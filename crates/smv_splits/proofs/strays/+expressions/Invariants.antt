@@ -1,5 +1,5 @@
 use Rattle.std.proofs.Common.{◌≡◌, map, drop}
-use Rattle.smv_instances.specs.Scopes.{first_of_places}
+use Rattle.smv_mentions.specs.Scopes.{first_of_places}
 use Rattle.smv_splits.specs.Parts.{first_among, stray_in, signed_stray, member_stray}
 use Rattle.smv_splits.proofs.strays.+expressions.Given as goal
 

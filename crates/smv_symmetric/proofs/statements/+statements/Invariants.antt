@@ -5,4 +5,4 @@ use Rattle.smv_symmetric.specs.Plain.{first_among, statement_fault}
 use Rattle.smv_symmetric.proofs.statements.+statements.Given as goal
 
 abbrev pub invariant-statement_faults-loop-x : goal.invariant-statement_faults-loop-x
-invariant-statement_faults-loop-x l = earlier_of l.found (first_among (map (statement_fault l.raw (map kind_of l.vars)) (drop l.x-index l.parts))) ≡ first_among (map (statement_fault l.raw (map kind_of l.vars)) l.parts)
+invariant-statement_faults-loop-x l = earlier_of l.found (first_among (map (statement_fault l.flat_text (map kind_of l.vars)) (drop l.x-index l.parts))) ≡ first_among (map (statement_fault l.flat_text (map kind_of l.vars)) l.parts)

@@ -1,5 +1,5 @@
 use Rattle.std.proofs.Common.{sym, ap, ◌∙◌, arith}
-use Rattle.smv_core.specs.declared.flat.Flat.{If}
+use Rattle.smv_core.specs.declared.flat.DefBody.{If}
 use Rattle.smv_unit_tables.proofs.PartLaws.{if_kept}
 use Rattle.smv_unit_tables.proofs.parts.+parts.Goals as goal
 

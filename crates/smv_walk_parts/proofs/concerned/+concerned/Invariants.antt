@@ -1,6 +1,6 @@
 use Rattle.std.proofs.Common.{◌≡◌, drop, map}
 use Rattle.std.specs.List.{list_any}
-use Rattle.smv_core.specs.Flat.{Numbered}
+use Rattle.smv_core.specs.FlatMeaning.{Numbered}
 use Rattle.smv_spots.specs.Spots.{place_in}
 use Rattle.smv_walk_parts.specs.Parts.{is_concerned}
 use Rattle.smv_walk_parts.proofs.concerned.+concerned.Given as goal

@@ -1,6 +1,6 @@
 use Rattle.std.proofs.Common.{◌≡◌, ◌∷◌, [], ◌+◌, List, drop, arith, refl, sym, subst}
 use Rattle.std.proofs.lemmas.Grind.{common_steps}
-use Rattle.smv_core.specs.declared.flat.Flat.{Flat}
+use Rattle.smv_core.specs.declared.flat.DefBody.{DefBody}
 use Rattle.smv_spots.specs.declared.spots.Spot.{Spot}
 use Rattle.smv_cells.proofs.SeenLaws.{keeps_same, keeps_trans, cells_kept}
 use Rattle.smv_outcomes.proofs.KnownLaws.{known_kept}
@@ -90,7 +90,7 @@ gists_each-returns-clause-target g t c = c.loop-part.invariant.target_made
 pub gists_each-returns-clause-are : goal.gists_each-returns-clause-are
 gists_each-returns-clause-are g t c =
     let end : drop c.loop-part.part-index c.args.parts.now ≡ [] = grind (arith, common_steps) in
-    subst (λ (rest : List Flat). AreGistsOf g.S.Conditions.holds c.args.s.now c.loop-part.s c.args.problem.now c.args.cells.now c.args.target.now c.args.way c.args.b.now c.args.parts.now rest c.loop-part.each.items) end c.loop-part.invariant.are
+    subst (λ (rest : List DefBody). AreGistsOf g.S.Conditions.holds c.args.s.now c.loop-part.s c.args.problem.now c.args.cells.now c.args.target.now c.args.way c.args.b.now c.args.parts.now rest c.loop-part.each.items) end c.loop-part.invariant.are
 
 pub gists_along-loop-inner-init : goal.gists_along-loop-inner-init
 gists_along-loop-inner-init g t c = record { keeps = keeps_same _ _ _ _; made = subst (AllGistsMade _) (sym c.new-each.ensures.items) tt; cells_made = c.requires.cells_made; known = c.requires.known; target_made = c.requires.target_made; are = along_begins _ _ _ _ _ _ _ _ _ _ refl c.new-each.ensures.items }

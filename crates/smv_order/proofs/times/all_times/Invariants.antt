@@ -1,7 +1,0 @@
-use Rattle.std.proofs.Common.{◌≡◌, ◌++◌, drop, map}
-use Rattle.smv_order.specs.Uses.{held}
-use Rattle.smv_order.specs.Times.{timed_from}
-use Rattle.smv_order.proofs.times.all_times.Given as goal
-
-abbrev pub invariant-loop-place : goal.invariant-loop-place
-invariant-loop-place l = l.times.items ++ timed_from l.labels.items l.place (map held (drop l.place l.all)) ≡ timed_from l.labels.items 0 (map held l.all)

@@ -1,7 +1,0 @@
-use Rattle.std.proofs.Common.{◌≡◌, ◌++◌, drop, map}
-use Rattle.smv_order.specs.Tables.{outline}
-use Rattle.smv_order.specs.Uses.{pick_use, marked}
-use Rattle.smv_order.proofs.uses.pick_uses.Given as goal
-
-abbrev pub invariant-loop-pick : goal.invariant-loop-pick
-invariant-loop-pick l = l.uses.items ++ map (pick_use (outline l.tables) (marked l.marks)) (drop l.pick-index l.picks) ≡ map (pick_use (outline l.tables) (marked l.marks)) l.picks
