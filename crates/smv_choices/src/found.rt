@@ -9,11 +9,11 @@ ghost use Rattle.smv_choices.specs.Parts as parts;
 
 use crate::meanings::meaning_of;
 use crate::tables::Tables;
+use law_uses::meaning::Meaning;
 use smv_core::flat::{Assumed, Pick};
 use smv_core::seq::Seq;
 use smv_core::tree::{Ref, Use};
 use smv_scope::places::first_of;
-use law_uses::meaning::Meaning;
 use std::alloc::{AllocError, Global};
 
 /// The definitions that the uses of a `using` choose and the claims that they assume, each with its place, and the first place of one that means nothing.

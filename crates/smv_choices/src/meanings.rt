@@ -6,11 +6,11 @@ ghost use Rattle.law_uses.specs.declared.meaning.Meaning.TheVariants as means;
 ghost use Rattle.smv_choices.specs.Held.{AreTables};
 
 use crate::tables::Tables;
+use law_uses::meaning::Meaning;
 use name_index::NameIndex;
 use smv_core::name::Name;
 use smv_core::tree::Ref;
 use smv_references::names::path_of;
-use law_uses::meaning::Meaning;
 use std::alloc::{AllocError, Global};
 
 /// The number of a name, where it fits. No text within the limits has one that does not.

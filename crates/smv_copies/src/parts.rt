@@ -3,7 +3,7 @@ ghost use Rattle.std.specs.Prelude.{◌≡◌, IfOk};
 
 use crate::{copy_expression, copy_expressions};
 use smv_core::boxed::Boxed;
-use smv_core::flat::{Class, Family, DefBody, Guard, Simple};
+use smv_core::flat::{Class, DefBody, Family, Guard, Simple};
 use smv_core::{Name, Seq};
 use std::alloc::{AllocError, Global};
 

@@ -74,7 +74,12 @@ fn chosen(cond: &FlatExpr, yes: DefBody, no: DefBody, alloc: Global) -> Result<D
 }
 
 /// The branches of an `if`, where one of them has a result.
-pub fn branches(cond: &FlatExpr, yes: DefBody, no: DefBody, alloc: Global) -> Result<DefBody, AllocError>
+pub fn branches(
+    cond: &FlatExpr,
+    yes: DefBody,
+    no: DefBody,
+    alloc: Global,
+) -> Result<DefBody, AllocError>
     ensures { IfOk result (λ part. part ≡ branches_of cond.now yes no) }
 {
     if is_nothing(&yes) && is_nothing(&no) {
@@ -84,7 +89,12 @@ pub fn branches(cond: &FlatExpr, yes: DefBody, no: DefBody, alloc: Global) -> Re
 }
 
 /// What stands under a `forall`, where it has a result.
-pub fn each_value(var: u16, over: Simple, body: DefBody, alloc: Global) -> Result<DefBody, AllocError>
+pub fn each_value(
+    var: u16,
+    over: Simple,
+    body: DefBody,
+    alloc: Global,
+) -> Result<DefBody, AllocError>
     ensures { IfOk result (λ part. part ≡ each_value_of var over body) }
 {
     if is_nothing(&body) {

@@ -19,7 +19,7 @@ use smv_cells::Cell;
 use smv_conditions::offers::Offer;
 use smv_conditions::stores::Plain;
 use smv_core::Seq;
-use smv_core::flat::{Element, DefBody};
+use smv_core::flat::{DefBody, Element};
 use smv_outcomes::nothing_known;
 use smv_problem::{AbsValue, Demand, Problem};
 use smv_spots::spots::Spot;

@@ -194,7 +194,11 @@ fn flat_text_of(numbers: Numbers, said: LayeredItems) -> FlatText
 }
 
 /// The flattened text of a text whose tops were noted. Also where a number does not fit its field, which no text within the limits has, no memory is said to be left.
-pub fn flatten<'a>(alloc: Global, text: &'a Text, pieces: &[Piece<'a>]) -> Result<FlatText, AllocError>
+pub fn flatten<'a>(
+    alloc: Global,
+    text: &'a Text,
+    pieces: &[Piece<'a>],
+) -> Result<FlatText, AllocError>
     requires { AreNoted pieces.now text.now }
     ensures { IfOk result (λ flat_text. flat_text ≡ flattening.flatten text.now) }
 {

@@ -6,7 +6,7 @@ ghost use Rattle.smv_layers.specs.Leaks.{first_among};
 
 use crate::expressions::{fault_if_abstract, read_fault, read_faults};
 use smv_core::fault::Fault;
-use smv_core::flat::{Def, Design, Family, DefBody, FlatExpr};
+use smv_core::flat::{Def, DefBody, Design, Family, FlatExpr};
 use smv_scope::scope::earlier;
 
 // The first fault of an assignment, where this is the first of the conditions around it.
@@ -28,7 +28,12 @@ fn assigned_fault(
 // The first fault in a part of a family's definition. A condition is read by the assignments under it.
 #[cycle(parts)]
 #[tactic(auto, using(crate::proofs::PartLaws::equations))]
-fn part_fault(families: &[Family], family: u16, around: Option<Fault>, part: &DefBody) -> Option<Fault>
+fn part_fault(
+    families: &[Family],
+    family: u16,
+    around: Option<Fault>,
+    part: &DefBody,
+) -> Option<Fault>
     ensures { result ≡ spec.part_fault families.now family around part.now }
 {
     match part {

@@ -2,7 +2,7 @@
 
 use crate::texts::designed;
 use smv_core::Refusal;
-use smv_core::flat::{Def, Design, DefBody};
+use smv_core::flat::{Def, DefBody, Design};
 use std::alloc::{AllocError, Global};
 use std::test::Fail;
 

@@ -14,10 +14,10 @@ use smv_choices::choices;
 use smv_core::flat::{Choice, Design, Leaf, Unit};
 use smv_core::{Fault, Refusal};
 use smv_layers::units::units;
-use smv_use_times::order;
 use smv_problem::Plan;
 use smv_scope::scope::earlier;
 use smv_split_faults::leaves;
+use smv_use_times::order;
 use std::alloc::{AllocError, Global};
 
 // The fault of a leaf with too many parameters or cases.

@@ -1,7 +1,7 @@
 // The problem of a case as data: what the evaluator, the encoder and the trace read.
 use smv_core::Seq;
 use smv_core::abstract_type::AbsType;
-use smv_core::flat::{Element, Family, DefBody, FlatExpr, Guard};
+use smv_core::flat::{DefBody, Element, Family, FlatExpr, Guard};
 use smv_spots::spots::Spot;
 
 /// What an outcome may be in a case: a number, a constant by its place in its enumeration, a class or a rest of a set type, or Undefined.

@@ -23,12 +23,21 @@ pub fn inside(alloc: Global, vars: &[Simple], over: Simple) -> Result<Vec<Simple
 }
 
 // The first fault of the two sides of a comparison, besides those inside them.
-fn compared(flat_text: &FlatText, vars: &[Simple], op: Op, left: &FlatExpr, right: &FlatExpr) -> Option<Fault>
+fn compared(
+    flat_text: &FlatText,
+    vars: &[Simple],
+    op: Op,
+    left: &FlatExpr,
+    right: &FlatExpr,
+) -> Option<Fault>
     ensures { result ≡ plain.compared flat_text.now (map kind_of vars.now) op left.now right.now }
 {
     let left = operand_of(flat_text, vars, left);
     let right = operand_of(flat_text, vars, right);
-    let order = earlier(disordered(flat_text, op, left), disordered(flat_text, op, right));
+    let order = earlier(
+        disordered(flat_text, op, left),
+        disordered(flat_text, op, right),
+    );
     earlier(met(&[left, right]), order)
 }
 
@@ -36,7 +45,10 @@ fn compared(flat_text: &FlatText, vars: &[Simple], op: Op, left: &FlatExpr, righ
 fn chosen(flat_text: &FlatText, vars: &[Simple], yes: &FlatExpr, no: &FlatExpr) -> Option<Fault>
     ensures { result ≡ plain.chosen flat_text.now (map kind_of vars.now) yes.now no.now }
 {
-    met(&[operand_of(flat_text, vars, yes), operand_of(flat_text, vars, no)])
+    met(&[
+        operand_of(flat_text, vars, yes),
+        operand_of(flat_text, vars, no),
+    ])
 }
 
 // The same of the members of a listed set.
@@ -104,7 +116,10 @@ pub fn fault_in(
             ..
         } => {
             let parts = faults_in(alloc, flat_text, vars, indexes.as_slice())?;
-            Ok(earlier(parts, wanted_at(flat_text, *family, vars, indexes.as_slice())))
+            Ok(earlier(
+                parts,
+                wanted_at(flat_text, *family, vars, indexes.as_slice()),
+            ))
         }
         FlatExpr::Var { .. } => Ok(None),
         FlatExpr::Loop { .. } => Ok(None),
@@ -122,7 +137,10 @@ pub fn fault_in(
             let first = fault_in(alloc, flat_text, vars, left.get())?;
             let second = fault_in(alloc, flat_text, vars, right.get())?;
             let parts = earlier(first, second);
-            Ok(earlier(parts, compared(flat_text, vars, *op, left.get(), right.get())))
+            Ok(earlier(
+                parts,
+                compared(flat_text, vars, *op, left.get(), right.get()),
+            ))
         }
         FlatExpr::Within { left, set } => {
             let first = fault_in(alloc, flat_text, vars, left.get())?;

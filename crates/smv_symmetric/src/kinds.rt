@@ -71,7 +71,10 @@ pub fn kind_in(flat_text: &FlatText, vars: &[Simple], x: &FlatExpr) -> Kind
         FlatExpr::Var { var, .. } => variable_kind(vars, *var),
         FlatExpr::Constant { list, .. } => Kind::Enumeration { list: *list },
         FlatExpr::Choose { yes, no, .. } => {
-            joined(kind_in(flat_text, vars, yes.get()), kind_in(flat_text, vars, no.get()))
+            joined(
+                kind_in(flat_text, vars, yes.get()),
+                kind_in(flat_text, vars, no.get()),
+            )
         }
         FlatExpr::List { members, .. } => members_kind(flat_text, vars, members.as_slice()),
         FlatExpr::Each { over, .. } => kind_of(*over),

@@ -207,7 +207,12 @@ pub fn wanted(over: Simple, x: Operand) -> Option<Fault>
 
 // The first fault of indexes over these types.
 #[tactic(auto, using(crate::proofs::TurnLaws::in_turn))]
-fn wanted_each(flat_text: &FlatText, vars: &[Simple], over: &[Simple], indexes: &[FlatExpr]) -> Option<Fault>
+fn wanted_each(
+    flat_text: &FlatText,
+    vars: &[Simple],
+    over: &[Simple],
+    indexes: &[FlatExpr],
+) -> Option<Fault>
     ensures { result ≡ first_of (flat_map (λ (t, x). spec.wanted t x) (zip over.now (map (plain.operand flat_text.now (map kind_of vars.now)) indexes.now))) }
 {
     match over {
@@ -223,7 +228,12 @@ fn wanted_each(flat_text: &FlatText, vars: &[Simple], over: &[Simple], indexes: 
 }
 
 /// The first fault of the indexes of an element of a family.
-pub fn wanted_at(flat_text: &FlatText, family: u16, vars: &[Simple], indexes: &[FlatExpr]) -> Option<Fault>
+pub fn wanted_at(
+    flat_text: &FlatText,
+    family: u16,
+    vars: &[Simple],
+    indexes: &[FlatExpr],
+) -> Option<Fault>
     ensures { result ≡ first_of (spec.wanted_at (slice_get flat_text.now.families family) (map (plain.operand flat_text.now (map kind_of vars.now)) indexes.now)) }
 {
     match flat_text.families.as_slice().get(usize::from(family)) {

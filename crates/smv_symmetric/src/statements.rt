@@ -7,7 +7,7 @@ use crate::expressions::{fault_in, faults_in, inside};
 use crate::operands::{operand_of, wanted_at, wanted_of};
 use smv_core::fault::Fault;
 use smv_core::flat::{
-    Claim, FlatExpr, FlatItem, FlatPair, FlatSplit, FlatStmt, Param, FlatText, Simple,
+    Claim, FlatExpr, FlatItem, FlatPair, FlatSplit, FlatStmt, FlatText, Param, Simple,
 };
 use smv_scope::scope::earlier;
 use std::alloc::{AllocError, Global};
@@ -27,7 +27,10 @@ fn assigned_fault(
     let indexes = earlier(parts, wanted_at(flat_text, family, vars, left));
     let read = fault_in(alloc, flat_text, vars, value)?;
     let all = earlier(indexes, read);
-    Ok(earlier(all, wanted_of(flat_text, family, operand_of(flat_text, vars, value))))
+    Ok(earlier(
+        all,
+        wanted_of(flat_text, family, operand_of(flat_text, vars, value)),
+    ))
 }
 
 // The first fault in a statement inside these variables.
@@ -99,7 +102,11 @@ fn types_of(alloc: Global, params: &[Param]) -> Result<Vec<Simple>, AllocError>
 }
 
 // The first fault of a claim's body.
-fn claim_fault(alloc: Global, flat_text: &FlatText, claim: &Claim) -> Result<Option<Fault>, AllocError>
+fn claim_fault(
+    alloc: Global,
+    flat_text: &FlatText,
+    claim: &Claim,
+) -> Result<Option<Fault>, AllocError>
     ensures { IfOk result (λ fault. fault ≡ plain.fault_in flat_text.now (bound_by flat_text.now claim.now.params) claim.now.body) }
 {
     let vars = types_of(alloc, claim.params.as_slice())?;
@@ -126,7 +133,11 @@ fn pair_faults(
 }
 
 // The first fault of a split's equations.
-fn split_fault(alloc: Global, flat_text: &FlatText, split: &FlatSplit) -> Result<Option<Fault>, AllocError>
+fn split_fault(
+    alloc: Global,
+    flat_text: &FlatText,
+    split: &FlatSplit,
+) -> Result<Option<Fault>, AllocError>
     ensures { IfOk result (λ fault. fault ≡ plain.first_among (map (λ pair. plain.fault_in flat_text.now (bound_by flat_text.now split.now.bound) pair.left) split.now.pairs)) }
 {
     let vars = types_of(alloc, split.bound.as_slice())?;
@@ -136,7 +147,11 @@ fn split_fault(alloc: Global, flat_text: &FlatText, split: &FlatSplit) -> Result
 
 // The first fault of an item.
 #[tactic(auto, using(crate::proofs::StatementEquations::items))]
-fn item_fault(alloc: Global, flat_text: &FlatText, x: &FlatItem) -> Result<Option<Fault>, AllocError>
+fn item_fault(
+    alloc: Global,
+    flat_text: &FlatText,
+    x: &FlatItem,
+) -> Result<Option<Fault>, AllocError>
     ensures { IfOk result (λ fault. fault ≡ plain.item_fault flat_text.now x.now) }
 {
     match x {

@@ -20,8 +20,8 @@ use smv_core::Refusal;
 use smv_core::flat::FlatText;
 use smv_core::tree::Text;
 use smv_flatten::flatten::flatten;
-use smv_mentions::pieces::Piece;
 use smv_kinds::faults::kinds_fault;
+use smv_mentions::pieces::Piece;
 use std::alloc::Global;
 use std::marker::Model;
 

@@ -4,7 +4,7 @@ ghost use Rattle.std.specs.List.{list_any};
 ghost use Rattle.smv_unit_tables.specs.Reads.{has_assignment, part_reads};
 
 use crate::expressions::{add_all, add_read};
-use smv_core::flat::{Family, DefBody};
+use smv_core::flat::{DefBody, Family};
 use std::alloc::AllocError;
 
 /// Puts the families that a part of a definition reads behind others: what its assignments read, and the conditions around them. Whether it has an assignment.
@@ -47,7 +47,11 @@ fn keep_if(out: &mut Vec<usize>, first: bool, second: bool, count: usize) -> boo
 
 #[cycle(parts)]
 #[tactic(auto, using(crate::proofs::ReadLaws::listing, crate::proofs::PartLaws::steps))]
-fn add_parts(out: &mut Vec<usize>, families: &[Family], parts: &[DefBody]) -> Result<bool, AllocError>
+fn add_parts(
+    out: &mut Vec<usize>,
+    families: &[Family],
+    parts: &[DefBody],
+) -> Result<bool, AllocError>
     ensures some { IfOk result (λ some. some ≡ list_any has_assignment parts.now) }
     ensures reads { IfOk result (λ some. out.new.items ≡ out.old.items ++ flat_map (part_reads families.now) parts.now) }
 {

@@ -22,7 +22,7 @@ use smv_cells::Cell;
 use smv_conditions::chances::Chances;
 use smv_conditions::conditions::Conditions;
 use smv_conditions::offers::Offer;
-use smv_core::flat::{Class, Element, DefBody, Guard, Simple};
+use smv_core::flat::{Class, DefBody, Element, Guard, Simple};
 use smv_problem::{Demand, Problem};
 use smv_problem_spots::answers::equal;
 use smv_problem_spots::places::is_in_type;

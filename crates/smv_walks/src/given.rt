@@ -15,7 +15,7 @@ use smv_cells::Cell;
 use smv_conditions::chances::Chances;
 use smv_conditions::conditions::Conditions;
 use smv_conditions::offers::Offer;
-use smv_core::flat::{Element, DefBody};
+use smv_core::flat::{DefBody, Element};
 use smv_problem::Problem;
 use smv_sides::expressions::Known;
 use smv_targets::{Sense, Target, places_for, some_given, target_of, value_of};
