@@ -340,6 +340,21 @@ impl Store {
         Ok(count_below(&self.nodes, &mut seen, self.vars, roots))
     }
 
+    /// Takes the marks away: the next mark begins a new count. No memory is needed, and no function changes.
+    pub fn clear_marks(&mut self)
+        ensures marks { HasMarks self.new [] }
+        ensures keeps { Keeps self.old self.new }
+        ensures none_fresh { (q : Ref) → IsLive self.new q → IsLive self.old q }
+        ensures held { held self.new ≡ held self.old }
+        ensures sound { IsReduced self.new }
+        ensures canonical { IsCanonical self.new }
+        ensures calls { self.new.calls ≡ self.old.calls }
+        ensures spare { self.new.spare ≡ self.old.spare }
+    {
+        clear(&mut self.marks);
+        self.marked = 0;
+    }
+
     /// Marks the function's table, and gives the number of beads of all tables that were marked since the last clear.
     pub fn mark(&mut self, r: Ref) -> usize
         requires { IsLive self.old r }
