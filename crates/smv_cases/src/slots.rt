@@ -146,7 +146,7 @@ fn treatment_at(sets: &[SetInfo], keeps: &[Keep], set: usize) -> Option<Treatmen
 }
 
 /// How the set type of this number is abstracted.
-pub fn treated(keeps: &[Keep], set: usize, info: &SetInfo) -> Treatment
+pub(crate) fn treated(keeps: &[Keep], set: usize, info: &SetInfo) -> Treatment
     ensures { treatment_of result ≡ leaf.treatment_of info.now.ordered info.now.size (kept_of keeps.now set) }
 {
     treat(info, names(keeps, set))

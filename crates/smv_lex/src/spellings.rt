@@ -49,7 +49,7 @@ const RESERVED: [&[u8]; 33] = [
 
 /// The sign that has these bytes.
 #[tactic(auto, using(crate::proofs::Numbered::signs_by_place))]
-pub fn sign_of(bytes: &[u8]) -> Option<TokenKind>
+pub(crate) fn sign_of(bytes: &[u8]) -> Option<TokenKind>
     ensures { result ≡ spelled_in signs bytes.now }
 {
     match sign_place(bytes) {
@@ -60,7 +60,7 @@ pub fn sign_of(bytes: &[u8]) -> Option<TokenKind>
 
 /// The reserved word that has these bytes.
 #[tactic(auto, using(crate::proofs::Numbered::words_by_place))]
-pub fn reserved_of(bytes: &[u8]) -> Option<TokenKind>
+pub(crate) fn reserved_of(bytes: &[u8]) -> Option<TokenKind>
     ensures { result ≡ spelled_in reserved_words bytes.now }
 {
     match reserved_place(bytes) {

@@ -42,7 +42,7 @@ pub fn matched<S: Conditions>(
 
 /// What either may be.
 #[tactic(auto, unfolding(smv_conditions::specs::Chances::mix_at))]
-pub fn united<S: Conditions>(
+pub(crate) fn united<S: Conditions>(
     s: &mut S,
     alloc: Global,
     x: Chances<S::Condition>,
@@ -61,7 +61,7 @@ pub fn united<S: Conditions>(
 }
 
 /// What one of these may be.
-pub fn union_of<S: Conditions>(
+pub(crate) fn union_of<S: Conditions>(
     s: &mut S,
     alloc: Global,
     each: &[Chances<S::Condition>],

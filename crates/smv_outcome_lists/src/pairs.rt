@@ -67,7 +67,7 @@ fn answered<S: Conditions>(
 }
 
 /// What an outcome gives against each of a list.
-pub fn compared_each<S: Conditions>(
+pub(crate) fn compared_each<S: Conditions>(
     s: &mut S,
     alloc: Global,
     problem: &Problem,
@@ -91,7 +91,7 @@ pub fn compared_each<S: Conditions>(
 
 /// Truth values beside others, under a condition.
 #[tactic(auto, unfolding(smv_conditions::specs::Chances::mix_at))]
-pub fn guarded<S: Conditions>(
+pub(crate) fn guarded<S: Conditions>(
     s: &mut S,
     alloc: Global,
     when: S::Condition,
@@ -116,7 +116,7 @@ pub fn guarded<S: Conditions>(
 
 /// A comparison.
 #[tactic(auto, using(crate::proofs::PairLaws::rest_stays, crate::proofs::PairLaws::all_stay))]
-pub fn compared_all<S: Conditions>(
+pub(crate) fn compared_all<S: Conditions>(
     s: &mut S,
     alloc: Global,
     problem: &Problem,

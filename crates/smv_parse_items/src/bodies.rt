@@ -519,7 +519,11 @@ fn behind_name(
 
 /// What begins with a name in a body.
 #[tactic(auto, unfolding(law_grammar::specs::Items::read_named_body))]
-pub fn named_body(alloc: Global, levels: u8, tokens: &[Token]) -> Result<(Item, &[Token]), Stop>
+pub(crate) fn named_body(
+    alloc: Global,
+    levels: u8,
+    tokens: &[Token],
+) -> Result<(Item, &[Token]), Stop>
     ensures found { IfOk result (λ found. read_named_body levels tokens.now ≡ Ok (found.0, found.1.now)) }
     ensures stop { IfErr result (λ stop. StopsAs stop (read_named_body levels tokens.now)) }
 {
@@ -529,7 +533,11 @@ pub fn named_body(alloc: Global, levels: u8, tokens: &[Token]) -> Result<(Item, 
 
 /// A declaration with a role.
 #[tactic(auto, unfolding(law_grammar::specs::Items::read_with_role))]
-pub fn with_role(alloc: Global, levels: u8, tokens: &[Token]) -> Result<(Item, &[Token]), Stop>
+pub(crate) fn with_role(
+    alloc: Global,
+    levels: u8,
+    tokens: &[Token],
+) -> Result<(Item, &[Token]), Stop>
     ensures found { IfOk result (λ found. read_with_role levels tokens.now ≡ Ok (found.0, found.1.now)) }
     ensures stop { IfErr result (λ stop. StopsAs stop (read_with_role levels tokens.now)) }
 {

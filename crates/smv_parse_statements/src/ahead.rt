@@ -38,7 +38,7 @@ pub fn next_is_name_and_sign(place: u8, tokens: &[Token]) -> bool
 }
 
 /// Whether a label begins.
-pub fn next_begins_label(tokens: &[Token]) -> bool
+pub(crate) fn next_begins_label(tokens: &[Token]) -> bool
     ensures { result ≡ starts (begins (any_number ∷ any_name ∷ [])) tokens.now }
 {
     match tokens.split_first() {
@@ -61,7 +61,7 @@ pub fn next_is_comma_or_colon(tokens: &[Token]) -> bool
 }
 
 /// Whether `init` or `next` comes next.
-pub fn next_is_moment(tokens: &[Token]) -> bool
+pub(crate) fn next_is_moment(tokens: &[Token]) -> bool
     ensures { result ≡ starts (begins (exactly w.word_init ∷ exactly w.word_next ∷ [])) tokens.now }
 {
     match tokens.split_first() {
@@ -89,7 +89,7 @@ pub fn next_begins_expr(tokens: &[Token]) -> bool
 }
 
 /// Whether a statement begins.
-pub fn next_begins_stmt(tokens: &[Token]) -> bool
+pub(crate) fn next_begins_stmt(tokens: &[Token]) -> bool
     ensures { result ≡ starts (begins stmt_marks) tokens.now }
 {
     match tokens.split_first() {

@@ -165,7 +165,7 @@ fn counted(var: Word, tokens: &[Token]) -> Result<(Turns, &[Token]), Stop>
 
 /// '(' and the header of a `for` up to its ')'.
 #[tactic(auto, using(law_grammar::proofs::Steps::open_then), unfolding(law_grammar::specs::Statements::read_turns))]
-pub fn header(alloc: Global, levels: u8, tokens: &[Token]) -> Result<(Turns, &[Token]), Stop>
+pub(crate) fn header(alloc: Global, levels: u8, tokens: &[Token]) -> Result<(Turns, &[Token]), Stop>
     ensures found { IfOk result (λ found. read_turns levels tokens.now ≡ Ok (record { var = found.0.var; from = found.0.from; to = found.0.to; closed = found.0.closed; step = found.0.step }, found.1.now)) }
     ensures stop { IfErr result (λ stop. StopsAs stop (read_turns levels tokens.now)) }
 {

@@ -224,7 +224,7 @@ fn reduction(
 
 // name 'in' Index
 #[tactic(auto, using(crate::proofs::Writing::writing))]
-pub fn range_of(out: &mut Vec<u8>, var: &Word, over: &TypeExpr) -> Result<(), AllocError>
+pub(crate) fn range_of(out: &mut Vec<u8>, var: &Word, over: &TypeExpr) -> Result<(), AllocError>
     ensures { OnOk result (out.new.items ≡ out.old.items ++ written (Ident var.now.name ∷ word_in ∷ type_kinds over.now)) }
 {
     name(out, var)?;

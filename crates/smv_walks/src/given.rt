@@ -202,7 +202,7 @@ pub fn target_gives<'a, S: Conditions>(
 }
 
 /// Whether the definition of an element may allow the value that it has now, or doesn't allow it for certain.
-pub fn element_gives<'a, S: Conditions>(
+pub(crate) fn element_gives<'a, S: Conditions>(
     s: &mut S,
     alloc: Global,
     problem: &Problem,
