@@ -11,7 +11,7 @@ use Rattle.smv_core.specs.Signs.{word_scalarset}
 use Rattle.smv_core.specs.Notation.{same_kind}
 use Rattle.smv_lex.specs.declared.front.Front.{Front}
 use Rattle.smv_lex.specs.declared.front.Front.TheVariants.{Passed, Whole, Broken}
-use Rattle.smv_lex.specs.Spellings.{signs, reserved_words, spelled_in}
+use Rattle.smv_core.specs.Spellings.{signs, reserved_words, spelled_in}
 use Rattle.smv_lex.specs.Lexing.{Lexed, is_letter, is_name_byte, word_kind, number_of, front_of, with_token, lexed_from, lexed}
 use Rattle.smv_lex.specs.Longest.{is_word, is_digits, kind_of, NoLonger}
 use Rattle.smv_lex.proofs.Fronts.{passed-some, token-some}

@@ -6,7 +6,7 @@ ghost use Rattle.smv_core.specs.Signs as w;
 ghost use Rattle.law_grammar.specs.Parsing.{starts, starts2};
 ghost use Rattle.law_grammar.specs.Marks.{any_name, any_number, exactly, begins};
 
-use crate::marks::{
+use smv_core::signs::{
     AT_LEAST, AT_MOST, COLON, DIFFER, DOT, DOTS, EQUAL, GREATER, LESS, MINUS, OPEN_BRACKET, PLUS,
     WORD_BOOLEAN,
 };

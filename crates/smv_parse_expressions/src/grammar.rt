@@ -9,11 +9,11 @@ ghost use Rattle.smv_parse_expressions.specs.Nests.{Nests};
 ghost use Rattle.smv_parse_expressions.specs.Tails.{read_grouped};
 
 use crate::ahead::{next_is_name, next_is_number, next_is_part, next_is_sign, next_is_span};
-use crate::marks::{CLOSE_BRACKET, CLOSE_PAREN, DOT, OPEN_BRACE, OPEN_BRACKET, OPEN_PAREN};
 use crate::nodes::path_of;
 use crate::single::{name, number, opening_sign, sign};
 use crate::stop::{Read, Stop};
 use crate::types::span;
+use smv_core::signs::{CLOSE_BRACKET, CLOSE_PAREN, DOT, OPEN_BRACE, OPEN_BRACKET, OPEN_PAREN};
 use smv_core::token::Token;
 use smv_core::tree::{Expr, Member, Part, Path};
 use std::alloc::Global;

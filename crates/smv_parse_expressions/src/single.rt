@@ -7,9 +7,11 @@ ghost use Rattle.law_grammar.specs.Expressions.{additions, comparisons, reductio
 ghost use Rattle.smv_parse_expressions.specs.Tails.{quantified};
 ghost use Rattle.smv_parse_expressions.specs.Answers.{StopsAs};
 
-use crate::marks::{AMPERSAND, AT_LEAST, AT_MOST, BAR, DIFFER, EQUAL, GREATER, LESS, MINUS, PLUS};
 use crate::stop::{Read, Stop};
 use smv_core::name::Name;
+use smv_core::signs::{
+    AMPERSAND, AT_LEAST, AT_MOST, BAR, DIFFER, EQUAL, GREATER, LESS, MINUS, PLUS,
+};
 use smv_core::token::{Token, TokenKind};
 use smv_core::tree::{Op, Word};
 use std::alloc::Global;

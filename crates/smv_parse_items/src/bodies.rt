@@ -13,14 +13,14 @@ ghost use Rattle.smv_parse_items.specs.Pieces.{read_parts, read_chosen, put_afte
 
 use smv_core::name::Name;
 use smv_core::seq::Seq;
+use smv_core::signs::{
+    CLOSE_BRACE, CLOSE_BRACKET, CLOSE_PAREN, COLON, COMMA, DOT, OPEN_BRACE, OPEN_BRACKET,
+    OPEN_PAREN, SEMICOLON, WORD_ASSERT, WORD_G, WORD_LAYER,
+};
 use smv_core::token::{Token, TokenKind};
 use smv_core::tree::{Expr, Item, Kind, Part, Path, Role, Stmt, Word};
 use smv_parse_expressions::ahead::{next_is_part, next_is_sign, next_is_word};
 use smv_parse_expressions::exprs::expr;
-use smv_parse_expressions::marks::{
-    CLOSE_BRACE, CLOSE_BRACKET, CLOSE_PAREN, COLON, COMMA, DOT, OPEN_BRACE, OPEN_BRACKET,
-    OPEN_PAREN, SEMICOLON, WORD_ASSERT, WORD_G, WORD_LAYER,
-};
 use smv_parse_expressions::names::names;
 use smv_parse_expressions::single::{name, opening_sign, sign, word};
 use smv_parse_expressions::stop::Stop;

@@ -11,15 +11,15 @@ ghost use Rattle.smv_parse_expressions.specs.Answers.{StopsAs};
 ghost use Rattle.smv_parse_items.specs.Pieces.{read_names, read_keep_behind, read_split_behind, read_split_for};
 
 use smv_core::seq::Seq;
-use smv_core::token::Token;
-use smv_core::tree::{Expr, Item, Pair, Ref, Use, Word};
-use smv_parse_expressions::ahead::{next_is_name, next_is_part, next_is_sign};
-use smv_parse_expressions::exprs::sum;
-use smv_parse_expressions::marks::{
+use smv_core::signs::{
     ARROW, CLOSE_BRACE, CLOSE_BRACKET, CLOSE_PAREN, COMMA, DOT, EQUAL, OPEN_BRACE, OPEN_BRACKET,
     OPEN_PAREN, SEMICOLON, SLASHES, WORD_FOR, WORD_FREE, WORD_OF, WORD_PROVE, WORD_SUBCASE,
     WORD_USING,
 };
+use smv_core::token::Token;
+use smv_core::tree::{Expr, Item, Pair, Ref, Use, Word};
+use smv_parse_expressions::ahead::{next_is_name, next_is_part, next_is_sign};
+use smv_parse_expressions::exprs::sum;
 use smv_parse_expressions::names::names;
 use smv_parse_expressions::single::{name, opening_sign, sign, word};
 use smv_parse_expressions::stop::Stop;

@@ -9,12 +9,12 @@ ghost use Rattle.law_grammar.specs.Expressions.{expr_marks};
 ghost use Rattle.law_grammar.specs.Statements.{stmt_marks};
 ghost use Rattle.law_grammar.specs.Items.{item_marks, role_marks, body_marks, top_marks};
 
-use smv_core::token::{Token, TokenKind};
-use smv_parse_expressions::marks::{
+use smv_core::signs::{
     COLON, COMMA, OPEN_BRACE, WORD_ABSTRACT, WORD_DEFAULT, WORD_FOR, WORD_FORALL, WORD_IF,
     WORD_INIT, WORD_INPUT, WORD_LAYER, WORD_MODULE, WORD_NEXT, WORD_ORDSET, WORD_OUTPUT,
     WORD_SCALARSET, WORD_SUBCASE, WORD_SWITCH, WORD_TYPEDEF, WORD_USING,
 };
+use smv_core::token::{Token, TokenKind};
 
 /// Whether a name comes next, and this sign behind it.
 pub fn next_is_name_and_sign(place: u8, tokens: &[Token]) -> bool

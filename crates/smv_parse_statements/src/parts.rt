@@ -10,13 +10,11 @@ ghost use Rattle.smv_parse_statements.specs.Pieces.{read_counted, read_stepped, 
 
 use crate::tokens::{bound_sign, moment, positive, same_name};
 use smv_core::seq::Seq;
+use smv_core::signs::{BECOMES, CLOSE_PAREN, COMMA, EQUAL, OPEN_PAREN, PLUS, SEMICOLON, WORD_IN};
 use smv_core::token::Token;
 use smv_core::tree::{Expr, Kind, Part, Path, Stmt, TypeExpr, Word};
 use smv_parse_expressions::ahead::{next_is_number, next_is_sign};
 use smv_parse_expressions::exprs::{expr, path};
-use smv_parse_expressions::marks::{
-    BECOMES, CLOSE_PAREN, COMMA, EQUAL, OPEN_PAREN, PLUS, SEMICOLON, WORD_IN,
-};
 use smv_parse_expressions::single::{name, number, opening_sign, sign, word};
 use smv_parse_expressions::stop::Stop;
 use smv_parse_expressions::types::index;

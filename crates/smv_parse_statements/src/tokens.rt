@@ -8,11 +8,11 @@ ghost use Rattle.law_grammar.specs.Items.{roles};
 ghost use Rattle.smv_parse_expressions.specs.Answers.{StopsAs};
 
 use smv_core::name::Name;
-use smv_core::token::{Token, TokenKind};
-use smv_core::tree::{Kind, Role, Word};
-use smv_parse_expressions::marks::{
+use smv_core::signs::{
     AT_MOST, LESS, WORD_ABSTRACT, WORD_INIT, WORD_INPUT, WORD_NEXT, WORD_OUTPUT,
 };
+use smv_core::token::{Token, TokenKind};
+use smv_core::tree::{Kind, Role, Word};
 use smv_parse_expressions::stop::Stop;
 
 /// The name that was written before; its bytes and its offset.
