@@ -10,7 +10,7 @@ ghost use Rattle.smv_targets.specs.Targets.{Aim, IsTarget, IsTargetMade, IsSo};
 ghost use Rattle.smv_walks.specs.Demands.{AreOldMade, AreOldKnown};
 ghost use Rattle.smv_walks.specs.Given.{gives_in, keeps_asked, nothing_in, next_in, now_in, IsSoOf, IsGivenAt, IsGiven, IsTargets, IsWritten};
 
-use crate::{Way, everything, gists_of};
+use crate::walks::{Way, everything, gists_of};
 use smv_cells::Cell;
 use smv_conditions::chances::Chances;
 use smv_conditions::conditions::Conditions;
