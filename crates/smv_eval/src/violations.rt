@@ -56,7 +56,7 @@ fn violates_after(
 }
 
 /// Whether these states are those of a violating path; not where one of them is no state of the problem.
-pub(crate) fn is_violating(
+pub fn is_violating(
     alloc: Global,
     problem: &Problem,
     states: &[AbsState],
