@@ -26,9 +26,9 @@ import tempfile
 from pathlib import Path
 
 TOP = Path(__file__).resolve().parent.parent
-PAGES = ["README.md", "docs/METHOD.md", "docs/FAULTS.md"]
-# The pages whose commands stand in the module of another page's tests.
-TOGETHER = {}
+PAGES = ["README.md", "docs/METHOD.md", "docs/FAULTS.md", "docs/COMING-FROM.md"]
+# The module of tests that each page's commands stand in: pages of short texts have one together, since each function of a test costs.
+MODULES = {"README.md": "short_pages", "docs/METHOD.md": "page_method", "docs/FAULTS.md": "short_pages", "docs/COMING-FROM.md": "short_pages", "examples": "page_examples"}
 TABLES = TOP / "crates/smv_top_tests/src"
 DUMPS = TOP / "crates/smv_wave_tests/src/pages.rt"
 FENCED = re.compile(r"^```(smv|make|sh|diff|console|marked)(?: (\S+))?(?: (\S+))?\n(.*?)^```$", re.M | re.S)
@@ -39,7 +39,7 @@ MARK = re.compile(r" *\^ fault (\d+)\b.*")
 PART = 9_000
 # Commands that a test can give the program as words and a text: that of a file, one that is written out, so many blanks.
 PLAIN = re.compile(r"deodarwrench ([^<|]+?) < (\S+)")
-ECHO = re.compile(r"echo '([^']*)' \| deodarwrench (\w+)")
+ECHO = re.compile(r"""echo (['"])([^'"]*|[^"]*)\1 \| deodarwrench (\w+)""")
 SCRIPT = re.compile(r"\b(?:sh|make)\b")
 BLANKS = re.compile(r"printf '%(\d+)s' '' \| deodarwrench (\w+)")
 # One whose report a test can give the other program.
@@ -79,9 +79,10 @@ def marked(block):
     commands = []
     for text, below in zip(lines[::2], lines[1::2], strict=True):
         mark = MARK.fullmatch(below)
-        if not mark or "'" in text:
-            raise ValueError(f"no mark, or a quote:\n{text}\n{below}")
-        commands.append((f"echo '{text}' | deodarwrench prove", f"fault {mark[1]} at line 1 column {below.index('^') + 1}\n"))
+        if not mark or set(text) & set('"$`\\'):
+            raise ValueError(f"no mark, or a sign of the shell:\n{text}\n{below}")
+        quote = '"' if "'" in text else "'"
+        commands.append((f"echo {quote}{text}{quote} | deodarwrench prove", f"fault {mark[1]} at line 1 column {below.index('^') + 1}\n"))
     return commands
 
 
@@ -193,10 +194,10 @@ def given(command, files):
     if plain:
         words, file = plain.groups()
         return words, files[file] if file in files else (TOP / file).read_text()
-    return (echo[2], echo[1] + "\n") if echo else None
+    return (echo[3], echo[2] + "\n") if echo else None
 
 
-def table(first, pages):
+def table(module, pages):
     """Returns the module of tests of the pages that stand together: its file and its lines. Pages show examples, which have a table of their own."""
     rows, blanks = [], []
     for page, files, commands in pages:
@@ -223,7 +224,7 @@ def table(first, pages):
         lines += ["    blanks_are_answered("]
         lines += [f"        {value}," for value in ["rt.alloc()", *values]]
         lines += ["    )", "}"]
-    return TABLES / f"page_{Path(first).stem.lower()}.rt", "\n".join([*lines, ""])
+    return TABLES / f"{module}.rt", "\n".join([*lines, ""])
 
 
 def dumps():
@@ -255,7 +256,7 @@ def tables():
     """Returns the modules of tests: their files and lines."""
     together = {}
     for page in everything():
-        together.setdefault(TOGETHER.get(page[0], page[0]), []).append(page)
+        together.setdefault(MODULES[page[0]], []).append(page)
     return [*(table(*pages) for pages in together.items()), dumps()]
 
 

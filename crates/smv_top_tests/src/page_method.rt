@@ -160,9 +160,83 @@ const ROWS_4: &[Row] = &[
         1,
         "opa//arch: true\nalu//arch: true\nreg//arch: true\nin_order: false at 2\n case #0, #0\n time 0: ask = 1, issue = 1, at = #0, last = #0, ex.valid = 0, ex.at = #0, wb.valid = 0, wb.at = #0\n time 1: ask = 1, issue = 1, at = #0, last = #0, ex.valid = 1, ex.at = #0, wb.valid = 0, wb.at = #0\n time 2: ask = 0, issue = 0, at = #0, last = #0, ex.valid = 1, ex.at = #0, wb.valid = 1, wb.at = #0\nproved 3 of 4\n",
     ),
+    (
+        "prove",
+        "module main() {\n  ask, grant : boolean;\n  turn : 0..2;\n\n  init(turn) := 0;\n  next(turn) := (turn + 1) mod 3;\n  grant := ask & turn = 2;\n\n  abstract age : 0..3;\n  layer watch : {\n    init(age) := 0;\n    next(age) := (ask | age > 0) & ~grant ? (age < 3 ? age + 1 : 3) : 0;\n  }\n  served : assert G (age < 3);\n}\n",
+        1,
+        "served: false at 3\n time 0: ask = 1, grant = 0, turn = 0, age = 0\n time 1: ask = 0, grant = 0, turn = 1, age = 1\n time 2: ask = 0, grant = 0, turn = 2, age = 2\n time 3: ask = 0, grant = 0, turn = 0, age = 3\nproved 0 of 1\n",
+    ),
+    (
+        "prove",
+        "module main() {\n  ask, grant : boolean;\n  turn : 0..2;\n\n  init(turn) := 0;\n  next(turn) := (turn + 1) mod 3;\n  grant := ask & turn = 2;\n\n  init(ask) := 0;\n  if (ask & ~grant) next(ask) := 1;\n  idle : assert G ~ask;\n\n  abstract age : 0..3;\n  layer watch : {\n    init(age) := 0;\n    next(age) := (ask | age > 0) & ~grant ? (age < 3 ? age + 1 : 3) : 0;\n  }\n  served : assert G (age < 3);\n}\n",
+        0,
+        "idle: true\nserved: true\nproved 2 of 2\n",
+    ),
+    (
+        "prove",
+        "module main() {\n  ask, grant : boolean;\n  turn : 0..2;\n\n  init(turn) := 0;\n  next(turn) := (turn + 1) mod 3;\n  grant := ask & turn = 2;\n\n  init(ask) := 0;\n  next(ask) := ask & ~grant ? 1 : {0, 1};\n  idle : assert G ~ask;\n\n  abstract age : 0..3;\n  layer watch : {\n    init(age) := 0;\n    next(age) := (ask | age > 0) & ~grant ? (age < 3 ? age + 1 : 3) : 0;\n  }\n  served : assert G (age < 3);\n}\n",
+        1,
+        "idle: false at 1\n time 0: ask = 0, grant = 0, turn = 0\n time 1: ask = 1, grant = 0, turn = 1\nserved: true\nproved 1 of 2\n",
+    ),
+    (
+        "prove",
+        "module main() {\n  ask, grant : boolean;\n  turn : 0..2;\n\n  init(turn) := 0;\n  next(turn) := (turn + 1) mod 3;\n  grant := ask & turn = 2;\n\n  abstract age : 0..3;\n  abstract owes, kept, polite : boolean;\n  layer watch : {\n    init(age) := 0;\n    next(age) := (ask | age > 0) & ~grant ? (age < 3 ? age + 1 : 3) : 0;\n    init(owes) := 0;\n    next(owes) := ask & ~grant;\n    polite := kept & (owes -> ask);\n    init(kept) := 1;\n    next(kept) := polite;\n  }\n  served : assert G (polite -> age < 3);\n}\n",
+        0,
+        "served: true\nproved 1 of 1\n",
+    ),
 ];
 
 #[test]
 fn answers_4(rt: HostRuntime) -> Result<(), Fail> {
     all_are_answered(rt.alloc(), ROWS_4)
+}
+
+const ROWS_5: &[Row] = &[
+    (
+        "prove",
+        "module main() {\n  key : 0..3;\n  state : {closed, half, open};\n  lamp : boolean;\n\n  init(state) := closed;\n  switch (state) {\n    closed : if (key = 1) next(state) := half;\n    half : next(state) := key = 4 ? open : closed;\n    open : next(state) := closed;\n  }\n  lamp := state = half;\n  lit : assert G (state = open -> lamp);\n}\n",
+        0,
+        "lit: true\nproved 1 of 1\n",
+    ),
+    (
+        "prove",
+        "module main() {\n  key : 0..3;\n  state : {closed, half, open};\n  lamp : boolean;\n\n  init(state) := closed;\n  switch (state) {\n    closed : if (key = 1) next(state) := half;\n    half : next(state) := key = 4 ? open : closed;\n    open : next(state) := closed;\n  }\n  lamp := state = half;\n  lit : assert G (state = open -> lamp);\n  shut : assert G (state ~= open);\n}\n",
+        0,
+        "lit: true\nshut: true\nproved 2 of 2\n",
+    ),
+    (
+        "prove",
+        "module main() {\n  key : 0..9;\n  state : {closed, half, open};\n  lamp : boolean;\n\n  init(state) := closed;\n  switch (state) {\n    closed : if (key = 1) next(state) := half;\n    half : next(state) := key = 4 ? open : closed;\n    open : next(state) := closed;\n  }\n  lamp := state = half;\n  lit : assert G (state = open -> lamp);\n  shut : assert G (state ~= open);\n}\n",
+        1,
+        "lit: false at 2\n time 0: key = 1, state = closed, lamp = 0\n time 1: key = 4, state = half, lamp = 1\n time 2: key = 0, state = open, lamp = 0\nshut: false at 2\n time 0: key = 1, state = closed\n time 1: key = 4, state = half\n time 2: key = 0, state = open\nproved 0 of 2\n",
+    ),
+    (
+        "prove",
+        "module main() {\n  up : boolean;\n  level : 0..3;\n  init(level) := 0;\n  if (up) next(level) := level < 3 ? level + 1 : 0;\n\n  abstract height : 0..7;\n  layer spec : {\n    init(height) := 0;\n    if (up) next(height) := height < 7 ? height + 1 : 7;\n    level := height;\n  }\n}\n",
+        0,
+        "level//spec: true\nproved 1 of 1\n",
+    ),
+    (
+        "prove",
+        "module main() {\n  up : boolean;\n  level : 0..3;\n  init(level) := 0;\n  if (up) next(level) := level < 3 ? level + 1 : 0;\n\n  abstract height : 0..7;\n  layer spec : {\n    init(height) := 0;\n    if (up) next(height) := height < 7 ? height + 1 : 7;\n    level := height;\n  }\n  same : assert G (level = height);\n}\n",
+        1,
+        "level//spec: true\nsame: false at 4\n time 0: up = 1, level = 0, height = 0\n time 1: up = 1, level = 1, height = 1\n time 2: up = 1, level = 2, height = 2\n time 3: up = 1, level = 3, height = 3\n time 4: up = 0, level = 0, height = 4\nproved 1 of 2\n",
+    ),
+    (
+        "prove",
+        "scalarset TAG undefined;\nmodule main() {\n  pick : TAG;\n  held : array TAG of boolean;\n  go, stay, none, some : boolean;\n\n  go := held[pick];\n  stay := ~held[pick];\n  none := &[ ~held[t] : t in TAG ];\n  some := |[ held[t] : t in TAG ];\n  one : assert G (go | stay);\n  full : assert G (none | some);\n}\n",
+        1,
+        "one: false at 0\n time 0: pick = *, go = 0, stay = 0\nfull: false at 0\n time 0: none = 0, some = 0\nproved 0 of 2\n",
+    ),
+    (
+        "prove",
+        "scalarset TAG undefined;\nmodule main() {\n  pick : TAG;\n  held : array TAG of boolean;\n  go, stay, none, some : boolean;\n\n  go := held[pick];\n  stay := ~go;\n  none := ~some;\n  some := |[ held[t] : t in TAG ];\n  one : assert G (go | stay);\n  full : assert G (none | some);\n}\n",
+        0,
+        "one: true\nfull: true\nproved 2 of 2\n",
+    ),
+];
+
+#[test]
+fn answers_5(rt: HostRuntime) -> Result<(), Fail> {
+    all_are_answered(rt.alloc(), ROWS_5)
 }
