@@ -1,36 +1,21 @@
--- Stores that keep what is live.
-use Rattle.std.proofs.Common.{◌≡◌, List, [], ◌∷◌, map, refl, sym, ◌∙◌, ap, subst, inl, inr}
+-- A Rel and its operations in a store that grew.
+use Rattle.std.proofs.Common.{◌≡◌, ℕ, List, [], ◌∷◌, ◌++◌, map, refl, sym, ◌∙◌, ap, subst, inl, inr}
 use Rattle.bdd_store.specs.declared.Ref.{Ref}
-use Rattle.bdd_store.specs.Diagram.{Diagram, IsLive, AreLive, table, Keeps}
+use Rattle.bdd_store.specs.Diagram.{Diagram, IsLive, table, Keeps}
+use Rattle.bdd_store.proofs.Keeping.{table_kept}
+use Rattle.bdd_ops.specs.Functions.{Function}
 use Rattle.smv_rings.specs.declared.Rel.{Rel}
+use Rattle.smv_rings.specs.declared.ops.Op.{Op}
+use Rattle.smv_rings.specs.declared.ops.Op.TheVariants.{And, Exists, Look, Rename}
 use Rattle.smv_rings.specs.Lists.{IsCurrent, AllCurrent, IsRel, lists_of, refs_of}
-use Rattle.smv_rings.specs.Ops.{IsOneOf}
+use Rattle.smv_rings.specs.Ops.{IsOneOf, act_of, acts_of, refs_in, FitsAct}
+use Rattle.smv_rings.specs.Schedule.Act.{Join, Look_at}
 use Rattle.smv_rings.proofs.Refs.{each_live, live_each, in_now_first, in_before_first, in_broken_first, in_now_step, in_before_step, in_broken_step}
+use Rattle.smv_rings.proofs.Fits.{fits_any}
 
-pub keeps_self : (d : Diagram) → Keeps d d
-keeps_self d = record { vars = refl; live = λ r live. live; tables = λ r live a. refl; reached = λ f r f_live live reaches. reaches; firsts = λ r live. refl }
-
-pub keeps_then : (d e f : Diagram) → Keeps d e → Keeps e f → Keeps d f
-keeps_then d e f k m = record {
-  vars = m.vars ∙ k.vars;
-  live = λ r live. m.live r (k.live r live);
-  tables = λ r live a. m.tables r (k.live r live) a ∙ k.tables r live a;
-  reached = λ q r q_live live reaches. m.reached q r (k.live q q_live) (k.live r live) (k.reached q r q_live live reaches);
-  firsts = λ r live. m.firsts r (k.live r live) ∙ k.firsts r live;
-}
-
-pub table_kept : (d e : Diagram) (r : Ref) → Keeps d e → IsLive d r → table e r ≡ table d r
-table_kept d e r keeps live = λ i a. keeps.tables r live a i
-
-held_kept : (d e : Diagram) (rs : List Ref) → Keeps d e → ((r : Ref) → IsOneOf r rs → IsLive d r) → map (table e) rs ≡ map (table d) rs
+pub held_kept : (d e : Diagram) (rs : List Ref) → Keeps d e → ((r : Ref) → IsOneOf r rs → IsLive d r) → map (table e) rs ≡ map (table d) rs
 held_kept d e [] keeps live = refl
 held_kept d e (r ∷ rs) keeps live = ap (λ f. f ∷ map (table e) rs) (table_kept d e r keeps (live r (inl refl))) ∙ ap (λ fs. table d r ∷ fs) (held_kept d e rs keeps (λ q one. live q (inr one)))
-
-pub tables_kept : (d e : Diagram) (rs : List Ref) → Keeps d e → AreLive d rs → map (table e) rs ≡ map (table d) rs
-tables_kept d e rs keeps live = held_kept d e rs keeps (λ r one. each_live d rs live r one)
-
-pub live_kept : (d e : Diagram) (rs : List Ref) → Keeps d e → AreLive d rs → AreLive e rs
-live_kept d e rs keeps live = live_each e rs (λ r one. keeps.live r (each_live d rs live r one))
 
 -- ---- a Rel in a store that keeps its functions
 module _ (d e : Diagram) (rel : Rel) (ok : IsRel d rel) (keeps : Keeps d e) where
@@ -75,3 +60,19 @@ module _ (d e : Diagram) (rel : Rel) (ok : IsRel d rel) (keeps : Keeps d e) wher
     before_first = subst AllCurrent (sym before_first_kept) ok.before_first;
     broken_first = subst IsCurrent (sym broken_first_kept) ok.broken_first;
   }
+
+-- ---- operations
+
+pub act_kept : (d e : Diagram) (op : Op) → Keeps d e → ((r : Ref) → IsOneOf r (refs_in op) → IsLive d r) → act_of e 1 op ≡ act_of d 1 op
+act_kept d e (And f) keeps live = ap Join (table_kept d e f keeps (live f (inl refl)))
+act_kept d e (Exists v) keeps live = refl
+act_kept d e (Look f) keeps live = ap (Look_at 1) (table_kept d e f keeps (live f (inl refl)))
+act_kept d e Rename keeps live = refl
+
+pub acts_append : (d : Diagram) (k : ℕ) (xs ys : List Op) → acts_of d k (xs ++ ys) ≡ acts_of d k xs ++ acts_of d k ys
+acts_append d k [] ys = refl
+acts_append d k (x ∷ xs) ys = ap (λ acts. act_of d k x ∷ acts) (acts_append d k xs ys)
+
+-- whatever path a look is for
+pub fits_one : (d : Diagram) (n : ℕ) (p : Function) (op : Op) → FitsAct n p (act_of d 1 op) → FitsAct n p (act_of d 0 op)
+fits_one d n p op fits = (fits_any d n 1 0 p (op ∷ []) (fits, tt)).0
