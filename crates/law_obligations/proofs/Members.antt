@@ -161,3 +161,12 @@ part_with same xs ws equal reflexive within = (
   λ y h. let r = Has-from_kept (λ x. list_any (same x) ws) xs h in let q = any-some (same y) ws r.1 in
       subst (Has ws) (sym (equal y q.0 q.2)) q.1,
 )
+
+pub one_of_one : {X : Type 0} {x y : X} → Has (x ∷ []) y → y ≡ x
+one_of_one first = refl
+one_of_one (later h) = elim h [ ]
+
+pub one_of_two : {X : Type 0} {x y z : X} → Has (x ∷ y ∷ []) z → (z ≡ x) ⊎ (z ≡ y)
+one_of_two first = inl refl
+one_of_two (later first) = inr refl
+one_of_two (later (later h)) = elim h [ ]

@@ -3,10 +3,10 @@ use Rattle.std.proofs.Common.{◌≡◌, ℕ, zero, suc, ◌+◌, ◌<◌, ◌�
 use Rattle.std.specs.List.{slice_get, flat_map}
 use Rattle.std.specs.Option.{option_to_list}
 use Rattle.law_obligations.specs.Sets.{Has}
-use Rattle.law_obligations.proofs.WorkedPlans.{one_of_one}
 use Rattle.law_obligations.proofs.OneOfEach.{joined_long, get_past}
 use Rattle.law_obligations.specs.Outlines.{place_of}
 use Rattle.law_obligations.proofs.Lookups.{inner, place_of-is}
+use Rattle.law_obligations.proofs.Members.{one_of_one}
 
 pub is_less : (a b : ℕ) → a < b → nat_lt a b ≡ true
 is_less a b l = grind arith
