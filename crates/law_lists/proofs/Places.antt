@@ -45,10 +45,10 @@ first_read (y ∷ xs) x l e = ap (λ z. z ∷ xs) (sym e)
 
 -- ---- the member at a place
 
-pub there : {X : Type 0} (xs : List X) (n : ℕ) → n < length xs → (x : X) × (slice_get xs n ≡ Some x)
-there [] n lt = absurd (omega arith)
-there (x ∷ xs) zero lt = (x, refl)
-there (x ∷ xs) (suc n) lt = there xs n (omega arith)
+pub get_there : {X : Type 0} (xs : List X) (n : ℕ) → n < length xs → (x : X) × (slice_get xs n ≡ Some x)
+get_there [] n lt = absurd (omega arith)
+get_there (x ∷ xs) zero lt = (x, refl)
+get_there (x ∷ xs) (suc n) lt = get_there xs n (omega arith)
 
 pub get_within : {X : Type 0} (xs : List X) (n : ℕ) → is_some (slice_get xs n) ≡ true → n < length xs
 get_within [] n h = absurd (cc (h))
