@@ -9,7 +9,6 @@ pub mod Sound
 pub mod Least
 pub mod ReadsWithin
 pub mod LeastCones
-pub mod Tests
 pub mod NowOrder
 pub mod Induction
 pub mod Members

@@ -1,8 +1,8 @@
 -- Members of lists: of a map, of choices, of parts.
 use Rattle.std.proofs.Common.{◌≡◌, List, [], ◌∷◌, ◌++◌, map, Bool, true, false, ◌||◌, refl, sym, ap, subst, ◌∙◌, ◌⊎◌, inl, inr}
 use Rattle.std.specs.List.{flat_map, list_any, list_all}
+use Rattle.law_lists.proofs.Booleans.{left_of, right_of, same_tests}
 use Rattle.law_obligations.specs.Sets.{Has, first, later, one_of_each, parts, pairs}
-use Rattle.law_obligations.proofs.Tests.{left_of, right_of, same_tests}
 
 pub Has-left : {X : Type 0} {xs : List X} {x : X} (ys : List X) → Has xs x → Has (xs ++ ys) x
 Has-left ys first = first

@@ -1,6 +1,7 @@
 -- The worked script of two maps that are proved by each other, one before and one now.
 use Rattle.std.proofs.Common.{◌≡◌, ℕ, zero, suc, List, [], ◌∷◌, Bool, true, false, ◌&&◌, refl, sym, subst, inl, inr, Option, Some, None, arith}
 use Rattle.std.specs.List.{slice_get}
+use Rattle.law_lists.proofs.Options.{some_is}
 use Rattle.smv_core.specs.Values.{number}
 use Rattle.smv_core.specs.declared.flat.Class.{Class}
 use Rattle.smv_core.specs.declared.flat.Family.{Family}
@@ -21,7 +22,6 @@ use Rattle.law_obligations.specs.Checked.{IsFilled, IsSplit, IsChecked, IsProved
 use Rattle.worked_obligations.specs.WorkedTomasulo.{one, num, set, always, stepwise, by_layer}
 use Rattle.worked_obligations.specs.WorkedScripts.{picking, of_map}
 use Rattle.worked_obligations.specs.WorkedProblems.{one_steps}
-use Rattle.law_obligations.proofs.Lookups.{inner}
 use Rattle.law_obligations.proofs.Members.{one_of_one, one_of_two}
 
 abbrev the_script : Script
@@ -174,6 +174,6 @@ at_b entry e = subst (λ entry. (classes : List Class) → Has (leaf_cases the_s
     (λ classes h. subst (λ classes. HasNone (problem_of (outline_of the_script) entry_b (timed (outline_of the_script) (graph the_script) 1 entry_b) classes)) (sym (one_of_one h)) (none_b None))
 
 pub proved : IsProved the_script
-proved zero entry e classes h path states = at_a entry (inner e) classes h path states
-proved (suc zero) entry e classes h path states = at_b entry (inner e) classes h path states
+proved zero entry e classes h path states = at_a entry (some_is e) classes h path states
+proved (suc zero) entry e classes h path states = at_b entry (some_is e) classes h path states
 proved (suc (suc u)) entry e classes h path states = absurd (cc)

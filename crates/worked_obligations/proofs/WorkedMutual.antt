@@ -1,6 +1,7 @@
 -- The worked plan of two maps that use each other has what a plan has to have, and no violating path.
 use Rattle.std.proofs.Common.{◌≡◌, ℕ, zero, suc, arith, List, [], ◌∷◌, false, refl, sym, subst, inl, inr, Option, Some, None}
 use Rattle.std.specs.List.{slice_get}
+use Rattle.law_lists.proofs.Options.{some_is}
 use Rattle.smv_core.specs.Values.{number, Sizes}
 use Rattle.smv_core.specs.declared.flat.Class.{Class}
 use Rattle.smv_core.specs.declared.flat.Family.{Family}
@@ -97,12 +98,9 @@ have_values sizes = record {
   params = each_of_two (λ leaf. (q : _) → Has leaf.params q → HasValue (at_sizes of_bits sizes) q.over) (λ q h. elim h [ ]) (λ q h. elim h [ ]);
 }
 
-inner : {X : Type 0} {x y : X} → Some x ≡ Some y → x ≡ y
-inner e = cc
-
 are_cases : (u : ℕ) (leaf : LeafProof) → slice_get mutual_plan.leaves u ≡ Some leaf → (classes : List Class) → IsCase mutual_plan u leaf classes (leaf.problem classes)
-are_cases zero leaf e classes = subst (λ leaf. IsCase mutual_plan 0 leaf classes (leaf.problem classes)) (inner e) (is_case_a classes)
-are_cases (suc zero) leaf e classes = subst (λ leaf. IsCase mutual_plan 1 leaf classes (leaf.problem classes)) (inner e) (is_case_b classes)
+are_cases zero leaf e classes = subst (λ leaf. IsCase mutual_plan 0 leaf classes (leaf.problem classes)) (some_is e) (is_case_a classes)
+are_cases (suc zero) leaf e classes = subst (λ leaf. IsCase mutual_plan 1 leaf classes (leaf.problem classes)) (some_is e) (is_case_b classes)
 are_cases (suc (suc u)) leaf e classes = absurd (cc)
 
 pub is_plan : IsPlan mutual_plan

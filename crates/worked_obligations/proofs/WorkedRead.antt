@@ -2,6 +2,9 @@
 use Rattle.std.proofs.Common.{◌≡◌, ℕ, zero, suc, List, [], ◌∷◌, length, Bool, true, not, ◌&&◌, refl, sym, ap, ◌∙◌, Some, arith}
 use Rattle.std.specs.Str.{bytes_eq}
 use Rattle.std.specs.List.{slice_get, list_all}
+use Rattle.std.proofs.lemmas.Bool.{not-true}
+use Rattle.law_lists.proofs.Options.{some_is}
+use Rattle.law_lists.proofs.Booleans.{left_of, right_of}
 use Rattle.smv_core.specs.Values.{Name}
 use Rattle.smv_core.specs.declared.flat.Family.{Family}
 use Rattle.smv_core.specs.declared.flat.Param.{Param}
@@ -11,10 +14,8 @@ use Rattle.law_obligations.specs.Sets.{Has, first, later}
 use Rattle.law_obligations.proofs.Computing.{computing}
 use Rattle.law_obligations.proofs.Members.{all-each}
 use Rattle.law_obligations.proofs.OneOfEach.{get_Has}
-use Rattle.law_obligations.proofs.Tests.{left_of, right_of, not_true}
 use Rattle.law_obligations.specs.Outlines.{unit_in}
 use Rattle.law_obligations.specs.Units.{units_of}
-use Rattle.law_obligations.proofs.Lookups.{inner}
 use Rattle.worked_obligations.specs.WorkedTomasulo.{word, reg, tag}
 use Rattle.worked_obligations.proofs.WorkedMachine.{AllOf}
 use Rattle.law_splits.specs.Variables.{IsNumbered}
@@ -65,14 +66,14 @@ all_differ (s ∷ ss) = differ ss s.name && all_differ ss
 
 other : (ss : List FlatSplit) (name : Name) (s : FlatSplit) → differ ss name ≡ true → Has ss s → name ≡ s.name → ⊥
 other ss name s e h i =
-    let a = not_true (bytes_eq name s.name) (all-each (λ (s : FlatSplit). not (bytes_eq name s.name)) e h) in
+    let a = not-true (bytes_eq name s.name) (all-each (λ (s : FlatSplit). not (bytes_eq name s.name)) e h) in
     let b = name_same name s.name i in cc
 
 one_place : (ss : List FlatSplit) → all_differ ss ≡ true → (j k : ℕ) (s t : FlatSplit) → slice_get ss j ≡ Some s → slice_get ss k ≡ Some t → s.name ≡ t.name → j ≡ k
 one_place [] e j k s t a b i = absurd (cc)
 one_place (u ∷ ss) e zero zero s t a b i = refl
-one_place (u ∷ ss) e zero (suc k) s t a b i = absurd (other ss u.name t (left_of (differ ss u.name) (all_differ ss) e) (get_Has ss k t b) (ap (λ (s : FlatSplit). s.name) (inner a) ∙ i))
-one_place (u ∷ ss) e (suc j) zero s t a b i = absurd (other ss u.name s (left_of (differ ss u.name) (all_differ ss) e) (get_Has ss j s a) (ap (λ (s : FlatSplit). s.name) (inner b) ∙ sym i))
+one_place (u ∷ ss) e zero (suc k) s t a b i = absurd (other ss u.name t (left_of (differ ss u.name) (all_differ ss) e) (get_Has ss k t b) (ap (λ (s : FlatSplit). s.name) (some_is a) ∙ i))
+one_place (u ∷ ss) e (suc j) zero s t a b i = absurd (other ss u.name s (left_of (differ ss u.name) (all_differ ss) e) (get_Has ss j s a) (ap (λ (s : FlatSplit). s.name) (some_is b) ∙ sym i))
 one_place (u ∷ ss) e (suc j) (suc k) s t a b i = ap suc (one_place ss (right_of (differ ss u.name) (all_differ ss) e) j k s t a b i)
 
 units_differ : list_all (λ unit. differ split_machine.splits (name_of split_machine (unit_in split_machine unit))) (units_of split_machine) ≡ true

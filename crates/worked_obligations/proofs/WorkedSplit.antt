@@ -1,6 +1,7 @@
 -- The worked script of a claim that is split.
 use Rattle.std.proofs.Common.{◌≡◌, zero, suc, List, [], ◌∷◌, false, refl, sym, subst, ◌∙◌, inl, inr, Option, Some, None, arith}
 use Rattle.std.specs.List.{slice_get}
+use Rattle.law_lists.proofs.Options.{some_is}
 use Rattle.smv_core.specs.declared.flat.Simple.TheVariants.{Set}
 use Rattle.smv_core.specs.declared.flat.Class.{Class}
 use Rattle.smv_core.specs.declared.flat.Class.TheVariants.{Named}
@@ -25,7 +26,6 @@ use Rattle.law_obligations.specs.Problems.{problem_of}
 use Rattle.law_obligations.specs.Checked.{IsFilled, IsSplit, IsChecked, IsProved}
 use Rattle.worked_obligations.specs.WorkedScripts.{picking, of_claim}
 use Rattle.worked_obligations.specs.WorkedProblems.{twice_equal, split_by, a_is_i}
-use Rattle.law_obligations.proofs.Lookups.{inner}
 use Rattle.law_obligations.proofs.Members.{one_of_one, one_of_two}
 
 abbrev the_script : Script
@@ -99,5 +99,5 @@ at_entry entry e = subst (λ entry. (classes : List Class) → Has (leaf_cases t
     (λ classes h. subst (λ classes. HasNone (problem_of (outline_of the_script) the_entry (timed (outline_of the_script) (graph the_script) 0 the_entry) classes)) (sym (one_of_one h)) (none_after None))
 
 pub proved : IsProved the_script
-proved zero entry e classes h path states = at_entry entry (inner e) classes h path states
+proved zero entry e classes h path states = at_entry entry (some_is e) classes h path states
 proved (suc u) entry e classes h path states = absurd (cc)
