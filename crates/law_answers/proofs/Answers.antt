@@ -2,6 +2,7 @@
 use Rattle.std.proofs.Common.{◌≡◌, ◌∙◌, ◌||◌, ℕ, Bool, true, false, List, [], ◌∷◌, Option, Some, None, ap, ap₂, arith, refl, subst, sym, true≢false}
 use Rattle.std.specs.Prelude.{if◌then◌else◌}
 use Rattle.std.specs.List.{list_any}
+use Rattle.std.proofs.lemmas.Bool.{or_parts}
 use Rattle.smv_core.specs.declared.tree.Text.{Text}
 use Rattle.law_obligations.specs.Sets.{first, later}
 use Rattle.smv_search.specs.Events.Event.{Counted, Reached, Images}
@@ -65,14 +66,10 @@ true_unit (verdict.False case elements path) f u = absurd (true≢false f)
 true_unit (verdict.UnknownNodes case count) f u = absurd (true≢false u)
 true_unit (verdict.UnknownSteps case) f u = absurd (true≢false u)
 
-neither : (x y : Bool) → (x || y) ≡ false → (x ≡ false) × (y ≡ false)
-neither true y e = absurd (true≢false e)
-neither false y e = (refl, e)
-
 true_units : (units : List UnitResult) → list_any (λ u. is_false u.verdict) units ≡ false → list_any (λ u. is_unknown u.verdict) units ≡ false → AllTrueUnits units
 true_units [] f u r h = elim h [ ]
-true_units (x ∷ units) f u _ first = true_unit x.verdict (neither (is_false x.verdict) (list_any (λ u. is_false u.verdict) units) f).0 (neither (is_unknown x.verdict) (list_any (λ u. is_unknown u.verdict) units) u).0
-true_units (x ∷ units) f u r (later h) = true_units units (neither (is_false x.verdict) (list_any (λ u. is_false u.verdict) units) f).1 (neither (is_unknown x.verdict) (list_any (λ u. is_unknown u.verdict) units) u).1 r h
+true_units (x ∷ units) f u _ first = true_unit x.verdict (or_parts (is_false x.verdict) (list_any (λ u. is_false u.verdict) units) f).0 (or_parts (is_unknown x.verdict) (list_any (λ u. is_unknown u.verdict) units) u).0
+true_units (x ∷ units) f u r (later h) = true_units units (or_parts (is_false x.verdict) (list_any (λ u. is_false u.verdict) units) f).1 (or_parts (is_unknown x.verdict) (list_any (λ u. is_unknown u.verdict) units) u).1 r h
 
 -- whether all is proved
 abbrev is_all : Status → Bool

@@ -1,9 +1,9 @@
 -- Paths as lists and as functions of time.
 use Rattle.std.proofs.Common.{◌≡◌, ℕ, zero, suc, ◌+◌, ◌<◌, ◌≤◌, List, [], ◌∷◌, ◌++◌, length, true, ◌&&◌, refl, sym, ap, subst, ◌∙◌, inl, inr, Option, Some, None, arith}
 use Rattle.std.proofs.lemmas.Bool.{cases_lt}
+use Rattle.law_lists.proofs.Booleans.{and_both, left_of, right_of}
 use Rattle.law_obligations.specs.Sets.{Has, first, later}
 use Rattle.law_obligations.specs.Circular.{Demand, Obligation, always, is_violating, is_violating_after}
-use Rattle.law_obligations.proofs.Tests.{and_both, left_of, right_of}
 use Rattle.law_obligations.specs.CasePaths.{last_of, states_from}
 
 -- the state before a time, if there is one

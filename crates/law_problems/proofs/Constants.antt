@@ -3,6 +3,7 @@ use Rattle.std.proofs.Common.{◌≡◌, ℕ, List, [], ◌∷◌, ◌++◌, map
 use Rattle.std.specs.List.{flat_map, filter, list_any}
 use Rattle.std.specs.Str.{bytes_eq}
 use Rattle.std.proofs.lemmas.Slice.Eq.{bytes_eq-Decides}
+use Rattle.law_lists.proofs.Lists.{map-nil}
 use Rattle.smv_core.specs.Values.{Name}
 use Rattle.smv_core.specs.Types.{find_name, names_of}
 use Rattle.smv_core.specs.Outcome.{same_path}
@@ -20,10 +21,6 @@ use Rattle.law_obligations.proofs.Lookups.{Has-from_filter}
 use Rattle.smv_problem.specs.WellFormed.{AreDistinct}
 use Rattle.law_problems.specs.Fit.{ConstantsAreDistinct}
 use Rattle.law_problems.proofs.FitOrders.{none-each}
-
-none-map : {X Y : Type 0} (f : X → Y) (xs : List X) → map f xs ≡ [] → xs ≡ []
-none-map f [] e = refl
-none-map f (x ∷ xs) e = absurd (cc (e))
 
 none-left : (faults : List Fault) → first_of faults ≡ None → faults ≡ []
 none-left [] e = refl
@@ -108,7 +105,7 @@ constants_are_distinct text e list h =
     let none : flat_map faults_at (name_faults tops) ≡ [] = none-left (faults_of_names text) (none-first (first_of (faults_of_names text)) (fault_of_size text) e) in
     let behind_seven = (empty-both (faults_at (7, flat_map (undeclared_in tops) tops)) _ none).1 in
     let eight : (repeated [] (map (λ (piece : Piece). piece.word) tops) ++ flat_map (doubled_in tops) tops) ≡ [] =
-    none-map _ (repeated [] (map (λ (piece : Piece). piece.word) tops) ++ flat_map (doubled_in tops) tops) (empty-both (faults_at (8, repeated [] (map (λ (piece : Piece). piece.word) tops) ++ flat_map (doubled_in tops) tops)) _ behind_seven).0 in
+    map-nil _ (repeated [] (map (λ (piece : Piece). piece.word) tops) ++ flat_map (doubled_in tops) tops) (empty-both (faults_at (8, repeated [] (map (λ (piece : Piece). piece.word) tops) ++ flat_map (doubled_in tops) tops)) _ behind_seven).0 in
     let all_pieces : flat_map (doubled_in tops) tops ≡ [] = (empty-both (repeated [] (map (λ (piece : Piece). piece.word) tops)) (flat_map (doubled_in tops) tops) eight).1 in
     let said : Has (flat_map (λ (piece : Piece). flat_map enum_of piece.mentions) tops) list = from-different same_path (flat_map (λ (piece : Piece). flat_map enum_of piece.mentions) tops) h in
     let r = Has-from_flat_map (λ (piece : Piece). flat_map enum_of piece.mentions) tops said in

@@ -3,6 +3,9 @@ use Rattle.std.proofs.Common.{◌≡◌, ◌≢◌, ℕ, zero, suc, ◌+◌, ◌
 use Rattle.std.specs.Prelude.{IfSome, IsTrue}
 use Rattle.std.specs.List.{flat_map, slice_get, zip, list_all}
 use Rattle.std.proofs.lemmas.Simd.{map-map}
+use Rattle.std.proofs.lemmas.List.{map-append}
+use Rattle.law_lists.proofs.Options.{some_is}
+use Rattle.law_lists.proofs.Lists.{length_map}
 use Rattle.smv_core.specs.Values.{numbers_from}
 use Rattle.smv_core.specs.declared.flat.Simple.{Simple}
 use Rattle.smv_core.specs.declared.flat.Simple.TheVariants.{Range, Enum, Set}
@@ -36,7 +39,7 @@ use Rattle.law_obligations.specs.Obligations.{Demanded, defined, holds}
 use Rattle.law_obligations.specs.Soundness.{FlatUnit, map_of, claim_of, over_of, params_of, said_at, IsDefinition}
 use Rattle.law_obligations.proofs.Members.{Has-left, Has-cases, Has-from_map, Has-uncons, any-some}
 use Rattle.law_obligations.proofs.Spots.{numbers-Has}
-use Rattle.law_obligations.proofs.OneOfEach.{AreOf as AreMembers, are_of, one_of, map_joined, map_long, Has-from_flat_map, get_Has, Has_get}
+use Rattle.law_obligations.proofs.OneOfEach.{AreOf as AreMembers, are_of, one_of, Has-from_flat_map, get_Has, Has_get}
 use Rattle.law_obligations.proofs.CoverNames.{by_name-at, numbered-at}
 use Rattle.law_obligations.specs.Reached.{is_among, reached}
 use Rattle.law_obligations.specs.Outlines.{Entry, Outline, Script, entries_of, outline_of, names_of, nothing_claimed, as_map, as_claim, unit_in, map_in, assumed, chosen}
@@ -44,7 +47,7 @@ use Rattle.law_obligations.specs.Units.{units_of, script_of}
 use Rattle.law_obligations.specs.Cones.{AbsElement, element, same_element, elements, first_elements, next_elements, cone}
 use Rattle.law_obligations.specs.Problems.{is_at, family_time, leaf_params, leaf_treatments, world_of, params_at, own_params, element_demands, own_demands, itself_demands, instances, claim_demands, demands, plan_of}
 use Rattle.law_obligations.specs.Checked.{IsSplit, IsFilled}
-use Rattle.law_obligations.proofs.Lookups.{inner, Has-option, Has-tested, Has-from_filter}
+use Rattle.law_obligations.proofs.Lookups.{Has-option, Has-tested, Has-from_filter}
 use Rattle.law_obligations.proofs.OutlineFacts.{Comes, from_base, from_unit, bases-are, unit-def, map_in-is, chosen-comes, assumed-comes}
 use Rattle.law_obligations.proofs.CasePlaces.{IsThere, case_places, treatment_there, take_of, named_there}
 use Rattle.law_obligations.proofs.ConeFacts.{in_cone-is, same_element-family, same_element-indexes, own_kept}
@@ -143,7 +146,7 @@ all-below treatments count (p ∷ params) (c ∷ classes) are k (later h) = all-
 treatment-at : (keeps : List Keep) (k i j : ℕ) (sets : List SetInfo) (info : SetInfo) → i ≡ k + j → slice_get sets j ≡ Some info → slice_get (treatments_of keeps k sets) j ≡ Some (treatment_of info.ordered info.size (kept_of keeps i))
 treatment-at keeps k i j [] info e g = absurd (cc)
 treatment-at keeps k i zero (x ∷ sets) info e g = let same : k ≡ i = omega arith in
-    ap (λ (n : ℕ). Some (treatment_of x.ordered x.size (kept_of keeps n))) same ∙ ap (λ (y : SetInfo). Some (treatment_of y.ordered y.size (kept_of keeps i))) (inner g)
+    ap (λ (n : ℕ). Some (treatment_of x.ordered x.size (kept_of keeps n))) same ∙ ap (λ (y : SetInfo). Some (treatment_of y.ordered y.size (kept_of keeps i))) (some_is g)
 treatment-at keeps k i (suc j) (x ∷ sets) info e g = treatment-at keeps (k + 1) i j sets info (omega arith) g
 
 -- an abstract type whose listed parameters use at most 8 classes
@@ -295,7 +298,7 @@ module _ (d : Design) (leaf : Leaf) (choice : Choice) (part : IsPart d leaf choi
           let t = Has-tested (same_element (element def.family own) x) k in
           let r = Has-option (Some (defined def x.indexes)) t.1 in
           let family = same_element-family (element def.family own) x t.0 in
-          subst (IsFit c) (inner r) (fits_def def (def-of entry.unit def (map_in-is (unit_in d entry.unit) def m)) x.indexes
+          subst (IsFit c) (some_is r) (fits_def def (def-of entry.unit def (map_in-is (unit_in d entry.unit) def m)) x.indexes
           (subst (λ family. AreOf w (over_of (slice_get d.families family)) x.indexes) (sym family) (also-places w _ x.indexes (element-members x h))))
 
   fits_instance : (u : Assumed) (demand : Demanded) → (oc : Option FlatClaim) → assumed o u ≡ oc → Has (instances o entry times w own oc) demand → IsFit c demand
@@ -349,8 +352,8 @@ module _ (d : Design) (leaf : Leaf) (choice : Choice) (part : IsPart d leaf choi
       let over = params_of (names_of d) (unit_in d entry.unit) in
       let params = params_at o entry classes in
       let front : AreMembers (map (places_in w) over ++ map (places_in w) split.added) params =
-      subst (λ xss. AreMembers xss params) (map_joined (places_in w) over split.added) (subst (λ ts. AreMembers (map (places_in w) ts) params) split.are_params params-are) in
-      subst (AreMembers (map (places_in w) over)) (ap (λ k. take k params) (map_long (places_in w) over)) (take_of (map (places_in w) over) (map (places_in w) split.added) params front)
+      subst (λ xss. AreMembers xss params) (map-append (places_in w) over split.added) (subst (λ ts. AreMembers (map (places_in w) ts) params) split.are_params params-are) in
+      subst (AreMembers (map (places_in w) over)) (ap (λ k. take k params) (length_map (places_in w) over)) (take_of (map (places_in w) over) (map (places_in w) split.added) params front)
 
   own-are : AreOf w (params_of (names_of d) (unit_in d entry.unit)) own
   own-are = places-are w (params_of (names_of d) (unit_in d entry.unit)) own own-members
@@ -422,7 +425,7 @@ module _ (d : Design) (leaf : Leaf) (choice : Choice) (part : IsPart d leaf choi
       let g = Has_get h in
       let t : Treatment = treatment_of info.ordered info.size (kept_of choice.keeps g.0) in
       let are = are_of (map (λ (p : Parameter). candidates (leaf_treatments o entry) (length (leaf_params entry)) p.over) (leaf_params entry)) classes (Has-from_filter _ _ case.is_case).0 in
-      let long : length (leaf_params entry) ≡ length leaf.params = map_long _ leaf.params in
+      let long : length (leaf_params entry) ≡ length leaf.params = length_map _ leaf.params in
       let some = case.few in
       record {
         keep = kept_of choice.keeps g.0;

@@ -1,6 +1,8 @@
 -- Each left side of a definition is that of an assignment in the statements from which it is made.
 use Rattle.std.proofs.Common.{◌≡◌, ℕ, ◌+◌, List, [], ◌∷◌, ◌++◌, map, filter, Option, Some, None, Bool, true, false, ◌&&◌, cond, nat_eq, refl, ap, subst, inl, inr}
 use Rattle.std.specs.List.{flat_map}
+use Rattle.law_lists.proofs.Numbers.{nat_eq-is}
+use Rattle.law_lists.proofs.Booleans.{left_of, right_of}
 use Rattle.smv_core.specs.Walk.{same_kind}
 use Rattle.smv_core.specs.Assignments.{Index}
 use Rattle.smv_core.specs.FlatMeaning.{flat_index, indexes_assigned}
@@ -11,9 +13,7 @@ use Rattle.smv_core.specs.declared.flat.DefBody.{DefBody, Nothing}
 use Rattle.smv_core.specs.declared.flat.DefBody as flat
 use Rattle.law_designs.specs.WholeText.{is_one_layer}
 use Rattle.law_obligations.specs.Sets.{Has, first, later}
-use Rattle.law_obligations.proofs.Tests.{left_of, right_of}
 use Rattle.law_obligations.proofs.Members.{Has-left, Has-right, Has-cases}
-use Rattle.law_obligations.proofs.Same.{nat_eq-is}
 use Rattle.law_designs.specs.Standing.{count, Statement, Standing, standing, standing_in, assigned_by}
 use Rattle.law_designs.specs.Definitions.{flat_of, flats_of}
 use Rattle.law_designs.proofs.FlatParts.{indexes-first_part, indexes-branches, indexes-each_value}

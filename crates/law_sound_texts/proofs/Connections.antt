@@ -3,6 +3,9 @@ use Rattle.std.proofs.lemmas.Bool.{and_from}
 use Rattle.law_designs.proofs.Opening.{opening}
 use Rattle.std.proofs.Common.{◌≡◌, ℕ, List, [], ◌∷◌, ◌++◌, map, flat_map, length, zip, slice_get, Option, Some, None, is_some, Bool, true, cond, refl, sym, ap, ◌∙◌, subst, append_assoc, arith}
 use Rattle.std.specs.List.{AllByRecursion, list_all}
+use Rattle.law_lists.proofs.Booleans.{left_of}
+use Rattle.law_lists.proofs.Lists.{nothing_behind}
+use Rattle.law_lists.proofs.Each.{each_append}
 use Rattle.smv_core.specs.Values.{Name, Path}
 use Rattle.smv_core.specs.Types.{find_name}
 use Rattle.smv_core.specs.FlatOrder.{Body, role_of}
@@ -38,15 +41,14 @@ use Rattle.law_designs.specs.Statements.{flat_expr, flat_stmt}
 use Rattle.law_designs.specs.Entries.{Goal, claim, split, using, Entry, layer, statement, goal, inside_binder, formal, connection, connections, item_entries, items_entries}
 use Rattle.law_designs.specs.Flattening.{flatten, scope_in, within, params_from, flat_pair}
 use Rattle.law_designs.specs.Written.{IsWritten, AreWritten, InnerIsWritten, InnersAreWritten}
-use Rattle.law_designs.proofs.Faultless.{empty-both, each-append, each-front, each-behind, each-map, number-fine, taken-fine, reference-fine}
+use Rattle.law_designs.proofs.Faultless.{empty-both, each-front, each-behind, each-map, number-fine, taken-fine, reference-fine}
 use Rattle.law_designs.proofs.Statements.{mapped-length}
 use Rattle.law_designs.proofs.OwnFamilies.{own_in, role-same, input-simple, output-simple}
 use Rattle.law_designs.proofs.WrittenEntries.{indexes-written, chosen-fine}
 use Rattle.law_designs.proofs.LeftSides.{types, bodies, scope_of, IsModuleHere}
-use Rattle.law_sound_texts.proofs.Lists.{left_of}
 use Rattle.law_sound_texts.proofs.Relation.{HasKind, takes-kept, number-kept, indexes-kept}
 use Rattle.law_sound_texts.proofs.Boxes.{kind-Read, keeps-Forall}
-use Rattle.law_sound_texts.proofs.Variables.{nothing-behind, AreApart, SignalsAreKinded, ConstantsAreKinded, IndexesAreKinded, AreVars, kinds_bound, inside-same, binder-kinded}
+use Rattle.law_sound_texts.proofs.Variables.{AreApart, SignalsAreKinded, ConstantsAreKinded, IndexesAreKinded, AreVars, kinds_bound, inside-same, binder-kinded}
 use Rattle.law_sound_texts.proofs.Expressions.{expression-kinded, bound-vars}
 use Rattle.law_sound_texts.proofs.Values.{value-kinded, are-kinded}
 use Rattle.law_sound_texts.proofs.Statements.{statement-keeps, assign-keeps}
@@ -66,7 +68,7 @@ module _ (text : Text) where
   inside_params fv (p ∷ params) = inside_params (inside fv p.over) params
 
   pub params-bound : (fv : typed.Vars) (params : List Param) → inside_params fv params ≡ fv ++ bound_by (flatten text) params
-  params-bound fv [] = nothing-behind fv
+  params-bound fv [] = nothing_behind fv
   params-bound fv (p ∷ params) = params-bound (inside fv p.over) params ∙ append_assoc fv (kind_of p.over ∷ []) (bound_by (flatten text) params)
 
   abbrev pub has_kind : typed.Vars → FlatPair → Bool
@@ -145,7 +147,7 @@ module _ (text : Text) where
         inners-keep words vars around same end_of-Item written apart fine = tt
         inners-keep words vars around same (more_of-Item part rest) written apart fine =
             let both = empty-both (in_item (scope_of text m) vars part) (in_items (scope_of text m) vars rest) fine in
-            each-append (EntryKeeps (bound vars around) around) (item_entries (types text) (bodies text) inside_entries here part) (items_entries (types text) (bodies text) inside_entries here rest)
+            each_append (EntryKeeps (bound vars around) around) (item_entries (types text) (bodies text) inside_entries here part) (items_entries (types text) (bodies text) inside_entries here rest)
             (inner-keeps words vars around same part written.0 (each-front _ (said.in_item words part) (said.in_items words rest) apart) both.0)
             (inners-keep words vars around same rest written.1 (each-behind _ (said.in_item words part) (said.in_items words rest) apart) both.1)
 
@@ -159,7 +161,7 @@ module _ (text : Text) where
     row-apart words k end_of-Part h = tt
     row-apart words k (more_of-Part (Field word) rest) h = row-apart words _ rest h
     row-apart words k (more_of-Part (At index) rest) h =
-        each-append _ (said.in_expr words index) (flat_map (said.in_expr words) (indexes_of (items-the_row-Part _ rest))) (each-front _ (said.in_expr words index) (said.in_parts words rest) h) (row-apart words _ rest (each-behind _ (said.in_expr words index) (said.in_parts words rest) h))
+        each_append _ (said.in_expr words index) (flat_map (said.in_expr words) (indexes_of (items-the_row-Part _ rest))) (each-front _ (said.in_expr words index) (said.in_parts words rest) h) (row-apart words _ rest (each-behind _ (said.in_expr words index) (said.in_parts words rest) h))
 
     -- a formal, found as a family without an index
     abbrev pub FormalIs : Name → Name → Whole → Type 0
@@ -239,7 +241,7 @@ module _ (text : Text) where
       zipped-keeps (word ∷ formals) (e ∷ args) written apart ports fine =
           let both = empty-both (connected (scope_of text m) inner.types (find_name (own_in inner_body.items) word.name) e)
           (flat_map (λ (word, e). connected (scope_of text m) inner.types (find_name (own_in inner_body.items) word.name) e) (zip formals args)) fine in
-          each-append (λ act. keeps_kinds (flatten text) [] (flat_stmt (scope_at here) [] act) ≡ true) (connection_of word.name e) (flat_map (λ (word, e). connection (role_of inner_body.items word.name) n word.name e) (zip formals args))
+          each_append (λ act. keeps_kinds (flatten text) [] (flat_stmt (scope_at here) [] act) ≡ true) (connection_of word.name e) (flat_map (λ (word, e). connection (role_of inner_body.items word.name) n word.name e) (zip formals args))
           (connection-keeps word.name e written.0 (each-front _ (said.in_expr [] e) (flat_map (said.in_expr []) args) apart) (find_name (own_in inner_body.items) word.name) refl ports.0 both.0)
           (zipped-keeps formals args written.1 (each-behind _ (said.in_expr [] e) (flat_map (said.in_expr []) args) apart) ports.1 both.1)
 

@@ -5,8 +5,9 @@ use Rattle.std.specs.Option.{option_or}
 use Rattle.std.specs.List.{list_any, position_or_len}
 use Rattle.std.proofs.lemmas.Bool.{lt-ltb}
 use Rattle.std.proofs.lemmas.List.Folds.{find_at, find-append}
-use Rattle.std.proofs.lemmas.Option.{get_or_from_slice_get}
+use Rattle.std.proofs.lemmas.Option.{get_or_from_slice_get, same_Some}
 use Rattle.std.proofs.lemmas.Slice.Eq.{bytes_eq-Decides}
+use Rattle.law_lists.proofs.Booleans.{same_tests}
 use Rattle.smv_core.specs.Values.{Name, Path}
 use Rattle.smv_core.specs.Types.{find_name, names_of}
 use Rattle.smv_core.specs.Outcome.{same_path}
@@ -19,9 +20,8 @@ use Rattle.law_designs.specs.FlatKinds as typed
 use Rattle.law_designs.specs.FlatKinds.{kind_in}
 use Rattle.law_designs.specs.Numbers.{constant_in}
 use Rattle.law_designs.specs.Flattening.{flatten, different, enum_of, scope_in}
-use Rattle.law_designs.proofs.Lookups.{same_test, find-passes}
+use Rattle.law_designs.proofs.Lookups.{find-passes}
 use Rattle.law_designs.proofs.TypeNumbers.{paths-decide}
-use Rattle.law_designs.proofs.LeadTypes.{some-same}
 use Rattle.law_sound_texts.proofs.Relation.{flat_kind}
 
 map-or : {X Y : Type 0} (f : X → Y) (a b : Option X) → option_map f (option_or a b) ≡ option_or (option_map f a) (option_map f b)
@@ -61,7 +61,7 @@ module _ (name : Name) where
       ∙ ap (λ o. option_or o (names_found ds)) h ∙ ap (option_or (find has ls)) k ∙ sym (find-append has ls ms)
 
   turned : (other : Name) → bytes_eq other name ≡ bytes_eq name other
-  turned other = same_test (bytes_eq other name) (bytes_eq name other)
+  turned other = same_tests (bytes_eq other name) (bytes_eq name other)
       (λ e. (bytes_eq-Decides name other).1 (sym ((bytes_eq-Decides other name).0 e))) (λ e. (bytes_eq-Decides other name).1 (sym ((bytes_eq-Decides name other).0 e)))
 
   words-agree : (ns : List Name) (words : List Word) → names_found (map (λ word. (word.name, record { at = word.at; names = ns })) words) ≡ cond (has (names_of words)) (Some ns) None
@@ -118,7 +118,7 @@ module _ (name : Name) where
       by_tests : (b d : Bool) → has x ≡ b → same_path l x ≡ d → cond b (Some x) (find has ls) ≡ Some l → (find has ls ≡ Some l → position_or_len has ls ≡ position_or_len (same_path l) ls) →
           cond (not b) (1 + position_or_len has ls) 0 ≡ cond (not d) (1 + position_or_len (same_path l) ls) 0
       by_tests true true h k e rest = refl
-      by_tests true false h k e rest = let yes : same_path l x ≡ true = (paths-decide l x).1 (sym (some-same x l e)) in absurd (cc (yes, k))
+      by_tests true false h k e rest = let yes : same_path l x ≡ true = (paths-decide l x).1 (sym (same_Some x l e)) in absurd (cc (yes, k))
       by_tests false true h k e rest =
           let passes : has l ≡ true = find-passes has ls l e in
           let lacks : has l ≡ false = subst (λ y. has y ≡ false) (sym ((paths-decide l x).0 k)) h in

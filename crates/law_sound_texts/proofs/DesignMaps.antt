@@ -2,6 +2,7 @@
 use Rattle.std.proofs.Common.{◌≡◌, ℕ, ◌+◌, List, [], ◌∷◌, map, flat_map, zip, length, Option, Some, None, Bool, true, false, not, cond, if◌then◌else◌, nat_eq, refl, sym, ap, subst, ◌∙◌, slice_get, option_map, All, inl, inr}
 use Rattle.std.specs.List.{AllZip}
 use Rattle.std.proofs.lemmas.Slice.Eq.{bytes_eq-Decides}
+use Rattle.law_lists.proofs.Booleans.{clash}
 use Rattle.smv_core.specs.Values.{Name, Value, Sizes, numbers_from}
 use Rattle.smv_core.specs.Types.{Family}
 use Rattle.smv_core.specs.FlatOrder.{TextDesign, Said, design_of}
@@ -32,7 +33,7 @@ use Rattle.law_obligations.specs.Units.{is_base_in, is_refinement}
 use Rattle.law_obligations.proofs.OneOfEach.{Has-from_flat_map, get_Has, Has_get}
 use Rattle.law_obligations.proofs.Same.{nat_eq-itself}
 use Rattle.law_sound_texts.specs.TextExtension.{FamiliesAreFound, IsSameLayer, LayersAreSame}
-use Rattle.law_sound_texts.proofs.Lists.{clash, is_in-Has, Has-from_different}
+use Rattle.law_sound_texts.proofs.Lists.{is_in-Has, Has-from_different}
 use Rattle.law_sound_texts.proofs.Faultless.{IsFaultless}
 use Rattle.law_sound_texts.proofs.Texts.{Contains-Has, demand_same, in_flat_text, in_text, indexes_same, zip_left}
 use Rattle.law_sound_texts.specs.Exact.{IsExact, LeftSidesAreExact}

@@ -2,6 +2,7 @@
 use Rattle.law_designs.proofs.Opening.{opening}
 use Rattle.std.proofs.Common.{◌≡◌, ℕ, zero, suc, ◌+◌, ◌≤◌, List, [], ◌∷◌, ◌++◌, map, flat_map, length, Option, Some, None, unwrap_or, refl, sym, ap, ◌∙◌, subst, append_assoc, true, arith}
 use Rattle.std.specs.List.{AllByRecursion}
+use Rattle.law_lists.proofs.Each.{each_append}
 use Rattle.smv_core.specs.Values.{Name, Path}
 use Rattle.smv_core.specs.Types.{Family, find_name}
 use Rattle.smv_core.specs.FlatOrder.{Body, main, body_of, families_of_item, families_in, design_of}
@@ -24,7 +25,7 @@ use Rattle.law_designs.specs.Agreement.{IsIndexType, numbers_in}
 use Rattle.law_designs.proofs.Numbered.{RunsOver}
 use Rattle.law_designs.proofs.SameFamilies.{families-same}
 use Rattle.law_designs.specs.Written.{AreWritten, StatementIsWritten, ItemIsWritten}
-use Rattle.law_designs.proofs.Faultless.{empty-both, each-append, each-front, each-behind, each-map}
+use Rattle.law_designs.proofs.Faultless.{empty-both, each-front, each-behind, each-map}
 use Rattle.law_designs.proofs.Somewhere.{somewhere-front, somewhere-behind}
 use Rattle.law_designs.proofs.LeadTypes.{IsFamilyAt}
 use Rattle.law_designs.proofs.Modules.{AreModules, AreFound, modules-found}
@@ -134,8 +135,8 @@ module _ (text : Text) (found : FamiliesAreFound text) (table : TableIsFit (type
           let rest : List Entry = flat_map (λ word. instance_entries (types text) (bodies text) inside_entries here name.name args word.name) words in
           let parts = owns-parts families here (word ∷ []) words (inside_families bound (here ++ word.name ∷ []) name.name) (flat_map (λ word. inside_families bound (here ++ word.name ∷ []) name.name) words)
           (one-behind name word) (words-behind name words) (once-apart (word ∷ []) words once) own in
-          each-append Keeps (front ++ inside_entries (here ++ word.name ∷ []) name.name) rest
-          (each-append Keeps front (inside_entries (here ++ word.name ∷ []) name.name)
+          each_append Keeps (front ++ inside_entries (here ++ word.name ∷ []) name.name) rest
+          (each_append Keeps front (inside_entries (here ++ word.name ∷ []) name.name)
           (each-map (λ act. keeps_kinds (flatten text) [] (flat_stmt (scope_in text here) [] act) ≡ true) Keeps (λ act. statement (record { layer = None; instance = here; act = act })) (λ act h. h) acts acts_keep)
           (inside_keeps (here ++ word.name ∷ []) name.name includes_there (owns-one families here word (inside_families bound (here ++ word.name ∷ []) name.name) parts.0)))
           (instance-keeps name args written free fine words once.1 (λ k path w e. inc k path w (somewhere-behind (IsFamilyAt path w) (at_word k) (others k) e)) parts.1)
@@ -172,7 +173,7 @@ module _ (text : Text) (found : FamiliesAreFound text) (table : TableIsFit (type
           let parts = owns-parts families here (own_words part) (flat_map own_words items) (of_item bound here part) (flat_map (of_item bound here) items)
           (item-behind (types text) apart (bodies text) (families_in (types text) (bodies text) bound) (there bound) here part ok_part once_part).1
           (items-behind (types text) apart (bodies text) (families_in (types text) (bodies text) bound) (there bound) here items ok_items once_items).1 (once-apart (own_words part) (flat_map own_words items) once) own in
-          each-append Keeps (item_entries (types text) (bodies text) inside_entries here part) (flat_map (item_entries (types text) (bodies text) inside_entries here) items)
+          each_append Keeps (item_entries (types text) (bodies text) inside_entries here part) (flat_map (item_entries (types text) (bodies text) inside_entries here) items)
           (item-keeps part written.0 (each-front _ (said.in_item [] part) (flat_map (said.in_item []) items) free) both.0 once_part (λ k path w e. inc k path w (somewhere-front (IsFamilyAt path w) (at_part k) (others k) e)) parts.0)
           (items-keep items written.1 (each-behind _ (said.in_item [] part) (flat_map (said.in_item []) items) free) both.1 ok_items once_items (λ k path w e. inc k path w (somewhere-behind (IsFamilyAt path w) (at_part k) (others k) e)) parts.1)
 

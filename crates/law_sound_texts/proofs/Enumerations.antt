@@ -3,6 +3,7 @@ use Rattle.std.proofs.Common.{◌≡◌, ◌<◌, List, [], ◌∷◌, ◌++◌,
 use Rattle.std.specs.List.{AllByRecursion, list_all}
 use Rattle.std.proofs.lemmas.Bool.{lt-ltb}
 use Rattle.std.proofs.lemmas.Grind.{flat_map-append}
+use Rattle.law_lists.proofs.Each.{each_filter, each_append}
 use Rattle.smv_core.specs.Values.{Name}
 use Rattle.smv_core.specs.Types.{names_of}
 use Rattle.smv_core.specs.Outcome.{same_path}
@@ -27,15 +28,13 @@ use Rattle.smv_mentions.specs.Scopes.{Known, pieces, pieces_from, known_after}
 use Rattle.law_designs.specs.Flattening.{different, enum_of, enums_of}
 use Rattle.law_designs.specs.Agreement.{IsIndexType}
 use Rattle.law_designs.specs.Written.{HasOne, TypeIsWritten, FieldsAreWritten, IsWritten, AreWritten, PartsAreWritten, IndexesAreWritten, TermsAreWritten, MembersAreWritten, ConditionIsWritten, StatementIsWritten, StatementsAreWritten, BranchIsWritten, ArmsAreWritten, InnerIsWritten, InnersAreWritten, ItemIsWritten, TopIsWritten}
-use Rattle.law_designs.proofs.Faultless.{each-append}
-use Rattle.law_sound_texts.proofs.Lists.{filter-each}
 
 -- each enumeration that is said has a constant
 abbrev AreFull : List Mention → Type 0
 AreFull ms = AllByRecursion HasOne (flat_map enum_of ms)
 
 full-append : (xs ys : List Mention) → AreFull xs → AreFull ys → AreFull (xs ++ ys)
-full-append xs ys h k = subst (AllByRecursion HasOne) (sym (flat_map-append enum_of xs ys)) (each-append HasOne (flat_map enum_of xs) (flat_map enum_of ys) h k)
+full-append xs ys h k = subst (AllByRecursion HasOne) (sym (flat_map-append enum_of xs ys)) (each_append HasOne (flat_map enum_of xs) (flat_map enum_of ys) h k)
 
 full-each : {X : Type 0} (P : X → Type 0) (f : X → List Mention) → ((x : X) → P x → AreFull (f x)) → (xs : List X) → AllByRecursion P xs → AreFull (flat_map f xs)
 full-each P f h [] k = tt
@@ -196,16 +195,16 @@ full-pieces : (known : Known) (tops : List Top) → AllByRecursion TopIsWritten 
 full-pieces known [] h = tt
 full-pieces known (SetType word ordered span at ∷ tops) h = full-pieces (known_after known (SetType word ordered span at)) tops h.1
 full-pieces known (Alias word of at ∷ tops) h =
-    each-append HasOne (flat_map enum_of (in_type of)) (flat_map (λ piece. flat_map enum_of piece.mentions) (pieces_from (known_after known (Alias word of at)) tops)) (full-type of h.0) (full-pieces (known_after known (Alias word of at)) tops h.1)
+    each_append HasOne (flat_map enum_of (in_type of)) (flat_map (λ piece. flat_map enum_of piece.mentions) (pieces_from (known_after known (Alias word of at)) tops)) (full-type of h.0) (full-pieces (known_after known (Alias word of at)) tops h.1)
 full-pieces known (Module word formals body at ∷ tops) h =
-    each-append HasOne (flat_map enum_of (flat_map (in_item []) body)) (flat_map (λ piece. flat_map enum_of piece.mentions) (pieces_from (known_after known (Module word formals body at)) tops))
+    each_append HasOne (flat_map enum_of (flat_map (in_item []) body)) (flat_map (λ piece. flat_map enum_of piece.mentions) (pieces_from (known_after known (Module word formals body at)) tops))
     (full-each ItemIsWritten (in_item []) full-item body h.0) (full-pieces (known_after known (Module word formals body at)) tops h.1)
 
 -- ---- each list once
 
 different-each : {X : Type 0} (P : X → Type 0) (same : X → X → Bool) (xs : List X) → AllByRecursion P xs → AllByRecursion P (different same xs)
 different-each P same [] h = tt
-different-each P same (x ∷ xs) h = (h.0, filter-each P (λ y. not (same x y)) (different same xs) (different-each P same xs h.1))
+different-each P same (x ∷ xs) h = (h.0, each_filter P (λ y. not (same x y)) (different same xs) (different-each P same xs h.1))
 
 pub one-length : {X : Type 0} (xs : List X) → HasOne xs → nat_lt 0 (length xs) ≡ true
 one-length [] h = absurd h

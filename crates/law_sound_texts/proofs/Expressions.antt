@@ -2,6 +2,7 @@
 use Rattle.law_designs.proofs.Opening.{opening}
 use Rattle.std.proofs.Common.{◌≡◌, ℕ, zero, List, [], ◌∷◌, ◌++◌, map, length, slice_get, Option, Some, None, option_and_then, true, false, cond, nat_eq, nat_lt, nat_le, ◌&&◌, ◌⊎◌, inl, inr, refl, sym, ap, ◌∙◌, subst, arith}
 use Rattle.std.proofs.lemmas.Bool.{ltb-false, le-leb, eqb-false, lt-ltb}
+use Rattle.std.proofs.lemmas.Option.{same_Some}
 use Rattle.smv_core.specs.Values.{Path}
 use Rattle.smv_core.specs.Types.{find_name}
 use Rattle.smv_core.specs.Outcome.{fields_of, family_at}
@@ -33,7 +34,7 @@ use Rattle.law_designs.specs.Statements.{flat_expr, flat_row, flat_indexes, flat
 use Rattle.law_designs.specs.Agreement.{IsIndexType}
 use Rattle.law_designs.specs.Written.{IsSet, IsWritten, PartsAreWritten, IndexesAreWritten, TermsAreWritten, MembersAreWritten}
 use Rattle.law_designs.proofs.Faultless.{empty-both, unplaced, no_places, each-front, each-behind, IsFine, AreFine, number-fine, numbers-fine, alike-fine, compared-fine, reference-fine}
-use Rattle.law_designs.proofs.LeadTypes.{single-counts, some-same}
+use Rattle.law_designs.proofs.LeadTypes.{single-counts}
 use Rattle.law_designs.proofs.Expressions.{chained, listed-constant, reference-cases}
 use Rattle.law_designs.proofs.Modules.{IsApart}
 use Rattle.law_sound_texts.proofs.Relation.{HasKind, HaveKinds, number-kept, numbers-kept, chosen-kept, alike-some, compared-kept, indexes-kept}
@@ -90,7 +91,7 @@ module _ (flat_text : FlatText) (scope : kinds.Scope) (flat : Scope) (signals : 
       alone kind e = by_parts parts e
         where
           by_parts : (parts : List Part) → single kind parts ≡ Some w → (parts ≡ []) × (kind ≡ w.value)
-          by_parts [] e = (refl, ap (λ v. v.value) (some-same {X = Whole} (record { over = []; value = kind }) w e))
+          by_parts [] e = (refl, ap (λ v. v.value) (same_Some {X = Whole} (record { over = []; value = kind }) w e))
           by_parts (p ∷ parts) e = absurd (cc (e))
 
       by_case : (kinds.variable_at scope vars (Field word ∷ parts) ≡ Some w) ⊎ ((signal_at scope (Field word ∷ parts) ≡ Some w) ⊎ (constant_at scope (Field word ∷ parts) ≡ Some w)) → Plain vars around (flat_path flat around path es at) w.value

@@ -3,8 +3,10 @@ use Rattle.law_designs.proofs.Opening.{opening}
 use Rattle.std.proofs.Common.{◌≡◌, ℕ, zero, suc, ◌≤◌, List, [], ◌∷◌, ◌++◌, map, flat_map, length, get_or, slice_get, Option, Some, None, unwrap_or, Bool, true, false, cond, ◌||◌, All, nat_lt, nat_le, refl, sym, ap, ◌∙◌, subst, arith}
 use Rattle.std.specs.Str.{bytes_eq}
 use Rattle.std.specs.List.{AllByRecursion, list_all, position_or_len}
-use Rattle.std.proofs.lemmas.Bool.{and_from, le-leb, lt-ltb, ltb-false, or_parts}
-use Rattle.std.proofs.lemmas.Option.{slice_get_within}
+use Rattle.std.proofs.lemmas.Bool.{and_from, le-leb, lt-ltb, ltb-false, or_parts, not-false}
+use Rattle.std.proofs.lemmas.Option.{slice_get_within, same_Some}
+use Rattle.std.proofs.lemmas.List.Elements.{All-head, All-tail}
+use Rattle.law_lists.proofs.Each.{each_append}
 use Rattle.smv_core.specs.Values.{Name, Path, Simple, range, choice, scalarset, ordset, Sizes}
 use Rattle.smv_core.specs.Types as tree
 use Rattle.smv_core.specs.Types.{Family, Shape, find_name, simple, simple_of, shape_of, shape_of_fields, shape_or_none, one_value, array_of, indexed, behind, types_from}
@@ -35,11 +37,10 @@ use Rattle.law_designs.specs.Flattening.{flatten, scope_in, flat_family}
 use Rattle.law_designs.specs.Agreement.{IsIndexType, numbers_in}
 use Rattle.law_designs.proofs.Numbered.{IsNumbered, HasNumbers, RunsOver, IsNumberedOrNone}
 use Rattle.law_designs.proofs.SameFamilies.{families-same}
-use Rattle.law_designs.proofs.Lookups.{all-head, all-tail}
 use Rattle.law_designs.specs.Written.{HasOne, TypeIsWritten, FieldsAreWritten, ItemIsWritten, TopIsWritten}
-use Rattle.law_designs.proofs.Faultless.{empty-both, unplaced, no_places, each-append, each-map}
+use Rattle.law_designs.proofs.Faultless.{empty-both, unplaced, no_places, each-map}
 use Rattle.law_designs.proofs.Somewhere.{Somewhere, somewhere-place}
-use Rattle.law_designs.proofs.LeadTypes.{kind_of, IsFamilyAt, AreCovered, single-covers, single-counts, leads-count, leads-cover, index-simple, some-same, not-false}
+use Rattle.law_designs.proofs.LeadTypes.{kind_of, IsFamilyAt, AreCovered, single-covers, single-counts, leads-count, leads-cover, index-simple}
 use Rattle.law_designs.proofs.Modules.{AreModules, AreFound, modules-found, AreTypes, types-append, types-count, types-found}
 use Rattle.law_sound_texts.specs.TextExtension.{FamiliesAreFound}
 use Rattle.law_sound_texts.proofs.Enumerations.{names-one, one-length}
@@ -63,7 +64,7 @@ placed-get : (scope : Scope) (placed : List (Family × ℕ)) (k : ℕ) (f : Fami
     (g : FlatFamily) × (slice_get (map (flat_family scope) placed) k ≡ Some g) × (map (flat_simple scope) f.over ≡ g.over) × (flat_simple scope f.value ≡ g.value)
 placed-get scope [] k f e = absurd (cc (e))
 placed-get scope ((own, at) ∷ placed) zero f e =
-    let same : f ≡ own = sym (some-same own f e) in (flat_family scope (own, at), refl, ap (λ (f : Family). map (flat_simple scope) f.over) same, ap (λ (f : Family). flat_simple scope f.value) same)
+    let same : f ≡ own = sym (same_Some own f e) in (flat_family scope (own, at), refl, ap (λ (f : Family). map (flat_simple scope) f.over) same, ap (λ (f : Family). flat_simple scope f.value) same)
 placed-get scope (p ∷ placed) (suc k) f e = placed-get scope placed k f e
 
 -- the family of this path in the text and in the flattened text, where its types have these kinds
@@ -120,7 +121,7 @@ simple-fit (f ∷ g ∷ shape) h t e = absurd (cc (e))
 simple-fit (f ∷ []) h t e = by_parts f.path f.over e
   where
     by_parts : (path : Path) (over : List Simple) → simple_of (record { path = path; over = over; value = f.value; is_abstract = false } ∷ []) ≡ Some t → IsFit t
-    by_parts [] [] e = subst IsFit (some-same f.value t e) h.0.0
+    by_parts [] [] e = subst IsFit (same_Some f.value t e) h.0.0
     by_parts [] (u ∷ over) e = absurd (cc (e))
     by_parts (name ∷ path) over e = absurd (cc (e))
 
@@ -138,7 +139,7 @@ behind-fit front (f ∷ shape) h = (h.0, behind-fit front shape h.1)
 
 words-fit : (shape : Shape) → AreFit shape → (names : List Word) → AreFit (flat_map (λ (word : Word). map (behind (word.name ∷ [])) shape) names)
 words-fit shape h [] = tt
-words-fit shape h (word ∷ names) = each-append FamilyIsFit (map (behind (word.name ∷ [])) shape) (flat_map (λ (word : Word). map (behind (word.name ∷ [])) shape) names) (behind-fit (word.name ∷ []) shape h) (words-fit shape h names)
+words-fit shape h (word ∷ names) = each_append FamilyIsFit (map (behind (word.name ∷ [])) shape) (flat_map (λ (word : Word). map (behind (word.name ∷ [])) shape) names) (behind-fit (word.name ∷ []) shape h) (words-fit shape h names)
 
 indexed-fit : (t : Simple) (shape : Shape) → IsIndexFit t → AreFit shape → AreFit (map (indexed t) shape)
 indexed-fit t [] i h = tt
@@ -179,7 +180,7 @@ module _ (known_types : Types) (types : tree.Types) (known : AreCovered known_ty
     fields-fit end_of-Field written h = tt
     fields-fit (more_of-Field names of at rest) written h =
         let both = empty-both (type_faults known_types of) (field_faults known_types rest) h in
-        each-append FamilyIsFit (flat_map (λ (word : Word). map (behind (word.name ∷ [])) (shape_of types of)) names) (shape_of_fields types rest)
+        each_append FamilyIsFit (flat_map (λ (word : Word). map (behind (word.name ∷ [])) (shape_of types of)) names) (shape_of_fields types rest)
         (words-fit (shape_of types of) (shape-fit of written.0 both.0) names) (fields-fit rest written.1 both.1)
 
 -- ---- the types of a text
@@ -191,18 +192,18 @@ module _ (all_modules : List (Name × Module)) (constants : List (Name × Consta
   table-fit ks ts are h (SetType word false span at ∷ tops) written fine =
       table-fit (ks ++ (word.name, single (kind.set_type word.name)) ∷ []) (ts ++ (word.name, one_value (scalarset word.name)) ∷ [])
       (types-append ks ((word.name, single (kind.set_type word.name)) ∷ []) ts ((word.name, one_value (scalarset word.name)) ∷ []) are (refl, single-covers (kind.set_type word.name) (scalarset word.name) refl, single-counts (kind.set_type word.name), tt))
-      (each-append (λ (name, shape). AreFit shape) ts ((word.name, one_value (scalarset word.name)) ∷ []) h (((tt, tt), tt), tt)) tops written.1
+      (each_append (λ (name, shape). AreFit shape) ts ((word.name, one_value (scalarset word.name)) ∷ []) h (((tt, tt), tt), tt)) tops written.1
       (empty-both (in_top all_modules constants ks (SetType word false span at)) (in_tops all_modules constants (kinds.types_after ks (SetType word false span at)) tops) fine).1
   table-fit ks ts are h (SetType word true span at ∷ tops) written fine =
       table-fit (ks ++ (word.name, single (kind.set_type word.name)) ∷ []) (ts ++ (word.name, one_value (ordset word.name)) ∷ [])
       (types-append ks ((word.name, single (kind.set_type word.name)) ∷ []) ts ((word.name, one_value (ordset word.name)) ∷ []) are (refl, single-covers (kind.set_type word.name) (ordset word.name) refl, single-counts (kind.set_type word.name), tt))
-      (each-append (λ (name, shape). AreFit shape) ts ((word.name, one_value (ordset word.name)) ∷ []) h (((tt, tt), tt), tt)) tops written.1
+      (each_append (λ (name, shape). AreFit shape) ts ((word.name, one_value (ordset word.name)) ∷ []) h (((tt, tt), tt), tt)) tops written.1
       (empty-both (in_top all_modules constants ks (SetType word true span at)) (in_tops all_modules constants (kinds.types_after ks (SetType word true span at)) tops) fine).1
   table-fit ks ts are h (Alias word of at ∷ tops) written fine =
       let both = empty-both (in_top all_modules constants ks (Alias word of at)) (in_tops all_modules constants (kinds.types_after ks (Alias word of at)) tops) fine in
       table-fit (ks ++ (word.name, leads ks of) ∷ []) (ts ++ (word.name, shape_of ts of) ∷ [])
       (types-append ks ((word.name, leads ks of) ∷ []) ts ((word.name, shape_of ts of) ∷ []) are (refl, leads-cover ks ts (types-found ks ts are) of written.0 both.0, leads-count ks (types-count ks ts are) of, tt))
-      (each-append (λ (name, shape). AreFit shape) ts ((word.name, shape_of ts of) ∷ []) h (shape-fit ks ts (types-found ks ts are) h of written.0 both.0, tt)) tops written.1 both.1
+      (each_append (λ (name, shape). AreFit shape) ts ((word.name, shape_of ts of) ∷ []) h (shape-fit ks ts (types-found ks ts are) h of written.0 both.0, tt)) tops written.1 both.1
   table-fit ks ts are h (ModuleOf word formals body at ∷ tops) written fine =
       table-fit ks ts are h tops written.1 (empty-both (in_top all_modules constants ks (ModuleOf word formals body at)) (in_tops all_modules constants ks tops) fine).1
 
@@ -211,11 +212,11 @@ module _ (all_modules : List (Name × Module)) (constants : List (Name × Consta
   module _ (types : tree.Types) (table : TableIsFit types) (bodies : List (Name × Body)) (same_modules : AreModules types all_modules constants all_modules bodies) where
     declared-fit : (shape : Shape) → AreFit shape → (f : Word → Family → Family) → ((word : Word) (g : Family) → FamilyIsFit g → FamilyIsFit (f word g)) → (words : List Word) → AreFit (flat_map (λ word. map (f word) shape) words)
     declared-fit shape h f keeps [] = tt
-    declared-fit shape h f keeps (word ∷ words) = each-append FamilyIsFit (map (f word) shape) (flat_map (λ word. map (f word) shape) words) (each-map FamilyIsFit FamilyIsFit (f word) (keeps word) shape h) (declared-fit shape h f keeps words)
+    declared-fit shape h f keeps (word ∷ words) = each_append FamilyIsFit (map (f word) shape) (flat_map (λ word. map (f word) shape) words) (each-map FamilyIsFit FamilyIsFit (f word) (keeps word) shape h) (declared-fit shape h f keeps words)
 
     inside-fit : (inside : Path → Name → List Family) → ((here : Path) (name : Name) → AreFit (inside here name)) → (here : Path) (name : Name) (words : List Word) → AreFit (flat_map (λ (word : Word). inside (here ++ word.name ∷ []) name) words)
     inside-fit inside h here name [] = tt
-    inside-fit inside h here name (word ∷ words) = each-append FamilyIsFit (inside (here ++ word.name ∷ []) name) (flat_map (λ (word : Word). inside (here ++ word.name ∷ []) name) words) (h (here ++ word.name ∷ []) name) (inside-fit inside h here name words)
+    inside-fit inside h here name (word ∷ words) = each_append FamilyIsFit (inside (here ++ word.name ∷ []) name) (flat_map (λ (word : Word). inside (here ++ word.name ∷ []) name) words) (h (here ++ word.name ∷ []) name) (inside-fit inside h here name words)
 
     item-fit : (m : Module) → AreCovered m.types types → (inside : Path → Name → List Family) → ((here : Path) (name : Name) → AreFit (inside here name)) → (here : Path) (part : Item) → ItemIsWritten part →
         in_item (record { modules = all_modules; constants = constants; here = m }) [] part ≡ [] → AreFit (families_of_item types bodies inside here part)
@@ -230,7 +231,7 @@ module _ (all_modules : List (Name × Module)) (constants : List (Name × Consta
     items-fit m covered inside h here [] written fine = tt
     items-fit m covered inside h here (part ∷ items) written fine =
         let both = empty-both (in_item (record { modules = all_modules; constants = constants; here = m }) [] part) (flat_map (in_item (record { modules = all_modules; constants = constants; here = m }) []) items) fine in
-        each-append FamilyIsFit (families_of_item types bodies inside here part) (flat_map (families_of_item types bodies inside here) items) (item-fit m covered inside h here part written.0 both.0) (items-fit m covered inside h here items written.1 both.1)
+        each_append FamilyIsFit (families_of_item types bodies inside here part) (flat_map (families_of_item types bodies inside here) items) (item-fit m covered inside h here part written.0 both.0) (items-fit m covered inside h here items written.1 both.1)
 
     pub families-fit : (k : ℕ) (here : Path) (name : Name) → AreFit (families_in types bodies k here name)
     families-fit zero here name = tt
@@ -289,12 +290,12 @@ module _ (text : Text) (sizes : Sizes) (here : Path) where
   indexes-kept [] fit n = refl
   indexes-kept (t ∷ over) fit n =
       and_from (is_index_type (flatten text) (flat_simple (scope_in text here) t)) (list_all (is_index_type (flatten text)) (map (flat_simple (scope_in text here)) over))
-      (index-kept t fit.0 (all-head (IsNumbered (scope_in text here) (numbers_in text sizes)) t over n)) (indexes-kept over fit.1 (all-tail (IsNumbered (scope_in text here) (numbers_in text sizes)) t over n))
+      (index-kept t fit.0 (All-head (IsNumbered (scope_in text here) (numbers_in text sizes)) t over n)) (indexes-kept over fit.1 (All-tail (IsNumbered (scope_in text here) (numbers_in text sizes)) t over n))
 
   pub families-kept : (placed : List (Family × ℕ)) → AreFit (map (λ (f, at). f) placed) → All (HasNumbers (scope_in text here) (numbers_in text sizes)) (map (λ (f, at). f) placed) → list_all (is_kinded_family (flatten text)) (map (flat_family (scope_in text here)) placed) ≡ true
   families-kept [] fit n = refl
   families-kept ((f, at) ∷ placed) fit n =
-      let own = all-head (HasNumbers (scope_in text here) (numbers_in text sizes)) f (map (λ (f, at). f) placed) n in
+      let own = All-head (HasNumbers (scope_in text here) (numbers_in text sizes)) f (map (λ (f, at). f) placed) n in
       and_from (is_kinded_family (flatten text) (flat_family (scope_in text here) (f, at))) (list_all (is_kinded_family (flatten text)) (map (flat_family (scope_in text here)) placed))
       (and_from (list_all (is_index_type (flatten text)) (map (flat_simple (scope_in text here)) f.over)) (is_type (flatten text) (flat_simple (scope_in text here) f.value)) (indexes-kept f.over fit.0.1 own.1) (type-kept f.value fit.0.0 own.0))
-      (families-kept placed fit.1 (all-tail (HasNumbers (scope_in text here) (numbers_in text sizes)) f (map (λ (f, at). f) placed) n))
+      (families-kept placed fit.1 (All-tail (HasNumbers (scope_in text here) (numbers_in text sizes)) f (map (λ (f, at). f) placed) n))

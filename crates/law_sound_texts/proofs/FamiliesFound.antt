@@ -2,8 +2,11 @@
 use Rattle.std.proofs.Common.{◌≡◌, ℕ, zero, suc, ◌+◌, List, [], ◌∷◌, ◌++◌, map, length, Option, Some, None, Bool, true, false, not, ◌||◌, cond, find, refl, sym, ap, subst, ◌∙◌, inl, inr, slice_get, unwrap_or, arith}
 use Rattle.std.specs.List.{flat_map, list_any, position_or_len, prefix_len}
 use Rattle.std.specs.Str.{bytes_eq}
-use Rattle.std.proofs.lemmas.List.{append_assoc, map-append}
+use Rattle.std.proofs.lemmas.List.{append_assoc}
 use Rattle.std.proofs.lemmas.Slice.Eq.{bytes_eq-Decides, slice_eq-Decides}
+use Rattle.std.proofs.lemmas.Bool.{cases_Bool}
+use Rattle.law_lists.proofs.Lists.{map-flat_map_by, map-map_by, map-nil}
+use Rattle.law_lists.proofs.Options.{some_is}
 use Rattle.smv_core.specs.Values.{Name, Path, Simple, range, choice, scalarset, ordset}
 use Rattle.smv_core.specs.Types.{Types, Family, Shape, find_name, names_of, one_value, indexed, behind, simple_of, array_of, shape_or_none, shape_of, shape_of_fields, types_after, types_from}
 use Rattle.smv_core.specs.FlatOrder.{Body, modules, main, declared_as, families_of_item, body_of, families_in, design_of}
@@ -25,10 +28,8 @@ use Rattle.law_designs.proofs.Faultless.{no_fault-in, unplaced}
 use Rattle.law_obligations.specs.Sets.{Has, first, later}
 use Rattle.law_obligations.proofs.Members.{Has-left, Has-right, Has-cases, Has-from_map}
 use Rattle.law_obligations.proofs.OneOfEach.{Has-from_flat_map}
-use Rattle.law_obligations.proofs.Lookups.{inner}
 use Rattle.law_sound_texts.specs.TextExtension.{FamiliesAreFound}
-use Rattle.law_sound_texts.proofs.Lists.{true_or_false}
-use Rattle.law_sound_texts.proofs.NoFaults.{nil-left, nil-right, nil-map, none-both, nil-flat_map}
+use Rattle.law_sound_texts.proofs.NoFaults.{nil-left, nil-right, none-both, nil-flat_map}
 
 -- ---- names that are apart
 
@@ -157,7 +158,7 @@ found-Has [] name x e = absurd (cc (e))
 found-Has {X} ((other, y) ∷ entries) name x e = by_test (bytes_eq other name) e (found-Has entries name x)
   where
     by_test : (b : Bool) → cond b (Some y) (find_name entries name) ≡ Some x → (find_name entries name ≡ Some x → (entry : Name × X) × Has entries entry × (entry.1 ≡ x)) → (entry : Name × X) × Has ((other, y) ∷ entries) entry × (entry.1 ≡ x)
-    by_test true e rest = ((other, y), first, inner e)
+    by_test true e rest = ((other, y), first, some_is e)
     by_test false e rest = let r = rest e in (r.0, later r.1, r.2)
 
 module _ (types : Types) (all : AllApart types) where
@@ -355,7 +356,7 @@ pub pieces-fine : (text : Text) → first_fault text ≡ None → (p : Piece) �
 pieces-fine text e p i =
     let none : flat_map faults_at (name_faults (pieces text)) ≡ [] = no_fault-in (faults_of_names text) (none-both (first_of (faults_of_names text)) (fault_of_size text) e).0 in
     let eight : repeated [] (map (λ (piece : Piece). piece.word) (pieces text)) ++ flat_map (doubled_in (pieces text)) (pieces text) ≡ [] =
-    nil-map _ (repeated [] (map (λ (piece : Piece). piece.word) (pieces text)) ++ flat_map (doubled_in (pieces text)) (pieces text)) (nil-flat_map faults_at (name_faults (pieces text)) none (8, repeated [] (map (λ (piece : Piece). piece.word) (pieces text)) ++ flat_map (doubled_in (pieces text)) (pieces text)) (later first)) in
+    map-nil _ (repeated [] (map (λ (piece : Piece). piece.word) (pieces text)) ++ flat_map (doubled_in (pieces text)) (pieces text)) (nil-flat_map faults_at (name_faults (pieces text)) none (8, repeated [] (map (λ (piece : Piece). piece.word) (pieces text)) ++ flat_map (doubled_in (pieces text)) (pieces text)) (later first)) in
     let own : doubled_in (pieces text) p ≡ [] = nil-flat_map (doubled_in (pieces text)) (pieces text) (nil-right (repeated [] (map (λ (piece : Piece). piece.word) (pieces text))) (flat_map (doubled_in (pieces text)) (pieces text)) eight) p i in
     let front : repeated [] (formals_of p) ++ repeated [] (declared_words p.mentions) ≡ [] = nil-left (repeated [] (formals_of p) ++ repeated [] (declared_words p.mentions)) (flat_map (doubled (scope_of (pieces text) p)) p.mentions) own in
     let back : flat_map (doubled (scope_of (pieces text) p)) p.mentions ≡ [] = nil-right (repeated [] (formals_of p) ++ repeated [] (declared_words p.mentions)) (flat_map (doubled (scope_of (pieces text) p)) p.mentions) own in (
@@ -380,43 +381,34 @@ found-at : (fs : List Family) → Apart fs → (k : ℕ) (f : Family) → slice_
     (find (λ (g : Family). same_path g.path f.path) fs ≡ Some f) × (position_or_len (λ (g : Family). same_path g.path f.path) fs ≡ k)
 found-at [] p k f e = absurd (cc (e))
 found-at (g ∷ fs) p zero f e =
-    let same : same_path g.path f.path ≡ true = path-same g.path f.path (ap (λ (g : Family). g.path) (inner e)) in
+    let same : same_path g.path f.path ≡ true = path-same g.path f.path (ap (λ (g : Family). g.path) (some_is e)) in
     (ap (λ b. cond b (Some g) (find (λ (g : Family). same_path g.path f.path) fs)) same ∙ e, ap (λ b. cond (not b) (1 + prefix_len (λ (g : Family). not (same_path g.path f.path)) fs) 0) same)
 found-at (g ∷ fs) p (suc k) f e =
     let r = found-at fs p.1 k f e in
-    let other : same_path g.path f.path ≡ false = elim (true_or_false (same_path g.path f.path)) [ inl t ↦ absurd (p.0 f (get-there fs k f e) (path-equal g.path f.path t)) | inr t ↦ t ] in (
+    let other : same_path g.path f.path ≡ false = elim (cases_Bool (same_path g.path f.path)) [ inl t ↦ absurd (p.0 f (get-there fs k f e) (path-equal g.path f.path t)) | inr t ↦ t ] in (
       ap (λ b. cond b (Some g) (find (λ (g : Family). same_path g.path f.path) fs)) other ∙ r.0,
       ap (λ b. cond (not b) (1 + prefix_len (λ (g : Family). not (same_path g.path f.path)) fs) 0) other ∙ (let q = r.1 in omega (arith, q)),
     )
   where
     get-there : (fs : List Family) (k : ℕ) (f : Family) → slice_get fs k ≡ Some f → Has fs f
     get-there [] k f e = absurd (cc (e))
-    get-there (g ∷ fs) zero f e = subst (Has (g ∷ fs)) (inner e) first
+    get-there (g ∷ fs) zero f e = subst (Has (g ∷ fs)) (some_is e) first
     get-there (g ∷ fs) (suc k) f e = later (get-there fs k f e)
-
--- the families of a scope are those of the text
-map-flat_map : {X Y Z : Type 0} (g : Y → Z) (F : X → List Y) (G : X → List Z) → ((x : X) → map g (F x) ≡ G x) → (xs : List X) → map g (flat_map F xs) ≡ flat_map G xs
-map-flat_map g F G e [] = refl
-map-flat_map g F G e (x ∷ xs) = map-append g (F x) (flat_map F xs) ∙ rw (e x, map-flat_map g F G e xs) refl
-
-map-map : {X Y Z : Type 0} (g : Y → Z) (f : X → Y) (h : X → Z) → ((x : X) → g (f x) ≡ h x) → (xs : List X) → map g (map f xs) ≡ map h xs
-map-map g f h e [] = refl
-map-map g f h e (x ∷ xs) = rw (e x, map-map g f h e xs) refl
 
 module _ (types : Types) (bodies : List (Name × Body)) where
   placed-item : (inside : Path → Name → List (Family × ℕ)) (own : Path → Name → List Family) → ((here : Path) (name : Name) → map (λ (f, at). f) (inside here name) ≡ own here name) →
       (here : Path) (item : Item) → map (λ (f, at). f) (placed_of_item types bodies inside here item) ≡ families_of_item types bodies own here item
   placed-item inside own h here (Declare role words of at) =
-      map-flat_map (λ (f, at). f) (λ (word : Word). map (λ f. (declared_as role (here ++ word.name ∷ []) f, word.at)) (shape_of types of)) (λ (word : Word). map (declared_as role (here ++ word.name ∷ [])) (shape_of types of))
-      (λ (word : Word). map-map (λ (f, at). f) (λ f. (declared_as role (here ++ word.name ∷ []) f, word.at)) (declared_as role (here ++ word.name ∷ [])) (λ f. refl) (shape_of types of)) words
+      map-flat_map_by (λ (f, at). f) (λ (word : Word). map (λ f. (declared_as role (here ++ word.name ∷ []) f, word.at)) (shape_of types of)) (λ (word : Word). map (declared_as role (here ++ word.name ∷ [])) (shape_of types of))
+      (λ (word : Word). map-map_by (λ (f, at). f) (λ f. (declared_as role (here ++ word.name ∷ []) f, word.at)) (declared_as role (here ++ word.name ∷ [])) (λ f. refl) (shape_of types of)) words
   placed-item inside own h here (Instance words name args at) =
-      map-flat_map (λ (f, at). f) (λ (word : Word). inside (here ++ word.name ∷ []) name.name) (λ (word : Word). own (here ++ word.name ∷ []) name.name) (λ (word : Word). h (here ++ word.name ∷ []) name.name) words
+      map-flat_map_by (λ (f, at). f) (λ (word : Word). inside (here ++ word.name ∷ []) name.name) (λ (word : Word). own (here ++ word.name ∷ []) name.name) (λ (word : Word). h (here ++ word.name ∷ []) name.name) words
   placed-item inside own h here _ = refl
 
   placed-same : (k : ℕ) (here : Path) (name : Name) → map (λ (f, at). f) (placed_in types bodies k here name) ≡ families_in types bodies k here name
   placed-same zero here name = refl
   placed-same (suc k) here name =
-      map-flat_map (λ (f, at). f) (placed_of_item types bodies (placed_in types bodies k) here) (families_of_item types bodies (families_in types bodies k) here)
+      map-flat_map_by (λ (f, at). f) (placed_of_item types bodies (placed_in types bodies k) here) (families_of_item types bodies (families_in types bodies k) here)
       (placed-item (placed_in types bodies k) (families_in types bodies k) (placed-same k) here) (body_of types bodies name).items
 
 pub families_found : (text : Text) → first_fault text ≡ None → FamiliesAreFound text

@@ -3,6 +3,7 @@ use Rattle.law_designs.proofs.Opening.{opening}
 use Rattle.std.proofs.Common.{◌≡◌, ℕ, ◌+◌, ◌-◌, ◌<◌, ◌≤◌, List, [], ◌∷◌, map, flat_map, length, Option, Some, None, option_map, Bool, true, All, nat_lt, nat_le, refl, sym, ap, ◌∙◌, subst, arith}
 use Rattle.std.specs.List.{AllByRecursion, list_all}
 use Rattle.std.proofs.lemmas.Bool.{and_from, le-leb, lt-ltb}
+use Rattle.law_lists.proofs.Booleans.{left_of, right_of}
 use Rattle.smv_core.specs.Values.{Name, Path, Sizes}
 use Rattle.smv_core.specs.Types as tree
 use Rattle.smv_core.specs.Types.{types_from}
@@ -37,7 +38,7 @@ use Rattle.law_designs.proofs.RightText.{modules-of}
 use Rattle.law_obligations.specs.Sets.{Has}
 use Rattle.law_sound_texts.specs.TextExtension.{FamiliesAreFound}
 use Rattle.law_sound_texts.proofs.FamiliesFound.{PieceIsFine, AllApart, BodyIsFine, types-all, modules-fine, pieces-fine}
-use Rattle.law_sound_texts.proofs.Lists.{left_of, right_of, all-append}
+use Rattle.law_sound_texts.proofs.Lists.{all-append}
 use Rattle.law_sound_texts.proofs.Families.{AreFit, TableIsFit, range-fit, table-fit, families-fit, families-kept}
 use Rattle.law_sound_texts.proofs.Enumerations.{enumerations-kept}
 use Rattle.law_sound_texts.proofs.Connections.{has_kind, inside_params, params-bound, EntryKeeps}

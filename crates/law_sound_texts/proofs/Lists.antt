@@ -1,34 +1,14 @@
 -- Members of lists, and values that are the same.
-use Rattle.std.proofs.Common.{◌≡◌, ◌+◌, List, [], ◌∷◌, ◌++◌, filter, Bool, true, false, not, ◌&&◌, ◌||◌, cond, refl, subst, ◌⊎◌, inl, inr}
-use Rattle.std.specs.List.{AllByRecursion, list_all}
+use Rattle.std.proofs.Common.{◌≡◌, ◌+◌, List, [], ◌∷◌, ◌++◌, filter, Bool, true, false, not, refl, subst, ◌⊎◌, inl, inr}
+use Rattle.std.specs.List.{list_all}
+use Rattle.std.proofs.lemmas.Bool.{cases_Bool, and_from}
+use Rattle.law_lists.proofs.Booleans.{left_of, right_of}
 use Rattle.smv_core.specs.Values.{Value, same, is_in}
 use Rattle.law_obligations.specs.Sets.{Has, first, later}
 use Rattle.law_obligations.proofs.Members.{any-found}
 use Rattle.law_obligations.proofs.Lookups.{Has-filter, Has-from_filter}
 use Rattle.law_obligations.proofs.Same.{same-itself}
 use Rattle.law_designs.specs.Flattening.{different}
-
-pub clash : {b : Bool} → b ≡ true → b ≡ false → ⊥
-clash p q = cc
-
-pub true_or_false : (b : Bool) → (b ≡ true) ⊎ (b ≡ false)
-true_or_false true = inl refl
-true_or_false false = inr refl
-
-pub left_of : (a b : Bool) → (a && b) ≡ true → a ≡ true
-left_of true b e = refl
-left_of false b e = e
-
-pub right_of : (a b : Bool) → (a && b) ≡ true → b ≡ true
-right_of true b e = e
-right_of false b e = absurd (cc)
-
-pub both_true : (a b : Bool) → a ≡ true → b ≡ true → (a && b) ≡ true
-both_true a b p q = rw (p, q) refl
-
-pub neither : (a b : Bool) → (a || b) ≡ false → (a ≡ false) × (b ≡ false)
-neither true b e = absurd (cc (e))
-neither false b e = (refl, e)
 
 pub Has-kept : {X : Type 0} (p : X → Bool) (xs : List X) {x : X} → Has (filter p xs) x → Has xs x
 Has-kept p xs h = (Has-from_filter p xs h).0
@@ -38,18 +18,9 @@ Has-from_different same [] h = elim h [ ]
 Has-from_different same (y ∷ xs) first = first
 Has-from_different same (y ∷ xs) (later h) = later (Has-from_different same xs (Has-kept (λ z. not (same y z)) (different same xs) h))
 
--- what each has, each that passes a test has
-pub filter-each : {X : Type 0} (P : X → Type 0) (p : X → Bool) (xs : List X) → AllByRecursion P xs → AllByRecursion P (filter p xs)
-filter-each P p [] h = tt
-filter-each P p (x ∷ xs) h = by_test (p x) (filter-each P p xs h.1)
-  where
-    by_test : (b : Bool) → AllByRecursion P (filter p xs) → AllByRecursion P (cond b (x ∷ filter p xs) (filter p xs))
-    by_test true rest = (h.0, rest)
-    by_test false rest = rest
-
 -- where no member passes a test
 pub none_passes : {X : Type 0} (p : X → Bool) (xs : List X) → filter p xs ≡ [] → (x : X) → Has xs x → p x ≡ false
-none_passes p xs e x h = elim (true_or_false (p x)) [ inl t ↦ absurd (elim (subst (λ l. Has l x) e (Has-filter p h t)) [ ]) | inr f ↦ f ]
+none_passes p xs e x h = elim (cases_Bool (p x)) [ inl t ↦ absurd (elim (subst (λ l. Has l x) e (Has-filter p h t)) [ ]) | inr f ↦ f ]
 
 -- a member that passes a test, or none does
 pub some_or_none : {X : Type 0} (p : X → Bool) (xs : List X) → ((x : X) × Has xs x × (p x ≡ true)) ⊎ ((x : X) → Has xs x → p x ≡ false)
@@ -67,7 +38,7 @@ some_or_none {X} p (y ∷ xs) = by_test (p y) refl (some_or_none p xs)
 
 pub all-append : {X : Type 0} (p : X → Bool) (xs ys : List X) → list_all p xs ≡ true → list_all p ys ≡ true → list_all p (xs ++ ys) ≡ true
 all-append p [] ys h k = k
-all-append p (x ∷ xs) ys h k = both_true (p x) (list_all p (xs ++ ys)) (left_of (p x) (list_all p xs) h) (all-append p xs ys (right_of (p x) (list_all p xs) h) k)
+all-append p (x ∷ xs) ys h k = and_from (p x) (list_all p (xs ++ ys)) (left_of (p x) (list_all p xs) h) (all-append p xs ys (right_of (p x) (list_all p xs) h) k)
 
 pub is_in-Has : (values : List Value) (v : Value) → Has values v → is_in values v ≡ true
 is_in-Has values v h = any-found (same v) h (same-itself v)

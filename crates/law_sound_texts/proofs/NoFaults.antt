@@ -1,5 +1,5 @@
 -- Lists in which nothing is, and faults of which there are none.
-use Rattle.std.proofs.Common.{◌≡◌, List, [], ◌∷◌, ◌++◌, map, Option, Some, None, refl}
+use Rattle.std.proofs.Common.{◌≡◌, List, [], ◌∷◌, ◌++◌, Option, Some, None, refl}
 use Rattle.std.specs.List.{flat_map}
 use Rattle.smv_core.specs.declared.fault.Fault.{Fault}
 use Rattle.smv_mentions.specs.FirstFault.{or_else}
@@ -12,10 +12,6 @@ nil-left (x ∷ xs) ys e = absurd (cc (e))
 pub nil-right : {X : Type 0} (xs ys : List X) → xs ++ ys ≡ [] → ys ≡ []
 nil-right [] ys e = e
 nil-right (x ∷ xs) ys e = absurd (cc (e))
-
-pub nil-map : {X Y : Type 0} (f : X → Y) (xs : List X) → map f xs ≡ [] → xs ≡ []
-nil-map f [] e = refl
-nil-map f (x ∷ xs) e = absurd (cc (e))
 
 pub nil-flat_map : {X Y : Type 0} (f : X → List Y) (xs : List X) → flat_map f xs ≡ [] → (x : X) → Has xs x → f x ≡ []
 nil-flat_map f [] e y h = elim h [ ]

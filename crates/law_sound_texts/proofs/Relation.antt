@@ -2,7 +2,7 @@
 use Rattle.law_designs.proofs.Opening.{opening}
 use Rattle.std.proofs.Common.{◌≡◌, List, [], ◌∷◌, ◌++◌, flat_map, length, zip, Option, Some, None, is_some, Bool, true, cond, not, refl, sym, ap, ◌∙◌, subst, arith}
 use Rattle.std.specs.List.{position_or_len}
-use Rattle.std.proofs.lemmas.Bool.{eq-eqb}
+use Rattle.std.proofs.lemmas.Bool.{eq-eqb, not-false}
 use Rattle.std.proofs.lemmas.Slice.Eq.{bytes_eq-Decides}
 use Rattle.smv_core.specs.Outcome.{same_path}
 use Rattle.smv_core.specs.declared.tree.Op.{Op}
@@ -15,7 +15,6 @@ use Rattle.law_designs.specs.FlatKinds as typed
 use Rattle.law_designs.specs.Numbers.{Scope, set_number}
 use Rattle.law_designs.proofs.TypeNumbers.{paths-decide}
 use Rattle.law_designs.proofs.Faultless.{empty-both, empty-three, unplaced, no_places}
-use Rattle.law_designs.proofs.LeadTypes.{not-false}
 
 -- a kind, and not that of an operand at fault
 abbrev pub IsKind : Kind → Type 0

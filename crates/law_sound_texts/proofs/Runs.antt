@@ -2,6 +2,8 @@
 use Rattle.std.proofs.Common.{◌≡◌, ℕ, zero, suc, ◌+◌, ◌-◌, List, [], ◌∷◌, ◌++◌, length, Option, Some, None, Bool, true, false, not, cond, refl, sym, ap, subst, ◌∙◌, ◌⊎◌, inl, inr, slice_get, unwrap_or}
 use Rattle.std.specs.List.{list_all, AllZip}
 use Rattle.std.proofs.lemmas.Slice.Zip.{AllZip-long}
+use Rattle.std.proofs.lemmas.Bool.{cases_Bool, and_from}
+use Rattle.law_lists.proofs.Booleans.{clash, left_of, right_of}
 use Rattle.smv_core.specs.Values.{Value, number, Sizes, is_in}
 use Rattle.smv_core.specs.FlatMeaning.{Numbered, FlatState, FlatElement, values_in, flat_result, is_concerned_by, flat_kept, flat_stepped, flat_allowed}
 use Rattle.smv_core.specs.declared.flat.Family.{Family}
@@ -20,7 +22,7 @@ use Rattle.law_obligations.proofs.Lookups.{Has-filter, Has-from_filter}
 use Rattle.law_designs.specs.Reading.{Reference, Reading, readings}
 use Rattle.law_designs.specs.LayerFaults.{assignments_of}
 use Rattle.law_sound_texts.specs.Extension.{HasWholeLeftSides, AreFilled, AgreeOutside, bases_outside}
-use Rattle.law_sound_texts.proofs.Lists.{clash, true_or_false, left_of, right_of, both_true, is_in-Has}
+use Rattle.law_sound_texts.proofs.Lists.{is_in-Has}
 use Rattle.law_sound_texts.proofs.Results.{all_result, same_result}
 use Rattle.law_sound_texts.proofs.Places.{AreOver, are_over}
 use Rattle.law_sound_texts.proofs.Faultless.{IsFaultless, Falls, IsBase, base_is}
@@ -75,7 +77,7 @@ module _ (d : Design) (sizes : Sizes) (among : ℕ → Bool) (h : IsFaultless d)
   -- one time
   module _ (old before : Option FlatState) (s : FlatState) (typed : IsTyped n s) (typed_before : AreTyped n before) (agree : AgreeBefore among old before) (meets : meets_base n (bases_outside d among) old s ≡ true) where
     held : (def : Def) → Has (bases d) def → (vs : List Value) → Has (values_over n (params_of n (map_of def))) vs → is_held n (map_of def) vs before (next_state before s) ≡ true
-    held def k vs m = by_family (true_or_false (among def.family))
+    held def k vs m = by_family (cases_Bool (among def.family))
       where
         by_family : (among def.family ≡ true) ⊎ (among def.family ≡ false) → is_held n (map_of def) vs before (next_state before s) ≡ true
         by_family (inl a) =
@@ -120,7 +122,7 @@ module _ (d : Design) (sizes : Sizes) (among : ℕ → Bool) (h : IsFaultless d)
       let rest : Goes (Some s) (Some (next_state before s)) run =
       goes (Some s) (Some (next_state before s)) run (λ u k. typed u (later k)) now (agrees before s) (right_of (meets_base n (bases_outside d among) old s) (always (meets_base n (bases_outside d among)) (Some s) run) meets) in (
         λ t k. one_of (next_state before s) (extended (Some (next_state before s)) run) now rest.0 t k,
-        both_true (meets_base n (bases d) before (next_state before s)) (always (meets_base n (bases d)) (Some (next_state before s)) (extended (Some (next_state before s)) run)) (meets_now old before s (typed s first) typed_before agree here) rest.1,
+        and_from (meets_base n (bases d) before (next_state before s)) (always (meets_base n (bases d)) (Some (next_state before s)) (extended (Some (next_state before s)) run)) (meets_now old before s (typed s first) typed_before agree here) rest.1,
       )
     where
       one_of : (u : FlatState) (us : List FlatState) → IsTyped n u → ((t : FlatState) → Has us t → IsTyped n t) → (t : FlatState) → Has (u ∷ us) t → IsTyped n t
@@ -180,7 +182,7 @@ module _ (d : Design) (sizes : Sizes) (have : (f : Family) → Has d.families f 
   repeated-keeps : (k : ℕ) (before : Option FlatState) → always (meets_base (at_sizes (names_of d) sizes) (bases_outside d (λ family. true))) before (repeated k some_state) ≡ true
   unfolding repeated
   repeated-keeps zero before = refl
-  repeated-keeps (suc k) before = both_true _ _ (none_outside before some_state) (repeated-keeps k (Some some_state))
+  repeated-keeps (suc k) before = and_from _ _ (none_outside before some_state) (repeated-keeps k (Some some_state))
 
   repeated_run : (k : ℕ) → IsRun (at_sizes (names_of d) sizes) (bases_outside d (λ family. true)) (repeated k some_state)
   repeated_run k = record { are_typed = λ s m. subst (IsTyped (at_sizes (names_of d) sizes)) (repeated-is k some_state s m) some_typed; keeps_base = repeated-keeps k None }

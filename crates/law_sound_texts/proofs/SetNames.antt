@@ -3,6 +3,7 @@ use Rattle.std.proofs.Common.{◌≡◌, List, [], ◌∷◌, ◌++◌, map, Opt
 use Rattle.std.specs.List.{flat_map, list_any}
 use Rattle.std.specs.Str.{bytes_eq}
 use Rattle.std.proofs.lemmas.Slice.Eq.{bytes_eq-Decides}
+use Rattle.law_lists.proofs.Lists.{map-nil}
 use Rattle.smv_core.specs.Values.{Name}
 use Rattle.smv_core.specs.declared.fault.Fault.{Fault}
 use Rattle.smv_core.specs.declared.flat.SetInfo.{SetInfo}
@@ -17,7 +18,7 @@ use Rattle.law_designs.specs.Flattening.{set_of, flatten}
 use Rattle.law_designs.proofs.Faultless.{no_fault-in, unplaced}
 use Rattle.law_obligations.specs.Sets.{Has, first, later}
 use Rattle.law_obligations.specs.Covers.{AreApart}
-use Rattle.law_sound_texts.proofs.NoFaults.{nil-left, nil-right, nil-map}
+use Rattle.law_sound_texts.proofs.NoFaults.{nil-left, nil-right}
 
 none-first : (o p : Option Fault) → or_else o p ≡ None → o ≡ None
 none-first None p e = refl
@@ -32,7 +33,7 @@ none-repeated text e =
     let tops : List Piece = pieces text in
     let none : flat_map faults_at (name_faults tops) ≡ [] = no_fault-in (faults_of_names text) (none-first (first_of (faults_of_names text)) (fault_of_size text) e) in
     let behind_seven = nil-right (faults_at (7, flat_map (undeclared_in tops) tops)) _ none in
-    nil-left (repeated [] (words_of tops)) (flat_map (doubled_in tops) tops) (nil-map _ (repeated [] (words_of tops) ++ flat_map (doubled_in tops) tops) (nil-left (faults_at (8, repeated [] (words_of tops) ++ flat_map (doubled_in tops) tops)) _ behind_seven))
+    nil-left (repeated [] (words_of tops)) (flat_map (doubled_in tops) tops) (map-nil _ (repeated [] (words_of tops) ++ flat_map (doubled_in tops) tops) (nil-left (faults_at (8, repeated [] (words_of tops) ++ flat_map (doubled_in tops) tops)) _ behind_seven))
 
 any-seen : (name : Name) (seen : List Name) → Has seen name → list_any (bytes_eq name) seen ≡ true
 any-seen name [] h = elim h [ ]

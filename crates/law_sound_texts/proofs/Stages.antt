@@ -1,6 +1,8 @@
 -- The states of a run, one after the other: elements get their values in the order in which definitions read one another, as the limit of stages.
 use Rattle.std.proofs.Common.{◌≡◌, ℕ, zero, suc, ◌<◌, ◌≤◌, List, [], ◌∷◌, map, length, Option, Some, None, Bool, true, false, ◌&&◌, cond, refl, sym, ap, subst, ◌∙◌, ◌⊎◌, inl, inr, slice_get, unwrap_or, arith}
 use Rattle.std.specs.List.{flat_map}
+use Rattle.std.proofs.lemmas.Bool.{cases_Bool}
+use Rattle.law_lists.proofs.Booleans.{right_of}
 use Rattle.smv_core.specs.Values.{Value, Sizes}
 use Rattle.smv_core.specs.Walk.{Walk}
 use Rattle.smv_core.specs.FlatMeaning.{Numbered, FlatState, FlatElement, flat_result, is_concerned_by, flat_kept, flat_stepped, flat_allowed}
@@ -15,7 +17,6 @@ use Rattle.law_obligations.proofs.Members.{Has-left, Has-right, Has-map, Has-fla
 use Rattle.law_designs.specs.Reading.{Reference, Reading, readings}
 use Rattle.law_designs.specs.Loops.{cells, cells_of, edges_of, undelayed}
 use Rattle.law_sound_texts.specs.Extension.{HasWholeLeftSides}
-use Rattle.law_sound_texts.proofs.Lists.{true_or_false, right_of}
 use Rattle.law_sound_texts.proofs.Agreeing.{MayBe, AgreeAt}
 use Rattle.law_sound_texts.proofs.Results.{concerns, result_by, all_result, IsReading, reading_is, same_result, AreSome, IsSome, all_some, some_or_every, result_some, result_within, within_allowed}
 use Rattle.law_sound_texts.proofs.Places.{cell_at, has_cell, AreOver, are_over, over_long, may_be, is_over, over-are, are-over, over-Has}
@@ -202,11 +203,11 @@ module _ (d : Design) (sizes : Sizes) (among : ℕ → Bool) where
 
     module _ (before : Option FlatState) (s : FlatState) where
       stage_same : (k : ℕ) → AgreeBelow k (stage before s k) (stage before s (suc k))
-      stage_same zero family vs below = elim (true_or_false (is_chosen family vs)) [
+      stage_same zero family vs below = elim (cases_Bool (is_chosen family vs)) [
         | inl c ↦ absurd (let l : height family vs < 0 = below c in omega (arith, l))
         | inr c ↦ stage-other before s 0 family vs c ∙ sym (stage-other before s 1 family vs c)
       ]
-      stage_same (suc k) family vs below = elim (true_or_false (is_chosen family vs)) [
+      stage_same (suc k) family vs below = elim (cases_Bool (is_chosen family vs)) [
         | inl c ↦
             stage-chosen before s k family vs c ∙
             (valued_same before (stage before s k) (stage before s (suc k)) family vs (s family vs) c
@@ -220,11 +221,11 @@ module _ (d : Design) (sizes : Sizes) (among : ℕ → Bool) where
       final family vs = stage before s (suc (height family vs)) family vs
 
       settled : (k : ℕ) → AgreeBelow k (stage before s k) final
-      settled zero family vs below = elim (true_or_false (is_chosen family vs)) [
+      settled zero family vs below = elim (cases_Bool (is_chosen family vs)) [
         | inl c ↦ absurd (let l : height family vs < 0 = below c in omega (arith, l))
         | inr c ↦ stage-other before s 0 family vs c ∙ sym (stage-other before s (suc (height family vs)) family vs c)
       ]
-      settled (suc k) family vs below = elim (true_or_false (is_chosen family vs)) [
+      settled (suc k) family vs below = elim (cases_Bool (is_chosen family vs)) [
         | inl c ↦ elim (less_or_same (height family vs) k (below c)) [
           | inl l ↦ sym (stage_same k family vs (λ c. l)) ∙ settled k family vs (λ c. l)
           | inr e ↦ ap (λ j. stage before s (suc j) family vs) (sym e)
@@ -269,7 +270,7 @@ module _ (d : Design) (sizes : Sizes) (among : ℕ → Bool) where
         pub final_typed : IsTyped n final
         final_typed family f there vs k =
             let over : AreOver n f.over vs = are_over n f.over vs k in
-            subst (λ o. Has (values_of_family n o) (final family vs)) there (by_family (true_or_false (among family)) (base_of d family) refl over)
+            subst (λ o. Has (values_of_family n o) (final family vs)) there (by_family (cases_Bool (among family)) (base_of d family) refl over)
           where
             by_family : (among family ≡ true) ⊎ (among family ≡ false) → (o : Option Def) → base_of d family ≡ o → AreOver n f.over vs → Has (every_of family) (final family vs)
             by_family (inl a) None e over =

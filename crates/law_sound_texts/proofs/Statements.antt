@@ -3,6 +3,7 @@ use Rattle.std.proofs.lemmas.Bool.{and_from}
 use Rattle.law_designs.proofs.Opening.{opening}
 use Rattle.std.proofs.Common.{◌≡◌, ℕ, List, [], ◌∷◌, ◌++◌, map, flat_map, length, slice_get, Option, Some, is_some, Bool, true, refl, ap, ◌∙◌, subst}
 use Rattle.std.specs.List.{list_all}
+use Rattle.law_lists.proofs.Each.{each_append}
 use Rattle.smv_core.specs.Walk.{indexes_of, steps_of}
 use Rattle.smv_core.specs.Outcome.{fields_of}
 use Rattle.smv_core.specs.Assignments.{Around, loop, any}
@@ -29,7 +30,7 @@ use Rattle.law_designs.specs.FlatKinds.{kind_in, keeps_kinds, number_if, assigns
 use Rattle.law_designs.specs.Numbers.{Scope, bound_in, flat_over, family_number}
 use Rattle.law_designs.specs.Statements.{flat_expr, flat_stmt, flat_parts, flat_branch, flat_arms, first_label}
 use Rattle.law_designs.specs.Written.{AreWritten, StatementIsWritten, StatementsAreWritten, BranchIsWritten, ArmsAreWritten}
-use Rattle.law_designs.proofs.Faultless.{empty-both, empty-three, each-append, each-front, each-behind, IsFine, number-fine, taken-fine, alike_with-fine, reference-fine}
+use Rattle.law_designs.proofs.Faultless.{empty-both, empty-three, each-front, each-behind, IsFine, number-fine, taken-fine, alike_with-fine, reference-fine}
 use Rattle.law_designs.proofs.Statements.{mapped-length}
 use Rattle.law_designs.proofs.Modules.{IsApart}
 use Rattle.law_sound_texts.proofs.Relation.{HasKind, HaveKinds, takes-kept, number-kept, alike-some, alike_with-front, alike_with-behind}
@@ -76,7 +77,7 @@ module _ (flat_text : FlatText) (scope : kinds.Scope) (flat : Scope) (signals : 
   indexes-apart words [] h = tt
   indexes-apart words (Field word ∷ parts) h = indexes-apart words parts h
   indexes-apart words (At index ∷ parts) h =
-      each-append (IsApart scope.here.own scope.constants) (said.in_expr words index) (flat_map (said.in_expr words) (indexes_of parts)) (each-front _ (said.in_expr words index) (flat_map (said.in_part words) parts) h)
+      each_append (IsApart scope.here.own scope.constants) (said.in_expr words index) (flat_map (said.in_expr words) (indexes_of parts)) (each-front _ (said.in_expr words index) (flat_map (said.in_part words) parts) h)
       (indexes-apart words parts (each-behind _ (said.in_expr words index) (flat_map (said.in_part words) parts) h))
 
   mutual

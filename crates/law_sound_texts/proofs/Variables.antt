@@ -4,6 +4,7 @@ use Rattle.std.specs.Str.{bytes_eq}
 use Rattle.std.specs.List.{AllByRecursion}
 use Rattle.std.proofs.lemmas.Bool.{and_from, eq-eqb}
 use Rattle.std.proofs.lemmas.Slice.Eq.{bytes_eq-Decides}
+use Rattle.law_lists.proofs.Lists.{nothing_behind}
 use Rattle.smv_core.specs.Values.{Name, Path}
 use Rattle.smv_core.specs.Types.{Family, find_name}
 use Rattle.smv_core.specs.Outcome.{fields_of, family_at}
@@ -27,10 +28,6 @@ use Rattle.law_designs.specs.Agreement.{IsIndexType}
 use Rattle.law_designs.proofs.Lookups.{slice_get-behind}
 use Rattle.law_designs.proofs.Modules.{IsApart}
 use Rattle.law_sound_texts.proofs.Relation.{IsKind, flat_kind, HasKind, AreOfKinds}
-
-pub nothing-behind : {X : Type 0} (xs : List X) → xs ≡ xs ++ []
-nothing-behind [] = refl
-nothing-behind (x ∷ xs) = ap (λ l. x ∷ l) (nothing-behind xs)
 
 module _ (flat_text : FlatText) (scope : kinds.Scope) (flat : Scope) where
   abbrev pub AreApart : List Mention → Type 0
@@ -118,7 +115,7 @@ module _ (flat_text : FlatText) (scope : kinds.Scope) (flat : Scope) where
       by_test false e rest = rest e
 
   pub variable-kinded : (vars : Vars) (around : Around) → AreVars vars around → (name : Name) (at : ℕ) (kind : Kind) → find_name vars name ≡ Some kind → IsVariable (kinds_bound vars around) around name at kind
-  variable-kinded vars around same name at kind e = subst (λ fv. IsVariable fv around name at kind) (sym (nothing-behind (kinds_bound vars around))) (bound-kinded vars around same name at kind e [])
+  variable-kinded vars around same name at kind e = subst (λ fv. IsVariable fv around name at kind) (sym (nothing_behind (kinds_bound vars around))) (bound-kinded vars around same name at kind e [])
 
   -- what is something else is no variable
   pub not-bound : (vars : Vars) (around : Around) → AreVars vars around → (name : Name) → (IsFree name → ⊥) → (at : ℕ) → variable around name at ≡ None

@@ -1,5 +1,6 @@
 -- Values of the parameters that splits add, at which all guards of a leaf hold.
 use Rattle.std.proofs.Common.{◌+◌, ◌-◌, ◌<◌, ◌≤◌, List, ◌++◌, map, length, Bool, true, false, sym, subst, arith}
+use Rattle.std.proofs.lemmas.List.{map-append}
 use Rattle.smv_core.specs.Values.{Name, Value, number, scalar, ordinal, Sizes, values_of}
 use Rattle.smv_core.specs.FlatMeaning.{Numbered, values_in, set_type}
 use Rattle.smv_core.specs.declared.flat.Design.{Design}
@@ -11,7 +12,7 @@ use Rattle.law_obligations.specs.Guards.{AreGuards}
 use Rattle.law_obligations.specs.Soundness.{at_sizes, AreSizes, params_of, values_over, HasValue}
 use Rattle.law_obligations.proofs.Members.{Has-map, Has-from_map}
 use Rattle.law_obligations.proofs.Spots.{Has-numbers}
-use Rattle.law_obligations.proofs.OneOfEach.{are_of, one_of, are_joined, map_joined, get_Has}
+use Rattle.law_obligations.proofs.OneOfEach.{are_of, one_of, are_joined, get_Has}
 use Rattle.law_obligations.proofs.CoverScalarsets.{named_set}
 use Rattle.law_obligations.proofs.GuardsChosen.{guards_met}
 use Rattle.law_obligations.specs.Outlines.{names_of, unit_in}
@@ -31,7 +32,7 @@ index_value d sizes each (Set set) i =
 
 -- values of the first types, and then of the others
 joined : (n : Numbered) (own added : List Simple) (values more : List Value) → Has (values_over n own) values → Has (values_over n added) more → Has (values_over n (own ++ added)) (values ++ more)
-joined n own added values more h k = subst (λ xss. Has (one_of_each xss) (values ++ more)) (sym (map_joined (values_in n) own added))
+joined n own added values more h k = subst (λ xss. Has (one_of_each xss) (values ++ more)) (sym (map-append (values_in n) own added))
     (one_of (map (values_in n) own ++ map (values_in n) added) (values ++ more)
     (are_joined (map (values_in n) own) (map (values_in n) added) values more (are_of (map (values_in n) own) values h) (are_of (map (values_in n) added) more k)))
 

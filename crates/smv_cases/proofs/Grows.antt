@@ -1,6 +1,9 @@
 -- The cases of a leaf are those that grow from none.
 use Rattle.std.proofs.Common.{◌≡◌, ℕ, suc, ◌+◌, ◌<◌, ◌≤◌, List, [], ◌∷◌, ◌++◌, map, length, max, Bool, true, false, cond, filter, not, ◌&&◌, if◌then◌else◌, refl, sym, ap, subst, ◌∙◌, ◌⊎◌, inl, inr, Option, Some, None, nat_eq, nat_lt, nat_le, arith, append_assoc, append-nil}
 use Rattle.std.specs.List.{slice_get, list_any, list_all}
+use Rattle.std.proofs.lemmas.Bool.{cases_Bool}
+use Rattle.law_lists.proofs.Numbers.{nat_eq-is}
+use Rattle.law_lists.proofs.Booleans.{and_both, left_of, right_of, same_tests}
 use Rattle.smv_core.specs.Values.{numbers_from}
 use Rattle.smv_core.specs.declared.flat.Simple.{Simple}
 use Rattle.smv_core.specs.declared.flat.Simple.TheVariants.{Range, Enum, Set}
@@ -11,9 +14,8 @@ use Rattle.law_obligations.specs.Sets.{Has, first, later, one_of_each}
 use Rattle.law_obligations.specs.Places.{rests_beside}
 use Rattle.law_obligations.specs.Placings.{place_in}
 use Rattle.law_obligations.specs.Cases.{Treatment, whole, reduced, ordered, Parameter, used, grow, fill, are_below, is_set, those_of, named_among, are_named, abstract_type, is_of, is_orderly, listed_classes, unlisted_classes, type_in, is_allowed, candidates, numbered, cases}
-use Rattle.law_obligations.proofs.Tests.{true_or_false, and_both, left_of, right_of, same_tests}
 use Rattle.law_obligations.proofs.Members.{Has-right, Has-uncons, any-found, any-some, all-each, all-holds}
-use Rattle.law_obligations.proofs.Same.{nat_eq-is, nat_eq-itself}
+use Rattle.law_obligations.proofs.Same.{nat_eq-itself}
 use Rattle.law_obligations.proofs.Spots.{Has-numbers, numbers-Has}
 use Rattle.law_obligations.proofs.OneOfEach.{get_Has}
 use Rattle.law_obligations.proofs.CasesCover.{none_of_either}
@@ -278,7 +280,7 @@ set_is set (Set other) e = ap Set (nat_eq-is other set e)
 -- a test that some passes or none
 some_or_none : {X : Type 0} (f : X → Bool) (xs : List X) → ((x : X) × Has xs x × (f x ≡ true)) ⊎ ((x : X) → Has xs x → f x ≡ false)
 some_or_none f [] = inr (λ x h. elim h [ ])
-some_or_none {X} f (x ∷ xs) = elim (true_or_false (f x)) [
+some_or_none {X} f (x ∷ xs) = elim (cases_Bool (f x)) [
   | inl e ↦ inl (x, first, e)
   | inr e ↦ elim (some_or_none f xs) [
     | inl r ↦ inl (r.0, later r.1, r.2)

@@ -11,12 +11,13 @@ use Rattle.law_obligations.specs.Cases as spec
 use Rattle.law_obligations.specs.Cases.{candidates, cases}
 use Rattle.std.specs.Prelude.{Result, Ok, Err, IfOk, MatchOption, ◌⊎◌}
 use Rattle.std.specs.declared.alloc.AllocError.{AllocError}
+use Rattle.std.proofs.lemmas.List.{map-append}
+use Rattle.law_lists.proofs.Lists.{length_map}
 use Rattle.smv_core.specs.declared.flat.Case.{Case}
 use Rattle.smv_core.specs.declared.flat.Param.{Param}
 use Rattle.law_obligations.specs.LeafCases as leaf
 use Rattle.law_obligations.specs.LeafCases.{leaf_cases, kept_of, treatment_of, treatments_of}
 use Rattle.law_obligations.proofs.Members.{Has-cases, Has-uncons}
-use Rattle.law_obligations.proofs.OneOfEach.{map_long, map_joined}
 use Rattle.smv_cases.specs.declared.slots.Treatment.{Treatment}
 use Rattle.smv_cases.specs.declared.slots.Slot.{Slot}
 use Rattle.smv_cases.specs.Growing.{may_stand_in, may_stand_at, keeps_in, keeps_at, grown}
@@ -56,7 +57,7 @@ module _ (treatments : List spec.Treatment) (slots : List Slot) where
   options_same : (over : Simple) → candidates [] (length slots) over ≡ candidates treatments (length (parameters_of slots)) over
   options_same (Range low high) = refl
   options_same (Enum list) = refl
-  options_same (Set set) = ap (λ n. candidates [] n (Set set)) (sym (map_long parameter_of slots))
+  options_same (Set set) = ap (λ n. candidates [] n (Set set)) (sym (length_map parameter_of slots))
 
   grows_same : AreSlots treatments slots → (more : List Slot) → AreSlots treatments more → (before : List Class) → grown_of slots before more ≡ grown treatments (parameters_of slots) before (parameters_of more)
   grows_same are [] m before = ap (λ b. if b then before ∷ [] else []) (all_same before slots are)
@@ -106,7 +107,7 @@ drop-one (y ∷ xs) (suc k) x e = let n : suc (k + 1) ≡ suc k + 1 = omega arit
 pub parameters_more : {X : Type 0} (f : Slot → X) {Y : Type 0} (g : Y → X) (slots : List Slot) (s : Slot) (ys : List Y) (k : ℕ) (y : Y) → slice_get ys k ≡ Some y → f s ≡ g y →
     map f slots ++ map g (drop k ys) ≡ map g ys → map f (slots ++ s ∷ []) ++ map g (drop (k + 1) ys) ≡ map g ys
 parameters_more f g slots s ys k y e same i =
-    ap (λ xs. xs ++ map g (drop (k + 1) ys)) (map_joined f slots (s ∷ []))
+    ap (λ xs. xs ++ map g (drop (k + 1) ys)) (map-append f slots (s ∷ []))
     ∙ (append_assoc (map f slots) (f s ∷ []) (map g (drop (k + 1) ys))
     ∙ (ap (λ x. map f slots ++ x ∷ map g (drop (k + 1) ys)) same
     ∙ (ap (λ zs. map f slots ++ map g zs) (sym (drop-one ys k y e)) ∙ i)))
@@ -117,7 +118,7 @@ pub leaf_grows : (sets : List SetInfo) (params : List Param) (keeps : List Keep)
 leaf_grows sets params keeps slots same are = sym (slots_grow (treatments_of keeps 0 sets) slots are) ∙ ap (cases (treatments_of keeps 0 sets)) same
 
 pub slots_long : (params : List Param) (keeps : List Keep) (slots : List Slot) → parameters_of slots ≡ leaf.parameters_of keeps params → length slots ≡ length params
-slots_long params keeps slots same = sym (map_long parameter_of slots) ∙ (ap (λ (ps : List spec.Parameter). length ps) same ∙ map_long _ params)
+slots_long params keeps slots same = sym (length_map parameter_of slots) ∙ (ap (λ (ps : List spec.Parameter). length ps) same ∙ length_map _ params)
 
 pub made : (s : Slot) (over : Simple) (listed : Bool) → s.over ≡ over → s.listed ≡ listed → parameter_of s ≡ record { over = over; listed = listed }
 made s over listed e f = ap (λ o. record { over = o; listed = s.listed }) e ∙ ap (λ l. record { over = over; listed = l }) f

@@ -1,12 +1,14 @@
 -- Reads of cells.
 use Rattle.std.proofs.Common.{◌≡◌, ℕ, List, [], ◌∷◌, map, length, Some, Bool, true, false, ◌&&◌, ◌||◌, if◌then◌else◌, nat_eq, refl, sym, ap, ◌∙◌, arith, subst}
 use Rattle.std.specs.List.{list_any}
+use Rattle.law_lists.proofs.Anys.{any-map}
+use Rattle.law_lists.proofs.Numbers.{nat_eq-is}
 use Rattle.smv_core.specs.FlatMeaning.{Numbered}
 use Rattle.smv_core.specs.declared.flat.Family.{Family}
 use Rattle.law_obligations.specs.Sets.{Has, first, later}
 use Rattle.law_obligations.specs.Places.{Place, same_place, AbsOutcome, places_in}
 use Rattle.law_obligations.specs.May.{places_at}
-use Rattle.law_obligations.proofs.Same.{same_place-is, nat_eq-is}
+use Rattle.law_obligations.proofs.Same.{same_place-is}
 use Rattle.law_obligations.specs.Cones.{same_places}
 use Rattle.smv_spots.specs.declared.spots.Spot.{Spot}
 use Rattle.smv_spots.specs.Spots.{place_in}
@@ -14,7 +16,6 @@ use Rattle.smv_problem.specs.declared.problem.Problem.{Problem}
 use Rattle.smv_conditions.specs.declared.offers.Offer.{Offer}
 use Rattle.smv_conditions.specs.Offers.{any_offer, AreOffersMade}
 use Rattle.smv_conditions.specs.Adds.{Adds}
-use Rattle.law_obligations.proofs.Anys.{any-map}
 use Rattle.smv_cells.specs.declared.cells.Cell.{Cell}
 use Rattle.smv_cells.specs.Cells.{is_cell_of, AreCellsMade, cell_any}
 use Rattle.smv_cells.specs.Seen.{View, IsSeen}

@@ -1,6 +1,7 @@
 -- With what the search for a cone begins.
 use Rattle.std.proofs.Common.{◌≡◌, ℕ, zero, suc, List, [], ◌∷◌, ◌++◌, map, take, length, slice_get, Option, Some, None, Bool, true, false, ◌&&◌, if◌then◌else◌, refl, sym, ap, ◌∙◌}
 use Rattle.std.specs.List.{flat_map, list_all}
+use Rattle.std.proofs.lemmas.List.{map-append}
 use Rattle.smv_core.specs.Values.{number, constant, scalar, ordinal}
 use Rattle.smv_core.specs.declared.flat.Element.{Element}
 use Rattle.smv_core.specs.declared.flat.Def.{Def}
@@ -11,7 +12,6 @@ use Rattle.smv_core.specs.declared.flat.Unit.{Unit}
 use Rattle.smv_core.specs.declared.flat.Unit.TheVariants.{Map, Claim}
 use Rattle.law_obligations.specs.Places.{Place, named, rest, is_named}
 use Rattle.law_obligations.specs.Soundness.{over_of}
-use Rattle.law_obligations.proofs.OneOfEach.{map_joined}
 use Rattle.law_obligations.specs.Outlines.{assumed, unit_in, as_map, as_claim}
 use Rattle.law_obligations.specs.Cones.{element, elements_read, elements_of_def, elements_assumed, of_target}
 use Rattle.smv_problem.specs.Written.{written_class, written_element}
@@ -75,7 +75,7 @@ module _ (p : Part) where
       let own = take count (params_of p) in
       let classes : map written_class own ≡ take count p.classes.now = map-take written_class count (params_of p) ∙ ap (take count) h.are_written in
       ap (λ (o : Option Def). map written_element (of_target (world_of p.view) (outline_of p) (entry_of p) (params_of p) (as_map o))) e
-      ∙ (map_joined written_element (if list_all is_named own then element def.family own ∷ [] else []) (elements_of_def (world_of p.view) own def)
+      ∙ (map-append written_element (if list_all is_named own then element def.family own ∷ [] else []) (elements_of_def (world_of p.view) own def)
       ∙ (ap (λ (xs : List Element). xs ++ map written_element (elements_of_def (world_of p.view) own def)) (own-written def.family own ∙ ap (own_in def.family) classes)
       ∙ ap (λ (ps : List Place). own_in def.family (take count p.classes.now) ++ map written_element (elements_of_def (world_of p.view) ps def)) (sym (map-take (place_in p.view) count p.params.now))))
 
@@ -95,8 +95,8 @@ module _ (p : Part) where
       let target = of_target w (outline_of p) (entry_of p) (params_of p) (unit_in p.view.design.now (entry_of p).unit) in
       let guards = flat_map (λ (g : Guard). elements_read w g.expr (params_of p)) p.leaf.now.guards in
       let claims = flat_map (λ (used : Assumed). elements_assumed w (assumed (outline_of p) used)) p.choice.now.claims in
-      map_joined written_element (target ++ guards) claims
-      ∙ (ap (λ (xs : List Element). xs ++ map written_element claims) (map_joined written_element target guards)
+      map-append written_element (target ++ guards) claims
+      ∙ (ap (λ (xs : List Element). xs ++ map written_element claims) (map-append written_element target guards)
       ∙ (again (map written_element target) (map written_element guards) (map written_element claims)
       ∙ (ap (λ (xs : List Element). map written_element target ++ (xs ++ map written_element claims)) (map-flat_map written_element (λ (g : Guard). elements_read w g.expr (params_of p)) p.leaf.now.guards)
       ∙ ap (λ (xs : List Element). map written_element target ++ (read_guards p ++ xs))

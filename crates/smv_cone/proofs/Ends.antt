@@ -2,6 +2,7 @@
 use Rattle.std.proofs.Common.{◌≡◌, ℕ, zero, suc, ◌<◌, ◌≤◌, List, [], ◌∷◌, map, length, Some, None, Bool, true, false, nat_lt, nat_le, refl, sym, ap, subst, ◌∙◌, arith}
 use Rattle.std.specs.List.{slice_get}
 use Rattle.std.proofs.lemmas.Bool.Decides.{nat_tests}
+use Rattle.law_lists.proofs.Lists.{length_map}
 use Rattle.smv_core.specs.Values.{Name}
 use Rattle.smv_core.specs.declared.flat.Element.{Element}
 use Rattle.smv_core.specs.declared.flat.SetInfo.{SetInfo}
@@ -9,7 +10,6 @@ use Rattle.smv_core.specs.declared.flat.FlatExpr.{Number}
 use Rattle.smv_core.specs.declared.abstract_type.AbsType.{AbsType}
 use Rattle.law_obligations.specs.Places.{World}
 use Rattle.law_obligations.specs.Obligations.{holds}
-use Rattle.law_obligations.proofs.OneOfEach.{map_long}
 use Rattle.law_obligations.specs.Cones.{AbsElement, element, same_element}
 use Rattle.law_obligations.proofs.ConeFacts.{same_element-itself, same_element-family, same_element-indexes}
 use Rattle.law_obligations.specs.Readings.{bits_of_all}
@@ -45,7 +45,7 @@ gone-over p found turn f l = record {
   is_search = λ few. record {
     begins = (f.is_search few).begins;
     within = (f.is_search few).within;
-    closed = λ k x m e. let less = past f.all k x e in let long : length f.all ≡ length found = sym (map_long written_element f.all) ∙ ap length f.are_written in (f.is_search few).closed k x (omega (arith, less, long, l)) e;
+    closed = λ k x m e. let less = past f.all k x e in let long : length f.all ≡ length found = sym (length_map written_element f.all) ∙ ap length f.are_written in (f.is_search few).closed k x (omega (arith, less, long, l)) e;
   };
 }
 
@@ -86,7 +86,7 @@ module _ (p : Part) (h : IsPartView p) (least : HasLeast p) (found : List Elemen
   w = world_of p.view
 
   long : length f.all ≡ length found
-  long = sym (map_long written_element f.all) ∙ ap length f.are_written
+  long = sym (length_map written_element f.all) ∙ ap length f.are_written
 
   pub full-bits : (b : Bool) → b ≡ is_full found → b ≡ true → IsConeOf p None
   full-bits b e t =

@@ -1,11 +1,12 @@
 -- What an expression reads, where variables take all places of their types.
 use Rattle.std.proofs.Common.{◌≡◌, ℕ, zero, suc, ◌+◌, ◌<◌, ◌≤◌, List, [], ◌∷◌, ◌++◌, map, length, drop, refl, sym, ap, ◌∙◌, arith}
 use Rattle.std.specs.List.{flat_map, slice_index_or}
+use Rattle.std.proofs.lemmas.List.{map-append}
+use Rattle.law_lists.proofs.Lists.{append_again}
 use Rattle.smv_core.specs.declared.flat.Param.{Param}
 use Rattle.smv_core.specs.declared.flat.FlatExpr.{FlatExpr}
 use Rattle.law_obligations.specs.Sets.{one_of_each}
 use Rattle.law_obligations.specs.Places.{Place, named_in}
-use Rattle.law_obligations.proofs.OneOfEach.{map_joined, joined_again}
 use Rattle.law_obligations.specs.Cones.{AbsElement, elements_read}
 use Rattle.smv_problem.specs.Written.{written_element}
 use Rattle.smv_spots.specs.declared.spots.Spot.{Spot}
@@ -46,12 +47,12 @@ module _ (v : View) (front : List Spot) (body : FlatExpr) where
       (flat_map-flat_map f (λ q. map (λ b. q ∷ b) (one_of_each pss)) (named_in (world_of v) param.over)
       ∙ flat_map-same (λ q. flat_map f (map (λ b. q ∷ b) (one_of_each pss))) g (named_in (world_of v) param.over) (λ q.
       flat_map-map f (λ b. q ∷ b) (one_of_each pss)
-      ∙ flat_map-same (λ b. f (q ∷ b)) (λ b. elements_read (world_of v) body ((places v front ++ q ∷ []) ++ b)) (one_of_each pss) (λ b. ap (elements_read (world_of v) body) (sym (joined_again (places v front) b q)))))
+      ∙ flat_map-same (λ b. f (q ∷ b)) (λ b. elements_read (world_of v) body ((places v front ++ q ∷ []) ++ b)) (one_of_each pss) (λ b. ap (elements_read (world_of v) body) (sym (append_again (places v front) b q)))))
       ∙ (map-flat_map written_element g (named_in (world_of v) param.over)
       ∙ (ap (flat_map (λ q. map written_element (g q))) (sym e)
       ∙ (flat_map-map (λ q. map written_element (g q)) (place_in v) spots
       ∙ flat_map-same (λ s. map written_element (g (place_in v s))) (λ s. read_instances v (front ++ s ∷ []) more body) spots (λ s.
-      ap (λ (ps : List Place). map written_element (flat_map (λ b. elements_read (world_of v) body (ps ++ b)) (one_of_each pss))) (sym (map_joined (place_in v) front (s ∷ [])))))))
+      ap (λ (ps : List Place). map written_element (flat_map (λ b. elements_read (world_of v) body (ps ++ b)) (one_of_each pss))) (sym (map-append (place_in v) front (s ∷ [])))))))
 
 drop-more : (params : List Param) (k : ℕ) (param : Param) → k < length params → param ≡ slice_index_or params k param → drop k params ≡ param ∷ drop (suc k) params
 drop-more [] k param l e = absurd (omega arith)

@@ -25,12 +25,13 @@ use Rattle.law_obligations.specs.Covers.{place_at, places_at, by_name, AreApart}
 use Rattle.law_obligations.specs.LeafCases.{kept_of, treatment_of, treatments_of, stays, parameters_of}
 use Rattle.law_obligations.proofs.Members.{Has-cases, Has-from_map, Has-uncons}
 use Rattle.law_obligations.proofs.Spots.{numbers-Has}
-use Rattle.law_obligations.proofs.OneOfEach.{AreOf, are_of, map_long}
+use Rattle.law_obligations.proofs.OneOfEach.{AreOf, are_of}
 use Rattle.law_obligations.proofs.CoverNames.{by_name-at}
 use Rattle.law_obligations.specs.Reached.{IsLeast}
 use Rattle.smv_core.specs.declared.fault.Fault.{Fault}
 use Rattle.law_obligations.specs.Soundness.{FlatUnit, map_of, claim_of}
 use Rattle.std.proofs.lemmas.Bool.Decides.{nat_tests}
+use Rattle.law_lists.proofs.Lists.{length_map}
 use Rattle.law_obligations.specs.Outlines.{Entry, Outline, Script, entries_of, outline_of, names_of, unit_in}
 use Rattle.law_obligations.specs.Units.{units_of, script_of}
 use Rattle.law_obligations.specs.Cones.{first_elements, next_elements, cone}
@@ -261,7 +262,7 @@ module _ (p : Part) (h : IsPartOf p) where
       let x : ℕ × Treatment = r.0 in
       let q = treated p.choice.now.keeps 0 d.sets x r.1 in
       let m = used (named_among (listed_classes x.1 x.0 params p.classes.now)) in
-      let long : length params ≡ length p.leaf.now.params = map_long (λ (q : Param). record { over = q.over; listed = stays p.choice.now.keeps q.over q.var }) p.leaf.now.params in
+      let long : length params ≡ length p.leaf.now.params = length_map (λ (q : Param). record { over = q.over; listed = stays p.choice.now.keeps q.over q.var }) p.leaf.now.params in
       let some = h.is_case.few in
       let few : m ≤ 8 = used-below 8 _ (λ k n. let l = all-below (leaf_treatments (outlined d) entry) (length params) params p.classes.now candidates-are k (listed-are x.1 x.0 params p.classes.now (Named k) (among-is (listed_classes x.1 x.0 params p.classes.now) k n)) in omega (arith, l, long, some)) in
       let is : t ≡ abstract_type (treatment_of q.0.ordered q.0.size q.2) m = r.2 ∙ ap (λ (u : Treatment). abstract_type u m) q.3 in

@@ -1,10 +1,12 @@
 -- Elements by their keys: which are the same, and which stands before which.
 use Rattle.std.proofs.Common.{◌≡◌, ℕ, ◌<◌, List, [], ◌∷◌, length, Bool, true, false, ◌&&◌, ◌||◌, refl, ap, subst, ◌∙◌, ◌⊎◌, inl, inr, nat_eq, nat_lt, arith}
+use Rattle.std.proofs.lemmas.Bool.{or_cases, cases_Bool}
+use Rattle.law_lists.proofs.Numbers.{nat_eq-is}
+use Rattle.law_lists.proofs.Booleans.{left_of, right_of}
 use Rattle.smv_core.specs.declared.flat.Class.{Class}
 use Rattle.smv_core.specs.declared.flat.Class.TheVariants.{Number, Named, Rest}
 use Rattle.smv_core.specs.declared.flat.Element.{Element}
-use Rattle.law_obligations.proofs.Tests.{left_of, right_of, or_cases, true_or_false}
-use Rattle.law_obligations.proofs.Same.{nat_eq-is, nat_eq-itself}
+use Rattle.law_obligations.proofs.Same.{nat_eq-itself}
 use Rattle.smv_elements.specs.Elements.{sort_of, number_of, keys, key, numbers_before, same_numbers, same_element, is_before}
 
 -- ---- numbers
@@ -86,7 +88,7 @@ numbers-either : (ms bs : List ℕ) → same_numbers ms bs ≡ false → numbers
 numbers-either [] [] e f = absurd (cc)
 numbers-either [] (b ∷ bs) e f = refl
 numbers-either (a ∷ ms) [] e f = absurd (cc)
-numbers-either (a ∷ ms) (b ∷ bs) e f = elim (true_or_false (nat_lt a b)) [
+numbers-either (a ∷ ms) (b ∷ bs) e f = elim (cases_Bool (nat_lt a b)) [
   | inl l ↦ rw l refl
   | inr n ↦
       let m = no_left (nat_lt b a) (nat_eq b a && numbers_before bs ms) f in

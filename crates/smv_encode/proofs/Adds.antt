@@ -13,6 +13,7 @@ use Rattle.bdd_codes.specs.Codes.{bits_at}
 use Rattle.law_reports.specs.CaseLists.{is_claim, is_by_next, defines, those_of}
 use Rattle.bdd_store.specs.declared.Ref.{Ref}
 use Rattle.bdd_store.specs.Diagram.{Diagram, IsLive, AreLive, Keeps, table, ref_at}
+use Rattle.bdd_store.proofs.Keeping.{functions_kept}
 use Rattle.bdd_ops.specs.Functions.{Function}
 use Rattle.smv_problem.specs.declared.problem.Demand.{Demand}
 use Rattle.smv_problem.specs.Written.{written_element, written_demand}
@@ -25,15 +26,6 @@ use Rattle.smv_encode.specs.declared.elements.Turn.TheVariants as turn
 use Rattle.smv_encode.proofs.Choices.{defines_written, held_written}
 
 -- ---- lists of functions
-
-functions_kept : (d e : Diagram) (rs : List Ref) → Keeps d e → AreLive d rs → map (table e) rs ≡ map (table d) rs
-functions_kept d e [] k live = refl
-functions_kept d e (r ∷ rs) k live =
-    let same : table e r ≡ table d r = λ i a. k.tables r (live 0 (omega arith)) a i in
-    ap (λ (f : Function). f ∷ map (table e) rs) same ∙ ap (λ (fs : List Function). table d r ∷ fs) (functions_kept d e rs k (λ i lt. live (suc i) (omega arith)))
-
-pub kept_functions : (d e : Diagram) (rs : List Ref) → Keeps d e → AreLive d rs → map (table e) rs ≡ map (table d) rs
-kept_functions d e rs k live = functions_kept d e rs k live
 
 map-append : {X Y : Type 0} (f : X → Y) (xs ys : List X) → map f (xs ++ ys) ≡ map f xs ++ map f ys
 map-append f [] ys = refl
@@ -63,9 +55,6 @@ live_pushed d e rs more r k live pushed is i lt =
           let at : i ≡ length rs = omega (arith, long, late) in
           subst (λ (j : ℕ). IsLive e (ref_at more j)) (sym at) (subst (IsLive e) (sym (get_or-append_seam rs r [] none) ∙ sym (ap (λ (xs : List Ref). get_or xs (length rs) none) pushed)) is)
     ]
-
-pub live_kept : (d e : Diagram) (rs : List Ref) → Keeps d e → AreLive d rs → AreLive e rs
-live_kept d e rs k live i lt = k.live (ref_at rs i) (live i lt)
 
 -- ---- one demand after the other
 

@@ -11,6 +11,7 @@ use Rattle.law_reports.specs.CaseLists.{those_of, moves, moving_first, claims, e
 use Rattle.law_reports.proofs.Below.{are_lists}
 use Rattle.bdd_store.specs.declared.Ref.{Ref}
 use Rattle.bdd_store.specs.Diagram.{Diagram, IsLive, AreLive, Keeps, table}
+use Rattle.bdd_store.proofs.Keeping.{functions_kept}
 use Rattle.bdd_ops.specs.Functions.{Function}
 use Rattle.smv_rings.specs.Lists.{Lists, AllCurrent, IsCurrent, IsLists, IsRel, lists_of, refs_of}
 use Rattle.smv_rings.specs.declared.Rel.{Rel}
@@ -23,7 +24,7 @@ use Rattle.smv_encode.specs.Encoded.{IsKept, broken_at}
 use Rattle.smv_encode.specs.Parts.{AreDemands, AreElements, AddsFunctions, is_turn}
 use Rattle.smv_encode.specs.declared.elements.Turn.TheVariants as turn
 use Rattle.smv_core.specs.declared.flat.Element.{Element}
-use Rattle.smv_encode.proofs.Adds.{adds_then, kept_functions}
+use Rattle.smv_encode.proofs.Adds.{adds_then}
 
 -- ---- the elements and the demands of a case
 
@@ -145,7 +146,7 @@ rel_is d rel p (c, is, well) lists vars n0 l0 t0 n1 l1 t1 bits =
 -- ---- what holds at a later state
 
 pub later_list : (d e : Diagram) (rs : List Ref) (fs : List Function) → Keeps d e → AreLive d rs → map (table d) rs ≡ fs → map (table e) rs ≡ fs
-later_list d e rs fs k live is = kept_functions d e rs k live ∙ is
+later_list d e rs fs k live is = functions_kept d e rs k live ∙ is
 
 pub later_one : (d e : Diagram) (r : Ref) (f : Function) → Keeps d e → IsLive d r → table d r ≡ f → table e r ≡ f
 later_one d e r f k live is = (λ i a. k.tables r live a i) ∙ is

@@ -3,6 +3,8 @@ use Rattle.std.proofs.Common.{◌≡◌, ℕ, ◌+◌, ◌-◌, ◌<◌, ◌≤�
 use Rattle.std.specs.Prelude.{◌↔◌, IsTrue, unwrap_or}
 use Rattle.std.specs.List.{slice_get, list_any}
 use Rattle.std.proofs.lemmas.Bool.Decides.{nat_tests}
+use Rattle.std.proofs.lemmas.Bool.{cases_Bool}
+use Rattle.law_lists.proofs.Booleans.{and_both, left_of, right_of, same_tests}
 use Rattle.smv_core.specs.Values.{Name, number, numbers_from}
 use Rattle.smv_core.specs.FlatMeaning.{Numbered}
 use Rattle.smv_core.specs.declared.flat.Simple.{Simple}
@@ -17,7 +19,6 @@ use Rattle.law_obligations.specs.Pictures.{IsAbsState}
 use Rattle.law_obligations.specs.Soundness.{over_of}
 use Rattle.law_obligations.specs.Covers.{IsIndexType}
 use Rattle.law_obligations.proofs.Members.{Has-left, Has-right, Has-cases, Has-map, Has-from_map, any-found}
-use Rattle.law_obligations.proofs.Tests.{true_or_false, left_of, right_of, and_both, same_tests}
 use Rattle.law_obligations.proofs.Spots.{Has-numbers, numbers-Has}
 use Rattle.law_obligations.proofs.OneOfEach.{get_Has}
 use Rattle.law_obligations.specs.Cones.{AbsElement, element, same_places, same_element}
@@ -265,7 +266,7 @@ module _ (c : PosedCase) (well : IsWellFormed c) (p : Problem) (is : p ≡ writt
           ∙ (place_of_value x (all x first) v (left_of (is_value p (type_of (slice_get p.families x.family)) v) (are_values p (map written_element xs) values) e)).is_written
 
       other : (y : AbsElement) → Has xs y → written_place n (kind_in (slice_get n.families y.family)) (if same_element y x then placed x v else place_for xs values y) ≡ written_place n (kind_in (slice_get n.families y.family)) (place_for xs values y)
-      other y h = elim (true_or_false (same_element y x)) [
+      other y h = elim (cases_Bool (same_element y x)) [
         | inl s ↦ absurd (apart.0 y h (sym (same_is y x s)))
         | inr s ↦ ap (λ b. written_place n (kind_in (slice_get n.families y.family)) (if b then placed x v else place_for xs values y)) s
       ]

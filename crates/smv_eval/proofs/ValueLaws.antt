@@ -2,6 +2,8 @@
 use Rattle.std.proofs.Common.{◌≡◌, ◌≢◌, ℕ, zero, suc, ◌+◌, ◌<◌, ◌≤◌, List, [], ◌∷◌, ◌++◌, map, length, drop, get_or, min, Bool, true, false, not, ◌&&◌, ◌||◌, if◌then◌else◌, cond, refl, sym, ap, subst, ◌∙◌, ◌⊎◌, inl, inr, Option, Some, None, option_map, bytes_eq, nat_eq, nat_lt, arith}
 use Rattle.std.specs.Prelude.{unwrap_or, position}
 use Rattle.std.specs.List.{slice_get, list_any, position_or_len}
+use Rattle.law_lists.proofs.Numbers.{nat_eq-is}
+use Rattle.law_lists.proofs.Booleans.{and_both, left_of, right_of}
 use Rattle.smv_core.specs.Values.{scalar, ordinal}
 use Rattle.smv_core.specs.FlatMeaning.{Numbered}
 use Rattle.smv_core.specs.declared.flat.SetInfo.{SetInfo}
@@ -16,8 +18,7 @@ use Rattle.law_obligations.specs.May.{AbsState, may}
 use Rattle.law_obligations.specs.Pictures.{IsAbsState}
 use Rattle.law_obligations.specs.Covers.{IsIndexType}
 use Rattle.law_obligations.proofs.Members.{Has-left, Has-right, Has-cases, Has-map, Has-from_map, Has-uncons, any-found, any-some}
-use Rattle.law_obligations.proofs.Tests.{left_of, right_of, and_both}
-use Rattle.law_obligations.proofs.Same.{nat_eq-is, nat_eq-itself, same_outcome, same_outcome-itself, same_outcome-is}
+use Rattle.law_obligations.proofs.Same.{nat_eq-itself, same_outcome, same_outcome-itself, same_outcome-is}
 use Rattle.law_obligations.proofs.Computing.{computing}
 use Rattle.law_obligations.proofs.OneOfEach.{get_Has}
 use Rattle.law_obligations.specs.Outlines.{place_of}

@@ -4,12 +4,12 @@ use Rattle.std.specs.Prelude.{Option, Some, None, is_some}
 use Rattle.std.specs.List.{list_any}
 use Rattle.std.specs.HashMap.{get}
 use Rattle.std.proofs.lemmas.List.{append-nil, map-append, length-map}
+use Rattle.law_lists.proofs.Booleans.{same_tests}
 use Rattle.smv_core.specs.Values.{Path}
 use Rattle.smv_core.specs.Types.{names_of}
 use Rattle.smv_core.specs.Outcome.{same_path}
 use Rattle.smv_core.specs.declared.tree.Word.{Word}
 use Rattle.law_designs.specs.Flattening.{different}
-use Rattle.law_designs.proofs.Lookups.{same_test}
 use Rattle.law_designs.proofs.Different.{different-keeps}
 use Rattle.law_designs.proofs.TypeNumbers.{paths-decide}
 use Rattle.smv_flatten_families.specs.Paths.{first_place, found_or}
@@ -69,7 +69,7 @@ different-less p (x ∷ xs) e = by (p x) e (different-less p xs)
 pub any-different : (xs : List Path) (q : Path) → list_any (λ x. same_path x q) xs ≡ is_some (first_place (different same_path xs) q)
 any-different xs q =
     turned xs
-    ∙ same_test (list_any (same_path q) xs) (list_any (same_path q) (different same_path xs)) (different-keeps same_path paths-decide q xs) (different-less (same_path q) xs)
+    ∙ same_tests (list_any (same_path q) xs) (list_any (same_path q) (different same_path xs)) (different-keeps same_path paths-decide q xs) (different-less (same_path q) xs)
     ∙ sym (turned (different same_path xs)) ∙ sym (place-known (different same_path xs) q)
   where
     turned : (l : List Path) → list_any (λ x. same_path x q) l ≡ list_any (same_path q) l

@@ -1,6 +1,7 @@
 -- What an expression may be and what it reads depend on no place in the text.
 use Rattle.std.proofs.Common.{◌≡◌, ◌+◌, ◌-◌, List, [], ◌∷◌, ◌++◌, map, Some, None, refl, ap, sym, ◌∙◌}
 use Rattle.std.specs.List.{slice_get, flat_map}
+use Rattle.law_lists.proofs.Lists.{map_agree}
 use Rattle.smv_core.specs.Values.{Truth, number, add, modulo, numbers_from, not_of, iff_of, conjunction, disjunction, implication}
 use Rattle.smv_core.specs.Outcome.{branch}
 use Rattle.smv_core.specs.Assignments.{Index, add_fixed, modulo_fixed}
@@ -12,7 +13,6 @@ use Rattle.law_obligations.specs.Places.{Place, World, named, named_in, rests_in
 use Rattle.law_obligations.specs.May.{AbsState, Kept, seen, shown, quantified, may_read, may, may_each, may_sum, may_listed, may_members}
 use Rattle.law_obligations.specs.Reads.{indexes_read, reads_each, reads_signed, reads_members, reads_held}
 use Rattle.law_obligations.specs.Cones.{AbsElement, elements_at, elements_read}
-use Rattle.law_obligations.proofs.ScopesKeep.{map_alike}
 use Rattle.smv_free_variables.specs.Placeless.{placeless, placeless_each, placeless_signed, placeless_members, placeless_condition}
 
 flat_map_alike : {X Y : Type 0} (f g : X → List Y) → ((x : X) → f x ≡ g x) → (xs : List X) → flat_map f xs ≡ flat_map g xs
@@ -29,7 +29,7 @@ joined us vs xs ys d e = ap (λ l. l ++ xs) d ∙ ap (λ l. vs ++ l) e
 
 module _ (w : World) (kept : Kept) (a : AbsState) where
   quantified_alike : (join : List Truth → Truth) (f g : Place → List AbsOutcome) (ps rs : List Place) → ((p : Place) → f p ≡ g p) → quantified join (map f ps) (flat_map f rs) ≡ quantified join (map g ps) (flat_map g rs)
-  quantified_alike join f g ps rs h = ap (λ xss. quantified join xss (flat_map f rs)) (map_alike f g h ps) ∙ ap (quantified join (map g ps)) (flat_map_alike f g h rs)
+  quantified_alike join f g ps rs h = ap (λ xss. quantified join xss (flat_map f rs)) (map_agree f g h ps) ∙ ap (quantified join (map g ps)) (flat_map_alike f g h rs)
 
   mutual
     unfolding placeless

@@ -4,8 +4,8 @@ use Rattle.std.specs.Prelude.{unwrap_or}
 use Rattle.std.specs.Result.{IfOk}
 use Rattle.std.specs.Str.{bytes_eq}
 use Rattle.std.proofs.lemmas.Slice.Eq.{bytes_eq-Decides}
+use Rattle.law_lists.proofs.Booleans.{same_tests}
 use Rattle.smv_core.specs.Values.{Name}
-use Rattle.law_obligations.proofs.Tests.{same_tests}
 use Rattle.law_obligations.specs.Outlines.{place_of}
 use Rattle.name_index.specs.Position.{position}
 use Rattle.smv_core.specs.declared.flat.SetInfo.{SetInfo}

@@ -2,6 +2,9 @@
 use Rattle.std.proofs.Common.{◌≡◌, ℕ, zero, suc, List, [], ◌∷◌, ◌++◌, map, take, length, slice_get, Option, Some, None, Bool, true, false, ◌&&◌, if◌then◌else◌, refl, sym, ap, subst, ◌∙◌, arith}
 use Rattle.std.specs.Prelude.{option_to_list}
 use Rattle.std.specs.List.{flat_map, zip}
+use Rattle.std.proofs.lemmas.List.{map-append}
+use Rattle.law_lists.proofs.Lists.{length_map}
+use Rattle.law_lists.proofs.Booleans.{same_tests}
 use Rattle.smv_core.specs.FlatMeaning.{Numbered}
 use Rattle.smv_core.specs.declared.flat.Simple.{Simple}
 use Rattle.smv_core.specs.declared.flat.Class.{Class}
@@ -24,8 +27,6 @@ use Rattle.law_obligations.specs.Obligations.{Demanded, defined, holds}
 use Rattle.law_obligations.specs.Soundness as sound
 use Rattle.law_obligations.specs.Soundness.{FlatUnit, map_of, claim_of, over_of, said_at}
 use Rattle.law_obligations.proofs.Members.{Has-left, Has-map, Has-from_map}
-use Rattle.law_obligations.proofs.OneOfEach.{map_joined, map_long}
-use Rattle.law_obligations.proofs.Tests.{same_tests}
 use Rattle.law_obligations.specs.Outlines.{Entry, entries_of, names_of, unit_in, map_in, assumed, chosen}
 use Rattle.law_obligations.specs.Units.{units_of}
 use Rattle.law_obligations.specs.Cones.{AbsElement, element, same_element}
@@ -119,7 +120,7 @@ module _ (p : Part) (h : IsPartOf p) where
   target-at : (u : FlatUnit) → said p ≡ u → written_demand n (said_at u own_of) ≡ target_in p u
   target-at (map_of def) e = ap (defined_in def) (own-classes ∙ ap (λ (u : FlatUnit). take (length (own_types u)) p.classes.now) e)
   target-at (claim_of claim) e =
-      ap (Holds claim.body) (own-spots ∙ (ap (λ (u : FlatUnit). take (length (own_types u)) p.params.now) e ∙ ap (λ (k : ℕ). take k p.params.now) (map_long (λ (q : Param). q.over) claim.params)))
+      ap (Holds claim.body) (own-spots ∙ (ap (λ (u : FlatUnit). take (length (own_types u)) p.params.now) e ∙ ap (λ (k : ℕ). take k p.params.now) (length_map (λ (q : Param). q.over) claim.params)))
 
   pub target-is : written_demand n (said_at (said p) own_of) ≡ target_in p (said p)
   target-is = target-at (said p) refl
@@ -177,7 +178,7 @@ module _ (p : Part) (h : IsPartOf p) where
     unfolding element_in_turn
     element-is x m =
         let itself = itself_demands (outline_of p) (entry_of p) times w own_of time x in
-        map_joined (written_demand n) (element_demands (outline_of p) (entry_of p) times w own_of time x) itself
+        map-append (written_demand n) (element_demands (outline_of p) (entry_of p) times w own_of time x) itself
         ∙ (ap (λ (l : List Demand). l ++ map (written_demand n) itself) (chosen-is x) ∙ ap (λ (l : List Demand). chosen_in p times time (written_element x) ++ l) (itself-is x m))
 
     elements-are : map (written_demand n) (flat_map of_element (cone_of p)) ≡ flat_map (element_in_turn p times time) (map written_element (cone_of p))
@@ -240,5 +241,5 @@ module _ (p : Part) (h : IsPartOf p) where
     pub demands-are : map (written_demand n) (demands (outline_of p) (entry_of p) times w own_of (cone_of p) time) ≡ demands_in p times time (map written_element (cone_of p))
     demands-are =
         let claims = flat_map of_claim (zip p.choice.now.claims times.claims) in
-        map_joined (written_demand n) (flat_map of_element (cone_of p)) claims
+        map-append (written_demand n) (flat_map of_element (cone_of p)) claims
         ∙ (ap (λ (l : List Demand). l ++ map (written_demand n) claims) elements-are ∙ ap (λ (l : List Demand). flat_map (element_in_turn p times time) (map written_element (cone_of p)) ++ l) claims-are)

@@ -1,10 +1,10 @@
 -- The instances of a claim, parameter by parameter.
 use Rattle.std.proofs.Common.{◌≡◌, ℕ, suc, ◌+◌, ◌<◌, ◌≤◌, List, [], ◌∷◌, ◌++◌, map, length, drop, refl, sym, ap, ◌∙◌, arith}
 use Rattle.std.specs.List.{flat_map, slice_index_or}
+use Rattle.law_lists.proofs.Lists.{append_again}
 use Rattle.smv_core.specs.declared.flat.Param.{Param}
 use Rattle.smv_core.specs.declared.flat.FlatExpr.{FlatExpr}
 use Rattle.law_obligations.specs.Sets.{one_of_each}
-use Rattle.law_obligations.proofs.OneOfEach.{joined_again}
 use Rattle.smv_problem.specs.declared.problem.Demand.{Demand}
 use Rattle.smv_problem.specs.declared.problem.Demand.TheVariants.{Holds}
 use Rattle.smv_spots.specs.declared.spots.Spot.{Spot}
@@ -28,7 +28,7 @@ module _ (p : Part) (front : List Spot) (body : FlatExpr) where
     where
       same : (s : Spot) (bs : List (List Spot)) → map (λ (b : List Spot). Holds body (front ++ s ∷ b)) bs ≡ map (λ (b : List Spot). Holds body ((front ++ s ∷ []) ++ b)) bs
       same s [] = refl
-      same s (b ∷ bs) = ap (λ (ss : List Spot). Holds body ss ∷ map (λ (b : List Spot). Holds body (front ++ s ∷ b)) bs) (sym (joined_again front b s)) ∙ ap (λ (ds : List Demand). Holds body ((front ++ s ∷ []) ++ b) ∷ ds) (same s bs)
+      same s (b ∷ bs) = ap (λ (ss : List Spot). Holds body ss ∷ map (λ (b : List Spot). Holds body (front ++ s ∷ b)) bs) (sym (append_again front b s)) ∙ ap (λ (ds : List Demand). Holds body ((front ++ s ∷ []) ++ b) ∷ ds) (same s bs)
 
 -- from a place on
 pub instances-at : (p : Part) (front : List Spot) (body : FlatExpr) (params : List Param) (k : ℕ) (param : Param) (spots : List Spot) → k < length params → param ≡ slice_index_or params k param → spots ≡ spots_of p param.over →

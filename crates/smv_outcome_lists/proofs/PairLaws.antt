@@ -1,6 +1,7 @@
 -- Lists of outcomes as they are gone through.
 use Rattle.std.proofs.Common.{◌≡◌, ℕ, List, [], ◌∷◌, length, Option, None, Bool, true, false, ◌&&◌, ◌||◌, refl, sym, ap, ◌∙◌, arith, subst}
 use Rattle.std.specs.List.{list_any}
+use Rattle.law_lists.proofs.Anys.{any-agree}
 use Rattle.smv_core.specs.FlatMeaning.{Numbered}
 use Rattle.smv_core.specs.Outcome.{is_true}
 use Rattle.smv_core.specs.declared.tree.Op.{Op}
@@ -20,7 +21,6 @@ use Rattle.smv_conditions.specs.Adds.{Adds}
 use Rattle.smv_conditions.proofs.AddLaws.{offers_same, offers_kept, rest_kept}
 use Rattle.smv_conditions.proofs.ChainLaws.{mix_kept}
 use Rattle.law_obligations.proofs.MixLaws.{same_mix}
-use Rattle.law_obligations.proofs.Anys.{any-ext}
 use Rattle.law_obligations.specs.Combined.{branch_any}
 use Rattle.smv_outcome_lists.specs.Pairs.{with_answers, guard_mix, compare_each, compare_mix}
 
@@ -138,7 +138,7 @@ module _ {S C : Type 0} (n : Numbered) (IsMade : S → C → Type 0) (holds : S 
       rest
       ∙ (ap (λ b. b || any_offer n holds mid a r us) one
       ∙ (ap (λ b. (any_offer n holds s a p out || (holds s u.when a && b)) || any_offer n holds mid a r us) is
-      ∙ (ap (λ b. (any_offer n holds s a p out || (holds s u.when a && q (outcome_in n u.outcome))) || b) (offers_same n IsMade holds room a r s mid us k (rest_made (IsMade s) u us all e m) ∙ any-ext (λ (o : Offer C). holds s o.when a && r (outcome_in n o.outcome)) (λ (o : Offer C). holds s o.when a && q (outcome_in n o.outcome)) us (λ o. ap (λ b. holds s o.when a && b) (same (outcome_in n o.outcome))))
+      ∙ (ap (λ b. (any_offer n holds s a p out || (holds s u.when a && q (outcome_in n u.outcome))) || b) (offers_same n IsMade holds room a r s mid us k (rest_made (IsMade s) u us all e m) ∙ any-agree (λ (o : Offer C). holds s o.when a && r (outcome_in n o.outcome)) (λ (o : Offer C). holds s o.when a && q (outcome_in n o.outcome)) us (λ o. ap (λ b. holds s o.when a && b) (same (outcome_in n o.outcome))))
       ∙ (or_again (any_offer n holds s a p out) (holds s u.when a && q (outcome_in n u.outcome)) (any_offer n holds s a q us)
       ∙ ap (λ l. any_offer n holds s a p out || any_offer n holds s a q l) (sym e)))))
 

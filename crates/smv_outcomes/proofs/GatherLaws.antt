@@ -2,6 +2,7 @@
 use Rattle.std.proofs.Common.{◌≡◌, ℕ, List, [], ◌∷◌, ◌++◌, map, Bool, ◌&&◌, refl, sym, ap, ◌∙◌, subst}
 use Rattle.std.specs.List.{list_any, flat_map}
 use Rattle.std.proofs.lemmas.List.{map-append, append_assoc}
+use Rattle.law_lists.proofs.Anys.{any-agree}
 use Rattle.smv_core.specs.FlatMeaning.{Numbered}
 use Rattle.smv_core.specs.Values.{add}
 use Rattle.smv_core.specs.declared.flat.FlatExpr.{FlatExpr}
@@ -9,7 +10,6 @@ use Rattle.smv_core.specs.declared.flat.FlatMember.{FlatMember, One}
 use Rattle.smv_core.specs.declared.flat.FlatSigned.{FlatSigned, out-FlatSigned}
 use Rattle.law_obligations.specs.Places.{AbsOutcome, valued, as_place}
 use Rattle.law_obligations.specs.Combined.{sum_test}
-use Rattle.law_obligations.proofs.Anys.{any-ext}
 use Rattle.smv_spots.specs.declared.spots.Spot.{Spot}
 use Rattle.smv_spots.specs.Spots.{outcome_in}
 use Rattle.smv_conditions.specs.declared.offers.Offer.{Offer}
@@ -140,7 +140,7 @@ member_pushed holds t v b m e shown old new us pushed is d f g here a p =
 module _ {S C : Type 0} (IsMade : S → C → Type 0) (holds : S → C → (ℕ → Bool) → Bool) (room : S → ℕ) (start s mid t : S) (v : View) (k : KeepsConditions IsMade holds room s mid) where
   any_same : (a : ℕ → Bool) (f g : AbsOutcome → Bool) (us : List (Offer C)) → AreOffersMade (IsMade s) us → ((u : AbsOutcome) → f u ≡ g u) → any_offer v.world.classes holds mid a f us ≡ any_offer v.world.classes holds s a g us
   unfolding any_offer
-  any_same a f g us m e = offers_same v.world.classes IsMade holds room a f s mid us k m ∙ any-ext (λ (o : Offer C). holds s o.when a && f (outcome_in v.world.classes o.outcome)) (λ (o : Offer C). holds s o.when a && g (outcome_in v.world.classes o.outcome)) us (λ o. ap (λ b. holds s o.when a && b) (e (outcome_in v.world.classes o.outcome)))
+  any_same a f g us m e = offers_same v.world.classes IsMade holds room a f s mid us k m ∙ any-agree (λ (o : Offer C). holds s o.when a && f (outcome_in v.world.classes o.outcome)) (λ (o : Offer C). holds s o.when a && g (outcome_in v.world.classes o.outcome)) us (λ o. ap (λ b. holds s o.when a && b) (e (outcome_in v.world.classes o.outcome)))
 
   pub sum_goes : (b : List Spot) (first sum sum' vs vs' next : List (Offer C)) (x : FlatSigned) (minus : Bool) (e : FlatExpr) (all rest more : List FlatSigned) → rest ≡ x ∷ more → minus ≡ (out-FlatSigned x).minus → e ≡ (out-FlatSigned x).of → sum' ≡ sum → vs' ≡ vs →
       AreOffersMade (IsMade s) sum → IsSumOf holds start s v b first all rest sum → AreOffersOf holds mid v e b vs →

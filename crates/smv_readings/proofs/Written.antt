@@ -5,6 +5,7 @@ use Rattle.std.specs.List.{slice_get}
 use Rattle.std.specs.Str.{bytes_eq}
 use Rattle.std.proofs.lemmas.Slice.Eq.{bytes_eq-Decides}
 use Rattle.std.proofs.lemmas.List.Elements.{All-nil, All-cons}
+use Rattle.std.proofs.lemmas.Bool.{cases_Bool}
 use Rattle.smv_core.specs.Values.{Name, Value, number, constant, scalar, ordinal, scalarset, ordset, numbers_from}
 use Rattle.smv_core.specs.FlatMeaning.{set_type}
 use Rattle.smv_core.specs.declared.flat.Simple.{Simple}
@@ -15,7 +16,6 @@ use Rattle.smv_core.specs.declared.abstract_type.AbsType.{AbsType}
 use Rattle.law_obligations.specs.Sets.{Has, first, later}
 use Rattle.law_obligations.specs.Places.{Place, named, rest, World, rests_beside, places_of, places_in}
 use Rattle.law_obligations.specs.May.{AbsState}
-use Rattle.law_obligations.proofs.Tests.{true_or_false}
 use Rattle.law_obligations.specs.Outlines.{place_of}
 use Rattle.law_obligations.specs.Cones.{AbsElement, element, same_element}
 use Rattle.law_obligations.proofs.ConeFacts.{same_element-itself, same_element-family, same_element-indexes}
@@ -67,7 +67,7 @@ Has_at (x ∷ xs) (suc k) d lt = later (Has_at xs k d (omega arith))
 constant_at : (names : List Name) → AreDistinct names → (k : ℕ) → k < length names → place_of (bytes_eq (get_or names k [])) names ≡ Some k
 constant_at [] apart k lt = absurd (omega arith)
 constant_at (x ∷ names) apart zero lt = ap (λ (b : Bool). cond b (Some 0) (option_map (λ k. suc k) (place_of (bytes_eq x) names))) ((bytes_eq-Decides x x).1 refl)
-constant_at (x ∷ names) apart (suc k) lt = elim (true_or_false (bytes_eq (get_or names k []) x)) [
+constant_at (x ∷ names) apart (suc k) lt = elim (cases_Bool (bytes_eq (get_or names k []) x)) [
   | inl e ↦ absurd (apart.0 (get_or names k []) (Has_at names k [] (omega arith)) (sym ((bytes_eq-Decides (get_or names k []) x).0 e)))
   | inr e ↦ ap (λ (b : Bool). cond b (Some 0) (option_map (λ k. suc k) (place_of (bytes_eq (get_or names k [])) names))) e ∙ ap (option_map (λ k. suc k)) (constant_at names apart.1 k (omega arith))
 ]
@@ -156,7 +156,7 @@ pub slot_found : (w : World) (b : ℕ) (xs : List AbsElement) → AreApartElemen
     → find (λ (t : Slot). same_element (element slot.element.family slot.element.indexes) t.element) (slots_from w b xs) ≡ Some slot
 slot_found w b [] apart slot h = elim h [ ]
 slot_found w b (x ∷ xs) apart _ first = ap (λ (y : Bool). cond y (Some (record { element = x; bit = b })) (find (λ (t : Slot). same_element (element x.family x.indexes) t.element) (slots_from w (b + bits_of w x) xs))) (same_element-itself x)
-slot_found w b (x ∷ xs) apart slot (later h) = elim (true_or_false (same_element (element slot.element.family slot.element.indexes) x)) [
+slot_found w b (x ∷ xs) apart slot (later h) = elim (cases_Bool (same_element (element slot.element.family slot.element.indexes) x)) [
   | inl e ↦ absurd (apart.0 slot.element (slot_element w (b + bits_of w x) xs slot h) (sym (same_is slot.element x e)))
   | inr e ↦
       ap (λ (y : Bool). cond y (Some (record { element = x; bit = b })) (find (λ (t : Slot). same_element (element slot.element.family slot.element.indexes) t.element) (slots_from w (b + bits_of w x) xs))) e

@@ -1,5 +1,6 @@
 -- What an expression reads depends on the places of those variables alone that occur in it.
 use Rattle.std.proofs.Common.{◌≡◌, ℕ, zero, suc, ◌<◌, List, [], ◌∷◌, ◌++◌, map, take, length, filter, slice_get, Option, Some, None, Bool, true, false, ◌&&◌, ◌||◌, nat_eq, nat_lt, refl, ap, ◌∙◌, arith}
+use Rattle.law_lists.proofs.Booleans.{either_left, either_right, and_both}
 use Rattle.smv_core.specs.Assignments.{Index, fixed, bare, computed, add_fixed, modulo_fixed}
 use Rattle.smv_core.specs.FlatMeaning.{flat_index, flat_index_sum}
 use Rattle.smv_core.specs.declared.flat.Family.{Family}
@@ -11,7 +12,6 @@ use Rattle.law_obligations.specs.FreeReads.{reads as occurs_in, one_reads, signe
 use Rattle.law_obligations.specs.Reads.{is_bound_to, indexes_read, reads_each, reads_signed, reads_members, reads_held}
 use Rattle.law_obligations.specs.Cones.{AbsElement, element, index_places, each_index, elements_in, elements_at, elements_read}
 use Rattle.law_obligations.proofs.FreeVariables.{agree_on, agree_at, agree_under}
-use Rattle.law_obligations.proofs.Tests.{or_left, or_right, and_both}
 use Rattle.smv_problem.specs.Written.{written_element}
 use Rattle.smv_spots.specs.declared.spots.Spot.{Spot}
 use Rattle.smv_free_variables.specs.Reading.{occurs}
@@ -63,7 +63,7 @@ bare-occurs (Implies' shape parts) var f = absurd (cc)
 bare-occurs (Iff' l left r right) var f = absurd (cc)
 bare-occurs (Compare' op l left r right) var f = absurd (cc)
 bare-occurs (Within' l left r set) var f = absurd (cc)
-bare-occurs (Sum' s (more_of-FlatExpr head end_of-FlatExpr) shape more) var f = or_left (signed_read var more) (bare-occurs head var (bare-sum more (flat_index head) var f))
+bare-occurs (Sum' s (more_of-FlatExpr head end_of-FlatExpr) shape more) var f = either_left (signed_read var more) (bare-occurs head var (bare-sum more (flat_index head) var f))
 bare-occurs (Modulo' shape (more_of-FlatExpr e end_of-FlatExpr) by place) var f = absurd (never-modulo (flat_index e) by var f)
 bare-occurs (Choose' c cond l left r right) var f = absurd (cc)
 bare-occurs (All' shape body v over place) var f = absurd (cc)
@@ -74,10 +74,10 @@ bare-occurs (Each' v over cond place) var f = absurd (cc)
 -- ---- bindings that agree on two parts
 
 on-left : (f g : ℕ → Bool) (b c : List Place) → Agree (λ k. f k || g k) b c → Agree f b c
-on-left f g b c h = agree_on (λ k. f k || g k) f b c (λ k t. or_left (g k) t) h
+on-left f g b c h = agree_on (λ k. f k || g k) f b c (λ k t. either_left (g k) t) h
 
 on-right : (f g : ℕ → Bool) (b c : List Place) → Agree (λ k. f k || g k) b c → Agree g b c
-on-right f g b c h = agree_on (λ k. f k || g k) g b c (λ k t. or_right (f k) t) h
+on-right f g b c h = agree_on (λ k. f k || g k) g b c (λ k t. either_right (f k) t) h
 
 -- ---- references
 

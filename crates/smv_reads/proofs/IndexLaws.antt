@@ -1,6 +1,8 @@
 -- Which classes indexes may be, as they are written.
 use Rattle.std.proofs.Common.{◌≡◌, ℕ, zero, suc, ◌+◌, ◌-◌, ◌<◌, ◌≤◌, List, [], ◌∷◌, ◌++◌, map, filter, length, drop, get_or, slice_get, Option, Some, None, Bool, true, false, cond, refl, sym, ap, ◌∙◌, arith}
 use Rattle.std.specs.List.{flat_map}
+use Rattle.std.proofs.lemmas.List.{map-append}
+use Rattle.law_lists.proofs.Lists.{append_again}
 use Rattle.smv_core.specs.Values.{numbers_from}
 use Rattle.smv_core.specs.Assignments.{Index, fixed, bare, computed}
 use Rattle.smv_core.specs.FlatMeaning.{flat_index}
@@ -15,7 +17,7 @@ use Rattle.smv_core.specs.declared.flat.FlatExpr.{FlatExpr}
 use Rattle.law_obligations.specs.Sets.{Has, first, later, one_of_each}
 use Rattle.law_obligations.specs.Places.{Place, named, rest, named_in}
 use Rattle.law_obligations.specs.Covers.{IsIndexType}
-use Rattle.law_obligations.proofs.OneOfEach.{map_joined, joined_again, get_Has}
+use Rattle.law_obligations.proofs.OneOfEach.{get_Has}
 use Rattle.smv_core.specs.declared.abstract_type.AbsType.{AbsType}
 use Rattle.law_obligations.specs.Cones.{element, index_places, each_index, elements_in}
 use Rattle.law_problems.proofs.Writing.{choices_written}
@@ -143,7 +145,7 @@ module _ (v : View) where
       let next : k + 1 ≡ suc k = omega arith in
       ap (λ (n : ℕ). new ++ choices_in v b (drop n indexes) (drop n over)) next
       ∙ (ap (λ (css : List (List Class)). css ++ rest) e
-      ∙ (joined_again done rest x
+      ∙ (append_again done rest x
       ∙ (ap (λ (cs : List Class). done ++ cs ∷ rest) (f ∙ ap (λ (o : Option FlatExpr). choice_in v b o (get_or over k d)) g)
       ∙ (ap (λ (css : List (List Class)). done ++ css) (sym (choices-turn b indexes over k d l)) ∙ h))))
 
@@ -182,7 +184,7 @@ module _ (v : View) where
       map (made family front) (flat_map (λ c. map (λ ds. c ∷ ds) (one_of_each more)) cs) ≡ flat_map (λ c. elements_from family (front ++ c ∷ []) more) cs
   each-front family front more goes [] = refl
   each-front family front more goes (c ∷ cs) =
-      map_joined (made family front) (map (λ ds. c ∷ ds) (one_of_each more)) (flat_map (λ c. map (λ ds. c ∷ ds) (one_of_each more)) cs)
+      map-append (made family front) (map (λ ds. c ∷ ds) (one_of_each more)) (flat_map (λ c. map (λ ds. c ∷ ds) (one_of_each more)) cs)
       ∙ ap (λ l. l ++ map (made family front) (flat_map (λ c. map (λ ds. c ∷ ds) (one_of_each more)) cs)) (turned family front c (one_of_each more) ∙ goes c)
       ∙ ap (λ l. elements_from family (front ++ c ∷ []) more ++ l) (each-front family front more goes cs)
 

@@ -1,15 +1,15 @@
 -- Lists that are made of lists, and variables that are bound.
 use Rattle.std.proofs.Common.{◌≡◌, ℕ, zero, suc, List, [], ◌∷◌, ◌++◌, map, take, slice_get, option_map, Bool, true, false, ◌||◌, if◌then◌else◌, refl, ap, ◌∙◌}
 use Rattle.std.specs.List.{flat_map, list_any}
+use Rattle.std.proofs.lemmas.List.{map-append}
 use Rattle.law_obligations.specs.Places.{bind_place}
-use Rattle.law_obligations.proofs.OneOfEach.{map_joined}
 use Rattle.smv_spots.specs.declared.spots.Spot.{Spot}
 use Rattle.smv_reads.specs.declared.bindings.View.{View}
 use Rattle.smv_reads.specs.Views.{place_in, places, bind_spot}
 
 pub map-flat_map : {X Y Z : Type 0} (g : Y → Z) (f : X → List Y) (xs : List X) → map g (flat_map f xs) ≡ flat_map (λ x. map g (f x)) xs
 map-flat_map g f [] = refl
-map-flat_map g f (x ∷ xs) = map_joined g (f x) (flat_map f xs) ∙ ap (λ zs. map g (f x) ++ zs) (map-flat_map g f xs)
+map-flat_map g f (x ∷ xs) = map-append g (f x) (flat_map f xs) ∙ ap (λ zs. map g (f x) ++ zs) (map-flat_map g f xs)
 
 pub flat_map-map : {X Y Z : Type 0} (f : Y → List Z) (g : X → Y) (xs : List X) → flat_map f (map g xs) ≡ flat_map (λ x. f (g x)) xs
 flat_map-map f g [] = refl
@@ -47,4 +47,4 @@ map-if f false xs = refl
 
 -- one more variable
 pub bound-places : (v : View) (b : List Spot) (var : ℕ) (p : Spot) → places v (bind_spot b var p) ≡ bind_place (places v b) var (place_in v p)
-bound-places v b var p = map_joined (place_in v) (take var b) (p ∷ []) ∙ ap (λ ps. ps ++ place_in v p ∷ []) (map-take (place_in v) var b)
+bound-places v b var p = map-append (place_in v) (take var b) (p ∷ []) ∙ ap (λ ps. ps ++ place_in v p ∷ []) (map-take (place_in v) var b)

@@ -4,6 +4,7 @@ use Rattle.std.specs.Prelude.{unwrap_or}
 use Rattle.std.specs.List.{slice_get}
 use Rattle.std.specs.Str.{bytes_eq}
 use Rattle.std.proofs.lemmas.Slice.Eq.{bytes_eq-Decides}
+use Rattle.std.proofs.lemmas.Bool.{cases_Bool}
 use Rattle.smv_core.specs.Values.{Name, constant, scalar, ordinal}
 use Rattle.smv_core.specs.FlatMeaning.{Numbered}
 use Rattle.smv_core.specs.declared.flat.Simple.{Simple}
@@ -16,7 +17,6 @@ use Rattle.law_obligations.specs.Places.{Place, named, rest, World, rests_in, pl
 use Rattle.law_obligations.specs.Pictures.{AreNamedOf}
 use Rattle.law_obligations.specs.Covers.{IsIndexType, AreApart}
 use Rattle.law_obligations.proofs.Members.{Has-left, Has-uncons}
-use Rattle.law_obligations.proofs.Tests.{true_or_false}
 use Rattle.law_obligations.proofs.OneOfEach.{get_Has}
 use Rattle.law_obligations.specs.Outlines.{place_of}
 use Rattle.law_designs.specs.FlatKinds.{Kind, enumeration, set_type, kind_of}
@@ -111,7 +111,7 @@ set_there (x ∷ sets) apart zero info e = ap (λ (b : Bool). if b then Some 0 e
     same : x ≡ info → bytes_eq x.name info.name ≡ true
     same e = (bytes_eq-Decides x.name info.name).1 (ap (λ (i : SetInfo). i.name) e)
 set_there (x ∷ sets) apart (suc set) info e =
-    let other : bytes_eq x.name info.name ≡ false = elim (true_or_false (bytes_eq x.name info.name)) [
+    let other : bytes_eq x.name info.name ≡ false = elim (cases_Bool (bytes_eq x.name info.name)) [
       | inl t ↦ absurd (apart.0 info (get_Has sets set info e) ((bytes_eq-Decides x.name info.name).0 t))
       | inr f ↦ f
     ] in
