@@ -7,7 +7,7 @@
     tools/pages.py --answers PROGRAM    writes examples/*.answer; read what changed before it is kept
     tools/pages.py --texts FOLDER       writes the texts of the pages, to try them
 
-It ends with status 1 where something differs. On the users' pages it takes these sorts of fenced blocks:
+It ends with status 1 where something differs. The pages also run make, sed, seq and xargs. On the users' pages it takes these sorts of fenced blocks:
 
     ```smv NAME       a whole text, the file NAME; so is ```make NAME and ```sh NAME
     ```diff NAME OLD  the file NAME: the file OLD with some lines changed. A line begins with a blank (it is there), `-` (it goes) or `+` (it comes);
