@@ -7,16 +7,18 @@
     tools/pages.py --answers PROGRAM    writes examples/*.answer; read what changed before it is kept
     tools/pages.py --texts FOLDER       writes the texts of the pages, to try them
 
-It ends with status 1 where something differs. On the users' pages it takes these sorts of fenced blocks:
+It ends with status 1 where something differs. The pages also run make, sed, seq and xargs. On the users' pages it takes these sorts of fenced blocks:
 
     ```smv NAME       a whole text, the file NAME; so is ```make NAME and ```sh NAME
     ```diff NAME OLD  the file NAME: the file OLD with some lines changed. A line begins with a blank (it is there), `-` (it goes) or `+` (it comes);
                       a line `@@` parts one change from the next. The lines with blanks and `-` of a change stand together in OLD, at one place.
     ```console        lines `$ COMMAND`, each with what it writes behind it. The folder has the files of the page and `examples`.
     ```marked         texts of one line, each with a line below it that has `^ fault N` under the place, and perhaps more words: what `prove` answers.
+                      They stand in no table of tests.
 
 Each examples/NAME.smv has an examples/NAME.answer beside it: exactly what `deodarwrench prove < examples/NAME.smv` writes.
 The exit status of an answer is the one that README.md states for it; no page repeats it. A command with `sh` or `make` in it ends with 0 where all is true.
+In the tables a text stands in one line and without its comments, unless it has a fault: a test costs by its bytes.
 """
 import os
 import re
@@ -36,10 +38,10 @@ FENCES = re.compile(r"^```(?:smv|make|sh|diff|console|marked)", re.M)
 # The line below a text that says where it has which fault.
 MARK = re.compile(r" *\^ fault (\d+)\b.*")
 # About how many bytes of rows a test has at most, if it has more than one row.
-PART = 9_000
+PART = 9_200
 # Commands that a test can give the program as words and a text: that of a file, one that is written out, so many blanks.
 PLAIN = re.compile(r"deodarwrench ([^<|]+?) < (\S+)")
-ECHO = re.compile(r"""echo (['"])([^'"]*|[^"]*)\1 \| deodarwrench (\w+)""")
+ECHO = re.compile(r"echo '([^']*)' \| deodarwrench (\w+)")
 SCRIPT = re.compile(r"\b(?:sh|make)\b")
 BLANKS = re.compile(r"printf '%(\d+)s' '' \| deodarwrench (\w+)")
 # One whose report a test can give the other program.
@@ -81,8 +83,7 @@ def marked(block):
         mark = MARK.fullmatch(below)
         if not mark or set(text) & set('"$`\\'):
             raise ValueError(f"no mark, or a sign of the shell:\n{text}\n{below}")
-        quote = '"' if "'" in text else "'"
-        commands.append((f"echo {quote}{text}{quote} | deodarwrench prove", f"fault {mark[1]} at line 1 column {below.index('^') + 1}\n"))
+        commands.append((f'echo "{text}" | deodarwrench prove', f"fault {mark[1]} at line 1 column {below.index('^') + 1}\n"))
     return commands
 
 
@@ -163,6 +164,11 @@ def quoted(text):
     return '"' + "".join(marks.get(sign, sign) for sign in text) + '"'
 
 
+def bare(text):
+    """Returns a text in one line, without its comments."""
+    return " ".join(re.sub(r"/\*.*?\*/|--[^\n]*", " ", text, flags=re.S).split())
+
+
 def row(values):
     """Returns the lines of a row of a table, as `rt fmt` lays it out."""
     line = ", ".join(values)
@@ -194,7 +200,7 @@ def given(command, files):
     if plain:
         words, file = plain.groups()
         return words, files[file] if file in files else (TOP / file).read_text()
-    return (echo[3], echo[2] + "\n") if echo else None
+    return (echo[2], echo[1] + "\n") if echo else None
 
 
 def table(module, pages):
@@ -204,7 +210,8 @@ def table(module, pages):
         for command, answer in commands:
             row_given, many = given(command, files), BLANKS.fullmatch(command)
             if row_given and not (page != "examples" and " examples/" in command):
-                rows.append(row([quoted(row_given[0]), quoted(row_given[1]), str(status(command, answer)), quoted(answer)]))
+                text = row_given[1] if answer.startswith("fault ") else bare(row_given[1])
+                rows.append(row([quoted(row_given[0]), quoted(text), str(status(command, answer)), quoted(answer)]))
             if many:
                 blanks.append([quoted(many[2]), f"{int(many[1]):_}", str(status(command, answer)), quoted(answer)])
     used = ["Row", "all_are_answered", *(["blanks_are_answered"] if blanks else [])]
