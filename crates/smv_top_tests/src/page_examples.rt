@@ -150,6 +150,12 @@ const ROWS_4: &[Row] = &[
     ),
     (
         "prove",
+        "scalarset WORD undefined; module main() { in_valid, in_ready, out_valid, out_ready, full, puts, takes, chosen : boolean; abstract followed, was_stuck : boolean; abstract ahead, size : 0..2; abstract word, last : WORD; in_data, head, skid : WORD; puts := in_valid & in_ready; takes := out_valid & out_ready; init(in_ready) := 1; init(out_valid) := 0; init(full) := 0; if (~out_valid | takes) { next(out_valid) := full | puts; next(head) := full ? skid : in_data; next(full) := 0; next(in_ready) := 1; } else if (puts) { next(skid) := in_data; next(full) := 1; next(in_ready) := 0; } layer hold : { init(was_stuck) := 0; next(was_stuck) := out_valid & ~out_ready; next(last) := head; if (was_stuck) head := last; } layer order : { init(size) := 0; next(size) := (size + (puts ? 1 : 0)) - (takes ? 1 : 0); init(followed) := 0; if (followed) { if (takes & ahead = 0) next(followed) := 0; if (takes) next(ahead) := ahead - 1; } else if (puts & chosen) { next(followed) := 1; next(word) := in_data; next(ahead) := size - (takes ? 1 : 0); } out_valid := size > 0; if (followed & ahead = 0) head := word; } stays : assert G (was_stuck -> out_valid); flows : assert G (size < 2 -> in_ready); forall (c in WORD) { subcase held[c] of head//hold for last = c; subcase shown[c] of head//order for word = c; } }",
+        0,
+        "head//hold: true\nout_valid//order: true\nhead//order: true\nstays: true\nflows: true\nproved 5 of 5\n",
+    ),
+    (
+        "prove",
         "module main() { x : boolean; init(x) := 0; next(x) := ~x; p : assert G (x | ~x); }",
         0,
         "p: true\nproved 1 of 1\n",
