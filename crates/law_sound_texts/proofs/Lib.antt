@@ -64,7 +64,7 @@ mod FewFamilies
 mod FewEntries
 mod FewConstants
 mod WholeText
-mod Consumed
+pub mod Consumed
 mod Widths
 mod SetTypes
 mod Ranges

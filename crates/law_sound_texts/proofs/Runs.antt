@@ -21,12 +21,12 @@ use Rattle.law_obligations.proofs.OneOfEach.{get_Has}
 use Rattle.law_obligations.proofs.Lookups.{Has-filter, Has-from_filter}
 use Rattle.law_designs.specs.Reading.{Reference, Reading, readings}
 use Rattle.law_designs.specs.LayerFaults.{assignments_of}
-use Rattle.law_sound_texts.specs.Extension.{HasWholeLeftSides, AreFilled, AgreeOutside, bases_outside}
+use Rattle.law_sound_texts.specs.Extension.{HasWholeLeftSides, IsTypedBefore, AreFilled, AgreeOutside, bases_outside}
 use Rattle.law_sound_texts.proofs.Lists.{is_in-Has}
 use Rattle.law_sound_texts.proofs.Results.{all_result, same_result}
 use Rattle.law_sound_texts.proofs.Places.{AreOver, are_over}
 use Rattle.law_sound_texts.proofs.Faultless.{IsFaultless, Falls, IsBase, base_is}
-use Rattle.law_sound_texts.proofs.Stages.{AreTyped, final, final_outside, final_allowed, final_typed}
+use Rattle.law_sound_texts.proofs.Stages.{final, final_outside, final_allowed, final_typed}
 
 -- ---- definitions that read none of the families among these
 
@@ -69,13 +69,13 @@ module _ (d : Design) (sizes : Sizes) (among : ℕ → Bool) (h : IsFaultless d)
   n = at_sizes (names_of d) sizes
 
   abbrev next_state : Option FlatState → FlatState → FlatState
-  next_state before s = final d sizes among h whole rank falls before s
+  next_state before s = final d sizes (λ family vs. among family) h whole rank falls before s
 
   agrees : (before : Option FlatState) (s : FlatState) → AgreeOutside among s (next_state before s)
-  agrees before s family out vs = final_outside d sizes among h whole rank falls before s family out vs
+  agrees before s family out vs = final_outside d sizes (λ family vs. among family) h whole rank falls before s family vs out
 
   -- one time
-  module _ (old before : Option FlatState) (s : FlatState) (typed : IsTyped n s) (typed_before : AreTyped n before) (agree : AgreeBefore among old before) (meets : meets_base n (bases_outside d among) old s ≡ true) where
+  module _ (old before : Option FlatState) (s : FlatState) (typed : IsTyped n s) (typed_before : IsTypedBefore n before) (agree : AgreeBefore among old before) (meets : meets_base n (bases_outside d among) old s ≡ true) where
     held : (def : Def) → Has (bases d) def → (vs : List Value) → Has (values_over n (params_of n (map_of def))) vs → is_held n (map_of def) vs before (next_state before s) ≡ true
     held def k vs m = by_family (cases_Bool (among def.family))
       where
@@ -83,7 +83,7 @@ module _ (d : Design) (sizes : Sizes) (among : ℕ → Bool) (h : IsFaultless d)
         by_family (inl a) =
             let b : IsBase d def = base_is d h def k in
             let over : AreOver n b.its_family.over vs = are_over n b.its_family.over vs (subst (λ o. Has (values_over n (over_of o)) vs) b.is_there m) in
-            is_in-Has _ _ (final_allowed d sizes among h whole rank falls before s typed typed_before def.family b.its_family b.is_there def b.is_base_of a vs over).0
+            is_in-Has _ _ (final_allowed d sizes (λ family vs. among family) h whole rank falls before s typed typed_before def.family b.its_family b.is_there def b.is_base_of vs a over).0
         by_family (inr a) =
             let was : is_held n (map_of def) vs old s ≡ true =
             all-each (λ vs. is_held n (map_of def) vs old s)
@@ -99,7 +99,7 @@ module _ (d : Design) (sizes : Sizes) (among : ℕ → Bool) (h : IsFaultless d)
         (λ def k. all-holds (λ vs. is_held n (map_of def) vs before (next_state before s)) (values_over n (params_of n (map_of def))) (λ vs m. held def k vs m))
 
     pub typed_now : IsTyped n (next_state before s)
-    typed_now = final_typed d sizes among h whole rank falls before s typed typed_before
+    typed_now = final_typed d sizes (λ family vs. among family) h whole rank falls before s typed typed_before
 
   -- each time
   abbrev extended : Option FlatState → List FlatState → List FlatState
@@ -114,7 +114,7 @@ module _ (d : Design) (sizes : Sizes) (among : ℕ → Bool) (h : IsFaultless d)
   abbrev Goes : Option FlatState → Option FlatState → List FlatState → Type 0
   Goes old before run = ((t : FlatState) → Has (extended before run) t → IsTyped n t) × (always (meets_base n (bases d)) before (extended before run) ≡ true)
 
-  goes : (old before : Option FlatState) (run : List FlatState) → ((s : FlatState) → Has run s → IsTyped n s) → AreTyped n before → AgreeBefore among old before → always (meets_base n (bases_outside d among)) old run ≡ true → Goes old before run
+  goes : (old before : Option FlatState) (run : List FlatState) → ((s : FlatState) → Has run s → IsTyped n s) → IsTypedBefore n before → AgreeBefore among old before → always (meets_base n (bases_outside d among)) old run ≡ true → Goes old before run
   goes old before [] typed typed_before agree meets = (λ t k. elim k [ ], refl)
   goes old before (s ∷ run) typed typed_before agree meets =
       let here : meets_base n (bases_outside d among) old s ≡ true = left_of (meets_base n (bases_outside d among) old s) (always (meets_base n (bases_outside d among)) (Some s) run) meets in

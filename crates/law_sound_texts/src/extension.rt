@@ -8,7 +8,7 @@ ghost use Rattle.law_designs.specs.Flattening.{flatten};
 ghost use Rattle.law_designs.specs.WellKinded.{IsWellKinded};
 ghost use Rattle.law_designs.specs.Definitions.{design_of_flat_text};
 ghost use Rattle.law_designs.specs.FirstFault.{first_fault_of_design};
-ghost use Rattle.law_sound_texts.specs.Extension.{AreFilled, HasRuns, HasWholeLeftSides, KeepsBehaviours, FlatTextHasWholeLeftSides};
+ghost use Rattle.law_sound_texts.specs.Extension.{AreFilled, ElementsCanBeChosen, HasRuns, HasWholeLeftSides, KeepsBehaviours, FlatTextHasWholeLeftSides};
 ghost use Rattle.law_sound_texts.specs.TextExtension.{FamiliesAreFound, KeepsTextBehaviours, LayersAreSame};
 
 use law_designs::flattening::families_are_the_same;
@@ -20,7 +20,15 @@ use law_designs::well_kinded::{
     allowed_values_are_the_same, expressions_are_right, spelled_texts_are_written,
 };
 
-/// In a design without a fault of loops or of layers whose left sides are whole the abstract signals take no behaviour from the implementation: each is in a run,
+/// In a design without a fault of loops or of layers whose left sides are whole any elements can be chosen after each state: there is a next state with values that their base definitions allow, and with
+/// the values of all other elements as they are given.
+pub fn elements_are_chosen()
+    ensures { (d : Design) → first_fault_of_design d ≡ None → HasWholeLeftSides d → ElementsCanBeChosen d }
+{
+    orders_show_no_cycle();
+}
+
+/// In such a design the abstract signals take no behaviour from the implementation: each is in a run,
 /// at any sizes.
 pub fn behaviours_are_kept()
     ensures { (d : Design) → first_fault_of_design d ≡ None → HasWholeLeftSides d → KeepsBehaviours d }
