@@ -101,7 +101,7 @@ module _ (not_both : IsNotBoth) (one_tree : OneTree) (either : UnitsAreOrAreNot)
       omega (arith, long, within)
   not_faulty command text report _ _ is (malformed number at within fault) =
       let tree = valid_text command text report is in
-      not_both text tree.0 number at (tree.1.is_tree.tokens, tree.1.is_tree.are_tokens, tree.1.is_tree.spelled) fault
+      not_both text tree.0 number at tree.1.is_tree.spelled fault
   not_faulty command text report _ _ is (faulty tree fault deciding is_tree found) =
       let valid = valid_text command text report is in
       let same = one_tree text tree valid.0 is_tree valid.1.is_tree in
@@ -114,7 +114,7 @@ module _ (not_both : IsNotBoth) (one_tree : OneTree) (either : UnitsAreOrAreNot)
   not_printed text tree _ _ is (too_long long) =
       let within = is.within in
       omega (arith, long, within)
-  not_printed text tree _ _ is (malformed number at within fault) = not_both text tree number at (is.tokens, is.are_tokens, is.spelled) fault
+  not_printed text tree _ _ is (malformed number at within fault) = not_both text tree number at is.spelled fault
   not_printed text tree _ _ is (faulty other fault deciding is_tree found) = true≢false (sym deciding)
 
   module _ (one_report : OneReport) (one_unit : OneUnitReport) where

@@ -25,7 +25,7 @@ same_fault f g e = record { numbers = ap (λ (x : Fault). x.number) e; places = 
 module _ (not_both : IsNotBoth) (one_fault : IsOneFault) (one_tree : OneTree) where
   -- what a tree's form cannot have
   formed : (text : List ℕ) (tree : Text) (number at : ℕ) → IsTree text tree → HasFault text number at → ⊥
-  formed text tree number at is fault = not_both text tree number at (is.tokens, is.are_tokens, is.spelled) fault
+  formed text tree number at is fault = not_both text tree number at is.spelled fault
 
   short : (text : List ℕ) (tree : Text) → IsTree text tree → limit < length text → ⊥
   short text tree is long =

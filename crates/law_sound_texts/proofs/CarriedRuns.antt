@@ -29,8 +29,9 @@ use Rattle.law_obligations.specs.Outlines.{bases}
 use Rattle.law_obligations.proofs.Members.{Has-from_map, all-holds}
 use Rattle.law_obligations.proofs.OneOfEach.{get_Has}
 use Rattle.law_designs.specs.LayerFaults.{is_abstract}
-use Rattle.law_sound_texts.specs.TextExtension.{FamiliesAreFound, IsSameLayer, LayersAreSame}
-use Rattle.law_sound_texts.proofs.Lists.{is_in-Has}
+use Rattle.law_sound_texts.specs.TextExtension.{IsSameLayer, LayersAreSame}
+use Rattle.law_flat_kinds.specs.FamiliesFound.{FamiliesAreFound}
+use Rattle.law_flat_kinds.proofs.Lists.{is_in-Has}
 use Rattle.law_sound_texts.proofs.Faultless.{IsFaultless, IsBase, base_is}
 use Rattle.law_sound_texts.proofs.Texts.{Contains-Has, All-each, in_text, indexes_same, to_flat, to_text, text_same, flat_same, flat_typed, demand_same, no_layer}
 

@@ -15,7 +15,7 @@ use Rattle.law_designs.specs.Definitions.{Head, head, heads_of, same_definition,
 use Rattle.law_sound_texts.specs.Placed.{IsFree}
 use Rattle.law_sound_texts.specs.Exact.{LeftSidesAreExact, DefinitionsAreFree}
 use Rattle.law_sound_texts.proofs.Counts.{count-is}
-use Rattle.law_sound_texts.proofs.Lists.{Has-from_different}
+use Rattle.law_flat_kinds.proofs.Lists.{Has-from_different}
 
 Has-left : {X : Type 0} (xs ys : List X) {x : X} → Has xs x → Has (xs ++ ys) x
 Has-left [] ys h = elim h [ ]

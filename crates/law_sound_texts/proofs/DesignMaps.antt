@@ -32,8 +32,9 @@ use Rattle.law_obligations.specs.Outlines as outline
 use Rattle.law_obligations.specs.Units.{is_base_in, is_refinement}
 use Rattle.law_obligations.proofs.OneOfEach.{Has-from_flat_map, get_Has, Has_get}
 use Rattle.law_obligations.proofs.Same.{nat_eq-itself}
-use Rattle.law_sound_texts.specs.TextExtension.{FamiliesAreFound, IsSameLayer, LayersAreSame}
-use Rattle.law_sound_texts.proofs.Lists.{is_in-Has, Has-from_different}
+use Rattle.law_sound_texts.specs.TextExtension.{IsSameLayer, LayersAreSame}
+use Rattle.law_flat_kinds.specs.FamiliesFound.{FamiliesAreFound}
+use Rattle.law_flat_kinds.proofs.Lists.{is_in-Has, Has-from_different}
 use Rattle.law_sound_texts.proofs.Faultless.{IsFaultless}
 use Rattle.law_sound_texts.proofs.Texts.{Contains-Has, demand_same, in_flat_text, in_text, indexes_same, zip_left}
 use Rattle.law_sound_texts.specs.Exact.{IsExact, LeftSidesAreExact}

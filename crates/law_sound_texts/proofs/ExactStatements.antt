@@ -30,7 +30,7 @@ use Rattle.law_obligations.specs.Sets.{Has, first, later}
 use Rattle.law_obligations.proofs.Members.{Has-cases}
 use Rattle.law_obligations.proofs.OneOfEach.{Has-from_flat_map}
 use Rattle.law_designs.specs.Standing.{count, Statement, statements_from, statements_of, Standing, standing, standing_in, assigned_by}
-use Rattle.law_sound_texts.specs.TextExtension.{FamiliesAreFound}
+use Rattle.law_flat_kinds.specs.FamiliesFound.{FamiliesAreFound}
 use Rattle.law_sound_texts.specs.Exact.{LeftSidesAreExact}
 use Rattle.law_sound_texts.proofs.Counts.{same-count}
 use mathlib.Core.Former.{Count}

@@ -28,9 +28,9 @@ use Rattle.law_designs.specs.LayerFaults.{is_abstract, assignments_of, outside_l
 use Rattle.law_designs.specs.FirstFault.{first_fault_of_loops, first_fault_of_layers, first_fault_of_design}
 use Rattle.law_designs.specs.LoopLaws.{AreFalling}
 use Rattle.law_designs.proofs.Faultless.{no_fault-in}
-use Rattle.law_sound_texts.proofs.Lists.{none_passes, some_or_none}
+use Rattle.law_flat_kinds.proofs.Lists.{none_passes, some_or_none}
 use Rattle.law_sound_texts.proofs.Results.{reading_is}
-use Rattle.law_sound_texts.proofs.NoFaults.{nil-left, nil-right, none-both}
+use Rattle.law_flat_kinds.proofs.NoFaults.{nil-left, nil-right, none-both}
 
 -- ---- no faults
 

@@ -11,8 +11,8 @@ use Rattle.law_obligations.specs.Sets.{Has, first, later}
 use Rattle.law_designs.specs.Standing.{statements_of, Standing}
 use Rattle.law_designs.specs.SingleFaults.{later_places, conflicting, has_variables, lacking, unnamed, assigned_in, single_faults, first_fault_of_single}
 use Rattle.law_designs.proofs.Faultless.{no_fault-in}
-use Rattle.law_sound_texts.proofs.NoFaults.{nil-left, nil-flat_map}
-use Rattle.law_sound_texts.proofs.Lists.{none_passes}
+use Rattle.law_flat_kinds.proofs.NoFaults.{nil-left, nil-flat_map}
+use Rattle.law_flat_kinds.proofs.Lists.{none_passes}
 
 no-earlier : (f : Fault) (o : Option Fault) → earlier f o ≡ None → ⊥
 no-earlier f None e = cc

@@ -14,7 +14,7 @@ use Rattle.smv_core.specs.Values.{Name}
 use Rattle.law_designs.specs.Standing.{count, statements_from, Standing, standing, standing_in, assigned_by}
 use Rattle.law_designs.specs.Laws.{index_count, left_sides_are_whole}
 use Rattle.law_designs.specs.FlatKinds.{Kind, number, kind_of, takes, take_each, assigns, element, Vars, inside, is_size, kind_in, value_in, is_binder, keeps_kinds, all_keep_kinds, is_kinded_item, is_kinded_family, is_kinded}
-use Rattle.law_sound_texts.proofs.Lists.{all-append}
+use Rattle.law_flat_kinds.proofs.Lists.{all-append}
 
 at_most : (k n : ℕ) → k ≡ n → nat_le k n ≡ true
 at_most k n e = grind arith

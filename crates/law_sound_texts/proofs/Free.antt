@@ -33,7 +33,7 @@ use Rattle.law_sound_texts.specs.Placed.{IsPlaced, ArePlaced, FlatTextIsPlaced, 
 use Rattle.law_sound_texts.proofs.FaultlessSides.{no-clash, no-conflict, no-lack}
 use Rattle.law_sound_texts.proofs.Comes.{Comes, comes, comes_in, comes_of, layer-is, part, chosen}
 use mathlib.Core.Former.{Count}
-use Rattle.law_sound_texts.proofs.NoFaults.{nil-left, nil-right}
+use Rattle.law_flat_kinds.proofs.NoFaults.{nil-left, nil-right}
 
 -- the numbers below a number, the greatest first
 abbrev down : ℕ → List ℕ

@@ -11,7 +11,7 @@ use Rattle.smv_mentions.specs.Scopes.{Piece, body_if_module, pieces}
 use Rattle.smv_mentions.specs.NameFaults.{place_if, repeated, doubled_in, without_main, name_faults}
 use Rattle.smv_mentions.specs.FirstFault.{first_of, faults_at, faults_of_names, fault_at_main, fault_of_size, first_fault}
 use Rattle.smv_mentions.specs.Sizes.{sized_from, things_in, is_too_wide, count_different, constant_names, statements_in, is_too_large}
-use Rattle.law_sound_texts.proofs.NoFaults.{none-both}
+use Rattle.law_flat_kinds.proofs.NoFaults.{none-both}
 use Rattle.law_designs.proofs.Faultless.{empty-both, empty-each, no_fault-in}
 
 -- ---- lists of faults

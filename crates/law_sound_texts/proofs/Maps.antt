@@ -38,8 +38,8 @@ use Rattle.law_obligations.proofs.Members.{Has-flat_map, all-each}
 use Rattle.law_obligations.proofs.OneOfEach.{get_Has, Has_get}
 use Rattle.law_obligations.proofs.Same.{Has-is_in}
 use Rattle.law_obligations.proofs.Spots.{Has-numbers}
-use Rattle.law_sound_texts.specs.TextExtension.{FamiliesAreFound}
-use Rattle.law_sound_texts.proofs.Lists.{some_or_none}
+use Rattle.law_flat_kinds.specs.FamiliesFound.{FamiliesAreFound}
+use Rattle.law_flat_kinds.proofs.Lists.{some_or_none}
 use Rattle.law_sound_texts.proofs.Faultless.{IsFaultless, IsBase, base_by}
 use Rattle.law_sound_texts.proofs.Texts.{Has-Contains, All-each, in_flat_text, indexes_same, demand_same}
 use Rattle.law_sound_texts.specs.Carried.{UnitsHold}

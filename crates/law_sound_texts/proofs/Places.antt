@@ -17,7 +17,7 @@ use Rattle.law_obligations.proofs.OneOfEach.{Has-from_flat_map}
 use Rattle.law_obligations.proofs.Lookups.{Has-filter}
 use Rattle.law_obligations.proofs.Same.{Has-is_in}
 use Rattle.law_designs.specs.Loops.{is_constant, at_index, ways, cells_of}
-use Rattle.law_sound_texts.proofs.Lists.{is_in-Has}
+use Rattle.law_flat_kinds.proofs.Lists.{is_in-Has}
 use Rattle.law_sound_texts.proofs.Agreeing.{is_plain, MayBe}
 
 -- what a cell has for a value of a type

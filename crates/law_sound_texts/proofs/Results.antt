@@ -18,7 +18,7 @@ use Rattle.law_obligations.proofs.Members.{Has-left, Has-right, Has-cases}
 use Rattle.law_obligations.proofs.Same.{Has-is_in}
 use Rattle.law_designs.specs.Reading.{Reference, references, Reading, readings, readings_of}
 use Rattle.law_designs.proofs.FlatParts.{if_walk-none}
-use Rattle.law_sound_texts.proofs.Lists.{some_or_none}
+use Rattle.law_flat_kinds.proofs.Lists.{some_or_none}
 use Rattle.law_sound_texts.proofs.Agreeing.{is_plain, index_plain, misfits, AgreeAt, at_left, at_right, same_outcome, same_allowed, same_left}
 
 -- ---- lists of results

@@ -22,7 +22,7 @@ use Rattle.law_obligations.proofs.Lookups.{Has-filter, Has-from_filter}
 use Rattle.law_designs.specs.Reading.{Reference, Reading, readings}
 use Rattle.law_designs.specs.LayerFaults.{assignments_of}
 use Rattle.law_sound_texts.specs.Extension.{HasWholeLeftSides, IsTypedBefore, AreFilled, AgreeOutside, bases_outside}
-use Rattle.law_sound_texts.proofs.Lists.{is_in-Has}
+use Rattle.law_flat_kinds.proofs.Lists.{is_in-Has}
 use Rattle.law_sound_texts.proofs.Results.{all_result, same_result}
 use Rattle.law_sound_texts.proofs.Places.{AreOver, are_over}
 use Rattle.law_sound_texts.proofs.Faultless.{IsFaultless, Falls, IsBase, base_is}

@@ -31,13 +31,14 @@ use Rattle.law_designs.specs.Reading.{Reading}
 use Rattle.law_designs.specs.LayerFaults.{is_abstract, assignments_of, outside_layers, leaking, assigned_outside}
 use Rattle.law_designs.specs.FirstFault.{first_fault_of_layers}
 use Rattle.law_designs.proofs.Faultless.{no_fault-in}
-use Rattle.law_sound_texts.specs.TextExtension.{FamiliesAreFound, IsSameLayer, LayersAreSame}
-use Rattle.law_sound_texts.proofs.Lists.{none_passes}
+use Rattle.law_sound_texts.specs.TextExtension.{IsSameLayer, LayersAreSame}
+use Rattle.law_flat_kinds.specs.FamiliesFound.{FamiliesAreFound}
+use Rattle.law_flat_kinds.proofs.Lists.{none_passes}
 use Rattle.law_sound_texts.proofs.Faultless.{is_its}
 use Rattle.law_sound_texts.proofs.Texts.{zip_right}
 use Rattle.law_sound_texts.proofs.FirstFound.{FindAlike, find-zip, find-map, find-same, find-both, find-neither, find-different, earliest-is-first}
 use Rattle.law_sound_texts.proofs.FirstHeads.{IsAt, is_head_of, assigns, first-head, has_assignment}
-use Rattle.law_sound_texts.proofs.NoFaults.{nil-left, nil-right}
+use Rattle.law_flat_kinds.proofs.NoFaults.{nil-left, nil-right}
 
 -- the statements beside those of the text
 pub statements-zip : (text : Text) (k : ℕ) (items : List FlatItem) (said : List Said) → AllZip (IsSameAct text) (layered_acts items) said → AllZip (λ (s : Statement) x. IsSameAct text (s.layer, s.act) x) (statements_from k items) said

@@ -18,7 +18,7 @@ use Rattle.law_designs.specs.Flattening.{set_of, flatten}
 use Rattle.law_designs.proofs.Faultless.{no_fault-in, unplaced}
 use Rattle.law_obligations.specs.Sets.{Has, first, later}
 use Rattle.law_obligations.specs.Covers.{AreApart}
-use Rattle.law_sound_texts.proofs.NoFaults.{nil-left, nil-right}
+use Rattle.law_flat_kinds.proofs.NoFaults.{nil-left, nil-right}
 
 none-first : (o p : Option Fault) → or_else o p ≡ None → o ≡ None
 none-first None p e = refl

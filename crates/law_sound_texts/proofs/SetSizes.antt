@@ -24,7 +24,7 @@ use Rattle.law_designs.proofs.Faultless.{no_fault-in}
 use Rattle.law_obligations.specs.Sets.{Has, first, later}
 use Rattle.law_obligations.specs.Soundness as flat
 use Rattle.law_obligations.specs.Outlines.{names_of}
-use Rattle.law_sound_texts.proofs.NoFaults.{nil-left, nil-right}
+use Rattle.law_flat_kinds.proofs.NoFaults.{nil-left, nil-right}
 
 -- the span of a size that has no fault is not reversed
 not-reversed : (span : Span) (at : ℕ) → range_faults span at ≡ [] → span.low ≤ span.high

@@ -41,8 +41,9 @@ use Rattle.law_obligations.proofs.Same.{Has-is_in}
 use Rattle.law_obligations.proofs.Spots.{Has-numbers}
 use Rattle.law_designs.specs.LayerFaults.{is_abstract}
 use Rattle.law_sound_texts.specs.Extension.{AgreeOutside, is_added, bases_outside, KeepsBehaviours}
-use Rattle.law_sound_texts.specs.TextExtension.{MeetsImplementation, IsBehaviour, AgreeImplemented, FamiliesAreFound, IsSameLayer, LayersAreSame}
-use Rattle.law_sound_texts.proofs.Lists.{is_in-Has, some_or_none}
+use Rattle.law_sound_texts.specs.TextExtension.{MeetsImplementation, IsBehaviour, AgreeImplemented, IsSameLayer, LayersAreSame}
+use Rattle.law_flat_kinds.specs.FamiliesFound.{FamiliesAreFound}
+use Rattle.law_flat_kinds.proofs.Lists.{is_in-Has, some_or_none}
 use Rattle.law_sound_texts.proofs.Faultless.{IsFaultless, IsBase, base_by, base_is}
 
 -- ---- members

@@ -26,7 +26,7 @@ use Rattle.law_sound_texts.specs.Whole.{ReadsWholeInClaims, ReadsWholeInDefiniti
 use Rattle.law_designs.proofs.Operands.{takes-some}
 use Rattle.law_sound_texts.proofs.WholeExprs.{expr-whole, value-whole, indexes-whole}
 use mathlib.Core.Former.{Count}
-use Rattle.law_sound_texts.proofs.Lists.{Has-kept}
+use Rattle.law_flat_kinds.proofs.Lists.{Has-kept}
 
 -- what lets a box of a definition's part compute
 unfoldable boxes : Unit {0}

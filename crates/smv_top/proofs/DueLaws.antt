@@ -26,7 +26,7 @@ pub due_fault : (command : Command) (text : List ℕ) (number at : ℕ) (due : S
 due_fault command text number at due answer is e f = rw e (rw f (refused number at is))
 
 pub due_tree : (text : List ℕ) (tree : Text) (due : Status) (answer : List ℕ) → length text ≤ limit → SpellsText text tree → due ≡ status.Printed → answer ≡ canonical tree → IsDue Print text due answer
-due_tree text tree due answer within is e f = rw e (rw f (printed tree (record { within = within; tokens = is.0; are_tokens = is.1; spelled = is.2 })))
+due_tree text tree due answer within is e f = rw e (rw f (printed tree (record { within = within; spelled = is })))
 
 pub due_length : (command : Command) (text : List ℕ) (due : Status) (answer : List ℕ) → limit < length text → due ≡ status.Refused → answer ≡ fault_text text 31 0 → IsDue command text due answer
 due_length command text due answer long e f = due_fault command text 31 0 due answer (too_long long) e f
