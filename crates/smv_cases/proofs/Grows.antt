@@ -2,8 +2,9 @@
 use Rattle.std.proofs.Common.{◌≡◌, ℕ, suc, ◌+◌, ◌<◌, ◌≤◌, List, [], ◌∷◌, ◌++◌, map, length, max, Bool, true, false, cond, filter, not, ◌&&◌, if◌then◌else◌, refl, sym, ap, subst, ◌∙◌, ◌⊎◌, inl, inr, Option, Some, None, nat_eq, nat_lt, nat_le, arith, append_assoc, append-nil}
 use Rattle.std.specs.List.{slice_get, list_any, list_all}
 use Rattle.std.proofs.lemmas.Bool.{cases_Bool}
-use Rattle.law_lists.proofs.Numbers.{nat_eq-is}
+use Rattle.law_lists.proofs.Numbers.{nat_eq-is, nat_lt-true}
 use Rattle.law_lists.proofs.Booleans.{and_both, left_of, right_of, same_tests}
+use Rattle.law_lists.proofs.Lists.{flat_map_alike, map_alike, map-map, filter-map}
 use Rattle.smv_core.specs.Values.{numbers_from}
 use Rattle.smv_core.specs.declared.flat.Simple.{Simple}
 use Rattle.smv_core.specs.declared.flat.Simple.TheVariants.{Range, Enum, Set}
@@ -22,7 +23,7 @@ use Rattle.law_obligations.proofs.CasesCover.{none_of_either}
 use Rattle.law_obligations.proofs.CoverLists.{no_fewer}
 use Rattle.law_obligations.proofs.CoverNames.{numbered-at, numbered-Has}
 use Rattle.smv_cases.specs.Growing.{counts, counted, widest, is_within, may_follow, may_stand_in, may_stand_at, keeps_in, keeps_at, keeps_all, grown}
-use Rattle.smv_cases.proofs.Lists.{flat_map-same, map-same, map-map, filter-same, filter-none, filter-map, kept-flat_map}
+use Rattle.smv_cases.proofs.Lists.{filter-same, filter-none, kept-flat_map}
 
 -- ---- named classes
 
@@ -54,12 +55,6 @@ at_most m c e = grind arith
 
 is_at_most : (m c : ℕ) → c ≤ m → nat_le c m ≡ true
 is_at_most m c l = grind arith
-
-below : (c m : ℕ) → nat_lt c m ≡ true → c < m
-below c m e = grind arith
-
-is_below : (c m : ℕ) → c < m → nat_lt c m ≡ true
-is_below c m l = grind arith
 
 -- in classes that grow each is at most one above the greatest before it
 grow-at : (m : ℕ) (xs ys : List ℕ) (c : ℕ) → grow m (xs ++ c ∷ ys) ≡ true → c ≤ max m (used xs)
@@ -196,7 +191,7 @@ module _ (set : ℕ) (done more ps : List Parameter) (p : Parameter) (before beh
       let as_many = nat_eq-is (length (named_among listed)) (length listed) named in
       let long = those-long (λ l. l) set ps classes in
       subst (λ y. may_follow ordered (length (counted ordered set ps ps)) (used (named_among (counted ordered set ps before))) y ≡ true) (sym r.1)
-      (is_below r.0 (length (counted ordered set ps ps)) (omega (arith, few, here, as_many, long)))
+      (nat_lt-true r.0 (length (counted ordered set ps ps)) (omega (arith, few, here, as_many, long)))
 
 below_more : (a b c : ℕ) → a ≤ b → nat_lt c a ≡ true → nat_lt c b ≡ true
 below_more a b c l e = grind arith
@@ -362,7 +357,7 @@ module _ (treatments : List Treatment) (params : List Parameter) where
       at true = ap (λ (cs : List Class). cs ∷ []) (sym (append-nil before))
       at false = refl
   grows done (p ∷ more) before are long =
-      flat_map-same _ _ (options p) (λ x. at x (may_stand_at treatments params p.over before p.listed x) refl
+      flat_map_alike _ _ (options p) (λ x. at x (may_stand_at treatments params p.over before p.listed x) refl
       (grows (done ++ p ∷ []) more (before ++ x ∷ []) (are ∙ sym (append_assoc done (p ∷ []) more)) (longer x)))
       ∙ sym (kept-flat_map (λ ys. before ++ ys) (λ ys. allowed (before ++ ys)) (λ x. map (λ ys. x ∷ ys) (one_of_each (map options more))) (options p))
     where
@@ -377,7 +372,7 @@ module _ (treatments : List Treatment) (params : List Parameter) where
           grown treatments params (before ++ x ∷ []) more ≡ map (λ ys. (before ++ x ∷ []) ++ ys) (filter (λ ys. allowed ((before ++ x ∷ []) ++ ys)) (one_of_each (map options more))) →
           (if b then grown treatments params (before ++ x ∷ []) more else []) ≡ map (λ ys. before ++ ys) (filter (λ ys. allowed (before ++ ys)) (map (λ ys. x ∷ ys) (one_of_each (map options more))))
       at x true e goes =
-          goes ∙ (map-same _ _ _ (λ ys. append_assoc before (x ∷ []) ys)
+          goes ∙ (map_alike _ _ _ (λ ys. append_assoc before (x ∷ []) ys)
           ∙ (ap (map (λ ys. before ++ x ∷ ys)) (filter-same _ _ (one_of_each (map options more)) (λ ys. ap allowed (append_assoc before (x ∷ []) ys)))
           ∙ (sym (map-map (λ ys. before ++ ys) (λ ys. x ∷ ys) (filter (λ ys. allowed (before ++ x ∷ ys)) (one_of_each (map options more))))
           ∙ ap (map (λ ys. before ++ ys)) (sym (filter-map (λ ys. allowed (before ++ ys)) (λ ys. x ∷ ys) (one_of_each (map options more)))))))

@@ -1,7 +1,7 @@
 -- What a search has found when it ends.
-use Rattle.std.proofs.Common.{◌≡◌, ℕ, zero, suc, ◌<◌, ◌≤◌, List, [], ◌∷◌, map, length, Some, None, Bool, true, false, nat_lt, nat_le, refl, sym, ap, subst, ◌∙◌, arith}
-use Rattle.std.specs.List.{slice_get}
+use Rattle.std.proofs.Common.{◌≡◌, ℕ, ◌<◌, ◌≤◌, List, [], ◌∷◌, map, length, Some, None, Bool, true, false, nat_lt, nat_le, refl, sym, ap, subst, ◌∙◌, arith}
 use Rattle.std.proofs.lemmas.Bool.Decides.{nat_tests}
+use Rattle.std.proofs.lemmas.Option.{slice_get_within}
 use Rattle.law_lists.proofs.Lists.{length_map}
 use Rattle.smv_core.specs.Values.{Name}
 use Rattle.smv_core.specs.declared.flat.Element.{Element}
@@ -30,11 +30,6 @@ use Rattle.smv_cone.specs.Searching.{HasLeast, HasFound, IsConeOf}
 
 -- ---- turns
 
-past : {X : Type 0} (xs : List X) (k : ℕ) (x : X) → slice_get xs k ≡ Some x → k < length xs
-past [] k x e = absurd (cc)
-past (y ∷ xs) zero x e = omega arith
-past (y ∷ xs) (suc k) x e = let l = past xs k x e in omega (arith, l)
-
 -- the search has gone on from all that is found, or too much is found
 pub gone-over : (p : Part) (found : List Element) (turn : ℕ) → HasFound p found turn → length found ≤ turn → HasFound p found (length found)
 gone-over p found turn f l = record {
@@ -45,7 +40,7 @@ gone-over p found turn f l = record {
   is_search = λ few. record {
     begins = (f.is_search few).begins;
     within = (f.is_search few).within;
-    closed = λ k x m e. let less = past f.all k x e in let long : length f.all ≡ length found = sym (length_map written_element f.all) ∙ ap length f.are_written in (f.is_search few).closed k x (omega (arith, less, long, l)) e;
+    closed = λ k x m e. let less = slice_get_within f.all k x e in let long : length f.all ≡ length found = sym (length_map written_element f.all) ∙ ap length f.are_written in (f.is_search few).closed k x (omega (arith, less, long, l)) e;
   };
 }
 

@@ -1,5 +1,5 @@
 -- A case of a leaf of a checked script, as the search for its cone takes it.
-use Rattle.std.proofs.Common.{◌≡◌, ℕ, suc, ◌+◌, ◌-◌, ◌<◌, ◌≤◌, List, [], ◌∷◌, map, length, Bool, true, false, ◌&&◌, if◌then◌else◌, refl, sym, ap, subst, ◌∙◌, inl, inr, Option, Some, None, nat_lt, arith}
+use Rattle.std.proofs.Common.{◌≡◌, ℕ, suc, ◌+◌, ◌-◌, ◌<◌, ◌≤◌, List, [], ◌∷◌, map, length, Bool, true, false, ◌&&◌, if◌then◌else◌, refl, sym, ap, subst, ◌∙◌, inl, inr, Option, Some, None, arith}
 use Rattle.std.specs.Prelude.{IfSome, unwrap_or}
 use Rattle.std.specs.List.{slice_get}
 use Rattle.smv_core.specs.Values.{scalar, ordinal, scalarset, ordset, numbers_from}
@@ -30,8 +30,8 @@ use Rattle.law_obligations.proofs.CoverNames.{by_name-at}
 use Rattle.law_obligations.specs.Reached.{IsLeast}
 use Rattle.smv_core.specs.declared.fault.Fault.{Fault}
 use Rattle.law_obligations.specs.Soundness.{FlatUnit, map_of, claim_of}
-use Rattle.std.proofs.lemmas.Bool.Decides.{nat_tests}
-use Rattle.law_lists.proofs.Lists.{length_map}
+use Rattle.law_lists.proofs.Lists.{length_map, map-map}
+use Rattle.law_lists.proofs.Numbers.{nat_lt-true, nat_lt-false}
 use Rattle.law_obligations.specs.Outlines.{Entry, Outline, Script, entries_of, outline_of, names_of, unit_in}
 use Rattle.law_obligations.specs.Units.{units_of, script_of}
 use Rattle.law_obligations.specs.Cones.{first_elements, next_elements, cone}
@@ -57,10 +57,6 @@ use Rattle.smv_chosen_table.specs.Tables.{IsTable}
 use Rattle.smv_cone.specs.Searching.{HasLeast}
 
 -- ---- lists
-
-map-map : {X Y Z : Type 0} (g : Y → Z) (f : X → Y) (xs : List X) → map g (map f xs) ≡ map (λ x. g (f x)) xs
-map-map g f [] = refl
-map-map g f (x ∷ xs) = ap (λ zs. g (f x) ∷ zs) (map-map g f xs)
 
 units-are : (us : List Unit) (leaves : List Leaf) (choices : List Choice) → length leaves ≡ length us → length choices ≡ length us → map (λ entry. entry.unit) (entries_of us leaves choices) ≡ us
 units-are [] leaves choices l c = refl
@@ -223,12 +219,6 @@ same-place : (u : FlatUnit) → cases_faults.place_of_unit u ≡ place_of_unit u
 same-place (map_of def) = refl
 same-place (claim_of claim) = refl
 
-less : (m n : ℕ) → m < n → nat_lt m n ≡ true
-less m n l = grind (arith, nat_tests)
-
-not-less : (m n : ℕ) → n ≤ m → nat_lt m n ≡ false
-not-less m n l = grind (arith, nat_tests)
-
 -- ---- a case of a part
 
 module _ (p : Part) (h : IsPartOf p) where
@@ -336,10 +326,10 @@ module _ (p : Part) (h : IsPartOf p) where
   pub few-fault : bits_of_all (view.world_of p.view) (parts.cone_of p) ≤ 1024 → width_fault p.view.design.now p.leaf.now p.choice.now p.classes.now ≡ None
   few-fault l =
       let same = bits-are in
-      ap (λ (b : Bool). if b then Some (fault_at_unit 30 p.view.design.now p.leaf.now) else None) (not-less 1024 (bits_with p.view.design.now p.leaf.now p.choice.now p.classes.now) (omega (arith, same, l)))
+      ap (λ (b : Bool). if b then Some (fault_at_unit 30 p.view.design.now p.leaf.now) else None) (nat_lt-false 1024 (bits_with p.view.design.now p.leaf.now p.choice.now p.classes.now) (omega (arith, same, l)))
 
   pub many-fault : 1024 < bits_of_all (view.world_of p.view) (parts.cone_of p) → (f : Fault) → f ≡ cases_faults.fault_at_unit 30 p.view.design.now p.leaf.now → width_fault p.view.design.now p.leaf.now p.choice.now p.classes.now ≡ Some f
   many-fault l f e =
       let same = bits-are in
-      ap (λ (b : Bool). if b then Some (fault_at_unit 30 p.view.design.now p.leaf.now) else None) (less 1024 (bits_with p.view.design.now p.leaf.now p.choice.now p.classes.now) (omega (arith, same, l)))
+      ap (λ (b : Bool). if b then Some (fault_at_unit 30 p.view.design.now p.leaf.now) else None) (nat_lt-true 1024 (bits_with p.view.design.now p.leaf.now p.choice.now p.classes.now) (omega (arith, same, l)))
       ∙ ap Some (sym (e ∙ ap (λ (k : ℕ). record { number = 30; at = k }) (same-place (unit_in p.view.design.now (unwrap_or (slice_get (units_of p.view.design.now) p.leaf.now.unit) (unit.Claim 0))))))

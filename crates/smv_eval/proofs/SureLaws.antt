@@ -1,6 +1,7 @@
 -- The target of an element that would have a value, and the values that are sure.
 use Rattle.std.proofs.Common.{◌≡◌, ℕ, zero, suc, ◌+◌, ◌<◌, ◌≤◌, List, [], ◌∷◌, ◌++◌, map, length, drop, get_or, Bool, true, false, not, ◌&&◌, ◌||◌, if◌then◌else◌, refl, sym, ap, subst, ◌∙◌, inl, inr, Option, Some, None, arith}
 use Rattle.std.specs.List.{filter, slice_get, list_any}
+use Rattle.law_lists.proofs.Options.{some_is}
 use Rattle.smv_core.specs.FlatMeaning.{Numbered}
 use Rattle.smv_core.specs.declared.flat.Def.{Def}
 use Rattle.smv_core.specs.declared.flat.Element.{Element}
@@ -55,9 +56,6 @@ use Rattle.smv_eval.specs.Sure.{every_of, is_sure, sure_places, sure_values, at_
 -- what is offered of a place
 abbrev offer_at : Spot → Bool → Offer Bool
 offer_at spot b = record { outcome = Some spot; when = b }
-
-inner : {X : Type 0} {x y : X} → Some x ≡ Some y → x ≡ y
-inner e = cc
 
 -- ---- lists that are made one by one
 
@@ -117,7 +115,7 @@ module _ (w : World) (value : Spot) where
     where
       at : (b : Bool) → same_place p (place_in w.classes spot) ≡ b → (if b then Some (same_place (place_in w.classes spot) (place_in w.classes value)) else at_place w.classes (map (at_value w value) spots) p) ≡ Some c →
           (at_place w.classes (map (at_value w value) spots) p ≡ Some c → c ≡ same_place p (place_in w.classes value)) → c ≡ same_place p (place_in w.classes value)
-      at true is e others = sym (inner e) ∙ ap (λ q. same_place q (place_in w.classes value)) (sym (same_place-is p (place_in w.classes spot) is))
+      at true is e others = sym (some_is e) ∙ ap (λ q. same_place q (place_in w.classes value)) (sym (same_place-is p (place_in w.classes spot) is))
       at false is e others = others e
 
 -- the places of a family's type

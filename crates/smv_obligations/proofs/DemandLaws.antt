@@ -3,7 +3,8 @@ use Rattle.std.proofs.Common.{◌≡◌, ℕ, zero, suc, List, [], ◌∷◌, �
 use Rattle.std.specs.Prelude.{option_to_list}
 use Rattle.std.specs.List.{flat_map, zip}
 use Rattle.std.proofs.lemmas.List.{map-append}
-use Rattle.law_lists.proofs.Lists.{length_map}
+use Rattle.std.proofs.lemmas.List.Folds.{flat_map-map}
+use Rattle.law_lists.proofs.Lists.{length_map, map-flat_map, map-map, map-take, map-if}
 use Rattle.law_lists.proofs.Booleans.{same_tests}
 use Rattle.smv_core.specs.FlatMeaning.{Numbered}
 use Rattle.smv_core.specs.declared.flat.Simple.{Simple}
@@ -42,7 +43,6 @@ use Rattle.smv_elements.specs.Elements as elements
 use Rattle.smv_elements.proofs.Keys.{same-is, same-itself}
 use Rattle.smv_spots.specs.declared.spots.Spot.{Spot}
 use Rattle.smv_reads.specs.Views.{world_of, place_in, places}
-use Rattle.smv_reads.proofs.Lists.{map-flat_map, flat_map-map, map-map}
 use Rattle.smv_chosen.proofs.ClaimLaws.{claim-assumed}
 use Rattle.smv_cone.specs.declared.parts.Part.{Part}
 use Rattle.smv_cone.specs.Parts.{spots_in, outline_of, entry_of, params_of, cone_of, IsPartView, IsPartOf}
@@ -51,7 +51,7 @@ use Rattle.smv_cone.proofs.SearchLaws.{element-back, cone-of}
 use Rattle.smv_cone.proofs.Views as views
 use Rattle.smv_cone.proofs.Views.{part-view, part-least}
 use Rattle.smv_obligations.specs.Demands.{element_in, defined_in, spots_of, held_from, said, own_indexes, target_in, chosen_in, is_own, own_in, itself_in, element_in_turn, instances_in, claim_in_turn, demands_in}
-use Rattle.smv_obligations.proofs.Lists.{map-take, map-if, map-same, flat-same, each-changed}
+use Rattle.smv_obligations.proofs.Lists.{map-same, flat-same, each-changed}
 use Rattle.smv_obligations.proofs.SpotLaws.{spots-back, index-spots, take-spots}
 
 -- the entry of a unit

@@ -5,6 +5,8 @@ use Rattle.std.specs.List.{slice_get}
 use Rattle.std.proofs.Math.Seq.{take-length}
 use Rattle.std.proofs.lemmas.Bool.Decides.{nat_tests}
 use Rattle.std.proofs.lemmas.List.{take_more, length-take-le}
+use Rattle.std.proofs.lemmas.Option.{slice_get-get_or}
+use Rattle.law_lists.proofs.Options.{some_is}
 use Rattle.smv_core.specs.declared.flat.Design.{Design}
 use Rattle.smv_core.specs.declared.flat.Unit.{Unit}
 use Rattle.smv_core.specs.declared.flat.Unit.TheVariants.{Claim}
@@ -32,21 +34,13 @@ use Rattle.law_reports.proofs.Plans.{is_entry, told_is}
 use Rattle.smv_decide.specs.Leaves.{classes_in, AreCases}
 use Rattle.law_valid_texts.specs.Rooms.{HasRoom, IsWholePlan}
 
-some_is : {X : Type 0} {x y : X} → Some x ≡ Some y → x ≡ y
-some_is e = cc
-
-get_there : {X : Type 0} (xs : List X) (u : ℕ) (d : X) → u < length xs → slice_get xs u ≡ Some (get_or xs u d)
-get_there [] u d lt = absurd (omega arith)
-get_there (x ∷ xs) zero d lt = refl
-get_there (x ∷ xs) (suc u) d lt = get_there xs u d (omega arith)
-
 -- what stands at a place of a list that a slice shows
 pub part_at : {X : Type 0} (xs shown : List X) (u : ℕ) (x : X) → shown ≡ xs → u < length xs → x ≡ get_or shown u x → slice_get xs u ≡ Some x
-part_at {X} xs shown u x same lt is = get_there xs u x lt ∙ ap Some (sym (subst (λ (ys : List X). x ≡ get_or ys u x) same is))
+part_at {X} xs shown u x same lt is = slice_get-get_or xs u x lt ∙ ap Some (sym (subst (λ (ys : List X). x ≡ get_or ys u x) same is))
 
 -- what is copied from there
 pub copied_at : {X : Type 0} (xs shown : List X) (u : ℕ) (d : X) → shown ≡ xs → u < length xs → slice_get xs u ≡ Some (get_or shown u d)
-copied_at {X} xs shown u d same lt = get_there xs u d lt ∙ ap (λ (ys : List X). Some (get_or ys u d)) (sym same)
+copied_at {X} xs shown u d same lt = slice_get-get_or xs u d lt ∙ ap (λ (ys : List X). Some (get_or ys u d)) (sym same)
 
 -- ---- cases
 

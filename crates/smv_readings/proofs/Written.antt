@@ -6,6 +6,7 @@ use Rattle.std.specs.Str.{bytes_eq}
 use Rattle.std.proofs.lemmas.Slice.Eq.{bytes_eq-Decides}
 use Rattle.std.proofs.lemmas.List.Elements.{All-nil, All-cons}
 use Rattle.std.proofs.lemmas.Bool.{cases_Bool}
+use Rattle.std.proofs.lemmas.Option.{slice_get-map}
 use Rattle.smv_core.specs.Values.{Name, Value, number, constant, scalar, ordinal, scalarset, ordset, numbers_from}
 use Rattle.smv_core.specs.FlatMeaning.{set_type}
 use Rattle.smv_core.specs.declared.flat.Simple.{Simple}
@@ -82,11 +83,6 @@ lengths_at [] k = refl
 lengths_at (l ∷ lists) zero = refl
 lengths_at (l ∷ lists) (suc k) = lengths_at lists k
 
-get_map : {X Y : Type 0} (f : X → Y) (xs : List X) (k : ℕ) → slice_get (map f xs) k ≡ option_map f (slice_get xs k)
-get_map f [] k = refl
-get_map f (x ∷ xs) zero = refl
-get_map f (x ∷ xs) (suc k) = get_map f xs k
-
 module _ (w : World) (distinct : (names : List Name) → Has w.classes.enums names → AreDistinct names) where
   abbrev lists : List ℕ
   lists = map (λ (l : List Name). length l) w.classes.enums
@@ -115,11 +111,11 @@ module _ (w : World) (distinct : (names : List Name) → Has w.classes.enums nam
       by : (o : Option SetInfo) → slice_get w.classes.sets set ≡ o → map (written_place w.classes (kind_of (Set set))) (places_of w (set_type (slice_get w.classes.sets set))) ≡ values_beside (slice_get types set)
       by None e =
           ap (λ (o : Option SetInfo). map (written_place w.classes (kind_of (Set set))) (places_of w (set_type o))) e
-          ∙ sym (ap values_beside (get_map (written_type w) w.classes.sets set ∙ ap (option_map (written_type w)) e))
+          ∙ sym (ap values_beside (slice_get-map (written_type w) w.classes.sets set ∙ ap (option_map (written_type w)) e))
       by (Some info) e =
           ap (λ (o : Option SetInfo). map (written_place w.classes (kind_of (Set set))) (places_of w (set_type o))) e
           ∙ set_written set info
-          ∙ sym (ap values_beside (get_map (written_type w) w.classes.sets set ∙ ap (option_map (written_type w)) e))
+          ∙ sym (ap values_beside (slice_get-map (written_type w) w.classes.sets set ∙ ap (option_map (written_type w)) e))
 
   -- the value of a code, written
   value_written : (o : Option Family) (code : ℕ) → value_of (values_for lists types o) code ≡ written_place w.classes (kind_in o) (value_of_code (codes.values_in w o) code)
