@@ -13,25 +13,19 @@ use Rattle.smv_core.specs.declared.flat.Class.TheVariants.{Number, Named, Rest}
 use Rattle.smv_core.specs.declared.abstract_type.Rest.TheVariants as beside
 use Rattle.law_obligations.specs.Sets.{Has, first, later, one_of_each}
 use Rattle.law_obligations.specs.Places.{rests_beside}
-use Rattle.law_obligations.specs.Placings.{place_in}
 use Rattle.law_obligations.specs.Cases.{Treatment, whole, reduced, ordered, Parameter, used, grow, fill, are_below, is_set, those_of, named_among, are_named, abstract_type, is_of, is_orderly, listed_classes, unlisted_classes, type_in, is_allowed, candidates, numbered, cases}
 use Rattle.law_obligations.proofs.Members.{Has-right, Has-uncons, any-found, any-some, all-each, all-holds}
 use Rattle.law_obligations.proofs.Same.{nat_eq-itself}
 use Rattle.law_obligations.proofs.Spots.{Has-numbers, numbers-Has}
 use Rattle.law_obligations.proofs.OneOfEach.{get_Has}
-use Rattle.law_obligations.proofs.CasesCover.{none_of_either}
-use Rattle.law_obligations.proofs.CoverLists.{no_fewer}
+use Rattle.law_obligations.proofs.CoverLists.{no_fewer, missing}
 use Rattle.law_obligations.proofs.CoverNames.{numbered-at, numbered-Has}
+use Rattle.law_obligations.proofs.CasePlaces.{few_named}
+use Rattle.law_obligations.proofs.CoverParams.{is_set-is}
 use Rattle.smv_cases.specs.Growing.{counts, counted, widest, is_within, may_follow, may_stand_in, may_stand_at, keeps_in, keeps_at, keeps_all, grown}
 use Rattle.smv_cases.proofs.Lists.{filter-same, filter-none, kept-flat_map}
 
 -- ---- named classes
-
-few_named : (classes : List Class) → length (named_among classes) ≤ length classes
-few_named [] = omega arith
-few_named (Named c ∷ classes) = let l = few_named classes in omega (arith, l)
-few_named (Number k ∷ classes) = let l = few_named classes in omega (arith, l)
-few_named (Rest g ∷ classes) = let l = few_named classes in omega (arith, l)
 
 IsNamed : Class → Type 0
 IsNamed c = (k : ℕ) × (c ≡ Named k)
@@ -68,14 +62,6 @@ grow-used m (x ∷ xs) e =
     let here = at_most m x (left_of (nat_le x m) _ e) in
     let l = grow-used (max m (suc x)) xs (right_of (nat_le x m) _ e) in
     omega (arith, here, l)
-
-missing : (v : ℕ) (xs : List ℕ) → place_in v xs ≡ None → Has xs v → ⊥
-missing v [] e h = elim h [ ]
-missing v (x ∷ xs) e first = absurd (clash (nat_eq-itself v) (none_of_either (nat_eq v v) (place_in v xs) e).0)
-  where
-    clash : {b : Bool} → b ≡ true → b ≡ false → ⊥
-    clash p q = cc
-missing v (x ∷ xs) e (later h) = missing v xs (none_of_either (nat_eq v x) (place_in v xs) e).1 h
 
 -- so do those of which none is left out
 fill-used : (xs : List ℕ) → fill xs ≡ true → used xs ≤ length xs
@@ -267,11 +253,6 @@ nothing-allowed ordered set ps classes none = rw (those-empty (λ l. l) set ps c
 
 -- ---- both lists
 
-set_is : (set : ℕ) (over : Simple) → is_set set over ≡ true → over ≡ Set set
-set_is set (Range low high) e = absurd (cc)
-set_is set (Enum list) e = absurd (cc)
-set_is set (Set other) e = ap Set (nat_eq-is other set e)
-
 -- a test that some passes or none
 some_or_none : {X : Type 0} (f : X → Bool) (xs : List X) → ((x : X) × Has xs x × (f x ≡ true)) ⊎ ((x : X) → Has xs x → f x ≡ false)
 some_or_none f [] = inr (λ x h. elim h [ ])
@@ -295,7 +276,7 @@ module _ (treatments : List Treatment) (params : List Parameter) where
       let r = numbered-Has 0 treatments x h in
       let there : slice_get treatments x.0 ≡ Some x.1 = (let i = r.1 in subst (λ k. slice_get treatments k ≡ Some x.1) (omega (arith, i)) r.2) in
       elim (some_or_none (λ (p : Parameter). is_set x.0 p.over) params) [
-        | inl q ↦ ap (λ o. keeps_in treatments params o x.0 classes) (sym there) ∙ (ap (keeps_at treatments params classes) (sym (set_is x.0 q.0.over q.2)) ∙ all-each (λ (p : Parameter). keeps_at treatments params classes p.over) e q.1)
+        | inl q ↦ ap (λ o. keeps_in treatments params o x.0 classes) (sym there) ∙ (ap (keeps_at treatments params classes) (sym (is_set-is x.0 q.0.over q.2)) ∙ all-each (λ (p : Parameter). keeps_at treatments params classes p.over) e q.1)
         | inr none ↦ nothing-allowed x.1 x.0 params classes none
       ]
 

@@ -17,7 +17,7 @@ use Rattle.law_lists.proofs.Options.{some_is}
 use Rattle.smv_core.specs.declared.flat.Case.{Case}
 use Rattle.smv_core.specs.declared.flat.Param.{Param}
 use Rattle.law_obligations.specs.LeafCases as leaf
-use Rattle.law_obligations.specs.LeafCases.{leaf_cases, kept_of, treatment_of, treatments_of}
+use Rattle.law_obligations.specs.LeafCases.{leaf_cases, treatment_of, treatments_of}
 use Rattle.law_obligations.proofs.Members.{Has-cases, Has-uncons}
 use Rattle.smv_cases.specs.declared.slots.Treatment.{Treatment}
 use Rattle.smv_cases.specs.declared.slots.Slot.{Slot}
@@ -66,13 +66,6 @@ module _ (treatments : List spec.Treatment) (slots : List Slot) where
 
   pub slots_grow : AreSlots treatments slots → cases treatments (parameters_of slots) ≡ grown_of slots [] slots
   slots_grow are = cases_grow treatments (parameters_of slots) ∙ sym (grows_same are slots are [])
-
--- how the set type at a place is treated
-pub treatment_found : (keeps : List Keep) (k i j : ℕ) (sets : List SetInfo) (info : SetInfo) → i ≡ k + j → slice_get sets j ≡ Some info → slice_get (treatments_of keeps k sets) j ≡ Some (treatment_of info.ordered info.size (kept_of keeps i))
-treatment_found keeps k i j [] info e g = absurd (cc)
-treatment_found keeps k i zero (x ∷ sets) info e g = let same : k ≡ i = omega arith in
-    ap (λ (n : ℕ). Some (treatment_of x.ordered x.size (kept_of keeps n))) same ∙ ap (λ (y : SetInfo). Some (treatment_of y.ordered y.size (kept_of keeps i))) (some_is g)
-treatment_found keeps k i (suc j) (x ∷ sets) info e g = treatment_found keeps (k + 1) i j sets info (omega arith) g
 
 pub treatment_none : (keeps : List Keep) (k j : ℕ) (sets : List SetInfo) → slice_get sets j ≡ None → slice_get (treatments_of keeps k sets) j ≡ None
 treatment_none keeps k j [] e = refl

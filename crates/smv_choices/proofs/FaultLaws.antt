@@ -8,7 +8,6 @@ use Rattle.std.proofs.lemmas.List.{append-nil, map-append}
 use Rattle.std.proofs.lemmas.Slice.Eq.{bytes_eq-Decides}
 use Rattle.law_lists.proofs.Lists.{append_same, flat_map_agree}
 use Rattle.smv_core.specs.Values.{Name}
-use Rattle.smv_core.specs.declared.fault.Fault.{Fault}
 use Rattle.smv_core.specs.declared.tree.Word.{Word}
 use Rattle.smv_core.specs.declared.tree.Ref.{Ref}
 use Rattle.smv_core.specs.declared.tree.Use.{Use}
@@ -25,9 +24,9 @@ use Rattle.law_obligations.specs.Cases.{is_set}
 use Rattle.smv_mentions.specs.NameFaults.{place_if}
 use Rattle.smv_mentions.specs.Scopes.{first_of_places}
 use Rattle.smv_mentions.specs.FirstFault.{first_of, faults_at}
-use Rattle.smv_scope.specs.ScopeFault.{least, fault_at, earlier_of}
+use Rattle.smv_scope.specs.ScopeFault.{least}
 use Rattle.smv_scope.proofs.LeastLaws.{first-none, first-assoc, least-append}
-use Rattle.smv_scope.proofs.FirstLaws.{first-both, first-at}
+use Rattle.smv_scope.proofs.FirstLaws.{two, one}
 use Rattle.law_designs.specs.WholeText.{is_one_layer}
 use Rattle.law_obligations.specs.Units.{units_of}
 use Rattle.law_obligations.proofs.Lookups.{find-some}
@@ -447,13 +446,6 @@ module _ (d : Design) (leaves : List Leaf) where
       ∙ sym (least-append (a ++ b) c)
 
 -- ---- the first of all
-
-two : (n : ℕ) (places : List ℕ) (o : Option ℕ) (rest : List Fault) (after : Option Fault) → o ≡ least places → after ≡ first_of rest → earlier_of (fault_at n o) after ≡ first_of (faults_at (n, places) ++ rest)
-two n places o rest after at is =
-    ap (λ p. earlier_of (fault_at n p) after) at ∙ ap (earlier_of (fault_at n (least places))) is ∙ ap (λ f. earlier_of f (first_of rest)) (sym (first-at n places)) ∙ sym (first-both (faults_at (n, places)) rest)
-
-one : (n : ℕ) (places : List ℕ) (o : Option ℕ) → o ≡ least places → fault_at n o ≡ first_of (faults_at (n, places) ++ [])
-one n places o at = ap (fault_at n) at ∙ sym (first-at n places) ∙ ap first_of (sym (append-nil (faults_at (n, places))))
 
 module _ (d : Design) (units : List FlatUnit) (leaves : List Leaf) where
   unknown-one : (using' : FlatUsing) → unknown_in (reading_in d leaves using') ≡ least (spec.unknown_uses d using' ++ spec.unknown_leaves leaves using')

@@ -24,9 +24,11 @@ use Rattle.law_obligations.proofs.Members.{Has-left, Has-right, Has-cases, Has-m
 use Rattle.law_obligations.proofs.Spots.{Has-numbers, numbers-Has}
 use Rattle.law_obligations.proofs.OneOfEach.{get_Has}
 use Rattle.law_obligations.specs.Cones.{AbsElement, element, same_places, same_element}
-use Rattle.law_obligations.proofs.ConeFacts.{same_element-itself, same_element-family, same_element-indexes}
+use Rattle.law_obligations.proofs.ConeFacts.{same_element-itself}
 use Rattle.law_designs.specs.FlatKinds.{kind_of}
 use Rattle.law_obligations.specs.Readings.{PosedCase}
+use Rattle.law_obligations.proofs.LeastCones.{same_element-is}
+use Rattle.law_obligations.proofs.CoverParams.{map-same}
 use Rattle.smv_spots.specs.Spots.{place_in, outcome_in, classes_of, rests_of, count_beside}
 use Rattle.smv_spots.proofs.TypeLaws.{numbers_beside}
 use Rattle.smv_problem.specs.declared.problem.AbsValue.{AbsValue}
@@ -108,15 +110,8 @@ module _ (p : Problem) where
 
 -- ---- lists of elements
 
-map_same : {X Y : Type 0} (f g : X → Y) (xs : List X) → ((x : X) → Has xs x → f x ≡ g x) → map f xs ≡ map g xs
-map_same f g [] e = refl
-map_same f g (x ∷ xs) e = ap (λ y. y ∷ map f xs) (e x first) ∙ ap (λ ys. g x ∷ ys) (map_same f g xs (λ y h. e y (later h)))
-
-same_is : (x y : AbsElement) → same_element x y ≡ true → x ≡ y
-same_is x y e = ap (λ (k : ℕ). element k x.indexes) (same_element-family x y e) ∙ ap (element y.family) (same_element-indexes x y e)
-
 turned : (x y : AbsElement) → same_element x y ≡ same_element y x
-turned x y = same_tests (same_element x y) (same_element y x) (λ e. subst (λ z. same_element z x ≡ true) (same_is x y e) (same_element-itself x)) (λ e. subst (λ z. same_element z y ≡ true) (same_is y x e) (same_element-itself y))
+turned x y = same_tests (same_element x y) (same_element y x) (λ e. subst (λ z. same_element z x ≡ true) (same_element-is x y e) (same_element-itself x)) (λ e. subst (λ z. same_element z y ≡ true) (same_element-is y x e) (same_element-itself y))
 
 or_none : (b : Bool) → (b || false) ≡ b
 or_none true = refl
@@ -216,7 +211,7 @@ module _ (c : PosedCase) (well : IsWellFormed c) (p : Problem) (is : p ≡ writt
 
       own : same_element y x ≡ true → Has (places_in w f.value) (placed x v)
       own s =
-          let same : t.f ≡ f = some_is (sym t.is_family ∙ (ap (λ (z : AbsElement). slice_get n.families z.family) (sym (same_is y x s)) ∙ is)) in
+          let same : t.f ≡ f = some_is (sym t.is_family ∙ (ap (λ (z : AbsElement). slice_get n.families z.family) (sym (same_element-is y x s)) ∙ is)) in
           subst (λ (f : Family). Has (places_in w f.value) (placed x v)) same (place_of_value x t v (left_of (is_value p (type_of (slice_get p.families x.family)) v) (are_values p (map written_element xs) values) e)).is_one
 
       at : (b : Bool) → same_element y x ≡ b → (b || list_any (same_element y) xs) ≡ true → (list_any (same_element y) xs ≡ true → Has (places_in w f.value) (place_for xs values y)) →
@@ -241,7 +236,7 @@ module _ (c : PosedCase) (well : IsWellFormed c) (p : Problem) (is : p ≡ writt
   values_back (x ∷ xs) (v ∷ values) all apart e =
       ap (λ u. u ∷ map (λ y. written_place n (kind_in (slice_get n.families y.family)) (place_for (x ∷ xs) (v ∷ values) y)) xs) own
       ∙ ap (λ us. v ∷ us)
-      (map_same (λ y. written_place n (kind_in (slice_get n.families y.family)) (place_for (x ∷ xs) (v ∷ values) y)) (λ y. written_place n (kind_in (slice_get n.families y.family)) (place_for xs values y)) xs other
+      (map-same (λ y. written_place n (kind_in (slice_get n.families y.family)) (place_for (x ∷ xs) (v ∷ values) y)) (λ y. written_place n (kind_in (slice_get n.families y.family)) (place_for xs values y)) xs other
       ∙ values_back xs values (λ z h. all z (later h)) apart.1 (right_of (is_value p (type_of (slice_get p.families x.family)) v) (are_values p (map written_element xs) values) e))
     where
       own : written_place n (kind_in (slice_get n.families x.family)) (if same_element x x then placed x v else place_for xs values x) ≡ v
@@ -251,7 +246,7 @@ module _ (c : PosedCase) (well : IsWellFormed c) (p : Problem) (is : p ≡ writt
 
       other : (y : AbsElement) → Has xs y → written_place n (kind_in (slice_get n.families y.family)) (if same_element y x then placed x v else place_for xs values y) ≡ written_place n (kind_in (slice_get n.families y.family)) (place_for xs values y)
       other y h = elim (cases_Bool (same_element y x)) [
-        | inl s ↦ absurd (apart.0 y h (sym (same_is y x s)))
+        | inl s ↦ absurd (apart.0 y h (sym (same_element-is y x s)))
         | inr s ↦ ap (λ b. written_place n (kind_in (slice_get n.families y.family)) (if b then placed x v else place_for xs values y)) s
       ]
 

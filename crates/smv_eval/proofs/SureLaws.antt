@@ -48,6 +48,7 @@ use Rattle.smv_eval.proofs.ValueLaws.{kind_list, set_answered}
 use Rattle.smv_walks.specs.Demands.{IsDemand, AreOldMade}
 use Rattle.smv_walks.specs.Demands as demands
 use Rattle.smv_walks.specs.Given.{IsGivenAt, IsTargets, IsWritten, aim_at}
+use Rattle.smv_walks.proofs.DemandLaws.{written_inner}
 use Rattle.smv_eval.specs.Held.{steady, AreReadBy, IsKept}
 use Rattle.smv_eval.proofs.HeldLaws.{steady_at}
 use Rattle.smv_eval.proofs.StateHeld.{fit_kept}
@@ -259,9 +260,6 @@ values_said problem old cells element init next comb every sliced offers given l
 abbrev pub AreSureBy : Problem → Option (List (Cell Bool)) → List (Cell Bool) → Demand → List AbsValue → Type 0
 AreSureBy problem old cells demand values = OfCases problem (λ c. (before : Option AbsState) (now : AbsState) → AreReadBy problem old cells c.problem before now → (def : Def) (indexes : List Place) → demand ≡ written_demand c.problem.world.classes (defined def indexes) →
     IsFit c (defined def indexes) → IsKept c.problem (defined def indexes) → IsSetOf (sure_values c.problem def indexes before now) values)
-
-written_inner : {element other : Element} {a b c d e f : DefBody} → Defined element a b c ≡ Defined other d e f → (element ≡ other) × (a ≡ d) × (b ≡ e) × (c ≡ f)
-written_inner e = (cc, cc, cc, cc)
 
 pub definition_said : (problem : Problem) (old : Option (List (Cell Bool))) (cells : List (Cell Bool)) (demand : Demand) (element : Element) (init next comb : DefBody) (values : List AbsValue) → demand ≡ Defined element init next comb →
     OfCases problem (λ c. (before : Option AbsState) (now : AbsState) → AreReadBy problem old cells c.problem before now → (def : Def) (indexes : List Place) → IsDemand c.problem (defined def indexes) → IsWritten element init next comb c.problem def indexes (λ a. now) → IsSetOf (sure_values c.problem def indexes before now) values) →

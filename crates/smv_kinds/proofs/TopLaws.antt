@@ -1,6 +1,6 @@
 -- The faults of a text's tops, one after the other, and the first of them.
-use Rattle.std.proofs.Common.{◌≡◌, ℕ, zero, suc, ◌+◌, List, [], ◌∷◌, ◌++◌, take, drop, refl, ap, sym, ◌∙◌, add-one}
-use Rattle.std.specs.Prelude.{Option, Some, None, slice_get}
+use Rattle.std.proofs.Common.{◌≡◌, ℕ, zero, suc, ◌+◌, List, [], ◌∷◌, ◌++◌, take, drop, ap, sym, ◌∙◌, add-one}
+use Rattle.std.specs.Prelude.{Option, Some, slice_get}
 use Rattle.std.specs.List.{flat_map}
 use Rattle.std.proofs.lemmas.List.{append_assoc}
 use Rattle.law_lists.proofs.Places.{drop_got}
@@ -14,7 +14,7 @@ use Rattle.smv_core.specs.declared.tree.Top.TheVariants.{Alias, Module as Module
 use Rattle.smv_mentions.specs.Scopes.{Constant, pieces, constants}
 use Rattle.smv_mentions.specs.FirstFault.{first_of}
 use Rattle.smv_scope.specs.ScopeFault.{earlier_of}
-use Rattle.smv_scope.proofs.FirstLaws.{earlier-assoc}
+use Rattle.smv_scope.proofs.FirstLaws.{earlier-assoc, earlier-none}
 use Rattle.law_designs.specs.Types.{Types, types_after, type_faults}
 use Rattle.law_designs.specs.References.{Module, modules_from}
 use Rattle.law_designs.specs.KindFaults.{in_item, in_top, in_tops}
@@ -58,10 +58,6 @@ tops-step modules known tops i top before after all got is so_far = rw add-one
     ∙ so_far)
 
 -- ---- the first of some faults
-
-pub earlier-none : (f : Option Fault) → earlier_of f None ≡ f
-earlier-none None = refl
-earlier-none (Some f) = refl
 
 pub earlier-step : (found : Option Fault) (f : Fault) (faults : List Fault) → earlier_of (earlier_of found (Some f)) (first_of faults) ≡ earlier_of found (first_of (f ∷ faults))
 earlier-step found f faults = earlier-assoc found (Some f) (first_of faults)

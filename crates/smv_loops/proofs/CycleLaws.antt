@@ -1,17 +1,16 @@
 -- Ranks of numbered cells say whether edges hold a cycle.
-use Rattle.std.proofs.Common.{◌≡◌, ℕ, ◌<◌, inl, inr, List, [], ◌∷◌, ◌++◌, map, filter, length, slice_get, Option, Some, None, Bool, true, false, ◌&&◌, nat_eq, refl, sym, ap, ◌∙◌, arith}
+use Rattle.std.proofs.Common.{◌≡◌, ℕ, ◌<◌, inl, inr, List, [], ◌∷◌, ◌++◌, map, filter, length, slice_get, Some, Bool, true, false, ◌&&◌, nat_eq, refl, sym, ap, ◌∙◌, arith}
 use Rattle.std.specs.List.{flat_map}
 use Rattle.std.proofs.lemmas.Option.{slice_get_within}
 use Rattle.law_lists.proofs.Booleans.{and_both}
 use Rattle.law_lists.proofs.Options.{some_is}
 use Rattle.smv_core.specs.declared.flat.Cell.{Cell}
 use Rattle.smv_core.specs.declared.flat.Family.{Family}
-use Rattle.law_designs.specs.WholeText.{is_one_layer}
 use Rattle.law_designs.specs.Reading.{Reading}
-use Rattle.law_designs.specs.Loops.{Edge, same_indexes, same_cell, leads_on, hold_a_cycle}
+use Rattle.law_designs.specs.Loops.{Edge, same_cell, leads_on, hold_a_cycle}
 use Rattle.law_designs.specs.LoopLaws.{AreFalling}
 use Rattle.law_designs.proofs.Cycles.{none_is_missed}
-use Rattle.law_designs.proofs.Orders.{order}
+use Rattle.law_designs.proofs.Orders.{order, indexes_themselves}
 use Rattle.law_designs.proofs.Descents.{no_cycle}
 use Rattle.smv_loops.specs.Ranks.{rank}
 use Rattle.smv_loops.specs.Cells.{number_in, froms, tos}
@@ -47,14 +46,6 @@ zero-is n e = grind arith
 
 itself : (n : ℕ) → nat_eq n n ≡ true
 itself n = search arith
-
-one_itself : (i : Option ℕ) → is_one_layer i i ≡ true
-one_itself None = refl
-one_itself (Some k) = itself k
-
-indexes_themselves : (is : List (Option ℕ)) → same_indexes is is ≡ true
-indexes_themselves [] = refl
-indexes_themselves (i ∷ is) = and_both (one_itself i) (indexes_themselves is)
 
 cell_itself : (c : Cell) → same_cell c c ≡ true
 cell_itself c = and_both (itself c.family) (indexes_themselves c.indexes)

@@ -8,11 +8,6 @@ use Rattle.law_lists.proofs.Lists.{map-flat_map, flat_map_alike, map-map}
 use Rattle.law_lists.proofs.Places.{drop_past}
 use Rattle.law_obligations.specs.Sets.{Has, first, later, one_of_each}
 
--- so far as members are concerned
-pub map-same : {X Y : Type 0} (f g : X → Y) (xs : List X) → ((x : X) → Has xs x → f x ≡ g x) → map f xs ≡ map g xs
-map-same f g [] each = refl
-map-same f g (x ∷ xs) each = ap (λ y. y ∷ map f xs) (each x first) ∙ ap (λ ys. g x ∷ ys) (map-same f g xs (λ y m. each y (later m)))
-
 pub flat-same : {X Y : Type 0} (f g : X → List Y) (xs : List X) → ((x : X) → Has xs x → f x ≡ g x) → flat_map f xs ≡ flat_map g xs
 flat-same f g [] each = refl
 flat-same f g (x ∷ xs) each = ap (λ ys. ys ++ flat_map f xs) (each x first) ∙ ap (λ ys. g x ++ ys) (flat-same f g xs (λ y m. each y (later m)))

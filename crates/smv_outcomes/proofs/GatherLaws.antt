@@ -26,6 +26,8 @@ use Rattle.smv_cells.specs.declared.cells.Cell.{Cell}
 use Rattle.smv_cells.specs.Cells.{AreCellsMade}
 use Rattle.smv_cells.specs.Seen.{View, IsSeen, outcomes}
 use Rattle.smv_outcome_lists.specs.Lists.{AreListsMade}
+use Rattle.smv_outcome_lists.proofs.CombinedLaws.{chances_kept}
+use Rattle.smv_outcome_lists.proofs.ListLaws.{made_after}
 use Rattle.smv_free_variables.specs.declared.known.Entry.{Entry}
 use Rattle.smv_outcomes.specs.Remembered.{AreKnown}
 use Rattle.smv_outcomes.specs.Outcomes.{mix_in, member_in, AreOffersOf, IsTruthOf, AreTruthsOf, AreTruthsAlong, AreListsOf, AreMembersOf, AddsMember, IsSumOf}
@@ -48,10 +50,6 @@ one_more f g h each longer x y all rest more e d same before here =
     ∙ (ap (λ z. map g each ++ z ∷ map h more) here
     ∙ (ap (λ l. l ++ map h (y ∷ more)) same ∙ (ap (λ l. map f each ++ map h l) (sym e) ∙ before)))))
 
-pub chances_kept : {S C : Type 0} (IsMade : S → C → Type 0) (holds : S → C → (ℕ → Bool) → Bool) (room : S → ℕ) (s t : S) (xs : List (Chances C)) → KeepsConditions IsMade holds room s t → AllMade (IsMade s) xs → AllMade (IsMade t) xs
-chances_kept IsMade holds room s t [] k m = tt
-chances_kept IsMade holds room s t (x ∷ xs) k m = (record { no = k.made x.no m.0.no; yes = k.made x.yes m.0.yes; neither = k.made x.neither m.0.neither }, chances_kept IsMade holds room s t xs k m.1)
-
 pub chances_shown : {S C : Type 0} (IsMade : S → C → Type 0) (holds : S → C → (ℕ → Bool) → Bool) (room : S → ℕ) (s t : S) (xs shown : List (Chances C)) → shown ≡ xs → KeepsConditions IsMade holds room s t → AllMade (IsMade s) xs → AllMade (IsMade t) shown
 chances_shown IsMade holds room s t xs shown e k m = subst (AllMade (IsMade t)) (sym e) (chances_kept IsMade holds room s t xs k m)
 
@@ -62,12 +60,8 @@ chances_after IsMade (y ∷ xs) x m n = (m.0, chances_after IsMade xs x m.1 n)
 pub chances_pushed : {C : Type 0} (IsMade : C → Type 0) (old new : List (Chances C)) (x : Chances C) → new ≡ old ++ x ∷ [] → AllMade IsMade old → AreMade IsMade x → AllMade IsMade new
 chances_pushed IsMade old new x e m n = subst (AllMade IsMade) (sym e) (chances_after IsMade old x m n)
 
-lists_after : {C : Type 0} (IsMade : C → Type 0) (uss : List (List (Offer C))) (us : List (Offer C)) → AreListsMade IsMade uss → AreOffersMade IsMade us → AreListsMade IsMade (uss ++ us ∷ [])
-lists_after IsMade [] us m n = (n, tt)
-lists_after IsMade (vs ∷ uss) us m n = (m.0, lists_after IsMade uss us m.1 n)
-
 pub lists_pushed : {C : Type 0} (IsMade : C → Type 0) (old new : List (List (Offer C))) (us : List (Offer C)) → new ≡ old ++ us ∷ [] → AreListsMade IsMade old → AreOffersMade IsMade us → AreListsMade IsMade new
-lists_pushed IsMade old new us e m n = subst (AreListsMade IsMade) (sym e) (lists_after IsMade old us m n)
+lists_pushed IsMade old new us e m n = subst (AreListsMade IsMade) (sym e) (made_after IsMade old us m n)
 
 module _ {S C : Type 0} (holds : S → C → (ℕ → Bool) → Bool) (s : S) (v : View) where
   pub truths_begin : (b : List Spot) (all rest : List FlatExpr) (each : List (Chances C)) → rest ≡ all → each ≡ [] → AreTruthsOf holds s v b all rest each

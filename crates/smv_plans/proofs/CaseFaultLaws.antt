@@ -8,17 +8,13 @@ use Rattle.smv_core.specs.declared.flat.Leaf.{Leaf}
 use Rattle.smv_core.specs.declared.flat.Choice.{Choice}
 use Rattle.smv_mentions.specs.FirstFault.{first_of}
 use Rattle.smv_scope.specs.ScopeFault.{earlier_of}
-use Rattle.smv_scope.proofs.FirstLaws.{first-both, earlier-assoc}
+use Rattle.smv_scope.proofs.FirstLaws.{first-both, earlier-assoc, earlier-none}
 use Rattle.smv_cases.specs.Faults.{cases_fault}
 use Rattle.smv_plans.specs.Plans.{faults_of_cases}
 
 first-one : (f : Option Fault) → first_of (option_to_list f) ≡ f
 first-one None = refl
 first-one (Some f) = refl
-
-none-after : (f : Option Fault) → earlier_of f None ≡ f
-none-after None = refl
-none-after (Some f) = refl
 
 -- one leaf more
 pub case-step : (d : Design) (found fault : Option Fault) (leaf : Leaf) (choice : Choice) (leaves : List Leaf) (choices : List Choice) → fault ≡ cases_fault d leaf choice
@@ -43,4 +39,4 @@ module _ (d : Design) (leaves : List Leaf) (choices : List Choice) where
 
   pub none-left : (n : ℕ) (found whole : Option Fault) → length leaves ≤ n → earlier_of found (left n) ≡ whole → found ≡ whole
   none-left n found whole past so_far =
-      sym (none-after found) ∙ ap (λ l. earlier_of found (first_of (faults_of_cases d l (drop n choices)))) (sym (drop_past leaves n past)) ∙ so_far
+      sym (earlier-none found) ∙ ap (λ l. earlier_of found (first_of (faults_of_cases d l (drop n choices)))) (sym (drop_past leaves n past)) ∙ so_far

@@ -12,7 +12,7 @@ use Rattle.smv_core.specs.declared.flat.Choice.{Choice}
 use Rattle.law_obligations.specs.Sets.{Has, first, later}
 use Rattle.smv_mentions.specs.FirstFault.{first_of}
 use Rattle.smv_scope.specs.ScopeFault.{earlier_of}
-use Rattle.smv_scope.proofs.FirstLaws.{first-both, earlier-assoc}
+use Rattle.smv_scope.proofs.FirstLaws.{first-both, earlier-assoc, earlier-none}
 use Rattle.smv_cases.specs.Slots.{classes_of}
 use Rattle.law_problems.specs.Parts.{IsPart, IsCaseOf, cases_fault, width_fault}
 use Rattle.smv_read_design.specs.Widths.{faults_in, leaf_faults, faults_of_widths, AreParts}
@@ -20,10 +20,6 @@ use Rattle.smv_read_design.specs.Widths.{faults_in, leaf_faults, faults_of_width
 first_one : (f : Option Fault) → first_of (option_to_list f) ≡ f
 first_one None = refl
 first_one (Some f) = refl
-
-none_after : (f : Option Fault) → earlier_of f None ≡ f
-none_after None = refl
-none_after (Some f) = refl
 
 -- one part more, in front of others
 part_first : {A : Type 0} (of : A → List Fault) (x : A) (xs : List A) (found fault : Option Fault) → fault ≡ first_of (of x) →
@@ -48,7 +44,7 @@ module _ (d : Design) (leaf : Leaf) (choice : Choice) (cases : List Case) where
       ∙ ap (λ l. earlier_of found (first_of (faults_in d leaf choice (classes_of l)))) (sym (drop_read cases n case within is)) ∙ so_far
 
   pub cases_end : (n : ℕ) (found whole : Option Fault) → length cases ≤ n → earlier_of found (cases_from n) ≡ whole → found ≡ whole
-  cases_end n found whole past so_far = sym (none_after found) ∙ ap (λ l. earlier_of found (first_of (faults_in d leaf choice (classes_of l)))) (sym (drop_past cases n past)) ∙ so_far
+  cases_end n found whole past so_far = sym (earlier-none found) ∙ ap (λ l. earlier_of found (first_of (faults_in d leaf choice (classes_of l)))) (sym (drop_past cases n past)) ∙ so_far
 
 pub case_there : (cases : List Case) (n : ℕ) (case : Case) → n < length cases → case ≡ get_or cases n case → Has (classes_of cases) case.classes
 case_there [] n case within is = absurd (omega (arith, within))
@@ -73,7 +69,7 @@ module _ (d : Design) (leaves : List Leaf) (choices : List Choice) where
 
   pub leaves_end : (n : ℕ) (found whole : Option Fault) → length leaves ≤ n → earlier_of found (leaves_from n) ≡ whole → found ≡ whole
   leaves_end n found whole past so_far =
-      sym (none_after found) ∙ ap (λ l. earlier_of found (first_of (faults_of_widths d l (drop n choices)))) (sym (drop_past leaves n past)) ∙ so_far
+      sym (earlier-none found) ∙ ap (λ l. earlier_of found (first_of (faults_of_widths d l (drop n choices)))) (sym (drop_past leaves n past)) ∙ so_far
 
 -- a leaf at a place is one that the calls take, and has not too many cases
 pub part_there : (d : Design) (leaves : List Leaf) (choices : List Choice) → AreParts d leaves choices → (n : ℕ) (leaf : Leaf) (choice : Choice) → n < length leaves → n < length choices → leaf ≡ get_or leaves n leaf → choice ≡ get_or choices n choice

@@ -19,13 +19,14 @@ use Rattle.law_obligations.specs.Places.{Place, named, rest, World, rests_beside
 use Rattle.law_obligations.specs.May.{AbsState}
 use Rattle.law_obligations.specs.Outlines.{place_of}
 use Rattle.law_obligations.specs.Cones.{AbsElement, element, same_element}
-use Rattle.law_obligations.proofs.ConeFacts.{same_element-itself, same_element-family, same_element-indexes}
+use Rattle.law_obligations.proofs.ConeFacts.{same_element-itself}
 use Rattle.law_designs.specs.FlatKinds.{kind_of}
 use Rattle.law_obligations.specs.Bits.{Bits}
 use Rattle.law_obligations.specs.Codes.{bits_for, code_from, value_of_code}
 use Rattle.law_obligations.specs.Readings.{PosedCase, Slot, bits_of, code_of, slots_from, state_bits, reading}
 use Rattle.law_obligations.specs.Readings as codes
 use Rattle.law_obligations.proofs.ReadBack.{slot_element, reads_slot}
+use Rattle.law_obligations.proofs.LeastCones.{same_element-is}
 use Rattle.smv_problem.specs.Written.{written, written_element, written_type, written_place, written_state, kind_in}
 use Rattle.smv_problem.specs.WellFormed.{AreDistinct, AreApartElements, IsWellFormed, IsProblem, OfCases}
 use Rattle.smv_problem.specs.declared.problem.AbsValue.{AbsValue}
@@ -145,15 +146,12 @@ module _ (w : World) (distinct : (names : List Name) → Has w.classes.enums nam
 
 -- ---- each element is found at its own slot
 
-same_is : (x y : AbsElement) → same_element x y ≡ true → x ≡ y
-same_is x y e = λ i. record { family = same_element-family x y e i; indexes = same_element-indexes x y e i }
-
 pub slot_found : (w : World) (b : ℕ) (xs : List AbsElement) → AreApartElements xs → (slot : Slot) → Has (slots_from w b xs) slot
     → find (λ (t : Slot). same_element (element slot.element.family slot.element.indexes) t.element) (slots_from w b xs) ≡ Some slot
 slot_found w b [] apart slot h = elim h [ ]
 slot_found w b (x ∷ xs) apart _ first = ap (λ (y : Bool). cond y (Some (record { element = x; bit = b })) (find (λ (t : Slot). same_element (element x.family x.indexes) t.element) (slots_from w (b + bits_of w x) xs))) (same_element-itself x)
 slot_found w b (x ∷ xs) apart slot (later h) = elim (cases_Bool (same_element (element slot.element.family slot.element.indexes) x)) [
-  | inl e ↦ absurd (apart.0 slot.element (slot_element w (b + bits_of w x) xs slot h) (sym (same_is slot.element x e)))
+  | inl e ↦ absurd (apart.0 slot.element (slot_element w (b + bits_of w x) xs slot h) (sym (same_element-is slot.element x e)))
   | inr e ↦
       ap (λ (y : Bool). cond y (Some (record { element = x; bit = b })) (find (λ (t : Slot). same_element (element slot.element.family slot.element.indexes) t.element) (slots_from w (b + bits_of w x) xs))) e
       ∙ slot_found w (b + bits_of w x) xs apart.1 slot h

@@ -18,6 +18,7 @@ use Rattle.smv_search.specs.Runs.{rings_to}
 use Rattle.law_obligations.specs.May.{AbsState}
 use Rattle.law_obligations.specs.CasePaths.{IsShortest, states_from}
 use Rattle.law_obligations.specs.Readings.{PosedCase, reading, state_bits}
+use Rattle.law_obligations.proofs.Listed.{shifted}
 use Rattle.law_reports.specs.CaseLists.{case_lists}
 use Rattle.law_reports.specs.ListLaws.{readings}
 use Rattle.law_reports.proofs.Paths.{least_is_least}
@@ -56,10 +57,6 @@ module _ (d : Diagram) (l : Lists) (rings : List Ref) (depth : ℕ) (given : map
       sym (get_or-map (table d) rings i none) ∙ ap (λ (fs : List Function). get_or fs i (table d none)) given ∙ rings_at l depth i (table d none) (omega arith)
 
 -- ---- a path is read state by state
-
-shifted : {X : Type 0} (f : ℕ → X) (i n : ℕ) → states_from f (suc i) n ≡ states_from (λ j. f (suc j)) i n
-shifted f i zero = refl
-shifted f i (suc n) = ap (λ xs. f (suc i) ∷ xs) (shifted f (suc i) n)
 
 read_all : {X : Type 0} (f : State → X) (xs : List State) (n : ℕ) → length xs ≡ suc n → states_from (λ i. f (by_time xs i)) 0 n ≡ map f xs
 read_all f [] n e = absurd (omega arith)

@@ -156,7 +156,7 @@ module _ {S C : Type 0} (IsMade : S → C → Type 0) (holds : S → C → (ℕ 
 
 -- ---- demands as they are written
 
-written_inner : {element other : Element} {a b c d e f : DefBody} → Defined element a b c ≡ Defined other d e f → (element ≡ other) × (a ≡ d) × (b ≡ e) × (c ≡ f)
+pub written_inner : {element other : Element} {a b c d e f : DefBody} → Defined element a b c ≡ Defined other d e f → (element ≡ other) × (a ≡ d) × (b ≡ e) × (c ≡ f)
 written_inner e = (cc, cc, cc, cc)
 
 claim_inner : {body other : FlatExpr} {bindings others : List Spot} → Holds body bindings ≡ Holds other others → (body ≡ other) × (bindings ≡ others)
