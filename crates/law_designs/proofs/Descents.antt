@@ -11,7 +11,7 @@ use Rattle.law_designs.proofs.Cycles.{few, not_longer, rest_of, each_is_one}
 
 -- ---- cells that are the same
 
-one-is : (i j : Option ℕ) → is_one_layer i j ≡ true → i ≡ j
+pub one-is : (i j : Option ℕ) → is_one_layer i j ≡ true → i ≡ j
 one-is None None e = refl
 one-is (Some m) (Some n) e = ap Some (nat_eq-is m n e)
 one-is None (Some n) e = absurd (cc (e))

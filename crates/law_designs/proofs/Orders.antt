@@ -10,11 +10,11 @@ use Rattle.law_designs.specs.LoopLaws.{AreFalling}
 itself : (n : ℕ) → nat_eq n n ≡ true
 itself n = search arith
 
-one_itself : (i : Option ℕ) → is_one_layer i i ≡ true
+pub one_itself : (i : Option ℕ) → is_one_layer i i ≡ true
 one_itself None = refl
 one_itself (Some k) = itself k
 
-indexes_themselves : (is : List (Option ℕ)) → same_indexes is is ≡ true
+pub indexes_themselves : (is : List (Option ℕ)) → same_indexes is is ≡ true
 indexes_themselves [] = refl
 indexes_themselves (i ∷ is) = and_both (one_itself i) (indexes_themselves is)
 

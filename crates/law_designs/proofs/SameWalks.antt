@@ -39,7 +39,7 @@ truth-bit (Some true) = refl
 pub path-equal : (p q : Path) → same_path p q ≡ true → p ≡ q
 path-equal p q = (slice_eq-Decides bytes_eq-Decides p q (same_path p q) refl).0
 
-path-same : (p q : Path) → p ≡ q → same_path p q ≡ true
+pub path-same : (p q : Path) → p ≡ q → same_path p q ≡ true
 path-same p q = (slice_eq-Decides bytes_eq-Decides p q (same_path p q) refl).1
 
 not_both : (x p q : Path) → same_path x p ≡ true → same_path x q ≡ false → same_path p q ≡ false

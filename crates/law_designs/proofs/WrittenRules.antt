@@ -95,7 +95,7 @@ inner-item (Split name vars of pairs at) h = h
 inner-item (Using uses proves at) h = h
 inner-item (Act act) h = h
 
-with_place-first : {A : Type 0} (at : ℕ) (o : Option A) (a : A × ℕ) → with_place at o ≡ Some a → o ≡ Some a.0
+pub with_place-first : {A : Type 0} (at : ℕ) (o : Option A) (a : A × ℕ) → with_place at o ≡ Some a → o ≡ Some a.0
 with_place-first at None a e = absurd (cc (e))
 with_place-first {A} at (Some x) a e = ap (λ (p : A × ℕ). Some p.0) (same_Some (x, at) a e)
 

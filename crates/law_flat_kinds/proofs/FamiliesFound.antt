@@ -3,7 +3,7 @@ use Rattle.std.proofs.Common.{◌≡◌, ℕ, zero, suc, ◌+◌, List, [], ◌�
 use Rattle.std.specs.List.{flat_map, list_any, position_or_len, prefix_len}
 use Rattle.std.specs.Str.{bytes_eq}
 use Rattle.std.proofs.lemmas.List.{append_assoc}
-use Rattle.std.proofs.lemmas.Slice.Eq.{bytes_eq-Decides, slice_eq-Decides}
+use Rattle.std.proofs.lemmas.Slice.Eq.{bytes_eq-Decides}
 use Rattle.std.proofs.lemmas.Bool.{cases_Bool}
 use Rattle.law_lists.proofs.Lists.{map-flat_map_by, map-map_by, map-nil}
 use Rattle.law_lists.proofs.Options.{some_is}
@@ -25,6 +25,7 @@ use Rattle.smv_mentions.specs.NameFaults.{place_if, repeated, doubled, declared_
 use Rattle.smv_mentions.specs.FirstFault.{first_of, faults_at, fault_of_size, faults_of_names, first_fault}
 use Rattle.law_designs.specs.Entries.{placed_of_item, placed_in}
 use Rattle.law_designs.proofs.Faultless.{no_fault-in, unplaced}
+use Rattle.law_designs.proofs.SameWalks.{path-equal, path-same}
 use Rattle.law_obligations.specs.Sets.{Has, first, later}
 use Rattle.law_obligations.proofs.Members.{Has-left, Has-right, Has-cases, Has-from_map}
 use Rattle.law_obligations.proofs.OneOfEach.{Has-from_flat_map}
@@ -370,12 +371,6 @@ families-apart text e =
     (families-there (types_from [] text.tops) (types-all [] [] text.tops (λ entry i. elim i [ ]) fine) (modules text.tops) (modules-fine [] text.tops fine) (length (modules text.tops)) [] main).0
 
 -- ---- families by their paths
-
-path-equal : (p q : Path) → same_path p q ≡ true → p ≡ q
-path-equal p q = (slice_eq-Decides bytes_eq-Decides p q (same_path p q) refl).0
-
-path-same : (p q : Path) → p ≡ q → same_path p q ≡ true
-path-same p q = (slice_eq-Decides bytes_eq-Decides p q (same_path p q) refl).1
 
 found-at : (fs : List Family) → Apart fs → (k : ℕ) (f : Family) → slice_get fs k ≡ Some f →
     (find (λ (g : Family). same_path g.path f.path) fs ≡ Some f) × (position_or_len (λ (g : Family). same_path g.path f.path) fs ≡ k)

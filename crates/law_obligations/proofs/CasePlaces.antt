@@ -55,7 +55,7 @@ stands_among test set (q ∷ params) (d ∷ classes) p c (there m) e l = let r =
     ]
 
 -- where all classes are named, each is
-few_named : (classes : List Class) → length (named_among classes) ≤ length classes
+pub few_named : (classes : List Class) → length (named_among classes) ≤ length classes
 few_named [] = omega arith
 few_named (Named c ∷ classes) = let l = few_named classes in omega (arith, l)
 few_named (Number k ∷ classes) = let l = few_named classes in omega (arith, l)

@@ -25,7 +25,7 @@ same_places-itself : (ps : List Place) → same_places ps ps ≡ true
 same_places-itself [] = refl
 same_places-itself (p ∷ ps) = and_both (same_place-itself p) (same_places-itself ps)
 
-same_places-is : (ps qs : List Place) → same_places ps qs ≡ true → ps ≡ qs
+pub same_places-is : (ps qs : List Place) → same_places ps qs ≡ true → ps ≡ qs
 same_places-is [] [] e = refl
 same_places-is [] (q ∷ qs) e = absurd (cc)
 same_places-is (p ∷ ps) [] e = absurd (cc)

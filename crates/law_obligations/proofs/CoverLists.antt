@@ -27,7 +27,7 @@ Has-without (later h) first n = first
 Has-without (later h) (later k) n = later (Has-without h k n)
 
 -- what is not found is not there
-missing : (v : ℕ) (xs : List ℕ) → place_in v xs ≡ None → Has xs v → ⊥
+pub missing : (v : ℕ) (xs : List ℕ) → place_in v xs ≡ None → Has xs v → ⊥
 missing v [] e h = elim h [ ]
 missing v (x ∷ xs) e first = absurd (clash (nat_eq-itself v) (none_of_either (nat_eq v v) (place_in v xs) e).0)
   where

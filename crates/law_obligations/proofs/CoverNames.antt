@@ -10,7 +10,7 @@ use Rattle.law_obligations.specs.Cases.{Treatment, numbered}
 use Rattle.law_obligations.specs.Covers.{by_name, AreApart, AreTreated}
 use Rattle.law_obligations.proofs.OneOfEach.{get_Has}
 
-apart : (a b : Name) → a ≢ b → bytes_eq a b ≡ false
+pub apart : (a b : Name) → a ≢ b → bytes_eq a b ≡ false
 apart a b n = elim (cases_Bool (bytes_eq a b)) [ inl e ↦ absurd (n ((bytes_eq-Decides a b).0 e)) | inr e ↦ e ]
 
 -- what stands at the place of a set type is what its name finds

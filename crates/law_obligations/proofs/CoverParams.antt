@@ -45,7 +45,7 @@ pub Stands-Has : {params : List Parameter} {values : List Value} {p : Parameter}
 Stands-Has here = first
 Stands-Has (there s) = later (Stands-Has s)
 
-is_set-is : (set : ℕ) (over : Simple) → is_set set over ≡ true → over ≡ Set set
+pub is_set-is : (set : ℕ) (over : Simple) → is_set set over ≡ true → over ≡ Set set
 is_set-is set (Set other) e = ap Set (nat_eq-is other set e)
 is_set-is set (Range low high) e = absurd (cc)
 is_set-is set (Enum list) e = absurd (cc)

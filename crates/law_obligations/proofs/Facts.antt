@@ -123,7 +123,7 @@ unordered f g h k (other c) (other d) = rw (h c d) (at (same (f c) (g d)))
     at true = first
     at false = first
 
-not_named : (t u : Name) → bytes_eq t u ≡ false → bytes_eq u t ≡ false
+pub not_named : (t u : Name) → bytes_eq t u ≡ false → bytes_eq u t ≡ false
 not_named t u h = elim (cases_Bool (bytes_eq u t)) [ inl e ↦ absurd (clash ((bytes_eq-Decides t u).1 (sym ((bytes_eq-Decides u t).0 e))) h) | inr e ↦ e ]
   where
     clash : {b : Bool} → b ≡ true → b ≡ false → ⊥

@@ -35,7 +35,7 @@ use Rattle.law_obligations.proofs.Least.{reached_is_least}
 use Rattle.law_obligations.proofs.ReadsWithin.{reads_within, part_within, either}
 use Rattle.law_obligations.proofs.Plans.{own_are}
 
-same_element-is : (x y : AbsElement) → same_element x y ≡ true → x ≡ y
+pub same_element-is : (x y : AbsElement) → same_element x y ≡ true → x ≡ y
 same_element-is x y e = ap (λ family. element family x.indexes) (same_element-family x y e) ∙ ap (element y.family) (same_element-indexes x y e)
 
 -- an index of a reference lies at a place of its type

@@ -94,7 +94,7 @@ Has_states path i zero x (later h) = elim h [ ]
 Has_states path i (suc n) _ first = (i, omega arith, refl)
 Has_states path i (suc n) x (later h) = let r = Has_states path (suc i) n x h in let le = r.1 in (r.0, omega arith, r.2)
 
-shifted : {X : Type 0} (f : ℕ → X) (i n : ℕ) → states_from f (suc i) n ≡ states_from (λ j. f (suc j)) i n
+pub shifted : {X : Type 0} (f : ℕ → X) (i n : ℕ) → states_from f (suc i) n ≡ states_from (λ j. f (suc j)) i n
 shifted f i zero = refl
 shifted f i (suc n) = ap (λ xs. f (suc i) ∷ xs) (shifted f (suc i) n)
 

@@ -37,7 +37,7 @@ use Rattle.law_obligations.proofs.ConeFacts.{AreIndexes, keeps_named, own_kept}
 use Rattle.law_obligations.proofs.Granted.{proofs-are, granted}
 
 -- a type that is not empty has a value
-set_value : (sizes : Sizes) (is_ordered : Bool) (name : Name) → 0 < sizes name → (v : Value) × Has (values_of sizes (named_set is_ordered name)) v
+pub set_value : (sizes : Sizes) (is_ordered : Bool) (name : Name) → 0 < sizes name → (v : Value) × Has (values_of sizes (named_set is_ordered name)) v
 set_value sizes true name l = (ordinal name 0, Has-map (ordinal name) (Has-numbers 0 (sizes name) 0 (omega arith) (omega (arith, l))))
 set_value sizes false name l = (scalar name 0, Has-map (scalar name) (Has-numbers 0 (sizes name) 0 (omega arith) (omega (arith, l))))
 

@@ -73,7 +73,7 @@ sized false (Some n) (Some vars) one m = reduced_filled n m (nat_lt m n) refl on
 sized false None None one m = inr first
 sized false None (Some vars) one m = inr first
 
-treatment-at : (keeps : List Keep) (k i j : ℕ) (sets : List SetInfo) (info : SetInfo) → i ≡ k + j → slice_get sets j ≡ Some info → slice_get (treatments_of keeps k sets) j ≡ Some (treatment_of info.ordered info.size (kept_of keeps i))
+pub treatment-at : (keeps : List Keep) (k i j : ℕ) (sets : List SetInfo) (info : SetInfo) → i ≡ k + j → slice_get sets j ≡ Some info → slice_get (treatments_of keeps k sets) j ≡ Some (treatment_of info.ordered info.size (kept_of keeps i))
 treatment-at keeps k i j [] info e g = absurd (cc)
 treatment-at keeps k i zero (x ∷ sets) info e g = let same : k ≡ i = omega arith in
     ap (λ (n : ℕ). Some (treatment_of x.ordered x.size (kept_of keeps n))) same ∙ ap (λ (y : SetInfo). Some (treatment_of y.ordered y.size (kept_of keeps i))) (some_is g)

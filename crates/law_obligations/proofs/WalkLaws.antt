@@ -20,7 +20,7 @@ use Rattle.law_obligations.proofs.Anys.{any-and_right, any-pairs, any-first, any
 use Rattle.law_obligations.specs.Mix.{is_there}
 use Rattle.law_obligations.proofs.MixLaws.{and-two, choices-two, there-choices, or_same, and_there, there_and, chosen-more}
 
-same_gist : {g h : Gist} → g.nothing ≡ h.nothing → g.something ≡ h.something → g.given ≡ h.given → g ≡ h
+pub same_gist : {g h : Gist} → g.nothing ≡ h.nothing → g.something ≡ h.something → g.given ≡ h.given → g ≡ h
 same_gist {g} {h} a b c = ap (λ x. record { nothing = x; something = g.something; given = g.given }) a ∙ (ap (λ x. record { nothing = h.nothing; something = x; given = g.given }) b ∙ ap (λ x. record { nothing = h.nothing; something = h.something; given = x }) c)
 
 one : (b : Bool) → (b || false) ≡ b

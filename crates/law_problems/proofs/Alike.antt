@@ -1,10 +1,9 @@
 -- Places compare as they are written.
-use Rattle.std.proofs.Common.{◌≡◌, ◌≢◌, ℕ, suc, List, [], ◌∷◌, map, get_or, Bool, true, false, not, if◌then◌else◌, refl, sym, ap, subst, ◌∙◌, ◌⊎◌, inl, inr, Option, Some, None, option_map, nat_eq, nat_lt}
+use Rattle.std.proofs.Common.{◌≡◌, ℕ, suc, List, [], ◌∷◌, map, get_or, Bool, true, false, not, if◌then◌else◌, refl, sym, ap, subst, ◌∙◌, ◌⊎◌, inl, inr, Option, Some, None, option_map, nat_eq, nat_lt}
 use Rattle.std.specs.Prelude.{unwrap_or}
 use Rattle.std.specs.List.{slice_get}
 use Rattle.std.specs.Str.{bytes_eq}
 use Rattle.std.proofs.lemmas.Slice.Eq.{bytes_eq-Decides}
-use Rattle.std.proofs.lemmas.Bool.{cases_Bool}
 use Rattle.law_lists.proofs.Options.{some_is}
 use Rattle.law_lists.proofs.Numbers.{nat_eq-is}
 use Rattle.law_lists.proofs.Booleans.{same_tests}
@@ -74,9 +73,6 @@ module _ (w : World) where
   have_kinds (Set set) p h = by_set set (slice_get w.classes.sets set) refl p h
 
 -- ---- constants by their places
-
-apart : (a b : Name) → a ≢ b → bytes_eq a b ≡ false
-apart a b n = elim (cases_Bool (bytes_eq a b)) [ inl e ↦ absurd (n ((bytes_eq-Decides a b).0 e)) | inr e ↦ e ]
 
 abbrev at_name : List Name → Name → Option ℕ
 at_name names name = place_of (bytes_eq name) names

@@ -25,7 +25,6 @@ use Rattle.smv_core.specs.declared.flat.DefBody.{DefBody, Nothing, If, First, Fo
 use Rattle.smv_core.specs.declared.flat.DefBody as flat
 use Rattle.smv_core.specs.declared.flat.Def.{Def}
 use Rattle.smv_core.specs.declared.flat.FlatText.{FlatText}
-use Rattle.smv_mentions.specs.FirstFault.{comes_before, earlier, first_of}
 use Rattle.law_designs.specs.WholeText.{is_one_layer, claims_of}
 use Rattle.law_designs.specs.Standing.{count, Statement, statements_from, statements_of}
 use Rattle.law_designs.specs.Definitions.{is_nothing, joined, first_part, flat_of, flats_of, set_of, part_of, Head, def_of, first_heads, splits_of, design_of_flat_text}
@@ -33,7 +32,7 @@ use Rattle.law_designs.specs.FlatKinds.{Kind, number, takes, assigns, element, V
 use Rattle.law_designs.proofs.Operands.{all-some, takes-some, each-some, element-some}
 use Rattle.law_designs.specs.SetFaults.{operand, faults_in, faults_of, faults_of_each, item_faults, faults_of_sets}
 use Rattle.law_designs.specs.SetOperands.{wanted_at, wanted_of}
-use Rattle.law_designs.proofs.Faultless.{empty-both}
+use Rattle.law_designs.proofs.Faultless.{empty-both, no_fault-in}
 use Rattle.law_obligations.specs.Sets.{Has, first, later}
 use Rattle.law_obligations.specs.Covers.{IsIndexType}
 use Rattle.law_obligations.proofs.Members.{Has-from_map, all-each}
@@ -49,19 +48,6 @@ use mathlib.Core.Former.{Count}
 unfoldable boxes : Unit {0}
 unfolding Rattle.smv_core.specs.declared.flat.DefBody.TheBlock.hidden-the_row-DefBody-0 Rattle.smv_core.specs.declared.flat.DefBody.TheBlock.shape-the_row-DefBody-0 denote.Hole.Carrier.hidden
 boxes = tt
-
--- no first fault, no fault
-none-left : (faults : List Fault) → first_of faults ≡ None → faults ≡ []
-none-left [] e = refl
-none-left (f ∷ faults) e = absurd (by_rest (first_of faults) e)
-  where
-    by_order : (b : Bool) (g : Fault) → cond b (Some g) (Some f) ≡ None → ⊥
-    by_order true g e = cc (e)
-    by_order false g e = cc (e)
-
-    by_rest : (o : Option Fault) → earlier f o ≡ None → ⊥
-    by_rest None e = cc (e)
-    by_rest (Some g) e = by_order (comes_before g f) g e
 
 as-true : (b : Bool) → b ≡ true → IsTrue b
 as-true b e = e
@@ -305,7 +291,7 @@ index-type flat_text (Set set) h = tt
 pub designs_are_fit : DesignsAreFit
 designs_are_fit flat_text e none distinct =
     let k = kept flat_text e in
-    let free = none-left (faults_of_sets flat_text) none in
+    let free = no_fault-in (faults_of_sets flat_text) none in
     record {
       definitions = def-kept flat_text k.families k.items free;
       claims = claim-kept flat_text k.families k.items free;
@@ -316,7 +302,7 @@ designs_are_fit flat_text e none distinct =
 pub splits_are_kinded : SplitsAreKinded
 splits_are_kinded flat_text e none =
     let k = kept flat_text e in
-    let free = none-left (faults_of_sets flat_text) none in
+    let free = no_fault-in (faults_of_sets flat_text) none in
     record {
       in_place = λ s i v p at. let place = binder-place flat_text k.families [] s.bound (split-kept flat_text k.families k.items free s i).0 v p at in omega (arith, place);
       kinded = pair-kept flat_text k.families k.items free;

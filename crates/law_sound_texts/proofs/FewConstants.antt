@@ -5,6 +5,7 @@ use Rattle.std.specs.List.{AllByRecursion, flat_map, list_any, list_all}
 use Rattle.std.proofs.lemmas.List.{length-map, map-append}
 use Rattle.std.proofs.lemmas.Slice.Eq.{bytes_eq-Decides}
 use Rattle.std.proofs.lemmas.Bool.{or_from, or_parts, and_parts}
+use Rattle.law_obligations.proofs.Facts.{not_named}
 use Rattle.law_lists.proofs.Each.{each_filter, each_append, each_weaker}
 use Rattle.law_lists.proofs.Lists.{map-nil}
 use Rattle.smv_core.specs.Values.{Name}
@@ -40,14 +41,6 @@ same-is x y = (bytes_eq-Decides x y).0
 
 is-same : (x y : Name) → x ≡ y → bytes_eq x y ≡ true
 is-same x y = (bytes_eq-Decides x y).1
-
--- two that are not the same one way are not the other way
-not-turned : (x y : Name) → bytes_eq x y ≡ false → bytes_eq y x ≡ false
-not-turned x y e = by_test (bytes_eq y x) refl
-  where
-    by_test : (b : Bool) → bytes_eq y x ≡ b → bytes_eq y x ≡ false
-    by_test true h = let k : bytes_eq x y ≡ true = is-same x y (sym (same-is y x h)) in absurd (cc (e, k))
-    by_test false h = h
 
 -- in a list, where it is not the first
 in-rest : (a b : Bool) → (a || b) ≡ true → a ≡ false → b ≡ true
@@ -89,7 +82,7 @@ without-none : (y : Name) (xs : List Name) → IsOut xs y → length (without y 
 without-none y [] h = refl
 without-none y (x ∷ xs) h =
     let g : (bytes_eq y x ≡ false) × IsOut xs y = or_parts (bytes_eq y x) (list_any (bytes_eq y) xs) h in
-    by_test (bytes_eq x y) (not-turned y x g.0) (without-none y xs g.1)
+    by_test (bytes_eq x y) (not_named y x g.0) (without-none y xs g.1)
   where
     by_test : (b : Bool) → b ≡ false → length (without y xs) ≡ length xs → length (cond (not b) (x ∷ without y xs) (without y xs)) ≡ suc (length xs)
     by_test true e rest = absurd (cc (e))
@@ -152,7 +145,7 @@ once-named seen (word ∷ more) e =
     first-out : (xs : List Name) → AllByRecursion (IsOut (word.name ∷ seen)) xs → IsOut xs word.name
     first-out [] h = refl
     first-out (x ∷ xs) h =
-        or_from (bytes_eq word.name x) (list_any (bytes_eq word.name) xs) (not-turned x word.name (or_parts (bytes_eq x word.name) (list_any (bytes_eq x) seen) h.0).0) (first-out xs h.1)
+        or_from (bytes_eq word.name x) (list_any (bytes_eq word.name) xs) (not_named x word.name (or_parts (bytes_eq x word.name) (list_any (bytes_eq x) seen) h.0).0) (first-out xs h.1)
 
     others : (xs : List Name) → AllByRecursion (IsOut (word.name ∷ seen)) xs → AllByRecursion (IsOut seen) xs
     others [] h = tt
@@ -161,7 +154,7 @@ once-named seen (word ∷ more) e =
 -- what is among the names is found
 found-in : (known : List (Name × Constant)) (name : Name) → IsIn (map (λ (name, c). name) known) name → (c : Constant) × (find_name known name ≡ Some c)
 found-in [] name e = absurd (cc (e))
-found-in ((other, d) ∷ known) name e = by_test (bytes_eq other name) refl (λ h. found-in known name (in-rest (bytes_eq name other) (list_any (bytes_eq name) (map (λ (name, c). name) known)) e (not-turned other name h)))
+found-in ((other, d) ∷ known) name e = by_test (bytes_eq other name) refl (λ h. found-in known name (in-rest (bytes_eq name other) (list_any (bytes_eq name) (map (λ (name, c). name) known)) e (not_named other name h)))
   where
     by_test : (b : Bool) → bytes_eq other name ≡ b → (bytes_eq other name ≡ false → (c : Constant) × (find_name known name ≡ Some c)) → (c : Constant) × (cond b (Some d) (find_name known name) ≡ Some c)
     by_test true e rest = (d, refl)

@@ -19,7 +19,7 @@ some-has : {X : Type 0} (xs : List X) → 0 < length xs → (x : X) × Has xs x
 some-has [] h = absurd (omega (arith, h))
 some-has (x ∷ xs) h = (x, first)
 
-each-holds : {X : Type 0} (p : X → Bool) (xs : List X) → list_all p xs ≡ true → (x : X) → Has xs x → p x ≡ true
+pub each-holds : {X : Type 0} (p : X → Bool) (xs : List X) → list_all p xs ≡ true → (x : X) → Has xs x → p x ≡ true
 each-holds p [] h x i = elim i [ ]
 each-holds p (y ∷ xs) h _ first = (and_parts (p y) (list_all p xs) h).0
 each-holds p (y ∷ xs) h x (later i) = each-holds p xs (and_parts (p y) (list_all p xs) h).1 x i

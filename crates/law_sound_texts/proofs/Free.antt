@@ -29,9 +29,10 @@ use Rattle.law_designs.specs.SingleFaults.{differ, share, meet, cross, later_pla
 use Rattle.law_designs.specs.Definitions.{is_nothing, joined, first_part, branches, each_value, flat_of, flats_of, Head, def_of}
 use Rattle.law_designs.proofs.FlatParts.{boxes, rows_of, indexes-row, indexes-kept}
 use Rattle.law_designs.specs.Laws.{index_count}
+use Rattle.law_designs.proofs.Descents.{one-is}
 use Rattle.law_sound_texts.specs.Placed.{IsPlaced, ArePlaced, FlatTextIsPlaced, IsFree, OneValueGives}
 use Rattle.law_sound_texts.proofs.FaultlessSides.{no-clash, no-conflict, no-lack}
-use Rattle.law_sound_texts.proofs.Comes.{Comes, comes, comes_in, comes_of, layer-is, part, chosen}
+use Rattle.law_sound_texts.proofs.Comes.{Comes, comes, comes_in, comes_of, part, chosen}
 use mathlib.Core.Former.{Count}
 use Rattle.law_flat_kinds.proofs.NoFaults.{nil-left, nil-right}
 
@@ -289,7 +290,7 @@ module _ (counts : ℕ → ℕ) (layer : Option ℕ) (kind : Kind) (family : ℕ
         rest,
         λ is js p q. apart layer kind family 0 (assigned_by s) (flat_map assigned_by set)
             (nil-third (conflicts s.layer [] s.act) (conflicting set) (later_places meet (assigned_by s) (flat_map assigned_by set)) e) is js
-            (subst (λ l. Comes l kind family (assigned_by s) is) (sym (layer-is layer s.layer h)) (comes s.layer kind family [] s.place s.act is p)) (comes_of layer kind family set js q),
+            (subst (λ l. Comes l kind family (assigned_by s) is) (sym (one-is layer s.layer h)) (comes s.layer kind family [] s.place s.act is p)) (comes_of layer kind family set js q),
       )
       by_test false h rest = rest
 

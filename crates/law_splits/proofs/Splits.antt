@@ -117,7 +117,7 @@ is_split d read none choices entry h =
       are_guards = r.are_guards;
     }
 
-one_each : (d : Design) (u : ℕ) (units : List Unit) → length (leaves_from d u units) ≡ length units
+pub one_each : (d : Design) (u : ℕ) (units : List Unit) → length (leaves_from d u units) ≡ length units
 one_each d u [] = refl
 one_each d u (unit ∷ units) = ap suc (one_each d (suc u) units)
 

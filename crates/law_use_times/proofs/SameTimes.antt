@@ -15,7 +15,7 @@ use Rattle.smv_core.specs.declared.flat.Assumed.{Assumed}
 use Rattle.law_obligations.specs.Sets.{Has, first, later}
 use Rattle.law_obligations.specs.Places.{named}
 use Rattle.law_obligations.specs.Soundness.{FlatUnit, map_of, claim_of}
-use Rattle.law_obligations.proofs.Members.{Has-cases, Has-uncons, any-found, any-some}
+use Rattle.law_obligations.proofs.Members.{Has-uncons, any-found, any-some}
 use Rattle.law_obligations.proofs.Same.{nat_eq-itself}
 use Rattle.law_obligations.proofs.Spots.{Has-numbers}
 use Rattle.law_obligations.proofs.OneOfEach.{Has-from_flat_map}
@@ -23,14 +23,11 @@ use Rattle.law_obligations.proofs.CoverLists.{length-numbers}
 use Rattle.law_obligations.specs.Reached.{IsLeast}
 use Rattle.law_obligations.specs.Outlines.{Entry, Outline, unit_in, claim_unit, assumed, chosen}
 use Rattle.law_obligations.specs.Times.{is_member, if_there, families_read, families_of_part, families_at_once, is_unit, families_assumed, families_of_unit, first_families, next_families, same_time}
-use Rattle.law_obligations.proofs.ReadsWithin.{reads_within, part_within}
+use Rattle.law_obligations.proofs.ReadsWithin.{reads_within, part_within, either}
 use Rattle.graph_search.specs.Walks.{Walk, here, step}
 use Rattle.law_use_times.specs.Found.{nodes_of, IsFound}
 use Rattle.law_use_times.proofs.Lists.{Contains-Has}
 use Rattle.law_use_times.proofs.Turns.{reached_with_one_less}
-
-either : {X : Type 0} {P : Type 0} (xs ys : List X) {y : X} → Has (xs ++ ys) y → (Has xs y → P) → (Has ys y → P) → P
-either xs ys h f g = elim (Has-cases xs ys h) [ inl l ↦ f l | inr r ↦ g r ]
 
 module _ (fs : List Family) where
   abbrev below : ℕ → Type 0

@@ -1,5 +1,5 @@
 -- The leaves of a design, each at the place of its unit, and the leaves and choices of a text's plan.
-use Rattle.std.proofs.Common.{◌≡◌, ◌∙◌, ℕ, zero, suc, ◌+◌, List, [], ◌∷◌, zip, length, Some, refl, sym, ap, subst, arith}
+use Rattle.std.proofs.Common.{◌≡◌, ◌∙◌, ℕ, zero, suc, ◌+◌, List, [], ◌∷◌, zip, length, Some, sym, ap, subst, arith}
 use Rattle.std.specs.List.{slice_get}
 use Rattle.law_lists.proofs.Options.{some_is}
 use Rattle.smv_core.specs.declared.tree.Text.{Text}
@@ -9,6 +9,7 @@ use Rattle.smv_core.specs.declared.flat.Leaf.{Leaf}
 use Rattle.law_obligations.specs.Sets.{Has, first, later}
 use Rattle.law_obligations.specs.Units.{units_of}
 use Rattle.law_splits.specs.Leaves.{leaves_from, leaves_of}
+use Rattle.law_splits.proofs.Splits.{one_each}
 use Rattle.smv_problem.specs.declared.report.Plan.{Plan}
 use Rattle.law_valid_texts.specs.Plans.{IsPlanOf}
 use Rattle.law_valid_texts.specs.PartLaws.{LeavesAreInPlace}
@@ -27,12 +28,8 @@ leaves_are_in_place tree plan is u leaf e =
     let place = from_place plan.design 0 (units_of plan.design) u leaf there in
     omega (arith, place)
 
-pub leaf_each : (d : Design) (u : ℕ) (units : List Unit) → length (leaves_from d u units) ≡ length units
-leaf_each d u [] = refl
-leaf_each d u (unit ∷ units) = ap suc (leaf_each d (suc u) units)
-
 pub each_leaf : (tree : Text) (plan : Plan) → IsPlanOf tree plan → length plan.leaves ≡ length (units_of plan.design)
-each_leaf tree plan is = ap (λ (leaves : List Leaf). length leaves) is.leaves ∙ leaf_each plan.design 0 (units_of plan.design)
+each_leaf tree plan is = ap (λ (leaves : List Leaf). length leaves) is.leaves ∙ one_each plan.design 0 (units_of plan.design)
 
 pub each_choice : (tree : Text) (plan : Plan) → IsPlanOf tree plan → length plan.choices ≡ length (units_of plan.design)
 each_choice tree plan is = is.choices ∙ ap (λ (units : List Unit). length units) is.units

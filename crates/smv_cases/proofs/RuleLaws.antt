@@ -12,12 +12,7 @@ use Rattle.smv_cases.specs.Growing.{counts, counted, widest, may_follow, may_sta
 use Rattle.law_obligations.proofs.Members.{any-found, any-some}
 use Rattle.law_obligations.proofs.Same.{nat_eq-itself}
 use Rattle.law_obligations.proofs.Spots.{Has-numbers, numbers-Has}
-
-few_named : (classes : List Class) → length (named_among classes) ≤ length classes
-few_named [] = omega arith
-few_named (Named c ∷ classes) = let l = few_named classes in omega (arith, l)
-few_named (Number k ∷ classes) = let l = few_named classes in omega (arith, l)
-few_named (Rest g ∷ classes) = let l = few_named classes in omega (arith, l)
+use Rattle.law_obligations.proofs.CasePlaces.{few_named}
 
 pub named_more : (c : ℕ) (classes : List Class) → are_named (Named c ∷ classes) ≡ are_named classes
 named_more c classes = both (length (named_among classes)) (length classes)

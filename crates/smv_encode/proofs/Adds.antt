@@ -2,8 +2,10 @@
 use Rattle.std.proofs.Common.{◌≡◌, ℕ, suc, ◌+◌, List, [], ◌∷◌, ◌++◌, map, length, get_or, Bool, true, false, ◌&&◌, not, if◌then◌else◌, refl, sym, ap, subst, ◌∙◌, append_assoc, inl, inr, arith, zero, take, ◌<◌, ◌≤◌}
 use Rattle.std.specs.List.{filter, flat_map, list_any, list_all}
 use Rattle.std.proofs.lemmas.Bool.{cases_lt}
-use Rattle.std.proofs.lemmas.List.{append-nil, length-append, get_or_append_left}
+use Rattle.std.proofs.lemmas.List.{append-nil, length-append, get_or_append_left, map-append}
 use Rattle.std.proofs.Math.Seq.{get_or-append_seam}
+use Rattle.law_lists.proofs.Places.{take_past}
+use Rattle.law_lists.proofs.Lists.{length_map}
 use Rattle.smv_core.specs.declared.flat.Element.{Element}
 use Rattle.law_obligations.specs.Sets.{Has, first, later}
 use Rattle.law_obligations.specs.Obligations.{Demanded}
@@ -26,10 +28,6 @@ use Rattle.smv_encode.specs.declared.elements.Turn.TheVariants as turn
 use Rattle.smv_encode.proofs.Choices.{defines_written, held_written}
 
 -- ---- lists of functions
-
-map-append : {X Y : Type 0} (f : X → Y) (xs ys : List X) → map f (xs ++ ys) ≡ map f xs ++ map f ys
-map-append f [] ys = refl
-map-append f (x ∷ xs) ys = ap (λ zs. f x ∷ zs) (map-append f xs ys)
 
 pub adds_none : (d : Diagram) (rs : List Ref) → AddsFunctions d d rs rs []
 adds_none d rs = sym (append-nil (map (table d) rs))
@@ -86,20 +84,10 @@ next_demand c (d ∷ ds) (g ∷ gs) (suc i) demand lt at h =
     tails : {x y : Demand} {xs ys : List Demand} → x ∷ xs ≡ y ∷ ys → xs ≡ ys
     tails e = cc
 
-take_whole : {X : Type 0} (xs : List X) (i : ℕ) → length xs ≤ i → take i xs ≡ xs
-take_whole [] zero le = refl
-take_whole [] (suc i) le = refl
-take_whole (x ∷ xs) zero le = absurd (omega arith)
-take_whole (x ∷ xs) (suc i) le = ap (λ ys. x ∷ ys) (take_whole xs i (omega arith))
-
-length-map : {X Y : Type 0} (f : X → Y) (xs : List X) → length (map f xs) ≡ length xs
-length-map f [] = refl
-length-map f (x ∷ xs) = ap (λ n. suc n) (length-map f xs)
-
 all_taken : (c : PosedCase) (ds : List Demanded) (demands : List Demand) (i : ℕ) → length demands ≤ i → AreDemands c ds demands → take i ds ≡ ds
 all_taken c ds demands i le h =
-    let long : length demands ≡ length ds = ap (λ (gs : List Demand). length gs) h.written ∙ length-map (written_demand c.problem.world.classes) ds in
-    take_whole ds i (omega (arith, long, le))
+    let long : length demands ≡ length ds = ap (λ (gs : List Demand). length gs) h.written ∙ length_map (written_demand c.problem.world.classes) ds in
+    take_past ds i (omega (arith, long, le))
 
 module _ (c : PosedCase) (d e f : Diagram) (ds : List Demanded) (demands : List Demand) (i : ℕ) (rs ss ts : List Ref) (g : List Demanded → List Function) where
   pub demand_adds : (h : Demanded → List Function) → ((xs : List Demanded) (x : Demanded) → g (xs ++ x ∷ []) ≡ g xs ++ h x) → (demand : Demand) → i < length demands → demand ≡ get_or demands i demand → AreDemands c ds demands
@@ -267,10 +255,6 @@ module _ (c : PosedCase) (d e f : Diagram) (xs : List AbsElement) (elements : Li
             by false g = refl
 
 -- ---- small steps
-
-pub nothing : {X : Type 0} (xs : List X) → length xs ≡ 0 → xs ≡ []
-nothing [] e = refl
-nothing (x ∷ xs) e = absurd (omega arith)
 
 pub adds_taken : (d e : Diagram) (rs ss : List Ref) (fs : List Function) (b : Bool) → b ≡ true → AddsFunctions d e rs ss fs → AddsFunctions d e rs ss (if b then fs else [])
 adds_taken d e rs ss fs b is_on h = subst (λ (t : Bool). AddsFunctions d e rs ss (if t then fs else [])) (sym is_on) h

@@ -2,6 +2,7 @@
 use Rattle.std.proofs.Common.{◌≡◌, ℕ, suc, ◌+◌, ◌*◌, ◌^◌, ◌<◌, ◌≤◌, append_assoc, List, [], ◌∷◌, ◌++◌, map, length, Bool, true, ◌&&◌, ◌||◌, nat_eq, nat_lt, refl, sym, ap, subst, ◌∙◌, Option, Some, None, inl, inr, arith}
 use Rattle.std.specs.List.{list_any, slice_get}
 use Rattle.std.proofs.lemmas.Bool.{cases_Bool}
+use Rattle.law_lists.proofs.Lists.{length_map}
 use Rattle.smv_core.specs.declared.flat.Simple.{Simple}
 use Rattle.smv_core.specs.declared.flat.Family.{Family}
 use Rattle.smv_core.specs.declared.flat.Element.{Element}
@@ -186,10 +187,6 @@ few_bits width count n wide many small = let short = bits_short count small in l
 
 pub enough_bits : (width count n : ℕ) → width ≡ bits_for n → count ≡ n → count ≤ 2 ^ width
 enough_bits width count n wide many = subst (λ (b : ℕ). count ≤ 2 ^ b) (sym (wide ∙ ap bits_for (sym many))) (bits_are count).enough
-
-length_map : {X Y : Type 0} (f : X → Y) (xs : List X) → length (map f xs) ≡ length xs
-length_map f [] = refl
-length_map f (x ∷ xs) = ap (λ n. suc n) (length_map f xs)
 
 -- as many spots as the family has values
 pub spots_counted : (p : Problem) → IsProblem p → (family : ℕ) (spots : List Spot) → ((w : World) → IsWorldOf p w → map (place_in w.classes) spots ≡ values_in w (slice_get w.classes.families family)) → length spots ≡ count_for p.lists p.types (slice_get p.families family)

@@ -4,6 +4,7 @@ use Rattle.std.specs.Prelude.{Option, Some, None, is_some}
 use Rattle.std.specs.List.{list_any}
 use Rattle.std.specs.HashMap.{get}
 use Rattle.std.proofs.lemmas.List.{append-nil, map-append, length-map}
+use Rattle.std.proofs.lemmas.List.Elements.{filter-append}
 use Rattle.law_lists.proofs.Booleans.{same_tests}
 use Rattle.smv_core.specs.Values.{Path}
 use Rattle.smv_core.specs.Types.{names_of}
@@ -17,14 +18,6 @@ use Rattle.smv_flatten_families.specs.Lists.{AreLists}
 use Rattle.smv_flatten_families.specs.declared.enums.Lists.{Lists}
 use Rattle.smv_flatten_families.proofs.PathLaws.{first_place-push, place-known}
 use Rattle.smv_flatten_families.proofs.NumberLaws.{path-sym}
-
-filter-append : {X : Type 0} (test : X → Bool) (xs ys : List X) → filter test (xs ++ ys) ≡ filter test xs ++ filter test ys
-filter-append test [] ys = refl
-filter-append test (x ∷ xs) ys = by (test x) (filter-append test xs ys)
-  where
-    by : (b : Bool) → filter test (xs ++ ys) ≡ filter test xs ++ filter test ys → cond b (x ∷ filter test (xs ++ ys)) (filter test (xs ++ ys)) ≡ cond b (x ∷ filter test xs) (filter test xs) ++ filter test ys
-    by true e = ap (λ l. x ∷ l) e
-    by false e = e
 
 -- one more is one more of the different ones, unless it is there
 pub different-push : {X : Type 0} (same : X → X → Bool) (xs : List X) (y : X) → different same (xs ++ y ∷ []) ≡ different same xs ++ cond (list_any (λ x. same x y) xs) [] (y ∷ [])

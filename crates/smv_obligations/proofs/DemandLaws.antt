@@ -3,7 +3,8 @@ use Rattle.std.proofs.Common.{◌≡◌, ℕ, zero, suc, List, [], ◌∷◌, �
 use Rattle.std.specs.Prelude.{option_to_list}
 use Rattle.std.specs.List.{flat_map, zip}
 use Rattle.std.proofs.lemmas.List.{map-append}
-use Rattle.law_lists.proofs.Lists.{length_map}
+use Rattle.std.proofs.lemmas.List.Folds.{flat_map-map}
+use Rattle.law_lists.proofs.Lists.{length_map, map-flat_map, map-map, map-take, map-if}
 use Rattle.law_lists.proofs.Booleans.{same_tests}
 use Rattle.smv_core.specs.FlatMeaning.{Numbered}
 use Rattle.smv_core.specs.declared.flat.Simple.{Simple}
@@ -34,6 +35,8 @@ use Rattle.law_obligations.specs.Problems.{is_at, family_time, leaf_treatments, 
 use Rattle.law_obligations.specs.Checked.{IsSplit}
 use Rattle.law_obligations.proofs.ConeFacts.{same_element-itself}
 use Rattle.law_obligations.proofs.OutlineFacts.{assumed-comes}
+use Rattle.law_obligations.proofs.LeastCones.{same_element-is}
+use Rattle.law_obligations.proofs.CoverParams.{map-same}
 use Rattle.law_problems.specs.Parts.{outlined}
 use Rattle.smv_problem.specs.Written.{written_class, written_spot, written_element, written_demand}
 use Rattle.smv_problem.specs.declared.problem.Demand.{Demand}
@@ -42,16 +45,14 @@ use Rattle.smv_elements.specs.Elements as elements
 use Rattle.smv_elements.proofs.Keys.{same-is, same-itself}
 use Rattle.smv_spots.specs.declared.spots.Spot.{Spot}
 use Rattle.smv_reads.specs.Views.{world_of, place_in, places}
-use Rattle.smv_reads.proofs.Lists.{map-flat_map, flat_map-map, map-map}
 use Rattle.smv_chosen.proofs.ClaimLaws.{claim-assumed}
 use Rattle.smv_cone.specs.declared.parts.Part.{Part}
 use Rattle.smv_cone.specs.Parts.{spots_in, outline_of, entry_of, params_of, cone_of, IsPartView, IsPartOf}
-use Rattle.smv_cone.proofs.Ends.{one-element}
 use Rattle.smv_cone.proofs.SearchLaws.{element-back, cone-of}
 use Rattle.smv_cone.proofs.Views as views
 use Rattle.smv_cone.proofs.Views.{part-view, part-least}
 use Rattle.smv_obligations.specs.Demands.{element_in, defined_in, spots_of, held_from, said, own_indexes, target_in, chosen_in, is_own, own_in, itself_in, element_in_turn, instances_in, claim_in_turn, demands_in}
-use Rattle.smv_obligations.proofs.Lists.{map-take, map-if, map-same, flat-same, each-changed}
+use Rattle.smv_obligations.proofs.Lists.{flat-same, each-changed}
 use Rattle.smv_obligations.proofs.SpotLaws.{spots-back, index-spots, take-spots}
 
 -- the entry of a unit
@@ -136,7 +137,7 @@ module _ (p : Part) (h : IsPartOf p) where
 
       there : same_element (element def.family own_of) x ≡ true → is_own p def (written_element x) ≡ true
       there t =
-          let i : element def.family own_of ≡ x = one-element (element def.family own_of) x t in
+          let i : element def.family own_of ≡ x = same_element-is (element def.family own_of) x t in
           subst (λ (y : AbsElement). is_own p def (written_element y) ≡ true) i
           (ap (λ (cs : List Class). elements.same_element (element_in def.family (own_indexes p def)) (element_in def.family cs)) classes ∙ same-itself (element_in def.family (own_indexes p def)))
 

@@ -97,7 +97,7 @@ pub fn offers_of<S: Conditions>(
 }
 
 /// The outcomes of a conditional.
-#[tactic(auto, using(crate::proofs::PairLaws::all_stay))]
+#[tactic(auto, using(smv_conditions::proofs::AddLaws::offers_kept))]
 pub fn chosen<S: Conditions>(
     s: &mut S,
     alloc: Global,

@@ -115,7 +115,7 @@ pub(crate) fn guarded<S: Conditions>(
 }
 
 /// A comparison.
-#[tactic(auto, using(crate::proofs::PairLaws::rest_stays, crate::proofs::PairLaws::all_stay))]
+#[tactic(auto, using(smv_conditions::proofs::AddLaws::rest_kept, smv_conditions::proofs::AddLaws::offers_kept))]
 pub(crate) fn compared_all<S: Conditions>(
     s: &mut S,
     alloc: Global,
@@ -140,7 +140,7 @@ pub(crate) fn compared_all<S: Conditions>(
 }
 
 // An outcome with each of a list, added up.
-#[tactic(auto, using(crate::proofs::PairLaws::rest_stays, crate::proofs::PairLaws::all_stay))]
+#[tactic(auto, using(smv_conditions::proofs::AddLaws::rest_kept, smv_conditions::proofs::AddLaws::offers_kept))]
 fn added_each<S: Conditions>(
     s: &mut S,
     alloc: Global,
@@ -167,7 +167,7 @@ fn added_each<S: Conditions>(
 }
 
 /// Sums or differences, behind other outcomes.
-#[tactic(auto, using(crate::proofs::PairLaws::rest_stays, crate::proofs::PairLaws::all_stay))]
+#[tactic(auto, using(smv_conditions::proofs::AddLaws::rest_kept, smv_conditions::proofs::AddLaws::offers_kept))]
 fn added_all<S: Conditions>(
     s: &mut S,
     alloc: Global,
@@ -211,7 +211,7 @@ pub fn added_of<S: Conditions>(
 }
 
 // The remainders, behind other outcomes.
-#[tactic(auto, using(crate::proofs::PairLaws::rest_stays, crate::proofs::PairLaws::all_stay))]
+#[tactic(auto, using(smv_conditions::proofs::AddLaws::rest_kept, smv_conditions::proofs::AddLaws::offers_kept))]
 fn remainders<S: Conditions>(
     s: &mut S,
     alloc: Global,

@@ -6,9 +6,9 @@ use Rattle.smv_core.specs.declared.flat.Design.{Design}
 use Rattle.smv_mentions.specs.FirstFault.{or_else}
 use Rattle.law_obligations.specs.Units.{units_of}
 use Rattle.law_splits.specs.Leaves.{leaves_of}
+use Rattle.law_splits.proofs.Splits.{one_each}
 use Rattle.law_uses.specs.Choices.{choice_of, choices_of}
 use Rattle.law_valid_texts.specs.Faults.{first_there}
-use Rattle.law_valid_texts.proofs.Places.{leaf_each}
 
 -- the first of nine, the last of which comes behind all others
 pub nested : (a b c d e f g h i : Option Fault) →
@@ -24,10 +24,6 @@ nested None None None None None None None (Some x) i = refl
 nested None None None None None None None None (Some x) = refl
 nested None None None None None None None None None = refl
 
-pub none-both : (a b : Option Fault) → or_else a b ≡ None → (a ≡ None) × (b ≡ None)
-none-both None b e = (refl, e)
-none-both (Some x) b e = absurd (cc (e))
-
 -- a choice for each unit
 pub choice_each : (d : Design) → length (choices_of d) ≡ length (units_of d)
-choice_each d = length-map (leaves_of d) (choice_of d (units_of d)) ∙ leaf_each d 0 (units_of d)
+choice_each d = length-map (leaves_of d) (choice_of d (units_of d)) ∙ one_each d 0 (units_of d)

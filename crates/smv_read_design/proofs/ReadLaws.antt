@@ -78,8 +78,3 @@ form_refused text (refusal.Fault f) within bad = λ command deciding. malformed 
 form_refused text refusal.OutOfMemory within bad = tt
 
 pub ruleset of_texts = (any_spelling, plan_had, plan_refused, form_refused)
-
--- a fact of an answer, where there is one, gives another
-pub each_ok : {X E : Type 0} (r : Result X E) (P Q : X → Type 0) → ((x : X) → P x → Q x) → IfOk r P → IfOk r Q
-each_ok (Ok x) P Q so p = so x p
-each_ok (Err e) P Q so p = tt

@@ -4,6 +4,7 @@ use Rattle.std.specs.List.{list_any}
 use Rattle.std.proofs.lemmas.Bool.{or_cases, cases_Bool}
 use Rattle.law_lists.proofs.Lists.{length_map}
 use Rattle.law_lists.proofs.Booleans.{either_left, either_right, and_both, left_of, right_of}
+use Rattle.law_lists.proofs.Anys.{any-map, any-agree}
 use Rattle.smv_core.specs.Assignments.{Index, fixed, bare, computed}
 use Rattle.smv_core.specs.FlatMeaning.{flat_index}
 use Rattle.smv_core.specs.declared.flat.Simple.{Simple}
@@ -18,7 +19,7 @@ use Rattle.smv_reads.specs.Views.{world_of, place_in, places, bind_spot}
 use Rattle.smv_reads.specs.Reading.{counts_in, counts_over}
 use Rattle.smv_reads.specs.Counts.{fits, may_be, may_fit, may_be_own, may_count, some_may_count}
 use Rattle.smv_reads.proofs.Computing.{boxes}
-use Rattle.smv_reads.proofs.Lists.{any-map, any-each, bound-places}
+use Rattle.smv_reads.proofs.Lists.{bound-places}
 use mathlib.Core.Former.{Count}
 
 abbrev rows_of : DefBody → (k : Count) × Row_of-DefBody k
@@ -78,7 +79,7 @@ module _ (v : View) (own b : List Spot) where
       let f : Place → Bool = λ p. has_counting (places_in (world_of v)) (is_own (places v own)) body (bind_place (places v b) var p) in
       ap (list_any f) (sym e)
       ∙ any-map f (place_in v) spots
-      ∙ any-each (λ s. f (place_in v s)) (λ s. counts_in v own (bind_spot b var s) body) spots (λ s. ap (has_counting (places_in (world_of v)) (is_own (places v own)) body) (sym (bound-places v b var s)))
+      ∙ any-agree (λ s. f (place_in v s)) (λ s. counts_in v own (bind_spot b var s) body) spots (λ s. ap (has_counting (places_in (world_of v)) (is_own (places v own)) body) (sym (bound-places v b var s)))
 
 pub ruleset equations = (count-Nothing, count-Assign, count-If, count-First, count-Forall)
 

@@ -2,6 +2,8 @@
 use Rattle.std.proofs.Common.{◌≡◌, ℕ, List, [], ◌∷◌, ◌++◌, map, Some, None, refl, sym, ap, ◌∙◌}
 use Rattle.std.specs.List.{flat_map}
 use Rattle.std.proofs.lemmas.List.{append_assoc, map-append}
+use Rattle.std.proofs.lemmas.List.Folds.{flat_map-map}
+use Rattle.law_lists.proofs.Lists.{map-flat_map, flat_map_alike}
 use Rattle.smv_core.specs.Assignments.{Index}
 use Rattle.smv_core.specs.FlatMeaning.{flat_index}
 use Rattle.smv_core.specs.declared.tree.Op.{Op}
@@ -18,7 +20,7 @@ use Rattle.smv_reads.specs.declared.bindings.View.{View}
 use Rattle.smv_reads.specs.Views.{world_of, place_in, places, bind_spot}
 use Rattle.smv_reads.specs.Reading.{read_at, read_in, read_in_term, read_in_member, read_over}
 use Rattle.smv_reads.proofs.Computing.{boxes}
-use Rattle.smv_reads.proofs.Lists.{map-flat_map, flat_map-map, flat_map-same, bound-places}
+use Rattle.smv_reads.proofs.Lists.{bound-places}
 use mathlib.Core.Former.{Count}
 
 indexes-row : (k : _) (row : Row_of-FlatExpr k) → indexes_read row ≡ map flat_index (items-the_row-FlatExpr k row)
@@ -175,7 +177,7 @@ module _ (v : View) (b : List Spot) where
       map-flat_map written_element f (named_in (world_of v) over)
       ∙ ap (flat_map (λ p. map written_element (f p))) (sym e)
       ∙ flat_map-map (λ p. map written_element (f p)) (place_in v) spots
-      ∙ flat_map-same (λ s. map written_element (f (place_in v s))) (λ s. read_in v (bind_spot b var s) body) spots (λ s. ap (λ ps. map written_element (elements_read (world_of v) body ps)) (sym (bound-places v b var s)))
+      ∙ flat_map_alike (λ s. map written_element (f (place_in v s))) (λ s. read_in v (bind_spot b var s) body) spots (λ s. ap (λ ps. map written_element (elements_read (world_of v) body ps)) (sym (bound-places v b var s)))
 
 pub ruleset equations = (read-Read, read-And, read-Or, read-Implies, read-List, read-Sum, read-Number, read-Loop, read-Var, read-Constant, read-Not, read-Modulo, read-Iff, read-Compare, read-Within, read-Choose, read-All, read-Any, read-Each, read-Each_if)
 

@@ -1,8 +1,8 @@
 -- Which classes indexes may be, as they are written.
-use Rattle.std.proofs.Common.{◌≡◌, ℕ, zero, suc, ◌+◌, ◌-◌, ◌<◌, ◌≤◌, List, [], ◌∷◌, ◌++◌, map, filter, length, drop, get_or, slice_get, Option, Some, None, Bool, true, false, cond, refl, sym, ap, ◌∙◌, arith}
+use Rattle.std.proofs.Common.{◌≡◌, ℕ, zero, suc, ◌+◌, ◌-◌, ◌<◌, ◌≤◌, List, [], ◌∷◌, ◌++◌, map, filter, length, drop, get_or, slice_get, Option, Some, None, Bool, true, false, refl, sym, ap, ◌∙◌, arith}
 use Rattle.std.specs.List.{flat_map}
 use Rattle.std.proofs.lemmas.List.{map-append}
-use Rattle.law_lists.proofs.Lists.{append_again}
+use Rattle.law_lists.proofs.Lists.{append_again, filter-map, map-map}
 use Rattle.smv_core.specs.Values.{numbers_from}
 use Rattle.smv_core.specs.Assignments.{Index, fixed, bare, computed}
 use Rattle.smv_core.specs.FlatMeaning.{flat_index}
@@ -30,7 +30,6 @@ use Rattle.smv_spots.proofs.TypeLaws.{range_named, classes_named}
 use Rattle.smv_reads.specs.declared.bindings.View.{View}
 use Rattle.smv_reads.specs.Views.{world_of, IsView, place_in, places, spot_in, classes_in, may_lie}
 use Rattle.smv_reads.specs.Reading.{elements_from, choice_in, choices_in, read_at}
-use Rattle.smv_reads.proofs.Lists.{map-map}
 
 -- ---- places that an index may be
 
@@ -47,14 +46,6 @@ lying b (fixed None) ps = none-kept ps
 lying b (fixed (Some u)) ps = refl
 lying b (bare var) ps = refl
 lying b computed ps = all-kept ps
-
-filter-map : {X Y : Type 0} (test : Y → Bool) (f : X → Y) (xs : List X) → filter test (map f xs) ≡ map f (filter (λ x. test (f x)) xs)
-filter-map test f [] = refl
-filter-map test f (x ∷ xs) = at (test (f x)) (filter-map test f xs)
-  where
-    at : (c : Bool) → filter test (map f xs) ≡ map f (filter (λ x. test (f x)) xs) → cond c (f x ∷ filter test (map f xs)) (filter test (map f xs)) ≡ map f (cond c (x ∷ filter (λ x. test (f x)) xs) (filter (λ x. test (f x)) xs))
-    at true e = ap (λ ys. f x ∷ ys) e
-    at false e = e
 
 map-back : {X Y : Type 0} (f : X → Y) (g : Y → X) → ((x : X) → g (f x) ≡ x) → (xs : List X) → map g (map f xs) ≡ xs
 map-back f g e [] = refl

@@ -2,6 +2,8 @@
 use Rattle.std.proofs.Common.{◌≡◌, ℕ, List, [], ◌++◌, map, Bool, true, false, ◌||◌, if◌then◌else◌, refl, sym, ap, ◌∙◌}
 use Rattle.std.specs.List.{flat_map}
 use Rattle.std.proofs.lemmas.List.{append_assoc, map-append}
+use Rattle.std.proofs.lemmas.List.Folds.{flat_map-map}
+use Rattle.law_lists.proofs.Lists.{map-flat_map, flat_map_alike, map-if}
 use Rattle.smv_core.specs.FlatMeaning.{flat_index}
 use Rattle.smv_core.specs.declared.flat.Simple.{Simple}
 use Rattle.smv_core.specs.declared.flat.Def.{Def}
@@ -18,7 +20,7 @@ use Rattle.smv_reads.specs.Views.{world_of, place_in, places, bind_spot}
 use Rattle.smv_reads.specs.Reading.{read_in, counts_in, read_by, read_by_assignment, read_by_over, read_of}
 use Rattle.smv_reads.specs.Counts.{may_count}
 use Rattle.smv_reads.proofs.Computing.{boxes}
-use Rattle.smv_reads.proofs.Lists.{map-flat_map, flat_map-map, flat_map-same, map-if, bound-places}
+use Rattle.smv_reads.proofs.Lists.{bound-places}
 use Rattle.smv_reads.proofs.CountLaws.{count-If, none-may}
 use mathlib.Core.Former.{Count}
 
@@ -86,7 +88,7 @@ module _ (v : View) (own b : List Spot) where
       map-flat_map written_element f (places_in (world_of v) over)
       ∙ ap (flat_map (λ p. map written_element (f p))) (sym e)
       ∙ flat_map-map (λ p. map written_element (f p)) (place_in v) spots
-      ∙ flat_map-same (λ s. map written_element (f (place_in v s))) (λ s. read_by v own (bind_spot b var s) body) spots
+      ∙ flat_map_alike (λ s. map written_element (f (place_in v s))) (λ s. read_by v own (bind_spot b var s) body) spots
       (λ s. ap (λ ps. map written_element (part_reads (places_in (world_of v)) (is_own (places v own)) (named_in (world_of v)) (elements_at (world_of v)) body ps)) (sym (bound-places v b var s)))
 
   -- where nothing may count

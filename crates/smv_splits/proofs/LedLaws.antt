@@ -7,6 +7,7 @@ use Rattle.std.proofs.lemmas.List.{length-map, length-replicate, ext_get_or}
 use Rattle.std.proofs.lemmas.Option.{slice_get-get_or, slice_get_within}
 use Rattle.std.proofs.lemmas.Slice.Eq.{bytes_eq-Decides}
 use Rattle.law_lists.proofs.Options.{some_is}
+use Rattle.law_lists.proofs.Places.{get-map}
 use Rattle.smv_core.specs.Values.{Name}
 use Rattle.smv_core.specs.declared.flat.Design.{Design}
 use Rattle.smv_core.specs.declared.flat.FlatSplit.{FlatSplit}
@@ -50,11 +51,6 @@ from-map : {X Y : Type 0} (f : X → Y) (xs : List X) (k : ℕ) (y : Y) → slic
 from-map f [] k y e = absurd (cc)
 from-map f (x ∷ xs) zero y e = (x, refl, sym (some_is e))
 from-map f (x ∷ xs) (suc k) y e = from-map f xs k y e
-
-in-map : {X Y : Type 0} (f : X → Y) (xs : List X) (k : ℕ) (x : X) → slice_get xs k ≡ Some x → slice_get (map f xs) k ≡ Some (f x)
-in-map f [] k x e = absurd (cc)
-in-map f (y ∷ xs) zero x e = ap (λ z. Some (f z)) (some_is e)
-in-map f (y ∷ xs) (suc k) x e = in-map f xs k x e
 
 same-bytes : (a b : Name) → a ≡ b → bytes_eq a b ≡ true
 same-bytes a b e = (bytes_eq-Decides a b).1 e
@@ -108,7 +104,7 @@ module _ (d : Design) where
   name-of : (name : Name) (y : ℕ) (s : FlatSplit) → slice_get d.splits y ≡ Some s → named_by s.of ≡ name → Has (numbers_with name 0 named) y
   name-of name y s at is =
       let z : 0 + y ≡ y = omega arith in
-      subst (Has (numbers_with name 0 named)) z (with-found name 0 named y (in-map (λ (s : FlatSplit). named_by s.of) d.splits y s at ∙ ap Some is))
+      subst (Has (numbers_with name 0 named)) z (with-found name 0 named y (get-map (λ (s : FlatSplit). named_by s.of) d.splits y s at ∙ ap Some is))
 
   module _ (groups : List (List ℕ)) (next : List ℕ) (are : AreGroups named groups) (nexts : next ≡ map (next_place named (length d.splits)) d.splits) where
     abbrev goes : ℕ → List ℕ
@@ -119,7 +115,7 @@ module _ (d : Design) where
 
     -- what follows a split are the splits of what it makes
     goes-is : (x : ℕ) (s : FlatSplit) → slice_get d.splits x ≡ Some s → goes x ≡ numbers_with s.name 0 named
-    goes-is x s at = ap (list_at groups) (ap (λ l. slice_get l x) nexts ∙ in-map (next_place named (length d.splits)) d.splits x s at) ∙ by (position named s.name) refl
+    goes-is x s at = ap (list_at groups) (ap (λ l. slice_get l x) nexts ∙ get-map (next_place named (length d.splits)) d.splits x s at) ∙ by (position named s.name) refl
       where
         by : (o : Option ℕ) → position named s.name ≡ o → list_at groups (Some (unwrap_or o (length d.splits))) ≡ numbers_with s.name 0 named
         by None e = ap (λ k. list_at groups (Some k)) (sym splits-long) ∙ no-group named groups are s.name e

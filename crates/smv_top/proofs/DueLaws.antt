@@ -1,5 +1,5 @@
 -- What is due by what was found.
-use Rattle.std.proofs.Common.{◌≡◌, ◌≤◌, ◌<◌, ◌∙◌, ◌++◌, ◌∷◌, [], ℕ, List, length, true, refl, ap, sym, subst, codes, Result, Ok, Err, Option, Some, None, IfOk}
+use Rattle.std.proofs.Common.{◌≡◌, ◌≤◌, ◌<◌, ◌∙◌, ◌++◌, ◌∷◌, [], ℕ, List, length, true, refl, ap, sym, subst, codes, Err, Option, Some, None}
 use Rattle.smv_core.specs.declared.fault.Fault.{Fault}
 use Rattle.smv_core.specs.declared.fault.Refusal.{Refusal}
 use Rattle.smv_core.specs.declared.fault.Refusal.TheVariants as refusal
@@ -40,11 +40,6 @@ due_name text name budgets due answer none e f = due_fault (Only name budgets) t
 -- the fault that a call answers
 pub fault_of : (X : Type 0) (r : Refusal) (f : Fault) (P : Fault → Type 0) → r ≡ refusal.Fault f → IfFault {X = X} (Err r) P → P f
 fault_of X r f P is bad = subst (λ (z : Refusal). IfFault {X = X} (Err z) P) is bad
-
--- two facts of an answer, where there is one, give a third
-pub both_ok : {X E : Type 0} (r : Result X E) (P Q R : X → Type 0) → ((x : X) → P x → Q x → R x) → IfOk r P → IfOk r Q → IfOk r R
-both_ok (Ok x) P Q R so p q = so x p q
-both_ok (Err e) P Q R so p q = tt
 
 -- words that are no command
 pub due_usage : (command : Option Command) (text answer : List ℕ) → command ≡ None → answer ≡ usage_line → IsDueTo command text status.Usage answer

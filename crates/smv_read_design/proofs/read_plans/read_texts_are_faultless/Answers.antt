@@ -1,4 +1,5 @@
 -- Pass by pass.
+use Rattle.law_sound_texts.proofs.NoFaults.{none-both}
 use Rattle.smv_mentions.specs.FirstFault.{first_fault, first_of, or_else}
 use Rattle.law_designs.specs.KindFaults.{first_fault_of_kinds}
 use Rattle.law_designs.specs.Flattening.{flatten}
@@ -11,7 +12,6 @@ use Rattle.smv_front.specs.Plans.{plan_fault}
 use Rattle.smv_front.specs.TextFault.{design_fault, flat_text_fault, text_fault}
 use Rattle.law_valid_texts.specs.Joined.{flat_design}
 use Rattle.law_valid_texts.specs.Faults.{faults_of_cases}
-use Rattle.smv_read_design.proofs.Order.{none-both}
 use Rattle.smv_read_design.proofs.read_plans.read_texts_are_faultless.Goals as goal
 
 pub returns : goal.returns
