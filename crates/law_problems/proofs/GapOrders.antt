@@ -11,7 +11,8 @@ use Rattle.smv_core.specs.declared.flat.SetInfo.{SetInfo}
 use Rattle.law_obligations.specs.Sets.{Has}
 use Rattle.law_obligations.specs.Places.{Place, named, rest, is_named, World, rests_beside, places_of, places_in, unsure, below_places}
 use Rattle.law_obligations.proofs.Members.{Has-cases, Has-from_map}
-use Rattle.law_obligations.proofs.Same.{nat_eq-is, nat_eq-itself}
+use Rattle.law_lists.proofs.Numbers.{nat_eq-is}
+use Rattle.law_obligations.proofs.Same.{nat_eq-itself}
 use Rattle.law_problems.specs.ValueLaws.{IsKnown, IsEither, IsOneGap}
 
 -- a class or a gap of an ordset of this name, by its number

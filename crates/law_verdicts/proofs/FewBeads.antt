@@ -3,12 +3,12 @@ use Rattle.std.proofs.Common.{◌≤◌, ℕ, zero, suc, ◌+◌, ◌-◌, ◌*�
 use Rattle.std.specs.List.{flat_map, list_any}
 use Rattle.std.proofs.Math.Nat.{pow-suc}
 use Rattle.bdd_store.specs.Beads.{same_block, blocks_of, count_distinct, bead_count}
-use Rattle.law_obligations.proofs.OneOfEach.{joined_long}
+use Rattle.std.proofs.lemmas.List.{length-append}
 
 -- a table's own block, if it is a bead, and those of its two halves
 with_own : (b : ℕ) (t : List Bool) (own : Bool) (first second : List (List Bool)) → length first + 1 ≤ 2 ^ b → length second + 1 ≤ 2 ^ b → length (cond own [] (t ∷ []) ++ (first ++ second)) + 1 ≤ 2 ^ suc b
-with_own b t true first second h k = omega (arith, joined_long first second, pow-suc 2 b, h, k)
-with_own b t false first second h k = omega (arith, joined_long first second, pow-suc 2 b, h, k)
+with_own b t true first second h k = omega (arith, length-append first second, pow-suc 2 b, h, k)
+with_own b t false first second h k = omega (arith, length-append first second, pow-suc 2 b, h, k)
 
 few_blocks : (b : ℕ) (t : List Bool) → length (blocks_of b t) + 1 ≤ 2 ^ b
 unfolding blocks_of
@@ -27,7 +27,7 @@ few_distinct same (x ∷ xs) = one_more (list_any (same x) xs) (count_distinct s
 
 few_of_all : {A B : Type 0} (f : A → List B) (most : ℕ) → ((x : A) → length (f x) ≤ most) → (xs : List A) → length (flat_map f xs) ≤ length xs * most
 few_of_all f most few [] = omega arith
-few_of_all f most few (x ∷ xs) = grind (arith, joined_long (f x) (flat_map f xs), few x, few_of_all f most few xs)
+few_of_all f most few (x ∷ xs) = grind (arith, length-append (f x) (flat_map f xs), few x, few_of_all f most few xs)
 
 pub few_beads : (n : ℕ) (tables : List (List Bool)) → bead_count n tables ≤ length tables * (2 ^ n - 1)
 unfolding bead_count

@@ -2,7 +2,7 @@
 use Rattle.std.proofs.Common.{◌≡◌, ◌≢◌, ◌≤◌, ◌<◌, ℕ, zero, suc, ◌+◌, ◌-◌, ◌*◌, ◌^◌, List, [], ◌∷◌, ◌++◌, map, length, sym, subst, ◌∙◌, inl, inr, arith}
 use Rattle.bdd_store.specs.Beads.{truth_table}
 use Rattle.bdd_ops.specs.Functions.{Function}
-use Rattle.law_obligations.proofs.OneOfEach.{joined_long, map_long}
+use Rattle.std.proofs.lemmas.List.{length-append, length-map}
 use Rattle.smv_rings.specs.Lists.{Lists, IsLists}
 use Rattle.smv_rings.specs.Schedule.{Act, Line, live, lines, left_by, made_by, after, functions, one_by_one, first_lines, first_all, turn, ring, kept_at, turn_lines, schedule}
 use Rattle.smv_rings.specs.Schedule.Act.{Join, Look_at}
@@ -24,10 +24,10 @@ few_append most (x ∷ xs) ys few more = (few.0, few_append most xs ys few.1 mor
 
 -- two functions more than are kept
 two_more : (kept : List Function) (p q : Function) (most : ℕ) → length kept + 2 ≤ most → length (kept ++ (p ∷ (q ∷ []))) ≤ most
-two_more kept p q most h = omega (arith, joined_long kept (p ∷ (q ∷ [])))
+two_more kept p q most h = omega (arith, length-append kept (p ∷ (q ∷ [])))
 
 one_more : (kept : List Function) (p : Function) (most : ℕ) → length kept + 1 ≤ most → length (kept ++ (p ∷ [])) ≤ most
-one_more kept p most h = omega (arith, joined_long kept (p ∷ []))
+one_more kept p most h = omega (arith, length-append kept (p ∷ []))
 
 few_lines : (most : ℕ) (kept : List Function) (p : Function) (acts : List Act) → length kept + 2 ≤ most → AreFew most (lines kept p acts)
 few_lines most kept p [] h = tt
@@ -35,7 +35,7 @@ few_lines most kept p (act ∷ acts) h = (two_more kept p (made_by act p) most h
 
 few_ones : (most : ℕ) (kept fs : List Function) → length kept + length fs ≤ most → AreFew most (one_by_one kept fs)
 few_ones most kept [] h = tt
-few_ones most kept (f ∷ fs) h = (one_more kept f most (omega arith), few_ones most (kept ++ (f ∷ [])) fs (omega (arith, joined_long kept (f ∷ []))))
+few_ones most kept (f ∷ fs) h = (one_more kept f most (omega arith), few_ones most (kept ++ (f ∷ [])) fs (omega (arith, length-append kept (f ∷ []))))
 
 few_firsts : (most : ℕ) (kept fs : List Function) → length kept + 2 ≤ most → AreFew most (first_lines kept fs)
 few_firsts most kept [] h = tt
@@ -43,8 +43,8 @@ few_firsts most kept (f ∷ fs) h = (one_more kept f most (omega arith), few_lin
 
 module _ (l : Lists) where
   kept_long : (k : ℕ) → length (kept_at l k) ≡ length (functions l) + suc k
-  kept_long zero = joined_long (functions l) (ring l zero ∷ [])
-  kept_long (suc k) = joined_long (kept_at l k) (ring l (suc k) ∷ []) ∙ more (length (kept_at l k)) (length (functions l)) (kept_long k)
+  kept_long zero = length-append (functions l) (ring l zero ∷ [])
+  kept_long (suc k) = length-append (kept_at l k) (ring l (suc k) ∷ []) ∙ more (length (kept_at l k)) (length (functions l)) (kept_long k)
     where
       more : (a b : ℕ) → a ≡ b + suc k → a + 1 ≡ b + suc (suc k)
       more a b e = omega arith
@@ -70,7 +70,7 @@ module _ (l : Lists) where
     many_at most ls few c f = in_list f.0 f.1 f.2 (subst (AreFew most) f.3 few) f.5.0
       where
         at_line : (line : Line) → length (live line) ≤ most → b.nodes < count b.vars line → b.nodes < most * (2 ^ b.vars - 1)
-        at_line line h lt = omega (arith, few_beads b.vars (map (truth_table b.vars 0) (live line)), more_times (length (map (truth_table b.vars 0) (live line))) most (2 ^ b.vars - 1) (omega (arith, map_long (truth_table b.vars 0) (live line))))
+        at_line line h lt = omega (arith, few_beads b.vars (map (truth_table b.vars 0) (live line)), more_times (length (map (truth_table b.vars 0) (live line))) most (2 ^ b.vars - 1) (omega (arith, length-map (truth_table b.vars 0) (live line))))
 
         in_list : (before : List Line) (line : Line) (behind : List Line) → AreFew most (before ++ (line ∷ behind)) → b.nodes < count b.vars line → b.nodes < most * (2 ^ b.vars - 1)
         in_list [] line behind few lt = at_line line few.0 lt

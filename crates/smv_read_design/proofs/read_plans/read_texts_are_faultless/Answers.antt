@@ -1,5 +1,5 @@
 -- Pass by pass.
-use Rattle.law_sound_texts.proofs.NoFaults.{none-both}
+use Rattle.law_flat_kinds.proofs.NoFaults.{none-both}
 use Rattle.smv_mentions.specs.FirstFault.{first_fault, first_of, or_else}
 use Rattle.law_designs.specs.KindFaults.{first_fault_of_kinds}
 use Rattle.law_designs.specs.Flattening.{flatten}
