@@ -1,6 +1,6 @@
 -- A unit holds where its leaf does.
-use Rattle.std.proofs.Common.{◌≡◌, ℕ, zero, suc, List, [], ◌∷◌, ◌++◌, map, take, length, get_or, Bool, true, false, not, ◌||◌, refl, ap, subst, ◌∙◌, Option, Some, None, arith}
-use Rattle.std.proofs.lemmas.List.{length-map, map-append}
+use Rattle.std.proofs.Common.{◌≡◌, List, [], ◌∷◌, ◌++◌, map, take, length, get_or, Bool, true, false, not, ◌||◌, refl, subst, ◌∙◌, Option, Some, None}
+use Rattle.std.proofs.lemmas.List.{map-append, length-map, take_at}
 use Rattle.smv_core.specs.Values.{Value, number, Sizes}
 use Rattle.smv_core.specs.FlatMeaning.{Numbered, FlatState, values_in}
 use Rattle.smv_core.specs.declared.flat.Simple.{Simple}
@@ -13,7 +13,7 @@ use Rattle.law_obligations.specs.Guards.{guard_holds}
 use Rattle.law_obligations.specs.Circular.{always}
 use Rattle.law_obligations.specs.Soundness.{FlatUnit, at_sizes, AreSizes, params_of, values_over, is_held}
 use Rattle.law_obligations.specs.Outlines.{names_of, unit_in}
-use Rattle.law_obligations.proofs.Tests.{or_right, and_both, left_of, right_of}
+use Rattle.law_lists.proofs.Booleans.{either_right, and_both, left_of, right_of}
 use Rattle.law_obligations.proofs.Members.{all-holds}
 use Rattle.law_obligations.proofs.OneOfEach.{AreOf, are_of, one_of, are_long}
 use Rattle.law_splits.proofs.Splits.{leaf_of_unit}
@@ -24,13 +24,6 @@ use Rattle.law_units.specs.LeafInstances.{types_of, all_hold, is_leaf_held, IsLe
 where_met : (a b : Bool) → a ≡ true → (not a || b) ≡ true → b ≡ true
 where_met true b e h = h
 where_met false b e h = absurd (cc)
-
-front_of : {X : Type 0} (xs ys : List X) (k : ℕ) → length xs ≡ k → take k (xs ++ ys) ≡ xs
-front_of [] [] zero e = refl
-front_of [] (y ∷ ys) zero e = refl
-front_of [] ys (suc k) e = absurd (omega arith)
-front_of (x ∷ xs) ys zero e = absurd (omega arith)
-front_of (x ∷ xs) ys (suc k) e = ap (λ zs. x ∷ zs) (front_of xs ys k (omega arith))
 
 as_many : (n : Numbered) (types : List Simple) (values : List Value) → Has (values_over n types) values → length values ≡ length types
 as_many n types values h = are_long (map (values_in n) types) values (are_of (map (values_in n) types) values h) ∙ length-map types (values_in n)
@@ -43,7 +36,7 @@ held_by_leaves d unit leaf pair sizes each before now values h held =
     let m = guards_are_met d pair.is_read pair.no_fault sizes each unit leaf pair.are_paired now values h in
     let all : all_hold n leaf.guards (values ++ m.0) now ≡ true = all-holds (λ (g : Guard). guard_holds n now g.over g.expr (values ++ m.0) (get_or (values ++ m.0) g.var (number 0))) leaf.guards m.2 in
     let here = where_met (all_hold n leaf.guards (values ++ m.0) now) (is_held n (unit_in d unit) (take (length (params_of n (unit_in d unit))) (values ++ m.0)) before now) all (held m.0 m.1) in
-    subst (λ own. is_held n (unit_in d unit) own before now ≡ true) (front_of values m.0 (length (params_of n (unit_in d unit))) (as_many n (params_of n (unit_in d unit)) values h)) here
+    subst (λ own. is_held n (unit_in d unit) own before now ≡ true) (take_at values m.0 (length (params_of n (unit_in d unit))) (as_many n (params_of n (unit_in d unit)) values h)) here
 
 -- ---- always
 
@@ -85,7 +78,7 @@ weaker : (n : Numbered) (unit : FlatUnit) (leaf : Leaf) (values : List Value) (o
 weaker n unit leaf values old [] held = refl
 weaker n unit leaf values old (s ∷ run) held =
     let own = take (length (params_of n unit)) values in
-    and_both (or_right (not (all_hold n leaf.guards values s)) (left_of (is_held n unit own old s) (always (is_held n unit own) (Some s) run) held))
+    and_both (either_right (not (all_hold n leaf.guards values s)) (left_of (is_held n unit own old s) (always (is_held n unit own) (Some s) run) held))
     (weaker n unit leaf values (Some s) run (right_of (is_held n unit own old s) (always (is_held n unit own) (Some s) run) held))
 
 pub leaves_hold : LeavesHold

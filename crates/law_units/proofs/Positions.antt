@@ -14,7 +14,7 @@ use Rattle.law_designs.specs.Numbers.{family_number}
 use Rattle.law_designs.specs.Flattening.{scope_in, flat_family, flatten, layer_number}
 use Rattle.law_designs.proofs.SameFamilies.{families-same}
 use Rattle.law_designs.proofs.SameWalks.{path-equal}
-use Rattle.law_sound_texts.specs.TextExtension.{FamiliesAreFound}
+use Rattle.law_flat_kinds.specs.FamiliesFound.{FamiliesAreFound}
 
 pub inner : {X : Type 0} {x y : X} → Some x ≡ Some y → x ≡ y
 inner e = cc

@@ -32,9 +32,11 @@ use Rattle.law_obligations.specs.Outlines as outline
 use Rattle.law_obligations.specs.Outlines.{is_in_layer}
 use Rattle.law_obligations.specs.Units.{is_base_in, is_refinement}
 use Rattle.law_obligations.proofs.Members.{Has-left, Has-right}
-use Rattle.law_obligations.proofs.Same.{nat_eq-is, nat_eq-itself}
-use Rattle.law_obligations.proofs.Tests.{same_tests, left_of, right_of, and_both}
-use Rattle.law_sound_texts.specs.TextExtension.{FamiliesAreFound, IsSameLayer, LayersAreSame}
+use Rattle.law_lists.proofs.Numbers.{nat_eq-is}
+use Rattle.law_obligations.proofs.Same.{nat_eq-itself}
+use Rattle.law_lists.proofs.Booleans.{same_tests, left_of, right_of, and_both}
+use Rattle.law_sound_texts.specs.TextExtension.{IsSameLayer, LayersAreSame}
+use Rattle.law_flat_kinds.specs.FamiliesFound.{FamiliesAreFound}
 use Rattle.law_sound_texts.proofs.Faultless.{IsFaultless, base_by}
 use Rattle.law_sound_texts.proofs.FirstFound.{zip-append}
 use Rattle.law_sound_texts.proofs.FirstHeads.{IsOne, standing-one}

@@ -27,7 +27,8 @@ use Rattle.law_obligations.proofs.Lookups.{Has-filter, Has-from_filter, Has-test
 use Rattle.law_obligations.proofs.OneOfEach.{Has-from_flat_map, get_Has, Has_get}
 use Rattle.law_splits.specs.Leaves.{in_layer, name_of, name_of_family}
 use Rattle.law_sound_texts.specs.Exact.{LeftSidesAreExact}
-use Rattle.law_sound_texts.specs.TextExtension.{FamiliesAreFound, LayersAreSame}
+use Rattle.law_sound_texts.specs.TextExtension.{LayersAreSame}
+use Rattle.law_flat_kinds.specs.FamiliesFound.{FamiliesAreFound}
 use Rattle.law_sound_texts.proofs.Faultless.{IsFaultless}
 use Rattle.law_units.specs.TextUnits.{IsSameUnit, written_name, names_in}
 use Rattle.law_units.proofs.Positions.{inner, from-map, to-map, family-flat, family-led}

@@ -1,8 +1,8 @@
 -- The places of names, as they are noted.
 use Rattle.std.proofs.Common.{◌≡◌, ℕ, suc, Option, Bool, true, false, cond, List, [], ◌∷◌, ◌++◌, map, length, refl, ap, sym, ◌∙◌, Bor}
-use Rattle.std.specs.Prelude.{option_map, is_some, Some, None}
+use Rattle.std.specs.Prelude.{option_map, unwrap_or, Some, None}
 use Rattle.std.specs.Str.{bytes_eq}
-use Rattle.std.specs.HashMap.{HashMap, UpdatesBy}
+use Rattle.indexmap.specs.IndexMap.{IndexMap, UpdatesBy}
 use Rattle.std.proofs.lemmas.Map.Text.{hash_map_updates_str}
 use Rattle.std.proofs.lemmas.Slice.Eq.{bytes_eq-Decides}
 use Rattle.smv_core.specs.Values.{Name}
@@ -27,44 +27,27 @@ position-push [] x q = found_or-none (bytes_eq x.now q)
 position-push (y ∷ names) x q =
     ap (λ o. cond (bytes_eq y.now q) (Some 0) (option_map suc o)) (position-push names x q) ∙ option_map-either (bytes_eq y.now q) (position (map (λ name. name.now) names) q) (bytes_eq x.now q) (length names)
 
--- no place was found
-pub none_from_test : (o : Option ℕ) (b : Bool) → b ≡ is_some o → b ≡ false → o ≡ None
-none_from_test None b e n = refl
-none_from_test (Some i) b e n = cc
-
--- a name that has a place keeps it
-pub found_or-known : {S : Type 0} (m : HashMap (Bor (List ℕ)) ℕ S) (x : Name) (n i : ℕ) → noted m x ≡ Some i → (q : Name) → noted m q ≡ found_or (noted m q) (bytes_eq x q) n
-found_or-known m x n i known q = by (bytes_eq x q) refl
+-- a name has the place that it had, or else the one that it is given
+pub found_or-entered : {S : Type 0} (m m' : IndexMap (Bor (List ℕ)) ℕ S) (x : Name) (n w : ℕ) (had : Option ℕ) → had ≡ noted m x → w ≡ unwrap_or had n
+    → UpdatesBy (λ x y. bytes_eq x.now y.now) (λ k. bytes_eq x k.now) m m' (Some w) → (q : Name) → noted m' q ≡ found_or (noted m q) (bytes_eq x q) n
+found_or-entered m m' x n w had known given updates q = hash_map_updates_str x m m' (Some w) updates q ∙ by (bytes_eq x q) refl
   where
-    by : (b : Bool) → bytes_eq x q ≡ b → noted m q ≡ found_or (noted m q) b n
+    own : (o : Option ℕ) → Some (unwrap_or o n) ≡ found_or o true n
+    own None = refl
+    own (Some i) = refl
+
+    other : (o : Option ℕ) → o ≡ found_or o false n
+    other None = refl
+    other (Some i) = refl
+
+    by : (b : Bool) → bytes_eq x q ≡ b → cond b (Some w) (noted m q) ≡ found_or (noted m q) b n
     by true e =
         let same : x ≡ q = (bytes_eq-Decides x q).0 e in
-        let here : noted m q ≡ Some i = ap (noted m) (sym same) ∙ known in
-        cc (here, ap (λ o. found_or o true n) here)
+        ap Some (given ∙ ap (λ o. unwrap_or o n) (known ∙ ap (noted m) same)) ∙ own (noted m q)
     by false e = other (noted m q)
-      where
-        other : (o : Option ℕ) → o ≡ found_or o false n
-        other (Some j) = refl
-        other None = refl
-
--- a name that has none gets it
-pub found_or-new : {S : Type 0} (m m' : HashMap (Bor (List ℕ)) ℕ S) (x : Name) (n : ℕ) → noted m x ≡ None
-    → UpdatesBy (λ x y. bytes_eq x.now y.now) (λ k. bytes_eq x k.now) m m' (Some n) → (q : Name) → noted m' q ≡ found_or (noted m q) (bytes_eq x q) n
-found_or-new m m' x n absent updates q = hash_map_updates_str x m m' (Some n) updates q ∙ by (bytes_eq x q) refl
-  where
-    by : (b : Bool) → bytes_eq x q ≡ b → cond b (Some n) (noted m q) ≡ found_or (noted m q) b n
-    by true e =
-        let same : x ≡ q = (bytes_eq-Decides x q).0 e in
-        let here : noted m q ≡ None = ap (noted m) (sym same) ∙ absent in
-        cc (here, ap (λ o. found_or o true n) here)
-    by false e = other (noted m q)
-      where
-        other : (o : Option ℕ) → o ≡ found_or o false n
-        other (Some j) = refl
-        other None = refl
 
 -- what is noted stays right where a name is put at the end
-pub pushed : {S : Type 0} (names names' : List (Bor Name)) (x : Bor Name) (m m' : HashMap (Bor (List ℕ)) ℕ S) (bytes : Name) (place : ℕ)
+pub pushed : {S : Type 0} (names names' : List (Bor Name)) (x : Bor Name) (m m' : IndexMap (Bor (List ℕ)) ℕ S) (bytes : Name) (place : ℕ)
     → ((q : Name) → noted m q ≡ position (map (λ name. name.now) names) q) → names' ≡ names ++ x ∷ [] → bytes ≡ x.now → place ≡ length names
     → ((q : Name) → noted m' q ≡ found_or (noted m q) (bytes_eq bytes q) place) → (q : Name) → noted m' q ≡ position (map (λ name. name.now) names') q
 pushed names names' x m m' bytes place known more same long now q =

@@ -1,7 +1,7 @@
 -- Where a name stands in a list of names.
 use Rattle.std.specs.Prelude.{ℕ, suc, List, [], ◌∷◌, Option, Some, None, Bool, if◌then◌else◌, option_map}
 use Rattle.std.specs.Str.{bytes_eq}
-use Rattle.std.specs.HashMap.{HashMap, get_by}
+use Rattle.indexmap.specs.IndexMap.{IndexMap, get_by}
 use Rattle.std.proofs.Common.{Bor}
 use Rattle.smv_core.specs.Values.{Name}
 
@@ -16,5 +16,5 @@ found_or (Some found) is_it place = Some found
 found_or None is_it place = if is_it then Some place else None
 
 -- the place that is noted of a name
-abbrev pub noted : {S : Type 0} → HashMap (Bor (List ℕ)) ℕ S → Name → Option ℕ
+abbrev pub noted : {S : Type 0} → IndexMap (Bor (List ℕ)) ℕ S → Name → Option ℕ
 noted places name = get_by (λ key. bytes_eq name key.now) places

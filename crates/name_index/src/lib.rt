@@ -1,7 +1,7 @@
 //! Names in their order, each found by its first place.
 //!
-//! For every pass that looks names up. To change it: contracts speak of the first place of a name in the list of those that were given; the hash map is
-//! in the invariant.
+//! For every pass that looks names up. To change it: contracts speak of the first place of a name in the list of those that were given; the map, which
+//! has each distinct name once, in the order of first places, is in the invariant.
 #![tactic(auto)]
 
 ghost use Rattle.std.specs.Prelude.{◌≡◌, List, [], ◌∷◌, ◌++◌, OnOk, OnErr, map, option_map, option_and_then, slice_get};
@@ -12,16 +12,16 @@ ghost use Rattle.smv_core.specs.Values.{Name};
 
 pub mod map;
 
+use indexmap::IndexMap;
 use smv_core::name::Name;
 use std::alloc::{AllocError, Global};
-use std::collections::HashMap;
 use std::marker::Model;
 
 /// Names in the order in which they were given, each found by its first place. Contracts see the list of the names.
 #[derive(Drop)]
 pub struct NameIndex<'a> {
     names: Vec<&'a Name>,
-    places: HashMap<&'a [u8], usize>,
+    first_places: IndexMap<&'a [u8], usize>,
 }
 
 impl<'a> Model for NameIndex<'a> {
@@ -32,7 +32,7 @@ impl<'a> Model for NameIndex<'a> {
 
     ghost view = { λ index. map (λ name. name.now) index.names.items };
 
-    ghost invariant = { λ index. (name : List ℕ) → noted index.places name ≡ position (map (λ name. name.now) index.names.items) name };
+    ghost invariant = { λ index. (name : List ℕ) → noted index.first_places name ≡ position (map (λ name. name.now) index.names.items) name };
 }
 
 impl<'a> NameIndex<'a> {
@@ -42,7 +42,7 @@ impl<'a> NameIndex<'a> {
     {
         NameIndex {
             names: Vec::new(alloc),
-            places: HashMap::new(alloc),
+            first_places: IndexMap::new(alloc),
         }
     }
 
@@ -53,7 +53,7 @@ impl<'a> NameIndex<'a> {
     {
         let place = self.names.len();
         self.names.push(name)?;
-        match note_place(&mut self.places, name.as_bytes(), place) {
+        match note_place(&mut self.first_places, name.as_bytes(), place) {
             Ok(()) => Ok(()),
             Err(e) => {
                 let _ = self.names.pop();
@@ -66,22 +66,20 @@ impl<'a> NameIndex<'a> {
     pub fn find(&self, name: &Name) -> Option<usize>
         ensures { result ≡ position self.now name.now }
     {
-        self.places.get(name.as_bytes()).copied()
+        self.first_places.get(name.as_bytes()).copied()
     }
 }
 
 // A name has its place, unless it had one.
 fn note_place<'a>(
-    places: &mut HashMap<&'a [u8], usize>,
+    first_places: &mut IndexMap<&'a [u8], usize>,
     name: &'a [u8],
     place: usize,
 ) -> Result<(), AllocError>
-    ensures ok { OnOk result ((other : Name) → noted places.new other ≡ found_or (noted places.old other) (bytes_eq name.now other) place) }
-    ensures err { OnErr result ((other : Name) → noted places.new other ≡ noted places.old other) }
+    ensures ok { OnOk result ((other : Name) → noted first_places.new other ≡ found_or (noted first_places.old other) (bytes_eq name.now other) place) }
+    ensures err { OnErr result ((other : Name) → noted first_places.new other ≡ noted first_places.old other) }
 {
-    if !places.contains_key(name) {
-        places.insert(name, place)?;
-    }
+    first_places.entry(name)?.or_insert(place);
     Ok(())
 }
 

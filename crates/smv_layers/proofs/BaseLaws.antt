@@ -1,7 +1,8 @@
 -- The base definition of each family, from one definition to the next.
 use Rattle.std.proofs.Common.{◌≡◌, ℕ, zero, suc, ◌+◌, ◌<◌, ◌≤◌, ◌≢◌, List, [], ◌∷◌, map, length, slice_get, Option, Some, None, Bool, true, false, cond, ◌&&◌, ◌||◌, drop, refl, ap, sym, subst, ◌∙◌, zero-add, arith}
 use Rattle.std.specs.Prelude.{filter, option_map, slice_set, slice_index_or, nat_eq, nat_lt, is_none}
-use Rattle.std.proofs.lemmas.Bool.Decides.{nat_tests}
+use Rattle.std.proofs.lemmas.Option.{slice_get_past, slice_get_within}
+use Rattle.law_lists.proofs.Numbers.{nat_eq-other, nat_eq-is}
 use Rattle.smv_core.specs.Values.{numbers_from}
 use Rattle.smv_core.specs.declared.flat.Family.{Family}
 use Rattle.smv_core.specs.declared.flat.Def.{Def}
@@ -26,11 +27,6 @@ index-number : {X : Type 0} (f : ℕ → X) (s n k : ℕ) (d : X) → k < n → 
 index-number f s zero k d h = absurd (omega arith)
 index-number f s (suc n) zero d h = ap f (let same : s ≡ s + 0 = omega arith in same)
 index-number f s (suc n) (suc k) d h = index-number f (s + 1) n k d (omega arith) ∙ ap f (let same : s + 1 + k ≡ s + suc k = omega arith in same)
-
-get-past : {X : Type 0} (xs : List X) (k : ℕ) → length xs ≤ k → slice_get xs k ≡ None
-get-past [] k h = refl
-get-past (x ∷ xs) zero h = absurd (omega arith)
-get-past (x ∷ xs) (suc k) h = get-past xs k (omega arith)
 
 length-numbers : {X : Type 0} (f : ℕ → X) (s n : ℕ) → length (map f (numbers_from s n)) ≡ n
 length-numbers f s zero = refl
@@ -65,29 +61,18 @@ part-earlier def (Some other) = by (nat_lt other.place def.place)
     by true = refl
     by false = refl
 
-get-within : {X : Type 0} (xs : List X) (k : ℕ) (x : X) → slice_get xs k ≡ Some x → k < length xs
-get-within [] k x e = absurd (cc (e))
-get-within (y ∷ xs) zero x e = omega arith
-get-within (y ∷ xs) (suc k) x e = omega (arith, get-within xs k x e)
-
 -- a definition that may be the base definition is that of a family
 pub may-be-within : (families : List Family) (def : Def) → may_be_base def.family (slice_get families def.family) def ≡ true → def.family < length families
 may-be-within families def e = by (slice_get families def.family) refl e
   where
     by : (o : Option Family) → slice_get families def.family ≡ o → may_be_base def.family o def ≡ true → def.family < length families
     by None is e = absurd (cc (e))
-    by (Some f) is e = get-within families def.family f is
-
-apart : (m n : ℕ) → n ≢ m → nat_eq m n ≡ false
-apart m n h = grind (arith, nat_tests)
-
-equal : (m n : ℕ) → nat_eq m n ≡ true → m ≡ n
-equal m n h = grind (arith, nat_tests)
+    by (Some f) is e = slice_get_within families def.family f is
 
 module _ (families : List Family) (def : Def) (defs : List Def) where
   not-other : (k : ℕ) (o : Option Family) → k ≢ def.family → may_be_base k o def ≡ false
   not-other k None h = refl
-  not-other k (Some f) h = ap (λ b. b && (f.is_abstract || is_none def.layer)) (apart def.family k h)
+  not-other k (Some f) h = ap (λ b. b && (f.is_abstract || is_none def.layer)) (nat_eq-other def.family k h)
 
   -- of a family that it cannot be the base definition of it changes nothing
   skipped : (k : ℕ) → may_be_base k (slice_get families k) def ≡ false → base_among families defs k ≡ base_among families (def ∷ defs) k
@@ -114,7 +99,7 @@ module _ (families : List Family) (def : Def) (defs : List Def) where
   left_out bases is may = is ∙ same-numbers (base_among families defs) (base_among families (def ∷ defs)) (λ k. skipped k (by k (nat_eq def.family k) refl)) 0 (length families)
     where
       by : (k : ℕ) (b : Bool) → nat_eq def.family k ≡ b → may_be_base k (slice_get families k) def ≡ false
-      by k true e = subst (λ j. may_be_base j (slice_get families j) def ≡ false) (equal def.family k e) may
+      by k true e = subst (λ j. may_be_base j (slice_get families j) def ≡ false) (nat_eq-is def.family k e) may
       by k false e = by_family (slice_get families k)
         where
           by_family : (o : Option Family) → may_be_base k o def ≡ false
@@ -133,7 +118,7 @@ known families defs k = by (slice_get (bases_among families defs) k) refl
     by : (o : Option (Option Base)) → slice_get (map (base_among families defs) (numbers_from 0 (length families))) k ≡ o → known_at o ≡ base_among families defs k
     by None e =
         let past : length families ≤ k = got-none (base_among families defs) 0 (length families) k e in
-        sym (ap (λ o. option_map base_part (earliest (filter (may_be_base k o) defs))) (get-past families k past) ∙ ap (λ l. option_map base_part (earliest l)) (nothing defs))
+        sym (ap (λ o. option_map base_part (earliest (filter (may_be_base k o) defs))) (slice_get_past families k past) ∙ ap (λ l. option_map base_part (earliest l)) (nothing defs))
     by (Some b) e = sym (got-number (base_among families defs) 0 (length families) k b e) ∙ ap (base_among families defs) (zero-add k)
 
 -- before the first definition no family has one

@@ -21,7 +21,7 @@ pub fn copy_name(alloc: Global, name: &Name) -> Result<Name, AllocError>
 }
 
 /// The empty name.
-pub fn no_name(alloc: Global) -> Name
+pub(crate) fn no_name(alloc: Global) -> Name
     ensures { result ≡ [] }
 {
     Name::from_vec(Vec::new(alloc))
