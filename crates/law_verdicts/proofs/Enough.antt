@@ -11,47 +11,47 @@ use Rattle.smv_problem.specs.declared.report.Verdict.TheVariants.{True, False, U
 use Rattle.law_reports.specs.Verdicts.{lists_at}
 use Rattle.law_reports.specs.Reports.{IsToldOf}
 use Rattle.law_reports.proofs.Below.{are_lists}
-use Rattle.law_verdicts.specs.Budgets.{enough_images, enough_nodes, ImagesSuffice, NodesSuffice, UnknownStepsAreFew, UnknownNodesAreFew, is_decided, EnoughDecides}
+use Rattle.law_verdicts.specs.Budgets.{enough_steps, enough_nodes, StepsSuffice, NodesSuffice, UnknownStepsAreFew, UnknownNodesAreFew, is_decided, EnoughDecides}
 use Rattle.law_verdicts.proofs.FewLines.{counted_many}
 
-few_images : (l : Lists) → IsLists l → (nodes images : ℕ) → IsFirstEvent l nodes images Images → images < enough_images l
-few_images l ok nodes images v = images_mean l (record { vars = 2 * l.bits; nodes = nodes; images = images }) ok images v
+few_steps : (l : Lists) → IsLists l → (nodes steps : ℕ) → IsFirstEvent l nodes steps Images → steps < enough_steps l
+few_steps l ok nodes steps v = images_mean l (record { vars = 2 * l.bits; nodes = nodes; images = steps }) ok steps v
 
-few_nodes : (l : Lists) → IsLists l → (nodes images count : ℕ) → IsFirstEvent l nodes images (Counted count) → nodes < enough_nodes l
-few_nodes l ok nodes images count v = counted_many l ok (record { vars = 2 * l.bits; nodes = nodes; images = images }) images count v
+few_nodes : (l : Lists) → IsLists l → (nodes steps count : ℕ) → IsFirstEvent l nodes steps (Counted count) → nodes < enough_nodes l
+few_nodes l ok nodes steps count v = counted_many l ok (record { vars = 2 * l.bits; nodes = nodes; images = steps }) steps count v
 
 below : (a b : ℕ) → a < b → b ≤ a → ⊥
 below a b l h = omega arith
 
-pub images_suffice : ImagesSuffice
-images_suffice l ok nodes images enough v = below images (enough_images l) (few_images l ok nodes images v) enough
+pub steps_suffice : StepsSuffice
+steps_suffice l ok nodes steps enough v = below steps (enough_steps l) (few_steps l ok nodes steps v) enough
 
 pub nodes_suffice : NodesSuffice
-nodes_suffice l ok nodes images enough count v = below nodes (enough_nodes l) (few_nodes l ok nodes images count v) enough
+nodes_suffice l ok nodes steps enough count v = below nodes (enough_nodes l) (few_nodes l ok nodes steps count v) enough
 
 in_middle : {X : Type 0} (before behind : List X) (x : X) → Has (before ++ (x ∷ behind)) x
 in_middle [] behind x = first
 in_middle (y ∷ before) behind x = later (in_middle before behind x)
 
 pub steps_are_few : UnknownStepsAreFew
-steps_are_few s nodes images u entry r is case e =
-    let told = subst (IsToldOf s nodes images u entry) e is.verdict in
-    few_images (lists_at s nodes images u entry case.classes) (are_lists (case_at s u entry case.classes)) nodes images told.is_verdict
+steps_are_few s nodes steps u entry r is case e =
+    let told = subst (IsToldOf s nodes steps u entry) e is.verdict in
+    few_steps (lists_at s nodes steps u entry case.classes) (are_lists (case_at s u entry case.classes)) nodes steps told.is_verdict
 
 pub nodes_are_few : UnknownNodesAreFew
-nodes_are_few s nodes images u entry r is case count e =
-    let told = subst (IsToldOf s nodes images u entry) e is.verdict in
-    few_nodes (lists_at s nodes images u entry case.classes) (are_lists (case_at s u entry case.classes)) nodes images count told.is_verdict
+nodes_are_few s nodes steps u entry r is case count e =
+    let told = subst (IsToldOf s nodes steps u entry) e is.verdict in
+    few_nodes (lists_at s nodes steps u entry case.classes) (are_lists (case_at s u entry case.classes)) nodes steps count told.is_verdict
 
 pub enough_decides : EnoughDecides
-enough_decides s nodes images u entry enough r is = by_verdict r.verdict is.verdict
+enough_decides s nodes steps u entry enough r is = by_verdict r.verdict is.verdict
   where
-    by_verdict : (v : Verdict) → IsToldOf s nodes images u entry v → is_decided v ≡ true
+    by_verdict : (v : Verdict) → IsToldOf s nodes steps u entry v → is_decided v ≡ true
     by_verdict True told = refl
     by_verdict (False case elements path) told = refl
     by_verdict (UnknownNodes case count) told =
         let h = subst (λ xs. Has xs case.classes) (sym told.stands) (in_middle told.before told.behind case.classes) in
-        absurd (nodes_suffice (lists_at s nodes images u entry case.classes) (are_lists (case_at s u entry case.classes)) nodes images (enough.nodes_are case.classes h) count told.is_verdict)
+        absurd (nodes_suffice (lists_at s nodes steps u entry case.classes) (are_lists (case_at s u entry case.classes)) nodes steps (enough.nodes_are case.classes h) count told.is_verdict)
     by_verdict (UnknownSteps case) told =
         let h = subst (λ xs. Has xs case.classes) (sym told.stands) (in_middle told.before told.behind case.classes) in
-        absurd (images_suffice (lists_at s nodes images u entry case.classes) (are_lists (case_at s u entry case.classes)) nodes images (enough.images_are case.classes h) told.is_verdict)
+        absurd (steps_suffice (lists_at s nodes steps u entry case.classes) (are_lists (case_at s u entry case.classes)) nodes steps (enough.steps_are case.classes h) told.is_verdict)

@@ -22,7 +22,7 @@ HasInvariant c = (set : Bits → Bool) × IsInvariant c set
 
 -- a case whose search ends with two equal rings has an invariant
 abbrev pub TrueCasesHaveInvariants : Type 0
-TrueCasesHaveInvariants = (c : PosedCase) → IsCase c → (nodes images k : ℕ) → IsFirstEvent (case_lists c) nodes images (Shut k) → HasInvariant c
+TrueCasesHaveInvariants = (c : PosedCase) → IsCase c → (nodes steps k : ℕ) → IsFirstEvent (case_lists c) nodes steps (Shut k) → HasInvariant c
 
 -- each case of the unit at this place has an invariant
 abbrev pub CasesHaveInvariants : Script → ℕ → Entry → Type 0
@@ -30,10 +30,10 @@ CasesHaveInvariants s u entry = (classes : List Class) → Has (classes_of s ent
 
 -- where the unit is told true, each of its cases has an invariant
 abbrev pub TrueResultsHaveInvariants : Type 0
-TrueResultsHaveInvariants = (s : Script) → IsChecked s → HaveValues s.design → (nodes images u : ℕ) (entry : Entry) → slice_get s.entries u ≡ Some entry →
-    (r : UnitResult) → IsResultOf s nodes images u entry r → r.verdict ≡ True → CasesHaveInvariants s u entry
+TrueResultsHaveInvariants = (s : Script) → IsChecked s → HaveValues s.design → (nodes steps u : ℕ) (entry : Entry) → slice_get s.entries u ≡ Some entry →
+    (r : UnitResult) → IsResultOf s nodes steps u entry r → r.verdict ≡ True → CasesHaveInvariants s u entry
 
 -- so of each unit that a right report tells true
 abbrev pub TrueReportsHaveInvariants : Type 0
-TrueReportsHaveInvariants = (s : Script) → IsChecked s → HaveValues s.design → (nodes images : ℕ) (report : Report) → IsReportOf s nodes images report →
+TrueReportsHaveInvariants = (s : Script) → IsChecked s → HaveValues s.design → (nodes steps : ℕ) (report : Report) → IsReportOf s nodes steps report →
     (u : ℕ) (entry : Entry) → slice_get s.entries u ≡ Some entry → (r : UnitResult) → slice_get report.units u ≡ Some r → r.verdict ≡ True → CasesHaveInvariants s u entry

@@ -1,14 +1,14 @@
 // Laws of the definitions, each the contract of a function that does nothing.
-ghost use Rattle.law_verdicts.specs.Budgets.{FewBeads, ImagesSuffice, NodesSuffice, UnknownStepsAreFew, UnknownNodesAreFew, EnoughDecides};
+ghost use Rattle.law_verdicts.specs.Budgets.{FewBeads, StepsSuffice, NodesSuffice, UnknownStepsAreFew, UnknownNodesAreFew, EnoughDecides};
 
 /// Functions over n variables have at most 2 ^ n - 1 beads each.
 pub fn beads_are_few()
     ensures { FewBeads }
 {}
 
-/// A case of m bits uses up no budget of 2 ^ m images, and passes none of nodes that has room for its functions, for 2 ^ m rings and for two functions more.
+/// A case of m bits uses up no budget of 2 ^ m steps, and passes none of nodes that has room for its functions, for 2 ^ m rings and for two functions more.
 pub fn budgets_suffice()
-    ensures images { ImagesSuffice }
+    ensures steps { StepsSuffice }
     ensures nodes { NodesSuffice }
 {}
 
