@@ -16,6 +16,7 @@ use Rattle.smv_mentions.specs.declared.mentions.Mention.{Mention as Noted}
 use Rattle.smv_mentions.specs.Mentions.{Mention, declares, binds, follows, names_type, lists_constants, has_fields, instantiates}
 use Rattle.smv_mentions.specs.Scopes.{Known, Piece, Constant, known_after, pieces_from, pieces, own_names, constants_in, constants}
 use Rattle.smv_mentions.specs.Said.{said, told, told_by, AreNoted}
+use Rattle.smv_first_fault.proofs.LeastLaws.{from_here}
 use Rattle.smv_scope.specs.Held.{constant_beside, constants_of_list, lists_of}
 use Rattle.smv_scope.specs.declared.tables.Constant.{Constant as HeldConstant}
 use Rattle.smv_scope.proofs.PieceLaws.{Told}
@@ -31,14 +32,6 @@ listed lists n all same (word ∷ words) =
   where
     constant : ℕ → List Name → Constant
     constant at names = record { at = at; names = names }
-
-from_suc : {A : Type 0} (xs : List A) (n : ℕ) (x : A) → n < length xs → x ≡ get_or xs n x → drop n xs ≡ x ∷ drop (suc n) xs
-from_suc [] n x h e = absurd (omega arith)
-from_suc (y ∷ xs) zero x h e = ap (λ z. z ∷ xs) (sym e)
-from_suc (y ∷ xs) (suc n) x h e = from_suc xs n x (omega arith) e
-
-pub from_here : {A : Type 0} (xs : List A) (n : ℕ) (x : A) → n < length xs → x ≡ get_or xs n x → drop n xs ≡ x ∷ drop (n + 1) xs
-from_here xs n x h e = let more : suc n ≡ n + 1 = omega arith in from_suc xs n x h e ∙ ap (λ m. x ∷ drop m xs) more
 
 abbrev col : Bor (List Word) → List (Name × Constant)
 col words = constants_of_list words.now

@@ -6,8 +6,8 @@ use Rattle.std.proofs.lemmas.List.{append-nil}
 use Rattle.smv_core.specs.declared.fault.Fault.{Fault}
 use Rattle.smv_core.specs.declared.flat.FlatText.{FlatText}
 use Rattle.smv_mentions.specs.FirstFault.{first_of, faults_at}
-use Rattle.smv_scope.specs.ScopeFault.{least, fault_at, earlier_of}
-use Rattle.smv_scope.proofs.FirstLaws.{first-both, first-at}
+use Rattle.smv_first_fault.specs.Firsts.{least, fault_at, earlier_of}
+use Rattle.smv_first_fault.proofs.FirstLaws.{first-both, first-at}
 use Rattle.law_designs.specs.WholeText.{claims_of}
 use Rattle.law_designs.specs.SingleFaults.{meet, mixed, lacking, unnamed, conflicting, assigned_in, first_fault_of_single}
 use Rattle.law_designs.specs.Standing.{statements_of}

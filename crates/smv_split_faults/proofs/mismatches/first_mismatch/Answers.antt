@@ -1,4 +1,4 @@
-use Rattle.smv_scope.proofs.LeastLaws.{least-step}
+use Rattle.smv_first_fault.proofs.LeastLaws.{least-step}
 use Rattle.smv_split_faults.specs.Waiting.{shown_of_unit}
 use Rattle.smv_split_faults.proofs.WaitingLaws.{get-again}
 use Rattle.smv_split_faults.proofs.mismatches.first_mismatch.Goals as goal
