@@ -26,7 +26,7 @@ where_met true b e h = h
 where_met false b e h = absurd (cc)
 
 as_many : (n : Numbered) (types : List Simple) (values : List Value) → Has (values_over n types) values → length values ≡ length types
-as_many n types values h = are_long (map (values_in n) types) values (are_of (map (values_in n) types) values h) ∙ length-map (values_in n) types
+as_many n types values h = are_long (map (values_in n) types) values (are_of (map (values_in n) types) values h) ∙ length-map types (values_in n)
 
 -- ---- at a time
 
@@ -68,7 +68,7 @@ first_of (xs ∷ xss) yss (z ∷ zs) h = (h.0, first_of xss yss zs h.1)
 
 own_values : (n : Numbered) (own added : List Simple) (values : List Value) → Has (values_over n (own ++ added)) values → Has (values_over n own) (take (length own) values)
 own_values n own added values h =
-    subst (λ k. Has (values_over n own) (take k values)) (length-map (values_in n) own)
+    subst (λ k. Has (values_over n own) (take k values)) (length-map own (values_in n))
     (one_of (map (values_in n) own) (take (length (map (values_in n) own)) values)
     (first_of (map (values_in n) own) (map (values_in n) added) values
     (subst (λ xss. AreOf xss values) (map-append (values_in n) own added) (are_of (map (values_in n) (own ++ added)) values h))))

@@ -70,7 +70,7 @@ module _ (l : Lists) where
     many_at most ls few c f = in_list f.0 f.1 f.2 (subst (AreFew most) f.3 few) f.5.0
       where
         at_line : (line : Line) → length (live line) ≤ most → b.nodes < count b.vars line → b.nodes < most * (2 ^ b.vars - 1)
-        at_line line h lt = omega (arith, few_beads b.vars (map (truth_table b.vars 0) (live line)), more_times (length (map (truth_table b.vars 0) (live line))) most (2 ^ b.vars - 1) (omega (arith, length-map (truth_table b.vars 0) (live line))))
+        at_line line h lt = omega (arith, few_beads b.vars (map (truth_table b.vars 0) (live line)), more_times (length (map (truth_table b.vars 0) (live line))) most (2 ^ b.vars - 1) (omega (arith, length-map (live line) (truth_table b.vars 0))))
 
         in_list : (before : List Line) (line : Line) (behind : List Line) → AreFew most (before ++ (line ∷ behind)) → b.nodes < count b.vars line → b.nodes < most * (2 ^ b.vars - 1)
         in_list [] line behind few lt = at_line line few.0 lt
