@@ -5,17 +5,20 @@
     tools/pages.py --tests           writes the tables of crates/smv_top_tests and crates/smv_wave_tests from the pages
     tools/pages.py                   looks whether these tables are what the pages give
     tools/pages.py --answers PROGRAM    writes examples/*.answer; read what changed before it is kept
-    tools/pages.py --texts FOLDER       writes the texts of docs/METHOD.md and docs/FAULTS.md, to try them
+    tools/pages.py --texts FOLDER       writes the texts of the pages, to try them
 
-It ends with status 1 where something differs. On the pages README.md, docs/METHOD.md and docs/FAULTS.md it takes three sorts of fenced blocks:
+It ends with status 1 where something differs. The pages also run make, sed, seq and xargs. On the users' pages it takes these sorts of fenced blocks:
 
-    ```smv NAME       a whole text, the file NAME
+    ```smv NAME       a whole text, the file NAME; so is ```make NAME and ```sh NAME
     ```diff NAME OLD  the file NAME: the file OLD with some lines changed. A line begins with a blank (it is there), `-` (it goes) or `+` (it comes);
                       a line `@@` parts one change from the next. The lines with blanks and `-` of a change stand together in OLD, at one place.
     ```console        lines `$ COMMAND`, each with what it writes behind it. The folder has the files of the page and `examples`.
+    ```marked         texts of one line, each with a line below it that has `^ fault N` under the place, and perhaps more words: what `prove` answers.
+                      They stand in no table of tests.
 
 Each examples/NAME.smv has an examples/NAME.answer beside it: exactly what `deodarwrench prove < examples/NAME.smv` writes.
-The exit status of an answer is the one that README.md states for it; no page repeats it.
+The exit status of an answer is the one that README.md states for it; no page repeats it. A command with `sh` or `make` in it ends with 0 where all is true.
+In the tables a text stands in one line and without its comments, unless it has a fault: a test costs by its bytes.
 """
 import os
 import re
@@ -25,15 +28,21 @@ import tempfile
 from pathlib import Path
 
 TOP = Path(__file__).resolve().parent.parent
-PAGES = ["README.md", "docs/METHOD.md", "docs/FAULTS.md"]
+PAGES = ["README.md", "docs/METHOD.md", "docs/FAULTS.md", "docs/COMING-FROM.md"]
+# The module of tests that each page's commands stand in: pages of short texts have one together, since each function of a test costs.
+MODULES = {"README.md": "short_pages", "docs/METHOD.md": "page_method", "docs/FAULTS.md": "short_pages", "docs/COMING-FROM.md": "short_pages", "examples": "page_examples"}
 TABLES = TOP / "crates/smv_top_tests/src"
 DUMPS = TOP / "crates/smv_wave_tests/src/pages.rt"
-FENCED = re.compile(r"^```(smv|diff|console)(?: (\S+))?(?: (\S+))?\n(.*?)^```$", re.M | re.S)
+FENCED = re.compile(r"^```(smv|make|sh|diff|console|marked)(?: (\S+))?(?: (\S+))?\n(.*?)^```$", re.M | re.S)
+FENCES = re.compile(r"^```(?:smv|make|sh|diff|console|marked)", re.M)
+# The line below a text that says where it has which fault.
+MARK = re.compile(r" *\^ fault (\d+)\b.*")
 # About how many bytes of rows a test has at most, if it has more than one row.
-PART = 9_000
+PART = 9_200
 # Commands that a test can give the program as words and a text: that of a file, one that is written out, so many blanks.
 PLAIN = re.compile(r"deodarwrench ([^<|]+?) < (\S+)")
 ECHO = re.compile(r"echo '([^']*)' \| deodarwrench (\w+)")
+SCRIPT = re.compile(r"\b(?:sh|make)\b")
 BLANKS = re.compile(r"printf '%(\d+)s' '' \| deodarwrench (\w+)")
 # One whose report a test can give the other program.
 WAVE = re.compile(r"(deodarwrench prove < \S+) \| smv_wave")
@@ -49,7 +58,7 @@ def status(command, answer):
         return 1
     if re.search(r"^\S+: unknown (steps|nodes \d+)$", answer, re.M):
         return 2
-    return 8 if " only " in command else 0
+    return 8 if " only " in command and not SCRIPT.search(command) else 0
 
 
 def changed(text, block):
@@ -66,21 +75,35 @@ def changed(text, block):
     return text
 
 
+def marked(block):
+    """Returns the commands that give `prove` the texts of a `marked` block, with their answers."""
+    lines = [line for line in block.splitlines() if line]
+    commands = []
+    for text, below in zip(lines[::2], lines[1::2], strict=True):
+        mark = MARK.fullmatch(below)
+        if not mark or set(text) & set('"$`\\'):
+            raise ValueError(f"no mark, or a sign of the shell:\n{text}\n{below}")
+        commands.append((f'echo "{text}" | deodarwrench prove', f"fault {mark[1]} at line 1 column {below.index('^') + 1}\n"))
+    return commands
+
+
 def read_page(page):
     """Returns a page's files by their names, and its commands with their answers, in order."""
     files, commands = {}, []
     lines = (TOP / page).read_text()
     blocks = FENCED.findall(lines)
-    if len(blocks) != len(re.findall(r"^```(?:smv|diff|console)", lines, re.M)):
+    if len(blocks) != len(FENCES.findall(lines)):
         raise ValueError(f"{page} has a block of another form")
     for kind, name, old, block in blocks:
         if kind == "console":
             for piece in re.split(r"^\$ ", block, flags=re.M)[1:]:
                 commands.append(tuple(piece.split("\n", 1)))
+        elif kind == "marked":
+            commands += marked(block)
         else:
             if name in files:
                 raise ValueError(f"{page} has {name} twice")
-            files[name] = block if kind == "smv" else changed(files[old], block)
+            files[name] = changed(files[old], block) if kind == "diff" else block
     return files, commands
 
 
@@ -141,6 +164,11 @@ def quoted(text):
     return '"' + "".join(marks.get(sign, sign) for sign in text) + '"'
 
 
+def bare(text):
+    """Returns a text in one line, without its comments."""
+    return " ".join(re.sub(r"/\*.*?\*/|--[^\n]*", " ", text, flags=re.S).split())
+
+
 def row(values):
     """Returns the lines of a row of a table, as `rt fmt` lays it out."""
     line = ", ".join(values)
@@ -175,18 +203,21 @@ def given(command, files):
     return (echo[2], echo[1] + "\n") if echo else None
 
 
-def table(page, files, commands):
-    """Returns the module of tests of a page: its file and its lines. The README shows examples, which have a table of their own."""
+def table(module, pages):
+    """Returns the module of tests of the pages that stand together: its file and its lines. Pages show examples, which have a table of their own."""
     rows, blanks = [], []
-    for command, answer in commands:
-        row_given, many = given(command, files), BLANKS.fullmatch(command)
-        if row_given and not (page == "README.md" and " examples/" in command):
-            rows.append(row([quoted(row_given[0]), quoted(row_given[1]), str(status(command, answer)), quoted(answer)]))
-        if many:
-            blanks.append([quoted(many[2]), f"{int(many[1]):_}", str(status(command, answer)), quoted(answer)])
+    for page, files, commands in pages:
+        for command, answer in commands:
+            row_given, many = given(command, files), BLANKS.fullmatch(command)
+            if row_given and not (page != "examples" and " examples/" in command):
+                text = row_given[1] if answer.startswith("fault ") else bare(row_given[1])
+                rows.append(row([quoted(row_given[0]), quoted(text), str(status(command, answer)), quoted(answer)]))
+            if many:
+                blanks.append([quoted(many[2]), f"{int(many[1]):_}", str(status(command, answer)), quoted(answer)])
     used = ["Row", "all_are_answered", *(["blanks_are_answered"] if blanks else [])]
+    names = " and ".join(f"`{page}`" for page, _, _ in pages)
     lines = [
-        f"//! The commands of `{page}`, with their texts, exit statuses and answers. Written by `tools/pages.py --tests`.",
+        f"//! The commands of {names}, with their texts, exit statuses and answers. Written by `tools/pages.py --tests`.",
         "",
         f"use crate::calls::{{{', '.join(used)}}};",
         "use std::test::Fail;",
@@ -200,7 +231,7 @@ def table(page, files, commands):
         lines += ["    blanks_are_answered("]
         lines += [f"        {value}," for value in ["rt.alloc()", *values]]
         lines += ["    )", "}"]
-    return TABLES / f"page_{Path(page).stem.lower()}.rt", "\n".join([*lines, ""])
+    return TABLES / f"{module}.rt", "\n".join([*lines, ""])
 
 
 def dumps():
@@ -230,7 +261,10 @@ def dumps():
 
 def tables():
     """Returns the modules of tests: their files and lines."""
-    return [*(table(*page) for page in everything()), dumps()]
+    together = {}
+    for page in everything():
+        together.setdefault(MODULES[page[0]], []).append(page)
+    return [*(table(*pages) for pages in together.items()), dumps()]
 
 
 def main(words):

@@ -159,15 +159,6 @@ counted_most p later most codes i e c le few all = grind (arith, nat_tests)
 pub doubled : (width : ℕ) → 2 ^ (width + 1) ≡ 2 * 2 ^ width
 doubled width = let one : width + 1 ≡ suc width = omega arith in ap (λ (n : ℕ). 2 ^ n) one ∙ twice width
 
-pub keeps_then : (b d e : Diagram) → Keeps b d → Keeps d e → Keeps b e
-keeps_then b d e k l = record {
-  vars = l.vars ∙ k.vars;
-  live = λ r h. l.live r (k.live r h);
-  tables = λ r h a. l.tables r (k.live r h) a ∙ k.tables r h a;
-  reached = λ f r there here is. l.reached f r (k.live f there) (k.live r here) (k.reached f r there here is);
-  firsts = λ r h. l.firsts r (k.live r h) ∙ k.firsts r h;
-}
-
 -- ---- all codes of a slot, from its last bit on
 
 none_code : (next : Bool) (bit width : ℕ) (a : ℕ → Bool) → width ≡ 0 → code_at next bit width a ≡ 0

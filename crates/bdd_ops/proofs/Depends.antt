@@ -1,90 +1,16 @@
 -- Which variables a function of finitely many depends on.
-use Rattle.std.proofs.Common.{◌≡◌, ◌≢◌, ℕ, zero, suc, ◌+◌, ◌^◌, ◌<◌, ◌≤◌, Bool, true, false, eqb, not, ◌⊎◌, inl, inr, List, [], ◌∷◌, ◌++◌, length, take, drop, refl, sym, ◌∙◌, ap, arith}
+use Rattle.std.proofs.Common.{◌≡◌, ◌≢◌, ℕ, ◌+◌, ◌≤◌, Bool, true, false, not, ◌⊎◌, inl, inr, refl, sym, ◌∙◌, ap, arith}
 use Rattle.std.proofs.Math.Path.{fun_ext}
 use Rattle.std.proofs.lemmas.Bool.{cases_lt}
-use Rattle.std.proofs.lemmas.List.{length-append}
-use Rattle.std.proofs.Math.Seq.{take-append_seam, drop-append_seam}
-use Rattle.bdd_store.specs.declared.Ref.{Ref}
-use Rattle.bdd_store.specs.declared.chains.Node.{Node}
-use Rattle.bdd_store.specs.Graph.{with_at, walk, step}
+use Rattle.bdd_store.specs.Graph.{with_at}
 use Rattle.bdd_store.specs.Beads.{truth_table, same_block}
-use Rattle.bdd_store.specs.Diagram.{Diagram, table}
 use Rattle.bdd_store.proofs.Blocks.{same_block-refl, same_block-true}
 use Rattle.bdd_store.proofs.Walks.{with_here, with_other}
+use Rattle.bdd_store.proofs.Functions.{with_agree, with_own, tables_alike, Reads}
 use Rattle.bdd_ops.specs.Functions.{Function, depends, FreeOf}
-
--- f reads variables k to k + b - 1 alone
-abbrev pub Reads : ℕ → ℕ → Function → Type 0
-Reads b k f = (a c : ℕ → Bool) → ((v : ℕ) → k ≤ v → v < k + b → a v ≡ c v) → f a ≡ f c
-
-pub with_agree : (a c : ℕ → Bool) (k : ℕ) (x : Bool) (v : ℕ) → (v ≢ k → a v ≡ c v) → with_at a k x v ≡ with_at c k x v
-with_agree a c k x v same = elim (cases_lt v k) [
-  | inl lt ↦ with_other a k x v (omega arith) ∙ same (omega arith) ∙ sym (with_other c k x v (omega arith))
-  | inr le ↦ elim (cases_lt k v) [
-    | inl lt ↦ with_other a k x v (omega arith) ∙ same (omega arith) ∙ sym (with_other c k x v (omega arith))
-    | inr is ↦ let e : v ≡ k = omega arith in rw e (with_here a k x ∙ sym (with_here c k x))
-  ]
-]
-
-pub with_own : (a : ℕ → Bool) (k v : ℕ) → a v ≡ with_at a k (a k) v
-with_own a k v = elim (cases_lt v k) [
-  | inl lt ↦ sym (with_other a k (a k) v (omega arith))
-  | inr le ↦ elim (cases_lt k v) [
-    | inl lt ↦ sym (with_other a k (a k) v (omega arith))
-    | inr is ↦ let e : v ≡ k = omega arith in rw e (sym (with_here a k (a k)))
-  ]
-]
 
 pub own : (f : Function) (a : ℕ → Bool) (k : ℕ) (x : Bool) → a k ≡ x → f a ≡ f (with_at a k x)
 own f a k x e = ap f (fun_ext (with_own a k)) ∙ ap (λ y. f (with_at a k y)) e
-
-pub half_reads : (b k : ℕ) (f : Function) (x : Bool) → Reads (suc b) k f → Reads b (suc k) (λ a. f (with_at a k x))
-half_reads b k f x reads a c same = reads (with_at a k x) (with_at c k x) (λ v le lt. with_agree a c k x v (λ ne. same v (omega arith) (omega arith)))
-
-length-table : (b k : ℕ) (f : Function) → length (truth_table b k f) ≡ 2 ^ b
-unfolding truth_table
-length-table zero k f = refl
-length-table (suc b) k f = length-append (truth_table b (suc k) (λ a. f (with_at a k false))) (truth_table b (suc k) (λ a. f (with_at a k true))) ∙ grind (arith, length-table b (suc k) (λ a. f (with_at a k false)), length-table b (suc k) (λ a. f (with_at a k true)))
-
-take_same : (xs ys us vs : List Bool) → length xs ≡ length us → xs ++ ys ≡ us ++ vs → xs ≡ us
-take_same xs ys us vs len e = sym (take-append_seam xs ys) ∙ ap (take (length xs)) e ∙ ap (λ n. take n (us ++ vs)) len ∙ take-append_seam us vs
-
-drop_same : (xs ys us vs : List Bool) → length xs ≡ length us → xs ++ ys ≡ us ++ vs → ys ≡ vs
-drop_same xs ys us vs len e = sym (drop-append_seam xs ys) ∙ ap (drop (length xs)) e ∙ ap (λ n. drop n (us ++ vs)) len ∙ drop-append_seam us vs
-
-half_tables : (b k : ℕ) (f g : Function) → truth_table (suc b) k f ≡ truth_table (suc b) k g → (x : Bool) → truth_table b (suc k) (λ a. f (with_at a k x)) ≡ truth_table b (suc k) (λ a. g (with_at a k x))
-unfolding truth_table
-half_tables b k f g e false = take_same _ _ _ _ (length-table b (suc k) (λ a. f (with_at a k false)) ∙ sym (length-table b (suc k) (λ a. g (with_at a k false)))) e
-half_tables b k f g e true = drop_same _ _ _ _ (length-table b (suc k) (λ a. f (with_at a k false)) ∙ sym (length-table b (suc k) (λ a. g (with_at a k false)))) e
-
-single : (x y : Bool) → x ∷ [] ≡ y ∷ [] → x ≡ y
-single x y e = cc
-
-end_tables : (k : ℕ) (f g : Function) → truth_table zero k f ≡ truth_table zero k g → f (λ _. false) ≡ g (λ _. false)
-unfolding truth_table
-end_tables k f g e = single _ _ e
-
--- equal truth tables are those of equal functions
-pub tables_alike : (b k : ℕ) (f g : Function) → Reads b k f → Reads b k g → truth_table b k f ≡ truth_table b k g → (a : ℕ → Bool) → f a ≡ g a
-tables_alike zero k f g reads_f reads_g e a =
-    reads_f a (λ _. false) (λ v le lt. absurd (omega arith)) ∙ end_tables k f g e ∙ sym (reads_g a (λ _. false) (λ v le lt. absurd (omega arith)))
-tables_alike (suc b) k f g reads_f reads_g e a =
-    reads_f a (with_at a k (a k)) (λ v le lt. with_own a k v)
-    ∙ tables_alike b (suc k) (λ c. f (with_at c k (a k))) (λ c. g (with_at c k (a k))) (half_reads b k f (a k) reads_f) (half_reads b k g (a k) reads_g) (half_tables b k f g e (a k)) a
-    ∙ sym (reads_g a (with_at a k (a k)) (λ v le lt. with_own a k v))
-
--- a walk reads the variables that it passes alone
-walk_below : (ns : List Node) (b k r : ℕ) (a c : ℕ → Bool) → ((v : ℕ) → k ≤ v → v < k + b → a v ≡ c v) → walk ns b k r a ≡ walk ns b k r c
-unfolding walk
-walk_below ns zero k r a c same = refl
-walk_below ns (suc b) k r a c same =
-    ap (λ x. walk ns b (suc k) (step ns k r x) a) (same k (omega arith) (omega arith))
-    ∙ walk_below ns b (suc k) (step ns k r (c k)) a c (λ v le lt. same v (omega arith) (omega arith))
-
--- a table of a store reads the store's variables alone
-pub table_reads : (d : Diagram) (r : Ref) → Reads d.vars 0 (table d r)
-unfolding table
-table_reads d r a c same = ap (λ p. eqb p 1) (walk_below d.nodes d.vars 0 r.place a c same)
 
 with_reads : (n v : ℕ) (f : Function) (x : Bool) → Reads n 0 f → Reads n 0 (λ a. f (with_at a v x))
 with_reads n v f x reads a c same = reads (with_at a v x) (with_at c v x) (λ w le lt. with_agree a c v x w (λ ne. same w le lt))

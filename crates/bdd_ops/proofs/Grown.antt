@@ -1,6 +1,5 @@
 -- A call adds beads of its function alone.
 use Rattle.std.proofs.Common.{◌≡◌, ◌≢◌, ℕ, zero, suc, ◌+◌, ◌-◌, ◌^◌, ◌<◌, ◌≤◌, ◌⊎◌, Bool, true, false, ◌||◌, eqb, cond, List, [], ◌∷◌, ◌++◌, map, length, take, drop, Result, Ok, Err, OnErr, refl, sym, ◌∙◌, ap, subst, arith, inl, inr}
-use Rattle.std.specs.List.{list_any}
 use Rattle.std.proofs.Math.Path.{fun_ext}
 use Rattle.std.proofs.Math.Seq.{take-append_seam, drop-append_seam}
 use Rattle.std.proofs.lemmas.Bool.{cases_lt}
@@ -12,30 +11,20 @@ use Rattle.bdd_store.specs.Beads.{truth_table, same_block, blocks_of, count_dist
 use Rattle.bdd_store.specs.Diagram.{Diagram, IsLive, IsReduced, IsProper, Reaches, Keeps, table, first_var, held}
 use Rattle.bdd_store.proofs.Blocks.{block, block_at, length-block, blocks_alike, same_block-refl, same_block-true, truth_table_walk, blocks_below}
 use Rattle.bdd_store.proofs.Counts.{Each, IsNode, count_distinct-map}
-use Rattle.bdd_store.proofs.Functions.{length-table, with_agree}
+use Rattle.bdd_store.proofs.Functions.{length-table, with_agree, one_of, one_of_append}
 use Rattle.bdd_store.proofs.Walks.{with_other}
 use Rattle.bdd_store.proofs.Laws.{reaches_self, depends_first}
 use Rattle.bdd_store.proofs.Tables.{walk_skip}
 use Rattle.bdd_store.proofs.Sets.{member, Subset, subset_count, member_append, eqb_is, eqb_same, or_true, or_left, or_right}
 use Rattle.bdd_store.specs.declared.Operation.{Operation}
 use Rattle.bdd_store.specs.Results.{IsResult, made}
+use Rattle.bdd_store.proofs.HeldLaws.{count_append}
 use Rattle.bdd_ops.specs.Functions.{Function, IsFreshBelow, some_at}
 use Rattle.bdd_ops.specs.Memo.{joined}
 use Rattle.bdd_ops.specs.Grown.{IsBeadOf, Adds}
 use Rattle.bdd_ops.proofs.Depends.{with_twice, with_swap}
-use Rattle.bdd_ops.proofs.Held.{count_both, held_places, count_held, found, node_live, node_first, live_held, ref}
+use Rattle.bdd_ops.proofs.Held.{held_places, count_held, found, node_live, node_first, live_held, ref}
 use Rattle.bdd_ops.proofs.MemoLaws.{same_table, proper_kept}
-
-abbrev pub one_of : List (List Bool) → List Bool → Bool
-one_of ts t = list_any (same_block t) ts
-
-one_of_append : (q : List Bool) (xs ys : List (List Bool)) → one_of (xs ++ ys) q ≡ one_of xs q || one_of ys q
-one_of_append q [] ys = refl
-one_of_append q (x ∷ xs) ys = ap (λ t. same_block q x || t) (one_of_append q xs ys) ∙ or_assoc (same_block q x) (one_of xs q) (one_of ys q)
-  where
-    or_assoc : (a b c : Bool) → a || (b || c) ≡ (a || b) || c
-    or_assoc true b c = refl
-    or_assoc false b c = refl
 
 in_left : (q : List Bool) (xs ys : List (List Bool)) → one_of xs q ≡ true → one_of (xs ++ ys) q ≡ true
 in_left q xs ys is = one_of_append q xs ys ∙ or_left (one_of xs q) (one_of ys q) is
@@ -299,7 +288,7 @@ held_grown d e ok keeps F adds =
     let news = count_nodes e ok new (each_member (IsNode e.vars e.nodes) new (λ q is. let here = held_node e q is in is_node e q here.0 here.1)) in
     let olds = count_nodes e ok old (each_member (IsNode e.vars e.nodes) old (kept_node d e keeps)) in
     let part = subset_count (map (node_code e) new) (map (node_code e) old ++ map code bs) (map_subset (node_code e) new (map (node_code e) old ++ map code bs) (new_code d e keeps F adds)) in
-    let sum = count_both (map (node_code e) old) (map code bs) in
+    let sum = count_append (map (node_code e) old) (map code bs) in
     let same : count_distinct same_block bs ≡ count_distinct same_block (blocks_of d.vars (truth_table d.vars 0 F) ++ []) = ap (λ n. count_distinct same_block (blocks_of n (truth_table n 0 F) ++ [])) keeps.vars in
     omega (arith, count_held d, count_held e, news, olds, part, sum, count_codes bs, same)
 

@@ -1,5 +1,5 @@
 -- A store that grew below one function grew by no more than its beads.
-use Rattle.std.proofs.Common.{◌≡◌, ℕ, zero, suc, ◌+◌, ◌<◌, ◌≤◌, ◌⊎◌, Bool, true, false, ◌||◌, eqb, cond, nat_lt, List, [], ◌∷◌, ◌++◌, length, refl, sym, ◌∙◌, ap, subst, arith, inl, inr}
+use Rattle.std.proofs.Common.{◌≡◌, ℕ, zero, suc, ◌+◌, ◌<◌, ◌≤◌, ◌⊎◌, Bool, true, false, eqb, cond, nat_lt, List, [], ◌∷◌, ◌++◌, length, refl, sym, ◌∙◌, ap, subst, arith, inl, inr}
 use Rattle.std.specs.List.{count_by}
 use Rattle.std.proofs.lemmas.List.Sums.{sum_by-cons}
 use Rattle.std.proofs.lemmas.Bool.Decides.{nat_tests}
@@ -11,6 +11,7 @@ use Rattle.bdd_store.specs.Diagram.{Diagram, IsLive, IsReduced, Reaches, Keeps, 
 use Rattle.bdd_store.proofs.Few.{beads_are}
 use Rattle.bdd_store.proofs.Laws.{reaches_self}
 use Rattle.bdd_store.proofs.Sets.{member, Subset, subset_count, member_append, eqb_is, eqb_same, or_true, or_left, or_right}
+use Rattle.bdd_store.proofs.HeldLaws.{count_append}
 use Rattle.bdd_ops.specs.Functions.{IsFreshBelow}
 
 -- the places from k on at which nodes stand
@@ -88,18 +89,6 @@ pub count_held : (d : Diagram) → held d ≡ count_distinct eqb (held_places d.
 unfolding held
 count_held d = sym (distinct d.vars d.nodes 0 ∙ length_held d.vars d.nodes 0)
 
-both_step : (a b c : ℕ) (s t : Bool) → a ≤ b + c → cond (s || t) a (suc a) ≤ cond s b (suc b) + c
-both_step a b c true t le = le
-both_step a b c false true le = omega (arith, le)
-both_step a b c false false le = omega (arith, le)
-
-pub count_both : (xs ys : List ℕ) → count_distinct eqb (xs ++ ys) ≤ count_distinct eqb xs + count_distinct eqb ys
-unfolding count_distinct
-count_both [] ys = omega arith
-count_both (x ∷ xs) ys =
-    subst (λ m. cond m (count_distinct eqb (xs ++ ys)) (suc (count_distinct eqb (xs ++ ys))) ≤ cond (member x xs) (count_distinct eqb xs) (suc (count_distinct eqb xs)) + count_distinct eqb ys)
-    (sym (member_append x xs ys)) (both_step (count_distinct eqb (xs ++ ys)) (count_distinct eqb xs) (count_distinct eqb ys) (member x xs) (member x ys) (count_both xs ys))
-
 unfoldable pub ref : ℕ → Ref
 ref i = record { place = i }
 
@@ -134,7 +123,7 @@ new_held d e keeps r fresh q is =
 pub held_bound : (d e : Diagram) → IsReduced e → Keeps d e → (r : Ref) → IsLive e r → IsFreshBelow d e r → held e ≤ held d + beads e r
 held_bound d e ok keeps r live fresh =
     let few = subset_count (held_places e.vars e.nodes 0) (held_places d.vars d.nodes 0 ++ below e.nodes e.vars 0 r.place) (new_held d e keeps r fresh) in
-    omega (arith, few, count_both (held_places d.vars d.nodes 0) (below e.nodes e.vars 0 r.place), count_held d, count_held e, beads_are e ok r live)
+    omega (arith, few, count_append (held_places d.vars d.nodes 0) (below e.nodes e.vars 0 r.place), count_held d, count_held e, beads_are e ok r live)
 
 -- what a node adds to what its branches added lies below it
 pub fresh_node : (d m e n : Diagram) (low high r : Ref) → IsFreshBelow d m low → IsFreshBelow m e high → Keeps m e → IsLive m low

@@ -8,17 +8,9 @@ use Rattle.bdd_store.specs.declared.Ref.{Ref}
 use Rattle.bdd_store.specs.Diagram.{Diagram, IsLive, IsReduced, IsProper, Keeps, table, first_var, beads}
 use Rattle.bdd_ops.specs.Functions.{Function}
 use Rattle.memo_table.specs.Results.{Results, same_pair, result_of}
+use Rattle.memo_table.proofs.TableLaws.{pair_is}
 use Rattle.bdd_ops.specs.Memo.{joined, same_one, IsJoin, IsImage, AreJoins, AreImages}
 use Rattle.bdd_ops.proofs.FewOnes.{IsBelow, few_ones_below}
-
-pub keeps_after : (a b c : Diagram) → Keeps a b → Keeps b c → Keeps a c
-keeps_after a b c first second = record {
-  vars = second.vars ∙ first.vars;
-  live = λ r live. second.live r (first.live r live);
-  tables = λ r live x. second.tables r (first.live r live) x ∙ first.tables r live x;
-  reached = λ f r live_f live_r is. second.reached f r (first.live f live_f) (first.live r live_r) (first.reached f r live_f live_r is);
-  firsts = λ r live. second.firsts r (first.live r live) ∙ first.firsts r live;
-}
 
 pub first_within : (d : Diagram) (r : Ref) → IsLive d r → first_var d r ≤ d.vars
 unfolding IsLive first_var
@@ -49,13 +41,6 @@ one_test = record {
   is = λ p q e. let same : p.place ≡ q.place = grind (arith, nat_tests) in ap (λ (n : ℕ). let x : Ref = record { place = n } in x) same;
   self = λ p. grind (arith, nat_tests);
 }
-
-pair_is : (p q : Ref × Ref) → eqb p.0.place q.0.place ≡ true → eqb p.1.place q.1.place ≡ true → p ≡ q
-pair_is p q e0 e1 =
-    let first : p.0.place ≡ q.0.place = grind (arith, nat_tests) in
-    let second : p.1.place ≡ q.1.place = grind (arith, nat_tests) in
-    let pair : ℕ → ℕ → Ref × Ref = λ x y. (record { place = x }, record { place = y }) in
-    ap (λ x. pair x p.1.place) first ∙ ap (pair q.0.place) second
 
 pub pair_test : IsTest same_pair
 pair_test = record {

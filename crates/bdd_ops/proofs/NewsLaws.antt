@@ -10,6 +10,7 @@ use Rattle.bdd_store.specs.declared.results.Entry.{Entry}
 use Rattle.bdd_store.specs.Sure.{IsSure}
 use Rattle.bdd_store.proofs.Laws.{reaches_self}
 use Rattle.bdd_store.proofs.Few.{IsPairBelow, few_pairs_below}
+use Rattle.bdd_store.proofs.Keeping.{keeps_self}
 use Rattle.memo_table.specs.Results.{Results, same_pair, result_of}
 use Rattle.bdd_ops.specs.Memo.{pair_first}
 use Rattle.bdd_ops.specs.News.{State, IsFound, IsNew, News, SamePair}
@@ -38,9 +39,6 @@ apart_pairs x y ne = by_test (same_pair x y) refl
     by_test : (t : Bool) → same_pair x y ≡ t → t ≡ false
     by_test true e = absurd (ne (pair_test.is x y e))
     by_test false e = refl
-
-pub keeps_self : (d : Diagram) → Keeps d d
-keeps_self d = record { vars = refl; live = λ r live. live; tables = λ r live a. refl; reached = λ f r live_f live_r is. is; firsts = λ r live. refl }
 
 module _ (op : Ref × Ref → Operation) (IsPair : Ref × Ref → Type 0) (turn : ℕ) where
   -- nothing is new

@@ -5,9 +5,10 @@ use Rattle.std.proofs.lemmas.List.{get_or-set_same, get_or-set_other}
 use Rattle.bdd_store.specs.declared.Ref.{Ref}
 use Rattle.bdd_store.specs.Graph.{with_at}
 use Rattle.bdd_store.specs.Diagram.{Diagram, table}
+use Rattle.bdd_store.proofs.Functions.{table_reads}
 use Rattle.bdd_ops.specs.Functions.{depends, bit_at}
 use Rattle.bdd_ops.specs.Memo.{Known, AreFlagged}
-use Rattle.bdd_ops.proofs.Depends.{own, table_reads, low_depends, high_depends, depends_cases, own_depends}
+use Rattle.bdd_ops.proofs.Depends.{own, low_depends, high_depends, depends_cases, own_depends}
 
 pub bit_here : (flags : List Bool) (w v : ℕ) (x : Bool) → w < length flags → v ≡ w → bit_at (set flags w x) v ≡ x
 bit_here flags w v x lt e = ap (bit_at (set flags w x)) e ∙ get_or-set_same flags w x false lt

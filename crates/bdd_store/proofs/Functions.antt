@@ -36,7 +36,7 @@ with_own a k v = elim (cases_lt v k) [
   ]
 ]
 
-half_reads : (b k : ℕ) (f : (ℕ → Bool) → Bool) (x : Bool) → Reads (suc b) k f → Reads b (suc k) (λ a. f (with_at a k x))
+pub half_reads : (b k : ℕ) (f : (ℕ → Bool) → Bool) (x : Bool) → Reads (suc b) k f → Reads b (suc k) (λ a. f (with_at a k x))
 half_reads b k f x reads a c same = reads (with_at a k x) (with_at c k x) (λ v le lt. with_agree a c k x v (λ ne. same v (omega arith) (omega arith)))
 
 pub length-table : (b k : ℕ) (f : (ℕ → Bool) → Bool) → length (truth_table b k f) ≡ 2 ^ b
@@ -182,7 +182,7 @@ unfolding count_distinct
 part_count [] ys part = omega arith
 part_count (x ∷ xs) ys part = part_step x xs ys (one_of xs x) refl part (λ zs. part_count xs zs)
 
-one_of_append : (q : List Bool) (xs ys : List (List Bool)) → one_of (xs ++ ys) q ≡ one_of xs q || one_of ys q
+pub one_of_append : (q : List Bool) (xs ys : List (List Bool)) → one_of (xs ++ ys) q ≡ one_of xs q || one_of ys q
 one_of_append q [] ys = refl
 one_of_append q (x ∷ xs) ys = ap (λ t. same_block q x || t) (one_of_append q xs ys) ∙ or_assoc (same_block q x) (one_of xs q) (one_of ys q)
   where

@@ -97,7 +97,7 @@ count_append_step x xs ys true false is_s is_t ih = absurd (let f : true ≡ fal
 count_append_step x xs ys false true is_s is_t ih = omega (arith, ih)
 count_append_step x xs ys false false is_s is_t ih = omega (arith, ih)
 
-count_append : (xs ys : List ℕ) → count_distinct eqb (xs ++ ys) ≤ count_distinct eqb xs + count_distinct eqb ys
+pub count_append : (xs ys : List ℕ) → count_distinct eqb (xs ++ ys) ≤ count_distinct eqb xs + count_distinct eqb ys
 unfolding count_distinct
 count_append [] ys = omega arith
 count_append (x ∷ xs) ys = count_append_step x xs ys (member x xs) (member x (xs ++ ys)) refl refl (count_append xs ys)

@@ -19,3 +19,4 @@ pub mod HeldLaws
 pub mod SweepLaws
 pub mod Functions
 pub mod ResultLaws
+pub mod Keeping

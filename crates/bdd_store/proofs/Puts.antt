@@ -85,12 +85,9 @@ node_one n x lt = let test : nat_lt x.var n ≡ true = grind (arith, nat_tests) 
 pub node_none : (n : ℕ) (x : Node) → n ≤ x.var → one_if (nat_lt x.var n) ≡ 0
 node_none n x le = let test : nat_lt x.var n ≡ false = grind (arith, nat_tests) in ap (λ t. cond t 1 0) test
 
-count_append : (n : ℕ) (ns : List Node) (nd : Node) → nd.var < n → node_count n (ns ++ nd ∷ []) ≡ node_count n ns + 1
-count_append n [] nd lt = count_cons n nd [] ∙ omega (arith, node_one n nd lt)
-count_append n (x ∷ xs) nd lt = count_cons n x (xs ++ nd ∷ []) ∙ omega (arith, count_append n xs nd lt, count_cons n x xs)
-
 pub counted_append : (n : ℕ) (ns : List Node) (nd : Node) → nd.var < n → node_count n (ns ++ nd ∷ []) ≡ node_count n ns + 1
-counted_append n ns nd lt = count_append n ns nd lt
+counted_append n [] nd lt = count_cons n nd [] ∙ omega (arith, node_one n nd lt)
+counted_append n (x ∷ xs) nd lt = count_cons n x (xs ++ nd ∷ []) ∙ omega (arith, counted_append n xs nd lt, count_cons n x xs)
 
 pub counted_written : (n : ℕ) (ns : List Node) (f : ℕ) (nd : Node) → nd.var < n → f < length ns → n ≤ var_at ns f → node_count n (set ns f nd) ≡ node_count n ns + 1
 counted_written n [] f nd lt within was = absurd (omega arith)

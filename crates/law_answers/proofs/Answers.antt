@@ -2,6 +2,7 @@
 use Rattle.std.proofs.Common.{◌≡◌, ◌∙◌, ◌||◌, ℕ, Bool, true, false, List, [], ◌∷◌, Option, Some, None, ap, ap₂, arith, refl, subst, sym, true≢false}
 use Rattle.std.specs.Prelude.{if◌then◌else◌}
 use Rattle.std.specs.List.{list_any}
+use Rattle.std.proofs.lemmas.Bool.{or_parts}
 use Rattle.smv_core.specs.declared.tree.Text.{Text}
 use Rattle.law_obligations.specs.Sets.{first, later}
 use Rattle.smv_search.specs.Events.Event.{Counted, Reached, Images}
@@ -65,14 +66,10 @@ true_unit (verdict.False case elements path) f u = absurd (true≢false f)
 true_unit (verdict.UnknownNodes case count) f u = absurd (true≢false u)
 true_unit (verdict.UnknownSteps case) f u = absurd (true≢false u)
 
-neither : (x y : Bool) → (x || y) ≡ false → (x ≡ false) × (y ≡ false)
-neither true y e = absurd (true≢false e)
-neither false y e = (refl, e)
-
 true_units : (units : List UnitResult) → list_any (λ u. is_false u.verdict) units ≡ false → list_any (λ u. is_unknown u.verdict) units ≡ false → AllTrueUnits units
 true_units [] f u r h = elim h [ ]
-true_units (x ∷ units) f u _ first = true_unit x.verdict (neither (is_false x.verdict) (list_any (λ u. is_false u.verdict) units) f).0 (neither (is_unknown x.verdict) (list_any (λ u. is_unknown u.verdict) units) u).0
-true_units (x ∷ units) f u r (later h) = true_units units (neither (is_false x.verdict) (list_any (λ u. is_false u.verdict) units) f).1 (neither (is_unknown x.verdict) (list_any (λ u. is_unknown u.verdict) units) u).1 r h
+true_units (x ∷ units) f u _ first = true_unit x.verdict (or_parts (is_false x.verdict) (list_any (λ u. is_false u.verdict) units) f).0 (or_parts (is_unknown x.verdict) (list_any (λ u. is_unknown u.verdict) units) u).0
+true_units (x ∷ units) f u r (later h) = true_units units (or_parts (is_false x.verdict) (list_any (λ u. is_false u.verdict) units) f).1 (or_parts (is_unknown x.verdict) (list_any (λ u. is_unknown u.verdict) units) u).1 r h
 
 -- whether all is proved
 abbrev is_all : Status → Bool
@@ -104,7 +101,7 @@ module _ (not_both : IsNotBoth) (one_tree : OneTree) (either : UnitsAreOrAreNot)
       omega (arith, long, within)
   not_faulty command text report _ _ is (malformed number at within fault) =
       let tree = valid_text command text report is in
-      not_both text tree.0 number at (tree.1.is_tree.tokens, tree.1.is_tree.are_tokens, tree.1.is_tree.spelled) fault
+      not_both text tree.0 number at tree.1.is_tree.spelled fault
   not_faulty command text report _ _ is (faulty tree fault deciding is_tree found) =
       let valid = valid_text command text report is in
       let same = one_tree text tree valid.0 is_tree valid.1.is_tree in
@@ -117,7 +114,7 @@ module _ (not_both : IsNotBoth) (one_tree : OneTree) (either : UnitsAreOrAreNot)
   not_printed text tree _ _ is (too_long long) =
       let within = is.within in
       omega (arith, long, within)
-  not_printed text tree _ _ is (malformed number at within fault) = not_both text tree number at (is.tokens, is.are_tokens, is.spelled) fault
+  not_printed text tree _ _ is (malformed number at within fault) = not_both text tree number at is.spelled fault
   not_printed text tree _ _ is (faulty other fault deciding is_tree found) = true≢false (sym deciding)
 
   module _ (one_report : OneReport) (one_unit : OneUnitReport) where

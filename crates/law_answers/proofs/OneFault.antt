@@ -1,5 +1,6 @@
 -- A text has one first fault under a command.
 use Rattle.std.proofs.Common.{◌≡◌, ◌∙◌, ℕ, ◌<◌, List, length, Some, refl, sym, ap, arith, true≢false}
+use Rattle.law_lists.proofs.Options.{some_is}
 use Rattle.smv_core.specs.declared.fault.Fault.{Fault}
 use Rattle.smv_core.specs.declared.tree.Text.{Text}
 use Rattle.smv_parse.specs.Spelling.{HasFault}
@@ -21,13 +22,10 @@ pub record AreSame (number other at place : ℕ) : Type 0 where
 same_fault : (f g : Fault) → f ≡ g → AreSame f.number g.number f.at g.at
 same_fault f g e = record { numbers = ap (λ (x : Fault). x.number) e; places = ap (λ (x : Fault). x.at) e }
 
-some_is : {X : Type 0} {x y : X} → Some x ≡ Some y → x ≡ y
-some_is e = cc
-
 module _ (not_both : IsNotBoth) (one_fault : IsOneFault) (one_tree : OneTree) where
   -- what a tree's form cannot have
   formed : (text : List ℕ) (tree : Text) (number at : ℕ) → IsTree text tree → HasFault text number at → ⊥
-  formed text tree number at is fault = not_both text tree number at (is.tokens, is.are_tokens, is.spelled) fault
+  formed text tree number at is fault = not_both text tree number at is.spelled fault
 
   short : (text : List ℕ) (tree : Text) → IsTree text tree → limit < length text → ⊥
   short text tree is long =

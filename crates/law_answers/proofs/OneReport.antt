@@ -1,6 +1,9 @@
 -- Where no unit is false, two right reports are one.
-use Rattle.std.proofs.Common.{◌≡◌, ◌∙◌, ◌||◌, ℕ, suc, Bool, true, false, List, [], ◌∷◌, Some, refl, sym, ap, ap₂, subst, true≢false}
+use Rattle.std.proofs.Common.{◌≡◌, ◌∙◌, ℕ, suc, true, false, List, [], ◌∷◌, refl, sym, ap, ap₂, subst, true≢false}
 use Rattle.std.specs.List.{list_any}
+use Rattle.std.proofs.lemmas.Bool.{or_parts}
+use Rattle.law_lists.proofs.Lists.{head_is, tail_is}
+use Rattle.law_lists.proofs.Options.{some_is}
 use Rattle.smv_core.specs.declared.flat.Class.{Class}
 use Rattle.smv_core.specs.declared.tree.Text.{Text}
 use Rattle.law_obligations.specs.Outlines.{Entry, Script}
@@ -43,16 +46,6 @@ verdict_is (verdict.UnknownSteps case) (verdict.UnknownSteps other) e f =
     let classes : case.classes ≡ other.classes = cc in
     λ i. verdict.UnknownSteps (record { classes = classes i })
 
-neither : (x y : Bool) → (x || y) ≡ false → (x ≡ false) × (y ≡ false)
-neither true y e = absurd (true≢false e)
-neither false y e = (refl, e)
-
-heads_are : {X : Type 0} {x y : X} {xs ys : List X} → x ∷ xs ≡ y ∷ ys → x ≡ y
-heads_are e = cc
-
-tails_are : {X : Type 0} {x y : X} {xs ys : List X} → x ∷ xs ≡ y ∷ ys → xs ≡ ys
-tails_are e = cc
-
 -- ---- results
 
 module _ (s : Script) (nodes images : ℕ) where
@@ -70,9 +63,9 @@ module _ (s : Script) (nodes images : ℕ) where
   results_are u (entry ∷ entries) [] qs is is_too tells f = absurd is
   results_are u (entry ∷ entries) (r ∷ rs) [] is is_too tells f = absurd is_too
   results_are u (entry ∷ entries) (r ∷ rs) (q ∷ qs) is is_too tells f =
-      let none = neither (is_false r.verdict) (list_any (λ r. is_false r.verdict) rs) f in
-      ap₂ (λ (x : UnitResult) (xs : List UnitResult). x ∷ xs) (result_is u entry r q is.0 is_too.0 (heads_are tells) none.0)
-      (results_are (suc u) entries rs qs is.1 is_too.1 (tails_are tells) none.1)
+      let none = or_parts (is_false r.verdict) (list_any (λ r. is_false r.verdict) rs) f in
+      ap₂ (λ (x : UnitResult) (xs : List UnitResult). x ∷ xs) (result_is u entry r q is.0 is_too.0 (head_is tells) none.0)
+      (results_are (suc u) entries rs qs is.1 is_too.1 (tail_is tells) none.1)
 
   report_is : (r q : Report) → IsReportOf s nodes images r → IsReportOf s nodes images q → told_of r.units ≡ told_of q.units → list_any (λ u. is_false u.verdict) r.units ≡ false → r ≡ q
   report_is r q is is_too tells f =
@@ -89,9 +82,6 @@ module _ (s : Script) (nodes images : ℕ) where
       λ i. record { design = designs i; units = units i }
 
 -- ---- reports of texts
-
-some_is : {X : Type 0} {x y : X} → Some x ≡ Some y → x ≡ y
-some_is e = cc
 
 module _ (one_tree : OneTree) where
   right_is : (text : List ℕ) (nodes steps : ℕ) (r q : Report) → IsRightReport text nodes steps r → IsRightReport text nodes steps q → told_of r.units ≡ told_of q.units → list_any (λ u. is_false u.verdict) r.units ≡ false → r ≡ q

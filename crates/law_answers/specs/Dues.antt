@@ -19,15 +19,18 @@ use Rattle.smv_command.specs.declared.commands.Command.TheVariants.{Prove, Only,
 use Rattle.smv_command.specs.declared.exit.Status.{Status}
 use Rattle.smv_command.specs.declared.exit.Status.TheVariants as status
 use Rattle.law_valid_texts.specs.Plans.{IsTree}
+pub use Rattle.law_valid_texts.specs.Plans.{limit}
 use Rattle.law_valid_texts.specs.Faults.{pass_fault}
 use Rattle.law_valid_texts.specs.Reports.{IsRightReport, IsUnitReport, HasNoUnit}
 
 -- ---- verdicts
 
+-- a unit is false
 abbrev pub is_false : Verdict → Bool
 is_false (verdict.False case elements path) = true
 is_false _ = false
 
+-- a unit is unknown under the budgets
 abbrev pub is_unknown : Verdict → Bool
 is_unknown (verdict.UnknownNodes case count) = true
 is_unknown (verdict.UnknownSteps case) = true
@@ -63,10 +66,11 @@ text_for (Only name budgets) text = text
 text_for Print text = text
 text_for (Generated copies) text = generated_text copies
 
--- the budgets of a command that names none
+-- the budget of nodes of a command that names none
 abbrev pub default_nodes : ℕ
 default_nodes = 1000000
 
+-- the budget of steps of one that names none
 abbrev pub default_steps : ℕ
 default_steps = 1000
 
@@ -93,10 +97,6 @@ lines_for (Generated copies) report = generated_lines copies report
 
 -- ---- the answer
 
--- the most bytes that a text has
-abbrev pub limit : ℕ
-limit = 1048576
-
 -- The first fault of a text under a command, by its number and its offset: its length, or else its form, or else, where units are to be decided, that of the earliest pass that finds one, or else that no
 -- unit has the name that is asked for.
 pub data IsFault : Command → List ℕ → ℕ → ℕ → Type 0 where
@@ -111,6 +111,7 @@ pub data IsDue : Command → List ℕ → Status → List ℕ → Type 0 where
   printed : {text : List ℕ} (tree : Text) → IsTree text tree → IsDue Print text status.Printed (canonical tree)
   refused : {command : Command} {text : List ℕ} (number at : ℕ) → IsFault command text number at → IsDue command text status.Refused (fault_text text number at)
 
+-- what is written where the words are no command
 abbrev pub usage_line : List ℕ
 usage_line = codes "usage: smv prove|only|print|generated" ++ 10 ∷ []
 

@@ -1,6 +1,7 @@
 -- No two definitions of a design are of one family in one definition set.
-use Rattle.std.proofs.Common.{◌≡◌, ℕ, List, [], ◌∷◌, map, filter, Bool, true, false, not, ◌&&◌, ◌||◌, cond, nat_eq, refl, ap, ◌∙◌, arith}
+use Rattle.std.proofs.Common.{◌≡◌, List, [], ◌∷◌, map, filter, Bool, true, false, not, ◌&&◌, ◌||◌, cond, refl, ap, ◌∙◌, arith}
 use Rattle.std.specs.List.{list_any}
+use Rattle.law_lists.proofs.Numbers.{nat_eq-turned}
 use Rattle.smv_core.specs.declared.flat.FlatText.{FlatText}
 use Rattle.law_designs.specs.Flattening.{different}
 use Rattle.law_designs.specs.WholeText.{is_one_layer}
@@ -43,12 +44,9 @@ module _ {X : Type 0} (same : X → X → Bool) where
   are-different [] = tt
   are-different (x ∷ xs) = (none-same x (different same xs), filter-different (λ y. not (same x y)) (different same xs) (are-different xs))
 
-turned : (a b : ℕ) → nat_eq a b ≡ nat_eq b a
-turned a b = grind arith
-
 module _ (flat_text : FlatText) where
   one-same : (h g : Head) → is_of_family h.layer h.family (def_of flat_text g) ≡ same_definition h g
-  one-same h g = ap (λ b. is_one_layer h.layer g.layer && b) (turned g.family h.family)
+  one-same h g = ap (λ b. is_one_layer h.layer g.layer && b) (nat_eq-turned g.family h.family)
 
   any-same : (h : Head) (heads : List Head) → list_any (is_of_family h.layer h.family) (map (def_of flat_text) heads) ≡ list_any (same_definition h) heads
   any-same h [] = refl

@@ -4,6 +4,8 @@ use Rattle.std.specs.Str.{bytes_eq}
 use Rattle.std.specs.List.{list_any}
 use Rattle.std.proofs.lemmas.List.Folds.{list_any-append}
 use Rattle.std.proofs.lemmas.Slice.Eq.{bytes_eq-Decides}
+use Rattle.law_lists.proofs.Anys.{any-flat_map}
+use Rattle.law_lists.proofs.Booleans.{same_tests}
 use Rattle.smv_core.specs.Values.{Name, Path}
 use Rattle.smv_core.specs.Types.{find_name, names_of}
 use Rattle.smv_core.specs.Outcome.{same_path}
@@ -13,7 +15,7 @@ use Rattle.smv_mentions.specs.Mentions.{Mention, declares, binds, follows, names
 use Rattle.smv_mentions.specs.Scopes.{Constant, Piece, constants, constants_in, pieces}
 use Rattle.law_designs.specs.Flattening.{different, enum_of, scope_in}
 use Rattle.law_designs.specs.Agreement.{IsConstant}
-use Rattle.law_designs.proofs.Lookups.{same_test, any-found, find-passes, any-flat_map}
+use Rattle.law_designs.proofs.Lookups.{any-found, find-passes}
 use Rattle.law_designs.proofs.Different.{different-keeps}
 use Rattle.law_designs.proofs.TypeNumbers.{paths-decide}
 
@@ -33,7 +35,7 @@ module _ (name : Name) where
       by_test false e rest = rest e
 
   turned : (other : Name) → bytes_eq other name ≡ bytes_eq name other
-  turned other = same_test (bytes_eq other name) (bytes_eq name other)
+  turned other = same_tests (bytes_eq other name) (bytes_eq name other)
       (λ e. (bytes_eq-Decides name other).1 (sym ((bytes_eq-Decides other name).0 e))) (λ e. (bytes_eq-Decides other name).1 (sym ((bytes_eq-Decides name other).0 e)))
 
   words-same : (words all : List Word) → list_any is_named (map (λ word. (word.name, record { at = word.at; names = names_of all })) words) ≡ has (names_of words)

@@ -1,11 +1,9 @@
 -- Edges hold a cycle exactly where some of them each lead on to one of them.
 use Rattle.std.proofs.Common.{◌≡◌, ℕ, zero, suc, ◌<◌, ◌≤◌, List, [], ◌∷◌, length, filter, Bool, true, false, ◌&&◌, ◌||◌, cond, refl, sym, ap, ◌∙◌, ◌⊎◌, inl, inr, arith}
 use Rattle.std.specs.List.{list_any}
+use Rattle.law_lists.proofs.Booleans.{clash}
 use Rattle.law_designs.specs.Loops.{Edge, same_cell, leads_on, going_on, kept, are_some, hold_a_cycle}
 use Rattle.law_designs.specs.LoopLaws.{IsCircular}
-
-pub clash : {b : Bool} → b ≡ true → b ≡ false → ⊥
-clash p q = cc
 
 -- ---- what is left of a list
 

@@ -17,17 +17,13 @@ use Rattle.smv_mentions.specs.NameFaults.{place_if, repeated, undeclared_in, dou
 use Rattle.smv_mentions.specs.FirstFault.{first_of, faults_at, faults_of_names, fault_of_size, first_fault}
 use Rattle.law_designs.proofs.Lists.{bytes_eq-is, IsAmong, any-of}
 use Rattle.law_designs.proofs.Chains.{uses, Leads, leads-more}
-use Rattle.law_designs.proofs.Faultless.{empty-both, no_fault-in, none-first}
+use Rattle.law_designs.proofs.Faultless.{empty-both, no_fault-in, none-first, unplaced}
 
 -- ---- no fault
 
 no_places : (number : ℕ) (places : List ℕ) → faults_at (number, places) ≡ [] → places ≡ []
 no_places number [] e = refl
 no_places number (at ∷ places) e = absurd (cc (e))
-
-unplaced : (b : Bool) (at : ℕ) → place_if b at ≡ [] → b ≡ false
-unplaced false at e = refl
-unplaced true at e = absurd (cc (e))
 
 -- no top is declared twice, and no module contains itself
 pub without-faults : (text : Text) → first_fault text ≡ None →

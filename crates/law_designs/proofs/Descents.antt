@@ -1,6 +1,8 @@
 -- Where each edge leads to a smaller number there is no cycle: on one, each number would be above every bound.
-use Rattle.std.proofs.Common.{◌≡◌, ℕ, zero, suc, ◌<◌, ◌≤◌, List, [], ◌∷◌, length, filter, Option, Some, None, Bool, true, false, ◌&&◌, ◌||◌, cond, nat_eq, refl, ap, ◌∙◌, arith}
+use Rattle.std.proofs.Common.{◌≡◌, ℕ, zero, suc, ◌<◌, ◌≤◌, List, [], ◌∷◌, length, filter, Option, Some, None, Bool, true, false, ◌||◌, cond, nat_eq, refl, ap, ◌∙◌, arith}
 use Rattle.std.specs.List.{list_any}
+use Rattle.law_lists.proofs.Booleans.{left_of, right_of}
+use Rattle.law_lists.proofs.Numbers.{nat_eq-is}
 use Rattle.smv_core.specs.declared.flat.Cell.{Cell}
 use Rattle.law_designs.specs.WholeText.{is_one_layer}
 use Rattle.law_designs.specs.Loops.{Edge, same_indexes, same_cell, leads_on, going_on, hold_a_cycle}
@@ -9,20 +11,9 @@ use Rattle.law_designs.proofs.Cycles.{few, not_longer, rest_of, each_is_one}
 
 -- ---- cells that are the same
 
-left_of : (a b : Bool) → (a && b) ≡ true → a ≡ true
-left_of true b e = refl
-left_of false b e = absurd (cc (e))
-
-right_of : (a b : Bool) → (a && b) ≡ true → b ≡ true
-right_of true b e = e
-right_of false b e = absurd (cc (e))
-
-number-is : (m n : ℕ) → nat_eq m n ≡ true → m ≡ n
-number-is m n e = grind arith
-
-one-is : (i j : Option ℕ) → is_one_layer i j ≡ true → i ≡ j
+pub one-is : (i j : Option ℕ) → is_one_layer i j ≡ true → i ≡ j
 one-is None None e = refl
-one-is (Some m) (Some n) e = ap Some (number-is m n e)
+one-is (Some m) (Some n) e = ap Some (nat_eq-is m n e)
 one-is None (Some n) e = absurd (cc (e))
 one-is (Some m) None e = absurd (cc (e))
 
@@ -38,7 +29,7 @@ cell family indexes = record { family = family; indexes = indexes }
 
 cell-is : (a b : Cell) → same_cell a b ≡ true → a ≡ b
 cell-is a b e =
-    ap (λ f. cell f a.indexes) (number-is a.family b.family (left_of (nat_eq a.family b.family) (same_indexes a.indexes b.indexes) e))
+    ap (λ f. cell f a.indexes) (nat_eq-is a.family b.family (left_of (nat_eq a.family b.family) (same_indexes a.indexes b.indexes) e))
     ∙ ap (λ is. cell b.family is) (indexes-are a.indexes b.indexes (right_of (nat_eq a.family b.family) (same_indexes a.indexes b.indexes) e))
 
 -- ---- the descent

@@ -3,6 +3,7 @@ use Rattle.law_designs.proofs.Opening.{opening}
 use Rattle.std.proofs.Common.{◌≡◌, ℕ, List, [], ◌∷◌, ◌++◌, map, flat_map, length, zip, Option, Some, None, Bool, true, false, cond, refl, subst, arith}
 use Rattle.std.specs.Str.{bytes_eq}
 use Rattle.std.specs.List.{AllByRecursion}
+use Rattle.law_lists.proofs.Each.{each_weaker}
 use Rattle.smv_core.specs.Values.{Name}
 use Rattle.smv_core.specs.Types.{find_name}
 use Rattle.smv_core.specs.declared.fault.Fault.{Fault}
@@ -34,11 +35,6 @@ unfolding opening
 empty-each f [] e = tt
 empty-each f (x ∷ xs) e = let parts = empty-both (f x) (flat_map f xs) e in (parts.0, empty-each f xs parts.1)
 
-pub each-append : {X : Type 0} (P : X → Type 0) (xs ys : List X) → AllByRecursion P xs → AllByRecursion P ys → AllByRecursion P (xs ++ ys)
-unfolding opening
-each-append P [] ys h k = k
-each-append P (x ∷ xs) ys h k = (h.0, each-append P xs ys h.1 k)
-
 pub each-front : {X : Type 0} (P : X → Type 0) (xs ys : List X) → AllByRecursion P (xs ++ ys) → AllByRecursion P xs
 unfolding opening
 each-front P [] ys h = tt
@@ -53,11 +49,6 @@ pub each-map : {X Y : Type 0} (P : X → Type 0) (Q : Y → Type 0) (f : X → Y
 unfolding opening
 each-map P Q f h [] k = tt
 each-map P Q f h (x ∷ xs) k = (h x k.0, each-map P Q f h xs k.1)
-
-pub each-more : {X : Type 0} (P Q : X → Type 0) → ((x : X) → P x → Q x) → (xs : List X) → AllByRecursion P xs → AllByRecursion Q xs
-unfolding opening
-each-more P Q h [] k = tt
-each-more P Q h (x ∷ xs) k = (h x k.0, each-more P Q h xs k.1)
 
 -- what holds of each holds of what is found
 pub found-each : {X : Type 0} (P : X → Type 0) (list : List (Name × X)) (name : Name) (x : X) → AllByRecursion (λ (other, y). P y) list → find_name list name ≡ Some x → P x
@@ -118,7 +109,7 @@ taken-fine kind e h = (empty-both e.faults (unless (accepts kind e.kind) e) h).0
 
 pub numbers-fine : (es : List Operand) → flat_map takes_number es ≡ [] → AreFine es
 unfolding opening
-numbers-fine es h = each-more (λ e. takes_number e ≡ []) IsFine number-fine es (empty-each takes_number es h)
+numbers-fine es h = each_weaker (λ e. takes_number e ≡ []) IsFine number-fine es (empty-each takes_number es h)
 
 pub alike_with-fine : (kind : Kind) (es : List Operand) → alike_with kind es ≡ [] → AreFine es
 unfolding opening

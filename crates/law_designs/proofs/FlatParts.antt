@@ -1,6 +1,7 @@
 -- What the parts of a definition give and which indexes they assign, where what gives nothing is left out.
 use Rattle.std.proofs.Common.{◌≡◌, ℕ, List, [], ◌∷◌, ◌++◌, map, filter, Some, None, Bool, true, false, not, ◌&&◌, cond, refl, sym, ap, ◌∙◌}
 use Rattle.std.specs.List.{flat_map}
+use Rattle.std.proofs.lemmas.List.{append-nil}
 use Rattle.smv_core.specs.Values.{Value, Truth, truth}
 use Rattle.smv_core.specs.Walk.{Walk, first, first_of, if_walk}
 use Rattle.smv_core.specs.FlatMeaning.{Numbered, FlatState, FlatBindings, FlatElement, bind, values_in, flat_outcome, flat_result, flat_results, indexes_assigned, indexes_assigned_in}
@@ -14,10 +15,6 @@ use mathlib.Core.Former.{Count}
 unfoldable pub boxes : Unit {0}
 unfolding Rattle.smv_core.specs.declared.flat.DefBody.TheBlock.hidden-the_row-DefBody-0 Rattle.smv_core.specs.declared.flat.DefBody.TheBlock.shape-the_row-DefBody-0 denote.Hole.Carrier.hidden
 boxes = tt
-
-append-nil : {X : Type 0} (xs : List X) → xs ++ [] ≡ xs
-append-nil [] = refl
-append-nil (x ∷ xs) = ap (λ l. x ∷ l) (append-nil xs)
 
 -- the parts of a `First`
 abbrev pub rows_of : DefBody → (k : Count) × Row_of-DefBody k

@@ -1,6 +1,7 @@
 -- What an item says of its instances depends on their modules alone.
 use Rattle.std.proofs.Common.{◌≡◌, ℕ, List, [], ◌∷◌, ◌++◌, map, length, None, inl, refl, ap, sym, subst, ◌∙◌}
 use Rattle.std.specs.List.{flat_map}
+use Rattle.law_lists.proofs.Lists.{flat_map_agree}
 use Rattle.smv_core.specs.Values.{Name, Path}
 use Rattle.smv_core.specs.Types.{Types, Family}
 use Rattle.smv_core.specs.FlatOrder.{Body, Met, said, connections, body_of, families_of_item, within_binder, instance_met, item_met, items_met}
@@ -31,10 +32,6 @@ front q xs ys h = subst (IsAmong q) (sym (used-append xs ys)) (among-front q (us
 behind : (q : Name) (xs ys : List Mention) → IsAmong q (used_in ys) → IsAmong q (used_in (xs ++ ys))
 behind q xs ys h = subst (IsAmong q) (sym (used-append xs ys)) (among-behind q (used_in xs) (used_in ys) h)
 
-same-map : {X Y : Type 0} (f g : X → List Y) → ((x : X) → f x ≡ g x) → (xs : List X) → flat_map f xs ≡ flat_map g xs
-same-map f g h [] = refl
-same-map f g h (x ∷ xs) = ap (λ l. l ++ flat_map f xs) (h x) ∙ ap (λ l. g x ++ l) (same-map f g h xs)
-
 module _ {X : Type 0} (inside other : Path → Name → List X) where
   -- both say the same of these modules
   abbrev pub Agree : List Name → Type 0
@@ -57,7 +54,7 @@ module _ (types : Types) (bodies : List (Name × Body)) where
   pub families-agree : (inside other : Path → Name → List Family) (here : Path) (item : Item) → Agree inside other (used_in (in_item [] item)) → families_of_item types bodies inside here item ≡ families_of_item types bodies other here item
   families-agree inside other here (Declare role words of at) h = refl
   families-agree inside other here (Instance words name args at) h =
-      same-map (λ (word : Word). inside (here ++ word.name ∷ []) name.name) (λ (word : Word). other (here ++ word.name ∷ []) name.name) (λ word. of-instance inside other [] words name args at h (here ++ word.name ∷ [])) words
+      flat_map_agree (λ (word : Word). inside (here ++ word.name ∷ []) name.name) (λ (word : Word). other (here ++ word.name ∷ []) name.name) (λ word. of-instance inside other [] words name args at h (here ++ word.name ∷ [])) words
   families-agree inside other here (Layer name body at) h = refl
   families-agree inside other here (Forall' var over shape row at) h = refl
   families-agree inside other here (Block' shape row) h = refl
@@ -69,7 +66,7 @@ module _ (types : Types) (bodies : List (Name × Body)) where
   pub placed-agree : (inside other : Path → Name → List (Family × ℕ)) (here : Path) (item : Item) → Agree inside other (used_in (in_item [] item)) → placed_of_item types bodies inside here item ≡ placed_of_item types bodies other here item
   placed-agree inside other here (Declare role words of at) h = refl
   placed-agree inside other here (Instance words name args at) h =
-      same-map (λ (word : Word). inside (here ++ word.name ∷ []) name.name) (λ (word : Word). other (here ++ word.name ∷ []) name.name) (λ word. of-instance inside other [] words name args at h (here ++ word.name ∷ [])) words
+      flat_map_agree (λ (word : Word). inside (here ++ word.name ∷ []) name.name) (λ (word : Word). other (here ++ word.name ∷ []) name.name) (λ word. of-instance inside other [] words name args at h (here ++ word.name ∷ [])) words
   placed-agree inside other here (Layer name body at) h = refl
   placed-agree inside other here (Forall' var over shape row at) h = refl
   placed-agree inside other here (Block' shape row) h = refl
@@ -90,7 +87,7 @@ module _ (types : Types) (bodies : List (Name × Body)) where
       pub met-agrees : (vars : List Word) (item : Item) → Agree inside other (used_in (in_item vars item)) → item_met types bodies inside here item ≡ item_met types bodies other here item
       met-agrees vars (Declare role words of at) h = refl
       met-agrees vars (Instance words name args at) h =
-          same-map (λ (word : Word). instance_met types bodies inside here name.name args word.name) (λ (word : Word). instance_met types bodies other here name.name args word.name)
+          flat_map_agree (λ (word : Word). instance_met types bodies inside here name.name args word.name) (λ (word : Word). instance_met types bodies other here name.name args word.name)
           (λ word. instance-met name.name args word.name (of-instance inside other vars words name args at h (here ++ word.name ∷ []))) words
       met-agrees vars (Layer name body at) h = refl
       met-agrees vars (Forall' var over shape (more_of-Item body end_of-Item) at) h =
@@ -119,7 +116,7 @@ module _ (types : Types) (bodies : List (Name × Body)) where
       pub entries-agree : (vars : List Word) (item : Item) → Agree inside other (used_in (in_item vars item)) → item_entries types bodies inside here item ≡ item_entries types bodies other here item
       entries-agree vars (Declare role words of at) h = refl
       entries-agree vars (Instance words name args at) h =
-          same-map (λ (word : Word). instance_entries types bodies inside here name.name args word.name) (λ (word : Word). instance_entries types bodies other here name.name args word.name)
+          flat_map_agree (λ (word : Word). instance_entries types bodies inside here name.name args word.name) (λ (word : Word). instance_entries types bodies other here name.name args word.name)
           (λ word. instance-entries name.name args word.name (of-instance inside other vars words name args at h (here ++ word.name ∷ []))) words
       entries-agree vars (Layer name body at) h = refl
       entries-agree vars (Forall' var over shape (more_of-Item body end_of-Item) at) h =

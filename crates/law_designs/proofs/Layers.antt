@@ -3,6 +3,7 @@ use Rattle.std.proofs.Common.{◌≡◌, ℕ, zero, suc, List, [], ◌∷◌, �
 use Rattle.std.specs.Str.{bytes_eq}
 use Rattle.std.specs.List.{list_any}
 use Rattle.std.proofs.lemmas.Slice.Eq.{bytes_eq-Decides}
+use Rattle.law_lists.proofs.Booleans.{same_tests}
 use Rattle.smv_core.specs.Values.{Name, Path}
 use Rattle.smv_core.specs.Types.{Types, types_from}
 use Rattle.smv_core.specs.FlatOrder.{Body, body_of, modules, main}
@@ -15,7 +16,7 @@ use Rattle.smv_core.specs.declared.tree.Item.{Item, Declare, Instance, Layer, Fo
 use Rattle.law_designs.specs.Entries.{Entry, layer, statement, goal, inside_binder, connections, item_entries, items_entries, instance_entries, entries_in, entries}
 use Rattle.law_designs.specs.Flattening.{layer_of, layers_of, layer_number}
 use Rattle.law_designs.specs.WholeText.{is_one_layer}
-use Rattle.law_designs.proofs.Lookups.{same_test, places-same, any-front, any-behind}
+use Rattle.law_designs.proofs.Lookups.{places-same, any-front, any-behind}
 use Rattle.law_designs.proofs.Different.{different-keeps}
 
 abbrev pub IsListed : List Name → Option Name → Type 0
@@ -123,7 +124,7 @@ layers-listed text =
 -- ---- numbers of layers
 
 equal-false : (a b : Name) → (a ≡ b → ⊥) → bytes_eq a b ≡ false
-equal-false a b h = same_test (bytes_eq a b) false (λ e. absurd (h ((bytes_eq-Decides a b).0 e))) (λ e. absurd (cc (e)))
+equal-false a b h = same_tests (bytes_eq a b) false (λ e. absurd (h ((bytes_eq-Decides a b).0 e))) (λ e. absurd (cc (e)))
 
 apart : (a b : Name) → bytes_eq a b ≡ false → a ≡ b → ⊥
 apart a b e h = let same : bytes_eq a b ≡ true = (bytes_eq-Decides a b).1 h in cc (same, e)

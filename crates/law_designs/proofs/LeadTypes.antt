@@ -1,9 +1,11 @@
 -- Where a type leads to a single value it has a family, and a whole reference has a kind for each index.
 use Rattle.law_designs.proofs.Opening.{opening}
-use Rattle.std.proofs.Common.{◌≡◌, List, [], ◌∷◌, ◌++◌, map, flat_map, length, Option, Some, None, option_map, option_and_then, Bool, true, false, cond, not, inl, refl, sym, ap, ◌∙◌, subst, arith}
+use Rattle.std.proofs.Common.{◌≡◌, List, [], ◌∷◌, ◌++◌, map, flat_map, length, Option, Some, None, option_map, option_and_then, Bool, true, false, cond, inl, refl, sym, ap, ◌∙◌, subst, arith}
 use Rattle.std.specs.List.{AllByRecursion}
 use Rattle.std.specs.Str.{bytes_eq}
 use Rattle.std.proofs.lemmas.Slice.Eq.{bytes_eq-Decides}
+use Rattle.std.proofs.lemmas.Option.{same_Some}
+use Rattle.std.proofs.lemmas.Bool.{not-false}
 use Rattle.smv_core.specs.Values.{Name, Path, Simple, range, choice, scalarset, ordset}
 use Rattle.smv_core.specs.Types as tree
 use Rattle.smv_core.specs.Types.{Family, Shape, find_name, names_of, simple_of, shape_of, shape_of_fields, shape_or_none, one_value, array_of, indexed, behind}
@@ -23,15 +25,11 @@ use Rattle.law_designs.specs.Written.{TypeIsWritten, FieldsAreWritten}
 use Rattle.law_designs.proofs.Somewhere.{Somewhere, somewhere-front, somewhere-behind, somewhere-map, somewhere-flat_map}
 use Rattle.law_designs.proofs.Faultless.{empty-both, unplaced, no_places, found-each}
 
-pub some-same : {X : Type 0} (a b : X) → Some a ≡ Some b → a ≡ b
-unfolding opening
-some-same a b h = cc
-
 -- what is mapped is there
 pub mapped : {X Y : Type 0} (f : X → Y) (o : Option X) (y : Y) → option_map f o ≡ Some y → (x : X) × (o ≡ Some x) × (f x ≡ y)
 unfolding opening
 mapped f None y h = absurd (cc (h))
-mapped f (Some x) y h = (x, refl, some-same (f x) y h)
+mapped f (Some x) y h = (x, refl, same_Some (f x) y h)
 
 -- ---- as many kinds as indexes
 
@@ -41,7 +39,7 @@ CountsIndexes l = (parts : List Part) (w : Whole) → l parts ≡ Some w → len
 
 pub single-counts : (kind : Kind) → CountsIndexes (single kind)
 unfolding opening
-single-counts kind [] w h = ap (λ v. length v.over) (sym (some-same {X = Whole} (record { over = []; value = kind }) w h))
+single-counts kind [] w h = ap (λ v. length v.over) (sym (same_Some {A = Whole} (record { over = []; value = kind }) w h))
 single-counts kind (part ∷ parts) w h = absurd (cc (h))
 
 abbrev pub TypesCount : Types → Type 0
@@ -120,10 +118,10 @@ Covers l shape = ((parts : List Part) (w : Whole) → l parts ≡ Some w → Som
 
 pub single-covers : (kind : Kind) (t : Simple) → kind_of t ≡ kind → Covers (single kind) (one_value t)
 unfolding opening
-single-covers kind t e = (λ parts w h. at_once parts w h, λ w h. (t, refl, ap (λ v. v.value) (sym (some-same {X = Whole} (record { over = []; value = kind }) w h)) ∙ sym e))
+single-covers kind t e = (λ parts w h. at_once parts w h, λ w h. (t, refl, ap (λ v. v.value) (sym (same_Some {A = Whole} (record { over = []; value = kind }) w h)) ∙ sym e))
   where
     at_once : (parts : List Part) (w : Whole) → single kind parts ≡ Some w → Somewhere (IsFamilyAt (fields_of parts) w) (one_value t)
-    at_once [] w h = let same = some-same {X = Whole} (record { over = []; value = kind }) w h in inl (refl, ap (λ v. v.over) same, e ∙ ap (λ v. v.value) same)
+    at_once [] w h = let same = same_Some {A = Whole} (record { over = []; value = kind }) w h in inl (refl, ap (λ v. v.over) same, e ∙ ap (λ v. v.value) same)
     at_once (part ∷ parts) w h = absurd (cc (h))
 
 named-covers : (o : Option Leads) (s : Option Shape) → ((l : Leads) → o ≡ Some l → (shape : Shape) × (s ≡ Some shape) × Covers l shape) → Covers (λ parts. option_and_then (λ named. named parts) o) (shape_or_none s)
@@ -137,11 +135,6 @@ is-index-leads : (o : Option Whole) → is_index (value_kind o) ≡ true → (w 
 unfolding opening
 is-index-leads None h = absurd (cc (h))
 is-index-leads (Some w) h = (w, refl)
-
-pub not-false : (b : Bool) → not b ≡ false → b ≡ true
-unfolding opening
-not-false true h = refl
-not-false false h = absurd (cc (h))
 
 -- each type name that is known to the kinds stands for a shape, which it covers
 abbrev pub AreCovered : Types → tree.Types → Type 0

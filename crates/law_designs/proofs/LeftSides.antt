@@ -5,6 +5,7 @@ use Rattle.std.specs.List.{AllByRecursion}
 use Rattle.std.specs.Str.{bytes_eq}
 use Rattle.std.proofs.lemmas.List.{append_assoc}
 use Rattle.std.proofs.lemmas.Slice.Eq.{bytes_eq-Decides}
+use Rattle.law_lists.proofs.Each.{each_append}
 use Rattle.smv_core.specs.Values.{Name, Path}
 use Rattle.smv_core.specs.Types as tree
 use Rattle.smv_core.specs.Types.{Family, find_name, types_from}
@@ -37,7 +38,7 @@ use Rattle.law_designs.specs.KindFaults.{assigned, are_constant, gives, connecte
 use Rattle.law_designs.specs.Entries.{Entry, layer, statement, goal, inside_binder, connection, connections, instance_entries, item_entries, items_entries, entries_in, entries}
 use Rattle.law_designs.specs.LeftSides.{HasFamily, LeadsToFamily, StatementLeads, StatementsLead, BranchLeads, ArmsLead, EntryLeads}
 use Rattle.law_designs.specs.Written.{InnerIsWritten, InnersAreWritten, ItemIsWritten}
-use Rattle.law_designs.proofs.Faultless.{empty-both, empty-three, each-append, each-map, reference-fine}
+use Rattle.law_designs.proofs.Faultless.{empty-both, empty-three, each-map, reference-fine}
 use Rattle.law_designs.proofs.Somewhere.{Somewhere, somewhere-more, somewhere-front, somewhere-behind, somewhere-place}
 use Rattle.law_designs.proofs.LeadTypes.{kind_of, IsFamilyAt, behind-count}
 use Rattle.law_designs.proofs.Statements.{mapped-length}
@@ -231,7 +232,7 @@ module _ (text : Text) where
           inners-whole vars end_of-Item written fine = tt
           inners-whole vars (more_of-Item part rest) written fine =
               let both = empty-both (in_item (scope_of m) vars part) (in_items (scope_of m) vars rest) fine in
-              each-append EntryIsWhole (item_entries types bodies inside_entries here part) (items_entries types bodies inside_entries here rest) (inner-whole vars part written.0 both.0) (inners-whole vars rest written.1 both.1)
+              each_append EntryIsWhole (item_entries types bodies inside_entries here part) (items_entries types bodies inside_entries here rest) (inner-whole vars part written.0 both.0) (inners-whole vars rest written.1 both.1)
 
       -- ---- connections
 
@@ -289,7 +290,7 @@ module _ (text : Text) where
         zipped-whole (word ∷ formals) (e ∷ args) ports fine =
             let both = empty-both (connected (scope_of m) inner.types (find_name (own_in inner_body.items) word.name) e)
             (flat_map (λ (word, e). connected (scope_of m) inner.types (find_name (own_in inner_body.items) word.name) e) (zip formals args)) fine in
-            each-append (StatementLeads text here) (connection_of word.name e) (flat_map (λ (word, e). connection (role_of inner_body.items word.name) n word.name e) (zip formals args))
+            each_append (StatementLeads text here) (connection_of word.name e) (flat_map (λ (word, e). connection (role_of inner_body.items word.name) n word.name e) (zip formals args))
             (connection-whole word.name e (find_name (own_in inner_body.items) word.name) refl ports.0 both.0) (zipped-whole formals args ports.1 both.1)
 
         connections-whole : (args : List Expr) → in_arguments (scope_of m) (Some inner) args ≡ [] → AreWholeHere (connections inner_body n args)
@@ -355,8 +356,8 @@ module _ (text : Text) where
             let acts_whole : AreWholeHere acts = found-whole name.name word.name includes_there args (find_name all_modules name.name) (find_name bodies name.name) refl (modules-found types all_modules all_constants all_modules bodies same_modules name.name) fine in
             let front : List Entry = map (λ act. statement (record { layer = None; instance = here; act = act })) acts in
             let rest : List Entry = flat_map (λ word. instance_entries types bodies inside_entries here name.name args word.name) words in
-            each-append EntryIsWhole (front ++ inside_entries (here ++ word.name ∷ []) name.name) rest
-            (each-append EntryIsWhole front (inside_entries (here ++ word.name ∷ []) name.name)
+            each_append EntryIsWhole (front ++ inside_entries (here ++ word.name ∷ []) name.name) rest
+            (each_append EntryIsWhole front (inside_entries (here ++ word.name ∷ []) name.name)
             (each-map (StatementLeads text here) EntryIsWhole (λ act. statement (record { layer = None; instance = here; act = act })) (λ act h. h) acts acts_whole)
             (inside_whole (here ++ word.name ∷ []) name.name includes_there))
             (instance-whole name args fine words (λ k path w e. includes k path w (somewhere-behind (IsFamilyAt path w) (there k) (others k) e)))
@@ -383,7 +384,7 @@ module _ (text : Text) where
             let both = empty-both (in_item (scope_of m) [] part) (flat_map (in_item (scope_of m) []) items) fine in
             let there : ℕ → List Family = λ k. families_of_item types bodies (families_in types bodies (bound + k)) here part in
             let others : ℕ → List Family = λ k. flat_map (families_of_item types bodies (families_in types bodies (bound + k)) here) items in
-            each-append EntryIsWhole (item_entries types bodies inside_entries here part) (flat_map (item_entries types bodies inside_entries here) items)
+            each_append EntryIsWhole (item_entries types bodies inside_entries here part) (flat_map (item_entries types bodies inside_entries here) items)
             (item-whole part written.0 both.0 (λ k path w e. includes k path w (somewhere-front (IsFamilyAt path w) (there k) (others k) e)))
             (items-whole items written.1 both.1 (λ k path w e. includes k path w (somewhere-behind (IsFamilyAt path w) (there k) (others k) e)))
 

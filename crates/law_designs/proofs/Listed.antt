@@ -1,6 +1,8 @@
 -- Where no name has a fault, a list of constants is the one to which its first constant belongs.
 use Rattle.std.proofs.Common.{◌≡◌, ℕ, List, [], ◌∷◌, ◌++◌, map, flat_map, filter, Option, Some, None, option_map, IfSome, Bool, true, false, cond, not, refl}
 use Rattle.std.specs.List.{AllByRecursion}
+use Rattle.std.proofs.lemmas.Bool.{not-false}
+use Rattle.law_lists.proofs.Each.{each_weaker}
 use Rattle.smv_core.specs.Values.{Name}
 use Rattle.smv_core.specs.Types.{find_name, names_of}
 use Rattle.smv_core.specs.Outcome.{same_path}
@@ -12,17 +14,13 @@ use Rattle.smv_mentions.specs.NameFaults.{is_of_other_list, places_of, repeated,
 use Rattle.smv_mentions.specs.FirstFault.{first_of, faults_at, faults_of_names, fault_of_size, first_fault}
 use Rattle.law_designs.specs.Kinds.{enumeration}
 use Rattle.law_designs.proofs.TypeNumbers.{paths-decide}
-use Rattle.law_designs.proofs.Faultless.{empty-both, empty-three, empty-each, each-more, no_fault-in, none-first, no_places}
+use Rattle.law_designs.proofs.Faultless.{empty-both, empty-three, empty-each, no_fault-in, none-first, no_places}
 use Rattle.law_designs.specs.Owned.{IsOwned}
 
 -- the list is the one to which its first constant belongs, where constants are listed
 abbrev pub IsFine : List (Name × Constant) → Mention → Type 0
 IsFine constants (lists_constants words) = IsOwned constants (enumeration (names_of words))
 IsFine constants _ = Unit {0}
-
-not-other : (b : Bool) → not b ≡ false → b ≡ true
-not-other true e = refl
-not-other false e = absurd (cc (e))
 
 -- the first of some words is not left over
 first-left : (p : Word → Bool) (word : Word) (words : List Word) → places_of (filter p (word ∷ words)) ≡ [] → p word ≡ false
@@ -37,7 +35,7 @@ own-list all word words e = by_found (find_name all word.name) e
   where
     by_found : (o : Option Constant) → is_of_other_list (word ∷ words) o ≡ false → IfSome (option_map (λ (c : Constant). c.names) o) (λ list. list ≡ names_of (word ∷ words))
     by_found None e = tt
-    by_found (Some c) e = (paths-decide c.names (names_of (word ∷ words))).0 (not-other (same_path c.names (names_of (word ∷ words))) e)
+    by_found (Some c) e = (paths-decide c.names (names_of (word ∷ words))).0 (not-false (same_path c.names (names_of (word ∷ words))) e)
 
 list-fine : (scope : Scope) (words : List Word) → doubled scope (lists_constants words) ≡ [] → IsOwned scope.constants (enumeration (names_of words))
 list-fine scope [] h = tt
@@ -58,7 +56,7 @@ piece-fine : (tops : List Piece) (piece : Piece) → doubled_in tops piece ≡ [
 piece-fine tops piece h =
     let scope = scope_of tops piece in
     let all = empty-three (repeated [] (formals_of piece)) (repeated [] (declared_words piece.mentions)) (flat_map (doubled scope) piece.mentions) h in
-    each-more (λ m. doubled scope m ≡ []) (IsFine scope.constants) (mention-fine scope) piece.mentions (empty-each (doubled scope) piece.mentions all.2)
+    each_weaker (λ m. doubled scope m ≡ []) (IsFine scope.constants) (mention-fine scope) piece.mentions (empty-each (doubled scope) piece.mentions all.2)
 
 abbrev behind_eight : List Piece → List (ℕ × List ℕ)
 behind_eight tops = (9, without_main tops) ∷ (10, flat_map (recursive_in tops) tops) ∷ (11, flat_map (miscounted_in tops) tops) ∷ []
@@ -75,4 +73,4 @@ pieces-fine text names =
     let twice : List ℕ = repeated [] (map (λ piece. piece.word) tops) ++ flat_map (doubled_in tops) tops in
     let eight = empty-both (faults_at (8, twice)) (flat_map faults_at (behind_eight tops)) seven.1 in
     let apart : AllByRecursion (λ piece. doubled_in tops piece ≡ []) tops = empty-each (doubled_in tops) tops (empty-both (repeated [] (map (λ piece. piece.word) tops)) (flat_map (doubled_in tops) tops) (no_places 8 twice eight.0)).1 in
-    each-more (λ piece. doubled_in tops piece ≡ []) (λ (piece : Piece). AllByRecursion (IsFine (constants tops)) piece.mentions) (piece-fine tops) tops apart
+    each_weaker (λ piece. doubled_in tops piece ≡ []) (λ (piece : Piece). AllByRecursion (IsFine (constants tops)) piece.mentions) (piece-fine tops) tops apart

@@ -1,9 +1,10 @@
 -- Names in lists of names.
-use Rattle.std.proofs.Common.{◌≡◌, suc, ◌<◌, ◌≤◌, List, [], ◌∷◌, ◌++◌, length, Bool, true, false, cond, ◌||◌, ◌⊎◌, inl, inr, refl, ap, sym, subst, ◌∙◌, arith}
+use Rattle.std.proofs.Common.{◌≡◌, suc, ◌<◌, ◌≤◌, List, [], ◌∷◌, ◌++◌, length, Bool, true, false, cond, ◌⊎◌, inl, inr, refl, ap, sym, subst, ◌∙◌, arith}
 use Rattle.std.specs.Prelude.{not}
 use Rattle.std.specs.List.{filter, list_any}
 use Rattle.std.specs.Str.{bytes_eq}
 use Rattle.std.proofs.lemmas.Slice.Eq.{bytes_eq-Decides}
+use Rattle.std.proofs.lemmas.Bool.{or_left, or_right, or_cases}
 use Rattle.smv_core.specs.Values.{Name}
 
 pub bytes_eq-is : (a b : Name) → bytes_eq a b ≡ true → a ≡ b
@@ -26,27 +27,15 @@ pub among-behind : (q : Name) (xs ys : List Name) → IsAmong q ys → IsAmong q
 among-behind q [] ys h = h
 among-behind q (x ∷ xs) ys h = inr (among-behind q xs ys h)
 
-pub or-left : (a b : Bool) → a ≡ true → a || b ≡ true
-or-left true b e = refl
-or-left false b e = absurd (cc (e))
-
-pub or-right : (a b : Bool) → b ≡ true → a || b ≡ true
-or-right true b e = refl
-or-right false b e = e
-
-pub or-either : (a b : Bool) → a || b ≡ true → (a ≡ true) ⊎ (b ≡ true)
-or-either true b e = inl refl
-or-either false b e = inr e
-
 -- one of these passes the test
 pub any-of : (p : Name → Bool) (q : Name) (xs : List Name) → IsAmong q xs → p q ≡ true → list_any p xs ≡ true
 any-of p q [] h e = absurd h
-any-of p q (x ∷ xs) (inl same) e = or-left (p x) (list_any p xs) (ap p same ∙ e)
-any-of p q (x ∷ xs) (inr h) e = or-right (p x) (list_any p xs) (any-of p q xs h e)
+any-of p q (x ∷ xs) (inl same) e = or_left (p x) (list_any p xs) (ap p same ∙ e)
+any-of p q (x ∷ xs) (inr h) e = or_right (p x) (list_any p xs) (any-of p q xs h e)
 
 pub of-any : (p : Name → Bool) (xs : List Name) → list_any p xs ≡ true → (q : Name) × IsAmong q xs × (p q ≡ true)
 of-any p [] e = absurd (cc (e))
-of-any p (x ∷ xs) e = by (or-either (p x) (list_any p xs) e) (of-any p xs)
+of-any p (x ∷ xs) e = by (or_cases (p x) (list_any p xs) e) (of-any p xs)
   where
     by : (p x ≡ true) ⊎ (list_any p xs ≡ true) → (list_any p xs ≡ true → (q : Name) × IsAmong q xs × (p q ≡ true)) → (q : Name) × IsAmong q (x ∷ xs) × (p q ≡ true)
     by (inl h) rest = (x, inl refl, h)

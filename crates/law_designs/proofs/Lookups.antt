@@ -1,22 +1,9 @@
 -- What is found in lists by place and by test, and how two maps or filters agree.
-use Rattle.std.proofs.Common.{◌≡◌, ℕ, suc, ◌+◌, List, [], ◌∷◌, ◌++◌, map, flat_map, filter, find, length, nat_eq, slice_get, Some, All, Bool, true, false, cond, not, ◌||◌, refl, sym, ap, ◌∙◌, subst, arith}
+use Rattle.std.proofs.Common.{◌≡◌, ℕ, ◌+◌, List, [], ◌∷◌, ◌++◌, find, length, nat_eq, slice_get, Some, All, Bool, true, false, cond, not, ◌||◌, refl, sym, ap, ◌∙◌, subst, arith}
 use Rattle.std.specs.List.{list_any, position_or_len}
 use Rattle.std.proofs.lemmas.Bool.{eq-eqb, eqb-true}
-use Rattle.std.proofs.lemmas.List.Folds.{list_any-append}
-
-pub map-same : {X Y : Type 0} (f g : X → Y) → ((x : X) → f x ≡ g x) → (xs : List X) → map f xs ≡ map g xs
-map-same f g h [] = refl
-map-same f g h (x ∷ xs) = rw (h x, map-same f g h xs) refl
-
-pub filter-same : {X : Type 0} (f g : X → Bool) → ((x : X) → f x ≡ g x) → (xs : List X) → filter f xs ≡ filter g xs
-filter-same f g h [] = refl
-filter-same f g h (x ∷ xs) = rw (h x, filter-same f g h xs) refl
-
-pub all-head : {X : Type 0} (P : X → Type 0) (x : X) (xs : List X) → All P (x ∷ xs) → P x
-all-head P x xs h = h 0 x (omega arith)
-
-pub all-tail : {X : Type 0} (P : X → Type 0) (x : X) (xs : List X) → All P (x ∷ xs) → All P xs
-all-tail P x xs h = λ k d lt. h (suc k) d (omega (arith, lt))
+use Rattle.std.proofs.lemmas.List.Elements.{All-head, All-tail}
+use Rattle.law_lists.proofs.Booleans.{same_tests}
 
 -- what a list has at a place behind another list
 pub slice_get-behind : {X : Type 0} (xs : List X) (x : X) (more : List X) → slice_get (xs ++ x ∷ more) (length xs) ≡ Some x
@@ -44,10 +31,10 @@ any-found {X} p (y ∷ ys) e = by_test (p y) e (any-found p ys)
 -- what holds of each element holds of what is found
 pub all-found : {X : Type 0} (P : X → Type 0) (p : X → Bool) (xs : List X) (x : X) → All P xs → find p xs ≡ Some x → P x
 all-found P p [] x h e = absurd (cc)
-all-found {X} P p (y ∷ ys) x h e = by_test (p y) e (all-found P p ys x (all-tail P y ys h))
+all-found {X} P p (y ∷ ys) x h e = by_test (p y) e (all-found P p ys x (All-tail P y ys h))
   where
     by_test : (b : Bool) → cond b (Some y) (find p ys) ≡ Some x → (find p ys ≡ Some x → P x) → P x
-    by_test true e rest = let q : y ≡ x = cc in subst P q (all-head P y ys h)
+    by_test true e rest = let q : y ≡ x = cc in subst P q (All-head P y ys h)
     by_test false e rest = rest e
 
 -- what is found passes, so some element passes
@@ -75,27 +62,18 @@ any-behind {X} p (x ∷ xs) ys e = by_test (p x) (any-behind p xs ys e)
     by_test true h = refl
     by_test false h = h
 
-pub any-flat_map : {X Y : Type 0} (p : Y → Bool) (f : X → List Y) (xs : List X) → list_any p (flat_map f xs) ≡ list_any (λ x. list_any p (f x)) xs
-any-flat_map p f [] = refl
-any-flat_map p f (x ∷ xs) = list_any-append p (f x) (flat_map f xs) ∙ ap (λ b. list_any p (f x) || b) (any-flat_map p f xs)
-
 -- ---- first places
 
-pub same_test : (p q : Bool) → (p ≡ true → q ≡ true) → (q ≡ true → p ≡ true) → p ≡ q
-same_test true q h k = sym (h refl)
-same_test false true h k = k refl
-same_test false false h k = refl
-
 pub nat_eq-shift : (a b : ℕ) → nat_eq (1 + a) (1 + b) ≡ nat_eq a b
-nat_eq-shift a b = same_test (nat_eq (1 + a) (1 + b)) (nat_eq a b)
+nat_eq-shift a b = same_tests (nat_eq (1 + a) (1 + b)) (nat_eq a b)
     (λ e. let g : 1 + a ≡ 1 + b = eqb-true (1 + a) (1 + b) e in eq-eqb a b (omega (arith, g)))
     (λ e. eq-eqb (1 + a) (1 + b) (ap (λ k. 1 + k) (eqb-true a b e)))
 
 pub nat_eq-first : (a : ℕ) → nat_eq 0 (1 + a) ≡ false
-nat_eq-first a = same_test (nat_eq 0 (1 + a)) false (λ e. let g : 0 ≡ 1 + a = eqb-true 0 (1 + a) e in absurd (omega (arith, g))) (λ e. absurd (cc (e)))
+nat_eq-first a = same_tests (nat_eq 0 (1 + a)) false (λ e. let g : 0 ≡ 1 + a = eqb-true 0 (1 + a) e in absurd (omega (arith, g))) (λ e. absurd (cc (e)))
 
 pub nat_eq-second : (a : ℕ) → nat_eq (1 + a) 0 ≡ false
-nat_eq-second a = same_test (nat_eq (1 + a) 0) false (λ e. let g : 1 + a ≡ 0 = eqb-true (1 + a) 0 e in absurd (omega (arith, g))) (λ e. absurd (cc (e)))
+nat_eq-second a = same_tests (nat_eq (1 + a) 0) false (λ e. let g : 1 + a ≡ 0 = eqb-true (1 + a) 0 e in absurd (omega (arith, g))) (λ e. absurd (cc (e)))
 
 -- Two tests have one first place exactly where r is true, if some element passes the second: where both pass r is true, and where one passes it is false.
 pub places-same : {X : Type 0} (p q : X → Bool) (r : Bool) → ((x : X) → p x ≡ true → q x ≡ true → r ≡ true) → ((x : X) → p x ≡ true → q x ≡ false → r ≡ false) → ((x : X) → p x ≡ false → q x ≡ true → r ≡ false) →

@@ -2,6 +2,8 @@
 use Rattle.std.proofs.Common.{◌≡◌, ℕ, option_map, List, [], ◌∷◌, ◌++◌, flat_map, Option, Some, None, Bool, true, false, cond, not, refl, subst}
 use Rattle.std.specs.Str.{bytes_eq}
 use Rattle.std.specs.List.{AllByRecursion}
+use Rattle.std.proofs.lemmas.Bool.{not-false}
+use Rattle.law_lists.proofs.Each.{each_weaker}
 use Rattle.smv_core.specs.Values.{Name, scalarset, ordset}
 use Rattle.smv_core.specs.Types as tree
 use Rattle.smv_core.specs.Types.{Shape, find_name, shape_of, one_value, types_from}
@@ -19,8 +21,8 @@ use Rattle.law_designs.specs.Types.{single, Types, leads, types_after}
 use Rattle.law_designs.specs.References.{Module, module_of, modules_from}
 use Rattle.law_designs.specs.KindFaults.{in_item, in_top, in_tops}
 use Rattle.law_designs.specs.Written.{ItemIsWritten, TopIsWritten}
-use Rattle.law_designs.proofs.Faultless.{empty-both, empty-three, empty-each, each-more, unplaced}
-use Rattle.law_designs.proofs.LeadTypes.{CountsIndexes, TypesCount, single-counts, leads-count, Covers, single-covers, not-false, AreCovered, leads-cover}
+use Rattle.law_designs.proofs.Faultless.{empty-both, empty-three, empty-each, unplaced}
+use Rattle.law_designs.proofs.LeadTypes.{CountsIndexes, TypesCount, single-counts, leads-count, Covers, single-covers, AreCovered, leads-cover}
 use Rattle.law_designs.proofs.OwnFamilies.{own_in}
 
 -- ---- names that are apart
@@ -56,7 +58,7 @@ pub piece-apart : (pieces : List Piece) (piece : Piece) → doubled_in pieces pi
 piece-apart pieces piece h =
     let scope = scope_of pieces piece in
     let all = empty-three (repeated [] (formals_of piece)) (repeated [] (declared_words piece.mentions)) (flat_map (doubled scope) piece.mentions) h in
-    each-more (λ m. doubled scope m ≡ []) (IsApart scope.own scope.constants) (apart-one scope) piece.mentions (empty-each (doubled scope) piece.mentions all.2)
+    each_weaker (λ m. doubled scope m ≡ []) (IsApart scope.own scope.constants) (apart-one scope) piece.mentions (empty-each (doubled scope) piece.mentions all.2)
 
 -- ---- modules
 
@@ -155,7 +157,7 @@ module _ (types : tree.Types) (modules : List (Name × Module)) (constants : Lis
   ports piece h =
       let scope = scope_of pieces piece in
       let both = empty-both (flat_map (formal_undeclared scope) (formals_of piece)) (flat_map (undeclared scope (formals_of piece)) piece.mentions) h in
-      each-more (λ (word : Word). formal_undeclared scope word ≡ []) (λ (word : Word). is_port_if_own (find_name scope.own word.name) ≡ true)
+      each_weaker (λ (word : Word). formal_undeclared scope word ≡ []) (λ (word : Word). is_port_if_own (find_name scope.own word.name) ≡ true)
       (λ word e. not-false (is_port_if_own (find_name scope.own word.name)) (unplaced (not (is_port_if_own (find_name scope.own word.name))) word.at e)) (formals_of piece) (empty-each (formal_undeclared scope) (formals_of piece) both.0)
 
   pub tops-modules : (ks : Types) (ts : tree.Types) → AreTypes ks ts → (known : Known) (tops : List Top) → types_from ts tops ≡ types → AllByRecursion TopIsWritten tops → in_tops modules constants ks tops ≡ [] →

@@ -1,6 +1,7 @@
 -- What follows where operands have kinds.
 use Rattle.std.proofs.Common.{◌≡◌, List, [], ◌∷◌, Option, Some, None, is_some, Bool, true, false, ◌&&◌, if◌then◌else◌, refl}
 use Rattle.std.specs.List.{list_all}
+use Rattle.std.proofs.lemmas.Bool.{and_parts, and_from}
 use Rattle.smv_core.specs.declared.tree.Op.{Op}
 use Rattle.smv_core.specs.declared.tree.Op.TheVariants as op
 use Rattle.smv_core.specs.declared.flat.Simple.{Simple}
@@ -8,14 +9,6 @@ use Rattle.smv_core.specs.declared.flat.Family.{Family}
 use Rattle.law_designs.specs.FlatKinds.{Kind, number, kind_of, takes, joins, joined, are_numbers, number_if, common_after, common, has_order, compares, chosen, element, take_each}
 
 -- ---- tests
-
-pub both : (a b : Bool) → (a && b) ≡ true → (a ≡ true) × (b ≡ true)
-both true b e = (refl, e)
-both false b e = absurd (cc (e))
-
-pub pair : (a b : Bool) → a ≡ true → b ≡ true → (a && b) ≡ true
-pair true b e f = f
-pair false b e f = absurd (cc (e))
 
 -- each of these operands has a kind
 abbrev pub all-some : List (Option Kind) → Bool
@@ -27,13 +20,13 @@ takes-some k (Some other) e = refl
 
 pub numbers-some : (es : List (Option Kind)) → are_numbers es ≡ true → all-some es ≡ true
 numbers-some [] e = refl
-numbers-some (o ∷ es) e = let g : (takes number o ≡ true) × (are_numbers es ≡ true) = both _ _ e in pair (is_some o) (all-some es) (takes-some number o g.0) (numbers-some es g.1)
+numbers-some (o ∷ es) e = let g : (takes number o ≡ true) × (are_numbers es ≡ true) = and_parts _ _ e in and_from (is_some o) (all-some es) (takes-some number o g.0) (numbers-some es g.1)
 
 pub each-some : (over : List Simple) (es : List (Option Kind)) → take_each over es ≡ true → all-some es ≡ true
 each-some [] [] e = refl
 each-some [] (o ∷ es) e = absurd (cc (e))
 each-some (t ∷ over) [] e = absurd (cc (e))
-each-some (t ∷ over) (o ∷ es) e = let g : (takes (kind_of t) o ≡ true) × (take_each over es ≡ true) = both _ _ e in pair (is_some o) (all-some es) (takes-some (kind_of t) o g.0) (each-some over es g.1)
+each-some (t ∷ over) (o ∷ es) e = let g : (takes (kind_of t) o ≡ true) × (take_each over es ≡ true) = and_parts _ _ e in and_from (is_some o) (all-some es) (takes-some (kind_of t) o g.0) (each-some over es g.1)
 
 -- what there is only under a test
 pub if-some : {X : Type 0} (b : Bool) (o : Option X) → is_some (if b then o else None) ≡ true → (b ≡ true) × (is_some o ≡ true)
@@ -67,7 +60,7 @@ compares-some op.Greater o e = order-some o e
 compares-some op.AtLeast o e = order-some o e
 
 pub two-some : (left right : Option Kind) → all-some (left ∷ right ∷ []) ≡ true → (is_some left ≡ true) × (is_some right ≡ true)
-two-some left right e = let h : (is_some left ≡ true) × ((is_some right && true) ≡ true) = both _ _ e in (h.0, (both (is_some right) true h.1).0)
+two-some left right e = let h : (is_some left ≡ true) × ((is_some right && true) ≡ true) = and_parts _ _ e in (h.0, (and_parts (is_some right) true h.1).0)
 
 -- the two branches and the condition of what is chosen have kinds
 pub chosen-some : (cond left right : Option Kind) → is_some (chosen cond left right) ≡ true → (is_some cond ≡ true) × (is_some left ≡ true) × (is_some right ≡ true)

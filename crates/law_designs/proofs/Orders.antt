@@ -1,34 +1,25 @@
 -- Without a cycle each cell has a number, and each edge leads to a smaller one: for how many rounds an edge from the cell is kept.
-use Rattle.std.proofs.Common.{◌≡◌, ℕ, zero, suc, ◌<◌, List, [], ◌∷◌, length, filter, Option, Some, None, Bool, true, false, ◌&&◌, ◌||◌, cond, nat_eq, refl, arith}
+use Rattle.std.proofs.Common.{◌≡◌, ℕ, zero, suc, ◌<◌, List, [], ◌∷◌, length, filter, Option, Some, None, Bool, true, false, cond, nat_eq, refl, arith}
 use Rattle.std.specs.List.{list_any}
+use Rattle.law_lists.proofs.Booleans.{and_both, either_left, either_right}
 use Rattle.smv_core.specs.declared.flat.Cell.{Cell}
 use Rattle.law_designs.specs.WholeText.{is_one_layer}
 use Rattle.law_designs.specs.Loops.{Edge, same_indexes, same_cell, leads_on, going_on, kept, are_some, hold_a_cycle}
 use Rattle.law_designs.specs.LoopLaws.{AreFalling}
 
-both : {a b : Bool} → a ≡ true → b ≡ true → (a && b) ≡ true
-both p q = cc
-
-either : {a : Bool} (b : Bool) → a ≡ true → (a || b) ≡ true
-either b p = cc
-
-or : (a : Bool) {b : Bool} → b ≡ true → (a || b) ≡ true
-or true p = refl
-or false p = p
-
 itself : (n : ℕ) → nat_eq n n ≡ true
 itself n = search arith
 
-one_itself : (i : Option ℕ) → is_one_layer i i ≡ true
+pub one_itself : (i : Option ℕ) → is_one_layer i i ≡ true
 one_itself None = refl
 one_itself (Some k) = itself k
 
-indexes_themselves : (is : List (Option ℕ)) → same_indexes is is ≡ true
+pub indexes_themselves : (is : List (Option ℕ)) → same_indexes is is ≡ true
 indexes_themselves [] = refl
-indexes_themselves (i ∷ is) = both (one_itself i) (indexes_themselves is)
+indexes_themselves (i ∷ is) = and_both (one_itself i) (indexes_themselves is)
 
 cell_itself : (c : Cell) → same_cell c c ≡ true
-cell_itself c = both (itself c.family) (indexes_themselves c.indexes)
+cell_itself c = and_both (itself c.family) (indexes_themselves c.indexes)
 
 -- one of the edges starts at the cell
 abbrev starts : List Edge → Cell → Bool
@@ -41,11 +32,11 @@ AllStart edges (e ∷ more) = (starts edges e.0 ≡ true) × AllStart edges more
 
 start-more : (e : Edge) (edges more : List Edge) → AllStart edges more → AllStart (e ∷ edges) more
 start-more e edges [] h = tt
-start-more e edges (f ∷ more) h = (or (same_cell f.0 e.0) h.0, start-more e edges more h.1)
+start-more e edges (f ∷ more) h = (either_right (same_cell f.0 e.0) h.0, start-more e edges more h.1)
 
 all-start : (edges : List Edge) → AllStart edges edges
 all-start [] = tt
-all-start (e ∷ edges) = (either (starts edges e.0) (cell_itself e.0), start-more e edges edges (all-start edges))
+all-start (e ∷ edges) = (either_left (starts edges e.0) (cell_itself e.0), start-more e edges edges (all-start edges))
 
 -- for how many rounds an edge from the cell is kept
 abbrev rank : ℕ → List Edge → Cell → ℕ

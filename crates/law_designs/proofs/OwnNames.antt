@@ -2,6 +2,8 @@
 use Rattle.std.proofs.Common.{◌≡◌, List, [], ◌∷◌, ◌++◌, flat_map, Some, Bool, true, false, cond, ◌||◌, ◌⊎◌, inl, inr, refl, sym, ap, ◌∙◌, subst}
 use Rattle.std.specs.Str.{bytes_eq}
 use Rattle.std.specs.List.{AllByRecursion, list_any}
+use Rattle.std.proofs.lemmas.Option.{same_Some}
+use Rattle.law_lists.proofs.Each.{each_append}
 use Rattle.smv_core.specs.Values.{Name}
 use Rattle.smv_core.specs.Types.{find_name}
 use Rattle.smv_core.specs.declared.tree.Word.{Word}
@@ -18,8 +20,6 @@ use Rattle.smv_core.specs.declared.tree.Pair.{Pair}
 use Rattle.smv_mentions.specs.Mentions.{What, goal, Mention, declares, binds, follows, names_type, lists_constants, has_fields, instantiates, path_in, in_type, in_fields, in_expr, in_row, in_parts, in_sum, in_members, in_held, in_part, in_path, in_stmt, in_block, in_branch, in_arms, declared_as, in_item, in_items}
 use Rattle.smv_mentions.specs.Scopes.{Own, own_names}
 use Rattle.law_designs.specs.Written.{InnerIsWritten, InnersAreWritten}
-use Rattle.law_designs.proofs.Faultless.{each-append}
-use Rattle.law_designs.proofs.LeadTypes.{some-same}
 
 pub own-append : (xs ys : List Mention) → own_names (xs ++ ys) ≡ own_names xs ++ own_names ys
 own-append [] ys = refl
@@ -149,7 +149,7 @@ abbrev pub AreGoals : List Mention → Type 0
 AreGoals ms = AllByRecursion (λ (name, own). own.what ≡ goal) (own_names ms)
 
 goals-append : (xs ys : List Mention) → AreGoals xs → AreGoals ys → AreGoals (xs ++ ys)
-goals-append xs ys h k = subst (AllByRecursion (λ (name, own). own.what ≡ goal)) (sym (own-append xs ys)) (each-append (λ (name, own). own.what ≡ goal) (own_names xs) (own_names ys) h k)
+goals-append xs ys h k = subst (AllByRecursion (λ (name, own). own.what ≡ goal)) (sym (own-append xs ys)) (each_append (λ (name, own). own.what ≡ goal) (own_names xs) (own_names ys) h k)
 
 quiet-goals : (ms : List Mention) → IsQuiet ms → AreGoals ms
 quiet-goals ms h = subst (AllByRecursion (λ (name, own). own.what ≡ goal)) (sym h) tt
@@ -201,5 +201,5 @@ module _ (name : Name) where
       by_test : (b : Bool) → cond b (Some (record { at = word.at; what = what })) (find_name (own_names (declared_as what words) ++ rest) name) ≡ Some own →
           (find_name (own_names (declared_as what words) ++ rest) name ≡ Some own → ((list_any is_word words ≡ true) × (own.what ≡ what)) ⊎ ((list_any is_word words ≡ false) × (find_name rest name ≡ Some own))) →
           (((b || list_any is_word words) ≡ true) × (own.what ≡ what)) ⊎ (((b || list_any is_word words) ≡ false) × (find_name rest name ≡ Some own))
-      by_test true e more = inl (refl, ap (λ (o : Own). o.what) (sym (some-same {X = Own} (record { at = word.at; what = what }) own e)))
+      by_test true e more = inl (refl, ap (λ (o : Own). o.what) (sym (same_Some {A = Own} (record { at = word.at; what = what }) own e)))
       by_test false e more = more e

@@ -2,6 +2,7 @@
 use Rattle.law_designs.proofs.Opening.{opening}
 use Rattle.std.proofs.Common.{◌≡◌, ℕ, ◌≤◌, List, [], ◌∷◌, ◌++◌, map, flat_map, length, None, refl}
 use Rattle.std.specs.List.{AllByRecursion}
+use Rattle.law_lists.proofs.Each.{all_each}
 use Rattle.smv_core.specs.Types.{types_from}
 use Rattle.smv_core.specs.FlatOrder.{modules, main, families_in}
 use Rattle.smv_core.specs.declared.tree.Text.{Text}
@@ -20,7 +21,6 @@ use Rattle.law_designs.proofs.Faultless.{empty-both, empty-each, no_fault-in, no
 use Rattle.law_designs.proofs.Modules.{AreModules, tops-modules}
 use Rattle.law_designs.proofs.WrittenEntries.{text-right}
 use Rattle.law_designs.proofs.LeftSides.{text-whole}
-use Rattle.law_designs.proofs.TypeNumbers.{all-each}
 
 -- the faults of names behind fault 8, and behind fault 7
 abbrev behind_eight : List Piece → List (ℕ × List ℕ)
@@ -49,7 +49,7 @@ modules-of text written names kinds =
 
 pub right-text : (text : Text) → TextIsWritten text → first_fault text ≡ None → first_fault_of_kinds text ≡ None → TextIsRight text
 unfolding opening
-right-text text written names kinds = all-each (EntryIsRight text) (entries text) (text-right text (modules-of text written names kinds))
+right-text text written names kinds = all_each (EntryIsRight text) (entries text) (text-right text (modules-of text written names kinds))
 
 -- the same of a text that is spelled
 pub well_kinded-right : (text : Text) → IsWellKinded text → TextIsRight text
@@ -59,4 +59,4 @@ well_kinded-right text h = right-text text (spelled-written h.0 h.1 text h.2) h.
 pub well_kinded-whole : (text : Text) → IsWellKinded text →
     ((n : ℕ) → length (modules text.tops) ≤ n → families_in (types_from [] text.tops) (modules text.tops) n [] main ≡ families_in (types_from [] text.tops) (modules text.tops) (length (modules text.tops)) [] main) → TextLeads text
 unfolding opening
-well_kinded-whole text h deep = all-each (EntryLeads text) (entries text) (text-whole text (modules-of text (spelled-written h.0 h.1 text h.2) h.3 h.4) deep)
+well_kinded-whole text h deep = all_each (EntryLeads text) (entries text) (text-whole text (modules-of text (spelled-written h.0 h.1 text h.2) h.3 h.4) deep)

@@ -1,6 +1,7 @@
 -- The claims of the flattened text are those of the tree.
 use Rattle.std.proofs.Common.{◌≡◌, ℕ, suc, ◌+◌, List, [], ◌∷◌, ◌++◌, map, flat_map, length, All, refl, sym, ap, ◌∙◌, subst, append_assoc, append-nil, arith}
 use Rattle.std.specs.List.{AllZip}
+use Rattle.std.proofs.lemmas.List.Elements.{All-head, All-tail}
 use Rattle.smv_core.specs.Values.{Name, Path, Value, Sizes}
 use Rattle.smv_core.specs.Types.{values_over}
 use Rattle.smv_core.specs.FlatOrder.{Met, said, claimed, Claimed, design_of}
@@ -19,7 +20,6 @@ use Rattle.law_designs.specs.Flattening.{scope_in, flatten, flat_entry, with_pla
 use Rattle.law_designs.specs.Agreement.{AreSameStates, IsRight, numbers_in, values_bound}
 use Rattle.law_designs.proofs.Numbered.{AreNumbered}
 use Rattle.law_designs.specs.WholeText.{claims_of, claims_met, BindersAreRight, EntryIsRight, TextIsRight, IsSameClaim}
-use Rattle.law_designs.proofs.Lookups.{all-head, all-tail}
 use Rattle.law_designs.proofs.SameReads.{over-same}
 use Rattle.law_designs.proofs.SameText.{outcome_of_text}
 use Rattle.law_designs.proofs.Entries.{AreAlike, params_of, entries-alike}
@@ -74,18 +74,18 @@ module _ (text : Text) (sizes : Sizes) (s : State) (t : FlatState) (states : Are
       AllZip (IsSameClaim text sizes s t) (claims_of (with_places k (flat_map (flat_entry text layers) es))) (claims_met ms)
   claims-same k [] [] h right layers = tt
   claims-same k [] (m ∷ ms) h right layers = absurd h
-  claims-same k (layer name ∷ es) ms h right layers = claims-same k es ms h (all-tail (EntryIsRight text) (layer name) es right) layers
-  claims-same k (goal i binders (split word vars of pairs at) ∷ es) ms h right layers = claims-same k es ms h (all-tail (EntryIsRight text) (goal i binders (split word vars of pairs at)) es right) layers
-  claims-same k (goal i binders (using uses proves at) ∷ es) ms h right layers = claims-same k es ms h (all-tail (EntryIsRight text) (goal i binders (using uses proves at)) es right) layers
+  claims-same k (layer name ∷ es) ms h right layers = claims-same k es ms h (All-tail (EntryIsRight text) (layer name) es right) layers
+  claims-same k (goal i binders (split word vars of pairs at) ∷ es) ms h right layers = claims-same k es ms h (All-tail (EntryIsRight text) (goal i binders (split word vars of pairs at)) es right) layers
+  claims-same k (goal i binders (using uses proves at) ∷ es) ms h right layers = claims-same k es ms h (All-tail (EntryIsRight text) (goal i binders (using uses proves at)) es right) layers
   claims-same k (goal i binders (claim word vars body at) ∷ es) [] h right layers = absurd h
   claims-same k (goal i binders (claim word vars body at) ∷ es) (said y ∷ ms) h right layers = absurd h
   claims-same k (goal i binders (claim word vars body at) ∷ es) (claimed c ∷ ms) h right layers = (
-    claim-same i binders word vars body at k c h.0 h.1 h.2 h.3 (all-head (EntryIsRight text) (goal i binders (claim word vars body at)) es right),
-    claims-same (k + 1) es ms h.4 (all-tail (EntryIsRight text) (goal i binders (claim word vars body at)) es right) layers,
+    claim-same i binders word vars body at k c h.0 h.1 h.2 h.3 (All-head (EntryIsRight text) (goal i binders (claim word vars body at)) es right),
+    claims-same (k + 1) es ms h.4 (All-tail (EntryIsRight text) (goal i binders (claim word vars body at)) es right) layers,
   )
   claims-same k (statement y ∷ es) [] h right layers = absurd h
   claims-same k (statement y ∷ es) (claimed c ∷ ms) h right layers = absurd h
-  claims-same k (statement y ∷ es) (said z ∷ ms) h right layers = claims-same (k + length (flat_assignments (flat_stmt (scope_in text y.instance) [] y.act))) es ms h.3 (all-tail (EntryIsRight text) (statement y) es right) layers
+  claims-same k (statement y ∷ es) (said z ∷ ms) h right layers = claims-same (k + length (flat_assignments (flat_stmt (scope_in text y.instance) [] y.act))) es ms h.3 (All-tail (EntryIsRight text) (statement y) es right) layers
 
   pub claims-of-text : TextIsRight text → AllZip (IsSameClaim text sizes s t) (claims_of (flatten text).items) (claims_met (design_of text).met)
   claims-of-text right = claims-same 0 (entries text) (design_of text).met (entries-alike text) right (layers_of (entries text))

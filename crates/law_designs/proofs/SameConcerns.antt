@@ -2,6 +2,7 @@
 use Rattle.std.proofs.Common.{◌≡◌, ℕ, List, [], ◌∷◌, ◌++◌, map, zip, filter, flat_map, option_map, Option, Some, Bool, true, false, cond, ◌&&◌, ◌||◌, refl, sym, ap, ◌∙◌, subst}
 use Rattle.std.specs.List.{list_any, list_all}
 use Rattle.std.proofs.lemmas.List.Folds.{list_any-append}
+use Rattle.law_lists.proofs.Anys.{any-flat_map}
 use Rattle.smv_core.specs.Values.{Name, Path, Value}
 use Rattle.smv_core.specs.Types.{Family}
 use Rattle.smv_core.specs.FlatOrder.{Met, said, claimed, Said, design_of}
@@ -28,7 +29,6 @@ use Rattle.law_designs.specs.Agreement.{flat_element}
 use Rattle.law_designs.specs.WholeText.{is_one_layer, acts_of}
 use Rattle.law_designs.specs.FlatTextAllowed.{flat_concerns}
 use Rattle.law_designs.proofs.FlatLists.{boxes}
-use Rattle.law_designs.proofs.Lookups.{any-flat_map}
 use Rattle.law_designs.proofs.SameWalks.{number-same}
 use Rattle.law_designs.proofs.SameIndexes.{fits-same}
 use Rattle.law_designs.proofs.SameFamilies.{families-same}

@@ -1,7 +1,8 @@
 -- The families of the flattened text are those of the design, in the same order.
-use Rattle.std.proofs.Common.{◌≡◌, ℕ, zero, suc, List, [], ◌∷◌, ◌++◌, map, flat_map, length, All, refl, sym, ◌∙◌, subst}
+use Rattle.std.proofs.Common.{◌≡◌, ℕ, zero, suc, List, [], ◌∷◌, ◌++◌, map, length, All, refl, sym, subst}
 use Rattle.std.specs.List.{AllZip}
-use Rattle.std.proofs.lemmas.List.{map-append}
+use Rattle.std.proofs.lemmas.List.Elements.{All-head, All-tail}
+use Rattle.law_lists.proofs.Lists.{map-flat_map_by, map-map_by}
 use Rattle.smv_core.specs.Values.{Name, Path, Simple, Sizes}
 use Rattle.smv_core.specs.FlatMeaning.{simple_in}
 use Rattle.smv_core.specs.Types.{Types, Family, shape_of, types_from}
@@ -13,30 +14,21 @@ use Rattle.law_designs.specs.Entries.{placed_of_item, placed_in, placed_families
 use Rattle.law_designs.specs.Flattening.{scope_in, flatten, flat_family}
 use Rattle.law_designs.specs.Agreement.{IsSameFamily, numbers_in}
 use Rattle.law_designs.proofs.Numbered.{IsNumbered, HasNumbers, AreNumbered}
-use Rattle.law_designs.proofs.Lookups.{all-head, all-tail}
-
-pub map-flat_map : {X Y Z : Type 0} (g : Y → Z) (f : X → List Y) (h : X → List Z) → ((x : X) → map g (f x) ≡ h x) → (xs : List X) → map g (flat_map f xs) ≡ flat_map h xs
-map-flat_map g f h e [] = refl
-map-flat_map g f h e (x ∷ xs) = map-append g (f x) (flat_map f xs) ∙ rw (e x, map-flat_map g f h e xs) refl
-
-map-map : {X Y Z : Type 0} (g : Y → Z) (f : X → Y) (h : X → Z) → ((x : X) → g (f x) ≡ h x) → (xs : List X) → map g (map f xs) ≡ map h xs
-map-map g f h e [] = refl
-map-map g f h e (x ∷ xs) = rw (e x, map-map g f h e xs) refl
 
 module _ (types : Types) (bodies : List (Name × Body)) where
   placed-item : (inside : Path → Name → List (Family × ℕ)) (own : Path → Name → List Family) → ((here : Path) (name : Name) → map (λ (f, at). f) (inside here name) ≡ own here name) →
       (here : Path) (item : Item) → map (λ (f, at). f) (placed_of_item types bodies inside here item) ≡ families_of_item types bodies own here item
   placed-item inside own h here (Declare role words of at) =
-      map-flat_map (λ (f, at). f) (λ word. map (λ f. (declared_as role (here ++ word.name ∷ []) f, word.at)) (shape_of types of)) (λ word. map (declared_as role (here ++ word.name ∷ [])) (shape_of types of))
-      (λ word. map-map (λ (f, at). f) (λ f. (declared_as role (here ++ word.name ∷ []) f, word.at)) (declared_as role (here ++ word.name ∷ [])) (λ f. refl) (shape_of types of)) words
+      map-flat_map_by (λ (f, at). f) (λ word. map (λ f. (declared_as role (here ++ word.name ∷ []) f, word.at)) (shape_of types of)) (λ word. map (declared_as role (here ++ word.name ∷ [])) (shape_of types of))
+      (λ word. map-map_by (λ (f, at). f) (λ f. (declared_as role (here ++ word.name ∷ []) f, word.at)) (declared_as role (here ++ word.name ∷ [])) (λ f. refl) (shape_of types of)) words
   placed-item inside own h here (Instance words name args at) =
-      map-flat_map (λ (f, at). f) (λ word. inside (here ++ word.name ∷ []) name.name) (λ word. own (here ++ word.name ∷ []) name.name) (λ word. h (here ++ word.name ∷ []) name.name) words
+      map-flat_map_by (λ (f, at). f) (λ word. inside (here ++ word.name ∷ []) name.name) (λ word. own (here ++ word.name ∷ []) name.name) (λ word. h (here ++ word.name ∷ []) name.name) words
   placed-item inside own h here _ = refl
 
   placed-same : (k : ℕ) (here : Path) (name : Name) → map (λ (f, at). f) (placed_in types bodies k here name) ≡ families_in types bodies k here name
   placed-same zero here name = refl
   placed-same (suc k) here name =
-      map-flat_map (λ (f, at). f) (placed_of_item types bodies (placed_in types bodies k) here) (families_of_item types bodies (families_in types bodies k) here)
+      map-flat_map_by (λ (f, at). f) (placed_of_item types bodies (placed_in types bodies k) here) (families_of_item types bodies (families_in types bodies k) here)
       (placed-item (placed_in types bodies k) (families_in types bodies k) (placed-same k) here) (body_of types bodies name).items
 
 pub families-same : (text : Text) → map (λ (f, at). f) (placed_families text) ≡ (design_of text).families
@@ -51,14 +43,14 @@ module _ (text : Text) (sizes : Sizes) where
   index_types-same : (over : List Simple) → All (IsNumbered (scope_in text []) (numbers_in text sizes)) over → map (simple_in (numbers_in text sizes)) (map (flat_simple (scope_in text [])) over) ≡ over
   index_types-same [] h = refl
   index_types-same (u ∷ over) h =
-      let head : simple_in (numbers_in text sizes) (flat_simple (scope_in text []) u) ≡ u = all-head (IsNumbered (scope_in text []) (numbers_in text sizes)) u over h in
-      rw (head, index_types-same over (all-tail (IsNumbered (scope_in text []) (numbers_in text sizes)) u over h)) refl
+      let head : simple_in (numbers_in text sizes) (flat_simple (scope_in text []) u) ≡ u = All-head (IsNumbered (scope_in text []) (numbers_in text sizes)) u over h in
+      rw (head, index_types-same over (All-tail (IsNumbered (scope_in text []) (numbers_in text sizes)) u over h)) refl
 
   each-same : (placed : List (Family × ℕ)) → All IsFamilyNumbered (map (λ (f, at). f) placed) → AllZip (IsSameFamily (numbers_in text sizes)) (map (flat_family (scope_in text [])) placed) (map (λ (f, at). f) placed)
   each-same [] h = tt
   each-same ((f, at) ∷ placed) h =
-      let own : IsFamilyNumbered f = all-head IsFamilyNumbered f (map (λ (f, at). f) placed) h in
-      ((refl, index_types-same f.over own.1, own.0, refl), each-same placed (all-tail IsFamilyNumbered f (map (λ (f, at). f) placed) h))
+      let own : IsFamilyNumbered f = All-head IsFamilyNumbered f (map (λ (f, at). f) placed) h in
+      ((refl, index_types-same f.over own.1, own.0, refl), each-same placed (All-tail IsFamilyNumbered f (map (λ (f, at). f) placed) h))
 
   pub families_of_text : AreNumbered text sizes → AllZip (IsSameFamily (numbers_in text sizes)) (flatten text).families (design_of text).families
   families_of_text numbers =

@@ -17,12 +17,13 @@ use Rattle.smv_core.specs.declared.flat.FlatExpr.{FlatExpr}
 use Rattle.smv_core.specs.declared.flat.FlatExpr.{Var, Loop}
 use Rattle.std.specs.Str.{bytes_eq}
 use Rattle.std.proofs.Common.{cond}
+use Rattle.std.proofs.lemmas.List.Elements.{filter_agree}
+use Rattle.law_lists.proofs.Lists.{map_agree}
 use Rattle.law_designs.specs.Numbers.{Scope, bound_in, variable, variable_at, flat_over, constant_in, or_signal, flat_path}
 use Rattle.law_designs.specs.Statements.{flat_expr, flat_row, flat_indexes, flat_signed, flat_members}
 use Rattle.law_designs.specs.Agreement.{values_bound, AreSameStates, IsIndexType, IsRight, PartsAreRight, IndexesAreRight, TermsAreRight, MembersAreRight}
 use Rattle.law_designs.proofs.Numbered.{HasNumbers, RunsOver}
 use Rattle.law_designs.proofs.FlatLists.{each_outcome, member_outcomes, sum_of, outcome-And, outcome-Or, outcome-Implies, listed-List, outcome-Sum, outcome-Not, outcome-Iff, outcome-Compare, outcome-Within, outcome-Modulo, outcome-Choose, outcome-All, outcome-Any, allowed-List, allowed-Choose, allowed-Each, allowed-Each_if}
-use Rattle.law_designs.proofs.Lookups.{map-same, filter-same}
 use Rattle.law_designs.proofs.SameReads as reads
 use Rattle.law_designs.proofs.SameReads.{bind-one_more, over-same, read-same}
 
@@ -99,7 +100,7 @@ module _ (types : Types) (sets : List SetInfo) (enums : List (List Name)) (place
   quantified-same : (vars : Around) (b : Bindings) (agree : Agrees vars b) (body : FlatExpr) (o : Value → Outcome) (over : TypeExpr) → IsIndexType over → ((v : Value) → flat_outcome n t body (values_bound vars b ++ v ∷ []) ≡ o v) →
       map (λ v. truth (flat_outcome n t body (bind (values_bound vars b) (bound_in vars) v))) (values_in n (flat_over scope over)) ≡ map (λ v. truth (o v)) (values_over types sizes over)
   quantified-same vars b agree body o over lawful h =
-      map-same (λ v. truth (flat_outcome n t body (bind (values_bound vars b) (bound_in vars) v))) (λ v. truth (o v)) (λ v. ap truth (one_more vars b agree body o h v)) (values_in n (flat_over scope over))
+      map_agree (λ v. truth (flat_outcome n t body (bind (values_bound vars b) (bound_in vars) v))) (λ v. truth (o v)) (λ v. ap truth (one_more vars b agree body o h v)) (values_in n (flat_over scope over))
       ∙ ap (map (λ v. truth (o v))) (over-same types sets enums placed instance sizes over (runs over lawful))
 
   mutual
@@ -180,7 +181,7 @@ module _ (types : Types) (sets : List SetInfo) (enums : List (List Name)) (place
   comprehended-same : (vars : Around) (b : Bindings) (agree : Agrees vars b) (body : FlatExpr) (o : Value → Outcome) (over : TypeExpr) → IsIndexType over → ((v : Value) → flat_outcome n t body (values_bound vars b ++ v ∷ []) ≡ o v) →
       filter (λ v. is_true (truth (flat_outcome n t body (bind (values_bound vars b) (bound_in vars) v)))) (values_in n (flat_over scope over)) ≡ filter (λ v. is_true (truth (o v))) (values_over types sizes over)
   comprehended-same vars b agree body o over lawful h =
-      filter-same (λ v. is_true (truth (flat_outcome n t body (bind (values_bound vars b) (bound_in vars) v)))) (λ v. is_true (truth (o v))) (λ v. ap (λ u. is_true (truth u)) (one_more vars b agree body o h v)) (values_in n (flat_over scope over))
+      filter_agree (λ v. is_true (truth (flat_outcome n t body (bind (values_bound vars b) (bound_in vars) v)))) (λ v. is_true (truth (o v))) (λ v. ap (λ u. is_true (truth u)) (one_more vars b agree body o h v)) (values_in n (flat_over scope over))
       ∙ ap (filter (λ v. is_true (truth (o v)))) (over-same types sets enums placed instance sizes over (runs over lawful))
 
   pub allowed-same : (every : List Value) (vars : Around) (e : Expr) (b : Bindings) → Agrees vars b → IsRight scope vars e → flat_allowed_by n t every (flat_expr scope vars e) (values_bound vars b) ≡ allowed_by scene s every e b

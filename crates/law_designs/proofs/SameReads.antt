@@ -7,6 +7,7 @@ use Rattle.std.proofs.lemmas.List.{get_or_past}
 use Rattle.std.proofs.lemmas.List.Folds.{find_at}
 use Rattle.std.proofs.lemmas.Option.{slice_get-map, get_or_from_slice_get}
 use Rattle.std.proofs.lemmas.Slice.Eq.{bytes_eq-Decides}
+use Rattle.std.proofs.lemmas.List.Elements.{All-head, All-tail}
 use Rattle.smv_core.specs.Values.{Name, Path, Value, constant, Simple, choice, Sizes, Outcome, values_of, value_in, all_defined}
 use Rattle.smv_core.specs.Types.{Types, Family, find_name, simple, values_or_none, values_over}
 use Rattle.smv_core.specs.Outcome as tree
@@ -22,7 +23,7 @@ use Rattle.law_designs.specs.Flattening.{flat_family}
 use Rattle.law_designs.specs.Agreement.{values_bound, IsConstant, IsKnown, AreSameStates}
 use Rattle.law_designs.proofs.Numbered.{IsNumbered, HasNumbers, IsNumberedOrNone, RunsOver}
 use Rattle.law_designs.proofs.FlatLists.{each_outcome, outcome-Read}
-use Rattle.law_designs.proofs.Lookups.{slice_get-behind, find-passes, any-found, all-found, all-head, all-tail}
+use Rattle.law_designs.proofs.Lookups.{slice_get-behind, find-passes, any-found, all-found}
 
 -- ---- variables
 
@@ -142,8 +143,8 @@ module _ (types : Types) (sets : List SetInfo) (enums : List (List Name)) (place
     indexes-same [] us h = refl
     indexes-same (u ∷ over) [] h = refl
     indexes-same (u ∷ over) (o ∷ us) h =
-        let head : values_in numbered (flat_simple scope u) ≡ values_of sizes u = ap (values_of sizes) (all-head (IsNumbered scope numbered) u over h) in
-        rw (head, indexes-same over us (all-tail (IsNumbered scope numbered) u over h)) refl
+        let head : values_in numbered (flat_simple scope u) ≡ values_of sizes u = ap (values_of sizes) (All-head (IsNumbered scope numbered) u over h) in
+        rw (head, indexes-same over us (All-tail (IsNumbered scope numbered) u over h)) refl
 
     pub element-same : (path : Path) (f : Family) (us : List Outcome) → family_at families path ≡ Some f → HasNumbers scope numbered f →
         flat_element_at numbered t (family_number scope path) (slice_get numbered.families (family_number scope path)) us ≡ element_at sizes s f us

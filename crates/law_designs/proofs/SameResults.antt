@@ -1,6 +1,8 @@
 -- A definition gives an element what the statements give it from which it is made, and concerns the elements that they concern.
 use Rattle.std.proofs.Common.{◌≡◌, ℕ, zero, suc, ◌<◌, ◌+◌, get_or, arith, List, [], ◌∷◌, ◌++◌, map, filter, zip, length, Option, Some, None, Bool, true, false, ◌&&◌, ◌||◌, cond, nat_eq, refl, sym, ap, ◌∙◌, option_map, unwrap_or, All}
 use Rattle.std.specs.List.{flat_map, list_any, list_all}
+use Rattle.std.proofs.lemmas.List.Folds.{list_any-append}
+use Rattle.law_lists.proofs.Booleans.{or_alike}
 use Rattle.smv_core.specs.Values.{Name, Value, Sizes, truth}
 use Rattle.smv_core.specs.Walk.{Walk, first, first_of, if_walk, same_kind}
 use Rattle.smv_core.specs.Assignments.{Index, fits}
@@ -60,9 +62,6 @@ module _ (n : Numbered) (s : FlatState) (x : FlatElement) (every : List Value) (
 
 -- ---- which elements are concerned
 
-pub or-same : (a b c d : Bool) → a ≡ c → b ≡ d → (a || b) ≡ (c || d)
-or-same a b c d h k = rw (h, k) refl
-
 or-false : (b : Bool) → (b || false) ≡ b
 or-false true = refl
 or-false false = refl
@@ -72,14 +71,6 @@ or-turned true true = refl
 or-turned true false = refl
 or-turned false true = refl
 or-turned false false = refl
-
-pub any-append : {X : Type 0} (p : X → Bool) (xs ys : List X) → list_any p (xs ++ ys) ≡ (list_any p xs || list_any p ys)
-any-append p [] ys = refl
-any-append p (x ∷ xs) ys = by_test (p x) (any-append p xs ys)
-  where
-    by_test : (b : Bool) → list_any p (xs ++ ys) ≡ (list_any p xs || list_any p ys) → (b || list_any p (xs ++ ys)) ≡ ((b || list_any p xs) || list_any p ys)
-    by_test true rest = refl
-    by_test false rest = rest
 
 module _ (x : FlatElement) (kind : Kind) where
   -- the indexes of an assignment fit the element
@@ -100,25 +91,25 @@ module _ (x : FlatElement) (kind : Kind) where
     concerned-same k (If' test l (more_of-FlatStmt left end_of-FlatStmt) r (more_of-FlatStmt right end_of-FlatStmt)) =
         let p : DefBody = flat_of kind x.family k left in
         let q : DefBody = flat_of kind x.family (k + count left) right in
-        ap (list_any fit) (indexes-branches test p q) ∙ any-append fit (indexes_assigned p) (indexes_assigned q)
-        ∙ or-same _ _ (concerned left) (concerned right) (concerned-same k left) (concerned-same (k + count left) right)
-        ∙ sym (any-append (flat_concerns kind x) (flat_assignments left) (flat_assignments right))
+        ap (list_any fit) (indexes-branches test p q) ∙ list_any-append fit (indexes_assigned p) (indexes_assigned q)
+        ∙ or_alike _ _ (concerned left) (concerned right) (concerned-same k left) (concerned-same (k + count left) right)
+        ∙ sym (list_any-append (flat_concerns kind x) (flat_assignments left) (flat_assignments right))
     concerned-same k (Block' shape parts) = ap (list_any fit) (indexes-first_part (flats_of kind x.family k parts)) ∙ all-concerned k parts
     concerned-same k (Default' l (more_of-FlatStmt left end_of-FlatStmt) r (more_of-FlatStmt right end_of-FlatStmt)) =
         let p : DefBody = flat_of kind x.family k left in
         let q : DefBody = flat_of kind x.family (k + count left) right in
-        ap (list_any fit) (indexes-first_part (q ∷ p ∷ [])) ∙ any-append fit (indexes_assigned q) (indexes_assigned p ++ [])
-        ∙ or-same _ _ (concerned right) (concerned left) (concerned-same (k + count left) right) (any-append fit (indexes_assigned p) [] ∙ or-false (list_any fit (indexes_assigned p)) ∙ concerned-same k left)
+        ap (list_any fit) (indexes-first_part (q ∷ p ∷ [])) ∙ list_any-append fit (indexes_assigned q) (indexes_assigned p ++ [])
+        ∙ or_alike _ _ (concerned right) (concerned left) (concerned-same (k + count left) right) (list_any-append fit (indexes_assigned p) [] ∙ or-false (list_any fit (indexes_assigned p)) ∙ concerned-same k left)
         ∙ or-turned (concerned right) (concerned left)
-        ∙ sym (any-append (flat_concerns kind x) (flat_assignments left) (flat_assignments right))
+        ∙ sym (list_any-append (flat_concerns kind x) (flat_assignments left) (flat_assignments right))
     concerned-same k (Forall' var over shape (more_of-FlatStmt body end_of-FlatStmt)) = ap (list_any fit) (indexes-each_value var over (flat_of kind x.family k body)) ∙ concerned-same k body
 
     all-concerned : {m : _} (k : ℕ) (parts : Row_of-FlatStmt m) → list_any fit (flat_map indexes_assigned (flats_of kind x.family k parts)) ≡ list_any (flat_concerns kind x) (flat_assignments_in parts)
     all-concerned k end_of-FlatStmt = refl
     all-concerned k (more_of-FlatStmt part rest) =
-        any-append fit (indexes_assigned (flat_of kind x.family k part)) (flat_map indexes_assigned (flats_of kind x.family (k + count part) rest))
-        ∙ or-same _ _ (concerned part) (list_any (flat_concerns kind x) (flat_assignments_in rest)) (concerned-same k part) (all-concerned (k + count part) rest)
-        ∙ sym (any-append (flat_concerns kind x) (flat_assignments part) (flat_assignments_in rest))
+        list_any-append fit (indexes_assigned (flat_of kind x.family k part)) (flat_map indexes_assigned (flats_of kind x.family (k + count part) rest))
+        ∙ or_alike _ _ (concerned part) (list_any (flat_concerns kind x) (flat_assignments_in rest)) (concerned-same k part) (all-concerned (k + count part) rest)
+        ∙ sym (list_any-append (flat_concerns kind x) (flat_assignments part) (flat_assignments_in rest))
 
 -- ---- definition sets
 
@@ -150,8 +141,8 @@ module _ (n : Numbered) (x : FlatElement) (every : List Value) (kind : Kind) whe
       each : (set : List Statement) → list_any (fit x kind) (flat_map indexes_assigned (map (λ t. flat_of kind x.family t.place t.act) set)) ≡ list_any (λ act. list_any (flat_concerns kind x) (flat_assignments act)) (map (λ (t : Statement). t.act) set)
       each [] = refl
       each (t ∷ set) =
-          any-append (fit x kind) (indexes_assigned (flat_of kind x.family t.place t.act)) (flat_map indexes_assigned (map (λ t. flat_of kind x.family t.place t.act) set))
-          ∙ or-same _ _ (list_any (flat_concerns kind x) (flat_assignments t.act)) _ (concerned-same x kind t.place t.act) (each set)
+          list_any-append (fit x kind) (indexes_assigned (flat_of kind x.family t.place t.act)) (flat_map indexes_assigned (map (λ t. flat_of kind x.family t.place t.act) set))
+          ∙ or_alike _ _ (list_any (flat_concerns kind x) (flat_assignments t.act)) _ (concerned-same x kind t.place t.act) (each set)
 
 -- ---- allowed values
 

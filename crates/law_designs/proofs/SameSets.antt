@@ -1,5 +1,6 @@
 -- The statements of a layer give an element in the flattened text what they give it on the tree.
 use Rattle.std.proofs.Common.{◌≡◌, ℕ, ◌+◌, List, [], ◌∷◌, map, length, filter, flat_map, All, Option, Some, Bool, true, false, cond, option_map, refl, ap, ◌∙◌, subst}
+use Rattle.std.proofs.lemmas.List.Elements.{All-head, All-tail}
 use Rattle.smv_core.specs.Values.{Name, Value, Sizes}
 use Rattle.smv_core.specs.Types.{Family}
 use Rattle.smv_core.specs.FlatOrder.{Met, said, claimed, Said, design_of}
@@ -18,7 +19,6 @@ use Rattle.law_designs.specs.Flattening.{scope_in, flatten, flat_entry, with_pla
 use Rattle.law_designs.specs.Agreement.{AreSameStates, flat_element, numbers_in}
 use Rattle.law_designs.proofs.Numbered.{AreNumbered}
 use Rattle.law_designs.specs.WholeText.{is_one_layer, acts_of, flat_text_walk, EntryIsRight, TextIsRight}
-use Rattle.law_designs.proofs.Lookups.{all-head, all-tail}
 use Rattle.law_designs.proofs.Entries.{AreAlike, entries-alike}
 use Rattle.law_designs.proofs.Layers.{AreListed, layers-listed, layer-same}
 use Rattle.law_designs.proofs.SameText.{walk_of_text}
@@ -57,21 +57,21 @@ module _ (text : Text) (sizes : Sizes) (s : State) (t : FlatState) (states : Are
       first (map fw (acts_of (option_map (layer_number layers) wanted) (flat_map (flat_entry text layers) es))) ≡ first (map tw (filter (λ y. is_layer y.layer wanted) (flat_map said_in ms)))
   acts-same [] [] h right listed = refl
   acts-same [] (m ∷ ms) h right listed = absurd h
-  acts-same (layer name ∷ es) ms h right listed = acts-same es ms h (all-tail (EntryIsRight text) (layer name) es right) listed
-  acts-same (goal i binders (split word vars of pairs at) ∷ es) ms h right listed = acts-same es ms h (all-tail (EntryIsRight text) (goal i binders (split word vars of pairs at)) es right) listed
-  acts-same (goal i binders (using uses proves at) ∷ es) ms h right listed = acts-same es ms h (all-tail (EntryIsRight text) (goal i binders (using uses proves at)) es right) listed
+  acts-same (layer name ∷ es) ms h right listed = acts-same es ms h (All-tail (EntryIsRight text) (layer name) es right) listed
+  acts-same (goal i binders (split word vars of pairs at) ∷ es) ms h right listed = acts-same es ms h (All-tail (EntryIsRight text) (goal i binders (split word vars of pairs at)) es right) listed
+  acts-same (goal i binders (using uses proves at) ∷ es) ms h right listed = acts-same es ms h (All-tail (EntryIsRight text) (goal i binders (using uses proves at)) es right) listed
   acts-same (goal i binders (claim word vars body at) ∷ es) [] h right listed = absurd h
   acts-same (goal i binders (claim word vars body at) ∷ es) (said y ∷ ms) h right listed = absurd h
-  acts-same (goal i binders (claim word vars body at) ∷ es) (claimed c ∷ ms) h right listed = acts-same es ms h.4 (all-tail (EntryIsRight text) (goal i binders (claim word vars body at)) es right) listed
+  acts-same (goal i binders (claim word vars body at) ∷ es) (claimed c ∷ ms) h right listed = acts-same es ms h.4 (All-tail (EntryIsRight text) (goal i binders (claim word vars body at)) es right) listed
   acts-same (statement y ∷ es) [] h right listed = absurd h
   acts-same (statement y ∷ es) (claimed c ∷ ms) h right listed = absurd h
   acts-same (statement y ∷ es) (said z ∷ ms) h right listed =
       chosen-same (is_one_layer (option_map (layer_number layers) wanted) (option_map (layer_number layers) y.layer)) (is_layer z.layer wanted)
       (flat_stmt (scope_in text y.instance) [] y.act) (acts_of (option_map (layer_number layers) wanted) (flat_map (flat_entry text layers) es)) z (filter (λ w. is_layer w.layer wanted) (flat_map said_in ms))
       (layer-same layers y.layer wanted listed.0 ∙ ap (λ l. is_layer l wanted) h.0)
-      (walk_of_text text sizes s t states numbers kind x every f found y.instance [] y.act [] tt (all-head (EntryIsRight text) (statement y) es right)
+      (walk_of_text text sizes s t states numbers kind x every f found y.instance [] y.act [] tt (All-head (EntryIsRight text) (statement y) es right)
       ∙ h.2.0 (scene_at (design_of text) sizes y.instance) s kind x every [] ∙ ap (λ i. walk (scene_at (design_of text) sizes i) s kind x every z.act []) h.1)
-      (acts-same es ms h.3 (all-tail (EntryIsRight text) (statement y) es right) listed.1)
+      (acts-same es ms h.3 (All-tail (EntryIsRight text) (statement y) es right) listed.1)
 
   pub set-same : TextIsRight text → flat_text_walk (flatten text) sizes t wanted flat_x every kind ≡ first (map tw (definition_set (design_of text) wanted))
   set-same right =

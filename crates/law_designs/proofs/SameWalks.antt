@@ -2,6 +2,7 @@
 use Rattle.std.proofs.Common.{◌≡◌, ℕ, List, [], ◌∷◌, ◌++◌, map, Some, None, All, Bool, true, false, cond, ◌&&◌, nat_eq, refl, sym, ap, ◌∙◌}
 use Rattle.std.specs.List.{position_or_len, flat_map}
 use Rattle.std.proofs.lemmas.Slice.Eq.{bytes_eq-Decides, slice_eq-Decides}
+use Rattle.law_lists.proofs.Lists.{map_agree}
 use Rattle.smv_core.specs.Values.{Name, Path, Value, number, Sizes, Outcome, Truth, truth, bit, equal, disjunction}
 use Rattle.smv_core.specs.Types.{Types, Family, values_over}
 use Rattle.smv_core.specs.Outcome.{State, Bindings, Scene, outcome, allowed_by, fields_of, family_at, same_path}
@@ -23,7 +24,7 @@ use Rattle.law_designs.specs.Statements.{flat_expr, flat_stmt, flat_parts, flat_
 use Rattle.law_designs.specs.Agreement.{values_bound, flat_element, AreSameStates, IsIndexType, IsRight, AreRight, StatementIsRight, StatementsAreRight, BranchIsRight, ArmsAreRight}
 use Rattle.law_designs.proofs.Numbered.{HasNumbers, RunsOver}
 use Rattle.law_designs.proofs.FlatLists.{each_outcome, member_outcomes, outcome-Within, listed-List, walk-Block, walk-If, walk-Default, walk-Forall}
-use Rattle.law_designs.proofs.Lookups.{map-same, places-same, found-any}
+use Rattle.law_designs.proofs.Lookups.{places-same, found-any}
 use Rattle.law_designs.proofs.SameReads as reads
 use Rattle.law_designs.proofs.SameReads.{bind-one_more, over-same}
 use Rattle.law_designs.proofs.SameOutcomes.{outcome-same, allowed-same}
@@ -38,7 +39,7 @@ truth-bit (Some true) = refl
 pub path-equal : (p q : Path) → same_path p q ≡ true → p ≡ q
 path-equal p q = (slice_eq-Decides bytes_eq-Decides p q (same_path p q) refl).0
 
-path-same : (p q : Path) → p ≡ q → same_path p q ≡ true
+pub path-same : (p q : Path) → p ≡ q → same_path p q ≡ true
 path-same p q = (slice_eq-Decides bytes_eq-Decides p q (same_path p q) refl).1
 
 not_both : (x p q : Path) → same_path x p ≡ true → same_path x q ≡ false → same_path p q ≡ false
@@ -123,7 +124,7 @@ module _ (types : Types) (sets : List SetInfo) (enums : List (List Name)) (place
   bound-same : (vars : Around) (b : Bindings) (agree : Agrees vars b) (body : FlatStmt) (w : Value → Walk) (over : TypeExpr) → IsIndexType over → ((v : Value) → fw body (values_bound vars b ++ v ∷ []) ≡ w v) →
       map (λ v. fw body (bind (values_bound vars b) (bound_in vars) v)) (values_in n (flat_over scope over)) ≡ map w (values_over types sizes over)
   bound-same vars b agree body w over lawful h =
-      map-same (λ v. fw body (bind (values_bound vars b) (bound_in vars) v)) w (λ v. ap (fw body) (bind-one_more vars b v agree) ∙ h v) (values_in n (flat_over scope over))
+      map_agree (λ v. fw body (bind (values_bound vars b) (bound_in vars) v)) w (λ v. ap (fw body) (bind-one_more vars b v agree) ∙ h v) (values_in n (flat_over scope over))
       ∙ ap (map w) (over-same types sets enums placed instance sizes over (runs over lawful))
 
   mutual

@@ -2,6 +2,8 @@
 use Rattle.law_designs.proofs.Opening.{opening}
 use Rattle.std.proofs.Common.{◌≡◌, List, [], ◌∷◌, ◌++◌, flat_map, length, Option, Some, None, option_and_then, Bool, true, false, cond, refl, sym, subst}
 use Rattle.std.specs.List.{AllByRecursion}
+use Rattle.std.proofs.lemmas.Option.{same_Some}
+use Rattle.law_lists.proofs.Each.{each_append, each_weaker}
 use Rattle.smv_core.specs.Values.{Name}
 use Rattle.smv_core.specs.Types.{find_name, names_of}
 use Rattle.smv_core.specs.declared.tree.Word.{Word}
@@ -17,8 +19,8 @@ use Rattle.smv_mentions.specs.Scopes.{Own, Constant, Known, Piece, has_name, own
 use Rattle.law_designs.specs.Kinds.{Kind, number, enumeration, set_type}
 use Rattle.law_designs.specs.Types.{Whole, Leads, single, under, value_kind, Types, leads, leads_field}
 use Rattle.law_designs.specs.References.{Module, modules_from, behind, signal_at}
-use Rattle.law_designs.proofs.Faultless.{each-append, each-behind, each-front, each-more, found-each}
-use Rattle.law_designs.proofs.LeadTypes.{some-same, mapped}
+use Rattle.law_designs.proofs.Faultless.{each-behind, each-front, found-each}
+use Rattle.law_designs.proofs.LeadTypes.{mapped}
 use Rattle.law_designs.proofs.OwnNames.{own-append, IsQuiet, quiet-flat_map, quiet-type, quiet-expr, quiet-stmt}
 use Rattle.law_designs.specs.Owned.{IsOwned, LeadsOwned, SignalsAreOwned}
 use Rattle.law_designs.proofs.Listed.{IsFine, pieces-fine}
@@ -34,7 +36,7 @@ module _ (all : List (Name × Constant)) where
   Leads_fine l = (parts : List Part) (w : Whole) → l parts ≡ Some w → IsOwned all w.value
 
   single-fine : (kind : Kind) → IsOwned all kind → Leads_fine (single kind)
-  single-fine kind k [] w h = subst (λ (v : Whole). IsOwned all v.value) (some-same {X = Whole} (record { over = []; value = kind }) w h) k
+  single-fine kind k [] w h = subst (λ (v : Whole). IsOwned all v.value) (same_Some {A = Whole} (record { over = []; value = kind }) w h) k
   single-fine kind k (part ∷ parts) w h = absurd (cc (h))
 
   abbrev Types_fine : Types → Type 0
@@ -83,7 +85,7 @@ module _ (all : List (Name × Constant)) where
   Own_fine own = AllByRecursion (λ (name, own). What_fine own.what) own
 
   own-both : (xs ys : List Mention) → Own_fine (own_names xs) → Own_fine (own_names ys) → Own_fine (own_names (xs ++ ys))
-  own-both xs ys h k = subst Own_fine (sym (own-append xs ys)) (each-append (λ (name, own). What_fine own.what) (own_names xs) (own_names ys) h k)
+  own-both xs ys h k = subst Own_fine (sym (own-append xs ys)) (each_append (λ (name, own). What_fine own.what) (own_names xs) (own_names ys) h k)
 
   own-quiet : (ms : List Mention) → IsQuiet ms → Own_fine (own_names ms)
   own-quiet ms h = subst Own_fine (sym h) tt
@@ -159,10 +161,10 @@ module _ (all : List (Name × Constant)) where
   modules-fine types ok known [] h = tt
   modules-fine types ok known (SetType word ordered span at ∷ tops) h =
       modules-fine (types ++ (word.name, single (set_type word.name)) ∷ [])
-      (each-append (λ (name, l). Leads_fine l) types ((word.name, single (set_type word.name)) ∷ []) ok (single-fine (set_type word.name) tt, tt))
+      (each_append (λ (name, l). Leads_fine l) types ((word.name, single (set_type word.name)) ∷ []) ok (single-fine (set_type word.name) tt, tt))
       (known_after known (SetType word ordered span at)) tops h.1
   modules-fine types ok known (Alias word of at ∷ tops) h =
-      modules-fine (types ++ (word.name, leads types of) ∷ []) (each-append (λ (name, l). Leads_fine l) types ((word.name, leads types of) ∷ []) ok (leads-fine types ok of h.0, tt)) (known_after known (Alias word of at)) tops h.1
+      modules-fine (types ++ (word.name, leads types of) ∷ []) (each_append (λ (name, l). Leads_fine l) types ((word.name, leads types of) ∷ []) ok (leads-fine types ok of h.0, tt)) (known_after known (Alias word of at)) tops h.1
   modules-fine types ok known (ModuleOf word formals body at ∷ tops) h = ((ok, body-fine body h.0), modules-fine types ok (known_after known (ModuleOf word formals body at)) tops h.1)
 
 pub signals-owned : SignalsAreOwned
@@ -171,4 +173,4 @@ signals-owned text names =
     let modules : List (Name × Module) = modules_from [] text.tops in
     let all : List (Name × Constant) = constants (pieces text) in
     let fine : AllByRecursion (λ (name, m). Module_fine all m) modules = modules-fine all [] tt [] text.tops (pieces-fine text names) in
-    each-more {X = Name × Module} (λ (name, m). Module_fine all m) (λ (name, m). LeadsOwned text m) (λ (name, m) ok. signals-fine all modules fine m ok) modules fine
+    each_weaker {X = Name × Module} (λ (name, m). Module_fine all m) (λ (name, m). LeadsOwned text m) (λ (name, m) ok. signals-fine all modules fine m ok) modules fine

@@ -1,5 +1,5 @@
 -- In a text without faults of names the types of each family have numbers.
-use Rattle.std.proofs.Common.{◌≡◌, ℕ, zero, suc, ◌+◌, ◌-◌, ◌<◌, option_map, List, [], ◌∷◌, ◌++◌, map, flat_map, find, length, slice_get, get_or, All, Option, Some, None, Bool, true, false, cond, ◌||◌, unwrap_or, Decides, refl, sym, ap, ◌∙◌, subst, append_assoc, arith}
+use Rattle.std.proofs.Common.{◌≡◌, ℕ, zero, suc, ◌+◌, ◌-◌, option_map, List, [], ◌∷◌, ◌++◌, map, flat_map, find, length, slice_get, get_or, Option, Some, None, Bool, true, false, cond, ◌||◌, unwrap_or, Decides, refl, sym, ap, ◌∙◌, subst, append_assoc, arith}
 use Rattle.std.specs.Str.{bytes_eq}
 use Rattle.std.specs.List.{list_any, position_or_len, AllByRecursion}
 use Rattle.std.proofs.lemmas.Slice.Eq.{bytes_eq-Decides, slice_eq-Decides}
@@ -26,28 +26,17 @@ use Rattle.smv_mentions.specs.FirstFault.{first_of, faults_at, faults_of_names, 
 use Rattle.smv_core.specs.declared.fault.Fault.{Fault}
 use Rattle.smv_core.specs.declared.tree.Span.{Span}
 use Rattle.std.specs.Option.{option_or}
+use Rattle.law_lists.proofs.Each.{each_append, each_weaker, each_in_any, all_each}
 use Rattle.law_designs.specs.Numbers.{Scope}
 use Rattle.law_designs.specs.Flattening.{scope_in, enum_of, set_of, different}
 use Rattle.law_designs.specs.Agreement.{IsIndexType, numbers_in}
 use Rattle.law_designs.proofs.Numbered.{IsNumbered, IsNumberedOrNone, HasNumbers, AreNumbered}
 use Rattle.law_designs.proofs.Lookups.{any-found, find-passes, any-behind}
 use Rattle.law_designs.proofs.Different.{different-keeps}
-use Rattle.law_designs.proofs.Faultless.{each-append, each-front, each-behind, each-map, each-more, no_fault-in, none-first}
+use Rattle.law_designs.proofs.Faultless.{each-front, each-behind, each-map, no_fault-in, none-first}
 
 pub paths-decide : (p q : Path) → Decides (same_path p q) (p ≡ q)
 paths-decide p q = slice_eq-Decides bytes_eq-Decides p q (same_path p q) refl
-
-each-flat_map : {X Y : Type 0} (Q : Y → Type 0) (f : X → List Y) → ((x : X) → AllByRecursion Q (f x)) → (xs : List X) → AllByRecursion Q (flat_map f xs)
-each-flat_map Q f h [] = tt
-each-flat_map Q f h (x ∷ xs) = each-append Q (f x) (flat_map f xs) (h x) (each-flat_map Q f h xs)
-
-pub all-each : {X : Type 0} (P : X → Type 0) (xs : List X) → AllByRecursion P xs → All P xs
-all-each P [] h = λ k d lt. absurd (omega (arith, lt))
-all-each {X} P (x ∷ xs) h = λ k d lt. by_place k lt d (all-each P xs h.1)
-  where
-    by_place : (k : ℕ) → k < length (x ∷ xs) → (d : X) → All P xs → P (get_or (x ∷ xs) k d)
-    by_place zero lt d rest = h.0
-    by_place (suc k) lt d rest = rest k d (omega (arith, lt))
 
 -- each of a list is in it
 own-listed : (front ls : List (List Name)) → AllByRecursion (λ l. list_any (same_path l) (front ++ ls) ≡ true) ls
@@ -148,8 +137,8 @@ module _ (scope : Scope) (n : Numbered) (same_enums : n.enums ≡ scope.enums) (
       fields-numbered : {m : _} (fields : Row_of-Field m) → AreListed (in_fields fields) → AreGood (shape_of_fields types fields)
       fields-numbered end_of-Field h = tt
       fields-numbered (more_of-Field names of at rest) h =
-          each-append IsGood (flat_map (λ word. map (behind (word.name ∷ [])) (shape_of types of)) names) (shape_of_fields types rest)
-          (each-flat_map IsGood (λ word. map (behind (word.name ∷ [])) (shape_of types of)) (λ word. each-map IsGood IsGood (behind (word.name ∷ [])) (λ f g. g) (shape_of types of) (shape-numbered of (listed-front (in_type of) (in_fields rest) h))) names)
+          each_append IsGood (flat_map (λ word. map (behind (word.name ∷ [])) (shape_of types of)) names) (shape_of_fields types rest)
+          (each_in_any IsGood (λ word. map (behind (word.name ∷ [])) (shape_of types of)) (λ word. each-map IsGood IsGood (behind (word.name ∷ [])) (λ f g. g) (shape_of types of) (shape-numbered of (listed-front (in_type of) (in_fields rest) h))) names)
           (fields-numbered rest (listed-behind (in_type of) (in_fields rest) h))
 
     -- ---- families
@@ -158,9 +147,9 @@ module _ (scope : Scope) (n : Numbered) (same_enums : n.enums ≡ scope.enums) (
       item-numbered : (inside : Path → Name → List Family) → ((here : Path) (name : Name) → AreGood (inside here name)) → (here : Path) (item : Item) → ItemIsListed item → AreGood (families_of_item types bodies inside here item)
       unfolding in_item
       item-numbered inside h here (Declare role words of at) listed =
-          each-flat_map IsGood (λ word. map (declared_as role (here ++ word.name ∷ [])) (shape_of types of))
+          each_in_any IsGood (λ word. map (declared_as role (here ++ word.name ∷ [])) (shape_of types of))
           (λ word. each-map IsGood IsGood (declared_as role (here ++ word.name ∷ [])) (λ f g. g) (shape_of types of) (shape-numbered of (declared-listed (mentions.signal role of) words (in_type of) listed))) words
-      item-numbered inside h here (Instance words name args at) listed = each-flat_map IsGood (λ word. inside (here ++ word.name ∷ []) name.name) (λ word. h (here ++ word.name ∷ []) name.name) words
+      item-numbered inside h here (Instance words name args at) listed = each_in_any IsGood (λ word. inside (here ++ word.name ∷ []) name.name) (λ word. h (here ++ word.name ∷ []) name.name) words
       item-numbered inside h here (Layer name body at) listed = tt
       item-numbered inside h here (Forall' var over shape body at) listed = tt
       item-numbered inside h here (Block' shape items) listed = tt
@@ -172,7 +161,7 @@ module _ (scope : Scope) (n : Numbered) (same_enums : n.enums ≡ scope.enums) (
       items-numbered : (inside : Path → Name → List Family) → ((here : Path) (name : Name) → AreGood (inside here name)) → (here : Path) (items : List Item) → AllByRecursion ItemIsListed items → AreGood (flat_map (families_of_item types bodies inside here) items)
       items-numbered inside h here [] listed = tt
       items-numbered inside h here (item ∷ items) listed =
-          each-append IsGood (families_of_item types bodies inside here item) (flat_map (families_of_item types bodies inside here) items) (item-numbered inside h here item listed.0) (items-numbered inside h here items listed.1)
+          each_append IsGood (families_of_item types bodies inside here item) (flat_map (families_of_item types bodies inside here) items) (item-numbered inside h here item listed.0) (items-numbered inside h here items listed.1)
 
       body-listed : (name : Name) (list : List (Name × Body)) → AllByRecursion (λ (name, body). AllByRecursion ItemIsListed body.items) list → AllByRecursion ItemIsListed (unwrap_or (find_name list name) (record { formals = []; items = [] })).items
       body-listed name [] h = tt
@@ -206,11 +195,11 @@ module _ (scope : Scope) (n : Numbered) (same_enums : n.enums ≡ scope.enums) (
   table-numbered : (known : Types) → TableIsGood known → (tops : List Top) → AllByRecursion TopIsGood tops → TableIsGood (types_from known tops)
   table-numbered known h [] k = h
   table-numbered known h (SetType word false span at ∷ tops) k =
-      table-numbered (known ++ (word.name, one_value (scalarset word.name)) ∷ []) (each-append (λ (name, shape). AreGood shape) known ((word.name, one_value (scalarset word.name)) ∷ []) h (((scalarset-numbered word.name k.0, tt), tt), tt)) tops k.1
+      table-numbered (known ++ (word.name, one_value (scalarset word.name)) ∷ []) (each_append (λ (name, shape). AreGood shape) known ((word.name, one_value (scalarset word.name)) ∷ []) h (((scalarset-numbered word.name k.0, tt), tt), tt)) tops k.1
   table-numbered known h (SetType word true span at ∷ tops) k =
-      table-numbered (known ++ (word.name, one_value (ordset word.name)) ∷ []) (each-append (λ (name, shape). AreGood shape) known ((word.name, one_value (ordset word.name)) ∷ []) h (((ordset-numbered word.name k.0, tt), tt), tt)) tops k.1
+      table-numbered (known ++ (word.name, one_value (ordset word.name)) ∷ []) (each_append (λ (name, shape). AreGood shape) known ((word.name, one_value (ordset word.name)) ∷ []) h (((ordset-numbered word.name k.0, tt), tt), tt)) tops k.1
   table-numbered known h (Alias word of at ∷ tops) k =
-      table-numbered (known ++ (word.name, shape_of known of) ∷ []) (each-append (λ (name, shape). AreGood shape) known ((word.name, shape_of known of) ∷ []) h (shape-numbered known h of k.0, tt)) tops k.1
+      table-numbered (known ++ (word.name, shape_of known of) ∷ []) (each_append (λ (name, shape). AreGood shape) known ((word.name, shape_of known of) ∷ []) h (shape-numbered known h of k.0, tt)) tops k.1
   table-numbered known h (Module word formals body at ∷ tops) k = table-numbered known h tops k.1
 
   bodies-listed : (tops : List Top) → AllByRecursion TopIsGood tops → AllByRecursion (λ (name, body). AllByRecursion ItemIsListed body.items) (modules tops)
@@ -321,9 +310,9 @@ types-of-text text e sizes =
     let n = numbers_in text sizes in
     let lists : List (List Name) = flat_map (λ piece. flat_map enum_of piece.mentions) (pieces text) in
     let listed : AllByRecursion (λ l. list_any (same_path l) (different same_path lists) ≡ true) lists =
-    each-more (λ l. list_any (same_path l) lists ≡ true) (λ l. list_any (same_path l) (different same_path lists) ≡ true) (λ l h. different-keeps same_path paths-decide l lists h) lists (own-listed [] lists) in
+    each_weaker (λ l. list_any (same_path l) lists ≡ true) (λ l. list_any (same_path l) (different same_path lists) ≡ true) (λ l h. different-keeps same_path paths-decide l lists h) lists (own-listed [] lists) in
     let good : AllByRecursion (TopIsGood scope n refl refl) text.tops = tops-good scope n refl refl [] [] [] (λ name h. refl) text.tops refl (once-declared text e) listed in (
-      all-each (HasNumbers scope n) (design_of text).families
-          (each-more (IsGood scope n refl refl) (HasNumbers scope n) (λ f g. (g.0, all-each (IsNumbered scope n) f.over g.1)) (design_of text).families (text-numbered scope n refl refl text.tops good)),
+      all_each (HasNumbers scope n) (design_of text).families
+          (each_weaker (IsGood scope n refl refl) (HasNumbers scope n) (λ f g. (g.0, all_each (IsNumbered scope n) f.over g.1)) (design_of text).families (text-numbered scope n refl refl text.tops good)),
       index-numbered scope n refl refl (types_from [] text.tops) (table-numbered scope n refl refl [] tt text.tops good),
     )

@@ -1,6 +1,9 @@
 -- What has no definition is free: no assignment of the family stands in the definition set.
 use Rattle.std.proofs.Common.{◌≡◌, ℕ, zero, suc, ◌+◌, List, [], ◌∷◌, ◌++◌, map, filter, zip, length, Option, Some, None, Bool, true, false, not, ◌&&◌, ◌||◌, cond, nat_eq, refl, sym, ap, ◌∙◌, option_map, unwrap_or, arith}
 use Rattle.std.specs.List.{flat_map, list_any}
+use Rattle.std.proofs.lemmas.List.Folds.{list_any-append}
+use Rattle.std.proofs.lemmas.List.{length-append}
+use Rattle.law_lists.proofs.Booleans.{or_alike, not_left, not_right, clash}
 use Rattle.smv_core.specs.Values.{Name, Value, Sizes, truth, numbers_from}
 use Rattle.smv_core.specs.Walk.{Walk, first, first_of, if_walk, same_kind}
 use Rattle.smv_core.specs.FlatMeaning.{Numbered, FlatState, FlatBindings, FlatElement, bind, values_in, flat_outcome, flat_walk, flat_walks}
@@ -16,18 +19,7 @@ use Rattle.law_designs.specs.Standing.{count, Statement, statements_of, Standing
 use Rattle.law_designs.specs.Definitions.{Head, head, heads_of, same_definition, first_heads, def_of, design_of_flat_text}
 use Rattle.law_designs.specs.Laws.{is_of_family}
 use Rattle.law_designs.proofs.FlatParts.{if_walk-none, first-none}
-use Rattle.law_designs.proofs.SameResults.{or-same, any-append, set-acts}
-
-or-left : (a b : Bool) → (a || b) ≡ false → a ≡ false
-or-left true b e = e
-or-left false b e = refl
-
-or-right : (a b : Bool) → (a || b) ≡ false → b ≡ false
-or-right true b e = absurd (cc (e))
-or-right false b e = e
-
-clash : {b : Bool} → b ≡ true → b ≡ false → ⊥
-clash p q = cc
+use Rattle.law_designs.proofs.SameResults.{set-acts}
 
 -- ---- what is in a list is in its different elements
 
@@ -59,10 +51,6 @@ module _ {X : Type 0} (same : X → X → Bool) (p : X → Bool) (alike : (a b :
       by_test false h = h
 
 -- ---- assignments and their places
-
-length-append : {X : Type 0} (xs ys : List X) → length (xs ++ ys) ≡ length xs + length ys
-length-append [] ys = omega arith
-length-append (x ∷ xs) ys = let e : length (xs ++ ys) ≡ length xs + length ys = length-append xs ys in omega (arith, e)
 
 sum-same : (a b c d : ℕ) → a ≡ c → b ≡ d → a + b ≡ c + d
 sum-same a b c d h k = omega (arith, h, k)
@@ -112,9 +100,9 @@ module _ (number : Option ℕ) (family : ℕ) where
   all-heads-any : (set : List Statement) → list_any of_head (flat_map heads_of set) ≡ list_any of_standing (flat_map assigned_by set)
   all-heads-any [] = refl
   all-heads-any (s ∷ set) =
-      any-append of_head (heads_of s) (flat_map heads_of set)
-      ∙ or-same (list_any of_head (heads_of s)) (list_any of_head (flat_map heads_of set)) (list_any of_standing (assigned_by s)) (list_any of_standing (flat_map assigned_by set)) (heads-any s) (all-heads-any set)
-      ∙ sym (any-append of_standing (assigned_by s) (flat_map assigned_by set))
+      list_any-append of_head (heads_of s) (flat_map heads_of set)
+      ∙ or_alike (list_any of_head (heads_of s)) (list_any of_head (flat_map heads_of set)) (list_any of_standing (assigned_by s)) (list_any of_standing (flat_map assigned_by set)) (heads-any s) (all-heads-any set)
+      ∙ sym (list_any-append of_standing (assigned_by s) (flat_map assigned_by set))
 
 -- ---- statements without an assignment of the family
 
@@ -123,10 +111,10 @@ module _ (n : Numbered) (s : FlatState) (x : FlatElement) (every : List Value) (
   lacks all = list_any (of_standing number x.family) all ≡ false
 
   left-lacks : (as' bs : List Standing) → lacks (as' ++ bs) → lacks as'
-  left-lacks as' bs e = or-left (list_any (of_standing number x.family) as') (list_any (of_standing number x.family) bs) (sym (any-append (of_standing number x.family) as' bs) ∙ e)
+  left-lacks as' bs e = not_left (list_any (of_standing number x.family) as') (list_any (of_standing number x.family) bs) (sym (list_any-append (of_standing number x.family) as' bs) ∙ e)
 
   right-lacks : (as' bs : List Standing) → lacks (as' ++ bs) → lacks bs
-  right-lacks as' bs e = or-right (list_any (of_standing number x.family) as') (list_any (of_standing number x.family) bs) (sym (any-append (of_standing number x.family) as' bs) ∙ e)
+  right-lacks as' bs e = not_right (list_any (of_standing number x.family) as') (list_any (of_standing number x.family) bs) (sym (list_any-append (of_standing number x.family) as' bs) ∙ e)
 
   other-family : (a b : Bool) → a ≡ true → ((a && b) || false) ≡ false → b ≡ false
   other-family true true h e = absurd (cc (e))
@@ -167,7 +155,7 @@ module _ (n : Numbered) (s : FlatState) (x : FlatElement) (every : List Value) (
         (walk-none around part (left-lacks (standing layer around part) (standing_in layer around rest) e) b) (walks-none around rest (right-lacks (standing layer around part) (standing_in layer around rest) e) b)
 
   two-none : (ps qs : List _) → list_any (flat_concerns kind x) ps ≡ false → list_any (flat_concerns kind x) qs ≡ false → list_any (flat_concerns kind x) (ps ++ qs) ≡ false
-  two-none ps qs h k = any-append (flat_concerns kind x) ps qs ∙ or-same (list_any (flat_concerns kind x) ps) (list_any (flat_concerns kind x) qs) false false h k
+  two-none ps qs h k = list_any-append (flat_concerns kind x) ps qs ∙ or_alike (list_any (flat_concerns kind x) ps) (list_any (flat_concerns kind x) qs) false false h k
 
   mutual
     concerns-none : (around : List ℕ) (act : FlatStmt) → lacks (standing layer around act) → list_any (flat_concerns kind x) (flat_assignments act) ≡ false
@@ -201,11 +189,11 @@ module _ (flat_text : FlatText) (sizes : Sizes) (layer : Option Name) (x : FlatE
 
   lacks-here : (s : Statement) (set : List Statement) → lacking (s ∷ set) → list_any (of_standing number x.family) (assigned_by s) ≡ false
   lacks-here s set e =
-      or-left (list_any (of_standing number x.family) (assigned_by s)) (list_any (of_standing number x.family) (flat_map assigned_by set)) (sym (any-append (of_standing number x.family) (assigned_by s) (flat_map assigned_by set)) ∙ e)
+      not_left (list_any (of_standing number x.family) (assigned_by s)) (list_any (of_standing number x.family) (flat_map assigned_by set)) (sym (list_any-append (of_standing number x.family) (assigned_by s) (flat_map assigned_by set)) ∙ e)
 
   lacks-behind : (s : Statement) (set : List Statement) → lacking (s ∷ set) → lacking set
   lacks-behind s set e =
-      or-right (list_any (of_standing number x.family) (assigned_by s)) (list_any (of_standing number x.family) (flat_map assigned_by set)) (sym (any-append (of_standing number x.family) (assigned_by s) (flat_map assigned_by set)) ∙ e)
+      not_right (list_any (of_standing number x.family) (assigned_by s)) (list_any (of_standing number x.family) (flat_map assigned_by set)) (sym (list_any-append (of_standing number x.family) (assigned_by s) (flat_map assigned_by set)) ∙ e)
 
   module _ (kind : Kind) where
     set-walk : (t : FlatState) (set : List Statement) → lacking set → first (map (λ act. flat_walk (numbers_of flat_text sizes) t x every kind act []) (acts set)) ≡ None
@@ -225,7 +213,7 @@ module _ (flat_text : FlatText) (sizes : Sizes) (layer : Option Name) (x : FlatE
         by_test : (b : Bool) → is_one_layer number s.layer ≡ b → list_any (λ act. list_any (flat_concerns kind x) (flat_assignments act)) (acts set) ≡ false →
             list_any (λ act. list_any (flat_concerns kind x) (flat_assignments act)) (map (λ (s : Statement). s.act) (cond b (s ∷ filter (λ s. is_one_layer number s.layer) set) (filter (λ s. is_one_layer number s.layer) set))) ≡ false
         by_test true h rest =
-            or-same (list_any (flat_concerns kind x) (flat_assignments s.act)) (list_any (λ act. list_any (flat_concerns kind x) (flat_assignments act)) (acts set)) false false
+            or_alike (list_any (flat_concerns kind x) (flat_assignments s.act)) (list_any (λ act. list_any (flat_concerns kind x) (flat_assignments act)) (acts set)) false false
             (concerns-none (numbers_of flat_text sizes) t x every kind number s.layer h [] s.act (lacks-here s set e)) rest
         by_test false h rest = rest
 

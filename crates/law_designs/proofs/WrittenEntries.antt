@@ -2,6 +2,7 @@
 use Rattle.law_designs.proofs.Opening.{opening}
 use Rattle.std.proofs.Common.{◌≡◌, ℕ, zero, suc, List, [], ◌∷◌, ◌++◌, map, flat_map, length, zip, Option, Some, None, option_and_then, unwrap_or, Bool, true, false, cond, refl, sym, ◌∙◌, subst}
 use Rattle.std.specs.List.{AllByRecursion, list_any}
+use Rattle.law_lists.proofs.Each.{each_append, each_weaker}
 use Rattle.smv_core.specs.Values.{Name, Path}
 use Rattle.smv_core.specs.Types as tree
 use Rattle.smv_core.specs.Types.{Family, find_name, types_from}
@@ -37,7 +38,7 @@ use Rattle.law_designs.proofs.Lookups.{any-found, any-front, any-behind}
 use Rattle.law_designs.proofs.SameFamilies.{families-same}
 use Rattle.law_designs.proofs.Constants.{constant-listed}
 use Rattle.law_designs.specs.Written.{IsWritten, AreWritten, IndexesAreWritten, InnerIsWritten, InnersAreWritten, ItemIsWritten}
-use Rattle.law_designs.proofs.Faultless.{empty-both, each-append, each-map, each-more, number-fine, taken-fine, reference-fine}
+use Rattle.law_designs.proofs.Faultless.{empty-both, each-map, number-fine, taken-fine, reference-fine}
 use Rattle.law_designs.proofs.LeadTypes.{behind-count}
 use Rattle.law_designs.proofs.Expressions.{AreSameNames, SignalsCount, OwnAreFamilies, ConstantsAreListed, known-anyway, expression-right, are-right, value-right}
 use Rattle.law_designs.proofs.Statements.{mapped-length, statement-right, body-right}
@@ -157,11 +158,11 @@ module _ (text : Text) where
             inners-right vars around same end_of-Item written fine = tt
             inners-right vars around same (more_of-Item part rest) written fine =
                 let both = empty-both (in_item (scope_of m) vars part) (in_items (scope_of m) vars rest) fine in
-                each-append (EntryIsRightIn around) (item_entries types bodies inside_entries here part) (items_entries types bodies inside_entries here rest) (inner-right vars around same part written.0 both.0) (inners-right vars around same rest written.1 both.1)
+                each_append (EntryIsRightIn around) (item_entries types bodies inside_entries here part) (items_entries types bodies inside_entries here rest) (inner-right vars around same part written.0 both.0) (inners-right vars around same rest written.1 both.1)
 
           whole-right : (part : Item) → InnerIsWritten part → in_item (scope_of m) [] part ≡ [] → AllByRecursion (EntryIsRight text) (item_entries types bodies inside_entries here part)
           unfolding opening
-          whole-right part written fine = each-more (EntryIsRightIn []) (EntryIsRight text) outside-right (item_entries types bodies inside_entries here part) (inner-right [] [] tt part written fine)
+          whole-right part written fine = each_weaker (EntryIsRightIn []) (EntryIsRight text) outside-right (item_entries types bodies inside_entries here part) (inner-right [] [] tt part written fine)
 
         -- ---- connections
 
@@ -217,7 +218,7 @@ module _ (text : Text) where
           zipped-right (word ∷ formals) (e ∷ args) ports written fine =
               let both = empty-both (connected (scope_of m) inner.types (find_name (own_in inner_body.items) word.name) e)
               (flat_map (λ (word, e). connected (scope_of m) inner.types (find_name (own_in inner_body.items) word.name) e) (zip formals args)) fine in
-              each-append (StatementIsRight (scope_in text here) []) (connection_of word.name e) (flat_map (λ (word, e). connection (role_of inner_body.items word.name) n word.name e) (zip formals args))
+              each_append (StatementIsRight (scope_in text here) []) (connection_of word.name e) (flat_map (λ (word, e). connection (role_of inner_body.items word.name) n word.name e) (zip formals args))
               (connection-right word.name e written.0 (find_name (own_in inner_body.items) word.name) refl ports.0 both.0) (zipped-right formals args ports.1 written.1 both.1)
 
         -- the connections of an instance
@@ -252,8 +253,8 @@ module _ (text : Text) where
               let rest : List Entry = flat_map (λ word. instance_entries types bodies inside_entries here name.name args word.name) words in
               let there : List Family = inside (here ++ word.name ∷ []) name.name in
               let others : List Family = flat_map (λ word. inside (here ++ word.name ∷ []) name.name) words in
-              each-append (EntryIsRight text) (front ++ inside_entries (here ++ word.name ∷ []) name.name) rest
-              (each-append (EntryIsRight text) front (inside_entries (here ++ word.name ∷ []) name.name)
+              each_append (EntryIsRight text) (front ++ inside_entries (here ++ word.name ∷ []) name.name) rest
+              (each_append (EntryIsRight text) front (inside_entries (here ++ word.name ∷ []) name.name)
               (each-map (StatementIsRight (scope_in text here) []) (EntryIsRight text) (λ act. statement (record { layer = None; instance = here; act = act })) (λ act h. h) acts acts_right)
               (inside_right (here ++ word.name ∷ []) name.name (λ p e. includes p (any-front p there others e))))
               (instance-right name args written fine words (λ p e. includes p (any-behind p there others e)))
@@ -282,7 +283,7 @@ module _ (text : Text) where
               let both = empty-both (in_item (scope_of m) [] part) (flat_map (in_item (scope_of m) []) items) fine in
               let there : List Family = families_of_item types bodies inside here part in
               let others : List Family = flat_map (families_of_item types bodies inside here) items in
-              each-append (EntryIsRight text) (item_entries types bodies inside_entries here part) (flat_map (item_entries types bodies inside_entries here) items)
+              each_append (EntryIsRight text) (item_entries types bodies inside_entries here part) (flat_map (item_entries types bodies inside_entries here) items)
               (item-right part written.0 both.0 (λ p e. includes p (any-front p there others e))) (items-right items written.1 both.1 (λ p e. includes p (any-behind p there others e)))
 
     -- ---- instances

@@ -1,6 +1,7 @@
 -- What the rules of the grammar spell is written as the grammar has it.
 use Rattle.std.proofs.Common.{◌≡◌, ℕ, zero, suc, Bool, true, false, cond, List, [], ◌∷◌, inl, inr, Option, Some, None, ap, subst}
 use Rattle.std.specs.List.{AllByRecursion}
+use Rattle.std.proofs.lemmas.Option.{same_Some}
 use Rattle.smv_core.specs.declared.token.TokenKind.{TokenKind}
 use Rattle.smv_core.specs.declared.tree.Word.{Word}
 use Rattle.smv_core.specs.declared.tree.Expr.{Expr}
@@ -28,7 +29,6 @@ use Rattle.smv_core.specs.Spelling.{Spells}
 use Rattle.smv_mentions.proofs.Computing.{computing}
 use Rattle.law_designs.specs.Agreement.{IsIndexType}
 use Rattle.law_designs.specs.Written.{HasOne, TypeIsWritten, IsSet, IsWritten, AreWritten, StatementIsWritten, InnerIsWritten, ItemIsWritten, TopIsWritten, TextIsWritten}
-use Rattle.law_designs.proofs.LeadTypes.{some-same}
 use Rattle.law_designs.proofs.WrittenForms.{FieldIsWritten, written-Struct, written-Array, written-field, PartIsWritten, PathIsWritten, MemberIsWritten, TermIsWritten, written-And, written-Or, written-Implies, written-List, written-Signal, written-Sum, written-Not, written-Modulo, written-Iff, written-Compare, written-Within, written-Choose, written-All, written-Any, IsWrittenOrNone, written-Each, set-List, set-Each, written-term, ArmIsWritten, OtherIsWritten, written-Assign, written-Block, written-If, written-Switch, written-Default, written-For, written-Forall, written-arm, inner-Block, inner-Forall}
 
 -- what a rule spells has this property
@@ -95,9 +95,9 @@ inner-item (Split name vars of pairs at) h = h
 inner-item (Using uses proves at) h = h
 inner-item (Act act) h = h
 
-with_place-first : {A : Type 0} (at : ℕ) (o : Option A) (a : A × ℕ) → with_place at o ≡ Some a → o ≡ Some a.0
+pub with_place-first : {A : Type 0} (at : ℕ) (o : Option A) (a : A × ℕ) → with_place at o ≡ Some a → o ≡ Some a.0
 with_place-first at None a e = absurd (cc (e))
-with_place-first {A} at (Some x) a e = ap (λ (p : A × ℕ). Some p.0) (some-same (x, at) a e)
+with_place-first {A} at (Some x) a e = ap (λ (p : A × ℕ). Some p.0) (same_Some (x, at) a e)
 
 -- ---- the levels
 

@@ -1,6 +1,7 @@
 -- The statements of a flattened text, the assignments in them and its design keep the places of its items.
 use Rattle.std.proofs.Common.{◌≤◌, ◌+◌, ℕ, List, [], ◌∷◌, map, filter, zip, Bool, true, false, not, ◌&&◌, cond, Option, nat_eq, sym, subst}
 use Rattle.std.specs.List.{AllByRecursion, flat_map}
+use Rattle.law_lists.proofs.Each.{each_flat_map, each_filter, each_append}
 use Rattle.smv_core.specs.Values.{numbers_from}
 use Rattle.smv_core.specs.Walk.{same_kind}
 use Rattle.smv_core.specs.declared.tree.Kind.{Kind}
@@ -18,13 +19,13 @@ use Rattle.law_designs.specs.WholeText.{is_one_layer, claims_of}
 use Rattle.law_designs.specs.Standing.{count, Statement, statements_from, statements_of, Standing, standing, standing_in, assigned_by}
 use Rattle.law_designs.specs.Definitions.{is_nothing, joined, first_part, flat_of, flats_of, part_of, set_of, Head, head, heads_of, same_definition, first_heads, def_of, splits_of, uses_of, design_of_flat_text}
 use Rattle.law_designs.proofs.FlatParts.{boxes, rows_of}
-use Rattle.law_designs.proofs.Faultless.{each-append, each-map}
-use Rattle.law_fault_places.proofs.TreeLists.{all-flat, all-filtered, all-zipped}
+use Rattle.law_designs.proofs.Faultless.{each-map}
+use Rattle.law_fault_places.proofs.TreeLists.{all-zipped}
 use Rattle.law_fault_places.specs.FlatPlaces.{FlatExprIsWithin, FlatExprsAreWithin, ActIsWithin, ActsAreWithin, ClaimIsWithin, SplitIsWithin, UsingIsWithin, FlatItemIsWithin, FlatTextIsWithin, PartOfIsWithin, PartsOfAreWithin, DefIsWithin, DesignIsWithin}
 
 pub different-all : {X : Type 0} (P : X → Type 0) (same : X → X → Bool) (xs : List X) → AllByRecursion P xs → AllByRecursion P (different same xs)
 different-all P same [] h = tt
-different-all P same (x ∷ xs) h = (h.0, all-filtered P (λ y. not (same x y)) (different same xs) (different-all P same xs h.1))
+different-all P same (x ∷ xs) h = (h.0, each_filter P (λ y. not (same x y)) (different same xs) (different-all P same xs h.1))
 
 module _ (n : ℕ) where
   -- ---- statements and assignments
@@ -50,15 +51,15 @@ module _ (n : ℕ) where
       pub standing-within : (around : List ℕ) (act : FlatStmt) → ActIsWithin n act → AllByRecursion StandingIsWithin (standing layer around act)
       standing-within around (Assign kind family left value at) h = ((h.1, h.0), tt)
       standing-within around (If' cond l (more_of-FlatStmt left end_of-FlatStmt) r (more_of-FlatStmt right end_of-FlatStmt)) h =
-          each-append StandingIsWithin (standing layer around left) (standing layer around right) (standing-within around left h.1) (standing-within around right h.2)
+          each_append StandingIsWithin (standing layer around left) (standing layer around right) (standing-within around left h.1) (standing-within around right h.2)
       standing-within around (Block' shape parts) h = standing_in-within around parts h
       standing-within around (Default' l (more_of-FlatStmt left end_of-FlatStmt) r (more_of-FlatStmt right end_of-FlatStmt)) h =
-          each-append StandingIsWithin (standing layer around left) (standing layer around right) (standing-within around left h.0) (standing-within around right h.1)
+          each_append StandingIsWithin (standing layer around left) (standing layer around right) (standing-within around left h.0) (standing-within around right h.1)
       standing-within around (Forall' var over shape (more_of-FlatStmt body end_of-FlatStmt)) h = standing-within (var ∷ around) body h
 
       pub standing_in-within : {m : _} (around : List ℕ) (row : Row_of-FlatStmt m) → ActsAreWithin n row → AllByRecursion StandingIsWithin (standing_in layer around row)
       standing_in-within around end_of-FlatStmt h = tt
-      standing_in-within around (more_of-FlatStmt part rest) h = each-append StandingIsWithin (standing layer around part) (standing_in layer around rest) (standing-within around part h.0) (standing_in-within around rest h.1)
+      standing_in-within around (more_of-FlatStmt part rest) h = each_append StandingIsWithin (standing layer around part) (standing_in layer around rest) (standing-within around part h.0) (standing_in-within around rest h.1)
 
   pub assigned-within : (s : Statement) → SaidIsWithin s → AllByRecursion StandingIsWithin (assigned_by s)
   assigned-within s h = standing-within s.layer [] s.act h
@@ -86,7 +87,7 @@ module _ (n : ℕ) where
   joined-within (one ∷ other ∷ more) h = first-within (one ∷ other ∷ more) h
 
   first_part-within : (parts : List DefBody) → AllByRecursion (PartOfIsWithin n) parts → PartOfIsWithin n (first_part parts)
-  first_part-within parts h = joined-within (filter (λ p. not (is_nothing p)) parts) (all-filtered (PartOfIsWithin n) (λ p. not (is_nothing p)) parts h)
+  first_part-within parts h = joined-within (filter (λ p. not (is_nothing p)) parts) (each_filter (PartOfIsWithin n) (λ p. not (is_nothing p)) parts h)
 
   either-within : (b : Bool) (x y : DefBody) → PartOfIsWithin n x → PartOfIsWithin n y → PartOfIsWithin n (cond b x y)
   either-within true x y h g = h
@@ -126,12 +127,12 @@ module _ (n : ℕ) where
       (zip (assigned_by s) (numbers_from s.place (count s.act))) (all-zipped StandingIsWithin (assigned_by s) (numbers_from s.place (count s.act)) (assigned-within s h))
 
   first-heads-within : (flat_text : FlatText) → FlatTextIsWithin n flat_text → AllByRecursion HeadIsWithin (first_heads flat_text)
-  first-heads-within flat_text h = different-all HeadIsWithin same_definition (flat_map heads_of (statements_of flat_text)) (all-flat SaidIsWithin HeadIsWithin heads_of heads-within (statements_of flat_text) (statements-within flat_text h))
+  first-heads-within flat_text h = different-all HeadIsWithin same_definition (flat_map heads_of (statements_of flat_text)) (each_flat_map SaidIsWithin HeadIsWithin heads_of heads-within (statements_of flat_text) (statements-within flat_text h))
 
   def-within : (flat_text : FlatText) → FlatTextIsWithin n flat_text → (own : Head) → HeadIsWithin own → DefIsWithin n (def_of flat_text own)
   def-within flat_text h own le =
       let set = set_of flat_text own.layer in
-      let said : AllByRecursion SaidIsWithin set = all-filtered SaidIsWithin (λ (s : Statement). is_one_layer own.layer s.layer) (statements_of flat_text) (statements-within flat_text h) in
+      let said : AllByRecursion SaidIsWithin set = each_filter SaidIsWithin (λ (s : Statement). is_one_layer own.layer s.layer) (statements_of flat_text) (statements-within flat_text h) in
       (part-within Init own.family set said, part-within Next own.family set said, part-within Comb own.family set said, le)
 
   -- ---- designs

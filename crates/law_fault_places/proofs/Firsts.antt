@@ -3,13 +3,13 @@ use Rattle.std.proofs.Common.{◌≡◌, ◌≤◌, ℕ, Bool, true, false, cond
 use Rattle.std.specs.List.{AllByRecursion, flat_map, list_any}
 use Rattle.std.specs.Str.{bytes_eq}
 use Rattle.std.specs.Option.{option_map, unwrap_or}
+use Rattle.law_lists.proofs.Each.{each_flat_map}
 use Rattle.smv_core.specs.Values.{Name}
 use Rattle.smv_core.specs.Types.{find_name}
 use Rattle.smv_core.specs.declared.fault.Fault.{Fault}
 use Rattle.smv_mentions.specs.NameFaults.{place_if}
 use Rattle.smv_mentions.specs.FirstFault.{comes_before, earlier, first_of, faults_at, or_else}
 use Rattle.law_fault_places.specs.FaultPlaces.{IsFaultOf}
-use Rattle.law_fault_places.proofs.TreeLists.{all-flat}
 
 earlier-one : (P : Fault → Type 0) (f : Fault) (o : Option Fault) → P f → IfSome o P → IfSome (earlier f o) P
 earlier-one P f None h g = h
@@ -58,4 +58,4 @@ unwrapped-one P (Some x) other h g = h
 
 -- some faults, each number with its places
 pub lists-placed : (numbers : List ℕ) (n : ℕ) (lists : List (ℕ × List ℕ)) → AllByRecursion (λ (p : ℕ × List ℕ). (list_any (nat_eq p.0) numbers ≡ true) × AreUpTo n p.1) lists → AllByRecursion (IsFaultOf numbers n) (flat_map faults_at lists)
-lists-placed numbers n lists h = all-flat (λ (p : ℕ × List ℕ). (list_any (nat_eq p.0) numbers ≡ true) × AreUpTo n p.1) (IsFaultOf numbers n) faults_at (λ p own. faults-placed numbers n p.0 p.1 own.0 own.1) lists h
+lists-placed numbers n lists h = each_flat_map (λ (p : ℕ × List ℕ). (list_any (nat_eq p.0) numbers ≡ true) × AreUpTo n p.1) (IsFaultOf numbers n) faults_at (λ p own. faults-placed numbers n p.0 p.1 own.0 own.1) lists h

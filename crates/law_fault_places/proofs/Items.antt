@@ -2,6 +2,7 @@
 use Rattle.std.proofs.Common.{◌≤◌, ◌+◌, ℕ, zero, suc, List, [], ◌∷◌, ◌++◌, map, length, zip, Option, Some, None, Bool, true, false, cond, unwrap_or, arith}
 use Rattle.std.specs.Str.{bytes_eq}
 use Rattle.std.specs.List.{AllByRecursion, flat_map}
+use Rattle.law_lists.proofs.Each.{each_flat_map, each_append}
 use Rattle.smv_core.specs.Values.{Name, Path}
 use Rattle.smv_core.specs.Types.{Types, types_from, find_name}
 use Rattle.smv_core.specs.FlatOrder.{Body, modules, main, role_of, body_of}
@@ -28,9 +29,9 @@ use Rattle.law_designs.specs.Numbers.{Scope}
 use Rattle.law_designs.specs.Statements.{first_token}
 use Rattle.law_designs.specs.Entries.{Binders, Goal, claim, split, using, Entry, layer, statement, goal, inside_binder, formal, given_to, connection, connections, instance_entries, item_entries, items_entries, entries_in, entries}
 use Rattle.law_designs.specs.Flattening.{flat_assignments, scope_in, within, flat_pair, flat_goal, whole, whole_use, prefix_at, with_places, layers_of, flat_entry, flatten}
-use Rattle.law_designs.proofs.Faultless.{each-append, each-map}
+use Rattle.law_designs.proofs.Faultless.{each-map}
 use Rattle.law_fault_places.specs.TreePlaces.{WordIsWithin, WordsAreWithin, TypeIsWithin, ExprIsWithin, ExprsAreWithin, PartsAreWithin, PathIsWithin, StatementIsWithin, RefIsWithin, UseIsWithin, PairIsWithin, ItemIsWithin, ItemsAreWithin, TopIsWithin, TextIsWithin}
-use Rattle.law_fault_places.proofs.TreeLists.{all-flat, any-mapped}
+use Rattle.law_fault_places.proofs.TreeLists.{any-mapped}
 use Rattle.law_fault_places.proofs.TreeForms.{row-parts, within-Signal, within-Assign, within-Forall}
 use Rattle.law_fault_places.specs.FlatPlaces.{FlatPairIsWithin, FlatItemIsWithin, FlatTextIsWithin}
 use Rattle.law_fault_places.proofs.Flattened.{first-within, expr-within, act-within}
@@ -81,7 +82,7 @@ module _ (n : ℕ) where
 
   connections-within : (body : Body) (k : Name) (args : List Expr) → ExprsAreWithin n args → AllByRecursion (StatementIsWithin n) (connections body k args)
   connections-within body k args h =
-      all-flat (λ (p : Word × Expr). ExprIsWithin n p.1) (StatementIsWithin n) (λ (p : Word × Expr). connection (role_of body.items p.0.name) k p.0.name p.1) (λ p own. connection-within (role_of body.items p.0.name) k p.0.name p.1 own)
+      each_flat_map (λ (p : Word × Expr). ExprIsWithin n p.1) (StatementIsWithin n) (λ (p : Word × Expr). connection (role_of body.items p.0.name) k p.0.name p.1) (λ p own. connection-within (role_of body.items p.0.name) k p.0.name p.1 own)
       (zip body.formals args) (zipped-within body.formals args h)
 
   -- ---- items of the tree
@@ -98,8 +99,8 @@ module _ (n : ℕ) where
           AllByRecursion EntryIsWithin (flat_map (λ (word : Word). instance_entries types bodies inside here name args word.name) words)
       instances-within all name args h [] = tt
       instances-within all name args h (word ∷ words) =
-          each-append EntryIsWithin (instance_entries types bodies inside here name args word.name) (flat_map (λ (word : Word). instance_entries types bodies inside here name args word.name) words)
-          (each-append EntryIsWithin (map (λ act. statement (record { layer = None; instance = here; act = act })) (connections (body_of types bodies name) word.name args)) (inside (here ++ word.name ∷ []) name)
+          each_append EntryIsWithin (instance_entries types bodies inside here name args word.name) (flat_map (λ (word : Word). instance_entries types bodies inside here name args word.name) words)
+          (each_append EntryIsWithin (map (λ act. statement (record { layer = None; instance = here; act = act })) (connections (body_of types bodies name) word.name args)) (inside (here ++ word.name ∷ []) name)
           (said-within None (connections (body_of types bodies name) word.name args) (connections-within (body_of types bodies name) word.name args h)) (all (here ++ word.name ∷ []) name))
           (instances-within all name args h words)
 
@@ -118,12 +119,12 @@ module _ (n : ℕ) where
 
         items-within : {m : _} → ((there : Path) (name : Name) → AllByRecursion EntryIsWithin (inside there name)) → (row : Row_of-Item m) → ItemsAreWithin n row → AllByRecursion EntryIsWithin (items_entries types bodies inside here row)
         items-within all end_of-Item h = tt
-        items-within all (more_of-Item x rest) h = each-append EntryIsWithin (item_entries types bodies inside here x) (items_entries types bodies inside here rest) (item-within all x h.0) (items-within all rest h.1)
+        items-within all (more_of-Item x rest) h = each_append EntryIsWithin (item_entries types bodies inside here x) (items_entries types bodies inside here rest) (item-within all x h.0) (items-within all rest h.1)
 
     entries-within : ((name : Name) → AllByRecursion (ItemIsWithin n) (body_of types bodies name).items) → (k : ℕ) (here : Path) (name : Name) → AllByRecursion EntryIsWithin (entries_in types bodies k here name)
     entries-within items zero here name = tt
     entries-within items (suc k) here name =
-        all-flat (ItemIsWithin n) EntryIsWithin (item_entries types bodies (entries_in types bodies k) here) (item-within (entries_in types bodies k) here (entries-within items k)) (body_of types bodies name).items (items name)
+        each_flat_map (ItemIsWithin n) EntryIsWithin (item_entries types bodies (entries_in types bodies k) here) (item-within (entries_in types bodies k) here (entries-within items k)) (body_of types bodies name).items (items name)
 
     modules-within : (tops : List Top) → AllByRecursion (TopIsWithin n) tops → (name : Name) → AllByRecursion (ItemIsWithin n) (body_of types (modules tops) name).items
     modules-within [] h name = tt
@@ -144,7 +145,7 @@ module _ (n : ℕ) where
 
   module _ (scope : Scope) where
     whole-within : (of : Ref) → RefIsWithin n of → RefIsWithin n (whole scope of)
-    whole-within of h = (each-append (WordIsWithin n) (prefix_at scope of.at) of.path (any-mapped (WordIsWithin n) (λ (name : Name). record { name = name; at = of.at }) (λ name. h.3) scope.instance) h.0, h.1, h.2, h.3)
+    whole-within of h = (each_append (WordIsWithin n) (prefix_at scope of.at) of.path (any-mapped (WordIsWithin n) (λ (name : Name). record { name = name; at = of.at }) (λ name. h.3) scope.instance) h.0, h.1, h.2, h.3)
 
     use-within : (x : Use) → UseIsWithin n x → UseIsWithin n (whole_use scope x)
     use-within (PlainUse of) h = whole-within of h
@@ -177,4 +178,4 @@ module _ (n : ℕ) where
   pub flatten-within : (text : Text) → TextIsWithin n text → FlatTextIsWithin n (flatten text)
   flatten-within text h =
       let layers = layers_of (entries text) in
-      places-within 0 (flat_map (flat_entry text layers) (entries text)) (all-flat EntryIsWithin (FlatItemIsWithin n) (flat_entry text layers) (entry-within text layers) (entries text) (text-within text h))
+      places-within 0 (flat_map (flat_entry text layers) (entries text)) (each_flat_map EntryIsWithin (FlatItemIsWithin n) (flat_entry text layers) (entry-within text layers) (entries text) (text-within text h))

@@ -1,6 +1,7 @@
 -- The first fault of kinds stands at a place of the tree.
 use Rattle.std.proofs.Common.{ℕ, Bool, true, false, cond, List, [], ◌∷◌, ◌++◌, map, zip, Option, Some, None, IfSome, is_none, refl}
 use Rattle.std.specs.List.{AllByRecursion, flat_map}
+use Rattle.law_lists.proofs.Each.{each_flat_map, each_append}
 use Rattle.smv_core.specs.Values.{Name}
 use Rattle.smv_core.specs.Types.{find_name}
 use Rattle.smv_core.specs.Walk.{indexes_of}
@@ -26,10 +27,10 @@ use Rattle.law_designs.specs.Types.{Types, leads, value_kind, types_after, index
 use Rattle.law_designs.specs.References.{Module, module_of, modules_from, Scope, Vars, signal_at, reference}
 use Rattle.law_designs.specs.Operands.{bind, operand, value, target}
 use Rattle.law_designs.specs.KindFaults.{assigned, in_stmt, in_block, in_branch, in_arms, labels, formal_faults, are_constant, given, gives, connected, in_arguments, in_item, in_items, in_top, in_tops, faults_of_kinds, first_fault_of_kinds}
-use Rattle.law_designs.proofs.Faultless.{each-append, each-map}
+use Rattle.law_designs.proofs.Faultless.{each-map}
 use Rattle.law_fault_places.specs.TreePlaces.{WordIsWithin, ExprIsWithin, ExprsAreWithin, StatementIsWithin, StatementsAreWithin, BranchIsWithin, ArmsAreWithin, PairIsWithin, ItemIsWithin, ItemsAreWithin, TopIsWithin, TextIsWithin}
 use Rattle.law_fault_places.specs.FaultPlaces.{IsFaultOf}
-use Rattle.law_fault_places.proofs.TreeLists.{all-flat, zipped-all}
+use Rattle.law_fault_places.proofs.TreeLists.{zipped-all}
 use Rattle.law_fault_places.proofs.Firsts.{first-one}
 use Rattle.law_fault_places.proofs.TreeForms.{row-parts}
 use Rattle.law_fault_places.specs.KindFaultPlaces.{numbers_of_kinds}
@@ -47,7 +48,7 @@ module _ (n : ℕ) where
     unfolding in_stmt in_block in_branch in_arms labels
     labels-within vars end_of-Arm h = tt
     labels-within vars (more_of-Arm words body rest) h =
-        each-append (IsOperandWithin n) (map (operand scope vars) words) (labels scope vars rest)
+        each_append (IsOperandWithin n) (map (operand scope vars) words) (labels scope vars rest)
         (each-map (ExprIsWithin n) (IsOperandWithin n) (operand scope vars) (operand-within n scope vars) words h.0) (labels-within vars rest h.2)
 
     mutual
@@ -121,7 +122,7 @@ module _ (n : ℕ) where
     arguments-within : (o : Option Module) (args : List Expr) → ExprsAreWithin n args → AreWithin n (in_arguments scope o args)
     arguments-within None args h = tt
     arguments-within (Some m) args h =
-        all-flat (λ (p : Word × Expr). ExprIsWithin n p.1) (IsWithin n) (λ (p : Word × Expr). connected scope m.types (find_name m.own p.0.name) p.1)
+        each_flat_map (λ (p : Word × Expr). ExprIsWithin n p.1) (IsWithin n) (λ (p : Word × Expr). connected scope m.types (find_name m.own p.0.name) p.1)
         (λ p own. connected-within m.types (find_name m.own p.0.name) p.1 own) (zip m.formals args) (zipped-all (ExprIsWithin n) m.formals args h)
 
     -- ---- items
@@ -132,14 +133,14 @@ module _ (n : ℕ) where
       item-within : (vars : Vars) (x : Item) → ItemIsWithin n x → AreWithin n (in_item scope vars x)
       item-within vars (Declare role words of at) h =
           both n (flat_map (formal_faults scope.here.types role of) words) (type_faults scope.here.types of)
-          (all-flat (WordIsWithin n) (IsWithin n) (formal_faults scope.here.types role of) (formal-within scope.here.types role of) words h.0) (type-within n scope.here.types of h.1)
+          (each_flat_map (WordIsWithin n) (IsWithin n) (formal_faults scope.here.types role of) (formal-within scope.here.types role of) words h.0) (type-within n scope.here.types of h.1)
       item-within vars (Instance words name args at) h = arguments-within (find_name scope.modules name.name) args h.2
-      item-within vars (Layer word body at) h = all-flat (StatementIsWithin n) (IsWithin n) (in_stmt scope vars) (stmt-within scope vars) body h.1
+      item-within vars (Layer word body at) h = each_flat_map (StatementIsWithin n) (IsWithin n) (in_stmt scope vars) (stmt-within scope vars) body h.1
       item-within vars (item.Forall' var over shape (more_of-Item body end_of-Item) at) h =
           both n (index_faults scope.here.types over) (in_item scope (bind scope vars var over) body) (index-within n scope.here.types over h.2) (item-within (bind scope vars var over) body h.3)
       item-within vars (item.Block' shape items) h = items-within vars items h
       item-within vars (Claim word brackets body at) h = takes_number-within n (operand scope vars body) (operand-within n scope vars body h.2)
-      item-within vars (Split word brackets of pairs at) h = all-flat (PairIsWithin n) (IsWithin n) (λ (pair : Pair). (operand scope vars pair.left).faults) (λ pair own. (operand-within n scope vars pair.left own.0).faults) pairs h.3
+      item-within vars (Split word brackets of pairs at) h = each_flat_map (PairIsWithin n) (IsWithin n) (λ (pair : Pair). (operand scope vars pair.left).faults) (λ pair own. (operand-within n scope vars pair.left own.0).faults) pairs h.3
       item-within vars (Using uses proves at) h = tt
       item-within vars (Act act) h = stmt-within scope vars act h
 
@@ -155,7 +156,7 @@ module _ (n : ℕ) where
     top-within types (Alias word of at) h = type-within n types of h.1
     top-within types (ModuleOf word formals body at) h =
         let scope : Scope = record { modules = modules; constants = known; here = module_of types formals body } in
-        all-flat (ItemIsWithin n) (IsWithin n) (in_item scope []) (item-within scope []) body h.2
+        each_flat_map (ItemIsWithin n) (IsWithin n) (in_item scope []) (item-within scope []) body h.2
 
     tops-within : (types : Types) (tops : List Top) → AllByRecursion (TopIsWithin n) tops → AreWithin n (in_tops modules known types tops)
     tops-within types [] h = tt

@@ -1,6 +1,7 @@
 -- The first fault of loops and layers stands at a place of the design.
 use Rattle.std.proofs.Common.{◌≤◌, ℕ, Bool, true, false, cond, List, [], ◌∷◌, ◌++◌, filter, slice_get, is_none, nat_lt, IfSome, refl}
 use Rattle.std.specs.List.{AllByRecursion, flat_map}
+use Rattle.law_lists.proofs.Each.{each_flat_map, each_filter, each_append}
 use Rattle.smv_core.specs.declared.flat.FlatMember.{One, Span as SpanOf}
 use Rattle.smv_core.specs.declared.flat.FlatExpr.{FlatExpr, Number, Read', Var, Loop, Constant, Not', And', Or', Implies', Iff', Compare', Within', Sum', Modulo', Choose', All', Any', List', Each', Held-FlatExpr-Each-2, None', Some', Row_of-FlatExpr, end_of-FlatExpr, more_of-FlatExpr, Row_of-FlatMember, end_of-FlatMember, more_of-FlatMember, Row_of-FlatSigned, end_of-FlatSigned, more_of-FlatSigned}
 use Rattle.smv_core.specs.declared.flat.DefBody.{DefBody, Nothing, Assign, If', First', Forall', Row_of-DefBody, end_of-DefBody, more_of-DefBody}
@@ -10,9 +11,8 @@ use Rattle.law_designs.specs.Reading.{Reference, references, references_of, refe
 use Rattle.law_designs.specs.Loops.{is_base, Edge, edges_of, hold_a_cycle, put, in_order, undelayed, undelayed_in, closing, looping}
 use Rattle.law_designs.specs.LayerFaults.{assignments_of, is_abstract, outside_layers, leaking, assigned_outside}
 use Rattle.law_designs.specs.FirstFault.{faults_of_loops, first_fault_of_loops, faults_of_layers, first_fault_of_layers, first_fault_of_design}
-use Rattle.law_designs.proofs.Faultless.{each-append, each-map}
+use Rattle.law_designs.proofs.Faultless.{each-map}
 use Rattle.law_fault_places.specs.FaultPlaces.{IsFaultOf}
-use Rattle.law_fault_places.proofs.TreeLists.{all-flat, all-filtered}
 use Rattle.law_fault_places.proofs.Firsts.{first-one, either-one, AreUpTo, faults-placed, lists-placed}
 use Rattle.law_fault_places.specs.FlatPlaces.{FlatExprIsWithin, FlatRowIsWithin, FlatTermsAreWithin, FlatMembersAreWithin, FlatConditionIsWithin, PartOfIsWithin, PartsOfAreWithin, DefIsWithin, DesignIsWithin}
 use Rattle.law_fault_places.specs.DesignFaultPlaces.{numbers_of_designs}
@@ -27,7 +27,7 @@ module _ (n : ℕ) where
   ReferencesAreWithin rs = AllByRecursion ReferenceIsWithin rs
 
   join : (xs ys : List Reference) → ReferencesAreWithin xs → ReferencesAreWithin ys → ReferencesAreWithin (xs ++ ys)
-  join xs ys h g = each-append ReferenceIsWithin xs ys h g
+  join xs ys h g = each_append ReferenceIsWithin xs ys h g
 
   mutual
     references-within : (e : FlatExpr) → FlatExprIsWithin n e → ReferencesAreWithin (references e)
@@ -82,22 +82,22 @@ module _ (n : ℕ) where
       readings-within : (around : List Reference) (p : DefBody) → ReferencesAreWithin around → PartOfIsWithin n p → ReadingsAreWithin (readings family around p)
       readings-within around Nothing a h = tt
       readings-within around (Assign left value place at) a h =
-          ((h.0, join (around ++ (flat_map references left)) (references value) (join around (flat_map references left) a (all-flat (FlatExprIsWithin n) ReferenceIsWithin references references-within left h.1)) (references-within value h.2)), tt)
+          ((h.0, join (around ++ (flat_map references left)) (references value) (join around (flat_map references left) a (each_flat_map (FlatExprIsWithin n) ReferenceIsWithin references references-within left h.1)) (references-within value h.2)), tt)
       readings-within around (If' cond l (more_of-DefBody left end_of-DefBody) r (more_of-DefBody right end_of-DefBody)) a h =
           let inside : ReferencesAreWithin (around ++ references cond) = join around (references cond) a (references-within cond h.0) in
-          each-append ReadingIsWithin (readings family (around ++ references cond) left) (readings family (around ++ references cond) right) (readings-within (around ++ references cond) left inside h.1) (readings-within (around ++ references cond) right inside h.2)
+          each_append ReadingIsWithin (readings family (around ++ references cond) left) (readings family (around ++ references cond) right) (readings-within (around ++ references cond) left inside h.1) (readings-within (around ++ references cond) right inside h.2)
       readings-within around (First' shape parts) a h = parts-within around parts a h
       readings-within around (Forall' var over shape (more_of-DefBody body end_of-DefBody)) a h = readings-within around body a h
 
       parts-within : {m : _} (around : List Reference) (row : Row_of-DefBody m) → ReferencesAreWithin around → PartsOfAreWithin n row → ReadingsAreWithin (readings_of family around row)
       parts-within around end_of-DefBody a h = tt
-      parts-within around (more_of-DefBody part rest) a h = each-append ReadingIsWithin (readings family around part) (readings_of family around rest) (readings-within around part a h.0) (parts-within around rest a h.1)
+      parts-within around (more_of-DefBody part rest) a h = each_append ReadingIsWithin (readings family around part) (readings_of family around rest) (readings-within around part a h.0) (parts-within around rest a h.1)
 
   -- ---- loops
 
   undelayed-within : (def : Def) → DefIsWithin n def → ReadingsAreWithin (undelayed def)
   undelayed-within def h =
-      each-append ReadingIsWithin (readings def.family [] def.comb) (readings def.family [] def.init) (readings-within def.family [] def.comb tt h.2) (readings-within def.family [] def.init tt h.0)
+      each_append ReadingIsWithin (readings def.family [] def.comb) (readings def.family [] def.init) (readings-within def.family [] def.comb tt h.2) (readings-within def.family [] def.init tt h.0)
 
   put-within : (a : Reading) (more : List Reading) → ReadingIsWithin a → ReadingsAreWithin more → ReadingsAreWithin (put a more)
   put-within a [] h g = (h, tt)
@@ -122,29 +122,29 @@ module _ (n : ℕ) where
   looping-within : (d : Design) → DesignIsWithin n d → AreUpTo n (looping d)
   looping-within d h =
       closing-within d [] (undelayed_in d) (order-within (flat_map undelayed (filter (is_base d) d.defs))
-      (all-flat (DefIsWithin n) ReadingIsWithin undelayed undelayed-within (filter (is_base d) d.defs) (all-filtered (DefIsWithin n) (is_base d) d.defs h.defs)))
+      (each_flat_map (DefIsWithin n) ReadingIsWithin undelayed undelayed-within (filter (is_base d) d.defs) (each_filter (DefIsWithin n) (is_base d) d.defs h.defs)))
 
   -- ---- layers
 
   assignments-within : (def : Def) → DefIsWithin n def → ReadingsAreWithin (assignments_of def)
   assignments-within def h =
-      each-append ReadingIsWithin ((readings def.family [] def.init) ++ (readings def.family [] def.next)) (readings def.family [] def.comb) (each-append ReadingIsWithin (readings def.family [] def.init) (readings def.family [] def.next) (readings-within def.family [] def.init tt h.0) (readings-within def.family [] def.next tt h.1)) (readings-within def.family [] def.comb tt h.2)
+      each_append ReadingIsWithin ((readings def.family [] def.init) ++ (readings def.family [] def.next)) (readings def.family [] def.comb) (each_append ReadingIsWithin (readings def.family [] def.init) (readings def.family [] def.next) (readings-within def.family [] def.init tt h.0) (readings-within def.family [] def.next tt h.1)) (readings-within def.family [] def.comb tt h.2)
 
   module _ (d : Design) (h : DesignIsWithin n d) where
     outside-within : ReadingsAreWithin (outside_layers d)
-    outside-within = all-flat (DefIsWithin n) ReadingIsWithin assignments_of assignments-within (filter (λ (def : Def). is_none def.layer) d.defs) (all-filtered (DefIsWithin n) (λ (def : Def). is_none def.layer) d.defs h.defs)
+    outside-within = each_flat_map (DefIsWithin n) ReadingIsWithin assignments_of assignments-within (filter (λ (def : Def). is_none def.layer) d.defs) (each_filter (DefIsWithin n) (λ (def : Def). is_none def.layer) d.defs h.defs)
 
     leaking-within : AreUpTo n (leaking d)
     leaking-within =
         let reads = flat_map (λ (a : Reading). a.reads) (outside_layers d) in
         let test = λ (r : Reference). is_abstract d (slice_get d.families r.family) in
         each-map ReferenceIsWithin (λ (at : ℕ). at ≤ n) (λ (r : Reference). r.at) (λ r own. own) (filter test reads)
-        (all-filtered ReferenceIsWithin test reads (all-flat ReadingIsWithin ReferenceIsWithin (λ (a : Reading). a.reads) (λ a own. own.1) (outside_layers d) outside-within))
+        (each_filter ReferenceIsWithin test reads (each_flat_map ReadingIsWithin ReferenceIsWithin (λ (a : Reading). a.reads) (λ a own. own.1) (outside_layers d) outside-within))
 
     assigned-within : AreUpTo n (assigned_outside d)
     assigned-within =
         let test = λ (a : Reading). is_abstract d (slice_get d.families a.family) in
-        each-map ReadingIsWithin (λ (at : ℕ). at ≤ n) (λ (a : Reading). a.at) (λ a own. own.0) (filter test (outside_layers d)) (all-filtered ReadingIsWithin test (outside_layers d) outside-within)
+        each-map ReadingIsWithin (λ (at : ℕ). at ≤ n) (λ (a : Reading). a.at) (λ a own. own.0) (filter test (outside_layers d)) (each_filter ReadingIsWithin test (outside_layers d) outside-within)
 
   pub first-within : (d : Design) → DesignIsWithin n d → IfSome (first_fault_of_design d) (IsFaultOf numbers_of_designs n)
   first-within d h =

@@ -2,6 +2,7 @@
 use Rattle.std.proofs.Common.{◌≡◌, ◌≤◌, ℕ, Bool, true, false, not, ◌&&◌, cond, List, [], ◌∷◌, ◌++◌, map, filter, length, Option, Some, None, IfSome, nat_eq, is_none, refl, arith}
 use Rattle.std.specs.Str.{bytes_eq}
 use Rattle.std.specs.List.{AllByRecursion, flat_map, list_any}
+use Rattle.law_lists.proofs.Each.{each_flat_map, each_filter, each_append}
 use Rattle.smv_core.specs.Values.{Name}
 use Rattle.smv_core.specs.Types.{find_name}
 use Rattle.smv_core.specs.FlatOrder.{main}
@@ -12,10 +13,9 @@ use Rattle.smv_mentions.specs.Scopes.{Piece, pieces, Scope, Own, scope_of, has_n
 use Rattle.smv_mentions.specs.NameFaults.{place_if, is_type, is_port, is_port_if_own, undeclared, formal_undeclared, repeated, later, own_at, is_of_other_list, places_of, doubled, declared_words, contains, recursive, takes_other, miscounted, formals_of, undeclared_in, doubled_in, recursive_in, miscounted_in, name_faults}
 use Rattle.smv_mentions.specs.Sizes.{is_too_large}
 use Rattle.smv_mentions.specs.FirstFault.{first_of, faults_of_names, fault_at_main, fault_of_size, first_fault}
-use Rattle.law_designs.proofs.Faultless.{each-append, each-map}
+use Rattle.law_designs.proofs.Faultless.{each-map}
 use Rattle.law_fault_places.specs.TreePlaces.{WordIsWithin, WordsAreWithin, TextIsWithin}
 use Rattle.law_fault_places.specs.FaultPlaces.{IsFaultOf}
-use Rattle.law_fault_places.proofs.TreeLists.{all-flat, all-filtered}
 use Rattle.law_fault_places.proofs.Firsts.{first-one, either-one, AreUpTo, lists-placed, placed-if, named-one, mapped-one, unwrapped-one}
 use Rattle.law_fault_places.specs.NameFaultPlaces.{numbers_of_names}
 use Rattle.law_fault_places.proofs.Said.{MentionIsWithin, AreSaidWithin}
@@ -23,7 +23,7 @@ use Rattle.law_fault_places.proofs.Scopes.{IsUpTo, IsPieceWithin, ArePiecesWithi
 
 module _ (n : ℕ) where
   both : (xs ys : List ℕ) → AreUpTo n xs → AreUpTo n ys → AreUpTo n (xs ++ ys)
-  both xs ys h g = each-append (IsUpTo n) xs ys h g
+  both xs ys h g = each_append (IsUpTo n) xs ys h g
 
   -- ---- fault 7
 
@@ -57,7 +57,7 @@ module _ (n : ℕ) where
   doubled-within scope good (has_fields words) h = repeated-within [] words h
   doubled-within scope good (lists_constants words) h =
       let test = λ (word : Word). is_of_other_list words (find_name scope.constants word.name) in
-      both (repeated [] words) (places_of (filter test words)) (repeated-within [] words h) (each-map (WordIsWithin n) (IsUpTo n) (λ (word : Word). word.at) (λ word own. own) (filter test words) (all-filtered (WordIsWithin n) test words h))
+      both (repeated [] words) (places_of (filter test words)) (repeated-within [] words h) (each-map (WordIsWithin n) (IsUpTo n) (λ (word : Word). word.at) (λ word own. own) (filter test words) (each_filter (WordIsWithin n) test words h))
   doubled-within scope good (declares word what) h = later-within (constant_at scope word.name) word.at (constant-within n scope good word.name) h
   doubled-within scope good (binds bound var) h =
       both ((later bound var.at) ++ (later (constant_at scope var.name) var.at)) (later (own_at scope var.name) var.at)
@@ -107,37 +107,37 @@ module _ (n : ℕ) where
         let scope = scope_of tops piece in
         let inside = scope-within n tops good piece own in
         both (flat_map (formal_undeclared scope) (formals_of piece)) (flat_map (undeclared scope (formals_of piece)) piece.mentions)
-        (all-flat (WordIsWithin n) (IsUpTo n) (formal_undeclared scope) (formal-within scope) (formals_of piece) (formals-of piece own))
-        (all-flat (MentionIsWithin n) (IsUpTo n) (undeclared scope (formals_of piece)) (undeclared-within scope inside (formals_of piece)) piece.mentions own.said)
+        (each_flat_map (WordIsWithin n) (IsUpTo n) (formal_undeclared scope) (formal-within scope) (formals_of piece) (formals-of piece own))
+        (each_flat_map (MentionIsWithin n) (IsUpTo n) (undeclared scope (formals_of piece)) (undeclared-within scope inside (formals_of piece)) piece.mentions own.said)
 
     doubled-in : (piece : Piece) → IsPieceWithin n piece → AreUpTo n (doubled_in tops piece)
     doubled-in piece own =
         let scope = scope_of tops piece in
         let inside = scope-within n tops good piece own in
         both ((repeated [] (formals_of piece)) ++ (repeated [] (declared_words piece.mentions))) (flat_map (doubled scope) piece.mentions)
-        (both (repeated [] (formals_of piece)) (repeated [] (declared_words piece.mentions)) (repeated-within [] (formals_of piece) (formals-of piece own)) (repeated-within [] (declared_words piece.mentions) (declared-within piece.mentions own.said))) (all-flat (MentionIsWithin n) (IsUpTo n) (doubled scope) (doubled-within scope inside) piece.mentions own.said)
+        (both (repeated [] (formals_of piece)) (repeated [] (declared_words piece.mentions)) (repeated-within [] (formals_of piece) (formals-of piece own)) (repeated-within [] (declared_words piece.mentions) (declared-within piece.mentions own.said))) (each_flat_map (MentionIsWithin n) (IsUpTo n) (doubled scope) (doubled-within scope inside) piece.mentions own.said)
 
     recursive-in : (piece : Piece) → IsPieceWithin n piece → AreUpTo n (recursive_in tops piece)
-    recursive-in piece own = all-flat (MentionIsWithin n) (IsUpTo n) (recursive tops piece.word.name) (recursive-within tops piece.word.name) piece.mentions own.said
+    recursive-in piece own = each_flat_map (MentionIsWithin n) (IsUpTo n) (recursive tops piece.word.name) (recursive-within tops piece.word.name) piece.mentions own.said
 
     miscounted-in : (piece : Piece) → IsPieceWithin n piece → AreUpTo n (miscounted_in tops piece)
-    miscounted-in piece own = all-flat (MentionIsWithin n) (IsUpTo n) (miscounted tops) (miscounted-within tops) piece.mentions own.said
+    miscounted-in piece own = each_flat_map (MentionIsWithin n) (IsUpTo n) (miscounted tops) (miscounted-within tops) piece.mentions own.said
 
     all-within : AllByRecursion (λ (p : ℕ × List ℕ). (list_any (nat_eq p.0) numbers_of_names ≡ true) × AreUpTo n p.1) (name_faults tops)
     all-within = (
-      (refl, all-flat (IsPieceWithin n) (IsUpTo n) (undeclared_in tops) undeclared-in tops good),
+      (refl, each_flat_map (IsPieceWithin n) (IsUpTo n) (undeclared_in tops) undeclared-in tops good),
       (
         (
           refl,
           both (repeated [] (map (λ (piece : Piece). piece.word) tops)) (flat_map (doubled_in tops) tops)
               (repeated-within [] (map (λ (piece : Piece). piece.word) tops) (each-map (IsPieceWithin n) (WordIsWithin n) (λ (piece : Piece). piece.word) (λ piece own. own.word) tops good))
-              (all-flat (IsPieceWithin n) (IsUpTo n) (doubled_in tops) doubled-in tops good),
+              (each_flat_map (IsPieceWithin n) (IsUpTo n) (doubled_in tops) doubled-in tops good),
         ),
         (
           (refl, placed-if n (is_none (module_named tops main)) 0 (omega arith)),
           (
-            (refl, all-flat (IsPieceWithin n) (IsUpTo n) (recursive_in tops) recursive-in tops good),
-            ((refl, all-flat (IsPieceWithin n) (IsUpTo n) (miscounted_in tops) miscounted-in tops good), tt),
+            (refl, each_flat_map (IsPieceWithin n) (IsUpTo n) (recursive_in tops) recursive-in tops good),
+            ((refl, each_flat_map (IsPieceWithin n) (IsUpTo n) (miscounted_in tops) miscounted-in tops good), tt),
           ),
         ),
       ),

@@ -1,6 +1,7 @@
 -- Operands made of operands within a number are within it, and so are the faults in types.
 use Rattle.std.proofs.Common.{◌≡◌, ◌≤◌, ℕ, Bool, true, not, ◌||◌, List, [], ◌∷◌, ◌++◌, zip, Option, Some, None, nat_eq, nat_lt, refl, arith}
 use Rattle.std.specs.List.{AllByRecursion, flat_map, list_any}
+use Rattle.law_lists.proofs.Each.{each_flat_map, each_append}
 use Rattle.smv_core.specs.declared.fault.Fault.{Fault}
 use Rattle.smv_core.specs.declared.tree.Op.{Op}
 use Rattle.smv_core.specs.declared.tree.Op.TheVariants.{Equal, Differ, Less, AtMost, Greater, AtLeast}
@@ -12,10 +13,9 @@ use Rattle.law_designs.specs.Kinds.{Kind, no_kind, joins, joined, accepts, is_nu
 use Rattle.law_designs.specs.Types.{Whole, Types, index_kind, is_reversed, range_faults, size_faults, is_index, index_faults, type_faults, field_faults}
 use Rattle.law_designs.specs.References.{reference}
 use Rattle.law_designs.specs.Operands.{compared, remainder}
-use Rattle.law_designs.proofs.Faultless.{each-append}
 use Rattle.law_fault_places.specs.TreePlaces.{TypeIsWithin, FieldsAreWithin}
 use Rattle.law_fault_places.specs.FaultPlaces.{IsFaultOf}
-use Rattle.law_fault_places.proofs.TreeLists.{all-flat, zipped-all}
+use Rattle.law_fault_places.proofs.TreeLists.{zipped-all}
 use Rattle.law_fault_places.proofs.Firsts.{faults-placed, placed-if}
 use Rattle.law_fault_places.specs.KindFaultPlaces.{numbers_of_kinds}
 
@@ -27,7 +27,7 @@ module _ (n : ℕ) where
   AreWithin faults = AllByRecursion IsWithin faults
 
   pub both : (xs ys : List Fault) → AreWithin xs → AreWithin ys → AreWithin (xs ++ ys)
-  both xs ys h g = each-append IsWithin xs ys h g
+  both xs ys h g = each_append IsWithin xs ys h g
 
   -- a fault of these numbers where a rule is broken
   pub placed : (number : ℕ) → list_any (nat_eq number) numbers_of_kinds ≡ true → (b : Bool) (at : ℕ) → at ≤ n → AreWithin (faults_at (number, place_if b at))
@@ -71,7 +71,7 @@ module _ (n : ℕ) where
   first-within (e ∷ more) h = h.0.place
 
   pub numbers-within : (es : List Operand) → AreOperandsWithin es → IsOperandWithin (of_numbers es)
-  numbers-within es h = record { place = first-within es h; faults = all-flat IsOperandWithin IsWithin takes_number takes_number-within es h }
+  numbers-within es h = record { place = first-within es h; faults = each_flat_map IsOperandWithin IsWithin takes_number takes_number-within es h }
 
   pub of_alike-within : (es : List Operand) → AreOperandsWithin es → IsOperandWithin (of_alike es)
   of_alike-within es h = record { place = first-within es h; faults = alike-within es h }
@@ -106,11 +106,11 @@ module _ (n : ℕ) where
   unfolding reference
   reference-within at None indexes h g = record {
     place = h;
-    faults = both (faults_at (12, at ∷ [])) (flat_map (λ (e : Operand). e.faults) indexes) (one-placed 12 refl at h) (all-flat IsOperandWithin IsWithin (λ (e : Operand). e.faults) (λ e own. own.faults) indexes g);
+    faults = both (faults_at (12, at ∷ [])) (flat_map (λ (e : Operand). e.faults) indexes) (one-placed 12 refl at h) (each_flat_map IsOperandWithin IsWithin (λ (e : Operand). e.faults) (λ e own. own.faults) indexes g);
   }
   reference-within at (Some w) indexes h g = record {
     place = h;
-    faults = all-flat (λ (p : Kind × Operand). IsOperandWithin p.1) IsWithin (λ (p : Kind × Operand). takes p.0 p.1) (λ p own. takes-within p.0 p.1 own) (zip w.over indexes) (zipped-all IsOperandWithin w.over indexes g);
+    faults = each_flat_map (λ (p : Kind × Operand). IsOperandWithin p.1) IsWithin (λ (p : Kind × Operand). takes p.0 p.1) (λ p own. takes-within p.0 p.1 own) (zip w.over indexes) (zipped-all IsOperandWithin w.over indexes g);
   }
 
   -- ---- types

@@ -2,6 +2,7 @@
 use Rattle.std.proofs.Common.{◌≡◌, ◌≤◌, ◌&&◌, ◌||◌, ℕ, Bool, true, false, cond, List, [], ◌∷◌, length, slice_get, Option, Some, None, IfSome, nat_eq, nat_le, nat_lt, unwrap_or, refl, arith}
 use Rattle.std.specs.List.{AllByRecursion, flat_map, list_any, list_all}
 use Rattle.std.specs.Option.{option_to_list}
+use Rattle.law_lists.proofs.Each.{each_in_any}
 use Rattle.smv_core.specs.declared.fault.Fault.{Fault}
 use Rattle.smv_core.specs.declared.flat.Def.{Def}
 use Rattle.smv_core.specs.declared.flat.Claim.{Claim}
@@ -18,7 +19,7 @@ use Rattle.law_obligations.specs.Units.{units_of}
 use Rattle.law_problems.specs.Parts.{place_of_unit, fault_at_unit, bits_with, cases_fault, width_fault}
 use Rattle.law_valid_texts.specs.Faults.{first_there, parts_of, faults_of_cases, faults_of_widths}
 use Rattle.law_fault_places.specs.FaultPlaces.{IsFaultOf}
-use Rattle.law_fault_places.proofs.TreeLists.{any-flat, all-found}
+use Rattle.law_fault_places.proofs.TreeLists.{all-found}
 use Rattle.law_fault_places.proofs.Firsts.{first-one}
 use Rattle.law_fault_places.specs.FlatPlaces.{ClaimIsWithin, DefIsWithin, DesignIsWithin}
 use Rattle.law_fault_places.specs.NameFaultPlaces.{numbers_of_names}
@@ -83,13 +84,13 @@ module _ (n : ℕ) where
 
     cases-within : AllByRecursion Stands (faults_of_cases d)
     cases-within =
-        any-flat Stands (λ (p : Leaf × Choice). option_to_list (cases_fault d p.0 p.1))
+        each_in_any Stands (λ (p : Leaf × Choice). option_to_list (cases_fault d p.0 p.1))
         (λ p. listed-if (nat_lt 8 (length p.0.params) || nat_lt 4096 (length (leaf_cases d.sets p.0.params p.1.keeps))) 29 p.0 (omega arith, omega arith)) (parts_of d)
 
     widths-within : AllByRecursion Stands (faults_of_widths d)
     widths-within =
-        any-flat Stands (λ (p : Leaf × Choice). flat_map (λ (classes : List Class). option_to_list (width_fault d p.0 p.1 classes)) (leaf_cases d.sets p.0.params p.1.keeps))
-        (λ p. any-flat Stands (λ (classes : List Class). option_to_list (width_fault d p.0 p.1 classes)) (λ classes. listed-if (nat_lt 1024 (bits_with d p.0 p.1 classes)) 30 p.0 (omega arith, omega arith))
+        each_in_any Stands (λ (p : Leaf × Choice). flat_map (λ (classes : List Class). option_to_list (width_fault d p.0 p.1 classes)) (leaf_cases d.sets p.0.params p.1.keeps))
+        (λ p. each_in_any Stands (λ (classes : List Class). option_to_list (width_fault d p.0 p.1 classes)) (λ classes. listed-if (nat_lt 1024 (bits_with d p.0 p.1 classes)) 30 p.0 (omega arith, omega arith))
         (leaf_cases d.sets p.0.params p.1.keeps)) (parts_of d)
 
   -- ---- all passes

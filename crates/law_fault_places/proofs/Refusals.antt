@@ -24,7 +24,7 @@ fault-within form trees passes command text _ _ (malformed number at short has) 
     let w = form text number at has in
     record { lowest = w.0; highest = (let le = w.1 in omega (arith, le)); place = w.2 }
 fault-within form trees passes command text _ _ (faulty tree fault asks is found) =
-    found-within (length text) (pass_fault tree) fault found (passes (length text) tree (trees text tree (is.tokens, is.are_tokens, is.spelled)))
+    found-within (length text) (pass_fault tree) fault found (passes (length text) tree (trees text tree is.spelled))
 fault-within form trees passes _ text _ _ (unnamed name nodes steps none) = record { lowest = omega arith; highest = omega arith; place = omega arith }
 
 abbrev is_refused : Status → Bool

@@ -2,6 +2,7 @@
 use Rattle.std.proofs.Common.{◌≤◌, ℕ, Bool, true, false, cond, List, [], ◌∷◌, ◌++◌, length, Option, Some, None, IfSome, arith}
 use Rattle.std.specs.Str.{bytes_eq}
 use Rattle.std.specs.List.{AllByRecursion, flat_map}
+use Rattle.law_lists.proofs.Each.{each_flat_map, each_append}
 use Rattle.smv_core.specs.Values.{Name}
 use Rattle.smv_core.specs.declared.tree.Word.{Word}
 use Rattle.smv_core.specs.declared.tree.Pair.{Pair}
@@ -16,9 +17,8 @@ use Rattle.smv_core.specs.declared.tree.Item.{Item, Declare, Instance, Layer, Cl
 use Rattle.smv_core.specs.declared.tree.Item as item
 use Rattle.smv_mentions.specs.Mentions.{What, signal, instance, Mention, declares, binds, follows, names_type, lists_constants, has_fields, instantiates, first_place, bound_at, path_in, binder_in, fields_in, in_type, in_fields, in_expr, in_row, in_parts, in_sum, in_members, in_held, in_part, in_path, in_stmt, in_block, in_branch, in_arms, declared_as, in_item, in_items}
 use Rattle.smv_mentions.specs.Scopes.{words_of}
-use Rattle.law_designs.proofs.Faultless.{each-append, each-map}
+use Rattle.law_designs.proofs.Faultless.{each-map}
 use Rattle.law_fault_places.specs.TreePlaces.{WordIsWithin, WordsAreWithin, TypeIsWithin, FieldsAreWithin, ExprIsWithin, RowIsWithin, PartsAreWithin, TermsAreWithin, MembersAreWithin, ConditionIsWithin, ExprsAreWithin, PartIsWithin, PathIsWithin, StatementIsWithin, StatementsAreWithin, BranchIsWithin, ArmsAreWithin, PairIsWithin, ItemIsWithin, ItemsAreWithin}
-use Rattle.law_fault_places.proofs.TreeLists.{all-flat}
 use Rattle.law_fault_places.proofs.TreeForms.{row-parts}
 
 module _ (n : ℕ) where
@@ -36,7 +36,7 @@ module _ (n : ℕ) where
   AreSaidWithin said = AllByRecursion MentionIsWithin said
 
   both : (xs ys : List Mention) → AreSaidWithin xs → AreSaidWithin ys → AreSaidWithin (xs ++ ys)
-  both xs ys h g = each-append MentionIsWithin xs ys h g
+  both xs ys h g = each_append MentionIsWithin xs ys h g
 
   -- ---- variables and paths
 
@@ -66,13 +66,13 @@ module _ (n : ℕ) where
   binder-said vars var v h = (bound-within vars var.name v, h)
 
   inside : (vars : List Word) (var : Word) → WordsAreWithin n vars → WordIsWithin n var → WordsAreWithin n (vars ++ var ∷ [])
-  inside vars var v h = each-append (WordIsWithin n) vars (var ∷ []) v (h, tt)
+  inside vars var v h = each_append (WordIsWithin n) vars (var ∷ []) v (h, tt)
 
   -- ---- types
 
   fields-words : {m : _} (row : Row_of-Field m) → FieldsAreWithin n row → WordsAreWithin n (fields_in row)
   fields-words end_of-Field h = tt
-  fields-words (more_of-Field names of at rest) h = each-append (WordIsWithin n) names (fields_in rest) h.0 (fields-words rest h.3)
+  fields-words (more_of-Field names of at rest) h = each_append (WordIsWithin n) names (fields_in rest) h.0 (fields-words rest h.3)
 
   mutual
     unfolding in_type in_fields
@@ -144,10 +144,10 @@ module _ (n : ℕ) where
 
   in_path-said : (vars : List Word) (path : Path) → WordsAreWithin n vars → PathIsWithin n path → AreSaidWithin (in_path vars path)
   unfolding in_path
-  in_path-said vars path v h = (path-said vars (out-Path path).parts v h.1, all-flat (PartIsWithin n) MentionIsWithin (in_part vars) (part-said vars v) (out-Path path).parts h.1)
+  in_path-said vars path v h = (path-said vars (out-Path path).parts v h.1, each_flat_map (PartIsWithin n) MentionIsWithin (in_part vars) (part-said vars v) (out-Path path).parts h.1)
 
   exprs-said : (vars : List Word) (es : List Expr) → WordsAreWithin n vars → ExprsAreWithin n es → AreSaidWithin (flat_map (in_expr vars) es)
-  exprs-said vars es v h = all-flat (ExprIsWithin n) MentionIsWithin (in_expr vars) (λ e own. expr-said vars e v own) es h
+  exprs-said vars es v h = each_flat_map (ExprIsWithin n) MentionIsWithin (in_expr vars) (λ e own. expr-said vars e v own) es h
 
   -- ---- statements
 
@@ -191,12 +191,12 @@ module _ (n : ℕ) where
     item-said vars (Declare role words of at) v h = both (declared_as (signal role of) words) (in_type of) (declared-said (signal role of) words h.0) (type-said of h.1)
     item-said vars (Instance words name args at) v h =
         both (declared_as (instance name) words) (instantiates name (length args) ∷ flat_map (in_expr vars) args) (declared-said (instance name) words h.0) (h.1, exprs-said vars args v h.2)
-    item-said vars (Layer word body at) v h = all-flat (StatementIsWithin n) MentionIsWithin (in_stmt vars) (λ act own. stmt-said vars act v own) body h.1
+    item-said vars (Layer word body at) v h = each_flat_map (StatementIsWithin n) MentionIsWithin (in_stmt vars) (λ act own. stmt-said vars act v own) body h.1
     item-said vars (item.Forall' var over shape (more_of-Item body end_of-Item) at) v h =
         (binder-said vars var v h.1, both (in_type over) (in_item (vars ++ var ∷ []) body) (type-said over h.2) (item-said (vars ++ var ∷ []) body (inside vars var v h.1) h.3))
     item-said vars (item.Block' shape items) v h = items-said vars items v h
     item-said vars (Claim word brackets body at) v h = (h.0, expr-said vars body v h.2)
-    item-said vars (Split word brackets of pairs at) v h = (h.0, all-flat (PairIsWithin n) MentionIsWithin (λ (pair : Pair). in_expr vars pair.left) (λ pair own. expr-said vars pair.left v own.0) pairs h.3)
+    item-said vars (Split word brackets of pairs at) v h = (h.0, each_flat_map (PairIsWithin n) MentionIsWithin (λ (pair : Pair). in_expr vars pair.left) (λ pair own. expr-said vars pair.left v own.0) pairs h.3)
     item-said vars (Using uses proves at) v h = tt
     item-said vars (Act act) v h = stmt-said vars act v h
 

@@ -2,6 +2,7 @@
 use Rattle.std.proofs.Common.{◌≤◌, ℕ, Bool, true, false, cond, List, [], ◌∷◌, map, Option, Some, None, IfSome}
 use Rattle.std.specs.List.{AllByRecursion}
 use Rattle.std.specs.Option.{option_map}
+use Rattle.law_lists.proofs.Each.{each_flat_map, each_append}
 use Rattle.smv_core.specs.Values.{Name}
 use Rattle.smv_core.specs.Types.{find_name, names_of}
 use Rattle.smv_core.specs.declared.tree.Word.{Word}
@@ -11,9 +12,8 @@ use Rattle.smv_core.specs.declared.tree.Text.{Text}
 use Rattle.smv_core.specs.declared.tree.TypeExpr.{TypeExpr, Boolean, Range, Enum, Named, Array', Struct', end_of-TypeExpr, more_of-TypeExpr, Row_of-Field, end_of-Field, more_of-Field}
 use Rattle.smv_mentions.specs.Mentions.{What, signal, instance, goal, Mention, declares, binds, follows, names_type, lists_constants, has_fields, instantiates, in_item}
 use Rattle.smv_mentions.specs.Scopes.{Fields, no_field, Known, fields_if_type, has_name, fields_of, field_among, known_after, Piece, piece_of, pieces_from, pieces, Body, body_if_module, module_named, Own, own_names, behind, Constant, constants_in, constants, Scope, scope_of, first_of_places, is_before, constant_at, resolved, path_places}
-use Rattle.law_designs.proofs.Faultless.{each-append, each-map}
+use Rattle.law_designs.proofs.Faultless.{each-map}
 use Rattle.law_fault_places.specs.TreePlaces.{WordIsWithin, WordsAreWithin, ItemIsWithin, TopIsWithin, TextIsWithin}
-use Rattle.law_fault_places.proofs.TreeLists.{all-flat}
 use Rattle.law_fault_places.proofs.Firsts.{AreUpTo, named-one, mapped-one, unwrapped-one}
 use Rattle.law_fault_places.proofs.Said.{MentionIsWithin, AreSaidWithin, type-said, item-said}
 
@@ -59,9 +59,9 @@ module _ (n : ℕ) where
           by false xs ys p q = q
 
   known-after : (known : Known) → IsKnownWithin known → (top : Top) → IsKnownWithin (known_after known top)
-  known-after known good (SetType word ordered span at) = each-append (λ (entry : Name × Option Fields). IfSome entry.1 AreFieldsWithin) known ((word.name, Some no_field) ∷ []) good (none-within, tt)
-  known-after known good (Alias word of at) = each-append (λ (entry : Name × Option Fields). IfSome entry.1 AreFieldsWithin) known ((word.name, Some (fields_of known of)) ∷ []) good (fields-within known good of, tt)
-  known-after known good (Module word formals body at) = each-append (λ (entry : Name × Option Fields). IfSome entry.1 AreFieldsWithin) known ((word.name, None) ∷ []) good (tt, tt)
+  known-after known good (SetType word ordered span at) = each_append (λ (entry : Name × Option Fields). IfSome entry.1 AreFieldsWithin) known ((word.name, Some no_field) ∷ []) good (none-within, tt)
+  known-after known good (Alias word of at) = each_append (λ (entry : Name × Option Fields). IfSome entry.1 AreFieldsWithin) known ((word.name, Some (fields_of known of)) ∷ []) good (fields-within known good of, tt)
+  known-after known good (Module word formals body at) = each_append (λ (entry : Name × Option Fields). IfSome entry.1 AreFieldsWithin) known ((word.name, None) ∷ []) good (tt, tt)
 
   -- ---- pieces and modules
 
@@ -74,7 +74,7 @@ module _ (n : ℕ) where
   piece-within : (known : Known) → IsKnownWithin known → (top : Top) → TopIsWithin n top → IsPieceWithin (piece_of known top)
   piece-within known good (SetType word ordered span at) h = record { word = h.0; formals = tt; known = good; said = tt }
   piece-within known good (Alias word of at) h = record { word = h.0; formals = tt; known = good; said = type-said n of h.1 }
-  piece-within known good (Module word formals body at) h = record { word = h.0; formals = h.1; known = good; said = all-flat (ItemIsWithin n) (MentionIsWithin n) (in_item []) (λ x own. item-said n [] x tt own) body h.2 }
+  piece-within known good (Module word formals body at) h = record { word = h.0; formals = h.1; known = good; said = each_flat_map (ItemIsWithin n) (MentionIsWithin n) (in_item []) (λ x own. item-said n [] x tt own) body h.2 }
 
   abbrev pub ArePiecesWithin : List Piece → Type 0
   ArePiecesWithin tops = AllByRecursion IsPieceWithin tops
@@ -126,7 +126,7 @@ module _ (n : ℕ) where
   listed-within : (said : List Mention) → AreSaidWithin n said → AreConstantsWithin (constants_in said)
   listed-within [] h = tt
   listed-within (lists_constants words ∷ more) h =
-      each-append (λ (entry : Name × Constant). entry.1.at ≤ n) (map (λ (word : Word). (word.name, record { at = word.at; names = names_of words })) words) (constants_in more)
+      each_append (λ (entry : Name × Constant). entry.1.at ≤ n) (map (λ (word : Word). (word.name, record { at = word.at; names = names_of words })) words) (constants_in more)
       (each-map (WordIsWithin n) (λ (entry : Name × Constant). entry.1.at ≤ n) (λ (word : Word). (word.name, record { at = word.at; names = names_of words })) (λ word own. own) words h.0) (listed-within more h.1)
   listed-within (declares word what ∷ more) h = listed-within more h.1
   listed-within (binds bound var ∷ more) h = listed-within more h.1
@@ -136,7 +136,7 @@ module _ (n : ℕ) where
   listed-within (instantiates word args ∷ more) h = listed-within more h.1
 
   pub constants-within : (tops : List Piece) → ArePiecesWithin tops → AreConstantsWithin (constants tops)
-  constants-within tops h = all-flat IsPieceWithin (λ (entry : Name × Constant). entry.1.at ≤ n) (λ (piece : Piece). constants_in piece.mentions) (λ piece own. listed-within piece.mentions own.said) tops h
+  constants-within tops h = each_flat_map IsPieceWithin (λ (entry : Name × Constant). entry.1.at ≤ n) (λ (piece : Piece). constants_in piece.mentions) (λ piece own. listed-within piece.mentions own.said) tops h
 
   -- ---- what is behind a name
 

@@ -1,6 +1,7 @@
 -- The first fault of set types stands at a place of the flattened text.
 use Rattle.std.proofs.Common.{◌≡◌, ◌≤◌, ℕ, Bool, true, false, ◌&&◌, cond, List, [], ◌∷◌, ◌++◌, map, filter, zip, slice_get, nat_eq, Option, Some, None, IfSome, refl, arith}
 use Rattle.std.specs.List.{AllByRecursion, flat_map, list_any}
+use Rattle.law_lists.proofs.Each.{each_flat_map, each_filter, each_append}
 use Rattle.smv_core.specs.declared.fault.Fault.{Fault}
 use Rattle.smv_core.specs.declared.tree.Op.{Op}
 use Rattle.smv_core.specs.declared.flat.Simple.{Simple}
@@ -16,9 +17,9 @@ use Rattle.smv_core.specs.declared.flat.FlatText.{FlatText}
 use Rattle.law_designs.specs.FlatKinds.{Kind, Vars, inside, value_in, bound_by, kind_of}
 use Rattle.law_designs.specs.SetOperands.{first_at, first_at_of, Operand, is_number, is_of_set, number_fault, met, wanted, wanted_at, wanted_of, is_order, lacks_order, disordered}
 use Rattle.law_designs.specs.SetFaults.{operand, operands, members_of, listed, faults_in, faults_each, faults_signed, faults_members, faults_held, faults_of, faults_of_each, item_faults, faults_of_sets, first_fault_of_sets}
-use Rattle.law_designs.proofs.Faultless.{each-append, each-map}
+use Rattle.law_designs.proofs.Faultless.{each-map}
 use Rattle.law_fault_places.specs.FaultPlaces.{IsFaultOf}
-use Rattle.law_fault_places.proofs.TreeLists.{all-flat, all-filtered, zipped-all}
+use Rattle.law_fault_places.proofs.TreeLists.{zipped-all}
 use Rattle.law_fault_places.proofs.Firsts.{first-one}
 use Rattle.law_fault_places.specs.FlatPlaces.{FlatExprIsWithin, FlatRowIsWithin, FlatTermsAreWithin, FlatMembersAreWithin, FlatConditionIsWithin, FlatExprsAreWithin, FlatPairIsWithin, ActIsWithin, ActsAreWithin, FlatItemIsWithin, FlatTextIsWithin}
 use Rattle.law_fault_places.specs.DesignFaultPlaces.{numbers_of_sets}
@@ -31,7 +32,7 @@ module _ (n : ℕ) where
   AreWithin faults = AllByRecursion IsWithin faults
 
   both : (xs ys : List Fault) → AreWithin xs → AreWithin ys → AreWithin (xs ++ ys)
-  both xs ys h g = each-append IsWithin xs ys h g
+  both xs ys h g = each_append IsWithin xs ys h g
 
   -- ---- places of expressions
 
@@ -80,7 +81,7 @@ module _ (n : ℕ) where
   met-within xs h = by (list_any (λ (x : Operand). is_of_set x.kind) xs)
     where
       by : (b : Bool) → AreWithin (cond b (map number_fault (filter (λ (x : Operand). is_number x.kind) xs)) [])
-      by true = each-map OperandIsWithin IsWithin number_fault number-within (filter (λ (x : Operand). is_number x.kind) xs) (all-filtered OperandIsWithin (λ (x : Operand). is_number x.kind) xs h)
+      by true = each-map OperandIsWithin IsWithin number_fault number-within (filter (λ (x : Operand). is_number x.kind) xs) (each_filter OperandIsWithin (λ (x : Operand). is_number x.kind) xs h)
       by false = tt
 
   wanted-within : (t : Simple) (x : Operand) → OperandIsWithin x → AreWithin (wanted t x)
@@ -92,7 +93,7 @@ module _ (n : ℕ) where
 
   wanted_at-within : (o : Option Family) (xs : List Operand) → OperandsAreWithin xs → AreWithin (wanted_at o xs)
   wanted_at-within None xs h = tt
-  wanted_at-within (Some f) xs h = all-flat (λ (p : Simple × Operand). OperandIsWithin p.1) IsWithin (λ (p : Simple × Operand). wanted p.0 p.1) (λ p own. wanted-within p.0 p.1 own) (zip f.over xs) (zipped-all OperandIsWithin f.over xs h)
+  wanted_at-within (Some f) xs h = each_flat_map (λ (p : Simple × Operand). OperandIsWithin p.1) IsWithin (λ (p : Simple × Operand). wanted p.0 p.1) (λ p own. wanted-within p.0 p.1 own) (zip f.over xs) (zipped-all OperandIsWithin f.over xs h)
 
   wanted_of-within : (o : Option Family) (x : Operand) → OperandIsWithin x → AreWithin (wanted_of o x)
   wanted_of-within None x h = tt
@@ -189,7 +190,7 @@ module _ (n : ℕ) where
           let f = slice_get flat_text.families family in
           both ((flat_map (of vars) left) ++ (wanted_at f (map (operand flat_text kind_at vars) left)) ++ (of vars value)) (wanted_of f (operand flat_text kind_at vars value))
           (both ((flat_map (of vars) left) ++ (wanted_at f (map (operand flat_text kind_at vars) left))) (of vars value)
-          (both (flat_map (of vars) left) (wanted_at f (map (operand flat_text kind_at vars) left)) (all-flat (FlatExprIsWithin n) IsWithin (of vars) (in-within vars) left h.1) (wanted_at-within f (map (operand flat_text kind_at vars) left) (left-within vars left h.1))) (in-within vars value h.2)) (wanted_of-within f (operand flat_text kind_at vars value) (first-place value h.2))
+          (both (flat_map (of vars) left) (wanted_at f (map (operand flat_text kind_at vars) left)) (each_flat_map (FlatExprIsWithin n) IsWithin (of vars) (in-within vars) left h.1) (wanted_at-within f (map (operand flat_text kind_at vars) left) (left-within vars left h.1))) (in-within vars value h.2)) (wanted_of-within f (operand flat_text kind_at vars value) (first-place value h.2))
       of-within vars (If' cond l (more_of-FlatStmt left end_of-FlatStmt) r (more_of-FlatStmt right end_of-FlatStmt)) h =
           both ((of vars cond) ++ (faults_of flat_text kind_at vars left)) (faults_of flat_text kind_at vars right) (both (of vars cond) (faults_of flat_text kind_at vars left) (in-within vars cond h.0) (of-within vars left h.1)) (of-within vars right h.2)
       of-within vars (Block' shape parts) h = of_each-within vars parts h
@@ -206,9 +207,9 @@ module _ (n : ℕ) where
     item-within : (x : FlatItem) → FlatItemIsWithin n x → AreWithin (item_faults flat_text kind_at x)
     item-within (item.Act layer act) h = of-within [] act h
     item-within (item.Claim c) h = in-within (bound_by flat_text c.params) c.body h.1
-    item-within (item.Split s) h = all-flat (FlatPairIsWithin n) IsWithin (λ (pair : FlatPair). of (bound_by flat_text s.bound) pair.left) (λ pair own. in-within (bound_by flat_text s.bound) pair.left own.0) s.pairs h.2
+    item-within (item.Split s) h = each_flat_map (FlatPairIsWithin n) IsWithin (λ (pair : FlatPair). of (bound_by flat_text s.bound) pair.left) (λ pair own. in-within (bound_by flat_text s.bound) pair.left own.0) s.pairs h.2
     item-within (item.Using u) h = tt
 
   pub first-within : (flat_text : FlatText) → FlatTextIsWithin n flat_text → IfSome (first_fault_of_sets flat_text) (IsFaultOf numbers_of_sets n)
   first-within flat_text h =
-      first-one (IsFaultOf numbers_of_sets n) (faults_of_sets flat_text) (all-flat (FlatItemIsWithin n) IsWithin (item_faults flat_text (value_in flat_text)) (item-within flat_text (value_in flat_text)) flat_text.items h)
+      first-one (IsFaultOf numbers_of_sets n) (faults_of_sets flat_text) (each_flat_map (FlatItemIsWithin n) IsWithin (item_faults flat_text (value_in flat_text)) (item-within flat_text (value_in flat_text)) flat_text.items h)

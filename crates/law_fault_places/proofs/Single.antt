@@ -1,6 +1,7 @@
 -- The first fault of single assignment stands at a place of the flattened text.
 use Rattle.std.proofs.Common.{◌≤◌, ℕ, Bool, not, List, [], ◌∷◌, ◌++◌, map, filter, Option, IfSome, refl}
 use Rattle.std.specs.List.{AllByRecursion, flat_map}
+use Rattle.law_lists.proofs.Each.{each_flat_map, each_in_any, each_filter, each_append}
 use Rattle.smv_core.specs.Types.{names_of}
 use Rattle.smv_core.specs.Outcome.{same_path}
 use Rattle.smv_core.specs.declared.flat.Claim.{Claim}
@@ -10,9 +11,8 @@ use Rattle.smv_core.specs.declared.flat.FlatStmt.{FlatStmt, Assign, If', Block',
 use Rattle.law_designs.specs.WholeText.{claims_of}
 use Rattle.law_designs.specs.Standing.{Statement, statements_of, Standing, standing, standing_in, assigned_by}
 use Rattle.law_designs.specs.SingleFaults.{later_places, meet, cross, conflicts, conflicts_in, conflicting, are_mixed, mixed, has_variables, lacking, unnamed, assigned_in, single_faults, faults_of_single, first_fault_of_single}
-use Rattle.law_designs.proofs.Faultless.{each-append, each-map}
+use Rattle.law_designs.proofs.Faultless.{each-map}
 use Rattle.law_fault_places.specs.FaultPlaces.{IsFaultOf}
-use Rattle.law_fault_places.proofs.TreeLists.{all-flat, all-filtered, any-flat}
 use Rattle.law_fault_places.proofs.Firsts.{first-one, AreUpTo, placed-if, lists-placed}
 use Rattle.law_fault_places.specs.FlatPlaces.{ActIsWithin, ActsAreWithin, ClaimIsWithin, FlatTextIsWithin}
 use Rattle.law_fault_places.proofs.DesignLaws.{SaidIsWithin, statements-within, StandingIsWithin, standing-within, standing_in-within, assigned-within, claims-within}
@@ -23,12 +23,12 @@ module _ (n : ℕ) where
   IsUpTo at = at ≤ n
 
   both : (xs ys : List ℕ) → AreUpTo n xs → AreUpTo n ys → AreUpTo n (xs ++ ys)
-  both xs ys h g = each-append IsUpTo xs ys h g
+  both xs ys h g = each_append IsUpTo xs ys h g
 
   later-within : (clash : Standing → Standing → Bool) (earlier later : List Standing) → AllByRecursion (StandingIsWithin n) later → AreUpTo n (later_places clash earlier later)
   later-within clash earlier later h =
-      any-flat IsUpTo (λ (a : Standing). map (λ (b : Standing). b.at) (filter (clash a) later))
-      (λ a. each-map (StandingIsWithin n) IsUpTo (λ (b : Standing). b.at) (λ b own. own.1) (filter (clash a) later) (all-filtered (StandingIsWithin n) (clash a) later h)) earlier
+      each_in_any IsUpTo (λ (a : Standing). map (λ (b : Standing). b.at) (filter (clash a) later))
+      (λ a. each-map (StandingIsWithin n) IsUpTo (λ (b : Standing). b.at) (λ b own. own.1) (filter (clash a) later) (each_filter (StandingIsWithin n) (clash a) later h)) earlier
 
   module _ (layer : Option ℕ) where
     mutual
@@ -50,7 +50,7 @@ module _ (n : ℕ) where
           (both (conflicts layer around part) (conflicts_in layer around rest) (conflicts-within around part h.0) (conflicts_in-within around rest h.1)) (later-within meet (standing layer around part) (standing_in layer around rest) (standing_in-within n layer around rest h.1))
 
   assigned-all : (statements : List Statement) → AllByRecursion (SaidIsWithin n) statements → AllByRecursion (StandingIsWithin n) (flat_map assigned_by statements)
-  assigned-all statements h = all-flat (SaidIsWithin n) (StandingIsWithin n) assigned_by (assigned-within n) statements h
+  assigned-all statements h = each_flat_map (SaidIsWithin n) (StandingIsWithin n) assigned_by (assigned-within n) statements h
 
   conflicting-within : (statements : List Statement) → AllByRecursion (SaidIsWithin n) statements → AreUpTo n (conflicting statements)
   conflicting-within [] h = tt
@@ -78,8 +78,8 @@ module _ (n : ℕ) where
           (
             (
               refl,
-              both (flat_map lacking (assigned_in flat_text)) (flat_map unnamed (claims_of flat_text.items)) (all-flat (StandingIsWithin n) IsUpTo lacking lacking-within (assigned_in flat_text) assigned)
-                  (all-flat (ClaimIsWithin n) IsUpTo unnamed unnamed-within (claims_of flat_text.items) (claims-within n flat_text.items h)),
+              both (flat_map lacking (assigned_in flat_text)) (flat_map unnamed (claims_of flat_text.items)) (each_flat_map (StandingIsWithin n) IsUpTo lacking lacking-within (assigned_in flat_text) assigned)
+                  (each_flat_map (ClaimIsWithin n) IsUpTo unnamed unnamed-within (claims_of flat_text.items) (claims-within n flat_text.items h)),
             ),
             tt,
           ),

@@ -2,6 +2,7 @@
 use Rattle.std.proofs.Common.{◌≡◌, ◌≤◌, ℕ, zero, suc, Bool, true, not, ◌&&◌, cond, List, [], ◌∷◌, ◌++◌, map, filter, zip, length, nat_eq, IfSome, refl}
 use Rattle.std.specs.Str.{bytes_eq}
 use Rattle.std.specs.List.{AllByRecursion, flat_map, list_any}
+use Rattle.law_lists.proofs.Each.{each_flat_map, each_in_any, each_filter, each_append}
 use Rattle.smv_core.specs.Values.{Name}
 use Rattle.smv_core.specs.declared.tree.Word.{Word}
 use Rattle.smv_core.specs.declared.flat.Design.{Design}
@@ -13,7 +14,7 @@ use Rattle.smv_core.specs.declared.flat.FlatPair.{FlatPair}
 use Rattle.smv_core.specs.declared.flat.FlatMember.{One, Span as SpanOf}
 use Rattle.smv_core.specs.declared.flat.FlatExpr.{FlatExpr, Number, Read', Var, Loop, Constant, Not', And', Or', Implies', Iff', Compare', Within', Sum', Modulo', Choose', All', Any', List', Each', Held-FlatExpr-Each-2, None', Some', Row_of-FlatExpr, end_of-FlatExpr, more_of-FlatExpr, Row_of-FlatMember, end_of-FlatMember, more_of-FlatMember, Row_of-FlatSigned, end_of-FlatSigned, more_of-FlatSigned}
 use Rattle.smv_mentions.specs.NameFaults.{place_if}
-use Rattle.law_designs.proofs.Faultless.{each-append, each-map}
+use Rattle.law_designs.proofs.Faultless.{each-map}
 use Rattle.law_obligations.specs.Outlines.{unit_in}
 use Rattle.law_obligations.specs.Units.{units_of}
 use Rattle.law_splits.specs.Variables.{Reading, readings, readings_each, readings_signed, readings_members, readings_held}
@@ -21,7 +22,7 @@ use Rattle.law_splits.specs.Leaves.{named_by, with_name, name_of, own_params, sp
 use Rattle.law_splits.specs.SplitFaults.{leads_to_unit, astray, split_again, names_one, bracketed, unbound, doubled, equations_of, not_in_one, not_new, is_of_kind, other_kind, is_stray, strays, miscounted, is_of_variables, same_type, other_type, misfits, mismatches, cuts, cuts_of, split_faults, faults_of_splits, first_fault_of_splits}
 use Rattle.law_fault_places.specs.TreePlaces.{WordIsWithin, WordsAreWithin}
 use Rattle.law_fault_places.specs.FaultPlaces.{IsFaultOf}
-use Rattle.law_fault_places.proofs.TreeLists.{all-flat, all-filtered, all-zipped, any-flat}
+use Rattle.law_fault_places.proofs.TreeLists.{all-zipped}
 use Rattle.law_fault_places.proofs.Firsts.{first-one, AreUpTo, placed-if, lists-placed}
 use Rattle.law_fault_places.specs.FlatPlaces.{FlatExprIsWithin, FlatRowIsWithin, FlatTermsAreWithin, FlatMembersAreWithin, FlatConditionIsWithin, FlatPairIsWithin, SplitIsWithin, DesignIsWithin}
 use Rattle.law_fault_places.specs.ProofFaultPlaces.{numbers_of_splits}
@@ -31,7 +32,7 @@ module _ (n : ℕ) where
   IsUpTo at = at ≤ n
 
   both : (xs ys : List ℕ) → AreUpTo n xs → AreUpTo n ys → AreUpTo n (xs ++ ys)
-  both xs ys h g = each-append IsUpTo xs ys h g
+  both xs ys h g = each_append IsUpTo xs ys h g
 
   -- ---- variables that are read
 
@@ -39,7 +40,7 @@ module _ (n : ℕ) where
   ReadingsAreWithin rs = AllByRecursion (λ (r : Reading). r.at ≤ n) rs
 
   join : (xs ys : List Reading) → ReadingsAreWithin xs → ReadingsAreWithin ys → ReadingsAreWithin (xs ++ ys)
-  join xs ys h g = each-append (λ (r : Reading). r.at ≤ n) xs ys h g
+  join xs ys h g = each_append (λ (r : Reading). r.at ≤ n) xs ys h g
 
   mutual
     readings-within : (e : FlatExpr) → FlatExprIsWithin n e → ReadingsAreWithin (readings e)
@@ -91,23 +92,23 @@ module _ (n : ℕ) where
   again-within (s ∷ more) h =
       let test = λ (t : FlatSplit). bytes_eq (named_by t.of) (named_by s.of) in
       both (map (λ (t : FlatSplit). t.of.at) (filter test more)) (split_again more)
-      (each-map (SplitIsWithin n) IsUpTo (λ (t : FlatSplit). t.of.at) (λ t own. own.1.3) (filter test more) (all-filtered (SplitIsWithin n) test more h.1)) (again-within more h.1)
+      (each-map (SplitIsWithin n) IsUpTo (λ (t : FlatSplit). t.of.at) (λ t own. own.1.3) (filter test more) (each_filter (SplitIsWithin n) test more h.1)) (again-within more h.1)
 
   -- ---- fault 24
 
   -- a place for each word
   pub words-placed : (test : Word → Bool) (words : List Word) → WordsAreWithin n words → AreUpTo n (flat_map (λ (word : Word). place_if (test word) word.at) words)
-  words-placed test words h = all-flat (WordIsWithin n) IsUpTo (λ (word : Word). place_if (test word) word.at) (λ word own. placed-if n (test word) word.at own) words h
+  words-placed test words h = each_flat_map (WordIsWithin n) IsUpTo (λ (word : Word). place_if (test word) word.at) (λ word own. placed-if n (test word) word.at own) words h
 
   pairs-placed : (test : FlatPair → Bool) (pairs : List FlatPair) → AllByRecursion (FlatPairIsWithin n) pairs → AreUpTo n (flat_map (λ (pair : FlatPair). place_if (test pair) pair.right.at) pairs)
-  pairs-placed test pairs h = all-flat (FlatPairIsWithin n) IsUpTo (λ (pair : FlatPair). place_if (test pair) pair.right.at) (λ pair own. placed-if n (test pair) pair.right.at own.1) pairs h
+  pairs-placed test pairs h = each_flat_map (FlatPairIsWithin n) IsUpTo (λ (pair : FlatPair). place_if (test pair) pair.right.at) (λ pair own. placed-if n (test pair) pair.right.at own.1) pairs h
 
   pub doubled-within : (words : List Word) → WordsAreWithin n words → AreUpTo n (doubled words)
   doubled-within [] h = tt
   doubled-within (word ∷ more) h =
       let test = λ (other : Word). bytes_eq other.name word.name in
       both (map (λ (other : Word). other.at) (filter test more)) (doubled more)
-      (each-map (WordIsWithin n) IsUpTo (λ (other : Word). other.at) (λ word own. own) (filter test more) (all-filtered (WordIsWithin n) test more h.1)) (doubled-within more h.1)
+      (each-map (WordIsWithin n) IsUpTo (λ (other : Word). other.at) (λ word own. own) (filter test more) (each_filter (WordIsWithin n) test more h.1)) (doubled-within more h.1)
 
   pub miscounted-within : (count : ℕ) (words : List Word) → WordsAreWithin n words → AreUpTo n (miscounted count words)
   miscounted-within count [] h = tt
@@ -115,13 +116,13 @@ module _ (n : ℕ) where
 
   strays-within : (s : FlatSplit) → AllByRecursion (FlatPairIsWithin n) s.pairs → AreUpTo n (strays s)
   strays-within s h =
-      all-flat (FlatPairIsWithin n) IsUpTo (λ (pair : FlatPair). map (λ (r : Reading). r.at) (filter (is_stray s) (readings pair.left)))
+      each_flat_map (FlatPairIsWithin n) IsUpTo (λ (pair : FlatPair). map (λ (r : Reading). r.at) (filter (is_stray s) (readings pair.left)))
       (λ pair own. each-map (λ (r : Reading). r.at ≤ n) IsUpTo (λ (r : Reading). r.at) (λ r le. le) (filter (is_stray s) (readings pair.left))
-      (all-filtered (λ (r : Reading). r.at ≤ n) (is_stray s) (readings pair.left) (readings-within pair.left own.0))) s.pairs h
+      (each_filter (λ (r : Reading). r.at ≤ n) (is_stray s) (readings pair.left) (readings-within pair.left own.0))) s.pairs h
 
   misfits-within : (families : List Family) (s : FlatSplit) → SplitIsWithin n s → AreUpTo n (misfits families s)
   misfits-within families s h =
-      let brackets : WordsAreWithin n (bracketed s) = each-append (WordIsWithin n) s.vars s.of.names h.0 h.1.1 in
+      let brackets : WordsAreWithin n (bracketed s) = each_append (WordIsWithin n) s.vars s.of.names h.0 h.1.1 in
       both ((unbound s) ++ (doubled (bracketed s)) ++ (not_in_one s) ++ (not_new s) ++ (other_kind families s)) (strays s)
       (both ((unbound s) ++ (doubled (bracketed s)) ++ (not_in_one s) ++ (not_new s)) (other_kind families s)
       (both ((unbound s) ++ (doubled (bracketed s)) ++ (not_in_one s)) (not_new s)
@@ -133,7 +134,7 @@ module _ (n : ℕ) where
 
   other_type-within : (c : Cut) → CutIsWithin c → AreUpTo n (other_type c)
   other_type-within c h =
-      all-flat (λ (p : Word × Param). WordIsWithin n p.0) IsUpTo (λ (p : Word × Param). place_if (is_of_variables p.1.over && list_any (λ (b : Param). not (same_type b.over p.1.over)) (with_name c.split.bound p.0)) p.0.at)
+      each_flat_map (λ (p : Word × Param). WordIsWithin n p.0) IsUpTo (λ (p : Word × Param). place_if (is_of_variables p.1.over && list_any (λ (b : Param). not (same_type b.over p.1.over)) (with_name c.split.bound p.0)) p.0.at)
       (λ p own. placed-if n (is_of_variables p.1.over && list_any (λ (b : Param). not (same_type b.over p.1.over)) (with_name c.split.bound p.0)) p.0.at own)
       (zip c.split.of.names c.params) (all-zipped (WordIsWithin n) c.split.of.names c.params h.1.1)
 
@@ -146,20 +147,20 @@ module _ (n : ℕ) where
     cuts-within : (k : ℕ) (name : Name) (params : List Param) → AllByRecursion CutIsWithin (cuts d k name params)
     cuts-within zero name params = tt
     cuts-within (suc k) name params =
-        all-flat (SplitIsWithin n) CutIsWithin (onward (cuts d k) params) (λ s own. (own, cuts-within k s.name (all_params (cut params s)))) (splits_of d name)
-        (all-filtered (SplitIsWithin n) (λ (s : FlatSplit). bytes_eq (named_by s.of) name) d.splits h.splits)
+        each_flat_map (SplitIsWithin n) CutIsWithin (onward (cuts d k) params) (λ s own. (own, cuts-within k s.name (all_params (cut params s)))) (splits_of d name)
+        (each_filter (SplitIsWithin n) (λ (s : FlatSplit). bytes_eq (named_by s.of) name) d.splits h.splits)
 
     cuts_of-within : AllByRecursion CutIsWithin (cuts_of d)
-    cuts_of-within = any-flat CutIsWithin (λ (unit : Unit). cuts d (length d.splits) (name_of d (unit_in d unit)) (own_params d (unit_in d unit))) (λ unit. cuts-within (length d.splits) (name_of d (unit_in d unit)) (own_params d (unit_in d unit))) (units_of d)
+    cuts_of-within = each_in_any CutIsWithin (λ (unit : Unit). cuts d (length d.splits) (name_of d (unit_in d unit)) (own_params d (unit_in d unit))) (λ unit. cuts-within (length d.splits) (name_of d (unit_in d unit)) (own_params d (unit_in d unit))) (units_of d)
 
     splits-placed : AllByRecursion (λ (p : ℕ × List ℕ). (list_any (nat_eq p.0) numbers_of_splits ≡ true) × AreUpTo n p.1) (split_faults d)
     splits-placed = (
-      (refl, both (flat_map (astray d) d.splits) (split_again d.splits) (all-flat (SplitIsWithin n) IsUpTo (astray d) (astray-within d) d.splits h.splits) (again-within d.splits h.splits)),
+      (refl, both (flat_map (astray d) d.splits) (split_again d.splits) (each_flat_map (SplitIsWithin n) IsUpTo (astray d) (astray-within d) d.splits h.splits) (again-within d.splits h.splits)),
       (
         (
           refl,
-          both (flat_map (misfits d.families) d.splits) (flat_map mismatches (cuts_of d)) (all-flat (SplitIsWithin n) IsUpTo (misfits d.families) (misfits-within d.families) d.splits h.splits)
-              (all-flat CutIsWithin IsUpTo mismatches mismatches-within (cuts_of d) cuts_of-within),
+          both (flat_map (misfits d.families) d.splits) (flat_map mismatches (cuts_of d)) (each_flat_map (SplitIsWithin n) IsUpTo (misfits d.families) (misfits-within d.families) d.splits h.splits)
+              (each_flat_map CutIsWithin IsUpTo mismatches mismatches-within (cuts_of d) cuts_of-within),
         ),
         tt,
       ),

@@ -3,6 +3,7 @@ use Rattle.std.proofs.Common.{◌≡◌, ◌≤◌, ℕ, Bool, true, not, List, 
 use Rattle.std.specs.Str.{bytes_eq}
 use Rattle.std.specs.List.{AllByRecursion, flat_map, list_any}
 use Rattle.std.specs.Option.{option_to_list}
+use Rattle.law_lists.proofs.Each.{each_flat_map, each_in_any, each_filter, each_append}
 use Rattle.smv_core.specs.declared.tree.Word.{Word}
 use Rattle.smv_core.specs.declared.tree.Ref.{Ref}
 use Rattle.smv_core.specs.declared.tree.Use.{Use}
@@ -23,10 +24,10 @@ use Rattle.law_uses.specs.declared.meaning.Meaning.TheVariants.{Definition, Clai
 use Rattle.law_uses.specs.Uses.{set_named, meaning_of, Used, used_by, used_in, Braces, braces_by, braces_in, pick_by, assumed_by, picks_in, assumed_in}
 use Rattle.law_uses.specs.Choices.{Proof, proofs_in, own_map, is_own}
 use Rattle.law_uses.specs.UseFaults.{later, leaf_named, unknown_uses, unknown_leaves, same_leaf, proved_again, same_map, same_family, chosen_again, proved_leaves, picked_again, assumed_again, braces_of_sets, kept_again, no_sets, is_param_over, proved_by, no_params, unbound_names, other_types, misnamed, use_faults, faults_of_uses, first_fault_of_uses}
-use Rattle.law_designs.proofs.Faultless.{each-append, each-map}
+use Rattle.law_designs.proofs.Faultless.{each-map}
 use Rattle.law_fault_places.specs.TreePlaces.{WordIsWithin, WordsAreWithin, RefIsWithin, UseIsWithin}
 use Rattle.law_fault_places.specs.FaultPlaces.{IsFaultOf}
-use Rattle.law_fault_places.proofs.TreeLists.{all-flat, all-filtered, all-zipped, any-flat, any-mapped}
+use Rattle.law_fault_places.proofs.TreeLists.{all-zipped, any-mapped}
 use Rattle.law_fault_places.proofs.Firsts.{first-one, AreUpTo, placed-if, lists-placed}
 use Rattle.law_fault_places.specs.FlatPlaces.{UsingIsWithin, DesignIsWithin}
 use Rattle.law_fault_places.specs.ProofFaultPlaces.{numbers_of_uses}
@@ -34,14 +35,14 @@ use Rattle.law_fault_places.proofs.SplitLaws.{words-placed, doubled-within, misc
 
 later-all : {X : Type 0} (P : X → Type 0) (clash : X → X → Bool) (xs : List X) → AllByRecursion P xs → AllByRecursion P (later clash xs)
 later-all P clash [] h = tt
-later-all P clash (x ∷ more) h = each-append P (filter (clash x) more) (later clash more) (all-filtered P (clash x) more h.1) (later-all P clash more h.1)
+later-all P clash (x ∷ more) h = each_append P (filter (clash x) more) (later clash more) (each_filter P (clash x) more h.1) (later-all P clash more h.1)
 
 module _ (n : ℕ) where
   abbrev IsUpTo : ℕ → Type 0
   IsUpTo at = at ≤ n
 
   both : (xs ys : List ℕ) → AreUpTo n xs → AreUpTo n ys → AreUpTo n (xs ++ ys)
-  both xs ys h g = each-append IsUpTo xs ys h g
+  both xs ys h g = each_append IsUpTo xs ys h g
 
   -- ---- what is used
 
@@ -54,7 +55,7 @@ module _ (n : ℕ) where
   used_by-within (Keep set names at) h = tt
 
   used-within : (uses : List Use) → AllByRecursion (UseIsWithin n) uses → AllByRecursion UsedIsWithin (used_in uses)
-  used-within uses h = all-flat (UseIsWithin n) UsedIsWithin used_by used_by-within uses h
+  used-within uses h = each_flat_map (UseIsWithin n) UsedIsWithin used_by used_by-within uses h
 
   abbrev BracesAreWithin : Braces → Type 0
   BracesAreWithin braces = WordIsWithin n braces.set × WordsAreWithin n braces.names
@@ -65,7 +66,7 @@ module _ (n : ℕ) where
   braces_by-within (Keep set names at) h = ((h.0, h.1), tt)
 
   braces-within : (uses : List Use) → AllByRecursion (UseIsWithin n) uses → AllByRecursion BracesAreWithin (braces_in uses)
-  braces-within uses h = all-flat (UseIsWithin n) BracesAreWithin braces_by braces_by-within uses h
+  braces-within uses h = each_flat_map (UseIsWithin n) BracesAreWithin braces_by braces_by-within uses h
 
   abbrev PicksAreWithin : List (ℕ × Pick) → Type 0
   PicksAreWithin picks = AllByRecursion (λ (p : ℕ × Pick). p.0 ≤ n) picks
@@ -82,23 +83,23 @@ module _ (n : ℕ) where
 
   -- a place for each reference
   refs-placed : (test : Ref → Bool) (refs : List Ref) → AllByRecursion (RefIsWithin n) refs → AreUpTo n (flat_map (λ (of : Ref). place_if (test of) of.at) refs)
-  refs-placed test refs h = all-flat (RefIsWithin n) IsUpTo (λ (of : Ref). place_if (test of) of.at) (λ of own. placed-if n (test of) of.at own.3) refs h
+  refs-placed test refs h = each_flat_map (RefIsWithin n) IsUpTo (λ (of : Ref). place_if (test of) of.at) (λ of own. placed-if n (test of) of.at own.3) refs h
 
   module _ (d : Design) where
     picks-within : (uses : List Use) → AllByRecursion (UseIsWithin n) uses → PicksAreWithin (picks_in d uses)
     picks-within uses h =
-        all-flat UsedIsWithin (λ (p : ℕ × Pick). p.0 ≤ n) (λ (used : Used). pick_by used (meaning_of d used.of)) (λ used own. pick-within used (meaning_of d used.of) own) (used_in uses) (used-within uses h)
+        each_flat_map UsedIsWithin (λ (p : ℕ × Pick). p.0 ≤ n) (λ (used : Used). pick_by used (meaning_of d used.of)) (λ used own. pick-within used (meaning_of d used.of) own) (used_in uses) (used-within uses h)
 
     assumed-within : (uses : List Use) → AllByRecursion (UseIsWithin n) uses → AllByRecursion (λ (p : ℕ × Assumed). p.0 ≤ n) (assumed_in d uses)
     assumed-within uses h =
-        all-flat UsedIsWithin (λ (p : ℕ × Assumed). p.0 ≤ n) (λ (used : Used). assumed_by used (meaning_of d used.of)) (λ used own. assumed_by-within used (meaning_of d used.of) own) (used_in uses) (used-within uses h)
+        each_flat_map UsedIsWithin (λ (p : ℕ × Assumed). p.0 ≤ n) (λ (used : Used). assumed_by used (meaning_of d used.of)) (λ used own. assumed_by-within used (meaning_of d used.of) own) (used_in uses) (used-within uses h)
 
     -- ---- fault 26
 
     unknown-within : (leaves : List Leaf) (using : FlatUsing) → UsingIsWithin n using → AreUpTo n (unknown_uses d using ++ unknown_leaves leaves using)
     unknown-within leaves using h =
         both (unknown_uses d using) (unknown_leaves leaves using)
-        (all-flat UsedIsWithin IsUpTo (λ (used : Used). place_if (is_none (meaning_of d used.of)) used.of.at) (λ used own. placed-if n (is_none (meaning_of d used.of)) used.of.at own.3) (used_in using.uses) (used-within using.uses h.0))
+        (each_flat_map UsedIsWithin IsUpTo (λ (used : Used). place_if (is_none (meaning_of d used.of)) used.of.at) (λ used own. placed-if n (is_none (meaning_of d used.of)) used.of.at own.3) (used_in using.uses) (used-within using.uses h.0))
         (refs-placed (λ of. is_none (leaf_named leaves of)) using.proves h.1)
 
     -- ---- fault 27
@@ -106,7 +107,7 @@ module _ (n : ℕ) where
     proofs-within : (uses : List FlatUsing) → AllByRecursion (UsingIsWithin n) uses → AllByRecursion (RefIsWithin n) (map (λ (proof : Proof). proof.of) (proofs_in uses))
     proofs-within uses h =
         each-map (λ (proof : Proof). RefIsWithin n proof.of) (RefIsWithin n) (λ (proof : Proof). proof.of) (λ proof own. own) (proofs_in uses)
-        (all-flat (UsingIsWithin n) (λ (proof : Proof). RefIsWithin n proof.of) (λ (using : FlatUsing). map (λ (of : Ref). record { using = using; of = of }) using.proves)
+        (each_flat_map (UsingIsWithin n) (λ (proof : Proof). RefIsWithin n proof.of) (λ (using : FlatUsing). map (λ (of : Ref). record { using = using; of = of }) using.proves)
         (λ using own. each-map (RefIsWithin n) (λ (proof : Proof). RefIsWithin n proof.of) (λ (of : Ref). record { using = using; of = of }) (λ of le. le) using.proves own.1) uses h)
 
     proved_again-within : (leaves : List Leaf) → AllByRecursion (UsingIsWithin n) d.uses → AreUpTo n (proved_again d leaves)
@@ -114,21 +115,21 @@ module _ (n : ℕ) where
         let refs = map (λ (proof : Proof). proof.of) (proofs_in d.uses) in
         let test = λ (of : Ref). is_some (leaf_named leaves of) in
         each-map (RefIsWithin n) IsUpTo (λ (of : Ref). of.at) (λ of own. own.3) (later same_leaf (filter test refs))
-        (later-all (RefIsWithin n) same_leaf (filter test refs) (all-filtered (RefIsWithin n) test refs (proofs-within d.uses h)))
+        (later-all (RefIsWithin n) same_leaf (filter test refs) (each_filter (RefIsWithin n) test refs (proofs-within d.uses h)))
 
     module _ (units : List Unit) (leaves : List Leaf) where
       chosen-within : (using : FlatUsing) → UsingIsWithin n using → (leaf : Leaf) → PicksAreWithin (chosen_again d units leaves using leaf)
       chosen-within using h leaf =
           let test = λ (p : ℕ × Pick). not (is_own (own_map d units leaf) p.1) in
-          later-all (λ (p : ℕ × Pick). p.0 ≤ n) same_family (filter test (picks_in d using.uses)) (all-filtered (λ (p : ℕ × Pick). p.0 ≤ n) test (picks_in d using.uses) (picks-within using.uses h.0))
+          later-all (λ (p : ℕ × Pick). p.0 ≤ n) same_family (filter test (picks_in d using.uses)) (each_filter (λ (p : ℕ × Pick). p.0 ≤ n) test (picks_in d using.uses) (picks-within using.uses h.0))
 
       picked-within : (using : FlatUsing) → UsingIsWithin n using → AreUpTo n (picked_again d units leaves using)
       picked-within using h =
           let own = later same_map (picks_in d using.uses) in
           let others = flat_map (chosen_again d units leaves using) (proved_leaves d units leaves using) in
           each-map (λ (p : ℕ × Pick). p.0 ≤ n) IsUpTo (λ (p : ℕ × Pick). p.0) (λ p le. le) (own ++ others)
-          (each-append (λ (p : ℕ × Pick). p.0 ≤ n) own others (later-all (λ (p : ℕ × Pick). p.0 ≤ n) same_map (picks_in d using.uses) (picks-within using.uses h.0))
-          (any-flat (λ (p : ℕ × Pick). p.0 ≤ n) (chosen_again d units leaves using) (chosen-within using h) (proved_leaves d units leaves using)))
+          (each_append (λ (p : ℕ × Pick). p.0 ≤ n) own others (later-all (λ (p : ℕ × Pick). p.0 ≤ n) same_map (picks_in d using.uses) (picks-within using.uses h.0))
+          (each_in_any (λ (p : ℕ × Pick). p.0 ≤ n) (chosen_again d units leaves using) (chosen-within using h) (proved_leaves d units leaves using)))
 
     assumed_again-within : (using : FlatUsing) → UsingIsWithin n using → AreUpTo n (assumed_again d using)
     assumed_again-within using h =
@@ -141,7 +142,7 @@ module _ (n : ℕ) where
         let test = λ (braces : Braces). is_some (set_named d braces.set.name) in
         let clash = λ (braces other : Braces). bytes_eq braces.set.name other.set.name in
         each-map BracesAreWithin IsUpTo (λ (braces : Braces). braces.set.at) (λ braces own. own.0) (later clash (braces_of_sets d using))
-        (later-all BracesAreWithin clash (braces_of_sets d using) (all-filtered BracesAreWithin test (braces_in using.uses) (braces-within using.uses h.0)))
+        (later-all BracesAreWithin clash (braces_of_sets d using) (each_filter BracesAreWithin test (braces_in using.uses) (braces-within using.uses h.0)))
 
     again-within : (leaves : List Leaf) (using : FlatUsing) → UsingIsWithin n using → AreUpTo n (picked_again d (units_of d) leaves using ++ assumed_again d using ++ kept_again d using)
     again-within leaves using h =
@@ -151,28 +152,28 @@ module _ (n : ℕ) where
 
     no_sets-within : (using : FlatUsing) → UsingIsWithin n using → AreUpTo n (no_sets d using)
     no_sets-within using h =
-        all-flat BracesAreWithin IsUpTo (λ (braces : Braces). place_if (is_none (set_named d braces.set.name)) braces.set.at) (λ braces own. placed-if n (is_none (set_named d braces.set.name)) braces.set.at own.0)
+        each_flat_map BracesAreWithin IsUpTo (λ (braces : Braces). place_if (is_none (set_named d braces.set.name)) braces.set.at) (λ braces own. placed-if n (is_none (set_named d braces.set.name)) braces.set.at own.0)
         (braces_in using.uses) (braces-within using.uses h.0)
 
     module _ (leaves : List Leaf) where
       no_params-within : (using : FlatUsing) → UsingIsWithin n using → AreUpTo n (no_params d leaves using)
       no_params-within using h =
-          all-flat BracesAreWithin IsUpTo
+          each_flat_map BracesAreWithin IsUpTo
           (λ (braces : Braces). flat_map (λ (set : ℕ). flat_map (λ (word : Word). flat_map (λ (p : Ref × Leaf). place_if (not (is_param_over set p.0 p.1 word)) word.at) (proved_by d leaves using)) braces.names) (option_to_list (set_named d braces.set.name)))
-          (λ braces own. any-flat IsUpTo (λ (set : ℕ). flat_map (λ (word : Word). flat_map (λ (p : Ref × Leaf). place_if (not (is_param_over set p.0 p.1 word)) word.at) (proved_by d leaves using)) braces.names)
-          (λ set. all-flat (WordIsWithin n) IsUpTo (λ (word : Word). flat_map (λ (p : Ref × Leaf). place_if (not (is_param_over set p.0 p.1 word)) word.at) (proved_by d leaves using))
-          (λ word le. any-flat IsUpTo (λ (p : Ref × Leaf). place_if (not (is_param_over set p.0 p.1 word)) word.at) (λ p. placed-if n (not (is_param_over set p.0 p.1 word)) word.at le) (proved_by d leaves using))
+          (λ braces own. each_in_any IsUpTo (λ (set : ℕ). flat_map (λ (word : Word). flat_map (λ (p : Ref × Leaf). place_if (not (is_param_over set p.0 p.1 word)) word.at) (proved_by d leaves using)) braces.names)
+          (λ set. each_flat_map (WordIsWithin n) IsUpTo (λ (word : Word). flat_map (λ (p : Ref × Leaf). place_if (not (is_param_over set p.0 p.1 word)) word.at) (proved_by d leaves using))
+          (λ word le. each_in_any IsUpTo (λ (p : Ref × Leaf). place_if (not (is_param_over set p.0 p.1 word)) word.at) (λ p. placed-if n (not (is_param_over set p.0 p.1 word)) word.at le) (proved_by d leaves using))
           braces.names own.1) (option_to_list (set_named d braces.set.name)))
           (braces_in using.uses) (braces-within using.uses h.0)
 
       proved_by-within : (using : FlatUsing) → UsingIsWithin n using → AllByRecursion (λ (p : Ref × Leaf). RefIsWithin n p.0) (proved_by d leaves using)
       proved_by-within using h =
-          all-flat (RefIsWithin n) (λ (p : Ref × Leaf). RefIsWithin n p.0) (λ (of : Ref). map (λ (leaf : Leaf). (of, leaf)) (option_to_list (leaf_named leaves of)))
+          each_flat_map (RefIsWithin n) (λ (p : Ref × Leaf). RefIsWithin n p.0) (λ (of : Ref). map (λ (leaf : Leaf). (of, leaf)) (option_to_list (leaf_named leaves of)))
           (λ of own. any-mapped (λ (p : Ref × Leaf). RefIsWithin n p.0) (λ (leaf : Leaf). (of, leaf)) (λ leaf. own) (option_to_list (leaf_named leaves of))) using.proves h.1
 
       other_types-within : (bound : List Param) (of : Ref) (leaf : Leaf) → RefIsWithin n of → AreUpTo n (other_types bound of leaf)
       other_types-within bound of leaf h =
-          all-flat (λ (p : Word × Param). WordIsWithin n p.0) IsUpTo (λ (p : Word × Param). place_if (list_any (λ (b : Param). not (same_type b.over p.1.over)) (with_name bound p.0)) p.0.at)
+          each_flat_map (λ (p : Word × Param). WordIsWithin n p.0) IsUpTo (λ (p : Word × Param). place_if (list_any (λ (b : Param). not (same_type b.over p.1.over)) (with_name bound p.0)) p.0.at)
           (λ p own. placed-if n (list_any (λ (b : Param). not (same_type b.over p.1.over)) (with_name bound p.0)) p.0.at own) (zip of.names leaf.params) (all-zipped (WordIsWithin n) of.names leaf.params h.1)
 
       misnamed-within : (bound : List Param) (p : Ref × Leaf) → RefIsWithin n p.0 → AreUpTo n (misnamed bound p)
@@ -184,20 +185,20 @@ module _ (n : ℕ) where
       misfit-within : (using : FlatUsing) → UsingIsWithin n using → AreUpTo n (no_sets d using ++ no_params d leaves using ++ flat_map (misnamed using.bound) (proved_by d leaves using))
       misfit-within using h =
           both ((no_sets d using) ++ (no_params d leaves using)) (flat_map (misnamed using.bound) (proved_by d leaves using))
-          (both (no_sets d using) (no_params d leaves using) (no_sets-within using h) (no_params-within using h)) (all-flat (λ (p : Ref × Leaf). RefIsWithin n p.0) IsUpTo (misnamed using.bound) (misnamed-within using.bound) (proved_by d leaves using) (proved_by-within using h))
+          (both (no_sets d using) (no_params d leaves using) (no_sets-within using h) (no_params-within using h)) (each_flat_map (λ (p : Ref × Leaf). RefIsWithin n p.0) IsUpTo (misnamed using.bound) (misnamed-within using.bound) (proved_by d leaves using) (proved_by-within using h))
 
   -- ---- the design
 
   uses-placed : (d : Design) (leaves : List Leaf) → DesignIsWithin n d → AllByRecursion (λ (p : ℕ × List ℕ). (list_any (nat_eq p.0) numbers_of_uses ≡ true) × AreUpTo n p.1) (use_faults d (units_of d) leaves)
   uses-placed d leaves h = (
-    (refl, all-flat (UsingIsWithin n) IsUpTo (λ (using : FlatUsing). unknown_uses d using ++ unknown_leaves leaves using) (unknown-within d leaves) d.uses h.uses),
+    (refl, each_flat_map (UsingIsWithin n) IsUpTo (λ (using : FlatUsing). unknown_uses d using ++ unknown_leaves leaves using) (unknown-within d leaves) d.uses h.uses),
     (
       (
         refl,
         both (proved_again d leaves) (flat_map (λ (using : FlatUsing). picked_again d (units_of d) leaves using ++ assumed_again d using ++ kept_again d using) d.uses) (proved_again-within d leaves h.uses)
-            (all-flat (UsingIsWithin n) IsUpTo (λ (using : FlatUsing). picked_again d (units_of d) leaves using ++ assumed_again d using ++ kept_again d using) (again-within d leaves) d.uses h.uses),
+            (each_flat_map (UsingIsWithin n) IsUpTo (λ (using : FlatUsing). picked_again d (units_of d) leaves using ++ assumed_again d using ++ kept_again d using) (again-within d leaves) d.uses h.uses),
       ),
-      ((refl, all-flat (UsingIsWithin n) IsUpTo (λ (using : FlatUsing). no_sets d using ++ no_params d leaves using ++ flat_map (misnamed using.bound) (proved_by d leaves using)) (misfit-within d leaves) d.uses h.uses), tt),
+      ((refl, each_flat_map (UsingIsWithin n) IsUpTo (λ (using : FlatUsing). no_sets d using ++ no_params d leaves using ++ flat_map (misnamed using.bound) (proved_by d leaves using)) (misfit-within d leaves) d.uses h.uses), tt),
     ),
   )
 

@@ -1,11 +1,12 @@
 -- Under the rule of conflicts at most one value of a `forall` variable gives a result.
-use Rattle.std.proofs.Common.{◌≡◌, ℕ, suc, ◌<◌, ◌≤◌, length-append, List, [], ◌∷◌, ◌++◌, map, zip, flat_map, length, Some, None, Option, true, false, Bool, cond, ◌&&◌, ◌||◌, ◌⊎◌, inl, inr, refl, sym, ap, ◌∙◌, subst, append_assoc, ⊎_elim, Contains, nat_eq, arith}
+use Rattle.std.proofs.Common.{◌≡◌, ℕ, suc, ◌<◌, ◌≤◌, length-append, List, [], ◌∷◌, ◌++◌, map, zip, flat_map, length, Some, None, Option, true, false, Bool, cond, ◌&&◌, ◌⊎◌, inl, inr, refl, sym, ap, ◌∙◌, subst, append_assoc, ⊎_elim, Contains, nat_eq, arith}
 use Rattle.std.specs.List.{list_any}
-use Rattle.std.proofs.lemmas.Bool.{ne_eqb, eq-eqb, eqb-true, not-true, not-false}
+use Rattle.std.proofs.lemmas.Bool.{ne_eqb, eq-eqb, eqb-true, not-true, not-false, or_cases}
 use Rattle.std.proofs.lemmas.Slice.Eq.{bytes_eq-Decides}
 use Rattle.std.specs.Str.{bytes_eq}
 use Rattle.std.specs.Option.{is_none}
 use Rattle.std.proofs.lemmas.List.Elements.{Contains-append_left, Contains-append_right}
+use Rattle.law_lists.proofs.Booleans.{not_left, not_right, left_of, right_of}
 use Rattle.smv_core.specs.Values.{Name, Path, Value, number, constant, scalar, ordinal, Outcome, Truth, truth, same, add, modulo}
 use Rattle.smv_core.specs.Types.{find_name, values_over, Family}
 use Rattle.smv_core.specs.Outcome.{State, Scene, Bindings, outcome, sum_with, read, or_signal, branch, fields_of, same_path, family_at, indexes}
@@ -121,14 +122,6 @@ fits-one b (fixed u) o v h k = subst (λ u. is_other u v ≡ false) h k
 fits-one b (bare n) o v h k = subst (λ u. is_other u v ≡ false) h.1 k
 fits-one b computed o v h k = tt
 
-or-left : (p q : Bool) → (p || q) ≡ false → p ≡ false
-or-left true q h = h
-or-left false q h = refl
-
-or-right : (p q : Bool) → (p || q) ≡ false → q ≡ false
-or-right true q h = absurd (cc)
-or-right false q h = h
-
 abbrev Gives : Walk → Type 0
 Gives w = is_none w ≡ false
 
@@ -156,14 +149,6 @@ gives-if every o None None h = absurd (none_gives (subst Gives (branch-same o) h
   where
     none_gives : true ≡ false → ⊥
     none_gives e = cc
-
-and-left : (p q : Bool) → (p && q) ≡ true → p ≡ true
-and-left true q h = refl
-and-left false q h = absurd (cc)
-
-and-right : (p q : Bool) → (p && q) ≡ true → q ≡ true
-and-right true q h = h
-and-right false q h = absurd (cc)
 
 module _ (scene : Scene) (s : State) (kind : Kind) (x : Element) (every : List Value) where
   abbrev given : Stmt → Bindings → Walk
@@ -209,8 +194,8 @@ module _ (scene : Scene) (s : State) (kind : Kind) (x : Element) (every : List V
   fit-all around b h [] vs k = tt
   fit-all around b h (e ∷ es) [] k = tt
   fit-all around b h (e ∷ es) (v ∷ vs) k = (
-    fits-one b (index_of around e) (outcome scene s e b) v (denotes scene s around b h e) (or-left (is_other (outcome scene s e b) v) _ k),
-    fit-all around b h es vs (or-right (is_other (outcome scene s e b) v) _ k),
+    fits-one b (index_of around e) (outcome scene s e b) v (denotes scene s around b h e) (not_left (is_other (outcome scene s e b) v) _ k),
+    fit-all around b h es vs (not_right (is_other (outcome scene s e b) v) _ k),
   )
 
   found-if : (o : Truth) (v w : Walk) (all more : List Assigned) (b : Bindings) → (Gives v → Found all b) → (Gives w → Found more b) → Gives (if_walk every o v w) → Found (all ++ more) b
@@ -278,9 +263,9 @@ pub same-is : (u v : Value) → same u v ≡ true → u ≡ v
 same-is (number m) (number n) h = ap number (eqb-true m n h)
 same-is (constant m) (constant n) h = ap constant ((bytes_eq-Decides m n).0 h)
 same-is (scalar t m) (scalar u n) h =
-    ap (λ t. scalar t m) ((bytes_eq-Decides t u).0 (and-left (bytes_eq t u) (nat_eq m n) h)) ∙ ap (scalar u) (eqb-true m n (and-right (bytes_eq t u) (nat_eq m n) h))
+    ap (λ t. scalar t m) ((bytes_eq-Decides t u).0 (left_of (bytes_eq t u) (nat_eq m n) h)) ∙ ap (scalar u) (eqb-true m n (right_of (bytes_eq t u) (nat_eq m n) h))
 same-is (ordinal t m) (ordinal u n) h =
-    ap (λ t. ordinal t m) ((bytes_eq-Decides t u).0 (and-left (bytes_eq t u) (nat_eq m n) h)) ∙ ap (ordinal u) (eqb-true m n (and-right (bytes_eq t u) (nat_eq m n) h))
+    ap (λ t. ordinal t m) ((bytes_eq-Decides t u).0 (left_of (bytes_eq t u) (nat_eq m n) h)) ∙ ap (ordinal u) (eqb-true m n (right_of (bytes_eq t u) (nat_eq m n) h))
 same-is _ _ h = absurd (cc)
 
 pub same-refl : (v : Value) → same v v ≡ true
@@ -292,15 +277,11 @@ same-refl (ordinal t n) = rw ((bytes_eq-Decides t t).1 refl) (eq-eqb n n refl)
 not_other : (u v : Value) → is_other (Some u) v ≡ false → u ≡ v
 not_other u v h = same-is u v (not-false (same u v) h)
 
-or-cases : (p q : Bool) → (p || q) ≡ true → (p ≡ true) ⊎ (q ≡ true)
-or-cases true q h = inl refl
-or-cases false q h = inr h
-
 module _ (b c : Bindings) (k : ℕ) (v w : Value) (is_v : variable_number b k ≡ Some v) (is_w : variable_number c k ≡ Some w) where
   both-same : (i j : Index) (y : Value) → FitsOne b i y → FitsOne c j y → are_both k i j ≡ true → v ≡ w
   both-same (bare m) (bare n) y p q h =
-      let at_m = eqb-true m k (and-left (nat_eq m k) (nat_eq n k) h) in
-      let at_n = eqb-true n k (and-right (nat_eq m k) (nat_eq n k) h) in
+      let at_m = eqb-true m k (left_of (nat_eq m k) (nat_eq n k) h) in
+      let at_n = eqb-true n k (right_of (nat_eq m k) (nat_eq n k) h) in
       let left : is_other (Some v) y ≡ false = subst (λ o. is_other o y ≡ false) (ap (variable_number b) at_m ∙ is_v) p in
       let right : is_other (Some w) y ≡ false = subst (λ o. is_other o y ≡ false) (ap (variable_number c) at_n ∙ is_w) q in
       not_other v y left ∙ sym (not_other w y right)
@@ -328,8 +309,8 @@ module _ (b c : Bindings) (k : ℕ) (v w : Value) (is_v : variable_number b k �
       false_is_true : false ≡ true → ⊥
       false_is_true e = cc
   meet (i ∷ is) (j ∷ js) [] long p q h = absurd (omega (arith, long))
-  meet (i ∷ is) (j ∷ js) (y ∷ ys) long p q (inl h) = ⊎_elim (λ e. absurd (constants-same i j y p.0 q.0 e)) (λ e. meet is js ys (omega (arith, long)) p.1 q.1 (inl e)) (or-cases (are_two_constants i j) _ h)
-  meet (i ∷ is) (j ∷ js) (y ∷ ys) long p q (inr h) = ⊎_elim (λ e. both-same i j y p.0 q.0 e) (λ e. meet is js ys (omega (arith, long)) p.1 q.1 (inr e)) (or-cases (are_both k i j) _ h)
+  meet (i ∷ is) (j ∷ js) (y ∷ ys) long p q (inl h) = ⊎_elim (λ e. absurd (constants-same i j y p.0 q.0 e)) (λ e. meet is js ys (omega (arith, long)) p.1 q.1 (inl e)) (or_cases (are_two_constants i j) _ h)
+  meet (i ∷ is) (j ∷ js) (y ∷ ys) long p q (inr h) = ⊎_elim (λ e. both-same i j y p.0 q.0 e) (λ e. meet is js ys (omega (arith, long)) p.1 q.1 (inr e)) (or_cases (are_both k i j) _ h)
 
 -- the law
 pub at_most_one : (scene : Scene) (s : State) (kind : Kind) (x : Element) (every : List Value) (var : Word) (body : Stmt) (around : Around) (b : Bindings) → Agrees around b →

@@ -1,7 +1,10 @@
 -- Runs and violating paths that are written out, shown by computing: a test for each condition, and that what passes the test meets the condition.
 use Rattle.std.proofs.Common.{◌≡◌, ℕ, zero, suc, ◌<◌, List, [], ◌∷◌, length, Some, None, Option, true, false, Bool, not, ◌&&◌, ◌||◌, refl, sym, ap, ◌∙◌, subst, Contains, All, get_or, arith}
 use Rattle.std.specs.List.{list_all}
-use Rattle.std.proofs.lemmas.List.Elements.{All-nil, All-cons, Contains-append_right}
+use Rattle.std.proofs.lemmas.List.Elements.{Contains-append_right}
+use Rattle.std.proofs.lemmas.Bool.{both_ways}
+use Rattle.law_lists.proofs.Booleans.{left_of, right_of}
+use Rattle.law_lists.proofs.Each.{all_passes}
 use Rattle.smv_core.specs.Values.{Value, number, Sizes, Outcome, same, is_in, values_of}
 use Rattle.smv_core.specs.Types.{Family}
 use Rattle.smv_core.specs.FlatOrder.{TextDesign}
@@ -10,18 +13,6 @@ use Rattle.smv_core.specs.Allowed.{allowed, allowed_by_base, scene_at}
 use Rattle.smv_core.specs.Sound.{ProofUnit, map_of, claim_of, instances, indexes_in, bound, Holds, IsTyped, MeetsBase, EachElement, IsRun, AtEachTime}
 use Rattle.smv_core.specs.Violating.{AtLastTime, IsViolating}
 use Rattle.law_meaning.proofs.AtMostOne.{same-is, same-refl}
-
-and-left : (p q : Bool) → (p && q) ≡ true → p ≡ true
-and-left true q h = refl
-and-left false q h = h
-
-and-right : (p q : Bool) → (p && q) ≡ true → q ≡ true
-and-right true q h = h
-and-right false q h = absurd (cc)
-
-all-by : {X : Type 0} (P : X → Type 0) (test : X → Bool) → ((x : X) → test x ≡ true → P x) → (xs : List X) → list_all test xs ≡ true → All P xs
-all-by P test each [] h = All-nil P
-all-by P test each (x ∷ xs) h = All-cons P x xs (each x (and-left (test x) (list_all test xs) h)) (all-by P test each xs (and-right (test x) (list_all test xs) h))
 
 in-by : (vs : List Value) (v : Value) → is_in vs v ≡ true → Contains vs v
 in-by [] v h = absurd (cc)
@@ -43,10 +34,6 @@ by-in (u ∷ vs) v p = at_place p.0 p.1 p.2 (by-in vs v)
     at_place zero h e rest = ap (λ b. b || is_in vs v) (subst (λ y. same v y ≡ true) (sym e) (same-refl v))
     at_place (suc n) h e rest = ap (λ b. same v u || b) (rest (n, omega (arith, h), e)) ∙ or-true (same v u)
 
-false_true : (b : Bool) → b ≡ false → b ≡ true → ⊥
-false_true true h k = absurd (cc)
-false_true false h k = absurd (cc)
-
 abbrev is_one : Outcome → Bool
 is_one (Some (number (suc zero))) = true
 is_one _ = false
@@ -56,7 +43,7 @@ module _ (d : TextDesign) (sizes : Sizes) where
   each_element test = list_all (λ f. list_all (test f) (indexes_in sizes f)) d.families
 
   each-by : (P : Family → List Value → Type 0) (test : Family → List Value → Bool) → ((f : Family) (vs : List Value) → test f vs ≡ true → P f vs) → each_element test ≡ true → EachElement d sizes P
-  each-by P test each h = all-by (λ f. All (P f) (indexes_in sizes f)) (λ f. list_all (test f) (indexes_in sizes f)) (λ f. all-by (P f) (test f) (each f) (indexes_in sizes f)) d.families h
+  each-by P test each h = all_passes (λ f. All (P f) (indexes_in sizes f)) (λ f. list_all (test f) (indexes_in sizes f)) (λ f. all_passes (P f) (test f) (each f) (indexes_in sizes f)) d.families h
 
   -- each element has a value of its type
   abbrev is_typed : State → Bool
@@ -82,13 +69,13 @@ module _ (d : TextDesign) (sizes : Sizes) where
 
   times-by : (before : Option State) (run : List State) → at_each_time before run ≡ true → AtEachTime (MeetsBase d sizes) before run
   times-by before [] h = tt
-  times-by before (s ∷ run) h = (meets-by before s (and-left (meets_base before s) (at_each_time (Some s) run) h), times-by (Some s) run (and-right (meets_base before s) (at_each_time (Some s) run) h))
+  times-by before (s ∷ run) h = (meets-by before s (left_of (meets_base before s) (at_each_time (Some s) run) h), times-by (Some s) run (right_of (meets_base before s) (at_each_time (Some s) run) h))
 
   pub run-by : (run : List State) → is_run run ≡ true → IsRun d sizes run
   run-by [] h = absurd (cc)
   run-by (s ∷ run) h = (
-    all-by (IsTyped d sizes) is_typed typed-by (s ∷ run) (and-left (list_all is_typed (s ∷ run)) (at_each_time None (s ∷ run)) h),
-    times-by None (s ∷ run) (and-right (list_all is_typed (s ∷ run)) (at_each_time None (s ∷ run)) h),
+    all_passes (IsTyped d sizes) is_typed typed-by (s ∷ run) (left_of (list_all is_typed (s ∷ run)) (at_each_time None (s ∷ run)) h),
+    times-by None (s ∷ run) (right_of (list_all is_typed (s ∷ run)) (at_each_time None (s ∷ run)) h),
   )
 
   -- the instance of the unit holds
@@ -100,8 +87,8 @@ module _ (d : TextDesign) (sizes : Sizes) where
   one-by u e = ap is_one e
 
   fails-by : (unit : ProofUnit) (vs : List Value) (before : Option State) (now : State) → holds unit vs before now ≡ false → ¬ Holds d sizes unit vs before now
-  fails-by (map_of layer f) vs before now h p = false_true _ h (by-in (allowed d sizes (Some layer) (record { path = f.path; indexes = vs }) before now) (now f.path vs) p)
-  fails-by (claim_of c) vs before now h p = false_true _ h (one-by (outcome (scene_at d sizes c.instance) now c.body (bound c.params vs [])) p)
+  fails-by (map_of layer f) vs before now h p = both_ways _ h (by-in (allowed d sizes (Some layer) (record { path = f.path; indexes = vs }) before now) (now f.path vs) p)
+  fails-by (claim_of c) vs before now h p = both_ways _ h (one-by (outcome (scene_at d sizes c.instance) now c.body (bound c.params vs [])) p)
 
   -- the instance fails at the last time
   abbrev pub fails_last : ProofUnit → List Value → Option State → List State → Bool

@@ -2,6 +2,7 @@
 use Rattle.std.proofs.Common.{◌≡◌, ℕ, zero, suc, List, [], ◌∷◌, ◌++◌, map, zip, flat_map, length, Some, true, false, Bool, not, ◌&&◌, ◌||◌, ◌⊎◌, inl, inr, ⊎_elim, refl, sym, ap, subst, append_assoc, get_or, Contains, nat_eq, ◌<◌, arith}
 use Rattle.std.specs.List.{list_any}
 use Rattle.std.proofs.lemmas.List.Elements.{Contains-append_left, Contains-append_right, Contains-append_cases}
+use Rattle.law_lists.proofs.Booleans.{same_tests}
 use Rattle.smv_core.specs.Values.{Path, Value, same}
 use Rattle.smv_core.specs.Walk.{steps_of}
 use Rattle.smv_core.specs.Assignments.{Around, any, loop, Index, fixed, bare, computed, Assigned, assignments, assignments_of, assignments_held, assignments_arms}
@@ -9,13 +10,12 @@ use Rattle.smv_core.specs.Conflicts.{are_two_constants, are_both, differ, share,
 use Rattle.smv_core.specs.declared.tree.Word.{Word}
 use Rattle.smv_core.specs.declared.tree.Stmt.{Stmt, Assign, Block', If', Switch', Default', For', Forall', Held-Stmt-If-2, None', Some', Row_of-Stmt, end_of-Stmt, more_of-Stmt, Row_of-Arm, end_of-Arm, more_of-Arm}
 use Rattle.law_meaning.proofs.AtMostOne.{same-is, same-refl, AllHave, AreApart}
-use Rattle.law_meaning.proofs.Symmetry.{bool-same}
 
 same-sym : (u v : Value) → same u v ≡ true → same v u ≡ true
 same-sym u v h = subst (λ w. same w u ≡ true) (same-is u v h) (same-refl u)
 
 two_constants-sym : (i j : Index) → are_two_constants i j ≡ true → are_two_constants j i ≡ true
-two_constants-sym (fixed (Some u)) (fixed (Some v)) h = subst (λ b. not b ≡ true) (bool-same (same u v) (same v u) (same-sym u v) (same-sym v u)) h
+two_constants-sym (fixed (Some u)) (fixed (Some v)) h = subst (λ b. not b ≡ true) (same_tests (same u v) (same v u) (same-sym u v) (same-sym v u)) h
 two_constants-sym _ _ h = absurd (cc)
 
 both-sym : (k : ℕ) (i j : Index) → are_both k i j ≡ true → are_both k j i ≡ true

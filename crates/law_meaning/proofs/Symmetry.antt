@@ -16,6 +16,7 @@ use Rattle.smv_core.specs.declared.tree.Part.{Field, At}
 use Rattle.smv_core.specs.declared.tree.Member.{One, Span as SpanOf}
 use Rattle.smv_core.specs.declared.tree.Expr.{Expr, Number, Signal', Not', And', Or', Implies', Iff', Compare', Within', Sum', Modulo', Choose', All', Any', List', Each', Held-Expr-Each-2, None', Some', Row_of-Expr, end_of-Expr, more_of-Expr, Row_of-Part, end_of-Part, more_of-Part, Row_of-Member, end_of-Member, more_of-Member, Row_of-Signed, end_of-Signed, more_of-Signed, items-the_row-Part}
 use Rattle.std.specs.Option.{is_none}
+use Rattle.law_lists.proofs.Booleans.{same_tests}
 use Rattle.smv_core.specs.Outcome.{same_path}
 use Rattle.smv_core.specs.Walk.{Element, Walk, walk, walk_parts, walk_held, walk_arms, first, first_of, if_walk, unless_nothing, assigned, is_other, is_label, steps_of, same_kind, indexes_of}
 use Rattle.law_meaning.specs.Exchange.{Exchanges, exchanged, exchanged_outcome, exchanged_bindings, exchanged_element}
@@ -118,11 +119,6 @@ disjunction-by_conjunction : (us : List Truth) → disjunction us ≡ not_of (co
 disjunction-by_conjunction [] = refl
 disjunction-by_conjunction (u ∷ us) = or-by_and u (disjunction us) ∙ ap (λ w. not_of (and_of (not_of u) w)) (ap not_of (disjunction-by_conjunction us) ∙ not-not (conjunction (map not_of us)))
 
-pub bool-same : (p q : Bool) → (p ≡ true → q ≡ true) → (q ≡ true → p ≡ true) → p ≡ q
-bool-same true q h k = sym (h refl)
-bool-same false true h k = k refl
-bool-same false false h k = refl
-
 truth-ren : (f : Name → ℕ → ℕ) (u : Outcome) → truth (exchanged_outcome f u) ≡ truth u
 truth-ren f None = refl
 truth-ren f (Some (number zero)) = refl
@@ -176,7 +172,7 @@ module _ (sizes : Sizes) (f g : Name → ℕ → ℕ) (ex : Exchanges sizes f g)
   open ex use {there_back, back_there, keeps, keeps_back}
 
   nat-ren : (t : Name) (m n : ℕ) → nat_eq (f t m) (f t n) ≡ nat_eq m n
-  nat-ren t m n = bool-same (nat_eq (f t m) (f t n)) (nat_eq m n)
+  nat-ren t m n = same_tests (nat_eq (f t m) (f t n)) (nat_eq m n)
       (λ e. eq-eqb m n (sym (back_there t m) ∙ ap (g t) (eqb-true (f t m) (f t n) e) ∙ back_there t n))
       (λ e. eq-eqb (f t m) (f t n) (ap (f t) (eqb-true m n e)))
 
@@ -224,7 +220,7 @@ module _ (sizes : Sizes) (f g : Name → ℕ → ℕ) (ex : Exchanges sizes f g)
       (scalar t (g t q.0), has-map (scalar t) (numbers_from 0 (sizes t)) (g t q.0) (numbers-have 0 (sizes t) (g t q.0) (omega arith) old), ap (scalar t) (there_back t q.0) ∙ q.2)
 
   is_in-ren : (t : Simple) (v : Value) → is_in (values_of sizes t) (exchanged f v) ≡ is_in (values_of sizes t) v
-  is_in-ren t v = bool-same (is_in (values_of sizes t) (exchanged f v)) (is_in (values_of sizes t) v) old new
+  is_in-ren t v = same_tests (is_in (values_of sizes t) (exchanged f v)) (is_in (values_of sizes t) v) old new
     where
       old : is_in (values_of sizes t) (exchanged f v) ≡ true → is_in (values_of sizes t) v ≡ true
       old e =

@@ -1,6 +1,7 @@
 -- One machine and two claims: the first holds in every run of it, the second does not.
 use Rattle.std.proofs.Common.{◌≡◌, List, [], ◌∷◌, refl, Some, None, Option, false, All, Contains, arith}
-use Rattle.std.proofs.lemmas.List.Elements.{All-nil, All-cons, All-head, All-tail, All-contains}
+use Rattle.std.proofs.lemmas.List.Elements.{All-cons, All-head, All-tail, All-contains}
+use Rattle.law_lists.proofs.Each.{all_one}
 use Rattle.smv_core.specs.Values.{Value, number, Sizes, range, not_of, disjunction, truth, bit, values_of}
 use Rattle.smv_core.specs.Types.{Family, IsSizedTop}
 use Rattle.smv_core.specs.FlatOrder.{design_of}
@@ -22,9 +23,6 @@ always = design (Or (sig x ∷ Not (sig x) 0 ∷ []))
 
 abbrev claim : Expr → ProofUnit
 claim e = claim_of (record { instance = []; name = 112 ∷ []; params = []; body = e })
-
-all_one : {X : Type 0} (P : X → Type 0) (v : X) → P v → All P (v ∷ [])
-all_one P v p = All-cons P v [] p (All-nil P)
 
 abbrev x_family : Family
 x_family = record { path = (x ∷ []) ∷ []; over = []; value = range 0 1; is_abstract = false }

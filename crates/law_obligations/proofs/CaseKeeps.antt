@@ -1,6 +1,9 @@
 -- One case of a leaf under one placing: what holds of a state is met in its picture, and what fails is broken there.
-use Rattle.std.proofs.Common.{◌≡◌, ℕ, zero, suc, List, [], ◌∷◌, map, length, get_or, Bool, true, false, refl, sym, ap, subst, ◌∙◌, ◌⊎◌, inl, inr, Option, Some, None, option_map}
+use Rattle.std.proofs.Common.{◌≡◌, ℕ, zero, suc, List, [], ◌∷◌, map, length, get_or, true, false, refl, sym, ap, subst, ◌∙◌, ◌⊎◌, inl, inr, Option, Some, None, option_map}
 use Rattle.std.specs.List.{list_all}
+use Rattle.std.proofs.lemmas.Bool.{cases_Bool}
+use Rattle.law_lists.proofs.Booleans.{clash, left_of, right_of}
+use Rattle.law_lists.proofs.Lists.{length_map}
 use Rattle.smv_core.specs.Values.{Name, Value, number, Sizes, truth, is_in, values_of}
 use Rattle.smv_core.specs.Outcome.{is_true}
 use Rattle.smv_core.specs.FlatMeaning.{Numbered, FlatState, FlatElement, values_in, simple_in, flat_outcome, flat_allowed}
@@ -19,11 +22,10 @@ use Rattle.law_obligations.specs.Pictures.{Placing, placed, ArePlaced, AreOfType
 use Rattle.law_obligations.specs.Bound.{AreAtClasses, IsSingle}
 use Rattle.law_obligations.specs.FlatConflicts.{IsConflictFree}
 use Rattle.law_obligations.specs.Soundness.{FlatUnit, map_of, claim_of, ProofPlan, at_sizes, over_of, values_of_family, params_of, values_over, is_held, IsUnit, said_at, IsKept, IsOf}
-use Rattle.law_obligations.proofs.Tests.{true_or_false, left_of, right_of}
 use Rattle.law_obligations.proofs.Members.{Has-from_map}
 use Rattle.law_obligations.proofs.Same.{is_in-Has, Has-is_in}
 use Rattle.law_obligations.proofs.Facts.{of_type}
-use Rattle.law_obligations.proofs.OneOfEach.{AreOf, are_of, one_of, are_long, map_long}
+use Rattle.law_obligations.proofs.OneOfEach.{AreOf, are_of, one_of, are_long}
 use Rattle.law_obligations.proofs.PicturesExist.{state_pictured}
 use Rattle.law_obligations.proofs.OneGives.{is_single}
 use Rattle.law_obligations.proofs.DemandsKeep.{map_may, map_must}
@@ -36,9 +38,6 @@ pub record Known (n : Numbered) : Type 0 where
 
 abbrev pub state_of : {n : Numbered} → Known n → FlatState
 state_of s = s.state
-
-clash : {b : Bool} → b ≡ true → b ≡ false → ⊥
-clash p q = cc
 
 pub types_are : (n : Numbered) (over : List FlatSimple) (xs : List Value) → AreOf (map (values_in n) over) xs → AreOfTypes n over xs
 types_are n [] [] h = tt
@@ -117,7 +116,7 @@ module _ (plan : ProofPlan) (sizes : Sizes) (p : AbstractProblem) (types : Name 
   in_world over ps h = are_of (map (named_in (world n types)) over) ps (subst (λ w. Has (one_of_each (map (named_in w) over)) ps) is_world h)
 
   single : (def : Def) (f : Family) (xs : List Value) → AreOf (map (values_in n) f.over) xs → IsConflictFree (length f.over) def → IsSingle n def xs (values_in n f.value)
-  single def f xs are free = is_single n def xs (values_in n f.value) (subst (λ k. IsConflictFree k def) (sym (are_long (map (values_in n) f.over) xs are ∙ map_long (values_in n) f.over)) free)
+  single def f xs are free = is_single n def xs (values_in n f.value) (subst (λ k. IsConflictFree k def) (sym (are_long (map (values_in n) f.over) xs are ∙ length_map (values_in n) f.over)) free)
 
   -- what holds of all instances is met
   pub demand_met : (unit : FlatUnit) → IsUnit plan unit → (d : Demanded) → IsOf plan p unit d → (old : Option (Known n)) (s : Known n) →
@@ -149,11 +148,11 @@ module _ (plan : ProofPlan) (sizes : Sizes) (p : AbstractProblem) (types : Name 
   pub target_broken : (unit : FlatUnit) → IsUnit plan unit → (xs : List Value) → Has (values_over n (params_of plan.names unit)) xs →
       (list_all is_named (map (placed spots) xs) ≡ true → IsKept p unit (map (placed spots) xs)) → (old : Option (Known n)) (s : Known n) →
       is_held n unit xs (option_map state_of old) s.state ≡ false → is_broken p (option_map picture old) (picture s) (said_at unit (map (placed spots) xs)) ≡ true
-  target_broken (map_of def) unit xs h kept old s fails = subst (λ w. is_broken_map w p.kept def (map (placed spots) xs) (option_map picture old) (picture s) ≡ true) (sym is_world) (at (true_or_false (list_all is_named (map (placed spots) xs))))
+  target_broken (map_of def) unit xs h kept old s fails = subst (λ w. is_broken_map w p.kept def (map (placed spots) xs) (option_map picture old) (picture s) ≡ true) (sym is_world) (at (cases_Bool (list_all is_named (map (placed spots) xs))))
     where
       at : (list_all is_named (map (placed spots) xs) ≡ true) ⊎ (list_all is_named (map (placed spots) xs) ≡ false) → is_broken_map (world n types) p.kept def (map (placed spots) xs) (option_map picture old) (picture s) ≡ true
       at (inr e) = rw e refl
-      at (inl e) = elim (true_or_false (is_broken_map (world n types) p.kept def (map (placed spots) xs) (option_map picture old) (picture s))) [
+      at (inl e) = elim (cases_Bool (is_broken_map (world n types) p.kept def (map (placed spots) xs) (option_map picture old) (picture s))) [
         | inl b ↦ b
         | inr b ↦
             let f = unit.family in
@@ -165,7 +164,7 @@ module _ (plan : ProofPlan) (sizes : Sizes) (p : AbstractProblem) (types : Name 
             absurd (clash (subst (λ o. is_in (flat_allowed n def x (values_of_family n o) (option_map state_of old) s.state) (s.state def.family xs) ≡ true) (sym unit.is_family) (is_in-Has allowed)) fails)
       ]
   target_broken (claim_of claim) unit xs h kept old s fails = subst (λ w. is_broken_claim w p.kept claim.body (map (placed spots) xs) (picture s) ≡ true) (sym is_world)
-      (elim (true_or_false (is_broken_claim (world n types) p.kept claim.body (map (placed spots) xs) (picture s))) [
+      (elim (cases_Bool (is_broken_claim (world n types) p.kept claim.body (map (placed spots) xs) (picture s))) [
         | inl b ↦ b
         | inr b ↦
             let over = params_of plan.names (claim_of claim) in

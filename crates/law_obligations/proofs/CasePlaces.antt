@@ -1,6 +1,9 @@
 -- In a case each parameter of a leaf stands at a place of its type.
 use Rattle.std.proofs.Common.{◌≡◌, ℕ, zero, suc, ◌+◌, ◌-◌, ◌<◌, ◌≤◌, List, [], ◌∷◌, ◌++◌, map, length, take, Bool, true, false, ◌&&◌, not, refl, sym, ap, subst, ◌∙◌, inl, inr, Option, Some, None, nat_eq, nat_lt, arith}
 use Rattle.std.specs.List.{slice_get, list_any, list_all}
+use Rattle.std.proofs.lemmas.Bool.{cases_Bool}
+use Rattle.law_lists.proofs.Numbers.{nat_lt-true, nat_lt-is, nat_eq-is}
+use Rattle.law_lists.proofs.Booleans.{and_both, left_of, right_of}
 use Rattle.smv_core.specs.Values.{Name, number, scalar, ordinal, numbers_from}
 use Rattle.smv_core.specs.FlatMeaning.{Numbered, simple_in, set_type}
 use Rattle.smv_core.specs.declared.flat.Simple.{Simple}
@@ -16,9 +19,8 @@ use Rattle.law_obligations.specs.Places.{Place, named, rest, is_named, World, wo
 use Rattle.law_obligations.specs.Cases.{Treatment, whole, reduced, ordered, Parameter, is_set, those_of, named_among, are_named, is_of, is_orderly, grow, listed_classes, type_in, is_allowed, candidates, numbered, cases}
 use Rattle.law_obligations.specs.Covers.{place_at, places_at, types_at, AreApart, IsIndexType}
 use Rattle.law_obligations.specs.LeafCases.{treatments_of}
-use Rattle.law_obligations.proofs.Tests.{true_or_false, and_both, left_of, right_of}
 use Rattle.law_obligations.proofs.Members.{Has-left, Has-right, Has-cases, Has-map, Has-from_map, any-some, all-each}
-use Rattle.law_obligations.proofs.Same.{nat_eq-is, nat_eq-itself}
+use Rattle.law_obligations.proofs.Same.{nat_eq-itself}
 use Rattle.law_obligations.proofs.Spots.{Has-numbers}
 use Rattle.law_obligations.proofs.OneOfEach.{AreOf, are_of, get_Has}
 use Rattle.law_obligations.proofs.CoverScalarsets.{named_set, below_used}
@@ -47,13 +49,13 @@ stands_among test set [] classes p c m e l = elim m [ ]
 stands_among test set (q ∷ params) [] p c m e l = elim m [ ]
 stands_among test set (p ∷ params) (c ∷ classes) _ _ here e l = rw (and_both e l) first
 stands_among test set (q ∷ params) (d ∷ classes) p c (there m) e l = let r = stands_among test set params classes p c m e l in
-    elim (true_or_false (is_set set q.over && test q.listed)) [
+    elim (cases_Bool (is_set set q.over && test q.listed)) [
       | inl b ↦ rw b (later r)
       | inr b ↦ rw b r
     ]
 
 -- where all classes are named, each is
-few_named : (classes : List Class) → length (named_among classes) ≤ length classes
+pub few_named : (classes : List Class) → length (named_among classes) ≤ length classes
 few_named [] = omega arith
 few_named (Named c ∷ classes) = let l = few_named classes in omega (arith, l)
 few_named (Number k ∷ classes) = let l = few_named classes in omega (arith, l)
@@ -72,15 +74,9 @@ each_named (Rest g ∷ classes) e c h = absurd (let l = few_named classes in ome
 named-each : (classes : List Class) → are_named classes ≡ true → (c : Class) → Has classes c → IsNamed classes c
 named-each classes e c h = each_named classes (nat_eq-is (length (named_among classes)) (length classes) e) c h
 
-less : (c m : ℕ) → c < m → nat_lt c m ≡ true
-less c m l = grind arith
-
-below : (c m : ℕ) → nat_lt c m ≡ true → c < m
-below c m e = grind arith
-
 -- a class that is allowed is of the abstract type
 named_of_type : (a : AbsType) (c : Class) (k : ℕ) → c ≡ Named k → k < a.named → is_of a c ≡ true
-named_of_type a c k e l = subst (λ c. is_of a c ≡ true) (sym e) (less k a.named l)
+named_of_type a c k e l = subst (λ c. is_of a c ≡ true) (sym e) (nat_lt-true k a.named l)
 
 of_type : (t : Treatment) (set : ℕ) (params : List Parameter) (classes : List Class) → is_allowed t set params classes ≡ true → (p : Parameter) (c : Class) → Meets params classes p c → is_set set p.over ≡ true →
     is_of (type_in t set params classes) c ≡ true
@@ -88,8 +84,8 @@ of_type (whole m) set params classes a p c at e =
     let listed = listed_classes (whole m) set params classes in
     let r = named-each listed (left_of (are_named listed) _ a) c (stands_among (λ l. true) set params classes p c at e refl) in
     let orderly = left_of (is_orderly (whole m) (named_among listed)) _ (right_of (are_named listed) _ a) in
-    named_of_type (type_in (whole m) set params classes) c r.0 r.1 (below r.0 m (all-each (λ k. nat_lt k m) (right_of (grow 0 (named_among listed)) _ orderly) r.2))
-of_type (reduced None) set params classes a p c at e = elim (true_or_false p.listed) [
+    named_of_type (type_in (whole m) set params classes) c r.0 r.1 (nat_lt-is r.0 m (all-each (λ k. nat_lt k m) (right_of (grow 0 (named_among listed)) _ orderly) r.2))
+of_type (reduced None) set params classes a p c at e = elim (cases_Bool p.listed) [
   | inl l ↦ let listed = listed_classes (reduced None) set params classes in
       let r = named-each listed (left_of (are_named listed) _ a) c (stands_among (λ l. l) set params classes p c at e l) in
       named_of_type (type_in (reduced None) set params classes) c r.0 r.1 (below_used (named_among listed) r.0 r.2)
@@ -97,7 +93,7 @@ of_type (reduced None) set params classes a p c at e = elim (true_or_false p.lis
       all-each (is_of (type_in (reduced None) set params classes)) (right_of (is_orderly (reduced None) (named_among listed)) _ (right_of (are_named listed) _ a))
       (stands_among (λ l. not l) set params classes p c at e (ap not l))
 ]
-of_type (reduced (Some n)) set params classes a p c at e = elim (true_or_false p.listed) [
+of_type (reduced (Some n)) set params classes a p c at e = elim (cases_Bool p.listed) [
   | inl l ↦ let listed = listed_classes (reduced (Some n)) set params classes in
       let r = named-each listed (left_of (are_named listed) _ a) c (stands_among (λ l. l) set params classes p c at e l) in
       named_of_type (type_in (reduced (Some n)) set params classes) c r.0 r.1 (below_used (named_among listed) r.0 r.2)
@@ -105,7 +101,7 @@ of_type (reduced (Some n)) set params classes a p c at e = elim (true_or_false p
       all-each (is_of (type_in (reduced (Some n)) set params classes)) (right_of (is_orderly (reduced (Some n)) (named_among listed)) _ (right_of (are_named listed) _ a))
       (stands_among (λ l. not l) set params classes p c at e (ap not l))
 ]
-of_type ordered set params classes a p c at e = elim (true_or_false p.listed) [
+of_type ordered set params classes a p c at e = elim (cases_Bool p.listed) [
   | inl l ↦ let listed = listed_classes ordered set params classes in
       let r = named-each listed (left_of (are_named listed) _ a) c (stands_among (λ l. l) set params classes p c at e l) in
       named_of_type (type_in ordered set params classes) c r.0 r.1 (below_used (named_among listed) r.0 r.2)
@@ -118,8 +114,8 @@ of_type ordered set params classes a p c at e = elim (true_or_false p.listed) [
 set_place : (w : World) (is_ordered : Bool) (t : Name) (a : AbsType) → w.classes.sizes t ≡ a.named → w.rests t ≡ a.rest → (c : Class) → is_of a c ≡ true →
     Has (places_of w (named_set is_ordered t)) (place_at (named_set is_ordered t) c)
 set_place w b t a s r (Number k) e = absurd (cc)
-set_place w true t a s r (Named c) e = let l = below c a.named e in Has-left _ (Has-map named (Has-map (ordinal t) (Has-numbers 0 (w.classes.sizes t) c (omega arith) (omega (arith, l, s)))))
-set_place w false t a s r (Named c) e = let l = below c a.named e in Has-left _ (Has-map named (Has-map (scalar t) (Has-numbers 0 (w.classes.sizes t) c (omega arith) (omega (arith, l, s)))))
+set_place w true t a s r (Named c) e = let l = nat_lt-is c a.named e in Has-left _ (Has-map named (Has-map (ordinal t) (Has-numbers 0 (w.classes.sizes t) c (omega arith) (omega (arith, l, s)))))
+set_place w false t a s r (Named c) e = let l = nat_lt-is c a.named e in Has-left _ (Has-map named (Has-map (scalar t) (Has-numbers 0 (w.classes.sizes t) c (omega arith) (omega (arith, l, s)))))
 set_place w true t a s r (Rest g) e = Has-right _ (Has-map (λ g. rest (ordinal t g)) (rest_there w t a s r g e))
   where
     rest_there : (w : World) (t : Name) (a : AbsType) → w.classes.sizes t ≡ a.named → w.rests t ≡ a.rest → (g : ℕ) → list_any (nat_eq g) (rests_beside a.rest a.named) ≡ true → Has (rests_beside (w.rests t) (w.classes.sizes t)) g

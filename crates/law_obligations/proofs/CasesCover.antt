@@ -1,8 +1,9 @@
 -- For all values of listed parameters of a scalarset some case has classes that put each at its own.
-use Rattle.std.proofs.Common.{◌≡◌, ℕ, suc, ◌<◌, ◌≤◌, max, List, [], ◌∷◌, ◌++◌, length, Bool, true, false, if◌then◌else◌, refl, sym, ap, subst, ◌∙◌, arith, nat_eq, nat_le, Option, Some, None, option_map, append_assoc}
+use Rattle.std.proofs.Common.{◌≡◌, ℕ, suc, ◌<◌, max, List, [], ◌∷◌, ◌++◌, length, Bool, true, false, if◌then◌else◌, refl, sym, ap, subst, ◌∙◌, arith, nat_eq, Option, Some, None, option_map, append_assoc}
+use Rattle.law_lists.proofs.Numbers.{nat_eq-not_turned, nat_le-true}
+use Rattle.law_lists.proofs.Booleans.{and_both}
 use Rattle.law_obligations.specs.Cases.{used, grow}
 use Rattle.law_obligations.specs.Placings.{place_in, or_rest, AreDistinct, AreBelow, AreIn}
-use Rattle.law_obligations.proofs.Tests.{and_both}
 use Rattle.law_obligations.proofs.Same.{nat_eq-itself}
 use Rattle.law_obligations.proofs.Scalarsets.{found}
 
@@ -21,12 +22,9 @@ none_of_either true o e = absurd (cc)
 none_of_either false None e = (refl, refl)
 none_of_either false (Some c) e = absurd (cc)
 
-turned : (v x : ℕ) → nat_eq v x ≡ false → nat_eq x v ≡ false
-turned v x e = grind arith
-
 pub longer_distinct : (xs : List ℕ) (v : ℕ) → AreDistinct xs → place_in v xs ≡ None → AreDistinct (xs ++ v ∷ [])
 longer_distinct [] v d n = (refl, tt)
-longer_distinct (x ∷ xs) v d n = let r = none_of_either (nat_eq v x) (place_in v xs) n in (not_in_longer x v xs d.0 (turned v x r.0), longer_distinct xs v d.1 r.1)
+longer_distinct (x ∷ xs) v d n = let r = none_of_either (nat_eq v x) (place_in v xs) n in (not_in_longer x v xs d.0 (nat_eq-not_turned v x r.0), longer_distinct xs v d.1 r.1)
 
 -- what is found stays where it is when the list grows
 pub stays : (v : ℕ) (xs ys : List ℕ) (c : ℕ) → place_in v xs ≡ Some c → place_in v (xs ++ ys) ≡ Some c
@@ -76,9 +74,6 @@ nil_right (x ∷ xs) = ap (λ z. x ∷ z) (nil_right xs)
 max_zero : (n : ℕ) → max n 0 ≡ n
 max_zero n = omega arith
 
-at_most : (c m : ℕ) → c ≤ m → nat_le c m ≡ true
-at_most c m l = grind arith
-
 max_old : (m c : ℕ) → c < m → max m (suc c) ≡ m
 max_old m c l = omega arith
 
@@ -98,7 +93,7 @@ old_or_new size v seen d h l (Some c) p vs ih =
     record {
       added = r.added;
       classes = c ∷ r.classes;
-      is_case = and_both (at_most c (length seen) (omega (arith, within))) (subst (λ m. grow m r.classes ≡ true) (sym (max_old (length seen) c within)) r.is_case);
+      is_case = and_both (nat_le-true c (length seen) (omega (arith, within))) (subst (λ m. grow m r.classes ≡ true) (sym (max_old (length seen) c within)) r.is_case);
       distinct = r.distinct;
       below = r.below;
       in_classes = (ap or_rest (stays v seen r.added c p), r.in_classes);
@@ -113,7 +108,7 @@ old_or_new size v seen d h l None p vs ih =
     record {
       added = v ∷ r.added;
       classes = m ∷ r.classes;
-      is_case = and_both (at_most m m (omega arith)) (subst (λ k. grow k r.classes ≡ true) (grown ∙ sym (max_new m)) r.is_case);
+      is_case = and_both (nat_le-true m m (omega arith)) (subst (λ k. grow k r.classes ≡ true) (grown ∙ sym (max_new m)) r.is_case);
       distinct = subst AreDistinct same r.distinct;
       below = subst (AreBelow size) same r.below;
       in_classes = (ap or_rest (subst (λ z. place_in v z ≡ Some m) same (stays v longer r.added m (at_end seen v p))), subst (λ z. AreIn z vs r.classes) same r.in_classes);

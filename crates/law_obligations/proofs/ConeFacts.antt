@@ -1,6 +1,9 @@
 -- What a cone keeps: elements at numbers and classes alone, and the target's own if it is one of these.
 use Rattle.std.proofs.Common.{◌≡◌, ℕ, List, [], ◌∷◌, map, length, take, true, refl, sym, ap, subst, ◌∙◌, Some, nat_eq, arith}
 use Rattle.std.specs.List.{flat_map, slice_get, list_all}
+use Rattle.std.proofs.lemmas.Option.{slice_get_within}
+use Rattle.law_lists.proofs.Numbers.{nat_eq-is}
+use Rattle.law_lists.proofs.Booleans.{and_both, left_of, right_of}
 use Rattle.smv_core.specs.Values.{numbers_from}
 use Rattle.smv_core.specs.declared.flat.Simple.{Simple}
 use Rattle.smv_core.specs.declared.flat.Family.{Family}
@@ -9,11 +12,10 @@ use Rattle.law_obligations.specs.Sets.{Has, first, one_of_each}
 use Rattle.law_obligations.specs.Places.{Place, same_place, is_named, World, named_in}
 use Rattle.law_obligations.specs.Pictures.{AreNamedOf, KeepsNamed}
 use Rattle.law_obligations.specs.Soundness.{map_of, over_of}
-use Rattle.law_obligations.proofs.Tests.{and_both, left_of, right_of}
 use Rattle.law_obligations.proofs.Members.{Has-left, Has-map, Has-from_map, Has-flat_map, any-found, any-some}
-use Rattle.law_obligations.proofs.Same.{nat_eq-itself, nat_eq-is, same_place-itself, same_place-is}
+use Rattle.law_obligations.proofs.Same.{nat_eq-itself, same_place-itself, same_place-is}
 use Rattle.law_obligations.proofs.Spots.{Has-numbers}
-use Rattle.law_obligations.proofs.OneOfEach.{AreOf, are_of, get_past, Has-from_flat_map}
+use Rattle.law_obligations.proofs.OneOfEach.{AreOf, are_of, Has-from_flat_map}
 use Rattle.law_obligations.specs.Reached.{is_among, reached}
 use Rattle.law_obligations.specs.Outlines.{Entry, Outline, unit_in, assumed}
 use Rattle.law_obligations.specs.Cones.{AbsElement, element, same_places, same_element, elements_of, elements, elements_read, elements_assumed, own_elements, of_target, first_elements, next_elements, cone, kept}
@@ -23,7 +25,7 @@ same_places-itself : (ps : List Place) → same_places ps ps ≡ true
 same_places-itself [] = refl
 same_places-itself (p ∷ ps) = and_both (same_place-itself p) (same_places-itself ps)
 
-same_places-is : (ps qs : List Place) → same_places ps qs ≡ true → ps ≡ qs
+pub same_places-is : (ps qs : List Place) → same_places ps qs ≡ true → ps ≡ qs
 same_places-is [] [] e = refl
 same_places-is [] (q ∷ qs) e = absurd (cc)
 same_places-is (p ∷ ps) [] e = absurd (cc)
@@ -82,7 +84,7 @@ module _ (w : World) where
     own_kept def is_map f e own is_own are named =
         let x = element def.family own in
         let there : Has (elements w) x = Has-flat_map (elements_of w)
-        (Has-numbers 0 (length w.classes.families) def.family (omega arith) (let l = get_past w.classes.families def.family f e in omega (arith, l))) (Has-map (element def.family) are) in
+        (Has-numbers 0 (length w.classes.families) def.family (omega arith) (let l = slice_get_within w.classes.families def.family f e in omega (arith, l))) (Has-map (element def.family) are) in
         let in_target : Has (of_target w o entry params (unit_in o.design entry.unit)) x =
         subst (λ unit. Has (of_target w o entry params unit) x) (sym is_map) (subst (λ own'. Has (own_elements w o entry params def own') x) (sym is_own) (own_first def own named)) in
         in_cone-kept x def.family refl (Has-filter (is_among same_element (next_elements w o entry params) (reached same_element (next_elements w o entry params) (length (elements w)) (first_elements w o entry params))) there

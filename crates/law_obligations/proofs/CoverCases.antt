@@ -1,6 +1,7 @@
 -- The list of cases covers: all values of the parameters have a case, and a placing under which each stands at its class.
 use Rattle.std.proofs.Common.{◌≡◌, ℕ, zero, suc, ◌+◌, ◌-◌, ◌<◌, ◌≤◌, List, [], ◌∷◌, map, length, get_or, Bool, true, false, refl, sym, ap, subst, ◌∙◌, arith, slice_get, Option, Some, None}
 use Rattle.std.specs.List.{list_all}
+use Rattle.law_lists.proofs.Lists.{length_map}
 use Rattle.smv_core.specs.Values.{Value, number, values_of, numbers_from}
 use Rattle.smv_core.specs.FlatMeaning.{Numbered, values_in, simple_in, set_type}
 use Rattle.smv_core.specs.declared.flat.Simple.{Simple as FlatSimple}
@@ -23,7 +24,6 @@ use Rattle.law_obligations.proofs.CoverOrdsets.{ordset_suits}
 use Rattle.law_obligations.proofs.CoverNames.{by_name-at, numbered-at, numbered-Has, treatment_at, set_at}
 use Rattle.law_obligations.proofs.CoverParams.{map-same, Has-from_choices, Stands, of_its_type, Stands-Has, those_of-map, those_of-few, those_of-Has, those_of-is, picked, all_stand}
 use Rattle.law_obligations.proofs.CoverClasses.{number_of, class_at, class_of, value_by_number, class_of-value, placed-value, spot_is_of, spot_candidate, named_candidate, counts, type_in-is, allowed, named_classes}
-use Rattle.law_obligations.proofs.OneOfEach.{map_long}
 use Rattle.law_obligations.proofs.Lookups.{Has-filter}
 
 -- each treatment that a set type may have suits it
@@ -156,7 +156,7 @@ module _ (n : Numbered) (treatments : List Treatment) (apart : AreApart n.sets) 
         (ap (λ a. a.rest) type_is) (ap (λ a. a.named) type_is) (λ j. ap (λ f. f j) k.spots_are)
 
     few_listed : (t : Treatment) → length (listed n params values typed t i) ≤ length params
-    few_listed t = subst (λ m. m ≤ length params) (sym (map_long number_of (those_of (counts t) i params values))) (those_of-few (counts t) i params values)
+    few_listed t = subst (λ m. m ≤ length params) (sym (length_map number_of (those_of (counts t) i params values))) (those_of-few (counts t) i params values)
 
     near : (t : Treatment) (s : Suits t info.ordered (n.sizes info.name) (listed n params values typed t i)) (k : ℕ) → k < n.sizes info.name →
         (abstract_type t (used s.classes)).named ≤ length params → Has (candidates treatments (length params) (Set i)) (class_at (s.spot k))

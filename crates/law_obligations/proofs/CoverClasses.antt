@@ -1,5 +1,7 @@
 -- The class of a value under a placing, and what a case is allowed for one set type.
 use Rattle.std.proofs.Common.{◌≡◌, ℕ, suc, ◌+◌, ◌<◌, ◌≤◌, List, [], ◌∷◌, ◌++◌, map, length, Bool, true, false, not, refl, sym, ap, subst, ◌∙◌, inl, inr, arith, nat_eq, nat_lt}
+use Rattle.law_lists.proofs.Lists.{map-map}
+use Rattle.law_lists.proofs.Booleans.{and_both}
 use Rattle.smv_core.specs.Values.{Name, Value, number, constant, scalar, ordinal, Sizes, values_of, numbers_from}
 use Rattle.smv_core.specs.declared.flat.Class.{Class}
 use Rattle.smv_core.specs.declared.flat.Class.TheVariants.{Number, Named, Rest}
@@ -11,12 +13,10 @@ use Rattle.law_obligations.specs.Places.{Place, named, rest, rests_beside}
 use Rattle.law_obligations.specs.Pictures.{Spot, class, other, Placing, placed}
 use Rattle.law_obligations.specs.Cases.{Treatment, whole, reduced, ordered, Parameter, used, named_among, are_named, abstract_type, is_of, is_orderly, those_of, listed_classes, unlisted_classes, type_in, is_allowed}
 use Rattle.law_obligations.specs.Covers.{value_at, place_at}
-use Rattle.law_obligations.proofs.Tests.{and_both}
 use Rattle.law_obligations.proofs.Members.{Has-left, Has-right, Has-cases, Has-map, Has-from_map, any-found, all-holds}
 use Rattle.law_obligations.proofs.Same.{nat_eq-itself}
 use Rattle.law_obligations.proofs.Spots.{Has-numbers, numbers-Has}
 use Rattle.law_obligations.proofs.CoverScalarsets.{named_set}
-use Rattle.law_obligations.proofs.CoverParams.{map-map}
 
 -- a value by its number alone
 abbrev pub number_of : Value → ℕ

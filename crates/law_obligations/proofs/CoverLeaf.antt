@@ -1,5 +1,6 @@
 -- Every instance of a leaf has a case with a placing.
 use Rattle.std.proofs.Common.{◌≡◌, ℕ, ◌+◌, List, [], ◌∷◌, map, Bool, true, false, sym, subst, Option, Some, None, IfSome}
+use Rattle.law_lists.proofs.Lists.{map-map}
 use Rattle.smv_core.specs.Values.{Value, Sizes}
 use Rattle.smv_core.specs.FlatMeaning.{Numbered, values_in}
 use Rattle.smv_core.specs.declared.flat.SetInfo.{SetInfo}
@@ -10,7 +11,6 @@ use Rattle.law_obligations.specs.Cases.{Parameter}
 use Rattle.law_obligations.specs.Covers.{AreApart, IsTreated, AreTreated, IsIndexType, AreCovered}
 use Rattle.law_obligations.specs.LeafCases.{kept_of, treatment_of, treatments_of, stays, parameters_of}
 use Rattle.law_obligations.proofs.Members.{Has-from_map}
-use Rattle.law_obligations.proofs.CoverParams.{map-map}
 use Rattle.law_obligations.proofs.CoverCases.{cases_cover}
 
 is_treated : (is_ordered : Bool) (declared : Option ℕ) (kept : Option (List ℕ)) (size : ℕ) → IfSome declared (λ n. size ≡ n) → IsTreated is_ordered size (treatment_of is_ordered declared kept)

@@ -1,10 +1,11 @@
 -- How long lists of different numbers are.
 use Rattle.std.proofs.Common.{◌≡◌, ℕ, zero, suc, ◌+◌, ◌<◌, ◌≤◌, List, [], ◌∷◌, ◌++◌, length, Bool, true, false, refl, sym, ap, subst, ◌⊎◌, inl, inr, arith, nat_eq, Option, Some, None, option_map, append_assoc}
+use Rattle.std.proofs.lemmas.Bool.{cases_Bool}
+use Rattle.law_lists.proofs.Numbers.{nat_eq-is}
 use Rattle.smv_core.specs.Values.{numbers_from}
 use Rattle.law_obligations.specs.Sets.{Has, first, later}
 use Rattle.law_obligations.specs.Placings.{place_in, AreDistinct, AreBelow}
-use Rattle.law_obligations.proofs.Tests.{true_or_false}
-use Rattle.law_obligations.proofs.Same.{nat_eq-itself, nat_eq-is}
+use Rattle.law_obligations.proofs.Same.{nat_eq-itself}
 use Rattle.law_obligations.proofs.Spots.{Has-numbers, numbers-Has}
 use Rattle.law_obligations.proofs.CasesCover.{none_of_either, longer_distinct, stays, at_end, below_longer, nil_right}
 
@@ -26,7 +27,7 @@ Has-without (later h) first n = first
 Has-without (later h) (later k) n = later (Has-without h k n)
 
 -- what is not found is not there
-missing : (v : ℕ) (xs : List ℕ) → place_in v xs ≡ None → Has xs v → ⊥
+pub missing : (v : ℕ) (xs : List ℕ) → place_in v xs ≡ None → Has xs v → ⊥
 missing v [] e h = elim h [ ]
 missing v (x ∷ xs) e first = absurd (clash (nat_eq-itself v) (none_of_either (nat_eq v v) (place_in v xs) e).0)
   where
@@ -36,14 +37,14 @@ missing v (x ∷ xs) e (later h) = missing v xs (none_of_either (nat_eq v x) (pl
 
 pub not_found : (v : ℕ) (xs : List ℕ) → (Has xs v → ⊥) → place_in v xs ≡ None
 not_found v [] n = refl
-not_found v (x ∷ xs) n = elim (true_or_false (nat_eq v x)) [
+not_found v (x ∷ xs) n = elim (cases_Bool (nat_eq v x)) [
   | inl e ↦ absurd (n (subst (Has (x ∷ xs)) (sym (nat_eq-is v x e)) first))
   | inr e ↦ rw e (ap (option_map (λ c. suc c)) (not_found v xs (λ h. n (later h))))
 ]
 
 pub is_found : (v : ℕ) (xs : List ℕ) → (place_in v xs ≡ None → ⊥) → Has xs v
 is_found v [] n = absurd (n refl)
-is_found v (x ∷ xs) n = elim (true_or_false (nat_eq v x)) [
+is_found v (x ∷ xs) n = elim (cases_Bool (nat_eq v x)) [
   | inl e ↦ subst (Has (x ∷ xs)) (sym (nat_eq-is v x e)) first
   | inr e ↦ later (is_found v xs (λ p. n (rw e (ap (option_map (λ c. suc c)) p))))
 ]

@@ -2,16 +2,16 @@
 use Rattle.std.proofs.Common.{◌≡◌, ◌≢◌, ℕ, zero, suc, ◌+◌, List, [], ◌∷◌, map, false, refl, ap, inl, inr, arith, slice_get, Some}
 use Rattle.std.specs.Str.{bytes_eq}
 use Rattle.std.proofs.lemmas.Slice.Eq.{bytes_eq-Decides}
+use Rattle.std.proofs.lemmas.Bool.{cases_Bool}
 use Rattle.smv_core.specs.Values.{Name, Sizes}
 use Rattle.smv_core.specs.declared.flat.SetInfo.{SetInfo}
 use Rattle.law_obligations.specs.Sets.{Has, first, later}
 use Rattle.law_obligations.specs.Cases.{Treatment, numbered}
 use Rattle.law_obligations.specs.Covers.{by_name, AreApart, AreTreated}
-use Rattle.law_obligations.proofs.Tests.{true_or_false}
 use Rattle.law_obligations.proofs.OneOfEach.{get_Has}
 
-apart : (a b : Name) → a ≢ b → bytes_eq a b ≡ false
-apart a b n = elim (true_or_false (bytes_eq a b)) [ inl e ↦ absurd (n ((bytes_eq-Decides a b).0 e)) | inr e ↦ e ]
+pub apart : (a b : Name) → a ≢ b → bytes_eq a b ≡ false
+apart a b n = elim (cases_Bool (bytes_eq a b)) [ inl e ↦ absurd (n ((bytes_eq-Decides a b).0 e)) | inr e ↦ e ]
 
 -- what stands at the place of a set type is what its name finds
 pub by_name-at : {X : Type 0} (missing : X) (sets : List SetInfo) (xs : List X) (j : ℕ) (info : SetInfo) (x : X) →

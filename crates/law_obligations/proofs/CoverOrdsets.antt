@@ -165,7 +165,7 @@ each_class size values vs r back i c l =
     same_class : {c d : ℕ} → class c ≡ class d → c ≡ d
     same_class e = cc
 
-used_most : (m : ℕ) (classes : List ℕ) → ((c : ℕ) → Has classes c → c < m) → used classes ≤ m
+pub used_most : (m : ℕ) (classes : List ℕ) → ((c : ℕ) → Has classes c → c < m) → used classes ≤ m
 used_most m [] each = omega arith
 used_most m (c ∷ classes) each = let l = each c first in let r = used_most m classes (λ d h. each d (later h)) in omega (arith, l, r)
 

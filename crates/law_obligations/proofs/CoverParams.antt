@@ -1,5 +1,8 @@
 -- The parameters of a leaf with their values.
 use Rattle.std.proofs.Common.{◌≡◌, ℕ, ◌≤◌, List, [], ◌∷◌, map, length, Bool, true, ◌&&◌, refl, sym, ap, subst, inl, inr, arith}
+use Rattle.std.proofs.lemmas.Bool.{cases_Bool}
+use Rattle.law_lists.proofs.Numbers.{nat_eq-is}
+use Rattle.law_lists.proofs.Booleans.{and_both, left_of}
 use Rattle.smv_core.specs.Values.{Value}
 use Rattle.smv_core.specs.FlatMeaning.{Numbered, values_in, simple_in}
 use Rattle.smv_core.specs.declared.flat.Simple.{Simple}
@@ -9,14 +12,8 @@ use Rattle.law_obligations.specs.Sets.{Has, first, later, one_of_each}
 use Rattle.law_obligations.specs.Places.{Place}
 use Rattle.law_obligations.specs.Cases.{Parameter, is_set, those_of}
 use Rattle.law_obligations.specs.Covers.{place_at, places_at}
-use Rattle.law_obligations.proofs.Tests.{true_or_false, and_both, left_of}
 use Rattle.law_obligations.proofs.Members.{Picks, none, more, Has-from_map}
-use Rattle.law_obligations.proofs.Same.{nat_eq-is}
-use Rattle.law_obligations.proofs.OneOfEach.{map_long, Has-from_flat_map}
-
-pub map-map : {X Y Z : Type 0} (g : Y → Z) (f : X → Y) (xs : List X) → map g (map f xs) ≡ map (λ x. g (f x)) xs
-map-map g f [] = refl
-map-map g f (x ∷ xs) = ap (λ z. g (f x) ∷ z) (map-map g f xs)
+use Rattle.law_obligations.proofs.OneOfEach.{Has-from_flat_map}
 
 pub map-same : {X Y : Type 0} (f g : X → Y) (xs : List X) → ((x : X) → Has xs x → f x ≡ g x) → map f xs ≡ map g xs
 map-same f g [] each = refl
@@ -48,7 +45,7 @@ pub Stands-Has : {params : List Parameter} {values : List Value} {p : Parameter}
 Stands-Has here = first
 Stands-Has (there s) = later (Stands-Has s)
 
-is_set-is : (set : ℕ) (over : Simple) → is_set set over ≡ true → over ≡ Set set
+pub is_set-is : (set : ℕ) (over : Simple) → is_set set over ≡ true → over ≡ Set set
 is_set-is set (Set other) e = ap Set (nat_eq-is other set e)
 is_set-is set (Range low high) e = absurd (cc)
 is_set-is set (Enum list) e = absurd (cc)
@@ -57,7 +54,7 @@ is_set-is set (Enum list) e = absurd (cc)
 pub those_of-map : {X Y : Type 0} (f : X → Y) (test : Bool → Bool) (set : ℕ) (params : List Parameter) (xs : List X) → those_of test set params (map f xs) ≡ map f (those_of test set params xs)
 those_of-map f test set [] xs = refl
 those_of-map f test set (p ∷ params) [] = refl
-those_of-map f test set (p ∷ params) (x ∷ xs) = elim (true_or_false (is_set set p.over && test p.listed)) [
+those_of-map f test set (p ∷ params) (x ∷ xs) = elim (cases_Bool (is_set set p.over && test p.listed)) [
   | inl e ↦ rw e (ap (λ z. f x ∷ z) (those_of-map f test set params xs))
   | inr e ↦ rw e (those_of-map f test set params xs)
 ]
@@ -66,7 +63,7 @@ pub those_of-few : {X : Type 0} (test : Bool → Bool) (set : ℕ) (params : Lis
 those_of-few test set [] xs = omega arith
 those_of-few test set (p ∷ params) [] = omega arith
 those_of-few test set (p ∷ params) (x ∷ xs) = let r = those_of-few test set params xs in
-    elim (true_or_false (is_set set p.over && test p.listed)) [
+    elim (cases_Bool (is_set set p.over && test p.listed)) [
       | inl e ↦ rw e (omega (arith, r))
       | inr e ↦ rw e (omega (arith, r))
     ]
@@ -78,7 +75,7 @@ those_of-Has test set [] values p v s e l = elim s [ ]
 those_of-Has test set (q ∷ params) [] p v s e l = elim s [ ]
 those_of-Has test set (p ∷ params) (v ∷ values) _ _ here e l = rw (and_both e l) first
 those_of-Has test set (q ∷ params) (u ∷ values) p v (there s) e l = let r = those_of-Has test set params values p v s e l in
-    elim (true_or_false (is_set set q.over && test q.listed)) [
+    elim (cases_Bool (is_set set q.over && test q.listed)) [
       | inl b ↦ rw b (later r)
       | inr b ↦ rw b r
     ]
@@ -88,7 +85,7 @@ pub those_of-is : (n : Numbered) (test : Bool → Bool) (set : ℕ) (params : Li
     (v : Value) → Has (those_of test set params values) v → Has (values_in n (Set set)) v
 those_of-is n test set [] values picks v h = elim h [ ]
 those_of-is n test set (p ∷ params) [] picks v h = elim picks [ ]
-those_of-is n test set (p ∷ params) (u ∷ values) (more k picks) v h = elim (true_or_false (is_set set p.over && test p.listed)) [
+those_of-is n test set (p ∷ params) (u ∷ values) (more k picks) v h = elim (cases_Bool (is_set set p.over && test p.listed)) [
   | inl e ↦ at v (λ g. those_of-is n test set params values picks v g) (rw e at h)
       (subst (λ over. Has (values_in n over) u) (is_set-is set p.over (left_of (is_set set p.over) (test p.listed) e)) k)
   | inr e ↦ those_of-is n test set params values picks v (rw e at h)

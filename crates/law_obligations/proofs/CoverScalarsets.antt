@@ -1,6 +1,7 @@
 -- A set type under a placing that suits the values of its listed parameters; scalarsets, whole and reduced.
 use Rattle.std.proofs.Common.{◌≡◌, ℕ, suc, ◌+◌, ◌<◌, ◌≤◌, max, List, [], ◌∷◌, ◌++◌, map, length, Bool, true, false, if◌then◌else◌, refl, sym, ap, subst, ◌∙◌, arith, nat_lt, nat_le, Some, None}
 use Rattle.std.specs.List.{list_all}
+use Rattle.law_lists.proofs.Booleans.{and_both, left_of, right_of}
 use Rattle.smv_core.specs.Values.{Name, Simple, scalarset, ordset, Sizes}
 use Rattle.smv_core.specs.declared.abstract_type.Rest.TheVariants as beside
 use Rattle.law_obligations.specs.Sets.{Has, first, later}
@@ -8,7 +9,6 @@ use Rattle.law_obligations.specs.Places.{World, rests_beside}
 use Rattle.law_obligations.specs.Pictures.{Spot, class, Placing, placed, IsPlaced}
 use Rattle.law_obligations.specs.Placings.{place_in, spot_by, AreDistinct, AreBelow, HasRoom, AreIn}
 use Rattle.law_obligations.specs.Cases.{Treatment, whole, reduced, used, grow, is_orderly, abstract_type}
-use Rattle.law_obligations.proofs.Tests.{and_both, left_of, right_of}
 use Rattle.law_obligations.proofs.Members.{all-holds}
 use Rattle.law_obligations.proofs.Scalarsets.{by_class, spotted_by, scalarset_is_placed}
 use Rattle.law_obligations.proofs.Spots.{AreSpotted}

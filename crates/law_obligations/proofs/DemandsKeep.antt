@@ -1,6 +1,7 @@
 -- What a definition allows in a run is met in the picture, and what is not broken there is allowed.
 use Rattle.std.proofs.Common.{◌≡◌, ℕ, zero, suc, ◌+◌, ◌-◌, List, [], ◌∷◌, map, length, Bool, true, false, not, if◌then◌else◌, ◌&&◌, ◌||◌, refl, sym, ap, subst, inl, inr, Option, Some, None, unwrap_or}
 use Rattle.std.specs.List.{list_any, list_all, slice_get, zip}
+use Rattle.law_lists.proofs.Booleans.{left_of, right_of}
 use Rattle.smv_core.specs.Values.{Name, Value, number, constant, scalar, ordinal}
 use Rattle.smv_core.specs.Walk.{Walk}
 use Rattle.smv_core.specs.Assignments.{Index, fixed, bare, computed, add_fixed, modulo_fixed, fits}
@@ -17,7 +18,6 @@ use Rattle.law_obligations.specs.Right.{may_allow, must_allow}
 use Rattle.law_obligations.specs.Demands.{fits_place, concerns_place, or_else, may_give, must_give, may_keep, must_keep, may_step, must_step, may_be, must_be, places_of_family, is_defined, is_broken_map}
 use Rattle.law_obligations.specs.Pictures.{Spot, class, other, Placing, at_spot, placed, ArePlaced, AreOfTypes, IsState, IsPicture, ArePictured}
 use Rattle.law_obligations.specs.Bound.{IsBound, OneGives, AreAtClasses, IsSingle}
-use Rattle.law_obligations.proofs.Tests.{left_of, right_of}
 use Rattle.law_obligations.proofs.Members.{Has-from_map, Has-cases, any-found, all-each}
 use Rattle.law_obligations.proofs.Same.{same_place-itself, same_place-is, is_among-Has}
 use Rattle.law_obligations.proofs.RightKeeps.{named_here, right_may, right_must}

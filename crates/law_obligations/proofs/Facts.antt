@@ -2,6 +2,8 @@
 use Rattle.std.proofs.Common.{◌≡◌, ℕ, ◌+◌, ◌-◌, List, [], ◌∷◌, map, Bool, true, false, if◌then◌else◌, ◌&&◌, refl, sym, ap, subst, ◌∙◌, inl, inr, Some, None, option_map, nat_eq, nat_lt}
 use Rattle.std.specs.Str.{bytes_eq}
 use Rattle.std.proofs.lemmas.Slice.Eq.{bytes_eq-Decides}
+use Rattle.std.proofs.lemmas.Bool.{cases_Bool}
+use Rattle.law_lists.proofs.Booleans.{same_tests}
 use Rattle.smv_core.specs.Values.{Name, Value, number, constant, scalar, ordinal, Simple, range, choice, scalarset, ordset, Sizes, Outcome, values_of, numbers_from, same, below, equal, compare, not_of, is_in}
 use Rattle.smv_core.specs.FlatMeaning.{Numbered, values_in, simple_in}
 use Rattle.smv_core.specs.declared.tree.Op.{Op}
@@ -11,7 +13,6 @@ use Rattle.smv_core.specs.declared.abstract_type.AbsType.{AbsType}
 use Rattle.law_obligations.specs.Sets.{Has, first}
 use Rattle.law_obligations.specs.Places.{Place, named, rest, World, world, rests_beside, named_of, rests_of, places_of, places_in, is_among, AbsOutcome, unsure, equal_places, below_places, where_defined, may_compare}
 use Rattle.law_obligations.specs.Pictures.{Spot, class, other, Placing, at_spot, placed, ArePlaced, IsValue}
-use Rattle.law_obligations.proofs.Tests.{same_tests, true_or_false}
 use Rattle.law_obligations.proofs.Members.{Has-cases, Has-map, Has-from_map}
 use Rattle.law_obligations.proofs.Same.{is_in-Has, Has-is_in, is_among-Has, Has-is_among}
 
@@ -122,8 +123,8 @@ unordered f g h k (other c) (other d) = rw (h c d) (at (same (f c) (g d)))
     at true = first
     at false = first
 
-not_named : (t u : Name) → bytes_eq t u ≡ false → bytes_eq u t ≡ false
-not_named t u h = elim (true_or_false (bytes_eq u t)) [ inl e ↦ absurd (clash ((bytes_eq-Decides t u).1 (sym ((bytes_eq-Decides u t).0 e))) h) | inr e ↦ e ]
+pub not_named : (t u : Name) → bytes_eq t u ≡ false → bytes_eq u t ≡ false
+not_named t u h = elim (cases_Bool (bytes_eq u t)) [ inl e ↦ absurd (clash ((bytes_eq-Decides t u).1 (sym ((bytes_eq-Decides u t).0 e))) h) | inr e ↦ e ]
   where
     clash : {b : Bool} → b ≡ true → b ≡ false → ⊥
     clash p q = cc
@@ -198,11 +199,11 @@ module _ (n : Numbered) (types : Name → AbsType) (spots : Placing) (facts : Ar
   equal_values (ordinal t k) (number l) p q = apart (ordinal t) (λ d. number l) (λ c d. refl) (spots t k) (class 0)
   equal_values (ordinal t k) (constant e) p q = apart (ordinal t) (λ d. constant e) (λ c d. refl) (spots t k) (class 0)
   equal_values (ordinal t k) (scalar u l) p q = apart (ordinal t) (scalar u) (λ c d. refl) (spots t k) (spots u l)
-  equal_values (scalar t k) (scalar u l) p q = elim (true_or_false (bytes_eq t u)) [
+  equal_values (scalar t k) (scalar u l) p q = elim (cases_Bool (bytes_eq t u)) [
     | inl e ↦ let r = one_scalarset t u k l e p q in (facts r.0).equality (scalar t k) (scalar u l) r.1 r.2
     | inr e ↦ subst (λ b. Has (equal_places (placed spots (scalar t k)) (placed spots (scalar u l))) (Some (b && nat_eq k l))) (sym e) (apart (scalar t) (scalar u) (λ c d. rw e refl) (spots t k) (spots u l))
   ]
-  equal_values (ordinal t k) (ordinal u l) p q = elim (true_or_false (bytes_eq t u)) [
+  equal_values (ordinal t k) (ordinal u l) p q = elim (cases_Bool (bytes_eq t u)) [
     | inl e ↦ let r = one_ordset t u k l e p q in (facts r.0).equality (ordinal t k) (ordinal u l) r.1 r.2
     | inr e ↦ subst (λ b. Has (equal_places (placed spots (ordinal t k)) (placed spots (ordinal u l))) (Some (b && nat_eq k l))) (sym e) (apart (ordinal t) (ordinal u) (λ c d. rw e refl) (spots t k) (spots u l))
   ]
@@ -223,7 +224,7 @@ module _ (n : Numbered) (types : Name → AbsType) (spots : Placing) (facts : Ar
   below_values (ordinal t k) (number l) p q = unordered (ordinal t) (λ d. number l) (λ c d. refl) (λ c d. refl) (spots t k) (class 0)
   below_values (ordinal t k) (constant e) p q = unordered (ordinal t) (λ d. constant e) (λ c d. refl) (λ c d. refl) (spots t k) (class 0)
   below_values (ordinal t k) (scalar u l) p q = unordered (ordinal t) (scalar u) (λ c d. refl) (λ c d. refl) (spots t k) (spots u l)
-  below_values (ordinal t k) (ordinal u l) p q = elim (true_or_false (bytes_eq t u)) [
+  below_values (ordinal t k) (ordinal u l) p q = elim (cases_Bool (bytes_eq t u)) [
     | inl e ↦ let r = one_ordset t u k l e p q in (facts r.0).order (ordinal t k) (ordinal u l) r.1 r.2
     | inr e ↦ subst (λ b. Has (below_places (placed spots (ordinal t k)) (placed spots (ordinal u l))) (if b then Some (nat_lt k l) else None)) (sym e)
         (unordered (ordinal t) (ordinal u) (λ c d. rw e refl) (λ c d. rw (not_named t u e) refl) (spots t k) (spots u l))

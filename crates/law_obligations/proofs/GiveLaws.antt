@@ -2,6 +2,7 @@
 use Rattle.std.proofs.Common.{◌≡◌, List, [], ◌∷◌, map, Bool, true, false, not, ◌&&◌, ◌||◌, Option, Some, None, refl, ap, ◌∙◌}
 use Rattle.std.specs.List.{flat_map, list_any, list_all}
 use Rattle.std.specs.Option.{is_none}
+use Rattle.law_lists.proofs.Anys.{any-map, any-flat_map, any-agree}
 use Rattle.smv_core.specs.Values.{Truth}
 use Rattle.smv_core.specs.Outcome.{is_true}
 use Rattle.smv_core.specs.declared.tree.Op.{Op}
@@ -15,7 +16,6 @@ use Rattle.law_obligations.specs.Results.{results}
 use Rattle.law_obligations.specs.Demands.{or_else, may_give, must_give}
 use Rattle.law_obligations.specs.Gist.{Gist, passes, gist_of}
 use Rattle.law_obligations.specs.Mix.{mix_by}
-use Rattle.law_obligations.proofs.Anys.{any-flat_map, any-map, any-ext}
 use Rattle.law_obligations.proofs.MixLaws.{same_mix, seen-shown}
 
 -- some result gives the place, or Nothing does
@@ -71,7 +71,7 @@ mix-compare op us vs = same_mix (part is_false) (part is_true) (part is_neither)
   where
     part : (p : Truth → Bool) → list_any (λ u. p (seen u)) (pairs (λ u v. map shown (may_compare op u v)) us vs) ≡ answers (may_compare op) p us vs
     part p = any-flat_map (λ u. p (seen u)) (λ u. flat_map (λ v. map shown (may_compare op u v)) vs) us
-        ∙ any-ext (λ u. list_any (λ x. p (seen x)) (flat_map (λ v. map shown (may_compare op u v)) vs)) (λ u. list_any (λ v. list_any p (may_compare op u v)) vs) us (λ u.
+        ∙ any-agree (λ u. list_any (λ x. p (seen x)) (flat_map (λ v. map shown (may_compare op u v)) vs)) (λ u. list_any (λ v. list_any p (may_compare op u v)) vs) us (λ u.
         any-flat_map (λ x. p (seen x)) (λ v. map shown (may_compare op u v)) vs
-        ∙ any-ext (λ v. list_any (λ x. p (seen x)) (map shown (may_compare op u v))) (λ v. list_any p (may_compare op u v)) vs (λ v.
-        any-map (λ x. p (seen x)) shown (may_compare op u v) ∙ any-ext (λ t. p (seen (shown t))) p (may_compare op u v) (λ t. ap p (seen-shown t))))
+        ∙ any-agree (λ v. list_any (λ x. p (seen x)) (map shown (may_compare op u v))) (λ v. list_any p (may_compare op u v)) vs (λ v.
+        any-map (λ x. p (seen x)) shown (may_compare op u v) ∙ any-agree (λ t. p (seen (shown t))) p (may_compare op u v) (λ t. ap p (seen-shown t))))

@@ -1,6 +1,8 @@
 -- What a problem demands is granted by base definitions and by what the leaf uses at that time.
 use Rattle.std.proofs.Common.{◌≡◌, ℕ, zero, suc, ◌+◌, List, [], ◌∷◌, ◌++◌, map, Bool, true, false, if◌then◌else◌, ◌&&◌, refl, sym, ap, subst, ◌∙◌, inl, inr, Option, Some, None, option_to_list, find, nat_eq, arith}
 use Rattle.std.specs.List.{flat_map, slice_get, zip}
+use Rattle.law_lists.proofs.Options.{some_is}
+use Rattle.law_lists.proofs.Booleans.{either_left, either_right, and_both, left_of, right_of}
 use Rattle.smv_core.specs.declared.flat.Def.{Def}
 use Rattle.smv_core.specs.declared.flat.Claim.{Claim}
 use Rattle.smv_core.specs.declared.flat.Class.{Class}
@@ -14,7 +16,6 @@ use Rattle.law_obligations.specs.Sets.{Has, one_of_each}
 use Rattle.law_obligations.specs.Places.{named_in}
 use Rattle.law_obligations.specs.Obligations.{Demanded, defined, holds, AbstractProblem}
 use Rattle.law_obligations.specs.Soundness.{FlatUnit, map_of, claim_of, over_of, LeafProof, IsOf, IsGranted, by_base, by_use}
-use Rattle.law_obligations.proofs.Tests.{and_both, left_of, right_of, or_left, or_right}
 use Rattle.law_obligations.proofs.Members.{Has-cases, Has-from_map, any-found}
 use Rattle.law_obligations.proofs.Same.{nat_eq-itself}
 use Rattle.law_obligations.proofs.OneOfEach.{Has-from_flat_map}
@@ -22,14 +23,14 @@ use Rattle.law_obligations.specs.Outlines.{Entry, Outline, Script, outline_of, u
 use Rattle.law_obligations.specs.Times.{is_unit, graph, same_time, pick_time, timed}
 use Rattle.law_obligations.specs.Cones.{AbsElement, element, same_element, cone}
 use Rattle.law_obligations.specs.Problems.{is_at, family_time, world_of, params_at, own_params, element_demands, own_demands, itself_demands, instances, claim_demands, demands, problem_of, entry_uses, used_by, uses_at, proof_of, proofs_from, plan_of}
-use Rattle.law_obligations.proofs.Lookups.{inner, Has-option, Has-tested, find-some, Has-zip}
+use Rattle.law_obligations.proofs.Lookups.{Has-option, Has-tested, find-some, Has-zip}
 use Rattle.law_obligations.proofs.OutlineFacts.{Says, Comes, from_base, from_unit, map_in-is, chosen-comes, assumed-comes}
 use Rattle.law_obligations.proofs.ConeFacts.{in_cone-is, in_cone-kept, same_element-family}
 
 -- the leaves of the plan, by their places
 pub proofs-get : (s : Script) (k i : ℕ) (entries : List Entry) (v : ℕ) (entry : Entry) → i ≡ k + v → slice_get entries v ≡ Some entry → slice_get (proofs_from s k entries) v ≡ Some (proof_of s i entry)
 proofs-get s k i [] v entry n e = absurd (cc)
-proofs-get s k i (x ∷ entries) zero entry n e = pair (omega arith) (inner e)
+proofs-get s k i (x ∷ entries) zero entry n e = pair (omega arith) (some_is e)
   where
     pair : k ≡ i → x ≡ entry → Some (proof_of s k x) ≡ Some (proof_of s i entry)
     pair p q = ap (λ k. Some (proof_of s k x)) p ∙ ap (λ x. Some (proof_of s i x)) q
@@ -38,7 +39,7 @@ proofs-get s k i (x ∷ entries) (suc v) entry n e = proofs-get s (suc k) i entr
 pub proofs-are : (s : Script) (k i : ℕ) (entries : List Entry) (v : ℕ) (leaf : LeafProof) → i ≡ k + v → slice_get (proofs_from s k entries) v ≡ Some leaf →
     (entry : Entry) × (slice_get entries v ≡ Some entry) × (proof_of s i entry ≡ leaf)
 proofs-are s k i [] v leaf n e = absurd (cc)
-proofs-are s k i (x ∷ entries) zero leaf n e = (x, refl, ap (λ k. proof_of s k x) (omega arith) ∙ inner e)
+proofs-are s k i (x ∷ entries) zero leaf n e = (x, refl, ap (λ k. proof_of s k x) (omega arith) ∙ some_is e)
 proofs-are s k i (x ∷ entries) (suc v) leaf n e = proofs-are s (suc k) i entries v leaf (omega arith) e
 
 -- the time of a family is that of its first pick
@@ -48,12 +49,12 @@ family_time-is f (q ∷ picks) family p e = at (nat_eq q.family family) e (famil
   where
     at : (b : Bool) → (if b then Some q else find (λ p. nat_eq p.family family) picks) ≡ Some p → (find (λ p. nat_eq p.family family) picks ≡ Some p → family_time picks (map f picks) family ≡ f p) →
         (if b then f q else family_time picks (map f picks) family) ≡ f p
-    at true e goes = ap f (inner e)
+    at true e goes = ap f (some_is e)
     at false e goes = goes e
 
 names-itself : (v : ℕ) (ov : Option ℕ) → ov ≡ Some v → is_unit v ov ≡ true
 names-itself v None e = absurd (cc)
-names-itself v (Some other) e = subst (λ z. nat_eq z v ≡ true) (sym (inner e)) (nat_eq-itself v)
+names-itself v (Some other) e = subst (λ z. nat_eq z v ≡ true) (sym (some_is e)) (nat_eq-itself v)
 
 at-same : (s t : Timing) → s ≡ t → is_at s t ≡ true
 at-same Now t e = subst (λ t. is_at Now t ≡ true) e refl
@@ -62,12 +63,12 @@ at-same Before t e = subst (λ t. is_at Before t ≡ true) e refl
 -- units and their entries
 entry-there : (entries : List Entry) (v : ℕ) (unit : Unit) → slice_get (map (λ entry. entry.unit) entries) v ≡ Some unit → (entry : Entry) × (slice_get entries v ≡ Some entry) × (entry.unit ≡ unit)
 entry-there [] v unit e = absurd (cc)
-entry-there (x ∷ entries) zero unit e = (x, refl, inner e)
+entry-there (x ∷ entries) zero unit e = (x, refl, some_is e)
 entry-there (x ∷ entries) (suc v) unit e = entry-there entries v unit e
 
 unit-there : (entries : List Entry) (v : ℕ) (entry : Entry) → slice_get entries v ≡ Some entry → slice_get (map (λ entry. entry.unit) entries) v ≡ Some entry.unit
 unit-there [] v entry e = absurd (cc)
-unit-there (x ∷ entries) zero entry e = ap (λ (entry : Entry). Some entry.unit) (inner e)
+unit-there (x ∷ entries) zero entry e = ap (λ (entry : Entry). Some entry.unit) (some_is e)
 unit-there (x ∷ entries) (suc v) entry e = unit-there entries v entry e
 
 module _ (s : Script) (u : ℕ) (entry : Entry) (is_there : slice_get s.entries u ≡ Some entry) (classes : List Class) where
@@ -88,13 +89,13 @@ module _ (s : Script) (u : ℕ) (entry : Entry) (is_there : slice_get s.entries 
   by_entry time v e = subst (λ oe. used_by s time u v oe ≡ true) (sym is_there) e
 
   by_pick : (q : Pick) → Has entry.choice.picks q → (v : ℕ) → picked_unit o q ≡ Some v → (time : Timing) → is_at (pick_time o (graph s) u (same_time o u entry) q) time ≡ true → uses_at s time u v ≡ true
-  by_pick q h v e time i = by_entry time v (or_left _ (any-found (λ (p, t). is_at t time && is_unit v (picked_unit o p)) (Has-zip (pick_time o (graph s) u (same_time o u entry)) h) (and_both i (names-itself v (picked_unit o q) e))))
+  by_pick q h v e time i = by_entry time v (either_left _ (any-found (λ (p, t). is_at t time && is_unit v (picked_unit o p)) (Has-zip (pick_time o (graph s) u (same_time o u entry)) h) (and_both i (names-itself v (picked_unit o q) e))))
 
   by_claim : (used : Assumed) (t : Timing) → Has (zip entry.choice.claims times.claims) (used, t) → (v : ℕ) → claim_unit o used.claim ≡ Some v → (time : Timing) → is_at t time ≡ true → uses_at s time u v ≡ true
-  by_claim used t h v e time i = by_entry time v (or_right _ (or_left _ (any-found (λ (used, t). is_at t time && is_unit v (claim_unit o used.claim)) h (and_both i (names-itself v (claim_unit o used.claim) e)))))
+  by_claim used t h v e time i = by_entry time v (either_right _ (either_left _ (any-found (λ (used, t). is_at t time && is_unit v (claim_unit o used.claim)) h (and_both i (names-itself v (claim_unit o used.claim) e)))))
 
   by_itself : (time : Timing) → is_at time Before ≡ true → entry.choice.itself ≡ true → uses_at s time u u ≡ true
-  by_itself time a i = by_entry time u (or_right _ (or_right _ (and_both a (and_both i (nat_eq-itself u)))))
+  by_itself time a i = by_entry time u (either_right _ (either_right _ (and_both a (and_both i (nat_eq-itself u)))))
 
   -- what a definition says of an element of the cone
   of_element : (def : Def) (x : AbsElement) → def.family ≡ x.family → Has the_cone x → IsOf (plan_of s) p (map_of def) (defined def x.indexes)
@@ -135,7 +136,7 @@ module _ (s : Script) (u : ℕ) (entry : Entry) (is_there : slice_get s.entries 
           let own = element def.family (own_params o entry classes) in
           let t = Has-tested (same_element own x) k in
           let r = Has-option (Some (defined def x.indexes)) t.1 in
-          subst (IsGranted (plan_of s) (uses_at s time u) p) (inner r)
+          subst (IsGranted (plan_of s) (uses_at s time u) p) (some_is r)
           (by_unit (uses_at s time u) u (map_of def) (defined def x.indexes) (by_itself time a i)
           (record { unit = entry.unit; is_there = unit-there s.entries u entry is_there; is_said = map_in-is (unit_in o.design entry.unit) def m }) (of_element def x (same_element-family own x t.0) h))
 

@@ -1,6 +1,12 @@
 -- Values of the parameters that splits add, at which each guard holds: one after the other, since a guard reads only the parameters before its own.
 use Rattle.std.proofs.Common.{◌≡◌, ℕ, suc, ◌+◌, ◌<◌, ◌≤◌, List, [], ◌∷◌, ◌++◌, map, length, get_or, true, false, refl, sym, ap, subst, ◌∙◌, ◌⊎◌, inl, inr, arith, Some, nat_eq}
 use Rattle.std.specs.List.{slice_get}
+use Rattle.std.proofs.lemmas.List.{length-append}
+use Rattle.std.proofs.lemmas.Option.{slice_get_within}
+use Rattle.std.proofs.lemmas.Bool.{cases_Bool}
+use Rattle.law_lists.proofs.Numbers.{nat_eq-not, nat_eq-is}
+use Rattle.law_lists.proofs.Options.{some_is}
+use Rattle.law_lists.proofs.Lists.{length_map, append_again}
 use Rattle.smv_core.specs.Values.{Value, number}
 use Rattle.smv_core.specs.FlatMeaning.{Numbered, FlatState, values_in, flat_outcome}
 use Rattle.smv_core.specs.declared.flat.Guard.{Guard}
@@ -8,28 +14,20 @@ use Rattle.smv_core.specs.declared.flat.Simple.{Simple as FlatSimple}
 use Rattle.law_obligations.specs.Sets.{Has, first, later, one_of_each}
 use Rattle.law_obligations.specs.Scopes.{before, ReadsOnly}
 use Rattle.law_obligations.specs.Guards.{is_or_outside, guard_holds, AreGuards}
-use Rattle.law_obligations.proofs.Tests.{true_or_false}
-use Rattle.law_obligations.proofs.Same.{nat_eq-is}
-use Rattle.law_obligations.proofs.OneOfEach.{AreOf, are_of, one_of, are_long, map_long, joined_long, get_after, value_after, get_before, get_past, joined_again}
+use Rattle.law_obligations.proofs.OneOfEach.{AreOf, are_of, one_of, are_long, get_after, value_after, get_before}
 use Rattle.law_obligations.proofs.ScopesKeep.{Agree, outcome_alike}
 use Rattle.law_obligations.proofs.GuardsKeep.{guard_met}
 
 is_below : (k var : ℕ) → before var k ≡ true → k < var
 is_below k var h = grind arith
 
-differs : (k l : ℕ) → nat_eq k l ≡ false → k ≡ l → ⊥
-differs k l e h = grind arith
-
-inner : {X : Type 0} {x y : X} → Some x ≡ Some y → x ≡ y
-inner e = cc
-
 -- the guard of a parameter, if there is one
 guard_of : (k : ℕ) (gs : List Guard) → ((g : Guard) × Has gs g × (g.var ≡ k)) ⊎ ((g : Guard) → Has gs g → g.var ≡ k → ⊥)
 guard_of k [] = inr (λ g h e. elim h [ ])
-guard_of k (g ∷ gs) = at (true_or_false (nat_eq g.var k)) (guard_of k gs)
+guard_of k (g ∷ gs) = at (cases_Bool (nat_eq g.var k)) (guard_of k gs)
   where
     past : nat_eq g.var k ≡ false → ((h : Guard) → Has gs h → h.var ≡ k → ⊥) → (h : Guard) → Has (g ∷ gs) h → h.var ≡ k → ⊥
-    past e none _ first i = differs g.var k e i
+    past e none _ first i = nat_eq-not g.var k e i
     past e none h (later l) i = none h l i
 
     at : (nat_eq g.var k ≡ true) ⊎ (nat_eq g.var k ≡ false) → ((h : Guard) × Has gs h × (h.var ≡ k)) ⊎ ((h : Guard) → Has gs h → h.var ≡ k → ⊥) →
@@ -67,12 +65,12 @@ module _ (n : Numbered) (s : FlatState) (guards : List Guard) (types : List Flat
     where
       agree : Agree (before g.var) (vs ++ d ∷ fill) (vs ++ i ∷ added)
       agree = record {
-        long = joined_long vs (d ∷ fill) ∙ (ap (λ k. length vs + suc k) same ∙ sym (joined_long vs (i ∷ added)));
+        long = length-append vs (d ∷ fill) ∙ (ap (λ k. length vs + suc k) same ∙ sym (length-append vs (i ∷ added)));
         alike = λ k is. get_before vs (d ∷ fill) (i ∷ added) k (subst (λ m. k < m) e (is_below k g.var is));
       }
 
   longer : (vs : List Value) (v : Value) → length (vs ++ v ∷ []) ≡ suc (length vs)
-  longer vs v = joined_long vs (v ∷ []) ∙ one_more (length vs)
+  longer vs v = length-append vs (v ∷ []) ∙ one_more (length vs)
     where
       one_more : (k : ℕ) → k + 1 ≡ suc k
       one_more k = omega arith
@@ -94,7 +92,7 @@ module _ (n : Numbered) (s : FlatState) (guards : List Guard) (types : List Flat
 
       at : (g : Guard) → Has guards g → (g.var ≡ length vs) ⊎ (suc (length vs) ≤ g.var) → HoldsAt (vs ++ i ∷ r.added) g
       at g k (inl e) = here g k e
-      at g k (inr l) = subst (λ b. HoldsAt b g) (joined_again vs r.added i) (r.hold g k (subst (λ m. m ≤ g.var) (sym (longer vs i)) l))
+      at g k (inr l) = subst (λ b. HoldsAt b g) (append_again vs r.added i) (r.hold g k (subst (λ m. m ≤ g.var) (sym (longer vs i)) l))
 
   nil_right : (ts : List FlatSimple) → length (ts ++ []) ≡ length ts
   nil_right [] = refl
@@ -113,7 +111,7 @@ module _ (n : Numbered) (s : FlatState) (guards : List Guard) (types : List Flat
       at (inr none) = let d = filled t first in with_one t left vs d.0 d.1 (next d.0) (λ g h k. absurd (none g h k))
       at (inl (g, h, k)) =
           let d = filled t first in
-          let is_over : t ≡ g.over = inner (sym (get_after done left t) ∙ (ap (λ ts. slice_get ts (length done)) e ∙ (ap (slice_get types) (sym long ∙ sym k) ∙ of_type g h))) in
+          let is_over : t ≡ g.over = some_is (sym (get_after done left t) ∙ (ap (λ ts. slice_get ts (length done)) e ∙ (ap (slice_get types) (sym long ∙ sym k) ∙ of_type g h))) in
           let fill = filling left (λ u l. filled u (later l)) in
           let met = guard_met n s g.over g.expr (vs ++ d.0 ∷ fill.0) d.0 (subst (λ u. Has (values_in n u) d.0) is_over d.1) in
           let r = next met.0 in
@@ -129,15 +127,15 @@ module _ (n : Numbered) (s : FlatState) (guards : List Guard) (types : List Flat
   }
     where
       too_far : (g : Guard) → Has guards g → length vs ≤ g.var → ⊥
-      too_far g h l = let p = get_past types g.var g.over (of_type g h) in let q = ap length e in let r = nil_right done in omega arith
+      too_far g h l = let p = slice_get_within types g.var g.over (of_type g h) in let q = ap length e in let r = nil_right done in omega arith
   choose (t ∷ left) done e filled vs long = one_step done left t e filled vs long
-      (λ i. choose left (done ++ t ∷ []) (joined_again done left t ∙ e) (λ u k. filled u (later k)) (vs ++ i ∷ []) (longer vs i ∙ (ap suc long ∙ sym (one_longer done t))))
+      (λ i. choose left (done ++ t ∷ []) (append_again done left t ∙ e) (λ u k. filled u (later k)) (vs ++ i ∷ []) (longer vs i ∙ (ap suc long ∙ sym (one_longer done t))))
 
 -- for each state and all values of the unit's parameters some values of the added ones meet every guard
 pub guards_met : (n : Numbered) (own added : List FlatSimple) (guards : List Guard) → AreGuards (length own) (own ++ added) guards → ((t : FlatSimple) → Has added t → (v : Value) × Has (values_in n t) v) →
     (s : FlatState) (values : List Value) → Has (one_of_each (map (values_in n) own)) values →
     (more : List Value) × Has (one_of_each (map (values_in n) added)) more × ((g : Guard) → Has guards g → guard_holds n s g.over g.expr (values ++ more) (get_or (values ++ more) g.var (number 0)) ≡ true)
 guards_met n own added guards are filled s values h =
-    let long : length values ≡ length own = are_long (map (values_in n) own) values (are_of (map (values_in n) own) values h) ∙ map_long (values_in n) own in
+    let long : length values ≡ length own = are_long (map (values_in n) own) values (are_of (map (values_in n) own) values h) ∙ length_map (values_in n) own in
     let r = choose n s guards (own ++ added) are.is_of_type are.reads_before are.one_each added own refl filled values long in
     (r.added, one_of (map (values_in n) added) r.added r.are, λ g k. r.hold g k (subst (λ m. m ≤ g.var) (sym long) (are.is_added g k)))

@@ -1,6 +1,8 @@
 -- Guards cover the unit and are kept in the picture; so are claims.
 use Rattle.std.proofs.Common.{◌≡◌, zero, suc, List, map, Bool, true, false, not, ◌||◌, refl, sym, ap, subst, ◌∙◌, inl, inr, Some, None}
 use Rattle.std.specs.List.{list_all}
+use Rattle.std.proofs.lemmas.Bool.{or_cases, not-true, cases_Bool}
+use Rattle.law_lists.proofs.Booleans.{either_left, either_right}
 use Rattle.smv_core.specs.Values.{Name, Value, number, constant, scalar, ordinal, Outcome, truth, same, is_in}
 use Rattle.smv_core.specs.Outcome.{is_true}
 use Rattle.smv_core.specs.FlatMeaning.{Numbered, FlatState, values_in, flat_outcome}
@@ -14,7 +16,6 @@ use Rattle.law_obligations.specs.Right.{is_outside}
 use Rattle.law_obligations.specs.Demands.{is_assumed, is_broken_claim, may_equal, may_guard}
 use Rattle.law_obligations.specs.Guards.{is_or_outside, guard_holds}
 use Rattle.law_obligations.specs.Pictures.{Placing, placed, ArePlaced, IsState, IsPicture, AreValues}
-use Rattle.law_obligations.proofs.Tests.{or_left, or_right, or_cases, not_true, true_or_false}
 use Rattle.law_obligations.proofs.Members.{any-found, all-each}
 use Rattle.law_obligations.proofs.Same.{same-itself, Has-is_in}
 use Rattle.law_obligations.proofs.Facts.{IsOutcome, placed_outcome, of_type, same_in, equal_values}
@@ -27,9 +28,9 @@ guard_met n s over e b v h = at (flat_outcome n s e b)
   where
     at : (u : Outcome) → (i : Value) × Has (values_in n over) i × (is_or_outside (values_in n over) u i ≡ true)
     at None = (v, h, refl)
-    at (Some u) = elim (true_or_false (is_in (values_in n over) u)) [
-      | inl e ↦ (u, Has-is_in (values_in n over) u e, or_right (not (is_in (values_in n over) u)) (same-itself u))
-      | inr e ↦ (v, h, or_left (same u v) (ap not e))
+    at (Some u) = elim (cases_Bool (is_in (values_in n over) u)) [
+      | inl e ↦ (u, Has-is_in (values_in n over) u e, either_right (not (is_in (values_in n over) u)) (same-itself u))
+      | inr e ↦ (v, h, either_left (same u v) (ap not e))
     ]
 
 pub is_one : (u : Outcome) → is_true (truth u) ≡ true → u ≡ Some (number 1)
@@ -52,8 +53,8 @@ module _ (n : Numbered) (types : Name → AbsType) (spots : Placing) (facts : Ar
           (is_outside (places_in (world n types) over) (placed_outcome spots u) || may_equal (placed spots i) (placed_outcome spots u)) ≡ true
       at None p g = refl
       at (Some u) p g = elim (or_cases (not (is_in (values_in n over) u)) (same u i) g) [
-        | inl o ↦ or_left (may_equal (placed spots i) (Some (placed spots u))) (ap not (sym (same_in n types spots facts over u p) ∙ not_true (is_in (values_in n over) u) o))
-        | inr o ↦ or_right (not (is_among (places_in (world n types) over) (placed spots u)))
+        | inl o ↦ either_left (may_equal (placed spots i) (Some (placed spots u))) (ap not (sym (same_in n types spots facts over u p) ∙ not-true (is_in (values_in n over) u) o))
+        | inr o ↦ either_right (not (is_among (places_in (world n types) over) (placed spots u)))
             (any-found is_true (subst (λ c. Has (equal_places (placed spots u) (placed spots i)) (Some c)) o (equal_values n types spots facts u i p (of_type n over i k))) refl)
       ]
 

@@ -1,7 +1,8 @@
 -- The circular induction: by time, and at one time by the order of the uses that are now.
 use Rattle.std.proofs.Common.{◌≡◌, ℕ, zero, suc, ◌<◌, ◌≤◌, arith, List, [], ◌∷◌, length, map, take, Option, Some, None, option_map, Bool, true, false, refl, sym, subst, ◌⊎◌, inl, inr}
+use Rattle.std.proofs.lemmas.Bool.{cases_Bool}
+use Rattle.law_lists.proofs.Booleans.{and_both, left_of, right_of}
 use Rattle.law_obligations.specs.Circular.{Demand, Obligation, always, is_violating_after, Circle, AreHeld, IsShown, ShowsFailures, HasNoViolation, AlwaysHolds}
-use Rattle.law_obligations.proofs.Tests.{and_both, left_of, right_of, true_or_false}
 
 -- strong induction on numbers
 below : (P : ℕ → Type 0) → ((n : ℕ) → ((m : ℕ) → m < n → P m) → P n) → (n : ℕ) → (m : ℕ) → m < n → P m
@@ -135,7 +136,7 @@ module _ {State Instance Case : Type 0} {Picture : Case → Type 0} (circle : Ci
 
         at_step : t < length run → AtTime (Met (circle.holds u i)) None run t
         at_step within = let l = located State None run t within in
-            elim (true_or_false (circle.holds u i l.before l.state)) [
+            elim (cases_Bool (circle.holds u i l.before l.state)) [
               | inl holds ↦ l.writes (Met (circle.holds u i)) holds
               | inr fails ↦ absurd (shown u t within l (shows u i l.before l.state (l.reads (Met circle.base) (runs t)) fails) now before)
             ]

@@ -1,6 +1,10 @@
 -- The joined law: the circular rule over the states of a design and the instances of its units.
 use Rattle.std.proofs.Common.{◌≡◌, ℕ, zero, suc, ◌≤◌, List, [], ◌∷◌, ◌++◌, map, take, length, get_or, Bool, true, false, ◌&&◌, if◌then◌else◌, refl, sym, ap, subst, ◌∙◌, Option, Some, None, option_map, nat_eq}
 use Rattle.std.specs.List.{list_all, slice_get}
+use Rattle.std.proofs.lemmas.List.{map-append, take_at}
+use Rattle.law_lists.proofs.Lists.{length_map}
+use Rattle.law_lists.proofs.Numbers.{nat_eq-is}
+use Rattle.law_lists.proofs.Booleans.{and_both}
 use Rattle.smv_core.specs.Values.{Name, Value, number, Sizes}
 use Rattle.smv_core.specs.FlatMeaning.{Numbered, FlatState, simple_in, values_in}
 use Rattle.smv_core.specs.declared.flat.Class.{Class}
@@ -19,10 +23,9 @@ use Rattle.law_obligations.specs.Covers.{place_at, places_at, types_at}
 use Rattle.law_obligations.specs.Circular.{Demand, Obligation, always, is_violating_after, Circle, AreHeld, IsShown, ShowsFailures, HasNoViolation}
 use Rattle.law_obligations.specs.Obligations.{Demanded, AbstractProblem, is_met, is_broken, may_hold, obligation}
 use Rattle.law_obligations.specs.Soundness.{FlatUnit, map_of, claim_of, LeafProof, ProofPlan, at_sizes, AreSizes, over_of, params_of, values_over, is_held, meets_base, IsRun, HasValue, IsUnit, IsSoundPlan, HasNoViolatingPath, said_at, IsKept, IsGranted, by_base, by_use, own_places, IsCase, IsPlan}
-use Rattle.law_obligations.proofs.Tests.{and_both}
 use Rattle.law_obligations.proofs.Members.{Has-right, Has-from_map, all-each, all-holds}
-use Rattle.law_obligations.proofs.Same.{nat_eq-itself, nat_eq-is}
-use Rattle.law_obligations.proofs.OneOfEach.{AreOf, are_of, one_of, are_long, are_joined, map_joined, map_long, take_front, get_Has, Has_get}
+use Rattle.law_obligations.proofs.Same.{nat_eq-itself}
+use Rattle.law_obligations.proofs.OneOfEach.{AreOf, are_of, one_of, are_long, are_joined, get_Has, Has_get}
 use Rattle.law_obligations.proofs.GuardsChosen.{choose}
 use Rattle.law_obligations.proofs.CoverLeaf.{leaf_cases_cover}
 use Rattle.law_obligations.proofs.CaseKeeps.{Known, state_of, values_are, picture, picture_is, demand_met, target_broken, guard_may}
@@ -146,7 +149,7 @@ module _ (plan : ProofPlan) (sizes : Sizes) where
 
     is_long : (i : Instance) → length i.values ≡ length (params_of plan.names i.leaf.unit)
     is_long i = are_long (map (values_in n) (params_of plan.names i.leaf.unit)) i.values (are_of (map (values_in n) (params_of plan.names i.leaf.unit)) i.values i.are_values)
-        ∙ map_long (values_in n) (params_of plan.names i.leaf.unit)
+        ∙ length_map (values_in n) (params_of plan.names i.leaf.unit)
 
     has_case : (i : Instance) (s : FlatState) → HasCase i s
     has_case i s =
@@ -158,7 +161,7 @@ module _ (plan : ProofPlan) (sizes : Sizes) where
         subst (HasValue n) (sym p.2) ((is_plan.have_values sizes are_sizes).params i.leaf (is_one i) p.0 p.1) in
         let r = choose n s i.leaf.guards types leaf.are_guards.is_of_type leaf.are_guards.reads_before leaf.are_guards.one_each leaf.added own (sym leaf.are_params) filled i.values (is_long i) in
         let ys = i.values ++ r.added in
-        let are : AreOf (map (values_in n) types) ys = subst (λ ts. AreOf (map (values_in n) ts) ys) (sym leaf.are_params) (subst (λ xss. AreOf xss ys) (sym (map_joined (values_in n) own leaf.added))
+        let are : AreOf (map (values_in n) types) ys = subst (λ ts. AreOf (map (values_in n) ts) ys) (sym leaf.are_params) (subst (λ xss. AreOf xss ys) (sym (map-append (values_in n) own leaf.added))
         (are_joined (map (values_in n) own) (map (values_in n) leaf.added) i.values r.added (are_of (map (values_in n) own) i.values i.are_values) r.are)) in
         let c = leaf_cases_cover n is_plan.are_apart (λ info h. (are_sizes info h).1) i.leaf.params leaf.are_index_types i.leaf.keeps ys (one_of (map (values_in n) types) ys are) in
         record {
@@ -212,8 +215,8 @@ module _ (plan : ProofPlan) (sizes : Sizes) where
       stands = c.stand ∙ sym is_case.are_params
 
       front : map (placed c.spots) i.values ≡ own_places plan i.leaf p
-      front = sym (ap (take (length (params_of plan.names i.leaf.unit))) (sym stands ∙ map_joined (placed c.spots) i.values c.added)
-          ∙ take_front (map (placed c.spots) i.values) (map (placed c.spots) c.added) (length (params_of plan.names i.leaf.unit)) (map_long (placed c.spots) i.values ∙ is_long i))
+      front = sym (ap (take (length (params_of plan.names i.leaf.unit))) (sym stands ∙ map-append (placed c.spots) i.values c.added)
+          ∙ take_at (map (placed c.spots) i.values) (map (placed c.spots) c.added) (length (params_of plan.names i.leaf.unit)) (length_map (placed c.spots) i.values ∙ is_long i))
 
       guards_may : list_all (may_hold p (seen_in s)) p.guards ≡ true
       guards_may = subst (λ gs. list_all (may_hold p (seen_in s)) gs ≡ true) (sym is_case.are_guards) (all-holds (may_hold p (seen_in s)) i.leaf.guards

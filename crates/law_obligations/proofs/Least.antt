@@ -1,15 +1,15 @@
 -- What is reached is the least set.
 use Rattle.std.proofs.Common.{◌≡◌, ℕ, zero, suc, ◌+◌, ◌<◌, ◌≤◌, List, [], ◌∷◌, ◌++◌, length, Bool, true, false, if◌then◌else◌, not, cond, filter, refl, sym, ap, subst, ◌∙◌, ◌⊎◌, inl, inr, Option, Some, None, arith}
 use Rattle.std.specs.List.{slice_get}
+use Rattle.std.proofs.lemmas.Option.{slice_get_within}
+use Rattle.std.proofs.lemmas.Bool.{cases_Bool}
+use Rattle.law_lists.proofs.Booleans.{clash}
+use Rattle.law_lists.proofs.Options.{some_is}
 use Rattle.law_obligations.specs.Sets.{Has, first, later}
-use Rattle.law_obligations.proofs.Tests.{true_or_false}
 use Rattle.law_obligations.proofs.Members.{Has-uncons, Has-cases, any-found, any-some}
-use Rattle.law_obligations.proofs.OneOfEach.{get_Has, Has_get, get_past}
+use Rattle.law_obligations.proofs.OneOfEach.{get_Has, Has_get}
 use Rattle.law_obligations.specs.Reached.{is_among, with_all, following, in_turn, reached, IsLeast}
-use Rattle.law_obligations.proofs.Lookups.{inner, Has-filter, with_all-keeps, with_all-has, in_turn-keeps}
-
-clash : {b : Bool} → b ≡ true → b ≡ false → ⊥
-clash p q = cc
+use Rattle.law_obligations.proofs.Lookups.{Has-filter, with_all-keeps, with_all-has, in_turn-keeps}
 
 -- no member twice
 abbrev AreOnce : {X : Type 0} → List X → Type 0
@@ -35,7 +35,7 @@ module _ {X : Type 0} (same : X → X → Bool) (equal : (x y : X) → same x y 
 
   fewer : (x : X) (ys : List X) → Has ys x → length (without x ys) < length ys
   fewer x [] h = elim h [ ]
-  fewer x (y ∷ ys) h = elim (true_or_false (same x y)) [
+  fewer x (y ∷ ys) h = elim (cases_Bool (same x y)) [
     | inl e ↦ rw e (let l = few (λ y. not (same x y)) ys in omega (arith, l))
     | inr e ↦ rw e (let l = fewer x ys (elim (Has-uncons h) [ inl i ↦ absurd (clash (subst (λ z. same x z ≡ true) i (itself x)) e) | inr k ↦ k ]) in omega (arith, l))
   ]
@@ -113,9 +113,9 @@ module _ {X : Type 0} (same : X → X → Bool) (equal : (x y : X) → same x y 
     ]
     one_done place found d (Some z) e j x l i y h =
         let r = there found place j z e (omega arith) in
-        let same_x : r.0 ≡ x = inner (sym (stays found (next z) j r.0 r.1) ∙ i) in
+        let same_x : r.0 ≡ x = some_is (sym (stays found (next z) j r.0 r.1) ∙ i) in
         elim (last_or_before j place l) [
-          | inl s ↦ let q : z ≡ x = inner (sym e ∙ (ap (slice_get found) (sym s) ∙ r.1)) ∙ same_x in
+          | inl s ↦ let q : z ≡ x = some_is (sym e ∙ (ap (slice_get found) (sym s) ∙ r.1)) ∙ same_x in
               among-Has _ y (with_all-has same next itself found (next z) y (subst (λ z. Has (next z) y) (sym q) h))
           | inr m ↦ among-Has _ y (with_all-keeps same next found (next z) y (Has-among found y (d j x m (r.1 ∙ ap Some same_x) y h)))
         ]
@@ -146,7 +146,7 @@ module _ {X : Type 0} (same : X → X → Bool) (equal : (x y : X) → same x y 
     reached_is_least every from within closed = record {
       begins = λ x h. among-Has _ x (in_turn-keeps same next (length every) 0 (with_all same next [] from) x (with_all-has same next itself [] from x h));
       goes_on = λ x y h k. let g = Has_get h in done (length every) 0 (with_all same next [] from) (λ j x l. absurd (omega arith)) g.0 x
-          (let l = get_past (reached same next (length every) from) g.0 x g.1 in
+          (let l = slice_get_within (reached same next (length every) from) g.0 x g.1 in
           let m = no_longer (reached same next (length every) from) every (turns_once (length every) 0 (with_all same next [] from) (with_all-once [] from tt)) (reached_within (Has every) closed (length every) from within) in
           omega (arith, l, m)) g.1 y k;
       is_least = λ other begins goes_on x h. reached_within (λ x. other x ≡ true) goes_on (length every) from begins x h;

@@ -1,6 +1,8 @@
 -- A cone is the least set of elements, and a same-time set the least set of families.
 use Rattle.std.proofs.Common.{◌≡◌, ℕ, List, [], ◌∷◌, ◌++◌, map, length, take, Bool, true, false, if◌then◌else◌, ◌||◌, refl, sym, ap, subst, ◌∙◌, inl, inr, Option, Some, None, option_to_list, nat_eq, arith}
 use Rattle.std.specs.List.{flat_map, slice_get, list_any, list_all}
+use Rattle.std.proofs.lemmas.Option.{slice_get_within}
+use Rattle.law_lists.proofs.Numbers.{nat_eq-is}
 use Rattle.smv_core.specs.Values.{number, numbers_from}
 use Rattle.smv_core.specs.Assignments.{Index, fixed, bare, computed}
 use Rattle.smv_core.specs.declared.flat.Family.{Family}
@@ -15,9 +17,9 @@ use Rattle.law_obligations.specs.Places.{Place, named, same_place, is_named, Wor
 use Rattle.law_obligations.specs.Cases.{cases}
 use Rattle.law_obligations.specs.Soundness.{FlatUnit, map_of, claim_of, over_of}
 use Rattle.law_obligations.proofs.Members.{Has-map, Has-from_map, Has-flat_map, Has-uncons, any-found, any-some}
-use Rattle.law_obligations.proofs.Same.{nat_eq-itself, nat_eq-is}
+use Rattle.law_obligations.proofs.Same.{nat_eq-itself}
 use Rattle.law_obligations.proofs.Spots.{Has-numbers}
-use Rattle.law_obligations.proofs.OneOfEach.{AreOf, are_of, one_of, get_past, get_Has, Has-from_flat_map}
+use Rattle.law_obligations.proofs.OneOfEach.{AreOf, are_of, one_of, get_Has, Has-from_flat_map}
 use Rattle.law_obligations.proofs.CoverLists.{length-numbers}
 use Rattle.law_obligations.specs.Reached.{is_among, reached, IsLeast}
 use Rattle.law_obligations.specs.Reads.{is_own, is_bound_to, part_reads}
@@ -33,7 +35,7 @@ use Rattle.law_obligations.proofs.Least.{reached_is_least}
 use Rattle.law_obligations.proofs.ReadsWithin.{reads_within, part_within, either}
 use Rattle.law_obligations.proofs.Plans.{own_are}
 
-same_element-is : (x y : AbsElement) → same_element x y ≡ true → x ≡ y
+pub same_element-is : (x y : AbsElement) → same_element x y ≡ true → x ≡ y
 same_element-is x y e = ap (λ family. element family x.indexes) (same_element-family x y e) ∙ ap (element y.family) (same_element-indexes x y e)
 
 -- an index of a reference lies at a place of its type
@@ -53,7 +55,7 @@ module _ (w : World) where
   -- what is read are elements of the case
   element_there : (family : ℕ) (f : Family) → slice_get w.classes.families family ≡ Some f → (ps : List Place) → Has (one_of_each (map (named_in w) (over_of (slice_get w.classes.families family)))) ps → Has (elements w) (element family ps)
   element_there family f e ps h = Has-flat_map (elements_of w)
-      (Has-numbers 0 (length w.classes.families) family (omega arith) (let l = get_past w.classes.families family f e in omega (arith, l))) (Has-map (element family) h)
+      (Has-numbers 0 (length w.classes.families) family (omega arith) (let l = slice_get_within w.classes.families family f e in omega (arith, l))) (Has-map (element family) h)
 
   in_within : (family : ℕ) (indexes : List Index) (b : List Place) (y : AbsElement) (o : Option Family) → slice_get w.classes.families family ≡ o → Has (elements_in w family indexes b o) y → Has (elements w) y
   in_within family indexes b y None e h = elim h [ ]
@@ -149,7 +151,7 @@ module _ (s : Script) (checked : IsChecked s) where
   there_within : (family k : ℕ) (of : Option Family) → slice_get o.design.families family ≡ of → Has (if_there family of) k → Has all k
   there_within family k None e h = elim h [ ]
   there_within family k (Some f) e h = elim (Has-uncons h) [
-    | inl i ↦ subst (Has all) (sym i) (Has-numbers 0 (length o.design.families) family (omega arith) (let l = get_past o.design.families family f e in omega (arith, l)))
+    | inl i ↦ subst (Has all) (sym i) (Has-numbers 0 (length o.design.families) family (omega arith) (let l = slice_get_within o.design.families family f e in omega (arith, l)))
     | inr n ↦ elim n [ ]
   ]
 
@@ -169,7 +171,7 @@ module _ (s : Script) (checked : IsChecked s) where
   unit_within entry (claim_of claim) e k h = families_within claim.body k h
   unit_within entry (map_of def) e k h = elim (Has-uncons h) [
     | inl i ↦ let q = unit-def o.design entry.unit def e in let d = checked.are_definitions def (get_Has o.design.defs q.0 def q.2) in
-        subst (Has all) (sym i) (Has-numbers 0 (length o.design.families) def.family (omega arith) (let l = get_past o.design.families def.family d.family d.is_family in omega (arith, l)))
+        subst (Has all) (sym i) (Has-numbers 0 (length o.design.families) def.family (omega arith) (let l = slice_get_within o.design.families def.family d.family d.is_family in omega (arith, l)))
     | inr n ↦ once_within (Some def) k n
   ]
 

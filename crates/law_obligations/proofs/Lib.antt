@@ -9,10 +9,6 @@ pub mod Sound
 pub mod Least
 pub mod ReadsWithin
 pub mod LeastCones
-pub mod WorkedSplit
-pub mod WorkedMaps
-pub mod WorkedMachine
-pub mod Tests
 pub mod NowOrder
 pub mod Induction
 pub mod Members
@@ -49,9 +45,6 @@ pub mod Patched
 pub mod TypedRuns
 pub mod CaseKeeps
 pub mod Joined
-pub mod WorkedPlans
-pub mod WorkedMutual
-pub mod WorkedRules
 pub mod Codes
 pub mod ReadBack
 pub mod Listed

@@ -1,9 +1,9 @@
 -- Paths as lists and as functions of time.
 use Rattle.std.proofs.Common.{◌≡◌, ℕ, zero, suc, ◌+◌, ◌<◌, ◌≤◌, List, [], ◌∷◌, ◌++◌, length, true, ◌&&◌, refl, sym, ap, subst, ◌∙◌, inl, inr, Option, Some, None, arith}
 use Rattle.std.proofs.lemmas.Bool.{cases_lt}
+use Rattle.law_lists.proofs.Booleans.{and_both, left_of, right_of}
 use Rattle.law_obligations.specs.Sets.{Has, first, later}
 use Rattle.law_obligations.specs.Circular.{Demand, Obligation, always, is_violating, is_violating_after}
-use Rattle.law_obligations.proofs.Tests.{and_both, left_of, right_of}
 use Rattle.law_obligations.specs.CasePaths.{last_of, states_from}
 
 -- the state before a time, if there is one
@@ -94,7 +94,7 @@ Has_states path i zero x (later h) = elim h [ ]
 Has_states path i (suc n) _ first = (i, omega arith, refl)
 Has_states path i (suc n) x (later h) = let r = Has_states path (suc i) n x h in let le = r.1 in (r.0, omega arith, r.2)
 
-shifted : {X : Type 0} (f : ℕ → X) (i n : ℕ) → states_from f (suc i) n ≡ states_from (λ j. f (suc j)) i n
+pub shifted : {X : Type 0} (f : ℕ → X) (i n : ℕ) → states_from f (suc i) n ≡ states_from (λ j. f (suc j)) i n
 shifted f i zero = refl
 shifted f i (suc n) = ap (λ xs. f (suc i) ∷ xs) (shifted f (suc i) n)
 

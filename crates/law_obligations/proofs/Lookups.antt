@@ -1,6 +1,7 @@
 -- What lookups in lists give.
 use Rattle.std.proofs.Common.{◌≡◌, ℕ, zero, suc, List, [], ◌∷◌, ◌++◌, map, Bool, true, false, cond, if◌then◌else◌, refl, sym, subst, ◌⊎◌, inl, inr, Option, Some, None, option_map, filter, find, option_to_list}
 use Rattle.std.specs.List.{slice_get, list_any, zip}
+use Rattle.law_lists.proofs.Options.{some_is}
 use Rattle.law_obligations.specs.Sets.{Has, first, later}
 use Rattle.law_obligations.proofs.Members.{Has-uncons, Has-left, Has-right, any-found, any-some}
 use Rattle.law_obligations.specs.Outlines.{place_of}
@@ -9,9 +10,6 @@ use Rattle.law_obligations.specs.Reached.{is_among, with_all, following, in_turn
 pub none_or_some : {X : Type 0} (o : Option X) → (o ≡ None) ⊎ ((x : X) × (o ≡ Some x))
 none_or_some None = inl refl
 none_or_some (Some x) = inr (x, refl)
-
-pub inner : {X : Type 0} {x y : X} → Some x ≡ Some y → x ≡ y
-inner e = cc
 
 pub Has-option : {X : Type 0} (o : Option X) {x : X} → Has (option_to_list o) x → o ≡ Some x
 Has-option None h = elim h [ ]
@@ -47,7 +45,7 @@ find-some p [] e = absurd (cc)
 find-some {X} p (y ∷ xs) {x} e = at (p y) refl e (λ k. find-some p xs k)
   where
     at : (b : Bool) → p y ≡ b → cond b (Some y) (find p xs) ≡ Some x → (find p xs ≡ Some x → Has xs x × (p x ≡ true)) → Has (y ∷ xs) x × (p x ≡ true)
-    at true i e goes = (subst (Has (y ∷ xs)) (inner e) first, subst (λ z. p z ≡ true) (inner e) i)
+    at true i e goes = (subst (Has (y ∷ xs)) (some_is e) first, subst (λ z. p z ≡ true) (some_is e) i)
     at false i e goes = let r = goes e in (later r.0, r.1)
 
 -- the first that passes a test stands at its place
@@ -60,10 +58,10 @@ place_of-is {X} p (y ∷ xs) k e = at (p y) refl (place_of p xs) e (λ j i. plac
   where
     at_later : (o : Option ℕ) → option_map (λ j. suc j) o ≡ Some k → ((j : ℕ) → o ≡ Some j → Found p xs j) → Found p (y ∷ xs) k
     at_later None e goes = absurd (cc)
-    at_later (Some j) e goes = let r = goes j refl in subst (Found p (y ∷ xs)) (inner e) (r.0, r.1, r.2)
+    at_later (Some j) e goes = let r = goes j refl in subst (Found p (y ∷ xs)) (some_is e) (r.0, r.1, r.2)
 
     at : (b : Bool) → p y ≡ b → (o : Option ℕ) → (if b then Some 0 else option_map (λ j. suc j) o) ≡ Some k → ((j : ℕ) → o ≡ Some j → Found p xs j) → Found p (y ∷ xs) k
-    at true i o e goes = subst (Found p (y ∷ xs)) (inner e) (y, refl, i)
+    at true i o e goes = subst (Found p (y ∷ xs)) (some_is e) (y, refl, i)
     at false i o e goes = at_later o e goes
 
 -- members beside what is made of them

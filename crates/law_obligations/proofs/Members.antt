@@ -1,8 +1,8 @@
 -- Members of lists: of a map, of choices, of parts.
 use Rattle.std.proofs.Common.{◌≡◌, List, [], ◌∷◌, ◌++◌, map, Bool, true, false, ◌||◌, refl, sym, ap, subst, ◌∙◌, ◌⊎◌, inl, inr}
 use Rattle.std.specs.List.{flat_map, list_any, list_all}
+use Rattle.law_lists.proofs.Booleans.{left_of, right_of, same_tests}
 use Rattle.law_obligations.specs.Sets.{Has, first, later, one_of_each, parts, pairs}
-use Rattle.law_obligations.proofs.Tests.{left_of, right_of, same_tests}
 
 pub Has-left : {X : Type 0} {xs : List X} {x : X} (ys : List X) → Has xs x → Has (xs ++ ys) x
 Has-left ys first = first
@@ -161,3 +161,12 @@ part_with same xs ws equal reflexive within = (
   λ y h. let r = Has-from_kept (λ x. list_any (same x) ws) xs h in let q = any-some (same y) ws r.1 in
       subst (Has ws) (sym (equal y q.0 q.2)) q.1,
 )
+
+pub one_of_one : {X : Type 0} {x y : X} → Has (x ∷ []) y → y ≡ x
+one_of_one first = refl
+one_of_one (later h) = elim h [ ]
+
+pub one_of_two : {X : Type 0} {x y z : X} → Has (x ∷ y ∷ []) z → (z ≡ x) ⊎ (z ≡ y)
+one_of_two first = inl refl
+one_of_two (later first) = inr refl
+one_of_two (later (later h)) = elim h [ ]

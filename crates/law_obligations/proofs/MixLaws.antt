@@ -1,6 +1,10 @@
 -- What operators make of mixes.
 use Rattle.std.proofs.Common.{◌≡◌, List, [], ◌∷◌, ◌++◌, map, Bool, true, false, ◌&&◌, ◌||◌, Some, None, refl, sym, ap, ◌∙◌}
 use Rattle.std.specs.List.{flat_map, list_any, list_all}
+use Rattle.std.proofs.lemmas.List.Folds.{list_any-append}
+use Rattle.std.proofs.lemmas.List.{map-append}
+use Rattle.law_lists.proofs.Anys.{any-map, any-flat_map, any-agree, any-or}
+use Rattle.law_lists.proofs.Booleans.{left_of, right_of}
 use Rattle.smv_core.specs.Values.{Truth, not_of, and_of, or_of, implies_of, conjunction, disjunction, implication}
 use Rattle.smv_core.specs.Outcome.{is_true, branch}
 use Rattle.law_obligations.specs.Right.{is_false, is_neither}
@@ -9,9 +13,8 @@ use Rattle.law_obligations.specs.May.{seen, shown, quantified}
 use Rattle.smv_core.specs.Values.{number}
 use Rattle.law_obligations.specs.Sets.{one_of_each, parts}
 use Rattle.law_obligations.specs.Mix.{Mix, mix_of, mix_by, is_filled, not_mix, and_mix, or_mix, implies_mix, and_all, or_all, implies_all, or_none, shown_of}
-use Rattle.law_obligations.proofs.Anys.{any-append, any-map, any-flat_map, any-ext, any-and, any-or, any-pairs, any-first, any-second, any-choices}
+use Rattle.law_obligations.proofs.Anys.{any-and, any-pairs, any-first, any-second, any-choices}
 use Rattle.law_obligations.specs.Mix.{is_there}
-use Rattle.law_obligations.proofs.OneOfEach.{map_joined}
 
 -- parts of a mix that are equal
 pub same_mix : {m n : Mix} → m.no ≡ n.no → m.yes ≡ n.yes → m.neither ≡ n.neither → m ≡ n
@@ -79,17 +82,17 @@ two-ext : {X Y : Type 0} (g h : X → Y → Truth) (xs : List X) (ys : List Y) �
 two-ext g h xs ys e = same_mix (inside is_false) (inside is_true) (inside is_neither)
   where
     inside : (p : Truth → Bool) → list_any (λ x. list_any (λ y. p (g x y)) ys) xs ≡ list_any (λ x. list_any (λ y. p (h x y)) ys) xs
-    inside p = any-ext (λ x. list_any (λ y. p (g x y)) ys) (λ x. list_any (λ y. p (h x y)) ys) xs (λ x. any-ext (λ y. p (g x y)) (λ y. p (h x y)) ys (λ y. ap p (e x y)))
+    inside p = any-agree (λ x. list_any (λ y. p (g x y)) ys) (λ x. list_any (λ y. p (h x y)) ys) xs (λ x. any-agree (λ y. p (g x y)) (λ y. p (h x y)) ys (λ y. ap p (e x y)))
 
 pub and-two : {X Y : Type 0} (e : X → Truth) (f : Y → Truth) (xs : List X) (ys : List Y) → is_there xs ≡ true → is_there ys ≡ true →
     mix_two (λ x y. and_of (e x) (f y)) xs ys ≡ and_mix (mix_by e xs) (mix_by f ys)
 and-two {X} {Y} e f xs ys there others = same_mix no yes neither
   where
     inside : (p : Truth → Bool) (q : X → Y → Bool) → ((x : X) (y : Y) → p (and_of (e x) (f y)) ≡ q x y) → list_any (λ x. list_any (λ y. p (and_of (e x) (f y))) ys) xs ≡ list_any (λ x. list_any (λ y. q x y) ys) xs
-    inside p q eq = any-ext (λ x. list_any (λ y. p (and_of (e x) (f y))) ys) (λ x. list_any (λ y. q x y) ys) xs (λ x. any-ext (λ y. p (and_of (e x) (f y))) (λ y. q x y) ys (eq x))
+    inside p q eq = any-agree (λ x. list_any (λ y. p (and_of (e x) (f y))) ys) (λ x. list_any (λ y. q x y) ys) xs (λ x. any-agree (λ y. p (and_of (e x) (f y))) (λ y. q x y) ys (eq x))
 
     halves : (p q : X → Y → Bool) → list_any (λ x. list_any (λ y. p x y || q x y) ys) xs ≡ (list_any (λ x. list_any (p x) ys) xs || list_any (λ x. list_any (q x) ys) xs)
-    halves p q = any-ext (λ x. list_any (λ y. p x y || q x y) ys) (λ x. list_any (p x) ys || list_any (q x) ys) xs (λ x. any-or (p x) (q x) ys) ∙ any-or (λ x. list_any (p x) ys) (λ x. list_any (q x) ys) xs
+    halves p q = any-agree (λ x. list_any (λ y. p x y || q x y) ys) (λ x. list_any (p x) ys || list_any (q x) ys) xs (λ x. any-or (p x) (q x) ys) ∙ any-or (λ x. list_any (p x) ys) (λ x. list_any (q x) ys) xs
 
     no : list_any (λ x. list_any (λ y. is_false (and_of (e x) (f y))) ys) xs ≡ (list_any (λ x. is_false (e x)) xs || list_any (λ y. is_false (f y)) ys)
     no = inside is_false (λ x y. is_false (e x) || is_false (f y)) (λ x y. no_and (e x) (f y)) ∙ (halves (λ x y. is_false (e x)) (λ x y. is_false (f y)) ∙ or_same (any-first (λ x. is_false (e x)) xs ys ∙ and_there _ _ others) (any-second (λ y. is_false (f y)) xs ys ∙ there_and _ _ there))
@@ -119,13 +122,13 @@ neither_not (Some false) = refl
 neither_not None = refl
 
 pub not-by : {X : Type 0} (f : X → Truth) (xs : List X) → mix_by (λ x. not_of (f x)) xs ≡ not_mix (mix_by f xs)
-not-by f xs = same_mix (any-ext (λ x. is_false (not_of (f x))) (λ x. is_true (f x)) xs (λ x. no_not (f x))) (any-ext (λ x. is_true (not_of (f x))) (λ x. is_false (f x)) xs (λ x. yes_not (f x))) (any-ext (λ x. is_neither (not_of (f x))) (λ x. is_neither (f x)) xs (λ x. neither_not (f x)))
+not-by f xs = same_mix (any-agree (λ x. is_false (not_of (f x))) (λ x. is_true (f x)) xs (λ x. no_not (f x))) (any-agree (λ x. is_true (not_of (f x))) (λ x. is_false (f x)) xs (λ x. yes_not (f x))) (any-agree (λ x. is_neither (not_of (f x))) (λ x. is_neither (f x)) xs (λ x. neither_not (f x)))
 
 not-two : {X Y : Type 0} (g : X → Y → Truth) (xs : List X) (ys : List Y) → mix_two (λ x y. not_of (g x y)) xs ys ≡ not_mix (mix_two g xs ys)
 not-two g xs ys = same_mix (inside is_false is_true no_not) (inside is_true is_false yes_not) (inside is_neither is_neither neither_not)
   where
     inside : (p q : Truth → Bool) → ((t : Truth) → p (not_of t) ≡ q t) → list_any (λ x. list_any (λ y. p (not_of (g x y))) ys) xs ≡ list_any (λ x. list_any (λ y. q (g x y)) ys) xs
-    inside p q e = any-ext (λ x. list_any (λ y. p (not_of (g x y))) ys) (λ x. list_any (λ y. q (g x y)) ys) xs (λ x. any-ext (λ y. p (not_of (g x y))) (λ y. q (g x y)) ys (λ y. e (g x y)))
+    inside p q e = any-agree (λ x. list_any (λ y. p (not_of (g x y))) ys) (λ x. list_any (λ y. q (g x y)) ys) xs (λ x. any-agree (λ y. p (not_of (g x y))) (λ y. q (g x y)) ys (λ y. e (g x y)))
 
 pub or_is : (u v : Truth) → or_of u v ≡ not_of (and_of (not_of u) (not_of v))
 or_is (Some true) v = refl
@@ -163,14 +166,6 @@ implies-two e f xs ys there others =
 abbrev pub all_filled : List (List Truth) → Bool
 all_filled tss = list_all is_there tss
 
-pub left_true : (a b : Bool) → (a && b) ≡ true → a ≡ true
-left_true true b e = refl
-left_true false b e = e
-
-pub right_true : (a b : Bool) → (a && b) ≡ true → b ≡ true
-right_true true b e = e
-right_true false b e = absurd (cc)
-
 pub there-map : {X Y : Type 0} (f : X → Y) (xs : List X) → is_there (map f xs) ≡ is_there xs
 there-map f [] = refl
 there-map f (x ∷ xs) = refl
@@ -190,45 +185,45 @@ pub choices-two : {X : Type 0} (g : X → Truth → Truth) (f k : List X → Tru
 choices-two g f k xs xss e = same_mix (part is_false) (part is_true) (part is_neither)
   where
     part : (p : Truth → Bool) → list_any (λ ys. p (f ys)) (one_of_each (xs ∷ xss)) ≡ list_any (λ x. list_any (λ ys. p (g x (k ys))) (one_of_each xss)) xs
-    part p = any-choices (λ ys. p (f ys)) xs xss ∙ any-ext (λ x. list_any (λ ys. p (f (x ∷ ys))) (one_of_each xss)) (λ x. list_any (λ ys. p (g x (k ys))) (one_of_each xss)) xs (λ x. any-ext (λ ys. p (f (x ∷ ys))) (λ ys. p (g x (k ys))) (one_of_each xss) (λ ys. ap p (e x ys)))
+    part p = any-choices (λ ys. p (f ys)) xs xss ∙ any-agree (λ x. list_any (λ ys. p (f (x ∷ ys))) (one_of_each xss)) (λ x. list_any (λ ys. p (g x (k ys))) (one_of_each xss)) xs (λ x. any-agree (λ ys. p (f (x ∷ ys))) (λ ys. p (g x (k ys))) (one_of_each xss) (λ ys. ap p (e x ys)))
 
 -- `&` of one member of each list is the `&` of their mixes
 pub mix-conjunction : {X : Type 0} (e : X → Truth) (xss : List (List X)) → list_all is_there xss ≡ true → mix_by (λ us. conjunction (map e us)) (one_of_each xss) ≡ and_all (map (mix_by e) xss)
 mix-conjunction e [] h = refl
 mix-conjunction e (xs ∷ xss) h =
     choices-two (λ x t. and_of (e x) t) (λ us. conjunction (map e us)) (λ us. conjunction (map e us)) xs xss (λ x us. refl)
-    ∙ (and-two e (λ us. conjunction (map e us)) xs (one_of_each xss) (left_true (is_there xs) (list_all is_there xss) h) (there-choices xss (right_true (is_there xs) (list_all is_there xss) h))
-    ∙ ap (λ n. and_mix (mix_by e xs) n) (mix-conjunction e xss (right_true (is_there xs) (list_all is_there xss) h)))
+    ∙ (and-two e (λ us. conjunction (map e us)) xs (one_of_each xss) (left_of (is_there xs) (list_all is_there xss) h) (there-choices xss (right_of (is_there xs) (list_all is_there xss) h))
+    ∙ ap (λ n. and_mix (mix_by e xs) n) (mix-conjunction e xss (right_of (is_there xs) (list_all is_there xss) h)))
 
 pub mix-disjunction : {X : Type 0} (e : X → Truth) (xss : List (List X)) → list_all is_there xss ≡ true → mix_by (λ us. disjunction (map e us)) (one_of_each xss) ≡ or_all (map (mix_by e) xss)
 mix-disjunction e [] h = refl
 mix-disjunction e (xs ∷ xss) h =
     choices-two (λ x t. or_of (e x) t) (λ us. disjunction (map e us)) (λ us. disjunction (map e us)) xs xss (λ x us. refl)
-    ∙ (or-two e (λ us. disjunction (map e us)) xs (one_of_each xss) (left_true (is_there xs) (list_all is_there xss) h) (there-choices xss (right_true (is_there xs) (list_all is_there xss) h))
-    ∙ ap (λ n. or_mix (mix_by e xs) n) (mix-disjunction e xss (right_true (is_there xs) (list_all is_there xss) h)))
+    ∙ (or-two e (λ us. disjunction (map e us)) xs (one_of_each xss) (left_of (is_there xs) (list_all is_there xss) h) (there-choices xss (right_of (is_there xs) (list_all is_there xss) h))
+    ∙ ap (λ n. or_mix (mix_by e xs) n) (mix-disjunction e xss (right_of (is_there xs) (list_all is_there xss) h)))
 
 pub mix-implication : {X : Type 0} (e : X → Truth) (xs : List X) (xss : List (List X)) → list_all is_there (xs ∷ xss) ≡ true → mix_by (λ us. implication (map e us)) (one_of_each (xs ∷ xss)) ≡ implies_all (map (mix_by e) (xs ∷ xss))
 mix-implication {X} e xs [] h = same_mix (alone is_false) (alone is_true) (alone is_neither)
   where
     alone : (p : Truth → Bool) → list_any (λ us. p (implication (map e us))) (one_of_each (xs ∷ [])) ≡ list_any (λ x. p (e x)) xs
-    alone p = any-choices (λ us. p (implication (map e us))) xs [] ∙ any-ext (λ x. list_any (λ us. p (implication (map e (x ∷ us)))) ([] ∷ [])) (λ x. p (e x)) xs (λ x. at (p (e x)))
+    alone p = any-choices (λ us. p (implication (map e us))) xs [] ∙ any-agree (λ x. list_any (λ us. p (implication (map e (x ∷ us)))) ([] ∷ [])) (λ x. p (e x)) xs (λ x. at (p (e x)))
       where
         at : (b : Bool) → (b || false) ≡ b
         at true = refl
         at false = refl
 mix-implication {X} e xs (ys ∷ xss) h =
     same_mix (part is_false) (part is_true) (part is_neither)
-    ∙ (implies-two e (λ us. implication (map e us)) xs (one_of_each (ys ∷ xss)) (left_true (is_there xs) (list_all is_there (ys ∷ xss)) h) (there-choices (ys ∷ xss) (right_true (is_there xs) (list_all is_there (ys ∷ xss)) h))
-    ∙ ap (λ n. implies_mix (mix_by e xs) n) (mix-implication e ys xss (right_true (is_there xs) (list_all is_there (ys ∷ xss)) h)))
+    ∙ (implies-two e (λ us. implication (map e us)) xs (one_of_each (ys ∷ xss)) (left_of (is_there xs) (list_all is_there (ys ∷ xss)) h) (there-choices (ys ∷ xss) (right_of (is_there xs) (list_all is_there (ys ∷ xss)) h))
+    ∙ ap (λ n. implies_mix (mix_by e xs) n) (mix-implication e ys xss (right_of (is_there xs) (list_all is_there (ys ∷ xss)) h)))
   where
     part : (p : Truth → Bool) → list_any (λ us. p (implication (map e us))) (one_of_each (xs ∷ ys ∷ xss)) ≡ list_any (λ x. list_any (λ us. p (implies_of (e x) (implication (map e us)))) (one_of_each (ys ∷ xss))) xs
     part p = any-choices (λ us. p (implication (map e us))) xs (ys ∷ xss)
-        ∙ any-ext (λ x. list_any (λ us. p (implication (map e (x ∷ us)))) (one_of_each (ys ∷ xss))) (λ x. list_any (λ us. p (implies_of (e x) (implication (map e us)))) (one_of_each (ys ∷ xss))) xs (λ x.
+        ∙ any-agree (λ x. list_any (λ us. p (implication (map e (x ∷ us)))) (one_of_each (ys ∷ xss))) (λ x. list_any (λ us. p (implies_of (e x) (implication (map e us)))) (one_of_each (ys ∷ xss))) xs (λ x.
         any-choices (λ us. p (implication (map e (x ∷ us)))) ys xss ∙ sym (any-choices (λ us. p (implies_of (e x) (implication (map e us)))) ys xss))
 
 -- all or none of them: any part
 any-parts : {X : Type 0} (p : List X → Bool) (x : X) (xs : List X) → list_any p (parts (x ∷ xs)) ≡ (list_any p (parts xs) || list_any (λ ys. p (x ∷ ys)) (parts xs))
-any-parts p x xs = any-append p (parts xs) (map (λ ys. x ∷ ys) (parts xs)) ∙ ap (λ b. list_any p (parts xs) || b) (any-map p (λ ys. x ∷ ys) (parts xs))
+any-parts p x xs = list_any-append p (parts xs) (map (λ ys. x ∷ ys) (parts xs)) ∙ ap (λ b. list_any p (parts xs) || b) (any-map p (λ ys. x ∷ ys) (parts xs))
 
 -- some part without a member is one, with which a conjunction is 1
 module _ {X : Type 0} (e : X → Truth) where
@@ -249,7 +244,7 @@ module _ {X : Type 0} (e : X → Truth) where
   no-parts [] = refl
   no-parts (t ∷ ts) =
       any-parts (λ us. is_false (conjunction (map e us))) t ts
-      ∙ (or_same (no-parts ts) (any-ext (λ us. is_false (conjunction (map e (t ∷ us)))) (λ us. is_false (e t) || is_false (conjunction (map e us))) (parts ts) (λ us. no_and (e t) (conjunction (map e us))) ∙ (any-or (λ us. is_false (e t)) (λ us. is_false (conjunction (map e us))) (parts ts) ∙ or_same (same-parts (is_false (e t)) ts) (no-parts ts)))
+      ∙ (or_same (no-parts ts) (any-agree (λ us. is_false (conjunction (map e (t ∷ us)))) (λ us. is_false (e t) || is_false (conjunction (map e us))) (parts ts) (λ us. no_and (e t) (conjunction (map e us))) ∙ (any-or (λ us. is_false (e t)) (λ us. is_false (conjunction (map e us))) (parts ts) ∙ or_same (same-parts (is_false (e t)) ts) (no-parts ts)))
       ∙ at (is_false (e t)) (list_any (λ t. is_false (e t)) ts))
     where
       at : (b c : Bool) → (c || (b || c)) ≡ (b || c)
@@ -262,7 +257,7 @@ module _ {X : Type 0} (e : X → Truth) where
   neither-parts [] = refl
   neither-parts (t ∷ ts) =
       any-parts (λ us. is_neither (conjunction (map e us))) t ts
-      ∙ (or_same (neither-parts ts) (any-ext (λ us. is_neither (conjunction (map e (t ∷ us)))) (λ us. (is_neither (e t) && (is_true (conjunction (map e us)) || is_neither (conjunction (map e us)))) || (is_true (e t) && is_neither (conjunction (map e us)))) (parts ts) (λ us. neither_and (e t) (conjunction (map e us)))
+      ∙ (or_same (neither-parts ts) (any-agree (λ us. is_neither (conjunction (map e (t ∷ us)))) (λ us. (is_neither (e t) && (is_true (conjunction (map e us)) || is_neither (conjunction (map e us)))) || (is_true (e t) && is_neither (conjunction (map e us)))) (parts ts) (λ us. neither_and (e t) (conjunction (map e us)))
       ∙ (any-or (λ us. is_neither (e t) && (is_true (conjunction (map e us)) || is_neither (conjunction (map e us)))) (λ us. is_true (e t) && is_neither (conjunction (map e us))) (parts ts)
       ∙ or_same (any-and (is_neither (e t)) (λ us. is_true (conjunction (map e us)) || is_neither (conjunction (map e us))) (parts ts) ∙ ap (λ b. is_neither (e t) && b) (any-or (λ us. is_true (conjunction (map e us))) (λ us. is_neither (conjunction (map e us))) (parts ts) ∙ ap (λ b. b || list_any (λ us. is_neither (conjunction (map e us))) (parts ts)) (yes-parts ts)))
       (any-and (is_true (e t)) (λ us. is_neither (conjunction (map e us))) (parts ts) ∙ ap (λ b. is_true (e t) && b) (neither-parts ts))))
@@ -319,7 +314,7 @@ pub shown-by : {X : Type 0} (f : X → Truth) (xs : List X) → mix_by seen (map
 shown-by f xs = same_mix (part is_false) (part is_true) (part is_neither)
   where
     part : (p : Truth → Bool) → list_any (λ u. p (seen u)) (map (λ x. shown (f x)) xs) ≡ list_any (λ x. p (f x)) xs
-    part p = any-map (λ u. p (seen u)) (λ x. shown (f x)) xs ∙ any-ext (λ x. p (seen (shown (f x)))) (λ x. p (f x)) xs (λ x. ap p (seen-shown (f x)))
+    part p = any-map (λ u. p (seen u)) (λ x. shown (f x)) xs ∙ any-agree (λ x. p (seen (shown (f x)))) (λ x. p (f x)) xs (λ x. ap p (seen-shown (f x)))
 
 abbrev pub all_seen : List AbsOutcome → Truth
 all_seen us = conjunction (map seen us)
@@ -341,9 +336,9 @@ mix-quantified at_named at_rests h =
 
     part : (p : Truth → Bool) → list_any (λ u. p (seen u)) (quantified conjunction at_named at_rests) ≡ list_any (λ us. list_any (λ vs. p (and_of (all_seen us) (all_seen vs))) (parts at_rests)) (one_of_each at_named)
     part p = any-flat_map (λ u. p (seen u)) (λ us. flat_map (both_seen us) (parts at_rests)) (one_of_each at_named)
-        ∙ any-ext (λ us. list_any (λ u. p (seen u)) (flat_map (both_seen us) (parts at_rests))) (λ us. list_any (λ vs. p (and_of (all_seen us) (all_seen vs))) (parts at_rests)) (one_of_each at_named) (λ us.
+        ∙ any-agree (λ us. list_any (λ u. p (seen u)) (flat_map (both_seen us) (parts at_rests))) (λ us. list_any (λ vs. p (and_of (all_seen us) (all_seen vs))) (parts at_rests)) (one_of_each at_named) (λ us.
         any-flat_map (λ u. p (seen u)) (both_seen us) (parts at_rests)
-        ∙ any-ext (λ vs. list_any (λ u. p (seen u)) (both_seen us vs)) (λ vs. p (and_of (all_seen us) (all_seen vs))) (parts at_rests) (λ vs. one (p (seen (shown (conjunction (map seen (us ++ vs)))))) ∙ ap p (seen-shown (conjunction (map seen (us ++ vs))) ∙ (ap conjunction (map_joined seen us vs) ∙ conjunction-append (map seen us) (map seen vs)))))
+        ∙ any-agree (λ vs. list_any (λ u. p (seen u)) (both_seen us vs)) (λ vs. p (and_of (all_seen us) (all_seen vs))) (parts at_rests) (λ vs. one (p (seen (shown (conjunction (map seen (us ++ vs)))))) ∙ ap p (seen-shown (conjunction (map seen (us ++ vs))) ∙ (ap conjunction (map-append seen us vs) ∙ conjunction-append (map seen us) (map seen vs)))))
 
 one : (b : Bool) → (b || false) ≡ b
 one true = refl

@@ -1,7 +1,12 @@
 -- Where no assignments of a definition conflict, at most one value of each `forall` variable gives an element a result.
-use Rattle.std.proofs.Common.{◌≡◌, ℕ, zero, suc, ◌<◌, ◌≤◌, List, [], ◌∷◌, ◌++◌, map, length, Bool, true, false, not, ◌||◌, if◌then◌else◌, refl, sym, ap, subst, ◌∙◌, ◌⊎◌, inl, inr, arith, Some, None, nat_eq}
+use Rattle.std.proofs.Common.{◌≡◌, ℕ, zero, suc, ◌<◌, ◌≤◌, List, [], ◌∷◌, ◌++◌, map, length, Bool, true, false, not, if◌then◌else◌, refl, sym, ap, subst, ◌∙◌, ◌⊎◌, inl, inr, arith, Some, None, nat_eq}
 use Rattle.std.specs.List.{list_any, slice_get, zip}
 use Rattle.std.specs.Option.{is_none}
+use Rattle.std.proofs.lemmas.Bool.{or_cases, not-true}
+use Rattle.law_lists.proofs.Booleans.{clash, not_left, not_right, either_left, either_right, left_of, right_of}
+use Rattle.law_lists.proofs.Options.{some_is}
+use Rattle.law_lists.proofs.Lists.{length_map}
+use Rattle.law_lists.proofs.Numbers.{nat_eq-is}
 use Rattle.smv_core.specs.Values.{Value, Outcome, Truth, truth, same, add, modulo}
 use Rattle.smv_core.specs.Walk as walk
 use Rattle.smv_core.specs.Walk.{Walk, if_walk, is_other}
@@ -14,14 +19,9 @@ use Rattle.smv_core.specs.declared.flat.DefBody.{DefBody, Nothing, Assign, If', 
 use Rattle.law_obligations.specs.Sets.{Has, first, later}
 use Rattle.law_obligations.specs.Bound.{HasVariable, HaveVariable, IsBound, AreBound, OneGives, OneOfEachGives, IsSingle}
 use Rattle.law_obligations.specs.FlatConflicts.{AreExcused, EachTwo, HasNoConflict, HaveNoConflict, IsConflictFree}
-use Rattle.law_obligations.proofs.Tests.{or_cases, or_left, or_right, left_of, right_of, not_true}
 use Rattle.law_obligations.proofs.Members.{Has-left, Has-right, Has-cases}
-use Rattle.law_obligations.proofs.Same.{nat_eq-itself, nat_eq-is, same-itself, same-is}
-use Rattle.law_obligations.proofs.OneOfEach.{map_long}
+use Rattle.law_obligations.proofs.Same.{nat_eq-itself, same-itself, same-is}
 use Rattle.law_obligations.proofs.WalkKeeps.{value_kept, value_bound}
-
-clash : {b : Bool} → b ≡ true → b ≡ false → ⊥
-clash p q = cc
 
 -- what an index says of an outcome
 abbrev Denotes : List Value → Index → Outcome → Type 0
@@ -56,14 +56,6 @@ fits_one : (b : List Value) (i : Index) (o : Outcome) (v : Value) → Denotes b 
 fits_one b (fixed u) o v h k = subst (λ u. is_other u v ≡ false) h k
 fits_one b (bare n) o v h k = subst (λ u. is_other u v ≡ false) h k
 fits_one b computed o v h k = tt
-
-false_left : (p q : Bool) → (p || q) ≡ false → p ≡ false
-false_left true q h = h
-false_left false q h = refl
-
-false_right : (p q : Bool) → (p || q) ≡ false → q ≡ false
-false_right true q h = absurd (cc)
-false_right false q h = h
 
 abbrev Gives : Walk → Type 0
 Gives w = is_none w ≡ false
@@ -102,7 +94,7 @@ module _ (n : Numbered) (s : FlatState) where
   fit_all b [] vs k = tt
   fit_all b (e ∷ es) [] k = tt
   fit_all b (e ∷ es) (v ∷ vs) k =
-      (fits_one b (flat_index e) (flat_outcome n s e b) v (denotes b e) (false_left (is_other (flat_outcome n s e b) v) _ k), fit_all b es vs (false_right (is_other (flat_outcome n s e b) v) _ k))
+      (fits_one b (flat_index e) (flat_outcome n s e b) v (denotes b e) (not_left (is_other (flat_outcome n s e b) v) _ k), fit_all b es vs (not_right (is_other (flat_outcome n s e b) v) _ k))
 
   module _ (x : FlatElement) (every : List Value) (k : ℕ) (v : Value) where
     -- among these left sides one whose indexes are the element's where the variable has this value
@@ -168,7 +160,7 @@ module _ (b c : List Value) (k : ℕ) (v w : Value) (is_v : slice_get b k ≡ So
 
   constants_same : (i j : Index) (y : Value) → FitsOne b i y → FitsOne c j y → are_two_constants i j ≡ true → ⊥
   constants_same (fixed (Some u)) (fixed (Some t)) y p q h =
-      clash (subst (λ t. same u t ≡ true) (not_other u y p ∙ sym (not_other t y q)) (same-itself u)) (not_true (same u t) h)
+      clash (subst (λ t. same u t ≡ true) (not_other u y p ∙ sym (not_other t y q)) (same-itself u)) (not-true (same u t) h)
   constants_same _ _ y p q h = cc
 
   meet : (is js : List Index) (ys : List Value) → length is ≤ length ys → Fit b is ys → Fit c js ys →
@@ -195,15 +187,12 @@ two_of : (around k : ℕ) (is js : List Index) → k < around → AreExcused aro
 two_of around k is js l (inl e) = inl e
 two_of around k is js l (inr h) = inr (h k l)
 
-inner : {X : Type 0} {x y : X} → Some x ≡ Some y → x ≡ y
-inner e = cc
-
 shares_itself : (k offset : ℕ) (left : List FlatExpr) (j : ℕ) → slice_get left j ≡ Some (Var k offset) → list_any (λ (i, j). are_both k i j) (zip (map flat_index left) (map flat_index left)) ≡ true
 shares_itself k offset [] j e = absurd (cc)
 shares_itself k offset (x ∷ left) zero e =
-    or_left (list_any (λ (i, j). are_both k i j) (zip (map flat_index left) (map flat_index left)))
-    (subst (λ i. are_both k i i ≡ true) (sym (ap flat_index (inner e))) (rw (nat_eq-itself k) refl))
-shares_itself k offset (x ∷ left) (suc j) e = or_right (are_both k (flat_index x) (flat_index x)) (shares_itself k offset left j e)
+    either_left (list_any (λ (i, j). are_both k i j) (zip (map flat_index left) (map flat_index left)))
+    (subst (λ i. are_both k i i ≡ true) (sym (ap flat_index (some_is e))) (rw (nat_eq-itself k) refl))
+shares_itself k offset (x ∷ left) (suc j) e = either_right (are_both k (flat_index x) (flat_index x)) (shares_itself k offset left j e)
 
 only_member : {X : Type 0} {x y : X} → Has (x ∷ []) y → y ≡ x
 only_member first = refl
@@ -237,7 +226,7 @@ mutual
 mutual
   is_short : (around count : ℕ) (def : DefBody) → HasNoConflict around count def → (is : List Index) → Has (indexes_assigned def) is → length is ≤ count
   is_short around count Nothing h is k = elim k [ ]
-  is_short around count (Assign left value place offset) h is k = subst (λ m. m ≤ count) (sym (map_long flat_index left) ∙ ap length (sym (only_member k))) h.0
+  is_short around count (Assign left value place offset) h is k = subst (λ m. m ≤ count) (sym (length_map flat_index left) ∙ ap length (sym (only_member k))) h.0
   is_short around count (If' cond l (more_of-DefBody left end_of-DefBody) r (more_of-DefBody right end_of-DefBody)) h is k =
       elim (Has-cases (indexes_assigned left) (indexes_assigned right) k) [ inl p ↦ is_short around count left h.0 is p | inr p ↦ is_short around count right h.1 is p ]
   is_short around count (First' shape parts) h is k = are_short around count parts h is k

@@ -1,6 +1,7 @@
 -- One member of each list, by position.
-use Rattle.std.proofs.Common.{◌≡◌, ℕ, zero, suc, ◌+◌, ◌<◌, List, [], ◌∷◌, ◌++◌, map, take, length, get_or, refl, sym, ap, subst, inl, inr, arith, Some}
+use Rattle.std.proofs.Common.{◌≡◌, ℕ, zero, suc, ◌+◌, ◌<◌, List, [], ◌∷◌, ◌++◌, map, length, get_or, refl, sym, ap, subst, inl, inr, arith, Some}
 use Rattle.std.specs.List.{flat_map, slice_get}
+use Rattle.law_lists.proofs.Options.{some_is}
 use Rattle.law_obligations.specs.Sets.{Has, first, later, one_of_each}
 use Rattle.law_obligations.proofs.Members.{Has-cases, Has-from_map, Picks, Has-choices}
 use Rattle.law_obligations.proofs.Members.Picks.{none as no_pick, more as one_more}
@@ -48,19 +49,6 @@ are_joined [] yss (x ∷ xs) ys h k = elim h [ ]
 are_joined (zs ∷ xss) yss [] ys h k = elim h [ ]
 are_joined (zs ∷ xss) yss (x ∷ xs) ys h k = (h.0, are_joined xss yss xs ys h.1 k)
 
--- places in lists
-pub map_joined : {X Y : Type 0} (f : X → Y) (xs ys : List X) → map f (xs ++ ys) ≡ map f xs ++ map f ys
-map_joined f [] ys = refl
-map_joined f (x ∷ xs) ys = ap (λ zs. f x ∷ zs) (map_joined f xs ys)
-
-pub map_long : {X Y : Type 0} (f : X → Y) (xs : List X) → length (map f xs) ≡ length xs
-map_long f [] = refl
-map_long f (x ∷ xs) = ap suc (map_long f xs)
-
-pub joined_long : {X : Type 0} (xs ys : List X) → length (xs ++ ys) ≡ length xs + length ys
-joined_long [] ys = omega arith
-joined_long (x ∷ xs) ys = let h = joined_long xs ys in omega arith
-
 pub get_after : {X : Type 0} (xs ys : List X) (y : X) → slice_get (xs ++ y ∷ ys) (length xs) ≡ Some y
 get_after [] ys y = refl
 get_after (x ∷ xs) ys y = get_after xs ys y
@@ -74,28 +62,9 @@ get_before [] ys zs k l = absurd (omega arith)
 get_before (x ∷ xs) ys zs zero l = refl
 get_before (x ∷ xs) ys zs (suc k) l = get_before xs ys zs k (omega arith)
 
-pub get_past : {X : Type 0} (xs : List X) (k : ℕ) (x : X) → slice_get xs k ≡ Some x → k < length xs
-get_past [] k x e = absurd (cc)
-get_past (y ∷ xs) zero x e = omega arith
-get_past (y ∷ xs) (suc k) x e = let h = get_past xs k x e in omega arith
-
-pub take_front : {X : Type 0} (xs ys : List X) (k : ℕ) → length xs ≡ k → take k (xs ++ ys) ≡ xs
-take_front [] [] zero e = refl
-take_front [] (y ∷ ys) zero e = refl
-take_front [] ys (suc k) e = absurd (omega arith)
-take_front (x ∷ xs) ys zero e = absurd (omega arith)
-take_front (x ∷ xs) ys (suc k) e = ap (λ zs. x ∷ zs) (take_front xs ys k (omega arith))
-
-pub joined_again : {X : Type 0} (xs ys : List X) (x : X) → (xs ++ x ∷ []) ++ ys ≡ xs ++ x ∷ ys
-joined_again [] ys x = refl
-joined_again (y ∷ xs) ys x = ap (λ zs. y ∷ zs) (joined_again xs ys x)
-
-inner : {X : Type 0} {x y : X} → Some x ≡ Some y → x ≡ y
-inner e = cc
-
 pub get_Has : {X : Type 0} (xs : List X) (k : ℕ) (x : X) → slice_get xs k ≡ Some x → Has xs x
 get_Has [] k x e = absurd (cc)
-get_Has (y ∷ xs) zero x e = subst (Has (y ∷ xs)) (inner e) first
+get_Has (y ∷ xs) zero x e = subst (Has (y ∷ xs)) (some_is e) first
 get_Has (y ∷ xs) (suc k) x e = later (get_Has xs k x e)
 
 pub Has_get : {X : Type 0} {xs : List X} {x : X} → Has xs x → (k : ℕ) × (slice_get xs k ≡ Some x)

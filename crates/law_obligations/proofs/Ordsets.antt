@@ -1,6 +1,7 @@
 -- The values of an ordset: classes by rising values, and the gaps around them.
 use Rattle.std.proofs.Common.{◌≡◌, ℕ, zero, suc, ◌+◌, ◌*◌, ◌<◌, ◌≤◌, List, [], ◌∷◌, ◌++◌, map, length, get_or, Bool, true, false, not, if◌then◌else◌, refl, sym, ap, subst, ◌∙◌, ◌⊎◌, inl, inr, arith, nat_eq, nat_lt, Some}
 use Rattle.std.proofs.lemmas.Slice.Eq.{bytes_eq-Decides}
+use Rattle.law_lists.proofs.Numbers.{nat_lt-true, nat_lt-false, nat_eq-below, nat_eq-above}
 use Rattle.smv_core.specs.Values.{Name, ordinal, ordset, Sizes, numbers_from, below, not_of}
 use Rattle.smv_core.specs.declared.abstract_type.Rest.TheVariants as beside
 use Rattle.law_obligations.specs.Sets.{Has, first, later}
@@ -104,38 +105,26 @@ any_answer : (b : Bool) → Has (true ∷ false ∷ []) b
 any_answer true = first
 any_answer false = later first
 
-lt_true : (m n : ℕ) → m < n → nat_lt m n ≡ true
-lt_true m n l = grind arith
-
-lt_false : (m n : ℕ) → n ≤ m → nat_lt m n ≡ false
-lt_false m n l = grind arith
-
-eq_under : (m n : ℕ) → m < n → nat_eq m n ≡ false
-eq_under m n l = grind arith
-
-eq_over : (m n : ℕ) → n < m → nat_eq m n ≡ false
-eq_over m n l = grind arith
-
 negated : {b c : Bool} → b ≡ c → not b ≡ not c
 negated e = ap not e
 
 -- a spot that lies lower is below, and the other is not
 lower_below : (s t : Spot) → code s < code t → Has (below_spots s t) true
 unfolding code
-lower_below (class c) (class d) l = alone (lt_true c d (omega arith))
-lower_below (class c) (other h) l = alone (lt_true c h (omega arith))
-lower_below (other g) (class d) l = alone (negated (lt_false d g (omega arith)))
-lower_below (other g) (other h) l = let e = eq_under g h (omega arith) in rw e (alone (lt_true g h (omega arith)))
+lower_below (class c) (class d) l = alone (nat_lt-true c d (omega arith))
+lower_below (class c) (other h) l = alone (nat_lt-true c h (omega arith))
+lower_below (other g) (class d) l = alone (negated (nat_lt-false d g (omega arith)))
+lower_below (other g) (other h) l = let e = nat_eq-below g h (omega arith) in rw e (alone (nat_lt-true g h (omega arith)))
 
 higher_not_below : (s t : Spot) → code t < code s → Has (below_spots s t) false
 unfolding code
-higher_not_below (class c) (class d) l = alone (lt_false c d (omega arith))
-higher_not_below (class c) (other h) l = alone (lt_false c h (omega arith))
-higher_not_below (other g) (class d) l = alone (negated (lt_true d g (omega arith)))
-higher_not_below (other g) (other h) l = let e = eq_over g h (omega arith) in rw e (alone (lt_false g h (omega arith)))
+higher_not_below (class c) (class d) l = alone (nat_lt-false c d (omega arith))
+higher_not_below (class c) (other h) l = alone (nat_lt-false c h (omega arith))
+higher_not_below (other g) (class d) l = alone (negated (nat_lt-true d g (omega arith)))
+higher_not_below (other g) (other h) l = let e = nat_eq-above g h (omega arith) in rw e (alone (nat_lt-false g h (omega arith)))
 
 itself_not_below : (s : Spot) → Has (below_spots s s) false
-itself_not_below (class c) = alone (lt_false c c (omega arith))
+itself_not_below (class c) = alone (nat_lt-false c c (omega arith))
 itself_not_below (other g) = let e = nat_eq-itself g in rw e (later first)
 
 one_gap : (c : ℕ) (s t : Spot) → s ≡ other c → t ≡ other c → (b : Bool) → Has (below_spots s t) b
@@ -144,7 +133,7 @@ one_gap c s t p q b = let e = nat_eq-itself c in rw (p, q) (rw e (any_answer b))
 compared : (xs : List ℕ) (k l : ℕ) → Has (below_spots (spot_between xs k) (spot_between xs l)) (nat_lt k l)
 compared xs k l = elim (beside_it k l) [
   | on e t ↦ subst (λ z. Has (below_spots (spot_from 0 xs k) (spot_from 0 xs z)) (nat_lt k z)) e
-      (subst (Has (below_spots (spot_from 0 xs k) (spot_from 0 xs k))) (sym (lt_false k k (omega arith))) (itself_not_below (spot_from 0 xs k)))
+      (subst (Has (below_spots (spot_from 0 xs k) (spot_from 0 xs k))) (sym (nat_lt-false k k (omega arith))) (itself_not_below (spot_from 0 xs k)))
   | under m e t ↦ elim (together 0 xs k l m) [
     | inl c ↦ subst (Has (below_spots (spot_from 0 xs k) (spot_from 0 xs l))) (sym t) (lower_below (spot_from 0 xs k) (spot_from 0 xs l) c)
     | inr r ↦ one_gap r.0 (spot_from 0 xs k) (spot_from 0 xs l) r.1 r.2 (nat_lt k l)

@@ -1,6 +1,10 @@
 -- What an outline's lookups give: base definitions, units, and the definitions that a proof uses.
 use Rattle.std.proofs.Common.{◌≡◌, ℕ, List, [], ◌∷◌, length, Bool, true, false, cond, ◌||◌, refl, sym, ap, subst, ◌∙◌, Option, Some, None, option_to_list, option_and_then, is_none, find, nat_eq, nat_lt, arith}
 use Rattle.std.specs.List.{slice_get}
+use Rattle.std.proofs.lemmas.Option.{slice_get_within}
+use Rattle.law_lists.proofs.Options.{some_is}
+use Rattle.law_lists.proofs.Numbers.{nat_eq-is}
+use Rattle.law_lists.proofs.Booleans.{left_of}
 use Rattle.smv_core.specs.Values.{numbers_from}
 use Rattle.smv_core.specs.declared.flat.Design.{Design}
 use Rattle.smv_core.specs.declared.flat.Family.{Family}
@@ -12,13 +16,11 @@ use Rattle.smv_core.specs.declared.flat.Pick.{Pick}
 use Rattle.smv_core.specs.declared.flat.Assumed.{Assumed}
 use Rattle.law_obligations.specs.Sets.{Has, first, later}
 use Rattle.law_obligations.specs.Soundness.{FlatUnit, map_of, claim_of}
-use Rattle.law_obligations.proofs.Tests.{left_of}
 use Rattle.law_obligations.proofs.Members.{Has-flat_map}
-use Rattle.law_obligations.proofs.Same.{nat_eq-is}
 use Rattle.law_obligations.proofs.Spots.{Has-numbers}
-use Rattle.law_obligations.proofs.OneOfEach.{Has-from_flat_map, get_past}
+use Rattle.law_obligations.proofs.OneOfEach.{Has-from_flat_map}
 use Rattle.law_obligations.specs.Outlines.{Outline, earlier, earliest, as_map, as_claim, map_in, claim_in, is_def, may_be_base, base_of, bases, unit_in, is_map, map_unit, claim_unit, said_by, claim_by, assumed, map_by, map_in_layer, unit_in_layer, picked_unit, map_by_pick, chosen}
-use Rattle.law_obligations.proofs.Lookups.{inner, Has-option, Has-from_filter, find-some, place_of-is}
+use Rattle.law_obligations.proofs.Lookups.{Has-option, Has-from_filter, find-some, place_of-is}
 
 earliest-Has : (defs : List Def) {def : Def} → earliest defs ≡ Some def → Has defs def
 earliest-Has [] e = absurd (cc)
@@ -29,8 +31,8 @@ earliest-Has (d ∷ defs) {def} e = at (earliest defs) e (λ x k. earliest-Has d
     of_two false x h e = subst (Has (d ∷ defs)) e first
 
     at : (o : Option Def) → Some (earlier d o) ≡ Some def → ((x : Def) → o ≡ Some x → Has defs x) → Has (d ∷ defs) def
-    at None e goes = subst (Has (d ∷ defs)) (inner e) first
-    at (Some x) e goes = of_two (nat_lt x.place d.place) x (goes x refl) (inner e)
+    at None e goes = subst (Has (d ∷ defs)) (some_is e) first
+    at (Some x) e goes = of_two (nat_lt x.place d.place) x (goes x refl) (some_is e)
 
 -- a base definition is one of its family
 pub record IsBase (d : Design) (family : ℕ) (def : Def) : Type 0 where
@@ -49,7 +51,7 @@ base-is d family def e = let r = Has-from_filter (may_be_base d family (slice_ge
 
 pub bases-Has : (d : Design) (family : ℕ) (def : Def) → base_of d family ≡ Some def → Has (bases d) def
 bases-Has d family def e = let b = base-is d family def e in
-    Has-flat_map (λ family. option_to_list (base_of d family)) (Has-numbers 0 (length d.families) family (omega arith) (let l = get_past d.families family b.its_family b.is_there in omega (arith, l)))
+    Has-flat_map (λ family. option_to_list (base_of d family)) (Has-numbers 0 (length d.families) family (omega arith) (let l = slice_get_within d.families family b.its_family b.is_there in omega (arith, l)))
     (subst (λ o. Has (option_to_list o) def) (sym e) first)
 
 pub bases-are : (d : Design) (def : Def) → Has (bases d) def → Has d.defs def
@@ -58,12 +60,12 @@ bases-are d def h = let r = Has-from_flat_map (λ family. option_to_list (base_o
 
 -- units
 pub map_in-is : (unit : FlatUnit) (def : Def) → map_in unit ≡ Some def → unit ≡ map_of def
-map_in-is (map_of other) def e = ap map_of (inner e)
+map_in-is (map_of other) def e = ap map_of (some_is e)
 map_in-is (claim_of claim) def e = absurd (cc)
 
 claim_in-is : (unit : FlatUnit) (claim : FlatClaim) → claim_in unit ≡ Some claim → unit ≡ claim_of claim
 claim_in-is (map_of def) claim e = absurd (cc)
-claim_in-is (claim_of other) claim e = ap claim_of (inner e)
+claim_in-is (claim_of other) claim e = ap claim_of (some_is e)
 
 as_map-is : (o : Option Def) (def : Def) → as_map o ≡ map_of def → o ≡ Some def
 as_map-is None def e = absurd (cc)
@@ -83,7 +85,7 @@ unit-def d (Claim k) def e = absurd (as_claim-no (slice_get d.claims k) def e)
 
 is_def-family : (family layer : ℕ) (o : Option Def) (def : Def) → o ≡ Some def → is_def family layer o ≡ true → def.family ≡ family
 is_def-family family layer None def e t = absurd (cc)
-is_def-family family layer (Some other) def e t = subst (λ def. def.family ≡ family) (inner e) (nat_eq-is other.family family (left_of (nat_eq other.family family) _ t))
+is_def-family family layer (Some other) def e t = subst (λ def. def.family ≡ family) (some_is e) (nat_eq-is other.family family (left_of (nat_eq other.family family) _ t))
 
 is_map-family : (d : Design) (family layer : ℕ) (unit : Unit) (def : Def) → is_map d family layer unit ≡ true → unit_in d unit ≡ map_of def → def.family ≡ family
 is_map-family d family layer (Map k) def t e = is_def-family family layer (slice_get d.defs k) def (as_map-is (slice_get d.defs k) def e) t
@@ -115,7 +117,7 @@ module _ (o : Outline) where
   by_unit picks family def p i s layer l (Some v) m e =
       let r = says_map (slice_get o.units v) def e in
       let q = place_of-is (is_map o.design p.family layer) o.units v m in
-      let same : q.0 ≡ r.0 = inner (sym q.1 ∙ r.1) in (
+      let same : q.0 ≡ r.0 = some_is (sym q.1 ∙ r.1) in (
         is_map-family o.design p.family layer r.0 def (subst (λ unit. is_map o.design p.family layer unit ≡ true) same q.2) r.2 ∙ s,
         from_unit p i v (ap (unit_in_layer o p.family) l ∙ m) (record { unit = r.0; is_there = r.1; is_said = r.2 }),
       )

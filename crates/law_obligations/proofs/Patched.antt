@@ -2,6 +2,7 @@
 use Rattle.std.proofs.Common.{◌≡◌, ℕ, suc, ◌+◌, ◌-◌, List, [], ◌∷◌, ◌++◌, map, filter, length, Bool, true, false, if◌then◌else◌, refl, ap, ◌∙◌, Option, Some, None, option_map, unwrap_or}
 use Rattle.std.specs.List.{list_any, slice_get, zip}
 use Rattle.std.specs.Option.{is_none}
+use Rattle.law_lists.proofs.Lists.{map_agree}
 use Rattle.smv_core.specs.Values.{Value, number, Outcome, truth, bit, value_in, all_defined, compare, equal, add, modulo, numbers_from, not_of, iff_of, conjunction, disjunction, implication}
 use Rattle.smv_core.specs.Outcome.{branch, fit, is_true}
 use Rattle.smv_core.specs.Walk as walk
@@ -15,7 +16,6 @@ use Rattle.smv_core.specs.declared.flat.FlatMember.{One, Span as SpanOf}
 use Rattle.smv_core.specs.declared.flat.FlatExpr.{FlatExpr, Number, Read', Var, Loop, Constant, Not', And', Or', Implies', Iff', Compare', Within', Sum', Modulo', Choose', All', Any', List', Each', Held-FlatExpr-Each-2, None', Some', Row_of-FlatExpr, end_of-FlatExpr, more_of-FlatExpr, Row_of-FlatMember, end_of-FlatMember, more_of-FlatMember, Row_of-FlatSigned, end_of-FlatSigned, more_of-FlatSigned}
 use Rattle.law_obligations.specs.Sets.{Has, first, later}
 use Rattle.law_obligations.specs.Whole.{OneForEach, OneForEachOf, IsWhole, AreWhole, AreWholeSigned, AreWholeMembers, IsWholeHeld, IsWholeFlat, AreWholeFlats, IsWholeDef}
-use Rattle.law_obligations.proofs.ScopesKeep.{map_alike}
 
 -- the values of the indexes, where each is of its type
 abbrev index_values : Numbered → List FlatSimple → List Outcome → Option (List Value)
@@ -75,9 +75,9 @@ module _ (n : Numbered) (s t : FlatState) (same : (family : ℕ) (f : Family) �
         ∙ (ap (λ u. branch None (truth (flat_outcome n t test b)) u (flat_outcome n s right b)) (outcome_same left b r.1)
         ∙ ap (λ u. branch None (truth (flat_outcome n t test b)) (flat_outcome n t left b) u) (outcome_same right b r.2))
     outcome_same (All' shape (more_of-FlatExpr body end_of-FlatExpr) var over place) b r =
-        ap (λ ts. bit (conjunction ts)) (map_alike (λ v. truth (flat_outcome n s body (bind b var v))) (λ v. truth (flat_outcome n t body (bind b var v))) (λ v. ap truth (outcome_same body (bind b var v) r)) (values_in n over))
+        ap (λ ts. bit (conjunction ts)) (map_agree (λ v. truth (flat_outcome n s body (bind b var v))) (λ v. truth (flat_outcome n t body (bind b var v))) (λ v. ap truth (outcome_same body (bind b var v) r)) (values_in n over))
     outcome_same (Any' shape (more_of-FlatExpr body end_of-FlatExpr) var over place) b r =
-        ap (λ ts. bit (disjunction ts)) (map_alike (λ v. truth (flat_outcome n s body (bind b var v))) (λ v. truth (flat_outcome n t body (bind b var v))) (λ v. ap truth (outcome_same body (bind b var v) r)) (values_in n over))
+        ap (λ ts. bit (disjunction ts)) (map_agree (λ v. truth (flat_outcome n s body (bind b var v))) (λ v. truth (flat_outcome n t body (bind b var v))) (λ v. ap truth (outcome_same body (bind b var v) r)) (values_in n over))
     outcome_same (List' shape members place) b r = refl
     outcome_same (Each' var over test place) b r = refl
 
@@ -140,7 +140,7 @@ module _ (n : Numbered) (s t : FlatState) (same : (family : ℕ) (f : Family) �
           ∙ ap (λ w. if_walk every (truth (flat_outcome n t cond b)) (flat_result n t x every left b) w) (result_same right b r.2))
       result_same (First' shape parts) b r = results_same parts b r
       result_same (Forall' var over shape (more_of-DefBody body end_of-DefBody)) b r =
-          ap walk.first (map_alike (λ v. flat_result n s x every body (bind b var v)) (λ v. flat_result n t x every body (bind b var v)) (λ v. result_same body (bind b var v) r) (values_in n over))
+          ap walk.first (map_agree (λ v. flat_result n s x every body (bind b var v)) (λ v. flat_result n t x every body (bind b var v)) (λ v. result_same body (bind b var v) r) (values_in n over))
 
       results_same : {m : _} (row : Row_of-DefBody m) (b : List Value) → AreWholeFlats n.families row → flat_results n s x every row b ≡ flat_results n t x every row b
       results_same end_of-DefBody b r = refl

@@ -1,6 +1,8 @@
 -- The reading of a script is a plan of proof.
 use Rattle.std.proofs.Common.{◌≡◌, ℕ, ◌+◌, ◌-◌, ◌<◌, List, ◌++◌, map, length, take, Bool, true, false, refl, sym, ap, subst, ◌∙◌, Option, Some, None, arith}
 use Rattle.std.specs.List.{slice_get, list_all}
+use Rattle.std.proofs.lemmas.List.{map-append}
+use Rattle.law_lists.proofs.Lists.{map-map, length_map}
 use Rattle.smv_core.specs.Values.{Name, Value, number, constant, scalar, ordinal, Sizes, values_of}
 use Rattle.smv_core.specs.FlatMeaning.{set_type}
 use Rattle.smv_core.specs.declared.flat.Design.{Design}
@@ -22,8 +24,7 @@ use Rattle.law_obligations.specs.Soundness.{FlatUnit, map_of, claim_of, LeafProo
 use Rattle.law_obligations.specs.Uses.{rank_of}
 use Rattle.law_obligations.proofs.Members.{Has-map, Has-from_map}
 use Rattle.law_obligations.proofs.Spots.{Has-numbers}
-use Rattle.law_obligations.proofs.OneOfEach.{AreOf, one_of, map_joined, map_long, get_Has, Has_get}
-use Rattle.law_obligations.proofs.CoverParams.{map-map}
+use Rattle.law_obligations.proofs.OneOfEach.{AreOf, one_of, get_Has, Has_get}
 use Rattle.law_obligations.proofs.CoverScalarsets.{named_set}
 use Rattle.law_obligations.specs.Outlines.{Entry, Outline, Script, outline_of, names_of, as_map, as_claim, unit_in}
 use Rattle.law_obligations.specs.Times.{graph, has_edge, timed}
@@ -36,7 +37,7 @@ use Rattle.law_obligations.proofs.ConeFacts.{AreIndexes, keeps_named, own_kept}
 use Rattle.law_obligations.proofs.Granted.{proofs-are, granted}
 
 -- a type that is not empty has a value
-set_value : (sizes : Sizes) (is_ordered : Bool) (name : Name) → 0 < sizes name → (v : Value) × Has (values_of sizes (named_set is_ordered name)) v
+pub set_value : (sizes : Sizes) (is_ordered : Bool) (name : Name) → 0 < sizes name → (v : Value) × Has (values_of sizes (named_set is_ordered name)) v
 set_value sizes true name l = (ordinal name 0, Has-map (ordinal name) (Has-numbers 0 (sizes name) 0 (omega arith) (omega (arith, l))))
 set_value sizes false name l = (scalar name 0, Has-map (scalar name) (Has-numbers 0 (sizes name) 0 (omega arith) (omega (arith, l))))
 
@@ -100,9 +101,9 @@ module _ (s : Script) (checked : IsChecked s) where
         (index_types entry split) (λ p h. filled_there o.design p.over (filled_types entry split p h)) in
         let types : map (λ p. p.over) (leaf_params entry) ≡ over ++ split.added = types_are entry ∙ (split.are_params ∙ ap (λ unit. params_of (names_of o.design) unit ++ split.added) is_map) in
         let front : AreOf (map (places_in w) over ++ map (places_in w) split.added) (params_at o entry classes) =
-        subst (λ xss. AreOf xss (params_at o entry classes)) (map_joined (places_in w) over split.added) (subst (λ ts. AreOf (map (places_in w) ts) (params_at o entry classes)) types are) in
+        subst (λ xss. AreOf xss (params_at o entry classes)) (map-append (places_in w) over split.added) (subst (λ ts. AreOf (map (places_in w) ts) (params_at o entry classes)) types are) in
         let taken : AreOf (map (places_in w) over) own =
-        subst (AreOf (map (places_in w) over)) (ap (λ k. take k (params_at o entry classes)) (map_long (places_in w) over) ∙ is_own) (take_of (map (places_in w) over) (map (places_in w) split.added) (params_at o entry classes) front) in
+        subst (AreOf (map (places_in w) over)) (ap (λ k. take k (params_at o entry classes)) (length_map (places_in w) over) ∙ is_own) (take_of (map (places_in w) over) (map (places_in w) split.added) (params_at o entry classes) front) in
         one_of _ own (named_there w over own taken named)
 
     target_kept : (unit : FlatUnit) → unit_in o.design entry.unit ≡ unit → (own : List Place) → take (length (params_of (names_of o.design) unit)) (params_at o entry classes) ≡ own →

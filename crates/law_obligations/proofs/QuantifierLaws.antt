@@ -1,6 +1,9 @@
 -- Quantifiers: what is at the numbers and classes, with any part of what is at the rests.
 use Rattle.std.proofs.Common.{◌≡◌, List, [], ◌∷◌, ◌++◌, map, Bool, true, false, ◌||◌, Some, None, refl, sym, ap, ◌∙◌}
 use Rattle.std.specs.List.{flat_map, list_any, list_all}
+use Rattle.std.proofs.lemmas.List.Folds.{list_any-append}
+use Rattle.std.proofs.lemmas.List.{map-append}
+use Rattle.law_lists.proofs.Anys.{any-flat_map, any-agree}
 use Rattle.smv_core.specs.Values.{Truth, not_of, and_of, or_of, conjunction, disjunction}
 use Rattle.smv_core.specs.Outcome.{is_true}
 use Rattle.law_obligations.specs.Right.{is_false, is_neither}
@@ -9,20 +12,18 @@ use Rattle.law_obligations.specs.May.{seen, shown, quantified}
 use Rattle.law_obligations.specs.Sets.{one_of_each, parts}
 use Rattle.law_obligations.specs.Mix.{mix_by, not_mix, or_mix, or_all, or_none, or_zero, is_there}
 use Rattle.law_obligations.specs.Combined.{unions}
-use Rattle.law_obligations.proofs.Anys.{any-append, any-ext, any-flat_map}
 use Rattle.law_obligations.proofs.MixLaws.{same_mix, or_is, or-two, not-by, mix-parts, mix-disjunction, there-choices, there-parts, seen-shown}
-use Rattle.law_obligations.proofs.OneOfEach.{map_joined}
 
 pub mix-ext : {X : Type 0} (f g : X → Truth) (xs : List X) → ((x : X) → f x ≡ g x) → mix_by f xs ≡ mix_by g xs
-mix-ext f g xs e = same_mix (any-ext (λ x. is_false (f x)) (λ x. is_false (g x)) xs (λ x. ap is_false (e x))) (any-ext (λ x. is_true (f x)) (λ x. is_true (g x)) xs (λ x. ap is_true (e x))) (any-ext (λ x. is_neither (f x)) (λ x. is_neither (g x)) xs (λ x. ap is_neither (e x)))
+mix-ext f g xs e = same_mix (any-agree (λ x. is_false (f x)) (λ x. is_false (g x)) xs (λ x. ap is_false (e x))) (any-agree (λ x. is_true (f x)) (λ x. is_true (g x)) xs (λ x. ap is_true (e x))) (any-agree (λ x. is_neither (f x)) (λ x. is_neither (g x)) xs (λ x. ap is_neither (e x)))
 
 -- what is there of some of several lists
 pub mix-flat_map : {X Y : Type 0} (f : Y → Truth) (g : X → List Y) (xs : List X) → mix_by f (flat_map g xs) ≡ unions (map (λ x. mix_by f (g x)) xs)
 mix-flat_map f g [] = refl
 mix-flat_map f g (x ∷ xs) = same_mix
-    (any-append (λ y. is_false (f y)) (g x) (flat_map g xs) ∙ ap (λ m. list_any (λ y. is_false (f y)) (g x) || m.no) (mix-flat_map f g xs))
-    (any-append (λ y. is_true (f y)) (g x) (flat_map g xs) ∙ ap (λ m. list_any (λ y. is_true (f y)) (g x) || m.yes) (mix-flat_map f g xs))
-    (any-append (λ y. is_neither (f y)) (g x) (flat_map g xs) ∙ ap (λ m. list_any (λ y. is_neither (f y)) (g x) || m.neither) (mix-flat_map f g xs))
+    (list_any-append (λ y. is_false (f y)) (g x) (flat_map g xs) ∙ ap (λ m. list_any (λ y. is_false (f y)) (g x) || m.no) (mix-flat_map f g xs))
+    (list_any-append (λ y. is_true (f y)) (g x) (flat_map g xs) ∙ ap (λ m. list_any (λ y. is_true (f y)) (g x) || m.yes) (mix-flat_map f g xs))
+    (list_any-append (λ y. is_neither (f y)) (g x) (flat_map g xs) ∙ ap (λ m. list_any (λ y. is_neither (f y)) (g x) || m.neither) (mix-flat_map f g xs))
 
 not_not : (t : Truth) → not_of (not_of t) ≡ t
 not_not (Some true) = refl
@@ -86,9 +87,9 @@ mix-quantified-any at_named at_rests h =
 
     part : (p : Truth → Bool) → list_any (λ u. p (seen u)) (quantified disjunction at_named at_rests) ≡ list_any (λ us. list_any (λ vs. p (or_of (any_seen us) (any_seen vs))) (parts at_rests)) (one_of_each at_named)
     part p = any-flat_map (λ u. p (seen u)) (λ us. flat_map (some_seen us) (parts at_rests)) (one_of_each at_named)
-        ∙ any-ext (λ us. list_any (λ u. p (seen u)) (flat_map (some_seen us) (parts at_rests))) (λ us. list_any (λ vs. p (or_of (any_seen us) (any_seen vs))) (parts at_rests)) (one_of_each at_named) (λ us.
+        ∙ any-agree (λ us. list_any (λ u. p (seen u)) (flat_map (some_seen us) (parts at_rests))) (λ us. list_any (λ vs. p (or_of (any_seen us) (any_seen vs))) (parts at_rests)) (one_of_each at_named) (λ us.
         any-flat_map (λ u. p (seen u)) (some_seen us) (parts at_rests)
-        ∙ any-ext (λ vs. list_any (λ u. p (seen u)) (some_seen us vs)) (λ vs. p (or_of (any_seen us) (any_seen vs))) (parts at_rests) (λ vs. one (p (seen (shown (disjunction (map seen (us ++ vs)))))) ∙ ap p (seen-shown (disjunction (map seen (us ++ vs))) ∙ (ap disjunction (map_joined seen us vs) ∙ disjunction-append (map seen us) (map seen vs)))))
+        ∙ any-agree (λ vs. list_any (λ u. p (seen u)) (some_seen us vs)) (λ vs. p (or_of (any_seen us) (any_seen vs))) (parts at_rests) (λ vs. one (p (seen (shown (disjunction (map seen (us ++ vs)))))) ∙ ap p (seen-shown (disjunction (map seen (us ++ vs))) ∙ (ap disjunction (map-append seen us vs) ∙ disjunction-append (map seen us) (map seen vs)))))
 
 -- a quantifier's outcomes are truth values that are shown
 pub quantified-shown : (join : List Truth → Truth) (at_named : List (List AbsOutcome)) (at_rests : List AbsOutcome) →
@@ -103,4 +104,4 @@ quantified-shown join at_named at_rests = over (one_of_each at_named)
     over [] = refl
     over (us ∷ uss) =
         ap (λ l. l ++ flat_map (λ us. flat_map (λ vs. shown (join (map seen (us ++ vs))) ∷ []) (parts at_rests)) uss) (inner us (parts at_rests))
-        ∙ (ap (λ l. map shown (flat_map (λ vs. join (map seen (us ++ vs)) ∷ []) (parts at_rests)) ++ l) (over uss) ∙ sym (map_joined shown (flat_map (λ vs. join (map seen (us ++ vs)) ∷ []) (parts at_rests)) (flat_map (λ us. flat_map (λ vs. join (map seen (us ++ vs)) ∷ []) (parts at_rests)) uss)))
+        ∙ (ap (λ l. map shown (flat_map (λ vs. join (map seen (us ++ vs)) ∷ []) (parts at_rests)) ++ l) (over uss) ∙ sym (map-append shown (flat_map (λ vs. join (map seen (us ++ vs)) ∷ []) (parts at_rests)) (flat_map (λ us. flat_map (λ vs. join (map seen (us ++ vs)) ∷ []) (parts at_rests)) uss)))

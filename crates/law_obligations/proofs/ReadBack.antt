@@ -2,13 +2,13 @@
 use Rattle.std.proofs.Common.{◌≡◌, ℕ, ◌+◌, ◌-◌, ◌^◌, ◌<◌, ◌≤◌, List, [], ◌∷◌, length, find, Bool, true, false, cond, ◌||◌, refl, sym, ap, subst, ◌∙◌, inl, inr, Option, Some, None, arith, nat_lt}
 use Rattle.std.specs.List.{slice_get, list_any}
 use Rattle.std.proofs.lemmas.Bool.Decides.{nat_tests}
+use Rattle.std.proofs.lemmas.Bool.{cases_Bool}
 use Rattle.smv_core.specs.declared.flat.Family.{Family}
 use Rattle.law_obligations.specs.Sets.{Has, first, later}
 use Rattle.law_obligations.specs.Places.{Place, World, places_in}
 use Rattle.law_obligations.specs.May.{AbsState}
 use Rattle.law_obligations.specs.Pictures.{IsAbsState}
 use Rattle.law_obligations.proofs.Members.{all-holds, any-found}
-use Rattle.law_obligations.proofs.Tests.{true_or_false}
 use Rattle.law_obligations.specs.Cones.{AbsElement, element, same_element, kept}
 use Rattle.law_obligations.proofs.Lookups.{find-some, none_or_some}
 use Rattle.law_obligations.proofs.ConeFacts.{same_element-itself, same_element-family, same_element-indexes}
@@ -159,7 +159,7 @@ module _ (c : PosedCase) where
         )
       where
         at_each : (s : Bits) → IsWritten c.problem.world a 0 c.elements s → (family : ℕ) (ps : List Place) → reading c s family ps ≡ a family ps
-        at_each s written family ps = elim (true_or_false (list_any (same_element (element family ps)) c.elements)) [
+        at_each s written family ps = elim (cases_Bool (list_any (same_element (element family ps)) c.elements)) [
           | inl any ↦
               let slot = found c.problem.world (same_element (element family ps)) 0 c.elements any in
               let there = find-some (at_element family ps) (slots c) slot.1 in

@@ -3,14 +3,16 @@ use Rattle.std.proofs.Common.{◌≡◌, List, [], ◌∷◌, ◌++◌, map, Boo
 use Rattle.std.specs.List.{list_any, list_all, zip}
 use Rattle.std.specs.Option.{option_map}
 use Rattle.std.proofs.lemmas.List.{append-nil, append_assoc}
+use Rattle.law_lists.proofs.Anys.{any-agree}
+use Rattle.law_lists.proofs.Booleans.{left_of, right_of}
 use Rattle.smv_core.specs.declared.flat.Simple.{Simple}
 use Rattle.law_obligations.specs.Sets.{one_of_each, all_there}
 use Rattle.law_obligations.specs.Places.{Place, World, AbsOutcome, places_in}
 use Rattle.law_obligations.specs.May.{place_within}
 use Rattle.law_obligations.specs.Mix.{is_there}
 use Rattle.law_obligations.specs.ReadOutcomes.{where_within, found, within_all, found_from}
-use Rattle.law_obligations.proofs.Anys.{any-ext, any-choices}
-use Rattle.law_obligations.proofs.MixLaws.{there-choices, left_true, right_true}
+use Rattle.law_obligations.proofs.Anys.{any-choices}
+use Rattle.law_obligations.proofs.MixLaws.{there-choices}
 
 module _ (w : World) (outside : Bool) (inside : List Place → Bool) where
   abbrev found_at : Option (List Place) → Bool
@@ -42,25 +44,25 @@ module _ (w : World) (outside : Bool) (inside : List Place → Bool) where
   found-choices ps (t ∷ over) [] h = last (inside (ps ++ [])) ∙ ap inside (append-nil ps)
   found-choices ps [] (us ∷ uss) h =
       any-choices (λ vs. found_at (option_map (λ qs. ps ++ qs) (all_within [] vs))) us uss
-      ∙ (any-ext (λ u. list_any (λ vs. found_at (option_map (λ qs. ps ++ qs) (all_within [] (u ∷ vs)))) (one_of_each uss)) (λ u. from ps [] uss) us (λ u.
-      any-ext (λ vs. found_at (option_map (λ qs. ps ++ qs) (all_within [] (u ∷ vs)))) (λ vs. found_at (option_map (λ qs. ps ++ qs) (all_within [] vs))) (one_of_each uss) (λ vs. none_over vs) ∙ found-choices ps [] uss (right_true (is_there us) (list_all is_there uss) h))
-      ∙ same-always (from ps [] uss) us (left_true (is_there us) (list_all is_there uss) h))
+      ∙ (any-agree (λ u. list_any (λ vs. found_at (option_map (λ qs. ps ++ qs) (all_within [] (u ∷ vs)))) (one_of_each uss)) (λ u. from ps [] uss) us (λ u.
+      any-agree (λ vs. found_at (option_map (λ qs. ps ++ qs) (all_within [] (u ∷ vs)))) (λ vs. found_at (option_map (λ qs. ps ++ qs) (all_within [] vs))) (one_of_each uss) (λ vs. none_over vs) ∙ found-choices ps [] uss (right_of (is_there us) (list_all is_there uss) h))
+      ∙ same-always (from ps [] uss) us (left_of (is_there us) (list_all is_there uss) h))
     where
       none_over : (vs : List AbsOutcome) → inside (ps ++ []) ≡ found_at (option_map (λ qs. ps ++ qs) (all_within [] vs))
       none_over [] = refl
       none_over (v ∷ vs) = refl
   found-choices ps (t ∷ over) (us ∷ uss) h =
       any-choices (λ vs. found_at (option_map (λ qs. ps ++ qs) (all_within (t ∷ over) vs))) us uss
-      ∙ any-ext (λ u. list_any (λ vs. found_at (option_map (λ qs. ps ++ qs) (all_within (t ∷ over) (u ∷ vs)))) (one_of_each uss)) (λ u. where_within outside (λ q. from (ps ++ q ∷ []) over uss) (place_within (places_in w t) u)) us (λ u. at (λ q. found-choices (ps ++ q ∷ []) over uss (right_true (is_there us) (list_all is_there uss) h)) (place_within (places_in w t) u))
+      ∙ any-agree (λ u. list_any (λ vs. found_at (option_map (λ qs. ps ++ qs) (all_within (t ∷ over) (u ∷ vs)))) (one_of_each uss)) (λ u. where_within outside (λ q. from (ps ++ q ∷ []) over uss) (place_within (places_in w t) u)) us (λ u. at (λ q. found-choices (ps ++ q ∷ []) over uss (right_of (is_there us) (list_all is_there uss) h)) (place_within (places_in w t) u))
     where
       at : ((q : Place) → list_any (λ vs. found_at (option_map (λ qs. (ps ++ q ∷ []) ++ qs) (all_within over vs))) (one_of_each uss) ≡ from (ps ++ q ∷ []) over uss) →
           (o : AbsOutcome) → list_any (λ vs. found_at (option_map (λ qs. ps ++ qs) (all_there (o ∷ map (λ (t, u). place_within (places_in w t) u) (zip over vs))))) (one_of_each uss) ≡ where_within outside (λ q. from (ps ++ q ∷ []) over uss) o
-      at goes None = same-always outside (one_of_each uss) (there-choices uss (right_true (is_there us) (list_all is_there uss) h))
-      at goes (Some q) = any-ext (λ vs. found_at (option_map (λ qs. ps ++ qs) (option_map (λ qs. q ∷ qs) (all_within over vs)))) (λ vs. found_at (option_map (λ qs. (ps ++ q ∷ []) ++ qs) (all_within over vs))) (one_of_each uss) (λ vs. further ps q (all_within over vs)) ∙ goes q
+      at goes None = same-always outside (one_of_each uss) (there-choices uss (right_of (is_there us) (list_all is_there uss) h))
+      at goes (Some q) = any-agree (λ vs. found_at (option_map (λ qs. ps ++ qs) (option_map (λ qs. q ∷ qs) (all_within over vs)))) (λ vs. found_at (option_map (λ qs. (ps ++ q ∷ []) ++ qs) (all_within over vs))) (one_of_each uss) (λ vs. further ps q (all_within over vs)) ∙ goes q
 
   no_prefix : (o : Option (List Place)) → found_at o ≡ found_at (option_map (λ qs. [] ++ qs) o)
   no_prefix None = refl
   no_prefix (Some qs) = refl
 
   pub found-within : (over : List Simple) (uss : List (List AbsOutcome)) → list_all is_there uss ≡ true → list_any (λ us. found_at (all_within over us)) (one_of_each uss) ≡ from [] over uss
-  found-within over uss h = any-ext (λ us. found_at (all_within over us)) (λ us. found_at (option_map (λ qs. [] ++ qs) (all_within over us))) (one_of_each uss) (λ us. no_prefix (all_within over us)) ∙ found-choices [] over uss h
+  found-within over uss h = any-agree (λ us. found_at (all_within over us)) (λ us. found_at (option_map (λ qs. [] ++ qs) (all_within over us))) (one_of_each uss) (λ us. no_prefix (all_within over us)) ∙ found-choices [] over uss h

@@ -1,6 +1,8 @@
 -- What a right side allows, it may allow in the picture; and what it allows there for certain, it allows.
 use Rattle.std.proofs.Common.{◌≡◌, ℕ, ◌+◌, ◌-◌, List, [], ◌∷◌, ◌++◌, map, Bool, true, false, not, if◌then◌else◌, ◌&&◌, ◌||◌, refl, sym, ap, subst, ◌∙◌, inl, inr, Some, None}
 use Rattle.std.specs.List.{list_any, list_all, filter}
+use Rattle.std.proofs.lemmas.Bool.{or_cases, not-true, cases_Bool}
+use Rattle.law_lists.proofs.Booleans.{either_left, either_right, and_both, left_of, right_of}
 use Rattle.smv_core.specs.Values.{Name, Value, number, Outcome, Truth, truth, numbers_from, is_in, Simple, range, choice, scalarset, ordset}
 use Rattle.smv_core.specs.Outcome.{branch, fit, is_true}
 use Rattle.smv_core.specs.FlatMeaning.{Numbered, FlatState, bind, values_in, simple_in, flat_outcome, flat_members, flat_meets, flat_allowed_by}
@@ -13,7 +15,6 @@ use Rattle.law_obligations.specs.Places.{Place, named, rest, World, world, named
 use Rattle.law_obligations.specs.May.{AbsState, Kept, seen, may, may_members}
 use Rattle.law_obligations.specs.Right.{gives, is_outside, gives_surely, same_outcome, gives_only, may_give_some, is_false, is_neither, chosen_surely, may_meet, must_meet, may_allow, must_allow, must_give_some}
 use Rattle.law_obligations.specs.Pictures.{Placing, placed, ArePlaced, IsState, IsPicture, IsValue, AreValues}
-use Rattle.law_obligations.proofs.Tests.{left_of, right_of, or_left, or_right, or_cases, and_both, true_or_false, not_true}
 use Rattle.law_obligations.proofs.Members.{Has-right, Has-cases, Has-map, Has-from_map, Picks, any-found, any-some, all-each, all-holds}
 use Rattle.law_obligations.proofs.Members.Picks.{more as one_more}
 use Rattle.law_obligations.proofs.Same.{same_place-itself, same_place-is, Has-is_in, is_among-Has}
@@ -111,7 +112,7 @@ module _ (n : Numbered) (types : Name → AbsType) (spots : Placing) (facts : Ar
 
   outside_placed : (u : Outcome) → IsOutcome n u → is_outside every (placed_outcome spots u) ≡ true → IsOut values u
   outside_placed None p e = tt
-  outside_placed (Some x) p e = same_in n types spots facts t x p ∙ not_true (is_among every (placed spots x)) e
+  outside_placed (Some x) p e = same_in n types spots facts t x p ∙ not-true (is_among every (placed spots x)) e
 
   -- conditions of comprehensions
   meets_may : (test : Held-FlatExpr-Each-2) (b : List Value) (var : ℕ) (x : Value) → AreValues n b → IsValue n x → flat_meets n s test (bind b var x) ≡ true →
@@ -174,9 +175,9 @@ module _ (n : Numbered) (types : Name → AbsType) (spots : Placing) (facts : Ar
       (list_any (λ q. may_meet (world n types) kept a test (bind_place (B b) var q) && gives every (Some q) (placed spots v)) (places_in (world n types) over)
       || (list_all (λ q. not (must_meet (world n types) kept a test (bind_place (B b) var q))) (named_in (world n types) over) && is_among every (placed spots v))) ≡ true
   each_may var over test b v h k (inl e) =
-      or_right (list_any (λ q. may_meet (world n types) kept a test (bind_place (B b) var q) && gives every (Some q) (placed spots v)) (places_in (world n types) over))
+      either_right (list_any (λ q. may_meet (world n types) kept a test (bind_place (B b) var q) && gives every (Some q) (placed spots v)) (places_in (world n types) over))
       (and_both (all-holds (λ q. not (must_meet (world n types) kept a test (bind_place (B b) var q))) (named_in (world n types) over)
-      (λ q hq. let x = (facts over).class_has_value q hq in elim (true_or_false (must_meet (world n types) kept a test (bind_place (B b) var q))) [
+      (λ q hq. let x = (facts over).class_has_value q hq in elim (cases_Bool (must_meet (world n types) kept a test (bind_place (B b) var q))) [
         | inl m ↦ absurd (empty_map Some (listed_by test var over b) e x.0 (Has-filter (λ v. flat_meets n s test (bind b var v)) x.1
             (must_meets test b var x.0 h (of_type n over x.0 x.1) (subst (λ z. must_meet (world n types) kept a test (bind_place (B b) var z) ≡ true) (sym x.2) m))))
         | inr m ↦ ap not m
@@ -186,7 +187,7 @@ module _ (n : Numbered) (types : Name → AbsType) (spots : Placing) (facts : Ar
       let x = Has-from_map Some (listed_by test var over b) hy in
       let f = Has-from_filter (λ v. flat_meets n s test (bind b var v)) (values_in n over) x.1 in
       let known = of_type n over x.0 f.0 in
-      or_left (list_all (λ q. not (must_meet (world n types) kept a test (bind_place (B b) var q))) (named_in (world n types) over) && is_among every (placed spots v))
+      either_left (list_all (λ q. not (must_meet (world n types) kept a test (bind_place (B b) var q))) (named_in (world n types) over) && is_among every (placed spots v))
       (any-found (λ q. may_meet (world n types) kept a test (bind_place (B b) var q) && gives every (Some q) (placed spots v)) ((facts over).is_somewhere x.0 f.0)
       (and_both (meets_may test b var x.0 h known f.1) (gives_placed (Some x.0) v known (subst (λ u. GivesValue values u v) x.2 g))))
 
@@ -253,7 +254,7 @@ module _ (n : Numbered) (types : Name → AbsType) (spots : Placing) (facts : Ar
       Has (fit values (map Some (listed_by test var over b))) v
   each_must var over test b v h k e = elim (or_cases (list_all (λ q. not (may_meet (world n types) kept a test (bind_place (B b) var q))) (places_in (world n types) over) && is_among every (placed spots v)) _ e) [
     | inl i ↦ by_none (listed_by test var over b) (λ x g. let f = Has-from_filter (λ v. flat_meets n s test (bind b var v)) (values_in n over) g in
-        false_true (not_true (may_meet (world n types) kept a test (bind_place (B b) var (placed spots x)))
+        false_true (not-true (may_meet (world n types) kept a test (bind_place (B b) var (placed spots x)))
         (all-each (λ q. not (may_meet (world n types) kept a test (bind_place (B b) var q))) (left_of _ _ i) ((facts over).is_somewhere x f.0)))
         (meets_may test b var x h (of_type n over x f.0) f.1))
     | inr i ↦ elim (or_cases (list_any (λ q. must_meet (world n types) kept a test (bind_place (B b) var q) && not (is_among every q)) (named_in (world n types) over) && is_among every (placed spots v)) _ i) [
@@ -271,7 +272,7 @@ module _ (n : Numbered) (types : Name → AbsType) (spots : Placing) (facts : Ar
           let x = (facts over).class_has_value q hq in
           let known = of_type n over x.0 x.1 in
           let met = left_of (must_meet (world n types) kept a test (bind_place (B b) var q)) (not (is_among every q)) m in
-          let out = not_true (is_among every q) (right_of (must_meet (world n types) kept a test (bind_place (B b) var q)) (not (is_among every q)) m) in
+          let out = not-true (is_among every q) (right_of (must_meet (world n types) kept a test (bind_place (B b) var q)) (not (is_among every q)) m) in
           given_fits values (map Some (listed_by test var over b)) v (
             Some x.0,
             Has-map Some (Has-filter (λ v. flat_meets n s test (bind b var v)) x.1 (must_meets test b var x.0 h known (subst (λ z. must_meet (world n types) kept a test (bind_place (B b) var z) ≡ true) (sym x.2) met))),

@@ -13,25 +13,19 @@ use Rattle.law_obligations.specs.Right.{gives, gives_surely, is_outside, same_ou
 use Rattle.law_obligations.proofs.Computing.{computing}
 use Rattle.law_obligations.proofs.Same.{same_outcome-itself, same_outcome-is}
 use Rattle.law_obligations.proofs.Members.{any-found, any-some, all-each, all-holds, Has-uncons}
-use Rattle.law_obligations.proofs.Tests.{same_tests, and_both, left_of, right_of, true_or_false, not_true}
 use Rattle.law_obligations.specs.Mix.{mix_by}
 use Rattle.law_obligations.proofs.MixLaws.{mix-map, or_same}
 use Rattle.std.proofs.lemmas.List.{append-nil}
+use Rattle.std.proofs.lemmas.Bool.{not_from_false, not-true, cases_Bool}
+use Rattle.law_lists.proofs.Booleans.{impossible, and_both, left_of, right_of, same_tests}
 use Rattle.law_obligations.specs.RightSides.{surely_by, some_differ, is_plain, may_hold, must_hold}
 use Rattle.law_obligations.specs.Combined.{of_member}
 use Rattle.law_obligations.proofs.MayLaws.{may-members}
 use mathlib.Core.Former.{Count}
 
-not_no : (b : Bool) → b ≡ false → not b ≡ true
-not_no b e = ap not e
-
 -- two outcomes that are one do not differ
 no_longer : (u v : AbsOutcome) → u ≡ v → not (same_outcome u v) ≡ false
 no_longer u v e = ap (λ w. not (same_outcome u w)) (sym e) ∙ ap not (same_outcome-itself u)
-
-true_false : {X : Type 0} (b : Bool) → b ≡ true → b ≡ false → X
-true_false true e f = absurd (cc)
-true_false false e f = absurd (cc)
 
 -- the only outcome: some outcome does it, and no two differ
 pub only-some : (every : List Place) (us : List AbsOutcome) (p : Place) → gives_only every us p ≡ (list_any (λ u. gives_surely every u p) us && not (some_differ us))
@@ -42,24 +36,24 @@ only-some every (u ∷ us) p = same_tests (list_all (same_outcome u) us && gives
     alike h v has = elim (Has-uncons has) [ inl e ↦ e | inr k ↦ sym (same_outcome-is u v (all-each (same_outcome u) h k)) ]
 
     none_differ : list_all (same_outcome u) us ≡ true → some_differ (u ∷ us) ≡ false
-    none_differ h = elim (true_or_false (some_differ (u ∷ us))) [
+    none_differ h = elim (cases_Bool (some_differ (u ∷ us))) [
       | inl e ↦
           let x = any-some (λ x. list_any (λ y. not (same_outcome x y)) (u ∷ us)) (u ∷ us) e in
           let y = any-some (λ y. not (same_outcome x.0 y)) (u ∷ us) x.2 in
-          true_false (not (same_outcome x.0 y.0)) y.2 (no_longer x.0 y.0 (alike h x.0 x.1 ∙ sym (alike h y.0 y.1)))
+          impossible (not (same_outcome x.0 y.0)) y.2 (no_longer x.0 y.0 (alike h x.0 x.1 ∙ sym (alike h y.0 y.1)))
       | inr e ↦ e
     ]
 
     there : (list_all (same_outcome u) us && gives_surely every u p) ≡ true → (list_any (λ v. gives_surely every v p) (u ∷ us) && not (some_differ (u ∷ us))) ≡ true
     there h =
         let alike_all = left_of (list_all (same_outcome u) us) (gives_surely every u p) h in
-        and_both (any-found (λ v. gives_surely every v p) first (right_of (list_all (same_outcome u) us) (gives_surely every u p) h)) (not_no (some_differ (u ∷ us)) (none_differ alike_all))
+        and_both (any-found (λ v. gives_surely every v p) first (right_of (list_all (same_outcome u) us) (gives_surely every u p) h)) (not_from_false (some_differ (u ∷ us)) (none_differ alike_all))
 
     -- where no two differ, each is the first
     as_first : not (some_differ (u ∷ us)) ≡ true → (v : AbsOutcome) → Has (u ∷ us) v → same_outcome u v ≡ true
-    as_first h v has = elim (true_or_false (same_outcome u v)) [
+    as_first h v has = elim (cases_Bool (same_outcome u v)) [
       | inl e ↦ e
-      | inr e ↦ true_false (some_differ (u ∷ us)) (any-found (λ x. list_any (λ y. not (same_outcome x y)) (u ∷ us)) first (any-found (λ y. not (same_outcome u y)) has (not_no (same_outcome u v) e))) (not_true (some_differ (u ∷ us)) h)
+      | inr e ↦ impossible (some_differ (u ∷ us)) (any-found (λ x. list_any (λ y. not (same_outcome x y)) (u ∷ us)) first (any-found (λ y. not (same_outcome u y)) has (not_from_false (same_outcome u v) e))) (not-true (some_differ (u ∷ us)) h)
     ]
 
     back : (list_any (λ v. gives_surely every v p) (u ∷ us) && not (some_differ (u ∷ us))) ≡ true → (list_all (same_outcome u) us && gives_surely every u p) ≡ true

@@ -2,17 +2,15 @@
 use Rattle.std.proofs.Common.{◌≡◌, ℕ, List, Bool, true, false, refl, sym, ap, subst, ◌∙◌, arith, nat_eq, Some, None}
 use Rattle.std.specs.Str.{bytes_eq}
 use Rattle.std.proofs.lemmas.Slice.Eq.{bytes_eq-Decides}
+use Rattle.law_lists.proofs.Numbers.{nat_eq-is}
+use Rattle.law_lists.proofs.Booleans.{left_of, right_of}
 use Rattle.smv_core.specs.Values.{Value, number, constant, scalar, ordinal, same, is_in}
 use Rattle.law_obligations.specs.Sets.{Has}
 use Rattle.law_obligations.specs.Places.{Place, named, rest, same_place, is_among, AbsOutcome}
-use Rattle.law_obligations.proofs.Tests.{left_of, right_of}
 use Rattle.law_obligations.proofs.Members.{any-found, any-some}
 
 pub nat_eq-itself : (n : ℕ) → nat_eq n n ≡ true
 nat_eq-itself n = grind arith
-
-pub nat_eq-is : (m n : ℕ) → nat_eq m n ≡ true → m ≡ n
-nat_eq-is m n e = grind arith
 
 pub same-itself : (v : Value) → same v v ≡ true
 same-itself (number n) = nat_eq-itself n

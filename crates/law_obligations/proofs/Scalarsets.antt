@@ -1,6 +1,8 @@
 -- The values of a scalarset: classes by distinct values, and a rest.
 use Rattle.std.proofs.Common.{◌≡◌, ℕ, zero, suc, ◌<◌, List, [], ◌∷◌, ◌++◌, map, length, get_or, Bool, true, false, if◌then◌else◌, refl, sym, ap, subst, ◌∙◌, inl, inr, arith, nat_eq, Option, Some, None, option_map}
 use Rattle.std.proofs.lemmas.Slice.Eq.{bytes_eq-Decides}
+use Rattle.std.proofs.lemmas.Bool.{cases_Bool}
+use Rattle.law_lists.proofs.Numbers.{nat_eq-is}
 use Rattle.smv_core.specs.Values.{Name, scalar, ordinal, scalarset, Sizes, numbers_from, same}
 use Rattle.smv_core.specs.declared.abstract_type.Rest.{Rest}
 use Rattle.smv_core.specs.declared.abstract_type.Rest.TheVariants as beside
@@ -8,9 +10,8 @@ use Rattle.law_obligations.specs.Sets.{Has, first}
 use Rattle.law_obligations.specs.Places.{World, rests_beside}
 use Rattle.law_obligations.specs.Pictures.{class, other, Placing, at_spot, placed, IsPlaced}
 use Rattle.law_obligations.specs.Placings.{place_in, or_rest, spot_by, AreDistinct, AreBelow, HasRoom}
-use Rattle.law_obligations.proofs.Tests.{true_or_false}
 use Rattle.law_obligations.proofs.Members.{Has-left, Has-right, Has-map}
-use Rattle.law_obligations.proofs.Same.{nat_eq-itself, nat_eq-is}
+use Rattle.law_obligations.proofs.Same.{nat_eq-itself}
 use Rattle.law_obligations.proofs.Facts.{unordered}
 use Rattle.law_obligations.proofs.Spots.{Has-numbers, AreSpotted, is_somewhere, class_has_value, class_has_one, equality, order}
 
@@ -32,7 +33,7 @@ own_place : (xs : List ℕ) (c : ℕ) → AreDistinct xs → c < length xs → p
 own_place [] c d l = absurd (omega arith)
 own_place (x ∷ xs) zero d l = rw (nat_eq-itself x) refl
 own_place (x ∷ xs) (suc c) d l = let ih = own_place xs c d.1 (omega arith) in
-    elim (true_or_false (nat_eq (get_or xs c 0) x)) [
+    elim (cases_Bool (nat_eq (get_or xs c 0) x)) [
       | inl e ↦ let same : get_or xs c 0 ≡ x = nat_eq-is _ _ e in let again : place_in x xs ≡ Some c = subst (λ z. place_in z xs ≡ Some c) same ih in absurd (clash again d.0)
       | inr e ↦ rw e (ap (option_map (λ c. suc c)) ih)
     ]

@@ -1,13 +1,15 @@
 -- An outcome depends on no variable that its expression does not read.
 use Rattle.std.proofs.Common.{◌≡◌, ℕ, zero, suc, ◌+◌, ◌-◌, ◌<◌, List, [], ◌∷◌, ◌++◌, map, length, Bool, true, ◌&&◌, refl, ap, ◌∙◌, arith, inl, inr, Some, None, nat_eq, nat_lt}
 use Rattle.std.specs.List.{slice_get}
+use Rattle.std.proofs.lemmas.Bool.{or_cases}
+use Rattle.law_lists.proofs.Lists.{map_agree}
+use Rattle.law_lists.proofs.Booleans.{right_of}
 use Rattle.smv_core.specs.Values.{Value, number, Outcome, truth, bit, compare, equal, add, modulo, numbers_from, not_of, iff_of, conjunction, disjunction, implication}
 use Rattle.smv_core.specs.Outcome.{branch}
 use Rattle.smv_core.specs.FlatMeaning.{Numbered, FlatState, bind, values_in, flat_element_at, flat_outcome, flat_outcomes, flat_sum, flat_listed, flat_members}
 use Rattle.smv_core.specs.declared.flat.FlatMember.{One, Span as SpanOf}
 use Rattle.smv_core.specs.declared.flat.FlatExpr.{FlatExpr, Number, Read', Var, Loop, Constant, Not', And', Or', Implies', Iff', Compare', Within', Sum', Modulo', Choose', All', Any', List', Each', Row_of-FlatExpr, end_of-FlatExpr, more_of-FlatExpr, Row_of-FlatMember, end_of-FlatMember, more_of-FlatMember, Row_of-FlatSigned, end_of-FlatSigned, more_of-FlatSigned}
 use Rattle.law_obligations.specs.Scopes.{under, ReadsOnly, ReadOnly, ReadSigned, ReadMembers}
-use Rattle.law_obligations.proofs.Tests.{or_cases, right_of}
 
 -- two lists of equally many values, with the same values at these variables
 pub record Agree (scope : ℕ → Bool) (b c : List Value) : Type 0 where
@@ -43,10 +45,6 @@ agree_under scope var v b c h = record {
   alike = λ k is. bind_alike b c var v k h.long (λ l. h.alike k (in_scope scope var k is l));
 }
 
-pub map_alike : {X Y : Type 0} (f g : X → Y) → ((x : X) → f x ≡ g x) → (xs : List X) → map f xs ≡ map g xs
-map_alike f g h [] = refl
-map_alike f g h (x ∷ xs) = rw (h x) (ap (λ ys. g x ∷ ys) (map_alike f g h xs))
-
 module _ (n : Numbered) (s : FlatState) where
   mutual
     pub outcome_alike : (e : FlatExpr) (scope : ℕ → Bool) (b c : List Value) → Agree scope b c → ReadsOnly scope e → flat_outcome n s e b ≡ flat_outcome n s e c
@@ -74,10 +72,10 @@ module _ (n : Numbered) (s : FlatState) where
         ∙ (ap (λ u. branch None (truth (flat_outcome n s test c)) u (flat_outcome n s right b)) (outcome_alike left scope b c h r.1)
         ∙ ap (λ u. branch None (truth (flat_outcome n s test c)) (flat_outcome n s left c) u) (outcome_alike right scope b c h r.2))
     outcome_alike (All' shape (more_of-FlatExpr body end_of-FlatExpr) var over place) scope b c h r =
-        ap (λ ts. bit (conjunction ts)) (map_alike (λ v. truth (flat_outcome n s body (bind b var v))) (λ v. truth (flat_outcome n s body (bind c var v)))
+        ap (λ ts. bit (conjunction ts)) (map_agree (λ v. truth (flat_outcome n s body (bind b var v))) (λ v. truth (flat_outcome n s body (bind c var v)))
         (λ v. ap truth (outcome_alike body (under var scope) (bind b var v) (bind c var v) (agree_under scope var v b c h) r)) (values_in n over))
     outcome_alike (Any' shape (more_of-FlatExpr body end_of-FlatExpr) var over place) scope b c h r =
-        ap (λ ts. bit (disjunction ts)) (map_alike (λ v. truth (flat_outcome n s body (bind b var v))) (λ v. truth (flat_outcome n s body (bind c var v)))
+        ap (λ ts. bit (disjunction ts)) (map_agree (λ v. truth (flat_outcome n s body (bind b var v))) (λ v. truth (flat_outcome n s body (bind c var v)))
         (λ v. ap truth (outcome_alike body (under var scope) (bind b var v) (bind c var v) (agree_under scope var v b c h) r)) (values_in n over))
     outcome_alike (List' shape members place) scope b c h r = refl
     outcome_alike (Each' var over test place) scope b c h r = refl

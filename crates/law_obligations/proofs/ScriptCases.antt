@@ -3,6 +3,7 @@ use Rattle.std.proofs.Common.{◌≡◌, ℕ, zero, suc, ◌+◌, ◌-◌, ◌<�
 use Rattle.std.specs.Prelude.{IfSome}
 use Rattle.std.specs.List.{flat_map, slice_get, zip}
 use Rattle.std.proofs.lemmas.Bool.Decides.{nat_tests}
+use Rattle.law_lists.proofs.Options.{some_is}
 use Rattle.smv_core.specs.Values.{Name, number, constant, scalar, ordinal, choice, scalarset, ordset, numbers_from}
 use Rattle.smv_core.specs.FlatMeaning.{set_type}
 use Rattle.smv_core.specs.declared.flat.Simple.{Simple as FlatSimple}
@@ -35,7 +36,7 @@ use Rattle.law_obligations.specs.Outlines.{Entry, Outline, Script, outline_of, u
 use Rattle.law_obligations.specs.Cones.{AbsElement, element, same_element, elements_of, elements, first_elements, next_elements, cone}
 use Rattle.law_obligations.specs.Problems.{is_at, family_time, leaf_params, leaf_treatments, world_of, params_at, own_params, element_demands, own_demands, itself_demands, instances, claim_demands, demands}
 use Rattle.law_obligations.specs.Checked.{IsChecked, IsFilled}
-use Rattle.law_obligations.proofs.Lookups.{inner, Has-option, Has-tested, Has-from_filter}
+use Rattle.law_obligations.proofs.Lookups.{Has-option, Has-tested, Has-from_filter}
 use Rattle.law_obligations.proofs.OutlineFacts.{chosen-comes}
 use Rattle.law_obligations.proofs.ConeFacts.{same_element-family}
 use Rattle.law_obligations.specs.Readings.{IsCase}
@@ -72,10 +73,10 @@ sized false (Some n) (Some vars) one m = reduced_filled n m (nat_lt m n) refl on
 sized false None None one m = inr first
 sized false None (Some vars) one m = inr first
 
-treatment-at : (keeps : List Keep) (k i j : ℕ) (sets : List SetInfo) (info : SetInfo) → i ≡ k + j → slice_get sets j ≡ Some info → slice_get (treatments_of keeps k sets) j ≡ Some (treatment_of info.ordered info.size (kept_of keeps i))
+pub treatment-at : (keeps : List Keep) (k i j : ℕ) (sets : List SetInfo) (info : SetInfo) → i ≡ k + j → slice_get sets j ≡ Some info → slice_get (treatments_of keeps k sets) j ≡ Some (treatment_of info.ordered info.size (kept_of keeps i))
 treatment-at keeps k i j [] info e g = absurd (cc)
 treatment-at keeps k i zero (x ∷ sets) info e g = let same : k ≡ i = omega arith in
-    ap (λ (n : ℕ). Some (treatment_of x.ordered x.size (kept_of keeps n))) same ∙ ap (λ (y : SetInfo). Some (treatment_of y.ordered y.size (kept_of keeps i))) (inner g)
+    ap (λ (n : ℕ). Some (treatment_of x.ordered x.size (kept_of keeps n))) same ∙ ap (λ (y : SetInfo). Some (treatment_of y.ordered y.size (kept_of keeps i))) (some_is g)
 treatment-at keeps k i (suc j) (x ∷ sets) info e g = treatment-at keeps (k + 1) i j sets info (omega arith) g
 
 module _ (s : Script) (checked : IsChecked s) (have : HaveValues s.design) (entry : Entry) (classes : List Class) where

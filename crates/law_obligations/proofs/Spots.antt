@@ -1,12 +1,14 @@
 -- From spots to places: the three facts of a set type, where each class has one value.
 use Rattle.std.proofs.Common.{◌≡◌, ℕ, zero, suc, ◌+◌, ◌<◌, ◌≤◌, List, [], ◌∷◌, ◌++◌, map, Bool, true, false, refl, sym, ap, subst, ◌∙◌, ◌⊎◌, inl, inr, arith, nat_eq, Some}
+use Rattle.std.proofs.lemmas.Bool.{cases_Bool}
+use Rattle.law_lists.proofs.Numbers.{nat_eq-is}
+use Rattle.law_lists.proofs.Booleans.{clash as true_false, same_tests}
 use Rattle.smv_core.specs.Values.{Value, numbers_from, same, below}
 use Rattle.law_obligations.specs.Sets.{Has, first, later}
 use Rattle.law_obligations.specs.Places.{Place, named, rest, equal_places, below_places}
 use Rattle.law_obligations.specs.Pictures.{Spot, class, other, at_spot}
-use Rattle.law_obligations.proofs.Tests.{same_tests, true_or_false}
 use Rattle.law_obligations.proofs.Members.{Has-left, Has-right, Has-cases, Has-map, Has-from_map}
-use Rattle.law_obligations.proofs.Same.{nat_eq-itself, nat_eq-is}
+use Rattle.law_obligations.proofs.Same.{nat_eq-itself}
 
 pub Has-numbers : (low n k : ℕ) → low ≤ k → k < low + n → Has (numbers_from low n) k
 Has-numbers low zero k a b = absurd (omega arith)
@@ -21,7 +23,7 @@ numbers-Has low (suc n) _ first = (omega arith, omega arith)
 numbers-Has low (suc n) k (later h) = let r = numbers-Has (low + 1) n k h in (omega arith, omega arith)
 
 pub nat_eq-not : (k l : ℕ) → (k ≡ l → ⊥) → nat_eq k l ≡ false
-nat_eq-not k l n = elim (true_or_false (nat_eq k l)) [ inl e ↦ absurd (n (nat_eq-is k l e)) | inr e ↦ e ]
+nat_eq-not k l n = elim (cases_Bool (nat_eq k l)) [ inl e ↦ absurd (n (nat_eq-is k l e)) | inr e ↦ e ]
 
 class_other : {c g : ℕ} → class c ≡ other g → ⊥
 class_other e = cc
@@ -31,9 +33,6 @@ class_is c d e = cc
 
 other_is : (c d : ℕ) → other c ≡ other d → c ≡ d
 other_is c d e = cc
-
-true_false : {b : Bool} → b ≡ true → b ≡ false → ⊥
-true_false p q = cc
 
 -- where the values below the size lie, among so many classes and these rests
 pub record AreSpotted (size classes : ℕ) (rests : List ℕ) (spot : ℕ → Spot) : Type 0 where
@@ -110,7 +109,7 @@ module _ (make : ℕ → Value) (same_make : (k l : ℕ) → same (make k) (make
       first
   equal_at k l (class c) (other d) p q = subst (λ b. Has (Some false ∷ []) (Some b)) (sym (nat_eq-not k l (λ e. class_other (sym p ∙ (ap spot e ∙ q))))) first
   equal_at k l (other c) (class d) p q = subst (λ b. Has (Some false ∷ []) (Some b)) (sym (nat_eq-not k l (λ e. class_other (sym q ∙ (ap spot (sym e) ∙ p))))) first
-  equal_at k l (other c) (other d) p q = rw (same_make c d) (elim (true_or_false (nat_eq c d)) [
+  equal_at k l (other c) (other d) p q = rw (same_make c d) (elim (cases_Bool (nat_eq c d)) [
     | inl e ↦ rw e (any_answer (nat_eq k l))
     | inr e ↦ rw e (subst (λ b. Has (Some false ∷ []) (Some b))
         (sym (nat_eq-not k l (λ i. true_false (subst (λ z. nat_eq c z ≡ true) (other_is c d (sym p ∙ (ap spot i ∙ q))) (nat_eq-itself c)) e))) first)

@@ -1,21 +1,24 @@
 -- The uses that are now fall in the order of the graph of the open uses.
 use Rattle.std.proofs.Common.{◌≡◌, ℕ, suc, ◌<◌, List, [], ◌∷◌, map, length, Bool, true, false, if◌then◌else◌, ◌&&◌, refl, sym, ap, subst, ◌∙◌, inl, inr, Option, Some, None, is_none, arith}
 use Rattle.std.specs.List.{slice_get, zip}
+use Rattle.std.proofs.lemmas.Option.{slice_get_within}
+use Rattle.std.proofs.lemmas.Bool.{or_cases}
+use Rattle.law_lists.proofs.Options.{some_is}
+use Rattle.law_lists.proofs.Lists.{length_map}
+use Rattle.law_lists.proofs.Numbers.{nat_eq-is}
+use Rattle.law_lists.proofs.Booleans.{left_of, right_of}
 use Rattle.smv_core.specs.declared.flat.Pick.{Pick}
 use Rattle.smv_core.specs.declared.flat.Assumed.{Assumed}
 use Rattle.smv_core.specs.declared.flat.Timing.{Timing}
 use Rattle.smv_core.specs.declared.flat.Timing.TheVariants.{Now, Before}
 use Rattle.law_obligations.specs.Sets.{Has, first, later}
 use Rattle.law_obligations.specs.Uses.{is_now, rank_of}
-use Rattle.law_obligations.proofs.Tests.{left_of, right_of, or_cases}
 use Rattle.law_obligations.proofs.Members.{any-some}
-use Rattle.law_obligations.proofs.Same.{nat_eq-is}
-use Rattle.law_obligations.proofs.OneOfEach.{get_past, map_long}
 use Rattle.law_obligations.proofs.NowOrder.{falls}
 use Rattle.law_obligations.specs.Outlines.{Entry, Outline, Script, outline_of, is_claim, is_map, claim_unit, unit_in_layer, picked_unit}
 use Rattle.law_obligations.specs.Times.{is_unit, graph_from, graph, has_edge, time_of, unit_time, is_open_pick, same_time, pick_time, claim_time, timed}
 use Rattle.law_obligations.specs.Problems.{is_at, entry_uses, used_by, uses_at}
-use Rattle.law_obligations.proofs.Lookups.{inner, place_of-is}
+use Rattle.law_obligations.proofs.Lookups.{place_of-is}
 
 graph-long : (o : Outline) (u : ℕ) (entries : List Entry) → length (graph_from o u entries) ≡ length entries
 graph-long o u [] = refl
@@ -23,10 +26,10 @@ graph-long o u (entry ∷ entries) = ap suc (graph-long o (suc u) entries)
 
 unit_in_layer-below : (o : Outline) (family : ℕ) (ol : Option ℕ) (v : ℕ) → unit_in_layer o family ol ≡ Some v → v < length o.units
 unit_in_layer-below o family None v e = absurd (cc)
-unit_in_layer-below o family (Some layer) v e = let r = place_of-is (is_map o.design family layer) o.units v e in get_past o.units v r.0 r.1
+unit_in_layer-below o family (Some layer) v e = let r = place_of-is (is_map o.design family layer) o.units v e in slice_get_within o.units v r.0 r.1
 
 claim_unit-below : (o : Outline) (claim v : ℕ) → claim_unit o claim ≡ Some v → v < length o.units
-claim_unit-below o claim v e = let r = place_of-is (is_claim claim) o.units v e in get_past o.units v r.0 r.1
+claim_unit-below o claim v e = let r = place_of-is (is_claim claim) o.units v e in slice_get_within o.units v r.0 r.1
 
 names-is : (v : ℕ) (ov : Option ℕ) → is_unit v ov ≡ true → ov ≡ Some v
 names-is v None e = absurd (cc)
@@ -44,7 +47,7 @@ time_of-now false e = absurd (cc)
 
 unit_time-now : (edges : List (List ℕ)) (u v : ℕ) (ov : Option ℕ) → ov ≡ Some v → unit_time edges u ov ≡ Now → is_now (has_edge edges) (length edges) u v ≡ true
 unit_time-now edges u v None e t = absurd (cc)
-unit_time-now edges u v (Some w) e t = subst (λ v. is_now (has_edge edges) (length edges) u v ≡ true) (inner e) (time_of-now _ t)
+unit_time-now edges u v (Some w) e t = subst (λ v. is_now (has_edge edges) (length edges) u v ≡ true) (some_is e) (time_of-now _ t)
 
 -- members beside what is made of them
 zip-is : {X Y : Type 0} (f : X → Y) (xs : List X) {z : X × Y} → Has (zip xs (map f xs)) z → z.1 ≡ f z.0
@@ -98,7 +101,7 @@ uses_fall s u v e = at (slice_get s.entries u) refl e
     at (Some entry) i e =
         let r = uses-now s u entry v e in
         let long = graph-long (outline_of s) 0 s.entries in
-        let units = map_long (λ (entry : Entry). entry.unit) s.entries in
-        let below = get_past s.entries u entry i in
+        let units = length_map (λ (entry : Entry). entry.unit) s.entries in
+        let below = slice_get_within s.entries u entry i in
         let b = r.1 in
         falls (has_edge (graph s)) (length (graph s)) u v (omega (arith, long, below)) (omega (arith, long, units, b)) r.0

@@ -2,6 +2,10 @@
 use Rattle.std.proofs.Common.{◌≡◌, ℕ, zero, suc, ◌<◌, List, [], ◌∷◌, map, length, Bool, true, false, not, ◌||◌, if◌then◌else◌, refl, sym, ap, subst, ◌∙◌, ◌⊎◌, inl, inr, arith, Option, Some, None}
 use Rattle.std.specs.List.{list_any, slice_get, zip}
 use Rattle.std.specs.Option.{is_none}
+use Rattle.std.proofs.lemmas.Bool.{cases_Bool}
+use Rattle.law_lists.proofs.Lists.{length_map}
+use Rattle.law_lists.proofs.Booleans.{either_left, either_right, clash}
+use Rattle.law_lists.proofs.Options.{some_is}
 use Rattle.smv_core.specs.Values.{Name, Value, Outcome, Truth, truth, same, Simple, range, choice, scalarset, ordset}
 use Rattle.smv_core.specs.Walk as walk
 use Rattle.smv_core.specs.Walk.{Walk, if_walk, is_other}
@@ -16,7 +20,6 @@ use Rattle.law_obligations.specs.May.{AbsState, Kept, seen, may}
 use Rattle.law_obligations.specs.Results.{first_of, first_result, taken, is_elsewhere, assigned, results, results_each}
 use Rattle.law_obligations.specs.Pictures.{Placing, placed, ArePlaced, IsState, IsPicture, IsValue, AreValues}
 use Rattle.law_obligations.specs.Bound.{HasVariable, HaveVariable, IsBound, AreBound, OneGives, OneOfEachGives, AreAtClasses}
-use Rattle.law_obligations.proofs.Tests.{or_left, or_right, true_or_false}
 use Rattle.law_obligations.proofs.Members.{Has-cases, Has-uncons, Has-map, Has-from_map, Has-flat_map, Has-pairs, Picks, Has-choices, Chosen, choose_each}
 use Rattle.law_obligations.proofs.Members.Picks.{none as no_pick, more as one_more}
 use Rattle.law_obligations.proofs.Same.{same-is}
@@ -25,13 +28,6 @@ use Rattle.law_obligations.proofs.Operators.{seen_placed}
 use Rattle.law_obligations.proofs.MayKeeps.{bind_are, bind_placed, outcome_is, keeps}
 use Rattle.law_obligations.proofs.Filled.{has_choice, filled_each}
 use Rattle.law_obligations.proofs.NeverEmpty.{may_filled}
-use Rattle.law_obligations.proofs.OneOfEach.{map_long}
-
-clash : {b : Bool} → b ≡ true → b ≡ false → ⊥
-clash p q = cc
-
-inner : {X : Type 0} {x y : X} → Some x ≡ Some y → x ≡ y
-inner e = cc
 
 -- variables that are bound
 place_kept : (b : List Place) (other var : ℕ) (p q : Place) → slice_get b var ≡ Some q → var < other → slice_get (bind_place b other p) var ≡ Some q
@@ -133,8 +129,8 @@ module _ (n : Numbered) (types : Name → AbsType) (spots : Placing) (facts : Ar
   same_spot u v p q e = at (placed spots u) (placed spots v) e (equal_values n types spots facts u v p q)
     where
       at : (x y : Place) → is_named y ≡ true → Has (equal_places x y) (Some (same u v)) → same u v ≡ same_place x y
-      at (named x) (named y) e h = elim (Has-uncons h) [ inl i ↦ inner i | inr k ↦ elim k [ ] ]
-      at (rest x) (named y) e h = elim (Has-uncons h) [ inl i ↦ inner i | inr k ↦ elim k [ ] ]
+      at (named x) (named y) e h = elim (Has-uncons h) [ inl i ↦ some_is i | inr k ↦ elim k [ ] ]
+      at (rest x) (named y) e h = elim (Has-uncons h) [ inl i ↦ some_is i | inr k ↦ elim k [ ] ]
       at x (rest y) e h = absurd (cc)
 
   abbrev AreOutcomesOf : List Outcome → Type 0
@@ -163,10 +159,10 @@ module _ (n : Numbered) (types : Name → AbsType) (spots : Placing) (facts : Ar
     elsewhere_value [] b xs j var offset v l e i h = absurd (cc)
     elsewhere_value (y ∷ left) b [] j var offset v l e i h = absurd (omega arith)
     elsewhere_value (y ∷ left) b (z ∷ xs) zero var offset v l e i h =
-        or_left (list_any (λ (u, v). is_other u v) (zip (map (λ e. flat_outcome n s e b) left) xs))
-        (subst (λ o. is_other o z ≡ true) (sym (ap (λ e. flat_outcome n s e b) (inner e) ∙ i)) (ap not (h z first)))
+        either_left (list_any (λ (u, v). is_other u v) (zip (map (λ e. flat_outcome n s e b) left) xs))
+        (subst (λ o. is_other o z ≡ true) (sym (ap (λ e. flat_outcome n s e b) (some_is e) ∙ i)) (ap not (h z first)))
     elsewhere_value (y ∷ left) b (z ∷ xs) (suc j) var offset v l e i h =
-        or_right (is_other (flat_outcome n s y b) z) (elsewhere_value left b xs j var offset v (omega arith) e i (λ y k. h y (later k)))
+        either_right (is_other (flat_outcome n s y b) z) (elsewhere_value left b xs j var offset v (omega arith) e i (λ y k. h y (later k)))
 
     mutual
       nothing_at : (def : DefBody) (b : List Value) (var : ℕ) (v : Value) → slice_get b var ≡ Some v → ((y : Value) → Has x.indexes y → same v y ≡ false) → HasVariable var (length x.indexes) def →
@@ -191,14 +187,14 @@ module _ (n : Numbered) (types : Name → AbsType) (spots : Placing) (facts : Ar
     elsewhere_rest [] b qs us j var offset r c l e i p = absurd (cc)
     elsewhere_rest (y ∷ left) b [] us j var offset r c l e i p = absurd (omega arith)
     elsewhere_rest (y ∷ left) b (q ∷ qs) _ zero var offset r c l e i (one_more {x = u} {ys = us} h others) =
-        or_left (list_any (λ (u, q). is_elsewhere u q) (zip us qs))
-        (subst (λ o. is_elsewhere o q ≡ true) (sym (only (subst (λ z. Has (may (world n types) kept a z b) u) (inner e) h) ∙ i)) (rest_elsewhere r q c.0))
+        either_left (list_any (λ (u, q). is_elsewhere u q) (zip us qs))
+        (subst (λ o. is_elsewhere o q ≡ true) (sym (only (subst (λ z. Has (may (world n types) kept a z b) u) (some_is e) h) ∙ i)) (rest_elsewhere r q c.0))
       where
         only : {u o : AbsOutcome} → Has (o ∷ []) u → u ≡ o
         only first = refl
         only (later h) = elim h [ ]
     elsewhere_rest (y ∷ left) b (q ∷ qs) _ (suc j) var offset r c l e i (one_more {x = u} {ys = us} h others) =
-        or_right (is_elsewhere u q) (elsewhere_rest left b qs us j var offset r c.1 (omega arith) e i others)
+        either_right (is_elsewhere u q) (elsewhere_rest left b qs us j var offset r c.1 (omega arith) e i others)
 
     abbrev Results : DefBody → List Place → List (Option X)
     Results def b = results (world n types) kept a indexes everything right def b
@@ -338,7 +334,7 @@ module _ (n : Numbered) (types : Name → AbsType) (spots : Placing) (facts : Ar
               let r = kept_at u.0 u.1 in (
                 r.0,
                 subst (λ z. Has (G z) r.0) u.2 r.1,
-                elim (true_or_false (is_none (F u.0))) [
+                elim (cases_Bool (is_none (F u.0))) [
                   | inl e ↦ (
                     λ i. let is_v : u.0 ≡ v = (facts over).class_has_one u.0 v u.1 h (subst (Has (named_in (world n types) over)) (sym u.2) c) (u.2 ∙ i) in
                         absurd (clash (subst (λ z. is_none (F z) ≡ true) is_v e) g),
@@ -357,7 +353,7 @@ module _ (n : Numbered) (types : Name → AbsType) (spots : Placing) (facts : Ar
           )
 
   not_at_class : (over : FlatSimple) (v : Value) → Has (rests_in (world n types) over) (placed spots v) → (y : Value) → Has x.indexes y → same v y ≡ false
-  not_at_class over v l y h = elim (true_or_false (same v y)) [
+  not_at_class over v l y h = elim (cases_Bool (same v y)) [
     | inl e ↦ let r = rest_not_named (world n types) (simple_in n over) (placed spots v) l in
         let c = (class_named n spots x.indexes y classes h).1 in
         absurd (clash c (ap is_named (ap (placed spots) (sym (same-is v y e)) ∙ r.1)))
@@ -386,7 +382,7 @@ module _ (n : Numbered) (types : Name → AbsType) (spots : Placing) (facts : Ar
     walk_keeps (First' shape parts) b h bound one =
         let rs = walks_keep parts b h bound one in (first_result rs.0, Has-map first_result (Has-choices rs.1), rs.2)
     walk_keeps (Forall' var over shape (more_of-DefBody body end_of-DefBody)) b h bound one =
-        let count = sym (map_long (placed spots) x.indexes) in
+        let count = sym (length_map (placed spots) x.indexes) in
         forall_keeps over (λ v. flat_result n s x every body (bind b var v)) (λ p. At body (bind_place (map (placed spots) b) var p))
         (λ v k. let r = walk_keeps body (bind b var v) (bind_are n b var v h (of_type n over v k))
         (subst (λ m. IsBound m (length x.indexes) body) (sym (bound_length b var v (sym bound.0))) bound.2) one.1 in
@@ -394,7 +390,7 @@ module _ (n : Numbered) (types : Name → AbsType) (spots : Placing) (facts : Ar
         (λ p l. let r = rest_not_named (world n types) (simple_in n over) p l in
         nothing_at_rest n types spots facts s is_state kept a (map (placed spots) x.indexes) (classes_named n spots x.indexes classes) (length x.indexes) count everything right body
         (bind_place (map (placed spots) b) var p) var r.0
-        (place_bound (map (placed spots) b) var p (map_long (placed spots) b ∙ sym bound.0) ∙ ap Some r.1) bound.1)
+        (place_bound (map (placed spots) b) var p (length_map (placed spots) b ∙ sym bound.0) ∙ ap Some r.1) bound.1)
         (λ v k l. nothing_at n types spots facts s is_state x every body (bind b var v) var v (value_bound b var v (sym bound.0)) (not_at_class over v l) bound.1)
         (λ u v hu hv. one.0 b h (sym bound.0) u v hu hv)
 

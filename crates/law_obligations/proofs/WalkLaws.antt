@@ -2,6 +2,8 @@
 use Rattle.std.proofs.Common.{◌≡◌, List, [], ◌∷◌, map, Bool, true, false, not, ◌&&◌, ◌||◌, Option, Some, None, refl, sym, ap, ◌∙◌, if◌then◌else◌}
 use Rattle.std.specs.List.{flat_map, list_any, list_all, zip}
 use Rattle.std.specs.Option.{is_none}
+use Rattle.law_lists.proofs.Anys.{any-map, any-flat_map, any-agree, any-or}
+use Rattle.law_lists.proofs.Booleans.{left_of, right_of}
 use Rattle.smv_core.specs.Values.{Truth, and_of}
 use Rattle.smv_core.specs.Outcome.{is_true, branch}
 use Rattle.law_obligations.specs.Right.{is_false, is_neither}
@@ -14,11 +16,11 @@ use Rattle.smv_core.specs.declared.flat.FlatExpr.{FlatExpr}
 use Rattle.law_obligations.specs.Results.{first_of, first_result, unless_both_nothing, taken, is_elsewhere, assigned}
 use Rattle.law_obligations.specs.Mix.{mix_by, and_mix}
 use Rattle.law_obligations.specs.Gist.{Gist, passes, is_result, gist_of, if_gist, first_gist, first_all, assigned_gist, at_index, is_known, matches, matches_all}
-use Rattle.law_obligations.proofs.Anys.{any-map, any-flat_map, any-ext, any-and_right, any-or, any-pairs, any-first, any-second, any-choices}
+use Rattle.law_obligations.proofs.Anys.{any-and_right, any-pairs, any-first, any-second, any-choices}
 use Rattle.law_obligations.specs.Mix.{is_there}
-use Rattle.law_obligations.proofs.MixLaws.{and-two, choices-two, there-choices, left_true, right_true, or_same, and_there, there_and, chosen-more}
+use Rattle.law_obligations.proofs.MixLaws.{and-two, choices-two, there-choices, or_same, and_there, there_and, chosen-more}
 
-same_gist : {g h : Gist} → g.nothing ≡ h.nothing → g.something ≡ h.something → g.given ≡ h.given → g ≡ h
+pub same_gist : {g h : Gist} → g.nothing ≡ h.nothing → g.something ≡ h.something → g.given ≡ h.given → g ≡ h
 same_gist {g} {h} a b c = ap (λ x. record { nothing = x; something = g.something; given = g.given }) a ∙ (ap (λ x. record { nothing = h.nothing; something = x; given = g.given }) b ∙ ap (λ x. record { nothing = h.nothing; something = h.something; given = x }) c)
 
 one : (b : Bool) → (b || false) ≡ b
@@ -36,7 +38,7 @@ module _ {X : Type 0} (everything : X) (f : X → Bool) where
   two_taken t ls rs = pairs (λ x y. taken everything t x y ∷ []) ls rs
 
   two-test : (p : Option X → Bool) (t : Truth) (ls rs : List (Option X)) → list_any p (two_taken t ls rs) ≡ list_any (λ x. list_any (λ y. p (taken everything t x y)) rs) ls
-  two-test p t ls rs = any-flat_map p (λ x. flat_map (λ y. taken everything t x y ∷ []) rs) ls ∙ any-ext (λ x. list_any p (flat_map (λ y. taken everything t x y ∷ []) rs)) (λ x. list_any (λ y. p (taken everything t x y)) rs) ls (λ x. any-flat_map p (λ y. taken everything t x y ∷ []) rs ∙ any-ext (λ y. list_any p (taken everything t x y ∷ [])) (λ y. p (taken everything t x y)) rs (λ y. one (p (taken everything t x y))))
+  two-test p t ls rs = any-flat_map p (λ x. flat_map (λ y. taken everything t x y ∷ []) rs) ls ∙ any-agree (λ x. list_any p (flat_map (λ y. taken everything t x y ∷ []) rs)) (λ x. list_any (λ y. p (taken everything t x y)) rs) ls (λ x. any-flat_map p (λ y. taken everything t x y ∷ []) rs ∙ any-agree (λ y. list_any p (taken everything t x y ∷ [])) (λ y. p (taken everything t x y)) rs (λ y. one (p (taken everything t x y))))
 
   nothing-both : (x y : Option X) → is_none (unless_both_nothing everything x y) ≡ (is_none x && is_none y)
   nothing-both None None = refl
@@ -65,15 +67,15 @@ module _ {X : Type 0} (everything : X) (f : X → Bool) where
       list_any p (flat_map (λ u. two_taken (seen u) ls rs) us) ≡ ((list_any (λ u. is_false (seen u)) us && list_any p rs) || ((list_any (λ u. is_true (seen u)) us && list_any p ls) || (list_any (λ u. is_neither (seen u)) us && N)))
   if-test p N us ls rs there others e =
       any-flat_map p (λ u. two_taken (seen u) ls rs) us
-      ∙ (any-ext (λ u. list_any p (two_taken (seen u) ls rs)) (λ u. branch N (seen u) (list_any p ls) (list_any p rs)) us (λ u. two-by p N (seen u) ls rs there others e)
+      ∙ (any-agree (λ u. list_any p (two_taken (seen u) ls rs)) (λ u. branch N (seen u) (list_any p ls) (list_any p rs)) us (λ u. two-by p N (seen u) ls rs there others e)
       ∙ any-branch (list_any p ls) (list_any p rs) N us)
 
   inside : (p q : Option X → Option X → Bool) (ls rs : List (Option X)) → ((x y : Option X) → p x y ≡ q x y) → list_any (λ x. list_any (λ y. p x y) rs) ls ≡ list_any (λ x. list_any (λ y. q x y) rs) ls
-  inside p q ls rs e = any-ext (λ x. list_any (λ y. p x y) rs) (λ x. list_any (λ y. q x y) rs) ls (λ x. any-ext (λ y. p x y) (λ y. q x y) rs (e x))
+  inside p q ls rs e = any-agree (λ x. list_any (λ y. p x y) rs) (λ x. list_any (λ y. q x y) rs) ls (λ x. any-agree (λ y. p x y) (λ y. q x y) rs (e x))
 
   some-both : (ls rs : List (Option X)) → is_there ls ≡ true → is_there rs ≡ true → list_any (λ x. list_any (λ y. is_result x || is_result y) rs) ls ≡ (list_any is_result ls || list_any is_result rs)
   some-both ls rs there others =
-      any-ext (λ x. list_any (λ y. is_result x || is_result y) rs) (λ x. list_any (λ y. is_result x) rs || list_any is_result rs) ls (λ x. any-or (λ y. is_result x) is_result rs)
+      any-agree (λ x. list_any (λ y. is_result x || is_result y) rs) (λ x. list_any (λ y. is_result x) rs || list_any is_result rs) ls (λ x. any-or (λ y. is_result x) is_result rs)
       ∙ (any-or (λ x. list_any (λ y. is_result x) rs) (λ x. list_any is_result rs) ls
       ∙ or_same (any-first is_result ls rs ∙ and_there _ _ others) (any-second is_result ls rs ∙ there_and _ _ there))
 
@@ -84,7 +86,7 @@ module _ {X : Type 0} (everything : X) (f : X → Bool) where
       (if-test is_result (list_any is_result ls || list_any is_result rs) us ls rs there others (inside (λ x y. is_result (unless_both_nothing everything x y)) (λ x y. is_result x || is_result y) ls rs result-both ∙ some-both ls rs there others))
       (if-test (passes f) ((list_any is_result ls || list_any is_result rs) && f everything) us ls rs there others
       (inside (λ x y. passes f (unless_both_nothing everything x y)) (λ x y. (is_result x || is_result y) && f everything) ls rs passes-both
-      ∙ (any-ext (λ x. list_any (λ y. (is_result x || is_result y) && f everything) rs) (λ x. list_any (λ y. is_result x || is_result y) rs && f everything) ls (λ x. any-and_right (λ y. is_result x || is_result y) (f everything) rs)
+      ∙ (any-agree (λ x. list_any (λ y. (is_result x || is_result y) && f everything) rs) (λ x. list_any (λ y. is_result x || is_result y) rs && f everything) ls (λ x. any-and_right (λ y. is_result x || is_result y) (f everything) rs)
       ∙ (any-and_right (λ x. list_any (λ y. is_result x || is_result y) rs) (f everything) ls ∙ ap (λ b. b && f everything) (some-both ls rs there others)))))
 
   nothing-first : (r q : Option X) → is_none (first_of r q) ≡ (is_none r && is_none q)
@@ -108,29 +110,29 @@ module _ {X : Type 0} (everything : X) (f : X → Bool) where
 
   pub gist-first : (rss : List (List (Option X))) → list_all is_there rss ≡ true → gist_of f (map first_result (one_of_each rss)) ≡ first_all (map (gist_of f) rss)
   gist-first [] h = refl
-  gist-first (rs ∷ rss) h = same_gist nothing something given ∙ ap (first_gist (gist_of f rs)) (gist-first rss (right_true (is_there rs) (list_all is_there rss) h))
+  gist-first (rs ∷ rss) h = same_gist nothing something given ∙ ap (first_gist (gist_of f rs)) (gist-first rss (right_of (is_there rs) (list_all is_there rss) h))
     where
       there : is_there rs ≡ true
-      there = left_true (is_there rs) (list_all is_there rss) h
+      there = left_of (is_there rs) (list_all is_there rss) h
 
       others : is_there (one_of_each rss) ≡ true
-      others = there-choices rss (right_true (is_there rs) (list_all is_there rss) h)
+      others = there-choices rss (right_of (is_there rs) (list_all is_there rss) h)
 
       within : (p : Option X → Bool) (q : Option X → List (Option X) → Bool) → ((r : Option X) (qs : List (Option X)) → p (first_of r (first_result qs)) ≡ q r qs) → list_any (λ r. list_any (λ qs. p (first_of r (first_result qs))) (one_of_each rss)) rs ≡ list_any (λ r. list_any (λ qs. q r qs) (one_of_each rss)) rs
-      within p q e = any-ext (λ r. list_any (λ qs. p (first_of r (first_result qs))) (one_of_each rss)) (λ r. list_any (λ qs. q r qs) (one_of_each rss)) rs (λ r. any-ext (λ qs. p (first_of r (first_result qs))) (λ qs. q r qs) (one_of_each rss) (e r))
+      within p q e = any-agree (λ r. list_any (λ qs. p (first_of r (first_result qs))) (one_of_each rss)) (λ r. list_any (λ qs. q r qs) (one_of_each rss)) rs (λ r. any-agree (λ qs. p (first_of r (first_result qs))) (λ qs. q r qs) (one_of_each rss) (e r))
 
       nothing : list_any is_none (map first_result (one_of_each (rs ∷ rss))) ≡ (list_any is_none rs && list_any is_none (map first_result (one_of_each rss)))
       nothing = first-test is_none rs rss ∙ (within is_none (λ r qs. is_none r && is_none (first_result qs)) (λ r qs. nothing-first r (first_result qs)) ∙ (any-pairs is_none (λ qs. is_none (first_result qs)) rs (one_of_each rss) ∙ ap (λ b. list_any is_none rs && b) (ends is_none rss)))
 
       something : list_any is_result (map first_result (one_of_each (rs ∷ rss))) ≡ (list_any is_result rs || list_any is_result (map first_result (one_of_each rss)))
       something = first-test is_result rs rss ∙ (within is_result (λ r qs. is_result r || is_result (first_result qs)) (λ r qs. result-first r (first_result qs))
-          ∙ (any-ext (λ r. list_any (λ qs. is_result r || is_result (first_result qs)) (one_of_each rss)) (λ r. list_any (λ qs. is_result r) (one_of_each rss) || list_any (λ qs. is_result (first_result qs)) (one_of_each rss)) rs (λ r. any-or (λ qs. is_result r) (λ qs. is_result (first_result qs)) (one_of_each rss))
+          ∙ (any-agree (λ r. list_any (λ qs. is_result r || is_result (first_result qs)) (one_of_each rss)) (λ r. list_any (λ qs. is_result r) (one_of_each rss) || list_any (λ qs. is_result (first_result qs)) (one_of_each rss)) rs (λ r. any-or (λ qs. is_result r) (λ qs. is_result (first_result qs)) (one_of_each rss))
           ∙ (any-or (λ r. list_any (λ qs. is_result r) (one_of_each rss)) (λ r. list_any (λ qs. is_result (first_result qs)) (one_of_each rss)) rs
           ∙ or_same (any-first is_result rs (one_of_each rss) ∙ and_there _ _ others) (any-second (λ qs. is_result (first_result qs)) rs (one_of_each rss) ∙ (there_and _ _ there ∙ ends is_result rss)))))
 
       given : list_any (passes f) (map first_result (one_of_each (rs ∷ rss))) ≡ (list_any (passes f) rs || (list_any is_none rs && list_any (passes f) (map first_result (one_of_each rss))))
       given = first-test (passes f) rs rss ∙ (within (passes f) (λ r qs. passes f r || (is_none r && passes f (first_result qs))) (λ r qs. passes-first r (first_result qs))
-          ∙ (any-ext (λ r. list_any (λ qs. passes f r || (is_none r && passes f (first_result qs))) (one_of_each rss)) (λ r. list_any (λ qs. passes f r) (one_of_each rss) || list_any (λ qs. is_none r && passes f (first_result qs)) (one_of_each rss)) rs (λ r. any-or (λ qs. passes f r) (λ qs. is_none r && passes f (first_result qs)) (one_of_each rss))
+          ∙ (any-agree (λ r. list_any (λ qs. passes f r || (is_none r && passes f (first_result qs))) (one_of_each rss)) (λ r. list_any (λ qs. passes f r) (one_of_each rss) || list_any (λ qs. is_none r && passes f (first_result qs)) (one_of_each rss)) rs (λ r. any-or (λ qs. passes f r) (λ qs. is_none r && passes f (first_result qs)) (one_of_each rss))
           ∙ (any-or (λ r. list_any (λ qs. passes f r) (one_of_each rss)) (λ r. list_any (λ qs. is_none r && passes f (first_result qs)) (one_of_each rss)) rs
           ∙ or_same (any-first (passes f) rs (one_of_each rss) ∙ and_there _ _ others) (any-pairs is_none (λ qs. passes f (first_result qs)) rs (one_of_each rss) ∙ ap (λ b. list_any is_none rs && b) (ends (passes f) rss)))))
 
@@ -140,12 +142,12 @@ mix-matches [] [] h = refl
 mix-matches (q ∷ qs) [] h = refl
 mix-matches [] (us ∷ uss) h =
     choices-two (λ u t. and_of (is_known u) t) (matches []) (matches []) us uss (λ u vs. refl)
-    ∙ (and-two is_known (matches []) us (one_of_each uss) (left_true (is_there us) (list_all is_there uss) h) (there-choices uss (right_true (is_there us) (list_all is_there uss) h))
-    ∙ ap (and_mix (mix_by is_known us)) (mix-matches [] uss (right_true (is_there us) (list_all is_there uss) h)))
+    ∙ (and-two is_known (matches []) us (one_of_each uss) (left_of (is_there us) (list_all is_there uss) h) (there-choices uss (right_of (is_there us) (list_all is_there uss) h))
+    ∙ ap (and_mix (mix_by is_known us)) (mix-matches [] uss (right_of (is_there us) (list_all is_there uss) h)))
 mix-matches (q ∷ qs) (us ∷ uss) h =
     choices-two (λ u t. and_of (at_index q u) t) (matches (q ∷ qs)) (matches qs) us uss (λ u vs. refl)
-    ∙ (and-two (at_index q) (matches qs) us (one_of_each uss) (left_true (is_there us) (list_all is_there uss) h) (there-choices uss (right_true (is_there us) (list_all is_there uss) h))
-    ∙ ap (and_mix (mix_by (at_index q) us)) (mix-matches qs uss (right_true (is_there us) (list_all is_there uss) h)))
+    ∙ (and-two (at_index q) (matches qs) us (one_of_each uss) (left_of (is_there us) (list_all is_there uss) h) (there-choices uss (right_of (is_there us) (list_all is_there uss) h))
+    ∙ ap (and_mix (mix_by (at_index q) us)) (mix-matches qs uss (right_of (is_there us) (list_all is_there uss) h)))
 
 abbrev by_tests : Bool → Bool → Truth
 by_tests elsewhere unknown = if elsewhere then Some false else if unknown then None else Some true
@@ -194,7 +196,7 @@ module _ {X : Type 0} (w : World) (kept : Kept) (a : AbsState) (indexes : List P
 
   matched-test : (p : Option X → Bool) (q : Truth → Bool) → ((t : Truth) → p (by_match everything (right value b) t) ≡ q t) → (uss : List (List AbsOutcome)) →
       list_any p (map (λ us. assigned w kept a indexes everything right us value b) (one_of_each uss)) ≡ list_any (λ us. q (matches indexes us)) (one_of_each uss)
-  matched-test p q e uss = any-map p (λ us. assigned w kept a indexes everything right us value b) (one_of_each uss) ∙ any-ext (λ us. p (assigned w kept a indexes everything right us value b)) (λ us. q (matches indexes us)) (one_of_each uss) (λ us. ap p (assigned-match us) ∙ e (matches indexes us))
+  matched-test p q e uss = any-map p (λ us. assigned w kept a indexes everything right us value b) (one_of_each uss) ∙ any-agree (λ us. p (assigned w kept a indexes everything right us value b)) (λ us. q (matches indexes us)) (one_of_each uss) (λ us. ap p (assigned-match us) ∙ e (matches indexes us))
 
   pub gist-assigned : (uss : List (List AbsOutcome)) → list_all is_there uss ≡ true →
       gist_of f (map (λ us. assigned w kept a indexes everything right us value b) (one_of_each uss)) ≡ assigned_gist (f everything) (f (right value b)) (matches_all indexes uss)

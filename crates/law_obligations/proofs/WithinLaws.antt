@@ -1,6 +1,10 @@
 -- `in` a listed set: an outcome of the left side against one outcome of each member.
-use Rattle.std.proofs.Common.{◌≡◌, List, [], ◌∷◌, ◌++◌, map, Bool, true, false, ◌&&◌, ◌||◌, refl, sym, ap, ◌∙◌}
+use Rattle.std.proofs.Common.{◌≡◌, List, [], ◌∷◌, map, Bool, true, ◌&&◌, ◌||◌, refl, sym, ap, ◌∙◌}
 use Rattle.std.specs.List.{flat_map, list_any, list_all}
+use Rattle.std.proofs.lemmas.List.{map-id}
+use Rattle.law_lists.proofs.Anys.{any-map, any-flat_map, any-agree, any-or, any-never}
+use Rattle.law_lists.proofs.Booleans.{left_of, right_of}
+use Rattle.law_lists.proofs.Lists.{flat_map_alike}
 use Rattle.smv_core.specs.Values.{Truth, disjunction}
 use Rattle.smv_core.specs.Outcome.{is_true}
 use Rattle.law_obligations.specs.Right.{is_false, is_neither}
@@ -9,18 +13,14 @@ use Rattle.law_obligations.specs.May.{shown}
 use Rattle.law_obligations.specs.Sets.{one_of_each, pairs}
 use Rattle.law_obligations.specs.Mix.{Mix, mix_by, or_all, is_there}
 use Rattle.law_obligations.specs.Combined.{equal_mix, member_mix, within_mix}
-use Rattle.law_obligations.proofs.Anys.{any-map, any-flat_map, any-ext, any-or, any-choices}
-use Rattle.law_obligations.proofs.MixLaws.{same_mix, mix-disjunction, there-append, left_true, right_true}
+use Rattle.law_obligations.proofs.Anys.{any-choices}
+use Rattle.law_obligations.proofs.MixLaws.{same_mix, mix-disjunction, there-append}
 use Rattle.law_obligations.proofs.QuantifierLaws.{mix-ext}
 use Rattle.law_obligations.proofs.IffLaws.{pairs-map}
 use Rattle.law_obligations.proofs.Filled.{there, defined_filled, equal_filled}
 
-any-none : {X : Type 0} (xs : List X) → list_any (λ x. false) xs ≡ false
-any-none [] = refl
-any-none (x ∷ xs) = any-none xs
-
 any-swap : {X Y : Type 0} (f : X → Y → Bool) (xs : List X) (ys : List Y) → list_any (λ x. list_any (f x) ys) xs ≡ list_any (λ y. list_any (λ x. f x y) xs) ys
-any-swap f [] ys = sym (any-none ys)
+any-swap f [] ys = sym (any-never ys)
 any-swap f (x ∷ xs) ys = ap (λ b. list_any (f x) ys || b) (any-swap f xs ys) ∙ sym (any-or (f x) (λ y. list_any (λ x. f x y) xs) ys)
 
 -- one answer for one outcome of each member is one answer of each member
@@ -29,7 +29,7 @@ any-answers p g [] = refl
 any-answers {X} {Y} p g (vs ∷ vss) =
     any-flat_map p (λ ws. one_of_each (map g ws)) (one_of_each (vs ∷ vss))
     ∙ (any-choices (λ ws. list_any p (one_of_each (map g ws))) vs vss
-    ∙ (any-ext (λ v. list_any (λ ws. list_any p (one_of_each (map g (v ∷ ws)))) (one_of_each vss)) (λ v. list_any after (g v)) vs (each (λ y. any-answers (λ ys. p (y ∷ ys)) g vss))
+    ∙ (any-agree (λ v. list_any (λ ws. list_any p (one_of_each (map g (v ∷ ws)))) (one_of_each vss)) (λ v. list_any after (g v)) vs (each (λ y. any-answers (λ ys. p (y ∷ ys)) g vss))
     ∙ (sym (any-flat_map after g vs) ∙ sym (any-choices p (flat_map g vs) (map (flat_map g) vss)))))
   where
     after : Y → Bool
@@ -38,9 +38,9 @@ any-answers {X} {Y} p g (vs ∷ vss) =
     each : ((y : Y) → list_any (λ ys. p (y ∷ ys)) (flat_map (λ ws. one_of_each (map g ws)) (one_of_each vss)) ≡ list_any (λ ys. p (y ∷ ys)) (one_of_each (map (flat_map g) vss))) →
         (v : X) → list_any (λ ws. list_any p (one_of_each (map g (v ∷ ws)))) (one_of_each vss) ≡ list_any (λ y. list_any (λ ys. p (y ∷ ys)) (one_of_each (map (flat_map g) vss))) (g v)
     each again v =
-        any-ext (λ ws. list_any p (one_of_each (map g (v ∷ ws)))) (λ ws. list_any (λ y. list_any (λ ys. p (y ∷ ys)) (one_of_each (map g ws))) (g v)) (one_of_each vss) (λ ws. any-choices p (g v) (map g ws))
+        any-agree (λ ws. list_any p (one_of_each (map g (v ∷ ws)))) (λ ws. list_any (λ y. list_any (λ ys. p (y ∷ ys)) (one_of_each (map g ws))) (g v)) (one_of_each vss) (λ ws. any-choices p (g v) (map g ws))
         ∙ (any-swap (λ ws y. list_any (λ ys. p (y ∷ ys)) (one_of_each (map g ws))) (one_of_each vss) (g v)
-        ∙ any-ext (λ y. list_any (λ ws. list_any (λ ys. p (y ∷ ys)) (one_of_each (map g ws))) (one_of_each vss)) (λ y. list_any (λ ys. p (y ∷ ys)) (one_of_each (map (flat_map g) vss))) (g v) (λ y.
+        ∙ any-agree (λ y. list_any (λ ws. list_any (λ ys. p (y ∷ ys)) (one_of_each (map g ws))) (one_of_each vss)) (λ y. list_any (λ ys. p (y ∷ ys)) (one_of_each (map (flat_map g) vss))) (g v) (λ y.
         sym (any-flat_map (λ ys. p (y ∷ ys)) (λ ws. one_of_each (map g ws)) (one_of_each vss)) ∙ again y))
 
 there-flat_map : {X Y : Type 0} (f : X → List Y) (xs : List X) → ((x : X) → is_there (f x) ≡ true) → is_there xs ≡ true → is_there (flat_map f xs) ≡ true
@@ -53,12 +53,8 @@ answers_to u v = where_defined equal_places u v
 all-there : (u : AbsOutcome) (vss : List (List AbsOutcome)) → list_all is_there vss ≡ true → list_all is_there (map (flat_map (answers_to u)) vss) ≡ true
 all-there u [] h = refl
 all-there u (vs ∷ vss) h =
-    ap (λ b. b && list_all is_there (map (flat_map (answers_to u)) vss)) (there-flat_map (answers_to u) vs (λ v. there (answers_to u v) (defined_filled equal_places equal_filled u v)) (left_true (is_there vs) (list_all is_there vss) h))
-    ∙ all-there u vss (right_true (is_there vs) (list_all is_there vss) h)
-
-same-map : {X : Type 0} (xs : List X) → map (λ x. x) xs ≡ xs
-same-map [] = refl
-same-map (x ∷ xs) = ap (λ l. x ∷ l) (same-map xs)
+    ap (λ b. b && list_all is_there (map (flat_map (answers_to u)) vss)) (there-flat_map (answers_to u) vs (λ v. there (answers_to u v) (defined_filled equal_places equal_filled u v)) (left_of (is_there vs) (list_all is_there vss) h))
+    ∙ all-there u vss (right_of (is_there vs) (list_all is_there vss) h)
 
 mix-equal : (u : AbsOutcome) (vs : List AbsOutcome) → mix_by (λ t. t) (flat_map (answers_to u) vs) ≡ equal_mix u vs
 mix-equal u vs = same_mix (any-flat_map is_false (answers_to u) vs) (any-flat_map is_true (answers_to u) vs) (any-flat_map is_neither (answers_to u) vs)
@@ -70,7 +66,7 @@ mixes-equal u (vs ∷ vss) = ap (λ m. m ∷ map (mix_by (λ t. t)) (map (flat_m
 -- the answers for one outcome of the left side
 mix-member : (u : AbsOutcome) (vss : List (List AbsOutcome)) → list_all is_there vss ≡ true → mix_by disjunction (one_of_each (map (flat_map (answers_to u)) vss)) ≡ member_mix vss u
 mix-member u vss h =
-    mix-ext disjunction (λ ts. disjunction (map (λ t. t) ts)) (one_of_each (map (flat_map (answers_to u)) vss)) (λ ts. ap disjunction (sym (same-map ts)))
+    mix-ext disjunction (λ ts. disjunction (map (λ t. t) ts)) (one_of_each (map (flat_map (answers_to u)) vss)) (λ ts. ap disjunction (sym (map-id ts)))
     ∙ (mix-disjunction (λ t. t) (map (flat_map (answers_to u)) vss) (all-there u vss h) ∙ ap or_all (mixes-equal u vss))
 
 abbrev within_truths : AbsOutcome → List AbsOutcome → List Truth
@@ -80,16 +76,12 @@ map-map : {X Y Z : Type 0} (f : Y → Z) (g : X → Y) (xs : List X) → map (λ
 map-map f g [] = refl
 map-map f g (x ∷ xs) = ap (λ l. f (g x) ∷ l) (map-map f g xs)
 
-flat-ext : {X Y : Type 0} (f g : X → List Y) (xs : List X) → ((x : X) → f x ≡ g x) → flat_map f xs ≡ flat_map g xs
-flat-ext f g [] e = refl
-flat-ext f g (x ∷ xs) e = ap (λ l. l ++ flat_map f xs) (e x) ∙ ap (λ l. g x ++ l) (flat-ext f g xs e)
-
 -- its outcomes are truth values that are shown
 pub within-shown : (us : List AbsOutcome) (vss : List (List AbsOutcome)) →
     pairs (λ u vs. map (λ ts. shown (disjunction ts)) (one_of_each (map (answers_to u) vs))) us (one_of_each vss) ≡ map shown (pairs within_truths us (one_of_each vss))
 within-shown us vss =
-    flat-ext (λ u. flat_map (λ vs. map (λ ts. shown (disjunction ts)) (one_of_each (map (answers_to u) vs))) (one_of_each vss)) (λ u. flat_map (λ vs. map shown (within_truths u vs)) (one_of_each vss)) us (λ u.
-    flat-ext (λ vs. map (λ ts. shown (disjunction ts)) (one_of_each (map (answers_to u) vs))) (λ vs. map shown (within_truths u vs)) (one_of_each vss) (λ vs. map-map shown disjunction (one_of_each (map (answers_to u) vs))))
+    flat_map_alike (λ u. flat_map (λ vs. map (λ ts. shown (disjunction ts)) (one_of_each (map (answers_to u) vs))) (one_of_each vss)) (λ u. flat_map (λ vs. map shown (within_truths u vs)) (one_of_each vss)) us (λ u.
+    flat_map_alike (λ vs. map (λ ts. shown (disjunction ts)) (one_of_each (map (answers_to u) vs))) (λ vs. map shown (within_truths u vs)) (one_of_each vss) (λ vs. map-map shown disjunction (one_of_each (map (answers_to u) vs))))
     ∙ pairs-map shown within_truths us (one_of_each vss)
 
 pub mix-within : (us : List AbsOutcome) (vss : List (List AbsOutcome)) → list_all is_there vss ≡ true →
@@ -99,7 +91,7 @@ mix-within us vss h = same_mix (part is_false (λ m. m.no) (λ u. ap (λ m. m.no
     part : (p : Truth → Bool) (q : Mix → Bool) → ((u : AbsOutcome) → list_any (λ ts. p (disjunction ts)) (one_of_each (map (flat_map (answers_to u)) vss)) ≡ q (member_mix vss u)) → list_any p (pairs within_truths us (one_of_each vss)) ≡ list_any (λ u. q (member_mix vss u)) us
     part p q e =
         any-flat_map p (λ u. flat_map (within_truths u) (one_of_each vss)) us
-        ∙ any-ext (λ u. list_any p (flat_map (within_truths u) (one_of_each vss))) (λ u. q (member_mix vss u)) us (λ u.
+        ∙ any-agree (λ u. list_any p (flat_map (within_truths u) (one_of_each vss))) (λ u. q (member_mix vss u)) us (λ u.
         any-flat_map p (within_truths u) (one_of_each vss)
-        ∙ (any-ext (λ vs. list_any p (within_truths u vs)) (λ vs. list_any (λ ts. p (disjunction ts)) (one_of_each (map (answers_to u) vs))) (one_of_each vss) (λ vs. any-map p disjunction (one_of_each (map (answers_to u) vs)))
+        ∙ (any-agree (λ vs. list_any p (within_truths u vs)) (λ vs. list_any (λ ts. p (disjunction ts)) (one_of_each (map (answers_to u) vs))) (one_of_each vss) (λ vs. any-map p disjunction (one_of_each (map (answers_to u) vs)))
         ∙ (sym (any-flat_map (λ ts. p (disjunction ts)) (λ vs. one_of_each (map (answers_to u) vs)) (one_of_each vss)) ∙ (any-answers (λ ts. p (disjunction ts)) (answers_to u) vss ∙ e u))))

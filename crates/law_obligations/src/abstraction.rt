@@ -1,11 +1,5 @@
 // Laws of the definitions, each the contract of a function that does nothing.
 ghost use Rattle.law_obligations.specs.AbstractionLaws.{CircularInduction, NowUsesFall, NowUsesHaveOrder, PlainTypesArePlaced, ScalarsetsArePlaced, OrdsetsArePlaced, MayKeepsOutcomes, MayKeepsRightSides, MustKeepsRightSides, MapsAreKept, ClaimsAreKept, GuardsCover, LeavesCover, GuardsAreKept, PicturesExist, GrowingClassesCover, CasesCover, LeafCasesCover, OutcomesKeepScopes, ConflictsLeaveOneResult, NoViolatingPathIsSound};
-ghost use Rattle.law_obligations.specs.WorkedRights.{BitTargets, SetTargets, OutsideTargets, Assignments};
-ghost use Rattle.law_obligations.specs.WorkedCases.{ScalarsetCases, ReducedCases, OrdsetCases, RangeCases, SeveralTypes, KeptParameters};
-ghost use Rattle.law_obligations.specs.WorkedObligations.{SplitHelps, OrderIsTotal, SplitOrders, Reductions, WrittenIndex, EachOther, MutualMaps, CertainMaps};
-ghost use Rattle.law_obligations.specs.WorkedConflicts.{PairsShare, NonePairs, NoneStands, PartsStand};
-ghost use Rattle.law_obligations.specs.WorkedSoundness.{SplitPlan, MutualPlan};
-ghost use Rattle.law_obligations.specs.Worked.{RestsCompare, GapsCompare, ReadsAtRests, Quantifiers, Memberships, Operators};
 
 /// The circular rule: where each failure of an instance is shown by a case, no case has a violating path and the uses that are now hold no cycle,
 /// every instance of every unit holds at every time of every run.
@@ -17,16 +11,6 @@ pub fn circular_induction<State, Instance, Case, Picture>()
 pub fn now_uses_hold_no_cycle()
     ensures fall { NowUsesFall }
     ensures order { NowUsesHaveOrder }
-{}
-
-/// Worked expressions in a small case: rests, gaps, elements at a rest, quantifiers, `in`, and the operators.
-pub fn worked_expressions()
-    ensures rests { RestsCompare }
-    ensures gaps { GapsCompare }
-    ensures reads { ReadsAtRests }
-    ensures quantifiers { Quantifiers }
-    ensures memberships { Memberships }
-    ensures operators { Operators }
 {}
 
 /// The three facts of a type under a placing, which are all that is used of set types: each value is at one place, each class has exactly one value,
@@ -82,36 +66,6 @@ pub fn leaf_cases_cover()
     ensures { LeafCasesCover }
 {}
 
-/// Worked right sides and definitions: what they may allow and what they allow for certain.
-pub fn worked_right_sides()
-    ensures bit_targets { BitTargets }
-    ensures set_targets { SetTargets }
-    ensures outside_targets { OutsideTargets }
-    ensures assignments { Assignments }
-{}
-
-/// Worked cases: of scalarsets, whole and reduced, of ordsets, of ranges, of several types side by side, and by what a choice keeps.
-pub fn worked_cases()
-    ensures scalarsets { ScalarsetCases }
-    ensures reduced { ReducedCases }
-    ensures ordsets { OrdsetCases }
-    ensures ranges { RangeCases }
-    ensures several { SeveralTypes }
-    ensures kept { KeptParameters }
-{}
-
-/// Worked obligations: cases that have, or have not, a violating path.
-pub fn worked_obligations()
-    ensures split_helps { SplitHelps }
-    ensures order_is_total { OrderIsTotal }
-    ensures split_orders { SplitOrders }
-    ensures reductions { Reductions }
-    ensures written_index { WrittenIndex }
-    ensures each_other { EachOther }
-    ensures mutual_maps { MutualMaps }
-    ensures certain_maps { CertainMaps }
-{}
-
 /// An outcome depends on no variable but those that its expression reads.
 pub fn outcomes_keep_scopes()
     ensures { OutcomesKeepScopes }
@@ -125,18 +79,4 @@ pub fn conflicts_leave_one_result()
 /// The joined law: where no case of any leaf has a violating path, every unit holds at every time of every run, for all sizes.
 pub fn no_violating_path_is_sound()
     ensures { NoViolatingPathIsSound }
-{}
-
-/// Worked definitions, with and without conflicts.
-pub fn worked_conflicts()
-    ensures pairs_share { PairsShare }
-    ensures none_pairs { NonePairs }
-    ensures none_stands { NoneStands }
-    ensures parts_stand { PartsStand }
-{}
-
-/// Worked plans of proof, of which the joined law speaks: a claim that is split, and two maps that use each other.
-pub fn worked_plans()
-    ensures split { SplitPlan }
-    ensures mutual { MutualPlan }
 {}

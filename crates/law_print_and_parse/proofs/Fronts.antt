@@ -9,7 +9,7 @@ use Rattle.smv_core.specs.declared.token.TokenKind.{TokenKind}
 use Rattle.smv_core.specs.declared.token.TokenKind.TheVariants.{Ident, Number, Sign, Reserved}
 use Rattle.smv_lex.specs.declared.front.Front.{Front}
 use Rattle.smv_lex.specs.declared.front.Front.TheVariants.{Passed, Whole}
-use Rattle.smv_lex.specs.Spellings.{reserved_words, spelled_in}
+use Rattle.smv_core.specs.Spellings.{reserved_words, spelled_in}
 use Rattle.smv_lex.specs.Lexing.{is_blank, is_letter, is_name_byte, word_kind, word_front, number_front, sign_front, front_of}
 use Rattle.smv_lex.specs.Longest.{is_word}
 use Rattle.smv_print.specs.Written.{bytes_of}

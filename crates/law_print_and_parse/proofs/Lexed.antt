@@ -9,7 +9,7 @@ use Rattle.smv_core.specs.declared.token.TokenKind.{TokenKind}
 use Rattle.smv_core.specs.declared.token.TokenKind.TheVariants.{Ident, Number, Sign, Reserved}
 use Rattle.smv_lex.specs.declared.front.Front.{Front}
 use Rattle.smv_lex.specs.declared.front.Front.TheVariants.{Passed, Whole, Broken}
-use Rattle.smv_lex.specs.Spellings.{signs, reserved_words, spelled_in}
+use Rattle.smv_core.specs.Spellings.{signs, reserved_words, spelled_in}
 use Rattle.smv_lex.specs.Lexing.{Lexed, with_token, then_more, is_digit, is_name_byte, comment_front, word_kind, word_front, number_of, number_front, sign_front, front_of, lexed_from}
 use Rattle.smv_lex.specs.Longest.{is_word}
 use Rattle.smv_lex.proofs.Fronts.{front-cases}

@@ -4,8 +4,6 @@ use Rattle.smv_core.specs.declared.tree.Text.{Text}
 use Rattle.smv_core.specs.Notation.{Tokens}
 use Rattle.smv_core.specs.Spelling.{Spells}
 use Rattle.smv_lex.specs.Lexing.{lexed}
-use Rattle.smv_lex.specs.Spellings as lexer
-use Rattle.smv_print.specs.Spellings as printer
 use Rattle.smv_print.specs.Written.{Kinds, joined}
 use Rattle.smv_print.specs.Canonical.{text_kinds, canonical}
 use Rattle.law_print_and_parse.specs.Readable.{AreReadable}
@@ -33,7 +31,3 @@ IsSpelledReadable = (n : ℕ) (tokens : Tokens) (text : Text) → Spells n token
 -- the canonical spelling of the tree of any text is read as the canonical tokens of that tree
 abbrev pub IsCanonicalRead : Type 0
 IsCanonicalRead = (bytes : List ℕ) (tokens : Tokens) (n : ℕ) (text : Text) → lexed bytes ≡ Ok tokens → Spells n tokens text → AreReadAs (canonical text) (text_kinds text)
-
--- the printer's signs and reserved words have the bytes that the lexer's have
-abbrev pub HaveSameTables : Type 0
-HaveSameTables = (printer.signs ≡ lexer.signs) × (printer.reserved_words ≡ lexer.reserved_words)

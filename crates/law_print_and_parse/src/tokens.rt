@@ -1,5 +1,5 @@
 // The laws of written tokens. The functions do nothing: their contracts are the laws.
-ghost use Rattle.law_print_and_parse.specs.TokenLaws.{IsReadAsWritten, ReadsOnlyReadable, IsSpelledReadable, IsCanonicalRead, HaveSameTables};
+ghost use Rattle.law_print_and_parse.specs.TokenLaws.{IsReadAsWritten, ReadsOnlyReadable, IsSpelledReadable, IsCanonicalRead};
 
 /// Tokens that are written out are read as the same tokens.
 pub fn read_as_written()
@@ -19,9 +19,4 @@ pub fn spelled_readable()
 /// The canonical spelling of the tree of a text is read as the canonical tokens of that tree.
 pub fn canonical_read()
     ensures { IsCanonicalRead }
-{}
-
-/// The printer and the lexer spell signs and reserved words by the same tables.
-pub fn same_tables()
-    ensures { HaveSameTables }
 {}

@@ -1,9 +1,12 @@
 -- Places compare as they are written.
-use Rattle.std.proofs.Common.{◌≡◌, ◌≢◌, ℕ, suc, List, [], ◌∷◌, map, get_or, Bool, true, false, not, if◌then◌else◌, refl, sym, ap, subst, ◌∙◌, ◌⊎◌, inl, inr, Option, Some, None, option_map, nat_eq, nat_lt}
+use Rattle.std.proofs.Common.{◌≡◌, ℕ, suc, List, [], ◌∷◌, map, get_or, Bool, true, false, not, if◌then◌else◌, refl, sym, ap, subst, ◌∙◌, ◌⊎◌, inl, inr, Option, Some, None, option_map, nat_eq, nat_lt}
 use Rattle.std.specs.Prelude.{unwrap_or}
 use Rattle.std.specs.List.{slice_get}
 use Rattle.std.specs.Str.{bytes_eq}
 use Rattle.std.proofs.lemmas.Slice.Eq.{bytes_eq-Decides}
+use Rattle.law_lists.proofs.Options.{some_is}
+use Rattle.law_lists.proofs.Numbers.{nat_eq-is}
+use Rattle.law_lists.proofs.Booleans.{same_tests}
 use Rattle.smv_core.specs.Values.{Name, Value, number, constant, scalar, ordinal, Truth, same, below, not_of, numbers_from}
 use Rattle.smv_core.specs.FlatMeaning.{Numbered, simple_in}
 use Rattle.smv_core.specs.Values as values
@@ -13,11 +16,9 @@ use Rattle.smv_core.specs.declared.flat.Simple.TheVariants.{Range, Enum, Set}
 use Rattle.smv_core.specs.declared.flat.SetInfo.{SetInfo}
 use Rattle.law_obligations.specs.Sets.{Has}
 use Rattle.law_obligations.specs.Places.{Place, named, rest, World, rests_beside, places_of, places_in, named_of, unsure, same_place, equal_places, below_places}
-use Rattle.law_obligations.proofs.Tests.{true_or_false, same_tests}
 use Rattle.law_obligations.proofs.Members.{Has-cases, Has-from_map, Has-uncons}
-use Rattle.law_obligations.proofs.Same.{nat_eq-is, nat_eq-itself}
+use Rattle.law_obligations.proofs.Same.{nat_eq-itself}
 use Rattle.law_obligations.specs.Outlines.{place_of}
-use Rattle.law_obligations.proofs.Lookups.{inner}
 use Rattle.law_designs.specs.FlatKinds.{Kind, enumeration, set_type, kind_of, joins}
 use Rattle.law_designs.specs.FlatKinds as kind
 use Rattle.smv_problem.specs.declared.problem.AbsValue.{AbsValue}
@@ -73,9 +74,6 @@ module _ (w : World) where
 
 -- ---- constants by their places
 
-apart : (a b : Name) → a ≢ b → bytes_eq a b ≡ false
-apart a b n = elim (true_or_false (bytes_eq a b)) [ inl e ↦ absurd (n ((bytes_eq-Decides a b).0 e)) | inr e ↦ e ]
-
 abbrev at_name : List Name → Name → Option ℕ
 at_name names name = place_of (bytes_eq name) names
 
@@ -97,10 +95,10 @@ get_at (x ∷ names) name k e = at (bytes_eq name x) refl (at_name names name) e
   where
     step : (o : Option ℕ) → option_map (λ k. suc k) o ≡ Some k → ((j : ℕ) → o ≡ Some j → slice_get names j ≡ Some name) → slice_get (x ∷ names) k ≡ Some name
     step None e goes = absurd (cc)
-    step (Some j) e goes = subst (λ k. slice_get (x ∷ names) k ≡ Some name) (inner e) (goes j refl)
+    step (Some j) e goes = subst (λ k. slice_get (x ∷ names) k ≡ Some name) (some_is e) (goes j refl)
 
     at : (b : Bool) → bytes_eq name x ≡ b → (o : Option ℕ) → (if b then Some 0 else option_map (λ k. suc k) o) ≡ Some k → ((j : ℕ) → o ≡ Some j → slice_get names j ≡ Some name) → slice_get (x ∷ names) k ≡ Some name
-    at true i o e goes = subst (λ k. slice_get (x ∷ names) k ≡ Some name) (inner e) (ap Some (sym ((bytes_eq-Decides name x).0 i)))
+    at true i o e goes = subst (λ k. slice_get (x ∷ names) k ≡ Some name) (some_is e) (ap Some (sym ((bytes_eq-Decides name x).0 i)))
     at false i o e goes = step o e goes
 
 abbrev place_in : List Name → Name → ℕ
@@ -116,7 +114,7 @@ constants_alike names a b h k =
     let px : place_in names a ≡ x.0 = ap (λ o. unwrap_or o 0) x.1 in
     let py : place_in names b ≡ y.0 = ap (λ o. unwrap_or o 0) y.1 in
     let same_place : x.0 ≡ y.0 = sym px ∙ (nat_eq-is (place_in names a) (place_in names b) e ∙ py) in
-    (bytes_eq-Decides a b).1 (inner (sym (get_at names a x.0 x.1) ∙ (ap (slice_get names) same_place ∙ get_at names b y.0 y.1))))
+    (bytes_eq-Decides a b).1 (some_is (sym (get_at names a x.0 x.1) ∙ (ap (slice_get names) same_place ∙ get_at names b y.0 y.1))))
 
 -- ---- values of one set type
 
@@ -183,7 +181,7 @@ written : {R : Type 0} (f : AbsValue → AbsValue → R) {v v' w w' : AbsValue} 
 written f {v} {v'} {w} {w'} e g = sym (ap (λ x. f x w) e ∙ ap (f v') g)
 
 one_info : (n : Numbered) (set other : ℕ) (info jnfo : SetInfo) → nat_eq set other ≡ true → slice_get n.sets set ≡ Some info → slice_get n.sets other ≡ Some jnfo → info ≡ jnfo
-one_info n set other info jnfo j e f = inner (sym e ∙ (ap (slice_get n.sets) (nat_eq-is set other j) ∙ f))
+one_info n set other info jnfo j e f = some_is (sym e ∙ (ap (slice_get n.sets) (nat_eq-is set other j) ∙ f))
 
 names_of : (n : Numbered) → AreAllDistinct n → (list other : ℕ) (a b : Name) → nat_eq list other ≡ true → Has (get_or n.enums list []) a → Has (get_or n.enums other []) b →
     bytes_eq a b ≡ nat_eq (place_in (get_or n.enums list []) a) (place_in (get_or n.enums other []) b)

@@ -1,19 +1,19 @@
 -- In a text without a fault of names no constant stands twice in an enumeration.
-use Rattle.std.proofs.Common.{◌≡◌, ℕ, List, [], ◌∷◌, ◌++◌, map, Option, Some, None, Bool, true, false, not, ◌||◌, cond, refl, sym, subst}
+use Rattle.std.proofs.Common.{◌≡◌, ℕ, List, [], ◌∷◌, ◌++◌, map, Bool, true, false, not, ◌||◌, refl, sym, subst}
 use Rattle.std.specs.List.{flat_map, filter, list_any}
 use Rattle.std.specs.Str.{bytes_eq}
 use Rattle.std.proofs.lemmas.Slice.Eq.{bytes_eq-Decides}
+use Rattle.law_lists.proofs.Lists.{map-nil}
 use Rattle.smv_core.specs.Values.{Name}
 use Rattle.smv_core.specs.Types.{find_name, names_of}
 use Rattle.smv_core.specs.Outcome.{same_path}
-use Rattle.smv_core.specs.declared.fault.Fault.{Fault}
 use Rattle.smv_core.specs.declared.tree.Word.{Word}
 use Rattle.smv_mentions.specs.Mentions.{Mention, declares, instantiates, lists_constants, has_fields, names_type, binds, follows}
 use Rattle.smv_mentions.specs.Scopes.{Piece, Scope, pieces, scope_of}
 use Rattle.smv_mentions.specs.NameFaults.{place_if, repeated, places_of, is_of_other_list, doubled, doubled_in, declared_words, formals_of, undeclared_in, name_faults}
-use Rattle.smv_mentions.specs.FirstFault.{comes_before, earlier, first_of, faults_at, faults_of_names, fault_of_size, or_else}
+use Rattle.smv_mentions.specs.FirstFault.{first_of, faults_at, faults_of_names, fault_of_size}
 use Rattle.law_designs.specs.Flattening.{different, enum_of}
-use Rattle.law_designs.proofs.Faultless.{empty-both}
+use Rattle.law_designs.proofs.Faultless.{empty-both, no_fault-in, none-first, unplaced}
 use Rattle.law_obligations.specs.Sets.{Has, first, later}
 use Rattle.law_obligations.proofs.OneOfEach.{Has-from_flat_map}
 use Rattle.law_obligations.proofs.Lookups.{Has-from_filter}
@@ -21,31 +21,7 @@ use Rattle.smv_problem.specs.WellFormed.{AreDistinct}
 use Rattle.law_problems.specs.Fit.{ConstantsAreDistinct}
 use Rattle.law_problems.proofs.FitOrders.{none-each}
 
-none-map : {X Y : Type 0} (f : X → Y) (xs : List X) → map f xs ≡ [] → xs ≡ []
-none-map f [] e = refl
-none-map f (x ∷ xs) e = absurd (cc (e))
-
-none-left : (faults : List Fault) → first_of faults ≡ None → faults ≡ []
-none-left [] e = refl
-none-left (f ∷ faults) e = absurd (by_rest (first_of faults) e)
-  where
-    by_order : (b : Bool) (g : Fault) → cond b (Some g) (Some f) ≡ None → ⊥
-    by_order true g e = cc (e)
-    by_order false g e = cc (e)
-
-    by_rest : (o : Option Fault) → earlier f o ≡ None → ⊥
-    by_rest None e = cc (e)
-    by_rest (Some g) e = by_order (comes_before g f) g e
-
-none-first : (o p : Option Fault) → or_else o p ≡ None → o ≡ None
-none-first None p e = refl
-none-first (Some f) p e = absurd (cc (e))
-
 -- ---- lists without a name twice
-
-not-placed : (b : Bool) (at : ℕ) → place_if b at ≡ [] → b ≡ false
-not-placed true at e = absurd (cc (e))
-not-placed false at e = refl
 
 any-seen : (name : Name) (seen : List Name) → Has seen name → list_any (bytes_eq name) seen ≡ true
 any-seen name [] h = elim h [ ]
@@ -60,7 +36,7 @@ any-seen name (other ∷ seen) (later h) = by_test (bytes_eq name other) (any-se
 unseen : (seen : List Name) (words : List Word) → repeated seen words ≡ [] → (name : Name) → Has (names_of words) name → Has seen name → ⊥
 unseen seen [] e name h k = elim h [ ]
 unseen seen (word ∷ words) e _ first k =
-    let no : list_any (bytes_eq word.name) seen ≡ false = not-placed (list_any (bytes_eq word.name) seen) word.at (empty-both (place_if (list_any (bytes_eq word.name) seen) word.at) (repeated (word.name ∷ seen) words) e).0 in
+    let no : list_any (bytes_eq word.name) seen ≡ false = unplaced (list_any (bytes_eq word.name) seen) word.at (empty-both (place_if (list_any (bytes_eq word.name) seen) word.at) (repeated (word.name ∷ seen) words) e).0 in
     let yes : list_any (bytes_eq word.name) seen ≡ true = any-seen word.name seen k in
     cc (no, yes)
 unseen seen (word ∷ words) e name (later h) k = unseen (word.name ∷ seen) words (empty-both (place_if (list_any (bytes_eq word.name) seen) word.at) (repeated (word.name ∷ seen) words) e).1 name h (later k)
@@ -105,10 +81,10 @@ in_piece tops piece e m i list h =
 pub constants_are_distinct : ConstantsAreDistinct
 constants_are_distinct text e list h =
     let tops : List Piece = pieces text in
-    let none : flat_map faults_at (name_faults tops) ≡ [] = none-left (faults_of_names text) (none-first (first_of (faults_of_names text)) (fault_of_size text) e) in
+    let none : flat_map faults_at (name_faults tops) ≡ [] = no_fault-in (faults_of_names text) (none-first (first_of (faults_of_names text)) (fault_of_size text) e) in
     let behind_seven = (empty-both (faults_at (7, flat_map (undeclared_in tops) tops)) _ none).1 in
     let eight : (repeated [] (map (λ (piece : Piece). piece.word) tops) ++ flat_map (doubled_in tops) tops) ≡ [] =
-    none-map _ (repeated [] (map (λ (piece : Piece). piece.word) tops) ++ flat_map (doubled_in tops) tops) (empty-both (faults_at (8, repeated [] (map (λ (piece : Piece). piece.word) tops) ++ flat_map (doubled_in tops) tops)) _ behind_seven).0 in
+    map-nil _ (repeated [] (map (λ (piece : Piece). piece.word) tops) ++ flat_map (doubled_in tops) tops) (empty-both (faults_at (8, repeated [] (map (λ (piece : Piece). piece.word) tops) ++ flat_map (doubled_in tops) tops)) _ behind_seven).0 in
     let all_pieces : flat_map (doubled_in tops) tops ≡ [] = (empty-both (repeated [] (map (λ (piece : Piece). piece.word) tops)) (flat_map (doubled_in tops) tops) eight).1 in
     let said : Has (flat_map (λ (piece : Piece). flat_map enum_of piece.mentions) tops) list = from-different same_path (flat_map (λ (piece : Piece). flat_map enum_of piece.mentions) tops) h in
     let r = Has-from_flat_map (λ (piece : Piece). flat_map enum_of piece.mentions) tops said in

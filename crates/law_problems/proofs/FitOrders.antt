@@ -2,6 +2,7 @@
 use Rattle.std.proofs.Common.{◌≡◌, ℕ, zero, suc, List, [], ◌∷◌, ◌++◌, map, flat_map, length, get_or, slice_get, Option, Some, None, is_some, Bool, true, false, not, ◌&&◌, ◌||◌, nat_eq, nat_le, nat_lt, refl, sym, ap, subst, ◌∙◌, inl, inr, arith}
 use Rattle.std.specs.Prelude.{if◌then◌else◌}
 use Rattle.std.specs.List.{list_all}
+use Rattle.std.proofs.lemmas.Bool.{and_parts, and_from}
 use Rattle.smv_core.specs.declared.fault.Fault.{Fault}
 use Rattle.smv_core.specs.declared.tree.Op.{Op}
 use Rattle.smv_core.specs.declared.tree.Op.TheVariants.{Equal, Differ, Less, AtMost, Greater, AtLeast}
@@ -13,7 +14,7 @@ use Rattle.smv_core.specs.declared.flat.FlatText.{FlatText}
 use Rattle.smv_core.specs.declared.flat.FlatMember.{One, Span as SpanOf}
 use Rattle.smv_core.specs.declared.flat.FlatExpr.{FlatExpr, Number, Read', Var, Loop, Constant, Not', And', Or', Implies', Iff', Compare', Within', Sum', Modulo', Choose', All', Any', List', Each', Held-FlatExpr-Each-2, None', Some', Row_of-FlatExpr, end_of-FlatExpr, more_of-FlatExpr, Row_of-FlatMember, end_of-FlatMember, more_of-FlatMember, Row_of-FlatSigned, end_of-FlatSigned, more_of-FlatSigned}
 use Rattle.law_designs.specs.FlatKinds.{Kind, number, enumeration, set_type, Vars, kind_of, takes, are_numbers, number_if, joins, joined, common_after, common, compares, chosen, element, take_each, inside, is_type, is_index_type, is_binder, is_condition, is_kinded_family, kind_in, kinds_in, summands, members_in, looked_through, value_in}
-use Rattle.law_designs.proofs.Operands.{both, pair, all-some, takes-some, numbers-some, each-some, common-some, number_if-true, compares-some, two-some, chosen-some, element-some, if-some}
+use Rattle.law_designs.proofs.Operands.{all-some, takes-some, numbers-some, each-some, common-some, number_if-true, compares-some, two-some, chosen-some, element-some, if-some}
 use Rattle.law_designs.specs.SetOperands.{first_at, is_loop, disordered, met, lacks_order, is_unordered}
 use Rattle.law_designs.specs.SetFaults.{operand, listed, faults_in, faults_each, faults_signed, faults_members, faults_held}
 use Rattle.law_designs.proofs.Faultless.{empty-both}
@@ -72,7 +73,7 @@ module _ (flat_text : FlatText) where
   inside-there vars all var over h k i = elim (Has-cases vars (kind_of over ∷ []) i) [
     | inl j ↦ all k j
     | inr j ↦ elim (Has-uncons j) [
-      | inl e ↦ subst (λ k. is_there k ≡ true) (sym e) (index-there over (both (nat_eq var (length vars)) (is_index_type flat_text over) h).1)
+      | inl e ↦ subst (λ k. is_there k ≡ true) (sym e) (index-there over (and_parts (nat_eq var (length vars)) (is_index_type flat_text over) h).1)
       | inr l ↦ elim l [ ]
     ]
   ]
@@ -118,7 +119,7 @@ module _ (flat_text : FlatText) where
     element-there k (Some f) e es = by_test (take_each f.over es)
       where
         by_test : (b : Bool) → there_if (if b then Some (kind_of f.value) else None) ≡ true
-        by_test true = type-there f.value (both (list_all (is_index_type flat_text) f.over) (is_type flat_text f.value) (all-each (is_kinded_family flat_text) kept (get_Has flat_text.families k f e))).1
+        by_test true = type-there f.value (and_parts (list_all (is_index_type flat_text) f.over) (is_type flat_text f.value) (all-each (is_kinded_family flat_text) kept (get_Has flat_text.families k f e))).1
         by_test false = refl
 
     kind-there : (vars : Vars) → AreThere vars → (e : FlatExpr) → there_if (kind_in flat_text vars e) ≡ true
@@ -224,7 +225,7 @@ module _ (flat_text : FlatText) where
           let g : (is_some (kind_in flat_text vars left) ≡ true) × (is_some (kind_in flat_text vars right) ≡ true) =
           two-some (kind_in flat_text vars left) (kind_in flat_text vars right) (numbers-some (kind_in flat_text vars left ∷ kind_in flat_text vars right ∷ []) (number_if-true _ h)) in
           let f : (faults vars left ≡ []) × (faults vars right ≡ []) = empty-both _ _ n in
-          pair _ _ (orders vars all left g.0 f.0) (orders vars all right g.1 f.1)
+          and_from _ _ (orders vars all left g.0 f.0) (orders vars all right g.1 f.1)
       orders vars all (Compare' op l (more_of-FlatExpr left end_of-FlatExpr) r (more_of-FlatExpr right end_of-FlatExpr)) h n =
           let g : (is_some (kind_in flat_text vars left) ≡ true) × (is_some (kind_in flat_text vars right) ≡ true) =
           two-some (kind_in flat_text vars left) (kind_in flat_text vars right) (common-some (kind_in flat_text vars left ∷ kind_in flat_text vars right ∷ []) (compares-some op (common (kind_in flat_text vars left ∷ kind_in flat_text vars right ∷ [])) (number_if-true _ h))) in
@@ -235,21 +236,21 @@ module _ (flat_text : FlatText) where
           let b : ((faults vars left ++ faults vars right ++ meets) ≡ []) × (on_left ≡ []) = empty-both _ _ a.0 in
           let c : ((faults vars left ++ faults vars right) ≡ []) × (meets ≡ []) = empty-both _ _ b.0 in
           let d : (faults vars left ≡ []) × (faults vars right ≡ []) = empty-both _ _ c.0 in
-          pair _ _ (either-both (not (is_order op)) _ _ (side op vars all left g.0 b.1) (side op vars all right g.1 a.1)) (pair _ _ (orders vars all left g.0 d.0) (orders vars all right g.1 d.1))
+          and_from _ _ (either-both (not (is_order op)) _ _ (side op vars all left g.0 b.1) (side op vars all right g.1 a.1)) (and_from _ _ (orders vars all left g.0 d.0) (orders vars all right g.1 d.1))
       orders vars all (Within' l (more_of-FlatExpr left end_of-FlatExpr) r (more_of-FlatExpr set end_of-FlatExpr)) h n =
           let g : (is_some (kind_in flat_text vars left) ≡ true) × (all-some (looked_through flat_text vars set) ≡ true) =
-          both _ _ (common-some (kind_in flat_text vars left ∷ looked_through flat_text vars set) (number_if-true _ h)) in
+          and_parts _ _ (common-some (kind_in flat_text vars left ∷ looked_through flat_text vars set) (number_if-true _ h)) in
           let meets : List Fault = met (operand flat_text (value_in flat_text) vars left ∷ listed flat_text (value_in flat_text) vars set) in
           let a : ((faults vars left ++ faults vars set) ≡ []) × (meets ≡ []) = empty-both _ _ n in
           let b : (faults vars left ≡ []) × (faults vars set ≡ []) = empty-both _ _ a.0 in
-          pair _ _ (orders vars all left g.0 b.0) (set-orders vars all set g.1 b.1)
+          and_from _ _ (orders vars all left g.0 b.0) (set-orders vars all set g.1 b.1)
       orders vars all (Sum' f (more_of-FlatExpr head end_of-FlatExpr) shape more) h n =
           let g : (is_some (kind_in flat_text vars head) ≡ true) × (all-some (summands flat_text vars more) ≡ true) =
-          both _ _ (numbers-some (kind_in flat_text vars head ∷ summands flat_text vars more) (number_if-true _ h)) in
+          and_parts _ _ (numbers-some (kind_in flat_text vars head ∷ summands flat_text vars more) (number_if-true _ h)) in
           let a : (faults vars head ≡ []) × (faults_signed flat_text (value_in flat_text) vars more ≡ []) = empty-both _ _ n in
-          pair _ _ (orders vars all head g.0 a.0) (signed-orders vars all more g.1 a.1)
+          and_from _ _ (orders vars all head g.0 a.0) (signed-orders vars all more g.1 a.1)
       orders vars all (Modulo' shape (more_of-FlatExpr e end_of-FlatExpr) by at) h n =
-          orders vars all e (takes-some number (kind_in flat_text vars e) (both (takes number (kind_in flat_text vars e)) (nat_lt 0 by) (number_if-true _ h)).0) n
+          orders vars all e (takes-some number (kind_in flat_text vars e) (and_parts (takes number (kind_in flat_text vars e)) (nat_lt 0 by) (number_if-true _ h)).0) n
       orders vars all (Choose' c (more_of-FlatExpr cond end_of-FlatExpr) l (more_of-FlatExpr left end_of-FlatExpr) r (more_of-FlatExpr right end_of-FlatExpr)) h n =
           let g : (is_some (kind_in flat_text vars cond) ≡ true) × (is_some (kind_in flat_text vars left) ≡ true) × (is_some (kind_in flat_text vars right) ≡ true) =
           chosen-some (kind_in flat_text vars cond) (kind_in flat_text vars left) (kind_in flat_text vars right) h in
@@ -257,12 +258,12 @@ module _ (flat_text : FlatText) where
           let a : ((faults vars cond ++ faults vars left ++ faults vars right) ≡ []) × (meets ≡ []) = empty-both _ _ n in
           let b : ((faults vars cond ++ faults vars left) ≡ []) × (faults vars right ≡ []) = empty-both _ _ a.0 in
           let d : (faults vars cond ≡ []) × (faults vars left ≡ []) = empty-both _ _ b.0 in
-          pair _ _ (orders vars all cond g.0 d.0) (pair _ _ (orders vars all left g.1 d.1) (orders vars all right g.2 b.1))
+          and_from _ _ (orders vars all cond g.0 d.0) (and_from _ _ (orders vars all left g.1 d.1) (orders vars all right g.2 b.1))
       orders vars all (All' shape (more_of-FlatExpr body end_of-FlatExpr) var over at) h n =
-          let g : (is_binder flat_text vars var over ≡ true) × (takes number (kind_in flat_text (inside vars over) body) ≡ true) = both (is_binder flat_text vars var over) (takes number (kind_in flat_text (inside vars over) body)) (number_if-true _ h) in
+          let g : (is_binder flat_text vars var over ≡ true) × (takes number (kind_in flat_text (inside vars over) body) ≡ true) = and_parts (is_binder flat_text vars var over) (takes number (kind_in flat_text (inside vars over) body)) (number_if-true _ h) in
           orders (inside vars over) (inside-there vars all var over g.0) body (takes-some number (kind_in flat_text (inside vars over) body) g.1) n
       orders vars all (Any' shape (more_of-FlatExpr body end_of-FlatExpr) var over at) h n =
-          let g : (is_binder flat_text vars var over ≡ true) × (takes number (kind_in flat_text (inside vars over) body) ≡ true) = both (is_binder flat_text vars var over) (takes number (kind_in flat_text (inside vars over) body)) (number_if-true _ h) in
+          let g : (is_binder flat_text vars var over ≡ true) × (takes number (kind_in flat_text (inside vars over) body) ≡ true) = and_parts (is_binder flat_text vars var over) (takes number (kind_in flat_text (inside vars over) body)) (number_if-true _ h) in
           orders (inside vars over) (inside-there vars all var over g.0) body (takes-some number (kind_in flat_text (inside vars over) body) g.1) n
       orders vars all (List' shape members at) h n = absurd (cc (h))
       orders vars all (Each' var over cond at) h n = absurd (cc (h))
@@ -270,25 +271,25 @@ module _ (flat_text : FlatText) where
       row-orders : {m : _} (vars : Vars) → AreThere vars → (row : Row_of-FlatExpr m) → all-some (kinds_in flat_text vars row) ≡ true → faults_each flat_text (value_in flat_text) vars row ≡ [] → all_keep_orders (bare flat_text) vars row ≡ true
       row-orders vars all end_of-FlatExpr h n = refl
       row-orders vars all (more_of-FlatExpr e rest) h n =
-          let g : (is_some (kind_in flat_text vars e) ≡ true) × (all-some (kinds_in flat_text vars rest) ≡ true) = both _ _ h in
+          let g : (is_some (kind_in flat_text vars e) ≡ true) × (all-some (kinds_in flat_text vars rest) ≡ true) = and_parts _ _ h in
           let a : (faults vars e ≡ []) × (faults_each flat_text (value_in flat_text) vars rest ≡ []) = empty-both _ _ n in
-          pair _ _ (orders vars all e g.0 a.0) (row-orders vars all rest g.1 a.1)
+          and_from _ _ (orders vars all e g.0 a.0) (row-orders vars all rest g.1 a.1)
 
       signed-orders : {m : _} (vars : Vars) → AreThere vars → (row : Row_of-FlatSigned m) → all-some (summands flat_text vars row) ≡ true → faults_signed flat_text (value_in flat_text) vars row ≡ [] → signed_keep_orders (bare flat_text) vars row ≡ true
       signed-orders vars all end_of-FlatSigned h n = refl
       signed-orders vars all (more_of-FlatSigned minus e rest) h n =
-          let g : (is_some (kind_in flat_text vars e) ≡ true) × (all-some (summands flat_text vars rest) ≡ true) = both _ _ h in
+          let g : (is_some (kind_in flat_text vars e) ≡ true) × (all-some (summands flat_text vars rest) ≡ true) = and_parts _ _ h in
           let a : (faults vars e ≡ []) × (faults_signed flat_text (value_in flat_text) vars rest ≡ []) = empty-both _ _ n in
-          pair _ _ (orders vars all e g.0 a.0) (signed-orders vars all rest g.1 a.1)
+          and_from _ _ (orders vars all e g.0 a.0) (signed-orders vars all rest g.1 a.1)
 
       members-orders : {m : _} (vars : Vars) → AreThere vars → (row : Row_of-FlatMember m) → all-some (members_in flat_text vars row) ≡ true → faults_members flat_text (value_in flat_text) vars row ≡ [] → members_keep_orders (bare flat_text) vars row ≡ true
       members-orders vars all end_of-FlatMember h n = refl
       members-orders vars all (more_of-FlatMember (One e) rest) h n =
-          let g : (is_some (kind_in flat_text vars e) ≡ true) × (all-some (members_in flat_text vars rest) ≡ true) = both _ _ h in
+          let g : (is_some (kind_in flat_text vars e) ≡ true) × (all-some (members_in flat_text vars rest) ≡ true) = and_parts _ _ h in
           let a : (faults vars e ≡ []) × (faults_members flat_text (value_in flat_text) vars rest ≡ []) = empty-both _ _ n in
-          pair _ _ (orders vars all e g.0 a.0) (members-orders vars all rest g.1 a.1)
+          and_from _ _ (orders vars all e g.0 a.0) (members-orders vars all rest g.1 a.1)
       members-orders vars all (more_of-FlatMember (SpanOf span at) rest) h n =
-          members-orders vars all rest (both (is_some (number_if (nat_le span.low span.high))) (all-some (members_in flat_text vars rest)) h).1 n
+          members-orders vars all rest (and_parts (is_some (number_if (nat_le span.low span.high))) (all-some (members_in flat_text vars rest)) h).1 n
 
       set-orders : (vars : Vars) → AreThere vars → (e : FlatExpr) → all-some (looked_through flat_text vars e) ≡ true → faults vars e ≡ [] → keeps_orders (bare flat_text) vars e ≡ true
       set-orders vars all (List' shape members at) h n = members-orders vars all members h (empty-both _ _ n).0
@@ -305,7 +306,7 @@ module _ (flat_text : FlatText) where
     value-orders vars all (List' shape members at) h n = members-orders vars all members (common-some (members_in flat_text vars members) h) (empty-both _ _ n).0
     value-orders vars all (Each' var over held at) h n =
         let t = if-some (is_binder flat_text vars var over && is_condition flat_text (inside vars over) held) (Some (kind_of over)) h in
-        let g : (is_binder flat_text vars var over ≡ true) × (is_condition flat_text (inside vars over) held ≡ true) = both _ _ t.0 in
+        let g : (is_binder flat_text vars var over ≡ true) × (is_condition flat_text (inside vars over) held ≡ true) = and_parts _ _ t.0 in
         held-orders vars all var over held at g.0 g.1 n
     value-orders vars all (Choose' c (more_of-FlatExpr cond end_of-FlatExpr) l (more_of-FlatExpr left end_of-FlatExpr) r (more_of-FlatExpr right end_of-FlatExpr)) h n =
         let g : (is_some (kind_in flat_text vars cond) ≡ true) × (is_some (value_in flat_text vars left) ≡ true) × (is_some (value_in flat_text vars right) ≡ true) =
@@ -314,7 +315,7 @@ module _ (flat_text : FlatText) where
         let a : ((faults vars cond ++ faults vars left ++ faults vars right) ≡ []) × (meets ≡ []) = empty-both _ _ n in
         let b : ((faults vars cond ++ faults vars left) ≡ []) × (faults vars right ≡ []) = empty-both _ _ a.0 in
         let d : (faults vars cond ≡ []) × (faults vars left ≡ []) = empty-both _ _ b.0 in
-        pair _ _ (orders vars all cond g.0 d.0) (pair _ _ (value-orders vars all left g.1 d.1) (value-orders vars all right g.2 b.1))
+        and_from _ _ (orders vars all cond g.0 d.0) (and_from _ _ (value-orders vars all left g.1 d.1) (value-orders vars all right g.2 b.1))
     value-orders vars all (Number value at) h n = refl
     value-orders vars all (Read' family shape indexes at) h n = orders vars all (Read' family shape indexes at) h n
     value-orders vars all (Var var at) h n = refl
@@ -336,6 +337,6 @@ module _ (flat_text : FlatText) where
     pub left-orders : (vars : Vars) → AreThere vars → (es : List FlatExpr) → all-some (map (kind_in flat_text vars) es) ≡ true → flat_map (faults_in flat_text (value_in flat_text) vars) es ≡ [] → list_all (keeps_orders (bare flat_text) vars) es ≡ true
     left-orders vars all [] h n = refl
     left-orders vars all (e ∷ es) h n =
-        let g : (is_some (kind_in flat_text vars e) ≡ true) × (all-some (map (kind_in flat_text vars) es) ≡ true) = both _ _ h in
+        let g : (is_some (kind_in flat_text vars e) ≡ true) × (all-some (map (kind_in flat_text vars) es) ≡ true) = and_parts _ _ h in
         let a : (faults vars e ≡ []) × (flat_map (faults_in flat_text (value_in flat_text) vars) es ≡ []) = empty-both _ _ n in
-        pair _ _ (orders vars all e g.0 a.0) (left-orders vars all es g.1 a.1)
+        and_from _ _ (orders vars all e g.0 a.0) (left-orders vars all es g.1 a.1)

@@ -1,8 +1,11 @@
 -- The problem of a case is well formed.
-use Rattle.std.proofs.Common.{◌≡◌, ◌≢◌, ℕ, zero, suc, ◌+◌, ◌-◌, ◌<◌, ◌≤◌, List, [], ◌∷◌, ◌++◌, map, take, length, Bool, true, false, ◌&&◌, if◌then◌else◌, refl, sym, ap, subst, ◌∙◌, ◌⊎◌, inl, inr, Option, Some, None, option_to_list, nat_lt, arith}
+use Rattle.std.proofs.Common.{◌≡◌, ◌≢◌, ℕ, ◌+◌, ◌-◌, ◌<◌, ◌≤◌, List, [], ◌∷◌, ◌++◌, map, take, length, Bool, true, false, ◌&&◌, if◌then◌else◌, refl, sym, ap, subst, ◌∙◌, ◌⊎◌, inl, inr, Option, Some, None, option_to_list, nat_lt, arith}
 use Rattle.std.specs.Prelude.{IfSome, IsTrue}
 use Rattle.std.specs.List.{flat_map, slice_get, zip, list_all}
 use Rattle.std.proofs.lemmas.Simd.{map-map}
+use Rattle.std.proofs.lemmas.List.{map-append}
+use Rattle.law_lists.proofs.Options.{some_is}
+use Rattle.law_lists.proofs.Lists.{length_map}
 use Rattle.smv_core.specs.Values.{numbers_from}
 use Rattle.smv_core.specs.declared.flat.Simple.{Simple}
 use Rattle.smv_core.specs.declared.flat.Simple.TheVariants.{Range, Enum, Set}
@@ -17,7 +20,6 @@ use Rattle.smv_core.specs.declared.flat.Unit.{Unit}
 use Rattle.smv_core.specs.declared.flat.Unit.TheVariants.{Map, Claim}
 use Rattle.smv_core.specs.declared.flat.Leaf.{Leaf}
 use Rattle.smv_core.specs.declared.flat.Choice.{Choice}
-use Rattle.smv_core.specs.declared.flat.Keep.{Keep}
 use Rattle.smv_core.specs.declared.flat.Assumed.{Assumed}
 use Rattle.smv_core.specs.declared.flat.Timing.{Timing}
 use Rattle.smv_core.specs.declared.flat.Timing.TheVariants.{Now, Before}
@@ -31,12 +33,12 @@ use Rattle.law_obligations.specs.Places.{Place, is_named, World, named_in, rests
 use Rattle.law_obligations.specs.Pictures.{AreNamedOf}
 use Rattle.law_obligations.specs.Cases.{Treatment, whole, reduced, ordered, Parameter, is_set, those_of, used, named_among, listed_classes, abstract_type, type_in, candidates, numbered}
 use Rattle.law_obligations.specs.Covers.{types_at, IsIndexType}
-use Rattle.law_obligations.specs.LeafCases.{kept_of, treatment_of, treatments_of, stays}
+use Rattle.law_obligations.specs.LeafCases.{kept_of, treatment_of, stays}
 use Rattle.law_obligations.specs.Obligations.{Demanded, defined, holds}
 use Rattle.law_obligations.specs.Soundness.{FlatUnit, map_of, claim_of, over_of, params_of, said_at, IsDefinition}
 use Rattle.law_obligations.proofs.Members.{Has-left, Has-cases, Has-from_map, Has-uncons, any-some}
 use Rattle.law_obligations.proofs.Spots.{numbers-Has}
-use Rattle.law_obligations.proofs.OneOfEach.{AreOf as AreMembers, are_of, one_of, map_joined, map_long, Has-from_flat_map, get_Has, Has_get}
+use Rattle.law_obligations.proofs.OneOfEach.{AreOf as AreMembers, are_of, one_of, Has-from_flat_map, get_Has, Has_get}
 use Rattle.law_obligations.proofs.CoverNames.{by_name-at, numbered-at}
 use Rattle.law_obligations.specs.Reached.{is_among, reached}
 use Rattle.law_obligations.specs.Outlines.{Entry, Outline, Script, entries_of, outline_of, names_of, nothing_claimed, as_map, as_claim, unit_in, map_in, assumed, chosen}
@@ -44,7 +46,7 @@ use Rattle.law_obligations.specs.Units.{units_of, script_of}
 use Rattle.law_obligations.specs.Cones.{AbsElement, element, same_element, elements, first_elements, next_elements, cone}
 use Rattle.law_obligations.specs.Problems.{is_at, family_time, leaf_params, leaf_treatments, world_of, params_at, own_params, element_demands, own_demands, itself_demands, instances, claim_demands, demands, plan_of}
 use Rattle.law_obligations.specs.Checked.{IsSplit, IsFilled}
-use Rattle.law_obligations.proofs.Lookups.{inner, Has-option, Has-tested, Has-from_filter}
+use Rattle.law_obligations.proofs.Lookups.{Has-option, Has-tested, Has-from_filter}
 use Rattle.law_obligations.proofs.OutlineFacts.{Comes, from_base, from_unit, bases-are, unit-def, map_in-is, chosen-comes, assumed-comes}
 use Rattle.law_obligations.proofs.CasePlaces.{IsThere, case_places, treatment_there, take_of, named_there}
 use Rattle.law_obligations.proofs.ConeFacts.{in_cone-is, same_element-family, same_element-indexes, own_kept}
@@ -52,7 +54,8 @@ use Rattle.law_designs.specs.FlatKinds as kinds
 use Rattle.law_designs.specs.FlatKinds.{Kind, kind_of}
 use Rattle.law_obligations.specs.Readings.{PosedCase, IsCase, state_bits}
 use Rattle.law_obligations.specs.Scripts.{case_of}
-use Rattle.law_obligations.proofs.ScriptCases.{is_case, filled}
+use Rattle.law_obligations.proofs.ScriptCases.{is_case, filled, treatment-at}
+use Rattle.law_obligations.proofs.CoverOrdsets.{used_most}
 use Rattle.smv_problem.specs.WellFormed.{as_flat_text, keeps_orders, AreOf, IsFit, IsFitGuard, IsWellFormed}
 use Rattle.law_problems.specs.Parts.{outlined, entry_of, case_with, IsPart, IsCaseOf}
 use Rattle.law_problems.proofs.Unlike.{AreUnlike, unlike-filter, unlike-elements, apart_elements}
@@ -87,18 +90,14 @@ also-places w (t ∷ types) (p ∷ ps) h = (Has-left (rests_in w t) h.0, also-pl
 
 -- ---- the classes of set types
 
-used-below : (n : ℕ) (cs : List ℕ) → ((c : ℕ) → Has cs c → c < n) → used cs ≤ n
-used-below n [] each = omega arith
-used-below n (c ∷ cs) each = let l = each c first in let r = used-below n cs (λ d h. each d (later h)) in omega (arith, l, r)
-
-among-is : (cs : List Class) (k : ℕ) → Has (named_among cs) k → Has cs (Named k)
+pub among-is : (cs : List Class) (k : ℕ) → Has (named_among cs) k → Has cs (Named k)
 among-is [] k h = elim h [ ]
 among-is (Number n ∷ cs) k h = later (among-is cs k h)
 among-is (Rest g ∷ cs) k h = later (among-is cs k h)
 among-is (Named c ∷ cs) _ first = first
 among-is (Named c ∷ cs) k (later h) = later (among-is cs k h)
 
-those-are : (test : Bool → Bool) (set : ℕ) (params : List Parameter) (classes : List Class) (c : Class) → Has (those_of test set params classes) c → Has classes c
+pub those-are : (test : Bool → Bool) (set : ℕ) (params : List Parameter) (classes : List Class) (c : Class) → Has (those_of test set params classes) c → Has classes c
 those-are test set [] classes c h = elim h [ ]
 those-are test set (p ∷ params) [] c h = elim h [ ]
 those-are test set (p ∷ params) (d ∷ classes) c h = at (is_set set p.over && test p.listed) h (λ k. those-are test set params classes c k)
@@ -110,13 +109,13 @@ those-are test set (p ∷ params) (d ∷ classes) c h = at (is_set set p.over &&
     at true h goes = under h goes
     at false h goes = later (goes h)
 
-listed-are : (t : Treatment) (set : ℕ) (params : List Parameter) (classes : List Class) (c : Class) → Has (listed_classes t set params classes) c → Has classes c
+pub listed-are : (t : Treatment) (set : ℕ) (params : List Parameter) (classes : List Class) (c : Class) → Has (listed_classes t set params classes) c → Has classes c
 listed-are (whole n) set params classes c h = those-are (λ listed. true) set params classes c h
 listed-are (reduced size) set params classes c h = those-are (λ listed. listed) set params classes c h
 listed-are ordered set params classes c h = those-are (λ listed. listed) set params classes c h
 
 -- a named class is below the number of parameters
-class-below : (treatments : List Treatment) (count : ℕ) (t : Simple) (k : ℕ) → Has (candidates treatments count t) (Named k) → k < count
+pub class-below : (treatments : List Treatment) (count : ℕ) (t : Simple) (k : ℕ) → Has (candidates treatments count t) (Named k) → k < count
 class-below treatments count (Range low high) k h = let r = Has-from_map Number (numbers_from low (high + 1 - low)) h in absurd (clash r.2)
   where
     clash : {n : ℕ} → Named k ≡ Number n → ⊥
@@ -140,14 +139,8 @@ all-below treatments count (p ∷ params) [] are k h = elim are [ ]
 all-below treatments count (p ∷ params) (_ ∷ classes) are k first = class-below treatments count p.over k are.0
 all-below treatments count (p ∷ params) (c ∷ classes) are k (later h) = all-below treatments count params classes are.1 k h
 
-treatment-at : (keeps : List Keep) (k i j : ℕ) (sets : List SetInfo) (info : SetInfo) → i ≡ k + j → slice_get sets j ≡ Some info → slice_get (treatments_of keeps k sets) j ≡ Some (treatment_of info.ordered info.size (kept_of keeps i))
-treatment-at keeps k i j [] info e g = absurd (cc)
-treatment-at keeps k i zero (x ∷ sets) info e g = let same : k ≡ i = omega arith in
-    ap (λ (n : ℕ). Some (treatment_of x.ordered x.size (kept_of keeps n))) same ∙ ap (λ (y : SetInfo). Some (treatment_of y.ordered y.size (kept_of keeps i))) (inner g)
-treatment-at keeps k i (suc j) (x ∷ sets) info e g = treatment-at keeps (k + 1) i j sets info (omega arith) g
-
 -- an abstract type whose listed parameters use at most 8 classes
-named-few : (b : Bool) (size : Option ℕ) (keep : Option (List ℕ)) → IfSome size (λ n. n ≤ 256) → (m : ℕ) → m ≤ 8 → (abstract_type (treatment_of b size keep) m).named ≤ 256
+pub named-few : (b : Bool) (size : Option ℕ) (keep : Option (List ℕ)) → IfSome size (λ n. n ≤ 256) → (m : ℕ) → m ≤ 8 → (abstract_type (treatment_of b size keep) m).named ≤ 256
 named-few true size keep s m l = omega (arith, l)
 named-few false (Some n) None s m l = s
 named-few false (Some n) (Some vars) s m l = omega (arith, l)
@@ -295,7 +288,7 @@ module _ (d : Design) (leaf : Leaf) (choice : Choice) (part : IsPart d leaf choi
           let t = Has-tested (same_element (element def.family own) x) k in
           let r = Has-option (Some (defined def x.indexes)) t.1 in
           let family = same_element-family (element def.family own) x t.0 in
-          subst (IsFit c) (inner r) (fits_def def (def-of entry.unit def (map_in-is (unit_in d entry.unit) def m)) x.indexes
+          subst (IsFit c) (some_is r) (fits_def def (def-of entry.unit def (map_in-is (unit_in d entry.unit) def m)) x.indexes
           (subst (λ family. AreOf w (over_of (slice_get d.families family)) x.indexes) (sym family) (also-places w _ x.indexes (element-members x h))))
 
   fits_instance : (u : Assumed) (demand : Demanded) → (oc : Option FlatClaim) → assumed o u ≡ oc → Has (instances o entry times w own oc) demand → IsFit c demand
@@ -349,8 +342,8 @@ module _ (d : Design) (leaf : Leaf) (choice : Choice) (part : IsPart d leaf choi
       let over = params_of (names_of d) (unit_in d entry.unit) in
       let params = params_at o entry classes in
       let front : AreMembers (map (places_in w) over ++ map (places_in w) split.added) params =
-      subst (λ xss. AreMembers xss params) (map_joined (places_in w) over split.added) (subst (λ ts. AreMembers (map (places_in w) ts) params) split.are_params params-are) in
-      subst (AreMembers (map (places_in w) over)) (ap (λ k. take k params) (map_long (places_in w) over)) (take_of (map (places_in w) over) (map (places_in w) split.added) params front)
+      subst (λ xss. AreMembers xss params) (map-append (places_in w) over split.added) (subst (λ ts. AreMembers (map (places_in w) ts) params) split.are_params params-are) in
+      subst (AreMembers (map (places_in w) over)) (ap (λ k. take k params) (length_map (places_in w) over)) (take_of (map (places_in w) over) (map (places_in w) split.added) params front)
 
   own-are : AreOf w (params_of (names_of d) (unit_in d entry.unit)) own
   own-are = places-are w (params_of (names_of d) (unit_in d entry.unit)) own own-members
@@ -422,12 +415,12 @@ module _ (d : Design) (leaf : Leaf) (choice : Choice) (part : IsPart d leaf choi
       let g = Has_get h in
       let t : Treatment = treatment_of info.ordered info.size (kept_of choice.keeps g.0) in
       let are = are_of (map (λ (p : Parameter). candidates (leaf_treatments o entry) (length (leaf_params entry)) p.over) (leaf_params entry)) classes (Has-from_filter _ _ case.is_case).0 in
-      let long : length (leaf_params entry) ≡ length leaf.params = map_long _ leaf.params in
+      let long : length (leaf_params entry) ≡ length leaf.params = length_map _ leaf.params in
       let some = case.few in
       record {
         keep = kept_of choice.keeps g.0;
         classes_used = used (named_among (listed_classes t g.0 (leaf_params entry) classes));
-        few = used-below 8 _ (λ k m. let l = all-below (leaf_treatments o entry) (length (leaf_params entry)) (leaf_params entry) classes are k
+        few = used_most 8 _ (λ k m. let l = all-below (leaf_treatments o entry) (length (leaf_params entry)) (leaf_params entry) classes are k
             (listed-are t g.0 (leaf_params entry) classes (Named k) (among-is (listed_classes t g.0 (leaf_params entry) classes) k m)) in omega (arith, l, long, some));
         is_type = by_name-at (record { named = 0; rest = beside.None }) d.sets (map (λ (set, t). type_in t set (leaf_params entry) classes) (numbered 0 (leaf_treatments o entry))) g.0 info
             (type_in t g.0 (leaf_params entry) classes) part.is_checked.are_apart g.1

@@ -2,6 +2,7 @@
 use Rattle.std.proofs.Common.{◌≡◌, ℕ, suc, ◌+◌, ◌-◌, List, [], ◌∷◌, ◌++◌, map, zip, length, append_assoc, refl, sym, ap, subst, ◌∙◌, inl, inr, arith}
 use Rattle.std.specs.Prelude.{IsTrue}
 use Rattle.std.specs.List.{flat_map, slice_get}
+use Rattle.law_lists.proofs.Lists.{length_map}
 use Rattle.smv_core.specs.declared.flat.Design.{Design}
 use Rattle.smv_core.specs.declared.flat.Param.{Param}
 use Rattle.smv_core.specs.declared.flat.FlatSplit.{FlatSplit}
@@ -13,7 +14,7 @@ use Rattle.smv_core.specs.declared.flat.FlatText.{FlatText}
 use Rattle.law_obligations.specs.Sets.{Has, first, later}
 use Rattle.law_obligations.specs.Covers.{IsIndexType}
 use Rattle.law_obligations.proofs.Members.{Has-uncons, Has-left, Has-from_map}
-use Rattle.law_obligations.proofs.OneOfEach.{Has-from_flat_map, map_long}
+use Rattle.law_obligations.proofs.OneOfEach.{Has-from_flat_map}
 use Rattle.law_obligations.specs.Outlines.{names_of, unit_in}
 use Rattle.law_obligations.specs.Units.{units_of}
 use Rattle.law_designs.specs.FlatKinds.{Vars, kind_of, kind_in}
@@ -114,7 +115,7 @@ module _ (d : Design) (read : IsRead d) (none : faults_of_splits d ≡ []) (kind
         let rest = in_chain own cuts (chain_follows d (length d.splits) (name_of d (unit_in d unit)) own) all refl c a.1 in
         let first_ones : (p : Param) → Has c.params p → IsIndexType p.over = λ p k. indexes p (subst (λ ps. Has ps p) (sym rest.1) (Has-left rest.0 k)) in
         let stand : KindsStandFor c.split (kinds_of c.split.bound) (kinds_of all) = (
-          map_long (λ p. kind_of p.over) c.split.bound,
+          length_map (λ p. kind_of p.over) c.split.bound,
           λ v k l e. subst (λ ps. slice_get (kinds_of ps) k ≡ slice_get (kinds_of c.split.bound) v) (sym rest.1)
               (stands d none c there.0 there.1 first_ones (kinded.in_place c.split there.0) rest.0 v k e),
         ) in
@@ -122,7 +123,7 @@ module _ (d : Design) (read : IsRead d) (none : faults_of_splits d ≡ []) (kind
         let kind = kinded.kinded c.split there.0 pair b.1 in
         let numbered = good.are_numbered pair b.1 in
         let all_fine : (x : Reading) → Has (readings pair.left) x → IsFine c.split x.var = λ x k. good.stand pair b.1 x k in
-        let long : length (kinds_of all) ≡ length all = map_long (λ p. kind_of p.over) all in
+        let long : length (kinds_of all) ≡ length all = length_map (λ p. kind_of p.over) all in
         let expr : g.expr ≡ renamed (number_in c.split (length (kinds_of all))) pair.left =
         ap (λ (g : Guard). g.expr) q.2 ∙ ap (λ n. renamed (number_in c.split n) pair.left) (sym long) in
         subst (IsKinded d (kinds_of all)) (sym expr) (

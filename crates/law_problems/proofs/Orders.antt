@@ -1,6 +1,9 @@
 -- Elements in order, and their bits.
-use Rattle.std.proofs.Common.{◌≡◌, ◌≢◌, ℕ, zero, suc, ◌+◌, ◌-◌, ◌<◌, ◌≤◌, List, [], ◌∷◌, ◌++◌, map, length, Bool, true, false, cond, filter, ◌&&◌, ◌||◌, refl, sym, ap, subst, ◌∙◌, ◌⊎◌, inl, inr, Option, Some, None, nat_eq, nat_lt, arith}
+use Rattle.std.proofs.Common.{◌≡◌, ◌≢◌, ℕ, zero, suc, ◌+◌, ◌-◌, ◌≤◌, List, [], ◌∷◌, ◌++◌, map, length, Bool, true, false, cond, filter, ◌&&◌, ◌||◌, refl, sym, ap, subst, ◌∙◌, ◌⊎◌, inl, inr, Option, Some, None, nat_eq, nat_lt, arith}
 use Rattle.std.specs.List.{flat_map, slice_get}
+use Rattle.std.proofs.lemmas.Bool.{or_cases}
+use Rattle.law_lists.proofs.Numbers.{nat_eq-is, nat_lt-true, nat_lt-is}
+use Rattle.law_lists.proofs.Booleans.{either_left, either_right, and_both, left_of, right_of}
 use Rattle.smv_core.specs.Values.{Name, Value, number, scalar, ordinal, Sizes, values_of, numbers_from}
 use Rattle.smv_core.specs.Values as values
 use Rattle.smv_core.specs.FlatMeaning.{set_type}
@@ -12,9 +15,8 @@ use Rattle.law_obligations.specs.Sets.{Has, first, later, one_of_each}
 use Rattle.law_obligations.specs.Places.{Place, named, World, named_in}
 use Rattle.law_obligations.specs.Covers.{IsIndexType}
 use Rattle.law_obligations.specs.Soundness.{over_of}
-use Rattle.law_obligations.proofs.Tests.{or_left, or_right, or_cases, and_both, left_of, right_of}
 use Rattle.law_obligations.proofs.Members.{Has-cases, Has-uncons, Has-from_map}
-use Rattle.law_obligations.proofs.Same.{nat_eq-is, nat_eq-itself}
+use Rattle.law_obligations.proofs.Same.{nat_eq-itself}
 use Rattle.law_obligations.proofs.Spots.{numbers-Has}
 use Rattle.law_obligations.proofs.OneOfEach.{Has-from_flat_map, get_Has}
 use Rattle.law_obligations.specs.Outlines.{Entry, Outline}
@@ -59,15 +61,9 @@ sorted-filter {X} before p (x ∷ xs) s = at (p x) (sorted-filter before p xs s.
     at true t = (λ y h. s.0 y (Has-from_filter p xs h).0, t)
     at false t = t
 
-less : (a b : ℕ) → a < b → nat_lt a b ≡ true
-less a b l = grind arith
-
-below : (a b : ℕ) → nat_lt a b ≡ true → a < b
-below a b e = grind arith
-
 sorted-numbers : (low n : ℕ) → AreSorted nat_lt (numbers_from low n)
 sorted-numbers low zero = tt
-sorted-numbers low (suc n) = (λ k h. let b = numbers-Has (low + 1) n k h in let l = b.0 in less low k (omega (arith, l)), sorted-numbers (low + 1) n)
+sorted-numbers low (suc n) = (λ k h. let b = numbers-Has (low + 1) n k h in let l = b.0 in nat_lt-true low k (omega (arith, l)), sorted-numbers (low + 1) n)
 
 -- two sorted lists with the same members are one list, where no two stand before each other
 one_list : {X : Type 0} (before : X → X → Bool) → ((x y : X) → before x y ≡ true → before y x ≡ true → ⊥) → (xs ys : List X) → AreSorted before xs → AreSorted before ys →
@@ -107,11 +103,11 @@ one_list {X} before apart (x ∷ xs) (y ∷ ys) s t there back =
 both_ways : (a b : ℕ) (r s : Bool) → (nat_lt a b || (nat_eq a b && r)) ≡ true → (nat_lt b a || (nat_eq b a && s)) ≡ true → (r ≡ true) × (s ≡ true)
 both_ways a b r s e f = elim (or_cases (nat_lt a b) (nat_eq a b && r) e) [
   | inl l ↦ elim (or_cases (nat_lt b a) (nat_eq b a && s) f) [
-    | inl k ↦ let x = below a b l in let y = below b a k in absurd (omega (arith, x, y))
-    | inr k ↦ let x = below a b l in let y = nat_eq-is b a (left_of (nat_eq b a) s k) in absurd (omega (arith, x, y))
+    | inl k ↦ let x = nat_lt-is a b l in let y = nat_lt-is b a k in absurd (omega (arith, x, y))
+    | inr k ↦ let x = nat_lt-is a b l in let y = nat_eq-is b a (left_of (nat_eq b a) s k) in absurd (omega (arith, x, y))
   ]
   | inr l ↦ elim (or_cases (nat_lt b a) (nat_eq b a && s) f) [
-    | inl k ↦ let x = nat_eq-is a b (left_of (nat_eq a b) r l) in let y = below b a k in absurd (omega (arith, x, y))
+    | inl k ↦ let x = nat_eq-is a b (left_of (nat_eq a b) r l) in let y = nat_lt-is b a k in absurd (omega (arith, x, y))
     | inr k ↦ (right_of (nat_eq a b) r l, right_of (nat_eq b a) s k)
   ]
 ]
@@ -136,14 +132,14 @@ AreAllSorted (ps ∷ pss) = AreSorted comes ps × AreAllSorted pss
 sorted-choices : (pss : List (List Place)) → AreAllSorted pss → AreSorted are_before (one_of_each pss)
 sorted-choices [] s = (λ y h. elim h [ ], tt)
 sorted-choices (ps ∷ pss) s = sorted-flat_map comes are_before (λ p. map (λ qs. p ∷ qs) (one_of_each pss))
-    (λ p. sorted-map are_before are_before (λ qs. p ∷ qs) (λ qs rs e. or_right (nat_lt (number_at p) (number_at p)) (and_both (nat_eq-itself (number_at p)) e)) (one_of_each pss) (sorted-choices pss s.1))
+    (λ p. sorted-map are_before are_before (λ qs. p ∷ qs) (λ qs rs e. either_right (nat_lt (number_at p) (number_at p)) (and_both (nat_eq-itself (number_at p)) e)) (one_of_each pss) (sorted-choices pss s.1))
     across ps s.0
   where
     across : (p q : Place) → comes p q ≡ true → (ys zs : List Place) → Has (map (λ qs. p ∷ qs) (one_of_each pss)) ys → Has (map (λ qs. q ∷ qs) (one_of_each pss)) zs → are_before ys zs ≡ true
     across p q e ys zs h k =
         let a = Has-from_map (λ qs. p ∷ qs) (one_of_each pss) h in
         let b = Has-from_map (λ qs. q ∷ qs) (one_of_each pss) k in
-        subst (λ ys. are_before ys zs ≡ true) (sym a.2) (subst (λ zs. are_before (p ∷ a.0) zs ≡ true) (sym b.2) (or_left (nat_eq (number_at p) (number_at q) && are_before a.0 b.0) e))
+        subst (λ ys. are_before ys zs ≡ true) (sym a.2) (subst (λ zs. are_before (p ∷ a.0) zs ≡ true) (sym b.2) (either_left (nat_eq (number_at p) (number_at q) && are_before a.0 b.0) e))
 
 sorted-values : (f : ℕ → Value) → ((k : ℕ) → number_of (f k) ≡ k) → (low n : ℕ) → AreSorted comes (map named (map f (numbers_from low n)))
 sorted-values f is low n = sorted-map value_comes comes named (λ u v e. e) (map f (numbers_from low n))
@@ -175,7 +171,7 @@ module _ (w : World) (indexed : AreIndexed w) where
   over_indexed (Some f) k e t h = indexed f (get_Has w.classes.families k f e) t h
 
   sorted-family : (family : ℕ) → AreSorted is_before (elements_of w family)
-  sorted-family family = sorted-map are_before is_before (element family) (λ ps qs e. or_right (nat_lt family family) (and_both (nat_eq-itself family) e)) _
+  sorted-family family = sorted-map are_before is_before (element family) (λ ps qs e. either_right (nat_lt family family) (and_both (nat_eq-itself family) e)) _
       (sorted-choices _ (all_sorted (over_of (slice_get w.classes.families family)) (over_indexed (slice_get w.classes.families family) family refl)))
 
   sorted-elements : AreSorted is_before (elements w)
@@ -185,7 +181,7 @@ module _ (w : World) (indexed : AreIndexed w) where
       family_of family x h = ap (λ (x : AbsElement). x.family) (Has-from_map (element family) (one_of_each (map (named_in w) (over_of (slice_get w.classes.families family)))) h).2
 
       across : (k l : ℕ) → nat_lt k l ≡ true → (x y : AbsElement) → Has (elements_of w k) x → Has (elements_of w l) y → is_before x y ≡ true
-      across k l e x y h i = or_left (nat_eq x.family y.family && are_before x.indexes y.indexes)
+      across k l e x y h i = either_left (nat_eq x.family y.family && are_before x.indexes y.indexes)
           (subst (λ k. nat_lt k y.family ≡ true) (sym (family_of k x h)) (subst (λ l. nat_lt k l ≡ true) (sym (family_of l y i)) e))
 
   as_sorted : (xs : List AbsElement) → AreInOrder xs → AreSorted is_before xs

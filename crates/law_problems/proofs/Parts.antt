@@ -2,6 +2,8 @@
 use Rattle.std.proofs.Common.{◌≡◌, ◌≤◌, ℕ, zero, suc, ◌+◌, List, [], ◌∷◌, ◌++◌, map, filter, flat_map, length, slice_get, Option, Some, None, is_some, Bool, true, false, not, ◌&&◌, cond, nat_eq, nat_le, nat_lt, refl, sym, ap, subst, ◌∙◌, arith}
 use Rattle.std.specs.Prelude.{IsTrue, IfSome, if◌then◌else◌}
 use Rattle.std.specs.List.{list_all}
+use Rattle.std.proofs.lemmas.Bool.{and_parts, and_from}
+use Rattle.law_lists.proofs.Numbers.{nat_eq-is}
 use Rattle.smv_core.specs.Values.{Name}
 use Rattle.smv_core.specs.Walk.{same_kind}
 use Rattle.smv_core.specs.declared.fault.Fault.{Fault}
@@ -23,19 +25,17 @@ use Rattle.smv_core.specs.declared.flat.DefBody.{DefBody, Nothing, If, First, Fo
 use Rattle.smv_core.specs.declared.flat.DefBody as flat
 use Rattle.smv_core.specs.declared.flat.Def.{Def}
 use Rattle.smv_core.specs.declared.flat.FlatText.{FlatText}
-use Rattle.smv_mentions.specs.FirstFault.{comes_before, earlier, first_of}
 use Rattle.law_designs.specs.WholeText.{is_one_layer, claims_of}
 use Rattle.law_designs.specs.Standing.{count, Statement, statements_from, statements_of}
 use Rattle.law_designs.specs.Definitions.{is_nothing, joined, first_part, flat_of, flats_of, set_of, part_of, Head, def_of, first_heads, splits_of, design_of_flat_text}
 use Rattle.law_designs.specs.FlatKinds.{Kind, number, takes, assigns, element, Vars, kind_of, inside, bound_by, are_binders, is_binder, is_index_type, is_type, is_size, kind_in, value_in, keeps_kinds, all_keep_kinds, is_kinded_item, is_kinded_family, is_kinded}
-use Rattle.law_designs.proofs.Operands.{both, pair, all-some, takes-some, each-some, element-some}
+use Rattle.law_designs.proofs.Operands.{all-some, takes-some, each-some, element-some}
 use Rattle.law_designs.specs.SetFaults.{operand, faults_in, faults_of, faults_of_each, item_faults, faults_of_sets}
 use Rattle.law_designs.specs.SetOperands.{wanted_at, wanted_of}
-use Rattle.law_designs.proofs.Faultless.{empty-both}
+use Rattle.law_designs.proofs.Faultless.{empty-both, no_fault-in}
 use Rattle.law_obligations.specs.Sets.{Has, first, later}
 use Rattle.law_obligations.specs.Covers.{IsIndexType}
 use Rattle.law_obligations.proofs.Members.{Has-from_map, all-each}
-use Rattle.law_obligations.proofs.Same.{nat_eq-is}
 use Rattle.law_obligations.proofs.Lookups.{Has-from_filter}
 use Rattle.smv_problem.specs.WellFormed.{keeps_orders, is_part, are_parts}
 use Rattle.law_problems.specs.Kinded.{kinds_of, IsKinded}
@@ -48,19 +48,6 @@ use mathlib.Core.Former.{Count}
 unfoldable boxes : Unit {0}
 unfolding Rattle.smv_core.specs.declared.flat.DefBody.TheBlock.hidden-the_row-DefBody-0 Rattle.smv_core.specs.declared.flat.DefBody.TheBlock.shape-the_row-DefBody-0 denote.Hole.Carrier.hidden
 boxes = tt
-
--- no first fault, no fault
-none-left : (faults : List Fault) → first_of faults ≡ None → faults ≡ []
-none-left [] e = refl
-none-left (f ∷ faults) e = absurd (by_rest (first_of faults) e)
-  where
-    by_order : (b : Bool) (g : Fault) → cond b (Some g) (Some f) ≡ None → ⊥
-    by_order true g e = cc (e)
-    by_order false g e = cc (e)
-
-    by_rest : (o : Option Fault) → earlier f o ≡ None → ⊥
-    by_rest None e = cc (e)
-    by_rest (Some g) e = by_order (comes_before g f) g e
 
 as-true : (b : Bool) → b ≡ true → IsTrue b
 as-true b e = e
@@ -103,7 +90,7 @@ module _ (flat_text : FlatText) (families_kept : list_all (is_kinded_family flat
 
     part-row : (vars : Vars) (k : _) (row : Row_of-DefBody k) → EachIsPart vars (items-the_row-DefBody k row) → are_parts (bare flat_text) family vars row ≡ true
     part-row vars k end_of-DefBody h = refl
-    part-row vars k (more_of-DefBody p rest) h = pair _ _ (h p first) (part-row vars _ rest (λ q i. h q (later i)))
+    part-row vars k (more_of-DefBody p rest) h = and_from _ _ (h p first) (part-row vars _ rest (λ q i. h q (later i)))
 
     abbrev rows_of : DefBody → (k : Count) × Row_of-DefBody k
     rows_of (First' shape row) = (_, row)
@@ -114,11 +101,11 @@ module _ (flat_text : FlatText) (families_kept : list_all (is_kinded_family flat
 
     part-If : (vars : Vars) (test : FlatExpr) (p q : DefBody) → takes number (kind_in (bare flat_text) vars test) ≡ true → keeps_orders (bare flat_text) vars test ≡ true → IsPart vars p → IsPart vars q → IsPart vars (If test p q)
     unfolding boxes
-    part-If vars test p q t o h k = pair _ _ (pair _ _ t o) (pair _ _ h k)
+    part-If vars test p q t o h k = and_from _ _ (and_from _ _ t o) (and_from _ _ h k)
 
     part-Forall : (vars : Vars) (var : ℕ) (over : Simple) (p : DefBody) → is_binder (bare flat_text) vars var over ≡ true → IsPart (inside vars over) p → IsPart vars (Forall var over p)
     unfolding boxes
-    part-Forall vars var over p b h = pair _ _ b h
+    part-Forall vars var over p b h = and_from _ _ b h
 
     part-joined : (vars : Vars) (parts : List DefBody) → EachIsPart vars parts → IsPart vars (joined parts)
     part-joined vars [] h = refl
@@ -152,7 +139,7 @@ module _ (flat_text : FlatText) (families_kept : list_all (is_kinded_family flat
         let named : assigns (element (slice_get flat_text.families family) (map (kind_in (bare flat_text) vars) left)) (value_in (bare flat_text) vars value) ≡ true =
         ap (λ us. assigns (element (slice_get flat_text.families family) us) (value_in (bare flat_text) vars value)) (same_list flat_text vars left)
         ∙ (ap (λ u. assigns (element (slice_get flat_text.families family) (map (kind_in flat_text vars) left)) u) (same_value flat_text vars value) ∙ h) in
-        pair _ _ named (pair _ _ (left-orders flat_text families_kept vars all left some n) (value-orders flat_text families_kept vars all value g.1 m))
+        and_from _ _ named (and_from _ _ (left-orders flat_text families_kept vars all left some n) (value-orders flat_text families_kept vars all value g.1 m))
 
     module _ (kind : AssignKind) where
       mutual
@@ -175,8 +162,8 @@ module _ (flat_text : FlatText) (families_kept : list_all (is_kinded_family flat
             by_test true false e n m = refl
             by_test false t e n m = refl
         part_of_act vars all k (If' test l (more_of-FlatStmt left end_of-FlatStmt) r (more_of-FlatStmt right end_of-FlatStmt)) h n =
-            let g : (takes number (kind_in flat_text vars test) ≡ true) × ((keeps_kinds flat_text vars left && keeps_kinds flat_text vars right) ≡ true) = both _ _ h in
-            let s : (keeps_kinds flat_text vars left ≡ true) × (keeps_kinds flat_text vars right ≡ true) = both _ _ g.1 in
+            let g : (takes number (kind_in flat_text vars test) ≡ true) × ((keeps_kinds flat_text vars left && keeps_kinds flat_text vars right) ≡ true) = and_parts _ _ h in
+            let s : (keeps_kinds flat_text vars left ≡ true) × (keeps_kinds flat_text vars right ≡ true) = and_parts _ _ g.1 in
             let a : ((faults_in flat_text (value_in flat_text) vars test ++ faults vars left) ≡ []) × (faults vars right ≡ []) = empty-both _ _ n in
             let b : (faults_in flat_text (value_in flat_text) vars test ≡ []) × (faults vars left ≡ []) = empty-both _ _ a.0 in
             part-cond vars (is_nothing (flat_of kind family k left) && is_nothing (flat_of kind family (k + count left) right)) Nothing (If test (flat_of kind family k left) (flat_of kind family (k + count left) right)) refl
@@ -185,7 +172,7 @@ module _ (flat_text : FlatText) (families_kept : list_all (is_kinded_family flat
             (part_of_act vars all k left s.0 b.1) (part_of_act vars all (k + count left) right s.1 a.1))
         part_of_act vars all k (Block' shape parts) h n = part-first_part vars (flats_of kind family k parts) (parts_of_acts vars all k parts h n)
         part_of_act vars all k (Default' l (more_of-FlatStmt left end_of-FlatStmt) r (more_of-FlatStmt right end_of-FlatStmt)) h n =
-            let s : (keeps_kinds flat_text vars left ≡ true) × (keeps_kinds flat_text vars right ≡ true) = both _ _ h in
+            let s : (keeps_kinds flat_text vars left ≡ true) × (keeps_kinds flat_text vars right ≡ true) = and_parts _ _ h in
             let b : (faults vars left ≡ []) × (faults vars right ≡ []) = empty-both _ _ n in
             part-first_part vars (flat_of kind family (k + count left) right ∷ flat_of kind family k left ∷ [])
             (two (flat_of kind family (k + count left) right) (flat_of kind family k left) (part_of_act vars all (k + count left) right s.1 b.1) (part_of_act vars all k left s.0 b.0))
@@ -195,7 +182,7 @@ module _ (flat_text : FlatText) (families_kept : list_all (is_kinded_family flat
             two p q x y _ (later first) = y
             two p q x y r (later (later i)) = elim i [ ]
         part_of_act vars all k (Forall' var over shape (more_of-FlatStmt body end_of-FlatStmt)) h n =
-            let g : (is_binder flat_text vars var over ≡ true) × (keeps_kinds flat_text (inside vars over) body ≡ true) = both _ _ h in
+            let g : (is_binder flat_text vars var over ≡ true) × (keeps_kinds flat_text (inside vars over) body ≡ true) = and_parts _ _ h in
             part-cond vars (is_nothing (flat_of kind family k body)) Nothing (Forall var over (flat_of kind family k body)) refl
             (part-Forall vars var over (flat_of kind family k body) (same_binder flat_text vars var over ∙ g.0) (part_of_act (inside vars over) (inside-there flat_text vars all var over g.0) k body g.1 n))
 
@@ -203,7 +190,7 @@ module _ (flat_text : FlatText) (families_kept : list_all (is_kinded_family flat
             EachIsPart vars (flats_of kind family k parts)
         parts_of_acts vars all k end_of-FlatStmt h n p i = elim i [ ]
         parts_of_acts vars all k (more_of-FlatStmt part rest) h n p i =
-            let g : (keeps_kinds flat_text vars part ≡ true) × (all_keep_kinds flat_text vars rest ≡ true) = both _ _ h in
+            let g : (keeps_kinds flat_text vars part ≡ true) × (all_keep_kinds flat_text vars rest ≡ true) = and_parts _ _ h in
             let a : (faults vars part ≡ []) × (faults_of_each flat_text (value_in flat_text) vars rest ≡ []) = empty-both _ _ n in
             one_of (flat_of kind family k part) (flats_of kind family (k + count part) rest) (part_of_act vars all k part g.0 a.0) (parts_of_acts vars all (k + count part) rest g.1 a.1) p i
           where
@@ -215,8 +202,8 @@ module _ (flat_text : FlatText) (families_kept : list_all (is_kinded_family flat
 
   binders-there : (vars : Vars) (params : List Param) → are_binders flat_text vars params ≡ true → (p : Param) → Has params p → is_index_type flat_text p.over ≡ true
   binders-there vars [] h p i = elim i [ ]
-  binders-there vars (q ∷ params) h _ first = (both (nat_eq q.var (length vars)) (is_index_type flat_text q.over) (both (is_binder flat_text vars q.var q.over) (are_binders flat_text (inside vars q.over) params) h).0).1
-  binders-there vars (q ∷ params) h p (later i) = binders-there (inside vars q.over) params (both (is_binder flat_text vars q.var q.over) (are_binders flat_text (inside vars q.over) params) h).1 p i
+  binders-there vars (q ∷ params) h _ first = (and_parts (nat_eq q.var (length vars)) (is_index_type flat_text q.over) (and_parts (is_binder flat_text vars q.var q.over) (are_binders flat_text (inside vars q.over) params) h).0).1
+  binders-there vars (q ∷ params) h p (later i) = binders-there (inside vars q.over) params (and_parts (is_binder flat_text vars q.var q.over) (are_binders flat_text (inside vars q.over) params) h).1 p i
 
   bound-there : (params : List Param) → are_binders flat_text [] params ≡ true → AreThere flat_text (bound_by flat_text params)
   bound-there params h k i =
@@ -231,11 +218,11 @@ module _ (flat_text : FlatText) (families_kept : list_all (is_kinded_family flat
   binder-place vars [] h v p e = absurd (cc (e))
   binder-place vars (q ∷ params) h zero p e =
       let same : q ≡ p = cc (e) in
-      let at = nat_eq-is q.var (length vars) (both (nat_eq q.var (length vars)) (is_index_type flat_text q.over) (both (is_binder flat_text vars q.var q.over) (are_binders flat_text (inside vars q.over) params) h).0).0 in
+      let at = nat_eq-is q.var (length vars) (and_parts (nat_eq q.var (length vars)) (is_index_type flat_text q.over) (and_parts (is_binder flat_text vars q.var q.over) (are_binders flat_text (inside vars q.over) params) h).0).0 in
       let var : p.var ≡ q.var = ap (λ (p : Param). p.var) (sym same) in
       omega (arith, at, var)
   binder-place vars (q ∷ params) h (suc v) p e =
-      let r = binder-place (inside vars q.over) params (both (is_binder flat_text vars q.var q.over) (are_binders flat_text (inside vars q.over) params) h).1 v p e in
+      let r = binder-place (inside vars q.over) params (and_parts (is_binder flat_text vars q.var q.over) (are_binders flat_text (inside vars q.over) params) h).1 v p e in
       let l = length-inside vars q.over in
       omega (arith, r, l)
 
@@ -261,14 +248,14 @@ module _ (flat_text : FlatText) (families_kept : list_all (is_kinded_family flat
     claim-kept : (c : Claim) → Has (design_of_flat_text flat_text).claims c → IsTrue (takes number (kind_in (bare flat_text) (kinds_of c.params) c.body)) × IsTrue (keeps_orders (bare flat_text) (kinds_of c.params) c.body)
     claim-kept c i =
         let there = claim-item flat_text.items c i in
-        let g : (are_binders flat_text [] c.params ≡ true) × (takes number (kind_in flat_text (bound_by flat_text c.params) c.body) ≡ true) = both _ _ (all-each (is_kinded_item flat_text) items_kept there) in
+        let g : (are_binders flat_text [] c.params ≡ true) × (takes number (kind_in flat_text (bound_by flat_text c.params) c.body) ≡ true) = and_parts _ _ (all-each (is_kinded_item flat_text) items_kept there) in
         let free : faults_in flat_text (value_in flat_text) (bound_by flat_text c.params) c.body ≡ [] = none-each (item_faults flat_text (value_in flat_text)) flat_text.items none there in (
           as-true _ (ap (takes number) (same flat_text (kinds_of c.params) c.body) ∙ g.1),
           as-true _ (orders flat_text families_kept (bound_by flat_text c.params) (bound-there c.params g.0) c.body (takes-some number (kind_in flat_text (bound_by flat_text c.params) c.body) g.1) free),
         )
 
-    split-kept : (s : FlatSplit) → Has (design_of_flat_text flat_text).splits s → (are_binders flat_text [] s.bound ≡ true) × (list_all (λ (pair : FlatPair). is_some (kind_in flat_text (bound_by flat_text s.bound) pair.left)) s.pairs ≡ true)
-    split-kept s i = both _ _ (all-each (is_kinded_item flat_text) items_kept (split-item flat_text.items s i))
+    split-kept : (s : FlatSplit) → Has (design_of_flat_text flat_text).splits s → (are_binders flat_text [] s.bound ≡ true) × (list_all (λ (and_from : FlatPair). is_some (kind_in flat_text (bound_by flat_text s.bound) and_from.left)) s.pairs ≡ true)
+    split-kept s i = and_parts _ _ (all-each (is_kinded_item flat_text) items_kept (split-item flat_text.items s i))
 
     some-kind : (o : Option Kind) → is_some o ≡ true → (kind : Kind) × (o ≡ Some kind)
     some-kind None h = absurd (cc (h))
@@ -277,10 +264,10 @@ module _ (flat_text : FlatText) (families_kept : list_all (is_kinded_family flat
     pair-kept : (s : FlatSplit) → Has (design_of_flat_text flat_text).splits s → (eq : FlatPair) → Has s.pairs eq → IsKinded (design_of_flat_text flat_text) (kinds_of s.bound) eq.left
     pair-kept s i eq j =
         let g = split-kept s i in
-        let some : is_some (kind_in flat_text (bound_by flat_text s.bound) eq.left) ≡ true = all-each (λ (pair : FlatPair). is_some (kind_in flat_text (bound_by flat_text s.bound) pair.left)) g.1 j in
+        let some : is_some (kind_in flat_text (bound_by flat_text s.bound) eq.left) ≡ true = all-each (λ (and_from : FlatPair). is_some (kind_in flat_text (bound_by flat_text s.bound) and_from.left)) g.1 j in
         let kind = some-kind (kind_in flat_text (bound_by flat_text s.bound) eq.left) some in
-        let all_free : flat_map (λ (pair : FlatPair). faults_in flat_text (value_in flat_text) (bound_by flat_text s.bound) pair.left) s.pairs ≡ [] = none-each (item_faults flat_text (value_in flat_text)) flat_text.items none (split-item flat_text.items s i) in
-        let free : faults_in flat_text (value_in flat_text) (bound_by flat_text s.bound) eq.left ≡ [] = none-each (λ (pair : FlatPair). faults_in flat_text (value_in flat_text) (bound_by flat_text s.bound) pair.left) s.pairs all_free j in
+        let all_free : flat_map (λ (and_from : FlatPair). faults_in flat_text (value_in flat_text) (bound_by flat_text s.bound) and_from.left) s.pairs ≡ [] = none-each (item_faults flat_text (value_in flat_text)) flat_text.items none (split-item flat_text.items s i) in
+        let free : faults_in flat_text (value_in flat_text) (bound_by flat_text s.bound) eq.left ≡ [] = none-each (λ (and_from : FlatPair). faults_in flat_text (value_in flat_text) (bound_by flat_text s.bound) and_from.left) s.pairs all_free j in
         (kind.0, same flat_text (kinds_of s.bound) eq.left ∙ kind.1, as-true _ (orders flat_text families_kept (bound_by flat_text s.bound) (bound-there s.bound g.0) eq.left some free))
 
 -- what the rules of kinds say of the parts of a flattened text
@@ -291,9 +278,9 @@ record Kept (flat_text : FlatText) : Type 0 where
 
 kept : (flat_text : FlatText) → is_kinded flat_text ≡ true → Kept flat_text
 kept flat_text e =
-    let a = both (list_all (λ (info : SetInfo). is_size info.size) flat_text.sets) (list_all (λ (names : List Name). nat_lt 0 (length names)) flat_text.enums && (list_all (is_kinded_family flat_text) flat_text.families && list_all (is_kinded_item flat_text) flat_text.items)) e in
-    let b = both (list_all (λ (names : List Name). nat_lt 0 (length names)) flat_text.enums) (list_all (is_kinded_family flat_text) flat_text.families && list_all (is_kinded_item flat_text) flat_text.items) a.1 in
-    let c = both (list_all (is_kinded_family flat_text) flat_text.families) (list_all (is_kinded_item flat_text) flat_text.items) b.1 in
+    let a = and_parts (list_all (λ (info : SetInfo). is_size info.size) flat_text.sets) (list_all (λ (names : List Name). nat_lt 0 (length names)) flat_text.enums && (list_all (is_kinded_family flat_text) flat_text.families && list_all (is_kinded_item flat_text) flat_text.items)) e in
+    let b = and_parts (list_all (λ (names : List Name). nat_lt 0 (length names)) flat_text.enums) (list_all (is_kinded_family flat_text) flat_text.families && list_all (is_kinded_item flat_text) flat_text.items) a.1 in
+    let c = and_parts (list_all (is_kinded_family flat_text) flat_text.families) (list_all (is_kinded_item flat_text) flat_text.items) b.1 in
     record { sizes = a.0; families = c.0; items = c.1 }
 
 index-type : (flat_text : FlatText) (t : Simple) → is_index_type flat_text t ≡ true → IsIndexType t
@@ -304,18 +291,18 @@ index-type flat_text (Set set) h = tt
 pub designs_are_fit : DesignsAreFit
 designs_are_fit flat_text e none distinct =
     let k = kept flat_text e in
-    let free = none-left (faults_of_sets flat_text) none in
+    let free = no_fault-in (faults_of_sets flat_text) none in
     record {
       definitions = def-kept flat_text k.families k.items free;
       claims = claim-kept flat_text k.families k.items free;
       constants = distinct;
-      indexes = λ f i t j. index-type flat_text t (all-each (is_index_type flat_text) (both (list_all (is_index_type flat_text) f.over) (is_type flat_text f.value) (all-each (is_kinded_family flat_text) k.families i)).0 j);
+      indexes = λ f i t j. index-type flat_text t (all-each (is_index_type flat_text) (and_parts (list_all (is_index_type flat_text) f.over) (is_type flat_text f.value) (all-each (is_kinded_family flat_text) k.families i)).0 j);
     }
 
 pub splits_are_kinded : SplitsAreKinded
 splits_are_kinded flat_text e none =
     let k = kept flat_text e in
-    let free = none-left (faults_of_sets flat_text) none in
+    let free = no_fault-in (faults_of_sets flat_text) none in
     record {
       in_place = λ s i v p at. let place = binder-place flat_text k.families [] s.bound (split-kept flat_text k.families k.items free s i).0 v p at in omega (arith, place);
       kinded = pair-kept flat_text k.families k.items free;
@@ -323,7 +310,7 @@ splits_are_kinded flat_text e none =
 
 few : (size : Option ℕ) → is_size size ≡ true → IfSome size (λ n. n ≤ 256)
 few None e = tt
-few (Some n) e = le-true n 256 (both (nat_lt 0 n) (nat_le n 256) e).1
+few (Some n) e = le-true n 256 (and_parts (nat_lt 0 n) (nat_le n 256) e).1
   where
     le-true : (a b : ℕ) → nat_le a b ≡ true → a ≤ b
     le-true a b e = grind arith

@@ -1,10 +1,11 @@
 -- What is put is added.
 use Rattle.std.proofs.Common.{◌≡◌, List, [], ◌∷◌, ◌++◌, map, Bool, true, false, ◌||◌, if◌then◌else◌, refl, sym, ap, subst, ◌∙◌, inl, inr}
+use Rattle.std.proofs.lemmas.List.{map-append, append-nil}
+use Rattle.law_lists.proofs.Lists.{append_again}
 use Rattle.smv_core.specs.declared.flat.Element.{Element}
 use Rattle.law_obligations.specs.Sets.{Has, first, later}
 use Rattle.law_obligations.specs.Places.{World}
 use Rattle.law_obligations.proofs.Members.{Has-left, Has-right, Has-cases, Has-uncons, Has-from_map, any-some}
-use Rattle.law_obligations.proofs.OneOfEach.{map_joined, joined_again}
 use Rattle.law_obligations.specs.Cones.{AbsElement, elements}
 use Rattle.law_problems.specs.Order.{AreIndexed}
 use Rattle.law_problems.proofs.Writing.{elements_written}
@@ -15,10 +16,6 @@ use Rattle.smv_elements.proofs.Keys.{same-is, same-itself}
 use Rattle.smv_elements.proofs.Puts.{all-full}
 use Rattle.law_problems.specs.Adds.{Adds}
 use Rattle.law_problems.specs.FoundLaws.{AreOf}
-
-nothing-behind : {X : Type 0} (xs : List X) → xs ++ [] ≡ xs
-nothing-behind [] = refl
-nothing-behind (x ∷ xs) = ap (λ ys. x ∷ ys) (nothing-behind xs)
 
 -- one more element that is none of these
 apart-more : (xs : List AbsElement) (y : AbsElement) → AreApartElements xs → (Has xs y → ⊥) → AreApartElements (xs ++ y ∷ [])
@@ -57,8 +54,8 @@ module _ (w : World) (indexed : AreIndexed w) where
   added found [] of_found of_ys apart = (
     [],
     record {
-      are_put = ap (map written_element) (sym (nothing-behind found));
-      are_apart = subst AreApartElements (sym (nothing-behind found)) apart;
+      are_put = ap (map written_element) (sym (append-nil found));
+      are_apart = subst AreApartElements (sym (append-nil found)) apart;
       fresh = λ x h. elim h [ ];
       all = λ few x h. elim h [ ];
     },
@@ -70,10 +67,10 @@ module _ (w : World) (indexed : AreIndexed w) where
       full f = (
         [],
         record {
-          are_put = all-full (map written_element found) (map written_element (y ∷ ys)) f ∙ ap (map written_element) (sym (nothing-behind found));
-          are_apart = subst AreApartElements (sym (nothing-behind found)) apart;
+          are_put = all-full (map written_element found) (map written_element (y ∷ ys)) f ∙ ap (map written_element) (sym (append-nil found));
+          are_apart = subst AreApartElements (sym (append-nil found)) apart;
           fresh = λ x h. elim h [ ];
-          all = λ few. absurd (both f (ap (λ xs. is_full (map written_element xs)) (sym (nothing-behind found)) ∙ few));
+          all = λ few. absurd (both f (ap (λ xs. is_full (map written_element xs)) (sym (append-nil found)) ∙ few));
         },
       )
         where
@@ -101,10 +98,10 @@ module _ (w : World) (indexed : AreIndexed w) where
             | inr k ↦ elim (Has-uncons k) [ inl e ↦ subst (Has (elements w)) (sym e) (of_ys y first) | inr m ↦ elim m [ ] ]
           ] in
           let r = goes (found ++ y ∷ []) of_more (apart-more found y apart none) in
-          let joined : (found ++ y ∷ []) ++ r.0 ≡ found ++ y ∷ r.0 = joined_again found r.0 y in (
+          let joined : (found ++ y ∷ []) ++ r.0 ≡ found ++ y ∷ r.0 = append_again found r.0 y in (
             y ∷ r.0,
             record {
-              are_put = ap (λ l. put_all l (map written_element ys)) (same ∙ sym (map_joined written_element found (y ∷ []))) ∙ (r.1.are_put ∙ ap (map written_element) joined);
+              are_put = ap (λ l. put_all l (map written_element ys)) (same ∙ sym (map-append written_element found (y ∷ []))) ∙ (r.1.are_put ∙ ap (map written_element) joined);
               are_apart = subst AreApartElements joined r.1.are_apart;
               fresh = λ x k. elim (Has-uncons k) [ inl e ↦ subst (Has (y ∷ ys)) (sym e) first | inr l ↦ later (r.1.fresh x l) ];
               all = λ few x k. elim (Has-uncons k) [

@@ -1,23 +1,22 @@
 -- An expression whose variables have other numbers has the same kind, and keeps the same orders, where these numbers have the same kinds.
-use Rattle.std.proofs.Common.{◌≡◌, ℕ, suc, ◌+◌, ◌-◌, ◌<◌, ◌≤◌, List, [], ◌∷◌, ◌++◌, length, refl, sym, ap, subst, ◌∙◌, ◌⊎◌, arith, inl, inr, Some, true, not, ◌&&◌, ◌||◌, nat_eq, nat_lt, nat_le, is_some}
+use Rattle.std.proofs.Common.{◌≡◌, ℕ, suc, ◌+◌, ◌-◌, ◌<◌, ◌≤◌, List, [], ◌∷◌, ◌++◌, length, refl, sym, ap, subst, ◌∙◌, ◌⊎◌, arith, inl, inr, Some, not, ◌&&◌, ◌||◌, nat_eq, nat_lt, nat_le, is_some}
 use Rattle.std.specs.List.{slice_get}
+use Rattle.std.proofs.lemmas.List.{length-append}
+use Rattle.std.proofs.lemmas.Bool.{cases_Bool}
+use Rattle.law_lists.proofs.Numbers.{nat_eq-same}
+use Rattle.law_lists.proofs.Places.{get_there}
 use Rattle.smv_core.specs.declared.flat.Simple.{Simple}
 use Rattle.smv_core.specs.declared.flat.FlatText.{FlatText}
 use Rattle.smv_core.specs.declared.flat.FlatMember.{One, Span as SpanOf}
 use Rattle.smv_core.specs.declared.flat.FlatExpr.{FlatExpr, Number, Read', Var, Loop, Constant, Not', And', Or', Implies', Iff', Compare', Within', Sum', Modulo', Choose', All', Any', List', Each', None', Some', Row_of-FlatExpr, end_of-FlatExpr, more_of-FlatExpr, Row_of-FlatMember, end_of-FlatMember, more_of-FlatMember, Row_of-FlatSigned, end_of-FlatSigned, more_of-FlatSigned}
 use Rattle.law_obligations.specs.Sets.{Has, first}
 use Rattle.law_obligations.proofs.Members.{Has-left, Has-right}
-use Rattle.law_obligations.proofs.OneOfEach.{joined_long, get_after}
-use Rattle.law_obligations.proofs.Tests.{true_or_false}
+use Rattle.law_obligations.proofs.OneOfEach.{get_after}
 use Rattle.law_designs.specs.FlatKinds.{Kind, number, Vars, kind_of, takes, are_numbers, number_if, common, compares, chosen, element, inside, is_index_type, is_binder, kind_in, kinds_in, summands, members_in, looked_through}
 use Rattle.smv_problem.specs.WellFormed.{is_order, has_order, keeps_orders, all_keep_orders, signed_keep_orders, members_keep_orders}
 use Rattle.law_splits.specs.Variables.{Reading, readings, readings_each, readings_signed, readings_members, renamed, renamed_each, renamed_signed, renamed_members, IsNumbered, AreNumbered, AreSignedNumbered, AreMembersNumbered}
 use Rattle.law_splits.proofs.Lists.{get_longer}
 use Rattle.law_splits.proofs.RenamedReads.{less_or_same}
-use Rattle.law_splits.proofs.RenamedOutcomes.{get_within}
-
-same_length : (a b : ℕ) → b ≡ a → nat_eq a b ≡ true
-same_length a b e = grind arith
 
 -- Variables from `width` on, of binders, take the numbers from a total on.
 module _ (flat_text : FlatText) (width total : ℕ) (r : ℕ → ℕ) (outer : (v : ℕ) → width ≤ v → r v ≡ total + (v - width)) (IsFine : ℕ → Type 0) where
@@ -36,21 +35,21 @@ module _ (flat_text : FlatText) (width total : ℕ) (r : ℕ → ℕ) (outer : (
         (subst (λ k. slice_get (c ++ x ∷ []) k ≡ slice_get (b ++ x ∷ []) m) h.other_long (get_after c [] x ∙ sym (subst (λ k. slice_get (b ++ x ∷ []) k ≡ Some x) h.long (get_after b [] x))))
     longer x v (inr k) f =
         let e = h.long in
-        let w = get_within b v (omega (arith, k, e)) in
+        let w = get_there b v (omega (arith, k, e)) in
         get_longer c (x ∷ []) (r v) (h.alike v k f ∙ w.1) ∙ sym (get_longer b (x ∷ []) v w.1)
 
     other_longer : (x : Kind) → length (c ++ x ∷ []) ≡ r (suc m)
-    other_longer x = let a = joined_long c (x ∷ []) in let e = h.other_long in let i = outer m l in let j = outer (suc m) (omega (arith, l)) in omega (arith, a, e, i, j, l)
+    other_longer x = let a = length-append c (x ∷ []) in let e = h.other_long in let i = outer m l in let j = outer (suc m) (omega (arith, l)) in omega (arith, a, e, i, j, l)
 
     inside_alike : (over : Simple) → Alike (suc m) (inside b over) (inside c over)
     inside_alike over = record {
-      long = let a = joined_long b (kind_of over ∷ []) in let e = h.long in omega (arith, a, e);
+      long = let a = length-append b (kind_of over ∷ []) in let e = h.long in omega (arith, a, e);
       other_long = other_longer (kind_of over);
-      alike = λ v k f. longer (kind_of over) v (less_or_same v m k (true_or_false (nat_eq v m))) f;
+      alike = λ v k f. longer (kind_of over) v (less_or_same v m k (cases_Bool (nat_eq v m))) f;
     }
 
     same_binder : (over : Simple) → is_binder flat_text c (r m) over ≡ is_binder flat_text b m over
-    same_binder over = ap (λ t. t && is_index_type flat_text over) (same_length (r m) (length c) h.other_long ∙ sym (same_length m (length b) h.long))
+    same_binder over = ap (λ t. t && is_index_type flat_text over) (nat_eq-same (r m) (length c) h.other_long ∙ sym (nat_eq-same m (length b) h.long))
 
   left : {xs : List Reading} (ys : List Reading) → AreFine (xs ++ ys) → AreFine xs
   left ys f x h = f x (Has-left ys h)

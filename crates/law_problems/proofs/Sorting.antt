@@ -1,6 +1,8 @@
 -- Elements of a cone in order, as they are written.
 use Rattle.std.proofs.Common.{◌≡◌, ℕ, ◌+◌, ◌-◌, List, [], ◌∷◌, map, length, Bool, true, false, cond, ◌&&◌, ◌||◌, nat_eq, nat_lt, refl, sym, ap, subst, ◌∙◌, ◌⊎◌, inl, inr, Option, Some, None}
 use Rattle.std.specs.List.{slice_get}
+use Rattle.law_lists.proofs.Numbers.{nat_eq-is}
+use Rattle.law_lists.proofs.Booleans.{left_of}
 use Rattle.smv_core.specs.Values.{Value, number, scalar, ordinal, values_of, numbers_from}
 use Rattle.smv_core.specs.Values as values
 use Rattle.smv_core.specs.FlatMeaning.{set_type}
@@ -13,9 +15,8 @@ use Rattle.law_obligations.specs.Sets.{Has, first, later, one_of_each}
 use Rattle.law_obligations.specs.Places.{Place, named, World, named_in}
 use Rattle.law_obligations.specs.Covers.{IsIndexType}
 use Rattle.law_obligations.specs.Soundness.{over_of}
-use Rattle.law_obligations.proofs.Tests.{left_of}
 use Rattle.law_obligations.proofs.Members.{Has-map, Has-from_map, Has-uncons}
-use Rattle.law_obligations.proofs.Same.{nat_eq-is, nat_eq-itself}
+use Rattle.law_obligations.proofs.Same.{nat_eq-itself}
 use Rattle.law_obligations.proofs.OneOfEach.{AreOf, are_of, get_Has, Has-from_flat_map}
 use Rattle.law_obligations.specs.Outlines.{Entry, Outline}
 use Rattle.law_obligations.specs.Cones.{AbsElement, element, elements_of, elements, same_element, cone, next_elements, first_elements}

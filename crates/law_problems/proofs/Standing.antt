@@ -3,6 +3,9 @@ use Rattle.std.proofs.Common.{◌≡◌, ℕ, zero, suc, ◌<◌, List, [], ◌�
 use Rattle.std.specs.Str.{bytes_eq}
 use Rattle.std.specs.List.{flat_map, find, slice_get, list_any}
 use Rattle.std.specs.Option.{option_to_list}
+use Rattle.law_lists.proofs.Options.{some_is}
+use Rattle.law_lists.proofs.Numbers.{nat_eq-is}
+use Rattle.law_lists.proofs.Places.{get_there}
 use Rattle.smv_core.specs.Values.{Name}
 use Rattle.smv_core.specs.declared.fault.Fault.{Fault}
 use Rattle.smv_core.specs.declared.tree.Word.{Word}
@@ -17,16 +20,14 @@ use Rattle.law_obligations.specs.Sets.{Has, first, later}
 use Rattle.law_obligations.specs.Covers.{IsIndexType}
 use Rattle.law_obligations.proofs.Members.{Has-uncons, Has-left, Has-right, Has-map, Has-flat_map}
 use Rattle.law_obligations.proofs.OneOfEach.{get_Has, Has_get}
-use Rattle.law_obligations.proofs.Same.{nat_eq-is}
 use Rattle.law_obligations.specs.Outlines.{unit_in}
 use Rattle.law_obligations.specs.Units.{units_of}
-use Rattle.law_obligations.proofs.Lookups.{inner, Has-filter, find-some, place_of-is}
+use Rattle.law_obligations.proofs.Lookups.{Has-filter, find-some, place_of-is}
 use Rattle.law_designs.specs.FlatKinds.{kind_of, set_type}
 use Rattle.law_splits.specs.Leaves.{named_by, with_name, name_of, own_params, Cut, cut, old, all_params, stands_for, onward, onward_if, chain}
 use Rattle.law_splits.specs.SplitFaults.{astray, split_again, names_one, doubled, bracketed, not_in_one, not_new, other_kind, strays, same_type, is_of_variables, miscounted, other_type, misfits, mismatches, cuts, cuts_of, faults_of_splits}
 use Rattle.law_splits.proofs.Lists.{get_longer, get_map}
 use Rattle.law_splits.proofs.Good.{kept}
-use Rattle.law_splits.proofs.RenamedOutcomes.{get_within}
 use Rattle.law_problems.specs.Kinded.{kinds_of}
 
 absent : (b : Bool) (at : ℕ) → (Has (place_if b at) at → ⊥) → b ≡ false
@@ -81,14 +82,14 @@ named_at bound (word ∷ words) each k p e =
   where
     by_place : (k : ℕ) {q : Param} → slice_get (q ∷ flat_map (with_name bound) words) k ≡ Some p → with_name bound word ≡ q ∷ [] →
         ((j : ℕ) → slice_get (flat_map (with_name bound) words) j ≡ Some p → NamedAt bound words j p) → NamedAt bound (word ∷ words) k p
-    by_place zero e one goes = record { word = word; is_at = refl; is_named = one ∙ ap (λ q. q ∷ []) (inner e) }
+    by_place zero e one goes = record { word = word; is_at = refl; is_named = one ∙ ap (λ q. q ∷ []) (some_is e) }
     by_place (suc k) e one goes = let r = goes k e in record { word = r.word; is_at = r.is_at; is_named = r.is_named }
 
 -- beside each other at one place
 has_zip : {X Y : Type 0} (xs : List X) (ys : List Y) (k : ℕ) {x : X} {y : Y} → slice_get xs k ≡ Some x → slice_get ys k ≡ Some y → Has (zip xs ys) (x, y)
 has_zip [] ys k e i = absurd (cc)
 has_zip (x ∷ xs) [] k e i = absurd (cc)
-has_zip (w ∷ xs) (z ∷ ys) zero {x} {y} e i = subst (λ v. Has (zip (w ∷ xs) (z ∷ ys)) (v, y)) (inner e) (subst (λ v. Has (zip (w ∷ xs) (z ∷ ys)) (w, v)) (inner i) first)
+has_zip (w ∷ xs) (z ∷ ys) zero {x} {y} e i = subst (λ v. Has (zip (w ∷ xs) (z ∷ ys)) (v, y)) (some_is e) (subst (λ v. Has (zip (w ∷ xs) (z ∷ ys)) (w, v)) (some_is i) first)
 has_zip (x ∷ xs) (y ∷ ys) (suc k) e i = later (has_zip xs ys k e i)
 
 past : {X : Type 0} (xs : List X) (k : ℕ) {x : X} → slice_get xs k ≡ Some x → k < length xs
@@ -144,7 +145,7 @@ module _ (d : Design) (none : faults_of_splits d ≡ []) where
           let n = named_at c.split.bound c.split.of.names (are_bound c.split is_split) k p found.1 in
           let long = counted (length c.params) c.split.of.names (λ at h. no_mismatch c is_cut at (Has-left (other_type c) h)) k n.is_at in
           let short = past c.split.of.names k n.is_at in
-          let q = get_within c.params k (omega (arith, long, short)) in
+          let q = get_there c.params k (omega (arith, long, short)) in
           let same = of_type n.word p q.0 n.is_named (has_zip c.split.of.names c.params k n.is_at q.1) (get_Has c.params k q.0 q.1) in
           let bound = find-some (λ p. bytes_eq p.name n.word.name) c.split.bound (from_list (find (λ p. bytes_eq p.name n.word.name) c.split.bound) p n.is_named) in
           let place = Has_get bound.0 in

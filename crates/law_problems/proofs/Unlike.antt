@@ -1,6 +1,7 @@
 -- Lists without repeats: maps, choices and elements of them.
 use Rattle.std.proofs.Common.{◌≡◌, ◌≢◌, ℕ, zero, suc, ◌+◌, ◌-◌, List, [], ◌∷◌, ◌++◌, map, get_or, Bool, true, false, cond, filter, sym, ap, subst, ◌∙◌, inl, inr, Option, Some, None, arith}
 use Rattle.std.specs.List.{flat_map, slice_get}
+use Rattle.law_lists.proofs.Lists.{head_is, tail_is}
 use Rattle.smv_core.specs.Values.{Name, Value, number, constant, scalar, ordinal, Sizes, values_of, numbers_from}
 use Rattle.smv_core.specs.Values as values
 use Rattle.smv_core.specs.FlatMeaning.{set_type}
@@ -49,12 +50,6 @@ unlike-filter {X} p (x ∷ xs) u = at (p x) (unlike-filter p xs u.1)
     at : (b : Bool) → AreUnlike (filter p xs) → AreUnlike (cond b (x ∷ filter p xs) (filter p xs))
     at true v = (λ y h. u.0 y (Has-from_filter p xs h).0, v)
     at false v = v
-
-pub head_is : {X : Type 0} {x y : X} {xs ys : List X} → x ∷ xs ≡ y ∷ ys → x ≡ y
-head_is e = cc
-
-pub tail_is : {X : Type 0} {x y : X} {xs ys : List X} → x ∷ xs ≡ y ∷ ys → xs ≡ ys
-tail_is e = cc
 
 pub unlike-one_of_each : {X : Type 0} (xss : List (List X)) → AreAllUnlike xss → AreUnlike (one_of_each xss)
 unlike-one_of_each [] u = (λ y h. elim h [ ], tt)

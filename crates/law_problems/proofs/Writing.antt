@@ -1,7 +1,9 @@
 -- Indexes and elements as they are written.
-use Rattle.std.proofs.Common.{◌≡◌, ℕ, ◌+◌, ◌-◌, List, [], ◌∷◌, ◌++◌, map, Bool, true, false, cond, refl, sym, ap, subst, ◌∙◌, Option, Some, None}
-use Rattle.std.specs.List.{flat_map, slice_get}
+use Rattle.std.proofs.Common.{◌≡◌, ℕ, ◌+◌, ◌-◌, List, [], ◌∷◌, map, Bool, true, false, cond, refl, sym, ap, subst, ◌∙◌, Option, Some, None}
+use Rattle.std.specs.List.{slice_get}
 use Rattle.std.proofs.lemmas.Simd.{map-map}
+use Rattle.std.proofs.lemmas.List.Folds.{flat_map-map}
+use Rattle.law_lists.proofs.Lists.{head_is, tail_is, map-flat_map, flat_map_alike}
 use Rattle.smv_core.specs.Values.{Value, number, scalar, ordinal, values_of, numbers_from}
 use Rattle.smv_core.specs.Values as values
 use Rattle.smv_core.specs.FlatMeaning.{set_type}
@@ -17,12 +19,11 @@ use Rattle.law_obligations.specs.Places.{Place, named, World, named_in}
 use Rattle.law_obligations.specs.Covers.{IsIndexType}
 use Rattle.law_obligations.specs.Soundness.{over_of}
 use Rattle.law_obligations.proofs.Members.{Has-from_map}
-use Rattle.law_obligations.proofs.OneOfEach.{AreOf, are_of, map_joined, get_Has, Has-from_flat_map}
+use Rattle.law_obligations.proofs.OneOfEach.{AreOf, are_of, get_Has, Has-from_flat_map}
 use Rattle.law_obligations.specs.Cones.{AbsElement, element, elements_of, elements}
 use Rattle.smv_problem.specs.Written.{written_class, written_element}
 use Rattle.law_problems.specs.Order.{AreIndexed}
 use Rattle.law_problems.specs.Written.{classes_of, named_classes}
-use Rattle.law_problems.proofs.Unlike.{head_is, tail_is}
 
 -- what a value makes of each number is written so
 written-each : (f : ℕ → Value) (g : ℕ → Class) → ((k : ℕ) → written_class (named (f k)) ≡ g k) → (ks : List ℕ) → map written_class (map named (map f ks)) ≡ map g ks
@@ -43,27 +44,14 @@ module _ (w : World) where
   named_written (Enum list) i = absurd i
   named_written (Set set) i = set_written (slice_get w.classes.sets set)
 
--- choices
-flat_map-map : {X Y Z : Type 0} (g : Y → Z) (f : X → List Y) (xs : List X) → map g (flat_map f xs) ≡ flat_map (λ x. map g (f x)) xs
-flat_map-map g f [] = refl
-flat_map-map g f (x ∷ xs) = map_joined g (f x) (flat_map f xs) ∙ ap (λ zs. map g (f x) ++ zs) (flat_map-map g f xs)
-
-map-flat_map : {X Y Z : Type 0} (f : Y → List Z) (g : X → Y) (xs : List X) → flat_map f (map g xs) ≡ flat_map (λ x. f (g x)) xs
-map-flat_map f g [] = refl
-map-flat_map f g (x ∷ xs) = ap (λ zs. f (g x) ++ zs) (map-flat_map f g xs)
-
-flat_map-same : {X Y : Type 0} (f g : X → List Y) (xs : List X) → ((x : X) → f x ≡ g x) → flat_map f xs ≡ flat_map g xs
-flat_map-same f g [] each = refl
-flat_map-same f g (x ∷ xs) each = ap (λ ys. ys ++ flat_map f xs) (each x) ∙ ap (λ ys. g x ++ ys) (flat_map-same f g xs each)
-
 pub choices_written : (pss : List (List Place)) → map (map written_class) (one_of_each pss) ≡ one_of_each (map (map written_class) pss)
 choices_written [] = refl
 choices_written (ps ∷ pss) =
-    flat_map-map (map written_class) (λ p. map (λ qs. p ∷ qs) (one_of_each pss)) ps
-    ∙ (flat_map-same (λ p. map (map written_class) (map (λ qs. p ∷ qs) (one_of_each pss))) (λ p. map (λ cs. written_class p ∷ cs) (one_of_each (map (map written_class) pss))) ps (λ p.
+    map-flat_map (map written_class) (λ p. map (λ qs. p ∷ qs) (one_of_each pss)) ps
+    ∙ (flat_map_alike (λ p. map (map written_class) (map (λ qs. p ∷ qs) (one_of_each pss))) (λ p. map (λ cs. written_class p ∷ cs) (one_of_each (map (map written_class) pss))) ps (λ p.
     map-map (map written_class) (λ qs. p ∷ qs) (one_of_each pss)
     ∙ (sym (map-map (λ cs. written_class p ∷ cs) (map written_class) (one_of_each pss)) ∙ ap (map (λ cs. written_class p ∷ cs)) (choices_written pss)))
-    ∙ sym (map-flat_map (λ c. map (λ cs. c ∷ cs) (one_of_each (map (map written_class) pss))) written_class ps))
+    ∙ sym (flat_map-map (λ c. map (λ cs. c ∷ cs) (one_of_each (map (map written_class) pss))) written_class ps))
 
 -- elements
 

@@ -1,29 +1,18 @@
 -- Bytes that do not part pieces, and pieces that are parted by one byte.
-use Rattle.std.proofs.Common.{◌≡◌, ◌∙◌, ◌+◌, ◌-◌, ◌/◌, ◌%◌, ◌<◌, ℕ, zero, suc, Bool, true, false, not, ◌&&◌, List, [], ◌∷◌, ◌++◌, ap, append_assoc, arith, decimal, eq-eqb, length, refl, sym, true≢false}
+use Rattle.std.proofs.Common.{◌≡◌, ◌∙◌, ◌+◌, ◌-◌, ◌/◌, ◌%◌, ◌<◌, ℕ, zero, suc, Bool, true, false, not, List, [], ◌∷◌, ◌++◌, ap, append_assoc, arith, decimal, eq-eqb, length, refl, sym, true≢false}
 use Rattle.std.specs.Prelude.{Some, option_map, ◌==◌, if◌then◌else◌}
 use Rattle.std.specs.Fmt.{digits, digit_glyph, digits_onto}
 use Rattle.std.specs.List.{list_all}
 use Rattle.std.specs.Cmp.Derive.{both_true}
 use Rattle.std.specs.Cmp.Lexicographic.{pointwise}
 use Rattle.std.specs.Str.{bytes_eq}
-use Rattle.std.proofs.lemmas.Bool.{eqb-true, le-leb, lt-ltb}
+use Rattle.std.proofs.lemmas.Bool.{eqb-true, le-leb, lt-ltb, not-true}
 use Rattle.std.proofs.Math.Dec.{eqb-suc-zero}
 use Rattle.std.proofs.lemmas.List.Folds.{list_all-append}
+use Rattle.law_lists.proofs.Booleans.{left_of, right_of}
 use Rattle.smv_read_report.specs.Pieces.{is_digit, is_numeral, is_word, is_word_byte, pieces, without_last}
 
 -- ---- tests
-
-pub and_left : (x y : Bool) → (x && y) ≡ true → x ≡ true
-and_left true y is = refl
-and_left false y is = is
-
-pub and_right : (x y : Bool) → (x && y) ≡ true → y ≡ true
-and_right true y is = is
-and_right false y is = absurd (true≢false (sym is))
-
-pub not_true : (x : Bool) → not x ≡ true → x ≡ false
-not_true true is = sym is
-not_true false is = refl
 
 pub same_bytes : (bytes : List ℕ) → bytes_eq bytes bytes ≡ true
 same_bytes [] = refl
@@ -48,10 +37,10 @@ differs p at out b is = of (b == at) refl
 -- bytes that pass a test lack one that does not
 pub test_lacks : (p : ℕ → Bool) (at : ℕ) → p at ≡ false → (bytes : List ℕ) → list_all p bytes ≡ true → lacks at bytes ≡ true
 test_lacks p at out [] is = refl
-test_lacks p at out (b ∷ bytes) is = both_true (differs p at out b (and_left (p b) (list_all p bytes) is)) (test_lacks p at out bytes (and_right (p b) (list_all p bytes) is))
+test_lacks p at out (b ∷ bytes) is = both_true (differs p at out b (left_of (p b) (list_all p bytes) is)) (test_lacks p at out bytes (right_of (p b) (list_all p bytes) is))
 
 pub word_lacks : (at : ℕ) → is_word_byte at ≡ false → (word : List ℕ) → is_word word ≡ true → lacks at word ≡ true
-word_lacks at out word is = test_lacks is_word_byte at out word (and_right (not (length word == 0)) (list_all is_word_byte word) is)
+word_lacks at out word is = test_lacks is_word_byte at out word (right_of (not (length word == 0)) (list_all is_word_byte word) is)
 
 pub lacks_both : (at : ℕ) (front back : List ℕ) → lacks at front ≡ true → lacks at back ≡ true → lacks at (front ++ back) ≡ true
 lacks_both at front back one other = list_all-append (λ b. not (b == at)) front back ∙ both_true one other
@@ -61,15 +50,15 @@ lacks_both at front back one other = list_all-append (λ b. not (b == at)) front
 pub whole : (at : ℕ) (bytes : List ℕ) → lacks at bytes ≡ true → pieces at bytes ≡ bytes ∷ []
 whole at [] none = refl
 whole at (b ∷ bytes) none =
-    let other : (b == at) ≡ false = not_true (b == at) (and_left (not (b == at)) (lacks at bytes) none) in
-    let rest : pieces at bytes ≡ bytes ∷ [] = whole at bytes (and_right (not (b == at)) (lacks at bytes) none) in
+    let other : (b == at) ≡ false = not-true (b == at) (left_of (not (b == at)) (lacks at bytes) none) in
+    let rest : pieces at bytes ≡ bytes ∷ [] = whole at bytes (right_of (not (b == at)) (lacks at bytes) none) in
     rw other (rw rest refl)
 
 pub cut : (at : ℕ) (front rest : List ℕ) → lacks at front ≡ true → pieces at (front ++ at ∷ rest) ≡ front ∷ pieces at rest
 cut at [] rest none = rw (eq-eqb at at refl) refl
 cut at (b ∷ front) rest none =
-    let other : (b == at) ≡ false = not_true (b == at) (and_left (not (b == at)) (lacks at front) none) in
-    let later : pieces at (front ++ at ∷ rest) ≡ front ∷ pieces at rest = cut at front rest (and_right (not (b == at)) (lacks at front) none) in
+    let other : (b == at) ≡ false = not-true (b == at) (left_of (not (b == at)) (lacks at front) none) in
+    let later : pieces at (front ++ at ∷ rest) ≡ front ∷ pieces at rest = cut at front rest (right_of (not (b == at)) (lacks at front) none) in
     rw other (rw later refl)
 
 -- a piece that ends with one more byte
@@ -121,4 +110,4 @@ unfolding digits
 numeral n = both_true (first_some 63 n) (digits_are 64 n [] refl)
 
 pub decimal_lacks : (at : ℕ) → is_digit at ≡ false → (n : ℕ) → lacks at (decimal n) ≡ true
-decimal_lacks at out n = test_lacks is_digit at out (decimal n) (and_right (not (length (decimal n) == 0)) (list_all is_digit (decimal n)) (numeral n))
+decimal_lacks at out n = test_lacks is_digit at out (decimal n) (right_of (not (length (decimal n) == 0)) (list_all is_digit (decimal n)) (numeral n))

@@ -6,11 +6,12 @@ use Rattle.std.specs.Cmp.Derive.{both_true}
 use Rattle.std.specs.Str.{bytes_eq}
 use Rattle.std.proofs.lemmas.Slice.Eq.{bytes_eq-Decides}
 use Rattle.std.proofs.Math.Dec.{eqb-suc-zero}
+use Rattle.law_lists.proofs.Booleans.{left_of, right_of}
 use Rattle.law_reports.specs.Lines.{with_commas}
 use Rattle.smv_read_report.specs.declared.line.Line.TheVariants.{True, Unknown, False, Case, Time, Proved}
 use Rattle.smv_read_report.specs.Pieces.{is_word, pieces, without_last}
 use Rattle.smv_read_report.specs.Lines.{before, case_of, case_with, cells_of, line_of, verdict_of, words_of}
-use Rattle.law_read_reports.proofs.Bytes.{and_left, and_right, cut, cut_behind, decimal_lacks, lacks, lacks_both, numeral, whole, with_last, word_lacks}
+use Rattle.law_read_reports.proofs.Bytes.{cut, cut_behind, decimal_lacks, lacks, lacks_both, numeral, whole, with_last, word_lacks}
 
 -- ---- lines of units
 
@@ -75,10 +76,10 @@ with_comma : (word : List ℕ) → is_word word ≡ true → lacks 32 (word ++ 4
 with_comma word is = lacks_both 32 word (44 ∷ []) (word_lacks 32 refl word is) refl
 
 words_apart : (word : List ℕ) (words : List (List ℕ)) → list_all is_word (word ∷ words) ≡ true → pieces 32 (with_commas (word ∷ words)) ≡ apart (word ∷ words)
-words_apart word [] are = whole 32 word (word_lacks 32 refl word (and_left (is_word word) true are))
+words_apart word [] are = whole 32 word (word_lacks 32 refl word (left_of (is_word word) true are))
 words_apart word (other ∷ words) are =
-    let is : is_word word ≡ true = and_left (is_word word) (list_all is_word (other ∷ words)) are in
-    let later : pieces 32 (with_commas (other ∷ words)) ≡ apart (other ∷ words) = words_apart other words (and_right (is_word word) (list_all is_word (other ∷ words)) are) in
+    let is : is_word word ≡ true = left_of (is_word word) (list_all is_word (other ∷ words)) are in
+    let later : pieces 32 (with_commas (other ∷ words)) ≡ apart (other ∷ words) = words_apart other words (right_of (is_word word) (list_all is_word (other ∷ words)) are) in
     ap (pieces 32) (append_assoc word (codes ", ") (with_commas (other ∷ words))) ∙ cut_behind 32 word 44 (with_commas (other ∷ words)) (with_comma word is) ∙ ap (λ (rest : List (List ℕ)). (word ++ 44 ∷ []) ∷ rest) later
 
 before_apart : (other : List ℕ) (words : List (List ℕ)) (piece : List ℕ) → before (apart (other ∷ words)) piece ≡ without_last 44 piece
@@ -87,10 +88,10 @@ before_apart other (word ∷ words) piece = refl
 
 words_read : (words : List (List ℕ)) → list_all is_word words ≡ true → words_of (apart words) ≡ Some words
 words_read [] are = refl
-words_read (word ∷ []) are = rw (and_left (is_word word) true are) refl
+words_read (word ∷ []) are = rw (left_of (is_word word) true are) refl
 words_read (word ∷ other ∷ words) are =
-    let is : is_word word ≡ true = and_left (is_word word) (list_all is_word (other ∷ words)) are in
-    let later : words_of (apart (other ∷ words)) ≡ Some (other ∷ words) = words_read (other ∷ words) (and_right (is_word word) (list_all is_word (other ∷ words)) are) in
+    let is : is_word word ≡ true = left_of (is_word word) (list_all is_word (other ∷ words)) are in
+    let later : words_of (apart (other ∷ words)) ≡ Some (other ∷ words) = words_read (other ∷ words) (right_of (is_word word) (list_all is_word (other ∷ words)) are) in
     rw (before_apart other words (word ++ 44 ∷ [])) (rw (with_last 44 word) (rw is (rw later refl)))
 
 case_apart : (word : List ℕ) (words : List (List ℕ)) → case_of (apart (word ∷ words)) ≡ case_with (words_of (apart (word ∷ words)))
@@ -125,18 +126,18 @@ five a b c d e = simp append_assoc
 pub cells_cut : (element : List ℕ) (elements : List (List ℕ)) (value : List ℕ) (values : List (List ℕ)) → length elements ≡ length values → list_all is_word (element ∷ elements) ≡ true → list_all is_word (value ∷ values) ≡ true →
     pieces 32 (with_commas (cell_texts (element ∷ elements) (value ∷ values))) ≡ cells_apart (element ∷ elements) (value ∷ values)
 cells_cut element [] value [] even names words =
-    ap (pieces 32) (append_assoc element (codes " = ") value) ∙ one_cell element value (and_left (is_word element) true names)
-    ∙ ap (λ (rest : List (List ℕ)). element ∷ codes "=" ∷ rest) (whole 32 value (word_lacks 32 refl value (and_left (is_word value) true words)))
+    ap (pieces 32) (append_assoc element (codes " = ") value) ∙ one_cell element value (left_of (is_word element) true names)
+    ∙ ap (λ (rest : List (List ℕ)). element ∷ codes "=" ∷ rest) (whole 32 value (word_lacks 32 refl value (left_of (is_word value) true words)))
 cells_cut element [] value (other ∷ values) even names words = absurd (omega arith)
 cells_cut element (other ∷ elements) value [] even names words = absurd (omega arith)
 cells_cut element (next ∷ elements) value (other ∷ values) even names words =
     let rest = with_commas (cell_texts (next ∷ elements) (other ∷ values)) in
     let later : pieces 32 rest ≡ cells_apart (next ∷ elements) (other ∷ values)
-    = cells_cut next elements other values (omega arith) (and_right (is_word element) (list_all is_word (next ∷ elements)) names) (and_right (is_word value) (list_all is_word (other ∷ values)) words) in
-    let is : is_word value ≡ true = and_left (is_word value) (list_all is_word (other ∷ values)) words in
+    = cells_cut next elements other values (omega arith) (right_of (is_word element) (list_all is_word (next ∷ elements)) names) (right_of (is_word value) (list_all is_word (other ∷ values)) words) in
+    let is : is_word value ≡ true = left_of (is_word value) (list_all is_word (other ∷ values)) words in
     let joined : ((((element ++ codes " = ") ++ value) ++ codes ", ") ++ rest) ≡ element ++ (codes " = " ++ (value ++ (codes ", " ++ rest))) = five element (codes " = ") value (codes ", ") rest in
     ap (pieces 32) joined
-    ∙ one_cell element (value ++ (codes ", " ++ rest)) (and_left (is_word element) (list_all is_word (next ∷ elements)) names)
+    ∙ one_cell element (value ++ (codes ", " ++ rest)) (left_of (is_word element) (list_all is_word (next ∷ elements)) names)
     ∙ ap (λ (more : List (List ℕ)). element ∷ codes "=" ∷ more) (cut_behind 32 value 44 rest (with_comma value is))
     ∙ ap (λ (more : List (List ℕ)). element ∷ codes "=" ∷ (value ++ 44 ∷ []) ∷ more) later
 
@@ -152,9 +153,9 @@ cells_read [] (value ∷ values) even names words = absurd (omega arith)
 cells_read (element ∷ elements) [] even names words = absurd (omega arith)
 cells_read (element ∷ elements) (value ∷ values) even names words =
     let later : cells_of (cells_apart elements values) ≡ Some (record { elements = elements; values = values })
-    = cells_read elements values (omega arith) (and_right (is_word element) (list_all is_word elements) names) (and_right (is_word value) (list_all is_word values) words) in
+    = cells_read elements values (omega arith) (right_of (is_word element) (list_all is_word elements) names) (right_of (is_word value) (list_all is_word values) words) in
     rw (before_cells elements value values (omega arith))
-    (rw (and_left (is_word element) (list_all is_word elements) names) (rw (and_left (is_word value) (list_all is_word values) words) (rw later refl)))
+    (rw (left_of (is_word element) (list_all is_word elements) names) (rw (left_of (is_word value) (list_all is_word values) words) (rw later refl)))
 
 -- ` time t: e1 = v1, e2 = v2`, behind ` time`
 abbrev pub state_cells : List (List ℕ) → List ℕ
@@ -183,20 +184,20 @@ word_line word is = word_lacks 10 refl word is
 
 words_line : (words : List (List ℕ)) → list_all is_word words ≡ true → list_all (lacks 10) words ≡ true
 words_line [] are = refl
-words_line (word ∷ words) are = both_true (word_line word (and_left (is_word word) (list_all is_word words) are)) (words_line words (and_right (is_word word) (list_all is_word words) are))
+words_line (word ∷ words) are = both_true (word_line word (left_of (is_word word) (list_all is_word words) are)) (words_line words (right_of (is_word word) (list_all is_word words) are))
 
 commas_line : (parts : List (List ℕ)) → list_all (lacks 10) parts ≡ true → lacks 10 (with_commas parts) ≡ true
 commas_line [] none = refl
-commas_line (part ∷ []) none = and_left (lacks 10 part) true none
+commas_line (part ∷ []) none = left_of (lacks 10 part) true none
 commas_line (part ∷ other ∷ parts) none =
-    lacks_both 10 (part ++ codes ", ") (with_commas (other ∷ parts)) (lacks_both 10 part (codes ", ") (and_left (lacks 10 part) (list_all (lacks 10) (other ∷ parts)) none) refl) (commas_line (other ∷ parts) (and_right (lacks 10 part) (list_all (lacks 10) (other ∷ parts)) none))
+    lacks_both 10 (part ++ codes ", ") (with_commas (other ∷ parts)) (lacks_both 10 part (codes ", ") (left_of (lacks 10 part) (list_all (lacks 10) (other ∷ parts)) none) refl) (commas_line (other ∷ parts) (right_of (lacks 10 part) (list_all (lacks 10) (other ∷ parts)) none))
 
 cells_line : (elements values : List (List ℕ)) → list_all is_word elements ≡ true → list_all is_word values ≡ true → list_all (lacks 10) (cell_texts elements values) ≡ true
 cells_line [] values names words = refl
 cells_line (element ∷ elements) [] names words = refl
 cells_line (element ∷ elements) (value ∷ values) names words =
-    both_true (lacks_both 10 (element ++ codes " = ") value (lacks_both 10 element (codes " = ") (word_line element (and_left (is_word element) (list_all is_word elements) names)) refl) (word_line value (and_left (is_word value) (list_all is_word values) words)))
-    (cells_line elements values (and_right (is_word element) (list_all is_word elements) names) (and_right (is_word value) (list_all is_word values) words))
+    both_true (lacks_both 10 (element ++ codes " = ") value (lacks_both 10 element (codes " = ") (word_line element (left_of (is_word element) (list_all is_word elements) names)) refl) (word_line value (left_of (is_word value) (list_all is_word values) words)))
+    (cells_line elements values (right_of (is_word element) (list_all is_word elements) names) (right_of (is_word value) (list_all is_word values) words))
 
 state_line : (parts : List (List ℕ)) → list_all (lacks 10) parts ≡ true → lacks 10 (state_cells parts) ≡ true
 state_line [] none = refl

@@ -1,6 +1,7 @@
 -- What verdicts say, and that there is one.
-use Rattle.std.proofs.Common.{◌≡◌, ℕ, zero, suc, ◌+◌, ◌*◌, List, [], ◌∷◌, ◌++◌, Bool, true, false, refl, sym, ap, subst, ◌∙◌, Some, None, arith}
+use Rattle.std.proofs.Common.{◌≡◌, ℕ, zero, suc, ◌+◌, ◌*◌, List, [], ◌∷◌, ◌++◌, true, false, refl, sym, ap, subst, ◌∙◌, Some, None, arith}
 use Rattle.std.specs.List.{slice_get}
+use Rattle.law_lists.proofs.Booleans.{clash as true_false}
 use Rattle.bdd_store.specs.Diagram.{Diagram}
 use Rattle.smv_core.specs.declared.flat.Class.{Class}
 use Rattle.law_obligations.specs.Sets.{Has, first, later}
@@ -36,9 +37,6 @@ budget l nodes images = record { vars = 2 * l.bits; nodes = nodes; images = imag
 
 one : (l : Lists) (nodes images : ℕ) (v w : Event) → IsFirstEvent l nodes images v → IsFirstEvent l nodes images w → v ≡ w
 one l nodes images v w a b = first_once (budget l nodes images) (schedule l images) v w a b
-
-true_false : {b : Bool} → b ≡ true → b ≡ false → ⊥
-true_false e f = cc
 
 module _ (lists : List Class → Lists) (nodes images : ℕ) where
   -- a case is not true and something else

@@ -1,13 +1,14 @@
 -- What the lists of a case say of the states that an assignment is read as.
 use Rattle.std.proofs.Common.{◌≡◌, ℕ, ◌+◌, ◌*◌, List, [], ◌∷◌, ◌++◌, map, Bool, true, ◌&&◌, not, refl, sym, ap, subst, ◌∙◌, inl, inr, Option, Some, None, arith, filter}
 use Rattle.std.specs.List.{list_all, flat_map}
+use Rattle.std.proofs.lemmas.Bool.{cases_Bool}
+use Rattle.law_lists.proofs.Booleans.{and_both, left_of, right_of}
 use Rattle.bdd_ops.specs.Functions.{Function}
 use Rattle.smv_rings.specs.Lists.{Lists, State, both, at, all_of}
 use Rattle.smv_rings.proofs.Image.{both_even, both_odd}
 use Rattle.law_obligations.specs.Sets.{Has, first, later}
 use Rattle.law_obligations.specs.May.{AbsState}
 use Rattle.law_obligations.specs.Obligations.{Demanded, defined, holds, is_met, obligation}
-use Rattle.law_obligations.proofs.Tests.{and_both, left_of, right_of, true_or_false}
 use Rattle.law_obligations.proofs.Members.{Has-cases, Has-left, Has-right, Has-map, Has-from_map, Has-flat_map, all-each, all-holds}
 use Rattle.law_obligations.proofs.OneOfEach.{Has-from_flat_map}
 use Rattle.law_obligations.specs.Cones.{AbsElement, element, same_element}
@@ -45,7 +46,7 @@ each_holds (f ∷ fs) a each = and_both (each f first) (each_holds fs a (λ g h.
 
 module _ (c : PosedCase) (is : IsCase c) where
   slots_in : (demands : List Demanded) (slot : Slot) → Has (slots c) slot → Has (moving_first demands (slots c)) slot
-  slots_in demands slot h = elim (true_or_false (moves demands slot)) [
+  slots_in demands slot h = elim (cases_Bool (moves demands slot)) [
     | inl e ↦ Has-left (filter (λ slot. not (moves demands slot)) (slots c)) (Has-filter (moves demands) h e)
     | inr e ↦ Has-right (filter (moves demands) (slots c)) (Has-filter (λ slot. not (moves demands slot)) h (rw e refl))
   ]

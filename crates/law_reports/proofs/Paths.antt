@@ -1,5 +1,8 @@
 -- Paths, rings and induction over the lists of a case are those of its problem.
 use Rattle.std.proofs.Common.{◌≡◌, ℕ, zero, suc, ◌+◌, ◌<◌, ◌≤◌, List, [], ◌∷◌, ◌++◌, length, Bool, true, false, ◌&&◌, refl, sym, ap, subst, ◌∙◌, inl, inr, ◌⊎◌, Option, Some, None, arith}
+use Rattle.std.proofs.lemmas.Bool.{cases_Bool}
+use Rattle.law_lists.proofs.Booleans.{and_both, left_of, right_of}
+use Rattle.law_lists.proofs.Options.{some_is}
 use Rattle.bdd_ops.specs.Functions.{Function}
 use Rattle.smv_rings.specs.Lists.{State, at}
 use Rattle.smv_rings.specs.Paths.{Starts, Steps, Ends, InRing, IsViolating, IsInductive}
@@ -10,7 +13,6 @@ use Rattle.law_obligations.specs.May.{AbsState}
 use Rattle.law_obligations.specs.Pictures.{IsAbsState}
 use Rattle.law_obligations.specs.Circular.{always, is_violating}
 use Rattle.law_obligations.specs.Obligations.{obligation}
-use Rattle.law_obligations.proofs.Tests.{and_both, left_of, right_of, true_or_false}
 use Rattle.law_obligations.proofs.Members.{Has-cases}
 use Rattle.law_obligations.specs.Readings.{PosedCase, IsCase, are_values, reading}
 use Rattle.law_obligations.specs.CasePaths.{AreAbsStates, IsViolatingPath, HasNone, IsShortest, last_of, states_from, IsInRing, IsInvariant}
@@ -19,9 +21,6 @@ use Rattle.law_obligations.proofs.Listed.{before_at, Violating, to_list, from_li
 use Rattle.law_reports.specs.CaseLists.{current, case_lists}
 use Rattle.law_reports.specs.ListLaws.{readings}
 use Rattle.law_reports.proofs.Means.{current_both, first_to, first_from, before_first_to, before_first_from, broken_first_is, step_to, step_from, before_step_to, before_step_from, broken_step_is}
-
-some_is : {X : Type 0} {x y : X} → Some x ≡ Some y → x ≡ y
-some_is e = cc
 
 module _ (c : PosedCase) (is : IsCase c) where
   abbrev now_met : Option AbsState → AbsState → Bool
@@ -93,7 +92,7 @@ module _ (c : PosedCase) (is : IsCase c) where
 
   pub none_is_none : ((k : ℕ) (path : ℕ → State) → IsViolating (case_lists c) k path → ⊥) → HasNone c.problem
   none_is_none none [] are = refl
-  none_is_none none (a ∷ states) are = elim (true_or_false (is_violating (obligation c.problem) (a ∷ states))) [
+  none_is_none none (a ∷ states) are = elim (cases_Bool (is_violating (obligation c.problem) (a ∷ states))) [
     | inl e ↦ let r = paths_written (length states) (a ∷ states) (omega arith) (record { are_states = are; is_violating = e }) in absurd (none (length states) r.0 r.1)
     | inr e ↦ e
   ]

@@ -1,8 +1,10 @@
 -- Parts of a plan and entries of its script.
-use Rattle.std.proofs.Common.{◌≡◌, ℕ, zero, suc, ◌+◌, ◌<◌, List, [], ◌∷◌, map, length, refl, sym, ap, subst, ◌∙◌, Option, Some, arith}
+use Rattle.std.proofs.Common.{◌≡◌, ℕ, zero, suc, ◌+◌, List, [], ◌∷◌, map, length, refl, sym, ap, subst, ◌∙◌, Option, Some, arith}
 use Rattle.std.specs.Prelude.{unwrap_or}
 use Rattle.std.specs.List.{slice_get}
 use Rattle.std.proofs.lemmas.Option.{slice_get_within}
+use Rattle.law_lists.proofs.Options.{some_is}
+use Rattle.law_lists.proofs.Places.{get_there}
 use Rattle.smv_core.specs.declared.flat.Design.{Design}
 use Rattle.smv_core.specs.declared.flat.Unit.{Unit}
 use Rattle.smv_core.specs.declared.flat.Unit.TheVariants.{Claim}
@@ -22,14 +24,6 @@ use Rattle.law_problems.specs.Parts.{outlined, entry_of, case_with}
 use Rattle.law_reports.specs.Reports.{IsToldOf}
 use Rattle.law_reports.specs.Told.{IsToldBy}
 use Rattle.law_reports.specs.PlanLaws.{IsAt}
-
-some_is : {X : Type 0} {x y : X} → Some x ≡ Some y → x ≡ y
-some_is e = cc
-
-get_there : {X : Type 0} (xs : List X) (u : ℕ) → u < length xs → (x : X) × (slice_get xs u ≡ Some x)
-get_there [] u lt = absurd (omega arith)
-get_there (x ∷ xs) zero lt = (x, refl)
-get_there (x ∷ xs) (suc u) lt = get_there xs u (omega arith)
 
 entries_at : (units : List Unit) (leaves : List Leaf) (choices : List Choice) (u : ℕ) (unit : Unit) (leaf : Leaf) (choice : Choice) → slice_get units u ≡ Some unit → slice_get leaves u ≡ Some leaf → slice_get choices u ≡ Some choice
     → slice_get (entries_of units leaves choices) u ≡ Some (record { unit = unit; leaf = leaf; choice = choice })

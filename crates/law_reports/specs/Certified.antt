@@ -19,6 +19,6 @@ pub record PassesCheck (d : Diagram) (rel : Rel) (set : Ref) : Type 0 where
 
 -- Where a search that began in one store ends in another with a closed set, as its contract says it, the set passes the inductive check there.
 abbrev pub ClosedSetsPass : Type 0
-ClosedSetsPass = (old new : Diagram) (rel : Rel) (nodes images : ℕ) (set : Ref) → IsRel old rel → KeepsRefs old new (refs_of rel) →
-    ((r : Ref) → IsOneOf r (found (Closed set)) → IsLive new r) → Answers new (lists_of old rel) nodes images (Closed set) → IsProof new (lists_of old rel) nodes (Closed set) →
+ClosedSetsPass = (old new : Diagram) (rel : Rel) (nodes steps : ℕ) (set : Ref) → IsRel old rel → KeepsRefs old new (refs_of rel) →
+    ((r : Ref) → IsOneOf r (found (Closed set)) → IsLive new r) → Answers new (lists_of old rel) nodes steps (Closed set) → IsProof new (lists_of old rel) nodes (Closed set) →
     PassesCheck new rel set

@@ -7,11 +7,11 @@ use Rattle.law_reports.specs.Reports.{IsReportOf, told_of, AllTrueUnits}
 
 -- a right report tells the verdicts of the units
 abbrev pub ReportsTell : Type 0
-ReportsTell = (s : Script) (nodes images : ℕ) (report : Report) → IsReportOf s nodes images report → AreVerdicts s nodes images (told_of report.units)
+ReportsTell = (s : Script) (nodes steps : ℕ) (report : Report) → IsReportOf s nodes steps report → AreVerdicts s nodes steps (told_of report.units)
 
 -- so two right reports differ at most in the paths that they show
 abbrev pub OneReport : Type 0
-OneReport = (s : Script) (nodes images : ℕ) (report other : Report) → IsReportOf s nodes images report → IsReportOf s nodes images other → told_of report.units ≡ told_of other.units
+OneReport = (s : Script) (nodes steps : ℕ) (report other : Report) → IsReportOf s nodes steps report → IsReportOf s nodes steps other → told_of report.units ≡ told_of other.units
 
 -- where each unit is told true, each is true
 abbrev pub TrueUnitsAreTrue : Type 0

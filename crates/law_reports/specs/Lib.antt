@@ -3,7 +3,6 @@ pub mod Lines
 pub mod Laws
 pub mod CaseLists
 pub mod ListLaws
-pub mod Worked
 pub mod Verdicts
 pub mod VerdictLaws
 pub mod Certified

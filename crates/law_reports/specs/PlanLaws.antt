@@ -35,5 +35,5 @@ CasesAreOfScripts = (d : Design) (leaves : List Leaf) (choices : List Choice) (u
 -- and what is told of the leaf by all its cases is told of the unit
 abbrev pub UnitsAreToldByCases : Type 0
 UnitsAreToldByCases = (d : Design) (leaves : List Leaf) (choices : List Choice) (u : ℕ) (leaf : Leaf) (choice : Choice) → IsAt d leaves choices u leaf choice →
-    (times : Timed) → slice_get (all_timed (script_of d leaves choices)) u ≡ Some times → (nodes images : ℕ) (verdict : Verdict) →
-    IsToldBy (case_with d leaf choice times) nodes images (leaf_cases d.sets leaf.params choice.keeps) verdict → IsToldOf (script_of d leaves choices) nodes images u (entry_of d leaf choice) verdict
+    (times : Timed) → slice_get (all_timed (script_of d leaves choices)) u ≡ Some times → (nodes steps : ℕ) (verdict : Verdict) →
+    IsToldBy (case_with d leaf choice times) nodes steps (leaf_cases d.sets leaf.params choice.keeps) verdict → IsToldOf (script_of d leaves choices) nodes steps u (entry_of d leaf choice) verdict

@@ -24,19 +24,21 @@ pub record IsShown (c : PosedCase) (steps : ℕ) (elements : List Element) (path
   pub elements_are : elements ≡ map written_element c.elements
   pub path_is : path ≡ map (written_state c) states
 
-module _ (s : Script) (nodes images : ℕ) where
+module _ (s : Script) (nodes steps : ℕ) where
   -- what is told of the unit at this place is its verdict; a false one is shown by a shortest violating path of the first case that is not true
   abbrev pub IsToldOf : ℕ → Entry → Verdict → Type 0
-  IsToldOf u entry True = IsUnitVerdict s nodes images u entry all_true
-  IsToldOf u entry (False case elements path) = (k : ℕ) × IsUnitVerdict s nodes images u entry (fails case.classes (Reached k)) × IsShown (case_at s u entry case.classes) k elements path
-  IsToldOf u entry (UnknownNodes case count) = IsUnitVerdict s nodes images u entry (fails case.classes (Counted count))
-  IsToldOf u entry (UnknownSteps case) = IsUnitVerdict s nodes images u entry (fails case.classes Images)
+  IsToldOf u entry True = IsUnitVerdict s nodes steps u entry all_true
+  IsToldOf u entry (False case elements path) = (k : ℕ) × IsUnitVerdict s nodes steps u entry (fails case.classes (Reached k)) × IsShown (case_at s u entry case.classes) k elements path
+  IsToldOf u entry (UnknownNodes case count) = IsUnitVerdict s nodes steps u entry (fails case.classes (Counted count))
+  IsToldOf u entry (UnknownSteps case) = IsUnitVerdict s nodes steps u entry (fails case.classes Images)
 
+  -- the result of the unit at this place: its name, the parameters of its leaf, and its verdict
   pub record IsResultOf (u : ℕ) (entry : Entry) (r : UnitResult) : Type 0 where
     pub name : r.name ≡ name_of s.design (unit_in s.design entry.unit)
     pub params : r.params ≡ entry.leaf.params
     pub verdict : IsToldOf u entry r.verdict
 
+  -- the results of the units from a place on, in flat order
   abbrev pub AreResultsFrom : ℕ → List Entry → List UnitResult → Type 0
   AreResultsFrom u [] [] = Unit {0}
   AreResultsFrom u (entry ∷ entries) (r ∷ results) = IsResultOf u entry r × AreResultsFrom (suc u) entries results
@@ -54,6 +56,7 @@ told (False case elements path) = fails case.classes (Reached (length path - 1))
 told (UnknownNodes case count) = fails case.classes (Counted count)
 told (UnknownSteps case) = fails case.classes Images
 
+-- the verdicts that are told of units
 abbrev pub told_of : List UnitResult → List LeafVerdict
 told_of results = map (λ r. told r.verdict) results
 

@@ -10,14 +10,14 @@ use Rattle.smv_problem.specs.declared.report.Verdict.TheVariants.{True, False, U
 use Rattle.law_reports.specs.Verdicts.{AreTrueCases, FailsFirst}
 use Rattle.law_reports.specs.Reports.{IsShown}
 
--- where each case, with its elements, is known by its classes, and for budgets of nodes and of images
-module _ (case_for : List Class → PosedCase) (nodes images : ℕ) where
+-- where each case, with its elements, is known by its classes, and for budgets of nodes and of steps, which are images that a search makes
+module _ (case_for : List Class → PosedCase) (nodes steps : ℕ) where
   abbrev pub lists_for : List Class → Lists
   lists_for classes = case_lists (case_for classes)
 
   -- the verdict by these cases: true, or that of the first that is not, and a false one is shown by a shortest violating path
   abbrev pub IsToldBy : List (List Class) → Verdict → Type 0
-  IsToldBy cases True = AreTrueCases lists_for nodes images cases
-  IsToldBy cases (False c elements path) = (k : ℕ) × FailsFirst lists_for nodes images cases c.classes (Reached k) × IsShown (case_for c.classes) k elements path
-  IsToldBy cases (UnknownNodes c count) = FailsFirst lists_for nodes images cases c.classes (Counted count)
-  IsToldBy cases (UnknownSteps c) = FailsFirst lists_for nodes images cases c.classes Images
+  IsToldBy cases True = AreTrueCases lists_for nodes steps cases
+  IsToldBy cases (False c elements path) = (k : ℕ) × FailsFirst lists_for nodes steps cases c.classes (Reached k) × IsShown (case_for c.classes) k elements path
+  IsToldBy cases (UnknownNodes c count) = FailsFirst lists_for nodes steps cases c.classes (Counted count)
+  IsToldBy cases (UnknownSteps c) = FailsFirst lists_for nodes steps cases c.classes Images

@@ -17,19 +17,19 @@ use Rattle.law_reports.specs.Verdicts.{LeafVerdict, IsUnitVerdict, AreVerdicts, 
 
 -- a unit has at most one verdict for its budgets
 abbrev pub OneUnitVerdict : Type 0
-OneUnitVerdict = (s : Script) (nodes images u : ℕ) (entry : Entry) (v w : LeafVerdict) → IsUnitVerdict s nodes images u entry v → IsUnitVerdict s nodes images u entry w → v ≡ w
+OneUnitVerdict = (s : Script) (nodes steps u : ℕ) (entry : Entry) (v w : LeafVerdict) → IsUnitVerdict s nodes steps u entry v → IsUnitVerdict s nodes steps u entry w → v ≡ w
 
 -- and a script one list of verdicts
 abbrev pub OneVerdictEach : Type 0
-OneVerdictEach = (s : Script) (nodes images : ℕ) (vs ws : List LeafVerdict) → AreVerdicts s nodes images vs → AreVerdicts s nodes images ws → vs ≡ ws
+OneVerdictEach = (s : Script) (nodes steps : ℕ) (vs ws : List LeafVerdict) → AreVerdicts s nodes steps vs → AreVerdicts s nodes steps ws → vs ≡ ws
 
 -- where two rings of a case are equal before a path is found, its problem has no violating path
 abbrev pub ShutCasesHaveNone : Type 0
-ShutCasesHaveNone = (c : PosedCase) → IsCase c → (nodes images k : ℕ) → IsFirstEvent (case_lists c) nodes images (Shut k) → HasNone c.problem
+ShutCasesHaveNone = (c : PosedCase) → IsCase c → (nodes steps k : ℕ) → IsFirstEvent (case_lists c) nodes steps (Shut k) → HasNone c.problem
 
 -- where a violating path of k steps is found, its problem has one, and none of fewer steps
 abbrev pub ReachedCasesHaveShortest : Type 0
-ReachedCasesHaveShortest = (c : PosedCase) → IsCase c → (nodes images k : ℕ) → IsFirstEvent (case_lists c) nodes images (Reached k) → (path : List AbsState) × IsShortest c.problem k path
+ReachedCasesHaveShortest = (c : PosedCase) → IsCase c → (nodes steps k : ℕ) → IsFirstEvent (case_lists c) nodes steps (Reached k) → (path : List AbsState) × IsShortest c.problem k path
 
 -- what a search over the lists of a case answers says so of its problem
 abbrev pub Says : PosedCase → Outcome → Type 0
@@ -39,12 +39,12 @@ Says c (OutOfNodes count) = Unit {0}
 Says c OutOfSteps = Unit {0}
 
 abbrev pub SearchesDecide : Type 0
-SearchesDecide = (c : PosedCase) → IsCase c → (d : Diagram) (nodes images : ℕ) (o : Outcome) → Answers d (case_lists c) nodes images o → Says c o
+SearchesDecide = (c : PosedCase) → IsCase c → (d : Diagram) (nodes steps : ℕ) (o : Outcome) → Answers d (case_lists c) nodes steps o → Says c o
 
 -- a checked script whose units are all true is proved
 abbrev pub TrueScriptsAreProved : Type 0
-TrueScriptsAreProved = (s : Script) → IsChecked s → HaveValues s.design → (nodes images : ℕ) (verdicts : List LeafVerdict) → AreVerdicts s nodes images verdicts → AllTrue verdicts → IsProved s
+TrueScriptsAreProved = (s : Script) → IsChecked s → HaveValues s.design → (nodes steps : ℕ) (verdicts : List LeafVerdict) → AreVerdicts s nodes steps verdicts → AllTrue verdicts → IsProved s
 
 -- and sound
 abbrev pub TrueScriptsAreSound : Type 0
-TrueScriptsAreSound = (s : Script) → IsChecked s → HaveValues s.design → (nodes images : ℕ) (verdicts : List LeafVerdict) → AreVerdicts s nodes images verdicts → AllTrue verdicts → IsSoundScript s
+TrueScriptsAreSound = (s : Script) → IsChecked s → HaveValues s.design → (nodes steps : ℕ) (verdicts : List LeafVerdict) → AreVerdicts s nodes steps verdicts → AllTrue verdicts → IsSoundScript s

@@ -21,11 +21,13 @@ is_shut (Counted n) = false
 is_shut (Reached k) = false
 is_shut Images = false
 
--- for cases, by the lists of functions of each, and for budgets of nodes and of images
-module _ (lists : List Class → Lists) (nodes images : ℕ) where
+-- for cases, by the lists of functions of each, and for budgets of nodes and of steps, which are images that a search makes
+module _ (lists : List Class → Lists) (nodes steps : ℕ) where
+  -- a case is true: a ring equals the next one before anything else happens
   abbrev pub IsTrueCase : List Class → Type 0
-  IsTrueCase classes = (k : ℕ) × IsFirstEvent (lists classes) nodes images (Shut k)
+  IsTrueCase classes = (k : ℕ) × IsFirstEvent (lists classes) nodes steps (Shut k)
 
+  -- all of these cases are true
   abbrev pub AreTrueCases : List (List Class) → Type 0
   AreTrueCases cases = (classes : List Class) → Has cases classes → IsTrueCase classes
 
@@ -35,7 +37,7 @@ module _ (lists : List Class → Lists) (nodes images : ℕ) where
     pub behind : List (List Class)
     pub stands : cases ≡ before ++ (classes ∷ behind)
     pub are_true : AreTrueCases before
-    pub is_verdict : IsFirstEvent (lists classes) nodes images v
+    pub is_verdict : IsFirstEvent (lists classes) nodes steps v
     pub is_not : is_shut v ≡ false
 
   -- the verdict of a leaf with these cases
@@ -43,14 +45,14 @@ module _ (lists : List Class → Lists) (nodes images : ℕ) where
   IsLeafVerdict cases all_true = AreTrueCases cases
   IsLeafVerdict cases (fails classes v) = FailsFirst cases classes v
 
-module _ (s : Script) (nodes images : ℕ) where
+module _ (s : Script) (nodes steps : ℕ) where
   -- the lists of functions of a case
   abbrev pub lists_at : ℕ → Entry → List Class → Lists
   lists_at u entry classes = case_lists (case_at s u entry classes)
 
   -- the verdict of the unit at this place: that of its leaf
   abbrev pub IsUnitVerdict : ℕ → Entry → LeafVerdict → Type 0
-  IsUnitVerdict u entry v = IsLeafVerdict (lists_at u entry) nodes images (classes_of s entry) v
+  IsUnitVerdict u entry v = IsLeafVerdict (lists_at u entry) nodes steps (classes_of s entry) v
 
   -- the verdicts of the units from a place on
   abbrev pub AreVerdictsFrom : ℕ → List Entry → List LeafVerdict → Type 0

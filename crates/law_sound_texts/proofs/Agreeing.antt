@@ -1,8 +1,10 @@
 -- Two states that agree on what the references in an expression may read give it the same outcome, and allow a right side the same values.
-use Rattle.std.proofs.Common.{◌≡◌, ℕ, zero, suc, ◌+◌, ◌-◌, List, [], ◌∷◌, ◌++◌, map, filter, zip, Bool, true, false, cond, not, ◌||◌, ◌&&◌, refl, ap, subst, ◌∙◌, ◌⊎◌, inl, inr, Option, Some, None, option_map, slice_get}
+use Rattle.std.proofs.Common.{◌≡◌, ℕ, zero, suc, ◌+◌, ◌-◌, List, [], ◌∷◌, ◌++◌, map, filter, zip, Bool, true, false, cond, not, ◌&&◌, refl, ap, subst, ◌∙◌, ◌⊎◌, inl, inr, Option, Some, None, option_map, slice_get}
 use Rattle.std.specs.List.{flat_map, list_any, list_all, AllZip}
 use Rattle.std.specs.Option.{is_none}
 use Rattle.std.proofs.Math.Path.{fun_ext}
+use Rattle.std.proofs.lemmas.Bool.{or_left, or_right}
+use Rattle.law_lists.proofs.Options.{some_is}
 use Rattle.smv_core.specs.Values.{Value, number, constant, scalar, ordinal, Outcome, truth, bit, same, is_in, value_in, all_defined, equal, compare, add, modulo, numbers_from, not_of, iff_of, conjunction, disjunction, implication}
 use Rattle.smv_core.specs.Outcome.{branch, fit, is_true}
 use Rattle.smv_core.specs.Walk.{is_other}
@@ -15,7 +17,6 @@ use Rattle.smv_core.specs.declared.flat.FlatExpr.{FlatExpr, Number, Read', Var, 
 use Rattle.law_obligations.specs.Sets.{Has, first, later}
 use Rattle.law_obligations.proofs.Members.{Has-left, Has-right}
 use Rattle.law_obligations.proofs.Same.{Has-is_in, same-itself}
-use Rattle.law_obligations.proofs.Lookups.{inner}
 use Rattle.law_designs.specs.Reading.{Reference, indexes_of, references, references_of, references_signed, references_members, references_held}
 
 -- ---- constant indexes
@@ -115,7 +116,7 @@ module _ (n : Numbered) (s : FlatState) where
 
 -- an index fits its own outcome
 fits_own : (i : Index) (v : Value) → Denotes i (Some v) → fits i v ≡ true
-fits_own (fixed (Some w)) v e = subst (λ w. same w v ≡ true) (inner e) (same-itself v)
+fits_own (fixed (Some w)) v e = subst (λ w. same w v ≡ true) (some_is e) (same-itself v)
 fits_own (fixed None) v e = absurd (cc (e))
 fits_own (bare k) v e = refl
 fits_own computed v e = refl
@@ -130,14 +131,6 @@ misfit computed u v e h = absurd (cc (h))
 -- one of the outcomes is another value, or one is Undefined
 abbrev AreElsewhere : List Outcome → List Value → Type 0
 AreElsewhere us vs = (list_any (λ (u, v). is_other u v) (zip us vs) ≡ true) ⊎ (list_any is_none us ≡ true)
-
-or_left : (a b : Bool) → a ≡ true → (a || b) ≡ true
-or_left true b e = refl
-or_left false b e = absurd (cc (e))
-
-or_right : (a b : Bool) → b ≡ true → (a || b) ≡ true
-or_right true b e = refl
-or_right false b e = e
 
 elsewhere_here : (u : Outcome) (v : Value) (us : List Outcome) (vs : List Value) → (is_other u v ≡ true) ⊎ (is_none u ≡ true) → AreElsewhere (u ∷ us) (v ∷ vs)
 elsewhere_here u v us vs (inl p) = inl (or_left (is_other u v) _ p)
@@ -178,8 +171,8 @@ values_read n over us = all_defined (map (λ (t, u). value_in (values_in n t) u)
 
 read_values : (n : Numbered) (over : List FlatSimple) (is : List Index) (us : List Outcome) → AllZip Shows is us → (vs : List Value) →
     values_read n over us ≡ Some vs → MayBe n over is vs
-read_values n [] is us shown vs e = subst (MayBe n [] is) (inner e) tt
-read_values n (o ∷ over) [] [] shown vs e = subst (MayBe n (o ∷ over) []) (inner e) tt
+read_values n [] is us shown vs e = subst (MayBe n [] is) (some_is e) tt
+read_values n (o ∷ over) [] [] shown vs e = subst (MayBe n (o ∷ over) []) (some_is e) tt
 read_values n (o ∷ over) [] (u ∷ us) shown vs e = elim shown [ ]
 read_values n (o ∷ over) (i ∷ is) [] shown vs e = elim shown [ ]
 read_values n (o ∷ over) (i ∷ is) (None ∷ us) shown vs e = absurd (cc (e))
@@ -187,7 +180,7 @@ read_values n (o ∷ over) (i ∷ is) (Some v ∷ us) shown vs e = within (is_in
   where
     behind : is_in (values_in n o) v ≡ true → (w : Option (List Value)) → values_read n over us ≡ w → option_map (λ vs. v ∷ vs) w ≡ Some vs → ((vs : List Value) → values_read n over us ≡ Some vs → MayBe n over is vs) → MayBe n (o ∷ over) (i ∷ is) vs
     behind p None r e goes = absurd (cc (e))
-    behind p (Some ws) r e goes = subst (MayBe n (o ∷ over) (i ∷ is)) (inner e) (Has-is_in (values_in n o) v p, shown.0.0 v refl, shown.0.1, goes ws r)
+    behind p (Some ws) r e goes = subst (MayBe n (o ∷ over) (i ∷ is)) (some_is e) (Has-is_in (values_in n o) v p, shown.0.0 v refl, shown.0.1, goes ws r)
 
     within : (c : Bool) → is_in (values_in n o) v ≡ c → all_defined (cond c (Some v) None ∷ map (λ (t, u). value_in (values_in n t) u) (zip over us)) ≡ Some vs →
         ((vs : List Value) → values_read n over us ≡ Some vs → MayBe n over is vs) → MayBe n (o ∷ over) (i ∷ is) vs

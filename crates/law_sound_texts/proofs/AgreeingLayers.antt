@@ -1,5 +1,7 @@
 -- The map of the text whose layers agree: each run keeps the base definition, which says the same.
 use Rattle.std.proofs.Common.{◌≡◌, List, [], ◌∷◌, Option, Some, None, true, All, arith, codes}
+use Rattle.law_lists.proofs.Booleans.{left_of}
+use Rattle.law_lists.proofs.Each.{all_one}
 use Rattle.smv_core.specs.Values.{Value, Sizes}
 use Rattle.smv_core.specs.FlatOrder.{TextDesign, design_of}
 use Rattle.smv_core.specs.Outcome.{State}
@@ -16,12 +18,10 @@ use Rattle.law_obligations.specs.Soundness.{at_sizes, is_held, meets_base}
 use Rattle.law_obligations.specs.Outlines.{names_of, bases, unit_in}
 use Rattle.law_obligations.specs.Checked.{HoldsAlways}
 use Rattle.law_sound_texts.specs.WorkedText.{the_signal}
-use Rattle.law_sound_texts.proofs.Lists.{left_of}
 use Rattle.law_sound_texts.specs.Carried.{UnitsHold}
 use Rattle.law_sound_texts.specs.WorkedTexts.{agreeing_layers, HoldsInBoth}
 use Rattle.law_sound_texts.proofs.Times.{always-gives}
 use Rattle.law_sound_texts.proofs.WorkedTexts.{computing}
-use Rattle.law_sound_texts.proofs.WorkedText.{all-one}
 
 abbrev d : TextDesign
 d = design_of agreeing_layers
@@ -46,8 +46,8 @@ module _ (sizes : Sizes) where
   text_holds : (run : List State) → IsRun d sizes run → All (λ unit. All (λ vs. AtEachTime (Holds d sizes unit vs) None run) (instances d sizes unit)) (units d)
   unfolding computing
   text_holds run is =
-      all-one (λ unit. All (λ vs. AtEachTime (Holds d sizes unit vs) None run) (instances d sizes unit)) (map_of (codes "A") the_signal)
-      (all-one (λ vs. AtEachTime (Holds d sizes (map_of (codes "A") the_signal) vs) None run) [] (map_holds run is))
+      all_one (λ unit. All (λ vs. AtEachTime (Holds d sizes unit vs) None run) (instances d sizes unit)) (map_of (codes "A") the_signal)
+      (all_one (λ vs. AtEachTime (Holds d sizes (map_of (codes "A") the_signal) vs) None run) [] (map_holds run is))
 
   -- so it is in the design
   flat_same : (fore : Option FlatState) (t : FlatState) → meets_base (at_sizes (names_of f) sizes) (bases f) fore t ≡ true → is_held (at_sizes (names_of f) sizes) (unit_in f (Map 1)) [] fore t ≡ true

@@ -1,6 +1,7 @@
 -- Each run of a text is one of its design.
 use Rattle.std.proofs.Common.{◌≡◌, List, [], ◌∷◌, map, Option, Some, None, Bool, true, false, cond, refl, sym, ap, subst, ◌∙◌, slice_get, option_map, All, Contains}
 use Rattle.std.specs.List.{list_all, AllZip}
+use Rattle.std.proofs.lemmas.Bool.{and_from}
 use Rattle.smv_core.specs.Values.{Name, Value, Sizes}
 use Rattle.smv_core.specs.Types.{Family}
 use Rattle.smv_core.specs.FlatOrder.{TextDesign, design_of}
@@ -28,8 +29,9 @@ use Rattle.law_obligations.specs.Outlines.{bases}
 use Rattle.law_obligations.proofs.Members.{Has-from_map, all-holds}
 use Rattle.law_obligations.proofs.OneOfEach.{get_Has}
 use Rattle.law_designs.specs.LayerFaults.{is_abstract}
-use Rattle.law_sound_texts.specs.TextExtension.{FamiliesAreFound, IsSameLayer, LayersAreSame}
-use Rattle.law_sound_texts.proofs.Lists.{both_true, is_in-Has}
+use Rattle.law_sound_texts.specs.TextExtension.{IsSameLayer, LayersAreSame}
+use Rattle.law_flat_kinds.specs.FamiliesFound.{FamiliesAreFound}
+use Rattle.law_flat_kinds.proofs.Lists.{is_in-Has}
 use Rattle.law_sound_texts.proofs.Faultless.{IsFaultless, IsBase, base_is}
 use Rattle.law_sound_texts.proofs.Texts.{Contains-Has, All-each, in_text, indexes_same, to_flat, to_text, text_same, flat_same, flat_typed, demand_same, no_layer}
 
@@ -105,7 +107,7 @@ module _ (text : Text) (sizes : Sizes) (families : AllZip (IsSameFamily (numbers
 
   meets_always : (before : Option State) (fore : Option FlatState) → AreSameBefore d.families before fore → (run : List State) → AtEachTime (MeetsBase d sizes) before run → always (meets_base n (bases f)) fore (map carried run) ≡ true
   meets_always before fore b [] meets = refl
-  meets_always before fore b (s ∷ run) meets = both_true _ _ (meets_flat before fore b s meets.0) (meets_always (Some s) (Some (carried s)) (flat_same text sizes families found s) run meets.1)
+  meets_always before fore b (s ∷ run) meets = and_from _ _ (meets_flat before fore b s meets.0) (meets_always (Some s) (Some (carried s)) (flat_same text sizes families found s) run meets.1)
 
   same_states : (run : List State) → AllZip (AreSameStates d.families) run (map carried run)
   same_states [] = tt

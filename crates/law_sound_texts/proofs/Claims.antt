@@ -2,6 +2,8 @@
 use Rattle.std.proofs.Common.{◌≡◌, ℕ, List, [], map, length, Some, None, true, sym, ap, subst, ◌∙◌, slice_get}
 use Rattle.std.specs.List.{AllZip}
 use Rattle.std.proofs.lemmas.List.{length-map}
+use Rattle.law_lists.proofs.Lists.{map-map}
+use Rattle.law_lists.proofs.Options.{some_is}
 use Rattle.smv_core.specs.Values.{Name, Value, Sizes, number, truth}
 use Rattle.smv_core.specs.Types.{values_over as values_of_type}
 use Rattle.smv_core.specs.FlatOrder.{TextDesign, design_of, Claimed}
@@ -22,14 +24,12 @@ use Rattle.law_designs.specs.Agreement.{AreSameStates, numbers_in}
 use Rattle.law_designs.specs.WholeText.{IsSameClaim, claims_of, claims_met}
 use Rattle.law_designs.specs.Definitions.{design_of_flat_text}
 use Rattle.law_obligations.specs.Sets.{Has, one_of_each}
-use Rattle.law_obligations.proofs.CoverParams.{map-map}
 use Rattle.law_obligations.specs.Soundness as flat
 use Rattle.law_obligations.specs.Soundness.{claim_of, params_of, values_over, is_held}
 use Rattle.law_obligations.specs.Outlines.{names_of, bases, as_claim}
 use Rattle.law_obligations.specs.Checked.{HoldsAlways}
 use Rattle.law_obligations.proofs.OneOfEach.{Has_get}
 use Rattle.law_obligations.proofs.GuardsKeep.{is_one}
-use Rattle.law_obligations.proofs.Lookups.{inner}
 use Rattle.law_sound_texts.proofs.Texts.{zip_right}
 use Rattle.law_sound_texts.specs.Carried.{UnitsHold}
 use Rattle.law_sound_texts.proofs.Units.{claim-unit}
@@ -75,5 +75,5 @@ module _ (text : Text) (sizes : Sizes) where
         says k at fc flat_at long s t same_states held =
             let r : (other : FlatClaim) × (slice_get (claims_of flat_text.items) k ≡ Some other) × IsSameClaim text sizes s t other c =
             zip_right (IsSameClaim text sizes s t) (claims_of flat_text.items) (claims_met d.met) (claims s t same_states) k c at in
-            let own : r.0 ≡ fc = inner (sym r.1 ∙ flat_at) in
+            let own : r.0 ≡ fc = some_is (sym r.1 ∙ flat_at) in
             sym (r.2.2 vs long) ∙ (ap (λ (c : FlatClaim). flat_outcome n t c.body vs) own ∙ is_one (flat_outcome n t fc.body vs) held)

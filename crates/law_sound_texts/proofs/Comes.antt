@@ -1,6 +1,8 @@
 -- Each left side of a definition is that of an assignment in the statements from which it is made.
-use Rattle.std.proofs.Common.{◌≡◌, ℕ, ◌+◌, List, [], ◌∷◌, ◌++◌, map, filter, Option, Some, None, Bool, true, false, ◌&&◌, cond, nat_eq, refl, ap, subst, inl, inr}
+use Rattle.std.proofs.Common.{◌≡◌, ℕ, ◌+◌, List, [], ◌∷◌, ◌++◌, map, filter, Option, Bool, true, false, ◌&&◌, cond, nat_eq, refl, subst, inl, inr}
 use Rattle.std.specs.List.{flat_map}
+use Rattle.law_lists.proofs.Numbers.{nat_eq-is}
+use Rattle.law_lists.proofs.Booleans.{left_of, right_of}
 use Rattle.smv_core.specs.Walk.{same_kind}
 use Rattle.smv_core.specs.Assignments.{Index}
 use Rattle.smv_core.specs.FlatMeaning.{flat_index, indexes_assigned}
@@ -11,12 +13,11 @@ use Rattle.smv_core.specs.declared.flat.DefBody.{DefBody, Nothing}
 use Rattle.smv_core.specs.declared.flat.DefBody as flat
 use Rattle.law_designs.specs.WholeText.{is_one_layer}
 use Rattle.law_obligations.specs.Sets.{Has, first, later}
-use Rattle.law_obligations.proofs.Tests.{left_of, right_of}
 use Rattle.law_obligations.proofs.Members.{Has-left, Has-right, Has-cases}
-use Rattle.law_obligations.proofs.Same.{nat_eq-is}
 use Rattle.law_designs.specs.Standing.{count, Statement, Standing, standing, standing_in, assigned_by}
 use Rattle.law_designs.specs.Definitions.{flat_of, flats_of}
 use Rattle.law_designs.proofs.FlatParts.{indexes-first_part, indexes-branches, indexes-each_value}
+use Rattle.law_designs.proofs.Descents.{one-is}
 
 pub kind-is : (a b : Kind) → same_kind a b ≡ true → a ≡ b
 kind-is Comb Comb e = refl
@@ -89,12 +90,6 @@ module _ (layer : Option ℕ) (kind : Kind) (family : ℕ) where
           | inr p ↦ comes-right (standing layer around part) (standing_in layer around rest) is (comes_in around (k + count part) rest is p)
         ]
 
-pub layer-is : (a b : Option ℕ) → is_one_layer a b ≡ true → a ≡ b
-layer-is None None e = refl
-layer-is (Some j) (Some k) e = ap Some (nat_eq-is j k e)
-layer-is None (Some k) e = absurd (cc (e))
-layer-is (Some j) None e = absurd (cc (e))
-
 module _ (layer : Option ℕ) (kind : Kind) (family : ℕ) where
   abbrev pub part : Statement → DefBody
   part s = flat_of kind family s.place s.act
@@ -114,7 +109,7 @@ module _ (layer : Option ℕ) (kind : Kind) (family : ℕ) where
           (Has (flat_map indexes_assigned (map part (chosen set))) is → Comes layer kind family (flat_map assigned_by set) is) → Comes layer kind family (assigned_by s ++ flat_map assigned_by set) is
       by_test true e h rest =
           elim (Has-cases (indexes_assigned (part s)) (flat_map indexes_assigned (map part (chosen set))) h) [
-            | inl p ↦ comes-left layer kind family (assigned_by s) (flat_map assigned_by set) is (turned s.layer (layer-is layer s.layer e) (comes layer kind family [] s.place s.act is p))
+            | inl p ↦ comes-left layer kind family (assigned_by s) (flat_map assigned_by set) is (turned s.layer (one-is layer s.layer e) (comes layer kind family [] s.place s.act is p))
             | inr p ↦ comes-right layer kind family (assigned_by s) (flat_map assigned_by set) is (rest p)
           ]
       by_test false e h rest = comes-right layer kind family (assigned_by s) (flat_map assigned_by set) is (rest h)

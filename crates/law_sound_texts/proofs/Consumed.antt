@@ -1,5 +1,5 @@
--- What the rules of the grammar read has no fewer bytes than are counted for its tokens.
-use Rattle.std.proofs.Common.{◌≤◌, ◌+◌, ℕ, zero, suc, Bool, true, false, ◌&&◌, cond, List, [], ◌∷◌, inl, inr, Option, ap, arith}
+-- What the rules of the grammar read is a front of the tokens, and has no fewer bytes than are counted for them.
+use Rattle.std.proofs.Common.{◌≡◌, ◌≤◌, ◌+◌, ℕ, zero, suc, Bool, true, false, ◌&&◌, cond, List, [], ◌∷◌, ◌++◌, inl, inr, Option, refl, ap, sym, subst, ◌∙◌, arith}
 use Rattle.smv_core.specs.declared.token.Token.{Token}
 use Rattle.smv_core.specs.declared.tree.Word.{Word}
 use Rattle.smv_core.specs.declared.tree.Expr.{Expr}
@@ -39,355 +39,372 @@ weight (t ∷ ts) = width t.kind + gap t.kind ts + weight ts
 
 -- ---- how rules are put together
 
-pub record IsLess {A : Type 0} (r : Rule A) : Type 0 where
-  pub less : (ts : Tokens) (a : A) (rest : Tokens) → r ts a rest → weight rest ≤ weight ts
+-- what comes after some first tokens
+abbrev pub IsBehind : Tokens → Tokens → Type 0
+IsBehind rest ts = (front : Tokens) × (ts ≡ front ++ rest)
 
-down : (a b c : ℕ) → a ≤ b → b ≤ c → a ≤ c
-down a b c h k = omega (arith, h, k)
+-- what the rule spells is a front of the tokens
+pub record ReadsFront {A : Type 0} (r : Rule A) : Type 0 where
+  pub behind : (ts : Tokens) (a : A) (rest : Tokens) → r ts a rest → IsBehind rest ts
 
-pub less-bind : {A B : Type 0} {r : Rule A} {s : A → Rule B} → IsLess r → ((a : A) → IsLess (s a)) → IsLess (r >>= s)
-less-bind l k = record { less = λ ts b rest h. down (weight rest) (weight h.1) (weight ts) ((k h.0).less h.1 b rest h.3) (l.less ts h.0 h.1 h.2) }
+joined : (front other rest : Tokens) → front ++ (other ++ rest) ≡ (front ++ other) ++ rest
+joined [] other rest = refl
+joined (t ∷ front) other rest = ap (λ ts. t ∷ ts) (joined front other rest)
 
-less-or : {A : Type 0} {r s : Rule A} → IsLess r → IsLess s → IsLess (r <|> s)
-less-or {A} {r} {s} l k = record { less = λ ts a rest h. by_case ts a rest h }
+behind-both : (ts middle rest : Tokens) → IsBehind middle ts → IsBehind rest middle → IsBehind rest ts
+behind-both ts middle rest h k = (h.0 ++ k.0, h.1 ∙ (ap (λ m. h.0 ++ m) k.1 ∙ joined h.0 k.0 rest))
+
+weight-behind : (front rest : Tokens) → weight rest ≤ weight (front ++ rest)
+weight-behind [] rest = omega arith
+weight-behind (t ∷ front) rest = let l = weight-behind front rest in omega (arith, l)
+
+-- so it has no fewer bytes than are counted
+pub lighter : {A : Type 0} {r : Rule A} → ReadsFront r → (ts : Tokens) (a : A) (rest : Tokens) → r ts a rest → weight rest ≤ weight ts
+lighter l ts a rest h = let b = l.behind ts a rest h in subst (λ ts. weight rest ≤ weight ts) (sym b.1) (weight-behind b.0 rest)
+
+pub front-bind : {A B : Type 0} {r : Rule A} {s : A → Rule B} → ReadsFront r → ((a : A) → ReadsFront (s a)) → ReadsFront (r >>= s)
+front-bind l k = record { behind = λ ts b rest h. behind-both ts h.1 rest (l.behind ts h.0 h.1 h.2) ((k h.0).behind h.1 b rest h.3) }
+
+pub front-or : {A : Type 0} {r s : Rule A} → ReadsFront r → ReadsFront s → ReadsFront (r <|> s)
+front-or {A} {r} {s} l k = record { behind = λ ts a rest h. by_case ts a rest h }
   where
-    by_case : (ts : Tokens) (a : A) (rest : Tokens) → (r <|> s) ts a rest → weight rest ≤ weight ts
-    by_case ts a rest (inl h) = l.less ts a rest h
-    by_case ts a rest (inr h) = k.less ts a rest h
+    by_case : (ts : Tokens) (a : A) (rest : Tokens) → (r <|> s) ts a rest → IsBehind rest ts
+    by_case ts a rest (inl h) = l.behind ts a rest h
+    by_case ts a rest (inr h) = k.behind ts a rest h
 
-pub less-nothing : {A : Type 0} (a : A) → IsLess (nothing a)
-less-nothing a = record { less = λ ts b rest h. let e = ap weight h.1 in omega (arith, e) }
+pub front-nothing : {A : Type 0} (a : A) → ReadsFront (nothing a)
+front-nothing a = record { behind = λ ts b rest h. ([], h.1) }
 
-less-one : {A : Type 0} (read : Token → Option A) → IsLess (one read)
-less-one {A} read = record { less = by_case }
+front-one : {A : Type 0} (read : Token → Option A) → ReadsFront (one read)
+front-one {A} read = record { behind = by_case }
   where
-    by_case : (ts : Tokens) (a : A) (rest : Tokens) → one read ts a rest → weight rest ≤ weight ts
+    by_case : (ts : Tokens) (a : A) (rest : Tokens) → one read ts a rest → IsBehind rest ts
     by_case [] a rest h = absurd h
-    by_case (t ∷ ts) a rest h = let e = ap weight h.1 in omega (arith, e)
+    by_case (t ∷ ts) a rest h = (t ∷ [], ap (λ ts. t ∷ ts) h.1)
 
 -- ---- what opens no level
 
-pub less-token : (k : TokenKind) → IsLess (token k)
-less-token k = less-one _
+pub front-token : (k : TokenKind) → ReadsFront (token k)
+front-token k = front-one _
 
-pub less-name : IsLess name
-less-name = less-one _
+pub front-name : ReadsFront name
+front-name = front-one _
 
-less-number : IsLess number
-less-number = less-one _
+pub front-number : ReadsFront number
+front-number = front-one _
 
-less-span : IsLess g.span
-less-span = less-bind less-number (λ low. less-bind (less-token w.dots) (λ u. less-bind less-number (λ high. less-nothing _)))
+pub front-span : ReadsFront g.span
+front-span = front-bind front-number (λ low. front-bind (front-token w.dots) (λ u. front-bind front-number (λ high. front-nothing _)))
 
-less-index : IsLess g.index
-less-index = less-or (less-bind (less-token w.word_boolean) (λ u. less-nothing _)) (less-or (less-bind less-span (λ s. less-nothing _)) (less-bind less-name (λ x. less-nothing _)))
+pub front-index : ReadsFront g.index
+front-index = front-or (front-bind (front-token w.word_boolean) (λ u. front-nothing _)) (front-or (front-bind front-span (λ s. front-nothing _)) (front-bind front-name (λ x. front-nothing _)))
 
-pub less-many : {A : Type 0} {r : Rule A} → IsLess r → IsLess (many r)
-less-many {A} {r} l = record { less = by_list }
+pub front-many : {A : Type 0} {r : Rule A} → ReadsFront r → ReadsFront (many r)
+front-many {A} {r} l = record { behind = by_list }
   where
-    by_list : (ts : Tokens) (xs : List A) (rest : Tokens) → many r ts xs rest → weight rest ≤ weight ts
-    by_list ts [] rest h = let e = ap weight h in omega (arith, e)
-    by_list ts (a ∷ xs) rest h = down (weight rest) (weight h.0) (weight ts) (by_list h.0 xs rest h.2) (l.less ts a h.0 h.1)
+    by_list : (ts : Tokens) (xs : List A) (rest : Tokens) → many r ts xs rest → IsBehind rest ts
+    by_list ts [] rest h = ([], h)
+    by_list ts (a ∷ xs) rest h = behind-both ts h.0 rest (l.behind ts a h.0 h.1) (by_list h.0 xs rest h.2)
 
-pub less-then : {A B : Type 0} {r : Rule A} {s : Rule B} → IsLess r → IsLess s → IsLess (r >> s)
-less-then l k = less-bind l (λ a. k)
+pub front-then : {A B : Type 0} {r : Rule A} {s : Rule B} → ReadsFront r → ReadsFront s → ReadsFront (r >> s)
+front-then l k = front-bind l (λ a. k)
 
-less-optional : {A : Type 0} {r : Rule A} → IsLess r → IsLess (optional r)
-less-optional l = less-or (less-bind l (λ a. less-nothing _)) (less-nothing _)
+pub front-optional : {A : Type 0} {r : Rule A} → ReadsFront r → ReadsFront (optional r)
+front-optional l = front-or (front-bind l (λ a. front-nothing _)) (front-nothing _)
 
-less-separated : {A : Type 0} {r : Rule A} → IsLess r → IsLess (separated r)
-less-separated l = less-bind l (λ x. less-bind (less-many (less-then (less-token w.comma) l)) (λ more. less-nothing _))
+pub front-separated : {A : Type 0} {r : Rule A} → ReadsFront r → ReadsFront (separated r)
+front-separated l = front-bind l (λ x. front-bind (front-many (front-then (front-token w.comma) l)) (λ more. front-nothing _))
 
-pub less-or_none : {A : Type 0} {r : Rule A} → IsLess r → IsLess (separated_or_none r)
-less-or_none l = less-or (less-separated l) (less-nothing _)
+pub front-or_none : {A : Type 0} {r : Rule A} → ReadsFront r → ReadsFront (separated_or_none r)
+front-or_none l = front-or (front-separated l) (front-nothing _)
 
-less-one_of : {A : Type 0} (list : List (TokenKind × A)) → IsLess (one_of list)
-less-one_of list = less-one _
+pub front-one_of : {A : Type 0} (list : List (TokenKind × A)) → ReadsFront (one_of list)
+front-one_of list = front-one _
 
-less-same_name : (x : Word) → IsLess (same_name x)
-less-same_name x = less-bind less-name (λ v. record { less = λ ts u rest h. let e = ap weight h.1.1 in omega (arith, e) })
+front-same_name : (x : Word) → ReadsFront (same_name x)
+front-same_name x = front-bind front-name (λ v. record { behind = λ ts u rest h. ([], h.1.1) })
 
-less-positive : IsLess positive
-less-positive = less-bind less-number (λ k. record { less = λ ts m rest h. let e = ap weight h.1.1 in omega (arith, e) })
+front-positive : ReadsFront positive
+front-positive = front-bind front-number (λ k. record { behind = λ ts m rest h. ([], h.1.1) })
 
-less-opens : (floor : ℕ → ℕ) (n at : ℕ) → IsLess (opens floor n at)
-less-opens floor n at = record { less = λ ts u rest h. let e = ap weight h.1.1 in omega (arith, e) }
+front-opens : (floor : ℕ → ℕ) (n at : ℕ) → ReadsFront (opens floor n at)
+front-opens floor n at = record { behind = λ ts u rest h. ([], h.1.1) }
 
-less-opener : (floor : ℕ → ℕ) (n : ℕ) (k : TokenKind) → IsLess (opener floor n k)
-less-opener floor n k = less-bind (less-token k) (λ at. less-then (less-opens floor n at) (less-nothing _))
+front-opener : (floor : ℕ → ℕ) (n : ℕ) (k : TokenKind) → ReadsFront (opener floor n k)
+front-opener floor n k = front-bind (front-token k) (λ at. front-then (front-opens floor n at) (front-nothing _))
 
-less-placed : {A : Type 0} {r : Rule A} → IsLess r → IsLess (placed r)
-less-placed {A} {r} l = record { less = by_case }
+front-placed : {A : Type 0} {r : Rule A} → ReadsFront r → ReadsFront (placed r)
+front-placed {A} {r} l = record { behind = by_case }
   where
-    by_case : (ts : Tokens) (a : A × ℕ) (rest : Tokens) → placed r ts a rest → weight rest ≤ weight ts
+    by_case : (ts : Tokens) (a : A × ℕ) (rest : Tokens) → placed r ts a rest → IsBehind rest ts
     by_case [] a rest h = absurd h
-    by_case (t ∷ ts) a rest h = l.less (t ∷ ts) a.0 rest h.0
+    by_case (t ∷ ts) a rest h = l.behind (t ∷ ts) a.0 rest h.0
 
-less-label : IsLess g.label
-less-label = less-or (less-bind less-number (λ k. less-nothing _)) (less-bind less-name (λ x. less-nothing _))
+front-label : ReadsFront g.label
+front-label = front-or (front-bind front-number (λ k. front-nothing _)) (front-bind front-name (λ x. front-nothing _))
 
-less-layer_name : IsLess g.layer_name
-less-layer_name = less-bind less-name (λ l. less-nothing _)
+front-layer_name : ReadsFront g.layer_name
+front-layer_name = front-bind front-name (λ l. front-nothing _)
 
-less-free : IsLess g.free
-less-free = less-then (less-token w.word_free) (less-nothing _)
+front-free : ReadsFront g.free
+front-free = front-then (front-token w.word_free) (front-nothing _)
 
-less-extent : IsLess g.extent
-less-extent = less-or (less-bind (less-token w.word_undefined) (λ at. less-nothing _)) (less-bind less-span (λ s. less-nothing _))
+pub front-extent : ReadsFront g.extent
+front-extent = front-or (front-bind (front-token w.word_undefined) (λ at. front-nothing _)) (front-bind front-span (λ s. front-nothing _))
 
 -- ---- the levels
 
-pub record AreLess (r : Rules) : Type 0 where
-  pub expr : IsLess r.expr
-  pub negation : IsLess r.negation
-  pub member : IsLess r.member
-  pub path : IsLess r.path
-  pub type : IsLess r.type
-  pub field : IsLess r.field
-  pub condition : IsLess r.condition
-  pub binder : IsLess r.binder
-  pub stmt : IsLess r.stmt
-  pub arms : IsLess r.arms
-  pub turns : IsLess r.turns
-  pub ref : IsLess r.ref
-  pub item : IsLess r.item
-  pub body : IsLess r.body
+pub record ReadFronts (r : Rules) : Type 0 where
+  pub expr : ReadsFront r.expr
+  pub negation : ReadsFront r.negation
+  pub member : ReadsFront r.member
+  pub path : ReadsFront r.path
+  pub type : ReadsFront r.type
+  pub field : ReadsFront r.field
+  pub condition : ReadsFront r.condition
+  pub binder : ReadsFront r.binder
+  pub stmt : ReadsFront r.stmt
+  pub arms : ReadsFront r.arms
+  pub turns : ReadsFront r.turns
+  pub ref : ReadsFront r.ref
+  pub item : ReadsFront r.item
+  pub body : ReadsFront r.body
 
-module _ (floor : ℕ → ℕ) (n : ℕ) (inner : Rules) (l : AreLess inner) where
-  pub opening : (k : TokenKind) → IsLess (g.opening floor n inner k)
-  opening k = less-opener floor n k
+module _ (floor : ℕ → ℕ) (n : ℕ) (inner : Rules) (l : ReadFronts inner) where
+  pub opening : (k : TokenKind) → ReadsFront (g.opening floor n inner k)
+  opening k = front-opener floor n k
 
-  less-enumeration : IsLess (g.enumeration floor n inner)
-  less-enumeration = less-bind (opening w.open_brace) (λ at. less-bind (less-separated less-name) (λ names. less-then (less-token w.close_brace) (less-nothing _)))
+  pub front-enumeration : ReadsFront (g.enumeration floor n inner)
+  front-enumeration = front-bind (opening w.open_brace) (λ at. front-bind (front-separated front-name) (λ names. front-then (front-token w.close_brace) (front-nothing _)))
 
-  less-array : IsLess (g.array floor n inner)
-  less-array = less-then (less-token w.word_array) (less-bind less-index (λ over. less-then (opening w.word_of) (less-bind l.type (λ of. less-nothing _))))
+  front-array : ReadsFront (g.array floor n inner)
+  front-array = front-then (front-token w.word_array) (front-bind front-index (λ over. front-then (opening w.word_of) (front-bind l.type (λ of. front-nothing _))))
 
-  less-structure : IsLess (g.structure floor n inner)
-  less-structure = less-then (less-token w.word_struct) (less-then (opening w.open_brace) (less-bind (less-many l.field) (λ fields. less-then (less-token w.close_brace) (less-nothing _))))
+  front-structure : ReadsFront (g.structure floor n inner)
+  front-structure = front-then (front-token w.word_struct) (front-then (opening w.open_brace) (front-bind (front-many l.field) (λ fields. front-then (front-token w.close_brace) (front-nothing _))))
 
-  pub less-type : IsLess (g.type_rule floor n inner)
-  less-type = less-or less-index (less-or less-enumeration (less-or less-array less-structure))
+  pub front-type : ReadsFront (g.type_rule floor n inner)
+  front-type = front-or front-index (front-or front-enumeration (front-or front-array front-structure))
 
-  less-field : IsLess (g.field_rule floor n inner)
-  less-field = less-bind (less-separated less-name) (λ names. less-then (less-token w.colon) (less-bind less-type (λ of. less-then (less-token w.semicolon) (less-nothing _))))
+  front-field : ReadsFront (g.field_rule floor n inner)
+  front-field = front-bind (front-separated front-name) (λ names. front-then (front-token w.colon) (front-bind front-type (λ of. front-then (front-token w.semicolon) (front-nothing _))))
 
-  less-part : IsLess (g.part_rule floor n inner)
-  less-part =
-      less-or (less-then (less-token w.dot) (less-bind less-name (λ x. less-nothing _)))
-      (less-then (opening w.open_bracket) (less-bind l.expr (λ x. less-then (less-token w.close_bracket) (less-nothing _))))
+  front-part : ReadsFront (g.part_rule floor n inner)
+  front-part =
+      front-or (front-then (front-token w.dot) (front-bind front-name (λ x. front-nothing _)))
+      (front-then (opening w.open_bracket) (front-bind l.expr (λ x. front-then (front-token w.close_bracket) (front-nothing _))))
 
-  less-path : IsLess (g.path_rule floor n inner)
-  less-path = less-bind less-name (λ x. less-bind (less-many less-part) (λ more. less-nothing _))
+  front-path : ReadsFront (g.path_rule floor n inner)
+  front-path = front-bind front-name (λ x. front-bind (front-many front-part) (λ more. front-nothing _))
 
-  less-condition : IsLess (g.condition_rule floor n inner)
-  less-condition = less-then (opening w.open_paren) (less-bind l.expr (λ x. less-then (less-token w.close_paren) (less-nothing _)))
+  front-condition : ReadsFront (g.condition_rule floor n inner)
+  front-condition = front-then (opening w.open_paren) (front-bind l.expr (λ x. front-then (front-token w.close_paren) (front-nothing _)))
 
-  less-listed : IsLess (g.listed floor n inner)
-  less-listed = less-bind (opening w.open_brace) (λ at. less-bind (less-separated l.member) (λ members. less-then (less-token w.close_brace) (less-nothing _)))
+  front-listed : ReadsFront (g.listed floor n inner)
+  front-listed = front-bind (opening w.open_brace) (λ at. front-bind (front-separated l.member) (λ members. front-then (front-token w.close_brace) (front-nothing _)))
 
-  less-comprehension : IsLess (g.comprehension floor n inner)
-  less-comprehension =
-      less-bind (opening w.open_brace) (λ at. less-bind less-name (λ x. less-then (less-token w.colon) (less-then (less-same_name x) (less-then (less-token w.word_in) (less-bind less-index (λ over.
-      less-bind (less-optional (less-then (less-token w.comma) l.expr)) (λ cond. less-then (less-token w.close_brace) (less-nothing _))))))))
+  front-comprehension : ReadsFront (g.comprehension floor n inner)
+  front-comprehension =
+      front-bind (opening w.open_brace) (λ at. front-bind front-name (λ x. front-then (front-token w.colon) (front-then (front-same_name x) (front-then (front-token w.word_in) (front-bind front-index (λ over.
+      front-bind (front-optional (front-then (front-token w.comma) l.expr)) (λ cond. front-then (front-token w.close_brace) (front-nothing _))))))))
 
-  less-set : IsLess (g.set floor n inner)
-  less-set = less-or less-listed less-comprehension
+  front-set : ReadsFront (g.set floor n inner)
+  front-set = front-or front-listed front-comprehension
 
-  less-reduction : IsLess (g.reduction floor n inner)
-  less-reduction =
-      less-bind (less-one_of ((w.ampersand, expr.All) ∷ (w.bar, expr.Any) ∷ [])) (λ make. less-then (opening w.open_bracket) (less-bind l.expr (λ x. less-then (less-token w.colon) (less-bind less-name (λ v.
-      less-then (less-token w.word_in) (less-bind less-index (λ over. less-then (less-token w.close_bracket) (less-nothing _))))))))
+  front-reduction : ReadsFront (g.reduction floor n inner)
+  front-reduction =
+      front-bind (front-one_of ((w.ampersand, expr.All) ∷ (w.bar, expr.Any) ∷ [])) (λ make. front-then (opening w.open_bracket) (front-bind l.expr (λ x. front-then (front-token w.colon) (front-bind front-name (λ v.
+      front-then (front-token w.word_in) (front-bind front-index (λ over. front-then (front-token w.close_bracket) (front-nothing _))))))))
 
-  less-prim : IsLess (g.prim floor n inner)
-  less-prim = less-or (less-bind less-number (λ k. less-nothing _)) (less-or (less-bind less-path (λ p. less-nothing _)) (less-or less-condition (less-or less-set less-reduction)))
+  front-prim : ReadsFront (g.prim floor n inner)
+  front-prim = front-or (front-bind front-number (λ k. front-nothing _)) (front-or (front-bind front-path (λ p. front-nothing _)) (front-or front-condition (front-or front-set front-reduction)))
 
-  less-signed : IsLess (g.signed floor n inner)
-  less-signed = less-bind (less-one_of ((w.plus, false) ∷ (w.minus, true) ∷ [])) (λ sign. less-bind less-prim (λ x. less-nothing _))
+  front-signed : ReadsFront (g.signed floor n inner)
+  front-signed = front-bind (front-one_of ((w.plus, false) ∷ (w.minus, true) ∷ [])) (λ sign. front-bind front-prim (λ x. front-nothing _))
 
-  less-sum : IsLess (g.sum floor n inner)
-  less-sum = less-bind less-prim (λ x. less-bind (less-many less-signed) (λ more. less-nothing _))
+  front-sum : ReadsFront (g.sum floor n inner)
+  front-sum = front-bind front-prim (λ x. front-bind (front-many front-signed) (λ more. front-nothing _))
 
-  less-modulo : IsLess (g.modulo floor n inner)
-  less-modulo = less-bind less-sum (λ x. less-or (less-then (less-token w.word_mod) (less-bind less-number (λ k. less-nothing _))) (less-nothing _))
+  front-modulo : ReadsFront (g.modulo floor n inner)
+  front-modulo = front-bind front-sum (λ x. front-or (front-then (front-token w.word_mod) (front-bind front-number (λ k. front-nothing _))) (front-nothing _))
 
-  less-comparison : IsLess (g.comparison floor n inner)
-  less-comparison =
-      less-bind less-modulo (λ x. less-or (less-bind (less-one_of ((w.equal, op.Equal) ∷ (w.differ, op.Differ) ∷ (w.less, op.Less) ∷ (w.at_most, op.AtMost) ∷ (w.greater, op.Greater) ∷ (w.at_least, op.AtLeast) ∷ [])) (λ o. less-bind less-modulo (λ y. less-nothing _))) (less-or (less-then (less-token w.word_in) (less-bind less-set (λ s. less-nothing _))) (less-nothing _)))
+  front-comparison : ReadsFront (g.comparison floor n inner)
+  front-comparison =
+      front-bind front-modulo (λ x. front-or (front-bind (front-one_of ((w.equal, op.Equal) ∷ (w.differ, op.Differ) ∷ (w.less, op.Less) ∷ (w.at_most, op.AtMost) ∷ (w.greater, op.Greater) ∷ (w.at_least, op.AtLeast) ∷ [])) (λ o. front-bind front-modulo (λ y. front-nothing _))) (front-or (front-then (front-token w.word_in) (front-bind front-set (λ s. front-nothing _))) (front-nothing _)))
 
-  less-negation : IsLess (g.negation_rule floor n inner)
-  less-negation = less-or (less-bind (opening w.tilde) (λ at. less-bind l.negation (λ x. less-nothing _))) less-comparison
+  front-negation : ReadsFront (g.negation_rule floor n inner)
+  front-negation = front-or (front-bind (opening w.tilde) (λ at. front-bind l.negation (λ x. front-nothing _))) front-comparison
 
-  less-chained : {r : Rule Expr} (k : TokenKind) (make : List Expr → Expr) → IsLess r → IsLess (g.chained floor n inner k make r)
-  less-chained k make m = less-bind m (λ x. less-bind (less-many (less-then (less-token k) m)) (λ more. less-nothing _))
+  front-chained : {r : Rule Expr} (k : TokenKind) (make : List Expr → Expr) → ReadsFront r → ReadsFront (g.chained floor n inner k make r)
+  front-chained k make m = front-bind m (λ x. front-bind (front-many (front-then (front-token k) m)) (λ more. front-nothing _))
 
-  less-conjunction : IsLess (g.conjunction floor n inner)
-  less-conjunction = less-chained w.ampersand expr.And less-negation
+  front-conjunction : ReadsFront (g.conjunction floor n inner)
+  front-conjunction = front-chained w.ampersand expr.And front-negation
 
-  less-disjunction : IsLess (g.disjunction floor n inner)
-  less-disjunction = less-chained w.bar expr.Or less-conjunction
+  front-disjunction : ReadsFront (g.disjunction floor n inner)
+  front-disjunction = front-chained w.bar expr.Or front-conjunction
 
-  less-implication : IsLess (g.implication floor n inner)
-  less-implication = less-chained w.arrow expr.Implies less-disjunction
+  front-implication : ReadsFront (g.implication floor n inner)
+  front-implication = front-chained w.arrow expr.Implies front-disjunction
 
-  less-equivalence : IsLess (g.equivalence floor n inner)
-  less-equivalence = less-bind less-implication (λ x. less-or (less-then (less-token w.double_arrow) (less-bind less-implication (λ y. less-nothing _))) (less-nothing _))
+  front-equivalence : ReadsFront (g.equivalence floor n inner)
+  front-equivalence = front-bind front-implication (λ x. front-or (front-then (front-token w.double_arrow) (front-bind front-implication (λ y. front-nothing _))) (front-nothing _))
 
-  less-expr : IsLess (g.expr_rule floor n inner)
-  less-expr =
-      less-bind less-equivalence (λ c. less-or (less-then (opening w.question) (less-bind l.expr (λ x. less-then (less-token w.colon) (less-bind l.expr (λ y. less-nothing _))))) (less-nothing _))
+  pub front-expr : ReadsFront (g.expr_rule floor n inner)
+  front-expr =
+      front-bind front-equivalence (λ c. front-or (front-then (opening w.question) (front-bind l.expr (λ x. front-then (front-token w.colon) (front-bind l.expr (λ y. front-nothing _))))) (front-nothing _))
 
-  less-member : IsLess (g.member_rule floor n inner)
-  less-member = less-or (less-bind less-expr (λ x. less-nothing _)) (less-bind less-span (λ s. less-nothing _))
+  front-member : ReadsFront (g.member_rule floor n inner)
+  front-member = front-or (front-bind front-expr (λ x. front-nothing _)) (front-bind front-span (λ s. front-nothing _))
 
-  less-binder : IsLess (g.binder_rule floor n inner)
-  less-binder = less-then (opening w.open_paren) (less-bind less-name (λ x. less-then (less-token w.word_in) (less-bind less-index (λ over. less-then (less-token w.close_paren) (less-nothing _)))))
+  pub front-binder : ReadsFront (g.binder_rule floor n inner)
+  front-binder = front-then (opening w.open_paren) (front-bind front-name (λ x. front-then (front-token w.word_in) (front-bind front-index (λ over. front-then (front-token w.close_paren) (front-nothing _)))))
 
-  less-value : IsLess (g.value floor n inner)
-  less-value = less-then (less-token w.becomes) (less-bind less-expr (λ x. less-then (less-token w.semicolon) (less-nothing _)))
+  front-value : ReadsFront (g.value floor n inner)
+  front-value = front-then (front-token w.becomes) (front-bind front-expr (λ x. front-then (front-token w.semicolon) (front-nothing _)))
 
-  less-assignment : IsLess (g.assignment floor n inner)
-  less-assignment = less-bind less-path (λ p. less-bind less-value (λ x. less-nothing _))
+  front-assignment : ReadsFront (g.assignment floor n inner)
+  front-assignment = front-bind front-path (λ p. front-bind front-value (λ x. front-nothing _))
 
-  less-timed : IsLess (g.timed floor n inner)
-  less-timed = less-bind (less-one_of ((w.word_init, kind.Init) ∷ (w.word_next, kind.Next) ∷ [])) (λ k. less-then (opening w.open_paren) (less-bind l.path (λ p. less-then (less-token w.close_paren) (less-bind less-value (λ x. less-nothing _)))))
+  front-timed : ReadsFront (g.timed floor n inner)
+  front-timed = front-bind (front-one_of ((w.word_init, kind.Init) ∷ (w.word_next, kind.Next) ∷ [])) (λ k. front-then (opening w.open_paren) (front-bind l.path (λ p. front-then (front-token w.close_paren) (front-bind front-value (λ x. front-nothing _)))))
 
-  less-otherwise : (x : Stmt) → IsLess (g.otherwise floor n inner x)
-  less-otherwise x = record { less = λ ts y rest h. (less-then (less-token w.word_else) l.stmt).less ts y rest h.1 }
+  front-otherwise : (x : Stmt) → ReadsFront (g.otherwise floor n inner x)
+  front-otherwise x = record { behind = λ ts y rest h. (front-then (front-token w.word_else) l.stmt).behind ts y rest h.1 }
 
-  less-if : IsLess (g.if_rule floor n inner)
-  less-if = less-bind (opening w.word_if) (λ at. less-bind l.condition (λ c. less-bind l.stmt (λ x. less-bind (less-optional (less-otherwise x)) (λ y. less-nothing _))))
+  front-if : ReadsFront (g.if_rule floor n inner)
+  front-if = front-bind (opening w.word_if) (λ at. front-bind l.condition (λ c. front-bind l.stmt (λ x. front-bind (front-optional (front-otherwise x)) (λ y. front-nothing _))))
 
-  less-arm : IsLess (g.arm floor n inner)
-  less-arm = less-bind (less-separated less-label) (λ labels. less-then (less-token w.colon) (less-bind l.stmt (λ body. less-nothing _)))
+  front-arm : ReadsFront (g.arm floor n inner)
+  front-arm = front-bind (front-separated front-label) (λ labels. front-then (front-token w.colon) (front-bind l.stmt (λ body. front-nothing _)))
 
-  less-arms : IsLess (g.arms_rule floor n inner)
-  less-arms =
-      less-then (opening w.open_brace) (less-bind (less-many less-arm) (λ arms. less-bind (less-optional (less-then (less-token w.word_default) (less-then (less-token w.colon) l.stmt))) (λ other.
-      less-then (less-token w.close_brace) (less-nothing _))))
+  front-arms : ReadsFront (g.arms_rule floor n inner)
+  front-arms =
+      front-then (opening w.open_brace) (front-bind (front-many front-arm) (λ arms. front-bind (front-optional (front-then (front-token w.word_default) (front-then (front-token w.colon) l.stmt))) (λ other.
+      front-then (front-token w.close_brace) (front-nothing _))))
 
-  less-switch : IsLess (g.switch floor n inner)
-  less-switch = less-bind (opening w.word_switch) (λ at. less-bind l.condition (λ x. less-bind l.arms (λ a. less-nothing _)))
+  front-switch : ReadsFront (g.switch floor n inner)
+  front-switch = front-bind (opening w.word_switch) (λ at. front-bind l.condition (λ x. front-bind l.arms (λ a. front-nothing _)))
 
-  less-default : IsLess (g.default floor n inner)
-  less-default = less-bind (opening w.word_default) (λ at. less-bind l.stmt (λ x. less-then (less-token w.word_in) (less-bind l.stmt (λ y. less-nothing _))))
+  front-default : ReadsFront (g.default floor n inner)
+  front-default = front-bind (opening w.word_default) (λ at. front-bind l.stmt (λ x. front-then (front-token w.word_in) (front-bind l.stmt (λ y. front-nothing _))))
 
-  less-turns : IsLess (g.turns_rule floor n inner)
-  less-turns =
-      less-then (opening w.open_paren) (less-bind less-name (λ x. less-then (less-token w.equal) (less-bind less-number (λ from. less-then (less-token w.semicolon) (less-then (less-same_name x)
-      (less-bind (less-one_of ((w.less, false) ∷ (w.at_most, true) ∷ [])) (λ closed. less-bind less-number (λ to. less-then (less-token w.semicolon) (less-then (less-same_name x) (less-then (less-token w.equal) (less-then (less-same_name x)
-      (less-then (less-token w.plus) (less-bind less-positive (λ step. less-then (less-token w.close_paren) (less-nothing _)))))))))))))))
+  front-turns : ReadsFront (g.turns_rule floor n inner)
+  front-turns =
+      front-then (opening w.open_paren) (front-bind front-name (λ x. front-then (front-token w.equal) (front-bind front-number (λ from. front-then (front-token w.semicolon) (front-then (front-same_name x)
+      (front-bind (front-one_of ((w.less, false) ∷ (w.at_most, true) ∷ [])) (λ closed. front-bind front-number (λ to. front-then (front-token w.semicolon) (front-then (front-same_name x) (front-then (front-token w.equal) (front-then (front-same_name x)
+      (front-then (front-token w.plus) (front-bind front-positive (λ step. front-then (front-token w.close_paren) (front-nothing _)))))))))))))))
 
-  less-for : IsLess (g.for floor n inner)
-  less-for = less-bind (opening w.word_for) (λ at. less-bind l.turns (λ t. less-bind l.stmt (λ body. less-nothing _)))
+  front-for : ReadsFront (g.for floor n inner)
+  front-for = front-bind (opening w.word_for) (λ at. front-bind l.turns (λ t. front-bind l.stmt (λ body. front-nothing _)))
 
-  less-simple : IsLess (g.simple floor n inner)
-  less-simple = less-or less-assignment (less-or less-timed (less-or less-if (less-or less-switch (less-or less-default less-for))))
+  pub front-simple : ReadsFront (g.simple floor n inner)
+  front-simple = front-or front-assignment (front-or front-timed (front-or front-if (front-or front-switch (front-or front-default front-for))))
 
-  less-stmt : IsLess (g.stmt_rule floor n inner)
-  less-stmt =
-      less-or (less-bind (opening w.word_forall) (λ at. less-bind l.binder (λ b. less-bind l.stmt (λ body. less-nothing _))))
-      (less-or (less-then (opening w.open_brace) (less-bind (less-many l.stmt) (λ parts. less-then (less-token w.close_brace) (less-nothing _)))) less-simple)
+  front-stmt : ReadsFront (g.stmt_rule floor n inner)
+  front-stmt =
+      front-or (front-bind (opening w.word_forall) (λ at. front-bind l.binder (λ b. front-bind l.stmt (λ body. front-nothing _))))
+      (front-or (front-then (opening w.open_brace) (front-bind (front-many l.stmt) (λ parts. front-then (front-token w.close_brace) (front-nothing _)))) front-simple)
 
-  less-brackets : IsLess (g.in_brackets floor n inner)
-  less-brackets = less-then (opening w.open_bracket) (less-bind less-name (λ x. less-then (less-token w.close_bracket) (less-nothing _)))
+  pub front-brackets : ReadsFront (g.in_brackets floor n inner)
+  front-brackets = front-then (opening w.open_bracket) (front-bind front-name (λ x. front-then (front-token w.close_bracket) (front-nothing _)))
 
-  less-ref_part : IsLess (g.ref_part floor n inner)
-  less-ref_part = less-or (less-then (less-token w.dot) (less-bind less-name (λ x. less-nothing _))) (less-bind less-brackets (λ x. less-nothing _))
+  front-ref_part : ReadsFront (g.ref_part floor n inner)
+  front-ref_part = front-or (front-then (front-token w.dot) (front-bind front-name (λ x. front-nothing _))) (front-bind front-brackets (λ x. front-nothing _))
 
-  less-ref_by : {r : Rule (Option Word × Bool)} → IsLess r → IsLess (g.ref_by floor n inner r)
-  less-ref_by m = less-bind less-name (λ x. less-bind (less-many less-ref_part) (λ parts. less-bind m (λ layer. less-nothing _)))
+  front-ref_by : {r : Rule (Option Word × Bool)} → ReadsFront r → ReadsFront (g.ref_by floor n inner r)
+  front-ref_by m = front-bind front-name (λ x. front-bind (front-many front-ref_part) (λ parts. front-bind m (λ layer. front-nothing _)))
 
-  less-own_ref : IsLess (g.ref floor n inner)
-  less-own_ref = less-ref_by (less-or (less-then (less-token w.slashes) less-layer_name) (less-nothing _))
+  pub front-own_ref : ReadsFront (g.ref floor n inner)
+  front-own_ref = front-ref_by (front-or (front-then (front-token w.slashes) front-layer_name) (front-nothing _))
 
-  less-ref : IsLess (g.ref_rule floor n inner)
-  less-ref = less-ref_by (less-or (less-then (less-token w.slashes) (less-or less-layer_name less-free)) (less-nothing _))
+  front-ref : ReadsFront (g.ref_rule floor n inner)
+  front-ref = front-ref_by (front-or (front-then (front-token w.slashes) (front-or front-layer_name front-free)) (front-nothing _))
 
-  less-use : IsLess (g.use_rule floor n inner)
-  less-use =
-      less-or (less-bind less-ref (λ r. less-nothing _))
-      (less-or (less-then (opening w.open_paren) (less-bind l.ref (λ r. less-then (less-token w.close_paren) (less-nothing _))))
-      (less-bind less-name (λ x. less-then (less-token w.arrow) (less-then (opening w.open_brace) (less-bind (less-or_none less-name) (λ names. less-then (less-token w.close_brace) (less-nothing _)))))))
+  pub front-use : ReadsFront (g.use_rule floor n inner)
+  front-use =
+      front-or (front-bind front-ref (λ r. front-nothing _))
+      (front-or (front-then (opening w.open_paren) (front-bind l.ref (λ r. front-then (front-token w.close_paren) (front-nothing _))))
+      (front-bind front-name (λ x. front-then (front-token w.arrow) (front-then (opening w.open_brace) (front-bind (front-or_none front-name) (λ names. front-then (front-token w.close_brace) (front-nothing _)))))))
 
-  less-claim : IsLess (g.claim floor n inner)
-  less-claim =
-      less-bind less-name (λ x. less-bind (less-many less-brackets) (λ vars. less-then (less-token w.colon) (less-then (less-token w.word_assert) (less-then (less-token w.word_G) (less-bind less-expr (λ body.
-      less-then (less-token w.semicolon) (less-nothing _)))))))
+  front-claim : ReadsFront (g.claim floor n inner)
+  front-claim =
+      front-bind front-name (λ x. front-bind (front-many front-brackets) (λ vars. front-then (front-token w.colon) (front-then (front-token w.word_assert) (front-then (front-token w.word_G) (front-bind front-expr (λ body.
+      front-then (front-token w.semicolon) (front-nothing _)))))))
 
-  less-pair : IsLess (g.pair floor n inner)
-  less-pair = less-bind (less-placed less-sum) (λ x. less-then (less-token w.equal) (less-bind less-name (λ y. less-nothing _)))
+  pub front-pair : ReadsFront (g.pair floor n inner)
+  front-pair = front-bind (front-placed front-sum) (λ x. front-then (front-token w.equal) (front-bind front-name (λ y. front-nothing _)))
 
-  less-split : IsLess (g.split floor n inner)
-  less-split =
-      less-bind (less-token w.word_subcase) (λ at. less-bind less-name (λ x. less-bind (less-many less-brackets) (λ vars. less-then (less-token w.word_of) (less-bind less-own_ref (λ of. less-then (less-token w.word_for)
-      (less-bind (less-separated less-pair) (λ pairs. less-then (less-token w.semicolon) (less-nothing _))))))))
+  pub front-split : ReadsFront (g.split floor n inner)
+  front-split =
+      front-bind (front-token w.word_subcase) (λ at. front-bind front-name (λ x. front-bind (front-many front-brackets) (λ vars. front-then (front-token w.word_of) (front-bind front-own_ref (λ of. front-then (front-token w.word_for)
+      (front-bind (front-separated front-pair) (λ pairs. front-then (front-token w.semicolon) (front-nothing _))))))))
 
-  less-using : IsLess (g.using floor n inner)
-  less-using =
-      less-bind (less-token w.word_using) (λ at. less-bind (less-separated less-use) (λ us. less-then (less-token w.word_prove) (less-bind (less-separated less-own_ref) (λ proves.
-      less-then (less-token w.semicolon) (less-nothing _)))))
+  pub front-using : ReadsFront (g.using floor n inner)
+  front-using =
+      front-bind (front-token w.word_using) (λ at. front-bind (front-separated front-use) (λ us. front-then (front-token w.word_prove) (front-bind (front-separated front-own_ref) (λ proves.
+      front-then (front-token w.semicolon) (front-nothing _)))))
 
-  less-item : IsLess (g.item_rule floor n inner)
-  less-item =
-      less-or (less-bind (opening w.word_forall) (λ at. less-bind l.binder (λ b. less-bind l.item (λ body. less-nothing _))))
-      (less-or (less-then (opening w.open_brace) (less-bind (less-many l.item) (λ items. less-then (less-token w.close_brace) (less-nothing _))))
-      (less-or less-claim (less-or less-split (less-or less-using (less-bind less-simple (λ x. less-nothing _))))))
+  front-item : ReadsFront (g.item_rule floor n inner)
+  front-item =
+      front-or (front-bind (opening w.word_forall) (λ at. front-bind l.binder (λ b. front-bind l.item (λ body. front-nothing _))))
+      (front-or (front-then (opening w.open_brace) (front-bind (front-many l.item) (λ items. front-then (front-token w.close_brace) (front-nothing _))))
+      (front-or front-claim (front-or front-split (front-or front-using (front-bind front-simple (λ x. front-nothing _))))))
 
-  less-declared : (how : Role) (at : List Word → ℕ) → IsLess (g.declared floor n inner how at)
-  less-declared how at = less-bind (less-separated less-name) (λ names. less-then (less-token w.colon) (less-bind less-type (λ of. less-then (less-token w.semicolon) (less-nothing _))))
+  front-declared : (how : Role) (at : List Word → ℕ) → ReadsFront (g.declared floor n inner how at)
+  front-declared how at = front-bind (front-separated front-name) (λ names. front-then (front-token w.colon) (front-bind front-type (λ of. front-then (front-token w.semicolon) (front-nothing _))))
 
-  less-declaration : IsLess (g.declaration floor n inner)
-  less-declaration = less-or (less-bind (less-one_of ((w.word_abstract, role.Abstract) ∷ (w.word_input, role.Input) ∷ (w.word_output, role.Output) ∷ [])) (λ r. less-declared r.0 (λ names. r.1))) (less-declared role.Plain g.place_of)
+  front-declaration : ReadsFront (g.declaration floor n inner)
+  front-declaration = front-or (front-bind (front-one_of ((w.word_abstract, role.Abstract) ∷ (w.word_input, role.Input) ∷ (w.word_output, role.Output) ∷ [])) (λ r. front-declared r.0 (λ names. r.1))) (front-declared role.Plain g.place_of)
 
-  less-instance : IsLess (g.instance floor n inner)
-  less-instance =
-      less-bind (less-separated less-name) (λ names. less-then (less-token w.colon) (less-bind less-name (λ m. less-then (opening w.open_paren) (less-bind (less-or_none l.expr) (λ args.
-      less-then (less-token w.close_paren) (less-then (less-token w.semicolon) (less-nothing _)))))))
+  front-instance : ReadsFront (g.instance floor n inner)
+  front-instance =
+      front-bind (front-separated front-name) (λ names. front-then (front-token w.colon) (front-bind front-name (λ m. front-then (opening w.open_paren) (front-bind (front-or_none l.expr) (λ args.
+      front-then (front-token w.close_paren) (front-then (front-token w.semicolon) (front-nothing _)))))))
 
-  less-layer : IsLess (g.layer floor n inner)
-  less-layer =
-      less-bind (less-token w.word_layer) (λ at. less-bind less-name (λ x. less-then (less-token w.colon) (less-then (opening w.open_brace) (less-bind (less-many l.stmt) (λ body. less-then (less-token w.close_brace) (less-nothing _))))))
+  front-layer : ReadsFront (g.layer floor n inner)
+  front-layer =
+      front-bind (front-token w.word_layer) (λ at. front-bind front-name (λ x. front-then (front-token w.colon) (front-then (opening w.open_brace) (front-bind (front-many l.stmt) (λ body. front-then (front-token w.close_brace) (front-nothing _))))))
 
-  less-body : IsLess (g.body_rule floor n inner)
-  less-body = less-or less-declaration (less-or less-instance (less-or less-layer less-item))
+  front-body : ReadsFront (g.body_rule floor n inner)
+  front-body = front-or front-declaration (front-or front-instance (front-or front-layer front-item))
 
-  rules-less : AreLess (rules floor n inner)
-  rules-less = record {
-    expr = less-expr;
-    negation = less-negation;
-    member = less-member;
-    path = less-path;
-    type = less-type;
-    field = less-field;
-    condition = less-condition;
-    binder = less-binder;
-    stmt = less-stmt;
-    arms = less-arms;
-    turns = less-turns;
-    ref = less-ref;
-    item = less-item;
-    body = less-body;
+  rules-front : ReadFronts (rules floor n inner)
+  rules-front = record {
+    expr = front-expr;
+    negation = front-negation;
+    member = front-member;
+    path = front-path;
+    type = front-type;
+    field = front-field;
+    condition = front-condition;
+    binder = front-binder;
+    stmt = front-stmt;
+    arms = front-arms;
+    turns = front-turns;
+    ref = front-ref;
+    item = front-item;
+    body = front-body;
   }
 
-no-less : AreLess no_rules
-no-less = record {
-  expr = record { less = λ ts a rest h. absurd h };
-  negation = record { less = λ ts a rest h. absurd h };
-  member = record { less = λ ts a rest h. absurd h };
-  path = record { less = λ ts a rest h. absurd h };
-  type = record { less = λ ts a rest h. absurd h };
-  field = record { less = λ ts a rest h. absurd h };
-  condition = record { less = λ ts a rest h. absurd h };
-  binder = record { less = λ ts a rest h. absurd h };
-  stmt = record { less = λ ts a rest h. absurd h };
-  arms = record { less = λ ts a rest h. absurd h };
-  turns = record { less = λ ts a rest h. absurd h };
-  ref = record { less = λ ts a rest h. absurd h };
-  item = record { less = λ ts a rest h. absurd h };
-  body = record { less = λ ts a rest h. absurd h };
+no-front : ReadFronts no_rules
+no-front = record {
+  expr = record { behind = λ ts a rest h. absurd h };
+  negation = record { behind = λ ts a rest h. absurd h };
+  member = record { behind = λ ts a rest h. absurd h };
+  path = record { behind = λ ts a rest h. absurd h };
+  type = record { behind = λ ts a rest h. absurd h };
+  field = record { behind = λ ts a rest h. absurd h };
+  condition = record { behind = λ ts a rest h. absurd h };
+  binder = record { behind = λ ts a rest h. absurd h };
+  stmt = record { behind = λ ts a rest h. absurd h };
+  arms = record { behind = λ ts a rest h. absurd h };
+  turns = record { behind = λ ts a rest h. absurd h };
+  ref = record { behind = λ ts a rest h. absurd h };
+  item = record { behind = λ ts a rest h. absurd h };
+  body = record { behind = λ ts a rest h. absurd h };
 }
 
-pub below-less : (floor : ℕ → ℕ) (n : ℕ) → AreLess (below floor n)
-below-less floor zero = no-less
-below-less floor (suc n) = rules-less floor n (below floor n) (below-less floor n)
+pub below-front : (floor : ℕ → ℕ) (n : ℕ) → ReadFronts (below floor n)
+below-front floor zero = no-front
+below-front floor (suc n) = rules-front floor n (below floor n) (below-front floor n)

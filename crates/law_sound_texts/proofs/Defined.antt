@@ -1,6 +1,7 @@
 -- Each definition of the design is of a family to which some assignment assigns.
 use Rattle.std.proofs.Common.{◌≡◌, ℕ, List, [], ◌∷◌, ◌++◌, map, zip, All, Some, refl, sym, subst, slice_get}
 use Rattle.std.specs.List.{flat_map}
+use Rattle.std.proofs.lemmas.List.Elements.{All-head, All-tail}
 use Rattle.smv_core.specs.Values.{numbers_from}
 use Rattle.smv_core.specs.declared.flat.Def.{Def}
 use Rattle.smv_core.specs.declared.flat.Family.{Family}
@@ -11,11 +12,10 @@ use Rattle.law_obligations.proofs.Members.{Has-from_map}
 use Rattle.law_obligations.proofs.OneOfEach.{Has-from_flat_map}
 use Rattle.law_designs.specs.Standing.{count, Statement, statements_of, Standing, assigned_by}
 use Rattle.law_designs.specs.Definitions.{Head, head, heads_of, same_definition, first_heads, def_of, design_of_flat_text}
-use Rattle.law_designs.proofs.Lookups.{all-head, all-tail}
 use Rattle.law_sound_texts.specs.Placed.{IsFree}
 use Rattle.law_sound_texts.specs.Exact.{LeftSidesAreExact, DefinitionsAreFree}
 use Rattle.law_sound_texts.proofs.Counts.{count-is}
-use Rattle.law_sound_texts.proofs.Lists.{Has-from_different, Has-kept}
+use Rattle.law_flat_kinds.proofs.Lists.{Has-from_different}
 
 Has-left : {X : Type 0} (xs ys : List X) {x : X} → Has xs x → Has (xs ++ ys) x
 Has-left [] ys h = elim h [ ]
@@ -40,8 +40,8 @@ head_family (a ∷ as') (k ∷ ks) (later h) = let r = head_family as' ks h in (
 
 all-has : {X : Type 0} (P : X → Type 0) (xs : List X) → All P xs → {x : X} → Has xs x → P x
 all-has P [] h k = elim k [ ]
-all-has P (x ∷ xs) h first = all-head P x xs h
-all-has P (x ∷ xs) h (later k) = all-has P xs (all-tail P x xs h) k
+all-has P (x ∷ xs) h first = All-head P x xs h
+all-has P (x ∷ xs) h (later k) = all-has P xs (All-tail P x xs h) k
 
 module _ (flat_text : FlatText) (exact : LeftSidesAreExact flat_text) where
   of-head : (h : Head) → Has (first_heads flat_text) h → (f : Family) × (slice_get flat_text.families h.family ≡ Some f)

@@ -2,6 +2,8 @@
 use Rattle.std.proofs.Common.{◌≡◌, ℕ, List, [], length, Some, None, true, sym, ap, subst, ◌∙◌, slice_get}
 use Rattle.std.specs.List.{AllZip}
 use Rattle.std.proofs.lemmas.List.{length-map}
+use Rattle.law_lists.proofs.Lists.{map-map}
+use Rattle.law_lists.proofs.Options.{some_is}
 use Rattle.smv_core.specs.Values.{Name, Value, Sizes, number, truth}
 use Rattle.smv_core.specs.Types.{values_over as values_of_type}
 use Rattle.smv_core.specs.FlatOrder.{TextDesign, design_of, Claimed}
@@ -21,9 +23,7 @@ use Rattle.law_designs.specs.WholeText.{IsSameClaim, claims_of, claims_met}
 use Rattle.law_obligations.specs.Sets.{Has, one_of_each}
 use Rattle.law_obligations.specs.Circular.{always}
 use Rattle.law_obligations.specs.Soundness.{claim_of, params_of, values_over, is_held}
-use Rattle.law_obligations.proofs.CoverParams.{map-map}
 use Rattle.law_obligations.proofs.OneOfEach.{get_Has}
-use Rattle.law_obligations.proofs.Lookups.{inner}
 use Rattle.law_sound_texts.proofs.Texts.{zip_left}
 use Rattle.law_sound_texts.proofs.Claims.{ClaimsAreSame, types}
 use Rattle.law_sound_texts.proofs.Times.{always-from, one-choices, choice-length}
@@ -53,5 +53,5 @@ module _ (text : Text) (sizes : Sizes) (claims : ClaimsAreSame text sizes) (same
           is_true (truth (flat_outcome n t fc.body vs)) ≡ true
       says c there long s t same_states held =
           let r : (other : Claimed) × (slice_get (claims_met d.met) k ≡ Some other) × IsSameClaim text sizes s t fc other = zip_left (IsSameClaim text sizes s t) (claims_of flat_text.items) (claims_met d.met) (claims s t same_states) k fc at in
-          let own : IsSameClaim text sizes s t fc c = subst (IsSameClaim text sizes s t fc) (inner (sym r.1 ∙ there)) r.2 in
+          let own : IsSameClaim text sizes s t fc c = subst (IsSameClaim text sizes s t fc) (some_is (sym r.1 ∙ there)) r.2 in
           ap (λ o. is_true (truth o)) (own.2 vs long ∙ held)

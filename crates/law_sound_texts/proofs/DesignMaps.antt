@@ -2,6 +2,7 @@
 use Rattle.std.proofs.Common.{◌≡◌, ℕ, ◌+◌, List, [], ◌∷◌, map, flat_map, zip, length, Option, Some, None, Bool, true, false, not, cond, if◌then◌else◌, nat_eq, refl, sym, ap, subst, ◌∙◌, slice_get, option_map, All, inl, inr}
 use Rattle.std.specs.List.{AllZip}
 use Rattle.std.proofs.lemmas.Slice.Eq.{bytes_eq-Decides}
+use Rattle.law_lists.proofs.Booleans.{clash}
 use Rattle.smv_core.specs.Values.{Name, Value, Sizes, numbers_from}
 use Rattle.smv_core.specs.Types.{Family}
 use Rattle.smv_core.specs.FlatOrder.{TextDesign, Said, design_of}
@@ -31,8 +32,9 @@ use Rattle.law_obligations.specs.Outlines as outline
 use Rattle.law_obligations.specs.Units.{is_base_in, is_refinement}
 use Rattle.law_obligations.proofs.OneOfEach.{Has-from_flat_map, get_Has, Has_get}
 use Rattle.law_obligations.proofs.Same.{nat_eq-itself}
-use Rattle.law_sound_texts.specs.TextExtension.{FamiliesAreFound, IsSameLayer, LayersAreSame}
-use Rattle.law_sound_texts.proofs.Lists.{clash, is_in-Has, Has-from_different}
+use Rattle.law_sound_texts.specs.TextExtension.{IsSameLayer, LayersAreSame}
+use Rattle.law_flat_kinds.specs.FamiliesFound.{FamiliesAreFound}
+use Rattle.law_flat_kinds.proofs.Lists.{is_in-Has, Has-from_different}
 use Rattle.law_sound_texts.proofs.Faultless.{IsFaultless}
 use Rattle.law_sound_texts.proofs.Texts.{Contains-Has, demand_same, in_flat_text, in_text, indexes_same, zip_left}
 use Rattle.law_sound_texts.specs.Exact.{IsExact, LeftSidesAreExact}
@@ -114,13 +116,13 @@ module _ (text : Text) (sizes : Sizes) (families : AllZip (IsSameFamily (numbers
       by_base o e = subst (λ o. Here layer h (is_base_layer layer h o)) (sym e) (by_test o e (is_base_layer layer h o) refl)
 
   -- a map of the text for a refinement
-  abbrev ItsMap : Def → Type 0
+  abbrev pub ItsMap : Def → Type 0
   ItsMap def = (h : Family) × (slice_get d.families def.family ≡ Some h) × ((layer : Name) × (Some (layer_number flat_text.layers layer) ≡ def.layer) × Has (units d) (tree.map_of layer h))
 
   is_defined : (k : ℕ) (h : Family) → slice_get d.families k ≡ Some h → (s : Statement) (x : Said) → IsSameAct text (s.layer, s.act) x → assigns k s ≡ true → is_defined_by h.path x ≡ true
   is_defined k h at s x same e = sym (same.1 h.path h (found k h at).0) ∙ (ap (λ j. assigns j s) (found k h at).1 ∙ e)
 
-  its_map : (head : Head) → Has (first_heads flat_text) head → is_refinement f head.family head.layer ≡ true → ItsMap (def_of flat_text head)
+  pub its_map : (head : Head) → Has (first_heads flat_text) head → is_refinement f head.family head.layer ≡ true → ItsMap (def_of flat_text head)
   its_map head m is =
       let s : (s : Statement) × Has (statements_of flat_text) s × Has (heads_of s) head = Has-from_flat_map heads_of (statements_of flat_text) (Has-from_different same_definition (flat_map heads_of (statements_of flat_text)) m) in
       let p : IsMade head s.0 = made s.0 head s.2 in
@@ -142,12 +144,17 @@ module _ (text : Text) (sizes : Sizes) (families : AllZip (IsSameFamily (numbers
           let own : head.layer ≡ Some (layer_number flat_text.layers layer) = same ∙ ap (option_map (layer_number flat_text.layers)) in_layer in
           (layer, sym own, map-there d found_at x there layer in_layer h (get_Has d.families head.family h at) defined (refines h head.family at layer (subst (λ o. is_refinement f head.family o ≡ true) own is)))
 
+  -- so for each definition that is a refinement
+  pub map-of : (def : Def) → Has f.defs def → is_refinement f def.family def.layer ≡ true → ItsMap def
+  map-of def m is =
+      let head : (head : Head) × Has (first_heads flat_text) head × (def ≡ def_of flat_text head) = Has-from_map (def_of flat_text) (first_heads flat_text) m in
+      subst ItsMap (sym head.2) (its_map head.0 head.1 (subst (λ (def : Def). is_refinement f def.family def.layer ≡ true) head.2 is))
+
   module _ (run : List State) (ts : List FlatState) (states : AllZip (AreSameStates d.families) run ts)
       (holds : (layer : Name) (h : Family) → Has (units d) (tree.map_of layer h) → (vs : List Value) → Has (indexes_in sizes h) vs → AtEachTime (Holds d sizes (tree.map_of layer h) vs) None run) where
     pub map_always : (def : Def) → Has f.defs def → is_refinement f def.family def.layer ≡ true → (vs : List Value) → Has (values_over n (params_of n (map_of def))) vs → always (is_held n (map_of def) vs) None ts ≡ true
     map_always def m is vs i =
-        let head : (head : Head) × Has (first_heads flat_text) head × (def ≡ def_of flat_text head) = Has-from_map (def_of flat_text) (first_heads flat_text) m in
-        let its : ItsMap def = subst ItsMap (sym head.2) (its_map head.0 head.1 (subst (λ (def : Def). is_refinement f def.family def.layer ≡ true) head.2 is)) in
+        let its : ItsMap def = map-of def m is in
         by_map its.0 its.1 its.2.0 its.2.1 its.2.2
       where
         by_map : (h : Family) → slice_get d.families def.family ≡ Some h → (layer : Name) → Some (layer_number flat_text.layers layer) ≡ def.layer → Has (units d) (tree.map_of layer h) → always (is_held n (map_of def) vs) None ts ≡ true

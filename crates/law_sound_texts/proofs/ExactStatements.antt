@@ -2,6 +2,7 @@
 use Rattle.std.proofs.Common.{◌≡◌, ℕ, ◌+◌, List, [], ◌∷◌, ◌++◌, map, All, Option, Some, sym, subst, ◌∙◌, inl, inr, length, slice_get}
 use Rattle.std.specs.List.{AllZip, flat_map}
 use Rattle.std.proofs.lemmas.List.{length-map}
+use Rattle.std.proofs.lemmas.List.Elements.{All-head, All-tail}
 use Rattle.smv_core.specs.Values.{Name, Path}
 use Rattle.smv_core.specs.FlatOrder.{design_of}
 use Rattle.smv_core.specs.Outcome.{fields_of}
@@ -29,8 +30,7 @@ use Rattle.law_obligations.specs.Sets.{Has, first, later}
 use Rattle.law_obligations.proofs.Members.{Has-cases}
 use Rattle.law_obligations.proofs.OneOfEach.{Has-from_flat_map}
 use Rattle.law_designs.specs.Standing.{count, Statement, statements_from, statements_of, Standing, standing, standing_in, assigned_by}
-use Rattle.law_designs.proofs.Lookups.{all-head, all-tail}
-use Rattle.law_sound_texts.specs.TextExtension.{FamiliesAreFound}
+use Rattle.law_flat_kinds.specs.FamiliesFound.{FamiliesAreFound}
 use Rattle.law_sound_texts.specs.Exact.{LeftSidesAreExact}
 use Rattle.law_sound_texts.proofs.Counts.{same-count}
 use mathlib.Core.Former.{Count}
@@ -180,12 +180,12 @@ module _ (text : Text) (n : Numbered) (found : FamiliesAreFound text) (same : Al
   module _ (layers : List Name) where
     entries-exact : (es : List Entry) → All (EntryLeads text) es → AllActs families (flat_map (flat_entry text layers) es)
     entries-exact [] h = tt
-    entries-exact (layer name ∷ es) h = entries-exact es (all-tail (EntryLeads text) (layer name) es h)
+    entries-exact (layer name ∷ es) h = entries-exact es (All-tail (EntryLeads text) (layer name) es h)
     entries-exact (statement x ∷ es) h =
-        (stmt-exact x.instance [] x.act (all-head (EntryLeads text) (statement x) es h), entries-exact es (all-tail (EntryLeads text) (statement x) es h))
-    entries-exact (goal i binders (claim word vars body at) ∷ es) h = entries-exact es (all-tail (EntryLeads text) (goal i binders (claim word vars body at)) es h)
-    entries-exact (goal i binders (split word vars of pairs at) ∷ es) h = entries-exact es (all-tail (EntryLeads text) (goal i binders (split word vars of pairs at)) es h)
-    entries-exact (goal i binders (using uses proves at) ∷ es) h = entries-exact es (all-tail (EntryLeads text) (goal i binders (using uses proves at)) es h)
+        (stmt-exact x.instance [] x.act (All-head (EntryLeads text) (statement x) es h), entries-exact es (All-tail (EntryLeads text) (statement x) es h))
+    entries-exact (goal i binders (claim word vars body at) ∷ es) h = entries-exact es (All-tail (EntryLeads text) (goal i binders (claim word vars body at)) es h)
+    entries-exact (goal i binders (split word vars of pairs at) ∷ es) h = entries-exact es (All-tail (EntryLeads text) (goal i binders (split word vars of pairs at)) es h)
+    entries-exact (goal i binders (using uses proves at) ∷ es) h = entries-exact es (All-tail (EntryLeads text) (goal i binders (using uses proves at)) es h)
 
   pub text-exact : TextLeads text → LeftSidesAreExact (flatten text)
   text-exact whole a p =

@@ -3,6 +3,11 @@ use Rattle.std.proofs.Common.{◌≡◌, ℕ, ◌<◌, ◌≤◌, List, [], ◌�
 use Rattle.std.specs.List.{flat_map, list_any}
 use Rattle.std.proofs.lemmas.List.{append-nil, append_assoc}
 use Rattle.std.proofs.lemmas.Bool.Decides.{nat_tests}
+use Rattle.std.proofs.lemmas.Bool.{and_from}
+use Rattle.law_lists.proofs.Booleans.{clash, left_of, right_of}
+use Rattle.law_lists.proofs.Lists.{map-nil}
+use Rattle.law_lists.proofs.Options.{some_is}
+use Rattle.law_lists.proofs.Numbers.{nat_eq-is}
 use Rattle.smv_core.specs.Values.{numbers_from}
 use Rattle.smv_core.specs.declared.fault.Fault.{Fault}
 use Rattle.smv_core.specs.declared.flat.Family.{Family}
@@ -14,8 +19,8 @@ use Rattle.law_obligations.specs.Sets.{Has, first, later}
 use Rattle.law_obligations.specs.Outlines.{earlier, earliest, may_be_base, base_of, bases}
 use Rattle.law_obligations.proofs.Members.{Has-left, Has-right, Has-cases, Has-flat_map, any-some}
 use Rattle.law_obligations.proofs.OneOfEach.{Has-from_flat_map}
-use Rattle.law_obligations.proofs.Lookups.{Has-filter, Has-from_filter, inner}
-use Rattle.law_obligations.proofs.Same.{nat_eq-itself, nat_eq-is}
+use Rattle.law_obligations.proofs.Lookups.{Has-filter, Has-from_filter}
+use Rattle.law_obligations.proofs.Same.{nat_eq-itself}
 use Rattle.law_designs.specs.Reading.{Reference, Reading, readings}
 use Rattle.law_designs.specs.Loops as delay
 use Rattle.law_designs.specs.Loops.{Edge, edges_of, hold_a_cycle, is_behind, is_base, put, in_order, undelayed, undelayed_in, closing, looping}
@@ -23,9 +28,9 @@ use Rattle.law_designs.specs.LayerFaults.{is_abstract, assignments_of, outside_l
 use Rattle.law_designs.specs.FirstFault.{first_fault_of_loops, first_fault_of_layers, first_fault_of_design}
 use Rattle.law_designs.specs.LoopLaws.{AreFalling}
 use Rattle.law_designs.proofs.Faultless.{no_fault-in}
-use Rattle.law_sound_texts.proofs.Lists.{clash, left_of, right_of, both_true, none_passes, some_or_none}
+use Rattle.law_flat_kinds.proofs.Lists.{none_passes, some_or_none}
 use Rattle.law_sound_texts.proofs.Results.{reading_is}
-use Rattle.law_sound_texts.proofs.NoFaults.{nil-left, nil-right, nil-map, none-both}
+use Rattle.law_flat_kinds.proofs.NoFaults.{nil-left, nil-right, none-both}
 
 -- ---- no faults
 
@@ -48,9 +53,9 @@ is_faultless d e =
     let loops : faults_at (18, looping d) ≡ [] = no_fault-in (faults_at (18, looping d)) both.0 in
     let layers : faults_at (19, leaking d) ++ (faults_at (20, assigned_outside d) ++ []) ≡ [] = no_fault-in _ both.1 in
     record {
-      no_loops = nil-map _ (looping d) loops;
-      no_leaks = nil-map _ (leaking d) (nil-left (faults_at (19, leaking d)) (faults_at (20, assigned_outside d) ++ []) layers);
-      none_outside = nil-map _ (assigned_outside d) (nil-left (faults_at (20, assigned_outside d)) [] (nil-right (faults_at (19, leaking d)) (faults_at (20, assigned_outside d) ++ []) layers));
+      no_loops = map-nil _ (looping d) loops;
+      no_leaks = map-nil _ (leaking d) (nil-left (faults_at (19, leaking d)) (faults_at (20, assigned_outside d) ++ []) layers);
+      none_outside = map-nil _ (assigned_outside d) (nil-left (faults_at (20, assigned_outside d)) [] (nil-right (faults_at (19, leaking d)) (faults_at (20, assigned_outside d) ++ []) layers));
     }
 
 -- ---- the edges hold no cycle
@@ -125,7 +130,7 @@ none-earliest (y ∷ defs) e x h = cc (e)
 
 earliest-is : (defs : List Def) (e : Def) → earliest defs ≡ Some e → IsLeast defs e
 earliest-is [] e h = absurd (cc (h))
-earliest-is (y ∷ defs) e h = by_other (earliest defs) refl (inner h) (earliest-is defs)
+earliest-is (y ∷ defs) e h = by_other (earliest defs) refl (some_is h) (earliest-is defs)
   where
     pick : (f : Def) (b : Bool) → nat_lt f.place y.place ≡ b → IsLeast defs f → IsLeast (y ∷ defs) (cond b f y)
     pick f true q r = (later r.0, least-cons y defs f (let l : f.place < y.place = grind (arith, nat_tests) in omega (arith, l)) r.1)
@@ -182,8 +187,8 @@ module _ (d : Design) (h : IsFaultless d) where
       (is_abstract d (slice_get d.families a.family) ≡ false) × ((r : Reference) → Has a.reads r → is_abstract d (slice_get d.families r.family) ≡ false)
   outside-is def k e a m =
       let there : Has (outside_layers d) a = Has-flat_map assignments_of (Has-filter (λ (def : Def). is_none def.layer) k e) m in (
-        none_passes (λ (a : Reading). is_abstract d (slice_get d.families a.family)) (outside_layers d) (nil-map _ _ h.none_outside) a there,
-        λ r i. none_passes (λ (r : Reference). is_abstract d (slice_get d.families r.family)) (flat_map (λ (a : Reading). a.reads) (outside_layers d)) (nil-map _ _ h.no_leaks) r (Has-flat_map (λ (a : Reading). a.reads) there i),
+        none_passes (λ (a : Reading). is_abstract d (slice_get d.families a.family)) (outside_layers d) (map-nil _ _ h.none_outside) a there,
+        λ r i. none_passes (λ (r : Reference). is_abstract d (slice_get d.families r.family)) (flat_map (λ (a : Reading). a.reads) (outside_layers d)) (map-nil _ _ h.no_leaks) r (Has-flat_map (λ (a : Reading). a.reads) there i),
       )
 
   family-is : (family : ℕ) (def : Def) → Has d.defs def → (o : Option Family) → slice_get d.families family ≡ o → may_be_base d family o def ≡ true →
@@ -193,7 +198,7 @@ module _ (d : Design) (h : IsFaultless d) where
 
   candidate : (family : ℕ) (other : Def) → other.family ≡ family → (o : Option Family) → delay.may_be_base d o other ≡ true → may_be_base d family o other ≡ true
   candidate family other same None t = absurd (cc (t))
-  candidate family other same (Some f) t = both_true (nat_eq other.family family) (f.is_abstract || is_none other.layer) (subst (λ k. nat_eq other.family k ≡ true) same (nat_eq-itself other.family)) (delayed-may f.is_abstract (is_none other.layer) t)
+  candidate family other same (Some f) t = and_from (nat_eq other.family family) (f.is_abstract || is_none other.layer) (subst (λ k. nat_eq other.family k ≡ true) same (nat_eq-itself other.family)) (delayed-may f.is_abstract (is_none other.layer) t)
 
   not-behind : (def : Def) → ((x : Def) → Has (filter (may_be_base d def.family (slice_get d.families def.family)) d.defs) x → def.place ≤ x.place) → list_any (is_behind d def) d.defs ≡ false
   not-behind def least = none (some_or_none (is_behind d def) d.defs) (λ e. any-some (is_behind d def) d.defs e)
@@ -240,7 +245,7 @@ module _ (d : Design) (h : IsFaultless d) where
       by_cases : (f : Family) → slice_get d.families def.family ≡ Some f → Has d.defs def → ((x : Def) → Has (filter (may_be_base d def.family (slice_get d.families def.family)) d.defs) x → def.place ≤ x.place) →
           (cond f.is_abstract (not (is_none def.layer)) (is_none def.layer) ≡ true) ⊎ ((f.is_abstract ≡ true) × (is_none def.layer ≡ true)) → (a : Reading) → Has (undelayed def) a → Has (undelayed_in d) a
       by_cases f there k least (inl t) a m =
-          let marked : is_base d def ≡ true = both_true (delay.may_be_base d (slice_get d.families def.family) def) (not (list_any (is_behind d def) d.defs)) (subst (λ o. delay.may_be_base d o def ≡ true) (sym there) t) (ap not (not-behind def least)) in
+          let marked : is_base d def ≡ true = and_from (delay.may_be_base d (slice_get d.families def.family) def) (not (list_any (is_behind d def) d.defs)) (subst (λ o. delay.may_be_base d o def ≡ true) (sym there) t) (ap not (not-behind def least)) in
           in_order-Has (flat_map undelayed (filter (is_base d) d.defs)) a (Has-flat_map undelayed (Has-filter (is_base d) k marked) m)
       by_cases f there k least (inr t) a m =
           absurd (clash (subst (λ o. is_abstract d o ≡ true) (sym there) t.0)

@@ -4,6 +4,10 @@ use Rattle.std.specs.Str.{bytes_eq}
 use Rattle.std.specs.List.{AllByRecursion, flat_map, list_any, list_all}
 use Rattle.std.proofs.lemmas.List.{length-map, map-append}
 use Rattle.std.proofs.lemmas.Slice.Eq.{bytes_eq-Decides}
+use Rattle.std.proofs.lemmas.Bool.{or_from, or_parts, and_parts}
+use Rattle.law_obligations.proofs.Facts.{not_named}
+use Rattle.law_lists.proofs.Each.{each_filter, each_append, each_weaker}
+use Rattle.law_lists.proofs.Lists.{map-nil}
 use Rattle.smv_core.specs.Values.{Name}
 use Rattle.smv_core.specs.Types.{find_name, names_of}
 use Rattle.smv_core.specs.Outcome.{same_path}
@@ -16,11 +20,8 @@ use Rattle.smv_mentions.specs.FirstFault.{first_fault}
 use Rattle.smv_mentions.specs.Sizes.{count_different, constant_names}
 use Rattle.law_designs.specs.Flattening.{different, enum_of, flatten}
 use Rattle.law_designs.proofs.TypeNumbers.{paths-decide}
-use Rattle.law_designs.proofs.Operands.{both}
-use Rattle.law_designs.proofs.Faultless.{empty-both, empty-each, unplaced, each-append, each-more}
+use Rattle.law_designs.proofs.Faultless.{empty-both, empty-each, unplaced}
 use Rattle.law_sound_texts.proofs.Limits.{none-named, within-limits}
-use Rattle.law_sound_texts.proofs.NoFaults.{nil-map}
-use Rattle.law_sound_texts.proofs.Lists.{neither, filter-each}
 
 -- ---- names in lists
 
@@ -41,22 +42,10 @@ same-is x y = (bytes_eq-Decides x y).0
 is-same : (x y : Name) → x ≡ y → bytes_eq x y ≡ true
 is-same x y = (bytes_eq-Decides x y).1
 
--- two that are not the same one way are not the other way
-not-turned : (x y : Name) → bytes_eq x y ≡ false → bytes_eq y x ≡ false
-not-turned x y e = by_test (bytes_eq y x) refl
-  where
-    by_test : (b : Bool) → bytes_eq y x ≡ b → bytes_eq y x ≡ false
-    by_test true h = let k : bytes_eq x y ≡ true = is-same x y (sym (same-is y x h)) in absurd (cc (e, k))
-    by_test false h = h
-
 -- in a list, where it is not the first
 in-rest : (a b : Bool) → (a || b) ≡ true → a ≡ false → b ≡ true
 in-rest true b e h = absurd (cc (h))
 in-rest false b e h = e
-
-out-of-both : (a b : Bool) → a ≡ false → b ≡ false → (a || b) ≡ false
-out-of-both true b h k = absurd (cc (h))
-out-of-both false b h k = k
 
 -- ---- different names are no more than there are
 
@@ -74,11 +63,11 @@ without-each P Q y h (x ∷ xs) k = by_test (bytes_eq x y) refl (without-each P 
 -- what is not in a list is not in a part of it
 out-of-part : (y z : Name) (xs : List Name) → IsOut xs z → IsOut (without y xs) z
 out-of-part y z [] e = e
-out-of-part y z (x ∷ xs) e = by_test (bytes_eq x y) (out-of-part y z xs (neither (bytes_eq z x) (list_any (bytes_eq z) xs) e).1)
+out-of-part y z (x ∷ xs) e = by_test (bytes_eq x y) (out-of-part y z xs (or_parts (bytes_eq z x) (list_any (bytes_eq z) xs) e).1)
   where
     by_test : (b : Bool) → IsOut (without y xs) z → IsOut (cond (not b) (x ∷ without y xs) (without y xs)) z
     by_test true rest = rest
-    by_test false rest = out-of-both (bytes_eq z x) (list_any (bytes_eq z) (without y xs)) (neither (bytes_eq z x) (list_any (bytes_eq z) xs) e).0 rest
+    by_test false rest = or_from (bytes_eq z x) (list_any (bytes_eq z) (without y xs)) (or_parts (bytes_eq z x) (list_any (bytes_eq z) xs) e).0 rest
 
 without-once : (y : Name) (xs : List Name) → AreOnce xs → AreOnce (without y xs)
 without-once y [] h = tt
@@ -92,8 +81,8 @@ without-once y (x ∷ xs) h = by_test (bytes_eq x y) (without-once y xs h.1)
 without-none : (y : Name) (xs : List Name) → IsOut xs y → length (without y xs) ≡ length xs
 without-none y [] h = refl
 without-none y (x ∷ xs) h =
-    let g : (bytes_eq y x ≡ false) × IsOut xs y = neither (bytes_eq y x) (list_any (bytes_eq y) xs) h in
-    by_test (bytes_eq x y) (not-turned y x g.0) (without-none y xs g.1)
+    let g : (bytes_eq y x ≡ false) × IsOut xs y = or_parts (bytes_eq y x) (list_any (bytes_eq y) xs) h in
+    by_test (bytes_eq x y) (not_named y x g.0) (without-none y xs g.1)
   where
     by_test : (b : Bool) → b ≡ false → length (without y xs) ≡ length xs → length (cond (not b) (x ∷ without y xs) (without y xs)) ≡ suc (length xs)
     by_test true e rest = absurd (cc (e))
@@ -123,7 +112,7 @@ counted-of [] seen (x ∷ xs) once there fresh = absurd (cc (there.0))
 counted-of (y ∷ more) seen xs once there fresh =
     by_test (list_any (bytes_eq y) seen) refl (λ e. counted-of more seen xs once (seen-in y more seen xs e there fresh) fresh)
     (counted-of more (y ∷ seen) (without y xs) (without-once y xs once) (without-each (IsIn (y ∷ more)) (IsIn more) y (λ x e h. in-rest (bytes_eq x y) (list_any (bytes_eq x) more) h e) xs there)
-    (without-each (IsOut seen) (IsOut (y ∷ seen)) y (λ x e h. out-of-both (bytes_eq x y) (list_any (bytes_eq x) seen) e h) xs fresh))
+    (without-each (IsOut seen) (IsOut (y ∷ seen)) y (λ x e h. or_from (bytes_eq x y) (list_any (bytes_eq x) seen) e h) xs fresh))
   where
     by_test : (b : Bool) → list_any (bytes_eq y) seen ≡ b → (list_any (bytes_eq y) seen ≡ true → length xs ≤ count_different seen more) → length (without y xs) ≤ count_different (y ∷ seen) more →
         length xs ≤ cond b (count_different seen more) (1 + count_different (y ∷ seen) more)
@@ -156,16 +145,16 @@ once-named seen (word ∷ more) e =
     first-out : (xs : List Name) → AllByRecursion (IsOut (word.name ∷ seen)) xs → IsOut xs word.name
     first-out [] h = refl
     first-out (x ∷ xs) h =
-        out-of-both (bytes_eq word.name x) (list_any (bytes_eq word.name) xs) (not-turned x word.name (neither (bytes_eq x word.name) (list_any (bytes_eq x) seen) h.0).0) (first-out xs h.1)
+        or_from (bytes_eq word.name x) (list_any (bytes_eq word.name) xs) (not_named x word.name (or_parts (bytes_eq x word.name) (list_any (bytes_eq x) seen) h.0).0) (first-out xs h.1)
 
     others : (xs : List Name) → AllByRecursion (IsOut (word.name ∷ seen)) xs → AllByRecursion (IsOut seen) xs
     others [] h = tt
-    others (x ∷ xs) h = ((neither (bytes_eq x word.name) (list_any (bytes_eq x) seen) h.0).1, others xs h.1)
+    others (x ∷ xs) h = ((or_parts (bytes_eq x word.name) (list_any (bytes_eq x) seen) h.0).1, others xs h.1)
 
 -- what is among the names is found
 found-in : (known : List (Name × Constant)) (name : Name) → IsIn (map (λ (name, c). name) known) name → (c : Constant) × (find_name known name ≡ Some c)
 found-in [] name e = absurd (cc (e))
-found-in ((other, d) ∷ known) name e = by_test (bytes_eq other name) refl (λ h. found-in known name (in-rest (bytes_eq name other) (list_any (bytes_eq name) (map (λ (name, c). name) known)) e (not-turned other name h)))
+found-in ((other, d) ∷ known) name e = by_test (bytes_eq other name) refl (λ h. found-in known name (in-rest (bytes_eq name other) (list_any (bytes_eq name) (map (λ (name, c). name) known)) e (not_named other name h)))
   where
     by_test : (b : Bool) → bytes_eq other name ≡ b → (bytes_eq other name ≡ false → (c : Constant) × (find_name known name ≡ Some c)) → (c : Constant) × (cond b (Some d) (find_name known name) ≡ Some c)
     by_test true e rest = (d, refl)
@@ -198,7 +187,7 @@ each-parts P (x ∷ xs) ys h = let r = each-parts P xs ys h.1 in ((h.0, r.0), r.
 -- each name is in its list
 all-in : (xs : List Name) → AllByRecursion (IsIn xs) xs
 all-in [] = tt
-all-in (x ∷ xs) = (by_own (bytes_eq x x) (is-same x x refl), each-more (IsIn xs) (IsIn (x ∷ xs)) (λ y h. by_other (bytes_eq y x) h) xs (all-in xs))
+all-in (x ∷ xs) = (by_own (bytes_eq x x) (is-same x x refl), each_weaker (IsIn xs) (IsIn (x ∷ xs)) (λ y h. by_other (bytes_eq y x) h) xs (all-in xs))
   where
     by_own : (b : Bool) → b ≡ true → (b || list_any (bytes_eq x) xs) ≡ true
     by_own true e = refl
@@ -231,7 +220,7 @@ module _ (tops : List Piece) where
       let own : (repeated [] words ≡ []) × (places_of (filter (λ (word : Word). is_of_other_list words (find_name known word.name)) words) ≡ []) = empty-both (repeated [] words) (places_of (filter (λ (word : Word). is_of_other_list words (find_name known word.name)) words)) h.0 in
       let parts = known-parts (map (λ (word : Word). (word.name, record { at = word.at; names = names_of words })) words) (constants_in ms) k in
       let there : AllByRecursion (IsIn (names_in known)) (names_of words) = subst (AllByRecursion (IsIn (names_in known))) (word-names words (names_of words)) parts.0 in
-      (record { once = (once-named [] words own.0).0; there = there; own = each-own known words words (nil-map _ (filter (λ (word : Word). is_of_other_list words (find_name known word.name)) words) own.1) there }, mentions-fine piece ms parts.1 h.1)
+      (record { once = (once-named [] words own.0).0; there = there; own = each-own known words words (map-nil _ (filter (λ (word : Word). is_of_other_list words (find_name known word.name)) words) own.1) there }, mentions-fine piece ms parts.1 h.1)
   mentions-fine piece (declares word what ∷ ms) k h = mentions-fine piece ms k h.1
   mentions-fine piece (binds o word ∷ ms) k h = mentions-fine piece ms k h.1
   mentions-fine piece (follows o parts ∷ ms) k h = mentions-fine piece ms k h.1
@@ -245,7 +234,7 @@ module _ (tops : List Piece) where
   pieces-fine (piece ∷ some) k h =
       let parts = known-parts (constants_in piece.mentions) (flat_map (λ (piece : Piece). constants_in piece.mentions) some) k in
       let own = empty-both (repeated [] (formals_of piece) ++ repeated [] (declared_words piece.mentions)) (flat_map (doubled (scope_of tops piece)) piece.mentions) h.0 in
-      each-append (IsFine known) (flat_map enum_of piece.mentions) (flat_map (λ (piece : Piece). flat_map enum_of piece.mentions) some)
+      each_append (IsFine known) (flat_map enum_of piece.mentions) (flat_map (λ (piece : Piece). flat_map enum_of piece.mentions) some)
       (mentions-fine piece piece.mentions parts.0 (empty-each (doubled (scope_of tops piece)) piece.mentions own.1)) (pieces-fine some parts.1 h.1)
 
 -- ---- different lists
@@ -260,7 +249,7 @@ filter-apart p [] h = tt
 filter-apart p (l ∷ ls) h = by_test (p l) (filter-apart p ls h.1)
   where
     by_test : (b : Bool) → AreApart (filter p ls) → AreApart (cond b (l ∷ filter p ls) (filter p ls))
-    by_test true rest = (filter-each (λ m. same_path l m ≡ false) p ls h.0, rest)
+    by_test true rest = (each_filter (λ m. same_path l m ≡ false) p ls h.0, rest)
     by_test false rest = rest
 
 -- what is kept passes the test
@@ -279,7 +268,7 @@ different-apart (l ∷ ls) = (kept-passes l (different same_path ls), filter-apa
 
 different-each : (P : List Name → Type 0) (ls : List (List Name)) → AllByRecursion P ls → AllByRecursion P (different same_path ls)
 different-each P [] h = tt
-different-each P (l ∷ ls) h = (h.0, filter-each P (λ m. not (same_path l m)) (different same_path ls) (different-each P ls h.1))
+different-each P (l ∷ ls) h = (h.0, each_filter P (λ m. not (same_path l m)) (different same_path ls) (different-each P ls h.1))
 
 -- ---- first names
 
@@ -307,7 +296,7 @@ module _ (known : List (Name × Constant)) where
 
   first-out : (l : List Name) (ls : List (List Name)) → IsSome l → IsFine known l → AllByRecursion (λ m. same_path l m ≡ false) ls → AllByRecursion IsSome ls → AllByRecursion (IsFine known) ls → IsOut (map first_name ls) (first_name l)
   first-out l [] p f apart some fine = refl
-  first-out l (m ∷ ls) p f apart some fine = out-of-both (bytes_eq (first_name l) (first_name m)) (list_any (bytes_eq (first_name l)) (map first_name ls)) (by_test (bytes_eq (first_name l) (first_name m)) refl) (first-out l ls p f apart.1 some.1 fine.1)
+  first-out l (m ∷ ls) p f apart some fine = or_from (bytes_eq (first_name l) (first_name m)) (list_any (bytes_eq (first_name l)) (map first_name ls)) (by_test (bytes_eq (first_name l) (first_name m)) refl) (first-out l ls p f apart.1 some.1 fine.1)
     where
       by_test : (b : Bool) → bytes_eq (first_name l) (first_name m) ≡ b → bytes_eq (first_name l) (first_name m) ≡ false
       by_test true e = let k : same_path l m ≡ true = (paths-decide l m).1 (one-list l m p some.0 f fine.0 (same-is (first_name l) (first_name m) e)) in let h : same_path l m ≡ false = apart.0 in absurd (cc (k, h))
@@ -329,7 +318,7 @@ module _ (known : List (Name × Constant)) where
 
 each-some : (ls : List (List Name)) → list_all (λ (names : List Name). nat_lt 0 (length names)) ls ≡ true → AllByRecursion IsSome ls
 each-some [] e = tt
-each-some (l ∷ ls) e = let g : (nat_lt 0 (length l) ≡ true) × (list_all (λ (names : List Name). nat_lt 0 (length names)) ls ≡ true) = both _ _ e in (g.0, each-some ls g.1)
+each-some (l ∷ ls) e = let g : (nat_lt 0 (length l) ≡ true) × (list_all (λ (names : List Name). nat_lt 0 (length names)) ls ≡ true) = and_parts _ _ e in (g.0, each-some ls g.1)
 
 text-fine : (text : Text) → first_fault text ≡ None → AllByRecursion (IsFine (constants (pieces text))) (flatten text).enums
 text-fine text e =
@@ -338,7 +327,7 @@ text-fine text e =
 
 -- no enumeration has more constants than there are different ones
 pub constants-few : (text : Text) → first_fault text ≡ None → AllByRecursion (λ (names : List Name). length names ≤ 4096) (flatten text).enums
-constants-few text e = each-more (IsFine (constants (pieces text))) (λ (names : List Name). length names ≤ 4096) (λ names f. few names f) (flatten text).enums (text-fine text e)
+constants-few text e = each_weaker (IsFine (constants (pieces text))) (λ (names : List Name). length names ≤ 4096) (λ names f. few names f) (flatten text).enums (text-fine text e)
   where
     few : (names : List Name) → IsFine (constants (pieces text)) names → length names ≤ 4096
     few names f =

@@ -1,10 +1,12 @@
 -- A text has no more entries in flat order than statements are counted, so its layers have numbers of 16 bits.
-use Rattle.std.proofs.Common.{◌≡◌, ◌<◌, ◌≤◌, ◌+◌, ◌*◌, ℕ, zero, suc, List, [], ◌∷◌, ◌++◌, map, filter, zip, length, Option, Some, None, option_map, IfSome, Bool, true, false, not, cond, refl, arith, length-append}
+use Rattle.std.proofs.Common.{◌≡◌, ◌<◌, ◌≤◌, ◌+◌, ◌*◌, ℕ, zero, suc, List, [], ◌∷◌, ◌++◌, map, zip, length, Option, Some, None, option_map, IfSome, Bool, true, false, not, cond, refl, arith, length-append}
 use Rattle.std.specs.Str.{bytes_eq}
 use Rattle.std.specs.List.{AllByRecursion, flat_map, sum, prefix_len, position_or_len}
 use Rattle.std.proofs.lemmas.List.{length-map}
 use Rattle.std.proofs.lemmas.List.Sums.{sum_by-cons}
 use Rattle.std.proofs.Math.Nat.{suc-mul}
+use Rattle.law_lists.proofs.Lists.{filter_few}
+use Rattle.law_lists.proofs.Each.{each_append, each_weaker}
 use Rattle.smv_core.specs.Values.{Name, Path}
 use Rattle.smv_core.specs.Types.{Types, types_from}
 use Rattle.smv_core.specs.FlatOrder.{Body, modules, main, role_of, body_of}
@@ -21,7 +23,6 @@ use Rattle.smv_core.specs.declared.flat.FlatItem.TheVariants as flat
 use Rattle.smv_mentions.specs.Sizes.{Sized, sized_from, statements, statements_of_item, statements_of_items, statements_in}
 use Rattle.law_designs.specs.Entries.{claim, split, using, Entry, layer, statement, goal, inside_binder, given_to, connection, connections, instance_entries, item_entries, items_entries, entries_in, entries}
 use Rattle.law_designs.specs.Flattening.{different, layer_of, layers_of, layer_number, flat_assignments, with_places, flat_entry, flatten}
-use Rattle.law_designs.proofs.Faultless.{each-append, each-more}
 use Rattle.law_sound_texts.specs.NumbersFit.{IsShort}
 use Rattle.law_sound_texts.proofs.Fitting.{LayerFits}
 
@@ -159,23 +160,15 @@ less-kept h n i m p q (goal instance binders g) less = tt
 less-each : (es : List Entry) (h n : ℕ) → h ≤ n → AllByRecursion (IsLess (h + length (heads es)) (n + length es)) es
 less-each [] h n le = tt
 less-each (layer name ∷ es) h n le =
-    (tt, each-more (IsLess (h + 1 + length (heads es)) (n + 1 + length es)) _ (less-kept (h + 1 + length (heads es)) (n + 1 + length es) _ _ (omega arith) (omega arith)) es (less-each es (h + 1) (n + 1) (omega (arith, le))))
+    (tt, each_weaker (IsLess (h + 1 + length (heads es)) (n + 1 + length es)) _ (less-kept (h + 1 + length (heads es)) (n + 1 + length es) _ _ (omega arith) (omega arith)) es (less-each es (h + 1) (n + 1) (omega (arith, le))))
 less-each (statement x ∷ es) h n le =
-    (let a = heads-few es in omega (arith, a, le), each-more (IsLess (h + length (heads es)) (n + 1 + length es)) _ (less-kept (h + length (heads es)) (n + 1 + length es) _ _ refl (omega arith)) es (less-each es h (n + 1) (omega (arith, le))))
+    (let a = heads-few es in omega (arith, a, le), each_weaker (IsLess (h + length (heads es)) (n + 1 + length es)) _ (less-kept (h + length (heads es)) (n + 1 + length es) _ _ refl (omega arith)) es (less-each es h (n + 1) (omega (arith, le))))
 less-each (goal instance binders g ∷ es) h n le =
-    (tt, each-more (IsLess (h + length (heads es)) (n + 1 + length es)) _ (less-kept (h + length (heads es)) (n + 1 + length es) _ _ refl (omega arith)) es (less-each es h (n + 1) (omega (arith, le))))
-
-filter-few : {X : Type 0} (p : X → Bool) (xs : List X) → length (filter p xs) ≤ length xs
-filter-few p [] = omega arith
-filter-few p (x ∷ xs) = by_test (p x) (filter-few p xs)
-  where
-    by_test : (b : Bool) → length (filter p xs) ≤ length xs → length (cond b (x ∷ filter p xs) (filter p xs)) ≤ suc (length xs)
-    by_test true h = omega (arith, h)
-    by_test false h = omega (arith, h)
+    (tt, each_weaker (IsLess (h + length (heads es)) (n + 1 + length es)) _ (less-kept (h + length (heads es)) (n + 1 + length es) _ _ refl (omega arith)) es (less-each es h (n + 1) (omega (arith, le))))
 
 different-few : {X : Type 0} (same : X → X → Bool) (xs : List X) → length (different same xs) ≤ length xs
 different-few same [] = omega arith
-different-few same (x ∷ xs) = let a = different-few same xs in let b = filter-few (λ y. not (same x y)) (different same xs) in omega (arith, a, b)
+different-few same (x ∷ xs) = let a = different-few same xs in let b = filter_few (λ y. not (same x y)) (different same xs) in omega (arith, a, b)
 
 position-most : {X : Type 0} (p : X → Bool) (xs : List X) → position_or_len p xs ≤ length xs
 position-most p [] = omega arith
@@ -199,7 +192,7 @@ module _ (text : Text) (layers : List Name) where
 
   entries-fit : (h n : ℕ) → length layers ≤ h → n ≤ 65536 → (es : List Entry) → AllByRecursion (IsLess h n) es → AllByRecursion LayerFits (flat_map (flat_entry text layers) es)
   entries-fit h n a b [] less = tt
-  entries-fit h n a b (e ∷ es) less = each-append LayerFits (flat_entry text layers e) (flat_map (flat_entry text layers) es) (entry-fits h n a b e less.0) (entries-fit h n a b es less.1)
+  entries-fit h n a b (e ∷ es) less = each_append LayerFits (flat_entry text layers e) (flat_map (flat_entry text layers) es) (entry-fits h n a b e less.0) (entries-fit h n a b es less.1)
 
 places-fit : (k : ℕ) (items : List FlatItem) → AllByRecursion LayerFits items → AllByRecursion LayerFits (with_places k items)
 places-fit k [] h = tt

@@ -3,6 +3,7 @@ use Rattle.std.proofs.Common.{◌≡◌, ℕ, ◌+◌, List, [], ◌∷◌, ◌+
 use Rattle.std.specs.List.{flat_map, list_any, list_all, AllZip}
 use Rattle.std.specs.Option.{option_or}
 use Rattle.std.proofs.lemmas.List.Folds.{find-append}
+use Rattle.std.proofs.lemmas.Bool.{and_from}
 use Rattle.smv_core.specs.Values.{numbers_from}
 use Rattle.smv_core.specs.Walk.{same_kind}
 use Rattle.smv_core.specs.Assignments.{Index, fits}
@@ -26,7 +27,6 @@ use Rattle.law_obligations.proofs.Lookups.{Has-filter}
 use Rattle.law_obligations.proofs.Same.{nat_eq-itself}
 use Rattle.law_designs.specs.Reading.{Reference, references, Reading, readings, readings_of}
 use Rattle.law_designs.specs.LayerFaults.{assignments_of}
-use Rattle.law_sound_texts.proofs.Lists.{both_true}
 use Rattle.law_sound_texts.proofs.FirstFound.{FindAlike, find-zip, zip-append, any-is-find}
 
 -- ---- the assignments of a statement, in three forms
@@ -140,7 +140,7 @@ module _ (flat_text : FlatText) (h : Head) (s : Statement) (there : Has (stateme
   part-read : (a : FlatAssigned) → Has (flat_assignments s.act) a → nat_eq a.family h.family ≡ true → IsRead h.family (readings h.family [] (part_of a.kind h.family (set_of flat_text h.layer)))
   part-read a m e =
       let concerned : list_any (flat_concerns a.kind x) (flat_assignments s.act) ≡ true =
-      any-found (flat_concerns a.kind x) m (both_true (same_kind a.kind a.kind) _ (kind-itself a.kind) (both_true (nat_eq a.family h.family) _ e (all-fit a.indexes))) in
+      any-found (flat_concerns a.kind x) m (and_from (same_kind a.kind a.kind) _ (kind-itself a.kind) (and_from (nat_eq a.family h.family) _ e (all-fit a.indexes))) in
       let is : (is : List Index) × Has (indexes_assigned (flat_of a.kind h.family s.place s.act)) is × (list_all (λ (i, v). fits i v) (zip is []) ≡ true) =
       any-some (λ is. list_all (λ (i, v). fits i v) (zip is [])) (indexes_assigned (flat_of a.kind h.family s.place s.act)) (concerned-same x a.kind s.place s.act ∙ concerned) in
       let own : Has (set_of flat_text h.layer) s = Has-filter (λ (s : Statement). is_one_layer h.layer s.layer) there (subst (λ l. is_one_layer h.layer l ≡ true) here (layer-itself h.layer)) in

@@ -1,6 +1,7 @@
 -- Where each assignment takes one index for each type of its family, no left side has more.
 use Rattle.std.proofs.Common.{◌≡◌, ℕ, suc, ◌+◌, List, [], ◌∷◌, map, length, slice_get, Option, Some, None, Bool, true, false, ◌&&◌, if◌then◌else◌, nat_le, nat_lt, refl, ap, arith}
 use Rattle.std.specs.List.{flat_map, list_all}
+use Rattle.std.proofs.lemmas.Bool.{and_parts, and_from}
 use Rattle.smv_core.specs.declared.flat.Simple.{Simple}
 use Rattle.smv_core.specs.declared.flat.Family.{Family}
 use Rattle.smv_core.specs.declared.flat.FlatExpr.{FlatExpr}
@@ -13,15 +14,7 @@ use Rattle.smv_core.specs.Values.{Name}
 use Rattle.law_designs.specs.Standing.{count, statements_from, Standing, standing, standing_in, assigned_by}
 use Rattle.law_designs.specs.Laws.{index_count, left_sides_are_whole}
 use Rattle.law_designs.specs.FlatKinds.{Kind, number, kind_of, takes, take_each, assigns, element, Vars, inside, is_size, kind_in, value_in, is_binder, keeps_kinds, all_keep_kinds, is_kinded_item, is_kinded_family, is_kinded}
-use Rattle.law_sound_texts.proofs.Lists.{all-append}
-
-both : (a b : Bool) → (a && b) ≡ true → (a ≡ true) × (b ≡ true)
-both true b e = (refl, e)
-both false b e = absurd (cc (e))
-
-pair : (a b : Bool) → a ≡ true → b ≡ true → (a && b) ≡ true
-pair true b e f = f
-pair false b e f = absurd (cc (e))
+use Rattle.law_flat_kinds.proofs.Lists.{all-append}
 
 at_most : (k n : ℕ) → k ≡ n → nat_le k n ≡ true
 at_most k n e = grind arith
@@ -30,7 +23,7 @@ one-for-each : (g : FlatExpr → Option Kind) (over : List Simple) (left : List 
 one-for-each g [] [] e = refl
 one-for-each g [] (x ∷ left) e = absurd (cc (e))
 one-for-each g (t ∷ over) [] e = absurd (cc (e))
-one-for-each g (t ∷ over) (x ∷ left) e = ap suc (one-for-each g over left (both (takes (kind_of t) (g x)) (take_each over (map g left)) e).1)
+one-for-each g (t ∷ over) (x ∷ left) e = ap suc (one-for-each g over left (and_parts (takes (kind_of t) (g x)) (take_each over (map g left)) e).1)
 
 module _ (flat_text : FlatText) where
   abbrev whole : Standing → Bool
@@ -49,35 +42,35 @@ module _ (flat_text : FlatText) where
   module _ (layer : Option ℕ) where
     mutual
       stmt-whole : (around : List ℕ) (vars : Vars) (act : FlatStmt) → keeps_kinds flat_text vars act ≡ true → list_all whole (standing layer around act) ≡ true
-      stmt-whole around vars (Assign kind family left value at) e = pair _ true (target-whole vars family left (value_in flat_text vars value) (slice_get flat_text.families family) refl e) refl
+      stmt-whole around vars (Assign kind family left value at) e = and_from _ true (target-whole vars family left (value_in flat_text vars value) (slice_get flat_text.families family) refl e) refl
       stmt-whole around vars (If' test l (more_of-FlatStmt left end_of-FlatStmt) r (more_of-FlatStmt right end_of-FlatStmt)) e =
-          let g : (keeps_kinds flat_text vars left ≡ true) × (keeps_kinds flat_text vars right ≡ true) = both _ _ (both (takes number (kind_in flat_text vars test)) (keeps_kinds flat_text vars left && keeps_kinds flat_text vars right) e).1 in
+          let g : (keeps_kinds flat_text vars left ≡ true) × (keeps_kinds flat_text vars right ≡ true) = and_parts _ _ (and_parts (takes number (kind_in flat_text vars test)) (keeps_kinds flat_text vars left && keeps_kinds flat_text vars right) e).1 in
           all-append whole (standing layer around left) (standing layer around right) (stmt-whole around vars left g.0) (stmt-whole around vars right g.1)
       stmt-whole around vars (Block' shape parts) e = all-whole around vars parts e
       stmt-whole around vars (Default' l (more_of-FlatStmt left end_of-FlatStmt) r (more_of-FlatStmt right end_of-FlatStmt)) e =
-          let g : (keeps_kinds flat_text vars left ≡ true) × (keeps_kinds flat_text vars right ≡ true) = both _ _ e in
+          let g : (keeps_kinds flat_text vars left ≡ true) × (keeps_kinds flat_text vars right ≡ true) = and_parts _ _ e in
           all-append whole (standing layer around left) (standing layer around right) (stmt-whole around vars left g.0) (stmt-whole around vars right g.1)
       stmt-whole around vars (Forall' var over shape (more_of-FlatStmt body end_of-FlatStmt)) e =
-          stmt-whole (var ∷ around) (inside vars over) body (both (is_binder flat_text vars var over) (keeps_kinds flat_text (inside vars over) body) e).1
+          stmt-whole (var ∷ around) (inside vars over) body (and_parts (is_binder flat_text vars var over) (keeps_kinds flat_text (inside vars over) body) e).1
 
       all-whole : {m : _} (around : List ℕ) (vars : Vars) (parts : Row_of-FlatStmt m) → all_keep_kinds flat_text vars parts ≡ true → list_all whole (standing_in layer around parts) ≡ true
       all-whole around vars end_of-FlatStmt e = refl
       all-whole around vars (more_of-FlatStmt part rest) e =
-          let g : (keeps_kinds flat_text vars part ≡ true) × (all_keep_kinds flat_text vars rest ≡ true) = both _ _ e in
+          let g : (keeps_kinds flat_text vars part ≡ true) × (all_keep_kinds flat_text vars rest ≡ true) = and_parts _ _ e in
           all-append whole (standing layer around part) (standing_in layer around rest) (stmt-whole around vars part g.0) (all-whole around vars rest g.1)
 
   items-whole : (k : ℕ) (items : List FlatItem) → list_all (is_kinded_item flat_text) items ≡ true → list_all whole (flat_map assigned_by (statements_from k items)) ≡ true
   items-whole k [] e = refl
   items-whole k (item.Act layer act ∷ items) e =
-      let g : (keeps_kinds flat_text [] act ≡ true) × (list_all (is_kinded_item flat_text) items ≡ true) = both _ _ e in
+      let g : (keeps_kinds flat_text [] act ≡ true) × (list_all (is_kinded_item flat_text) items ≡ true) = and_parts _ _ e in
       all-append whole (standing layer [] act) (flat_map assigned_by (statements_from (k + count act) items)) (stmt-whole layer [] [] act g.0) (items-whole (k + count act) items g.1)
-  items-whole k (item.Claim c ∷ items) e = items-whole (k + 1) items (both (is_kinded_item flat_text (item.Claim c)) (list_all (is_kinded_item flat_text) items) e).1
-  items-whole k (item.Split s ∷ items) e = items-whole k items (both (is_kinded_item flat_text (item.Split s)) (list_all (is_kinded_item flat_text) items) e).1
-  items-whole k (item.Using u ∷ items) e = items-whole k items (both (is_kinded_item flat_text (item.Using u)) (list_all (is_kinded_item flat_text) items) e).1
+  items-whole k (item.Claim c ∷ items) e = items-whole (k + 1) items (and_parts (is_kinded_item flat_text (item.Claim c)) (list_all (is_kinded_item flat_text) items) e).1
+  items-whole k (item.Split s ∷ items) e = items-whole k items (and_parts (is_kinded_item flat_text (item.Split s)) (list_all (is_kinded_item flat_text) items) e).1
+  items-whole k (item.Using u ∷ items) e = items-whole k items (and_parts (is_kinded_item flat_text (item.Using u)) (list_all (is_kinded_item flat_text) items) e).1
 
   pub flat_text-whole : is_kinded flat_text ≡ true → left_sides_are_whole flat_text ≡ true
   flat_text-whole e =
       items-whole 0 flat_text.items
-      (both (list_all (is_kinded_family flat_text) flat_text.families) (list_all (is_kinded_item flat_text) flat_text.items)
-      (both (list_all (λ (names : List Name). nat_lt 0 (length names)) flat_text.enums) (list_all (is_kinded_family flat_text) flat_text.families && list_all (is_kinded_item flat_text) flat_text.items)
-      (both (list_all (λ (info : SetInfo). is_size info.size) flat_text.sets) (list_all (λ (names : List Name). nat_lt 0 (length names)) flat_text.enums && (list_all (is_kinded_family flat_text) flat_text.families && list_all (is_kinded_item flat_text) flat_text.items)) e).1).1).1
+      (and_parts (list_all (is_kinded_family flat_text) flat_text.families) (list_all (is_kinded_item flat_text) flat_text.items)
+      (and_parts (list_all (λ (names : List Name). nat_lt 0 (length names)) flat_text.enums) (list_all (is_kinded_family flat_text) flat_text.families && list_all (is_kinded_item flat_text) flat_text.items)
+      (and_parts (list_all (λ (info : SetInfo). is_size info.size) flat_text.sets) (list_all (λ (names : List Name). nat_lt 0 (length names)) flat_text.enums && (list_all (is_kinded_family flat_text) flat_text.families && list_all (is_kinded_item flat_text) flat_text.items)) e).1).1).1

@@ -1,6 +1,9 @@
 -- Where no place breaks the rules of single assignment, no two assignments of a definition conflict.
 use Rattle.std.proofs.Common.{◌≡◌, ℕ, zero, suc, ◌+◌, ◌<◌, ◌≤◌, List, [], ◌∷◌, ◌++◌, map, filter, zip, length, Option, Some, None, Bool, true, false, not, ◌&&◌, ◌||◌, cond, nat_eq, refl, sym, ap, ◌∙◌, subst, ◌⊎◌, inl, inr, arith, slice_get}
 use Rattle.std.specs.List.{flat_map, list_any, list_all}
+use Rattle.std.proofs.lemmas.Bool.{or_cases, cases_Bool}
+use Rattle.law_lists.proofs.Booleans.{clash, right_of, same_tests}
+use Rattle.law_lists.proofs.Numbers.{nat_eq-is}
 use Rattle.smv_core.specs.Values.{same}
 use Rattle.smv_core.specs.Walk.{same_kind}
 use Rattle.smv_core.specs.Assignments.{Index, fixed, bare, computed}
@@ -19,22 +22,19 @@ use Rattle.law_obligations.specs.Sets.{Has, first, later}
 use Rattle.law_obligations.specs.Bound.{HasVariable}
 use Rattle.law_obligations.specs.FlatConflicts.{AreExcused, EachTwo, HasNoConflict, HaveNoConflict, IsConflictFree}
 use Rattle.law_obligations.proofs.OneGives.{is_single}
-use Rattle.law_obligations.proofs.Tests.{or_cases, right_of, true_or_false, same_tests}
 use Rattle.law_obligations.proofs.Members.{Has-left, Has-right, Has-cases, all-each}
-use Rattle.law_obligations.proofs.Same.{nat_eq-is, nat_eq-itself, same-is, same-itself}
+use Rattle.law_obligations.proofs.Same.{nat_eq-itself, same-is, same-itself}
 use Rattle.law_designs.specs.Standing.{count, Statement, statements_of, Standing, standing, standing_in, assigned_by}
 use Rattle.law_designs.specs.SingleFaults.{differ, share, meet, cross, later_places, conflicts, conflicts_in, conflicting, is_variable, has_variables, first_fault_of_single}
 use Rattle.law_designs.specs.Definitions.{is_nothing, joined, first_part, branches, each_value, flat_of, flats_of, Head, def_of}
 use Rattle.law_designs.proofs.FlatParts.{boxes, rows_of, indexes-row, indexes-kept}
 use Rattle.law_designs.specs.Laws.{index_count}
+use Rattle.law_designs.proofs.Descents.{one-is}
 use Rattle.law_sound_texts.specs.Placed.{IsPlaced, ArePlaced, FlatTextIsPlaced, IsFree, OneValueGives}
 use Rattle.law_sound_texts.proofs.FaultlessSides.{no-clash, no-conflict, no-lack}
-use Rattle.law_sound_texts.proofs.Comes.{Comes, comes, comes_in, comes_of, layer-is, part, chosen}
+use Rattle.law_sound_texts.proofs.Comes.{Comes, comes, comes_in, comes_of, part, chosen}
 use mathlib.Core.Former.{Count}
-use Rattle.law_sound_texts.proofs.NoFaults.{nil-left, nil-right}
-
-clash : {b : Bool} → b ≡ true → b ≡ false → ⊥
-clash p q = cc
+use Rattle.law_flat_kinds.proofs.NoFaults.{nil-left, nil-right}
 
 -- the numbers below a number, the greatest first
 abbrev down : ℕ → List ℕ
@@ -43,7 +43,7 @@ down (suc n) = n ∷ down n
 
 down-has : (n k : ℕ) → k < n → Has (down n) k
 down-has zero k lt = absurd (omega (arith, lt))
-down-has (suc n) k lt = elim (true_or_false (nat_eq k n)) [ inl e ↦ subst (Has (n ∷ down n)) (sym (nat_eq-is k n e)) first | inr e ↦ later (down-has n k (below k n lt e)) ]
+down-has (suc n) k lt = elim (cases_Bool (nat_eq k n)) [ inl e ↦ subst (Has (n ∷ down n)) (sym (nat_eq-is k n e)) first | inr e ↦ later (down-has n k (below k n lt e)) ]
   where
     below : (k n : ℕ) → k < suc n → nat_eq k n ≡ false → k < n
     below k n lt e = grind arith
@@ -290,7 +290,7 @@ module _ (counts : ℕ → ℕ) (layer : Option ℕ) (kind : Kind) (family : ℕ
         rest,
         λ is js p q. apart layer kind family 0 (assigned_by s) (flat_map assigned_by set)
             (nil-third (conflicts s.layer [] s.act) (conflicting set) (later_places meet (assigned_by s) (flat_map assigned_by set)) e) is js
-            (subst (λ l. Comes l kind family (assigned_by s) is) (sym (layer-is layer s.layer h)) (comes s.layer kind family [] s.place s.act is p)) (comes_of layer kind family set js q),
+            (subst (λ l. Comes l kind family (assigned_by s) is) (sym (one-is layer s.layer h)) (comes s.layer kind family [] s.place s.act is p)) (comes_of layer kind family set js q),
       )
       by_test false h rest = rest
 

@@ -2,6 +2,7 @@
 use Rattle.std.proofs.Common.{◌<◌, ◌+◌, ℕ, zero, suc, List, [], ◌∷◌, ◌++◌, map, zip, length, Option, Some, None, unwrap_or, Bool, true, false, cond}
 use Rattle.std.specs.Str.{bytes_eq}
 use Rattle.std.specs.List.{AllByRecursion, flat_map}
+use Rattle.law_lists.proofs.Each.{each_flat_map, each_append}
 use Rattle.smv_core.specs.Values.{Name, Path}
 use Rattle.smv_core.specs.Types.{Types, find_name, types_from}
 use Rattle.smv_core.specs.FlatOrder.{Body, modules, main, role_of, body_of}
@@ -28,14 +29,10 @@ use Rattle.law_designs.specs.Numbers.{Scope}
 use Rattle.law_designs.specs.Statements.{flat_expr, first_token}
 use Rattle.law_designs.specs.Entries.{Binders, Goal, claim, split, using, Entry, layer, statement, goal, inside_binder, formal, given_to, connection, connections, instance_entries, item_entries, items_entries, entries_in, entries}
 use Rattle.law_designs.specs.Flattening.{flat_assignments, scope_in, within, params_from, flat_pair, flat_goal, with_places, layers_of, flat_entry, flatten}
-use Rattle.law_designs.proofs.Faultless.{each-append, each-map}
+use Rattle.law_designs.proofs.Faultless.{each-map}
 use Rattle.law_sound_texts.proofs.Shallow.{most, IsShallow, AreShallow, IndexesAreShallow, StatementIsShallow, InnerIsShallow, InnersAreShallow, ItemIsShallow, TopIsShallow, TextIsShallow}
 use Rattle.law_sound_texts.proofs.ShallowForms.{PartIsShallow, PathIsShallow, shallow-Signal, shallow-Assign, shallow-Forall}
 use Rattle.law_sound_texts.proofs.FlatShallow.{FlatIsShallow, ActIsShallow, expr-shallow, act-shallow}
-
-all-flat : {X Y : Type 0} (P : X → Type 0) (Q : Y → Type 0) (f : X → List Y) → ((x : X) → P x → AllByRecursion Q (f x)) → (xs : List X) → AllByRecursion P xs → AllByRecursion Q (flat_map f xs)
-all-flat P Q f k [] h = tt
-all-flat P Q f k (x ∷ xs) h = each-append Q (f x) (flat_map f xs) (k x h.0) (all-flat P Q f k xs h.1)
 
 -- ---- what is met in flat order
 
@@ -93,7 +90,7 @@ zipped-shallow (word ∷ words) (e ∷ args) h = (h.0, zipped-shallow words args
 
 connections-shallow : (body : Body) (n : Name) (args : List Expr) → AreShallow 0 args → AllByRecursion (StatementIsShallow 0) (connections body n args)
 connections-shallow body n args h =
-    all-flat (λ (p : Word × Expr). IsShallow 0 p.1) (StatementIsShallow 0) (λ (p : Word × Expr). connection (role_of body.items p.0.name) n p.0.name p.1) (λ p own. connection-shallow (role_of body.items p.0.name) n p.0.name p.1 own)
+    each_flat_map (λ (p : Word × Expr). IsShallow 0 p.1) (StatementIsShallow 0) (λ (p : Word × Expr). connection (role_of body.items p.0.name) n p.0.name p.1) (λ p own. connection-shallow (role_of body.items p.0.name) n p.0.name p.1 own)
     (zip body.formals args) (zipped-shallow body.formals args h)
 
 -- ---- items of the tree
@@ -118,7 +115,7 @@ module _ (types : Types) (bodies : List (Name × Body)) where
 
       inners-shallow : {m : _} (k : ℕ) (row : Row_of-Item m) → InnersAreShallow k row → AllByRecursion (EntryIsShallow k) (items_entries types bodies inside here row)
       inners-shallow k end_of-Item h = tt
-      inners-shallow k (more_of-Item x rest) h = each-append (EntryIsShallow k) (met_in x) (items_entries types bodies inside here rest) (inner-shallow k x h.0) (inners-shallow k rest h.1)
+      inners-shallow k (more_of-Item x rest) h = each_append (EntryIsShallow k) (met_in x) (items_entries types bodies inside here rest) (inner-shallow k x h.0) (inners-shallow k rest h.1)
 
     -- statements of a layer or of connections
     said-shallow : (number : Option Name) (acts : List Stmt) → AllByRecursion (StatementIsShallow 0) acts →
@@ -130,8 +127,8 @@ module _ (types : Types) (bodies : List (Name × Body)) where
         AllByRecursion (EntryIsShallow 0) (flat_map (λ (word : Word). instance_entries types bodies inside here name args word.name) words)
     instances-shallow all name args h [] = tt
     instances-shallow all name args h (word ∷ words) =
-        each-append (EntryIsShallow 0) (instance_entries types bodies inside here name args word.name) (flat_map (λ (word : Word). instance_entries types bodies inside here name args word.name) words)
-        (each-append (EntryIsShallow 0) (map (λ act. statement (record { layer = None; instance = here; act = act })) (connections (body_of types bodies name) word.name args)) (inside (here ++ word.name ∷ []) name)
+        each_append (EntryIsShallow 0) (instance_entries types bodies inside here name args word.name) (flat_map (λ (word : Word). instance_entries types bodies inside here name args word.name) words)
+        (each_append (EntryIsShallow 0) (map (λ act. statement (record { layer = None; instance = here; act = act })) (connections (body_of types bodies name) word.name args)) (inside (here ++ word.name ∷ []) name)
         (said-shallow None (connections (body_of types bodies name) word.name args) (connections-shallow (body_of types bodies name) word.name args h)) (all (here ++ word.name ∷ []) name))
         (instances-shallow all name args h words)
 
@@ -149,7 +146,7 @@ module _ (types : Types) (bodies : List (Name × Body)) where
   entries-shallow : ((name : Name) → AllByRecursion ItemIsShallow (body_of types bodies name).items) → (n : ℕ) (here : Path) (name : Name) → AllByRecursion (EntryIsShallow 0) (entries_in types bodies n here name)
   entries-shallow items zero here name = tt
   entries-shallow items (suc n) here name =
-      all-flat ItemIsShallow (EntryIsShallow 0) (item_entries types bodies (entries_in types bodies n) here) (item-shallow (entries_in types bodies n) here (entries-shallow items n)) (body_of types bodies name).items (items name)
+      each_flat_map ItemIsShallow (EntryIsShallow 0) (item_entries types bodies (entries_in types bodies n) here) (item-shallow (entries_in types bodies n) here (entries-shallow items n)) (body_of types bodies name).items (items name)
 
   modules-shallow : (tops : List Top) → AllByRecursion TopIsShallow tops → (name : Name) → AllByRecursion ItemIsShallow (body_of types (modules tops) name).items
   modules-shallow [] h name = tt
@@ -208,4 +205,4 @@ places-flat k (item.Using u ∷ items) h = (h.0, places-flat k items h.1)
 pub items-shallow : (text : Text) → TextIsShallow text → AllByRecursion FlatItemIsShallow (flatten text).items
 items-shallow text h =
     let layers = layers_of (entries text) in
-    places-flat 0 (flat_map (flat_entry text layers) (entries text)) (all-flat (EntryIsShallow 0) FlatItemIsShallow (flat_entry text layers) (entry-flat text layers) (entries text) (text-shallow text h))
+    places-flat 0 (flat_map (flat_entry text layers) (entries text)) (each_flat_map (EntryIsShallow 0) FlatItemIsShallow (flat_entry text layers) (entry-flat text layers) (entries text) (text-shallow text h))

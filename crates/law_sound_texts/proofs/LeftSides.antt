@@ -1,5 +1,7 @@
 -- The left sides of a definition are those of the statements from which it is made.
 use Rattle.std.proofs.Common.{◌≡◌, ℕ, ◌+◌, ◌≤◌, List, [], ◌∷◌, ◌++◌, map, filter, length, Option, Some, None, Bool, true, false, not, ◌&&◌, cond, nat_eq, refl, sym, ap, subst, inl, inr, slice_get, arith}
+use Rattle.law_lists.proofs.Booleans.{right_of}
+use Rattle.law_lists.proofs.Numbers.{nat_eq-is}
 use Rattle.smv_core.specs.Walk.{same_kind}
 use Rattle.smv_core.specs.FlatMeaning.{flat_index}
 use Rattle.smv_core.specs.declared.tree.Kind.{Kind}
@@ -19,11 +21,9 @@ use Rattle.law_designs.specs.Laws.{index_count}
 use Rattle.law_obligations.specs.Sets.{Has, first, later}
 use Rattle.law_obligations.proofs.Members.{Has-left, Has-right, Has-cases, Has-from_map, Has-flat_map}
 use Rattle.law_obligations.proofs.Lookups.{Has-from_filter}
-use Rattle.law_obligations.proofs.Same.{nat_eq-is}
 use Rattle.law_designs.specs.Reading.{Reference, references, Reading, readings, readings_of}
 use Rattle.law_designs.specs.LayerFaults.{assignments_of}
 use Rattle.law_sound_texts.specs.Extension.{HasWholeLeftSides, FlatTextHasWholeLeftSides}
-use Rattle.law_sound_texts.proofs.Lists.{right_of}
 use mathlib.Core.Former.{Count}
 
 -- what lets a box of a definition's part compute

@@ -11,7 +11,6 @@ pub mod TextSizes
 pub mod DesignClaims
 pub mod DesignMaps
 pub mod SoundDesigns
-pub mod Lists
 pub mod Agreeing
 pub mod Results
 pub mod Places
@@ -20,20 +19,6 @@ pub mod Stages
 pub mod Runs
 pub mod LeftSides
 pub mod Texts
-pub mod FamiliesFound
-mod Relation
-mod Boxes
-mod Variables
-mod Expressions
-mod Values
-mod Statements
-mod Only
-mod Families
-mod Constants
-mod Enumerations
-mod Connections
-mod Entries
-mod Kinded
 pub mod FaultlessSides
 pub mod Comes
 pub mod Free
@@ -59,12 +44,11 @@ mod FlatShallow
 mod Items
 mod Fitting
 mod Limits
-mod NoFaults
 mod FewFamilies
 mod FewEntries
 mod FewConstants
 mod WholeText
-mod Consumed
+pub mod Consumed
 mod Widths
 mod SetTypes
 mod Ranges

@@ -2,6 +2,8 @@
 use Rattle.std.proofs.Common.{◌≡◌, ℕ, List, [], ◌∷◌, length, Option, Some, None, Bool, true, false, not, nat_eq, refl, sym, ap, subst, ◌∙◌, inl, inr, slice_get, option_to_list, All, Contains, arith}
 use Rattle.std.specs.List.{AllZip, list_all, list_any}
 use Rattle.std.proofs.lemmas.Option.{slice_get_within}
+use Rattle.law_lists.proofs.Booleans.{left_of, right_of}
+use Rattle.law_lists.proofs.Numbers.{nat_eq-is}
 use Rattle.smv_core.specs.Values.{Name, Value, Sizes, values_of}
 use Rattle.smv_core.specs.Types.{Family}
 use Rattle.smv_core.specs.FlatOrder.{TextDesign, design_of}
@@ -34,10 +36,10 @@ use Rattle.law_obligations.specs.Units.{is_base_in, is_refinement}
 use Rattle.law_obligations.specs.Checked.{HoldsAlways}
 use Rattle.law_obligations.proofs.Members.{Has-flat_map, all-each}
 use Rattle.law_obligations.proofs.OneOfEach.{get_Has, Has_get}
-use Rattle.law_obligations.proofs.Same.{Has-is_in, nat_eq-is}
+use Rattle.law_obligations.proofs.Same.{Has-is_in}
 use Rattle.law_obligations.proofs.Spots.{Has-numbers}
-use Rattle.law_sound_texts.specs.TextExtension.{FamiliesAreFound}
-use Rattle.law_sound_texts.proofs.Lists.{left_of, right_of, some_or_none}
+use Rattle.law_flat_kinds.specs.FamiliesFound.{FamiliesAreFound}
+use Rattle.law_flat_kinds.proofs.Lists.{some_or_none}
 use Rattle.law_sound_texts.proofs.Faultless.{IsFaultless, IsBase, base_by}
 use Rattle.law_sound_texts.proofs.Texts.{Has-Contains, All-each, in_flat_text, indexes_same, demand_same}
 use Rattle.law_sound_texts.specs.Carried.{UnitsHold}

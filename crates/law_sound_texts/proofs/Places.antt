@@ -1,6 +1,7 @@
 -- What a reference may read, and the elements that an assignment may concern, have their places among the cells of the reference and of the assignment.
 use Rattle.std.proofs.Common.{◌≡◌, ℕ, suc, ◌+◌, ◌-◌, ◌≤◌, List, [], ◌∷◌, map, zip, length, Bool, true, false, ◌&&◌, cond, refl, sym, ap, subst, Option, Some, None, slice_get, get_or, arith}
 use Rattle.std.specs.List.{list_all}
+use Rattle.law_lists.proofs.Booleans.{left_of, right_of}
 use Rattle.smv_core.specs.Values.{Value, number, constant, scalar, ordinal, scalarset, ordset, Sizes, values_of, is_in, numbers_from}
 use Rattle.smv_core.specs.Assignments.{Index, fixed, bare, computed, fits}
 use Rattle.smv_core.specs.FlatMeaning.{Numbered, values_in, set_type}
@@ -16,7 +17,7 @@ use Rattle.law_obligations.proofs.OneOfEach.{Has-from_flat_map}
 use Rattle.law_obligations.proofs.Lookups.{Has-filter}
 use Rattle.law_obligations.proofs.Same.{Has-is_in}
 use Rattle.law_designs.specs.Loops.{is_constant, at_index, ways, cells_of}
-use Rattle.law_sound_texts.proofs.Lists.{left_of, right_of, is_in-Has}
+use Rattle.law_flat_kinds.proofs.Lists.{is_in-Has}
 use Rattle.law_sound_texts.proofs.Agreeing.{is_plain, MayBe}
 
 -- what a cell has for a value of a type

@@ -1,6 +1,9 @@
 -- Ranges of types without a fault of kinds fit.
 use Rattle.std.proofs.Common.{◌≡◌, ℕ, List, [], ◌∷◌, Option, Some, None, IfSome, false, ◌||◌, nat_lt, arith}
 use Rattle.std.specs.List.{AllByRecursion}
+use Rattle.std.proofs.lemmas.Bool.{or_parts}
+use Rattle.law_lists.proofs.Numbers.{nat_lt-not}
+use Rattle.law_lists.proofs.Lists.{map-nil}
 use Rattle.smv_core.specs.Values.{Name}
 use Rattle.smv_core.specs.declared.tree.Span.{Span}
 use Rattle.smv_core.specs.declared.tree.Text.{Text}
@@ -13,15 +16,12 @@ use Rattle.law_designs.specs.Types.{Types, types_after, is_reversed, range_fault
 use Rattle.law_designs.specs.KindFaults.{in_top, in_tops, faults_of_kinds, first_fault_of_kinds}
 use Rattle.law_designs.proofs.Faultless.{empty-both, unplaced, no_fault-in}
 use Rattle.law_sound_texts.specs.RangesFit.{SpanFits, IndexFits, RangesFit, FieldsFit, TopFits, NamedRangesFit}
-use Rattle.law_sound_texts.proofs.Limits.{not-less}
-use Rattle.law_sound_texts.proofs.NoFaults.{nil-map}
-use Rattle.law_sound_texts.proofs.Lists.{neither}
 
 range-fits : (span : Span) (at : ℕ) → range_faults span at ≡ [] → SpanFits span
 range-fits span at e =
-    let g : (is_reversed span ≡ false) × (nat_lt 255 span.high ≡ false) = neither (is_reversed span) (nat_lt 255 span.high) (unplaced (is_reversed span || nat_lt 255 span.high) at (nil-map _ _ e)) in
-    let a = not-less span.high span.low g.0 in
-    let b = not-less 255 span.high g.1 in
+    let g : (is_reversed span ≡ false) × (nat_lt 255 span.high ≡ false) = or_parts (is_reversed span) (nat_lt 255 span.high) (unplaced (is_reversed span || nat_lt 255 span.high) at (map-nil _ _ e)) in
+    let a = nat_lt-not span.high span.low g.0 in
+    let b = nat_lt-not 255 span.high g.1 in
     (omega (arith, a, b), omega (arith, b))
 
 size-fits : (span : Option Span) (at : ℕ) → size_faults span at ≡ [] → IfSome span SpanFits

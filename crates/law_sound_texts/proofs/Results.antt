@@ -4,6 +4,7 @@ use Rattle.std.proofs.Common.{◌≡◌, ℕ, List, [], ◌∷◌, ◌++◌, map
 use Rattle.std.specs.List.{flat_map, list_any, list_all}
 use Rattle.std.specs.Option.{is_none}
 use Rattle.std.proofs.Math.Path.{fun_ext}
+use Rattle.law_lists.proofs.Options.{some_is}
 use Rattle.smv_core.specs.Values.{Value, Outcome, Truth, truth, is_in, value_in, all_defined}
 use Rattle.smv_core.specs.Outcome.{branch, fit}
 use Rattle.smv_core.specs.Walk as walk
@@ -15,10 +16,9 @@ use Rattle.smv_core.specs.declared.flat.DefBody.{DefBody, Nothing, Assign, If', 
 use Rattle.law_obligations.specs.Sets.{Has, first, later}
 use Rattle.law_obligations.proofs.Members.{Has-left, Has-right, Has-cases}
 use Rattle.law_obligations.proofs.Same.{Has-is_in}
-use Rattle.law_obligations.proofs.Lookups.{inner}
 use Rattle.law_designs.specs.Reading.{Reference, references, Reading, readings, readings_of}
 use Rattle.law_designs.proofs.FlatParts.{if_walk-none}
-use Rattle.law_sound_texts.proofs.Lists.{some_or_none}
+use Rattle.law_flat_kinds.proofs.Lists.{some_or_none}
 use Rattle.law_sound_texts.proofs.Agreeing.{is_plain, index_plain, misfits, AgreeAt, at_left, at_right, same_outcome, same_allowed, same_left}
 
 -- ---- lists of results
@@ -215,7 +215,7 @@ module _ (every : List Value) (one : (v : Value) × Has every v) where
   some_or_every (Some vs) h = h
 
   defined_within : (us : List Outcome) (vs : List Value) → all_defined (map (value_in every) us) ≡ Some vs → (v : Value) → Has vs v → Has every v
-  defined_within [] vs e v h = elim (subst (λ l. Has l v) (sym (inner e)) h) [ ]
+  defined_within [] vs e v h = elim (subst (λ l. Has l v) (sym (some_is e)) h) [ ]
   defined_within (None ∷ us) vs e v h = absurd (cc (e))
   defined_within (Some u ∷ us) vs e v h = by_test (is_in every u) refl e (defined_within us)
     where
@@ -225,7 +225,7 @@ module _ (every : List Value) (one : (v : Value) × Has every v) where
 
       behind : (w : Option (List Value)) → all_defined (map (value_in every) us) ≡ w → option_map (λ ws. u ∷ ws) w ≡ Some vs → Has every u → ((ws : List Value) → all_defined (map (value_in every) us) ≡ Some ws → (v : Value) → Has ws v → Has every v) → Has every v
       behind None q e p goes = absurd (cc (e))
-      behind (Some ws) q e p goes = cases ws p (goes ws q) v (subst (λ l. Has l v) (sym (inner e)) h)
+      behind (Some ws) q e p goes = cases ws p (goes ws q) v (subst (λ l. Has l v) (sym (some_is e)) h)
 
       by_test : (c : Bool) → is_in every u ≡ c → all_defined (cond c (Some u) None ∷ map (value_in every) us) ≡ Some vs → ((ws : List Value) → all_defined (map (value_in every) us) ≡ Some ws → (v : Value) → Has ws v → Has every v) → Has every v
       by_test true p e goes = behind (all_defined (map (value_in every) us)) refl e (Has-is_in every u p) goes
@@ -237,7 +237,7 @@ module _ (every : List Value) (one : (v : Value) × Has every v) where
     where
       behind : (w : Option (List Value)) → option_map (λ ws. u ∷ ws) w ≡ Some vs → (v : Value) × Has vs v
       behind None e = absurd (cc (e))
-      behind (Some ws) e = (u, subst (λ l. Has l u) (inner e) first)
+      behind (Some ws) e = (u, subst (λ l. Has l u) (some_is e) first)
 
   fit_some : (us : List Outcome) → AreSome every (fit every us)
   fit_some [] = all_some

@@ -2,6 +2,8 @@
 use Rattle.std.proofs.Common.{◌≡◌, ℕ, zero, suc, ◌+◌, ◌-◌, List, [], ◌∷◌, ◌++◌, length, Option, Some, None, Bool, true, false, not, cond, refl, sym, ap, subst, ◌∙◌, ◌⊎◌, inl, inr, slice_get, unwrap_or}
 use Rattle.std.specs.List.{list_all, AllZip}
 use Rattle.std.proofs.lemmas.Slice.Zip.{AllZip-long}
+use Rattle.std.proofs.lemmas.Bool.{cases_Bool, and_from}
+use Rattle.law_lists.proofs.Booleans.{clash, left_of, right_of}
 use Rattle.smv_core.specs.Values.{Value, number, Sizes, is_in}
 use Rattle.smv_core.specs.FlatMeaning.{Numbered, FlatState, FlatElement, values_in, flat_result, is_concerned_by, flat_kept, flat_stepped, flat_allowed}
 use Rattle.smv_core.specs.declared.flat.Family.{Family}
@@ -19,12 +21,12 @@ use Rattle.law_obligations.proofs.OneOfEach.{get_Has}
 use Rattle.law_obligations.proofs.Lookups.{Has-filter, Has-from_filter}
 use Rattle.law_designs.specs.Reading.{Reference, Reading, readings}
 use Rattle.law_designs.specs.LayerFaults.{assignments_of}
-use Rattle.law_sound_texts.specs.Extension.{HasWholeLeftSides, AreFilled, AgreeOutside, bases_outside}
-use Rattle.law_sound_texts.proofs.Lists.{clash, true_or_false, left_of, right_of, both_true, is_in-Has}
+use Rattle.law_sound_texts.specs.Extension.{HasWholeLeftSides, IsTypedBefore, AreFilled, AgreeOutside, bases_outside}
+use Rattle.law_flat_kinds.proofs.Lists.{is_in-Has}
 use Rattle.law_sound_texts.proofs.Results.{all_result, same_result}
 use Rattle.law_sound_texts.proofs.Places.{AreOver, are_over}
 use Rattle.law_sound_texts.proofs.Faultless.{IsFaultless, Falls, IsBase, base_is}
-use Rattle.law_sound_texts.proofs.Stages.{AreTyped, final, final_outside, final_allowed, final_typed}
+use Rattle.law_sound_texts.proofs.Stages.{final, final_outside, final_allowed, final_typed}
 
 -- ---- definitions that read none of the families among these
 
@@ -67,21 +69,21 @@ module _ (d : Design) (sizes : Sizes) (among : ℕ → Bool) (h : IsFaultless d)
   n = at_sizes (names_of d) sizes
 
   abbrev next_state : Option FlatState → FlatState → FlatState
-  next_state before s = final d sizes among h whole rank falls before s
+  next_state before s = final d sizes (λ family vs. among family) h whole rank falls before s
 
   agrees : (before : Option FlatState) (s : FlatState) → AgreeOutside among s (next_state before s)
-  agrees before s family out vs = final_outside d sizes among h whole rank falls before s family out vs
+  agrees before s family out vs = final_outside d sizes (λ family vs. among family) h whole rank falls before s family vs out
 
   -- one time
-  module _ (old before : Option FlatState) (s : FlatState) (typed : IsTyped n s) (typed_before : AreTyped n before) (agree : AgreeBefore among old before) (meets : meets_base n (bases_outside d among) old s ≡ true) where
+  module _ (old before : Option FlatState) (s : FlatState) (typed : IsTyped n s) (typed_before : IsTypedBefore n before) (agree : AgreeBefore among old before) (meets : meets_base n (bases_outside d among) old s ≡ true) where
     held : (def : Def) → Has (bases d) def → (vs : List Value) → Has (values_over n (params_of n (map_of def))) vs → is_held n (map_of def) vs before (next_state before s) ≡ true
-    held def k vs m = by_family (true_or_false (among def.family))
+    held def k vs m = by_family (cases_Bool (among def.family))
       where
         by_family : (among def.family ≡ true) ⊎ (among def.family ≡ false) → is_held n (map_of def) vs before (next_state before s) ≡ true
         by_family (inl a) =
             let b : IsBase d def = base_is d h def k in
             let over : AreOver n b.its_family.over vs = are_over n b.its_family.over vs (subst (λ o. Has (values_over n (over_of o)) vs) b.is_there m) in
-            is_in-Has _ _ (final_allowed d sizes among h whole rank falls before s typed typed_before def.family b.its_family b.is_there def b.is_base_of a vs over).0
+            is_in-Has _ _ (final_allowed d sizes (λ family vs. among family) h whole rank falls before s typed typed_before def.family b.its_family b.is_there def b.is_base_of vs a over).0
         by_family (inr a) =
             let was : is_held n (map_of def) vs old s ≡ true =
             all-each (λ vs. is_held n (map_of def) vs old s)
@@ -97,7 +99,7 @@ module _ (d : Design) (sizes : Sizes) (among : ℕ → Bool) (h : IsFaultless d)
         (λ def k. all-holds (λ vs. is_held n (map_of def) vs before (next_state before s)) (values_over n (params_of n (map_of def))) (λ vs m. held def k vs m))
 
     pub typed_now : IsTyped n (next_state before s)
-    typed_now = final_typed d sizes among h whole rank falls before s typed typed_before
+    typed_now = final_typed d sizes (λ family vs. among family) h whole rank falls before s typed typed_before
 
   -- each time
   abbrev extended : Option FlatState → List FlatState → List FlatState
@@ -112,7 +114,7 @@ module _ (d : Design) (sizes : Sizes) (among : ℕ → Bool) (h : IsFaultless d)
   abbrev Goes : Option FlatState → Option FlatState → List FlatState → Type 0
   Goes old before run = ((t : FlatState) → Has (extended before run) t → IsTyped n t) × (always (meets_base n (bases d)) before (extended before run) ≡ true)
 
-  goes : (old before : Option FlatState) (run : List FlatState) → ((s : FlatState) → Has run s → IsTyped n s) → AreTyped n before → AgreeBefore among old before → always (meets_base n (bases_outside d among)) old run ≡ true → Goes old before run
+  goes : (old before : Option FlatState) (run : List FlatState) → ((s : FlatState) → Has run s → IsTyped n s) → IsTypedBefore n before → AgreeBefore among old before → always (meets_base n (bases_outside d among)) old run ≡ true → Goes old before run
   goes old before [] typed typed_before agree meets = (λ t k. elim k [ ], refl)
   goes old before (s ∷ run) typed typed_before agree meets =
       let here : meets_base n (bases_outside d among) old s ≡ true = left_of (meets_base n (bases_outside d among) old s) (always (meets_base n (bases_outside d among)) (Some s) run) meets in
@@ -120,7 +122,7 @@ module _ (d : Design) (sizes : Sizes) (among : ℕ → Bool) (h : IsFaultless d)
       let rest : Goes (Some s) (Some (next_state before s)) run =
       goes (Some s) (Some (next_state before s)) run (λ u k. typed u (later k)) now (agrees before s) (right_of (meets_base n (bases_outside d among) old s) (always (meets_base n (bases_outside d among)) (Some s) run) meets) in (
         λ t k. one_of (next_state before s) (extended (Some (next_state before s)) run) now rest.0 t k,
-        both_true (meets_base n (bases d) before (next_state before s)) (always (meets_base n (bases d)) (Some (next_state before s)) (extended (Some (next_state before s)) run)) (meets_now old before s (typed s first) typed_before agree here) rest.1,
+        and_from (meets_base n (bases d) before (next_state before s)) (always (meets_base n (bases d)) (Some (next_state before s)) (extended (Some (next_state before s)) run)) (meets_now old before s (typed s first) typed_before agree here) rest.1,
       )
     where
       one_of : (u : FlatState) (us : List FlatState) → IsTyped n u → ((t : FlatState) → Has us t → IsTyped n t) → (t : FlatState) → Has (u ∷ us) t → IsTyped n t
@@ -180,7 +182,7 @@ module _ (d : Design) (sizes : Sizes) (have : (f : Family) → Has d.families f 
   repeated-keeps : (k : ℕ) (before : Option FlatState) → always (meets_base (at_sizes (names_of d) sizes) (bases_outside d (λ family. true))) before (repeated k some_state) ≡ true
   unfolding repeated
   repeated-keeps zero before = refl
-  repeated-keeps (suc k) before = both_true _ _ (none_outside before some_state) (repeated-keeps k (Some some_state))
+  repeated-keeps (suc k) before = and_from _ _ (none_outside before some_state) (repeated-keeps k (Some some_state))
 
   repeated_run : (k : ℕ) → IsRun (at_sizes (names_of d) sizes) (bases_outside d (λ family. true)) (repeated k some_state)
   repeated_run k = record { are_typed = λ s m. subst (IsTyped (at_sizes (names_of d) sizes)) (repeated-is k some_state s m) some_typed; keeps_base = repeated-keeps k None }

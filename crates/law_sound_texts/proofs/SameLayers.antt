@@ -1,6 +1,9 @@
 -- The layer that defines an abstract family first in a text is that of its base definition in the design.
 use Rattle.std.proofs.Common.{◌≡◌, ℕ, ◌+◌, List, [], ◌∷◌, ◌++◌, flat_map, find, Option, Some, None, option_map, is_some, is_none, Bool, true, false, ◌&&◌, ◌||◌, cond, nat_eq, refl, sym, ap, subst, ◌∙◌, slice_get}
 use Rattle.std.specs.List.{AllZip}
+use Rattle.law_lists.proofs.Booleans.{clash, right_of}
+use Rattle.law_lists.proofs.Lists.{map-nil}
+use Rattle.law_lists.proofs.Numbers.{nat_eq-is}
 use Rattle.smv_core.specs.FlatOrder.{Said, design_of}
 use Rattle.smv_core.specs.Values.{Name, Sizes}
 use Rattle.smv_core.specs.Allowed.{layer_that_defines, said_in, is_defined_by}
@@ -24,18 +27,18 @@ use Rattle.law_obligations.specs.Outlines as outline
 use Rattle.law_obligations.specs.Outlines.{may_be_base}
 use Rattle.law_obligations.proofs.Lookups.{find-some, Has-filter}
 use Rattle.law_obligations.proofs.Members.{Has-map, Has-flat_map}
-use Rattle.law_obligations.proofs.Same.{nat_eq-is}
 use Rattle.law_designs.specs.Reading.{Reading}
 use Rattle.law_designs.specs.LayerFaults.{is_abstract, assignments_of, outside_layers, leaking, assigned_outside}
 use Rattle.law_designs.specs.FirstFault.{first_fault_of_layers}
 use Rattle.law_designs.proofs.Faultless.{no_fault-in}
-use Rattle.law_sound_texts.specs.TextExtension.{FamiliesAreFound, IsSameLayer, LayersAreSame}
-use Rattle.law_sound_texts.proofs.Lists.{clash, right_of, none_passes}
+use Rattle.law_sound_texts.specs.TextExtension.{IsSameLayer, LayersAreSame}
+use Rattle.law_flat_kinds.specs.FamiliesFound.{FamiliesAreFound}
+use Rattle.law_flat_kinds.proofs.Lists.{none_passes}
 use Rattle.law_sound_texts.proofs.Faultless.{is_its}
 use Rattle.law_sound_texts.proofs.Texts.{zip_right}
 use Rattle.law_sound_texts.proofs.FirstFound.{FindAlike, find-zip, find-map, find-same, find-both, find-neither, find-different, earliest-is-first}
 use Rattle.law_sound_texts.proofs.FirstHeads.{IsAt, is_head_of, assigns, first-head, has_assignment}
-use Rattle.law_sound_texts.proofs.NoFaults.{nil-left, nil-right, nil-map}
+use Rattle.law_flat_kinds.proofs.NoFaults.{nil-left, nil-right}
 
 -- the statements beside those of the text
 pub statements-zip : (text : Text) (k : ℕ) (items : List FlatItem) (said : List Said) → AllZip (IsSameAct text) (layered_acts items) said → AllZip (λ (s : Statement) x. IsSameAct text (s.layer, s.act) x) (statements_from k items) said
@@ -51,9 +54,9 @@ statements-zip text k (item.Using c ∷ items) said h = statements-zip text k it
 no-outside : (d : FlatDesign) → first_fault_of_layers d ≡ None → (def : Def) → Has d.defs def → def.layer ≡ None → (a : Reading) → Has (assignments_of def) a → is_abstract d (slice_get d.families def.family) ≡ false
 no-outside d none def there outside a m =
     let faults : faults_at (19, leaking d) ++ (faults_at (20, assigned_outside d) ++ []) ≡ [] = no_fault-in _ none in
-    let empty : assigned_outside d ≡ [] = nil-map _ (assigned_outside d) (nil-left (faults_at (20, assigned_outside d)) [] (nil-right (faults_at (19, leaking d)) (faults_at (20, assigned_outside d) ++ []) faults)) in
+    let empty : assigned_outside d ≡ [] = map-nil _ (assigned_outside d) (nil-left (faults_at (20, assigned_outside d)) [] (nil-right (faults_at (19, leaking d)) (faults_at (20, assigned_outside d) ++ []) faults)) in
     subst (λ k. is_abstract d (slice_get d.families k) ≡ false) (is_its def a m)
-    (none_passes (λ (a : Reading). is_abstract d (slice_get d.families a.family)) (outside_layers d) (nil-map _ _ empty) a (Has-flat_map assignments_of (Has-filter (λ (def : Def). is_none def.layer) there (ap is_none outside)) m))
+    (none_passes (λ (a : Reading). is_abstract d (slice_get d.families a.family)) (outside_layers d) (map-nil _ _ empty) a (Has-flat_map assignments_of (Has-filter (λ (def : Def). is_none def.layer) there (ap is_none outside)) m))
 
 -- the first assignment of a family
 abbrev first_assigned : FlatText → ℕ → Option Head

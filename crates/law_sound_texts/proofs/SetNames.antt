@@ -1,10 +1,10 @@
 -- In a text without a fault of names no two set types have one name.
-use Rattle.std.proofs.Common.{◌≡◌, List, [], ◌∷◌, ◌++◌, map, Option, Some, None, Bool, true, false, ◌||◌, refl, subst, ◌∙◌}
+use Rattle.std.proofs.Common.{◌≡◌, List, [], ◌∷◌, ◌++◌, map, None, Bool, true, false, ◌||◌, refl, subst, ◌∙◌}
 use Rattle.std.specs.List.{flat_map, list_any}
 use Rattle.std.specs.Str.{bytes_eq}
 use Rattle.std.proofs.lemmas.Slice.Eq.{bytes_eq-Decides}
+use Rattle.law_lists.proofs.Lists.{map-nil}
 use Rattle.smv_core.specs.Values.{Name}
-use Rattle.smv_core.specs.declared.fault.Fault.{Fault}
 use Rattle.smv_core.specs.declared.flat.SetInfo.{SetInfo}
 use Rattle.smv_core.specs.declared.tree.Word.{Word}
 use Rattle.smv_core.specs.declared.tree.Text.{Text}
@@ -12,16 +12,12 @@ use Rattle.smv_core.specs.declared.tree.Top.{Top}
 use Rattle.smv_core.specs.declared.tree.Top.TheVariants.{SetType, Alias, Module}
 use Rattle.smv_mentions.specs.Scopes.{Known, Piece, known_after, pieces, pieces_from}
 use Rattle.smv_mentions.specs.NameFaults.{place_if, repeated, doubled_in, undeclared_in, name_faults}
-use Rattle.smv_mentions.specs.FirstFault.{first_of, faults_at, faults_of_names, fault_of_size, or_else, first_fault}
+use Rattle.smv_mentions.specs.FirstFault.{first_of, faults_at, faults_of_names, fault_of_size, first_fault}
 use Rattle.law_designs.specs.Flattening.{set_of, flatten}
-use Rattle.law_designs.proofs.Faultless.{no_fault-in, unplaced}
+use Rattle.law_designs.proofs.Faultless.{no_fault-in, unplaced, none-first}
 use Rattle.law_obligations.specs.Sets.{Has, first, later}
 use Rattle.law_obligations.specs.Covers.{AreApart}
-use Rattle.law_sound_texts.proofs.NoFaults.{nil-left, nil-right, nil-map}
-
-none-first : (o p : Option Fault) → or_else o p ≡ None → o ≡ None
-none-first None p e = refl
-none-first (Some f) p e = absurd (cc (e))
+use Rattle.law_flat_kinds.proofs.NoFaults.{nil-left, nil-right}
 
 -- the tops of such a text have names of their own
 abbrev words_of : List Piece → List Word
@@ -32,7 +28,7 @@ none-repeated text e =
     let tops : List Piece = pieces text in
     let none : flat_map faults_at (name_faults tops) ≡ [] = no_fault-in (faults_of_names text) (none-first (first_of (faults_of_names text)) (fault_of_size text) e) in
     let behind_seven = nil-right (faults_at (7, flat_map (undeclared_in tops) tops)) _ none in
-    nil-left (repeated [] (words_of tops)) (flat_map (doubled_in tops) tops) (nil-map _ (repeated [] (words_of tops) ++ flat_map (doubled_in tops) tops) (nil-left (faults_at (8, repeated [] (words_of tops) ++ flat_map (doubled_in tops) tops)) _ behind_seven))
+    nil-left (repeated [] (words_of tops)) (flat_map (doubled_in tops) tops) (map-nil _ (repeated [] (words_of tops) ++ flat_map (doubled_in tops) tops) (nil-left (faults_at (8, repeated [] (words_of tops) ++ flat_map (doubled_in tops) tops)) _ behind_seven))
 
 any-seen : (name : Name) (seen : List Name) → Has seen name → list_any (bytes_eq name) seen ≡ true
 any-seen name [] h = elim h [ ]

@@ -16,7 +16,7 @@ use Rattle.smv_core.specs.Grammar.{Rules, below}
 use Rattle.smv_core.specs.Spelling.{Spells}
 use Rattle.law_designs.specs.Flattening.{set_of, flatten}
 use Rattle.smv_lex.specs.Lexing.{lexed}
-use Rattle.law_sound_texts.proofs.Consumed.{width, is_name, gap, weight, IsLess, less-bind, less-then, less-many, less-nothing, less-token, less-name, less-or_none, AreLess, opening, less-type, below-less}
+use Rattle.law_sound_texts.proofs.Consumed.{width, is_name, gap, weight, ReadsFront, lighter, front-bind, front-then, front-many, front-nothing, front-token, front-name, front-or_none, ReadFronts, opening, front-type, below-front}
 use Rattle.law_sound_texts.proofs.Widths.{tokens-light}
 
 -- ---- single tokens
@@ -102,15 +102,15 @@ set-one (top.SetType word ordered span at) = omega arith
 set-one (top.Alias word of at) = omega arith
 set-one (top.Module word formals body at) = omega arith
 
-module _ (floor : ℕ → ℕ) (n : ℕ) (inner : Rules) (l : AreLess inner) where
-  alias-less : IsLess (token w.word_typedef >>= λ at. name >>= λ x. g.type_rule floor n inner >>= λ of. token w.semicolon >> nothing (top.Alias x of at))
-  alias-less = less-bind (less-token w.word_typedef) (λ at. less-bind less-name (λ x. less-bind (less-type floor n inner l) (λ of. less-then (less-token w.semicolon) (less-nothing _))))
+module _ (floor : ℕ → ℕ) (n : ℕ) (inner : Rules) (l : ReadFronts inner) where
+  alias-front : ReadsFront (token w.word_typedef >>= λ at. name >>= λ x. g.type_rule floor n inner >>= λ of. token w.semicolon >> nothing (top.Alias x of at))
+  alias-front = front-bind (front-token w.word_typedef) (λ at. front-bind front-name (λ x. front-bind (front-type floor n inner l) (λ of. front-then (front-token w.semicolon) (front-nothing _))))
 
-  module-less : IsLess (token w.word_module >>= λ at. name >>= λ x. g.opening floor n inner w.open_paren >> separated_or_none name >>= λ formals. token w.close_paren >>
+  module-front : ReadsFront (token w.word_module >>= λ at. name >>= λ x. g.opening floor n inner w.open_paren >> separated_or_none name >>= λ formals. token w.close_paren >>
       g.opening floor n inner w.open_brace >> many inner.body >>= λ items. token w.close_brace >> nothing (top.Module x formals items at))
-  module-less =
-      less-bind (less-token w.word_module) (λ at. less-bind less-name (λ x. less-then (opening floor n inner l w.open_paren) (less-bind (less-or_none less-name) (λ formals. less-then (less-token w.close_paren)
-      (less-then (opening floor n inner l w.open_brace) (less-bind (less-many l.body) (λ items. less-then (less-token w.close_brace) (less-nothing _))))))))
+  module-front =
+      front-bind (front-token w.word_module) (λ at. front-bind front-name (λ x. front-then (opening floor n inner l w.open_paren) (front-bind (front-or_none front-name) (λ formals. front-then (front-token w.close_paren)
+      (front-then (opening floor n inner l w.open_brace) (front-bind (front-many l.body) (λ items. front-then (front-token w.close_brace) (front-nothing _))))))))
 
   -- a set type takes at least 16 bytes
   top-light : (ts : Tokens) (x : Top) (rest : Tokens) → g.top_rule floor n inner ts x rest → 16 * length (set_of x) + weight rest ≤ weight ts
@@ -131,11 +131,11 @@ module _ (floor : ℕ → ℕ) (n : ℕ) (inner : Rules) (l : AreLess inner) whe
       let most = set-one x in
       omega (arith, head, own, size, end, e, most)
   top-light ts x rest (inr (inr (inl h))) =
-      let less = alias-less.less ts x rest h in
+      let less = lighter alias-front ts x rest h in
       let none : length (set_of x) ≡ 0 = subst (λ x. length (set_of x) ≡ 0) h.3.3.3.3.0 refl in
       omega (arith, less, none)
   top-light ts x rest (inr (inr (inr h))) =
-      let less = module-less.less ts x rest h in
+      let less = lighter module-front ts x rest h in
       let none : length (set_of x) ≡ 0 = subst (λ x. length (set_of x) ≡ 0) h.3.3.3.3.3.3.3.3.0 refl in
       omega (arith, less, none)
 
@@ -152,5 +152,5 @@ pub sets-few : (bytes : List ℕ) (n : ℕ) (tokens : Tokens) (text : Text) → 
 unfolding Spells
 sets-few bytes n tokens text le read spelled =
     let most = tokens-light bytes tokens read in
-    let all = tops-light (λ at. 0) n (below (λ at. 0) n) (below-less (λ at. 0) n) tokens text.tops [] spelled in
+    let all = tops-light (λ at. 0) n (below (λ at. 0) n) (below-front (λ at. 0) n) tokens text.tops [] spelled in
     omega (arith, le, most, all)

@@ -1,5 +1,5 @@
 -- What the rules of the grammar spell within at most 65,536 levels is shallow: each binder opens a level.
-use Rattle.std.proofs.Common.{◌≡◌, ◌<◌, ◌≤◌, ℕ, zero, suc, ◌+◌, Bool, true, false, cond, List, [], ◌∷◌, inl, inr, Option, Some, None, ap, subst, arith}
+use Rattle.std.proofs.Common.{◌≡◌, ◌<◌, ◌≤◌, ℕ, zero, suc, ◌+◌, Bool, true, false, cond, List, [], ◌∷◌, inl, inr, Option, Some, None, subst, arith}
 use Rattle.std.specs.List.{AllByRecursion}
 use Rattle.smv_core.specs.declared.token.TokenKind.{TokenKind}
 use Rattle.smv_core.specs.declared.tree.Word.{Word}
@@ -20,13 +20,12 @@ use Rattle.smv_core.specs.declared.tree.Role.TheVariants as role
 use Rattle.smv_core.specs.declared.tree.Text.{Text}
 use Rattle.smv_core.specs.Signs.{comma, ampersand, bar, arrow}
 use Rattle.smv_core.specs.Signs as w
-use Rattle.smv_core.specs.Notation.{Tokens, Rule, found, same_kind, with_place, ◌>>◌, many, optional, token}
+use Rattle.smv_core.specs.Notation.{Tokens, Rule, found, same_kind, ◌>>◌, many, optional, token}
 use Rattle.smv_core.specs.Grammar as g
 use Rattle.smv_core.specs.Grammar.{Rules, no_rules, rules, below, chain, sum_of, named}
 use Rattle.smv_core.specs.Spelling.{Spells}
 use Rattle.smv_mentions.proofs.Computing.{computing}
-use Rattle.law_designs.proofs.LeadTypes.{some-same}
-use Rattle.law_designs.proofs.WrittenRules.{Gives, many-gives, separated-gives, or_none-gives}
+use Rattle.law_designs.proofs.WrittenRules.{Gives, many-gives, separated-gives, or_none-gives, with_place-first}
 use Rattle.law_sound_texts.proofs.Shallow.{most, IsShallow, AreShallow, StatementIsShallow, InnerIsShallow, ItemIsShallow, TopIsShallow, TextIsShallow}
 use Rattle.law_sound_texts.proofs.ShallowForms.{PartIsShallow, PathIsShallow, MemberIsShallow, TermIsShallow, shallow-And, shallow-Or, shallow-Implies, shallow-List, shallow-Signal, shallow-Sum, shallow-Not, shallow-Modulo, shallow-Iff, shallow-Compare, shallow-Within, shallow-Choose, shallow-All, shallow-Any, IsShallowOrNone, shallow-Each, shallow-term, ArmIsShallow, OtherIsShallow, shallow-Assign, shallow-Block, shallow-If, shallow-Switch, shallow-Default, shallow-For, shallow-Forall, shallow-arm, shallow_inner-Block, shallow_inner-Forall}
 
@@ -57,10 +56,6 @@ inner-item (Claim name vars body at) h = h
 inner-item (Split name vars of pairs at) h = h
 inner-item (Using uses proves at) h = h
 inner-item (Act act) h = h
-
-with_place-first : {A : Type 0} (at : ℕ) (o : Option A) (a : A × ℕ) → with_place at o ≡ Some a → o ≡ Some a.0
-with_place-first at None a e = absurd (cc (e))
-with_place-first {A} at (Some x) a e = ap (λ (p : A × ℕ). Some p.0) (some-same (x, at) a e)
 
 -- ---- the levels
 

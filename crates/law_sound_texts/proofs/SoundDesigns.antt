@@ -26,7 +26,8 @@ use Rattle.law_obligations.specs.Soundness.{FlatUnit, params_of, values_over, is
 use Rattle.law_obligations.specs.Outlines.{names_of, bases, unit_in, as_map, as_claim}
 use Rattle.law_obligations.specs.Units.{units_of}
 use Rattle.law_obligations.proofs.OneOfEach.{get_Has, Has_get}
-use Rattle.law_sound_texts.specs.TextExtension.{FamiliesAreFound, LayersAreSame}
+use Rattle.law_sound_texts.specs.TextExtension.{LayersAreSame}
+use Rattle.law_flat_kinds.specs.FamiliesFound.{FamiliesAreFound}
 use Rattle.law_sound_texts.proofs.Faultless.{IsFaultless}
 use Rattle.law_sound_texts.proofs.Texts.{All-each, to_flat, flat_same}
 use Rattle.law_sound_texts.specs.Exact.{LeftSidesAreExact}

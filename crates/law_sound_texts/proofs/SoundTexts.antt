@@ -19,7 +19,7 @@ use Rattle.law_obligations.specs.Checked.{HoldsAlways}
 use Rattle.law_obligations.proofs.Members.{Has-from_map}
 use Rattle.law_obligations.proofs.OneOfEach.{Has_get}
 use Rattle.smv_core.specs.declared.flat.Design.{Design}
-use Rattle.law_sound_texts.specs.TextExtension.{FamiliesAreFound}
+use Rattle.law_flat_kinds.specs.FamiliesFound.{FamiliesAreFound}
 use Rattle.law_sound_texts.proofs.Faultless.{IsFaultless}
 use Rattle.law_sound_texts.proofs.Texts.{Each-All, All-each, to_flat, flat_same}
 use Rattle.law_sound_texts.specs.Carried.{UnitsHold, outlined}

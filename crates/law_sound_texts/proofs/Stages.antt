@@ -1,6 +1,8 @@
 -- The states of a run, one after the other: elements get their values in the order in which definitions read one another, as the limit of stages.
 use Rattle.std.proofs.Common.{◌≡◌, ℕ, zero, suc, ◌<◌, ◌≤◌, List, [], ◌∷◌, map, length, Option, Some, None, Bool, true, false, ◌&&◌, cond, refl, sym, ap, subst, ◌∙◌, ◌⊎◌, inl, inr, slice_get, unwrap_or, arith}
 use Rattle.std.specs.List.{flat_map}
+use Rattle.std.proofs.lemmas.Bool.{cases_Bool}
+use Rattle.law_lists.proofs.Booleans.{right_of}
 use Rattle.smv_core.specs.Values.{Value, Sizes}
 use Rattle.smv_core.specs.Walk.{Walk}
 use Rattle.smv_core.specs.FlatMeaning.{Numbered, FlatState, FlatElement, flat_result, is_concerned_by, flat_kept, flat_stepped, flat_allowed}
@@ -14,8 +16,7 @@ use Rattle.law_obligations.specs.Outlines.{names_of, base_of}
 use Rattle.law_obligations.proofs.Members.{Has-left, Has-right, Has-map, Has-flat_map}
 use Rattle.law_designs.specs.Reading.{Reference, Reading, readings}
 use Rattle.law_designs.specs.Loops.{cells, cells_of, edges_of, undelayed}
-use Rattle.law_sound_texts.specs.Extension.{HasWholeLeftSides}
-use Rattle.law_sound_texts.proofs.Lists.{true_or_false, right_of}
+use Rattle.law_sound_texts.specs.Extension.{HasWholeLeftSides, IsTypedBefore}
 use Rattle.law_sound_texts.proofs.Agreeing.{MayBe, AgreeAt}
 use Rattle.law_sound_texts.proofs.Results.{concerns, result_by, all_result, IsReading, reading_is, same_result, AreSome, IsSome, all_some, some_or_every, result_some, result_within, within_allowed}
 use Rattle.law_sound_texts.proofs.Places.{cell_at, has_cell, AreOver, are_over, over_long, may_be, is_over, over-are, are-over, over-Has}
@@ -89,14 +90,9 @@ module _ (n : Numbered) (def : Def) (x : FlatElement) (every : List Value) where
             within_allowed every (result_by (concerns x) n now x every def.comb []) (flat_result n now x every def.comb []) (result_some every one n now (concerns x) x def.comb []) (result_within every one n now x def.comb []) v h
         by_test false h = stepped_within before now v h
 
--- the state before is typed, if there is one
-abbrev pub AreTyped : Numbered → Option FlatState → Type 0
-AreTyped n None = Unit {0}
-AreTyped n (Some old) = IsTyped n old
-
 -- ---- stages
 
-module _ (d : Design) (sizes : Sizes) (among : ℕ → Bool) where
+module _ (d : Design) (sizes : Sizes) (among : ℕ → List Value → Bool) where
   abbrev pub n : Numbered
   n = at_sizes (names_of d) sizes
 
@@ -106,9 +102,9 @@ module _ (d : Design) (sizes : Sizes) (among : ℕ → Bool) where
 
   -- an element of a family among those to be chosen
   abbrev pub is_chosen : ℕ → List Value → Bool
-  is_chosen family vs = among family && is_element (slice_get d.families family) vs
+  is_chosen family vs = among family vs && is_element (slice_get d.families family) vs
 
-  pub chosen-is : (family : ℕ) (f : Family) (vs : List Value) → among family ≡ true → slice_get d.families family ≡ Some f → AreOver n f.over vs → is_chosen family vs ≡ true
+  pub chosen-is : (family : ℕ) (f : Family) (vs : List Value) → among family vs ≡ true → slice_get d.families family ≡ Some f → AreOver n f.over vs → is_chosen family vs ≡ true
   chosen-is family f vs a there over = rw a (subst (λ o. is_element o vs ≡ true) (sym there) (are-over n f.over vs over))
 
   abbrev pub every_of : ℕ → List Value
@@ -169,7 +165,7 @@ module _ (d : Design) (sizes : Sizes) (among : ℕ → Bool) where
 
       agree_where : (t u : FlatState) → AgreeBelow (height def.family vs) t u → (a : Reading) → Has (undelayed def) a → IsReading def.family [] a → concerns (element def.family vs) a.left ≡ true → AgreeAt n t u a.reads
       agree_where t u agree a m of c r i g known ws may =
-          agree r.family ws (λ chosen. reads_below a m of c r i g known ws may (right_of (among r.family) (is_element (slice_get d.families r.family) ws) chosen))
+          agree r.family ws (λ chosen. reads_below a m of c r i g known ws may (right_of (among r.family ws) (is_element (slice_get d.families r.family) ws) chosen))
 
       stepped_same : (every : List Value) (before : Option FlatState) (t u : FlatState) → AgreeBelow (height def.family vs) t u → stepped_options n def (element def.family vs) every before t ≡ stepped_options n def (element def.family vs) every before u
       stepped_same every None t u agree =
@@ -191,7 +187,7 @@ module _ (d : Design) (sizes : Sizes) (among : ℕ → Bool) where
       where
         at_own : (def : Def) → IsBase d def → is_chosen def.family vs ≡ true → AgreeBelow (height def.family vs) t u → valued before t def.family vs v (Some def) ≡ valued before u def.family vs v (Some def)
         at_own def is_base chosen agree =
-            let over : AreOver n is_base.its_family.over vs = over-are n is_base.its_family.over vs (subst (λ o. is_element o vs ≡ true) is_base.is_there (right_of (among def.family) (is_element (slice_get d.families def.family) vs) chosen)) in
+            let over : AreOver n is_base.its_family.over vs = over-are n is_base.its_family.over vs (subst (λ o. is_element o vs ≡ true) is_base.is_there (right_of (among def.family vs) (is_element (slice_get d.families def.family) vs) chosen)) in
             ap (λ ws. pick ws v) (options_same def is_base is_base.its_family is_base.is_there vs over (every_of def.family) before t u agree)
 
         by_base : (o : Option Def) → base_of d family ≡ o → valued before t family vs v o ≡ valued before u family vs v o
@@ -202,11 +198,11 @@ module _ (d : Design) (sizes : Sizes) (among : ℕ → Bool) where
 
     module _ (before : Option FlatState) (s : FlatState) where
       stage_same : (k : ℕ) → AgreeBelow k (stage before s k) (stage before s (suc k))
-      stage_same zero family vs below = elim (true_or_false (is_chosen family vs)) [
+      stage_same zero family vs below = elim (cases_Bool (is_chosen family vs)) [
         | inl c ↦ absurd (let l : height family vs < 0 = below c in omega (arith, l))
         | inr c ↦ stage-other before s 0 family vs c ∙ sym (stage-other before s 1 family vs c)
       ]
-      stage_same (suc k) family vs below = elim (true_or_false (is_chosen family vs)) [
+      stage_same (suc k) family vs below = elim (cases_Bool (is_chosen family vs)) [
         | inl c ↦
             stage-chosen before s k family vs c ∙
             (valued_same before (stage before s k) (stage before s (suc k)) family vs (s family vs) c
@@ -220,11 +216,11 @@ module _ (d : Design) (sizes : Sizes) (among : ℕ → Bool) where
       final family vs = stage before s (suc (height family vs)) family vs
 
       settled : (k : ℕ) → AgreeBelow k (stage before s k) final
-      settled zero family vs below = elim (true_or_false (is_chosen family vs)) [
+      settled zero family vs below = elim (cases_Bool (is_chosen family vs)) [
         | inl c ↦ absurd (let l : height family vs < 0 = below c in omega (arith, l))
         | inr c ↦ stage-other before s 0 family vs c ∙ sym (stage-other before s (suc (height family vs)) family vs c)
       ]
-      settled (suc k) family vs below = elim (true_or_false (is_chosen family vs)) [
+      settled (suc k) family vs below = elim (cases_Bool (is_chosen family vs)) [
         | inl c ↦ elim (less_or_same (height family vs) k (below c)) [
           | inl l ↦ sym (stage_same k family vs (λ c. l)) ∙ settled k family vs (λ c. l)
           | inr e ↦ ap (λ j. stage before s (suc j) family vs) (sym e)
@@ -244,11 +240,11 @@ module _ (d : Design) (sizes : Sizes) (among : ℕ → Bool) where
       final-other family vs c = stage-other before s (suc (height family vs)) family vs c
 
       -- elements of other families keep their values
-      pub final_outside : (family : ℕ) → among family ≡ false → (vs : List Value) → final family vs ≡ s family vs
-      final_outside family e vs = final-other family vs (ap (λ b. b && is_element (slice_get d.families family) vs) e)
+      pub final_outside : (family : ℕ) (vs : List Value) → among family vs ≡ false → final family vs ≡ s family vs
+      final_outside family vs e = final-other family vs (ap (λ b. b && is_element (slice_get d.families family) vs) e)
 
-      module _ (typed : IsTyped n s) (typed_before : AreTyped n before) where
-        has_before : (family : ℕ) (f : Family) → slice_get d.families family ≡ Some f → (vs : List Value) → AreOver n f.over vs → (def : Def) (one : (v : Value) × Has (every_of family) v) → (o : Option FlatState) → AreTyped n o → IsBefore n def (element family vs) (every_of family) one o
+      module _ (typed : IsTyped n s) (typed_before : IsTypedBefore n before) where
+        has_before : (family : ℕ) (f : Family) → slice_get d.families family ≡ Some f → (vs : List Value) → AreOver n f.over vs → (def : Def) (one : (v : Value) × Has (every_of family) v) → (o : Option FlatState) → IsTypedBefore n o → IsBefore n def (element family vs) (every_of family) one o
         has_before family f there vs over def one None h = tt
         has_before family f there vs over def one (Some old) h = subst (λ o. Has (values_of_family n o) (old family vs)) (sym there) (h family f there vs (over-Has n f.over vs over))
 
@@ -256,9 +252,9 @@ module _ (d : Design) (sizes : Sizes) (among : ℕ → Bool) where
         has_value family f there vs over = subst (λ o. Has (values_of_family n o) (s family vs)) (sym there) (typed family f there vs (over-Has n f.over vs over))
 
         -- the base definition allows what is chosen
-        pub final_allowed : (family : ℕ) (f : Family) → slice_get d.families family ≡ Some f → (def : Def) → base_of d family ≡ Some def → among family ≡ true → (vs : List Value) → AreOver n f.over vs →
+        pub final_allowed : (family : ℕ) (f : Family) → slice_get d.families family ≡ Some f → (def : Def) → base_of d family ≡ Some def → (vs : List Value) → among family vs ≡ true → AreOver n f.over vs →
             Has (flat_allowed n def (element family vs) (every_of family) before final) (final family vs) × Has (every_of family) (final family vs)
-        final_allowed family f there def e a vs over =
+        final_allowed family f there def e vs a over =
             let one : (v : Value) × Has (every_of family) v = (s family vs, has_value family f there vs over) in
             let is : final family vs ≡ pick (options n def (element family vs) (every_of family) before final) (s family vs) = final-chosen family vs (chosen-is family f vs a there over) ∙ ap (valued before final family vs (s family vs)) e in
             let some : AreSome (every_of family) (options n def (element family vs) (every_of family) before final) = options_some n def (element family vs) (every_of family) one before final (has_before family f there vs over def one before typed_before) in
@@ -269,10 +265,10 @@ module _ (d : Design) (sizes : Sizes) (among : ℕ → Bool) where
         pub final_typed : IsTyped n final
         final_typed family f there vs k =
             let over : AreOver n f.over vs = are_over n f.over vs k in
-            subst (λ o. Has (values_of_family n o) (final family vs)) there (by_family (true_or_false (among family)) (base_of d family) refl over)
+            subst (λ o. Has (values_of_family n o) (final family vs)) there (by_family (cases_Bool (among family vs)) (base_of d family) refl over)
           where
-            by_family : (among family ≡ true) ⊎ (among family ≡ false) → (o : Option Def) → base_of d family ≡ o → AreOver n f.over vs → Has (every_of family) (final family vs)
+            by_family : (among family vs ≡ true) ⊎ (among family vs ≡ false) → (o : Option Def) → base_of d family ≡ o → AreOver n f.over vs → Has (every_of family) (final family vs)
             by_family (inl a) None e over =
                 subst (Has (every_of family)) (sym (final-chosen family vs (chosen-is family f vs a there over) ∙ ap (valued before final family vs (s family vs)) e)) (has_value family f there vs over)
-            by_family (inl a) (Some def) e over = (final_allowed family f there def e a vs over).1
-            by_family (inr a) o e over = subst (Has (every_of family)) (sym (final_outside family a vs)) (has_value family f there vs over)
+            by_family (inl a) (Some def) e over = (final_allowed family f there def e vs a over).1
+            by_family (inr a) o e over = subst (Has (every_of family)) (sym (final_outside family vs a)) (has_value family f there vs over)

@@ -2,6 +2,8 @@
 use Rattle.std.proofs.Common.{◌≡◌, List, [], ◌∷◌, flat_map, Option, Some, None, Bool, true, false, not, if◌then◌else◌, refl, sym, ap, subst, ◌∙◌, inl, inr, option_to_list}
 use Rattle.std.specs.Str.{bytes_eq}
 use Rattle.std.proofs.lemmas.Slice.Eq.{bytes_eq-Decides}
+use Rattle.law_lists.proofs.Booleans.{left_of, right_of}
+use Rattle.law_lists.proofs.Options.{some_is}
 use Rattle.smv_core.specs.Values.{Name}
 use Rattle.smv_core.specs.Types.{Family}
 use Rattle.smv_core.specs.FlatOrder.{TextDesign, Met, said, claimed, Said, Claimed}
@@ -13,9 +15,8 @@ use Rattle.law_designs.specs.WholeText.{claims_met}
 use Rattle.law_designs.proofs.SameWalks.{path-equal}
 use Rattle.law_obligations.specs.Sets.{Has, first, later}
 use Rattle.law_obligations.proofs.Members.{Has-uncons, Has-flat_map, any-some}
-use Rattle.law_obligations.proofs.Lookups.{find-some, Has-option, Has-filter, Has-from_filter, inner}
+use Rattle.law_obligations.proofs.Lookups.{find-some, Has-option, Has-filter, Has-from_filter}
 use Rattle.law_obligations.proofs.OneOfEach.{Has-from_flat_map}
-use Rattle.law_sound_texts.proofs.Lists.{left_of, right_of}
 
 from-once : (us : List ProofUnit) (u : ProofUnit) → Has (once us) u → Has us u
 from-once [] u h = elim h [ ]
@@ -105,7 +106,7 @@ module _ (d : TextDesign) where
     alike (map_of a g) (map_of b h) p q e =
         let names : a ≡ b = (bytes_eq-Decides a b).0 (left_of (bytes_eq a b) (same_path g.path h.path) e) in
         let paths : g.path ≡ h.path = path-equal g.path h.path (right_of (bytes_eq a b) (same_path g.path h.path) e) in
-        let one : g ≡ h = inner (sym (found g p) ∙ (ap (family_at d.families) paths ∙ found h q)) in
+        let one : g ≡ h = some_is (sym (found g p) ∙ (ap (family_at d.families) paths ∙ found h q)) in
         ap (λ a. map_of a g) names ∙ ap (map_of b) one
     alike (map_of a g) (claim_of c) p q e = absurd (cc (e))
     alike (claim_of c) (map_of b h) p q e = absurd (cc (e))

@@ -4,6 +4,9 @@ use Rattle.std.specs.List.{flat_map, list_any, list_all, AllZip}
 use Rattle.std.proofs.lemmas.List.Elements.{All-contains}
 use Rattle.std.proofs.lemmas.Slice.Zip.{AllZip-long}
 use Rattle.std.proofs.lemmas.Option.{slice_get_within}
+use Rattle.std.proofs.lemmas.Bool.{and_from}
+use Rattle.law_lists.proofs.Booleans.{left_of, right_of}
+use Rattle.law_lists.proofs.Options.{some_is}
 use Rattle.smv_core.specs.Values.{Value, Sizes, values_of}
 use Rattle.smv_core.specs.Types.{Family}
 use Rattle.smv_core.specs.FlatOrder.{TextDesign, design_of}
@@ -33,13 +36,14 @@ use Rattle.law_obligations.specs.Outlines as outline
 use Rattle.law_obligations.specs.Outlines.{bases, earliest, may_be_base}
 use Rattle.law_obligations.proofs.Members.{Has-from_map, Has-flat_map, all-each, all-holds}
 use Rattle.law_obligations.proofs.OneOfEach.{get_Has, Has_get}
-use Rattle.law_obligations.proofs.Lookups.{Has-filter, Has-from_filter, inner}
+use Rattle.law_obligations.proofs.Lookups.{Has-filter, Has-from_filter}
 use Rattle.law_obligations.proofs.Same.{Has-is_in}
 use Rattle.law_obligations.proofs.Spots.{Has-numbers}
 use Rattle.law_designs.specs.LayerFaults.{is_abstract}
 use Rattle.law_sound_texts.specs.Extension.{AgreeOutside, is_added, bases_outside, KeepsBehaviours}
-use Rattle.law_sound_texts.specs.TextExtension.{MeetsImplementation, IsBehaviour, AgreeImplemented, FamiliesAreFound, IsSameLayer, LayersAreSame}
-use Rattle.law_sound_texts.proofs.Lists.{left_of, right_of, both_true, is_in-Has, some_or_none}
+use Rattle.law_sound_texts.specs.TextExtension.{MeetsImplementation, IsBehaviour, AgreeImplemented, IsSameLayer, LayersAreSame}
+use Rattle.law_flat_kinds.specs.FamiliesFound.{FamiliesAreFound}
+use Rattle.law_flat_kinds.proofs.Lists.{is_in-Has, some_or_none}
 use Rattle.law_sound_texts.proofs.Faultless.{IsFaultless, IsBase, base_by, base_is}
 
 -- ---- members
@@ -68,14 +72,14 @@ pub zip_right : {X Y : Type 0} (R : X → Y → Type 0) (xs : List X) (ys : List
 zip_right R [] [] h k y e = absurd (cc (e))
 zip_right R [] (z ∷ ys) h k y e = elim h [ ]
 zip_right R (x ∷ xs) [] h k y e = elim h [ ]
-zip_right R (x ∷ xs) (z ∷ ys) h zero y e = (x, refl, subst (R x) (inner e) h.0)
+zip_right R (x ∷ xs) (z ∷ ys) h zero y e = (x, refl, subst (R x) (some_is e) h.0)
 zip_right R (x ∷ xs) (z ∷ ys) h (suc k) y e = zip_right R xs ys h.1 k y e
 
 pub zip_left : {X Y : Type 0} (R : X → Y → Type 0) (xs : List X) (ys : List Y) → AllZip R xs ys → (k : ℕ) (x : X) → slice_get xs k ≡ Some x → (y : Y) × (slice_get ys k ≡ Some y) × R x y
 zip_left R [] [] h k x e = absurd (cc (e))
 zip_left R [] (z ∷ ys) h k x e = elim h [ ]
 zip_left R (w ∷ xs) [] h k x e = elim h [ ]
-zip_left R (w ∷ xs) (z ∷ ys) h zero x e = (z, refl, subst (λ w. R w z) (inner e) h.0)
+zip_left R (w ∷ xs) (z ∷ ys) h zero x e = (z, refl, subst (λ w. R w z) (some_is e) h.0)
 zip_left R (w ∷ xs) (z ∷ ys) h (suc k) x e = zip_left R xs ys h.1 k x e
 
 -- ---- types
@@ -210,7 +214,7 @@ module _ (text : Text) (sizes : Sizes) (families : AllZip (IsSameFamily (numbers
     behaves : (before : Option State) (fore : Option FlatState) → AreSameBefore d.families before fore → (states : List State) → AtEachTime (MeetsImplementation d sizes) before states →
         always (meets_base n (bases_outside f (is_added f))) fore (map to_flat states) ≡ true
     behaves before fore b [] meets = refl
-    behaves before fore b (s ∷ states) meets = both_true _ _ (meets_flat before fore b s meets.0) (behaves (Some s) (Some (to_flat s)) (flat_same s) states meets.1)
+    behaves before fore b (s ∷ states) meets = and_from _ _ (meets_flat before fore b s meets.0) (behaves (Some s) (Some (to_flat s)) (flat_same s) states meets.1)
 
     -- ---- to the text
 
@@ -236,7 +240,7 @@ module _ (text : Text) (sizes : Sizes) (families : AllZip (IsSameFamily (numbers
           no : (x : Def) → Has f.defs x → is_of_family None k x ≡ true → ⊥
           no x i t =
               let may : may_be_base f k (Some g) x ≡ true =
-              both_true (nat_eq x.family k) (g.is_abstract || is_none x.layer) (right_of (is_one_layer None x.layer) (nat_eq x.family k) t) (or_right g.is_abstract (is_none x.layer) (outside x.layer (left_of (is_one_layer None x.layer) (nat_eq x.family k) t))) in
+              and_from (nat_eq x.family k) (g.is_abstract || is_none x.layer) (right_of (is_one_layer None x.layer) (nat_eq x.family k) t) (or_right g.is_abstract (is_none x.layer) (outside x.layer (left_of (is_one_layer None x.layer) (nat_eq x.family k) t))) in
               earliest-none (filter (may_be_base f k (slice_get flat_text.families k)) f.defs) x none (Has-filter (may_be_base f k (slice_get flat_text.families k)) i (subst (λ o. may_be_base f k o x ≡ true) (sym e) may))
 
           no_any : ((x : Def) × Has f.defs x × (is_of_family None k x ≡ true)) ⊎ ((x : Def) → Has f.defs x → is_of_family None k x ≡ false) → list_any (is_of_family None k) f.defs ≡ false

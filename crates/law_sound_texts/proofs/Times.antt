@@ -1,6 +1,8 @@
 -- What a demand of a design says of each time of a run of the text.
 use Rattle.std.proofs.Common.{◌≡◌, suc, List, [], ◌∷◌, map, flat_map, length, Option, Some, true, refl, ap, ◌∙◌}
 use Rattle.std.specs.List.{AllZip}
+use Rattle.std.proofs.lemmas.Bool.{and_from}
+use Rattle.law_lists.proofs.Booleans.{left_of, right_of}
 use Rattle.smv_core.specs.Values.{Value}
 use Rattle.smv_core.specs.Types.{Family}
 use Rattle.smv_core.specs.Outcome.{State}
@@ -12,12 +14,11 @@ use Rattle.law_obligations.specs.Sets.{Has, first, later, one_of_each}
 use Rattle.law_obligations.specs.Circular.{Demand, always}
 use Rattle.law_obligations.proofs.Members.{Has-from_map}
 use Rattle.law_obligations.proofs.OneOfEach.{Has-from_flat_map}
-use Rattle.law_sound_texts.proofs.Lists.{left_of, right_of, both_true}
 
 -- a demand that gives another gives it always
 pub always-gives : (D E : Demand FlatState) → ((fore : Option FlatState) (t : FlatState) → D fore t ≡ true → E fore t ≡ true) → (fore : Option FlatState) (ts : List FlatState) → always D fore ts ≡ true → always E fore ts ≡ true
 always-gives D E gives fore [] h = refl
-always-gives D E gives fore (t ∷ ts) h = both_true _ _ (gives fore t (left_of (D fore t) (always D (Some t) ts) h)) (always-gives D E gives (Some t) ts (right_of (D fore t) (always D (Some t) ts) h))
+always-gives D E gives fore (t ∷ ts) h = and_from _ _ (gives fore t (left_of (D fore t) (always D (Some t) ts) h)) (always-gives D E gives (Some t) ts (right_of (D fore t) (always D (Some t) ts) h))
 
 pub always-true : (fore : Option FlatState) (ts : List FlatState) → always (λ fore t. true) fore ts ≡ true
 always-true fore [] = refl
@@ -42,7 +43,7 @@ module _ (families : List Family) (P : Option State → State → Type 0) (D : D
   always-from before fore b [] [] same h = refl
   always-from before fore b [] (t ∷ ts) same h = elim same [ ]
   always-from before fore b (s ∷ run) [] same h = elim same [ ]
-  always-from before fore b (s ∷ run) (t ∷ ts) same h = both_true _ _ (gives before fore b s t same.0 h.0) (always-from (Some s) (Some t) same.0 run ts same.1 h.1)
+  always-from before fore b (s ∷ run) (t ∷ ts) same h = and_from _ _ (gives before fore b s t same.0 h.0) (always-from (Some s) (Some t) same.0 run ts same.1 h.1)
 
 -- ---- choices
 

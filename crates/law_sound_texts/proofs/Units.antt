@@ -1,5 +1,6 @@
 -- The units of a design: each claim is one, and each definition of a layer that is no base definition.
 use Rattle.std.proofs.Common.{◌≡◌, ℕ, zero, suc, ◌+◌, List, [], ◌∷◌, ◌++◌, zip, length, Some, Bool, true, false, cond, if◌then◌else◌, nat_lt, sym, ap, subst, slice_get, arith, ◌⊎◌, inl, inr}
+use Rattle.law_lists.proofs.Options.{some_is}
 use Rattle.smv_core.specs.Values.{numbers_from}
 use Rattle.smv_core.specs.declared.flat.Def.{Def}
 use Rattle.smv_core.specs.declared.flat.Claim.{Claim as FlatClaim}
@@ -8,7 +9,7 @@ use Rattle.smv_core.specs.declared.flat.Unit.{Unit}
 use Rattle.smv_core.specs.declared.flat.Unit.TheVariants.{Map, Claim}
 use Rattle.law_obligations.specs.Sets.{Has, first, later}
 use Rattle.law_obligations.proofs.Members.{Has-uncons, Has-left, Has-right, Has-cases, Has-map, Has-from_map, Has-flat_map}
-use Rattle.law_obligations.proofs.Lookups.{Has-tested, inner}
+use Rattle.law_obligations.proofs.Lookups.{Has-tested}
 use Rattle.law_obligations.specs.Units.{is_refinement, maps, claims, put, in_order, units_of}
 use Rattle.law_obligations.proofs.OneOfEach.{Has-from_flat_map}
 
@@ -42,7 +43,7 @@ Has-numbered : {X : Type 0} (low : ℕ) (xs : List X) (k : ℕ) (x : X) → slic
 Has-numbered low [] k x e = absurd (cc (e))
 Has-numbered {X} low (y ∷ xs) zero x e =
     let at : low ≡ low + 0 = omega arith in
-    subst (λ j. Has (zip (numbers_from low (length (y ∷ xs))) (y ∷ xs)) (j, x)) at (subst (λ z. Has (zip (numbers_from low (length (y ∷ xs))) (y ∷ xs)) (low, z)) (inner e) first)
+    subst (λ j. Has (zip (numbers_from low (length (y ∷ xs))) (y ∷ xs)) (j, x)) at (subst (λ z. Has (zip (numbers_from low (length (y ∷ xs))) (y ∷ xs)) (low, z)) (some_is e) first)
 Has-numbered low (y ∷ xs) (suc k) x e =
     let at : low + 1 + k ≡ low + suc k = omega arith in
     subst (λ j. Has (zip (numbers_from low (length (y ∷ xs))) (y ∷ xs)) (j, x)) at (later (Has-numbered (low + 1) xs k x e))

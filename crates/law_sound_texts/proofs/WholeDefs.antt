@@ -1,6 +1,7 @@
 -- Definitions and claims of a flattened text that keeps the rules of kinds read whole elements.
 use Rattle.std.proofs.Common.{◌≡◌, ℕ, ◌+◌, List, [], ◌∷◌, map, filter, slice_get, Option, Some, None, is_some, Bool, true, false, not, ◌&&◌, cond, nat_eq, refl, sym, subst}
 use Rattle.std.specs.List.{list_all}
+use Rattle.std.proofs.lemmas.Bool.{and_parts}
 use Rattle.smv_core.specs.Walk.{same_kind}
 use Rattle.smv_core.specs.declared.tree.Kind.{Kind}
 use Rattle.smv_core.specs.declared.tree.Kind.TheVariants.{Comb, Init, Next}
@@ -22,10 +23,10 @@ use Rattle.law_obligations.specs.Sets.{Has, first, later}
 use Rattle.law_obligations.specs.Whole.{IsWhole, IsWholeFlat, AreWholeFlats, IsWholeDef}
 use Rattle.law_obligations.proofs.Members.{Has-from_map}
 use Rattle.law_sound_texts.specs.Whole.{ReadsWholeInClaims, ReadsWholeInDefinitions}
-use Rattle.law_designs.proofs.Operands.{both, takes-some}
+use Rattle.law_designs.proofs.Operands.{takes-some}
 use Rattle.law_sound_texts.proofs.WholeExprs.{expr-whole, value-whole, indexes-whole}
 use mathlib.Core.Former.{Count}
-use Rattle.law_sound_texts.proofs.Lists.{Has-kept}
+use Rattle.law_flat_kinds.proofs.Lists.{Has-kept}
 
 -- what lets a box of a definition's part compute
 unfoldable boxes : Unit {0}
@@ -86,14 +87,14 @@ module _ (flat_text : FlatText) where
           let g : (is_some (element (slice_get flat_text.families other) (map (kind_in flat_text vars) left)) ≡ true) × (is_some (value_in flat_text vars value) ≡ true) = assigned-some _ (value_in flat_text vars value) h in
           whole-cond (same_kind which kind && nat_eq other family) (flat.Assign left value k at) Nothing (indexes-whole flat_text vars other left g.0, value-whole flat_text vars value g.1) tt
       whole_of vars k (If' test l (more_of-FlatStmt left end_of-FlatStmt) r (more_of-FlatStmt right end_of-FlatStmt)) h =
-          let g : (takes number (kind_in flat_text vars test) ≡ true) × ((keeps_kinds flat_text vars left && keeps_kinds flat_text vars right) ≡ true) = both _ _ h in
-          let s : (keeps_kinds flat_text vars left ≡ true) × (keeps_kinds flat_text vars right ≡ true) = both _ _ g.1 in
+          let g : (takes number (kind_in flat_text vars test) ≡ true) × ((keeps_kinds flat_text vars left && keeps_kinds flat_text vars right) ≡ true) = and_parts _ _ h in
+          let s : (keeps_kinds flat_text vars left ≡ true) × (keeps_kinds flat_text vars right ≡ true) = and_parts _ _ g.1 in
           whole-cond (is_nothing (flat_of kind family k left) && is_nothing (flat_of kind family (k + count left) right)) Nothing (If test (flat_of kind family k left) (flat_of kind family (k + count left) right)) tt
           (whole-If test (flat_of kind family k left) (flat_of kind family (k + count left) right) (expr-whole flat_text vars test (takes-some number (kind_in flat_text vars test) g.0)) (whole_of vars k left s.0)
           (whole_of vars (k + count left) right s.1))
       whole_of vars k (Block' shape parts) h = whole-first_part (flats_of kind family k parts) (whole_in vars k parts h)
       whole_of vars k (Default' l (more_of-FlatStmt left end_of-FlatStmt) r (more_of-FlatStmt right end_of-FlatStmt)) h =
-          let s : (keeps_kinds flat_text vars left ≡ true) × (keeps_kinds flat_text vars right ≡ true) = both _ _ h in
+          let s : (keeps_kinds flat_text vars left ≡ true) × (keeps_kinds flat_text vars right ≡ true) = and_parts _ _ h in
           whole-first_part (flat_of kind family (k + count left) right ∷ flat_of kind family k left ∷ [])
           (two (flat_of kind family (k + count left) right) (flat_of kind family k left) (whole_of vars (k + count left) right s.1) (whole_of vars k left s.0))
         where
@@ -102,14 +103,14 @@ module _ (flat_text : FlatText) where
           two p q x y _ (later first) = y
           two p q x y r (later (later i)) = elim i [ ]
       whole_of vars k (Forall' var over shape (more_of-FlatStmt body end_of-FlatStmt)) h =
-          let g : (is_binder flat_text vars var over ≡ true) × (keeps_kinds flat_text (inside vars over) body ≡ true) = both _ _ h in
+          let g : (is_binder flat_text vars var over ≡ true) × (keeps_kinds flat_text (inside vars over) body ≡ true) = and_parts _ _ h in
           whole-cond (is_nothing (flat_of kind family k body)) Nothing (Forall var over (flat_of kind family k body)) tt
           (whole-Forall var over (flat_of kind family k body) (whole_of (inside vars over) k body g.1))
 
       whole_in : {m : _} (vars : Vars) (k : ℕ) (parts : Row_of-FlatStmt m) → all_keep_kinds flat_text vars parts ≡ true → EachIsWhole (flats_of kind family k parts)
       whole_in vars k end_of-FlatStmt h p i = elim i [ ]
       whole_in vars k (more_of-FlatStmt part rest) h p i =
-          let g : (keeps_kinds flat_text vars part ≡ true) × (all_keep_kinds flat_text vars rest ≡ true) = both _ _ h in
+          let g : (keeps_kinds flat_text vars part ≡ true) × (all_keep_kinds flat_text vars rest ≡ true) = and_parts _ _ h in
           one_of (flat_of kind family k part) (flats_of kind family (k + count part) rest) (whole_of vars k part g.0) (whole_in vars (k + count part) rest g.1) p i
         where
           one_of : (q : DefBody) (qs : List DefBody) → IsWholePart q → EachIsWhole qs → EachIsWhole (q ∷ qs)
@@ -121,22 +122,22 @@ module _ (flat_text : FlatText) where
   -- each statement among the items keeps the rules
   statement-kept : (k : ℕ) (items : List FlatItem) → list_all (is_kinded_item flat_text) items ≡ true → (s : Statement) → Has (statements_from k items) s → keeps_kinds flat_text [] s.act ≡ true
   statement-kept k [] h s i = elim i [ ]
-  statement-kept k (item.Act layer act ∷ items) h _ first = (both (keeps_kinds flat_text [] act) (list_all (is_kinded_item flat_text) items) h).0
-  statement-kept k (item.Act layer act ∷ items) h s (later i) = statement-kept (k + count act) items (both (keeps_kinds flat_text [] act) (list_all (is_kinded_item flat_text) items) h).1 s i
-  statement-kept k (item.Claim c ∷ items) h s i = statement-kept (k + 1) items (both (is_kinded_item flat_text (item.Claim c)) (list_all (is_kinded_item flat_text) items) h).1 s i
-  statement-kept k (item.Split c ∷ items) h s i = statement-kept k items (both (is_kinded_item flat_text (item.Split c)) (list_all (is_kinded_item flat_text) items) h).1 s i
-  statement-kept k (item.Using c ∷ items) h s i = statement-kept k items (both (is_kinded_item flat_text (item.Using c)) (list_all (is_kinded_item flat_text) items) h).1 s i
+  statement-kept k (item.Act layer act ∷ items) h _ first = (and_parts (keeps_kinds flat_text [] act) (list_all (is_kinded_item flat_text) items) h).0
+  statement-kept k (item.Act layer act ∷ items) h s (later i) = statement-kept (k + count act) items (and_parts (keeps_kinds flat_text [] act) (list_all (is_kinded_item flat_text) items) h).1 s i
+  statement-kept k (item.Claim c ∷ items) h s i = statement-kept (k + 1) items (and_parts (is_kinded_item flat_text (item.Claim c)) (list_all (is_kinded_item flat_text) items) h).1 s i
+  statement-kept k (item.Split c ∷ items) h s i = statement-kept k items (and_parts (is_kinded_item flat_text (item.Split c)) (list_all (is_kinded_item flat_text) items) h).1 s i
+  statement-kept k (item.Using c ∷ items) h s i = statement-kept k items (and_parts (is_kinded_item flat_text (item.Using c)) (list_all (is_kinded_item flat_text) items) h).1 s i
 
   -- so each claim's body is whole
   claim-whole : (items : List FlatItem) → list_all (is_kinded_item flat_text) items ≡ true → (c : Claim) → Has (claims_of items) c → IsWhole flat_text.families c.body
   claim-whole [] h c i = elim i [ ]
-  claim-whole (item.Act layer act ∷ items) h c i = claim-whole items (both (is_kinded_item flat_text (item.Act layer act)) (list_all (is_kinded_item flat_text) items) h).1 c i
+  claim-whole (item.Act layer act ∷ items) h c i = claim-whole items (and_parts (is_kinded_item flat_text (item.Act layer act)) (list_all (is_kinded_item flat_text) items) h).1 c i
   claim-whole (item.Claim d ∷ items) h _ first =
-      let own : is_kinded_item flat_text (item.Claim d) ≡ true = (both (is_kinded_item flat_text (item.Claim d)) (list_all (is_kinded_item flat_text) items) h).0 in
-      expr-whole flat_text (bound_by flat_text d.params) d.body (takes-some number (kind_in flat_text (bound_by flat_text d.params) d.body) (both (are_binders flat_text [] d.params) (takes number (kind_in flat_text (bound_by flat_text d.params) d.body)) own).1)
-  claim-whole (item.Claim d ∷ items) h c (later i) = claim-whole items (both (is_kinded_item flat_text (item.Claim d)) (list_all (is_kinded_item flat_text) items) h).1 c i
-  claim-whole (item.Split d ∷ items) h c i = claim-whole items (both (is_kinded_item flat_text (item.Split d)) (list_all (is_kinded_item flat_text) items) h).1 c i
-  claim-whole (item.Using d ∷ items) h c i = claim-whole items (both (is_kinded_item flat_text (item.Using d)) (list_all (is_kinded_item flat_text) items) h).1 c i
+      let own : is_kinded_item flat_text (item.Claim d) ≡ true = (and_parts (is_kinded_item flat_text (item.Claim d)) (list_all (is_kinded_item flat_text) items) h).0 in
+      expr-whole flat_text (bound_by flat_text d.params) d.body (takes-some number (kind_in flat_text (bound_by flat_text d.params) d.body) (and_parts (are_binders flat_text [] d.params) (takes number (kind_in flat_text (bound_by flat_text d.params) d.body)) own).1)
+  claim-whole (item.Claim d ∷ items) h c (later i) = claim-whole items (and_parts (is_kinded_item flat_text (item.Claim d)) (list_all (is_kinded_item flat_text) items) h).1 c i
+  claim-whole (item.Split d ∷ items) h c i = claim-whole items (and_parts (is_kinded_item flat_text (item.Split d)) (list_all (is_kinded_item flat_text) items) h).1 c i
+  claim-whole (item.Using d ∷ items) h c i = claim-whole items (and_parts (is_kinded_item flat_text (item.Using d)) (list_all (is_kinded_item flat_text) items) h).1 c i
 
   pub claims-whole : list_all (is_kinded_item flat_text) flat_text.items ≡ true → ReadsWholeInClaims (design_of_flat_text flat_text)
   claims-whole h claim i = claim-whole flat_text.items h claim i

@@ -1,6 +1,7 @@
 -- The numbers of the flattened text of a text within the limits.
 use Rattle.std.proofs.Common.{◌≡◌, ◌≤◌, ℕ, List, [], ◌∷◌, length, None, true, ◌&&◌, nat_lt, arith}
 use Rattle.std.specs.List.{AllByRecursion, list_all}
+use Rattle.std.proofs.lemmas.Bool.{and_parts}
 use Rattle.smv_core.specs.Notation.{Tokens}
 use Rattle.smv_core.specs.Spelling.{Spells}
 use Rattle.smv_core.specs.Values.{Name}
@@ -11,7 +12,6 @@ use Rattle.smv_mentions.specs.FirstFault.{first_fault}
 use Rattle.law_designs.specs.Entries.{entries}
 use Rattle.law_designs.specs.Flattening.{flatten}
 use Rattle.law_designs.specs.FlatKinds.{is_size, is_kinded_item, is_kinded_family, is_kinded}
-use Rattle.law_designs.proofs.Operands.{both}
 use Rattle.law_sound_texts.specs.NumbersFit.{PlaceFits, NumbersFit}
 use Rattle.law_sound_texts.proofs.ShallowRules.{spelled-shallow}
 use Rattle.law_sound_texts.proofs.Items.{items-shallow}
@@ -22,8 +22,8 @@ use Rattle.law_sound_texts.proofs.FewConstants.{enumerations-few}
 -- each enumeration of a text that keeps the rules has a constant
 some-listed : (flat_text : FlatText) → is_kinded flat_text ≡ true → list_all (λ (names : List Name). nat_lt 0 (length names)) flat_text.enums ≡ true
 some-listed flat_text e =
-    (both (list_all (λ (names : List Name). nat_lt 0 (length names)) flat_text.enums) (list_all (is_kinded_family flat_text) flat_text.families && list_all (is_kinded_item flat_text) flat_text.items)
-    (both (list_all (λ (info : SetInfo). is_size info.size) flat_text.sets) (list_all (λ (names : List Name). nat_lt 0 (length names)) flat_text.enums && (list_all (is_kinded_family flat_text) flat_text.families && list_all (is_kinded_item flat_text) flat_text.items)) e).1).0
+    (and_parts (list_all (λ (names : List Name). nat_lt 0 (length names)) flat_text.enums) (list_all (is_kinded_family flat_text) flat_text.families && list_all (is_kinded_item flat_text) flat_text.items)
+    (and_parts (list_all (λ (info : SetInfo). is_size info.size) flat_text.sets) (list_all (λ (names : List Name). nat_lt 0 (length names)) flat_text.enums && (list_all (is_kinded_family flat_text) flat_text.families && list_all (is_kinded_item flat_text) flat_text.items)) e).1).0
 
 each-more : (lists : List (List Name)) → AllByRecursion (λ (names : List Name). length names ≤ 4096) lists → AllByRecursion (λ (names : List Name). length names ≤ 65536) lists
 each-more [] h = tt

@@ -4,6 +4,8 @@ use Rattle.std.specs.Str.{bytes_eq}
 use Rattle.std.specs.List.{list_all}
 use Rattle.std.proofs.lemmas.List.{length-take}
 use Rattle.std.proofs.lemmas.Slice.Eq.{bytes_eq-Decides}
+use Rattle.std.proofs.lemmas.Bool.{and_parts}
+use Rattle.law_lists.proofs.Numbers.{nat_le-is}
 use Rattle.smv_core.specs.declared.token.Token.{Token}
 use Rattle.smv_core.specs.declared.token.TokenKind.{TokenKind}
 use Rattle.smv_core.specs.declared.token.TokenKind.TheVariants.{Ident, Number}
@@ -11,17 +13,13 @@ use Rattle.smv_core.specs.Signs.{word_scalarset}
 use Rattle.smv_core.specs.Notation.{same_kind}
 use Rattle.smv_lex.specs.declared.front.Front.{Front}
 use Rattle.smv_lex.specs.declared.front.Front.TheVariants.{Passed, Whole, Broken}
-use Rattle.smv_lex.specs.Spellings.{signs, reserved_words, spelled_in}
+use Rattle.smv_core.specs.Spellings.{signs, reserved_words, spelled_in}
 use Rattle.smv_lex.specs.Lexing.{Lexed, is_letter, is_name_byte, word_kind, number_of, front_of, with_token, lexed_from, lexed}
 use Rattle.smv_lex.specs.Longest.{is_word, is_digits, kind_of, NoLonger}
 use Rattle.smv_lex.proofs.Fronts.{passed-some, token-some}
 use Rattle.smv_lex.proofs.Lexing.{from-end, from-passed, from-token, from-fault}
 use Rattle.smv_lex.proofs.Longest.{longest-token}
-use Rattle.law_designs.proofs.Operands.{both}
 use Rattle.law_sound_texts.proofs.Consumed.{width, is_name, gap, weight}
-
-le-true : (a b : ℕ) → nat_le a b ≡ true → a ≤ b
-le-true a b e = grind arith
 
 -- ---- signs and reserved words
 
@@ -32,7 +30,7 @@ spelled-passes p [] all bytes k e = absurd (cc (e))
 spelled-passes p (entry ∷ list) all bytes k e = by_test (bytes_eq entry.1 bytes) refl e (λ h. spelled-passes p list parts.1 bytes k h)
   where
     parts : (p entry.0 entry.1 ≡ true) × (list_all (λ (entry : TokenKind × List ℕ). p entry.0 entry.1) list ≡ true)
-    parts = both (p entry.0 entry.1) (list_all (λ (entry : TokenKind × List ℕ). p entry.0 entry.1) list) all
+    parts = and_parts (p entry.0 entry.1) (list_all (λ (entry : TokenKind × List ℕ). p entry.0 entry.1) list) all
 
     by_test : (b : Bool) → bytes_eq entry.1 bytes ≡ b → cond b (Some entry.0) (spelled_in list bytes) ≡ Some k → (spelled_in list bytes ≡ Some k → p k bytes ≡ true) → p k bytes ≡ true
     by_test true h e rest = let same : entry.0 ≡ k = cc in subst (λ k. p k bytes ≡ true) same (subst (λ l. p entry.0 l ≡ true) ((bytes_eq-Decides entry.1 bytes).0 h) parts.0)
@@ -67,7 +65,7 @@ digits-some (b ∷ bytes) e = omega arith
 
 word-wide : (bytes : List ℕ) (o : Option TokenKind) → spelled_in reserved_words bytes ≡ o → 1 ≤ length bytes → width (unwrap_or o (Ident bytes)) ≤ length bytes
 word-wide bytes None e some = some
-word-wide bytes (Some k) e some = le-true (width k) (length bytes) (spelled-passes is_wide reserved_words words-wide bytes k e)
+word-wide bytes (Some k) e some = nat_le-is (width k) (length bytes) (spelled-passes is_wide reserved_words words-wide bytes k e)
 
 -- a token is at least as long as its kind is wide
 kind-wide : (bytes : List ℕ) (k : TokenKind) → kind_of bytes ≡ Some k → width k ≤ length bytes
@@ -77,7 +75,7 @@ kind-wide bytes k e = by_tests (is_word bytes) (is_digits bytes) refl refl e
     by_tests : (a b : Bool) → is_word bytes ≡ a → is_digits bytes ≡ b → cond a (Some (unwrap_or (spelled_in reserved_words bytes) (Ident bytes))) (cond b (Some (Number (number_of bytes))) (spelled_in signs bytes)) ≡ Some k → width k ≤ length bytes
     by_tests true b h g e = let same : unwrap_or (spelled_in reserved_words bytes) (Ident bytes) ≡ k = cc in subst (λ k. width k ≤ length bytes) same (word-wide bytes (spelled_in reserved_words bytes) refl (word-some bytes h))
     by_tests false true h g e = let same : Number (number_of bytes) ≡ k = cc in subst (λ k. width k ≤ length bytes) same (digits-some bytes g)
-    by_tests false false h g e = le-true (width k) (length bytes) (spelled-passes is_wide signs signs-wide bytes k e)
+    by_tests false false h g e = nat_le-is (width k) (length bytes) (spelled-passes is_wide signs signs-wide bytes k e)
 
 -- what is a name or `scalarset` is a word
 kind-word : (bytes : List ℕ) (k : TokenKind) → kind_of bytes ≡ Some k → (is_name k ≡ true) ⊎ (same_kind k word_scalarset ≡ true) → is_word bytes ≡ true
@@ -85,12 +83,12 @@ unfolding kind_of word_kind
 kind-word bytes k e either = by_tests (is_word bytes) (is_digits bytes) refl e
   where
     neither : (k : TokenKind) → is_plain k bytes ≡ true → (is_name k ≡ true) ⊎ (same_kind k word_scalarset ≡ true) → ⊥
-    neither k h (inl g) = let r = both (not (is_name k)) (not (same_kind k word_scalarset)) h in absurd (twice (is_name k) r.0 g)
+    neither k h (inl g) = let r = and_parts (not (is_name k)) (not (same_kind k word_scalarset)) h in absurd (twice (is_name k) r.0 g)
       where
         twice : (b : Bool) → not b ≡ true → b ≡ true → ⊥
         twice true h g = cc (h)
         twice false h g = cc (g)
-    neither k h (inr g) = let r = both (not (is_name k)) (not (same_kind k word_scalarset)) h in absurd (twice (same_kind k word_scalarset) r.1 g)
+    neither k h (inr g) = let r = and_parts (not (is_name k)) (not (same_kind k word_scalarset)) h in absurd (twice (same_kind k word_scalarset) r.1 g)
       where
         twice : (b : Bool) → not b ≡ true → b ≡ true → ⊥
         twice true h g = cc (h)
@@ -110,11 +108,11 @@ take-more (b ∷ text) (suc n) c cs e = let r = take-more text n c cs e in (ap (
 
 all-more : (p : ℕ → Bool) (bytes : List ℕ) (c : ℕ) → list_all p bytes ≡ true → p c ≡ true → list_all p (bytes ++ c ∷ []) ≡ true
 all-more p [] c e h = rw h refl
-all-more p (b ∷ bytes) c e h = let g : (p b ≡ true) × (list_all p bytes ≡ true) = both (p b) (list_all p bytes) e in rw (g.0, all-more p bytes c g.1 h) refl
+all-more p (b ∷ bytes) c e h = let g : (p b ≡ true) × (list_all p bytes ≡ true) = and_parts (p b) (list_all p bytes) e in rw (g.0, all-more p bytes c g.1 h) refl
 
 word-more : (bytes : List ℕ) (c : ℕ) → is_word bytes ≡ true → is_name_byte c ≡ true → is_word (bytes ++ c ∷ []) ≡ true
 word-more [] c e h = absurd (cc (e))
-word-more (b ∷ bytes) c e h = let g : (is_letter b ≡ true) × (list_all is_name_byte bytes ≡ true) = both (is_letter b) (list_all is_name_byte bytes) e in rw (g.0, all-more is_name_byte bytes c g.1 h) refl
+word-more (b ∷ bytes) c e h = let g : (is_letter b ≡ true) × (list_all is_name_byte bytes ≡ true) = and_parts (is_letter b) (list_all is_name_byte bytes) e in rw (g.0, all-more is_name_byte bytes c g.1 h) refl
 
 word-kind : (bytes : List ℕ) → is_word bytes ≡ true → kind_of bytes ≡ None → ⊥
 unfolding kind_of
@@ -179,7 +177,7 @@ named-light m light (c ∷ cs) le first at tokens e named = by_front (front_of (
         letter : (n : ℕ) → 0 < n → is_word (take n (c ∷ cs)) ≡ true → ⊥
         letter zero some word = omega (arith, some)
         letter (suc j) some word =
-            let g : (is_letter c ≡ true) × (list_all is_name_byte (take j cs) ≡ true) = both (is_letter c) (list_all is_name_byte (take j cs)) word in
+            let g : (is_letter c ≡ true) × (list_all is_name_byte (take j cs) ≡ true) = and_parts (is_letter c) (list_all is_name_byte (take j cs)) word in
             let yes = g.0 in
             let no = first c cs refl in
             cc (yes, no)

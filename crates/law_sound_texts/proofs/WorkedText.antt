@@ -1,5 +1,6 @@
 -- By computing the base definitions of the worked text, and what they allow.
 use Rattle.std.proofs.Common.{zero, suc, List, [], ◌∷◌, Option, Some, None, All, Contains, refl, arith}
+use Rattle.law_lists.proofs.Each.{all_one}
 use Rattle.smv_core.specs.FlatOrder.{design_of}
 use Rattle.smv_core.specs.Values.{Value, Sizes, number, values_of}
 use Rattle.smv_core.specs.Types.{Family}
@@ -17,10 +18,6 @@ pub takes_the_first : TakesTheFirst
 unfolding computing
 takes_the_first = (refl, refl, refl, refl)
 
-pub all-one : {X : Type 0} (P : X → Type 0) (x : X) → P x → All P (x ∷ [])
-all-one P x h zero d l = h
-all-one P x h (suc k) d l = absurd (omega (arith, l))
-
 all-two : {X : Type 0} (P : X → Type 0) (x y : X) → P x → P y → All P (x ∷ y ∷ [])
 all-two P x y h j zero d l = h
 all-two P x y h j (suc zero) d l = j
@@ -29,7 +26,7 @@ all-two P x y h j (suc (suc k)) d l = absurd (omega (arith, l))
 module _ (sizes : Sizes) where
   each : (P : Family → List Value → Type 0) → P the_signal [] → EachElement (design_of two_layers) sizes P
   unfolding computing
-  each P h = all-one (λ f. All (P f) (indexes_in sizes f)) the_signal (all-one (P the_signal) [] h)
+  each P h = all_one (λ f. All (P f) (indexes_in sizes f)) the_signal (all_one (P the_signal) [] h)
 
   typed : IsTyped (design_of two_layers) sizes (all_of 1)
   unfolding computing

@@ -1,5 +1,8 @@
 -- By computing the units of the worked text and of its design, and what the map allows.
 use Rattle.std.proofs.Common.{◌≡◌, zero, suc, [], ◌∷◌, None, false, All, Contains, refl, arith, codes, subst}
+use Rattle.law_lists.proofs.Booleans.{clash}
+use Rattle.law_lists.proofs.Each.{all_one}
+use Rattle.law_lists.proofs.Options.{some_is}
 use Rattle.smv_core.specs.FlatOrder.{design_of}
 use Rattle.smv_core.specs.Values.{Sizes, number}
 use Rattle.smv_core.specs.Types.{IsSizedTop}
@@ -16,10 +19,8 @@ use Rattle.law_obligations.specs.Circular.{always}
 use Rattle.law_obligations.specs.Soundness.{at_sizes, is_held}
 use Rattle.law_obligations.specs.Soundness as flat
 use Rattle.law_obligations.specs.Outlines.{names_of, bases, unit_in}
-use Rattle.law_obligations.proofs.Lookups.{inner}
 use Rattle.law_sound_texts.specs.WorkedText.{two_layers, the_signal, all_of}
-use Rattle.law_sound_texts.proofs.WorkedText.{runs_are_of_the_first, all-one}
-use Rattle.law_sound_texts.proofs.Lists.{clash}
+use Rattle.law_sound_texts.proofs.WorkedText.{runs_are_of_the_first}
 use Rattle.law_sound_texts.specs.Carried.{UnitsHold}
 use Rattle.law_sound_texts.specs.WorkedTexts.{HasOneMap, HoldsInNeither}
 
@@ -48,7 +49,7 @@ fails_in_text : IsSound two_layers → ⊥
 unfolding computing
 fails_in_text sound =
     let unit : All (λ vs. AtEachTime (Holds (design_of two_layers) one_each (map_of (codes "A") the_signal) vs) None (all_of 1 ∷ all_of 1 ∷ [])) (instances (design_of two_layers) one_each (map_of (codes "A") the_signal)) =
-    sound one_each (all-one (IsSizedTop one_each) _ tt) (all_of 1 ∷ all_of 1 ∷ []) (runs_are_of_the_first one_each).0 0 (map_of (codes "A") the_signal) (omega arith) in
+    sound one_each (all_one (IsSizedTop one_each) _ tt) (all_of 1 ∷ all_of 1 ∷ []) (runs_are_of_the_first one_each).0 0 (map_of (codes "A") the_signal) (omega arith) in
     says_zero None (unit 0 [] (omega arith)).0
 
 -- the state of the design in which the signal is 1
@@ -63,7 +64,7 @@ unfolding computing one_there
 is_run = record { are_typed = λ t m. typed t m; keeps_base = refl }
   where
     typed : (t : FlatState) → Has (one_there ∷ []) t → flat.IsTyped (at_sizes (names_of d) one_each) t
-    typed _ first zero g e vs i = subst (λ (g : Family). Has (values_in (at_sizes (names_of d) one_each) g.value) (number 1)) (inner e) (later first)
+    typed _ first zero g e vs i = subst (λ (g : Family). Has (values_in (at_sizes (names_of d) one_each) g.value) (number 1)) (some_is e) (later first)
     typed _ first (suc k) g e vs i = absurd (cc (e))
     typed t (later m) k g e vs i = elim m [ ]
 

@@ -4,13 +4,12 @@ use Rattle.std.specs.List.{AllZip}
 use Rattle.smv_core.specs.Values.{Value, Sizes}
 use Rattle.smv_core.specs.Types.{Family}
 use Rattle.smv_core.specs.FlatOrder.{TextDesign, design_of}
-use Rattle.smv_core.specs.Outcome.{State, family_at}
+use Rattle.smv_core.specs.Outcome.{State}
 use Rattle.smv_core.specs.Allowed.{Base, base_of, allowed_by_base}
 use Rattle.smv_core.specs.Sound.{indexes_in, AtEachTime, IsTyped, IsRun}
 use Rattle.smv_core.specs.declared.tree.Text.{Text}
 use Rattle.smv_core.specs.declared.flat.Def.{Def}
-use Rattle.law_designs.specs.Numbers.{family_number}
-use Rattle.law_designs.specs.Flattening.{flatten, scope_in, layer_number}
+use Rattle.law_designs.specs.Flattening.{flatten, layer_number}
 use Rattle.law_designs.specs.Definitions.{design_of_flat_text}
 use Rattle.law_obligations.specs.Outlines as outline
 
@@ -33,10 +32,6 @@ module _ (d : TextDesign) (sizes : Sizes) where
   AgreeImplemented s t = EachImplemented (λ f vs. t f.path vs ≡ s f.path vs)
 
 module _ (text : Text) where
-  -- each family is found by its path, in the text and in the flattened text
-  abbrev pub FamiliesAreFound : Type 0
-  FamiliesAreFound = (k : ℕ) (f : Family) → slice_get (design_of text).families k ≡ Some f → (family_at (design_of text).families f.path ≡ Some f) × (family_number (scope_in text []) f.path ≡ k)
-
   -- a base definition of the text and one of its design are of one layer, or there is none
   abbrev pub IsSameLayer : Base → Option Def → Type 0
   IsSameLayer None None = Unit {0}

@@ -11,8 +11,7 @@ ghost use Rattle.law_sound_texts.specs.TextRuns.{HasTextRuns};
 ghost use Rattle.law_sound_texts.specs.WorkedText.{RunsAreOfTheFirst, TakesTheFirst};
 
 use crate::checked_scripts::families_are_filled;
-use crate::extension::{families_are_found, left_sides_stay_whole, runs_exist};
-use crate::kinds_after_flattening::flattened_texts_are_kinded;
+use crate::extension::{left_sides_stay_whole, runs_exist};
 use crate::left_sides::{left_sides_have_no_fewer, well_kinded_behaviours_are_kept};
 use law_designs::flattening::{families_are_the_same, statements_are_the_same};
 use law_designs::single_assignment::{
@@ -21,6 +20,7 @@ use law_designs::single_assignment::{
 use law_designs::well_kinded::{
     allowed_values_are_the_same, expressions_are_right, spelled_texts_are_written,
 };
+use law_flat_kinds::{families_are_found, flattened_texts_are_kinded};
 
 /// In a text without a fault of names, size and layers the layer that defines an abstract signal first is that of its base definition in the design.
 pub fn layers_are_same()

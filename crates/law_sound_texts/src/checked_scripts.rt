@@ -12,8 +12,8 @@ ghost use Rattle.law_obligations.specs.Outlines.{Script};
 ghost use Rattle.law_sound_texts.specs.Extension.{AreFilled};
 ghost use Rattle.law_sound_texts.specs.Whole.{ReadsWholeInClaims, ReadsWholeInDefinitions, HasDefinitions, HasSplits};
 
-use crate::kinds_after_flattening::flattened_texts_are_kinded;
 use crate::left_sides::{definitions_are_of_families, set_types_are_apart};
+use law_flat_kinds::flattened_texts_are_kinded;
 
 /// Where a flattened text keeps the rules of kinds, no family of its design has a type without values.
 pub fn families_are_filled()

@@ -3,13 +3,12 @@ ghost use Rattle.std.specs.Prelude.{◌≡◌, None};
 ghost use Rattle.smv_core.specs.declared.flat.Design.{Design};
 ghost use Rattle.smv_core.specs.declared.flat.FlatText.{FlatText};
 ghost use Rattle.smv_core.specs.declared.tree.Text.{Text};
-ghost use Rattle.smv_mentions.specs.FirstFault.{first_fault};
 ghost use Rattle.law_designs.specs.Flattening.{flatten};
 ghost use Rattle.law_designs.specs.WellKinded.{IsWellKinded};
 ghost use Rattle.law_designs.specs.Definitions.{design_of_flat_text};
 ghost use Rattle.law_designs.specs.FirstFault.{first_fault_of_design};
-ghost use Rattle.law_sound_texts.specs.Extension.{AreFilled, HasRuns, HasWholeLeftSides, KeepsBehaviours, FlatTextHasWholeLeftSides};
-ghost use Rattle.law_sound_texts.specs.TextExtension.{FamiliesAreFound, KeepsTextBehaviours, LayersAreSame};
+ghost use Rattle.law_sound_texts.specs.Extension.{AreFilled, ElementsCanBeChosen, HasRuns, HasWholeLeftSides, KeepsBehaviours, FlatTextHasWholeLeftSides};
+ghost use Rattle.law_sound_texts.specs.TextExtension.{KeepsTextBehaviours, LayersAreSame};
 
 use law_designs::flattening::families_are_the_same;
 use law_designs::loops_and_layers::orders_show_no_cycle;
@@ -19,8 +18,17 @@ use law_designs::single_assignment::{
 use law_designs::well_kinded::{
     allowed_values_are_the_same, expressions_are_right, spelled_texts_are_written,
 };
+use law_flat_kinds::families_are_found;
 
-/// In a design without a fault of loops or of layers whose left sides are whole the abstract signals take no behaviour from the implementation: each is in a run,
+/// In a design without a fault of loops or of layers whose left sides are whole any elements can be chosen after each state: there is a next state with values that their base definitions allow, and with
+/// the values of all other elements as they are given.
+pub fn elements_are_chosen()
+    ensures { (d : Design) → first_fault_of_design d ≡ None → HasWholeLeftSides d → ElementsCanBeChosen d }
+{
+    orders_show_no_cycle();
+}
+
+/// In such a design the abstract signals take no behaviour from the implementation: each is in a run,
 /// at any sizes.
 pub fn behaviours_are_kept()
     ensures { (d : Design) → first_fault_of_design d ≡ None → HasWholeLeftSides d → KeepsBehaviours d }
@@ -38,11 +46,6 @@ pub fn runs_exist()
 /// The left sides of a design are whole where those of the flattened text are from which it is made.
 pub fn left_sides_stay_whole()
     ensures { (flat_text : FlatText) → FlatTextHasWholeLeftSides flat_text → HasWholeLeftSides (design_of_flat_text flat_text) }
-{}
-
-/// In a text without a fault of names or size each family is found by its path, in the text and in the flattened text: no two have one path.
-pub fn families_are_found()
-    ensures { (text : Text) → first_fault text ≡ None → FamiliesAreFound text }
 {}
 
 /// So it is for texts: in a text that is spelled and has no fault of names, size, kinds, loops and layers the abstract signals take no behaviour from the

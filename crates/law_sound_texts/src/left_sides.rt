@@ -17,9 +17,10 @@ ghost use Rattle.law_sound_texts.specs.Exact.{DefinitionsAreFree, LeftSidesAreEx
 use crate::conflicts::{
     definitions_have_no_conflict, flattened_texts_are_placed, one_value_gives_a_result,
 };
-use crate::extension::{families_are_found, text_behaviours_are_kept};
+use crate::extension::text_behaviours_are_kept;
 use law_designs::flattening::families_are_the_same;
 use law_designs::well_kinded::left_sides_lead_to_families;
+use law_flat_kinds::families_are_found;
 
 /// In the flattened text of each text that is spelled and has no fault of names, size and kinds each assignment is to a family, with an index for each of its index
 /// types.

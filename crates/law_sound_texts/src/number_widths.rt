@@ -14,7 +14,7 @@ ghost use Rattle.law_designs.specs.KindFaults.{first_fault_of_kinds};
 ghost use Rattle.law_sound_texts.specs.NumbersFit.{NumbersFit, PlaceFits};
 ghost use Rattle.law_sound_texts.specs.RangesFit.{NamedRangesFit};
 
-use crate::kinds_after_flattening::flattened_texts_are_kinded;
+use law_flat_kinds::flattened_texts_are_kinded;
 
 /// The flattened text of a text without a fault of names and size has at most 4,096 families.
 pub fn families_are_few()

@@ -14,7 +14,6 @@ ghost use Rattle.law_sound_texts.specs.WorkedTexts.{HasOneMap, HoldsInBoth, Hold
 
 use crate::behaviours::layers_are_same;
 use crate::checked_scripts::scripts_are_checked;
-use crate::extension::families_are_found;
 use crate::left_sides::left_sides_are_exact;
 use law_designs::flattening::{families_are_the_same, statements_are_the_same};
 use law_designs::single_assignment::{
@@ -24,6 +23,7 @@ use law_designs::well_kinded::{
     allowed_values_are_the_same, claims_are_the_same, expressions_are_right,
     spelled_texts_are_written,
 };
+use law_flat_kinds::families_are_found;
 use law_obligations::obligations::proved_is_sound;
 
 /// Each run of a text that is spelled and has no fault of names, size, kinds, loops and layers is a run of its design.

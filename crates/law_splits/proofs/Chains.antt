@@ -2,6 +2,7 @@
 use Rattle.std.proofs.Common.{◌≡◌, ℕ, zero, suc, ◌≤◌, List, [], ◌∷◌, ◌++◌, map, length, append_assoc, refl, sym, ap, subst, ◌∙◌, ◌⊎◌, inl, inr, Option, Some, None, arith}
 use Rattle.std.specs.Str.{bytes_eq}
 use Rattle.std.specs.List.{flat_map, find}
+use Rattle.std.proofs.lemmas.List.{length-append}
 use Rattle.smv_core.specs.Values.{Name}
 use Rattle.smv_core.specs.declared.flat.Design.{Design}
 use Rattle.smv_core.specs.declared.flat.Param.{Param}
@@ -11,7 +12,6 @@ use Rattle.smv_core.specs.declared.flat.Simple.{Simple}
 use Rattle.law_obligations.specs.Sets.{Has, first, later}
 use Rattle.law_obligations.specs.Guards.{AreGuards}
 use Rattle.law_obligations.proofs.Members.{Has-cases}
-use Rattle.law_obligations.proofs.OneOfEach.{joined_long}
 use Rattle.law_splits.specs.Leaves.{named_by, Cut, cut, new, all_params, guards_of, params_after, onward_if, chain}
 use Rattle.law_splits.specs.SplitLaws.{IsIndex}
 use Rattle.law_splits.proofs.Params.{from_new}
@@ -77,7 +77,7 @@ chain_guards d params (c ∷ cuts) f good all e =
     let is : all ≡ all_params c ++ r.more = sym e ∙ r.is in
     let here : AreBetween (length c.params) (length (all_params c)) (map (λ p. p.over) all) (guards_of (length all) c) =
     subst (λ all. AreBetween (length c.params) (length (all_params c)) (map (λ p. p.over) all) (guards_of (length all) c)) (sym is) (are_between d c (good c first) r.more) in
-    let long = joined_long c.params (new c) in
+    let long = length-append c.params (new c) in
     let both = join (length c.params) (length (all_params c)) (map (λ p. p.over) all) (guards_of (length all) c) (flat_map (guards_of (length all)) cuts) (omega (arith, long)) here
     (chain_guards d (all_params c) cuts f.1 (λ c k. good c (later k)) all e) in
     subst (λ ps. AreGuards (length ps) (map (λ p. p.over) all) (flat_map (guards_of (length all)) (c ∷ cuts))) f.0 both

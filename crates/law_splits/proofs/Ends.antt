@@ -2,6 +2,9 @@
 use Rattle.std.proofs.Common.{◌≡◌, ◌≢◌, ℕ, zero, suc, ◌<◌, List, [], ◌∷◌, ◌++◌, length, Bool, true, false, cond, refl, sym, ap, subst, ◌∙◌, ◌⊎◌, inl, inr, Option, Some, None, arith}
 use Rattle.std.specs.Str.{bytes_eq}
 use Rattle.std.specs.List.{slice_get, find}
+use Rattle.std.proofs.lemmas.List.{length-append}
+use Rattle.std.proofs.lemmas.Option.{slice_get_within}
+use Rattle.law_lists.proofs.Options.{some_is}
 use Rattle.smv_core.specs.Values.{Name}
 use Rattle.smv_core.specs.declared.flat.Design.{Design}
 use Rattle.smv_core.specs.declared.flat.Param.{Param}
@@ -11,11 +14,11 @@ use Rattle.smv_core.specs.declared.flat.Leaf.{Leaf}
 use Rattle.law_obligations.specs.Sets.{Has, first, later}
 use Rattle.law_obligations.specs.Placings.{AreDistinct, AreBelow}
 use Rattle.law_obligations.proofs.Members.{Has-uncons}
-use Rattle.law_obligations.proofs.OneOfEach.{joined_long, get_past, get_Has, Has_get}
+use Rattle.law_obligations.proofs.OneOfEach.{get_Has, Has_get}
 use Rattle.law_obligations.proofs.CoverLists.{not_found, at_most_size}
 use Rattle.law_obligations.specs.Outlines.{unit_in}
 use Rattle.law_obligations.specs.Units.{units_of}
-use Rattle.law_obligations.proofs.Lookups.{inner, find-some}
+use Rattle.law_obligations.proofs.Lookups.{find-some}
 use Rattle.law_splits.specs.Leaves.{named_by, name_of, own_params, Cut, cut, all_params, name_after, onward_if, chain, leaves_from}
 use Rattle.law_splits.specs.SplitLaws.{HasNamesApart, LeavesAreEnds}
 use Rattle.law_splits.proofs.Params.{same_name, name_same}
@@ -59,17 +62,17 @@ module _ (d : Design) (apart : HasNamesApart d) where
   step : (name : Name) (ps : List ℕ) (end : Name) → Path name ps end → (k p : ℕ) → slice_get ps (suc k) ≡ Some p → Step ps k p
   step name [] end h k p e = absurd (cc)
   step name (q ∷ []) end h k p e = absurd (cc)
-  step name (q ∷ r ∷ ps) end h zero p e = record { q = q; at = refl; s = h.0; is_s = h.1; t = h.3.0; is_t = subst (λ p. slice_get d.splits p ≡ Some h.3.0) (inner e) h.3.1; after = h.3.2 }
+  step name (q ∷ r ∷ ps) end h zero p e = record { q = q; at = refl; s = h.0; is_s = h.1; t = h.3.0; is_t = subst (λ p. slice_get d.splits p ≡ Some h.3.0) (some_is e) h.3.1; after = h.3.2 }
   step name (q ∷ r ∷ ps) end h (suc k) p e =
       let n = step h.0.name (r ∷ ps) end h.3 k p e in
       record { q = n.q; at = n.at; s = n.s; is_s = n.is_s; t = n.t; is_t = n.is_t; after = n.after }
 
   start : (name : Name) (ps : List ℕ) (end : Name) → Path name ps end → (p : ℕ) → slice_get ps 0 ≡ Some p → (s : FlatSplit) × (slice_get d.splits p ≡ Some s) × (named_by s.of ≡ name)
   start name [] end h p e = absurd (cc)
-  start name (q ∷ ps) end h p e = (h.0, subst (λ p. slice_get d.splits p ≡ Some h.0) (inner e) h.1, h.2)
+  start name (q ∷ ps) end h p e = (h.0, subst (λ p. slice_get d.splits p ≡ Some h.0) (some_is e) h.1, h.2)
 
   one_of : (p : ℕ) (s t : FlatSplit) → slice_get d.splits p ≡ Some s → slice_get d.splits p ≡ Some t → named_by s.of ≡ named_by t.of
-  one_of p s t a b = ap (λ (s : FlatSplit). named_by s.of) (inner (sym a ∙ b))
+  one_of p s t a b = ap (λ (s : FlatSplit). named_by s.of) (some_is (sym a ∙ b))
 
   -- from the name of no split a path has no split twice
   once : (root : Name) → ((s : FlatSplit) → Has d.splits s → root ≢ s.name) → (ps : List ℕ) (end : Name) → Path root ps end →
@@ -87,7 +90,7 @@ module _ (d : Design) (apart : HasNamesApart d) where
 
   are_below : (name : Name) (ps : List ℕ) (end : Name) → Path name ps end → AreBelow (length d.splits) ps
   are_below name [] end h = tt
-  are_below name (p ∷ ps) end h = (get_past d.splits p h.0 h.1, are_below h.0.name ps end h.3)
+  are_below name (p ∷ ps) end h = (slice_get_within d.splits p h.0 h.1, are_below h.0.name ps end h.3)
 
   -- the path of a chain
   record Walked (name : Name) (cuts : List Cut) : Type 0 where
@@ -130,7 +133,7 @@ module _ (d : Design) (apart : HasNamesApart d) where
         let g = Has_get h in
         let path = extend root w.places (name_after root (chain d (length d.splits) root params)) g.0 s w.path g.1 e in
         let most = at_most_size (length d.splits) (w.places ++ g.0 ∷ []) (distinct (w.places ++ g.0 ∷ []) (once root roots (w.places ++ g.0 ∷ []) s.name path)) (are_below root (w.places ++ g.0 ∷ []) s.name path) in
-        let long = joined_long w.places (g.0 ∷ []) in
+        let long = length-append w.places (g.0 ∷ []) in
         let l = w.long in
         absurd (omega (arith, most, long, l, f))
   ]

@@ -2,13 +2,13 @@
 use Rattle.std.proofs.Common.{◌≡◌, ℕ, ◌+◌, ◌-◌, ◌<◌, ◌≤◌, length, false, ◌&&◌, refl, sym, ap, ◌∙◌, Option, Some, None, arith}
 use Rattle.std.specs.List.{slice_get}
 use Rattle.std.specs.Option.{is_none}
+use Rattle.law_lists.proofs.Numbers.{nat_lt-true, nat_lt-false}
 use Rattle.smv_core.specs.declared.flat.FlatSplit.{FlatSplit}
 use Rattle.law_splits.specs.Variables.{Reading}
 use Rattle.law_splits.specs.Leaves.{stands_for, number_in}
 use Rattle.law_splits.specs.SplitFaults.{is_stray}
 use Rattle.law_splits.specs.SplitLaws.{EquationsKeepOutcomes}
 use Rattle.law_splits.proofs.RenamedOutcomes.{same}
-use Rattle.law_splits.proofs.Lists.{is_less, is_not_less}
 
 -- a variable bound around a split that its brackets name
 abbrev pub IsFine : FlatSplit → ℕ → Type 0
@@ -19,13 +19,13 @@ found None e = absurd (cc)
 found (Some k) e = (k, refl)
 
 pub fine : (split : FlatSplit) (x : Reading) → is_stray split x ≡ false → IsFine split x.var
-fine split x e l = found (stands_for split x.var) (sym (ap (λ b. b && is_none (stands_for split x.var)) (is_less x.var (length split.bound) l)) ∙ e)
+fine split x e l = found (stands_for split x.var) (sym (ap (λ b. b && is_none (stands_for split x.var)) (nat_lt-true x.var (length split.bound) l)) ∙ e)
 
 pub number_inner : (split : FlatSplit) (count v : ℕ) → length split.bound ≤ v → number_in split count v ≡ count + (v - length split.bound)
-number_inner split count v l = rw (is_not_less v (length split.bound) l) refl
+number_inner split count v l = rw (nat_lt-false v (length split.bound) l) refl
 
 pub number_old : (split : FlatSplit) (count v k : ℕ) → v < length split.bound → stands_for split v ≡ Some k → number_in split count v ≡ k
-number_old split count v k l e = rw (is_less v (length split.bound) l) (rw e refl)
+number_old split count v k l e = rw (nat_lt-true v (length split.bound) l) (rw e refl)
 
 pub equations_keep_outcomes : EquationsKeepOutcomes
 equations_keep_outcomes n s split e numbered none own values stand =

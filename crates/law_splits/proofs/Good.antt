@@ -3,6 +3,8 @@ use Rattle.std.proofs.Common.{◌≡◌, ℕ, zero, suc, ◌<◌, ◌≤◌, Lis
 use Rattle.std.specs.Str.{bytes_eq}
 use Rattle.std.specs.List.{flat_map, find, filter}
 use Rattle.std.specs.Option.{is_none}
+use Rattle.law_lists.proofs.Numbers.{nat_eq-is, nat_lt-true}
+use Rattle.law_lists.proofs.Booleans.{and_both}
 use Rattle.smv_core.specs.Values.{Name}
 use Rattle.smv_core.specs.declared.fault.Fault.{Fault}
 use Rattle.smv_core.specs.declared.tree.Word.{Word}
@@ -14,8 +16,6 @@ use Rattle.smv_core.specs.declared.flat.Unit.{Unit}
 use Rattle.smv_mentions.specs.NameFaults.{place_if}
 use Rattle.law_obligations.specs.Sets.{Has, first, later}
 use Rattle.law_obligations.proofs.Members.{Has-uncons, Has-left, Has-right, Has-map, Has-flat_map}
-use Rattle.law_obligations.proofs.Tests.{and_both}
-use Rattle.law_obligations.proofs.Same.{nat_eq-is}
 use Rattle.law_obligations.specs.Outlines.{unit_in}
 use Rattle.law_obligations.specs.Units.{units_of}
 use Rattle.law_obligations.proofs.Lookups.{Has-filter, find-some}
@@ -23,7 +23,7 @@ use Rattle.law_splits.specs.Variables.{Reading, readings}
 use Rattle.law_splits.specs.Leaves.{named_by, with_name, name_of, own_params, Cut, cut, all_params, stands_for, onward, onward_if, chain}
 use Rattle.law_splits.specs.SplitFaults.{astray, split_again, names_one, unbound, doubled, bracketed, equations_of, not_in_one, not_new, other_kind, is_stray, strays, miscounted, other_type, misfits, mismatches, cuts, cuts_of, faults_of_splits}
 use Rattle.law_splits.specs.SplitLaws.{IsRead}
-use Rattle.law_splits.proofs.Lists.{is_less, one_only, at_most_each, option_long}
+use Rattle.law_splits.proofs.Lists.{one_only, at_most_each, option_long}
 use Rattle.law_splits.proofs.OneCut.{IsGood}
 
 -- a place that is not there
@@ -57,7 +57,7 @@ module _ (d : Design) (read : IsRead d) (none : faults_of_splits d ≡ []) where
       | inl r ↦ r
       | inr e ↦ absurd (no_misfit x.at (Has-right (unbound s ++ doubled (bracketed s) ++ not_in_one s ++ not_new s ++ other_kind d.families s)
           (Has-flat_map (λ pair. map (λ reading. reading.at) (filter (is_stray s) (readings pair.left))) h
-          (Has-map (λ reading. reading.at) (Has-filter (is_stray s) k (and_both (is_less x.var (length s.bound) l) e))))))
+          (Has-map (λ reading. reading.at) (Has-filter (is_stray s) k (and_both (nat_lt-true x.var (length s.bound) l) e))))))
     ]
 
     in_one : (word : Word) → Has s.vars word → (a b : FlatPair) → Has (equations_of s.pairs word) a → Has (equations_of s.pairs word) b → a ≡ b

@@ -6,7 +6,6 @@ pub mod Good
 pub mod Chains
 pub mod Splits
 pub mod ValuesMet
-pub mod WorkedRead
 pub mod RenamedOutcomes
 pub mod Equations
 pub mod Ends

@@ -2,6 +2,10 @@
 use Rattle.std.proofs.Common.{◌≡◌, ℕ, ◌+◌, ◌-◌, ◌<◌, ◌≤◌, List, ◌++◌, map, length, true, refl, sym, ap, subst, ◌∙◌, Some, arith, nat_eq}
 use Rattle.std.specs.Str.{bytes_eq}
 use Rattle.std.specs.List.{slice_get}
+use Rattle.std.proofs.lemmas.List.{length-append}
+use Rattle.std.proofs.lemmas.Option.{slice_get_within}
+use Rattle.law_lists.proofs.Options.{some_is}
+use Rattle.law_lists.proofs.Numbers.{nat_lt-true, nat_lt-false}
 use Rattle.smv_core.specs.declared.tree.Word.{Word}
 use Rattle.smv_core.specs.declared.flat.Param.{Param}
 use Rattle.smv_core.specs.declared.flat.FlatPair.{FlatPair}
@@ -11,13 +15,13 @@ use Rattle.smv_core.specs.declared.flat.Design.{Design}
 use Rattle.law_obligations.specs.Sets.{Has}
 use Rattle.law_obligations.specs.Scopes.{ReadsOnly, before}
 use Rattle.law_obligations.proofs.Members.{Has-from_map}
-use Rattle.law_obligations.proofs.OneOfEach.{Has-from_flat_map, joined_long, get_past}
-use Rattle.law_obligations.proofs.Lookups.{inner, Has-filter}
+use Rattle.law_obligations.proofs.OneOfEach.{Has-from_flat_map}
+use Rattle.law_obligations.proofs.Lookups.{Has-filter}
 use Rattle.law_splits.specs.Variables.{Reading, readings, renamed, IsNumbered}
 use Rattle.law_splits.specs.Leaves.{with_name, Cut, new, old, all_params, stands_for, number_in, guard_of, guards_of}
 use Rattle.law_splits.specs.SplitFaults.{names_one, equations_of}
 use Rattle.law_splits.specs.SplitLaws.{IsIndex}
-use Rattle.law_splits.proofs.Lists.{is_less, is_not_less, get_longer, get_map, place_below}
+use Rattle.law_splits.proofs.Lists.{get_longer, get_map, place_below}
 use Rattle.law_splits.proofs.Params.{name_same, named, IsNew, from_new}
 use Rattle.law_splits.proofs.RenamedReads.{reads}
 
@@ -46,17 +50,17 @@ module _ (d : Design) (c : Cut) (good : IsGood d c) (more : List Param) where
   number = number_in c.split (length all)
 
   number_inner : (v : ℕ) → length c.split.bound ≤ v → number v ≡ length all + (v - length c.split.bound)
-  number_inner v l = rw (is_not_less v (length c.split.bound) l) refl
+  number_inner v l = rw (nat_lt-false v (length c.split.bound) l) refl
 
   number_old : (v k : ℕ) → v < length c.split.bound → stands_for c.split v ≡ Some k → number v < length c.params
   number_old v k l e =
-      let a : number v ≡ k = rw (is_less v (length c.split.bound) l) (rw e refl) in
+      let a : number v ≡ k = rw (nat_lt-true v (length c.split.bound) l) (rw e refl) in
       let b = place_below (λ p. nat_eq p.var v) (old c.split) k e in
       let f = good.are_few in
       omega (arith, a, b, f)
 
   is_within : length c.params ≤ length all
-  is_within = let a = joined_long c.params (new c) in let b = joined_long (all_params c) more in omega (arith, a, b)
+  is_within = let a = length-append c.params (new c) in let b = length-append (all_params c) more in omega (arith, a, b)
 
   -- a guard, by its equation and its parameter
   record From (g : Guard) : Type 0 where
@@ -78,7 +82,7 @@ module _ (d : Design) (c : Cut) (good : IsGood d c) (more : List Param) where
   at_param p n = get_map (λ p. p.over) all p.var (get_longer (all_params c) more p.var n.is_at)
 
   is_before : (k v : ℕ) → v < k → before k v ≡ true
-  is_before k v l = is_less v k l
+  is_before k v l = nat_lt-true v k l
 
   reads_old : (pair : FlatPair) → Has c.split.pairs pair → (p : Param) → IsNew c p → ReadsOnly (before p.var) (renamed number pair.left)
   reads_old pair h p n = reads (length c.split.bound) (length c.params) (length all) is_within number number_inner pair.left (length c.split.bound) (before p.var) (omega arith) (good.are_numbered pair h)
@@ -90,7 +94,7 @@ module _ (d : Design) (c : Cut) (good : IsGood d c) (more : List Param) where
       let na = from_new c good.are_bound a.param a.is_new in
       let nb = from_new c good.are_bound b.param b.is_new in
       let vars : a.param.var ≡ b.param.var = sym (ap (λ g. g.var) a.is_guard) ∙ (e ∙ ap (λ g. g.var) b.is_guard) in
-      let params : a.param ≡ b.param = inner (sym na.is_at ∙ (ap (slice_get (all_params c)) vars ∙ nb.is_at)) in
+      let params : a.param ≡ b.param = some_is (sym na.is_at ∙ (ap (slice_get (all_params c)) vars ∙ nb.is_at)) in
       let in_a = Has-filter (λ pair. bytes_eq pair.right.name na.word.name) a.is_pair (name_same _ _ (sym a.is_right ∙ na.same_word)) in
       let in_b = Has-filter (λ pair. bytes_eq pair.right.name na.word.name) b.is_pair (name_same _ _ (sym b.is_right ∙ (sym (ap (λ p. p.name) params) ∙ na.same_word))) in
       let pairs : a.pair ≡ b.pair = good.in_one na.word na.is_word a.pair b.pair in_a in_b in
@@ -99,7 +103,7 @@ module _ (d : Design) (c : Cut) (good : IsGood d c) (more : List Param) where
   pub are_between : AreBetween (length c.params) (length (all_params c)) (map (λ p. p.over) all) (guards_of (length all) c)
   are_between = record {
     is_added = λ g h. let f = from_guards g h in let n = from_new c good.are_bound f.param f.is_new in subst (λ g. length c.params ≤ g.var) (sym f.is_guard) n.is_past;
-    is_below = λ g h. let f = from_guards g h in let n = from_new c good.are_bound f.param f.is_new in subst (λ g. g.var < length (all_params c)) (sym f.is_guard) (get_past (all_params c) f.param.var f.param n.is_at);
+    is_below = λ g h. let f = from_guards g h in let n = from_new c good.are_bound f.param f.is_new in subst (λ g. g.var < length (all_params c)) (sym f.is_guard) (slice_get_within (all_params c) f.param.var f.param n.is_at);
     is_of_type = λ g h. let f = from_guards g h in subst (λ g. slice_get (map (λ p. p.over) all) g.var ≡ Some g.over) (sym f.is_guard) (at_param f.param (from_new c good.are_bound f.param f.is_new));
     reads_before = λ g h. let f = from_guards g h in subst (λ g. ReadsOnly (before g.var) g.expr) (sym f.is_guard) (reads_old f.pair f.is_pair f.param (from_new c good.are_bound f.param f.is_new));
     one_each = λ g h i j e. same_guard g h (from_guards g i) (from_guards h j) e;

@@ -1,6 +1,10 @@
 -- An expression whose variables have other numbers has the same outcome where these numbers have the same values.
 use Rattle.std.proofs.Common.{◌≡◌, ℕ, zero, suc, ◌+◌, ◌-◌, ◌<◌, ◌≤◌, List, [], ◌∷◌, ◌++◌, map, take, length, refl, sym, ap, subst, ◌∙◌, ◌⊎◌, arith, inl, inr, Some, None, nat_eq}
 use Rattle.std.specs.List.{slice_get}
+use Rattle.std.proofs.lemmas.List.{length-append}
+use Rattle.std.proofs.lemmas.Bool.{cases_Bool}
+use Rattle.law_lists.proofs.Lists.{map_agree}
+use Rattle.law_lists.proofs.Places.{get_there}
 use Rattle.smv_core.specs.Values.{Value, number, Outcome, truth, bit, compare, equal, add, modulo, numbers_from, not_of, iff_of, conjunction, disjunction, implication}
 use Rattle.smv_core.specs.Outcome.{branch}
 use Rattle.smv_core.specs.FlatMeaning.{Numbered, FlatState, bind, values_in, flat_element_at, flat_outcome, flat_outcomes, flat_sum, flat_listed, flat_members}
@@ -8,18 +12,10 @@ use Rattle.smv_core.specs.declared.flat.FlatMember.{One, Span as SpanOf}
 use Rattle.smv_core.specs.declared.flat.FlatExpr.{FlatExpr, Number, Read', Var, Loop, Constant, Not', And', Or', Implies', Iff', Compare', Within', Sum', Modulo', Choose', All', Any', List', Each', Row_of-FlatExpr, end_of-FlatExpr, more_of-FlatExpr, Row_of-FlatMember, end_of-FlatMember, more_of-FlatMember, Row_of-FlatSigned, end_of-FlatSigned, more_of-FlatSigned}
 use Rattle.law_obligations.specs.Sets.{Has, first}
 use Rattle.law_obligations.proofs.Members.{Has-left, Has-right}
-use Rattle.law_obligations.proofs.OneOfEach.{joined_long, get_after}
-use Rattle.law_obligations.proofs.ScopesKeep.{map_alike}
-use Rattle.law_obligations.proofs.Tests.{true_or_false}
+use Rattle.law_obligations.proofs.OneOfEach.{get_after}
 use Rattle.law_splits.specs.Variables.{Reading, readings, readings_each, readings_signed, readings_members, renamed, renamed_each, renamed_signed, renamed_members, IsNumbered, AreNumbered, AreSignedNumbered, AreMembersNumbered}
 use Rattle.law_splits.proofs.Lists.{get_longer}
 use Rattle.law_splits.proofs.RenamedReads.{less_or_same}
-
--- a place within a list
-pub get_within : {X : Type 0} (xs : List X) (k : ℕ) → k < length xs → (x : X) × (slice_get xs k ≡ Some x)
-get_within [] k l = absurd (omega (arith, l))
-get_within (x ∷ xs) zero l = (x, refl)
-get_within (x ∷ xs) (suc k) l = get_within xs k (omega (arith, l))
 
 take_all : {X : Type 0} (xs : List X) (k : ℕ) → length xs ≡ k → take k xs ≡ xs
 take_all [] zero e = refl
@@ -47,17 +43,17 @@ module _ (n : Numbered) (s : FlatState) (width total : ℕ) (r : ℕ → ℕ) (i
         (subst (λ k. slice_get (c ++ x ∷ []) k ≡ slice_get (b ++ x ∷ []) m) h.other_long (get_after c [] x ∙ sym (subst (λ k. slice_get (b ++ x ∷ []) k ≡ Some x) h.long (get_after b [] x))))
     longer v (inr k) f =
         let e = h.long in
-        let w = get_within b v (omega (arith, k, e)) in
+        let w = get_there b v (omega (arith, k, e)) in
         get_longer c (x ∷ []) (r v) (h.alike v k f ∙ w.1) ∙ sym (get_longer b (x ∷ []) v w.1)
 
     other_longer : length (c ++ x ∷ []) ≡ r (suc m)
-    other_longer = let a = joined_long c (x ∷ []) in let e = h.other_long in let i = inner m l in let j = inner (suc m) (omega (arith, l)) in omega (arith, a, e, i, j, l)
+    other_longer = let a = length-append c (x ∷ []) in let e = h.other_long in let i = inner m l in let j = inner (suc m) (omega (arith, l)) in omega (arith, a, e, i, j, l)
 
     bound_alike : Alike (suc m) (bind b m x) (bind c (r m) x)
     bound_alike = subst (λ b. Alike (suc m) b (bind c (r m) x)) (sym (bind_is b m x h.long)) (subst (Alike (suc m) (b ++ x ∷ [])) (sym (bind_is c (r m) x h.other_long)) (record {
-      long = let a = joined_long b (x ∷ []) in let e = h.long in omega (arith, a, e);
+      long = let a = length-append b (x ∷ []) in let e = h.long in omega (arith, a, e);
       other_long = other_longer;
-      alike = λ v k f. longer v (less_or_same v m k (true_or_false (nat_eq v m))) f;
+      alike = λ v k f. longer v (less_or_same v m k (cases_Bool (nat_eq v m))) f;
     }))
 
   left : {xs : List Reading} (ys : List Reading) → AreFine (xs ++ ys) → AreFine xs
@@ -95,11 +91,11 @@ module _ (n : Numbered) (s : FlatState) (width total : ℕ) (r : ℕ → ℕ) (i
         ∙ ap (λ u. branch None (truth (flat_outcome n s test b)) (flat_outcome n s x b) u) (same y m b c l i.2 (right (readings test ++ readings x) f) h))
     same (All' shape (more_of-FlatExpr body end_of-FlatExpr) var over place) m b c l i f h =
         subst (λ k. flat_outcome n s (renamed r (All' shape (more_of-FlatExpr body end_of-FlatExpr) k over place)) c ≡ flat_outcome n s (All' shape (more_of-FlatExpr body end_of-FlatExpr) k over place) b) (sym i.0)
-        (ap (λ ts. bit (conjunction ts)) (map_alike (λ v. truth (flat_outcome n s (renamed r body) (bind c (r m) v))) (λ v. truth (flat_outcome n s body (bind b m v)))
+        (ap (λ ts. bit (conjunction ts)) (map_agree (λ v. truth (flat_outcome n s (renamed r body) (bind c (r m) v))) (λ v. truth (flat_outcome n s body (bind b m v)))
         (λ v. ap truth (same body (suc m) (bind b m v) (bind c (r m) v) (omega (arith, l)) i.1 f (bound_alike m b c l h v))) (values_in n over)))
     same (Any' shape (more_of-FlatExpr body end_of-FlatExpr) var over place) m b c l i f h =
         subst (λ k. flat_outcome n s (renamed r (Any' shape (more_of-FlatExpr body end_of-FlatExpr) k over place)) c ≡ flat_outcome n s (Any' shape (more_of-FlatExpr body end_of-FlatExpr) k over place) b) (sym i.0)
-        (ap (λ ts. bit (disjunction ts)) (map_alike (λ v. truth (flat_outcome n s (renamed r body) (bind c (r m) v))) (λ v. truth (flat_outcome n s body (bind b m v)))
+        (ap (λ ts. bit (disjunction ts)) (map_agree (λ v. truth (flat_outcome n s (renamed r body) (bind c (r m) v))) (λ v. truth (flat_outcome n s body (bind b m v)))
         (λ v. ap truth (same body (suc m) (bind b m v) (bind c (r m) v) (omega (arith, l)) i.1 f (bound_alike m b c l h v))) (values_in n over)))
     same (List' shape members place) m b c l i f h = refl
     same (Each' var over held place) m b c l i f h = refl

@@ -1,22 +1,19 @@
 -- What an expression reads whose variables have other numbers.
 use Rattle.std.proofs.Common.{◌≡◌, ℕ, suc, ◌+◌, ◌-◌, ◌<◌, ◌≤◌, List, ◌++◌, Bool, true, false, ◌&&◌, sym, subst, ◌⊎◌, inl, inr, arith, nat_eq, nat_lt}
-use Rattle.std.proofs.lemmas.Bool.{cases_lt}
+use Rattle.std.proofs.lemmas.Bool.{cases_lt, cases_Bool}
+use Rattle.law_lists.proofs.Numbers.{nat_eq-is, nat_lt-true, nat_eq-not}
+use Rattle.law_lists.proofs.Booleans.{either_left, either_right, and_both}
 use Rattle.smv_core.specs.declared.flat.FlatMember.{One, Span as SpanOf}
 use Rattle.smv_core.specs.declared.flat.FlatExpr.{FlatExpr, Number, Read', Var, Loop, Constant, Not', And', Or', Implies', Iff', Compare', Within', Sum', Modulo', Choose', All', Any', List', Each', Held-FlatExpr-Each-2, None', Some', Row_of-FlatExpr, end_of-FlatExpr, more_of-FlatExpr, Row_of-FlatMember, end_of-FlatMember, more_of-FlatMember, Row_of-FlatSigned, end_of-FlatSigned, more_of-FlatSigned}
 use Rattle.law_obligations.specs.Sets.{Has, first}
 use Rattle.law_obligations.specs.Scopes.{under, ReadsOnly, ReadOnly, ReadSigned, ReadMembers, ReadHeld}
 use Rattle.law_obligations.proofs.Members.{Has-left, Has-right}
-use Rattle.law_obligations.proofs.Tests.{or_left, or_right, and_both, true_or_false}
-use Rattle.law_obligations.proofs.Same.{nat_eq-itself, nat_eq-is}
+use Rattle.law_obligations.proofs.Same.{nat_eq-itself}
 use Rattle.law_splits.specs.Variables.{Reading, readings, readings_each, readings_signed, readings_members, readings_held, renamed, renamed_each, renamed_signed, renamed_members, renamed_held, IsNumbered, AreNumbered, AreSignedNumbered, AreMembersNumbered, IsHeldNumbered}
-use Rattle.law_splits.proofs.Lists.{is_less}
-
-differ : (a b : ℕ) → nat_eq a b ≡ false → a ≡ b → ⊥
-differ a b e h = grind arith
 
 pub less_or_same : (v m : ℕ) → v < suc m → (nat_eq v m ≡ true) ⊎ (nat_eq v m ≡ false) → (v ≡ m) ⊎ (v < m)
 less_or_same v m l (inl e) = inl (nat_eq-is v m e)
-less_or_same v m l (inr e) = inr (let d = differ v m e in omega (arith, l, d))
+less_or_same v m l (inr e) = inr (let d = nat_eq-not v m e in omega (arith, l, d))
 
 -- Variables below n stand for parameters below a count, the others for the variables from a total on.
 module _ (n count total : ℕ) (within : count ≤ total) (r : ℕ → ℕ) (inner : (v : ℕ) → n ≤ v → r v ≡ total + (v - n)) where
@@ -37,9 +34,9 @@ module _ (n count total : ℕ) (within : count ≤ total) (r : ℕ → ℕ) (inn
   ]
 
   under_reaches : (m : ℕ) (scope : ℕ → Bool) → n ≤ m → Reaches m scope → Reaches (suc m) (under (r m) scope)
-  under_reaches m scope l h v k f = elim (less_or_same v m k (true_or_false (nat_eq v m))) [
-    | inl e ↦ subst (λ w. under (r m) scope (r w) ≡ true) (sym e) (or_left (nat_lt (r m) (r m) && scope (r m)) (nat_eq-itself (r m)))
-    | inr low ↦ or_right (nat_eq (r v) (r m)) (and_both (is_less (r v) (r m) (below m v l low f)) (h v low f))
+  under_reaches m scope l h v k f = elim (less_or_same v m k (cases_Bool (nat_eq v m))) [
+    | inl e ↦ subst (λ w. under (r m) scope (r w) ≡ true) (sym e) (either_left (nat_lt (r m) (r m) && scope (r m)) (nat_eq-itself (r m)))
+    | inr low ↦ either_right (nat_eq (r v) (r m)) (and_both (nat_lt-true (r v) (r m) (below m v l low f)) (h v low f))
   ]
 
   left : {xs : List Reading} (ys : List Reading) → AreFine (xs ++ ys) → AreFine xs

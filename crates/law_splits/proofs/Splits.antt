@@ -1,6 +1,8 @@
 -- The leaves of a design without a fault of splits.
 use Rattle.std.proofs.Common.{◌≡◌, ℕ, suc, List, [], ◌∷◌, ◌++◌, map, zip, length, refl, sym, ap, subst, ◌∙◌, inl, inr, Option, Some, None}
 use Rattle.std.specs.List.{slice_get}
+use Rattle.std.proofs.lemmas.List.{map-append}
+use Rattle.law_lists.proofs.Lists.{length_map}
 use Rattle.smv_core.specs.declared.flat.Design.{Design}
 use Rattle.smv_core.specs.declared.flat.Simple.{Simple}
 use Rattle.smv_core.specs.declared.flat.Family.{Family}
@@ -15,7 +17,7 @@ use Rattle.law_obligations.specs.Sets.{Has, first, later}
 use Rattle.law_obligations.specs.Guards.{AreGuards}
 use Rattle.law_obligations.specs.Soundness.{FlatUnit, map_of, claim_of, over_of, params_of}
 use Rattle.law_obligations.proofs.Members.{Has-uncons, Has-from_map, Has-right}
-use Rattle.law_obligations.proofs.OneOfEach.{map_joined, map_long, get_Has}
+use Rattle.law_obligations.proofs.OneOfEach.{get_Has}
 use Rattle.law_obligations.specs.Outlines.{Entry, entries_of, names_of, as_map, as_claim, unit_in}
 use Rattle.law_obligations.specs.Units.{units_of, script_of}
 use Rattle.law_obligations.specs.Checked.{IsSplit}
@@ -74,10 +76,10 @@ module _ (d : Design) (read : IsRead d) where
         let indexes : (p : Param) → Has all p → IsIndex d p.over = indexes_after d own cuts follows good (own_indexes unit) in
         let guards = chain_guards d own cuts follows good all refl in
         let types = own_types d (unit_in d unit) in
-        let long : length own ≡ length (params_of (names_of d) (unit_in d unit)) = sym (map_long (λ p. p.over) own) ∙ ap length types in
+        let long : length own ≡ length (params_of (names_of d) (unit_in d unit)) = sym (length_map (λ p. p.over) own) ∙ ap length types in
         record {
           added = more.more;
-          are_types = ap (map (λ p. p.over)) more.is ∙ (map_joined (λ p. p.over) own more.more ∙ ap (λ ts. ts ++ map (λ p. p.over) more.more) types);
+          are_types = ap (map (λ p. p.over)) more.is ∙ (map-append (λ p. p.over) own more.more ∙ ap (λ ts. ts ++ map (λ p. p.over) more.more) types);
           are_indexes = indexes;
           added_indexes = λ p k. indexes p (subst (λ ps. Has ps p) (sym more.is) (Has-right own k));
           are_guards = subst (λ count. AreGuards count (map (λ p. p.over) all) (leaf_of d u (unit_in d unit)).guards) long guards;
@@ -115,7 +117,7 @@ is_split d read none choices entry h =
       are_guards = r.are_guards;
     }
 
-one_each : (d : Design) (u : ℕ) (units : List Unit) → length (leaves_from d u units) ≡ length units
+pub one_each : (d : Design) (u : ℕ) (units : List Unit) → length (leaves_from d u units) ≡ length units
 one_each d u [] = refl
 one_each d u (unit ∷ units) = ap suc (one_each d (suc u) units)
 

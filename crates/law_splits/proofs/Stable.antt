@@ -2,6 +2,7 @@
 use Rattle.std.proofs.Common.{◌≡◌, ℕ, zero, suc, ◌<◌, ◌≤◌, List, [], ◌∷◌, length, Bool, true, false, ◌&&◌, ◌||◌, cond, filter, refl, ap, ◌∙◌, ◌⊎◌, inl, inr, arith}
 use Rattle.std.specs.List.{list_any}
 use Rattle.std.specs.Str.{bytes_eq}
+use Rattle.law_lists.proofs.Lists.{filter_few}
 use Rattle.smv_core.specs.Values.{Name}
 use Rattle.smv_core.specs.declared.flat.Design.{Design}
 use Rattle.smv_core.specs.declared.flat.FlatSplit.{FlatSplit}
@@ -29,14 +30,6 @@ any-more {X} f g (x ∷ xs) each e = at (f x) (g x) (each x first) (any-more f g
     at false false here rest e = rest e
 
 -- ---- how many pass a test
-
-few : {X : Type 0} (f : X → Bool) (xs : List X) → length (filter f xs) ≤ length xs
-few f [] = omega arith
-few {X} f (x ∷ xs) = at (f x) (few f xs)
-  where
-    at : (b : Bool) → length (filter f xs) ≤ length xs → length (cond b (x ∷ filter f xs) (filter f xs)) ≤ suc (length xs)
-    at true l = omega (arith, l)
-    at false l = omega (arith, l)
 
 fewer : {X : Type 0} (f g : X → Bool) → ((x : X) → f x ≡ true → g x ≡ true) → (xs : List X) → length (filter f xs) ≤ length (filter g xs)
 fewer f g more [] = omega arith
@@ -75,7 +68,7 @@ all-pass {X} f (y ∷ xs) l x h = at (f y) refl l h (λ m. all-pass f xs m x)
   where
     at : (b : Bool) → f y ≡ b → suc (length xs) ≤ length (cond b (y ∷ filter f xs) (filter f xs)) → Has (y ∷ xs) x → (length xs ≤ length (filter f xs) → Has xs x → f x ≡ true) → f x ≡ true
     at true e l h rest = elim (Has-uncons h) [ inl q ↦ ap f q ∙ e | inr k ↦ rest (omega (arith, l)) k ]
-    at false e l h rest = absurd (let m = few f xs in omega (arith, l, m))
+    at false e l h rest = absurd (let m = filter_few f xs in omega (arith, l, m))
 
 -- ---- what leads to a unit
 

@@ -1,7 +1,9 @@
 -- What splits show of the parameters before them, by the types of these.
 use Rattle.std.proofs.Common.{◌≡◌, ℕ, zero, suc, List, [], ◌∷◌, ◌++◌, map, length, refl, ap, sym, ◌∙◌}
 use Rattle.std.specs.List.{flat_map, slice_get}
-use Rattle.std.proofs.lemmas.List.{append_assoc, map-append, length-map}
+use Rattle.std.proofs.lemmas.List.{map-append, length-map}
+use Rattle.std.proofs.lemmas.List.Concat.{flat_map-append}
+use Rattle.law_lists.proofs.Lists.{append_same}
 use Rattle.smv_core.specs.Values.{Name}
 use Rattle.smv_core.specs.declared.tree.Word.{Word}
 use Rattle.smv_core.specs.declared.flat.Simple.{Simple}
@@ -17,17 +19,10 @@ use Rattle.law_splits.specs.SplitFaults.{miscounted, mismatches, cuts}
 use Rattle.law_splits.specs.SplitFaults as spec
 use Rattle.law_splits.specs.Chains.{types_of, new_types, other_types, mismatches_by, from_split, shown, unit_types, TypesTell}
 
-joins : {X : Type 0} {a b c e : List X} → a ≡ c → b ≡ e → a ++ b ≡ c ++ e
-joins p q = cc
-
-each-append : {X Y : Type 0} (f : X → List Y) (xs ys : List X) → flat_map f (xs ++ ys) ≡ flat_map f xs ++ flat_map f ys
-each-append f [] ys = refl
-each-append f (x ∷ xs) ys = ap (λ l. f x ++ l) (each-append f xs ys) ∙ sym (append_assoc (f x) (flat_map f xs) (flat_map f ys))
-
 -- what is made of each of what is made of each
 pub each-each : {X Y Z : Type 0} (g : Y → List Z) (f : X → List Y) (h : X → List Z) → ((x : X) → flat_map g (f x) ≡ h x) → (xs : List X) → flat_map g (flat_map f xs) ≡ flat_map h xs
 each-each g f h same [] = refl
-each-each g f h same (x ∷ xs) = each-append g (f x) (flat_map f xs) ∙ joins (same x) (each-each g f h same xs)
+each-each g f h same (x ∷ xs) = flat_map-append g (f x) (flat_map f xs) ∙ append_same (same x) (each-each g f h same xs)
 
 types-numbered : (k : ℕ) (params : List Param) → types_of (numbered k params) ≡ types_of params
 types-numbered k [] = refl
@@ -52,17 +47,17 @@ others params s = on s.of.names params
     on : (words : List Word) (params : List Param) → spec.other_type (cut params (record s { of = record s.of { names = words } })) ≡ other_types s.bound words (types_of params)
     on [] params = refl
     on (word ∷ words) [] = refl
-    on (word ∷ words) (p ∷ params) = joins refl (on words params)
+    on (word ∷ words) (p ∷ params) = append_same refl (on words params)
 
 mismatches-are : (params : List Param) (s : FlatSplit) → mismatches (cut params s) ≡ mismatches_by s (types_of params)
-mismatches-are params s = joins (ap (λ n. miscounted n s.of.names) (sym (length-map params (λ (p : Param). p.over)))) (others params s)
+mismatches-are params s = append_same (ap (λ n. miscounted n s.of.names) (sym (length-map params (λ (p : Param). p.over)))) (others params s)
 
 module _ (d : Design) where
   shown-are : (n : ℕ) (name : Name) (params : List Param) → flat_map mismatches (cuts d n name params) ≡ shown d n name (types_of params)
   shown-are zero name params = refl
   shown-are (suc n) name params =
       each-each mismatches (onward (cuts d n) params) (from_split (shown d n) (types_of params))
-      (λ s. joins (mismatches-are params s) (shown-are n s.name (all_params (cut params s)) ∙ ap (shown d n s.name) (types-all params s))) (splits_of d name)
+      (λ s. append_same (mismatches-are params s) (shown-are n s.name (all_params (cut params s)) ∙ ap (shown d n s.name) (types-all params s))) (splits_of d name)
 
   own-types : (unit : FlatUnit) → types_of (own_params d unit) ≡ unit_types d unit
   own-types (map_of def) = types-numbered 0 (map nameless (over_of (slice_get d.families def.family))) ∙ types-nameless (over_of (slice_get d.families def.family))

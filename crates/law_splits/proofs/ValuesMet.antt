@@ -1,6 +1,7 @@
 -- Values of the parameters that splits add, at which all guards of a leaf hold.
-use Rattle.std.proofs.Common.{◌+◌, ◌-◌, ◌<◌, ◌≤◌, List, ◌++◌, map, length, Bool, true, false, sym, subst, arith}
-use Rattle.smv_core.specs.Values.{Name, Value, number, scalar, ordinal, Sizes, values_of}
+use Rattle.std.proofs.Common.{◌+◌, ◌-◌, ◌≤◌, List, ◌++◌, map, length, sym, subst, arith}
+use Rattle.std.proofs.lemmas.List.{map-append}
+use Rattle.smv_core.specs.Values.{Value, number, Sizes, values_of}
 use Rattle.smv_core.specs.FlatMeaning.{Numbered, values_in, set_type}
 use Rattle.smv_core.specs.declared.flat.Design.{Design}
 use Rattle.smv_core.specs.declared.flat.Simple.{Simple}
@@ -11,17 +12,12 @@ use Rattle.law_obligations.specs.Guards.{AreGuards}
 use Rattle.law_obligations.specs.Soundness.{at_sizes, AreSizes, params_of, values_over, HasValue}
 use Rattle.law_obligations.proofs.Members.{Has-map, Has-from_map}
 use Rattle.law_obligations.proofs.Spots.{Has-numbers}
-use Rattle.law_obligations.proofs.OneOfEach.{are_of, one_of, are_joined, map_joined, get_Has}
-use Rattle.law_obligations.proofs.CoverScalarsets.{named_set}
+use Rattle.law_obligations.proofs.OneOfEach.{are_of, one_of, are_joined, get_Has}
 use Rattle.law_obligations.proofs.GuardsChosen.{guards_met}
 use Rattle.law_obligations.specs.Outlines.{names_of, unit_in}
+use Rattle.law_obligations.proofs.Plans.{set_value}
 use Rattle.law_splits.specs.SplitLaws.{IsIndex, GuardsAreMet}
 use Rattle.law_splits.proofs.Splits.{leaf_of_unit}
-
--- the types of parameters have values
-set_value : (sizes : Sizes) (is_ordered : Bool) (name : Name) → 0 < sizes name → (v : Value) × Has (values_of sizes (named_set is_ordered name)) v
-set_value sizes true name l = (ordinal name 0, Has-map (ordinal name) (Has-numbers 0 (sizes name) 0 (omega arith) (omega (arith, l))))
-set_value sizes false name l = (scalar name 0, Has-map (scalar name) (Has-numbers 0 (sizes name) 0 (omega arith) (omega (arith, l))))
 
 index_value : (d : Design) (sizes : Sizes) → AreSizes (names_of d) sizes → (t : Simple) → IsIndex d t → HasValue (at_sizes (names_of d) sizes) t
 index_value d sizes each (Range low high) i = let l : low ≤ high = i.is_filled in (number low, Has-map number (Has-numbers low (high + 1 - low) low (omega arith) (omega (arith, l))))
@@ -31,7 +27,7 @@ index_value d sizes each (Set set) i =
 
 -- values of the first types, and then of the others
 joined : (n : Numbered) (own added : List Simple) (values more : List Value) → Has (values_over n own) values → Has (values_over n added) more → Has (values_over n (own ++ added)) (values ++ more)
-joined n own added values more h k = subst (λ xss. Has (one_of_each xss) (values ++ more)) (sym (map_joined (values_in n) own added))
+joined n own added values more h k = subst (λ xss. Has (one_of_each xss) (values ++ more)) (sym (map-append (values_in n) own added))
     (one_of (map (values_in n) own ++ map (values_in n) added) (values ++ more)
     (are_joined (map (values_in n) own) (map (values_in n) added) values more (are_of (map (values_in n) own) values h) (are_of (map (values_in n) added) more k)))
 

@@ -3,6 +3,9 @@ use Rattle.std.proofs.Common.{◌≡◌, ℕ, suc, ◌+◌, ◌<◌, ◌⊎◌, 
 use Rattle.std.proofs.lemmas.Bool.Decides.{nat_tests}
 use Rattle.std.specs.List.{flat_map, slice_get}
 use Rattle.std.specs.Prelude.{slice_index_or}
+use Rattle.std.proofs.lemmas.Option.{slice_get_within}
+use Rattle.law_lists.proofs.Numbers.{nat_eq-is}
+use Rattle.law_lists.proofs.Booleans.{same_tests}
 use Rattle.smv_core.specs.Values.{number, numbers_from}
 use Rattle.smv_core.specs.declared.flat.Family.{Family}
 use Rattle.smv_core.specs.declared.flat.Def.{Def}
@@ -12,23 +15,19 @@ use Rattle.smv_core.specs.declared.flat.Assumed.{Assumed}
 use Rattle.law_obligations.specs.Sets.{Has, first, later}
 use Rattle.law_obligations.specs.Places.{named}
 use Rattle.law_obligations.specs.Soundness.{FlatUnit, map_of, claim_of}
-use Rattle.law_obligations.proofs.Tests.{same_tests}
-use Rattle.law_obligations.proofs.Members.{Has-cases, Has-uncons, any-found, any-some}
-use Rattle.law_obligations.proofs.Same.{nat_eq-itself, nat_eq-is}
+use Rattle.law_obligations.proofs.Members.{Has-uncons, any-found, any-some}
+use Rattle.law_obligations.proofs.Same.{nat_eq-itself}
 use Rattle.law_obligations.proofs.Spots.{Has-numbers}
-use Rattle.law_obligations.proofs.OneOfEach.{get_past, Has-from_flat_map}
+use Rattle.law_obligations.proofs.OneOfEach.{Has-from_flat_map}
 use Rattle.law_obligations.proofs.CoverLists.{length-numbers}
 use Rattle.law_obligations.specs.Reached.{IsLeast}
 use Rattle.law_obligations.specs.Outlines.{Entry, Outline, unit_in, claim_unit, assumed, chosen}
 use Rattle.law_obligations.specs.Times.{is_member, if_there, families_read, families_of_part, families_at_once, is_unit, families_assumed, families_of_unit, first_families, next_families, same_time}
-use Rattle.law_obligations.proofs.ReadsWithin.{reads_within, part_within}
+use Rattle.law_obligations.proofs.ReadsWithin.{reads_within, part_within, either}
 use Rattle.graph_search.specs.Walks.{Walk, here, step}
 use Rattle.law_use_times.specs.Found.{nodes_of, IsFound}
 use Rattle.law_use_times.proofs.Lists.{Contains-Has}
 use Rattle.law_use_times.proofs.Turns.{reached_with_one_less}
-
-either : {X : Type 0} {P : Type 0} (xs ys : List X) {y : X} → Has (xs ++ ys) y → (Has xs y → P) → (Has ys y → P) → P
-either xs ys h f g = elim (Has-cases xs ys h) [ inl l ↦ f l | inr r ↦ g r ]
 
 module _ (fs : List Family) where
   abbrev below : ℕ → Type 0
@@ -37,7 +36,7 @@ module _ (fs : List Family) where
   there_within : (family k : ℕ) (of : Option Family) → slice_get fs family ≡ of → Has (if_there family of) k → below k
   there_within family k None e h = elim h [ ]
   there_within family k (Some f) e h = elim (Has-uncons h) [
-    | inl i ↦ let l = get_past fs family f e in omega (arith, l, i)
+    | inl i ↦ let l = slice_get_within fs family f e in omega (arith, l, i)
     | inr n ↦ elim n [ ]
   ]
 

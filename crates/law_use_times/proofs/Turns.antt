@@ -1,16 +1,15 @@
 -- One turn more than there are families changes nothing: what is reached is then all that can be.
 use Rattle.std.proofs.Common.{◌≡◌, ℕ, zero, suc, ◌+◌, ◌<◌, ◌≤◌, List, [], ◌∷◌, ◌++◌, length, Bool, true, false, if◌then◌else◌, not, cond, filter, refl, sym, ap, subst, ◌∙◌, ◌⊎◌, inl, inr, Option, Some, None, arith}
 use Rattle.std.specs.List.{slice_get}
+use Rattle.std.proofs.lemmas.Option.{slice_get_within}
+use Rattle.std.proofs.lemmas.Bool.{cases_Bool}
+use Rattle.law_lists.proofs.Booleans.{clash}
 use Rattle.law_obligations.specs.Sets.{Has, first, later}
-use Rattle.law_obligations.proofs.Tests.{true_or_false}
 use Rattle.law_obligations.proofs.Members.{Has-uncons, Has-cases, any-found, any-some}
-use Rattle.law_obligations.proofs.OneOfEach.{get_past, get_Has}
+use Rattle.law_obligations.proofs.OneOfEach.{get_Has}
 use Rattle.law_obligations.specs.Reached.{is_among, with_all, following, in_turn, reached, IsLeast}
 use Rattle.law_obligations.proofs.Lookups.{Has-filter}
 use Rattle.law_obligations.proofs.Least.{reached_is_least}
-
-clash : {b : Bool} → b ≡ true → b ≡ false → ⊥
-clash p q = cc
 
 -- no member twice
 abbrev AreOnce : {X : Type 0} → List X → Type 0
@@ -36,7 +35,7 @@ module _ {X : Type 0} (same : X → X → Bool) (equal : (x y : X) → same x y 
 
   fewer : (x : X) (ys : List X) → Has ys x → length (without x ys) < length ys
   fewer x [] h = elim h [ ]
-  fewer x (y ∷ ys) h = elim (true_or_false (same x y)) [
+  fewer x (y ∷ ys) h = elim (cases_Bool (same x y)) [
     | inl e ↦ rw e (let l = few (λ y. not (same x y)) ys in omega (arith, l))
     | inr e ↦ rw e (let l = fewer x ys (elim (Has-uncons h) [ inl i ↦ absurd (clash (subst (λ z. same x z ≡ true) i (itself x)) e) | inr k ↦ k ]) in omega (arith, l))
   ]
@@ -62,7 +61,7 @@ module _ {X : Type 0} (same : X → X → Bool) (equal : (x y : X) → same x y 
 
   -- and where it is as long, it has all of them
   full : (xs ys : List X) → AreOnce xs → ((x : X) → Has xs x → Has ys x) → length ys ≤ length xs → (y : X) → Has ys y → Has xs y
-  full xs ys o h long y k = at (true_or_false (is_among same (λ z. []) xs y))
+  full xs ys o h long y k = at (cases_Bool (is_among same (λ z. []) xs y))
     where
       at : (is_among same (λ z. []) xs y ≡ true) ⊎ (is_among same (λ z. []) xs y ≡ false) → Has xs y
       at (inl e) = has_if xs y e
@@ -128,7 +127,7 @@ module _ {X : Type 0} (same : X → X → Bool) (equal : (x y : X) → same x y 
         no_more : (o : Option X) → slice_get (reached same next count from) (count + 0) ≡ o → with_all same next (reached same next count from) (following same next o) ≡ reached same next count from
         no_more None e = refl
         no_more (Some x) e =
-            let l = get_past (reached same next count from) (count + 0) x e in
+            let l = slice_get_within (reached same next count from) (count + 0) x e in
             nothing_new (reached same next count from) (next x)
             (λ y h. full (reached same next count from) every (turns_once count 0 (with_all same next [] from) (with_all-once [] from tt)) inside (omega (arith, l, long)) y
             (closed x y (inside x (get_Has (reached same next count from) (count + 0) x e)) h))

@@ -2,11 +2,13 @@
 use Rattle.std.proofs.Common.{◌≡◌, ℕ, zero, suc, ◌<◌, ◌↔◌, ◌≤◌, List, [], length, get_or, Bool, true, not, ◌&&◌, ◌||◌, ap, sym, subst, ◌∙◌, ◌⊎◌, inl, inr, Some, nat_eq, nat_lt, arith}
 use Rattle.std.specs.List.{Contains}
 use Rattle.std.proofs.lemmas.List.{get_or_past}
+use Rattle.std.proofs.lemmas.Bool.{or_cases}
+use Rattle.law_lists.proofs.Numbers.{nat_eq-is}
+use Rattle.law_lists.proofs.Booleans.{either_left, either_right, and_both, left_of, right_of, same_tests}
 use Rattle.law_obligations.specs.Sets.{Has}
 use Rattle.law_obligations.specs.Uses.{reaches_through}
-use Rattle.law_obligations.proofs.Tests.{or_left, or_right, or_cases, and_both, left_of, right_of, same_tests}
 use Rattle.law_obligations.proofs.Members.{any-found, any-some}
-use Rattle.law_obligations.proofs.Same.{nat_eq-itself, nat_eq-is}
+use Rattle.law_obligations.proofs.Same.{nat_eq-itself}
 use Rattle.law_obligations.specs.Times.{is_member, has_edge, time_of, unit_time}
 use Rattle.graph_search.specs.Walks.{Walk, here, step}
 use Rattle.graph_search.specs.Reverse.{after, IsGraph}
@@ -16,12 +18,12 @@ use Rattle.law_use_times.proofs.Lists.{Contains-Has, Has-Contains}
 -- along any edges
 module _ (edge : ℕ → ℕ → Bool) where
   by_edge : (k u v : ℕ) → edge u v ≡ true → reaches_through edge k u v ≡ true
-  by_edge zero u v e = or_right (nat_eq u v) e
-  by_edge (suc k) u v e = or_left _ (by_edge k u v e)
+  by_edge zero u v e = either_right (nat_eq u v) e
+  by_edge (suc k) u v e = either_left _ (by_edge k u v e)
 
   itself : (k u : ℕ) → reaches_through edge k u u ≡ true
-  itself zero u = or_left (edge u u) (nat_eq-itself u)
-  itself (suc k) u = or_left _ (itself k u)
+  itself zero u = either_left (edge u u) (nat_eq-itself u)
+  itself (suc k) u = either_left _ (itself k u)
 
   to_last : (k u : ℕ) → reaches_through edge (suc k) u k ≡ true → reaches_through edge k u k ≡ true
   to_last k u e = elim (or_cases (reaches_through edge k u k) _ e) [ inl p ↦ p | inr p ↦ left_of _ _ p ]
@@ -32,16 +34,16 @@ module _ (edge : ℕ → ℕ → Bool) where
   joined : (k u m v : ℕ) → m < k → reaches_through edge k u m ≡ true → reaches_through edge k m v ≡ true → reaches_through edge k u v ≡ true
   joined zero u m v l p q = absurd (omega arith)
   joined (suc k) u m v l p q = elim (last_or_below m k l) [
-    | inl e ↦ or_right (reaches_through edge k u v)
+    | inl e ↦ either_right (reaches_through edge k u v)
         (and_both (to_last k u (subst (λ z. reaches_through edge (suc k) u z ≡ true) e p)) (from_last k v (subst (λ z. reaches_through edge (suc k) z v ≡ true) e q)))
     | inr b ↦ elim (or_cases (reaches_through edge k u m) _ p) [
       | inl p1 ↦ elim (or_cases (reaches_through edge k m v) _ q) [
-        | inl q1 ↦ or_left _ (joined k u m v b p1 q1)
-        | inr q2 ↦ or_right (reaches_through edge k u v) (and_both (joined k u m k b p1 (left_of _ _ q2)) (right_of (reaches_through edge k m k) _ q2))
+        | inl q1 ↦ either_left _ (joined k u m v b p1 q1)
+        | inr q2 ↦ either_right (reaches_through edge k u v) (and_both (joined k u m k b p1 (left_of _ _ q2)) (right_of (reaches_through edge k m k) _ q2))
       ]
       | inr p2 ↦ elim (or_cases (reaches_through edge k m v) _ q) [
-        | inl q1 ↦ or_right (reaches_through edge k u v) (and_both (left_of _ _ p2) (joined k k m v b (right_of (reaches_through edge k u k) _ p2) q1))
-        | inr q2 ↦ or_right (reaches_through edge k u v) (and_both (left_of _ _ p2) (right_of (reaches_through edge k m k) _ q2))
+        | inl q1 ↦ either_right (reaches_through edge k u v) (and_both (left_of _ _ p2) (joined k k m v b (right_of (reaches_through edge k u k) _ p2) q1))
+        | inr q2 ↦ either_right (reaches_through edge k u v) (and_both (left_of _ _ p2) (right_of (reaches_through edge k m k) _ q2))
       ]
     ]
   ]

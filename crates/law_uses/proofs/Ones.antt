@@ -1,6 +1,7 @@
 -- Where a design has no fault of uses, choices name each family and claim once.
 use Rattle.std.proofs.Common.{◌≡◌, ℕ, List, [], ◌∷◌, ◌++◌, map, Bool, true, false, not, refl, sym, ap, subst, ◌∙◌, Option, Some, None, filter, find, cond, nat_eq}
 use Rattle.std.specs.Option.{option_to_list}
+use Rattle.law_lists.proofs.Lists.{filter-map}
 use Rattle.smv_core.specs.declared.fault.Fault.{Fault}
 use Rattle.smv_mentions.specs.FirstFault.{faults_at}
 use Rattle.smv_core.specs.declared.tree.Ref.{Ref}
@@ -35,14 +36,6 @@ find_there {X} p (behind {y = y} {xs = xs} h) e = at (p y) (find_there p h e)
     at true r = (y, refl)
     at false r = r
 
-filter_map : {X Y : Type 0} (p : Y → Bool) (f : X → Y) (xs : List X) → filter p (map f xs) ≡ map f (filter (λ x. p (f x)) xs)
-filter_map p f [] = refl
-filter_map {X} {Y} p f (x ∷ xs) = at (p (f x)) (filter_map p f xs)
-  where
-    at : (b : Bool) → filter p (map f xs) ≡ map f (filter (λ x. p (f x)) xs) → cond b (f x ∷ filter p (map f xs)) (filter p (map f xs)) ≡ map f (cond b (x ∷ filter (λ x. p (f x)) xs) (filter (λ x. p (f x)) xs))
-    at true e = ap (λ ys. f x ∷ ys) e
-    at false e = e
-
 map_joined : {X Y : Type 0} (f : X → Y) (xs ys : List X) → map f xs ++ map f ys ≡ map f (xs ++ ys)
 map_joined f [] ys = refl
 map_joined f (x ∷ xs) ys = ap (λ zs. f x ∷ zs) (map_joined f xs ys)
@@ -50,7 +43,7 @@ map_joined f (x ∷ xs) ys = ap (λ zs. f x ∷ zs) (map_joined f xs ys)
 later_map : {X Y : Type 0} (clash : Y → Y → Bool) (f : X → Y) (xs : List X) → later clash (map f xs) ≡ map f (later (λ a b. clash (f a) (f b)) xs)
 later_map clash f [] = refl
 later_map clash f (x ∷ xs) =
-    ap (λ ys. ys ++ later clash (map f xs)) (filter_map (clash (f x)) f xs)
+    ap (λ ys. ys ++ later clash (map f xs)) (filter-map (clash (f x)) f xs)
     ∙ (ap (λ ys. map f (filter (λ b. clash (f x) (f b)) xs) ++ ys) (later_map clash f xs)
     ∙ map_joined f (filter (λ b. clash (f x) (f b)) xs) (later (λ a b. clash (f a) (f b)) xs))
 
@@ -96,7 +89,7 @@ module _ (d : Design) (none : faults_of_uses d ≡ []) where
         Has-flat_map (λ of. option_to_list (leaf_named (leaves_of d) of)) is_proved (subst (λ o. Has (option_to_list o) leaf) (sym (only proof.of leaf h f.1)) first) in
         let own = own_map d (units_of d) leaf in
         record {
-          picks = ap (later (λ (p q : Pick). nat_eq p.family q.family)) (filter_map (λ p. not (is_own own p)) (λ (x : ℕ × Pick). x.1) (picks_in d proof.using.uses))
+          picks = ap (later (λ (p q : Pick). nat_eq p.family q.family)) (filter-map (λ p. not (is_own own p)) (λ (x : ℕ × Pick). x.1) (picks_in d proof.using.uses))
               ∙ (later_map (λ (p q : Pick). nat_eq p.family q.family) (λ (x : ℕ × Pick). x.1) (filter (λ x. not (is_own own x.1)) (picks_in d proof.using.uses))
               ∙ ap (map (λ (x : ℕ × Pick). x.1)) (none_there (chosen_again d (units_of d) (leaves_of d) proof.using leaf) (no_pick proof.using is_used leaf is_leaf)));
           claims = later_map (λ (a b : Assumed). nat_eq a.claim b.claim) (λ (x : ℕ × Assumed). x.1) (assumed_in d proof.using.uses)

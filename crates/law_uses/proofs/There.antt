@@ -2,6 +2,9 @@
 use Rattle.std.proofs.Common.{◌≡◌, ℕ, map, Bool, true, false, not, refl, sym, subst, inl, inr, Option, Some, None, option_map, if◌then◌else◌, find}
 use Rattle.std.specs.List.{slice_get}
 use Rattle.std.specs.Option.{option_to_list}
+use Rattle.std.proofs.lemmas.Bool.{not-true}
+use Rattle.law_lists.proofs.Options.{some_is}
+use Rattle.law_lists.proofs.Lists.{length_map}
 use Rattle.smv_core.specs.Values.{Name}
 use Rattle.smv_core.specs.declared.tree.Word.{Word}
 use Rattle.smv_core.specs.declared.tree.Ref.{Ref}
@@ -16,10 +19,9 @@ use Rattle.smv_core.specs.declared.flat.Assumed.{Assumed}
 use Rattle.smv_core.specs.declared.flat.Keep.{Keep}
 use Rattle.law_obligations.specs.Sets.{Has}
 use Rattle.law_obligations.proofs.Members.{Has-from_map, Has-uncons}
-use Rattle.law_obligations.proofs.Tests.{not_true}
-use Rattle.law_obligations.proofs.OneOfEach.{Has-from_flat_map, map_long}
+use Rattle.law_obligations.proofs.OneOfEach.{Has-from_flat_map}
 use Rattle.law_obligations.specs.Units.{units_of}
-use Rattle.law_obligations.proofs.Lookups.{inner, Has-option, Has-from_filter}
+use Rattle.law_obligations.proofs.Lookups.{Has-option, Has-from_filter}
 use Rattle.law_splits.specs.Leaves.{leaves_of}
 use Rattle.law_uses.specs.declared.meaning.Meaning.{Meaning}
 use Rattle.law_uses.specs.declared.meaning.Meaning.TheVariants as means
@@ -29,7 +31,7 @@ use Rattle.law_uses.specs.Laws.{OneChoiceEach, ChoicesAreThere, OwnIsNoPick, IsT
 use Rattle.law_uses.proofs.Named.{named_there}
 
 pub one_choice_each : OneChoiceEach
-one_choice_each d = map_long (choice_of d (units_of d)) (leaves_of d)
+one_choice_each d = length_map (choice_of d (units_of d)) (leaves_of d)
 
 module _ (d : Design) where
   -- what a meaning names is there
@@ -43,17 +45,17 @@ module _ (d : Design) where
   free_meant : (name : Name) (o : Option ℕ) → family_named d name ≡ o → (m : Meaning) → option_map (λ family. means.Definition family None) o ≡ Some m → IsMeant m
   unfolding IsMeant
   free_meant name None e m i = absurd (cc)
-  free_meant name (Some k) e m i = subst IsMeant (inner i) (family_there name k e, λ layer j. absurd (cc))
+  free_meant name (Some k) e m i = subst IsMeant (some_is i) (family_there name k e, λ layer j. absurd (cc))
 
   claim_meant : (name : Name) (o : Option ℕ) → claim_named d name ≡ o → (m : Meaning) → option_map means.Claim o ≡ Some m → IsMeant m
   unfolding IsMeant
   claim_meant name None e m i = absurd (cc)
-  claim_meant name (Some k) e m i = subst IsMeant (inner i) (named_there (λ (c : Claim). c.name) d.claims name k e)
+  claim_meant name (Some k) e m i = subst IsMeant (some_is i) (named_there (λ (c : Claim). c.name) d.claims name k e)
 
   defined_meant : (name : Name) (family layer : ℕ) → family_named d name ≡ Some family → (b : Bool) → is_defined_in d layer family ≡ b →
       (m : Meaning) → (if b then Some (means.Definition family (Some layer)) else None) ≡ Some m → IsMeant m
   unfolding IsMeant
-  defined_meant name family layer e true f m i = subst IsMeant (inner i) (family_there name family e, λ k j. subst (λ l. is_defined_in d l family ≡ true) (inner j) f)
+  defined_meant name family layer e true f m i = subst IsMeant (some_is i) (family_there name family e, λ k j. subst (λ l. is_defined_in d l family ≡ true) (some_is j) f)
   defined_meant name family layer e false f m i = absurd (cc)
 
   layer_meant : (name : Name) (o l : Option ℕ) → family_named d name ≡ o → (m : Meaning) → definition_in d o l ≡ Some m → IsMeant m
@@ -138,5 +140,5 @@ own_is_no_pick d leaf p h = at (find (λ proof. names_leaf proof.of leaf) (proof
   where
     at : (o : Option Proof) → Has (choice_by d (units_of d) leaf o).picks p → is_own (own_map d (units_of d) leaf) p ≡ false
     at None h = elim h [ ]
-    at (Some proof) h = not_true (is_own (own_map d (units_of d) leaf) p)
+    at (Some proof) h = not-true (is_own (own_map d (units_of d) leaf) p)
         (Has-from_filter (λ p. not (is_own (own_map d (units_of d) leaf) p)) (map (λ x. x.1) (picks_in d proof.using.uses)) h).1

@@ -16,7 +16,7 @@ use Rattle.law_valid_texts.specs.Joined.{flat_design}
 use Rattle.law_valid_texts.specs.Faults.{faults_of_cases}
 
 -- Some tokens spell the text, and no pass up to cases finds a fault in it: of names, size and kinds, of single assignment, of loops and layers, of set types, of splits,
--- of uses, and of the parameters and cases of a leaf.
+-- of uses, and of the parameters and cases of a leaf. It says nothing of state bits (30).
 pub record IsFaultless (tree : Text) : Type 0 where
   pub kinds : IsWellKinded tree
   pub single : first_fault_of_single (flatten tree) ≡ None

@@ -53,5 +53,6 @@ faults_by_pass tree =
     ∷ first_of (faults_of_widths (flat_design tree))
     ∷ []
 
+-- the first fault of a tree, of all passes in their order
 unfoldable pub pass_fault : Text → Option Fault
 pass_fault tree = first_there (faults_by_pass tree)

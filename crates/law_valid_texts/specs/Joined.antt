@@ -1,4 +1,4 @@
--- What a search says of a text.
+-- The design of a text, what soundness asks of it, and what a search says of it.
 use Rattle.std.specs.Prelude.{◌≡◌, ℕ, List, [], length, None}
 use Rattle.smv_core.specs.Sound.{IsSound}
 use Rattle.smv_core.specs.declared.tree.Text.{Text}
@@ -27,8 +27,9 @@ flat_design text = design_of_flat_text (flatten text)
 abbrev pub script_with : Text → List Choice → Script
 script_with text choices = script_of (flat_design text) (leaves_of (flat_design text)) choices
 
--- what the passes say of a text that none of them refuses
-pub record Passes (text : Text) : Type 0 where
+-- What soundness asks of a tree: some tokens spell it, and no pass finds a fault of names, size and kinds (7 to 14, 25), of single assignment (15 to 17), of loops and layers (18 to 20)
+-- or of splits (23, 24). It asks nothing of set types (21, 22), uses (26 to 28), cases (29) and state bits (30).
+pub record IsFitForProof (text : Text) : Type 0 where
   pub kinds : IsWellKinded text
   pub single : first_fault_of_single (flatten text) ≡ None
   pub design : first_fault_of_design (flat_design text) ≡ None
@@ -38,12 +39,12 @@ pub record Passes (text : Text) : Type 0 where
 abbrev pub WellKindedAreReady : Type 0
 WellKindedAreReady = (text : Text) → IsWellKinded text → IsRead (flat_design text) × HaveValues (flat_design text)
 
--- a text of which every unit is true, whatever the choices are and whatever the budgets, is sound
+-- a text that is fit for proof, and of which every unit is true, whatever the choices are and whatever the budgets, is sound
 abbrev pub TrueTextsAreSound : Type 0
-TrueTextsAreSound = (text : Text) → Passes text → (choices : List Choice) → length choices ≡ length (units_of (flat_design text)) →
-    (nodes images : ℕ) (verdicts : List LeafVerdict) → AreVerdicts (script_with text choices) nodes images verdicts → AllTrue verdicts → IsSound text
+TrueTextsAreSound = (text : Text) → IsFitForProof text → (choices : List Choice) → length choices ≡ length (units_of (flat_design text)) →
+    (nodes steps : ℕ) (verdicts : List LeafVerdict) → AreVerdicts (script_with text choices) nodes steps verdicts → AllTrue verdicts → IsSound text
 
 -- so is one of which a right report says that every unit is true
 abbrev pub TrueReportsAreSound : Type 0
-TrueReportsAreSound = (text : Text) → Passes text → (choices : List Choice) → length choices ≡ length (units_of (flat_design text)) →
-    (nodes images : ℕ) (report : Report) → IsReportOf (script_with text choices) nodes images report → AllTrueUnits report.units → IsSound text
+TrueReportsAreSound = (text : Text) → IsFitForProof text → (choices : List Choice) → length choices ≡ length (units_of (flat_design text)) →
+    (nodes steps : ℕ) (report : Report) → IsReportOf (script_with text choices) nodes steps report → AllTrueUnits report.units → IsSound text

@@ -3,7 +3,7 @@ use Rattle.std.specs.Prelude.{◌≡◌, ℕ, List}
 use Rattle.smv_core.specs.declared.tree.Text.{Text}
 use Rattle.smv_problem.specs.declared.report.Report.{Report}
 use Rattle.law_reports.specs.Reports.{told_of, AllTrueUnits}
-use Rattle.law_valid_texts.specs.Joined.{Passes}
+use Rattle.law_valid_texts.specs.Joined.{IsFitForProof}
 use Rattle.law_valid_texts.specs.Plans.{IsTree}
 use Rattle.law_valid_texts.specs.Reports.{IsValid, IsSoundDesign, IsRightReport, IsUnitReport, HasNoUnit}
 
@@ -11,9 +11,9 @@ use Rattle.law_valid_texts.specs.Reports.{IsValid, IsSoundDesign, IsRightReport,
 abbrev pub OneTree : Type 0
 OneTree = (text : List ℕ) (tree other : Text) → IsTree text tree → IsTree text other → tree ≡ other
 
--- a valid text is as the laws of reports ask
+-- a valid text is fit for proof
 abbrev pub ValidTextsPass : Type 0
-ValidTextsPass = (text : List ℕ) (tree : Text) → IsValid text tree → Passes tree
+ValidTextsPass = (text : List ℕ) (tree : Text) → IsValid text tree → IsFitForProof tree
 
 -- where a right report tells that every unit is true, the text is sound
 abbrev pub RightReportsAreSound : Type 0

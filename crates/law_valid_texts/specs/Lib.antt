@@ -7,4 +7,3 @@ pub mod Faultless
 pub mod Rooms
 pub mod PlanLaws
 pub mod PartLaws
-pub mod ReadPlanLaws

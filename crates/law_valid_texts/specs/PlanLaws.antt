@@ -6,7 +6,7 @@ use Rattle.smv_mentions.specs.FirstFault.{first_of}
 use Rattle.law_obligations.specs.Checked.{IsChecked, IsProved}
 use Rattle.law_obligations.specs.Scripts.{HaveValues}
 use Rattle.smv_problem.specs.declared.report.Plan.{Plan}
-use Rattle.law_valid_texts.specs.Joined.{flat_design, Passes}
+use Rattle.law_valid_texts.specs.Joined.{flat_design, IsFitForProof}
 use Rattle.law_valid_texts.specs.Plans.{IsPlanOf}
 use Rattle.law_valid_texts.specs.Faults.{faults_of_widths}
 use Rattle.law_valid_texts.specs.Reports.{IsValid}
@@ -16,9 +16,9 @@ use Rattle.law_valid_texts.specs.Faultless.{IsFaultless, script_of_plan}
 abbrev pub ValidTextsAreFaultless : Type 0
 ValidTextsAreFaultless = (text : List ℕ) (tree : Text) → IsValid text tree → IsFaultless tree × (first_of (faults_of_widths (flat_design tree)) ≡ None)
 
--- a text in which the passes up to cases find no fault is as the laws of reports ask
+-- a text in which the passes up to cases find no fault is fit for proof
 abbrev pub FaultlessTextsPass : Type 0
-FaultlessTextsPass = (tree : Text) → IsFaultless tree → Passes tree
+FaultlessTextsPass = (tree : Text) → IsFaultless tree → IsFitForProof tree
 
 -- The rules of proof: whatever is chosen for the leaves, the script of a plan of such a text has no two set types of one name, no empty types, only definitions without conflicts, claims and
 -- definitions that read whole elements, and leaves with the parameters and guards of their splits.

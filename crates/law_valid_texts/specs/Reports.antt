@@ -35,13 +35,14 @@ abbrev pub named_from : Script → List ℕ → ℕ → List Entry → Option (�
 named_from s name u [] = None
 named_from s name u (entry ∷ entries) = if bytes_eq (name_of s.design (unit_in s.design entry.unit)) name then Some (u, entry) else named_from s name (suc u) entries
 
+-- the same among all units
 abbrev pub unit_named : Script → List ℕ → Option (ℕ × Entry)
 unit_named s name = named_from s name 0 s.entries
 
 -- a right report of this unit alone
-pub record IsReportOfUnit (s : Script) (nodes images u : ℕ) (entry : Entry) (report : Report) : Type 0 where
+pub record IsReportOfUnit (s : Script) (nodes steps u : ℕ) (entry : Entry) (report : Report) : Type 0 where
   pub result : UnitResult
-  pub is_result : IsResultOf s nodes images u entry result
+  pub is_result : IsResultOf s nodes steps u entry result
   pub design : report.design ≡ s.design
   pub units : report.units ≡ result ∷ []
 

@@ -2,12 +2,10 @@
 //!
 //! For the calls that read a text or decide it, and for the top call. A reader begins with `specs/Faults`, which lists the passes in their order, and goes on to `Reports`, `Joined` and `Plans`.
 //! A report by which every unit of a valid text is true makes it sound, and two reports of a text tell the same (`valid_texts`). `plans_of_texts` and `parts_of_texts` say what the passes leave to
-//! the calls on leaves: `Faultless` and `Rooms` have their premises; `read_plans` joins this with the pass that reads a plan (`smv_front`).
+//! the calls on leaves: `Faultless` and `Rooms` have their premises. No pass stands below: `smv_read_design` joins this with the call that reads a plan.
 #![tactic(auto)]
 
 pub mod parts_of_texts;
 pub mod plans_of_texts;
-pub mod read_plans;
-pub mod text_reports;
 pub mod true_reports;
 pub mod valid_texts;

@@ -3,10 +3,10 @@ ghost use Rattle.law_valid_texts.specs.PartLaws.{LeavesAreInPlace, LeavesArePart
 
 use crate::plans_of_texts::{faultless_texts_pass, plans_are_checked};
 use crate::true_reports::well_kinded_are_ready;
+use law_flat_kinds::flattened_texts_are_kinded;
 use law_problems::fit_designs::{constants_are_distinct, designs_are_fit};
 use law_problems::guard_kinds::guards_have_kinds;
 use law_reports::plan_cases::parts_are_entries;
-use law_sound_texts::kinds_after_flattening::flattened_texts_are_kinded;
 
 /// Each leaf of a plan is that of the unit at its place.
 pub fn leaves_are_in_place()

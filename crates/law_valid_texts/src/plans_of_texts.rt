@@ -11,7 +11,7 @@ pub fn valid_texts_are_faultless()
     ensures { ValidTextsAreFaultless }
 {}
 
-/// A text in which none of them finds one is as the laws of reports ask.
+/// A text in which none of them finds one is fit for proof.
 pub fn faultless_texts_pass()
     ensures { FaultlessTextsPass }
 {}

@@ -1,10 +1,10 @@
 // Laws of texts, each the contract of a function that does nothing.
 ghost use Rattle.law_valid_texts.specs.Joined.{TrueTextsAreSound, TrueReportsAreSound, WellKindedAreReady};
 
+use law_flat_kinds::flattened_texts_are_kinded;
 use law_reports::reports::reports_tell;
 use law_reports::verdicts::true_scripts_are_sound;
 use law_sound_texts::checked_scripts::scripts_are_checked;
-use law_sound_texts::kinds_after_flattening::flattened_texts_are_kinded;
 use law_sound_texts::sound_texts::proved_texts_are_sound;
 use law_splits::leaves::leaves_are_split;
 

@@ -13,7 +13,7 @@ pub fn one_tree()
     one_text();
 }
 
-/// A valid text is as the laws of reports ask.
+/// A valid text is fit for proof.
 pub fn valid_texts_pass()
     ensures { ValidTextsPass }
 {}

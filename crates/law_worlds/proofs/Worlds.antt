@@ -5,14 +5,15 @@ use Rattle.std.specs.List.{flat_map, slice_get}
 use Rattle.std.proofs.lemmas.Slice.Eq.{bytes_eq-Decides}
 use Rattle.std.proofs.lemmas.List.{length-map}
 use Rattle.std.proofs.lemmas.Option.{slice_get-map}
+use Rattle.law_lists.proofs.Numbers.{nat_eq-is}
+use Rattle.law_lists.proofs.Booleans.{same_tests}
 use Rattle.smv_core.specs.Values.{Name}
 use Rattle.smv_core.specs.declared.flat.SetInfo.{SetInfo}
 use Rattle.smv_core.specs.declared.abstract_type.Rest.{Rest}
 use Rattle.smv_core.specs.declared.abstract_type.Rest.TheVariants as beside
 use Rattle.law_obligations.specs.Sets.{Has, first, later}
 use Rattle.law_obligations.specs.Places.{World}
-use Rattle.law_obligations.proofs.Tests.{same_tests}
-use Rattle.law_obligations.proofs.Same.{nat_eq-is, nat_eq-itself}
+use Rattle.law_obligations.proofs.Same.{nat_eq-itself}
 use Rattle.law_obligations.proofs.Members.{Has-left, Has-right}
 use Rattle.law_obligations.proofs.OneOfEach.{get_Has}
 use Rattle.law_obligations.specs.Outlines.{place_of}

@@ -114,7 +114,7 @@ ref_is p q e =
     let ref : ℕ → Ref = λ x. record { place = x } in
     ap ref same
 
-pair_is : (p q : Ref × Ref) → eqb p.0.place q.0.place ≡ true → eqb p.1.place q.1.place ≡ true → p ≡ q
+pub pair_is : (p q : Ref × Ref) → eqb p.0.place q.0.place ≡ true → eqb p.1.place q.1.place ≡ true → p ≡ q
 pair_is p q e0 e1 =
     let first : p.0.place ≡ q.0.place = grind (arith, nat_tests) in
     let second : p.1.place ≡ q.1.place = grind (arith, nat_tests) in

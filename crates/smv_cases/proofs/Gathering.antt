@@ -4,9 +4,9 @@ use Rattle.std.specs.Prelude.{Result}
 use Rattle.std.specs.List.{flat_map}
 use Rattle.std.specs.declared.alloc.AllocError.{AllocError}
 use Rattle.std.proofs.lemmas.Grind.{flat_map-append}
+use Rattle.std.proofs.lemmas.List.{map-append, length-append}
 use Rattle.smv_core.specs.Values.{numbers_from}
 use Rattle.smv_core.specs.declared.flat.Class.{Class}
-use Rattle.law_obligations.proofs.OneOfEach.{map_joined, joined_long}
 use Rattle.smv_core.specs.declared.flat.Simple.TheVariants.{Range}
 use Rattle.smv_core.specs.declared.flat.Class.TheVariants.{Named, Rest}
 use Rattle.smv_cases.specs.declared.slots.Treatment.{Treatment}
@@ -29,12 +29,12 @@ many false old new more e g = g
 pub after : {E : Type 0} (r : Result Bool E) (old mid new a b : Cases) → mid ≡ old ++ a → Gathers r mid new b → Gathers r old new (a ++ b)
 after (Ok true) old mid new a b m g = (g.0 ∙ (ap (λ xs. xs ++ b) m ∙ append_assoc old a b), g.1)
 after (Ok false) old mid new a b m g =
-    let x = ap (λ (xs : Cases). length xs) m in let y = joined_long old a in let z = joined_long a b in omega (arith, g, x, y, z)
+    let x = ap (λ (xs : Cases). length xs) m in let y = length-append old a in let z = length-append a b in omega (arith, g, x, y, z)
 after (Err e) old mid new a b m g = tt
 
 -- what is behind does not make them fewer
 pub more_behind : (old a b : Cases) → 4096 < length old + length a → 4096 < length old + length (a ++ b)
-more_behind old a b l = let z = joined_long a b in omega (arith, l, z)
+more_behind old a b l = let z = length-append a b in omega (arith, l, z)
 
 numbers-split : (low a b : ℕ) → numbers_from low (a + suc b) ≡ numbers_from low a ++ (low + a) ∷ numbers_from (low + a + 1) b
 numbers-split low zero b = let e : low ≡ low + 0 = omega arith in let n : zero + suc b ≡ suc b = omega arith in
@@ -50,7 +50,7 @@ module _ (f : ℕ → Class) (g : Class → Cases) (low : ℕ) where
   split : (a b : ℕ) → upto (a + suc b) ≡ upto a ++ (g (f (low + a)) ++ flat_map g (map f (numbers_from (low + a + 1) b)))
   split a b =
       ap (λ ks. flat_map g (map f ks)) (numbers-split low a b)
-      ∙ (ap (flat_map g) (map_joined f (numbers_from low a) ((low + a) ∷ numbers_from (low + a + 1) b)) ∙ flat_map-append g (map f (numbers_from low a)) (f (low + a) ∷ map f (numbers_from (low + a + 1) b)))
+      ∙ (ap (flat_map g) (map-append f (numbers_from low a) ((low + a) ∷ numbers_from (low + a + 1) b)) ∙ flat_map-append g (map f (numbers_from low a)) (f (low + a) ∷ map f (numbers_from (low + a + 1) b)))
 
   nil_right : (xs : Cases) → xs ++ [] ≡ xs
   nil_right [] = refl
@@ -74,9 +74,9 @@ module _ (f : ℕ → Class) (g : Class → Cases) (low : ℕ) where
       let same : upto n ≡ upto (k - low) ++ (g (f k) ++ flat_map g (map f (numbers_from (low + (k - low) + 1) b))) =
       ap upto j ∙ (split (k - low) b ∙ ap (λ j. upto (k - low) ++ (g (f j) ++ flat_map g (map f (numbers_from (low + (k - low) + 1) b)))) i) in
       let x = ap (λ (xs : Cases). length xs) same in
-      let y = joined_long (upto (k - low)) (g (f k) ++ flat_map g (map f (numbers_from (low + (k - low) + 1) b))) in
-      let z = joined_long (g (f k)) (flat_map g (map f (numbers_from (low + (k - low) + 1) b))) in
-      let w = ap (λ (xs : Cases). length xs) m ∙ joined_long old (upto (k - low)) in
+      let y = length-append (upto (k - low)) (g (f k) ++ flat_map g (map f (numbers_from (low + (k - low) + 1) b))) in
+      let z = length-append (g (f k)) (flat_map g (map f (numbers_from (low + (k - low) + 1) b))) in
+      let w = ap (λ (xs : Cases). length xs) m ∙ length-append old (upto (k - low)) in
       omega (arith, h, x, y, z, w)
 
 -- ---- limits

@@ -1,6 +1,10 @@
 -- The cases of a leaf are those that grow from none.
 use Rattle.std.proofs.Common.{◌≡◌, ℕ, suc, ◌+◌, ◌<◌, ◌≤◌, List, [], ◌∷◌, ◌++◌, map, length, max, Bool, true, false, cond, filter, not, ◌&&◌, if◌then◌else◌, refl, sym, ap, subst, ◌∙◌, ◌⊎◌, inl, inr, Option, Some, None, nat_eq, nat_lt, nat_le, arith, append_assoc, append-nil}
 use Rattle.std.specs.List.{slice_get, list_any, list_all}
+use Rattle.std.proofs.lemmas.Bool.{cases_Bool}
+use Rattle.law_lists.proofs.Numbers.{nat_eq-is, nat_lt-true}
+use Rattle.law_lists.proofs.Booleans.{and_both, left_of, right_of, same_tests}
+use Rattle.law_lists.proofs.Lists.{flat_map_alike, map_alike, map-map, filter-map}
 use Rattle.smv_core.specs.Values.{numbers_from}
 use Rattle.smv_core.specs.declared.flat.Simple.{Simple}
 use Rattle.smv_core.specs.declared.flat.Simple.TheVariants.{Range, Enum, Set}
@@ -9,26 +13,19 @@ use Rattle.smv_core.specs.declared.flat.Class.TheVariants.{Number, Named, Rest}
 use Rattle.smv_core.specs.declared.abstract_type.Rest.TheVariants as beside
 use Rattle.law_obligations.specs.Sets.{Has, first, later, one_of_each}
 use Rattle.law_obligations.specs.Places.{rests_beside}
-use Rattle.law_obligations.specs.Placings.{place_in}
 use Rattle.law_obligations.specs.Cases.{Treatment, whole, reduced, ordered, Parameter, used, grow, fill, are_below, is_set, those_of, named_among, are_named, abstract_type, is_of, is_orderly, listed_classes, unlisted_classes, type_in, is_allowed, candidates, numbered, cases}
-use Rattle.law_obligations.proofs.Tests.{true_or_false, and_both, left_of, right_of, same_tests}
 use Rattle.law_obligations.proofs.Members.{Has-right, Has-uncons, any-found, any-some, all-each, all-holds}
-use Rattle.law_obligations.proofs.Same.{nat_eq-is, nat_eq-itself}
+use Rattle.law_obligations.proofs.Same.{nat_eq-itself}
 use Rattle.law_obligations.proofs.Spots.{Has-numbers, numbers-Has}
 use Rattle.law_obligations.proofs.OneOfEach.{get_Has}
-use Rattle.law_obligations.proofs.CasesCover.{none_of_either}
-use Rattle.law_obligations.proofs.CoverLists.{no_fewer}
+use Rattle.law_obligations.proofs.CoverLists.{no_fewer, missing}
 use Rattle.law_obligations.proofs.CoverNames.{numbered-at, numbered-Has}
+use Rattle.law_obligations.proofs.CasePlaces.{few_named}
+use Rattle.law_obligations.proofs.CoverParams.{is_set-is}
 use Rattle.smv_cases.specs.Growing.{counts, counted, widest, is_within, may_follow, may_stand_in, may_stand_at, keeps_in, keeps_at, keeps_all, grown}
-use Rattle.smv_cases.proofs.Lists.{flat_map-same, map-same, map-map, filter-same, filter-none, filter-map, kept-flat_map}
+use Rattle.smv_cases.proofs.Lists.{filter-same, filter-none, kept-flat_map}
 
 -- ---- named classes
-
-few_named : (classes : List Class) → length (named_among classes) ≤ length classes
-few_named [] = omega arith
-few_named (Named c ∷ classes) = let l = few_named classes in omega (arith, l)
-few_named (Number k ∷ classes) = let l = few_named classes in omega (arith, l)
-few_named (Rest g ∷ classes) = let l = few_named classes in omega (arith, l)
 
 IsNamed : Class → Type 0
 IsNamed c = (k : ℕ) × (c ≡ Named k)
@@ -53,12 +50,6 @@ at_most m c e = grind arith
 is_at_most : (m c : ℕ) → c ≤ m → nat_le c m ≡ true
 is_at_most m c l = grind arith
 
-below : (c m : ℕ) → nat_lt c m ≡ true → c < m
-below c m e = grind arith
-
-is_below : (c m : ℕ) → c < m → nat_lt c m ≡ true
-is_below c m l = grind arith
-
 -- in classes that grow each is at most one above the greatest before it
 grow-at : (m : ℕ) (xs ys : List ℕ) (c : ℕ) → grow m (xs ++ c ∷ ys) ≡ true → c ≤ max m (used xs)
 grow-at m [] ys c e = let l = at_most m c (left_of (nat_le c m) _ e) in omega (arith, l)
@@ -71,14 +62,6 @@ grow-used m (x ∷ xs) e =
     let here = at_most m x (left_of (nat_le x m) _ e) in
     let l = grow-used (max m (suc x)) xs (right_of (nat_le x m) _ e) in
     omega (arith, here, l)
-
-missing : (v : ℕ) (xs : List ℕ) → place_in v xs ≡ None → Has xs v → ⊥
-missing v [] e h = elim h [ ]
-missing v (x ∷ xs) e first = absurd (clash (nat_eq-itself v) (none_of_either (nat_eq v v) (place_in v xs) e).0)
-  where
-    clash : {b : Bool} → b ≡ true → b ≡ false → ⊥
-    clash p q = cc
-missing v (x ∷ xs) e (later h) = missing v xs (none_of_either (nat_eq v x) (place_in v xs) e).1 h
 
 -- so do those of which none is left out
 fill-used : (xs : List ℕ) → fill xs ≡ true → used xs ≤ length xs
@@ -194,7 +177,7 @@ module _ (set : ℕ) (done more ps : List Parameter) (p : Parameter) (before beh
       let as_many = nat_eq-is (length (named_among listed)) (length listed) named in
       let long = those-long (λ l. l) set ps classes in
       subst (λ y. may_follow ordered (length (counted ordered set ps ps)) (used (named_among (counted ordered set ps before))) y ≡ true) (sym r.1)
-      (is_below r.0 (length (counted ordered set ps ps)) (omega (arith, few, here, as_many, long)))
+      (nat_lt-true r.0 (length (counted ordered set ps ps)) (omega (arith, few, here, as_many, long)))
 
 below_more : (a b c : ℕ) → a ≤ b → nat_lt c a ≡ true → nat_lt c b ≡ true
 below_more a b c l e = grind arith
@@ -270,15 +253,10 @@ nothing-allowed ordered set ps classes none = rw (those-empty (λ l. l) set ps c
 
 -- ---- both lists
 
-set_is : (set : ℕ) (over : Simple) → is_set set over ≡ true → over ≡ Set set
-set_is set (Range low high) e = absurd (cc)
-set_is set (Enum list) e = absurd (cc)
-set_is set (Set other) e = ap Set (nat_eq-is other set e)
-
 -- a test that some passes or none
 some_or_none : {X : Type 0} (f : X → Bool) (xs : List X) → ((x : X) × Has xs x × (f x ≡ true)) ⊎ ((x : X) → Has xs x → f x ≡ false)
 some_or_none f [] = inr (λ x h. elim h [ ])
-some_or_none {X} f (x ∷ xs) = elim (true_or_false (f x)) [
+some_or_none {X} f (x ∷ xs) = elim (cases_Bool (f x)) [
   | inl e ↦ inl (x, first, e)
   | inr e ↦ elim (some_or_none f xs) [
     | inl r ↦ inl (r.0, later r.1, r.2)
@@ -298,7 +276,7 @@ module _ (treatments : List Treatment) (params : List Parameter) where
       let r = numbered-Has 0 treatments x h in
       let there : slice_get treatments x.0 ≡ Some x.1 = (let i = r.1 in subst (λ k. slice_get treatments k ≡ Some x.1) (omega (arith, i)) r.2) in
       elim (some_or_none (λ (p : Parameter). is_set x.0 p.over) params) [
-        | inl q ↦ ap (λ o. keeps_in treatments params o x.0 classes) (sym there) ∙ (ap (keeps_at treatments params classes) (sym (set_is x.0 q.0.over q.2)) ∙ all-each (λ (p : Parameter). keeps_at treatments params classes p.over) e q.1)
+        | inl q ↦ ap (λ o. keeps_in treatments params o x.0 classes) (sym there) ∙ (ap (keeps_at treatments params classes) (sym (is_set-is x.0 q.0.over q.2)) ∙ all-each (λ (p : Parameter). keeps_at treatments params classes p.over) e q.1)
         | inr none ↦ nothing-allowed x.1 x.0 params classes none
       ]
 
@@ -360,7 +338,7 @@ module _ (treatments : List Treatment) (params : List Parameter) where
       at true = ap (λ (cs : List Class). cs ∷ []) (sym (append-nil before))
       at false = refl
   grows done (p ∷ more) before are long =
-      flat_map-same _ _ (options p) (λ x. at x (may_stand_at treatments params p.over before p.listed x) refl
+      flat_map_alike _ _ (options p) (λ x. at x (may_stand_at treatments params p.over before p.listed x) refl
       (grows (done ++ p ∷ []) more (before ++ x ∷ []) (are ∙ sym (append_assoc done (p ∷ []) more)) (longer x)))
       ∙ sym (kept-flat_map (λ ys. before ++ ys) (λ ys. allowed (before ++ ys)) (λ x. map (λ ys. x ∷ ys) (one_of_each (map options more))) (options p))
     where
@@ -375,7 +353,7 @@ module _ (treatments : List Treatment) (params : List Parameter) where
           grown treatments params (before ++ x ∷ []) more ≡ map (λ ys. (before ++ x ∷ []) ++ ys) (filter (λ ys. allowed ((before ++ x ∷ []) ++ ys)) (one_of_each (map options more))) →
           (if b then grown treatments params (before ++ x ∷ []) more else []) ≡ map (λ ys. before ++ ys) (filter (λ ys. allowed (before ++ ys)) (map (λ ys. x ∷ ys) (one_of_each (map options more))))
       at x true e goes =
-          goes ∙ (map-same _ _ _ (λ ys. append_assoc before (x ∷ []) ys)
+          goes ∙ (map_alike _ _ _ (λ ys. append_assoc before (x ∷ []) ys)
           ∙ (ap (map (λ ys. before ++ x ∷ ys)) (filter-same _ _ (one_of_each (map options more)) (λ ys. ap allowed (append_assoc before (x ∷ []) ys)))
           ∙ (sym (map-map (λ ys. before ++ ys) (λ ys. x ∷ ys) (filter (λ ys. allowed (before ++ x ∷ ys)) (one_of_each (map options more))))
           ∙ ap (map (λ ys. before ++ ys)) (sym (filter-map (λ ys. allowed (before ++ ys)) (λ ys. x ∷ ys) (one_of_each (map options more)))))))

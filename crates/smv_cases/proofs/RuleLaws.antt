@@ -1,22 +1,18 @@
 -- What the rules for classes say of one class more.
 use Rattle.std.proofs.Common.{◌≡◌, ℕ, suc, ◌+◌, ◌≤◌, List, [], ◌∷◌, length, Bool, true, false, ◌&&◌, if◌then◌else◌, refl, sym, ap, ◌∙◌, nat_eq, nat_le, nat_lt, arith}
 use Rattle.std.specs.List.{list_any, list_all}
+use Rattle.law_lists.proofs.Numbers.{nat_eq-is}
+use Rattle.law_lists.proofs.Booleans.{same_tests}
 use Rattle.smv_core.specs.Values.{numbers_from}
 use Rattle.smv_core.specs.declared.flat.Class.{Class}
 use Rattle.smv_core.specs.declared.flat.Class.TheVariants.{Number, Named, Rest}
 use Rattle.law_obligations.specs.Sets.{Has, first, later}
 use Rattle.law_obligations.specs.Cases.{Treatment, whole, reduced, ordered, Parameter, used, named_among, are_named, is_of, is_orderly, listed_classes, unlisted_classes, type_in, is_allowed}
 use Rattle.smv_cases.specs.Growing.{counts, counted, widest, may_follow, may_stand}
-use Rattle.law_obligations.proofs.Tests.{same_tests}
 use Rattle.law_obligations.proofs.Members.{any-found, any-some}
-use Rattle.law_obligations.proofs.Same.{nat_eq-is, nat_eq-itself}
+use Rattle.law_obligations.proofs.Same.{nat_eq-itself}
 use Rattle.law_obligations.proofs.Spots.{Has-numbers, numbers-Has}
-
-few_named : (classes : List Class) → length (named_among classes) ≤ length classes
-few_named [] = omega arith
-few_named (Named c ∷ classes) = let l = few_named classes in omega (arith, l)
-few_named (Number k ∷ classes) = let l = few_named classes in omega (arith, l)
-few_named (Rest g ∷ classes) = let l = few_named classes in omega (arith, l)
+use Rattle.law_obligations.proofs.CasePlaces.{few_named}
 
 pub named_more : (c : ℕ) (classes : List Class) → are_named (Named c ∷ classes) ≡ are_named classes
 named_more c classes = both (length (named_among classes)) (length classes)

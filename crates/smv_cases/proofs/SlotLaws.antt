@@ -1,5 +1,5 @@
 -- What grows at slots grows at their parameters.
-use Rattle.std.proofs.Common.{◌≡◌, ℕ, zero, suc, ◌+◌, List, [], ◌∷◌, ◌++◌, map, length, Bool, false, ◌&&◌, if◌then◌else◌, refl, sym, ap, subst, ◌∙◌, ◌<◌, ◌≤◌, Option, Some, None, option_map, drop, get_or, nat_lt, append_assoc, inl, inr, arith}
+use Rattle.std.proofs.Common.{◌≡◌, ℕ, zero, suc, ◌+◌, List, [], ◌∷◌, ◌++◌, map, length, Bool, false, ◌&&◌, if◌then◌else◌, refl, sym, ap, subst, ◌∙◌, ◌<◌, ◌≤◌, Option, Some, None, option_map, drop, nat_lt, append_assoc, inl, inr, arith}
 use Rattle.std.specs.List.{flat_map, slice_get, list_all}
 use Rattle.smv_core.specs.declared.flat.Simple.{Simple}
 use Rattle.smv_core.specs.declared.flat.Simple.TheVariants.{Range, Enum, Set}
@@ -11,22 +11,20 @@ use Rattle.law_obligations.specs.Cases as spec
 use Rattle.law_obligations.specs.Cases.{candidates, cases}
 use Rattle.std.specs.Prelude.{Result, Ok, Err, IfOk, MatchOption, ◌⊎◌}
 use Rattle.std.specs.declared.alloc.AllocError.{AllocError}
+use Rattle.std.proofs.lemmas.List.{map-append}
+use Rattle.law_lists.proofs.Lists.{length_map, flat_map_alike}
+use Rattle.law_lists.proofs.Options.{some_is}
 use Rattle.smv_core.specs.declared.flat.Case.{Case}
 use Rattle.smv_core.specs.declared.flat.Param.{Param}
 use Rattle.law_obligations.specs.LeafCases as leaf
-use Rattle.law_obligations.specs.LeafCases.{leaf_cases, kept_of, treatment_of, treatments_of}
+use Rattle.law_obligations.specs.LeafCases.{leaf_cases, treatment_of, treatments_of}
 use Rattle.law_obligations.proofs.Members.{Has-cases, Has-uncons}
-use Rattle.law_obligations.proofs.OneOfEach.{map_long, map_joined}
 use Rattle.smv_cases.specs.declared.slots.Treatment.{Treatment}
 use Rattle.smv_cases.specs.declared.slots.Slot.{Slot}
 use Rattle.smv_cases.specs.Growing.{may_stand_in, may_stand_at, keeps_in, keeps_at, grown}
 use Rattle.smv_cases.specs.Slots as slot
 use Rattle.smv_cases.specs.Slots.{parameter_of, parameters_of, IsSlot, AreSlots, keeps_rules, keeps, stands_by, grown_of}
-use Rattle.smv_cases.proofs.Lists.{flat_map-same}
 use Rattle.smv_cases.proofs.Grows.{cases_grow}
-
-inner : {X : Type 0} {x y : X} → Some x ≡ Some y → x ≡ y
-inner e = cc
 
 module _ (treatments : List spec.Treatment) (slots : List Slot) where
   stands_same : (before : List Class) (x : Class) (listed : Bool) (t : Option Treatment) (over : Simple) → ((set : ℕ) → over ≡ Set set → option_map slot.treatment_of t ≡ slice_get treatments set) →
@@ -56,12 +54,12 @@ module _ (treatments : List spec.Treatment) (slots : List Slot) where
   options_same : (over : Simple) → candidates [] (length slots) over ≡ candidates treatments (length (parameters_of slots)) over
   options_same (Range low high) = refl
   options_same (Enum list) = refl
-  options_same (Set set) = ap (λ n. candidates [] n (Set set)) (sym (map_long parameter_of slots))
+  options_same (Set set) = ap (λ n. candidates [] n (Set set)) (sym (length_map parameter_of slots))
 
   grows_same : AreSlots treatments slots → (more : List Slot) → AreSlots treatments more → (before : List Class) → grown_of slots before more ≡ grown treatments (parameters_of slots) before (parameters_of more)
   grows_same are [] m before = ap (λ b. if b then before ∷ [] else []) (all_same before slots are)
   grows_same are (s ∷ more) m before =
-      flat_map-same _ _ (candidates [] (length slots) s.over) (λ x.
+      flat_map_alike _ _ (candidates [] (length slots) s.over) (λ x.
       ap (λ b. if b then grown_of slots (before ++ x ∷ []) more else []) (stands_same before x s.listed s.treatment s.over (m s first))
       ∙ ap (λ ys. if may_stand_at treatments (parameters_of slots) s.over before s.listed x then ys else []) (grows_same are more (λ t h. m t (later h)) (before ++ x ∷ [])))
       ∙ ap (flat_map (λ x. if may_stand_at treatments (parameters_of slots) s.over before s.listed x then grown treatments (parameters_of slots) (before ++ x ∷ []) (parameters_of more) else [])) (options_same s.over)
@@ -69,30 +67,13 @@ module _ (treatments : List spec.Treatment) (slots : List Slot) where
   pub slots_grow : AreSlots treatments slots → cases treatments (parameters_of slots) ≡ grown_of slots [] slots
   slots_grow are = cases_grow treatments (parameters_of slots) ∙ sym (grows_same are slots are [])
 
--- how the set type at a place is treated
-pub treatment_found : (keeps : List Keep) (k i j : ℕ) (sets : List SetInfo) (info : SetInfo) → i ≡ k + j → slice_get sets j ≡ Some info → slice_get (treatments_of keeps k sets) j ≡ Some (treatment_of info.ordered info.size (kept_of keeps i))
-treatment_found keeps k i j [] info e g = absurd (cc)
-treatment_found keeps k i zero (x ∷ sets) info e g = let same : k ≡ i = omega arith in
-    ap (λ (n : ℕ). Some (treatment_of x.ordered x.size (kept_of keeps n))) same ∙ ap (λ (y : SetInfo). Some (treatment_of y.ordered y.size (kept_of keeps i))) (inner g)
-treatment_found keeps k i (suc j) (x ∷ sets) info e g = treatment_found keeps (k + 1) i j sets info (omega arith) g
-
 pub treatment_none : (keeps : List Keep) (k j : ℕ) (sets : List SetInfo) → slice_get sets j ≡ None → slice_get (treatments_of keeps k sets) j ≡ None
 treatment_none keeps k j [] e = refl
 treatment_none keeps k zero (x ∷ sets) e = absurd (cc)
 treatment_none keeps k (suc j) (x ∷ sets) e = treatment_none keeps (k + 1) j sets e
 
-pub get_none : {X : Type 0} (xs : List X) (k : ℕ) → length xs ≤ k → slice_get xs k ≡ None
-get_none [] k l = refl
-get_none (y ∷ ys) zero l = absurd (omega arith)
-get_none (y ∷ ys) (suc k) l = get_none ys k (omega arith)
-
 pub not_below : (k n : ℕ) → false ≡ nat_lt k n → n ≤ k
 not_below k n e = grind arith
-
-pub get_some : {X : Type 0} (xs : List X) (k : ℕ) (x : X) → k < length xs → x ≡ get_or xs k x → slice_get xs k ≡ Some x
-get_some [] k x l e = absurd (omega (arith, l))
-get_some (y ∷ ys) zero x l e = ap Some (sym e)
-get_some (y ∷ ys) (suc k) x l e = get_some ys k x (omega (arith, l)) e
 
 -- one slot more
 pub slots_more : (treatments : List spec.Treatment) (slots : List Slot) (s : Slot) → AreSlots treatments slots → IsSlot treatments s → AreSlots treatments (slots ++ s ∷ [])
@@ -100,13 +81,13 @@ slots_more treatments slots s are is t h = elim (Has-cases slots (s ∷ []) h) [
 
 pub drop-one : {X : Type 0} (xs : List X) (k : ℕ) (x : X) → slice_get xs k ≡ Some x → drop k xs ≡ x ∷ drop (k + 1) xs
 drop-one [] k x e = absurd (cc)
-drop-one (y ∷ xs) zero x e = ap (λ z. z ∷ xs) (inner e)
+drop-one (y ∷ xs) zero x e = ap (λ z. z ∷ xs) (some_is e)
 drop-one (y ∷ xs) (suc k) x e = let n : suc (k + 1) ≡ suc k + 1 = omega arith in drop-one xs k x e ∙ ap (λ m. x ∷ drop m (y ∷ xs)) n
 
 pub parameters_more : {X : Type 0} (f : Slot → X) {Y : Type 0} (g : Y → X) (slots : List Slot) (s : Slot) (ys : List Y) (k : ℕ) (y : Y) → slice_get ys k ≡ Some y → f s ≡ g y →
     map f slots ++ map g (drop k ys) ≡ map g ys → map f (slots ++ s ∷ []) ++ map g (drop (k + 1) ys) ≡ map g ys
 parameters_more f g slots s ys k y e same i =
-    ap (λ xs. xs ++ map g (drop (k + 1) ys)) (map_joined f slots (s ∷ []))
+    ap (λ xs. xs ++ map g (drop (k + 1) ys)) (map-append f slots (s ∷ []))
     ∙ (append_assoc (map f slots) (f s ∷ []) (map g (drop (k + 1) ys))
     ∙ (ap (λ x. map f slots ++ x ∷ map g (drop (k + 1) ys)) same
     ∙ (ap (λ zs. map f slots ++ map g zs) (sym (drop-one ys k y e)) ∙ i)))
@@ -117,7 +98,7 @@ pub leaf_grows : (sets : List SetInfo) (params : List Param) (keeps : List Keep)
 leaf_grows sets params keeps slots same are = sym (slots_grow (treatments_of keeps 0 sets) slots are) ∙ ap (cases (treatments_of keeps 0 sets)) same
 
 pub slots_long : (params : List Param) (keeps : List Keep) (slots : List Slot) → parameters_of slots ≡ leaf.parameters_of keeps params → length slots ≡ length params
-slots_long params keeps slots same = sym (map_long parameter_of slots) ∙ (ap (λ (ps : List spec.Parameter). length ps) same ∙ map_long _ params)
+slots_long params keeps slots same = sym (length_map parameter_of slots) ∙ (ap (λ (ps : List spec.Parameter). length ps) same ∙ length_map _ params)
 
 pub made : (s : Slot) (over : Simple) (listed : Bool) → s.over ≡ over → s.listed ≡ listed → parameter_of s ≡ record { over = over; listed = listed }
 made s over listed e f = ap (λ o. record { over = o; listed = s.listed }) e ∙ ap (λ l. record { over = over; listed = l }) f

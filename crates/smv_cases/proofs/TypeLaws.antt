@@ -2,6 +2,7 @@
 use Rattle.std.proofs.Common.{◌≡◌, ℕ, suc, ◌+◌, ◌≤◌, List, [], ◌∷◌, ◌++◌, drop, length, Some, refl, sym, ap, ◌∙◌, arith, append_assoc, append-nil}
 use Rattle.std.specs.List.{slice_get}
 use Rattle.std.proofs.lemmas.Grind.{common_steps}
+use Rattle.law_lists.proofs.Lists.{length_map}
 use Rattle.smv_core.specs.declared.flat.SetInfo.{SetInfo}
 use Rattle.smv_core.specs.declared.flat.Param.{Param}
 use Rattle.smv_core.specs.declared.flat.Keep.{Keep}
@@ -10,9 +11,9 @@ use Rattle.smv_core.specs.declared.abstract_type.AbsType.{AbsType}
 use Rattle.law_obligations.specs.Cases.{Treatment, numbered, type_in}
 use Rattle.law_obligations.specs.LeafCases.{kept_of, treatment_of, treatments_of, parameters_of}
 use Rattle.law_obligations.proofs.CoverNames.{numbered-at}
-use Rattle.law_obligations.proofs.OneOfEach.{map_long}
+use Rattle.law_obligations.proofs.ScriptCases.{treatment-at}
 use Rattle.smv_cases.specs.Types.{types_of}
-use Rattle.smv_cases.proofs.SlotLaws.{treatment_found, drop-one}
+use Rattle.smv_cases.proofs.SlotLaws.{drop-one}
 
 numbered_long : (k : ℕ) (ts : List Treatment) → length (numbered k ts) ≡ length ts
 numbered_long k [] = refl
@@ -27,14 +28,14 @@ module _ (sets : List SetInfo) (params : List Param) (keeps : List Keep) (classe
   all = types_of sets params keeps classes
 
   long : length (types_of sets params keeps classes) ≡ length sets
-  long = map_long (λ (set, t). type_in t set (parameters_of keeps params) classes) (numbered 0 (treatments_of keeps 0 sets)) ∙ (numbered_long 0 (treatments_of keeps 0 sets) ∙ treatments_long keeps 0 sets)
+  long = length_map (λ (set, t). type_in t set (parameters_of keeps params) classes) (numbered 0 (treatments_of keeps 0 sets)) ∙ (numbered_long 0 (treatments_of keeps 0 sets) ∙ treatments_long keeps 0 sets)
 
   -- one type more
   pub types_more : (place : ℕ) (info : SetInfo) (types more : List AbsType) (made : AbsType) → slice_get sets place ≡ Some info → more ≡ types ++ made ∷ [] →
       made ≡ type_in (treatment_of info.ordered info.size (kept_of keeps place)) place (parameters_of keeps params) classes → types ++ drop place all ≡ all → more ++ drop (place + 1) all ≡ all
   types_more place info types more made e is same so_far =
       let there = numbered-at (λ (set, t). type_in t set (parameters_of keeps params) classes) 0 place place (treatments_of keeps 0 sets) (treatment_of info.ordered info.size (kept_of keeps place)) (omega arith)
-      (treatment_found keeps 0 place place sets info (omega arith) e) in
+      (treatment-at keeps 0 place place sets info (omega arith) e) in
       ap (λ xs. xs ++ drop (place + 1) all) is ∙ (append_assoc types (made ∷ []) (drop (place + 1) all)
       ∙ (ap (λ t. types ++ t ∷ drop (place + 1) all) same ∙ (ap (λ xs. types ++ xs) (sym (drop-one all place (type_in (treatment_of info.ordered info.size (kept_of keeps place)) place (parameters_of keeps params) classes) there)) ∙ so_far)))
 

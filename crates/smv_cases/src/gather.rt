@@ -13,7 +13,7 @@ use std::alloc::{AllocError, Global};
 pub const MOST_PARAMETERS: usize = 8;
 
 /// The cases of a leaf, in order; none where it has too many parameters or cases.
-pub fn gather(
+pub(crate) fn gather(
     alloc: Global,
     sets: &[SetInfo],
     params: &[Param],

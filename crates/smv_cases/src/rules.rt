@@ -323,7 +323,12 @@ pub fn abstract_type(treatment: Treatment, named: u16) -> AbsType
 }
 
 /// The classes of a set type's parameters are as its rules allow.
-pub fn is_allowed(slots: &[Slot], classes: &[Class], treatment: Treatment, set: usize) -> bool
+pub(crate) fn is_allowed(
+    slots: &[Slot],
+    classes: &[Class],
+    treatment: Treatment,
+    set: usize,
+) -> bool
     ensures { result ≡ is_allowed (treatment_of treatment) set (parameters_of slots.now) classes.now }
 {
     if !are_named(slots, classes, treatment, set) {
@@ -345,7 +350,12 @@ pub fn is_allowed(slots: &[Slot], classes: &[Class], treatment: Treatment, set: 
 }
 
 /// The abstract type that these classes give a set type.
-pub fn type_in(slots: &[Slot], classes: &[Class], treatment: Treatment, set: usize) -> AbsType
+pub(crate) fn type_in(
+    slots: &[Slot],
+    classes: &[Class],
+    treatment: Treatment,
+    set: usize,
+) -> AbsType
     ensures { result ≡ type_in (treatment_of treatment) set (parameters_of slots.now) classes.now }
 {
     abstract_type(treatment, used(slots, classes, treatment, set) as u16)
@@ -359,7 +369,7 @@ pub struct Limits {
 }
 
 /// The classes that a parameter may have after these of the parameters before it.
-pub fn limits_at(slots: &[Slot], before: &[Class], slot: &Slot) -> Limits
+pub(crate) fn limits_at(slots: &[Slot], before: &[Class], slot: &Slot) -> Limits
     requires { length slots.now ≤ 8 }
     ensures named { result.named ≤ length slots.now }
     ensures rests { result.rests ≤ length slots.now + 1 }

@@ -135,7 +135,7 @@ fn slot_of(sets: &[SetInfo], keeps: &[Keep], param: &Param) -> Slot
 }
 
 // How the set type at a place is abstracted.
-#[tactic(auto, using(crate::proofs::SlotLaws::treatment_found, crate::proofs::SlotLaws::treatment_none))]
+#[tactic(auto, using(law_obligations::proofs::ScriptCases::treatment-at, crate::proofs::SlotLaws::treatment_none))]
 fn treatment_at(sets: &[SetInfo], keeps: &[Keep], set: usize) -> Option<Treatment>
     ensures { option_map treatment_of result ≡ slice_get (treatments_of keeps.now 0 sets.now) set }
 {
@@ -146,7 +146,7 @@ fn treatment_at(sets: &[SetInfo], keeps: &[Keep], set: usize) -> Option<Treatmen
 }
 
 /// How the set type of this number is abstracted.
-pub fn treated(keeps: &[Keep], set: usize, info: &SetInfo) -> Treatment
+pub(crate) fn treated(keeps: &[Keep], set: usize, info: &SetInfo) -> Treatment
     ensures { treatment_of result ≡ leaf.treatment_of info.now.ordered info.now.size (kept_of keeps.now set) }
 {
     treat(info, names(keeps, set))

@@ -1,20 +1,22 @@
 -- Reads of cells.
 use Rattle.std.proofs.Common.{◌≡◌, ℕ, List, [], ◌∷◌, map, length, Some, Bool, true, false, ◌&&◌, ◌||◌, if◌then◌else◌, nat_eq, refl, sym, ap, ◌∙◌, arith, subst}
 use Rattle.std.specs.List.{list_any}
+use Rattle.law_lists.proofs.Anys.{any-map}
+use Rattle.law_lists.proofs.Numbers.{nat_eq-is}
+use Rattle.law_lists.proofs.Booleans.{left_of, right_of}
 use Rattle.smv_core.specs.FlatMeaning.{Numbered}
 use Rattle.smv_core.specs.declared.flat.Family.{Family}
 use Rattle.law_obligations.specs.Sets.{Has, first, later}
-use Rattle.law_obligations.specs.Places.{Place, same_place, AbsOutcome, places_in}
+use Rattle.law_obligations.specs.Places.{Place, AbsOutcome, places_in}
 use Rattle.law_obligations.specs.May.{places_at}
-use Rattle.law_obligations.proofs.Same.{same_place-is, nat_eq-is}
 use Rattle.law_obligations.specs.Cones.{same_places}
+use Rattle.law_obligations.proofs.ConeFacts.{same_places-is}
 use Rattle.smv_spots.specs.declared.spots.Spot.{Spot}
 use Rattle.smv_spots.specs.Spots.{place_in}
 use Rattle.smv_problem.specs.declared.problem.Problem.{Problem}
 use Rattle.smv_conditions.specs.declared.offers.Offer.{Offer}
 use Rattle.smv_conditions.specs.Offers.{any_offer, AreOffersMade}
 use Rattle.smv_conditions.specs.Adds.{Adds}
-use Rattle.law_obligations.proofs.Anys.{any-map}
 use Rattle.smv_cells.specs.declared.cells.Cell.{Cell}
 use Rattle.smv_cells.specs.Cells.{is_cell_of, AreCellsMade, cell_any}
 use Rattle.smv_cells.specs.Seen.{View, IsSeen}
@@ -80,21 +82,6 @@ values_made IsMade c cs cells values e f m = let k = subst (AreCellsMade IsMade)
 
 pub others_made : {C : Type 0} (IsMade : C → Type 0) (c : Cell C) (cs cells : List (Cell C)) → cells ≡ c ∷ cs → AreCellsMade IsMade cells → AreCellsMade IsMade cs
 others_made IsMade c cs cells e m = let k = subst (AreCellsMade IsMade) e m in k.1
-
--- the cell that is found gives the element's value, and where none is found the element is not kept
-left_of : (b c : Bool) → (b && c) ≡ true → b ≡ true
-left_of true c e = refl
-left_of false c e = e
-
-right_of : (b c : Bool) → (b && c) ≡ true → c ≡ true
-right_of true c e = e
-right_of false c e = absurd (cc)
-
-same_places-is : (ps qs : List Place) → same_places ps qs ≡ true → ps ≡ qs
-same_places-is [] [] e = refl
-same_places-is [] (q ∷ qs) e = absurd (cc)
-same_places-is (p ∷ ps) [] e = absurd (cc)
-same_places-is (p ∷ ps) (q ∷ qs) e = ap (λ x. x ∷ ps) (same_place-is p q (left_of (same_place p q) (same_places ps qs) e)) ∙ ap (λ xs. q ∷ xs) (same_places-is ps qs (right_of (same_place p q) (same_places ps qs) e))
 
 last : (b : Bool) → b ≡ (b || false)
 last true = refl

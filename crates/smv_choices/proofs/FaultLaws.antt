@@ -6,8 +6,8 @@ use Rattle.std.specs.List.{flat_map, list_any}
 use Rattle.std.specs.Option.{option_eq}
 use Rattle.std.proofs.lemmas.List.{append-nil, map-append}
 use Rattle.std.proofs.lemmas.Slice.Eq.{bytes_eq-Decides}
+use Rattle.law_lists.proofs.Lists.{append_same, flat_map_agree}
 use Rattle.smv_core.specs.Values.{Name}
-use Rattle.smv_core.specs.declared.fault.Fault.{Fault}
 use Rattle.smv_core.specs.declared.tree.Word.{Word}
 use Rattle.smv_core.specs.declared.tree.Ref.{Ref}
 use Rattle.smv_core.specs.declared.tree.Use.{Use}
@@ -26,7 +26,7 @@ use Rattle.smv_mentions.specs.Scopes.{first_of_places}
 use Rattle.smv_mentions.specs.FirstFault.{first_of, faults_at}
 use Rattle.smv_first_fault.specs.Firsts.{least, fault_at, earlier_of}
 use Rattle.smv_first_fault.proofs.LeastLaws.{first-none, first-assoc, least-append}
-use Rattle.smv_first_fault.proofs.FirstLaws.{first-both, first-at}
+use Rattle.smv_first_fault.proofs.FirstLaws.{first-both, first-at, two, one}
 use Rattle.law_designs.specs.WholeText.{is_one_layer}
 use Rattle.law_obligations.specs.Units.{units_of}
 use Rattle.law_obligations.proofs.Lookups.{find-some}
@@ -49,9 +49,6 @@ use Rattle.smv_choices.proofs.PartLaws.{proof_in, all-picks, all-claims, all-unk
 firsts : {a b c e : Option ℕ} → a ≡ c → b ≡ e → first_of_places a b ≡ first_of_places c e
 firsts p q = cc
 
-joins : {X : Type 0} {a b c e : List X} → a ≡ c → b ≡ e → a ++ b ≡ c ++ e
-joins p q = cc
-
 -- the first of what is found of each
 among-each : {X Y : Type 0} (F : Y → Option ℕ) (G : X → Y) (f : X → List ℕ) → ((x : X) → F (G x) ≡ least (f x)) → (xs : List X) → first_among (map F (map G xs)) ≡ least (flat_map f xs)
 among-each F G f same [] = refl
@@ -64,10 +61,6 @@ among-list F f same (x ∷ xs) = firsts (same x) (among-list F f same xs) ∙ sy
 least-each : {X : Type 0} (f g : X → List ℕ) → ((x : X) → least (f x) ≡ least (g x)) → (xs : List X) → least (flat_map f xs) ≡ least (flat_map g xs)
 least-each f g same [] = refl
 least-each f g same (x ∷ xs) = least-append (f x) (flat_map f xs) ∙ firsts (same x) (least-each f g same xs) ∙ sym (least-append (g x) (flat_map g xs))
-
-each-same : {X Y : Type 0} (f g : X → List Y) → ((x : X) → f x ≡ g x) → (xs : List X) → flat_map f xs ≡ flat_map g xs
-each-same f g same [] = refl
-each-same f g same (x ∷ xs) = joins (same x) (each-same f g same xs)
 
 -- ---- leaves by their names
 
@@ -107,7 +100,7 @@ module _ {X K : Type 0} (clash : X → X → Bool) (same : K → K → Bool) (at
 
   later-pairs : (xs : List X) → map at (later clash xs) ≡ in_pairs same (map keyed xs)
   later-pairs [] = refl
-  later-pairs (x ∷ more) = map-append at (filter (clash x) more) (later clash more) ∙ joins (clashes x more) (later-pairs more)
+  later-pairs (x ∷ more) = map-append at (filter (clash x) more) (later clash more) ∙ append_same (clashes x more) (later-pairs more)
 
   -- the first of the later ones is the first that was noted before
   later-again : (xs : List X) → least (again same [] (map keyed xs)) ≡ least (map at (later clash xs))
@@ -161,8 +154,8 @@ layers-later [] = refl
 layers-later (x ∷ more) = on x.1.layer refl (layers-later more)
   where
     on : (o : Option ℕ) → x.1.layer ≡ o → later same_map more ≡ later same_maps (filter has_layer more) → filter (same_map x) more ++ later same_map more ≡ later same_maps (cond (is_some x.1.layer) (x ∷ filter has_layer more) (filter has_layer more))
-    on None e h = joins (without-layer x e more) h ∙ ap (λ o. later same_maps (cond (is_some o) (x ∷ filter has_layer more) (filter has_layer more))) (sym e)
-    on (Some a) e h = joins (kept-layers x a e more) h ∙ ap (λ o. later same_maps (cond (is_some o) (x ∷ filter has_layer more) (filter has_layer more))) (sym e)
+    on None e h = append_same (without-layer x e more) h ∙ ap (λ o. later same_maps (cond (is_some o) (x ∷ filter has_layer more) (filter has_layer more))) (sym e)
+    on (Some a) e h = append_same (kept-layers x a e more) h ∙ ap (λ o. later same_maps (cond (is_some o) (x ∷ filter has_layer more) (filter has_layer more))) (sym e)
 
 maps-again : (picks : List (ℕ × Pick)) → least (again same_key [] (map_keys picks)) ≡ least (map place_of (later same_map picks))
 maps-again picks =
@@ -284,7 +277,7 @@ pub ruleset bounds = (none-bounded, first-assoc, first-none)
 
 module _ (leaves : List Leaf) where
   unknown-leaves : (refs : List Ref) → flat_map (unknown_one leaves) refs ≡ flat_map (λ (of : Ref). place_if (is_none (leaf_named leaves of)) of.at) refs
-  unknown-leaves refs = each-same (unknown_one leaves) (λ (of : Ref). place_if (is_none (leaf_named leaves of)) of.at) (λ of. on of (leaf_named leaves of)) refs
+  unknown-leaves refs = flat_map_agree (unknown_one leaves) (λ (of : Ref). place_if (is_none (leaf_named leaves of)) of.at) (λ of. on of (leaf_named leaves of)) refs
     where
       on : (of : Ref) (o : Option Leaf) → unknown_as of o ≡ place_if (is_none o) of.at
       on of None = refl
@@ -300,7 +293,7 @@ module _ (leaves : List Leaf) where
       on : (o : Option Leaf) → leaf_named leaves of ≡ o → map leaf_key (flat_map (proved_one leaves) refs) ≡ map (λ (of : Ref). (of.at, named_by of)) (filter has_leaf refs) → map leaf_key (proved_as of o) ++ map leaf_key (flat_map (proved_one leaves) refs) ≡ map (λ (of : Ref). (of.at, named_by of)) (cond (is_some (leaf_named leaves of)) (of ∷ filter has_leaf refs) (filter has_leaf refs))
       on None e h = h ∙ ap (λ o. map (λ (of : Ref). (of.at, named_by of)) (cond (is_some o) (of ∷ filter has_leaf refs) (filter has_leaf refs))) (sym e)
       on (Some leaf) e h =
-          joins (ap (λ name. (of.at, name) ∷ []) (own-name leaves of leaf e)) h
+          append_same (ap (λ name. (of.at, name) ∷ []) (own-name leaves of leaf e)) h
           ∙ ap (λ o. map (λ (of : Ref). (of.at, named_by of)) (cond (is_some o) (of ∷ filter has_leaf refs) (filter has_leaf refs))) (sym e)
 
   filter-append : (xs ys : List Ref) → filter has_leaf (xs ++ ys) ≡ filter has_leaf xs ++ filter has_leaf ys
@@ -318,7 +311,7 @@ module _ (leaves : List Leaf) where
   keys-all : (d : Design) (uses : List FlatUsing) → flat_map leaf_keys (map (reading_in d leaves) uses) ≡ map (λ (of : Ref). (of.at, named_by of)) (filter has_leaf (map (λ (p : Proof). p.of) (proofs_in uses)))
   keys-all d [] = refl
   keys-all d (using' ∷ uses) =
-      joins (keys-one using'.proves) (keys-all d uses)
+      append_same (keys-one using'.proves) (keys-all d uses)
       ∙ sym (map-append (λ (of : Ref). (of.at, named_by of)) (filter has_leaf using'.proves) (filter has_leaf (map (λ (p : Proof). p.of) (proofs_in uses))))
       ∙ ap (map (λ (of : Ref). (of.at, named_by of)))
       (sym (filter-append using'.proves (map (λ (p : Proof). p.of) (proofs_in uses)))
@@ -388,7 +381,7 @@ fit-all at set word (x ∷ proved) =
 
 module _ (d : Design) (leaves : List Leaf) where
   proved-by : (refs : List Ref) → flat_map (λ (of : Ref). map (λ leaf. (of, leaf)) (option_to_list (leaf_named leaves of))) refs ≡ flat_map (proved_one leaves) refs
-  proved-by refs = each-same (λ (of : Ref). map (λ leaf. (of, leaf)) (option_to_list (leaf_named leaves of))) (proved_one leaves) (λ of. on of (leaf_named leaves of)) refs
+  proved-by refs = flat_map_agree (λ (of : Ref). map (λ leaf. (of, leaf)) (option_to_list (leaf_named leaves of))) (proved_one leaves) (λ of. on of (leaf_named leaves of)) refs
     where
       on : (of : Ref) (o : Option Leaf) → map (λ leaf. (of, leaf)) (option_to_list o) ≡ proved_as of o
       on of None = refl
@@ -453,13 +446,6 @@ module _ (d : Design) (leaves : List Leaf) where
       ∙ sym (least-append (a ++ b) c)
 
 -- ---- the first of all
-
-two : (n : ℕ) (places : List ℕ) (o : Option ℕ) (rest : List Fault) (after : Option Fault) → o ≡ least places → after ≡ first_of rest → earlier_of (fault_at n o) after ≡ first_of (faults_at (n, places) ++ rest)
-two n places o rest after at is =
-    ap (λ p. earlier_of (fault_at n p) after) at ∙ ap (earlier_of (fault_at n (least places))) is ∙ ap (λ f. earlier_of f (first_of rest)) (sym (first-at n places)) ∙ sym (first-both (faults_at (n, places)) rest)
-
-one : (n : ℕ) (places : List ℕ) (o : Option ℕ) → o ≡ least places → fault_at n o ≡ first_of (faults_at (n, places) ++ [])
-one n places o at = ap (fault_at n) at ∙ sym (first-at n places) ∙ ap first_of (sym (append-nil (faults_at (n, places))))
 
 module _ (d : Design) (units : List FlatUnit) (leaves : List Leaf) where
   unknown-one : (using' : FlatUsing) → unknown_in (reading_in d leaves using') ≡ least (spec.unknown_uses d using' ++ spec.unknown_leaves leaves using')

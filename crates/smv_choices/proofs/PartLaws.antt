@@ -4,6 +4,7 @@ use Rattle.std.specs.Prelude.{is_none, is_some, option_to_list, Result, Ok, Err,
 use Rattle.std.specs.Str.{bytes_eq}
 use Rattle.std.specs.List.{flat_map, slice_get}
 use Rattle.std.proofs.lemmas.List.{map-append}
+use Rattle.law_lists.proofs.Lists.{append_same}
 use Rattle.smv_core.specs.Values.{Name, numbers_from}
 use Rattle.smv_core.specs.declared.tree.Word.{Word}
 use Rattle.smv_core.specs.declared.tree.Ref.{Ref}
@@ -55,19 +56,16 @@ one-claim used None = refl
 one-claim used (Some (Definition family layer)) = refl
 one-claim used (Some (Claim k)) = refl
 
-both : {X : Type 0} {a b c e : List X} → a ≡ c → b ≡ e → a ++ b ≡ c ++ e
-both p q = cc
-
 pub all-picks : (d : Design) (uses : List Use) → flat_map (picks_by d) uses ≡ picks_in d uses
 all-picks d [] = refl
-all-picks d (Plain of ∷ uses) = both (one-pick (record { of = of; early = false }) (meaning_of d of)) (all-picks d uses)
-all-picks d (Early of ∷ uses) = both (one-pick (record { of = of; early = true }) (meaning_of d of)) (all-picks d uses)
+all-picks d (Plain of ∷ uses) = append_same (one-pick (record { of = of; early = false }) (meaning_of d of)) (all-picks d uses)
+all-picks d (Early of ∷ uses) = append_same (one-pick (record { of = of; early = true }) (meaning_of d of)) (all-picks d uses)
 all-picks d (Keep set names at ∷ uses) = all-picks d uses
 
 pub all-claims : (d : Design) (uses : List Use) → flat_map (claims_by d) uses ≡ assumed_in d uses
 all-claims d [] = refl
-all-claims d (Plain of ∷ uses) = both (one-claim (record { of = of; early = false }) (meaning_of d of)) (all-claims d uses)
-all-claims d (Early of ∷ uses) = both (one-claim (record { of = of; early = true }) (meaning_of d of)) (all-claims d uses)
+all-claims d (Plain of ∷ uses) = append_same (one-claim (record { of = of; early = false }) (meaning_of d of)) (all-claims d uses)
+all-claims d (Early of ∷ uses) = append_same (one-claim (record { of = of; early = true }) (meaning_of d of)) (all-claims d uses)
 all-claims d (Keep set names at ∷ uses) = all-claims d uses
 
 pub all-unknown : (d : Design) (uses : List Use) → flat_map (unknown_by d) uses ≡ flat_map (λ (used : Used). place_if (is_none (meaning_of d used.of)) used.of.at) (used_in uses)
@@ -110,7 +108,7 @@ all-kept d of [] = refl
 all-kept d of (Plain x ∷ uses) = all-kept d of uses
 all-kept d of (Early x ∷ uses) = all-kept d of uses
 all-kept d of (Keep set names at ∷ uses) =
-    map-append (keep_with of) (kept_as names (position (sets_of d) set.name)) (flat_map (kept_one (sets_of d)) uses) ∙ both (kept-braces of names (position (sets_of d) set.name)) (all-kept d of uses)
+    map-append (keep_with of) (kept_as names (position (sets_of d) set.name)) (flat_map (kept_one (sets_of d)) uses) ∙ append_same (kept-braces of names (position (sets_of d) set.name)) (all-kept d of uses)
 
 -- ---- what is found by its name
 
@@ -144,7 +142,7 @@ module _ (d : Design) (leaves : List Leaf) where
 
   proofs-all : (uses : List FlatUsing) → proofs (map (reading_in d leaves) uses) ≡ map of_proof (proofs_in uses)
   proofs-all [] = refl
-  proofs-all (using' ∷ uses) = both (proofs-one using' using'.proves) (proofs-all uses) ∙ sym (map-append of_proof (map (proof_in using') using'.proves) (proofs_in uses))
+  proofs-all (using' ∷ uses) = append_same (proofs-one using' using'.proves) (proofs-all uses) ∙ sym (map-append of_proof (map (proof_in using') using'.proves) (proofs_in uses))
 
   found-held : (leaf : Leaf) (ps : List Proof) → find (names_held leaf) (map of_proof ps) ≡ option_map of_proof (find (λ (p : Proof). bytes_eq (named_by p.of) leaf.name) ps)
   found-held leaf [] = refl

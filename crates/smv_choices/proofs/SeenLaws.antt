@@ -1,9 +1,9 @@
 -- The first of some places, where what was looked at before is passed over.
 use Rattle.std.proofs.Common.{◌≡◌, ℕ, Bool, true, false, cond, if◌then◌else◌, refl, ap, sym, ◌∙◌, Option, Some, None, nat_eq, arith}
+use Rattle.law_lists.proofs.Numbers.{nat_eq-is}
 use Rattle.smv_mentions.specs.Scopes.{first_of_places}
 use Rattle.smv_first_fault.proofs.LeastLaws.{first-none, first-assoc}
 use Rattle.smv_references.proofs.AgainLaws.{first-comm}
-use Rattle.law_obligations.proofs.Same.{nat_eq-is}
 
 twice : (a : Option ℕ) → first_of_places a a ≡ a
 twice None = refl

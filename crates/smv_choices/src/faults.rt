@@ -97,7 +97,7 @@ fn first_misfit(alloc: Global, tables: &Tables, all: &[Reading]) -> Result<Optio
 }
 
 /// The first fault of uses, 26 to 28, by place and then by number.
-pub fn uses_fault(
+pub(crate) fn uses_fault(
     alloc: Global,
     units: &[Unit],
     tables: &Tables,

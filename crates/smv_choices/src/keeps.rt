@@ -54,7 +54,7 @@ fn add_kept<'a>(
 
 /// The braces of some uses, each read once for all leaves that are proved with them.
 #[tactic(auto, using(smv_mentions::proofs::Notes::noting))]
-pub fn all_kept<'a>(
+pub(crate) fn all_kept<'a>(
     alloc: Global,
     sets: &NameIndex,
     uses: &'a [Use],
@@ -97,7 +97,7 @@ fn keep(alloc: Global, of: &Ref, kept: &Kept) -> Result<Keep, AllocError>
 
 /// What each of some braces keeps by the brackets of a reference.
 #[tactic(auto, using(smv_mentions::proofs::Notes::noting))]
-pub fn all_keeps(alloc: Global, of: &Ref, kept: &[Kept]) -> Result<Vec<Keep>, AllocError>
+pub(crate) fn all_keeps(alloc: Global, of: &Ref, kept: &[Kept]) -> Result<Vec<Keep>, AllocError>
     ensures { IfOk result (λ keeps. keeps.items ≡ map (keep_with of.now) kept.now) }
 {
     let mut keeps = Vec::new(alloc);

@@ -145,7 +145,7 @@ fn choice_of(
 
 /// What each of some leaves uses, where this is what each `using` says.
 #[tactic(auto, using(smv_mentions::proofs::Notes::noting))]
-pub fn all_choices(
+pub(crate) fn all_choices(
     alloc: Global,
     units: &[Unit],
     leaves: &[Leaf],

@@ -70,7 +70,11 @@ fn assumed(claim: Option<u16>) -> Option<Meaning>
 }
 
 /// What a reference before `prove` means.
-pub fn meaning_of(alloc: Global, tables: &Tables, of: &Ref) -> Result<Option<Meaning>, AllocError>
+pub(crate) fn meaning_of(
+    alloc: Global,
+    tables: &Tables,
+    of: &Ref,
+) -> Result<Option<Meaning>, AllocError>
     requires { AreTables tables.now }
     ensures { IfOk result (λ meaning. meaning ≡ uses.meaning_of tables.now.design.now of.now) }
 {

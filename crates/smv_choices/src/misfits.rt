@@ -204,7 +204,11 @@ fn first_misnamed(
 }
 
 /// The first place of fault 28 in a `using`.
-pub fn misfit_in(alloc: Global, tables: &Tables, x: &Reading) -> Result<Option<u32>, AllocError>
+pub(crate) fn misfit_in(
+    alloc: Global,
+    tables: &Tables,
+    x: &Reading,
+) -> Result<Option<u32>, AllocError>
     requires { AreTables tables.now }
     ensures { IfOk result (λ place. place ≡ readings.misfit_in tables.now.design.now (reading x.now)) }
 {

@@ -31,7 +31,10 @@ fn add_using<'a>(out: &mut Vec<Proof<'a>>, by: &'a Reading<'a>) -> Result<(), Al
 
 /// All of them, in flat order.
 #[tactic(auto, using(smv_mentions::proofs::Notes::noting))]
-pub fn all_proofs<'a>(alloc: Global, all: &'a [Reading<'a>]) -> Result<Vec<Proof<'a>>, AllocError>
+pub(crate) fn all_proofs<'a>(
+    alloc: Global,
+    all: &'a [Reading<'a>],
+) -> Result<Vec<Proof<'a>>, AllocError>
     ensures { IfOk result (λ out. map proof_held out.items ≡ flat_map proofs_with (map reading all.now)) }
 {
     let mut out = Vec::new(alloc);
@@ -42,7 +45,7 @@ pub fn all_proofs<'a>(alloc: Global, all: &'a [Reading<'a>]) -> Result<Vec<Proof
 }
 
 /// The names of what is proved.
-pub fn names_of_proofs(alloc: Global, proofs: &[Proof]) -> Result<Vec<Name>, AllocError>
+pub(crate) fn names_of_proofs(alloc: Global, proofs: &[Proof]) -> Result<Vec<Name>, AllocError>
     ensures { IfOk result (λ names. names.items ≡ map (λ proof. named_by (proof_held proof).of) proofs.now) }
 {
     let mut names = Vec::new(alloc);
@@ -75,7 +78,11 @@ fn proof_at<'a>(proofs: &[Proof<'a>], place: Option<usize>) -> Option<Proof<'a>>
 }
 
 /// The `using` that proves a leaf, if there is one.
-pub fn proof_for<'a>(proofs: &[Proof<'a>], index: &NameIndex, leaf: &Leaf) -> Option<Proof<'a>>
+pub(crate) fn proof_for<'a>(
+    proofs: &[Proof<'a>],
+    index: &NameIndex,
+    leaf: &Leaf,
+) -> Option<Proof<'a>>
     requires { index.now ≡ map (λ proof. named_by (proof_held proof).of) proofs.now }
     ensures { option_map proof_held result ≡ find (names_held leaf.now) (map proof_held proofs.now) }
 {

@@ -203,7 +203,7 @@ fn chosen_for_each(
 }
 
 /// The first place of fault 27 in a `using`, besides leaves that others prove too.
-pub fn twice_in(
+pub(crate) fn twice_in(
     alloc: Global,
     units: &[Unit],
     tables: &Tables,

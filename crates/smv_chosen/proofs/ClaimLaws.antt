@@ -1,6 +1,8 @@
 -- The units of a design that are claims.
 use Rattle.std.proofs.Common.{◌≡◌, ℕ, zero, suc, ◌+◌, List, [], ◌∷◌, ◌++◌, zip, length, Option, Some, None, Bool, true, false, cond, if◌then◌else◌, nat_lt, refl, sym, ap, subst, ◌∙◌, slice_get, arith, ◌⊎◌, inl, inr}
 use Rattle.std.specs.Prelude.{option_map, option_and_then}
+use Rattle.law_lists.proofs.Options.{some_is}
+use Rattle.law_lists.proofs.Numbers.{nat_eq-is}
 use Rattle.smv_core.specs.Values.{numbers_from}
 use Rattle.smv_core.specs.declared.flat.Def.{Def}
 use Rattle.smv_core.specs.declared.flat.Claim.{Claim as FlatClaim}
@@ -11,8 +13,8 @@ use Rattle.smv_core.specs.declared.flat.Unit.TheVariants.{Map, Claim}
 use Rattle.law_obligations.specs.Sets.{Has, first, later}
 use Rattle.law_obligations.proofs.Members.{Has-uncons, Has-cases, Has-right, Has-map, Has-from_map}
 use Rattle.law_obligations.proofs.OneOfEach.{Has-from_flat_map, get_Has}
-use Rattle.law_obligations.proofs.Same.{nat_eq-is, nat_eq-itself}
-use Rattle.law_obligations.proofs.Lookups.{inner, Has-tested, Found, place_of-is}
+use Rattle.law_obligations.proofs.Same.{nat_eq-itself}
+use Rattle.law_obligations.proofs.Lookups.{Has-tested, Found, place_of-is}
 use Rattle.law_obligations.specs.Outlines.{place_of, is_claim, unit_in, as_claim, claim_in, said_by, claim_by, assumed}
 use Rattle.law_obligations.specs.Units.{is_refinement, maps, claims, put, in_order, units_of}
 
@@ -73,7 +75,7 @@ Has-numbered : {X : Type 0} (low : ℕ) (xs : List X) (k : ℕ) (x : X) → slic
 Has-numbered low [] k x e = absurd (cc (e))
 Has-numbered {X} low (y ∷ xs) zero x e =
     let at : low ≡ low + 0 = omega arith in
-    subst (λ j. Has (zip (numbers_from low (length (y ∷ xs))) (y ∷ xs)) (j, x)) at (subst (λ z. Has (zip (numbers_from low (length (y ∷ xs))) (y ∷ xs)) (low, z)) (inner e) first)
+    subst (λ j. Has (zip (numbers_from low (length (y ∷ xs))) (y ∷ xs)) (j, x)) at (subst (λ z. Has (zip (numbers_from low (length (y ∷ xs))) (y ∷ xs)) (low, z)) (some_is e) first)
 Has-numbered low (y ∷ xs) (suc k) x e =
     let at : low + 1 + k ≡ low + suc k = omega arith in
     subst (λ j. Has (zip (numbers_from low (length (y ∷ xs))) (y ∷ xs)) (j, x)) at (later (Has-numbered (low + 1) xs k x e))

@@ -1,7 +1,7 @@
 -- The table of definitions, from one family to the next and from one pick to the one before it.
-use Rattle.std.proofs.Common.{◌≡◌, ◌≢◌, ℕ, zero, suc, ◌+◌, ◌<◌, ◌≤◌, List, [], ◌∷◌, ◌++◌, length, slice_get, get_or, Option, Some, None, true, false, cond, drop, refl, ap, sym, subst, ◌∙◌, ◌⊎◌, inl, inr, Bor, arith}
+use Rattle.std.proofs.Common.{◌≡◌, ◌≢◌, ℕ, zero, suc, ◌+◌, ◌<◌, ◌≤◌, List, [], ◌∷◌, ◌++◌, length, slice_get, get_or, Option, Some, None, cond, drop, refl, ap, sym, subst, ◌∙◌, ◌⊎◌, inl, inr, Bor, arith}
 use Rattle.std.specs.Prelude.{find, option_copied, option_and_then, slice_set, nat_eq}
-use Rattle.std.proofs.lemmas.Bool.Decides.{nat_tests}
+use Rattle.law_lists.proofs.Numbers.{nat_eq-other, nat_eq-same}
 use Rattle.smv_core.specs.declared.flat.Design.{Design}
 use Rattle.smv_core.specs.declared.flat.Def.{Def}
 use Rattle.smv_core.specs.declared.flat.Claim.{Claim as FlatClaim}
@@ -58,12 +58,6 @@ said o (Some unit) = refl
 
 -- ---- picks
 
-apart : (m n : ℕ) → n ≢ m → nat_eq m n ≡ false
-apart m n h = grind (arith, nat_tests)
-
-equal : (m n : ℕ) → n ≡ m → nat_eq m n ≡ true
-equal m n h = grind (arith, nat_tests)
-
 set-got : {X : Type 0} (xs : List X) (k : ℕ) (x : X) (j : ℕ) (y : X) → slice_get (slice_set xs k x) j ≡ Some y → ((j ≡ k) × (y ≡ x)) ⊎ ((j ≢ k) × (slice_get xs j ≡ Some y))
 set-got [] k x j y e = absurd (cc (e))
 set-got (z ∷ xs) zero x zero y e = inl (refl, cc (e))
@@ -79,8 +73,8 @@ picked : (o : Outline) (p : Pick) (more : List Pick) (table new : List (Option (
 picked o p more table new def so is e family other at =
     let rest = find (λ (q : Pick). nat_eq q.family family) more in
     elim (set-got table p.family def family other (ap (λ l. slice_get l family) (sym e) ∙ at)) [
-      | inl h ↦ ap option_copied h.1 ∙ (is ∙ sym (ap (λ b. map_by_pick o family (cond b (Some p) rest)) (equal p.family family h.0)))
-      | inr h ↦ so family other h.1 ∙ sym (ap (λ b. map_by_pick o family (cond b (Some p) rest)) (apart p.family family h.0))
+      | inl h ↦ ap option_copied h.1 ∙ (is ∙ sym (ap (λ b. map_by_pick o family (cond b (Some p) rest)) (nat_eq-same p.family family h.0)))
+      | inr h ↦ so family other h.1 ∙ sym (ap (λ b. map_by_pick o family (cond b (Some p) rest)) (nat_eq-other p.family family h.0))
     ]
 
 drop-more : (picks : List Pick) (k : ℕ) (d : Pick) → k < length picks → drop k picks ≡ get_or picks k d ∷ drop (suc k) picks
@@ -119,7 +113,7 @@ put-one : (d : Design) (p : Pick) (more : List Pick) (table new : List (Option (
 put-one d p more table new def so is e family other at none =
     elim (set-got table p.family def family other (ap (λ l. slice_get l family) (sym e) ∙ at)) [
       | inl h ↦ ap option_copied h.1 ∙ (is ∙ ap (base_of d) (sym h.0))
-      | inr h ↦ so family other h.1 (ap (λ b. cond b (Some p) (find (λ (q : Pick). nat_eq q.family family) more)) (apart p.family family h.0) ∙ none)
+      | inr h ↦ so family other h.1 (ap (λ b. cond b (Some p) (find (λ (q : Pick). nat_eq q.family family) more)) (nat_eq-other p.family family h.0) ∙ none)
     ]
 
 pub back-turn : (d : Design) (picks : List Pick) (k : ℕ) (first : Pick) (table new : List (Option (Bor Def))) (def : Option (Bor Def)) → k < length picks → AreBaseDefsBut d (drop k picks) table →

@@ -2,6 +2,7 @@
 use Rattle.std.proofs.Common.{◌≡◌, ◌<◌, ℕ, zero, suc, length, List, [], ◌∷◌, ◌++◌, set, slice_get, get_or, Option, Some, Bool, true, false, ◌&&◌, ◌||◌, refl, sym, ap, ◌∙◌, subst}
 use Rattle.std.proofs.lemmas.Option.{slice_get-get_or}
 use Rattle.std.proofs.lemmas.List.{get_or_default}
+use Rattle.std.proofs.lemmas.List.Folds.{list_any-append}
 use Rattle.smv_core.specs.FlatMeaning.{Numbered}
 use Rattle.law_obligations.specs.Places.{AbsOutcome}
 use Rattle.smv_spots.specs.declared.spots.Spot.{Spot}
@@ -10,7 +11,6 @@ use Rattle.smv_conditions.specs.declared.offers.Offer.{Offer}
 use Rattle.smv_conditions.specs.Keep.{KeepsConditions}
 use Rattle.smv_conditions.specs.Offers.{any_offer, AreOffersMade}
 use Rattle.smv_conditions.specs.Adds.{Adds}
-use Rattle.law_obligations.proofs.Anys.{any-append}
 use Rattle.smv_conditions.proofs.AddLaws.{offers_same}
 
 module _ {S C : Type 0} (n : Numbered) (IsMade : S → C → Type 0) (holds : S → C → (ℕ → Bool) → Bool) (room : S → ℕ) (a : ℕ → Bool) (p : AbsOutcome → Bool) where
@@ -35,7 +35,7 @@ module _ {S C : Type 0} (n : Numbered) (IsMade : S → C → Type 0) (holds : S 
   unfolding Adds any_offer
   adds_last s old new when outcome o e f =
       ap (any_offer n holds s a p) e
-      ∙ (any-append (λ (o : Offer C). holds s o.when a && p (outcome_in n o.outcome)) old (o ∷ [])
+      ∙ (list_any-append (λ (o : Offer C). holds s o.when a && p (outcome_in n o.outcome)) old (o ∷ [])
       ∙ (ap (λ (o : Offer C). any_offer n holds s a p old || ((holds s o.when a && p (outcome_in n o.outcome)) || false)) f
       ∙ last (any_offer n holds s a p old) (holds s when a && p (outcome_in n outcome))))
 

@@ -106,7 +106,7 @@ pub fn either<S: Conditions>(
 
 /// `->`.
 #[tactic(auto, unfolding(crate::specs::Chances::mix_at))]
-pub fn implied<S: Conditions>(
+fn implied<S: Conditions>(
     s: &mut S,
     alloc: Global,
     x: Chances<S::Condition>,
@@ -122,7 +122,7 @@ pub fn implied<S: Conditions>(
 }
 
 /// Two parts of a chain.
-pub fn joined_by<S: Conditions>(
+fn joined_by<S: Conditions>(
     s: &mut S,
     alloc: Global,
     how: Join,

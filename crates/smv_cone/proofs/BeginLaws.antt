@@ -1,6 +1,8 @@
 -- With what the search for a cone begins.
-use Rattle.std.proofs.Common.{◌≡◌, ℕ, zero, suc, List, [], ◌∷◌, ◌++◌, map, take, length, slice_get, Option, Some, None, Bool, true, false, ◌&&◌, if◌then◌else◌, refl, sym, ap, ◌∙◌}
+use Rattle.std.proofs.Common.{◌≡◌, ℕ, List, [], ◌∷◌, ◌++◌, map, take, length, slice_get, Option, Some, None, Bool, ◌&&◌, if◌then◌else◌, refl, sym, ap, ◌∙◌}
 use Rattle.std.specs.List.{flat_map, list_all}
+use Rattle.std.proofs.lemmas.List.{map-append, append_assoc}
+use Rattle.law_lists.proofs.Lists.{map-take, map-if, map-flat_map, flat_map_alike}
 use Rattle.smv_core.specs.Values.{number, constant, scalar, ordinal}
 use Rattle.smv_core.specs.declared.flat.Element.{Element}
 use Rattle.smv_core.specs.declared.flat.Def.{Def}
@@ -11,23 +13,15 @@ use Rattle.smv_core.specs.declared.flat.Unit.{Unit}
 use Rattle.smv_core.specs.declared.flat.Unit.TheVariants.{Map, Claim}
 use Rattle.law_obligations.specs.Places.{Place, named, rest, is_named}
 use Rattle.law_obligations.specs.Soundness.{over_of}
-use Rattle.law_obligations.proofs.OneOfEach.{map_joined}
 use Rattle.law_obligations.specs.Outlines.{assumed, unit_in, as_map, as_claim}
 use Rattle.law_obligations.specs.Cones.{element, elements_read, elements_of_def, elements_assumed, of_target}
 use Rattle.smv_problem.specs.Written.{written_class, written_element}
 use Rattle.smv_reads.specs.Views.{world_of, place_in}
 use Rattle.smv_reads.specs.Reading.{read_in, read_of}
-use Rattle.smv_reads.proofs.Lists.{map-flat_map, flat_map-same}
 use Rattle.smv_chosen.proofs.ClaimLaws.{claim-assumed}
 use Rattle.smv_cone.specs.declared.parts.Part.{Part}
 use Rattle.smv_cone.specs.Parts.{is_class, own_in, outline_of, entry_of, params_of, IsPartView}
 use Rattle.smv_cone.specs.Begins.{read_instances, read_map, read_body, read_unit, read_guards, read_assumed, read_claims, read_first}
-use Rattle.smv_cone.proofs.InstanceLaws.{again}
-
-map-take : {X Y : Type 0} (f : X → Y) (n : ℕ) (xs : List X) → map f (take n xs) ≡ take n (map f xs)
-map-take f zero xs = refl
-map-take f (suc n) [] = refl
-map-take f (suc n) (x ∷ xs) = ap (λ ys. f x ∷ ys) (map-take f n xs)
 
 -- a place is named where its class is no rest
 class-named : (p : Place) → is_class (written_class p) ≡ is_named p
@@ -43,10 +37,6 @@ class-named (rest (ordinal t k)) = refl
 classes-named : (ps : List Place) → list_all is_class (map written_class ps) ≡ list_all is_named ps
 classes-named [] = refl
 classes-named (p ∷ ps) = ap (λ (b : Bool). b && list_all is_class (map written_class ps)) (class-named p) ∙ ap (λ (b : Bool). is_named p && b) (classes-named ps)
-
-map-if : {X Y : Type 0} (f : X → Y) (b : Bool) (xs : List X) → map f (if b then xs else []) ≡ (if b then map f xs else [])
-map-if f true xs = refl
-map-if f false xs = refl
 
 -- the element of a map
 own-written : (family : ℕ) (ps : List Place) → map written_element (if list_all is_named ps then element family ps ∷ [] else []) ≡ own_in family (map written_class ps)
@@ -75,7 +65,7 @@ module _ (p : Part) where
       let own = take count (params_of p) in
       let classes : map written_class own ≡ take count p.classes.now = map-take written_class count (params_of p) ∙ ap (take count) h.are_written in
       ap (λ (o : Option Def). map written_element (of_target (world_of p.view) (outline_of p) (entry_of p) (params_of p) (as_map o))) e
-      ∙ (map_joined written_element (if list_all is_named own then element def.family own ∷ [] else []) (elements_of_def (world_of p.view) own def)
+      ∙ (map-append written_element (if list_all is_named own then element def.family own ∷ [] else []) (elements_of_def (world_of p.view) own def)
       ∙ (ap (λ (xs : List Element). xs ++ map written_element (elements_of_def (world_of p.view) own def)) (own-written def.family own ∙ ap (own_in def.family) classes)
       ∙ ap (λ (ps : List Place). own_in def.family (take count p.classes.now) ++ map written_element (elements_of_def (world_of p.view) ps def)) (sym (map-take (place_in p.view) count p.params.now))))
 
@@ -95,13 +85,13 @@ module _ (p : Part) where
       let target = of_target w (outline_of p) (entry_of p) (params_of p) (unit_in p.view.design.now (entry_of p).unit) in
       let guards = flat_map (λ (g : Guard). elements_read w g.expr (params_of p)) p.leaf.now.guards in
       let claims = flat_map (λ (used : Assumed). elements_assumed w (assumed (outline_of p) used)) p.choice.now.claims in
-      map_joined written_element (target ++ guards) claims
-      ∙ (ap (λ (xs : List Element). xs ++ map written_element claims) (map_joined written_element target guards)
-      ∙ (again (map written_element target) (map written_element guards) (map written_element claims)
+      map-append written_element (target ++ guards) claims
+      ∙ (ap (λ (xs : List Element). xs ++ map written_element claims) (map-append written_element target guards)
+      ∙ (append_assoc (map written_element target) (map written_element guards) (map written_element claims)
       ∙ (ap (λ (xs : List Element). map written_element target ++ (xs ++ map written_element claims)) (map-flat_map written_element (λ (g : Guard). elements_read w g.expr (params_of p)) p.leaf.now.guards)
       ∙ ap (λ (xs : List Element). map written_element target ++ (read_guards p ++ xs))
       (map-flat_map written_element (λ (used : Assumed). elements_assumed w (assumed (outline_of p) used)) p.choice.now.claims
-      ∙ flat_map-same (λ (used : Assumed). map written_element (elements_assumed w (assumed (outline_of p) used))) (λ (used : Assumed). read_assumed p used.claim) p.choice.now.claims
+      ∙ flat_map_alike (λ (used : Assumed). map written_element (elements_assumed w (assumed (outline_of p) used))) (λ (used : Assumed). read_assumed p used.claim) p.choice.now.claims
       (λ used. ap (λ (o : Option FlatClaim). map written_element (elements_assumed w o)) (claims-are used))))))
     where
       claims-are : (used : Assumed) → assumed (outline_of p) used ≡ slice_get p.view.design.now.claims used.claim

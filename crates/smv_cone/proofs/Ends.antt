@@ -1,7 +1,8 @@
 -- What a search has found when it ends.
-use Rattle.std.proofs.Common.{◌≡◌, ℕ, zero, suc, ◌<◌, ◌≤◌, List, [], ◌∷◌, map, length, Some, None, Bool, true, false, nat_lt, nat_le, refl, sym, ap, subst, ◌∙◌, arith}
-use Rattle.std.specs.List.{slice_get}
+use Rattle.std.proofs.Common.{◌≡◌, ℕ, ◌<◌, ◌≤◌, List, [], ◌∷◌, map, length, Some, None, Bool, true, false, nat_lt, nat_le, refl, sym, ap, subst, ◌∙◌, arith}
 use Rattle.std.proofs.lemmas.Bool.Decides.{nat_tests}
+use Rattle.std.proofs.lemmas.Option.{slice_get_within}
+use Rattle.law_lists.proofs.Lists.{length_map}
 use Rattle.smv_core.specs.Values.{Name}
 use Rattle.smv_core.specs.declared.flat.Element.{Element}
 use Rattle.smv_core.specs.declared.flat.SetInfo.{SetInfo}
@@ -9,10 +10,10 @@ use Rattle.smv_core.specs.declared.flat.FlatExpr.{Number}
 use Rattle.smv_core.specs.declared.abstract_type.AbsType.{AbsType}
 use Rattle.law_obligations.specs.Places.{World}
 use Rattle.law_obligations.specs.Obligations.{holds}
-use Rattle.law_obligations.proofs.OneOfEach.{map_long}
-use Rattle.law_obligations.specs.Cones.{AbsElement, element, same_element}
-use Rattle.law_obligations.proofs.ConeFacts.{same_element-itself, same_element-family, same_element-indexes}
+use Rattle.law_obligations.specs.Cones.{AbsElement, same_element}
+use Rattle.law_obligations.proofs.ConeFacts.{same_element-itself}
 use Rattle.law_obligations.specs.Readings.{bits_of_all}
+use Rattle.law_obligations.proofs.LeastCones.{same_element-is}
 use Rattle.law_problems.proofs.Searches.{search-over}
 use Rattle.law_problems.proofs.Orders.{no_more_bits}
 use Rattle.smv_problem.specs.Written.{written, written_type, written_element}
@@ -30,11 +31,6 @@ use Rattle.smv_cone.specs.Searching.{HasLeast, HasFound, IsConeOf}
 
 -- ---- turns
 
-past : {X : Type 0} (xs : List X) (k : ℕ) (x : X) → slice_get xs k ≡ Some x → k < length xs
-past [] k x e = absurd (cc)
-past (y ∷ xs) zero x e = omega arith
-past (y ∷ xs) (suc k) x e = let l = past xs k x e in omega (arith, l)
-
 -- the search has gone on from all that is found, or too much is found
 pub gone-over : (p : Part) (found : List Element) (turn : ℕ) → HasFound p found turn → length found ≤ turn → HasFound p found (length found)
 gone-over p found turn f l = record {
@@ -45,7 +41,7 @@ gone-over p found turn f l = record {
   is_search = λ few. record {
     begins = (f.is_search few).begins;
     within = (f.is_search few).within;
-    closed = λ k x m e. let less = past f.all k x e in let long : length f.all ≡ length found = sym (map_long written_element f.all) ∙ ap length f.are_written in (f.is_search few).closed k x (omega (arith, less, long, l)) e;
+    closed = λ k x m e. let less = slice_get_within f.all k x e in let long : length f.all ≡ length found = sym (length_map written_element f.all) ∙ ap length f.are_written in (f.is_search few).closed k x (omega (arith, less, long, l)) e;
   };
 }
 
@@ -78,15 +74,12 @@ forms-written w (info ∷ sets) (t ∷ types) h = ap (λ (a : AbsType). a ∷ ty
     form : w.classes.sizes info.name ≡ t.named → w.rests info.name ≡ t.rest → written_type w info ≡ t
     form e f = ap (λ (n : ℕ). record { named = n; rest = w.rests info.name }) e ∙ ap (λ r. record { named = t.named; rest = r }) f
 
-pub one-element : (x y : AbsElement) → same_element x y ≡ true → x ≡ y
-one-element x y e = ap (λ (k : ℕ). element k x.indexes) (same_element-family x y e) ∙ ap (element y.family) (same_element-indexes x y e)
-
 module _ (p : Part) (h : IsPartView p) (least : HasLeast p) (found : List Element) (f : HasFound p found (length found)) where
   abbrev w : World
   w = world_of p.view
 
   long : length f.all ≡ length found
-  long = sym (map_long written_element f.all) ∙ ap length f.are_written
+  long = sym (length_map written_element f.all) ∙ ap length f.are_written
 
   pub full-bits : (b : Bool) → b ≡ is_full found → b ≡ true → IsConeOf p None
   full-bits b e t =
@@ -98,7 +91,7 @@ module _ (p : Part) (h : IsPartView p) (least : HasLeast p) (found : List Elemen
       omega (arith, many, have, more, same)
 
   all-found : is_full found ≡ false → HaveAll f.all (cone_of p)
-  all-found few = (f.within, λ x m. let same = long in search-over (nexts p) (firsts p) (cone_of p) least same_element one-element same_element-itself f.all (length found) (f.is_search few) (omega (arith, same)) x m)
+  all-found few = (f.within, λ x m. let same = long in search-over (nexts p) (firsts p) (cone_of p) least same_element same_element-is same_element-itself f.all (length found) (f.is_search few) (omega (arith, same)) x m)
 
   bits-are : is_full found ≡ false → (lists : List ℕ) → lists ≡ map (λ (l : List Name). length l) p.view.design.now.enums → bits_of_elements p.view.design.now.families lists p.view.types.now found ≡ bits_of_all w (cone_of p)
   bits-are few lists same =

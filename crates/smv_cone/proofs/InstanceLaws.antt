@@ -1,40 +1,25 @@
 -- What an expression reads, where variables take all places of their types.
 use Rattle.std.proofs.Common.{◌≡◌, ℕ, zero, suc, ◌+◌, ◌<◌, ◌≤◌, List, [], ◌∷◌, ◌++◌, map, length, drop, refl, sym, ap, ◌∙◌, arith}
 use Rattle.std.specs.List.{flat_map, slice_index_or}
+use Rattle.std.proofs.lemmas.List.{map-append, append-nil}
+use Rattle.std.proofs.lemmas.List.Folds.{flat_map-map}
+use Rattle.law_lists.proofs.Lists.{append_again, flat_map-flat_map, map-flat_map, flat_map_alike}
 use Rattle.smv_core.specs.declared.flat.Param.{Param}
 use Rattle.smv_core.specs.declared.flat.FlatExpr.{FlatExpr}
 use Rattle.law_obligations.specs.Sets.{one_of_each}
 use Rattle.law_obligations.specs.Places.{Place, named_in}
-use Rattle.law_obligations.proofs.OneOfEach.{map_joined, joined_again}
 use Rattle.law_obligations.specs.Cones.{AbsElement, elements_read}
 use Rattle.smv_problem.specs.Written.{written_element}
 use Rattle.smv_spots.specs.declared.spots.Spot.{Spot}
 use Rattle.smv_reads.specs.declared.bindings.View.{View}
 use Rattle.smv_reads.specs.Views.{world_of, place_in, places}
 use Rattle.smv_reads.specs.Reading.{read_in}
-use Rattle.smv_reads.proofs.Lists.{map-flat_map, flat_map-map, flat_map-same}
 use Rattle.smv_cone.specs.Begins.{read_instances}
-
-nothing-behind : {X : Type 0} (xs : List X) → xs ++ [] ≡ xs
-nothing-behind [] = refl
-nothing-behind (x ∷ xs) = ap (λ ys. x ∷ ys) (nothing-behind xs)
-
-pub again : {X : Type 0} (xs ys zs : List X) → (xs ++ ys) ++ zs ≡ xs ++ (ys ++ zs)
-again [] ys zs = refl
-again (x ∷ xs) ys zs = ap (λ l. x ∷ l) (again xs ys zs)
-
-flat_map-joined : {X Y : Type 0} (f : X → List Y) (xs ys : List X) → flat_map f (xs ++ ys) ≡ flat_map f xs ++ flat_map f ys
-flat_map-joined f [] ys = refl
-flat_map-joined f (x ∷ xs) ys = ap (λ l. f x ++ l) (flat_map-joined f xs ys) ∙ sym (again (f x) (flat_map f xs) (flat_map f ys))
-
-flat_map-flat_map : {X Y Z : Type 0} (f : Y → List Z) (g : X → List Y) (xs : List X) → flat_map f (flat_map g xs) ≡ flat_map (λ x. flat_map f (g x)) xs
-flat_map-flat_map f g [] = refl
-flat_map-flat_map f g (x ∷ xs) = flat_map-joined f (g x) (flat_map g xs) ∙ ap (λ l. flat_map f (g x) ++ l) (flat_map-flat_map f g xs)
 
 module _ (v : View) (front : List Spot) (body : FlatExpr) where
   pub instances-end : read_instances v front [] body ≡ read_in v front body
   unfolding read_instances read_in
-  instances-end = ap (map written_element) (nothing-behind (elements_read (world_of v) body (places v front ++ [])) ∙ ap (elements_read (world_of v) body) (nothing-behind (places v front)))
+  instances-end = ap (map written_element) (append-nil (elements_read (world_of v) body (places v front ++ [])) ∙ ap (elements_read (world_of v) body) (append-nil (places v front)))
 
   pub instances-more : (param : Param) (more : List Param) (spots : List Spot) → places v spots ≡ named_in (world_of v) param.over → read_instances v front (param ∷ more) body ≡ flat_map (λ p. read_instances v (front ++ p ∷ []) more body) spots
   unfolding read_instances
@@ -44,14 +29,14 @@ module _ (v : View) (front : List Spot) (body : FlatExpr) where
       let g : Place → List AbsElement = λ q. flat_map (λ b. elements_read (world_of v) body ((places v front ++ q ∷ []) ++ b)) (one_of_each pss) in
       ap (map written_element)
       (flat_map-flat_map f (λ q. map (λ b. q ∷ b) (one_of_each pss)) (named_in (world_of v) param.over)
-      ∙ flat_map-same (λ q. flat_map f (map (λ b. q ∷ b) (one_of_each pss))) g (named_in (world_of v) param.over) (λ q.
+      ∙ flat_map_alike (λ q. flat_map f (map (λ b. q ∷ b) (one_of_each pss))) g (named_in (world_of v) param.over) (λ q.
       flat_map-map f (λ b. q ∷ b) (one_of_each pss)
-      ∙ flat_map-same (λ b. f (q ∷ b)) (λ b. elements_read (world_of v) body ((places v front ++ q ∷ []) ++ b)) (one_of_each pss) (λ b. ap (elements_read (world_of v) body) (sym (joined_again (places v front) b q)))))
+      ∙ flat_map_alike (λ b. f (q ∷ b)) (λ b. elements_read (world_of v) body ((places v front ++ q ∷ []) ++ b)) (one_of_each pss) (λ b. ap (elements_read (world_of v) body) (sym (append_again (places v front) b q)))))
       ∙ (map-flat_map written_element g (named_in (world_of v) param.over)
       ∙ (ap (flat_map (λ q. map written_element (g q))) (sym e)
       ∙ (flat_map-map (λ q. map written_element (g q)) (place_in v) spots
-      ∙ flat_map-same (λ s. map written_element (g (place_in v s))) (λ s. read_instances v (front ++ s ∷ []) more body) spots (λ s.
-      ap (λ (ps : List Place). map written_element (flat_map (λ b. elements_read (world_of v) body (ps ++ b)) (one_of_each pss))) (sym (map_joined (place_in v) front (s ∷ [])))))))
+      ∙ flat_map_alike (λ s. map written_element (g (place_in v s))) (λ s. read_instances v (front ++ s ∷ []) more body) spots (λ s.
+      ap (λ (ps : List Place). map written_element (flat_map (λ b. elements_read (world_of v) body (ps ++ b)) (one_of_each pss))) (sym (map-append (place_in v) front (s ∷ [])))))))
 
 drop-more : (params : List Param) (k : ℕ) (param : Param) → k < length params → param ≡ slice_index_or params k param → drop k params ≡ param ∷ drop (suc k) params
 drop-more [] k param l e = absurd (omega arith)

@@ -3,6 +3,7 @@ use Rattle.std.proofs.Common.{◌≡◌, ℕ, zero, suc, ◌+◌, ◌<◌, List,
 use Rattle.std.specs.Prelude.{option_to_list}
 use Rattle.std.specs.List.{flat_map, slice_index_or}
 use Rattle.std.specs.Result.{OnOk}
+use Rattle.std.proofs.lemmas.List.{append-nil}
 use Rattle.smv_core.specs.declared.flat.Element.{Element}
 use Rattle.smv_core.specs.declared.flat.Simple.{Simple}
 use Rattle.smv_core.specs.declared.flat.Family.{Family}
@@ -33,10 +34,6 @@ use Rattle.smv_cone.specs.Parts.{spots_in, outline_of, firsts, nexts, cone_of, I
 use Rattle.smv_cone.specs.Begins.{read_first}
 use Rattle.smv_cone.specs.Searching.{read_next, HasLeast, HasFound}
 
-nothing-behind : {X : Type 0} (xs : List X) → xs ++ [] ≡ xs
-nothing-behind [] = refl
-nothing-behind (x ∷ xs) = ap (λ ys. x ∷ ys) (nothing-behind xs)
-
 item-get : {X : Type 0} (xs : List X) (k : ℕ) (x : X) → k < length xs → x ≡ slice_index_or xs k x → slice_get xs k ≡ Some x
 item-get [] k x l e = absurd (omega arith)
 item-get (y ∷ xs) zero x l e = ap Some (sym e)
@@ -52,7 +49,7 @@ pub next-some : (p : Part) (family : ℕ) (own : List Spot) (def : Def) → chos
 unfolding read_next read_of
 next-some p family own def e =
     ap (λ (o : Option Def). map written_element (flat_map (elements_of_def (world_of p.view) (places p.view own)) (option_to_list o))) e
-    ∙ ap (map written_element) (nothing-behind (elements_of_def (world_of p.view) (places p.view own) def))
+    ∙ ap (map written_element) (append-nil (elements_of_def (world_of p.view) (places p.view own) def))
 
 -- ---- elements lie where their classes are
 

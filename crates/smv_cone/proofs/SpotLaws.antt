@@ -1,8 +1,8 @@
 -- Where classes lie, place by place.
 use Rattle.std.proofs.Common.{◌≡◌, ℕ, zero, suc, ◌+◌, ◌<◌, ◌≤◌, List, [], ◌∷◌, ◌++◌, length, drop, get_or, refl, sym, ap, ◌∙◌, ◌⊎◌, inl, inr, arith}
+use Rattle.law_lists.proofs.Lists.{append_again}
 use Rattle.smv_core.specs.declared.flat.Simple.{Simple}
 use Rattle.smv_core.specs.declared.flat.Class.{Class}
-use Rattle.law_obligations.proofs.OneOfEach.{joined_again}
 use Rattle.smv_spots.specs.declared.spots.Spot.{Spot}
 use Rattle.smv_reads.specs.Views.{spot_in}
 use Rattle.smv_cone.specs.Parts.{spots_in}
@@ -20,7 +20,7 @@ spots-kept over classes k t c done new all l m e h =
     let rest = spots_in (drop (suc k) over) (drop (suc k) classes) in
     ap (λ (n : ℕ). new ++ spots_in (drop n over) (drop n classes)) next
     ∙ (ap (λ (ss : List Spot). ss ++ rest) e
-    ∙ (joined_again done rest (spot_in (get_or over k t) (get_or classes k c))
+    ∙ (append_again done rest (spot_in (get_or over k t) (get_or classes k c))
     ∙ (ap (λ (ss : List Spot). done ++ ss) (sym (one-spot over classes k t c l m)) ∙ h)))
 
 no-spot : (over : List Simple) (classes : List Class) (k : ℕ) → length over ≤ k → spots_in (drop k over) (drop k classes) ≡ []

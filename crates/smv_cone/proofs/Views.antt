@@ -1,6 +1,6 @@
 -- A case of a leaf of a checked script, as the search for its cone takes it.
-use Rattle.std.proofs.Common.{◌≡◌, ℕ, suc, ◌+◌, ◌-◌, ◌<◌, ◌≤◌, List, [], ◌∷◌, map, length, Bool, true, false, ◌&&◌, if◌then◌else◌, refl, sym, ap, subst, ◌∙◌, inl, inr, Option, Some, None, nat_lt, arith}
-use Rattle.std.specs.Prelude.{IfSome, unwrap_or}
+use Rattle.std.proofs.Common.{◌≡◌, ℕ, suc, ◌+◌, ◌-◌, ◌<◌, ◌≤◌, List, [], ◌∷◌, map, length, Bool, true, false, if◌then◌else◌, refl, sym, ap, subst, ◌∙◌, inl, inr, Option, Some, None, arith}
+use Rattle.std.specs.Prelude.{unwrap_or}
 use Rattle.std.specs.List.{slice_get}
 use Rattle.smv_core.specs.Values.{scalar, ordinal, scalarset, ordset, numbers_from}
 use Rattle.smv_core.specs.FlatMeaning.{simple_in, set_type}
@@ -20,17 +20,17 @@ use Rattle.smv_core.specs.declared.abstract_type.AbsType.{AbsType}
 use Rattle.smv_core.specs.declared.abstract_type.Rest.TheVariants as beside
 use Rattle.law_obligations.specs.Sets.{Has, first, later}
 use Rattle.law_obligations.specs.Places.{Place, named, rest, World}
-use Rattle.law_obligations.specs.Cases.{Treatment, whole, reduced, ordered, Parameter, is_set, those_of, used, named_among, listed_classes, abstract_type, type_in, candidates, numbered}
+use Rattle.law_obligations.specs.Cases.{Treatment, ordered, Parameter, used, named_among, listed_classes, abstract_type, type_in, candidates, numbered}
 use Rattle.law_obligations.specs.Covers.{place_at, places_at, by_name, AreApart}
 use Rattle.law_obligations.specs.LeafCases.{kept_of, treatment_of, treatments_of, stays, parameters_of}
-use Rattle.law_obligations.proofs.Members.{Has-cases, Has-from_map, Has-uncons}
-use Rattle.law_obligations.proofs.Spots.{numbers-Has}
-use Rattle.law_obligations.proofs.OneOfEach.{AreOf, are_of, map_long}
+use Rattle.law_obligations.proofs.Members.{Has-from_map, Has-uncons}
+use Rattle.law_obligations.proofs.OneOfEach.{AreOf, are_of}
 use Rattle.law_obligations.proofs.CoverNames.{by_name-at}
 use Rattle.law_obligations.specs.Reached.{IsLeast}
 use Rattle.smv_core.specs.declared.fault.Fault.{Fault}
 use Rattle.law_obligations.specs.Soundness.{FlatUnit, map_of, claim_of}
-use Rattle.std.proofs.lemmas.Bool.Decides.{nat_tests}
+use Rattle.law_lists.proofs.Lists.{length_map, map-map}
+use Rattle.law_lists.proofs.Numbers.{nat_lt-true, nat_lt-false}
 use Rattle.law_obligations.specs.Outlines.{Entry, Outline, Script, entries_of, outline_of, names_of, unit_in}
 use Rattle.law_obligations.specs.Units.{units_of, script_of}
 use Rattle.law_obligations.specs.Cones.{first_elements, next_elements, cone}
@@ -39,9 +39,11 @@ use Rattle.law_obligations.specs.Checked.{IsSplit, IsFilled}
 use Rattle.law_obligations.proofs.Lookups.{Has-from_filter}
 use Rattle.law_obligations.proofs.LeastCones.{cone_is_least}
 use Rattle.law_problems.specs.Parts.{outlined, entry_of, world_with, cone_with, bits_with, place_of_unit, fault_at_unit, width_fault}
+use Rattle.law_problems.proofs.Forms.{among-is, listed-are, class-below, named-few}
 use Rattle.smv_cases.specs.Types.{types_of}
 use Rattle.smv_cases.specs.Faults as cases_faults
 use Rattle.law_obligations.specs.Readings.{bits_of_all}
+use Rattle.law_obligations.proofs.CoverOrdsets.{used_most}
 use Rattle.smv_problem.specs.Written.{written_class}
 use Rattle.smv_spots.specs.declared.spots.Spot.{Spot}
 use Rattle.smv_spots.specs.Spots.{of_set, AreTypes}
@@ -57,10 +59,6 @@ use Rattle.smv_cone.specs.Searching.{HasLeast}
 
 -- ---- lists
 
-map-map : {X Y Z : Type 0} (g : Y → Z) (f : X → Y) (xs : List X) → map g (map f xs) ≡ map (λ x. g (f x)) xs
-map-map g f [] = refl
-map-map g f (x ∷ xs) = ap (λ zs. g (f x) ∷ zs) (map-map g f xs)
-
 units-are : (us : List Unit) (leaves : List Leaf) (choices : List Choice) → length leaves ≡ length us → length choices ≡ length us → map (λ entry. entry.unit) (entries_of us leaves choices) ≡ us
 units-are [] leaves choices l c = refl
 units-are (u ∷ us) [] choices l c = absurd (omega arith)
@@ -69,66 +67,12 @@ units-are (u ∷ us) (leaf ∷ leaves) (choice ∷ choices) l c = ap (λ us. u �
 
 -- ---- few classes
 
-used-below : (n : ℕ) (cs : List ℕ) → ((c : ℕ) → Has cs c → c < n) → used cs ≤ n
-used-below n [] each = omega arith
-used-below n (c ∷ cs) each = let l = each c first in let r = used-below n cs (λ d h. each d (later h)) in omega (arith, l, r)
-
-among-is : (cs : List Class) (k : ℕ) → Has (named_among cs) k → Has cs (Named k)
-among-is [] k h = elim h [ ]
-among-is (Number n ∷ cs) k h = later (among-is cs k h)
-among-is (Rest g ∷ cs) k h = later (among-is cs k h)
-among-is (Named c ∷ cs) _ first = first
-among-is (Named c ∷ cs) k (later h) = later (among-is cs k h)
-
-those-are : (test : Bool → Bool) (set : ℕ) (params : List Parameter) (classes : List Class) (c : Class) → Has (those_of test set params classes) c → Has classes c
-those-are test set [] classes c h = elim h [ ]
-those-are test set (p ∷ params) [] c h = elim h [ ]
-those-are test set (p ∷ params) (d ∷ classes) c h = at (is_set set p.over && test p.listed) h (λ k. those-are test set params classes c k)
-  where
-    under : Has (d ∷ those_of test set params classes) c → (Has (those_of test set params classes) c → Has classes c) → Has (d ∷ classes) c
-    under h goes = elim (Has-uncons h) [ inl e ↦ subst (Has (d ∷ classes)) (sym e) first | inr k ↦ later (goes k) ]
-
-    at : (b : Bool) → Has (if b then d ∷ those_of test set params classes else those_of test set params classes) c → (Has (those_of test set params classes) c → Has classes c) → Has (d ∷ classes) c
-    at true h goes = under h goes
-    at false h goes = later (goes h)
-
-listed-are : (t : Treatment) (set : ℕ) (params : List Parameter) (classes : List Class) (c : Class) → Has (listed_classes t set params classes) c → Has classes c
-listed-are (whole n) set params classes c h = those-are (λ listed. true) set params classes c h
-listed-are (reduced size) set params classes c h = those-are (λ listed. listed) set params classes c h
-listed-are ordered set params classes c h = those-are (λ listed. listed) set params classes c h
-
--- a named class is below the number of parameters
-class-below : (treatments : List Treatment) (count : ℕ) (t : Simple) (k : ℕ) → Has (candidates treatments count t) (Named k) → k < count
-class-below treatments count (Range low high) k h = let r = Has-from_map Number (numbers_from low (high + 1 - low)) h in absurd (clash r.2)
-  where
-    clash : {n : ℕ} → Named k ≡ Number n → ⊥
-    clash e = cc
-class-below treatments count (Enum list) k h = elim h [ ]
-class-below treatments count (Set set) k h = elim (Has-cases (map Named (numbers_from 0 count)) (map Rest (numbers_from 0 (count + 1))) h) [
-  | inl l ↦ let r = Has-from_map Named (numbers_from 0 count) l in let b = numbers-Has 0 count r.0 r.1 in let e = number_of r.2 in omega (arith, b, e)
-  | inr l ↦ let r = Has-from_map Rest (numbers_from 0 (count + 1)) l in absurd (clash r.2)
-]
-  where
-    number_of : {n : ℕ} → Named k ≡ Named n → k ≡ n
-    number_of e = cc
-
-    clash : {n : ℕ} → Named k ≡ Rest n → ⊥
-    clash e = cc
-
 all-below : (treatments : List Treatment) (count : ℕ) (params : List Parameter) (classes : List Class) → AreOf (map (λ (p : Parameter). candidates treatments count p.over) params) classes → (k : ℕ) → Has classes (Named k) → k < count
 all-below treatments count [] [] are k h = elim h [ ]
 all-below treatments count [] (c ∷ classes) are k h = elim are [ ]
 all-below treatments count (p ∷ params) [] are k h = elim are [ ]
 all-below treatments count (p ∷ params) (_ ∷ classes) are k first = class-below treatments count p.over k are.0
 all-below treatments count (p ∷ params) (c ∷ classes) are k (later h) = all-below treatments count params classes are.1 k h
-
--- an abstract type whose listed parameters use at most 8 classes
-named-few : (b : Bool) (size : Option ℕ) (keep : Option (List ℕ)) → IfSome size (λ n. n ≤ 256) → (m : ℕ) → m ≤ 8 → (abstract_type (treatment_of b size keep) m).named ≤ 256
-named-few true size keep s m l = omega (arith, l)
-named-few false (Some n) None s m l = s
-named-few false (Some n) (Some vars) s m l = omega (arith, l)
-named-few false None None s m l = omega (arith, l)
-named-few false None (Some vars) s m l = omega (arith, l)
 
 -- a treatment is that of a set type
 treated : (keeps : List Keep) (k : ℕ) (sets : List SetInfo) (x : ℕ × Treatment) → Has (numbered k (treatments_of keeps k sets)) x → (info : SetInfo) × Has sets info × (keep : Option (List ℕ)) × (x.1 ≡ treatment_of info.ordered info.size keep)
@@ -222,12 +166,6 @@ same-place : (u : FlatUnit) → cases_faults.place_of_unit u ≡ place_of_unit u
 same-place (map_of def) = refl
 same-place (claim_of claim) = refl
 
-less : (m n : ℕ) → m < n → nat_lt m n ≡ true
-less m n l = grind (arith, nat_tests)
-
-not-less : (m n : ℕ) → n ≤ m → nat_lt m n ≡ false
-not-less m n l = grind (arith, nat_tests)
-
 -- ---- a case of a part
 
 module _ (p : Part) (h : IsPartOf p) where
@@ -261,9 +199,9 @@ module _ (p : Part) (h : IsPartOf p) where
       let x : ℕ × Treatment = r.0 in
       let q = treated p.choice.now.keeps 0 d.sets x r.1 in
       let m = used (named_among (listed_classes x.1 x.0 params p.classes.now)) in
-      let long : length params ≡ length p.leaf.now.params = map_long (λ (q : Param). record { over = q.over; listed = stays p.choice.now.keeps q.over q.var }) p.leaf.now.params in
+      let long : length params ≡ length p.leaf.now.params = length_map (λ (q : Param). record { over = q.over; listed = stays p.choice.now.keeps q.over q.var }) p.leaf.now.params in
       let some = h.is_case.few in
-      let few : m ≤ 8 = used-below 8 _ (λ k n. let l = all-below (leaf_treatments (outlined d) entry) (length params) params p.classes.now candidates-are k (listed-are x.1 x.0 params p.classes.now (Named k) (among-is (listed_classes x.1 x.0 params p.classes.now) k n)) in omega (arith, l, long, some)) in
+      let few : m ≤ 8 = used_most 8 _ (λ k n. let l = all-below (leaf_treatments (outlined d) entry) (length params) params p.classes.now candidates-are k (listed-are x.1 x.0 params p.classes.now (Named k) (among-is (listed_classes x.1 x.0 params p.classes.now) k n)) in omega (arith, l, long, some)) in
       let is : t ≡ abstract_type (treatment_of q.0.ordered q.0.size q.2) m = r.2 ∙ ap (λ (u : Treatment). abstract_type u m) q.3 in
       subst (λ (a : AbsType). a.named ≤ 256) (sym is) (named-few q.0.ordered q.0.size q.2 (h.is_part.sizes q.0 q.1) m few)
 
@@ -335,10 +273,10 @@ module _ (p : Part) (h : IsPartOf p) where
   pub few-fault : bits_of_all (view.world_of p.view) (parts.cone_of p) ≤ 1024 → width_fault p.view.design.now p.leaf.now p.choice.now p.classes.now ≡ None
   few-fault l =
       let same = bits-are in
-      ap (λ (b : Bool). if b then Some (fault_at_unit 30 p.view.design.now p.leaf.now) else None) (not-less 1024 (bits_with p.view.design.now p.leaf.now p.choice.now p.classes.now) (omega (arith, same, l)))
+      ap (λ (b : Bool). if b then Some (fault_at_unit 30 p.view.design.now p.leaf.now) else None) (nat_lt-false 1024 (bits_with p.view.design.now p.leaf.now p.choice.now p.classes.now) (omega (arith, same, l)))
 
   pub many-fault : 1024 < bits_of_all (view.world_of p.view) (parts.cone_of p) → (f : Fault) → f ≡ cases_faults.fault_at_unit 30 p.view.design.now p.leaf.now → width_fault p.view.design.now p.leaf.now p.choice.now p.classes.now ≡ Some f
   many-fault l f e =
       let same = bits-are in
-      ap (λ (b : Bool). if b then Some (fault_at_unit 30 p.view.design.now p.leaf.now) else None) (less 1024 (bits_with p.view.design.now p.leaf.now p.choice.now p.classes.now) (omega (arith, same, l)))
+      ap (λ (b : Bool). if b then Some (fault_at_unit 30 p.view.design.now p.leaf.now) else None) (nat_lt-true 1024 (bits_with p.view.design.now p.leaf.now p.choice.now p.classes.now) (omega (arith, same, l)))
       ∙ ap Some (sym (e ∙ ap (λ (k : ℕ). record { number = 30; at = k }) (same-place (unit_in p.view.design.now (unwrap_or (slice_get (units_of p.view.design.now) p.leaf.now.unit) (unit.Claim 0))))))

@@ -245,7 +245,7 @@ fn read_claims(alloc: Global, part: &Part, found: &mut Found) -> Result<(), Allo
 
 /// Puts the elements with which a search begins: what the target reads, with its own element, and what the guards and the assumed claims read.
 #[tactic(auto, using(smv_reads::proofs::Joins::joins, crate::proofs::BeginLaws::beginning))]
-pub fn read_first(alloc: Global, part: &Part, found: &mut Found) -> Result<(), AllocError>
+pub(crate) fn read_first(alloc: Global, part: &Part, found: &mut Found) -> Result<(), AllocError>
     requires { IsPartView part.now }
     ensures { OnOk result (found.new ≡ put_all found.old (begins.read_first part.now)) }
 {

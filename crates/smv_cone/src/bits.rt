@@ -31,7 +31,12 @@ pub fn list_lengths(alloc: Global, design: &Design) -> Result<Vec<u16>, AllocErr
 }
 
 /// These elements have no more than 1,024 bits together.
-pub fn are_few(families: &[Family], lists: &[u16], types: &[AbsType], elements: &[Element]) -> bool
+pub(crate) fn are_few(
+    families: &[Family],
+    lists: &[u16],
+    types: &[AbsType],
+    elements: &[Element],
+) -> bool
     ensures { result ≡ nat_le (bits_of_elements families.now lists.now types.now elements.now) 1024 }
 {
     let mut left = 1024;

@@ -74,7 +74,11 @@ pub fn indexes_of(design: &Design, family: u16) -> &[Simple]
 }
 
 /// Where the indexes of an element lie.
-pub fn own_spots(alloc: Global, design: &Design, x: &Element) -> Result<Vec<Spot>, AllocError>
+pub(crate) fn own_spots(
+    alloc: Global,
+    design: &Design,
+    x: &Element,
+) -> Result<Vec<Spot>, AllocError>
     ensures { IfOk result (λ spots. spots.items ≡ spots_in (over_of (slice_get design.now.families x.now.family)) x.now.indexes) }
 {
     spots_of(alloc, indexes_of(design, x.family), x.indexes.as_slice())

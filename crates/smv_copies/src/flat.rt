@@ -135,7 +135,10 @@ fn copy_boxed(expr: &Boxed<FlatExpr>, alloc: Global) -> Result<Boxed<FlatExpr>, 
 
 /// A copy of each expression, in their order.
 #[cycle(copies)]
-pub fn copy_expressions(exprs: &[FlatExpr], alloc: Global) -> Result<Seq<FlatExpr>, AllocError>
+pub(crate) fn copy_expressions(
+    exprs: &[FlatExpr],
+    alloc: Global,
+) -> Result<Seq<FlatExpr>, AllocError>
     ensures { IfOk result (λ copies. copies ≡ exprs.now) }
 {
     let mut copies = Seq::new(alloc);
@@ -147,7 +150,7 @@ pub fn copy_expressions(exprs: &[FlatExpr], alloc: Global) -> Result<Seq<FlatExp
 
 /// A copy of what a sum adds or takes away.
 #[cycle(copies)]
-pub fn copy_signed(signed: &FlatSigned, alloc: Global) -> Result<FlatSigned, AllocError>
+pub(crate) fn copy_signed(signed: &FlatSigned, alloc: Global) -> Result<FlatSigned, AllocError>
     ensures { IfOk result (λ copy. copy ≡ signed.now) }
 {
     let of = copy_expression(&signed.of, alloc)?;
@@ -170,7 +173,7 @@ fn copy_all_signed(all: &[FlatSigned], alloc: Global) -> Result<Seq<FlatSigned>,
 
 /// A copy of a member of a listed set.
 #[cycle(copies)]
-pub fn copy_member(member: &FlatMember, alloc: Global) -> Result<FlatMember, AllocError>
+pub(crate) fn copy_member(member: &FlatMember, alloc: Global) -> Result<FlatMember, AllocError>
     ensures { IfOk result (λ copy. copy ≡ member.now) }
 {
     match member {

@@ -6,5 +6,5 @@
 mod flat;
 mod parts;
 
-pub use flat::{copy_expression, copy_expressions, copy_member, copy_signed};
+pub use flat::copy_expression;
 pub use parts::{copy_classes, copy_families, copy_guards, copy_name, copy_part, copy_types};

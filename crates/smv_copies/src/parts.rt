@@ -1,7 +1,7 @@
 // Copies of names and lists of types, and of what a problem takes over from a design: families, guards, and the parts of definitions.
 ghost use Rattle.std.specs.Prelude.{◌≡◌, IfOk};
 
-use crate::{copy_expression, copy_expressions};
+use crate::flat::{copy_expression, copy_expressions};
 use smv_core::boxed::Boxed;
 use smv_core::flat::{Class, DefBody, Family, Guard, Simple};
 use smv_core::{Name, Seq};

@@ -11,6 +11,7 @@ pub mod FlatMeaning
 pub mod Violating
 pub mod formers
 pub mod Signs
+pub mod Spellings
 pub mod Notation
 pub mod OpenIf
 pub mod Grammar

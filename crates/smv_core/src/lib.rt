@@ -10,6 +10,7 @@ pub mod fault;
 pub mod flat;
 pub mod name;
 pub mod seq;
+pub mod signs;
 pub mod token;
 pub mod tree;
 

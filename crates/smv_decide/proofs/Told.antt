@@ -2,7 +2,7 @@
 use Rattle.std.proofs.Common.{◌≡◌, ℕ, zero, suc, ◌+◌, ◌<◌, ◌≤◌, List, [], ◌∷◌, ◌++◌, map, length, get_or, take, drop, false, refl, sym, ap, subst, ◌∙◌, inl, inr, arith}
 use Rattle.std.specs.Prelude.{Option, Some, None}
 use Rattle.std.proofs.Math.Seq.{drop-cons}
-use Rattle.std.proofs.lemmas.List.{take_more, take-append-drop, take_all}
+use Rattle.std.proofs.lemmas.List.{take_more, take-append-drop, take_all, map-append}
 use Rattle.smv_core.specs.declared.flat.Class.{Class}
 use Rattle.smv_core.specs.declared.flat.Case.{Case as CaseData}
 use Rattle.law_obligations.specs.Sets.{Has, first, later}
@@ -37,10 +37,6 @@ module _ (lists : List Class → Lists) (nodes steps : ℕ) where
 some_is : {x y : Verdict} → Some x ≡ Some y → x ≡ y
 some_is e = cc
 
-map_append : {X Y : Type 0} (f : X → Y) (xs ys : List X) → map f (xs ++ ys) ≡ map f xs ++ map f ys
-map_append f [] ys = refl
-map_append f (x ∷ xs) ys = ap (λ zs. f x ∷ zs) (map_append f xs ys)
-
 pub Has_at : {X : Type 0} (xs : List X) (i : ℕ) (x : X) → i < length xs → x ≡ get_or xs i x → Has xs x
 Has_at xs i x lt is = subst (Has xs) (sym is) (there xs i x lt)
   where
@@ -74,14 +70,14 @@ module _ (case_for : List Class → PosedCase) (nodes steps : ℕ) where
       (are : AreTrueCases lists nodes steps (classes_in (take i cases))) (found : Option Verdict) (found_is : found ≡ verdict_at case decision) where
     pub next_true : found ≡ None → AreTrueCases lists nodes steps (classes_in (take (i + 1) cases))
     next_true none =
-        subst (AreTrueCases lists nodes steps) (sym (ap (map (λ (c : CaseData). c.classes)) (take_more cases i case lt ∙ ap (λ (c : CaseData). take i cases ++ (c ∷ [])) (sym at)) ∙ map_append (λ (c : CaseData). c.classes) (take i cases) (case ∷ [])))
+        subst (AreTrueCases lists nodes steps) (sym (ap (map (λ (c : CaseData). c.classes)) (take_more cases i case lt ∙ ap (λ (c : CaseData). take i cases ++ (c ∷ [])) (sym at)) ∙ map-append (λ (c : CaseData). c.classes) (take i cases) (case ∷ [])))
         (one_true lists nodes steps (classes_in (take i cases)) case.classes are (true_at case decision (sym found_is ∙ none) is))
 
     pub told_here : (verdict : Verdict) → found ≡ Some verdict → IsToldBy case_for nodes steps (classes_in cases) verdict
     told_here verdict ends =
         told_at case decision verdict (sym found_is ∙ ends) is (classes_in (take i cases)) (classes_in (drop (suc i) cases)) (classes_in cases)
         (ap (map (λ (c : CaseData). c.classes)) (sym (take-append-drop i cases) ∙ ap (λ (rest : List CaseData). take i cases ++ rest) (drop-cons cases i case lt ∙ ap (λ (c : CaseData). c ∷ drop (suc i) cases) (sym at)))
-        ∙ map_append (λ (c : CaseData). c.classes) (take i cases) (case ∷ drop (suc i) cases))
+        ∙ map-append (λ (c : CaseData). c.classes) (take i cases) (case ∷ drop (suc i) cases))
         are
 
   pub told_all : (cases : List CaseData) (i : ℕ) → length cases ≤ i → AreTrueCases (lists_for case_for nodes steps) nodes steps (classes_in (take i cases)) → IsToldBy case_for nodes steps (classes_in cases) True

@@ -137,7 +137,7 @@ fn problem_of(
 
 /// Decides a case of a leaf that has not too many state bits, under budgets of nodes and of images. What the problems of all cases of the design have in common is
 /// moved in, and given back.
-pub fn decide_case(
+pub(crate) fn decide_case(
     alloc: Global,
     shared: Shared,
     task: &Task,

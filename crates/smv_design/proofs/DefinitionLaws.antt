@@ -1,8 +1,9 @@
 -- What definitions are made of.
-use Rattle.std.proofs.Common.{◌≡◌, ℕ, zero, suc, ◌+◌, ◌<◌, List, [], ◌∷◌, ◌++◌, map, filter, zip, length, drop, get_or, Option, Bool, true, false, not, cond, ◌&&◌, ◌||◌, nat_eq, add-one, subst, refl, sym, ap, ◌∙◌, arith}
+use Rattle.std.proofs.Common.{◌≡◌, ℕ, zero, suc, ◌+◌, ◌<◌, List, [], ◌∷◌, ◌++◌, map, filter, zip, length, drop, get_or, Option, Bool, true, false, not, cond, ◌&&◌, nat_eq, add-one, subst, refl, sym, ap, ◌∙◌, arith}
 use Rattle.std.specs.List.{list_any, flat_map}
 use Rattle.std.proofs.Math.Seq.{drop-cons}
 use Rattle.std.proofs.lemmas.List.{append_assoc, length-append}
+use Rattle.std.proofs.lemmas.Bool.{or_parts}
 use Rattle.smv_core.specs.Values.{numbers_from}
 use Rattle.smv_core.specs.declared.tree.Kind.{Kind}
 use Rattle.smv_core.specs.declared.tree.Kind.TheVariants.{Comb, Init, Next}
@@ -68,16 +69,12 @@ all-said said acts (h ∷ heads) is =
     let here = is (owner_of h) in
     (def-same h _ _ _ _ _ _ (told-part (owner_of h) Init acts _ here.0) (told-part (owner_of h) Next acts _ here.1) (told-part (owner_of h) Comb acts _ here.2), all-said said acts heads is)
 
-either-false : (a b : Bool) → (a || b) ≡ false → (a ≡ false) × (b ≡ false)
-either-false true b e = absurd (cc)
-either-false false b e = (refl, e)
-
 -- of definitions that are apart, what is said of one may be taken out
 still-said : (before after : Said) (statements : List Statement) (h : Noted) (heads : List Noted) → list_any (same_definition (head_of h)) (map head_of heads) ≡ false
     → ((other : Owner) → same_owner (owner_of h) other ≡ false → IsSame before after other) → AreSaid before statements heads → AreSaid after statements heads
 still-said before after statements h [] apart same is = tt
 still-said before after statements h (x ∷ heads) apart same is =
-    let both = either-false (same_definition (head_of h) (head_of x)) (list_any (same_definition (head_of h)) (map head_of heads)) apart in
+    let both = or_parts (same_definition (head_of h) (head_of x)) (list_any (same_definition (head_of h)) (map head_of heads)) apart in
     let other : same_owner (owner_of h) (owner_of x) ≡ false = ap (λ b. b && nat_eq h.family x.family) (one-layer h.layer x.layer) ∙ both.0 in
     let kept_same = same (owner_of x) other in
     (def-same x _ _ _ _ _ _ (ap (λ o. joined (or_none o).first) kept_same.0) (ap (λ o. joined (or_none o).first) kept_same.1) (ap (λ o. joined (or_none o).first) kept_same.2) ∙ is.0, still-said before after statements h heads both.1 same is.1)

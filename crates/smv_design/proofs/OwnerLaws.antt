@@ -1,7 +1,9 @@
 -- When two owners, or two layers, are the same.
-use Rattle.std.proofs.Common.{◌≡◌, ℕ, Option, Some, None, Bool, true, false, nat_eq, ◌&&◌, refl, sym, ap, ◌∙◌, arith}
+use Rattle.std.proofs.Common.{◌≡◌, ℕ, Option, Some, None, true, nat_eq, ◌&&◌, refl, sym, ap, ◌∙◌, arith}
 use Rattle.std.specs.Option.{option_eq}
 use Rattle.std.proofs.lemmas.Bool.Decides.{nat_tests}
+use Rattle.std.proofs.lemmas.Bool.{and_parts}
+use Rattle.law_lists.proofs.Numbers.{nat_eq-turned}
 use Rattle.law_designs.specs.WholeText.{is_one_layer}
 use Rattle.smv_design.specs.declared.owners.Owner.{Owner}
 use Rattle.smv_design.specs.Groups.{same_owner}
@@ -24,22 +26,14 @@ layers-turned None (Some j) = refl
 layers-turned (Some i) None = refl
 layers-turned (Some i) (Some j) = grind arith
 
-both-true : (a b : Bool) → (a && b) ≡ true → (a ≡ true) × (b ≡ true)
-both-true true true e = (refl, refl)
-both-true true false e = absurd (cc)
-both-true false b e = absurd (cc)
-
 pub owners-equal : (a b : Owner) → same_owner a b ≡ true → a ≡ b
 owners-equal a b e =
-    let both : (option_eq nat_eq a.layer b.layer ≡ true) × (nat_eq a.family b.family ≡ true) = both-true _ _ e in
+    let both : (option_eq nat_eq a.layer b.layer ≡ true) × (nat_eq a.family b.family ≡ true) = and_parts _ _ e in
     let layers : a.layer ≡ b.layer = layers-equal a.layer b.layer both.0 in
     let test : nat_eq a.family b.family ≡ true = both.1 in
     let families : a.family ≡ b.family = grind (arith, nat_tests) in
     ap (λ (l : Option ℕ). let o : Owner = record { layer = l; family = a.family } in o) layers ∙ ap (λ (f : ℕ). let o : Owner = record { layer = b.layer; family = f } in o) families
 
-numbers-turned : (i j : ℕ) → nat_eq i j ≡ nat_eq j i
-numbers-turned i j = grind arith
-
 pub owners-turned : (a b : Owner) → same_owner a b ≡ same_owner b a
 owners-turned a b =
-    ap (λ t. t && nat_eq a.family b.family) (one-layer a.layer b.layer ∙ layers-turned a.layer b.layer ∙ sym (one-layer b.layer a.layer)) ∙ ap (λ t. option_eq nat_eq b.layer a.layer && t) (numbers-turned a.family b.family)
+    ap (λ t. t && nat_eq a.family b.family) (one-layer a.layer b.layer ∙ layers-turned a.layer b.layer ∙ sym (one-layer b.layer a.layer)) ∙ ap (λ t. option_eq nat_eq b.layer a.layer && t) (nat_eq-turned a.family b.family)

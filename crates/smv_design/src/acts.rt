@@ -75,7 +75,7 @@ fn add_item(items: &mut Items, item: FlatItem, place: u32) -> Result<u32, AllocE
 }
 
 /// The items by their sorts, the statements with their places.
-pub fn take_apart(items: Seq<FlatItem>, alloc: Global) -> Result<Items, AllocError>
+pub(crate) fn take_apart(items: Seq<FlatItem>, alloc: Global) -> Result<Items, AllocError>
     ensures statements { IfOk result (λ found. map statement_of found.acts.items ≡ statements_from 0 items) }
     ensures heads { IfOk result (λ found. map head_of found.heads ≡ heads_from 0 items) }
     ensures claims { IfOk result (λ found. found.claims.items ≡ claims_of items) }

@@ -42,7 +42,7 @@ fn note_all(gathered: &mut Gathered, heads: &[Noted]) -> Result<(), AllocError>
 }
 
 /// The first of these assignments for each definition, in their order.
-pub fn first_heads(heads: &[Noted], alloc: Global) -> Result<Vec<Noted>, AllocError>
+pub(crate) fn first_heads(heads: &[Noted], alloc: Global) -> Result<Vec<Noted>, AllocError>
     ensures { IfOk result (λ firsts. map head_of firsts.items ≡ different same_definition (map head_of heads.now)) }
 {
     let mut gathered = Gathered {

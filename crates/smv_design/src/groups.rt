@@ -100,7 +100,7 @@ fn combined(cond: Option<&FlatExpr>, sides: Sides, alloc: Global) -> Result<DefB
 }
 
 /// Each owner's parts as one, where they have a result: those of an `if` of this condition, or of several statements.
-pub fn merged(
+pub(crate) fn merged(
     groups: HashMap<Owner, Sides>,
     cond: Option<&FlatExpr>,
     alloc: Global,

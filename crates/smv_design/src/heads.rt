@@ -20,7 +20,7 @@ pub struct Noted {
 /// Notes the assignments of a statement of a layer, the first of which has this place, and gives the place behind them.
 #[cycle(heads)]
 #[tactic(auto, using(smv_mentions::proofs::Notes::noting, crate::proofs::StatementLaws::heads, crate::proofs::StatementLaws::counts))]
-pub fn note_heads(
+pub(crate) fn note_heads(
     out: &mut Seq<Noted>,
     act: &FlatStmt,
     layer: Option<u16>,

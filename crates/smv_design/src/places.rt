@@ -4,7 +4,7 @@ ghost use Rattle.std.specs.Prelude.{◌≡◌, ◌+◌, IfOk};
 use std::alloc::AllocError;
 
 /// The place behind so many others.
-pub fn place_after(place: u32, others: u32) -> Result<u32, AllocError>
+pub(crate) fn place_after(place: u32, others: u32) -> Result<u32, AllocError>
     ensures { IfOk result (λ after. after ≡ place + others) }
 {
     match place.checked_add(others) {

@@ -54,7 +54,7 @@ fn each_part(
 /// What a statement of a layer says, whose first assignment has this place, is added to what is said of each owner. Gives the place behind the statement.
 #[cycle(parts)]
 #[tactic(auto, using(crate::proofs::StatementLaws::parts, crate::proofs::StatementLaws::counts))]
-pub fn add_said(
+fn add_said(
     groups: &mut HashMap<Owner, Sides>,
     act: &FlatStmt,
     layer: Option<u16>,

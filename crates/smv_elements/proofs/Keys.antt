@@ -1,30 +1,18 @@
 -- Elements by their keys: which are the same, and which stands before which.
 use Rattle.std.proofs.Common.{◌≡◌, ℕ, ◌<◌, List, [], ◌∷◌, length, Bool, true, false, ◌&&◌, ◌||◌, refl, ap, subst, ◌∙◌, ◌⊎◌, inl, inr, nat_eq, nat_lt, arith}
+use Rattle.std.proofs.lemmas.Bool.{or_cases, cases_Bool}
+use Rattle.law_lists.proofs.Numbers.{nat_eq-is, nat_lt-is, nat_lt-true}
+use Rattle.law_lists.proofs.Booleans.{left_of, right_of, not_left, not_right}
 use Rattle.smv_core.specs.declared.flat.Class.{Class}
 use Rattle.smv_core.specs.declared.flat.Class.TheVariants.{Number, Named, Rest}
 use Rattle.smv_core.specs.declared.flat.Element.{Element}
-use Rattle.law_obligations.proofs.Tests.{left_of, right_of, or_cases, true_or_false}
-use Rattle.law_obligations.proofs.Same.{nat_eq-is, nat_eq-itself}
+use Rattle.law_obligations.proofs.Same.{nat_eq-itself}
 use Rattle.smv_elements.specs.Elements.{sort_of, number_of, keys, key, numbers_before, same_numbers, same_element, is_before}
 
 -- ---- numbers
 
-below : (a b : ℕ) → nat_lt a b ≡ true → a < b
-below a b e = grind arith
-
-less : (a b : ℕ) → a < b → nat_lt a b ≡ true
-less a b l = grind arith
-
 neither : (a b : ℕ) → nat_lt a b ≡ false → nat_lt b a ≡ false → a ≡ b
 neither a b e f = grind arith
-
-no_left : (p q : Bool) → (p || q) ≡ false → p ≡ false
-no_left true q e = absurd (cc)
-no_left false q e = refl
-
-no_right : (p q : Bool) → (p || q) ≡ false → q ≡ false
-no_right true q e = absurd (cc)
-no_right false q e = e
 
 no_more : (p q : Bool) → (p && q) ≡ false → p ≡ true → q ≡ false
 no_more true q e t = e
@@ -33,12 +21,12 @@ no_more false q e t = absurd (cc)
 -- a first number and then the others
 by_first : (a b : ℕ) (r : Bool) → (nat_lt a b || (nat_eq a b && r)) ≡ true → (a < b) ⊎ ((a ≡ b) × (r ≡ true))
 by_first a b r e = elim (or_cases (nat_lt a b) (nat_eq a b && r) e) [
-  | inl l ↦ inl (below a b l)
+  | inl l ↦ inl (nat_lt-is a b l)
   | inr k ↦ inr (nat_eq-is a b (left_of (nat_eq a b) r k), right_of (nat_eq a b) r k)
 ]
 
 first_less : (a b : ℕ) (r : Bool) → a < b → (nat_lt a b || (nat_eq a b && r)) ≡ true
-first_less a b r l = rw (less a b l) refl
+first_less a b r l = rw (nat_lt-true a b l) refl
 
 first_same : (a : ℕ) (r : Bool) → r ≡ true → (nat_lt a a || (nat_eq a a && r)) ≡ true
 first_same a r e = at (nat_lt a a) (rw (nat_eq-itself a) e)
@@ -86,14 +74,14 @@ numbers-either : (ms bs : List ℕ) → same_numbers ms bs ≡ false → numbers
 numbers-either [] [] e f = absurd (cc)
 numbers-either [] (b ∷ bs) e f = refl
 numbers-either (a ∷ ms) [] e f = absurd (cc)
-numbers-either (a ∷ ms) (b ∷ bs) e f = elim (true_or_false (nat_lt a b)) [
+numbers-either (a ∷ ms) (b ∷ bs) e f = elim (cases_Bool (nat_lt a b)) [
   | inl l ↦ rw l refl
   | inr n ↦
-      let m = no_left (nat_lt b a) (nat_eq b a && numbers_before bs ms) f in
+      let m = not_left (nat_lt b a) (nat_eq b a && numbers_before bs ms) f in
       let g : a ≡ b = neither a b n m in
       let there : nat_eq a b ≡ true = subst (λ k. nat_eq a k ≡ true) g (nat_eq-itself a) in
       let back : nat_eq b a ≡ true = subst (λ k. nat_eq k a ≡ true) g (nat_eq-itself a) in
-      let rest = numbers-either ms bs (no_more (nat_eq a b) (same_numbers ms bs) e there) (no_more (nat_eq b a) (numbers_before bs ms) (no_right (nat_lt b a) (nat_eq b a && numbers_before bs ms) f) back) in
+      let rest = numbers-either ms bs (no_more (nat_eq a b) (same_numbers ms bs) e there) (no_more (nat_eq b a) (numbers_before bs ms) (not_right (nat_lt b a) (nat_eq b a && numbers_before bs ms) f) back) in
       subst (λ k. (nat_lt a k || (nat_eq a k && numbers_before ms bs)) ≡ true) g (first_same a (numbers_before ms bs) rest)
 ]
 

@@ -1,10 +1,10 @@
 -- Elements that are put.
 use Rattle.std.proofs.Common.{◌≡◌, ℕ, List, [], ◌∷◌, ◌++◌, Bool, true, false, ◌||◌, if◌then◌else◌, refl, sym, ap, subst, ◌∙◌, inl, inr}
 use Rattle.std.specs.List.{slice_get}
+use Rattle.std.proofs.lemmas.Bool.{cases_Bool}
 use Rattle.smv_core.specs.declared.flat.Element.{Element}
 use Rattle.law_obligations.specs.Sets.{Has, first, later}
 use Rattle.law_obligations.proofs.Members.{Has-cases, Has-left, Has-right, Has-uncons}
-use Rattle.law_obligations.proofs.Tests.{true_or_false}
 use Rattle.smv_elements.specs.Elements.{is_full, is_among, same_element, put, put_all, AreInOrder, HaveSame, is_at, inserted}
 use Rattle.smv_elements.proofs.Keys.{same-is, same-itself}
 use Rattle.smv_elements.proofs.Sorted.{Splits, absent, present, inserted-has, has-inserted, has-new, ordered}
@@ -37,7 +37,7 @@ among-has (y ∷ xs) x h = elim (Has-uncons h) [
 
 among-none : (xs : List Element) (x : Element) → (Has xs x → ⊥) → is_among xs x ≡ false
 among-none [] x none = refl
-among-none (y ∷ xs) x none = elim (true_or_false (same_element x y)) [
+among-none (y ∷ xs) x none = elim (cases_Bool (same_element x y)) [
   | inl e ↦ absurd (none (subst (Has (y ∷ xs)) (sym (same-is x y e)) first))
   | inr e ↦ rw e (among-none xs x (λ h. none (later h)))
 ]

@@ -2,8 +2,10 @@
 use Rattle.std.proofs.Common.{◌≡◌, ℕ, suc, ◌+◌, List, [], ◌∷◌, ◌++◌, map, length, get_or, Bool, true, false, ◌&&◌, not, if◌then◌else◌, refl, sym, ap, subst, ◌∙◌, append_assoc, inl, inr, arith, zero, take, ◌<◌, ◌≤◌}
 use Rattle.std.specs.List.{filter, flat_map, list_any, list_all}
 use Rattle.std.proofs.lemmas.Bool.{cases_lt}
-use Rattle.std.proofs.lemmas.List.{append-nil, length-append, get_or_append_left}
+use Rattle.std.proofs.lemmas.List.{append-nil, length-append, get_or_append_left, map-append}
 use Rattle.std.proofs.Math.Seq.{get_or-append_seam}
+use Rattle.law_lists.proofs.Places.{take_past}
+use Rattle.law_lists.proofs.Lists.{length_map}
 use Rattle.smv_core.specs.declared.flat.Element.{Element}
 use Rattle.law_obligations.specs.Sets.{Has, first, later}
 use Rattle.law_obligations.specs.Obligations.{Demanded}
@@ -13,6 +15,7 @@ use Rattle.bdd_codes.specs.Codes.{bits_at}
 use Rattle.law_reports.specs.CaseLists.{is_claim, is_by_next, defines, those_of}
 use Rattle.bdd_store.specs.declared.Ref.{Ref}
 use Rattle.bdd_store.specs.Diagram.{Diagram, IsLive, AreLive, Keeps, table, ref_at}
+use Rattle.bdd_store.proofs.Keeping.{functions_kept}
 use Rattle.bdd_ops.specs.Functions.{Function}
 use Rattle.smv_problem.specs.declared.problem.Demand.{Demand}
 use Rattle.smv_problem.specs.Written.{written_element, written_demand}
@@ -25,19 +28,6 @@ use Rattle.smv_encode.specs.declared.elements.Turn.TheVariants as turn
 use Rattle.smv_encode.proofs.Choices.{defines_written, held_written}
 
 -- ---- lists of functions
-
-functions_kept : (d e : Diagram) (rs : List Ref) → Keeps d e → AreLive d rs → map (table e) rs ≡ map (table d) rs
-functions_kept d e [] k live = refl
-functions_kept d e (r ∷ rs) k live =
-    let same : table e r ≡ table d r = λ i a. k.tables r (live 0 (omega arith)) a i in
-    ap (λ (f : Function). f ∷ map (table e) rs) same ∙ ap (λ (fs : List Function). table d r ∷ fs) (functions_kept d e rs k (λ i lt. live (suc i) (omega arith)))
-
-pub kept_functions : (d e : Diagram) (rs : List Ref) → Keeps d e → AreLive d rs → map (table e) rs ≡ map (table d) rs
-kept_functions d e rs k live = functions_kept d e rs k live
-
-map-append : {X Y : Type 0} (f : X → Y) (xs ys : List X) → map f (xs ++ ys) ≡ map f xs ++ map f ys
-map-append f [] ys = refl
-map-append f (x ∷ xs) ys = ap (λ zs. f x ∷ zs) (map-append f xs ys)
 
 pub adds_none : (d : Diagram) (rs : List Ref) → AddsFunctions d d rs rs []
 adds_none d rs = sym (append-nil (map (table d) rs))
@@ -63,9 +53,6 @@ live_pushed d e rs more r k live pushed is i lt =
           let at : i ≡ length rs = omega (arith, long, late) in
           subst (λ (j : ℕ). IsLive e (ref_at more j)) (sym at) (subst (IsLive e) (sym (get_or-append_seam rs r [] none) ∙ sym (ap (λ (xs : List Ref). get_or xs (length rs) none) pushed)) is)
     ]
-
-pub live_kept : (d e : Diagram) (rs : List Ref) → Keeps d e → AreLive d rs → AreLive e rs
-live_kept d e rs k live i lt = k.live (ref_at rs i) (live i lt)
 
 -- ---- one demand after the other
 
@@ -97,20 +84,10 @@ next_demand c (d ∷ ds) (g ∷ gs) (suc i) demand lt at h =
     tails : {x y : Demand} {xs ys : List Demand} → x ∷ xs ≡ y ∷ ys → xs ≡ ys
     tails e = cc
 
-take_whole : {X : Type 0} (xs : List X) (i : ℕ) → length xs ≤ i → take i xs ≡ xs
-take_whole [] zero le = refl
-take_whole [] (suc i) le = refl
-take_whole (x ∷ xs) zero le = absurd (omega arith)
-take_whole (x ∷ xs) (suc i) le = ap (λ ys. x ∷ ys) (take_whole xs i (omega arith))
-
-length-map : {X Y : Type 0} (f : X → Y) (xs : List X) → length (map f xs) ≡ length xs
-length-map f [] = refl
-length-map f (x ∷ xs) = ap (λ n. suc n) (length-map f xs)
-
 all_taken : (c : PosedCase) (ds : List Demanded) (demands : List Demand) (i : ℕ) → length demands ≤ i → AreDemands c ds demands → take i ds ≡ ds
 all_taken c ds demands i le h =
-    let long : length demands ≡ length ds = ap (λ (gs : List Demand). length gs) h.written ∙ length-map (written_demand c.problem.world.classes) ds in
-    take_whole ds i (omega (arith, long, le))
+    let long : length demands ≡ length ds = ap (λ (gs : List Demand). length gs) h.written ∙ length_map (written_demand c.problem.world.classes) ds in
+    take_past ds i (omega (arith, long, le))
 
 module _ (c : PosedCase) (d e f : Diagram) (ds : List Demanded) (demands : List Demand) (i : ℕ) (rs ss ts : List Ref) (g : List Demanded → List Function) where
   pub demand_adds : (h : Demanded → List Function) → ((xs : List Demanded) (x : Demanded) → g (xs ++ x ∷ []) ≡ g xs ++ h x) → (demand : Demand) → i < length demands → demand ≡ get_or demands i demand → AreDemands c ds demands
@@ -278,10 +255,6 @@ module _ (c : PosedCase) (d e f : Diagram) (xs : List AbsElement) (elements : Li
             by false g = refl
 
 -- ---- small steps
-
-pub nothing : {X : Type 0} (xs : List X) → length xs ≡ 0 → xs ≡ []
-nothing [] e = refl
-nothing (x ∷ xs) e = absurd (omega arith)
 
 pub adds_taken : (d e : Diagram) (rs ss : List Ref) (fs : List Function) (b : Bool) → b ≡ true → AddsFunctions d e rs ss fs → AddsFunctions d e rs ss (if b then fs else [])
 adds_taken d e rs ss fs b is_on h = subst (λ (t : Bool). AddsFunctions d e rs ss (if t then fs else [])) (sym is_on) h

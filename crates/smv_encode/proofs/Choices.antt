@@ -2,6 +2,7 @@
 use Rattle.std.proofs.Common.{◌≡◌, ℕ, List, [], ◌∷◌, map, Bool, true, false, ◌&&◌, ◌||◌, if◌then◌else◌, refl, sym, ap, subst, ◌∙◌, inl, inr, zero, suc, ◌+◌, ◌<◌, ◌≤◌, length, drop, get_or, arith}
 use Rattle.std.specs.List.{list_any, slice_get}
 use Rattle.std.proofs.Math.Seq.{drop-cons}
+use Rattle.std.proofs.lemmas.Bool.{cases_Bool}
 use Rattle.smv_core.specs.FlatMeaning.{Numbered}
 use Rattle.smv_core.specs.declared.flat.Class.{Class}
 use Rattle.smv_core.specs.declared.flat.Element.{Element}
@@ -10,7 +11,6 @@ use Rattle.law_obligations.specs.Places.{Place}
 use Rattle.law_obligations.specs.Demands.{concerns_place}
 use Rattle.law_obligations.specs.Soundness.{over_of}
 use Rattle.law_obligations.specs.Obligations.{Demanded, defined, holds}
-use Rattle.law_obligations.proofs.Tests.{true_or_false}
 use Rattle.law_obligations.specs.Cones.{AbsElement, element, same_element}
 use Rattle.law_obligations.proofs.Lookups.{find-some}
 use Rattle.law_obligations.proofs.ConeFacts.{same_element-itself, same_element-family, same_element-indexes}
@@ -56,11 +56,11 @@ module _ (c : PosedCase) (well : IsWellFormed c) where
 
   -- the same element is written the same
   same_written : (x y : AbsElement) → Has c.elements x → Has c.elements y → listed.same_element (written_element x) (written_element y) ≡ same_element x y
-  same_written x y hx hy = elim (true_or_false (listed.same_element (written_element x) (written_element y))) [
+  same_written x y hx hy = elim (cases_Bool (listed.same_element (written_element x) (written_element y))) [
     | inl e ↦
         let is : x ≡ y = written_once x y hx hy (same-is (written_element x) (written_element y) e) in
         e ∙ sym (subst (λ (z : AbsElement). same_element x z ≡ true) is (same_element-itself x))
-    | inr e ↦ elim (true_or_false (same_element x y)) [
+    | inr e ↦ elim (cases_Bool (same_element x y)) [
       | inl f ↦
           let family = same_element-family x y f in
           let indexes = same_element-indexes x y f in

@@ -1,6 +1,8 @@
 -- Cells whose values are those of codes are the cells of the case in the state that the bits are read as.
 use Rattle.std.proofs.Common.{◌≡◌, ℕ, suc, ◌+◌, ◌*◌, ◌^◌, ◌<◌, ◌≤◌, append_assoc, List, [], ◌∷◌, ◌++◌, map, length, Bool, true, ◌&&◌, ◌||◌, nat_eq, nat_lt, refl, sym, ap, subst, ◌∙◌, Option, Some, None, inl, inr, arith}
 use Rattle.std.specs.List.{list_any, slice_get}
+use Rattle.std.proofs.lemmas.Bool.{cases_Bool}
+use Rattle.law_lists.proofs.Lists.{length_map}
 use Rattle.smv_core.specs.declared.flat.Simple.{Simple}
 use Rattle.smv_core.specs.declared.flat.Family.{Family}
 use Rattle.smv_core.specs.declared.flat.Element.{Element}
@@ -8,7 +10,6 @@ use Rattle.law_obligations.specs.Sets.{Has, first, later}
 use Rattle.law_obligations.specs.Places.{Place, World, places_in}
 use Rattle.law_obligations.specs.Soundness.{over_of}
 use Rattle.law_obligations.specs.Covers.{IsIndexType}
-use Rattle.law_obligations.proofs.Tests.{true_or_false}
 use Rattle.law_obligations.proofs.OneOfEach.{get_Has}
 use Rattle.law_obligations.specs.Cones.{AbsElement, element, same_element, same_places}
 use Rattle.law_obligations.proofs.ConeFacts.{same_element-itself, same_element-family, same_element-indexes}
@@ -117,9 +118,9 @@ same_both x y e =
     subst (λ (z : AbsElement). same_element z x ≡ true) is (same_element-itself x)
 
 same_turned : (x y : AbsElement) → same_element x y ≡ same_element y x
-same_turned x y = elim (true_or_false (same_element x y)) [
+same_turned x y = elim (cases_Bool (same_element x y)) [
   | inl e ↦ e ∙ sym (same_both x y e)
-  | inr e ↦ elim (true_or_false (same_element y x)) [
+  | inr e ↦ elim (cases_Bool (same_element y x)) [
     | inl f ↦ same_both y x f ∙ sym f
     | inr f ↦ e ∙ sym f
   ]
@@ -186,10 +187,6 @@ few_bits width count n wide many small = let short = bits_short count small in l
 
 pub enough_bits : (width count n : ℕ) → width ≡ bits_for n → count ≡ n → count ≤ 2 ^ width
 enough_bits width count n wide many = subst (λ (b : ℕ). count ≤ 2 ^ b) (sym (wide ∙ ap bits_for (sym many))) (bits_are count).enough
-
-length_map : {X Y : Type 0} (f : X → Y) (xs : List X) → length (map f xs) ≡ length xs
-length_map f [] = refl
-length_map f (x ∷ xs) = ap (λ n. suc n) (length_map f xs)
 
 -- as many spots as the family has values
 pub spots_counted : (p : Problem) → IsProblem p → (family : ℕ) (spots : List Spot) → ((w : World) → IsWorldOf p w → map (place_in w.classes) spots ≡ values_in w (slice_get w.classes.families family)) → length spots ≡ count_for p.lists p.types (slice_get p.families family)

@@ -4,6 +4,7 @@ use Rattle.std.proofs.lemmas.Bool.Decides.{nat_tests}
 use Rattle.std.proofs.lemmas.List.{append-nil}
 use Rattle.std.proofs.Math.ListN.{get_or-map}
 use Rattle.std.proofs.Math.Seq.{drop-cons}
+use Rattle.law_lists.proofs.Lists.{length_map}
 use Rattle.smv_core.specs.Values.{number}
 use Rattle.smv_core.specs.FlatMeaning.{Numbered}
 use Rattle.law_obligations.specs.Places.{Place, named, AbsOutcome}
@@ -16,10 +17,6 @@ use Rattle.bdd_store.specs.Diagram.{Diagram, IsLive, AreLive, table, ref_at}
 use Rattle.smv_conditions.specs.declared.offers.Offer.{Offer}
 use Rattle.smv_conditions.specs.Offers.{any_offer, AreOffersMade}
 use Rattle.smv_encode.specs.Coded.{paired}
-
-length-map : {X Y : Type 0} (f : X → Y) (xs : List X) → length (map f xs) ≡ length xs
-length-map f [] = refl
-length-map f (x ∷ xs) = ap (λ n. suc n) (length-map f xs)
 
 -- the value of a code, by its place
 pub value_placed : (ps : List Place) (code : ℕ) → 0 < length ps → value_of_code ps code ≡ get_or ps (min code (length ps - 1)) (named (number 0))
@@ -69,7 +66,7 @@ module _ (n : Numbered) (d : Diagram) (a : ℕ → Bool) (p : AbsOutcome → Boo
   pub coded_value : (places : List Place) (spots : List Spot) (rs : List Ref) (code : ℕ) → map (place_in n) spots ≡ places → length rs ≡ length spots → 0 < length spots
       → ((k : ℕ) → k < length rs → table d (ref_at rs k) a ≡ nat_eq (min code (length rs - 1)) k) → any_offer n table d a p (paired spots rs) ≡ p (Some (value_of_code places code))
   coded_value places spots rs code are same some each =
-      let long : length places ≡ length spots = ap (λ (ps : List Place). length ps) (sym are) ∙ length-map (place_in n) spots in
+      let long : length places ≡ length spots = ap (λ (ps : List Place). length ps) (sym are) ∙ length_map (place_in n) spots in
       let last : min code (length rs - 1) ≡ min code (length places - 1) = ap (λ (k : ℕ). min code (k - 1)) (same ∙ sym long) in
       let m : ℕ = min code (length rs - 1) in
       let within : min code (length rs - 1) < length spots = small code (length rs) (length spots) same some in

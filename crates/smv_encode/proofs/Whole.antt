@@ -1,6 +1,8 @@
 -- The lists of a problem are those of each case that is written so.
 use Rattle.std.proofs.Common.{◌≡◌, ℕ, ◌*◌, List, [], ◌∷◌, ◌++◌, map, Bool, true, false, not, refl, sym, ap, subst, ◌∙◌, ◌⊎◌, inl, inr, append_assoc}
 use Rattle.std.specs.List.{filter, flat_map}
+use Rattle.std.proofs.lemmas.List.{map-append}
+use Rattle.std.proofs.lemmas.List.Concat.{flat_map-append}
 use Rattle.law_obligations.specs.Sets.{Has}
 use Rattle.law_obligations.specs.Obligations.{Demanded, defined, holds}
 use Rattle.law_obligations.proofs.Members.{any-found}
@@ -11,6 +13,7 @@ use Rattle.law_reports.specs.CaseLists.{those_of, moves, moving_first, claims, e
 use Rattle.law_reports.proofs.Below.{are_lists}
 use Rattle.bdd_store.specs.declared.Ref.{Ref}
 use Rattle.bdd_store.specs.Diagram.{Diagram, IsLive, AreLive, Keeps, table}
+use Rattle.bdd_store.proofs.Keeping.{functions_kept}
 use Rattle.bdd_ops.specs.Functions.{Function}
 use Rattle.smv_rings.specs.Lists.{Lists, AllCurrent, IsCurrent, IsLists, IsRel, lists_of, refs_of}
 use Rattle.smv_rings.specs.declared.Rel.{Rel}
@@ -23,7 +26,7 @@ use Rattle.smv_encode.specs.Encoded.{IsKept, broken_at}
 use Rattle.smv_encode.specs.Parts.{AreDemands, AreElements, AddsFunctions, is_turn}
 use Rattle.smv_encode.specs.declared.elements.Turn.TheVariants as turn
 use Rattle.smv_core.specs.declared.flat.Element.{Element}
-use Rattle.smv_encode.proofs.Adds.{adds_then, kept_functions}
+use Rattle.smv_encode.proofs.Adds.{adds_then}
 
 -- ---- the elements and the demands of a case
 
@@ -68,14 +71,6 @@ three_parts d e f g rs ss ts us fs gs hs none one two three = started d g rs us 
 
 -- ---- in order
 
-map-append : {X Y : Type 0} (f : X → Y) (xs ys : List X) → map f (xs ++ ys) ≡ map f xs ++ map f ys
-map-append f [] ys = refl
-map-append f (x ∷ xs) ys = ap (λ zs. f x ∷ zs) (map-append f xs ys)
-
-flat-append : {X Y : Type 0} (f : X → List Y) (xs ys : List X) → flat_map f (xs ++ ys) ≡ flat_map f xs ++ flat_map f ys
-flat-append f [] ys = refl
-flat-append f (x ∷ xs) ys = ap (λ zs. f x ++ zs) (flat-append f xs ys) ∙ sym (append_assoc (f x) (flat_map f xs) (flat_map f ys))
-
 all_taken : (ds : List Demanded) (ss : List Slot) → filter (is_turn ds turn.All) ss ≡ ss
 all_taken ds [] = refl
 all_taken ds (s ∷ ss) = ap (λ (xs : List Slot). s ∷ xs) (all_taken ds ss)
@@ -99,7 +94,7 @@ before_turns c m =
     let others : List Slot = filter (λ slot. not (moves c.problem.before slot)) (slots c) in
     ap (λ (xs : List Function). map m (flat_map own movers) ++ xs) (sym (map-append m (flat_map own others) (claims c c.problem.before)))
     ∙ sym (map-append m (flat_map own movers) (flat_map own others ++ claims c c.problem.before))
-    ∙ ap (map m) (sym (append_assoc (flat_map own movers) (flat_map own others) (claims c c.problem.before)) ∙ ap (λ (xs : List Demanded). xs ++ claims c c.problem.before) (sym (flat-append own movers others)))
+    ∙ ap (map m) (sym (append_assoc (flat_map own movers) (flat_map own others) (claims c c.problem.before)) ∙ ap (λ (xs : List Demanded). xs ++ claims c c.problem.before) (sym (flat_map-append own movers others)))
 
 -- ---- all lists
 
@@ -145,7 +140,7 @@ rel_is d rel p (c, is, well) lists vars n0 l0 t0 n1 l1 t1 bits =
 -- ---- what holds at a later state
 
 pub later_list : (d e : Diagram) (rs : List Ref) (fs : List Function) → Keeps d e → AreLive d rs → map (table d) rs ≡ fs → map (table e) rs ≡ fs
-later_list d e rs fs k live is = kept_functions d e rs k live ∙ is
+later_list d e rs fs k live is = functions_kept d e rs k live ∙ is
 
 pub later_one : (d e : Diagram) (r : Ref) (f : Function) → Keeps d e → IsLive d r → table d r ≡ f → table e r ≡ f
 later_one d e r f k live is = (λ i a. k.tables r live a i) ∙ is

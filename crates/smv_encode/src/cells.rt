@@ -28,7 +28,7 @@ pub struct CaseKnown<'a> {
 }
 
 /// Nothing yet.
-pub fn nothing_known_of_case<'a>(alloc: Global) -> CaseKnown<'a>
+pub(crate) fn nothing_known_of_case<'a>(alloc: Global) -> CaseKnown<'a>
     ensures current { result.current.entries.items ≡ [] }
     ensures next { result.next.entries.items ≡ [] }
 {

@@ -21,7 +21,7 @@ use smv_walks::concerns;
 use std::alloc::{AllocError, Global};
 
 /// The body of a claim.
-pub fn is_claim(demand: &Demand) -> bool
+pub(crate) fn is_claim(demand: &Demand) -> bool
     ensures { result ≡ is_held demand.now }
 {
     match demand {

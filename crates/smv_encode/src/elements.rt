@@ -296,7 +296,7 @@ fn add_element_if<'a>(
 }
 
 /// The functions of the elements whose turn it is, by the demands of now. The first has this bit.
-pub fn add_elements<'a>(
+pub(crate) fn add_elements<'a>(
     alloc: Global,
     problem: &'a Problem,
     cells: &Cells,
@@ -362,7 +362,7 @@ fn add_own_if<'a>(
 }
 
 /// Those of the elements whose turn it is, by the demands of before: in a step.
-pub fn add_before<'a>(
+pub(crate) fn add_before<'a>(
     alloc: Global,
     problem: &'a Problem,
     cells: &Cells,

@@ -15,7 +15,7 @@ pub mod kept_stores;
 mod lists;
 pub mod times;
 
-pub use cells::{CaseKnown, Cells, cells_of, nothing_known_of_case};
+pub use cells::{CaseKnown, Cells, cells_of};
 pub use coded::{cells_at, value_at, width};
 pub use demands::{broken_first, broken_step, first, step};
 pub use lists::relations;

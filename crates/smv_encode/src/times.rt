@@ -26,7 +26,7 @@ use smv_walks::demands::{broken, may_hold, met};
 use std::alloc::{AllocError, Global};
 
 /// Where a demand is met at time 0, by the cells of the current bits.
-pub fn first_by<'a>(
+pub(crate) fn first_by<'a>(
     alloc: Global,
     problem: &Problem,
     current: &[Cell<Ref>],
@@ -51,7 +51,7 @@ pub fn first_by<'a>(
 }
 
 /// Where it is met in a step, by those of the current and of the next bits.
-pub fn step_by<'a>(
+pub(crate) fn step_by<'a>(
     alloc: Global,
     problem: &Problem,
     cells: &Cells,
@@ -83,7 +83,7 @@ pub fn step_by<'a>(
 }
 
 /// Where it is met: at time 0, or in a step.
-pub fn met_at<'a>(
+pub(crate) fn met_at<'a>(
     alloc: Global,
     problem: &Problem,
     cells: &Cells,
@@ -213,7 +213,7 @@ fn target_step<'a>(
 }
 
 /// Where the target is broken at time 0, and each guard may hold.
-pub fn broken_first_by<'a>(
+pub(crate) fn broken_first_by<'a>(
     alloc: Global,
     problem: &'a Problem,
     current: &[Cell<Ref>],
@@ -235,7 +235,7 @@ pub fn broken_first_by<'a>(
 }
 
 /// Where it is broken in a step, and each guard may hold.
-pub fn broken_step_by<'a>(
+pub(crate) fn broken_step_by<'a>(
     alloc: Global,
     problem: &'a Problem,
     cells: &Cells,

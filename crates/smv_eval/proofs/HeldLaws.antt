@@ -1,6 +1,7 @@
 -- Demands, targets and guards of a case in states that cells read at plain conditions.
 use Rattle.std.proofs.Common.{◌≡◌, ℕ, List, [], ◌∷◌, map, Bool, true, false, ◌&&◌, refl, sym, ap, subst, ◌∙◌, Option, Some, None}
 use Rattle.std.specs.List.{slice_get, list_all}
+use Rattle.law_lists.proofs.Lists.{head_is, tail_is}
 use Rattle.smv_core.specs.declared.flat.Family.{Family}
 use Rattle.smv_core.specs.declared.flat.Simple.{Simple}
 use Rattle.smv_core.specs.declared.flat.Def.{Def}
@@ -142,12 +143,6 @@ IsMetBy problem old cells demand met = (p : oblig.AbstractProblem) (before : Opt
 
 abbrev AreMetBy : Problem → Option (List (Cell Bool)) → List (Cell Bool) → List Demand → Bool → Type 0
 AreMetBy problem old cells all met = (p : oblig.AbstractProblem) (before : Option AbsState) (now : AbsState) → AreReadBy problem old cells p before now → (ds : List Demanded) → ((d : Demanded) → Has ds d → IsDemand p d) → all ≡ map (written_demand p.world.classes) ds → met ≡ list_all (is_met p before now) ds
-
-head_is : {X : Type 0} {x y : X} {xs ys : List X} → x ∷ xs ≡ y ∷ ys → x ≡ y
-head_is e = cc
-
-tail_is : {X : Type 0} {x y : X} {xs ys : List X} → x ∷ xs ≡ y ∷ ys → xs ≡ ys
-tail_is e = cc
 
 no_head : {X : Type 0} {x : X} {xs : List X} → x ∷ xs ≡ [] → ⊥
 no_head e = cc

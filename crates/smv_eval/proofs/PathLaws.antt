@@ -2,6 +2,7 @@
 use Rattle.std.proofs.Common.{◌≡◌, List, [], ◌∷◌, map, length, arith, Bool, true, false, ◌&&◌, refl, sym, ap, subst, ◌∙◌, Option, Some, None}
 use Rattle.std.specs.Prelude.{◌↔◌, IsTrue}
 use Rattle.std.specs.List.{list_all}
+use Rattle.law_lists.proofs.Lists.{head_is, tail_is}
 use Rattle.law_obligations.specs.Sets.{Has, first, later}
 use Rattle.law_obligations.specs.May.{AbsState}
 use Rattle.law_obligations.specs.Pictures.{IsAbsState}
@@ -46,12 +47,6 @@ broken_by p old cells sliced broken slice is = subst (λ cells. IsBroken p old c
 
 pub violates_by : (p : Problem) (cells sliced : List (Cell Bool)) (states : List StateData) (violates : Bool) → sliced ≡ cells → Violates p (Some sliced) states violates → Violates p (Some cells) states violates
 violates_by p cells sliced states violates slice is = subst (λ cells. Violates p (Some cells) states violates) slice is
-
-head_is : {X : Type 0} {x y : X} {xs ys : List X} → x ∷ xs ≡ y ∷ ys → x ≡ y
-head_is e = cc
-
-tail_is : {X : Type 0} {x y : X} {xs ys : List X} → x ∷ xs ≡ y ∷ ys → xs ≡ ys
-tail_is e = cc
 
 -- no state is left
 pub nothing_left : (xs : List StateData) → length xs ≡ 0 → xs ≡ []

@@ -1,5 +1,6 @@
 -- Demands and targets of a case in states that are given as data.
 use Rattle.std.proofs.Common.{◌≡◌, List, Bool, refl, sym, ap, subst, ◌∙◌, Option, Some, None}
+use Rattle.law_lists.proofs.Options.{some_is}
 use Rattle.law_obligations.specs.May.{AbsState}
 use Rattle.law_obligations.specs.Pictures.{IsAbsState}
 use Rattle.law_obligations.specs.Obligations.{Demanded, defined, holds, is_met, obligation}
@@ -17,9 +18,6 @@ use Rattle.smv_walks.specs.Demands.{IsDemand}
 use Rattle.smv_eval.specs.States.{plainly, view_of}
 use Rattle.smv_eval.specs.Held.{AreReadBy, IsKept}
 use Rattle.smv_eval.proofs.HeldLaws.{types_of, are_read, is_before_by}
-
-inner : {X : Type 0} {x y : X} → Some x ≡ Some y → x ≡ y
-inner e = cc
 
 -- nothing is there
 pub none_of : {X : Type 0} (o : Option X) → ((x : X) → o ≡ Some x → ⊥) → o ≡ None
@@ -39,7 +37,7 @@ pub read_later : (p : Problem) (old new : StateData) (olds cells : List (Cell Bo
     (before : Option AbsState) → IsBefore c before → Some old ≡ written_before c before → AreReadBy p (Some olds) cells c.problem before a
 read_later p old new olds cells seen_old seen c is well a abs same None abs_before e = absurd (cc)
 read_later p old new olds cells seen_old seen c is well a abs same (Some b) abs_before e =
-    are_read c well p (Some olds) cells (Some b) a (is_before_by c well p olds b abs_before (seen_old c is well b abs_before (inner e))) abs (seen c is well a abs same)
+    are_read c well p (Some olds) cells (Some b) a (is_before_by c well p olds b abs_before (seen_old c is well b abs_before (some_is e))) abs (seen c is well a abs same)
 
 pub fit_kept : (c : PosedCase) (well : IsWellFormed c) (d : Demanded) → IsFit c d → IsKept c.problem d → IsDemand c.problem d
 fit_kept c well (defined def indexes) fit k = (k, types_of c well def.family, fit.3)

@@ -1,8 +1,12 @@
 -- States by numbers are those of each case that is written so.
-use Rattle.std.proofs.Common.{◌≡◌, ℕ, ◌+◌, ◌-◌, ◌<◌, ◌≤◌, List, [], ◌∷◌, ◌++◌, map, length, get_or, Bool, true, false, ◌&&◌, ◌||◌, if◌then◌else◌, refl, sym, ap, subst, ◌∙◌, ◌⊎◌, inl, inr, Option, Some, None, nat_eq, nat_le, nat_lt, arith}
+use Rattle.std.proofs.Common.{◌≡◌, ℕ, ◌+◌, ◌-◌, List, [], ◌∷◌, ◌++◌, map, length, get_or, Bool, true, false, ◌&&◌, ◌||◌, if◌then◌else◌, refl, sym, ap, subst, ◌∙◌, ◌⊎◌, inl, inr, Option, Some, None, nat_eq, nat_le, nat_lt, arith}
 use Rattle.std.specs.Prelude.{◌↔◌, IsTrue, unwrap_or}
 use Rattle.std.specs.List.{slice_get, list_any}
-use Rattle.std.proofs.lemmas.Bool.Decides.{nat_tests}
+use Rattle.std.proofs.lemmas.Bool.{cases_Bool}
+use Rattle.law_lists.proofs.Booleans.{and_both, left_of, right_of, same_tests}
+use Rattle.law_lists.proofs.Options.{some_is}
+use Rattle.law_lists.proofs.Numbers.{nat_lt-is, nat_le-is, nat_lt-true, nat_le-true}
+use Rattle.law_lists.proofs.Lists.{nothing_behind}
 use Rattle.smv_core.specs.Values.{Name, number, numbers_from}
 use Rattle.smv_core.specs.FlatMeaning.{Numbered}
 use Rattle.smv_core.specs.declared.flat.Simple.{Simple}
@@ -17,13 +21,14 @@ use Rattle.law_obligations.specs.Pictures.{IsAbsState}
 use Rattle.law_obligations.specs.Soundness.{over_of}
 use Rattle.law_obligations.specs.Covers.{IsIndexType}
 use Rattle.law_obligations.proofs.Members.{Has-left, Has-right, Has-cases, Has-map, Has-from_map, any-found}
-use Rattle.law_obligations.proofs.Tests.{true_or_false, left_of, right_of, and_both, same_tests}
 use Rattle.law_obligations.proofs.Spots.{Has-numbers, numbers-Has}
 use Rattle.law_obligations.proofs.OneOfEach.{get_Has}
 use Rattle.law_obligations.specs.Cones.{AbsElement, element, same_places, same_element}
-use Rattle.law_obligations.proofs.ConeFacts.{same_element-itself, same_element-family, same_element-indexes}
+use Rattle.law_obligations.proofs.ConeFacts.{same_element-itself}
 use Rattle.law_designs.specs.FlatKinds.{kind_of}
 use Rattle.law_obligations.specs.Readings.{PosedCase}
+use Rattle.law_obligations.proofs.LeastCones.{same_element-is}
+use Rattle.law_obligations.proofs.CoverParams.{map-same}
 use Rattle.smv_spots.specs.Spots.{place_in, outcome_in, classes_of, rests_of, count_beside}
 use Rattle.smv_spots.proofs.TypeLaws.{numbers_beside}
 use Rattle.smv_problem.specs.declared.problem.AbsValue.{AbsValue}
@@ -46,47 +51,29 @@ use Rattle.smv_cells.specs.Cells.{is_cell_of}
 use Rattle.smv_cells.specs.Seen.{IsSeen}
 use Rattle.smv_eval.specs.States.{type_of, is_value, are_values, state_cell, state_cells, plainly, view_of}
 
-inner : {X : Type 0} {x y : X} → Some x ≡ Some y → x ≡ y
-inner e = cc
-
-clash : {b : Bool} → b ≡ true → b ≡ false → ⊥
-clash p q = cc
-
-below : (k n : ℕ) → nat_lt k n ≡ true → k < n
-below k n e = grind (arith, nat_tests)
-
-up_to : (k n : ℕ) → nat_le k n ≡ true → k ≤ n
-up_to k n e = grind (arith, nat_tests)
-
-is_below : (k n : ℕ) → k < n → nat_lt k n ≡ true
-is_below k n l = grind (arith, nat_tests)
-
-is_up_to : (k n : ℕ) → k ≤ n → nat_le k n ≡ true
-is_up_to k n l = grind (arith, nat_tests)
-
 -- ---- values of types by numbers
 
 module _ (p : Problem) where
   class_there : (o : Option AbsType) (k : ℕ) → nat_lt k (classes_of o) ≡ true → Has (values_beside o) (value.Named k)
-  class_there None k e = absurd (let l = below k 0 e in omega (arith, l))
-  class_there (Some t) k e = let l = below k t.named e in Has-left (map value.Rest (rests_beside t.rest t.named)) (Has-map value.Named (Has-numbers 0 t.named k (omega arith) (omega (arith, l))))
+  class_there None k e = absurd (let l = nat_lt-is k 0 e in omega (arith, l))
+  class_there (Some t) k e = let l = nat_lt-is k t.named e in Has-left (map value.Rest (rests_beside t.rest t.named)) (Has-map value.Named (Has-numbers 0 t.named k (omega arith) (omega (arith, l))))
 
   rest_there : (o : Option AbsType) (g : ℕ) → nat_lt g (rests_of o) ≡ true → Has (values_beside o) (value.Rest g)
-  rest_there None g e = absurd (let l = below g 0 e in omega (arith, l))
+  rest_there None g e = absurd (let l = nat_lt-is g 0 e in omega (arith, l))
   rest_there (Some t) g e =
-      let l = below g (count_beside t.rest t.named) e in
+      let l = nat_lt-is g (count_beside t.rest t.named) e in
       Has-right (map value.Named (numbers_from 0 t.named)) (Has-map value.Rest (subst (λ ns. Has ns g) (numbers_beside t.rest t.named) (Has-numbers 0 (count_beside t.rest t.named) g (omega arith) (omega (arith, l)))))
 
   value_there : (t : Simple) (v : AbsValue) → is_value p t v ≡ true → Has (values_in p.lists p.types t) v
   value_there (Range low high) (value.Number k) e =
-      let l = up_to low k (left_of (nat_le low k) (nat_le k high) e) in
-      let h = up_to k high (right_of (nat_le low k) (nat_le k high) e) in
+      let l = nat_le-is low k (left_of (nat_le low k) (nat_le k high) e) in
+      let h = nat_le-is k high (right_of (nat_le low k) (nat_le k high) e) in
       Has-map value.Number (Has-numbers low (high + 1 - low) k l (omega (arith, l, h)))
   value_there (Range low high) (value.Constant k) e = absurd (cc)
   value_there (Range low high) (value.Named k) e = absurd (cc)
   value_there (Range low high) (value.Rest k) e = absurd (cc)
   value_there (Range low high) value.Undefined e = absurd (cc)
-  value_there (Enum list) (value.Constant k) e = let l = below k (get_or p.lists list 0) e in Has-map value.Constant (Has-numbers 0 (get_or p.lists list 0) k (omega arith) (omega (arith, l)))
+  value_there (Enum list) (value.Constant k) e = let l = nat_lt-is k (get_or p.lists list 0) e in Has-map value.Constant (Has-numbers 0 (get_or p.lists list 0) k (omega arith) (omega (arith, l)))
   value_there (Enum list) (value.Number k) e = absurd (cc)
   value_there (Enum list) (value.Named k) e = absurd (cc)
   value_there (Enum list) (value.Rest k) e = absurd (cc)
@@ -103,35 +90,28 @@ module _ (p : Problem) where
     | inl l ↦
         let r = Has-from_map value.Named (numbers_from 0 t.named) l in
         let b = numbers-Has 0 t.named r.0 r.1 in
-        subst (λ v. is_value p (Set set) v ≡ true) (sym r.2) (ap (λ o. nat_lt r.0 (classes_of o)) is ∙ is_below r.0 t.named (omega (arith, b)))
+        subst (λ v. is_value p (Set set) v ≡ true) (sym r.2) (ap (λ o. nat_lt r.0 (classes_of o)) is ∙ nat_lt-true r.0 t.named (omega (arith, b)))
     | inr l ↦
         let r = Has-from_map value.Rest (rests_beside t.rest t.named) l in
         let b = numbers-Has 0 (count_beside t.rest t.named) r.0 (subst (λ ns. Has ns r.0) (sym (numbers_beside t.rest t.named)) r.1) in
-        subst (λ v. is_value p (Set set) v ≡ true) (sym r.2) (ap (λ o. nat_lt r.0 (rests_of o)) is ∙ is_below r.0 (count_beside t.rest t.named) (omega (arith, b)))
+        subst (λ v. is_value p (Set set) v ≡ true) (sym r.2) (ap (λ o. nat_lt r.0 (rests_of o)) is ∙ nat_lt-true r.0 (count_beside t.rest t.named) (omega (arith, b)))
   ]
 
   there_value : (t : Simple) (v : AbsValue) → Has (values_in p.lists p.types t) v → is_value p t v ≡ true
   there_value (Range low high) v h =
       let r = Has-from_map value.Number (numbers_from low (high + 1 - low)) h in
       let b = numbers-Has low (high + 1 - low) r.0 r.1 in
-      subst (λ v. is_value p (Range low high) v ≡ true) (sym r.2) (and_both (is_up_to low r.0 b.0) (is_up_to r.0 high (omega (arith, b))))
+      subst (λ v. is_value p (Range low high) v ≡ true) (sym r.2) (and_both (nat_le-true low r.0 b.0) (nat_le-true r.0 high (omega (arith, b))))
   there_value (Enum list) v h =
       let r = Has-from_map value.Constant (numbers_from 0 (get_or p.lists list 0)) h in
       let b = numbers-Has 0 (get_or p.lists list 0) r.0 r.1 in
-      subst (λ v. is_value p (Enum list) v ≡ true) (sym r.2) (is_below r.0 (get_or p.lists list 0) (omega (arith, b)))
+      subst (λ v. is_value p (Enum list) v ≡ true) (sym r.2) (nat_lt-true r.0 (get_or p.lists list 0) (omega (arith, b)))
   there_value (Set set) v h = of_set set (slice_get p.types set) refl v h
 
 -- ---- lists of elements
 
-map_same : {X Y : Type 0} (f g : X → Y) (xs : List X) → ((x : X) → Has xs x → f x ≡ g x) → map f xs ≡ map g xs
-map_same f g [] e = refl
-map_same f g (x ∷ xs) e = ap (λ y. y ∷ map f xs) (e x first) ∙ ap (λ ys. g x ∷ ys) (map_same f g xs (λ y h. e y (later h)))
-
-same_is : (x y : AbsElement) → same_element x y ≡ true → x ≡ y
-same_is x y e = ap (λ (k : ℕ). element k x.indexes) (same_element-family x y e) ∙ ap (element y.family) (same_element-indexes x y e)
-
 turned : (x y : AbsElement) → same_element x y ≡ same_element y x
-turned x y = same_tests (same_element x y) (same_element y x) (λ e. subst (λ z. same_element z x ≡ true) (same_is x y e) (same_element-itself x)) (λ e. subst (λ z. same_element z y ≡ true) (same_is y x e) (same_element-itself y))
+turned x y = same_tests (same_element x y) (same_element y x) (λ e. subst (λ z. same_element z x ≡ true) (same_element-is x y e) (same_element-itself x)) (λ e. subst (λ z. same_element z y ≡ true) (same_element-is y x e) (same_element-itself y))
 
 or_none : (b : Bool) → (b || false) ≡ b
 or_none true = refl
@@ -231,7 +211,7 @@ module _ (c : PosedCase) (well : IsWellFormed c) (p : Problem) (is : p ≡ writt
 
       own : same_element y x ≡ true → Has (places_in w f.value) (placed x v)
       own s =
-          let same : t.f ≡ f = inner (sym t.is_family ∙ (ap (λ (z : AbsElement). slice_get n.families z.family) (sym (same_is y x s)) ∙ is)) in
+          let same : t.f ≡ f = some_is (sym t.is_family ∙ (ap (λ (z : AbsElement). slice_get n.families z.family) (sym (same_element-is y x s)) ∙ is)) in
           subst (λ (f : Family). Has (places_in w f.value) (placed x v)) same (place_of_value x t v (left_of (is_value p (type_of (slice_get p.families x.family)) v) (are_values p (map written_element xs) values) e)).is_one
 
       at : (b : Bool) → same_element y x ≡ b → (b || list_any (same_element y) xs) ≡ true → (list_any (same_element y) xs ≡ true → Has (places_in w f.value) (place_for xs values y)) →
@@ -256,7 +236,7 @@ module _ (c : PosedCase) (well : IsWellFormed c) (p : Problem) (is : p ≡ writt
   values_back (x ∷ xs) (v ∷ values) all apart e =
       ap (λ u. u ∷ map (λ y. written_place n (kind_in (slice_get n.families y.family)) (place_for (x ∷ xs) (v ∷ values) y)) xs) own
       ∙ ap (λ us. v ∷ us)
-      (map_same (λ y. written_place n (kind_in (slice_get n.families y.family)) (place_for (x ∷ xs) (v ∷ values) y)) (λ y. written_place n (kind_in (slice_get n.families y.family)) (place_for xs values y)) xs other
+      (map-same (λ y. written_place n (kind_in (slice_get n.families y.family)) (place_for (x ∷ xs) (v ∷ values) y)) (λ y. written_place n (kind_in (slice_get n.families y.family)) (place_for xs values y)) xs other
       ∙ values_back xs values (λ z h. all z (later h)) apart.1 (right_of (is_value p (type_of (slice_get p.families x.family)) v) (are_values p (map written_element xs) values) e))
     where
       own : written_place n (kind_in (slice_get n.families x.family)) (if same_element x x then placed x v else place_for xs values x) ≡ v
@@ -265,8 +245,8 @@ module _ (c : PosedCase) (well : IsWellFormed c) (p : Problem) (is : p ≡ writt
           ∙ (place_of_value x (all x first) v (left_of (is_value p (type_of (slice_get p.families x.family)) v) (are_values p (map written_element xs) values) e)).is_written
 
       other : (y : AbsElement) → Has xs y → written_place n (kind_in (slice_get n.families y.family)) (if same_element y x then placed x v else place_for xs values y) ≡ written_place n (kind_in (slice_get n.families y.family)) (place_for xs values y)
-      other y h = elim (true_or_false (same_element y x)) [
-        | inl s ↦ absurd (apart.0 y h (sym (same_is y x s)))
+      other y h = elim (cases_Bool (same_element y x)) [
+        | inl s ↦ absurd (apart.0 y h (sym (same_element-is y x s)))
         | inr s ↦ ap (λ b. written_place n (kind_in (slice_get n.families y.family)) (if b then placed x v else place_for xs values y)) s
       ]
 
@@ -366,13 +346,9 @@ cells_seen p s cells e c is well a state same plain =
 
 -- ---- cells one after the other
 
-append_nothing : {X : Type 0} (xs : List X) → xs ≡ xs ++ []
-append_nothing [] = refl
-append_nothing (x ∷ xs) = ap (λ ys. x ∷ ys) (append_nothing xs)
-
 -- no more, where the elements or the values are at an end
 pub cells_end : (p : Problem) (done all : List (Cell Bool)) (elements : List Element) (values : List AbsValue) → (elements ≡ []) ⊎ (values ≡ []) → done ++ state_cells p elements values ≡ all → done ≡ all
-cells_end p done all elements values end e = append_nothing done ∙ (ap (λ more. done ++ more) (sym (none elements values end)) ∙ e)
+cells_end p done all elements values end e = nothing_behind done ∙ (ap (λ more. done ++ more) (sym (none elements values end)) ∙ e)
   where
     none : (elements : List Element) (values : List AbsValue) → (elements ≡ []) ⊎ (values ≡ []) → state_cells p elements values ≡ []
     none [] values end = refl

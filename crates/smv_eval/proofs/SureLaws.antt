@@ -1,6 +1,7 @@
 -- The target of an element that would have a value, and the values that are sure.
 use Rattle.std.proofs.Common.{◌≡◌, ℕ, zero, suc, ◌+◌, ◌<◌, ◌≤◌, List, [], ◌∷◌, ◌++◌, map, length, drop, get_or, Bool, true, false, not, ◌&&◌, ◌||◌, if◌then◌else◌, refl, sym, ap, subst, ◌∙◌, inl, inr, Option, Some, None, arith}
 use Rattle.std.specs.List.{filter, slice_get, list_any}
+use Rattle.law_lists.proofs.Options.{some_is}
 use Rattle.smv_core.specs.FlatMeaning.{Numbered}
 use Rattle.smv_core.specs.declared.flat.Def.{Def}
 use Rattle.smv_core.specs.declared.flat.Element.{Element}
@@ -47,6 +48,7 @@ use Rattle.smv_eval.proofs.ValueLaws.{kind_list, set_answered}
 use Rattle.smv_walks.specs.Demands.{IsDemand, AreOldMade}
 use Rattle.smv_walks.specs.Demands as demands
 use Rattle.smv_walks.specs.Given.{IsGivenAt, IsTargets, IsWritten, aim_at}
+use Rattle.smv_walks.proofs.DemandLaws.{written_inner}
 use Rattle.smv_eval.specs.Held.{steady, AreReadBy, IsKept}
 use Rattle.smv_eval.proofs.HeldLaws.{steady_at}
 use Rattle.smv_eval.proofs.StateHeld.{fit_kept}
@@ -55,9 +57,6 @@ use Rattle.smv_eval.specs.Sure.{every_of, is_sure, sure_places, sure_values, at_
 -- what is offered of a place
 abbrev offer_at : Spot → Bool → Offer Bool
 offer_at spot b = record { outcome = Some spot; when = b }
-
-inner : {X : Type 0} {x y : X} → Some x ≡ Some y → x ≡ y
-inner e = cc
 
 -- ---- lists that are made one by one
 
@@ -117,7 +116,7 @@ module _ (w : World) (value : Spot) where
     where
       at : (b : Bool) → same_place p (place_in w.classes spot) ≡ b → (if b then Some (same_place (place_in w.classes spot) (place_in w.classes value)) else at_place w.classes (map (at_value w value) spots) p) ≡ Some c →
           (at_place w.classes (map (at_value w value) spots) p ≡ Some c → c ≡ same_place p (place_in w.classes value)) → c ≡ same_place p (place_in w.classes value)
-      at true is e others = sym (inner e) ∙ ap (λ q. same_place q (place_in w.classes value)) (sym (same_place-is p (place_in w.classes spot) is))
+      at true is e others = sym (some_is e) ∙ ap (λ q. same_place q (place_in w.classes value)) (sym (same_place-is p (place_in w.classes spot) is))
       at false is e others = others e
 
 -- the places of a family's type
@@ -261,9 +260,6 @@ values_said problem old cells element init next comb every sliced offers given l
 abbrev pub AreSureBy : Problem → Option (List (Cell Bool)) → List (Cell Bool) → Demand → List AbsValue → Type 0
 AreSureBy problem old cells demand values = OfCases problem (λ c. (before : Option AbsState) (now : AbsState) → AreReadBy problem old cells c.problem before now → (def : Def) (indexes : List Place) → demand ≡ written_demand c.problem.world.classes (defined def indexes) →
     IsFit c (defined def indexes) → IsKept c.problem (defined def indexes) → IsSetOf (sure_values c.problem def indexes before now) values)
-
-written_inner : {element other : Element} {a b c d e f : DefBody} → Defined element a b c ≡ Defined other d e f → (element ≡ other) × (a ≡ d) × (b ≡ e) × (c ≡ f)
-written_inner e = (cc, cc, cc, cc)
 
 pub definition_said : (problem : Problem) (old : Option (List (Cell Bool))) (cells : List (Cell Bool)) (demand : Demand) (element : Element) (init next comb : DefBody) (values : List AbsValue) → demand ≡ Defined element init next comb →
     OfCases problem (λ c. (before : Option AbsState) (now : AbsState) → AreReadBy problem old cells c.problem before now → (def : Def) (indexes : List Place) → IsDemand c.problem (defined def indexes) → IsWritten element init next comb c.problem def indexes (λ a. now) → IsSetOf (sure_values c.problem def indexes before now) values) →

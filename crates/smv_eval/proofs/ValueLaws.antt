@@ -2,6 +2,9 @@
 use Rattle.std.proofs.Common.{◌≡◌, ◌≢◌, ℕ, zero, suc, ◌+◌, ◌<◌, ◌≤◌, List, [], ◌∷◌, ◌++◌, map, length, drop, get_or, min, Bool, true, false, not, ◌&&◌, ◌||◌, if◌then◌else◌, cond, refl, sym, ap, subst, ◌∙◌, ◌⊎◌, inl, inr, Option, Some, None, option_map, bytes_eq, nat_eq, nat_lt, arith}
 use Rattle.std.specs.Prelude.{unwrap_or, position}
 use Rattle.std.specs.List.{slice_get, list_any, position_or_len}
+use Rattle.law_lists.proofs.Numbers.{nat_eq-is}
+use Rattle.law_lists.proofs.Booleans.{and_both, left_of, right_of}
+use Rattle.law_lists.proofs.Options.{some_is}
 use Rattle.smv_core.specs.Values.{scalar, ordinal}
 use Rattle.smv_core.specs.FlatMeaning.{Numbered}
 use Rattle.smv_core.specs.declared.flat.SetInfo.{SetInfo}
@@ -16,8 +19,7 @@ use Rattle.law_obligations.specs.May.{AbsState, may}
 use Rattle.law_obligations.specs.Pictures.{IsAbsState}
 use Rattle.law_obligations.specs.Covers.{IsIndexType}
 use Rattle.law_obligations.proofs.Members.{Has-left, Has-right, Has-cases, Has-map, Has-from_map, Has-uncons, any-found, any-some}
-use Rattle.law_obligations.proofs.Tests.{left_of, right_of, and_both}
-use Rattle.law_obligations.proofs.Same.{nat_eq-is, nat_eq-itself, same_outcome, same_outcome-itself, same_outcome-is}
+use Rattle.law_obligations.proofs.Same.{nat_eq-itself, same_outcome, same_outcome-itself, same_outcome-is}
 use Rattle.law_obligations.proofs.Computing.{computing}
 use Rattle.law_obligations.proofs.OneOfEach.{get_Has}
 use Rattle.law_obligations.specs.Outlines.{place_of}
@@ -46,9 +48,6 @@ use Rattle.smv_outcomes.specs.Outcomes.{AreOffersOf}
 use Rattle.smv_eval.specs.States.{plainly, view_of}
 use Rattle.smv_eval.specs.Answers.{AreOnce, IsSetOf, list_of, list_over, list_for, list_in, place_in, constant_in, value_at, is_same_value, with_value, with_offer, with_offers}
 use Rattle.smv_eval.proofs.Narrow.{Narrow, IsNarrow, outcomes_narrow}
-
-inner : {X : Type 0} {x y : X} → Some x ≡ Some y → x ≡ y
-inner e = cc
 
 -- plain conditions are made everywhere
 offers_made : (offers : List (Offer Bool)) → AreOffersMade (λ (c : Bool). Unit {0}) offers
@@ -82,7 +81,7 @@ joined_list (enumeration k) l j = refl
 joined_list (set_type s) l j = refl
 
 number_is : (b : Bool) (kind : Kind) → kinds.number_if b ≡ Some kind → None ≡ list_of kind
-number_is true kind e = ap list_of (inner e)
+number_is true kind e = ap list_of (some_is e)
 number_is false kind e = absurd (cc)
 
 -- no variable is of an enumeration
@@ -98,7 +97,7 @@ module _ (flat_text : FlatText) (families : List Family) (same : flat_text.famil
       after k (Some o) e = by (joins k o) refl e
         where
           by : (b : Bool) → joins k o ≡ b → (if b then Some (joined k o) else None) ≡ Some kind → list_of k ≡ list_of kind
-          by true j e = sym (joined_list k o j) ∙ ap list_of (inner e)
+          by true j e = sym (joined_list k o j) ∙ ap list_of (some_is e)
           by false j e = absurd (cc)
 
       of_left : (left : Option Kind) → kinds.common (left ∷ right ∷ []) ≡ Some kind → (k : Kind) × (left ≡ Some k) × (list_of k ≡ list_of kind)
@@ -114,21 +113,21 @@ module _ (flat_text : FlatText) (families : List Family) (same : flat_text.famil
   read_kind (Some f) indexes kind e = at (kinds.take_each f.over indexes) e
     where
       at : (b : Bool) → (if b then Some (kind_of f.value) else None) ≡ Some kind → list_over f.value ≡ list_of kind
-      at true e = kind_list f.value ∙ ap list_of (inner e)
+      at true e = kind_list f.value ∙ ap list_of (some_is e)
       at false e = absurd (cc)
 
   constant_kind : (list value : ℕ) (kind : Kind) → kinds.constant flat_text list value ≡ Some kind → Some list ≡ list_of kind
   constant_kind list value kind e = at (nat_lt value (length (get_or flat_text.enums list []))) e
     where
       at : (b : Bool) → (if b then Some (enumeration list) else None) ≡ Some kind → Some list ≡ list_of kind
-      at true e = ap list_of (inner e)
+      at true e = ap list_of (some_is e)
       at false e = absurd (cc)
 
   list_is : (vars : List Kind) → NoLists vars → (e : FlatExpr) (kind : Kind) → kinds.kind_in flat_text vars e ≡ Some kind → list_in families e ≡ list_of kind
-  list_is vars none (Number value at) kind e = ap list_of (inner e)
+  list_is vars none (Number value at) kind e = ap list_of (some_is e)
   list_is vars none (Read' family shape indexes at) kind e = ap (λ fs. list_for (slice_get fs family)) (sym same) ∙ read_kind (slice_get flat_text.families family) (kinds.kinds_in flat_text vars indexes) kind e
   list_is vars none (Var var at) kind e = sym (none kind (get_Has vars var kind e))
-  list_is vars none (Loop value at) kind e = ap list_of (inner e)
+  list_is vars none (Loop value at) kind e = ap list_of (some_is e)
   list_is vars none (Constant list value at) kind e = constant_kind list value kind e
   list_is vars none (Not' shape (more_of-FlatExpr of end_of-FlatExpr) at) kind e = number_is _ kind e
   list_is vars none (And' shape parts) kind e = number_is _ kind e

@@ -131,7 +131,7 @@ fn element_values(
 }
 
 /// The values that the definition of an element allows it for certain, each once; of a demand that is no definition nothing is said.
-pub fn sure_values(
+pub(crate) fn sure_values(
     alloc: Global,
     problem: &Problem,
     old: Option<&[Cell<bool>]>,

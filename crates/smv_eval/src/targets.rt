@@ -33,7 +33,7 @@ fn table_at(
 
 /// The target of an element that would have this value.
 #[tactic(auto, using(crate::proofs::SureLaws::target_made))]
-pub fn target_at(
+pub(crate) fn target_at(
     alloc: Global,
     problem: &Problem,
     element: &Element,

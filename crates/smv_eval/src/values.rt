@@ -36,7 +36,7 @@ fn list_over(over: Simple) -> Option<u16>
 }
 
 /// The enumeration of which the values of a family are, if they are of one.
-pub fn list_for(problem: &Problem, family: u16) -> Option<u16>
+pub(crate) fn list_for(problem: &Problem, family: u16) -> Option<u16>
     ensures { result ≡ spec.list_for (slice_get problem.entry.now.families family) }
 {
     match problem.families.as_slice().get(family as usize) {

@@ -1,21 +1,14 @@
 -- Lists of constants, by their first names and by their numbers.
-use Rattle.std.proofs.Common.{◌≡◌, List, [], ◌∷◌, true, refl, ap}
+use Rattle.std.proofs.Common.{◌≡◌, List, [], ◌∷◌, refl, ap}
 use Rattle.std.specs.Prelude.{Some, None, option_map, slice_get}
-use Rattle.std.proofs.lemmas.Slice.Eq.{bytes_eq-Decides, slice_eq-Decides}
-use Rattle.smv_core.specs.Values.{Name, Path}
+use Rattle.smv_core.specs.Values.{Name}
 use Rattle.smv_core.specs.Types.{find_name, names_of}
-use Rattle.smv_core.specs.Outcome.{same_path}
 use Rattle.smv_core.specs.declared.tree.Word.{Word}
 use Rattle.smv_mentions.specs.Scopes.{Constant}
 use Rattle.law_designs.specs.Owned.{owner}
+use Rattle.law_designs.proofs.SameWalks.{path-equal, path-same}
 
-pub list-equal : (p q : Path) → same_path p q ≡ true → p ≡ q
-list-equal p q = (slice_eq-Decides bytes_eq-Decides p q (same_path p q) refl).0
-
-pub list-same : (p q : Path) → p ≡ q → same_path p q ≡ true
-list-same p q = (slice_eq-Decides bytes_eq-Decides p q (same_path p q) refl).1
-
-pub ruleset lists = (list-equal, list-same)
+pub ruleset lists = (path-equal, path-same)
 
 pub owner-none : (constants : List (Name × Constant)) (words : List Word) → slice_get words 0 ≡ None → owner constants (names_of words) ≡ None
 owner-none constants [] h = refl

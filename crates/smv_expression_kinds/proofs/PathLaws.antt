@@ -1,5 +1,5 @@
 -- What the parts of a path lead to.
-use Rattle.std.proofs.Common.{◌≡◌, ℕ, zero, suc, ◌≤◌, ◌-◌, List, [], ◌∷◌, ◌++◌, length, drop, take, get_or, refl, ap, sym, ◌∙◌, arith, Bor}
+use Rattle.std.proofs.Common.{◌≡◌, ℕ, zero, suc, ◌-◌, List, [], ◌∷◌, ◌++◌, length, take, refl, ap, sym, ◌∙◌, arith, Bor}
 use Rattle.std.specs.Prelude.{Option, Some, None, option_map, option_and_then}
 use Rattle.std.proofs.lemmas.List.{append-nil, append_assoc}
 use Rattle.smv_core.specs.declared.tree.Word.{Word}
@@ -51,17 +51,8 @@ field-none names over f fields place word found is named none parts =
 
 -- ---- parts, one after the other
 
-pub uncons : {A : Type 0} (xs : List A) (x : A) → 1 ≤ length xs → x ≡ get_or xs 0 x → xs ≡ x ∷ drop 1 xs
-uncons [] x h e = absurd (omega arith)
-uncons (y ∷ xs) x h e = ap (λ z. z ∷ xs) (sym e)
-
 take-length : {A : Type 0} (xs : List A) (n : ℕ) → n ≡ length xs → take n xs ≡ xs
 take-length [] zero e = refl
 take-length [] (suc n) e = refl
 take-length (x ∷ xs) zero e = absurd (omega arith)
 take-length (x ∷ xs) (suc n) e = ap (λ l. x ∷ l) (take-length xs n (omega arith))
-
--- all but the first
-pub take-rest : {A : Type 0} (xs : List A) → take (length xs - 1) (drop 1 xs) ≡ drop 1 xs
-take-rest [] = refl
-take-rest (x ∷ xs) = take-length xs (length (x ∷ xs) - 1) (omega arith)

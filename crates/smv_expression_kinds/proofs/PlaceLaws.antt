@@ -3,6 +3,7 @@ use Rattle.std.proofs.Common.{◌≡◌, ℕ, zero, suc, ◌+◌, ◌<◌, List,
 use Rattle.std.specs.Prelude.{Option, Some, None, option_map, option_and_then, slice_get, nat_lt}
 use Rattle.std.specs.Str.{bytes_eq}
 use Rattle.std.proofs.lemmas.Bool.Decides.{nat_tests}
+use Rattle.law_lists.proofs.Booleans.{same_tests}
 use Rattle.smv_core.specs.Values.{Name}
 use Rattle.smv_core.specs.Types.{find_name}
 use Rattle.smv_core.specs.declared.tree.Text.{Text}
@@ -96,13 +97,8 @@ none-below types tops parts (Some i) = by (nat_lt i 0) (λ e. grind (arith, nat_
     by true h = absurd (let e : i < 0 = h refl in omega arith)
     by false h = refl
 
-same-test : (a b : Bool) → (a ≡ true → b ≡ true) → (b ≡ true → a ≡ true) → a ≡ b
-same-test true b h g = sym (h refl)
-same-test false true h g = g refl
-same-test false false h g = refl
-
 lt-suc : (i k : ℕ) → nat_lt (suc i) (suc k) ≡ nat_lt i k
-lt-suc i k = same-test (nat_lt (suc i) (suc k)) (nat_lt i k) (λ h. grind (arith, nat_tests)) (λ h. grind (arith, nat_tests))
+lt-suc i k = same_tests (nat_lt (suc i) (suc k)) (nat_lt i k) (λ h. grind (arith, nat_tests)) (λ h. grind (arith, nat_tests))
 
 lt-zero : (k : ℕ) → nat_lt 0 (suc k) ≡ true
 lt-zero k = grind (arith, nat_tests)

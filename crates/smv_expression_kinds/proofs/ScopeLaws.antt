@@ -4,6 +4,7 @@ use Rattle.std.specs.Prelude.{Option, Some, None, option_map, option_and_then, s
 use Rattle.std.specs.Str.{bytes_eq}
 use Rattle.smv_core.specs.Values.{Name}
 use Rattle.std.specs.Option.{option_map_or}
+use Rattle.law_lists.proofs.Places.{first_read}
 use Rattle.smv_core.specs.Types.{find_name, names_of}
 use Rattle.smv_core.specs.declared.tree.Word.{Word}
 use Rattle.smv_core.specs.declared.tree.Text.{Text}
@@ -23,7 +24,6 @@ use Rattle.smv_scope.specs.declared.tables.Constant.{Constant as HeldConstant}
 use Rattle.smv_expression_kinds.specs.declared.kinds.ValueKind.{ValueKind}
 use Rattle.smv_expression_kinds.specs.Forms.{kind_of, types_from, types_before, module_in, modules_in}
 use Rattle.smv_expression_kinds.specs.Found.{scope_of, moved, whole_in, lone, inner_leads}
-use Rattle.smv_expression_kinds.proofs.PathLaws.{uncons}
 use Rattle.smv_expression_kinds.proofs.PlaceLaws.{from, from-suc, from-zero, here-or}
 
 pub module-types : (types : Types) (top : Option Top) → (module_in types top).types ≡ types
@@ -218,7 +218,7 @@ pub signal-is : (scope : HeldScope) (parts : List Part) (part : Part) (word : Wo
     → ((types : Types) → find_name (module_in types (slice_get scope.tables.now.names.text.now.tops scope.place)).own word.name ≡ option_map own_of own)
     → signal_at (scope_of scope) parts ≡ option_and_then (λ (own : HeldOwn). inner_leads scope.tables.now.names.text.now (record { place = scope.place; own = own }) (drop 1 parts)) own
 signal-is scope parts part word own long first is owned =
-    ap (signal_at (scope_of scope)) (uncons parts part long first ∙ ap (λ p. p ∷ drop 1 parts) is)
+    ap (signal_at (scope_of scope)) (first_read parts part long first ∙ ap (λ p. p ∷ drop 1 parts) is)
     ∙ signal-field scope word (drop 1 parts)
     ∙ ap (option_and_then (λ (own : Own). behind (modules_from [] scope.tables.now.names.text.now.tops) (types_before scope.tables.now.names.text.now scope.place) own.what (drop 1 parts)))
     (owned (types_before scope.tables.now.names.text.now scope.place))

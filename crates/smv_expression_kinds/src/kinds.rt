@@ -158,7 +158,7 @@ pub fn accepts(names: &ScopeTables, target: ValueKind, kind: ValueKind) -> bool
 
 /// It may stand beside an order.
 #[tactic(auto, unfolding(law_designs::specs::Kinds::has_order))]
-pub fn has_order(kind: ValueKind) -> bool
+fn has_order(kind: ValueKind) -> bool
     ensures { (names : ScopeTables) → result ≡ spec.has_order (kind_of names kind.entry) }
 {
     match kind {

@@ -29,7 +29,7 @@ pub fn same_names(names: &[Word], others: &[Word]) -> bool
 }
 
 /// The list of a number.
-pub fn list_of<'a>(names: &ScopeTables<'a, '_>, list: usize) -> &'a [Word]
+pub(crate) fn list_of<'a>(names: &ScopeTables<'a, '_>, list: usize) -> &'a [Word]
     ensures { names_of result.now ≡ listed names.now.lists.items list }
 {
     match item_at(names.lists.as_slice(), list) {
@@ -40,7 +40,7 @@ pub fn list_of<'a>(names: &ScopeTables<'a, '_>, list: usize) -> &'a [Word]
 
 /// The lists of two numbers are the same. Names are looked at where the numbers differ alone, and then the first ones tell, unless a name has a fault.
 #[tactic(auto, using(crate::proofs::ListLaws::lists))]
-pub fn same_lists(names: &ScopeTables, list: usize, other: usize) -> bool
+pub(crate) fn same_lists(names: &ScopeTables, list: usize, other: usize) -> bool
     ensures { result ≡ same_path (listed names.now.lists.items list) (listed names.now.lists.items other) }
 {
     if list == other {
@@ -95,7 +95,10 @@ pub fn numbered<'a>(names: &ScopeTables<'a, '_>, kind: ValueKind<'a>) -> ValueKi
 }
 
 /// A kind whose first constant belongs to no other list, by the number of that list. It takes one step.
-pub fn numbered_by_first<'a>(names: &ScopeTables<'a, '_>, kind: ValueKind<'a>) -> ValueKind<'a>
+pub(crate) fn numbered_by_first<'a>(
+    names: &ScopeTables<'a, '_>,
+    kind: ValueKind<'a>,
+) -> ValueKind<'a>
     requires tables { AreTables names.now }
     requires owned { IsOwned (constants (pieces names.now.text.now)) (kind_of names.now kind) }
     ensures { kind_of names.now result ≡ kind_of names.now kind.entry }

@@ -38,7 +38,7 @@ pub struct Reached<'a> {
 }
 
 /// What stands behind a signal of a type that stands in the top of a number.
-pub fn form_in<'a>(of: &'a TypeExpr, tables: &Tables<'a, '_>, place: usize) -> Form<'a>
+pub(crate) fn form_in<'a>(of: &'a TypeExpr, tables: &Tables<'a, '_>, place: usize) -> Form<'a>
     requires { AreKindTables tables.now }
     ensures { (parts : List Part) → leads (types_before tables.now.names.text.now place) of.now parts ≡ form_leads tables.now.names result parts }
 {

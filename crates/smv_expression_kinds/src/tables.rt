@@ -128,7 +128,7 @@ fn type_named(types: &NameMap<usize>, place: usize, name: &Name) -> Option<usize
 }
 
 /// The kind of a single value.
-pub fn kind_of_form<'a>(form: Form<'a>) -> ValueKind<'a>
+pub(crate) fn kind_of_form<'a>(form: Form<'a>) -> ValueKind<'a>
     ensures { (names : ScopeTables) → kind_of names result ≡ value_kind (form_leads names form.entry []) }
 {
     match form {

@@ -82,3 +82,11 @@ first-at number (at ∷ places) = ap (earlier (fault_of number at)) (first-at nu
 pub earlier-none : (f : Option Fault) → earlier_of f None ≡ f
 earlier-none None = refl
 earlier-none (Some f) = refl
+
+-- the first fault of two numbers and more
+pub two : (n : ℕ) (places : List ℕ) (o : Option ℕ) (rest : List Fault) (later : Option Fault) → o ≡ least places → later ≡ first_of rest → earlier_of (fault_at n o) later ≡ first_of (faults_at (n, places) ++ rest)
+two n places o rest later at is =
+    ap (λ p. earlier_of (fault_at n p) later) at ∙ ap (earlier_of (fault_at n (least places))) is ∙ ap (λ f. earlier_of f (first_of rest)) (sym (first-at n places)) ∙ sym (first-both (faults_at (n, places)) rest)
+
+pub one : (n : ℕ) (places : List ℕ) (o : Option ℕ) → o ≡ least places → fault_at n o ≡ first_of (faults_at (n, places) ++ [])
+one n places o at = sym (earlier-none (fault_at n o)) ∙ two n places o [] None at refl

@@ -1,7 +1,8 @@
 -- The first of some places.
 use Rattle.std.specs.List.{flat_map}
-use Rattle.std.proofs.Common.{◌≡◌, ℕ, zero, suc, ◌+◌, ◌<◌, length, get_or, drop, List, [], ◌∷◌, ◌++◌, refl, ap, sym, ◌∙◌, arith}
+use Rattle.std.proofs.Common.{◌≡◌, ℕ, ◌+◌, ◌<◌, length, get_or, drop, List, [], ◌∷◌, ◌++◌, refl, ap, sym, ◌∙◌, arith, zero, suc}
 use Rattle.std.specs.Prelude.{Option, Some, None}
+use Rattle.law_lists.proofs.Places.{drop_read_one}
 use Rattle.smv_mentions.specs.Scopes.{first_of_places}
 use Rattle.smv_first_fault.specs.Firsts.{least}
 
@@ -35,4 +36,4 @@ pub least-step : {A : Type 0} (f : A → List ℕ) (xs : List A) (n : ℕ) (x : 
     → first_of_places a (least (flat_map f (drop n xs))) ≡ whole → first_of_places new (least (flat_map f (drop (n + 1) xs))) ≡ whole
 least-step f xs n x a b new whole below here at is known =
     ap (λ o. first_of_places o (least (flat_map f (drop (n + 1) xs)))) (is ∙ ap (first_of_places a) at) ∙ first-assoc a (least (f x)) (least (flat_map f (drop (n + 1) xs)))
-    ∙ ap (first_of_places a) (sym (least-append (f x) (flat_map f (drop (n + 1) xs))) ∙ ap (λ l. least (flat_map f l)) (sym (from_here xs n x below here))) ∙ known
+    ∙ ap (first_of_places a) (sym (least-append (f x) (flat_map f (drop (n + 1) xs))) ∙ ap (λ l. least (flat_map f l)) (sym (drop_read_one xs n x below here))) ∙ known

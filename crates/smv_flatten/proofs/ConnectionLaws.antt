@@ -3,6 +3,8 @@ use Rattle.std.proofs.Common.{◌≡◌, ℕ, zero, suc, ◌+◌, ◌<◌, ◌�
 use Rattle.std.specs.Prelude.{zip}
 use Rattle.std.specs.List.{flat_map, position_or_len}
 use Rattle.std.proofs.lemmas.List.{append-nil, append_assoc, map-append}
+use Rattle.law_lists.proofs.Places.{drop_past}
+use Rattle.law_lists.proofs.Lists.{length_map}
 use Rattle.smv_core.specs.Values.{Name}
 use Rattle.smv_core.specs.Types.{Family}
 use Rattle.smv_core.specs.Outcome.{fields_of, same_path, family_at}
@@ -27,7 +29,6 @@ use Rattle.law_designs.specs.Flattening.{flat_family, scope_in, within}
 use Rattle.smv_flatten_families.specs.declared.numbers.Here.{Here}
 use Rattle.smv_flatten_families.specs.Held.{AreNumbers, instance_of, scope_here}
 use Rattle.smv_flatten_statements.specs.Flattened.{statement_of, expression_of, path_indexes}
-use Rattle.smv_flatten.proofs.ListLaws.{map-length}
 use Rattle.smv_flatten.specs.Items.{formal_of, act_item, bound_by}
 use Rattle.smv_flatten.specs.Connections.{connected, input_act, output_act}
 
@@ -119,7 +120,7 @@ module _ (h : Here) (numbered : AreNumbers h.numbers.now) (n a : Name) (at k : �
   unfolding scope_here
   families-length =
       let placed : List (Family × ℕ) = placed_families h.numbers.now.text.now in
-      ap length numbered.families ∙ map-length (flat_family (scope_in h.numbers.now.text.now [])) placed ∙ sym (map-length (λ (f, at). f) placed)
+      ap length numbered.families ∙ length_map (flat_family (scope_in h.numbers.now.text.now [])) placed ∙ sym (length_map (λ (f, at). f) placed)
 
   pub read-family : k < length h.numbers.now.families → formal_of (scope_here h) n a at ≡ Read k [] at
   unfolding scope_here
@@ -134,12 +135,6 @@ module _ (h : Here) (numbered : AreNumbers h.numbers.now) (n a : Name) (at k : �
       formal-none (scope_here h) n a at (omega (arith, le, same, e)) ∙ ap (λ i. Constant i 0 at) (ap length (sym numbered.enums) ∙ sym is)
 
 -- ---- connections one after the other
-
--- what stands at a place stands there whatever is said to stand behind the end
-pub get_or-own : {X : Type 0} (xs : List X) (i : ℕ) (d : X) → i < length xs → get_or xs i d ≡ get_or xs i (get_or xs i d)
-get_or-own [] i d lt = absurd (omega (arith, lt))
-get_or-own (x ∷ xs) zero d lt = refl
-get_or-own (x ∷ xs) (suc i) d lt = get_or-own xs i d (omega (arith, lt))
 
 zip-at : {X Y : Type 0} (xs : List X) (ys : List Y) (i : ℕ) (x : X) (y : Y) → i < length xs → i < length ys → x ≡ get_or xs i x → y ≡ get_or ys i y → (i < length (zip xs ys)) × ((x, y) ≡ get_or (zip xs ys) i (x, y))
 zip-at [] ys i x y lx ly ex ey = absurd (omega (arith, lx))
@@ -163,18 +158,12 @@ zip-short [] ys = (omega arith, omega arith)
 zip-short (x ∷ xs) [] = (omega arith, omega arith)
 zip-short (x ∷ xs) (y ∷ ys) = let rest = zip-short xs ys in (omega (arith, rest.0), omega (arith, rest.1))
 
-drop-end : {X : Type 0} (xs : List X) (i : ℕ) → length xs ≤ i → drop i xs ≡ []
-drop-end [] zero h = refl
-drop-end [] (suc i) h = refl
-drop-end (x ∷ xs) zero h = absurd (omega (arith, h))
-drop-end (x ∷ xs) (suc i) h = drop-end xs i (omega (arith, h))
-
 -- no connection is left
 pub triple-end : (words : List Word) (roles : List Role) (args : List Expr) (i : ℕ) → min (min (length words) (length roles)) (length args) ≤ i → drop i (zip (zip words roles) args) ≡ []
 triple-end words roles args i h =
     let pair = zip-short words roles in
     let triple = zip-short (zip words roles) args in
-    drop-end (zip (zip words roles) args) i (omega (arith, h, pair.0, pair.1, triple.0, triple.1))
+    drop_past (zip (zip words roles) args) i (omega (arith, h, pair.0, pair.1, triple.0, triple.1))
 
 module _ (says : Stmt → FlatItem) (n : Name) (words : List Word) (roles : List Role) (args : List Expr) where
   abbrev left : ℕ → List FlatItem

@@ -3,6 +3,7 @@ use Rattle.std.proofs.Common.{◌≡◌, ℕ, ◌+◌, List, [], ◌∷◌, ◌+
 use Rattle.std.specs.Prelude.{zip, unwrap_or}
 use Rattle.std.specs.List.{flat_map}
 use Rattle.std.proofs.lemmas.List.{append-nil}
+use Rattle.law_lists.proofs.Lists.{flat_map-flat_map}
 use Rattle.smv_core.specs.Values.{Name, Path}
 use Rattle.smv_core.specs.Types.{types_from, find_name}
 use Rattle.smv_core.specs.FlatOrder.{Body, modules, body_of, role_of}
@@ -37,7 +38,6 @@ use Rattle.smv_flatten.specs.Items.{flat_said, flat_met, bound_by, act_item, goa
 use Rattle.smv_flatten.specs.Connections.{connected}
 use Rattle.smv_flatten.specs.Roles.{roles_of_body, roles_beside}
 use Rattle.smv_flatten.proofs.RoleLaws.{roles-found}
-use Rattle.smv_flatten.proofs.ListLaws.{flat_map-flat_map}
 
 -- a statement inside binders
 abbrev under : Binders → Stmt → Stmt

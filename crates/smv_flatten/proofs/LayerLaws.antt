@@ -5,6 +5,8 @@ use Rattle.std.specs.Str.{bytes_eq}
 use Rattle.std.specs.List.{flat_map, list_any}
 use Rattle.std.proofs.lemmas.List.{append-nil, append_assoc}
 use Rattle.std.proofs.lemmas.Slice.Eq.{bytes_eq-Decides}
+use Rattle.law_lists.proofs.Booleans.{same_tests}
+use Rattle.law_lists.proofs.Lists.{flat_map-flat_map, flat_map_agree}
 use Rattle.smv_core.specs.Values.{Name, Path}
 use Rattle.smv_core.specs.Types.{types_from}
 use Rattle.smv_core.specs.FlatOrder.{modules, body_of}
@@ -20,17 +22,11 @@ use Rattle.smv_flatten.specs.declared.met.Met.{Met}
 use Rattle.smv_flatten.specs.Leaves.{binders_of, item_of}
 use Rattle.smv_flatten.specs.Met.{wrapped, said_in, entries_met}
 use Rattle.smv_flatten.specs.Layers.{with_layer, with_layers, heads}
-use Rattle.smv_flatten.proofs.ListLaws.{flat_map-flat_map, flat_map-same}
 
 -- ---- numbers
 
-same_test : (p q : Bool) → (p ≡ true → q ≡ true) → (q ≡ true → p ≡ true) → p ≡ q
-same_test true q h k = sym (h refl)
-same_test false true h k = k refl
-same_test false false h k = refl
-
 bytes-sym : (a b : Name) → bytes_eq a b ≡ bytes_eq b a
-bytes-sym a b = same_test (bytes_eq a b) (bytes_eq b a) (λ e. (bytes_eq-Decides b a).1 (sym ((bytes_eq-Decides a b).0 e))) (λ e. (bytes_eq-Decides a b).1 (sym ((bytes_eq-Decides b a).0 e)))
+bytes-sym a b = same_tests (bytes_eq a b) (bytes_eq b a) (λ e. (bytes_eq-Decides b a).1 (sym ((bytes_eq-Decides a b).0 e))) (λ e. (bytes_eq-Decides a b).1 (sym ((bytes_eq-Decides b a).0 e)))
 
 -- the number of a layer is its place, or how many layers there are
 number-at : (names : List Name) (name : Name) → layer_number names name ≡ unwrap_or (position names name) (length names)
@@ -154,7 +150,7 @@ module _ (text : Text) (here : Path) (around : Binders) where
 pub layers-met : (text : Text) (all : List Met) → layers_of (flat_map (entries_met text) all) ≡ with_layers [] (flat_map (λ met. heads met.what) all)
 layers-met text all =
     ap (different bytes_eq) (flat_map-flat_map layer_of (entries_met text) all
-    ∙ flat_map-same (λ met. flat_map layer_of (entries_met text met)) (λ met. heads met.what) (λ met. layers-said text (path_of met.instance.items) (binders_of met.around.items) met.what) all)
+    ∙ flat_map_agree (λ met. flat_map layer_of (entries_met text met)) (λ met. heads met.what) (λ met. layers-said text (path_of met.instance.items) (binders_of met.around.items) met.what) all)
     ∙ sym (layers-push [] (flat_map (λ met. heads met.what) all))
 
 pub ruleset whole = (layers-met, layers-append)

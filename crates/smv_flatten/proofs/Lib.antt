@@ -1,5 +1,4 @@
 pub mod LeafLaws
-pub mod ListLaws
 pub mod MetLaws
 pub mod LayerLaws
 pub mod PlaceLaws

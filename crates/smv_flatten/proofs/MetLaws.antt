@@ -3,6 +3,7 @@ use Rattle.std.proofs.Common.{◌≡◌, ◌≢◌, ℕ, zero, suc, ◌-◌, Lis
 use Rattle.std.specs.List.{flat_map}
 use Rattle.std.proofs.lemmas.Grind.{flat_map-append}
 use Rattle.std.proofs.lemmas.List.{append-nil, map-append}
+use Rattle.law_lists.proofs.Lists.{map-map, map_agree, map-flat_map, flat_map-flat_map, flat_map_agree}
 use Rattle.smv_core.specs.Values.{Name, Path}
 use Rattle.smv_core.specs.Types.{Types, types_from}
 use Rattle.smv_core.specs.FlatOrder.{Body, modules, main, body_of}
@@ -18,7 +19,6 @@ use Rattle.smv_core.specs.declared.tree.Item.{Item, Declare, Instance, Layer, Fo
 use Rattle.law_designs.specs.Entries.{Binders, Entry, statement, connections, inside_binder, item_entries, items_entries, instance_entries, entries_in, entries}
 use Rattle.smv_flatten.specs.Leaves.{leaves, leaves_in}
 use Rattle.smv_flatten.specs.Met.{wrapped, said_in, inside}
-use Rattle.smv_flatten.proofs.ListLaws.{map-map, map-same, map-flat_map, flat_map-flat_map, flat_map-same}
 
 wrapped-inner : (around : Binders) (word : Word) (over : TypeExpr) (entry : Entry) → wrapped around (inside_binder word over entry) ≡ wrapped (around ++ (word, over) ∷ []) entry
 wrapped-inner [] word over entry = refl
@@ -46,7 +46,7 @@ module _ (types : Types) (bodies : List (Name × Body)) (own : Path → Name →
     item-says around (Layer name body at) = sym (append-nil _)
     item-says around (Forall' var over shape (more_of-Item body end_of-Item) at) =
         map-map (wrapped around) (inside_binder var over) (item_entries types bodies own here body)
-        ∙ map-same (λ e. wrapped around (inside_binder var over e)) (wrapped (around ++ (var, over) ∷ [])) (wrapped-inner around var over) (item_entries types bodies own here body)
+        ∙ map_agree (λ e. wrapped around (inside_binder var over e)) (wrapped (around ++ (var, over) ∷ [])) (wrapped-inner around var over) (item_entries types bodies own here body)
         ∙ item-says (around ++ (var, over) ∷ []) body
     item-says around (Block' shape items) = items-say around items
     item-says around (Claim name vars body at) = sym (append-nil _)
@@ -79,7 +79,7 @@ module _ (text : Text) where
       let items : List Item = (body_of types bodies name).items in
       let own : Path → Name → List Entry = entries_in types bodies n in
       map-flat_map (wrapped around) (item_entries types bodies own here) items
-      ∙ flat_map-same (λ item. map (wrapped around) (item_entries types bodies own here item)) (λ item. flat_map (said_in text n here) (leaves around item)) (item-says types bodies own here around) items
+      ∙ flat_map_agree (λ item. map (wrapped around) (item_entries types bodies own here item)) (λ item. flat_map (said_in text n here) (leaves around item)) (item-says types bodies own here around) items
       ∙ sym (flat_map-flat_map (said_in text n here) (leaves around) items)
 
   -- a module says what its items say one by one

@@ -3,6 +3,7 @@ use Rattle.std.proofs.Common.{◌≡◌, List, [], ◌∷◌, ◌++◌, map, Som
 use Rattle.std.specs.Prelude.{unwrap_or}
 use Rattle.std.specs.Str.{bytes_eq}
 use Rattle.std.specs.List.{flat_map, list_any}
+use Rattle.law_lists.proofs.Lists.{map-flat_map}
 use Rattle.smv_core.specs.Values.{Name}
 use Rattle.smv_core.specs.Types.{Types, find_name}
 use Rattle.smv_core.specs.FlatOrder.{Body, modules, role_of, body_of}
@@ -13,7 +14,6 @@ use Rattle.smv_core.specs.declared.tree.Role.{Role}
 use Rattle.smv_core.specs.declared.tree.Role.TheVariants.{Plain}
 use Rattle.smv_core.specs.declared.tree.Item.{Item, Declare}
 use Rattle.smv_flatten.specs.Roles.{roles_declared, module_in, roles_of_body, roles_beside}
-use Rattle.smv_flatten.proofs.ListLaws.{map-flat_map}
 
 role-words : (a : Name) (role : Role) (words : List Word) (more : List (Name × Role)) →
     find_name (map (λ word. (word.name, role)) words ++ more) a ≡ cond (list_any (λ word. bytes_eq word.name a) words) (Some role) (find_name more a)

@@ -70,7 +70,7 @@ fn foralls<'a>(
 }
 
 /// A flattened statement inside these binders as an item, of the layer of this number or outside layers.
-pub fn act_inside<'a>(
+pub(crate) fn act_inside<'a>(
     alloc: Global,
     here: Here<'a, '_>,
     around: &[Binder<'a>],

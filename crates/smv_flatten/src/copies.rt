@@ -11,7 +11,7 @@ use smv_flatten_families::numbers::Here;
 use std::alloc::{AllocError, Global};
 
 /// A copy of a name in a text.
-pub fn copied_word(alloc: Global, word: &Word) -> Result<Word, AllocError>
+pub(crate) fn copied_word(alloc: Global, word: &Word) -> Result<Word, AllocError>
     ensures { IfOk result (λ copy. copy ≡ word.now) }
 {
     let name = copy_name(alloc, &word.name)?;
@@ -19,7 +19,7 @@ pub fn copied_word(alloc: Global, word: &Word) -> Result<Word, AllocError>
 }
 
 /// A copy of names in a text.
-pub fn copied_words(alloc: Global, words: &[Word]) -> Result<Seq<Word>, AllocError>
+pub(crate) fn copied_words(alloc: Global, words: &[Word]) -> Result<Seq<Word>, AllocError>
     ensures { IfOk result (λ copies. copies ≡ words.now) }
 {
     let mut copies = Seq::new(alloc);
@@ -82,7 +82,7 @@ pub fn whole(alloc: Global, here: Here, of: &Ref) -> Result<Ref, AllocError>
 
 /// References with the names of their instance in front.
 #[tactic(auto, using(smv_mentions::proofs::Notes::noting))]
-pub fn all_whole(alloc: Global, here: Here, refs: &[Ref]) -> Result<Seq<Ref>, AllocError>
+pub(crate) fn all_whole(alloc: Global, here: Here, refs: &[Ref]) -> Result<Seq<Ref>, AllocError>
     ensures { IfOk result (λ copies. copies ≡ map (flattening.whole (scope_here here.entry)) refs.now) }
 {
     let mut copies = Seq::new(alloc);
@@ -120,7 +120,7 @@ fn whole_use(alloc: Global, here: Here, part: &Use) -> Result<Use, AllocError>
 
 /// All that a `using` names.
 #[tactic(auto, using(smv_mentions::proofs::Notes::noting))]
-pub fn whole_uses(alloc: Global, here: Here, uses: &[Use]) -> Result<Seq<Use>, AllocError>
+pub(crate) fn whole_uses(alloc: Global, here: Here, uses: &[Use]) -> Result<Seq<Use>, AllocError>
     ensures { IfOk result (λ copies. copies ≡ map (flattening.whole_use (scope_here here.entry)) uses.now) }
 {
     let mut copies = Seq::new(alloc);

@@ -89,7 +89,7 @@ fn flat_pairs<'a>(
 
 /// A split inside these binders, whose variables are `vars`.
 #[tactic(auto, unfolding(crate::specs::Items::goal_item))]
-pub fn divided<'a>(
+pub(crate) fn divided<'a>(
     alloc: Global,
     here: Here<'a, '_>,
     around: &[Binder<'a>],

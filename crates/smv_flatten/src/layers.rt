@@ -72,7 +72,7 @@ fn add_met<'a>(alloc: Global, layers: &mut Layers<'a>, what: What<'a>) -> Result
 
 /// The layers of what is met in flat order.
 #[tactic(auto, using(crate::proofs::LayerLaws::whole))]
-pub fn layers_met<'a>(alloc: Global, all: &[Met<'a>]) -> Result<Layers<'a>, AllocError>
+pub(crate) fn layers_met<'a>(alloc: Global, all: &[Met<'a>]) -> Result<Layers<'a>, AllocError>
     ensures same { IfOk result (λ layers. AreSame layers) }
     ensures layers { IfOk result (λ layers. (text : Text) → layers.names ≡ layers_of (flat_map (entries_met text) all.now)) }
 {

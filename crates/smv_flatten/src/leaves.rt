@@ -157,7 +157,7 @@ fn leaves_of<'a>(
 /// What these items say.
 #[cycle(leaves)]
 #[tactic(auto, using(smv_mentions::proofs::Notes::noting))]
-pub fn all_leaves<'a>(
+pub(crate) fn all_leaves<'a>(
     alloc: Global,
     out: &mut Vec<Leaf<'a>>,
     around: &[Binder<'a>],

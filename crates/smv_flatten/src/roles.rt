@@ -104,7 +104,10 @@ fn add_top<'a>(
 
 /// The roles of the formals of each module of a text.
 #[tactic(auto, using(smv_mentions::proofs::Notes::noting, crate::proofs::RoleLaws::tops))]
-pub fn role_table<'a>(alloc: Global, text: &'a Text) -> Result<NameMap<'a, Seq<Role>>, AllocError>
+pub(crate) fn role_table<'a>(
+    alloc: Global,
+    text: &'a Text,
+) -> Result<NameMap<'a, Seq<Role>>, AllocError>
     ensures { IfOk result (λ table. table ≡ map roles_beside (modules text.now.tops)) }
 {
     let tops = text.tops.as_slice();
@@ -116,7 +119,7 @@ pub fn role_table<'a>(alloc: Global, text: &'a Text) -> Result<NameMap<'a, Seq<R
 }
 
 /// The roles of the formals of the module of a name.
-pub fn roles_named<'t>(table: &'t NameMap<'_, Seq<Role>>, name: &Name) -> &'t [Role]
+pub(crate) fn roles_named<'t>(table: &'t NameMap<'_, Seq<Role>>, name: &Name) -> &'t [Role]
     ensures { result.now ≡ unwrap_or (find_name table.now name.now) [] }
 {
     match table.find(name) {

@@ -1,12 +1,12 @@
 -- The tables of a text, from what was noted of it.
-use Rattle.std.proofs.Common.{◌≡◌, ℕ, suc, ◌+◌, ◌-◌, ◌<◌, ◌≤◌, drop, List, [], ◌∷◌, ◌++◌, length, map, take, get_or, length-append, refl, ap, sym, ◌∙◌, arith, Bor}
+use Rattle.std.proofs.Common.{◌≡◌, ℕ, ◌+◌, ◌-◌, ◌<◌, ◌≤◌, drop, List, [], ◌∷◌, ◌++◌, length, map, take, get_or, length-append, refl, ap, sym, ◌∙◌, arith, Bor}
 use Rattle.std.specs.Prelude.{Option}
 use Rattle.std.specs.List.{flat_map}
 use Rattle.std.specs.HashMap.{HashMap, get}
 use Rattle.std.proofs.lemmas.List.{append-nil, map-append, length-map, length-take-le, take_more}
 use Rattle.std.proofs.lemmas.List.Folds.{flat_map-map}
 use Rattle.std.proofs.lemmas.Simd.{map-map}
-use Rattle.std.proofs.Math.Seq.{take-length}
+use Rattle.law_lists.proofs.Places.{drop_past}
 use Rattle.smv_core.specs.Values.{Name, Path}
 use Rattle.smv_core.specs.Types.{Family}
 use Rattle.smv_core.specs.FlatOrder as order
@@ -28,7 +28,6 @@ use Rattle.smv_flatten_families.specs.Types.{types_of}
 use Rattle.smv_flatten_families.specs.Families.{InPlace, in_place, placed_family, written, instance_places}
 use Rattle.smv_flatten_families.specs.declared.families.Placed.{Placed}
 use Rattle.smv_flatten_families.proofs.PathLaws.{first_place-push}
-use Rattle.smv_flatten_families.proofs.ItemLaws.{drop-all}
 
 -- ---- names with dots between them
 
@@ -36,16 +35,12 @@ pub dotted-first : (name : Name) (names : List (Bor Name)) → name ++ flat_map 
 dotted-first name [] = append-nil name
 dotted-first name (other ∷ names) = ap (λ l. name ++ dot ∷ l) (dotted-first other.now names)
 
-pub rest-is : {X : Type 0} (xs : List X) → take (length xs - 1) (drop 1 xs) ≡ drop 1 xs
-rest-is [] = refl
-rest-is (x ∷ xs) = let e : suc (length xs) - 1 ≡ length xs = omega arith in ap (λ n. take n xs) e ∙ take-length xs
-
 -- where all names were gone through
 pub dotted-done : (names : List (Bor Name)) (first : Bor Name) (more : List (Bor Name)) (i : ℕ) (done front : Name) → 1 ≤ length names → first ≡ get_or names 0 first → front ≡ first.now → more ≡ drop 1 names → length more ≤ i
     → done ++ flat_map (λ name. dot ∷ name.now) (drop i more) ≡ front ++ flat_map (λ name. dot ∷ name.now) more → done ≡ dotted (path_of names)
 dotted-done [] first more i done front long is same rest all known = absurd (omega (arith, long))
 dotted-done (name ∷ names) first more i done front long is same rest all known =
-    sym (append-nil done) ∙ ap (λ l. done ++ flat_map (λ name. dot ∷ name.now) l) (sym (drop-all more i all)) ∙ known ∙ ap (λ n. n ++ flat_map (λ name. dot ∷ name.now) more) (same ∙ ap (λ (b : Bor Name). b.now) is)
+    sym (append-nil done) ∙ ap (λ l. done ++ flat_map (λ name. dot ∷ name.now) l) (sym (drop_past more i all)) ∙ known ∙ ap (λ n. n ++ flat_map (λ name. dot ∷ name.now) more) (same ∙ ap (λ (b : Bor Name). b.now) is)
     ∙ ap (λ l. name.now ++ flat_map (λ name. dot ∷ name.now) l) rest ∙ dotted-first name.now names
 
 pub ruleset dots = (dotted-first)
@@ -78,12 +73,6 @@ pub enums-are : (text : Text) (noted : List NotedPiece) (lists : List (List Name
     → lists ≡ flat_map (λ piece. flat_map (λ mention. enum_of (said mention)) piece.mentions.items) noted → different same_path lists ≡ enums_of text
 enums-are text noted lists are same =
     ap (different same_path) (same ∙ noted-lists noted ∙ ap (flat_map (λ (t : Told). flat_map enum_of t.2)) are ∙ sym (told-lists [] text.tops))
-
--- ---- lists
-
-pub map-flat_map : {X Y Z : Type 0} (g : Y → Z) (f : X → List Y) (xs : List X) → map g (flat_map f xs) ≡ flat_map (λ x. map g (f x)) xs
-map-flat_map g f [] = refl
-map-flat_map g f (x ∷ xs) = map-append g (f x) (flat_map f xs) ∙ ap (λ l. map g (f x) ++ l) (map-flat_map g f xs)
 
 -- ---- families
 

@@ -4,17 +4,17 @@ use Rattle.std.specs.Prelude.{Option, Some, None}
 use Rattle.std.specs.List.{list_any, position_or_len}
 use Rattle.std.specs.Str.{bytes_eq}
 use Rattle.std.proofs.lemmas.Slice.Eq.{bytes_eq-Decides}
+use Rattle.law_lists.proofs.Booleans.{same_tests}
 use Rattle.smv_core.specs.Values.{Name, Path}
 use Rattle.smv_core.specs.Types.{find_name}
 use Rattle.smv_core.specs.declared.flat.FlatExpr.{Constant as FlatConstant}
 use Rattle.law_designs.specs.Numbers.{Scope, constant_in}
-use Rattle.law_designs.proofs.Lookups.{same_test}
 use Rattle.smv_flatten_families.specs.Lists.{constants_of_list, constants_from}
 use Rattle.smv_flatten_families.specs.Found.{lone_name}
 use Rattle.smv_flatten_families.specs.declared.enums.Constant.{Constant}
 
 name-sym : (a b : Name) → bytes_eq a b ≡ bytes_eq b a
-name-sym a b = same_test (bytes_eq a b) (bytes_eq b a) (λ e. (bytes_eq-Decides b a).1 (sym ((bytes_eq-Decides a b).0 e))) (λ e. (bytes_eq-Decides a b).1 (sym ((bytes_eq-Decides b a).0 e)))
+name-sym a b = same_tests (bytes_eq a b) (bytes_eq b a) (λ e. (bytes_eq-Decides b a).1 (sym ((bytes_eq-Decides a b).0 e))) (λ e. (bytes_eq-Decides a b).1 (sym ((bytes_eq-Decides b a).0 e)))
 
 abbrev pub held : ℕ → ℕ → Constant
 held list value = record { list = list; value = value }

@@ -1,8 +1,10 @@
 -- The families of instances and items.
 use Rattle.std.proofs.Common.{◌≡◌, ℕ, zero, suc, ◌-◌, List, [], ◌∷◌, ◌++◌, map, flat_map, length, drop, ◌≤◌, refl, ap, sym, ◌∙◌, arith}
 use Rattle.std.specs.Prelude.{unwrap_or}
-use Rattle.std.proofs.lemmas.List.{map-append, append-nil}
+use Rattle.std.proofs.lemmas.List.{append-nil}
 use Rattle.std.proofs.Math.Seq.{take-length}
+use Rattle.law_lists.proofs.Lists.{map-flat_map, flat_map_agree}
+use Rattle.law_lists.proofs.Places.{drop_past}
 use Rattle.smv_core.specs.Values.{Name, Path}
 use Rattle.smv_core.specs.Types.{Shape, shape_of, find_name}
 use Rattle.smv_core.specs.FlatOrder as order
@@ -21,14 +23,6 @@ use Rattle.law_designs.specs.Entries.{placed_in, placed_of_item}
 use Rattle.smv_flatten_families.specs.Types.{leaf_of, types_of, leaves}
 use Rattle.smv_flatten_families.specs.Families.{InPlace, placed_family, placed_leaf, no_body, instance_places, item_places}
 
-map-flat_map : {X Y Z : Type 0} (g : Y → Z) (f : X → List Y) (xs : List X) → map g (flat_map f xs) ≡ flat_map (λ x. map g (f x)) xs
-map-flat_map g f [] = refl
-map-flat_map g f (x ∷ xs) = map-append g (f x) (flat_map f xs) ∙ ap (λ l. map g (f x) ++ l) (map-flat_map g f xs)
-
-flat_map-same : {X Y : Type 0} (f g : X → List Y) → ((x : X) → f x ≡ g x) → (xs : List X) → flat_map f xs ≡ flat_map g xs
-flat_map-same f g h [] = refl
-flat_map-same f g h (x ∷ xs) = ap (λ l. l ++ flat_map f xs) (h x) ∙ ap (λ l. g x ++ l) (flat_map-same f g h xs)
-
 declared-leaves : (text : Text) (role : Role) (path : Path) (at : ℕ) (s : Shape)
     → map (placed_family text) (map (λ f. (declared_as role path f, at)) s) ≡ map (placed_leaf path [] (is_abstract_role role) at) (map (leaf_of text) s)
 declared-leaves text role path at [] = refl
@@ -40,7 +34,7 @@ module _ (text : Text) (left : ℕ) (here : Path) where
   unfolding item_places leaves
   item-Declare role words of at =
       map-flat_map (placed_family text) (λ word. map (λ f. (declared_as role (here ++ word.name ∷ []) f, word.at)) (shape_of (types_of text) of)) words
-      ∙ flat_map-same _ _ (λ word. declared-leaves text role (here ++ word.name ∷ []) word.at (shape_of (types_of text) of)) words
+      ∙ flat_map_agree _ _ (λ word. declared-leaves text role (here ++ word.name ∷ []) word.at (shape_of (types_of text) of)) words
       ∙ ap (λ types. flat_map (λ word. map (placed_leaf (here ++ word.name ∷ []) [] (is_abstract_role role) word.at) (map (leaf_of text) (shape_of types of))) words) (sym (take-length (types_of text)))
 
   pub item-Instance : (words : List Word) (name : Word) (args : List Expr) (at : ℕ)
@@ -90,12 +84,6 @@ instance-items text left here name =
     map-flat_map (placed_family text) (placed_of_item (types_of text) (order.modules text.tops) (placed_in (types_of text) (order.modules text.tops) left) here)
     (unwrap_or (find_name (order.modules text.tops) name) no_body).items
 
-pub drop-all : {X : Type 0} (xs : List X) (i : ℕ) → length xs ≤ i → drop i xs ≡ []
-drop-all [] zero h = refl
-drop-all [] (suc i) h = refl
-drop-all (x ∷ xs) zero h = absurd (omega (arith, h))
-drop-all (x ∷ xs) (suc i) h = drop-all xs i (omega (arith, h))
-
 -- where all items of a module were gone through
 pub instance-done : (text : Text) (left : ℕ) (here : Path) (name : Name) (done old : List InPlace) (items : List Item) (i : ℕ) → (left ≡ 0 → ⊥) → length items ≤ i
     → items ≡ (unwrap_or (find_name (order.modules text.tops) name) no_body).items
@@ -104,5 +92,5 @@ pub instance-done : (text : Text) (left : ℕ) (here : Path) (name : Name) (done
 instance-done text zero here name done old items i some all are known = absurd (some refl)
 instance-done text (suc left) here name done old items i some all are known =
     let down : suc left - 1 ≡ left = omega arith in
-    sym (append-nil done) ∙ ap (λ l. done ++ flat_map (item_places text (suc left - 1) here) l) (sym (drop-all items i all)) ∙ known
+    sym (append-nil done) ∙ ap (λ l. done ++ flat_map (item_places text (suc left - 1) here) l) (sym (drop_past items i all)) ∙ known
     ∙ ap (λ n. old ++ flat_map (item_places text n here) items) down ∙ ap (λ l. old ++ flat_map (item_places text left here) l) are ∙ ap (λ l. old ++ l) (sym (instance-items text left here name))

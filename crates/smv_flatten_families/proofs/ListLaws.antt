@@ -4,12 +4,13 @@ use Rattle.std.specs.Prelude.{Option, Some, None, is_some}
 use Rattle.std.specs.List.{list_any}
 use Rattle.std.specs.HashMap.{get}
 use Rattle.std.proofs.lemmas.List.{append-nil, map-append, length-map}
+use Rattle.std.proofs.lemmas.List.Elements.{filter-append}
+use Rattle.law_lists.proofs.Booleans.{same_tests}
 use Rattle.smv_core.specs.Values.{Path}
 use Rattle.smv_core.specs.Types.{names_of}
 use Rattle.smv_core.specs.Outcome.{same_path}
 use Rattle.smv_core.specs.declared.tree.Word.{Word}
 use Rattle.law_designs.specs.Flattening.{different}
-use Rattle.law_designs.proofs.Lookups.{same_test}
 use Rattle.law_designs.proofs.Different.{different-keeps}
 use Rattle.law_designs.proofs.TypeNumbers.{paths-decide}
 use Rattle.smv_flatten_families.specs.Paths.{first_place, found_or}
@@ -17,14 +18,6 @@ use Rattle.smv_flatten_families.specs.Lists.{AreLists}
 use Rattle.smv_flatten_families.specs.declared.enums.Lists.{Lists}
 use Rattle.smv_flatten_families.proofs.PathLaws.{first_place-push, place-known}
 use Rattle.smv_flatten_families.proofs.NumberLaws.{path-sym}
-
-filter-append : {X : Type 0} (test : X → Bool) (xs ys : List X) → filter test (xs ++ ys) ≡ filter test xs ++ filter test ys
-filter-append test [] ys = refl
-filter-append test (x ∷ xs) ys = by (test x) (filter-append test xs ys)
-  where
-    by : (b : Bool) → filter test (xs ++ ys) ≡ filter test xs ++ filter test ys → cond b (x ∷ filter test (xs ++ ys)) (filter test (xs ++ ys)) ≡ cond b (x ∷ filter test xs) (filter test xs) ++ filter test ys
-    by true e = ap (λ l. x ∷ l) e
-    by false e = e
 
 -- one more is one more of the different ones, unless it is there
 pub different-push : {X : Type 0} (same : X → X → Bool) (xs : List X) (y : X) → different same (xs ++ y ∷ []) ≡ different same xs ++ cond (list_any (λ x. same x y) xs) [] (y ∷ [])
@@ -69,7 +62,7 @@ different-less p (x ∷ xs) e = by (p x) e (different-less p xs)
 pub any-different : (xs : List Path) (q : Path) → list_any (λ x. same_path x q) xs ≡ is_some (first_place (different same_path xs) q)
 any-different xs q =
     turned xs
-    ∙ same_test (list_any (same_path q) xs) (list_any (same_path q) (different same_path xs)) (different-keeps same_path paths-decide q xs) (different-less (same_path q) xs)
+    ∙ same_tests (list_any (same_path q) xs) (list_any (same_path q) (different same_path xs)) (different-keeps same_path paths-decide q xs) (different-less (same_path q) xs)
     ∙ sym (turned (different same_path xs)) ∙ sym (place-known (different same_path xs) q)
   where
     turned : (l : List Path) → list_any (λ x. same_path x q) l ≡ list_any (same_path q) l

@@ -3,12 +3,12 @@ use Rattle.std.proofs.Common.{◌≡◌, ℕ, suc, ◌+◌, List, [], ◌∷◌,
 use Rattle.std.specs.Prelude.{Option, Some, None, option_map, unwrap_or}
 use Rattle.std.specs.List.{position_or_len}
 use Rattle.std.specs.Str.{bytes_eq}
+use Rattle.law_lists.proofs.Booleans.{same_tests}
 use Rattle.smv_core.specs.Values.{Name, Path}
 use Rattle.smv_core.specs.Types.{Family}
 use Rattle.smv_core.specs.Outcome.{same_path}
 use Rattle.smv_core.specs.declared.flat.SetInfo.{SetInfo}
 use Rattle.law_designs.specs.Numbers.{Scope, set_number}
-use Rattle.law_designs.proofs.Lookups.{same_test}
 use Rattle.law_designs.proofs.TypeNumbers.{paths-decide}
 use Rattle.name_index.specs.Position.{position}
 use Rattle.smv_flatten_families.specs.Paths.{first_place}
@@ -23,7 +23,7 @@ set-place [] name = refl
 set-place (info ∷ infos) name = step (bytes_eq info.name name) (position (map (λ info. info.name) infos) name) (length infos) _ (set-place infos name)
 
 pub path-sym : (p q : Path) → same_path p q ≡ same_path q p
-path-sym p q = same_test (same_path p q) (same_path q p) (λ e. (paths-decide q p).1 (sym ((paths-decide p q).0 e))) (λ e. (paths-decide p q).1 (sym ((paths-decide q p).0 e)))
+path-sym p q = same_tests (same_path p q) (same_path q p) (λ e. (paths-decide q p).1 (sym ((paths-decide p q).0 e))) (λ e. (paths-decide p q).1 (sym ((paths-decide q p).0 e)))
 
 pub list-place : (lists : List Path) (names : Path) → unwrap_or (first_place lists names) (length lists) ≡ position_or_len (same_path names) lists
 list-place [] names = refl

@@ -91,7 +91,10 @@ fn add_different<'a>(
 }
 
 /// These lists, each once, at its first place.
-pub fn different_lists<'a>(alloc: Global, all: &[&'a [Word]]) -> Result<Lists<'a>, AllocError>
+pub(crate) fn different_lists<'a>(
+    alloc: Global,
+    all: &[&'a [Word]],
+) -> Result<Lists<'a>, AllocError>
     ensures { IfOk result (λ lists. AreLists lists (map (λ words. names_of words.now) all.now)) }
 {
     let mut lists = Lists {
@@ -106,7 +109,7 @@ pub fn different_lists<'a>(alloc: Global, all: &[&'a [Word]]) -> Result<Lists<'a
 
 /// These lists once more.
 #[tactic(auto, using(smv_mentions::proofs::Notes::noting))]
-pub fn copied_lists(alloc: Global, lists: &[&[Word]]) -> Result<Seq<Seq<Name>>, AllocError>
+pub(crate) fn copied_lists(alloc: Global, lists: &[&[Word]]) -> Result<Seq<Seq<Name>>, AllocError>
     ensures { IfOk result (λ copies. copies ≡ map (λ words. names_of words.now) lists.now) }
 {
     let mut copies = Seq::new(alloc);

@@ -260,7 +260,7 @@ fn add_signals<'a>(
 /// The families of an instance of a module; no chain of instances inside it is longer than this number.
 #[cycle(instances)]
 #[tactic(auto, using(smv_mentions::proofs::Notes::noting))]
-pub fn add_instance<'a>(
+pub(crate) fn add_instance<'a>(
     types: &Types<'a>,
     modules: &NameMap<'a, Body<'a>>,
     out: &mut Vec<Placed<'a>>,

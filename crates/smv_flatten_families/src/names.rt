@@ -12,7 +12,7 @@ use std::alloc::{AllocError, Global};
 
 /// The names of words once more.
 #[tactic(auto, using(smv_mentions::proofs::Notes::noting))]
-pub fn copied_names(alloc: Global, words: &[Word]) -> Result<Seq<Name>, AllocError>
+pub(crate) fn copied_names(alloc: Global, words: &[Word]) -> Result<Seq<Name>, AllocError>
     ensures { IfOk result (λ names. names ≡ names_of words.now) }
 {
     let mut names = Seq::new(alloc);
@@ -25,7 +25,7 @@ pub fn copied_names(alloc: Global, words: &[Word]) -> Result<Seq<Name>, AllocErr
 
 /// The names of words as a key.
 #[tactic(auto, using(smv_mentions::proofs::Notes::noting))]
-pub fn key_of_words<'a>(alloc: Global, words: &'a [Word]) -> Result<Names<'a>, AllocError>
+pub(crate) fn key_of_words<'a>(alloc: Global, words: &'a [Word]) -> Result<Names<'a>, AllocError>
     ensures { IfOk result (λ names. names ≡ names_of words.now) }
 {
     let mut names = Vec::new(alloc);

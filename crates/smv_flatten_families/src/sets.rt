@@ -51,7 +51,7 @@ fn add_set(alloc: Global, sets: &mut Seq<SetInfo>, top: &Top) -> Result<(), Allo
 
 /// The set types, in the order of their tops.
 #[tactic(auto, using(smv_mentions::proofs::Notes::noting))]
-pub fn sets_of(alloc: Global, tops: &[Top]) -> Result<Seq<SetInfo>, AllocError>
+pub(crate) fn sets_of(alloc: Global, tops: &[Top]) -> Result<Seq<SetInfo>, AllocError>
     ensures { IfOk result (λ sets. sets ≡ flat_map set_of tops.now) }
 {
     let mut sets = Seq::new(alloc);
@@ -102,7 +102,7 @@ fn one_if_set(top: &Top) -> usize
 
 /// How many set types there are.
 #[tactic(auto, using(crate::proofs::BuildLaws::set_steps))]
-pub fn count_sets(tops: &[Top]) -> usize
+pub(crate) fn count_sets(tops: &[Top]) -> usize
     ensures { result ≡ length (flat_map set_of tops.now) }
 {
     let mut count = 0;

@@ -31,7 +31,7 @@ pub struct Simples<'a> {
 }
 
 /// A set type, by its place among the set types.
-pub fn set_simple(simples: &Simples, name: &Name) -> Result<Simple, AllocError>
+pub(crate) fn set_simple(simples: &Simples, name: &Name) -> Result<Simple, AllocError>
     requires { AreSimples simples.now }
     ensures { IfOk result (λ t. t ≡ Set (set_number (numbering simples.now.text.now) name.now)) }
 {
@@ -40,7 +40,7 @@ pub fn set_simple(simples: &Simples, name: &Name) -> Result<Simple, AllocError>
 }
 
 /// An enumeration, by the place of its list among the enumerations.
-pub fn list_simple(simples: &Simples, words: &[Word]) -> Result<Simple, AllocError>
+pub(crate) fn list_simple(simples: &Simples, words: &[Word]) -> Result<Simple, AllocError>
     requires { AreSimples simples.now }
     ensures { IfOk result (λ t. t ≡ Enum (position_or_len (same_path (names_of words.now)) (numbering simples.now.text.now).enums)) }
 {
@@ -52,7 +52,7 @@ pub fn list_simple(simples: &Simples, words: &[Word]) -> Result<Simple, AllocErr
 }
 
 /// A range.
-pub fn range_simple(span: Span) -> Result<Simple, AllocError>
+pub(crate) fn range_simple(span: Span) -> Result<Simple, AllocError>
     ensures { IfOk result (λ t. t ≡ Range span.low span.high) }
 {
     let low = byte(span.low)?;
@@ -61,7 +61,7 @@ pub fn range_simple(span: Span) -> Result<Simple, AllocError>
 }
 
 /// What is written of a type that there is not.
-pub fn no_simple(simples: &Simples) -> Result<Simple, AllocError>
+pub(crate) fn no_simple(simples: &Simples) -> Result<Simple, AllocError>
     requires { AreSimples simples.now }
     ensures { IfOk result (λ t. t ≡ Enum (length (numbering simples.now.text.now).enums)) }
 {

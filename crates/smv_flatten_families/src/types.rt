@@ -90,7 +90,11 @@ fn single(form: Form) -> Option<Simple>
 
 /// The type of one value that a type is which is written behind so many types.
 #[tactic(auto, using(crate::proofs::LeafLaws::equations))]
-pub fn simple_type(types: &Types, of: &TypeExpr, place: usize) -> Result<Option<Simple>, AllocError>
+pub(crate) fn simple_type(
+    types: &Types,
+    of: &TypeExpr,
+    place: usize,
+) -> Result<Option<Simple>, AllocError>
     requires types { AreTypesSoFar types.now }
     requires enough { min place (length (types_of types.now.simples.text.now)) ≤ length types.now.forms.items }
     ensures { IfOk result (λ t. t ≡ alone (leaves types.now.simples.text.now place of.now)) }
@@ -188,7 +192,7 @@ fn add_type<'a>(types: &mut Types<'a>, place: usize) -> Result<(), AllocError>
 }
 
 /// The types of a text whose set types and enumerations have their numbers.
-pub fn types_with<'a>(simples: Simples<'a>) -> Result<Types<'a>, AllocError>
+pub(crate) fn types_with<'a>(simples: Simples<'a>) -> Result<Types<'a>, AllocError>
     requires { AreSimples simples }
     ensures types { IfOk result (λ types. AreTypes types) }
     ensures text { IfOk result (λ types. types.simples.text.now ≡ simples.entry.text.now) }

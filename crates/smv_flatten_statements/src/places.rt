@@ -41,7 +41,7 @@ fn begin(e: &Expr) -> u32
 
 /// The offset of the first token of the first of these expressions, and 0 where there is none.
 #[cycle(places)]
-pub fn first_begin(parts: &[Expr]) -> u32
+pub(crate) fn first_begin(parts: &[Expr]) -> u32
     ensures { result ≡ first_begins_at parts.now }
 {
     match parts {

@@ -38,7 +38,7 @@ pub fn inside<'a>(alloc: Global, vars: &[Var<'a>], var: Var<'a>) -> Result<Vec<V
 
 /// How many variables are bound around: a `for` is written out, so it binds none.
 #[tactic(auto, using(crate::proofs::VarLaws::counting), unfolding(crate::specs::Around::around_of))]
-pub fn bound_in(vars: &[Var]) -> Result<u16, AllocError>
+pub(crate) fn bound_in(vars: &[Var]) -> Result<u16, AllocError>
     ensures { IfOk result (λ n. n ≡ numbers.bound_in (around_of vars.now)) }
 {
     let mut count = 0;

@@ -1,6 +1,7 @@
 -- What an expression may be and what it reads depend on no place in the text.
 use Rattle.std.proofs.Common.{◌≡◌, ◌+◌, ◌-◌, List, [], ◌∷◌, ◌++◌, map, Some, None, refl, ap, sym, ◌∙◌}
 use Rattle.std.specs.List.{slice_get, flat_map}
+use Rattle.law_lists.proofs.Lists.{map_agree, flat_map_agree, append_alike}
 use Rattle.smv_core.specs.Values.{Truth, number, add, modulo, numbers_from, not_of, iff_of, conjunction, disjunction, implication}
 use Rattle.smv_core.specs.Outcome.{branch}
 use Rattle.smv_core.specs.Assignments.{Index, add_fixed, modulo_fixed}
@@ -12,24 +13,16 @@ use Rattle.law_obligations.specs.Places.{Place, World, named, named_in, rests_in
 use Rattle.law_obligations.specs.May.{AbsState, Kept, seen, shown, quantified, may_read, may, may_each, may_sum, may_listed, may_members}
 use Rattle.law_obligations.specs.Reads.{indexes_read, reads_each, reads_signed, reads_members, reads_held}
 use Rattle.law_obligations.specs.Cones.{AbsElement, elements_at, elements_read}
-use Rattle.law_obligations.proofs.ScopesKeep.{map_alike}
 use Rattle.smv_free_variables.specs.Placeless.{placeless, placeless_each, placeless_signed, placeless_members, placeless_condition}
-
-flat_map_alike : {X Y : Type 0} (f g : X → List Y) → ((x : X) → f x ≡ g x) → (xs : List X) → flat_map f xs ≡ flat_map g xs
-flat_map_alike f g h [] = refl
-flat_map_alike f g h (x ∷ xs) = ap (λ l. l ++ flat_map f xs) (h x) ∙ ap (λ l. g x ++ l) (flat_map_alike f g h xs)
 
 both_alike : {X Y Z : Type 0} (f : X → Y → Z) (u v : X) (x y : Y) → u ≡ v → x ≡ y → f u x ≡ f v y
 both_alike f u v x y d e = ap (λ z. f z x) d ∙ ap (f v) e
-
-joined : {X : Type 0} (us vs xs ys : List X) → us ≡ vs → xs ≡ ys → us ++ xs ≡ vs ++ ys
-joined us vs xs ys d e = ap (λ l. l ++ xs) d ∙ ap (λ l. vs ++ l) e
 
 -- ---- what it may be
 
 module _ (w : World) (kept : Kept) (a : AbsState) where
   quantified_alike : (join : List Truth → Truth) (f g : Place → List AbsOutcome) (ps rs : List Place) → ((p : Place) → f p ≡ g p) → quantified join (map f ps) (flat_map f rs) ≡ quantified join (map g ps) (flat_map g rs)
-  quantified_alike join f g ps rs h = ap (λ xss. quantified join xss (flat_map f rs)) (map_alike f g h ps) ∙ ap (quantified join (map g ps)) (flat_map_alike f g h rs)
+  quantified_alike join f g ps rs h = ap (λ xss. quantified join xss (flat_map f rs)) (map_agree f g h ps) ∙ ap (quantified join (map g ps)) (flat_map_agree f g h rs)
 
   mutual
     unfolding placeless
@@ -126,7 +119,7 @@ module _ (w : World) where
     pub elements_placeless : (e : FlatExpr) (b : List Place) → elements_read w (placeless e) b ≡ elements_read w e b
     elements_placeless (Number value place) b = refl
     elements_placeless (Read' family shape indexes place) b =
-        joined (elements_at w family (indexes_read (placeless_each indexes)) b) (elements_at w family (indexes_read indexes) b) (each (placeless_each indexes) b) (each indexes b) (ap (λ l. elements_at w family l b) (indexes_placeless indexes)) (each_read indexes b)
+        append_alike (elements_at w family (indexes_read (placeless_each indexes)) b) (elements_at w family (indexes_read indexes) b) (each (placeless_each indexes) b) (each indexes b) (ap (λ l. elements_at w family l b) (indexes_placeless indexes)) (each_read indexes b)
     elements_placeless (Var var place) b = refl
     elements_placeless (Loop value place) b = refl
     elements_placeless (Constant list value place) b = refl
@@ -135,40 +128,40 @@ module _ (w : World) where
     elements_placeless (Or' shape parts) b = each_read parts b
     elements_placeless (Implies' shape parts) b = each_read parts b
     elements_placeless (Iff' l (more_of-FlatExpr left end_of-FlatExpr) r (more_of-FlatExpr right end_of-FlatExpr)) b =
-        joined (elements_read w (placeless left) b) (elements_read w left b) (elements_read w (placeless right) b) (elements_read w right b) (elements_placeless left b) (elements_placeless right b)
+        append_alike (elements_read w (placeless left) b) (elements_read w left b) (elements_read w (placeless right) b) (elements_read w right b) (elements_placeless left b) (elements_placeless right b)
     elements_placeless (Compare' op l (more_of-FlatExpr left end_of-FlatExpr) r (more_of-FlatExpr right end_of-FlatExpr)) b =
-        joined (elements_read w (placeless left) b) (elements_read w left b) (elements_read w (placeless right) b) (elements_read w right b) (elements_placeless left b) (elements_placeless right b)
+        append_alike (elements_read w (placeless left) b) (elements_read w left b) (elements_read w (placeless right) b) (elements_read w right b) (elements_placeless left b) (elements_placeless right b)
     elements_placeless (Within' l (more_of-FlatExpr left end_of-FlatExpr) r (more_of-FlatExpr set end_of-FlatExpr)) b =
-        joined (elements_read w (placeless left) b) (elements_read w left b) (elements_read w (placeless set) b) (elements_read w set b) (elements_placeless left b) (elements_placeless set b)
+        append_alike (elements_read w (placeless left) b) (elements_read w left b) (elements_read w (placeless set) b) (elements_read w set b) (elements_placeless left b) (elements_placeless set b)
     elements_placeless (Sum' f (more_of-FlatExpr head end_of-FlatExpr) shape more) b =
-        joined (elements_read w (placeless head) b) (elements_read w head b) (signed (placeless_signed more) b) (signed more b) (elements_placeless head b) (signed_read more b)
+        append_alike (elements_read w (placeless head) b) (elements_read w head b) (signed (placeless_signed more) b) (signed more b) (elements_placeless head b) (signed_read more b)
     elements_placeless (Modulo' shape (more_of-FlatExpr e end_of-FlatExpr) by place) b = elements_placeless e b
     elements_placeless (Choose' t (more_of-FlatExpr cond end_of-FlatExpr) l (more_of-FlatExpr left end_of-FlatExpr) r (more_of-FlatExpr right end_of-FlatExpr)) b =
-        joined (elements_read w (placeless cond) b ++ elements_read w (placeless left) b) (elements_read w cond b ++ elements_read w left b) (elements_read w (placeless right) b) (elements_read w right b)
-        (joined (elements_read w (placeless cond) b) (elements_read w cond b) (elements_read w (placeless left) b) (elements_read w left b) (elements_placeless cond b) (elements_placeless left b))
+        append_alike (elements_read w (placeless cond) b ++ elements_read w (placeless left) b) (elements_read w cond b ++ elements_read w left b) (elements_read w (placeless right) b) (elements_read w right b)
+        (append_alike (elements_read w (placeless cond) b) (elements_read w cond b) (elements_read w (placeless left) b) (elements_read w left b) (elements_placeless cond b) (elements_placeless left b))
         (elements_placeless right b)
     elements_placeless (All' shape (more_of-FlatExpr body end_of-FlatExpr) var over place) b =
-        flat_map_alike (λ p. elements_read w (placeless body) (bind_place b var p)) (λ p. elements_read w body (bind_place b var p)) (λ p. elements_placeless body (bind_place b var p)) (named_in w over)
+        flat_map_agree (λ p. elements_read w (placeless body) (bind_place b var p)) (λ p. elements_read w body (bind_place b var p)) (λ p. elements_placeless body (bind_place b var p)) (named_in w over)
     elements_placeless (Any' shape (more_of-FlatExpr body end_of-FlatExpr) var over place) b =
-        flat_map_alike (λ p. elements_read w (placeless body) (bind_place b var p)) (λ p. elements_read w body (bind_place b var p)) (λ p. elements_placeless body (bind_place b var p)) (named_in w over)
+        flat_map_agree (λ p. elements_read w (placeless body) (bind_place b var p)) (λ p. elements_read w body (bind_place b var p)) (λ p. elements_placeless body (bind_place b var p)) (named_in w over)
     elements_placeless (List' shape members place) b = members_read members b
     elements_placeless (Each' var over cond place) b =
-        flat_map_alike (λ p. held (placeless_condition cond) (bind_place b var p)) (λ p. held cond (bind_place b var p)) (λ p. held_read cond (bind_place b var p)) (named_in w over)
+        flat_map_agree (λ p. held (placeless_condition cond) (bind_place b var p)) (λ p. held cond (bind_place b var p)) (λ p. held_read cond (bind_place b var p)) (named_in w over)
 
     each_read : {m : _} (row : Row_of-FlatExpr m) (b : List Place) → each (placeless_each row) b ≡ each row b
     each_read end_of-FlatExpr b = refl
     each_read (more_of-FlatExpr e others) b =
-        joined (elements_read w (placeless e) b) (elements_read w e b) (each (placeless_each others) b) (each others b) (elements_placeless e b) (each_read others b)
+        append_alike (elements_read w (placeless e) b) (elements_read w e b) (each (placeless_each others) b) (each others b) (elements_placeless e b) (each_read others b)
 
     signed_read : {m : _} (row : Row_of-FlatSigned m) (b : List Place) → signed (placeless_signed row) b ≡ signed row b
     signed_read end_of-FlatSigned b = refl
     signed_read (more_of-FlatSigned minus e others) b =
-        joined (elements_read w (placeless e) b) (elements_read w e b) (signed (placeless_signed others) b) (signed others b) (elements_placeless e b) (signed_read others b)
+        append_alike (elements_read w (placeless e) b) (elements_read w e b) (signed (placeless_signed others) b) (signed others b) (elements_placeless e b) (signed_read others b)
 
     members_read : {m : _} (row : Row_of-FlatMember m) (b : List Place) → listed (placeless_members row) b ≡ listed row b
     members_read end_of-FlatMember b = refl
     members_read (more_of-FlatMember (One e) others) b =
-        joined (elements_read w (placeless e) b) (elements_read w e b) (listed (placeless_members others) b) (listed others b) (elements_placeless e b) (members_read others b)
+        append_alike (elements_read w (placeless e) b) (elements_read w e b) (listed (placeless_members others) b) (listed others b) (elements_placeless e b) (members_read others b)
     members_read (more_of-FlatMember (SpanOf span place) others) b = members_read others b
 
     held_read : (cond : Held-FlatExpr-Each-2) (b : List Place) → held (placeless_condition cond) b ≡ held cond b

@@ -43,7 +43,7 @@ fn add_variable(digest: &mut FoldHasher, b: &[Spot], var: u16) {
 }
 
 /// The number of an expression under bindings.
-pub fn digest_of(e: &FlatExpr, b: &[Spot]) -> u64 {
+pub(crate) fn digest_of(e: &FlatExpr, b: &[Spot]) -> u64 {
     let mut digest = FoldHasher::default();
     add_expression(&mut digest, e, b);
     digest.finish()

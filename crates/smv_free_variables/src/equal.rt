@@ -7,7 +7,7 @@ use smv_core::flat::{FlatExpr, FlatMember, FlatSigned};
 /// Whether an expression is another one but for the places in the text.
 #[cycle(equal)]
 #[tactic(auto, using(crate::proofs::PlacelessLaws::equations))]
-pub fn is_equal(e: &FlatExpr, d: &FlatExpr) -> bool
+pub(crate) fn is_equal(e: &FlatExpr, d: &FlatExpr) -> bool
     ensures { IsTrue result → placeless e.now ≡ placeless d.now }
 {
     match (e, d) {

@@ -1,44 +1,20 @@
 -- Runs of operations.
-use Rattle.std.proofs.Common.{◌≡◌, ℕ, suc, ◌+◌, ◌<◌, ◌≤◌, Bool, true, false, ◌↔◌, IsTrue, inl, List, [], ◌∷◌, length, drop, get_or, refl, sym, ◌∙◌, ap, subst, arith, Option, Some, None}
+use Rattle.std.proofs.Common.{◌≡◌, ℕ, suc, ◌+◌, ◌<◌, ◌≤◌, Bool, true, false, ◌↔◌, IsTrue, List, [], ◌∷◌, length, drop, get_or, refl, sym, ◌∙◌, ap, subst, arith, Option, Some, None}
 use Rattle.std.proofs.Math.Seq.{drop-cons}
 use Rattle.std.proofs.lemmas.List.{drop_all}
 use Rattle.bdd_store.specs.declared.Ref.{Ref}
 use Rattle.bdd_store.specs.Diagram.{Diagram, IsLive, table, Keeps}
+use Rattle.bdd_store.proofs.Keeping.{keeps_self, keeps_then, table_kept}
 use Rattle.bdd_ops.specs.Functions.{Function}
 use Rattle.smv_rings.specs.Schedule.{Act, made_by, after}
-use Rattle.smv_rings.specs.Schedule.Act.{Join, Look_at}
 use Rattle.smv_rings.specs.declared.ops.Op.{Op}
 use Rattle.smv_rings.specs.declared.ops.Op.TheVariants.{And, Exists, Look, Rename}
 use Rattle.smv_rings.specs.Ops.{IsOneOf, act_of, acts_of, refs_in, refs_in_all, FitsAct, FitsActs}
-use Rattle.smv_rings.proofs.Fits.{fits_any}
 use Rattle.smv_rings.proofs.Refs.{one_left, one_right}
+use Rattle.smv_rings.proofs.Kept.{act_kept}
 use Rattle.smv_inductive.specs.Runs.{FindsNothing, AllFindNothing, Leaves, StaysWithin}
 
-pub keeps_self : (d : Diagram) → Keeps d d
-keeps_self d = record { vars = refl; live = λ r live. live; tables = λ r live a. refl; reached = λ f r f_live live reaches. reaches; firsts = λ r live. refl }
-
-pub keeps_then : (d e f : Diagram) → Keeps d e → Keeps e f → Keeps d f
-keeps_then d e f k m = record {
-  vars = m.vars ∙ k.vars;
-  live = λ r live. m.live r (k.live r live);
-  tables = λ r live a. m.tables r (k.live r live) a ∙ k.tables r live a;
-  reached = λ q r q_live live reaches. m.reached q r (k.live q q_live) (k.live r live) (k.reached q r q_live live reaches);
-  firsts = λ r live. m.firsts r (k.live r live) ∙ k.firsts r live;
-}
-
-pub table_kept : (d e : Diagram) (r : Ref) → Keeps d e → IsLive d r → table e r ≡ table d r
-table_kept d e r keeps live = λ i a. keeps.tables r live a i
-
-act_kept : (d e : Diagram) (op : Op) → Keeps d e → ((r : Ref) → IsOneOf r (refs_in op) → IsLive d r) → act_of e 1 op ≡ act_of d 1 op
-act_kept d e (And f) keeps live = ap Join (table_kept d e f keeps (live f (inl refl)))
-act_kept d e (Exists v) keeps live = refl
-act_kept d e (Look f) keeps live = ap (Look_at 1) (table_kept d e f keeps (live f (inl refl)))
-act_kept d e Rename keeps live = refl
-
 -- ---- one operation, whatever path a look is for
-
-pub fits_one : (d : Diagram) (n : ℕ) (p : Function) (op : Op) → FitsAct n p (act_of d 1 op) → FitsAct n p (act_of d 0 op)
-fits_one d n p op fits = (fits_any d n 1 0 p (op ∷ []) (fits, tt)).0
 
 pub look_passes : (d e : Diagram) (p made f : Ref) (op : Op) → op ≡ Look f → Keeps d e → IsLive d p → table e made ≡ made_by (act_of d 0 op) (table d p) → ((a : ℕ → Bool) → table e made a ≡ false) → Leaves e (table d p) (act_of d 1 op ∷ []) (Some p)
 look_passes d e p made f op is keeps live makes none =

@@ -3,6 +3,7 @@ use Rattle.std.proofs.Common.{◌≡◌, ℕ, suc, ◌+◌, ◌<◌, ◌≤◌, 
 use Rattle.std.specs.Prelude.{zip}
 use Rattle.std.specs.List.{flat_map}
 use Rattle.std.proofs.lemmas.List.{append-nil, append_assoc}
+use Rattle.law_lists.proofs.Places.{drop_past}
 use Rattle.smv_core.specs.Walk.{indexes_of}
 use Rattle.smv_core.specs.declared.fault.Fault.{Fault}
 use Rattle.smv_core.specs.declared.tree.Word.{Word}
@@ -14,7 +15,7 @@ use Rattle.law_designs.specs.References.{Scope, Vars, signal_at, reference}
 use Rattle.law_designs.specs.Operands.{operand, target}
 use Rattle.law_designs.specs.KindFaults.{given, gives}
 use Rattle.smv_kinds.specs.Found.{words_left}
-use Rattle.smv_operand_kinds.proofs.KindLaws.{reference-at, drop-none}
+use Rattle.smv_operand_kinds.proofs.KindLaws.{reference-at}
 
 module _ (scope : Scope) where
   pub target-at : (vars : Vars) (path : Path) → (target scope vars path).at ≡ (out-Path path).at
@@ -68,4 +69,4 @@ module _ (f : Word × Expr → List Fault) (args : List Expr) where
 
   pub args-done : (i : ℕ) (words : List Word) (old first : List Fault) → length args ≤ i → old ++ flat_map f (zip words (drop i args)) ≡ first → old ≡ first
   args-done i words old first past so_far =
-      sym (ap (λ l. old ++ flat_map f (zip words l)) (drop-none args i past) ∙ ap (λ l. old ++ l) (zip-none f words) ∙ append-nil old) ∙ so_far
+      sym (ap (λ l. old ++ flat_map f (zip words l)) (drop_past args i past) ∙ ap (λ l. old ++ l) (zip-none f words) ∙ append-nil old) ∙ so_far

@@ -1,8 +1,9 @@
 -- The faults of a text's tops, one after the other, and the first of them.
-use Rattle.std.proofs.Common.{◌≡◌, ℕ, zero, suc, ◌+◌, List, [], ◌∷◌, ◌++◌, take, drop, refl, ap, sym, ◌∙◌, add-one}
-use Rattle.std.specs.Prelude.{Option, Some, None, slice_get}
+use Rattle.std.proofs.Common.{◌≡◌, ℕ, zero, suc, ◌+◌, List, [], ◌∷◌, ◌++◌, take, drop, ap, sym, ◌∙◌, add-one}
+use Rattle.std.specs.Prelude.{Option, Some, slice_get}
 use Rattle.std.specs.List.{flat_map}
 use Rattle.std.proofs.lemmas.List.{append_assoc}
+use Rattle.law_lists.proofs.Places.{drop_got}
 use Rattle.smv_core.specs.Values.{Name}
 use Rattle.smv_core.specs.declared.fault.Fault.{Fault}
 use Rattle.smv_core.specs.declared.tree.Word.{Word}
@@ -13,7 +14,7 @@ use Rattle.smv_core.specs.declared.tree.Top.TheVariants.{Alias, Module as Module
 use Rattle.smv_mentions.specs.Scopes.{Constant, pieces, constants}
 use Rattle.smv_mentions.specs.FirstFault.{first_of}
 use Rattle.smv_first_fault.specs.Firsts.{earlier_of}
-use Rattle.smv_first_fault.proofs.FirstLaws.{earlier-assoc}
+use Rattle.smv_first_fault.proofs.FirstLaws.{earlier-assoc, earlier-none}
 use Rattle.law_designs.specs.Types.{Types, types_after, type_faults}
 use Rattle.law_designs.specs.References.{Module, modules_from}
 use Rattle.law_designs.specs.KindFaults.{in_item, in_top, in_tops}
@@ -40,11 +41,6 @@ module _ (scope : HeldScope) where
 
 -- ---- one top after the other
 
-drop-get : {A : Type 0} (xs : List A) (i : ℕ) (x : A) → slice_get xs i ≡ Some x → drop i xs ≡ x ∷ drop (suc i) xs
-drop-get [] i x h = cc
-drop-get (y ∷ xs) zero x h = let same : y ≡ x = cc in ap (λ z. z ∷ xs) same
-drop-get (y ∷ xs) (suc i) x h = drop-get xs i x h
-
 types-next : (types : Types) (tops : List Top) (i : ℕ) (top : Top) → slice_get tops i ≡ Some top → types_from types (take (suc i) tops) ≡ types_after (types_from types (take i tops)) top
 types-next types [] i top h = cc
 types-next types (here ∷ tops) zero top h = let same : here ≡ top = cc in ap (types_after types) same
@@ -58,14 +54,10 @@ tops-step modules known tops i top before after all got is so_far = rw add-one
     (ap (λ l. l ++ in_tops modules known (types_from [] (take (suc i) tops)) (drop (suc i) tops)) is
     ∙ append_assoc before (in_top modules known (types_from [] (take i tops)) top) (in_tops modules known (types_from [] (take (suc i) tops)) (drop (suc i) tops))
     ∙ ap (λ types. before ++ (in_top modules known (types_from [] (take i tops)) top ++ in_tops modules known types (drop (suc i) tops))) (types-next [] tops i top got)
-    ∙ ap (λ l. before ++ in_tops modules known (types_from [] (take i tops)) l) (sym (drop-get tops i top got))
+    ∙ ap (λ l. before ++ in_tops modules known (types_from [] (take i tops)) l) (sym (drop_got tops i top got))
     ∙ so_far)
 
 -- ---- the first of some faults
-
-pub earlier-none : (f : Option Fault) → earlier_of f None ≡ f
-earlier-none None = refl
-earlier-none (Some f) = refl
 
 pub earlier-step : (found : Option Fault) (f : Fault) (faults : List Fault) → earlier_of (earlier_of found (Some f)) (first_of faults) ≡ earlier_of found (first_of (f ∷ faults))
 earlier-step found f faults = earlier-assoc found (Some f) (first_of faults)

@@ -31,7 +31,7 @@ pub enum Formal<'a> {
 }
 
 /// A formal of a module.
-pub fn formal_named<'a>(name: &Name, scope: &Scope<'a, '_>) -> Formal<'a>
+pub(crate) fn formal_named<'a>(name: &Name, scope: &Scope<'a, '_>) -> Formal<'a>
     requires { AreKindTables scope.now.tables.now }
     ensures { (from : references.Scope) (e : Expr) → connected from (scope_of scope.now).here.types (find_name (scope_of scope.now).here.own name.now) e ≡ argument_faults scope.now.tables.now.names from result e }
 {

@@ -3,6 +3,8 @@ use Rattle.std.proofs.Common.{◌≡◌, ℕ, zero, suc, ◌<◌, ◌≤◌, Lis
 use Rattle.std.specs.Prelude.{filter, is_none, not, nat_eq, nat_lt}
 use Rattle.std.specs.List.{AllByRecursion, list_any}
 use Rattle.std.proofs.lemmas.Bool.Decides.{nat_tests}
+use Rattle.std.proofs.lemmas.Bool.{and_parts, false_from_ne_true}
+use Rattle.law_lists.proofs.Numbers.{nat_eq-is, nat_lt-is}
 use Rattle.smv_core.specs.declared.flat.Family.{Family}
 use Rattle.smv_core.specs.declared.flat.Def.{Def}
 use Rattle.smv_core.specs.declared.flat.Design.{Design}
@@ -100,14 +102,6 @@ each-has P [] all x (i, e) = absurd (cc (e))
 each-has P (y ∷ defs) all x (zero, e) = let same : y ≡ x = cc in subst P same all.0
 each-has P (y ∷ defs) all x (suc i, e) = each-has P defs all.1 x (i, e)
 
-and-both : (a b : Bool) → a && b ≡ true → (a ≡ true) × (b ≡ true)
-and-both true b e = (refl, e)
-and-both false b e = absurd (cc (e))
-
-not-true : (b : Bool) → (b ≡ true → ⊥) → b ≡ false
-not-true true h = absurd (h refl)
-not-true false h = refl
-
 -- the two tests, of a definition that is not of an abstract signal outside layers
 of-delay : (d : Design) (o : Option Family) (def : Def) → delay.may_be_base d o def ≡ true → may_be_base d def.family o def ≡ true
 of-delay d None def e = absurd (cc (e))
@@ -123,7 +117,7 @@ of-delay d (Some f) def e = ap (λ b. b && (f.is_abstract || is_none def.layer))
 to-delay : (d : Design) (k : ℕ) (o : Option Family) (def : Def) → (is_abstract o && is_none def.layer) ≡ false → may_be_base d k o def ≡ true → (def.family ≡ k) × (delay.may_be_base d o def ≡ true)
 to-delay d k None def inside e = absurd (cc (e))
 to-delay d k (Some f) def inside e =
-    let parts : (nat_eq def.family k ≡ true) × (f.is_abstract || is_none def.layer ≡ true) = and-both (nat_eq def.family k) (f.is_abstract || is_none def.layer) e in
+    let parts : (nat_eq def.family k ≡ true) × (f.is_abstract || is_none def.layer ≡ true) = and_parts (nat_eq def.family k) (f.is_abstract || is_none def.layer) e in
     (same def.family k parts.0, by f.is_abstract (is_none def.layer) inside parts.1)
   where
     same : (m n : ℕ) → nat_eq m n ≡ true → m ≡ n
@@ -134,18 +128,12 @@ to-delay d k (Some f) def inside e =
     by true false p q = refl
     by false b p q = q
 
-equal : (m n : ℕ) → nat_eq m n ≡ true → m ≡ n
-equal m n h = grind (arith, nat_tests)
-
-below : (m n : ℕ) → nat_lt m n ≡ true → m < n
-below m n h = grind (arith, nat_tests)
-
 kept : (d : Design) (k : ℕ) (y : Def) → may_be_base d k (slice_get d.families k) y ≡ true → y.family ≡ k
 kept d k y e = by (slice_get d.families k) e
   where
     by : (o : Option Family) → may_be_base d k o y ≡ true → y.family ≡ k
     by None e = absurd (cc (e))
-    by (Some f) e = equal y.family k (and-both (nat_eq y.family k) (f.is_abstract || is_none y.layer) e).0
+    by (Some f) e = nat_eq-is y.family k (and_parts (nat_eq y.family k) (f.is_abstract || is_none y.layer) e).0
 
 module _ (d : Design) (inside : AreInLayers d) (apart : AreApart d) where
   -- those that may be the base definition of a family
@@ -183,7 +171,7 @@ module _ (d : Design) (inside : AreInLayers d) (apart : AreApart d) where
     where
       to_base : delay.is_base d def ≡ true → base_of d def.family ≡ Some def
       to_base e =
-          let parts : (delay.may_be_base d (slice_get d.families def.family) def ≡ true) × (not (list_any (delay.is_behind d def) d.defs) ≡ true) = and-both _ _ e in
+          let parts : (delay.may_be_base d (slice_get d.families def.family) def ≡ true) × (not (list_any (delay.is_behind d def) d.defs) ≡ true) = and_parts _ _ e in
           let here : Has (of_family def.family) def = filter-has (may_be_base d def.family (slice_get d.families def.family)) d.defs def (i, at) (of-delay d (slice_get d.families def.family) def parts.0) in
           let first = earliest-some (of_family def.family) def here in
           let is = earliest-is (of_family def.family) first.0 first.1 in
@@ -194,7 +182,7 @@ module _ (d : Design) (inside : AreInLayers d) (apart : AreApart d) where
           let is = earliest-is (of_family def.family) def e in
           let found = has-filter (may_be_base d def.family (slice_get d.families def.family)) d.defs def is.0 in
           let may = to-delay d def.family (slice_get d.families def.family) def (each-has (λ (y : Def). (is_abstract (slice_get d.families y.family) && is_none y.layer) ≡ false) d.defs inside def (i, at)) found.1 in
-          both (delay.may_be_base d (slice_get d.families def.family) def) (list_any (delay.is_behind d def) d.defs) may.1 (not-true (list_any (delay.is_behind d def) d.defs) (λ some. none_before some is.1))
+          both (delay.may_be_base d (slice_get d.families def.family) def) (list_any (delay.is_behind d def) d.defs) may.1 (false_from_ne_true (list_any (delay.is_behind d def) d.defs) (λ some. none_before some is.1))
         where
           both : (a b : Bool) → a ≡ true → b ≡ false → a && not b ≡ true
           both true true p q = absurd (cc (q))
@@ -204,10 +192,10 @@ module _ (d : Design) (inside : AreInLayers d) (apart : AreApart d) where
           none_before : list_any (delay.is_behind d def) d.defs ≡ true → ((x : Def) → Has (of_family def.family) x → def.place ≤ x.place) → ⊥
           none_before some least =
               let found = has-any (delay.is_behind d def) d.defs some in
-              let parts = and-both (nat_eq found.0.family def.family) (nat_lt found.0.place def.place && delay.may_be_base d (slice_get d.families found.0.family) found.0) found.2 in
-              let rest = and-both (nat_lt found.0.place def.place) (delay.may_be_base d (slice_get d.families found.0.family) found.0) parts.1 in
-              let family : found.0.family ≡ def.family = equal found.0.family def.family parts.0 in
+              let parts = and_parts (nat_eq found.0.family def.family) (nat_lt found.0.place def.place && delay.may_be_base d (slice_get d.families found.0.family) found.0) found.2 in
+              let rest = and_parts (nat_lt found.0.place def.place) (delay.may_be_base d (slice_get d.families found.0.family) found.0) parts.1 in
+              let family : found.0.family ≡ def.family = nat_eq-is found.0.family def.family parts.0 in
               let there : may_be_base d def.family (slice_get d.families def.family) found.0 ≡ true = subst (λ k. may_be_base d k (slice_get d.families k) found.0 ≡ true) family (of-delay d (slice_get d.families found.0.family) found.0 rest.1) in
               let le : def.place ≤ found.0.place = least found.0 (filter-has (may_be_base d def.family (slice_get d.families def.family)) d.defs found.0 found.1 there) in
-              let less : found.0.place < def.place = below found.0.place def.place rest.0 in
+              let less : found.0.place < def.place = nat_lt-is found.0.place def.place rest.0 in
               omega arith

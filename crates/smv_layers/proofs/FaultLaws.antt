@@ -6,13 +6,9 @@ use Rattle.smv_core.specs.declared.fault.Fault.{Fault}
 use Rattle.smv_core.specs.declared.flat.Family.{Family}
 use Rattle.smv_mentions.specs.FirstFault.{first_of, faults_at}
 use Rattle.smv_first_fault.specs.Firsts.{earlier_of}
-use Rattle.smv_first_fault.proofs.FirstLaws.{earlier-assoc, earlier-comm}
+use Rattle.smv_first_fault.proofs.FirstLaws.{earlier-assoc, earlier-comm, earlier-none}
 use Rattle.law_designs.specs.Reading.{Reference}
 use Rattle.smv_layers.specs.Leaks.{is_abstract, first_among, first_read, fault_if_abstract}
-
-pub earlier-none : (f : Option Fault) → earlier_of f None ≡ f
-earlier-none None = refl
-earlier-none (Some f) = refl
 
 pub among-append : (xs ys : List (Option Fault)) → first_among (xs ++ ys) ≡ earlier_of (first_among xs) (first_among ys)
 among-append [] ys = refl

@@ -8,7 +8,12 @@ use smv_core::flat::{Family, FlatExpr, FlatMember, FlatSigned};
 use smv_first_fault::faults::earlier;
 
 /// A fault of this number at a place, where the family is that of an abstract signal.
-pub fn fault_if_abstract(families: &[Family], number: u8, family: u16, at: u32) -> Option<Fault>
+pub(crate) fn fault_if_abstract(
+    families: &[Family],
+    number: u8,
+    family: u16,
+    at: u32,
+) -> Option<Fault>
     ensures { result ≡ spec.fault_if_abstract families.now number family at }
 {
     match families.get(usize::from(family)) {
@@ -83,7 +88,7 @@ pub fn read_fault(families: &[Family], x: &FlatExpr) -> Option<Fault>
 /// The first fault 19 in some expressions.
 #[cycle(expressions)]
 #[tactic(auto, using(crate::proofs::FaultLaws::in_turn))]
-pub fn read_faults(families: &[Family], parts: &[FlatExpr]) -> Option<Fault>
+pub(crate) fn read_faults(families: &[Family], parts: &[FlatExpr]) -> Option<Fault>
     ensures { result ≡ first_among (map (spec.read_fault families.now) parts.now) }
 {
     let mut found = None;

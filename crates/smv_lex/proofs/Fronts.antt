@@ -9,7 +9,7 @@ use Rattle.smv_lex.specs.declared.front.Front.{Front}
 use Rattle.smv_lex.specs.declared.front.Front.TheVariants.{Passed, Whole, Broken}
 use Rattle.smv_core.specs.declared.token.TokenKind.{TokenKind}
 use Rattle.smv_core.specs.declared.token.TokenKind.TheVariants.{Number}
-use Rattle.smv_lex.specs.Spellings.{signs, spelled_in}
+use Rattle.smv_core.specs.Spellings.{signs, spelled_in}
 use Rattle.smv_lex.specs.Lexing.{is_blank, is_letter, is_digit, is_name_byte, is_in_line, begins, closing, word_front, number_front, sign_front, comment_front, front_of, word_kind, number_of}
 
 digits_more : (b : ℕ) (bytes : List ℕ) (r : Bool) → is_digit b ≡ r → All (λ b. is_digit b ≡ true) (take_while is_digit bytes) →

@@ -12,7 +12,7 @@ use Rattle.smv_core.specs.declared.token.TokenKind.{TokenKind}
 use Rattle.smv_core.specs.declared.token.TokenKind.TheVariants.{Number}
 use Rattle.smv_lex.specs.declared.front.Front.{Front}
 use Rattle.smv_lex.specs.declared.front.Front.TheVariants.{Passed, Whole, Broken}
-use Rattle.smv_lex.specs.Spellings.{signs, spelled_in}
+use Rattle.smv_core.specs.Spellings.{signs, spelled_in}
 use Rattle.smv_lex.specs.Lexing.{is_letter, is_digit, is_name_byte, begins, closing, word_kind, word_front, number_of, number_front, sign_front, comment_front, front_of}
 use Rattle.smv_lex.specs.Longest.{is_word, is_digits, kind_of, NoLonger, IsLongest, HasNoToken, HasGreatNumber, HasLongWord, HasOpenComment}
 use Rattle.smv_lex.proofs.Fronts.{front-cases}

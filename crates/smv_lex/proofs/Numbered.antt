@@ -6,7 +6,7 @@ use Rattle.std.specs.Str.{bytes_eq}
 use Rattle.std.proofs.lemmas.Iterator.Adapters.{position_from-zero}
 use Rattle.smv_core.specs.declared.token.TokenKind.{TokenKind}
 use Rattle.smv_core.specs.declared.token.TokenKind.TheVariants.{Sign, Reserved}
-use Rattle.smv_lex.specs.Spellings.{signs, reserved_words, spelled_in}
+use Rattle.smv_core.specs.Spellings.{signs, reserved_words, spelled_in}
 
 -- the spellings with these kinds, from a number on
 abbrev pub numbered : (ℕ → TokenKind) → ℕ → List (List ℕ) → List (TokenKind × List ℕ)

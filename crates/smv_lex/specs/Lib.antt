@@ -1,4 +1,3 @@
-pub mod Spellings
 pub mod Lexing
 pub mod Answers
 pub mod Longest

@@ -3,7 +3,7 @@ use Rattle.std.specs.Prelude.{◌≡◌, ◌+◌, ◌<◌, ◌≤◌, ℕ, Bool,
 use Rattle.std.specs.List.{list_all}
 use Rattle.smv_core.specs.declared.token.TokenKind.{TokenKind}
 use Rattle.smv_core.specs.declared.token.TokenKind.TheVariants.{Number}
-use Rattle.smv_lex.specs.Spellings.{signs, spelled_in}
+use Rattle.smv_core.specs.Spellings.{signs, spelled_in}
 use Rattle.smv_lex.specs.Lexing.{is_letter, is_digit, is_name_byte, begins, word_kind, number_of}
 
 -- a letter or `_`, and then letters, digits and `_`

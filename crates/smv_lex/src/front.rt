@@ -173,7 +173,7 @@ fn comment(inner: &[u8]) -> Front
 
 /// What stands at the front of these bytes.
 #[tactic(auto, unfolding(crate::specs::Lexing::front_of))]
-pub fn read_front(alloc: Global, bytes: &[u8]) -> Result<Front, AllocError>
+pub(crate) fn read_front(alloc: Global, bytes: &[u8]) -> Result<Front, AllocError>
     ensures front { IfOk result (λ front. front ≡ front_of bytes.now) }
 {
     let [first, ..] = bytes else {

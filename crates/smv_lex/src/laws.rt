@@ -5,7 +5,7 @@ ghost use Rattle.smv_lex.specs.declared.front.Front.TheVariants.{Passed, Whole, 
 ghost use Rattle.smv_lex.specs.Lexing.{front_of, lexed_from, with_token, lexed};
 ghost use Rattle.smv_lex.specs.Comments.{PassesBlock, PassesLine};
 ghost use Rattle.smv_lex.specs.Longest.{IsLongest, HasNoToken, HasGreatNumber, HasLongWord, HasOpenComment};
-ghost use Rattle.smv_lex.specs.Spellings.{signs, reserved_words};
+ghost use Rattle.smv_core.specs.Spellings.{signs, reserved_words};
 
 /// A text is read place by place: what stands at its front, and then the same of what comes after it.
 pub fn place_by_place()

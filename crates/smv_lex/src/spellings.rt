@@ -1,55 +1,14 @@
 // The signs and the reserved words by their bytes.
 ghost use Rattle.std.specs.Prelude.{◌≡◌, ◌<◌, length, map, position, IfSome};
 ghost use Rattle.std.specs.Str.{bytes_eq};
-ghost use Rattle.smv_lex.specs.Spellings.{signs, reserved_words, spelled_in};
+ghost use Rattle.smv_core.specs.Spellings.{signs, reserved_words, spelled_in};
 
+use smv_core::signs::{RESERVED, SIGNS};
 use smv_core::token::TokenKind;
-
-// Each at its place in the list of the language.
-const SIGNS: [&[u8]; 27] = [
-    b"(", b")", b"[", b"]", b"{", b"}", b":", b";", b",", b".", b"..", b":=", b"=", b"~=", b"<",
-    b"<=", b">", b">=", b"+", b"-", b"~", b"&", b"|", b"->", b"<->", b"?", b"//",
-];
-
-const RESERVED: [&[u8]; 33] = [
-    b"abstract",
-    b"array",
-    b"assert",
-    b"boolean",
-    b"default",
-    b"else",
-    b"F",
-    b"for",
-    b"forall",
-    b"free",
-    b"G",
-    b"if",
-    b"in",
-    b"init",
-    b"input",
-    b"layer",
-    b"mod",
-    b"module",
-    b"next",
-    b"of",
-    b"ordset",
-    b"output",
-    b"prove",
-    b"scalarset",
-    b"struct",
-    b"subcase",
-    b"switch",
-    b"typedef",
-    b"U",
-    b"undefined",
-    b"using",
-    b"W",
-    b"X",
-];
 
 /// The sign that has these bytes.
 #[tactic(auto, using(crate::proofs::Numbered::signs_by_place))]
-pub fn sign_of(bytes: &[u8]) -> Option<TokenKind>
+pub(crate) fn sign_of(bytes: &[u8]) -> Option<TokenKind>
     ensures { result ≡ spelled_in signs bytes.now }
 {
     match sign_place(bytes) {
@@ -60,7 +19,7 @@ pub fn sign_of(bytes: &[u8]) -> Option<TokenKind>
 
 /// The reserved word that has these bytes.
 #[tactic(auto, using(crate::proofs::Numbered::words_by_place))]
-pub fn reserved_of(bytes: &[u8]) -> Option<TokenKind>
+pub(crate) fn reserved_of(bytes: &[u8]) -> Option<TokenKind>
     ensures { result ≡ spelled_in reserved_words bytes.now }
 {
     match reserved_place(bytes) {

@@ -2,6 +2,7 @@
 use Rattle.std.proofs.Common.{◌≡◌, ◌≢◌, ℕ, zero, suc, ◌+◌, ◌-◌, ◌≤◌, ◌⊎◌, inl, inr, List, [], ◌∷◌, ◌++◌, map, get_or, Option, Some, refl, sym, ap, subst, ◌∙◌, arith}
 use Rattle.std.specs.List.{flat_map, AllPairs}
 use Rattle.std.proofs.lemmas.List.Kept.{AllPairs-cons}
+use Rattle.std.proofs.lemmas.Option.{same_Some}
 use Rattle.smv_core.specs.Values.{numbers_from}
 use Rattle.smv_core.specs.Assignments.{computed}
 use Rattle.smv_core.specs.declared.flat.Simple.{Simple}
@@ -45,11 +46,8 @@ apart-numbers : (n low : ℕ) → IsApart (numbers_from low n)
 apart-numbers zero low = tt
 apart-numbers (suc n) low = ((λ i. let l = not_below n (low + 1) low i in omega (arith, l)), apart-numbers n (low + 1))
 
-some-one : {X : Type 0} (a b : X) → Some a ≡ Some b → a ≡ b
-some-one a b e = cc
-
 apart-at : (o : Simple) → IsApart (at_index o computed)
-apart-at (Range low high) = subst (λ (l : List (Option ℕ)). IsApart l) (sym (at-Range low high)) (apart-map Some some-one (numbers_from low (high + 1 - low)) (apart-numbers (high + 1 - low) low))
+apart-at (Range low high) = subst (λ (l : List (Option ℕ)). IsApart l) (sym (at-Range low high)) (apart-map Some same_Some (numbers_from low (high + 1 - low)) (apart-numbers (high + 1 - low) low))
 apart-at (Enum list) = ((λ i. i), tt)
 apart-at (Set set) = ((λ i. i), tt)
 

@@ -4,6 +4,8 @@ use Rattle.std.specs.List.{flat_map}
 use Rattle.std.proofs.lemmas.List.{append-nil, append_assoc, map-append, length-append}
 use Rattle.std.proofs.lemmas.List.{get_or_read}
 use Rattle.std.proofs.Math.Seq.{take-append-add}
+use Rattle.law_lists.proofs.Booleans.{clash}
+use Rattle.law_lists.proofs.Places.{take_read}
 use Rattle.smv_core.specs.declared.flat.Family.{Family}
 use Rattle.smv_core.specs.declared.flat.Design.{Design}
 use Rattle.law_designs.specs.Reading.{Reading}
@@ -20,9 +22,7 @@ use Rattle.smv_loops.specs.Numbers.{AreBases}
 use Rattle.smv_loops.specs.Rows.{stands_for}
 use Rattle.smv_loops.specs.Edges.{total, AreRowLinks, AreLinks, AllLinks, AreAdded, AreShown, edges_at, IsFirst}
 use Rattle.smv_loops.proofs.Members.{In}
-use Rattle.smv_loops.proofs.Slices.{take-more}
 use Rattle.smv_loops.proofs.TableLaws.{table_from, length-table, get-from, get-to}
-use Rattle.smv_loops.proofs.RankLaws.{clash}
 use Rattle.smv_loops.proofs.CycleLaws.{AreFallingAll, none-held, one-held, edge-falls, fewer-edges}
 use Rattle.smv_loops.proofs.RowLaws.{stands-alone}
 use Rattle.smv_loops.proofs.GroupLaws.{falling, open-cell, stuck-cell}
@@ -97,7 +97,7 @@ module _ (families : List Family) where
     added-more f held i x old new after link l e h a s = record {
       own = h.own ++ link ∷ [];
       split = s ∙ ap (λ l. l ++ link ∷ []) h.split ∙ append_assoc old h.own (link ∷ []);
-      links = rw (ap (map f) (take-more held i x l e) ∙ map-append f (take i held) (x ∷ [])) (links-push h.own (map f (take i held)) link (f x) h.links a);
+      links = rw (ap (map f) (take_read held i x l e) ∙ map-append f (take i held) (x ∷ [])) (links-push h.own (map f (take i held)) link (f x) h.links a);
     }
 
   -- ---- links of rows and of assignments

@@ -1,14 +1,16 @@
 -- Ranks of numbered cells say whether edges hold a cycle.
-use Rattle.std.proofs.Common.{◌≡◌, ℕ, zero, suc, ◌<◌, inl, inr, List, [], ◌∷◌, ◌++◌, map, filter, length, slice_get, Option, Some, None, Bool, true, false, ◌&&◌, nat_eq, refl, sym, ap, ◌∙◌, arith}
+use Rattle.std.proofs.Common.{◌≡◌, ℕ, ◌<◌, inl, inr, List, [], ◌∷◌, ◌++◌, map, filter, length, slice_get, Some, Bool, true, false, ◌&&◌, nat_eq, refl, sym, ap, ◌∙◌, arith}
 use Rattle.std.specs.List.{flat_map}
+use Rattle.std.proofs.lemmas.Option.{slice_get_within}
+use Rattle.law_lists.proofs.Booleans.{and_both}
+use Rattle.law_lists.proofs.Options.{some_is}
 use Rattle.smv_core.specs.declared.flat.Cell.{Cell}
 use Rattle.smv_core.specs.declared.flat.Family.{Family}
-use Rattle.law_designs.specs.WholeText.{is_one_layer}
 use Rattle.law_designs.specs.Reading.{Reading}
-use Rattle.law_designs.specs.Loops.{Edge, same_indexes, same_cell, leads_on, hold_a_cycle}
+use Rattle.law_designs.specs.Loops.{Edge, same_cell, leads_on, hold_a_cycle}
 use Rattle.law_designs.specs.LoopLaws.{AreFalling}
 use Rattle.law_designs.proofs.Cycles.{none_is_missed}
-use Rattle.law_designs.proofs.Orders.{order}
+use Rattle.law_designs.proofs.Orders.{order, indexes_themselves}
 use Rattle.law_designs.proofs.Descents.{no_cycle}
 use Rattle.smv_loops.specs.Ranks.{rank}
 use Rattle.smv_loops.specs.Cells.{number_in, froms, tos}
@@ -35,9 +37,6 @@ fewer-edges xs ys h = let r = order (xs ++ ys) h in no_cycle xs r.0 (falling-fro
 
 -- ---- cells that are the same
 
-both : {a b : Bool} → a ≡ true → b ≡ true → (a && b) ≡ true
-both p q = cc
-
 right_of : (a : Bool) {b : Bool} → (a && b) ≡ true → b ≡ true
 right_of true e = e
 right_of false e = absurd (cc)
@@ -48,24 +47,8 @@ zero-is n e = grind arith
 itself : (n : ℕ) → nat_eq n n ≡ true
 itself n = search arith
 
-one_itself : (i : Option ℕ) → is_one_layer i i ≡ true
-one_itself None = refl
-one_itself (Some k) = itself k
-
-indexes_themselves : (is : List (Option ℕ)) → same_indexes is is ≡ true
-indexes_themselves [] = refl
-indexes_themselves (i ∷ is) = both (one_itself i) (indexes_themselves is)
-
 cell_itself : (c : Cell) → same_cell c c ≡ true
-cell_itself c = both (itself c.family) (indexes_themselves c.indexes)
-
-some-is : {X : Type 0} {x y : X} → Some x ≡ Some y → x ≡ y
-some-is e = cc
-
-inside : {X : Type 0} (xs : List X) (k : ℕ) (x : X) → slice_get xs k ≡ Some x → k < length xs
-inside [] k x e = absurd (cc)
-inside (y ∷ ys) zero x e = omega arith
-inside (y ∷ ys) (suc k) x e = let l = inside ys k x e in omega (arith, l)
+cell_itself c = and_both (itself c.family) (indexes_themselves c.indexes)
 
 -- ---- the edges of assignments
 
@@ -140,9 +123,9 @@ module _ (families : List Family) where
       goes_on e i h =
           let r = in-flat_mapped (edges_at families) e readings i in
           let t : slice_get table (num e.1) ≡ Some e.1 = at-to r.0 e.1 (edge-of r.0 e r.2).1 in
-          let l = inside table (num e.1) e.1 t in
+          let l = slice_get_within table (num e.1) e.1 t in
           let s = step (num e.1) (omega (arith, l, long)) (chosen-to e h) in
-          let same : e.1 ≡ s.0.0 = some-is (sym t ∙ ap (slice_get table) (sym s.2) ∙ s.4) in
+          let same : e.1 ≡ s.0.0 = some_is (sym t ∙ ap (slice_get table) (sym s.2) ∙ s.4) in
           any-of (λ (other : Edge). same_cell e.1 other.0) s.0 (filter chosen all_edges) (in-filter chosen s.0 all_edges s.1 (is_chosen s.0 (ap (rank ranks) s.2 ∙ chosen-to e h) s.3)) (ap (same_cell e.1) (sym same) ∙ cell_itself e.1)
 
       -- where some cell has no rank there is a cycle

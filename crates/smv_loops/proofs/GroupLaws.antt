@@ -1,6 +1,7 @@
 -- Ranks of cells and of rows say what ranks of cells alone would say.
 use Rattle.std.proofs.Common.{◌≡◌, ℕ, zero, suc, ◌+◌, ◌-◌, ◌<◌, ◌≤◌, ◌⊎◌, inl, inr, List, [], ◌∷◌, ◌++◌, map, length, get_or, refl, sym, ap, ◌∙◌, arith}
 use Rattle.std.specs.List.{flat_map, All}
+use Rattle.std.proofs.lemmas.Bool.{cases_lt}
 use Rattle.smv_core.specs.declared.flat.Family.{Family}
 use Rattle.law_designs.specs.Reading.{Reading}
 use Rattle.smv_loops.specs.declared.ranks.Links.{Links}
@@ -15,13 +16,6 @@ zero_or : (k : ℕ) → (k ≡ 0) ⊎ (0 < k)
 zero_or zero = inl refl
 zero_or (suc k) = inr (omega arith)
 
-below_or : (n m : ℕ) → (n < m) ⊎ (m ≤ n)
-below_or n m = at (zero_or (m - n))
-  where
-    at : (m - n ≡ 0) ⊎ (0 < m - n) → (n < m) ⊎ (m ≤ n)
-    at (inl e) = inr (omega (arith, e))
-    at (inr l) = inl (omega (arith, l))
-
 module _ (stands : ℕ → List ℕ) where
   same_row : {n m : ℕ} (link : Links) → n ≡ m → IsRowLink stands n link → IsRowLink stands m link
   same_row link e h = rw e at h
@@ -29,7 +23,7 @@ module _ (stands : ℕ → List ℕ) where
   -- the links of the row of a number
   row-at : (n : ℕ) (links : List Links) → AreRowLinks stands n links → (m : ℕ) → n ≤ m → m < n + length links → (link : Links) × In link links × IsRowLink stands m link
   row-at n [] h m l k = absurd (omega (arith, l, k))
-  row-at n (link ∷ links) h m l k = at (row-at (n + 1) links h.1 m) (below_or n m)
+  row-at n (link ∷ links) h m l k = at (row-at (n + 1) links h.1 m) (cases_lt n m)
     where
       at : (n + 1 ≤ m → m < n + 1 + length links → (found : Links) × In found links × IsRowLink stands m found) → (n < m) ⊎ (m ≤ n) → (found : Links) × In found (link ∷ links) × IsRowLink stands m found
       at rest (inl g) = let r = rest (omega (arith, g)) (omega (arith, k)) in (r.0, inr r.1, r.2)
@@ -158,7 +152,7 @@ module _ (families : List Family) where
       -- what a number stands for has no greater rank
       falls-down : All (Falls ranks) links → ((n : ℕ) → n < total families + rows → 0 < rank ranks n) → (fuel n d : ℕ) → n < fuel → n < total families + rows → In d (s.stands n) → rank ranks d ≤ rank ranks n
       falls-down falls all zero n d l k i = absurd (omega (arith, l))
-      falls-down falls all (suc fuel) n d l k i = at (falls-down falls all fuel) (below_or n (total families))
+      falls-down falls all (suc fuel) n d l k i = at (falls-down falls all fuel) (cases_lt n (total families))
         where
           at : ((m d : ℕ) → m < fuel → m < total families + rows → In d (s.stands m) → rank ranks d ≤ rank ranks m) → (n < total families) ⊎ (total families ≤ n) → rank ranks d ≤ rank ranks n
           at rest (inl g) =
@@ -187,7 +181,7 @@ module _ (families : List Family) where
         -- a number without a rank stands for a cell without one
         pub open-cell : (fuel n : ℕ) → n < fuel → n < total families + rows → rank ranks n ≡ 0 → (d : ℕ) × (d < total families) × In d (s.stands n) × (rank ranks d ≡ 0)
         open-cell zero n l k z = absurd (omega (arith, l))
-        open-cell (suc fuel) n l k z = at (open-cell fuel) (below_or n (total families))
+        open-cell (suc fuel) n l k z = at (open-cell fuel) (cases_lt n (total families))
           where
             held : ((m : ℕ) → m < fuel → m < total families + rows → rank ranks m ≡ 0 → (d : ℕ) × (d < total families) × In d (s.stands m) × (rank ranks d ≡ 0)) → total families ≤ n → IsHeldUp ranks links n → (d : ℕ) × (d < total families) × In d (s.stands n) × (rank ranks d ≡ 0)
             held rest g h = by (either h.0 (in-contains links h.0 h.1))

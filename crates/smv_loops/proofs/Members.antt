@@ -2,9 +2,6 @@
 use Rattle.std.proofs.Common.{◌≡◌, ℕ, zero, suc, ◌<◌, ◌⊎◌, inl, inr, List, [], ◌∷◌, ◌++◌, map, filter, length, get_or, Bool, true, false, ◌||◌, cond, refl, sym, ap, ◌∙◌, arith}
 use Rattle.std.specs.List.{flat_map, list_any, Contains}
 
-clash : {b : Bool} → b ≡ true → b ≡ false → ⊥
-clash p q = cc
-
 module _ {X : Type 0} where
   abbrev pub In : X → List X → Type 0
   In x [] = ⊥

@@ -3,6 +3,8 @@ use Rattle.std.proofs.Common.{◌≡◌, ℕ, zero, suc, ◌+◌, ◌-◌, ◌*�
 use Rattle.std.specs.List.{flat_map}
 use Rattle.std.proofs.lemmas.List.{map-append, append-nil, append_assoc, length-append}
 use Rattle.std.proofs.lemmas.List.Concat.{flat_map-append}
+use Rattle.law_lists.proofs.Lists.{map_agree}
+use Rattle.law_lists.proofs.Numbers.{nat_eq-is, nat_eq-above, nat_eq-below}
 use Rattle.smv_core.specs.Values.{number, numbers_from}
 use Rattle.smv_core.specs.Assignments.{Index, computed, fits, fixed}
 use Rattle.smv_core.specs.declared.flat.Simple.{Simple}
@@ -52,10 +54,6 @@ map-map : {X Y Z : Type 0} (f : X → Y) (g : Y → Z) (xs : List X) → map g (
 map-map f g [] = refl
 map-map f g (x ∷ xs) = ap (λ l. g (f x) ∷ l) (map-map f g xs)
 
-pub map-same : {X Y : Type 0} (f g : X → Y) → ((x : X) → f x ≡ g x) → (xs : List X) → map f xs ≡ map g xs
-map-same f g e [] = refl
-map-same f g e (x ∷ xs) = let h = e x in let t = map-same f g e xs in cc
-
 module _ (low high : ℕ) (i : Index) (over : List Simple) (more : List Index) (start : ℕ) where
   abbrev at_place : List (Option ℕ) → ℕ
   at_place js = start + place (Range low high ∷ over) js
@@ -88,7 +86,7 @@ module _ (i : Index) (over : List Simple) (more : List Index) (start : ℕ) wher
   picked-single o false d =
       ap (map (none_at o)) (append-nil (map (λ xs. None ∷ xs) (picked over more)))
       ∙ map-map (λ xs. None ∷ xs) (none_at o) (picked over more)
-      ∙ map-same (λ js. none_at o (None ∷ js)) (λ js. start + (1 + place over js)) (λ js. let z = ap (λ t. t * length (every over)) d in omega (arith, z)) (picked over more)
+      ∙ map_agree (λ js. none_at o (None ∷ js)) (λ js. start + (1 + place over js)) (λ js. let z = ap (λ t. t * length (every over)) d in omega (arith, z)) (picked over more)
 
   pub places-Range : (low high : ℕ) → places (Range low high ∷ over) (i ∷ more) start ≡ range_places low high i over more start
   places-Range low high = picked-Range low high i over more start
@@ -105,7 +103,7 @@ module _ (i : Index) (over : List Simple) (more : List Index) (start : ℕ) wher
   pub places-one : (next : ℕ) → is_constant i ≡ false → next ≡ start + (1 + 0 * 0) → single_places i over more start ≡ places over more next
   places-one next e n =
       ap (λ b. cond b [] (map (λ js. start + (1 + place over js)) (picked over more))) e
-      ∙ map-same (λ js. start + (1 + place over js)) (λ js. next + place over js) (λ js. omega (arith, n)) (picked over more)
+      ∙ map_agree (λ js. start + (1 + place over js)) (λ js. next + place over js) (λ js. omega (arith, n)) (picked over more)
 
   pub places-unfit : (digit k : ℕ) → fits i (number k) ≡ false → digit_places digit i over more start k ≡ []
   places-unfit digit k e = ap (λ b. cond b (map (λ js. start + (1 + (digit * length (every over) + place over js))) (picked over more)) []) e
@@ -113,18 +111,9 @@ module _ (i : Index) (over : List Simple) (more : List Index) (start : ℕ) wher
   pub places-fit : (digit k next size : ℕ) → fits i (number k) ≡ true → size ≡ length (every over) → next ≡ start + (1 + digit * size) → digit_places digit i over more start k ≡ places over more next
   places-fit digit k next size e s n =
       ap (λ b. cond b (map (λ js. start + (1 + (digit * length (every over) + place over js))) (picked over more)) []) e
-      ∙ map-same (λ js. start + (1 + (digit * length (every over) + place over js))) (λ js. next + place over js) (λ js. let t = ap (λ s. digit * s) s in omega (arith, n, t)) (picked over more)
+      ∙ map_agree (λ js. start + (1 + (digit * length (every over) + place over js))) (λ js. next + place over js) (λ js. let t = ap (λ s. digit * s) s in omega (arith, n, t)) (picked over more)
 
 -- ---- numbers one after another
-
-equal : (m n : ℕ) → nat_eq m n ≡ true → m ≡ n
-equal m n e = grind arith
-
-apart : (m n : ℕ) → n < m → nat_eq m n ≡ false
-apart m n l = grind arith
-
-behind : (m n : ℕ) → m < n → nat_eq m n ≡ false
-behind m n l = grind arith
 
 above : (m n : ℕ) → nat_eq m n ≡ false → n ≤ m → n < m
 above m n e l = grind arith
@@ -152,7 +141,7 @@ none-of g low (suc n) h = ap (λ l. l ++ flat_map g (numbers_from (low + 1) n)) 
 
 none-below : (g : ℕ → List ℕ) (v low n : ℕ) → ((k : ℕ) → nat_eq v k ≡ false → g k ≡ []) → low + n ≤ v → flat_map g (numbers_from low n) ≡ []
 none-below g v low zero h l = refl
-none-below g v low (suc n) h l = ap (λ l. l ++ flat_map g (numbers_from (low + 1) n)) (h low (apart v low (omega (arith, l)))) ∙ none-below g v (low + 1) n h (omega (arith, l))
+none-below g v low (suc n) h l = ap (λ l. l ++ flat_map g (numbers_from (low + 1) n)) (h low (nat_eq-above v low (omega (arith, l)))) ∙ none-below g v (low + 1) n h (omega (arith, l))
 
 -- one of them alone does
 one-of : (g : ℕ → List ℕ) (v low n : ℕ) → ((k : ℕ) → nat_eq v k ≡ false → g k ≡ []) → low ≤ v → v < low + n → flat_map g (numbers_from low n) ≡ g v
@@ -161,8 +150,8 @@ one-of g v low (suc n) h a b = by (nat_eq v low) refl (one-of g v (low + 1) n h)
   where
     by : (t : Bool) → nat_eq v low ≡ t → (low + 1 ≤ v → v < low + 1 + n → flat_map g (numbers_from (low + 1) n) ≡ g v) → g low ++ flat_map g (numbers_from (low + 1) n) ≡ g v
     by true e rest =
-        let same : v ≡ low = equal v low e in
-        ap (λ l. g low ++ l) (none-of g (low + 1) n (λ k l. h k (behind v k (omega (arith, l, same))))) ∙ append-nil (g low) ∙ ap g (sym same)
+        let same : v ≡ low = nat_eq-is v low e in
+        ap (λ l. g low ++ l) (none-of g (low + 1) n (λ k l. h k (nat_eq-below v k (omega (arith, l, same))))) ∙ append-nil (g low) ∙ ap g (sym same)
     by false e rest =
         let l : low < v = above v low e a in
         ap (λ l. l ++ flat_map g (numbers_from (low + 1) n)) (h low e) ∙ rest (omega (arith, l)) (omega (arith, b))
@@ -176,7 +165,7 @@ module _ (low high value : ℕ) (over : List Simple) (more : List Index) (start 
   fixed-in a b = one-of (places_at low (fixed (Some (number value))) over more start) value low (high + 1 - low) other-number a (omega (arith, a, b))
 
   pub fixed-below : value < low → range_places low high (fixed (Some (number value))) over more start ≡ []
-  fixed-below l = none-of (places_at low (fixed (Some (number value))) over more start) low (high + 1 - low) (λ k m. other-number k (behind value k (omega (arith, l, m))))
+  fixed-below l = none-of (places_at low (fixed (Some (number value))) over more start) low (high + 1 - low) (λ k m. other-number k (nat_eq-below value k (omega (arith, l, m))))
 
   pub fixed-above : low ≤ value → high < value → range_places low high (fixed (Some (number value))) over more start ≡ []
   fixed-above a l = none-below (places_at low (fixed (Some (number value))) over more start) value low (high + 1 - low) other-number (omega (arith, a, l))
@@ -214,7 +203,7 @@ pub number-cells : (families : List Family) (family : ℕ) (f : Family) (is : Li
 number-cells families family f is e =
     ap (λ g. map (number_in families) (cells_of g family is)) e
     ∙ map-map (cell_of family) (number_in families) (picked f.over is)
-    ∙ map-same (λ js. number_in families (cell_of family js)) (λ js. base families family + place f.over js) (λ js. ap (λ g. base families family + place (over_of g) js) e) (picked f.over is)
+    ∙ map_agree (λ js. number_in families (cell_of family js)) (λ js. base families family + place f.over js) (λ js. ap (λ g. base families family + place (over_of g) js) e) (picked f.over is)
   where
     cell_of : ℕ → List (Option ℕ) → Cell
     cell_of family indexes = record { family = family; indexes = indexes }

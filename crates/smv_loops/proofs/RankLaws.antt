@@ -4,11 +4,9 @@ use Rattle.std.specs.List.{All}
 use Rattle.std.proofs.lemmas.List.{get_or_past, length-set, get_or-set_same, get_or-set_other, get_or_read}
 use Rattle.std.proofs.lemmas.List.Sums.{sum_by-set}
 use Rattle.std.proofs.lemmas.Bool.{cases_eq}
+use Rattle.law_lists.proofs.Booleans.{clash}
 use Rattle.smv_loops.specs.declared.ranks.Links.{Links}
 use Rattle.smv_loops.specs.Ranks.{rank, IsOpen, Falls, IsHeldUp, flag, AreHeldUp, raised, Raised, FlaggedBy, AreSettled, unranked}
-
-pub clash : {b : Bool} → b ≡ true → b ≡ false → ⊥
-clash p q = cc
 
 is_none : (r : ℕ) → 0 < r → nat_eq r 0 ≡ false
 is_none zero l = absurd (omega (arith, l))

@@ -1,11 +1,11 @@
 -- What numbers stand for, and rows whose indexes may be the same numbers.
-use Rattle.std.proofs.Common.{◌≡◌, ℕ, zero, suc, ◌+◌, ◌-◌, ◌<◌, ◌≤◌, inl, inr, List, [], ◌∷◌, ◌++◌, map, length, get_or, take, drop, slice_get, Option, Some, None, Result, Ok, Err, true, false, cond, nat_lt, refl, sym, ap, ◌∙◌, arith}
+use Rattle.std.proofs.Common.{◌≡◌, ℕ, zero, suc, ◌+◌, ◌-◌, ◌<◌, ◌≤◌, inl, inr, List, [], ◌∷◌, ◌++◌, map, length, get_or, take, drop, slice_get, Option, Some, None, Result, Ok, Err, false, cond, refl, sym, ap, ◌∙◌, arith}
 use Rattle.std.specs.List.{flat_map, All}
 use Rattle.std.specs.Result.{OnOk}
 use Rattle.std.proofs.lemmas.List.{append-nil}
 use Rattle.std.proofs.lemmas.List.Concat.{flat_map-append}
-use Rattle.std.proofs.lemmas.Bool.Decides.{nat_tests}
 use Rattle.std.proofs.lemmas.List.Elements.{All-nil, All-cons, All-append}
+use Rattle.law_lists.proofs.Numbers.{nat_lt-true, nat_lt-false}
 use Rattle.smv_core.specs.Assignments.{Index, fixed, bare, computed}
 use Rattle.smv_core.specs.declared.flat.Simple.{Simple}
 use Rattle.smv_core.specs.declared.flat.Simple.TheVariants.{Range, Enum, Set}
@@ -64,12 +64,6 @@ cells-alike (Some f) family is js h = ap (map (cell_of family)) (h f.over)
 
 -- ---- what numbers stand for
 
-lt-is : (a b : ℕ) → a < b → nat_lt a b ≡ true
-lt-is a b l = grind (arith, nat_tests)
-
-lt-not : (a b : ℕ) → b ≤ a → nat_lt a b ≡ false
-lt-not a b l = grind (arith, nat_tests)
-
 module _ (families : List Family) where
   pub cells-below : (family : ℕ) (is : List Index) (c : Cell) → In c (cells_of (slice_get families family) family is) → number_in families c < total families
   cells-below family is c i =
@@ -90,12 +84,12 @@ module _ (families : List Family) where
     stands = stands_for families rows
 
     pub stands-alone : (n : ℕ) → n < total families → stands n ≡ n ∷ []
-    stands-alone n l = ap (λ b. cond b (n ∷ []) (row_at rows (n - total families))) (lt-is n (total families) l)
+    stands-alone n l = ap (λ b. cond b (n ∷ []) (row_at rows (n - total families))) (nat_lt-true n (total families) l)
 
     pub stands-row : (place : ℕ) → stands (total families + place) ≡ row_at rows place
     stands-row place =
         let e : total families + place - total families ≡ place = omega arith in
-        ap (λ b. cond b ((total families + place) ∷ []) (row_at rows (total families + place - total families))) (lt-not (total families + place) (total families) (omega arith))
+        ap (λ b. cond b ((total families + place) ∷ []) (row_at rows (total families + place - total families))) (nat_lt-false (total families + place) (total families) (omega arith))
         ∙ ap (row_at rows) e
 
     pub numbers-alone : (ns : List ℕ) → All (λ t. t < total families) ns → flat_map stands ns ≡ ns

@@ -1,5 +1,5 @@
 -- Parts of lists.
-use Rattle.std.proofs.Common.{◌≡◌, ℕ, zero, suc, ◌+◌, ◌-◌, ◌<◌, ◌≤◌, List, [], ◌∷◌, ◌++◌, length, get_or, take, drop, sym, ap, ◌∙◌, arith}
+use Rattle.std.proofs.Common.{◌≡◌, ℕ, suc, ◌+◌, ◌-◌, ◌≤◌, List, [], ◌∷◌, ◌++◌, length, get_or, take, drop, sym, ap, ◌∙◌, arith}
 use Rattle.std.proofs.lemmas.Grind.{common_steps}
 
 pub put_back : {X : Type 0} (len : ℕ) (new items : List X) → length new ≡ length items → len ≡ length items → take len (new ++ drop (length new) items) ≡ new
@@ -12,11 +12,3 @@ split (x ∷ xs) d l = let n : suc (length xs) - 1 ≡ length xs = omega arith i
   where
     take-all : {X : Type 0} (xs : List X) → take (length xs) xs ≡ xs
     take-all xs = grind (arith, common_steps)
-
--- one more at the end of a part
-pub take-more : {X : Type 0} (xs : List X) (i : ℕ) (x : X) → i < length xs → x ≡ get_or xs i x → take (i + 1) xs ≡ take i xs ++ x ∷ []
-take-more [] i x l e = absurd (omega (arith, l))
-take-more (y ∷ ys) zero x l e = ap (λ z. z ∷ []) (sym e)
-take-more (y ∷ ys) (suc i) x l e =
-    let n : suc i + 1 ≡ suc (i + 1) = omega arith in
-    ap (λ n. take n (y ∷ ys)) n ∙ ap (λ l. y ∷ l) (take-more ys i x (omega (arith, l)) e)

@@ -5,24 +5,13 @@ use Rattle.std.specs.Ordering.{is_lt, nat_cmp}
 use Rattle.std.proofs.lemmas.List.{append-nil, map-append, reverse-append}
 use Rattle.std.proofs.lemmas.List.Elements.{filter-append, filter_agree}
 use Rattle.std.proofs.lemmas.Bool.{cases_eq}
+use Rattle.law_lists.proofs.Numbers.{nat_eq-is, nat_lt-is, nat_lt-not, nat_eq-apart}
 use Rattle.law_designs.specs.Reading.{Reading}
 use Rattle.law_designs.specs.Loops.{put, in_order}
 use Rattle.smv_loops.proofs.Members.{In, in-filter, in-filtered, in-mapped, in-same, place-in}
 
 same : (n : ℕ) → nat_eq n n ≡ true
 same n = search arith
-
-eq-of : (m n : ℕ) → nat_eq m n ≡ true → m ≡ n
-eq-of m n e = grind arith
-
-lt-of : (m n : ℕ) → nat_lt m n ≡ true → m < n
-lt-of m n e = grind arith
-
-not-lt-of : (m n : ℕ) → nat_lt m n ≡ false → n ≤ m
-not-lt-of m n e = grind arith
-
-not-eq : (m n : ℕ) → m ≢ n → nat_eq m n ≡ false
-not-eq m n e = grind arith
 
 module _ {X : Type 0} (key : X → ℕ) where
   abbrev at : ℕ → X → Bool
@@ -106,12 +95,12 @@ put-up a (c ∷ xs) u = by (nat_lt a.place c.place) refl (put-up a xs u.1)
     by true e more = ((λ y i. above y i), u)
       where
         above : (y : Reading) → In y (c ∷ xs) → a.place ≤ y.place
-        above y (inl s) = let l = lt-of a.place c.place e in let t = ap place s in omega (arith, l, t)
-        above y (inr i) = let l = lt-of a.place c.place e in let m = u.0 y i in omega (arith, l, m)
+        above y (inl s) = let l = nat_lt-is a.place c.place e in let t = ap place s in omega (arith, l, t)
+        above y (inr i) = let l = nat_lt-is a.place c.place e in let m = u.0 y i in omega (arith, l, m)
     by false e more = ((λ y i. from y (in-put a y xs i)), more)
       where
         from : (y : Reading) → (a ≡ y) ⊎ In y xs → c.place ≤ y.place
-        from y (inl s) = let l = not-lt-of a.place c.place e in let t = ap place s in omega (arith, l, t)
+        from y (inl s) = let l = nat_lt-not a.place c.place e in let t = ap place s in omega (arith, l, t)
         from y (inr i) = u.0 y i
 
 none-at : (k : ℕ) (xs : List Reading) → ((y : Reading) → In y xs → k < y.place) → filter (at_place k) xs ≡ []
@@ -119,7 +108,7 @@ none-at k [] h = refl
 none-at k (x ∷ xs) h =
     let l = h x (inl refl) in
     let n : k ≢ x.place = omega (arith, l) in
-    ap (λ b. cond b (x ∷ filter (at_place k) xs) (filter (at_place k) xs)) (not-eq k x.place n) ∙ none-at k xs (λ y i. h y (inr i))
+    ap (λ b. cond b (x ∷ filter (at_place k) xs) (filter (at_place k) xs)) (nat_eq-apart k x.place n) ∙ none-at k xs (λ y i. h y (inr i))
 
 filter-put : (k : ℕ) (a : Reading) (xs : List Reading) → IsUp place xs → filter (at_place k) (put a xs) ≡ filter (at_place k) xs ++ filter (at_place k) (a ∷ [])
 filter-put k a [] u = refl
@@ -137,10 +126,10 @@ filter-put k a (c ∷ xs) u = by (nat_lt a.place c.place) refl (filter-put k a x
             ∙ sym (ap (λ l. l ++ filter (at_place k) (a ∷ [])) none ∙ ap (λ b. cond b (a ∷ []) []) h)
           where
             above : (y : Reading) → In y (c ∷ xs) → k < y.place
-            above y (inl q) = let l = lt-of a.place c.place e in let t = ap place q in omega (arith, l, t, s)
-            above y (inr i) = let l = lt-of a.place c.place e in let m = u.0 y i in omega (arith, l, m, s)
+            above y (inl q) = let l = nat_lt-is a.place c.place e in let t = ap place q in omega (arith, l, t, s)
+            above y (inr i) = let l = nat_lt-is a.place c.place e in let m = u.0 y i in omega (arith, l, m, s)
         on (inr n) =
-            let h = not-eq k a.place n in
+            let h = nat_eq-apart k a.place n in
             ap (λ b. cond b (a ∷ filter (at_place k) (c ∷ xs)) (filter (at_place k) (c ∷ xs))) h
             ∙ sym (ap (λ l. filter (at_place k) (c ∷ xs) ++ l) (ap (λ b. cond b (a ∷ []) []) h) ∙ append-nil (filter (at_place k) (c ∷ xs)))
     by false e more = on (nat_eq k c.place)
@@ -183,7 +172,7 @@ module _ {H : Type 0} (f : H → Reading) where
   each-place ys zs e k = by (filter (λ y. at_place k (f y)) ys) (filter (λ y. at_place k (f y)) zs) refl refl
     where
       on : (x : H) → at_place k (f x) ≡ true → filter (λ y. at_place k (f y)) ys ≡ filter (λ y. at_place k (f y)) zs
-      on x h = let s = eq-of k (f x).place h in ap (λ k. filter (λ y. at_place k (f y)) ys) s ∙ e x ∙ ap (λ k. filter (λ y. at_place k (f y)) zs) (sym s)
+      on x h = let s = nat_eq-is k (f x).place h in ap (λ k. filter (λ y. at_place k (f y)) ys) s ∙ e x ∙ ap (λ k. filter (λ y. at_place k (f y)) zs) (sym s)
 
       by : (l m : List H) → filter (λ y. at_place k (f y)) ys ≡ l → filter (λ y. at_place k (f y)) zs ≡ m → filter (λ y. at_place k (f y)) ys ≡ filter (λ y. at_place k (f y)) zs
       by [] [] p q = p ∙ sym q

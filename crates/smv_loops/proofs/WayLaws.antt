@@ -2,6 +2,7 @@
 use Rattle.std.proofs.Common.{◌≡◌, ℕ, zero, suc, ◌+◌, ◌-◌, ◌<◌, ◌≤◌, List, [], ◌∷◌, ◌++◌, map, length, get_or, slice_get, take, Option, Some, refl, sym, ap, ◌∙◌, arith}
 use Rattle.std.specs.Global.{Vec}
 use Rattle.std.proofs.lemmas.List.{map-append, append-nil, append_assoc, take_all}
+use Rattle.law_lists.proofs.Places.{take_read}
 use Rattle.smv_core.specs.Values.{numbers_from}
 use Rattle.smv_core.specs.Assignments.{computed}
 use Rattle.smv_core.specs.declared.flat.Simple.{Simple}
@@ -11,7 +12,6 @@ use Rattle.smv_core.specs.declared.flat.Cell.{Cell}
 use Rattle.law_designs.specs.Loops.{at_index}
 use Rattle.smv_loops.specs.declared.listed.Listed.{Listed}
 use Rattle.smv_loops.specs.Order.{every_way, cells_in, cells_from, lists_of}
-use Rattle.smv_loops.proofs.Slices.{take-more}
 use Rattle.smv_loops.proofs.TableLaws.{all-fit}
 use Rattle.smv_loops.proofs.NumberLaws.{numbers-more}
 
@@ -40,7 +40,7 @@ module _ (h : Cell → Listed) (k : ℕ) where
       is ∙ ap (λ o. o ++ cell ∷ []) so_far ∙ append_assoc start (map h (map (cell_at k) (lists_of (take i items)))) (cell ∷ [])
       ∙ ap (λ l. start ++ l) (
       ap (λ c. map h (map (cell_at k) (lists_of (take i items))) ++ c ∷ []) here ∙ sym (family-more (lists_of (take i items)) list.items)
-      ∙ ap (λ l. map h (map (cell_at k) l)) (sym (map-append (λ (list : Vec (Option ℕ)). list.items) (take i items) (list ∷ [])) ∙ ap lists_of (sym (take-more items i list l e)))
+      ∙ ap (λ l. map h (map (cell_at k) l)) (sym (map-append (λ (list : Vec (Option ℕ)). list.items) (take i items) (list ∷ [])) ∙ ap lists_of (sym (take_read items i list l e)))
       )
 
   -- the cells of a family
@@ -69,7 +69,7 @@ pub all-more : (h : Cell → Listed) (families : List Family) (i : ℕ) (f : Fam
 all-more h families i f out new l e so_far is =
     let n : i ≡ 0 + length (take i families) = let t = length-take families i (omega (arith, l)) in omega (arith, t) in
     is ∙ ap (λ o. o ++ map h (cells_in i f)) so_far ∙ sym (map-append h (cells_from 0 (take i families)) (cells_in i f))
-    ∙ ap (map h) (ap (λ n. cells_from 0 (take i families) ++ cells_in n f) n ∙ sym (from-more 0 (take i families) f) ∙ ap (cells_from 0) (sym (take-more families i f l e)))
+    ∙ ap (map h) (ap (λ n. cells_from 0 (take i families) ++ cells_in n f) n ∙ sym (from-more 0 (take i families) f) ∙ ap (cells_from 0) (sym (take_read families i f l e)))
 
 pub some-at : {X : Type 0} (xs : List X) (i : ℕ) → i < length xs → (x : X) × (slice_get xs i ≡ Some x) × (x ≡ get_or xs i x)
 some-at [] i l = absurd (omega (arith, l))

@@ -118,7 +118,7 @@ pub fn cells_at(
 
 /// What is known of each index.
 #[tactic(auto, unfolding(crate::specs::Held::index_in))]
-pub fn all_known(alloc: Global, indexes: &[FlatExpr]) -> Result<Vec<Index>, AllocError>
+pub(crate) fn all_known(alloc: Global, indexes: &[FlatExpr]) -> Result<Vec<Index>, AllocError>
     ensures { IfOk result (λ known. map index_of known.items ≡ map index_in indexes.now) }
 {
     let mut all = Vec::new(alloc);

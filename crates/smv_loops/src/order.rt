@@ -7,7 +7,7 @@ use crate::reading::Held;
 use std::alloc::AllocError;
 
 /// These assignments in flat order.
-pub fn in_flat_order<'a>(held: Vec<Held<'a>>) -> Result<Vec<Held<'a>>, AllocError>
+pub(crate) fn in_flat_order<'a>(held: Vec<Held<'a>>) -> Result<Vec<Held<'a>>, AllocError>
     ensures { IfOk result (λ sorted. map reading_of sorted.items ≡ in_order (map reading_of held.entry.items)) }
 {
     let mut sorted = held;

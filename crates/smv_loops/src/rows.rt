@@ -33,7 +33,7 @@ pub struct Rows {
 }
 
 /// The rows that these assignments read, where their indexes are not all constants. Nothing rests on which there are.
-pub fn rows_read(
+pub(crate) fn rows_read(
     alloc: Global,
     families: &[Family],
     bases: &[usize],
@@ -281,7 +281,7 @@ fn find(
 }
 
 /// The links of rows, of which the first has this number.
-pub fn row_links(
+pub(crate) fn row_links(
     alloc: Global,
     families: &[Family],
     cells: usize,

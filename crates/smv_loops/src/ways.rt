@@ -10,7 +10,7 @@ use smv_core::flat::Simple;
 use std::alloc::{AllocError, Global};
 
 /// Each list of what a cell may have at indexes of these types.
-pub fn every_way(alloc: Global, over: &[Simple]) -> Result<Vec<Vec<Option<u8>>>, AllocError>
+pub(crate) fn every_way(alloc: Global, over: &[Simple]) -> Result<Vec<Vec<Option<u8>>>, AllocError>
     ensures { IfOk result (λ lists. lists_of lists.items ≡ spec.every_way over.now) }
 {
     match over {

@@ -120,7 +120,7 @@ pub fn inside<'a>(
 }
 
 // Where a variable of this name is bound first, among these variables.
-pub fn bound_at(vars: &[&Word], name: &Name) -> Option<u32>
+pub(crate) fn bound_at(vars: &[&Word], name: &Name) -> Option<u32>
     ensures { result ≡ spec.bound_at (words_at vars.now) name.now }
 {
     match vars {
@@ -160,7 +160,7 @@ pub fn binder<'a>(
 
 // A variable that is bound over the values of a type inside these.
 #[tactic(auto, using(crate::proofs::Notes::noting))]
-pub fn binder_over<'a>(
+pub(crate) fn binder_over<'a>(
     out: &mut Vec<Mention<'a>>,
     vars: &[&'a Word],
     var: &'a Word,

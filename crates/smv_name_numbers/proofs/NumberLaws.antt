@@ -4,8 +4,9 @@ use Rattle.std.specs.Prelude.{unwrap_or}
 use Rattle.std.specs.Result.{IfOk}
 use Rattle.std.specs.Str.{bytes_eq}
 use Rattle.std.proofs.lemmas.Slice.Eq.{bytes_eq-Decides}
+use Rattle.law_lists.proofs.Booleans.{same_tests}
+use Rattle.law_lists.proofs.Lists.{map_agree}
 use Rattle.smv_core.specs.Values.{Name}
-use Rattle.law_obligations.proofs.Tests.{same_tests}
 use Rattle.law_obligations.specs.Outlines.{place_of}
 use Rattle.name_index.specs.Position.{position}
 use Rattle.smv_core.specs.declared.flat.SetInfo.{SetInfo}
@@ -22,13 +23,9 @@ place-is [] name = refl
 place-is (x ∷ names) name =
     ap (λ (b : Bool). if b then Some 0 else option_map suc (position names name)) (turned x name) ∙ ap (λ (o : Option ℕ). if bytes_eq name x then Some 0 else option_map suc o) (place-is names name)
 
-same-map : {X Y : Type 0} (f g : X → Y) → ((x : X) → f x ≡ g x) → (xs : List X) → map f xs ≡ map g xs
-same-map f g same [] = refl
-same-map f g same (x ∷ xs) = ap (λ y. y ∷ map f xs) (same x) ∙ ap (λ ys. g x ∷ ys) (same-map f g same xs)
-
 numbers-are : (enums : List (List Name)) (all : List Name) (numbers : List (List ℕ)) → all ≡ [] ∷ flat_map (λ names. names) enums → numbers ≡ map (map (place_among all)) enums → numbers ≡ map (map (name_number enums)) enums
 numbers-are enums all numbers whole is =
-    is ∙ same-map (map (place_among all)) (map (name_number enums)) (same-map (place_among all) (name_number enums)
+    is ∙ map_agree (map (place_among all)) (map (name_number enums)) (map_agree (place_among all) (name_number enums)
     (λ name. ap (λ (names : List Name). unwrap_or (position names name) 0) whole ∙ ap (λ (o : Option ℕ). unwrap_or o 0) (place-is ([] ∷ flat_map (λ names. names) enums) name))) enums
 
 -- after the calls that make the index
@@ -45,7 +42,7 @@ nothing-behind (name ∷ names) = ap (λ l. name ∷ l) (nothing-behind names)
 set-numbers-are : (sets : List SetInfo) (all : List Name) (numbers : List ℕ) → all ≡ [] ∷ map (λ (info : SetInfo). info.name) sets → numbers ≡ map (λ (info : SetInfo). place_among all info.name) sets → numbers ≡ set_numbers_of sets
 set-numbers-are sets all numbers whole is =
     let names = map (λ (info : SetInfo). info.name) sets in
-    is ∙ same-map (λ (info : SetInfo). place_among all info.name) (λ (info : SetInfo). name_number (names ∷ []) info.name) (λ info.
+    is ∙ map_agree (λ (info : SetInfo). place_among all info.name) (λ (info : SetInfo). name_number (names ∷ []) info.name) (λ info.
     ap (λ (l : List Name). unwrap_or (position l info.name) 0) (whole ∙ ap (λ (l : List Name). [] ∷ l) (sym (nothing-behind names))) ∙ ap (λ (o : Option ℕ). unwrap_or o 0) (place-is ([] ∷ (names ++ [])) info.name)) sets
 
 -- and for set types

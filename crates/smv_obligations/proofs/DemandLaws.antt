@@ -2,6 +2,10 @@
 use Rattle.std.proofs.Common.{◌≡◌, ℕ, zero, suc, List, [], ◌∷◌, ◌++◌, map, take, length, slice_get, Option, Some, None, Bool, true, false, ◌&&◌, if◌then◌else◌, refl, sym, ap, subst, ◌∙◌, arith}
 use Rattle.std.specs.Prelude.{option_to_list}
 use Rattle.std.specs.List.{flat_map, zip}
+use Rattle.std.proofs.lemmas.List.{map-append}
+use Rattle.std.proofs.lemmas.List.Folds.{flat_map-map}
+use Rattle.law_lists.proofs.Lists.{length_map, map-flat_map, map-map, map-take, map-if}
+use Rattle.law_lists.proofs.Booleans.{same_tests}
 use Rattle.smv_core.specs.FlatMeaning.{Numbered}
 use Rattle.smv_core.specs.declared.flat.Simple.{Simple}
 use Rattle.smv_core.specs.declared.flat.Class.{Class}
@@ -24,8 +28,6 @@ use Rattle.law_obligations.specs.Obligations.{Demanded, defined, holds}
 use Rattle.law_obligations.specs.Soundness as sound
 use Rattle.law_obligations.specs.Soundness.{FlatUnit, map_of, claim_of, over_of, said_at}
 use Rattle.law_obligations.proofs.Members.{Has-left, Has-map, Has-from_map}
-use Rattle.law_obligations.proofs.OneOfEach.{map_joined, map_long}
-use Rattle.law_obligations.proofs.Tests.{same_tests}
 use Rattle.law_obligations.specs.Outlines.{Entry, entries_of, names_of, unit_in, map_in, assumed, chosen}
 use Rattle.law_obligations.specs.Units.{units_of}
 use Rattle.law_obligations.specs.Cones.{AbsElement, element, same_element}
@@ -33,6 +35,8 @@ use Rattle.law_obligations.specs.Problems.{is_at, family_time, leaf_treatments, 
 use Rattle.law_obligations.specs.Checked.{IsSplit}
 use Rattle.law_obligations.proofs.ConeFacts.{same_element-itself}
 use Rattle.law_obligations.proofs.OutlineFacts.{assumed-comes}
+use Rattle.law_obligations.proofs.LeastCones.{same_element-is}
+use Rattle.law_obligations.proofs.CoverParams.{map-same}
 use Rattle.law_problems.specs.Parts.{outlined}
 use Rattle.smv_problem.specs.Written.{written_class, written_spot, written_element, written_demand}
 use Rattle.smv_problem.specs.declared.problem.Demand.{Demand}
@@ -41,16 +45,14 @@ use Rattle.smv_elements.specs.Elements as elements
 use Rattle.smv_elements.proofs.Keys.{same-is, same-itself}
 use Rattle.smv_spots.specs.declared.spots.Spot.{Spot}
 use Rattle.smv_reads.specs.Views.{world_of, place_in, places}
-use Rattle.smv_reads.proofs.Lists.{map-flat_map, flat_map-map, map-map}
 use Rattle.smv_chosen.proofs.ClaimLaws.{claim-assumed}
 use Rattle.smv_cone.specs.declared.parts.Part.{Part}
 use Rattle.smv_cone.specs.Parts.{spots_in, outline_of, entry_of, params_of, cone_of, IsPartView, IsPartOf}
-use Rattle.smv_cone.proofs.Ends.{one-element}
 use Rattle.smv_cone.proofs.SearchLaws.{element-back, cone-of}
 use Rattle.smv_cone.proofs.Views as views
 use Rattle.smv_cone.proofs.Views.{part-view, part-least}
 use Rattle.smv_obligations.specs.Demands.{element_in, defined_in, spots_of, held_from, said, own_indexes, target_in, chosen_in, is_own, own_in, itself_in, element_in_turn, instances_in, claim_in_turn, demands_in}
-use Rattle.smv_obligations.proofs.Lists.{map-take, map-if, map-same, flat-same, each-changed}
+use Rattle.smv_obligations.proofs.Lists.{flat-same, each-changed}
 use Rattle.smv_obligations.proofs.SpotLaws.{spots-back, index-spots, take-spots}
 
 -- the entry of a unit
@@ -119,7 +121,7 @@ module _ (p : Part) (h : IsPartOf p) where
   target-at : (u : FlatUnit) → said p ≡ u → written_demand n (said_at u own_of) ≡ target_in p u
   target-at (map_of def) e = ap (defined_in def) (own-classes ∙ ap (λ (u : FlatUnit). take (length (own_types u)) p.classes.now) e)
   target-at (claim_of claim) e =
-      ap (Holds claim.body) (own-spots ∙ (ap (λ (u : FlatUnit). take (length (own_types u)) p.params.now) e ∙ ap (λ (k : ℕ). take k p.params.now) (map_long (λ (q : Param). q.over) claim.params)))
+      ap (Holds claim.body) (own-spots ∙ (ap (λ (u : FlatUnit). take (length (own_types u)) p.params.now) e ∙ ap (λ (k : ℕ). take k p.params.now) (length_map (λ (q : Param). q.over) claim.params)))
 
   pub target-is : written_demand n (said_at (said p) own_of) ≡ target_in p (said p)
   target-is = target-at (said p) refl
@@ -135,7 +137,7 @@ module _ (p : Part) (h : IsPartOf p) where
 
       there : same_element (element def.family own_of) x ≡ true → is_own p def (written_element x) ≡ true
       there t =
-          let i : element def.family own_of ≡ x = one-element (element def.family own_of) x t in
+          let i : element def.family own_of ≡ x = same_element-is (element def.family own_of) x t in
           subst (λ (y : AbsElement). is_own p def (written_element y) ≡ true) i
           (ap (λ (cs : List Class). elements.same_element (element_in def.family (own_indexes p def)) (element_in def.family cs)) classes ∙ same-itself (element_in def.family (own_indexes p def)))
 
@@ -177,7 +179,7 @@ module _ (p : Part) (h : IsPartOf p) where
     unfolding element_in_turn
     element-is x m =
         let itself = itself_demands (outline_of p) (entry_of p) times w own_of time x in
-        map_joined (written_demand n) (element_demands (outline_of p) (entry_of p) times w own_of time x) itself
+        map-append (written_demand n) (element_demands (outline_of p) (entry_of p) times w own_of time x) itself
         ∙ (ap (λ (l : List Demand). l ++ map (written_demand n) itself) (chosen-is x) ∙ ap (λ (l : List Demand). chosen_in p times time (written_element x) ++ l) (itself-is x m))
 
     elements-are : map (written_demand n) (flat_map of_element (cone_of p)) ≡ flat_map (element_in_turn p times time) (map written_element (cone_of p))
@@ -240,5 +242,5 @@ module _ (p : Part) (h : IsPartOf p) where
     pub demands-are : map (written_demand n) (demands (outline_of p) (entry_of p) times w own_of (cone_of p) time) ≡ demands_in p times time (map written_element (cone_of p))
     demands-are =
         let claims = flat_map of_claim (zip p.choice.now.claims times.claims) in
-        map_joined (written_demand n) (flat_map of_element (cone_of p)) claims
+        map-append (written_demand n) (flat_map of_element (cone_of p)) claims
         ∙ (ap (λ (l : List Demand). l ++ map (written_demand n) claims) elements-are ∙ ap (λ (l : List Demand). flat_map (element_in_turn p times time) (map written_element (cone_of p)) ++ l) claims-are)

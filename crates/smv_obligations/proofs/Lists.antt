@@ -1,31 +1,12 @@
 -- Lists that are made part by part, in loops.
-use Rattle.std.proofs.Common.{◌≡◌, ℕ, zero, suc, ◌+◌, ◌<◌, ◌≤◌, List, [], ◌∷◌, ◌++◌, map, take, length, drop, get_or, Result, Ok, Err, Bool, true, false, if◌then◌else◌, refl, sym, ap, ◌∙◌, arith}
+use Rattle.std.proofs.Common.{◌≡◌, ℕ, zero, suc, ◌+◌, ◌<◌, ◌≤◌, List, [], ◌∷◌, ◌++◌, map, length, drop, get_or, Result, Ok, Err, refl, sym, ap, ◌∙◌, arith}
 use Rattle.std.specs.List.{flat_map, zip, slice_index_or}
 use Rattle.std.specs.Result.{OnOk, IfOk}
+use Rattle.std.proofs.lemmas.List.Folds.{flat_map-map}
+use Rattle.std.proofs.lemmas.List.{append-nil, append_assoc}
+use Rattle.law_lists.proofs.Lists.{map-flat_map, flat_map_alike, map-map}
+use Rattle.law_lists.proofs.Places.{drop_past}
 use Rattle.law_obligations.specs.Sets.{Has, first, later, one_of_each}
-use Rattle.smv_reads.proofs.Lists.{map-flat_map, flat_map-map, flat_map-same, map-map}
-
-pub nothing-behind : {X : Type 0} (xs : List X) → xs ++ [] ≡ xs
-nothing-behind [] = refl
-nothing-behind (x ∷ xs) = ap (λ ys. x ∷ ys) (nothing-behind xs)
-
-pub again : {X : Type 0} (xs ys zs : List X) → (xs ++ ys) ++ zs ≡ xs ++ (ys ++ zs)
-again [] ys zs = refl
-again (x ∷ xs) ys zs = ap (λ l. x ∷ l) (again xs ys zs)
-
-pub map-take : {X Y : Type 0} (f : X → Y) (n : ℕ) (xs : List X) → map f (take n xs) ≡ take n (map f xs)
-map-take f zero xs = refl
-map-take f (suc n) [] = refl
-map-take f (suc n) (x ∷ xs) = ap (λ ys. f x ∷ ys) (map-take f n xs)
-
-pub map-if : {X Y : Type 0} (f : X → Y) (b : Bool) (xs : List X) → map f (if b then xs else []) ≡ (if b then map f xs else [])
-map-if f true xs = refl
-map-if f false xs = refl
-
--- so far as members are concerned
-pub map-same : {X Y : Type 0} (f g : X → Y) (xs : List X) → ((x : X) → Has xs x → f x ≡ g x) → map f xs ≡ map g xs
-map-same f g [] each = refl
-map-same f g (x ∷ xs) each = ap (λ y. y ∷ map f xs) (each x first) ∙ ap (λ ys. g x ∷ ys) (map-same f g xs (λ y m. each y (later m)))
 
 pub flat-same : {X Y : Type 0} (f g : X → List Y) (xs : List X) → ((x : X) → Has xs x → f x ≡ g x) → flat_map f xs ≡ flat_map g xs
 flat-same f g [] each = refl
@@ -36,7 +17,7 @@ pub each-changed : {X Y : Type 0} (f : X → Y) (xss : List (List X)) → map (m
 each-changed f [] = refl
 each-changed {X} {Y} f (xs ∷ xss) =
     map-flat_map (map f) (λ (x : X). map (λ (ys : List X). x ∷ ys) (one_of_each xss)) xs
-    ∙ (flat_map-same (λ (x : X). map (map f) (map (λ (ys : List X). x ∷ ys) (one_of_each xss))) (λ (x : X). map (λ (ys : List Y). f x ∷ ys) (one_of_each (map (map f) xss))) xs
+    ∙ (flat_map_alike (λ (x : X). map (map f) (map (λ (ys : List X). x ∷ ys) (one_of_each xss))) (λ (x : X). map (λ (ys : List Y). f x ∷ ys) (one_of_each (map (map f) xss))) xs
     (λ x. map-map (map f) (λ (ys : List X). x ∷ ys) (one_of_each xss) ∙ (sym (map-map (λ (ys : List Y). f x ∷ ys) (map f) (one_of_each xss)) ∙ ap (map (λ (ys : List Y). f x ∷ ys)) (each-changed f xss)))
     ∙ sym (flat_map-map (λ (y : Y). map (λ (ys : List Y). y ∷ ys) (one_of_each (map (map f) xss))) f xs))
 
@@ -46,12 +27,6 @@ pub drop-more : {X : Type 0} (xs : List X) (k : ℕ) (x : X) → k < length xs �
 drop-more [] k x l e = absurd (omega arith)
 drop-more (y ∷ xs) zero x l e = ap (λ z. z ∷ xs) (sym e)
 drop-more (y ∷ xs) (suc k) x l e = drop-more xs k x (omega arith) e
-
-pub drop-all : {X : Type 0} (xs : List X) (k : ℕ) → length xs ≤ k → drop k xs ≡ []
-drop-all [] zero l = refl
-drop-all [] (suc k) l = refl
-drop-all (x ∷ xs) zero l = absurd (omega arith)
-drop-all (x ∷ xs) (suc k) l = drop-all xs k (omega arith)
 
 -- two lists side by side, from a place on
 one-pair : {X Y : Type 0} (xs : List X) (ys : List Y) (k : ℕ) (x : X) (y : Y) → k < length xs → k < length ys → zip (drop k xs) (drop k ys) ≡ (get_or xs k x, get_or ys k y) ∷ zip (drop (suc k) xs) (drop (suc k) ys)
@@ -66,7 +41,7 @@ pair-turn f xs ys k x y done new all l m e h =
     let next : k + 1 ≡ suc k = omega arith in
     let rest = flat_map f (zip (drop (suc k) xs) (drop (suc k) ys)) in
     ap (λ (n : ℕ). new ++ flat_map f (zip (drop n xs) (drop n ys))) next
-    ∙ (ap (λ zs. zs ++ rest) e ∙ (again done (f (get_or xs k x, get_or ys k y)) rest ∙ (ap (λ zs. done ++ flat_map f zs) (sym (one-pair xs ys k x y l m)) ∙ h)))
+    ∙ (ap (λ zs. zs ++ rest) e ∙ (append_assoc done (f (get_or xs k x, get_or ys k y)) rest ∙ (ap (λ zs. done ++ flat_map f zs) (sym (one-pair xs ys k x y l m)) ∙ h)))
 
 zip-none : {X Y : Type 0} (xs : List X) (ys : List Y) → length ys ≤ 0 → zip xs ys ≡ []
 zip-none [] ys l = refl
@@ -74,11 +49,11 @@ zip-none (x ∷ xs) [] l = refl
 zip-none (x ∷ xs) (y ∷ ys) l = absurd (omega arith)
 
 pub pairs-over-left : {X Y Z : Type 0} (f : X × Y → List Z) (xs : List X) (ys : List Y) (k : ℕ) (done all : List Z) → length xs ≤ k → done ++ flat_map f (zip (drop k xs) (drop k ys)) ≡ all → done ≡ all
-pairs-over-left f xs ys k done all l h = sym (ap (λ us. done ++ flat_map f (zip us (drop k ys))) (drop-all xs k l) ∙ nothing-behind done) ∙ h
+pairs-over-left f xs ys k done all l h = sym (ap (λ us. done ++ flat_map f (zip us (drop k ys))) (drop_past xs k l) ∙ append-nil done) ∙ h
 
 pub pairs-over-right : {X Y Z : Type 0} (f : X × Y → List Z) (xs : List X) (ys : List Y) (k : ℕ) (done all : List Z) → length ys ≤ k → done ++ flat_map f (zip (drop k xs) (drop k ys)) ≡ all → done ≡ all
 pairs-over-right f xs ys k done all l h =
-    let none : length (drop k ys) ≡ 0 = ap length (drop-all ys k l) in sym (ap (λ ps. done ++ flat_map f ps) (zip-none (drop k xs) (drop k ys) (omega (arith, none))) ∙ nothing-behind done) ∙ h
+    let none : length (drop k ys) ≡ 0 = ap length (drop_past ys k l) in sym (ap (λ ps. done ++ flat_map f ps) (zip-none (drop k xs) (drop k ys) (omega (arith, none))) ∙ append-nil done) ∙ h
 
 -- after a call
 pub if-ok-more : {X E : Type 0} (r : Result X E) (a b : X) → a ≡ b → IfOk r (λ x. x ≡ a) → IfOk r (λ x. x ≡ b)
@@ -99,7 +74,7 @@ pub turn-kept : {X Y : Type 0} (f : X → List Y) (xs : List X) (k : ℕ) (d : X
 turn-kept f xs k d done new all l e h =
     let next : k + 1 ≡ suc k = omega arith in
     ap (λ (n : ℕ). new ++ flat_map f (drop n xs)) next
-    ∙ (ap (λ ys. ys ++ flat_map f (drop (suc k) xs)) e ∙ (again done (f (get_or xs k d)) (flat_map f (drop (suc k) xs)) ∙ (ap (λ ys. done ++ ys) (sym (one-turn f xs k d l)) ∙ h)))
+    ∙ (ap (λ ys. ys ++ flat_map f (drop (suc k) xs)) e ∙ (append_assoc done (f (get_or xs k d)) (flat_map f (drop (suc k) xs)) ∙ (ap (λ ys. done ++ ys) (sym (one-turn f xs k d l)) ∙ h)))
 
 pub turns-over : {X Y : Type 0} (f : X → List Y) (xs : List X) (k : ℕ) (done all : List Y) → length xs ≤ k → done ++ flat_map f (drop k xs) ≡ all → done ≡ all
-turns-over f xs k done all l h = sym (ap (λ us. done ++ flat_map f us) (drop-all xs k l) ∙ nothing-behind done) ∙ h
+turns-over f xs k done all l h = sym (ap (λ us. done ++ flat_map f us) (drop_past xs k l) ∙ append-nil done) ∙ h

@@ -1,9 +1,11 @@
 -- Places of the parameters of a leaf and of index types, as spots.
-use Rattle.std.proofs.Common.{◌≡◌, ◌≢◌, ℕ, zero, suc, ◌+◌, ◌-◌, List, [], ◌∷◌, ◌++◌, map, take, length, slice_get, Option, Some, None, option_map, Bool, true, false, if◌then◌else◌, refl, sym, ap, subst, ◌∙◌}
+use Rattle.std.proofs.Common.{◌≡◌, ℕ, zero, suc, ◌+◌, ◌-◌, List, [], ◌∷◌, ◌++◌, map, take, length, slice_get, Option, Some, None, option_map, Bool, true, false, if◌then◌else◌, refl, sym, ap, subst, ◌∙◌}
 use Rattle.std.specs.Prelude.{unwrap_or}
 use Rattle.std.specs.Str.{bytes_eq}
 use Rattle.std.proofs.lemmas.Slice.Eq.{bytes_eq-Decides}
-use Rattle.smv_core.specs.Values.{Name, scalar, ordinal, numbers_from}
+use Rattle.law_lists.proofs.Lists.{map-map}
+use Rattle.law_lists.proofs.Options.{some_is}
+use Rattle.smv_core.specs.Values.{scalar, ordinal, numbers_from}
 use Rattle.smv_core.specs.FlatMeaning.{Numbered}
 use Rattle.smv_core.specs.declared.flat.Simple.{Simple}
 use Rattle.smv_core.specs.declared.flat.Simple.TheVariants.{Range, Enum, Set}
@@ -19,6 +21,8 @@ use Rattle.law_obligations.proofs.Members.{Has-from_map}
 use Rattle.law_obligations.proofs.OneOfEach.{AreOf, get_Has}
 use Rattle.law_obligations.specs.Outlines.{place_of}
 use Rattle.law_obligations.specs.Checked.{IsFilled}
+use Rattle.law_obligations.proofs.CoverNames.{apart}
+use Rattle.law_obligations.proofs.CoverParams.{map-same}
 use Rattle.smv_problem.specs.Written.{set_number, written_spot}
 use Rattle.smv_spots.specs.declared.spots.Spot.{Spot}
 use Rattle.smv_spots.specs.declared.spots.Spot.TheVariants as spot
@@ -26,26 +30,14 @@ use Rattle.smv_spots.specs.Spots.{of_set, classes_of, AreTypes}
 use Rattle.smv_reads.specs.declared.bindings.View.{View}
 use Rattle.smv_reads.specs.Views.{world_of, IsView, place_in, places, spot_in, classes_in}
 use Rattle.smv_reads.proofs.IndexLaws.{named-classes}
-use Rattle.smv_reads.proofs.Lists.{map-map}
 use Rattle.smv_cone.specs.Parts.{spots_in}
-use Rattle.smv_obligations.proofs.Lists.{map-same}
 
 -- ---- the number of a set type
-
-same-some : {X : Type 0} {x y : X} → Some x ≡ Some y → x ≡ y
-same-some e = cc
-
-apart : (m n : Name) → m ≢ n → bytes_eq m n ≡ false
-apart m n h = by (bytes_eq m n) refl
-  where
-    by : (b : Bool) → bytes_eq m n ≡ b → b ≡ false
-    by true e = absurd (h ((bytes_eq-Decides m n).0 e))
-    by false e = refl
 
 place-found : (sets : List SetInfo) (k : ℕ) (info : SetInfo) → AreApart sets → slice_get sets k ≡ Some info → place_of (λ (i : SetInfo). bytes_eq i.name info.name) sets ≡ Some k
 place-found [] k info a e = absurd (cc)
 place-found (i ∷ sets) zero info a e =
-    ap (λ (b : Bool). if b then Some 0 else option_map (λ k. suc k) (place_of (λ (i : SetInfo). bytes_eq i.name info.name) sets)) ((bytes_eq-Decides i.name info.name).1 (ap (λ (z : SetInfo). z.name) (same-some e)))
+    ap (λ (b : Bool). if b then Some 0 else option_map (λ k. suc k) (place_of (λ (i : SetInfo). bytes_eq i.name info.name) sets)) ((bytes_eq-Decides i.name info.name).1 (ap (λ (z : SetInfo). z.name) (some_is e)))
 place-found (i ∷ sets) (suc k) info a e =
     ap (λ (b : Bool). if b then Some 0 else option_map (λ k. suc k) (place_of (λ (i : SetInfo). bytes_eq i.name info.name) sets)) (apart i.name info.name (a.0 info (get_Has sets k info e)))
     ∙ ap (option_map (λ k. suc k)) (place-found sets k info a.1 e)

@@ -1,7 +1,7 @@
 -- The time of a family's definition, pick by pick.
-use Rattle.std.proofs.Common.{◌≡◌, ◌≢◌, ℕ, zero, suc, ◌+◌, ◌<◌, ◌≤◌, List, [], ◌∷◌, length, drop, get_or, Bool, false, if◌then◌else◌, refl, sym, ap, ◌∙◌, arith}
+use Rattle.std.proofs.Common.{◌≡◌, ◌≢◌, ℕ, zero, suc, ◌+◌, ◌<◌, ◌≤◌, List, [], ◌∷◌, length, drop, get_or, Bool, if◌then◌else◌, refl, sym, ap, ◌∙◌, arith}
 use Rattle.std.specs.Prelude.{nat_eq}
-use Rattle.std.proofs.lemmas.Bool.Decides.{nat_tests}
+use Rattle.law_lists.proofs.Numbers.{nat_eq-apart}
 use Rattle.smv_core.specs.declared.flat.Pick.{Pick}
 use Rattle.smv_core.specs.declared.flat.Timing.{Timing}
 use Rattle.smv_core.specs.declared.flat.Timing.TheVariants.{Now}
@@ -14,16 +14,13 @@ one-turn (q ∷ picks) [] family k p t l m = absurd (omega arith)
 one-turn (q ∷ picks) (u ∷ times) family zero p t l m = refl
 one-turn (q ∷ picks) (u ∷ times) family (suc k) p t l m = one-turn picks times family k p t (omega arith) (omega arith)
 
-apart : (m n : ℕ) → m ≢ n → nat_eq m n ≡ false
-apart m n h = grind (arith, nat_tests)
-
 module _ (picks : List Pick) (times : List Timing) (family k : ℕ) where
   pub further : (p : Pick) (whole : Timing) → k < length picks → k < length times → (get_or picks k p).family ≢ family → family_time (drop k picks) (drop k times) family ≡ whole →
       family_time (drop (k + 1) picks) (drop (k + 1) times) family ≡ whole
   further p whole l m e h =
       let next : k + 1 ≡ suc k = omega arith in
       ap (λ (n : ℕ). family_time (drop n picks) (drop n times) family) next
-      ∙ (sym (one-turn picks times family k p Now l m ∙ ap (λ (b : Bool). if b then get_or times k Now else family_time (drop (suc k) picks) (drop (suc k) times) family) (apart (get_or picks k p).family family e)) ∙ h)
+      ∙ (sym (one-turn picks times family k p Now l m ∙ ap (λ (b : Bool). if b then get_or times k Now else family_time (drop (suc k) picks) (drop (suc k) times) family) (nat_eq-apart (get_or picks k p).family family e)) ∙ h)
 
 no-picks : (picks : List Pick) (times : List Timing) (family k : ℕ) → length picks ≤ k → family_time (drop k picks) (drop k times) family ≡ Now
 no-picks [] times family zero l = refl

@@ -94,7 +94,7 @@ pub fn claim_at<'a>(part: &Part<'a>, claim: u16) -> Option<&'a Claim>
 }
 
 /// The indexes of the target's element, where the unit is this map.
-pub fn own_indexes<'a>(part: &Part<'a>, def: &Def) -> &'a [Class]
+pub(crate) fn own_indexes<'a>(part: &Part<'a>, def: &Def) -> &'a [Class]
     ensures { result.now ≡ spec.own_indexes part.now def.now }
 {
     let count = indexes_of(part.view.design, def.family).len();
@@ -135,7 +135,7 @@ pub fn target(alloc: Global, part: &Part) -> Result<Demand, AllocError>
 }
 
 /// The definition of the leaf's unit, if it is a map.
-pub fn own_def<'a>(part: &Part<'a>) -> Option<&'a Def>
+pub(crate) fn own_def<'a>(part: &Part<'a>) -> Option<&'a Def>
     ensures { option_copied result ≡ map_in (spec.said part.now) }
 {
     match unit_of(part) {

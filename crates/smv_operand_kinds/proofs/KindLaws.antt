@@ -1,8 +1,9 @@
 -- Operands of one kind, from left to right.
-use Rattle.std.proofs.Common.{◌≡◌, ℕ, zero, suc, ◌+◌, ◌<◌, ◌≤◌, Bool, true, List, [], ◌∷◌, ◌++◌, map, zip, length, get_or, drop, drop-cons, refl, ap, ◌∙◌, sym, arith}
+use Rattle.std.proofs.Common.{◌≡◌, ℕ, suc, ◌+◌, ◌<◌, ◌≤◌, Bool, true, List, [], ◌∷◌, ◌++◌, map, zip, length, get_or, drop, drop-cons, refl, ap, ◌∙◌, sym, arith}
 use Rattle.std.specs.Prelude.{Option, Some, None, slice_get, unwrap_or}
 use Rattle.std.proofs.lemmas.List.{append_assoc, append-nil}
 use Rattle.std.specs.List.{flat_map}
+use Rattle.law_lists.proofs.Places.{drop_past}
 use Rattle.smv_mentions.specs.FirstFault.{faults_at}
 use Rattle.smv_core.specs.declared.fault.Fault.{Fault}
 use Rattle.smv_core.specs.declared.tree.Part.{Part, Field, At}
@@ -185,12 +186,6 @@ pub ruleset no_vars = (vars-none)
 
 -- ---- operands that come in lists
 
-pub drop-none : {A : Type 0} (xs : List A) (n : ℕ) → length xs ≤ n → drop n xs ≡ []
-drop-none [] zero h = refl
-drop-none [] (suc n) h = refl
-drop-none (x ∷ xs) zero h = absurd (omega arith)
-drop-none (x ∷ xs) (suc n) h = drop-none xs n (omega arith)
-
 module _ {A : Type 0} (f : A → List Operand) where
   next-of : (xs : List A) (i : ℕ) (x : A) → i < length xs → x ≡ get_or xs i x → flat_map f (drop i xs) ≡ f x ++ flat_map f (drop (i + 1) xs)
   next-of xs i x lt is =
@@ -211,4 +206,4 @@ module _ {A : Type 0} (f : A → List Operand) where
 
   pub lists-done : (xs : List A) (i : ℕ) (all : Kind) (old first : List Fault) → length xs ≤ i → old ++ alike_with all (flat_map f (drop i xs)) ≡ first → old ≡ first
   lists-done xs i all old first past so_far =
-      sym (ap (λ l. old ++ alike_with all (flat_map f l)) (drop-none xs i past) ∙ ap (λ l. old ++ l) (alike-none all) ∙ append-nil old) ∙ so_far
+      sym (ap (λ l. old ++ alike_with all (flat_map f l)) (drop_past xs i past) ∙ ap (λ l. old ++ l) (alike-none all) ∙ append-nil old) ∙ so_far

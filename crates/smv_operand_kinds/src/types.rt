@@ -61,7 +61,7 @@ pub fn bind<'a>(
 }
 
 /// Fault 13 at a range in a type that is reversed or goes past 255.
-pub fn range_faults(out: &mut Vec<Fault>, span: Span, at: u32) -> Result<(), AllocError>
+fn range_faults(out: &mut Vec<Fault>, span: Span, at: u32) -> Result<(), AllocError>
     ensures { OnOk result (out.new.items ≡ out.old.items ++ spec.range_faults span at) }
 {
     fault_if(out, span.high < span.low || 255 < span.high, 13, at)

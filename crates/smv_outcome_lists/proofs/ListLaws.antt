@@ -18,10 +18,11 @@ use Rattle.smv_conditions.specs.Chances.{mix_at, AreMade}
 use Rattle.smv_conditions.specs.Offers.{any_offer, AreOffersMade}
 use Rattle.smv_conditions.proofs.AddLaws.{offers_kept}
 use Rattle.smv_conditions.proofs.ChainLaws.{mix_kept}
+use Rattle.smv_conditions.proofs.OfferLaws.{first_made}
 use Rattle.law_obligations.specs.Mix.{none_at_all, or_mix, or_all}
 use Rattle.smv_outcome_lists.specs.Pairs.{guard_mix, compare_each}
 use Rattle.smv_outcome_lists.specs.Lists.{AreListsMade, member_at, within_at}
-use Rattle.smv_outcome_lists.proofs.PairLaws.{each_same, head_made}
+use Rattle.smv_outcome_lists.proofs.PairLaws.{each_same}
 
 pub take_whole : {X : Type 0} (n : ℕ) (xs : List X) → length xs ≤ n → xs ≡ take n xs
 take_whole n xs l = sym (take_all n xs l)
@@ -61,14 +62,14 @@ module _ {S C : Type 0} (n : Numbered) (IsMade : S → C → Type 0) (holds : S 
       AreOffersMade (IsMade s) all → AreListsMade (IsMade s) vss → AreMade (IsMade mid) x → mix_at holds mid a x ≡ within_at n holds s a us vss → mix_at holds later a y ≡ member_at n holds mid a (outcome_in n u.outcome) vss →
       mix_at holds t a z ≡ guard_mix (holds later u.when a) (mix_at holds later a y) (mix_at holds later a x) → mix_at holds t a z ≡ within_at n holds s a all vss
   more_within s mid later t u us all vss x y z whole k l m mv mx rest here made =
-      let mu : IsMade s u.when = head_made (IsMade s) u us all whole m in
+      let mu : IsMade s u.when = first_made (IsMade s) u us all whole m in
       made
       ∙ (ap (λ b. guard_mix b (mix_at holds later a y) (mix_at holds later a x)) (l.same u.when (k.made u.when mu) a ∙ k.same u.when mu a)
       ∙ (ap (λ w. guard_mix (holds s u.when a) w (mix_at holds later a x)) (here ∙ member_same s mid (outcome_in n u.outcome) vss k mv)
       ∙ (ap (λ w. guard_mix (holds s u.when a) (member_at n holds s a (outcome_in n u.outcome) vss) w) (mix_kept IsMade holds room a mid later x l mx ∙ rest)
       ∙ (one_within n holds a s u us vss ∙ ap (λ l. within_at n holds s a l vss) (sym whole)))))
 
-made_after : {C : Type 0} (IsMade : C → Type 0) (uss : List (List (Offer C))) (us : List (Offer C)) → AreListsMade IsMade uss → AreOffersMade IsMade us → AreListsMade IsMade (uss ++ us ∷ [])
+pub made_after : {C : Type 0} (IsMade : C → Type 0) (uss : List (List (Offer C))) (us : List (Offer C)) → AreListsMade IsMade uss → AreOffersMade IsMade us → AreListsMade IsMade (uss ++ us ∷ [])
 made_after IsMade [] us m n = (n, tt)
 made_after IsMade (vs ∷ uss) us m n = (m.0, made_after IsMade uss us m.1 n)
 

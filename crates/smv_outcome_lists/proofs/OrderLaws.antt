@@ -1,8 +1,9 @@
 -- Lists of outcomes in two parts, and what two parts give that lie apart.
-use Rattle.std.proofs.Common.{◌≡◌, ℕ, List, [], ◌∷◌, ◌++◌, length, cond, filter, Option, Some, None, Bool, true, false, not, ◌&&◌, ◌||◌, nat_lt, nat_eq, refl, sym, ap, ◌∙◌, arith, subst}
+use Rattle.std.proofs.Common.{◌≡◌, ℕ, List, [], ◌∷◌, length, cond, filter, Option, Some, None, Bool, true, false, not, ◌&&◌, ◌||◌, nat_lt, nat_eq, refl, sym, ap, ◌∙◌, arith, subst}
 use Rattle.std.proofs.lemmas.List.{append-nil, append_assoc}
 use Rattle.std.proofs.lemmas.Bool.Decides.{nat_tests}
 use Rattle.std.specs.List.{list_any}
+use Rattle.std.proofs.lemmas.Bool.{not-true}
 use Rattle.smv_core.specs.FlatMeaning.{Numbered}
 use Rattle.smv_core.specs.Values.{not_of}
 use Rattle.smv_core.specs.Outcome.{is_true}
@@ -197,10 +198,6 @@ so_both test other (o ∷ os) m k = (at (test o.outcome) (other o.outcome) m.0 k
 no_lie : {X : Type 0} → false ≡ true → X
 no_lie e = absurd (cc)
 
-not_true : (b : Bool) → not b ≡ true → b ≡ false
-not_true true e = no_lie e
-not_true false e = refl
-
 abbrev Apart : Op → Keys → AbsOutcome → AbsOutcome → Type 0
 Apart op keys u v = (answers_of (may_compare op u v) ≡ apart op keys true) × (answers_of (may_compare op v u) ≡ apart op keys false)
 
@@ -249,7 +246,7 @@ module _ (p : Problem) (w : World) (h : IsWorldOf p w) where
   both_names op list k other m b l g = (names op true list k other m (unlike _ _ b l g), names op false other m list k (unlike_too _ _ b l g))
 
   number_apart : (op : Op) (bound : Option ℕ) (k : ℕ) (v : Option Spot) → is_low p Values bound (Some (spot.Number k)) ≡ true → has_key p Values v ≡ true → not (is_low p Values bound v) ≡ true → Apart op Values (outcome_in w.classes (Some (spot.Number k))) (outcome_in w.classes v)
-  number_apart op (Some b) k (Some (spot.Number j)) e i f = both_numbers op k j b e (not_true (nat_lt j b) f)
+  number_apart op (Some b) k (Some (spot.Number j)) e i f = both_numbers op k j b e (not-true (nat_lt j b) f)
   number_apart op None k (Some (spot.Number j)) e i f = no_lie f
   number_apart op bound k (Some (spot.Constant list j)) e i f = no_lie i
   number_apart op bound k (Some (spot.Class set j)) e i f = no_lie i
@@ -257,7 +254,7 @@ module _ (p : Problem) (w : World) (h : IsWorldOf p w) where
   number_apart op bound k None e i f = no_lie i
 
   name_apart : (op : Op) (bound : Option ℕ) (list k : ℕ) (v : Option Spot) → is_low p Names bound (Some (spot.Constant list k)) ≡ true → has_key p Names v ≡ true → not (is_low p Names bound v) ≡ true → Apart op Names (outcome_in w.classes (Some (spot.Constant list k))) (outcome_in w.classes v)
-  name_apart op (Some b) list k (Some (spot.Constant other j)) e i f = both_names op list k other j b e (not_true (nat_lt (name_number_at p.names other j) b) f)
+  name_apart op (Some b) list k (Some (spot.Constant other j)) e i f = both_names op list k other j b e (not-true (nat_lt (name_number_at p.names other j) b) f)
   name_apart op None list k (Some (spot.Constant other j)) e i f = no_lie f
   name_apart op bound list k (Some (spot.Number j)) e i f = no_lie i
   name_apart op bound list k (Some (spot.Class set j)) e i f = no_lie i

@@ -1,6 +1,7 @@
 -- Lists of outcomes as they are gone through.
 use Rattle.std.proofs.Common.{◌≡◌, ℕ, List, [], ◌∷◌, length, Option, None, Bool, true, false, ◌&&◌, ◌||◌, refl, sym, ap, ◌∙◌, arith, subst}
 use Rattle.std.specs.List.{list_any}
+use Rattle.law_lists.proofs.Anys.{any-agree}
 use Rattle.smv_core.specs.FlatMeaning.{Numbered}
 use Rattle.smv_core.specs.Outcome.{is_true}
 use Rattle.smv_core.specs.declared.tree.Op.{Op}
@@ -17,24 +18,15 @@ use Rattle.law_obligations.specs.Mix.{none_at_all}
 use Rattle.smv_conditions.specs.Chances.{mix_at, AreMade}
 use Rattle.smv_conditions.specs.Offers.{any_offer, AreOffersMade}
 use Rattle.smv_conditions.specs.Adds.{Adds}
-use Rattle.smv_conditions.proofs.AddLaws.{offers_same, offers_kept, rest_kept}
+use Rattle.smv_conditions.proofs.AddLaws.{offers_same, offers_kept}
 use Rattle.smv_conditions.proofs.ChainLaws.{mix_kept}
+use Rattle.smv_conditions.proofs.OfferLaws.{first_made}
 use Rattle.law_obligations.proofs.MixLaws.{same_mix}
-use Rattle.law_obligations.proofs.Anys.{any-ext}
 use Rattle.law_obligations.specs.Combined.{branch_any}
 use Rattle.smv_outcome_lists.specs.Pairs.{with_answers, guard_mix, compare_each, compare_mix}
 
-pub rest_stays : {S C : Type 0} (IsMade : S → C → Type 0) (holds : S → C → (ℕ → Bool) → Bool) (room : S → ℕ) (s t : S) (o : Offer C) (os offers : List (Offer C)) → offers ≡ o ∷ os → KeepsConditions IsMade holds room s t → AreOffersMade (IsMade s) offers → AreOffersMade (IsMade t) os
-rest_stays IsMade holds room s t o os offers e k m = rest_kept IsMade holds room s t o os offers e k m
-
-pub all_stay : {S C : Type 0} (IsMade : S → C → Type 0) (holds : S → C → (ℕ → Bool) → Bool) (room : S → ℕ) (s t : S) (os : List (Offer C)) → KeepsConditions IsMade holds room s t → AreOffersMade (IsMade s) os → AreOffersMade (IsMade t) os
-all_stay IsMade holds room s t os k m = offers_kept IsMade holds room s t os k m
-
 pub rest_made : {C : Type 0} (IsMade : C → Type 0) (o : Offer C) (os offers : List (Offer C)) → offers ≡ o ∷ os → AreOffersMade IsMade offers → AreOffersMade IsMade os
 rest_made IsMade o os offers e m = let k = subst (AreOffersMade IsMade) e m in k.1
-
-pub head_made : {C : Type 0} (IsMade : C → Type 0) (o : Offer C) (os offers : List (Offer C)) → offers ≡ o ∷ os → AreOffersMade IsMade offers → IsMade o.when
-head_made IsMade o os offers e m = let k = subst (AreOffersMade IsMade) e m in k.0
 
 module _ {S C : Type 0} (n : Numbered) (holds : S → C → (ℕ → Bool) → Bool) (a : ℕ → Bool) where
   -- no list
@@ -76,7 +68,7 @@ module _ {S C : Type 0} (n : Numbered) (IsMade : S → C → Type 0) (holds : S 
       AreOffersMade (IsMade s) all → AreOffersMade (IsMade s) vs → AreMade (IsMade mid) x → mix_at holds mid a x ≡ compare_mix n holds s a op us vs → mix_at holds later a y ≡ compare_each n holds mid a op (outcome_in n u.outcome) vs →
       mix_at holds t a z ≡ guard_mix (holds later u.when a) (mix_at holds later a y) (mix_at holds later a x) → mix_at holds t a z ≡ compare_mix n holds s a op all vs
   more_compared_all s mid later t op u us all vs x y z whole k l m mv mx rest here made =
-      let mu : IsMade s u.when = head_made (IsMade s) u us all whole m in
+      let mu : IsMade s u.when = first_made (IsMade s) u us all whole m in
       made
       ∙ (ap (λ b. guard_mix b (mix_at holds later a y) (mix_at holds later a x)) (l.same u.when (k.made u.when mu) a ∙ k.same u.when mu a)
       ∙ (ap (λ w. guard_mix (holds s u.when a) w (mix_at holds later a x)) (here ∙ each_same s mid op (outcome_in n u.outcome) vs k mv)
@@ -138,7 +130,7 @@ module _ {S C : Type 0} (n : Numbered) (IsMade : S → C → Type 0) (holds : S 
       rest
       ∙ (ap (λ b. b || any_offer n holds mid a r us) one
       ∙ (ap (λ b. (any_offer n holds s a p out || (holds s u.when a && b)) || any_offer n holds mid a r us) is
-      ∙ (ap (λ b. (any_offer n holds s a p out || (holds s u.when a && q (outcome_in n u.outcome))) || b) (offers_same n IsMade holds room a r s mid us k (rest_made (IsMade s) u us all e m) ∙ any-ext (λ (o : Offer C). holds s o.when a && r (outcome_in n o.outcome)) (λ (o : Offer C). holds s o.when a && q (outcome_in n o.outcome)) us (λ o. ap (λ b. holds s o.when a && b) (same (outcome_in n o.outcome))))
+      ∙ (ap (λ b. (any_offer n holds s a p out || (holds s u.when a && q (outcome_in n u.outcome))) || b) (offers_same n IsMade holds room a r s mid us k (rest_made (IsMade s) u us all e m) ∙ any-agree (λ (o : Offer C). holds s o.when a && r (outcome_in n o.outcome)) (λ (o : Offer C). holds s o.when a && q (outcome_in n o.outcome)) us (λ o. ap (λ b. holds s o.when a && b) (same (outcome_in n o.outcome))))
       ∙ (or_again (any_offer n holds s a p out) (holds s u.when a && q (outcome_in n u.outcome)) (any_offer n holds s a q us)
       ∙ ap (λ l. any_offer n holds s a p out || any_offer n holds s a q l) (sym e)))))
 

@@ -1,12 +1,12 @@
 -- Reads, index by index.
 use Rattle.std.proofs.Common.{◌≡◌, ℕ, ◌+◌, List, [], ◌∷◌, ◌++◌, map, length, Option, Some, None, Bool, true, false, ◌&&◌, ◌||◌, if◌then◌else◌, refl, sym, ap, ◌∙◌, arith, subst}
 use Rattle.std.proofs.lemmas.List.{map-append}
+use Rattle.law_lists.proofs.Anys.{any-agree}
 use Rattle.smv_core.specs.FlatMeaning.{Numbered}
 use Rattle.smv_core.specs.declared.flat.Simple.{Simple}
 use Rattle.law_obligations.specs.Places.{Place, World, AbsOutcome, places_in}
 use Rattle.law_obligations.specs.May.{place_within}
 use Rattle.law_obligations.specs.ReadOutcomes.{where_within}
-use Rattle.law_obligations.proofs.Anys.{any-ext}
 use Rattle.smv_spots.specs.declared.spots.Spot.{Spot}
 use Rattle.smv_spots.specs.Spots.{place_in, outcome_in}
 use Rattle.smv_conditions.specs.declared.offers.Offer.{Offer}
@@ -86,7 +86,7 @@ module _ {S C : Type 0} (w : World) (IsMade : S → C → Type 0) (holds : S →
 
   any_same : (s t : S) (f g : AbsOutcome → Bool) (us : List (Offer C)) → KeepsConditions IsMade holds room s t → AreOffersMade (IsMade s) us → ((u : AbsOutcome) → f u ≡ g u) → any_offer w.classes holds t a f us ≡ any_offer w.classes holds s a g us
   unfolding any_offer
-  any_same s t f g us k m e = offers_same w.classes IsMade holds room a f s t us k m ∙ any-ext (λ (o : Offer C). holds s o.when a && f (outcome_in w.classes o.outcome)) (λ (o : Offer C). holds s o.when a && g (outcome_in w.classes o.outcome)) us (λ o. ap (λ b. holds s o.when a && b) (e (outcome_in w.classes o.outcome)))
+  any_same s t f g us k m e = offers_same w.classes IsMade holds room a f s t us k m ∙ any-agree (λ (o : Offer C). holds s o.when a && f (outcome_in w.classes o.outcome)) (λ (o : Offer C). holds s o.when a && g (outcome_in w.classes o.outcome)) us (λ o. ap (λ b. holds s o.when a && b) (e (outcome_in w.classes o.outcome)))
 
   pub read_same : (s t : S) (ps : List Place) (over : List Simple) (uss : List (List (Offer C))) → KeepsConditions IsMade holds room s t → AreCellsMade (IsMade s) cells → AreListsMade (IsMade s) uss → read_any w holds t a p family every cells ps over uss ≡ read_any w holds s a p family every cells ps over uss
   unfolding read_any

@@ -42,7 +42,7 @@ pub fn matched<S: Conditions>(
 
 /// What either may be.
 #[tactic(auto, unfolding(smv_conditions::specs::Chances::mix_at))]
-pub fn united<S: Conditions>(
+pub(crate) fn united<S: Conditions>(
     s: &mut S,
     alloc: Global,
     x: Chances<S::Condition>,
@@ -61,7 +61,7 @@ pub fn united<S: Conditions>(
 }
 
 /// What one of these may be.
-pub fn union_of<S: Conditions>(
+pub(crate) fn union_of<S: Conditions>(
     s: &mut S,
     alloc: Global,
     each: &[Chances<S::Condition>],
@@ -97,7 +97,7 @@ pub fn offers_of<S: Conditions>(
 }
 
 /// The outcomes of a conditional.
-#[tactic(auto, using(crate::proofs::PairLaws::all_stay))]
+#[tactic(auto, using(smv_conditions::proofs::AddLaws::offers_kept))]
 pub fn chosen<S: Conditions>(
     s: &mut S,
     alloc: Global,

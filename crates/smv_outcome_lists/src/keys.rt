@@ -199,7 +199,7 @@ fn has_constant<C>(offers: &[Offer<C>]) -> bool
 }
 
 /// What has a key among these: constants, if there is one.
-pub fn keys_among<C>(offers: &[Offer<C>]) -> Keys
+pub(crate) fn keys_among<C>(offers: &[Offer<C>]) -> Keys
     ensures { result ≡ keys_among offers.now }
 {
     if has_constant(offers) {

@@ -67,7 +67,7 @@ fn answered<S: Conditions>(
 }
 
 /// What an outcome gives against each of a list.
-pub fn compared_each<S: Conditions>(
+pub(crate) fn compared_each<S: Conditions>(
     s: &mut S,
     alloc: Global,
     problem: &Problem,
@@ -91,7 +91,7 @@ pub fn compared_each<S: Conditions>(
 
 /// Truth values beside others, under a condition.
 #[tactic(auto, unfolding(smv_conditions::specs::Chances::mix_at))]
-pub fn guarded<S: Conditions>(
+pub(crate) fn guarded<S: Conditions>(
     s: &mut S,
     alloc: Global,
     when: S::Condition,
@@ -115,8 +115,8 @@ pub fn guarded<S: Conditions>(
 }
 
 /// A comparison.
-#[tactic(auto, using(crate::proofs::PairLaws::rest_stays, crate::proofs::PairLaws::all_stay))]
-pub fn compared_all<S: Conditions>(
+#[tactic(auto, using(smv_conditions::proofs::AddLaws::rest_kept, smv_conditions::proofs::AddLaws::offers_kept))]
+pub(crate) fn compared_all<S: Conditions>(
     s: &mut S,
     alloc: Global,
     problem: &Problem,
@@ -140,7 +140,7 @@ pub fn compared_all<S: Conditions>(
 }
 
 // An outcome with each of a list, added up.
-#[tactic(auto, using(crate::proofs::PairLaws::rest_stays, crate::proofs::PairLaws::all_stay))]
+#[tactic(auto, using(smv_conditions::proofs::AddLaws::rest_kept, smv_conditions::proofs::AddLaws::offers_kept))]
 fn added_each<S: Conditions>(
     s: &mut S,
     alloc: Global,
@@ -167,7 +167,7 @@ fn added_each<S: Conditions>(
 }
 
 /// Sums or differences, behind other outcomes.
-#[tactic(auto, using(crate::proofs::PairLaws::rest_stays, crate::proofs::PairLaws::all_stay))]
+#[tactic(auto, using(smv_conditions::proofs::AddLaws::rest_kept, smv_conditions::proofs::AddLaws::offers_kept))]
 fn added_all<S: Conditions>(
     s: &mut S,
     alloc: Global,
@@ -211,7 +211,7 @@ pub fn added_of<S: Conditions>(
 }
 
 // The remainders, behind other outcomes.
-#[tactic(auto, using(crate::proofs::PairLaws::rest_stays, crate::proofs::PairLaws::all_stay))]
+#[tactic(auto, using(smv_conditions::proofs::AddLaws::rest_kept, smv_conditions::proofs::AddLaws::offers_kept))]
 fn remainders<S: Conditions>(
     s: &mut S,
     alloc: Global,

@@ -1,6 +1,7 @@
 -- Bindings that agree on what an expression reads.
 use Rattle.std.proofs.Common.{◌≡◌, ℕ, suc, List, [], ◌∷◌, ◌++◌, map, length, Bool, arith, refl, sym, ap, ◌∙◌, subst}
 use Rattle.std.proofs.lemmas.List.{append-nil}
+use Rattle.law_lists.proofs.Lists.{head_is, append_again}
 use Rattle.smv_core.specs.declared.flat.FlatExpr.{FlatExpr}
 use Rattle.law_obligations.specs.May.{seen}
 use Rattle.law_obligations.specs.Mix.{Mix, mix_by}
@@ -16,20 +17,13 @@ use Rattle.smv_conditions.specs.Chain.{AllMade}
 use Rattle.smv_cells.specs.Seen.{View, outcomes}
 use Rattle.smv_outcomes.specs.Outcomes.{mix_in, IsTruthOf, AreTruthsAlong}
 
-head_is : {X : Type 0} {x y : X} {xs ys : List X} → x ∷ xs ≡ y ∷ ys → x ≡ y
-head_is e = cc
-
 -- the same for each
 pub no_same : {C : Type 0} (x : Chances C) (bs : List (List Spot)) (each : List (Chances C)) → length bs ≡ 0 → each ≡ each ++ map (λ b. x) bs
 no_same x [] each e = sym (append-nil each)
 no_same x (b ∷ bs) each e = absurd (omega arith)
 
-again : {X : Type 0} (xs ys : List X) (x : X) → (xs ++ x ∷ []) ++ ys ≡ xs ++ x ∷ ys
-again [] ys x = refl
-again (y ∷ xs) ys x = ap (λ l. y ∷ l) (again xs ys x)
-
 pub more_same : {C : Type 0} (x : Chances C) (bs others : List (List Spot)) (b : List Spot) (each longer new : List (Chances C)) → bs ≡ b ∷ others → longer ≡ each ++ x ∷ [] → new ≡ longer ++ map (λ b. x) others → new ≡ each ++ map (λ b. x) bs
-more_same x bs others b each longer new e f made = made ∙ (ap (λ l. l ++ map (λ b. x) others) f ∙ (again each (map (λ b. x) others) x ∙ ap (λ l. each ++ map (λ b. x) l) (sym e)))
+more_same x bs others b each longer new e f made = made ∙ (ap (λ l. l ++ map (λ b. x) others) f ∙ (append_again each (map (λ b. x) others) x ∙ ap (λ l. each ++ map (λ b. x) l) (sym e)))
 
 pub same_all : {C : Type 0} (none all new : List (Chances C)) → none ≡ [] → new ≡ none ++ all → new ≡ all
 same_all none all new e f = f ∙ ap (λ l. l ++ all) e
@@ -93,7 +87,7 @@ module _ {S C : Type 0} (holds : S → C → (ℕ → Bool) → Bool) (s : S) (v
       ∙ (map_over (mix_at holds s a) x bs
       ∙ all_alike a body (mix_at holds s a x) first bs here agree))
 
-  -- the same, where the expression, its bindings and its truth values are shown again
-  pub along_shown : (body shown again : FlatExpr) (inners inners' others : List (List Spot)) (each each' : List (Chances C)) → shown ≡ body → again ≡ body → inners' ≡ inners → others ≡ inners → each' ≡ each → AreTruthsAlong holds s v shown inners' [] each → AreTruthsAlong holds s v again others [] each'
-  along_shown body shown again inners inners' others each each' e e' f f' d h =
+  -- the same, where the expression, its bindings and its truth values are shown append_again
+  pub along_shown : (body shown append_again : FlatExpr) (inners inners' others : List (List Spot)) (each each' : List (Chances C)) → shown ≡ body → append_again ≡ body → inners' ≡ inners → others ≡ inners → each' ≡ each → AreTruthsAlong holds s v shown inners' [] each → AreTruthsAlong holds s v append_again others [] each'
+  along_shown body shown append_again inners inners' others each each' e e' f f' d h =
       subst (λ x. AreTruthsAlong holds s v x others [] each') (e ∙ sym e') (subst (λ bs. AreTruthsAlong holds s v shown bs [] each') (f ∙ sym f') (subst (AreTruthsAlong holds s v shown inners' []) (sym d) h))

@@ -2,6 +2,7 @@
 use Rattle.std.proofs.Common.{◌≡◌, ℕ, List, [], ◌∷◌, ◌++◌, map, Option, Some, None, Bool, true, false, ◌||◌, refl, sym, ap, ◌∙◌, slice_get}
 use Rattle.std.specs.List.{list_any, list_all, flat_map}
 use Rattle.std.proofs.lemmas.List.{append-nil}
+use Rattle.law_lists.proofs.Anys.{any-flat_map, any-agree}
 use Rattle.smv_core.specs.declared.flat.Simple.{Simple}
 use Rattle.smv_core.specs.declared.flat.Family.{Family}
 use Rattle.smv_core.specs.declared.flat.FlatExpr.{FlatExpr, Read, Sum}
@@ -12,7 +13,6 @@ use Rattle.law_obligations.specs.May.{may, may_read, places_at, place_within}
 use Rattle.law_obligations.specs.Mix.{is_there}
 use Rattle.law_obligations.specs.ReadOutcomes.{where_within, found, within_all, found_from}
 use Rattle.law_obligations.specs.Combined.{sum_test}
-use Rattle.law_obligations.proofs.Anys.{any-flat_map, any-ext}
 use Rattle.law_obligations.proofs.MayLaws.{may-Read, may-Sum}
 use Rattle.law_obligations.proofs.MixLaws.{there-choices}
 use Rattle.law_obligations.proofs.ReadLaws.{found-within}
@@ -79,7 +79,7 @@ module _ {S C : Type 0} (holds : S → C → (ℕ → Bool) → Bool) (s : S) (p
   read-found ps (t ∷ over) (us ∷ uss) (xs ∷ all) e =
       let inner : AbsOutcome → Bool = λ u. where_within (p None) (λ q. read_any v.world holds s a p family (places_in v.world f.value) cells (ps ++ q ∷ []) over uss) (place_within (places_in v.world t) u) in
       heads _ _ _ _ (e inner)
-      ∙ any-ext inner (λ u. where_within (p None) (λ q. found_from v.world (p None) at_places (ps ++ q ∷ []) over all) (place_within (places_in v.world t) u)) xs (λ u.
+      ∙ any-agree inner (λ u. where_within (p None) (λ q. found_from v.world (p None) at_places (ps ++ q ∷ []) over all) (place_within (places_in v.world t) u)) xs (λ u.
       where_same (λ q. read_any v.world holds s a p family (places_in v.world f.value) cells (ps ++ q ∷ []) over uss) (λ q. found_from v.world (p None) at_places (ps ++ q ∷ []) over all) (place_within (places_in v.world t) u) (λ q.
       read-found (ps ++ q ∷ []) over uss all (λ r. tails _ _ _ _ (e r))))
 
@@ -96,7 +96,7 @@ module _ {S C : Type 0} (holds : S → C → (ℕ → Bool) → Bool) (s : S) (p
   element-is (Some f) uss all t e =
       read-found holds s problem cells v h a p family f [] f.over uss all e
       ∙ (sym (found-within v.world (p None) (λ ps. list_any p (places_at v.world v.kept (v.state a) family f (Some ps))) f.over all t)
-      ∙ (any-ext (λ us. found (p None) (λ ps. list_any p (places_at v.world v.kept (v.state a) family f (Some ps))) (within_all v.world f.over us)) (λ us. list_any p (may_read v.world v.kept (v.state a) family (Some f) us)) (one_of_each all) (λ us. sym (found-places holds s problem cells v h a p family f (within_all v.world f.over us)))
+      ∙ (any-agree (λ us. found (p None) (λ ps. list_any p (places_at v.world v.kept (v.state a) family f (Some ps))) (within_all v.world f.over us)) (λ us. list_any p (may_read v.world v.kept (v.state a) family (Some f) us)) (one_of_each all) (λ us. sym (found-places holds s problem cells v h a p family f (within_all v.world f.over us)))
       ∙ sym (any-flat_map p (may_read v.world v.kept (v.state a) family (Some f)) (one_of_each all))))
 
 pub read_of_it : {S C : Type 0} (holds : S → C → (ℕ → Bool) → Bool) (s t : S) (problem : Problem) (cells : List (Cell C)) (v : View) → IsSeen holds s problem cells v → (whole : FlatExpr) (family at : ℕ) (indexes shown : List FlatExpr) (b : List Spot) (each uss : List (List (Offer C))) (offers : List (Offer C)) (m : May C) →

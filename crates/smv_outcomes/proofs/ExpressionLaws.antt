@@ -4,6 +4,7 @@ use Rattle.std.specs.List.{flat_map, list_any, list_all}
 use Rattle.std.specs.Option.{option_map}
 use Rattle.std.proofs.lemmas.Option.{slice_get-map}
 use Rattle.std.proofs.lemmas.List.{append-nil}
+use Rattle.law_lists.proofs.Anys.{any-map, any-flat_map, any-agree}
 use Rattle.smv_core.specs.Values.{Truth, constant, modulo, not_of, iff_of, conjunction, disjunction, implication}
 use Rattle.smv_core.specs.FlatMeaning.{Numbered}
 use Rattle.smv_core.specs.Outcome.{is_true, branch}
@@ -17,7 +18,6 @@ use Rattle.law_obligations.specs.May.{seen, shown, may}
 use Rattle.law_obligations.specs.Sets.{one_of_each, pairs}
 use Rattle.law_obligations.specs.Mix.{Mix, mix_by, not_mix, iff_mix, and_all, or_all, implies_all, shown_of, is_there}
 use Rattle.law_obligations.specs.Combined.{branch_any}
-use Rattle.law_obligations.proofs.Anys.{any-flat_map, any-map, any-ext}
 use Rattle.law_obligations.proofs.GiveLaws.{mix-compare}
 use Rattle.law_obligations.proofs.MixLaws.{same_mix, any-shown, shown-any, shown-by, not-by, mix-conjunction, mix-disjunction, mix-implication}
 use Rattle.law_obligations.proofs.WalkLaws.{any-branch}
@@ -232,7 +232,7 @@ module _ {S C : Type 0} (IsMade : S → C → Type 0) (holds : S → C → (ℕ 
       let part : (p : Truth → Bool) → any_offer n holds s2 a (λ u. any_offer n holds s2 a (λ w. list_any p (may_compare op u w)) vs') us' ≡ list_any (λ u. list_any (λ w. list_any p (may_compare op u w)) ys) xs =
       λ p. offers_then s1 s2 v l b us us' a (λ u. any_offer n holds s2 a (λ w. list_any p (may_compare op u w)) vs') d k m hu
       ∙ (ap (λ h. list_any (λ u. any_offer n holds s2 a (λ w. list_any p (may_compare op u w)) vs') (may v.world v.kept (v.state a) h bs)) e
-      ∙ any-ext (λ u. any_offer n holds s2 a (λ w. list_any p (may_compare op u w)) vs') (λ u. list_any (λ w. list_any p (may_compare op u w)) ys) xs (λ u. offers_now s2 v r b vs vs' a (λ w. list_any p (may_compare op u w)) d' hv ∙ ap (λ h. list_any (λ w. list_any p (may_compare op u w)) (may v.world v.kept (v.state a) h bs)) e')) in
+      ∙ any-agree (λ u. any_offer n holds s2 a (λ w. list_any p (may_compare op u w)) vs') (λ u. list_any (λ w. list_any p (may_compare op u w)) ys) xs (λ u. offers_now s2 v r b vs vs' a (λ w. list_any p (may_compare op u w)) d' hv ∙ ap (λ h. list_any (λ w. list_any p (may_compare op u w)) (may v.world v.kept (v.state a) h bs)) e')) in
       let made : mix_at holds t a z ≡ mix_by seen all = mix a ∙ (same_mix (part is_false) (part is_true) (part is_neither) ∙ sym (mix-compare op xs ys)) in
       let done : Offers n holds t a (Truths z) all = shown_offers holds n t a z all (pairs (may_compare op) xs ys) (pairs-map shown (may_compare op) xs ys) made in
       subst (λ h. Offers n holds t a (Truths z) (may v.world v.kept (v.state a) h bs)) (sym is) (subst (Offers n holds t a (Truths z)) (sym (may-Compare v.world v.kept (v.state a) op left right bs)) done)
@@ -261,7 +261,7 @@ module _ {S C : Type 0} (IsMade : S → C → Type 0) (holds : S → C → (ℕ 
       let ku : any_offer n holds s3 a p us' ≡ list_any p xs = offers_then s2 s3 v l b us us' a p d k' mu hu ∙ ap (λ g. list_any p (may v.world v.kept (v.state a) g bs)) el in
       let kv : any_offer n holds s3 a p vs' ≡ list_any p ys = offers_now s3 v r b vs vs' a p d' hv ∙ ap (λ g. list_any p (may v.world v.kept (v.state a) g bs)) er in
       let law : list_any p (flat_map (λ u. branch (None ∷ []) (seen u) xs ys) cs) ≡ branch_any (mix_by seen cs) (list_any p xs) (list_any p ys) (p None) =
-      any-flat_map p (λ u. branch (None ∷ []) (seen u) xs ys) cs ∙ (any-ext (λ u. list_any p (branch (None ∷ []) (seen u) xs ys)) (λ u. branch (p None) (seen u) (list_any p xs) (list_any p ys)) cs (λ u. branch_test p (seen u) xs ys) ∙ any-branch (list_any p xs) (list_any p ys) (p None) cs) in
+      any-flat_map p (λ u. branch (None ∷ []) (seen u) xs ys) cs ∙ (any-agree (λ u. list_any p (branch (None ∷ []) (seen u) xs ys)) (λ u. branch (p None) (seen u) (list_any p xs) (list_any p ys)) cs (λ u. branch_test p (seen u) xs ys) ∙ any-branch (list_any p xs) (list_any p ys) (p None) cs) in
       let done : any_offer n holds t a p offers ≡ list_any p (may v.world v.kept (v.state a) (Choose cond left right) bs) =
       any n p a ∙ (ap (λ y. branch_any y (any_offer n holds s3 a p us') (any_offer n holds s3 a p vs') (p None)) kx ∙ (ap (λ y. branch_any (mix_by seen cs) y (any_offer n holds s3 a p vs') (p None)) ku ∙ (ap (λ y. branch_any (mix_by seen cs) (list_any p xs) y (p None)) kv ∙ (sym law ∙ ap (list_any p) (sym (may-Choose v.world v.kept (v.state a) cond left right bs)))))) in
       ap (any_may n holds t a p) em ∙ (done ∙ ap (λ g. list_any p (may v.world v.kept (v.state a) g bs)) (sym is))

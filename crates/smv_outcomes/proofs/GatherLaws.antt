@@ -1,7 +1,9 @@
 -- What loops over parts keep.
 use Rattle.std.proofs.Common.{◌≡◌, ℕ, List, [], ◌∷◌, ◌++◌, map, Bool, ◌&&◌, refl, sym, ap, ◌∙◌, subst}
 use Rattle.std.specs.List.{list_any, flat_map}
-use Rattle.std.proofs.lemmas.List.{map-append, append_assoc}
+use Rattle.std.proofs.lemmas.List.{map-append, append_assoc, map_push}
+use Rattle.law_lists.proofs.Anys.{any-agree}
+use Rattle.law_lists.proofs.Lists.{append_again}
 use Rattle.smv_core.specs.FlatMeaning.{Numbered}
 use Rattle.smv_core.specs.Values.{add}
 use Rattle.smv_core.specs.declared.flat.FlatExpr.{FlatExpr}
@@ -9,7 +11,6 @@ use Rattle.smv_core.specs.declared.flat.FlatMember.{FlatMember, One}
 use Rattle.smv_core.specs.declared.flat.FlatSigned.{FlatSigned, out-FlatSigned}
 use Rattle.law_obligations.specs.Places.{AbsOutcome, valued, as_place}
 use Rattle.law_obligations.specs.Combined.{sum_test}
-use Rattle.law_obligations.proofs.Anys.{any-ext}
 use Rattle.smv_spots.specs.declared.spots.Spot.{Spot}
 use Rattle.smv_spots.specs.Spots.{outcome_in}
 use Rattle.smv_conditions.specs.declared.offers.Offer.{Offer}
@@ -25,6 +26,8 @@ use Rattle.smv_cells.specs.declared.cells.Cell.{Cell}
 use Rattle.smv_cells.specs.Cells.{AreCellsMade}
 use Rattle.smv_cells.specs.Seen.{View, IsSeen, outcomes}
 use Rattle.smv_outcome_lists.specs.Lists.{AreListsMade}
+use Rattle.smv_outcome_lists.proofs.CombinedLaws.{chances_kept}
+use Rattle.smv_outcome_lists.proofs.ListLaws.{made_after}
 use Rattle.smv_free_variables.specs.declared.known.Entry.{Entry}
 use Rattle.smv_outcomes.specs.Remembered.{AreKnown}
 use Rattle.smv_outcomes.specs.Outcomes.{mix_in, member_in, AreOffersOf, IsTruthOf, AreTruthsOf, AreTruthsAlong, AreListsOf, AreMembersOf, AddsMember, IsSumOf}
@@ -37,27 +40,15 @@ pub record Gathering {S C : Type 0} (IsMade : S → C → Type 0) (holds : S →
   pub known : AreKnown IsMade holds s problem cells entries
   pub is : (v : View) → IsSeen holds start problem cells v → are v
 
-map_more : {X Y : Type 0} (f : X → Y) (xs : List X) (x : X) → map f (xs ++ x ∷ []) ≡ map f xs ++ f x ∷ []
-map_more f [] x = refl
-map_more f (y ∷ xs) x = ap (λ l. f y ∷ l) (map_more f xs x)
-
-joined_again : {X : Type 0} (xs ys : List X) (x : X) → (xs ++ x ∷ []) ++ ys ≡ xs ++ x ∷ ys
-joined_again [] ys x = refl
-joined_again (y ∷ xs) ys x = ap (λ zs. y ∷ zs) (joined_again xs ys x)
-
 -- one more of what is gathered, where the others mean the same
 one_more : {X Y Z : Type 0} (f g : X → Z) (h : Y → Z) (each longer : List X) (x : X) (y : Y) (all rest more : List Y) → rest ≡ y ∷ more → longer ≡ each ++ x ∷ [] → map g each ≡ map f each → map f each ++ map h rest ≡ map h all → g x ≡ h y →
     map g longer ++ map h more ≡ map h all
 one_more f g h each longer x y all rest more e d same before here =
     ap (λ l. map g l ++ map h more) d
-    ∙ (ap (λ l. l ++ map h more) (map_more g each x)
-    ∙ (joined_again (map g each) (map h more) (g x)
+    ∙ (ap (λ l. l ++ map h more) (map_push g each x)
+    ∙ (append_again (map g each) (map h more) (g x)
     ∙ (ap (λ z. map g each ++ z ∷ map h more) here
     ∙ (ap (λ l. l ++ map h (y ∷ more)) same ∙ (ap (λ l. map f each ++ map h l) (sym e) ∙ before)))))
-
-pub chances_kept : {S C : Type 0} (IsMade : S → C → Type 0) (holds : S → C → (ℕ → Bool) → Bool) (room : S → ℕ) (s t : S) (xs : List (Chances C)) → KeepsConditions IsMade holds room s t → AllMade (IsMade s) xs → AllMade (IsMade t) xs
-chances_kept IsMade holds room s t [] k m = tt
-chances_kept IsMade holds room s t (x ∷ xs) k m = (record { no = k.made x.no m.0.no; yes = k.made x.yes m.0.yes; neither = k.made x.neither m.0.neither }, chances_kept IsMade holds room s t xs k m.1)
 
 pub chances_shown : {S C : Type 0} (IsMade : S → C → Type 0) (holds : S → C → (ℕ → Bool) → Bool) (room : S → ℕ) (s t : S) (xs shown : List (Chances C)) → shown ≡ xs → KeepsConditions IsMade holds room s t → AllMade (IsMade s) xs → AllMade (IsMade t) shown
 chances_shown IsMade holds room s t xs shown e k m = subst (AllMade (IsMade t)) (sym e) (chances_kept IsMade holds room s t xs k m)
@@ -69,12 +60,8 @@ chances_after IsMade (y ∷ xs) x m n = (m.0, chances_after IsMade xs x m.1 n)
 pub chances_pushed : {C : Type 0} (IsMade : C → Type 0) (old new : List (Chances C)) (x : Chances C) → new ≡ old ++ x ∷ [] → AllMade IsMade old → AreMade IsMade x → AllMade IsMade new
 chances_pushed IsMade old new x e m n = subst (AllMade IsMade) (sym e) (chances_after IsMade old x m n)
 
-lists_after : {C : Type 0} (IsMade : C → Type 0) (uss : List (List (Offer C))) (us : List (Offer C)) → AreListsMade IsMade uss → AreOffersMade IsMade us → AreListsMade IsMade (uss ++ us ∷ [])
-lists_after IsMade [] us m n = (n, tt)
-lists_after IsMade (vs ∷ uss) us m n = (m.0, lists_after IsMade uss us m.1 n)
-
 pub lists_pushed : {C : Type 0} (IsMade : C → Type 0) (old new : List (List (Offer C))) (us : List (Offer C)) → new ≡ old ++ us ∷ [] → AreListsMade IsMade old → AreOffersMade IsMade us → AreListsMade IsMade new
-lists_pushed IsMade old new us e m n = subst (AreListsMade IsMade) (sym e) (lists_after IsMade old us m n)
+lists_pushed IsMade old new us e m n = subst (AreListsMade IsMade) (sym e) (made_after IsMade old us m n)
 
 module _ {S C : Type 0} (holds : S → C → (ℕ → Bool) → Bool) (s : S) (v : View) where
   pub truths_begin : (b : List Spot) (all rest : List FlatExpr) (each : List (Chances C)) → rest ≡ all → each ≡ [] → AreTruthsOf holds s v b all rest each
@@ -133,14 +120,14 @@ pub member_pushed : {S C : Type 0} (holds : S → C → (ℕ → Bool) → Bool)
 unfolding AddsMember AreOffersOf member_in outcomes
 member_pushed holds t v b m e shown old new us pushed is d f g here a p =
     ap (map (any_offer v.world.classes holds t a p)) f
-    ∙ (map_more (any_offer v.world.classes holds t a p) old pushed
+    ∙ (map_push (any_offer v.world.classes holds t a p) old pushed
     ∙ (ap (λ x. map (any_offer v.world.classes holds t a p) old ++ x ∷ []) (ap (any_offer v.world.classes holds t a p) g ∙ (here a p ∙ ap (λ x. list_any p (outcomes v a x b)) d))
     ∙ ap (λ x. map (any_offer v.world.classes holds t a p) old ++ map (list_any p) (member_in v a b x)) (sym is)))
 
 module _ {S C : Type 0} (IsMade : S → C → Type 0) (holds : S → C → (ℕ → Bool) → Bool) (room : S → ℕ) (start s mid t : S) (v : View) (k : KeepsConditions IsMade holds room s mid) where
   any_same : (a : ℕ → Bool) (f g : AbsOutcome → Bool) (us : List (Offer C)) → AreOffersMade (IsMade s) us → ((u : AbsOutcome) → f u ≡ g u) → any_offer v.world.classes holds mid a f us ≡ any_offer v.world.classes holds s a g us
   unfolding any_offer
-  any_same a f g us m e = offers_same v.world.classes IsMade holds room a f s mid us k m ∙ any-ext (λ (o : Offer C). holds s o.when a && f (outcome_in v.world.classes o.outcome)) (λ (o : Offer C). holds s o.when a && g (outcome_in v.world.classes o.outcome)) us (λ o. ap (λ b. holds s o.when a && b) (e (outcome_in v.world.classes o.outcome)))
+  any_same a f g us m e = offers_same v.world.classes IsMade holds room a f s mid us k m ∙ any-agree (λ (o : Offer C). holds s o.when a && f (outcome_in v.world.classes o.outcome)) (λ (o : Offer C). holds s o.when a && g (outcome_in v.world.classes o.outcome)) us (λ o. ap (λ b. holds s o.when a && b) (e (outcome_in v.world.classes o.outcome)))
 
   pub sum_goes : (b : List Spot) (first sum sum' vs vs' next : List (Offer C)) (x : FlatSigned) (minus : Bool) (e : FlatExpr) (all rest more : List FlatSigned) → rest ≡ x ∷ more → minus ≡ (out-FlatSigned x).minus → e ≡ (out-FlatSigned x).of → sum' ≡ sum → vs' ≡ vs →
       AreOffersMade (IsMade s) sum → IsSumOf holds start s v b first all rest sum → AreOffersOf holds mid v e b vs →

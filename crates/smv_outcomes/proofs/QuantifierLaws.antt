@@ -2,6 +2,7 @@
 use Rattle.std.proofs.Common.{◌≡◌, ℕ, List, [], ◌∷◌, ◌++◌, map, take, length, Bool, true, ◌&&◌, arith, refl, sym, ap, ◌∙◌, subst}
 use Rattle.std.specs.List.{list_all, flat_map}
 use Rattle.std.proofs.lemmas.List.{append-nil, map-append, take-map}
+use Rattle.law_lists.proofs.Lists.{map-map, map_alike, append_again}
 use Rattle.smv_core.specs.FlatMeaning.{Numbered}
 use Rattle.smv_core.specs.Values.{Truth, conjunction, disjunction}
 use Rattle.smv_core.specs.declared.flat.Simple.{Simple}
@@ -28,14 +29,6 @@ use Rattle.smv_cells.specs.Seen.{View, IsView, outcomes}
 use Rattle.smv_outcomes.specs.Outcomes.{mix_in, IsMayOf, AreTruthsAlong}
 use Rattle.smv_outcomes.proofs.ExpressionLaws.{shown_offers}
 
-map-map : {X Y Z : Type 0} (f : Y → Z) (g : X → Y) (xs : List X) → map f (map g xs) ≡ map (λ x. f (g x)) xs
-map-map f g [] = refl
-map-map f g (x ∷ xs) = ap (λ l. f (g x) ∷ l) (map-map f g xs)
-
-map-ext : {X Y : Type 0} (f g : X → Y) (xs : List X) → ((x : X) → f x ≡ g x) → map f xs ≡ map g xs
-map-ext f g [] e = refl
-map-ext f g (x ∷ xs) e = ap (λ y. y ∷ map f xs) (e x) ∙ ap (λ l. g x ∷ l) (map-ext f g xs e)
-
 -- bindings with a variable at each of these spots
 abbrev pub bound_at : ℕ → List Spot → Spot → List Spot
 bound_at var b q = take var b ++ q ∷ []
@@ -49,22 +42,18 @@ pub bound_places : (n : Numbered) (b : List Spot) (var : ℕ) (spots shown : Lis
 bound_places n b var spots shown none inners places e f g made =
     ap (map (map (place_in n))) (made ∙ (ap (λ l. l ++ map (bound_at var b) shown) g ∙ ap (map (bound_at var b)) f))
     ∙ (map-map (map (place_in n)) (bound_at var b) spots
-    ∙ (map-ext (λ q. map (place_in n) (bound_at var b q)) (λ q. bind_place (map (place_in n) b) var (place_in n q)) spots (bound n b var)
+    ∙ (map_alike (λ q. map (place_in n) (bound_at var b q)) (λ q. bind_place (map (place_in n) b) var (place_in n q)) spots (bound n b var)
     ∙ (sym (map-map (bind_place (map (place_in n) b) var) (place_in n) spots) ∙ ap (map (bind_place (map (place_in n) b) var)) e)))
 
 pub no_bound : (var : ℕ) (b spots : List Spot) (out : List (List Spot)) → length spots ≡ 0 → out ≡ out ++ map (bound_at var b) spots
 no_bound var b [] out e = sym (append-nil out)
 no_bound var b (q ∷ qs) out e = absurd (omega arith)
 
-again : {X : Type 0} (xs ys : List X) (x : X) → (xs ++ x ∷ []) ++ ys ≡ xs ++ x ∷ ys
-again [] ys x = refl
-again (y ∷ xs) ys x = ap (λ l. y ∷ l) (again xs ys x)
-
 pub more_bound : (var : ℕ) (b qs spots : List Spot) (q : Spot) (inner pushed : List Spot) (out longer new : List (List Spot)) → spots ≡ q ∷ qs → inner ≡ bound_at var b q → pushed ≡ inner → longer ≡ out ++ pushed ∷ [] → new ≡ longer ++ map (bound_at var b) qs → new ≡ out ++ map (bound_at var b) spots
 more_bound var b qs spots q inner pushed out longer new e f g h made =
     made
     ∙ (ap (λ l. l ++ map (bound_at var b) qs) (h ∙ ap (λ c. out ++ c ∷ []) (g ∙ f))
-    ∙ (again out (map (bound_at var b) qs) (bound_at var b q) ∙ ap (λ l. out ++ map (bound_at var b) l) (sym e)))
+    ∙ (append_again out (map (bound_at var b) qs) (bound_at var b q) ∙ ap (λ l. out ++ map (bound_at var b) l) (sym e)))
 
 module _ {S C : Type 0} (holds : S → C → (ℕ → Bool) → Bool) (s : S) (v : View) where
   -- the truth values under bindings are those at places

@@ -2,6 +2,7 @@
 use Rattle.std.proofs.Common.{◌≡◌, ℕ, ◌+◌, ◌-◌, List, [], ◌∷◌, ◌++◌, map, Some, Bool, true, false, ◌&&◌, ◌||◌, refl, sym, ap, ◌∙◌, subst}
 use Rattle.std.specs.List.{list_any, list_all, flat_map}
 use Rattle.std.proofs.lemmas.List.{append-nil}
+use Rattle.law_lists.proofs.Anys.{any-agree}
 use Rattle.smv_core.specs.Values.{Truth, number, numbers_from, disjunction}
 use Rattle.smv_core.specs.FlatMeaning.{Numbered}
 use Rattle.smv_core.specs.Outcome.{is_true}
@@ -15,7 +16,6 @@ use Rattle.law_obligations.specs.Places.{Place, named, AbsOutcome, may_compare, 
 use Rattle.law_obligations.specs.May.{seen, shown, may, may_listed, may_members}
 use Rattle.law_obligations.specs.Mix.{Mix, mix_by, or_all, is_there}
 use Rattle.law_obligations.specs.Combined.{equal_mix, member_mix, within_mix}
-use Rattle.law_obligations.proofs.Anys.{any-ext}
 use Rattle.law_obligations.proofs.MixLaws.{same_mix, shown-by}
 use Rattle.law_obligations.proofs.MayLaws.{may-Within, may-listed}
 use Rattle.law_obligations.proofs.WithinLaws.{mix-within, within-shown}
@@ -93,9 +93,9 @@ module _ {S C : Type 0} (n : Numbered) (holds : S → C → (ℕ → Bool) → B
       within_at n holds s a us vss ≡ within_mix xs all
   unfolding within_at
   within-same us xs vss all d e = same_mix
-      (d (λ u. (member_at n holds s a u vss).no) ∙ any-ext (λ u. (member_at n holds s a u vss).no) (λ u. (member_mix all u).no) xs (λ u. ap (λ (m : Mix). m.no) (member-same u vss all e)))
-      (d (λ u. (member_at n holds s a u vss).yes) ∙ any-ext (λ u. (member_at n holds s a u vss).yes) (λ u. (member_mix all u).yes) xs (λ u. ap (λ (m : Mix). m.yes) (member-same u vss all e)))
-      (d (λ u. (member_at n holds s a u vss).neither) ∙ any-ext (λ u. (member_at n holds s a u vss).neither) (λ u. (member_mix all u).neither) xs (λ u. ap (λ (m : Mix). m.neither) (member-same u vss all e)))
+      (d (λ u. (member_at n holds s a u vss).no) ∙ any-agree (λ u. (member_at n holds s a u vss).no) (λ u. (member_mix all u).no) xs (λ u. ap (λ (m : Mix). m.no) (member-same u vss all e)))
+      (d (λ u. (member_at n holds s a u vss).yes) ∙ any-agree (λ u. (member_at n holds s a u vss).yes) (λ u. (member_mix all u).yes) xs (λ u. ap (λ (m : Mix). m.yes) (member-same u vss all e)))
+      (d (λ u. (member_at n holds s a u vss).neither) ∙ any-agree (λ u. (member_at n holds s a u vss).neither) (λ u. (member_mix all u).neither) xs (λ u. ap (λ (m : Mix). m.neither) (member-same u vss all e)))
 
 pub members_listed : {S C : Type 0} (holds : S → C → (ℕ → Bool) → Bool) (s : S) (v : View) (set : FlatExpr) (members shown : List FlatMember) (at : ℕ) (b : List Spot) (each : List (List (Offer C))) → set ≡ ListOf members at → shown ≡ members → AreMembersOf holds s v b shown [] each → AreListedIn holds s v b set each
 unfolding AreMembersOf AreListedIn member_in

@@ -81,7 +81,7 @@ fn add_same<C: Copy>(
 }
 
 /// The same truth values for each of these bindings.
-pub fn same_for_each<C: Copy>(
+pub(crate) fn same_for_each<C: Copy>(
     alloc: Global,
     x: Chances<C>,
     bindings: &[Seq<Spot>],

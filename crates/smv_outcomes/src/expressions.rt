@@ -53,7 +53,7 @@ fn is_looked_for(e: &FlatExpr) -> bool {
 
 /// What an expression may be. What is known of an expression that differs by its places in the text alone, under bindings that agree on what it reads, is not worked out again.
 #[cycle(expressions)]
-pub fn may_of<'a, S: Conditions>(
+pub(crate) fn may_of<'a, S: Conditions>(
     s: &mut S,
     alloc: Global,
     problem: &Problem,

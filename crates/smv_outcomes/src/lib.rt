@@ -7,6 +7,6 @@
 pub mod bindings;
 pub mod expressions;
 
-pub use expressions::{may_of, offers_for, truth_of};
+pub use expressions::{offers_for, truth_of};
 pub use smv_free_variables::known::{Known, nothing_known};
 pub use smv_outcome_lists::bindings::bound_to;

@@ -6,7 +6,7 @@ use Rattle.smv_core.specs.Spelling.{place_of_rest}
 use Rattle.smv_lex.specs.declared.front.Front.{Front}
 use Rattle.smv_lex.specs.declared.front.Front.TheVariants.{Passed, Whole, Broken}
 use Rattle.smv_lex.specs.Lexing.{Lexed, with_token, then_more, front_of, lexed_from, lexed, is_name_byte, is_digit, closing, word_kind, number_of, word_front, number_front, sign_front, comment_front}
-use Rattle.smv_lex.specs.Spellings.{signs, spelled_in}
+use Rattle.smv_core.specs.Spellings.{signs, spelled_in}
 use Rattle.smv_lex.proofs.Fronts.{FitsIn, front-fits, front-cases}
 use Rattle.law_grammar.specs.Laws.{Rise}
 

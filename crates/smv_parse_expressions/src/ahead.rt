@@ -6,7 +6,7 @@ ghost use Rattle.smv_core.specs.Signs as w;
 ghost use Rattle.law_grammar.specs.Parsing.{starts, starts2};
 ghost use Rattle.law_grammar.specs.Marks.{any_name, any_number, exactly, begins};
 
-use crate::marks::{
+use smv_core::signs::{
     AT_LEAST, AT_MOST, COLON, DIFFER, DOT, DOTS, EQUAL, GREATER, LESS, MINUS, OPEN_BRACKET, PLUS,
     WORD_BOOLEAN,
 };
@@ -49,7 +49,7 @@ pub fn next_is_sign(place: u8, tokens: &[Token]) -> bool
 }
 
 /// Whether an index begins.
-pub fn next_begins_index(tokens: &[Token]) -> bool
+pub(crate) fn next_begins_index(tokens: &[Token]) -> bool
     ensures { result ≡ starts (begins (exactly w.word_boolean ∷ any_number ∷ any_name ∷ [])) tokens.now }
 {
     match tokens.split_first() {
@@ -87,7 +87,7 @@ pub fn next_is_part(tokens: &[Token]) -> bool
 }
 
 /// Whether a sign of a sum comes next.
-pub fn next_is_addition(tokens: &[Token]) -> bool
+pub(crate) fn next_is_addition(tokens: &[Token]) -> bool
     ensures { result ≡ starts (begins (exactly plus ∷ exactly minus ∷ [])) tokens.now }
 {
     match tokens.split_first() {
@@ -100,7 +100,7 @@ pub fn next_is_addition(tokens: &[Token]) -> bool
 }
 
 /// Whether a sign that compares comes next.
-pub fn next_is_comparison(tokens: &[Token]) -> bool
+pub(crate) fn next_is_comparison(tokens: &[Token]) -> bool
     ensures { result ≡ starts (begins (exactly equal ∷ exactly differ ∷ exactly less ∷ exactly at_most ∷ exactly greater ∷ exactly at_least ∷ [])) tokens.now }
 {
     match tokens.split_first() {
@@ -116,7 +116,7 @@ pub fn next_is_comparison(tokens: &[Token]) -> bool
 }
 
 /// Whether a name and a colon come next.
-pub fn next_is_bound(tokens: &[Token]) -> bool
+pub(crate) fn next_is_bound(tokens: &[Token]) -> bool
     ensures { result ≡ starts2 (begins (any_name ∷ [])) (begins (exactly colon ∷ [])) tokens.now }
 {
     match tokens {
@@ -126,7 +126,7 @@ pub fn next_is_bound(tokens: &[Token]) -> bool
 }
 
 /// Whether a number and two dots come next.
-pub fn next_is_span(tokens: &[Token]) -> bool
+pub(crate) fn next_is_span(tokens: &[Token]) -> bool
     ensures { result ≡ starts2 (begins (any_number ∷ [])) (begins (exactly dots ∷ [])) tokens.now }
 {
     match tokens {

@@ -9,11 +9,11 @@ ghost use Rattle.smv_parse_expressions.specs.Nests.{Nests};
 ghost use Rattle.smv_parse_expressions.specs.Tails.{read_grouped};
 
 use crate::ahead::{next_is_name, next_is_number, next_is_part, next_is_sign, next_is_span};
-use crate::marks::{CLOSE_BRACKET, CLOSE_PAREN, DOT, OPEN_BRACE, OPEN_BRACKET, OPEN_PAREN};
 use crate::nodes::path_of;
 use crate::single::{name, number, opening_sign, sign};
 use crate::stop::{Read, Stop};
 use crate::types::span;
+use smv_core::signs::{CLOSE_BRACKET, CLOSE_PAREN, DOT, OPEN_BRACE, OPEN_BRACKET, OPEN_PAREN};
 use smv_core::token::Token;
 use smv_core::tree::{Expr, Member, Part, Path};
 use std::alloc::Global;
@@ -28,7 +28,7 @@ pub struct Grammar<F> {
 
 impl<F: Fn(Global, u8, bool, &[Token]) -> Result<(Expr, &[Token]), Stop>> Grammar<F> {
     /// An expression inside an opened level.
-    pub fn inner_expr<'a>(&self, tokens: &'a [Token]) -> Read<'a, Expr>
+    pub(crate) fn inner_expr<'a>(&self, tokens: &'a [Token]) -> Read<'a, Expr>
         requires { Nests self.now.levels (F.pre self.now.inner) (F.post self.now.inner) }
         ensures found { IfOk result (λ found. (expr_readers self.now.levels).expr tokens.now ≡ Ok (found.0, found.1.now)) }
         ensures stop { IfErr result (λ stop. StopsAs stop ((expr_readers self.now.levels).expr tokens.now)) }
@@ -37,7 +37,7 @@ impl<F: Fn(Global, u8, bool, &[Token]) -> Result<(Expr, &[Token]), Stop>> Gramma
     }
 
     /// The operand of a `~`.
-    pub fn inner_negation<'a>(&self, tokens: &'a [Token]) -> Read<'a, Expr>
+    pub(crate) fn inner_negation<'a>(&self, tokens: &'a [Token]) -> Read<'a, Expr>
         requires { Nests self.now.levels (F.pre self.now.inner) (F.post self.now.inner) }
         ensures found { IfOk result (λ found. (expr_readers self.now.levels).negation tokens.now ≡ Ok (found.0, found.1.now)) }
         ensures stop { IfErr result (λ stop. StopsAs stop ((expr_readers self.now.levels).negation tokens.now)) }
@@ -47,7 +47,7 @@ impl<F: Fn(Global, u8, bool, &[Token]) -> Result<(Expr, &[Token]), Stop>> Gramma
 
     /// A member of a listed set: number '..' number | Expr
     #[tactic(auto, using(law_grammar::proofs::Steps::next_member, law_grammar::proofs::Steps::next_expr), unfolding(law_grammar::specs::Expressions::read_member))]
-    pub fn inner_member<'a>(&self, tokens: &'a [Token]) -> Read<'a, Member>
+    pub(crate) fn inner_member<'a>(&self, tokens: &'a [Token]) -> Read<'a, Member>
         requires nests { Nests self.now.levels (F.pre self.now.inner) (F.post self.now.inner) }
         requires left { 0 < self.now.levels }
         ensures found { IfOk result (λ found. (expr_readers self.now.levels).member tokens.now ≡ Ok (found.0, found.1.now)) }
@@ -122,7 +122,7 @@ impl<F: Fn(Global, u8, bool, &[Token]) -> Result<(Expr, &[Token]), Stop>> Gramma
     }
 
     /// '(' Expr ')' | Set | Reduction
-    pub fn grouped<'a>(&self, tokens: &'a [Token]) -> Read<'a, Expr>
+    fn grouped<'a>(&self, tokens: &'a [Token]) -> Read<'a, Expr>
         requires { Nests self.now.levels (F.pre self.now.inner) (F.post self.now.inner) }
         ensures found { IfOk result (λ found. read_grouped self.now.levels tokens.now ≡ Ok (found.0, found.1.now)) }
         ensures stop { IfErr result (λ stop. StopsAs stop (read_grouped self.now.levels tokens.now)) }
@@ -138,7 +138,7 @@ impl<F: Fn(Global, u8, bool, &[Token]) -> Result<(Expr, &[Token]), Stop>> Gramma
 
     /// number | Path | '(' Expr ')' | Set | Reduction
     #[tactic(auto, unfolding(law_grammar::specs::Expressions::read_prim))]
-    pub fn prim<'a>(&self, tokens: &'a [Token]) -> Read<'a, Expr>
+    pub(crate) fn prim<'a>(&self, tokens: &'a [Token]) -> Read<'a, Expr>
         requires { Nests self.now.levels (F.pre self.now.inner) (F.post self.now.inner) }
         ensures found { IfOk result (λ found. read_prim self.now.levels (expr_readers self.now.levels) tokens.now ≡ Ok (found.0, found.1.now)) }
         ensures stop { IfErr result (λ stop. StopsAs stop (read_prim self.now.levels (expr_readers self.now.levels) tokens.now)) }

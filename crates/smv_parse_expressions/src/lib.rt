@@ -6,7 +6,6 @@
 pub mod ahead;
 pub mod exprs;
 mod grammar;
-pub mod marks;
 pub mod names;
 mod nodes;
 mod operators;

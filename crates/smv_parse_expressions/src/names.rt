@@ -6,9 +6,9 @@ ghost use Rattle.law_grammar.specs.Readers.{a_token, a_name, read_separated};
 ghost use Rattle.smv_parse_expressions.specs.Answers.{StopsAs};
 
 use crate::ahead::next_is_sign;
-use crate::marks::COMMA;
 use crate::single::{name, sign};
 use crate::stop::Read;
+use smv_core::signs::COMMA;
 use smv_core::token::Token;
 use smv_core::tree::Word;
 use std::alloc::Global;

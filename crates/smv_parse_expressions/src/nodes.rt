@@ -10,7 +10,7 @@ use smv_core::seq::Seq;
 use smv_core::tree::{Expr, Field, Op, Part, Path, Signed, TypeExpr, Word};
 use std::alloc::Global;
 
-pub fn array_of(alloc: Global, index: TypeExpr, of: TypeExpr) -> Result<TypeExpr, Stop>
+pub(crate) fn array_of(alloc: Global, index: TypeExpr, of: TypeExpr) -> Result<TypeExpr, Stop>
     ensures found { IfOk result (λ found. found ≡ TypeExpr.Array index of) }
     ensures stop { IfErr result (λ stop. stop ≡ Stop.OutOfMemory) }
 {
@@ -20,7 +20,7 @@ pub fn array_of(alloc: Global, index: TypeExpr, of: TypeExpr) -> Result<TypeExpr
 }
 
 /// Where there is no name, the offset is 0.
-pub fn field_of(names: Vec<Word>, of: TypeExpr) -> Field
+pub(crate) fn field_of(names: Vec<Word>, of: TypeExpr) -> Field
     ensures { result ≡ roll-Field (record { names = names.items; of = of; at = place_of names.items }) }
 {
     let at = match names.first() {
@@ -42,7 +42,7 @@ pub fn path_of(name: Word, more: Vec<Part>) -> Result<Path, Stop>
     Ok(Path { parts, at })
 }
 
-pub fn not_of(alloc: Global, of: Expr, at: u32) -> Result<Expr, Stop>
+pub(crate) fn not_of(alloc: Global, of: Expr, at: u32) -> Result<Expr, Stop>
     ensures found { IfOk result (λ found. found ≡ Expr.Not of at) }
     ensures stop { IfErr result (λ stop. stop ≡ Stop.OutOfMemory) }
 {
@@ -50,7 +50,7 @@ pub fn not_of(alloc: Global, of: Expr, at: u32) -> Result<Expr, Stop>
     Ok(Expr::Not { of, at })
 }
 
-pub fn sum_of_parts(alloc: Global, first: Expr, more: Vec<Signed>) -> Result<Expr, Stop>
+pub(crate) fn sum_of_parts(alloc: Global, first: Expr, more: Vec<Signed>) -> Result<Expr, Stop>
     ensures found { IfOk result (λ found. found ≡ sum_of first more.items) }
     ensures stop { IfErr result (λ stop. stop ≡ Stop.OutOfMemory) }
 {
@@ -62,7 +62,7 @@ pub fn sum_of_parts(alloc: Global, first: Expr, more: Vec<Signed>) -> Result<Exp
     Ok(Expr::Sum { first, more })
 }
 
-pub fn modulo_of(alloc: Global, of: Expr, by: u16, at: u32) -> Result<Expr, Stop>
+pub(crate) fn modulo_of(alloc: Global, of: Expr, by: u16, at: u32) -> Result<Expr, Stop>
     ensures found { IfOk result (λ found. found ≡ Expr.Modulo of by at) }
     ensures stop { IfErr result (λ stop. stop ≡ Stop.OutOfMemory) }
 {
@@ -70,7 +70,7 @@ pub fn modulo_of(alloc: Global, of: Expr, by: u16, at: u32) -> Result<Expr, Stop
     Ok(Expr::Modulo { of, by, at })
 }
 
-pub fn compare_of(alloc: Global, op: Op, left: Expr, right: Expr) -> Result<Expr, Stop>
+pub(crate) fn compare_of(alloc: Global, op: Op, left: Expr, right: Expr) -> Result<Expr, Stop>
     ensures found { IfOk result (λ found. found ≡ Expr.Compare op left right) }
     ensures stop { IfErr result (λ stop. stop ≡ Stop.OutOfMemory) }
 {
@@ -88,7 +88,7 @@ pub fn within_of(alloc: Global, left: Expr, set: Expr) -> Result<Expr, Stop>
     Ok(Expr::Within { left, set })
 }
 
-pub fn and_of(first: Expr, more: Vec<Expr>) -> Result<Expr, Stop>
+pub(crate) fn and_of(first: Expr, more: Vec<Expr>) -> Result<Expr, Stop>
     ensures found { IfOk result (λ found. found ≡ chain (λ parts. Expr.And parts) first more.items) }
     ensures stop { IfErr result (λ stop. stop ≡ Stop.OutOfMemory) }
 {
@@ -101,7 +101,7 @@ pub fn and_of(first: Expr, more: Vec<Expr>) -> Result<Expr, Stop>
     Ok(Expr::And { parts })
 }
 
-pub fn or_of(first: Expr, more: Vec<Expr>) -> Result<Expr, Stop>
+pub(crate) fn or_of(first: Expr, more: Vec<Expr>) -> Result<Expr, Stop>
     ensures found { IfOk result (λ found. found ≡ chain (λ parts. Expr.Or parts) first more.items) }
     ensures stop { IfErr result (λ stop. stop ≡ Stop.OutOfMemory) }
 {
@@ -114,7 +114,7 @@ pub fn or_of(first: Expr, more: Vec<Expr>) -> Result<Expr, Stop>
     Ok(Expr::Or { parts })
 }
 
-pub fn implies_of(first: Expr, more: Vec<Expr>) -> Result<Expr, Stop>
+pub(crate) fn implies_of(first: Expr, more: Vec<Expr>) -> Result<Expr, Stop>
     ensures found { IfOk result (λ found. found ≡ chain (λ parts. Expr.Implies parts) first more.items) }
     ensures stop { IfErr result (λ stop. stop ≡ Stop.OutOfMemory) }
 {
@@ -127,7 +127,7 @@ pub fn implies_of(first: Expr, more: Vec<Expr>) -> Result<Expr, Stop>
     Ok(Expr::Implies { parts })
 }
 
-pub fn iff_of(alloc: Global, left: Expr, right: Expr) -> Result<Expr, Stop>
+pub(crate) fn iff_of(alloc: Global, left: Expr, right: Expr) -> Result<Expr, Stop>
     ensures found { IfOk result (λ found. found ≡ Expr.Iff left right) }
     ensures stop { IfErr result (λ stop. stop ≡ Stop.OutOfMemory) }
 {
@@ -136,7 +136,7 @@ pub fn iff_of(alloc: Global, left: Expr, right: Expr) -> Result<Expr, Stop>
     Ok(Expr::Iff { left, right })
 }
 
-pub fn choose_of(alloc: Global, cond: Expr, yes: Expr, no: Expr) -> Result<Expr, Stop>
+pub(crate) fn choose_of(alloc: Global, cond: Expr, yes: Expr, no: Expr) -> Result<Expr, Stop>
     ensures found { IfOk result (λ found. found ≡ Expr.Choose cond yes no) }
     ensures stop { IfErr result (λ stop. stop ≡ Stop.OutOfMemory) }
 {
@@ -148,7 +148,7 @@ pub fn choose_of(alloc: Global, cond: Expr, yes: Expr, no: Expr) -> Result<Expr,
 
 /// The reduction of a conjunction, or else of a disjunction.
 #[tactic(auto, unfolding(crate::specs::Tails::quantified))]
-pub fn reduction_of(
+pub(crate) fn reduction_of(
     alloc: Global,
     all: bool,
     body: Expr,
@@ -176,7 +176,7 @@ pub fn reduction_of(
     })
 }
 
-pub fn each_of(
+pub(crate) fn each_of(
     alloc: Global,
     var: Word,
     over: TypeExpr,

@@ -11,15 +11,15 @@ ghost use Rattle.smv_parse_expressions.specs.Tails.{read_branches, read_chosen, 
 
 use crate::ahead::{next_is_addition, next_is_comparison, next_is_sign, next_is_word};
 use crate::grammar::Grammar;
-use crate::marks::{
-    AMPERSAND, ARROW, BAR, COLON, DOUBLE_ARROW, QUESTION, TILDE, WORD_IN, WORD_MOD,
-};
 use crate::nodes::{
     and_of, choose_of, compare_of, iff_of, implies_of, modulo_of, not_of, or_of, sum_of_parts,
     within_of,
 };
 use crate::single::{addition, comparison_sign, number, opening_sign, sign, word};
 use crate::stop::{Read, Stop};
+use smv_core::signs::{
+    AMPERSAND, ARROW, BAR, COLON, DOUBLE_ARROW, QUESTION, TILDE, WORD_IN, WORD_MOD,
+};
 use smv_core::token::Token;
 use smv_core::tree::{Expr, Signed};
 use std::alloc::Global;

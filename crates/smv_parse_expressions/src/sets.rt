@@ -11,12 +11,14 @@ ghost use Rattle.smv_parse_expressions.specs.Tails.{read_binding, read_bounds, r
 
 use crate::ahead::{next_is_bound, next_is_sign};
 use crate::grammar::Grammar;
-use crate::marks::{CLOSE_BRACE, CLOSE_BRACKET, COLON, COMMA, OPEN_BRACE, OPEN_BRACKET, WORD_IN};
 use crate::nodes::{each_of, reduction_of};
 use crate::single::{name, opening_sign, reduction_sign, same_name, sign, word};
 use crate::stop::{Read, Stop};
 use crate::types::index;
 use smv_core::seq::Seq;
+use smv_core::signs::{
+    CLOSE_BRACE, CLOSE_BRACKET, COLON, COMMA, OPEN_BRACE, OPEN_BRACKET, WORD_IN,
+};
 use smv_core::token::Token;
 use smv_core::tree::{Expr, Member, Word};
 use std::alloc::Global;

@@ -7,9 +7,11 @@ ghost use Rattle.law_grammar.specs.Expressions.{additions, comparisons, reductio
 ghost use Rattle.smv_parse_expressions.specs.Tails.{quantified};
 ghost use Rattle.smv_parse_expressions.specs.Answers.{StopsAs};
 
-use crate::marks::{AMPERSAND, AT_LEAST, AT_MOST, BAR, DIFFER, EQUAL, GREATER, LESS, MINUS, PLUS};
 use crate::stop::{Read, Stop};
 use smv_core::name::Name;
+use smv_core::signs::{
+    AMPERSAND, AT_LEAST, AT_MOST, BAR, DIFFER, EQUAL, GREATER, LESS, MINUS, PLUS,
+};
 use smv_core::token::{Token, TokenKind};
 use smv_core::tree::{Op, Word};
 use std::alloc::Global;
@@ -115,7 +117,7 @@ pub fn same_name<'a>(word: &Word, tokens: &'a [Token]) -> Read<'a, u32>
 }
 
 /// A sign of a sum; whether it takes away, and its offset.
-pub fn addition(tokens: &[Token]) -> Read<'_, (bool, u32)>
+pub(crate) fn addition(tokens: &[Token]) -> Read<'_, (bool, u32)>
     ensures found { IfOk result (λ found. take (an_entry additions) tokens.now ≡ Ok (found.0, found.1.now)) }
     ensures stop { IfErr result (λ stop. StopsAs stop (take (an_entry additions) tokens.now)) }
 {
@@ -132,7 +134,7 @@ pub fn addition(tokens: &[Token]) -> Read<'_, (bool, u32)>
 }
 
 /// A sign that compares; its operator and its offset.
-pub fn comparison_sign(tokens: &[Token]) -> Read<'_, (Op, u32)>
+pub(crate) fn comparison_sign(tokens: &[Token]) -> Read<'_, (Op, u32)>
     ensures found { IfOk result (λ found. take (an_entry comparisons) tokens.now ≡ Ok (found.0, found.1.now)) }
     ensures stop { IfErr result (λ stop. StopsAs stop (take (an_entry comparisons) tokens.now)) }
 {
@@ -154,7 +156,7 @@ pub fn comparison_sign(tokens: &[Token]) -> Read<'_, (Op, u32)>
 
 /// A sign that begins a reduction; whether it is that of a conjunction, and its offset.
 #[tactic(auto, unfolding(crate::specs::Tails::quantified))]
-pub fn reduction_sign(tokens: &[Token]) -> Read<'_, (bool, u32)>
+pub(crate) fn reduction_sign(tokens: &[Token]) -> Read<'_, (bool, u32)>
     ensures found { IfOk result (λ found. take (an_entry reductions) tokens.now ≡ Ok ((quantified found.0.0, found.0.1), found.1.now)) }
     ensures stop { IfErr result (λ stop. StopsAs stop (take (an_entry reductions) tokens.now)) }
 {

@@ -7,14 +7,14 @@ ghost use Rattle.law_grammar.specs.Types.{read_type, read_array, read_enumeratio
 ghost use Rattle.smv_parse_expressions.specs.Answers.{StopsAs};
 
 use crate::ahead::{next_begins_index, next_is_name, next_is_number, next_is_sign, next_is_word};
-use crate::marks::{
-    CLOSE_BRACE, COLON, DOTS, OPEN_BRACE, SEMICOLON, WORD_ARRAY, WORD_BOOLEAN, WORD_OF, WORD_STRUCT,
-};
 use crate::names::names;
 use crate::nodes::{array_of, field_of};
 use crate::single::{name, number, opening_sign, opening_word, sign, word};
 use crate::stop::Read;
 use smv_core::seq::Seq;
+use smv_core::signs::{
+    CLOSE_BRACE, COLON, DOTS, OPEN_BRACE, SEMICOLON, WORD_ARRAY, WORD_BOOLEAN, WORD_OF, WORD_STRUCT,
+};
 use smv_core::token::Token;
 use smv_core::tree::{Field, Span, TypeExpr};
 use std::alloc::Global;

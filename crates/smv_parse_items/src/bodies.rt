@@ -13,14 +13,14 @@ ghost use Rattle.smv_parse_items.specs.Pieces.{read_parts, read_chosen, put_afte
 
 use smv_core::name::Name;
 use smv_core::seq::Seq;
+use smv_core::signs::{
+    CLOSE_BRACE, CLOSE_BRACKET, CLOSE_PAREN, COLON, COMMA, DOT, OPEN_BRACE, OPEN_BRACKET,
+    OPEN_PAREN, SEMICOLON, WORD_ASSERT, WORD_G, WORD_LAYER,
+};
 use smv_core::token::{Token, TokenKind};
 use smv_core::tree::{Expr, Item, Kind, Part, Path, Role, Stmt, Word};
 use smv_parse_expressions::ahead::{next_is_part, next_is_sign, next_is_word};
 use smv_parse_expressions::exprs::expr;
-use smv_parse_expressions::marks::{
-    CLOSE_BRACE, CLOSE_BRACKET, CLOSE_PAREN, COLON, COMMA, DOT, OPEN_BRACE, OPEN_BRACKET,
-    OPEN_PAREN, SEMICOLON, WORD_ASSERT, WORD_G, WORD_LAYER,
-};
 use smv_parse_expressions::names::names;
 use smv_parse_expressions::single::{name, opening_sign, sign, word};
 use smv_parse_expressions::stop::Stop;
@@ -519,7 +519,11 @@ fn behind_name(
 
 /// What begins with a name in a body.
 #[tactic(auto, unfolding(law_grammar::specs::Items::read_named_body))]
-pub fn named_body(alloc: Global, levels: u8, tokens: &[Token]) -> Result<(Item, &[Token]), Stop>
+pub(crate) fn named_body(
+    alloc: Global,
+    levels: u8,
+    tokens: &[Token],
+) -> Result<(Item, &[Token]), Stop>
     ensures found { IfOk result (λ found. read_named_body levels tokens.now ≡ Ok (found.0, found.1.now)) }
     ensures stop { IfErr result (λ stop. StopsAs stop (read_named_body levels tokens.now)) }
 {
@@ -529,7 +533,11 @@ pub fn named_body(alloc: Global, levels: u8, tokens: &[Token]) -> Result<(Item, 
 
 /// A declaration with a role.
 #[tactic(auto, unfolding(law_grammar::specs::Items::read_with_role))]
-pub fn with_role(alloc: Global, levels: u8, tokens: &[Token]) -> Result<(Item, &[Token]), Stop>
+pub(crate) fn with_role(
+    alloc: Global,
+    levels: u8,
+    tokens: &[Token],
+) -> Result<(Item, &[Token]), Stop>
     ensures found { IfOk result (λ found. read_with_role levels tokens.now ≡ Ok (found.0, found.1.now)) }
     ensures stop { IfErr result (λ stop. StopsAs stop (read_with_role levels tokens.now)) }
 {

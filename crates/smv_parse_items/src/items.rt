@@ -10,12 +10,10 @@ use crate::bodies::{layer, named, named_body, with_role};
 use crate::references::{split, using_item};
 use smv_core::boxed::Boxed;
 use smv_core::seq::Seq;
+use smv_core::signs::{CLOSE_BRACE, OPEN_BRACE, WORD_FORALL, WORD_LAYER, WORD_SUBCASE, WORD_USING};
 use smv_core::token::Token;
 use smv_core::tree::Item;
 use smv_parse_expressions::ahead::{next_is_name, next_is_sign, next_is_word};
-use smv_parse_expressions::marks::{
-    CLOSE_BRACE, OPEN_BRACE, WORD_FORALL, WORD_LAYER, WORD_SUBCASE, WORD_USING,
-};
 use smv_parse_expressions::single::{opening_sign, opening_word, sign};
 use smv_parse_expressions::stop::Stop;
 use smv_parse_statements::ahead::{next_begins_body, next_begins_item, next_is_role};

@@ -11,15 +11,15 @@ ghost use Rattle.smv_parse_expressions.specs.Answers.{StopsAs};
 ghost use Rattle.smv_parse_items.specs.Pieces.{read_names, read_keep_behind, read_split_behind, read_split_for};
 
 use smv_core::seq::Seq;
-use smv_core::token::Token;
-use smv_core::tree::{Expr, Item, Pair, Ref, Use, Word};
-use smv_parse_expressions::ahead::{next_is_name, next_is_part, next_is_sign};
-use smv_parse_expressions::exprs::sum;
-use smv_parse_expressions::marks::{
+use smv_core::signs::{
     ARROW, CLOSE_BRACE, CLOSE_BRACKET, CLOSE_PAREN, COMMA, DOT, EQUAL, OPEN_BRACE, OPEN_BRACKET,
     OPEN_PAREN, SEMICOLON, SLASHES, WORD_FOR, WORD_FREE, WORD_OF, WORD_PROVE, WORD_SUBCASE,
     WORD_USING,
 };
+use smv_core::token::Token;
+use smv_core::tree::{Expr, Item, Pair, Ref, Use, Word};
+use smv_parse_expressions::ahead::{next_is_name, next_is_part, next_is_sign};
+use smv_parse_expressions::exprs::sum;
 use smv_parse_expressions::names::names;
 use smv_parse_expressions::single::{name, opening_sign, sign, word};
 use smv_parse_expressions::stop::Stop;
@@ -27,7 +27,7 @@ use smv_parse_statements::ahead::next_is_name_and_sign;
 use std::alloc::Global;
 
 /// [ name { ',' name } ]
-pub fn names_or_none(alloc: Global, tokens: &[Token]) -> Result<(Seq<Word>, &[Token]), Stop>
+pub(crate) fn names_or_none(alloc: Global, tokens: &[Token]) -> Result<(Seq<Word>, &[Token]), Stop>
     ensures found { IfOk result (λ found. read_separated_or_none (any_name ∷ []) (take a_name) tokens.now ≡ Ok (found.0, found.1.now)) }
     ensures stop { IfErr result (λ stop. StopsAs stop (read_separated_or_none (any_name ∷ []) (take a_name) tokens.now)) }
 {
@@ -278,7 +278,11 @@ fn references(alloc: Global, levels: u8, tokens: &[Token]) -> Result<(Seq<Ref>, 
 
 /// 'using' uses 'prove' references ';'
 #[tactic(auto, unfolding(law_grammar::specs::References::read_using))]
-pub fn using_item(alloc: Global, levels: u8, tokens: &[Token]) -> Result<(Item, &[Token]), Stop>
+pub(crate) fn using_item(
+    alloc: Global,
+    levels: u8,
+    tokens: &[Token],
+) -> Result<(Item, &[Token]), Stop>
     ensures found { IfOk result (λ found. read_using levels (item_readers levels).ref tokens.now ≡ Ok (found.0, found.1.now)) }
     ensures stop { IfErr result (λ stop. StopsAs stop (read_using levels (item_readers levels).ref tokens.now)) }
 {

@@ -8,13 +8,13 @@ ghost use Rattle.smv_parse_items.specs.Reading.{StopsText};
 use crate::items::bodies;
 use crate::references::names_or_none;
 use smv_core::seq::Seq;
-use smv_core::token::Token;
-use smv_core::tree::{Span, Text, Top, Word};
-use smv_parse_expressions::ahead::next_is_word;
-use smv_parse_expressions::marks::{
+use smv_core::signs::{
     CLOSE_BRACE, CLOSE_PAREN, OPEN_BRACE, OPEN_PAREN, SEMICOLON, WORD_MODULE, WORD_ORDSET,
     WORD_SCALARSET, WORD_TYPEDEF, WORD_UNDEFINED,
 };
+use smv_core::token::Token;
+use smv_core::tree::{Span, Text, Top, Word};
+use smv_parse_expressions::ahead::next_is_word;
 use smv_parse_expressions::single::{name, opening_sign, sign, word};
 use smv_parse_expressions::stop::Stop;
 use smv_parse_expressions::types::{span, type_expr};

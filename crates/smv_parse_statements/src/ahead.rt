@@ -9,12 +9,12 @@ ghost use Rattle.law_grammar.specs.Expressions.{expr_marks};
 ghost use Rattle.law_grammar.specs.Statements.{stmt_marks};
 ghost use Rattle.law_grammar.specs.Items.{item_marks, role_marks, body_marks, top_marks};
 
-use smv_core::token::{Token, TokenKind};
-use smv_parse_expressions::marks::{
+use smv_core::signs::{
     COLON, COMMA, OPEN_BRACE, WORD_ABSTRACT, WORD_DEFAULT, WORD_FOR, WORD_FORALL, WORD_IF,
     WORD_INIT, WORD_INPUT, WORD_LAYER, WORD_MODULE, WORD_NEXT, WORD_ORDSET, WORD_OUTPUT,
     WORD_SCALARSET, WORD_SUBCASE, WORD_SWITCH, WORD_TYPEDEF, WORD_USING,
 };
+use smv_core::token::{Token, TokenKind};
 
 /// Whether a name comes next, and this sign behind it.
 pub fn next_is_name_and_sign(place: u8, tokens: &[Token]) -> bool
@@ -38,7 +38,7 @@ pub fn next_is_name_and_sign(place: u8, tokens: &[Token]) -> bool
 }
 
 /// Whether a label begins.
-pub fn next_begins_label(tokens: &[Token]) -> bool
+pub(crate) fn next_begins_label(tokens: &[Token]) -> bool
     ensures { result ≡ starts (begins (any_number ∷ any_name ∷ [])) tokens.now }
 {
     match tokens.split_first() {
@@ -61,7 +61,7 @@ pub fn next_is_comma_or_colon(tokens: &[Token]) -> bool
 }
 
 /// Whether `init` or `next` comes next.
-pub fn next_is_moment(tokens: &[Token]) -> bool
+pub(crate) fn next_is_moment(tokens: &[Token]) -> bool
     ensures { result ≡ starts (begins (exactly w.word_init ∷ exactly w.word_next ∷ [])) tokens.now }
 {
     match tokens.split_first() {
@@ -89,7 +89,7 @@ pub fn next_begins_expr(tokens: &[Token]) -> bool
 }
 
 /// Whether a statement begins.
-pub fn next_begins_stmt(tokens: &[Token]) -> bool
+pub(crate) fn next_begins_stmt(tokens: &[Token]) -> bool
     ensures { result ≡ starts (begins stmt_marks) tokens.now }
 {
     match tokens.split_first() {

@@ -12,14 +12,14 @@ use crate::ahead::{next_begins_label, next_begins_stmt, next_is_moment};
 use crate::parts::{assignment, binder, header, labels, timed};
 use smv_core::boxed::Boxed;
 use smv_core::seq::Seq;
+use smv_core::signs::{
+    CLOSE_BRACE, COLON, OPEN_BRACE, WORD_DEFAULT, WORD_ELSE, WORD_FOR, WORD_FORALL, WORD_IF,
+    WORD_IN, WORD_SWITCH,
+};
 use smv_core::token::Token;
 use smv_core::tree::{Arm, Expr, Stmt};
 use smv_parse_expressions::ahead::{next_is_name, next_is_sign, next_is_word};
 use smv_parse_expressions::exprs::condition;
-use smv_parse_expressions::marks::{
-    CLOSE_BRACE, COLON, OPEN_BRACE, WORD_DEFAULT, WORD_ELSE, WORD_FOR, WORD_FORALL, WORD_IF,
-    WORD_IN, WORD_SWITCH,
-};
 use smv_parse_expressions::single::{opening_sign, opening_word, sign, word};
 use smv_parse_expressions::stop::Stop;
 use std::alloc::Global;

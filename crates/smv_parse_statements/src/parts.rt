@@ -10,13 +10,11 @@ ghost use Rattle.smv_parse_statements.specs.Pieces.{read_counted, read_stepped, 
 
 use crate::tokens::{bound_sign, moment, positive, same_name};
 use smv_core::seq::Seq;
+use smv_core::signs::{BECOMES, CLOSE_PAREN, COMMA, EQUAL, OPEN_PAREN, PLUS, SEMICOLON, WORD_IN};
 use smv_core::token::Token;
 use smv_core::tree::{Expr, Kind, Part, Path, Stmt, TypeExpr, Word};
 use smv_parse_expressions::ahead::{next_is_number, next_is_sign};
 use smv_parse_expressions::exprs::{expr, path};
-use smv_parse_expressions::marks::{
-    BECOMES, CLOSE_PAREN, COMMA, EQUAL, OPEN_PAREN, PLUS, SEMICOLON, WORD_IN,
-};
 use smv_parse_expressions::single::{name, number, opening_sign, sign, word};
 use smv_parse_expressions::stop::Stop;
 use smv_parse_expressions::types::index;
@@ -165,7 +163,7 @@ fn counted(var: Word, tokens: &[Token]) -> Result<(Turns, &[Token]), Stop>
 
 /// '(' and the header of a `for` up to its ')'.
 #[tactic(auto, using(law_grammar::proofs::Steps::open_then), unfolding(law_grammar::specs::Statements::read_turns))]
-pub fn header(alloc: Global, levels: u8, tokens: &[Token]) -> Result<(Turns, &[Token]), Stop>
+pub(crate) fn header(alloc: Global, levels: u8, tokens: &[Token]) -> Result<(Turns, &[Token]), Stop>
     ensures found { IfOk result (λ found. read_turns levels tokens.now ≡ Ok (record { var = found.0.var; from = found.0.from; to = found.0.to; closed = found.0.closed; step = found.0.step }, found.1.now)) }
     ensures stop { IfErr result (λ stop. StopsAs stop (read_turns levels tokens.now)) }
 {

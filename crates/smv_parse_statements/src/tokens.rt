@@ -8,11 +8,11 @@ ghost use Rattle.law_grammar.specs.Items.{roles};
 ghost use Rattle.smv_parse_expressions.specs.Answers.{StopsAs};
 
 use smv_core::name::Name;
-use smv_core::token::{Token, TokenKind};
-use smv_core::tree::{Kind, Role, Word};
-use smv_parse_expressions::marks::{
+use smv_core::signs::{
     AT_MOST, LESS, WORD_ABSTRACT, WORD_INIT, WORD_INPUT, WORD_NEXT, WORD_OUTPUT,
 };
+use smv_core::token::{Token, TokenKind};
+use smv_core::tree::{Kind, Role, Word};
 use smv_parse_expressions::stop::Stop;
 
 /// The name that was written before; its bytes and its offset.
@@ -39,7 +39,7 @@ pub fn same_name<'a>(
 }
 
 /// A number that is at least 1.
-pub fn positive(tokens: &[Token]) -> Result<(u16, &[Token]), Stop>
+pub(crate) fn positive(tokens: &[Token]) -> Result<(u16, &[Token]), Stop>
     ensures found { IfOk result (λ found. take a_positive tokens.now ≡ Ok (found.0, found.1.now)) }
     ensures stop { IfErr result (λ stop. StopsAs stop (take a_positive tokens.now)) }
 {
@@ -59,7 +59,7 @@ pub fn positive(tokens: &[Token]) -> Result<(u16, &[Token]), Stop>
 }
 
 /// `init` or `next`; its kind and its offset.
-pub fn moment(tokens: &[Token]) -> Result<((Kind, u32), &[Token]), Stop>
+pub(crate) fn moment(tokens: &[Token]) -> Result<((Kind, u32), &[Token]), Stop>
     ensures found { IfOk result (λ found. take (an_entry moments) tokens.now ≡ Ok (found.0, found.1.now)) }
     ensures stop { IfErr result (λ stop. StopsAs stop (take (an_entry moments) tokens.now)) }
 {
@@ -82,7 +82,7 @@ pub fn moment(tokens: &[Token]) -> Result<((Kind, u32), &[Token]), Stop>
 }
 
 /// `<` or `<=`; whether the bound is reached, and the offset.
-pub fn bound_sign(tokens: &[Token]) -> Result<((bool, u32), &[Token]), Stop>
+pub(crate) fn bound_sign(tokens: &[Token]) -> Result<((bool, u32), &[Token]), Stop>
     ensures found { IfOk result (λ found. take (an_entry bounds) tokens.now ≡ Ok (found.0, found.1.now)) }
     ensures stop { IfErr result (λ stop. StopsAs stop (take (an_entry bounds) tokens.now)) }
 {

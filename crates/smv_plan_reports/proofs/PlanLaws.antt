@@ -1,10 +1,11 @@
 -- The units of a plan, one by one.
-use Rattle.std.proofs.Common.{◌≡◌, ℕ, zero, suc, ◌+◌, ◌<◌, ◌≤◌, List, [], ◌∷◌, ◌++◌, length, get_or, take, Bool, true, false, ◌||◌, refl, sym, ap, subst, ◌∙◌, Option, Some, None, nat_lt, arith}
-use Rattle.std.specs.Prelude.{if◌then◌else◌, unwrap_or}
+use Rattle.std.proofs.Common.{◌≡◌, ℕ, zero, suc, ◌+◌, ◌<◌, ◌≤◌, List, [], ◌∷◌, ◌++◌, length, get_or, take, refl, sym, ap, subst, ◌∙◌, Option, Some, arith}
+use Rattle.std.specs.Prelude.{unwrap_or}
 use Rattle.std.specs.List.{slice_get}
 use Rattle.std.proofs.Math.Seq.{take-length}
-use Rattle.std.proofs.lemmas.Bool.Decides.{nat_tests}
 use Rattle.std.proofs.lemmas.List.{take_more, length-take-le}
+use Rattle.std.proofs.lemmas.Option.{slice_get-get_or}
+use Rattle.law_lists.proofs.Options.{some_is}
 use Rattle.smv_core.specs.declared.flat.Design.{Design}
 use Rattle.smv_core.specs.declared.flat.Unit.{Unit}
 use Rattle.smv_core.specs.declared.flat.Unit.TheVariants.{Claim}
@@ -24,29 +25,22 @@ use Rattle.law_splits.specs.Leaves.{name_of}
 use Rattle.smv_problem.specs.declared.report.Verdict.{Verdict}
 use Rattle.smv_problem.specs.declared.report.UnitResult.{UnitResult}
 use Rattle.smv_problem.specs.declared.report.Plan.{Plan}
-use Rattle.law_problems.specs.Parts.{IsCaseOf, entry_of, case_with, cases_fault, fault_at_unit}
+use Rattle.law_problems.specs.Parts.{IsCaseOf, entry_of, case_with}
 use Rattle.law_reports.specs.Reports.{IsResultOf, AreResultsFrom}
 use Rattle.law_reports.specs.Told.{IsToldBy}
 use Rattle.law_reports.specs.PlanLaws.{IsAt}
 use Rattle.law_reports.proofs.Plans.{is_entry, told_is}
 use Rattle.smv_decide.specs.Leaves.{classes_in, AreCases}
 use Rattle.law_valid_texts.specs.Rooms.{HasRoom, IsWholePlan}
-
-some_is : {X : Type 0} {x y : X} → Some x ≡ Some y → x ≡ y
-some_is e = cc
-
-get_there : {X : Type 0} (xs : List X) (u : ℕ) (d : X) → u < length xs → slice_get xs u ≡ Some (get_or xs u d)
-get_there [] u d lt = absurd (omega arith)
-get_there (x ∷ xs) zero d lt = refl
-get_there (x ∷ xs) (suc u) d lt = get_there xs u d (omega arith)
+use Rattle.law_valid_texts.proofs.Rooms.{few_params}
 
 -- what stands at a place of a list that a slice shows
 pub part_at : {X : Type 0} (xs shown : List X) (u : ℕ) (x : X) → shown ≡ xs → u < length xs → x ≡ get_or shown u x → slice_get xs u ≡ Some x
-part_at {X} xs shown u x same lt is = get_there xs u x lt ∙ ap Some (sym (subst (λ (ys : List X). x ≡ get_or ys u x) same is))
+part_at {X} xs shown u x same lt is = slice_get-get_or xs u x lt ∙ ap Some (sym (subst (λ (ys : List X). x ≡ get_or ys u x) same is))
 
 -- what is copied from there
 pub copied_at : {X : Type 0} (xs shown : List X) (u : ℕ) (d : X) → shown ≡ xs → u < length xs → slice_get xs u ≡ Some (get_or shown u d)
-copied_at {X} xs shown u d same lt = get_there xs u d lt ∙ ap (λ (ys : List X). Some (get_or ys u d)) (sym same)
+copied_at {X} xs shown u d same lt = slice_get-get_or xs u d lt ∙ ap (λ (ys : List X). Some (get_or ys u d)) (sym same)
 
 -- ---- cases
 
@@ -54,13 +48,6 @@ Has_map : (cases : List CaseData) (c : CaseData) → Has cases c → Has (classe
 Has_map (x ∷ cases) _ first = first
 Has_map (x ∷ cases) c (later h) = later (Has_map cases c h)
 Has_map [] c h = elim h [ ]
-
-few_params : (d : Design) (leaf : Leaf) (choice : Choice) → cases_fault d leaf choice ≡ None → length leaf.params ≤ 8
-few_params d leaf choice e = by (nat_lt 8 (length leaf.params)) refl e
-  where
-    by : (b : Bool) → nat_lt 8 (length leaf.params) ≡ b → (if b || nat_lt 4096 (length (leaf_cases d.sets leaf.params choice.keeps)) then Some (fault_at_unit 29 d leaf) else None) ≡ None → length leaf.params ≤ 8
-    by true is e = absurd (cc)
-    by false is e = grind (arith, nat_tests)
 
 pub cases_are : (d : Design) (leaf : Leaf) (choice : Choice) (cases : List CaseData) → HasRoom d leaf choice → classes_in cases ≡ leaf_cases d.sets leaf.params choice.keeps → AreCases d leaf choice cases
 cases_are d leaf choice cases room same = record {

@@ -19,7 +19,7 @@ use smv_problem::Budgets;
 use std::alloc::{AllocError, Global};
 
 /// Decides a leaf that has room: by all its cases, in order, up to the first that is not true. What the problems of all cases of the design have in common is moved in, and given back.
-pub fn decide_leaf(
+fn decide_leaf(
     alloc: Global,
     shared: Shared,
     task: &Task,
@@ -42,7 +42,7 @@ pub fn decide_leaf(
 }
 
 /// The same, where the table has the base definitions: what the leaf's picks choose is put there, and the base definitions are put back.
-pub fn decide_in<'a>(
+pub(crate) fn decide_in<'a>(
     alloc: Global,
     shared: Shared,
     design: &'a Design,

@@ -67,7 +67,7 @@ pub fn results(alloc: Global, plan: &Plan, budgets: Budgets) -> Result<Seq<UnitR
 }
 
 /// What is decided of the unit at a place of a plan, alone.
-pub fn result_alone(
+pub(crate) fn result_alone(
     alloc: Global,
     plan: &Plan,
     u: usize,

@@ -1,13 +1,14 @@
 -- The first fault of cases, leaf by leaf.
-use Rattle.std.proofs.Common.{◌≡◌, ◌<◌, ◌≤◌, ◌+◌, ℕ, zero, suc, List, [], ◌∷◌, length, get_or, drop, refl, ap, sym, ◌∙◌, arith}
+use Rattle.std.proofs.Common.{◌≡◌, ◌<◌, ◌≤◌, ◌+◌, ℕ, suc, List, ◌∷◌, length, get_or, drop, refl, ap, sym, ◌∙◌, arith}
 use Rattle.std.specs.Prelude.{Option, Some, None, option_to_list}
+use Rattle.law_lists.proofs.Places.{drop_read, drop_past}
 use Rattle.smv_core.specs.declared.fault.Fault.{Fault}
 use Rattle.smv_core.specs.declared.flat.Design.{Design}
 use Rattle.smv_core.specs.declared.flat.Leaf.{Leaf}
 use Rattle.smv_core.specs.declared.flat.Choice.{Choice}
 use Rattle.smv_mentions.specs.FirstFault.{first_of}
 use Rattle.smv_first_fault.specs.Firsts.{earlier_of}
-use Rattle.smv_first_fault.proofs.FirstLaws.{first-both, earlier-assoc}
+use Rattle.smv_first_fault.proofs.FirstLaws.{first-both, earlier-assoc, earlier-none}
 use Rattle.smv_cases.specs.Faults.{cases_fault}
 use Rattle.smv_plans.specs.Plans.{faults_of_cases}
 
@@ -15,27 +16,12 @@ first-one : (f : Option Fault) → first_of (option_to_list f) ≡ f
 first-one None = refl
 first-one (Some f) = refl
 
-none-after : (f : Option Fault) → earlier_of f None ≡ f
-none-after None = refl
-none-after (Some f) = refl
-
 -- one leaf more
 pub case-step : (d : Design) (found fault : Option Fault) (leaf : Leaf) (choice : Choice) (leaves : List Leaf) (choices : List Choice) → fault ≡ cases_fault d leaf choice
     → earlier_of (earlier_of found fault) (first_of (faults_of_cases d leaves choices)) ≡ earlier_of found (first_of (faults_of_cases d (leaf ∷ leaves) (choice ∷ choices)))
 case-step d found fault leaf choice leaves choices is =
     earlier-assoc found fault (first_of (faults_of_cases d leaves choices))
     ∙ ap (earlier_of found) (ap (λ f. earlier_of f (first_of (faults_of_cases d leaves choices))) (is ∙ sym (first-one (cases_fault d leaf choice))) ∙ sym (first-both (option_to_list (cases_fault d leaf choice)) (faults_of_cases d leaves choices)))
-
-drop-at : {A : Type 0} (xs : List A) (n : ℕ) (x : A) → n < length xs → x ≡ get_or xs n x → drop n xs ≡ x ∷ drop (suc n) xs
-drop-at [] n x within is = absurd (omega (arith, within))
-drop-at (y ∷ ys) zero x within is = ap (λ z. z ∷ ys) (sym is)
-drop-at (y ∷ ys) (suc n) x within is = drop-at ys n x (omega (arith, within)) is
-
-drop-past : {A : Type 0} (xs : List A) (n : ℕ) → length xs ≤ n → drop n xs ≡ []
-drop-past [] zero past = refl
-drop-past [] (suc n) past = refl
-drop-past (x ∷ xs) zero past = absurd (omega (arith, past))
-drop-past (x ∷ xs) (suc n) past = drop-past xs n (omega (arith, past))
 
 module _ (d : Design) (leaves : List Leaf) (choices : List Choice) where
   -- the faults of the leaves from this place on
@@ -48,9 +34,9 @@ module _ (d : Design) (leaves : List Leaf) (choices : List Choice) where
       let next : n + 1 ≡ suc n = omega arith in
       ap (λ m. earlier_of (earlier_of found fault) (left m)) next
       ∙ case-step d found fault leaf choice (drop (suc n) leaves) (drop (suc n) choices) is
-      ∙ ap (λ l. earlier_of found (first_of (faults_of_cases d l (choice ∷ drop (suc n) choices)))) (sym (drop-at leaves n leaf one first))
-      ∙ ap (λ l. earlier_of found (first_of (faults_of_cases d (drop n leaves) l))) (sym (drop-at choices n choice other second)) ∙ so_far
+      ∙ ap (λ l. earlier_of found (first_of (faults_of_cases d l (choice ∷ drop (suc n) choices)))) (sym (drop_read leaves n leaf one first))
+      ∙ ap (λ l. earlier_of found (first_of (faults_of_cases d (drop n leaves) l))) (sym (drop_read choices n choice other second)) ∙ so_far
 
   pub none-left : (n : ℕ) (found whole : Option Fault) → length leaves ≤ n → earlier_of found (left n) ≡ whole → found ≡ whole
   none-left n found whole past so_far =
-      sym (none-after found) ∙ ap (λ l. earlier_of found (first_of (faults_of_cases d l (drop n choices)))) (sym (drop-past leaves n past)) ∙ so_far
+      sym (earlier-none found) ∙ ap (λ l. earlier_of found (first_of (faults_of_cases d l (drop n choices)))) (sym (drop_past leaves n past)) ∙ so_far

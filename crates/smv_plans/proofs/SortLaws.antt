@@ -7,6 +7,7 @@ use Rattle.std.specs.Ordering.{is_lt, nat_cmp}
 use Rattle.std.proofs.lemmas.Bool.Decides.{nat_tests}
 use Rattle.std.proofs.lemmas.List.{append-nil}
 use Rattle.std.proofs.lemmas.Grind.{reverse_onto}
+use Rattle.law_lists.proofs.Numbers.{nat_eq-below, nat_eq-is}
 use Rattle.smv_core.specs.declared.flat.Unit.{Unit as FlatUnit}
 use Rattle.smv_core.specs.declared.flat.Unit.TheVariants as unit
 use Rattle.law_obligations.specs.Units.{put, in_order}
@@ -27,19 +28,13 @@ IsRising (x ∷ xs) = AllByRecursion (λ (y : Placed). x.0 ≤ y.0) xs × IsRisi
 same-number : (k : ℕ) → nat_eq k k ≡ true
 same-number k = grind (arith, nat_tests)
 
-later : (a b : ℕ) → a < b → nat_eq a b ≡ false
-later a b h = grind (arith, nat_tests)
-
-equal : (m n : ℕ) → nat_eq m n ≡ true → m ≡ n
-equal m n h = grind (arith, nat_tests)
-
 all-from : (a b : ℕ) (xs : List Placed) → a ≤ b → AllByRecursion (λ (y : Placed). b ≤ y.0) xs → AllByRecursion (λ (y : Placed). a ≤ y.0) xs
 all-from a b [] h k = tt
 all-from a b (x ∷ xs) h k = ((let le : b ≤ x.0 = k.0 in omega arith), all-from a b xs h k.1)
 
 none-at : (k b : ℕ) (xs : List Placed) → k < b → AllByRecursion (λ (y : Placed). b ≤ y.0) xs → filter (at k) xs ≡ []
 none-at k b [] h all = refl
-none-at k b (x ∷ xs) h all = ap (λ t. cond t (x ∷ filter (at k) xs) (filter (at k) xs)) (later k x.0 (let le : b ≤ x.0 = all.0 in omega arith)) ∙ none-at k b xs h all.1
+none-at k b (x ∷ xs) h all = ap (λ t. cond t (x ∷ filter (at k) xs) (filter (at k) xs)) (nat_eq-below k x.0 (let le : b ≤ x.0 = all.0 in omega arith)) ∙ none-at k b xs h all.1
 
 first-at : (x : Placed) (xs : List Placed) → filter (at x.0) (x ∷ xs) ≡ x ∷ filter (at x.0) xs
 first-at x xs = ap (λ t. cond t (x ∷ filter (at x.0) xs) (filter (at x.0) xs)) (same-number x.0)
@@ -115,7 +110,7 @@ put-at k x (y ∷ xs) up = by (nat_lt x.0 y.0) refl (put-at k x xs up.1)
   where
     by_place : (t : Bool) → nat_eq k x.0 ≡ t → x.0 < y.0 → cond t (x ∷ filter (at k) (y ∷ xs)) (filter (at k) (y ∷ xs)) ≡ filter (at k) (y ∷ xs) ++ cond t (x ∷ []) []
     by_place true e less =
-        let same : k ≡ x.0 = equal k x.0 e in
+        let same : k ≡ x.0 = nat_eq-is k x.0 e in
         let none : filter (at k) (y ∷ xs) ≡ [] = none-at k y.0 (y ∷ xs) (omega arith) ((let le : y.0 ≤ y.0 = omega arith in le), up.0) in
         ap (λ l. x ∷ l) none ∙ sym (ap (λ l. l ++ x ∷ []) none)
     by_place false e less = sym (append-nil (filter (at k) (y ∷ xs)))

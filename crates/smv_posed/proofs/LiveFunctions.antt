@@ -1,15 +1,10 @@
 -- The functions of a Rel are live.
-use Rattle.std.proofs.Common.{◌≡◌, List, sym, subst, refl}
+use Rattle.std.proofs.Common.{◌≡◌, List, refl}
 use Rattle.bdd_store.specs.declared.Ref.{Ref}
 use Rattle.bdd_store.specs.Diagram.{Diagram, IsLive, AreLive}
 use Rattle.smv_rings.specs.declared.Rel.{Rel}
 use Rattle.smv_rings.specs.Lists.{IsRel, refs_of}
-use Rattle.smv_rings.specs.Ops.{IsOneOf}
-use Rattle.smv_rings.proofs.Refs.{each_live, live_each, in_now_first, in_before_first, in_broken_first, in_now_step, in_before_step, in_broken_step}
-
--- a list of the Rel that is seen as a slice
-part_live : (d : Diagram) (all part shown : List Ref) → AreLive d all → ((r : Ref) → IsOneOf r part → IsOneOf r all) → shown ≡ part → AreLive d shown
-part_live d all part shown live sub e = subst (AreLive d) (sym e) (live_each d part (λ r one. each_live d all live r (sub r one)))
+use Rattle.smv_rings.proofs.Refs.{each_live, in_now_first, in_before_first, in_broken_first, in_now_step, in_before_step, in_broken_step, part_live}
 
 module _ (d : Diagram) (rel : Rel) (is : IsRel d rel) where
   pub now_first_live : (shown : List Ref) → shown ≡ rel.now_first.items → AreLive d shown

@@ -1,4 +1,3 @@
-pub mod Spellings
 pub mod Written
 pub mod Types
 pub mod Expressions

@@ -5,7 +5,7 @@ use Rattle.smv_core.specs.declared.token.TokenKind.{TokenKind}
 use Rattle.smv_core.specs.declared.token.TokenKind.TheVariants.{Ident, Number, Sign, Reserved}
 use Rattle.smv_core.specs.Notation.{same_kind}
 use Rattle.smv_core.specs.Signs.{semicolon}
-use Rattle.smv_print.specs.Spellings.{signs, reserved_words}
+use Rattle.smv_core.specs.Spellings.{signs, reserved_words}
 
 abbrev pub Kinds : Type 0
 Kinds = List TokenKind

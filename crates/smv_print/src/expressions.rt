@@ -6,13 +6,13 @@ ghost use Rattle.smv_print.specs.Written.{separated, written};
 ghost use Rattle.smv_print.specs.Types.{type_kinds};
 ghost use Rattle.smv_print.specs.Expressions as spec;
 
-use crate::marks::{
+use crate::types::{span, type_of};
+use crate::write::{name, number, reserved, sign};
+use smv_core::signs::{
     AMPERSAND, ARROW, AT_LEAST, AT_MOST, BAR, CLOSE_BRACE, CLOSE_BRACKET, CLOSE_PAREN, COLON,
     COMMA, DIFFER, DOT, DOUBLE_ARROW, EQUAL, GREATER, LESS, MINUS, OPEN_BRACE, OPEN_BRACKET,
     OPEN_PAREN, PLUS, QUESTION, TILDE, WORD_IN, WORD_MOD,
 };
-use crate::types::{span, type_of};
-use crate::write::{name, number, reserved, sign};
 use smv_core::tree::{Expr, Member, Op, Part, Path, Signed, TypeExpr, Word};
 use std::alloc::AllocError;
 
@@ -224,7 +224,7 @@ fn reduction(
 
 // name 'in' Index
 #[tactic(auto, using(crate::proofs::Writing::writing))]
-pub fn range_of(out: &mut Vec<u8>, var: &Word, over: &TypeExpr) -> Result<(), AllocError>
+pub(crate) fn range_of(out: &mut Vec<u8>, var: &Word, over: &TypeExpr) -> Result<(), AllocError>
     ensures { OnOk result (out.new.items ≡ out.old.items ++ written (Ident var.now.name ∷ word_in ∷ type_kinds over.now)) }
 {
     name(out, var)?;

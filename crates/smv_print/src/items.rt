@@ -6,14 +6,14 @@ ghost use Rattle.smv_print.specs.Written.{separated, written};
 ghost use Rattle.smv_print.specs.Items as spec;
 
 use crate::expressions::{CONDITIONAL, SUM, expression};
-use crate::marks::{
+use crate::statements::{binder, expressions, statement, statements};
+use crate::types::{names, type_of};
+use crate::write::{name, reserved, sign};
+use smv_core::signs::{
     ARROW, CLOSE_BRACE, CLOSE_BRACKET, CLOSE_PAREN, COLON, COMMA, DOT, EQUAL, OPEN_BRACE,
     OPEN_BRACKET, OPEN_PAREN, SEMICOLON, SLASHES, WORD_ABSTRACT, WORD_ASSERT, WORD_FOR, WORD_FREE,
     WORD_G, WORD_INPUT, WORD_LAYER, WORD_OF, WORD_OUTPUT, WORD_PROVE, WORD_SUBCASE, WORD_USING,
 };
-use crate::statements::{binder, expressions, statement, statements};
-use crate::types::{names, type_of};
-use crate::write::{name, reserved, sign};
 use smv_core::tree::{Expr, Item, Pair, Ref, Role, Stmt, TypeExpr, Use, Word};
 use std::alloc::AllocError;
 

@@ -5,7 +5,6 @@
 
 mod expressions;
 mod items;
-mod marks;
 mod statements;
 mod text;
 mod types;

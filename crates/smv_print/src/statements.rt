@@ -7,12 +7,12 @@ ghost use Rattle.smv_print.specs.Expressions.{expr_kinds, path_kinds};
 ghost use Rattle.smv_print.specs.Statements as spec;
 
 use crate::expressions::{CONDITIONAL, expression, path, range_of};
-use crate::marks::{
+use crate::write::{name, number, reserved, sign};
+use smv_core::signs::{
     AT_MOST, BECOMES, CLOSE_BRACE, CLOSE_PAREN, COLON, COMMA, EQUAL, LESS, OPEN_BRACE, OPEN_PAREN,
     PLUS, SEMICOLON, WORD_DEFAULT, WORD_ELSE, WORD_FOR, WORD_FORALL, WORD_IF, WORD_IN, WORD_INIT,
     WORD_NEXT, WORD_SWITCH,
 };
-use crate::write::{name, number, reserved, sign};
 use smv_core::tree::{Arm, Expr, Kind, Path, Stmt, TypeExpr, Word};
 use std::alloc::AllocError;
 

@@ -5,12 +5,12 @@ ghost use Rattle.smv_print.specs.Canonical as spec;
 ghost use Rattle.smv_print.specs.Canonical.{canonical};
 
 use crate::items::items;
-use crate::marks::{
+use crate::types::{names, span, type_of};
+use crate::write::{name, reserved, sign};
+use smv_core::signs::{
     CLOSE_BRACE, CLOSE_PAREN, OPEN_BRACE, OPEN_PAREN, SEMICOLON, WORD_MODULE, WORD_ORDSET,
     WORD_SCALARSET, WORD_TYPEDEF, WORD_UNDEFINED,
 };
-use crate::types::{names, span, type_of};
-use crate::write::{name, reserved, sign};
 use smv_core::tree::{Item, Span, Text, Top, TypeExpr, Word};
 use std::alloc::{AllocError, Global};
 

@@ -3,11 +3,11 @@ ghost use Rattle.std.specs.Prelude.{◌≡◌, ◌++◌, OnOk, flat_map};
 ghost use Rattle.smv_print.specs.Written.{written};
 ghost use Rattle.smv_print.specs.Types.{names_kinds, span_kinds, type_kinds, field_kinds};
 
-use crate::marks::{
+use crate::write::{name, number, reserved, sign};
+use smv_core::signs::{
     CLOSE_BRACE, COLON, COMMA, DOTS, OPEN_BRACE, SEMICOLON, WORD_ARRAY, WORD_BOOLEAN, WORD_OF,
     WORD_STRUCT,
 };
-use crate::write::{name, number, reserved, sign};
 use smv_core::tree::{Field, Span, TypeExpr, Word};
 use std::alloc::AllocError;
 

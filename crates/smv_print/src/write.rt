@@ -3,8 +3,8 @@ ghost use Rattle.std.specs.Prelude.{◌≡◌, ◌<◌, ◌++◌, [], OnOk, leng
 ghost use Rattle.smv_core.specs.declared.token.TokenKind.TheVariants.{Ident, Number, Sign, Reserved};
 ghost use Rattle.smv_print.specs.Written.{bytes_of, gap, spaced};
 
-use crate::marks::{RESERVED, SEMICOLON, SIGNS};
 use itoa::Buffer;
+use smv_core::signs::{RESERVED, SEMICOLON, SIGNS};
 use smv_core::tree::Word;
 use std::alloc::AllocError;
 

@@ -12,6 +12,8 @@ use Rattle.smv_spots.specs.declared.spots.Spot.TheVariants as spot
 use Rattle.smv_spots.specs.declared.places.Sort.TheVariants as sort
 use Rattle.smv_spots.specs.Spots.{is_ordset, of_set, both_or_none, is_same_set, place_in, outcome_in, spot_of, classes_of, rests_of, IsWorld}
 use Rattle.std.proofs.lemmas.Option.{slice_get-get_or}
+use Rattle.law_lists.proofs.Anys.{any-map}
+use Rattle.law_lists.proofs.Numbers.{nat_eq-turned}
 use Rattle.smv_spots.proofs.Numbers.{along}
 use Rattle.smv_spots.proofs.TypeLaws as types
 use Rattle.smv_problem.specs.declared.problem.Problem.{Problem}
@@ -64,20 +66,11 @@ below_where p w h s k t m e f = sym (below_in p w h s k t m ∙ (ap (λ b. if b 
 pub below_nowhere : (p : Problem) (w : World) → IsWorldOf p w → (s k t m : ℕ) → (has_gaps (slice_get p.types s) && is_one_set p s t) ≡ false → None ≡ below (Some (of_set (slice_get w.classes.sets s) k)) (Some (of_set (slice_get w.classes.sets t) m))
 below_nowhere p w h s k t m e = sym (below_in p w h s k t m ∙ ap (λ b. if b then Some (nat_lt k m) else None) e)
 
--- a test along a list by its places
-any_map : {X Y : Type 0} (p : Y → Bool) (f : X → Y) (xs : List X) → list_any p (map f xs) ≡ list_any (λ x. p (f x)) xs
-any_map p f [] = refl
-any_map p f (x ∷ xs) = ap (λ b. p (f x) || b) (any_map p f xs)
-
 from_zero : (i : ℕ) → 0 + i ≡ i
 from_zero i = omega arith
 
 any_along : {X : Type 0} (g : ℕ → Bool) (f : X → Bool) (d : X) (xs : List X) → ((i : ℕ) → i < length xs → g i ≡ f (get_or xs i d)) → list_any g (numbers_from 0 (length xs)) ≡ list_any f xs
-any_along g f d xs e = sym (any_map (λ b. b) g (numbers_from 0 (length xs))) ∙ (ap (list_any (λ b. b)) (along g f d 0 xs (λ i l. ap g (from_zero i) ∙ e i l)) ∙ any_map (λ b. b) f xs)
-
-any_never : {X : Type 0} (xs : List X) → list_any (λ x. false) xs ≡ false
-any_never [] = refl
-any_never (x ∷ xs) = any_never xs
+any_along g f d xs e = sym (any-map (λ b. b) g (numbers_from 0 (length xs))) ∙ (ap (list_any (λ b. b)) (along g f d 0 xs (λ i l. ap g (from_zero i) ∙ e i l)) ∙ any-map (λ b. b) f xs)
 
 after_none : (n m : ℕ) → n ≡ m → 0 + n ≡ m
 after_none n m e = omega arith
@@ -85,16 +78,13 @@ after_none n m e = omega arith
 from_none : (k : ℕ) → nat_le 0 k ≡ true
 from_none k = grind arith
 
-either_way : (k m : ℕ) → nat_eq k m ≡ nat_eq m k
-either_way k m = grind arith
-
 never_past : (i n m : ℕ) → i < n → n ≡ m → nat_le m i ≡ false
 never_past i n m l e = grind arith
 
 -- a constant in an enumeration
 constant_listed : (p : Problem) (w : World) → IsWorldOf p w → (list other k : ℕ) → list_any (bytes_eq (name_at w.classes.enums other k)) (get_or w.classes.enums list []) ≡ is_listed_constant p.names list other k
 constant_listed p w h list other k =
-    sym (any_along found (bytes_eq (name_at w.classes.enums other k)) [] names (λ i l. either_way (name_number_at p.names list i) wanted ∙ sym (h.constants other k list i)))
+    sym (any_along found (bytes_eq (name_at w.classes.enums other k)) [] names (λ i l. nat_eq-turned (name_number_at p.names list i) wanted ∙ sym (h.constants other k list i)))
     ∙ (ap (λ n. list_any found (numbers_from 0 n)) (h.lists list ∙ sym (h.names list)) ∙ any_along found (λ number. nat_eq number wanted) 0 numbers (λ i l. refl))
   where
     names : List Name

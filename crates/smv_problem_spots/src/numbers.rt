@@ -76,7 +76,7 @@ pub fn name_number(problem: &Problem, list: u16, value: u16) -> usize
 }
 
 /// Whether two constants are one.
-pub fn is_one_name(problem: &Problem, list: u16, value: u16, other: u16, place: u16) -> bool
+pub(crate) fn is_one_name(problem: &Problem, list: u16, value: u16, other: u16, place: u16) -> bool
     ensures { result ≡ is_one_constant problem.entry.now.names list value other place }
 {
     name_number(problem, list, value) == name_number(problem, other, place)

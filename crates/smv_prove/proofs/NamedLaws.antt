@@ -1,7 +1,9 @@
 -- The first unit of a name, by place.
-use Rattle.std.proofs.Common.{◌≡◌, ◌∙◌, ℕ, zero, suc, ◌+◌, ◌<◌, ◌≤◌, List, [], ◌∷◌, length, get_or, Bool, true, false, refl, sym, ap, subst, Option, Some, None, ◌⊎◌, inl, inr, arith}
+use Rattle.std.proofs.Common.{◌≡◌, ◌∙◌, ℕ, zero, suc, ◌+◌, ◌<◌, ◌≤◌, List, [], ◌∷◌, length, Bool, true, false, refl, sym, ap, subst, Option, Some, None, ◌⊎◌, inl, inr, arith}
 use Rattle.std.specs.Prelude.{if◌then◌else◌, option_map}
 use Rattle.std.specs.List.{slice_get}
+use Rattle.law_splits.proofs.Lists.{place_below}
+use Rattle.law_lists.proofs.Options.{some_is}
 use Rattle.smv_core.specs.declared.flat.Design.{Design}
 use Rattle.smv_core.specs.declared.flat.Unit.{Unit}
 use Rattle.smv_core.specs.declared.flat.Leaf.{Leaf}
@@ -20,14 +22,6 @@ use Rattle.smv_prove.specs.Ready.{IsReady}
 -- none before this place passes
 pub Passed : {X : Type 0} → (X → Bool) → List X → ℕ → Type 0
 Passed {X} test xs i = (k : ℕ) → k < i → (x : X) → slice_get xs k ≡ Some x → test x ≡ false
-
-pub some_is : {X : Type 0} {x y : X} → Some x ≡ Some y → x ≡ y
-some_is e = cc
-
-pub get_there : {X : Type 0} (xs : List X) (i : ℕ) (d : X) → i < length xs → slice_get xs i ≡ Some (get_or xs i d)
-get_there [] i d lt = absurd (omega arith)
-get_there (x ∷ xs) zero d lt = refl
-get_there (x ∷ xs) (suc i) d lt = get_there xs i d (omega arith)
 
 module _ {X : Type 0} (test : X → Bool) where
   pub none_passed : (xs : List X) → Passed test xs 0
@@ -91,19 +85,6 @@ record Mapped (o : Option ℕ) (u : ℕ) : Type 0 where
 map_some : (o : Option ℕ) (u : ℕ) → option_map (λ k. suc k) o ≡ Some u → Mapped o u
 map_some None u e = absurd (cc)
 map_some (Some k) u e = record { from = k; is = refl; next = some_is e }
-
--- a place that is found is one of the list
-below : {X : Type 0} (test : X → Bool) (xs : List X) (u : ℕ) → place_of test xs ≡ Some u → u < length xs
-below test [] u is = absurd (cc)
-below {X} test (x ∷ xs) u is = by (test x) is (λ v at. below test xs v at)
-  where
-    by : (b : Bool) → (if b then Some 0 else option_map (λ k. suc k) (place_of test xs)) ≡ Some u → ((v : ℕ) → place_of test xs ≡ Some v → v < length xs) → u < length (x ∷ xs)
-    by true is more = let zero_is = some_is is in omega arith
-    by false is more =
-        let found = map_some (place_of test xs) u is in
-        let lt = more found.from found.is in
-        let plus = found.next in
-        omega arith
 
 module _ (s : Script) (name : List ℕ) (x : Unit) (y : Leaf) (z : Choice) (k : ℕ) (units : List Unit) (entries : List Entry) where
   named_first : is_named s.design name x ≡ true → named_from s name k (record { unit = x; leaf = y; choice = z } ∷ entries) ≡ Some (k, record { unit = x; leaf = y; choice = z })
@@ -177,7 +158,7 @@ module _ (text : List ℕ) (plan : Plan) (ready : IsReady text plan) (name : Lis
   )
 
   pub is_below : (u : ℕ) → place_of (is_named plan.design name) plan.units ≡ Some u → u < length plan.units
-  is_below u place = below (is_named plan.design name) plan.units u place
+  is_below u place = place_below (is_named plan.design name) plan.units u place
 
   pub is_reported : (nodes steps u : ℕ) → place_of (is_named plan.design name) plan.units ≡ Some u → (report : Report) → ((entry : Entry) → slice_get (script_of plan.design plan.leaves plan.choices).entries u ≡ Some entry → IsReportOfUnit (script_of plan.design plan.leaves plan.choices) nodes steps u entry report)
       → IsUnitReport text name nodes steps report

@@ -2,6 +2,7 @@
 use Rattle.std.proofs.Common.{◌≡◌, ◌<◌, ◌≤◌, ◌+◌, ℕ, zero, suc, List, [], ◌∷◌, zip, length, get_or, drop, refl, ap, sym, ◌∙◌, arith}
 use Rattle.std.specs.Prelude.{Option, Some, None, option_to_list, flat_map}
 use Rattle.std.proofs.lemmas.Option.{slice_get_read}
+use Rattle.law_lists.proofs.Places.{drop_read, drop_past}
 use Rattle.smv_core.specs.declared.fault.Fault.{Fault}
 use Rattle.smv_core.specs.declared.flat.Case.{Case}
 use Rattle.smv_core.specs.declared.flat.Class.{Class}
@@ -11,7 +12,7 @@ use Rattle.smv_core.specs.declared.flat.Choice.{Choice}
 use Rattle.law_obligations.specs.Sets.{Has, first, later}
 use Rattle.smv_mentions.specs.FirstFault.{first_of}
 use Rattle.smv_first_fault.specs.Firsts.{earlier_of}
-use Rattle.smv_first_fault.proofs.FirstLaws.{first-both, earlier-assoc}
+use Rattle.smv_first_fault.proofs.FirstLaws.{first-both, earlier-assoc, earlier-none}
 use Rattle.smv_cases.specs.Slots.{classes_of}
 use Rattle.law_problems.specs.Parts.{IsPart, IsCaseOf, cases_fault, width_fault}
 use Rattle.smv_read_design.specs.Widths.{faults_in, leaf_faults, faults_of_widths, AreParts}
@@ -19,21 +20,6 @@ use Rattle.smv_read_design.specs.Widths.{faults_in, leaf_faults, faults_of_width
 first_one : (f : Option Fault) → first_of (option_to_list f) ≡ f
 first_one None = refl
 first_one (Some f) = refl
-
-none_after : (f : Option Fault) → earlier_of f None ≡ f
-none_after None = refl
-none_after (Some f) = refl
-
-drop_at : {A : Type 0} (xs : List A) (n : ℕ) (x : A) → n < length xs → x ≡ get_or xs n x → drop n xs ≡ x ∷ drop (suc n) xs
-drop_at [] n x within is = absurd (omega (arith, within))
-drop_at (y ∷ ys) zero x within is = ap (λ z. z ∷ ys) (sym is)
-drop_at (y ∷ ys) (suc n) x within is = drop_at ys n x (omega (arith, within)) is
-
-drop_past : {A : Type 0} (xs : List A) (n : ℕ) → length xs ≤ n → drop n xs ≡ []
-drop_past [] zero past = refl
-drop_past [] (suc n) past = refl
-drop_past (x ∷ xs) zero past = absurd (omega (arith, past))
-drop_past (x ∷ xs) (suc n) past = drop_past xs n (omega (arith, past))
 
 -- one part more, in front of others
 part_first : {A : Type 0} (of : A → List Fault) (x : A) (xs : List A) (found fault : Option Fault) → fault ≡ first_of (of x) →
@@ -55,10 +41,10 @@ module _ (d : Design) (leaf : Leaf) (choice : Choice) (cases : List Case) where
       let next : n + 1 ≡ suc n = omega arith in
       ap (λ m. earlier_of (earlier_of found fault) (cases_from m)) next
       ∙ part_first (λ classes. option_to_list (width_fault d leaf choice classes)) case.classes (classes_of (drop (suc n) cases)) found fault (own ∙ sym (first_one (width_fault d leaf choice case.classes)))
-      ∙ ap (λ l. earlier_of found (first_of (faults_in d leaf choice (classes_of l)))) (sym (drop_at cases n case within is)) ∙ so_far
+      ∙ ap (λ l. earlier_of found (first_of (faults_in d leaf choice (classes_of l)))) (sym (drop_read cases n case within is)) ∙ so_far
 
   pub cases_end : (n : ℕ) (found whole : Option Fault) → length cases ≤ n → earlier_of found (cases_from n) ≡ whole → found ≡ whole
-  cases_end n found whole past so_far = sym (none_after found) ∙ ap (λ l. earlier_of found (first_of (faults_in d leaf choice (classes_of l)))) (sym (drop_past cases n past)) ∙ so_far
+  cases_end n found whole past so_far = sym (earlier-none found) ∙ ap (λ l. earlier_of found (first_of (faults_in d leaf choice (classes_of l)))) (sym (drop_past cases n past)) ∙ so_far
 
 pub case_there : (cases : List Case) (n : ℕ) (case : Case) → n < length cases → case ≡ get_or cases n case → Has (classes_of cases) case.classes
 case_there [] n case within is = absurd (omega (arith, within))
@@ -78,12 +64,12 @@ module _ (d : Design) (leaves : List Leaf) (choices : List Choice) where
       let next : n + 1 ≡ suc n = omega arith in
       ap (λ m. earlier_of (earlier_of found fault) (leaves_from m)) next
       ∙ part_first (λ ((l, c) : Leaf × Choice). leaf_faults d l c) (leaf, choice) (zip (drop (suc n) leaves) (drop (suc n) choices)) found fault own
-      ∙ ap (λ l. earlier_of found (first_of (faults_of_widths d l (choice ∷ drop (suc n) choices)))) (sym (drop_at leaves n leaf one is))
-      ∙ ap (λ l. earlier_of found (first_of (faults_of_widths d (drop n leaves) l))) (sym (drop_at choices n choice other same)) ∙ so_far
+      ∙ ap (λ l. earlier_of found (first_of (faults_of_widths d l (choice ∷ drop (suc n) choices)))) (sym (drop_read leaves n leaf one is))
+      ∙ ap (λ l. earlier_of found (first_of (faults_of_widths d (drop n leaves) l))) (sym (drop_read choices n choice other same)) ∙ so_far
 
   pub leaves_end : (n : ℕ) (found whole : Option Fault) → length leaves ≤ n → earlier_of found (leaves_from n) ≡ whole → found ≡ whole
   leaves_end n found whole past so_far =
-      sym (none_after found) ∙ ap (λ l. earlier_of found (first_of (faults_of_widths d l (drop n choices)))) (sym (drop_past leaves n past)) ∙ so_far
+      sym (earlier-none found) ∙ ap (λ l. earlier_of found (first_of (faults_of_widths d l (drop n choices)))) (sym (drop_past leaves n past)) ∙ so_far
 
 -- a leaf at a place is one that the calls take, and has not too many cases
 pub part_there : (d : Design) (leaves : List Leaf) (choices : List Choice) → AreParts d leaves choices → (n : ℕ) (leaf : Leaf) (choice : Choice) → n < length leaves → n < length choices → leaf ≡ get_or leaves n leaf → choice ≡ get_or choices n choice

@@ -22,7 +22,7 @@ use Rattle.law_valid_texts.specs.Faults as valid
 use Rattle.law_valid_texts.specs.Faults.{pass_fault}
 use Rattle.law_answers.specs.Dues.{faulty, malformed, limit}
 use Rattle.law_valid_texts.specs.PartLaws.{LeavesAreParts, LeavesHaveFewCases}
-use Rattle.law_valid_texts.specs.ReadPlanLaws.{WidthsAreLast, ReadTextsAreFaultless, PlansAreOfTexts}
+use Rattle.smv_read_design.specs.ReadPlanLaws.{WidthsAreLast, ReadTextsAreFaultless, PlansAreOfTexts}
 use Rattle.smv_read_design.specs.Widths.{faults_of_widths, AreParts}
 use Rattle.smv_read_design.specs.Answers.{HasPlan, IsFaultOf}
 
@@ -62,7 +62,7 @@ pub any_spelling : (text : List ℕ) (tree : Text) → SpellsText text tree → 
 any_spelling text tree is = (levels, is.0, is.2)
 
 tree_of : (text : List ℕ) (tree : Text) → length text ≤ limit → SpellsText text tree → IsTree text tree
-tree_of text tree within is = record { within = within; tokens = is.0; are_tokens = is.1; spelled = is.2 }
+tree_of text tree within is = record { within = within; spelled = is }
 
 pub plan_had : (text : List ℕ) (tree : Text) (result : Result Plan Refusal) → length text ≤ limit → SpellsText text tree → IfOk result (IsPlan (flat_design tree)) → Refuses (pass_fault tree) result → IfOk result (HasPlan text)
 plan_had text tree (Ok plan) within spelled is none = (tree, record { is_tree = tree_of text tree within spelled; is_faultless = none }, is)
@@ -78,8 +78,3 @@ form_refused text (refusal.Fault f) within bad = λ command deciding. malformed 
 form_refused text refusal.OutOfMemory within bad = tt
 
 pub ruleset of_texts = (any_spelling, plan_had, plan_refused, form_refused)
-
--- a fact of an answer, where there is one, gives another
-pub each_ok : {X E : Type 0} (r : Result X E) (P Q : X → Type 0) → ((x : X) → P x → Q x) → IfOk r P → IfOk r Q
-each_ok (Ok x) P Q so p = so x p
-each_ok (Err e) P Q so p = tt

@@ -10,9 +10,9 @@ ghost use Rattle.law_valid_texts.specs.Faults.{pass_fault};
 ghost use Rattle.law_answers.specs.Dues.{limit};
 ghost use Rattle.smv_read_design.specs.Answers.{HasPlan, IsFaultOf};
 
+use crate::read_plans::{plans_are_of_texts, read_texts_are_faultless, widths_are_last};
 use crate::width_fault;
 use law_valid_texts::parts_of_texts::{leaves_are_parts, leaves_have_few_cases};
-use law_valid_texts::read_plans::{plans_are_of_texts, read_texts_are_faultless, widths_are_last};
 use smv_core::tree::Text;
 use smv_core::{Fault, Refusal};
 use smv_front::read_plan;

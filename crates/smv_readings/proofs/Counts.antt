@@ -3,6 +3,8 @@ use Rattle.std.proofs.Common.{◌≡◌, ℕ, zero, suc, ◌+◌, ◌-◌, ◌�
 use Rattle.std.specs.Prelude.{get_or}
 use Rattle.std.specs.List.{slice_get}
 use Rattle.std.proofs.lemmas.List.{length-append}
+use Rattle.law_lists.proofs.Lists.{length_map}
+use Rattle.law_lists.proofs.Places.{get-map}
 use Rattle.smv_core.specs.Values.{Name, Value, number, constant, scalar, ordinal, scalarset, ordset, numbers_from}
 use Rattle.smv_core.specs.FlatMeaning.{set_type}
 use Rattle.smv_core.specs.declared.flat.Simple.{Simple}
@@ -19,10 +21,6 @@ use Rattle.smv_problem.specs.Written.{written, written_element, written_type}
 use Rattle.smv_problem.specs.WellFormed.{IsProblem}
 use Rattle.smv_problem.specs.declared.problem.Problem.{Problem}
 use Rattle.smv_readings.specs.StateBits.{count_of, count_in, count_for, bits_of_elements, bits_in}
-
-length-map : {X Y : Type 0} (f : X → Y) (xs : List X) → length (map f xs) ≡ length xs
-length-map f [] = refl
-length-map f (x ∷ xs) = ap (λ n. suc n) (length-map f xs)
 
 length-numbers : (s n : ℕ) → length (numbers_from s n) ≡ n
 length-numbers s zero = refl
@@ -41,11 +39,6 @@ pub ruleset counted = (counted-none, counted-one, counted-gaps)
 
 some-map : {X Y : Type 0} (f : X → Y) (y x : X) → Some y ≡ Some x → Some (f y) ≡ Some (f x)
 some-map f y x e = cc
-
-get-map : {X Y : Type 0} (f : X → Y) (xs : List X) (k : ℕ) (x : X) → slice_get xs k ≡ Some x → slice_get (map f xs) k ≡ Some (f x)
-get-map f [] k x e = absurd (cc)
-get-map f (y ∷ xs) zero x e = some-map f y x e
-get-map f (y ∷ xs) (suc k) x e = get-map f xs k x e
 
 get-none : {X Y : Type 0} (f : X → Y) (xs : List X) (k : ℕ) → slice_get xs k ≡ None → slice_get (map f xs) k ≡ None
 get-none f [] k e = refl
@@ -68,7 +61,7 @@ module _ (w : World) where
   both-counted : (f : ℕ → Value) (g : ℕ → Value) (ks gs : List ℕ) → length (map named (map f ks) ++ map (λ k. rest (g k)) gs) ≡ length ks + length gs
   both-counted f g ks gs =
       length-append (map named (map f ks)) (map (λ k. rest (g k)) gs)
-      ∙ ap (λ n. n + length (map (λ k. rest (g k)) gs)) (length-map named (map f ks) ∙ length-map f ks) ∙ ap (λ n. length ks + n) (length-map (λ k. rest (g k)) gs)
+      ∙ ap (λ n. n + length (map (λ k. rest (g k)) gs)) (length_map named (map f ks) ∙ length_map f ks) ∙ ap (λ n. length ks + n) (length_map (λ k. rest (g k)) gs)
 
   set-counted : (info : SetInfo) → length (places_of w (set_type (Some info))) ≡ count_of (Some (written_type w info))
   set-counted info = at info.ordered
@@ -83,12 +76,12 @@ module _ (w : World) where
 
   pub values-counted : (t : Simple) → length (places_in w t) ≡ count_in lists types t
   values-counted (Range low high) =
-      length-append (map named (map number (numbers_from low (high + 1 - low)))) [] ∙ ap (λ n. n + 0) (length-map named (map number (numbers_from low (high + 1 - low))) ∙ length-map number (numbers_from low (high + 1 - low)) ∙ length-numbers low (high + 1 - low)) ∙ nothing-more (high + 1 - low)
+      length-append (map named (map number (numbers_from low (high + 1 - low)))) [] ∙ ap (λ n. n + 0) (length_map named (map number (numbers_from low (high + 1 - low))) ∙ length_map number (numbers_from low (high + 1 - low)) ∙ length-numbers low (high + 1 - low)) ∙ nothing-more (high + 1 - low)
     where
       nothing-more : (n : ℕ) → n + 0 ≡ n
       nothing-more n = omega arith
   values-counted (Enum list) =
-      length-append (map named (map constant (get_or w.classes.enums list []))) [] ∙ ap (λ n. n + 0) (length-map named (map constant (get_or w.classes.enums list [])) ∙ length-map constant (get_or w.classes.enums list []) ∙ lengths-at w.classes.enums list) ∙ nothing-more (get_or lists list 0)
+      length-append (map named (map constant (get_or w.classes.enums list []))) [] ∙ ap (λ n. n + 0) (length_map named (map constant (get_or w.classes.enums list [])) ∙ length_map constant (get_or w.classes.enums list []) ∙ lengths-at w.classes.enums list) ∙ nothing-more (get_or lists list 0)
     where
       nothing-more : (n : ℕ) → n + 0 ≡ n
       nothing-more n = omega arith

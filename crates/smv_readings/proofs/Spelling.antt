@@ -1,5 +1,6 @@
 -- Codes, bit by bit.
 use Rattle.std.proofs.Common.{◌≡◌, ℕ, zero, suc, ◌+◌, ◌*◌, ◌^◌, ◌<◌, ◌≤◌, Bool, true, false, cond, refl, sym, ap, subst, ◌∙◌, arith}
+use Rattle.law_lists.proofs.Numbers.{bit_before}
 use Rattle.law_obligations.specs.Codes.{bits_for, code_from}
 use Rattle.law_obligations.proofs.Codes.{bits_are}
 
@@ -24,13 +25,9 @@ code_more s b (suc n) =
     let more : code_from s (suc b) (suc n) ≡ 2 * code_from s (suc b) n + cond (s (b + suc n)) 1 0 = code_more s (suc b) n ∙ ap (λ (v : ℕ). 2 * code_from s (suc b) n + cond (s v) 1 0) same in
     ap (λ p. cond (s b) p 0 + code_from s (suc b) (suc n)) (twice n) ∙ one_more (s b) (s (b + suc n)) (2 ^ n) (code_from s (suc b) (suc n)) (code_from s (suc b) n) more
 
-below_more : (x : Bool) (p a : ℕ) → a < p → cond x p 0 + a < 2 * p
-below_more true p a lt = omega arith
-below_more false p a lt = omega arith
-
 pub code_small : (s : ℕ → Bool) (b n : ℕ) → code_from s b n < 2 ^ n
 code_small s b zero = grind arith
-code_small s b (suc n) = subst (λ (m : ℕ). code_from s b (suc n) < m) (sym (twice n)) (below_more (s b) (2 ^ n) (code_from s (suc b) n) (code_small s (suc b) n))
+code_small s b (suc n) = subst (λ (m : ℕ). code_from s b (suc n) < m) (sym (twice n)) (bit_before (s b) (2 ^ n) (code_from s (suc b) n) (code_small s (suc b) n))
 
 pow_some : (m : ℕ) → 0 < 2 ^ m
 pow_some zero = grind arith

@@ -5,6 +5,8 @@ use Rattle.std.specs.List.{slice_get}
 use Rattle.std.specs.Str.{bytes_eq}
 use Rattle.std.proofs.lemmas.Slice.Eq.{bytes_eq-Decides}
 use Rattle.std.proofs.lemmas.List.Elements.{All-nil, All-cons}
+use Rattle.std.proofs.lemmas.Bool.{cases_Bool}
+use Rattle.std.proofs.lemmas.Option.{slice_get-map}
 use Rattle.smv_core.specs.Values.{Name, Value, number, constant, scalar, ordinal, scalarset, ordset, numbers_from}
 use Rattle.smv_core.specs.FlatMeaning.{set_type}
 use Rattle.smv_core.specs.declared.flat.Simple.{Simple}
@@ -15,16 +17,16 @@ use Rattle.smv_core.specs.declared.abstract_type.AbsType.{AbsType}
 use Rattle.law_obligations.specs.Sets.{Has, first, later}
 use Rattle.law_obligations.specs.Places.{Place, named, rest, World, rests_beside, places_of, places_in}
 use Rattle.law_obligations.specs.May.{AbsState}
-use Rattle.law_obligations.proofs.Tests.{true_or_false}
 use Rattle.law_obligations.specs.Outlines.{place_of}
 use Rattle.law_obligations.specs.Cones.{AbsElement, element, same_element}
-use Rattle.law_obligations.proofs.ConeFacts.{same_element-itself, same_element-family, same_element-indexes}
+use Rattle.law_obligations.proofs.ConeFacts.{same_element-itself}
 use Rattle.law_designs.specs.FlatKinds.{kind_of}
 use Rattle.law_obligations.specs.Bits.{Bits}
 use Rattle.law_obligations.specs.Codes.{bits_for, code_from, value_of_code}
 use Rattle.law_obligations.specs.Readings.{PosedCase, Slot, bits_of, code_of, slots_from, state_bits, reading}
 use Rattle.law_obligations.specs.Readings as codes
 use Rattle.law_obligations.proofs.ReadBack.{slot_element, reads_slot}
+use Rattle.law_obligations.proofs.LeastCones.{same_element-is}
 use Rattle.smv_problem.specs.Written.{written, written_element, written_type, written_place, written_state, kind_in}
 use Rattle.smv_problem.specs.WellFormed.{AreDistinct, AreApartElements, IsWellFormed, IsProblem, OfCases}
 use Rattle.smv_problem.specs.declared.problem.AbsValue.{AbsValue}
@@ -67,7 +69,7 @@ Has_at (x ∷ xs) (suc k) d lt = later (Has_at xs k d (omega arith))
 constant_at : (names : List Name) → AreDistinct names → (k : ℕ) → k < length names → place_of (bytes_eq (get_or names k [])) names ≡ Some k
 constant_at [] apart k lt = absurd (omega arith)
 constant_at (x ∷ names) apart zero lt = ap (λ (b : Bool). cond b (Some 0) (option_map (λ k. suc k) (place_of (bytes_eq x) names))) ((bytes_eq-Decides x x).1 refl)
-constant_at (x ∷ names) apart (suc k) lt = elim (true_or_false (bytes_eq (get_or names k []) x)) [
+constant_at (x ∷ names) apart (suc k) lt = elim (cases_Bool (bytes_eq (get_or names k []) x)) [
   | inl e ↦ absurd (apart.0 (get_or names k []) (Has_at names k [] (omega arith)) (sym ((bytes_eq-Decides (get_or names k []) x).0 e)))
   | inr e ↦ ap (λ (b : Bool). cond b (Some 0) (option_map (λ k. suc k) (place_of (bytes_eq (get_or names k [])) names))) e ∙ ap (option_map (λ k. suc k)) (constant_at names apart.1 k (omega arith))
 ]
@@ -81,11 +83,6 @@ lengths_at : (lists : List (List Name)) (k : ℕ) → length (get_or lists k [])
 lengths_at [] k = refl
 lengths_at (l ∷ lists) zero = refl
 lengths_at (l ∷ lists) (suc k) = lengths_at lists k
-
-get_map : {X Y : Type 0} (f : X → Y) (xs : List X) (k : ℕ) → slice_get (map f xs) k ≡ option_map f (slice_get xs k)
-get_map f [] k = refl
-get_map f (x ∷ xs) zero = refl
-get_map f (x ∷ xs) (suc k) = get_map f xs k
 
 module _ (w : World) (distinct : (names : List Name) → Has w.classes.enums names → AreDistinct names) where
   abbrev lists : List ℕ
@@ -115,11 +112,11 @@ module _ (w : World) (distinct : (names : List Name) → Has w.classes.enums nam
       by : (o : Option SetInfo) → slice_get w.classes.sets set ≡ o → map (written_place w.classes (kind_of (Set set))) (places_of w (set_type (slice_get w.classes.sets set))) ≡ values_beside (slice_get types set)
       by None e =
           ap (λ (o : Option SetInfo). map (written_place w.classes (kind_of (Set set))) (places_of w (set_type o))) e
-          ∙ sym (ap values_beside (get_map (written_type w) w.classes.sets set ∙ ap (option_map (written_type w)) e))
+          ∙ sym (ap values_beside (slice_get-map (written_type w) w.classes.sets set ∙ ap (option_map (written_type w)) e))
       by (Some info) e =
           ap (λ (o : Option SetInfo). map (written_place w.classes (kind_of (Set set))) (places_of w (set_type o))) e
           ∙ set_written set info
-          ∙ sym (ap values_beside (get_map (written_type w) w.classes.sets set ∙ ap (option_map (written_type w)) e))
+          ∙ sym (ap values_beside (slice_get-map (written_type w) w.classes.sets set ∙ ap (option_map (written_type w)) e))
 
   -- the value of a code, written
   value_written : (o : Option Family) (code : ℕ) → value_of (values_for lists types o) code ≡ written_place w.classes (kind_in o) (value_of_code (codes.values_in w o) code)
@@ -149,15 +146,12 @@ module _ (w : World) (distinct : (names : List Name) → Has w.classes.enums nam
 
 -- ---- each element is found at its own slot
 
-same_is : (x y : AbsElement) → same_element x y ≡ true → x ≡ y
-same_is x y e = λ i. record { family = same_element-family x y e i; indexes = same_element-indexes x y e i }
-
 pub slot_found : (w : World) (b : ℕ) (xs : List AbsElement) → AreApartElements xs → (slot : Slot) → Has (slots_from w b xs) slot
     → find (λ (t : Slot). same_element (element slot.element.family slot.element.indexes) t.element) (slots_from w b xs) ≡ Some slot
 slot_found w b [] apart slot h = elim h [ ]
 slot_found w b (x ∷ xs) apart _ first = ap (λ (y : Bool). cond y (Some (record { element = x; bit = b })) (find (λ (t : Slot). same_element (element x.family x.indexes) t.element) (slots_from w (b + bits_of w x) xs))) (same_element-itself x)
-slot_found w b (x ∷ xs) apart slot (later h) = elim (true_or_false (same_element (element slot.element.family slot.element.indexes) x)) [
-  | inl e ↦ absurd (apart.0 slot.element (slot_element w (b + bits_of w x) xs slot h) (sym (same_is slot.element x e)))
+slot_found w b (x ∷ xs) apart slot (later h) = elim (cases_Bool (same_element (element slot.element.family slot.element.indexes) x)) [
+  | inl e ↦ absurd (apart.0 slot.element (slot_element w (b + bits_of w x) xs slot h) (sym (same_element-is slot.element x e)))
   | inr e ↦
       ap (λ (y : Bool). cond y (Some (record { element = x; bit = b })) (find (λ (t : Slot). same_element (element slot.element.family slot.element.indexes) t.element) (slots_from w (b + bits_of w x) xs))) e
       ∙ slot_found w (b + bits_of w x) xs apart.1 slot h

@@ -8,4 +8,4 @@ mod readings;
 mod widths;
 
 pub use readings::read_state;
-pub use widths::{bits_needed, family_bits, state_bits, values};
+pub use widths::{family_bits, state_bits, values};

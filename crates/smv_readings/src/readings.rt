@@ -7,7 +7,7 @@ ghost use Rattle.smv_problem.specs.WellFormed.{IsProblem, OfCases};
 ghost use Rattle.smv_readings.specs.StateBits.{count_for, bits_in as bits_of_problem};
 ghost use Rattle.smv_readings.specs.States.{bits_in, values_beside, values_in, values_for, value_of, state_in, IsNarrow, AreNarrow};
 
-use crate::{bits_needed, values};
+use crate::widths::{bits_needed, values};
 use smv_core::Seq;
 use smv_core::abstract_type::AbsType;
 use smv_core::flat::{Family, Simple};

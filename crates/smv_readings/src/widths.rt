@@ -13,7 +13,7 @@ use smv_problem::Problem;
 
 /// The bits of an element with so many abstract values.
 #[tactic(auto, using(crate::proofs::Logarithms::bits))]
-pub fn bits_needed(values: u32) -> u32
+pub(crate) fn bits_needed(values: u32) -> u32
     ensures { result ≡ bits_for values }
 {
     if values <= 2 {

@@ -1,8 +1,9 @@
 -- Elements that are put again change nothing, so what is the same at each place of a variable is put at one of them.
 use Rattle.std.proofs.Common.{◌≡◌, suc, List, [], ◌∷◌, ◌++◌, length, take, Bool, true, false, ◌||◌, if◌then◌else◌, refl, sym, ap, subst, ◌∙◌, inl, inr, arith}
 use Rattle.std.specs.List.{flat_map}
+use Rattle.std.proofs.lemmas.Bool.{or_cases}
+use Rattle.law_lists.proofs.Booleans.{either_left, either_right}
 use Rattle.smv_core.specs.declared.flat.Element.{Element}
-use Rattle.law_obligations.proofs.Tests.{or_left, or_right, or_cases}
 use Rattle.smv_elements.specs.Elements.{is_full, is_among, same_element, put, put_all}
 use Rattle.smv_elements.proofs.Keys.{same-itself}
 use Rattle.smv_elements.proofs.Puts.{all-joined}
@@ -29,18 +30,18 @@ longer-full found y e = let more = one-longer found y in grind (arith, e, more)
 longer-among : (found more : List Element) (x : Element) → is_among found x ≡ true → is_among (found ++ more) x ≡ true
 longer-among [] more x e = absurd (cc)
 longer-among (y ∷ found) more x e = elim (or_cases (same_element x y) (is_among found x) e) [
-  | inl h ↦ or_left (is_among (found ++ more) x) h
-  | inr h ↦ or_right (same_element x y) (longer-among found more x h)
+  | inl h ↦ either_left (is_among (found ++ more) x) h
+  | inr h ↦ either_right (same_element x y) (longer-among found more x h)
 ]
 
 last-among : (found : List Element) (x : Element) → is_among (found ++ x ∷ []) x ≡ true
-last-among [] x = or_left false (same-itself x)
-last-among (y ∷ found) x = or_right (same_element x y) (last-among found x)
+last-among [] x = either_left false (same-itself x)
+last-among (y ∷ found) x = either_right (same_element x y) (last-among found x)
 
 longer-settled : (found : List Element) (y x : Element) → is_settled found x ≡ true → is_settled (found ++ y ∷ []) x ≡ true
 longer-settled found y x e = elim (or_cases (is_full found) (is_among found x) e) [
-  | inl h ↦ or_left (is_among (found ++ y ∷ []) x) (longer-full found y h)
-  | inr h ↦ or_right (is_full (found ++ y ∷ [])) (longer-among found (y ∷ []) x h)
+  | inl h ↦ either_left (is_among (found ++ y ∷ []) x) (longer-full found y h)
+  | inr h ↦ either_right (is_full (found ++ y ∷ [])) (longer-among found (y ∷ []) x h)
 ]
 
 put-keeps : (found : List Element) (y x : Element) → is_settled found x ≡ true → is_settled (put found y) x ≡ true
@@ -55,7 +56,7 @@ put-settles found x = by (is_settled found x) refl
   where
     by : (b : Bool) → is_settled found x ≡ b → is_settled (if b then found else found ++ x ∷ []) x ≡ true
     by true e = e
-    by false e = or_right (is_full (found ++ x ∷ [])) (last-among found x)
+    by false e = either_right (is_full (found ++ x ∷ [])) (last-among found x)
 
 all-keep : (found ys : List Element) (x : Element) → is_settled found x ≡ true → is_settled (put_all found ys) x ≡ true
 unfolding put_all

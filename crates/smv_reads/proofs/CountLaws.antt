@@ -1,15 +1,17 @@
 -- Which assignments count, on definitions that are made of lists and values.
 use Rattle.std.proofs.Common.{◌≡◌, ℕ, zero, suc, ◌-◌, ◌≤◌, List, [], ◌∷◌, ◌++◌, map, take, length, slice_get, Option, Some, None, Bool, true, false, ◌&&◌, ◌||◌, nat_lt, refl, sym, ap, subst, ◌∙◌, inl, inr, arith}
 use Rattle.std.specs.List.{list_any}
+use Rattle.std.proofs.lemmas.Bool.{or_cases, cases_Bool}
+use Rattle.law_lists.proofs.Lists.{length_map}
+use Rattle.law_lists.proofs.Booleans.{either_left, either_right, and_both, left_of, right_of}
+use Rattle.law_lists.proofs.Anys.{any-map, any-agree}
 use Rattle.smv_core.specs.Assignments.{Index, fixed, bare, computed}
 use Rattle.smv_core.specs.FlatMeaning.{flat_index}
 use Rattle.smv_core.specs.declared.flat.Simple.{Simple}
 use Rattle.smv_core.specs.declared.flat.FlatExpr.{FlatExpr}
 use Rattle.smv_core.specs.declared.flat.DefBody.{DefBody, Nothing, If, If', First, Forall, Forall', Assign, First', Row_of-DefBody, end_of-DefBody, more_of-DefBody, items-the_row-DefBody, items_hidden-the_row-DefBody-1}
 use Rattle.law_obligations.specs.Places.{Place, places_in, bind_place}
-use Rattle.law_obligations.proofs.Tests.{or_left, or_right, or_cases, and_both, left_of, right_of, true_or_false}
 use Rattle.law_obligations.proofs.Members.{any-some}
-use Rattle.law_obligations.proofs.OneOfEach.{map_long}
 use Rattle.law_obligations.specs.Reads.{is_own, is_bound_to, has_counting, have_counting}
 use Rattle.smv_spots.specs.declared.spots.Spot.{Spot}
 use Rattle.smv_reads.specs.declared.bindings.View.{View}
@@ -17,7 +19,7 @@ use Rattle.smv_reads.specs.Views.{world_of, place_in, places, bind_spot}
 use Rattle.smv_reads.specs.Reading.{counts_in, counts_over}
 use Rattle.smv_reads.specs.Counts.{fits, may_be, may_fit, may_be_own, may_count, some_may_count}
 use Rattle.smv_reads.proofs.Computing.{boxes}
-use Rattle.smv_reads.proofs.Lists.{any-map, any-each, bound-places}
+use Rattle.smv_reads.proofs.Lists.{bound-places}
 use mathlib.Core.Former.{Count}
 
 abbrev rows_of : DefBody → (k : Count) × Row_of-DefBody k
@@ -77,7 +79,7 @@ module _ (v : View) (own b : List Spot) where
       let f : Place → Bool = λ p. has_counting (places_in (world_of v)) (is_own (places v own)) body (bind_place (places v b) var p) in
       ap (list_any f) (sym e)
       ∙ any-map f (place_in v) spots
-      ∙ any-each (λ s. f (place_in v s)) (λ s. counts_in v own (bind_spot b var s) body) spots (λ s. ap (has_counting (places_in (world_of v)) (is_own (places v own)) body) (sym (bound-places v b var s)))
+      ∙ any-agree (λ s. f (place_in v s)) (λ s. counts_in v own (bind_spot b var s) body) spots (λ s. ap (has_counting (places_in (world_of v)) (is_own (places v own)) body) (sym (bound-places v b var s)))
 
 pub ruleset equations = (count-Nothing, count-Assign, count-If, count-First, count-Forall)
 
@@ -113,7 +115,7 @@ module _ (own b : List Place) where
   unfolding may_count boxes
   may-Forall var over body = refl
 
-pub ruleset may_equations = (may-Nothing, may-Assign, may-If, may-First, may-Forall, map_long)
+pub ruleset may_equations = (may-Nothing, may-Assign, may-If, may-First, may-Forall, length_map)
 
 -- ---- what counts may count
 
@@ -160,25 +162,25 @@ module _ (every : Simple → List Place) (own b : List Place) where
     counting-may (Assign left value place at) more e = own-may b more (map flat_index left) own e
     counting-may (If' cond l (more_of-DefBody left end_of-DefBody) r (more_of-DefBody right end_of-DefBody)) more e =
         elim (or_cases (has_counting every (is_own own) left (b ++ more)) (has_counting every (is_own own) right (b ++ more)) e) [
-          | inl h ↦ or_left (may_count own b right) (counting-may left more h)
-          | inr h ↦ or_right (may_count own b left) (counting-may right more h)
+          | inl h ↦ either_left (may_count own b right) (counting-may left more h)
+          | inr h ↦ either_right (may_count own b left) (counting-may right more h)
         ]
     counting-may (First' shape parts) more e = some-counting-may parts more e
-    counting-may (Forall' var over shape (more_of-DefBody body end_of-DefBody)) more e = elim (true_or_false (nat_lt var (length b))) [
-      | inl t ↦ or_left (may_count own b body) t
+    counting-may (Forall' var over shape (more_of-DefBody body end_of-DefBody)) more e = elim (cases_Bool (nat_lt var (length b))) [
+      | inl t ↦ either_left (may_count own b body) t
       | inr f ↦
           let some = any-some (λ p. has_counting every (is_own own) body (bind_place (b ++ more) var p)) (every over) e in
           let behind : length b ≤ var = grind (arith, f) in
           let joined : bind_place (b ++ more) var some.0 ≡ b ++ (take (var - length b) more ++ some.0 ∷ []) = ap (λ ps. ps ++ some.0 ∷ []) (take-behind b more var behind) ∙ again b (take (var - length b) more) (some.0 ∷ []) in
-          or_right (nat_lt var (length b)) (counting-may body (take (var - length b) more ++ some.0 ∷ []) (ap (has_counting every (is_own own) body) (sym joined) ∙ some.2))
+          either_right (nat_lt var (length b)) (counting-may body (take (var - length b) more ++ some.0 ∷ []) (ap (has_counting every (is_own own) body) (sym joined) ∙ some.2))
     ]
 
     some-counting-may : {m : _} → (parts : Row_of-DefBody m) (more : List Place) → have_counting every (is_own own) parts (b ++ more) ≡ true → some_may_count own b parts ≡ true
     some-counting-may end_of-DefBody more e = e
     some-counting-may (more_of-DefBody part others) more e =
         elim (or_cases (has_counting every (is_own own) part (b ++ more)) (have_counting every (is_own own) others (b ++ more)) e) [
-          | inl h ↦ or_left (some_may_count own b others) (counting-may part more h)
-          | inr h ↦ or_right (may_count own b part) (some-counting-may others more h)
+          | inl h ↦ either_left (some_may_count own b others) (counting-may part more h)
+          | inr h ↦ either_right (may_count own b part) (some-counting-may others more h)
         ]
 
 nothing-behind : (b : List Place) → b ++ [] ≡ b
@@ -187,7 +189,7 @@ nothing-behind (p ∷ b) = ap (λ ps. p ∷ ps) (nothing-behind b)
 
 pub none-may : (v : View) (own b : List Spot) (part : DefBody) → may_count (places v own) (places v b) part ≡ false → counts_in v own b part ≡ false
 unfolding counts_in
-none-may v own b part e = elim (true_or_false (has_counting (places_in (world_of v)) (is_own (places v own)) part (places v b))) [
+none-may v own b part e = elim (cases_Bool (has_counting (places_in (world_of v)) (is_own (places v own)) part (places v b))) [
   | inl t ↦
       absurd (never (may_count (places v own) (places v b) part)
       (counting-may (places_in (world_of v)) (places v own) (places v b) part [] (ap (has_counting (places_in (world_of v)) (is_own (places v own)) part) (nothing-behind (places v b)) ∙ t)) e)

@@ -1,7 +1,9 @@
 -- What expressions read, on expressions that are made of lists and values.
 use Rattle.std.proofs.Common.{◌≡◌, ℕ, List, [], ◌∷◌, ◌++◌, map, Some, None, refl, sym, ap, ◌∙◌}
 use Rattle.std.specs.List.{flat_map}
-use Rattle.std.proofs.lemmas.List.{append_assoc}
+use Rattle.std.proofs.lemmas.List.{append_assoc, map-append}
+use Rattle.std.proofs.lemmas.List.Folds.{flat_map-map}
+use Rattle.law_lists.proofs.Lists.{map-flat_map, flat_map_alike}
 use Rattle.smv_core.specs.Assignments.{Index}
 use Rattle.smv_core.specs.FlatMeaning.{flat_index}
 use Rattle.smv_core.specs.declared.tree.Op.{Op}
@@ -10,7 +12,6 @@ use Rattle.smv_core.specs.declared.flat.FlatSigned.{FlatSigned}
 use Rattle.smv_core.specs.declared.flat.FlatMember.{FlatMember, One, Span as SpanOf}
 use Rattle.smv_core.specs.declared.flat.FlatExpr.{FlatExpr, Number, Var, Loop, Constant, Not, Iff, Compare, Within, Modulo, Choose, All, Any, Each, Read, Read', And, And', Or, Or', Implies, Implies', Sum, Sum', List as ListOf, List', Row_of-FlatExpr, end_of-FlatExpr, more_of-FlatExpr, Row_of-FlatMember, end_of-FlatMember, more_of-FlatMember, Row_of-FlatSigned, end_of-FlatSigned, more_of-FlatSigned, items-the_row-FlatExpr, items-the_row-FlatMember, items-the_row-FlatSigned, items_hidden-the_row-FlatExpr-0, items_hidden-the_row-FlatSigned-2, items_hidden-the_row-FlatMember-3}
 use Rattle.law_obligations.specs.Places.{Place, named_in, bind_place}
-use Rattle.law_obligations.proofs.OneOfEach.{map_joined}
 use Rattle.law_obligations.specs.Reads.{indexes_read, reads_each, reads_signed, reads_members}
 use Rattle.law_obligations.specs.Cones.{AbsElement, elements_at, elements_read}
 use Rattle.smv_problem.specs.Written.{written_element}
@@ -19,7 +20,7 @@ use Rattle.smv_reads.specs.declared.bindings.View.{View}
 use Rattle.smv_reads.specs.Views.{world_of, place_in, places, bind_spot}
 use Rattle.smv_reads.specs.Reading.{read_at, read_in, read_in_term, read_in_member, read_over}
 use Rattle.smv_reads.proofs.Computing.{boxes}
-use Rattle.smv_reads.proofs.Lists.{map-flat_map, flat_map-map, flat_map-same, bound-places}
+use Rattle.smv_reads.proofs.Lists.{bound-places}
 use mathlib.Core.Former.{Count}
 
 indexes-row : (k : _) (row : Row_of-FlatExpr k) → indexes_read row ≡ map flat_index (items-the_row-FlatExpr k row)
@@ -46,19 +47,19 @@ module _ (v : View) (b : List Spot) where
   unfolding read_in
   exprs-row k end_of-FlatExpr = refl
   exprs-row k (more_of-FlatExpr e rest) =
-      map_joined written_element (elements_read (world_of v) e (places v b)) (reads_each (named_in (world_of v)) (elements_at (world_of v)) rest (places v b)) ∙ ap (λ l. read_in v b e ++ l) (exprs-row _ rest)
+      map-append written_element (elements_read (world_of v) e (places v b)) (reads_each (named_in (world_of v)) (elements_at (world_of v)) rest (places v b)) ∙ ap (λ l. read_in v b e ++ l) (exprs-row _ rest)
 
   signed-row : (k : _) (row : Row_of-FlatSigned k) → map written_element (reads_signed (named_in (world_of v)) (elements_at (world_of v)) row (places v b)) ≡ flat_map (read_in_term v b) (items-the_row-FlatSigned k row)
   unfolding read_in boxes
   signed-row k end_of-FlatSigned = refl
   signed-row k (more_of-FlatSigned minus e rest) =
-      map_joined written_element (elements_read (world_of v) e (places v b)) (reads_signed (named_in (world_of v)) (elements_at (world_of v)) rest (places v b)) ∙ ap (λ l. read_in v b e ++ l) (signed-row _ rest)
+      map-append written_element (elements_read (world_of v) e (places v b)) (reads_signed (named_in (world_of v)) (elements_at (world_of v)) rest (places v b)) ∙ ap (λ l. read_in v b e ++ l) (signed-row _ rest)
 
   members-row : (k : _) (row : Row_of-FlatMember k) → map written_element (reads_members (named_in (world_of v)) (elements_at (world_of v)) row (places v b)) ≡ flat_map (read_in_member v b) (items-the_row-FlatMember k row)
   unfolding read_in boxes
   members-row k end_of-FlatMember = refl
   members-row k (more_of-FlatMember (One e) rest) =
-      map_joined written_element (elements_read (world_of v) e (places v b)) (reads_members (named_in (world_of v)) (elements_at (world_of v)) rest (places v b)) ∙ ap (λ l. read_in v b e ++ l) (members-row _ rest)
+      map-append written_element (elements_read (world_of v) e (places v b)) (reads_members (named_in (world_of v)) (elements_at (world_of v)) rest (places v b)) ∙ ap (λ l. read_in v b e ++ l) (members-row _ rest)
   members-row k (more_of-FlatMember (SpanOf span at) rest) = members-row _ rest
 
   -- the parts of a chain
@@ -69,7 +70,7 @@ module _ (v : View) (b : List Spot) where
   unfolding read_in read_at
   read-Read family es at =
       let row : (k : Count) × Row_of-FlatExpr k = exprs_of (Read family es at) in
-      map_joined written_element (elements_at (world_of v) family (indexes_read row.1) (places v b)) (reads_each (named_in (world_of v)) (elements_at (world_of v)) row.1 (places v b))
+      map-append written_element (elements_at (world_of v) family (indexes_read row.1) (places v b)) (reads_each (named_in (world_of v)) (elements_at (world_of v)) row.1 (places v b))
       ∙ ap (λ (is : List Index). map written_element (elements_at (world_of v) family is (places v b)) ++ map written_element (reads_each (named_in (world_of v)) (elements_at (world_of v)) row.1 (places v b)))
       (indexes-row row.0 row.1 ∙ ap (map flat_index) (items_hidden-the_row-FlatExpr-0 es))
       ∙ ap (λ l. read_at v b family es ++ l) (chain-row row.0 row.1 es (items_hidden-the_row-FlatExpr-0 es))
@@ -102,7 +103,7 @@ module _ (v : View) (b : List Spot) where
   unfolding read_in Rattle.smv_core.specs.declared.flat.FlatExpr.TheBlock.hidden-the_row-FlatExpr-1 Rattle.smv_core.specs.declared.flat.FlatExpr.TheBlock.shape-the_row-FlatExpr-1 denote.Hole.Carrier.hidden
   read-Sum head more =
       let row : (k : Count) × Row_of-FlatSigned k = signed_in (Sum head more) in
-      map_joined written_element (elements_read (world_of v) head (places v b)) (reads_signed (named_in (world_of v)) (elements_at (world_of v)) row.1 (places v b))
+      map-append written_element (elements_read (world_of v) head (places v b)) (reads_signed (named_in (world_of v)) (elements_at (world_of v)) row.1 (places v b))
       ∙ ap (λ l. read_in v b head ++ l) (signed-row row.0 row.1 ∙ ap (flat_map (read_in_term v b)) (items_hidden-the_row-FlatSigned-2 more))
 
   pub read-Number : (value at : ℕ) → read_in v b (Number value at) ≡ []
@@ -131,21 +132,21 @@ module _ (v : View) (b : List Spot) where
 
   pub read-Iff : (x y : FlatExpr) → read_in v b (Iff x y) ≡ read_in v b x ++ read_in v b y
   unfolding read_in boxes
-  read-Iff x y = map_joined written_element (elements_read (world_of v) x (places v b)) (elements_read (world_of v) y (places v b))
+  read-Iff x y = map-append written_element (elements_read (world_of v) x (places v b)) (elements_read (world_of v) y (places v b))
 
   pub read-Compare : (op : Op) (x y : FlatExpr) → read_in v b (Compare op x y) ≡ read_in v b x ++ read_in v b y
   unfolding read_in boxes
-  read-Compare op x y = map_joined written_element (elements_read (world_of v) x (places v b)) (elements_read (world_of v) y (places v b))
+  read-Compare op x y = map-append written_element (elements_read (world_of v) x (places v b)) (elements_read (world_of v) y (places v b))
 
   pub read-Within : (x y : FlatExpr) → read_in v b (Within x y) ≡ read_in v b x ++ read_in v b y
   unfolding read_in boxes
-  read-Within x y = map_joined written_element (elements_read (world_of v) x (places v b)) (elements_read (world_of v) y (places v b))
+  read-Within x y = map-append written_element (elements_read (world_of v) x (places v b)) (elements_read (world_of v) y (places v b))
 
   pub read-Choose : (c x y : FlatExpr) → read_in v b (Choose c x y) ≡ read_in v b c ++ (read_in v b x ++ read_in v b y)
   unfolding read_in boxes
   read-Choose c x y =
-      map_joined written_element (elements_read (world_of v) c (places v b) ++ elements_read (world_of v) x (places v b)) (elements_read (world_of v) y (places v b))
-      ∙ ap (λ l. l ++ map written_element (elements_read (world_of v) y (places v b))) (map_joined written_element (elements_read (world_of v) c (places v b)) (elements_read (world_of v) x (places v b)))
+      map-append written_element (elements_read (world_of v) c (places v b) ++ elements_read (world_of v) x (places v b)) (elements_read (world_of v) y (places v b))
+      ∙ ap (λ l. l ++ map written_element (elements_read (world_of v) y (places v b))) (map-append written_element (elements_read (world_of v) c (places v b)) (elements_read (world_of v) x (places v b)))
       ∙ append_assoc (map written_element (elements_read (world_of v) c (places v b))) (map written_element (elements_read (world_of v) x (places v b))) (map written_element (elements_read (world_of v) y (places v b)))
 
   pub read-All : (body : FlatExpr) (var : ℕ) (over : Simple) (at : ℕ) → read_in v b (All body var over at) ≡ read_over v b var over body
@@ -176,7 +177,7 @@ module _ (v : View) (b : List Spot) where
       map-flat_map written_element f (named_in (world_of v) over)
       ∙ ap (flat_map (λ p. map written_element (f p))) (sym e)
       ∙ flat_map-map (λ p. map written_element (f p)) (place_in v) spots
-      ∙ flat_map-same (λ s. map written_element (f (place_in v s))) (λ s. read_in v (bind_spot b var s) body) spots (λ s. ap (λ ps. map written_element (elements_read (world_of v) body ps)) (sym (bound-places v b var s)))
+      ∙ flat_map_alike (λ s. map written_element (f (place_in v s))) (λ s. read_in v (bind_spot b var s) body) spots (λ s. ap (λ ps. map written_element (elements_read (world_of v) body ps)) (sym (bound-places v b var s)))
 
 pub ruleset equations = (read-Read, read-And, read-Or, read-Implies, read-List, read-Sum, read-Number, read-Loop, read-Var, read-Constant, read-Not, read-Modulo, read-Iff, read-Compare, read-Within, read-Choose, read-All, read-Any, read-Each, read-Each_if)
 

@@ -1,5 +1,8 @@
 -- What an expression reads depends on the places of those variables alone that occur in it.
-use Rattle.std.proofs.Common.{◌≡◌, ℕ, zero, suc, ◌<◌, List, [], ◌∷◌, ◌++◌, map, take, length, filter, slice_get, Option, Some, None, Bool, true, false, ◌&&◌, ◌||◌, nat_eq, nat_lt, refl, ap, ◌∙◌, arith}
+use Rattle.std.proofs.Common.{◌≡◌, ℕ, zero, suc, List, [], ◌∷◌, ◌++◌, map, take, length, filter, slice_get, Option, Some, None, Bool, true, false, ◌&&◌, ◌||◌, nat_eq, nat_lt, refl, ap, ◌∙◌, arith}
+use Rattle.law_lists.proofs.Booleans.{either_left, either_right, and_both}
+use Rattle.law_lists.proofs.Numbers.{nat_lt-true}
+use Rattle.law_lists.proofs.Lists.{append_alike, flat_map_alike}
 use Rattle.smv_core.specs.Assignments.{Index, fixed, bare, computed, add_fixed, modulo_fixed}
 use Rattle.smv_core.specs.FlatMeaning.{flat_index, flat_index_sum}
 use Rattle.smv_core.specs.declared.flat.Family.{Family}
@@ -11,23 +14,15 @@ use Rattle.law_obligations.specs.FreeReads.{reads as occurs_in, one_reads, signe
 use Rattle.law_obligations.specs.Reads.{is_bound_to, indexes_read, reads_each, reads_signed, reads_members, reads_held}
 use Rattle.law_obligations.specs.Cones.{AbsElement, element, index_places, each_index, elements_in, elements_at, elements_read}
 use Rattle.law_obligations.proofs.FreeVariables.{agree_on, agree_at, agree_under}
-use Rattle.law_obligations.proofs.Tests.{or_left, or_right, and_both}
 use Rattle.smv_problem.specs.Written.{written_element}
 use Rattle.smv_spots.specs.declared.spots.Spot.{Spot}
 use Rattle.smv_free_variables.specs.Reading.{occurs}
 use Rattle.smv_reads.specs.declared.bindings.View.{View}
 use Rattle.smv_reads.specs.Views.{world_of, place_in, places, bind_spot}
 use Rattle.smv_reads.specs.Reading.{read_in}
-use Rattle.smv_reads.proofs.Lists.{flat_map-same}
-
-is_less : (k var : ℕ) → k < var → nat_lt k var ≡ true
-is_less k var l = grind arith
 
 itself : (k : ℕ) → nat_eq k k ≡ true
 itself k = grind arith
-
-joined : {X : Type 0} (us vs xs ys : List X) → us ≡ vs → xs ≡ ys → us ++ xs ≡ vs ++ ys
-joined us vs xs ys d e = ap (λ l. l ++ xs) d ∙ ap (λ l. vs ++ l) e
 
 -- ---- a variable that stands alone as an index occurs in it
 
@@ -63,7 +58,7 @@ bare-occurs (Implies' shape parts) var f = absurd (cc)
 bare-occurs (Iff' l left r right) var f = absurd (cc)
 bare-occurs (Compare' op l left r right) var f = absurd (cc)
 bare-occurs (Within' l left r set) var f = absurd (cc)
-bare-occurs (Sum' s (more_of-FlatExpr head end_of-FlatExpr) shape more) var f = or_left (signed_read var more) (bare-occurs head var (bare-sum more (flat_index head) var f))
+bare-occurs (Sum' s (more_of-FlatExpr head end_of-FlatExpr) shape more) var f = either_left (signed_read var more) (bare-occurs head var (bare-sum more (flat_index head) var f))
 bare-occurs (Modulo' shape (more_of-FlatExpr e end_of-FlatExpr) by place) var f = absurd (never-modulo (flat_index e) by var f)
 bare-occurs (Choose' c cond l left r right) var f = absurd (cc)
 bare-occurs (All' shape body v over place) var f = absurd (cc)
@@ -74,10 +69,10 @@ bare-occurs (Each' v over cond place) var f = absurd (cc)
 -- ---- bindings that agree on two parts
 
 on-left : (f g : ℕ → Bool) (b c : List Place) → Agree (λ k. f k || g k) b c → Agree f b c
-on-left f g b c h = agree_on (λ k. f k || g k) f b c (λ k t. or_left (g k) t) h
+on-left f g b c h = agree_on (λ k. f k || g k) f b c (λ k t. either_left (g k) t) h
 
 on-right : (f g : ℕ → Bool) (b c : List Place) → Agree (λ k. f k || g k) b c → Agree g b c
-on-right f g b c h = agree_on (λ k. f k || g k) g b c (λ k t. or_right (f k) t) h
+on-right f g b c h = agree_on (λ k. f k || g k) g b c (λ k t. either_right (f k) t) h
 
 -- ---- references
 
@@ -123,7 +118,7 @@ module _ (w : World) where
     pub reads-alike : (e : FlatExpr) (b c : List Place) → Agree (λ k. occurs_in k e) b c → elements_read w e b ≡ elements_read w e c
     reads-alike (Number value place) b c h = refl
     reads-alike (Read' family shape indexes place) b c h =
-        joined (elements_at w family (indexes_read indexes) b) (elements_at w family (indexes_read indexes) c) (each indexes b) (each indexes c) (reference-alike indexes family b c h) (each-alike indexes b c h)
+        append_alike (elements_at w family (indexes_read indexes) b) (elements_at w family (indexes_read indexes) c) (each indexes b) (each indexes c) (reference-alike indexes family b c h) (each-alike indexes b c h)
     reads-alike (Var var place) b c h = refl
     reads-alike (Loop value place) b c h = refl
     reads-alike (Constant list value place) b c h = refl
@@ -132,51 +127,51 @@ module _ (w : World) where
     reads-alike (Or' shape parts) b c h = each-alike parts b c h
     reads-alike (Implies' shape parts) b c h = each-alike parts b c h
     reads-alike (Iff' l (more_of-FlatExpr left end_of-FlatExpr) r (more_of-FlatExpr right end_of-FlatExpr)) b c h =
-        joined (elements_read w left b) (elements_read w left c) (elements_read w right b) (elements_read w right c) (reads-alike left b c (on-left (λ k. occurs_in k left) (λ k. occurs_in k right) b c h))
+        append_alike (elements_read w left b) (elements_read w left c) (elements_read w right b) (elements_read w right c) (reads-alike left b c (on-left (λ k. occurs_in k left) (λ k. occurs_in k right) b c h))
         (reads-alike right b c (on-right (λ k. occurs_in k left) (λ k. occurs_in k right) b c h))
     reads-alike (Compare' op l (more_of-FlatExpr left end_of-FlatExpr) r (more_of-FlatExpr right end_of-FlatExpr)) b c h =
-        joined (elements_read w left b) (elements_read w left c) (elements_read w right b) (elements_read w right c) (reads-alike left b c (on-left (λ k. occurs_in k left) (λ k. occurs_in k right) b c h))
+        append_alike (elements_read w left b) (elements_read w left c) (elements_read w right b) (elements_read w right c) (reads-alike left b c (on-left (λ k. occurs_in k left) (λ k. occurs_in k right) b c h))
         (reads-alike right b c (on-right (λ k. occurs_in k left) (λ k. occurs_in k right) b c h))
     reads-alike (Within' l (more_of-FlatExpr left end_of-FlatExpr) r (more_of-FlatExpr set end_of-FlatExpr)) b c h =
-        joined (elements_read w left b) (elements_read w left c) (elements_read w set b) (elements_read w set c) (reads-alike left b c (on-left (λ k. occurs_in k left) (λ k. occurs_in k set) b c h))
+        append_alike (elements_read w left b) (elements_read w left c) (elements_read w set b) (elements_read w set c) (reads-alike left b c (on-left (λ k. occurs_in k left) (λ k. occurs_in k set) b c h))
         (reads-alike set b c (on-right (λ k. occurs_in k left) (λ k. occurs_in k set) b c h))
     reads-alike (Sum' f (more_of-FlatExpr head end_of-FlatExpr) shape more) b c h =
-        joined (elements_read w head b) (elements_read w head c) (signed more b) (signed more c) (reads-alike head b c (on-left (λ k. occurs_in k head) (λ k. signed_read k more) b c h))
+        append_alike (elements_read w head b) (elements_read w head c) (signed more b) (signed more c) (reads-alike head b c (on-left (λ k. occurs_in k head) (λ k. signed_read k more) b c h))
         (signed-alike more b c (on-right (λ k. occurs_in k head) (λ k. signed_read k more) b c h))
     reads-alike (Modulo' shape (more_of-FlatExpr e end_of-FlatExpr) by place) b c h = reads-alike e b c h
     reads-alike (Choose' t (more_of-FlatExpr cond end_of-FlatExpr) l (more_of-FlatExpr left end_of-FlatExpr) r (more_of-FlatExpr right end_of-FlatExpr)) b c h =
         let rest = on-right (λ k. occurs_in k cond) (λ k. occurs_in k left || occurs_in k right) b c h in
-        joined (elements_read w cond b ++ elements_read w left b) (elements_read w cond c ++ elements_read w left c) (elements_read w right b) (elements_read w right c)
-        (joined (elements_read w cond b) (elements_read w cond c) (elements_read w left b) (elements_read w left c) (reads-alike cond b c (on-left (λ k. occurs_in k cond) (λ k. occurs_in k left || occurs_in k right) b c h))
+        append_alike (elements_read w cond b ++ elements_read w left b) (elements_read w cond c ++ elements_read w left c) (elements_read w right b) (elements_read w right c)
+        (append_alike (elements_read w cond b) (elements_read w cond c) (elements_read w left b) (elements_read w left c) (reads-alike cond b c (on-left (λ k. occurs_in k cond) (λ k. occurs_in k left || occurs_in k right) b c h))
         (reads-alike left b c (on-left (λ k. occurs_in k left) (λ k. occurs_in k right) b c rest)))
         (reads-alike right b c (on-right (λ k. occurs_in k left) (λ k. occurs_in k right) b c rest))
     reads-alike (All' shape (more_of-FlatExpr body end_of-FlatExpr) var over place) b c h =
-        flat_map-same (λ p. elements_read w body (bind_place b var p)) (λ p. elements_read w body (bind_place c var p)) (named_in w over)
-        (λ p. reads-alike body (bind_place b var p) (bind_place c var p) (agree_under (λ k. nat_lt k var && occurs_in k body) (λ k. occurs_in k body) b c var p (λ k l t. and_both (is_less k var l) t) h))
+        flat_map_alike (λ p. elements_read w body (bind_place b var p)) (λ p. elements_read w body (bind_place c var p)) (named_in w over)
+        (λ p. reads-alike body (bind_place b var p) (bind_place c var p) (agree_under (λ k. nat_lt k var && occurs_in k body) (λ k. occurs_in k body) b c var p (λ k l t. and_both (nat_lt-true k var l) t) h))
     reads-alike (Any' shape (more_of-FlatExpr body end_of-FlatExpr) var over place) b c h =
-        flat_map-same (λ p. elements_read w body (bind_place b var p)) (λ p. elements_read w body (bind_place c var p)) (named_in w over)
-        (λ p. reads-alike body (bind_place b var p) (bind_place c var p) (agree_under (λ k. nat_lt k var && occurs_in k body) (λ k. occurs_in k body) b c var p (λ k l t. and_both (is_less k var l) t) h))
+        flat_map_alike (λ p. elements_read w body (bind_place b var p)) (λ p. elements_read w body (bind_place c var p)) (named_in w over)
+        (λ p. reads-alike body (bind_place b var p) (bind_place c var p) (agree_under (λ k. nat_lt k var && occurs_in k body) (λ k. occurs_in k body) b c var p (λ k l t. and_both (nat_lt-true k var l) t) h))
     reads-alike (List' shape members place) b c h = members-alike members b c h
     reads-alike (Each' var over cond place) b c h =
-        flat_map-same (λ p. held cond (bind_place b var p)) (λ p. held cond (bind_place c var p)) (named_in w over)
-        (λ p. held-alike cond (bind_place b var p) (bind_place c var p) (agree_under (λ k. nat_lt k var && condition_reads k cond) (λ k. condition_reads k cond) b c var p (λ k l t. and_both (is_less k var l) t) h))
+        flat_map_alike (λ p. held cond (bind_place b var p)) (λ p. held cond (bind_place c var p)) (named_in w over)
+        (λ p. held-alike cond (bind_place b var p) (bind_place c var p) (agree_under (λ k. nat_lt k var && condition_reads k cond) (λ k. condition_reads k cond) b c var p (λ k l t. and_both (nat_lt-true k var l) t) h))
 
     each-alike : {m : _} (row : Row_of-FlatExpr m) (b c : List Place) → Agree (λ k. one_reads k row) b c → each row b ≡ each row c
     each-alike end_of-FlatExpr b c h = refl
     each-alike (more_of-FlatExpr e others) b c h =
-        joined (elements_read w e b) (elements_read w e c) (each others b) (each others c) (reads-alike e b c (on-left (λ k. occurs_in k e) (λ k. one_reads k others) b c h))
+        append_alike (elements_read w e b) (elements_read w e c) (each others b) (each others c) (reads-alike e b c (on-left (λ k. occurs_in k e) (λ k. one_reads k others) b c h))
         (each-alike others b c (on-right (λ k. occurs_in k e) (λ k. one_reads k others) b c h))
 
     signed-alike : {m : _} (row : Row_of-FlatSigned m) (b c : List Place) → Agree (λ k. signed_read k row) b c → signed row b ≡ signed row c
     signed-alike end_of-FlatSigned b c h = refl
     signed-alike (more_of-FlatSigned minus e others) b c h =
-        joined (elements_read w e b) (elements_read w e c) (signed others b) (signed others c) (reads-alike e b c (on-left (λ k. occurs_in k e) (λ k. signed_read k others) b c h))
+        append_alike (elements_read w e b) (elements_read w e c) (signed others b) (signed others c) (reads-alike e b c (on-left (λ k. occurs_in k e) (λ k. signed_read k others) b c h))
         (signed-alike others b c (on-right (λ k. occurs_in k e) (λ k. signed_read k others) b c h))
 
     members-alike : {m : _} (row : Row_of-FlatMember m) (b c : List Place) → Agree (λ k. members_read k row) b c → listed row b ≡ listed row c
     members-alike end_of-FlatMember b c h = refl
     members-alike (more_of-FlatMember (One e) others) b c h =
-        joined (elements_read w e b) (elements_read w e c) (listed others b) (listed others c) (reads-alike e b c (on-left (λ k. occurs_in k e) (λ k. members_read k others) b c h))
+        append_alike (elements_read w e b) (elements_read w e c) (listed others b) (listed others c) (reads-alike e b c (on-left (λ k. occurs_in k e) (λ k. members_read k others) b c h))
         (members-alike others b c (on-right (λ k. occurs_in k e) (λ k. members_read k others) b c h))
     members-alike (more_of-FlatMember (SpanOf span place) others) b c h = members-alike others b c h
 

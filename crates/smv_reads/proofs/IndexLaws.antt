@@ -1,6 +1,8 @@
 -- Which classes indexes may be, as they are written.
-use Rattle.std.proofs.Common.{◌≡◌, ℕ, zero, suc, ◌+◌, ◌-◌, ◌<◌, ◌≤◌, List, [], ◌∷◌, ◌++◌, map, filter, length, drop, get_or, slice_get, Option, Some, None, Bool, true, false, cond, refl, sym, ap, ◌∙◌, arith}
+use Rattle.std.proofs.Common.{◌≡◌, ℕ, zero, suc, ◌+◌, ◌-◌, ◌<◌, ◌≤◌, List, [], ◌∷◌, ◌++◌, map, filter, length, drop, get_or, slice_get, Option, Some, None, Bool, true, false, refl, sym, ap, ◌∙◌, arith}
 use Rattle.std.specs.List.{flat_map}
+use Rattle.std.proofs.lemmas.List.{map-append}
+use Rattle.law_lists.proofs.Lists.{append_again, filter-map, map-map}
 use Rattle.smv_core.specs.Values.{numbers_from}
 use Rattle.smv_core.specs.Assignments.{Index, fixed, bare, computed}
 use Rattle.smv_core.specs.FlatMeaning.{flat_index}
@@ -15,7 +17,7 @@ use Rattle.smv_core.specs.declared.flat.FlatExpr.{FlatExpr}
 use Rattle.law_obligations.specs.Sets.{Has, first, later, one_of_each}
 use Rattle.law_obligations.specs.Places.{Place, named, rest, named_in}
 use Rattle.law_obligations.specs.Covers.{IsIndexType}
-use Rattle.law_obligations.proofs.OneOfEach.{map_joined, joined_again, get_Has}
+use Rattle.law_obligations.proofs.OneOfEach.{get_Has}
 use Rattle.smv_core.specs.declared.abstract_type.AbsType.{AbsType}
 use Rattle.law_obligations.specs.Cones.{element, index_places, each_index, elements_in}
 use Rattle.law_problems.proofs.Writing.{choices_written}
@@ -28,7 +30,6 @@ use Rattle.smv_spots.proofs.TypeLaws.{range_named, classes_named}
 use Rattle.smv_reads.specs.declared.bindings.View.{View}
 use Rattle.smv_reads.specs.Views.{world_of, IsView, place_in, places, spot_in, classes_in, may_lie}
 use Rattle.smv_reads.specs.Reading.{elements_from, choice_in, choices_in, read_at}
-use Rattle.smv_reads.proofs.Lists.{map-map}
 
 -- ---- places that an index may be
 
@@ -45,14 +46,6 @@ lying b (fixed None) ps = none-kept ps
 lying b (fixed (Some u)) ps = refl
 lying b (bare var) ps = refl
 lying b computed ps = all-kept ps
-
-filter-map : {X Y : Type 0} (test : Y → Bool) (f : X → Y) (xs : List X) → filter test (map f xs) ≡ map f (filter (λ x. test (f x)) xs)
-filter-map test f [] = refl
-filter-map test f (x ∷ xs) = at (test (f x)) (filter-map test f xs)
-  where
-    at : (c : Bool) → filter test (map f xs) ≡ map f (filter (λ x. test (f x)) xs) → cond c (f x ∷ filter test (map f xs)) (filter test (map f xs)) ≡ map f (cond c (x ∷ filter (λ x. test (f x)) xs) (filter (λ x. test (f x)) xs))
-    at true e = ap (λ ys. f x ∷ ys) e
-    at false e = e
 
 map-back : {X Y : Type 0} (f : X → Y) (g : Y → X) → ((x : X) → g (f x) ≡ x) → (xs : List X) → map g (map f xs) ≡ xs
 map-back f g e [] = refl
@@ -143,7 +136,7 @@ module _ (v : View) where
       let next : k + 1 ≡ suc k = omega arith in
       ap (λ (n : ℕ). new ++ choices_in v b (drop n indexes) (drop n over)) next
       ∙ (ap (λ (css : List (List Class)). css ++ rest) e
-      ∙ (joined_again done rest x
+      ∙ (append_again done rest x
       ∙ (ap (λ (cs : List Class). done ++ cs ∷ rest) (f ∙ ap (λ (o : Option FlatExpr). choice_in v b o (get_or over k d)) g)
       ∙ (ap (λ (css : List (List Class)). done ++ css) (sym (choices-turn b indexes over k d l)) ∙ h))))
 
@@ -182,7 +175,7 @@ module _ (v : View) where
       map (made family front) (flat_map (λ c. map (λ ds. c ∷ ds) (one_of_each more)) cs) ≡ flat_map (λ c. elements_from family (front ++ c ∷ []) more) cs
   each-front family front more goes [] = refl
   each-front family front more goes (c ∷ cs) =
-      map_joined (made family front) (map (λ ds. c ∷ ds) (one_of_each more)) (flat_map (λ c. map (λ ds. c ∷ ds) (one_of_each more)) cs)
+      map-append (made family front) (map (λ ds. c ∷ ds) (one_of_each more)) (flat_map (λ c. map (λ ds. c ∷ ds) (one_of_each more)) cs)
       ∙ ap (λ l. l ++ map (made family front) (flat_map (λ c. map (λ ds. c ∷ ds) (one_of_each more)) cs)) (turned family front c (one_of_each more) ∙ goes c)
       ∙ ap (λ l. elements_from family (front ++ c ∷ []) more ++ l) (each-front family front more goes cs)
 

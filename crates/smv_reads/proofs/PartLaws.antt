@@ -1,14 +1,15 @@
 -- What definitions read, on definitions that are made of lists and values.
 use Rattle.std.proofs.Common.{◌≡◌, ℕ, List, [], ◌++◌, map, Bool, true, false, ◌||◌, if◌then◌else◌, refl, sym, ap, ◌∙◌}
 use Rattle.std.specs.List.{flat_map}
-use Rattle.std.proofs.lemmas.List.{append_assoc}
+use Rattle.std.proofs.lemmas.List.{append_assoc, map-append}
+use Rattle.std.proofs.lemmas.List.Folds.{flat_map-map}
+use Rattle.law_lists.proofs.Lists.{map-flat_map, flat_map_alike, map-if}
 use Rattle.smv_core.specs.FlatMeaning.{flat_index}
 use Rattle.smv_core.specs.declared.flat.Simple.{Simple}
 use Rattle.smv_core.specs.declared.flat.Def.{Def}
 use Rattle.smv_core.specs.declared.flat.FlatExpr.{FlatExpr}
 use Rattle.smv_core.specs.declared.flat.DefBody.{DefBody, Nothing, If, First, Forall, Assign, First', Row_of-DefBody, end_of-DefBody, more_of-DefBody, items-the_row-DefBody, items_hidden-the_row-DefBody-1}
 use Rattle.law_obligations.specs.Places.{Place, named_in, places_in, bind_place}
-use Rattle.law_obligations.proofs.OneOfEach.{map_joined}
 use Rattle.law_obligations.specs.Reads.{is_own, part_reads, parts_read}
 use Rattle.law_obligations.specs.Cones.{AbsElement, elements_at, elements_read}
 use Rattle.law_problems.proofs.Counting.{uncounted}
@@ -19,7 +20,7 @@ use Rattle.smv_reads.specs.Views.{world_of, place_in, places, bind_spot}
 use Rattle.smv_reads.specs.Reading.{read_in, counts_in, read_by, read_by_assignment, read_by_over, read_of}
 use Rattle.smv_reads.specs.Counts.{may_count}
 use Rattle.smv_reads.proofs.Computing.{boxes}
-use Rattle.smv_reads.proofs.Lists.{map-flat_map, flat_map-map, flat_map-same, map-if, bound-places}
+use Rattle.smv_reads.proofs.Lists.{bound-places}
 use Rattle.smv_reads.proofs.CountLaws.{count-If, none-may}
 use mathlib.Core.Former.{Count}
 
@@ -36,7 +37,7 @@ module _ (v : View) (own b : List Spot) where
   unfolding read_by
   parts-row k end_of-DefBody = refl
   parts-row k (more_of-DefBody part rest) =
-      map_joined written_element (part_in part) (parts_read (places_in (world_of v)) (is_own (places v own)) (named_in (world_of v)) (elements_at (world_of v)) rest (places v b))
+      map-append written_element (part_in part) (parts_read (places_in (world_of v)) (is_own (places v own)) (named_in (world_of v)) (elements_at (world_of v)) rest (places v b))
       ∙ ap (λ l. read_by v own b part ++ l) (parts-row _ rest)
 
   pub part-Nothing : read_by v own b Nothing ≡ []
@@ -50,7 +51,7 @@ module _ (v : View) (own b : List Spot) where
       let lefts = flat_map (λ e. elements_read (world_of v) e (places v b)) left in
       map-if written_element c (lefts ++ elements_read (world_of v) value (places v b))
       ∙ ap (λ l. if c then l else [])
-      (map_joined written_element lefts (elements_read (world_of v) value (places v b))
+      (map-append written_element lefts (elements_read (world_of v) value (places v b))
       ∙ ap (λ l. l ++ read_in v b value) (map-flat_map written_element (λ e. elements_read (world_of v) e (places v b)) left))
 
   -- a condition, where something inside it counts, and what is inside it
@@ -58,8 +59,8 @@ module _ (v : View) (own b : List Spot) where
   unfolding read_by read_in counts_in boxes
   part-If cond x y e =
       ap (λ (c : Bool). map written_element ((if c then elements_read (world_of v) cond (places v b) else []) ++ part_in x ++ part_in y)) e
-      ∙ map_joined written_element (elements_read (world_of v) cond (places v b) ++ part_in x) (part_in y)
-      ∙ ap (λ l. l ++ map written_element (part_in y)) (map_joined written_element (elements_read (world_of v) cond (places v b)) (part_in x))
+      ∙ map-append written_element (elements_read (world_of v) cond (places v b) ++ part_in x) (part_in y)
+      ∙ ap (λ l. l ++ map written_element (part_in y)) (map-append written_element (elements_read (world_of v) cond (places v b)) (part_in x))
       ∙ append_assoc (map written_element (elements_read (world_of v) cond (places v b))) (map written_element (part_in x)) (map written_element (part_in y))
 
   pub part-none : (part : DefBody) → counts_in v own b part ≡ false → read_by v own b part ≡ []
@@ -87,7 +88,7 @@ module _ (v : View) (own b : List Spot) where
       map-flat_map written_element f (places_in (world_of v) over)
       ∙ ap (flat_map (λ p. map written_element (f p))) (sym e)
       ∙ flat_map-map (λ p. map written_element (f p)) (place_in v) spots
-      ∙ flat_map-same (λ s. map written_element (f (place_in v s))) (λ s. read_by v own (bind_spot b var s) body) spots
+      ∙ flat_map_alike (λ s. map written_element (f (place_in v s))) (λ s. read_by v own (bind_spot b var s) body) spots
       (λ s. ap (λ ps. map written_element (part_reads (places_in (world_of v)) (is_own (places v own)) (named_in (world_of v)) (elements_at (world_of v)) body ps)) (sym (bound-places v b var s)))
 
   -- where nothing may count
@@ -105,8 +106,8 @@ pub of-parts : (v : View) (own : List Spot) (def : Def) → read_of v own def �
 unfolding read_of read_by
 of-parts v own def =
     let part : DefBody → List AbsElement = λ p. part_in v own [] p in
-    map_joined written_element (part def.init ++ part def.next) (part def.comb)
-    ∙ ap (λ l. l ++ map written_element (part def.comb)) (map_joined written_element (part def.init) (part def.next))
+    map-append written_element (part def.init ++ part def.next) (part def.comb)
+    ∙ ap (λ l. l ++ map written_element (part def.comb)) (map-append written_element (part def.init) (part def.next))
     ∙ append_assoc (map written_element (part def.init)) (map written_element (part def.next)) (map written_element (part def.comb))
 
 pub ruleset of_parts = (of-parts)

@@ -74,7 +74,7 @@ fn may_be_own(view: &View, own: &[Spot], bindings: &[Spot], left: &[FlatExpr]) -
 /// Some assignment of a part may count once the variables below are bound.
 #[cycle(may_count)]
 #[tactic(auto, using(crate::proofs::CountLaws::may_equations))]
-pub fn may_count(view: &View, own: &[Spot], bindings: &[Spot], part: &DefBody) -> bool
+pub(crate) fn may_count(view: &View, own: &[Spot], bindings: &[Spot], part: &DefBody) -> bool
     ensures { result ≡ spec.may_count (places view.now own.now) (places view.now bindings.now) part.now }
 {
     match part {
@@ -133,7 +133,7 @@ pub fn counts(
 }
 
 /// Some assignment of one of two parts counts.
-pub fn either_counts(
+pub(crate) fn either_counts(
     alloc: Global,
     view: &View,
     own: &[Spot],

@@ -42,7 +42,7 @@ fn has_body(x: &FlatExpr) -> bool {
 
 /// The same beside a table of the quantifiers, and the comprehensions with a condition, that were walked: what it has is not walked again.
 #[cycle(expressions)]
-pub fn walk_expression<'a>(
+pub(crate) fn walk_expression<'a>(
     alloc: Global,
     view: &View,
     found: &mut Found,
@@ -216,7 +216,7 @@ fn walk_reference<'a>(
 /// So some expressions, one after the other.
 #[cycle(expressions)]
 #[tactic(auto, using(crate::proofs::Joins::joins))]
-pub fn walk_each<'a>(
+pub(crate) fn walk_each<'a>(
     alloc: Global,
     view: &View,
     found: &mut Found,

@@ -76,7 +76,7 @@ pub fn classes_over(
 }
 
 /// A variable is bound to this place.
-pub fn is_bound_to(view: &View, bindings: &[Spot], var: u16, p: Spot) -> bool
+pub(crate) fn is_bound_to(view: &View, bindings: &[Spot], var: u16, p: Spot) -> bool
     ensures { result ≡ reads.is_bound_to (slice_get (places view.now bindings.now) var) (place_in view.now p) }
 {
     match bindings.get(var as usize) {

@@ -36,7 +36,7 @@ fn put_one(
 
 /// Puts the elements of a family whose indexes begin with these classes and go on with one of each of these, in order.
 #[cycle(choices)]
-pub fn put_from(
+fn put_from(
     alloc: Global,
     found: &mut Found,
     family: u16,
@@ -97,7 +97,7 @@ fn put_of_family(
 }
 
 /// Puts the elements that a reference reads.
-pub fn put_reference(
+pub(crate) fn put_reference(
     alloc: Global,
     view: &View,
     found: &mut Found,

@@ -1,5 +1,5 @@
 -- What stands twice, found by what was noted before.
-use Rattle.std.proofs.Common.{◌≡◌, ℕ, zero, suc, ◌+◌, ◌<◌, arith, List, [], ◌∷◌, ◌++◌, map, length, take, drop, get_or, refl, ap, sym, ◌∙◌, Bool, true, false, ◌||◌, cond, not, if◌then◌else◌}
+use Rattle.std.proofs.Common.{◌≡◌, ℕ, suc, ◌+◌, ◌<◌, arith, List, [], ◌∷◌, ◌++◌, map, length, take, drop, get_or, refl, ap, sym, ◌∙◌, Bool, true, false, ◌||◌, cond, not, if◌then◌else◌}
 use Rattle.std.specs.Prelude.{Option, Some, None, is_some, filter, option_map}
 use Rattle.std.specs.List.{list_any}
 use Rattle.std.specs.Str.{bytes_eq}
@@ -7,6 +7,7 @@ use Rattle.std.proofs.lemmas.List.{map-append, take_more, append-nil, append_ass
 use Rattle.std.proofs.lemmas.List.Folds.{list_any-append}
 use Rattle.std.proofs.lemmas.Slice.Eq.{bytes_eq-Decides}
 use Rattle.std.specs.Bool.{Decides}
+use Rattle.law_lists.proofs.Places.{drop_read_one}
 use Rattle.smv_core.specs.Values.{Name}
 use Rattle.smv_core.specs.declared.tree.Word.{Word}
 use Rattle.name_index.specs.Position.{position}
@@ -107,14 +108,6 @@ module _ {K : Type 0} (same : K → K → Bool) where
 
 -- ---- one step of a search
 
-from_suc : {X : Type 0} (xs : List X) (n : ℕ) (x : X) → n < length xs → x ≡ get_or xs n x → drop n xs ≡ x ∷ drop (suc n) xs
-from_suc [] n x h e = absurd (omega (arith, h))
-from_suc (y ∷ xs) zero x h e = ap (λ z. z ∷ xs) (sym e)
-from_suc (y ∷ xs) (suc n) x h e = from_suc xs n x (omega (arith, h)) e
-
-from_here : {X : Type 0} (xs : List X) (n : ℕ) (x : X) → n < length xs → x ≡ get_or xs n x → drop n xs ≡ x ∷ drop (n + 1) xs
-from_here xs n x h e = let more : suc n ≡ n + 1 = omega arith in from_suc xs n x h e ∙ ap (λ m. x ∷ drop m xs) more
-
 abbrev pub keys_to : {K : Type 0} → ℕ → List (ℕ × K) → List K
 keys_to {K} n xs = map (λ (x : ℕ × K). x.1) (take n xs)
 
@@ -131,7 +124,7 @@ module _ {K : Type 0} (same : K → K → Bool) where
       ∙ ap (λ o. first_of_places o (least (again same (keys_to n xs ++ x.1 ∷ []) (drop (n + 1) xs)))) (at ∙ ap (λ b. first_of_places found (least (place_if b x.0))) is)
       ∙ first-assoc found (least (place_if (list_any (λ key. same key x.1) (keys_to n xs)) x.0)) (least (again same (keys_to n xs ++ x.1 ∷ []) (drop (n + 1) xs)))
       ∙ ap (first_of_places found) (sym (least-append (place_if (list_any (λ key. same key x.1) (keys_to n xs)) x.0) (again same (keys_to n xs ++ x.1 ∷ []) (drop (n + 1) xs)))
-      ∙ ap (λ l. least (again same (keys_to n xs) l)) (sym (from_here xs n x below here)))
+      ∙ ap (λ l. least (again same (keys_to n xs) l)) (sym (drop_read_one xs n x below here)))
       ∙ old
 
   pub noted-more : (xs : List (ℕ × K)) (n : ℕ) (x : ℕ × K) (old new : K → Bool) → n < length xs → x ≡ get_or xs n x → ((k : K) → new k ≡ cond (same x.1 k) true (old k)) →
@@ -166,7 +159,7 @@ name-step f xs n x seen new place found found' whole below here put is at old =
     ∙ ap (λ o. first_of_places o (least (again bytes_eq (seen ++ (f x).1 ∷ []) (map f (drop (n + 1) xs))))) (at ∙ ap (first_of_places found) (is ∙ ap (λ b. least (place_if b (f x).0)) (position-any seen (f x).1)))
     ∙ first-assoc found (least (place_if (list_any (λ key. bytes_eq key (f x).1) seen) (f x).0)) (least (again bytes_eq (seen ++ (f x).1 ∷ []) (map f (drop (n + 1) xs))))
     ∙ ap (first_of_places found) (sym (least-append (place_if (list_any (λ key. bytes_eq key (f x).1) seen) (f x).0) (again bytes_eq (seen ++ (f x).1 ∷ []) (map f (drop (n + 1) xs))))
-    ∙ ap (λ l. least (again bytes_eq seen (map f l))) (sym (from_here xs n x below here)))
+    ∙ ap (λ l. least (again bytes_eq seen (map f l))) (sym (drop_read_one xs n x below here)))
     ∙ old
 
 pub ruleset naming = (position-any, first-assoc, first-none, least-append)

@@ -23,7 +23,7 @@ pub fn named<'a>(params: &'a [Param], word: &Word) -> Option<&'a Param>
 }
 
 /// Whether a word names one of these parameters.
-pub fn names_one(params: &[Param], word: &Word) -> bool
+fn names_one(params: &[Param], word: &Word) -> bool
     ensures { result ≡ splits.names_one params.now word.now }
 {
     params

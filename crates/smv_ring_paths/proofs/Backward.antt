@@ -2,6 +2,7 @@
 use Rattle.std.proofs.Common.{◌≡◌, ◌↔◌, ℕ, ◌+◌, ◌*◌, ◌/◌, ◌<◌, Bool, true, ◌&&◌, List, [], ◌∷◌, map, length, refl, sym, ◌∙◌, ap, subst, arith, inl, inr}
 use Rattle.bdd_store.specs.declared.Ref.{Ref}
 use Rattle.bdd_store.specs.Diagram.{Diagram, IsLive, AreLive, table, Keeps}
+use Rattle.bdd_store.proofs.Keeping.{table_kept, functions_kept}
 use Rattle.bdd_ops.specs.Functions.{Function, bit_at}
 use Rattle.smv_rings.specs.Functions.{DependsBelow}
 use Rattle.smv_rings.specs.Lists.{State, both, at, all_of, IsCurrent}
@@ -9,7 +10,6 @@ use Rattle.smv_rings.proofs.Early.{and_true, true_and}
 use Rattle.smv_rings.proofs.Image.{both_odd, both_even, current_pair}
 use Rattle.smv_rings.proofs.Tables.{table_below}
 use Rattle.smv_ring_paths.specs.Steps.{IsStep}
-use Rattle.smv_ring_paths.proofs.Stores.{table_kept, tables_kept}
 use Rattle.smv_ring_paths.proofs.Joins.{even_or_odd}
 
 -- a function of current bits at a step is that at its old state
@@ -29,7 +29,7 @@ module _ (d e : Diagram) (keeps : Keeps d e) (set : Ref) (fs : List Ref) (set_li
   set_is = table_kept d e set keeps set_live
 
   fs_are : map (table e) fs ≡ map (table d) fs
-  fs_are = tables_kept d e fs keeps live
+  fs_are = functions_kept d e fs keeps live
 
   pub step_later : (r s : State) → IsStep (table d set) (map (table d) fs) r s → IsStep (table e set) (map (table e) fs) r s
   step_later r s step = subst (λ (f : Function). IsStep f (map (table e) fs) r s) (sym set_is) (subst (λ (gs : List Function). IsStep (table d set) gs r s) (sym fs_are) step)
@@ -50,7 +50,7 @@ module _ (d e f g : Diagram) (set : Ref) (fs : List Ref) (next : List Bool) (to_
   all_are a =
       steps_are a
       ∙ ap (λ x. x && all_of (map (table f) fs) a) (from_is a ∙ ap (λ x. table e to_next a && x) (keeps.tables set set_live a))
-      ∙ ap (λ gs. (table e to_next a && table d set a) && all_of gs a) (tables_kept e f fs then_keeps live_then ∙ tables_kept d e fs keeps live)
+      ∙ ap (λ gs. (table e to_next a && table d set a) && all_of gs a) (functions_kept e f fs then_keeps live_then ∙ functions_kept d e fs keeps live)
 
   pub step_is_some : ((r : State) × IsStep (table d set) (map (table d) fs) r (bit_at next)) → (a : ℕ → Bool) × (table g steps a ≡ true)
   step_is_some (r, step) =

@@ -5,6 +5,7 @@ use Rattle.std.specs.Global.{Vec}
 use Rattle.std.proofs.lemmas.List.{get_or-take, length-take-le}
 use Rattle.bdd_store.specs.declared.Ref.{Ref}
 use Rattle.bdd_store.specs.Diagram.{Diagram, IsLive, AreLive, table, Keeps, ref_at}
+use Rattle.bdd_store.proofs.Keeping.{table_kept}
 use Rattle.bdd_ops.specs.Functions.{Function}
 use Rattle.smv_rings.specs.declared.Rel.{Rel}
 use Rattle.smv_rings.specs.Lists.{Lists, State, at, IsLists, IsRel, lists_of}
@@ -12,9 +13,9 @@ use Rattle.smv_rings.specs.Paths.{Starts, Ends, Violates, IsViolating}
 use Rattle.smv_rings.specs.Schedule.{ring}
 use Rattle.smv_rings.proofs.PathLaws.{violates_of}
 use Rattle.smv_rings.proofs.Rels.{lists_ok}
+use Rattle.smv_rings.proofs.Kept.{lists_kept}
 use Rattle.smv_ring_paths.specs.Steps.{GoesOn}
 use Rattle.smv_ring_paths.specs.BitPaths.{AreRings, state_of, states_of, IsBitPath, HasBits}
-use Rattle.smv_ring_paths.proofs.Stores.{table_kept, lists_kept}
 use Rattle.smv_ring_paths.proofs.Walks.{shorter_none, ends_at, ring_of_ends, whole_path, only_path}
 
 pub once_found : (l : Lists) (n : ℕ) → n ≡ 0 → ((path : ℕ → State) × IsViolating l n path) → (s : State) × Violates l 0 s

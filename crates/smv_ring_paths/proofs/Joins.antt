@@ -5,18 +5,17 @@ use Rattle.std.proofs.lemmas.List.{drop_all}
 use Rattle.std.proofs.lemmas.Bool.{cases_lt}
 use Rattle.bdd_store.specs.declared.Ref.{Ref}
 use Rattle.bdd_store.specs.Diagram.{Diagram, IsLive, AreLive, IsConstant, table, Keeps, first_var}
+use Rattle.bdd_store.proofs.Keeping.{keeps_self, keeps_then}
 use Rattle.bdd_ops.specs.Functions.{Function, bit_at}
 use Rattle.smv_rings.specs.Lists.{State, both, all_of}
 use Rattle.smv_rings.specs.Schedule.{made_by, left_by, after}
-use Rattle.smv_rings.specs.Schedule.Act.{Join, Look_at}
 use Rattle.smv_rings.specs.declared.ops.Op.{Op}
 use Rattle.smv_rings.specs.declared.ops.Op.TheVariants.{And, Exists, Look, Rename}
 use Rattle.smv_rings.specs.Ops.{IsOneOf, act_of, acts_of, refs_in, refs_in_all, FitsAct, FitsActs}
-use Rattle.smv_rings.proofs.Fits.{fits_any}
 use Rattle.smv_rings.proofs.Image.{both_odd, both_even}
 use Rattle.smv_rings.proofs.Refs.{one_left, one_right, each_live, one_at}
 use Rattle.smv_rings.proofs.Tables.{table_below}
-use Rattle.smv_ring_paths.proofs.Stores.{keeps_self, keeps_then, table_kept}
+use Rattle.smv_rings.proofs.Kept.{act_kept}
 
 and_assoc : (x y z : Bool) → (x && y) && z ≡ x && (y && z)
 and_assoc true y z = refl
@@ -153,15 +152,6 @@ left_is d p Rename no_look = refl
 
 pub look_leaves : (d : Diagram) (p : Function) (op : Op) (f : Ref) → op ≡ Look f → p ≡ left_by (act_of d 1 op) p
 look_leaves d p op f is = subst (λ (o : Op). p ≡ left_by (act_of d 1 o) p) (sym is) refl
-
-pub fits_one : (d : Diagram) (n : ℕ) (p : Function) (op : Op) → FitsAct n p (act_of d 1 op) → FitsAct n p (act_of d 0 op)
-fits_one d n p op fits = (fits_any d n 1 0 p (op ∷ []) (fits, tt)).0
-
-act_kept : (d e : Diagram) (op : Op) → Keeps d e → ((r : Ref) → IsOneOf r (refs_in op) → IsLive d r) → act_of e 1 op ≡ act_of d 1 op
-act_kept d e (And f) keeps live = ap Join (table_kept d e f keeps (live f (inl refl)))
-act_kept d e (Exists v) keeps live = refl
-act_kept d e (Look f) keeps live = ap (Look_at 1) (table_kept d e f keeps (live f (inl refl)))
-act_kept d e Rename keeps live = refl
 
 -- some operations are left
 pub record IsLeft (d : Diagram) (start : Ref) (all : List Op) (e : Diagram) (p : Ref) (left : List Op) : Type 0 where

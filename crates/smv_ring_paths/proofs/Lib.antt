@@ -1,4 +1,3 @@
-pub mod Stores
 pub mod Joins
 pub mod Images
 pub mod Backward

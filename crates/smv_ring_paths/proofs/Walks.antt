@@ -7,6 +7,7 @@ use Rattle.std.proofs.lemmas.List.{reverse-append, length-reverse, length-append
 use Rattle.std.proofs.lemmas.List.Elements.{All-nil, All-head, All-tail, All-push}
 use Rattle.bdd_store.specs.declared.Ref.{Ref}
 use Rattle.bdd_store.specs.Diagram.{Diagram, IsLive, AreLive, table, Keeps}
+use Rattle.bdd_store.proofs.Keeping.{keeps_self, keeps_then, table_kept, live_kept}
 use Rattle.bdd_ops.specs.Functions.{Function, bit_at}
 use Rattle.smv_rings.specs.declared.Rel.{Rel}
 use Rattle.smv_rings.specs.Lists.{Lists, State, both, at, all_of, IsCurrent, IsLists, IsRel, lists_of, refs_of}
@@ -22,7 +23,6 @@ use Rattle.smv_rings.proofs.Rings.{ring_facts, ring_to, ring_from}
 use Rattle.smv_rings.proofs.Whole.{map_append}
 use Rattle.smv_ring_paths.specs.Steps.{IsStep, GoesOn}
 use Rattle.smv_ring_paths.specs.BitPaths.{state_of, states_of, by_time, HasBits, IsBitPath}
-use Rattle.smv_ring_paths.proofs.Stores.{keeps_self, keeps_then, table_kept, live_kept}
 use Rattle.smv_ring_paths.proofs.Backward.{step_later, step_before}
 use Rattle.smv_ring_paths.proofs.Ends.{violates_on, violating_list, violating_one}
 

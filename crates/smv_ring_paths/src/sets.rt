@@ -14,7 +14,12 @@ use smv_rings::{Op, Rel, apply, plan};
 use std::alloc::{AllocError, Global};
 
 /// The conjunction of a function with those of a list.
-pub fn all_with(alloc: Global, store: &mut Store, f: Ref, fs: &[Ref]) -> Result<Ref, AllocError>
+pub(crate) fn all_with(
+    alloc: Global,
+    store: &mut Store,
+    f: Ref,
+    fs: &[Ref],
+) -> Result<Ref, AllocError>
     requires f { IsLive store.old f }
     requires fs { AreLive store.old fs.now }
     ensures live { IfOk result (λ r. IsLive store.new r) }
@@ -154,7 +159,12 @@ fn image(
 }
 
 /// A state of a set of states that is not empty.
-pub fn one_state(alloc: Global, store: &Store, set: Ref, bits: u16) -> Result<Vec<bool>, AllocError>
+pub(crate) fn one_state(
+    alloc: Global,
+    store: &Store,
+    set: Ref,
+    bits: u16,
+) -> Result<Vec<bool>, AllocError>
     requires live { IsLive store.now set }
     requires current { IsCurrent (table store.now set) }
     requires vars { store.now.vars ≡ 2 * bits }
@@ -166,7 +176,7 @@ pub fn one_state(alloc: Global, store: &Store, set: Ref, bits: u16) -> Result<Ve
 }
 
 /// A state to which a step leads from a state of the set, in which all these functions hold.
-pub fn state_after(
+pub(crate) fn state_after(
     alloc: Global,
     store: &mut Store,
     set: Ref,
@@ -187,7 +197,7 @@ pub fn state_after(
 }
 
 /// A state of the set from which a step leads to this one, in which all these functions hold.
-pub fn state_before(
+pub(crate) fn state_before(
     alloc: Global,
     store: &mut Store,
     set: Ref,

@@ -5,9 +5,9 @@ use Rattle.std.proofs.lemmas.Bool.Decides.{nat_tests}
 use Rattle.std.proofs.lemmas.Bool.{cases_lt}
 use Rattle.bdd_store.specs.Graph.{with_at}
 use Rattle.bdd_store.proofs.Walks.{with_other}
+use Rattle.bdd_store.proofs.Functions.{with_own}
 use Rattle.bdd_ops.specs.Functions.{Function, some_at, FreeOf}
 use Rattle.smv_rings.specs.Functions.{conj}
-use Rattle.bdd_ops.proofs.Depends.{with_own}
 use Rattle.smv_rings.specs.Lists.{all_of}
 use Rattle.smv_rings.specs.Schedule.{Act, after}
 use Rattle.smv_rings.specs.Schedule.Act.{Join, Out, Look_at, Lower}

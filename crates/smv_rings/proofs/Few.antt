@@ -1,9 +1,9 @@
 -- A case with m bits closes within 2 ^ m images.
 use Rattle.std.proofs.Common.{◌≡◌, ◌≢◌, ℕ, zero, suc, ◌+◌, ◌*◌, ◌/◌, ◌^◌, ◌<◌, ◌≤◌, Bool, true, false, cond, not, ◌&&◌, inl, inr, refl, sym, ◌∙◌, ap, arith}
 use Rattle.bdd_store.specs.Graph.{with_at}
+use Rattle.bdd_store.proofs.Functions.{with_own, half_reads, Reads}
 use Rattle.bdd_ops.specs.Functions.{Function}
 use Rattle.smv_rings.specs.Functions.{DependsBelow}
-use Rattle.bdd_ops.proofs.Depends.{Reads, half_reads, with_own}
 use Rattle.smv_rings.proofs.Tables.{some_or_never, below_reads}
 use Rattle.smv_rings.specs.Lists.{Lists, State, at, IsLists}
 use Rattle.smv_rings.specs.Schedule.{after, turn, ring}

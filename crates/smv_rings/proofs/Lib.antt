@@ -11,3 +11,4 @@ pub mod PathLaws
 pub mod Refs
 pub mod Plans
 pub mod Fits
+pub mod Kept

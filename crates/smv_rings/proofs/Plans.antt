@@ -23,7 +23,7 @@ use Rattle.smv_rings.proofs.Whole.{map_append}
 pub back_push : (d : Diagram) (k : ℕ) (ops : List Op) (op : Op) → back_acts d k (ops ++ (op ∷ [])) ≡ act_of d k op ∷ back_acts d k ops
 back_push d k ops op = ap (acts_of d k) (reverse-append ops (op ∷ []))
 
-refs_append : (xs ys : List Op) → refs_in_all (xs ++ ys) ≡ refs_in_all xs ++ refs_in_all ys
+pub refs_append : (xs ys : List Op) → refs_in_all (xs ++ ys) ≡ refs_in_all xs ++ refs_in_all ys
 refs_append [] ys = refl
 refs_append (x ∷ xs) ys = ap (λ rs. refs_in x ++ rs) (refs_append xs ys) ∙ sym (append_assoc (refs_in x) (refs_in_all xs) (refs_in_all ys))
 

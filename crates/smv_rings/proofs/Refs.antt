@@ -37,6 +37,10 @@ each_live d rs live r one = let at = place_of r rs one in subst (IsLive d) at.2 
 pub live_each : (d : Diagram) (rs : List Ref) → ((r : Ref) → IsOneOf r rs → IsLive d r) → AreLive d rs
 live_each d rs each i lt = each (ref_at rs i) (one_at rs i (record { place = 0 }) lt)
 
+-- a list of the Rel that is seen as a slice
+pub part_live : (d : Diagram) (all part shown : List Ref) → AreLive d all → ((r : Ref) → IsOneOf r part → IsOneOf r all) → shown ≡ part → AreLive d shown
+part_live d all part shown live sub e = subst (AreLive d) (sym e) (live_each d part (λ r one. each_live d all live r (sub r one)))
+
 module _ (rel : Rel) (r : Ref) where
   behind_now : IsOneOf r (rel.before_first.items ++ (rel.broken_first ∷ (rel.now_step.items ++ (rel.before_step.items ++ (rel.broken_step ∷ []))))) → IsOneOf r (refs_of rel)
   unfolding refs_of

@@ -3,8 +3,8 @@ use Rattle.std.proofs.Common.{◌≡◌, ℕ, zero, suc, Bool, true, false, ◌�
 use Rattle.bdd_store.specs.declared.Ref.{Ref}
 use Rattle.bdd_store.specs.Graph.{with_at}
 use Rattle.bdd_store.specs.Diagram.{Diagram, table}
+use Rattle.bdd_store.proofs.Functions.{with_agree, with_own, half_reads, table_reads, Reads}
 use Rattle.bdd_ops.specs.Functions.{Function, depends, FreeOf}
-use Rattle.bdd_ops.proofs.Depends.{Reads, with_agree, with_own, half_reads, table_reads}
 use Rattle.bdd_ops.proofs.Depends as Known
 use Rattle.smv_rings.specs.Functions.{DependsBelow}
 

@@ -2,6 +2,8 @@
 use Rattle.std.proofs.Common.{◌≡◌, ℕ, List, [], ◌∷◌, ◌++◌, map, refl, ap, sym, ◌∙◌, append_assoc}
 use Rattle.std.specs.Prelude.{Option, Some, slice_get}
 use Rattle.std.specs.List.{flat_map}
+use Rattle.std.proofs.lemmas.List.Folds.{flat_map-map}
+use Rattle.law_lists.proofs.Lists.{map-map}
 use Rattle.smv_core.specs.declared.tree.Word.{Word}
 use Rattle.smv_core.specs.declared.tree.Text.{Text}
 use Rattle.smv_mentions.specs.declared.pieces.Piece.{Piece as NotedPiece}
@@ -14,7 +16,7 @@ use Rattle.smv_first_fault.specs.Firsts.{least}
 use Rattle.smv_scope.specs.Numbered.{scope_at}
 use Rattle.smv_scope.specs.Held.{piece_noted}
 use Rattle.smv_scope.proofs.PieceLaws.{Told, scope-here}
-use Rattle.smv_scope.proofs.TableLaws.{flat-twice, map-twice, told-same, tell}
+use Rattle.smv_scope.proofs.TableLaws.{told-same, tell}
 use Rattle.smv_first_fault.proofs.LeastLaws.{least-append}
 
 words-first : (mention : Mention) (more : List Mention) → declared_words (mention ∷ more) ≡ declared_words (mention ∷ []) ++ declared_words more
@@ -32,7 +34,7 @@ declared-flat (mention ∷ mentions) = words-first (said mention) (map said ment
 
 pub words-same : (text : Text) (noted : List NotedPiece) → AreNoted noted text → map (λ piece. piece.word.now) noted ≡ map (λ piece. piece.word) (pieces text)
 words-same text noted known =
-    sym (map-twice (λ (t : Told). t.0) told noted) ∙ ap (map (λ (t : Told). t.0)) (sym (told-same text noted known)) ∙ map-twice (λ (t : Told). t.0) tell (pieces text)
+    sym (map-map (λ (t : Told). t.0) told noted) ∙ ap (map (λ (t : Told). t.0)) (sym (told-same text noted known)) ∙ map-map (λ (t : Told). t.0) tell (pieces text)
 
 pub doubled-whole : (text : Text) (noted : List NotedPiece) (known : AreNoted noted text) (i : ℕ) (piece : NotedPiece) (here : slice_get noted i ≡ Some piece) (words : List Word) (a b c d new : Option ℕ)
     → words ≡ formals_of (piece_noted text i piece) → a ≡ least (repeated [] words)
@@ -42,7 +44,7 @@ pub doubled-whole : (text : Text) (noted : List NotedPiece) (known : AreNoted no
 doubled-whole text noted known i piece here words a b c d new same first second third both is =
     is ∙ ap (λ o. first_of_places o d) (first ∙ ap (λ ws. least (repeated [] ws)) same) ∙ ap (first_of_places (least (repeated [] (formals_of (piece_noted text i piece))))) (both
     ∙ ap (λ o. first_of_places o c) (second ∙ ap (λ ws. least (repeated [] ws)) (sym (declared-flat piece.mentions.items)))
-    ∙ ap (first_of_places (least (repeated [] (declared_words (map said piece.mentions.items))))) (third ∙ ap least (sym (flat-twice (doubled (scope_at text i)) said piece.mentions.items))
+    ∙ ap (first_of_places (least (repeated [] (declared_words (map said piece.mentions.items))))) (third ∙ ap least (sym (flat_map-map (doubled (scope_at text i)) said piece.mentions.items))
     ∙ ap (λ (s : Scope). least (flat_map (doubled s) (map said piece.mentions.items))) (scope-here text noted known i piece here))
     ∙ sym (least-append (repeated [] (declared_words (map said piece.mentions.items))) (flat_map (doubled (scope_of (pieces text) (piece_noted text i piece))) (map said piece.mentions.items))))
     ∙ sym (least-append (repeated [] (formals_of (piece_noted text i piece))) (repeated [] (declared_words (map said piece.mentions.items)) ++ flat_map (doubled (scope_of (pieces text) (piece_noted text i piece))) (map said piece.mentions.items)))

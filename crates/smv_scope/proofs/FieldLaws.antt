@@ -1,6 +1,7 @@
 -- The fields of types that are made of lists and values.
-use Rattle.std.proofs.Common.{◌≡◌, ℕ, List, [], ◌∷◌, Bool, true, false, cond, ◌≤◌, ◌-◌, zero, suc, length, get_or, drop, take, arith, refl, ap, sym, ◌∙◌}
+use Rattle.std.proofs.Common.{◌≡◌, ℕ, List, [], ◌∷◌, Bool, true, false, cond, ◌≤◌, ◌-◌, length, get_or, drop, arith, refl, ap, sym, ◌∙◌}
 use Rattle.std.specs.Prelude.{Option, Some, None, option_map, slice_get}
+use Rattle.law_lists.proofs.Places.{first_read}
 use Rattle.smv_core.specs.declared.tree.Word.{Word}
 use Rattle.smv_core.specs.declared.tree.Field.{Field, out-Field}
 use Rattle.smv_core.specs.declared.tree.TypeExpr.{TypeExpr, Named, Struct, Struct', Array, Row_of-Field, end_of-Field, more_of-Field, items-the_row-Field, items_hidden-the_row-Field-1}
@@ -77,26 +78,11 @@ module _ (text : Text) (k : ℕ) where
 
 -- ---- names behind a struct
 
-uncons : {A : Type 0} (xs : List A) (x : A) → 1 ≤ length xs → x ≡ get_or xs 0 x → xs ≡ x ∷ drop 1 xs
-uncons [] x h e = absurd (omega arith)
-uncons (y ∷ xs) x h e = ap (λ z. z ∷ xs) (sym e)
-
-take-long : {A : Type 0} (xs : List A) (n : ℕ) → length xs ≤ n → take n xs ≡ xs
-take-long [] zero h = refl
-take-long [] (suc n) h = refl
-take-long (x ∷ xs) zero h = absurd (omega arith)
-take-long (x ∷ xs) (suc n) h = ap (λ l. x ∷ l) (take-long xs n (omega arith))
-
--- what is left behind a first item
-pub rest-is : {A : Type 0} (xs : List A) → take (length xs - 1) (drop 1 xs) ≡ drop 1 xs
-rest-is [] = refl
-rest-is (x ∷ xs) = take-long xs (suc (length xs) - 1) (omega arith)
-
 module _ (text : Text) (o : Option Led) (led : Led) (same : o ≡ Some led) (words : List (Bor Word)) (w : Bor Word) (long : 1 ≤ length words) (head : w ≡ get_or words 0 w)
     (found : Option (Bor Field)) (named : option_map (λ (f : Bor Field). f.now) found ≡ field_named led.fields.now w.now.name) where
   behind-found : fields_led text o (words_at words) ≡ behind_field (known_before text led.place) (option_map (λ (f : Bor Field). f.now) found) w.now (words_at (drop 1 words))
   behind-found =
-      ap (λ l. fields_led text o (words_at l)) (uncons words w long head) ∙ ap (λ p. fields_led text p (w.now ∷ words_at (drop 1 words))) same
+      ap (λ l. fields_led text o (words_at l)) (first_read words w long head) ∙ ap (λ p. fields_led text p (w.now ∷ words_at (drop 1 words))) same
       ∙ field_in-named (known_before text led.place) led.fields.now w.now (words_at (drop 1 words))
       ∙ ap (λ p. behind_field (known_before text led.place) p w.now (words_at (drop 1 words))) (sym named)
 

@@ -3,6 +3,8 @@ use Rattle.std.proofs.Common.{◌≡◌, ℕ, zero, suc, ◌+◌, ◌<◌, List,
 use Rattle.std.specs.Prelude.{Option, Some, None, option_map, option_and_then, is_some, slice_get}
 use Rattle.std.proofs.lemmas.List.{map-append, length-map}
 use Rattle.std.proofs.lemmas.Bool.Decides.{nat_tests}
+use Rattle.law_lists.proofs.Lists.{map-take}
+use Rattle.law_lists.proofs.Places.{get_there}
 use Rattle.smv_core.specs.Values.{Name}
 use Rattle.smv_core.specs.Types.{find_name}
 use Rattle.smv_core.specs.declared.tree.Word.{Word}
@@ -88,11 +90,6 @@ take-take (suc k) [] (suc i) h = refl
 take-take (suc k) (x ∷ xs) zero h = refl
 take-take (suc k) (x ∷ xs) (suc i) h = ap (λ l. x ∷ l) (take-take k xs i (omega arith))
 
-map-front : {A B : Type 0} (f : A → B) (k : ℕ) (xs : List A) → map f (take k xs) ≡ take k (map f xs)
-map-front f zero xs = refl
-map-front f (suc k) [] = refl
-map-front f (suc k) (x ∷ xs) = ap (λ l. f x ∷ l) (map-front f k xs)
-
 -- the value of the top of a number
 abbrev pub value_at : Text → ℕ → Option (Option Fields)
 value_at text i = option_map (value_of (known_before text i)) (slice_get text.tops i)
@@ -102,16 +99,11 @@ value-before text k i top h e =
     ap (option_map (λ pair. pair.1)) (known-at [] (take k text.tops) i top (take-get k text.tops i h ∙ e) i (omega arith))
     ∙ ap (λ tops. Some (value_of (known_from [] tops) top)) (take-take k text.tops i h) ∙ ap (option_map (value_of (known_before text i))) (sym e)
 
-within : {A : Type 0} (xs : List A) (i : ℕ) → i < length xs → (x : A) × (slice_get xs i ≡ Some x)
-within [] i h = absurd (omega arith)
-within (x ∷ xs) zero h = (x, refl)
-within (x ∷ xs) (suc i) h = within xs i (omega arith)
-
 abbrev at_place : Text → ℕ → ℕ → Option (Option Fields)
 at_place text k i = option_map (λ pair. pair.1) (slice_get (known_before text k) i)
 
 top-within : (text : Text) (i : ℕ) → i < length (top_names text) → (top : Top) × (slice_get text.tops i ≡ Some top)
-top-within text i h = within text.tops i (simp length-map at h)
+top-within text i h = get_there text.tops i (simp length-map at h)
 
 known-place : (text : Text) (k : ℕ) (o : Option ℕ) → ((i : ℕ) → o ≡ Some i → i < length (top_names text))
     → option_and_then (at_place text k) (option_and_then (λ i. cond (nat_lt i k) (Some i) None) o) ≡ option_and_then (λ i. cond (nat_lt i k) (value_at text i) None) o
@@ -127,7 +119,7 @@ pub known-named : (text : Text) (k : ℕ) (name : Name)
     → find_name (known_before text k) name ≡ option_and_then (λ i. cond (nat_lt i k) (value_at text i) None) (position (top_names text) name)
 known-named text k name =
     find_name-pairs (known_before text k) name
-    ∙ ap (λ names. option_and_then (at_place text k) (position names name)) (known-names [] (take k text.tops) ∙ map-front (λ top. (top_word top).name) k text.tops)
+    ∙ ap (λ names. option_and_then (at_place text k) (position names name)) (known-names [] (take k text.tops) ∙ map-take (λ top. (top_word top).name) k text.tops)
     ∙ ap (option_and_then (at_place text k)) (position-take k (top_names text) name)
     ∙ known-place text k (position (top_names text) name) (position-within (top_names text) name)
 

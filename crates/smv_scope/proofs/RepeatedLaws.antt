@@ -4,6 +4,7 @@ use Rattle.std.specs.Prelude.{Option, Some, None, option_map, is_some}
 use Rattle.std.specs.List.{list_any}
 use Rattle.std.specs.Str.{bytes_eq}
 use Rattle.std.proofs.lemmas.Slice.Eq.{bytes_eq-Decides}
+use Rattle.law_lists.proofs.Places.{drop_past, drop_read_one}
 use Rattle.smv_core.specs.Values.{Name}
 use Rattle.smv_core.specs.declared.tree.Word.{Word}
 use Rattle.smv_mentions.specs.Scopes.{first_of_places}
@@ -12,9 +13,7 @@ use Rattle.smv_mentions.specs.Said.{words_at}
 use Rattle.name_index.specs.Position.{position}
 use Rattle.smv_first_fault.specs.Firsts.{least}
 use Rattle.smv_scope.specs.Rules.{repeated_after}
-use Rattle.smv_first_fault.proofs.LeastLaws.{from_here}
-use Rattle.smv_first_fault.proofs.LeastLaws.{least-append, first-assoc, first-none}
-use Rattle.smv_scope.proofs.RuleLaws.{drop-past}
+use Rattle.smv_first_fault.proofs.LeastLaws.{from_here, least-append, first-assoc, first-none}
 
 bytes-flip : (x y : Name) → bytes_eq x y ≡ bytes_eq y x
 bytes-flip x y = by (bytes_eq x y) (bytes_eq y x) refl refl
@@ -49,7 +48,7 @@ repeated-same seen names same (word ∷ words) =
     (repeated-same (word.name ∷ seen) (names ++ word.name ∷ []) (λ q. ap (λ b. bytes_eq q word.name || b) (same q) ∙ sym (known-push names word.name q)) words)
 
 map-drop : (xs : List (Bor Word)) (n : ℕ) (x : Bor Word) → n < length xs → x ≡ get_or xs n x → words_at (drop n xs) ≡ x.now ∷ words_at (drop (n + 1) xs)
-map-drop xs n x below here = ap words_at (from_here xs n x below here)
+map-drop xs n x below here = ap words_at (drop_read_one xs n x below here)
 
 pub repeated-step : (seen seen' : List Name) (words : List (Bor Word)) (n : ℕ) (x : Bor Word) (a b new whole : Option ℕ) → n < length words → x ≡ get_or words n x
     → b ≡ least (place_if (is_some (position seen x.now.name)) x.now.at) → seen' ≡ seen ++ x.now.name ∷ [] → new ≡ first_of_places a b
@@ -67,4 +66,4 @@ repeated-step seen seen' words n x a b new whole below here at more is known =
 pub repeated-end : (words : List (Bor Word)) (seen : List Name) (n : ℕ) (a : Option ℕ) → length words ≤ n
     → first_of_places a (least (repeated_after seen (words_at (drop n words)))) ≡ least (repeated_after [] (words_at words)) → a ≡ least (repeated [] (words_at words))
 repeated-end words seen n a past known =
-    sym (first-none a) ∙ ap (λ l. first_of_places a (least (repeated_after seen (words_at l)))) (sym (drop-past words n past)) ∙ known ∙ ap least (sym (repeated-same [] [] (λ q. refl) (words_at words)))
+    sym (first-none a) ∙ ap (λ l. first_of_places a (least (repeated_after seen (words_at l)))) (sym (drop_past words n past)) ∙ known ∙ ap least (sym (repeated-same [] [] (λ q. refl) (words_at words)))

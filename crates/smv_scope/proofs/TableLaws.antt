@@ -1,10 +1,14 @@
 -- What the tables of a text hold, from what was noted of it.
-use Rattle.std.proofs.Common.{◌≡◌, ℕ, zero, suc, ◌+◌, ◌<◌, List, [], ◌∷◌, ◌++◌, map, length, get_or, drop, refl, ap, sym, ◌∙◌, arith, append_assoc, Bor}
+use Rattle.std.proofs.Common.{◌≡◌, ℕ, ◌+◌, ◌<◌, List, [], ◌∷◌, ◌++◌, map, length, get_or, drop, refl, ap, sym, ◌∙◌, arith, append_assoc, Bor}
 use Rattle.std.specs.Prelude.{Some, slice_get}
 use Rattle.std.specs.Option.{option_map_or}
 use Rattle.std.specs.List.{flat_map}
 use Rattle.std.proofs.lemmas.List.{map-append, append-nil}
 use Rattle.std.proofs.lemmas.Option.{slice_get_read}
+use Rattle.std.proofs.lemmas.List.Folds.{flat_map-map}
+use Rattle.std.proofs.lemmas.List.Concat.{flat_map-append}
+use Rattle.law_lists.proofs.Places.{drop_read_one}
+use Rattle.law_lists.proofs.Lists.{map-map, flat_map-flat_map, map_agree, flat_map_agree}
 use Rattle.smv_core.specs.Values.{Name}
 use Rattle.smv_core.specs.Types.{names_of}
 use Rattle.smv_core.specs.declared.tree.Word.{Word}
@@ -47,7 +51,7 @@ constants-step lists old new n words below here more known =
     ap (λ l. map (constant_beside lists) l ++ flat_map col (drop (n + 1) lists)) more
     ∙ ap (λ l. l ++ flat_map col (drop (n + 1) lists)) (map-append (constant_beside lists) old (map (λ word. (word.name, record { at = word.at; list = n })) words.now) ∙ ap (λ l. map (constant_beside lists) old ++ l) new_ones)
     ∙ append_assoc (map (constant_beside lists) old) (constants_of_list words.now) (flat_map col (drop (n + 1) lists))
-    ∙ ap (λ l. map (constant_beside lists) old ++ flat_map col l) (sym (from_here lists n words below here)) ∙ known
+    ∙ ap (λ l. map (constant_beside lists) old ++ flat_map col l) (sym (drop_read_one lists n words below here)) ∙ known
 
 -- ---- tops
 
@@ -59,30 +63,6 @@ told-from known [] = refl
 told-from known (SetType word ordered span at ∷ tops) = ap (λ l. told_by (SetType word ordered span at) ∷ l) (told-from (known_after known (SetType word ordered span at)) tops)
 told-from known (Alias word of at ∷ tops) = ap (λ l. told_by (Alias word of at) ∷ l) (told-from (known_after known (Alias word of at)) tops)
 told-from known (Module word formals body at ∷ tops) = ap (λ l. told_by (Module word formals body at) ∷ l) (told-from (known_after known (Module word formals body at)) tops)
-
-pub map-twice : {A B C : Type 0} (f : B → C) (g : A → B) (xs : List A) → map f (map g xs) ≡ map (λ x. f (g x)) xs
-map-twice f g [] = refl
-map-twice f g (x ∷ xs) = ap (λ l. f (g x) ∷ l) (map-twice f g xs)
-
-pub flat-twice : {A B C : Type 0} (f : B → List C) (g : A → B) (xs : List A) → flat_map f (map g xs) ≡ flat_map (λ x. f (g x)) xs
-flat-twice f g [] = refl
-flat-twice f g (x ∷ xs) = ap (λ l. f (g x) ++ l) (flat-twice f g xs)
-
-flat-append : {A B : Type 0} (f : A → List B) (xs ys : List A) → flat_map f (xs ++ ys) ≡ flat_map f xs ++ flat_map f ys
-flat-append f [] ys = refl
-flat-append f (x ∷ xs) ys = ap (λ l. f x ++ l) (flat-append f xs ys) ∙ sym (append_assoc (f x) (flat_map f xs) (flat_map f ys))
-
-flat-flat : {A B C : Type 0} (f : B → List C) (g : A → List B) (xs : List A) → flat_map f (flat_map g xs) ≡ flat_map (λ x. flat_map f (g x)) xs
-flat-flat f g [] = refl
-flat-flat f g (x ∷ xs) = flat-append f (g x) (flat_map g xs) ∙ ap (λ l. flat_map f (g x) ++ l) (flat-flat f g xs)
-
-map-same : {A B : Type 0} (f g : A → B) → ((x : A) → f x ≡ g x) → (xs : List A) → map f xs ≡ map g xs
-map-same f g same [] = refl
-map-same f g same (x ∷ xs) = ap (λ y. y ∷ map f xs) (same x) ∙ ap (λ l. g x ∷ l) (map-same f g same xs)
-
-flat-same : {A B : Type 0} (f g : A → List B) → ((x : A) → f x ≡ g x) → (xs : List A) → flat_map f xs ≡ flat_map g xs
-flat-same f g same [] = refl
-flat-same f g same (x ∷ xs) = ap (λ l. l ++ flat_map f xs) (same x) ∙ ap (λ l. g x ++ l) (flat-same f g same xs)
 
 own-first : (mention : Mention) (more : List Mention) → own_names (mention ∷ more) ≡ own_names (mention ∷ []) ++ own_names more
 own-first (declares word what) more = refl
@@ -110,7 +90,7 @@ constants-flat : (mentions : List Noted) → constants_in (map said mentions) �
 constants-flat [] = refl
 constants-flat (mention ∷ mentions) =
     constants-first (said mention) (map said mentions) ∙ ap (λ l. flat_map constants_of_list (lists_of (said mention)) ++ l) (constants-flat mentions)
-    ∙ sym (flat-append constants_of_list (lists_of (said mention)) (flat_map (λ mention. lists_of (said mention)) mentions))
+    ∙ sym (flat_map-append constants_of_list (lists_of (said mention)) (flat_map (λ mention. lists_of (said mention)) mentions))
 
 module _ (text : Text) (noted : List NotedPiece) (same : AreNoted noted text) where
   pub told-same : map tell (pieces text) ≡ map told noted
@@ -118,15 +98,15 @@ module _ (text : Text) (noted : List NotedPiece) (same : AreNoted noted text) wh
 
   pub own-all : map (λ piece. flat_map (λ mention. own_names (said mention ∷ [])) piece.mentions.items) noted ≡ map (λ piece. own_names piece.mentions) (pieces text)
   own-all =
-      map-same (λ (piece : NotedPiece). flat_map (λ mention. own_names (said mention ∷ [])) piece.mentions.items) (λ piece. own_names (told piece).2) (λ piece. sym (own-flat piece.mentions.items)) noted
-      ∙ sym (map-twice (λ (t : Told). own_names t.2) told noted) ∙ ap (map (λ (t : Told). own_names t.2)) (sym told-same) ∙ map-twice (λ (t : Told). own_names t.2) tell (pieces text)
+      map_agree (λ (piece : NotedPiece). flat_map (λ mention. own_names (said mention ∷ [])) piece.mentions.items) (λ piece. own_names (told piece).2) (λ piece. sym (own-flat piece.mentions.items)) noted
+      ∙ sym (map-map (λ (t : Told). own_names t.2) told noted) ∙ ap (map (λ (t : Told). own_names t.2)) (sym told-same) ∙ map-map (λ (t : Told). own_names t.2) tell (pieces text)
 
   pub constants-all : flat_map constants_of_list (flat_map (λ piece. flat_map (λ mention. lists_of (said mention)) piece.mentions.items) noted) ≡ constants (pieces text)
   constants-all =
-      flat-flat constants_of_list (λ (piece : NotedPiece). flat_map (λ mention. lists_of (said mention)) piece.mentions.items) noted
-      ∙ flat-same (λ (piece : NotedPiece). flat_map constants_of_list (flat_map (λ mention. lists_of (said mention)) piece.mentions.items)) (λ piece. constants_in (told piece).2) (λ piece. sym (constants-flat piece.mentions.items)) noted
-      ∙ sym (flat-twice (λ (t : Told). constants_in t.2) told noted) ∙ ap (flat_map (λ (t : Told). constants_in t.2)) (sym told-same) ∙ flat-twice (λ (t : Told). constants_in t.2) tell (pieces text)
+      flat_map-flat_map constants_of_list (λ (piece : NotedPiece). flat_map (λ mention. lists_of (said mention)) piece.mentions.items) noted
+      ∙ flat_map_agree (λ (piece : NotedPiece). flat_map constants_of_list (flat_map (λ mention. lists_of (said mention)) piece.mentions.items)) (λ piece. constants_in (told piece).2) (λ piece. sym (constants-flat piece.mentions.items)) noted
+      ∙ sym (flat_map-map (λ (t : Told). constants_in t.2) told noted) ∙ ap (flat_map (λ (t : Told). constants_in t.2)) (sym told-same) ∙ flat_map-map (λ (t : Told). constants_in t.2) tell (pieces text)
 
   pub lists-all : (lists : List (Bor (List Word))) → map (λ words. words.now) lists ≡ flat_map (λ piece. flat_map (λ mention. lists_of (said mention)) piece.mentions.items) noted
       → flat_map (λ words. constants_of_list words.now) lists ≡ constants (pieces text)
-  lists-all lists are = sym (flat-twice constants_of_list (λ (words : Bor (List Word)). words.now) lists) ∙ ap (flat_map constants_of_list) are ∙ constants-all
+  lists-all lists are = sym (flat_map-map constants_of_list (λ (words : Bor (List Word)). words.now) lists) ∙ ap (flat_map constants_of_list) are ∙ constants-all

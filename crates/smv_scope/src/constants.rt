@@ -81,7 +81,7 @@ fn is_of_other(tables: &Tables, names: &[Word], last: &mut Option<Compared>, wor
 }
 
 /// The first constant of a list that belongs to another list.
-pub fn other_constant(tables: &Tables, names: &[Word]) -> Option<u32>
+pub(crate) fn other_constant(tables: &Tables, names: &[Word]) -> Option<u32>
     requires { AreTables tables.now }
     ensures { result ≡ least (others tables.now.text.now names.now) }
 {

@@ -135,7 +135,7 @@ fn top_words<'a>(alloc: Global, pieces: &[Piece<'a>]) -> Result<Vec<&'a Word>, A
 }
 
 /// The first name of a top that is declared twice.
-pub fn doubled_tops(alloc: Global, tables: &Tables) -> Result<Option<u32>, AllocError>
+pub(crate) fn doubled_tops(alloc: Global, tables: &Tables) -> Result<Option<u32>, AllocError>
     requires { AreTables tables.now }
     ensures { IfOk result (λ at. at ≡ least (faults.repeated [] (map (λ piece. piece.word) (pieces tables.now.text.now)))) }
 {
@@ -220,7 +220,7 @@ fn doubled_mentions<'a>(
 }
 
 /// The first name in the top of a number that is declared twice.
-pub fn doubled_in<'a>(
+pub(crate) fn doubled_in<'a>(
     alloc: Global,
     tables: &Tables<'a, '_>,
     place: usize,

@@ -136,7 +136,7 @@ fn words_of<'a>(alloc: Global, parts: &'a [Part]) -> Result<Vec<&'a Word>, Alloc
 }
 
 /// What is wrong with a path in the top of a number, where a variable around it is bound there: the place of its first name that is not declared.
-pub fn path_place<'a>(
+pub(crate) fn path_place<'a>(
     alloc: Global,
     tables: &Tables<'a, '_>,
     place: usize,

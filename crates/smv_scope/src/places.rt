@@ -28,7 +28,7 @@ pub fn is_before(place: Option<u32>, at: u32) -> bool
 }
 
 /// What is wrong with field names where nothing has a field.
-pub fn no_field(words: &[&Word]) -> Option<u32>
+pub(crate) fn no_field(words: &[&Word]) -> Option<u32>
     ensures { result ≡ least (scopes.no_field (words_at words.now)) }
 {
     match words {

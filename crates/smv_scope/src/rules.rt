@@ -75,7 +75,11 @@ fn broken_in<'a>(
 }
 
 /// The first place in all tops where the rule is broken.
-pub fn first_broken(alloc: Global, tables: &Tables, rule: Rule) -> Result<Option<u32>, AllocError>
+pub(crate) fn first_broken(
+    alloc: Global,
+    tables: &Tables,
+    rule: Rule,
+) -> Result<Option<u32>, AllocError>
     requires { AreTables tables.now }
     ensures { IfOk result (λ at. at ≡ least (flat_map (broken rule (pieces tables.now.text.now)) (pieces tables.now.text.now))) }
 {
@@ -89,7 +93,7 @@ pub fn first_broken(alloc: Global, tables: &Tables, rule: Rule) -> Result<Option
 }
 
 /// The place of the fault that there is no module `main`.
-pub fn without_main(alloc: Global, tables: &Tables) -> Result<Option<u32>, AllocError>
+pub(crate) fn without_main(alloc: Global, tables: &Tables) -> Result<Option<u32>, AllocError>
     requires { AreTables tables.now }
     ensures { IfOk result (λ at. at ≡ least (faults.without_main (pieces tables.now.text.now))) }
 {

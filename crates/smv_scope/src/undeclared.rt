@@ -165,7 +165,7 @@ pub fn formals_of<'a>(piece: &Piece<'a>) -> &'a [Word]
 }
 
 /// The first thing that is not declared in the top of a number.
-pub fn undeclared_in<'a>(
+pub(crate) fn undeclared_in<'a>(
     alloc: Global,
     tables: &Tables<'a, '_>,
     place: usize,

@@ -8,18 +8,12 @@ use Rattle.smv_rings.specs.Lists.{lists_of, refs_of}
 use Rattle.smv_rings.specs.Schedule.Act.{Join, Look_at}
 use Rattle.smv_rings.specs.declared.ops.Op.{Op}
 use Rattle.smv_rings.specs.declared.ops.Op.TheVariants.{And, Look}
-use Rattle.smv_rings.specs.Ops.{IsOneOf, act_of, acts_of, refs_in, refs_in_all}
+use Rattle.smv_rings.specs.Ops.{IsOneOf, acts_of, refs_in_all}
 use Rattle.smv_rings.proofs.Whole.{map_append}
 use Rattle.smv_rings.proofs.Refs.{one_append, one_at, each_live, in_now_first, in_before_first, in_broken_first}
+use Rattle.smv_rings.proofs.Plans.{refs_append}
+use Rattle.smv_rings.proofs.Kept.{acts_append}
 use Rattle.smv_search.specs.Runs.{behind_first, opening}
-
-acts_append : (d : Diagram) (k : ℕ) (xs ys : List Op) → acts_of d k (xs ++ ys) ≡ acts_of d k xs ++ acts_of d k ys
-acts_append d k [] ys = refl
-acts_append d k (x ∷ xs) ys = ap (λ acts. act_of d k x ∷ acts) (acts_append d k xs ys)
-
-refs_append : (xs ys : List Op) → refs_in_all (xs ++ ys) ≡ refs_in_all xs ++ refs_in_all ys
-refs_append [] ys = refl
-refs_append (x ∷ xs) ys = ap (λ rs. refs_in x ++ rs) (refs_append xs ys) ∙ sym (append_assoc (refs_in x) (refs_in_all xs) (refs_in_all ys))
 
 -- one more conjunction
 pub acts_and : (d : Diagram) (k : ℕ) (old ops new : List Op) (fs : List Ref) (i : ℕ) (o : Ref) → i < length fs → new ≡ ops ++ (And (get_or fs i o) ∷ []) → acts_of d k ops ≡ acts_of d k old ++ map Join (map (table d) (take i fs)) → acts_of d k new ≡ acts_of d k old ++ map Join (map (table d) (take (i + 1) fs))

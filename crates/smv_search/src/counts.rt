@@ -39,14 +39,14 @@ const MARGIN: usize = 1_000_000;
 
 // The most that is told of a count, and the most nodes that one operation makes.
 #[inline(always)]
-pub fn most_told(nodes: u32) -> usize
+pub(crate) fn most_told(nodes: u32) -> usize
     ensures { result ≡ nodes + margin }
 {
     nodes as usize + MARGIN
 }
 
 // The functions of the lists are appended one by one. None is given back, since later ones are not counted yet.
-pub fn take_in(store: &Store, all: &[Ref], nodes: u32) -> Result<(), Stop>
+pub(crate) fn take_in(store: &Store, all: &[Ref], nodes: u32) -> Result<(), Stop>
     requires live { AreLive store.now all.now }
     ensures takes { (images : ℕ) → TakesIn (record { vars = store.now.vars; nodes = nodes; images = images }) (map (table store.now) all.now) result }
     ensures within { OnOk result (beads_of store.now all.now ≤ nodes) }

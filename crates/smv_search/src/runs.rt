@@ -111,7 +111,7 @@ pub fn first(rel: &Rel, store: &Store) -> Ref
 }
 
 // What is done to the first function up to ring 0: the rest of what holds now, the look at time 0, and what held before.
-pub fn openers(alloc: Global, rel: &Rel) -> Result<Vec<Op>, AllocError>
+pub(crate) fn openers(alloc: Global, rel: &Rel) -> Result<Vec<Op>, AllocError>
     ensures acts { IfOk result (λ ops. (d : Diagram) → acts_of d 0 ops.items ≡ opening (lists_of d rel.now)) }
     ensures refs { IfOk result (λ ops. (r : Ref) → IsOneOf r (refs_in_all ops.items) → IsOneOf r (refs_of rel.now)) }
 {

@@ -2,6 +2,8 @@
 use Rattle.std.proofs.Common.{◌≡◌, ℕ, List, [], ◌∷◌, ◌++◌, map, take, length, arith, Bool, true, false, not, ◌&&◌, ◌||◌, Option, Some, None, refl, sym, ap, ◌∙◌}
 use Rattle.std.specs.List.{list_any, list_all}
 use Rattle.std.proofs.lemmas.List.{map-append, take-map}
+use Rattle.std.proofs.lemmas.List.Folds.{list_any-append}
+use Rattle.law_lists.proofs.Anys.{any-agree}
 use Rattle.smv_core.specs.FlatMeaning.{Numbered}
 use Rattle.smv_core.specs.Values.{Truth}
 use Rattle.smv_core.specs.Outcome.{is_true}
@@ -12,7 +14,6 @@ use Rattle.law_obligations.specs.May.{AbsState, Kept, seen, may}
 use Rattle.law_obligations.specs.Right.{gives, is_false, is_neither}
 use Rattle.law_obligations.specs.Mix.{Mix}
 use Rattle.law_obligations.specs.RightSides.{may_hold, must_hold}
-use Rattle.law_obligations.proofs.Anys.{any-append, any-ext}
 use Rattle.law_obligations.proofs.MixLaws.{or_same}
 use Rattle.law_obligations.proofs.RightLaws.{may_Each, must_Each}
 use Rattle.smv_spots.specs.declared.spots.Spot.{Spot}
@@ -92,7 +93,7 @@ module _ {S C : Type 0} (IsMade : S → C → Type 0) (holds : S → C → (ℕ 
   chosen_one s mid v meets b var cond spot inner shown old longer when f g d k made met a p =
       let n : Numbered = v.world.classes in
       ap (any_offer n holds mid a p) d
-      ∙ (any-append (λ (o : Offer C). holds mid o.when a && p (outcome_in n o.outcome)) old (record { outcome = Some spot; when = when } ∷ [])
+      ∙ (list_any-append (λ (o : Offer C). holds mid o.when a && p (outcome_in n o.outcome)) old (record { outcome = Some spot; when = when } ∷ [])
       ∙ or_same (offers_same n IsMade holds room a p s mid old k made) (ap (λ c. (c && p (Some (place_in n spot))) || false) (met a ∙ ap (meets v.world v.kept (v.state a) cond) (ap (map (place_in n)) (g ∙ f) ∙ bound n b var spot))))
 
   pub chosen_join : (s mid t : S) (v : View) (meets : World → Kept → AbsState → Option FlatExpr → List Place → Bool) (b : List Spot) (var : ℕ) (cond : Option FlatExpr) (spot : Spot) (others spots : List Spot) (old longer new : List (Offer C)) → spots ≡ spot ∷ others →
@@ -117,7 +118,7 @@ module _ {S C : Type 0} (IsMade : S → C → Type 0) (holds : S → C → (ℕ 
       let test : (World → Kept → AbsState → Option FlatExpr → List Place → Bool) → (ℕ → Bool) → (AbsOutcome → Bool) → Place → Bool = λ meets a p q. meets v.world v.kept (v.state a) cond (bind_place (map (place_in n) b) var q) && p (Some q) in
       record {
         possible = λ a p. ap (any_offer n holds t a p) cp ∙ (last_may a p ∙ (or_same (first_may a p ∙ or_same (ap (any_offer n holds s a p) empty) (ap (list_any (test may_hold a p)) (ap (map (place_in n)) df ∙ ef))) (ap (list_any (test may_hold a p)) (ap (map (place_in n)) dl ∙ el))
-            ∙ sym (any-append (test may_hold a p) (named_in v.world over) (rests_in v.world over))));
+            ∙ sym (list_any-append (test may_hold a p) (named_in v.world over) (rests_in v.world over))));
         named = λ a p. ap (any_offer n holds t a p) cn ∙ (offers_same n IsMade holds room a p mid t named k made ∙ (first_must a p ∙ or_same (ap (any_offer n holds s a p) empty_named) (ap (list_any (test must_hold a p)) (ap (map (place_in n)) df ∙ ef))));
         rests = λ a p. ap (any_offer n holds t a p) cr ∙ (last_must a p ∙ or_same (ap (any_offer n holds mid a p) empty_rests) (ap (list_any (test must_hold a p)) (ap (map (place_in n)) dl ∙ el)));
       }
@@ -140,7 +141,7 @@ module _ {S C : Type 0} (IsMade : S → C → Type 0) (holds : S → C → (ℕ 
       some_chosen meets z.view a b var cond (given_test holds s a z.view.world.classes x k) places ≡ list_any (λ q. meets z.view.world z.view.kept (z.view.state a) cond (bind_place (map (place_in z.view.world.classes) b) var q) && meant k z.every (Some q) (z.value a)) places
   unfolding some_chosen given_test
   asked s x z h a k meets b var cond places =
-      any-ext (λ q. meets z.view.world z.view.kept (z.view.state a) cond (bind_place (map (place_in z.view.world.classes) b) var q) && holds s (given_at z.view.world.classes x k (Some q)) a) (λ q. meets z.view.world z.view.kept (z.view.state a) cond (bind_place (map (place_in z.view.world.classes) b) var q) && meant k z.every (Some q) (z.value a)) places
+      any-agree (λ q. meets z.view.world z.view.kept (z.view.state a) cond (bind_place (map (place_in z.view.world.classes) b) var q) && holds s (given_at z.view.world.classes x k (Some q)) a) (λ q. meets z.view.world z.view.kept (z.view.state a) cond (bind_place (map (place_in z.view.world.classes) b) var q) && meant k z.every (Some q) (z.value a)) places
       (λ q. ap (λ c. meets z.view.world z.view.kept (z.view.state a) cond (bind_place (map (place_in z.view.world.classes) b) var q) && c) (given_means holds s x z h a k (Some q)))
 
   pub chooses_may : (s mid s1 s2 : S) (problem : Problem) (cells : List (Cell C)) (x : Target C) (var : ℕ) (over : Simple) (cond : Option FlatExpr) (at : ℕ) (b : List Spot) (c : Choices C) (possible named : List (Offer C)) (none r : C) →
@@ -206,7 +207,7 @@ module _ {S C : Type 0} (IsMade : S → C → Type 0) (holds : S → C → (ℕ 
       whole w aim.seen.world a
       ∙ (or_same (heres w aim.seen.world a ∙ or_same (outsides w aim.seen.world a ∙ or_same empty beyond) at_named) at_rests
       ∙ (four (list_all (λ q. not (may_be q)) (places_in w over) && among) (list_any out (named_in w over) && among) (list_any same (named_in w over)) (list_any same (rests_in w over))
-      ∙ (ap (λ c. (list_all (λ q. not (may_be q)) (places_in w over) && among) || ((list_any out (named_in w over) && among) || c)) (sym (any-append same (named_in w over) (rests_in w over)))
+      ∙ (ap (λ c. (list_all (λ q. not (may_be q)) (places_in w over) && among) || ((list_any out (named_in w over) && among) || c)) (sym (list_any-append same (named_in w over) (rests_in w over)))
       ∙ sym (must_Each w z.view.kept (z.view.state a) z.every var over cond at bs (z.value a)))))
     where
       four : (b c d e : Bool) → (((b || c) || d) || e) ≡ (b || (c || (d || e)))

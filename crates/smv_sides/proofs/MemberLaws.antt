@@ -2,16 +2,16 @@
 use Rattle.std.proofs.Common.{◌≡◌, ◌⊎◌, inl, inr, ℕ, suc, zero, ◌<◌, ◌≤◌, drop, get_or, ◌+◌, ◌-◌, List, [], ◌∷◌, ◌++◌, map, length, arith, Bool, true, false, not, ◌&&◌, ◌||◌, Some, refl, sym, ap, ◌∙◌, nat_le}
 use Rattle.std.specs.List.{flat_map, list_any, list_all}
 use Rattle.std.proofs.Math.Seq.{drop-cons}
+use Rattle.std.proofs.lemmas.Bool.{cases_Bool}
+use Rattle.law_lists.proofs.Anys.{any-map, any-flat_map, any-agree}
 use Rattle.smv_core.specs.Values.{number, numbers_from}
 use Rattle.smv_core.specs.declared.flat.FlatExpr.{FlatExpr, List as Listed}
 use Rattle.smv_core.specs.declared.flat.FlatMember.{FlatMember, One, Span}
 use Rattle.law_obligations.specs.Places.{Place, named, is_among, AbsOutcome}
 use Rattle.law_obligations.specs.May.{may}
 use Rattle.law_obligations.specs.Right.{gives, is_outside, may_give_some, may_allow, must_allow}
-use Rattle.law_obligations.proofs.Tests.{true_or_false}
 use Rattle.law_obligations.specs.Mix.{is_there}
 use Rattle.law_obligations.specs.Combined.{of_member}
-use Rattle.law_obligations.proofs.Anys.{any-ext, any-map, any-flat_map}
 use Rattle.law_obligations.proofs.MixLaws.{or_same}
 use Rattle.law_obligations.proofs.RightLaws.{may_Listed, must_Listed, surely_of_member}
 use Rattle.smv_spots.specs.declared.spots.Spot.{Spot}
@@ -44,7 +44,7 @@ append_there [] ys = refl
 append_there (x ∷ xs) ys = refl
 
 numbers_there : (low high : ℕ) → is_there (map (λ k. Some (named (number k)) ∷ []) (numbers_from low (high + 1 - low))) ≡ nat_le low high
-numbers_there low high = at (high + 1 - low) (nat_le low high) (elim (true_or_false (nat_le low high)) [ inl e ↦ inr ((high - low, some low high e), e) | inr e ↦ inl (none low high e, e) ])
+numbers_there low high = at (high + 1 - low) (nat_le low high) (elim (cases_Bool (nat_le low high)) [ inl e ↦ inr ((high - low, some low high e), e) | inr e ↦ inl (none low high e, e) ])
   where
     some : (low high : ℕ) → nat_le low high ≡ true → high + 1 - low ≡ suc (high - low)
     some low high e = grind arith
@@ -63,7 +63,7 @@ last false = refl
 -- a span by its numbers
 spanned : (every : List Place) (p : Place) (k : Sense) (ks : List ℕ) → list_any (λ j. meant k every (Some (named (number j))) p) ks ≡ list_any (λ us. list_any (λ u. meant k every u p) us) (map (λ j. Some (named (number j)) ∷ []) ks)
 spanned every p k ks =
-    any-ext (λ j. meant k every (Some (named (number j))) p) (λ j. list_any (λ u. meant k every u p) (Some (named (number j)) ∷ [])) ks (λ j. last (meant k every (Some (named (number j))) p))
+    any-agree (λ j. meant k every (Some (named (number j))) p) (λ j. list_any (λ u. meant k every u p) (Some (named (number j)) ∷ [])) ks (λ j. last (meant k every (Some (named (number j))) p))
     ∙ sym (any-map (λ us. list_any (λ u. meant k every u p) us) (λ j. Some (named (number j)) ∷ []) ks)
 
 module _ {S C : Type 0} (holds : S → C → (ℕ → Bool) → Bool) where
@@ -147,7 +147,7 @@ module _ (z : Aim) (a : ℕ → Bool) (b : List Spot) where
   given_none every (us ∷ uss) p e f = absurd (cc)
 
   listed_there : (members : List FlatMember) → is_there (flat_map member_of members) ≡ list_any stands_for members
-  listed_there members = flat_there member_of members ∙ any-ext (λ m. is_there (member_of m)) stands_for members stands_some
+  listed_there members = flat_there member_of members ∙ any-agree (λ m. is_there (member_of m)) stands_for members stands_some
 
   abbrev allowed : FlatExpr → Bool
   allowed e = may_allow z.view.world z.view.kept (z.view.state a) z.every e places (z.value a)
@@ -240,5 +240,5 @@ unfolding IsSo members_allow must_allowed
 listed_must holds s t problem cells x b whole members shown at r e f is z aim a =
     is z aim a
     ∙ (ap (list_any (λ (m : FlatMember). member_allows b m z a)) f
-    ∙ (any-ext (λ (m : FlatMember). member_allows b m z a) (surely_of_member z.view.world z.view.kept (z.view.state a) z.every (map (place_in z.view.world.classes) b) (z.value a)) members (λ m. member_same z a b m (aim.target.of_type a))
+    ∙ (any-agree (λ (m : FlatMember). member_allows b m z a) (surely_of_member z.view.world z.view.kept (z.view.state a) z.every (map (place_in z.view.world.classes) b) (z.value a)) members (λ m. member_same z a b m (aim.target.of_type a))
     ∙ sym (ap (λ (e : FlatExpr). must_allow z.view.world z.view.kept (z.view.state a) z.every e (map (place_in z.view.world.classes) b) (z.value a)) e ∙ must_Listed z.view.world z.view.kept (z.view.state a) z.every members at (map (place_in z.view.world.classes) b) (z.value a))))

@@ -1,11 +1,11 @@
 -- Right sides with outcomes of their own.
 use Rattle.std.proofs.Common.{◌≡◌, ℕ, List, Bool, not, ◌&&◌, sym, ap, ◌∙◌, subst}
 use Rattle.std.specs.List.{list_any}
+use Rattle.law_lists.proofs.Anys.{any-agree}
 use Rattle.smv_core.specs.declared.flat.FlatExpr.{FlatExpr}
 use Rattle.law_obligations.specs.Places.{World, AbsOutcome}
 use Rattle.law_obligations.specs.Right.{gives_surely, same_outcome}
 use Rattle.law_obligations.specs.RightSides.{some_differ}
-use Rattle.law_obligations.proofs.Anys.{any-ext}
 use Rattle.law_obligations.proofs.RightLaws.{only-some}
 use Rattle.smv_spots.specs.declared.spots.Spot.{Spot}
 use Rattle.smv_problem.specs.declared.problem.Problem.{Problem}
@@ -42,7 +42,7 @@ module _ {S C : Type 0} (IsMade : S → C → Type 0) (holds : S → C → (ℕ 
       given z.view.world aim.seen.world a
       ∙ (ap (any_offer z.view.world.classes holds mid a (λ u. holds mid (given_at z.view.world.classes x sense u) a)) f
       ∙ (are z.view aim.seen a (λ u. holds mid (given_at z.view.world.classes x sense u) a)
-      ∙ any-ext (λ u. holds mid (given_at z.view.world.classes x sense u) a) (λ u. meant sense z.every u (z.value a)) (outcomes z.view a e b) (λ u. given_means holds mid x z h a sense u)))
+      ∙ any-agree (λ u. holds mid (given_at z.view.world.classes x sense u) a) (λ u. meant sense z.every u (z.value a)) (outcomes z.view a e b) (λ u. given_means holds mid x z h a sense u)))
 
   pub only_is : (s mid t next one end : S) (problem : Problem) (cells : List (Cell C)) (x : Target C) (e : FlatExpr) (b : List Spot) (offers shown twice : List (Offer C)) (sure two none r : C) →
       shown ≡ offers → twice ≡ offers → KeepsConditions IsMade holds room s mid → KeepsConditions IsMade holds room mid t → KeepsConditions IsMade holds room t next → KeepsConditions IsMade holds room next one → IsTargetMade (IsMade s) x → AreOffersMade (IsMade mid) offers → IsMade t sure →
@@ -57,5 +57,5 @@ module _ {S C : Type 0} (IsMade : S → C → Type 0) (holds : S → C → (ℕ 
       let first : holds t sure a ≡ list_any (λ u. gives_surely z.every u (z.value a)) us = some_is s mid t problem cells x Surely e b offers shown sure f k made are given z aim a in
       let offered : (p : AbsOutcome → Bool) → any_offer n holds t a p offers ≡ list_any p us = λ p. offers_same n IsMade holds room a p mid t offers l listed ∙ are z.view aim.seen a p in
       let second : holds next two a ≡ some_differ us = differs z.view.world aim.seen.world a ∙ (ap (λ l. any_offer n holds t a (λ u. any_offer n holds t a (λ v. not (same_outcome u v)) l) l) g
-      ∙ (offered (λ u. any_offer n holds t a (λ v. not (same_outcome u v)) offers) ∙ any-ext (λ u. any_offer n holds t a (λ v. not (same_outcome u v)) offers) (λ u. list_any (λ v. not (same_outcome u v)) us) us (λ u. offered (λ v. not (same_outcome u v))))) in
+      ∙ (offered (λ u. any_offer n holds t a (λ v. not (same_outcome u v)) offers) ∙ any-agree (λ u. any_offer n holds t a (λ v. not (same_outcome u v)) offers) (λ u. list_any (λ v. not (same_outcome u v)) us) us (λ u. offered (λ v. not (same_outcome u v))))) in
       whole a ∙ (and_same (i.same sure (j.made sure sure_made) a ∙ (j.same sure sure_made a ∙ first)) (opposite a ∙ ap not second) ∙ sym (only-some z.every us (z.value a)))

@@ -32,7 +32,7 @@ fn one_by<S: Conditions>(
 
 /// By a condition: the branch where it is certain, always where it can only be neither 0 nor 1, and else what both branches share.
 #[tactic(auto, unfolding(smv_conditions::specs::Chances::mix_at))]
-pub fn surely_of<S: Conditions>(
+pub(crate) fn surely_of<S: Conditions>(
     s: &mut S,
     alloc: Global,
     x: Chances<S::Condition>,

@@ -65,7 +65,7 @@ fn none_offered<S: Conditions>(
 }
 
 /// What a comprehension may allow: a value that may be chosen, and everything where none is for certain.
-pub fn may_choose<'a, S: Conditions>(
+pub(crate) fn may_choose<'a, S: Conditions>(
     s: &mut S,
     alloc: Global,
     problem: &Problem,
@@ -95,7 +95,7 @@ pub fn may_choose<'a, S: Conditions>(
 }
 
 /// What a comprehension allows for certain: a value that is chosen for certain, and everything where none may be chosen or one outside the type is for certain.
-pub fn must_choose<'a, S: Conditions>(
+pub(crate) fn must_choose<'a, S: Conditions>(
     s: &mut S,
     alloc: Global,
     problem: &Problem,

@@ -54,7 +54,7 @@ fn some_of_member<'a, S: Conditions>(
 }
 
 /// Some outcome of some member gives the value in this sense: from the last member to the first, so that a long list takes no stack.
-pub fn some_of_members<'a, S: Conditions>(
+pub(crate) fn some_of_members<'a, S: Conditions>(
     s: &mut S,
     alloc: Global,
     problem: &Problem,
@@ -104,7 +104,7 @@ fn stands(member: &FlatMember) -> bool
 }
 
 /// Some member stands for a value: a listed set without one, which no text has, allows everything.
-pub fn has_some(members: &[FlatMember]) -> bool
+pub(crate) fn has_some(members: &[FlatMember]) -> bool
     ensures { result ≡ list_any stands_for members.now }
 {
     members.iter().any(stands)

@@ -19,7 +19,7 @@ use smv_targets::targets::{Sense, Target, given};
 use std::alloc::{AllocError, Global};
 
 /// Some outcome of an expression gives the value in this sense.
-pub fn some_outcome<'a, S: Conditions>(
+pub(crate) fn some_outcome<'a, S: Conditions>(
     s: &mut S,
     alloc: Global,
     problem: &Problem,
@@ -46,7 +46,7 @@ pub fn some_outcome<'a, S: Conditions>(
 }
 
 /// The only outcome of an expression gives the value for certain.
-pub fn only_outcome<'a, S: Conditions>(
+pub(crate) fn only_outcome<'a, S: Conditions>(
     s: &mut S,
     alloc: Global,
     problem: &Problem,
@@ -76,7 +76,7 @@ pub fn only_outcome<'a, S: Conditions>(
 }
 
 /// Some number of these, from one on and before another, gives the value in this sense.
-pub fn some_number<S: Conditions>(
+pub(crate) fn some_number<S: Conditions>(
     s: &mut S,
     alloc: Global,
     problem: &Problem,

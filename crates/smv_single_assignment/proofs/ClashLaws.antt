@@ -2,7 +2,8 @@
 use Rattle.std.proofs.Common.{◌≡◌, ℕ, List, [], ◌∷◌, ◌++◌, map, filter, Bool, true, false, cond, ◌&&◌, ◌||◌, refl, ap, sym, ◌∙◌, arith}
 use Rattle.std.specs.Prelude.{Option, Some, None}
 use Rattle.std.specs.List.{flat_map, list_any}
-use Rattle.std.proofs.lemmas.List.{append-nil, append_assoc}
+use Rattle.std.proofs.lemmas.List.{append-nil}
+use Rattle.std.proofs.lemmas.List.Concat.{flat_map-append}
 use Rattle.smv_mentions.specs.Scopes.{first_of_places}
 use Rattle.smv_first_fault.specs.Firsts.{least}
 use Rattle.smv_first_fault.proofs.LeastLaws.{first-none, first-assoc, least-append}
@@ -21,10 +22,6 @@ first-swap a b c = sym (first-assoc a b c) ∙ ap (λ o. first_of_places o c) (f
 
 first-pairs : (a b c d : Option ℕ) → first_of_places (first_of_places a b) (first_of_places c d) ≡ first_of_places (first_of_places a c) (first_of_places b d)
 first-pairs a b c d = first-assoc a b (first_of_places c d) ∙ ap (first_of_places a) (first-swap b c d) ∙ sym (first-assoc a c (first_of_places b d))
-
-pub flat_map-append : {A B : Type 0} (f : A → List B) (xs ys : List A) → flat_map f (xs ++ ys) ≡ flat_map f xs ++ flat_map f ys
-flat_map-append f [] ys = refl
-flat_map-append f (x ∷ xs) ys = ap (λ l. f x ++ l) (flat_map-append f xs ys) ∙ sym (append_assoc (f x) (flat_map f xs) (flat_map f ys))
 
 -- the place of an assignment, where the test says so
 abbrev pub at_if : Bool → Standing → Option ℕ

@@ -1,13 +1,14 @@
 -- Classes of assignments.
-use Rattle.std.proofs.Common.{◌≡◌, ◌<◌, ◌+◌, ℕ, zero, suc, List, [], ◌∷◌, ◌++◌, map, length, get_or, set, zip, Bool, true, false, not, cond, ◌&&◌, ◌||◌, refl, ap, sym, ◌∙◌, arith, subst, ◌⊎◌, inl, inr, get_or-set_other, get_or-set_same}
+use Rattle.std.proofs.Common.{◌≡◌, ◌<◌, ◌+◌, ℕ, zero, suc, List, [], ◌∷◌, ◌++◌, map, length, get_or, set, zip, Bool, true, false, not, cond, ◌&&◌, refl, ap, sym, ◌∙◌, arith, subst, ◌⊎◌, inl, inr, get_or-set_other, get_or-set_same}
 use Rattle.std.specs.Prelude.{Option, Some, None, slice_get, nat_eq, is_some, Result, Ok, Err, IfOk}
 use Rattle.std.specs.List.{list_any}
 use Rattle.std.specs.Option.{option_eq}
 use Rattle.std.specs.HashMap.{HashMap, Updates}
-use Rattle.std.proofs.lemmas.Bool.{eqb-true, eq-eqb, cases_eq}
+use Rattle.std.proofs.lemmas.Bool.{eqb-true, eq-eqb, cases_eq, not-true}
 use Rattle.std.proofs.lemmas.Option.{slice_get_within}
 use Rattle.std.proofs.lemmas.List.{get_or_append_left}
 use Rattle.std.proofs.Math.Seq.{get_or-append_seam}
+use Rattle.law_lists.proofs.Booleans.{not_left, not_right, left_of, right_of}
 use Rattle.smv_core.specs.Values.{number, constant, scalar, ordinal}
 use Rattle.smv_core.specs.Assignments.{Index, fixed, bare, computed}
 use Rattle.smv_core.specs.Conflicts.{are_two_constants}
@@ -20,7 +21,6 @@ use Rattle.smv_single_assignment.specs.Links.{AreClassed}
 use Rattle.smv_single_assignment.specs.Classes.{constant_value, constant_in, value_by, kept_if, kept_at, AreSteady, AreRefined, same_key, number_at}
 use Rattle.smv_single_assignment.specs.declared.classes.Criterion.{Criterion}
 use Rattle.smv_single_assignment.specs.declared.classes.Criterion.TheVariants.{Family, Layer, Constant}
-use Rattle.smv_single_assignment.proofs.EarlierLaws.{and-left, and-right}
 
 -- ---- two that may meet and have a value have the same
 
@@ -57,35 +57,20 @@ one-constant (fixed None) j u v apart first second = cc
 one-constant (bare n) j u v apart first second = cc
 one-constant computed j u v apart first second = cc
 
-or-false-left : (t r : Bool) → (t || r) ≡ false → t ≡ false
-or-false-left false r e = refl
-or-false-left true r e = e
-
-or-false-right : (t r : Bool) → (t || r) ≡ false → r ≡ false
-or-false-right false r e = e
-or-false-right true r e = absurd (apart e)
-  where
-    apart : true ≡ false → ⊥
-    apart e = cc
-
 constants-agree : (xs ys : List FlatExpr) (k u v : ℕ) → list_any (λ (i, j). are_two_constants i j) (zip (map flat_index xs) (map flat_index ys)) ≡ false → constant_in xs k ≡ Some u → constant_in ys k ≡ Some v → u ≡ v
 constants-agree [] ys k u v apart first second = cc
 constants-agree (x ∷ xs) [] k u v apart first second = cc
-constants-agree (x ∷ xs) (y ∷ ys) zero u v apart first second = one-constant (flat_index x) (flat_index y) u v (or-false-left (are_two_constants (flat_index x) (flat_index y)) _ apart) first second
-constants-agree (x ∷ xs) (y ∷ ys) (suc k) u v apart first second = constants-agree xs ys k u v (or-false-right (are_two_constants (flat_index x) (flat_index y)) _ apart) first second
-
-not-false : (t : Bool) → not t ≡ true → t ≡ false
-not-false false e = refl
-not-false true e = sym e
+constants-agree (x ∷ xs) (y ∷ ys) zero u v apart first second = one-constant (flat_index x) (flat_index y) u v (not_left (are_two_constants (flat_index x) (flat_index y)) _ apart) first second
+constants-agree (x ∷ xs) (y ∷ ys) (suc k) u v apart first second = constants-agree xs ys k u v (not_right (are_two_constants (flat_index x) (flat_index y)) _ apart) first second
 
 pub values-agree : (by : Criterion) (a b : Standing) (u v : ℕ) → may_meet a b ≡ true → value_by by a ≡ Some u → value_by by b ≡ Some v → u ≡ v
 values-agree Family a b u v met first second =
     let x : a.family ≡ u = cc in
     let y : b.family ≡ v = cc in
-    let same_one : a.family ≡ b.family = eqb-true a.family b.family (and-left (nat_eq a.family b.family) _ (and-right _ _ met)) in
+    let same_one : a.family ≡ b.family = eqb-true a.family b.family (left_of (nat_eq a.family b.family) _ (right_of _ _ met)) in
     sym x ∙ same_one ∙ y
-values-agree Layer a b u v met first second = one-layer a.layer b.layer u v (and-left (is_one_layer a.layer b.layer) _ met) first second
-values-agree (Constant index) a b u v met first second = constants-agree a.left b.left index u v (not-false (differ a b) (and-right (nat_eq a.family b.family) _ (and-right _ _ met))) first second
+values-agree Layer a b u v met first second = one-layer a.layer b.layer u v (left_of (is_one_layer a.layer b.layer) _ met) first second
+values-agree (Constant index) a b u v met first second = constants-agree a.left b.left index u v (not-true (differ a b) (right_of (nat_eq a.family b.family) _ (right_of _ _ met))) first second
 
 -- ---- one class
 
@@ -114,10 +99,10 @@ steady-one classes values marks n below steady = λ j lt marked none. by j lt ma
     by j lt marked none (inl is) (inr apart) = apart (ap (λ k. get_or classes k 0) is)
     by j lt marked none (inl is) (inl same_one) =
         let here = sym (get_or-set_same marks (get_or classes n 0) (get_or marks (get_or classes n 0) false && is_some (get_or values n None)) false below) ∙ ap (λ c. get_or (set marks (get_or classes n 0) (get_or marks (get_or classes n 0) false && is_some (get_or values n None))) c false) (sym same_one) ∙ marked in
-        some-none (get_or values n None) (and-right (get_or marks (get_or classes n 0) false) _ here) (ap (λ k. get_or values k None) (sym is) ∙ none)
+        some-none (get_or values n None) (right_of (get_or marks (get_or classes n 0) false) _ here) (ap (λ k. get_or values k None) (sym is) ∙ none)
     by j lt marked none (inr far) (inl same_one) =
         let here = sym (get_or-set_same marks (get_or classes n 0) (get_or marks (get_or classes n 0) false && is_some (get_or values n None)) false below) ∙ ap (λ c. get_or (set marks (get_or classes n 0) (get_or marks (get_or classes n 0) false && is_some (get_or values n None))) c false) (sym same_one) ∙ marked in
-        steady j (omega (arith, lt, far)) (ap (λ c. get_or marks c false) same_one ∙ and-left (get_or marks (get_or classes n 0) false) _ here) none
+        steady j (omega (arith, lt, far)) (ap (λ c. get_or marks c false) same_one ∙ left_of (get_or marks (get_or classes n 0) false) _ here) none
     by j lt marked none (inr far) (inr apart) =
         steady j (omega (arith, lt, far)) (sym (get_or-set_other marks (get_or classes n 0) (get_or classes j 0) (get_or marks (get_or classes n 0) false && is_some (get_or values n None)) false apart) ∙ marked) none
 
@@ -131,7 +116,7 @@ steady-step classes values marks n class mark some new class_is below mark_is so
 -- ---- numbers
 
 pub same-key-is : (x y : ℕ × Option ℕ) → same_key x y ≡ true → x ≡ y
-same-key-is (a, m) (b, n) e = pair a b m n (eqb-true a b (and-left (nat_eq a b) _ e)) (option m n (and-right (nat_eq a b) _ e))
+same-key-is (a, m) (b, n) e = pair a b m n (eqb-true a b (left_of (nat_eq a b) _ e)) (option m n (right_of (nat_eq a b) _ e))
   where
     option : (m n : Option ℕ) → option_eq nat_eq m n ≡ true → m ≡ n
     option None None e = refl

@@ -18,9 +18,13 @@ use Rattle.smv_single_assignment.specs.Held.{standing_of, among}
 use Rattle.smv_single_assignment.specs.Clashes.{clash_by, clashes_of}
 use Rattle.smv_single_assignment.specs.Links.{AreClassed, IsBehind, StandsAt, between}
 use Rattle.std.proofs.lemmas.Bool.{cases_eq}
-use Rattle.smv_single_assignment.proofs.ClashLaws.{at_if, later-both, later-one, among-more, mixed-among, each-alone, nothing_inside, alone, flat_map-append}
-use Rattle.smv_single_assignment.proofs.LinkLaws.{held-at, held-length, got-same, got-some, read-here, between-more, between-one, between-start, take-more, stands-part, stands-front, stands-between}
+use Rattle.smv_single_assignment.proofs.ClashLaws.{at_if, later-both, later-one, among-more, mixed-among, each-alone, nothing_inside, alone}
+use Rattle.smv_single_assignment.proofs.LinkLaws.{held-at, held-length, got-same, read-here, between-more, between-one, between-start, stands-part, stands-front, stands-between}
 use Rattle.std.proofs.lemmas.List.{append-nil}
+use Rattle.std.proofs.lemmas.List.Concat.{flat_map-append}
+use Rattle.law_lists.proofs.Anys.{any-or}
+use Rattle.law_lists.proofs.Booleans.{left_of, right_of}
+use Rattle.law_lists.proofs.Places.{take_read, get_there}
 
 -- ---- kinds
 
@@ -37,10 +41,6 @@ or-move true b c d = refl
 or-move false true true d = refl
 or-move false true false d = refl
 or-move false false c d = refl
-
-any-either : {A : Type 0} (f g : A → Bool) (xs : List A) → list_any (λ x. f x || g x) xs ≡ (list_any f xs || list_any g xs)
-any-either f g [] = refl
-any-either f g (x ∷ xs) = ap (λ b. (f x || g x) || b) (any-either f g xs) ∙ or-move (f x) (g x) (list_any f xs) (list_any g xs)
 
 pub one-kind-Meet : (kind : Kind) (b : Standing) → kind ≡ b.kind → (xs : List Standing) → list_any (clashes_of kind Meet b) xs ≡ list_any (λ a. clash_by Meet a b) xs
 one-kind-Meet kind b is xs = any-same (clashes_of kind Meet b) (λ a. meet a b) (λ a. ap (λ k. same_kind a.kind k && meet a b) is ∙ both-same (same_kind a.kind b.kind) (may_meet a b)) xs
@@ -65,7 +65,7 @@ comb-case Init kb m is = or-false (is_comb kb && m)
 comb-case Next kb m is = refl
 
 pub mixed-Comb : (b : Standing) → b.kind ≡ Comb → (xs : List Standing) → list_any (λ a. clash_by Mixed a b) xs ≡ (list_any (clashes_of Init Mixed b) xs || list_any (clashes_of Next Mixed b) xs)
-mixed-Comb b is xs = any-same (λ a. are_mixed a b) (λ a. clashes_of Init Mixed b a || clashes_of Next Mixed b a) (λ a. comb-case a.kind b.kind (may_meet a b) is) xs ∙ any-either (clashes_of Init Mixed b) (clashes_of Next Mixed b) xs
+mixed-Comb b is xs = any-same (λ a. are_mixed a b) (λ a. clashes_of Init Mixed b a || clashes_of Next Mixed b a) (λ a. comb-case a.kind b.kind (may_meet a b) is) xs ∙ any-or (clashes_of Init Mixed b) (clashes_of Next Mixed b) xs
 
 other-case : (ka kb : Kind) (m : Bool) → is_comb kb ≡ false
     → ((cond (is_comb ka) (not (is_comb kb)) (is_comb kb)) && m) ≡ (same_kind ka Comb && ((cond (is_comb ka) (not (is_comb kb)) (is_comb kb)) && m))
@@ -76,22 +76,10 @@ other-case Next kb m is = ap (λ t. t && m) is
 pub mixed-other : (b : Standing) → is_comb b.kind ≡ false → (xs : List Standing) → list_any (clashes_of Comb Mixed b) xs ≡ list_any (λ a. clash_by Mixed a b) xs
 mixed-other b is xs = sym (any-same (λ a. are_mixed a b) (clashes_of Comb Mixed b) (λ a. other-case a.kind b.kind (may_meet a b) is) xs)
 
--- what clashes may meet
-pub and-left : (t r : Bool) → (t && r) ≡ true → t ≡ true
-and-left true r hit = refl
-and-left false r hit = hit
-
-pub and-right : (t r : Bool) → (t && r) ≡ true → r ≡ true
-and-right true r hit = hit
-and-right false r hit = absurd (apart hit)
-  where
-    apart : false ≡ true → ⊥
-    apart same = cc
-
 pub clash-meets : (by : Clash) (a b : Standing) → clash_by by a b ≡ true → may_meet a b ≡ true
-clash-meets Meet a b hit = and-right _ (may_meet a b) hit
-clash-meets (Cross around) a b hit = and-right _ (may_meet a b) (and-left (meet a b) _ hit)
-clash-meets Mixed a b hit = and-right _ (may_meet a b) hit
+clash-meets Meet a b hit = right_of _ (may_meet a b) hit
+clash-meets (Cross around) a b hit = right_of _ (may_meet a b) (left_of (meet a b) _ hit)
+clash-meets Mixed a b hit = right_of _ (may_meet a b) hit
 
 pub not-of-kind : (kind : Kind) (by : Clash) (a b : Standing) → same_kind a.kind kind ≡ false → clashes_of kind by b a ≡ false
 not-of-kind kind by a b miss = ap (λ t. t && clash_by by a b) miss
@@ -134,9 +122,9 @@ nothing-between clash xs all m =
 pub mixed-step : (all : List Standing) (i : ℕ) (found met new : Option ℕ) → i < length all → found ≡ least (mixed (take i all)) → met ≡ least (later_places are_mixed (between 0 i all) (between i (i + 1) all)) → new ≡ first_of_places found met
     → new ≡ least (mixed (take (i + 1) all))
 mixed-step all i found met new lt so_far at is =
-    let b : Standing = (got-some all i lt).0 in
-    let got : slice_get all i ≡ Some b = (got-some all i lt).1 in
-    let more : take (i + 1) all ≡ take i all ++ b ∷ [] = take-more all i b lt (read-here all i b got) in
+    let b : Standing = (get_there all i lt).0 in
+    let got : slice_get all i ≡ Some b = (get_there all i lt).1 in
+    let more : take (i + 1) all ≡ take i all ++ b ∷ [] = take_read all i b lt (read-here all i b got) in
     is ∙ ap (λ o. first_of_places o met) (so_far ∙ mixed-among (take i all))
     ∙ ap (first_of_places (least (among are_mixed nothing_inside alone (take i all)))) (at ∙ ap (λ l. least (later_places are_mixed l (between i (i + 1) all))) (between-start i all ∙ sym (each-alone (take i all))) ∙ ap (λ l. least (later_places are_mixed (flat_map alone (take i all)) l)) (between-one i all b got))
     ∙ sym (among-more are_mixed nothing_inside alone (take i all) b) ∙ sym (mixed-among (take i all ++ b ∷ [])) ∙ ap (λ l. least (mixed l)) (sym more)
@@ -155,12 +143,12 @@ module _ {A : Type 0} (all : List Standing) (inside : A → List ℕ) (assigned 
       ∙ ap (λ o. first_of_places (least (among meet inside assigned (take i parts))) (first_of_places o met)) inner_is
       ∙ ap (λ o. first_of_places (least (among meet inside assigned (take i parts))) (first_of_places (least (inside x)) o)) (met_is ∙ ap (λ l. least (later_places meet l (between end next all))) left ∙ ap (λ l. least (later_places meet (flat_map assigned (take i parts)) l)) right)
       ∙ sym (among-more meet inside assigned (take i parts) x)
-      ∙ ap (λ l. least (among meet inside assigned l)) (sym (take-more parts i x lt here))
+      ∙ ap (λ l. least (among meet inside assigned l)) (sym (take_read parts i x lt here))
 
   pub end-step : (i end next : ℕ) (x : A) → i < length parts → x ≡ get_or parts i x → end ≡ start + length (flat_map assigned (take i parts)) → next ≡ end + length (assigned x) → next ≡ start + length (flat_map assigned (take (i + 1) parts))
   end-step i end next x lt here end_is next_is =
       let split : flat_map assigned (take (i + 1) parts) ≡ flat_map assigned (take i parts) ++ assigned x =
-      ap (flat_map assigned) (take-more parts i x lt here) ∙ flat_map-append assigned (take i parts) (x ∷ []) ∙ ap (λ l. flat_map assigned (take i parts) ++ l) (append-nil (assigned x)) in
+      ap (flat_map assigned) (take_read parts i x lt here) ∙ flat_map-append assigned (take i parts) (x ∷ []) ∙ ap (λ l. flat_map assigned (take i parts) ++ l) (append-nil (assigned x)) in
       let long : length (flat_map assigned (take (i + 1) parts)) ≡ length (flat_map assigned (take i parts)) + length (assigned x) = ap length split ∙ lengths (flat_map assigned (take i parts)) (assigned x) in
       omega (arith, long, end_is, next_is)
     where

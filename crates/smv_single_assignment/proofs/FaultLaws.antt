@@ -1,25 +1,15 @@
 -- The first of the three faults.
-use Rattle.std.proofs.Common.{◌≡◌, ℕ, List, [], ◌++◌, ap, sym, ◌∙◌}
+use Rattle.std.proofs.Common.{◌≡◌, ℕ, ◌++◌, ap, sym, ◌∙◌}
 use Rattle.std.specs.Prelude.{Option}
 use Rattle.std.specs.List.{flat_map}
-use Rattle.std.proofs.lemmas.List.{append-nil}
-use Rattle.smv_core.specs.declared.fault.Fault.{Fault}
 use Rattle.smv_core.specs.declared.flat.FlatText.{FlatText}
-use Rattle.smv_mentions.specs.FirstFault.{first_of, faults_at}
 use Rattle.smv_first_fault.specs.Firsts.{least, fault_at, earlier_of}
-use Rattle.smv_first_fault.proofs.FirstLaws.{first-both, first-at}
+use Rattle.smv_first_fault.proofs.FirstLaws.{first-both, first-at, two, one}
 use Rattle.law_designs.specs.WholeText.{claims_of}
 use Rattle.law_designs.specs.SingleFaults.{meet, mixed, lacking, unnamed, conflicting, assigned_in, first_fault_of_single}
 use Rattle.law_designs.specs.Standing.{statements_of}
 use Rattle.smv_single_assignment.specs.Held.{among, assigned_of, conflicts_of}
 use Rattle.smv_single_assignment.proofs.StandingLaws.{items-assigned, items-conflicts}
-
-two : (n : ℕ) (places : List ℕ) (o : Option ℕ) (rest : List Fault) (later : Option Fault) → o ≡ least places → later ≡ first_of rest → earlier_of (fault_at n o) later ≡ first_of (faults_at (n, places) ++ rest)
-two n places o rest later at is =
-    ap (λ p. earlier_of (fault_at n p) later) at ∙ ap (earlier_of (fault_at n (least places))) is ∙ ap (λ f. earlier_of f (first_of rest)) (sym (first-at n places)) ∙ sym (first-both (faults_at (n, places)) rest)
-
-one : (n : ℕ) (places : List ℕ) (o : Option ℕ) → o ≡ least places → fault_at n o ≡ first_of (faults_at (n, places) ++ [])
-one n places o at = ap (fault_at n) at ∙ sym (first-at n places) ∙ ap first_of (sym (append-nil (faults_at (n, places))))
 
 pub single-first : (flat_text : FlatText) (a b c : Option ℕ) → a ≡ least (among meet conflicts_of assigned_of flat_text.items) → b ≡ least (mixed (flat_map assigned_of flat_text.items)) → c ≡ least (flat_map lacking (flat_map assigned_of flat_text.items) ++ flat_map unnamed (claims_of flat_text.items))
     → earlier_of (fault_at 15 a) (earlier_of (fault_at 16 b) (fault_at 17 c)) ≡ first_fault_of_single flat_text

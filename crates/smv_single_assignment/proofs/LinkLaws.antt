@@ -167,16 +167,6 @@ module _ (all : List Standing) where
     pub stands-front : (start : ℕ) (parts : List A) (i : ℕ) (x : A) → StandsAt all start (flat_map f parts) → i < length parts → x ≡ get_or parts i x → StandsAt all start (flat_map f (take i parts))
     stands-front start parts i x stands lt is = stands-left start (flat_map f (take i parts)) (f x ++ flat_map f (drop (i + 1) parts)) (subst (StandsAt all start) (parts-split parts i x lt is) stands)
 
-pub take-more : {A : Type 0} (parts : List A) (i : ℕ) (x : A) → i < length parts → x ≡ get_or parts i x → take (i + 1) parts ≡ take i parts ++ x ∷ []
-take-more [] i x lt is = absurd (omega arith)
-take-more (y ∷ parts) zero x lt is = ap (λ z. z ∷ []) (sym is)
-take-more (y ∷ parts) (suc i) x lt is = let next : suc i + 1 ≡ suc (i + 1) = omega arith in ap (λ n. take n (y ∷ parts)) next ∙ ap (λ l. y ∷ l) (take-more parts i x (omega arith) is)
-
-pub got-some : {A : Type 0} (xs : List A) (i : ℕ) → i < length xs → (x : A) × (slice_get xs i ≡ Some x)
-got-some [] i lt = absurd (omega arith)
-got-some (x ∷ xs) zero lt = (x, refl)
-got-some (x ∷ xs) (suc i) lt = got-some xs i (omega arith)
-
 pub read-here : {A : Type 0} (xs : List A) (i : ℕ) (x : A) → slice_get xs i ≡ Some x → x ≡ get_or xs i x
 read-here [] i x got = cc
 read-here (y ∷ xs) zero x got = let it : y ≡ x = cc in sym it

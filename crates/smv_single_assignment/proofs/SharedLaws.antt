@@ -7,6 +7,7 @@ use Rattle.std.specs.Global.{Vec}
 use Rattle.std.proofs.lemmas.Bool.{cases_eq, eqb-true}
 use Rattle.std.proofs.lemmas.Option.{slice_get_within, get_or_from_slice_get}
 use Rattle.std.proofs.lemmas.List.Elements.{All-nil, All-cons, All-append, All-weaker, All-get_or, All-contains, Contains-append_right, Contains-get_or}
+use Rattle.law_lists.proofs.Booleans.{left_of, right_of}
 use Rattle.smv_core.specs.Assignments.{Index, fixed, bare, computed}
 use Rattle.smv_core.specs.Conflicts.{are_both}
 use Rattle.smv_core.specs.FlatMeaning.{flat_index}
@@ -17,7 +18,6 @@ use Rattle.law_designs.specs.SingleFaults.{later_places, may_meet, meet, cross, 
 use Rattle.smv_single_assignment.specs.Links.{AreClassed, between}
 use Rattle.smv_single_assignment.specs.LeftSides.{any_two}
 use Rattle.smv_single_assignment.specs.Shared.{AreShared, AreInside, AreApart, HasSpot, HasSpots, is_bare, stays_bare, all_two, is_below, meets_all, is_above_one, kept_at}
-use Rattle.smv_single_assignment.proofs.EarlierLaws.{and-left, and-right}
 
 -- ---- variables around
 
@@ -99,7 +99,7 @@ shared-excused around a b shares = by (meet a b) refl
   where
     by : (t : Bool) → meet a b ≡ t → (t && not (list_all (share a b) around)) ≡ false
     by false e = refl
-    by true e = ap not (all-shared (share a b) around (shares (and-right _ (may_meet a b) e)))
+    by true e = ap not (all-shared (share a b) around (shares (right_of _ (may_meet a b) e)))
 
 inside-at : (around : List ℕ) (xs : List Standing) (i : ℕ) (a : Standing) → AreInside around xs → slice_get xs i ≡ Some a → (k : ℕ) → Contains around k → Contains a.around k
 inside-at around xs i a inside got =
@@ -111,12 +111,6 @@ shared-none around all start middle end shared first second = later-none (cross 
     let one = between-get start middle all i a got in
     let other = between-get middle end all j b there in
     shared-excused around a b (λ met k has. shared (start + i) (middle + j) a b one.0 other.0 met k (inside-at around (between start middle all) i a first got k has) (inside-at around (between middle end all) j b second there k has)))
-
-pub take-past : {A : Type 0} (n : ℕ) (xs : List A) → length xs ≤ n → take n xs ≡ xs
-take-past zero [] past = refl
-take-past (suc n) [] past = refl
-take-past zero (x ∷ xs) past = absurd (omega (arith, past))
-take-past (suc n) (x ∷ xs) past = ap (λ l. x ∷ l) (take-past n xs (omega (arith, past)))
 
 -- ---- left sides that are kept
 
@@ -166,10 +160,10 @@ share-along : (k : ℕ) (kept xs ys : List FlatExpr) → all_two (stays_bare k) 
 share-along k [] xs ys stay long shared = cc
 share-along k (h ∷ kept) [] ys stay long shared = cc
 share-along k (h ∷ kept) (x ∷ xs) [] stay long shared = cc
-share-along k (h ∷ kept) (x ∷ xs) (y ∷ ys) stay long shared = by (are_both k (flat_index h) (flat_index y)) refl shared (λ e. share-along k kept xs ys (and-right (stays_bare k (flat_index h) (flat_index x)) _ stay) (omega (arith, long)) e)
+share-along k (h ∷ kept) (x ∷ xs) (y ∷ ys) stay long shared = by (are_both k (flat_index h) (flat_index y)) refl shared (λ e. share-along k kept xs ys (right_of (stays_bare k (flat_index h) (flat_index x)) _ stay) (omega (arith, long)) e)
   where
     here : stays_bare k (flat_index h) (flat_index x) ≡ true
-    here = and-left _ (all_two (stays_bare k) kept xs) stay
+    here = left_of _ (all_two (stays_bare k) kept xs) stay
 
     by : (t : Bool) → are_both k (flat_index h) (flat_index y) ≡ t → (t || any_two (are_both k) kept ys) ≡ true → (any_two (are_both k) kept ys ≡ true → any_two (are_both k) xs ys ≡ true) → any_two (are_both k) (x ∷ xs) (y ∷ ys) ≡ true
     by true is e more = ap (λ t. t || any_two (are_both k) xs ys) (both-above k (flat_index h) (flat_index x) (flat_index y) here is)
@@ -177,15 +171,15 @@ share-along k (h ∷ kept) (x ∷ xs) (y ∷ ys) stay long shared = by (are_both
 
 share-above : (k : ℕ) (kept xs ys : List FlatExpr) → is_below k kept xs ≡ true → any_two (are_both k) kept ys ≡ true → any_two (are_both k) xs ys ≡ true
 share-above k kept xs ys below shared =
-    share-along k kept xs ys (and-right (nat_eq (length kept) (length xs)) _ below) (eqb-true (length kept) (length xs) (and-left _ (all_two (stays_bare k) kept xs) below)) shared
+    share-along k kept xs ys (right_of (nat_eq (length kept) (length xs)) _ below) (eqb-true (length kept) (length xs) (left_of _ (all_two (stays_bare k) kept xs) below)) shared
 
 -- of two left sides, one above a kept one and one that shares with each kept one
 shared-by-one : (k : ℕ) (lefts : List (Bor (List FlatExpr))) (xs ys : List FlatExpr) → is_above_one k lefts xs ≡ true → meets_all k lefts ys ≡ true → any_two (are_both k) xs ys ≡ true
 shared-by-one k [] xs ys above meets = cc
-shared-by-one k (kept ∷ lefts) xs ys above meets = by (is_below k kept.now xs) refl above (λ e. shared-by-one k lefts xs ys e (and-right (any_two (are_both k) kept.now ys) _ meets))
+shared-by-one k (kept ∷ lefts) xs ys above meets = by (is_below k kept.now xs) refl above (λ e. shared-by-one k lefts xs ys e (right_of (any_two (are_both k) kept.now ys) _ meets))
   where
     by : (t : Bool) → is_below k kept.now xs ≡ t → (t || is_above_one k lefts xs) ≡ true → (is_above_one k lefts xs ≡ true → any_two (are_both k) xs ys ≡ true) → any_two (are_both k) xs ys ≡ true
-    by true is e more = share-above k kept.now xs ys is (and-left _ (meets_all k lefts ys) meets)
+    by true is e more = share-above k kept.now xs ys is (left_of _ (meets_all k lefts ys) meets)
     by false is e more = more e
 
 module _ {S : Type 0} (kept : HashMap (ℕ × ℕ) (Vec (Bor (List FlatExpr))) S) (all : List Standing) (classes : List ℕ) where
@@ -213,4 +207,4 @@ module _ {S : Type 0} (kept : HashMap (ℕ × ℕ) (Vec (Bor (List FlatExpr))) S
       let both : Some one.0 ≡ Some other.0 = sym one.1 ∙ ap (λ c. kept_at kept c k) class ∙ other.1 in
       let lefts : one.0 ≡ other.0 = cc in
       let met : (meets_all k one.0.items b.left && is_above_one k one.0.items b.left) ≡ true = ap (λ (v : Vec (Bor (List FlatExpr))). meets_all k v.items b.left && is_above_one k v.items b.left) lefts ∙ other.2 in
-      shared-by-one k one.0.items a.left b.left (and-right (meets_all k one.0.items a.left) _ one.2) (and-left _ (is_above_one k one.0.items b.left) met)
+      shared-by-one k one.0.items a.left b.left (right_of (meets_all k one.0.items a.left) _ one.2) (left_of _ (is_above_one k one.0.items b.left) met)

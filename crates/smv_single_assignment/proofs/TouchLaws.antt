@@ -3,6 +3,8 @@ use Rattle.std.proofs.Common.{◌≡◌, ◌≤◌, ◌<◌, ℕ, ◌+◌, ◌-�
 use Rattle.std.specs.Prelude.{Some, slice_get}
 use Rattle.std.proofs.lemmas.Bool.{cases_eq}
 use Rattle.std.proofs.lemmas.Option.{slice_get_within}
+use Rattle.law_lists.proofs.Booleans.{left_of, right_of}
+use Rattle.law_lists.proofs.Places.{get_there}
 use Rattle.smv_core.specs.Walk.{same_kind}
 use Rattle.smv_core.specs.declared.tree.Kind.{Kind}
 use Rattle.smv_core.specs.declared.tree.Kind.TheVariants.{Comb, Init, Next}
@@ -11,8 +13,8 @@ use Rattle.law_designs.specs.SingleFaults.{may_meet, meet}
 use Rattle.smv_single_assignment.specs.declared.links.Table.{Table}
 use Rattle.smv_single_assignment.specs.Links.{AreClassed, IsBehind, IsTable, held, links_of}
 use Rattle.smv_single_assignment.specs.Shared.{AreApart}
-use Rattle.smv_single_assignment.proofs.LinkLaws.{got-some, got-same}
-use Rattle.smv_single_assignment.proofs.EarlierLaws.{and-left, and-right, cases_le}
+use Rattle.smv_single_assignment.proofs.LinkLaws.{got-same}
+use Rattle.smv_single_assignment.proofs.EarlierLaws.{cases_le}
 
 -- what a link tells
 pub told : (t : Table) (count : ℕ) → IsTable t count → (kind : Kind) (links : _) → links ≡ links_of kind t → (i : ℕ) → i < length (held t) → IsBehind (held t) t.classes.items kind (get_or t.classes.items i 0) i (get_or links i 0)
@@ -47,8 +49,8 @@ module _ (all : List Standing) (classes : List ℕ) (start middle : ℕ) where
           past (inr far) =
               let some : 0 < last = omega (arith, far) in
               let inner : last - 1 < length all = omega (arith, some, behind.before, slice_get_within all place b here) in
-              let d : Standing = (got-some all (last - 1) inner).0 in
-              let got_d : slice_get all (last - 1) ≡ Some d = (got-some all (last - 1) inner).1 in
+              let d : Standing = (get_there all (last - 1) inner).0 in
+              let got_d : slice_get all (last - 1) ≡ Some d = (get_there all (last - 1) inner).1 in
               let kind : d.kind ≡ b.kind = one-kind d.kind b.kind (behind.of_kind some d got_d) in
               ap (same_kind a.kind) (sym kind) ∙ untouched i (last - 1) a d got got_d from before (omega (arith, far)) (omega (arith, some, behind.before)) (one ∙ sym (behind.here some))
 
@@ -64,7 +66,7 @@ module _ (all : List Standing) (classes : List ℕ) (start middle : ℕ) where
       by : (t : Bool) → meet a b ≡ t → t ≡ false
       by false e = refl
       by true e =
-          let one : get_or classes i 0 ≡ get_or classes j 0 = classed.together i j a b got there (and-right (same_kind a.kind b.kind) (may_meet a b) e) in
+          let one : get_or classes i 0 ≡ get_or classes j 0 = classed.together i j a b got there (right_of (same_kind a.kind b.kind) (may_meet a b) e) in
           let miss = untouched i j a b got there from before after (reach j lt (slice_get_within all j b there)) one in
-          let hit : same_kind a.kind b.kind ≡ true = and-left (same_kind a.kind b.kind) (may_meet a b) e in
+          let hit : same_kind a.kind b.kind ≡ true = left_of (same_kind a.kind b.kind) (may_meet a b) e in
           absurd (cc)

@@ -121,7 +121,7 @@ fn nothing(start: usize) -> Walked
 }
 
 /// The first place of a later one of two conflicting assignments of these items.
-pub fn first_conflict(
+pub(crate) fn first_conflict(
     items: &[FlatItem],
     table: &Table,
     alloc: Global,

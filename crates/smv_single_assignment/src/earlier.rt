@@ -72,7 +72,13 @@ fn has_earlier(table: &Table, by: Clash, start: usize, middle: usize, place: usi
 }
 
 /// The first place of an assignment between the last two places that clashes with one between the first two. There is none behind the last assignment.
-pub fn first_clash(table: &Table, by: Clash, start: usize, middle: usize, end: usize) -> Option<u32>
+pub(crate) fn first_clash(
+    table: &Table,
+    by: Clash,
+    start: usize,
+    middle: usize,
+    end: usize,
+) -> Option<u32>
     requires { (count : ℕ) × IsTable table.now count }
     ensures { middle ≤ end → end ≤ length (held table.now) → result ≡ least (later_places (clash_by by.entry) (between start middle (held table.now)) (between middle end (held table.now))) }
 {
@@ -102,7 +108,7 @@ fn do_touch(table: &Table, start: usize, middle: usize, end: usize) -> bool
 }
 
 /// The same, where they clash because they meet.
-pub fn first_meeting(table: &Table, start: usize, middle: usize, end: usize) -> Option<u32>
+pub(crate) fn first_meeting(table: &Table, start: usize, middle: usize, end: usize) -> Option<u32>
     requires { (count : ℕ) × IsTable table.now count }
     ensures { middle ≤ end → end ≤ length (held table.now) → result ≡ least (later_places meet (between start middle (held table.now)) (between middle end (held table.now))) }
 {
@@ -113,7 +119,7 @@ pub fn first_meeting(table: &Table, start: usize, middle: usize, end: usize) -> 
 }
 
 /// The same for branches inside these `forall` variables. Inside none every two branches are excused, and so they are where each two assignments share their variables.
-pub fn first_cross(
+pub(crate) fn first_cross(
     table: &Table,
     around: &[u16],
     start: usize,

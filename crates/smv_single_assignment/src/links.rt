@@ -23,7 +23,7 @@ pub struct Table<'a> {
 }
 
 /// The links to assignments of a kind.
-pub fn links_of<'t>(table: &'t Table, kind: Kind) -> &'t [usize]
+pub(crate) fn links_of<'t>(table: &'t Table, kind: Kind) -> &'t [usize]
     ensures { result.now ≡ spec.links_of kind table.now }
 {
     match kind {
@@ -34,7 +34,7 @@ pub fn links_of<'t>(table: &'t Table, kind: Kind) -> &'t [usize]
 }
 
 /// A number of zeros.
-pub fn zeros(alloc: Global, count: usize) -> Result<Vec<usize>, AllocError>
+pub(crate) fn zeros(alloc: Global, count: usize) -> Result<Vec<usize>, AllocError>
     ensures length { IfOk result (λ zeros. length zeros.items ≡ count) }
     ensures zeros { IfOk result (λ zeros. (k : ℕ) → get_or zeros.items k 0 ≡ 0) }
 {
@@ -76,7 +76,7 @@ fn linked(
 }
 
 /// The assignments with their links, where there are so many classes.
-pub fn linked_table<'a>(
+pub(crate) fn linked_table<'a>(
     alloc: Global,
     all: Vec<Assignment<'a>>,
     classes: Vec<usize>,

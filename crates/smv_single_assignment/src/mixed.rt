@@ -10,7 +10,7 @@ use crate::links::Table;
 use smv_first_fault::places::first_of;
 
 /// The first place of a later one of a `:=` and an `init` or `next` that are not told apart.
-pub fn first_mixed(table: &Table) -> Option<u32>
+pub(crate) fn first_mixed(table: &Table) -> Option<u32>
     requires table { (count : ℕ) × IsTable table.now count }
     ensures { result ≡ least (mixed (held table.now)) }
 {

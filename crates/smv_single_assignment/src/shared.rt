@@ -155,7 +155,11 @@ fn has_spots(kept: &HashMap<(usize, u16), Vec<&[FlatExpr]>>, class: usize, x: &A
 
 /// Whether each two assignments that may meet are seen to share the variables around both. Each is compared with a few left sides of its class, so the time grows with the
 /// number of assignments.
-pub fn are_shared(alloc: Global, all: &[Assignment], classes: &[usize]) -> Result<bool, AllocError>
+pub(crate) fn are_shared(
+    alloc: Global,
+    all: &[Assignment],
+    classes: &[usize],
+) -> Result<bool, AllocError>
     requires { (count : ℕ) × AreClassed (map standing_of all.now) classes.now count }
     ensures { IfOk result (λ shared. shared ≡ true → AreShared (map standing_of all.now)) }
 {

@@ -117,7 +117,7 @@ fn first_unnamed(items: &[FlatItem]) -> Option<u32>
 
 /// The first left side or claim without its variables.
 #[tactic(auto, using(smv_first_fault::proofs::LeastLaws::leasts))]
-pub fn first_without(all: &[Assignment], items: &[FlatItem]) -> Option<u32>
+pub(crate) fn first_without(all: &[Assignment], items: &[FlatItem]) -> Option<u32>
     ensures { result ≡ least (flat_map spec.lacking (map standing_of all.now) ++ flat_map spec.unnamed (claims_of items.now)) }
 {
     first_of(first_lacking(all), first_unnamed(items))

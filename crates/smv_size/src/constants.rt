@@ -16,7 +16,11 @@ use std::alloc::{AllocError, Global};
 const MOST: usize = 4096;
 
 /// Whether a text has too many constants.
-pub fn too_many_constants(alloc: Global, text: &Text, pieces: &[Piece]) -> Result<bool, AllocError>
+pub(crate) fn too_many_constants(
+    alloc: Global,
+    text: &Text,
+    pieces: &[Piece],
+) -> Result<bool, AllocError>
     requires { AreNoted pieces.now text.now }
     ensures { IfOk result (λ many. many ≡ nat_lt 4096 (count_different [] (constant_names text.now))) }
 {

@@ -95,7 +95,10 @@ fn note_text<'a>(modules: &mut Vec<ModuleText<'a>>, top: &'a Top) -> Result<(), 
 }
 
 /// The modules, with nothing in them.
-pub fn empty_sizes(alloc: Global, modules: &[ModuleText]) -> Result<Vec<ModuleSize>, AllocError>
+pub(crate) fn empty_sizes(
+    alloc: Global,
+    modules: &[ModuleText],
+) -> Result<Vec<ModuleSize>, AllocError>
     ensures { IfOk result (λ sizes. sizes.items ≡ map empty_told (map body_of modules.now)) }
 {
     let mut sizes = Vec::new(alloc);
@@ -110,7 +113,7 @@ pub fn empty_sizes(alloc: Global, modules: &[ModuleText]) -> Result<Vec<ModuleSi
 }
 
 /// The modules, where instances are followed one module further.
-pub fn next_sizes(
+pub(crate) fn next_sizes(
     alloc: Global,
     modules: &[ModuleText],
     types: &NameMap<TypeSize>,
@@ -127,7 +130,7 @@ pub fn next_sizes(
 }
 
 /// A module, by its formals and its body.
-pub fn body_size(
+pub(crate) fn body_size(
     text: &ModuleText,
     types: &NameMap<TypeSize>,
     names: &NameIndex,
@@ -219,7 +222,7 @@ fn instances(times: usize, inside: Things) -> Things
 }
 
 /// What is known of the module of a name.
-pub fn size_named(names: &NameIndex, sizes: &[ModuleSize], name: &Name) -> ModuleSize
+pub(crate) fn size_named(names: &NameIndex, sizes: &[ModuleSize], name: &Name) -> ModuleSize
     ensures { result ≡ spec.size_named names.now sizes.now name.now }
 {
     match names.find(name) {

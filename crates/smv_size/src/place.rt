@@ -12,7 +12,7 @@ use smv_core::tree::Text;
 use smv_mentions::pieces::Piece;
 
 /// The fault of a text that is too large, at the word `main` of its module.
-pub fn fault_at_main(text: &Text, pieces: &[Piece]) -> Option<Fault>
+pub(crate) fn fault_at_main(text: &Text, pieces: &[Piece]) -> Option<Fault>
     requires { AreNoted pieces.now text.now }
     ensures { result ≡ first.fault_at_main (find_name (map (λ piece. (piece.word.name, piece)) (noted.pieces text.now)) main) }
 {

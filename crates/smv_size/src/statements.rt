@@ -55,7 +55,7 @@ pub fn statements(x: &Stmt) -> u64
 
 /// How many statements are met in some statements.
 #[cycle(counts)]
-pub fn in_all(parts: &[Stmt]) -> u64
+pub(crate) fn in_all(parts: &[Stmt]) -> u64
     ensures { result ≡ capped (sum_by sizes.statements parts.now) }
 {
     let mut total = 0;

@@ -1,8 +1,7 @@
 -- The first fault of splits, from the places of its parts.
-use Rattle.std.proofs.Common.{◌≡◌, ℕ, List, [], ◌++◌, refl, ap, sym, ◌∙◌}
-use Rattle.std.specs.Prelude.{Option, Some, None}
+use Rattle.std.proofs.Common.{◌≡◌, ℕ, List, [], ◌++◌, ap, sym, ◌∙◌}
+use Rattle.std.specs.Prelude.{Option}
 use Rattle.std.specs.List.{flat_map}
-use Rattle.smv_core.specs.declared.fault.Fault.{Fault}
 use Rattle.smv_core.specs.declared.flat.Design.{Design}
 use Rattle.smv_core.specs.declared.flat.Family.{Family}
 use Rattle.smv_core.specs.declared.flat.FlatSplit.{FlatSplit}
@@ -11,16 +10,12 @@ use Rattle.smv_mentions.specs.Scopes.{first_of_places}
 use Rattle.smv_mentions.specs.FirstFault.{first_of, faults_at}
 use Rattle.smv_first_fault.specs.Firsts.{least, fault_at, earlier_of}
 use Rattle.smv_first_fault.proofs.LeastLaws.{least-append}
-use Rattle.smv_first_fault.proofs.FirstLaws.{first-both, first-at}
+use Rattle.smv_first_fault.proofs.FirstLaws.{first-both, first-at, earlier-none}
 use Rattle.law_obligations.specs.Units.{units_of}
 use Rattle.law_splits.specs.SplitFaults.{astray, split_again, misfits, mismatches, cuts_of, first_fault_of_splits}
 use Rattle.law_splits.proofs.Types.{types_tell}
 use Rattle.smv_splits.specs.Groups.{first_lost}
 use Rattle.smv_split_faults.specs.Waiting.{shown_of_unit}
-
-earlier-none : (f : Option Fault) → earlier_of f None ≡ f
-earlier-none None = refl
-earlier-none (Some f) = refl
 
 pub fault-is : (d e : Design) (families : List Family) (splits : List FlatSplit) (units : List Unit) (lost mismatch misfit : Option ℕ) → e ≡ d → families ≡ d.families → splits ≡ d.splits → units ≡ units_of d →
     lost ≡ first_lost e → mismatch ≡ least (flat_map (shown_of_unit e) units) → misfit ≡ least (flat_map (misfits families) splits) →

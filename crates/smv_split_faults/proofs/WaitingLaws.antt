@@ -2,8 +2,9 @@
 use Rattle.std.proofs.Common.{◌≡◌, ℕ, zero, suc, ◌+◌, ◌-◌, ◌<◌, ◌≤◌, min, List, [], ◌∷◌, ◌++◌, map, drop, length, get_or, Bool, true, false, cond, filter, refl, ap, sym, ◌∙◌, arith}
 use Rattle.std.specs.Prelude.{Option, Some, slice_get, option_to_list, if◌then◌else◌}
 use Rattle.std.specs.Str.{bytes_eq}
-use Rattle.std.specs.List.{flat_map}
 use Rattle.std.proofs.lemmas.List.{append_assoc, append-nil, map-append}
+use Rattle.std.proofs.lemmas.List.Concat.{flat_map-append}
+use Rattle.law_lists.proofs.Places.{drop_read_one}
 use Rattle.smv_core.specs.Values.{Name}
 use Rattle.smv_core.specs.declared.tree.Word.{Word}
 use Rattle.smv_core.specs.declared.flat.Simple.{Simple}
@@ -13,22 +14,17 @@ use Rattle.smv_core.specs.declared.flat.FlatSplit.{FlatSplit}
 use Rattle.law_obligations.proofs.OneOfEach.{get_after}
 use Rattle.smv_mentions.specs.Scopes.{first_of_places}
 use Rattle.smv_first_fault.specs.Firsts.{least}
-use Rattle.smv_first_fault.proofs.LeastLaws.{first-none, first-assoc, least-append}
-use Rattle.smv_first_fault.proofs.LeastLaws.{from_here}
+use Rattle.smv_first_fault.proofs.LeastLaws.{first-none, first-assoc, least-append, from_here}
 use Rattle.law_splits.specs.Leaves.{named_by, splits_of}
 use Rattle.law_splits.specs.Chains.{other_type, other_types}
 use Rattle.smv_splits.specs.Groups.{numbers_with, names_split}
 use Rattle.smv_split_faults.specs.Waiting.{Wait, waits, splits_at, following}
 
-each-append : {X Y : Type 0} (f : X → List Y) (xs ys : List X) → flat_map f (xs ++ ys) ≡ flat_map f xs ++ flat_map f ys
-each-append f [] ys = refl
-each-append f (x ∷ xs) ys = ap (λ l. f x ++ l) (each-append f xs ys) ∙ sym (append_assoc (f x) (flat_map f xs) (flat_map f ys))
-
 -- the splits whose numbers are in a group
 behind : (name : Name) (before more : List FlatSplit) (k : ℕ) → k ≡ length before → splits_at (before ++ more) (numbers_with name k (map (λ (s : FlatSplit). named_by s.of) more)) ≡ filter (λ (s : FlatSplit). bytes_eq (named_by s.of) name) more
 behind name before [] k e = refl
 behind name before (s ∷ more) k e =
-    each-append (λ j. option_to_list (slice_get (before ++ s ∷ more) j)) (if bytes_eq (named_by s.of) name then k ∷ [] else []) (numbers_with name (suc k) (map (λ (s : FlatSplit). named_by s.of) more))
+    flat_map-append (λ j. option_to_list (slice_get (before ++ s ∷ more) j)) (if bytes_eq (named_by s.of) name then k ∷ [] else []) (numbers_with name (suc k) (map (λ (s : FlatSplit). named_by s.of) more))
     ∙ ap (λ l. splits_at (before ++ s ∷ more) (if bytes_eq (named_by s.of) name then k ∷ [] else []) ++ l)
     (ap (λ all. splits_at all (numbers_with name (suc k) (map (λ (s : FlatSplit). named_by s.of) more))) (sym (append_assoc before (s ∷ []) more)) ∙ behind name (before ++ s ∷ []) more (suc k) (ap suc e ∙ sym (long before)))
     ∙ by (bytes_eq (named_by s.of) name)
@@ -67,8 +63,8 @@ pub other-step : (bound : List Param) (words : List Word) (types : List Simple) 
 other-step bound words types n word t found place new whole below within here there at put known =
     let rest = other_types bound (drop (n + 1) words) (drop (n + 1) types) in
     ap (λ o. first_of_places o (least rest)) (put ∙ ap (first_of_places found) at) ∙ first-assoc found (least (other_type bound word t)) (least rest)
-    ∙ ap (first_of_places found) (sym (least-append (other_type bound word t) rest) ∙ ap (λ l. least (other_types bound l (t ∷ drop (n + 1) types))) (sym (from_here words n word below here))
-    ∙ ap (λ l. least (other_types bound (drop n words) l)) (sym (from_here types n t within there))) ∙ known
+    ∙ ap (first_of_places found) (sym (least-append (other_type bound word t) rest) ∙ ap (λ l. least (other_types bound l (t ∷ drop (n + 1) types))) (sym (drop_read_one words n word below here))
+    ∙ ap (λ l. least (other_types bound (drop n words) l)) (sym (drop_read_one types n t within there))) ∙ known
 
 -- beside the last name or the last type nothing is left
 none-left : (bound : List Param) (words : List Word) (types : List Simple) (n : ℕ) → min (length words) (length types) ≤ n → other_types bound (drop n words) (drop n types) ≡ []
@@ -88,16 +84,6 @@ other-all bound words types n found whole over known = sym (first-none found) �
 
 -- ---- numbers
 
-pub get-again : {X : Type 0} (xs : List X) (n : ℕ) (d : X) → n < length xs → get_or xs n d ≡ get_or xs n (get_or xs n d)
-get-again [] n d l = absurd (omega (arith, l))
-get-again (x ∷ xs) zero d l = refl
-get-again (x ∷ xs) (suc n) d l = other xs n d (get_or xs n d) (omega (arith, l))
-  where
-    other : {X : Type 0} (xs : List X) (n : ℕ) (d e : X) → n < length xs → get_or xs n d ≡ get_or xs n e
-    other [] n d e l = absurd (omega (arith, l))
-    other (x ∷ xs) zero d e l = refl
-    other (x ∷ xs) (suc n) d e l = other xs n d e (omega (arith, l))
-
 -- one number more of those whose splits wait
 pub waits-step : (splits : List FlatSplit) (numbers : List ℕ) (n k known left : ℕ) (o : Option FlatSplit) (out out' whole : List Wait) → n < length numbers → k ≡ get_or numbers n k → o ≡ slice_get splits k →
     out' ≡ out ++ map (waits known left) (option_to_list o) → out ++ map (waits known left) (splits_at splits (drop n numbers)) ≡ whole → out' ++ map (waits known left) (splits_at splits (drop (n + 1) numbers)) ≡ whole
@@ -106,8 +92,4 @@ waits-step splits numbers n k known left o out out' whole below here at put was 
     ap (λ l. l ++ map (waits known left) rest) (put ∙ ap (λ o. out ++ map (waits known left) (option_to_list o)) at)
     ∙ append_assoc out (map (waits known left) (option_to_list (slice_get splits k))) (map (waits known left) rest)
     ∙ ap (λ l. out ++ l) (sym (map-append (waits known left) (option_to_list (slice_get splits k)) rest))
-    ∙ ap (λ l. out ++ map (waits known left) (splits_at splits l)) (sym (from_here numbers n k below here)) ∙ was
-
-pub empty : {X : Type 0} (xs : List X) → length xs ≡ 0 → xs ≡ []
-empty [] e = refl
-empty (x ∷ xs) e = absurd (omega (arith, e))
+    ∙ ap (λ l. out ++ map (waits known left) (splits_at splits l)) (sym (drop_read_one numbers n k below here)) ∙ was

@@ -2,7 +2,9 @@
 use Rattle.std.proofs.Common.{◌≡◌, ℕ, zero, suc, ◌+◌, ◌<◌, ◌≤◌, inl, inr, List, [], ◌∷◌, ◌++◌, map, take, length, refl, ap, sym, subst, ◌∙◌, arith}
 use Rattle.std.specs.Prelude.{Option, None}
 use Rattle.std.specs.List.{flat_map}
-use Rattle.std.proofs.lemmas.List.{append_assoc, append-nil, length-take}
+use Rattle.std.proofs.lemmas.List.{append-nil, length-take, take-append-le, take-take}
+use Rattle.std.proofs.lemmas.List.Concat.{flat_map-append}
+use Rattle.std.proofs.lemmas.List.Folds.{flat_map-map}
 use Rattle.smv_core.specs.Values.{Name}
 use Rattle.smv_core.specs.declared.flat.Simple.{Simple}
 use Rattle.smv_core.specs.declared.flat.Design.{Design}
@@ -18,17 +20,9 @@ use Rattle.smv_split_faults.specs.Waiting.{Wait, waits, following}
 
 -- ---- lists
 
-each-append : {X Y : Type 0} (f : X → List Y) (xs ys : List X) → flat_map f (xs ++ ys) ≡ flat_map f xs ++ flat_map f ys
-each-append f [] ys = refl
-each-append f (x ∷ xs) ys = ap (λ l. f x ++ l) (each-append f xs ys) ∙ sym (append_assoc (f x) (flat_map f xs) (flat_map f ys))
-
 each-same : {X Y : Type 0} (f g : X → List Y) (xs : List X) → ((x : X) → Has xs x → f x ≡ g x) → flat_map f xs ≡ flat_map g xs
 each-same f g [] same = refl
 each-same f g (x ∷ xs) same = ap (λ l. l ++ flat_map f xs) (same x first) ∙ ap (λ l. g x ++ l) (each-same f g xs (λ y h. same y (later h)))
-
-each-map : {X Y Z : Type 0} (f : Y → List Z) (g : X → Y) (xs : List X) → flat_map f (map g xs) ≡ flat_map (λ x. f (g x)) xs
-each-map f g [] = refl
-each-map f g (x ∷ xs) = ap (λ l. f (g x) ++ l) (each-map f g xs)
 
 abbrev pub total : {X : Type 0} → (X → ℕ) → List X → ℕ
 total f [] = 0
@@ -41,17 +35,6 @@ total-append f (x ∷ xs) ys = let z : f x + (total f xs + total f ys) ≡ f x +
 total-map : {X Y : Type 0} (f : Y → ℕ) (g : X → Y) (xs : List X) → total f (map g xs) ≡ total (λ x. f (g x)) xs
 total-map f g [] = refl
 total-map f g (x ∷ xs) = ap (λ n. f (g x) + n) (total-map f g xs)
-
-take-front : {X : Type 0} (k : ℕ) (xs ys : List X) → k ≤ length xs → take k (xs ++ ys) ≡ take k xs
-take-front zero xs ys l = refl
-take-front (suc k) [] ys l = absurd (omega (arith, l))
-take-front (suc k) (x ∷ xs) ys l = ap (λ r. x ∷ r) (take-front k xs ys (omega (arith, l)))
-
-take-again : {X : Type 0} (j k : ℕ) (xs : List X) → j ≤ k → take j (take k xs) ≡ take j xs
-take-again zero k xs l = refl
-take-again (suc j) zero xs l = absurd (omega (arith, l))
-take-again (suc j) (suc k) [] l = refl
-take-again (suc j) (suc k) (x ∷ xs) l = ap (λ r. x ∷ r) (take-again j k xs (omega (arith, l)))
 
 take-whole : {X : Type 0} (xs : List X) → take (length xs) xs ≡ xs
 take-whole [] = refl
@@ -95,7 +78,7 @@ module _ (d : Design) where
   pending-following : (types : List Simple) (left : ℕ) (name : Name) → pending types (following d (length types) left name) ≡ shown d left name types
   pending-following types zero name = refl
   pending-following types (suc left) name =
-      each-map (to-show types) (waits (length types) left) (splits_of d name)
+      flat_map-map (to-show types) (waits (length types) left) (splits_of d name)
       ∙ each-same (λ s. from_split (shown d left) (take (length types) types) s) (from_split (shown d left) types) (splits_of d name) (λ s h. ap (λ l. from_split (shown d left) l s) (take-whole types))
 
   -- how many splits are still to be met
@@ -158,20 +141,20 @@ module _ (d : Design) where
           let l = rising-last rest next rising-all w h in
           let c : length (take next.known types) ≡ next.known = (let a = length-take next.known types in let e = next-within in omega (arith, a, e)) in
           ap (λ ts. from_split (shown d w.left) ts w.split)
-          (ap (take w.known) known ∙ take-front w.known (take next.known types) (new_types next.split) (omega (arith, l, c)) ∙ take-again w.known next.known types l)
+          (ap (take w.known) known ∙ take-append-le w.known (take next.known types) (new_types next.split) (omega (arith, l, c)) ∙ take-take w.known next.known types l)
 
       pub further : Goes types' ws' found' whole
       further = record {
         places =
             ap (λ o. first_of_places o (least (pending types' ws'))) saw
             ∙ ap (λ l. first_of_places (first_of_places found shows) (least l))
-            (ap (pending types') more ∙ each-append (to-show types') rest (following d (length types') next.left next.split.name) ∙ ap (λ l. l ++ pending types' (following d (length types') next.left next.split.name)) (each-same (to-show types') (to-show types) rest kept)
+            (ap (pending types') more ∙ flat_map-append (to-show types') rest (following d (length types') next.left next.split.name) ∙ ap (λ l. l ++ pending types' (following d (length types') next.left next.split.name)) (each-same (to-show types') (to-show types) rest kept)
             ∙ ap (λ l. pending types rest ++ l) (pending-following types' next.left next.split.name) ∙ ap (λ ts. pending types rest ++ shown d next.left next.split.name ts) known)
             ∙ ap (first_of_places (first_of_places found shows)) (least-append (pending types rest) after)
             ∙ crossed found shows (least (pending types rest)) (least after)
             ∙ ap (first_of_places found) (ap (first_of_places (least (pending types rest))) (sym (least-append (mismatches_by next.split (take next.known types)) after)) ∙ sym (least-append (pending types rest) (to-show types next)))
             ∙ ap (λ l. first_of_places found (least (pending types rest ++ l))) (sym (append-nil (to-show types next)))
-            ∙ ap (λ l. first_of_places found (least l)) (sym (ap (pending types) popped ∙ each-append (to-show types) rest (next ∷ [])))
+            ∙ ap (λ l. first_of_places found (least l)) (sym (ap (pending types) popped ∙ flat_map-append (to-show types) rest (next ∷ [])))
             ∙ goes.places;
         rising = subst Rising (sym more) (rising-join rest (following d (length types') next.left next.split.name) (rising-front rest (next ∷ []) rising-all)
             (level (length types') (following d (length types') next.left next.split.name) (λ w h. following-known (length types') next.left next.split.name w h))

@@ -159,7 +159,7 @@ fn first_of_unit(alloc: Global, tables: &Tables, unit: Unit) -> Result<Option<u3
 
 /// The first place of fault 24 that splits show beside the parameters of what they are of.
 #[tactic(auto, using(smv_first_fault::proofs::LeastLaws::leasts))]
-pub fn first_mismatch(
+pub(crate) fn first_mismatch(
     alloc: Global,
     tables: &Tables,
     units: &[Unit],

@@ -52,7 +52,7 @@ fn first_other_type(bound: &[Param], words: &[Word], types: &[Simple]) -> Option
 }
 
 /// The first place of what a split shows of parameters of these types: another number of names, or a name of another type.
-pub fn first_shown(split: &FlatSplit, types: &[Simple]) -> Option<u32>
+pub(crate) fn first_shown(split: &FlatSplit, types: &[Simple]) -> Option<u32>
     ensures { result ≡ least (chains.mismatches_by split.now types.now) }
 {
     let names = split.of.names.as_slice();

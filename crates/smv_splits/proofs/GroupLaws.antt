@@ -6,11 +6,11 @@ use Rattle.std.proofs.lemmas.Grind.{common_steps}
 use Rattle.std.proofs.lemmas.List.{append_assoc, append-nil, take_more, take_all, length-take, length-set, length-replicate, get_or-set_same, get_or-set_other}
 use Rattle.std.proofs.lemmas.Option.{slice_get-get_or}
 use Rattle.std.proofs.lemmas.Slice.Eq.{bytes_eq-Decides}
+use Rattle.law_lists.proofs.Options.{some_is}
+use Rattle.law_lists.proofs.Numbers.{nat_lt-true}
 use Rattle.smv_core.specs.Values.{Name}
 use Rattle.name_index.specs.Position.{position}
 use Rattle.name_index.proofs.Finding.{position-within}
-use Rattle.law_obligations.proofs.Lookups.{inner}
-use Rattle.law_splits.proofs.Lists.{is_less}
 use Rattle.graph_search.specs.Walks.{held, list_at}
 use Rattle.graph_search.specs.Reverse.{after}
 use Rattle.smv_splits.specs.Groups.{numbers_with, noted_in, AreGroups}
@@ -22,12 +22,12 @@ position-name [] name p e = cc
 position-name (x ∷ names) name p e = at (bytes_eq x name) (position names name) refl (position-name names name) e
   where
     at : (b : Bool) (o : Option ℕ) → bytes_eq x name ≡ b → ((q : ℕ) → o ≡ Some q → slice_get names q ≡ Some name) → cond b (Some 0) (option_map suc o) ≡ Some p → slice_get (x ∷ names) p ≡ Some name
-    at true o same rest h = let z : 0 ≡ p = inner h in subst (λ q. slice_get (x ∷ names) q ≡ Some name) z (ap Some ((bytes_eq-Decides x name).0 same))
+    at true o same rest h = let z : 0 ≡ p = some_is h in subst (λ q. slice_get (x ∷ names) q ≡ Some name) z (ap Some ((bytes_eq-Decides x name).0 same))
     at false None same rest h = cc
-    at false (Some q) same rest h = let z : suc q ≡ p = inner h in subst (λ q. slice_get (x ∷ names) q ≡ Some name) z (rest q refl)
+    at false (Some q) same rest h = let z : suc q ≡ p = some_is h in subst (λ q. slice_get (x ∷ names) q ≡ Some name) z (rest q refl)
 
 one-place : (names : List Name) (a b : Name) (p : ℕ) → position names a ≡ Some p → position names b ≡ Some p → a ≡ b
-one-place names a b p e f = inner (sym (position-name names a p e) ∙ position-name names b p f)
+one-place names a b p e f = some_is (sym (position-name names a p e) ∙ position-name names b p f)
 
 same-bytes : (a b : Name) → a ≡ b → bytes_eq a b ≡ true
 same-bytes a b e = (bytes_eq-Decides a b).1 e
@@ -102,12 +102,12 @@ one-more names groups groups' n x place below here at is were = by (position nam
         within = let l = position-within names x q e in let r = were.room in omega (arith, l, r)
 
         put : groups' ≡ set groups q (after groups q ++ n ∷ [])
-        put = let t : nat_lt q (length groups) ≡ true = is_less q (length groups) within in same ∙ ap (λ b. cond b (set groups q (after groups q ++ n ∷ [])) groups) t
+        put = let t : nat_lt q (length groups) ≡ true = nat_lt-true q (length groups) within in same ∙ ap (λ b. cond b (set groups q (after groups q ++ n ∷ [])) groups) t
 
         split : (name : Name) (p : ℕ) → position names name ≡ Some p → (b : Bool) → bytes_eq x name ≡ b → after groups' p ≡ numbers_with name 0 (take (n + 1) names)
         split name p h true f =
             let s : x ≡ name = (bytes_eq-Decides x name).0 f in
-            let z : q ≡ p = inner (sym e ∙ (ap (position names) s ∙ h)) in
+            let z : q ≡ p = some_is (sym e ∙ (ap (position names) s ∙ h)) in
             ap (λ g. after g p) put ∙ ap (λ r. after (set groups q (after groups q ++ n ∷ [])) r) (sym z) ∙ get_or-set_same groups q (after groups q ++ n ∷ []) [] within
             ∙ ap (λ l. l ++ n ∷ []) (ap (after groups) z ∙ were.each name p h) ∙ sym (this name f)
         split name p h false f =

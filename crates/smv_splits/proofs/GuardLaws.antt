@@ -1,9 +1,10 @@
 -- The numbers of variables in guards.
-use Rattle.std.proofs.Common.{◌≡◌, ℕ, zero, suc, ◌+◌, ◌-◌, List, [], ◌∷◌, map, length, Bool, true, false, cond, nat_lt, refl, ap, ◌∙◌}
+use Rattle.std.proofs.Common.{◌≡◌, ℕ, zero, suc, ◌+◌, ◌-◌, List, map, length, Bool, true, false, cond, nat_lt, refl, ap, ◌∙◌}
 use Rattle.std.specs.Prelude.{Some, None, slice_get, unwrap_or, option_map}
 use Rattle.std.specs.List.{flat_map}
 use Rattle.std.proofs.Math.Path.{fun_ext}
 use Rattle.std.proofs.lemmas.List.{length-map}
+use Rattle.std.proofs.lemmas.Option.{slice_get-map}
 use Rattle.smv_core.specs.Values.{numbers_from}
 use Rattle.smv_core.specs.declared.flat.Param.{Param}
 use Rattle.smv_core.specs.declared.flat.FlatSplit.{FlatSplit}
@@ -21,16 +22,11 @@ numbers-long first (suc n) = ap suc (numbers-long (first + 1) n)
 given-long : (s : FlatSplit) → length (given s) ≡ length s.bound
 given-long s = length-map (map (stands_for s) (numbers_from 0 (length s.bound))) (λ place. unwrap_or place 0) ∙ length-map (numbers_from 0 (length s.bound)) (stands_for s) ∙ numbers-long 0 (length s.bound)
 
-get-map : {X Y : Type 0} (f : X → Y) (xs : List X) (k : ℕ) → slice_get (map f xs) k ≡ option_map f (slice_get xs k)
-get-map f [] k = refl
-get-map f (x ∷ xs) zero = refl
-get-map f (x ∷ xs) (suc k) = get-map f xs k
-
 -- the number of a variable by the list of those that are given
 number-at : (s : FlatSplit) (count var : ℕ) → unwrap_or (slice_get (given s) var) (count + (var - length (given s))) ≡ number_in s count var
 number-at s count var =
     ap (λ n. unwrap_or (slice_get (given s) var) (count + (var - n))) (given-long s)
-    ∙ ap (λ o. unwrap_or o (count + (var - length s.bound))) (get-map (λ place. unwrap_or place 0) (map (stands_for s) (numbers_from 0 (length s.bound))) var ∙ ap (option_map (λ place. unwrap_or place 0)) (at-number (stands_for s) (length s.bound) var))
+    ∙ ap (λ o. unwrap_or o (count + (var - length s.bound))) (slice_get-map (λ place. unwrap_or place 0) (map (stands_for s) (numbers_from 0 (length s.bound))) var ∙ ap (option_map (λ place. unwrap_or place 0)) (at-number (stands_for s) (length s.bound) var))
     ∙ by (nat_lt var (length s.bound))
   where
     by : (b : Bool) → unwrap_or (option_map (λ place. unwrap_or place 0) (cond b (Some (stands_for s var)) None)) (count + (var - length s.bound))

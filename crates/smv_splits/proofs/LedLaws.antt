@@ -4,22 +4,24 @@ use Rattle.std.specs.Prelude.{Option, Some, None, slice_get, unwrap_or, if◌the
 use Rattle.std.specs.List.{Contains, list_any, flat_map}
 use Rattle.std.specs.Str.{bytes_eq}
 use Rattle.std.proofs.lemmas.List.{length-map, length-replicate, ext_get_or}
-use Rattle.std.proofs.lemmas.Option.{slice_get-get_or}
+use Rattle.std.proofs.lemmas.Option.{slice_get-get_or, slice_get_within}
 use Rattle.std.proofs.lemmas.Slice.Eq.{bytes_eq-Decides}
+use Rattle.law_lists.proofs.Options.{some_is}
+use Rattle.law_lists.proofs.Places.{get-map}
 use Rattle.smv_core.specs.Values.{Name}
 use Rattle.smv_core.specs.declared.flat.Design.{Design}
 use Rattle.smv_core.specs.declared.flat.FlatSplit.{FlatSplit}
 use Rattle.smv_core.specs.declared.flat.Unit.{Unit}
 use Rattle.law_obligations.specs.Sets.{Has, first}
 use Rattle.law_obligations.proofs.Members.{Has-cases, Has-left, Has-right, Has-flat_map, Has-uncons, any-found, any-some}
-use Rattle.law_obligations.proofs.OneOfEach.{Has-from_flat_map, get_past, get_Has, Has_get}
+use Rattle.law_obligations.proofs.OneOfEach.{Has-from_flat_map, get_Has, Has_get}
 use Rattle.name_index.specs.Position.{position}
 use Rattle.graph_search.specs.Walks.{list_at, follow, Walk, here, step}
 use Rattle.graph_search.specs.Searches.{IsSeen, IsExplored, Saw}
 use Rattle.graph_search.proofs.ReachedLaws.{came, marked_queue}
 use Rattle.law_obligations.specs.Outlines.{unit_in}
 use Rattle.law_obligations.specs.Units.{units_of}
-use Rattle.law_obligations.proofs.Lookups.{inner, Has-tested}
+use Rattle.law_obligations.proofs.Lookups.{Has-tested}
 use Rattle.law_splits.specs.Leaves.{named_by, name_of}
 use Rattle.law_splits.specs.SplitFaults.{is_unit, leads_to_unit}
 use Rattle.law_splits.proofs.Stable.{leads_at_last}
@@ -37,23 +39,18 @@ Contains-Has xs x c = subst (Has xs) (sym (at-place xs c.0 x c.1 c.2)) (get_Has 
     at-place (y ∷ xs) (suc k) x l e = at-place xs k x (omega (arith, l)) e
 
 Has-Contains : (xs : List ℕ) (x : ℕ) → Has xs x → Contains xs x
-Has-Contains xs x h = let r = Has_get h in (r.0, get_past xs r.0 x r.1, at-place xs r.0 r.1)
+Has-Contains xs x h = let r = Has_get h in (r.0, slice_get_within xs r.0 x r.1, at-place xs r.0 r.1)
   where
     at-place : (xs : List ℕ) (k : ℕ) → slice_get xs k ≡ Some x → get_or xs k x ≡ x
     at-place [] k e = cc
-    at-place (y ∷ xs) zero e = inner e
+    at-place (y ∷ xs) zero e = some_is e
     at-place (y ∷ xs) (suc k) e = at-place xs k e
 
 -- what stands at a place in a map
 from-map : {X Y : Type 0} (f : X → Y) (xs : List X) (k : ℕ) (y : Y) → slice_get (map f xs) k ≡ Some y → (x : X) × (slice_get xs k ≡ Some x) × (y ≡ f x)
 from-map f [] k y e = absurd (cc)
-from-map f (x ∷ xs) zero y e = (x, refl, sym (inner e))
+from-map f (x ∷ xs) zero y e = (x, refl, sym (some_is e))
 from-map f (x ∷ xs) (suc k) y e = from-map f xs k y e
-
-in-map : {X Y : Type 0} (f : X → Y) (xs : List X) (k : ℕ) (x : X) → slice_get xs k ≡ Some x → slice_get (map f xs) k ≡ Some (f x)
-in-map f [] k x e = absurd (cc)
-in-map f (y ∷ xs) zero x e = ap (λ z. Some (f z)) (inner e)
-in-map f (y ∷ xs) (suc k) x e = in-map f xs k x e
 
 same-bytes : (a b : Name) → a ≡ b → bytes_eq a b ≡ true
 same-bytes a b e = (bytes_eq-Decides a b).1 e
@@ -82,7 +79,7 @@ with-found : (name : Name) (k : ℕ) (names : List Name) (i : ℕ) → slice_get
 with-found name k [] i e = absurd (cc)
 with-found name k (x ∷ names) zero e =
     let z : k + 0 ≡ k = omega arith in
-    Has-left (numbers_with name (suc k) names) (subst (λ b. Has (if b then k ∷ [] else []) (k + 0)) (sym (same-bytes x name (inner e))) (subst (Has (k ∷ [])) (sym z) first))
+    Has-left (numbers_with name (suc k) names) (subst (λ b. Has (if b then k ∷ [] else []) (k + 0)) (sym (same-bytes x name (some_is e))) (subst (Has (k ∷ [])) (sym z) first))
 with-found name k (x ∷ names) (suc i) e =
     let z : suc k + i ≡ k + suc i = omega arith in
     Has-right (if bytes_eq x name then k ∷ [] else []) (subst (Has (numbers_with name (suc k) names)) z (with-found name (suc k) names i e))
@@ -107,7 +104,7 @@ module _ (d : Design) where
   name-of : (name : Name) (y : ℕ) (s : FlatSplit) → slice_get d.splits y ≡ Some s → named_by s.of ≡ name → Has (numbers_with name 0 named) y
   name-of name y s at is =
       let z : 0 + y ≡ y = omega arith in
-      subst (Has (numbers_with name 0 named)) z (with-found name 0 named y (in-map (λ (s : FlatSplit). named_by s.of) d.splits y s at ∙ ap Some is))
+      subst (Has (numbers_with name 0 named)) z (with-found name 0 named y (get-map (λ (s : FlatSplit). named_by s.of) d.splits y s at ∙ ap Some is))
 
   module _ (groups : List (List ℕ)) (next : List ℕ) (are : AreGroups named groups) (nexts : next ≡ map (next_place named (length d.splits)) d.splits) where
     abbrev goes : ℕ → List ℕ
@@ -118,7 +115,7 @@ module _ (d : Design) where
 
     -- what follows a split are the splits of what it makes
     goes-is : (x : ℕ) (s : FlatSplit) → slice_get d.splits x ≡ Some s → goes x ≡ numbers_with s.name 0 named
-    goes-is x s at = ap (list_at groups) (ap (λ l. slice_get l x) nexts ∙ in-map (next_place named (length d.splits)) d.splits x s at) ∙ by (position named s.name) refl
+    goes-is x s at = ap (list_at groups) (ap (λ l. slice_get l x) nexts ∙ get-map (next_place named (length d.splits)) d.splits x s at) ∙ by (position named s.name) refl
       where
         by : (o : Option ℕ) → position named s.name ≡ o → list_at groups (Some (unwrap_or o (length d.splits))) ≡ numbers_with s.name 0 named
         by None e = ap (λ k. list_at groups (Some k)) (sym splits-long) ∙ no-group named groups are s.name e
@@ -151,7 +148,7 @@ module _ (d : Design) where
         record { from = f.0; is_from = f.1; to = of-name f.0.name y (subst (λ l. Has l y) (goes-is x f.0 f.1) (Contains-Has (goes x) y c)) }
 
     pub below : (x y : ℕ) → Contains (goes x) y → y < length d.splits
-    below x y c = let g = (goes-to x y c).to in get_past d.splits y g.split g.at
+    below x y c = let g = (goes-to x y c).to in slice_get_within d.splits y g.split g.at
 
     -- ---- from the units
 
@@ -162,7 +159,7 @@ module _ (d : Design) where
     starts-below x c =
         let r = Has-from_flat_map (splits_of_unit d named) (units_of d) (Contains-Has starts x c) in
         let o = of-name (name_of d (unit_in d r.0)) x r.2 in
-        get_past d.splits x o.split o.at
+        slice_get_within d.splits x o.split o.at
 
     unit-leads : (n : ℕ) (name : Name) → is_unit d name ≡ true → leads_to_unit d n name ≡ true
     unit-leads zero name e = e
@@ -187,7 +184,7 @@ module _ (d : Design) where
     next-leads : (x y : ℕ) → Contains (goes x) y → Leads x → Leads y
     next-leads x y c l =
         let g = goes-to x y c in
-        let same : g.from ≡ l.split = inner (sym g.is_from ∙ l.at) in
+        let same : g.from ≡ l.split = some_is (sym g.is_from ∙ l.at) in
         let made : l.split.name ≡ named_by g.to.split.of = sym (g.to.is ∙ ap (λ (s : FlatSplit). s.name) same) in
         let tested : (bytes_eq l.split.name (named_by g.to.split.of) && leads d l.split) ≡ true = ap (λ b. b && leads d l.split) (same-bytes l.split.name (named_by g.to.split.of) made) ∙ l.leads in
         record {
@@ -245,7 +242,7 @@ module _ (d : Design) where
               all.closed g.0 x (in-queue g.0 (rest g.0 r.0 g.1 b.1)) (Has-Contains (goes g.0) x there)
 
       mark-is : (x : ℕ) (s : FlatSplit) → slice_get d.splits x ≡ Some s → get_or marks x false ≡ leads d s
-      mark-is x s at = agree (get_or marks x false) (leads d s) (λ m. let l = marked-leads x m in let z : l.split ≡ s = inner (sym l.at ∙ at) in subst (λ t. leads d t ≡ true) z l.leads) (leads-marked (length d.splits) x s at)
+      mark-is x s at = agree (get_or marks x false) (leads d s) (λ m. let l = marked-leads x m in let z : l.split ≡ s = some_is (sym l.at ∙ at) in subst (λ t. leads d t ≡ true) z l.leads) (leads-marked (length d.splits) x s at)
         where
           agree : (a b : Bool) → (a ≡ true → b ≡ true) → (b ≡ true → a ≡ true) → a ≡ b
           agree true b f g = sym (f refl)
@@ -260,7 +257,7 @@ module _ (d : Design) where
 
           get-is : (xs : List FlatSplit) (i : ℕ) (s : FlatSplit) → slice_get xs i ≡ Some s → get_or (map (leads d) xs) i false ≡ leads d s
           get-is [] i s e = absurd (cc)
-          get-is (t ∷ xs) zero s e = ap (leads d) (inner e)
+          get-is (t ∷ xs) zero s e = ap (leads d) (some_is e)
           get-is (t ∷ xs) (suc i) s e = get-is xs i s e
 
           some-at : (xs : List FlatSplit) (i : ℕ) → i < length xs → (s : FlatSplit) × (slice_get xs i ≡ Some s)

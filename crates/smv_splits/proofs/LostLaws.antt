@@ -4,6 +4,7 @@ use Rattle.std.specs.Prelude.{Option}
 use Rattle.std.specs.Str.{bytes_eq}
 use Rattle.std.specs.List.{flat_map}
 use Rattle.std.proofs.lemmas.List.{append_assoc, append-nil}
+use Rattle.law_lists.proofs.Places.{drop_read_one}
 use Rattle.smv_core.specs.Values.{Name}
 use Rattle.smv_core.specs.declared.tree.Word.{Word}
 use Rattle.smv_core.specs.declared.flat.Design.{Design}
@@ -11,8 +12,7 @@ use Rattle.smv_core.specs.declared.flat.FlatSplit.{FlatSplit}
 use Rattle.smv_mentions.specs.NameFaults.{place_if}
 use Rattle.smv_mentions.specs.Scopes.{first_of_places}
 use Rattle.smv_first_fault.specs.Firsts.{least}
-use Rattle.smv_first_fault.proofs.LeastLaws.{from_here}
-use Rattle.smv_first_fault.proofs.LeastLaws.{least-step}
+use Rattle.smv_first_fault.proofs.LeastLaws.{from_here, least-step}
 use Rattle.law_splits.specs.Leaves.{named_by}
 use Rattle.law_splits.specs.SplitFaults.{astray, split_again, doubled}
 use Rattle.smv_references.specs.Again.{again, placed_words}
@@ -72,7 +72,7 @@ pub placed-step : (splits : List FlatSplit) (names : List Name) (n : ℕ) (s : F
 placed-step splits names n s name out out' whole are below here at put known =
     let same : name ≡ named_by s.of = at ∙ (ap (λ l. get_or l n name) are ∙ get-map (λ (s : FlatSplit). named_by s.of) splits n s name below here) in
     ap (λ l. l ++ map place_of_split (drop (n + 1) splits)) (put ∙ ap (λ m. out ++ (s.of.at, m) ∷ []) same)
-    ∙ append_assoc out (place_of_split s ∷ []) (map place_of_split (drop (n + 1) splits)) ∙ ap (λ l. out ++ map place_of_split l) (sym (from_here splits n s below here)) ∙ known
+    ∙ append_assoc out (place_of_split s ∷ []) (map place_of_split (drop (n + 1) splits)) ∙ ap (λ l. out ++ map place_of_split l) (sym (drop_read_one splits n s below here)) ∙ known
 
 -- all of them
 pub placed-end : (splits : List FlatSplit) (n : ℕ) (out : List (ℕ × Name)) → length splits ≤ n → out ++ map place_of_split (drop n splits) ≡ map place_of_split splits → out ≡ map place_of_split splits

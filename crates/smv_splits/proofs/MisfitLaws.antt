@@ -1,5 +1,5 @@
 -- The misfits of a split, put together.
-use Rattle.std.proofs.Common.{◌≡◌, ℕ, List, [], ◌∷◌, ◌++◌, map, Bool, not, ◌||◌, nat_eq, refl, ap, sym, ◌∙◌, length, cond}
+use Rattle.std.proofs.Common.{◌≡◌, ℕ, List, [], ◌∷◌, ◌++◌, map, not, ◌||◌, nat_eq, refl, ap, sym, ◌∙◌, length}
 use Rattle.std.specs.Prelude.{Option, filter}
 use Rattle.std.specs.List.{flat_map, list_any}
 use Rattle.std.specs.Str.{bytes_eq}
@@ -21,22 +21,13 @@ use Rattle.smv_splits.specs.Parts.{first_among, right_names, repeated, standing_
 use Rattle.smv_references.specs.Again.{again, placed_words}
 use Rattle.smv_references.proofs.AgainLaws.{doubled-first}
 use Rattle.std.proofs.lemmas.List.{map-append}
+use Rattle.std.proofs.lemmas.List.Elements.{filter_agree}
+use Rattle.law_lists.proofs.Lists.{flat_map_agree}
 use Rattle.smv_splits.proofs.RightLaws.{in-one-is}
 use Rattle.smv_splits.proofs.StandingLaws.{stray-is}
 
 firsts : {a b c e : Option ℕ} → a ≡ c → b ≡ e → first_of_places a b ≡ first_of_places c e
 firsts p q = cc
-
-joins : {X : Type 0} {a b c e : List X} → a ≡ c → b ≡ e → a ++ b ≡ c ++ e
-joins p q = cc
-
-each-same : {X Y : Type 0} (f g : X → List Y) → ((x : X) → f x ≡ g x) → (xs : List X) → flat_map f xs ≡ flat_map g xs
-each-same f g same [] = refl
-each-same f g same (x ∷ xs) = joins (same x) (each-same f g same xs)
-
-kept-same : {X : Type 0} (f g : X → Bool) → ((x : X) → f x ≡ g x) → (xs : List X) → filter f xs ≡ filter g xs
-kept-same f g same [] = refl
-kept-same {X} f g same (x ∷ xs) = ap (λ b. cond b (x ∷ filter f xs) (filter f xs)) (same x) ∙ ap (λ l. cond (g x) (x ∷ l) l) (kept-same f g same xs)
 
 among-list : {X : Type 0} (F : X → Option ℕ) (f : X → List ℕ) → ((x : X) → F x ≡ least (f x)) → (xs : List X) → first_among (map F xs) ≡ least (flat_map f xs)
 among-list F f same [] = refl
@@ -48,7 +39,7 @@ pub not-in-one : (s : FlatSplit) (names again : List Name) → names ≡ right_n
 not-in-one s names again is more =
     ap (λ l. flat_map (λ (word : Word). place_if (not (parts.is_in_one l again word)) word.at) s.vars) is
     ∙ ap (λ l. flat_map (λ (word : Word). place_if (not (parts.is_in_one (right_names s.pairs) l word)) word.at) s.vars) more
-    ∙ each-same (λ (word : Word). place_if (not (parts.is_in_one (right_names s.pairs) (repeated [] (right_names s.pairs)) word)) word.at)
+    ∙ flat_map_agree (λ (word : Word). place_if (not (parts.is_in_one (right_names s.pairs) (repeated [] (right_names s.pairs)) word)) word.at)
     (λ (word : Word). place_if (not (nat_eq (length (splits.equations_of s.pairs word)) 1)) word.at) (λ word. ap (λ b. place_if (not b) word.at) (in-one-is s.pairs word)) s.vars
 
 -- the right of an equation that is no new parameter
@@ -59,7 +50,7 @@ any-names (word ∷ words) name = ap (λ b. bytes_eq word.name name || b) (any-n
 pub not-new : (s : FlatSplit) (new : List Name) → new ≡ map (λ (word : Word). word.name) s.vars → flat_map (not_new_in new) s.pairs ≡ splits.not_new s
 not-new s new is =
     ap (λ l. flat_map (not_new_in l) s.pairs) is
-    ∙ each-same (not_new_in (map (λ (word : Word). word.name) s.vars)) (λ (pair : FlatPair). place_if (not (list_any (λ (word : Word). bytes_eq word.name pair.right.name) s.vars)) pair.right.at)
+    ∙ flat_map_agree (not_new_in (map (λ (word : Word). word.name) s.vars)) (λ (pair : FlatPair). place_if (not (list_any (λ (word : Word). bytes_eq word.name pair.right.name) s.vars)) pair.right.at)
     (λ pair. ap (λ b. place_if (not b) pair.right.at) (position-known (map (λ (word : Word). word.name) s.vars) pair.right.name ∙ any-names s.vars pair.right.name)) s.pairs
 
 -- the first stray of each equation
@@ -68,7 +59,7 @@ unfolding parts.stray_in
 strays-first s standing is =
     ap (λ l. first_among (map (λ (pair : FlatPair). parts.stray_in l pair.left) s.pairs)) is
     ∙ among-list (λ (pair : FlatPair). parts.stray_in (standing_in s) pair.left) (λ (pair : FlatPair). map (λ (r : Reading). r.at) (filter (splits.is_stray s) (readings pair.left)))
-    (λ pair. ap (λ l. least (map (λ (r : Reading). r.at) l)) (kept-same (λ (r : Reading). parts.is_stray (standing_in s) r.var) (splits.is_stray s) (stray-is s) (readings pair.left))) s.pairs
+    (λ pair. ap (λ l. least (map (λ (r : Reading). r.at) l)) (filter_agree (λ (r : Reading). parts.is_stray (standing_in s) r.var) (splits.is_stray s) (stray-is s) (readings pair.left))) s.pairs
 
 pub equations-first : (families : List Family) (s : FlatSplit) (pairs : List FlatPair) (vars : List Word) (bound : List Param) (names again new : List Name) (standing : List (Option ℕ)) (a b c e x y r : Option ℕ) →
     pairs ≡ s.pairs → vars ≡ s.vars → bound ≡ s.bound → names ≡ right_names pairs → again ≡ repeated [] (right_names pairs) → new ≡ map (λ (word : Word). word.name) vars → standing ≡ standing_in s →

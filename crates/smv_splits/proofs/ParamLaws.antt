@@ -4,6 +4,7 @@ use Rattle.std.specs.Prelude.{Option, Some, None, find, unwrap_or}
 use Rattle.std.specs.Str.{bytes_eq}
 use Rattle.std.proofs.lemmas.List.{append_assoc}
 use Rattle.std.proofs.lemmas.Slice.Eq.{bytes_eq-Decides}
+use Rattle.law_lists.proofs.Places.{drop_read_one}
 use Rattle.smv_core.specs.Values.{Name}
 use Rattle.smv_core.specs.declared.tree.Word.{Word}
 use Rattle.smv_core.specs.declared.flat.Simple.{Simple}
@@ -40,7 +41,7 @@ numbered-step f xs n first x p out out' whole below here is put known =
     ∙ append_assoc out (p ∷ []) (numbered (first + (n + 1)) (map f (drop (n + 1) xs)))
     ∙ ap (λ k. out ++ p ∷ numbered k (map f (drop (n + 1) xs))) next
     ∙ ap (λ q. out ++ q ∷ numbered (suc (first + n)) (map f (drop (n + 1) xs))) is
-    ∙ ap (λ l. out ++ numbered (first + n) (map f l)) (sym (from_here xs n x below here)) ∙ known
+    ∙ ap (λ l. out ++ numbered (first + n) (map f l)) (sym (drop_read_one xs n x below here)) ∙ known
 
 pub param-at : (bound bound' : List Param) (word : Word) (var k : ℕ) (p : Param) → bound ≡ bound' → var ≡ k → p ≡ record (bound_as bound word) { var = var } → p ≡ record (bound_as bound' word) { var = k }
 param-at bound bound' word var k p b v is = is ∙ ap (λ l. record (bound_as l word) { var = var }) b ∙ ap (λ j. record (bound_as bound' word) { var = j }) v

@@ -7,6 +7,7 @@ use Rattle.std.proofs.lemmas.List.{append_assoc}
 use Rattle.std.proofs.lemmas.List.Folds.{list_any-append}
 use Rattle.std.proofs.lemmas.Bool.Decides.{nat_tests}
 use Rattle.std.proofs.lemmas.Slice.Eq.{bytes_eq-Decides}
+use Rattle.law_lists.proofs.Places.{drop_read_one}
 use Rattle.smv_core.specs.Values.{Name}
 use Rattle.smv_core.specs.declared.tree.Word.{Word}
 use Rattle.smv_core.specs.declared.flat.FlatPair.{FlatPair}
@@ -116,7 +117,7 @@ pub noted-step : (pairs : List FlatPair) (n : ℕ) (pair : FlatPair) (names name
     (names ++ right_names (drop n pairs) ≡ right_names pairs) × (again ++ repeated names (right_names (drop n pairs)) ≡ repeated [] (right_names pairs)) →
     (names' ++ right_names (drop (n + 1) pairs) ≡ right_names pairs) × (again' ++ repeated names' (right_names (drop (n + 1) pairs)) ≡ repeated [] (right_names pairs))
 noted-step pairs n pair names names' again again' below here put more known =
-    let rest = from_here pairs n pair below here in
+    let rest = drop_read_one pairs n pair below here in
     let a : names ++ pair.right.name ∷ right_names (drop (n + 1) pairs) ≡ right_names pairs = ap (λ l. names ++ right_names l) (sym rest) ∙ known.0 in
     let b : again ++ (repeated_if names pair.right.name ++ repeated (names ++ pair.right.name ∷ []) (right_names (drop (n + 1) pairs))) ≡ repeated [] (right_names pairs) = ap (λ l. again ++ repeated names (right_names l)) (sym rest) ∙ known.1 in (
       ap (λ l. l ++ right_names (drop (n + 1) pairs)) put ∙ append_assoc names (pair.right.name ∷ []) (right_names (drop (n + 1) pairs)) ∙ a,

@@ -11,7 +11,7 @@ use std::alloc::{AllocError, Global};
 
 /// An expression with other numbers for its variables, those of its own binders too.
 #[tactic(auto, unfolding(crate::specs::Renaming::renaming))]
-pub fn renamed_expression(
+pub(crate) fn renamed_expression(
     expr: &FlatExpr,
     numbers: Numbers,
     alloc: Global,

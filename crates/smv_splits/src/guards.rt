@@ -117,7 +117,11 @@ fn add_guards(alloc: Global, out: &mut Vec<Guard>, link: Link, count: u16) -> Re
 
 /// The guards of a chain of splits in a leaf with so many parameters.
 #[tactic(auto, using(smv_mentions::proofs::Notes::noting))]
-pub fn all_guards(alloc: Global, links: &[Link], count: usize) -> Result<Vec<Guard>, AllocError>
+pub(crate) fn all_guards(
+    alloc: Global,
+    links: &[Link],
+    count: usize,
+) -> Result<Vec<Guard>, AllocError>
     ensures { IfOk result (λ guards. guards.items ≡ flat_map (spec.guards_at count) (map link_held links.now)) }
 {
     let count = number(count)?;

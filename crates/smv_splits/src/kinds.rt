@@ -48,7 +48,7 @@ fn is_variable_of_kind(bound: &[Param], over: Simple, var: u16) -> bool
 
 /// Whether an expression is of the kind of this type, inside these variables.
 #[tactic(auto, unfolding(crate::specs::Parts::is_of_kind))]
-pub fn is_of_kind(families: &[Family], bound: &[Param], over: Simple, x: &FlatExpr) -> bool
+pub(crate) fn is_of_kind(families: &[Family], bound: &[Param], over: Simple, x: &FlatExpr) -> bool
     ensures { result ≡ splits.is_of_kind families.now bound.now over x.now }
 {
     has_kind(families, bound, over, x)

@@ -13,7 +13,7 @@ use smv_references::names::name_of;
 use std::alloc::{AllocError, Global};
 
 /// The empty name.
-pub fn no_name(alloc: Global) -> Name
+pub(crate) fn no_name(alloc: Global) -> Name
     ensures { result ≡ [] }
 {
     Name::from_vec(Vec::new(alloc))

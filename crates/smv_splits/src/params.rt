@@ -80,7 +80,11 @@ fn index_types(design: &Design, family: u16) -> &[Simple]
 }
 
 /// The parameters of a unit: of a map the indexes of its family, of a claim the variables around it.
-pub fn own_params(alloc: Global, design: &Design, unit: Unit) -> Result<Vec<Param>, AllocError>
+pub(crate) fn own_params(
+    alloc: Global,
+    design: &Design,
+    unit: Unit,
+) -> Result<Vec<Param>, AllocError>
     ensures { IfOk result (λ params. params.items ≡ spec.own_params design.now (unit_in design.now unit)) }
 {
     match unit {
@@ -163,7 +167,7 @@ fn new_param(alloc: Global, bound: &[Param], word: &Word, var: u16) -> Result<Pa
 
 /// The parameters that a split adds, numbered from this number on, behind these.
 #[tactic(auto, using(smv_mentions::proofs::Notes::noting))]
-pub fn add_new(
+pub(crate) fn add_new(
     alloc: Global,
     out: &mut Vec<Param>,
     split: &FlatSplit,

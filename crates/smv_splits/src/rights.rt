@@ -29,7 +29,10 @@ fn note<'a>(rights: &mut Rights<'a>, name: &'a Name) -> Result<(), AllocError>
 }
 
 /// The names to the right of these equations.
-pub fn make_rights<'a>(alloc: Global, pairs: &'a [FlatPair]) -> Result<Rights<'a>, AllocError>
+pub(crate) fn make_rights<'a>(
+    alloc: Global,
+    pairs: &'a [FlatPair],
+) -> Result<Rights<'a>, AllocError>
     ensures { IfOk result (λ rights. AreRights pairs.now rights) }
 {
     let mut out = Rights {
@@ -43,7 +46,7 @@ pub fn make_rights<'a>(alloc: Global, pairs: &'a [FlatPair]) -> Result<Rights<'a
 }
 
 /// Whether a name is to the right of exactly one equation.
-pub fn is_in_one(rights: &Rights, word: &Word) -> bool
+pub(crate) fn is_in_one(rights: &Rights, word: &Word) -> bool
     ensures { result ≡ parts.is_in_one rights.now.names rights.now.repeated word.now }
 {
     rights.names.find(&word.name).is_some() && rights.repeated.find(&word.name).is_none()

@@ -19,7 +19,7 @@ fn is_stray(standing: &[Option<usize>], var: u16) -> bool
 /// The first place of such a variable in an expression.
 #[cycle(expressions)]
 #[tactic(auto, using(crate::proofs::StrayLaws::equations))]
-pub fn stray_in(standing: &[Option<usize>], x: &FlatExpr) -> Option<u32>
+pub(crate) fn stray_in(standing: &[Option<usize>], x: &FlatExpr) -> Option<u32>
     ensures { result ≡ parts.stray_in standing.now x.now }
 {
     match x {

@@ -2,6 +2,9 @@
 use Rattle.std.proofs.Common.{◌≡◌, ℕ, zero, suc, ◌+◌, ◌-◌, List, [], ◌∷◌, ◌++◌, map, length, get_or, slice_get, Option, Some, None, Bool, true, false, ◌&&◌, ◌||◌, bytes_eq, nat_eq, nat_lt, nat_le, if◌then◌else◌, arith, refl, sym, ap, ◌∙◌}
 use Rattle.std.proofs.lemmas.Slice.Eq.{bytes_eq-Decides}
 use Rattle.std.specs.List.{list_any}
+use Rattle.std.proofs.lemmas.List.Folds.{list_any-append}
+use Rattle.law_lists.proofs.Lists.{map-map}
+use Rattle.law_lists.proofs.Anys.{any-map, any-agree, any-never}
 use Rattle.smv_core.specs.Values.{Name, number, constant, scalar, ordinal, same, scalarset, ordset, numbers_from}
 use Rattle.smv_core.specs.FlatMeaning.{set_type}
 use Rattle.smv_core.specs.declared.flat.Simple.{Simple as FlatSimple}
@@ -16,7 +19,7 @@ use Rattle.smv_spots.specs.declared.spots.Spot.{Spot}
 use Rattle.smv_spots.specs.declared.spots.Spot.TheVariants as spot
 use Rattle.smv_spots.specs.declared.places.Sort.TheVariants as sort
 use Rattle.smv_spots.specs.Spots.{name_of, is_ordset, of_set, both_or_none, is_same_set, place_by, spot_of, classes_of, count_beside, rests_of as rests_count, AreTypes, IsWorld}
-use Rattle.smv_spots.proofs.Numbers.{same_maps, map_twice, along, number_among}
+use Rattle.smv_spots.proofs.Numbers.{same_maps, along, number_among}
 
 -- what is known of a set type
 pub record TypeAt (w : World) (sets : List SetInfo) (set : ℕ) (t : AbsType) : Type 0 where
@@ -45,9 +48,9 @@ range_named design w low high = same_maps (place_by design) (spot_of sort.Number
 -- constants
 pub names_named : (design : Design) (list : ℕ) (names : List Name) → get_or design.enums list [] ≡ names → map (place_by design) (map (spot_of (sort.Constant list)) (numbers_from 0 (length names))) ≡ map named (map constant names)
 names_named design list names e =
-    map_twice (place_by design) (spot_of (sort.Constant list)) (numbers_from 0 (length names))
+    map-map (place_by design) (spot_of (sort.Constant list)) (numbers_from 0 (length names))
     ∙ (along (λ k. place_by design (spot.Constant list k)) (λ c. named (constant c)) [] 0 names (λ i l. ap (λ cs. named (constant (get_or cs (0 + i) []))) e ∙ ap (λ k. named (constant (get_or names k []))) (omega arith))
-    ∙ sym (map_twice named constant names))
+    ∙ sym (map-map named constant names))
 
 pub enum_named : (design : Design) (w : World) (list n : ℕ) → w.classes.enums ≡ design.enums → n ≡ length (get_or design.enums list []) → map (place_by design) (map (spot_of (sort.Constant list)) (numbers_from 0 n)) ≡ named_in w (Enum list)
 enum_named design w list n e h =
@@ -59,12 +62,12 @@ set_value : (info : SetInfo) (w : World) (n : ℕ) → w.classes.sizes info.name
 set_value info w n e = at info.ordered
   where
     at : (b : Bool) → map (λ k. named (if b then ordinal info.name k else scalar info.name k)) (numbers_from 0 n) ≡ named_of w (if b then ordset info.name else scalarset info.name)
-    at true = sym (map_twice named (ordinal info.name) (numbers_from 0 n)) ∙ ap (λ m. map named (map (ordinal info.name) (numbers_from 0 m))) (sym e)
-    at false = sym (map_twice named (scalar info.name) (numbers_from 0 n)) ∙ ap (λ m. map named (map (scalar info.name) (numbers_from 0 m))) (sym e)
+    at true = sym (map-map named (ordinal info.name) (numbers_from 0 n)) ∙ ap (λ m. map named (map (ordinal info.name) (numbers_from 0 m))) (sym e)
+    at false = sym (map-map named (scalar info.name) (numbers_from 0 n)) ∙ ap (λ m. map named (map (scalar info.name) (numbers_from 0 m))) (sym e)
 
 pub set_named : (design : Design) (w : World) (set : ℕ) (t : AbsType) → w.classes.sets ≡ design.sets → TypeAt w design.sets set t → map (place_by design) (map (spot_of (sort.Class set)) (numbers_from 0 t.named)) ≡ named_in w (Set set)
 set_named design w set t e h =
-    map_twice (place_by design) (spot_of (sort.Class set)) (numbers_from 0 t.named)
+    map-map (place_by design) (spot_of (sort.Class set)) (numbers_from 0 t.named)
     ∙ (ap (λ o. map (λ k. named (of_set o k)) (numbers_from 0 t.named)) h.is
     ∙ (set_value h.info w t.named h.named ∙ ap (λ o. named_of w (set_type o)) (sym (ap (λ sets. slice_get sets set) e ∙ h.is))))
 
@@ -82,7 +85,7 @@ set_rest info w t e f = at info.ordered
 
 pub set_rests : (design : Design) (w : World) (set : ℕ) (t : AbsType) → w.classes.sets ≡ design.sets → TypeAt w design.sets set t → map (place_by design) (map (spot_of (sort.Rest set)) (numbers_from 0 (count_beside t.rest t.named))) ≡ rests_in w (Set set)
 set_rests design w set t e h =
-    map_twice (place_by design) (spot_of (sort.Rest set)) (numbers_from 0 (count_beside t.rest t.named))
+    map-map (place_by design) (spot_of (sort.Rest set)) (numbers_from 0 (count_beside t.rest t.named))
     ∙ (ap (λ o. map (λ k. rest (of_set o k)) (numbers_from 0 (count_beside t.rest t.named))) h.is
     ∙ (ap (λ ks. map (λ k. rest (of_set (Some h.info) k)) ks) (numbers_beside t.rest t.named)
     ∙ (set_rest h.info w t h.named h.rest ∙ ap (λ o. rests_of w (set_type o)) (sym (ap (λ sets. slice_get sets set) e ∙ h.is)))))
@@ -95,27 +98,6 @@ no_set_named w sets set e h = ap (λ o. named_of w (set_type o)) (ap (λ s. slic
 
 pub no_set_rests : (w : World) (sets : List SetInfo) (set : ℕ) → w.classes.sets ≡ sets → slice_get sets set ≡ None → rests_in w (Set set) ≡ []
 no_set_rests w sets set e h = ap (λ o. rests_of w (set_type o)) (ap (λ s. slice_get s set) e ∙ h)
-
--- a test of some place
-any_append : {X : Type 0} (p : X → Bool) (xs ys : List X) → list_any p (xs ++ ys) ≡ (list_any p xs || list_any p ys)
-any_append p [] ys = refl
-any_append p (x ∷ xs) ys = at (p x) _ _ _ (any_append p xs ys)
-  where
-    at : (b c d e : Bool) → c ≡ (d || e) → (b || c) ≡ ((b || d) || e)
-    at true c d e q = refl
-    at false c d e q = q
-
-any_map : {X Y : Type 0} (p : Y → Bool) (f : X → Y) (xs : List X) → list_any p (map f xs) ≡ list_any (λ x. p (f x)) xs
-any_map p f [] = refl
-any_map p f (x ∷ xs) = ap (λ b. p (f x) || b) (any_map p f xs)
-
-any_ext : {X : Type 0} (p q : X → Bool) (xs : List X) → ((x : X) → p x ≡ q x) → list_any p xs ≡ list_any q xs
-any_ext p q [] e = refl
-any_ext p q (x ∷ xs) e = ap (λ b. b || list_any p xs) (e x) ∙ ap (λ b. q x || b) (any_ext p q xs e)
-
-any_never : {X : Type 0} (xs : List X) → list_any (λ x. false) xs ≡ false
-any_never [] = refl
-any_never (x ∷ xs) = any_never xs
 
 -- two values of set types
 pub same_set_value : (i j : Option SetInfo) (k m : ℕ) → same (of_set i k) (of_set j m) ≡ (is_same_set i j && nat_eq k m)
@@ -152,10 +134,10 @@ or_false false = refl
 -- a number in a range
 pub number_in_range : (w : World) (low high value : ℕ) → is_among (places_in w (Range low high)) (named (number value)) ≡ (nat_le low value && nat_le value high)
 number_in_range w low high value =
-    any_append (same_place (named (number value))) (map named (map number (numbers_from low (high + 1 - low)))) []
+    list_any-append (same_place (named (number value))) (map named (map number (numbers_from low (high + 1 - low)))) []
     ∙ (or_false _
-    ∙ (any_map (same_place (named (number value))) named (map number (numbers_from low (high + 1 - low)))
-    ∙ (any_map (λ v. same (number value) v) number (numbers_from low (high + 1 - low))
+    ∙ (any-map (same_place (named (number value))) named (map number (numbers_from low (high + 1 - low)))
+    ∙ (any-map (λ v. same (number value) v) number (numbers_from low (high + 1 - low))
     ∙ (number_among true value low (high + 1 - low) ∙ at (nat_le low value) (nat_lt value (low + (high + 1 - low))) (nat_le value high) (grind arith)))))
   where
     at : (x y z : Bool) → (x && y) ≡ (x && z) → ((x && y) && true) ≡ (x && z)
@@ -166,19 +148,19 @@ number_in_range w low high value =
 -- a constant in an enumeration
 pub constant_in_list : (design : Design) (w : World) (list : ℕ) (name : Name) → w.classes.enums ≡ design.enums → is_among (places_in w (Enum list)) (named (constant name)) ≡ list_any (bytes_eq name) (get_or design.enums list [])
 constant_in_list design w list name e =
-    any_append (same_place (named (constant name))) (map named (map constant (get_or w.classes.enums list []))) []
+    list_any-append (same_place (named (constant name))) (map named (map constant (get_or w.classes.enums list []))) []
     ∙ (or_false _
-    ∙ (any_map (same_place (named (constant name))) named (map constant (get_or w.classes.enums list []))
-    ∙ (any_map (λ v. same (constant name) v) constant (get_or w.classes.enums list []) ∙ ap (λ enums. list_any (bytes_eq name) (get_or enums list [])) e)))
+    ∙ (any-map (same_place (named (constant name))) named (map constant (get_or w.classes.enums list []))
+    ∙ (any-map (λ v. same (constant name) v) constant (get_or w.classes.enums list []) ∙ ap (λ enums. list_any (bytes_eq name) (get_or enums list [])) e)))
 
 -- a class and a rest in a set type
 among_set : (i : Option SetInfo) (info : SetInfo) (k n : ℕ) → list_any (λ m. same (of_set i k) (of_set (Some info) m)) (numbers_from 0 n) ≡ (nat_lt k n && is_same_set i (Some info))
 among_set i info k n =
-    any_ext (λ m. same (of_set i k) (of_set (Some info) m)) (λ m. is_same_set i (Some info) && nat_eq k m) (numbers_from 0 n) (λ m. same_set_value i (Some info) k m)
+    any-agree (λ m. same (of_set i k) (of_set (Some info) m)) (λ m. is_same_set i (Some info) && nat_eq k m) (numbers_from 0 n) (λ m. same_set_value i (Some info) k m)
     ∙ (number_among (is_same_set i (Some info)) k 0 n ∙ ap (λ b. b && is_same_set i (Some info)) (grind arith))
 
 any_spots : (design : Design) (p : Place) (make : ℕ → Spot) (ks : List ℕ) → list_any (same_place p) (map (place_by design) (map make ks)) ≡ list_any (λ k. same_place p (place_by design (make k))) ks
-any_spots design p make ks = any_map (same_place p) (place_by design) (map make ks) ∙ any_map (λ q. same_place p (place_by design q)) make ks
+any_spots design p make ks = any-map (same_place p) (place_by design) (map make ks) ∙ any-map (λ q. same_place p (place_by design q)) make ks
 
 set_places : (design : Design) (w : World) (set : ℕ) (t : AbsType) → w.classes.sets ≡ design.sets → TypeAt w design.sets set t →
     places_in w (Set set) ≡ map (place_by design) (map (spot_of (sort.Class set)) (numbers_from 0 t.named)) ++ map (place_by design) (map (spot_of (sort.Rest set)) (numbers_from 0 (count_beside t.rest t.named)))
@@ -191,8 +173,8 @@ class_in_set design w set other k t e h =
     let ns = numbers_from 0 t.named in
     let gs = numbers_from 0 (count_beside t.rest t.named) in
     ap (list_any (same_place p)) (set_places design w set t e h)
-    ∙ (any_append (same_place p) (map (place_by design) (map (spot_of (sort.Class set)) ns)) (map (place_by design) (map (spot_of (sort.Rest set)) gs))
-    ∙ (ap (λ b. list_any (same_place p) (map (place_by design) (map (spot_of (sort.Class set)) ns)) || b) (any_spots design p (spot_of (sort.Rest set)) gs ∙ any_never gs)
+    ∙ (list_any-append (same_place p) (map (place_by design) (map (spot_of (sort.Class set)) ns)) (map (place_by design) (map (spot_of (sort.Rest set)) gs))
+    ∙ (ap (λ b. list_any (same_place p) (map (place_by design) (map (spot_of (sort.Class set)) ns)) || b) (any_spots design p (spot_of (sort.Rest set)) gs ∙ any-never gs)
     ∙ (or_false _
     ∙ (any_spots design p (spot_of (sort.Class set)) ns
     ∙ (ap (λ o. list_any (λ m. same (of_set (slice_get design.sets other) k) (of_set o m)) ns) h.is
@@ -205,8 +187,8 @@ rest_in_set design w set other k t e h =
     let ns = numbers_from 0 t.named in
     let gs = numbers_from 0 (count_beside t.rest t.named) in
     ap (list_any (same_place p)) (set_places design w set t e h)
-    ∙ (any_append (same_place p) (map (place_by design) (map (spot_of (sort.Class set)) ns)) (map (place_by design) (map (spot_of (sort.Rest set)) gs))
-    ∙ (ap (λ b. b || list_any (same_place p) (map (place_by design) (map (spot_of (sort.Rest set)) gs))) (any_spots design p (spot_of (sort.Class set)) ns ∙ any_never ns)
+    ∙ (list_any-append (same_place p) (map (place_by design) (map (spot_of (sort.Class set)) ns)) (map (place_by design) (map (spot_of (sort.Rest set)) gs))
+    ∙ (ap (λ b. b || list_any (same_place p) (map (place_by design) (map (spot_of (sort.Rest set)) gs))) (any_spots design p (spot_of (sort.Class set)) ns ∙ any-never ns)
     ∙ (any_spots design p (spot_of (sort.Rest set)) gs
     ∙ (ap (λ o. list_any (λ m. same (of_set (slice_get design.sets other) k) (of_set o m)) gs) h.is
     ∙ (among_set (slice_get design.sets other) h.info k (count_beside t.rest t.named) ∙ ap (λ o. nat_lt k (count_beside t.rest t.named) && is_same_set (slice_get design.sets other) o) (sym h.is))))))
@@ -248,25 +230,25 @@ rest_among design types w set other k h = at (slice_get types set) refl
 -- a value of another sort is in no type
 pub not_number : (w : World) (low high : ℕ) (p : Place) → ((k : ℕ) → same_place p (named (number k)) ≡ false) → is_among (places_in w (Range low high)) p ≡ false
 not_number w low high p h =
-    any_append (same_place p) (map named (map number (numbers_from low (high + 1 - low)))) []
+    list_any-append (same_place p) (map named (map number (numbers_from low (high + 1 - low)))) []
     ∙ (or_false _
-    ∙ (any_map (same_place p) named (map number (numbers_from low (high + 1 - low)))
-    ∙ (any_map (λ v. same_place p (named v)) number (numbers_from low (high + 1 - low))
-    ∙ (any_ext (λ k. same_place p (named (number k))) (λ k. false) (numbers_from low (high + 1 - low)) h ∙ any_never (numbers_from low (high + 1 - low))))))
+    ∙ (any-map (same_place p) named (map number (numbers_from low (high + 1 - low)))
+    ∙ (any-map (λ v. same_place p (named v)) number (numbers_from low (high + 1 - low))
+    ∙ (any-agree (λ k. same_place p (named (number k))) (λ k. false) (numbers_from low (high + 1 - low)) h ∙ any-never (numbers_from low (high + 1 - low))))))
 
 pub not_constant : (w : World) (list : ℕ) (p : Place) → ((c : Name) → same_place p (named (constant c)) ≡ false) → is_among (places_in w (Enum list)) p ≡ false
 not_constant w list p h =
-    any_append (same_place p) (map named (map constant (get_or w.classes.enums list []))) []
+    list_any-append (same_place p) (map named (map constant (get_or w.classes.enums list []))) []
     ∙ (or_false _
-    ∙ (any_map (same_place p) named (map constant (get_or w.classes.enums list []))
-    ∙ (any_map (λ v. same_place p (named v)) constant (get_or w.classes.enums list [])
-    ∙ (any_ext (λ c. same_place p (named (constant c))) (λ c. false) (get_or w.classes.enums list []) h ∙ any_never (get_or w.classes.enums list [])))))
+    ∙ (any-map (same_place p) named (map constant (get_or w.classes.enums list []))
+    ∙ (any-map (λ v. same_place p (named v)) constant (get_or w.classes.enums list [])
+    ∙ (any-agree (λ c. same_place p (named (constant c))) (λ c. false) (get_or w.classes.enums list []) h ∙ any-never (get_or w.classes.enums list [])))))
 
 pub not_of_set : (design : Design) (types : List AbsType) (w : World) (set : ℕ) (p : Place) → IsWorld design types w → ((o : Option SetInfo) (k : ℕ) → same_place p (named (of_set o k)) ≡ false) → ((o : Option SetInfo) (k : ℕ) → same_place p (rest (of_set o k)) ≡ false) → is_among (places_in w (Set set)) p ≡ false
 not_of_set design types w set p h e f =
-    any_append (same_place p) (named_in w (Set set)) (rests_in w (Set set))
-    ∙ (ap (λ b. b || is_among (rests_in w (Set set)) p) (ap (list_any (same_place p)) (sym (classes_named design types w set h)) ∙ (any_spots design p (spot_of (sort.Class set)) ns ∙ (any_ext (λ k. same_place p (place_by design (spot.Class set k))) (λ k. false) ns (λ k. e (slice_get design.sets set) k) ∙ any_never ns)))
-    ∙ (ap (list_any (same_place p)) (sym (rests_listed design types w set h)) ∙ (any_spots design p (spot_of (sort.Rest set)) gs ∙ (any_ext (λ k. same_place p (place_by design (spot.Rest set k))) (λ k. false) gs (λ k. f (slice_get design.sets set) k) ∙ any_never gs))))
+    list_any-append (same_place p) (named_in w (Set set)) (rests_in w (Set set))
+    ∙ (ap (λ b. b || is_among (rests_in w (Set set)) p) (ap (list_any (same_place p)) (sym (classes_named design types w set h)) ∙ (any_spots design p (spot_of (sort.Class set)) ns ∙ (any-agree (λ k. same_place p (place_by design (spot.Class set k))) (λ k. false) ns (λ k. e (slice_get design.sets set) k) ∙ any-never ns)))
+    ∙ (ap (list_any (same_place p)) (sym (rests_listed design types w set h)) ∙ (any_spots design p (spot_of (sort.Rest set)) gs ∙ (any-agree (λ k. same_place p (place_by design (spot.Rest set k))) (λ k. false) gs (λ k. f (slice_get design.sets set) k) ∙ any-never gs))))
   where
     ns : List ℕ
     ns = numbers_from 0 (classes_of (slice_get types set))

@@ -5,13 +5,9 @@ use Rattle.std.specs.List.{flat_map, list_any}
 use Rattle.smv_core.specs.declared.fault.Fault.{Fault}
 use Rattle.smv_mentions.specs.FirstFault.{first_of}
 use Rattle.smv_first_fault.specs.Firsts.{earlier_of}
-use Rattle.smv_first_fault.proofs.FirstLaws.{earlier-assoc, first-both}
+use Rattle.smv_first_fault.proofs.FirstLaws.{earlier-assoc, first-both, earlier-none}
 use Rattle.law_designs.specs.SetOperands.{Operand, is_of_set, is_number, number_fault, met}
 use Rattle.smv_symmetric.specs.Plain.{first_among, fault_if_number}
-
-pub earlier-none : (f : Option Fault) → earlier_of f None ≡ f
-earlier-none None = refl
-earlier-none (Some f) = refl
 
 -- the first of the faults of several things is the first among those of each
 pub first-each : {X : Type 0} (f : X → List Fault) (xs : List X) → first_of (flat_map f xs) ≡ first_among (map (λ x. first_of (f x)) xs)

@@ -100,7 +100,7 @@ fn members_of(set: &FlatExpr) -> &[FlatMember]
 /// The first fault of set types in an expression inside these variables.
 #[cycle(expressions)]
 #[tactic(auto, using(crate::proofs::ExpressionEquations::equations))]
-pub fn fault_in(
+pub(crate) fn fault_in(
     alloc: Global,
     flat_text: &FlatText,
     vars: &[Simple],

@@ -63,7 +63,7 @@ fn variable_kind(vars: &[Simple], var: u16) -> Kind
 /// The kind of an expression inside these variables.
 #[cycle(kinds)]
 #[tactic(auto, using(crate::proofs::KindEquations::equations))]
-pub fn kind_in(flat_text: &FlatText, vars: &[Simple], x: &FlatExpr) -> Kind
+pub(crate) fn kind_in(flat_text: &FlatText, vars: &[Simple], x: &FlatExpr) -> Kind
     ensures { held result ≡ plain.kind_in flat_text.now (map spec.kind_of vars.now) x.now }
 {
     match x {

@@ -78,7 +78,7 @@ fn is_loop(x: &FlatExpr) -> bool
 
 /// An expression as an operand, inside these variables.
 #[tactic(auto, unfolding(crate::specs::Plain::place))]
-pub fn operand_of(flat_text: &FlatText, vars: &[Simple], x: &FlatExpr) -> Operand
+pub(crate) fn operand_of(flat_text: &FlatText, vars: &[Simple], x: &FlatExpr) -> Operand
     ensures { as_met result ≡ plain.operand flat_text.now (map kind_of vars.now) x.now }
 {
     Operand {
@@ -228,7 +228,7 @@ fn wanted_each(
 }
 
 /// The first fault of the indexes of an element of a family.
-pub fn wanted_at(
+pub(crate) fn wanted_at(
     flat_text: &FlatText,
     family: u16,
     vars: &[Simple],
@@ -243,7 +243,7 @@ pub fn wanted_at(
 }
 
 /// The fault of a value of an element of a family.
-pub fn wanted_of(flat_text: &FlatText, family: u16, x: Operand) -> Option<Fault>
+pub(crate) fn wanted_of(flat_text: &FlatText, family: u16, x: Operand) -> Option<Fault>
     ensures { result ≡ first_of (spec.wanted_of (slice_get flat_text.now.families family) (as_met x)) }
 {
     match flat_text.families.as_slice().get(usize::from(family)) {
@@ -287,7 +287,7 @@ fn lacks_order(sets: &[SetInfo], x: Operand) -> bool
 }
 
 /// The fault of a value of a scalarset beside an order.
-pub fn disordered(flat_text: &FlatText, op: Op, x: Operand) -> Option<Fault>
+pub(crate) fn disordered(flat_text: &FlatText, op: Op, x: Operand) -> Option<Fault>
     ensures { result ≡ first_of (spec.disordered flat_text.now.sets op (as_met x)) }
 {
     if is_order(op) && lacks_order(flat_text.sets.as_slice(), x) {

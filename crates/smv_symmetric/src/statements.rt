@@ -164,7 +164,7 @@ fn item_fault(
 
 /// The first fault of some items.
 #[tactic(auto, using(crate::proofs::TurnLaws::in_turn))]
-pub fn items_fault(
+pub(crate) fn items_fault(
     alloc: Global,
     flat_text: &FlatText,
     items: &[FlatItem],

@@ -20,7 +20,7 @@ use smv_spots::spots::Spot;
 use std::alloc::{AllocError, Global};
 
 /// Two outcomes are the same.
-pub fn is_same_outcome(problem: &Problem, u: Option<Spot>, v: Option<Spot>) -> bool
+fn is_same_outcome(problem: &Problem, u: Option<Spot>, v: Option<Spot>) -> bool
     ensures { (w : World) → IsWorldOf problem.entry.now w → result ≡ same_outcome (outcome_in w.classes u) (outcome_in w.classes v) }
 {
     match u {

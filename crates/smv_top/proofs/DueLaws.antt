@@ -1,5 +1,5 @@
 -- What is due by what was found.
-use Rattle.std.proofs.Common.{◌≡◌, ◌≤◌, ◌<◌, ◌∙◌, ◌++◌, ◌∷◌, [], ℕ, List, length, true, refl, ap, sym, subst, codes, Result, Ok, Err, Option, Some, None, IfOk}
+use Rattle.std.proofs.Common.{◌≡◌, ◌≤◌, ◌<◌, ◌∙◌, ◌++◌, ◌∷◌, [], ℕ, List, length, true, refl, ap, sym, subst, codes, Err, Option, Some, None}
 use Rattle.smv_core.specs.declared.fault.Fault.{Fault}
 use Rattle.smv_core.specs.declared.fault.Refusal.{Refusal}
 use Rattle.smv_core.specs.declared.fault.Refusal.TheVariants as refusal
@@ -26,7 +26,7 @@ pub due_fault : (command : Command) (text : List ℕ) (number at : ℕ) (due : S
 due_fault command text number at due answer is e f = rw e (rw f (refused number at is))
 
 pub due_tree : (text : List ℕ) (tree : Text) (due : Status) (answer : List ℕ) → length text ≤ limit → SpellsText text tree → due ≡ status.Printed → answer ≡ canonical tree → IsDue Print text due answer
-due_tree text tree due answer within is e f = rw e (rw f (printed tree (record { within = within; tokens = is.0; are_tokens = is.1; spelled = is.2 })))
+due_tree text tree due answer within is e f = rw e (rw f (printed tree (record { within = within; spelled = is })))
 
 pub due_length : (command : Command) (text : List ℕ) (due : Status) (answer : List ℕ) → limit < length text → due ≡ status.Refused → answer ≡ fault_text text 31 0 → IsDue command text due answer
 due_length command text due answer long e f = due_fault command text 31 0 due answer (too_long long) e f
@@ -40,11 +40,6 @@ due_name text name budgets due answer none e f = due_fault (Only name budgets) t
 -- the fault that a call answers
 pub fault_of : (X : Type 0) (r : Refusal) (f : Fault) (P : Fault → Type 0) → r ≡ refusal.Fault f → IfFault {X = X} (Err r) P → P f
 fault_of X r f P is bad = subst (λ (z : Refusal). IfFault {X = X} (Err z) P) is bad
-
--- two facts of an answer, where there is one, give a third
-pub both_ok : {X E : Type 0} (r : Result X E) (P Q R : X → Type 0) → ((x : X) → P x → Q x → R x) → IfOk r P → IfOk r Q → IfOk r R
-both_ok (Ok x) P Q R so p q = so x p q
-both_ok (Err e) P Q R so p q = tt
 
 -- words that are no command
 pub due_usage : (command : Option Command) (text answer : List ℕ) → command ≡ None → answer ≡ usage_line → IsDueTo command text status.Usage answer

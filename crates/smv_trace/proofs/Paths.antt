@@ -7,6 +7,7 @@ use Rattle.std.proofs.lemmas.List.{length-append, get_or_append_left}
 use Rattle.std.proofs.lemmas.List.Elements.{All-weaker}
 use Rattle.std.proofs.Math.Seq.{get_or-append_seam}
 use Rattle.std.proofs.Math.ListN.{get_or-map}
+use Rattle.law_lists.proofs.Lists.{length_map}
 use Rattle.bdd_store.specs.declared.Ref.{Ref}
 use Rattle.bdd_store.specs.Diagram.{Diagram, table}
 use Rattle.bdd_ops.specs.Functions.{Function}
@@ -17,6 +18,7 @@ use Rattle.smv_search.specs.Runs.{rings_to}
 use Rattle.law_obligations.specs.May.{AbsState}
 use Rattle.law_obligations.specs.CasePaths.{IsShortest, states_from}
 use Rattle.law_obligations.specs.Readings.{PosedCase, reading, state_bits}
+use Rattle.law_obligations.proofs.Listed.{shifted}
 use Rattle.law_reports.specs.CaseLists.{case_lists}
 use Rattle.law_reports.specs.ListLaws.{readings}
 use Rattle.law_reports.proofs.Paths.{least_is_least}
@@ -25,10 +27,6 @@ use Rattle.smv_problem.specs.WellFormed.{IsWellFormed, OfCases}
 use Rattle.smv_problem.specs.declared.problem.Problem.{Problem}
 use Rattle.smv_problem.specs.declared.problem.AbsState.{AbsState as StateData}
 use Rattle.smv_ring_paths.specs.BitPaths.{AreRings, state_of, states_of, by_time, HasBits, IsBitPath}
-
-length_map : {X Y : Type 0} (f : X → Y) (xs : List X) → length (map f xs) ≡ length xs
-length_map f [] = refl
-length_map f (x ∷ xs) = ap (λ n. suc n) (length_map f xs)
 
 -- ---- the rings of a search, one by one
 
@@ -59,10 +57,6 @@ module _ (d : Diagram) (l : Lists) (rings : List Ref) (depth : ℕ) (given : map
       sym (get_or-map (table d) rings i none) ∙ ap (λ (fs : List Function). get_or fs i (table d none)) given ∙ rings_at l depth i (table d none) (omega arith)
 
 -- ---- a path is read state by state
-
-shifted : {X : Type 0} (f : ℕ → X) (i n : ℕ) → states_from f (suc i) n ≡ states_from (λ j. f (suc j)) i n
-shifted f i zero = refl
-shifted f i (suc n) = ap (λ xs. f (suc i) ∷ xs) (shifted f (suc i) n)
 
 read_all : {X : Type 0} (f : State → X) (xs : List State) (n : ℕ) → length xs ≡ suc n → states_from (λ i. f (by_time xs i)) 0 n ≡ map f xs
 read_all f [] n e = absurd (omega arith)

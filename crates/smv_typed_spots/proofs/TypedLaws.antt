@@ -4,6 +4,9 @@ use Rattle.std.specs.Prelude.{unwrap_or}
 use Rattle.std.specs.List.{slice_get}
 use Rattle.std.specs.Str.{bytes_eq}
 use Rattle.std.proofs.lemmas.Slice.Eq.{bytes_eq-Decides}
+use Rattle.std.proofs.lemmas.Bool.{cases_Bool}
+use Rattle.law_lists.proofs.Options.{some_is}
+use Rattle.law_lists.proofs.Lists.{nothing_behind}
 use Rattle.smv_core.specs.Values.{Name, constant, scalar, ordinal}
 use Rattle.smv_core.specs.FlatMeaning.{Numbered}
 use Rattle.smv_core.specs.declared.flat.Simple.{Simple}
@@ -16,7 +19,6 @@ use Rattle.law_obligations.specs.Places.{Place, named, rest, World, rests_in, pl
 use Rattle.law_obligations.specs.Pictures.{AreNamedOf}
 use Rattle.law_obligations.specs.Covers.{IsIndexType, AreApart}
 use Rattle.law_obligations.proofs.Members.{Has-left, Has-uncons}
-use Rattle.law_obligations.proofs.Tests.{true_or_false}
 use Rattle.law_obligations.proofs.OneOfEach.{get_Has}
 use Rattle.law_obligations.specs.Outlines.{place_of}
 use Rattle.law_designs.specs.FlatKinds.{Kind, enumeration, set_type, kind_of}
@@ -29,9 +31,6 @@ use Rattle.smv_problem.specs.WellFormed.{AreOf}
 use Rattle.law_problems.specs.Values.{value_in, IsPlaceOf, a_number, a_constant, a_class, a_rest}
 use Rattle.law_problems.proofs.Alike.{have_kinds}
 use Rattle.smv_typed_spots.specs.TypedSpots.{class_spot, class_spots, value_spot}
-
-inner : {X : Type 0} {x y : X} → Some x ≡ Some y → x ≡ y
-inner e = cc
 
 -- ---- constants by their places
 
@@ -68,10 +67,10 @@ there (x ∷ names) name k e = at (bytes_eq name x) refl (place_of (bytes_eq nam
   where
     step : (o : Option ℕ) → option_map (λ k. suc k) o ≡ Some k → ((j : ℕ) → o ≡ Some j → get_or names j [] ≡ name) → get_or (x ∷ names) k [] ≡ name
     step None e goes = absurd (cc)
-    step (Some j) e goes = subst (λ k. get_or (x ∷ names) k [] ≡ name) (inner e) (goes j refl)
+    step (Some j) e goes = subst (λ k. get_or (x ∷ names) k [] ≡ name) (some_is e) (goes j refl)
 
     at : (b : Bool) → bytes_eq name x ≡ b → (o : Option ℕ) → (if b then Some 0 else option_map (λ k. suc k) o) ≡ Some k → ((j : ℕ) → o ≡ Some j → get_or names j [] ≡ name) → get_or (x ∷ names) k [] ≡ name
-    at true i o e goes = subst (λ k. get_or (x ∷ names) k [] ≡ name) (inner e) (sym ((bytes_eq-Decides name x).0 i))
+    at true i o e goes = subst (λ k. get_or (x ∷ names) k [] ≡ name) (some_is e) (sym ((bytes_eq-Decides name x).0 i))
     at false i o e goes = step o e goes
 
 pub constant_there : (names : List Name) (name : Name) → Has names name → get_or names (unwrap_or (place_of (bytes_eq name) names) 0) [] ≡ name
@@ -106,12 +105,12 @@ module _ (n : Numbered) (name : Name) where
 
 set_there : (sets : List SetInfo) → AreApart sets → (set : ℕ) (info : SetInfo) → slice_get sets set ≡ Some info → place_of (λ (other : SetInfo). bytes_eq other.name info.name) sets ≡ Some set
 set_there [] apart set info e = absurd (cc)
-set_there (x ∷ sets) apart zero info e = ap (λ (b : Bool). if b then Some 0 else option_map (λ k. suc k) (place_of (λ (other : SetInfo). bytes_eq other.name info.name) sets)) (same (inner e))
+set_there (x ∷ sets) apart zero info e = ap (λ (b : Bool). if b then Some 0 else option_map (λ k. suc k) (place_of (λ (other : SetInfo). bytes_eq other.name info.name) sets)) (same (some_is e))
   where
     same : x ≡ info → bytes_eq x.name info.name ≡ true
     same e = (bytes_eq-Decides x.name info.name).1 (ap (λ (i : SetInfo). i.name) e)
 set_there (x ∷ sets) apart (suc set) info e =
-    let other : bytes_eq x.name info.name ≡ false = elim (true_or_false (bytes_eq x.name info.name)) [
+    let other : bytes_eq x.name info.name ≡ false = elim (cases_Bool (bytes_eq x.name info.name)) [
       | inl t ↦ absurd (apart.0 info (get_Has sets set info e) ((bytes_eq-Decides x.name info.name).0 t))
       | inr f ↦ f
     ] in
@@ -262,13 +261,9 @@ spots_placed w apart (t ∷ types) (p ∷ ps) h =
 
 -- ---- indexes one after the other
 
-append_nothing : {X : Type 0} (xs : List X) → xs ≡ xs ++ []
-append_nothing [] = refl
-append_nothing (x ∷ xs) = ap (λ ys. x ∷ ys) (append_nothing xs)
-
 -- no more, where the types or the classes are at an end
 pub spots_end : (done all : List Spot) (types : List Simple) (classes : List Class) → (types ≡ []) ⊎ (classes ≡ []) → done ++ class_spots types classes ≡ all → done ≡ all
-spots_end done all types classes end e = append_nothing done ∙ (ap (λ more. done ++ more) (sym (none types classes end)) ∙ e)
+spots_end done all types classes end e = nothing_behind done ∙ (ap (λ more. done ++ more) (sym (none types classes end)) ∙ e)
   where
     none : (types : List Simple) (classes : List Class) → (types ≡ []) ⊎ (classes ≡ []) → class_spots types classes ≡ []
     none [] classes end = refl

@@ -6,4 +6,4 @@
 
 pub mod spots;
 
-pub use spots::{index_spots, spot_of_class, spot_of_value};
+pub use spots::{index_spots, spot_of_value};

@@ -21,7 +21,7 @@ fn number_of(over: Simple) -> u16
 }
 
 /// An index of this type, as a spot.
-pub fn spot_of_class(over: Simple, class: Class) -> Spot
+pub(crate) fn spot_of_class(over: Simple, class: Class) -> Spot
     ensures { result ≡ spec.class_spot over class }
 {
     match class {

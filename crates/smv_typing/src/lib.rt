@@ -15,7 +15,7 @@ mod weights;
 
 use crate::depth::is_too_deep;
 use crate::nodes::check_nodes;
-use law_sound_texts::kinds_after_flattening::flattened_texts_are_kinded;
+use law_flat_kinds::flattened_texts_are_kinded;
 use smv_core::Refusal;
 use smv_core::flat::FlatText;
 use smv_core::tree::Text;

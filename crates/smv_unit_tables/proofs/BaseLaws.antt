@@ -1,34 +1,18 @@
 -- Base definitions, from one definition to the next.
-use Rattle.std.proofs.Common.{◌≡◌, ℕ, zero, suc, ◌+◌, ◌<◌, ◌≤◌, ◌≢◌, List, [], ◌∷◌, length, drop, get_or, set, replicate, Bool, true, false, cond, ◌&&◌, ◌||◌, refl, ap, sym, subst, ◌∙◌, ◌⊎◌, inl, inr, Option, Some, None, filter, is_none, nat_eq, arith, add-one, drop-cons}
+use Rattle.std.proofs.Common.{◌≡◌, ℕ, zero, suc, ◌+◌, ◌<◌, ◌≢◌, List, [], ◌∷◌, length, drop, get_or, set, replicate, Bool, true, false, cond, ◌&&◌, ◌||◌, refl, ap, sym, subst, ◌∙◌, ◌⊎◌, inl, inr, Option, Some, None, filter, is_none, arith, add-one, drop-cons}
 use Rattle.std.specs.List.{slice_get}
 use Rattle.std.specs.Prelude.{slice_index_or}
 use Rattle.std.proofs.lemmas.List.{get_or-set_other, get_or-set_same, length-set, length-replicate}
 use Rattle.std.proofs.lemmas.Bool.{cases_eq}
-use Rattle.std.proofs.lemmas.Bool.Decides.{nat_tests}
 use Rattle.std.proofs.lemmas.Grind.{common_steps}
+use Rattle.std.proofs.lemmas.Option.{slice_get_within, slice_get_past}
+use Rattle.law_lists.proofs.Numbers.{nat_eq-other}
+use Rattle.law_lists.proofs.Places.{get_read}
 use Rattle.smv_core.specs.declared.flat.Design.{Design}
 use Rattle.smv_core.specs.declared.flat.Family.{Family}
 use Rattle.smv_core.specs.declared.flat.Def.{Def}
 use Rattle.law_obligations.specs.Outlines.{earlier, earliest, may_be_base, base_of}
 use Rattle.smv_unit_tables.specs.Bases.{number_in, AreBases, AreBasesFrom}
-
-apart : (m n : ℕ) → n ≢ m → nat_eq m n ≡ false
-apart m n h = grind (arith, nat_tests)
-
-get_within : {X : Type 0} (xs : List X) (k : ℕ) (x : X) → slice_get xs k ≡ Some x → k < length xs
-get_within [] k x e = absurd (cc (e))
-get_within (y ∷ xs) zero x e = omega arith
-get_within (y ∷ xs) (suc k) x e = omega (arith, get_within xs k x e)
-
-get_at : {X : Type 0} (xs : List X) (k : ℕ) (x : X) → k < length xs → x ≡ get_or xs k x → slice_get xs k ≡ Some x
-get_at [] k x h e = absurd (omega arith)
-get_at (y ∷ xs) zero x h e = ap Some (sym e)
-get_at (y ∷ xs) (suc k) x h e = get_at xs k x (omega arith) e
-
-get_none : {X : Type 0} (xs : List X) (k : ℕ) → length xs ≤ k → slice_get xs k ≡ None
-get_none [] k h = refl
-get_none (x ∷ xs) zero h = absurd (omega arith)
-get_none (x ∷ xs) (suc k) h = get_none xs k (omega arith)
 
 any_default : (xs : List ℕ) (k a b : ℕ) → k < length xs → get_or xs k a ≡ get_or xs k b
 any_default [] k a b h = absurd (omega arith)
@@ -45,7 +29,7 @@ module _ (d : Design) where
 
   not_other : (family : ℕ) (o : Option Family) (def : Def) → family ≢ def.family → may_be_base d family o def ≡ false
   not_other family None def n = refl
-  not_other family (Some f) def n = ap (λ b. b && (f.is_abstract || is_none def.layer)) (apart def.family family n)
+  not_other family (Some f) def n = ap (λ b. b && (f.is_abstract || is_none def.layer)) (nat_eq-other def.family family n)
 
   -- what cannot be the base definition of it changes nothing
   skipped : (family : ℕ) (def : Def) (defs : List Def) → fits family def ≡ false → among family (def ∷ defs) ≡ among family defs
@@ -56,7 +40,7 @@ module _ (d : Design) where
 
   within_families : (def : Def) (o : Option Family) → slice_get d.families def.family ≡ o → may_be_base d def.family o def ≡ true → def.family < length d.families
   within_families def None is e = absurd (cc (e))
-  within_families def (Some f) is e = get_within d.families def.family f is
+  within_families def (Some f) is e = slice_get_within d.families def.family f is
 
   pub base_within : (def : Def) → fits def.family def ≡ true → def.family < length d.families
   base_within def e = within_families def (slice_get d.families def.family) refl e
@@ -74,7 +58,7 @@ module _ (d : Design) where
         within = let l = base_within def may in let r = known.room in omega (arith, l, r)
 
         taking : slice_get d.defs number ≡ Some (earlier def (slice_get d.defs other))
-        taking = subst (λ l. (x : Def) → slice_get l place ≡ Some x → slice_get l number ≡ Some (earlier x (slice_get l other))) same of def (get_at d.defs place def below is)
+        taking = subst (λ l. (x : Def) → slice_get l place ≡ Some x → slice_get l number ≡ Some (earlier x (slice_get l other))) same of def (get_read d.defs place def below is)
 
         there : slice_get d.defs other ≡ among def.family (drop (place + 1) d.defs)
         there = ap (slice_get d.defs) (read ∙ any_default old def.family other (length d.defs) within) ∙ known.each def.family
@@ -110,7 +94,7 @@ module _ (d : Design) where
     each = λ family.
         ap (λ l. slice_get d.defs (get_or l family (length d.defs))) e
         ∙ ap (slice_get d.defs) (alike (length d.families) family (length d.defs))
-        ∙ get_none d.defs (length d.defs) (omega arith)
+        ∙ slice_get_past d.defs (length d.defs) (omega arith)
         ∙ sym (ap (among family) (drop_all d.defs));
   })
 

@@ -1,10 +1,10 @@
 -- Units, noted one behind another.
 use Rattle.std.proofs.Common.{◌≡◌, ℕ, suc, ◌+◌, ◌<◌, List, [], ◌∷◌, ◌++◌, length, take, get_or, Bool, true, false, cond, if◌then◌else◌, refl, ap, sym, ◌∙◌, Option, Some, None, option_map, ◌&&◌, nat_eq, arith, add-one}
-use Rattle.std.specs.Prelude.{is_some}
 use Rattle.std.specs.HashMap.{HashMap}
-use Rattle.std.proofs.lemmas.Bool.Decides.{nat_tests}
 use Rattle.std.proofs.lemmas.List.{length-take}
 use Rattle.std.proofs.Math.Seq.{take-suc}
+use Rattle.law_lists.proofs.Numbers.{nat_eq-is}
+use Rattle.law_lists.proofs.Booleans.{left_of, right_of}
 use Rattle.smv_core.specs.declared.flat.Design.{Design}
 use Rattle.smv_core.specs.declared.flat.Unit.{Unit}
 use Rattle.law_obligations.specs.Outlines.{place_of, is_map, is_claim}
@@ -47,22 +47,6 @@ pub not_it : (o : Option ℕ) (n : ℕ) → o ≡ found_or o false n
 not_it None n = refl
 not_it (Some k) n = refl
 
--- no place was found
-pub none_from_test : (o : Option ℕ) (b : Bool) → b ≡ is_some o → b ≡ false → o ≡ None
-none_from_test None b e n = refl
-none_from_test (Some k) b e n = cc
-
-same : (m n : ℕ) → nat_eq m n ≡ true → m ≡ n
-same m n h = grind (arith, nat_tests)
-
-both_left : (a b : Bool) → (a && b) ≡ true → a ≡ true
-both_left true b e = refl
-both_left false b e = absurd (cc (e))
-
-both_right : (a b : Bool) → (a && b) ≡ true → b ≡ true
-both_right true b e = e
-both_right false b e = absurd (cc (e))
-
 -- a map that has no place gets it
 pub map_new : {S : Type 0} (old new : HashMap (ℕ × ℕ) ℕ S) (a b n : ℕ) → noted_map old a b ≡ None → ((family layer : ℕ) → noted_map new family layer ≡ cond (nat_eq a family && nat_eq b layer) (Some n) (noted_map old family layer)) →
     (family layer : ℕ) → noted_map new family layer ≡ found_or (noted_map old family layer) (same_pair (a, b) (family, layer)) n
@@ -70,5 +54,5 @@ map_new old new a b n absent updated family layer = updated family layer ∙ at 
   where
     at : (t : Bool) → (nat_eq a family && nat_eq b layer) ≡ t → cond t (Some n) (noted_map old family layer) ≡ found_or (noted_map old family layer) t n
     at true e = sym (ap (λ o. found_or o true n)
-        (ap (λ f. noted_map old f layer) (sym (same a family (both_left (nat_eq a family) (nat_eq b layer) e))) ∙ ap (noted_map old a) (sym (same b layer (both_right (nat_eq a family) (nat_eq b layer) e))) ∙ absent))
+        (ap (λ f. noted_map old f layer) (sym (nat_eq-is a family (left_of (nat_eq a family) (nat_eq b layer) e))) ∙ ap (noted_map old a) (sym (nat_eq-is b layer (right_of (nat_eq a family) (nat_eq b layer) e))) ∙ absent))
     at false e = not_it (noted_map old family layer) n

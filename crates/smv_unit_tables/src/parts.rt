@@ -10,7 +10,11 @@ use std::alloc::AllocError;
 /// Puts the families that a part of a definition reads behind others: what its assignments read, and the conditions around them. Whether it has an assignment.
 #[cycle(parts)]
 #[tactic(auto, using(crate::proofs::ReadLaws::listing, crate::proofs::PartLaws::equations))]
-pub fn add_part(out: &mut Vec<usize>, families: &[Family], x: &DefBody) -> Result<bool, AllocError>
+pub(crate) fn add_part(
+    out: &mut Vec<usize>,
+    families: &[Family],
+    x: &DefBody,
+) -> Result<bool, AllocError>
     ensures some { IfOk result (λ some. some ≡ has_assignment x.now) }
     ensures reads { IfOk result (λ some. out.new.items ≡ out.old.items ++ part_reads families.now x.now) }
 {

@@ -1,9 +1,10 @@
 -- What a search marks is the same-time set.
-use Rattle.std.proofs.Common.{◌≡◌, ℕ, zero, suc, ◌<◌, ◌≤◌, List, [], ◌∷◌, map, length, get_or, replicate, Bool, false, ap, sym, subst, ◌∙◌, ◌⊎◌, inl, inr, arith}
+use Rattle.std.proofs.Common.{◌≡◌, ℕ, zero, suc, ◌<◌, ◌≤◌, List, [], ◌∷◌, map, length, get_or, replicate, Bool, false, ap, sym, subst, ◌∙◌, inl, inr, arith}
 use Rattle.std.specs.List.{Contains}
 use Rattle.std.specs.Prelude.{slice_index_or}
 use Rattle.std.proofs.lemmas.List.{length-replicate}
-use Rattle.std.proofs.lemmas.Option.{slice_get-get_or}
+use Rattle.std.proofs.lemmas.Option.{slice_get-get_or, slice_get_past}
+use Rattle.std.proofs.lemmas.Bool.{cases_lt}
 use Rattle.smv_core.specs.declared.flat.Family.{Family}
 use Rattle.smv_core.specs.declared.flat.Pick.{Pick}
 use Rattle.law_obligations.specs.Sets.{Has}
@@ -17,16 +18,12 @@ use Rattle.law_use_times.proofs.Lists.{Contains-Has, Has-Contains}
 use Rattle.law_use_times.proofs.SameTimes.{first_within, family_node, once_within, marks_set}
 use Rattle.smv_unit_tables.specs.Reads.{def_reads}
 use Rattle.smv_use_times.specs.Tables.{AreChosen}
-use Rattle.smv_use_times.proofs.ChosenLaws.{get_none}
 use Rattle.smv_use_times.proofs.TableLaws.{def_list}
 
 seen_within : (marks : List Bool) (x : ℕ) → IsSeen marks x → x < length marks
 seen_within [] x e = absurd (cc (e))
 seen_within (b ∷ marks) zero e = omega arith
 seen_within (b ∷ marks) (suc x) e = omega (arith, seen_within marks x e)
-
-before_or_past : (m n : ℕ) → (m < n) ⊎ (n ≤ m)
-before_or_past m n = grind arith
 
 -- what is read at once by the definition that is chosen for a family, in the tables
 module _ (o : Outline) (entry : Entry) (table : List (List ℕ)) (next : List ℕ)
@@ -44,13 +41,13 @@ module _ (o : Outline) (entry : Entry) (table : List (List ℕ)) (next : List �
       ∙ ap (families_at_once fs) (choice.each x h)
 
   past : (x : ℕ) → nodes ≤ x → follow table next x ≡ []
-  past x h = ap (list_at table) (get_none next x (let r = choice.room in omega (arith, h, r)))
+  past x h = ap (list_at table) (slice_get_past next x (let r = choice.room in omega (arith, h, r)))
 
   none_in : {P : Type 0} (x : ℕ) → Contains [] x → P
   none_in x c = let l = c.1 in absurd (omega (arith, l))
 
   followed : (x y : ℕ) → Contains (follow table next x) y → x < nodes
-  followed x y c = elim (before_or_past x nodes) [ inl l ↦ l | inr p ↦ none_in y (subst (λ l. Contains l y) (past x p) c) ]
+  followed x y c = elim (cases_lt x nodes) [ inl l ↦ l | inr p ↦ none_in y (subst (λ l. Contains l y) (past x p) c) ]
 
   pub follow_within : (x y : ℕ) → Contains (follow table next x) y → y < nodes
   follow_within x y c = family_node o (unit_in o.design entry.unit) y (once_within fs (chosen o entry.choice.picks x) y (Contains-Has _ y (subst (λ l. Contains l y) (follows x (followed x y c)) c)))

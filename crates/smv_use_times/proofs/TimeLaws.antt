@@ -2,14 +2,14 @@
 use Rattle.std.proofs.Common.{◌≡◌, ℕ, zero, suc, ◌+◌, ◌<◌, ◌≤◌, List, [], ◌∷◌, ◌++◌, map, drop, length, get_or, Bool, true, false, not, ◌&&◌, ◌||◌, if◌then◌else◌, refl, ap, sym, subst, ◌∙◌, Some, nat_eq, nat_lt, arith, add-one, drop-cons}
 use Rattle.std.specs.List.{flat_map, list_any}
 use Rattle.std.proofs.lemmas.List.{append-nil, append_assoc, drop_all}
-use Rattle.std.proofs.lemmas.Bool.Decides.{nat_tests}
+use Rattle.law_lists.proofs.Numbers.{nat_eq-is, nat_eq-not_turned}
 use Rattle.smv_core.specs.declared.flat.Timing.{Timing}
 use Rattle.smv_core.specs.declared.flat.Timing.TheVariants.{Before}
 use Rattle.smv_core.specs.declared.flat.Timed.{Timed}
 use Rattle.law_obligations.specs.Sets.{Has, first}
 use Rattle.law_obligations.specs.Uses.{reaches_through}
 use Rattle.law_obligations.proofs.Members.{Has-left, Has-right, any-found}
-use Rattle.law_obligations.proofs.Same.{nat_eq-itself, nat_eq-is}
+use Rattle.law_obligations.proofs.Same.{nat_eq-itself}
 use Rattle.law_obligations.specs.Times.{has_edge, time_of, unit_time}
 use Rattle.graph_search.specs.Reverse.{after, IsGraph}
 use Rattle.graph_components.specs.Components.{AreComponents}
@@ -43,12 +43,9 @@ module _ (edges : List (List ℕ)) (u : ℕ) (labels : List ℕ) (is_graph : IsG
 
 -- ---- one leaf
 
-not-same : (m n : ℕ) → nat_eq m n ≡ false → nat_eq n m ≡ false
-not-same m n h = grind (arith, nat_tests)
-
 own-edge : (u v : ℕ) (b : Bool) (rest : List ℕ) → nat_eq v u ≡ b → list_any (nat_eq u) rest ≡ false → list_any (nat_eq u) ((if b then [] else v ∷ []) ++ rest) ≡ false
 own-edge u v true rest e known = known
-own-edge u v false rest e known = ap (λ b. b || list_any (nat_eq u) rest) (not-same v u e) ∙ known
+own-edge u v false rest e known = ap (λ b. b || list_any (nat_eq u) rest) (nat_eq-not_turned v u e) ∙ known
 
 no-own : (u : ℕ) (xs : List Use) → list_any (nat_eq u) (flat_map (edge_of u) xs) ≡ false
 no-own u [] = refl

@@ -2,6 +2,7 @@
 use Rattle.std.proofs.Common.{◌≡◌, ℕ, zero, suc, ◌+◌, ◌<◌, List, [], ◌∷◌, ◌++◌, map, filter, length, drop, get_or, Bool, true, false, cond, not, ◌&&◌, if◌then◌else◌, refl, ap, sym, ◌∙◌, inl, inr, Option, Some, None, is_none, option_to_list, nat_eq, arith, add-one, drop-cons}
 use Rattle.std.specs.List.{flat_map, Contains}
 use Rattle.std.proofs.lemmas.List.{append_assoc, map-append}
+use Rattle.std.proofs.lemmas.Option.{slice_get_within}
 use Rattle.smv_core.specs.declared.flat.Pick.{Pick}
 use Rattle.smv_core.specs.declared.flat.Assumed.{Assumed}
 use Rattle.smv_core.specs.declared.flat.Unit.{Unit}
@@ -12,7 +13,7 @@ use Rattle.smv_core.specs.declared.flat.Timing.{Timing}
 use Rattle.smv_core.specs.declared.flat.Timing.TheVariants.{Now, Before}
 use Rattle.law_obligations.specs.Sets.{Has}
 use Rattle.law_obligations.proofs.Members.{Has-cases, Has-from_map}
-use Rattle.law_obligations.proofs.OneOfEach.{get_past, Has-from_flat_map}
+use Rattle.law_obligations.proofs.OneOfEach.{Has-from_flat_map}
 use Rattle.law_obligations.specs.Outlines.{Entry, Outline, entries_of, is_map, is_claim, claim_unit, unit_in_layer, picked_unit}
 use Rattle.law_obligations.specs.Times.{is_member, is_open_pick, same_time, other_units, open_uses, graph_from, unit_time, pick_time, claim_time, timed}
 use Rattle.law_obligations.proofs.Lookups.{Has-option, Has-from_filter, place_of-is}
@@ -141,10 +142,10 @@ times-all o edges u (entry ∷ entries) = ap (λ t. t ∷ times_from edges (suc 
 module _ (o : Outline) where
   picked-below : (p : Pick) (ol : Option ℕ) (v : ℕ) → unit_in_layer o p.family ol ≡ Some v → v < length o.units
   picked-below p None v e = absurd (cc (e))
-  picked-below p (Some layer) v e = let r = place_of-is (is_map o.design p.family layer) o.units v e in get_past o.units v r.0 r.1
+  picked-below p (Some layer) v e = let r = place_of-is (is_map o.design p.family layer) o.units v e in slice_get_within o.units v r.0 r.1
 
   claim-below : (claim v : ℕ) → claim_unit o claim ≡ Some v → v < length o.units
-  claim-below claim v e = let r = place_of-is (is_claim claim) o.units v e in get_past o.units v r.0 r.1
+  claim-below claim v e = let r = place_of-is (is_claim claim) o.units v e in slice_get_within o.units v r.0 r.1
 
   other-below : (u : ℕ) (units : List (Option ℕ)) → ((ou : Option ℕ) → Has units ou → (v : ℕ) → ou ≡ Some v → v < length o.units) → (v : ℕ) → Has (other_units u units) v → v < length o.units
   other-below u units each v h =

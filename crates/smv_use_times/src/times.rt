@@ -13,7 +13,7 @@ use std::alloc::{AllocError, Global};
 
 /// The times of the uses of each leaf.
 #[tactic(auto, using(smv_unit_tables::proofs::ReadLaws::listing))]
-pub fn all_times(alloc: Global, all: &[LeafUses]) -> Result<Vec<Timed>, AllocError>
+pub(crate) fn all_times(alloc: Global, all: &[LeafUses]) -> Result<Vec<Timed>, AllocError>
     requires { IsGraph (edges_from 0 (map held all.now)) }
     ensures { IfOk result (λ times. times.items ≡ times_from (edges_from 0 (map held all.now)) 0 (map held all.now)) }
 {

@@ -1,6 +1,7 @@
 -- Which assignments concern an element, on definitions that are made of lists and values.
 use Rattle.std.proofs.Common.{◌≡◌, ℕ, List, [], ◌∷◌, map, length, arith, slice_get, Option, Some, None, Bool, true, false, ◌&&◌, ◌||◌, refl, sym, ap, ◌∙◌, if◌then◌else◌}
 use Rattle.std.specs.List.{list_any}
+use Rattle.std.proofs.lemmas.List.Folds.{list_any-append}
 use Rattle.smv_core.specs.Values.{number, scalar, ordinal, same}
 use Rattle.smv_core.specs.Assignments.{Index, fixed}
 use Rattle.smv_core.specs.FlatMeaning.{Numbered, flat_index, indexes_assigned, indexes_assigned_in}
@@ -11,7 +12,6 @@ use Rattle.smv_core.specs.declared.flat.DefBody.{DefBody, Nothing, Assign, If, F
 use Rattle.law_obligations.specs.Places.{Place}
 use Rattle.law_obligations.specs.Demands.{fits_place}
 use Rattle.law_obligations.proofs.Computing.{computing}
-use Rattle.law_obligations.proofs.Anys.{any-append}
 use Rattle.smv_spots.specs.Spots.{of_set, place_in}
 use Rattle.smv_spots.specs.declared.spots.Spot.{Spot}
 use Rattle.smv_spots.specs.declared.spots.Spot.TheVariants.{Class}
@@ -68,7 +68,7 @@ module _ (qs : List Place) where
   parts-row : (k : _) (row : Row_of-DefBody k) → list_any (λ is. all_fit is qs) (indexes_assigned_in row) ≡ list_any (is_concerned qs) (items-the_row-DefBody k row)
   unfolding is_concerned
   parts-row k end_of-DefBody = refl
-  parts-row k (more_of-DefBody part rest) = any-append (λ is. all_fit is qs) (indexes_assigned part) (indexes_assigned_in rest) ∙ ap (λ c. is_concerned qs part || c) (parts-row _ rest)
+  parts-row k (more_of-DefBody part rest) = list_any-append (λ is. all_fit is qs) (indexes_assigned part) (indexes_assigned_in rest) ∙ ap (λ c. is_concerned qs part || c) (parts-row _ rest)
 
   pub concerned-Nothing : is_concerned qs Nothing ≡ false
   unfolding is_concerned
@@ -80,7 +80,7 @@ module _ (qs : List Place) where
 
   pub concerned-If : (cond : FlatExpr) (x y : DefBody) → is_concerned qs (If cond x y) ≡ (is_concerned qs x || is_concerned qs y)
   unfolding is_concerned computing
-  concerned-If cond x y = any-append (λ is. all_fit is qs) (indexes_assigned x) (indexes_assigned y)
+  concerned-If cond x y = list_any-append (λ is. all_fit is qs) (indexes_assigned x) (indexes_assigned y)
 
   pub concerned-First : (parts : List DefBody) → is_concerned qs (First parts) ≡ list_any (is_concerned qs) parts
   unfolding is_concerned

@@ -1,13 +1,11 @@
 -- The first result of several parts.
 use Rattle.std.proofs.Common.{◌≡◌, ℕ, List, [], ◌∷◌, map, length, Bool, sym, ap, ◌∙◌, arith, subst}
-use Rattle.law_obligations.specs.Gist.{Gist, first_gist, first_all}
+use Rattle.law_obligations.specs.Gist.{first_gist, first_all}
+use Rattle.law_obligations.proofs.WalkLaws.{same_gist}
 use Rattle.smv_conditions.specs.declared.gists.Gists.{Gists}
 use Rattle.smv_conditions.specs.Keep.{KeepsConditions}
 use Rattle.smv_conditions.specs.Gists.{AreGistsMade, gist_at}
 use Rattle.smv_walk_parts.specs.Parts.{AllGistsMade}
-
-same_gist : {g h : Gist} → g.nothing ≡ h.nothing → g.something ≡ h.something → g.given ≡ h.given → g ≡ h
-same_gist {g} {h} a b c = ap (λ x. record { nothing = x; something = g.something; given = g.given }) a ∙ (ap (λ x. record { nothing = h.nothing; something = x; given = g.given }) b ∙ ap (λ x. record { nothing = h.nothing; something = h.something; given = x }) c)
 
 module _ {S C : Type 0} (holds : S → C → (ℕ → Bool) → Bool) (a : ℕ → Bool) where
   pub no_first : (s t : S) (z : Gists C) (each : List (Gists C)) → length each ≡ 0 → gist_at holds t a z ≡ first_all [] → gist_at holds t a z ≡ first_all (map (gist_at holds s a) each)

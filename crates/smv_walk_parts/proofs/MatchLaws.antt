@@ -1,5 +1,5 @@
 -- Whether an assignment is to the element, index by index.
-use Rattle.std.proofs.Common.{◌≡◌, ℕ, List, [], ◌∷◌, map, drop, length, slice_get, Option, Bool, refl, sym, ap, ◌∙◌, arith, subst}
+use Rattle.std.proofs.Common.{◌≡◌, ℕ, List, [], ◌∷◌, map, drop, length, slice_get, Option, Bool, refl, sym, ap, ◌∙◌, arith}
 use Rattle.smv_core.specs.Values.{Truth}
 use Rattle.smv_core.specs.FlatMeaning.{Numbered}
 use Rattle.smv_core.specs.Outcome.{is_true}
@@ -15,7 +15,7 @@ use Rattle.smv_conditions.specs.declared.offers.Offer.{Offer}
 use Rattle.smv_conditions.specs.declared.chances.Chances.{Chances}
 use Rattle.smv_conditions.specs.Keep.{KeepsConditions}
 use Rattle.smv_conditions.specs.Chances.{AreMade, mix_at}
-use Rattle.smv_conditions.specs.Offers.{any_offer, with_truth, AreOffersMade}
+use Rattle.smv_conditions.specs.Offers.{any_offer, with_truth}
 use Rattle.smv_conditions.proofs.ChainLaws.{mix_kept}
 use Rattle.smv_cells.specs.Seen.{View, outcomes}
 use Rattle.smv_cells.proofs.SeenLaws.{keeps_trans}
@@ -77,6 +77,3 @@ one_match IsMade holds room s1 s2 s3 s4 v k l indexes behind index e others left
     ∙ (ap (and_mix (mix_by (index_test n (slice_get indexes 0)) (outcomes v a e b))) (mix_kept IsMade holds room a s1 s3 x (keeps_trans IsMade holds room s1 s2 s3 k l) m ∙ (rest a ∙ ap (λ qs. matches_all (map (place_in n) qs) (map (λ e. outcomes v a e b) others)) back))
     ∙ (one_index n indexes (outcomes v a e b) (map (λ e. outcomes v a e b) others)
     ∙ ap (λ l. matches_all (map (place_in n) indexes) (map (λ e. outcomes v a e b) l)) (sym whole))))
-
-pub first_made : {C : Type 0} (IsMade : C → Type 0) (o : Offer C) (os all : List (Offer C)) → all ≡ o ∷ os → AreOffersMade IsMade all → IsMade o.when
-first_made IsMade o os all e h = let k = subst (AreOffersMade IsMade) e h in k.0

@@ -1,6 +1,8 @@
 -- What conditions say of demands.
 use Rattle.std.proofs.Common.{◌≡◌, ℕ, zero, suc, List, [], ◌∷◌, length, map, slice_get, get_or, Option, Some, None, Bool, true, false, not, ◌&&◌, ◌||◌, refl, sym, ap, subst, ◌∙◌, arith}
 use Rattle.std.specs.List.{list_any, list_all}
+use Rattle.std.proofs.lemmas.Option.{get_or_from_slice_get}
+use Rattle.law_lists.proofs.Places.{get-map}
 use Rattle.smv_core.specs.Values.{number, constant, scalar, ordinal, Truth}
 use Rattle.smv_core.specs.FlatMeaning.{Numbered}
 use Rattle.smv_core.specs.Outcome.{is_true}
@@ -154,7 +156,7 @@ module _ {S C : Type 0} (IsMade : S → C → Type 0) (holds : S → C → (ℕ 
 
 -- ---- demands as they are written
 
-written_inner : {element other : Element} {a b c d e f : DefBody} → Defined element a b c ≡ Defined other d e f → (element ≡ other) × (a ≡ d) × (b ≡ e) × (c ≡ f)
+pub written_inner : {element other : Element} {a b c d e f : DefBody} → Defined element a b c ≡ Defined other d e f → (element ≡ other) × (a ≡ d) × (b ≡ e) × (c ≡ f)
 written_inner e = (cc, cc, cc, cc)
 
 claim_inner : {body other : FlatExpr} {bindings others : List Spot} → Holds body bindings ≡ Holds other others → (body ≡ other) × (bindings ≡ others)
@@ -324,16 +326,6 @@ param_there w (o ∷ over) [] h k t e = absurd h
 param_there w (o ∷ over) (p ∷ ps) h zero t e = (p, refl)
 param_there w (o ∷ over) (p ∷ ps) h (suc k) t e = param_there w over ps h.1 k t e
 
-gotten : {X : Type 0} (xs : List X) (k : ℕ) (x d : X) → slice_get xs k ≡ Some x → get_or xs k d ≡ x
-gotten [] k x d e = absurd (cc)
-gotten (y ∷ xs) zero x d e = (cc)
-gotten (y ∷ xs) (suc k) x d e = gotten xs k x d e
-
-got_map : {X Y : Type 0} (f : X → Y) (xs : List X) (k : ℕ) (x : X) → slice_get xs k ≡ Some x → slice_get (map f xs) k ≡ Some (f x)
-got_map f [] k x e = absurd (cc)
-got_map f (y ∷ xs) zero x e = cc
-got_map f (y ∷ xs) (suc k) x e = got_map f xs k x e
-
 not_got : {X Y : Type 0} (f : X → Y) (xs : List X) (k : ℕ) (y : Y) → slice_get xs k ≡ None → slice_get (map f xs) k ≡ Some y → ⊥
 not_got f [] k y e g = cc
 not_got f (x ∷ xs) zero y e g = cc
@@ -346,7 +338,7 @@ module _ {S C : Type 0} (holds : S → C → (ℕ → Bool) → Bool) (problem :
   guard_held s0 s1 s2 b i offers os r e at f are made p now seen_now guard a =
       let n : Numbered = p.world.classes in
       let placed : map (place_in n) b ≡ p.params = ap (map (place_in n)) (e ∙ sym guard.bound) ∙ spots_placed p.world guard.apart guard.over p.params guard.are_of in
-      let param : get_or p.params g.var (named (number 0)) ≡ place_in n i = gotten p.params g.var (place_in n i) (named (number 0)) (ap (λ l. slice_get l g.var) (sym placed) ∙ got_map (place_in n) b g.var i at) in
+      let param : get_or p.params g.var (named (number 0)) ≡ place_in n i = get_or_from_slice_get p.params g.var (place_in n i) (named (number 0)) (ap (λ l. slice_get l g.var) (sym placed) ∙ get-map (place_in n) b g.var i at) in
       made p.world seen_now.world a
       ∙ (ap (any_offer n holds s1 a (guard_test p.world g.over (place_in n i))) f
       ∙ (are (view_of p now) seen_now a (guard_test p.world g.over (place_in n i))

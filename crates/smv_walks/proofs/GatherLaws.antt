@@ -1,7 +1,8 @@
 -- What loops over parts keep.
 use Rattle.std.proofs.Common.{◌≡◌, ℕ, List, [], ◌∷◌, ◌++◌, map, length, Option, Some, None, Bool, refl, sym, ap, ◌∙◌, subst, arith}
 use Rattle.std.specs.Prelude.{IfSome}
-use Rattle.std.proofs.lemmas.List.{append-nil}
+use Rattle.std.proofs.lemmas.List.{append-nil, map_push}
+use Rattle.law_lists.proofs.Lists.{append_again}
 use Rattle.smv_core.specs.declared.flat.DefBody.{DefBody}
 use Rattle.law_obligations.specs.Gist.{Gist, nothing_alone, first_gist, first_all}
 use Rattle.smv_spots.specs.declared.spots.Spot.{Spot}
@@ -30,14 +31,6 @@ pub record Gathering {S C : Type 0} (IsMade : S → C → Type 0) (holds : S →
   pub target_made : IsTargetMade (IsMade s) t
   pub are : Are
 
-map_more : {X Y : Type 0} (f : X → Y) (xs : List X) (x : X) → map f (xs ++ x ∷ []) ≡ map f xs ++ f x ∷ []
-map_more f [] x = refl
-map_more f (y ∷ xs) x = ap (λ l. f y ∷ l) (map_more f xs x)
-
-joined_again : {X : Type 0} (xs ys : List X) (x : X) → (xs ++ x ∷ []) ++ ys ≡ xs ++ x ∷ ys
-joined_again [] ys x = refl
-joined_again (y ∷ xs) ys x = ap (λ zs. y ∷ zs) (joined_again xs ys x)
-
 -- nothing alone doesn't count among several
 skipped : (xs ys : List Gist) → first_all (xs ++ nothing_alone ∷ ys) ≡ first_all (xs ++ ys)
 skipped [] ys = refl
@@ -61,8 +54,8 @@ module _ {S C Y : Type 0} (holds : S → C → (ℕ → Bool) → Bool) (s t : S
   one_more each longer (Some x) y all rest more e d same before here =
       ap first_all
       (ap (λ l. map (gist_at holds t a) l ++ map h more) d
-      ∙ (ap (λ l. l ++ map h more) (map_more (gist_at holds t a) each x)
-      ∙ (joined_again (map (gist_at holds t a) each) (map h more) (gist_at holds t a x)
+      ∙ (ap (λ l. l ++ map h more) (map_push (gist_at holds t a) each x)
+      ∙ (append_again (map (gist_at holds t a) each) (map h more) (gist_at holds t a x)
       ∙ (ap (λ g. map (gist_at holds t a) each ++ g ∷ map h more) here
       ∙ (ap (λ l. l ++ map h (y ∷ more)) same ∙ ap (λ l. map (gist_at holds s a) each ++ map h l) (sym e))))))
       ∙ before

@@ -1,6 +1,7 @@
 -- What the parts of a definition may give an element, as the definitions of demands have it.
 use Rattle.std.proofs.Common.{◌≡◌, ℕ, List, [], ◌∷◌, Option, Some, None, Bool, true, false, not, ◌&&◌, ◌||◌, refl, sym, ap, ◌∙◌, if◌then◌else◌}
 use Rattle.std.specs.List.{list_any, list_all}
+use Rattle.law_lists.proofs.Anys.{any-agree}
 use Rattle.smv_core.specs.declared.flat.Def.{Def}
 use Rattle.smv_core.specs.declared.flat.DefBody.{DefBody}
 use Rattle.law_obligations.specs.Places.{Place, same_place, is_named, is_among}
@@ -9,7 +10,6 @@ use Rattle.law_obligations.specs.Demands.{concerns_place, or_else, may_give, mus
 use Rattle.law_obligations.specs.Results.{results}
 use Rattle.law_obligations.proofs.Same.{same_place-is}
 use Rattle.law_obligations.specs.Gist.{gist_of}
-use Rattle.law_obligations.proofs.Anys.{any-ext}
 use Rattle.smv_targets.specs.Targets.{Aim}
 use Rattle.smv_walks.specs.declared.walks.Way.{Way}
 use Rattle.smv_walks.specs.declared.walks.Way.TheVariants.{May, Must}
@@ -41,7 +41,7 @@ part-gist way z a part b = passes-gist (asked way (z.value a)) b (results z.view
 -- ---- all results and some result
 
 may-gives : (p : Place) (nothing : Place → Bool) (rs : List (Option (Place → Bool))) → list_any (λ r. or_else r nothing p) rs ≡ list_any (passes_or (asked May p) (nothing p)) rs
-may-gives p nothing rs = any-ext (λ r. or_else r nothing p) (passes_or (asked May p) (nothing p)) rs at
+may-gives p nothing rs = any-agree (λ r. or_else r nothing p) (passes_or (asked May p) (nothing p)) rs at
   where
     at : (r : Option (Place → Bool)) → or_else r nothing p ≡ passes_or (asked May p) (nothing p) r
     at None = refl

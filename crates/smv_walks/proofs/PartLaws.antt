@@ -1,7 +1,8 @@
 -- The gists of parts, by those of their own parts.
-use Rattle.std.proofs.Common.{◌≡◌, ℕ, List, [], ◌∷◌, map, Option, Some, None, is_none, Bool, true, false, ◌&&◌, ◌||◌, not, refl, sym, ap, ◌∙◌}
+use Rattle.std.proofs.Common.{◌≡◌, ℕ, List, [], map, Option, Some, None, is_none, Bool, true, false, ◌&&◌, ◌||◌, not, refl, sym, ap, ◌∙◌}
 use Rattle.std.specs.Prelude.{IfSome}
 use Rattle.std.proofs.lemmas.List.{append-nil}
+use Rattle.law_lists.proofs.Lists.{map-map}
 use Rattle.smv_core.specs.declared.flat.Simple.{Simple}
 use Rattle.smv_core.specs.declared.flat.DefBody.{DefBody, Nothing, Assign, If, First, Forall}
 use Rattle.smv_core.specs.declared.flat.FlatExpr.{FlatExpr}
@@ -39,10 +40,6 @@ use Rattle.smv_walks.specs.declared.walks.Way.{Way}
 use Rattle.smv_walks.specs.declared.walks.Way.TheVariants.{May, Must}
 use Rattle.smv_walks.specs.Walks.{asked, allowed, everything_of, right_of, gist_over, gist_in, gist_assigned, IsGistsOf, IsPassedOf, IsTaken, AreGistsOf, AreGistsAlong}
 use Rattle.smv_walks.proofs.ThereLaws.{left-there, results-there, all-there, over-there}
-
-map-map : {X Y Z : Type 0} (f : Y → Z) (g : X → Y) (xs : List X) → map f (map g xs) ≡ map (λ x. f (g x)) xs
-map-map f g [] = refl
-map-map f g (x ∷ xs) = ap (λ l. f (g x) ∷ l) (map-map f g xs)
 
 -- everything passes where the target's condition of it holds
 pub everything_passes : {S C : Type 0} (holds : S → C → (ℕ → Bool) → Bool) (s : S) (t : Target C) (way : Way) (z : Aim) → IsTarget holds s t z → (a : ℕ → Bool) → holds s (everything_of t way) a ≡ asked way (z.value a) (λ p. is_among z.every p)

@@ -12,7 +12,7 @@ use smv_spots::spots::Spot;
 use std::alloc::{AllocError, Global};
 
 /// The bindings with the variable at each place of its type.
-pub fn bound_over(
+pub(crate) fn bound_over(
     alloc: Global,
     problem: &Problem,
     b: &[Spot],

@@ -10,7 +10,7 @@ ghost use Rattle.smv_targets.specs.Targets.{Aim, IsTarget, IsTargetMade, IsSo};
 ghost use Rattle.smv_walks.specs.Demands.{AreOldMade, AreOldKnown};
 ghost use Rattle.smv_walks.specs.Given.{gives_in, keeps_asked, nothing_in, next_in, now_in, IsSoOf, IsGivenAt, IsGiven, IsTargets, IsWritten};
 
-use crate::{Way, everything, gists_of};
+use crate::walks::{Way, everything, gists_of};
 use smv_cells::Cell;
 use smv_conditions::chances::Chances;
 use smv_conditions::conditions::Conditions;
@@ -202,7 +202,7 @@ pub fn target_gives<'a, S: Conditions>(
 }
 
 /// Whether the definition of an element may allow the value that it has now, or doesn't allow it for certain.
-pub fn element_gives<'a, S: Conditions>(
+pub(crate) fn element_gives<'a, S: Conditions>(
     s: &mut S,
     alloc: Global,
     problem: &Problem,

@@ -16,4 +16,4 @@ pub mod walks;
 
 pub use demands::{broken, may_hold, met};
 pub use smv_walk_parts::concerns;
-pub use walks::{Way, everything, gists_of};
+pub use walks::{Way, everything};

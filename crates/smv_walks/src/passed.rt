@@ -12,7 +12,10 @@ use smv_walk_parts::first_of_all;
 use std::alloc::{AllocError, Global};
 
 /// One more, if it is there.
-pub fn add_some<C: Copy>(each: &mut Vec<Gists<C>>, o: Option<Gists<C>>) -> Result<(), AllocError>
+pub(crate) fn add_some<C: Copy>(
+    each: &mut Vec<Gists<C>>,
+    o: Option<Gists<C>>,
+) -> Result<(), AllocError>
     ensures { OnOk result (each.new.items ≡ each.old.items ++ listed o) }
 {
     match o {
@@ -25,7 +28,7 @@ pub fn add_some<C: Copy>(each: &mut Vec<Gists<C>>, o: Option<Gists<C>>) -> Resul
 }
 
 /// The first result of all these; none where there are none.
-pub fn first_of_some<S: Conditions>(
+pub(crate) fn first_of_some<S: Conditions>(
     s: &mut S,
     alloc: Global,
     each: &[Gists<S::Condition>],
@@ -43,7 +46,10 @@ pub fn first_of_some<S: Conditions>(
 }
 
 /// A gist, or nothing alone where it is left out.
-pub fn or_nothing<S: Conditions>(s: &S, o: Option<Gists<S::Condition>>) -> Gists<S::Condition>
+pub(crate) fn or_nothing<S: Conditions>(
+    s: &S,
+    o: Option<Gists<S::Condition>>,
+) -> Gists<S::Condition>
     requires made { IfSome o (λ g. AreGistsMade (S.IsMade s.now) g) }
     ensures made { AreGistsMade (S.IsMade s.now) result }
     ensures gist { (a : ℕ → Bool) → gist_at S.holds s.now a result ≡ gist_or_nothing S.holds s.now a o }
@@ -55,7 +61,7 @@ pub fn or_nothing<S: Conditions>(s: &S, o: Option<Gists<S::Condition>>) -> Gists
 }
 
 /// Both are left out.
-pub fn are_passed<C: Copy>(g: Option<Gists<C>>, h: Option<Gists<C>>) -> bool
+pub(crate) fn are_passed<C: Copy>(g: Option<Gists<C>>, h: Option<Gists<C>>) -> bool
     ensures { result ≡ (is_none g && is_none h) }
 {
     match g {

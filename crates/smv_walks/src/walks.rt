@@ -292,7 +292,7 @@ fn gists_along<'a, S: Conditions>(
 }
 
 /// The gist of what a part of a definition may give the element of the target.
-pub fn gists_of<'a, S: Conditions>(
+pub(crate) fn gists_of<'a, S: Conditions>(
     s: &mut S,
     alloc: Global,
     problem: &Problem,

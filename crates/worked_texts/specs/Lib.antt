@@ -41,3 +41,4 @@ pub mod Values
 pub mod WordsWorked
 pub mod Dumps
 pub mod Faults
+pub mod CaseListsWorked

@@ -1,5 +1,6 @@
 use Rattle.std.proofs.Common.{arith}
-use Rattle.bdd_codes.proofs.CodeLaws.{keeps_then, longer, from_pushed, high_pushed}
+use Rattle.bdd_store.proofs.Keeping.{keeps_then}
+use Rattle.bdd_codes.proofs.CodeLaws.{longer, from_pushed, high_pushed}
 use Rattle.bdd_codes.proofs.add_high_half.Goals as goal
 
 pub loop-i-preserved : goal.loop-i-preserved

@@ -1,5 +1,6 @@
 use Rattle.std.proofs.Common.{arith}
-use Rattle.bdd_codes.proofs.CodeLaws.{keeps_then, longer, from_pushed, low_pushed}
+use Rattle.bdd_store.proofs.Keeping.{keeps_then}
+use Rattle.bdd_codes.proofs.CodeLaws.{longer, from_pushed, low_pushed}
 use Rattle.bdd_codes.proofs.low_half.Goals as goal
 
 pub loop-i-preserved : goal.loop-i-preserved

@@ -3,10 +3,11 @@ use Rattle.memo_table.specs.Results.{same_pair}
 use Rattle.bdd_store.specs.Graph.{with_at}
 use Rattle.bdd_store.specs.Diagram.{table, first_var, Keeps}
 use Rattle.bdd_store.specs.Sure.{IsSure}
+use Rattle.bdd_store.proofs.Keeping.{keeps_then, keeps_self}
 use Rattle.bdd_ops.specs.Memo.{changed, IsImage, pair_first}
 use Rattle.bdd_ops.specs.News.{State, IsFound, News, SamePair, change_of}
-use Rattle.bdd_ops.proofs.NewsLaws.{news_none, news_hit, news_err, news_first, news_second, news_later, news_weaken, news_put, found_kept, found_here, keeps_self}
-use Rattle.bdd_ops.proofs.MemoLaws.{keeps_after, image_found, same_table, first_within, images_kept, pair_test, holds_kept, holds_same}
+use Rattle.bdd_ops.proofs.NewsLaws.{news_none, news_hit, news_err, news_first, news_second, news_later, news_weaken, news_put, found_kept, found_here}
+use Rattle.bdd_ops.proofs.MemoLaws.{image_found, same_table, first_within, images_kept, pair_test, holds_kept, holds_same}
 use Rattle.bdd_ops.proofs.Tables.{split_at, changed_cond}
 use Rattle.bdd_ops.proofs.Recalled.{change_first}
 use Rattle.bdd_ops.proofs.Held.{fresh_node}
@@ -53,15 +54,15 @@ result_node-requires-clause-made g t c a =
     ap (λ y. cond (a (v - (back_of g))) y (table last c.in_ok-low.low a)) high_is
     ∙ ap (λ y. cond (a (v - (back_of g))) (changed (back_of g) (flip_of g) (table before c.high-f_high.result) a) y) low_is
     ∙ changed_cond (back_of g) (flip_of g) (table before c.args.f) (table before c.high-f_high.result) (table before c.low-f_low.result) v a split
-    ∙ ap (λ (T : (ℕ → Bool) → Bool). changed (back_of g) (flip_of g) T a) (sym (same_table before last (keeps_after before middle last c.in_ok-low.ensures.keeps c.in_ok-high.ensures.keeps) c.args.f c.requires.live))
+    ∙ ap (λ (T : (ℕ → Bool) → Bool). changed (back_of g) (flip_of g) T a) (sym (same_table before last (keeps_then before middle last c.in_ok-low.ensures.keeps c.in_ok-high.ensures.keeps) c.args.f c.requires.live))
     ∙ sym (c.changing-operation.ensures.made last a)
 
 -- after both branches
 both_keep_no_node : (g : given.Over) (t : ℕ) (c : goal.After-from_residual-in_err-r g t) → Keeps c.args.store.now c.change_from-2.new.store
-both_keep_no_node g t c = keeps_after c.args.store.now c.change_from.new.store c.change_from-2.new.store c.in_ok-low.ensures.keeps c.in_ok-high.ensures.keeps
+both_keep_no_node g t c = keeps_then c.args.store.now c.change_from.new.store c.change_from-2.new.store c.in_ok-low.ensures.keeps c.in_ok-high.ensures.keeps
 
 all_keep_no_node : (g : given.Over) (t : ℕ) (c : goal.After-from_residual-in_err-r g t) → Keeps c.args.store.now c.result_node.new.store
-all_keep_no_node g t c = keeps_after c.args.store.now c.change_from-2.new.store c.result_node.new.store (both_keep_no_node g t c) c.in_err-r.ensures.keeps
+all_keep_no_node g t c = keeps_then c.args.store.now c.change_from-2.new.store c.result_node.new.store (both_keep_no_node g t c) c.in_err-r.ensures.keeps
 
 pub returns-in_err-r-clause-keeps : goal.returns-in_err-r-clause-keeps
 returns-in_err-r-clause-keeps g t c = all_keep_no_node g t c
@@ -71,10 +72,10 @@ returns-in_err-r-clause-memo g t c = images_kept (changed (back_of g) (flip_of g
 
 -- after both branches
 both_keep_no_room : (g : given.Over) (t : ℕ) (c : goal.After-from_residual-in_err-keep g t) → Keeps c.args.store.now c.change_from-2.new.store
-both_keep_no_room g t c = keeps_after c.args.store.now c.change_from.new.store c.change_from-2.new.store c.in_ok-low.ensures.keeps c.in_ok-high.ensures.keeps
+both_keep_no_room g t c = keeps_then c.args.store.now c.change_from.new.store c.change_from-2.new.store c.in_ok-low.ensures.keeps c.in_ok-high.ensures.keeps
 
 all_keep_no_room : (g : given.Over) (t : ℕ) (c : goal.After-from_residual-in_err-keep g t) → Keeps c.args.store.now c.result_node.new.store
-all_keep_no_room g t c = keeps_after c.args.store.now c.change_from-2.new.store c.result_node.new.store (both_keep_no_room g t c) c.in_ok-r.ensures.keeps
+all_keep_no_room g t c = keeps_then c.args.store.now c.change_from-2.new.store c.result_node.new.store (both_keep_no_room g t c) c.in_ok-r.ensures.keeps
 
 pub returns-in_err-keep-clause-keeps : goal.returns-in_err-keep-clause-keeps
 returns-in_err-keep-clause-keeps g t c = all_keep_no_room g t c
@@ -86,10 +87,10 @@ returns-in_err-keep-clause-memo g t c =
 
 -- after both branches
 both_keep_done : (g : given.Over) (t : ℕ) (c : goal.In_ok-keep g t) → Keeps c.args.store.now c.change_from-2.new.store
-both_keep_done g t c = keeps_after c.args.store.now c.change_from.new.store c.change_from-2.new.store c.in_ok-low.ensures.keeps c.in_ok-high.ensures.keeps
+both_keep_done g t c = keeps_then c.args.store.now c.change_from.new.store c.change_from-2.new.store c.in_ok-low.ensures.keeps c.in_ok-high.ensures.keeps
 
 all_keep_done : (g : given.Over) (t : ℕ) (c : goal.In_ok-keep g t) → Keeps c.args.store.now c.result_node.new.store
-all_keep_done g t c = keeps_after c.args.store.now c.change_from-2.new.store c.result_node.new.store (both_keep_done g t c) c.in_ok-r.ensures.keeps
+all_keep_done g t c = keeps_then c.args.store.now c.change_from-2.new.store c.result_node.new.store (both_keep_done g t c) c.in_ok-r.ensures.keeps
 
 pub returns-clause-keeps : goal.returns-clause-keeps
 returns-clause-keeps g t c = all_keep_done g t c

@@ -4,15 +4,15 @@ use Rattle.bdd_store.specs.Diagram.{table, Keeps}
 use Rattle.bdd_ops.specs.Functions.{some_at}
 use Rattle.memo_table.specs.Results.{same_pair}
 use Rattle.bdd_ops.specs.Memo.{IsImage, joined}
-use Rattle.bdd_ops.proofs.MemoLaws.{keeps_after, image_found, same_table, images_kept, joins_kept, pair_test, holds_kept, holds_same}
+use Rattle.bdd_ops.proofs.MemoLaws.{image_found, same_table, images_kept, joins_kept, pair_test, holds_kept, holds_same}
 use Rattle.bdd_ops.proofs.Tables.{split_at, some_cond, free_before, or_same_both}
 use Rattle.bdd_ops.proofs.Recalled.{exists_first}
 use Rattle.bdd_ops.proofs.Held.{fresh_node}
 use Rattle.bdd_store.specs.declared.Operation.TheVariants.{Exists}
 use Rattle.bdd_store.specs.Results.{made}
+use Rattle.bdd_store.proofs.Keeping.{keeps_then, keeps_self}
 use Rattle.bdd_ops.specs.Functions.{Function}
 use Rattle.bdd_ops.specs.Grown.{Adds}
-use Rattle.bdd_ops.proofs.NewsLaws.{keeps_self}
 use Rattle.bdd_ops.proofs.Grown.{adds_fresh, adds_then, adds_same, adds_made, some_branch, on_err, err_then}
 use Rattle.bdd_ops.proofs.+exists_from.Goals as goal
 
@@ -52,14 +52,14 @@ node_within-requires-clause-made t c a =
     ap (λ y. cond (a v) y (table last c.in_ok-low.low a)) high_is
     ∙ ap (λ y. cond (a v) (some_at c.args.var (table before c.high-f_high.result) a) y) low_is
     ∙ some_cond c.args.var (table before c.args.f) (table before c.high-f_high.result) (table before c.low-f_low.result) v a c.if-first-var.false split
-    ∙ ap (λ (T : (ℕ → Bool) → Bool). some_at c.args.var T a) (sym (same_table before last (keeps_after before middle last c.in_ok-low.ensures.keeps c.in_ok-high.ensures.keeps) c.args.f c.requires.live))
+    ∙ ap (λ (T : (ℕ → Bool) → Bool). some_at c.args.var T a) (sym (same_table before last (keeps_then before middle last c.in_ok-low.ensures.keeps c.in_ok-high.ensures.keeps) c.args.f c.requires.live))
 
 -- after both branches
 both_keep_no_node : (t : ℕ) (c : goal.After-from_residual-in_err-r t) → Keeps c.args.store.now c.exists_from-2.new.store
-both_keep_no_node t c = keeps_after c.args.store.now c.exists_from.new.store c.exists_from-2.new.store c.in_ok-low.ensures.keeps c.in_ok-high.ensures.keeps
+both_keep_no_node t c = keeps_then c.args.store.now c.exists_from.new.store c.exists_from-2.new.store c.in_ok-low.ensures.keeps c.in_ok-high.ensures.keeps
 
 all_keep_no_node : (t : ℕ) (c : goal.After-from_residual-in_err-r t) → Keeps c.args.store.now c.node_within.new.store
-all_keep_no_node t c = keeps_after c.args.store.now c.exists_from-2.new.store c.node_within.new.store (both_keep_no_node t c) c.in_err-r.ensures.keeps
+all_keep_no_node t c = keeps_then c.args.store.now c.exists_from-2.new.store c.node_within.new.store (both_keep_no_node t c) c.in_err-r.ensures.keeps
 
 pub returns-in_err-r-clause-keeps : goal.returns-in_err-r-clause-keeps
 returns-in_err-r-clause-keeps t c = all_keep_no_node t c
@@ -72,10 +72,10 @@ returns-in_err-r-clause-memo t c = images_kept (some_at c.args.var) 0 c.exists_f
 
 -- after both branches
 both_keep_no_room : (t : ℕ) (c : goal.After-from_residual-in_err-keep t) → Keeps c.args.store.now c.exists_from-2.new.store
-both_keep_no_room t c = keeps_after c.args.store.now c.exists_from.new.store c.exists_from-2.new.store c.in_ok-low.ensures.keeps c.in_ok-high.ensures.keeps
+both_keep_no_room t c = keeps_then c.args.store.now c.exists_from.new.store c.exists_from-2.new.store c.in_ok-low.ensures.keeps c.in_ok-high.ensures.keeps
 
 all_keep_no_room : (t : ℕ) (c : goal.After-from_residual-in_err-keep t) → Keeps c.args.store.now c.node_within.new.store
-all_keep_no_room t c = keeps_after c.args.store.now c.exists_from-2.new.store c.node_within.new.store (both_keep_no_room t c) c.in_ok-r.ensures.keeps
+all_keep_no_room t c = keeps_then c.args.store.now c.exists_from-2.new.store c.node_within.new.store (both_keep_no_room t c) c.in_ok-r.ensures.keeps
 
 pub returns-in_err-keep-clause-keeps : goal.returns-in_err-keep-clause-keeps
 returns-in_err-keep-clause-keeps t c = all_keep_no_room t c
@@ -90,10 +90,10 @@ returns-in_err-keep-clause-memo t c =
 
 -- after both branches
 both_keep_done : (t : ℕ) (c : goal.In_ok-keep t) → Keeps c.args.store.now c.exists_from-2.new.store
-both_keep_done t c = keeps_after c.args.store.now c.exists_from.new.store c.exists_from-2.new.store c.in_ok-low.ensures.keeps c.in_ok-high.ensures.keeps
+both_keep_done t c = keeps_then c.args.store.now c.exists_from.new.store c.exists_from-2.new.store c.in_ok-low.ensures.keeps c.in_ok-high.ensures.keeps
 
 all_keep_done : (t : ℕ) (c : goal.In_ok-keep t) → Keeps c.args.store.now c.node_within.new.store
-all_keep_done t c = keeps_after c.args.store.now c.exists_from-2.new.store c.node_within.new.store (both_keep_done t c) c.in_ok-r.ensures.keeps
+all_keep_done t c = keeps_then c.args.store.now c.exists_from-2.new.store c.node_within.new.store (both_keep_done t c) c.in_ok-r.ensures.keeps
 
 pub returns-clause-keeps : goal.returns-clause-keeps
 returns-clause-keeps t c = all_keep_done t c

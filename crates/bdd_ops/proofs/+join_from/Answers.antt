@@ -3,10 +3,11 @@ use Rattle.memo_table.specs.Results.{same_pair}
 use Rattle.bdd_store.specs.Diagram.{table, first_var, Keeps}
 use Rattle.bdd_store.specs.Sure.{IsSure}
 use Rattle.bdd_store.specs.Results.{made}
+use Rattle.bdd_store.proofs.Keeping.{keeps_then, keeps_self}
 use Rattle.bdd_ops.specs.Memo.{joined, IsJoin}
 use Rattle.bdd_ops.specs.News.{State, IsFound, News, AnyPair, join_of}
-use Rattle.bdd_ops.proofs.NewsLaws.{news_none, news_hit, news_err, news_first, news_second, news_later, news_weaken, news_put, found_kept, found_here, keeps_self}
-use Rattle.bdd_ops.proofs.MemoLaws.{keeps_after, join_found, joins_kept, pair_test, holds_kept, holds_same}
+use Rattle.bdd_ops.proofs.NewsLaws.{news_none, news_hit, news_err, news_first, news_second, news_later, news_weaken, news_put, found_kept, found_here}
+use Rattle.bdd_ops.proofs.MemoLaws.{join_found, joins_kept, pair_test, holds_kept, holds_same}
 use Rattle.bdd_ops.proofs.Recalled.{join_first, join_made, join_later}
 use Rattle.bdd_ops.proofs.Held.{fresh_node}
 use Rattle.bdd_ops.specs.Functions.{Function}
@@ -48,15 +49,15 @@ node_within-requires-clause-made g t c a =
     c.split.ensures.low_table c.split.ensures.high_table c.split-2.ensures.low_table c.split-2.ensures.high_table
     (λ e. c.in_ok-high.ensures.keeps.tables c.in_ok-low.low c.in_ok-low.ensures.live e ∙ c.in_ok-low.ensures.table e)
     (λ e. c.in_ok-high.ensures.table e ∙ sym (join_later unit before middle c.in_ok-low.ensures.keeps c.split.result.1 c.split-2.result.1 c.split.ensures.high_live c.split-2.ensures.high_live e)) a
-    ∙ join_later unit before last (keeps_after before middle last c.in_ok-low.ensures.keeps c.in_ok-high.ensures.keeps) c.args.f c.args.g c.requires.f_live c.requires.g_live a
+    ∙ join_later unit before last (keeps_then before middle last c.in_ok-low.ensures.keeps c.in_ok-high.ensures.keeps) c.args.f c.args.g c.requires.f_live c.requires.g_live a
     ∙ sym (c.joining-operation.ensures.made last a)
 
 -- after both branches
 both_keep_no_node : (g : given.Over) (t : ℕ) (c : goal.After-from_residual-in_err-r g t) → Keeps c.args.store.now c.join_from-2.new.store
-both_keep_no_node g t c = keeps_after c.args.store.now c.join_from.new.store c.join_from-2.new.store c.in_ok-low.ensures.keeps c.in_ok-high.ensures.keeps
+both_keep_no_node g t c = keeps_then c.args.store.now c.join_from.new.store c.join_from-2.new.store c.in_ok-low.ensures.keeps c.in_ok-high.ensures.keeps
 
 all_keep_no_node : (g : given.Over) (t : ℕ) (c : goal.After-from_residual-in_err-r g t) → Keeps c.args.store.now c.node_within.new.store
-all_keep_no_node g t c = keeps_after c.args.store.now c.join_from-2.new.store c.node_within.new.store (both_keep_no_node g t c) c.in_err-r.ensures.keeps
+all_keep_no_node g t c = keeps_then c.args.store.now c.join_from-2.new.store c.node_within.new.store (both_keep_no_node g t c) c.in_err-r.ensures.keeps
 
 pub returns-in_err-r-clause-keeps : goal.returns-in_err-r-clause-keeps
 returns-in_err-r-clause-keeps g t c = all_keep_no_node g t c
@@ -66,10 +67,10 @@ returns-in_err-r-clause-memo g t c = joins_kept (unit_of g) c.join_from-2.new.st
 
 -- after both branches
 both_keep_no_room : (g : given.Over) (t : ℕ) (c : goal.After-from_residual-in_err-keep g t) → Keeps c.args.store.now c.join_from-2.new.store
-both_keep_no_room g t c = keeps_after c.args.store.now c.join_from.new.store c.join_from-2.new.store c.in_ok-low.ensures.keeps c.in_ok-high.ensures.keeps
+both_keep_no_room g t c = keeps_then c.args.store.now c.join_from.new.store c.join_from-2.new.store c.in_ok-low.ensures.keeps c.in_ok-high.ensures.keeps
 
 all_keep_no_room : (g : given.Over) (t : ℕ) (c : goal.After-from_residual-in_err-keep g t) → Keeps c.args.store.now c.node_within.new.store
-all_keep_no_room g t c = keeps_after c.args.store.now c.join_from-2.new.store c.node_within.new.store (both_keep_no_room g t c) c.in_ok-r.ensures.keeps
+all_keep_no_room g t c = keeps_then c.args.store.now c.join_from-2.new.store c.node_within.new.store (both_keep_no_room g t c) c.in_ok-r.ensures.keeps
 
 pub returns-in_err-keep-clause-keeps : goal.returns-in_err-keep-clause-keeps
 returns-in_err-keep-clause-keeps g t c = all_keep_no_room g t c
@@ -81,10 +82,10 @@ returns-in_err-keep-clause-memo g t c =
 
 -- after both branches
 both_keep_done : (g : given.Over) (t : ℕ) (c : goal.In_ok-keep g t) → Keeps c.args.store.now c.join_from-2.new.store
-both_keep_done g t c = keeps_after c.args.store.now c.join_from.new.store c.join_from-2.new.store c.in_ok-low.ensures.keeps c.in_ok-high.ensures.keeps
+both_keep_done g t c = keeps_then c.args.store.now c.join_from.new.store c.join_from-2.new.store c.in_ok-low.ensures.keeps c.in_ok-high.ensures.keeps
 
 all_keep_done : (g : given.Over) (t : ℕ) (c : goal.In_ok-keep g t) → Keeps c.args.store.now c.node_within.new.store
-all_keep_done g t c = keeps_after c.args.store.now c.join_from-2.new.store c.node_within.new.store (both_keep_done g t c) c.in_ok-r.ensures.keeps
+all_keep_done g t c = keeps_then c.args.store.now c.join_from-2.new.store c.node_within.new.store (both_keep_done g t c) c.in_ok-r.ensures.keeps
 
 pub returns-clause-keeps : goal.returns-clause-keeps
 returns-clause-keeps g t c = all_keep_done g t c

@@ -1,4 +1,5 @@
-use Rattle.smv_inductive.proofs.Kept.{rel_kept, halves_join, iff_then}
+use Rattle.smv_rings.proofs.Kept.{rel_kept}
+use Rattle.smv_inductive.proofs.Kept.{halves_join, iff_then}
 use Rattle.smv_inductive.proofs.inductive.Goals as goal
 
 pub holds_on-requires-clause-rel : goal.holds_on-requires-clause-rel

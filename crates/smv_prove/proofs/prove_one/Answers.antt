@@ -1,6 +1,7 @@
 use Rattle.std.proofs.Common.{Some, None, subst}
+use Rattle.law_lists.proofs.Options.{some_is}
 use Rattle.smv_plan_reports.specs.Reports.{IsUnitReport}
-use Rattle.smv_prove.proofs.NamedLaws.{found_among, is_below, is_none, is_reported, some_is}
+use Rattle.smv_prove.proofs.NamedLaws.{found_among, is_below, is_none, is_reported}
 use Rattle.smv_prove.proofs.prove_one.Goals as goal
 
 pub prove_unit-requires-clause-there : goal.prove_unit-requires-clause-there

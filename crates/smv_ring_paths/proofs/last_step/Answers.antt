@@ -1,11 +1,11 @@
 use Rattle.std.proofs.Common.{◌∙◌, List, [], ◌∷◌, ◌++◌, ap, map, sym, subst}
 use Rattle.bdd_store.specs.declared.Ref.{Ref}
 use Rattle.bdd_store.specs.Diagram.{table}
+use Rattle.bdd_store.proofs.Keeping.{live_kept}
 use Rattle.bdd_ops.specs.Functions.{bit_at}
 use Rattle.smv_rings.specs.Lists.{State}
 use Rattle.smv_ring_paths.specs.Steps.{IsStep}
 use Rattle.smv_ring_paths.specs.BitPaths.{state_of}
-use Rattle.smv_ring_paths.proofs.Stores.{live_kept}
 use Rattle.smv_ring_paths.proofs.Backward.{current_later}
 use Rattle.smv_ring_paths.proofs.Walks.{ring_current, last_live, last_some, last_later, last_goes, last_from}
 use Rattle.smv_ring_paths.proofs.last_step.Goals as goal

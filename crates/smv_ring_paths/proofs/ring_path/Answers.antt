@@ -2,7 +2,7 @@ use Rattle.std.proofs.Common.{◌≡◌, ◌∙◌, suc, ◌-◌, [], ◌∷◌,
 use Rattle.std.proofs.lemmas.Grind.{common_steps}
 use Rattle.std.specs.Global.{Vec}
 use Rattle.smv_rings.specs.Lists.{lists_of}
-use Rattle.smv_ring_paths.proofs.Stores.{rel_kept}
+use Rattle.smv_rings.proofs.Kept.{rel_kept}
 use Rattle.smv_ring_paths.proofs.Found.{once_found, only_whole, last_ring, last_is_found, part_live, part_rings, part_ends, part_goes, part_none, part_whole}
 use Rattle.smv_ring_paths.proofs.ring_path.Goals as goal
 

@@ -1,6 +1,6 @@
 use Rattle.std.proofs.Common.{subst, IfSome}
 use Rattle.smv_rings.specs.Lists.{IsRel}
-use Rattle.smv_inductive.proofs.Kept.{rel_kept}
+use Rattle.smv_rings.proofs.Kept.{rel_kept}
 use Rattle.bdd_tests.proofs.cases.is_inductive.Goals as goal
 
 pub inductive-requires-clause-rel : goal.inductive-requires-clause-rel

@@ -12,7 +12,7 @@ use Rattle.law_sound_texts.proofs.Faultless.{is_faultless}
 use Rattle.law_sound_texts.proofs.Texts.{to_text, text_run}
 use Rattle.law_sound_texts.proofs.SetSizes.{same_sizes}
 use Rattle.law_sound_texts.proofs.behaviours.texts_have_runs.Goals as goal
-use Rattle.law_sound_texts.proofs.NoFaults.{none-both}
+use Rattle.law_flat_kinds.proofs.NoFaults.{none-both}
 
 pub returns : goal.returns
 returns c = λ text well none sizes are times some.

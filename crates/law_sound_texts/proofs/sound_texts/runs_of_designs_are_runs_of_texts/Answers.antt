@@ -7,7 +7,7 @@ use Rattle.law_sound_texts.proofs.Faultless.{is_faultless}
 use Rattle.law_sound_texts.proofs.Texts.{to_text, text_run}
 use Rattle.law_sound_texts.proofs.CarriedRuns.{same_texts}
 use Rattle.law_sound_texts.proofs.sound_texts.runs_of_designs_are_runs_of_texts.Goals as goal
-use Rattle.law_sound_texts.proofs.NoFaults.{none-both}
+use Rattle.law_flat_kinds.proofs.NoFaults.{none-both}
 
 pub returns : goal.returns
 returns c = λ text well none sizes run some is.

@@ -6,7 +6,7 @@ use Rattle.law_designs.specs.Definitions.{design_of_flat_text}
 use Rattle.law_sound_texts.proofs.Faultless.{is_faultless}
 use Rattle.law_sound_texts.proofs.CarriedRuns.{carried_run}
 use Rattle.law_sound_texts.proofs.sound_texts.runs_of_texts_are_runs_of_designs.Goals as goal
-use Rattle.law_sound_texts.proofs.NoFaults.{none-both}
+use Rattle.law_flat_kinds.proofs.NoFaults.{none-both}
 
 pub returns : goal.returns
 returns c = λ text well none sizes run is.

@@ -9,6 +9,7 @@ use Rattle.law_designs.proofs.Faultless.{no_fault-in}
 use Rattle.law_splits.specs.SplitFaults.{faults_of_splits, first_fault_of_splits}
 use Rattle.law_uses.specs.UseFaults.{first_fault_of_uses}
 use Rattle.law_valid_texts.specs.Joined.{flat_design}
+use Rattle.law_valid_texts.specs.Plans.{levels}
 use Rattle.law_valid_texts.specs.Faults.{faults_of_cases, faults_of_widths, pass_fault}
 use Rattle.law_valid_texts.proofs.Plans.{all_absent}
 use Rattle.law_valid_texts.proofs.valid_texts.valid_texts_pass.Goals as goal
@@ -21,7 +22,7 @@ returns c text tree valid =
     all_absent (first_fault tree) (first_fault_of_kinds tree) (first_fault_of_single (flatten tree)) (first_fault_of_design d) (first_fault_of_sets (flatten tree)) (first_fault_of_splits d)
     (first_fault_of_uses d) (first_of (faults_of_cases d)) (first_of (faults_of_widths d)) valid.is_faultless in
     record {
-      kinds = (64, valid.is_tree.tokens, valid.is_tree.spelled, absent.0, absent.1);
+      kinds = (levels, valid.is_tree.spelled.0, valid.is_tree.spelled.2, absent.0, absent.1);
       single = absent.2;
       design = absent.3;
       splits = no_fault-in (faults_of_splits d) absent.5;

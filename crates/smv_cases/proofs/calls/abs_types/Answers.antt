@@ -1,9 +1,9 @@
 use Rattle.std.proofs.Common.{◌∙◌, length, slice_get, ap, sym, arith}
+use Rattle.law_lists.proofs.Places.{get_read}
 use Rattle.law_obligations.specs.Cases.{type_in}
 use Rattle.law_obligations.specs.LeafCases as leaf
 use Rattle.law_obligations.specs.LeafCases.{kept_of}
 use Rattle.smv_cases.specs.Slots.{parameters_of}
-use Rattle.smv_cases.proofs.SlotLaws.{get_some}
 use Rattle.smv_cases.proofs.TypeLaws.{types_more, types_all}
 use Rattle.smv_cases.proofs.calls.abs_types.Goals as goal
 
@@ -13,7 +13,7 @@ loop-set-preserved c =
     let keeps = c.args.choice.now.keeps in
     let info = c.index-sets-set.result in
     types_more c.args.design.now.sets c.args.leaf.now.params c.args.choice.now.keeps c.args.case.now.classes c.loop-set.set c.index-sets-set.result c.loop-set.types.items c.push.new.self.items c.type_in.result
-    (ap (λ xs. slice_get xs c.loop-set.set) (sym c.as_slice-sets.ensures) ∙ get_some c.as_slice-sets.result.now c.loop-set.set c.index-sets-set.result c.loop-set-test.true c.index-sets-set.is)
+    (ap (λ xs. slice_get xs c.loop-set.set) (sym c.as_slice-sets.ensures) ∙ get_read c.as_slice-sets.result.now c.loop-set.set c.index-sets-set.result c.loop-set-test.true c.index-sets-set.is)
     c.in_ok-push.ensures.items
     (c.type_in.ensures
     ∙ (ap (λ t. type_in t c.loop-set.set (parameters_of c.as_slice-in-loop-set.result.now) c.as_slice-in-loop-set-2.result.now)

@@ -1,17 +1,18 @@
 use Rattle.std.proofs.Common.{rules, refl, map, List}
 use Rattle.std.specs.List.{flat_map}
+use Rattle.std.proofs.lemmas.List.{nil_from_length}
 use Rattle.law_obligations.specs.Readings.{Slot}
 use Rattle.law_reports.specs.CaseLists.{those_of, met_step}
 use Rattle.smv_encode.specs.Encoded.{AreLiveCells}
 use Rattle.smv_encode.proofs.Calls.{live_on, cells_on}
 use Rattle.smv_encode.specs.Parts.{is_turn}
-use Rattle.smv_encode.proofs.Adds.{nothing, no_element, some_before, demands_shown}
+use Rattle.smv_encode.proofs.Adds.{no_element, some_before, demands_shown}
 use Rattle.smv_encode.proofs.Whole.{before_are}
 use Rattle.smv_encode.proofs.elements.+add_before.Goals as goal
 
 pub returns-in_default-clause-adds : goal.returns-in_default-clause-adds
 returns-in_default-clause-adds t c = λ d is well are xs h bit.
-    no_element d c.args.store.now c.args.store.now c.args.store.now xs c.args.elements.now c.args.out.now.items c.args.out.now.items c.args.out.now.items (is_turn d.problem.before c.args.turn) (nothing c.args.elements.now c.in_default.ensures.cases) h bit
+    no_element d c.args.store.now c.args.store.now c.args.store.now xs c.args.elements.now c.args.out.now.items c.args.out.now.items c.args.out.now.items (is_turn d.problem.before c.args.turn) (nil_from_length c.args.elements.now c.in_default.ensures.cases) h bit
     (λ (slots : List Slot). map (met_step d) (flat_map (λ (slot : Slot). those_of d.problem.before slot.element) slots)) refl
 
 pub add_before-requires : goal.add_before-requires

@@ -1,17 +1,18 @@
 use Rattle.std.proofs.Common.{rules, refl, map, ◌∙◌, ap, ◌+◌, ◌*◌, ◌≤◌, arith}
+use Rattle.std.proofs.lemmas.List.{nil_from_length}
 use Rattle.smv_core.specs.declared.flat.Element.{Element}
 use Rattle.smv_readings.specs.StateBits.{bits_of_family, bits_of_elements}
 use Rattle.smv_encode.proofs.CodedCells.{first_room, width_is}
 use Rattle.smv_encode.specs.Encoded.{AreLiveCells}
 use Rattle.smv_encode.proofs.Calls.{live_on, cells_on}
 use Rattle.smv_encode.specs.Parts.{element_at, is_turn}
-use Rattle.smv_encode.proofs.Adds.{nothing, no_element, some_element, one_element, demands_shown}
+use Rattle.smv_encode.proofs.Adds.{no_element, some_element, one_element, demands_shown}
 use Rattle.smv_encode.proofs.Whole.{now_are}
 use Rattle.smv_encode.proofs.elements.+add_elements.Goals as goal
 
 pub returns-in_default-clause-adds : goal.returns-in_default-clause-adds
 returns-in_default-clause-adds t c = λ d is well are xs h.
-    no_element d c.args.store.now c.args.store.now c.args.store.now xs c.args.elements.now c.args.out.now.items c.args.out.now.items c.args.out.now.items (is_turn d.problem.now c.args.turn) (nothing c.args.elements.now c.in_default.ensures.cases) h c.args.bit (map (element_at d c.args.step)) refl
+    no_element d c.args.store.now c.args.store.now c.args.store.now xs c.args.elements.now c.args.out.now.items c.args.out.now.items c.args.out.now.items (is_turn d.problem.now c.args.turn) (nil_from_length c.args.elements.now c.in_default.ensures.cases) h c.args.bit (map (element_at d c.args.step)) refl
 
 pub overflow_add-behind : goal.overflow_add-behind
 overflow_add-behind t c =

@@ -1,6 +1,6 @@
 use Rattle.std.proofs.Common.{[], ◌∷◌, map, arith}
+use Rattle.bdd_store.proofs.Keeping.{keeps_then}
 use Rattle.law_obligations.specs.Obligations.{Demanded}
-use Rattle.bdd_codes.proofs.CodeLaws.{keeps_then}
 use Rattle.smv_encode.specs.Encoded.{met_at}
 use Rattle.smv_encode.proofs.Calls.{live_on, cells_on}
 use Rattle.smv_encode.proofs.Adds.{demand_adds, all_added, map_snoc}

@@ -1,8 +1,8 @@
 use Rattle.std.proofs.Common.{[], ◌∷◌, map, List, if◌then◌else◌, arith}
 use Rattle.std.specs.List.{filter}
+use Rattle.bdd_store.proofs.Keeping.{keeps_then}
 use Rattle.law_obligations.specs.Obligations.{Demanded}
 use Rattle.law_reports.specs.CaseLists.{is_claim}
-use Rattle.bdd_codes.proofs.CodeLaws.{keeps_then}
 use Rattle.smv_encode.specs.Encoded.{met_at}
 use Rattle.smv_encode.proofs.Calls.{live_on, cells_on}
 use Rattle.smv_encode.proofs.Adds.{demand_adds, all_added, filter_snoc, told_adds, claim_tells}

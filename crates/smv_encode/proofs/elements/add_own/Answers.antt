@@ -1,7 +1,7 @@
 use Rattle.std.proofs.Common.{[], ◌∷◌, map, List, if◌then◌else◌, arith}
+use Rattle.bdd_store.proofs.Keeping.{keeps_then}
 use Rattle.law_obligations.specs.Obligations.{Demanded}
 use Rattle.law_reports.specs.CaseLists.{defines, those_of}
-use Rattle.bdd_codes.proofs.CodeLaws.{keeps_then}
 use Rattle.smv_encode.specs.Encoded.{met_at}
 use Rattle.smv_encode.proofs.Calls.{live_on, cells_on}
 use Rattle.smv_encode.proofs.Adds.{demand_adds, all_added, filter_snoc, told_adds, own_tells}

@@ -1,10 +1,10 @@
 use Rattle.std.proofs.Common.{◌∙◌, ap, sym}
 use Rattle.smv_core.specs.declared.flat.Element.{Element}
 use Rattle.bdd_store.specs.Diagram.{table}
+use Rattle.bdd_store.proofs.Keeping.{keeps_then}
 use Rattle.smv_encode.proofs.Calls.{live_on, cells_on}
 use Rattle.smv_encode.proofs.Adds.{element_is, one_element, demands_shown}
 use Rattle.smv_encode.proofs.Whole.{now_are}
-use Rattle.bdd_codes.proofs.CodeLaws.{keeps_then}
 use Rattle.smv_encode.proofs.KnownCases.{case_known_kept}
 use Rattle.smv_encode.proofs.elements.element_at.Goals as goal
 

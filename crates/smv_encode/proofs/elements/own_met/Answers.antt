@@ -1,7 +1,7 @@
 use Rattle.std.proofs.Common.{arith}
 use Rattle.law_obligations.specs.Obligations.{Demanded}
 use Rattle.bdd_store.specs.Diagram.{table}
-use Rattle.bdd_codes.proofs.CodeLaws.{keeps_then}
+use Rattle.bdd_store.proofs.Keeping.{keeps_then}
 use Rattle.smv_encode.specs.Encoded.{met_at}
 use Rattle.smv_encode.proofs.Calls.{live_on, cells_on}
 use Rattle.smv_encode.proofs.Adds.{own_next, own_end, own_tells}

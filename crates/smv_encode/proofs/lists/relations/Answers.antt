@@ -1,14 +1,13 @@
 use Rattle.std.proofs.Common.{refl, List, sym, subst, false}
 use Rattle.bdd_store.specs.declared.Ref.{Ref}
 use Rattle.bdd_store.specs.Diagram.{Keeps, IsLive, table}
-use Rattle.bdd_codes.proofs.CodeLaws.{keeps_then}
+use Rattle.bdd_store.proofs.Keeping.{keeps_then, live_kept}
 use Rattle.smv_cells.specs.declared.cells.Cell.{Cell}
 use Rattle.smv_cells.specs.Cells.{AreCellsMade}
 use Rattle.smv_cells.specs.Seen.{IsSeen}
 use Rattle.smv_encode.specs.Coded.{view_at}
 use Rattle.smv_encode.specs.Encoded.{AreCellsOf}
 use Rattle.smv_encode.proofs.Calls.{live_on, cells_on, vars_on}
-use Rattle.smv_encode.proofs.Adds.{live_kept}
 use Rattle.smv_encode.proofs.Whole.{later_list, later_one, lists_are, rel_is}
 use Rattle.smv_outcomes.specs.Remembered.{AreKnown}
 use Rattle.smv_encode.proofs.KnownCases.{none_known_of_case, current_known}

@@ -1,9 +1,9 @@
 use Rattle.std.proofs.Common.{rules, ◌∙◌}
 use Rattle.bdd_store.specs.Diagram.{IsLive}
+use Rattle.bdd_store.proofs.Keeping.{keeps_then}
 use Rattle.smv_cells.specs.Cells.{AreCellsMade}
 use Rattle.smv_encode.specs.Coded.{view_at, state_at}
 use Rattle.smv_encode.proofs.Calls.{list_kept, list_seen, one_guard, first_guard, later_guard}
-use Rattle.bdd_codes.proofs.CodeLaws.{keeps_then}
 use Rattle.smv_encode.proofs.KnownCases.{list_known}
 use Rattle.smv_encode.proofs.times.+guards_by.Goals as goal
 

@@ -3,10 +3,10 @@ use Rattle.std.specs.List.{list_all}
 use Rattle.smv_core.specs.declared.flat.Guard.{Guard}
 use Rattle.law_obligations.specs.Obligations.{may_hold}
 use Rattle.bdd_store.specs.Diagram.{table}
+use Rattle.bdd_store.proofs.Keeping.{keeps_then}
 use Rattle.law_reports.specs.CaseLists.{old_state}
 use Rattle.smv_encode.specs.Coded.{view_at}
 use Rattle.smv_encode.proofs.Calls.{list_kept, list_seen, guards_are, has_all, both_function}
-use Rattle.bdd_codes.proofs.CodeLaws.{keeps_then}
 use Rattle.smv_encode.proofs.KnownCases.{list_known}
 use Rattle.smv_encode.proofs.times.broken_first_by.Goals as goal
 

@@ -4,12 +4,12 @@ use Rattle.smv_core.specs.declared.flat.Guard.{Guard}
 use Rattle.law_obligations.specs.Obligations.{may_hold}
 use Rattle.bdd_store.specs.declared.Ref.{Ref}
 use Rattle.bdd_store.specs.Diagram.{table}
+use Rattle.bdd_store.proofs.Keeping.{keeps_then}
 use Rattle.law_reports.specs.CaseLists.{new_state}
 use Rattle.smv_cells.specs.declared.cells.Cell.{Cell}
 use Rattle.smv_cells.specs.Seen.{IsSeen}
 use Rattle.smv_encode.specs.Coded.{view_at}
 use Rattle.smv_encode.proofs.Calls.{live_on, cells_on, guards_are, has_all, both_function}
-use Rattle.bdd_codes.proofs.CodeLaws.{keeps_then}
 use Rattle.smv_encode.proofs.KnownCases.{case_known_kept, next_known}
 use Rattle.smv_encode.proofs.times.broken_step_by.Goals as goal
 

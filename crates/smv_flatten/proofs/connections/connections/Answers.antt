@@ -1,11 +1,12 @@
 use Rattle.std.proofs.Common.{◌++◌, ◌<◌, None, map, length, get_or, sym, ap, ◌∙◌, arith}
+use Rattle.law_lists.proofs.Places.{get_or-own}
 use Rattle.smv_core.specs.declared.tree.Word.{Word}
 use Rattle.smv_core.specs.declared.tree.Role.TheVariants.{Plain}
 use Rattle.law_designs.specs.Entries.{connection}
 use Rattle.smv_flatten_families.specs.Held.{scope_here}
 use Rattle.smv_flatten.specs.Leaves.{binders_of}
 use Rattle.smv_flatten.specs.Items.{act_item}
-use Rattle.smv_flatten.proofs.ConnectionLaws.{connect-step, connect-done, get_or-own}
+use Rattle.smv_flatten.proofs.ConnectionLaws.{connect-step, connect-done}
 use Rattle.smv_flatten.proofs.connections.connections.Goals as goal
 
 pub loop-i-preserved : goal.loop-i-preserved

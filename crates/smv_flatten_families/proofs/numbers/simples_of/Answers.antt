@@ -1,10 +1,10 @@
 use Rattle.std.proofs.Common.{◌≡◌, length, map, ap, sym, ◌∙◌, arith}
 use Rattle.std.specs.List.{flat_map}
 use Rattle.std.proofs.lemmas.List.{length-map}
+use Rattle.law_lists.proofs.Lists.{map-flat_map}
 use Rattle.smv_core.specs.Types.{names_of}
 use Rattle.law_designs.specs.Flattening.{set_of}
 use Rattle.smv_flatten_families.specs.Simples.{numbering}
-use Rattle.smv_flatten_families.proofs.BuildLaws.{map-flat_map}
 use Rattle.smv_flatten_families.proofs.numbers.simples_of.Goals as goal
 
 pub returns-clause-simples : goal.returns-clause-simples

@@ -1,8 +1,7 @@
 use Rattle.std.proofs.Common.{rules}
-use Rattle.smv_conditions.proofs.AddLaws.{offers_kept}
+use Rattle.smv_conditions.proofs.AddLaws.{offers_kept, rest_kept}
 use Rattle.smv_cells.proofs.SeenLaws.{cells_kept, keeps_trans}
 use Rattle.smv_outcome_lists.proofs.ListLaws.{lists_kept}
-use Rattle.smv_outcome_lists.proofs.PairLaws.{rest_stays}
 use Rattle.smv_outcome_lists.proofs.ReadLaws.{adds_same, none_along, read_ends, read_stops, read_goes, read_whole, outside_added, inside_added, more_along}
 use Rattle.smv_outcome_lists.proofs.reads.+reads.Goals as goal
 
@@ -41,7 +40,7 @@ add_along-add_along-requires g t c κs within =
     let keeps = keeps_trans _ _ _ _ _ _ c.in_ok-here.ensures.keeps c.in_ok-add_inside.ensures.keeps in
     let when_made = keeps.made c.args.when c.requires.when_made in
     let cells_made = cells_kept _ _ _ _ _ _ keeps c.requires.cells_made in
-    let us_made = rest_stays _ _ _ _ _ _ _ _ k.0 keeps c.requires.us_made in
+    let us_made = rest_kept _ _ _ _ _ _ _ _ k.0 keeps c.requires.us_made in
     let uss_made = lists_kept _ _ _ _ _ _ keeps c.requires.uss_made in
     search (rules, when_made, cells_made, us_made, uss_made, c.in_ok-add_inside.ensures.made)
 

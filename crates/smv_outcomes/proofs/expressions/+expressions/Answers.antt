@@ -9,9 +9,10 @@ use Rattle.smv_conditions.specs.Offers.{AreOffersMade}
 use Rattle.smv_cells.proofs.SeenLaws.{keeps_same, keeps_trans, cells_kept, seen_on}
 use Rattle.smv_outcome_lists.specs.Lists.{AreListsMade}
 use Rattle.smv_outcome_lists.proofs.ListLaws.{lists_kept}
+use Rattle.smv_outcome_lists.proofs.CombinedLaws.{chances_kept}
 use Rattle.smv_outcomes.specs.Outcomes.{AreTruthsOf, AreTruthsAlong, AreListsOf, AreMembersOf, IsSumOf}
 use Rattle.smv_outcomes.proofs.ExpressionLaws.{truth_is, offers_are, number_of, loop_of, var_of, constant_of, not_of_it, and_of_them, or_of_them, implied_of_them, iff_of_it, compare_of_it, choose_of_it, modulo_of_it, none_of_list, none_of_each, slice_made}
-use Rattle.smv_outcomes.proofs.GatherLaws.{chances_kept, chances_shown, chances_pushed, lists_pushed, truths_begin, along_begins, lists_begin, members_begin, sum_begins, truths_go, along_goes, lists_go, members_go, member_pushed, sum_goes}
+use Rattle.smv_outcomes.proofs.GatherLaws.{chances_shown, chances_pushed, lists_pushed, truths_begin, along_begins, lists_begin, members_begin, sum_begins, truths_go, along_goes, lists_go, members_go, member_pushed, sum_goes}
 use Rattle.smv_outcomes.proofs.ElementLaws.{read_of_it, sum_of_it}
 use Rattle.smv_outcomes.proofs.SetLaws.{members_listed, no_members, numbers_added, within_of_it}
 use Rattle.smv_outcomes.proofs.QuantifierLaws.{may_shown, all_of_it, any_of_it}

@@ -1,6 +1,6 @@
+use Rattle.bdd_store.proofs.Keeping.{live_kept}
 use Rattle.bdd_ops.specs.Functions.{bit_at}
 use Rattle.bdd_ops.proofs.Tables.{if_ok_then}
-use Rattle.smv_ring_paths.proofs.Stores.{live_kept}
 use Rattle.smv_ring_paths.proofs.Backward.{step_is_some, step_found}
 use Rattle.smv_ring_paths.proofs.sets.state_before.Goals as goal
 

@@ -1,17 +1,13 @@
-use Rattle.std.proofs.Common.{◌≡◌, suc, ◌*◌, ◌++◌, ◌∷◌, [], List, map, false, true, replicate, refl, sym, ap, subst, ◌∙◌, ◌⊎◌}
+use Rattle.std.proofs.Common.{◌≡◌, suc, ◌*◌, ◌++◌, ◌∷◌, [], List, map, false, true, replicate, refl, ap, subst, ◌∙◌, ◌⊎◌}
 use Rattle.bdd_store.specs.declared.Ref.{Ref}
-use Rattle.bdd_store.specs.Diagram.{Diagram, AreLive, table}
+use Rattle.bdd_store.specs.Diagram.{table}
 use Rattle.smv_rings.specs.Lists.{refs_of}
 use Rattle.bdd_ops.specs.Functions.{Function}
 use Rattle.smv_rings.specs.declared.ops.Op.TheVariants.{Rename}
 use Rattle.smv_rings.specs.Ops.{IsOneOf, AreMarked, acts_of, back_acts, joins_onto, refs_in_all}
-use Rattle.smv_rings.proofs.Refs.{each_live, live_each, in_before_step, in_broken_step, in_now_step}
+use Rattle.smv_rings.proofs.Refs.{each_live, in_before_step, in_broken_step, in_now_step, part_live}
 use Rattle.smv_rings.proofs.Plans.{plan_turn, plan_refs, marks_none, unread_given, refs_reversed}
 use Rattle.smv_rings.proofs.ops.plan.Goals as goal
-
--- a list of the Rel that is seen as a slice
-part_live : (d : Diagram) (all part shown : List Ref) → AreLive d all → ((r : Ref) → IsOneOf r part → IsOneOf r all) → shown ≡ part → AreLive d shown
-part_live d all part shown live sub e = subst (AreLive d) (sym e) (live_each d part (λ r one. each_live d all live r (sub r one)))
 
 pub add_joins-requires-clause-live : goal.add_joins-requires-clause-live
 add_joins-requires-clause-live c = part_live c.args.store.now (refs_of c.args.rel.now) c.args.rel.now.before_step.items c.deref.result.now c.requires.rel.live (in_before_step c.args.rel.now) c.deref.ensures.value

@@ -1,8 +1,9 @@
 use Rattle.std.proofs.Common.{◌≡◌, ◌<◌, length, get_or, subst, arith}
 use Rattle.std.specs.Prelude.{slice_get, Some}
+use Rattle.law_lists.proofs.Places.{get_there}
 use Rattle.law_designs.specs.Standing.{Standing}
 use Rattle.smv_single_assignment.specs.Links.{held, IsBehind}
-use Rattle.smv_single_assignment.proofs.LinkLaws.{got-some, held-length}
+use Rattle.smv_single_assignment.proofs.LinkLaws.{held-length}
 use Rattle.smv_single_assignment.proofs.EarlierLaws.{kind-here}
 use Rattle.smv_single_assignment.proofs.TouchLaws.{told, untouched-more, untouched-apart}
 use Rattle.smv_single_assignment.proofs.earlier.do_touch.Goals as goal
@@ -14,8 +15,8 @@ loop-place-preserved c =
     let all = held t in
     let i = c.loop-place.place in
     let lt : i < length all = omega (arith, c.loop-place-test.true, held-length t.all.items) in
-    let b : Standing = (got-some all i lt).0 in
-    let got : slice_get all i ≡ Some b = (got-some all i lt).1 in
+    let b : Standing = (get_there all i lt).0 in
+    let got : slice_get all i ≡ Some b = (get_there all i lt).1 in
     let last = get_or c.links_of.result.now i 0 in
     let behind : IsBehind all t.classes.items b.kind (get_or t.classes.items i 0) i last =
     subst (λ k. IsBehind all t.classes.items k (get_or t.classes.items i 0) i last) (kind-here t.all.items i c.index.result.now b lt c.index.ensures got) (told t c.requires.0 c.requires.1 c.index.result.now.kind c.links_of.result.now c.links_of.ensures i lt) in

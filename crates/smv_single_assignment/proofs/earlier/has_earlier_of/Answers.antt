@@ -1,9 +1,10 @@
 use Rattle.std.proofs.Common.{◌≡◌, ◌<◌, ◌+◌, ◌-◌, length, get_or, false, sym, ◌∙◌, arith}
 use Rattle.std.specs.Prelude.{slice_get, Some}
+use Rattle.law_lists.proofs.Places.{get_there}
 use Rattle.law_designs.specs.Standing.{Standing}
 use Rattle.smv_single_assignment.specs.Clashes.{clashes_of}
 use Rattle.smv_single_assignment.specs.Links.{held}
-use Rattle.smv_single_assignment.proofs.LinkLaws.{got-some, between-true, between-false}
+use Rattle.smv_single_assignment.proofs.LinkLaws.{between-true, between-false}
 use Rattle.smv_single_assignment.proofs.EarlierLaws.{clear-start, clear-step}
 use Rattle.smv_single_assignment.proofs.TouchLaws.{told}
 use Rattle.smv_single_assignment.proofs.earlier.has_earlier_of.Goals as goal
@@ -22,8 +23,8 @@ returns-then-is_clash c = λ b got.
     let t = c.args.table.now in
     let i = c.loop-end.end - 1 in
     let below : i < length (held t) = omega (arith, c.loop-end-test.true, c.loop-end.invariant.before, c.requires.within) in
-    let a : Standing = (got-some (held t) i below).0 in
-    let there : slice_get (held t) i ≡ Some a = (got-some (held t) i below).1 in
+    let a : Standing = (get_there (held t) i below).0 in
+    let there : slice_get (held t) i ≡ Some a = (get_there (held t) i below).1 in
     sym (between-true (clashes_of c.args.kind c.args.by b) c.args.start c.args.middle (held t) i a there (omega (arith, c.loop-end-test.true)) c.if-earlier-middle.true (sym (c.is_clash.ensures a b there got) ∙ c.if-is_clash.true))
 
 pub loop-end-preserved : goal.loop-end-preserved

@@ -1,7 +1,7 @@
 use Rattle.std.proofs.Common.{◌≡◌, ◌<◌, ◌≤◌, ◌+◌, length, take, subst, sym, ap, arith, All}
 use Rattle.std.proofs.lemmas.List.Elements.{All-more}
+use Rattle.std.proofs.lemmas.List.{take_all}
 use Rattle.smv_single_assignment.specs.Shared.{HasSpot}
-use Rattle.smv_single_assignment.proofs.SharedLaws.{take-past}
 use Rattle.smv_single_assignment.proofs.shared.has_spots.Goals as goal
 
 pub loop-var-preserved : goal.loop-var-preserved
@@ -18,4 +18,4 @@ returns c = λ e.
     let P = HasSpot c.args.kept.now c.args.class c.args.x.now.left.now in
     let around = c.args.x.now.around.items in
     let long : length around ≤ c.loop-var.var-index = omega (arith, c.loop-var-test.false, ap length c.deref-var-items.ensures.value) in
-    subst (λ l. All P l) (take-past c.loop-var.var-index around long) c.loop-var.invariant
+    subst (λ l. All P l) (take_all c.loop-var.var-index around long) c.loop-var.invariant

@@ -1,9 +1,8 @@
 use Rattle.std.proofs.Common.{◌≡◌, ◌∙◌, ◌∷◌, [], None, map, length, refl, ap, subst, arith}
-use Rattle.std.proofs.lemmas.List.{map-append}
+use Rattle.std.proofs.lemmas.List.{map-append, nil_from_length}
 use Rattle.smv_first_fault.specs.Firsts.{least}
 use Rattle.law_splits.specs.Chains.{shown}
 use Rattle.smv_split_faults.specs.Waiting.{held}
-use Rattle.smv_split_faults.proofs.WaitingLaws.{empty}
 use Rattle.smv_split_faults.proofs.WalkLaws.{Goes, begins, further, smaller, over}
 use Rattle.smv_split_faults.proofs.mismatches.first_of_name.Goals as goal
 
@@ -29,4 +28,4 @@ loop-next-smaller c =
 pub returns : goal.returns
 returns c =
     let none : length c.loop-next.walk.waiting.items ≡ 0 = omega (arith, c.in_default.ensures.cases.0, c.loop-next.walk.waiting.ok.0) in
-    over c.args.tables.now.design.now c.loop-next.walk.types.items (map held c.loop-next.walk.waiting.items) c.loop-next.walk.found _ (ap (map held) (empty c.loop-next.walk.waiting.items none)) c.loop-next.invariant
+    over c.args.tables.now.design.now c.loop-next.walk.types.items (map held c.loop-next.walk.waiting.items) c.loop-next.walk.found _ (ap (map held) (nil_from_length c.loop-next.walk.waiting.items none)) c.loop-next.invariant

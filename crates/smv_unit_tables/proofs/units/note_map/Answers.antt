@@ -1,4 +1,5 @@
-use Rattle.smv_unit_tables.proofs.UnitLaws.{map_new, none_from_test}
+use Rattle.law_lists.proofs.Options.{none_from_test}
+use Rattle.smv_unit_tables.proofs.UnitLaws.{map_new}
 use Rattle.smv_unit_tables.proofs.units.note_map.Goals as goal
 
 pub returns-in_ok-insert : goal.returns-in_ok-insert

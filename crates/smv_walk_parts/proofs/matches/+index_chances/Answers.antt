@@ -1,4 +1,5 @@
-use Rattle.smv_walk_parts.proofs.MatchLaws.{no_offer, more_offers, first_made}
+use Rattle.smv_conditions.proofs.OfferLaws.{first_made}
+use Rattle.smv_walk_parts.proofs.MatchLaws.{no_offer, more_offers}
 use Rattle.smv_walk_parts.proofs.matches.+index_chances.Goals as goal
 
 pub returns-in_default-clause-mix : goal.returns-in_default-clause-mix

@@ -1,0 +1,9 @@
+pub mod LeafInstances
+pub mod Rising
+pub mod InOrder
+pub mod Once
+pub mod Marks
+pub mod Positions
+pub mod SameAssigned
+pub mod TextMarks
+pub mod TextUnits

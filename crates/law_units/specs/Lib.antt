@@ -1,0 +1,2 @@
+pub mod LeafInstances
+pub mod TextUnits

@@ -1,0 +1,57 @@
+-- What is told under budgets that are enough.
+use Rattle.std.proofs.Common.{◌≡◌, ◌≤◌, ◌<◌, ℕ, ◌*◌, List, [], ◌∷◌, ◌++◌, true, refl, sym, subst, arith}
+use Rattle.law_obligations.specs.Sets.{Has, first, later}
+use Rattle.law_obligations.specs.Scripts.{case_at}
+use Rattle.smv_rings.specs.Lists.{Lists, IsLists}
+use Rattle.smv_search.specs.Events.{IsFirstEvent}
+use Rattle.smv_search.specs.Events.Event.{Counted, Images}
+use Rattle.smv_search.proofs.Meaning.{images_mean}
+use Rattle.smv_problem.specs.declared.report.Verdict.{Verdict}
+use Rattle.smv_problem.specs.declared.report.Verdict.TheVariants.{True, False, UnknownNodes, UnknownSteps}
+use Rattle.law_reports.specs.Verdicts.{lists_at}
+use Rattle.law_reports.specs.Reports.{IsToldOf}
+use Rattle.law_reports.proofs.Below.{are_lists}
+use Rattle.law_verdicts.specs.Budgets.{enough_images, enough_nodes, ImagesSuffice, NodesSuffice, UnknownStepsAreFew, UnknownNodesAreFew, is_decided, EnoughDecides}
+use Rattle.law_verdicts.proofs.FewLines.{counted_many}
+
+few_images : (l : Lists) → IsLists l → (nodes images : ℕ) → IsFirstEvent l nodes images Images → images < enough_images l
+few_images l ok nodes images v = images_mean l (record { vars = 2 * l.bits; nodes = nodes; images = images }) ok images v
+
+few_nodes : (l : Lists) → IsLists l → (nodes images count : ℕ) → IsFirstEvent l nodes images (Counted count) → nodes < enough_nodes l
+few_nodes l ok nodes images count v = counted_many l ok (record { vars = 2 * l.bits; nodes = nodes; images = images }) images count v
+
+below : (a b : ℕ) → a < b → b ≤ a → ⊥
+below a b l h = omega arith
+
+pub images_suffice : ImagesSuffice
+images_suffice l ok nodes images enough v = below images (enough_images l) (few_images l ok nodes images v) enough
+
+pub nodes_suffice : NodesSuffice
+nodes_suffice l ok nodes images enough count v = below nodes (enough_nodes l) (few_nodes l ok nodes images count v) enough
+
+in_middle : {X : Type 0} (before behind : List X) (x : X) → Has (before ++ (x ∷ behind)) x
+in_middle [] behind x = first
+in_middle (y ∷ before) behind x = later (in_middle before behind x)
+
+pub steps_are_few : UnknownStepsAreFew
+steps_are_few s nodes images u entry r is case e =
+    let told = subst (IsToldOf s nodes images u entry) e is.verdict in
+    few_images (lists_at s nodes images u entry case.classes) (are_lists (case_at s u entry case.classes)) nodes images told.is_verdict
+
+pub nodes_are_few : UnknownNodesAreFew
+nodes_are_few s nodes images u entry r is case count e =
+    let told = subst (IsToldOf s nodes images u entry) e is.verdict in
+    few_nodes (lists_at s nodes images u entry case.classes) (are_lists (case_at s u entry case.classes)) nodes images count told.is_verdict
+
+pub enough_decides : EnoughDecides
+enough_decides s nodes images u entry enough r is = by_verdict r.verdict is.verdict
+  where
+    by_verdict : (v : Verdict) → IsToldOf s nodes images u entry v → is_decided v ≡ true
+    by_verdict True told = refl
+    by_verdict (False case elements path) told = refl
+    by_verdict (UnknownNodes case count) told =
+        let h = subst (λ xs. Has xs case.classes) (sym told.stands) (in_middle told.before told.behind case.classes) in
+        absurd (nodes_suffice (lists_at s nodes images u entry case.classes) (are_lists (case_at s u entry case.classes)) nodes images (enough.nodes_are case.classes h) count told.is_verdict)
+    by_verdict (UnknownSteps case) told =
+        let h = subst (λ xs. Has xs case.classes) (sym told.stands) (in_middle told.before told.behind case.classes) in
+        absurd (images_suffice (lists_at s nodes images u entry case.classes) (are_lists (case_at s u entry case.classes)) nodes images (enough.images_are case.classes h) told.is_verdict)

@@ -1,0 +1,63 @@
+-- Budgets that are enough for a case, and what is told under them.
+use Rattle.std.specs.Prelude.{◌≡◌, ◌≤◌, ◌<◌, ℕ, ◌+◌, ◌-◌, ◌*◌, ◌^◌, List, length, Bool, true, false}
+use Rattle.bdd_store.specs.Beads.{bead_count}
+use Rattle.smv_core.specs.declared.flat.Class.{Class}
+use Rattle.law_obligations.specs.Sets.{Has}
+use Rattle.law_obligations.specs.Outlines.{Entry, Script}
+use Rattle.law_obligations.specs.Scripts.{classes_of}
+use Rattle.smv_rings.specs.Lists.{Lists, IsLists}
+use Rattle.smv_rings.specs.Schedule.{functions}
+use Rattle.smv_search.specs.Events.{IsFirstEvent}
+use Rattle.smv_search.specs.Events.Event.{Counted, Images}
+use Rattle.smv_core.specs.declared.flat.Case.{Case}
+use Rattle.smv_problem.specs.declared.report.Verdict.{Verdict}
+use Rattle.smv_problem.specs.declared.report.Verdict.TheVariants.{True, False, UnknownNodes, UnknownSteps}
+use Rattle.smv_problem.specs.declared.report.UnitResult.{UnitResult}
+use Rattle.law_reports.specs.Verdicts.{lists_at}
+use Rattle.law_reports.specs.Reports.{IsResultOf}
+
+-- truth tables over n variables have at most 2 ^ n - 1 beads each
+abbrev pub FewBeads : Type 0
+FewBeads = (n : ℕ) (tables : List (List Bool)) → bead_count n tables ≤ length tables * (2 ^ n - 1)
+
+-- images that are enough for a case: as many as it has states
+abbrev pub enough_images : Lists → ℕ
+enough_images l = 2 ^ l.bits
+
+-- nodes that are enough: as many beads as functions of the current and the next bits may have, for the functions of the case, a ring for each of its states, and two more
+abbrev pub enough_nodes : Lists → ℕ
+enough_nodes l = (length (functions l) + 2 ^ l.bits + 2) * (2 ^ (2 * l.bits) - 1)
+
+-- with enough images they are never used up
+abbrev pub ImagesSuffice : Type 0
+ImagesSuffice = (l : Lists) → IsLists l → (nodes images : ℕ) → enough_images l ≤ images → IsFirstEvent l nodes images Images → ⊥
+
+-- with enough nodes their budget is never passed, whatever that of images is
+abbrev pub NodesSuffice : Type 0
+NodesSuffice = (l : Lists) → IsLists l → (nodes images : ℕ) → enough_nodes l ≤ nodes → (count : ℕ) → IsFirstEvent l nodes images (Counted count) → ⊥
+
+-- where a case is told unknown by steps, the budget was less than its states
+abbrev pub UnknownStepsAreFew : Type 0
+UnknownStepsAreFew = (s : Script) (nodes images u : ℕ) (entry : Entry) (r : UnitResult) → IsResultOf s nodes images u entry r →
+    (case : Case) → r.verdict ≡ UnknownSteps case → images < enough_images (lists_at s nodes images u entry case.classes)
+
+-- where a case is told unknown by nodes, the budget was less than what is enough for it
+abbrev pub UnknownNodesAreFew : Type 0
+UnknownNodesAreFew = (s : Script) (nodes images u : ℕ) (entry : Entry) (r : UnitResult) → IsResultOf s nodes images u entry r →
+    (case : Case) (count : ℕ) → r.verdict ≡ UnknownNodes case count → nodes < enough_nodes (lists_at s nodes images u entry case.classes)
+
+-- true or false
+abbrev pub is_decided : Verdict → Bool
+is_decided True = true
+is_decided (False case elements path) = true
+is_decided (UnknownNodes case count) = false
+is_decided (UnknownSteps case) = false
+
+-- budgets that are enough for each case of a unit
+pub record AreEnough (s : Script) (nodes images u : ℕ) (entry : Entry) : Type 0 where
+  pub images_are : (classes : List Class) → Has (classes_of s entry) classes → enough_images (lists_at s nodes images u entry classes) ≤ images
+  pub nodes_are : (classes : List Class) → Has (classes_of s entry) classes → enough_nodes (lists_at s nodes images u entry classes) ≤ nodes
+
+-- under enough budgets a unit is told true or false
+abbrev pub EnoughDecides : Type 0
+EnoughDecides = (s : Script) (nodes images u : ℕ) (entry : Entry) → AreEnough s nodes images u entry → (r : UnitResult) → IsResultOf s nodes images u entry r → is_decided r.verdict ≡ true

@@ -1,0 +1,17 @@
+pub mod Worked
+pub mod WorkedCases
+pub mod WorkedCones
+pub mod WorkedConflicts
+pub mod WorkedObligations
+pub mod WorkedProblems
+pub mod WorkedRights
+pub mod WorkedScripts
+pub mod WorkedSound
+pub mod WorkedSoundness
+pub mod WorkedStates
+pub mod WorkedTimes
+pub mod WorkedTomasulo
+pub mod WorkedUnits
+pub mod WorkedFaults
+pub mod WorkedLeaves
+pub mod WorkedRead
