@@ -1,11 +1,13 @@
-// The units of a design.
-ghost use Rattle.std.specs.Prelude.{◌≡◌, ◌++◌, map, IfOk, OnOk};
+// The units of a design in flat order.
+ghost use Rattle.std.specs.Prelude.{◌≡◌, ◌++◌, map, option_copied, IfOk, OnOk};
 ghost use Rattle.law_obligations.specs.Units as spec;
-ghost use Rattle.smv_layers.specs.Bases.{bases_of, maps_from, claims_from};
+ghost use Rattle.law_obligations.specs.Units.{is_refinement};
+ghost use Rattle.smv_unit_tables.specs.Bases.{AreBases};
+ghost use Rattle.smv_plans.specs.Units.{maps_from, claims_from};
 
-use crate::bases::{bases, is_map};
-use smv_core::flat::{Design, Unit};
+use smv_core::flat::{Def, Design, Unit};
 use smv_core::seq::Seq;
+use smv_unit_tables::bases::{base_at, bases};
 use std::alloc::{AllocError, Global};
 
 // A number of a unit, where it fits.
@@ -18,14 +20,35 @@ fn number(place: usize) -> Result<u16, AllocError>
     }
 }
 
+// Whether a base definition, if there is one, is in this layer.
+fn is_base_in(layer: u16, base: Option<&Def>) -> bool
+    ensures { result ≡ spec.is_base_in layer (option_copied base.entry) }
+{
+    match base {
+        Some(base) => base.layer == Some(layer),
+        None => false,
+    }
+}
+
+// Whether a definition is a refinement map: it is in a layer, and its family has another base definition or none.
+fn is_map(design: &Design, bases: &[usize], def: &Def) -> bool
+    requires { AreBases design.now bases.now }
+    ensures { result ≡ is_refinement design.now def.now.family def.now.layer }
+{
+    match def.layer {
+        None => false,
+        Some(layer) => !is_base_in(layer, base_at(design, bases, usize::from(def.family))),
+    }
+}
+
 // The refinement maps, each with its place in flat order.
 fn maps(alloc: Global, design: &Design) -> Result<Vec<(u32, Unit)>, AllocError>
-    ensures { IfOk result (λ out. out.items ≡ maps_from (bases_of design.now) 0 design.now.defs) }
+    ensures { IfOk result (λ out. out.items ≡ maps_from design.now 0 design.now.defs) }
 {
     let bases = bases(alloc, design)?;
     let mut out = Vec::new(alloc);
     for (index, def) in design.defs.as_slice().iter().enumerate() {
-        if is_map(&bases, def) {
+        if is_map(design, &bases, def) {
             let def_number = number(index)?;
             out.push((def.place, Unit::Map { def: def_number }))?;
         }

@@ -2,8 +2,8 @@ use Rattle.std.proofs.Common.{rules, ℕ, subst}
 use Rattle.std.specs.Ordering.{nat_cmp}
 use Rattle.std.specs.List.Sorted.{IsStableByKey}
 use Rattle.std.proofs.lemmas.List.Sorted.{IsNonDecreasingBy-from_sort_by_key, answers_always}
-use Rattle.smv_layers.proofs.SortLaws.{sorted}
-use Rattle.smv_layers.proofs.units.in_order.Goals as goal
+use Rattle.smv_plans.proofs.SortLaws.{sorted}
+use Rattle.smv_plans.proofs.units.in_order.Goals as goal
 
 pub returns : goal.returns
 returns c =

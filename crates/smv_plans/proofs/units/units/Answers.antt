@@ -1,9 +1,9 @@
 use Rattle.std.proofs.Common.{ℕ, map, ap, ◌∙◌, ◌++◌}
 use Rattle.smv_core.specs.declared.flat.Unit.{Unit as FlatUnit}
 use Rattle.law_obligations.specs.Units.{in_order}
-use Rattle.smv_layers.specs.Bases.{claims_from}
-use Rattle.smv_layers.proofs.UnitLaws.{units-are}
-use Rattle.smv_layers.proofs.units.units.Goals as goal
+use Rattle.smv_plans.specs.Units.{claims_from}
+use Rattle.smv_plans.proofs.UnitLaws.{units-are}
+use Rattle.smv_plans.proofs.units.units.Goals as goal
 
 pub returns : goal.returns
 returns c =
