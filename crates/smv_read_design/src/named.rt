@@ -1,7 +1,7 @@
 // The unit of a name.
 ghost use Rattle.std.specs.Prelude.{◌≡◌, IfOk};
 ghost use Rattle.law_obligations.specs.Outlines.{place_of};
-ghost use Rattle.smv_prove.specs.Named.{is_named};
+ghost use Rattle.smv_read_design.specs.Named.{is_named};
 
 use smv_core::flat::{Design, Unit};
 use smv_splits::names::unit_name;

@@ -1,9 +1,9 @@
 use Rattle.std.proofs.Common.{◌∙◌, sym, get_or}
 use Rattle.std.proofs.lemmas.Option.{slice_get-get_or}
 use Rattle.smv_core.specs.declared.flat.Unit.TheVariants.{Map}
-use Rattle.smv_prove.specs.Named.{is_named}
-use Rattle.smv_prove.proofs.NamedLaws.{none_passed, one_more, found_at, none_found}
-use Rattle.smv_prove.proofs.named.place_named.Goals as goal
+use Rattle.smv_read_design.specs.Named.{is_named}
+use Rattle.smv_read_design.proofs.PassedLaws.{none_passed, one_more, found_at, none_found}
+use Rattle.smv_read_design.proofs.named.place_named.Goals as goal
 
 pub loop-place-init : goal.loop-place-init
 loop-place-init c = none_passed (is_named c.args.design.now c.args.name.now) c.args.units.now
