@@ -8,7 +8,7 @@ use smv_splits::names::unit_name;
 use std::alloc::{AllocError, Global};
 
 /// The place of the first of these units that has the name, if one has.
-pub(crate) fn place_named(
+pub fn place_named(
     alloc: Global,
     design: &Design,
     units: &[Unit],
