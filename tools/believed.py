@@ -26,7 +26,6 @@ Definition = namedtuple("Definition", "file name line text")
 # What the names of a file mean: its own definitions, what its imports bring in, the modules that it names otherwise, and the modules that it passes on.
 Scope = namedtuple("Scope", "own names modules passed")
 
-WORD = re.compile(r"◌?[^\s(){}\[\],;.:λ→×\"◌]+◌?[^\s(){}\[\],;.:λ→×\"◌]*◌?")
 IMPORT = re.compile(r"^\s*(pub )?(?:ghost )?(?:pub )?use (Rattle\.[\w.\-]+?)(?:\.\{([^}]*)\}|\.(◌\S*◌))?(?: as ([\w]+))?;?\s*$", re.M)
 HEAD = re.compile(r"^( *)(?:(?:abbrev|unfoldable|pub) )*(?:(record|data) )?([^\s:({]+)(?=[ :({])")
 STARTS = re.compile(r"^ *(?:abbrev|unfoldable|pub|record|data)\b")

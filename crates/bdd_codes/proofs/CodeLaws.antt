@@ -159,7 +159,6 @@ counted_most p later most codes i e c le few all = grind (arith, nat_tests)
 pub doubled : (width : ℕ) → 2 ^ (width + 1) ≡ 2 * 2 ^ width
 doubled width = let one : width + 1 ≡ suc width = omega arith in ap (λ (n : ℕ). 2 ^ n) one ∙ twice width
 
-
 -- ---- all codes of a slot, from its last bit on
 
 none_code : (next : Bool) (bit width : ℕ) (a : ℕ → Bool) → width ≡ 0 → code_at next bit width a ≡ 0

@@ -39,7 +39,7 @@ CountsIndexes l = (parts : List Part) (w : Whole) → l parts ≡ Some w → len
 
 pub single-counts : (kind : Kind) → CountsIndexes (single kind)
 unfolding opening
-single-counts kind [] w h = ap (λ v. length v.over) (sym (same_Some {X = Whole} (record { over = []; value = kind }) w h))
+single-counts kind [] w h = ap (λ v. length v.over) (sym (same_Some {A = Whole} (record { over = []; value = kind }) w h))
 single-counts kind (part ∷ parts) w h = absurd (cc (h))
 
 abbrev pub TypesCount : Types → Type 0
@@ -118,10 +118,10 @@ Covers l shape = ((parts : List Part) (w : Whole) → l parts ≡ Some w → Som
 
 pub single-covers : (kind : Kind) (t : Simple) → kind_of t ≡ kind → Covers (single kind) (one_value t)
 unfolding opening
-single-covers kind t e = (λ parts w h. at_once parts w h, λ w h. (t, refl, ap (λ v. v.value) (sym (same_Some {X = Whole} (record { over = []; value = kind }) w h)) ∙ sym e))
+single-covers kind t e = (λ parts w h. at_once parts w h, λ w h. (t, refl, ap (λ v. v.value) (sym (same_Some {A = Whole} (record { over = []; value = kind }) w h)) ∙ sym e))
   where
     at_once : (parts : List Part) (w : Whole) → single kind parts ≡ Some w → Somewhere (IsFamilyAt (fields_of parts) w) (one_value t)
-    at_once [] w h = let same = same_Some {X = Whole} (record { over = []; value = kind }) w h in inl (refl, ap (λ v. v.over) same, e ∙ ap (λ v. v.value) same)
+    at_once [] w h = let same = same_Some {A = Whole} (record { over = []; value = kind }) w h in inl (refl, ap (λ v. v.over) same, e ∙ ap (λ v. v.value) same)
     at_once (part ∷ parts) w h = absurd (cc (h))
 
 named-covers : (o : Option Leads) (s : Option Shape) → ((l : Leads) → o ≡ Some l → (shape : Shape) × (s ≡ Some shape) × Covers l shape) → Covers (λ parts. option_and_then (λ named. named parts) o) (shape_or_none s)

@@ -201,5 +201,5 @@ module _ (name : Name) where
       by_test : (b : Bool) → cond b (Some (record { at = word.at; what = what })) (find_name (own_names (declared_as what words) ++ rest) name) ≡ Some own →
           (find_name (own_names (declared_as what words) ++ rest) name ≡ Some own → ((list_any is_word words ≡ true) × (own.what ≡ what)) ⊎ ((list_any is_word words ≡ false) × (find_name rest name ≡ Some own))) →
           (((b || list_any is_word words) ≡ true) × (own.what ≡ what)) ⊎ (((b || list_any is_word words) ≡ false) × (find_name rest name ≡ Some own))
-      by_test true e more = inl (refl, ap (λ (o : Own). o.what) (sym (same_Some {X = Own} (record { at = word.at; what = what }) own e)))
+      by_test true e more = inl (refl, ap (λ (o : Own). o.what) (sym (same_Some {A = Own} (record { at = word.at; what = what }) own e)))
       by_test false e more = more e

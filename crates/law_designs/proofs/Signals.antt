@@ -36,7 +36,7 @@ module _ (all : List (Name × Constant)) where
   Leads_fine l = (parts : List Part) (w : Whole) → l parts ≡ Some w → IsOwned all w.value
 
   single-fine : (kind : Kind) → IsOwned all kind → Leads_fine (single kind)
-  single-fine kind k [] w h = subst (λ (v : Whole). IsOwned all v.value) (same_Some {X = Whole} (record { over = []; value = kind }) w h) k
+  single-fine kind k [] w h = subst (λ (v : Whole). IsOwned all v.value) (same_Some {A = Whole} (record { over = []; value = kind }) w h) k
   single-fine kind k (part ∷ parts) w h = absurd (cc (h))
 
   abbrev Types_fine : Types → Type 0

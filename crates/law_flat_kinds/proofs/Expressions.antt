@@ -91,7 +91,7 @@ module _ (flat_text : FlatText) (scope : kinds.Scope) (flat : Scope) (signals : 
       alone kind e = by_parts parts e
         where
           by_parts : (parts : List Part) → single kind parts ≡ Some w → (parts ≡ []) × (kind ≡ w.value)
-          by_parts [] e = (refl, ap (λ v. v.value) (same_Some {X = Whole} (record { over = []; value = kind }) w e))
+          by_parts [] e = (refl, ap (λ v. v.value) (same_Some {A = Whole} (record { over = []; value = kind }) w e))
           by_parts (p ∷ parts) e = absurd (cc (e))
 
       by_case : (kinds.variable_at scope vars (Field word ∷ parts) ≡ Some w) ⊎ ((signal_at scope (Field word ∷ parts) ≡ Some w) ⊎ (constant_at scope (Field word ∷ parts) ≡ Some w)) → Plain vars around (flat_path flat around path es at) w.value

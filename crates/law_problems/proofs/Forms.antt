@@ -158,15 +158,6 @@ gaps-few false (Some n) (Some vars) m l e = absurd (one_or_none (nat_lt m n) e)
 gaps-few false None None m l e = absurd (cc)
 gaps-few false None (Some vars) m l e = absurd (cc)
 
-gapped-is : (size : Option ℕ) (keep : Option (List ℕ)) (m : ℕ) → (abstract_type (treatment_of true size keep) m).rest ≡ beside.Gaps
-gapped-is size keep m = refl
-
-ungapped-is : (size : Option ℕ) (keep : Option (List ℕ)) (m : ℕ) → (abstract_type (treatment_of false size keep) m).rest ≢ beside.Gaps
-ungapped-is (Some n) None m e = cc
-ungapped-is (Some n) (Some vars) m e = one_or_none (nat_lt m n) e
-ungapped-is None None m e = cc
-ungapped-is None (Some vars) m e = cc
-
 -- ---- kinds
 
 -- an operand that is taken has a kind
@@ -441,8 +432,6 @@ module _ (d : Design) (leaf : Leaf) (choice : Choice) (part : IsPart d leaf choi
     guards = guard;
     classes = λ info h. let t = typed info h in subst (λ (a : AbsType). a.named ≤ 256) (sym t.is_type) (named-few info.ordered info.size t.keep (part.sizes info h) t.classes_used t.few);
     gaps = λ info h e. let t = typed info h in subst (λ (a : AbsType). a.named ≤ 255) (sym t.is_type) (gaps-few info.ordered info.size t.keep t.classes_used t.few (ap (λ (a : AbsType). a.rest) (sym t.is_type) ∙ e));
-    gapped = λ info h e. let t = typed info h in ap (λ (a : AbsType). a.rest) t.is_type ∙ ap (λ (b : Bool). (abstract_type (treatment_of b info.size t.keep) t.classes_used).rest) e;
-    ungapped = λ info h e g. let t = typed info h in ungapped-is info.size t.keep t.classes_used (ap (λ (b : Bool). (abstract_type (treatment_of b info.size t.keep) t.classes_used).rest) (sym e) ∙ (ap (λ (a : AbsType). a.rest) (sym t.is_type) ∙ g));
     have_values = type_has_value;
     index_types = part.is_fit.indexes;
     target_is_kept = λ def indexes is named. target_there (unit_in d entry.unit) refl def indexes is named;

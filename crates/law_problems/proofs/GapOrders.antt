@@ -9,7 +9,7 @@ use Rattle.smv_core.specs.FlatMeaning as flat
 use Rattle.smv_core.specs.declared.flat.Simple.TheVariants.{Set}
 use Rattle.smv_core.specs.declared.flat.SetInfo.{SetInfo}
 use Rattle.law_obligations.specs.Sets.{Has}
-use Rattle.law_obligations.specs.Places.{Place, named, rest, is_named, World, rests_beside, places_of, places_in, unsure, below_places}
+use Rattle.law_obligations.specs.Places.{Place, named, rest, World, rests_beside, places_of, places_in, unsure, below_places}
 use Rattle.law_obligations.proofs.Members.{Has-cases, Has-from_map}
 use Rattle.law_lists.proofs.Numbers.{nat_eq-is}
 use Rattle.law_obligations.proofs.Same.{nat_eq-itself}

@@ -254,7 +254,7 @@ module _ (flat_text : FlatText) (families_kept : list_all (is_kinded_family flat
           as-true _ (orders flat_text families_kept (bound_by flat_text c.params) (bound-there c.params g.0) c.body (takes-some number (kind_in flat_text (bound_by flat_text c.params) c.body) g.1) free),
         )
 
-    split-kept : (s : FlatSplit) → Has (design_of_flat_text flat_text).splits s → (are_binders flat_text [] s.bound ≡ true) × (list_all (λ (and_from : FlatPair). is_some (kind_in flat_text (bound_by flat_text s.bound) and_from.left)) s.pairs ≡ true)
+    split-kept : (s : FlatSplit) → Has (design_of_flat_text flat_text).splits s → (are_binders flat_text [] s.bound ≡ true) × (list_all (λ (pair : FlatPair). is_some (kind_in flat_text (bound_by flat_text s.bound) pair.left)) s.pairs ≡ true)
     split-kept s i = and_parts _ _ (all-each (is_kinded_item flat_text) items_kept (split-item flat_text.items s i))
 
     some-kind : (o : Option Kind) → is_some o ≡ true → (kind : Kind) × (o ≡ Some kind)
@@ -264,10 +264,10 @@ module _ (flat_text : FlatText) (families_kept : list_all (is_kinded_family flat
     pair-kept : (s : FlatSplit) → Has (design_of_flat_text flat_text).splits s → (eq : FlatPair) → Has s.pairs eq → IsKinded (design_of_flat_text flat_text) (kinds_of s.bound) eq.left
     pair-kept s i eq j =
         let g = split-kept s i in
-        let some : is_some (kind_in flat_text (bound_by flat_text s.bound) eq.left) ≡ true = all-each (λ (and_from : FlatPair). is_some (kind_in flat_text (bound_by flat_text s.bound) and_from.left)) g.1 j in
+        let some : is_some (kind_in flat_text (bound_by flat_text s.bound) eq.left) ≡ true = all-each (λ (pair : FlatPair). is_some (kind_in flat_text (bound_by flat_text s.bound) pair.left)) g.1 j in
         let kind = some-kind (kind_in flat_text (bound_by flat_text s.bound) eq.left) some in
-        let all_free : flat_map (λ (and_from : FlatPair). faults_in flat_text (value_in flat_text) (bound_by flat_text s.bound) and_from.left) s.pairs ≡ [] = none-each (item_faults flat_text (value_in flat_text)) flat_text.items none (split-item flat_text.items s i) in
-        let free : faults_in flat_text (value_in flat_text) (bound_by flat_text s.bound) eq.left ≡ [] = none-each (λ (and_from : FlatPair). faults_in flat_text (value_in flat_text) (bound_by flat_text s.bound) and_from.left) s.pairs all_free j in
+        let all_free : flat_map (λ (pair : FlatPair). faults_in flat_text (value_in flat_text) (bound_by flat_text s.bound) pair.left) s.pairs ≡ [] = none-each (item_faults flat_text (value_in flat_text)) flat_text.items none (split-item flat_text.items s i) in
+        let free : faults_in flat_text (value_in flat_text) (bound_by flat_text s.bound) eq.left ≡ [] = none-each (λ (pair : FlatPair). faults_in flat_text (value_in flat_text) (bound_by flat_text s.bound) pair.left) s.pairs all_free j in
         (kind.0, same flat_text (kinds_of s.bound) eq.left ∙ kind.1, as-true _ (orders flat_text families_kept (bound_by flat_text s.bound) (bound-there s.bound g.0) eq.left some free))
 
 -- what the rules of kinds say of the parts of a flattened text

@@ -1,28 +1,24 @@
 -- The world of a well-formed case, by the numbers of its problem.
-use Rattle.std.proofs.Common.{◌≡◌, ◌≢◌, ℕ, zero, suc, List, [], ◌∷◌, ◌++◌, map, length, get_or, Bool, true, false, ◌&&◌, refl, sym, ap, subst, ◌∙◌, Option, Some, None, option_map, bytes_eq, nat_eq}
+use Rattle.std.proofs.Common.{◌≡◌, ℕ, zero, suc, List, [], ◌∷◌, ◌++◌, map, length, get_or, true, false, ◌&&◌, refl, sym, ap, subst, ◌∙◌, bytes_eq, nat_eq}
 use Rattle.std.specs.Prelude.{unwrap_or}
 use Rattle.std.specs.List.{flat_map, slice_get}
 use Rattle.std.proofs.lemmas.Slice.Eq.{bytes_eq-Decides}
 use Rattle.std.proofs.lemmas.List.{length-map}
-use Rattle.std.proofs.lemmas.Option.{slice_get-map}
 use Rattle.law_lists.proofs.Numbers.{nat_eq-is}
 use Rattle.law_lists.proofs.Booleans.{same_tests}
 use Rattle.smv_core.specs.Values.{Name}
 use Rattle.smv_core.specs.declared.flat.SetInfo.{SetInfo}
-use Rattle.smv_core.specs.declared.abstract_type.Rest.{Rest}
-use Rattle.smv_core.specs.declared.abstract_type.Rest.TheVariants as beside
 use Rattle.law_obligations.specs.Sets.{Has, first, later}
 use Rattle.law_obligations.specs.Places.{World}
 use Rattle.law_obligations.proofs.Same.{nat_eq-itself}
 use Rattle.law_obligations.proofs.Members.{Has-left, Has-right}
-use Rattle.law_obligations.proofs.OneOfEach.{get_Has}
 use Rattle.law_obligations.specs.Outlines.{place_of}
 use Rattle.law_obligations.specs.Readings.{PosedCase}
 use Rattle.smv_spots.specs.Spots.{is_ordset, name_of, both_or_none, AreTypes}
-use Rattle.smv_problem.specs.Written.{written, written_type, name_number, set_numbers_of}
+use Rattle.smv_problem.specs.Written.{written, written_type, name_number, set_numbers_of, orders_of}
 use Rattle.smv_problem.specs.WellFormed.{IsWellFormed}
 use Rattle.smv_typed_spots.proofs.TypedLaws.{found}
-use Rattle.smv_problem_spots.specs.Worlds.{IsWorldOf, name_at, name_number_at, is_one_constant, is_gaps, has_gaps}
+use Rattle.smv_problem_spots.specs.Worlds.{IsWorldOf, name_at, name_number_at, is_one_constant}
 
 -- ---- lists
 
@@ -115,28 +111,14 @@ types_written : (w : World) (sets : List SetInfo) → AreTypes w sets (map (writ
 types_written w [] = tt
 types_written w (info ∷ sets) = (refl, refl, types_written w sets)
 
-no_gaps : (r : Rest) → r ≢ beside.Gaps → false ≡ is_gaps r
-no_gaps beside.None h = refl
-no_gaps beside.One h = refl
-no_gaps beside.Gaps h = absurd (h refl)
+ordered_there : (sets : List SetInfo) (set : ℕ) → is_ordset (slice_get sets set) ≡ get_or (orders_of sets) set false
+ordered_there [] set = refl
+ordered_there (info ∷ sets) zero = refl
+ordered_there (info ∷ sets) (suc set) = ordered_there sets set
 
 module _ (c : PosedCase) (well : IsWellFormed c) where
   abbrev w : World
   w = c.problem.world
-
-  gaps_of : (info : SetInfo) → Has w.classes.sets info → info.ordered ≡ is_gaps (w.rests info.name)
-  gaps_of info h = at info.ordered refl
-    where
-      at : (b : Bool) → info.ordered ≡ b → b ≡ is_gaps (w.rests info.name)
-      at true e = sym (ap is_gaps (well.gapped info h e))
-      at false e = no_gaps (w.rests info.name) (well.ungapped info h e)
-
-  ordered_of : (set : ℕ) → is_ordset (slice_get w.classes.sets set) ≡ has_gaps (slice_get (map (written_type w) w.classes.sets) set)
-  ordered_of set = at (slice_get w.classes.sets set) refl ∙ sym (ap has_gaps (slice_get-map (written_type w) w.classes.sets set))
-    where
-      at : (o : Option SetInfo) → slice_get w.classes.sets set ≡ o → is_ordset o ≡ has_gaps (option_map (written_type w) o)
-      at None e = refl
-      at (Some info) e = gaps_of info (get_Has w.classes.sets set info e)
 
   pub world_of_case : IsWorldOf (written c) c.problem.world
   unfolding written
@@ -145,10 +127,10 @@ module _ (c : PosedCase) (well : IsWellFormed c) where
     lists = λ list. sym (get_map length [] 0 refl w.classes.enums list);
     names = λ list. ap (λ (ns : List ℕ). length ns) (get_map (map (name_number w.classes.enums)) [] [] refl w.classes.enums list) ∙ (length-map (get_or w.classes.enums list []) (name_number w.classes.enums) ∙ sym (get_map length [] 0 refl w.classes.enums list));
     forms = types_written w w.classes.sets;
-    ordered = ordered_of;
+    ordered = ordered_there w.classes.sets;
     sets = λ s t.
-        ap (λ b. both_or_none b (is_ordset (slice_get w.classes.sets t)) && bytes_eq (name_of (slice_get w.classes.sets s)) (name_of (slice_get w.classes.sets t))) (ordered_of s)
-        ∙ (ap (λ b. both_or_none (has_gaps (slice_get (map (written_type w) w.classes.sets) s)) b && bytes_eq (name_of (slice_get w.classes.sets s)) (name_of (slice_get w.classes.sets t))) (ordered_of t)
-        ∙ ap (λ b. both_or_none (has_gaps (slice_get (map (written_type w) w.classes.sets) s)) (has_gaps (slice_get (map (written_type w) w.classes.sets) t)) && b) (set_names_tell w.classes.sets s t));
+        ap (λ b. both_or_none b (is_ordset (slice_get w.classes.sets t)) && bytes_eq (name_of (slice_get w.classes.sets s)) (name_of (slice_get w.classes.sets t))) (ordered_there w.classes.sets s)
+        ∙ (ap (λ b. both_or_none (get_or (orders_of w.classes.sets) s false) b && bytes_eq (name_of (slice_get w.classes.sets s)) (name_of (slice_get w.classes.sets t))) (ordered_there w.classes.sets t)
+        ∙ ap (λ b. both_or_none (get_or (orders_of w.classes.sets) s false) (get_or (orders_of w.classes.sets) t false) && b) (set_names_tell w.classes.sets s t));
     constants = λ list k other m. constants_tell w.classes.enums list k other m;
   }

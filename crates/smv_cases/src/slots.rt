@@ -135,7 +135,7 @@ fn slot_of(sets: &[SetInfo], keeps: &[Keep], param: &Param) -> Slot
 }
 
 // How the set type at a place is abstracted.
-#[tactic(auto, using(law_obligations::proofs::ScriptCases::treatment-at, crate::proofs::SlotLaws::treatment_none))]
+#[tactic(auto, using(crate::proofs::SlotLaws::treatment_none))]
 fn treatment_at(sets: &[SetInfo], keeps: &[Keep], set: usize) -> Option<Treatment>
     ensures { option_map treatment_of result ≡ slice_get (treatments_of keeps.now 0 sets.now) set }
 {

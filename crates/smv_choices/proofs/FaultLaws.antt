@@ -24,9 +24,9 @@ use Rattle.law_obligations.specs.Cases.{is_set}
 use Rattle.smv_mentions.specs.NameFaults.{place_if}
 use Rattle.smv_mentions.specs.Scopes.{first_of_places}
 use Rattle.smv_mentions.specs.FirstFault.{first_of, faults_at}
-use Rattle.smv_scope.specs.ScopeFault.{least}
-use Rattle.smv_scope.proofs.LeastLaws.{first-none, first-assoc, least-append}
-use Rattle.smv_scope.proofs.FirstLaws.{two, one}
+use Rattle.smv_first_fault.specs.Firsts.{least, fault_at, earlier_of}
+use Rattle.smv_first_fault.proofs.LeastLaws.{first-none, first-assoc, least-append}
+use Rattle.smv_first_fault.proofs.FirstLaws.{first-both, first-at, two, one}
 use Rattle.law_designs.specs.WholeText.{is_one_layer}
 use Rattle.law_obligations.specs.Units.{units_of}
 use Rattle.law_obligations.proofs.Lookups.{find-some}

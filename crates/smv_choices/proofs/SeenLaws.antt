@@ -2,7 +2,7 @@
 use Rattle.std.proofs.Common.{◌≡◌, ℕ, Bool, true, false, cond, if◌then◌else◌, refl, ap, sym, ◌∙◌, Option, Some, None, nat_eq, arith}
 use Rattle.law_lists.proofs.Numbers.{nat_eq-is}
 use Rattle.smv_mentions.specs.Scopes.{first_of_places}
-use Rattle.smv_scope.proofs.LeastLaws.{first-none, first-assoc}
+use Rattle.smv_first_fault.proofs.LeastLaws.{first-none, first-assoc}
 use Rattle.smv_references.proofs.AgainLaws.{first-comm}
 
 twice : (a : Option ℕ) → first_of_places a a ≡ a

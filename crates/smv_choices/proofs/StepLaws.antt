@@ -5,8 +5,8 @@ use Rattle.std.specs.List.{flat_map}
 use Rattle.law_lists.proofs.Places.{drop_read_one}
 use Rattle.smv_core.specs.declared.flat.Def.{Def}
 use Rattle.smv_mentions.specs.Scopes.{first_of_places}
-use Rattle.smv_scope.specs.ScopeFault.{least}
-use Rattle.smv_scope.proofs.LeastLaws.{first-assoc, least-append}
+use Rattle.smv_first_fault.specs.Firsts.{least}
+use Rattle.smv_first_fault.proofs.LeastLaws.{first-assoc, least-append}
 use Rattle.law_obligations.specs.Outlines.{is_in_layer, is_def}
 use Rattle.smv_choices.specs.Parts.{first_among}
 

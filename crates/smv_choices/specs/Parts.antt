@@ -19,7 +19,7 @@ use Rattle.smv_core.specs.declared.flat.Assumed.{Assumed}
 use Rattle.law_obligations.specs.Cases.{is_set}
 use Rattle.smv_mentions.specs.NameFaults.{place_if}
 use Rattle.smv_mentions.specs.Scopes.{first_of_places}
-use Rattle.smv_scope.specs.ScopeFault.{least}
+use Rattle.smv_first_fault.specs.Firsts.{least}
 use Rattle.law_splits.specs.Leaves.{with_name}
 use Rattle.law_splits.specs.SplitFaults.{names_one, doubled, miscounted, same_type}
 use Rattle.name_index.specs.Position.{position}

@@ -12,7 +12,7 @@ use Rattle.smv_core.specs.declared.flat.Choice.{Choice}
 use Rattle.smv_core.specs.declared.flat.Pick.{Pick}
 use Rattle.smv_core.specs.declared.flat.Assumed.{Assumed}
 use Rattle.smv_mentions.specs.Scopes.{first_of_places}
-use Rattle.smv_scope.specs.ScopeFault.{least, fault_at, earlier_of}
+use Rattle.smv_first_fault.specs.Firsts.{least, fault_at, earlier_of}
 use Rattle.law_splits.specs.Leaves.{named_by}
 use Rattle.smv_references.specs.Again.{same_key, again}
 use Rattle.law_uses.specs.Choices.{own_map, nothing_used}

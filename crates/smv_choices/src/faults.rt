@@ -1,7 +1,7 @@
 // The first fault of uses of a design.
 ghost use Rattle.std.specs.Prelude.{◌≡◌, ◌++◌, [], map, flat_map, IfOk, OnOk};
 ghost use Rattle.std.specs.Str.{bytes_eq};
-ghost use Rattle.smv_scope.specs.ScopeFault.{least, fault_at};
+ghost use Rattle.smv_first_fault.specs.Firsts.{least};
 ghost use Rattle.smv_references.specs.Again.{again, placed};
 ghost use Rattle.smv_choices.specs.Held.{AreTables};
 ghost use Rattle.smv_choices.specs.Parts as parts;
@@ -15,23 +15,13 @@ use crate::twice::twice_in;
 use smv_core::fault::Fault;
 use smv_core::flat::Unit;
 use smv_core::name::Name;
+use smv_first_fault::faults::{earlier, fault_at};
+use smv_first_fault::places::first_of;
 use smv_references::again::first_name_again;
-use smv_scope::places::first_of;
-use smv_scope::scope::earlier;
 use std::alloc::{AllocError, Global};
 
-// A fault of this number at a place.
-fn fault(number: u8, at: Option<u32>) -> Option<Fault>
-    ensures { result ≡ fault_at number at }
-{
-    match at {
-        Some(at) => Some(Fault { number, at }),
-        None => None,
-    }
-}
-
 // The first reference that names nothing which can be used or proved.
-#[tactic(auto, using(smv_scope::proofs::LeastLaws::leasts))]
+#[tactic(auto, using(smv_first_fault::proofs::LeastLaws::leasts))]
 fn first_unknown(all: &[Reading]) -> Option<u32>
     ensures { result ≡ parts.first_among (map readings.unknown_in (map reading all.now)) }
 {
@@ -74,7 +64,7 @@ fn first_proved_again(alloc: Global, all: &[Reading]) -> Result<Option<u32>, All
 }
 
 // The first place of what is said twice in one `using`.
-#[tactic(auto, using(smv_scope::proofs::LeastLaws::leasts))]
+#[tactic(auto, using(smv_first_fault::proofs::LeastLaws::leasts))]
 fn first_twice(
     alloc: Global,
     units: &[Unit],
@@ -93,7 +83,7 @@ fn first_twice(
 }
 
 // The first place of a name that does not fit.
-#[tactic(auto, using(smv_scope::proofs::LeastLaws::leasts))]
+#[tactic(auto, using(smv_first_fault::proofs::LeastLaws::leasts))]
 fn first_misfit(alloc: Global, tables: &Tables, all: &[Reading]) -> Result<Option<u32>, AllocError>
     requires { AreTables tables.now }
     ensures { IfOk result (λ place. place ≡ parts.first_among (map (readings.misfit_in tables.now.design.now) (map reading all.now))) }
@@ -119,6 +109,6 @@ pub(crate) fn uses_fault(
     let again = first_proved_again(alloc, all)?;
     let twice = first_twice(alloc, units, tables, all)?;
     let misfit = first_misfit(alloc, tables, all)?;
-    let later = earlier(fault(27, first_of(again, twice)), fault(28, misfit));
-    Ok(earlier(fault(26, first_unknown(all)), later))
+    let later = earlier(fault_at(27, first_of(again, twice)), fault_at(28, misfit));
+    Ok(earlier(fault_at(26, first_unknown(all)), later))
 }

@@ -3,7 +3,7 @@ ghost use Rattle.std.specs.Prelude.{◌≡◌, ◌++◌, is_none, IfOk, OnOk};
 ghost use Rattle.std.specs.List.{flat_map};
 ghost use Rattle.smv_mentions.specs.NameFaults.{place_if};
 ghost use Rattle.smv_mentions.specs.Scopes.{first_of_places};
-ghost use Rattle.smv_scope.specs.ScopeFault.{least};
+ghost use Rattle.smv_first_fault.specs.Firsts.{least};
 ghost use Rattle.smv_choices.specs.Held.{AreTables};
 ghost use Rattle.smv_choices.specs.Parts as parts;
 
@@ -13,7 +13,7 @@ use law_uses::meaning::Meaning;
 use smv_core::flat::{Assumed, Pick};
 use smv_core::seq::Seq;
 use smv_core::tree::{Ref, Use};
-use smv_scope::places::first_of;
+use smv_first_fault::places::first_of;
 use std::alloc::{AllocError, Global};
 
 /// The definitions that the uses of a `using` choose and the claims that they assume, each with its place, and the first place of one that means nothing.
@@ -25,7 +25,7 @@ pub struct Found {
 }
 
 // One use more, by what it means.
-#[tactic(auto, using(smv_scope::proofs::LeastLaws::leasts, smv_mentions::proofs::Notes::noting))]
+#[tactic(auto, using(smv_first_fault::proofs::LeastLaws::leasts, smv_mentions::proofs::Notes::noting))]
 fn add_meant(
     out: &mut Found,
     meaning: Option<Meaning>,
@@ -75,7 +75,7 @@ fn add_reference(
 }
 
 // One use more.
-#[tactic(auto, using(smv_scope::proofs::LeastLaws::leasts, smv_mentions::proofs::Notes::noting))]
+#[tactic(auto, using(smv_first_fault::proofs::LeastLaws::leasts, smv_mentions::proofs::Notes::noting))]
 fn add_use(out: &mut Found, alloc: Global, tables: &Tables, x: &Use) -> Result<(), AllocError>
     requires { AreTables tables.now }
     ensures picks { OnOk result (out.new.picks ≡ out.old.picks ++ parts.picks_by tables.now.design.now x.now) }
@@ -90,7 +90,7 @@ fn add_use(out: &mut Found, alloc: Global, tables: &Tables, x: &Use) -> Result<(
 }
 
 /// What some uses choose, assume and leave unknown.
-#[tactic(auto, using(smv_scope::proofs::LeastLaws::leasts, smv_mentions::proofs::Notes::noting))]
+#[tactic(auto, using(smv_first_fault::proofs::LeastLaws::leasts, smv_mentions::proofs::Notes::noting))]
 pub fn all_uses(alloc: Global, tables: &Tables, uses: &[Use]) -> Result<Found, AllocError>
     requires { AreTables tables.now }
     ensures picks { IfOk result (λ out. out.picks ≡ flat_map (parts.picks_by tables.now.design.now) uses.now) }

@@ -1,7 +1,7 @@
 // Names of a `using` that do not fit.
 ghost use Rattle.std.specs.Prelude.{◌≡◌, [], map, flat_map, not, false, slice_index_or, IfOk, OnOk};
 ghost use Rattle.smv_mentions.specs.NameFaults as faults;
-ghost use Rattle.smv_scope.specs.ScopeFault.{least};
+ghost use Rattle.smv_first_fault.specs.Firsts.{least};
 ghost use Rattle.law_obligations.specs.Cases as cases;
 ghost use Rattle.smv_choices.specs.Held.{AreTables};
 ghost use Rattle.smv_choices.specs.Parts as parts;
@@ -14,8 +14,8 @@ use crate::tables::Tables;
 use name_index::NameIndex;
 use smv_core::flat::{Param, Simple};
 use smv_core::tree::{Use, Word};
+use smv_first_fault::places::{first_of, place_if};
 use smv_references::brackets::{first_doubled, first_unbound, miscounted, named, same_type};
-use smv_scope::places::{first_of, place_if};
 use std::alloc::{AllocError, Global};
 
 // Whether a type is this set type.
@@ -88,7 +88,7 @@ fn noted_fit<'a>(
 }
 
 // The first of these names that is none.
-#[tactic(auto, using(smv_scope::proofs::LeastLaws::leasts))]
+#[tactic(auto, using(smv_first_fault::proofs::LeastLaws::leasts))]
 fn first_unfit(
     alloc: Global,
     set: u16,
@@ -130,7 +130,7 @@ fn braces_misfit(
 }
 
 // The first misfit in some uses.
-#[tactic(auto, using(smv_scope::proofs::LeastLaws::leasts))]
+#[tactic(auto, using(smv_first_fault::proofs::LeastLaws::leasts))]
 fn first_braces_misfit(
     alloc: Global,
     sets: &NameIndex,
@@ -158,7 +158,7 @@ fn other_type(bound: &[Param], word: &Word, p: &Param) -> Option<u32>
 }
 
 // The first of these names that is of another type than its parameter.
-#[tactic(auto, using(smv_scope::proofs::LeastLaws::leasts))]
+#[tactic(auto, using(smv_first_fault::proofs::LeastLaws::leasts))]
 fn first_other_type(bound: &[Param], words: &[Word], params: &[Param]) -> Option<u32>
     ensures { result ≡ least (parts.other_types_in bound.now words.now params.now) }
 {
@@ -187,7 +187,7 @@ fn misnamed(alloc: Global, bound: &[Param], x: &Proved) -> Result<Option<u32>, A
 }
 
 // The first misfit in the brackets of these references.
-#[tactic(auto, using(smv_scope::proofs::LeastLaws::leasts))]
+#[tactic(auto, using(smv_first_fault::proofs::LeastLaws::leasts))]
 fn first_misnamed(
     alloc: Global,
     bound: &[Param],

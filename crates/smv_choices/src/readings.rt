@@ -1,7 +1,7 @@
 // Each `using` with what it uses and which leaves it proves.
 ghost use Rattle.std.specs.Prelude.{◌≡◌, ◌++◌, map, flat_map, option_copied, IfOk, OnOk};
 ghost use Rattle.smv_mentions.specs.Scopes.{first_of_places};
-ghost use Rattle.smv_scope.specs.ScopeFault.{least};
+ghost use Rattle.smv_first_fault.specs.Firsts.{least};
 ghost use Rattle.law_uses.specs.UseFaults.{leaf_named};
 ghost use Rattle.smv_choices.specs.Held.{AreTables};
 ghost use Rattle.smv_choices.specs.Parts as parts;
@@ -13,8 +13,8 @@ use crate::tables::Tables;
 use name_index::NameIndex;
 use smv_core::flat::{FlatUsing, Leaf};
 use smv_core::tree::Ref;
+use smv_first_fault::places::first_of;
 use smv_references::names::name_of;
-use smv_scope::places::first_of;
 use std::alloc::{AllocError, Global};
 
 /// A reference after `prove`, and the leaf that it names.
@@ -77,7 +77,7 @@ fn leaf_for<'a>(
 }
 
 // One reference after `prove` more.
-#[tactic(auto, using(smv_mentions::proofs::Notes::noting, smv_scope::proofs::LeastLaws::leasts))]
+#[tactic(auto, using(smv_mentions::proofs::Notes::noting, smv_first_fault::proofs::LeastLaws::leasts))]
 fn add_proved<'a>(
     out: &mut ProvedBy<'a>,
     of: &'a Ref,
@@ -99,7 +99,7 @@ fn add_proved<'a>(
 }
 
 // What some references after `prove` name.
-#[tactic(auto, using(smv_mentions::proofs::Notes::noting, smv_scope::proofs::LeastLaws::leasts))]
+#[tactic(auto, using(smv_mentions::proofs::Notes::noting, smv_first_fault::proofs::LeastLaws::leasts))]
 fn proved_by<'a>(
     alloc: Global,
     leaves: &'a [Leaf],

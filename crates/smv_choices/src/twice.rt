@@ -14,8 +14,8 @@ use name_index::NameIndex;
 use smv_core::flat::{Assumed, Def, Leaf, Pick, Unit};
 use smv_core::name::Name;
 use smv_core::tree::Use;
+use smv_first_fault::places::first_of;
 use smv_references::again::{first_again, first_name_again};
-use smv_scope::places::first_of;
 use std::alloc::{AllocError, Global};
 use std::collections::HashSet;
 

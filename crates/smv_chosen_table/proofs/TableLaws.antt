@@ -1,6 +1,6 @@
 -- The table of definitions, from one family to the next and from one pick to the one before it.
 use Rattle.std.proofs.Common.{◌≡◌, ◌≢◌, ℕ, zero, suc, ◌+◌, ◌<◌, ◌≤◌, List, [], ◌∷◌, ◌++◌, length, slice_get, get_or, Option, Some, None, cond, drop, refl, ap, sym, subst, ◌∙◌, ◌⊎◌, inl, inr, Bor, arith}
-use Rattle.std.specs.Prelude.{find, option_copied, option_and_then, slice_set, slice_index_or, nat_eq}
+use Rattle.std.specs.Prelude.{find, option_copied, option_and_then, slice_set, nat_eq}
 use Rattle.law_lists.proofs.Numbers.{nat_eq-other, nat_eq-same}
 use Rattle.smv_core.specs.declared.flat.Design.{Design}
 use Rattle.smv_core.specs.declared.flat.Def.{Def}
@@ -9,26 +9,9 @@ use Rattle.smv_core.specs.declared.flat.Pick.{Pick}
 use Rattle.smv_core.specs.declared.flat.Unit.{Unit}
 use Rattle.smv_core.specs.declared.flat.Unit.TheVariants.{Map, Claim}
 use Rattle.law_obligations.specs.Outlines.{Outline, as_map, as_claim, map_in, said_by, base_of, map_by_pick, map_in_layer}
-use Rattle.smv_unit_tables.specs.Bases.{AreBases}
 use Rattle.smv_chosen_table.specs.Tables.{IsTable, AreBaseDefs, AreBaseDefsBut, map_of_unit}
 
--- ---- base definitions by their numbers
-
-index-some : {X : Type 0} (xs : List X) (k : ℕ) (x d : X) → slice_get xs k ≡ Some x → slice_index_or xs k d ≡ x
-index-some [] k x d e = absurd (cc (e))
-index-some (y ∷ xs) zero x d e = cc (e)
-index-some (y ∷ xs) (suc k) x d e = index-some xs k x d e
-
-index-none : {X : Type 0} (xs : List X) (k : ℕ) (d : X) → slice_get xs k ≡ None → slice_index_or xs k d ≡ d
-index-none [] k d e = refl
-index-none (y ∷ xs) zero d e = absurd (cc (e))
-index-none (y ∷ xs) (suc k) d e = index-none xs k d e
-
-pub base-some : (d : Design) (bases : List ℕ) (family place : ℕ) → AreBases d bases → slice_get bases family ≡ Some place → slice_get d.defs place ≡ base_of d family
-base-some d bases family place are e = ap (slice_get d.defs) (sym (index-some bases family place (length d.defs) e)) ∙ are.each family
-
-pub base-none : (d : Design) (bases : List ℕ) (family : ℕ) → AreBases d bases → slice_get bases family ≡ None → slice_get d.defs (length d.defs) ≡ base_of d family
-base-none d bases family are e = ap (slice_get d.defs) (sym (index-none bases family (length d.defs) e)) ∙ are.each family
+-- ---- base definitions by their families
 
 got-pushed : {X : Type 0} (xs : List X) (x : X) (k : ℕ) (y : X) → slice_get (xs ++ x ∷ []) k ≡ Some y → (slice_get xs k ≡ Some y) ⊎ ((k ≡ length xs) × (x ≡ y))
 got-pushed [] x zero y e = inr (refl, cc (e))

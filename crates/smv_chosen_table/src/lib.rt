@@ -5,13 +5,12 @@
 
 ghost use Rattle.std.specs.Prelude.{◌≡◌, IfOk, slice_get, slice_set, option_copied, Some};
 ghost use Rattle.law_obligations.specs.Outlines as outlines;
-ghost use Rattle.law_obligations.specs.Outlines.{base_of};
 ghost use Rattle.smv_unit_tables.specs.Bases.{AreBases};
 ghost use Rattle.smv_unit_tables.specs.Units.{AreNoted};
 ghost use Rattle.smv_chosen_table.specs.Tables.{IsIndex, IsTable, AreBaseDefs, map_of_unit};
 
 use smv_core::flat::{Def, Design, Pick, Unit};
-use smv_unit_tables::bases::bases;
+use smv_unit_tables::bases::{base_at, bases, def_at};
 use smv_unit_tables::units::UnitTable;
 use std::alloc::{AllocError, Global};
 
@@ -29,31 +28,6 @@ pub fn index_of(alloc: Global, design: &Design, units: &[Unit]) -> Result<DefInd
     let bases = bases(alloc, design)?;
     let units = UnitTable::of(alloc, design, units)?;
     Ok(DefIndex { bases, units })
-}
-
-// The number of a family's base definition, if the table has the family.
-fn number_at(bases: &[usize], family: usize) -> Option<usize>
-    ensures { result ≡ slice_get bases.now family }
-{
-    bases.get(family).copied()
-}
-
-// The definition of a number.
-fn def_at<'a>(design: &'a Design, place: usize) -> Option<&'a Def>
-    ensures { option_copied result ≡ slice_get design.now.defs place }
-{
-    design.defs.as_slice().get(place)
-}
-
-// The base definition of a family, by the numbers of all of them.
-fn base_at<'a>(design: &'a Design, bases: &[usize], family: usize) -> Option<&'a Def>
-    requires { AreBases design.now bases.now }
-    ensures { option_copied result ≡ base_of design.now family }
-{
-    match number_at(bases, family) {
-        Some(place) => def_at(design, place),
-        None => def_at(design, design.defs.len()),
-    }
 }
 
 /// The table of the base definition of each family.

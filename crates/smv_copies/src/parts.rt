@@ -1,4 +1,4 @@
-// Copies of what a problem takes over from a design: families, guards, and the parts of definitions.
+// Copies of names and lists of types, and of what a problem takes over from a design: families, guards, and the parts of definitions.
 ghost use Rattle.std.specs.Prelude.{◌≡◌, IfOk};
 
 use crate::flat::{copy_expression, copy_expressions};
@@ -7,14 +7,16 @@ use smv_core::flat::{Class, DefBody, Family, Guard, Simple};
 use smv_core::{Name, Seq};
 use std::alloc::{AllocError, Global};
 
-fn copy_name(alloc: Global, name: &Name) -> Result<Name, AllocError>
+/// A copy of a name.
+pub fn copy_name(alloc: Global, name: &Name) -> Result<Name, AllocError>
     ensures { IfOk result (λ copy. copy ≡ name.now) }
 {
     let bytes = Vec::from_slice(alloc, name.as_bytes())?;
     Ok(Name::from_vec(bytes))
 }
 
-fn copy_types(alloc: Global, types: &[Simple]) -> Result<Seq<Simple>, AllocError>
+/// A copy of a list of types.
+pub fn copy_types(alloc: Global, types: &[Simple]) -> Result<Seq<Simple>, AllocError>
     ensures { IfOk result (λ copy. copy ≡ types.now) }
 {
     let copy = Vec::from_slice(alloc, types)?;

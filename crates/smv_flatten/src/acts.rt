@@ -7,8 +7,8 @@ ghost use Rattle.smv_flatten_statements.specs.Around.{around_of};
 ghost use Rattle.smv_flatten.specs.Leaves.{binders_of};
 ghost use Rattle.smv_flatten.specs.Items.{bound_by, act_item};
 
-use crate::copies::copied_name;
 use crate::leaves::Binder;
+use smv_copies::copy_name;
 use smv_core::boxed::Boxed;
 use smv_core::flat::{FlatItem, FlatStmt, Param};
 use smv_core::seq::Seq;
@@ -139,7 +139,7 @@ pub fn params<'a>(
         let binder = around[k];
         let var = small(k)?;
         let over = over(here, binder.over)?;
-        let name = copied_name(alloc, &binder.word.name)?;
+        let name = copy_name(alloc, &binder.word.name)?;
         params.push(Param { var, over, name })?;
     }
     Ok(params)

@@ -1,28 +1,20 @@
-// Copies of names, and of references to units with the names of their instance in front.
+// Copies of names in a text, and of references to units with the names of their instance in front.
 ghost use Rattle.std.specs.Prelude.{◌≡◌, ◌++◌, map, IfOk, OnOk};
 ghost use Rattle.law_designs.specs.Flattening as flattening;
 ghost use Rattle.smv_flatten_families.specs.Held.{instance_of, scope_here};
 ghost use Rattle.smv_flatten.specs.Forms.{word_at};
 
-use smv_core::name::Name;
+use smv_copies::copy_name;
 use smv_core::seq::Seq;
 use smv_core::tree::{Ref, Use, Word};
 use smv_flatten_families::numbers::Here;
 use std::alloc::{AllocError, Global};
 
-/// A copy of a name.
-pub(crate) fn copied_name(alloc: Global, name: &Name) -> Result<Name, AllocError>
-    ensures { IfOk result (λ copy. copy ≡ name.now) }
-{
-    let bytes = name.as_bytes().to_vec(alloc)?;
-    Ok(Name::from_vec(bytes))
-}
-
 /// A copy of a name in a text.
 pub(crate) fn copied_word(alloc: Global, word: &Word) -> Result<Word, AllocError>
     ensures { IfOk result (λ copy. copy ≡ word.now) }
 {
-    let name = copied_name(alloc, &word.name)?;
+    let name = copy_name(alloc, &word.name)?;
     Ok(Word { name, at: word.at })
 }
 
@@ -53,7 +45,7 @@ fn prefix(alloc: Global, here: Here, at: u32, out: &mut Seq<Word>) -> Result<(),
     ensures { OnOk result (out.new ≡ out.old ++ map (word_at at) (instance_of here.entry)) }
 {
     for name in here.instance {
-        let name = copied_name(alloc, name)?;
+        let name = copy_name(alloc, name)?;
         out.push(Word { name, at })?;
     }
     Ok(())

@@ -6,10 +6,10 @@ ghost use Rattle.law_designs.specs.Flattening.{layers_of, layer_number};
 ghost use Rattle.smv_flatten.specs.Layers.{with_layer, with_layers, AreSame, heads};
 ghost use Rattle.smv_flatten.specs.Met.{entries_met};
 
-use crate::copies::copied_name;
 use crate::leaves::What;
 use crate::met::Met;
 use name_index::NameIndex;
+use smv_copies::copy_name;
 use smv_core::name::Name;
 use smv_core::seq::Seq;
 use std::alloc::{AllocError, Global};
@@ -48,7 +48,7 @@ fn add<'a>(alloc: Global, layers: &mut Layers<'a>, name: &'a Name) -> Result<(),
         Some(_) => Ok(()),
         None => {
             layers.index.push(name)?;
-            let copy = copied_name(alloc, name)?;
+            let copy = copy_name(alloc, name)?;
             layers.names.push(copy)
         }
     }

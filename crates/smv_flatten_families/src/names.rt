@@ -1,21 +1,14 @@
-// Copies of names, and lists of names as keys.
+// Lists of names, and lists of names as keys.
 ghost use Rattle.std.specs.Prelude.{◌≡◌, [], ◌∷◌, ◌++◌, IfOk};
 ghost use Rattle.smv_core.specs.Types.{names_of};
 ghost use Rattle.smv_flatten_families.specs.Paths.{path_of};
 
 use crate::places::Names;
+use smv_copies::copy_name;
 use smv_core::name::Name;
 use smv_core::seq::Seq;
 use smv_core::tree::Word;
 use std::alloc::{AllocError, Global};
-
-/// A name once more.
-pub fn copied(alloc: Global, name: &Name) -> Result<Name, AllocError>
-    ensures { IfOk result (λ copy. copy ≡ name.now) }
-{
-    let bytes = Vec::from_slice(alloc, name.as_bytes())?;
-    Ok(Name::from_vec(bytes))
-}
 
 /// The names of words once more.
 #[tactic(auto, using(smv_mentions::proofs::Notes::noting))]
@@ -24,7 +17,7 @@ pub(crate) fn copied_names(alloc: Global, words: &[Word]) -> Result<Seq<Name>, A
 {
     let mut names = Seq::new(alloc);
     for word in words {
-        let name = copied(alloc, &word.name)?;
+        let name = copy_name(alloc, &word.name)?;
         names.push(name)?;
     }
     Ok(names)

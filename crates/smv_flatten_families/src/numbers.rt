@@ -23,6 +23,7 @@ use crate::sets::{count_sets, set_names, sets_of};
 use crate::simples::Simples;
 use crate::types::{Types, types_with};
 use name_index::map::NameMap;
+use smv_copies::copy_types;
 use smv_core::flat::{Family, SetInfo};
 use smv_core::name::Name;
 use smv_core::seq::Seq;
@@ -134,10 +135,10 @@ fn written_family(alloc: Global, placed: &Placed) -> Result<Family, AllocError>
     ensures { IfOk result (λ family. family ≡ written (in_place placed.now)) }
 {
     let name = dotted(alloc, placed.names.as_slice())?;
-    let over = Vec::from_slice(alloc, placed.over.as_slice())?;
+    let over = copy_types(alloc, placed.over.as_slice())?;
     Ok(Family {
         name,
-        over: Seq::from_vec(over),
+        over,
         value: placed.value,
         is_abstract: placed.is_abstract,
         at: placed.at,

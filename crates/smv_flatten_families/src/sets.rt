@@ -4,8 +4,8 @@ ghost use Rattle.std.specs.List.{flat_map};
 ghost use Rattle.law_designs.specs.Flattening.{set_of};
 
 use crate::fits::short;
-use crate::names::copied;
 use name_index::NameIndex;
+use smv_copies::copy_name;
 use smv_core::flat::SetInfo;
 use smv_core::seq::Seq;
 use smv_core::tree::{Span, Top};
@@ -38,7 +38,7 @@ fn add_set(alloc: Global, sets: &mut Seq<SetInfo>, top: &Top) -> Result<(), Allo
         } => {
             let size = size_of(*span)?;
             sets.push(SetInfo {
-                name: copied(alloc, &name.name)?,
+                name: copy_name(alloc, &name.name)?,
                 ordered: *ordered,
                 size,
             })?;

@@ -13,8 +13,8 @@ use Rattle.smv_core.specs.declared.tree.Top.{Top}
 use Rattle.smv_core.specs.declared.tree.Top.TheVariants.{Alias, Module as ModuleOf}
 use Rattle.smv_mentions.specs.Scopes.{Constant, pieces, constants}
 use Rattle.smv_mentions.specs.FirstFault.{first_of}
-use Rattle.smv_scope.specs.ScopeFault.{earlier_of}
-use Rattle.smv_scope.proofs.FirstLaws.{earlier-assoc, earlier-none}
+use Rattle.smv_first_fault.specs.Firsts.{earlier_of}
+use Rattle.smv_first_fault.proofs.FirstLaws.{earlier-assoc, earlier-none}
 use Rattle.law_designs.specs.Types.{Types, types_after, type_faults}
 use Rattle.law_designs.specs.References.{Module, modules_from}
 use Rattle.law_designs.specs.KindFaults.{in_item, in_top, in_tops}

@@ -12,9 +12,9 @@ use smv_core::fault::Fault;
 use smv_core::tree::{Text, Top};
 use smv_expression_kinds::lookups::Scope;
 use smv_expression_kinds::tables::{Tables, tables_of};
+use smv_first_fault::faults::earlier;
 use smv_mentions::pieces::Piece;
 use smv_operand_kinds::types::{size_faults, type_faults};
-use smv_scope::scope::earlier;
 use std::alloc::{AllocError, Global};
 
 // The faults in the top of a number.

@@ -9,9 +9,8 @@ use Rattle.smv_core.specs.declared.flat.Family.{Family}
 use Rattle.smv_core.specs.declared.flat.Def.{Def}
 use Rattle.smv_core.specs.declared.flat.Design.{Design}
 use Rattle.law_designs.specs.Loops as delay
-use Rattle.law_obligations.specs.Outlines.{earlier, earliest, base_of}
+use Rattle.law_obligations.specs.Outlines.{may_be_base, earlier, earliest, base_of}
 use Rattle.smv_layers.specs.Leaks.{is_abstract}
-use Rattle.smv_layers.specs.Bases.{may_be_base}
 use Rattle.smv_layers.specs.OneBase.{AreInLayers, AreApart, BasesAgree}
 
 -- it is one of these
@@ -104,7 +103,7 @@ each-has P (y ∷ defs) all x (zero, e) = let same : y ≡ x = cc in subst P sam
 each-has P (y ∷ defs) all x (suc i, e) = each-has P defs all.1 x (i, e)
 
 -- the two tests, of a definition that is not of an abstract signal outside layers
-of-delay : (d : Design) (o : Option Family) (def : Def) → delay.may_be_base d o def ≡ true → may_be_base def.family o def ≡ true
+of-delay : (d : Design) (o : Option Family) (def : Def) → delay.may_be_base d o def ≡ true → may_be_base d def.family o def ≡ true
 of-delay d None def e = absurd (cc (e))
 of-delay d (Some f) def e = ap (λ b. b && (f.is_abstract || is_none def.layer)) (same def.family) ∙ by f.is_abstract e
   where
@@ -115,7 +114,7 @@ of-delay d (Some f) def e = ap (λ b. b && (f.is_abstract || is_none def.layer))
     by true e = refl
     by false e = e
 
-to-delay : (d : Design) (k : ℕ) (o : Option Family) (def : Def) → (is_abstract o && is_none def.layer) ≡ false → may_be_base k o def ≡ true → (def.family ≡ k) × (delay.may_be_base d o def ≡ true)
+to-delay : (d : Design) (k : ℕ) (o : Option Family) (def : Def) → (is_abstract o && is_none def.layer) ≡ false → may_be_base d k o def ≡ true → (def.family ≡ k) × (delay.may_be_base d o def ≡ true)
 to-delay d k None def inside e = absurd (cc (e))
 to-delay d k (Some f) def inside e =
     let parts : (nat_eq def.family k ≡ true) × (f.is_abstract || is_none def.layer ≡ true) = and_parts (nat_eq def.family k) (f.is_abstract || is_none def.layer) e in
@@ -129,24 +128,24 @@ to-delay d k (Some f) def inside e =
     by true false p q = refl
     by false b p q = q
 
-kept : (d : Design) (k : ℕ) (y : Def) → may_be_base k (slice_get d.families k) y ≡ true → y.family ≡ k
+kept : (d : Design) (k : ℕ) (y : Def) → may_be_base d k (slice_get d.families k) y ≡ true → y.family ≡ k
 kept d k y e = by (slice_get d.families k) e
   where
-    by : (o : Option Family) → may_be_base k o y ≡ true → y.family ≡ k
+    by : (o : Option Family) → may_be_base d k o y ≡ true → y.family ≡ k
     by None e = absurd (cc (e))
     by (Some f) e = nat_eq-is y.family k (and_parts (nat_eq y.family k) (f.is_abstract || is_none y.layer) e).0
 
 module _ (d : Design) (inside : AreInLayers d) (apart : AreApart d) where
   -- those that may be the base definition of a family
   abbrev of_family : ℕ → List Def
-  of_family k = filter (may_be_base k (slice_get d.families k)) d.defs
+  of_family k = filter (may_be_base d k (slice_get d.families k)) d.defs
 
   behind : (def x : Def) → Has (of_family def.family) x → x.place < def.place → list_any (delay.is_behind d def) d.defs ≡ true
   behind def x h less =
-      let found = has-filter (may_be_base def.family (slice_get d.families def.family)) d.defs x h in
+      let found = has-filter (may_be_base d def.family (slice_get d.families def.family)) d.defs x h in
       let here : (is_abstract (slice_get d.families x.family) && is_none x.layer) ≡ false = each-has (λ (y : Def). (is_abstract (slice_get d.families y.family) && is_none y.layer) ≡ false) d.defs inside x found.0 in
       let family : x.family ≡ def.family = kept d def.family x found.1 in
-      let may = to-delay d x.family (slice_get d.families x.family) x here (subst (λ k. may_be_base k (slice_get d.families k) x ≡ true) (sym family) found.1) in
+      let may = to-delay d x.family (slice_get d.families x.family) x here (subst (λ k. may_be_base d k (slice_get d.families k) x ≡ true) (sym family) found.1) in
       any-has (delay.is_behind d def) d.defs x found.0
       (all_of (nat_eq x.family def.family) (nat_lt x.place def.place) (delay.may_be_base d (slice_get d.families x.family) x) (number x.family def.family family) (lower x.place def.place less) may.1)
     where
@@ -164,7 +163,7 @@ module _ (d : Design) (inside : AreInLayers d) (apart : AreApart d) where
 
   same-place : (def e : Def) → Has (of_family def.family) e → Has d.defs def → e.place ≤ def.place → (e.place < def.place → ⊥) → e ≡ def
   same-place def e h k le not_less =
-      let found = has-filter (may_be_base def.family (slice_get d.families def.family)) d.defs e h in
+      let found = has-filter (may_be_base d def.family (slice_get d.families def.family)) d.defs e h in
       apart found.0.0 k.0 e def found.0.1 k.1 (kept d def.family e found.1) (omega (arith, not_less))
 
   pub agree : BasesAgree d
@@ -173,7 +172,7 @@ module _ (d : Design) (inside : AreInLayers d) (apart : AreApart d) where
       to_base : delay.is_base d def ≡ true → base_of d def.family ≡ Some def
       to_base e =
           let parts : (delay.may_be_base d (slice_get d.families def.family) def ≡ true) × (not (list_any (delay.is_behind d def) d.defs) ≡ true) = and_parts _ _ e in
-          let here : Has (of_family def.family) def = filter-has (may_be_base def.family (slice_get d.families def.family)) d.defs def (i, at) (of-delay d (slice_get d.families def.family) def parts.0) in
+          let here : Has (of_family def.family) def = filter-has (may_be_base d def.family (slice_get d.families def.family)) d.defs def (i, at) (of-delay d (slice_get d.families def.family) def parts.0) in
           let first = earliest-some (of_family def.family) def here in
           let is = earliest-is (of_family def.family) first.0 first.1 in
           first.1 ∙ ap Some (same-place def first.0 is.0 (i, at) (is.1 def here) (λ less. true≢false (sym parts.1 ∙ ap not (behind def first.0 is.0 less))))
@@ -181,7 +180,7 @@ module _ (d : Design) (inside : AreInLayers d) (apart : AreApart d) where
       to_mark : base_of d def.family ≡ Some def → delay.is_base d def ≡ true
       to_mark e =
           let is = earliest-is (of_family def.family) def e in
-          let found = has-filter (may_be_base def.family (slice_get d.families def.family)) d.defs def is.0 in
+          let found = has-filter (may_be_base d def.family (slice_get d.families def.family)) d.defs def is.0 in
           let may = to-delay d def.family (slice_get d.families def.family) def (each-has (λ (y : Def). (is_abstract (slice_get d.families y.family) && is_none y.layer) ≡ false) d.defs inside def (i, at)) found.1 in
           both (delay.may_be_base d (slice_get d.families def.family) def) (list_any (delay.is_behind d def) d.defs) may.1 (false_from_ne_true (list_any (delay.is_behind d def) d.defs) (λ some. none_before some is.1))
         where
@@ -196,7 +195,7 @@ module _ (d : Design) (inside : AreInLayers d) (apart : AreApart d) where
               let parts = and_parts (nat_eq found.0.family def.family) (nat_lt found.0.place def.place && delay.may_be_base d (slice_get d.families found.0.family) found.0) found.2 in
               let rest = and_parts (nat_lt found.0.place def.place) (delay.may_be_base d (slice_get d.families found.0.family) found.0) parts.1 in
               let family : found.0.family ≡ def.family = nat_eq-is found.0.family def.family parts.0 in
-              let there : may_be_base def.family (slice_get d.families def.family) found.0 ≡ true = subst (λ k. may_be_base k (slice_get d.families k) found.0 ≡ true) family (of-delay d (slice_get d.families found.0.family) found.0 rest.1) in
-              let le : def.place ≤ found.0.place = least found.0 (filter-has (may_be_base def.family (slice_get d.families def.family)) d.defs found.0 found.1 there) in
+              let there : may_be_base d def.family (slice_get d.families def.family) found.0 ≡ true = subst (λ k. may_be_base d k (slice_get d.families k) found.0 ≡ true) family (of-delay d (slice_get d.families found.0.family) found.0 rest.1) in
+              let le : def.place ≤ found.0.place = least found.0 (filter-has (may_be_base d def.family (slice_get d.families def.family)) d.defs found.0 found.1 there) in
               let less : found.0.place < def.place = nat_lt-is found.0.place def.place rest.0 in
               omega arith

@@ -9,8 +9,8 @@ use Rattle.smv_core.specs.declared.flat.FlatMember.{FlatMember, One, Span as Spa
 use Rattle.smv_core.specs.declared.flat.FlatExpr.{FlatExpr, Number, Var, Loop, Constant, Not, Iff, Compare, Within, Modulo, Choose, All, Any, Each, Read, Read', And, And', Or, Or', Implies, Implies', Sum, Sum', List as ListOf, List', Row_of-FlatExpr, end_of-FlatExpr, more_of-FlatExpr, Row_of-FlatMember, end_of-FlatMember, more_of-FlatMember, Row_of-FlatSigned, end_of-FlatSigned, more_of-FlatSigned, items-the_row-FlatExpr, items-the_row-FlatMember, items-the_row-FlatSigned, items_hidden-the_row-FlatExpr-0, items_hidden-the_row-FlatSigned-2, items_hidden-the_row-FlatMember-3}
 use mathlib.Core.Former.{Count}
 use Rattle.law_designs.proofs.FlatLists.{boxes}
-use Rattle.smv_scope.specs.ScopeFault.{earlier_of}
-use Rattle.smv_scope.proofs.FirstLaws.{earlier-assoc}
+use Rattle.smv_first_fault.specs.Firsts.{earlier_of}
+use Rattle.smv_first_fault.proofs.FirstLaws.{earlier-assoc}
 use Rattle.law_designs.specs.Reading.{references, references_of, references_signed, references_members}
 use Rattle.smv_layers.specs.Leaks.{first_among, first_read, read_fault, member_fault, signed_fault, fault_if_abstract}
 use Rattle.smv_layers.proofs.FaultLaws.{read-append, read-cons}

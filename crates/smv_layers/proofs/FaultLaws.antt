@@ -5,8 +5,8 @@ use Rattle.std.specs.List.{flat_map}
 use Rattle.smv_core.specs.declared.fault.Fault.{Fault}
 use Rattle.smv_core.specs.declared.flat.Family.{Family}
 use Rattle.smv_mentions.specs.FirstFault.{first_of, faults_at}
-use Rattle.smv_scope.specs.ScopeFault.{earlier_of}
-use Rattle.smv_scope.proofs.FirstLaws.{earlier-assoc, earlier-comm, earlier-none}
+use Rattle.smv_first_fault.specs.Firsts.{earlier_of}
+use Rattle.smv_first_fault.proofs.FirstLaws.{earlier-assoc, earlier-comm, earlier-none}
 use Rattle.law_designs.specs.Reading.{Reference}
 use Rattle.smv_layers.specs.Leaks.{is_abstract, first_among, first_read, fault_if_abstract}
 

@@ -9,11 +9,11 @@ use Rattle.smv_core.specs.declared.flat.Family.{Family}
 use Rattle.smv_core.specs.declared.flat.FlatExpr.{FlatExpr}
 use Rattle.smv_core.specs.declared.flat.DefBody.{DefBody, Nothing, Assign, If, If', First, First', Forall, Forall', Row_of-DefBody, end_of-DefBody, more_of-DefBody, items-the_row-DefBody, items_hidden-the_row-DefBody-1}
 use mathlib.Core.Former.{Count}
-use Rattle.smv_scope.specs.ScopeFault.{earlier_of}
-use Rattle.smv_scope.proofs.FirstLaws.{earlier-none}
+use Rattle.smv_first_fault.specs.Firsts.{earlier_of}
 use Rattle.law_designs.specs.Reading.{Reference, Reading, references, readings, readings_of}
 use Rattle.smv_layers.specs.Leaks.{first_among, first_read, read_fault, fault_if_abstract, assigned_fault, part_fault, parts_fault}
 use Rattle.smv_layers.proofs.FaultLaws.{read-append, read-flat_map, among-append}
+use Rattle.smv_first_fault.proofs.FirstLaws.{earlier-none}
 
 unfoldable boxes : Unit {0}
 unfolding Rattle.smv_core.specs.declared.flat.DefBody.TheBlock.hidden-the_row-DefBody-0 Rattle.smv_core.specs.declared.flat.DefBody.TheBlock.shape-the_row-DefBody-0 denote.Hole.Carrier.hidden

@@ -8,7 +8,7 @@ use Rattle.smv_core.specs.declared.flat.FlatMember.{FlatMember, One, Span as Spa
 use Rattle.smv_core.specs.declared.flat.FlatSigned.{FlatSigned, out-FlatSigned}
 use Rattle.smv_core.specs.declared.flat.DefBody.{DefBody, Nothing, Assign, If', First', Forall', Row_of-DefBody, end_of-DefBody, more_of-DefBody}
 use Rattle.smv_mentions.specs.FirstFault.{first_of, faults_at}
-use Rattle.smv_scope.specs.ScopeFault.{earlier_of}
+use Rattle.smv_first_fault.specs.Firsts.{earlier_of}
 use Rattle.law_designs.specs.Reading.{Reference, references}
 
 -- the first of some faults, if there is one

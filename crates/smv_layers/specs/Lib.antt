@@ -1,3 +1,2 @@
 pub mod Leaks
-pub mod Bases
 pub mod OneBase

@@ -5,7 +5,7 @@ ghost use Rattle.smv_layers.specs.Leaks.{first_among};
 
 use smv_core::fault::Fault;
 use smv_core::flat::{Family, FlatExpr, FlatMember, FlatSigned};
-use smv_scope::scope::earlier;
+use smv_first_fault::faults::earlier;
 
 /// A fault of this number at a place, where the family is that of an abstract signal.
 pub(crate) fn fault_if_abstract(

@@ -7,7 +7,7 @@ ghost use Rattle.smv_layers.specs.Leaks.{first_among};
 use crate::expressions::{fault_if_abstract, read_fault, read_faults};
 use smv_core::fault::Fault;
 use smv_core::flat::{Def, DefBody, Design, Family, FlatExpr};
-use smv_scope::scope::earlier;
+use smv_first_fault::faults::earlier;
 
 // The first fault of an assignment, where this is the first of the conditions around it.
 fn assigned_fault(

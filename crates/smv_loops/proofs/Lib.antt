@@ -1,6 +1,5 @@
 pub mod Computing
 pub mod Listing
-pub mod IndexLaws
 pub mod ExpressionLaws
 pub mod PartLaws
 pub mod NumberLaws

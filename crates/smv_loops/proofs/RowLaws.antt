@@ -13,12 +13,12 @@ use Rattle.smv_core.specs.declared.flat.Family.{Family}
 use Rattle.smv_core.specs.declared.flat.Cell.{Cell}
 use Rattle.law_designs.specs.Loops.{at_index, is_constant, cells_of}
 use Rattle.law_designs.specs.Reading.{Reading}
-use Rattle.smv_loops.specs.declared.index.Index.{Index as HeldIndex}
+use Rattle.smv_indexes.specs.declared.Index.{Index as HeldIndex}
 use Rattle.smv_loops.specs.declared.ranks.Links.{Links}
 use Rattle.smv_loops.specs.declared.rows.Row.{Row}
 use Rattle.smv_loops.specs.Cells.{picked, number_in}
 use Rattle.smv_loops.specs.Edges.{total, IsRowLink, AreRowLinks}
-use Rattle.smv_loops.specs.Held.{index_of}
+use Rattle.smv_indexes.specs.Indexes.{index_of}
 use Rattle.smv_loops.specs.Rows.{IsRow, row_at, stands_for}
 use Rattle.smv_loops.proofs.Members.{In}
 use Rattle.smv_loops.proofs.Slices.{split}

@@ -3,7 +3,7 @@ use Rattle.std.specs.Prelude.{◌≡◌, ℕ, ◌-◌, List, [], ◌∷◌, map,
 use Rattle.smv_core.specs.declared.flat.Family.{Family}
 use Rattle.law_designs.specs.Loops.{cells_of}
 use Rattle.smv_loops.specs.Cells.{base, number_in}
-use Rattle.smv_loops.specs.Held.{index_of}
+use Rattle.smv_indexes.specs.Indexes.{index_of}
 use Rattle.smv_loops.specs.declared.rows.Row.{Row}
 
 -- a row has the numbers of the cells with its indexes

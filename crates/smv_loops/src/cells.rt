@@ -5,17 +5,18 @@ ghost use Rattle.smv_core.specs.Assignments.{computed, fits, fixed};
 ghost use Rattle.smv_core.specs.Values.{number};
 ghost use Rattle.law_designs.specs.Loops as loops;
 ghost use Rattle.law_designs.specs.Loops.{at_index, cells_of};
+ghost use Rattle.smv_indexes.specs.Indexes.{index_of};
 ghost use Rattle.smv_loops.specs.Cells.{every, place, number_in};
 ghost use Rattle.smv_loops.specs.Edges.{AreLinks, total};
-ghost use Rattle.smv_loops.specs.Held.{index_in, index_of, reading_of};
+ghost use Rattle.smv_loops.specs.Held.{index_in, reading_of};
 ghost use Rattle.smv_loops.specs.Numbers.{AreBases, digit_places, places, range_places, single_places};
 ghost use Rattle.smv_loops.specs.Rows.{IsRow, stands_for};
 
-use crate::index::{Index, known};
 use crate::ranks::Links;
 use crate::reading::Held;
 use crate::rows::{Rows, nodes};
 use smv_core::flat::{Family, FlatExpr, Simple};
+use smv_indexes::{Index, known};
 use std::alloc::{AllocError, Global};
 
 /// Where the numbers of each family begin, and at the end how many there are.
@@ -116,6 +117,7 @@ pub fn cells_at(
 }
 
 /// What is known of each index.
+#[tactic(auto, unfolding(crate::specs::Held::index_in))]
 pub(crate) fn all_known(alloc: Global, indexes: &[FlatExpr]) -> Result<Vec<Index>, AllocError>
     ensures { IfOk result (λ known. map index_of known.items ≡ map index_in indexes.now) }
 {

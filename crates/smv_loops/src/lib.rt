@@ -5,7 +5,6 @@
 
 pub mod base;
 pub mod cells;
-pub mod index;
 pub mod laws;
 pub mod listed;
 pub mod loops;

@@ -3,17 +3,18 @@ ghost use Rattle.std.specs.Prelude.{◌≡◌, ◌+◌, ◌<◌, ◌++◌, List,
 ghost use Rattle.std.specs.List.{All};
 ghost use Rattle.smv_core.specs.Assignments.{fixed};
 ghost use Rattle.law_designs.specs.Loops.{at_index, cells_of};
+ghost use Rattle.smv_indexes.specs.Indexes.{index_of, outcome_of};
 ghost use Rattle.smv_loops.specs.Cells.{picked, number_in, reads_of};
 ghost use Rattle.smv_loops.specs.Edges.{AreRowLinks, total};
-ghost use Rattle.smv_loops.specs.Held.{index_of, number_of, reference_of};
+ghost use Rattle.smv_loops.specs.Held.{reference_of};
 ghost use Rattle.smv_loops.specs.Numbers.{AreBases};
 ghost use Rattle.smv_loops.specs.Rows.{IsRow, row_at, stands_for};
 
 use crate::cells::{all_known, behind, cells_at, count, is_constant, step};
-use crate::index::Index;
 use crate::ranks::Links;
 use crate::reading::{Held, Read};
 use smv_core::flat::{Family, Simple};
+use smv_indexes::Index;
 use std::alloc::{AllocError, Global};
 
 /// A family and indexes, with the numbers of all cells that have them.
@@ -224,7 +225,7 @@ fn is_alike(left: Index, right: Index) -> bool
 
 // An index is a constant with this number, or without one.
 fn has_value(index: Index, value: Option<u16>) -> bool
-    ensures { result ≡ true → index_of index ≡ fixed (number_of value) }
+    ensures { result ≡ true → index_of index ≡ fixed (outcome_of value) }
 {
     match index {
         Index::Fixed { value: other } => other == value,

@@ -7,7 +7,8 @@ use Rattle.smv_core.specs.declared.tree.Text.{Text}
 use Rattle.smv_mentions.specs.Scopes.{pieces}
 use Rattle.smv_mentions.specs.NameFaults.{undeclared_in, doubled_in, repeated, without_main, recursive_in, miscounted_in}
 use Rattle.smv_mentions.specs.FirstFault.{first_of, faults_at, faults_of_names}
-use Rattle.smv_scope.specs.ScopeFault.{earlier_of, FirstOfBoth, AnyOrder, first_scope_fault}
+use Rattle.smv_first_fault.specs.Firsts.{earlier_of, FirstOfBoth, AnyOrder}
+use Rattle.smv_scope.specs.ScopeFault.{first_scope_fault}
 use Rattle.smv_size.specs.Recursion.{first_recursion}
 
 -- a part may be taken out of the middle and compared last

@@ -9,8 +9,9 @@ ghost use Rattle.smv_mentions.specs.Said.{AreNoted};
 
 use smv_core::Fault;
 use smv_core::tree::Text;
+use smv_first_fault::faults::{any_order, earlier, first_of_both};
 use smv_mentions::pieces::Piece;
-use smv_scope::scope::{any_order, earlier, first_of_both, scope_fault};
+use smv_scope::scope::scope_fault;
 use smv_size::recursion::recursion_fault;
 use smv_size::size::size_fault;
 use std::alloc::{AllocError, Global};

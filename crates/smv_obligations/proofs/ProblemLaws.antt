@@ -16,7 +16,7 @@ use Rattle.law_obligations.specs.Readings.{PosedCase}
 use Rattle.law_problems.specs.Parts.{case_with, bits_with, fault_at_unit, width_fault}
 use Rattle.law_problems.proofs.Forms.{is_well_formed}
 use Rattle.smv_problem.specs.WellFormed.{IsWellFormed}
-use Rattle.smv_problem.specs.Written.{written, written_element, name_number, set_numbers_of}
+use Rattle.smv_problem.specs.Written.{written, written_element, name_number, set_numbers_of, orders_of}
 use Rattle.smv_problem.specs.declared.problem.Problem.{Problem}
 use Rattle.smv_problem.specs.declared.problem.Demand.{Demand}
 use Rattle.smv_spots.specs.declared.spots.Spot.{Spot}
@@ -65,6 +65,7 @@ module _ (p : Part) (h : IsPartOf p) (times : Timed) where
     lists = map length p.view.design.now.enums;
     names = map (map (name_number p.view.design.now.enums)) p.view.design.now.enums;
     set_names = set_numbers_of p.view.design.now.sets;
+    ordered = orders_of p.view.design.now.sets;
     types = types;
     now = now;
     before = before;
@@ -85,14 +86,15 @@ module _ (p : Part) (h : IsPartOf p) (times : Timed) where
 
   pub problem-is : (s : Shared) (elements : List Element) → IsShared p.view.design.now s → elements ≡ map written_element (cone_of p) → problem_in p times s elements ≡ written the_case
   problem-is s elements h g =
-      let made-of : List (List ℕ) → List ℕ → List Family → List ℕ → Shared = λ ns ss fs ls. record { families = fs; lists = ls; names = ns; set_names = ss } in
-      ap (λ (fs : List Family). problem_in p times (made-of s.names s.set_names fs s.lists) elements) h.families
-      ∙ (ap (λ (ls : List ℕ). problem_in p times (made-of s.names s.set_names p.view.design.now.families ls) elements) h.lists
-      ∙ (ap (λ (ns : List (List ℕ)). problem_in p times (made-of ns s.set_names p.view.design.now.families (map length p.view.design.now.enums)) elements) h.names
-      ∙ (ap (λ (ss : List ℕ). problem_in p times (made-of (map (map (name_number p.view.design.now.enums)) p.view.design.now.enums) ss p.view.design.now.families (map length p.view.design.now.enums)) elements) h.set_names
+      let made-of : List (List ℕ) → List ℕ → List Family → List ℕ → List Bool → Shared = λ ns ss fs ls os. record { families = fs; lists = ls; names = ns; set_names = ss; ordered = os } in
+      ap (λ (fs : List Family). problem_in p times (made-of s.names s.set_names fs s.lists s.ordered) elements) h.families
+      ∙ (ap (λ (ls : List ℕ). problem_in p times (made-of s.names s.set_names p.view.design.now.families ls s.ordered) elements) h.lists
+      ∙ (ap (λ (ns : List (List ℕ)). problem_in p times (made-of ns s.set_names p.view.design.now.families (map length p.view.design.now.enums) s.ordered) elements) h.names
+      ∙ (ap (λ (ss : List ℕ). problem_in p times (made-of (map (map (name_number p.view.design.now.enums)) p.view.design.now.enums) ss p.view.design.now.families (map length p.view.design.now.enums) s.ordered) elements) h.set_names
+      ∙ (ap (λ (os : List Bool). problem_in p times (made-of (map (map (name_number p.view.design.now.enums)) p.view.design.now.enums) (set_numbers_of p.view.design.now.sets) p.view.design.now.families (map length p.view.design.now.enums) os) elements) h.ordered
       ∙ (ap
-      (λ (xs : List Element). problem_in p times (made-of (map (map (name_number p.view.design.now.enums)) p.view.design.now.enums) (set_numbers_of p.view.design.now.sets) p.view.design.now.families (map length p.view.design.now.enums)) xs) g
-      ∙ (sym written-by ∙ ap written (sym case-is))))))
+      (λ (xs : List Element). problem_in p times (made-of (map (map (name_number p.view.design.now.enums)) p.view.design.now.enums) (set_numbers_of p.view.design.now.sets) p.view.design.now.families (map length p.view.design.now.enums) (orders_of p.view.design.now.sets)) xs) g
+      ∙ (sym written-by ∙ ap written (sym case-is)))))))
 
   -- without the fault the bits are few
   few : width_fault p.view.design.now p.leaf.now p.choice.now p.classes.now ≡ None → bits_with p.view.design.now p.leaf.now p.choice.now p.classes.now ≤ 1024

@@ -94,6 +94,7 @@ module _ (p : Part) where
     lists = shared.lists;
     names = shared.names;
     set_names = shared.set_names;
+    ordered = shared.ordered;
     types = p.view.types.now;
     now = demands_in times Now elements;
     before = demands_in times Before elements;

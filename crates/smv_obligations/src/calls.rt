@@ -61,6 +61,7 @@ fn assembled(
         lists,
         names,
         set_names,
+        ordered,
     } = shared;
     Ok(Problem {
         elements,
@@ -68,6 +69,7 @@ fn assembled(
         lists,
         names,
         set_names,
+        ordered,
         types,
         now,
         before,

@@ -1,22 +1,23 @@
 // What the problems of all cases of a design have in common.
 ghost use Rattle.std.specs.Prelude.{◌≡◌, map, length, IfOk};
-ghost use Rattle.smv_problem.specs.Written.{name_number, set_numbers_of};
+ghost use Rattle.smv_problem.specs.Written.{name_number, set_numbers_of, orders_of};
 ghost use Rattle.smv_obligations.specs.Shared.{IsShared, parts_in, shared_in};
 
 use smv_cone::bits::list_lengths;
 use smv_copies::copy_families;
 use smv_core::Seq;
-use smv_core::flat::{Design, Element, Family};
+use smv_core::flat::{Design, Element, Family, SetInfo};
 use smv_problem::Problem;
 use std::alloc::{AllocError, Global};
 
-/// The families of a design, how many constants each enumeration has, and the numbers of the names of its constants and set types.
+/// The families of a design, how many constants each enumeration has, the numbers of the names of its constants and set types, and which set types are ordsets.
 #[derive(Drop)]
 pub struct Shared {
     pub families: Seq<Family>,
     pub lists: Seq<u16>,
     pub names: Seq<Seq<usize>>,
     pub set_names: Seq<usize>,
+    pub ordered: Seq<bool>,
 }
 
 // A copy of some numbers.
@@ -46,6 +47,17 @@ fn lengths(alloc: Global, design: &Design) -> Result<Seq<u16>, AllocError>
     Ok(Seq::from_vec(lists))
 }
 
+// Which set types are ordsets.
+fn orders(alloc: Global, sets: &[SetInfo]) -> Result<Seq<bool>, AllocError>
+    ensures { IfOk result (λ ordered. ordered ≡ orders_of sets.now) }
+{
+    let mut ordered = Seq::new(alloc);
+    for info in sets {
+        ordered.push(info.ordered)?;
+    }
+    Ok(ordered)
+}
+
 /// A copy of all that, by the numbers of names.
 pub fn in_common(
     alloc: Global,
@@ -61,11 +73,13 @@ pub fn in_common(
     let lists = lengths(alloc, design)?;
     let names = copy_names(alloc, names)?;
     let set_names = copy_numbers(alloc, set_names)?;
+    let ordered = orders(alloc, design.sets.as_slice())?;
     Ok(Shared {
         families,
         lists,
         names,
         set_names,
+        ordered,
     })
 }
 
@@ -86,6 +100,7 @@ pub fn taken_apart(problem: Problem) -> ProblemParts
         lists,
         names,
         set_names,
+        ordered,
         types: _,
         now: _,
         before: _,
@@ -100,6 +115,7 @@ pub fn taken_apart(problem: Problem) -> ProblemParts
             lists,
             names,
             set_names,
+            ordered,
         },
     }
 }

@@ -87,7 +87,7 @@ module _ {S C : Type 0} (holds : S → C → (ℕ → Bool) → Bool) (s : S) (v
       ∙ (map_over (mix_at holds s a) x bs
       ∙ all_alike a body (mix_at holds s a x) first bs here agree))
 
-  -- the same, where the expression, its bindings and its truth values are shown append_again
-  pub along_shown : (body shown append_again : FlatExpr) (inners inners' others : List (List Spot)) (each each' : List (Chances C)) → shown ≡ body → append_again ≡ body → inners' ≡ inners → others ≡ inners → each' ≡ each → AreTruthsAlong holds s v shown inners' [] each → AreTruthsAlong holds s v append_again others [] each'
-  along_shown body shown append_again inners inners' others each each' e e' f f' d h =
+  -- the same, where the expression, its bindings and its truth values are shown again
+  pub along_shown : (body shown again : FlatExpr) (inners inners' others : List (List Spot)) (each each' : List (Chances C)) → shown ≡ body → again ≡ body → inners' ≡ inners → others ≡ inners → each' ≡ each → AreTruthsAlong holds s v shown inners' [] each → AreTruthsAlong holds s v again others [] each'
+  along_shown body shown again inners inners' others each each' e e' f f' d h =
       subst (λ x. AreTruthsAlong holds s v x others [] each') (e ∙ sym e') (subst (λ bs. AreTruthsAlong holds s v shown bs [] each') (f ∙ sym f') (subst (AreTruthsAlong holds s v shown inners' []) (sym d) h))

@@ -2,7 +2,7 @@
 
 use crate::texts::{designed, is_so};
 use smv_core::flat::{Design, Unit};
-use smv_layers::units::units;
+use smv_plans::units::units;
 use std::alloc::{AllocError, Global};
 use std::test::Fail;
 

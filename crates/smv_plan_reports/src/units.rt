@@ -10,12 +10,13 @@ ghost use Rattle.smv_plan_reports.specs.Numbers.{AreNumbers};
 
 use crate::leaf::decide_in;
 use smv_chosen_table::{DefIndex, base_defs, index_of};
+use smv_copies::copy_name;
 use smv_core::Seq;
 use smv_core::flat::{Def, Design, Param};
 use smv_name_numbers::{name_numbers, set_numbers};
 use smv_obligations::{Shared, in_common};
 use smv_problem::{Budgets, Plan, UnitResult};
-use smv_splits::names::{copy_name, unit_name};
+use smv_splits::names::unit_name;
 use std::alloc::{AllocError, Global};
 
 /// The numbers of the names of a design: of its constants, list by list, and of its set types.

@@ -7,8 +7,8 @@ use Rattle.smv_core.specs.declared.flat.Design.{Design}
 use Rattle.smv_core.specs.declared.flat.Leaf.{Leaf}
 use Rattle.smv_core.specs.declared.flat.Choice.{Choice}
 use Rattle.smv_mentions.specs.FirstFault.{first_of}
-use Rattle.smv_scope.specs.ScopeFault.{earlier_of}
-use Rattle.smv_scope.proofs.FirstLaws.{first-both, earlier-assoc, earlier-none}
+use Rattle.smv_first_fault.specs.Firsts.{earlier_of}
+use Rattle.smv_first_fault.proofs.FirstLaws.{first-both, earlier-assoc, earlier-none}
 use Rattle.smv_cases.specs.Faults.{cases_fault}
 use Rattle.smv_plans.specs.Plans.{faults_of_cases}
 

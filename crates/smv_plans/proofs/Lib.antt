@@ -1,2 +1,4 @@
 pub mod CaseFaultLaws
 pub mod PlanLaws
+pub mod SortLaws
+pub mod UnitLaws

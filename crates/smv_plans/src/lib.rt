@@ -9,13 +9,15 @@ ghost use Rattle.smv_mentions.specs.FirstFault.{first_of};
 ghost use Rattle.smv_cases.specs.Faults.{cases_fault, Refuses};
 ghost use Rattle.smv_plans.specs.Plans.{faults_of_cases, plan_fault, IsPlan};
 
+pub mod units;
+
+use crate::units::units;
 use smv_cases::calls::cases;
 use smv_choices::choices;
 use smv_core::flat::{Choice, Design, Leaf, Unit};
 use smv_core::{Fault, Refusal};
-use smv_layers::units::units;
+use smv_first_fault::faults::earlier;
 use smv_problem::Plan;
-use smv_scope::scope::earlier;
 use smv_split_faults::leaves;
 use smv_use_times::order;
 use std::alloc::{AllocError, Global};
@@ -39,7 +41,6 @@ fn case_fault(
 }
 
 // The first of such faults.
-
 fn first_case_fault(
     alloc: Global,
     design: &Design,

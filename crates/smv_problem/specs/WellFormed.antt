@@ -160,8 +160,6 @@ module _ (c : PosedCase) where
     pub guards : (g : Guard) → Has c.problem.guards g → IsFitGuard params g
     pub classes : (info : SetInfo) → Has names.sets info → c.problem.world.classes.sizes info.name ≤ 256
     pub gaps : (info : SetInfo) → Has names.sets info → c.problem.world.rests info.name ≡ Gaps → c.problem.world.classes.sizes info.name ≤ 255
-    pub gapped : (info : SetInfo) → Has names.sets info → info.ordered ≡ true → c.problem.world.rests info.name ≡ Gaps
-    pub ungapped : (info : SetInfo) → Has names.sets info → info.ordered ≡ false → c.problem.world.rests info.name ≢ Gaps
     pub have_values : (f : Family) → Has names.families f → 0 < length (places_in c.problem.world f.value)
     pub index_types : (f : Family) → Has names.families f → (t : Simple) → Has f.over t → IsIndexType t
     pub target_is_kept : (def : Def) (indexes : List Place) → c.problem.target ≡ defined def indexes → list_all is_named indexes ≡ true → Has c.elements (element def.family indexes)

@@ -1,6 +1,6 @@
 -- How a case is written as data. The names of set types and constants are not written: a class, a rest and a constant are written by their numbers, and their types
 -- are known where they stand; two enumerations may share a constant, so the names of constants have numbers. Variables have no type where they stand, so what they are bound to is written with the number of its type, as a spot.
-use Rattle.std.specs.Prelude.{ℕ, suc, List, [], ◌∷◌, map, flat_map, length, get_or, slice_get, unwrap_or, Option, Some, None}
+use Rattle.std.specs.Prelude.{ℕ, suc, List, [], ◌∷◌, map, flat_map, length, get_or, slice_get, unwrap_or, Option, Some, None, Bool}
 use Rattle.std.specs.Str.{bytes_eq}
 use Rattle.smv_core.specs.Values.{Name, number, constant, scalar, ordinal}
 use Rattle.smv_core.specs.FlatMeaning.{Numbered}
@@ -102,6 +102,10 @@ name_number enums name = unwrap_or (place_of (bytes_eq name) ([] ∷ flat_map (�
 abbrev pub set_numbers_of : List SetInfo → List ℕ
 set_numbers_of sets = map (λ (info : SetInfo). name_number (map (λ (other : SetInfo). other.name) sets ∷ []) info.name) sets
 
+-- which set types are ordsets
+abbrev pub orders_of : List SetInfo → List Bool
+orders_of sets = map (λ (info : SetInfo). info.ordered) sets
+
 module _ (c : PosedCase) where
   -- the problem of a case
   unfoldable pub written : Problem
@@ -111,6 +115,7 @@ module _ (c : PosedCase) where
     lists = map length c.problem.world.classes.enums;
     names = map (map (name_number c.problem.world.classes.enums)) c.problem.world.classes.enums;
     set_names = set_numbers_of c.problem.world.classes.sets;
+    ordered = orders_of c.problem.world.classes.sets;
     types = map (written_type c.problem.world) c.problem.world.classes.sets;
     now = map (written_demand c.problem.world.classes) c.problem.now;
     before = map (written_demand c.problem.world.classes) c.problem.before;

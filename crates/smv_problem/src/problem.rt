@@ -36,7 +36,7 @@ pub enum Demand {
 }
 
 /// The problem of a case: its elements in cone order, the families of the design, how many constants each enumeration has and a number for the name of each (one
-/// for equal names, of whatever enumeration), a number for the name of each set type and its abstract form, what is demanded at each time and at each but the last, the target, the guards and the spots of
+/// for equal names, of whatever enumeration), for each set type a number for its name, whether it is an ordset, and its abstract form, what is demanded at each time and at each but the last, the target, the guards and the spots of
 /// the leaf's parameters.
 #[derive(Drop)]
 pub struct Problem {
@@ -45,6 +45,7 @@ pub struct Problem {
     pub lists: Seq<u16>,
     pub names: Seq<Seq<usize>>,
     pub set_names: Seq<usize>,
+    pub ordered: Seq<bool>,
     pub types: Seq<AbsType>,
     pub now: Seq<Demand>,
     pub before: Seq<Demand>,

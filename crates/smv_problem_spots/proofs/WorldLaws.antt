@@ -17,7 +17,7 @@ use Rattle.law_lists.proofs.Numbers.{nat_eq-turned}
 use Rattle.smv_spots.proofs.Numbers.{along}
 use Rattle.smv_spots.proofs.TypeLaws as types
 use Rattle.smv_problem.specs.declared.problem.Problem.{Problem}
-use Rattle.smv_problem_spots.specs.Worlds.{IsWorldOf, name_at, count_at, is_one_set, is_one_constant, is_listed_constant, name_number_at, has_gaps}
+use Rattle.smv_problem_spots.specs.Worlds.{IsWorldOf, name_at, count_at, is_one_set, is_one_constant, is_listed_constant, name_number_at, is_ordered}
 
 -- a design with the names of a world
 abbrev pub named_design : World → Design
@@ -57,13 +57,13 @@ both_ordered (Some info) (Some other) k m = at info.ordered other.ordered
     at false true = refl
     at false false = refl
 
-below_in : (p : Problem) (w : World) → IsWorldOf p w → (s k t m : ℕ) → below (Some (of_set (slice_get w.classes.sets s) k)) (Some (of_set (slice_get w.classes.sets t) m)) ≡ (if has_gaps (slice_get p.types s) && is_one_set p s t then Some (nat_lt k m) else None)
-below_in p w h s k t m = both_ordered (slice_get w.classes.sets s) (slice_get w.classes.sets t) k m ∙ (ap (λ b. if b && is_same_set (slice_get w.classes.sets s) (slice_get w.classes.sets t) then Some (nat_lt k m) else None) (h.ordered s) ∙ ap (λ b. if has_gaps (slice_get p.types s) && b then Some (nat_lt k m) else None) (h.sets s t))
+below_in : (p : Problem) (w : World) → IsWorldOf p w → (s k t m : ℕ) → below (Some (of_set (slice_get w.classes.sets s) k)) (Some (of_set (slice_get w.classes.sets t) m)) ≡ (if is_ordered p s && is_one_set p s t then Some (nat_lt k m) else None)
+below_in p w h s k t m = both_ordered (slice_get w.classes.sets s) (slice_get w.classes.sets t) k m ∙ (ap (λ b. if b && is_same_set (slice_get w.classes.sets s) (slice_get w.classes.sets t) then Some (nat_lt k m) else None) (h.ordered s) ∙ ap (λ b. if is_ordered p s && b then Some (nat_lt k m) else None) (h.sets s t))
 
-pub below_where : (p : Problem) (w : World) → IsWorldOf p w → (s k t m : ℕ) → has_gaps (slice_get p.types s) ≡ true → is_one_set p s t ≡ true → Some (nat_lt k m) ≡ below (Some (of_set (slice_get w.classes.sets s) k)) (Some (of_set (slice_get w.classes.sets t) m))
+pub below_where : (p : Problem) (w : World) → IsWorldOf p w → (s k t m : ℕ) → is_ordered p s ≡ true → is_one_set p s t ≡ true → Some (nat_lt k m) ≡ below (Some (of_set (slice_get w.classes.sets s) k)) (Some (of_set (slice_get w.classes.sets t) m))
 below_where p w h s k t m e f = sym (below_in p w h s k t m ∙ (ap (λ b. if b && is_one_set p s t then Some (nat_lt k m) else None) e ∙ ap (λ b. if b then Some (nat_lt k m) else None) f))
 
-pub below_nowhere : (p : Problem) (w : World) → IsWorldOf p w → (s k t m : ℕ) → (has_gaps (slice_get p.types s) && is_one_set p s t) ≡ false → None ≡ below (Some (of_set (slice_get w.classes.sets s) k)) (Some (of_set (slice_get w.classes.sets t) m))
+pub below_nowhere : (p : Problem) (w : World) → IsWorldOf p w → (s k t m : ℕ) → (is_ordered p s && is_one_set p s t) ≡ false → None ≡ below (Some (of_set (slice_get w.classes.sets s) k)) (Some (of_set (slice_get w.classes.sets t) m))
 below_nowhere p w h s k t m e = sym (below_in p w h s k t m ∙ ap (λ b. if b then Some (nat_lt k m) else None) e)
 
 from_zero : (i : ℕ) → 0 + i ≡ i

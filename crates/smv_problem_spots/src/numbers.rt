@@ -1,28 +1,17 @@
 // Set types and enumerations of a problem by their numbers.
 ghost use Rattle.std.specs.Prelude.{◌≡◌, get_or, slice_get};
 ghost use Rattle.smv_spots.specs.Spots.{classes_of, count_beside, rests_of};
-ghost use Rattle.smv_problem_spots.specs.Worlds.{count_at, is_one_set, name_number_at, is_one_constant, is_gaps, has_gaps};
+ghost use Rattle.smv_problem_spots.specs.Worlds.{count_at, is_ordered, is_one_set, name_number_at, is_one_constant};
 
 use smv_core::abstract_type::Rest;
 use smv_problem::Problem;
 
-// Gaps around classes.
-fn is_gapped(rest: Rest) -> bool
-    ensures { result ≡ is_gaps rest }
-{
-    match rest {
-        Rest::None => false,
-        Rest::One => false,
-        Rest::Gaps => true,
-    }
-}
-
-/// Whether a set type is an ordset: it has gaps.
+/// Whether a set type is an ordset.
 pub fn is_ordered(problem: &Problem, set: u16) -> bool
-    ensures { result ≡ has_gaps (slice_get problem.entry.now.types set) }
+    ensures { result ≡ is_ordered problem.entry.now set }
 {
-    match problem.types.as_slice().get(set as usize) {
-        Some(t) => is_gapped(t.rest),
+    match problem.ordered.as_slice().get(set as usize) {
+        Some(ordered) => *ordered,
         None => false,
     }
 }

@@ -12,13 +12,10 @@ ghost use Rattle.smv_problem.specs.declared.report.Report.{Report};
 ghost use Rattle.smv_lex.specs.Answers.{IfFault};
 ghost use Rattle.smv_prove.specs.Ready.{IsReady};
 
-mod named;
-
-use named::place_named;
 use smv_core::Refusal;
 use smv_plan_reports::{prove_plan, prove_unit};
 use smv_problem::{Budgets, Plan, Report};
-use smv_read_design::{plans_of_valid_texts_are_whole, read_design};
+use smv_read_design::{place_named, plans_of_valid_texts_are_whole, read_design};
 use std::alloc::Global;
 
 /// A report of all units of a text, in flat order, or the text's first fault.

@@ -11,8 +11,8 @@ use Rattle.smv_core.specs.declared.flat.Leaf.{Leaf}
 use Rattle.smv_core.specs.declared.flat.Choice.{Choice}
 use Rattle.law_obligations.specs.Sets.{Has, first, later}
 use Rattle.smv_mentions.specs.FirstFault.{first_of}
-use Rattle.smv_scope.specs.ScopeFault.{earlier_of}
-use Rattle.smv_scope.proofs.FirstLaws.{first-both, earlier-assoc, earlier-none}
+use Rattle.smv_first_fault.specs.Firsts.{earlier_of}
+use Rattle.smv_first_fault.proofs.FirstLaws.{first-both, earlier-assoc, earlier-none}
 use Rattle.smv_cases.specs.Slots.{classes_of}
 use Rattle.law_problems.specs.Parts.{IsPart, IsCaseOf, cases_fault, width_fault}
 use Rattle.smv_read_design.specs.Widths.{faults_in, leaf_faults, faults_of_widths, AreParts}

@@ -1,3 +1,4 @@
 pub mod ReadLaws
 pub mod FirstLaws
 mod Order
+mod PassedLaws

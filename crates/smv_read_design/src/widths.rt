@@ -17,7 +17,7 @@ use smv_chosen_table::{DefIndex, base_defs, choose, index_of, put_back};
 use smv_cone::cone;
 use smv_core::flat::{Case, Choice, Def, Design, Leaf, Unit};
 use smv_core::{Fault, Refusal};
-use smv_scope::scope::earlier;
+use smv_first_fault::faults::earlier;
 use std::alloc::{AllocError, Global};
 
 // The fault of a case.

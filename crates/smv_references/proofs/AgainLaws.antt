@@ -13,8 +13,8 @@ use Rattle.smv_core.specs.declared.tree.Word.{Word}
 use Rattle.name_index.specs.Position.{position}
 use Rattle.smv_mentions.specs.NameFaults.{place_if}
 use Rattle.smv_mentions.specs.Scopes.{first_of_places}
-use Rattle.smv_scope.specs.ScopeFault.{least}
-use Rattle.smv_scope.proofs.LeastLaws.{first-none, first-assoc, least-append}
+use Rattle.smv_first_fault.specs.Firsts.{least}
+use Rattle.smv_first_fault.proofs.LeastLaws.{first-none, first-assoc, least-append}
 use Rattle.law_splits.specs.SplitFaults.{doubled}
 use Rattle.smv_references.specs.Again.{again, placed_words}
 

@@ -3,12 +3,12 @@ ghost use Rattle.std.specs.Prelude.{◌≡◌, ◌++◌, ◌∷◌, [], map, is_
 ghost use Rattle.std.specs.Str.{bytes_eq};
 ghost use Rattle.name_index.specs.Position.{position};
 ghost use Rattle.smv_mentions.specs.NameFaults as faults;
-ghost use Rattle.smv_scope.specs.ScopeFault.{least};
+ghost use Rattle.smv_first_fault.specs.Firsts.{least};
 ghost use Rattle.smv_references.specs.Again.{Key, same_key, again, is_noted, placed};
 
 use name_index::NameIndex;
 use smv_core::name::Name;
-use smv_scope::places::{first_of, place_if};
+use smv_first_fault::places::{first_of, place_if};
 use std::alloc::{AllocError, Global};
 use std::collections::HashSet;
 

@@ -2,7 +2,7 @@
 ghost use Rattle.std.specs.Prelude.{◌≡◌, ◌++◌, map, flat_map, find, not, option_copied, IfOk, OnOk};
 ghost use Rattle.std.specs.Str.{bytes_eq};
 ghost use Rattle.smv_mentions.specs.NameFaults as faults;
-ghost use Rattle.smv_scope.specs.ScopeFault.{least};
+ghost use Rattle.smv_first_fault.specs.Firsts.{least};
 ghost use Rattle.law_splits.specs.SplitFaults as splits;
 ghost use Rattle.smv_references.specs.Again.{placed, placed_words};
 
@@ -10,7 +10,7 @@ use crate::again::first_name_again;
 use smv_core::flat::{Param, Simple};
 use smv_core::name::Name;
 use smv_core::tree::Word;
-use smv_scope::places::{first_of, place_if};
+use smv_first_fault::places::{first_of, place_if};
 use std::alloc::{AllocError, Global};
 
 /// The first of these parameters that a word names. So few variables are bound around one place that they are looked through.
@@ -32,7 +32,7 @@ fn names_one(params: &[Param], word: &Word) -> bool
 }
 
 /// The first of these names that is not bound.
-#[tactic(auto, using(smv_scope::proofs::LeastLaws::leasts))]
+#[tactic(auto, using(smv_first_fault::proofs::LeastLaws::leasts))]
 pub fn first_unbound(bound: &[Param], words: &[Word]) -> Option<u32>
     ensures { result ≡ least (flat_map (λ word. faults.place_if (not (splits.names_one bound.now word)) word.at) words.now) }
 {

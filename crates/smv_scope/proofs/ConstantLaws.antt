@@ -9,8 +9,8 @@ use Rattle.smv_core.specs.Types.{names_of}
 use Rattle.smv_core.specs.declared.tree.Word.{Word}
 use Rattle.smv_mentions.specs.NameFaults.{places_of, place_if}
 use Rattle.smv_mentions.specs.Scopes.{first_of_places}
-use Rattle.smv_scope.specs.ScopeFault.{least}
-use Rattle.smv_scope.proofs.LeastLaws.{first-none}
+use Rattle.smv_first_fault.specs.Firsts.{least}
+use Rattle.smv_first_fault.proofs.LeastLaws.{first-none}
 
 -- where one list has ended, they are the same if the other one has
 pub ends : (left right : List Word) → (0 < length left → 0 < length right → ⊥) → same_path (names_of left) (names_of right) ≡ (nat_eq (length left) 0 && nat_eq (length right) 0)

@@ -12,12 +12,12 @@ use Rattle.smv_mentions.specs.Mentions.{Mention, declares, binds, follows, names
 use Rattle.smv_mentions.specs.Scopes.{Scope, pieces, scope_of, first_of_places}
 use Rattle.smv_mentions.specs.NameFaults.{repeated, declared_words, doubled, doubled_in, formals_of}
 use Rattle.smv_mentions.specs.Said.{said, told, AreNoted}
-use Rattle.smv_scope.specs.ScopeFault.{least}
+use Rattle.smv_first_fault.specs.Firsts.{least}
 use Rattle.smv_scope.specs.Numbered.{scope_at}
 use Rattle.smv_scope.specs.Held.{piece_noted}
 use Rattle.smv_scope.proofs.PieceLaws.{Told, scope-here}
 use Rattle.smv_scope.proofs.TableLaws.{told-same, tell}
-use Rattle.smv_scope.proofs.LeastLaws.{least-append}
+use Rattle.smv_first_fault.proofs.LeastLaws.{least-append}
 
 words-first : (mention : Mention) (more : List Mention) → declared_words (mention ∷ more) ≡ declared_words (mention ∷ []) ++ declared_words more
 words-first (declares word what) more = refl

@@ -14,7 +14,7 @@ use Rattle.smv_scope.proofs.Numbers.{named-fields, fields_of_number}
 use Rattle.smv_core.specs.declared.tree.Text.{Text}
 use denote.Ref.{Bor}
 use Rattle.smv_mentions.specs.Said.{words_at}
-use Rattle.smv_scope.specs.ScopeFault.{least}
+use Rattle.smv_first_fault.specs.Firsts.{least}
 use Rattle.smv_mentions.proofs.Computing.{computing}
 
 module _ (known : Known) where

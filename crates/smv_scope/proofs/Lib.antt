@@ -1,5 +1,4 @@
 pub mod FieldLaws
-pub mod LeastLaws
 pub mod Numbers
 pub mod PathLaws
 pub mod PieceLaws

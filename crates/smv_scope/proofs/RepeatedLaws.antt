@@ -11,9 +11,9 @@ use Rattle.smv_mentions.specs.Scopes.{first_of_places}
 use Rattle.smv_mentions.specs.NameFaults.{place_if, repeated}
 use Rattle.smv_mentions.specs.Said.{words_at}
 use Rattle.name_index.specs.Position.{position}
-use Rattle.smv_scope.specs.ScopeFault.{least}
+use Rattle.smv_first_fault.specs.Firsts.{least}
 use Rattle.smv_scope.specs.Rules.{repeated_after}
-use Rattle.smv_scope.proofs.LeastLaws.{least-append, first-assoc, first-none}
+use Rattle.smv_first_fault.proofs.LeastLaws.{from_here, least-append, first-assoc, first-none}
 
 bytes-flip : (x y : Name) → bytes_eq x y ≡ bytes_eq y x
 bytes-flip x y = by (bytes_eq x y) (bytes_eq y x) refl refl

@@ -11,12 +11,12 @@ use Rattle.smv_mentions.specs.declared.pieces.Piece.{Piece as NotedPiece}
 use Rattle.smv_mentions.specs.Scopes.{Piece, Scope, pieces, scope_of, first_of_places}
 use Rattle.smv_mentions.specs.NameFaults.{formal_undeclared, undeclared, undeclared_in, formals_of}
 use Rattle.smv_mentions.specs.Said.{said, told, AreNoted}
-use Rattle.smv_scope.specs.ScopeFault.{least}
+use Rattle.smv_first_fault.specs.Firsts.{least}
 use Rattle.smv_scope.specs.Numbered.{scope_at}
 use Rattle.smv_scope.specs.Held.{piece_noted}
 use Rattle.smv_scope.proofs.PieceLaws.{piece-here, scope-here}
 use Rattle.smv_scope.proofs.TableLaws.{told-same, tell}
-use Rattle.smv_scope.proofs.LeastLaws.{least-append, first-assoc, first-none}
+use Rattle.smv_first_fault.proofs.LeastLaws.{least-append, first-assoc, first-none}
 
 module _ (text : Text) (noted : List NotedPiece) (known : AreNoted noted text) where
   pub long-same : length (pieces text) ≡ length noted

@@ -20,6 +20,7 @@ use Rattle.smv_mentions.specs.declared.mentions.Mention.{Mention as Noted}
 use Rattle.smv_mentions.specs.Mentions.{Mention, declares, binds, follows, names_type, lists_constants, has_fields, instantiates}
 use Rattle.smv_mentions.specs.Scopes.{Known, Piece, Constant, known_after, pieces_from, pieces, own_names, constants_in, constants}
 use Rattle.smv_mentions.specs.Said.{said, told, told_by, AreNoted}
+use Rattle.smv_first_fault.proofs.LeastLaws.{from_here}
 use Rattle.smv_scope.specs.Held.{constant_beside, constants_of_list, lists_of}
 use Rattle.smv_scope.specs.declared.tables.Constant.{Constant as HeldConstant}
 use Rattle.smv_scope.proofs.PieceLaws.{Told}

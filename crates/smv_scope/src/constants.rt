@@ -8,11 +8,11 @@ ghost use Rattle.smv_scope.specs.Compared as spec;
 ghost use Rattle.smv_scope.specs.Compared.{IsCompared};
 ghost use Rattle.smv_scope.specs.Held.{AreTables};
 ghost use Rattle.smv_scope.specs.Rules.{others};
-ghost use Rattle.smv_scope.specs.ScopeFault.{least};
+ghost use Rattle.smv_first_fault.specs.Firsts.{least};
 
-use crate::places::{first_of, place_if};
 use crate::tables::{Tables, item_at};
 use smv_core::tree::Word;
+use smv_first_fault::places::{first_of, place_if};
 
 /// A list that was compared with another one, by its number, and whether the two are the same.
 #[derive(Clone, Copy)]

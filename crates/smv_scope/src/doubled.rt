@@ -7,17 +7,18 @@ ghost use Rattle.smv_mentions.specs.Scopes.{pieces};
 ghost use Rattle.smv_mentions.specs.Said.{said, words_at};
 ghost use Rattle.smv_mentions.specs.NameFaults as faults;
 ghost use Rattle.name_index.specs.Position.{position};
-ghost use Rattle.smv_scope.specs.ScopeFault.{least};
+ghost use Rattle.smv_first_fault.specs.Firsts.{least};
 ghost use Rattle.smv_scope.specs.Numbered.{scope_at};
 ghost use Rattle.smv_scope.specs.Held.{AreTables, piece_noted};
 ghost use Rattle.smv_scope.specs.Rules.{others};
 
 use crate::constants::other_constant;
-use crate::places::{first_of, later, place_if};
+use crate::places::later;
 use crate::tables::{Tables, constant_at, own_name};
 use crate::undeclared::formals_of;
 use name_index::NameIndex;
 use smv_core::tree::{Field, Word};
+use smv_first_fault::places::{first_of, place_if};
 use smv_mentions::mentions::Mention;
 use smv_mentions::pieces::Piece;
 use std::alloc::{AllocError, Global};
@@ -145,7 +146,7 @@ pub(crate) fn doubled_tops(alloc: Global, tables: &Tables) -> Result<Option<u32>
 // ---- names of several sorts
 
 // The first constant of a list that is listed twice.
-#[tactic(auto, using(crate::proofs::LeastLaws::leasts))]
+#[tactic(auto, using(smv_first_fault::proofs::LeastLaws::leasts))]
 fn doubled_constant(
     alloc: Global,
     tables: &Tables,
@@ -171,7 +172,7 @@ fn own_at(tables: &Tables, place: usize, word: &Word) -> Option<u32>
 }
 
 // A variable that is declared before or after as something else.
-#[tactic(auto, using(crate::proofs::LeastLaws::leasts))]
+#[tactic(auto, using(smv_first_fault::proofs::LeastLaws::leasts))]
 fn doubled_variable(tables: &Tables, place: usize, around: Option<u32>, var: &Word) -> Option<u32>
     requires { AreTables tables.now }
     ensures { result ≡ least (faults.later around var.now.at ++ faults.later (scopes.constant_at (scope_at tables.now.text.now place) var.now.name) var.now.at ++ faults.later (faults.own_at (scope_at tables.now.text.now place) var.now.name) var.now.at) }

@@ -3,7 +3,7 @@ ghost use Rattle.std.specs.Prelude.{◌≡◌, ◌≤◌, List, length, min, opt
 ghost use Rattle.smv_core.specs.declared.tree.Word.{Word};
 ghost use Rattle.smv_mentions.specs.Scopes as scopes;
 ghost use Rattle.smv_mentions.specs.Said.{words_at};
-ghost use Rattle.smv_scope.specs.ScopeFault.{least};
+ghost use Rattle.smv_first_fault.specs.Firsts.{least};
 ghost use Rattle.smv_scope.specs.Numbered as spec;
 ghost use Rattle.smv_scope.specs.Numbered.{known_before, top_names, type_number, is_type_top};
 ghost use Rattle.smv_scope.specs.Held.{AreLed, AreTables, fields_led};

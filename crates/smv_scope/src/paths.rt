@@ -4,15 +4,16 @@ ghost use Rattle.std.specs.List.{flat_map};
 ghost use Rattle.smv_mentions.specs.Scopes as scopes;
 ghost use Rattle.smv_mentions.specs.Scopes.{pieces, path_places, resolved};
 ghost use Rattle.smv_mentions.specs.Said.{words_at, said_of};
-ghost use Rattle.smv_scope.specs.ScopeFault.{least};
+ghost use Rattle.smv_first_fault.specs.Firsts.{least};
 ghost use Rattle.smv_scope.specs.Numbered.{known_before, scope_at, inside_of, word_in};
 ghost use Rattle.smv_scope.specs.Held.{AreTables, inner_of, own_of};
 
 use crate::fields::fields_of;
-use crate::places::{first_of, is_before, no_field};
+use crate::places::{is_before, no_field};
 use crate::tables::{Own, Tables, constant_at, module_named, own_name};
 use smv_core::name::Name;
 use smv_core::tree::{Part, Word};
+use smv_first_fault::places::first_of;
 use smv_mentions::mentions::What;
 use std::alloc::{AllocError, Global};
 

@@ -4,15 +4,15 @@ ghost use Rattle.std.specs.List.{flat_map};
 ghost use Rattle.smv_mentions.specs.Scopes.{pieces};
 ghost use Rattle.smv_mentions.specs.Said.{said};
 ghost use Rattle.smv_mentions.specs.NameFaults as faults;
-ghost use Rattle.smv_scope.specs.ScopeFault.{least};
+ghost use Rattle.smv_first_fault.specs.Firsts.{least};
 ghost use Rattle.smv_scope.specs.Held.{AreTables, piece_noted};
 ghost use Rattle.smv_scope.specs.Rules.{broken};
 
 use crate::doubled::doubled_in;
-use crate::places::{first_of, place_if};
 use crate::tables::{Tables, module_named};
 use crate::undeclared::undeclared_in;
 use smv_core::name::Name;
+use smv_first_fault::places::{first_of, place_if};
 use smv_mentions::mentions::Mention;
 use smv_mentions::pieces::Piece;
 use std::alloc::{AllocError, Global};
@@ -43,7 +43,7 @@ fn miscounted(tables: &Tables, mention: &Mention) -> Option<u32>
 }
 
 // The first instance with a wrong number of arguments.
-#[tactic(auto, using(crate::proofs::LeastLaws::leasts))]
+#[tactic(auto, using(smv_first_fault::proofs::LeastLaws::leasts))]
 fn miscounted_in(tables: &Tables, mentions: &[Mention]) -> Option<u32>
     requires { AreTables tables.now }
     ensures { result ≡ least (flat_map (λ mention. faults.miscounted (pieces tables.now.text.now) (said mention)) mentions.now) }

@@ -4,53 +4,20 @@ ghost use Rattle.std.specs.List.{flat_map};
 ghost use Rattle.smv_mentions.specs.Scopes.{pieces};
 ghost use Rattle.smv_mentions.specs.Said.{AreNoted};
 ghost use Rattle.smv_mentions.specs.NameFaults as faults;
-ghost use Rattle.smv_mentions.specs.FirstFault as first;
-ghost use Rattle.smv_scope.specs.ScopeFault.{least, fault_at, earlier_of, first_scope_fault, FirstOfBoth, AnyOrder};
+ghost use Rattle.smv_first_fault.specs.Firsts.{least};
+ghost use Rattle.smv_scope.specs.ScopeFault.{first_scope_fault};
 ghost use Rattle.smv_scope.specs.Held.{AreTables};
 
 use crate::build::tables;
 use crate::doubled::doubled_tops;
-use crate::places::first_of;
 use crate::rules::{Rule, first_broken, without_main};
 use crate::tables::Tables;
 use smv_core::fault::Fault;
 use smv_core::tree::Text;
+use smv_first_fault::faults::{earlier, fault_at};
+use smv_first_fault::places::first_of;
 use smv_mentions::pieces::Piece;
 use std::alloc::{AllocError, Global};
-
-// Whether a fault comes before another.
-fn comes_before(fault: Fault, other: Fault) -> bool
-    ensures { result ≡ first.comes_before fault other }
-{
-    fault.at < other.at || fault.at == other.at && fault.number < other.number
-}
-
-/// The earlier of two faults.
-pub fn earlier(fault: Option<Fault>, other: Option<Fault>) -> Option<Fault>
-    ensures { result ≡ earlier_of fault other }
-{
-    match (fault, other) {
-        (Some(first), Some(second)) => {
-            if comes_before(second, first) {
-                Some(second)
-            } else {
-                Some(first)
-            }
-        }
-        (Some(first), None) => Some(first),
-        (None, other) => other,
-    }
-}
-
-// A fault of this number at a place.
-fn fault(number: u8, at: Option<u32>) -> Option<Fault>
-    ensures { result ≡ fault_at number at }
-{
-    match at {
-        Some(at) => Some(Fault { number, at }),
-        None => None,
-    }
-}
 
 // The first name that is declared twice.
 fn doubled(alloc: Global, tables: &Tables) -> Result<Option<u32>, AllocError>
@@ -71,8 +38,11 @@ fn scope_fault_of(alloc: Global, tables: &Tables) -> Result<Option<Fault>, Alloc
     let doubled = doubled(alloc, tables)?;
     let missing = without_main(alloc, tables)?;
     let miscounted = first_broken(alloc, tables, Rule::Counted)?;
-    let later = earlier(fault(9, missing), fault(11, miscounted));
-    Ok(earlier(fault(7, undeclared), earlier(fault(8, doubled), later)))
+    let later = earlier(fault_at(9, missing), fault_at(11, miscounted));
+    Ok(earlier(
+        fault_at(7, undeclared),
+        earlier(fault_at(8, doubled), later),
+    ))
 }
 
 /// The first fault of a text among 7, 8, 9 and 11: a name that is not declared or is declared twice, no module `main`, a wrong number of arguments.
@@ -87,13 +57,3 @@ pub fn scope_fault<'a>(
     let tables = tables(alloc, text, pieces)?;
     scope_fault_of(alloc, &tables)
 }
-
-/// Of two lists of faults the first is the earlier of their first ones.
-pub fn first_of_both()
-    ensures { FirstOfBoth }
-{}
-
-/// The earliest of several faults is the same in whatever order they are compared.
-pub fn any_order()
-    ensures { AnyOrder }
-{}

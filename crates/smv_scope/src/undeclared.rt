@@ -7,17 +7,17 @@ ghost use Rattle.smv_mentions.specs.Scopes as scopes;
 ghost use Rattle.smv_mentions.specs.Scopes.{pieces};
 ghost use Rattle.smv_mentions.specs.Said.{said, said_of};
 ghost use Rattle.smv_mentions.specs.NameFaults as faults;
-ghost use Rattle.smv_scope.specs.ScopeFault.{least};
+ghost use Rattle.smv_first_fault.specs.Firsts.{least};
 ghost use Rattle.smv_scope.specs.Numbered.{scope_at, known_before};
 ghost use Rattle.smv_scope.specs.Held.{AreTables, AreFormals, piece_noted};
 
 use crate::fields::type_named;
 use crate::paths::path_place;
-use crate::places::{first_of, place_if};
 use crate::tables::{Tables, module_named, own_name};
 use name_index::NameIndex;
 use smv_core::name::Name;
 use smv_core::tree::{Role, Word};
+use smv_first_fault::places::{first_of, place_if};
 use smv_mentions::mentions::{Mention, What};
 use smv_mentions::pieces::Piece;
 use std::alloc::{AllocError, Global};
@@ -121,7 +121,7 @@ fn formal_undeclared(tables: &Tables, place: usize, word: &Word) -> Option<u32>
 }
 
 // The first formal that is not declared.
-#[tactic(auto, using(crate::proofs::LeastLaws::leasts))]
+#[tactic(auto, using(smv_first_fault::proofs::LeastLaws::leasts))]
 fn undeclared_formals(tables: &Tables, place: usize, words: &[Word]) -> Option<u32>
     requires { AreTables tables.now }
     ensures { result ≡ least (flat_map (faults.formal_undeclared (scope_at tables.now.text.now place)) words.now) }
@@ -134,7 +134,7 @@ fn undeclared_formals(tables: &Tables, place: usize, words: &[Word]) -> Option<u
 }
 
 // The first thing of these that is not declared.
-#[tactic(auto, using(crate::proofs::LeastLaws::leasts))]
+#[tactic(auto, using(smv_first_fault::proofs::LeastLaws::leasts))]
 fn undeclared_mentions<'a>(
     alloc: Global,
     tables: &Tables<'a, '_>,

@@ -5,8 +5,8 @@ use Rattle.std.specs.List.{flat_map, list_any}
 use Rattle.std.proofs.lemmas.List.{append-nil}
 use Rattle.std.proofs.lemmas.List.Concat.{flat_map-append}
 use Rattle.smv_mentions.specs.Scopes.{first_of_places}
-use Rattle.smv_scope.specs.ScopeFault.{least}
-use Rattle.smv_scope.proofs.LeastLaws.{first-none, first-assoc, least-append}
+use Rattle.smv_first_fault.specs.Firsts.{least}
+use Rattle.smv_first_fault.proofs.LeastLaws.{first-none, first-assoc, least-append}
 use Rattle.law_designs.specs.Standing.{Standing}
 use Rattle.law_designs.specs.SingleFaults.{later_places, cross, meet, mixed, are_mixed}
 use Rattle.smv_single_assignment.specs.Held.{among}

@@ -7,8 +7,8 @@ use Rattle.smv_core.specs.declared.tree.Kind.{Kind}
 use Rattle.smv_core.specs.declared.tree.Kind.TheVariants.{Comb, Init, Next}
 use Rattle.smv_mentions.specs.Scopes.{first_of_places}
 use Rattle.smv_mentions.specs.NameFaults.{place_if}
-use Rattle.smv_scope.specs.ScopeFault.{least}
-use Rattle.smv_scope.proofs.LeastLaws.{first-assoc, least-append}
+use Rattle.smv_first_fault.specs.Firsts.{least}
+use Rattle.smv_first_fault.proofs.LeastLaws.{first-assoc, least-append}
 use Rattle.law_designs.specs.Standing.{Standing}
 use Rattle.law_designs.specs.SingleFaults.{meet, are_mixed, may_meet, is_comb, later_places, mixed}
 use Rattle.smv_single_assignment.specs.declared.assignments.Assignment.{Assignment}

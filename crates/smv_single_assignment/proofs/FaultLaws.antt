@@ -3,8 +3,8 @@ use Rattle.std.proofs.Common.{◌≡◌, ℕ, ◌++◌, ap, sym, ◌∙◌}
 use Rattle.std.specs.Prelude.{Option}
 use Rattle.std.specs.List.{flat_map}
 use Rattle.smv_core.specs.declared.flat.FlatText.{FlatText}
-use Rattle.smv_scope.specs.ScopeFault.{least, fault_at, earlier_of}
-use Rattle.smv_scope.proofs.FirstLaws.{two, one}
+use Rattle.smv_first_fault.specs.Firsts.{least, fault_at, earlier_of}
+use Rattle.smv_first_fault.proofs.FirstLaws.{first-both, first-at, two, one}
 use Rattle.law_designs.specs.WholeText.{claims_of}
 use Rattle.law_designs.specs.SingleFaults.{meet, mixed, lacking, unnamed, conflicting, assigned_in, first_fault_of_single}
 use Rattle.law_designs.specs.Standing.{statements_of}

@@ -1,5 +1,5 @@
 pub mod Computing
-pub mod PlaceLaws
+pub mod LeftSideLaws
 pub mod StandingLaws
 pub mod ClashLaws
 pub mod LinkLaws

@@ -16,7 +16,7 @@ use Rattle.smv_core.specs.declared.flat.FlatStmt.{FlatStmt, Assign, If', Block',
 use Rattle.law_designs.specs.Standing.{Standing, standing, standing_in}
 use Rattle.law_designs.specs.SingleFaults.{later_places, may_meet, meet, cross, share}
 use Rattle.smv_single_assignment.specs.Links.{AreClassed, between}
-use Rattle.smv_single_assignment.specs.Places.{any_two}
+use Rattle.smv_single_assignment.specs.LeftSides.{any_two}
 use Rattle.smv_single_assignment.specs.Shared.{AreShared, AreInside, AreApart, HasSpot, HasSpots, is_bare, stays_bare, all_two, is_below, meets_all, is_above_one, kept_at}
 
 -- ---- variables around

@@ -1,4 +1,4 @@
-pub mod Places
+pub mod LeftSides
 pub mod Held
 pub mod Clashes
 pub mod Links

@@ -10,7 +10,7 @@ use Rattle.smv_core.specs.FlatMeaning.{flat_index}
 use Rattle.smv_core.specs.declared.flat.FlatExpr.{FlatExpr}
 use Rattle.law_designs.specs.Standing.{Standing}
 use Rattle.law_designs.specs.SingleFaults.{may_meet, meet, share}
-use Rattle.smv_single_assignment.specs.Places.{any_two}
+use Rattle.smv_single_assignment.specs.LeftSides.{any_two}
 
 -- each two that may meet share each variable that is around both
 abbrev pub AreShared : List Standing → Type 0

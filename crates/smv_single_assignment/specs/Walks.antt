@@ -1,6 +1,6 @@
 -- What is found in statements.
 use Rattle.std.specs.Prelude.{◌≡◌, ◌+◌, ℕ, List, length}
-use Rattle.smv_scope.specs.ScopeFault.{least}
+use Rattle.smv_first_fault.specs.Firsts.{least}
 use Rattle.law_designs.specs.Standing.{Standing}
 use Rattle.smv_single_assignment.specs.declared.conflicts.Walked.{Walked}
 

@@ -8,7 +8,7 @@ ghost use Rattle.smv_single_assignment.specs.Held.{standing_of};
 ghost use Rattle.smv_single_assignment.specs.Clashes.{clash_by};
 
 use crate::assignments::Assignment;
-use crate::places::{differ, share};
+use crate::left_sides::{differ, share};
 use smv_core::tree::Kind;
 
 /// When an earlier and a later assignment clash: where they meet, where they cross in branches inside these `forall` variables, or where `:=` stands beside `init` or `next`.

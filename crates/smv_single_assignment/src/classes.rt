@@ -5,8 +5,8 @@ ghost use Rattle.smv_single_assignment.specs.Links.{AreClassed};
 ghost use Rattle.smv_single_assignment.specs.Classes.{number_at, value_by, kept_if, AreBelow, AreRefined, AreSteady};
 
 use crate::assignments::Assignment;
+use crate::left_sides::constant_at;
 use crate::links::zeros;
-use crate::places::constant_at;
 use std::alloc::{AllocError, Global};
 use std::collections::HashMap;
 

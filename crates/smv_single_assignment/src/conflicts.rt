@@ -2,7 +2,7 @@
 ghost use Rattle.std.specs.Prelude.{◌≡◌, ◌≤◌, ℕ, [], length, IfOk};
 ghost use Rattle.std.specs.List.{flat_map};
 ghost use Rattle.smv_mentions.specs.Scopes.{first_of_places};
-ghost use Rattle.smv_scope.specs.ScopeFault.{least};
+ghost use Rattle.smv_first_fault.specs.Firsts.{least};
 ghost use Rattle.law_designs.specs.Standing.{standing};
 ghost use Rattle.law_designs.specs.SingleFaults as spec;
 ghost use Rattle.smv_single_assignment.specs.Held.{among, assigned_of, conflicts_of};
@@ -14,7 +14,7 @@ use crate::assignments::inside;
 use crate::earlier::{first_cross, first_meeting};
 use crate::links::Table;
 use smv_core::flat::{FlatItem, FlatStmt};
-use smv_scope::places::first_of;
+use smv_first_fault::places::first_of;
 use std::alloc::{AllocError, Global};
 
 // The first place of a conflict in statements, and the place behind their assignments.

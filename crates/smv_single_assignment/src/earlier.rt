@@ -1,7 +1,7 @@
 // Earlier assignments that clash with later ones.
 ghost use Rattle.std.specs.Prelude.{◌≡◌, ◌≤◌, ◌<◌, ℕ, length, slice_get, Some, false};
 ghost use Rattle.std.specs.List.{list_any};
-ghost use Rattle.smv_scope.specs.ScopeFault.{least};
+ghost use Rattle.smv_first_fault.specs.Firsts.{least};
 ghost use Rattle.law_designs.specs.Standing.{Standing};
 ghost use Rattle.law_designs.specs.SingleFaults.{later_places, cross, meet};
 ghost use Rattle.smv_single_assignment.specs.Clashes.{clash_by, clashes_of};
@@ -11,7 +11,7 @@ ghost use Rattle.smv_single_assignment.specs.Shared.{AreApart, AreInside};
 use crate::clashes::{Clash, do_clash, same_kind};
 use crate::links::{Table, links_of};
 use smv_core::tree::Kind;
-use smv_scope::places::{first_of, place_if};
+use smv_first_fault::places::{first_of, place_if};
 
 // Whether an assignment is of a kind and clashes with a later one.
 fn is_clash(table: &Table, kind: Kind, by: Clash, earlier: usize, later: usize) -> bool

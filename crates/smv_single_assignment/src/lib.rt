@@ -4,7 +4,6 @@
 #![tactic(auto)]
 
 ghost use Rattle.std.specs.Prelude.{◌≡◌, IfOk};
-ghost use Rattle.smv_scope.specs.ScopeFault.{fault_at};
 ghost use Rattle.law_designs.specs.SingleFaults.{first_fault_of_single};
 
 pub mod assignments;
@@ -12,9 +11,9 @@ pub mod clashes;
 pub mod classes;
 pub mod conflicts;
 pub mod earlier;
+pub mod left_sides;
 pub mod links;
 pub mod mixed;
-pub mod places;
 pub mod shared;
 pub mod variables;
 
@@ -27,18 +26,8 @@ use crate::shared::are_shared;
 use crate::variables::first_without;
 use smv_core::Fault;
 use smv_core::flat::FlatText;
-use smv_scope::scope::earlier;
+use smv_first_fault::faults::{earlier, fault_at};
 use std::alloc::{AllocError, Global};
-
-// A fault of this number at a place.
-fn fault(number: u8, at: Option<u32>) -> Option<Fault>
-    ensures { result ≡ fault_at number at }
-{
-    match at {
-        Some(at) => Some(Fault { number, at }),
-        None => None,
-    }
-}
 
 /// The first fault of a flattened text among 15 to 17, or none.
 pub fn single_fault(alloc: Global, flat_text: &FlatText) -> Result<Option<Fault>, AllocError>
@@ -54,7 +43,7 @@ pub fn single_fault(alloc: Global, flat_text: &FlatText) -> Result<Option<Fault>
     let conflict = first_conflict(items, &table, alloc)?;
     let mixed = first_mixed(&table);
     Ok(earlier(
-        fault(15, conflict),
-        earlier(fault(16, mixed), fault(17, without)),
+        fault_at(15, conflict),
+        earlier(fault_at(16, mixed), fault_at(17, without)),
     ))
 }

@@ -1,13 +1,13 @@
 // `:=` beside `init` or `next`.
 ghost use Rattle.std.specs.Prelude.{◌≡◌, ℕ};
-ghost use Rattle.smv_scope.specs.ScopeFault.{least};
+ghost use Rattle.smv_first_fault.specs.Firsts.{least};
 ghost use Rattle.law_designs.specs.SingleFaults.{mixed};
 ghost use Rattle.smv_single_assignment.specs.Links.{IsTable, held};
 
 use crate::clashes::Clash;
 use crate::earlier::first_clash;
 use crate::links::Table;
-use smv_scope::places::first_of;
+use smv_first_fault::places::first_of;
 
 /// The first place of a later one of a `:=` and an `init` or `next` that are not told apart.
 pub(crate) fn first_mixed(table: &Table) -> Option<u32>

@@ -2,13 +2,14 @@
 ghost use Rattle.std.specs.Prelude.{◌≡◌, ◌&&◌, ℕ, map, true, IfOk};
 ghost use Rattle.smv_single_assignment.specs.Held.{standing_of};
 ghost use Rattle.smv_single_assignment.specs.Links.{AreClassed};
-ghost use Rattle.smv_single_assignment.specs.Places.{index_of};
+ghost use Rattle.smv_indexes.specs.Indexes.{index_of};
 ghost use Rattle.smv_single_assignment.specs.Shared as spec;
 ghost use Rattle.smv_single_assignment.specs.Shared.{AreShared, HasSpot, HasSpots};
 
 use crate::assignments::Assignment;
-use crate::places::{Place, place_of, share};
+use crate::left_sides::share;
 use smv_core::flat::FlatExpr;
+use smv_indexes::{Index, known};
 use std::alloc::{AllocError, Global};
 use std::collections::HashMap;
 
@@ -16,18 +17,18 @@ use std::collections::HashMap;
 const MOST: usize = 16;
 
 // The variable alone.
-fn is_bare(var: u16, place: Place) -> bool
-    ensures { result ≡ spec.is_bare var (index_of place) }
+fn is_bare(var: u16, index: Index) -> bool
+    ensures { result ≡ spec.is_bare var (index_of index) }
 {
-    match place {
-        Place::Bare { var: other } => other == var,
-        Place::Fixed { .. } => false,
-        Place::Computed => false,
+    match index {
+        Index::Bare { var: other } => other == var,
+        Index::Fixed { .. } => false,
+        Index::Computed => false,
     }
 }
 
 // The variable stands bare at the second index if it does at the first.
-fn stays_bare(var: u16, left: Place, right: Place) -> bool
+fn stays_bare(var: u16, left: Index, right: Index) -> bool
     ensures { result ≡ spec.stays_bare var (index_of left) (index_of right) }
 {
     if is_bare(var, left) {
@@ -45,7 +46,7 @@ fn all_stay(var: u16, left: &[FlatExpr], right: &[FlatExpr]) -> bool
     let mut lefts = left;
     let mut rights = right;
     while let ([x, more @ ..], [y, others @ ..]) = (lefts, rights) {
-        if !stays_bare(var, place_of(x), place_of(y)) {
+        if !stays_bare(var, known(x), known(y)) {
             return false;
         }
         lefts = more;

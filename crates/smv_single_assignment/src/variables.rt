@@ -3,7 +3,7 @@ ghost use Rattle.std.specs.Prelude.{◌≡◌, ◌++◌, [], ◌∷◌, map};
 ghost use Rattle.std.specs.List.{list_any, flat_map};
 ghost use Rattle.smv_core.specs.Types.{names_of};
 ghost use Rattle.smv_core.specs.Outcome.{same_path};
-ghost use Rattle.smv_scope.specs.ScopeFault.{least};
+ghost use Rattle.smv_first_fault.specs.Firsts.{least};
 ghost use Rattle.law_designs.specs.WholeText.{claims_of};
 ghost use Rattle.law_designs.specs.SingleFaults as spec;
 ghost use Rattle.smv_single_assignment.specs.Held.{standing_of};
@@ -11,7 +11,7 @@ ghost use Rattle.smv_single_assignment.specs.Held.{standing_of};
 use crate::assignments::Assignment;
 use smv_core::flat::{Claim, FlatExpr, FlatItem, Param};
 use smv_core::tree::Word;
-use smv_scope::places::{first_of, place_if};
+use smv_first_fault::places::{first_of, place_if};
 
 // The variable alone.
 fn is_variable(var: u16, x: &FlatExpr) -> bool
@@ -53,7 +53,7 @@ fn has_variables(x: &Assignment) -> bool
 }
 
 // The first assignment without a variable.
-#[tactic(auto, using(smv_scope::proofs::LeastLaws::leasts))]
+#[tactic(auto, using(smv_first_fault::proofs::LeastLaws::leasts))]
 fn first_lacking(all: &[Assignment]) -> Option<u32>
     ensures { result ≡ least (flat_map spec.lacking (map standing_of all.now)) }
 {
@@ -104,7 +104,7 @@ fn unnamed_in(x: &FlatItem) -> Option<u32>
 }
 
 // The first claim without its variables.
-#[tactic(auto, using(smv_scope::proofs::LeastLaws::leasts))]
+#[tactic(auto, using(smv_first_fault::proofs::LeastLaws::leasts))]
 fn first_unnamed(items: &[FlatItem]) -> Option<u32>
     ensures { result ≡ least (flat_map spec.unnamed (claims_of items.now)) }
 {
@@ -116,7 +116,7 @@ fn first_unnamed(items: &[FlatItem]) -> Option<u32>
 }
 
 /// The first left side or claim without its variables.
-#[tactic(auto, using(smv_scope::proofs::LeastLaws::leasts))]
+#[tactic(auto, using(smv_first_fault::proofs::LeastLaws::leasts))]
 pub(crate) fn first_without(all: &[Assignment], items: &[FlatItem]) -> Option<u32>
     ensures { result ≡ least (flat_map spec.lacking (map standing_of all.now) ++ flat_map spec.unnamed (claims_of items.now)) }
 {

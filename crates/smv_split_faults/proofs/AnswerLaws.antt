@@ -8,9 +8,9 @@ use Rattle.smv_core.specs.declared.flat.FlatSplit.{FlatSplit}
 use Rattle.smv_core.specs.declared.flat.Unit.{Unit}
 use Rattle.smv_mentions.specs.Scopes.{first_of_places}
 use Rattle.smv_mentions.specs.FirstFault.{first_of, faults_at}
-use Rattle.smv_scope.specs.ScopeFault.{least, fault_at, earlier_of}
-use Rattle.smv_scope.proofs.LeastLaws.{least-append}
-use Rattle.smv_scope.proofs.FirstLaws.{first-both, first-at, earlier-none}
+use Rattle.smv_first_fault.specs.Firsts.{least, fault_at, earlier_of}
+use Rattle.smv_first_fault.proofs.LeastLaws.{least-append}
+use Rattle.smv_first_fault.proofs.FirstLaws.{first-both, first-at, earlier-none}
 use Rattle.law_obligations.specs.Units.{units_of}
 use Rattle.law_splits.specs.SplitFaults.{astray, split_again, misfits, mismatches, cuts_of, first_fault_of_splits}
 use Rattle.law_splits.proofs.Types.{types_tell}

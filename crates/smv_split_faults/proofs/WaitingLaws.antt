@@ -13,8 +13,8 @@ use Rattle.smv_core.specs.declared.flat.Param.{Param}
 use Rattle.smv_core.specs.declared.flat.FlatSplit.{FlatSplit}
 use Rattle.law_obligations.proofs.OneOfEach.{get_after}
 use Rattle.smv_mentions.specs.Scopes.{first_of_places}
-use Rattle.smv_scope.specs.ScopeFault.{least}
-use Rattle.smv_scope.proofs.LeastLaws.{first-none, first-assoc, least-append}
+use Rattle.smv_first_fault.specs.Firsts.{least}
+use Rattle.smv_first_fault.proofs.LeastLaws.{first-none, first-assoc, least-append, from_here}
 use Rattle.law_splits.specs.Leaves.{named_by, splits_of}
 use Rattle.law_splits.specs.Chains.{other_type, other_types}
 use Rattle.smv_splits.specs.Groups.{numbers_with, names_split}

@@ -11,8 +11,8 @@ use Rattle.smv_core.specs.declared.flat.Design.{Design}
 use Rattle.law_obligations.specs.Sets.{Has, first, later}
 use Rattle.law_obligations.proofs.Members.{Has-cases, Has-left, Has-right, Has-uncons, Has-from_map}
 use Rattle.smv_mentions.specs.Scopes.{first_of_places}
-use Rattle.smv_scope.specs.ScopeFault.{least}
-use Rattle.smv_scope.proofs.LeastLaws.{first-none, first-assoc, least-append}
+use Rattle.smv_first_fault.specs.Firsts.{least}
+use Rattle.smv_first_fault.proofs.LeastLaws.{first-none, first-assoc, least-append}
 use Rattle.smv_references.proofs.AgainLaws.{first-comm}
 use Rattle.law_splits.specs.Leaves.{splits_of}
 use Rattle.law_splits.specs.Chains.{new_types, mismatches_by, from_split, shown}

@@ -2,28 +2,17 @@
 ghost use Rattle.std.specs.Prelude.{◌≡◌, IfOk};
 ghost use Rattle.law_obligations.specs.Units.{units_of};
 ghost use Rattle.law_splits.specs.SplitFaults.{first_fault_of_splits};
-ghost use Rattle.smv_scope.specs.ScopeFault.{fault_at};
 
 use crate::mismatches::first_mismatch;
 use smv_core::fault::Fault;
 use smv_core::flat::{Design, Unit};
-use smv_scope::places::first_of;
-use smv_scope::scope::earlier;
+use smv_first_fault::faults::{earlier, fault_at};
+use smv_first_fault::places::first_of;
 use smv_splits::groups::make_tables;
 use smv_splits::lost::first_lost;
 use smv_splits::misfits::first_misfit;
 use smv_splits::names::{index_of, names_split};
 use std::alloc::{AllocError, Global};
-
-// A fault of this number at a place.
-fn fault(number: u8, at: Option<u32>) -> Option<Fault>
-    ensures { result ≡ fault_at number at }
-{
-    match at {
-        Some(at) => Some(Fault { number, at }),
-        None => None,
-    }
-}
 
 /// The first fault of splits of a design, 23 and 24, by place and then by number.
 pub fn split_fault(
@@ -41,5 +30,5 @@ pub fn split_fault(
     let lost = first_lost(alloc, &tables, &names, units)?;
     let mismatch = first_mismatch(alloc, &tables, units)?;
     let misfit = first_misfit(alloc, design.families.as_slice(), splits)?;
-    Ok(earlier(fault(23, lost), fault(24, first_of(misfit, mismatch))))
+    Ok(earlier(fault_at(23, lost), fault_at(24, first_of(misfit, mismatch))))
 }

@@ -1,7 +1,7 @@
 // What splits show of the parameters of what they are of.
 ghost use Rattle.std.specs.Prelude.{◌≡◌, ◌++◌, flat_map, length, map, option_copied, option_to_list, slice_get, take, IfOk, OnOk};
 ghost use Rattle.smv_mentions.specs.Scopes.{first_of_places};
-ghost use Rattle.smv_scope.specs.ScopeFault.{least};
+ghost use Rattle.smv_first_fault.specs.Firsts.{least};
 ghost use Rattle.law_splits.specs.Chains as chains;
 ghost use Rattle.smv_splits.specs.Groups.{AreTables};
 ghost use Rattle.smv_split_faults.specs.Waiting as spec;
@@ -10,7 +10,7 @@ ghost use Rattle.smv_split_faults.specs.Waiting.{held, waits, following};
 use crate::types::first_shown;
 use smv_core::flat::{FlatSplit, Simple, Unit};
 use smv_core::name::Name;
-use smv_scope::places::first_of;
+use smv_first_fault::places::first_of;
 use smv_splits::groups::{Tables, group};
 use smv_splits::names::unit_name;
 use smv_splits::params::{add_types, own_types};
@@ -158,7 +158,7 @@ fn first_of_unit(alloc: Global, tables: &Tables, unit: Unit) -> Result<Option<u3
 }
 
 /// The first place of fault 24 that splits show beside the parameters of what they are of.
-#[tactic(auto, using(smv_scope::proofs::LeastLaws::leasts))]
+#[tactic(auto, using(smv_first_fault::proofs::LeastLaws::leasts))]
 pub(crate) fn first_mismatch(
     alloc: Global,
     tables: &Tables,

@@ -1,15 +1,15 @@
 // What a split shows of parameters of some types.
 ghost use Rattle.std.specs.Prelude.{◌≡◌, ◌&&◌, not};
 ghost use Rattle.std.specs.List.{list_any};
-ghost use Rattle.smv_scope.specs.ScopeFault.{least};
+ghost use Rattle.smv_first_fault.specs.Firsts.{least};
 ghost use Rattle.law_splits.specs.Leaves.{with_name};
 ghost use Rattle.law_splits.specs.SplitFaults as spec;
 ghost use Rattle.law_splits.specs.Chains as chains;
 
 use smv_core::flat::{FlatSplit, Param, Simple};
 use smv_core::tree::Word;
+use smv_first_fault::places::{first_of, place_if};
 use smv_references::brackets::{miscounted, named, same_type};
-use smv_scope::places::{first_of, place_if};
 
 // Whether variables may be of a type.
 fn is_of_variables(over: Simple) -> bool

@@ -11,8 +11,8 @@ use Rattle.smv_core.specs.declared.flat.Design.{Design}
 use Rattle.smv_core.specs.declared.flat.FlatSplit.{FlatSplit}
 use Rattle.smv_mentions.specs.NameFaults.{place_if}
 use Rattle.smv_mentions.specs.Scopes.{first_of_places}
-use Rattle.smv_scope.specs.ScopeFault.{least}
-use Rattle.smv_scope.proofs.LeastLaws.{least-step}
+use Rattle.smv_first_fault.specs.Firsts.{least}
+use Rattle.smv_first_fault.proofs.LeastLaws.{from_here, least-step}
 use Rattle.law_splits.specs.Leaves.{named_by}
 use Rattle.law_splits.specs.SplitFaults.{astray, split_again, doubled}
 use Rattle.smv_references.specs.Again.{again, placed_words}

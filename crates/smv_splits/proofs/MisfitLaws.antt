@@ -12,8 +12,8 @@ use Rattle.smv_core.specs.declared.flat.FlatPair.{FlatPair}
 use Rattle.name_index.proofs.Finding.{position-known}
 use Rattle.smv_mentions.specs.NameFaults.{place_if}
 use Rattle.smv_mentions.specs.Scopes.{first_of_places}
-use Rattle.smv_scope.specs.ScopeFault.{least}
-use Rattle.smv_scope.proofs.LeastLaws.{least-append, first-assoc}
+use Rattle.smv_first_fault.specs.Firsts.{least}
+use Rattle.smv_first_fault.proofs.LeastLaws.{least-append, first-assoc}
 use Rattle.law_splits.specs.Variables.{Reading, readings}
 use Rattle.law_splits.specs.SplitFaults as splits
 use Rattle.smv_splits.specs.Parts as parts

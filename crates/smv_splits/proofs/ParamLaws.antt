@@ -11,6 +11,7 @@ use Rattle.smv_core.specs.declared.flat.Simple.{Simple}
 use Rattle.smv_core.specs.declared.flat.Simple.TheVariants.{Enum}
 use Rattle.smv_core.specs.declared.flat.Param.{Param}
 use Rattle.law_obligations.proofs.Lookups.{find-some}
+use Rattle.smv_first_fault.proofs.LeastLaws.{from_here}
 use Rattle.law_splits.specs.Leaves.{numbered, bound_as}
 
 -- the variable that is bound as a word has its name

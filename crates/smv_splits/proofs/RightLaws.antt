@@ -13,6 +13,7 @@ use Rattle.smv_core.specs.declared.tree.Word.{Word}
 use Rattle.smv_core.specs.declared.flat.FlatPair.{FlatPair}
 use Rattle.name_index.specs.Position.{position}
 use Rattle.name_index.proofs.Finding.{position-known}
+use Rattle.smv_first_fault.proofs.LeastLaws.{from_here}
 use Rattle.law_splits.specs.SplitFaults.{equations_of}
 use Rattle.smv_splits.specs.Parts.{repeated_if, repeated, right_names, is_in_one}
 

@@ -10,8 +10,8 @@ use mathlib.Core.Former.{Count}
 use Rattle.law_designs.proofs.FlatLists.{boxes}
 use Rattle.smv_mentions.specs.NameFaults.{place_if}
 use Rattle.smv_mentions.specs.Scopes.{first_of_places}
-use Rattle.smv_scope.specs.ScopeFault.{least}
-use Rattle.smv_scope.proofs.LeastLaws.{first-assoc, first-none}
+use Rattle.smv_first_fault.specs.Firsts.{least}
+use Rattle.smv_first_fault.proofs.LeastLaws.{first-assoc, first-none}
 use Rattle.law_splits.specs.Variables.{Reading, readings, readings_each, readings_signed, readings_members}
 use Rattle.smv_splits.specs.Parts.{first_among, first_stray, is_stray, stray_in, member_stray, signed_stray}
 

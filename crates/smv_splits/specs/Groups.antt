@@ -6,7 +6,7 @@ use Rattle.smv_core.specs.declared.flat.Design.{Design}
 use Rattle.smv_core.specs.declared.flat.FlatSplit.{FlatSplit}
 use Rattle.smv_core.specs.declared.flat.Unit.{Unit}
 use Rattle.smv_mentions.specs.Scopes.{first_of_places}
-use Rattle.smv_scope.specs.ScopeFault.{least}
+use Rattle.smv_first_fault.specs.Firsts.{least}
 use Rattle.name_index.specs.Position.{position}
 use Rattle.graph_search.specs.Walks.{lists}
 use Rattle.graph_search.specs.Reverse.{after}

@@ -9,9 +9,10 @@ ghost use Rattle.smv_splits.specs.Links as ends;
 
 use crate::chains::{Chain, follow};
 use crate::guards::all_guards;
-use crate::names::{copy_name, index_of, names_split, unit_name};
+use crate::names::{index_of, names_split, unit_name};
 use crate::params::{number, own_params};
 use name_index::NameIndex;
+use smv_copies::copy_name;
 use smv_core::flat::{Design, Leaf, Unit};
 use smv_core::seq::Seq;
 use std::alloc::{AllocError, Global};

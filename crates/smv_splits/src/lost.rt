@@ -1,6 +1,6 @@
 // The splits that lead to no unit, or are of what is split already.
 ghost use Rattle.std.specs.Prelude.{◌≡◌, ◌++◌, false, flat_map, map, length, slice_index_or, IfOk, OnOk};
-ghost use Rattle.smv_scope.specs.ScopeFault.{least};
+ghost use Rattle.smv_first_fault.specs.Firsts.{least};
 ghost use Rattle.law_obligations.specs.Units.{units_of};
 ghost use Rattle.law_splits.specs.Leaves.{named_by};
 ghost use Rattle.law_splits.specs.SplitFaults as spec;
@@ -13,8 +13,8 @@ use crate::names::unit_name;
 use graph_search::search::{explore, see_all, unseen};
 use smv_core::flat::{Design, FlatSplit, Unit};
 use smv_core::name::Name;
+use smv_first_fault::places::{first_of, place_if};
 use smv_references::again::first_name_again;
-use smv_scope::places::{first_of, place_if};
 use std::alloc::{AllocError, Global};
 
 // For each split the place of the group of what it makes, and one past all where there is none.
@@ -83,7 +83,7 @@ fn is_marked(marks: &[bool], place: usize) -> bool
 }
 
 // The first split that leads to no unit.
-#[tactic(auto, using(smv_scope::proofs::LeastLaws::leasts))]
+#[tactic(auto, using(smv_first_fault::proofs::LeastLaws::leasts))]
 fn first_astray(design: &Design, led: &[bool]) -> Option<u32>
     requires { led.now ≡ map (leads design.now) design.now.splits }
     ensures { result ≡ least (flat_map (spec.astray design.now) design.now.splits) }

@@ -2,7 +2,7 @@
 ghost use Rattle.std.specs.Prelude.{◌≡◌, map, flat_map, not, IfOk};
 ghost use Rattle.std.specs.List.{list_any};
 ghost use Rattle.smv_mentions.specs.NameFaults as faults;
-ghost use Rattle.smv_scope.specs.ScopeFault.{least};
+ghost use Rattle.smv_first_fault.specs.Firsts.{least};
 ghost use Rattle.law_splits.specs.Leaves.{with_name};
 ghost use Rattle.law_splits.specs.SplitFaults as spec;
 ghost use Rattle.smv_splits.specs.Parts as parts;
@@ -14,9 +14,9 @@ use crate::strays::stray_in;
 use name_index::NameIndex;
 use smv_core::flat::{Family, FlatPair, FlatSplit, Param};
 use smv_core::tree::Word;
+use smv_first_fault::places::{first_of, place_if};
 use smv_references::again::first_name_again;
 use smv_references::brackets::{add_words, first_unbound, named};
-use smv_scope::places::{first_of, place_if};
 use std::alloc::{AllocError, Global};
 
 // The first name of its brackets, and then of those of what is split, that is not bound.
@@ -42,7 +42,7 @@ fn first_doubled(alloc: Global, split: &FlatSplit) -> Result<Option<u32>, AllocE
 }
 
 // The first new parameter that is not to the right of exactly one equation.
-#[tactic(auto, using(smv_scope::proofs::LeastLaws::leasts))]
+#[tactic(auto, using(smv_first_fault::proofs::LeastLaws::leasts))]
 fn first_not_in_one(rights: &Rights, words: &[Word]) -> Option<u32>
     ensures { result ≡ least (flat_map (λ word. faults.place_if (not (parts.is_in_one rights.now.names rights.now.repeated word)) word.at) words.now) }
 {
@@ -66,7 +66,7 @@ fn names_of<'a>(alloc: Global, words: &'a [Word]) -> Result<NameIndex<'a>, Alloc
 }
 
 // The first name to the right of an equation that is no new parameter.
-#[tactic(auto, using(smv_scope::proofs::LeastLaws::leasts))]
+#[tactic(auto, using(smv_first_fault::proofs::LeastLaws::leasts))]
 fn first_not_new(new: &NameIndex, pairs: &[FlatPair]) -> Option<u32>
     ensures { result ≡ least (flat_map (parts.not_new_in new.now) pairs.now) }
 {
@@ -89,7 +89,7 @@ fn is_other_kind(families: &[Family], bound: &[Param], pair: &FlatPair) -> bool
 }
 
 // The first expression of another kind.
-#[tactic(auto, using(smv_scope::proofs::LeastLaws::leasts))]
+#[tactic(auto, using(smv_first_fault::proofs::LeastLaws::leasts))]
 fn first_other_kind(families: &[Family], bound: &[Param], pairs: &[FlatPair]) -> Option<u32>
     ensures { result ≡ least (flat_map (parts.other_kind_in families.now bound.now) pairs.now) }
 {
@@ -102,7 +102,7 @@ fn first_other_kind(families: &[Family], bound: &[Param], pairs: &[FlatPair]) ->
 }
 
 // The first variable around the split that stands for no parameter and is read.
-#[tactic(auto, using(smv_scope::proofs::LeastLaws::leasts))]
+#[tactic(auto, using(smv_first_fault::proofs::LeastLaws::leasts))]
 fn first_stray(standing: &[Option<usize>], pairs: &[FlatPair]) -> Option<u32>
     ensures { result ≡ parts.first_among (map (λ pair. parts.stray_in standing.now pair.left) pairs.now) }
 {
@@ -148,7 +148,7 @@ fn misfit_of(
 }
 
 /// The first place of fault 24 that some splits show by themselves.
-#[tactic(auto, using(smv_scope::proofs::LeastLaws::leasts))]
+#[tactic(auto, using(smv_first_fault::proofs::LeastLaws::leasts))]
 pub fn first_misfit(
     alloc: Global,
     families: &[Family],

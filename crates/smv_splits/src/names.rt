@@ -6,19 +6,11 @@ ghost use Rattle.law_splits.specs.Leaves.{named_by, in_layer};
 ghost use Rattle.smv_splits.specs.Looked.{layer_name, family_name};
 
 use name_index::NameIndex;
+use smv_copies::copy_name;
 use smv_core::flat::{Def, Design, FlatSplit, Unit};
 use smv_core::name::Name;
 use smv_references::names::name_of;
 use std::alloc::{AllocError, Global};
-
-/// A name again.
-pub fn copy_name(alloc: Global, name: &Name) -> Result<Name, AllocError>
-    ensures { IfOk result (λ copy. copy ≡ name.now) }
-{
-    let mut bytes = Vec::new(alloc);
-    bytes.extend_from_slice(name.as_bytes())?;
-    Ok(Name::from_vec(bytes))
-}
 
 /// The empty name.
 pub(crate) fn no_name(alloc: Global) -> Name

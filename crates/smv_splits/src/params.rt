@@ -6,7 +6,8 @@ ghost use Rattle.law_splits.specs.Leaves as spec;
 ghost use Rattle.law_splits.specs.Leaves.{numbered, nameless, bound_as};
 ghost use Rattle.law_splits.specs.Chains.{types_of, new_types, unit_types};
 
-use crate::names::{copy_name, no_name};
+use crate::names::no_name;
+use smv_copies::copy_name;
 use smv_core::flat::{Design, FlatSplit, Param, Simple, Unit};
 use smv_core::tree::Word;
 use smv_references::brackets::named;

@@ -4,7 +4,7 @@ ghost use Rattle.smv_splits.specs.Parts as parts;
 ghost use Rattle.smv_splits.specs.Parts.{first_among};
 
 use smv_core::flat::{FlatExpr, FlatMember, FlatSigned};
-use smv_scope::places::{first_of, place_if};
+use smv_first_fault::places::{first_of, place_if};
 
 // Whether a variable is one around the split that stands for no parameter.
 fn is_stray(standing: &[Option<usize>], var: u16) -> bool
@@ -64,7 +64,7 @@ pub(crate) fn stray_in(standing: &[Option<usize>], x: &FlatExpr) -> Option<u32>
 }
 
 #[cycle(expressions)]
-#[tactic(auto, using(smv_scope::proofs::LeastLaws::leasts))]
+#[tactic(auto, using(smv_first_fault::proofs::LeastLaws::leasts))]
 fn strays_in(standing: &[Option<usize>], exprs: &[FlatExpr]) -> Option<u32>
     ensures { result ≡ first_among (map (parts.stray_in standing.now) exprs.now) }
 {
@@ -76,7 +76,7 @@ fn strays_in(standing: &[Option<usize>], exprs: &[FlatExpr]) -> Option<u32>
 }
 
 #[cycle(expressions)]
-#[tactic(auto, using(smv_scope::proofs::LeastLaws::leasts))]
+#[tactic(auto, using(smv_first_fault::proofs::LeastLaws::leasts))]
 fn signed_strays(standing: &[Option<usize>], more: &[FlatSigned]) -> Option<u32>
     ensures { result ≡ first_among (map (parts.signed_stray standing.now) more.now) }
 {
@@ -88,7 +88,7 @@ fn signed_strays(standing: &[Option<usize>], more: &[FlatSigned]) -> Option<u32>
 }
 
 #[cycle(expressions)]
-#[tactic(auto, using(smv_scope::proofs::LeastLaws::leasts))]
+#[tactic(auto, using(smv_first_fault::proofs::LeastLaws::leasts))]
 fn member_strays(standing: &[Option<usize>], members: &[FlatMember]) -> Option<u32>
     ensures { result ≡ first_among (map (parts.member_stray standing.now) members.now) }
 {

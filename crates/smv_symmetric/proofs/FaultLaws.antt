@@ -2,7 +2,7 @@
 use Rattle.std.proofs.Common.{◌≡◌, List, [], ◌∷◌, ◌++◌, map, true, false, ◌&&◌, refl, ap, sym, ◌∙◌}
 use Rattle.std.specs.Prelude.{Option, Some, None, is_some, slice_get, nat_lt, length}
 use Rattle.std.specs.List.{flat_map, list_all}
-use Rattle.std.proofs.lemmas.Bool.{and_parts, and_from}
+use Rattle.std.proofs.lemmas.Bool.{and_parts}
 use Rattle.law_lists.proofs.Lists.{append_same}
 use Rattle.smv_core.specs.declared.fault.Fault.{Fault}
 use Rattle.smv_core.specs.declared.flat.FlatPair.{FlatPair}
@@ -189,17 +189,17 @@ module _ (flat_text : FlatText) where
 
   -- ---- items
 
-  pairs-same : (vars : Vars) (pairs : List FlatPair) → list_all (λ (and_from : FlatPair). is_some (kind_in flat_text vars and_from.left)) pairs ≡ true →
-      flat_map (λ (and_from : FlatPair). Real vars and_from.left) pairs ≡ flat_map (λ (and_from : FlatPair). Found vars and_from.left) pairs
+  pairs-same : (vars : Vars) (pairs : List FlatPair) → list_all (λ (pair : FlatPair). is_some (kind_in flat_text vars pair.left)) pairs ≡ true →
+      flat_map (λ (pair : FlatPair). Real vars pair.left) pairs ≡ flat_map (λ (pair : FlatPair). Found vars pair.left) pairs
   pairs-same vars [] h = refl
-  pairs-same vars (and_from ∷ pairs) h =
-      let g : (is_some (kind_in flat_text vars and_from.left) ≡ true) × (list_all (λ (and_from : FlatPair). is_some (kind_in flat_text vars and_from.left)) pairs ≡ true) = and_parts _ _ h in
-      append_same (same-in vars and_from.left (has_value vars and_from.left g.0)) (pairs-same vars pairs g.1)
+  pairs-same vars (pair ∷ pairs) h =
+      let g : (is_some (kind_in flat_text vars pair.left) ≡ true) × (list_all (λ (pair : FlatPair). is_some (kind_in flat_text vars pair.left)) pairs ≡ true) = and_parts _ _ h in
+      append_same (same-in vars pair.left (has_value vars pair.left g.0)) (pairs-same vars pairs g.1)
 
   same-item : (x : FlatItem) → is_kinded_item flat_text x ≡ true → spec.item_faults flat_text (value_in flat_text) x ≡ spec.item_faults flat_text (sort_in flat_text) x
   same-item (item.Act layer act) h = same-of [] act h
   same-item (item.Claim c) h = same-number (bound_by flat_text c.params) c.body (and_parts (are_binders flat_text [] c.params) (takes number (kind_in flat_text (bound_by flat_text c.params) c.body)) h).1
-  same-item (item.Split s) h = pairs-same (bound_by flat_text s.bound) s.pairs (and_parts (are_binders flat_text [] s.bound) (list_all (λ (and_from : FlatPair). is_some (kind_in flat_text (bound_by flat_text s.bound) and_from.left)) s.pairs) h).1
+  same-item (item.Split s) h = pairs-same (bound_by flat_text s.bound) s.pairs (and_parts (are_binders flat_text [] s.bound) (list_all (λ (pair : FlatPair). is_some (kind_in flat_text (bound_by flat_text s.bound) pair.left)) s.pairs) h).1
   same-item (item.Using u) h = refl
 
   same-items : (items : List FlatItem) → list_all (is_kinded_item flat_text) items ≡ true → flat_map (spec.item_faults flat_text (value_in flat_text)) items ≡ flat_map (spec.item_faults flat_text (sort_in flat_text)) items

@@ -15,8 +15,8 @@ use Rattle.smv_core.specs.declared.flat.FlatItem.TheVariants as item
 use mathlib.Core.Former.{Count}
 use Rattle.law_designs.proofs.FlatLists.{boxes}
 use Rattle.smv_mentions.specs.FirstFault.{first_of}
-use Rattle.smv_scope.specs.ScopeFault.{earlier_of}
-use Rattle.smv_scope.proofs.FirstLaws.{earlier-assoc, first-both}
+use Rattle.smv_first_fault.specs.Firsts.{earlier_of}
+use Rattle.smv_first_fault.proofs.FirstLaws.{earlier-assoc, first-both}
 use Rattle.law_designs.specs.FlatKinds.{Vars, inside, bound_by}
 use Rattle.law_designs.specs.SetOperands.{wanted_at, wanted_of}
 use Rattle.law_designs.specs.SetFaults as spec

@@ -4,8 +4,8 @@ use Rattle.std.specs.Prelude.{Option, Some, None, filter}
 use Rattle.std.specs.List.{flat_map, list_any}
 use Rattle.smv_core.specs.declared.fault.Fault.{Fault}
 use Rattle.smv_mentions.specs.FirstFault.{first_of}
-use Rattle.smv_scope.specs.ScopeFault.{earlier_of}
-use Rattle.smv_scope.proofs.FirstLaws.{earlier-assoc, first-both, earlier-none}
+use Rattle.smv_first_fault.specs.Firsts.{earlier_of}
+use Rattle.smv_first_fault.proofs.FirstLaws.{earlier-assoc, first-both, earlier-none}
 use Rattle.law_designs.specs.SetOperands.{Operand, is_of_set, is_number, number_fault, met}
 use Rattle.smv_symmetric.specs.Plain.{first_among, fault_if_number}
 

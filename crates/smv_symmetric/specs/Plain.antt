@@ -11,7 +11,7 @@ use Rattle.smv_core.specs.declared.flat.FlatStmt.{FlatStmt}
 use Rattle.smv_core.specs.declared.flat.FlatItem.{FlatItem}
 use Rattle.smv_core.specs.declared.flat.FlatText.{FlatText}
 use Rattle.smv_mentions.specs.FirstFault.{first_of}
-use Rattle.smv_scope.specs.ScopeFault.{earlier_of}
+use Rattle.smv_first_fault.specs.Firsts.{earlier_of}
 use Rattle.law_designs.specs.FlatKinds.{Kind, number, enumeration, kind_of, joined, Vars}
 use Rattle.law_designs.specs.SetOperands.{Operand, first_at, is_number, number_fault, met, disordered, wanted_at, wanted_of}
 use Rattle.law_designs.specs.SetFaults as faults

@@ -8,7 +8,7 @@ use crate::operands::{add_members, disordered, met, operand_of, wanted_at};
 use smv_core::fault::Fault;
 use smv_core::flat::{FlatExpr, FlatMember, FlatSigned, FlatText, Simple};
 use smv_core::tree::Op;
-use smv_scope::scope::earlier;
+use smv_first_fault::faults::earlier;
 use std::alloc::{AllocError, Global};
 
 /// The variables that are bound, with one more over this type.

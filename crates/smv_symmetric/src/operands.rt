@@ -11,7 +11,7 @@ use crate::kinds::{Kind, kind_in, kind_of};
 use smv_core::fault::Fault;
 use smv_core::flat::{FlatExpr, FlatMember, FlatText, SetInfo, Simple};
 use smv_core::tree::Op;
-use smv_scope::scope::earlier;
+use smv_first_fault::faults::earlier;
 use std::alloc::AllocError;
 
 /// An operand: its kind, its place, and whether it is the variable of a `for` alone.

@@ -9,7 +9,7 @@ use smv_core::fault::Fault;
 use smv_core::flat::{
     Claim, FlatExpr, FlatItem, FlatPair, FlatSplit, FlatStmt, FlatText, Param, Simple,
 };
-use smv_scope::scope::earlier;
+use smv_first_fault::faults::earlier;
 use std::alloc::{AllocError, Global};
 
 // The first fault of an assignment of a family: in its indexes and its value, and of what it wants there.

@@ -1,6 +1,7 @@
 -- Base definitions, from one definition to the next.
 use Rattle.std.proofs.Common.{◌≡◌, ℕ, zero, suc, ◌+◌, ◌<◌, ◌≢◌, List, [], ◌∷◌, length, drop, get_or, set, replicate, Bool, true, false, cond, ◌&&◌, ◌||◌, refl, ap, sym, subst, ◌∙◌, ◌⊎◌, inl, inr, Option, Some, None, filter, is_none, arith, add-one, drop-cons}
 use Rattle.std.specs.List.{slice_get}
+use Rattle.std.specs.Prelude.{slice_index_or}
 use Rattle.std.proofs.lemmas.List.{get_or-set_other, get_or-set_same, length-set, length-replicate}
 use Rattle.std.proofs.lemmas.Bool.{cases_eq}
 use Rattle.std.proofs.lemmas.Grind.{common_steps}
@@ -10,7 +11,7 @@ use Rattle.law_lists.proofs.Places.{get_read}
 use Rattle.smv_core.specs.declared.flat.Design.{Design}
 use Rattle.smv_core.specs.declared.flat.Family.{Family}
 use Rattle.smv_core.specs.declared.flat.Def.{Def}
-use Rattle.law_obligations.specs.Outlines.{earlier, earliest, may_be_base}
+use Rattle.law_obligations.specs.Outlines.{earlier, earliest, may_be_base, base_of}
 use Rattle.smv_unit_tables.specs.Bases.{number_in, AreBases, AreBasesFrom}
 
 any_default : (xs : List ℕ) (k a b : ℕ) → k < length xs → get_or xs k a ≡ get_or xs k b
@@ -99,3 +100,21 @@ module _ (d : Design) where
 
   pub are_bases : (bases : List ℕ) → AreBasesFrom d 0 bases → AreBases d bases
   are_bases bases known = record { room = known.room; each = known.each }
+
+-- ---- base definitions by their numbers
+
+index-some : {X : Type 0} (xs : List X) (k : ℕ) (x d : X) → slice_get xs k ≡ Some x → slice_index_or xs k d ≡ x
+index-some [] k x d e = absurd (cc (e))
+index-some (y ∷ xs) zero x d e = cc (e)
+index-some (y ∷ xs) (suc k) x d e = index-some xs k x d e
+
+index-none : {X : Type 0} (xs : List X) (k : ℕ) (d : X) → slice_get xs k ≡ None → slice_index_or xs k d ≡ d
+index-none [] k d e = refl
+index-none (y ∷ xs) zero d e = absurd (cc (e))
+index-none (y ∷ xs) (suc k) d e = index-none xs k d e
+
+pub base-some : (d : Design) (bases : List ℕ) (family place : ℕ) → AreBases d bases → slice_get bases family ≡ Some place → slice_get d.defs place ≡ base_of d family
+base-some d bases family place are e = ap (slice_get d.defs) (sym (index-some bases family place (length d.defs) e)) ∙ are.each family
+
+pub base-none : (d : Design) (bases : List ℕ) (family : ℕ) → AreBases d bases → slice_get bases family ≡ None → slice_get d.defs (length d.defs) ≡ base_of d family
+base-none d bases family are e = ap (slice_get d.defs) (sym (index-none bases family (length d.defs) e)) ∙ are.each family

@@ -1,7 +1,7 @@
 // The base definition of each family, by its number.
-ghost use Rattle.std.specs.Prelude.{◌≡◌, ◌+◌, ◌<◌, length, replicate, slice_get, Some, IfOk};
+ghost use Rattle.std.specs.Prelude.{◌≡◌, ◌+◌, ◌<◌, length, option_copied, replicate, slice_get, Some, IfOk};
 ghost use Rattle.law_obligations.specs.Outlines as outline;
-ghost use Rattle.law_obligations.specs.Outlines.{earlier};
+ghost use Rattle.law_obligations.specs.Outlines.{base_of, earlier};
 ghost use Rattle.smv_unit_tables.specs.Bases.{AreBases, AreBasesFrom};
 
 use smv_core::flat::{Def, Design};
@@ -18,6 +18,31 @@ pub fn bases(alloc: Global, design: &Design) -> Result<Vec<usize>, AllocError>
         add(design, &mut bases, place);
     }
     Ok(bases)
+}
+
+// The number of a family's base definition, if the table has the family.
+fn number_at(bases: &[usize], family: usize) -> Option<usize>
+    ensures { result ≡ slice_get bases.now family }
+{
+    bases.get(family).copied()
+}
+
+/// The definition of a number.
+pub fn def_at<'a>(design: &'a Design, place: usize) -> Option<&'a Def>
+    ensures { option_copied result ≡ slice_get design.now.defs place }
+{
+    design.defs.as_slice().get(place)
+}
+
+/// The base definition of a family, by the numbers of all of them.
+pub fn base_at<'a>(design: &'a Design, bases: &[usize], family: usize) -> Option<&'a Def>
+    requires { AreBases design.now bases.now }
+    ensures { option_copied result ≡ base_of design.now family }
+{
+    match number_at(bases, family) {
+        Some(place) => def_at(design, place),
+        None => def_at(design, design.defs.len()),
+    }
 }
 
 // Before the first definition no family has one.

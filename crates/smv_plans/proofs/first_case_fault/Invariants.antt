@@ -1,6 +1,6 @@
 use Rattle.std.proofs.Common.{◌≡◌}
 use Rattle.smv_mentions.specs.FirstFault.{first_of}
-use Rattle.smv_scope.specs.ScopeFault.{earlier_of}
+use Rattle.smv_first_fault.specs.Firsts.{earlier_of}
 use Rattle.smv_plans.specs.Plans.{faults_of_cases}
 use Rattle.smv_plans.proofs.CaseFaultLaws.{left}
 use Rattle.smv_plans.proofs.first_case_fault.Given as goal

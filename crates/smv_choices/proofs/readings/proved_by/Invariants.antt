@@ -1,7 +1,7 @@
 use Rattle.std.proofs.Common.{◌≡◌, ◌++◌, map, drop}
 use Rattle.std.specs.List.{flat_map}
 use Rattle.smv_mentions.specs.Scopes.{first_of_places}
-use Rattle.smv_scope.specs.ScopeFault.{least}
+use Rattle.smv_first_fault.specs.Firsts.{least}
 use Rattle.smv_choices.specs.Parts.{proved_one, unknown_one}
 use Rattle.smv_choices.specs.Readings.{pair_of}
 use Rattle.smv_choices.proofs.readings.proved_by.Given as goal

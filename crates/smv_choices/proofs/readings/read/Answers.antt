@@ -1,6 +1,6 @@
 use Rattle.std.proofs.Common.{refl, ap, ◌∙◌}
 use Rattle.std.specs.List.{flat_map}
-use Rattle.smv_scope.specs.ScopeFault.{least}
+use Rattle.smv_first_fault.specs.Firsts.{least}
 use Rattle.smv_choices.specs.Parts.{picks_by, claims_by, unknown_by, proved_one, unknown_one, kept_one, sets_of}
 use Rattle.smv_choices.proofs.AnswerLaws.{same-said}
 use Rattle.smv_choices.proofs.readings.read.Goals as goal

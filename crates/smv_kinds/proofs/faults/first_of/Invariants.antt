@@ -1,6 +1,6 @@
 use Rattle.std.proofs.Common.{◌≡◌, drop}
 use Rattle.smv_mentions.specs.FirstFault.{first_of}
-use Rattle.smv_scope.specs.ScopeFault.{earlier_of}
+use Rattle.smv_first_fault.specs.Firsts.{earlier_of}
 use Rattle.smv_kinds.proofs.faults.first_of.Given as goal
 
 abbrev pub invariant-loop-fault : goal.invariant-loop-fault

@@ -1,5 +1,5 @@
 use Rattle.std.proofs.Common.{◌≡◌, map, drop}
-use Rattle.smv_scope.specs.ScopeFault.{earlier_of}
+use Rattle.smv_first_fault.specs.Firsts.{earlier_of}
 use Rattle.smv_layers.specs.Leaks.{first_among, part_fault}
 use Rattle.smv_layers.proofs.layers.+parts.Given as goal
 

@@ -4,7 +4,7 @@ use Rattle.std.proofs.lemmas.List.{append-nil}
 use Rattle.std.specs.Result.{OnOk}
 use Rattle.smv_core.specs.Values.{numbers_from}
 use Rattle.smv_core.specs.declared.flat.Simple.{Simple}
-use Rattle.smv_loops.specs.Held.{index_of}
+use Rattle.smv_indexes.specs.Indexes.{index_of}
 use Rattle.smv_loops.specs.Numbers.{places, places_at, digit_places, range_places, single_places}
 use Rattle.smv_loops.proofs.NumberLaws.{places-Range, places-Enum, places-Set, places-step, fixed-below, fixed-above}
 use Rattle.smv_loops.proofs.cells.+numbering.Goals as goal

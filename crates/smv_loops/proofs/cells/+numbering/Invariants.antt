@@ -1,7 +1,7 @@
 use Rattle.std.proofs.Common.{◌≡◌, ◌+◌, ◌-◌, ◌*◌, ◌++◌, map, length}
 use Rattle.std.specs.List.{flat_map}
 use Rattle.smv_core.specs.Values.{numbers_from}
-use Rattle.smv_loops.specs.Held.{index_of}
+use Rattle.smv_indexes.specs.Indexes.{index_of}
 use Rattle.smv_loops.specs.Numbers.{places_at}
 use Rattle.smv_loops.proofs.cells.+numbering.Given as goal
 

@@ -1,5 +1,6 @@
 use Rattle.std.proofs.Common.{◌≡◌, ◌++◌, map, drop}
-use Rattle.smv_loops.specs.Held.{index_in, index_of}
+use Rattle.smv_indexes.specs.Indexes.{index_of}
+use Rattle.smv_loops.specs.Held.{index_in}
 use Rattle.smv_loops.proofs.cells.all_known.Given as goal
 
 abbrev pub invariant-loop-x : goal.invariant-loop-x

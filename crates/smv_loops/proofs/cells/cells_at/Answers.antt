@@ -3,7 +3,7 @@ use Rattle.std.specs.Result.{OnOk}
 use Rattle.smv_core.specs.declared.flat.Simple.{Simple}
 use Rattle.law_designs.specs.Loops.{cells_of}
 use Rattle.smv_loops.specs.Cells.{base, number_in}
-use Rattle.smv_loops.specs.Held.{index_of}
+use Rattle.smv_indexes.specs.Indexes.{index_of}
 use Rattle.smv_loops.specs.Numbers.{places}
 use Rattle.smv_loops.proofs.NumberLaws.{number-cells}
 use Rattle.smv_loops.proofs.TableLaws.{get-inside, get-some}

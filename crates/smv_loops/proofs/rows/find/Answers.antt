@@ -3,7 +3,7 @@ use Rattle.std.specs.List.{All}
 use Rattle.law_designs.specs.Loops.{cells_of}
 use Rattle.smv_loops.specs.declared.rows.Row.{Row}
 use Rattle.smv_loops.specs.Cells.{number_in}
-use Rattle.smv_loops.specs.Held.{index_of}
+use Rattle.smv_indexes.specs.Indexes.{index_of}
 use Rattle.smv_loops.specs.Rows.{IsRow, row_at}
 use Rattle.smv_loops.proofs.rows.find.Goals as goal
 

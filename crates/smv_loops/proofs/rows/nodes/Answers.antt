@@ -4,7 +4,8 @@ use Rattle.smv_core.specs.Assignments.{Index}
 use Rattle.law_designs.specs.Loops.{cells_of}
 use Rattle.smv_loops.specs.Cells.{number_in}
 use Rattle.smv_loops.specs.Edges.{total}
-use Rattle.smv_loops.specs.Held.{index_in, index_of}
+use Rattle.smv_indexes.specs.Indexes.{index_of}
+use Rattle.smv_loops.specs.Held.{index_in}
 use Rattle.smv_loops.specs.Rows.{stands_for}
 use Rattle.smv_loops.proofs.RowLaws.{on-ok, numbers-below, push-numbers, all-more, all-weaker}
 use Rattle.smv_loops.proofs.rows.nodes.Goals as goal

@@ -1,6 +1,6 @@
 use Rattle.std.proofs.Common.{◌≡◌}
 use Rattle.smv_mentions.specs.FirstFault.{first_of}
-use Rattle.smv_scope.specs.ScopeFault.{earlier_of}
+use Rattle.smv_first_fault.specs.Firsts.{earlier_of}
 use Rattle.smv_cases.specs.Slots.{classes_of}
 use Rattle.smv_read_design.specs.Widths.{faults_in}
 use Rattle.smv_read_design.proofs.FirstLaws.{cases_from}

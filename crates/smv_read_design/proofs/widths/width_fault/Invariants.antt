@@ -1,7 +1,7 @@
 use Rattle.std.proofs.Common.{◌≡◌}
 use Rattle.smv_chosen_table.specs.Tables.{AreBaseDefs}
 use Rattle.smv_mentions.specs.FirstFault.{first_of}
-use Rattle.smv_scope.specs.ScopeFault.{earlier_of}
+use Rattle.smv_first_fault.specs.Firsts.{earlier_of}
 use Rattle.smv_read_design.specs.Widths.{faults_of_widths}
 use Rattle.smv_read_design.proofs.FirstLaws.{leaves_from}
 use Rattle.smv_read_design.proofs.widths.width_fault.Given as goal

@@ -1,7 +1,7 @@
 use Rattle.std.proofs.Common.{◌≡◌, [], drop}
 use Rattle.std.specs.List.{list_any}
 use Rattle.smv_mentions.specs.Scopes.{first_of_places}
-use Rattle.smv_scope.specs.ScopeFault.{least}
+use Rattle.smv_first_fault.specs.Firsts.{least}
 use Rattle.smv_references.specs.Again.{Key, same_key, again, is_noted}
 use Rattle.smv_references.proofs.AgainLaws.{keys_to}
 use Rattle.smv_references.proofs.again.first_again.Given as goal

@@ -2,7 +2,7 @@ use Rattle.std.proofs.Common.{◌≡◌, drop, not}
 use Rattle.std.specs.List.{flat_map}
 use Rattle.smv_mentions.specs.NameFaults.{place_if}
 use Rattle.smv_mentions.specs.Scopes.{first_of_places}
-use Rattle.smv_scope.specs.ScopeFault.{least}
+use Rattle.smv_first_fault.specs.Firsts.{least}
 use Rattle.law_splits.specs.SplitFaults.{names_one}
 use Rattle.smv_references.proofs.brackets.first_unbound.Given as goal
 

@@ -2,7 +2,7 @@ use Rattle.std.proofs.Common.{◌≤◌, length, ◌∙◌, ap, sym, rules}
 use Rattle.smv_core.specs.Types.{find_name}
 use Rattle.smv_mentions.specs.Scopes.{pieces, constants}
 use Rattle.smv_mentions.specs.NameFaults.{place_if, is_of_other_list}
-use Rattle.smv_scope.specs.ScopeFault.{least}
+use Rattle.smv_first_fault.specs.Firsts.{least}
 use Rattle.smv_scope.proofs.ConstantLaws.{places-flat, at-end}
 use Rattle.smv_scope.proofs.constants.other_constant.Goals as goal
 

@@ -4,7 +4,7 @@ use Rattle.smv_core.specs.Types.{find_name}
 use Rattle.smv_mentions.specs.Scopes.{pieces, constants, first_of_places}
 use Rattle.smv_mentions.specs.NameFaults.{place_if, is_of_other_list}
 use Rattle.smv_scope.specs.Compared.{IsCompared}
-use Rattle.smv_scope.specs.ScopeFault.{least}
+use Rattle.smv_first_fault.specs.Firsts.{least}
 use Rattle.smv_scope.proofs.constants.other_constant.Given as goal
 
 abbrev pub invariant-loop-word : goal.invariant-loop-word

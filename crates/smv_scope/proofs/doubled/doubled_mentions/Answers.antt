@@ -1,7 +1,7 @@
 use Rattle.smv_mentions.specs.Said.{said}
 use Rattle.smv_mentions.specs.NameFaults.{doubled}
 use Rattle.smv_scope.specs.Numbered.{scope_at}
-use Rattle.smv_scope.proofs.LeastLaws.{least-step}
+use Rattle.smv_first_fault.proofs.LeastLaws.{least-step}
 use Rattle.smv_scope.proofs.doubled.doubled_mentions.Goals as goal
 
 pub loop-mention-preserved : goal.loop-mention-preserved

@@ -3,7 +3,7 @@ use Rattle.std.proofs.lemmas.Result.{IfOk-weaker}
 use Rattle.smv_mentions.specs.Scopes.{pieces}
 use Rattle.smv_mentions.specs.Said.{words_at}
 use Rattle.smv_mentions.specs.NameFaults.{repeated}
-use Rattle.smv_scope.specs.ScopeFault.{least}
+use Rattle.smv_first_fault.specs.Firsts.{least}
 use Rattle.smv_scope.proofs.DoubledLaws.{words-same}
 use Rattle.smv_scope.proofs.doubled.doubled_tops.Goals as goal
 

@@ -1,7 +1,7 @@
 use Rattle.std.proofs.Common.{refl, ap, ◌∙◌}
 use Rattle.law_lists.proofs.Places.{take_rest}
 use Rattle.smv_mentions.specs.Said.{words_at}
-use Rattle.smv_scope.specs.ScopeFault.{least}
+use Rattle.smv_first_fault.specs.Firsts.{least}
 use Rattle.smv_scope.specs.Held.{fields_led}
 use Rattle.smv_scope.proofs.FieldLaws.{field-missing, field-there}
 use Rattle.smv_scope.proofs.fields.+behind_led.Goals as goal

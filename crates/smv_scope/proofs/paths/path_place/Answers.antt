@@ -1,7 +1,7 @@
 use Rattle.std.proofs.Common.{ap, sym, ◌∙◌}
 use Rattle.smv_mentions.specs.Scopes.{path_places}
 use Rattle.smv_mentions.specs.Said.{words_at}
-use Rattle.smv_scope.specs.ScopeFault.{least}
+use Rattle.smv_first_fault.specs.Firsts.{least}
 use Rattle.smv_scope.specs.Numbered.{scope_at}
 use Rattle.smv_scope.proofs.PathLaws.{words-flat}
 use Rattle.smv_scope.proofs.paths.path_place.Goals as goal

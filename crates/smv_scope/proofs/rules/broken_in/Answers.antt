@@ -4,7 +4,7 @@ use Rattle.std.proofs.lemmas.List.Folds.{flat_map-map}
 use Rattle.smv_mentions.specs.Scopes.{pieces}
 use Rattle.smv_mentions.specs.Said.{said}
 use Rattle.smv_mentions.specs.NameFaults.{miscounted}
-use Rattle.smv_scope.specs.ScopeFault.{least}
+use Rattle.smv_first_fault.specs.Firsts.{least}
 use Rattle.smv_scope.specs.Held.{piece_noted}
 use Rattle.smv_scope.specs.Rules.{broken}
 use Rattle.smv_scope.proofs.rules.broken_in.Goals as goal

@@ -1,5 +1,5 @@
 use Rattle.std.proofs.Common.{refl, ap, sym, ◌∙◌}
-use Rattle.smv_scope.specs.ScopeFault.{least}
+use Rattle.smv_first_fault.specs.Firsts.{least}
 use Rattle.smv_scope.specs.Held.{piece_noted}
 use Rattle.std.proofs.lemmas.Option.{slice_get_read}
 use Rattle.smv_mentions.specs.Scopes.{pieces}

@@ -2,8 +2,8 @@ use Rattle.std.proofs.Common.{◌∙◌, ap, sym, map, []}
 use Rattle.std.specs.List.{flat_map}
 use Rattle.smv_mentions.specs.Scopes.{pieces, first_of_places}
 use Rattle.smv_mentions.specs.NameFaults.{repeated, doubled_in}
-use Rattle.smv_scope.specs.ScopeFault.{least}
-use Rattle.smv_scope.proofs.LeastLaws.{least-append}
+use Rattle.smv_first_fault.specs.Firsts.{least}
+use Rattle.smv_first_fault.proofs.LeastLaws.{least-append}
 use Rattle.smv_scope.proofs.scope.doubled.Goals as goal
 
 pub returns : goal.returns

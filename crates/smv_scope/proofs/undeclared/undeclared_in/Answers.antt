@@ -2,7 +2,7 @@ use Rattle.std.proofs.Common.{◌∙◌, ap}
 use Rattle.std.specs.List.{flat_map}
 use Rattle.smv_mentions.specs.Said.{said}
 use Rattle.smv_mentions.specs.NameFaults.{undeclared}
-use Rattle.smv_scope.specs.ScopeFault.{least}
+use Rattle.smv_first_fault.specs.Firsts.{least}
 use Rattle.smv_scope.specs.Numbered.{scope_at}
 use Rattle.smv_scope.proofs.RuleLaws.{undeclared-whole}
 use Rattle.smv_scope.proofs.undeclared.undeclared_in.Goals as goal

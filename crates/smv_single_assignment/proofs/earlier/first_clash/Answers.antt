@@ -2,7 +2,7 @@ use Rattle.std.proofs.Common.{◌≡◌, ◌<◌, length, ap, ◌∙◌, arith}
 use Rattle.std.specs.Prelude.{slice_get, Some}
 use Rattle.law_lists.proofs.Places.{get_there}
 use Rattle.smv_mentions.specs.NameFaults.{place_if}
-use Rattle.smv_scope.specs.ScopeFault.{least}
+use Rattle.smv_first_fault.specs.Firsts.{least}
 use Rattle.law_designs.specs.Standing.{Standing}
 use Rattle.smv_single_assignment.specs.Clashes.{clash_by}
 use Rattle.smv_single_assignment.specs.Links.{held, between}

@@ -1,5 +1,5 @@
 use Rattle.std.proofs.Common.{◌≡◌}
-use Rattle.smv_scope.specs.ScopeFault.{least}
+use Rattle.smv_first_fault.specs.Firsts.{least}
 use Rattle.smv_single_assignment.specs.Clashes.{clash_by}
 use Rattle.smv_single_assignment.specs.Links.{held, between}
 use Rattle.law_designs.specs.SingleFaults.{later_places}

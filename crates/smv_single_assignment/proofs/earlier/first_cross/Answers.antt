@@ -1,6 +1,6 @@
 use Rattle.std.proofs.Common.{◌≡◌, [], length, ap, sym, ◌∙◌, arith}
 use Rattle.std.proofs.lemmas.Bool.{eqb-true}
-use Rattle.smv_scope.specs.ScopeFault.{least}
+use Rattle.smv_first_fault.specs.Firsts.{least}
 use Rattle.law_designs.specs.SingleFaults.{later_places, cross}
 use Rattle.smv_single_assignment.specs.Links.{held, between}
 use Rattle.smv_single_assignment.proofs.ClashLaws.{cross-none}

@@ -1,5 +1,5 @@
 use Rattle.std.proofs.Common.{ap, sym}
-use Rattle.smv_scope.specs.ScopeFault.{least}
+use Rattle.smv_first_fault.specs.Firsts.{least}
 use Rattle.smv_single_assignment.specs.Links.{held}
 use Rattle.smv_single_assignment.proofs.SharedLaws.{apart-none}
 use Rattle.smv_single_assignment.proofs.earlier.first_meeting.Goals as goal

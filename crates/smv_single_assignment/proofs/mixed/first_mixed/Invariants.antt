@@ -1,5 +1,5 @@
 use Rattle.std.proofs.Common.{◌≡◌, take}
-use Rattle.smv_scope.specs.ScopeFault.{least}
+use Rattle.smv_first_fault.specs.Firsts.{least}
 use Rattle.law_designs.specs.SingleFaults.{mixed}
 use Rattle.smv_single_assignment.specs.Links.{held}
 use Rattle.smv_single_assignment.proofs.mixed.first_mixed.Given as goal

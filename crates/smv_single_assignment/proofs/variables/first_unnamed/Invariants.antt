@@ -1,7 +1,7 @@
 use Rattle.std.proofs.Common.{◌≡◌, drop}
 use Rattle.std.specs.List.{flat_map}
 use Rattle.smv_mentions.specs.Scopes.{first_of_places}
-use Rattle.smv_scope.specs.ScopeFault.{least}
+use Rattle.smv_first_fault.specs.Firsts.{least}
 use Rattle.law_designs.specs.WholeText.{claims_of}
 use Rattle.law_designs.specs.SingleFaults as spec
 use Rattle.smv_single_assignment.proofs.variables.first_unnamed.Given as goal

@@ -1,5 +1,5 @@
+use Rattle.smv_first_fault.proofs.LeastLaws.{least-step}
 use Rattle.law_lists.proofs.Places.{get_or-own}
-use Rattle.smv_scope.proofs.LeastLaws.{least-step}
 use Rattle.smv_split_faults.specs.Waiting.{shown_of_unit}
 use Rattle.smv_split_faults.proofs.mismatches.first_mismatch.Goals as goal
 

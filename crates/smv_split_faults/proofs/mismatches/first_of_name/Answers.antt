@@ -1,6 +1,6 @@
 use Rattle.std.proofs.Common.{◌≡◌, ◌∙◌, ◌∷◌, [], None, map, length, refl, ap, subst, arith}
 use Rattle.std.proofs.lemmas.List.{map-append, nil_from_length}
-use Rattle.smv_scope.specs.ScopeFault.{least}
+use Rattle.smv_first_fault.specs.Firsts.{least}
 use Rattle.law_splits.specs.Chains.{shown}
 use Rattle.smv_split_faults.specs.Waiting.{held}
 use Rattle.smv_split_faults.proofs.WalkLaws.{Goes, begins, further, smaller, over}

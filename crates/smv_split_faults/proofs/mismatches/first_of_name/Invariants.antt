@@ -1,5 +1,5 @@
 use Rattle.std.proofs.Common.{map, length}
-use Rattle.smv_scope.specs.ScopeFault.{least}
+use Rattle.smv_first_fault.specs.Firsts.{least}
 use Rattle.law_splits.specs.Chains.{shown}
 use Rattle.smv_split_faults.specs.Waiting.{held}
 use Rattle.smv_split_faults.proofs.WalkLaws.{Goes, size}

@@ -1,7 +1,7 @@
 use Rattle.std.proofs.Common.{ap, ◌∙◌}
 use Rattle.std.specs.List.{flat_map}
 use Rattle.smv_mentions.specs.Scopes.{first_of_places}
-use Rattle.smv_scope.specs.ScopeFault.{least}
+use Rattle.smv_first_fault.specs.Firsts.{least}
 use Rattle.law_splits.specs.SplitFaults.{astray, split_again}
 use Rattle.smv_splits.proofs.lost.first_lost.Goals as goal
 

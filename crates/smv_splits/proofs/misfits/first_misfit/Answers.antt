@@ -1,4 +1,4 @@
-use Rattle.smv_scope.proofs.LeastLaws.{least-step}
+use Rattle.smv_first_fault.proofs.LeastLaws.{least-step}
 use Rattle.law_splits.specs.SplitFaults as splits
 use Rattle.smv_splits.proofs.misfits.first_misfit.Goals as goal
 

@@ -1,7 +1,7 @@
 use Rattle.std.proofs.Common.{◌≡◌, drop}
 use Rattle.std.specs.List.{flat_map}
 use Rattle.smv_mentions.specs.Scopes.{first_of_places}
-use Rattle.smv_scope.specs.ScopeFault.{least}
+use Rattle.smv_first_fault.specs.Firsts.{least}
 use Rattle.smv_splits.specs.Parts as parts
 use Rattle.smv_splits.proofs.misfits.first_not_new.Given as goal
 

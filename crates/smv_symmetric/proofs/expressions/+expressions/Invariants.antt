@@ -1,5 +1,5 @@
 use Rattle.std.proofs.Common.{◌≡◌, map, drop}
-use Rattle.smv_scope.specs.ScopeFault.{earlier_of}
+use Rattle.smv_first_fault.specs.Firsts.{earlier_of}
 use Rattle.law_designs.specs.FlatKinds.{kind_of}
 use Rattle.smv_symmetric.specs.Plain.{first_among, fault_in, signed_fault, member_fault}
 use Rattle.smv_symmetric.proofs.expressions.+expressions.Given as goal

@@ -1,5 +1,5 @@
 use Rattle.std.proofs.Common.{◌≡◌, map, drop}
-use Rattle.smv_scope.specs.ScopeFault.{earlier_of}
+use Rattle.smv_first_fault.specs.Firsts.{earlier_of}
 use Rattle.smv_symmetric.specs.Plain.{first_among, fault_if_number}
 use Rattle.smv_symmetric.specs.Held.{as_met}
 use Rattle.smv_symmetric.proofs.operands.first_number.Given as goal

@@ -1,6 +1,0 @@
-use Rattle.smv_prove.specs.Named.{is_named}
-use Rattle.smv_prove.proofs.NamedLaws.{Passed}
-use Rattle.smv_prove.proofs.named.place_named.Given as goal
-
-abbrev pub invariant-loop-place : goal.invariant-loop-place
-invariant-loop-place l = Passed (is_named l.design l.name) l.units l.place

@@ -1,0 +1,10 @@
+use Rattle.std.proofs.Common.{◌≡◌, length}
+use Rattle.smv_core.specs.Conflicts.{are_two_constants}
+use Rattle.smv_single_assignment.specs.LeftSides.{any_two}
+use Rattle.smv_single_assignment.proofs.left_sides.differ.Given as goal
+
+abbrev pub invariant-loop-lefts : goal.invariant-loop-lefts
+invariant-loop-lefts l = any_two are_two_constants l.lefts l.rights ≡ any_two are_two_constants l.left l.right
+
+abbrev pub decreases-loop-lefts : goal.decreases-loop-lefts
+decreases-loop-lefts l = length l.lefts
