@@ -8,7 +8,7 @@ use Rattle.smv_core.specs.declared.token.TokenKind.{TokenKind}
 use Rattle.smv_core.specs.declared.token.TokenKind.TheVariants.{Ident, Number}
 use Rattle.smv_lex.specs.declared.front.Front.{Front}
 use Rattle.smv_lex.specs.declared.front.Front.TheVariants.{Passed, Whole, Broken}
-use Rattle.smv_lex.specs.Spellings.{signs, reserved_words, spelled_in}
+use Rattle.smv_core.specs.Spellings.{signs, reserved_words, spelled_in}
 use Rattle.smv_lex.specs.Lexing.{Lexed, number_of, word_kind, front_of, with_token, then_more, lexed_from, lexed}
 use Rattle.smv_lex.specs.Longest.{is_word, is_digits, kind_of, IsLongest}
 
