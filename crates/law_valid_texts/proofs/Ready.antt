@@ -1,10 +1,9 @@
 -- What the rules of kinds say of splits, claims and families, as the laws of leaves ask for it.
-use Rattle.std.proofs.Common.{◌≡◌, ◌≤◌, ℕ, suc, List, [], ◌∷◌, length, slice_get, Option, Some, None, is_some, true, ◌&&◌, nat_le, nat_lt, nat_eq, subst, refl, arith}
+use Rattle.std.proofs.Common.{◌≡◌, ◌≤◌, ℕ, suc, List, [], ◌∷◌, length, slice_get, Option, Some, None, is_some, Bool, true, ◌&&◌, nat_le, nat_lt, nat_eq, subst, refl, arith}
 use Rattle.std.specs.Prelude.{IfSome}
 use Rattle.std.specs.List.{list_all}
 use Rattle.std.proofs.lemmas.List.{length-map}
 use Rattle.std.proofs.lemmas.Bool.{and_parts}
-use Rattle.law_sound_texts.proofs.Filled.{each-holds}
 use Rattle.law_lists.proofs.Places.{get_within, get_there}
 use Rattle.law_lists.proofs.Numbers.{nat_eq-is, nat_le-is, nat_lt-is}
 use Rattle.smv_core.specs.Values.{Name}
@@ -33,6 +32,11 @@ use Rattle.law_obligations.specs.Scripts.{HaveValues}
 length-inside : (vars : Vars) (over : Simple) → length (inside vars over) ≡ suc (length vars)
 length-inside [] over = refl
 length-inside (v ∷ vars) over = let e = length-inside vars over in omega arith
+
+each-holds : {X : Type 0} (p : X → Bool) (xs : List X) → list_all p xs ≡ true → (x : X) → Has xs x → p x ≡ true
+each-holds p [] h x i = elim i [ ]
+each-holds p (y ∷ xs) h _ first = (and_parts (p y) (list_all p xs) h).0
+each-holds p (y ∷ xs) h x (later i) = each-holds p xs (and_parts (p y) (list_all p xs) h).1 x i
 
 module _ (flat_text : FlatText) where
   binder-number : (vars : Vars) (var : ℕ) (over : Simple) → is_binder flat_text vars var over ≡ true → var ≡ length vars

@@ -1,5 +1,5 @@
 -- Leaves and cases in a text without a fault of cases and of state bits.
-use Rattle.std.proofs.Common.{◌≡◌, ◌≤◌, ℕ, List, [], flat_map, length, Option, Some, None, Bool, true, false, ◌||◌, nat_lt, refl, subst, arith}
+use Rattle.std.proofs.Common.{◌≡◌, ◌≤◌, ℕ, List, [], ◌∷◌, flat_map, length, Option, Some, None, Bool, true, false, ◌||◌, nat_lt, refl, subst, arith}
 use Rattle.std.specs.Prelude.{if◌then◌else◌}
 use Rattle.std.specs.Option.{option_to_list}
 use Rattle.std.specs.List.{slice_get}
@@ -9,18 +9,22 @@ use Rattle.smv_core.specs.declared.flat.Leaf.{Leaf}
 use Rattle.smv_core.specs.declared.flat.Choice.{Choice}
 use Rattle.smv_core.specs.declared.flat.Class.{Class}
 use Rattle.smv_mentions.specs.FirstFault.{first_of}
-use Rattle.law_obligations.specs.Sets.{Has}
+use Rattle.law_obligations.specs.Sets.{Has, first, later}
 use Rattle.law_obligations.specs.LeafCases.{leaf_cases}
 use Rattle.law_splits.specs.Leaves.{leaves_of}
 use Rattle.law_uses.specs.Choices.{choices_of}
 use Rattle.smv_problem.specs.declared.report.Plan.{Plan}
-use Rattle.law_designs.proofs.Faultless.{no_fault-in}
+use Rattle.law_designs.proofs.Faultless.{empty-both, no_fault-in}
 use Rattle.law_problems.specs.Parts.{IsCaseOf, cases_fault, width_fault, fault_at_unit}
-use Rattle.law_problems.proofs.FitOrders.{none-each}
 use Rattle.law_valid_texts.specs.Plans.{IsPlanOf}
 use Rattle.law_valid_texts.specs.Faults.{parts_of, faults_of_cases, faults_of_widths}
 use Rattle.law_valid_texts.specs.PartLaws.{CasesAreOfLeaves}
 use Rattle.law_valid_texts.proofs.Places.{beside}
+
+none-each : {X Y : Type 0} (f : X → List Y) (xs : List X) → flat_map f xs ≡ [] → {x : X} → Has xs x → f x ≡ []
+none-each f [] e h = elim h [ ]
+none-each f (y ∷ xs) e first = (empty-both (f y) (flat_map f xs) e).0
+none-each f (y ∷ xs) e (later h) = none-each f xs (empty-both (f y) (flat_map f xs) e).1 h
 
 absent : {X : Type 0} (o : Option X) → option_to_list o ≡ [] → o ≡ None
 absent None e = refl
