@@ -41,8 +41,8 @@ fn in_order(alloc: Global, part: &Part, found: Found) -> Result<Option<Seq<Eleme
     }
 }
 
-// The cone of a case; none where it has too many bits.
-fn cone_of(alloc: Global, part: &Part) -> Result<Option<Seq<Element>>, AllocError>
+/// The elements of a cone in family order and then by their indexes; none where they have more than 1,024 bits. For any part whose cone is the least set that its search begins with and goes on to.
+pub fn cone_of(alloc: Global, part: &Part) -> Result<Option<Seq<Element>>, AllocError>
     requires view { IsPartView part.now }
     requires least { HasLeast part.now }
     ensures { IfOk result (λ cone. IsConeOf part.now cone) }

@@ -57,8 +57,12 @@ pub fn decide_cases(
     })
 }
 
-// The verdict of a leaf whose first case that is not true is this one, by its decision; none where the case is true.
-fn verdict_at(alloc: Global, case: &Case, decision: Decision) -> Result<Option<Verdict>, AllocError>
+/// The verdict of a leaf whose first case that is not true is this one, by its decision; none where the case is true.
+pub fn verdict_at(
+    alloc: Global,
+    case: &Case,
+    decision: Decision,
+) -> Result<Option<Verdict>, AllocError>
     ensures { IfOk result (λ verdict. verdict ≡ verdict_at case.now decision) }
 {
     match decision {

@@ -55,8 +55,8 @@ pub struct Decided {
     pub shared: Shared,
 }
 
-// What the outcome of a search says of the problem.
-fn tell(
+/// What the outcome of a search says of the problem, with a shortest path where it reaches a violation. What the problems of all cases of the design have in common is given back with it.
+pub fn tell(
     alloc: Global,
     problem: Problem,
     rel: &Rel,
@@ -105,8 +105,8 @@ fn shown(problem: Problem, states: Seq<AbsState>) -> Decided
     }
 }
 
-// The problem of a case that has no fault.
-fn problem_of(
+/// The problem of a case that has not too many state bits. What the problems of all cases of the design have in common is moved in.
+pub fn problem_of(
     alloc: Global,
     shared: Shared,
     task: &Task,
@@ -135,6 +135,25 @@ fn problem_of(
     }
 }
 
+/// Decides a problem, under budgets of nodes and of images. What the problems of all cases of the design have in common is given back with it.
+pub fn decide_problem(
+    alloc: Global,
+    problem: Problem,
+    budgets: Budgets,
+) -> Result<Decided, AllocError>
+    requires problem { IsProblem problem }
+    requires steps { 1 ≤ budgets.steps }
+    ensures decided { IfOk result (λ decided. OfCases problem (λ c. IsDecided budgets.nodes budgets.steps c decided.decision)) }
+    ensures shared { IfOk result (λ decided. decided.shared ≡ shared_in problem) }
+{
+    let bits = state_bits(&problem);
+    let mut store = Store::new(alloc, 2 * u32::from(bits))?;
+    let rel = relations(alloc, &problem, &mut store)?;
+    let outcome = search(alloc, &rel, &mut store, budgets.nodes, budgets.steps)?;
+    let decided = tell(alloc, problem, &rel, &mut store, outcome, budgets)?;
+    Ok(decided)
+}
+
 /// Decides a case of a leaf that has not too many state bits, under budgets of nodes and of images. What the problems of all cases of the design have in common is
 /// moved in, and given back.
 pub(crate) fn decide_case(
@@ -153,10 +172,6 @@ pub(crate) fn decide_case(
     ensures shared { IfOk result (λ decided. IsShared task.now.design.now decided.shared) }
 {
     let made = problem_of(alloc, shared, task, case)?;
-    let bits = state_bits(&made);
-    let mut store = Store::new(alloc, 2 * u32::from(bits))?;
-    let rel = relations(alloc, &made, &mut store)?;
-    let outcome = search(alloc, &rel, &mut store, budgets.nodes, budgets.steps)?;
-    let decided = tell(alloc, made, &rel, &mut store, outcome, budgets)?;
+    let decided = decide_problem(alloc, made, budgets)?;
     Ok(decided)
 }

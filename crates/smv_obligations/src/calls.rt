@@ -39,8 +39,8 @@ fn copy_spots(alloc: Global, spots: &[Spot]) -> Result<Seq<Spot>, AllocError>
     Ok(Seq::from_vec(copy))
 }
 
-// The problem with these elements.
-fn assembled(
+/// The problem of a part with these elements, and with what the problems of all cases of its design have in common.
+pub fn assembled(
     alloc: Global,
     part: &Part,
     shared: Shared,

@@ -8,5 +8,5 @@ pub mod demands;
 pub mod shared;
 pub mod targets;
 
-pub use calls::{problem, problem_with};
+pub use calls::{assembled, problem, problem_with};
 pub use shared::{ProblemParts, Shared, in_common, taken_apart, taken_back};

@@ -26,16 +26,16 @@ fn before(text: &[u8], at: usize) -> &[u8]
     &text[..at.min(text.len())]
 }
 
-// The line of an offset, from 1.
-fn line_of(text: &[u8], at: usize) -> usize
+/// The line of an offset, from 1.
+pub fn line_of(text: &[u8], at: usize) -> usize
     ensures { result ≡ line_at text.now at }
 {
     let front = before(text, at);
     front.iter().filter(|b| **b == b'\n').count() + 1
 }
 
-// The column of an offset, from 1.
-fn column_of(text: &[u8], at: usize) -> usize
+/// The column of an offset, from 1, in bytes.
+pub fn column_of(text: &[u8], at: usize) -> usize
     ensures { result ≡ column_at text.now at }
 {
     let mut column = 1;

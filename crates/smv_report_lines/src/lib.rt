@@ -1,7 +1,7 @@
 //! The lines of a report: of each unit what is decided of it, with the case and the path that show it, and how many units are true.
 //!
 //! For the top call. It meets `law_reports`' `specs/Lines`, byte by byte; `specs/Generated` has the two lines of a generated design. `values` writes classes, values and elements, `paths` the lines that stand
-//! below a unit's. A report that no call gives is written too: a number that leads nowhere stands for nothing.
+//! below a unit's; the line of a case, an element and a number are written for `smv_look_lines` too. A report that no call gives is written too: a number that leads nowhere stands for nothing.
 #![tactic(auto)]
 
 ghost use Rattle.std.specs.Prelude.{◌≡◌, ◌++◌, IfOk, OnOk};
@@ -12,11 +12,12 @@ ghost use Rattle.smv_report_lines.specs.Parts.{details, heading};
 mod paths;
 mod values;
 
-use paths::{push_case, push_times};
+pub use paths::push_case;
+use paths::push_times;
 use smv_core::flat::{Design, Param};
 use smv_problem::{Report, UnitResult, Verdict};
 use std::alloc::{AllocError, Global};
-use values::push_number;
+pub use values::{push_element, push_number};
 
 /// The lines of a report: those of each unit in order, and `proved K of M`.
 pub fn lines(alloc: Global, report: &Report) -> Result<Vec<u8>, AllocError>

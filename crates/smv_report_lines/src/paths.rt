@@ -9,8 +9,8 @@ use std::alloc::AllocError;
 
 const COMMA: &[u8] = b", ";
 
-// Writes the line of a case, where there are parameters.
-pub(crate) fn push_case(
+/// Writes the line of a case, where there are parameters.
+pub fn push_case(
     out: &mut Vec<u8>,
     design: &Design,
     params: &[Param],

@@ -1,6 +1,6 @@
 // Classes, values and elements, as they are written.
 ghost use Rattle.std.specs.Prelude.{◌≡◌, ◌++◌, codes, decimal, get_or, slice_get, [], Some, OnOk};
-ghost use Rattle.law_reports.specs.Lines.{class_text, constant_text, indexes_text, rest_text, value_text};
+ghost use Rattle.law_reports.specs.Lines.{class_text, constant_text, element_text, indexes_text, rest_text, value_text};
 ghost use Rattle.smv_report_lines.specs.Parts.{assignment_text, is_ordered};
 ghost use Rattle.smv_core.specs.declared.flat.Simple.TheVariants.{Range};
 
@@ -9,8 +9,8 @@ use smv_core::flat::{Class, Design, Element, Family, Simple};
 use smv_problem::AbsValue;
 use std::alloc::AllocError;
 
-// Writes a number in decimal.
-pub(crate) fn push_number(out: &mut Vec<u8>, number: usize) -> Result<(), AllocError>
+/// Writes a number in decimal.
+pub fn push_number(out: &mut Vec<u8>, number: usize) -> Result<(), AllocError>
     ensures { OnOk result (out.new.items ≡ out.old.items ++ decimal number) }
 {
     let mut buffer = Buffer::new();
@@ -139,15 +139,37 @@ fn push_in_family(
 ) -> Result<(), AllocError>
     ensures { OnOk result (out.new.items ≡ out.old.items ++ assignment_text design.now (Some family.now) element.now value) }
 {
+    push_of_family(out, design, family, element)?;
+    out.extend_from_slice(b" = ")?;
+    push_value(out, design, family.value, value)
+}
+
+// Writes an element of this family.
+fn push_of_family(
+    out: &mut Vec<u8>,
+    design: &Design,
+    family: &Family,
+    element: &Element,
+) -> Result<(), AllocError>
+    ensures { OnOk result (out.new.items ≡ out.old.items ++ element_text design.now (Some family.now) element.now) }
+{
     out.extend_from_slice(family.name.as_bytes())?;
     push_indexes(
         out,
         design,
         family.over.as_slice(),
         element.indexes.as_slice(),
-    )?;
-    out.extend_from_slice(b" = ")?;
-    push_value(out, design, family.value, value)
+    )
+}
+
+/// Writes an element; one that leads to no family is nothing.
+pub fn push_element(out: &mut Vec<u8>, design: &Design, element: &Element) -> Result<(), AllocError>
+    ensures { OnOk result (out.new.items ≡ out.old.items ++ element_text design.now (slice_get design.now.families element.now.family) element.now) }
+{
+    match design.families.as_slice().get(element.family as usize) {
+        Some(family) => push_of_family(out, design, family, element),
+        None => Ok(()),
+    }
 }
 
 // Writes a value where an element leads to no family.
