@@ -2,7 +2,6 @@
 use Rattle.std.proofs.Common.{◌≡◌, ℕ, zero, suc, ◌+◌, ◌*◌, List, [], ◌∷◌, ◌++◌, true, false, refl, sym, ap, subst, ◌∙◌, Some, None, arith}
 use Rattle.std.specs.List.{slice_get}
 use Rattle.law_lists.proofs.Booleans.{clash as true_false}
-use Rattle.bdd_store.specs.Diagram.{Diagram}
 use Rattle.smv_core.specs.declared.flat.Class.{Class}
 use Rattle.law_obligations.specs.Sets.{Has, first, later}
 use Rattle.law_obligations.specs.May.{AbsState}
@@ -11,14 +10,11 @@ use Rattle.law_obligations.specs.Times.{graph, timed}
 use Rattle.law_obligations.specs.Checked.{IsChecked, IsProved}
 use Rattle.smv_rings.specs.Lists.{Lists}
 use Rattle.smv_rings.proofs.PathLaws.{violating_of, violates_of}
-use Rattle.smv_search.specs.declared.Outcome.{Outcome}
-use Rattle.smv_search.specs.declared.Outcome.TheVariants.{Closed, Reaches, OutOfNodes, OutOfSteps}
-use Rattle.smv_search.specs.Answers.{Answers}
-use Rattle.smv_search.specs.Events.{Budget, Event, IsFirstEvent}
-use Rattle.smv_search.specs.Events.Event.{Reached, Shut}
-use Rattle.smv_search.proofs.Unique.{first_once}
+use Rattle.law_events.specs.Events.{Budget, Event, IsFirstEvent}
+use Rattle.law_events.specs.Events.Event.{Reached, Shut}
+use Rattle.law_events.proofs.Unique.{first_once}
 use Rattle.smv_rings.specs.Schedule.{schedule}
-use Rattle.smv_search.proofs.Meaning.{true_means, false_means}
+use Rattle.law_events.proofs.Meaning.{true_means, false_means}
 use Rattle.law_obligations.specs.Readings.{PosedCase, IsCase}
 use Rattle.law_obligations.specs.CasePaths.{HasNone, IsShortest}
 use Rattle.law_reports.specs.CaseLists.{case_lists}
@@ -28,7 +24,6 @@ use Rattle.law_reports.proofs.Paths.{none_is_none, least_is_least}
 use Rattle.law_obligations.specs.Scripts.{case_at, classes_of, HaveValues}
 use Rattle.law_obligations.proofs.ScriptCases.{is_case}
 use Rattle.law_reports.specs.Verdicts.{LeafVerdict, all_true, fails, is_shut, IsTrueCase, AreTrueCases, IsLeafVerdict, lists_at, IsUnitVerdict, AreVerdictsFrom, AreVerdicts, AllTrue}
-use Rattle.law_reports.specs.VerdictLaws.{Says}
 
 -- ---- one verdict
 
@@ -96,12 +91,6 @@ module _ (c : PosedCase) (is : IsCase c) (nodes images : ℕ) where
       let means = false_means (case_lists c) (budget (case_lists c) nodes images) (are_lists c) images k v in
       let path = violating_of (case_lists c) k means.0.0 means.0.1 in
       (readings c path.0 k, least_is_least c is k path.0 path.1 (λ j lt other p. means.1 j lt (other j) (violates_of (case_lists c) j other p)))
-
-  pub says : (d : Diagram) (o : Outcome) → Answers d (case_lists c) nodes images o → Says c o
-  says d (Closed set) answer = shut_none answer.0 answer.1
-  says d (Reaches depth rings) answer = reached_shortest depth answer.0
-  says d (OutOfNodes count) answer = tt
-  says d OutOfSteps answer = tt
 
 -- ---- all true
 

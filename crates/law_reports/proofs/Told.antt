@@ -3,7 +3,7 @@ use Rattle.std.proofs.Common.{◌≡◌, ℕ, suc, ◌-◌, List, [], ◌∷◌,
 use Rattle.std.proofs.lemmas.List.{length-map}
 use Rattle.law_obligations.specs.Sets.{first, later}
 use Rattle.law_obligations.specs.Outlines.{Entry, Script}
-use Rattle.smv_search.specs.Events.Event.{Reached}
+use Rattle.law_events.specs.Events.Event.{Reached}
 use Rattle.law_obligations.specs.Scripts.{case_at}
 use Rattle.smv_problem.specs.declared.problem.AbsState.{AbsState as StateData}
 use Rattle.smv_problem.specs.declared.report.Verdict.{Verdict}

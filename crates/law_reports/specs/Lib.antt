@@ -5,6 +5,5 @@ pub mod CaseLists
 pub mod ListLaws
 pub mod Verdicts
 pub mod VerdictLaws
-pub mod Certified
 pub mod Told
 pub mod PlanLaws

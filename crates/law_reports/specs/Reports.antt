@@ -5,7 +5,7 @@ use Rattle.law_obligations.specs.Sets.{Has}
 use Rattle.law_obligations.specs.May.{AbsState}
 use Rattle.law_obligations.specs.Outlines.{Entry, Script, unit_in}
 use Rattle.law_splits.specs.Leaves.{name_of}
-use Rattle.smv_search.specs.Events.Event.{Counted, Reached, Images}
+use Rattle.law_events.specs.Events.Event.{Counted, Reached, Images}
 use Rattle.law_obligations.specs.Readings.{PosedCase}
 use Rattle.law_obligations.specs.CasePaths.{IsShortest}
 use Rattle.law_obligations.specs.Scripts.{case_at}

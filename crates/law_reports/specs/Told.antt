@@ -2,7 +2,7 @@
 use Rattle.std.specs.Prelude.{ℕ, List}
 use Rattle.smv_core.specs.declared.flat.Class.{Class}
 use Rattle.smv_rings.specs.Lists.{Lists}
-use Rattle.smv_search.specs.Events.Event.{Counted, Reached, Images}
+use Rattle.law_events.specs.Events.Event.{Counted, Reached, Images}
 use Rattle.law_obligations.specs.Readings.{PosedCase}
 use Rattle.law_reports.specs.CaseLists.{case_lists}
 use Rattle.smv_problem.specs.declared.report.Verdict.{Verdict}

@@ -1,14 +1,10 @@
 -- The laws: what the crate's public functions say.
 use Rattle.std.specs.Prelude.{◌≡◌, ℕ, List}
-use Rattle.bdd_store.specs.Diagram.{Diagram}
 use Rattle.law_obligations.specs.May.{AbsState}
 use Rattle.law_obligations.specs.Outlines.{Entry, Script}
 use Rattle.law_obligations.specs.Checked.{IsChecked, IsProved, IsSoundScript}
-use Rattle.smv_search.specs.declared.Outcome.{Outcome}
-use Rattle.smv_search.specs.declared.Outcome.TheVariants.{Closed, Reaches, OutOfNodes, OutOfSteps}
-use Rattle.smv_search.specs.Answers.{Answers}
-use Rattle.smv_search.specs.Events.{IsFirstEvent}
-use Rattle.smv_search.specs.Events.Event.{Reached, Shut}
+use Rattle.law_events.specs.Events.{IsFirstEvent}
+use Rattle.law_events.specs.Events.Event.{Reached, Shut}
 use Rattle.law_obligations.specs.Readings.{PosedCase, IsCase}
 use Rattle.law_obligations.specs.CasePaths.{HasNone, IsShortest}
 use Rattle.law_reports.specs.CaseLists.{case_lists}
@@ -30,16 +26,6 @@ ShutCasesHaveNone = (c : PosedCase) → IsCase c → (nodes steps k : ℕ) → I
 -- where a violating path of k steps is found, its problem has one, and none of fewer steps
 abbrev pub ReachedCasesHaveShortest : Type 0
 ReachedCasesHaveShortest = (c : PosedCase) → IsCase c → (nodes steps k : ℕ) → IsFirstEvent (case_lists c) nodes steps (Reached k) → (path : List AbsState) × IsShortest c.problem k path
-
--- what a search over the lists of a case answers says so of its problem
-abbrev pub Says : PosedCase → Outcome → Type 0
-Says c (Closed set) = HasNone c.problem
-Says c (Reaches depth rings) = (path : List AbsState) × IsShortest c.problem depth path
-Says c (OutOfNodes count) = Unit {0}
-Says c OutOfSteps = Unit {0}
-
-abbrev pub SearchesDecide : Type 0
-SearchesDecide = (c : PosedCase) → IsCase c → (d : Diagram) (nodes steps : ℕ) (o : Outcome) → Answers d (case_lists c) nodes steps o → Says c o
 
 -- a checked script whose units are all true is proved
 abbrev pub TrueScriptsAreProved : Type 0

@@ -4,8 +4,8 @@ use Rattle.smv_core.specs.declared.flat.Class.{Class}
 use Rattle.law_obligations.specs.Sets.{Has}
 use Rattle.law_obligations.specs.Outlines.{Entry, Script}
 use Rattle.smv_rings.specs.Lists.{Lists}
-use Rattle.smv_search.specs.Events.{Event, IsFirstEvent}
-use Rattle.smv_search.specs.Events.Event.{Counted, Reached, Shut, Images}
+use Rattle.law_events.specs.Events.{Event, IsFirstEvent}
+use Rattle.law_events.specs.Events.Event.{Counted, Reached, Shut, Images}
 use Rattle.law_reports.specs.CaseLists.{case_lists}
 use Rattle.law_obligations.specs.Scripts.{case_at, classes_of}
 

@@ -2,13 +2,11 @@
 //!
 //! For whoever decides units and prints or trusts what is told. `specs/CaseLists` has the order of the functions of a case (`worked_texts` cases that were worked out by hand);
 //! `Verdicts` the verdict of a leaf by those of its cases; `Told` the cases of a plan; `Reports` when a report is right, and `Lines` its format. A right report tells the verdicts of the units, so two right reports
-//! tell the same. `closed_sets_pass` joins the clauses of `smv_search` and `smv_inductive`: a closed search and the inductive check agree.
+//! tell the same.
 #![tactic(auto)]
 
 pub mod case_lists;
-mod closed_sets;
 pub mod plan_cases;
 pub mod reports;
 pub mod verdicts;
 
-pub use closed_sets::closed_sets_pass;

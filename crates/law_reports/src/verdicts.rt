@@ -1,5 +1,5 @@
 // Laws of the definitions, each the contract of a function that does nothing.
-ghost use Rattle.law_reports.specs.VerdictLaws.{OneUnitVerdict, OneVerdictEach, ShutCasesHaveNone, ReachedCasesHaveShortest, SearchesDecide, TrueScriptsAreProved, TrueScriptsAreSound};
+ghost use Rattle.law_reports.specs.VerdictLaws.{OneUnitVerdict, OneVerdictEach, ShutCasesHaveNone, ReachedCasesHaveShortest, TrueScriptsAreProved, TrueScriptsAreSound};
 
 /// A leaf has at most one verdict for its budgets, and a script one list of verdicts.
 pub fn one_verdict()
@@ -11,7 +11,6 @@ pub fn one_verdict()
 pub fn verdicts_mean()
     ensures none { ShutCasesHaveNone }
     ensures shortest { ReachedCasesHaveShortest }
-    ensures searches { SearchesDecide }
 {}
 
 /// A checked script whose leaves are all true is proved, so each of its units holds at every time of every run, for all sizes.

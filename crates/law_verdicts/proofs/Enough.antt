@@ -3,9 +3,9 @@ use Rattle.std.proofs.Common.{◌≡◌, ◌≤◌, ◌<◌, ℕ, ◌*◌, List,
 use Rattle.law_obligations.specs.Sets.{Has, first, later}
 use Rattle.law_obligations.specs.Scripts.{case_at}
 use Rattle.smv_rings.specs.Lists.{Lists, IsLists}
-use Rattle.smv_search.specs.Events.{IsFirstEvent}
-use Rattle.smv_search.specs.Events.Event.{Counted, Images}
-use Rattle.smv_search.proofs.Meaning.{images_mean}
+use Rattle.law_events.specs.Events.{IsFirstEvent}
+use Rattle.law_events.specs.Events.Event.{Counted, Images}
+use Rattle.law_events.proofs.Meaning.{images_mean}
 use Rattle.smv_problem.specs.declared.report.Verdict.{Verdict}
 use Rattle.smv_problem.specs.declared.report.Verdict.TheVariants.{True, False, UnknownNodes, UnknownSteps}
 use Rattle.law_reports.specs.Verdicts.{lists_at}

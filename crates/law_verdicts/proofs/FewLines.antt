@@ -8,9 +8,9 @@ use Rattle.smv_rings.specs.Schedule.{Act, Line, live, lines, left_by, made_by, a
 use Rattle.smv_rings.specs.Schedule.Act.{Join, Look_at}
 use Rattle.smv_rings.proofs.Early.{equal_or_not}
 use Rattle.smv_rings.proofs.Few.{images_few}
-use Rattle.smv_search.specs.Events.{Budget, count, AllUneventful, First}
-use Rattle.smv_search.specs.Events.Event.{Counted}
-use Rattle.smv_search.proofs.Meaning.{first_split, pass_split}
+use Rattle.law_events.specs.Events.{Budget, count, AllUneventful, First}
+use Rattle.law_events.specs.Events.Event.{Counted}
+use Rattle.law_events.proofs.Meaning.{first_split, pass_split}
 use Rattle.law_verdicts.proofs.FewBeads.{few_beads, more_times}
 
 -- at each of these lines at most so many functions are live

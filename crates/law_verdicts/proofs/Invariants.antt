@@ -6,7 +6,7 @@ use Rattle.law_obligations.specs.Scripts.{case_at}
 use Rattle.law_obligations.proofs.ScriptCases.{is_case}
 use Rattle.smv_rings.specs.Lists.{at}
 use Rattle.smv_rings.specs.Schedule.{ring}
-use Rattle.smv_search.proofs.Meaning.{true_means}
+use Rattle.law_events.proofs.Meaning.{true_means}
 use Rattle.smv_problem.specs.declared.report.UnitResult.{UnitResult}
 use Rattle.law_reports.specs.CaseLists.{case_lists}
 use Rattle.law_reports.specs.Reports.{IsToldOf, IsResultOf, AreResultsFrom}

@@ -7,8 +7,8 @@ use Rattle.law_obligations.specs.Outlines.{Entry, Script}
 use Rattle.law_obligations.specs.Scripts.{classes_of}
 use Rattle.smv_rings.specs.Lists.{Lists, IsLists}
 use Rattle.smv_rings.specs.Schedule.{functions}
-use Rattle.smv_search.specs.Events.{IsFirstEvent}
-use Rattle.smv_search.specs.Events.Event.{Counted, Images}
+use Rattle.law_events.specs.Events.{IsFirstEvent}
+use Rattle.law_events.specs.Events.Event.{Counted, Images}
 use Rattle.smv_core.specs.declared.flat.Case.{Case}
 use Rattle.smv_problem.specs.declared.report.Verdict.{Verdict}
 use Rattle.smv_problem.specs.declared.report.Verdict.TheVariants.{True, False, UnknownNodes, UnknownSteps}

@@ -8,8 +8,8 @@ use Rattle.law_obligations.specs.Scripts.{case_at, classes_of, HaveValues}
 use Rattle.law_obligations.specs.Bits.{Bits}
 use Rattle.law_obligations.specs.Readings.{PosedCase, IsCase}
 use Rattle.law_obligations.specs.CasePaths.{IsInvariant}
-use Rattle.smv_search.specs.Events.{IsFirstEvent}
-use Rattle.smv_search.specs.Events.Event.{Shut}
+use Rattle.law_events.specs.Events.{IsFirstEvent}
+use Rattle.law_events.specs.Events.Event.{Shut}
 use Rattle.smv_problem.specs.declared.report.Verdict.TheVariants.{True}
 use Rattle.smv_problem.specs.declared.report.UnitResult.{UnitResult}
 use Rattle.smv_problem.specs.declared.report.Report.{Report}

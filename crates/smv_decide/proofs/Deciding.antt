@@ -9,8 +9,8 @@ use Rattle.smv_search.specs.declared.Outcome.{Outcome}
 use Rattle.smv_search.specs.declared.Outcome.TheVariants.{Reaches}
 use Rattle.smv_search.specs.Answers.{found, Answers, IsLeast}
 use Rattle.smv_search.specs.Keeping.{KeepsRefs}
-use Rattle.smv_search.specs.Events.{IsFirstEvent}
-use Rattle.smv_search.specs.Events.Event.{Reached}
+use Rattle.law_events.specs.Events.{IsFirstEvent}
+use Rattle.law_events.specs.Events.Event.{Reached}
 use Rattle.smv_search.proofs.Start.{lists_kept}
 use Rattle.law_obligations.specs.Readings.{PosedCase}
 use Rattle.law_obligations.specs.CasePaths.{IsShortest}

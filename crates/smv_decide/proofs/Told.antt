@@ -8,8 +8,8 @@ use Rattle.smv_core.specs.declared.flat.Case.{Case as CaseData}
 use Rattle.law_obligations.specs.Sets.{Has, first, later}
 use Rattle.law_obligations.proofs.Members.{Has-cases}
 use Rattle.smv_rings.specs.Lists.{Lists}
-use Rattle.smv_search.specs.Events.{Event as SearchVerdict, IsFirstEvent}
-use Rattle.smv_search.specs.Events.Event.{Counted, Reached, Images}
+use Rattle.law_events.specs.Events.{Event as SearchVerdict, IsFirstEvent}
+use Rattle.law_events.specs.Events.Event.{Counted, Reached, Images}
 use Rattle.smv_problem.specs.declared.report.Verdict.{Verdict}
 use Rattle.smv_problem.specs.declared.report.Verdict.TheVariants.{True}
 use Rattle.law_reports.specs.Verdicts.{is_shut, IsTrueCase, AreTrueCases, FailsFirst}

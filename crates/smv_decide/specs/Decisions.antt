@@ -6,8 +6,8 @@ use Rattle.smv_rings.specs.Ops.{IsOneOf}
 use Rattle.smv_rings.specs.Lists.{Lists}
 use Rattle.smv_search.specs.declared.Outcome.{Outcome}
 use Rattle.smv_search.specs.Answers.{found, Answers, IsLeast}
-use Rattle.smv_search.specs.Events.{IsFirstEvent}
-use Rattle.smv_search.specs.Events.Event.{Counted, Reached, Shut, Images}
+use Rattle.law_events.specs.Events.{IsFirstEvent}
+use Rattle.law_events.specs.Events.Event.{Counted, Reached, Shut, Images}
 use Rattle.law_obligations.specs.Readings.{PosedCase}
 use Rattle.law_reports.specs.CaseLists.{case_lists}
 use Rattle.law_reports.specs.Reports.{IsShown}

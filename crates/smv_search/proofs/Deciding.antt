@@ -15,8 +15,8 @@ use Rattle.smv_rings.proofs.Whole.{map_append}
 use Rattle.smv_search.specs.declared.counts.Stop.{Stop}
 use Rattle.smv_search.specs.declared.counts.Stop.TheVariants.{TooMany, OutOfMemory}
 use Rattle.smv_search.specs.declared.turns.End.{End}
-use Rattle.smv_search.specs.Events.{Budget, Event, AllUneventful, First}
-use Rattle.smv_search.specs.Events.Event.{Counted, Reached}
+use Rattle.law_events.specs.Events.{Budget, Event, AllUneventful, First}
+use Rattle.law_events.specs.Events.Event.{Counted, Reached}
 use Rattle.smv_search.specs.Keeping.{AllHeld, KeepsRefs}
 use Rattle.smv_search.specs.Runs.{IsEnd, IsEndLive}
 use Rattle.smv_search.specs.Answers.{Begins}

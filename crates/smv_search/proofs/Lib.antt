@@ -4,10 +4,7 @@ pub mod Loops
 pub mod OneByOne
 pub mod Opening
 pub mod TurnLaws
-pub mod Meaning
 pub mod Start
 pub mod Deciding
 pub mod Outcomes
 pub mod Sweeping
-pub mod Unique
-pub mod Row

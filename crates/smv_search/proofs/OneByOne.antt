@@ -11,8 +11,8 @@ use Rattle.smv_rings.specs.Schedule.Look.{Pass}
 use Rattle.smv_rings.proofs.Whole.{map_append}
 use Rattle.smv_search.specs.declared.counts.Stop.{Stop}
 use Rattle.smv_search.specs.declared.counts.Stop.TheVariants.{TooMany, OutOfMemory}
-use Rattle.smv_search.specs.Events.{Budget, count, told, AllUneventful, First}
-use Rattle.smv_search.specs.Events.Event.{Counted}
+use Rattle.law_events.specs.Events.{Budget, count, told, AllUneventful, First}
+use Rattle.law_events.specs.Events.Event.{Counted}
 use Rattle.smv_search.specs.Keeping.{beads_of, IsTally}
 use Rattle.smv_search.specs.Runs.{TakesIn, Took}
 use Rattle.smv_search.proofs.Loops.{nil_append, pass_append}

@@ -13,13 +13,13 @@ use Rattle.smv_rings.specs.Ops.{IsOneOf}
 use Rattle.smv_rings.proofs.PathLaws.{violating_of, violates_of}
 use Rattle.smv_search.specs.declared.Outcome.{Outcome}
 use Rattle.smv_search.specs.declared.Outcome.TheVariants.{Closed, Reaches, OutOfNodes, OutOfSteps}
-use Rattle.smv_search.specs.Events.{Budget, Event, count, First, IsFirstEvent}
-use Rattle.smv_search.specs.Events.Event.{Counted, Reached, Shut, Images}
+use Rattle.law_events.specs.Events.{Budget, Event, count, First, IsFirstEvent}
+use Rattle.law_events.specs.Events.Event.{Counted, Reached, Shut, Images}
 use Rattle.smv_search.specs.Keeping.{AllHeld, KeepsRefs}
 use Rattle.smv_search.specs.Runs.{rings_to}
 use Rattle.smv_search.specs.Answers.{found, Answers, IsProof, IsLeast, IsFew, IsTold}
 use Rattle.smv_search.proofs.Keep.{map_kept, keeps_some}
-use Rattle.smv_search.proofs.Meaning.{false_means, true_means, images_mean, shut_within}
+use Rattle.law_events.proofs.Meaning.{false_means, true_means, images_mean, shut_within}
 use Rattle.smv_search.proofs.Start.{one_here, one_alone}
 
 -- what stands behind the functions of the lists are the rings

@@ -18,14 +18,14 @@ use Rattle.smv_rings.proofs.Turns.{after_append}
 use Rattle.smv_rings.proofs.Refs.{each_live, live_each, in_now_first, in_before_first, in_broken_first, in_now_step, in_before_step, in_broken_step}
 use Rattle.smv_search.specs.declared.counts.Stop.{Stop}
 use Rattle.smv_search.specs.declared.counts.Stop.TheVariants.{TooMany, OutOfMemory}
-use Rattle.smv_search.specs.Events.{Budget, Event, count, AllUneventful, First}
-use Rattle.smv_search.specs.Events.Event.{Counted, Reached}
+use Rattle.law_events.specs.Events.{Budget, Event, count, AllUneventful, First}
+use Rattle.law_events.specs.Events.Event.{Counted, Reached}
 use Rattle.smv_search.specs.Keeping.{AllHeld, KeepsRefs, beads_of}
 use Rattle.smv_search.specs.Runs.{Runs, TakesIn, first_of, behind_first, opening}
 use Rattle.smv_search.specs.Answers.{Begins}
 use Rattle.smv_search.proofs.Keep.{map_kept, keeps_some}
 use Rattle.smv_search.proofs.Loops.{nil_append, pass_append, first_behind}
-use Rattle.smv_search.proofs.Meaning.{lines_append}
+use Rattle.law_events.proofs.Meaning.{lines_append}
 
 -- ---- the lists of a Rel whose functions are kept
 abbrev pack : List Function → List Function → Function → List Function → List Function → Function → ℕ → Lists

@@ -16,8 +16,8 @@ use Rattle.smv_rings.specs.declared.ops.Op.{Op}
 use Rattle.smv_rings.specs.declared.ops.Op.TheVariants.{And, Exists, Look, Rename}
 use Rattle.smv_search.specs.declared.counts.Stop.{Stop}
 use Rattle.smv_search.specs.declared.counts.Stop.TheVariants.{TooMany, OutOfMemory}
-use Rattle.smv_search.specs.Events.{Budget, count, told, Goes, Settles, AllUneventful, First}
-use Rattle.smv_search.specs.Events.Event.{Reached}
+use Rattle.law_events.specs.Events.{Budget, count, told, Goes, Settles, AllUneventful, First}
+use Rattle.law_events.specs.Events.Event.{Reached}
 use Rattle.smv_rings.specs.Ops.{act_of}
 use Rattle.smv_search.specs.Runs.{Runs}
 use Rattle.std.specs.Result.{IsErrAnd}

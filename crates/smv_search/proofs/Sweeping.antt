@@ -8,7 +8,7 @@ use Rattle.smv_rings.specs.Ops.{IsOneOf}
 use Rattle.smv_rings.proofs.Rels.{lists_ok}
 use Rattle.smv_rings.proofs.Refs.{one_left, one_right, one_append}
 use Rattle.smv_search.specs.declared.Outcome.{Outcome}
-use Rattle.smv_search.specs.Events.{Budget}
+use Rattle.law_events.specs.Events.{Budget}
 use Rattle.smv_search.specs.Keeping.{AllHeld, KeepsRefs}
 use Rattle.smv_search.specs.Answers.{found, Answers, IsProof, IsTold}
 use Rattle.smv_search.proofs.Keep.{held_at, keeps_swept, keeps_then, keeps_some}

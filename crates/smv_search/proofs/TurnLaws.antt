@@ -12,8 +12,8 @@ use Rattle.smv_rings.specs.declared.ops.Op.{Op}
 use Rattle.smv_search.specs.declared.counts.Stop.{Stop}
 use Rattle.smv_search.specs.declared.counts.Stop.TheVariants.{TooMany, OutOfMemory}
 use Rattle.smv_search.specs.declared.turns.End.TheVariants.{Closed}
-use Rattle.smv_search.specs.Events.{Budget, Event, count, told, AllUneventful, First}
-use Rattle.smv_search.specs.Events.Event.{Counted, Reached, Shut, Images}
+use Rattle.law_events.specs.Events.{Budget, Event, count, told, AllUneventful, First}
+use Rattle.law_events.specs.Events.Event.{Counted, Reached, Shut, Images}
 use Rattle.smv_rings.specs.Ops.{act_of, acts_of, refs_in, refs_in_all, FitsActs}
 use Rattle.smv_search.specs.Runs.{Runs, IsEnd, rings_to}
 use Rattle.smv_search.proofs.Keep.{map_kept, keeps_then, keeps_some}

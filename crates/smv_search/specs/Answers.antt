@@ -10,8 +10,8 @@ use Rattle.smv_search.specs.declared.Outcome.{Outcome}
 use Rattle.smv_search.specs.declared.Outcome.TheVariants.{Closed, Reaches, OutOfNodes, OutOfSteps}
 use Rattle.smv_search.specs.declared.counts.Stop.{Stop}
 use Rattle.smv_search.specs.declared.counts.Stop.TheVariants.{TooMany, OutOfMemory}
-use Rattle.smv_search.specs.Events.{Budget, AllUneventful, First, IsFirstEvent}
-use Rattle.smv_search.specs.Events.Event.{Counted, Reached, Shut, Images}
+use Rattle.law_events.specs.Events.{Budget, AllUneventful, First, IsFirstEvent}
+use Rattle.law_events.specs.Events.Event.{Counted, Reached, Shut, Images}
 use Rattle.smv_search.specs.Runs.{rings_to}
 
 -- the functions of an outcome

@@ -5,7 +5,7 @@ use Rattle.bdd_store.specs.Beads.{truth_table, bead_count}
 use Rattle.bdd_store.specs.Diagram.{Diagram, IsLive, IsKept, Reaches, table, first_var}
 use Rattle.bdd_ops.specs.Functions.{Function}
 use Rattle.smv_rings.specs.Ops.{IsOneOf}
-use Rattle.smv_search.specs.Events.{told, margin}
+use Rattle.law_events.specs.Events.{told, margin}
 use Rattle.smv_search.specs.declared.counts.Stop.{Stop}
 use Rattle.smv_search.specs.declared.counts.Stop.TheVariants.{TooMany, OutOfMemory}
 

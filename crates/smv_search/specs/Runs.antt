@@ -12,8 +12,8 @@ use Rattle.smv_search.specs.declared.counts.Stop.{Stop}
 use Rattle.smv_search.specs.declared.counts.Stop.TheVariants.{TooMany, OutOfMemory}
 use Rattle.smv_search.specs.declared.turns.End.{End}
 use Rattle.smv_search.specs.declared.turns.End.TheVariants.{Closed, Reaches, OutOfSteps}
-use Rattle.smv_search.specs.Events.{Budget, AllUneventful, First}
-use Rattle.smv_search.specs.Events.Event.{Counted, Reached, Shut, Images}
+use Rattle.law_events.specs.Events.{Budget, AllUneventful, First}
+use Rattle.law_events.specs.Events.Event.{Counted, Reached, Shut, Images}
 
 -- P after the acts, or the first event of their lines
 abbrev pub Runs : Diagram → Budget → List Function → Function → List Act → ℕ → Result (Option Ref) Stop → Type 0

@@ -5,7 +5,7 @@ ghost use Rattle.bdd_store.specs.Diagram.{IsLive, AreLive, table};
 ghost use Rattle.smv_search.specs.declared.counts.Stop.TheVariants.{OutOfMemory};
 ghost use Rattle.smv_search.specs.Keeping.{AllHeld, KeepsRefs, beads_of, IsTally};
 ghost use Rattle.smv_search.specs.Runs.{TakesIn};
-ghost use Rattle.smv_search.specs.Events.{margin};
+ghost use Rattle.law_events.specs.Events.{margin};
 
 use bdd_store::{Ref, Store};
 use std::alloc::{AllocError, AllocFailed};

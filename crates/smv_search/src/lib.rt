@@ -10,7 +10,7 @@ ghost use Rattle.bdd_store.specs.Diagram.{Diagram, IsLive, IsKept, held, tables_
 ghost use Rattle.smv_rings.specs.Lists.{Lists, IsRel, lists_of, refs_of};
 ghost use Rattle.smv_rings.specs.Ops.{IsOneOf};
 ghost use Rattle.smv_search.specs.Keeping.{KeepsRefs};
-ghost use Rattle.smv_search.specs.Events.{Budget};
+ghost use Rattle.law_events.specs.Events.{Budget};
 ghost use Rattle.smv_search.specs.Runs.{IsEnd, IsEndLive};
 ghost use Rattle.smv_search.specs.Answers.{found, Answers, IsProof, IsLeast, IsFew, Begins, IsTold};
 
@@ -19,7 +19,6 @@ use smv_rings::{Rel, plan};
 use std::alloc::{AllocError, Global};
 
 mod counts;
-pub mod laws;
 mod runs;
 mod turns;
 

@@ -8,7 +8,7 @@ ghost use Rattle.smv_rings.specs.Lists.{IsRel, lists_of, refs_of};
 ghost use Rattle.smv_rings.specs.Ops.{IsOneOf, act_of, acts_of, refs_in, refs_in_all, FitsAct, FitsActs};
 ghost use Rattle.smv_search.specs.Keeping.{AllHeld, KeepsRefs, beads_in, IsPast};
 ghost use Rattle.smv_search.specs.Runs.{Runs, first_of, behind_first, opening};
-ghost use Rattle.smv_search.specs.Events.{margin};
+ghost use Rattle.law_events.specs.Events.{margin};
 
 use super::counts::{Stop, append, most_told};
 use bdd_store::{Ref, Store};

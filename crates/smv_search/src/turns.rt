@@ -6,7 +6,7 @@ ghost use Rattle.smv_rings.specs.Functions.{disj};
 ghost use Rattle.smv_rings.specs.Schedule.{Look, functions, turn, kept_at, ring, schedule};
 ghost use Rattle.smv_rings.specs.Lists.{IsLists, lists_of};
 ghost use Rattle.smv_rings.specs.Ops.{IsOneOf, acts_of, refs_in_all, FitsActs};
-ghost use Rattle.smv_search.specs.Events.{count, AllUneventful};
+ghost use Rattle.law_events.specs.Events.{count, AllUneventful};
 ghost use Rattle.smv_search.specs.Keeping.{AllHeld, KeepsRefs, beads_in, IsTally, IsPast};
 ghost use Rattle.smv_search.specs.Runs.{IsEnd, IsEndLive};
 

@@ -6,7 +6,7 @@ use Rattle.smv_rings.specs.Ops.{IsOneOf, acts_of, refs_in_all, FitsActs}
 use Rattle.smv_search.specs.Answers.{Begins}
 use Rattle.smv_search.specs.Keeping.{AllHeld, beads_of}
 use Rattle.smv_rings.specs.Schedule.{one_by_one}
-use Rattle.smv_search.specs.Events.{AllUneventful}
+use Rattle.law_events.specs.Events.{AllUneventful}
 use Rattle.smv_search.proofs.Keep.{keeps_self}
 use Rattle.smv_search.proofs.Steps.{handed_on}
 use Rattle.smv_search.proofs.Start.{rel_held, begin_stop, begin_run, opening_fits}

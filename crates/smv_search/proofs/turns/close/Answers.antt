@@ -4,7 +4,7 @@ use Rattle.bdd_store.specs.Diagram.{table}
 use Rattle.smv_rings.specs.Functions.{disj}
 use Rattle.smv_search.specs.declared.counts.Stop.{Stop}
 use Rattle.smv_search.specs.declared.counts.Stop.TheVariants.{TooMany, OutOfMemory}
-use Rattle.smv_search.specs.Events.{count}
+use Rattle.law_events.specs.Events.{count}
 use Rattle.smv_search.specs.Keeping.{IsTally}
 use Rattle.smv_rings.specs.Schedule.{Line}
 use Rattle.smv_search.proofs.Keep.{keeps_refs}

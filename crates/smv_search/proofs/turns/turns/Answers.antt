@@ -5,8 +5,8 @@ use Rattle.smv_search.proofs.Keep.{same_place, place_same}
 use Rattle.smv_rings.specs.Lists.{lists_of}
 use Rattle.smv_rings.specs.Schedule.{ring, kept_at, schedule}
 use Rattle.smv_rings.specs.Ops.{IsOneOf}
-use Rattle.smv_search.specs.Events.{AllUneventful, First}
-use Rattle.smv_search.specs.Events.Event.{Reached}
+use Rattle.law_events.specs.Events.{AllUneventful, First}
+use Rattle.law_events.specs.Events.Event.{Reached}
 use Rattle.smv_search.specs.Runs.{IsEnd, rings_to}
 use Rattle.smv_search.proofs.Steps.{handed_on}
 use Rattle.smv_search.proofs.TurnLaws.{plan_now, fits_now, keeps_f, run_stops, run_finds, image_live, held_f, keeps_g, close_stops, closes, goes_passed, goes_ended, kept_g, next_g, up, pushed_more, pushed_next, pushed_held, end_rings}

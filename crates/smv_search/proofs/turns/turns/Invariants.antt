@@ -5,8 +5,8 @@ use Rattle.smv_rings.specs.Lists.{lists_of}
 use Rattle.smv_rings.specs.Schedule.{kept_at, ring, schedule}
 use Rattle.smv_search.specs.Keeping.{KeepsRefs, AllHeld}
 use Rattle.smv_rings.specs.Ops.{IsOneOf}
-use Rattle.smv_search.specs.Events.{AllUneventful, First}
-use Rattle.smv_search.specs.Events.Event.{Images}
+use Rattle.law_events.specs.Events.{AllUneventful, First}
+use Rattle.law_events.specs.Events.Event.{Images}
 use Rattle.smv_search.proofs.turns.turns.Given as goal
 
 abbrev pub invariant-loop-k : goal.invariant-loop-k

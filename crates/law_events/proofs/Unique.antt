@@ -3,8 +3,8 @@ use Rattle.std.proofs.Common.{◌≡◌, ℕ, ◌<◌, ◌≤◌, ◌⊎◌, inl
 use Rattle.bdd_ops.specs.Functions.{Function}
 use Rattle.smv_rings.specs.Schedule.{Look, Line}
 use Rattle.smv_rings.specs.Schedule.Look.{Pass, Broken, Ring}
-use Rattle.smv_search.specs.Events.{Budget, Event, count, told, Goes, Settles, IsUneventful, Decides, AllUneventful, First}
-use Rattle.smv_search.specs.Events.Event.{Counted, Reached, Shut, Images}
+use Rattle.law_events.specs.Events.{Budget, Event, count, told, Goes, Settles, IsUneventful, Decides, AllUneventful, First}
+use Rattle.law_events.specs.Events.Event.{Counted, Reached, Shut, Images}
 
 settles_once : (images : ℕ) (f : Function) (look : Look) (v w : Event) → Settles images f look v → Settles images f look w → v ≡ w
 settles_once images f Pass v w s t = absurd s

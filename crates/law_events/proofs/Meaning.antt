@@ -11,8 +11,8 @@ use Rattle.smv_rings.specs.Schedule.Act.{Join, Out, Look_at, Lower}
 use Rattle.smv_rings.proofs.Rings.{looked_to, looked_from, closed_inductive, inductive_safe}
 use Rattle.smv_rings.proofs.Early.{equal_or_not}
 use Rattle.smv_rings.proofs.Few.{images_few}
-use Rattle.smv_search.specs.Events.{Budget, Event, count, IsUneventful, Settles, Decides, AllUneventful, First}
-use Rattle.smv_search.specs.Events.Event.{Reached, Shut, Images}
+use Rattle.law_events.specs.Events.{Budget, Event, count, IsUneventful, Settles, Decides, AllUneventful, First}
+use Rattle.law_events.specs.Events.Event.{Reached, Shut, Images}
 
 -- lines at which nothing is looked at
 abbrev pub Quiet : List Line → Type 0

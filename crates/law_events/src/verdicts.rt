@@ -1,5 +1,5 @@
 // Laws of verdicts.
-ghost use Rattle.smv_search.specs.Laws.{OneVerdict, ToggleCounts};
+ghost use Rattle.law_events.specs.Laws.{OneVerdict, ToggleCounts};
 
 /// A case has at most one verdict for its budgets.
 pub fn one_verdict()

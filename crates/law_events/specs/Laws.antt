@@ -3,7 +3,7 @@ use Rattle.std.specs.Prelude.{◌≡◌, ℕ, ◌&&◌, ◌||◌, not, [], ◌�
 use Rattle.smv_rings.specs.Functions.{never}
 use Rattle.smv_rings.specs.Lists.{Lists}
 use Rattle.smv_rings.specs.Schedule.{schedule}
-use Rattle.smv_search.specs.Events.{Event, IsFirstEvent, count}
+use Rattle.law_events.specs.Events.{Event, IsFirstEvent, count}
 
 -- a case has one verdict for its budgets
 abbrev pub OneVerdict : Type 0

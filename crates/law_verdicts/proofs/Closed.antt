@@ -6,7 +6,7 @@ use Rattle.smv_rings.specs.Paths.{IsInductive}
 use Rattle.smv_rings.proofs.Rels.{lists_ok}
 use Rattle.smv_rings.proofs.Rings.{ring_facts}
 use Rattle.smv_search.proofs.Start.{rel_kept, lists_kept}
-use Rattle.law_reports.specs.Certified.{ClosedSetsPass}
+use Rattle.law_verdicts.specs.Certified.{ClosedSetsPass}
 
 pub closed_pass : ClosedSetsPass
 closed_pass old new rel nodes images set ok keeps live answer proof = record {
