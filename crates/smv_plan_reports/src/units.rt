@@ -35,8 +35,8 @@ pub fn numbers_of(alloc: Global, design: &Design) -> Result<Numbers, AllocError>
     Ok(Numbers { names, set_names })
 }
 
-// What the problems of all cases of a design have in common.
-fn common_of(alloc: Global, design: &Design) -> Result<Shared, AllocError>
+/// What the problems of all cases of a design have in common. It is made once for all its units.
+pub fn common_of(alloc: Global, design: &Design) -> Result<Shared, AllocError>
     ensures { IfOk result (IsShared design.now) }
 {
     let numbers = numbers_of(alloc, design)?;
@@ -152,8 +152,8 @@ fn copy_param(alloc: Global, param: &Param) -> Result<Param, AllocError>
     })
 }
 
-// A copy of each parameter, in their order.
-fn copy_params(alloc: Global, params: &[Param]) -> Result<Seq<Param>, AllocError>
+/// A copy of each parameter, in their order.
+pub fn copy_params(alloc: Global, params: &[Param]) -> Result<Seq<Param>, AllocError>
     ensures { IfOk result (λ copies. copies ≡ params.now) }
 {
     let mut copies = Seq::new(alloc);

@@ -54,8 +54,8 @@ pub fn prove_one(
     }
 }
 
-// The plan of a text, or its first fault.
-fn plan_of(alloc: Global, text: &[u8]) -> Result<Plan, Refusal>
+/// The plan of a text, whole, or the text's first fault.
+pub fn plan_of(alloc: Global, text: &[u8]) -> Result<Plan, Refusal>
     requires { length text.now ≤ limit }
     ensures plan { IfOk result (IsReady text.now) }
     ensures fault { IfFault result (λ fault. (command : Command) → decides command ≡ true → IsFault command text.now fault.number fault.at) }
