@@ -1,0 +1,9 @@
+pub mod Cones
+pub mod Exactly
+pub mod Shown
+pub mod Found
+pub mod Cases
+pub mod Decided
+pub mod Given
+pub mod PosedCases
+pub mod Formed

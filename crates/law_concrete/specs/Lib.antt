@@ -1,0 +1,4 @@
+pub mod Concrete
+pub mod Runs
+pub mod Sizes
+pub mod Laws
