@@ -1,0 +1,6 @@
+pub mod Views
+pub mod Meets
+pub mod Paths
+pub mod Below
+pub mod Events
+pub mod Invariants

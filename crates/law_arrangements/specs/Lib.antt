@@ -1,0 +1,4 @@
+pub mod Arrangements
+pub mod ArrangedLists
+pub mod Laws
+pub mod Worked
