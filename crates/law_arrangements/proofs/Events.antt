@@ -3,9 +3,9 @@ use Rattle.std.proofs.Common.{◌≡◌, ℕ, ◌*◌, ◌<◌, List, Bool, true
 use Rattle.smv_rings.specs.Lists.{Lists, State, IsLists}
 use Rattle.smv_rings.specs.Paths.{IsViolating}
 use Rattle.smv_rings.proofs.PathLaws.{violating_of, violates_of}
-use Rattle.smv_search.specs.Events.{Budget, Event, IsFirstEvent}
-use Rattle.smv_search.specs.Events.Event.{Counted, Reached, Shut, Images}
-use Rattle.smv_search.proofs.Meaning.{true_means, false_means}
+use Rattle.law_events.specs.Events.{Budget, Event, IsFirstEvent}
+use Rattle.law_events.specs.Events.Event.{Counted, Reached, Shut, Images}
+use Rattle.law_events.proofs.Meaning.{true_means, false_means}
 use Rattle.law_obligations.specs.May.{AbsState}
 use Rattle.law_obligations.specs.Readings.{PosedCase, IsCase}
 use Rattle.law_obligations.specs.CasePaths.{HasNone, IsShortest}

@@ -5,8 +5,8 @@ use Rattle.bdd_ops.specs.Functions.{Function}
 use Rattle.law_obligations.specs.May.{AbsState}
 use Rattle.smv_rings.specs.Lists.{State, at, IsLists}
 use Rattle.smv_rings.specs.Paths.{IsViolating, IsInductive}
-use Rattle.smv_search.specs.Events.{Event, IsFirstEvent}
-use Rattle.smv_search.specs.Events.Event.{Reached, Shut}
+use Rattle.law_events.specs.Events.{Event, IsFirstEvent}
+use Rattle.law_events.specs.Events.Event.{Reached, Shut}
 use Rattle.law_obligations.specs.Places.{same_place}
 use Rattle.law_obligations.specs.Bits.{Bits}
 use Rattle.law_obligations.specs.Readings.{PosedCase, IsCase, reading}
