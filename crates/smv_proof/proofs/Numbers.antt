@@ -10,7 +10,7 @@ use Rattle.smv_proof.specs.Documents.{same_node}
 use Rattle.smv_proof.specs.Kept.{Rooted, number_from, joined}
 use Rattle.smv_proof.proofs.Lists.{Grows, grows_self, grows_more, none_some}
 
-same_is : (a b : Node) → same_node a b ≡ true → a ≡ b
+pub same_is : (a b : Node) → same_node a b ≡ true → a ≡ b
 same_is a b e =
     let vars : a.var ≡ b.var = nat_eq-is a.var b.var (left_of (nat_eq a.var b.var) _ e) in
     let rest = right_of (nat_eq a.var b.var) _ e in
