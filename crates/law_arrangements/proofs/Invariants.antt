@@ -33,20 +33,20 @@ apart_across (x ∷ xs) ys apart _ first = none_right (same_element x) xs ys apa
 apart_across (y ∷ xs) ys apart x (later h) = apart_across xs ys apart.1 x h
 
 module _ (c : PosedCase) (is : IsCase c) (o : Arrangement) (ok : IsArrangement c o) where
-  abbrev seen : Bits → AbsState
+  abbrev pub seen : Bits → AbsState
   seen t = view c o (gathered o t)
 
-  abbrev now_met : Option AbsState → AbsState → Bool
+  abbrev pub now_met : Option AbsState → AbsState → Bool
   now_met old now = (obligation c.problem).now old now
 
-  abbrev before_met : Option AbsState → AbsState → Bool
+  abbrev pub before_met : Option AbsState → AbsState → Bool
   before_met old now = (obligation c.problem).before old now
 
   abbrev broken_at : Option AbsState → AbsState → Bool
   broken_at old now = (obligation c.problem).broken old now
 
   -- a state in which the demands of now hold is what its places are read as, but at idle elements
-  agrees : (old : Option AbsState) (t : Bits) → now_met old (reading c t) ≡ true → AgreeBeside o.idle (seen t) (reading c t)
+  pub agrees : (old : Option AbsState) (t : Bits) → now_met old (reading c t) ≡ true → AgreeBeside o.idle (seen t) (reading c t)
   agrees old t met =
       follows c is o.determined o.idle ok.are_determined ok.are_apart (det_in c is o ok) old (reading c t) (reading c (spread o.order (gathered o t))) (reading_is_state c is t) (reading_is_state c is (spread o.order (gathered o t)))
       (λ x h. all-holds (is_met c.problem old (reading c t)) (those_of c.problem.now x) (λ d g. all-each (is_met c.problem old (reading c t)) met (Has-from_filter (defines x) c.problem.now g).0))
@@ -69,18 +69,18 @@ module _ (c : PosedCase) (is : IsCase c) (o : Arrangement) (ok : IsArrangement c
   completed t agree = all-holds (λ (x : AbsElement). same_place (reading c t x.family x.indexes) (seen t x.family x.indexes)) o.determined (λ x h.
       ap (same_place (reading c t x.family x.indexes)) (agree x.family x.indexes (apart_across o.determined o.idle ok.are_apart x h)) ∙ same_place-itself (reading c t x.family x.indexes))
 
-  have_values : (t : Bits) → are_values c t ≡ true → (slot : Slot) → Has (slots c) slot → list_any (same_element slot.element) (o.determined ++ o.idle) ≡ false → is_value c.problem.world (spread o.order (gathered o t)) slot ≡ true
+  pub have_values : (t : Bits) → are_values c t ≡ true → (slot : Slot) → Has (slots c) slot → list_any (same_element slot.element) (o.determined ++ o.idle) ≡ false → is_value c.problem.world (spread o.order (gathered o t)) slot ≡ true
   unfolding are_values
   have_values t values slot h e = value_gathered c is o ok.have_places t slot h e ∙ all-each (is_value c.problem.world t) values h
 
   -- what is met there is met here
-  now_here : (old other : Option AbsState) (t : Bits) → AgreeBefore o.idle other old → AgreeBeside o.idle (seen t) (reading c t) → now_met old (reading c t) ≡ true →
+  pub now_here : (old other : Option AbsState) (t : Bits) → AgreeBefore o.idle other old → AgreeBeside o.idle (seen t) (reading c t) → now_met old (reading c t) ≡ true →
       (d : Demanded) → Has c.problem.now d → IsOther (o.determined ++ o.idle) d → is_met c.problem other (seen t) d ≡ true
   now_here old other t before agree met d h e =
       ok.are_unread.demands d (Has-left c.problem.before h) (none_right (λ x. defines x d) o.determined o.idle e) other old (seen t) (reading c t) before agree
       ∙ all-each (is_met c.problem old (reading c t)) met h
 
-  before_here : (old other : Option AbsState) (t : Bits) → AgreeBefore o.idle other old → AgreeBeside o.idle (seen t) (reading c t) → before_met old (reading c t) ≡ true →
+  pub before_here : (old other : Option AbsState) (t : Bits) → AgreeBefore o.idle other old → AgreeBeside o.idle (seen t) (reading c t) → before_met old (reading c t) ≡ true →
       (d : Demanded) → Has c.problem.before d → IsOther o.idle d → is_met c.problem other (seen t) d ≡ true
   before_here old other t before agree met d h e =
       ok.are_unread.demands d (Has-right c.problem.now h) e other old (seen t) (reading c t) before agree

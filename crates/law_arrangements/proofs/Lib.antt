@@ -4,3 +4,5 @@ pub mod Paths
 pub mod Below
 pub mod Events
 pub mod Invariants
+pub mod Rings
+pub mod Declared

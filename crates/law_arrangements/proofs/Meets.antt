@@ -88,6 +88,11 @@ module _ (c : PosedCase) (is : IsCase c) (o : Arrangement) where
     now_to e (holds body b) h other =
         sym (demand_is (holds body b)) ∙ of_each fs a (of_demand (holds body b)) e (Has-right (map of_slot ss) (Has-map of_demand (Has-filter is_claim h refl)))
 
+    values_to : all_of fs a ≡ true → (slot : Slot) → Has (slots c) slot → list_any (same_element slot.element) ws ≡ false → is_value c.problem.world s slot ≡ true
+    values_to e slot h has =
+        left_of (is_value c.problem.world s slot) (list_all met (those_of c.problem.now slot.element))
+        (sym (slot_is slot) ∙ of_each fs a (of_slot slot) e (Has-left (map of_demand (claims c c.problem.now)) (Has-map of_slot (back slot (Has-filter (has_bits o) h (rw has refl))))))
+
     now_from : ((slot : Slot) → Has (slots c) slot → list_any (same_element slot.element) ws ≡ false → is_value c.problem.world s slot ≡ true) →
         ((d : Demanded) → Has c.problem.now d → IsOther ws d → met d ≡ true) → all_of fs a ≡ true
     now_from values all = each_holds fs a (λ f h. elim (Has-cases (map of_slot ss) (map of_demand (claims c c.problem.now)) h) [
@@ -130,7 +135,7 @@ module _ (c : PosedCase) (is : IsCase c) (o : Arrangement) where
       (Has-filter (defines r.0.element) h (subst (λ (x : AbsElement). same_element x (element def.family indexes) ≡ true) (sym r.2) (same_element-itself (element def.family indexes)))))
   before_in (holds body b) h = Has-right (flat_map (λ slot. those_of c.problem.before slot.element) (moving_first c.problem.before (slots c))) (Has-filter is_claim h refl)
 
-  abbrev HaveValues : State → Type 0
+  abbrev pub HaveValues : State → Type 0
   HaveValues s = (slot : Slot) → Has (slots c) slot → list_any (same_element slot.element) ws ≡ false → is_value c.problem.world (spread o.order s) slot ≡ true
 
   -- ---- at time 0
@@ -140,6 +145,12 @@ module _ (c : PosedCase) (is : IsCase c) (o : Arrangement) where
   first_to s e d h other =
       ap (λ (x : State). is_met c.problem None (view c o x) d) (sym (current_both s s))
       ∙ now_to (element_first c o) (met_first c o) (slots_over c o) (at s) (spread o.order (current (at s))) (is_met c.problem None (view c o (current (at s)))) (λ slot h. h) (λ slot h. h) (λ slot. refl) (λ demand. refl) e d h other
+
+  pub first_values : (s : State) → all_of (lists_over c o).now_first (at s) ≡ true → HaveValues s
+  unfolding lists_over
+  first_values s e slot h has =
+      ap (λ (x : State). is_value c.problem.world (spread o.order x) slot) (sym (current_both s s))
+      ∙ values_to (element_first c o) (met_first c o) (slots_over c o) (at s) (spread o.order (current (at s))) (is_met c.problem None (view c o (current (at s)))) (λ slot h. h) (λ slot h. h) (λ slot. refl) (λ demand. refl) e slot h has
 
   pub first_from : (s : State) → HaveValues s → ((d : Demanded) → Has c.problem.now d → IsOther ws d → is_met c.problem None (view c o s) d ≡ true) → all_of (lists_over c o).now_first (at s) ≡ true
   unfolding lists_over
@@ -175,6 +186,13 @@ module _ (c : PosedCase) (is : IsCase c) (o : Arrangement) where
       sym (step_is r s d)
       ∙ now_to (element_step c o) (met_step c o) (moving_first c.problem.now (slots_over c o)) (both r s) (spread o.order (next (both r s))) (is_met c.problem (Some (view c o (current (both r s)))) (view c o (next (both r s))))
       (moved_to c.problem.now (slots_over c o)) (moved_from c.problem.now (slots_over c o)) (λ slot. refl) (λ demand. refl) e d h other
+
+  pub step_values : (r s : State) → all_of (lists_over c o).now_step (both r s) ≡ true → HaveValues s
+  unfolding lists_over
+  step_values r s e slot h has =
+      ap (λ (x : State). is_value c.problem.world (spread o.order x) slot) (sym (next_both r s))
+      ∙ values_to (element_step c o) (met_step c o) (moving_first c.problem.now (slots_over c o)) (both r s) (spread o.order (next (both r s))) (is_met c.problem (Some (view c o (current (both r s)))) (view c o (next (both r s))))
+      (moved_to c.problem.now (slots_over c o)) (moved_from c.problem.now (slots_over c o)) (λ slot. refl) (λ demand. refl) e slot h has
 
   pub step_from : (r s : State) → HaveValues s → ((d : Demanded) → Has c.problem.now d → IsOther ws d → is_met c.problem (Some (view c o r)) (view c o s) d ≡ true) → all_of (lists_over c o).now_step (both r s) ≡ true
   unfolding lists_over

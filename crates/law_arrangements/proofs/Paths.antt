@@ -31,13 +31,13 @@ module _ (c : PosedCase) (is : IsCase c) (o : Arrangement) (ok : IsArrangement c
   abbrev apart_from : List AbsElement → AbsElement → Type 0
   apart_from behind x = list_any (same_element x) behind ≡ false
 
-  idle_apart : Apart o.idle
+  pub idle_apart : Apart o.idle
   idle_apart = each_right apart_from o.determined o.idle ok.are_apart
 
   pub det_in : (x : AbsElement) → Has o.determined x → Has c.elements x
   det_in x h = ok.are_elements x (Has-left o.idle h)
 
-  idle_in : (x : AbsElement) → Has o.idle x → Has c.elements x
+  pub idle_in : (x : AbsElement) → Has o.idle x → Has c.elements x
   idle_in x h = ok.are_elements x (Has-right o.determined h)
 
   -- ---- what an assignment is read as
@@ -46,7 +46,7 @@ module _ (c : PosedCase) (is : IsCase c) (o : Arrangement) (ok : IsArrangement c
   view_found s = all_found c is o.determined o.idle ok.are_determined ok.are_apart det_in (reading c (spread o.order s)) (reading_is_state c is (spread o.order s))
 
   -- at each time the demands of now of determined elements are met
-  det_met : (old : Option AbsState) (s : State) (x : AbsElement) → Has o.determined x → list_all (is_met c.problem old (view c o s)) (those_of c.problem.now x) ≡ true
+  pub det_met : (old : Option AbsState) (s : State) (x : AbsElement) → Has o.determined x → list_all (is_met c.problem old (view c o s)) (those_of c.problem.now x) ≡ true
   det_met old s x h = let w = view_found s in all_met c is o.determined o.idle ok.are_determined old (view c o s) w.is_state (λ y g. w.each y (inr g)) x h
 
   -- ---- a path of the problem, over the arrangement

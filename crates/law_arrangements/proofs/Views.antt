@@ -312,7 +312,7 @@ module _ (c : PosedCase) (is : IsCase c) where
   abbrev pub gathered : List ℕ → Bits → Bits
   gathered order t k = t (get_or order k 0)
 
-  spread_gathered : (order : List ℕ) (t : Bits) (b : ℕ) → Has order b → spread order (gathered order t) b ≡ t b
+  pub spread_gathered : (order : List ℕ) (t : Bits) (b : ℕ) → Has order b → spread order (gathered order t) b ≡ t b
   spread_gathered [] t b h = elim h [ ]
   spread_gathered (x ∷ xs) t b h = at (nat_eq b x) refl (λ k. spread_gathered xs t b k)
     where

@@ -1,6 +1,7 @@
 -- Arrangements of a case: which of its elements have no bits, and in which order the bits of the others stand.
 use Rattle.std.specs.Prelude.{◌≡◌, ℕ, ◌+◌, ◌<◌, List, [], ◌∷◌, ◌++◌, filter, get_or, Option, Some, None, Bool, false, if◌then◌else◌, nat_eq}
 use Rattle.std.specs.List.{list_any, list_all}
+use Rattle.smv_core.specs.Values.{numbers_from}
 use Rattle.law_obligations.specs.Sets.{Has}
 use Rattle.law_obligations.specs.Places.{Place}
 use Rattle.law_obligations.specs.May.{AbsState}
@@ -9,7 +10,7 @@ use Rattle.law_obligations.specs.Obligations.{Demanded, is_met, obligation}
 use Rattle.law_obligations.specs.Outlines.{place_of}
 use Rattle.law_obligations.specs.Cones.{AbsElement, element, same_element}
 use Rattle.law_obligations.specs.Bits.{Bits}
-use Rattle.law_obligations.specs.Readings.{PosedCase, Slot, values_of, bits_of, slots, reading}
+use Rattle.law_obligations.specs.Readings.{PosedCase, Slot, values_of, bits_of, slots, state_bits, reading}
 use Rattle.law_reports.specs.CaseLists.{defines, those_of}
 
 -- Determined elements are worked out from the others at each time, each from those before it (functional dependencies: Hu and Dill, DAC 1993); nothing depends on idle ones;
@@ -103,6 +104,10 @@ module _ (c : PosedCase) where
   -- the state that an assignment of places is read as: bits by their places, and then the determined elements
   abbrev pub view : Arrangement → Bits → AbsState
   view o s = worked_out c.problem.now o.determined None (reading c (spread o.order s))
+
+  -- the declared arrangement: each element has bits, each in its own place
+  abbrev pub declared : Arrangement
+  declared = record { determined = []; idle = []; order = numbers_from 0 (state_bits c) }
 
   -- a state with its idle elements worked out, by all that is demanded of them
   abbrev pub settled : Arrangement → Option AbsState → AbsState → AbsState

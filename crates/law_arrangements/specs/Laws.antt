@@ -4,16 +4,23 @@ use Rattle.std.specs.List.{list_all}
 use Rattle.bdd_ops.specs.Functions.{Function}
 use Rattle.law_obligations.specs.May.{AbsState}
 use Rattle.smv_rings.specs.Lists.{State, at, IsLists}
-use Rattle.smv_rings.specs.Paths.{IsViolating, IsInductive}
+use Rattle.smv_rings.specs.Paths.{InRing, IsViolating, IsInductive}
 use Rattle.law_events.specs.Events.{Event, IsFirstEvent}
 use Rattle.law_events.specs.Events.Event.{Reached, Shut}
 use Rattle.law_obligations.specs.Places.{same_place}
 use Rattle.law_obligations.specs.Bits.{Bits}
 use Rattle.law_obligations.specs.Readings.{PosedCase, IsCase, reading}
-use Rattle.law_obligations.specs.CasePaths.{IsViolatingPath, HasNone, IsShortest, IsInvariant, states_from}
+use Rattle.law_obligations.specs.CasePaths.{IsViolatingPath, HasNone, IsShortest, IsInRing, IsInvariant, states_from}
 use Rattle.law_reports.specs.CaseLists.{case_lists}
-use Rattle.law_arrangements.specs.Arrangements.{Arrangement, IsArrangement, view, settled}
+use Rattle.law_arrangements.specs.Arrangements.{Arrangement, AgreeBeside, IsArrangement, declared, view, settled}
 use Rattle.law_arrangements.specs.ArrangedLists.{lists_over}
+
+-- the declared arrangement is one, and the lists over it are the declared ones
+abbrev pub DeclaredIsArrangement : Type 0
+DeclaredIsArrangement = (c : PosedCase) → IsCase c → IsArrangement c (declared c)
+
+abbrev pub DeclaredListsAreSame : Type 0
+DeclaredListsAreSame = (c : PosedCase) → IsCase c → lists_over c (declared c) ≡ case_lists c
 
 -- the lists of a case over an arrangement are over its places
 abbrev pub ListsOverAreLists : Type 0
@@ -85,3 +92,17 @@ is_completed c o t = list_all (λ x. same_place (reading c t x.family x.indexes)
 -- a set that is inductive over an arrangement is one of the case, taken where determined elements are what they are worked out to be
 abbrev pub InductiveIsInvariant : Type 0
 InductiveIsInvariant = (c : PosedCase) → IsCase c → (o : Arrangement) → IsArrangement c o → (set : Function) → IsInductive (lists_over c o) set → IsInvariant c (λ t. set (at (gathered o t)) && is_completed c o t)
+
+-- a ring over an arrangement has what states of the same ring of the problem are, but at idle elements
+abbrev pub RingsAreShown : Type 0
+RingsAreShown = (c : PosedCase) → IsCase c → (o : Arrangement) → IsArrangement c o → (k : ℕ) (s : State) → InRing (lists_over c o) k s → (a : AbsState) × IsInRing c.problem k a × AgreeBeside o.idle (view c o s) a
+
+-- and each state of a ring of the problem is so in the same ring over the arrangement
+abbrev pub RingsAreFound : Type 0
+RingsAreFound = (c : PosedCase) → IsCase c → (o : Arrangement) → IsArrangement c o → (k : ℕ) (a : AbsState) → IsInRing c.problem k a → (s : State) × InRing (lists_over c o) k s × AgreeBeside o.idle (view c o s) a
+
+-- So where a ring over an arrangement has a state that another one has not, so it is with the rings of the problem: where steps are spent over an arrangement they are spent.
+-- Idle elements may tell states apart that are one over an arrangement, so the other way round it is not so.
+abbrev pub RingsDiffer : Type 0
+RingsDiffer = (c : PosedCase) → IsCase c → (o : Arrangement) → IsArrangement c o → (k j : ℕ) (s : State) → InRing (lists_over c o) k s → (InRing (lists_over c o) j s → ⊥) →
+    (a : AbsState) × IsInRing c.problem k a × (IsInRing c.problem j a → ⊥)

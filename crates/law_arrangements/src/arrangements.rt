@@ -1,5 +1,11 @@
 // Laws of the definitions, each the contract of a function that does nothing.
-ghost use Rattle.law_arrangements.specs.Laws.{ListsOverAreLists, PathsAreShown, PathsAreFound, LengthsAreSame, NoneIsNone, LeastIsLeast, InductiveIsInvariant, InductionHolds, ShutIsNone, ReachedIsShortest, DecisionsAgree};
+ghost use Rattle.law_arrangements.specs.Laws.{DeclaredIsArrangement, DeclaredListsAreSame, ListsOverAreLists, PathsAreShown, PathsAreFound, LengthsAreSame, NoneIsNone, LeastIsLeast, InductiveIsInvariant, InductionHolds, ShutIsNone, ReachedIsShortest, DecisionsAgree, RingsAreShown, RingsAreFound, RingsDiffer};
+
+/// The declared arrangement is one, and the lists over it are the declared ones.
+pub fn declared_lists_are_same()
+    ensures arrangement { DeclaredIsArrangement }
+    ensures same { DeclaredListsAreSame }
+{}
 
 /// The lists of a case over an arrangement are over its places.
 pub fn lists_over_are_lists()
@@ -30,4 +36,11 @@ pub fn searches_decide_alike()
     ensures shut { ShutIsNone }
     ensures reached { ReachedIsShortest }
     ensures agree { DecisionsAgree }
+{}
+
+/// Rings over an arrangement are those of the problem, but at idle elements; what one of them has and another has not, the problem's have and have not.
+pub fn rings_are_of_cases()
+    ensures shown { RingsAreShown }
+    ensures found { RingsAreFound }
+    ensures differ { RingsDiffer }
 {}
