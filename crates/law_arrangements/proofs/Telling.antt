@@ -6,7 +6,7 @@ use Rattle.smv_search.specs.Events.Event.{Counted, Reached, Shut, Images}
 use Rattle.law_obligations.specs.Readings.{PosedCase, IsCase}
 use Rattle.law_arrangements.specs.Arrangements.{declared}
 use Rattle.law_arrangements.specs.ArrangedLists.{lists_over}
-use Rattle.law_arrangements.specs.Tries.{holds, breaks, out_of_nodes, out_of_steps, IsTold, told_by, is_counted, TriesMayBeTold, DeclaredMayBeTold, OneIsTold}
+use Rattle.law_arrangements.specs.Tries.{holds, breaks, out_of_nodes, out_of_steps, MayBeTold, told_by, is_counted, TriesMayBeTold, DeclaredMayBeTold, OneIsTold}
 use Rattle.law_arrangements.proofs.Declared.{declared_is_arrangement, declared_is_today}
 use Rattle.law_arrangements.proofs.Events.{shut_is_none, reached_is_shortest, same_steps, not_both}
 use Rattle.law_arrangements.proofs.Spent.{images_are_spent}
@@ -17,7 +17,7 @@ tries_may_be_told c is o ok nodes part steps (Reached k) e v = reached_is_shorte
 tries_may_be_told c is o ok nodes part steps (Shut k) e v = shut_is_none c is o ok part steps k v
 tries_may_be_told c is o ok nodes part steps Images e v = images_are_spent c is o ok part steps v
 
-over_declared : (c : PosedCase) → IsCase c → (nodes steps : ℕ) (v : Event) → is_counted v ≡ false → IsFirstEvent (lists_over c (declared c)) nodes steps v → IsTold nodes steps c (told_by v)
+over_declared : (c : PosedCase) → IsCase c → (nodes steps : ℕ) (v : Event) → is_counted v ≡ false → IsFirstEvent (lists_over c (declared c)) nodes steps v → MayBeTold nodes steps c (told_by v)
 over_declared c is nodes steps v e first = tries_may_be_told c is (declared c) (declared_is_arrangement c is) nodes nodes steps v e first
 
 pub declared_may_be_told : DeclaredMayBeTold

@@ -17,11 +17,11 @@ pub data Told : Type 0 where
   out_of_steps : Told  -- the budget of steps is used up
 
 -- Under these budgets this may be told of the case; a count is that of the declared lists under the whole budget.
-abbrev pub IsTold : ℕ → ℕ → PosedCase → Told → Type 0
-IsTold nodes steps c holds = HasNone c.problem
-IsTold nodes steps c (breaks k) = (path : List AbsState) × IsShortest c.problem k path
-IsTold nodes steps c (out_of_nodes count) = IsFirstEvent (case_lists c) nodes steps (Counted count)
-IsTold nodes steps c out_of_steps = IsSpent c steps
+abbrev pub MayBeTold : ℕ → ℕ → PosedCase → Told → Type 0
+MayBeTold nodes steps c holds = HasNone c.problem
+MayBeTold nodes steps c (breaks k) = (path : List AbsState) × IsShortest c.problem k path
+MayBeTold nodes steps c (out_of_nodes count) = IsFirstEvent (case_lists c) nodes steps (Counted count)
+MayBeTold nodes steps c out_of_steps = IsSpent c steps
 
 -- what an event tells
 abbrev pub told_by : Event → Told
@@ -43,12 +43,12 @@ is_unknown out_of_steps = true
 -- what a search over an arrangement finds, under whatever budget of nodes, may be told, unless it is that this budget is passed
 abbrev pub TriesMayBeTold : Type 0
 TriesMayBeTold = (c : PosedCase) → IsCase c → (o : Arrangement) → IsArrangement c o → (nodes part steps : ℕ) (v : Event) → is_counted v ≡ false →
-    IsFirstEvent (lists_over c o) part steps v → IsTold nodes steps c (told_by v)
+    IsFirstEvent (lists_over c o) part steps v → MayBeTold nodes steps c (told_by v)
 
 -- and so may whatever a search over the declared lists finds under the whole budget
 abbrev pub DeclaredMayBeTold : Type 0
-DeclaredMayBeTold = (c : PosedCase) → IsCase c → (nodes steps : ℕ) (v : Event) → IsFirstEvent (case_lists c) nodes steps v → IsTold nodes steps c (told_by v)
+DeclaredMayBeTold = (c : PosedCase) → IsCase c → (nodes steps : ℕ) (v : Event) → IsFirstEvent (case_lists c) nodes steps v → MayBeTold nodes steps c (told_by v)
 
 -- of what may be told that is not unknown there is one
 abbrev pub OneIsTold : Type 0
-OneIsTold = (c : PosedCase) (nodes steps : ℕ) (t u : Told) → IsTold nodes steps c t → IsTold nodes steps c u → is_unknown t ≡ false → is_unknown u ≡ false → t ≡ u
+OneIsTold = (c : PosedCase) (nodes steps : ℕ) (t u : Told) → MayBeTold nodes steps c t → MayBeTold nodes steps c u → is_unknown t ≡ false → is_unknown u ≡ false → t ≡ u
