@@ -33,6 +33,22 @@ reached_least l ok nodes steps k v =
     let path = violating_of l k means.0.0 means.0.1 in
     (path.0, path.1, λ j lt other w. means.1 j lt (other j) (violates_of l j other w))
 
+module _ (c : PosedCase) where
+  -- two shortest paths are of the same length, and where there is none there is none
+  pub same_steps : (j k : ℕ) (path other : List AbsState) → IsShortest c.problem j path → IsShortest c.problem k other → j ≡ k
+  same_steps j k path other p q =
+      let one = p.is_least other q.is_path in
+      let two = q.is_least path p.is_path in
+      let long = p.is_so_long in
+      let also = q.is_so_long in
+      omega arith
+
+  pub not_both : (k : ℕ) (path : List AbsState) → HasNone c.problem → IsShortest c.problem k path → ⊥
+  not_both k path none p = clash (none path p.is_path.are_states) p.is_path.is_violating
+    where
+      clash : {b : Bool} → b ≡ false → b ≡ true → ⊥
+      clash e g = cc
+
 module _ (c : PosedCase) (is : IsCase c) where
   pub shut_is_none : (o : Arrangement) → IsArrangement c o → (nodes steps k : ℕ) → IsFirstEvent (lists_over c o) nodes steps (Shut k) → HasNone c.problem
   shut_is_none o ok nodes steps k v = none_is_none c is o ok (shut_none (lists_over c o) (are_lists c o) nodes steps k v)
@@ -50,28 +66,13 @@ module _ (c : PosedCase) (is : IsCase c) where
       let r = reached_least (case_lists c) (case_lists_ok c) nodes steps k v in
       (readings c r.0 k, declared_least c is k r.0 r.1 r.2)
 
-  -- two shortest paths are of the same length, and where there is none there is none
-  same_steps : (j k : ℕ) (path other : List AbsState) → IsShortest c.problem j path → IsShortest c.problem k other → j ≡ k
-  same_steps j k path other p q =
-      let one = p.is_least other q.is_path in
-      let two = q.is_least path p.is_path in
-      let long = p.is_so_long in
-      let also = q.is_so_long in
-      omega arith
-
-  not_both : (k : ℕ) (path : List AbsState) → HasNone c.problem → IsShortest c.problem k path → ⊥
-  not_both k path none p = clash (none path p.is_path.are_states) p.is_path.is_violating
-    where
-      clash : {b : Bool} → b ≡ false → b ≡ true → ⊥
-      clash e g = cc
-
   pub decisions_agree : (o : Arrangement) → IsArrangement c o → (nodes steps others images : ℕ) (v w : Event) → IsFirstEvent (lists_over c o) nodes steps v → IsFirstEvent (case_lists c) others images w → DecideAlike v w
   decisions_agree o ok nodes steps others images (Reached j) (Reached k) p q =
       let a = reached_is_shortest o ok nodes steps j p in
       let b = declared_reached others images k q in
-      same_steps j k a.0 b.0 a.1 b.1
-  decisions_agree o ok nodes steps others images (Reached j) (Shut k) p q = let a = reached_is_shortest o ok nodes steps j p in not_both j a.0 (declared_shut others images k q) a.1
-  decisions_agree o ok nodes steps others images (Shut j) (Reached k) p q = let b = declared_reached others images k q in not_both k b.0 (shut_is_none o ok nodes steps j p) b.1
+      same_steps c j k a.0 b.0 a.1 b.1
+  decisions_agree o ok nodes steps others images (Reached j) (Shut k) p q = let a = reached_is_shortest o ok nodes steps j p in not_both c j a.0 (declared_shut others images k q) a.1
+  decisions_agree o ok nodes steps others images (Shut j) (Reached k) p q = let b = declared_reached others images k q in not_both c k b.0 (shut_is_none o ok nodes steps j p) b.1
   decisions_agree o ok nodes steps others images (Shut j) (Shut k) p q = tt
   decisions_agree o ok nodes steps others images (Counted n) w p q = tt
   decisions_agree o ok nodes steps others images Images w p q = tt

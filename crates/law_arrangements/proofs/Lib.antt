@@ -6,3 +6,5 @@ pub mod Events
 pub mod Invariants
 pub mod Rings
 pub mod Declared
+pub mod Spent
+pub mod Telling

@@ -21,7 +21,7 @@ use Rattle.law_obligations.proofs.Lookups.{Has-filter, Has-from_filter}
 use Rattle.law_obligations.proofs.ReadBack.{reading_is_state, state_is_read}
 use Rattle.law_reports.specs.CaseLists.{defines, those_of, case_lists}
 use Rattle.law_reports.proofs.Paths.{paths_read, paths_written}
-use Rattle.law_arrangements.specs.Arrangements.{Arrangement, AgreeBeside, AgreeBefore, spread, IsState, IsBefore, GoesOn, IsArrangement, view, settled}
+use Rattle.law_arrangements.specs.Arrangements.{Arrangement, AgreeBeside, AgreeBefore, spread, IsState, IsBefore, CanGoOn, IsArrangement, view, settled}
 use Rattle.law_arrangements.specs.ArrangedLists.{lists_over}
 use Rattle.law_arrangements.specs.Laws.{shown_at, shown}
 use Rattle.law_arrangements.proofs.Views.{none_right, none_both, each_right, each_as, Apart, Works, IsWorked, worked, meets, idle_works, AreFound, all_found, all_met, follows, gathered, value_gathered, reading_gathered}
@@ -126,7 +126,7 @@ module _ (c : PosedCase) (is : IsCase c) (o : Arrangement) (ok : IsArrangement c
 
     settles : (old : Option AbsState) → IsBefore c old → (i : ℕ) → IsWorked c is (c.problem.now ++ c.problem.before) old o.idle (seen_at i) (settled c o old (seen_at i))
     settles old before i =
-        worked c is (c.problem.now ++ c.problem.before) old o.idle (each_as (GoesOn c) (Works c is (c.problem.now ++ c.problem.before) old) (idle_works c is old before) o.idle ok.go_on)
+        worked c is (c.problem.now ++ c.problem.before) old o.idle (each_as (CanGoOn c) (Works c is (c.problem.now ++ c.problem.before) old) (idle_works c is old before) o.idle ok.go_on)
         idle_apart idle_in (seen_at i) (view_found (path i)).is_state
 
     full_worked : (i : ℕ) → IsWorked c is (c.problem.now ++ c.problem.before) (before_at full i) o.idle (seen_at i) (full i)

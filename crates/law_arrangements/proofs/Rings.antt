@@ -18,7 +18,7 @@ use Rattle.law_obligations.proofs.Lookups.{Has-filter}
 use Rattle.law_obligations.proofs.Members.{Has-cases, Has-left, Has-right, any-some, all-each, all-holds}
 use Rattle.law_obligations.proofs.ReadBack.{state_is_read}
 use Rattle.law_reports.specs.CaseLists.{defines}
-use Rattle.law_arrangements.specs.Arrangements.{Arrangement, AgreeBeside, AgreeBefore, IsState, IsBefore, GoesOn, IsArrangement, view, settled}
+use Rattle.law_arrangements.specs.Arrangements.{Arrangement, AgreeBeside, AgreeBefore, IsState, IsBefore, CanGoOn, IsArrangement, view, settled}
 use Rattle.law_arrangements.specs.ArrangedLists.{lists_over}
 use Rattle.law_arrangements.specs.Laws.{gathered}
 use Rattle.law_arrangements.proofs.Views.{none_both, none_right, each_as, Works, IsWorked, worked, meets, idle_works}
@@ -41,7 +41,7 @@ module _ (c : PosedCase) (is : IsCase c) (o : Arrangement) (ok : IsArrangement c
 
     is_settled : IsWorked c is (c.problem.now ++ c.problem.before) old o.idle (view c o s) shown
     is_settled =
-        worked c is (c.problem.now ++ c.problem.before) old o.idle (each_as (GoesOn c) (Works c is (c.problem.now ++ c.problem.before) old) (idle_works c is old before) o.idle ok.go_on)
+        worked c is (c.problem.now ++ c.problem.before) old o.idle (each_as (CanGoOn c) (Works c is (c.problem.now ++ c.problem.before) old) (idle_works c is old before) o.idle ok.go_on)
         (idle_apart c is o ok) (idle_in c is o ok) (view c o s) (view_found c is o ok s).is_state
 
     same : (d : Demanded) → Has (c.problem.now ++ c.problem.before) d → IsOther o.idle d → is_met c.problem old shown d ≡ is_met c.problem prev (view c o s) d

@@ -22,7 +22,7 @@ use Rattle.law_obligations.proofs.Members.{Has-uncons, any-found, one_of_one}
 use Rattle.law_obligations.proofs.ReadBack.{reads_slot}
 use Rattle.law_obligations.proofs.Same.{nat_eq-itself}
 use Rattle.law_reports.specs.CaseLists.{those_of}
-use Rattle.law_arrangements.specs.Arrangements.{Arrangement, put, AgreeBeside, EachWith, EachBetween, at_place, spread, IsState, IsBefore, allowed, worked_out, AreWorkedOut, IsDetermined, GoesOn}
+use Rattle.law_arrangements.specs.Arrangements.{Arrangement, put, AgreeBeside, EachWith, EachBetween, at_place, spread, IsState, IsBefore, allowed, worked_out, AreWorkedOut, IsDetermined, CanGoOn}
 
 -- ---- tests of lists that are false
 
@@ -180,7 +180,7 @@ module _ (c : PosedCase) (is : IsCase c) where
         at f own rest _ first = own
         at f own rest y (later h) = rest y h
 
-  pub idle_works : (old : Option AbsState) → IsBefore c old → (behind : List AbsElement) (x : AbsElement) → GoesOn c behind x → Works (c.problem.now ++ c.problem.before) old behind x
+  pub idle_works : (old : Option AbsState) → IsBefore c old → (behind : List AbsElement) (x : AbsElement) → CanGoOn c behind x → Works (c.problem.now ++ c.problem.before) old behind x
   idle_works old before behind x goes = record { some = λ a state. goes.some old a before state; same = λ a b sa sb agree. goes.same old a b before sa sb agree }
 
   -- ---- determined elements

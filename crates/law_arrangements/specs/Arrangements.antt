@@ -80,7 +80,7 @@ module _ (c : PosedCase) where
       (v : Place) × (allowed c.problem.now old a x ≡ v ∷ []) × (allowed c.problem.now other b x ≡ v ∷ [])
 
   -- an element may always go on where all its demands together allow some value, the same ones whatever its own and those of these elements are
-  pub record GoesOn (behind : List AbsElement) (x : AbsElement) : Type 0 where
+  pub record CanGoOn (behind : List AbsElement) (x : AbsElement) : Type 0 where
     pub some : (old : Option AbsState) (a : AbsState) → IsBefore old → IsState a → (v : Place) × Has (allowed (c.problem.now ++ c.problem.before) old a x) v
     pub same : (old : Option AbsState) (a b : AbsState) → IsBefore old → IsState a → IsState b → AgreeBeside (x ∷ behind) a b →
         allowed (c.problem.now ++ c.problem.before) old a x ≡ allowed (c.problem.now ++ c.problem.before) old b x
@@ -98,7 +98,7 @@ module _ (c : PosedCase) where
     pub have_places : (slot : Slot) → Has (slots c) slot → list_any (same_element slot.element) (o.determined ++ o.idle) ≡ false →
         (i : ℕ) → i < bits_of c.problem.world slot.element → Has o.order (slot.bit + i)
     pub are_determined : EachBetween (λ before behind x. IsDetermined before (behind ++ o.idle) x) [] o.determined
-    pub go_on : EachWith GoesOn o.idle
+    pub go_on : EachWith CanGoOn o.idle
     pub are_unread : AreUnread o.idle
 
   -- the state that an assignment of places is read as: bits by their places, and then the determined elements

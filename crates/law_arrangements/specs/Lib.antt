@@ -2,3 +2,4 @@ pub mod Arrangements
 pub mod ArrangedLists
 pub mod Laws
 pub mod Worked
+pub mod Tries

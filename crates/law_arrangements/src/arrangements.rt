@@ -1,5 +1,5 @@
 // Laws of the definitions, each the contract of a function that does nothing.
-ghost use Rattle.law_arrangements.specs.Laws.{DeclaredIsArrangement, DeclaredListsAreSame, ListsOverAreLists, PathsAreShown, PathsAreFound, LengthsAreSame, NoneIsNone, LeastIsLeast, InductiveIsInvariant, InductionHolds, ShutIsNone, ReachedIsShortest, DecisionsAgree, RingsAreShown, RingsAreFound, RingsDiffer};
+ghost use Rattle.law_arrangements.specs.Laws.{DeclaredIsArrangement, DeclaredListsAreSame, ListsOverAreLists, PathsAreShown, PathsAreFound, LengthsAreSame, NoneIsNone, LeastIsLeast, InductiveIsInvariant, InductionHolds, ShutIsNone, ReachedIsShortest, DecisionsAgree, RingsAreShown, RingsAreFound, RingsDiffer, ImagesAreSpent};
 
 /// The declared arrangement is one, and the lists over it are the declared ones.
 pub fn declared_lists_are_same()
@@ -35,6 +35,7 @@ pub fn induction_is_of_cases()
 pub fn searches_decide_alike()
     ensures shut { ShutIsNone }
     ensures reached { ReachedIsShortest }
+    ensures spent { ImagesAreSpent }
     ensures agree { DecisionsAgree }
 {}
 

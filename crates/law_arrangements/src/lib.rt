@@ -5,4 +5,5 @@
 #![tactic(auto)]
 
 pub mod arrangements;
+pub mod tries;
 pub mod worked;
