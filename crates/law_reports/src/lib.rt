@@ -9,4 +9,3 @@ pub mod case_lists;
 pub mod plan_cases;
 pub mod reports;
 pub mod verdicts;
-
