@@ -1,4 +1,4 @@
-use Rattle.law_verdicts.proofs.Searches.{says}
+use Rattle.law_verdicts.proofs.Answered.{says}
 use Rattle.law_verdicts.proofs.searches.searches_decide.Goals as goal
 
 pub returns : goal.returns
