@@ -1,8 +1,8 @@
 #!/usr/bin/env python3
 """Keeps the users' pages true: runs each command that they show, and compares what is written.
 
-    tools/pages.py PROGRAM [WAVE]    runs PROGRAM as `deodarwrench`, and WAVE as `smv_wave`, on every page and example, and compares answers and statuses
-    tools/pages.py --tests           writes the tables of crates/smv_top_tests and crates/smv_wave_tests from the pages
+    tools/pages.py PROGRAM [WAVE [LOOK]]    runs PROGRAM as `deodarwrench`, WAVE as `smv_wave` and LOOK as `smv_look`, on every page and example, and compares answers and statuses
+    tools/pages.py --tests           writes the tables of crates/smv_top_tests, crates/smv_wave_tests and crates/smv_look_tests from the pages
     tools/pages.py                   looks whether these tables are what the pages give
     tools/pages.py --answers PROGRAM    writes examples/*.answer; read what changed before it is kept
     tools/pages.py --texts FOLDER       writes the texts of the pages, to try them
@@ -17,8 +17,8 @@ It ends with status 1 where something differs. The pages also run make, sed, seq
                       They stand in no table of tests.
 
 Each examples/NAME.smv has an examples/NAME.answer beside it: exactly what `deodarwrench prove < examples/NAME.smv` writes.
-The exit status of an answer is the one that README.md states for it; no page repeats it. A command with `sh` or `make` in it ends with 0 where all is true.
-In the tables a text stands in one line and without its comments, unless it has a fault: a test costs by its bytes.
+The exit status of an answer is the one that README.md states for it, and for `smv_look` docs/LOOK.md; no command's block repeats it. A command with `sh` or `make` in it ends with 0 where all is true.
+In the tables a text stands in one line and without its comments, unless it has a fault or `smv_look` tells places in it: a test costs by its bytes.
 """
 import os
 import re
@@ -28,13 +28,16 @@ import tempfile
 from pathlib import Path
 
 TOP = Path(__file__).resolve().parent.parent
-PAGES = ["README.md", "docs/METHOD.md", "docs/FAULTS.md", "docs/COMING-FROM.md"]
-# The module of tests that each page's commands stand in: pages of short texts have one together, since each function of a test costs.
+PAGES = ["README.md", "docs/METHOD.md", "docs/FAULTS.md", "docs/COMING-FROM.md", "docs/LOOK.md"]
+# The module of tests that the prover's commands of each page stand in: pages of short texts have one together, since each function of a test costs.
 MODULES = {"README.md": "short_pages", "docs/METHOD.md": "page_method", "docs/FAULTS.md": "short_pages", "docs/COMING-FROM.md": "short_pages", "examples": "page_examples"}
 TABLES = TOP / "crates/smv_top_tests/src"
 DUMPS = TOP / "crates/smv_wave_tests/src/pages.rt"
+LOOKS = TOP / "crates/smv_look_tests/src/pages.rt"
 FENCED = re.compile(r"^```(smv|make|sh|diff|console|marked)(?: (\S+))?(?: (\S+))?\n(.*?)^```$", re.M | re.S)
 FENCES = re.compile(r"^```(?:smv|make|sh|diff|console|marked)", re.M)
+# The programs beside the prover, in the order in which they are given.
+BESIDE = ["smv_wave", "smv_look"]
 # The line below a text that says where it has which fault.
 MARK = re.compile(r" *\^ fault (\d+)\b.*")
 # About how many bytes of rows a test has at most, if it has more than one row.
@@ -44,8 +47,12 @@ PLAIN = re.compile(r"deodarwrench ([^<|]+?) < (\S+)")
 ECHO = re.compile(r"echo '([^']*)' \| deodarwrench (\w+)")
 SCRIPT = re.compile(r"\b(?:sh|make)\b")
 BLANKS = re.compile(r"printf '%(\d+)s' '' \| deodarwrench (\w+)")
-# One whose report a test can give the other program.
+# One whose report a test can give the program of waveforms.
 WAVE = re.compile(r"(deodarwrench prove < \S+) \| smv_wave")
+# One that a test can give the program that looks at a text.
+LOOK = re.compile(r"smv_look ([^<|]+?) < (\S+)")
+# What that program answers where a unit has no case of the number that is asked for.
+NO_CASE = re.compile(r"\S+: cases \d+\n")
 
 
 def status(command, answer):
@@ -58,6 +65,8 @@ def status(command, answer):
         return 1
     if re.search(r"^\S+: unknown (steps|nodes \d+)$", answer, re.M):
         return 2
+    if NO_CASE.fullmatch(answer):
+        return 1
     return 8 if " only " in command and not SCRIPT.search(command) else 0
 
 
@@ -120,20 +129,21 @@ def everything():
     return [(page, *read_page(page)) for page in PAGES] + [("examples", {}, example_commands())]
 
 
-def run_all(program, wave=None):
-    """Runs every command and returns how many answers differ. Those with `smv_wave` are left out where it is not given."""
+def run_all(program, *more):
+    """Runs every command and returns how many answers differ. Those with a program that is not given are left out."""
     wrong = 0
+    beside = dict(zip(BESIDE, more))
     for page, files, commands in everything():
         with tempfile.TemporaryDirectory() as folder:
             os.symlink(Path(program).resolve(), f"{folder}/deodarwrench")
             os.symlink(TOP / "examples", f"{folder}/examples")
-            if wave:
-                os.symlink(Path(wave).resolve(), f"{folder}/smv_wave")
+            for name, place in beside.items():
+                os.symlink(Path(place).resolve(), f"{folder}/{name}")
             for name, text in files.items():
                 Path(folder, name).write_text(text)
             there = {**os.environ, "PATH": f"{folder}:{os.environ['PATH']}"}
             for command, answer in commands:
-                if "smv_wave" in command and not wave:
+                if any(name in command and name not in beside for name in BESIDE):
                     print(f"{page}: not run: {command}")
                     continue
                 ran = subprocess.run(command, shell=True, cwd=folder, env=there, capture_output=True, text=True)
@@ -259,12 +269,36 @@ def dumps():
     return DUMPS, "\n".join([*lines, ""])
 
 
+def looks():
+    """Returns the module of tests of what the pages show of `smv_look`: its file and its lines. A text stands as it is, since places in it are told."""
+    rows = []
+    for _, files, commands in everything():
+        for command, answer in commands:
+            shown = LOOK.fullmatch(command)
+            if shown:
+                words, file = shown.groups()
+                text = files[file] if file in files else (TOP / file).read_text()
+                rows.append(row([quoted(words), quoted(text), str(status(command, answer)), quoted(answer)]))
+    lines = [
+        "//! What the pages show of `smv_look`, with the texts. Written by `tools/pages.py --tests`.",
+        "",
+        "use crate::rows::{Row, all_are_answered};",
+        "use std::test::Fail;",
+    ]
+    for number, part in enumerate(parts(rows), 1):
+        lines += ["", *constant(f"ROWS_{number}: &[Row]", part)]
+        lines += ["", "#[test]", f"fn looks_are_those_of_the_pages_{number}(rt: HostRuntime) -> Result<(), Fail> {{"]
+        lines += [f"    all_are_answered(rt.alloc(), ROWS_{number})", "}"]
+    return LOOKS, "\n".join([*lines, ""])
+
+
 def tables():
     """Returns the modules of tests: their files and lines."""
     together = {}
     for page in everything():
-        together.setdefault(MODULES[page[0]], []).append(page)
-    return [*(table(*pages) for pages in together.items()), dumps()]
+        if page[0] in MODULES:
+            together.setdefault(MODULES[page[0]], []).append(page)
+    return [*(table(*pages) for pages in together.items()), dumps(), looks()]
 
 
 def main(words):
@@ -283,7 +317,7 @@ def main(words):
         for file in stale:
             print(f"{file} is not what the pages give: tools/pages.py --tests")
         return int(bool(stale))
-    if len(words) <= 2 and not words[0].startswith("-"):
+    if len(words) <= 3 and not words[0].startswith("-"):
         return int(run_all(*words) > 0)
     print(__doc__)
     return 2

@@ -1,12 +1,13 @@
 #!/usr/bin/env bash
 # tools/unproved_build.sh PROGRAM [CRATE]: makes an optimised program without proof, to measure with: the LLVM module of `rt try`, compiled by the toolchain's clang.
-# CRATE is smv_main, if it is not given, or smv_wave. It takes some minutes. What it makes is not what is proved: the proved build is `rt run` in the crate.
+# CRATE is smv_main, if it is not given, or smv_wave or smv_look. It takes some minutes. What it makes is not what is proved: the proved build is `rt run` in the crate.
 set -u
 top=$(cd "$(dirname "$0")/.." && pwd)
 made=$(realpath -m "$1")
 crate=${2:-smv_main}
 case $crate in
   smv_main) words=(-- prove) text=$top/examples/toggle.smv least=6M ;;
+  smv_look) words=(-- list) text=$top/examples/toggle.smv least=6M ;;
   *) words=() text=$top/crates/$crate/stdin least=600k ;;
 esac
 kept=$(mktemp -d)

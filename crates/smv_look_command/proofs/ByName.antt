@@ -1,0 +1,40 @@
+-- What the name of a subcommand says of its query.
+use Rattle.std.proofs.Common.{◌≡◌, ◌∙◌, List, ap, codes, Some, None, is_some, refl, subst, sym, true, false}
+use Rattle.std.specs.Str.{bytes_eq}
+use Rattle.std.proofs.lemmas.Slice.Eq.{bytes_eq-Decides}
+use Rattle.std.specs.Prelude.{option_map}
+use Rattle.clap.specs.Walk.{Row, Text}
+use Rattle.smv_command.specs.Commands.{both, name_in, number_in}
+use Rattle.smv_command.proofs.Values.{both_some, map_some}
+use Rattle.smv_look_command.specs.declared.queries.Query.TheVariants.{Cone}
+use Rattle.smv_look_command.specs.declared.queries.Query.TheVariants as variant
+use Rattle.smv_look_command.specs.Queries.{most_cases, named}
+
+pub list_is : (rows : List Row) → named (codes "list") rows ≡ Some variant.List
+unfolding named
+list_is rows = refl
+
+pub cone_is : (rows : List Row) → named (codes "cone") rows ≡ option_map (λ p. Cone p.0 p.1) (both (name_in rows) (number_in most_cases (codes "CASE") rows))
+unfolding named
+cone_is rows = refl
+
+pub no_name : (word : Text) (rows : List Row) → bytes_eq word (codes "list") ≡ false → bytes_eq word (codes "cone") ≡ false → named word rows ≡ None
+unfolding named
+no_name word rows t1 t2 = rw (t1, t2) refl
+
+-- ---- the same at a word that is the name
+
+at_word : (word w : Text) (rows : List Row) → bytes_eq word w ≡ true → named word rows ≡ named w rows
+at_word word w rows e = subst (λ (u : Text). named word rows ≡ named u rows) ((bytes_eq-Decides word w).0 e) refl
+
+pub at_list : (word : Text) (rows : List Row) → bytes_eq word (codes "list") ≡ true → named word rows ≡ Some variant.List
+at_list word rows e = at_word word (codes "list") rows e ∙ list_is rows
+
+pub at_cone : (word : Text) (rows : List Row) → bytes_eq word (codes "cone") ≡ true → named word rows ≡ option_map (λ p. Cone p.0 p.1) (both (name_in rows) (number_in most_cases (codes "CASE") rows))
+at_cone word rows e = at_word word (codes "cone") rows e ∙ cone_is rows
+
+-- what a named query was given
+pub given_to_cone : (word : Text) (rows : List Row) → bytes_eq word (codes "cone") ≡ true → is_some (named word rows) ≡ true
+    → (is_some (name_in rows) ≡ true) × (is_some (number_in most_cases (codes "CASE") rows) ≡ true)
+given_to_cone word rows e there =
+    both_some (name_in rows) (number_in most_cases (codes "CASE") rows) (map_some (λ p. Cone p.0 p.1) (both (name_in rows) (number_in most_cases (codes "CASE") rows)) (ap is_some (sym (at_cone word rows e)) ∙ there))

@@ -1,0 +1,20 @@
+-- Subcommand by subcommand, what a parse reads of the command that was built so far.
+use Rattle.std.proofs.Common.{◌∙◌, ◌≡◌, List, [], ◌∷◌, ap, ap₂, false}
+use Rattle.std.proofs.lemmas.Result.{IfOk-weaker}
+use Rattle.clap.specs.Simple.{App, Shape, app_of, with_subcommand}
+use Rattle.smv_look_command.specs.CommandLine as line
+use Rattle.smv_look_command.proofs.command_line.smv_look.Goals as goal
+
+-- the command with the subcommands so far
+abbrev so_far : List Shape → App
+so_far subs = record { top = record line.bare { is_leaf = false }; subs = subs }
+
+abbrev top_of : App → Shape
+top_of a = a.top
+
+pub returns : goal.returns
+returns c =
+    let with_1 : app_of c.in_ok-subcommand.field-0 ≡ so_far (line.list ∷ []) =
+    c.in_ok-subcommand.ensures.shape c.new.ensures.local ∙ ap₂ with_subcommand c.bare.ensures (ap top_of c.new.ensures.app) in
+    IfOk-weaker c.subcommand-2.result _ _ (λ command added. added.shape c.in_ok-cone.ensures.local ∙ ap₂ with_subcommand with_1 (ap top_of c.in_ok-cone.ensures.app))
+    c.subcommand-2.ensures

@@ -1,0 +1,28 @@
+-- Branch by branch: the name says what the query is made of.
+use Rattle.std.proofs.Common.{◌∙◌, ap, ap₂, is_some, sym, true≢false}
+use Rattle.std.specs.Prelude.{option_map}
+use Rattle.clap.specs.Matches.{found_of}
+use Rattle.clap.specs.Walk.{rows_of}
+use Rattle.smv_command.specs.Commands.{both}
+use Rattle.smv_look_command.specs.declared.queries.Query.TheVariants.{Cone}
+use Rattle.smv_look_command.proofs.ByName.{at_cone, at_list, given_to_cone, no_name}
+use Rattle.smv_look_command.proofs.words.named.Goals as goal
+
+pub returns-then-eq : goal.returns-then-eq
+returns-then-eq c = at_list c.args.word.now (rows_of (found_of c.args.matches.now)) (sym c.eq.ensures ∙ c.if-eq.true)
+
+pub text_in-requires : goal.text_in-requires
+text_in-requires c = (given_to_cone c.args.word.now (rows_of (found_of c.args.matches.now)) (sym c.eq-else-eq.ensures ∙ c.if-eq-2.true) c.requires).0
+
+pub case_in-case-requires : goal.case_in-case-requires
+case_in-case-requires c = (given_to_cone c.args.word.now (rows_of (found_of c.args.matches.now)) (sym c.eq-else-eq.ensures ∙ c.if-eq-2.true) c.requires).1
+
+pub returns-in_ok-name : goal.returns-in_ok-name
+returns-in_ok-name c =
+    at_cone c.args.word.now (rows_of (found_of c.args.matches.now)) (sym c.eq-else-eq.ensures ∙ c.if-eq-2.true)
+    ∙ ap₂ (λ x y. option_map (λ p. Cone p.0 p.1) (both x y)) c.in_ok-name.ensures c.case_in-case.ensures
+
+pub unreachable-requires : goal.unreachable-requires
+unreachable-requires c =
+    let none = no_name c.args.word.now (rows_of (found_of c.args.matches.now)) (sym c.eq.ensures ∙ c.if-eq.false) (sym c.eq-else-eq.ensures ∙ c.if-eq-2.false) in
+    true≢false (sym (ap is_some (sym none) ∙ c.requires))

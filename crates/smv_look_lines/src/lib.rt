@@ -1,0 +1,13 @@
+//! The lines of the program `smv_look`: of each unit of a plan what is proved of it and what its proof uses (`list`), and of a case the elements of its cone (`cone`).
+//!
+//! For the call of that program. It meets `specs/Lists` and `specs/Cones`, byte by byte; `specs/Parts` has their words. `parts` writes names, types and places, `choices` what a proof uses, `lists` the units, `cones` the elements of a case.
+//! A plan that no call gives is written too: a number that leads nowhere stands for nothing.
+#![tactic(auto)]
+
+mod choices;
+mod cones;
+mod lists;
+mod parts;
+
+pub use cones::{Look, cone_lines, count_line};
+pub use lists::list_lines;

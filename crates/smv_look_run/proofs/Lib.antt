@@ -1,0 +1,4 @@
+pub mod Endings
+pub mod PlanLaws
+pub mod CaseLaws
+pub mod DueLaws

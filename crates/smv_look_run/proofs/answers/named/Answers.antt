@@ -1,0 +1,24 @@
+use Rattle.std.proofs.Common.{Some}
+use Rattle.std.proofs.lemmas.Result.{IfOk-weaker}
+use Rattle.law_lists.proofs.Options.{if_ok_both}
+use Rattle.law_splits.proofs.Lists.{place_below}
+use Rattle.smv_read_design.specs.Named.{is_named}
+use Rattle.smv_look_run.proofs.DueLaws.{due_shown, due_unnamed, found_among}
+use Rattle.smv_look_run.proofs.answers.named.Goals as goal
+
+pub at_place-requires-clause-there : goal.at_place-requires-clause-there
+at_place-requires-clause-there c =
+    place_below (is_named c.args.plan.now.design c.args.name.now) c.args.plan.now.units c.in-Some.u
+    (found_among c.args.plan.now c.args.name.now c.as_bytes.result.now c.as_slice.result.now c.as_slice.ensures c.as_bytes.ensures c.in_ok-place.place (Some c.in-Some.u) c.in_ok-place.ensures c.in-Some.is)
+
+pub returns-in-Some : goal.returns-in-Some
+returns-in-Some c =
+    IfOk-weaker c.at_place.result _ _
+    (λ a there. due_shown c.args.query.now c.args.text.now c.args.plan.now c.requires.plan c.args.name.now c.as_bytes.result.now c.args.case c.requires.asks c.as_slice.result.now c.as_slice.ensures c.as_bytes.ensures c.in_ok-place.place c.in-Some.u a.status a.bytes.items c.in_ok-place.ensures c.in-Some.is there)
+    c.at_place.ensures
+
+pub returns-in-None : goal.returns-in-None
+returns-in-None c =
+    if_ok_both c.refused.result _ _ _
+    (λ a s b. due_unnamed c.args.query.now c.args.text.now c.args.plan.now c.requires.plan c.args.name.now c.as_bytes.result.now c.args.case c.requires.asks c.as_slice.result.now c.as_slice.ensures c.as_bytes.ensures c.in_ok-place.place a.status a.bytes.items c.in_ok-place.ensures c.in-None.is s b)
+    c.refused.ensures.status c.refused.ensures.bytes

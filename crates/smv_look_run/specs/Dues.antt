@@ -1,0 +1,57 @@
+-- What a call owes: its status and its whole answer.
+use Rattle.std.specs.Prelude.{◌≡◌, ℕ, List, [], ◌∷◌, ◌++◌, codes, Option, Some, None, IfSome}
+use Rattle.std.specs.Io.KnownBytes.{Appends, Keeps}
+use Rattle.smv_core.specs.declared.fault.Fault.{Fault}
+use Rattle.smv_problem.specs.declared.report.Plan.{Plan}
+use Rattle.smv_io.specs.Transfers.{TookFront}
+use Rattle.smv_report.specs.Lines.{fault_text}
+use Rattle.law_obligations.specs.Outlines.{place_of}
+use Rattle.smv_read_design.specs.Answers.{HasPlan, IsFaultOf}
+use Rattle.smv_read_design.specs.Named.{is_named}
+use Rattle.smv_look_command.specs.declared.queries.Query.{Query}
+use Rattle.smv_look_command.specs.declared.queries.Query.TheVariants as query
+use Rattle.smv_look_lines.specs.Lists.{list_lines}
+use Rattle.smv_look_run.specs.declared.Status.{Status}
+use Rattle.smv_look_run.specs.declared.Status.TheVariants.{Written, NoCase, Refused, Usage, ReadFault, WriteFault, OutOfMemory}
+use Rattle.smv_look_run.specs.Cases.{IsShownAt}
+
+-- the exit status of the program
+abbrev pub number_of : Status → ℕ
+number_of Written = 0
+number_of NoCase = 1
+number_of Refused = 3
+number_of Usage = 4
+number_of ReadFault = 5
+number_of WriteFault = 6
+number_of OutOfMemory = 7
+
+-- the first fault of a text, which is that of each command that decides units; or that no unit has the name that is asked for
+pub data IsFault : Query → List ℕ → ℕ → ℕ → Type 0 where
+  faulty : {asked : Query} {text : List ℕ} (fault : Fault) → IsFaultOf text fault → IsFault asked text fault.number fault.at
+  unnamed : {text : List ℕ} (name : List ℕ) (number : ℕ) (plan : Plan) → HasPlan text plan → place_of (is_named plan.design name) plan.units ≡ None → IsFault (query.Cone name number) text 26 0
+
+-- the status and the whole answer that a query and its text call for
+pub data IsDue : Query → List ℕ → Status → List ℕ → Type 0 where
+  listed : {text : List ℕ} (plan : Plan) → HasPlan text plan → IsDue query.List text Written (list_lines text plan)
+  shown : {text : List ℕ} {due : Status} {answer : List ℕ} (name : List ℕ) (number : ℕ) (plan : Plan) (u : ℕ) → HasPlan text plan → place_of (is_named plan.design name) plan.units ≡ Some u → IsShownAt plan u number due answer →
+      IsDue (query.Cone name number) text due answer
+  refused : {asked : Query} {text : List ℕ} (number at : ℕ) → IsFault asked text number at → IsDue asked text Refused (fault_text text number at)
+
+abbrev pub usage_line : List ℕ
+usage_line = codes "usage: smv_look list|cone NAME [CASE] < TEXT" ++ 10 ∷ []
+
+-- the same for words, which may be no query
+abbrev pub IsDueTo : Option Query → List ℕ → Status → List ℕ → Type 0
+IsDueTo None text due answer = (due ≡ Usage) × (answer ≡ usage_line)
+IsDueTo (Some asked) text due answer = IsDue asked text due answer
+
+-- what the source gave: the bytes that it told, or any where it tells none
+abbrev pub Gave : Option (List ℕ) → List ℕ → Type 0
+Gave left text = IfSome left (λ told. text ≡ told)
+
+-- How a call ends. The whole answer was taken under the status to which it is due; under a fault of the sink a front of the answer that was due, and not all of it; and nothing where the text was not read, or where memory ran out.
+abbrev pub Ends : Status → Option Query → List ℕ → Option (List ℕ) → Option (List ℕ) → Type 0
+Ends ReadFault asked text old new = Keeps old new
+Ends OutOfMemory asked text old new = Keeps old new
+Ends WriteFault asked text old new = (due : Status) × (answer : List ℕ) × IsDueTo asked text due answer × TookFront old new answer
+Ends ended asked text old new = (answer : List ℕ) × IsDueTo asked text ended answer × Appends old new answer

@@ -1,0 +1,42 @@
+//! What the pages show of `smv_look`, with the texts. Written by `tools/pages.py --tests`.
+
+use crate::rows::{Row, all_are_answered};
+use std::test::Fail;
+
+const ROWS_1: &[Row] = &[
+    (
+        "list",
+        "scalarset WORD undefined;\nscalarset REG undefined;\nmodule main() {\n  issue : boolean;\n  src, dst : REG;\n  reg : array REG of WORD;\n  f : array WORD of WORD;\n  opa, alu : WORD;\n  ex : struct { valid : boolean; dst : REG; val : WORD; };\n\n  forall (w in WORD) next(f[w]) := f[w];\n  opa := reg[src];\n  init(ex.valid) := 0;\n  next(ex.valid) := issue;\n  next(ex.dst) := dst;\n  next(ex.val) := opa;\n  alu := f[ex.val];\n  if (ex.valid) next(reg[ex.dst]) := alu;\n\n  abstract r : array REG of WORD;\n  abstract operand, result : WORD;\n  layer arch : {\n    operand := r[src];\n    result := f[operand];\n    forall (k in REG) init(r[k]) := reg[k];\n    if (issue) next(r[dst]) := result;\n    if (issue) opa := operand;\n  }\n  forall (j in REG) forall (c in WORD)\n    subcase opa1[j][c] of opa//arch for src = j, r[src] = c;\n}\n",
+        0,
+        "opa//arch: map at line 27 column 16\n leaf opa1\n parameter 1 REG j\n parameter 2 WORD c\n cases 1\n",
+    ),
+    (
+        "list",
+        "/* A bus of three devices and an arbiter, each an instance of a module. A device asks, is granted, drives the bus with its\n   word and its target for one step, and gives the bus up. The receiver stores what it sees.\n   Proved: at most one device drives at any time; the inbox of device 2 has the last word that was sent to it, and is filled\n   if and only if one was. That map does not look into the devices that send: it uses that one drives at a time, and\n   leaves free what they drive. Words have any width. */\nscalarset WORD undefined;\nmodule device(me, grant, bus_valid, bus_to, bus_word, ask, drive, to, word) {\n  input me : 0..2;\n  input grant, bus_valid : boolean;\n  input bus_to : 0..2;\n  input bus_word : WORD;\n  output ask, drive : boolean;\n  output to : 0..2;\n  output word : WORD;\n  state : {idle, asking, driving};\n  target, next_target : 0..2;\n  outgoing, next_word, inbox : WORD;\n  filled : boolean;\n\n  ask := state = asking;\n  drive := state = driving;\n  to := target;\n  word := outgoing;\n  init(state) := idle;\n  switch (state) {\n    idle : {\n      next(state) := {idle, asking};\n      next(target) := next_target;\n      next(outgoing) := next_word;\n    }\n    asking : if (grant) next(state) := driving;\n    driving : next(state) := idle;\n  }\n  init(filled) := 0;\n  if (bus_valid & bus_to = me) {\n    next(filled) := 1;\n    next(inbox) := bus_word;\n  }\n}\n\nmodule arbiter(ask_0, ask_1, ask_2, busy, grant_0, grant_1, grant_2) {\n  input ask_0, ask_1, ask_2, busy : boolean;\n  output grant_0, grant_1, grant_2 : boolean;\n  turn : 0..2;\n  free_bus : boolean;\n  init(turn) := 0;\n  if (free_bus) next(turn) := (turn + 1) mod 3;\n  free_bus := ~busy;\n  grant_0 := free_bus & turn = 0 & ask_0;\n  grant_1 := free_bus & turn = 1 & ask_1;\n  grant_2 := free_bus & turn = 2 & ask_2;\n}\n\nmodule main() {\n  d0 : device(0, grant[0], valid, target, carried, ask[0], drive[0], to[0], word[0]);\n  d1 : device(1, grant[1], valid, target, carried, ask[1], drive[1], to[1], word[1]);\n  d2 : device(2, grant[2], valid, target, carried, ask[2], drive[2], to[2], word[2]);\n  a : arbiter(ask[0], ask[1], ask[2], busy, grant[0], grant[1], grant[2]);\n  ask, grant, drive : array 0..2 of boolean;\n  to : array 0..2 of 0..2;\n  word : array 0..2 of WORD;\n  valid, busy : boolean;\n  target : 0..2;\n  carried : WORD;\n  busy := |[ drive[i] : i in 0..2 ];\n  valid := busy;\n  -- The wires: what a device puts there where it drives alone, and anything where two drive or none does.\n  if (drive[0] & ~drive[1] & ~drive[2]) { target := to[0]; carried := word[0]; }\n  else if (drive[1] & ~drive[0] & ~drive[2]) { target := to[1]; carried := word[1]; }\n  else if (drive[2] & ~drive[0] & ~drive[1]) { target := to[2]; carried := word[2]; }\n\n  -- The last word that was meant for device 2.\n  abstract sent : WORD;\n  abstract any_sent : boolean;\n  layer order : {\n    init(any_sent) := 0;\n    if (|[ drive[i] & to[i] = 2 : i in 0..2 ]) next(any_sent) := 1;\n    if (drive[0] & to[0] = 2) next(sent) := word[0];\n    else if (drive[1] & to[1] = 2) next(sent) := word[1];\n    else if (drive[2] & to[2] = 2) next(sent) := word[2];\n    if (any_sent) d2.inbox := sent;\n    d2.filled := any_sent;\n  }\n  one_driver : assert G (~(drive[0] & drive[1]) & ~(drive[0] & drive[2]) & ~(drive[1] & drive[2]));\n  forall (c in WORD) subcase inbox_is[c] of d2.inbox//order for sent = c;\n  using one_driver, drive//free, to//free, word//free prove d2.filled//order, inbox_is;\n}\n",
+        0,
+        "d2.inbox//order: map at line 81 column 19\n leaf inbox_is\n parameter 1 WORD c\n cases 1\n free drive\n free to\n free word\n assume one_driver now\nd2.filled//order: map at line 82 column 5\n leaf d2.filled//order\n cases 1\n free drive\n free to\n free word\n assume one_driver now\none_driver: claim at line 84 column 3\n leaf one_driver\n cases 1\n",
+    ),
+    (
+        "cone opa//arch",
+        "scalarset WORD undefined;\nscalarset REG undefined;\nmodule main() {\n  issue : boolean;\n  src, dst : REG;\n  reg : array REG of WORD;\n  f : array WORD of WORD;\n  opa, alu : WORD;\n  ex : struct { valid : boolean; dst : REG; val : WORD; };\n\n  forall (w in WORD) next(f[w]) := f[w];\n  opa := reg[src];\n  init(ex.valid) := 0;\n  next(ex.valid) := issue;\n  next(ex.dst) := dst;\n  next(ex.val) := opa;\n  alu := f[ex.val];\n  if (ex.valid) next(reg[ex.dst]) := alu;\n\n  abstract r : array REG of WORD;\n  abstract operand, result : WORD;\n  layer arch : {\n    operand := r[src];\n    result := f[operand];\n    forall (k in REG) init(r[k]) := reg[k];\n    if (issue) next(r[dst]) := result;\n    if (issue) opa := operand;\n  }\n  forall (j in REG) forall (c in WORD)\n    subcase opa1[j][c] of opa//arch for src = j, r[src] = c;\n}\n",
+        0,
+        "opa//arch: case 1 of 1, bits 13\n case #0, #0\n issue: bits 1, free\n src: bits 1, free\n dst: bits 1, free\n reg[#0]: bits 1, base, state\n f[#0]: bits 1, base, state\n opa: bits 1, base, combinational, target\n alu: bits 1, base, combinational\n ex.valid: bits 1, base, state\n ex.dst: bits 1, base, state\n ex.val: bits 1, base, state\n r[#0]: bits 1, layer arch, state\n operand: bits 1, layer arch, combinational\n result: bits 1, layer arch, combinational\n",
+    ),
+    (
+        "cone opa//arch 2",
+        "scalarset WORD undefined;\nscalarset REG undefined;\nmodule main() {\n  issue : boolean;\n  src, dst : REG;\n  reg : array REG of WORD;\n  f : array WORD of WORD;\n  opa, alu : WORD;\n  ex : struct { valid : boolean; dst : REG; val : WORD; };\n\n  forall (w in WORD) next(f[w]) := f[w];\n  opa := reg[src];\n  init(ex.valid) := 0;\n  next(ex.valid) := issue;\n  next(ex.dst) := dst;\n  next(ex.val) := opa;\n  alu := f[ex.val];\n  if (ex.valid) next(reg[ex.dst]) := alu;\n\n  abstract r : array REG of WORD;\n  abstract operand, result : WORD;\n  layer arch : {\n    operand := r[src];\n    result := f[operand];\n    forall (k in REG) init(r[k]) := reg[k];\n    if (issue) next(r[dst]) := result;\n    if (issue) opa := operand;\n  }\n  forall (j in REG) forall (c in WORD)\n    subcase opa1[j][c] of opa//arch for src = j, r[src] = c;\n}\n",
+        1,
+        "opa//arch: cases 1\n",
+    ),
+    (
+        "cone opa",
+        "scalarset WORD undefined;\nscalarset REG undefined;\nmodule main() {\n  issue : boolean;\n  src, dst : REG;\n  reg : array REG of WORD;\n  f : array WORD of WORD;\n  opa, alu : WORD;\n  ex : struct { valid : boolean; dst : REG; val : WORD; };\n\n  forall (w in WORD) next(f[w]) := f[w];\n  opa := reg[src];\n  init(ex.valid) := 0;\n  next(ex.valid) := issue;\n  next(ex.dst) := dst;\n  next(ex.val) := opa;\n  alu := f[ex.val];\n  if (ex.valid) next(reg[ex.dst]) := alu;\n\n  abstract r : array REG of WORD;\n  abstract operand, result : WORD;\n  layer arch : {\n    operand := r[src];\n    result := f[operand];\n    forall (k in REG) init(r[k]) := reg[k];\n    if (issue) next(r[dst]) := result;\n    if (issue) opa := operand;\n  }\n  forall (j in REG) forall (c in WORD)\n    subcase opa1[j][c] of opa//arch for src = j, r[src] = c;\n}\n",
+        3,
+        "fault 26 at line 1 column 1\n",
+    ),
+];
+
+#[test]
+fn looks_are_those_of_the_pages_1(rt: HostRuntime) -> Result<(), Fail> {
+    all_are_answered(rt.alloc(), ROWS_1)
+}

@@ -1,0 +1,127 @@
+//! Texts with what is told of them, and what happens where a source or a sink fails.
+
+use smv_io::{Bytes, Taken};
+use smv_look_run::run;
+use std::alloc::{AllocError, Global};
+use std::test::Fail;
+
+// A claim for each of two clients, with a claim that it uses: one is named by its scalarset's parameter.
+const TEXT: &str =
+    "scalarset ID 0..2;\nmodule main() {\n  x, y : 0..5;\n  who : ID;\n  init(x) := 0;\n  next(x) := y;\n  small : assert G x < 6;\n  forall (i in ID) other : assert G (who = i | x < 6);\n  using small, y//free prove other;\n}\n";
+
+// The words, the text, the exit status and what is written.
+pub type Row = (&'static str, &'static str, u8, &'static str);
+
+const ROWS: &[Row] = &[
+    ("list", "module main() { x : boolean; }\n", 0, ""),
+    (
+        "list",
+        "module main() {\n  x : boolean;\n  p : assert G x;\n}\n",
+        0,
+        "p: claim at line 3 column 3\n leaf p\n cases 1\n",
+    ),
+    (
+        "cone p",
+        "module main() {\n  x : boolean;\n  y : 0..4;\n  next(x) := y = 2;\n  p : assert G x;\n}\n",
+        0,
+        "p: case 1 of 1, bits 4\n x: bits 1, base, state\n y: bits 3, free\n",
+    ),
+    (
+        "cone p 2",
+        "module main() { x : boolean; p : assert G x; }\n",
+        1,
+        "p: cases 1\n",
+    ),
+    (
+        "cone q",
+        "module main() { x : boolean; p : assert G x; }\n",
+        3,
+        "fault 26 at line 1 column 1\n",
+    ),
+    (
+        "list",
+        "module main() {\n  x := 1;\n}\n",
+        3,
+        "fault 7 at line 2 column 3\n",
+    ),
+];
+
+// The call of the source that fails, and the room of the sink.
+type Streams = (Option<u64>, usize);
+
+// Where no call fails, and the sink has room.
+const WHOLE: Streams = (None, 4000);
+
+const CLAIM: &str = "module main() { x : boolean; p : assert G x; }\n";
+
+const USAGE: &str = "usage: smv_look list|cone NAME [CASE] < TEXT\n";
+
+const STREAM_ROWS: &[(Streams, Row)] = &[
+    // Where the words ask for nothing the source is not asked.
+    ((Some(0), 4000), ("", CLAIM, 4, USAGE)),
+    ((Some(0), 4000), ("list p", CLAIM, 4, USAGE)),
+    ((Some(0), 4000), ("cone", CLAIM, 4, USAGE)),
+    ((Some(0), 4000), ("cone p 0", CLAIM, 4, USAGE)),
+    ((Some(0), 4000), ("cone p 4097", CLAIM, 4, USAGE)),
+    ((Some(0), 4000), ("list", CLAIM, 5, "")),
+    ((None, 5), ("list", CLAIM, 6, "p: cl")),
+    ((None, 7), ("list", "x\n", 6, "fault 5")),
+];
+
+// The words, parted by blanks.
+fn words_of(alloc: Global, line: &str) -> Result<Vec<String>, AllocError> {
+    let mut words = Vec::new(alloc);
+    for word in line.split_ascii_whitespace() {
+        words.push(String::from_str(alloc, word)?)?;
+    }
+    Ok(words)
+}
+
+// A source of a text of which a call may fail.
+fn source_of(alloc: Global, text: &str, failing: Option<u64>) -> Result<Bytes, AllocError> {
+    let mut calls = Vec::new(alloc);
+    if let Some(call) = failing {
+        calls.push(call)?;
+    }
+    Ok(Bytes::new(text.as_bytes().to_vec(alloc)?, calls))
+}
+
+// Whether a call has this exit status, and this is written.
+fn is_answered(alloc: Global, streams: Streams, row: Row) -> Result<bool, AllocError> {
+    let (line, text, want, written) = row;
+    let words = words_of(alloc, line)?;
+    let mut source = source_of(alloc, text, streams.0)?;
+    let mut sink = Taken::with_room(alloc, streams.1, Vec::new(alloc))?;
+    let status = run(alloc, &words, &mut source, &mut sink);
+    Ok(status.number() == want && sink.taken() == written.as_bytes())
+}
+
+// Fails with the words of the first row that is answered otherwise.
+pub fn all_are_answered(alloc: Global, rows: &[Row]) -> Result<(), Fail> {
+    for row in rows {
+        if !is_answered(alloc, WHOLE, *row)? {
+            return Err(Fail::new(row.0));
+        }
+    }
+    Ok(())
+}
+
+#[test]
+fn texts_have_their_answers(rt: HostRuntime) -> Result<(), Fail> {
+    all_are_answered(rt.alloc(), ROWS)
+}
+
+// Fails with the words of the first row that is answered otherwise.
+fn all_streams_are_answered(alloc: Global, rows: &[(Streams, Row)]) -> Result<(), Fail> {
+    for (streams, row) in rows {
+        if !is_answered(alloc, *streams, *row)? {
+            return Err(Fail::new(row.0));
+        }
+    }
+    Ok(())
+}
+
+#[test]
+fn words_and_faults_of_streams_are_told(rt: HostRuntime) -> Result<(), Fail> {
+    all_streams_are_answered(rt.alloc(), STREAM_ROWS)
+}
