@@ -1,4 +1,5 @@
-// Labels to try: those of components, from the first ones along the edges on. Nothing rests on them.
+// Labels to try: those of components, from the first ones along the edges on. Nothing rests on them but that there is one for each node.
+ghost use Rattle.std.specs.Prelude.{◌≡◌, length, IfOk, OnOk};
 ghost use Rattle.graph_search.specs.Walks.{lists};
 ghost use Rattle.graph_search.specs.Reverse.{IsGraph};
 
@@ -18,6 +19,7 @@ struct Search {
 /// have none.
 pub fn tried(alloc: Global, graph: &[Vec<usize>]) -> Result<Vec<usize>, AllocError>
     requires { IsGraph (lists graph.now) }
+    ensures { IfOk result (λ labels. length labels.items ≡ length graph.now) }
 {
     let left = nodes_left(alloc, graph)?;
     let back = reverse(alloc, graph)?;
@@ -84,7 +86,9 @@ fn next_edge(graph: &[Vec<usize>], search: &mut Search, node: usize) -> Option<u
 }
 
 // Gives a node a label, where it has none. Whether it had none.
-fn give(labels: &mut Vec<usize>, node: usize, label: usize) -> bool {
+fn give(labels: &mut Vec<usize>, node: usize, label: usize) -> bool
+    ensures { length labels.new.items ≡ length labels.old.items }
+{
     let none = labels.len();
     match labels.get_mut(node) {
         None => false,
@@ -105,7 +109,9 @@ fn spread(
     labels: &mut Vec<usize>,
     node: usize,
     label: usize,
-) -> Result<(), AllocError> {
+) -> Result<(), AllocError>
+    ensures { OnOk result (length labels.new.items ≡ length labels.old.items) }
+{
     let mut queue = Vec::new(alloc);
     queue.push(node)?;
     for turn in 0..back.len() {
@@ -125,7 +131,9 @@ fn give_all(
     queue: &mut Vec<usize>,
     nodes: &[usize],
     label: usize,
-) -> Result<(), AllocError> {
+) -> Result<(), AllocError>
+    ensures { OnOk result (length labels.new.items ≡ length labels.old.items) }
+{
     for node in nodes {
         if give(labels, *node, label) {
             queue.push(*node)?;

@@ -14,7 +14,7 @@ use Rattle.smv_core.specs.declared.flat.Design.{Design}
 use Rattle.smv_core.specs.declared.flat.Unit.{Unit as DesignUnit}
 use Rattle.smv_core.specs.declared.flat.Unit.TheVariants as variant
 use Rattle.law_designs.specs.FlatKinds as kinds
-use Rattle.law_designs.specs.FlatKinds.{Kind, kind_of}
+use Rattle.law_designs.specs.FlatKinds.{FlatKind, kind_of}
 use Rattle.law_obligations.specs.Sets.{Has}
 use Rattle.law_obligations.specs.Places.{Place, named, World, places_in}
 use Rattle.law_obligations.specs.Covers.{AreApart}
@@ -70,7 +70,7 @@ are-of-places n [] (v ∷ vs) h = elim h [ ]
 are-of-places n (t ∷ types) [] h = elim h [ ]
 are-of-places n (t ∷ types) (v ∷ vs) h = (subst (λ ps. Has ps (named v)) (sym (places_are n t)) (Has-map named h.0), are-of-places n types vs h.1)
 
-taken-kind : (target : Kind) (k : Option Kind) → IsTrue (kinds.takes target k) → (kind : Kind) × (k ≡ Some kind) × IsTrue (kinds.takes target (Some kind))
+taken-kind : (target : FlatKind) (k : Option FlatKind) → IsTrue (kinds.takes target k) → (kind : FlatKind) × (k ≡ Some kind) × IsTrue (kinds.takes target (Some kind))
 taken-kind target None t = absurd (cc)
 taken-kind target (Some kind) t = (kind, refl, t)
 
@@ -110,7 +110,7 @@ module _ (d : Design) (sizes : Sizes) (exact : IsExact d sizes) (fit : IsFitDesi
   fits-claim : (claim : FlatClaim) → Has d.claims claim ⊎ (claim ≡ nothing_claimed) → (b : List Place) → AreOf w (map (λ p. p.over) claim.params) b → IsFit c (holds claim.body b)
   fits-claim claim (inl h) b of =
       let f = fit.claims claim h in
-      let k = taken-kind Kind.number (kinds.kind_in (as_flat_text (names_of d)) (map (λ p. kind_of p.over) claim.params) claim.body) f.0 in
+      let k = taken-kind FlatKind.number (kinds.kind_in (as_flat_text (names_of d)) (map (λ p. kind_of p.over) claim.params) claim.body) f.0 in
       let same : map kind_of (map (λ p. p.over) claim.params) ≡ map (λ p. kind_of p.over) claim.params = map-map kind_of (λ p. p.over) claim.params in (
         map (λ p. p.over) claim.params,
         k.0,
@@ -122,7 +122,7 @@ module _ (d : Design) (sizes : Sizes) (exact : IsExact d sizes) (fit : IsFitDesi
         k.2,
       )
   fits-claim claim (inr e) b of = subst (λ (claim : FlatClaim). AreOf w (map (λ p. p.over) claim.params) b → IsFit c (holds claim.body b)) (sym e)
-      (λ a. ([], Kind.number, record { are_of = a; has_kind = refl; has_orders = refl }, refl)) of
+      (λ a. ([], FlatKind.number, record { are_of = a; has_kind = refl; has_orders = refl }, refl)) of
 
   own-of : AreOf w (params_of n (unit_in d unit)) params
   own-of = are-of-places n (params_of n (unit_in d unit)) values (are_of (map (values_in n) (params_of n (unit_in d unit))) values are)

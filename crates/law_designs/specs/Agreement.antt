@@ -21,6 +21,7 @@ use Rattle.smv_core.specs.declared.tree.Text.{Text}
 use Rattle.law_designs.specs.Numbers.{Scope, family_number, variable_at}
 use Rattle.law_designs.specs.Flattening.{flatten, dotted}
 use Rattle.smv_core.specs.declared.flat.Family.{Family as FlatFamily}
+use Rattle.smv_core.specs.Rows.{one_expr, one_stmt}
 
 -- what the numbers in a flattened text stand for, at sizes
 abbrev pub numbers_of : FlatText → Sizes → Numbered
@@ -65,18 +66,18 @@ module _ (scope : Scope) where
     IsRight vars (Signal' shape parts at) =
         let path = fields_of (items-the_row-Part _ parts) in
         IsKnown (variable_at vars path at) (family_at scope.families (scope.instance ++ path)) path × IndexesAreRight vars parts
-    IsRight vars (Not' shape (more_of-Expr e end_of-Expr) at) = IsRight vars e
+    IsRight vars (Not' shape (one_expr e) at) = IsRight vars e
     IsRight vars (And' shape parts) = PartsAreRight vars parts
     IsRight vars (Or' shape parts) = PartsAreRight vars parts
     IsRight vars (Implies' shape parts) = PartsAreRight vars parts
-    IsRight vars (Iff' l (more_of-Expr left end_of-Expr) r (more_of-Expr right end_of-Expr)) = IsRight vars left × IsRight vars right
-    IsRight vars (Compare' op l (more_of-Expr left end_of-Expr) r (more_of-Expr right end_of-Expr)) = IsRight vars left × IsRight vars right
-    IsRight vars (Within' l (more_of-Expr left end_of-Expr) r (more_of-Expr set end_of-Expr)) = IsRight vars left × IsRight vars set
-    IsRight vars (Sum' f (more_of-Expr first end_of-Expr) shape more) = IsRight vars first × TermsAreRight vars more
-    IsRight vars (Modulo' shape (more_of-Expr e end_of-Expr) by at) = IsRight vars e
-    IsRight vars (Choose' c (more_of-Expr cond end_of-Expr) l (more_of-Expr left end_of-Expr) r (more_of-Expr right end_of-Expr)) = IsRight vars cond × IsRight vars left × IsRight vars right
-    IsRight vars (All' shape (more_of-Expr body end_of-Expr) var over at) = IsRight ((var.name, any) ∷ vars) body × IsIndexType over
-    IsRight vars (Any' shape (more_of-Expr body end_of-Expr) var over at) = IsRight ((var.name, any) ∷ vars) body × IsIndexType over
+    IsRight vars (Iff' l (one_expr left) r (one_expr right)) = IsRight vars left × IsRight vars right
+    IsRight vars (Compare' op l (one_expr left) r (one_expr right)) = IsRight vars left × IsRight vars right
+    IsRight vars (Within' l (one_expr left) r (one_expr set)) = IsRight vars left × IsRight vars set
+    IsRight vars (Sum' f (one_expr first) shape more) = IsRight vars first × TermsAreRight vars more
+    IsRight vars (Modulo' shape (one_expr e) by at) = IsRight vars e
+    IsRight vars (Choose' c (one_expr cond) l (one_expr left) r (one_expr right)) = IsRight vars cond × IsRight vars left × IsRight vars right
+    IsRight vars (All' shape (one_expr body) var over at) = IsRight ((var.name, any) ∷ vars) body × IsIndexType over
+    IsRight vars (Any' shape (one_expr body) var over at) = IsRight ((var.name, any) ∷ vars) body × IsIndexType over
     IsRight vars (List' shape members at) = MembersAreRight vars members
     IsRight vars (Each' var over cond at) = ConditionIsRight ((var.name, any) ∷ vars) cond × IsIndexType over
 
@@ -100,7 +101,7 @@ module _ (scope : Scope) where
 
     pub ConditionIsRight : Around → Held-Expr-Each-2 → Type 0
     ConditionIsRight vars None' = Unit {0}
-    ConditionIsRight vars (Some' shape (more_of-Expr cond end_of-Expr)) = IsRight vars cond
+    ConditionIsRight vars (Some' shape (one_expr cond)) = IsRight vars cond
 
   abbrev pub AreRight : Around → List Expr → Type 0
   AreRight vars [] = Unit {0}
@@ -111,11 +112,11 @@ module _ (scope : Scope) where
     pub StatementIsRight : Around → Stmt → Type 0
     StatementIsRight vars (Assign kind left value at) = AreRight vars (indexes_of (out-Path left).parts) × IsRight vars value
     StatementIsRight vars (Block' shape parts) = StatementsAreRight vars parts
-    StatementIsRight vars (If' cond l (more_of-Stmt left end_of-Stmt) right at) = IsRight vars cond × StatementIsRight vars left × BranchIsRight vars right
+    StatementIsRight vars (If' cond l (one_stmt left) right at) = IsRight vars cond × StatementIsRight vars left × BranchIsRight vars right
     StatementIsRight vars (Switch' on shape arms other at) = IsRight vars on × ArmsAreRight vars arms × BranchIsRight vars other
-    StatementIsRight vars (Default' l (more_of-Stmt left end_of-Stmt) r (more_of-Stmt right end_of-Stmt) at) = StatementIsRight vars left × StatementIsRight vars right
-    StatementIsRight vars (For' var from to closed step shape (more_of-Stmt body end_of-Stmt) at) = (k : ℕ) → StatementIsRight ((var.name, loop k) ∷ vars) body
-    StatementIsRight vars (Forall' var over shape (more_of-Stmt body end_of-Stmt) at) = StatementIsRight ((var.name, any) ∷ vars) body × IsIndexType over
+    StatementIsRight vars (Default' l (one_stmt left) r (one_stmt right) at) = StatementIsRight vars left × StatementIsRight vars right
+    StatementIsRight vars (For' var from to closed step shape (one_stmt body) at) = (k : ℕ) → StatementIsRight ((var.name, loop k) ∷ vars) body
+    StatementIsRight vars (Forall' var over shape (one_stmt body) at) = StatementIsRight ((var.name, any) ∷ vars) body × IsIndexType over
 
     pub StatementsAreRight : {m : _} → Around → Row_of-Stmt m → Type 0
     StatementsAreRight vars end_of-Stmt = Unit {0}
@@ -123,7 +124,7 @@ module _ (scope : Scope) where
 
     pub BranchIsRight : Around → Held-Stmt-If-2 → Type 0
     BranchIsRight vars stmt.None' = Unit {0}
-    BranchIsRight vars (stmt.Some' shape (more_of-Stmt part end_of-Stmt)) = StatementIsRight vars part
+    BranchIsRight vars (stmt.Some' shape (one_stmt part)) = StatementIsRight vars part
 
     pub ArmsAreRight : {m : _} → Around → Row_of-Arm m → Type 0
     ArmsAreRight vars end_of-Arm = Unit {0}

@@ -19,6 +19,7 @@ use Rattle.smv_core.specs.declared.flat.Design.{Design}
 use Rattle.law_designs.specs.Flattening.{different}
 use Rattle.law_designs.specs.WholeText.{is_one_layer, claims_of}
 use Rattle.law_designs.specs.Standing.{count, Statement, statements_of, Standing, assigned_by}
+use Rattle.smv_core.specs.Rows.{one_flat_stmt}
 
 -- ---- parts of a definition
 
@@ -51,10 +52,10 @@ module _ (kind : Kind) (family : ℕ) where
     -- a statement whose first assignment has this place; the second part of a `default` goes before the first
     pub flat_of : ℕ → FlatStmt → DefBody
     flat_of k (Assign which other left value at) = if same_kind which kind && nat_eq other family then flat.Assign left value k at else Nothing
-    flat_of k (If' cond l (more_of-FlatStmt left end_of-FlatStmt) r (more_of-FlatStmt right end_of-FlatStmt)) = branches cond (flat_of k left) (flat_of (k + count left) right)
+    flat_of k (If' cond l (one_flat_stmt left) r (one_flat_stmt right)) = branches cond (flat_of k left) (flat_of (k + count left) right)
     flat_of k (Block' shape parts) = first_part (flats_of k parts)
-    flat_of k (Default' l (more_of-FlatStmt left end_of-FlatStmt) r (more_of-FlatStmt right end_of-FlatStmt)) = first_part (flat_of (k + count left) right ∷ flat_of k left ∷ [])
-    flat_of k (Forall' var over shape (more_of-FlatStmt body end_of-FlatStmt)) = each_value var over (flat_of k body)
+    flat_of k (Default' l (one_flat_stmt left) r (one_flat_stmt right)) = first_part (flat_of (k + count left) right ∷ flat_of k left ∷ [])
+    flat_of k (Forall' var over shape (one_flat_stmt body)) = each_value var over (flat_of k body)
 
     pub flats_of : {m : _} → ℕ → Row_of-FlatStmt m → List DefBody
     flats_of k end_of-FlatStmt = []

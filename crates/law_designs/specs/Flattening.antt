@@ -30,6 +30,7 @@ use Rattle.smv_mentions.specs.Scopes.{pieces}
 use Rattle.law_designs.specs.Numbers.{Scope, flat_simple, flat_over}
 use Rattle.law_designs.specs.Statements.{flat_expr, flat_stmt}
 use Rattle.law_designs.specs.Entries.{Binders, Goal, claim, split, using, Entry, layer, statement, goal, placed_families, entries}
+use Rattle.smv_core.specs.Rows.{one_flat_stmt}
 
 -- ---- names
 
@@ -145,10 +146,10 @@ pub record FlatAssigned : Type 0 where
 abbrev mutual
   pub flat_assignments : FlatStmt → List FlatAssigned
   flat_assignments (Assign kind family left value at) = record { kind = kind; family = family; indexes = map flat_index left } ∷ []
-  flat_assignments (If' cond l (more_of-FlatStmt left end_of-FlatStmt) r (more_of-FlatStmt right end_of-FlatStmt)) = flat_assignments left ++ flat_assignments right
+  flat_assignments (If' cond l (one_flat_stmt left) r (one_flat_stmt right)) = flat_assignments left ++ flat_assignments right
   flat_assignments (Block' shape parts) = flat_assignments_in parts
-  flat_assignments (Default' l (more_of-FlatStmt left end_of-FlatStmt) r (more_of-FlatStmt right end_of-FlatStmt)) = flat_assignments left ++ flat_assignments right
-  flat_assignments (Forall' var over shape (more_of-FlatStmt body end_of-FlatStmt)) = flat_assignments body
+  flat_assignments (Default' l (one_flat_stmt left) r (one_flat_stmt right)) = flat_assignments left ++ flat_assignments right
+  flat_assignments (Forall' var over shape (one_flat_stmt body)) = flat_assignments body
 
   pub flat_assignments_in : {m : _} → Row_of-FlatStmt m → List FlatAssigned
   flat_assignments_in end_of-FlatStmt = []

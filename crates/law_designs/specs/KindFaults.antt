@@ -26,6 +26,7 @@ use Rattle.law_designs.specs.Kinds.{Kind, number, Operand, takes, takes_number, 
 use Rattle.law_designs.specs.Types.{Types, leads, value_kind, types_after, index_faults, type_faults, size_faults}
 use Rattle.law_designs.specs.References.{Module, module_of, modules_from, Scope, Vars, signal_at, reference}
 use Rattle.law_designs.specs.Operands.{bind, operand, value, target}
+use Rattle.smv_core.specs.Rows.{one_stmt}
 
 -- ---- statements
 
@@ -39,11 +40,11 @@ module _ (scope : Scope) where
     pub in_stmt : Vars → Stmt → List Fault
     in_stmt vars (Assign kind left right at) = assigned (target scope vars left) (value scope vars right)
     in_stmt vars (Block' shape parts) = in_block vars parts
-    in_stmt vars (If' cond l (more_of-Stmt left end_of-Stmt) right at) = takes_number (operand scope vars cond) ++ in_stmt vars left ++ in_branch vars right
+    in_stmt vars (If' cond l (one_stmt left) right at) = takes_number (operand scope vars cond) ++ in_stmt vars left ++ in_branch vars right
     in_stmt vars (Switch' on shape arms other at) = alike (operand scope vars on ∷ labels vars arms) ++ in_arms vars arms ++ in_branch vars other
-    in_stmt vars (Default' l (more_of-Stmt left end_of-Stmt) r (more_of-Stmt right end_of-Stmt) at) = in_stmt vars left ++ in_stmt vars right
-    in_stmt vars (For' var from to closed step shape (more_of-Stmt body end_of-Stmt) at) = in_stmt ((var.name, number) ∷ vars) body
-    in_stmt vars (Forall' var over shape (more_of-Stmt body end_of-Stmt) at) = index_faults scope.here.types over ++ in_stmt (bind scope vars var over) body
+    in_stmt vars (Default' l (one_stmt left) r (one_stmt right) at) = in_stmt vars left ++ in_stmt vars right
+    in_stmt vars (For' var from to closed step shape (one_stmt body) at) = in_stmt ((var.name, number) ∷ vars) body
+    in_stmt vars (Forall' var over shape (one_stmt body) at) = index_faults scope.here.types over ++ in_stmt (bind scope vars var over) body
 
     pub in_block : {m : _} → Vars → Row_of-Stmt m → List Fault
     in_block vars end_of-Stmt = []
@@ -52,7 +53,7 @@ module _ (scope : Scope) where
     -- an `else` or `default`, or none
     pub in_branch : Vars → Held-Stmt-If-2 → List Fault
     in_branch vars None' = []
-    in_branch vars (Some' shape (more_of-Stmt part end_of-Stmt)) = in_stmt vars part
+    in_branch vars (Some' shape (one_stmt part)) = in_stmt vars part
 
     pub in_arms : {m : _} → Vars → Row_of-Arm m → List Fault
     in_arms vars end_of-Arm = []

@@ -10,6 +10,7 @@ use Rattle.smv_core.specs.declared.tree.Part.{Part}
 use Rattle.smv_core.specs.declared.tree.Stmt.{Stmt, Assign, Block', If', Switch', Default', For', Forall', Held-Stmt-If-2, None', Some', Row_of-Stmt, end_of-Stmt, more_of-Stmt, Row_of-Arm, end_of-Arm, more_of-Arm}
 use Rattle.smv_core.specs.declared.tree.Text.{Text}
 use Rattle.law_designs.specs.Entries.{Entry, statement, entries}
+use Rattle.smv_core.specs.Rows.{one_stmt}
 
 -- the text has a family of this path, with so many index types
 abbrev pub HasFamily : Text → Path → ℕ → Type 0
@@ -25,11 +26,11 @@ module _ (text : Text) (instance : Path) where
     pub StatementLeads : Stmt → Type 0
     StatementLeads (Assign kind left value at) = LeadsToFamily text instance (out-Path left).parts
     StatementLeads (Block' shape parts) = StatementsLead parts
-    StatementLeads (If' cond l (more_of-Stmt left end_of-Stmt) right at) = StatementLeads left × BranchLeads right
+    StatementLeads (If' cond l (one_stmt left) right at) = StatementLeads left × BranchLeads right
     StatementLeads (Switch' on shape arms other at) = ArmsLead arms × BranchLeads other
-    StatementLeads (Default' l (more_of-Stmt left end_of-Stmt) r (more_of-Stmt right end_of-Stmt) at) = StatementLeads left × StatementLeads right
-    StatementLeads (For' var from to closed step shape (more_of-Stmt body end_of-Stmt) at) = StatementLeads body
-    StatementLeads (Forall' var over shape (more_of-Stmt body end_of-Stmt) at) = StatementLeads body
+    StatementLeads (Default' l (one_stmt left) r (one_stmt right) at) = StatementLeads left × StatementLeads right
+    StatementLeads (For' var from to closed step shape (one_stmt body) at) = StatementLeads body
+    StatementLeads (Forall' var over shape (one_stmt body) at) = StatementLeads body
 
     pub StatementsLead : {m : _} → Row_of-Stmt m → Type 0
     StatementsLead end_of-Stmt = Unit {0}
@@ -37,7 +38,7 @@ module _ (text : Text) (instance : Path) where
 
     pub BranchLeads : Held-Stmt-If-2 → Type 0
     BranchLeads None' = Unit {0}
-    BranchLeads (Some' shape (more_of-Stmt part end_of-Stmt)) = StatementLeads part
+    BranchLeads (Some' shape (one_stmt part)) = StatementLeads part
 
     pub ArmsLead : {m : _} → Row_of-Arm m → Type 0
     ArmsLead end_of-Arm = Unit {0}

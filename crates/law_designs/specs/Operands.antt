@@ -15,6 +15,7 @@ use Rattle.smv_mentions.specs.FirstFault.{faults_at}
 use Rattle.law_designs.specs.Kinds.{Operand, number_at, of_numbers, of_alike, takes_number, ordered, chosen, listed, stray_set}
 use Rattle.law_designs.specs.Types.{index_kind, index_faults, is_reversed}
 use Rattle.law_designs.specs.References.{Scope, Vars, reference_at, signal_at, reference}
+use Rattle.smv_core.specs.Rows.{one_expr}
 
 -- the sides of `=` and `~=` have one kind, and an order has its own rule
 abbrev pub compared : Op → Operand → Operand → Operand
@@ -40,18 +41,18 @@ module _ (scope : Scope) where
     pub operand : Vars → Expr → Operand
     operand vars (Number value at) = number_at at []
     operand vars (Signal' shape parts at) = reference at (reference_at scope vars (items-the_row-Part _ parts)) (indexes vars parts)
-    operand vars (Not' shape (more_of-Expr e end_of-Expr) at) = number_at at (takes_number (operand vars e))
+    operand vars (Not' shape (one_expr e) at) = number_at at (takes_number (operand vars e))
     operand vars (And' shape parts) = of_numbers (operands vars parts)
     operand vars (Or' shape parts) = of_numbers (operands vars parts)
     operand vars (Implies' shape parts) = of_numbers (operands vars parts)
-    operand vars (Iff' l (more_of-Expr left end_of-Expr) r (more_of-Expr right end_of-Expr)) = of_numbers (operand vars left ∷ operand vars right ∷ [])
-    operand vars (Compare' op l (more_of-Expr left end_of-Expr) r (more_of-Expr right end_of-Expr)) = compared op (operand vars left) (operand vars right)
-    operand vars (Within' l (more_of-Expr left end_of-Expr) r (more_of-Expr set end_of-Expr)) = of_alike (operand vars left ∷ looked_through vars set)
-    operand vars (Sum' f (more_of-Expr first end_of-Expr) shape more) = of_numbers (operand vars first ∷ summands vars more)
-    operand vars (Modulo' shape (more_of-Expr e end_of-Expr) by at) = remainder (operand vars e) by at
-    operand vars (Choose' c (more_of-Expr cond end_of-Expr) l (more_of-Expr left end_of-Expr) r (more_of-Expr right end_of-Expr)) = chosen (operand vars cond) (operand vars left) (operand vars right)
-    operand vars (All' shape (more_of-Expr body end_of-Expr) var over at) = reduced at (operand (bind vars var over) body) over
-    operand vars (Any' shape (more_of-Expr body end_of-Expr) var over at) = reduced at (operand (bind vars var over) body) over
+    operand vars (Iff' l (one_expr left) r (one_expr right)) = of_numbers (operand vars left ∷ operand vars right ∷ [])
+    operand vars (Compare' op l (one_expr left) r (one_expr right)) = compared op (operand vars left) (operand vars right)
+    operand vars (Within' l (one_expr left) r (one_expr set)) = of_alike (operand vars left ∷ looked_through vars set)
+    operand vars (Sum' f (one_expr first) shape more) = of_numbers (operand vars first ∷ summands vars more)
+    operand vars (Modulo' shape (one_expr e) by at) = remainder (operand vars e) by at
+    operand vars (Choose' c (one_expr cond) l (one_expr left) r (one_expr right)) = chosen (operand vars cond) (operand vars left) (operand vars right)
+    operand vars (All' shape (one_expr body) var over at) = reduced at (operand (bind vars var over) body) over
+    operand vars (Any' shape (one_expr body) var over at) = reduced at (operand (bind vars var over) body) over
     operand vars (List' shape parts at) = stray_set at
     operand vars (Each' var over cond at) = stray_set at
 
@@ -84,14 +85,14 @@ module _ (scope : Scope) where
   -- the condition of a comprehension, or none
   abbrev pub condition_faults : Vars → Held-Expr-Each-2 → List Fault
   condition_faults vars None' = []
-  condition_faults vars (Some' shape (more_of-Expr cond end_of-Expr)) = takes_number (operand vars cond)
+  condition_faults vars (Some' shape (one_expr cond)) = takes_number (operand vars cond)
 
   -- the value of an assignment: a set may stand there, also as a branch of `?:`
   unfoldable pub value : Vars → Expr → Operand
   value vars (List' shape parts at) = listed at (members vars parts)
   value vars (Each' var over cond at) =
       record { kind = index_kind scope.here.types over; at = at; faults = index_faults scope.here.types over ++ condition_faults (bind vars var over) cond }
-  value vars (Choose' c (more_of-Expr cond end_of-Expr) l (more_of-Expr left end_of-Expr) r (more_of-Expr right end_of-Expr)) = chosen (operand vars cond) (value vars left) (value vars right)
+  value vars (Choose' c (one_expr cond) l (one_expr left) r (one_expr right)) = chosen (operand vars cond) (value vars left) (value vars right)
   value vars e = operand vars e
 
   -- what an assignment sets: a signal

@@ -5,6 +5,7 @@ use Rattle.smv_core.specs.FlatMeaning.{flat_index}
 use Rattle.smv_core.specs.declared.flat.FlatMember.{One, Span as SpanOf}
 use Rattle.smv_core.specs.declared.flat.FlatExpr.{FlatExpr, Number, Read', Var, Loop, Constant, Not', And', Or', Implies', Iff', Compare', Within', Sum', Modulo', Choose', All', Any', List', Each', Held-FlatExpr-Each-2, None', Some', Row_of-FlatExpr, end_of-FlatExpr, more_of-FlatExpr, Row_of-FlatMember, end_of-FlatMember, more_of-FlatMember, Row_of-FlatSigned, end_of-FlatSigned, more_of-FlatSigned}
 use Rattle.smv_core.specs.declared.flat.DefBody.{DefBody, Nothing, Assign, If', First', Forall', Row_of-DefBody, end_of-DefBody, more_of-DefBody}
+use Rattle.smv_core.specs.Rows.{one_flat_expr}
 
 -- ---- what an expression reads
 
@@ -27,18 +28,18 @@ abbrev mutual
   references (Var var at) = []
   references (Loop value at) = []
   references (Constant list value at) = []
-  references (Not' shape (more_of-FlatExpr e end_of-FlatExpr) at) = references e
+  references (Not' shape (one_flat_expr e) at) = references e
   references (And' shape parts) = references_of parts
   references (Or' shape parts) = references_of parts
   references (Implies' shape parts) = references_of parts
-  references (Iff' l (more_of-FlatExpr left end_of-FlatExpr) r (more_of-FlatExpr right end_of-FlatExpr)) = references left ++ references right
-  references (Compare' op l (more_of-FlatExpr left end_of-FlatExpr) r (more_of-FlatExpr right end_of-FlatExpr)) = references left ++ references right
-  references (Within' l (more_of-FlatExpr left end_of-FlatExpr) r (more_of-FlatExpr set end_of-FlatExpr)) = references left ++ references set
-  references (Sum' f (more_of-FlatExpr head end_of-FlatExpr) shape more) = references head ++ references_signed more
-  references (Modulo' shape (more_of-FlatExpr e end_of-FlatExpr) by at) = references e
-  references (Choose' c (more_of-FlatExpr cond end_of-FlatExpr) l (more_of-FlatExpr left end_of-FlatExpr) r (more_of-FlatExpr right end_of-FlatExpr)) = references cond ++ references left ++ references right
-  references (All' shape (more_of-FlatExpr body end_of-FlatExpr) var over at) = references body
-  references (Any' shape (more_of-FlatExpr body end_of-FlatExpr) var over at) = references body
+  references (Iff' l (one_flat_expr left) r (one_flat_expr right)) = references left ++ references right
+  references (Compare' op l (one_flat_expr left) r (one_flat_expr right)) = references left ++ references right
+  references (Within' l (one_flat_expr left) r (one_flat_expr set)) = references left ++ references set
+  references (Sum' f (one_flat_expr head) shape more) = references head ++ references_signed more
+  references (Modulo' shape (one_flat_expr e) by at) = references e
+  references (Choose' c (one_flat_expr cond) l (one_flat_expr left) r (one_flat_expr right)) = references cond ++ references left ++ references right
+  references (All' shape (one_flat_expr body) var over at) = references body
+  references (Any' shape (one_flat_expr body) var over at) = references body
   references (List' shape members at) = references_members members
   references (Each' var over cond at) = references_held cond
 
@@ -57,7 +58,7 @@ abbrev mutual
 
   pub references_held : Held-FlatExpr-Each-2 → List Reference
   references_held None' = []
-  references_held (Some' shape (more_of-FlatExpr cond end_of-FlatExpr)) = references cond
+  references_held (Some' shape (one_flat_expr cond)) = references cond
 
 -- ---- what an assignment reads
 

@@ -8,7 +8,8 @@ use Rattle.smv_core.specs.declared.flat.Simple.{Simple}
 use Rattle.smv_core.specs.declared.flat.SetInfo.{SetInfo}
 use Rattle.smv_core.specs.declared.flat.Family.{Family}
 use Rattle.smv_core.specs.declared.flat.FlatExpr.{FlatExpr, Number, Read', Var, Loop, Constant, Not', And', Or', Implies', Iff', Compare', Within', Sum', Modulo', Choose', All', Any', List', Each', Row_of-FlatExpr, end_of-FlatExpr, more_of-FlatExpr}
-use Rattle.law_designs.specs.FlatKinds.{Kind, number, set_type, kind_of}
+use Rattle.law_designs.specs.FlatKinds.{FlatKind, number, set_type, kind_of}
+use Rattle.smv_core.specs.Rows.{one_flat_expr}
 
 -- ---- places
 
@@ -24,12 +25,12 @@ abbrev mutual
   first_at (And' shape parts) = first_at_of parts
   first_at (Or' shape parts) = first_at_of parts
   first_at (Implies' shape parts) = first_at_of parts
-  first_at (Iff' l (more_of-FlatExpr left end_of-FlatExpr) r right) = first_at left
-  first_at (Compare' op l (more_of-FlatExpr left end_of-FlatExpr) r right) = first_at left
-  first_at (Within' l (more_of-FlatExpr left end_of-FlatExpr) r set) = first_at left
-  first_at (Sum' f (more_of-FlatExpr head end_of-FlatExpr) shape more) = first_at head
-  first_at (Modulo' shape (more_of-FlatExpr e end_of-FlatExpr) by at) = first_at e
-  first_at (Choose' c (more_of-FlatExpr cond end_of-FlatExpr) l left r right) = first_at cond
+  first_at (Iff' l (one_flat_expr left) r right) = first_at left
+  first_at (Compare' op l (one_flat_expr left) r right) = first_at left
+  first_at (Within' l (one_flat_expr left) r set) = first_at left
+  first_at (Sum' f (one_flat_expr head) shape more) = first_at head
+  first_at (Modulo' shape (one_flat_expr e) by at) = first_at e
+  first_at (Choose' c (one_flat_expr cond) l left r right) = first_at cond
   first_at (All' shape body var over at) = at
   first_at (Any' shape body var over at) = at
   first_at (List' shape members at) = at
@@ -46,43 +47,47 @@ is_loop _ = false
 
 -- ---- operands
 
-pub record Operand : Type 0 where
-  pub kind : Option Kind
+-- an operand by its kind, where it stands, and whether it is the variable of a `for` alone
+pub record SetOperand : Type 0 where
+  pub kind : Option FlatKind
   pub at : ℕ
   pub is_loop : Bool
 
-abbrev pub is_number : Option Kind → Bool
+-- a number
+abbrev pub is_number : Option FlatKind → Bool
 is_number (Some number) = true
 is_number _ = false
 
-abbrev pub is_of_set : Option Kind → Bool
+-- a value of a set type
+abbrev pub is_of_set : Option FlatKind → Bool
 is_of_set (Some (set_type set)) = true
 is_of_set _ = false
 
 -- ---- faults 21 and 22
 
 -- a number that meets a set type: fault 22 where it is the variable of a `for` alone
-abbrev pub number_fault : Operand → Fault
+abbrev pub number_fault : SetOperand → Fault
 number_fault x = record { number = if x.is_loop then 22 else 21; at = x.at }
 
 -- of operands that meet, where one is a value of a set type, each that is a number
-abbrev pub met : List Operand → List Fault
+abbrev pub met : List SetOperand → List Fault
 met operands = if list_any (λ x. is_of_set x.kind) operands then map number_fault (filter (λ x. is_number x.kind) operands) else []
 
 -- a number where a value of this type is wanted, if it is a set type
-abbrev pub wanted : Simple → Operand → List Fault
+abbrev pub wanted : Simple → SetOperand → List Fault
 wanted t x = if is_of_set (Some (kind_of t)) && is_number x.kind then number_fault x ∷ [] else []
 
 -- the indexes of an element of a family
-abbrev pub wanted_at : Option Family → List Operand → List Fault
+abbrev pub wanted_at : Option Family → List SetOperand → List Fault
 wanted_at None indexes = []
 wanted_at (Some f) indexes = flat_map (λ (t, x). wanted t x) (zip f.over indexes)
 
 -- the value of an element of a family
-abbrev pub wanted_of : Option Family → Operand → List Fault
+abbrev pub wanted_of : Option Family → SetOperand → List Fault
 wanted_of None x = []
 wanted_of (Some f) x = wanted f.value x
 
+-- a comparison other than `=` and `~=`
 abbrev pub is_order : Op → Bool
 is_order Equal = false
 is_order Differ = false
@@ -93,10 +98,11 @@ abbrev pub is_unordered : Option SetInfo → Bool
 is_unordered None = false
 is_unordered (Some info) = not info.ordered
 
-abbrev pub lacks_order : List SetInfo → Option Kind → Bool
+-- a value of a scalarset
+abbrev pub lacks_order : List SetInfo → Option FlatKind → Bool
 lacks_order sets (Some (set_type set)) = is_unordered (slice_get sets set)
 lacks_order sets _ = false
 
 -- a value of a scalarset beside an order
-abbrev pub disordered : List SetInfo → Op → Operand → List Fault
+abbrev pub disordered : List SetInfo → Op → SetOperand → List Fault
 disordered sets op x = if is_order op && lacks_order sets x.kind then record { number = 21; at = x.at } ∷ [] else []

@@ -18,6 +18,7 @@ use Rattle.smv_mentions.specs.NameFaults.{place_if}
 use Rattle.smv_mentions.specs.FirstFault.{faults_at, first_of}
 use Rattle.law_designs.specs.WholeText.{is_one_layer, claims_of}
 use Rattle.law_designs.specs.Standing.{Statement, statements_of, Standing, standing, standing_in, assigned_by}
+use Rattle.smv_core.specs.Rows.{one_flat_stmt}
 
 -- the indexes of the two left sides, side by side
 abbrev pub beside : Standing → Standing → List (Index × Index)
@@ -54,12 +55,12 @@ module _ (layer : Option ℕ) where
     -- the places of the later ones of two conflicting assignments of a statement of a layer, inside these `forall` variables
     pub conflicts : List ℕ → FlatStmt → List ℕ
     conflicts around (Assign kind family left value at) = []
-    conflicts around (If' cond l (more_of-FlatStmt left end_of-FlatStmt) r (more_of-FlatStmt right end_of-FlatStmt)) =
+    conflicts around (If' cond l (one_flat_stmt left) r (one_flat_stmt right)) =
         conflicts around left ++ conflicts around right ++ later_places (cross around) (standing layer around left) (standing layer around right)
     conflicts around (Block' shape parts) = conflicts_in around parts
-    conflicts around (Default' l (more_of-FlatStmt left end_of-FlatStmt) r (more_of-FlatStmt right end_of-FlatStmt)) =
+    conflicts around (Default' l (one_flat_stmt left) r (one_flat_stmt right)) =
         conflicts around left ++ conflicts around right ++ later_places (cross around) (standing layer around left) (standing layer around right)
-    conflicts around (Forall' var over shape (more_of-FlatStmt body end_of-FlatStmt)) = conflicts (var ∷ around) body
+    conflicts around (Forall' var over shape (one_flat_stmt body)) = conflicts (var ∷ around) body
 
     pub conflicts_in : {m : _} → List ℕ → Row_of-FlatStmt m → List ℕ
     conflicts_in around end_of-FlatStmt = []

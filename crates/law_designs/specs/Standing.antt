@@ -7,6 +7,7 @@ use Rattle.smv_core.specs.declared.flat.FlatItem.TheVariants as item
 use Rattle.smv_core.specs.declared.flat.FlatExpr.{FlatExpr}
 use Rattle.smv_core.specs.declared.flat.FlatStmt.{FlatStmt, Assign, If', Block', Default', Forall', Row_of-FlatStmt, end_of-FlatStmt, more_of-FlatStmt}
 use Rattle.law_designs.specs.Flattening.{flat_assignments}
+use Rattle.smv_core.specs.Rows.{one_flat_stmt}
 
 -- ---- statements
 
@@ -46,10 +47,10 @@ module _ (layer : Option ℕ) where
     -- the assignments of a statement of a layer in flat order, inside these `forall` variables
     pub standing : List ℕ → FlatStmt → List Standing
     standing around (Assign kind family left value at) = record { layer = layer; kind = kind; family = family; left = left; around = around; at = at } ∷ []
-    standing around (If' cond l (more_of-FlatStmt left end_of-FlatStmt) r (more_of-FlatStmt right end_of-FlatStmt)) = standing around left ++ standing around right
+    standing around (If' cond l (one_flat_stmt left) r (one_flat_stmt right)) = standing around left ++ standing around right
     standing around (Block' shape parts) = standing_in around parts
-    standing around (Default' l (more_of-FlatStmt left end_of-FlatStmt) r (more_of-FlatStmt right end_of-FlatStmt)) = standing around left ++ standing around right
-    standing around (Forall' var over shape (more_of-FlatStmt body end_of-FlatStmt)) = standing (var ∷ around) body
+    standing around (Default' l (one_flat_stmt left) r (one_flat_stmt right)) = standing around left ++ standing around right
+    standing around (Forall' var over shape (one_flat_stmt body)) = standing (var ∷ around) body
 
     pub standing_in : {m : _} → List ℕ → Row_of-FlatStmt m → List Standing
     standing_in around end_of-FlatStmt = []

@@ -17,6 +17,7 @@ use Rattle.smv_core.specs.declared.flat.FlatMember as member
 use Rattle.smv_core.specs.declared.flat.FlatStmt.{FlatStmt}
 use Rattle.smv_core.specs.declared.flat.FlatStmt as act
 use Rattle.law_designs.specs.Numbers.{Scope, bound_in, flat_over, family_number, flat_path}
+use Rattle.smv_core.specs.Rows.{one_expr, one_stmt}
 
 -- ---- where an expression begins
 
@@ -29,12 +30,12 @@ abbrev mutual
   first_token (And' shape parts) = first_token_of parts
   first_token (Or' shape parts) = first_token_of parts
   first_token (Implies' shape parts) = first_token_of parts
-  first_token (Iff' l (more_of-Expr left end_of-Expr) r right) = first_token left
-  first_token (Compare' op l (more_of-Expr left end_of-Expr) r right) = first_token left
-  first_token (Within' l (more_of-Expr left end_of-Expr) r set) = first_token left
-  first_token (Sum' f (more_of-Expr first end_of-Expr) shape more) = first_token first
-  first_token (Modulo' shape (more_of-Expr e end_of-Expr) by at) = first_token e
-  first_token (Choose' c (more_of-Expr cond end_of-Expr) l left r right) = first_token cond
+  first_token (Iff' l (one_expr left) r right) = first_token left
+  first_token (Compare' op l (one_expr left) r right) = first_token left
+  first_token (Within' l (one_expr left) r set) = first_token left
+  first_token (Sum' f (one_expr first) shape more) = first_token first
+  first_token (Modulo' shape (one_expr e) by at) = first_token e
+  first_token (Choose' c (one_expr cond) l left r right) = first_token cond
   first_token (All' shape body var over at) = at
   first_token (Any' shape body var over at) = at
   first_token (List' shape members at) = at
@@ -57,18 +58,18 @@ module _ (scope : Scope) where
     pub flat_expr : Around → Expr → FlatExpr
     flat_expr vars (Number value at) = flat.Number value at
     flat_expr vars (Signal' shape parts at) = flat_path scope vars (fields_of (items-the_row-Part _ parts)) (flat_indexes vars parts) at
-    flat_expr vars (Not' shape (more_of-Expr e end_of-Expr) at) = flat.Not (flat_expr vars e) at
+    flat_expr vars (Not' shape (one_expr e) at) = flat.Not (flat_expr vars e) at
     flat_expr vars (And' shape parts) = flat.And (flat_row vars parts)
     flat_expr vars (Or' shape parts) = flat.Or (flat_row vars parts)
     flat_expr vars (Implies' shape parts) = flat.Implies (flat_row vars parts)
-    flat_expr vars (Iff' l (more_of-Expr left end_of-Expr) r (more_of-Expr right end_of-Expr)) = flat.Iff (flat_expr vars left) (flat_expr vars right)
-    flat_expr vars (Compare' op l (more_of-Expr left end_of-Expr) r (more_of-Expr right end_of-Expr)) = flat.Compare op (flat_expr vars left) (flat_expr vars right)
-    flat_expr vars (Within' l (more_of-Expr left end_of-Expr) r (more_of-Expr set end_of-Expr)) = flat.Within (flat_expr vars left) (flat_expr vars set)
-    flat_expr vars (Sum' f (more_of-Expr first end_of-Expr) shape more) = flat.Sum (flat_expr vars first) (flat_signed vars more)
-    flat_expr vars (Modulo' shape (more_of-Expr e end_of-Expr) by at) = flat.Modulo (flat_expr vars e) by at
-    flat_expr vars (Choose' c (more_of-Expr cond end_of-Expr) l (more_of-Expr left end_of-Expr) r (more_of-Expr right end_of-Expr)) = flat.Choose (flat_expr vars cond) (flat_expr vars left) (flat_expr vars right)
-    flat_expr vars (All' shape (more_of-Expr body end_of-Expr) var over at) = flat.All (flat_expr ((var.name, any) ∷ vars) body) (bound_in vars) (flat_over scope over) at
-    flat_expr vars (Any' shape (more_of-Expr body end_of-Expr) var over at) = flat.Any (flat_expr ((var.name, any) ∷ vars) body) (bound_in vars) (flat_over scope over) at
+    flat_expr vars (Iff' l (one_expr left) r (one_expr right)) = flat.Iff (flat_expr vars left) (flat_expr vars right)
+    flat_expr vars (Compare' op l (one_expr left) r (one_expr right)) = flat.Compare op (flat_expr vars left) (flat_expr vars right)
+    flat_expr vars (Within' l (one_expr left) r (one_expr set)) = flat.Within (flat_expr vars left) (flat_expr vars set)
+    flat_expr vars (Sum' f (one_expr first) shape more) = flat.Sum (flat_expr vars first) (flat_signed vars more)
+    flat_expr vars (Modulo' shape (one_expr e) by at) = flat.Modulo (flat_expr vars e) by at
+    flat_expr vars (Choose' c (one_expr cond) l (one_expr left) r (one_expr right)) = flat.Choose (flat_expr vars cond) (flat_expr vars left) (flat_expr vars right)
+    flat_expr vars (All' shape (one_expr body) var over at) = flat.All (flat_expr ((var.name, any) ∷ vars) body) (bound_in vars) (flat_over scope over) at
+    flat_expr vars (Any' shape (one_expr body) var over at) = flat.Any (flat_expr ((var.name, any) ∷ vars) body) (bound_in vars) (flat_over scope over) at
     flat_expr vars (List' shape members at) = flat.List (flat_members vars members) at
     flat_expr vars (Each' var over cond at) = flat.Each (bound_in vars) (flat_over scope over) (flat_condition ((var.name, any) ∷ vars) cond) at
 
@@ -97,7 +98,7 @@ module _ (scope : Scope) where
     -- the condition of a comprehension, or none
     pub flat_condition : Around → Held-Expr-Each-2 → Option FlatExpr
     flat_condition vars None' = None
-    flat_condition vars (Some' shape (more_of-Expr cond end_of-Expr)) = Some (flat_expr vars cond)
+    flat_condition vars (Some' shape (one_expr cond)) = Some (flat_expr vars cond)
 
   -- ---- statements
 
@@ -111,11 +112,11 @@ module _ (scope : Scope) where
     flat_stmt vars (Assign kind left value at) =
         act.Assign kind (family_number scope (scope.instance ++ fields_of (out-Path left).parts)) (map (flat_expr vars) (indexes_of (out-Path left).parts)) (flat_expr vars value) at
     flat_stmt vars (Block' shape parts) = act.Block (flat_parts vars parts)
-    flat_stmt vars (If' cond l (more_of-Stmt left end_of-Stmt) right at) = act.If (flat_expr vars cond) (flat_stmt vars left) (flat_branch vars right)
+    flat_stmt vars (If' cond l (one_stmt left) right at) = act.If (flat_expr vars cond) (flat_stmt vars left) (flat_branch vars right)
     flat_stmt vars (Switch' on shape arms other at) = flat_arms vars arms (flat_expr vars on) (flat_branch vars other)
-    flat_stmt vars (Default' l (more_of-Stmt left end_of-Stmt) r (more_of-Stmt right end_of-Stmt) at) = act.Default (flat_stmt vars left) (flat_stmt vars right)
-    flat_stmt vars (For' var from to closed step shape (more_of-Stmt body end_of-Stmt) at) = act.Block (map (λ n. flat_stmt ((var.name, loop n) ∷ vars) body) (steps_of from to closed step))
-    flat_stmt vars (Forall' var over shape (more_of-Stmt body end_of-Stmt) at) = act.Forall (bound_in vars) (flat_over scope over) (flat_stmt ((var.name, any) ∷ vars) body)
+    flat_stmt vars (Default' l (one_stmt left) r (one_stmt right) at) = act.Default (flat_stmt vars left) (flat_stmt vars right)
+    flat_stmt vars (For' var from to closed step shape (one_stmt body) at) = act.Block (map (λ n. flat_stmt ((var.name, loop n) ∷ vars) body) (steps_of from to closed step))
+    flat_stmt vars (Forall' var over shape (one_stmt body) at) = act.Forall (bound_in vars) (flat_over scope over) (flat_stmt ((var.name, any) ∷ vars) body)
 
     -- the parts of a block
     pub flat_parts : {m : _} → Around → Row_of-Stmt m → List FlatStmt
@@ -125,7 +126,7 @@ module _ (scope : Scope) where
     -- an `else` or a `default`, or none
     pub flat_branch : Around → Held-Stmt-If-2 → FlatStmt
     flat_branch vars stmt.None' = nothing
-    flat_branch vars (stmt.Some' shape (more_of-Stmt part end_of-Stmt)) = flat_stmt vars part
+    flat_branch vars (stmt.Some' shape (one_stmt part)) = flat_stmt vars part
 
     -- each arm of a `switch` is an `If`, which asks whether the value is one of the labels; the next arm is its `else`
     pub flat_arms : {m : _} → Around → Row_of-Arm m → FlatExpr → FlatStmt → FlatStmt

@@ -7,12 +7,13 @@ use Rattle.smv_core.specs.declared.tree.Span.{Span}
 use Rattle.smv_core.specs.declared.tree.Word.{Word}
 use Rattle.smv_core.specs.declared.tree.Top.{Top}
 use Rattle.smv_core.specs.declared.tree.Top.TheVariants.{SetType, Alias, Module}
-use Rattle.smv_core.specs.declared.tree.TypeExpr.{TypeExpr, Boolean, Range, Enum, Named, Array', Struct', end_of-TypeExpr, more_of-TypeExpr, Row_of-Field, end_of-Field, more_of-Field}
+use Rattle.smv_core.specs.declared.tree.TypeExpr.{TypeExpr, Boolean, Range, Enum, Named, Array', Struct', Row_of-Field, end_of-Field, more_of-Field}
 use Rattle.smv_core.specs.declared.tree.Part.{Part, Field, At}
 use Rattle.smv_mentions.specs.Scopes.{has_name}
 use Rattle.smv_mentions.specs.NameFaults.{place_if}
 use Rattle.smv_mentions.specs.FirstFault.{faults_at}
 use Rattle.law_designs.specs.Kinds.{Kind, number, enumeration, set_type, no_kind}
+use Rattle.smv_core.specs.Rows.{one_type}
 
 -- ---- references
 
@@ -53,7 +54,7 @@ module _ (types : Types) where
     leads (Range span at) parts = single number parts
     leads (Enum names at) parts = single (enumeration (names_of names)) parts
     leads (Named word at) parts = option_and_then (λ named. named parts) (find_name types word.name)
-    leads (Array' i (more_of-TypeExpr index end_of-TypeExpr) o (more_of-TypeExpr of end_of-TypeExpr)) (At e ∷ parts) =
+    leads (Array' i (one_type index) o (one_type of)) (At e ∷ parts) =
         option_map (under (value_kind (leads index []))) (leads of parts)
     leads (Struct' shape fields) (Field word ∷ parts) = leads_field fields word parts
     leads _ _ = None
@@ -104,7 +105,7 @@ module _ (types : Types) where
     -- the faults in a type
     pub type_faults : TypeExpr → List Fault
     type_faults (Range span at) = range_faults span at
-    type_faults (Array' i (more_of-TypeExpr index end_of-TypeExpr) o (more_of-TypeExpr of end_of-TypeExpr)) = index_faults index ++ type_faults of
+    type_faults (Array' i (one_type index) o (one_type of)) = index_faults index ++ type_faults of
     type_faults (Struct' shape fields) = field_faults fields
     type_faults _ = []
 

@@ -5,7 +5,7 @@ use Rattle.smv_core.specs.Walk.{indexes_of}
 use Rattle.smv_core.specs.declared.tree.Path.{out-Path}
 use Rattle.smv_core.specs.declared.tree.Part.{Field, At}
 use Rattle.smv_core.specs.declared.tree.Member.{One, Span as SpanOf}
-use Rattle.smv_core.specs.declared.tree.TypeExpr.{TypeExpr, Enum, Array', Struct', end_of-TypeExpr, more_of-TypeExpr, Row_of-Field, end_of-Field, more_of-Field}
+use Rattle.smv_core.specs.declared.tree.TypeExpr.{TypeExpr, Enum, Array', Struct', Row_of-Field, end_of-Field, more_of-Field}
 use Rattle.smv_core.specs.declared.tree.Expr.{Expr, Number, Signal', Not', And', Or', Implies', Iff', Compare', Within', Sum', Modulo', Choose', All', Any', List', Each', Held-Expr-Each-2, None', Some', Row_of-Expr, end_of-Expr, more_of-Expr, Row_of-Part, end_of-Part, more_of-Part, Row_of-Member, end_of-Member, more_of-Member, Row_of-Signed, end_of-Signed, more_of-Signed}
 use Rattle.smv_core.specs.declared.tree.Stmt.{Stmt, Assign, Block', If', Switch', Default', For', Forall', Held-Stmt-If-2, Row_of-Stmt, end_of-Stmt, more_of-Stmt, Row_of-Arm, end_of-Arm, more_of-Arm}
 use Rattle.smv_core.specs.declared.tree.Stmt as stmt
@@ -16,6 +16,7 @@ use Rattle.smv_core.specs.declared.tree.Top.{Top}
 use Rattle.smv_core.specs.declared.tree.Top.TheVariants.{SetType, Alias, Module}
 use Rattle.smv_core.specs.declared.tree.Text.{Text}
 use Rattle.law_designs.specs.Agreement.{IsIndexType}
+use Rattle.smv_core.specs.Rows.{one_expr, one_stmt, one_type}
 
 -- ---- lists
 
@@ -29,7 +30,7 @@ HasOne (x ∷ xs) = Unit {0}
 abbrev mutual
   -- each array in a type has an index type, and each enumeration a constant
   pub TypeIsWritten : TypeExpr → Type 0
-  TypeIsWritten (Array' i (more_of-TypeExpr index end_of-TypeExpr) o (more_of-TypeExpr of end_of-TypeExpr)) = IsIndexType index × TypeIsWritten of
+  TypeIsWritten (Array' i (one_type index) o (one_type of)) = IsIndexType index × TypeIsWritten of
   TypeIsWritten (Enum names at) = HasOne names
   TypeIsWritten (Struct' shape fields) = FieldsAreWritten fields
   TypeIsWritten _ = Unit {0}
@@ -56,18 +57,18 @@ abbrev mutual
   pub IsWritten : Expr → Type 0
   IsWritten (Number value at) = Unit {0}
   IsWritten (Signal' shape parts at) = IndexesAreWritten parts
-  IsWritten (Not' shape (more_of-Expr e end_of-Expr) at) = IsWritten e
+  IsWritten (Not' shape (one_expr e) at) = IsWritten e
   IsWritten (And' shape parts) = PartsAreWritten parts
   IsWritten (Or' shape parts) = PartsAreWritten parts
   IsWritten (Implies' shape parts) = PartsAreWritten parts
-  IsWritten (Iff' l (more_of-Expr left end_of-Expr) r (more_of-Expr right end_of-Expr)) = IsWritten left × IsWritten right
-  IsWritten (Compare' op l (more_of-Expr left end_of-Expr) r (more_of-Expr right end_of-Expr)) = IsWritten left × IsWritten right
-  IsWritten (Within' l (more_of-Expr left end_of-Expr) r (more_of-Expr set end_of-Expr)) = IsWritten left × IsWritten set × IsSet set
-  IsWritten (Sum' f (more_of-Expr first end_of-Expr) shape more) = IsWritten first × TermsAreWritten more
-  IsWritten (Modulo' shape (more_of-Expr e end_of-Expr) by at) = IsWritten e
-  IsWritten (Choose' c (more_of-Expr cond end_of-Expr) l (more_of-Expr left end_of-Expr) r (more_of-Expr right end_of-Expr)) = IsWritten cond × IsWritten left × IsWritten right
-  IsWritten (All' shape (more_of-Expr body end_of-Expr) var over at) = IsWritten body × IsIndexType over
-  IsWritten (Any' shape (more_of-Expr body end_of-Expr) var over at) = IsWritten body × IsIndexType over
+  IsWritten (Iff' l (one_expr left) r (one_expr right)) = IsWritten left × IsWritten right
+  IsWritten (Compare' op l (one_expr left) r (one_expr right)) = IsWritten left × IsWritten right
+  IsWritten (Within' l (one_expr left) r (one_expr set)) = IsWritten left × IsWritten set × IsSet set
+  IsWritten (Sum' f (one_expr first) shape more) = IsWritten first × TermsAreWritten more
+  IsWritten (Modulo' shape (one_expr e) by at) = IsWritten e
+  IsWritten (Choose' c (one_expr cond) l (one_expr left) r (one_expr right)) = IsWritten cond × IsWritten left × IsWritten right
+  IsWritten (All' shape (one_expr body) var over at) = IsWritten body × IsIndexType over
+  IsWritten (Any' shape (one_expr body) var over at) = IsWritten body × IsIndexType over
   IsWritten (List' shape members at) = HasMember members × MembersAreWritten members
   IsWritten (Each' var over cond at) = ConditionIsWritten cond × IsIndexType over
 
@@ -91,7 +92,7 @@ abbrev mutual
 
   pub ConditionIsWritten : Held-Expr-Each-2 → Type 0
   ConditionIsWritten None' = Unit {0}
-  ConditionIsWritten (Some' shape (more_of-Expr cond end_of-Expr)) = IsWritten cond
+  ConditionIsWritten (Some' shape (one_expr cond)) = IsWritten cond
 
 abbrev pub AreWritten : List Expr → Type 0
 AreWritten es = AllByRecursion IsWritten es
@@ -103,11 +104,11 @@ abbrev mutual
   pub StatementIsWritten : Stmt → Type 0
   StatementIsWritten (Assign kind left value at) = AreWritten (indexes_of (out-Path left).parts) × IsWritten value
   StatementIsWritten (Block' shape parts) = StatementsAreWritten parts
-  StatementIsWritten (If' cond l (more_of-Stmt left end_of-Stmt) right at) = IsWritten cond × StatementIsWritten left × BranchIsWritten right
+  StatementIsWritten (If' cond l (one_stmt left) right at) = IsWritten cond × StatementIsWritten left × BranchIsWritten right
   StatementIsWritten (Switch' on shape arms other at) = IsWritten on × ArmsAreWritten arms × BranchIsWritten other
-  StatementIsWritten (Default' l (more_of-Stmt left end_of-Stmt) r (more_of-Stmt right end_of-Stmt) at) = StatementIsWritten left × StatementIsWritten right
-  StatementIsWritten (For' var from to closed step shape (more_of-Stmt body end_of-Stmt) at) = StatementIsWritten body
-  StatementIsWritten (Forall' var over shape (more_of-Stmt body end_of-Stmt) at) = StatementIsWritten body × IsIndexType over
+  StatementIsWritten (Default' l (one_stmt left) r (one_stmt right) at) = StatementIsWritten left × StatementIsWritten right
+  StatementIsWritten (For' var from to closed step shape (one_stmt body) at) = StatementIsWritten body
+  StatementIsWritten (Forall' var over shape (one_stmt body) at) = StatementIsWritten body × IsIndexType over
 
   pub StatementsAreWritten : {m : _} → Row_of-Stmt m → Type 0
   StatementsAreWritten end_of-Stmt = Unit {0}
@@ -115,7 +116,7 @@ abbrev mutual
 
   pub BranchIsWritten : Held-Stmt-If-2 → Type 0
   BranchIsWritten stmt.None' = Unit {0}
-  BranchIsWritten (stmt.Some' shape (more_of-Stmt part end_of-Stmt)) = StatementIsWritten part
+  BranchIsWritten (stmt.Some' shape (one_stmt part)) = StatementIsWritten part
 
   pub ArmsAreWritten : {m : _} → Row_of-Arm m → Type 0
   ArmsAreWritten end_of-Arm = Unit {0}

@@ -7,7 +7,7 @@ use Rattle.smv_core.specs.declared.flat.Def.{Def}
 use Rattle.smv_core.specs.declared.flat.Family.{Family}
 use Rattle.smv_core.specs.declared.flat.DefBody.{DefBody, Nothing, Assign, If', First', Forall', Row_of-DefBody, end_of-DefBody, more_of-DefBody}
 use Rattle.smv_core.specs.declared.flat.FlatMember.{One, Span as SpanOf}
-use Rattle.smv_core.specs.declared.flat.FlatExpr.{FlatExpr, Choose', List', Each', end_of-FlatExpr, more_of-FlatExpr, Row_of-FlatMember, end_of-FlatMember, more_of-FlatMember}
+use Rattle.smv_core.specs.declared.flat.FlatExpr.{FlatExpr, Choose', List', Each', Row_of-FlatMember, end_of-FlatMember, more_of-FlatMember}
 use Rattle.smv_core.specs.declared.abstract_type.AbsType.{AbsType}
 use Rattle.smv_core.specs.declared.abstract_type.Rest.TheVariants as beside
 use Rattle.law_obligations.specs.Sets.{Has}
@@ -15,6 +15,7 @@ use Rattle.law_obligations.specs.Places.{named, World, world}
 use Rattle.law_obligations.specs.May.{AbsState, Kept}
 use Rattle.law_obligations.specs.Cones.{AbsElement}
 use Rattle.law_obligations.specs.Whole.{IsWholeFlat}
+use Rattle.smv_core.specs.Rows.{one_flat_expr}
 
 -- each set type has its values as classes, and nothing beside them
 abbrev pub whole : Sizes → Name → AbsType
@@ -43,7 +44,7 @@ abbrev mutual
   pub IsNoSet : FlatExpr → Type 0
   IsNoSet (List' shape members at) = ⊥
   IsNoSet (Each' var over cond at) = ⊥
-  IsNoSet (Choose' c cond l (more_of-FlatExpr left end_of-FlatExpr) r (more_of-FlatExpr right end_of-FlatExpr)) = IsNoSet left × IsNoSet right
+  IsNoSet (Choose' c cond l (one_flat_expr left) r (one_flat_expr right)) = IsNoSet left × IsNoSet right
   IsNoSet _ = Unit {0}
 
 -- the members of a listed set are no sets, and there is one at least
@@ -60,7 +61,7 @@ HasMember (more_of-FlatMember (SpanOf span at) others) = span.low ≤ span.high
 -- a right side: a set, or what is none, also as branches
 abbrev pub IsSide : FlatExpr → Type 0
 IsSide (List' shape members at) = HasMember members × AreNoSets members
-IsSide (Choose' c cond l (more_of-FlatExpr left end_of-FlatExpr) r (more_of-FlatExpr right end_of-FlatExpr)) = IsSide left × IsSide right
+IsSide (Choose' c cond l (one_flat_expr left) r (one_flat_expr right)) = IsSide left × IsSide right
 IsSide _ = Unit {0}
 
 -- a variable that stands alone as an index is one of so many that are bound

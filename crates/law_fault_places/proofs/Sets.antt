@@ -14,8 +14,8 @@ use Rattle.smv_core.specs.declared.flat.FlatStmt.{FlatStmt, Assign, If', Block',
 use Rattle.smv_core.specs.declared.flat.FlatItem.{FlatItem}
 use Rattle.smv_core.specs.declared.flat.FlatItem.TheVariants as item
 use Rattle.smv_core.specs.declared.flat.FlatText.{FlatText}
-use Rattle.law_designs.specs.FlatKinds.{Kind, Vars, inside, value_in, bound_by, kind_of}
-use Rattle.law_designs.specs.SetOperands.{first_at, first_at_of, Operand, is_number, is_of_set, number_fault, met, wanted, wanted_at, wanted_of, is_order, lacks_order, disordered}
+use Rattle.law_designs.specs.FlatKinds.{FlatKind, FlatVars, inside, value_in, bound_by, kind_of}
+use Rattle.law_designs.specs.SetOperands.{first_at, first_at_of, SetOperand, is_number, is_of_set, number_fault, met, wanted, wanted_at, wanted_of, is_order, lacks_order, disordered}
 use Rattle.law_designs.specs.SetFaults.{operand, operands, members_of, listed, faults_in, faults_each, faults_signed, faults_members, faults_held, faults_of, faults_of_each, item_faults, faults_of_sets, first_fault_of_sets}
 use Rattle.law_designs.proofs.Faultless.{each-map}
 use Rattle.law_fault_places.specs.FaultPlaces.{IsFaultOf}
@@ -64,69 +64,69 @@ module _ (n : ℕ) where
 
   -- ---- operands
 
-  abbrev OperandIsWithin : Operand → Type 0
+  abbrev OperandIsWithin : SetOperand → Type 0
   OperandIsWithin x = x.at ≤ n
 
-  abbrev OperandsAreWithin : List Operand → Type 0
+  abbrev OperandsAreWithin : List SetOperand → Type 0
   OperandsAreWithin xs = AllByRecursion OperandIsWithin xs
 
-  number-within : (x : Operand) → OperandIsWithin x → IsWithin (number_fault x)
+  number-within : (x : SetOperand) → OperandIsWithin x → IsWithin (number_fault x)
   number-within x h = record { number = by x.is_loop; place = h }
     where
       by : (b : Bool) → list_any (nat_eq (cond b 22 21)) numbers_of_sets ≡ true
       by true = refl
       by false = refl
 
-  met-within : (xs : List Operand) → OperandsAreWithin xs → AreWithin (met xs)
-  met-within xs h = by (list_any (λ (x : Operand). is_of_set x.kind) xs)
+  met-within : (xs : List SetOperand) → OperandsAreWithin xs → AreWithin (met xs)
+  met-within xs h = by (list_any (λ (x : SetOperand). is_of_set x.kind) xs)
     where
-      by : (b : Bool) → AreWithin (cond b (map number_fault (filter (λ (x : Operand). is_number x.kind) xs)) [])
-      by true = each-map OperandIsWithin IsWithin number_fault number-within (filter (λ (x : Operand). is_number x.kind) xs) (each_filter OperandIsWithin (λ (x : Operand). is_number x.kind) xs h)
+      by : (b : Bool) → AreWithin (cond b (map number_fault (filter (λ (x : SetOperand). is_number x.kind) xs)) [])
+      by true = each-map OperandIsWithin IsWithin number_fault number-within (filter (λ (x : SetOperand). is_number x.kind) xs) (each_filter OperandIsWithin (λ (x : SetOperand). is_number x.kind) xs h)
       by false = tt
 
-  wanted-within : (t : Simple) (x : Operand) → OperandIsWithin x → AreWithin (wanted t x)
+  wanted-within : (t : Simple) (x : SetOperand) → OperandIsWithin x → AreWithin (wanted t x)
   wanted-within t x h = by (is_of_set (Some (kind_of t)) && is_number x.kind)
     where
       by : (b : Bool) → AreWithin (cond b (number_fault x ∷ []) [])
       by true = (number-within x h, tt)
       by false = tt
 
-  wanted_at-within : (o : Option Family) (xs : List Operand) → OperandsAreWithin xs → AreWithin (wanted_at o xs)
+  wanted_at-within : (o : Option Family) (xs : List SetOperand) → OperandsAreWithin xs → AreWithin (wanted_at o xs)
   wanted_at-within None xs h = tt
-  wanted_at-within (Some f) xs h = each_flat_map (λ (p : Simple × Operand). OperandIsWithin p.1) IsWithin (λ (p : Simple × Operand). wanted p.0 p.1) (λ p own. wanted-within p.0 p.1 own) (zip f.over xs) (zipped-all OperandIsWithin f.over xs h)
+  wanted_at-within (Some f) xs h = each_flat_map (λ (p : Simple × SetOperand). OperandIsWithin p.1) IsWithin (λ (p : Simple × SetOperand). wanted p.0 p.1) (λ p own. wanted-within p.0 p.1 own) (zip f.over xs) (zipped-all OperandIsWithin f.over xs h)
 
-  wanted_of-within : (o : Option Family) (x : Operand) → OperandIsWithin x → AreWithin (wanted_of o x)
+  wanted_of-within : (o : Option Family) (x : SetOperand) → OperandIsWithin x → AreWithin (wanted_of o x)
   wanted_of-within None x h = tt
   wanted_of-within (Some f) x h = wanted-within f.value x h
 
-  disordered-within : (sets : List SetInfo) (op : Op) (x : Operand) → OperandIsWithin x → AreWithin (disordered sets op x)
+  disordered-within : (sets : List SetInfo) (op : Op) (x : SetOperand) → OperandIsWithin x → AreWithin (disordered sets op x)
   disordered-within sets op x h = by (is_order op && lacks_order sets x.kind)
     where
       by : (b : Bool) → AreWithin (cond b (record { number = 21; at = x.at } ∷ []) [])
       by true = (record { number = refl; place = h }, tt)
       by false = tt
 
-  module _ (flat_text : FlatText) (kind_at : Vars → FlatExpr → Option Kind) where
-    operands-within : {m : _} (vars : Vars) (row : Row_of-FlatExpr m) → FlatRowIsWithin n row → OperandsAreWithin (operands flat_text kind_at vars row)
+  module _ (flat_text : FlatText) (kind_at : FlatVars → FlatExpr → Option FlatKind) where
+    operands-within : {m : _} (vars : FlatVars) (row : Row_of-FlatExpr m) → FlatRowIsWithin n row → OperandsAreWithin (operands flat_text kind_at vars row)
     operands-within vars end_of-FlatExpr h = tt
     operands-within vars (more_of-FlatExpr e others) h = (first-place e h.0, operands-within vars others h.1)
 
-    members-within : {m : _} (vars : Vars) (row : Row_of-FlatMember m) → FlatMembersAreWithin n row → OperandsAreWithin (members_of flat_text kind_at vars row)
+    members-within : {m : _} (vars : FlatVars) (row : Row_of-FlatMember m) → FlatMembersAreWithin n row → OperandsAreWithin (members_of flat_text kind_at vars row)
     members-within vars end_of-FlatMember h = tt
     members-within vars (more_of-FlatMember (One e) others) h = (first-place e h.0, members-within vars others h.1)
     members-within vars (more_of-FlatMember (SpanOf span at) others) h = (h.0, members-within vars others h.1)
 
-    listed-within : (vars : Vars) (e : FlatExpr) → FlatExprIsWithin n e → OperandsAreWithin (listed flat_text kind_at vars e)
+    listed-within : (vars : FlatVars) (e : FlatExpr) → FlatExprIsWithin n e → OperandsAreWithin (listed flat_text kind_at vars e)
     listed-within vars (List' shape members at) h = members-within vars members h.1
     listed-within vars _ h = tt
 
     -- ---- expressions
 
-    abbrev of : Vars → FlatExpr → List Fault
+    abbrev of : FlatVars → FlatExpr → List Fault
     of = faults_in flat_text kind_at
 
     mutual
-      in-within : (vars : Vars) (e : FlatExpr) → FlatExprIsWithin n e → AreWithin (of vars e)
+      in-within : (vars : FlatVars) (e : FlatExpr) → FlatExprIsWithin n e → AreWithin (of vars e)
       in-within vars (Number value at) h = tt
       in-within vars (Read' family shape indexes at) h =
           both (faults_each flat_text kind_at vars indexes) (wanted_at (slice_get flat_text.families family) (operands flat_text kind_at vars indexes)) (each-within vars indexes h.1)
@@ -162,30 +162,30 @@ module _ (n : ℕ) where
           both (faults_members flat_text kind_at vars members) (met (members_of flat_text kind_at vars members)) (faults_members-within vars members h.1) (met-within (members_of flat_text kind_at vars members) (members-within vars members h.1))
       in-within vars (Each' var over cond at) h = held-within (inside vars over) cond h.1
 
-      each-within : {m : _} (vars : Vars) (row : Row_of-FlatExpr m) → FlatRowIsWithin n row → AreWithin (faults_each flat_text kind_at vars row)
+      each-within : {m : _} (vars : FlatVars) (row : Row_of-FlatExpr m) → FlatRowIsWithin n row → AreWithin (faults_each flat_text kind_at vars row)
       each-within vars end_of-FlatExpr h = tt
       each-within vars (more_of-FlatExpr e others) h = both (of vars e) (faults_each flat_text kind_at vars others) (in-within vars e h.0) (each-within vars others h.1)
 
-      signed-within : {m : _} (vars : Vars) (row : Row_of-FlatSigned m) → FlatTermsAreWithin n row → AreWithin (faults_signed flat_text kind_at vars row)
+      signed-within : {m : _} (vars : FlatVars) (row : Row_of-FlatSigned m) → FlatTermsAreWithin n row → AreWithin (faults_signed flat_text kind_at vars row)
       signed-within vars end_of-FlatSigned h = tt
       signed-within vars (more_of-FlatSigned minus e others) h = both (of vars e) (faults_signed flat_text kind_at vars others) (in-within vars e h.0) (signed-within vars others h.1)
 
-      faults_members-within : {m : _} (vars : Vars) (row : Row_of-FlatMember m) → FlatMembersAreWithin n row → AreWithin (faults_members flat_text kind_at vars row)
+      faults_members-within : {m : _} (vars : FlatVars) (row : Row_of-FlatMember m) → FlatMembersAreWithin n row → AreWithin (faults_members flat_text kind_at vars row)
       faults_members-within vars end_of-FlatMember h = tt
       faults_members-within vars (more_of-FlatMember (One e) others) h = both (of vars e) (faults_members flat_text kind_at vars others) (in-within vars e h.0) (faults_members-within vars others h.1)
       faults_members-within vars (more_of-FlatMember (SpanOf span at) others) h = faults_members-within vars others h.1
 
-      held-within : (vars : Vars) (cond : Held-FlatExpr-Each-2) → FlatConditionIsWithin n cond → AreWithin (faults_held flat_text kind_at vars cond)
+      held-within : (vars : FlatVars) (cond : Held-FlatExpr-Each-2) → FlatConditionIsWithin n cond → AreWithin (faults_held flat_text kind_at vars cond)
       held-within vars None' h = tt
       held-within vars (Some' shape (more_of-FlatExpr cond end_of-FlatExpr)) h = in-within vars cond h
 
     -- ---- statements
 
-    left-within : (vars : Vars) (es : List FlatExpr) → FlatExprsAreWithin n es → OperandsAreWithin (map (operand flat_text kind_at vars) es)
+    left-within : (vars : FlatVars) (es : List FlatExpr) → FlatExprsAreWithin n es → OperandsAreWithin (map (operand flat_text kind_at vars) es)
     left-within vars es h = each-map (FlatExprIsWithin n) OperandIsWithin (operand flat_text kind_at vars) first-place es h
 
     mutual
-      of-within : (vars : Vars) (act : FlatStmt) → ActIsWithin n act → AreWithin (faults_of flat_text kind_at vars act)
+      of-within : (vars : FlatVars) (act : FlatStmt) → ActIsWithin n act → AreWithin (faults_of flat_text kind_at vars act)
       of-within vars (Assign kind family left value at) h =
           let f = slice_get flat_text.families family in
           both ((flat_map (of vars) left) ++ (wanted_at f (map (operand flat_text kind_at vars) left)) ++ (of vars value)) (wanted_of f (operand flat_text kind_at vars value))
@@ -198,7 +198,7 @@ module _ (n : ℕ) where
           both (faults_of flat_text kind_at vars left) (faults_of flat_text kind_at vars right) (of-within vars left h.0) (of-within vars right h.1)
       of-within vars (Forall' var over shape (more_of-FlatStmt body end_of-FlatStmt)) h = of-within (inside vars over) body h
 
-      of_each-within : {m : _} (vars : Vars) (row : Row_of-FlatStmt m) → ActsAreWithin n row → AreWithin (faults_of_each flat_text kind_at vars row)
+      of_each-within : {m : _} (vars : FlatVars) (row : Row_of-FlatStmt m) → ActsAreWithin n row → AreWithin (faults_of_each flat_text kind_at vars row)
       of_each-within vars end_of-FlatStmt h = tt
       of_each-within vars (more_of-FlatStmt part rest) h = both (faults_of flat_text kind_at vars part) (faults_of_each flat_text kind_at vars rest) (of-within vars part h.0) (of_each-within vars rest h.1)
 

@@ -17,7 +17,7 @@ use Rattle.smv_mentions.specs.NameFaults.{place_if}
 use Rattle.law_designs.proofs.Faultless.{each-map}
 use Rattle.law_obligations.specs.Outlines.{unit_in}
 use Rattle.law_obligations.specs.Units.{units_of}
-use Rattle.law_splits.specs.Variables.{Reading, readings, readings_each, readings_signed, readings_members, readings_held}
+use Rattle.law_splits.specs.Variables.{Occurrence, readings, readings_each, readings_signed, readings_members, readings_held}
 use Rattle.law_splits.specs.Leaves.{named_by, with_name, name_of, own_params, splits_of, Cut, cut, all_params, onward}
 use Rattle.law_splits.specs.SplitFaults.{leads_to_unit, astray, split_again, names_one, bracketed, unbound, doubled, equations_of, not_in_one, not_new, is_of_kind, other_kind, is_stray, strays, miscounted, is_of_variables, same_type, other_type, misfits, mismatches, cuts, cuts_of, split_faults, faults_of_splits, first_fault_of_splits}
 use Rattle.law_fault_places.specs.TreePlaces.{WordIsWithin, WordsAreWithin}
@@ -36,11 +36,11 @@ module _ (n : ℕ) where
 
   -- ---- variables that are read
 
-  abbrev ReadingsAreWithin : List Reading → Type 0
-  ReadingsAreWithin rs = AllByRecursion (λ (r : Reading). r.at ≤ n) rs
+  abbrev ReadingsAreWithin : List Occurrence → Type 0
+  ReadingsAreWithin rs = AllByRecursion (λ (r : Occurrence). r.at ≤ n) rs
 
-  join : (xs ys : List Reading) → ReadingsAreWithin xs → ReadingsAreWithin ys → ReadingsAreWithin (xs ++ ys)
-  join xs ys h g = each_append (λ (r : Reading). r.at ≤ n) xs ys h g
+  join : (xs ys : List Occurrence) → ReadingsAreWithin xs → ReadingsAreWithin ys → ReadingsAreWithin (xs ++ ys)
+  join xs ys h g = each_append (λ (r : Occurrence). r.at ≤ n) xs ys h g
 
   mutual
     readings-within : (e : FlatExpr) → FlatExprIsWithin n e → ReadingsAreWithin (readings e)
@@ -116,9 +116,9 @@ module _ (n : ℕ) where
 
   strays-within : (s : FlatSplit) → AllByRecursion (FlatPairIsWithin n) s.pairs → AreUpTo n (strays s)
   strays-within s h =
-      each_flat_map (FlatPairIsWithin n) IsUpTo (λ (pair : FlatPair). map (λ (r : Reading). r.at) (filter (is_stray s) (readings pair.left)))
-      (λ pair own. each-map (λ (r : Reading). r.at ≤ n) IsUpTo (λ (r : Reading). r.at) (λ r le. le) (filter (is_stray s) (readings pair.left))
-      (each_filter (λ (r : Reading). r.at ≤ n) (is_stray s) (readings pair.left) (readings-within pair.left own.0))) s.pairs h
+      each_flat_map (FlatPairIsWithin n) IsUpTo (λ (pair : FlatPair). map (λ (r : Occurrence). r.at) (filter (is_stray s) (readings pair.left)))
+      (λ pair own. each-map (λ (r : Occurrence). r.at ≤ n) IsUpTo (λ (r : Occurrence). r.at) (λ r le. le) (filter (is_stray s) (readings pair.left))
+      (each_filter (λ (r : Occurrence). r.at ≤ n) (is_stray s) (readings pair.left) (readings-within pair.left own.0))) s.pairs h
 
   misfits-within : (families : List Family) (s : FlatSplit) → SplitIsWithin n s → AreUpTo n (misfits families s)
   misfits-within families s h =

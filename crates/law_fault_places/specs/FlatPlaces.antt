@@ -19,6 +19,7 @@ use Rattle.smv_core.specs.declared.flat.Design.{Design}
 use Rattle.law_designs.specs.Flattening.{flatten}
 use Rattle.law_designs.specs.Definitions.{design_of_flat_text}
 use Rattle.law_fault_places.specs.TreePlaces.{WordIsWithin, WordsAreWithin, RefIsWithin, UseIsWithin, TextIsWithin}
+use Rattle.smv_core.specs.Rows.{one_flat_expr, one_flat_stmt}
 
 module _ (n : ℕ) where
   -- ---- expressions
@@ -30,18 +31,18 @@ module _ (n : ℕ) where
     FlatExprIsWithin (Var var at) = at ≤ n
     FlatExprIsWithin (Loop value at) = at ≤ n
     FlatExprIsWithin (Constant list value at) = at ≤ n
-    FlatExprIsWithin (Not' shape (more_of-FlatExpr e end_of-FlatExpr) at) = (at ≤ n) × FlatExprIsWithin e
+    FlatExprIsWithin (Not' shape (one_flat_expr e) at) = (at ≤ n) × FlatExprIsWithin e
     FlatExprIsWithin (And' shape parts) = FlatRowIsWithin parts
     FlatExprIsWithin (Or' shape parts) = FlatRowIsWithin parts
     FlatExprIsWithin (Implies' shape parts) = FlatRowIsWithin parts
-    FlatExprIsWithin (Iff' l (more_of-FlatExpr left end_of-FlatExpr) r (more_of-FlatExpr right end_of-FlatExpr)) = FlatExprIsWithin left × FlatExprIsWithin right
-    FlatExprIsWithin (Compare' op l (more_of-FlatExpr left end_of-FlatExpr) r (more_of-FlatExpr right end_of-FlatExpr)) = FlatExprIsWithin left × FlatExprIsWithin right
-    FlatExprIsWithin (Within' l (more_of-FlatExpr left end_of-FlatExpr) r (more_of-FlatExpr set end_of-FlatExpr)) = FlatExprIsWithin left × FlatExprIsWithin set
-    FlatExprIsWithin (Sum' f (more_of-FlatExpr head end_of-FlatExpr) shape more) = FlatExprIsWithin head × FlatTermsAreWithin more
-    FlatExprIsWithin (Modulo' shape (more_of-FlatExpr e end_of-FlatExpr) by at) = (at ≤ n) × FlatExprIsWithin e
-    FlatExprIsWithin (Choose' c (more_of-FlatExpr cond end_of-FlatExpr) l (more_of-FlatExpr left end_of-FlatExpr) r (more_of-FlatExpr right end_of-FlatExpr)) = FlatExprIsWithin cond × FlatExprIsWithin left × FlatExprIsWithin right
-    FlatExprIsWithin (All' shape (more_of-FlatExpr body end_of-FlatExpr) var over at) = (at ≤ n) × FlatExprIsWithin body
-    FlatExprIsWithin (Any' shape (more_of-FlatExpr body end_of-FlatExpr) var over at) = (at ≤ n) × FlatExprIsWithin body
+    FlatExprIsWithin (Iff' l (one_flat_expr left) r (one_flat_expr right)) = FlatExprIsWithin left × FlatExprIsWithin right
+    FlatExprIsWithin (Compare' op l (one_flat_expr left) r (one_flat_expr right)) = FlatExprIsWithin left × FlatExprIsWithin right
+    FlatExprIsWithin (Within' l (one_flat_expr left) r (one_flat_expr set)) = FlatExprIsWithin left × FlatExprIsWithin set
+    FlatExprIsWithin (Sum' f (one_flat_expr head) shape more) = FlatExprIsWithin head × FlatTermsAreWithin more
+    FlatExprIsWithin (Modulo' shape (one_flat_expr e) by at) = (at ≤ n) × FlatExprIsWithin e
+    FlatExprIsWithin (Choose' c (one_flat_expr cond) l (one_flat_expr left) r (one_flat_expr right)) = FlatExprIsWithin cond × FlatExprIsWithin left × FlatExprIsWithin right
+    FlatExprIsWithin (All' shape (one_flat_expr body) var over at) = (at ≤ n) × FlatExprIsWithin body
+    FlatExprIsWithin (Any' shape (one_flat_expr body) var over at) = (at ≤ n) × FlatExprIsWithin body
     FlatExprIsWithin (List' shape members at) = (at ≤ n) × FlatMembersAreWithin members
     FlatExprIsWithin (Each' var over cond at) = (at ≤ n) × FlatConditionIsWithin cond
 
@@ -60,7 +61,7 @@ module _ (n : ℕ) where
 
     pub FlatConditionIsWithin : Held-FlatExpr-Each-2 → Type 0
     FlatConditionIsWithin None' = Unit {0}
-    FlatConditionIsWithin (Some' shape (more_of-FlatExpr cond end_of-FlatExpr)) = FlatExprIsWithin cond
+    FlatConditionIsWithin (Some' shape (one_flat_expr cond)) = FlatExprIsWithin cond
 
   abbrev pub FlatExprsAreWithin : List FlatExpr → Type 0
   FlatExprsAreWithin es = AllByRecursion FlatExprIsWithin es
@@ -70,10 +71,10 @@ module _ (n : ℕ) where
   abbrev mutual
     pub ActIsWithin : FlatStmt → Type 0
     ActIsWithin (Assign kind family left value at) = (at ≤ n) × FlatExprsAreWithin left × FlatExprIsWithin value
-    ActIsWithin (If' cond l (more_of-FlatStmt left end_of-FlatStmt) r (more_of-FlatStmt right end_of-FlatStmt)) = FlatExprIsWithin cond × ActIsWithin left × ActIsWithin right
+    ActIsWithin (If' cond l (one_flat_stmt left) r (one_flat_stmt right)) = FlatExprIsWithin cond × ActIsWithin left × ActIsWithin right
     ActIsWithin (Block' shape parts) = ActsAreWithin parts
-    ActIsWithin (Default' l (more_of-FlatStmt left end_of-FlatStmt) r (more_of-FlatStmt right end_of-FlatStmt)) = ActIsWithin left × ActIsWithin right
-    ActIsWithin (Forall' var over shape (more_of-FlatStmt body end_of-FlatStmt)) = ActIsWithin body
+    ActIsWithin (Default' l (one_flat_stmt left) r (one_flat_stmt right)) = ActIsWithin left × ActIsWithin right
+    ActIsWithin (Forall' var over shape (one_flat_stmt body)) = ActIsWithin body
 
     pub ActsAreWithin : {m : _} → Row_of-FlatStmt m → Type 0
     ActsAreWithin end_of-FlatStmt = Unit {0}

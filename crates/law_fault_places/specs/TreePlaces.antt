@@ -12,7 +12,7 @@ use Rattle.smv_core.specs.declared.tree.Pair.{Pair}
 use Rattle.smv_core.specs.declared.tree.Path.{Path, out-Path}
 use Rattle.smv_core.specs.declared.tree.Part.{Part, Field, At}
 use Rattle.smv_core.specs.declared.tree.Member.{One, Span as SpanOf}
-use Rattle.smv_core.specs.declared.tree.TypeExpr.{TypeExpr, Boolean, Range, Enum, Named, Array', Struct', end_of-TypeExpr, more_of-TypeExpr, Row_of-Field, end_of-Field, more_of-Field}
+use Rattle.smv_core.specs.declared.tree.TypeExpr.{TypeExpr, Boolean, Range, Enum, Named, Array', Struct', Row_of-Field, end_of-Field, more_of-Field}
 use Rattle.smv_core.specs.declared.tree.Expr.{Expr, Number, Signal', Not', And', Or', Implies', Iff', Compare', Within', Sum', Modulo', Choose', All', Any', List', Each', Held-Expr-Each-2, None', Some', Row_of-Expr, end_of-Expr, more_of-Expr, Row_of-Part, end_of-Part, more_of-Part, Row_of-Member, end_of-Member, more_of-Member, Row_of-Signed, end_of-Signed, more_of-Signed}
 use Rattle.smv_core.specs.declared.tree.Stmt.{Stmt, Assign, Block', If', Switch', Default', For', Forall', Held-Stmt-If-2, Row_of-Stmt, end_of-Stmt, more_of-Stmt, Row_of-Arm, end_of-Arm, more_of-Arm}
 use Rattle.smv_core.specs.declared.tree.Stmt as stmt
@@ -21,6 +21,7 @@ use Rattle.smv_core.specs.declared.tree.Item as item
 use Rattle.smv_core.specs.declared.tree.Top.{Top}
 use Rattle.smv_core.specs.declared.tree.Top.TheVariants.{SetType, Alias, Module}
 use Rattle.smv_core.specs.declared.tree.Text.{Text}
+use Rattle.smv_core.specs.Rows.{one_expr, one_stmt, one_type}
 
 module _ (n : ℕ) where
   -- ---- words
@@ -39,7 +40,7 @@ module _ (n : ℕ) where
     TypeIsWithin (Range span at) = at ≤ n
     TypeIsWithin (Enum names at) = WordsAreWithin names × (at ≤ n)
     TypeIsWithin (Named name at) = WordIsWithin name × (at ≤ n)
-    TypeIsWithin (Array' i (more_of-TypeExpr index end_of-TypeExpr) o (more_of-TypeExpr of end_of-TypeExpr)) = TypeIsWithin index × TypeIsWithin of
+    TypeIsWithin (Array' i (one_type index) o (one_type of)) = TypeIsWithin index × TypeIsWithin of
     TypeIsWithin (Struct' shape fields) = FieldsAreWithin fields
 
     pub FieldsAreWithin : {m : _} → Row_of-Field m → Type 0
@@ -52,18 +53,18 @@ module _ (n : ℕ) where
     pub ExprIsWithin : Expr → Type 0
     ExprIsWithin (Number value at) = at ≤ n
     ExprIsWithin (Signal' shape parts at) = (at ≤ n) × PartsAreWithin parts
-    ExprIsWithin (Not' shape (more_of-Expr e end_of-Expr) at) = (at ≤ n) × ExprIsWithin e
+    ExprIsWithin (Not' shape (one_expr e) at) = (at ≤ n) × ExprIsWithin e
     ExprIsWithin (And' shape parts) = RowIsWithin parts
     ExprIsWithin (Or' shape parts) = RowIsWithin parts
     ExprIsWithin (Implies' shape parts) = RowIsWithin parts
-    ExprIsWithin (Iff' l (more_of-Expr left end_of-Expr) r (more_of-Expr right end_of-Expr)) = ExprIsWithin left × ExprIsWithin right
-    ExprIsWithin (Compare' op l (more_of-Expr left end_of-Expr) r (more_of-Expr right end_of-Expr)) = ExprIsWithin left × ExprIsWithin right
-    ExprIsWithin (Within' l (more_of-Expr left end_of-Expr) r (more_of-Expr set end_of-Expr)) = ExprIsWithin left × ExprIsWithin set
-    ExprIsWithin (Sum' f (more_of-Expr first end_of-Expr) shape more) = ExprIsWithin first × TermsAreWithin more
-    ExprIsWithin (Modulo' shape (more_of-Expr e end_of-Expr) by at) = (at ≤ n) × ExprIsWithin e
-    ExprIsWithin (Choose' c (more_of-Expr cond end_of-Expr) l (more_of-Expr left end_of-Expr) r (more_of-Expr right end_of-Expr)) = ExprIsWithin cond × ExprIsWithin left × ExprIsWithin right
-    ExprIsWithin (All' shape (more_of-Expr body end_of-Expr) var over at) = (at ≤ n) × WordIsWithin var × TypeIsWithin over × ExprIsWithin body
-    ExprIsWithin (Any' shape (more_of-Expr body end_of-Expr) var over at) = (at ≤ n) × WordIsWithin var × TypeIsWithin over × ExprIsWithin body
+    ExprIsWithin (Iff' l (one_expr left) r (one_expr right)) = ExprIsWithin left × ExprIsWithin right
+    ExprIsWithin (Compare' op l (one_expr left) r (one_expr right)) = ExprIsWithin left × ExprIsWithin right
+    ExprIsWithin (Within' l (one_expr left) r (one_expr set)) = ExprIsWithin left × ExprIsWithin set
+    ExprIsWithin (Sum' f (one_expr first) shape more) = ExprIsWithin first × TermsAreWithin more
+    ExprIsWithin (Modulo' shape (one_expr e) by at) = (at ≤ n) × ExprIsWithin e
+    ExprIsWithin (Choose' c (one_expr cond) l (one_expr left) r (one_expr right)) = ExprIsWithin cond × ExprIsWithin left × ExprIsWithin right
+    ExprIsWithin (All' shape (one_expr body) var over at) = (at ≤ n) × WordIsWithin var × TypeIsWithin over × ExprIsWithin body
+    ExprIsWithin (Any' shape (one_expr body) var over at) = (at ≤ n) × WordIsWithin var × TypeIsWithin over × ExprIsWithin body
     ExprIsWithin (List' shape members at) = (at ≤ n) × MembersAreWithin members
     ExprIsWithin (Each' var over cond at) = (at ≤ n) × WordIsWithin var × TypeIsWithin over × ConditionIsWithin cond
 
@@ -88,7 +89,7 @@ module _ (n : ℕ) where
 
     pub ConditionIsWithin : Held-Expr-Each-2 → Type 0
     ConditionIsWithin None' = Unit {0}
-    ConditionIsWithin (Some' shape (more_of-Expr cond end_of-Expr)) = ExprIsWithin cond
+    ConditionIsWithin (Some' shape (one_expr cond)) = ExprIsWithin cond
 
   abbrev pub ExprsAreWithin : List Expr → Type 0
   ExprsAreWithin es = AllByRecursion ExprIsWithin es
@@ -108,11 +109,11 @@ module _ (n : ℕ) where
     pub StatementIsWithin : Stmt → Type 0
     StatementIsWithin (Assign kind left value at) = (at ≤ n) × PathIsWithin left × ExprIsWithin value
     StatementIsWithin (Block' shape parts) = StatementsAreWithin parts
-    StatementIsWithin (If' cond l (more_of-Stmt left end_of-Stmt) right at) = (at ≤ n) × ExprIsWithin cond × StatementIsWithin left × BranchIsWithin right
+    StatementIsWithin (If' cond l (one_stmt left) right at) = (at ≤ n) × ExprIsWithin cond × StatementIsWithin left × BranchIsWithin right
     StatementIsWithin (Switch' on shape arms other at) = (at ≤ n) × ExprIsWithin on × ArmsAreWithin arms × BranchIsWithin other
-    StatementIsWithin (Default' l (more_of-Stmt left end_of-Stmt) r (more_of-Stmt right end_of-Stmt) at) = (at ≤ n) × StatementIsWithin left × StatementIsWithin right
-    StatementIsWithin (For' var from to closed step shape (more_of-Stmt body end_of-Stmt) at) = (at ≤ n) × WordIsWithin var × StatementIsWithin body
-    StatementIsWithin (Forall' var over shape (more_of-Stmt body end_of-Stmt) at) = (at ≤ n) × WordIsWithin var × TypeIsWithin over × StatementIsWithin body
+    StatementIsWithin (Default' l (one_stmt left) r (one_stmt right) at) = (at ≤ n) × StatementIsWithin left × StatementIsWithin right
+    StatementIsWithin (For' var from to closed step shape (one_stmt body) at) = (at ≤ n) × WordIsWithin var × StatementIsWithin body
+    StatementIsWithin (Forall' var over shape (one_stmt body) at) = (at ≤ n) × WordIsWithin var × TypeIsWithin over × StatementIsWithin body
 
     pub StatementsAreWithin : {m : _} → Row_of-Stmt m → Type 0
     StatementsAreWithin end_of-Stmt = Unit {0}
@@ -121,7 +122,7 @@ module _ (n : ℕ) where
     -- an `else` or a `default`, or none
     pub BranchIsWithin : Held-Stmt-If-2 → Type 0
     BranchIsWithin stmt.None' = Unit {0}
-    BranchIsWithin (stmt.Some' shape (more_of-Stmt part end_of-Stmt)) = StatementIsWithin part
+    BranchIsWithin (stmt.Some' shape (one_stmt part)) = StatementIsWithin part
 
     pub ArmsAreWithin : {m : _} → Row_of-Arm m → Type 0
     ArmsAreWithin end_of-Arm = Unit {0}

@@ -8,7 +8,7 @@ use Rattle.smv_core.specs.declared.flat.FlatSigned.{FlatSigned, out-FlatSigned}
 use Rattle.smv_core.specs.declared.flat.FlatMember.{FlatMember, One, Span as SpanOf}
 use Rattle.smv_core.specs.declared.flat.FlatExpr.{FlatExpr, Not, Iff, Compare, Within, Modulo, Choose, All, Any, Each, Read, Read', And, And', Or, Or', Implies, Implies', Sum, Sum', List as ListOf, List', Row_of-FlatExpr, end_of-FlatExpr, more_of-FlatExpr, Row_of-FlatMember, end_of-FlatMember, more_of-FlatMember, Row_of-FlatSigned, end_of-FlatSigned, more_of-FlatSigned, items-the_row-FlatExpr, items-the_row-FlatMember, items-the_row-FlatSigned, items_hidden-the_row-FlatExpr-0, items_hidden-the_row-FlatSigned-2, items_hidden-the_row-FlatMember-3}
 use Rattle.smv_core.specs.declared.flat.FlatStmt.{FlatStmt, If, Default, Forall, Block, Block', Row_of-FlatStmt, end_of-FlatStmt, more_of-FlatStmt, items-the_row-FlatStmt, items_hidden-the_row-FlatStmt-1}
-use Rattle.law_designs.specs.FlatKinds.{Kind, Vars, takes, are_numbers, number, number_if, common, compares, chosen, element, inside, kind_of, is_binder, kind_in, kinds_in, summands, members_in, looked_through, value_in, keeps_kinds, all_keep_kinds}
+use Rattle.law_designs.specs.FlatKinds.{FlatKind, FlatVars, takes, are_numbers, number, number_if, common, compares, chosen, element, inside, kind_of, is_binder, kind_in, kinds_in, summands, members_in, looked_through, value_in, keeps_kinds, all_keep_kinds}
 use Rattle.law_designs.proofs.FlatLists.{boxes}
 use mathlib.Core.Former.{Count}
 
@@ -31,7 +31,7 @@ abbrev stmts_of : FlatStmt → (k : Count) × Row_of-FlatStmt k
 stmts_of (Block' shape row) = (_, row)
 stmts_of _ = (_, end_of-FlatStmt)
 
-module _ (flat_text : FlatText) (vars : Vars) where
+module _ (flat_text : FlatText) (vars : FlatVars) where
   -- ---- lists
 
   kinds-row : (k : _) (row : Row_of-FlatExpr k) → kinds_in flat_text vars row ≡ map (kind_in flat_text vars) (items-the_row-FlatExpr k row)
@@ -39,7 +39,7 @@ module _ (flat_text : FlatText) (vars : Vars) where
   kinds-row k (more_of-FlatExpr e rest) = ap (λ l. kind_in flat_text vars e ∷ l) (kinds-row _ rest)
 
   -- the kind of a member of a listed set
-  abbrev pub member_kind : FlatMember → Option Kind
+  abbrev pub member_kind : FlatMember → Option FlatKind
   member_kind (One e) = kind_in flat_text vars e
   member_kind (SpanOf span at) = number_if (nat_le span.low span.high)
 
@@ -48,7 +48,7 @@ module _ (flat_text : FlatText) (vars : Vars) where
   members-row k (more_of-FlatMember (One e) rest) = ap (λ l. kind_in flat_text vars e ∷ l) (members-row _ rest)
   members-row k (more_of-FlatMember (SpanOf span at) rest) = ap (λ l. number_if (nat_le span.low span.high) ∷ l) (members-row _ rest)
 
-  abbrev pub term_kind : FlatSigned → Option Kind
+  abbrev pub term_kind : FlatSigned → Option FlatKind
   term_kind x = kind_in flat_text vars (out-FlatSigned x).of
 
   terms-row : (k : _) (row : Row_of-FlatSigned k) → summands flat_text vars row ≡ map term_kind (items-the_row-FlatSigned k row)

@@ -63,31 +63,31 @@ module _ (text : Text) where
   scope_at here = scope_in text here
 
   -- inside parameters
-  abbrev pub inside_params : typed.Vars → List Param → typed.Vars
+  abbrev pub inside_params : typed.FlatVars → List Param → typed.FlatVars
   inside_params fv [] = fv
   inside_params fv (p ∷ params) = inside_params (inside fv p.over) params
 
-  pub params-bound : (fv : typed.Vars) (params : List Param) → inside_params fv params ≡ fv ++ bound_by (flatten text) params
+  pub params-bound : (fv : typed.FlatVars) (params : List Param) → inside_params fv params ≡ fv ++ bound_by (flatten text) params
   params-bound fv [] = nothing_behind fv
   params-bound fv (p ∷ params) = params-bound (inside fv p.over) params ∙ append_assoc fv (kind_of p.over ∷ []) (bound_by (flatten text) params)
 
-  abbrev pub has_kind : typed.Vars → FlatPair → Bool
+  abbrev pub has_kind : typed.FlatVars → FlatPair → Bool
   has_kind fv pair = is_some (kind_in (flatten text) fv pair.left)
 
   -- a claim is a number, and the expressions of a split have kinds
-  abbrev pub GoalKeeps : typed.Vars → Around → Path → Goal → Type 0
+  abbrev pub GoalKeeps : typed.FlatVars → Around → Path → Goal → Type 0
   GoalKeeps fv around instance (claim word vars body at) = typed.takes typed.number (kind_in (flatten text) fv (flat_expr (scope_at instance) around body)) ≡ true
   GoalKeeps fv around instance (split word vars of pairs at) = list_all (has_kind fv) (map (flat_pair (scope_at instance) around) pairs) ≡ true
   GoalKeeps fv around instance (using uses proves at) = Unit {0}
 
   -- what is met keeps the kinds, inside these variables
-  abbrev pub EntryKeeps : typed.Vars → Around → Entry → Type 0
+  abbrev pub EntryKeeps : typed.FlatVars → Around → Entry → Type 0
   EntryKeeps fv around (layer name) = Unit {0}
   EntryKeeps fv around (statement x) = keeps_kinds (flatten text) fv (flat_stmt (scope_at x.instance) around x.act) ≡ true
   EntryKeeps fv around (goal instance binders g) =
       (are_binders (flatten text) fv (params_from (scope_at instance) (bound_in around) binders) ≡ true) × GoalKeeps (inside_params fv (params_from (scope_at instance) (bound_in around) binders)) (within around binders) instance g
 
-  inside-keeps : (var : Word) (over : TypeExpr) (fv : typed.Vars) (around : Around) → is_binder (flatten text) fv (bound_in around) (flat_over (scope_at []) over) ≡ true → (e : Entry) → EntryKeeps (inside fv (flat_over (scope_at []) over)) ((var.name, any) ∷ around) e →
+  inside-keeps : (var : Word) (over : TypeExpr) (fv : typed.FlatVars) (around : Around) → is_binder (flatten text) fv (bound_in around) (flat_over (scope_at []) over) ≡ true → (e : Entry) → EntryKeeps (inside fv (flat_over (scope_at []) over)) ((var.name, any) ∷ around) e →
       EntryKeeps fv around (inside_binder var over e)
   unfolding computing
   inside-keeps var over fv around b (layer name) h = tt
@@ -96,7 +96,7 @@ module _ (text : Text) where
   inside-keeps var over fv around b (goal instance binders g) h = (and_from _ _ b h.0, h.1)
 
   module _ (m : Module) (here : Path) (signals : SignalsAreKinded (flatten text) (scope_of text m) (scope_in text here)) (named : ConstantsAreKinded (flatten text) (scope_of text m) (scope_in text here)) (over_kinded : IndexesAreKinded (flatten text) (scope_of text m) (scope_in text here)) where
-    abbrev bound : Vars → Around → typed.Vars
+    abbrev bound : Vars → Around → typed.FlatVars
     bound vars around = kinds_bound (flatten text) (scope_of text m) (scope_at here) vars around
 
     abbrev Bind : Vars → Around → Type 0

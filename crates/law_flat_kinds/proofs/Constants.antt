@@ -131,7 +131,7 @@ module _ (name : Name) where
       let own : get_or ls (position_or_len has ls) [] ≡ l = get_or_from_slice_get ls (position_or_len has ls) l [] (sym (find_at has ls) ∙ e) in
       subst (λ k. nat_lt (position_or_len (bytes_eq name) k) (length k) ≡ true) (sym own) (lt-ltb (position_or_len (bytes_eq name) l) (length l) (position-below (bytes_eq name) l (find-passes has ls l e)))
 
-pub constant-kinded : (text : Text) (here : Path) (name : Name) (c : Constant) → find_name (constants (pieces text)) name ≡ Some c → (vars : typed.Vars) (at : ℕ) →
+pub constant-kinded : (text : Text) (here : Path) (name : Name) (c : Constant) → find_name (constants (pieces text)) name ≡ Some c → (vars : typed.FlatVars) (at : ℕ) →
     kind_in (flatten text) vars (constant_in (scope_in text here) (name ∷ []) at) ≡ Some (flat_kind (scope_in text here) (enumeration c.names))
 constant-kinded text here name c e vars at =
     let lists : List (List Name) = flat_map (λ piece. flat_map enum_of piece.mentions) (pieces text) in

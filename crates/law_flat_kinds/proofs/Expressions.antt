@@ -63,7 +63,7 @@ above-zero n e = lt-ltb 0 n (grind (arith, eqb-false n 0 e))
 module _ (flat_text : FlatText) (scope : kinds.Scope) (flat : Scope) (signals : SignalsAreKinded flat_text scope flat) (named : ConstantsAreKinded flat_text scope flat) (over_kinded : IndexesAreKinded flat_text scope flat) where
   -- a whole signal is an element of its family
   pub read-kinded : (parts : List Part) (w : Whole) → signal_at scope parts ≡ Some w → (at : ℕ) (os : List Operand) → length (indexes_of parts) ≡ length os → (reference at (Some w) os).faults ≡ [] →
-      (found : List (Option typed.Kind)) → HaveKinds flat found os → HasKind flat (typed.element (slice_get flat_text.families (family_number flat (flat.instance ++ fields_of parts))) found) w.value
+      (found : List (Option typed.FlatKind)) → HaveKinds flat found os → HasKind flat (typed.element (slice_get flat_text.families (family_number flat (flat.instance ++ fields_of parts))) found) w.value
   unfolding opening
   read-kinded parts w h at os count fine found given =
       let s = signals parts w h in
@@ -81,7 +81,7 @@ module _ (flat_text : FlatText) (scope : kinds.Scope) (flat : Scope) (signals : 
   path-kinded vars around same (At e ∷ parts) at w h es os given count fine = absurd (cc (h))
   path-kinded vars around same (Field word ∷ parts) at w h es os given count fine = by_case (reference-cases scope vars (Field word ∷ parts) w h)
     where
-      fv : typed.Vars
+      fv : typed.FlatVars
       fv = kinds_bound flat_text scope flat vars around
 
       path : Path
@@ -147,7 +147,7 @@ module _ (flat_text : FlatText) (scope : kinds.Scope) (flat : Scope) (signals : 
   abbrev pub HasItsKind : Vars → Around → Expr → Type 0
   HasItsKind vars around e = HasKind flat (kind_in flat_text (kinds_bound flat_text scope flat vars around) (flat_expr flat around e)) (operand scope vars e).kind
 
-  abbrev Found : Vars → Around → List FlatExpr → List (Option typed.Kind)
+  abbrev Found : Vars → Around → List FlatExpr → List (Option typed.FlatKind)
   Found vars around es = map (kind_in flat_text (kinds_bound flat_text scope flat vars around)) es
 
   -- a path, where its indexes have kinds

@@ -85,7 +85,7 @@ module _ (text : Text) (layers : List Name) where
   abbrev params : Path → Binders → List Param
   params instance binders = params_from (scope_in text instance) 0 binders
 
-  outside : (instance : Path) (binders : Binders) (P : typed.Vars → Bool) → P (inside_params text [] (params instance binders)) ≡ true → P (bound_by (flatten text) (params instance binders)) ≡ true
+  outside : (instance : Path) (binders : Binders) (P : typed.FlatVars → Bool) → P (inside_params text [] (params instance binders)) ≡ true → P (bound_by (flatten text) (params instance binders)) ≡ true
   outside instance binders P h = ap P (sym (params-bound text [] (params instance binders))) ∙ h
 
   entry-kept : (e : Entry) → EntryKeeps text [] [] e → list_all (is_kinded_item (flatten text)) (flat_entry text layers e) ≡ true

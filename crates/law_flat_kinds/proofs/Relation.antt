@@ -28,7 +28,7 @@ fits b e h = not-false b (unplaced (not b) e.at (no_places 12 (place_if (not b) 
 
 module _ (scope : Scope) where
   -- the kind of the flattened text that stands for a kind of the tree
-  abbrev pub flat_kind : Kind → typed.Kind
+  abbrev pub flat_kind : Kind → typed.FlatKind
   flat_kind number = typed.number
   flat_kind (enumeration names) = typed.enumeration (position_or_len (same_path names) scope.enums)
   flat_kind (set_type name) = typed.set_type (set_number scope name)
@@ -91,24 +91,24 @@ module _ (scope : Scope) where
   -- ---- operands
 
   -- an operand of the flattened text has the kind that stands for this one
-  abbrev pub HasKind : Option typed.Kind → Kind → Type 0
+  abbrev pub HasKind : Option typed.FlatKind → Kind → Type 0
   HasKind o kind = (o ≡ Some (flat_kind kind)) × IsKind kind
 
-  abbrev pub HaveKinds : List (Option typed.Kind) → List Operand → Type 0
+  abbrev pub HaveKinds : List (Option typed.FlatKind) → List Operand → Type 0
   HaveKinds [] [] = Unit {0}
   HaveKinds (o ∷ os) (e ∷ es) = HasKind o e.kind × HaveKinds os es
   HaveKinds _ _ = ⊥
 
-  pub takes-kept : (target : Kind) → IsKind target → (e : Operand) (o : Option typed.Kind) → HasKind o e.kind → takes target e ≡ [] → typed.takes (flat_kind target) o ≡ true
+  pub takes-kept : (target : Kind) → IsKind target → (e : Operand) (o : Option typed.FlatKind) → HasKind o e.kind → takes target e ≡ [] → typed.takes (flat_kind target) o ≡ true
   unfolding opening
   takes-kept target t e o h fine =
       ap (typed.takes (flat_kind target)) h.0 ∙ accepts-kept target e.kind t h.1 (fits (accepts target e.kind) e (empty-both e.faults (unless (accepts target e.kind) e) fine).1)
 
-  pub number-kept : (e : Operand) (o : Option typed.Kind) → HasKind o e.kind → takes_number e ≡ [] → typed.takes typed.number o ≡ true
+  pub number-kept : (e : Operand) (o : Option typed.FlatKind) → HasKind o e.kind → takes_number e ≡ [] → typed.takes typed.number o ≡ true
   unfolding opening
   number-kept e o h fine = takes-kept number tt e o h fine
 
-  pub numbers-kept : (es : List Operand) (os : List (Option typed.Kind)) → HaveKinds os es → flat_map takes_number es ≡ [] → typed.are_numbers os ≡ true
+  pub numbers-kept : (es : List Operand) (os : List (Option typed.FlatKind)) → HaveKinds os es → flat_map takes_number es ≡ [] → typed.are_numbers os ≡ true
   unfolding opening
   numbers-kept [] [] h fine = refl
   numbers-kept [] (o ∷ os) h fine = absurd h
@@ -119,7 +119,7 @@ module _ (scope : Scope) where
       rw (own, numbers-kept es os h.1 both.1) refl
 
   -- each fits those before it, and they have one kind
-  pub after-kept : (kind : Kind) → IsKind kind → (es : List Operand) (os : List (Option typed.Kind)) → HaveKinds os es → alike_with kind es ≡ [] → HasKind (typed.common_after (flat_kind kind) os) (kind_with kind es)
+  pub after-kept : (kind : Kind) → IsKind kind → (es : List Operand) (os : List (Option typed.FlatKind)) → HaveKinds os es → alike_with kind es ≡ [] → HasKind (typed.common_after (flat_kind kind) os) (kind_with kind es)
   unfolding opening
   after-kept kind p [] [] h fine = (refl, p)
   after-kept kind p [] (o ∷ os) h fine = absurd h
@@ -131,14 +131,14 @@ module _ (scope : Scope) where
       let rest : HasKind (typed.common_after (flat_kind (joined kind e.kind)) os) (kind_with (joined kind e.kind) es) = after-kept (joined kind e.kind) next.1 es os h.1 all.2 in
       (ap (λ x. typed.common_after (flat_kind kind) (x ∷ os)) h.0.0 ∙ ap (λ b. cond b (typed.common_after (typed.joined (flat_kind kind) (flat_kind e.kind)) os) None) fit ∙ ap (λ k. typed.common_after k os) next.0 ∙ rest.0, rest.1)
 
-  pub common-kept : (e : Operand) (es : List Operand) (o : Option typed.Kind) (os : List (Option typed.Kind)) → HaveKinds (o ∷ os) (e ∷ es) → alike (e ∷ es) ≡ [] → HasKind (typed.common (o ∷ os)) (kind_with no_kind (e ∷ es))
+  pub common-kept : (e : Operand) (es : List Operand) (o : Option typed.FlatKind) (os : List (Option typed.FlatKind)) → HaveKinds (o ∷ os) (e ∷ es) → alike (e ∷ es) ≡ [] → HasKind (typed.common (o ∷ os)) (kind_with no_kind (e ∷ es))
   unfolding opening
   common-kept e es o os h fine =
       let all = empty-three e.faults (unless (joins no_kind e.kind) e) (alike_with e.kind es) fine in
       let rest : HasKind (typed.common_after (flat_kind e.kind) os) (kind_with e.kind es) = after-kept e.kind h.0.1 es os h.1 all.2 in
       (ap (λ x. typed.common (x ∷ os)) h.0.0 ∙ rest.0, rest.1)
 
-  pub chosen-kept : (c l r : Operand) (oc ol or : Option typed.Kind) → HasKind oc c.kind → HasKind ol l.kind → HasKind or r.kind → (chosen c l r).faults ≡ [] → HasKind (typed.chosen oc ol or) (joined l.kind r.kind)
+  pub chosen-kept : (c l r : Operand) (oc ol or : Option typed.FlatKind) → HasKind oc c.kind → HasKind ol l.kind → HasKind or r.kind → (chosen c l r).faults ≡ [] → HasKind (typed.chosen oc ol or) (joined l.kind r.kind)
   unfolding opening
   chosen-kept c l r oc ol or hc hl hr fine =
       let both = empty-both (takes_number c) (alike (l ∷ r ∷ [])) fine in
@@ -148,17 +148,17 @@ module _ (scope : Scope) where
   some-is : {X : Type 0} (o : Option X) (x : X) → o ≡ Some x → is_some o ≡ true
   some-is o x e = ap is_some e
 
-  pub alike-some : (e : Operand) (es : List Operand) (o : Option typed.Kind) (os : List (Option typed.Kind)) → HaveKinds (o ∷ os) (e ∷ es) → alike (e ∷ es) ≡ [] → is_some (typed.common (o ∷ os)) ≡ true
+  pub alike-some : (e : Operand) (es : List Operand) (o : Option typed.FlatKind) (os : List (Option typed.FlatKind)) → HaveKinds (o ∷ os) (e ∷ es) → alike (e ∷ es) ≡ [] → is_some (typed.common (o ∷ os)) ≡ true
   alike-some e es o os h fine = let own = common-kept e es o os h fine in some-is (typed.common (o ∷ os)) (flat_kind (kind_with no_kind (e ∷ es))) own.0
 
-  ordered-kept : (l r : Operand) (ol or : Option typed.Kind) → HasKind ol l.kind → HasKind or r.kind → alike (l ∷ r ∷ []) ++ unless (has_order l.kind) l ++ unless (has_order r.kind) r ≡ [] → typed.has_order (typed.common (ol ∷ or ∷ [])) ≡ true
+  ordered-kept : (l r : Operand) (ol or : Option typed.FlatKind) → HasKind ol l.kind → HasKind or r.kind → alike (l ∷ r ∷ []) ++ unless (has_order l.kind) l ++ unless (has_order r.kind) r ≡ [] → typed.has_order (typed.common (ol ∷ or ∷ [])) ≡ true
   unfolding opening
   ordered-kept l r ol or hl hr fine =
       let all = empty-three (alike (l ∷ r ∷ [])) (unless (has_order l.kind) l) (unless (has_order r.kind) r) fine in
       let own : HasKind (typed.common (ol ∷ or ∷ [])) (joined l.kind r.kind) = common-kept l (r ∷ []) ol (or ∷ []) (hl, (hr, tt)) all.0 in
       ap typed.has_order own.0 ∙ order-kept (joined l.kind r.kind) own.1 (order-joined l.kind r.kind hl.1 (fits (has_order l.kind) l all.1))
 
-  pub compared-kept : (op : Op) (l r : Operand) (ol or : Option typed.Kind) → HasKind ol l.kind → HasKind or r.kind → (compared op l r).faults ≡ [] → typed.compares op (typed.common (ol ∷ or ∷ [])) ≡ true
+  pub compared-kept : (op : Op) (l r : Operand) (ol or : Option typed.FlatKind) → HasKind ol l.kind → HasKind or r.kind → (compared op l r).faults ≡ [] → typed.compares op (typed.common (ol ∷ or ∷ [])) ≡ true
   unfolding opening
   compared-kept Equal l r ol or hl hr fine = alike-some l (r ∷ []) ol (or ∷ []) (hl, (hr, tt)) fine
   compared-kept Differ l r ol or hl hr fine = alike-some l (r ∷ []) ol (or ∷ []) (hl, (hr, tt)) fine
@@ -175,7 +175,7 @@ module _ (scope : Scope) where
   AreOfKinds (t ∷ over) (kind ∷ kinds) = (typed.kind_of t ≡ flat_kind kind) × IsKind kind × AreOfKinds over kinds
   AreOfKinds _ _ = ⊥
 
-  pub indexes-kept : (over : List Simple) (kinds : List Kind) → AreOfKinds over kinds → (es : List Operand) (os : List (Option typed.Kind)) → HaveKinds os es → length kinds ≡ length es → flat_map (λ (kind, e). takes kind e) (zip kinds es) ≡ [] → typed.take_each over os ≡ true
+  pub indexes-kept : (over : List Simple) (kinds : List Kind) → AreOfKinds over kinds → (es : List Operand) (os : List (Option typed.FlatKind)) → HaveKinds os es → length kinds ≡ length es → flat_map (λ (kind, e). takes kind e) (zip kinds es) ≡ [] → typed.take_each over os ≡ true
   unfolding opening
   indexes-kept [] [] a [] [] h s fine = refl
   indexes-kept [] [] a [] (o ∷ os) h s fine = absurd h

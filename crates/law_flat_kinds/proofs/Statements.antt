@@ -54,7 +54,7 @@ module _ (flat_text : FlatText) (scope : kinds.Scope) (flat : Scope) (signals : 
 
   -- an assignment to a whole signal
   pub assign-keeps : (vars : Vars) (around : Around) (parts : List Part) (at : ℕ) (w : Whole) → signal_at scope parts ≡ Some w → (os : List Operand) → length (indexes_of parts) ≡ length os → (reference at (Some w) os).faults ≡ [] →
-      (found : List (Option typed.Kind)) → HaveKinds flat found os → (right : Operand) (o : Option typed.Kind) → HasKind flat o right.kind → takes w.value right ≡ [] →
+      (found : List (Option typed.FlatKind)) → HaveKinds flat found os → (right : Operand) (o : Option typed.FlatKind) → HasKind flat o right.kind → takes w.value right ≡ [] →
       assigns (element (slice_get flat_text.families (family_number flat (flat.instance ++ fields_of parts))) found) o ≡ true
   assign-keeps vars around parts at w h os count fine found given right o own fits =
       let t = read-kinded flat_text scope flat signals named over_kinded parts w h at os count fine found given in
@@ -65,7 +65,7 @@ module _ (flat_text : FlatText) (scope : kinds.Scope) (flat : Scope) (signals : 
       AreApart flat_text scope flat (flat_map (said.in_expr words) es) → alike_with on.kind (map (operand scope vars) es) ≡ [] → (body other : FlatStmt) → Keeps vars around body → Keeps vars around other →
       Keeps vars around (act.If (Within flat_on (ListOf (map (λ label. member.One (flat_expr flat around label)) es) (first_label es))) body other)
   arm-keeps words vars around same on flat_on own fine es written apart fit body other h k =
-      let fv : typed.Vars = kinds_bound flat_text scope flat vars around in
+      let fv : typed.FlatVars = kinds_bound flat_text scope flat vars around in
       let ms = map (λ label. member.One (flat_expr flat around label)) es in
       let given : HaveKinds flat (map (member_kind flat_text fv) ms) (map (operand scope vars) es) = labels-kinded flat_text scope flat signals named over_kinded words vars around same es written apart (alike_with-fine on.kind (map (operand scope vars) es) fit) in
       let some : is_some (typed.common (kind_in flat_text fv flat_on ∷ map (member_kind flat_text fv) ms)) ≡ true = alike-some flat on (map (operand scope vars) es) (kind_in flat_text fv flat_on) (map (member_kind flat_text fv) ms) (own, given) (labels-fit on (map (operand scope vars) es) fine fit) in

@@ -40,7 +40,7 @@ module _ (flat_text : FlatText) (scope : kinds.Scope) (flat : Scope) (signals : 
   list-kinded vars around (more_of-Member (One e) rest) one given fine = common-kept flat (operand scope vars e) (members scope vars rest) _ (map (member_kind flat_text (kinds_bound flat_text scope flat vars around)) (flat_members flat around rest)) given fine
   list-kinded vars around (more_of-Member (SpanOf span at) rest) one given fine = common-kept flat (number_at at (faults_at (13, place_if (is_reversed span) at))) (members scope vars rest) _ (map (member_kind flat_text (kinds_bound flat_text scope flat vars around)) (flat_members flat around rest)) given fine
 
-  condition-kinded : (words : List Word) (vars : Vars) (around : Around) → AreVars flat_text scope flat vars around → (cond : Held-Expr-Each-2) → ConditionIsWritten cond → AreApart flat_text scope flat (said.in_held words cond) → condition_faults scope vars cond ≡ [] → (over : _) (before : typed.Vars) →
+  condition-kinded : (words : List Word) (vars : Vars) (around : Around) → AreVars flat_text scope flat vars around → (cond : Held-Expr-Each-2) → ConditionIsWritten cond → AreApart flat_text scope flat (said.in_held words cond) → condition_faults scope vars cond ≡ [] → (over : _) (before : typed.FlatVars) →
       inside before over ≡ kinds_bound flat_text scope flat vars around → condition_fits flat_text before over (flat_condition flat around cond) ≡ true
   unfolding opening said.in_expr
   condition-kinded words vars around same None' written apart fine over before e = refl

@@ -48,7 +48,7 @@ module _ (flat_text : FlatText) (scope : kinds.Scope) (flat : Scope) where
   -- a constant is no family, and has the kind of its enumeration
   abbrev pub ConstantsAreKinded : Type 0
   ConstantsAreKinded = (name : Name) (c : Constant) → find_name scope.constants name ≡ Some c →
-      (family_at flat.families (flat.instance ++ name ∷ []) ≡ None) × ((vars : typed.Vars) (at : ℕ) → kind_in flat_text vars (constant_in flat (name ∷ []) at) ≡ Some (flat_kind flat (enumeration c.names)))
+      (family_at flat.families (flat.instance ++ name ∷ []) ≡ None) × ((vars : typed.FlatVars) (at : ℕ) → kind_in flat_text vars (constant_in flat (name ∷ []) at) ≡ Some (flat_kind flat (enumeration c.names)))
 
   -- an index type without faults is one of the flattened text, of the same kind
   abbrev pub IndexesAreKinded : Type 0
@@ -65,7 +65,7 @@ module _ (flat_text : FlatText) (scope : kinds.Scope) (flat : Scope) where
   AreVars _ _ = ⊥
 
   -- the kinds of the variables that have a number, in the order of their numbers
-  abbrev pub kinds_bound : Vars → Around → typed.Vars
+  abbrev pub kinds_bound : Vars → Around → typed.FlatVars
   kinds_bound ((name, kind) ∷ vars) ((other, any) ∷ around) = kinds_bound vars around ++ flat_kind flat kind ∷ []
   kinds_bound ((name, kind) ∷ vars) ((other, loop n) ∷ around) = kinds_bound vars around
   kinds_bound _ _ = []
@@ -79,10 +79,10 @@ module _ (flat_text : FlatText) (scope : kinds.Scope) (flat : Scope) where
   bound-length ((name, kind) ∷ vars) ((other, loop n) ∷ around) same = bound-length vars around same.3
 
   -- a variable has its kind
-  abbrev IsVariable : typed.Vars → Around → Name → ℕ → Kind → Type 0
+  abbrev IsVariable : typed.FlatVars → Around → Name → ℕ → Kind → Type 0
   IsVariable fv around name at kind = (x : FlatExpr) × (variable around name at ≡ Some x) × HasKind flat (kind_in flat_text fv x) kind × (value_in flat_text fv x ≡ kind_in flat_text fv x)
 
-  bound-kinded : (vars : Vars) (around : Around) → AreVars vars around → (name : Name) (at : ℕ) (kind : Kind) → find_name vars name ≡ Some kind → (more : typed.Vars) → IsVariable (kinds_bound vars around ++ more) around name at kind
+  bound-kinded : (vars : Vars) (around : Around) → AreVars vars around → (name : Name) (at : ℕ) (kind : Kind) → find_name vars name ≡ Some kind → (more : typed.FlatVars) → IsVariable (kinds_bound vars around ++ more) around name at kind
   bound-kinded [] [] same name at kind e more = absurd (cc (e))
   bound-kinded [] ((other, any) ∷ around) same name at kind e more = absurd same
   bound-kinded [] ((other, loop n) ∷ around) same name at kind e more = absurd same
@@ -99,7 +99,7 @@ module _ (flat_text : FlatText) (scope : kinds.Scope) (flat : Scope) where
       subst (λ o. (x : FlatExpr) × (cond (bytes_eq o name) (Some (Var (bound_in around) at)) (variable around name at) ≡ Some x) × HasKind flat (kind_in flat_text whole x) kind × (value_in flat_text whole x ≡ kind_in flat_text whole x))
       same.0 (by_test (bytes_eq other name) e (λ e. subst (λ fv. IsVariable fv around name at kind) (sym seam) (bound-kinded vars around same.3 name at kind e (flat_kind flat own ∷ more))))
     where
-      whole : typed.Vars
+      whole : typed.FlatVars
       whole = (kinds_bound vars around ++ flat_kind flat own ∷ []) ++ more
 
       seam : (kinds_bound vars around ++ flat_kind flat own ∷ []) ++ more ≡ kinds_bound vars around ++ flat_kind flat own ∷ more
@@ -146,7 +146,7 @@ module _ (flat_text : FlatText) (scope : kinds.Scope) (flat : Scope) where
         inside (kinds_bound vars around) (flat_over flat over) ≡ kinds_bound vars around ++ flat_kind flat (index_kind scope.here.types over) ∷ []
     inside-same vars around over i fine = ap (λ k. kinds_bound vars around ++ k ∷ []) (indexes over i fine).1
 
-    pub binder-kinded : (vars : Vars) (around : Around) → AreVars vars around → (over : TypeExpr) → IsIndexType over → index_faults scope.here.types over ≡ [] → (test : typed.Vars → Bool) →
+    pub binder-kinded : (vars : Vars) (around : Around) → AreVars vars around → (over : TypeExpr) → IsIndexType over → index_faults scope.here.types over ≡ [] → (test : typed.FlatVars → Bool) →
         test (kinds_bound vars around ++ flat_kind flat (index_kind scope.here.types over) ∷ []) ≡ true → (is_binder flat_text (kinds_bound vars around) (bound_in around) (flat_over flat over) && test (inside (kinds_bound vars around) (flat_over flat over))) ≡ true
     binder-kinded vars around same over i fine test h =
         and_from (is_binder flat_text (kinds_bound vars around) (bound_in around) (flat_over flat over)) (test (inside (kinds_bound vars around) (flat_over flat over)))

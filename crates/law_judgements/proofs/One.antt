@@ -35,7 +35,7 @@ fails_none k (c ∷ cases) (x ∷ sets) n all (inr (meets, more)) = fails_none (
 -- ---- designs
 
 module _ (not_both : IsNotBoth) (one_fault : IsOneFault) (one_tree : OneTree) where
-  no_fault : (text : List ℕ) (tree : Text) (number at : ℕ) → IsValid text tree → IsFaultOf text number at → ⊥
+  pub no_fault : (text : List ℕ) (tree : Text) (number at : ℕ) → IsValid text tree → IsFaultOf text number at → ⊥
   no_fault text tree _ _ valid (too_long long) = let within = valid.is_tree.within in absurd (omega (arith, long, within))
   no_fault text tree _ _ valid (malformed number at within fault) = not_both text tree number at valid.is_tree.spelled fault
   no_fault text tree _ _ valid (faulty other fault is found) =
@@ -43,7 +43,7 @@ module _ (not_both : IsNotBoth) (one_fault : IsOneFault) (one_tree : OneTree) wh
       let bad : ⊥ = cc in
       bad
 
-  same_fault : (text : List ℕ) (number other at place : ℕ) → IsFaultOf text number at → IsFaultOf text other place → (number ≡ other) × (at ≡ place)
+  pub same_fault : (text : List ℕ) (number other at place : ℕ) → IsFaultOf text number at → IsFaultOf text other place → (number ≡ other) × (at ≡ place)
   same_fault text _ _ _ _ (too_long long) (too_long longer) = (refl, refl)
   same_fault text _ _ _ _ (too_long long) (malformed other place within fault) = absurd (omega (arith, long, within))
   same_fault text _ _ _ _ (too_long long) (faulty tree fault is found) = let within = is.within in absurd (omega (arith, long, within))

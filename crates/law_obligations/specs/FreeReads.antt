@@ -4,6 +4,7 @@ use Rattle.smv_core.specs.declared.flat.FlatMember.{One, Span as SpanOf}
 use Rattle.smv_core.specs.declared.flat.FlatExpr.{FlatExpr, Number, Read', Var, Loop, Constant, Not', And', Or', Implies', Iff', Compare', Within', Sum', Modulo', Choose', All', Any', List', Each', Held-FlatExpr-Each-2, None', Some', Row_of-FlatExpr, end_of-FlatExpr, more_of-FlatExpr, Row_of-FlatMember, end_of-FlatMember, more_of-FlatMember, Row_of-FlatSigned, end_of-FlatSigned, more_of-FlatSigned}
 use Rattle.law_obligations.specs.Places.{Place, World}
 use Rattle.law_obligations.specs.May.{AbsState, Kept, may}
+use Rattle.smv_core.specs.Rows.{one_flat_expr}
 
 abbrev mutual
   -- the variable of this number occurs free in the expression; a binder cuts off the variables from its own number on
@@ -13,18 +14,18 @@ abbrev mutual
   reads k (Var var at) = nat_eq var k
   reads k (Loop value at) = false
   reads k (Constant list value at) = false
-  reads k (Not' shape (more_of-FlatExpr e end_of-FlatExpr) at) = reads k e
+  reads k (Not' shape (one_flat_expr e) at) = reads k e
   reads k (And' shape parts) = one_reads k parts
   reads k (Or' shape parts) = one_reads k parts
   reads k (Implies' shape parts) = one_reads k parts
-  reads k (Iff' l (more_of-FlatExpr left end_of-FlatExpr) r (more_of-FlatExpr right end_of-FlatExpr)) = reads k left || reads k right
-  reads k (Compare' op l (more_of-FlatExpr left end_of-FlatExpr) r (more_of-FlatExpr right end_of-FlatExpr)) = reads k left || reads k right
-  reads k (Within' l (more_of-FlatExpr left end_of-FlatExpr) r (more_of-FlatExpr set end_of-FlatExpr)) = reads k left || reads k set
-  reads k (Sum' f (more_of-FlatExpr head end_of-FlatExpr) shape more) = reads k head || signed_read k more
-  reads k (Modulo' shape (more_of-FlatExpr e end_of-FlatExpr) by at) = reads k e
-  reads k (Choose' c (more_of-FlatExpr cond end_of-FlatExpr) l (more_of-FlatExpr left end_of-FlatExpr) r (more_of-FlatExpr right end_of-FlatExpr)) = reads k cond || (reads k left || reads k right)
-  reads k (All' shape (more_of-FlatExpr body end_of-FlatExpr) var over at) = nat_lt k var && reads k body
-  reads k (Any' shape (more_of-FlatExpr body end_of-FlatExpr) var over at) = nat_lt k var && reads k body
+  reads k (Iff' l (one_flat_expr left) r (one_flat_expr right)) = reads k left || reads k right
+  reads k (Compare' op l (one_flat_expr left) r (one_flat_expr right)) = reads k left || reads k right
+  reads k (Within' l (one_flat_expr left) r (one_flat_expr set)) = reads k left || reads k set
+  reads k (Sum' f (one_flat_expr head) shape more) = reads k head || signed_read k more
+  reads k (Modulo' shape (one_flat_expr e) by at) = reads k e
+  reads k (Choose' c (one_flat_expr cond) l (one_flat_expr left) r (one_flat_expr right)) = reads k cond || (reads k left || reads k right)
+  reads k (All' shape (one_flat_expr body) var over at) = nat_lt k var && reads k body
+  reads k (Any' shape (one_flat_expr body) var over at) = nat_lt k var && reads k body
   reads k (List' shape members at) = members_read k members
   reads k (Each' var over cond at) = nat_lt k var && condition_reads k cond
 
@@ -43,7 +44,7 @@ abbrev mutual
 
   pub condition_reads : ℕ → Held-FlatExpr-Each-2 → Bool
   condition_reads k None' = false
-  condition_reads k (Some' shape (more_of-FlatExpr cond end_of-FlatExpr)) = reads k cond
+  condition_reads k (Some' shape (one_flat_expr cond)) = reads k cond
 
 -- two bindings of equally many variables that agree on each variable whose number passes the test
 abbrev pub Agree : {X : Type 0} → (ℕ → Bool) → List X → List X → Type 0

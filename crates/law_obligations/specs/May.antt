@@ -7,6 +7,7 @@ use Rattle.smv_core.specs.declared.flat.FlatMember.{One, Span as SpanOf}
 use Rattle.smv_core.specs.declared.flat.FlatExpr.{FlatExpr, Number, Read', Var, Loop, Constant, Not', And', Or', Implies', Iff', Compare', Within', Sum', Modulo', Choose', All', Any', List', Each', Row_of-FlatExpr, end_of-FlatExpr, more_of-FlatExpr, Row_of-FlatMember, end_of-FlatMember, more_of-FlatMember, Row_of-FlatSigned, end_of-FlatSigned, more_of-FlatSigned}
 use Rattle.law_obligations.specs.Sets.{one_of_each, parts, pairs, all_there}
 use Rattle.law_obligations.specs.Places.{Place, named, World, named_in, rests_in, places_in, is_among, AbsOutcome, valued, as_place, equal_places, where_defined, may_compare, bind_place}
+use Rattle.smv_core.specs.Rows.{one_flat_expr}
 
 -- an abstract value for each element, by its family's number and a place for each index
 abbrev pub AbsState : Type 0
@@ -52,21 +53,21 @@ module _ (w : World) (kept : Kept) (a : AbsState) where
     may (Var var at) b = slice_get b var ∷ []
     may (Loop value at) b = Some (named (number value)) ∷ []
     may (Constant list value at) b = as_place (option_map constant (slice_get (get_or w.classes.enums list []) value)) ∷ []
-    may (Not' shape (more_of-FlatExpr e end_of-FlatExpr) at) b = map (λ u. shown (not_of (seen u))) (may e b)
+    may (Not' shape (one_flat_expr e) at) b = map (λ u. shown (not_of (seen u))) (may e b)
     may (And' shape parts) b = map (λ us. shown (conjunction (map seen us))) (one_of_each (may_each parts b))
     may (Or' shape parts) b = map (λ us. shown (disjunction (map seen us))) (one_of_each (may_each parts b))
     may (Implies' shape parts) b = map (λ us. shown (implication (map seen us))) (one_of_each (may_each parts b))
-    may (Iff' l (more_of-FlatExpr left end_of-FlatExpr) r (more_of-FlatExpr right end_of-FlatExpr)) b = pairs (λ u v. shown (iff_of (seen u) (seen v)) ∷ []) (may left b) (may right b)
-    may (Compare' op l (more_of-FlatExpr left end_of-FlatExpr) r (more_of-FlatExpr right end_of-FlatExpr)) b = pairs (λ u v. map shown (may_compare op u v)) (may left b) (may right b)
-    may (Within' l (more_of-FlatExpr left end_of-FlatExpr) r (more_of-FlatExpr set end_of-FlatExpr)) b =
+    may (Iff' l (one_flat_expr left) r (one_flat_expr right)) b = pairs (λ u v. shown (iff_of (seen u) (seen v)) ∷ []) (may left b) (may right b)
+    may (Compare' op l (one_flat_expr left) r (one_flat_expr right)) b = pairs (λ u v. map shown (may_compare op u v)) (may left b) (may right b)
+    may (Within' l (one_flat_expr left) r (one_flat_expr set)) b =
         pairs (λ u vs. map (λ ts. shown (disjunction ts)) (one_of_each (map (where_defined equal_places u) vs))) (may left b) (one_of_each (may_listed set b))
-    may (Sum' f (more_of-FlatExpr head end_of-FlatExpr) shape more) b = may_sum more (may head b) b
-    may (Modulo' shape (more_of-FlatExpr e end_of-FlatExpr) by at) b = map (λ u. as_place (modulo (valued u) by)) (may e b)
-    may (Choose' c (more_of-FlatExpr cond end_of-FlatExpr) l (more_of-FlatExpr left end_of-FlatExpr) r (more_of-FlatExpr right end_of-FlatExpr)) b =
+    may (Sum' f (one_flat_expr head) shape more) b = may_sum more (may head b) b
+    may (Modulo' shape (one_flat_expr e) by at) b = map (λ u. as_place (modulo (valued u) by)) (may e b)
+    may (Choose' c (one_flat_expr cond) l (one_flat_expr left) r (one_flat_expr right)) b =
         flat_map (λ u. branch (None ∷ []) (seen u) (may left b) (may right b)) (may cond b)
-    may (All' shape (more_of-FlatExpr body end_of-FlatExpr) var over at) b =
+    may (All' shape (one_flat_expr body) var over at) b =
         quantified conjunction (map (λ p. may body (bind_place b var p)) (named_in w over)) (flat_map (λ p. may body (bind_place b var p)) (rests_in w over))
-    may (Any' shape (more_of-FlatExpr body end_of-FlatExpr) var over at) b =
+    may (Any' shape (one_flat_expr body) var over at) b =
         quantified disjunction (map (λ p. may body (bind_place b var p)) (named_in w over)) (flat_map (λ p. may body (bind_place b var p)) (rests_in w over))
     may (List' shape members at) b = None ∷ []
     may (Each' var over cond at) b = None ∷ []

@@ -8,6 +8,7 @@ use Rattle.smv_core.specs.declared.flat.FlatMember.{One, Span as SpanOf}
 use Rattle.smv_core.specs.declared.flat.FlatExpr.{FlatExpr, Number, Read', Var, Loop, Constant, Not', And', Or', Implies', Iff', Compare', Within', Sum', Modulo', Choose', All', Any', List', Each', Held-FlatExpr-Each-2, None', Some', Row_of-FlatExpr, end_of-FlatExpr, more_of-FlatExpr, Row_of-FlatMember, end_of-FlatMember, more_of-FlatMember, Row_of-FlatSigned, end_of-FlatSigned, more_of-FlatSigned}
 use Rattle.smv_core.specs.declared.flat.DefBody.{DefBody, Nothing, Assign, If', First', Forall', Row_of-DefBody, end_of-DefBody, more_of-DefBody}
 use Rattle.law_obligations.specs.Places.{Place, same_place, bind_place}
+use Rattle.smv_core.specs.Rows.{one_flat_expr}
 
 -- the indexes of a reference
 abbrev pub indexes_read : {m : _} → Row_of-FlatExpr m → List Index
@@ -36,19 +37,19 @@ module _ {X : Type 0} (places : Simple → List Place) (read : ℕ → List Inde
     reads (Var var at) b = []
     reads (Loop value at) b = []
     reads (Constant list value at) b = []
-    reads (Not' shape (more_of-FlatExpr e end_of-FlatExpr) at) b = reads e b
+    reads (Not' shape (one_flat_expr e) at) b = reads e b
     reads (And' shape parts) b = reads_each parts b
     reads (Or' shape parts) b = reads_each parts b
     reads (Implies' shape parts) b = reads_each parts b
-    reads (Iff' l (more_of-FlatExpr left end_of-FlatExpr) r (more_of-FlatExpr right end_of-FlatExpr)) b = reads left b ++ reads right b
-    reads (Compare' op l (more_of-FlatExpr left end_of-FlatExpr) r (more_of-FlatExpr right end_of-FlatExpr)) b = reads left b ++ reads right b
-    reads (Within' l (more_of-FlatExpr left end_of-FlatExpr) r (more_of-FlatExpr set end_of-FlatExpr)) b = reads left b ++ reads set b
-    reads (Sum' f (more_of-FlatExpr head end_of-FlatExpr) shape more) b = reads head b ++ reads_signed more b
-    reads (Modulo' shape (more_of-FlatExpr e end_of-FlatExpr) by at) b = reads e b
-    reads (Choose' c (more_of-FlatExpr cond end_of-FlatExpr) l (more_of-FlatExpr left end_of-FlatExpr) r (more_of-FlatExpr right end_of-FlatExpr)) b =
+    reads (Iff' l (one_flat_expr left) r (one_flat_expr right)) b = reads left b ++ reads right b
+    reads (Compare' op l (one_flat_expr left) r (one_flat_expr right)) b = reads left b ++ reads right b
+    reads (Within' l (one_flat_expr left) r (one_flat_expr set)) b = reads left b ++ reads set b
+    reads (Sum' f (one_flat_expr head) shape more) b = reads head b ++ reads_signed more b
+    reads (Modulo' shape (one_flat_expr e) by at) b = reads e b
+    reads (Choose' c (one_flat_expr cond) l (one_flat_expr left) r (one_flat_expr right)) b =
         reads cond b ++ reads left b ++ reads right b
-    reads (All' shape (more_of-FlatExpr body end_of-FlatExpr) var over at) b = flat_map (λ p. reads body (bind_place b var p)) (places over)
-    reads (Any' shape (more_of-FlatExpr body end_of-FlatExpr) var over at) b = flat_map (λ p. reads body (bind_place b var p)) (places over)
+    reads (All' shape (one_flat_expr body) var over at) b = flat_map (λ p. reads body (bind_place b var p)) (places over)
+    reads (Any' shape (one_flat_expr body) var over at) b = flat_map (λ p. reads body (bind_place b var p)) (places over)
     reads (List' shape members at) b = reads_members members b
     reads (Each' var over cond at) b = flat_map (λ p. reads_held cond (bind_place b var p)) (places over)
 
@@ -67,7 +68,7 @@ module _ {X : Type 0} (places : Simple → List Place) (read : ℕ → List Inde
 
     pub reads_held : Held-FlatExpr-Each-2 → List Place → List X
     reads_held None' b = []
-    reads_held (Some' shape (more_of-FlatExpr cond end_of-FlatExpr)) b = reads cond b
+    reads_held (Some' shape (one_flat_expr cond)) b = reads cond b
 
 -- A definition: its `forall` variables take these places, and an assignment counts where its left side passes a test.
 module _ (every : Simple → List Place) (counts : List Index → List Place → Bool) where

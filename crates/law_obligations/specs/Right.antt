@@ -4,9 +4,10 @@ use Rattle.std.specs.List.{list_any, list_all}
 use Rattle.smv_core.specs.Values.{Truth}
 use Rattle.smv_core.specs.Outcome.{branch, is_true}
 use Rattle.smv_core.specs.declared.flat.FlatMember.{One, Span as SpanOf}
-use Rattle.smv_core.specs.declared.flat.FlatExpr.{FlatExpr, Choose', List', Each', Held-FlatExpr-Each-2, None', Some', end_of-FlatExpr, more_of-FlatExpr, Row_of-FlatMember, end_of-FlatMember, more_of-FlatMember}
+use Rattle.smv_core.specs.declared.flat.FlatExpr.{FlatExpr, Choose', List', Each', Held-FlatExpr-Each-2, None', Some', Row_of-FlatMember, end_of-FlatMember, more_of-FlatMember}
 use Rattle.law_obligations.specs.Places.{Place, same_place, is_named, is_among, World, named_in, places_in, AbsOutcome, bind_place}
 use Rattle.law_obligations.specs.May.{AbsState, Kept, seen, may, may_members}
+use Rattle.smv_core.specs.Rows.{one_flat_expr}
 
 -- an outcome gives its own place, and every place of the type where it is Undefined or outside the type
 abbrev pub gives : List Place → AbsOutcome → Place → Bool
@@ -61,12 +62,12 @@ module _ (w : World) (kept : Kept) (a : AbsState) where
   -- the condition of a comprehension may be 1; a missing one is 1
   abbrev pub may_meet : Held-FlatExpr-Each-2 → List Place → Bool
   may_meet None' b = true
-  may_meet (Some' shape (more_of-FlatExpr cond end_of-FlatExpr)) b = list_any (λ u. is_true (seen u)) (may w kept a cond b)
+  may_meet (Some' shape (one_flat_expr cond)) b = list_any (λ u. is_true (seen u)) (may w kept a cond b)
 
   -- it is 1 for certain
   abbrev pub must_meet : Held-FlatExpr-Each-2 → List Place → Bool
   must_meet None' b = true
-  must_meet (Some' shape (more_of-FlatExpr cond end_of-FlatExpr)) b = list_all (λ u. is_true (seen u)) (may w kept a cond b)
+  must_meet (Some' shape (one_flat_expr cond)) b = list_all (λ u. is_true (seen u)) (may w kept a cond b)
 
   -- for a target whose type has these places
   module _ (every : List Place) where
@@ -76,7 +77,7 @@ module _ (w : World) (kept : Kept) (a : AbsState) where
     may_allow (Each' var over cond at) b p =
         list_any (λ q. may_meet cond (bind_place b var q) && gives every (Some q) p) (places_in w over)
         || (list_all (λ q. not (must_meet cond (bind_place b var q))) (named_in w over) && is_among every p)
-    may_allow (Choose' c (more_of-FlatExpr cond end_of-FlatExpr) l (more_of-FlatExpr left end_of-FlatExpr) r (more_of-FlatExpr right end_of-FlatExpr)) b p =
+    may_allow (Choose' c (one_flat_expr cond) l (one_flat_expr left) r (one_flat_expr right)) b p =
         list_any (λ u. branch (is_among every p) (seen u) (may_allow left b p) (may_allow right b p)) (may w kept a cond b)
     may_allow e b p = list_any (λ u. gives every u p) (may w kept a e b)
 
@@ -88,7 +89,7 @@ module _ (w : World) (kept : Kept) (a : AbsState) where
           (list_all (λ q. not (may_meet cond (bind_place b var q))) (places_in w over) && is_among every p)
           || ((list_any (λ q. must_meet cond (bind_place b var q) && not (is_among every q)) (named_in w over) && is_among every p)
           || list_any (λ q. must_meet cond (bind_place b var q) && same_place q p) (places_in w over))
-      must_allow (Choose' c (more_of-FlatExpr cond end_of-FlatExpr) l (more_of-FlatExpr left end_of-FlatExpr) r (more_of-FlatExpr right end_of-FlatExpr)) b p =
+      must_allow (Choose' c (one_flat_expr cond) l (one_flat_expr left) r (one_flat_expr right)) b p =
           chosen_surely (map seen (may w kept a cond b)) (must_allow left b p) (must_allow right b p) (is_among every p)
       must_allow e b p = gives_only every (may w kept a e b) p
 

@@ -2,6 +2,7 @@
 use Rattle.std.specs.Prelude.{◌≡◌, ℕ, Bool, true, ◌&&◌, ◌||◌, nat_eq, nat_lt}
 use Rattle.smv_core.specs.declared.flat.FlatMember.{One, Span as SpanOf}
 use Rattle.smv_core.specs.declared.flat.FlatExpr.{FlatExpr, Number, Read', Var, Loop, Constant, Not', And', Or', Implies', Iff', Compare', Within', Sum', Modulo', Choose', All', Any', List', Each', Held-FlatExpr-Each-2, None', Some', Row_of-FlatExpr, end_of-FlatExpr, more_of-FlatExpr, Row_of-FlatMember, end_of-FlatMember, more_of-FlatMember, Row_of-FlatSigned, end_of-FlatSigned, more_of-FlatSigned}
+use Rattle.smv_core.specs.Rows.{one_flat_expr}
 
 -- the variables before this one
 abbrev pub before : ℕ → ℕ → Bool
@@ -19,19 +20,19 @@ abbrev mutual
   ReadsOnly scope (Var var at) = scope var ≡ true
   ReadsOnly scope (Loop value at) = Unit {0}
   ReadsOnly scope (Constant list value at) = Unit {0}
-  ReadsOnly scope (Not' shape (more_of-FlatExpr e end_of-FlatExpr) at) = ReadsOnly scope e
+  ReadsOnly scope (Not' shape (one_flat_expr e) at) = ReadsOnly scope e
   ReadsOnly scope (And' shape parts) = ReadOnly scope parts
   ReadsOnly scope (Or' shape parts) = ReadOnly scope parts
   ReadsOnly scope (Implies' shape parts) = ReadOnly scope parts
-  ReadsOnly scope (Iff' l (more_of-FlatExpr left end_of-FlatExpr) r (more_of-FlatExpr right end_of-FlatExpr)) = ReadsOnly scope left × ReadsOnly scope right
-  ReadsOnly scope (Compare' op l (more_of-FlatExpr left end_of-FlatExpr) r (more_of-FlatExpr right end_of-FlatExpr)) = ReadsOnly scope left × ReadsOnly scope right
-  ReadsOnly scope (Within' l (more_of-FlatExpr left end_of-FlatExpr) r (more_of-FlatExpr set end_of-FlatExpr)) = ReadsOnly scope left × ReadsOnly scope set
-  ReadsOnly scope (Sum' f (more_of-FlatExpr head end_of-FlatExpr) shape more) = ReadsOnly scope head × ReadSigned scope more
-  ReadsOnly scope (Modulo' shape (more_of-FlatExpr e end_of-FlatExpr) by at) = ReadsOnly scope e
-  ReadsOnly scope (Choose' c (more_of-FlatExpr cond end_of-FlatExpr) l (more_of-FlatExpr left end_of-FlatExpr) r (more_of-FlatExpr right end_of-FlatExpr)) =
+  ReadsOnly scope (Iff' l (one_flat_expr left) r (one_flat_expr right)) = ReadsOnly scope left × ReadsOnly scope right
+  ReadsOnly scope (Compare' op l (one_flat_expr left) r (one_flat_expr right)) = ReadsOnly scope left × ReadsOnly scope right
+  ReadsOnly scope (Within' l (one_flat_expr left) r (one_flat_expr set)) = ReadsOnly scope left × ReadsOnly scope set
+  ReadsOnly scope (Sum' f (one_flat_expr head) shape more) = ReadsOnly scope head × ReadSigned scope more
+  ReadsOnly scope (Modulo' shape (one_flat_expr e) by at) = ReadsOnly scope e
+  ReadsOnly scope (Choose' c (one_flat_expr cond) l (one_flat_expr left) r (one_flat_expr right)) =
       ReadsOnly scope cond × ReadsOnly scope left × ReadsOnly scope right
-  ReadsOnly scope (All' shape (more_of-FlatExpr body end_of-FlatExpr) var over at) = ReadsOnly (under var scope) body
-  ReadsOnly scope (Any' shape (more_of-FlatExpr body end_of-FlatExpr) var over at) = ReadsOnly (under var scope) body
+  ReadsOnly scope (All' shape (one_flat_expr body) var over at) = ReadsOnly (under var scope) body
+  ReadsOnly scope (Any' shape (one_flat_expr body) var over at) = ReadsOnly (under var scope) body
   ReadsOnly scope (List' shape members at) = ReadMembers scope members
   ReadsOnly scope (Each' var over cond at) = ReadHeld (under var scope) cond
 
@@ -50,4 +51,4 @@ abbrev mutual
 
   pub ReadHeld : (ℕ → Bool) → Held-FlatExpr-Each-2 → Type 0
   ReadHeld scope None' = Unit {0}
-  ReadHeld scope (Some' shape (more_of-FlatExpr cond end_of-FlatExpr)) = ReadsOnly scope cond
+  ReadHeld scope (Some' shape (one_flat_expr cond)) = ReadsOnly scope cond

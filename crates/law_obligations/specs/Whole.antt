@@ -7,6 +7,7 @@ use Rattle.smv_core.specs.declared.flat.DefBody.{DefBody, Nothing, Assign, If', 
 use Rattle.smv_core.specs.declared.flat.FlatMember.{One, Span as SpanOf}
 use Rattle.smv_core.specs.declared.flat.FlatExpr.{FlatExpr, Number, Read', Var, Loop, Constant, Not', And', Or', Implies', Iff', Compare', Within', Sum', Modulo', Choose', All', Any', List', Each', Held-FlatExpr-Each-2, None', Some', Row_of-FlatExpr, end_of-FlatExpr, more_of-FlatExpr, Row_of-FlatMember, end_of-FlatMember, more_of-FlatMember, Row_of-FlatSigned, end_of-FlatSigned, more_of-FlatSigned}
 use Rattle.law_obligations.specs.Sets.{Has}
+use Rattle.smv_core.specs.Rows.{one_flat_expr}
 
 -- one index for each type
 abbrev pub OneForEach : {m : _} → List FlatSimple → Row_of-FlatExpr m → Type 0
@@ -27,18 +28,18 @@ module _ (families : List Family) where
     IsWhole (Var var at) = Unit {0}
     IsWhole (Loop value at) = Unit {0}
     IsWhole (Constant list value at) = Unit {0}
-    IsWhole (Not' shape (more_of-FlatExpr e end_of-FlatExpr) at) = IsWhole e
+    IsWhole (Not' shape (one_flat_expr e) at) = IsWhole e
     IsWhole (And' shape parts) = AreWhole parts
     IsWhole (Or' shape parts) = AreWhole parts
     IsWhole (Implies' shape parts) = AreWhole parts
-    IsWhole (Iff' l (more_of-FlatExpr left end_of-FlatExpr) r (more_of-FlatExpr right end_of-FlatExpr)) = IsWhole left × IsWhole right
-    IsWhole (Compare' op l (more_of-FlatExpr left end_of-FlatExpr) r (more_of-FlatExpr right end_of-FlatExpr)) = IsWhole left × IsWhole right
-    IsWhole (Within' l (more_of-FlatExpr left end_of-FlatExpr) r (more_of-FlatExpr set end_of-FlatExpr)) = IsWhole left × IsWhole set
-    IsWhole (Sum' f (more_of-FlatExpr head end_of-FlatExpr) shape more) = IsWhole head × AreWholeSigned more
-    IsWhole (Modulo' shape (more_of-FlatExpr e end_of-FlatExpr) by at) = IsWhole e
-    IsWhole (Choose' c (more_of-FlatExpr cond end_of-FlatExpr) l (more_of-FlatExpr left end_of-FlatExpr) r (more_of-FlatExpr right end_of-FlatExpr)) = IsWhole cond × IsWhole left × IsWhole right
-    IsWhole (All' shape (more_of-FlatExpr body end_of-FlatExpr) var over at) = IsWhole body
-    IsWhole (Any' shape (more_of-FlatExpr body end_of-FlatExpr) var over at) = IsWhole body
+    IsWhole (Iff' l (one_flat_expr left) r (one_flat_expr right)) = IsWhole left × IsWhole right
+    IsWhole (Compare' op l (one_flat_expr left) r (one_flat_expr right)) = IsWhole left × IsWhole right
+    IsWhole (Within' l (one_flat_expr left) r (one_flat_expr set)) = IsWhole left × IsWhole set
+    IsWhole (Sum' f (one_flat_expr head) shape more) = IsWhole head × AreWholeSigned more
+    IsWhole (Modulo' shape (one_flat_expr e) by at) = IsWhole e
+    IsWhole (Choose' c (one_flat_expr cond) l (one_flat_expr left) r (one_flat_expr right)) = IsWhole cond × IsWhole left × IsWhole right
+    IsWhole (All' shape (one_flat_expr body) var over at) = IsWhole body
+    IsWhole (Any' shape (one_flat_expr body) var over at) = IsWhole body
     IsWhole (List' shape members at) = AreWholeMembers members
     IsWhole (Each' var over cond at) = IsWholeHeld cond
 
@@ -57,7 +58,7 @@ module _ (families : List Family) where
 
     pub IsWholeHeld : Held-FlatExpr-Each-2 → Type 0
     IsWholeHeld None' = Unit {0}
-    IsWholeHeld (Some' shape (more_of-FlatExpr cond end_of-FlatExpr)) = IsWhole cond
+    IsWholeHeld (Some' shape (one_flat_expr cond)) = IsWhole cond
 
   abbrev mutual
     -- each expression of a definition is whole

@@ -19,7 +19,7 @@ use Rattle.law_obligations.specs.Places.{Place, named, rest, World, rests_beside
 use Rattle.law_obligations.proofs.Members.{Has-cases, Has-from_map, Has-uncons}
 use Rattle.law_obligations.proofs.Same.{nat_eq-itself}
 use Rattle.law_obligations.specs.Outlines.{place_of}
-use Rattle.law_designs.specs.FlatKinds.{Kind, enumeration, set_type, kind_of, joins}
+use Rattle.law_designs.specs.FlatKinds.{FlatKind, enumeration, set_type, kind_of, joins}
 use Rattle.law_designs.specs.FlatKinds as kind
 use Rattle.smv_problem.specs.declared.problem.AbsValue.{AbsValue}
 use Rattle.smv_problem.specs.declared.problem.AbsValue.TheVariants as value
@@ -193,7 +193,7 @@ names_of n d list other a b j h k =
 classes_of : (info jnfo : SetInfo) → info ≡ jnfo → (k l : ℕ) → same (value_in info k) (value_in jnfo l) ≡ nat_eq k l
 classes_of info jnfo e k l = ap (λ (i : SetInfo). same (value_in info k) (value_in i l)) (sym e) ∙ same_values info k l
 
-pub alike : (n : Numbered) → AreAllDistinct n → (j k : Kind) → joins j k ≡ true → (p q : Place) → IsPlaceOf n j p → IsPlaceOf n k q → same_place p q ≡ same_value (written_place n j p) (written_place n k q)
+pub alike : (n : Numbered) → AreAllDistinct n → (j k : FlatKind) → joins j k ≡ true → (p q : Place) → IsPlaceOf n j p → IsPlaceOf n k q → same_place p q ≡ same_value (written_place n j p) (written_place n k q)
 alike n d _ _ joined _ _ (a_number k) (a_number l) = refl
 alike n d _ _ joined _ _ (a_number k) (a_constant list b h) = absurd (cc)
 alike n d _ _ joined _ _ (a_number k) (a_class set info e m) = number_same k info m ∙ written same_value {v = value.Number k} refl (written_class n set info m)
@@ -217,7 +217,7 @@ sure b = Some b ∷ []
 abbrev of_rests : Bool → List Truth
 of_rests b = if b then unsure (Some true) else Some false ∷ []
 
-pub equal_as_written : (n : Numbered) → AreAllDistinct n → (j k : Kind) → joins j k ≡ true → (p q : Place) → IsPlaceOf n j p → IsPlaceOf n k q → equal_places p q ≡ equal_values (written_place n j p) (written_place n k q)
+pub equal_as_written : (n : Numbered) → AreAllDistinct n → (j k : FlatKind) → joins j k ≡ true → (p q : Place) → IsPlaceOf n j p → IsPlaceOf n k q → equal_places p q ≡ equal_values (written_place n j p) (written_place n k q)
 equal_as_written n d _ _ joined _ _ (a_number k) (a_number l) = refl
 equal_as_written n d _ _ joined _ _ (a_number k) (a_constant list b h) = absurd (cc)
 equal_as_written n d _ _ joined _ _ (a_number k) (a_class set info e m) = ap sure (number_same k info m) ∙ written equal_values {v = value.Number k} refl (written_class n set info m)
@@ -250,7 +250,7 @@ not_some : (b : Bool) → not_of (Some b) ≡ Some (not b)
 not_some true = refl
 not_some false = refl
 
-pub below_as_written : (n : Numbered) → (j k : Kind) → joins j k ≡ true → IsOrdered n j → IsOrdered n k → (p q : Place) → IsPlaceOf n j p → IsPlaceOf n k q → below_places p q ≡ below_values (written_place n j p) (written_place n k q)
+pub below_as_written : (n : Numbered) → (j k : FlatKind) → joins j k ≡ true → IsOrdered n j → IsOrdered n k → (p q : Place) → IsPlaceOf n j p → IsPlaceOf n k q → below_places p q ≡ below_values (written_place n j p) (written_place n k q)
 below_as_written n _ _ joined oj ok _ _ (a_number k) (a_number l) = refl
 below_as_written n _ _ joined oj ok _ _ (a_number k) (a_constant list b h) = absurd (cc)
 below_as_written n _ _ joined oj ok _ _ (a_number k) (a_class set info e m) = ap one (number_below k info m) ∙ written below_values {v = value.Number k} refl (written_class n set info m)

@@ -13,7 +13,7 @@ use Rattle.smv_core.specs.declared.flat.Family.{Family}
 use Rattle.smv_core.specs.declared.flat.FlatText.{FlatText}
 use Rattle.smv_core.specs.declared.flat.FlatMember.{One, Span as SpanOf}
 use Rattle.smv_core.specs.declared.flat.FlatExpr.{FlatExpr, Number, Read', Var, Loop, Constant, Not', And', Or', Implies', Iff', Compare', Within', Sum', Modulo', Choose', All', Any', List', Each', Held-FlatExpr-Each-2, None', Some', Row_of-FlatExpr, end_of-FlatExpr, more_of-FlatExpr, Row_of-FlatMember, end_of-FlatMember, more_of-FlatMember, Row_of-FlatSigned, end_of-FlatSigned, more_of-FlatSigned}
-use Rattle.law_designs.specs.FlatKinds.{Kind, number, enumeration, set_type, Vars, kind_of, takes, are_numbers, number_if, joins, joined, common_after, common, compares, chosen, element, take_each, inside, is_type, is_index_type, is_binder, is_condition, is_kinded_family, kind_in, kinds_in, summands, members_in, looked_through, value_in}
+use Rattle.law_designs.specs.FlatKinds.{FlatKind, number, enumeration, set_type, FlatVars, kind_of, takes, are_numbers, number_if, joins, joined, common_after, common, compares, chosen, element, take_each, inside, is_type, is_index_type, is_binder, is_condition, is_kinded_family, kind_in, kinds_in, summands, members_in, looked_through, value_in}
 use Rattle.law_designs.proofs.Operands.{all-some, takes-some, numbers-some, each-some, common-some, number_if-true, compares-some, two-some, chosen-some, element-some, if-some}
 use Rattle.law_designs.specs.SetOperands.{first_at, is_loop, disordered, met, lacks_order, is_unordered}
 use Rattle.law_designs.specs.SetFaults.{operand, listed, faults_in, faults_each, faults_signed, faults_members, faults_held}
@@ -44,17 +44,17 @@ either-both false false b h k = h
 module _ (flat_text : FlatText) where
   -- ---- the set types of kinds are there
 
-  abbrev pub is_there : Kind → Bool
+  abbrev pub is_there : FlatKind → Bool
   is_there number = true
   is_there (enumeration list) = true
   is_there (set_type set) = nat_lt set (length flat_text.sets)
 
-  abbrev pub there_if : Option Kind → Bool
+  abbrev pub there_if : Option FlatKind → Bool
   there_if None = true
   there_if (Some kind) = is_there kind
 
-  abbrev pub AreThere : Vars → Type 0
-  AreThere vars = (k : Kind) → Has vars k → is_there k ≡ true
+  abbrev pub AreThere : FlatVars → Type 0
+  AreThere vars = (k : FlatKind) → Has vars k → is_there k ≡ true
 
   pub none-there : AreThere []
   none-there k h = elim h [ ]
@@ -69,7 +69,7 @@ module _ (flat_text : FlatText) where
   index-there (Enum list) h = refl
   index-there (Set set) h = h
 
-  pub inside-there : (vars : Vars) → AreThere vars → (var : ℕ) (over : Simple) → is_binder flat_text vars var over ≡ true → AreThere (inside vars over)
+  pub inside-there : (vars : FlatVars) → AreThere vars → (var : ℕ) (over : Simple) → is_binder flat_text vars var over ≡ true → AreThere (inside vars over)
   inside-there vars all var over h k i = elim (Has-cases vars (kind_of over ∷ []) i) [
     | inl j ↦ all k j
     | inr j ↦ elim (Has-uncons j) [
@@ -82,7 +82,7 @@ module _ (flat_text : FlatText) where
   if-number true = refl
   if-number false = refl
 
-  get-there : (vars : Vars) → AreThere vars → (v : ℕ) (o : Option Kind) → slice_get vars v ≡ o → there_if o ≡ true
+  get-there : (vars : FlatVars) → AreThere vars → (v : ℕ) (o : Option FlatKind) → slice_get vars v ≡ o → there_if o ≡ true
   get-there vars all v None e = refl
   get-there vars all v (Some kind) e = all kind (get_Has vars v kind e)
 
@@ -90,14 +90,14 @@ module _ (flat_text : FlatText) where
   constant-there list true = refl
   constant-there list false = refl
 
-  joined-there : (j k : Kind) → is_there j ≡ true → is_there k ≡ true → is_there (joined j k) ≡ true
+  joined-there : (j k : FlatKind) → is_there j ≡ true → is_there k ≡ true → is_there (joined j k) ≡ true
   joined-there number number h i = refl
   joined-there number (enumeration list) h i = refl
   joined-there number (set_type set) h i = i
   joined-there (enumeration list) k h i = refl
   joined-there (set_type set) k h i = h
 
-  common-there : (l r : Option Kind) → there_if l ≡ true → there_if r ≡ true → there_if (common (l ∷ r ∷ [])) ≡ true
+  common-there : (l r : Option FlatKind) → there_if l ≡ true → there_if r ≡ true → there_if (common (l ∷ r ∷ [])) ≡ true
   common-there None r h i = refl
   common-there (Some j) None h i = refl
   common-there (Some j) (Some k) h i = by_test (joins j k)
@@ -106,7 +106,7 @@ module _ (flat_text : FlatText) where
       by_test true = joined-there j k h i
       by_test false = refl
 
-  chosen-there : (c l r : Option Kind) → there_if l ≡ true → there_if r ≡ true → there_if (chosen c l r) ≡ true
+  chosen-there : (c l r : Option FlatKind) → there_if l ≡ true → there_if r ≡ true → there_if (chosen c l r) ≡ true
   chosen-there c l r h i = by_test (takes number c)
     where
       by_test : (b : Bool) → there_if (if b then common (l ∷ r ∷ []) else None) ≡ true
@@ -114,7 +114,7 @@ module _ (flat_text : FlatText) where
       by_test false = refl
 
   module _ (kept : list_all (is_kinded_family flat_text) flat_text.families ≡ true) where
-    element-there : (k : ℕ) (o : Option Family) → slice_get flat_text.families k ≡ o → (es : List (Option Kind)) → there_if (element o es) ≡ true
+    element-there : (k : ℕ) (o : Option Family) → slice_get flat_text.families k ≡ o → (es : List (Option FlatKind)) → there_if (element o es) ≡ true
     element-there k None e es = refl
     element-there k (Some f) e es = by_test (take_each f.over es)
       where
@@ -122,7 +122,7 @@ module _ (flat_text : FlatText) where
         by_test true = type-there f.value (and_parts (list_all (is_index_type flat_text) f.over) (is_type flat_text f.value) (all-each (is_kinded_family flat_text) kept (get_Has flat_text.families k f e))).1
         by_test false = refl
 
-    kind-there : (vars : Vars) → AreThere vars → (e : FlatExpr) → there_if (kind_in flat_text vars e) ≡ true
+    kind-there : (vars : FlatVars) → AreThere vars → (e : FlatExpr) → there_if (kind_in flat_text vars e) ≡ true
     kind-there vars all (Number value at) = refl
     kind-there vars all (Read' family shape indexes at) = element-there family (slice_get flat_text.families family) refl (kinds_in flat_text vars indexes)
     kind-there vars all (Var var at) = get-there vars all var (slice_get vars var) refl
@@ -145,7 +145,7 @@ module _ (flat_text : FlatText) where
     kind-there vars all (Each' var over cond at) = refl
 
     -- what has a kind has it as a value too
-    value-kind : (vars : Vars) (e : FlatExpr) → is_some (kind_in flat_text vars e) ≡ true → value_in flat_text vars e ≡ kind_in flat_text vars e
+    value-kind : (vars : FlatVars) (e : FlatExpr) → is_some (kind_in flat_text vars e) ≡ true → value_in flat_text vars e ≡ kind_in flat_text vars e
     value-kind vars (Choose' c (more_of-FlatExpr cond end_of-FlatExpr) l (more_of-FlatExpr left end_of-FlatExpr) r (more_of-FlatExpr right end_of-FlatExpr)) h =
         let g : (is_some (kind_in flat_text vars cond) ≡ true) × (is_some (kind_in flat_text vars left) ≡ true) × (is_some (kind_in flat_text vars right) ≡ true) =
         chosen-some (kind_in flat_text vars cond) (kind_in flat_text vars left) (kind_in flat_text vars right) h in
@@ -182,13 +182,13 @@ module _ (flat_text : FlatText) where
         by_test true e = refl
         by_test false e = absurd (cc (e))
 
-    kind-ordered : (o : Option Kind) (at : ℕ) → there_if o ≡ true → fault_if (lacks_order flat_text.sets o) at ≡ [] → has_order (bare flat_text) o ≡ true
+    kind-ordered : (o : Option FlatKind) (at : ℕ) → there_if o ≡ true → fault_if (lacks_order flat_text.sets o) at ≡ [] → has_order (bare flat_text) o ≡ true
     kind-ordered None at h e = refl
     kind-ordered (Some number) at h e = refl
     kind-ordered (Some (enumeration list)) at h e = refl
     kind-ordered (Some (set_type set)) at h e = set-ordered (slice_get flat_text.sets set) at (lt-there flat_text.sets set h) e
 
-    side-ordered : (op : Op) (o : Option Kind) (at : ℕ) (loop : Bool) → there_if o ≡ true → disordered flat_text.sets op (record { kind = o; at = at; is_loop = loop }) ≡ [] → (not (is_order op) || has_order (bare flat_text) o) ≡ true
+    side-ordered : (op : Op) (o : Option FlatKind) (at : ℕ) (loop : Bool) → there_if o ≡ true → disordered flat_text.sets op (record { kind = o; at = at; is_loop = loop }) ≡ [] → (not (is_order op) || has_order (bare flat_text) o) ≡ true
     side-ordered Equal o at loop h e = refl
     side-ordered Differ o at loop h e = refl
     side-ordered Less o at loop h e = kind-ordered o at h e
@@ -196,20 +196,20 @@ module _ (flat_text : FlatText) where
     side-ordered Greater o at loop h e = kind-ordered o at h e
     side-ordered AtLeast o at loop h e = kind-ordered o at h e
 
-    side : (op : Op) (vars : Vars) → AreThere vars → (e : FlatExpr) → is_some (kind_in flat_text vars e) ≡ true → disordered flat_text.sets op (operand flat_text (value_in flat_text) vars e) ≡ [] →
+    side : (op : Op) (vars : FlatVars) → AreThere vars → (e : FlatExpr) → is_some (kind_in flat_text vars e) ≡ true → disordered flat_text.sets op (operand flat_text (value_in flat_text) vars e) ≡ [] →
         (not (is_order op) || has_order (bare flat_text) (kind_in (bare flat_text) vars e)) ≡ true
     side op vars all e h none =
         let named : disordered flat_text.sets op (record { kind = kind_in flat_text vars e; at = first_at e; is_loop = is_loop e }) ≡ [] =
         subst (λ o. disordered flat_text.sets op (record { kind = o; at = first_at e; is_loop = is_loop e }) ≡ []) (value-kind vars e h) none in
         subst (λ o. (not (is_order op) || has_order (bare flat_text) o) ≡ true) (sym (same flat_text vars e)) (side-ordered op (kind_in flat_text vars e) (first_at e) (is_loop e) (kind-there vars all e) named)
 
-    abbrev faults : Vars → FlatExpr → List Fault
+    abbrev faults : FlatVars → FlatExpr → List Fault
     faults vars e = faults_in flat_text (value_in flat_text) vars e
 
     -- ---- expressions
 
     mutual
-      pub orders : (vars : Vars) → AreThere vars → (e : FlatExpr) → is_some (kind_in flat_text vars e) ≡ true → faults vars e ≡ [] → keeps_orders (bare flat_text) vars e ≡ true
+      pub orders : (vars : FlatVars) → AreThere vars → (e : FlatExpr) → is_some (kind_in flat_text vars e) ≡ true → faults vars e ≡ [] → keeps_orders (bare flat_text) vars e ≡ true
       orders vars all (Number value at) h n = refl
       orders vars all (Read' family shape indexes at) h n =
           let g : (f : Family) × (slice_get flat_text.families family ≡ Some f) × (take_each f.over (kinds_in flat_text vars indexes) ≡ true) = element-some (slice_get flat_text.families family) (kinds_in flat_text vars indexes) h in
@@ -268,21 +268,21 @@ module _ (flat_text : FlatText) where
       orders vars all (List' shape members at) h n = absurd (cc (h))
       orders vars all (Each' var over cond at) h n = absurd (cc (h))
 
-      row-orders : {m : _} (vars : Vars) → AreThere vars → (row : Row_of-FlatExpr m) → all-some (kinds_in flat_text vars row) ≡ true → faults_each flat_text (value_in flat_text) vars row ≡ [] → all_keep_orders (bare flat_text) vars row ≡ true
+      row-orders : {m : _} (vars : FlatVars) → AreThere vars → (row : Row_of-FlatExpr m) → all-some (kinds_in flat_text vars row) ≡ true → faults_each flat_text (value_in flat_text) vars row ≡ [] → all_keep_orders (bare flat_text) vars row ≡ true
       row-orders vars all end_of-FlatExpr h n = refl
       row-orders vars all (more_of-FlatExpr e rest) h n =
           let g : (is_some (kind_in flat_text vars e) ≡ true) × (all-some (kinds_in flat_text vars rest) ≡ true) = and_parts _ _ h in
           let a : (faults vars e ≡ []) × (faults_each flat_text (value_in flat_text) vars rest ≡ []) = empty-both _ _ n in
           and_from _ _ (orders vars all e g.0 a.0) (row-orders vars all rest g.1 a.1)
 
-      signed-orders : {m : _} (vars : Vars) → AreThere vars → (row : Row_of-FlatSigned m) → all-some (summands flat_text vars row) ≡ true → faults_signed flat_text (value_in flat_text) vars row ≡ [] → signed_keep_orders (bare flat_text) vars row ≡ true
+      signed-orders : {m : _} (vars : FlatVars) → AreThere vars → (row : Row_of-FlatSigned m) → all-some (summands flat_text vars row) ≡ true → faults_signed flat_text (value_in flat_text) vars row ≡ [] → signed_keep_orders (bare flat_text) vars row ≡ true
       signed-orders vars all end_of-FlatSigned h n = refl
       signed-orders vars all (more_of-FlatSigned minus e rest) h n =
           let g : (is_some (kind_in flat_text vars e) ≡ true) × (all-some (summands flat_text vars rest) ≡ true) = and_parts _ _ h in
           let a : (faults vars e ≡ []) × (faults_signed flat_text (value_in flat_text) vars rest ≡ []) = empty-both _ _ n in
           and_from _ _ (orders vars all e g.0 a.0) (signed-orders vars all rest g.1 a.1)
 
-      members-orders : {m : _} (vars : Vars) → AreThere vars → (row : Row_of-FlatMember m) → all-some (members_in flat_text vars row) ≡ true → faults_members flat_text (value_in flat_text) vars row ≡ [] → members_keep_orders (bare flat_text) vars row ≡ true
+      members-orders : {m : _} (vars : FlatVars) → AreThere vars → (row : Row_of-FlatMember m) → all-some (members_in flat_text vars row) ≡ true → faults_members flat_text (value_in flat_text) vars row ≡ [] → members_keep_orders (bare flat_text) vars row ≡ true
       members-orders vars all end_of-FlatMember h n = refl
       members-orders vars all (more_of-FlatMember (One e) rest) h n =
           let g : (is_some (kind_in flat_text vars e) ≡ true) × (all-some (members_in flat_text vars rest) ≡ true) = and_parts _ _ h in
@@ -291,18 +291,18 @@ module _ (flat_text : FlatText) where
       members-orders vars all (more_of-FlatMember (SpanOf span at) rest) h n =
           members-orders vars all rest (and_parts (is_some (number_if (nat_le span.low span.high))) (all-some (members_in flat_text vars rest)) h).1 n
 
-      set-orders : (vars : Vars) → AreThere vars → (e : FlatExpr) → all-some (looked_through flat_text vars e) ≡ true → faults vars e ≡ [] → keeps_orders (bare flat_text) vars e ≡ true
+      set-orders : (vars : FlatVars) → AreThere vars → (e : FlatExpr) → all-some (looked_through flat_text vars e) ≡ true → faults vars e ≡ [] → keeps_orders (bare flat_text) vars e ≡ true
       set-orders vars all (List' shape members at) h n = members-orders vars all members h (empty-both _ _ n).0
       set-orders vars all _ h n = absurd (cc (h))
 
     -- ---- values
 
-    held-orders : (vars : Vars) → AreThere vars → (var : ℕ) (over : Simple) (held : Held-FlatExpr-Each-2) (at : ℕ) → is_binder flat_text vars var over ≡ true → is_condition flat_text (inside vars over) held ≡ true →
+    held-orders : (vars : FlatVars) → AreThere vars → (var : ℕ) (over : Simple) (held : Held-FlatExpr-Each-2) (at : ℕ) → is_binder flat_text vars var over ≡ true → is_condition flat_text (inside vars over) held ≡ true →
         faults_held flat_text (value_in flat_text) (inside vars over) held ≡ [] → keeps_orders (bare flat_text) vars (Each' var over held at) ≡ true
     held-orders vars all var over None' at b h n = refl
     held-orders vars all var over (Some' shape (more_of-FlatExpr cond end_of-FlatExpr)) at b h n = orders (inside vars over) (inside-there vars all var over b) cond (takes-some number (kind_in flat_text (inside vars over) cond) h) n
 
-    pub value-orders : (vars : Vars) → AreThere vars → (e : FlatExpr) → is_some (value_in flat_text vars e) ≡ true → faults vars e ≡ [] → keeps_orders (bare flat_text) vars e ≡ true
+    pub value-orders : (vars : FlatVars) → AreThere vars → (e : FlatExpr) → is_some (value_in flat_text vars e) ≡ true → faults vars e ≡ [] → keeps_orders (bare flat_text) vars e ≡ true
     value-orders vars all (List' shape members at) h n = members-orders vars all members (common-some (members_in flat_text vars members) h) (empty-both _ _ n).0
     value-orders vars all (Each' var over held at) h n =
         let t = if-some (is_binder flat_text vars var over && is_condition flat_text (inside vars over) held) (Some (kind_of over)) h in
@@ -334,7 +334,7 @@ module _ (flat_text : FlatText) where
     value-orders vars all (Any' shape body var over at) h n = orders vars all (Any' shape body var over at) h n
 
     -- the indexes of a left side
-    pub left-orders : (vars : Vars) → AreThere vars → (es : List FlatExpr) → all-some (map (kind_in flat_text vars) es) ≡ true → flat_map (faults_in flat_text (value_in flat_text) vars) es ≡ [] → list_all (keeps_orders (bare flat_text) vars) es ≡ true
+    pub left-orders : (vars : FlatVars) → AreThere vars → (es : List FlatExpr) → all-some (map (kind_in flat_text vars) es) ≡ true → flat_map (faults_in flat_text (value_in flat_text) vars) es ≡ [] → list_all (keeps_orders (bare flat_text) vars) es ≡ true
     left-orders vars all [] h n = refl
     left-orders vars all (e ∷ es) h n =
         let g : (is_some (kind_in flat_text vars e) ≡ true) × (all-some (map (kind_in flat_text vars) es) ≡ true) = and_parts _ _ h in

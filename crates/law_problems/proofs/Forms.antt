@@ -51,7 +51,7 @@ use Rattle.law_obligations.proofs.OutlineFacts.{Comes, from_base, from_unit, bas
 use Rattle.law_obligations.proofs.CasePlaces.{IsThere, case_places, treatment_there, take_of, named_there}
 use Rattle.law_obligations.proofs.ConeFacts.{in_cone-is, same_element-family, same_element-indexes, own_kept}
 use Rattle.law_designs.specs.FlatKinds as kinds
-use Rattle.law_designs.specs.FlatKinds.{Kind, kind_of}
+use Rattle.law_designs.specs.FlatKinds.{FlatKind, kind_of}
 use Rattle.law_obligations.specs.Readings.{PosedCase, IsCase, state_bits}
 use Rattle.law_obligations.specs.Scripts.{case_of}
 use Rattle.law_obligations.proofs.ScriptCases.{is_case, filled, treatment-at}
@@ -161,7 +161,7 @@ gaps-few false None (Some vars) m l e = absurd (cc)
 -- ---- kinds
 
 -- an operand that is taken has a kind
-taken-kind : (target : Kind) (k : Option Kind) → IsTrue (kinds.takes target k) → (kind : Kind) × (k ≡ Some kind) × IsTrue (kinds.takes target (Some kind))
+taken-kind : (target : FlatKind) (k : Option FlatKind) → IsTrue (kinds.takes target k) → (kind : FlatKind) × (k ≡ Some kind) × IsTrue (kinds.takes target (Some kind))
 taken-kind target None t = absurd (cc)
 taken-kind target (Some kind) t = (kind, refl, t)
 
@@ -249,7 +249,7 @@ module _ (d : Design) (leaf : Leaf) (choice : Choice) (part : IsPart d leaf choi
   fits_claim : (claim : FlatClaim) → Has d.claims claim ⊎ (claim ≡ nothing_claimed) → (b : List Place) → AreOf w (map (λ p. p.over) claim.params) b → IsFit c (holds claim.body b)
   fits_claim claim (inl h) b are =
       let f = part.is_fit.claims claim h in
-      let k = taken-kind Kind.number (kinds.kind_in (as_flat_text (names_of d)) (map (λ p. kind_of p.over) claim.params) claim.body) f.0 in
+      let k = taken-kind FlatKind.number (kinds.kind_in (as_flat_text (names_of d)) (map (λ p. kind_of p.over) claim.params) claim.body) f.0 in
       let same : map kind_of (map (λ p. p.over) claim.params) ≡ map (λ p. kind_of p.over) claim.params = map-map kind_of (λ p. p.over) claim.params in (
         map (λ p. p.over) claim.params,
         k.0,
@@ -261,7 +261,7 @@ module _ (d : Design) (leaf : Leaf) (choice : Choice) (part : IsPart d leaf choi
         k.2,
       )
   fits_claim claim (inr e) b are = subst (λ (claim : FlatClaim). AreOf w (map (λ p. p.over) claim.params) b → IsFit c (holds claim.body b)) (sym e)
-      (λ a. ([], Kind.number, record { are_of = a; has_kind = refl; has_orders = refl }, refl)) are
+      (λ a. ([], FlatKind.number, record { are_of = a; has_kind = refl; has_orders = refl }, refl)) are
 
   fits_element : (time : Timing) (x : AbsElement) → Has the_cone x → (demand : Demanded) → Has (element_demands o entry times w own time x) demand → IsFit c demand
   fits_element time x h demand k =

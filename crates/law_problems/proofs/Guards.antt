@@ -17,9 +17,9 @@ use Rattle.law_obligations.proofs.Members.{Has-uncons, Has-left, Has-from_map}
 use Rattle.law_obligations.proofs.OneOfEach.{Has-from_flat_map}
 use Rattle.law_obligations.specs.Outlines.{names_of, unit_in}
 use Rattle.law_obligations.specs.Units.{units_of}
-use Rattle.law_designs.specs.FlatKinds.{Vars, kind_of, kind_in}
+use Rattle.law_designs.specs.FlatKinds.{FlatVars, kind_of, kind_in}
 use Rattle.smv_problem.specs.WellFormed.{as_flat_text, keeps_orders}
-use Rattle.law_splits.specs.Variables.{Reading, readings, renamed, IsNumbered}
+use Rattle.law_splits.specs.Variables.{Occurrence, readings, renamed, IsNumbered}
 use Rattle.law_splits.specs.Leaves.{with_name, name_of, own_params, Cut, new, all_params, number_in, guard_of, guards_of, params_after, chain_of, leaf_of, leaves_from, leaves_of}
 use Rattle.law_splits.specs.SplitFaults.{faults_of_splits}
 use Rattle.law_splits.specs.SplitLaws.{IsRead}
@@ -33,7 +33,7 @@ use Rattle.law_problems.proofs.Standing.{stands, chain_cut}
 
 -- ---- an equation in a leaf
 
-module _ (flat_text : FlatText) (split : FlatSplit) (e : FlatExpr) (numbered : IsNumbered (length split.bound) e) (all_fine : (x : Reading) → Has (readings e) x → IsFine split x.var) (own vars : Vars) (stand : KindsStandFor split own vars) where
+module _ (flat_text : FlatText) (split : FlatSplit) (e : FlatExpr) (numbered : IsNumbered (length split.bound) e) (all_fine : (x : Occurrence) → Has (readings e) x → IsFine split x.var) (own vars : FlatVars) (stand : KindsStandFor split own vars) where
   abbrev width : ℕ
   width = length split.bound
 
@@ -122,7 +122,7 @@ module _ (d : Design) (read : IsRead d) (none : faults_of_splits d ≡ []) (kind
         let flat_text = as_flat_text (names_of d) in
         let kind = kinded.kinded c.split there.0 pair b.1 in
         let numbered = good.are_numbered pair b.1 in
-        let all_fine : (x : Reading) → Has (readings pair.left) x → IsFine c.split x.var = λ x k. good.stand pair b.1 x k in
+        let all_fine : (x : Occurrence) → Has (readings pair.left) x → IsFine c.split x.var = λ x k. good.stand pair b.1 x k in
         let long : length (kinds_of all) ≡ length all = length_map (λ p. kind_of p.over) all in
         let expr : g.expr ≡ renamed (number_in c.split (length (kinds_of all))) pair.left =
         ap (λ (g : Guard). g.expr) q.2 ∙ ap (λ n. renamed (number_in c.split n) pair.left) (sym long) in

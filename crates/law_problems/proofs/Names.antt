@@ -8,7 +8,7 @@ use Rattle.smv_core.specs.declared.flat.FlatMember.{One, Span as SpanOf}
 use Rattle.smv_core.specs.declared.flat.FlatExpr.{FlatExpr, Number, Read', Var, Loop, Constant, Not', And', Or', Implies', Iff', Compare', Within', Sum', Modulo', Choose', All', Any', List', Each', Held-FlatExpr-Each-2, None', Some', Row_of-FlatExpr, end_of-FlatExpr, more_of-FlatExpr, Row_of-FlatMember, end_of-FlatMember, more_of-FlatMember, Row_of-FlatSigned, end_of-FlatSigned, more_of-FlatSigned}
 use Rattle.law_designs.specs.Definitions.{design_of_flat_text}
 use Rattle.law_obligations.specs.Outlines.{names_of}
-use Rattle.law_designs.specs.FlatKinds.{number, Vars, kind_of, takes, are_numbers, number_if, common, compares, chosen, element, inside, is_binder, is_condition, kind_in, kinds_in, summands, members_in, looked_through, value_in}
+use Rattle.law_designs.specs.FlatKinds.{number, FlatVars, kind_of, takes, are_numbers, number_if, common, compares, chosen, element, inside, is_binder, is_condition, kind_in, kinds_in, summands, members_in, looked_through, value_in}
 use Rattle.smv_problem.specs.WellFormed.{as_flat_text}
 
 -- the names alone of the design of a flattened text
@@ -16,13 +16,13 @@ abbrev pub bare : FlatText → FlatText
 bare flat_text = as_flat_text (names_of (design_of_flat_text flat_text))
 
 module _ (flat_text : FlatText) where
-  pub same_binder : (vars : Vars) (var : ℕ) (over : Simple) → is_binder (bare flat_text) vars var over ≡ is_binder flat_text vars var over
+  pub same_binder : (vars : FlatVars) (var : ℕ) (over : Simple) → is_binder (bare flat_text) vars var over ≡ is_binder flat_text vars var over
   same_binder vars var (Range low high) = refl
   same_binder vars var (Enum list) = refl
   same_binder vars var (Set set) = refl
 
   mutual
-    pub same : (vars : Vars) (e : FlatExpr) → kind_in (bare flat_text) vars e ≡ kind_in flat_text vars e
+    pub same : (vars : FlatVars) (e : FlatExpr) → kind_in (bare flat_text) vars e ≡ kind_in flat_text vars e
     same vars (Number value place) = refl
     same vars (Read' family shape indexes place) = ap (element (slice_get flat_text.families family)) (same_each vars indexes)
     same vars (Var var place) = refl
@@ -51,15 +51,15 @@ module _ (flat_text : FlatText) where
     same vars (List' shape members place) = refl
     same vars (Each' var over held place) = refl
 
-    same_each : {k : _} (vars : Vars) (row : Row_of-FlatExpr k) → kinds_in (bare flat_text) vars row ≡ kinds_in flat_text vars row
+    same_each : {k : _} (vars : FlatVars) (row : Row_of-FlatExpr k) → kinds_in (bare flat_text) vars row ≡ kinds_in flat_text vars row
     same_each vars end_of-FlatExpr = refl
     same_each vars (more_of-FlatExpr e others) = ap (λ u. u ∷ kinds_in (bare flat_text) vars others) (same vars e) ∙ ap (λ us. kind_in flat_text vars e ∷ us) (same_each vars others)
 
-    same_summands : {k : _} (vars : Vars) (row : Row_of-FlatSigned k) → summands (bare flat_text) vars row ≡ summands flat_text vars row
+    same_summands : {k : _} (vars : FlatVars) (row : Row_of-FlatSigned k) → summands (bare flat_text) vars row ≡ summands flat_text vars row
     same_summands vars end_of-FlatSigned = refl
     same_summands vars (more_of-FlatSigned minus e others) = ap (λ u. u ∷ summands (bare flat_text) vars others) (same vars e) ∙ ap (λ us. kind_in flat_text vars e ∷ us) (same_summands vars others)
 
-    same_listed : (vars : Vars) (e : FlatExpr) → looked_through (bare flat_text) vars e ≡ looked_through flat_text vars e
+    same_listed : (vars : FlatVars) (e : FlatExpr) → looked_through (bare flat_text) vars e ≡ looked_through flat_text vars e
     same_listed vars (List' shape members place) = same_members vars members
     same_listed vars (Number value place) = refl
     same_listed vars (Read' family shape indexes place) = refl
@@ -80,16 +80,16 @@ module _ (flat_text : FlatText) where
     same_listed vars (Any' shape body var over place) = refl
     same_listed vars (Each' var over held place) = refl
 
-    same_members : {k : _} (vars : Vars) (row : Row_of-FlatMember k) → members_in (bare flat_text) vars row ≡ members_in flat_text vars row
+    same_members : {k : _} (vars : FlatVars) (row : Row_of-FlatMember k) → members_in (bare flat_text) vars row ≡ members_in flat_text vars row
     same_members vars end_of-FlatMember = refl
     same_members vars (more_of-FlatMember (One e) others) = ap (λ u. u ∷ members_in (bare flat_text) vars others) (same vars e) ∙ ap (λ us. kind_in flat_text vars e ∷ us) (same_members vars others)
     same_members vars (more_of-FlatMember (SpanOf span place) others) = ap (λ us. number_if (nat_le span.low span.high) ∷ us) (same_members vars others)
 
-  same_condition : (vars : Vars) (held : Held-FlatExpr-Each-2) → is_condition (bare flat_text) vars held ≡ is_condition flat_text vars held
+  same_condition : (vars : FlatVars) (held : Held-FlatExpr-Each-2) → is_condition (bare flat_text) vars held ≡ is_condition flat_text vars held
   same_condition vars None' = refl
   same_condition vars (Some' shape (more_of-FlatExpr test end_of-FlatExpr)) = ap (takes number) (same vars test)
 
-  pub same_value : (vars : Vars) (e : FlatExpr) → value_in (bare flat_text) vars e ≡ value_in flat_text vars e
+  pub same_value : (vars : FlatVars) (e : FlatExpr) → value_in (bare flat_text) vars e ≡ value_in flat_text vars e
   same_value vars (List' shape members place) = ap common (same_members vars members)
   same_value vars (Each' var over held place) =
       ap (λ t. if t && is_condition (bare flat_text) (inside vars over) held then Some (kind_of over) else None) (same_binder vars var over)
@@ -114,6 +114,6 @@ module _ (flat_text : FlatText) where
   same_value vars (All' shape body var over place) = same vars (All' shape body var over place)
   same_value vars (Any' shape body var over place) = same vars (Any' shape body var over place)
 
-  pub same_list : (vars : Vars) (es : List FlatExpr) → map (kind_in (bare flat_text) vars) es ≡ map (kind_in flat_text vars) es
+  pub same_list : (vars : FlatVars) (es : List FlatExpr) → map (kind_in (bare flat_text) vars) es ≡ map (kind_in flat_text vars) es
   same_list vars [] = refl
   same_list vars (e ∷ es) = ap (λ u. u ∷ map (kind_in (bare flat_text) vars) es) (same vars e) ∙ ap (λ us. kind_in flat_text vars e ∷ us) (same_list vars es)

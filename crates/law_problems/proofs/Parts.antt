@@ -28,7 +28,7 @@ use Rattle.smv_core.specs.declared.flat.FlatText.{FlatText}
 use Rattle.law_designs.specs.WholeText.{is_one_layer, claims_of}
 use Rattle.law_designs.specs.Standing.{count, Statement, statements_from, statements_of}
 use Rattle.law_designs.specs.Definitions.{is_nothing, joined, first_part, flat_of, flats_of, set_of, part_of, Head, def_of, first_heads, splits_of, design_of_flat_text}
-use Rattle.law_designs.specs.FlatKinds.{Kind, number, takes, assigns, element, Vars, kind_of, inside, bound_by, are_binders, is_binder, is_index_type, is_type, is_size, kind_in, value_in, keeps_kinds, all_keep_kinds, is_kinded_item, is_kinded_family, is_kinded}
+use Rattle.law_designs.specs.FlatKinds.{FlatKind, number, takes, assigns, element, FlatVars, kind_of, inside, bound_by, are_binders, is_binder, is_index_type, is_type, is_size, kind_in, value_in, keeps_kinds, all_keep_kinds, is_kinded_item, is_kinded_family, is_kinded}
 use Rattle.law_designs.proofs.Operands.{all-some, takes-some, each-some, element-some}
 use Rattle.law_designs.specs.SetFaults.{operand, faults_in, faults_of, faults_of_each, item_faults, faults_of_sets}
 use Rattle.law_designs.specs.SetOperands.{wanted_at, wanted_of}
@@ -82,13 +82,13 @@ module _ (flat_text : FlatText) (families_kept : list_all (is_kinded_family flat
   -- ---- parts of a definition
 
   module _ (family : ℕ) where
-    abbrev IsPart : Vars → DefBody → Type 0
+    abbrev IsPart : FlatVars → DefBody → Type 0
     IsPart vars p = is_part (bare flat_text) family vars p ≡ true
 
-    abbrev EachIsPart : Vars → List DefBody → Type 0
+    abbrev EachIsPart : FlatVars → List DefBody → Type 0
     EachIsPart vars parts = (p : DefBody) → Has parts p → IsPart vars p
 
-    part-row : (vars : Vars) (k : _) (row : Row_of-DefBody k) → EachIsPart vars (items-the_row-DefBody k row) → are_parts (bare flat_text) family vars row ≡ true
+    part-row : (vars : FlatVars) (k : _) (row : Row_of-DefBody k) → EachIsPart vars (items-the_row-DefBody k row) → are_parts (bare flat_text) family vars row ≡ true
     part-row vars k end_of-DefBody h = refl
     part-row vars k (more_of-DefBody p rest) h = and_from _ _ (h p first) (part-row vars _ rest (λ q i. h q (later i)))
 
@@ -96,40 +96,40 @@ module _ (flat_text : FlatText) (families_kept : list_all (is_kinded_family flat
     rows_of (First' shape row) = (_, row)
     rows_of _ = (_, end_of-DefBody)
 
-    part-First : (vars : Vars) (parts : List DefBody) → EachIsPart vars parts → IsPart vars (First parts)
+    part-First : (vars : FlatVars) (parts : List DefBody) → EachIsPart vars parts → IsPart vars (First parts)
     part-First vars parts h = let row : (k : Count) × Row_of-DefBody k = rows_of (First parts) in part-row vars row.0 row.1 (subst (EachIsPart vars) (sym (items_hidden-the_row-DefBody-1 parts)) h)
 
-    part-If : (vars : Vars) (test : FlatExpr) (p q : DefBody) → takes number (kind_in (bare flat_text) vars test) ≡ true → keeps_orders (bare flat_text) vars test ≡ true → IsPart vars p → IsPart vars q → IsPart vars (If test p q)
+    part-If : (vars : FlatVars) (test : FlatExpr) (p q : DefBody) → takes number (kind_in (bare flat_text) vars test) ≡ true → keeps_orders (bare flat_text) vars test ≡ true → IsPart vars p → IsPart vars q → IsPart vars (If test p q)
     unfolding boxes
     part-If vars test p q t o h k = and_from _ _ (and_from _ _ t o) (and_from _ _ h k)
 
-    part-Forall : (vars : Vars) (var : ℕ) (over : Simple) (p : DefBody) → is_binder (bare flat_text) vars var over ≡ true → IsPart (inside vars over) p → IsPart vars (Forall var over p)
+    part-Forall : (vars : FlatVars) (var : ℕ) (over : Simple) (p : DefBody) → is_binder (bare flat_text) vars var over ≡ true → IsPart (inside vars over) p → IsPart vars (Forall var over p)
     unfolding boxes
     part-Forall vars var over p b h = and_from _ _ b h
 
-    part-joined : (vars : Vars) (parts : List DefBody) → EachIsPart vars parts → IsPart vars (joined parts)
+    part-joined : (vars : FlatVars) (parts : List DefBody) → EachIsPart vars parts → IsPart vars (joined parts)
     part-joined vars [] h = refl
     part-joined vars (p ∷ []) h = h p first
     part-joined vars (p ∷ q ∷ more) h = part-First vars (p ∷ q ∷ more) h
 
-    part-first_part : (vars : Vars) (parts : List DefBody) → EachIsPart vars parts → IsPart vars (first_part parts)
+    part-first_part : (vars : FlatVars) (parts : List DefBody) → EachIsPart vars parts → IsPart vars (first_part parts)
     part-first_part vars parts h = part-joined vars (filter (λ p. not (is_nothing p)) parts) (λ p k. h p (Has-from_filter (λ p. not (is_nothing p)) parts k).0)
 
-    part-cond : (vars : Vars) (b : Bool) (p q : DefBody) → IsPart vars p → IsPart vars q → IsPart vars (cond b p q)
+    part-cond : (vars : FlatVars) (b : Bool) (p q : DefBody) → IsPart vars p → IsPart vars q → IsPart vars (cond b p q)
     part-cond vars true p q h k = h
     part-cond vars false p q h k = k
 
     -- ---- statements
 
     -- an assignment that keeps the rules has a target and a value of a kind
-    assigned-some : (target value : Option Kind) → assigns target value ≡ true → (is_some target ≡ true) × (is_some value ≡ true)
+    assigned-some : (target value : Option FlatKind) → assigns target value ≡ true → (is_some target ≡ true) × (is_some value ≡ true)
     assigned-some None value e = absurd (cc (e))
     assigned-some (Some kind) value e = (refl, takes-some kind value e)
 
-    abbrev faults : Vars → FlatStmt → List Fault
+    abbrev faults : FlatVars → FlatStmt → List Fault
     faults vars act = faults_of flat_text (value_in flat_text) vars act
 
-    assign-part : (vars : Vars) → AreThere flat_text vars → (left : List FlatExpr) (value : FlatExpr) (place at : ℕ) →
+    assign-part : (vars : FlatVars) → AreThere flat_text vars → (left : List FlatExpr) (value : FlatExpr) (place at : ℕ) →
         assigns (element (slice_get flat_text.families family) (map (kind_in flat_text vars) left)) (value_in flat_text vars value) ≡ true →
         flat_map (faults_in flat_text (value_in flat_text) vars) left ≡ [] → faults_in flat_text (value_in flat_text) vars value ≡ [] → IsPart vars (flat.Assign left value place at)
     assign-part vars all left value place at h n m =
@@ -143,7 +143,7 @@ module _ (flat_text : FlatText) (families_kept : list_all (is_kinded_family flat
 
     module _ (kind : AssignKind) where
       mutual
-        part_of_act : (vars : Vars) → AreThere flat_text vars → (k : ℕ) (act : FlatStmt) → keeps_kinds flat_text vars act ≡ true → faults vars act ≡ [] → IsPart vars (flat_of kind family k act)
+        part_of_act : (vars : FlatVars) → AreThere flat_text vars → (k : ℕ) (act : FlatStmt) → keeps_kinds flat_text vars act ≡ true → faults vars act ≡ [] → IsPart vars (flat_of kind family k act)
         part_of_act vars all k (Assign which other left value at) h n =
             let lefts : List Fault = flat_map (faults_in flat_text (value_in flat_text) vars) left in
             let indexes : List Fault = wanted_at (slice_get flat_text.families other) (map (operand flat_text (value_in flat_text) vars) left) in
@@ -186,7 +186,7 @@ module _ (flat_text : FlatText) (families_kept : list_all (is_kinded_family flat
             part-cond vars (is_nothing (flat_of kind family k body)) Nothing (Forall var over (flat_of kind family k body)) refl
             (part-Forall vars var over (flat_of kind family k body) (same_binder flat_text vars var over ∙ g.0) (part_of_act (inside vars over) (inside-there flat_text vars all var over g.0) k body g.1 n))
 
-        parts_of_acts : {m : _} (vars : Vars) → AreThere flat_text vars → (k : ℕ) (parts : Row_of-FlatStmt m) → all_keep_kinds flat_text vars parts ≡ true → faults_of_each flat_text (value_in flat_text) vars parts ≡ [] →
+        parts_of_acts : {m : _} (vars : FlatVars) → AreThere flat_text vars → (k : ℕ) (parts : Row_of-FlatStmt m) → all_keep_kinds flat_text vars parts ≡ true → faults_of_each flat_text (value_in flat_text) vars parts ≡ [] →
             EachIsPart vars (flats_of kind family k parts)
         parts_of_acts vars all k end_of-FlatStmt h n p i = elim i [ ]
         parts_of_acts vars all k (more_of-FlatStmt part rest) h n p i =
@@ -200,7 +200,7 @@ module _ (flat_text : FlatText) (families_kept : list_all (is_kinded_family flat
 
   -- ---- the variables around items
 
-  binders-there : (vars : Vars) (params : List Param) → are_binders flat_text vars params ≡ true → (p : Param) → Has params p → is_index_type flat_text p.over ≡ true
+  binders-there : (vars : FlatVars) (params : List Param) → are_binders flat_text vars params ≡ true → (p : Param) → Has params p → is_index_type flat_text p.over ≡ true
   binders-there vars [] h p i = elim i [ ]
   binders-there vars (q ∷ params) h _ first = (and_parts (nat_eq q.var (length vars)) (is_index_type flat_text q.over) (and_parts (is_binder flat_text vars q.var q.over) (are_binders flat_text (inside vars q.over) params) h).0).1
   binders-there vars (q ∷ params) h p (later i) = binders-there (inside vars q.over) params (and_parts (is_binder flat_text vars q.var q.over) (are_binders flat_text (inside vars q.over) params) h).1 p i
@@ -210,11 +210,11 @@ module _ (flat_text : FlatText) (families_kept : list_all (is_kinded_family flat
       let r = Has-from_map (λ (p : Param). kind_of p.over) params i in
       subst (λ k. is_there flat_text k ≡ true) (sym r.2) (index-there flat_text r.0.over (binders-there [] params h r.0 r.1))
 
-  length-inside : (vars : Vars) (over : Simple) → length (inside vars over) ≡ suc (length vars)
+  length-inside : (vars : FlatVars) (over : Simple) → length (inside vars over) ≡ suc (length vars)
   length-inside [] over = refl
   length-inside (v ∷ vars) over = let e = length-inside vars over in omega arith
 
-  binder-place : (vars : Vars) (params : List Param) → are_binders flat_text vars params ≡ true → (v : ℕ) (p : Param) → slice_get params v ≡ Some p → p.var ≡ length vars + v
+  binder-place : (vars : FlatVars) (params : List Param) → are_binders flat_text vars params ≡ true → (v : ℕ) (p : Param) → slice_get params v ≡ Some p → p.var ≡ length vars + v
   binder-place vars [] h v p e = absurd (cc (e))
   binder-place vars (q ∷ params) h zero p e =
       let same : q ≡ p = cc (e) in
@@ -257,7 +257,7 @@ module _ (flat_text : FlatText) (families_kept : list_all (is_kinded_family flat
     split-kept : (s : FlatSplit) → Has (design_of_flat_text flat_text).splits s → (are_binders flat_text [] s.bound ≡ true) × (list_all (λ (pair : FlatPair). is_some (kind_in flat_text (bound_by flat_text s.bound) pair.left)) s.pairs ≡ true)
     split-kept s i = and_parts _ _ (all-each (is_kinded_item flat_text) items_kept (split-item flat_text.items s i))
 
-    some-kind : (o : Option Kind) → is_some o ≡ true → (kind : Kind) × (o ≡ Some kind)
+    some-kind : (o : Option FlatKind) → is_some o ≡ true → (kind : FlatKind) × (o ≡ Some kind)
     some-kind None h = absurd (cc (h))
     some-kind (Some kind) h = (kind, refl)
 

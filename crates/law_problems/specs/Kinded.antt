@@ -10,34 +10,34 @@ use Rattle.smv_core.specs.declared.flat.Leaf.{Leaf}
 use Rattle.smv_core.specs.declared.flat.FlatText.{FlatText}
 use Rattle.law_obligations.specs.Sets.{Has}
 use Rattle.law_obligations.specs.Outlines.{names_of}
-use Rattle.law_designs.specs.FlatKinds.{Kind, Vars, kind_of, kind_in}
+use Rattle.law_designs.specs.FlatKinds.{FlatKind, FlatVars, kind_of, kind_in}
 use Rattle.law_splits.specs.SplitLaws.{IsRead}
-use Rattle.law_splits.specs.Variables.{Reading, readings, renamed, IsNumbered}
+use Rattle.law_splits.specs.Variables.{Occurrence, readings, renamed, IsNumbered}
 use Rattle.law_splits.specs.Leaves.{stands_for, number_in, leaves_of}
 use Rattle.law_splits.specs.SplitFaults.{is_stray, faults_of_splits}
 use Rattle.smv_problem.specs.WellFormed.{as_flat_text, keeps_orders}
 
 -- these kinds of a leaf's parameters are those that the variables bound around a split have, where its brackets name them
-abbrev pub KindsStandFor : FlatSplit → Vars → Vars → Type 0
+abbrev pub KindsStandFor : FlatSplit → FlatVars → FlatVars → Type 0
 KindsStandFor split own vars = (length own ≡ length split.bound) × ((v k : ℕ) → v < length split.bound → stands_for split v ≡ Some k → slice_get vars k ≡ slice_get own v)
 
 -- an equation that reads no other variable has in a leaf with so many parameters the kind that it has at the split's own variables
 abbrev pub EquationsKeepKinds : Type 0
-EquationsKeepKinds = (flat_text : FlatText) (split : FlatSplit) (e : FlatExpr) → IsNumbered (length split.bound) e → ((x : Reading) → Has (readings e) x → is_stray split x ≡ false) →
-    (own vars : Vars) → KindsStandFor split own vars → kind_in flat_text vars (renamed (number_in split (length vars)) e) ≡ kind_in flat_text own e
+EquationsKeepKinds = (flat_text : FlatText) (split : FlatSplit) (e : FlatExpr) → IsNumbered (length split.bound) e → ((x : Occurrence) → Has (readings e) x → is_stray split x ≡ false) →
+    (own vars : FlatVars) → KindsStandFor split own vars → kind_in flat_text vars (renamed (number_in split (length vars)) e) ≡ kind_in flat_text own e
 
 -- and it keeps orders there exactly where it keeps them at these variables
 abbrev pub EquationsKeepOrders : Type 0
-EquationsKeepOrders = (flat_text : FlatText) (split : FlatSplit) (e : FlatExpr) → IsNumbered (length split.bound) e → ((x : Reading) → Has (readings e) x → is_stray split x ≡ false) →
-    (own vars : Vars) → KindsStandFor split own vars → keeps_orders flat_text vars (renamed (number_in split (length vars)) e) ≡ keeps_orders flat_text own e
+EquationsKeepOrders = (flat_text : FlatText) (split : FlatSplit) (e : FlatExpr) → IsNumbered (length split.bound) e → ((x : Occurrence) → Has (readings e) x → is_stray split x ≡ false) →
+    (own vars : FlatVars) → KindsStandFor split own vars → keeps_orders flat_text vars (renamed (number_in split (length vars)) e) ≡ keeps_orders flat_text own e
 
 -- the kinds of parameters or variables
-abbrev pub kinds_of : List Param → Vars
+abbrev pub kinds_of : List Param → FlatVars
 kinds_of params = map (λ p. kind_of p.over) params
 
 -- an expression has a kind and keeps orders, where the variables around it are of these kinds
-abbrev pub IsKinded : Design → Vars → FlatExpr → Type 0
-IsKinded d vars e = (kind : Kind) × (kind_in (as_flat_text (names_of d)) vars e ≡ Some kind) × IsTrue (keeps_orders (as_flat_text (names_of d)) vars e)
+abbrev pub IsKinded : Design → FlatVars → FlatExpr → Type 0
+IsKinded d vars e = (kind : FlatKind) × (kind_in (as_flat_text (names_of d)) vars e ≡ Some kind) × IsTrue (keeps_orders (as_flat_text (names_of d)) vars e)
 
 -- what the rules of kinds and of set types say of the splits of a design: a variable bound around one has its place as its number, and each equation has a kind and keeps orders
 pub record HasKindedSplits (d : Design) : Type 0 where

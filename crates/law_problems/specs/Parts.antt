@@ -26,7 +26,7 @@ use Rattle.law_obligations.specs.Cones.{AbsElement, cone}
 use Rattle.law_obligations.specs.Problems.{world_of, params_at}
 use Rattle.law_obligations.specs.Checked.{IsChecked}
 use Rattle.law_designs.specs.FlatKinds as kinds
-use Rattle.law_designs.specs.FlatKinds.{Kind, kind_of}
+use Rattle.law_designs.specs.FlatKinds.{FlatKind, kind_of}
 use Rattle.law_obligations.specs.Readings.{PosedCase, bits_of_all}
 use Rattle.law_obligations.specs.Scripts.{case_of, HaveValues}
 use Rattle.smv_problem.specs.WellFormed.{as_flat_text, keeps_orders, is_part, AreDistinct}
@@ -57,7 +57,7 @@ bits_with d leaf choice classes = bits_of_all (world_with d leaf choice classes)
 pub record IsFitDesign (d : Design) : Type 0 where
   pub definitions : (def : Def) → Has d.defs def →
       IsTrue (is_part (as_flat_text (names_of d)) def.family [] def.init) × IsTrue (is_part (as_flat_text (names_of d)) def.family [] def.next) × IsTrue (is_part (as_flat_text (names_of d)) def.family [] def.comb)
-  pub claims : (claim : FlatClaim) → Has d.claims claim → IsTrue (kinds.takes Kind.number (kinds.kind_in (as_flat_text (names_of d)) (map (λ p. kind_of p.over) claim.params) claim.body)) × IsTrue (keeps_orders (as_flat_text (names_of d)) (map (λ p. kind_of p.over) claim.params) claim.body)
+  pub claims : (claim : FlatClaim) → Has d.claims claim → IsTrue (kinds.takes FlatKind.number (kinds.kind_in (as_flat_text (names_of d)) (map (λ p. kind_of p.over) claim.params) claim.body)) × IsTrue (keeps_orders (as_flat_text (names_of d)) (map (λ p. kind_of p.over) claim.params) claim.body)
   pub constants : (list : List (List ℕ)) → Has d.enums list → AreDistinct list
   pub indexes : (f : Family) → Has d.families f → (t : Simple) → Has f.over t → IsIndexType t
 
@@ -72,7 +72,7 @@ pub record IsPart (d : Design) (leaf : Leaf) (choice : Choice) : Type 0 where
   pub have_values : HaveValues d
   pub sizes : (info : SetInfo) → Has d.sets info → IfSome info.size (λ n. n ≤ 256)
   pub is_fit : IsFitDesign d
-  pub guards : (g : Guard) → Has leaf.guards g → (kind : Kind) × (kinds.kind_in (as_flat_text (names_of d)) (map (λ p. kind_of p.over) leaf.params) g.expr ≡ Some kind) × IsTrue (keeps_orders (as_flat_text (names_of d)) (map (λ p. kind_of p.over) leaf.params) g.expr)
+  pub guards : (g : Guard) → Has leaf.guards g → (kind : FlatKind) × (kinds.kind_in (as_flat_text (names_of d)) (map (λ p. kind_of p.over) leaf.params) g.expr ≡ Some kind) × IsTrue (keeps_orders (as_flat_text (names_of d)) (map (λ p. kind_of p.over) leaf.params) g.expr)
 
 -- the classes of one of its cases, where the leaf has no more parameters than a case may have
 pub record IsCaseOf (d : Design) (leaf : Leaf) (choice : Choice) (classes : List Class) : Type 0 where

@@ -7,7 +7,7 @@ use Rattle.smv_core.specs.declared.flat.Simple.TheVariants.{Set}
 use Rattle.smv_core.specs.declared.flat.SetInfo.{SetInfo}
 use Rattle.law_obligations.specs.Sets.{Has}
 use Rattle.law_obligations.specs.Places.{Place, is_named, World, places_in, same_place, equal_places, below_places}
-use Rattle.law_designs.specs.FlatKinds.{Kind, kind_of, joins, set_type}
+use Rattle.law_designs.specs.FlatKinds.{FlatKind, kind_of, joins, set_type}
 use Rattle.smv_problem.specs.WellFormed.{AreDistinct}
 use Rattle.smv_problem.specs.Written.{written_place}
 use Rattle.law_problems.specs.Values.{IsPlaceOf, same_value, equal_values, below_values}
@@ -22,20 +22,20 @@ AreAllDistinct n = (names : List Name) → Has n.enums names → AreDistinct nam
 
 -- places of kinds that may stand side by side are the same where they are written alike, and are equal as they are written
 abbrev pub PlacesAreAlike : Type 0
-PlacesAreAlike = (n : Numbered) → AreAllDistinct n → (j k : Kind) → joins j k ≡ true → (p q : Place) → IsPlaceOf n j p → IsPlaceOf n k q →
+PlacesAreAlike = (n : Numbered) → AreAllDistinct n → (j k : FlatKind) → joins j k ≡ true → (p q : Place) → IsPlaceOf n j p → IsPlaceOf n k q →
     same_place p q ≡ same_value (written_place n j p) (written_place n k q)
 
 abbrev pub PlacesAreEqualAsWritten : Type 0
-PlacesAreEqualAsWritten = (n : Numbered) → AreAllDistinct n → (j k : Kind) → joins j k ≡ true → (p q : Place) → IsPlaceOf n j p → IsPlaceOf n k q →
+PlacesAreEqualAsWritten = (n : Numbered) → AreAllDistinct n → (j k : FlatKind) → joins j k ≡ true → (p q : Place) → IsPlaceOf n j p → IsPlaceOf n k q →
     equal_places p q ≡ equal_values (written_place n j p) (written_place n k q)
 
 -- the set type of a kind, if it is one, is ordered
-abbrev pub IsOrdered : Numbered → Kind → Type 0
+abbrev pub IsOrdered : Numbered → FlatKind → Type 0
 IsOrdered n k = (set : _) → k ≡ set_type set → (info : SetInfo) → slice_get n.sets set ≡ Some info → info.ordered ≡ true
 
 -- where their set types are ordered they are below one another as they are written
 abbrev pub PlacesAreBelowAsWritten : Type 0
-PlacesAreBelowAsWritten = (n : Numbered) → (j k : Kind) → joins j k ≡ true → IsOrdered n j → IsOrdered n k → (p q : Place) → IsPlaceOf n j p → IsPlaceOf n k q →
+PlacesAreBelowAsWritten = (n : Numbered) → (j k : FlatKind) → joins j k ≡ true → IsOrdered n j → IsOrdered n k → (p q : Place) → IsPlaceOf n j p → IsPlaceOf n k q →
     below_places p q ≡ below_values (written_place n j p) (written_place n k q)
 
 -- it is known whether one place is below another

@@ -5,7 +5,7 @@ use Rattle.smv_core.specs.FlatMeaning.{Numbered}
 use Rattle.smv_core.specs.declared.flat.SetInfo.{SetInfo}
 use Rattle.law_obligations.specs.Sets.{Has}
 use Rattle.law_obligations.specs.Places.{Place, named, rest, unsure}
-use Rattle.law_designs.specs.FlatKinds.{Kind, enumeration, set_type}
+use Rattle.law_designs.specs.FlatKinds.{FlatKind, enumeration, set_type}
 use Rattle.law_designs.specs.FlatKinds as kind
 use Rattle.smv_problem.specs.declared.problem.AbsValue.{AbsValue}
 use Rattle.smv_problem.specs.declared.problem.AbsValue.TheVariants.{Number, Constant, Named, Rest, Undefined}
@@ -15,7 +15,7 @@ abbrev pub value_in : SetInfo → ℕ → Value
 value_in info m = if info.ordered then ordinal info.name m else scalar info.name m
 
 -- a place of a kind: a number, a constant of the enumeration, or a class or a rest of the set type
-pub data IsPlaceOf (n : Numbered) : Kind → Place → Type 0 where
+pub data IsPlaceOf (n : Numbered) : FlatKind → Place → Type 0 where
   a_number : (k : ℕ) → IsPlaceOf n kind.number (named (number k))
   a_constant : (list : ℕ) (name : Name) → Has (get_or n.enums list []) name → IsPlaceOf n (enumeration list) (named (constant name))
   a_class : (set : ℕ) (info : SetInfo) → slice_get n.sets set ≡ Some info → (m : ℕ) → IsPlaceOf n (set_type set) (named (value_in info m))

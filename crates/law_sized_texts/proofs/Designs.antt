@@ -16,7 +16,7 @@ use Rattle.smv_core.specs.declared.flat.Design.{Design}
 use Rattle.smv_core.specs.declared.flat.Unit.{Unit as DesignUnit}
 use Rattle.smv_core.specs.declared.flat.Unit.TheVariants as variant
 use Rattle.law_designs.specs.FlatKinds as kinds
-use Rattle.law_designs.specs.FlatKinds.{Vars}
+use Rattle.law_designs.specs.FlatKinds.{FlatVars}
 use Rattle.law_designs.specs.WholeText.{claims_of}
 use Rattle.law_obligations.specs.Sets.{Has, first, later}
 use Rattle.law_obligations.specs.Covers.{IsIndexType}
@@ -44,7 +44,7 @@ module _ (flat_text : FlatText) where
   index-type (Enum list) h = absurd (cc (h))
   index-type (Set set) h = tt
 
-  binders : (vars : Vars) (params : List Param) → kinds.are_binders flat_text vars params ≡ true → (p : Param) → Has params p → IsIndexType p.over
+  binders : (vars : FlatVars) (params : List Param) → kinds.are_binders flat_text vars params ≡ true → (p : Param) → Has params p → IsIndexType p.over
   binders vars [] h p k = elim k [ ]
   binders vars (q ∷ params) h _ first = index-type q.over (right_of (nat_eq q.var (length vars)) (kinds.is_index_type flat_text q.over) (left_of (kinds.is_binder flat_text vars q.var q.over) (kinds.are_binders flat_text (kinds.inside vars q.over) params) h))
   binders vars (q ∷ params) h p (later k) = binders (kinds.inside vars q.over) params (right_of (kinds.is_binder flat_text vars q.var q.over) (kinds.are_binders flat_text (kinds.inside vars q.over) params) h) p k

@@ -17,7 +17,7 @@ use Rattle.smv_core.specs.declared.flat.FlatStmt.{FlatStmt, Assign, If', Block',
 use Rattle.smv_core.specs.declared.flat.FlatItem.{FlatItem}
 use Rattle.smv_core.specs.declared.flat.FlatItem.TheVariants as item
 use Rattle.smv_core.specs.declared.flat.FlatText.{FlatText}
-use Rattle.law_designs.specs.FlatKinds.{Kind, number, enumeration, number_if, kind_of, takes, are_numbers, common, assigns, element, take_each, Vars, inside, is_type, is_index_type, is_binder, kind_in, kinds_in, summands, members_in, looked_through, is_condition, value_in, keeps_kinds, all_keep_kinds, are_binders, bound_by, is_kinded_item, is_kinded_family, is_size, is_kinded}
+use Rattle.law_designs.specs.FlatKinds.{FlatKind, number, enumeration, number_if, kind_of, takes, are_numbers, common, assigns, element, take_each, FlatVars, inside, is_type, is_index_type, is_binder, kind_in, kinds_in, summands, members_in, looked_through, is_condition, value_in, keeps_kinds, all_keep_kinds, are_binders, bound_by, is_kinded_item, is_kinded_family, is_size, is_kinded}
 use Rattle.law_designs.proofs.Operands.{all-some, takes-some, numbers-some, each-some, if-some, common-some, number_if-true, compares-some, two-some, chosen-some, element-some}
 use Rattle.law_sound_texts.specs.NumbersFit.{IsShort, TypeFits, ExprFits, PartsFit, TermsFit, MembersFit, ConditionFits, StatementFits, StatementsFit, ParamFits, ItemFits, PlaceFits, FamilyFits, NumbersFit}
 use Rattle.law_sound_texts.proofs.Shallow.{most}
@@ -82,7 +82,7 @@ module _ (flat_text : FlatText) (room : HasRoom flat_text) where
   family-fits family f e = below family (length flat_text.families) (get_within flat_text.families family (found-some (slice_get flat_text.families family) f e)) room.families
 
   -- a binder inside so many others
-  binder-fits : (vars : Vars) (k var : ℕ) (over : Simple) → length vars ≡ k → k < most → is_binder flat_text vars var over ≡ true → IsShort var × TypeFits over
+  binder-fits : (vars : FlatVars) (k var : ℕ) (over : Simple) → length vars ≡ k → k < most → is_binder flat_text vars var over ≡ true → IsShort var × TypeFits over
   binder-fits vars k var over e lt h =
       let g : (nat_eq var (length vars) ≡ true) × (is_index_type flat_text over ≡ true) = and_parts _ _ h in
       (subst IsShort (sym (nat_eq-is var (length vars) g.0 ∙ e)) lt, index-fits over g.1)
@@ -90,7 +90,7 @@ module _ (flat_text : FlatText) (room : HasRoom flat_text) where
   -- ---- expressions
 
   mutual
-    expr-fits : (k : ℕ) (vars : Vars) (e : FlatExpr) → length vars ≡ k → k ≤ most → is_some (kind_in flat_text vars e) ≡ true → FlatIsShallow k e → ExprFits e
+    expr-fits : (k : ℕ) (vars : FlatVars) (e : FlatExpr) → length vars ≡ k → k ≤ most → is_some (kind_in flat_text vars e) ≡ true → FlatIsShallow k e → ExprFits e
     expr-fits k vars (Number value at) same le h s = tt
     expr-fits k vars (Read' family shape indexes at) same le h s =
         let g : (f : Family) × (slice_get flat_text.families family ≡ Some f) × (take_each f.over (kinds_in flat_text vars indexes) ≡ true) = element-some (slice_get flat_text.families family) (kinds_in flat_text vars indexes) h in
@@ -136,19 +136,19 @@ module _ (flat_text : FlatText) (room : HasRoom flat_text) where
     expr-fits k vars (List' shape members at) same le h s = absurd (cc (h))
     expr-fits k vars (Each' var over cond at) same le h s = absurd (cc (h))
 
-    row-fits : {m : _} (k : ℕ) (vars : Vars) (row : Row_of-FlatExpr m) → length vars ≡ k → k ≤ most → all-some (kinds_in flat_text vars row) ≡ true → RowIsShallow k row → PartsFit row
+    row-fits : {m : _} (k : ℕ) (vars : FlatVars) (row : Row_of-FlatExpr m) → length vars ≡ k → k ≤ most → all-some (kinds_in flat_text vars row) ≡ true → RowIsShallow k row → PartsFit row
     row-fits k vars end_of-FlatExpr same le h s = tt
     row-fits k vars (more_of-FlatExpr e rest) same le h s =
         let g : (is_some (kind_in flat_text vars e) ≡ true) × (all-some (kinds_in flat_text vars rest) ≡ true) = and_parts _ _ h in
         (expr-fits k vars e same le g.0 s.0, row-fits k vars rest same le g.1 s.1)
 
-    signed-fits : {m : _} (k : ℕ) (vars : Vars) (row : Row_of-FlatSigned m) → length vars ≡ k → k ≤ most → all-some (summands flat_text vars row) ≡ true → SignedAreShallow k row → TermsFit row
+    signed-fits : {m : _} (k : ℕ) (vars : FlatVars) (row : Row_of-FlatSigned m) → length vars ≡ k → k ≤ most → all-some (summands flat_text vars row) ≡ true → SignedAreShallow k row → TermsFit row
     signed-fits k vars end_of-FlatSigned same le h s = tt
     signed-fits k vars (more_of-FlatSigned minus e rest) same le h s =
         let g : (is_some (kind_in flat_text vars e) ≡ true) × (all-some (summands flat_text vars rest) ≡ true) = and_parts _ _ h in
         (expr-fits k vars e same le g.0 s.0, signed-fits k vars rest same le g.1 s.1)
 
-    members-fit : {m : _} (k : ℕ) (vars : Vars) (row : Row_of-FlatMember m) → length vars ≡ k → k ≤ most → all-some (members_in flat_text vars row) ≡ true → ListedAreShallow k row → MembersFit row
+    members-fit : {m : _} (k : ℕ) (vars : FlatVars) (row : Row_of-FlatMember m) → length vars ≡ k → k ≤ most → all-some (members_in flat_text vars row) ≡ true → ListedAreShallow k row → MembersFit row
     members-fit k vars end_of-FlatMember same le h s = tt
     members-fit k vars (more_of-FlatMember (One e) rest) same le h s =
         let g : (is_some (kind_in flat_text vars e) ≡ true) × (all-some (members_in flat_text vars rest) ≡ true) = and_parts _ _ h in
@@ -156,15 +156,15 @@ module _ (flat_text : FlatText) (room : HasRoom flat_text) where
     members-fit k vars (more_of-FlatMember (SpanOf span at) rest) same le h s =
         members-fit k vars rest same le (and_parts (is_some (number_if (nat_le span.low span.high))) (all-some (members_in flat_text vars rest)) h).1 s
 
-    set-fits : (k : ℕ) (vars : Vars) (e : FlatExpr) → length vars ≡ k → k ≤ most → all-some (looked_through flat_text vars e) ≡ true → FlatIsShallow k e → ExprFits e
+    set-fits : (k : ℕ) (vars : FlatVars) (e : FlatExpr) → length vars ≡ k → k ≤ most → all-some (looked_through flat_text vars e) ≡ true → FlatIsShallow k e → ExprFits e
     set-fits k vars (List' shape members at) same le h s = members-fit k vars members same le h s
     set-fits k vars _ same le h s = absurd (cc (h))
 
-  held-fits : (k : ℕ) (vars : Vars) (cond : Held-FlatExpr-Each-2) → length vars ≡ k → k ≤ most → is_condition flat_text vars cond ≡ true → HeldIsShallow k cond → ConditionFits cond
+  held-fits : (k : ℕ) (vars : FlatVars) (cond : Held-FlatExpr-Each-2) → length vars ≡ k → k ≤ most → is_condition flat_text vars cond ≡ true → HeldIsShallow k cond → ConditionFits cond
   held-fits k vars None' same le h s = tt
   held-fits k vars (Some' shape (more_of-FlatExpr e end_of-FlatExpr)) same le h s = expr-fits k vars e same le (takes-some number (kind_in flat_text vars e) h) s
 
-  value-fits : (k : ℕ) (vars : Vars) (e : FlatExpr) → length vars ≡ k → k ≤ most → is_some (value_in flat_text vars e) ≡ true → FlatIsShallow k e → ExprFits e
+  value-fits : (k : ℕ) (vars : FlatVars) (e : FlatExpr) → length vars ≡ k → k ≤ most → is_some (value_in flat_text vars e) ≡ true → FlatIsShallow k e → ExprFits e
   value-fits k vars (List' shape members at) same le h s = members-fit k vars members same le (common-some (members_in flat_text vars members) h) s
   value-fits k vars (Each' var over cond at) same le h s =
       let t : ((is_binder flat_text vars var over && is_condition flat_text (inside vars over) cond) ≡ true) × (is_some (Some (kind_of over)) ≡ true) = if-some _ (Some (kind_of over)) h in
@@ -177,7 +177,7 @@ module _ (flat_text : FlatText) (room : HasRoom flat_text) where
       (expr-fits k vars cond same le g.0 s.0, value-fits k vars left same le g.1 s.1, value-fits k vars right same le g.2 s.2)
   value-fits k vars e same le h s = expr-fits k vars e same le h s
 
-  list-fit : (k : ℕ) (vars : Vars) (es : List FlatExpr) → length vars ≡ k → k ≤ most → all-some (map (kind_in flat_text vars) es) ≡ true → AllByRecursion (FlatIsShallow k) es → AllByRecursion ExprFits es
+  list-fit : (k : ℕ) (vars : FlatVars) (es : List FlatExpr) → length vars ≡ k → k ≤ most → all-some (map (kind_in flat_text vars) es) ≡ true → AllByRecursion (FlatIsShallow k) es → AllByRecursion ExprFits es
   list-fit k vars [] same le h s = tt
   list-fit k vars (e ∷ es) same le h s =
       let g : (is_some (kind_in flat_text vars e) ≡ true) × (all-some (map (kind_in flat_text vars) es) ≡ true) = and_parts _ _ h in
@@ -185,12 +185,12 @@ module _ (flat_text : FlatText) (room : HasRoom flat_text) where
 
   -- ---- statements
 
-  assigned-some : (target value : Option Kind) → assigns target value ≡ true → (is_some target ≡ true) × (is_some value ≡ true)
+  assigned-some : (target value : Option FlatKind) → assigns target value ≡ true → (is_some target ≡ true) × (is_some value ≡ true)
   assigned-some None value e = absurd (cc (e))
   assigned-some (Some kind) value e = (refl, takes-some kind value e)
 
   mutual
-    act-fits : (k : ℕ) (vars : Vars) (act : FlatStmt) → length vars ≡ k → k ≤ most → keeps_kinds flat_text vars act ≡ true → ActIsShallow k act → StatementFits act
+    act-fits : (k : ℕ) (vars : FlatVars) (act : FlatStmt) → length vars ≡ k → k ≤ most → keeps_kinds flat_text vars act ≡ true → ActIsShallow k act → StatementFits act
     act-fits k vars (Assign kind family left value at) same le h s =
         let g : (is_some (element (slice_get flat_text.families family) (map (kind_in flat_text vars) left)) ≡ true) × (is_some (value_in flat_text vars value) ≡ true) =
         assigned-some (element (slice_get flat_text.families family) (map (kind_in flat_text vars) left)) (value_in flat_text vars value) h in
@@ -209,7 +209,7 @@ module _ (flat_text : FlatText) (room : HasRoom flat_text) where
         let b = binder-fits vars k var over same s.0 g.0 in
         (b.0, b.1, act-fits (suc k) (inside vars over) body (one-more vars (kind_of over) k same) (let lt = s.0 in omega (arith, lt)) g.1 s.1)
 
-    acts-fit : {m : _} (k : ℕ) (vars : Vars) (row : Row_of-FlatStmt m) → length vars ≡ k → k ≤ most → all_keep_kinds flat_text vars row ≡ true → ActsAreShallow k row → StatementsFit row
+    acts-fit : {m : _} (k : ℕ) (vars : FlatVars) (row : Row_of-FlatStmt m) → length vars ≡ k → k ≤ most → all_keep_kinds flat_text vars row ≡ true → ActsAreShallow k row → StatementsFit row
     acts-fit k vars end_of-FlatStmt same le h s = tt
     acts-fit k vars (more_of-FlatStmt part rest) same le h s =
         let g : (keeps_kinds flat_text vars part ≡ true) × (all_keep_kinds flat_text vars rest ≡ true) = and_parts _ _ h in
@@ -218,11 +218,11 @@ module _ (flat_text : FlatText) (room : HasRoom flat_text) where
   -- ---- items
 
   -- parameters, and what stands inside them
-  params-fit : (P : ℕ → Type 0) (k : ℕ) (vars : Vars) (params : List Param) → length vars ≡ k → k ≤ most → are_binders flat_text vars params ≡ true → FlatInside k params P →
+  params-fit : (P : ℕ → Type 0) (k : ℕ) (vars : FlatVars) (params : List Param) → length vars ≡ k → k ≤ most → are_binders flat_text vars params ≡ true → FlatInside k params P →
       AllByRecursion ParamFits params × ((n : ℕ) × (length (vars ++ bound_by flat_text params) ≡ n) × (n ≤ most) × P n)
   params-fit P k vars [] same le h s = (tt, (k, subst (λ vs. length vs ≡ k) (none-behind vars) same, le, s))
     where
-      none-behind : (vs : Vars) → vs ≡ vs ++ []
+      none-behind : (vs : FlatVars) → vs ≡ vs ++ []
       none-behind [] = refl
       none-behind (v ∷ vs) = rw (← none-behind vs) refl
   params-fit P k vars (p ∷ params) same le h s =
@@ -231,11 +231,11 @@ module _ (flat_text : FlatText) (room : HasRoom flat_text) where
       let r = params-fit P (suc k) (inside vars p.over) params (one-more vars (kind_of p.over) k same) (let lt = s.0 in omega (arith, lt)) g.1 s.1 in
       (((b.0, b.1), r.0), (r.1.0, subst (λ vs. length vs ≡ r.1.0) (joined-behind vars (kind_of p.over) (bound_by flat_text params)) r.1.1, r.1.2, r.1.3))
     where
-      joined-behind : (vs : Vars) (v : Kind) (ws : Vars) → (vs ++ v ∷ []) ++ ws ≡ vs ++ v ∷ ws
+      joined-behind : (vs : FlatVars) (v : FlatKind) (ws : FlatVars) → (vs ++ v ∷ []) ++ ws ≡ vs ++ v ∷ ws
       joined-behind [] v ws = refl
       joined-behind (w ∷ vs) v ws = rw (joined-behind vs v ws) refl
 
-  pairs-fit : (k : ℕ) (vars : Vars) (pairs : List FlatPair) → length vars ≡ k → k ≤ most → list_all (λ (pair : FlatPair). is_some (kind_in flat_text vars pair.left)) pairs ≡ true →
+  pairs-fit : (k : ℕ) (vars : FlatVars) (pairs : List FlatPair) → length vars ≡ k → k ≤ most → list_all (λ (pair : FlatPair). is_some (kind_in flat_text vars pair.left)) pairs ≡ true →
       AllByRecursion (λ (pair : FlatPair). FlatIsShallow k pair.left) pairs → AllByRecursion (λ (pair : FlatPair). ExprFits pair.left) pairs
   pairs-fit k vars [] same le h s = tt
   pairs-fit k vars (p ∷ pairs) same le h s =

@@ -13,13 +13,13 @@ use Rattle.smv_core.specs.declared.flat.SetInfo.{SetInfo}
 use Rattle.smv_core.specs.Values.{Name}
 use Rattle.law_designs.specs.Standing.{count, statements_from, Standing, standing, standing_in, assigned_by}
 use Rattle.law_designs.specs.Laws.{index_count, left_sides_are_whole}
-use Rattle.law_designs.specs.FlatKinds.{Kind, number, kind_of, takes, take_each, assigns, element, Vars, inside, is_size, kind_in, value_in, is_binder, keeps_kinds, all_keep_kinds, is_kinded_item, is_kinded_family, is_kinded}
+use Rattle.law_designs.specs.FlatKinds.{FlatKind, number, kind_of, takes, take_each, assigns, element, FlatVars, inside, is_size, kind_in, value_in, is_binder, keeps_kinds, all_keep_kinds, is_kinded_item, is_kinded_family, is_kinded}
 use Rattle.law_flat_kinds.proofs.Lists.{all-append}
 
 at_most : (k n : ℕ) → k ≡ n → nat_le k n ≡ true
 at_most k n e = grind arith
 
-one-for-each : (g : FlatExpr → Option Kind) (over : List Simple) (left : List FlatExpr) → take_each over (map g left) ≡ true → length left ≡ length over
+one-for-each : (g : FlatExpr → Option FlatKind) (over : List Simple) (left : List FlatExpr) → take_each over (map g left) ≡ true → length left ≡ length over
 one-for-each g [] [] e = refl
 one-for-each g [] (x ∷ left) e = absurd (cc (e))
 one-for-each g (t ∷ over) [] e = absurd (cc (e))
@@ -29,19 +29,19 @@ module _ (flat_text : FlatText) where
   abbrev whole : Standing → Bool
   whole a = nat_le (length a.left) (index_count flat_text a.family)
 
-  taken : (vars : Vars) (left : List FlatExpr) (value : Option Kind) (f : Family) (b : Bool) → take_each f.over (map (kind_in flat_text vars) left) ≡ b →
+  taken : (vars : FlatVars) (left : List FlatExpr) (value : Option FlatKind) (f : Family) (b : Bool) → take_each f.over (map (kind_in flat_text vars) left) ≡ b →
       assigns (if b then Some (kind_of f.value) else None) value ≡ true → nat_le (length left) (length f.over) ≡ true
   taken vars left value f false e h = absurd (cc (h))
   taken vars left value f true e h = at_most (length left) (length f.over) (one-for-each (kind_in flat_text vars) f.over left e)
 
-  target-whole : (vars : Vars) (family : ℕ) (left : List FlatExpr) (value : Option Kind) (o : Option Family) → slice_get flat_text.families family ≡ o →
+  target-whole : (vars : FlatVars) (family : ℕ) (left : List FlatExpr) (value : Option FlatKind) (o : Option Family) → slice_get flat_text.families family ≡ o →
       assigns (element o (map (kind_in flat_text vars) left)) value ≡ true → nat_le (length left) (index_count flat_text family) ≡ true
   target-whole vars family left value None e h = absurd (cc (h))
   target-whole vars family left value (Some f) e h = rw e (taken vars left value f (take_each f.over (map (kind_in flat_text vars) left)) refl h)
 
   module _ (layer : Option ℕ) where
     mutual
-      stmt-whole : (around : List ℕ) (vars : Vars) (act : FlatStmt) → keeps_kinds flat_text vars act ≡ true → list_all whole (standing layer around act) ≡ true
+      stmt-whole : (around : List ℕ) (vars : FlatVars) (act : FlatStmt) → keeps_kinds flat_text vars act ≡ true → list_all whole (standing layer around act) ≡ true
       stmt-whole around vars (Assign kind family left value at) e = and_from _ true (target-whole vars family left (value_in flat_text vars value) (slice_get flat_text.families family) refl e) refl
       stmt-whole around vars (If' test l (more_of-FlatStmt left end_of-FlatStmt) r (more_of-FlatStmt right end_of-FlatStmt)) e =
           let g : (keeps_kinds flat_text vars left ≡ true) × (keeps_kinds flat_text vars right ≡ true) = and_parts _ _ (and_parts (takes number (kind_in flat_text vars test)) (keeps_kinds flat_text vars left && keeps_kinds flat_text vars right) e).1 in
@@ -53,7 +53,7 @@ module _ (flat_text : FlatText) where
       stmt-whole around vars (Forall' var over shape (more_of-FlatStmt body end_of-FlatStmt)) e =
           stmt-whole (var ∷ around) (inside vars over) body (and_parts (is_binder flat_text vars var over) (keeps_kinds flat_text (inside vars over) body) e).1
 
-      all-whole : {m : _} (around : List ℕ) (vars : Vars) (parts : Row_of-FlatStmt m) → all_keep_kinds flat_text vars parts ≡ true → list_all whole (standing_in layer around parts) ≡ true
+      all-whole : {m : _} (around : List ℕ) (vars : FlatVars) (parts : Row_of-FlatStmt m) → all_keep_kinds flat_text vars parts ≡ true → list_all whole (standing_in layer around parts) ≡ true
       all-whole around vars end_of-FlatStmt e = refl
       all-whole around vars (more_of-FlatStmt part rest) e =
           let g : (keeps_kinds flat_text vars part ≡ true) × (all_keep_kinds flat_text vars rest ≡ true) = and_parts _ _ e in

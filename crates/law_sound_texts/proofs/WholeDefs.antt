@@ -18,7 +18,7 @@ use Rattle.smv_core.specs.declared.flat.FlatText.{FlatText}
 use Rattle.law_designs.specs.WholeText.{is_one_layer, claims_of}
 use Rattle.law_designs.specs.Standing.{count, Statement, statements_from, statements_of}
 use Rattle.law_designs.specs.Definitions.{is_nothing, joined, first_part, flat_of, flats_of, set_of, part_of, Head, def_of, first_heads, design_of_flat_text}
-use Rattle.law_designs.specs.FlatKinds.{Kind as KindOf, number, takes, assigns, element, Vars, inside, bound_by, are_binders, is_binder, kind_in, value_in, keeps_kinds, all_keep_kinds, is_kinded_item}
+use Rattle.law_designs.specs.FlatKinds.{FlatKind as KindOf, number, takes, assigns, element, FlatVars, inside, bound_by, are_binders, is_binder, kind_in, value_in, keeps_kinds, all_keep_kinds, is_kinded_item}
 use Rattle.law_obligations.specs.Sets.{Has, first, later}
 use Rattle.law_obligations.specs.Whole.{IsWhole, IsWholeFlat, AreWholeFlats, IsWholeDef}
 use Rattle.law_obligations.proofs.Members.{Has-from_map}
@@ -82,7 +82,7 @@ module _ (flat_text : FlatText) where
 
   module _ (kind : Kind) (family : ℕ) where
     mutual
-      whole_of : (vars : Vars) (k : ℕ) (act : FlatStmt) → keeps_kinds flat_text vars act ≡ true → IsWholePart (flat_of kind family k act)
+      whole_of : (vars : FlatVars) (k : ℕ) (act : FlatStmt) → keeps_kinds flat_text vars act ≡ true → IsWholePart (flat_of kind family k act)
       whole_of vars k (Assign which other left value at) h =
           let g : (is_some (element (slice_get flat_text.families other) (map (kind_in flat_text vars) left)) ≡ true) × (is_some (value_in flat_text vars value) ≡ true) = assigned-some _ (value_in flat_text vars value) h in
           whole-cond (same_kind which kind && nat_eq other family) (flat.Assign left value k at) Nothing (indexes-whole flat_text vars other left g.0, value-whole flat_text vars value g.1) tt
@@ -107,7 +107,7 @@ module _ (flat_text : FlatText) where
           whole-cond (is_nothing (flat_of kind family k body)) Nothing (Forall var over (flat_of kind family k body)) tt
           (whole-Forall var over (flat_of kind family k body) (whole_of (inside vars over) k body g.1))
 
-      whole_in : {m : _} (vars : Vars) (k : ℕ) (parts : Row_of-FlatStmt m) → all_keep_kinds flat_text vars parts ≡ true → EachIsWhole (flats_of kind family k parts)
+      whole_in : {m : _} (vars : FlatVars) (k : ℕ) (parts : Row_of-FlatStmt m) → all_keep_kinds flat_text vars parts ≡ true → EachIsWhole (flats_of kind family k parts)
       whole_in vars k end_of-FlatStmt h p i = elim i [ ]
       whole_in vars k (more_of-FlatStmt part rest) h p i =
           let g : (keeps_kinds flat_text vars part ≡ true) × (all_keep_kinds flat_text vars rest ≡ true) = and_parts _ _ h in

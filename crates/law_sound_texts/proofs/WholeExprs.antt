@@ -6,7 +6,7 @@ use Rattle.smv_core.specs.declared.flat.Family.{Family}
 use Rattle.smv_core.specs.declared.flat.FlatMember.{One, Span as SpanOf}
 use Rattle.smv_core.specs.declared.flat.FlatExpr.{FlatExpr, Number, Read', Var, Loop, Constant, Not', And', Or', Implies', Iff', Compare', Within', Sum', Modulo', Choose', All', Any', List', Each', Held-FlatExpr-Each-2, None', Some', Row_of-FlatExpr, end_of-FlatExpr, more_of-FlatExpr, Row_of-FlatMember, end_of-FlatMember, more_of-FlatMember, Row_of-FlatSigned, end_of-FlatSigned, more_of-FlatSigned}
 use Rattle.smv_core.specs.declared.flat.FlatText.{FlatText}
-use Rattle.law_designs.specs.FlatKinds.{number, kind_of, takes, are_numbers, number_if, common, element, take_each, Vars, inside, kind_in, kinds_in, summands, members_in, looked_through, is_condition, value_in, is_binder}
+use Rattle.law_designs.specs.FlatKinds.{number, kind_of, takes, are_numbers, number_if, common, element, take_each, FlatVars, inside, kind_in, kinds_in, summands, members_in, looked_through, is_condition, value_in, is_binder}
 use Rattle.law_designs.proofs.Operands.{all-some, takes-some, numbers-some, each-some, if-some, common-some, number_if-true, compares-some, two-some, chosen-some, element-some}
 use Rattle.law_obligations.specs.Sets.{Has, first, later}
 use Rattle.law_obligations.specs.Whole.{OneForEach, OneForEachOf, IsWhole, AreWhole, AreWholeSigned, AreWholeMembers, IsWholeHeld}
@@ -14,14 +14,14 @@ use Rattle.law_obligations.specs.Whole.{OneForEach, OneForEachOf, IsWhole, AreWh
 module _ (flat_text : FlatText) where
   -- ---- expressions
 
-  row-one-each : {m : _} (vars : Vars) (over : List Simple) (row : Row_of-FlatExpr m) → take_each over (kinds_in flat_text vars row) ≡ true → OneForEach over row
+  row-one-each : {m : _} (vars : FlatVars) (over : List Simple) (row : Row_of-FlatExpr m) → take_each over (kinds_in flat_text vars row) ≡ true → OneForEach over row
   row-one-each vars [] end_of-FlatExpr e = tt
   row-one-each vars [] (more_of-FlatExpr x rest) e = absurd (cc (e))
   row-one-each vars (t ∷ over) end_of-FlatExpr e = absurd (cc (e))
   row-one-each vars (t ∷ over) (more_of-FlatExpr x rest) e = row-one-each vars over rest (and_parts _ _ e).1
 
   mutual
-    pub expr-whole : (vars : Vars) (e : FlatExpr) → is_some (kind_in flat_text vars e) ≡ true → IsWhole flat_text.families e
+    pub expr-whole : (vars : FlatVars) (e : FlatExpr) → is_some (kind_in flat_text vars e) ≡ true → IsWhole flat_text.families e
     expr-whole vars (Number value at) h = tt
     expr-whole vars (Read' family shape indexes at) h =
         let g : (f : Family) × (slice_get flat_text.families family ≡ Some f) × (take_each f.over (kinds_in flat_text vars indexes) ≡ true) = element-some (slice_get flat_text.families family) (kinds_in flat_text vars indexes) h in
@@ -62,19 +62,19 @@ module _ (flat_text : FlatText) where
     expr-whole vars (List' shape members at) h = absurd (cc (h))
     expr-whole vars (Each' var over cond at) h = absurd (cc (h))
 
-    row-whole : {m : _} (vars : Vars) (row : Row_of-FlatExpr m) → all-some (kinds_in flat_text vars row) ≡ true → AreWhole flat_text.families row
+    row-whole : {m : _} (vars : FlatVars) (row : Row_of-FlatExpr m) → all-some (kinds_in flat_text vars row) ≡ true → AreWhole flat_text.families row
     row-whole vars end_of-FlatExpr h = tt
     row-whole vars (more_of-FlatExpr e rest) h =
         let g : (is_some (kind_in flat_text vars e) ≡ true) × (all-some (kinds_in flat_text vars rest) ≡ true) = and_parts _ _ h in
         (expr-whole vars e g.0, row-whole vars rest g.1)
 
-    signed-whole : {m : _} (vars : Vars) (row : Row_of-FlatSigned m) → all-some (summands flat_text vars row) ≡ true → AreWholeSigned flat_text.families row
+    signed-whole : {m : _} (vars : FlatVars) (row : Row_of-FlatSigned m) → all-some (summands flat_text vars row) ≡ true → AreWholeSigned flat_text.families row
     signed-whole vars end_of-FlatSigned h = tt
     signed-whole vars (more_of-FlatSigned minus e rest) h =
         let g : (is_some (kind_in flat_text vars e) ≡ true) × (all-some (summands flat_text vars rest) ≡ true) = and_parts _ _ h in
         (expr-whole vars e g.0, signed-whole vars rest g.1)
 
-    members-whole : {m : _} (vars : Vars) (row : Row_of-FlatMember m) → all-some (members_in flat_text vars row) ≡ true → AreWholeMembers flat_text.families row
+    members-whole : {m : _} (vars : FlatVars) (row : Row_of-FlatMember m) → all-some (members_in flat_text vars row) ≡ true → AreWholeMembers flat_text.families row
     members-whole vars end_of-FlatMember h = tt
     members-whole vars (more_of-FlatMember (One e) rest) h =
         let g : (is_some (kind_in flat_text vars e) ≡ true) × (all-some (members_in flat_text vars rest) ≡ true) = and_parts _ _ h in
@@ -82,15 +82,15 @@ module _ (flat_text : FlatText) where
     members-whole vars (more_of-FlatMember (SpanOf span at) rest) h =
         members-whole vars rest (and_parts (is_some (number_if (nat_le span.low span.high))) (all-some (members_in flat_text vars rest)) h).1
 
-    set-whole : (vars : Vars) (e : FlatExpr) → all-some (looked_through flat_text vars e) ≡ true → IsWhole flat_text.families e
+    set-whole : (vars : FlatVars) (e : FlatExpr) → all-some (looked_through flat_text vars e) ≡ true → IsWhole flat_text.families e
     set-whole vars (List' shape members at) h = members-whole vars members h
     set-whole vars _ h = absurd (cc (h))
 
-  held-whole : (vars : Vars) (cond : Held-FlatExpr-Each-2) → is_condition flat_text vars cond ≡ true → IsWholeHeld flat_text.families cond
+  held-whole : (vars : FlatVars) (cond : Held-FlatExpr-Each-2) → is_condition flat_text vars cond ≡ true → IsWholeHeld flat_text.families cond
   held-whole vars None' h = tt
   held-whole vars (Some' shape (more_of-FlatExpr e end_of-FlatExpr)) h = expr-whole vars e (takes-some number (kind_in flat_text vars e) h)
 
-  pub value-whole : (vars : Vars) (e : FlatExpr) → is_some (value_in flat_text vars e) ≡ true → IsWhole flat_text.families e
+  pub value-whole : (vars : FlatVars) (e : FlatExpr) → is_some (value_in flat_text vars e) ≡ true → IsWhole flat_text.families e
   value-whole vars (List' shape members at) h = members-whole vars members (common-some (members_in flat_text vars members) h)
   value-whole vars (Each' var over cond at) h =
       let t : ((is_binder flat_text vars var over && is_condition flat_text (inside vars over) cond) ≡ true) × (is_some (Some (kind_of over)) ≡ true) = if-some _ (Some (kind_of over)) h in
@@ -103,13 +103,13 @@ module _ (flat_text : FlatText) where
 
   -- ---- lists of indexes
 
-  pub list-whole : (vars : Vars) (es : List FlatExpr) → all-some (map (kind_in flat_text vars) es) ≡ true → (e : FlatExpr) → Has es e → IsWhole flat_text.families e
+  pub list-whole : (vars : FlatVars) (es : List FlatExpr) → all-some (map (kind_in flat_text vars) es) ≡ true → (e : FlatExpr) → Has es e → IsWhole flat_text.families e
   list-whole vars [] h e i = elim i [ ]
   list-whole vars (x ∷ es) h _ first = expr-whole vars x (and_parts (is_some (kind_in flat_text vars x)) (all-some (map (kind_in flat_text vars) es)) h).0
   list-whole vars (x ∷ es) h e (later i) = list-whole vars es (and_parts (is_some (kind_in flat_text vars x)) (all-some (map (kind_in flat_text vars) es)) h).1 e i
 
   -- the indexes of an element that has a kind
-  pub indexes-whole : (vars : Vars) (family : ℕ) (left : List FlatExpr) → is_some (element (slice_get flat_text.families family) (map (kind_in flat_text vars) left)) ≡ true → (e : FlatExpr) → Has left e → IsWhole flat_text.families e
+  pub indexes-whole : (vars : FlatVars) (family : ℕ) (left : List FlatExpr) → is_some (element (slice_get flat_text.families family) (map (kind_in flat_text vars) left)) ≡ true → (e : FlatExpr) → Has left e → IsWhole flat_text.families e
   indexes-whole vars family left h =
       let g : (f : Family) × (slice_get flat_text.families family ≡ Some f) × (take_each f.over (map (kind_in flat_text vars) left) ≡ true) = element-some (slice_get flat_text.families family) (map (kind_in flat_text vars) left) h in
       list-whole vars left (each-some g.0.over (map (kind_in flat_text vars) left) g.2)

@@ -14,6 +14,7 @@ use Rattle.smv_core.specs.declared.flat.FlatStmt.{FlatStmt, Assign, If', Block',
 use Rattle.smv_core.specs.declared.flat.FlatItem.{FlatItem}
 use Rattle.smv_core.specs.declared.flat.FlatItem.TheVariants as item
 use Rattle.smv_core.specs.declared.flat.FlatText.{FlatText}
+use Rattle.smv_core.specs.Rows.{one_flat_expr, one_flat_stmt}
 
 -- a number of 16 bits
 abbrev pub IsShort : ℕ → Type 0
@@ -37,18 +38,18 @@ abbrev mutual
   ExprFits (Var var at) = IsShort var
   ExprFits (Loop value at) = Unit {0}
   ExprFits (Constant list value at) = IsShort list × IsShort value
-  ExprFits (Not' shape (more_of-FlatExpr e end_of-FlatExpr) at) = ExprFits e
+  ExprFits (Not' shape (one_flat_expr e) at) = ExprFits e
   ExprFits (And' shape parts) = PartsFit parts
   ExprFits (Or' shape parts) = PartsFit parts
   ExprFits (Implies' shape parts) = PartsFit parts
-  ExprFits (Iff' l (more_of-FlatExpr left end_of-FlatExpr) r (more_of-FlatExpr right end_of-FlatExpr)) = ExprFits left × ExprFits right
-  ExprFits (Compare' op l (more_of-FlatExpr left end_of-FlatExpr) r (more_of-FlatExpr right end_of-FlatExpr)) = ExprFits left × ExprFits right
-  ExprFits (Within' l (more_of-FlatExpr left end_of-FlatExpr) r (more_of-FlatExpr set end_of-FlatExpr)) = ExprFits left × ExprFits set
-  ExprFits (Sum' f (more_of-FlatExpr head end_of-FlatExpr) shape more) = ExprFits head × TermsFit more
-  ExprFits (Modulo' shape (more_of-FlatExpr e end_of-FlatExpr) by at) = ExprFits e
-  ExprFits (Choose' c (more_of-FlatExpr cond end_of-FlatExpr) l (more_of-FlatExpr left end_of-FlatExpr) r (more_of-FlatExpr right end_of-FlatExpr)) = ExprFits cond × ExprFits left × ExprFits right
-  ExprFits (All' shape (more_of-FlatExpr body end_of-FlatExpr) var over at) = IsShort var × TypeFits over × ExprFits body
-  ExprFits (Any' shape (more_of-FlatExpr body end_of-FlatExpr) var over at) = IsShort var × TypeFits over × ExprFits body
+  ExprFits (Iff' l (one_flat_expr left) r (one_flat_expr right)) = ExprFits left × ExprFits right
+  ExprFits (Compare' op l (one_flat_expr left) r (one_flat_expr right)) = ExprFits left × ExprFits right
+  ExprFits (Within' l (one_flat_expr left) r (one_flat_expr set)) = ExprFits left × ExprFits set
+  ExprFits (Sum' f (one_flat_expr head) shape more) = ExprFits head × TermsFit more
+  ExprFits (Modulo' shape (one_flat_expr e) by at) = ExprFits e
+  ExprFits (Choose' c (one_flat_expr cond) l (one_flat_expr left) r (one_flat_expr right)) = ExprFits cond × ExprFits left × ExprFits right
+  ExprFits (All' shape (one_flat_expr body) var over at) = IsShort var × TypeFits over × ExprFits body
+  ExprFits (Any' shape (one_flat_expr body) var over at) = IsShort var × TypeFits over × ExprFits body
   ExprFits (List' shape members at) = MembersFit members
   ExprFits (Each' var over cond at) = IsShort var × TypeFits over × ConditionFits cond
 
@@ -67,16 +68,16 @@ abbrev mutual
 
   pub ConditionFits : Held-FlatExpr-Each-2 → Type 0
   ConditionFits None' = Unit {0}
-  ConditionFits (Some' shape (more_of-FlatExpr cond end_of-FlatExpr)) = ExprFits cond
+  ConditionFits (Some' shape (one_flat_expr cond)) = ExprFits cond
 
 abbrev mutual
   -- the same in a statement
   pub StatementFits : FlatStmt → Type 0
   StatementFits (Assign kind family left value at) = IsShort family × AllByRecursion ExprFits left × ExprFits value
-  StatementFits (If' cond l (more_of-FlatStmt left end_of-FlatStmt) r (more_of-FlatStmt right end_of-FlatStmt)) = ExprFits cond × StatementFits left × StatementFits right
+  StatementFits (If' cond l (one_flat_stmt left) r (one_flat_stmt right)) = ExprFits cond × StatementFits left × StatementFits right
   StatementFits (Block' shape parts) = StatementsFit parts
-  StatementFits (Default' l (more_of-FlatStmt left end_of-FlatStmt) r (more_of-FlatStmt right end_of-FlatStmt)) = StatementFits left × StatementFits right
-  StatementFits (Forall' var over shape (more_of-FlatStmt body end_of-FlatStmt)) = IsShort var × TypeFits over × StatementFits body
+  StatementFits (Default' l (one_flat_stmt left) r (one_flat_stmt right)) = StatementFits left × StatementFits right
+  StatementFits (Forall' var over shape (one_flat_stmt body)) = IsShort var × TypeFits over × StatementFits body
 
   pub StatementsFit : {m : _} → Row_of-FlatStmt m → Type 0
   StatementsFit end_of-FlatStmt = Unit {0}

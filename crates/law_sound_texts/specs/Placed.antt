@@ -10,16 +10,17 @@ use Rattle.law_obligations.specs.Bound.{IsSingle}
 use Rattle.law_obligations.specs.FlatConflicts.{IsConflictFree}
 use Rattle.law_designs.specs.Standing.{Statement, statements_of}
 use Rattle.law_designs.specs.Laws.{index_count}
+use Rattle.smv_core.specs.Rows.{one_flat_stmt}
 
 module _ (counts : ℕ → ℕ) where
   abbrev mutual
     -- inside so many `forall`s: each `forall` has the number of those around it, and no left side has more indexes than its family
     pub IsPlaced : ℕ → FlatStmt → Type 0
     IsPlaced around (Assign kind family left value at) = length left ≤ counts family
-    IsPlaced around (If' cond l (more_of-FlatStmt left end_of-FlatStmt) r (more_of-FlatStmt right end_of-FlatStmt)) = IsPlaced around left × IsPlaced around right
+    IsPlaced around (If' cond l (one_flat_stmt left) r (one_flat_stmt right)) = IsPlaced around left × IsPlaced around right
     IsPlaced around (Block' shape parts) = ArePlaced around parts
-    IsPlaced around (Default' l (more_of-FlatStmt left end_of-FlatStmt) r (more_of-FlatStmt right end_of-FlatStmt)) = IsPlaced around left × IsPlaced around right
-    IsPlaced around (Forall' var over shape (more_of-FlatStmt body end_of-FlatStmt)) = (var ≡ around) × IsPlaced (suc around) body
+    IsPlaced around (Default' l (one_flat_stmt left) r (one_flat_stmt right)) = IsPlaced around left × IsPlaced around right
+    IsPlaced around (Forall' var over shape (one_flat_stmt body)) = (var ≡ around) × IsPlaced (suc around) body
 
     pub ArePlaced : {m : _} → ℕ → Row_of-FlatStmt m → Type 0
     ArePlaced around end_of-FlatStmt = Unit {0}

@@ -5,8 +5,9 @@ use Rattle.smv_core.specs.declared.tree.Span.{Span}
 use Rattle.smv_core.specs.declared.tree.Text.{Text}
 use Rattle.smv_core.specs.declared.tree.Top.{Top}
 use Rattle.smv_core.specs.declared.tree.Top.TheVariants.{SetType, Alias, Module}
-use Rattle.smv_core.specs.declared.tree.TypeExpr.{TypeExpr, Range, Array', Struct', end_of-TypeExpr, more_of-TypeExpr, Row_of-Field, end_of-Field, more_of-Field}
+use Rattle.smv_core.specs.declared.tree.TypeExpr.{TypeExpr, Range, Array', Struct', Row_of-Field, end_of-Field, more_of-Field}
 use Rattle.law_sound_texts.specs.NumbersFit.{IsByte}
+use Rattle.smv_core.specs.Rows.{one_type}
 
 -- the ends of a span
 abbrev pub SpanFits : Span → Type 0
@@ -20,7 +21,7 @@ IndexFits _ = Unit {0}
 abbrev mutual
   pub RangesFit : TypeExpr → Type 0
   RangesFit (Range span at) = SpanFits span
-  RangesFit (Array' i (more_of-TypeExpr index end_of-TypeExpr) o (more_of-TypeExpr of end_of-TypeExpr)) = IndexFits index × RangesFit of
+  RangesFit (Array' i (one_type index) o (one_type of)) = IndexFits index × RangesFit of
   RangesFit (Struct' shape fields) = FieldsFit fields
   RangesFit _ = Unit {0}
 

@@ -4,7 +4,7 @@ use Rattle.std.specs.List.{slice_get}
 use Rattle.std.specs.Option.{is_none}
 use Rattle.law_lists.proofs.Numbers.{nat_lt-true, nat_lt-false}
 use Rattle.smv_core.specs.declared.flat.FlatSplit.{FlatSplit}
-use Rattle.law_splits.specs.Variables.{Reading}
+use Rattle.law_splits.specs.Variables.{Occurrence}
 use Rattle.law_splits.specs.Leaves.{stands_for, number_in}
 use Rattle.law_splits.specs.SplitFaults.{is_stray}
 use Rattle.law_splits.specs.SplitLaws.{EquationsKeepOutcomes}
@@ -18,7 +18,7 @@ pub found : (o : Option ℕ) → is_none o ≡ false → (k : ℕ) × (o ≡ Som
 found None e = absurd (cc)
 found (Some k) e = (k, refl)
 
-pub fine : (split : FlatSplit) (x : Reading) → is_stray split x ≡ false → IsFine split x.var
+pub fine : (split : FlatSplit) (x : Occurrence) → is_stray split x ≡ false → IsFine split x.var
 fine split x e l = found (stands_for split x.var) (sym (ap (λ b. b && is_none (stands_for split x.var)) (nat_lt-true x.var (length split.bound) l)) ∙ e)
 
 pub number_inner : (split : FlatSplit) (count v : ℕ) → length split.bound ≤ v → number_in split count v ≡ count + (v - length split.bound)

@@ -19,7 +19,7 @@ use Rattle.law_obligations.proofs.Members.{Has-uncons, Has-left, Has-right, Has-
 use Rattle.law_obligations.specs.Outlines.{unit_in}
 use Rattle.law_obligations.specs.Units.{units_of}
 use Rattle.law_obligations.proofs.Lookups.{Has-filter, find-some}
-use Rattle.law_splits.specs.Variables.{Reading, readings}
+use Rattle.law_splits.specs.Variables.{Occurrence, readings}
 use Rattle.law_splits.specs.Leaves.{named_by, with_name, name_of, own_params, Cut, cut, all_params, stands_for, onward, onward_if, chain}
 use Rattle.law_splits.specs.SplitFaults.{astray, split_again, names_one, unbound, doubled, bracketed, equations_of, not_in_one, not_new, other_kind, is_stray, strays, miscounted, other_type, misfits, mismatches, cuts, cuts_of, faults_of_splits}
 use Rattle.law_splits.specs.SplitLaws.{IsRead}
@@ -52,7 +52,7 @@ module _ (d : Design) (read : IsRead d) (none : faults_of_splits d ≡ []) where
     no_misfit : (at : ℕ) → Has (misfits d.families s) at → ⊥
     no_misfit at h = no_place at (Has-left (flat_map mismatches (cuts_of d)) (Has-flat_map (misfits d.families) is_split h))
 
-    stands : (pair : FlatPair) → Has s.pairs pair → (x : Reading) → Has (readings pair.left) x → x.var < length s.bound → (k : ℕ) × (stands_for s x.var ≡ Some k)
+    stands : (pair : FlatPair) → Has s.pairs pair → (x : Occurrence) → Has (readings pair.left) x → x.var < length s.bound → (k : ℕ) × (stands_for s x.var ≡ Some k)
     stands pair h x k l = elim (some_or_none (stands_for s x.var)) [
       | inl r ↦ r
       | inr e ↦ absurd (no_misfit x.at (Has-right (unbound s ++ doubled (bracketed s) ++ not_in_one s ++ not_new s ++ other_kind d.families s)

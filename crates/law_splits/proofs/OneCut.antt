@@ -17,7 +17,7 @@ use Rattle.law_obligations.specs.Scopes.{ReadsOnly, before}
 use Rattle.law_obligations.proofs.Members.{Has-from_map}
 use Rattle.law_obligations.proofs.OneOfEach.{Has-from_flat_map}
 use Rattle.law_obligations.proofs.Lookups.{Has-filter}
-use Rattle.law_splits.specs.Variables.{Reading, readings, renamed, IsNumbered}
+use Rattle.law_splits.specs.Variables.{Occurrence, readings, renamed, IsNumbered}
 use Rattle.law_splits.specs.Leaves.{with_name, Cut, new, old, all_params, stands_for, number_in, guard_of, guards_of}
 use Rattle.law_splits.specs.SplitFaults.{names_one, equations_of}
 use Rattle.law_splits.specs.SplitLaws.{IsIndex}
@@ -28,7 +28,7 @@ use Rattle.law_splits.proofs.RenamedReads.{reads}
 -- what a split without a fault has
 pub record IsGood (d : Design) (c : Cut) : Type 0 where
   pub are_few : length (old c.split) ≤ length c.params
-  pub stand : (pair : FlatPair) → Has c.split.pairs pair → (x : Reading) → Has (readings pair.left) x → x.var < length c.split.bound → (k : ℕ) × (stands_for c.split x.var ≡ Some k)
+  pub stand : (pair : FlatPair) → Has c.split.pairs pair → (x : Occurrence) → Has (readings pair.left) x → x.var < length c.split.bound → (k : ℕ) × (stands_for c.split x.var ≡ Some k)
   pub in_one : (word : Word) → Has c.split.vars word → (a b : FlatPair) → Has (equations_of c.split.pairs word) a → Has (equations_of c.split.pairs word) b → a ≡ b
   pub are_numbered : (pair : FlatPair) → Has c.split.pairs pair → IsNumbered (length c.split.bound) pair.left
   pub are_indexes : (p : Param) → Has c.split.bound p → IsIndex d p.over

@@ -13,7 +13,7 @@ use Rattle.smv_core.specs.declared.flat.FlatExpr.{FlatExpr, Number, Read', Var, 
 use Rattle.law_obligations.specs.Sets.{Has, first}
 use Rattle.law_obligations.proofs.Members.{Has-left, Has-right}
 use Rattle.law_obligations.proofs.OneOfEach.{get_after}
-use Rattle.law_splits.specs.Variables.{Reading, readings, readings_each, readings_signed, readings_members, renamed, renamed_each, renamed_signed, renamed_members, IsNumbered, AreNumbered, AreSignedNumbered, AreMembersNumbered}
+use Rattle.law_splits.specs.Variables.{Occurrence, readings, readings_each, readings_signed, readings_members, renamed, renamed_each, renamed_signed, renamed_members, IsNumbered, AreNumbered, AreSignedNumbered, AreMembersNumbered}
 use Rattle.law_splits.proofs.Lists.{get_longer}
 use Rattle.law_splits.proofs.RenamedReads.{less_or_same}
 
@@ -28,8 +28,8 @@ bind_is b m v e = ap (λ ys. ys ++ v ∷ []) (take_all b m e)
 
 -- Variables from `width` on, of binders, take the numbers from a total on.
 module _ (n : Numbered) (s : FlatState) (width total : ℕ) (r : ℕ → ℕ) (inner : (v : ℕ) → width ≤ v → r v ≡ total + (v - width)) (IsFine : ℕ → Type 0) where
-  abbrev pub AreFine : List Reading → Type 0
-  AreFine xs = (x : Reading) → Has xs x → IsFine x.var
+  abbrev pub AreFine : List Occurrence → Type 0
+  AreFine xs = (x : Occurrence) → Has xs x → IsFine x.var
 
   -- the values of so many variables, under their numbers and under the others
   pub record Alike (m : ℕ) (b c : List Value) : Type 0 where
@@ -56,10 +56,10 @@ module _ (n : Numbered) (s : FlatState) (width total : ℕ) (r : ℕ → ℕ) (i
       alike = λ v k f. longer v (less_or_same v m k (cases_Bool (nat_eq v m))) f;
     }))
 
-  left : {xs : List Reading} (ys : List Reading) → AreFine (xs ++ ys) → AreFine xs
+  left : {xs : List Occurrence} (ys : List Occurrence) → AreFine (xs ++ ys) → AreFine xs
   left ys f x h = f x (Has-left ys h)
 
-  right : (xs : List Reading) {ys : List Reading} → AreFine (xs ++ ys) → AreFine ys
+  right : (xs : List Occurrence) {ys : List Occurrence} → AreFine (xs ++ ys) → AreFine ys
   right xs f x h = f x (Has-right xs h)
 
   mutual

@@ -9,7 +9,7 @@ use Rattle.law_obligations.specs.Sets.{Has, first}
 use Rattle.law_obligations.specs.Scopes.{under, ReadsOnly, ReadOnly, ReadSigned, ReadMembers, ReadHeld}
 use Rattle.law_obligations.proofs.Members.{Has-left, Has-right}
 use Rattle.law_obligations.proofs.Same.{nat_eq-itself}
-use Rattle.law_splits.specs.Variables.{Reading, readings, readings_each, readings_signed, readings_members, readings_held, renamed, renamed_each, renamed_signed, renamed_members, renamed_held, IsNumbered, AreNumbered, AreSignedNumbered, AreMembersNumbered, IsHeldNumbered}
+use Rattle.law_splits.specs.Variables.{Occurrence, readings, readings_each, readings_signed, readings_members, readings_held, renamed, renamed_each, renamed_signed, renamed_members, renamed_held, IsNumbered, AreNumbered, AreSignedNumbered, AreMembersNumbered, IsHeldNumbered}
 
 pub less_or_same : (v m : ℕ) → v < suc m → (nat_eq v m ≡ true) ⊎ (nat_eq v m ≡ false) → (v ≡ m) ⊎ (v < m)
 less_or_same v m l (inl e) = inl (nat_eq-is v m e)
@@ -20,8 +20,8 @@ module _ (n count total : ℕ) (within : count ≤ total) (r : ℕ → ℕ) (inn
   abbrev pub IsFine : ℕ → Type 0
   IsFine v = v < n → r v < count
 
-  abbrev pub AreFine : List Reading → Type 0
-  AreFine xs = (x : Reading) → Has xs x → IsFine x.var
+  abbrev pub AreFine : List Occurrence → Type 0
+  AreFine xs = (x : Occurrence) → Has xs x → IsFine x.var
 
   -- each fine variable below m has a number in the scope
   abbrev pub Reaches : ℕ → (ℕ → Bool) → Type 0
@@ -39,10 +39,10 @@ module _ (n count total : ℕ) (within : count ≤ total) (r : ℕ → ℕ) (inn
     | inr low ↦ either_right (nat_eq (r v) (r m)) (and_both (nat_lt-true (r v) (r m) (below m v l low f)) (h v low f))
   ]
 
-  left : {xs : List Reading} (ys : List Reading) → AreFine (xs ++ ys) → AreFine xs
+  left : {xs : List Occurrence} (ys : List Occurrence) → AreFine (xs ++ ys) → AreFine xs
   left ys f x h = f x (Has-left ys h)
 
-  right : (xs : List Reading) {ys : List Reading} → AreFine (xs ++ ys) → AreFine ys
+  right : (xs : List Occurrence) {ys : List Occurrence} → AreFine (xs ++ ys) → AreFine ys
   right xs f x h = f x (Has-right xs h)
 
   mutual

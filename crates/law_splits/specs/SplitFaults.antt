@@ -12,13 +12,14 @@ use Rattle.smv_core.specs.declared.flat.Family.{Family}
 use Rattle.smv_core.specs.declared.flat.Param.{Param}
 use Rattle.smv_core.specs.declared.flat.FlatSplit.{FlatSplit}
 use Rattle.smv_core.specs.declared.flat.FlatPair.{FlatPair}
-use Rattle.smv_core.specs.declared.flat.FlatExpr.{FlatExpr, Read', Var, Constant, Choose', end_of-FlatExpr, more_of-FlatExpr}
+use Rattle.smv_core.specs.declared.flat.FlatExpr.{FlatExpr, Read', Var, Constant, Choose'}
 use Rattle.smv_mentions.specs.NameFaults.{place_if}
 use Rattle.smv_mentions.specs.FirstFault.{faults_at, first_of}
 use Rattle.law_obligations.specs.Outlines.{unit_in}
 use Rattle.law_obligations.specs.Units.{units_of}
-use Rattle.law_splits.specs.Variables.{Reading, readings}
+use Rattle.law_splits.specs.Variables.{Occurrence, readings}
 use Rattle.law_splits.specs.Leaves.{named_by, with_name, name_of, own_params, splits_of, Cut, stands_for, onward}
+use Rattle.smv_core.specs.Rows.{one_flat_expr}
 
 -- ---- fault 23: a split of nothing that is to be proved, or of what is split already
 
@@ -95,7 +96,7 @@ abbrev pub is_of_kind : List Family → List Param → Simple → FlatExpr → B
 is_of_kind families bound t (Read' family shape indexes at) = has_values_of_kind t (slice_get families family)
 is_of_kind families bound t (Var var at) = list_any (λ p. nat_eq p.var var && same_kind t p.over) bound
 is_of_kind families bound t (Constant list value at) = same_kind t (Enum list)
-is_of_kind families bound t (Choose' c cond l (more_of-FlatExpr left end_of-FlatExpr) r right) = is_of_kind families bound t left
+is_of_kind families bound t (Choose' c cond l (one_flat_expr left) r right) = is_of_kind families bound t left
 is_of_kind families bound t _ = is_of_numbers t
 
 -- the expression is of another kind than its parameter
@@ -103,7 +104,7 @@ abbrev pub other_kind : List Family → FlatSplit → List ℕ
 other_kind families s = flat_map (λ pair. place_if (list_any (λ p. not (is_of_kind families s.bound p.over pair.left)) (with_name s.bound pair.right)) pair.right.at) s.pairs
 
 -- the expression reads a variable bound around the split that the brackets of its reference do not name
-abbrev pub is_stray : FlatSplit → Reading → Bool
+abbrev pub is_stray : FlatSplit → Occurrence → Bool
 is_stray s reading = nat_lt reading.var (length s.bound) && is_none (stands_for s reading.var)
 
 abbrev pub strays : FlatSplit → List ℕ

@@ -21,7 +21,7 @@ use Rattle.law_obligations.specs.Soundness.{at_sizes, AreSizes, params_of, value
 use Rattle.law_obligations.specs.Outlines.{Entry, names_of, unit_in}
 use Rattle.law_obligations.specs.Units.{units_of, script_of}
 use Rattle.law_obligations.specs.Checked.{IsFilled, IsSplit}
-use Rattle.law_splits.specs.Variables.{Reading, readings, renamed, IsNumbered}
+use Rattle.law_splits.specs.Variables.{Occurrence, readings, renamed, IsNumbered}
 use Rattle.law_splits.specs.Leaves.{named_by, name_of, stands_for, number_in, leaves_of}
 use Rattle.law_splits.specs.SplitFaults.{is_stray, faults_of_splits}
 
@@ -57,7 +57,7 @@ StandFor split own values = (length own ≡ length split.bound) × ((v k : ℕ) 
 
 -- an equation that reads no other variable has in a leaf with so many parameters the outcome that it has at the split's own variables
 abbrev pub EquationsKeepOutcomes : Type 0
-EquationsKeepOutcomes = (n : Numbered) (s : FlatState) (split : FlatSplit) (e : FlatExpr) → IsNumbered (length split.bound) e → ((x : Reading) → Has (readings e) x → is_stray split x ≡ false) →
+EquationsKeepOutcomes = (n : Numbered) (s : FlatState) (split : FlatSplit) (e : FlatExpr) → IsNumbered (length split.bound) e → ((x : Occurrence) → Has (readings e) x → is_stray split x ≡ false) →
     (own values : List Value) → StandFor split own values → flat_outcome n s (renamed (number_in split (length values)) e) values ≡ flat_outcome n s e own
 
 -- no two splits have one name, and no unit has that of a split

@@ -22,14 +22,14 @@ use Rattle.smv_core.specs.declared.flat.FlatExpr.{FlatExpr, Number, Read', Var, 
 use Rattle.smv_core.specs.declared.flat.FlatText.{FlatText}
 use Rattle.law_designs.specs.Definitions.{splits_of, design_of_flat_text}
 use Rattle.law_designs.specs.WholeText.{claims_of}
-use Rattle.law_designs.specs.FlatKinds.{number, kind_of, takes, are_numbers, number_if, common, take_each, Vars, inside, bound_by, are_binders, kind_in, kinds_in, summands, members_in, looked_through, is_binder, is_type, is_index_type, is_size, is_kinded_item, is_kinded_family, is_kinded}
+use Rattle.law_designs.specs.FlatKinds.{number, kind_of, takes, are_numbers, number_if, common, take_each, FlatVars, inside, bound_by, are_binders, kind_in, kinds_in, summands, members_in, looked_through, is_binder, is_type, is_index_type, is_size, is_kinded_item, is_kinded_family, is_kinded}
 use Rattle.law_designs.proofs.Operands.{all-some, takes-some, numbers-some, each-some, common-some, number_if-true, compares-some, two-some, chosen-some, element-some}
 use Rattle.law_obligations.specs.Sets.{Has, first, later}
 use Rattle.law_splits.specs.Variables.{IsNumbered, AreNumbered, AreSignedNumbered, AreMembersNumbered}
 use Rattle.law_splits.specs.SplitLaws.{IsIndex, IsRead}
 use Rattle.law_obligations.specs.Scripts.{HaveValues}
 
-length-inside : (vars : Vars) (over : Simple) → length (inside vars over) ≡ suc (length vars)
+length-inside : (vars : FlatVars) (over : Simple) → length (inside vars over) ≡ suc (length vars)
 length-inside [] over = refl
 length-inside (v ∷ vars) over = let e = length-inside vars over in omega arith
 
@@ -39,13 +39,13 @@ each-holds p (y ∷ xs) h _ first = (and_parts (p y) (list_all p xs) h).0
 each-holds p (y ∷ xs) h x (later i) = each-holds p xs (and_parts (p y) (list_all p xs) h).1 x i
 
 module _ (flat_text : FlatText) where
-  binder-number : (vars : Vars) (var : ℕ) (over : Simple) → is_binder flat_text vars var over ≡ true → var ≡ length vars
+  binder-number : (vars : FlatVars) (var : ℕ) (over : Simple) → is_binder flat_text vars var over ≡ true → var ≡ length vars
   binder-number vars var over h = nat_eq-is var (length vars) (and_parts (nat_eq var (length vars)) (is_index_type flat_text over) h).0
 
   -- ---- expressions
 
   mutual
-    pub expr-numbered : (vars : Vars) (e : FlatExpr) → is_some (kind_in flat_text vars e) ≡ true → IsNumbered (length vars) e
+    pub expr-numbered : (vars : FlatVars) (e : FlatExpr) → is_some (kind_in flat_text vars e) ≡ true → IsNumbered (length vars) e
     expr-numbered vars (Number value at) h = tt
     expr-numbered vars (Read' family shape indexes at) h =
         let g : (f : Family) × (slice_get flat_text.families family ≡ Some f) × (take_each f.over (kinds_in flat_text vars indexes) ≡ true) = element-some (slice_get flat_text.families family) (kinds_in flat_text vars indexes) h in
@@ -88,19 +88,19 @@ module _ (flat_text : FlatText) where
     expr-numbered vars (List' shape members at) h = absurd (cc (h))
     expr-numbered vars (Each' var over cond at) h = absurd (cc (h))
 
-    row-numbered : {m : _} (vars : Vars) (row : Row_of-FlatExpr m) → all-some (kinds_in flat_text vars row) ≡ true → AreNumbered (length vars) row
+    row-numbered : {m : _} (vars : FlatVars) (row : Row_of-FlatExpr m) → all-some (kinds_in flat_text vars row) ≡ true → AreNumbered (length vars) row
     row-numbered vars end_of-FlatExpr h = tt
     row-numbered vars (more_of-FlatExpr e rest) h =
         let g : (is_some (kind_in flat_text vars e) ≡ true) × (all-some (kinds_in flat_text vars rest) ≡ true) = and_parts _ _ h in
         (expr-numbered vars e g.0, row-numbered vars rest g.1)
 
-    signed-numbered : {m : _} (vars : Vars) (row : Row_of-FlatSigned m) → all-some (summands flat_text vars row) ≡ true → AreSignedNumbered (length vars) row
+    signed-numbered : {m : _} (vars : FlatVars) (row : Row_of-FlatSigned m) → all-some (summands flat_text vars row) ≡ true → AreSignedNumbered (length vars) row
     signed-numbered vars end_of-FlatSigned h = tt
     signed-numbered vars (more_of-FlatSigned minus e rest) h =
         let g : (is_some (kind_in flat_text vars e) ≡ true) × (all-some (summands flat_text vars rest) ≡ true) = and_parts _ _ h in
         (expr-numbered vars e g.0, signed-numbered vars rest g.1)
 
-    members-numbered : {m : _} (vars : Vars) (row : Row_of-FlatMember m) → all-some (members_in flat_text vars row) ≡ true → AreMembersNumbered (length vars) row
+    members-numbered : {m : _} (vars : FlatVars) (row : Row_of-FlatMember m) → all-some (members_in flat_text vars row) ≡ true → AreMembersNumbered (length vars) row
     members-numbered vars end_of-FlatMember h = tt
     members-numbered vars (more_of-FlatMember (One e) rest) h =
         let g : (is_some (kind_in flat_text vars e) ≡ true) × (all-some (members_in flat_text vars rest) ≡ true) = and_parts _ _ h in
@@ -108,7 +108,7 @@ module _ (flat_text : FlatText) where
     members-numbered vars (more_of-FlatMember (SpanOf span at) rest) h =
         members-numbered vars rest (and_parts (is_some (number_if (nat_le span.low span.high))) (all-some (members_in flat_text vars rest)) h).1
 
-    set-numbered : (vars : Vars) (e : FlatExpr) → all-some (looked_through flat_text vars e) ≡ true → IsNumbered (length vars) e
+    set-numbered : (vars : FlatVars) (e : FlatExpr) → all-some (looked_through flat_text vars e) ≡ true → IsNumbered (length vars) e
     set-numbered vars (List' shape members at) h = members-numbered vars members h
     set-numbered vars _ h = absurd (cc (h))
 
@@ -119,7 +119,7 @@ module _ (flat_text : FlatText) where
   index-type (Enum list) h = absurd (cc (h))
   index-type (Set set) h = record { is_index_type = tt; is_filled = get_there flat_text.sets set (nat_lt-is set (length flat_text.sets) h) }
 
-  binders-index : (vars : Vars) (params : List Param) → are_binders flat_text vars params ≡ true → (p : Param) → Has params p → IsIndex (design_of_flat_text flat_text) p.over
+  binders-index : (vars : FlatVars) (params : List Param) → are_binders flat_text vars params ≡ true → (p : Param) → Has params p → IsIndex (design_of_flat_text flat_text) p.over
   binders-index vars [] h p i = elim i [ ]
   binders-index vars (q ∷ params) h _ first = index-type q.over (and_parts (nat_eq q.var (length vars)) (is_index_type flat_text q.over) (and_parts (is_binder flat_text vars q.var q.over) (are_binders flat_text (inside vars q.over) params) h).0).1
   binders-index vars (q ∷ params) h p (later i) = binders-index (inside vars q.over) params (and_parts (is_binder flat_text vars q.var q.over) (are_binders flat_text (inside vars q.over) params) h).1 p i

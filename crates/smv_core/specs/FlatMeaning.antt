@@ -16,6 +16,7 @@ use Rattle.smv_core.specs.declared.flat.FlatExpr.{FlatExpr, Number, Read', Var, 
 use Rattle.smv_core.specs.declared.flat.FlatStmt.{FlatStmt, Assign, If', Block', Default', Forall', Row_of-FlatStmt, end_of-FlatStmt, more_of-FlatStmt}
 use Rattle.smv_core.specs.declared.flat.DefBody.{DefBody, Nothing, First', Row_of-DefBody, end_of-DefBody, more_of-DefBody}
 use Rattle.smv_core.specs.declared.flat.DefBody as flat
+use Rattle.smv_core.specs.Rows.{one_flat_expr, one_flat_stmt}
 
 -- what the numbers in a flattened text stand for, at sizes
 pub record Numbered : Type 0 where
@@ -70,18 +71,18 @@ module _ (n : Numbered) (s : FlatState) where
     flat_outcome (Var var at) b = slice_get b var
     flat_outcome (Loop value at) b = Some (number value)
     flat_outcome (Constant list value at) b = option_map constant (slice_get (get_or n.enums list []) value)
-    flat_outcome (Not' shape (more_of-FlatExpr e end_of-FlatExpr) at) b = bit (not_of (truth (flat_outcome e b)))
+    flat_outcome (Not' shape (one_flat_expr e) at) b = bit (not_of (truth (flat_outcome e b)))
     flat_outcome (And' shape parts) b = bit (conjunction (map truth (flat_outcomes parts b)))
     flat_outcome (Or' shape parts) b = bit (disjunction (map truth (flat_outcomes parts b)))
     flat_outcome (Implies' shape parts) b = bit (implication (map truth (flat_outcomes parts b)))
-    flat_outcome (Iff' l (more_of-FlatExpr left end_of-FlatExpr) r (more_of-FlatExpr right end_of-FlatExpr)) b = bit (iff_of (truth (flat_outcome left b)) (truth (flat_outcome right b)))
-    flat_outcome (Compare' op l (more_of-FlatExpr left end_of-FlatExpr) r (more_of-FlatExpr right end_of-FlatExpr)) b = bit (compare op (flat_outcome left b) (flat_outcome right b))
-    flat_outcome (Within' l (more_of-FlatExpr left end_of-FlatExpr) r (more_of-FlatExpr set end_of-FlatExpr)) b = bit (disjunction (map (equal (flat_outcome left b)) (flat_listed set b)))
-    flat_outcome (Sum' f (more_of-FlatExpr head end_of-FlatExpr) shape more) b = flat_sum more (flat_outcome head b) b
-    flat_outcome (Modulo' shape (more_of-FlatExpr e end_of-FlatExpr) by at) b = modulo (flat_outcome e b) by
-    flat_outcome (Choose' c (more_of-FlatExpr cond end_of-FlatExpr) l (more_of-FlatExpr left end_of-FlatExpr) r (more_of-FlatExpr right end_of-FlatExpr)) b = branch None (truth (flat_outcome cond b)) (flat_outcome left b) (flat_outcome right b)
-    flat_outcome (All' shape (more_of-FlatExpr body end_of-FlatExpr) var over at) b = bit (conjunction (map (λ v. truth (flat_outcome body (bind b var v))) (values_in n over)))
-    flat_outcome (Any' shape (more_of-FlatExpr body end_of-FlatExpr) var over at) b = bit (disjunction (map (λ v. truth (flat_outcome body (bind b var v))) (values_in n over)))
+    flat_outcome (Iff' l (one_flat_expr left) r (one_flat_expr right)) b = bit (iff_of (truth (flat_outcome left b)) (truth (flat_outcome right b)))
+    flat_outcome (Compare' op l (one_flat_expr left) r (one_flat_expr right)) b = bit (compare op (flat_outcome left b) (flat_outcome right b))
+    flat_outcome (Within' l (one_flat_expr left) r (one_flat_expr set)) b = bit (disjunction (map (equal (flat_outcome left b)) (flat_listed set b)))
+    flat_outcome (Sum' f (one_flat_expr head) shape more) b = flat_sum more (flat_outcome head b) b
+    flat_outcome (Modulo' shape (one_flat_expr e) by at) b = modulo (flat_outcome e b) by
+    flat_outcome (Choose' c (one_flat_expr cond) l (one_flat_expr left) r (one_flat_expr right)) b = branch None (truth (flat_outcome cond b)) (flat_outcome left b) (flat_outcome right b)
+    flat_outcome (All' shape (one_flat_expr body) var over at) b = bit (conjunction (map (λ v. truth (flat_outcome body (bind b var v))) (values_in n over)))
+    flat_outcome (Any' shape (one_flat_expr body) var over at) b = bit (disjunction (map (λ v. truth (flat_outcome body (bind b var v))) (values_in n over)))
     flat_outcome (List' shape members at) b = None
     flat_outcome (Each' var over cond at) b = None
 
@@ -106,13 +107,13 @@ module _ (n : Numbered) (s : FlatState) where
   -- the condition of a comprehension is 1, or there is none
   abbrev pub flat_meets : Held-FlatExpr-Each-2 → FlatBindings → Bool
   flat_meets None' b = true
-  flat_meets (Some' shape (more_of-FlatExpr cond end_of-FlatExpr)) b = is_true (truth (flat_outcome cond b))
+  flat_meets (Some' shape (one_flat_expr cond)) b = is_true (truth (flat_outcome cond b))
 
   -- the values that a right side allows for a type with these values
   abbrev pub flat_allowed_by : List Value → FlatExpr → FlatBindings → List Value
   flat_allowed_by every (List' shape members at) b = fit every (flat_members members b)
   flat_allowed_by every (Each' var over cond at) b = fit every (map Some (filter (λ v. flat_meets cond (bind b var v)) (values_in n over)))
-  flat_allowed_by every (Choose' c (more_of-FlatExpr cond end_of-FlatExpr) l (more_of-FlatExpr left end_of-FlatExpr) r (more_of-FlatExpr right end_of-FlatExpr)) b =
+  flat_allowed_by every (Choose' c (one_flat_expr cond) l (one_flat_expr left) r (one_flat_expr right)) b =
       branch every (truth (flat_outcome cond b)) (flat_allowed_by every left b) (flat_allowed_by every right b)
   flat_allowed_by every e b = fit every (flat_outcome e b ∷ [])
 
@@ -130,10 +131,10 @@ module _ (n : Numbered) (s : FlatState) where
       pub flat_walk : Kind → FlatStmt → FlatBindings → Walk
       flat_walk kind (Assign which family left value at) b =
           if same_kind which kind && nat_eq family x.family then flat_assigned (map (λ e. flat_outcome e b) left) value b else None
-      flat_walk kind (If' cond l (more_of-FlatStmt left end_of-FlatStmt) r (more_of-FlatStmt right end_of-FlatStmt)) b = if_walk every (truth (flat_outcome cond b)) (flat_walk kind left b) (flat_walk kind right b)
+      flat_walk kind (If' cond l (one_flat_stmt left) r (one_flat_stmt right)) b = if_walk every (truth (flat_outcome cond b)) (flat_walk kind left b) (flat_walk kind right b)
       flat_walk kind (Block' shape parts) b = flat_walks kind parts b
-      flat_walk kind (Default' l (more_of-FlatStmt left end_of-FlatStmt) r (more_of-FlatStmt right end_of-FlatStmt)) b = first_of (flat_walk kind right b) (flat_walk kind left b)
-      flat_walk kind (Forall' var over shape (more_of-FlatStmt body end_of-FlatStmt)) b = first (map (λ v. flat_walk kind body (bind b var v)) (values_in n over))
+      flat_walk kind (Default' l (one_flat_stmt left) r (one_flat_stmt right)) b = first_of (flat_walk kind right b) (flat_walk kind left b)
+      flat_walk kind (Forall' var over shape (one_flat_stmt body)) b = first (map (λ v. flat_walk kind body (bind b var v)) (values_in n over))
 
       pub flat_walks : {m : _} → Kind → Row_of-FlatStmt m → FlatBindings → Walk
       flat_walks kind end_of-FlatStmt b = None
@@ -158,8 +159,8 @@ abbrev mutual
   flat_index (Number value at) = fixed (Some (number value))
   flat_index (Loop value at) = fixed (Some (number value))
   flat_index (Var var at) = bare var
-  flat_index (Sum' f (more_of-FlatExpr head end_of-FlatExpr) shape more) = flat_index_sum (flat_index head) more
-  flat_index (Modulo' shape (more_of-FlatExpr e end_of-FlatExpr) by at) = modulo_fixed (flat_index e) by
+  flat_index (Sum' f (one_flat_expr head) shape more) = flat_index_sum (flat_index head) more
+  flat_index (Modulo' shape (one_flat_expr e) by at) = modulo_fixed (flat_index e) by
   flat_index _ = computed
 
   pub flat_index_sum : {m : _} → Index → Row_of-FlatSigned m → Index

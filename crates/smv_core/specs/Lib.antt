@@ -2,6 +2,7 @@ pub mod Values
 pub mod Types
 pub mod FlatOrder
 pub mod Outcome
+pub mod Rows
 pub mod Walk
 pub mod Assignments
 pub mod Allowed

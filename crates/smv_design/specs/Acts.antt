@@ -8,6 +8,7 @@ use Rattle.law_designs.specs.Definitions.{Head}
 use Rattle.smv_design.specs.Parts.{size}
 use Rattle.smv_design.specs.declared.heads.Noted.{Noted}
 use Rattle.smv_design.specs.declared.acts.Act.{Act}
+use Rattle.smv_core.specs.Rows.{one_flat_stmt}
 
 -- an assignment that was noted
 abbrev pub head_of : Noted → Head
@@ -22,10 +23,10 @@ module _ (layer : Option ℕ) where
     -- the assignments of a statement of a layer, the first at this place
     pub heads_in : ℕ → FlatStmt → List Head
     heads_in k (Assign kind family left value at) = record { layer = layer; family = family; place = k; at = at } ∷ []
-    heads_in k (If' cond l (more_of-FlatStmt left end_of-FlatStmt) r (more_of-FlatStmt right end_of-FlatStmt)) = heads_in k left ++ heads_in (k + size left) right
+    heads_in k (If' cond l (one_flat_stmt left) r (one_flat_stmt right)) = heads_in k left ++ heads_in (k + size left) right
     heads_in k (Block' shape parts) = heads_in_row k parts
-    heads_in k (Default' l (more_of-FlatStmt left end_of-FlatStmt) r (more_of-FlatStmt right end_of-FlatStmt)) = heads_in k left ++ heads_in (k + size left) right
-    heads_in k (Forall' var over shape (more_of-FlatStmt body end_of-FlatStmt)) = heads_in k body
+    heads_in k (Default' l (one_flat_stmt left) r (one_flat_stmt right)) = heads_in k left ++ heads_in (k + size left) right
+    heads_in k (Forall' var over shape (one_flat_stmt body)) = heads_in k body
 
     pub heads_in_row : {m : _} → ℕ → Row_of-FlatStmt m → List Head
     heads_in_row k end_of-FlatStmt = []

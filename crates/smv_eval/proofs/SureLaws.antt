@@ -17,7 +17,7 @@ use Rattle.law_obligations.specs.Obligations.{AbstractProblem as Case, defined}
 use Rattle.law_obligations.specs.Soundness.{over_of}
 use Rattle.law_obligations.proofs.Members.{Has-from_map, Has-uncons}
 use Rattle.law_obligations.proofs.Same.{same_place-is, is_among-Has}
-use Rattle.law_designs.specs.FlatKinds.{Kind}
+use Rattle.law_designs.specs.FlatKinds.{FlatKind}
 use Rattle.law_obligations.specs.Readings as readings
 use Rattle.smv_spots.specs.declared.spots.Spot.{Spot}
 use Rattle.smv_spots.specs.Spots.{place_in, outcome_in}
@@ -218,7 +218,7 @@ from_filter f (x ∷ ps) p h = at (f x) h (from_filter f ps p)
     at true h others = elim (Has-uncons h) [ inl e ↦ subst (Has (x ∷ ps)) (sym e) first | inr k ↦ later (others k) ]
     at false h others = later (others h)
 
-as_outcomes : (n : Numbered) (k : Kind) (ps : List Place) → map (written_outcome n k) (map Some ps) ≡ map (written_place n k) ps
+as_outcomes : (n : Numbered) (k : FlatKind) (ps : List Place) → map (written_outcome n k) (map Some ps) ≡ map (written_place n k) ps
 as_outcomes n k [] = refl
 as_outcomes n k (p ∷ ps) = ap (λ vs. written_place n k p ∷ vs) (as_outcomes n k ps)
 
@@ -242,7 +242,7 @@ values_said problem old cells element init next comb every sliced offers given l
     let n : Numbered = w.classes in
     let world : IsWorldOf problem w = subst (λ (q : Problem). IsWorldOf q w) (sym is) (world_of_case c well) in
     let o : Option Family = slice_get n.families def.family in
-    let kind : Kind = kind_in o in
+    let kind : FlatKind = kind_in o in
     let f : Place → Bool = is_sure c.problem def indexes before now in
     let are : map (place_in n) sliced ≡ every_of c.problem def = ap (map (place_in n)) is_sliced ∙ (are_places w c.problem.kept world ∙ ap (λ k. places_of_family w c.problem.kept (slice_get n.families k)) (sym asked.0.family)) in
     let made : given ≡ map (sure_offer c.problem def indexes before now) sliced = is_given ∙ sure c.problem before now read def indexes demand asked are in

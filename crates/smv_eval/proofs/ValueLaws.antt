@@ -24,7 +24,7 @@ use Rattle.law_obligations.proofs.Computing.{computing}
 use Rattle.law_obligations.proofs.OneOfEach.{get_Has}
 use Rattle.law_obligations.specs.Outlines.{place_of}
 use Rattle.law_designs.specs.FlatKinds as kinds
-use Rattle.law_designs.specs.FlatKinds.{Kind, enumeration, set_type, kind_of, joins, joined}
+use Rattle.law_designs.specs.FlatKinds.{FlatKind, enumeration, set_type, kind_of, joins, joined}
 use Rattle.law_obligations.specs.Readings.{PosedCase}
 use Rattle.smv_spots.specs.declared.spots.Spot.{Spot}
 use Rattle.smv_spots.specs.declared.spots.Spot.TheVariants as spot
@@ -73,26 +73,26 @@ kind_list (Range low high) = refl
 kind_list (Enum list) = refl
 kind_list (Set set) = refl
 
-joined_list : (k l : Kind) → joins k l ≡ true → list_of (joined k l) ≡ list_of k
-joined_list Kind.number Kind.number j = refl
-joined_list Kind.number (enumeration l) j = absurd (cc)
-joined_list Kind.number (set_type s) j = refl
+joined_list : (k l : FlatKind) → joins k l ≡ true → list_of (joined k l) ≡ list_of k
+joined_list FlatKind.number FlatKind.number j = refl
+joined_list FlatKind.number (enumeration l) j = absurd (cc)
+joined_list FlatKind.number (set_type s) j = refl
 joined_list (enumeration k) l j = refl
 joined_list (set_type s) l j = refl
 
-number_is : (b : Bool) (kind : Kind) → kinds.number_if b ≡ Some kind → None ≡ list_of kind
+number_is : (b : Bool) (kind : FlatKind) → kinds.number_if b ≡ Some kind → None ≡ list_of kind
 number_is true kind e = ap list_of (some_is e)
 number_is false kind e = absurd (cc)
 
 -- no variable is of an enumeration
-abbrev NoLists : List Kind → Type 0
-NoLists vars = (k : Kind) → Has vars k → list_of k ≡ None
+abbrev NoLists : List FlatKind → Type 0
+NoLists vars = (k : FlatKind) → Has vars k → list_of k ≡ None
 
 module _ (flat_text : FlatText) (families : List Family) (same : flat_text.families ≡ families) where
-  choose_kind : (cond left right : Option Kind) (kind : Kind) → kinds.chosen cond left right ≡ Some kind → (k : Kind) × (left ≡ Some k) × (list_of k ≡ list_of kind)
-  choose_kind cond left right kind e = at (kinds.takes Kind.number cond) e
+  choose_kind : (cond left right : Option FlatKind) (kind : FlatKind) → kinds.chosen cond left right ≡ Some kind → (k : FlatKind) × (left ≡ Some k) × (list_of k ≡ list_of kind)
+  choose_kind cond left right kind e = at (kinds.takes FlatKind.number cond) e
     where
-      after : (k : Kind) (right : Option Kind) → kinds.common_after k (right ∷ []) ≡ Some kind → list_of k ≡ list_of kind
+      after : (k : FlatKind) (right : Option FlatKind) → kinds.common_after k (right ∷ []) ≡ Some kind → list_of k ≡ list_of kind
       after k None e = absurd (cc)
       after k (Some o) e = by (joins k o) refl e
         where
@@ -100,15 +100,15 @@ module _ (flat_text : FlatText) (families : List Family) (same : flat_text.famil
           by true j e = sym (joined_list k o j) ∙ ap list_of (some_is e)
           by false j e = absurd (cc)
 
-      of_left : (left : Option Kind) → kinds.common (left ∷ right ∷ []) ≡ Some kind → (k : Kind) × (left ≡ Some k) × (list_of k ≡ list_of kind)
+      of_left : (left : Option FlatKind) → kinds.common (left ∷ right ∷ []) ≡ Some kind → (k : FlatKind) × (left ≡ Some k) × (list_of k ≡ list_of kind)
       of_left None e = absurd (cc)
       of_left (Some k) e = (k, refl, after k right e)
 
-      at : (b : Bool) → (if b then kinds.common (left ∷ right ∷ []) else None) ≡ Some kind → (k : Kind) × (left ≡ Some k) × (list_of k ≡ list_of kind)
+      at : (b : Bool) → (if b then kinds.common (left ∷ right ∷ []) else None) ≡ Some kind → (k : FlatKind) × (left ≡ Some k) × (list_of k ≡ list_of kind)
       at true e = of_left left e
       at false e = absurd (cc)
 
-  read_kind : (o : Option Family) (indexes : List (Option Kind)) (kind : Kind) → kinds.element o indexes ≡ Some kind → list_for o ≡ list_of kind
+  read_kind : (o : Option Family) (indexes : List (Option FlatKind)) (kind : FlatKind) → kinds.element o indexes ≡ Some kind → list_for o ≡ list_of kind
   read_kind None indexes kind e = absurd (cc)
   read_kind (Some f) indexes kind e = at (kinds.take_each f.over indexes) e
     where
@@ -116,14 +116,14 @@ module _ (flat_text : FlatText) (families : List Family) (same : flat_text.famil
       at true e = kind_list f.value ∙ ap list_of (some_is e)
       at false e = absurd (cc)
 
-  constant_kind : (list value : ℕ) (kind : Kind) → kinds.constant flat_text list value ≡ Some kind → Some list ≡ list_of kind
+  constant_kind : (list value : ℕ) (kind : FlatKind) → kinds.constant flat_text list value ≡ Some kind → Some list ≡ list_of kind
   constant_kind list value kind e = at (nat_lt value (length (get_or flat_text.enums list []))) e
     where
       at : (b : Bool) → (if b then Some (enumeration list) else None) ≡ Some kind → Some list ≡ list_of kind
       at true e = ap list_of (some_is e)
       at false e = absurd (cc)
 
-  list_is : (vars : List Kind) → NoLists vars → (e : FlatExpr) (kind : Kind) → kinds.kind_in flat_text vars e ≡ Some kind → list_in families e ≡ list_of kind
+  list_is : (vars : List FlatKind) → NoLists vars → (e : FlatExpr) (kind : FlatKind) → kinds.kind_in flat_text vars e ≡ Some kind → list_in families e ≡ list_of kind
   list_is vars none (Number value at) kind e = ap list_of (some_is e)
   list_is vars none (Read' family shape indexes at) kind e = ap (λ fs. list_for (slice_get fs family)) (sym same) ∙ read_kind (slice_get flat_text.families family) (kinds.kinds_in flat_text vars indexes) kind e
   list_is vars none (Var var at) kind e = sym (none kind (get_Has vars var kind e))
@@ -207,12 +207,12 @@ module _ (p : Problem) (w : World) (is : IsWorldOf p w) where
       ap value.Constant (least (unwrap_or (position (nat_eq n) (get_or p.names list [])) 0) (count_at p.lists list) long)
       ∙ ap (λ o. value.Constant (unwrap_or o 0)) (sym (same_position (bytes_eq (name_at w.classes.enums other k)) (nat_eq n) [] 0 (get_or w.classes.enums list []) (get_or p.names list []) (is.lists list ∙ sym (is.names list)) (λ i. is.constants other k list i)))
 
-  by_kind : (kind : Kind) (other k : ℕ) → constant_in p (list_of kind) (name_number_at p.names other k) ≡ written_constant w.classes kind (name_at w.classes.enums other k)
-  by_kind Kind.number other k = refl
+  by_kind : (kind : FlatKind) (other k : ℕ) → constant_in p (list_of kind) (name_number_at p.names other k) ≡ written_constant w.classes kind (name_at w.classes.enums other k)
+  by_kind FlatKind.number other k = refl
   by_kind (set_type set) other k = refl
   by_kind (enumeration list) other k = constant_written list other k
 
-  class_written : (kind : Kind) (o : Option SetInfo) (k : ℕ) → Narrow (named (of_set o k)) → value.Named (min k 255) ≡ written_outcome w.classes kind (Some (named (of_set o k)))
+  class_written : (kind : FlatKind) (o : Option SetInfo) (k : ℕ) → Narrow (named (of_set o k)) → value.Named (min k 255) ≡ written_outcome w.classes kind (Some (named (of_set o k)))
   class_written kind None k n = ap value.Named (least k 255 n)
   class_written kind (Some info) k n = at info.ordered n
     where
@@ -220,7 +220,7 @@ module _ (p : Problem) (w : World) (is : IsWorldOf p w) where
       at true n = ap value.Named (least k 255 n)
       at false n = ap value.Named (least k 255 n)
 
-  rest_written : (kind : Kind) (o : Option SetInfo) (g : ℕ) → Narrow (rest (of_set o g)) → value.Rest (min g 255) ≡ written_outcome w.classes kind (Some (rest (of_set o g)))
+  rest_written : (kind : FlatKind) (o : Option SetInfo) (g : ℕ) → Narrow (rest (of_set o g)) → value.Rest (min g 255) ≡ written_outcome w.classes kind (Some (rest (of_set o g)))
   rest_written kind None g n = ap value.Rest (least g 255 n)
   rest_written kind (Some info) g n = at info.ordered n
     where
@@ -228,7 +228,7 @@ module _ (p : Problem) (w : World) (is : IsWorldOf p w) where
       at true n = ap value.Rest (least g 255 n)
       at false n = ap value.Rest (least g 255 n)
 
-  value_written : (kind : Kind) (outcome : Option Spot) → IsNarrow (outcome_in w.classes outcome) → value_at p (list_of kind) outcome ≡ written_outcome w.classes kind (outcome_in w.classes outcome)
+  value_written : (kind : FlatKind) (outcome : Option Spot) → IsNarrow (outcome_in w.classes outcome) → value_at p (list_of kind) outcome ≡ written_outcome w.classes kind (outcome_in w.classes outcome)
   value_written kind None n = refl
   value_written kind (Some (spot.Number k)) n = refl
   value_written kind (Some (spot.Constant other k)) n = by_kind kind other k
@@ -365,7 +365,7 @@ module _ (p : Problem) (list : Option ℕ) where
 -- ---- the answer
 
 -- offers whose tests are those of a list, each written, are the list as it is written
-module _ (p : Problem) (w : World) (is : IsWorldOf p w) (kind : Kind) (offers : List (Offer Bool)) (us : List AbsOutcome)
+module _ (p : Problem) (w : World) (is : IsWorldOf p w) (kind : FlatKind) (offers : List (Offer Bool)) (us : List AbsOutcome)
     (same : (q : AbsOutcome → Bool) → list_any (λ (o : Offer Bool). o.when && q (outcome_in w.classes o.outcome)) offers ≡ list_any q us) (narrow : (u : AbsOutcome) → Has us u → IsNarrow u) where
   offered : (o : Offer Bool) → Has offers o → o.when ≡ true → Has us (outcome_in w.classes o.outcome)
   offered o h e =
@@ -398,7 +398,7 @@ plain_offers : (n : Numbered) (s : Plain) (q : AbsOutcome → Bool) (offers : Li
 unfolding any_offer
 plain_offers n s q offers = refl
 
-module _ (c : PosedCase) (well : IsWellFormed c) (p : Problem) (is : p ≡ written c) (a : AbsState) (state : IsAbsState c.problem.world c.problem.kept a) (e : FlatExpr) (over : List Simple) (b : List Place) (kind : Kind)
+module _ (c : PosedCase) (well : IsWellFormed c) (p : Problem) (is : p ≡ written c) (a : AbsState) (state : IsAbsState c.problem.world c.problem.kept a) (e : FlatExpr) (over : List Simple) (b : List Place) (kind : FlatKind)
     (index_types : (t : Simple) → Has over t → IsIndexType t) (of_kind : IsOfKind c e over b kind) (spots : List Spot) (bound : spots ≡ map (written_spot c.problem.world.classes) b) where
   families_are : p.families ≡ c.problem.world.classes.families
   unfolding written
@@ -423,7 +423,7 @@ module _ (c : PosedCase) (well : IsWellFormed c) (p : Problem) (is : p ≡ writt
 
 pub may_answered : (p : Problem) (state : StateData) (e : FlatExpr) (spots : List Spot) (s t : Plain) (cells sliced : List (Cell Bool)) (offers given : List (Offer Bool)) (list : Option ℕ) (values : List AbsValue) →
     OfStates p state (λ c a. (s : Plain) → IsSeen plainly s p cells (view_of c a)) → sliced ≡ cells → ((v : View) → IsSeen plainly s p sliced v → AreOffersOf plainly t v e spots offers) → given ≡ offers → list ≡ list_in p.families e → values ≡ with_offers p list [] given →
-    OfStates p state (λ c a. (over : List Simple) (b : List Place) (kind : Kind) → ((t : Simple) → Has over t → IsIndexType t) → IsOfKind c e over b kind → spots ≡ map (written_spot c.problem.world.classes) b →
+    OfStates p state (λ c a. (over : List Simple) (b : List Place) (kind : FlatKind) → ((t : Simple) → Has over t → IsIndexType t) → IsOfKind c e over b kind → spots ≡ map (written_spot c.problem.world.classes) b →
     IsSetOf (map (written_outcome c.problem.world.classes kind) (may c.problem.world c.problem.kept a e b)) values)
 may_answered p state e spots s t cells sliced offers given list values seen is_sliced are is_given is_list is_values c is well a abs same over b kind index_types of_kind bound =
     subst (IsSetOf (map (written_outcome c.problem.world.classes kind) (may c.problem.world c.problem.kept a e b))) (sym (is_values ∙ (ap (λ l. with_offers p l [] given) is_list ∙ ap (with_offers p (list_in p.families e) []) is_given)))

@@ -4,9 +4,9 @@ use Rattle.std.specs.List.{list_any}
 use Rattle.smv_core.specs.declared.flat.Simple.{Simple}
 use Rattle.smv_core.specs.declared.flat.Simple.TheVariants.{Enum}
 use Rattle.smv_core.specs.declared.flat.Family.{Family}
-use Rattle.smv_core.specs.declared.flat.FlatExpr.{FlatExpr, Read', Constant, Choose', end_of-FlatExpr, more_of-FlatExpr}
+use Rattle.smv_core.specs.declared.flat.FlatExpr.{FlatExpr, Read', Constant, Choose'}
 use Rattle.law_obligations.specs.Sets.{Has}
-use Rattle.law_designs.specs.FlatKinds.{Kind, enumeration}
+use Rattle.law_designs.specs.FlatKinds.{FlatKind, enumeration}
 use Rattle.law_problems.specs.Values.{same_value}
 use Rattle.smv_spots.specs.declared.spots.Spot.TheVariants as spot
 use Rattle.smv_spots.specs.declared.spots.Spot.{Spot}
@@ -15,6 +15,7 @@ use Rattle.smv_problem.specs.declared.problem.AbsValue.{AbsValue}
 use Rattle.smv_problem.specs.declared.problem.AbsValue.TheVariants as value
 use Rattle.smv_problem_spots.specs.Worlds.{count_at, name_number_at}
 use Rattle.smv_conditions.specs.declared.offers.Offer.{Offer}
+use Rattle.smv_core.specs.Rows.{one_flat_expr}
 
 -- no member twice
 abbrev pub AreOnce : {X : Type 0} → List X → Type 0
@@ -28,7 +29,7 @@ pub record IsSetOf {X : Type 0} (set answer : List X) : Type 0 where
   pub once : AreOnce answer
 
 -- the enumeration of a kind, of a type and of a family, if it is one
-abbrev pub list_of : Kind → Option ℕ
+abbrev pub list_of : FlatKind → Option ℕ
 list_of (enumeration list) = Some list
 list_of kind = None
 
@@ -44,7 +45,7 @@ list_for None = None
 abbrev pub list_in : List Family → FlatExpr → Option ℕ
 list_in families (Read' family shape indexes at) = list_for (slice_get families family)
 list_in families (Constant list value at) = Some list
-list_in families (Choose' c cond l (more_of-FlatExpr left end_of-FlatExpr) r right) = list_in families left
+list_in families (Choose' c cond l (one_flat_expr left) r right) = list_in families left
 list_in families e = None
 
 -- the place of a number in an enumeration, 0 where it is not there

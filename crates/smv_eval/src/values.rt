@@ -6,7 +6,7 @@ ghost use Rattle.law_obligations.specs.Sets.{Has};
 ghost use Rattle.law_obligations.specs.Places.{Place};
 ghost use Rattle.law_obligations.specs.May.{may as may_be};
 ghost use Rattle.law_obligations.specs.Covers.{IsIndexType};
-ghost use Rattle.law_designs.specs.FlatKinds.{Kind};
+ghost use Rattle.law_designs.specs.FlatKinds.{FlatKind};
 ghost use Rattle.smv_problem.specs.Written.{written_spot, written_outcome};
 ghost use Rattle.smv_problem.specs.WellFormed.{IsProblem, IsOfKind, OfStates};
 ghost use Rattle.smv_eval.specs.Answers as spec;
@@ -178,7 +178,7 @@ pub fn may(
     s: &AbsState,
 ) -> Result<Seq<AbsValue>, AllocError>
     requires { IsProblem problem.now }
-    ensures { IfOk result (λ values. OfStates problem.entry.now s.entry.now (λ c a. (over : List Over) (b : List Place) (kind : Kind) → ((t : Over) → Has over t → IsIndexType t) → IsOfKind c e.now over b kind → bindings.now ≡ map (written_spot c.problem.world.classes) b →
+    ensures { IfOk result (λ values. OfStates problem.entry.now s.entry.now (λ c a. (over : List Over) (b : List Place) (kind : FlatKind) → ((t : Over) → Has over t → IsIndexType t) → IsOfKind c e.now over b kind → bindings.now ≡ map (written_spot c.problem.world.classes) b →
         IsSetOf (map (written_outcome c.problem.world.classes kind) (may_be c.problem.world c.problem.kept a e.now b)) values)) }
 {
     let cells = cells_of(alloc, problem, s)?;

@@ -3,7 +3,7 @@ use Rattle.std.specs.Str.{bytes_eq}
 use Rattle.smv_core.specs.Values.{Name}
 use Rattle.std.specs.Prelude.{ℕ, Option, Some, None, min, if◌then◌else◌, List, [], ◌∷◌, ◌++◌, map, flat_map, length}
 use Rattle.smv_core.specs.declared.tree.Word.{Word}
-use Rattle.smv_core.specs.declared.tree.TypeExpr.{TypeExpr, Boolean, Range, Enum, Named, Array', Struct', end_of-TypeExpr, more_of-TypeExpr, Row_of-Field, end_of-Field, more_of-Field}
+use Rattle.smv_core.specs.declared.tree.TypeExpr.{TypeExpr, Boolean, Range, Enum, Named, Array', Struct', Row_of-Field, end_of-Field, more_of-Field}
 use Rattle.smv_core.specs.declared.tree.Role.{Role}
 use Rattle.smv_core.specs.declared.tree.Path.{Path, out-Path}
 use Rattle.smv_core.specs.declared.tree.Part.{Part, Field, At}
@@ -15,6 +15,7 @@ use Rattle.smv_core.specs.declared.tree.Stmt.{Stmt, Assign, Block', If', Switch'
 use Rattle.smv_core.specs.declared.tree.Stmt as stmt
 use Rattle.smv_core.specs.declared.tree.Item.{Item, Declare, Instance, Layer, Claim, Split, Using, Act, Row_of-Item, end_of-Item, more_of-Item}
 use Rattle.smv_core.specs.declared.tree.Item as item
+use Rattle.smv_core.specs.Rows.{one_expr, one_stmt, one_type}
 
 -- what a name of a module is: a signal of a role and a type, an instance of a module, or a claim or split
 pub data What : Type 0 where
@@ -75,7 +76,7 @@ unfoldable mutual
   in_type (Range span at) = []
   in_type (Enum names at) = lists_constants names ∷ []
   in_type (Named word at) = names_type word ∷ []
-  in_type (Array' i (more_of-TypeExpr index end_of-TypeExpr) o (more_of-TypeExpr of end_of-TypeExpr)) = in_type index ++ in_type of
+  in_type (Array' i (one_type index) o (one_type of)) = in_type index ++ in_type of
   in_type (Struct' shape fields) = has_fields (fields_in fields) ∷ in_fields fields
 
   pub in_fields : {m : _} → Row_of-Field m → List Mention
@@ -89,18 +90,18 @@ unfoldable mutual
   pub in_expr : List Word → Expr → List Mention
   in_expr vars (Number value at) = []
   in_expr vars (Signal' shape parts at) = path_in vars (items-the_row-Part _ parts) ∷ in_parts vars parts
-  in_expr vars (Not' shape (more_of-Expr e end_of-Expr) at) = in_expr vars e
+  in_expr vars (Not' shape (one_expr e) at) = in_expr vars e
   in_expr vars (And' shape parts) = in_row vars parts
   in_expr vars (Or' shape parts) = in_row vars parts
   in_expr vars (Implies' shape parts) = in_row vars parts
-  in_expr vars (Iff' l (more_of-Expr left end_of-Expr) r (more_of-Expr right end_of-Expr)) = in_expr vars left ++ in_expr vars right
-  in_expr vars (Compare' op l (more_of-Expr left end_of-Expr) r (more_of-Expr right end_of-Expr)) = in_expr vars left ++ in_expr vars right
-  in_expr vars (Within' l (more_of-Expr left end_of-Expr) r (more_of-Expr set end_of-Expr)) = in_expr vars left ++ in_expr vars set
-  in_expr vars (Sum' f (more_of-Expr first end_of-Expr) shape more) = in_expr vars first ++ in_sum vars more
-  in_expr vars (Modulo' shape (more_of-Expr e end_of-Expr) by at) = in_expr vars e
-  in_expr vars (Choose' c (more_of-Expr cond end_of-Expr) l (more_of-Expr left end_of-Expr) r (more_of-Expr right end_of-Expr)) = in_expr vars cond ++ in_expr vars left ++ in_expr vars right
-  in_expr vars (All' shape (more_of-Expr body end_of-Expr) var over at) = in_expr (vars ++ var ∷ []) body ++ binder_in vars var ∷ in_type over
-  in_expr vars (Any' shape (more_of-Expr body end_of-Expr) var over at) = in_expr (vars ++ var ∷ []) body ++ binder_in vars var ∷ in_type over
+  in_expr vars (Iff' l (one_expr left) r (one_expr right)) = in_expr vars left ++ in_expr vars right
+  in_expr vars (Compare' op l (one_expr left) r (one_expr right)) = in_expr vars left ++ in_expr vars right
+  in_expr vars (Within' l (one_expr left) r (one_expr set)) = in_expr vars left ++ in_expr vars set
+  in_expr vars (Sum' f (one_expr first) shape more) = in_expr vars first ++ in_sum vars more
+  in_expr vars (Modulo' shape (one_expr e) by at) = in_expr vars e
+  in_expr vars (Choose' c (one_expr cond) l (one_expr left) r (one_expr right)) = in_expr vars cond ++ in_expr vars left ++ in_expr vars right
+  in_expr vars (All' shape (one_expr body) var over at) = in_expr (vars ++ var ∷ []) body ++ binder_in vars var ∷ in_type over
+  in_expr vars (Any' shape (one_expr body) var over at) = in_expr (vars ++ var ∷ []) body ++ binder_in vars var ∷ in_type over
   in_expr vars (List' shape members at) = in_members vars members
   in_expr vars (Each' var over cond at) = binder_in vars var ∷ in_type over ++ in_held (vars ++ var ∷ []) cond
 
@@ -126,7 +127,7 @@ unfoldable mutual
   -- the condition of a comprehension, or none
   pub in_held : List Word → Held-Expr-Each-2 → List Mention
   in_held vars None' = []
-  in_held vars (Some' shape (more_of-Expr cond end_of-Expr)) = in_expr vars cond
+  in_held vars (Some' shape (one_expr cond)) = in_expr vars cond
 
 -- a part of a path, a member of a set, and what a sum adds
 abbrev pub in_part : List Word → Part → List Mention
@@ -151,11 +152,11 @@ unfoldable mutual
   pub in_stmt : List Word → Stmt → List Mention
   in_stmt vars (Assign kind left value at) = in_path vars left ++ in_expr vars value
   in_stmt vars (Block' shape parts) = in_block vars parts
-  in_stmt vars (If' cond l (more_of-Stmt left end_of-Stmt) right at) = in_expr vars cond ++ in_stmt vars left ++ in_branch vars right
+  in_stmt vars (If' cond l (one_stmt left) right at) = in_expr vars cond ++ in_stmt vars left ++ in_branch vars right
   in_stmt vars (Switch' on shape arms other at) = in_expr vars on ++ in_arms vars arms ++ in_branch vars other
-  in_stmt vars (Default' l (more_of-Stmt left end_of-Stmt) r (more_of-Stmt right end_of-Stmt) at) = in_stmt vars left ++ in_stmt vars right
-  in_stmt vars (For' var from to closed step shape (more_of-Stmt body end_of-Stmt) at) = binder_in vars var ∷ in_stmt (vars ++ var ∷ []) body
-  in_stmt vars (Forall' var over shape (more_of-Stmt body end_of-Stmt) at) = binder_in vars var ∷ in_type over ++ in_stmt (vars ++ var ∷ []) body
+  in_stmt vars (Default' l (one_stmt left) r (one_stmt right) at) = in_stmt vars left ++ in_stmt vars right
+  in_stmt vars (For' var from to closed step shape (one_stmt body) at) = binder_in vars var ∷ in_stmt (vars ++ var ∷ []) body
+  in_stmt vars (Forall' var over shape (one_stmt body) at) = binder_in vars var ∷ in_type over ++ in_stmt (vars ++ var ∷ []) body
 
   pub in_block : {m : _} → List Word → Row_of-Stmt m → List Mention
   in_block vars end_of-Stmt = []
@@ -164,7 +165,7 @@ unfoldable mutual
   -- an `else` or `default`, or none
   pub in_branch : List Word → Held-Stmt-If-2 → List Mention
   in_branch vars stmt.None' = []
-  in_branch vars (stmt.Some' shape (more_of-Stmt part end_of-Stmt)) = in_stmt vars part
+  in_branch vars (stmt.Some' shape (one_stmt part)) = in_stmt vars part
 
   pub in_arms : {m : _} → List Word → Row_of-Arm m → List Mention
   in_arms vars end_of-Arm = []

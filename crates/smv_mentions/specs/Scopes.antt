@@ -8,9 +8,10 @@ use Rattle.smv_core.specs.declared.tree.Word.{Word}
 use Rattle.smv_core.specs.declared.tree.Text.{Text}
 use Rattle.smv_core.specs.declared.tree.Top.{Top}
 use Rattle.smv_core.specs.declared.tree.Top.TheVariants.{SetType, Alias, Module}
-use Rattle.smv_core.specs.declared.tree.TypeExpr.{TypeExpr, Named, Array', Struct', end_of-TypeExpr, more_of-TypeExpr, Row_of-Field, end_of-Field, more_of-Field}
+use Rattle.smv_core.specs.declared.tree.TypeExpr.{TypeExpr, Named, Array', Struct', Row_of-Field, end_of-Field, more_of-Field}
 use Rattle.smv_core.specs.declared.tree.Part.{Part, Field, At}
 use Rattle.smv_mentions.specs.Mentions.{What, signal, instance, goal, Mention, declares, lists_constants, first_place, in_type, in_item}
+use Rattle.smv_core.specs.Rows.{one_type}
 
 -- ---- types and modules
 
@@ -41,7 +42,7 @@ module _ (known : Known) where
     -- the fields of a type: those of a struct, also in an array
     pub fields_of : TypeExpr → Fields
     fields_of (Named word at) words = fields_if_type (find_name known word.name) words
-    fields_of (Array' i index o (more_of-TypeExpr of end_of-TypeExpr)) words = fields_of of words
+    fields_of (Array' i index o (one_type of)) words = fields_of of words
     fields_of (Struct' shape fields) [] = []
     fields_of (Struct' shape fields) (word ∷ more) = field_among fields word more
     fields_of _ words = no_field words

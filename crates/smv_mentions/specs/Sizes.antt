@@ -9,11 +9,12 @@ use Rattle.smv_core.specs.Walk.{steps_of}
 use Rattle.smv_core.specs.declared.tree.Text.{Text}
 use Rattle.smv_core.specs.declared.tree.Top.{Top}
 use Rattle.smv_core.specs.declared.tree.Top.TheVariants.{SetType, Alias, Module}
-use Rattle.smv_core.specs.declared.tree.TypeExpr.{TypeExpr, Boolean, Range, Named, Array', Struct', end_of-TypeExpr, more_of-TypeExpr, Row_of-Field, end_of-Field, more_of-Field}
+use Rattle.smv_core.specs.declared.tree.TypeExpr.{TypeExpr, Boolean, Range, Named, Array', Struct', Row_of-Field, end_of-Field, more_of-Field}
 use Rattle.smv_core.specs.declared.tree.Stmt.{Stmt, Assign, Block', If', Switch', Default', For', Forall', Held-Stmt-If-2, None', Some', Row_of-Stmt, end_of-Stmt, more_of-Stmt, Row_of-Arm, end_of-Arm, more_of-Arm}
 use Rattle.smv_core.specs.declared.tree.Item.{Item, Declare, Instance, Layer, Claim, Split, Using, Act, Row_of-Item, end_of-Item, more_of-Item}
 use Rattle.smv_core.specs.declared.tree.Item as item
 use Rattle.smv_mentions.specs.Scopes.{pieces, constants}
+use Rattle.smv_core.specs.Rows.{one_stmt, one_type}
 
 -- ---- families
 
@@ -51,7 +52,7 @@ module _ (known : List (Name × Sized)) where
     -- the families that a signal of a type has
     pub extents_of : TypeExpr → List Extent
     extents_of (Named word at) = (sized known word.name).families
-    extents_of (Array' i (more_of-TypeExpr index end_of-TypeExpr) o (more_of-TypeExpr of end_of-TypeExpr)) = map (under (size_of index)) (extents_of of)
+    extents_of (Array' i (one_type index) o (one_type of)) = map (under (size_of index)) (extents_of of)
     extents_of (Struct' shape fields) = extents_of_fields fields
     extents_of _ = one_value
 
@@ -76,11 +77,11 @@ abbrev mutual
   pub statements : Stmt → ℕ
   statements (Assign kind left value at) = 1
   statements (Block' shape parts) = 1 + statements_in_row parts
-  statements (If' cond l (more_of-Stmt left end_of-Stmt) right at) = 1 + statements left + statements_in_branch right
+  statements (If' cond l (one_stmt left) right at) = 1 + statements left + statements_in_branch right
   statements (Switch' on shape arms other at) = 1 + statements_in_arms arms + statements_in_branch other
-  statements (Default' l (more_of-Stmt left end_of-Stmt) r (more_of-Stmt right end_of-Stmt) at) = 1 + statements left + statements right
-  statements (For' var from to closed step shape (more_of-Stmt body end_of-Stmt) at) = 1 + length (steps_of from to closed step) * statements body
-  statements (Forall' var over shape (more_of-Stmt body end_of-Stmt) at) = 1 + statements body
+  statements (Default' l (one_stmt left) r (one_stmt right) at) = 1 + statements left + statements right
+  statements (For' var from to closed step shape (one_stmt body) at) = 1 + length (steps_of from to closed step) * statements body
+  statements (Forall' var over shape (one_stmt body) at) = 1 + statements body
 
   pub statements_in_row : {m : _} → Row_of-Stmt m → ℕ
   statements_in_row end_of-Stmt = 0
@@ -88,7 +89,7 @@ abbrev mutual
 
   pub statements_in_branch : Held-Stmt-If-2 → ℕ
   statements_in_branch None' = 0
-  statements_in_branch (Some' shape (more_of-Stmt part end_of-Stmt)) = statements part
+  statements_in_branch (Some' shape (one_stmt part)) = statements part
 
   pub statements_in_arms : {m : _} → Row_of-Arm m → ℕ
   statements_in_arms end_of-Arm = 0

@@ -141,7 +141,7 @@ module _ (plan : Plan) (whole : IsWholePlan plan) where
       omega (arith, lt, timed, long, entries)
 
   module _ (u : ℕ) (unit : Unit) (leaf : Leaf) (choice : Choice) (timed : Timed) (is_unit : slice_get plan.units u ≡ Some unit) (is_leaf : slice_get plan.leaves u ≡ Some leaf) (is_choice : slice_get plan.choices u ≡ Some choice) (is_timed : slice_get plan.timed u ≡ Some timed) where
-    at : IsAt plan.design plan.leaves plan.choices u leaf choice
+    pub at : IsAt plan.design plan.leaves plan.choices u leaf choice
     at = record {
       each_leaf = whole.leaves ∙ ap (λ (xs : List Unit). length xs) whole.units;
       each_choice = whole.choices ∙ ap (λ (xs : List Unit). length xs) whole.units;
@@ -150,7 +150,7 @@ module _ (plan : Plan) (whole : IsWholePlan plan) where
       is_unit = whole.own u leaf is_leaf;
     }
 
-    unit_is : (entry_of plan.design leaf choice).unit ≡ unit
+    pub unit_is : (entry_of plan.design leaf choice).unit ≡ unit
     unit_is = ap (λ (n : ℕ). unwrap_or (slice_get (units_of plan.design) n) (Claim 0)) (whole.own u leaf is_leaf) ∙ ap (λ (o : Option Unit). unwrap_or o (Claim 0)) (ap (λ (xs : List Unit). slice_get xs u) (sym whole.units) ∙ is_unit)
 
     pub result_is : (nodes images : ℕ) (name : Name) (params : List Param) (verdict : Verdict) → name ≡ name_of plan.design (unit_in plan.design unit) → params ≡ leaf.params

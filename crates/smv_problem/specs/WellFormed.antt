@@ -24,11 +24,12 @@ use Rattle.law_obligations.specs.Pictures.{IsAbsState, AreNamedOf}
 use Rattle.law_obligations.specs.Obligations.{Demanded, defined, holds}
 use Rattle.law_obligations.specs.Cones.{AbsElement, element}
 use Rattle.law_designs.specs.FlatKinds as kinds
-use Rattle.law_designs.specs.FlatKinds.{Kind, set_type, Vars, kind_of}
+use Rattle.law_designs.specs.FlatKinds.{FlatKind, set_type, FlatVars, kind_of}
 use Rattle.law_obligations.specs.Readings.{PosedCase, IsCase, state_bits}
 use Rattle.smv_problem.specs.declared.problem.AbsState.{AbsState as StateData}
 use Rattle.smv_problem.specs.declared.problem.Problem.{Problem}
 use Rattle.smv_problem.specs.Written.{written, written_state}
+use Rattle.smv_core.specs.Rows.{one_flat_expr}
 
 -- the constants of an enumeration are distinct
 abbrev pub AreDistinct : List Name → Type 0
@@ -61,46 +62,46 @@ abbrev pub is_ordset : Option SetInfo → Bool
 is_ordset (Some info) = info.ordered
 is_ordset None = false
 
-abbrev pub has_order : FlatText → Option Kind → Bool
+abbrev pub has_order : FlatText → Option FlatKind → Bool
 has_order flat_text (Some (set_type set)) = is_ordset (slice_get flat_text.sets set)
 has_order flat_text kind = true
 
 module _ (flat_text : FlatText) where
   abbrev mutual
     -- each order in an expression stands over numbers or an ordset
-    pub keeps_orders : Vars → FlatExpr → Bool
+    pub keeps_orders : FlatVars → FlatExpr → Bool
     keeps_orders vars (Number value at) = true
     keeps_orders vars (Read' family shape indexes at) = all_keep_orders vars indexes
     keeps_orders vars (Var var at) = true
     keeps_orders vars (Loop value at) = true
     keeps_orders vars (Constant list value at) = true
-    keeps_orders vars (Not' shape (more_of-FlatExpr e end_of-FlatExpr) at) = keeps_orders vars e
+    keeps_orders vars (Not' shape (one_flat_expr e) at) = keeps_orders vars e
     keeps_orders vars (And' shape parts) = all_keep_orders vars parts
     keeps_orders vars (Or' shape parts) = all_keep_orders vars parts
     keeps_orders vars (Implies' shape parts) = all_keep_orders vars parts
-    keeps_orders vars (Iff' l (more_of-FlatExpr left end_of-FlatExpr) r (more_of-FlatExpr right end_of-FlatExpr)) = keeps_orders vars left && keeps_orders vars right
-    keeps_orders vars (Compare' op l (more_of-FlatExpr left end_of-FlatExpr) r (more_of-FlatExpr right end_of-FlatExpr)) =
+    keeps_orders vars (Iff' l (one_flat_expr left) r (one_flat_expr right)) = keeps_orders vars left && keeps_orders vars right
+    keeps_orders vars (Compare' op l (one_flat_expr left) r (one_flat_expr right)) =
         (not (is_order op) || (has_order flat_text (kinds.kind_in flat_text vars left) && has_order flat_text (kinds.kind_in flat_text vars right))) && (keeps_orders vars left && keeps_orders vars right)
-    keeps_orders vars (Within' l (more_of-FlatExpr left end_of-FlatExpr) r (more_of-FlatExpr set end_of-FlatExpr)) = keeps_orders vars left && keeps_orders vars set
-    keeps_orders vars (Sum' f (more_of-FlatExpr head end_of-FlatExpr) shape more) = keeps_orders vars head && signed_keep_orders vars more
-    keeps_orders vars (Modulo' shape (more_of-FlatExpr e end_of-FlatExpr) by at) = keeps_orders vars e
-    keeps_orders vars (Choose' c (more_of-FlatExpr cond end_of-FlatExpr) l (more_of-FlatExpr left end_of-FlatExpr) r (more_of-FlatExpr right end_of-FlatExpr)) =
+    keeps_orders vars (Within' l (one_flat_expr left) r (one_flat_expr set)) = keeps_orders vars left && keeps_orders vars set
+    keeps_orders vars (Sum' f (one_flat_expr head) shape more) = keeps_orders vars head && signed_keep_orders vars more
+    keeps_orders vars (Modulo' shape (one_flat_expr e) by at) = keeps_orders vars e
+    keeps_orders vars (Choose' c (one_flat_expr cond) l (one_flat_expr left) r (one_flat_expr right)) =
         keeps_orders vars cond && (keeps_orders vars left && keeps_orders vars right)
-    keeps_orders vars (All' shape (more_of-FlatExpr body end_of-FlatExpr) var over at) = keeps_orders (kinds.inside vars over) body
-    keeps_orders vars (Any' shape (more_of-FlatExpr body end_of-FlatExpr) var over at) = keeps_orders (kinds.inside vars over) body
+    keeps_orders vars (All' shape (one_flat_expr body) var over at) = keeps_orders (kinds.inside vars over) body
+    keeps_orders vars (Any' shape (one_flat_expr body) var over at) = keeps_orders (kinds.inside vars over) body
     keeps_orders vars (List' shape members at) = members_keep_orders vars members
     keeps_orders vars (Each' var over None' at) = true
-    keeps_orders vars (Each' var over (Some' shape (more_of-FlatExpr cond end_of-FlatExpr)) at) = keeps_orders (kinds.inside vars over) cond
+    keeps_orders vars (Each' var over (Some' shape (one_flat_expr cond)) at) = keeps_orders (kinds.inside vars over) cond
 
-    pub all_keep_orders : {m : _} → Vars → Row_of-FlatExpr m → Bool
+    pub all_keep_orders : {m : _} → FlatVars → Row_of-FlatExpr m → Bool
     all_keep_orders vars end_of-FlatExpr = true
     all_keep_orders vars (more_of-FlatExpr e more) = keeps_orders vars e && all_keep_orders vars more
 
-    pub signed_keep_orders : {m : _} → Vars → Row_of-FlatSigned m → Bool
+    pub signed_keep_orders : {m : _} → FlatVars → Row_of-FlatSigned m → Bool
     signed_keep_orders vars end_of-FlatSigned = true
     signed_keep_orders vars (more_of-FlatSigned minus e more) = keeps_orders vars e && signed_keep_orders vars more
 
-    pub members_keep_orders : {m : _} → Vars → Row_of-FlatMember m → Bool
+    pub members_keep_orders : {m : _} → FlatVars → Row_of-FlatMember m → Bool
     members_keep_orders vars end_of-FlatMember = true
     members_keep_orders vars (more_of-FlatMember (One e) more) = keeps_orders vars e && members_keep_orders vars more
     members_keep_orders vars (more_of-FlatMember (SpanOf span at) more) = members_keep_orders vars more
@@ -109,16 +110,16 @@ module _ (flat_text : FlatText) where
 
 -- no part of what a definition says of a family breaks a rule of kinds and orders, where these are the kinds of the variables around it
 abbrev mutual
-  pub is_part : FlatText → ℕ → Vars → DefBody → Bool
+  pub is_part : FlatText → ℕ → FlatVars → DefBody → Bool
   is_part flat_text family vars Nothing = true
   is_part flat_text family vars (Assign left value place at) =
       kinds.assigns (kinds.element (slice_get flat_text.families family) (map (kinds.kind_in flat_text vars) left)) (kinds.value_in flat_text vars value) && (list_all (keeps_orders flat_text vars) left && keeps_orders flat_text vars value)
   is_part flat_text family vars (If' cond l (more_of-DefBody left end_of-DefBody) r (more_of-DefBody right end_of-DefBody)) =
-      (kinds.takes Kind.number (kinds.kind_in flat_text vars cond) && keeps_orders flat_text vars cond) && (is_part flat_text family vars left && is_part flat_text family vars right)
+      (kinds.takes FlatKind.number (kinds.kind_in flat_text vars cond) && keeps_orders flat_text vars cond) && (is_part flat_text family vars left && is_part flat_text family vars right)
   is_part flat_text family vars (First' shape parts) = are_parts flat_text family vars parts
   is_part flat_text family vars (Forall' var over shape (more_of-DefBody body end_of-DefBody)) = kinds.is_binder flat_text vars var over && is_part flat_text family (kinds.inside vars over) body
 
-  pub are_parts : {m : _} → FlatText → ℕ → Vars → Row_of-DefBody m → Bool
+  pub are_parts : {m : _} → FlatText → ℕ → FlatVars → Row_of-DefBody m → Bool
   are_parts flat_text family vars end_of-DefBody = true
   are_parts flat_text family vars (more_of-DefBody part more) = is_part flat_text family vars part && are_parts flat_text family vars more
 
@@ -127,7 +128,7 @@ module _ (c : PosedCase) where
   names = as_flat_text c.problem.world.classes
 
   -- an expression of this kind, where the variables around it are over these types and stand at these places
-  pub record IsOfKind (e : FlatExpr) (over : List Simple) (b : List Place) (kind : Kind) : Type 0 where
+  pub record IsOfKind (e : FlatExpr) (over : List Simple) (b : List Place) (kind : FlatKind) : Type 0 where
     pub are_of : AreOf c.problem.world over b
     pub has_kind : kinds.kind_in names (map kind_of over) e ≡ Some kind
     pub has_orders : IsTrue (keeps_orders names (map kind_of over) e)
@@ -137,11 +138,11 @@ module _ (c : PosedCase) where
   IsFit (defined def indexes) =
       IsTrue (is_part names def.family [] def.init) × IsTrue (is_part names def.family [] def.next) × IsTrue (is_part names def.family [] def.comb)
       × AreOf c.problem.world (over_of (slice_get names.families def.family)) indexes
-  IsFit (holds body b) = (over : List Simple) × (kind : Kind) × IsOfKind body over b kind × IsTrue (kinds.takes Kind.number (Some kind))
+  IsFit (holds body b) = (over : List Simple) × (kind : FlatKind) × IsOfKind body over b kind × IsTrue (kinds.takes FlatKind.number (Some kind))
 
   -- a guard with the types of the leaf's parameters
   pub record IsFitGuard (over : List Simple) (g : Guard) : Type 0 where
-    pub kind : Kind
+    pub kind : FlatKind
     pub is_of : IsOfKind g.expr over c.problem.params kind
     pub has_param : slice_get over g.var ≡ Some g.over
 

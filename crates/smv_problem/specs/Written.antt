@@ -15,7 +15,7 @@ use Rattle.law_obligations.specs.May.{AbsState}
 use Rattle.law_obligations.specs.Obligations.{Demanded, defined, holds}
 use Rattle.law_obligations.specs.Outlines.{place_of}
 use Rattle.law_obligations.specs.Cones.{AbsElement}
-use Rattle.law_designs.specs.FlatKinds.{Kind, enumeration, kind_of}
+use Rattle.law_designs.specs.FlatKinds.{FlatKind, enumeration, kind_of}
 use Rattle.law_obligations.specs.Readings.{PosedCase}
 use Rattle.smv_spots.specs.declared.spots.Spot.{Spot}
 use Rattle.smv_spots.specs.declared.spots.Spot.TheVariants as spot
@@ -60,12 +60,12 @@ written_spot n (rest (ordinal t g)) = spot.Rest (set_number n t) g
 written_spot n (rest _) = spot.Number 0
 
 -- a constant by its place in its enumeration
-abbrev pub written_constant : Numbered → Kind → Name → AbsValue
+abbrev pub written_constant : Numbered → FlatKind → Name → AbsValue
 written_constant n (enumeration list) name = value.Constant (unwrap_or (place_of (bytes_eq name) (get_or n.enums list [])) 0)
 written_constant n kind name = value.Undefined
 
 -- a place of this kind
-abbrev pub written_place : Numbered → Kind → Place → AbsValue
+abbrev pub written_place : Numbered → FlatKind → Place → AbsValue
 written_place n kind (named (number k)) = value.Number k
 written_place n kind (named (constant name)) = written_constant n kind name
 written_place n kind (named (scalar t k)) = value.Named k
@@ -74,7 +74,7 @@ written_place n kind (rest (scalar t g)) = value.Rest g
 written_place n kind (rest (ordinal t g)) = value.Rest g
 written_place n kind (rest _) = value.Undefined
 
-abbrev pub written_outcome : Numbered → Kind → AbsOutcome → AbsValue
+abbrev pub written_outcome : Numbered → FlatKind → AbsOutcome → AbsValue
 written_outcome n kind (Some p) = written_place n kind p
 written_outcome n kind None = value.Undefined
 
@@ -90,9 +90,9 @@ abbrev pub written_type : World → SetInfo → AbsType
 written_type w info = record { named = w.classes.sizes info.name; rest = w.rests info.name }
 
 -- the kind of the values of an element
-abbrev pub kind_in : Option Family → Kind
+abbrev pub kind_in : Option Family → FlatKind
 kind_in (Some f) = kind_of f.value
-kind_in None = Kind.number
+kind_in None = FlatKind.number
 
 -- the number of a name among all constants: equal names have one number, and a name that is none of them has 0, as an empty one has
 abbrev pub name_number : List (List Name) → Name → ℕ

@@ -1,7 +1,7 @@
 //! A proof document, read from its bytes.
 //!
 //! For whoever checks a proof or begins from one. `smv_proof/specs/Documents` says which bytes spell a proof, `smv_proof/specs/Readings` how they are read line by line. `pieces` cuts and reads numbers,
-//! `lines` reads a line by itself, `nodes` the lines of a set, and `sets` the sets.
+//! `lines` reads a line by itself, `nodes` the lines of a set, and `sets` the sets. `olds` parts an old document from the design behind it.
 #![tactic(auto)]
 
 ghost use Rattle.std.specs.Prelude.{◌≡◌, IfOk, Err};
@@ -10,6 +10,7 @@ ghost use Rattle.smv_proof.specs.Documents.{Spells, SpellsNone};
 
 mod lines;
 mod nodes;
+pub mod olds;
 mod pieces;
 mod sets;
 mod whole;

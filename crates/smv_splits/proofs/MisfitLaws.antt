@@ -14,7 +14,7 @@ use Rattle.smv_mentions.specs.NameFaults.{place_if}
 use Rattle.smv_mentions.specs.Scopes.{first_of_places}
 use Rattle.smv_first_fault.specs.Firsts.{least}
 use Rattle.smv_first_fault.proofs.LeastLaws.{least-append, first-assoc}
-use Rattle.law_splits.specs.Variables.{Reading, readings}
+use Rattle.law_splits.specs.Variables.{Occurrence, readings}
 use Rattle.law_splits.specs.SplitFaults as splits
 use Rattle.smv_splits.specs.Parts as parts
 use Rattle.smv_splits.specs.Parts.{first_among, right_names, repeated, standing_in, not_new_in, other_kind_in, equations_misfit}
@@ -58,8 +58,8 @@ pub strays-first : (s : FlatSplit) (standing : List (Option ℕ)) → standing �
 unfolding parts.stray_in
 strays-first s standing is =
     ap (λ l. first_among (map (λ (pair : FlatPair). parts.stray_in l pair.left) s.pairs)) is
-    ∙ among-list (λ (pair : FlatPair). parts.stray_in (standing_in s) pair.left) (λ (pair : FlatPair). map (λ (r : Reading). r.at) (filter (splits.is_stray s) (readings pair.left)))
-    (λ pair. ap (λ l. least (map (λ (r : Reading). r.at) l)) (filter_agree (λ (r : Reading). parts.is_stray (standing_in s) r.var) (splits.is_stray s) (stray-is s) (readings pair.left))) s.pairs
+    ∙ among-list (λ (pair : FlatPair). parts.stray_in (standing_in s) pair.left) (λ (pair : FlatPair). map (λ (r : Occurrence). r.at) (filter (splits.is_stray s) (readings pair.left)))
+    (λ pair. ap (λ l. least (map (λ (r : Occurrence). r.at) l)) (filter_agree (λ (r : Occurrence). parts.is_stray (standing_in s) r.var) (splits.is_stray s) (stray-is s) (readings pair.left))) s.pairs
 
 pub equations-first : (families : List Family) (s : FlatSplit) (pairs : List FlatPair) (vars : List Word) (bound : List Param) (names again new : List Name) (standing : List (Option ℕ)) (a b c e x y r : Option ℕ) →
     pairs ≡ s.pairs → vars ≡ s.vars → bound ≡ s.bound → names ≡ right_names pairs → again ≡ repeated [] (right_names pairs) → new ≡ map (λ (word : Word). word.name) vars → standing ≡ standing_in s →

@@ -9,7 +9,7 @@ use Rattle.smv_core.specs.Values.{numbers_from}
 use Rattle.smv_core.specs.declared.flat.Param.{Param}
 use Rattle.smv_core.specs.declared.flat.FlatSplit.{FlatSplit}
 use Rattle.law_obligations.specs.Outlines.{place_of}
-use Rattle.law_splits.specs.Variables.{Reading}
+use Rattle.law_splits.specs.Variables.{Occurrence}
 use Rattle.law_splits.specs.Leaves.{old, stands_for}
 use Rattle.law_splits.specs.SplitFaults as splits
 use Rattle.smv_splits.specs.Parts.{standing_in, is_stray, is_stray_at}
@@ -69,7 +69,7 @@ module _ {Y : Type 0} (f : ℕ → Y) where
   at-number n k = let z : 0 + k ≡ k = omega arith in at-from 0 n k ∙ ap (λ m. cond (nat_lt k n) (Some (f m)) None) z
 
 -- a variable is a stray by the list where it is one
-pub stray-is : (s : FlatSplit) (r : Reading) → is_stray (standing_in s) r.var ≡ splits.is_stray s r
+pub stray-is : (s : FlatSplit) (r : Occurrence) → is_stray (standing_in s) r.var ≡ splits.is_stray s r
 stray-is s r = ap (is_stray_at (standing_in s)) (at-number (stands_for s) (length s.bound) r.var) ∙ by (nat_lt r.var (length s.bound))
   where
     by : (b : Bool) → is_stray_at (standing_in s) (cond b (Some (stands_for s r.var)) None) ≡ (b && is_none (stands_for s r.var))

@@ -12,19 +12,19 @@ use Rattle.smv_mentions.specs.NameFaults.{place_if}
 use Rattle.smv_mentions.specs.Scopes.{first_of_places}
 use Rattle.smv_first_fault.specs.Firsts.{least}
 use Rattle.smv_first_fault.proofs.LeastLaws.{first-assoc, first-none}
-use Rattle.law_splits.specs.Variables.{Reading, readings, readings_each, readings_signed, readings_members}
+use Rattle.law_splits.specs.Variables.{Occurrence, readings, readings_each, readings_signed, readings_members}
 use Rattle.smv_splits.specs.Parts.{first_among, first_stray, is_stray, stray_in, member_stray, signed_stray}
 
 module _ (fs : List (Option ℕ)) where
-  stray-cons : (r : Reading) (rs : List Reading) → first_stray fs (r ∷ rs) ≡ first_of_places (least (place_if (is_stray fs r.var) r.at)) (first_stray fs rs)
+  stray-cons : (r : Occurrence) (rs : List Occurrence) → first_stray fs (r ∷ rs) ≡ first_of_places (least (place_if (is_stray fs r.var) r.at)) (first_stray fs rs)
   stray-cons r rs = by (is_stray fs r.var)
     where
-      by : (b : Bool) → least (map (λ (r : Reading). r.at) (cond b (r ∷ filter (λ (r : Reading). is_stray fs r.var) rs) (filter (λ (r : Reading). is_stray fs r.var) rs)))
+      by : (b : Bool) → least (map (λ (r : Occurrence). r.at) (cond b (r ∷ filter (λ (r : Occurrence). is_stray fs r.var) rs) (filter (λ (r : Occurrence). is_stray fs r.var) rs)))
           ≡ first_of_places (least (place_if b r.at)) (first_stray fs rs)
       by true = refl
       by false = refl
 
-  stray-append : (xs ys : List Reading) → first_stray fs (xs ++ ys) ≡ first_of_places (first_stray fs xs) (first_stray fs ys)
+  stray-append : (xs ys : List Occurrence) → first_stray fs (xs ++ ys) ≡ first_of_places (first_stray fs xs) (first_stray fs ys)
   stray-append [] ys = refl
   stray-append (x ∷ xs) ys =
       stray-cons x (xs ++ ys) ∙ ap (first_of_places (least (place_if (is_stray fs x.var) x.at))) (stray-append xs ys)

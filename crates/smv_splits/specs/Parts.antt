@@ -15,7 +15,7 @@ use Rattle.smv_mentions.specs.NameFaults.{place_if}
 use Rattle.smv_mentions.specs.Scopes.{first_of_places}
 use Rattle.smv_first_fault.specs.Firsts.{least}
 use Rattle.name_index.specs.Position.{position}
-use Rattle.law_splits.specs.Variables.{Reading, readings}
+use Rattle.law_splits.specs.Variables.{Occurrence, readings}
 use Rattle.law_splits.specs.Leaves.{with_name, stands_for}
 use Rattle.law_splits.specs.SplitFaults as splits
 use Rattle.smv_splits.specs.declared.rights.Rights.{Rights}
@@ -78,8 +78,8 @@ module _ (standing : List (Option ℕ)) where
   is_stray var = is_stray_at (slice_get standing var)
 
   -- the first of some readings of such a variable
-  abbrev pub first_stray : List Reading → Option ℕ
-  first_stray reads = least (map (λ (r : Reading). r.at) (filter (λ (r : Reading). is_stray r.var) reads))
+  abbrev pub first_stray : List Occurrence → Option ℕ
+  first_stray reads = least (map (λ (r : Occurrence). r.at) (filter (λ (r : Occurrence). is_stray r.var) reads))
 
   -- of those in an expression
   unfoldable pub stray_in : FlatExpr → Option ℕ

@@ -13,7 +13,7 @@ use Rattle.law_designs.proofs.FlatLists.{boxes}
 use Rattle.smv_mentions.specs.FirstFault.{first_of}
 use Rattle.smv_first_fault.specs.Firsts.{earlier_of}
 use Rattle.smv_first_fault.proofs.FirstLaws.{earlier-assoc, first-both}
-use Rattle.law_designs.specs.FlatKinds.{Vars, inside}
+use Rattle.law_designs.specs.FlatKinds.{FlatVars, inside}
 use Rattle.law_designs.specs.SetOperands.{met, disordered, wanted_at}
 use Rattle.law_designs.specs.SetFaults as spec
 use Rattle.smv_symmetric.specs.Plain.{first_among, sort_in, operand, member_operand, members_in, members_of, fault_in, both_faults, member_fault, signed_fault, compared, chosen, listed, looked_for}
@@ -108,7 +108,7 @@ pub ruleset lists = (members-List, members-Number, members-Read, members-Var, me
 three : (a b c : List Fault) → first_of (a ++ b ++ c) ≡ earlier_of (earlier_of (first_of a) (first_of b)) (first_of c)
 three a b c = first-both (a ++ b) c ∙ ap (λ f. earlier_of f (first_of c)) (first-both a b)
 
-module _ (flat_text : FlatText) (vars : Vars) where
+module _ (flat_text : FlatText) (vars : FlatVars) where
   abbrev all_in : FlatExpr → List Fault
   all_in e = spec.faults_in flat_text (sort_in flat_text) vars e
 

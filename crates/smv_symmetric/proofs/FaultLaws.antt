@@ -13,9 +13,9 @@ use Rattle.smv_core.specs.declared.flat.FlatStmt.{FlatStmt, Assign, If', Block',
 use Rattle.smv_core.specs.declared.flat.FlatItem.{FlatItem}
 use Rattle.smv_core.specs.declared.flat.FlatItem.TheVariants as item
 use Rattle.smv_mentions.specs.FirstFault.{first_of}
-use Rattle.law_designs.specs.FlatKinds.{Kind, number, takes, are_numbers, common, compares, element, assigns, Vars, inside, is_binder, kind_in, kinds_in, summands, members_in, looked_through, is_condition, value_in, keeps_kinds, all_keep_kinds, are_binders, bound_by, is_size, is_kinded_family, is_kinded_item, is_kinded}
+use Rattle.law_designs.specs.FlatKinds.{FlatKind, number, takes, are_numbers, common, compares, element, assigns, FlatVars, inside, is_binder, kind_in, kinds_in, summands, members_in, looked_through, is_condition, value_in, keeps_kinds, all_keep_kinds, are_binders, bound_by, is_size, is_kinded_family, is_kinded_item, is_kinded}
 use Rattle.law_designs.proofs.Operands.{all-some, takes-some, numbers-some, each-some, if-some, common-some, number_if-true, compares-some, two-some, chosen-some, element-some}
-use Rattle.law_designs.specs.SetOperands.{Operand, first_at, is_loop, met, disordered, wanted_at, wanted_of}
+use Rattle.law_designs.specs.SetOperands.{SetOperand, first_at, is_loop, met, disordered, wanted_at, wanted_of}
 use Rattle.law_designs.specs.SetFaults as spec
 use Rattle.law_designs.specs.SetFaults.{first_fault_of_sets}
 use Rattle.smv_symmetric.specs.Plain.{first_among, sort_in, item_fault}
@@ -26,33 +26,33 @@ join3 : {X : Type 0} {a b c d e f : List X} → a ≡ d → b ≡ e → c ≡ f 
 join3 p q r = cc
 
 module _ (flat_text : FlatText) where
-  abbrev Real : Vars → FlatExpr → List Fault
+  abbrev Real : FlatVars → FlatExpr → List Fault
   Real vars e = spec.faults_in flat_text (value_in flat_text) vars e
 
-  abbrev Found : Vars → FlatExpr → List Fault
+  abbrev Found : FlatVars → FlatExpr → List Fault
   Found vars e = spec.faults_in flat_text (sort_in flat_text) vars e
 
-  has_value : (vars : Vars) (e : FlatExpr) → is_some (kind_in flat_text vars e) ≡ true → is_some (value_in flat_text vars e) ≡ true
+  has_value : (vars : FlatVars) (e : FlatExpr) → is_some (kind_in flat_text vars e) ≡ true → is_some (value_in flat_text vars e) ≡ true
   has_value vars e h = ap is_some (value-kind flat_text vars e h) ∙ h
 
-  operand-is : (vars : Vars) (e : FlatExpr) → is_some (value_in flat_text vars e) ≡ true → spec.operand flat_text (value_in flat_text) vars e ≡ spec.operand flat_text (sort_in flat_text) vars e
+  operand-is : (vars : FlatVars) (e : FlatExpr) → is_some (value_in flat_text vars e) ≡ true → spec.operand flat_text (value_in flat_text) vars e ≡ spec.operand flat_text (sort_in flat_text) vars e
   operand-is vars e h = ap (λ k. with_kind k) (value-is flat_text vars e h)
     where
-      with_kind : Option Kind → Operand
+      with_kind : Option FlatKind → SetOperand
       with_kind kind = record { kind = kind; at = first_at e; is_loop = is_loop e }
 
   -- the sides of a comparison or the branches of `?:`
-  sides : (vars : Vars) (l r : FlatExpr) → is_some (value_in flat_text vars l) ≡ true → is_some (value_in flat_text vars r) ≡ true →
+  sides : (vars : FlatVars) (l r : FlatExpr) → is_some (value_in flat_text vars l) ≡ true → is_some (value_in flat_text vars r) ≡ true →
       met (spec.operand flat_text (value_in flat_text) vars l ∷ spec.operand flat_text (value_in flat_text) vars r ∷ []) ≡ met (spec.operand flat_text (sort_in flat_text) vars l ∷ spec.operand flat_text (sort_in flat_text) vars r ∷ [])
   sides vars l r a b = ap (λ x. met (x ∷ spec.operand flat_text (value_in flat_text) vars r ∷ [])) (operand-is vars l a) ∙ ap (λ y. met (spec.operand flat_text (sort_in flat_text) vars l ∷ y ∷ [])) (operand-is vars r b)
 
-  operands-are : (vars : Vars) (k : _) (row : Row_of-FlatExpr k) → all-some (kinds_in flat_text vars row) ≡ true → spec.operands flat_text (value_in flat_text) vars row ≡ spec.operands flat_text (sort_in flat_text) vars row
+  operands-are : (vars : FlatVars) (k : _) (row : Row_of-FlatExpr k) → all-some (kinds_in flat_text vars row) ≡ true → spec.operands flat_text (value_in flat_text) vars row ≡ spec.operands flat_text (sort_in flat_text) vars row
   operands-are vars k end_of-FlatExpr h = refl
   operands-are vars k (more_of-FlatExpr e rest) h =
       let g : (is_some (kind_in flat_text vars e) ≡ true) × (all-some (kinds_in flat_text vars rest) ≡ true) = and_parts _ _ h in
       ap (λ x. x ∷ spec.operands flat_text (value_in flat_text) vars rest) (operand-is vars e (has_value vars e g.0)) ∙ ap (λ l. spec.operand flat_text (sort_in flat_text) vars e ∷ l) (operands-are vars _ rest g.1)
 
-  members-are : (vars : Vars) (k : _) (row : Row_of-FlatMember k) → all-some (members_in flat_text vars row) ≡ true → spec.members_of flat_text (value_in flat_text) vars row ≡ spec.members_of flat_text (sort_in flat_text) vars row
+  members-are : (vars : FlatVars) (k : _) (row : Row_of-FlatMember k) → all-some (members_in flat_text vars row) ≡ true → spec.members_of flat_text (value_in flat_text) vars row ≡ spec.members_of flat_text (sort_in flat_text) vars row
   members-are vars k end_of-FlatMember h = refl
   members-are vars k (more_of-FlatMember (One e) rest) h =
       let g : (is_some (kind_in flat_text vars e) ≡ true) × (all-some (members_in flat_text vars rest) ≡ true) = and_parts _ _ h in
@@ -61,15 +61,15 @@ module _ (flat_text : FlatText) where
       ap (λ l. record { kind = Some number; at = at; is_loop = false } ∷ l) (members-are vars _ rest (and_parts _ _ h).1)
 
   -- what stands right of `in`
-  listed-are : (vars : Vars) (set : FlatExpr) → all-some (looked_through flat_text vars set) ≡ true → spec.listed flat_text (value_in flat_text) vars set ≡ spec.listed flat_text (sort_in flat_text) vars set
+  listed-are : (vars : FlatVars) (set : FlatExpr) → all-some (looked_through flat_text vars set) ≡ true → spec.listed flat_text (value_in flat_text) vars set ≡ spec.listed flat_text (sort_in flat_text) vars set
   listed-are vars (List' shape members at) h = members-are vars _ members h
   listed-are vars _ h = refl
 
-  pairwise : (vars : Vars) (l r : FlatExpr) → all-some (kind_in flat_text vars l ∷ kind_in flat_text vars r ∷ []) ≡ true → (is_some (value_in flat_text vars l) ≡ true) × (is_some (value_in flat_text vars r) ≡ true)
+  pairwise : (vars : FlatVars) (l r : FlatExpr) → all-some (kind_in flat_text vars l ∷ kind_in flat_text vars r ∷ []) ≡ true → (is_some (value_in flat_text vars l) ≡ true) × (is_some (value_in flat_text vars r) ≡ true)
   pairwise vars l r h = let t = two-some (kind_in flat_text vars l) (kind_in flat_text vars r) h in (has_value vars l t.0, has_value vars r t.1)
 
   mutual
-    same-in : (vars : Vars) (e : FlatExpr) → is_some (value_in flat_text vars e) ≡ true → Real vars e ≡ Found vars e
+    same-in : (vars : FlatVars) (e : FlatExpr) → is_some (value_in flat_text vars e) ≡ true → Real vars e ≡ Found vars e
     same-in vars (Number value at) h = refl
     same-in vars (Read' family shape indexes at) h =
         let f = element-some (slice_get flat_text.families family) (kinds_in flat_text vars indexes) h in
@@ -106,28 +106,28 @@ module _ (flat_text : FlatText) where
     same-in vars (Each' var over cond at) h =
         same-held (inside vars over) cond (and_parts (is_binder flat_text vars var over) (is_condition flat_text (inside vars over) cond) (if-some _ _ h).0).1
 
-    same-each : {k : _} (vars : Vars) (row : Row_of-FlatExpr k) → all-some (kinds_in flat_text vars row) ≡ true → spec.faults_each flat_text (value_in flat_text) vars row ≡ spec.faults_each flat_text (sort_in flat_text) vars row
+    same-each : {k : _} (vars : FlatVars) (row : Row_of-FlatExpr k) → all-some (kinds_in flat_text vars row) ≡ true → spec.faults_each flat_text (value_in flat_text) vars row ≡ spec.faults_each flat_text (sort_in flat_text) vars row
     same-each vars end_of-FlatExpr h = refl
     same-each vars (more_of-FlatExpr e rest) h =
         let g : (is_some (kind_in flat_text vars e) ≡ true) × (all-some (kinds_in flat_text vars rest) ≡ true) = and_parts _ _ h in append_same (same-in vars e (has_value vars e g.0)) (same-each vars rest g.1)
 
-    same-signed : {k : _} (vars : Vars) (row : Row_of-FlatSigned k) → all-some (summands flat_text vars row) ≡ true → spec.faults_signed flat_text (value_in flat_text) vars row ≡ spec.faults_signed flat_text (sort_in flat_text) vars row
+    same-signed : {k : _} (vars : FlatVars) (row : Row_of-FlatSigned k) → all-some (summands flat_text vars row) ≡ true → spec.faults_signed flat_text (value_in flat_text) vars row ≡ spec.faults_signed flat_text (sort_in flat_text) vars row
     same-signed vars end_of-FlatSigned h = refl
     same-signed vars (more_of-FlatSigned minus e rest) h =
         let g : (is_some (kind_in flat_text vars e) ≡ true) × (all-some (summands flat_text vars rest) ≡ true) = and_parts _ _ h in append_same (same-in vars e (has_value vars e g.0)) (same-signed vars rest g.1)
 
-    same-members : {k : _} (vars : Vars) (row : Row_of-FlatMember k) → all-some (members_in flat_text vars row) ≡ true → spec.faults_members flat_text (value_in flat_text) vars row ≡ spec.faults_members flat_text (sort_in flat_text) vars row
+    same-members : {k : _} (vars : FlatVars) (row : Row_of-FlatMember k) → all-some (members_in flat_text vars row) ≡ true → spec.faults_members flat_text (value_in flat_text) vars row ≡ spec.faults_members flat_text (sort_in flat_text) vars row
     same-members vars end_of-FlatMember h = refl
     same-members vars (more_of-FlatMember (One e) rest) h =
         let g : (is_some (kind_in flat_text vars e) ≡ true) × (all-some (members_in flat_text vars rest) ≡ true) = and_parts _ _ h in append_same (same-in vars e (has_value vars e g.0)) (same-members vars rest g.1)
     same-members vars (more_of-FlatMember (SpanOf span at) rest) h = same-members vars rest (and_parts _ _ h).1
 
-    same-held : (vars : Vars) (cond : Held-FlatExpr-Each-2) → is_condition flat_text vars cond ≡ true → spec.faults_held flat_text (value_in flat_text) vars cond ≡ spec.faults_held flat_text (sort_in flat_text) vars cond
+    same-held : (vars : FlatVars) (cond : Held-FlatExpr-Each-2) → is_condition flat_text vars cond ≡ true → spec.faults_held flat_text (value_in flat_text) vars cond ≡ spec.faults_held flat_text (sort_in flat_text) vars cond
     same-held vars None' h = refl
     same-held vars (Some' shape (more_of-FlatExpr cond end_of-FlatExpr)) h = same-in vars cond (has_value vars cond (takes-some number _ h))
 
     -- what stands right of `in`
-    same-set : (vars : Vars) (set : FlatExpr) → all-some (looked_through flat_text vars set) ≡ true → Real vars set ≡ Found vars set
+    same-set : (vars : FlatVars) (set : FlatExpr) → all-some (looked_through flat_text vars set) ≡ true → Real vars set ≡ Found vars set
     same-set vars (List' shape members at) h = append_same (same-members vars members h) (ap met (members-are vars _ members h))
     same-set vars (Number value at) h = refl
     same-set vars (Read' family shape indexes at) h = absurd (cc (h))
@@ -148,12 +148,12 @@ module _ (flat_text : FlatText) where
     same-set vars (Any' shape body var over at) h = absurd (cc (h))
     same-set vars (Each' var over cond at) h = absurd (cc (h))
 
-  same-number : (vars : Vars) (e : FlatExpr) → takes number (kind_in flat_text vars e) ≡ true → Real vars e ≡ Found vars e
+  same-number : (vars : FlatVars) (e : FlatExpr) → takes number (kind_in flat_text vars e) ≡ true → Real vars e ≡ Found vars e
   same-number vars e h = same-in vars e (has_value vars e (takes-some number (kind_in flat_text vars e) h))
 
   -- ---- statements
 
-  left-same : (vars : Vars) (left : List FlatExpr) → all-some (map (kind_in flat_text vars) left) ≡ true →
+  left-same : (vars : FlatVars) (left : List FlatExpr) → all-some (map (kind_in flat_text vars) left) ≡ true →
       (flat_map (Real vars) left ≡ flat_map (Found vars) left) × (map (spec.operand flat_text (value_in flat_text) vars) left ≡ map (spec.operand flat_text (sort_in flat_text) vars) left)
   left-same vars [] h = (refl, refl)
   left-same vars (e ∷ left) h =
@@ -162,12 +162,12 @@ module _ (flat_text : FlatText) where
       let rest = left-same vars left g.1 in
       (append_same (same-in vars e own) rest.0, ap (λ x. x ∷ map (spec.operand flat_text (value_in flat_text) vars) left) (operand-is vars e own) ∙ ap (λ l. spec.operand flat_text (sort_in flat_text) vars e ∷ l) rest.1)
 
-  assigned : (target : Option Kind) (value : Option Kind) → assigns target value ≡ true → (is_some target ≡ true) × (is_some value ≡ true)
+  assigned : (target : Option FlatKind) (value : Option FlatKind) → assigns target value ≡ true → (is_some target ≡ true) × (is_some value ≡ true)
   assigned None value h = absurd (cc (h))
   assigned (Some target) value h = (refl, takes-some target value h)
 
   mutual
-    same-of : (vars : Vars) (act : FlatStmt) → keeps_kinds flat_text vars act ≡ true → spec.faults_of flat_text (value_in flat_text) vars act ≡ spec.faults_of flat_text (sort_in flat_text) vars act
+    same-of : (vars : FlatVars) (act : FlatStmt) → keeps_kinds flat_text vars act ≡ true → spec.faults_of flat_text (value_in flat_text) vars act ≡ spec.faults_of flat_text (sort_in flat_text) vars act
     same-of vars (Assign kind family left value at) h =
         let o = assigned (element (slice_get flat_text.families family) (map (kind_in flat_text vars) left)) (value_in flat_text vars value) h in
         let f = element-some (slice_get flat_text.families family) (map (kind_in flat_text vars) left) o.0 in
@@ -182,14 +182,14 @@ module _ (flat_text : FlatText) where
         let k : (keeps_kinds flat_text vars left ≡ true) × (keeps_kinds flat_text vars right ≡ true) = and_parts _ _ h in append_same (same-of vars left k.0) (same-of vars right k.1)
     same-of vars (Forall' var over shape (more_of-FlatStmt body end_of-FlatStmt)) h = same-of (inside vars over) body (and_parts (is_binder flat_text vars var over) (keeps_kinds flat_text (inside vars over) body) h).1
 
-    same-all : {k : _} (vars : Vars) (row : Row_of-FlatStmt k) → all_keep_kinds flat_text vars row ≡ true → spec.faults_of_each flat_text (value_in flat_text) vars row ≡ spec.faults_of_each flat_text (sort_in flat_text) vars row
+    same-all : {k : _} (vars : FlatVars) (row : Row_of-FlatStmt k) → all_keep_kinds flat_text vars row ≡ true → spec.faults_of_each flat_text (value_in flat_text) vars row ≡ spec.faults_of_each flat_text (sort_in flat_text) vars row
     same-all vars end_of-FlatStmt h = refl
     same-all vars (more_of-FlatStmt part rest) h =
         let k : (keeps_kinds flat_text vars part ≡ true) × (all_keep_kinds flat_text vars rest ≡ true) = and_parts _ _ h in append_same (same-of vars part k.0) (same-all vars rest k.1)
 
   -- ---- items
 
-  pairs-same : (vars : Vars) (pairs : List FlatPair) → list_all (λ (pair : FlatPair). is_some (kind_in flat_text vars pair.left)) pairs ≡ true →
+  pairs-same : (vars : FlatVars) (pairs : List FlatPair) → list_all (λ (pair : FlatPair). is_some (kind_in flat_text vars pair.left)) pairs ≡ true →
       flat_map (λ (pair : FlatPair). Real vars pair.left) pairs ≡ flat_map (λ (pair : FlatPair). Found vars pair.left) pairs
   pairs-same vars [] h = refl
   pairs-same vars (pair ∷ pairs) h =

@@ -9,10 +9,10 @@ use Rattle.smv_core.specs.declared.flat.FlatMember.{FlatMember, One, Span as Spa
 use Rattle.smv_core.specs.declared.flat.FlatExpr.{FlatExpr, Number, Var, Loop, Constant, Not, Iff, Compare, Within, Modulo, Choose, All, Any, Each, Read, And, Or, Implies, Sum, List as ListOf, List', Row_of-FlatMember, end_of-FlatMember, more_of-FlatMember, items-the_row-FlatMember, items_hidden-the_row-FlatMember-3}
 use mathlib.Core.Former.{Count}
 use Rattle.law_designs.proofs.FlatLists.{boxes}
-use Rattle.law_designs.specs.FlatKinds.{Vars, number, enumeration, kind_of, joined}
+use Rattle.law_designs.specs.FlatKinds.{FlatVars, number, enumeration, kind_of, joined}
 use Rattle.smv_symmetric.specs.Plain.{value_kind, variable_kind, joined_all, kind_in, member_kinds, member_kind}
 
-module _ (flat_text : FlatText) (vars : Vars) where
+module _ (flat_text : FlatText) (vars : FlatVars) where
   members-row : (n : _) (row : Row_of-FlatMember n) → member_kinds flat_text vars row ≡ map (member_kind flat_text vars) (items-the_row-FlatMember n row)
   unfolding kind_in
   members-row n end_of-FlatMember = refl

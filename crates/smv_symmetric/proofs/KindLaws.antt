@@ -5,7 +5,7 @@ use Rattle.smv_core.specs.declared.flat.Family.{Family}
 use Rattle.smv_core.specs.declared.flat.FlatText.{FlatText}
 use Rattle.smv_core.specs.declared.flat.FlatMember.{One, Span as SpanOf}
 use Rattle.smv_core.specs.declared.flat.FlatExpr.{FlatExpr, Number, Read', Var, Loop, Constant, Not', And', Or', Implies', Iff', Compare', Within', Sum', Modulo', Choose', All', Any', List', Each', end_of-FlatExpr, more_of-FlatExpr, Row_of-FlatMember, end_of-FlatMember, more_of-FlatMember}
-use Rattle.law_designs.specs.FlatKinds.{Kind, number, kind_of, joins, joined, number_if, common_after, common, chosen, element, take_each, takes, Vars, kind_in, members_in, value_in}
+use Rattle.law_designs.specs.FlatKinds.{FlatKind, number, kind_of, joins, joined, number_if, common_after, common, chosen, element, take_each, takes, FlatVars, kind_in, members_in, value_in}
 use Rattle.law_designs.proofs.Operands.{if-some, chosen-some}
 use Rattle.smv_symmetric.specs.Plain as plain
 
@@ -19,15 +19,15 @@ pub if-is : {X : Type 0} (b : Bool) (x : X) → is_some (if b then Some x else N
 if-is true x e = refl
 if-is false x e = absurd (cc (e))
 
-element-is : (o : Option Family) (es : List (Option Kind)) → is_some (element o es) ≡ true → element o es ≡ Some (plain.value_kind o)
+element-is : (o : Option Family) (es : List (Option FlatKind)) → is_some (element o es) ≡ true → element o es ≡ Some (plain.value_kind o)
 element-is None es e = absurd (cc (e))
 element-is (Some f) es e = if-is (take_each f.over es) (kind_of f.value) e
 
-variable-is : (o : Option Kind) → is_some o ≡ true → o ≡ Some (plain.variable_kind o)
+variable-is : (o : Option FlatKind) → is_some o ≡ true → o ≡ Some (plain.variable_kind o)
 variable-is None e = absurd (cc (e))
 variable-is (Some kind) e = refl
 
-chosen-is : (cond left right : Option Kind) (a b : Kind) → is_some (chosen cond left right) ≡ true → left ≡ Some a → right ≡ Some b → chosen cond left right ≡ Some (joined a b)
+chosen-is : (cond left right : Option FlatKind) (a b : FlatKind) → is_some (chosen cond left right) ≡ true → left ≡ Some a → right ≡ Some b → chosen cond left right ≡ Some (joined a b)
 chosen-is cond left right a b e p q = at (takes number cond) refl (ap (λ l. common (l ∷ right ∷ [])) p ∙ ap (λ r. common (Some a ∷ r ∷ [])) q)
   where
     fits : (t : Bool) → is_some (if t then Some (joined a b) else None) ≡ true → (if t then Some (joined a b) else None) ≡ Some (joined a b)
@@ -41,7 +41,7 @@ chosen-is cond left right a b e p q = at (takes number cond) refl (ap (λ l. com
 
 module _ (flat_text : FlatText) where
   -- where no set may stand, a value has the same kind
-  pub value-kind : (vars : Vars) (e : FlatExpr) → is_some (kind_in flat_text vars e) ≡ true → value_in flat_text vars e ≡ kind_in flat_text vars e
+  pub value-kind : (vars : FlatVars) (e : FlatExpr) → is_some (kind_in flat_text vars e) ≡ true → value_in flat_text vars e ≡ kind_in flat_text vars e
   value-kind vars (List' shape members at) h = absurd (cc (h))
   value-kind vars (Each' var over cond at) h = absurd (cc (h))
   value-kind vars (Choose' c (more_of-FlatExpr cond end_of-FlatExpr) l (more_of-FlatExpr left end_of-FlatExpr) r (more_of-FlatExpr right end_of-FlatExpr)) h =
@@ -49,7 +49,7 @@ module _ (flat_text : FlatText) where
       ap (λ o. chosen (kind_in flat_text vars cond) o (value_in flat_text vars right)) (value-kind vars left t.1) ∙ ap (λ o. chosen (kind_in flat_text vars cond) (kind_in flat_text vars left) o) (value-kind vars right t.2)
   value-kind vars _ h = refl
 
-  pub kind-is : (vars : Vars) (e : FlatExpr) → is_some (kind_in flat_text vars e) ≡ true → kind_in flat_text vars e ≡ Some (plain.kind_in flat_text vars e)
+  pub kind-is : (vars : FlatVars) (e : FlatExpr) → is_some (kind_in flat_text vars e) ≡ true → kind_in flat_text vars e ≡ Some (plain.kind_in flat_text vars e)
   unfolding plain.kind_in
   kind-is vars (Number value at) h = refl
   kind-is vars (Read' family shape indexes at) h = element-is (slice_get flat_text.families family) _ h
@@ -73,15 +73,15 @@ module _ (flat_text : FlatText) where
   kind-is vars (List' shape members at) h = absurd (cc (h))
   kind-is vars (Each' var over cond at) h = absurd (cc (h))
 
-  members-after : (vars : Vars) (kind : Kind) (k : _) (row : Row_of-FlatMember k) → is_some (common_after kind (members_in flat_text vars row)) ≡ true →
+  members-after : (vars : FlatVars) (kind : FlatKind) (k : _) (row : Row_of-FlatMember k) → is_some (common_after kind (members_in flat_text vars row)) ≡ true →
       common_after kind (members_in flat_text vars row) ≡ Some (plain.joined_after kind (plain.member_kinds flat_text vars row))
   unfolding plain.kind_in
   members-after vars kind k end_of-FlatMember h = refl
   members-after vars kind k (more_of-FlatMember (One e) rest) h =
       at (kind_in flat_text vars e) (plain.kind_in flat_text vars e) (kind-is vars e) (λ k. members-after vars k _ rest) h
     where
-      at : (o : Option Kind) (other : Kind) → (is_some o ≡ true → o ≡ Some other) →
-          ((k : Kind) → is_some (common_after k (members_in flat_text vars rest)) ≡ true → common_after k (members_in flat_text vars rest) ≡ Some (plain.joined_after k (plain.member_kinds flat_text vars rest))) →
+      at : (o : Option FlatKind) (other : FlatKind) → (is_some o ≡ true → o ≡ Some other) →
+          ((k : FlatKind) → is_some (common_after k (members_in flat_text vars rest)) ≡ true → common_after k (members_in flat_text vars rest) ≡ Some (plain.joined_after k (plain.member_kinds flat_text vars rest))) →
           is_some (common_after kind (o ∷ members_in flat_text vars rest)) ≡ true → common_after kind (o ∷ members_in flat_text vars rest) ≡ Some (plain.joined_after (joined kind other) (plain.member_kinds flat_text vars rest))
       at None other same more h = absurd (cc (h))
       at (Some own) other same more h =
@@ -99,12 +99,12 @@ module _ (flat_text : FlatText) where
           let t = if-some (joins kind number) (common_after (joined kind number) (members_in flat_text vars rest)) h in
           ap (λ t. if t then common_after (joined kind number) (members_in flat_text vars rest) else None) t.0 ∙ more t.1
 
-  members-all : (vars : Vars) (k : _) (row : Row_of-FlatMember k) → is_some (common (members_in flat_text vars row)) ≡ true → common (members_in flat_text vars row) ≡ Some (plain.joined_all (plain.member_kinds flat_text vars row))
+  members-all : (vars : FlatVars) (k : _) (row : Row_of-FlatMember k) → is_some (common (members_in flat_text vars row)) ≡ true → common (members_in flat_text vars row) ≡ Some (plain.joined_all (plain.member_kinds flat_text vars row))
   unfolding plain.kind_in
   members-all vars k end_of-FlatMember h = absurd (cc (h))
   members-all vars k (more_of-FlatMember (One e) rest) h = at (kind_in flat_text vars e) (plain.kind_in flat_text vars e) (kind-is vars e) h
     where
-      at : (o : Option Kind) (other : Kind) → (is_some o ≡ true → o ≡ Some other) → is_some (common (o ∷ members_in flat_text vars rest)) ≡ true →
+      at : (o : Option FlatKind) (other : FlatKind) → (is_some o ≡ true → o ≡ Some other) → is_some (common (o ∷ members_in flat_text vars rest)) ≡ true →
           common (o ∷ members_in flat_text vars rest) ≡ Some (plain.joined_after other (plain.member_kinds flat_text vars rest))
       at None other same h = absurd (cc (h))
       at (Some own) other same h =
@@ -117,7 +117,7 @@ module _ (flat_text : FlatText) where
       on true h = members-after vars number _ rest h
 
   -- the kind of a value
-  pub value-is : (vars : Vars) (e : FlatExpr) → is_some (value_in flat_text vars e) ≡ true → value_in flat_text vars e ≡ Some (plain.kind_in flat_text vars e)
+  pub value-is : (vars : FlatVars) (e : FlatExpr) → is_some (value_in flat_text vars e) ≡ true → value_in flat_text vars e ≡ Some (plain.kind_in flat_text vars e)
   unfolding plain.kind_in
   value-is vars (List' shape members at) h = members-all vars _ members h
   value-is vars (Each' var over cond at) h = if-is _ _ h

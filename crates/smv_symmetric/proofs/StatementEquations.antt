@@ -17,18 +17,18 @@ use Rattle.law_designs.proofs.FlatLists.{boxes}
 use Rattle.smv_mentions.specs.FirstFault.{first_of}
 use Rattle.smv_first_fault.specs.Firsts.{earlier_of}
 use Rattle.smv_first_fault.proofs.FirstLaws.{earlier-assoc, first-both}
-use Rattle.law_designs.specs.FlatKinds.{Vars, inside, bound_by}
+use Rattle.law_designs.specs.FlatKinds.{FlatVars, inside, bound_by}
 use Rattle.law_designs.specs.SetOperands.{wanted_at, wanted_of}
 use Rattle.law_designs.specs.SetFaults as spec
 use Rattle.smv_symmetric.specs.Plain.{first_among, sort_in, operand, fault_in, assigned_fault, statement_fault, both_statement_faults, item_fault}
 use Rattle.smv_symmetric.proofs.TurnLaws.{first-each}
 
 module _ (flat_text : FlatText) where
-  each-first : (vars : Vars) (es : List FlatExpr) → first_of (flat_map (spec.faults_in flat_text (sort_in flat_text) vars) es) ≡ first_among (map (fault_in flat_text vars) es)
+  each-first : (vars : FlatVars) (es : List FlatExpr) → first_of (flat_map (spec.faults_in flat_text (sort_in flat_text) vars) es) ≡ first_among (map (fault_in flat_text vars) es)
   unfolding fault_in
   each-first vars es = first-each (spec.faults_in flat_text (sort_in flat_text) vars) es
 
-  module _ (vars : Vars) where
+  module _ (vars : FlatVars) where
     row-first : (k : _) (row : Row_of-FlatStmt k) → first_of (spec.faults_of_each flat_text (sort_in flat_text) vars row) ≡ first_among (map (statement_fault flat_text vars) (items-the_row-FlatStmt k row))
     unfolding statement_fault
     row-first k end_of-FlatStmt = refl

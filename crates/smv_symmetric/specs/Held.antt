@@ -1,7 +1,7 @@
 -- Kinds and operands as the code holds them.
 use Rattle.std.specs.Prelude.{Some}
-use Rattle.law_designs.specs.FlatKinds.{Kind as Sort, number, enumeration, set_type}
-use Rattle.law_designs.specs.SetOperands.{Operand as Met}
+use Rattle.law_designs.specs.FlatKinds.{FlatKind as Sort, number, enumeration, set_type}
+use Rattle.law_designs.specs.SetOperands.{SetOperand as Met}
 use Rattle.smv_symmetric.specs.declared.kinds.Kind.{Kind}
 use Rattle.smv_symmetric.specs.declared.kinds.Kind.TheVariants.{Number, Enumeration, SetType}
 use Rattle.smv_symmetric.specs.declared.operands.Operand.{Operand}

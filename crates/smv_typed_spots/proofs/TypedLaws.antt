@@ -21,7 +21,7 @@ use Rattle.law_obligations.specs.Covers.{IsIndexType, AreApart}
 use Rattle.law_obligations.proofs.Members.{Has-left, Has-uncons}
 use Rattle.law_obligations.proofs.OneOfEach.{get_Has}
 use Rattle.law_obligations.specs.Outlines.{place_of}
-use Rattle.law_designs.specs.FlatKinds.{Kind, enumeration, set_type, kind_of}
+use Rattle.law_designs.specs.FlatKinds.{FlatKind, enumeration, set_type, kind_of}
 use Rattle.smv_spots.specs.declared.spots.Spot.{Spot}
 use Rattle.smv_spots.specs.declared.spots.Spot.TheVariants as spot
 use Rattle.smv_spots.specs.Spots.{place_in, outcome_in, of_set}
@@ -143,14 +143,14 @@ written_rest info g = at info.ordered
     at true = refl
     at false = refl
 
-value_named : (n : Numbered) (k : Kind) (info : SetInfo) (m : ℕ) → written_place n k (named (value_in info m)) ≡ value.Named m
+value_named : (n : Numbered) (k : FlatKind) (info : SetInfo) (m : ℕ) → written_place n k (named (value_in info m)) ≡ value.Named m
 value_named n k info m = at info.ordered
   where
     at : (b : Bool) → written_place n k (named (if b then ordinal info.name m else scalar info.name m)) ≡ value.Named m
     at true = refl
     at false = refl
 
-value_rest : (n : Numbered) (k : Kind) (info : SetInfo) (g : ℕ) → written_place n k (rest (value_in info g)) ≡ value.Rest g
+value_rest : (n : Numbered) (k : FlatKind) (info : SetInfo) (g : ℕ) → written_place n k (rest (value_in info g)) ≡ value.Rest g
 value_rest n k info g = at info.ordered
   where
     at : (b : Bool) → written_place n k (rest (if b then ordinal info.name g else scalar info.name g)) ≡ value.Rest g
@@ -174,7 +174,7 @@ spot_rest n info g = at info.ordered
 -- ---- places of a kind
 
 module _ (n : Numbered) where
-  class_back : (k : Kind) (p : Place) → IsPlaceOf n k p → (over : Simple) → kind_of over ≡ k → IsIndexType over → place_in n (class_spot over (written_class p)) ≡ p
+  class_back : (k : FlatKind) (p : Place) → IsPlaceOf n k p → (over : Simple) → kind_of over ≡ k → IsIndexType over → place_in n (class_spot over (written_class p)) ≡ p
   class_back _ _ (a_number k) over e i = refl
   class_back _ _ (a_constant list name h) (Range low high) e i = absurd (cc)
   class_back _ _ (a_constant list name h) (Enum l) e i = absurd i
@@ -192,7 +192,7 @@ module _ (n : Numbered) where
       set_is : {s t : ℕ} → set_type s ≡ set_type t → s ≡ t
       set_is e = cc
 
-  value_back : (k : Kind) (p : Place) → IsPlaceOf n k p → (over : Simple) → kind_of over ≡ k → outcome_in n (value_spot over (written_place n (kind_of over) p)) ≡ Some p
+  value_back : (k : FlatKind) (p : Place) → IsPlaceOf n k p → (over : Simple) → kind_of over ≡ k → outcome_in n (value_spot over (written_place n (kind_of over) p)) ≡ Some p
   value_back _ _ (a_number k) over e = refl
   value_back _ _ (a_constant list name h) (Range low high) e = absurd (cc)
   value_back _ _ (a_constant list name h) (Enum l) e = ap (λ (name : Name). Some (named (constant name))) (constant_there (get_or n.enums l []) name (subst (λ (k : ℕ). Has (get_or n.enums k []) name) (sym (list_is e)) h))
@@ -213,7 +213,7 @@ module _ (n : Numbered) where
       set_is : {s t : ℕ} → set_type s ≡ set_type t → s ≡ t
       set_is e = cc
 
-  spot_back : AreApart n.sets → (k : Kind) (p : Place) → IsPlaceOf n k p → place_in n (written_spot n p) ≡ p
+  spot_back : AreApart n.sets → (k : FlatKind) (p : Place) → IsPlaceOf n k p → place_in n (written_spot n p) ≡ p
   spot_back apart _ _ (a_number k) = refl
   spot_back apart _ _ (a_constant list name h) = constant_placed n name 0 n.enums (λ i. ap (λ (k : ℕ). get_or n.enums k []) (omega arith)) list h
   spot_back apart _ _ (a_class set info is m) = ap (place_in n) (spot_named n info m) ∙ (ap (λ (t : ℕ). place_in n (spot.Class t m)) (numbered n set info is apart) ∙ class_of n set info is m)
