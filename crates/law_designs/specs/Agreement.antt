@@ -12,8 +12,8 @@ use Rattle.smv_core.specs.declared.tree.TypeExpr.{TypeExpr, Boolean, Range, Name
 use Rattle.smv_core.specs.declared.tree.Part.{Field, At}
 use Rattle.smv_core.specs.declared.tree.Path.{out-Path}
 use Rattle.smv_core.specs.declared.tree.Member.{One, Span as SpanOf}
-use Rattle.smv_core.specs.declared.tree.Expr.{Expr, Number, Signal', Not', And', Or', Implies', Iff', Compare', Within', Sum', Modulo', Choose', All', Any', List', Each', Held-Expr-Each-2, None', Some', Row_of-Expr, end_of-Expr, more_of-Expr, Row_of-Part, end_of-Part, more_of-Part, Row_of-Member, end_of-Member, more_of-Member, Row_of-Signed, end_of-Signed, more_of-Signed, items-the_row-Part}
-use Rattle.smv_core.specs.declared.tree.Stmt.{Stmt, Assign, Block', If', Switch', Default', For', Forall', Held-Stmt-If-2, Row_of-Stmt, end_of-Stmt, more_of-Stmt, Row_of-Arm, end_of-Arm, more_of-Arm}
+use Rattle.smv_core.specs.declared.tree.Expr.{Expr, Number, Signal', Not', And', Or', Implies', Iff', Compare', Within', Sum', Modulo', Choose', All', Any', List', Each', None', Some', Row_of-Expr, end_of-Expr, more_of-Expr, Row_of-Part, end_of-Part, more_of-Part, Row_of-Member, end_of-Member, more_of-Member, Row_of-Signed, end_of-Signed, more_of-Signed, items-the_row-Part}
+use Rattle.smv_core.specs.declared.tree.Stmt.{Stmt, Assign, Block', If', Switch', Default', For', Forall', Row_of-Stmt, end_of-Stmt, more_of-Stmt, Row_of-Arm, end_of-Arm, more_of-Arm}
 use Rattle.smv_core.specs.declared.tree.Stmt as stmt
 use Rattle.smv_core.specs.declared.flat.FlatExpr.{FlatExpr}
 use Rattle.smv_core.specs.declared.flat.FlatText.{FlatText}
@@ -21,7 +21,7 @@ use Rattle.smv_core.specs.declared.tree.Text.{Text}
 use Rattle.law_designs.specs.Numbers.{Scope, family_number, variable_at}
 use Rattle.law_designs.specs.Flattening.{flatten, dotted}
 use Rattle.smv_core.specs.declared.flat.Family.{Family as FlatFamily}
-use Rattle.smv_core.specs.Rows.{one_expr, one_stmt}
+use Rattle.smv_core.specs.Rows.{one_expr, one_stmt, Condition, Otherwise}
 
 -- what the numbers in a flattened text stand for, at sizes
 abbrev pub numbers_of : FlatText → Sizes → Numbered
@@ -99,7 +99,7 @@ module _ (scope : Scope) where
     MembersAreRight vars (more_of-Member (One e) rest) = IsRight vars e × MembersAreRight vars rest
     MembersAreRight vars (more_of-Member (SpanOf span at) rest) = MembersAreRight vars rest
 
-    pub ConditionIsRight : Around → Held-Expr-Each-2 → Type 0
+    pub ConditionIsRight : Around → Condition → Type 0
     ConditionIsRight vars None' = Unit {0}
     ConditionIsRight vars (Some' shape (one_expr cond)) = IsRight vars cond
 
@@ -122,7 +122,7 @@ module _ (scope : Scope) where
     StatementsAreRight vars end_of-Stmt = Unit {0}
     StatementsAreRight vars (more_of-Stmt part rest) = StatementIsRight vars part × StatementsAreRight vars rest
 
-    pub BranchIsRight : Around → Held-Stmt-If-2 → Type 0
+    pub BranchIsRight : Around → Otherwise → Type 0
     BranchIsRight vars stmt.None' = Unit {0}
     BranchIsRight vars (stmt.Some' shape (one_stmt part)) = StatementIsRight vars part
 

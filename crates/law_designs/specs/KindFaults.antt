@@ -15,7 +15,7 @@ use Rattle.smv_core.specs.declared.tree.Role.TheVariants.{Input, Output}
 use Rattle.smv_core.specs.declared.tree.TypeExpr.{TypeExpr}
 use Rattle.smv_core.specs.declared.tree.Part.{Part}
 use Rattle.smv_core.specs.declared.tree.Expr.{Expr, Signal', items-the_row-Part}
-use Rattle.smv_core.specs.declared.tree.Stmt.{Stmt, Assign, Block', If', Switch', Default', For', Forall', Held-Stmt-If-2, None', Some', Row_of-Stmt, end_of-Stmt, more_of-Stmt, Row_of-Arm, end_of-Arm, more_of-Arm}
+use Rattle.smv_core.specs.declared.tree.Stmt.{Stmt, Assign, Block', If', Switch', Default', For', Forall', None', Some', Row_of-Stmt, end_of-Stmt, more_of-Stmt, Row_of-Arm, end_of-Arm, more_of-Arm}
 use Rattle.smv_core.specs.declared.tree.Item.{Item, Declare, Instance, Layer, Claim, Split, Using, Act, Row_of-Item, end_of-Item, more_of-Item}
 use Rattle.smv_core.specs.declared.tree.Item as item
 use Rattle.smv_mentions.specs.Mentions.{What, signal}
@@ -26,7 +26,7 @@ use Rattle.law_designs.specs.Kinds.{Kind, number, Operand, takes, takes_number, 
 use Rattle.law_designs.specs.Types.{Types, leads, value_kind, types_after, index_faults, type_faults, size_faults}
 use Rattle.law_designs.specs.References.{Module, module_of, modules_from, Scope, Vars, signal_at, reference}
 use Rattle.law_designs.specs.Operands.{bind, operand, value, target}
-use Rattle.smv_core.specs.Rows.{one_stmt}
+use Rattle.smv_core.specs.Rows.{one_stmt, Otherwise}
 
 -- ---- statements
 
@@ -51,7 +51,7 @@ module _ (scope : Scope) where
     in_block vars (more_of-Stmt part rest) = in_stmt vars part ++ in_block vars rest
 
     -- an `else` or `default`, or none
-    pub in_branch : Vars → Held-Stmt-If-2 → List Fault
+    pub in_branch : Vars → Otherwise → List Fault
     in_branch vars None' = []
     in_branch vars (Some' shape (one_stmt part)) = in_stmt vars part
 

@@ -7,10 +7,10 @@ use Rattle.smv_core.specs.Outcome.{fields_of}
 use Rattle.smv_core.specs.Walk.{indexes_of}
 use Rattle.smv_core.specs.declared.tree.Path.{out-Path}
 use Rattle.smv_core.specs.declared.tree.Part.{Part}
-use Rattle.smv_core.specs.declared.tree.Stmt.{Stmt, Assign, Block', If', Switch', Default', For', Forall', Held-Stmt-If-2, None', Some', Row_of-Stmt, end_of-Stmt, more_of-Stmt, Row_of-Arm, end_of-Arm, more_of-Arm}
+use Rattle.smv_core.specs.declared.tree.Stmt.{Stmt, Assign, Block', If', Switch', Default', For', Forall', None', Some', Row_of-Stmt, end_of-Stmt, more_of-Stmt, Row_of-Arm, end_of-Arm, more_of-Arm}
 use Rattle.smv_core.specs.declared.tree.Text.{Text}
 use Rattle.law_designs.specs.Entries.{Entry, statement, entries}
-use Rattle.smv_core.specs.Rows.{one_stmt}
+use Rattle.smv_core.specs.Rows.{one_stmt, Otherwise}
 
 -- the text has a family of this path, with so many index types
 abbrev pub HasFamily : Text → Path → ℕ → Type 0
@@ -36,7 +36,7 @@ module _ (text : Text) (instance : Path) where
     StatementsLead end_of-Stmt = Unit {0}
     StatementsLead (more_of-Stmt part rest) = StatementLeads part × StatementsLead rest
 
-    pub BranchLeads : Held-Stmt-If-2 → Type 0
+    pub BranchLeads : Otherwise → Type 0
     BranchLeads None' = Unit {0}
     BranchLeads (Some' shape (one_stmt part)) = StatementLeads part
 

@@ -8,14 +8,14 @@ use Rattle.smv_core.specs.declared.tree.TypeExpr.{TypeExpr}
 use Rattle.smv_core.specs.declared.tree.Path.{Path, out-Path}
 use Rattle.smv_core.specs.declared.tree.Part.{Field, At}
 use Rattle.smv_core.specs.declared.tree.Member.{One, Span as SpanOf}
-use Rattle.smv_core.specs.declared.tree.Expr.{Expr, Number, Signal', Not', And', Or', Implies', Iff', Compare', Within', Sum', Modulo', Choose', All', Any', List', Each', Held-Expr-Each-2, None', Some', Row_of-Expr, end_of-Expr, more_of-Expr, Row_of-Part, end_of-Part, more_of-Part, Row_of-Member, end_of-Member, more_of-Member, Row_of-Signed, end_of-Signed, more_of-Signed, items-the_row-Part}
+use Rattle.smv_core.specs.declared.tree.Expr.{Expr, Number, Signal', Not', And', Or', Implies', Iff', Compare', Within', Sum', Modulo', Choose', All', Any', List', Each', None', Some', Row_of-Expr, end_of-Expr, more_of-Expr, Row_of-Part, end_of-Part, more_of-Part, Row_of-Member, end_of-Member, more_of-Member, Row_of-Signed, end_of-Signed, more_of-Signed, items-the_row-Part}
 use Rattle.smv_core.specs.Walk.{indexes_of}
 use Rattle.smv_mentions.specs.NameFaults.{place_if}
 use Rattle.smv_mentions.specs.FirstFault.{faults_at}
 use Rattle.law_designs.specs.Kinds.{Operand, number_at, of_numbers, of_alike, takes_number, ordered, chosen, listed, stray_set}
 use Rattle.law_designs.specs.Types.{index_kind, index_faults, is_reversed}
 use Rattle.law_designs.specs.References.{Scope, Vars, reference_at, signal_at, reference}
-use Rattle.smv_core.specs.Rows.{one_expr}
+use Rattle.smv_core.specs.Rows.{one_expr, Condition}
 
 -- the sides of `=` and `~=` have one kind, and an order has its own rule
 abbrev pub compared : Op → Operand → Operand → Operand
@@ -83,7 +83,7 @@ module _ (scope : Scope) where
     looked_through vars _ = []
 
   -- the condition of a comprehension, or none
-  abbrev pub condition_faults : Vars → Held-Expr-Each-2 → List Fault
+  abbrev pub condition_faults : Vars → Condition → List Fault
   condition_faults vars None' = []
   condition_faults vars (Some' shape (one_expr cond)) = takes_number (operand vars cond)
 

@@ -3,9 +3,9 @@ use Rattle.std.specs.Prelude.{ℕ, List, [], ◌∷◌, ◌++◌, map, flat_map}
 use Rattle.smv_core.specs.Assignments.{Index}
 use Rattle.smv_core.specs.FlatMeaning.{flat_index}
 use Rattle.smv_core.specs.declared.flat.FlatMember.{One, Span as SpanOf}
-use Rattle.smv_core.specs.declared.flat.FlatExpr.{FlatExpr, Number, Read', Var, Loop, Constant, Not', And', Or', Implies', Iff', Compare', Within', Sum', Modulo', Choose', All', Any', List', Each', Held-FlatExpr-Each-2, None', Some', Row_of-FlatExpr, end_of-FlatExpr, more_of-FlatExpr, Row_of-FlatMember, end_of-FlatMember, more_of-FlatMember, Row_of-FlatSigned, end_of-FlatSigned, more_of-FlatSigned}
+use Rattle.smv_core.specs.declared.flat.FlatExpr.{FlatExpr, Number, Read', Var, Loop, Constant, Not', And', Or', Implies', Iff', Compare', Within', Sum', Modulo', Choose', All', Any', List', Each', None', Some', Row_of-FlatExpr, end_of-FlatExpr, more_of-FlatExpr, Row_of-FlatMember, end_of-FlatMember, more_of-FlatMember, Row_of-FlatSigned, end_of-FlatSigned, more_of-FlatSigned}
 use Rattle.smv_core.specs.declared.flat.DefBody.{DefBody, Nothing, Assign, If', First', Forall', Row_of-DefBody, end_of-DefBody, more_of-DefBody}
-use Rattle.smv_core.specs.Rows.{one_flat_expr}
+use Rattle.smv_core.specs.Rows.{one_flat_expr, FlatCondition}
 
 -- ---- what an expression reads
 
@@ -56,7 +56,7 @@ abbrev mutual
   references_members (more_of-FlatMember (One e) rest) = references e ++ references_members rest
   references_members (more_of-FlatMember (SpanOf span at) rest) = references_members rest
 
-  pub references_held : Held-FlatExpr-Each-2 → List Reference
+  pub references_held : FlatCondition → List Reference
   references_held None' = []
   references_held (Some' shape (one_flat_expr cond)) = references cond
 

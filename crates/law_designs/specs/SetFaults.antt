@@ -2,7 +2,7 @@
 use Rattle.std.specs.Prelude.{List, [], ◌∷◌, ◌++◌, map, flat_map, slice_get, Option, Some, false}
 use Rattle.smv_core.specs.declared.fault.Fault.{Fault}
 use Rattle.smv_core.specs.declared.flat.FlatMember.{One, Span as SpanOf}
-use Rattle.smv_core.specs.declared.flat.FlatExpr.{FlatExpr, Number, Read', Var, Loop, Constant, Not', And', Or', Implies', Iff', Compare', Within', Sum', Modulo', Choose', All', Any', List', Each', Held-FlatExpr-Each-2, None', Some', Row_of-FlatExpr, end_of-FlatExpr, more_of-FlatExpr, Row_of-FlatMember, end_of-FlatMember, more_of-FlatMember, Row_of-FlatSigned, end_of-FlatSigned, more_of-FlatSigned}
+use Rattle.smv_core.specs.declared.flat.FlatExpr.{FlatExpr, Number, Read', Var, Loop, Constant, Not', And', Or', Implies', Iff', Compare', Within', Sum', Modulo', Choose', All', Any', List', Each', None', Some', Row_of-FlatExpr, end_of-FlatExpr, more_of-FlatExpr, Row_of-FlatMember, end_of-FlatMember, more_of-FlatMember, Row_of-FlatSigned, end_of-FlatSigned, more_of-FlatSigned}
 use Rattle.smv_core.specs.declared.flat.FlatStmt.{FlatStmt, Assign, If', Block', Default', Forall', Row_of-FlatStmt, end_of-FlatStmt, more_of-FlatStmt}
 use Rattle.smv_core.specs.declared.flat.FlatItem.{FlatItem}
 use Rattle.smv_core.specs.declared.flat.FlatItem.TheVariants as item
@@ -10,7 +10,7 @@ use Rattle.smv_core.specs.declared.flat.FlatText.{FlatText}
 use Rattle.smv_mentions.specs.FirstFault.{first_of}
 use Rattle.law_designs.specs.FlatKinds.{FlatKind, number, FlatVars, inside, value_in, bound_by}
 use Rattle.law_designs.specs.SetOperands.{SetOperand, first_at, is_loop, met, wanted_at, wanted_of, disordered}
-use Rattle.smv_core.specs.Rows.{one_flat_expr, one_flat_stmt}
+use Rattle.smv_core.specs.Rows.{one_flat_expr, one_flat_stmt, FlatCondition}
 
 -- in a flattened text whose expressions have these kinds
 module _ (flat_text : FlatText) (kind_at : FlatVars → FlatExpr → Option FlatKind) where
@@ -76,7 +76,7 @@ module _ (flat_text : FlatText) (kind_at : FlatVars → FlatExpr → Option Flat
     faults_members vars (more_of-FlatMember (One e) others) = faults_in vars e ++ faults_members vars others
     faults_members vars (more_of-FlatMember (SpanOf span at) others) = faults_members vars others
 
-    pub faults_held : FlatVars → Held-FlatExpr-Each-2 → List Fault
+    pub faults_held : FlatVars → FlatCondition → List Fault
     faults_held vars None' = []
     faults_held vars (Some' shape (one_flat_expr cond)) = faults_in vars cond
 

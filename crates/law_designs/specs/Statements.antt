@@ -6,8 +6,8 @@ use Rattle.smv_core.specs.Assignments.{Around, loop, any}
 use Rattle.smv_core.specs.declared.tree.Part.{Field, At}
 use Rattle.smv_core.specs.declared.tree.Path.{out-Path}
 use Rattle.smv_core.specs.declared.tree.Member.{One, Span as SpanOf}
-use Rattle.smv_core.specs.declared.tree.Expr.{Expr, Number, Signal', Not', And', Or', Implies', Iff', Compare', Within', Sum', Modulo', Choose', All', Any', List', Each', Held-Expr-Each-2, None', Some', Row_of-Expr, end_of-Expr, more_of-Expr, Row_of-Part, end_of-Part, more_of-Part, Row_of-Member, end_of-Member, more_of-Member, Row_of-Signed, end_of-Signed, more_of-Signed, items-the_row-Part}
-use Rattle.smv_core.specs.declared.tree.Stmt.{Stmt, Assign, Block', If', Switch', Default', For', Forall', Held-Stmt-If-2, Row_of-Stmt, end_of-Stmt, more_of-Stmt, Row_of-Arm, end_of-Arm, more_of-Arm}
+use Rattle.smv_core.specs.declared.tree.Expr.{Expr, Number, Signal', Not', And', Or', Implies', Iff', Compare', Within', Sum', Modulo', Choose', All', Any', List', Each', None', Some', Row_of-Expr, end_of-Expr, more_of-Expr, Row_of-Part, end_of-Part, more_of-Part, Row_of-Member, end_of-Member, more_of-Member, Row_of-Signed, end_of-Signed, more_of-Signed, items-the_row-Part}
+use Rattle.smv_core.specs.declared.tree.Stmt.{Stmt, Assign, Block', If', Switch', Default', For', Forall', Row_of-Stmt, end_of-Stmt, more_of-Stmt, Row_of-Arm, end_of-Arm, more_of-Arm}
 use Rattle.smv_core.specs.declared.tree.Stmt as stmt
 use Rattle.smv_core.specs.declared.flat.FlatExpr.{FlatExpr}
 use Rattle.smv_core.specs.declared.flat.FlatExpr as flat
@@ -17,7 +17,7 @@ use Rattle.smv_core.specs.declared.flat.FlatMember as member
 use Rattle.smv_core.specs.declared.flat.FlatStmt.{FlatStmt}
 use Rattle.smv_core.specs.declared.flat.FlatStmt as act
 use Rattle.law_designs.specs.Numbers.{Scope, bound_in, flat_over, family_number, flat_path}
-use Rattle.smv_core.specs.Rows.{one_expr, one_stmt}
+use Rattle.smv_core.specs.Rows.{one_expr, one_stmt, Condition, Otherwise}
 
 -- ---- where an expression begins
 
@@ -96,7 +96,7 @@ module _ (scope : Scope) where
     flat_members vars (more_of-Member (SpanOf span at) rest) = member.Span span at ∷ flat_members vars rest
 
     -- the condition of a comprehension, or none
-    pub flat_condition : Around → Held-Expr-Each-2 → Option FlatExpr
+    pub flat_condition : Around → Condition → Option FlatExpr
     flat_condition vars None' = None
     flat_condition vars (Some' shape (one_expr cond)) = Some (flat_expr vars cond)
 
@@ -124,7 +124,7 @@ module _ (scope : Scope) where
     flat_parts vars (more_of-Stmt part rest) = flat_stmt vars part ∷ flat_parts vars rest
 
     -- an `else` or a `default`, or none
-    pub flat_branch : Around → Held-Stmt-If-2 → FlatStmt
+    pub flat_branch : Around → Otherwise → FlatStmt
     flat_branch vars stmt.None' = nothing
     flat_branch vars (stmt.Some' shape (one_stmt part)) = flat_stmt vars part
 

@@ -6,8 +6,8 @@ use Rattle.smv_core.specs.declared.tree.Path.{out-Path}
 use Rattle.smv_core.specs.declared.tree.Part.{Field, At}
 use Rattle.smv_core.specs.declared.tree.Member.{One, Span as SpanOf}
 use Rattle.smv_core.specs.declared.tree.TypeExpr.{TypeExpr, Enum, Array', Struct', Row_of-Field, end_of-Field, more_of-Field}
-use Rattle.smv_core.specs.declared.tree.Expr.{Expr, Number, Signal', Not', And', Or', Implies', Iff', Compare', Within', Sum', Modulo', Choose', All', Any', List', Each', Held-Expr-Each-2, None', Some', Row_of-Expr, end_of-Expr, more_of-Expr, Row_of-Part, end_of-Part, more_of-Part, Row_of-Member, end_of-Member, more_of-Member, Row_of-Signed, end_of-Signed, more_of-Signed}
-use Rattle.smv_core.specs.declared.tree.Stmt.{Stmt, Assign, Block', If', Switch', Default', For', Forall', Held-Stmt-If-2, Row_of-Stmt, end_of-Stmt, more_of-Stmt, Row_of-Arm, end_of-Arm, more_of-Arm}
+use Rattle.smv_core.specs.declared.tree.Expr.{Expr, Number, Signal', Not', And', Or', Implies', Iff', Compare', Within', Sum', Modulo', Choose', All', Any', List', Each', None', Some', Row_of-Expr, end_of-Expr, more_of-Expr, Row_of-Part, end_of-Part, more_of-Part, Row_of-Member, end_of-Member, more_of-Member, Row_of-Signed, end_of-Signed, more_of-Signed}
+use Rattle.smv_core.specs.declared.tree.Stmt.{Stmt, Assign, Block', If', Switch', Default', For', Forall', Row_of-Stmt, end_of-Stmt, more_of-Stmt, Row_of-Arm, end_of-Arm, more_of-Arm}
 use Rattle.smv_core.specs.declared.tree.Stmt as stmt
 use Rattle.smv_core.specs.declared.tree.Item.{Item, Declare, Instance, Layer, Claim, Split, Using, Act, Row_of-Item, end_of-Item, more_of-Item}
 use Rattle.smv_core.specs.declared.tree.Item as item
@@ -16,7 +16,7 @@ use Rattle.smv_core.specs.declared.tree.Top.{Top}
 use Rattle.smv_core.specs.declared.tree.Top.TheVariants.{SetType, Alias, Module}
 use Rattle.smv_core.specs.declared.tree.Text.{Text}
 use Rattle.law_designs.specs.Agreement.{IsIndexType}
-use Rattle.smv_core.specs.Rows.{one_expr, one_stmt, one_type}
+use Rattle.smv_core.specs.Rows.{one_expr, one_stmt, one_type, Condition, Otherwise}
 
 -- ---- lists
 
@@ -90,7 +90,7 @@ abbrev mutual
   MembersAreWritten (more_of-Member (One e) rest) = IsWritten e × MembersAreWritten rest
   MembersAreWritten (more_of-Member (SpanOf span at) rest) = MembersAreWritten rest
 
-  pub ConditionIsWritten : Held-Expr-Each-2 → Type 0
+  pub ConditionIsWritten : Condition → Type 0
   ConditionIsWritten None' = Unit {0}
   ConditionIsWritten (Some' shape (one_expr cond)) = IsWritten cond
 
@@ -114,7 +114,7 @@ abbrev mutual
   StatementsAreWritten end_of-Stmt = Unit {0}
   StatementsAreWritten (more_of-Stmt part rest) = StatementIsWritten part × StatementsAreWritten rest
 
-  pub BranchIsWritten : Held-Stmt-If-2 → Type 0
+  pub BranchIsWritten : Otherwise → Type 0
   BranchIsWritten stmt.None' = Unit {0}
   BranchIsWritten (stmt.Some' shape (one_stmt part)) = StatementIsWritten part
 

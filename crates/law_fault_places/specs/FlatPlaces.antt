@@ -3,7 +3,7 @@ use Rattle.std.specs.Prelude.{◌≤◌, ℕ, List}
 use Rattle.std.specs.List.{AllByRecursion}
 use Rattle.smv_core.specs.declared.tree.Text.{Text}
 use Rattle.smv_core.specs.declared.flat.FlatMember.{One, Span as SpanOf}
-use Rattle.smv_core.specs.declared.flat.FlatExpr.{FlatExpr, Number, Read', Var, Loop, Constant, Not', And', Or', Implies', Iff', Compare', Within', Sum', Modulo', Choose', All', Any', List', Each', Held-FlatExpr-Each-2, None', Some', Row_of-FlatExpr, end_of-FlatExpr, more_of-FlatExpr, Row_of-FlatMember, end_of-FlatMember, more_of-FlatMember, Row_of-FlatSigned, end_of-FlatSigned, more_of-FlatSigned}
+use Rattle.smv_core.specs.declared.flat.FlatExpr.{FlatExpr, Number, Read', Var, Loop, Constant, Not', And', Or', Implies', Iff', Compare', Within', Sum', Modulo', Choose', All', Any', List', Each', None', Some', Row_of-FlatExpr, end_of-FlatExpr, more_of-FlatExpr, Row_of-FlatMember, end_of-FlatMember, more_of-FlatMember, Row_of-FlatSigned, end_of-FlatSigned, more_of-FlatSigned}
 use Rattle.smv_core.specs.declared.flat.FlatStmt.{FlatStmt, Assign, If', Block', Default', Forall', Row_of-FlatStmt, end_of-FlatStmt, more_of-FlatStmt}
 use Rattle.smv_core.specs.declared.flat.DefBody.{DefBody, Nothing, First', Row_of-DefBody, end_of-DefBody, more_of-DefBody}
 use Rattle.smv_core.specs.declared.flat.DefBody as part
@@ -19,7 +19,7 @@ use Rattle.smv_core.specs.declared.flat.Design.{Design}
 use Rattle.law_designs.specs.Flattening.{flatten}
 use Rattle.law_designs.specs.Definitions.{design_of_flat_text}
 use Rattle.law_fault_places.specs.TreePlaces.{WordIsWithin, WordsAreWithin, RefIsWithin, UseIsWithin, TextIsWithin}
-use Rattle.smv_core.specs.Rows.{one_flat_expr, one_flat_stmt}
+use Rattle.smv_core.specs.Rows.{one_flat_expr, one_flat_stmt, FlatCondition}
 
 module _ (n : ℕ) where
   -- ---- expressions
@@ -59,7 +59,7 @@ module _ (n : ℕ) where
     FlatMembersAreWithin (more_of-FlatMember (One e) rest) = FlatExprIsWithin e × FlatMembersAreWithin rest
     FlatMembersAreWithin (more_of-FlatMember (SpanOf span at) rest) = (at ≤ n) × FlatMembersAreWithin rest
 
-    pub FlatConditionIsWithin : Held-FlatExpr-Each-2 → Type 0
+    pub FlatConditionIsWithin : FlatCondition → Type 0
     FlatConditionIsWithin None' = Unit {0}
     FlatConditionIsWithin (Some' shape (one_flat_expr cond)) = FlatExprIsWithin cond
 

@@ -13,15 +13,15 @@ use Rattle.smv_core.specs.declared.tree.Path.{Path, out-Path}
 use Rattle.smv_core.specs.declared.tree.Part.{Part, Field, At}
 use Rattle.smv_core.specs.declared.tree.Member.{One, Span as SpanOf}
 use Rattle.smv_core.specs.declared.tree.TypeExpr.{TypeExpr, Boolean, Range, Enum, Named, Array', Struct', Row_of-Field, end_of-Field, more_of-Field}
-use Rattle.smv_core.specs.declared.tree.Expr.{Expr, Number, Signal', Not', And', Or', Implies', Iff', Compare', Within', Sum', Modulo', Choose', All', Any', List', Each', Held-Expr-Each-2, None', Some', Row_of-Expr, end_of-Expr, more_of-Expr, Row_of-Part, end_of-Part, more_of-Part, Row_of-Member, end_of-Member, more_of-Member, Row_of-Signed, end_of-Signed, more_of-Signed}
-use Rattle.smv_core.specs.declared.tree.Stmt.{Stmt, Assign, Block', If', Switch', Default', For', Forall', Held-Stmt-If-2, Row_of-Stmt, end_of-Stmt, more_of-Stmt, Row_of-Arm, end_of-Arm, more_of-Arm}
+use Rattle.smv_core.specs.declared.tree.Expr.{Expr, Number, Signal', Not', And', Or', Implies', Iff', Compare', Within', Sum', Modulo', Choose', All', Any', List', Each', None', Some', Row_of-Expr, end_of-Expr, more_of-Expr, Row_of-Part, end_of-Part, more_of-Part, Row_of-Member, end_of-Member, more_of-Member, Row_of-Signed, end_of-Signed, more_of-Signed}
+use Rattle.smv_core.specs.declared.tree.Stmt.{Stmt, Assign, Block', If', Switch', Default', For', Forall', Row_of-Stmt, end_of-Stmt, more_of-Stmt, Row_of-Arm, end_of-Arm, more_of-Arm}
 use Rattle.smv_core.specs.declared.tree.Stmt as stmt
 use Rattle.smv_core.specs.declared.tree.Item.{Item, Declare, Instance, Layer, Claim, Split, Using, Act, Row_of-Item, end_of-Item, more_of-Item}
 use Rattle.smv_core.specs.declared.tree.Item as item
 use Rattle.smv_core.specs.declared.tree.Top.{Top}
 use Rattle.smv_core.specs.declared.tree.Top.TheVariants.{SetType, Alias, Module}
 use Rattle.smv_core.specs.declared.tree.Text.{Text}
-use Rattle.smv_core.specs.Rows.{one_expr, one_stmt, one_type}
+use Rattle.smv_core.specs.Rows.{one_expr, one_stmt, one_type, Condition, Otherwise}
 
 module _ (n : ℕ) where
   -- ---- words
@@ -87,7 +87,7 @@ module _ (n : ℕ) where
     MembersAreWithin (more_of-Member (One e) rest) = ExprIsWithin e × MembersAreWithin rest
     MembersAreWithin (more_of-Member (SpanOf span at) rest) = (at ≤ n) × MembersAreWithin rest
 
-    pub ConditionIsWithin : Held-Expr-Each-2 → Type 0
+    pub ConditionIsWithin : Condition → Type 0
     ConditionIsWithin None' = Unit {0}
     ConditionIsWithin (Some' shape (one_expr cond)) = ExprIsWithin cond
 
@@ -120,7 +120,7 @@ module _ (n : ℕ) where
     StatementsAreWithin (more_of-Stmt part rest) = StatementIsWithin part × StatementsAreWithin rest
 
     -- an `else` or a `default`, or none
-    pub BranchIsWithin : Held-Stmt-If-2 → Type 0
+    pub BranchIsWithin : Otherwise → Type 0
     BranchIsWithin stmt.None' = Unit {0}
     BranchIsWithin (stmt.Some' shape (one_stmt part)) = StatementIsWithin part
 

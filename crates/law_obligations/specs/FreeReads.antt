@@ -1,10 +1,10 @@
 -- Which variables an expression reads from around it, and bindings that agree on them.
 use Rattle.std.specs.Prelude.{◌≡◌, ℕ, suc, zero, List, [], ◌∷◌, Bool, true, false, ◌&&◌, ◌||◌, nat_eq, nat_lt}
 use Rattle.smv_core.specs.declared.flat.FlatMember.{One, Span as SpanOf}
-use Rattle.smv_core.specs.declared.flat.FlatExpr.{FlatExpr, Number, Read', Var, Loop, Constant, Not', And', Or', Implies', Iff', Compare', Within', Sum', Modulo', Choose', All', Any', List', Each', Held-FlatExpr-Each-2, None', Some', Row_of-FlatExpr, end_of-FlatExpr, more_of-FlatExpr, Row_of-FlatMember, end_of-FlatMember, more_of-FlatMember, Row_of-FlatSigned, end_of-FlatSigned, more_of-FlatSigned}
+use Rattle.smv_core.specs.declared.flat.FlatExpr.{FlatExpr, Number, Read', Var, Loop, Constant, Not', And', Or', Implies', Iff', Compare', Within', Sum', Modulo', Choose', All', Any', List', Each', None', Some', Row_of-FlatExpr, end_of-FlatExpr, more_of-FlatExpr, Row_of-FlatMember, end_of-FlatMember, more_of-FlatMember, Row_of-FlatSigned, end_of-FlatSigned, more_of-FlatSigned}
 use Rattle.law_obligations.specs.Places.{Place, World}
 use Rattle.law_obligations.specs.May.{AbsState, Kept, may}
-use Rattle.smv_core.specs.Rows.{one_flat_expr}
+use Rattle.smv_core.specs.Rows.{one_flat_expr, FlatCondition}
 
 abbrev mutual
   -- the variable of this number occurs free in the expression; a binder cuts off the variables from its own number on
@@ -42,7 +42,7 @@ abbrev mutual
   members_read k (more_of-FlatMember (One e) others) = reads k e || members_read k others
   members_read k (more_of-FlatMember (SpanOf span at) others) = members_read k others
 
-  pub condition_reads : ℕ → Held-FlatExpr-Each-2 → Bool
+  pub condition_reads : ℕ → FlatCondition → Bool
   condition_reads k None' = false
   condition_reads k (Some' shape (one_flat_expr cond)) = reads k cond
 

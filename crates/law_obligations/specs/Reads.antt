@@ -5,10 +5,10 @@ use Rattle.smv_core.specs.Assignments.{Index, bare}
 use Rattle.smv_core.specs.FlatMeaning.{flat_index}
 use Rattle.smv_core.specs.declared.flat.Simple.{Simple}
 use Rattle.smv_core.specs.declared.flat.FlatMember.{One, Span as SpanOf}
-use Rattle.smv_core.specs.declared.flat.FlatExpr.{FlatExpr, Number, Read', Var, Loop, Constant, Not', And', Or', Implies', Iff', Compare', Within', Sum', Modulo', Choose', All', Any', List', Each', Held-FlatExpr-Each-2, None', Some', Row_of-FlatExpr, end_of-FlatExpr, more_of-FlatExpr, Row_of-FlatMember, end_of-FlatMember, more_of-FlatMember, Row_of-FlatSigned, end_of-FlatSigned, more_of-FlatSigned}
+use Rattle.smv_core.specs.declared.flat.FlatExpr.{FlatExpr, Number, Read', Var, Loop, Constant, Not', And', Or', Implies', Iff', Compare', Within', Sum', Modulo', Choose', All', Any', List', Each', None', Some', Row_of-FlatExpr, end_of-FlatExpr, more_of-FlatExpr, Row_of-FlatMember, end_of-FlatMember, more_of-FlatMember, Row_of-FlatSigned, end_of-FlatSigned, more_of-FlatSigned}
 use Rattle.smv_core.specs.declared.flat.DefBody.{DefBody, Nothing, Assign, If', First', Forall', Row_of-DefBody, end_of-DefBody, more_of-DefBody}
 use Rattle.law_obligations.specs.Places.{Place, same_place, bind_place}
-use Rattle.smv_core.specs.Rows.{one_flat_expr}
+use Rattle.smv_core.specs.Rows.{one_flat_expr, FlatCondition}
 
 -- the indexes of a reference
 abbrev pub indexes_read : {m : _} → Row_of-FlatExpr m → List Index
@@ -66,7 +66,7 @@ module _ {X : Type 0} (places : Simple → List Place) (read : ℕ → List Inde
     reads_members (more_of-FlatMember (One e) others) b = reads e b ++ reads_members others b
     reads_members (more_of-FlatMember (SpanOf span at) others) b = reads_members others b
 
-    pub reads_held : Held-FlatExpr-Each-2 → List Place → List X
+    pub reads_held : FlatCondition → List Place → List X
     reads_held None' b = []
     reads_held (Some' shape (one_flat_expr cond)) b = reads cond b
 

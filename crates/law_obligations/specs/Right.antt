@@ -4,10 +4,10 @@ use Rattle.std.specs.List.{list_any, list_all}
 use Rattle.smv_core.specs.Values.{Truth}
 use Rattle.smv_core.specs.Outcome.{branch, is_true}
 use Rattle.smv_core.specs.declared.flat.FlatMember.{One, Span as SpanOf}
-use Rattle.smv_core.specs.declared.flat.FlatExpr.{FlatExpr, Choose', List', Each', Held-FlatExpr-Each-2, None', Some', Row_of-FlatMember, end_of-FlatMember, more_of-FlatMember}
+use Rattle.smv_core.specs.declared.flat.FlatExpr.{FlatExpr, Choose', List', Each', None', Some', Row_of-FlatMember, end_of-FlatMember, more_of-FlatMember}
 use Rattle.law_obligations.specs.Places.{Place, same_place, is_named, is_among, World, named_in, places_in, AbsOutcome, bind_place}
 use Rattle.law_obligations.specs.May.{AbsState, Kept, seen, may, may_members}
-use Rattle.smv_core.specs.Rows.{one_flat_expr}
+use Rattle.smv_core.specs.Rows.{one_flat_expr, FlatCondition}
 
 -- an outcome gives its own place, and every place of the type where it is Undefined or outside the type
 abbrev pub gives : List Place → AbsOutcome → Place → Bool
@@ -60,12 +60,12 @@ chosen_surely conds left right every =
 
 module _ (w : World) (kept : Kept) (a : AbsState) where
   -- the condition of a comprehension may be 1; a missing one is 1
-  abbrev pub may_meet : Held-FlatExpr-Each-2 → List Place → Bool
+  abbrev pub may_meet : FlatCondition → List Place → Bool
   may_meet None' b = true
   may_meet (Some' shape (one_flat_expr cond)) b = list_any (λ u. is_true (seen u)) (may w kept a cond b)
 
   -- it is 1 for certain
-  abbrev pub must_meet : Held-FlatExpr-Each-2 → List Place → Bool
+  abbrev pub must_meet : FlatCondition → List Place → Bool
   must_meet None' b = true
   must_meet (Some' shape (one_flat_expr cond)) b = list_all (λ u. is_true (seen u)) (may w kept a cond b)
 

@@ -1,8 +1,8 @@
 -- Which variables an expression reads.
 use Rattle.std.specs.Prelude.{◌≡◌, ℕ, Bool, true, ◌&&◌, ◌||◌, nat_eq, nat_lt}
 use Rattle.smv_core.specs.declared.flat.FlatMember.{One, Span as SpanOf}
-use Rattle.smv_core.specs.declared.flat.FlatExpr.{FlatExpr, Number, Read', Var, Loop, Constant, Not', And', Or', Implies', Iff', Compare', Within', Sum', Modulo', Choose', All', Any', List', Each', Held-FlatExpr-Each-2, None', Some', Row_of-FlatExpr, end_of-FlatExpr, more_of-FlatExpr, Row_of-FlatMember, end_of-FlatMember, more_of-FlatMember, Row_of-FlatSigned, end_of-FlatSigned, more_of-FlatSigned}
-use Rattle.smv_core.specs.Rows.{one_flat_expr}
+use Rattle.smv_core.specs.declared.flat.FlatExpr.{FlatExpr, Number, Read', Var, Loop, Constant, Not', And', Or', Implies', Iff', Compare', Within', Sum', Modulo', Choose', All', Any', List', Each', None', Some', Row_of-FlatExpr, end_of-FlatExpr, more_of-FlatExpr, Row_of-FlatMember, end_of-FlatMember, more_of-FlatMember, Row_of-FlatSigned, end_of-FlatSigned, more_of-FlatSigned}
+use Rattle.smv_core.specs.Rows.{one_flat_expr, FlatCondition}
 
 -- the variables before this one
 abbrev pub before : ℕ → ℕ → Bool
@@ -49,6 +49,6 @@ abbrev mutual
   ReadMembers scope (more_of-FlatMember (One e) others) = ReadsOnly scope e × ReadMembers scope others
   ReadMembers scope (more_of-FlatMember (SpanOf span at) others) = ReadMembers scope others
 
-  pub ReadHeld : (ℕ → Bool) → Held-FlatExpr-Each-2 → Type 0
+  pub ReadHeld : (ℕ → Bool) → FlatCondition → Type 0
   ReadHeld scope None' = Unit {0}
   ReadHeld scope (Some' shape (one_flat_expr cond)) = ReadsOnly scope cond

@@ -5,9 +5,9 @@ use Rattle.smv_core.specs.declared.flat.Family.{Family}
 use Rattle.smv_core.specs.declared.flat.Def.{Def}
 use Rattle.smv_core.specs.declared.flat.DefBody.{DefBody, Nothing, Assign, If', First', Forall', Row_of-DefBody, end_of-DefBody, more_of-DefBody}
 use Rattle.smv_core.specs.declared.flat.FlatMember.{One, Span as SpanOf}
-use Rattle.smv_core.specs.declared.flat.FlatExpr.{FlatExpr, Number, Read', Var, Loop, Constant, Not', And', Or', Implies', Iff', Compare', Within', Sum', Modulo', Choose', All', Any', List', Each', Held-FlatExpr-Each-2, None', Some', Row_of-FlatExpr, end_of-FlatExpr, more_of-FlatExpr, Row_of-FlatMember, end_of-FlatMember, more_of-FlatMember, Row_of-FlatSigned, end_of-FlatSigned, more_of-FlatSigned}
+use Rattle.smv_core.specs.declared.flat.FlatExpr.{FlatExpr, Number, Read', Var, Loop, Constant, Not', And', Or', Implies', Iff', Compare', Within', Sum', Modulo', Choose', All', Any', List', Each', None', Some', Row_of-FlatExpr, end_of-FlatExpr, more_of-FlatExpr, Row_of-FlatMember, end_of-FlatMember, more_of-FlatMember, Row_of-FlatSigned, end_of-FlatSigned, more_of-FlatSigned}
 use Rattle.law_obligations.specs.Sets.{Has}
-use Rattle.smv_core.specs.Rows.{one_flat_expr}
+use Rattle.smv_core.specs.Rows.{one_flat_expr, FlatCondition}
 
 -- one index for each type
 abbrev pub OneForEach : {m : _} → List FlatSimple → Row_of-FlatExpr m → Type 0
@@ -56,7 +56,7 @@ module _ (families : List Family) where
     AreWholeMembers (more_of-FlatMember (One e) others) = IsWhole e × AreWholeMembers others
     AreWholeMembers (more_of-FlatMember (SpanOf span at) others) = AreWholeMembers others
 
-    pub IsWholeHeld : Held-FlatExpr-Each-2 → Type 0
+    pub IsWholeHeld : FlatCondition → Type 0
     IsWholeHeld None' = Unit {0}
     IsWholeHeld (Some' shape (one_flat_expr cond)) = IsWhole cond
 

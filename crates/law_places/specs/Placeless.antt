@@ -8,11 +8,12 @@ use Rattle.smv_core.specs.declared.tree.TypeExpr.{TypeExpr, Boolean, Range, Enum
 use Rattle.smv_core.specs.declared.tree.Path.{Path, roll-Path, out-Path}
 use Rattle.smv_core.specs.declared.tree.Part.{Part, Field, At}
 use Rattle.smv_core.specs.declared.tree.Member.{One, Span as SpanOf}
-use Rattle.smv_core.specs.declared.tree.Expr.{Expr, Number, Signal', Not', And', Or', Implies', Iff', Compare', Within', Sum', Modulo', Choose', All', Any', List', Each', Held-Expr-Each-2, None', Some', Row_of-Expr, end_of-Expr, more_of-Expr, Row_of-Part, end_of-Part, more_of-Part, Row_of-Member, end_of-Member, more_of-Member, Row_of-Signed, end_of-Signed, more_of-Signed}
-use Rattle.smv_core.specs.declared.tree.Stmt.{Stmt, Assign, Block', If', Switch', Default', For', Forall', Held-Stmt-If-2, Row_of-Stmt, end_of-Stmt, more_of-Stmt, Row_of-Arm, end_of-Arm, more_of-Arm}
+use Rattle.smv_core.specs.declared.tree.Expr.{Expr, Number, Signal', Not', And', Or', Implies', Iff', Compare', Within', Sum', Modulo', Choose', All', Any', List', Each', None', Some', Row_of-Expr, end_of-Expr, more_of-Expr, Row_of-Part, end_of-Part, more_of-Part, Row_of-Member, end_of-Member, more_of-Member, Row_of-Signed, end_of-Signed, more_of-Signed}
+use Rattle.smv_core.specs.declared.tree.Stmt.{Stmt, Assign, Block', If', Switch', Default', For', Forall', Row_of-Stmt, end_of-Stmt, more_of-Stmt, Row_of-Arm, end_of-Arm, more_of-Arm}
 use Rattle.smv_core.specs.declared.tree.Stmt as stmt
 use Rattle.smv_core.specs.declared.tree.Item.{Item, Declare, Instance, Layer, Claim, Split, Using, Act, Row_of-Item, end_of-Item, more_of-Item}
 use Rattle.smv_core.specs.declared.tree.Item as item
+use Rattle.smv_core.specs.Rows.{Condition, Otherwise}
 
 abbrev pub placeless_word : Word → Word
 placeless_word word = record { name = word.name; at = 0 }
@@ -75,7 +76,7 @@ unfoldable mutual
   placeless_members (more_of-Member (One e) rest) = more_of-Member (One (placeless e)) (placeless_members rest)
   placeless_members (more_of-Member (SpanOf span at) rest) = more_of-Member (SpanOf span 0) (placeless_members rest)
 
-  pub placeless_held : Held-Expr-Each-2 → Held-Expr-Each-2
+  pub placeless_held : Condition → Condition
   placeless_held None' = None'
   placeless_held (Some' shape cond) = Some' shape (placeless_row cond)
 
@@ -102,7 +103,7 @@ unfoldable mutual
   placeless_stmts end_of-Stmt = end_of-Stmt
   placeless_stmts (more_of-Stmt part rest) = more_of-Stmt (placeless_stmt part) (placeless_stmts rest)
 
-  pub placeless_branch : Held-Stmt-If-2 → Held-Stmt-If-2
+  pub placeless_branch : Otherwise → Otherwise
   placeless_branch stmt.None' = stmt.None'
   placeless_branch (stmt.Some' shape part) = stmt.Some' shape (placeless_stmts part)
 

@@ -9,12 +9,12 @@ use Rattle.smv_core.specs.declared.flat.Family.{Family}
 use Rattle.smv_core.specs.declared.flat.Param.{Param}
 use Rattle.smv_core.specs.declared.flat.FlatPair.{FlatPair}
 use Rattle.smv_core.specs.declared.flat.FlatMember.{One, Span as SpanOf}
-use Rattle.smv_core.specs.declared.flat.FlatExpr.{FlatExpr, Number, Read', Var, Loop, Constant, Not', And', Or', Implies', Iff', Compare', Within', Sum', Modulo', Choose', All', Any', List', Each', Held-FlatExpr-Each-2, None', Some', Row_of-FlatExpr, end_of-FlatExpr, more_of-FlatExpr, Row_of-FlatMember, end_of-FlatMember, more_of-FlatMember, Row_of-FlatSigned, end_of-FlatSigned, more_of-FlatSigned}
+use Rattle.smv_core.specs.declared.flat.FlatExpr.{FlatExpr, Number, Read', Var, Loop, Constant, Not', And', Or', Implies', Iff', Compare', Within', Sum', Modulo', Choose', All', Any', List', Each', None', Some', Row_of-FlatExpr, end_of-FlatExpr, more_of-FlatExpr, Row_of-FlatMember, end_of-FlatMember, more_of-FlatMember, Row_of-FlatSigned, end_of-FlatSigned, more_of-FlatSigned}
 use Rattle.smv_core.specs.declared.flat.FlatStmt.{FlatStmt, Assign, If', Block', Default', Forall', Row_of-FlatStmt, end_of-FlatStmt, more_of-FlatStmt}
 use Rattle.smv_core.specs.declared.flat.FlatItem.{FlatItem}
 use Rattle.smv_core.specs.declared.flat.FlatItem.TheVariants as item
 use Rattle.smv_core.specs.declared.flat.FlatText.{FlatText}
-use Rattle.smv_core.specs.Rows.{one_flat_expr, one_flat_stmt}
+use Rattle.smv_core.specs.Rows.{one_flat_expr, one_flat_stmt, FlatCondition}
 
 -- a number of 16 bits
 abbrev pub IsShort : ℕ → Type 0
@@ -66,7 +66,7 @@ abbrev mutual
   MembersFit (more_of-FlatMember (One e) rest) = ExprFits e × MembersFit rest
   MembersFit (more_of-FlatMember (SpanOf span at) rest) = MembersFit rest
 
-  pub ConditionFits : Held-FlatExpr-Each-2 → Type 0
+  pub ConditionFits : FlatCondition → Type 0
   ConditionFits None' = Unit {0}
   ConditionFits (Some' shape (one_flat_expr cond)) = ExprFits cond
 

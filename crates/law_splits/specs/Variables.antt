@@ -1,8 +1,8 @@
 -- The variables of expressions: which are read, where, and other numbers for them.
 use Rattle.std.specs.Prelude.{◌≡◌, ◌<◌, ℕ, suc, List, [], ◌∷◌, ◌++◌}
 use Rattle.smv_core.specs.declared.flat.FlatMember.{One, Span as SpanOf}
-use Rattle.smv_core.specs.declared.flat.FlatExpr.{FlatExpr, Number, Read', Var, Loop, Constant, Not', And', Or', Implies', Iff', Compare', Within', Sum', Modulo', Choose', All', Any', List', Each', Held-FlatExpr-Each-2, None', Some', Row_of-FlatExpr, end_of-FlatExpr, more_of-FlatExpr, Row_of-FlatMember, end_of-FlatMember, more_of-FlatMember, Row_of-FlatSigned, end_of-FlatSigned, more_of-FlatSigned}
-use Rattle.smv_core.specs.Rows.{one_flat_expr}
+use Rattle.smv_core.specs.declared.flat.FlatExpr.{FlatExpr, Number, Read', Var, Loop, Constant, Not', And', Or', Implies', Iff', Compare', Within', Sum', Modulo', Choose', All', Any', List', Each', None', Some', Row_of-FlatExpr, end_of-FlatExpr, more_of-FlatExpr, Row_of-FlatMember, end_of-FlatMember, more_of-FlatMember, Row_of-FlatSigned, end_of-FlatSigned, more_of-FlatSigned}
+use Rattle.smv_core.specs.Rows.{one_flat_expr, FlatCondition}
 
 -- a variable that is read, by its number and its place in the text
 pub record Occurrence : Type 0 where
@@ -46,7 +46,7 @@ abbrev mutual
   readings_members (more_of-FlatMember (One e) others) = readings e ++ readings_members others
   readings_members (more_of-FlatMember (SpanOf span at) others) = readings_members others
 
-  pub readings_held : Held-FlatExpr-Each-2 → List Occurrence
+  pub readings_held : FlatCondition → List Occurrence
   readings_held None' = []
   readings_held (Some' shape (one_flat_expr cond)) = readings cond
 
@@ -91,7 +91,7 @@ module _ (number : ℕ → ℕ) where
     renamed_members (more_of-FlatMember (One e) others) = more_of-FlatMember (One (renamed e)) (renamed_members others)
     renamed_members (more_of-FlatMember (SpanOf span at) others) = more_of-FlatMember (SpanOf span at) (renamed_members others)
 
-    pub renamed_held : Held-FlatExpr-Each-2 → Held-FlatExpr-Each-2
+    pub renamed_held : FlatCondition → FlatCondition
     renamed_held None' = None'
     renamed_held (Some' shape (one_flat_expr cond)) = Some' shape (one_flat_expr (renamed cond))
 
@@ -132,6 +132,6 @@ abbrev mutual
   AreMembersNumbered around (more_of-FlatMember (One e) others) = IsNumbered around e × AreMembersNumbered around others
   AreMembersNumbered around (more_of-FlatMember (SpanOf span at) others) = AreMembersNumbered around others
 
-  pub IsHeldNumbered : ℕ → Held-FlatExpr-Each-2 → Type 0
+  pub IsHeldNumbered : ℕ → FlatCondition → Type 0
   IsHeldNumbered around None' = Unit {0}
   IsHeldNumbered around (Some' shape (one_flat_expr cond)) = IsNumbered around cond

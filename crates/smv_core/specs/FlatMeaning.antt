@@ -12,11 +12,11 @@ use Rattle.smv_core.specs.declared.flat.SetInfo.{SetInfo}
 use Rattle.smv_core.specs.declared.flat.Family.{Family}
 use Rattle.smv_core.specs.declared.flat.Def.{Def}
 use Rattle.smv_core.specs.declared.flat.FlatMember.{One, Span as SpanOf}
-use Rattle.smv_core.specs.declared.flat.FlatExpr.{FlatExpr, Number, Read', Var, Loop, Constant, Not', And', Or', Implies', Iff', Compare', Within', Sum', Modulo', Choose', All', Any', List', Each', Held-FlatExpr-Each-2, None', Some', Row_of-FlatExpr, end_of-FlatExpr, more_of-FlatExpr, Row_of-FlatMember, end_of-FlatMember, more_of-FlatMember, Row_of-FlatSigned, end_of-FlatSigned, more_of-FlatSigned}
+use Rattle.smv_core.specs.declared.flat.FlatExpr.{FlatExpr, Number, Read', Var, Loop, Constant, Not', And', Or', Implies', Iff', Compare', Within', Sum', Modulo', Choose', All', Any', List', Each', None', Some', Row_of-FlatExpr, end_of-FlatExpr, more_of-FlatExpr, Row_of-FlatMember, end_of-FlatMember, more_of-FlatMember, Row_of-FlatSigned, end_of-FlatSigned, more_of-FlatSigned}
 use Rattle.smv_core.specs.declared.flat.FlatStmt.{FlatStmt, Assign, If', Block', Default', Forall', Row_of-FlatStmt, end_of-FlatStmt, more_of-FlatStmt}
 use Rattle.smv_core.specs.declared.flat.DefBody.{DefBody, Nothing, First', Row_of-DefBody, end_of-DefBody, more_of-DefBody}
 use Rattle.smv_core.specs.declared.flat.DefBody as flat
-use Rattle.smv_core.specs.Rows.{one_flat_expr, one_flat_stmt}
+use Rattle.smv_core.specs.Rows.{one_flat_expr, one_flat_stmt, FlatCondition}
 
 -- what the numbers in a flattened text stand for, at sizes
 pub record Numbered : Type 0 where
@@ -105,7 +105,7 @@ module _ (n : Numbered) (s : FlatState) where
     flat_members (more_of-FlatMember (SpanOf span at) rest) b = map (λ k. Some (number k)) (numbers_from span.low (span.high + 1 - span.low)) ++ flat_members rest b
 
   -- the condition of a comprehension is 1, or there is none
-  abbrev pub flat_meets : Held-FlatExpr-Each-2 → FlatBindings → Bool
+  abbrev pub flat_meets : FlatCondition → FlatBindings → Bool
   flat_meets None' b = true
   flat_meets (Some' shape (one_flat_expr cond)) b = is_true (truth (flat_outcome cond b))
 

@@ -1,7 +1,8 @@
 -- An expression without the places of its parts in the text: two that stand at different places and are else the same have the same.
 use Rattle.smv_core.specs.declared.flat.FlatMember.{FlatMember, One, Span as SpanOf}
 use Rattle.smv_core.specs.declared.flat.FlatSigned.{FlatSigned, out-FlatSigned}
-use Rattle.smv_core.specs.declared.flat.FlatExpr.{FlatExpr, Number, Read', Var, Loop, Constant, Not', And', Or', Implies', Iff', Compare', Within', Sum', Modulo', Choose', All', Any', List', Each', Held-FlatExpr-Each-2, None', Some', Row_of-FlatExpr, end_of-FlatExpr, more_of-FlatExpr, Row_of-FlatMember, end_of-FlatMember, more_of-FlatMember, Row_of-FlatSigned, end_of-FlatSigned, more_of-FlatSigned}
+use Rattle.smv_core.specs.declared.flat.FlatExpr.{FlatExpr, Number, Read', Var, Loop, Constant, Not', And', Or', Implies', Iff', Compare', Within', Sum', Modulo', Choose', All', Any', List', Each', None', Some', Row_of-FlatExpr, end_of-FlatExpr, more_of-FlatExpr, Row_of-FlatMember, end_of-FlatMember, more_of-FlatMember, Row_of-FlatSigned, end_of-FlatSigned, more_of-FlatSigned}
+use Rattle.smv_core.specs.Rows.{FlatCondition}
 
 unfoldable mutual
   pub placeless : FlatExpr → FlatExpr
@@ -38,7 +39,7 @@ unfoldable mutual
   placeless_members (more_of-FlatMember (One e) others) = more_of-FlatMember (One (placeless e)) (placeless_members others)
   placeless_members (more_of-FlatMember (SpanOf span at) others) = more_of-FlatMember (SpanOf span 0) (placeless_members others)
 
-  pub placeless_condition : Held-FlatExpr-Each-2 → Held-FlatExpr-Each-2
+  pub placeless_condition : FlatCondition → FlatCondition
   placeless_condition None' = None'
   placeless_condition (Some' shape cond) = Some' shape (placeless_each cond)
 

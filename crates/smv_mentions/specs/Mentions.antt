@@ -10,12 +10,12 @@ use Rattle.smv_core.specs.declared.tree.Part.{Part, Field, At}
 use Rattle.smv_core.specs.declared.tree.Signed.{Signed, out-Signed}
 use Rattle.smv_core.specs.declared.tree.Arm.{Arm, out-Arm}
 use Rattle.smv_core.specs.declared.tree.Member.{Member, One, Span as SpanOf}
-use Rattle.smv_core.specs.declared.tree.Expr.{Expr, Number, Signal', Not', And', Or', Implies', Iff', Compare', Within', Sum', Modulo', Choose', All', Any', List', Each', Held-Expr-Each-2, None', Some', Row_of-Expr, end_of-Expr, more_of-Expr, Row_of-Part, end_of-Part, more_of-Part, Row_of-Member, end_of-Member, more_of-Member, Row_of-Signed, end_of-Signed, more_of-Signed, items-the_row-Part}
-use Rattle.smv_core.specs.declared.tree.Stmt.{Stmt, Assign, Block', If', Switch', Default', For', Forall', Held-Stmt-If-2, Row_of-Stmt, end_of-Stmt, more_of-Stmt, Row_of-Arm, end_of-Arm, more_of-Arm}
+use Rattle.smv_core.specs.declared.tree.Expr.{Expr, Number, Signal', Not', And', Or', Implies', Iff', Compare', Within', Sum', Modulo', Choose', All', Any', List', Each', None', Some', Row_of-Expr, end_of-Expr, more_of-Expr, Row_of-Part, end_of-Part, more_of-Part, Row_of-Member, end_of-Member, more_of-Member, Row_of-Signed, end_of-Signed, more_of-Signed, items-the_row-Part}
+use Rattle.smv_core.specs.declared.tree.Stmt.{Stmt, Assign, Block', If', Switch', Default', For', Forall', Row_of-Stmt, end_of-Stmt, more_of-Stmt, Row_of-Arm, end_of-Arm, more_of-Arm}
 use Rattle.smv_core.specs.declared.tree.Stmt as stmt
 use Rattle.smv_core.specs.declared.tree.Item.{Item, Declare, Instance, Layer, Claim, Split, Using, Act, Row_of-Item, end_of-Item, more_of-Item}
 use Rattle.smv_core.specs.declared.tree.Item as item
-use Rattle.smv_core.specs.Rows.{one_expr, one_stmt, one_type}
+use Rattle.smv_core.specs.Rows.{one_expr, one_stmt, one_type, Condition, Otherwise}
 
 -- what a name of a module is: a signal of a role and a type, an instance of a module, or a claim or split
 pub data What : Type 0 where
@@ -125,7 +125,7 @@ unfoldable mutual
   in_members vars (more_of-Member (SpanOf span at) rest) = in_members vars rest
 
   -- the condition of a comprehension, or none
-  pub in_held : List Word → Held-Expr-Each-2 → List Mention
+  pub in_held : List Word → Condition → List Mention
   in_held vars None' = []
   in_held vars (Some' shape (one_expr cond)) = in_expr vars cond
 
@@ -163,7 +163,7 @@ unfoldable mutual
   in_block vars (more_of-Stmt part rest) = in_stmt vars part ++ in_block vars rest
 
   -- an `else` or `default`, or none
-  pub in_branch : List Word → Held-Stmt-If-2 → List Mention
+  pub in_branch : List Word → Otherwise → List Mention
   in_branch vars stmt.None' = []
   in_branch vars (stmt.Some' shape (one_stmt part)) = in_stmt vars part
 

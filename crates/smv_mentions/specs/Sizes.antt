@@ -10,11 +10,11 @@ use Rattle.smv_core.specs.declared.tree.Text.{Text}
 use Rattle.smv_core.specs.declared.tree.Top.{Top}
 use Rattle.smv_core.specs.declared.tree.Top.TheVariants.{SetType, Alias, Module}
 use Rattle.smv_core.specs.declared.tree.TypeExpr.{TypeExpr, Boolean, Range, Named, Array', Struct', Row_of-Field, end_of-Field, more_of-Field}
-use Rattle.smv_core.specs.declared.tree.Stmt.{Stmt, Assign, Block', If', Switch', Default', For', Forall', Held-Stmt-If-2, None', Some', Row_of-Stmt, end_of-Stmt, more_of-Stmt, Row_of-Arm, end_of-Arm, more_of-Arm}
+use Rattle.smv_core.specs.declared.tree.Stmt.{Stmt, Assign, Block', If', Switch', Default', For', Forall', None', Some', Row_of-Stmt, end_of-Stmt, more_of-Stmt, Row_of-Arm, end_of-Arm, more_of-Arm}
 use Rattle.smv_core.specs.declared.tree.Item.{Item, Declare, Instance, Layer, Claim, Split, Using, Act, Row_of-Item, end_of-Item, more_of-Item}
 use Rattle.smv_core.specs.declared.tree.Item as item
 use Rattle.smv_mentions.specs.Scopes.{pieces, constants}
-use Rattle.smv_core.specs.Rows.{one_stmt, one_type}
+use Rattle.smv_core.specs.Rows.{one_stmt, one_type, Otherwise}
 
 -- ---- families
 
@@ -87,7 +87,7 @@ abbrev mutual
   statements_in_row end_of-Stmt = 0
   statements_in_row (more_of-Stmt part rest) = statements part + statements_in_row rest
 
-  pub statements_in_branch : Held-Stmt-If-2 → ℕ
+  pub statements_in_branch : Otherwise → ℕ
   statements_in_branch None' = 0
   statements_in_branch (Some' shape (one_stmt part)) = statements part
 
