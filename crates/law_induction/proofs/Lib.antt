@@ -1,0 +1,4 @@
+pub mod RenamedOutcomes
+pub mod Inductions
+pub mod Trees
+pub mod WorkedTexts

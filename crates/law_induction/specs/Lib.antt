@@ -1,0 +1,4 @@
+pub mod Renamed
+pub mod Laws
+pub mod Strengthened
+pub mod WorkedTexts
