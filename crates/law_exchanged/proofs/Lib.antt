@@ -1,0 +1,2 @@
+pub mod Pierced
+pub mod Exchanged
