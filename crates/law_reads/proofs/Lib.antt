@@ -4,3 +4,4 @@ pub mod Outcomes
 pub mod RightSides
 pub mod Results
 pub mod Demands
+pub mod Kept

@@ -3,12 +3,22 @@ use Rattle.std.specs.Prelude.{◌≡◌, List, Option, Bool, false, true}
 use Rattle.std.specs.List.{list_any}
 use Rattle.smv_core.specs.declared.flat.DefBody.{DefBody}
 use Rattle.smv_core.specs.declared.flat.FlatExpr.{FlatExpr}
+use Rattle.law_obligations.specs.Sets.{Has}
 use Rattle.law_obligations.specs.Places.{Place, World}
 use Rattle.law_obligations.specs.May.{AbsState, Kept, may}
 use Rattle.law_obligations.specs.Right.{may_allow, must_allow}
 use Rattle.law_obligations.specs.Results.{results}
 use Rattle.law_obligations.specs.Obligations.{Demanded, AbstractProblem, is_met, obligation}
+use Rattle.law_obligations.specs.Outlines.{Outline, Entry}
+use Rattle.law_obligations.specs.Cones.{AbsElement, elements, cone, kept as kept_of}
 use Rattle.law_reads.specs.Reading.{TellSame, KeepsElements, HaveValues, read_in, read_of, read_by_guards, is_at_once, NowSame, BeforeSame}
+
+-- where these are elements of a case, a case that keeps them keeps only such; so does one that keeps a cone
+abbrev pub ElementsKeepElements : Type 0
+ElementsKeepElements = (w : World) (xs : List AbsElement) → ((x : AbsElement) → Has xs x → Has (elements w) x) → KeepsElements w (kept_of xs)
+
+abbrev pub ConesKeepElements : Type 0
+ConesKeepElements = (w : World) (o : Outline) (entry : Entry) (params : List Place) → KeepsElements w (kept_of (cone w o entry params))
 
 -- what an expression may be
 abbrev pub OutcomesAreSame : Type 0

@@ -1,46 +1,29 @@
 -- Why one element more is determined: by the views of states in which those before it are worked out, and since what is not read does not matter.
-use Rattle.std.proofs.Common.{◌≡◌, ℕ, ◌<◌, List, [], ◌∷◌, ◌++◌, length, Bool, true, false, cond, ◌&&◌, ◌||◌, refl, sym, ap, subst, ◌∙◌, inl, inr, ◌⊎◌, Option, Some, None, if◌then◌else◌}
+use Rattle.std.proofs.Common.{◌≡◌, ℕ, List, [], ◌∷◌, ◌++◌, Bool, true, false, refl, sym, ap, subst, ◌∙◌, inl, inr, Option, Some, None, if◌then◌else◌}
 use Rattle.std.proofs.lemmas.Bool.{cases_Bool}
 use Rattle.std.specs.Prelude.{get_or}
 use Rattle.std.specs.List.{filter, list_any, list_all}
-use Rattle.law_lists.proofs.Booleans.{clash, not_left, not_right}
+use Rattle.law_lists.proofs.Booleans.{clash, not_left}
 use Rattle.law_lists.proofs.Lists.{append_again}
 use Rattle.law_obligations.specs.Sets.{Has, first, later}
-use Rattle.law_obligations.specs.Places.{Place, World}
+use Rattle.law_obligations.specs.Places.{Place}
 use Rattle.law_obligations.specs.May.{AbsState, Kept}
-use Rattle.law_obligations.specs.Obligations.{Demanded, defined, holds, AbstractProblem, is_met}
-use Rattle.law_obligations.specs.Cones.{AbsElement, element, same_element, elements}
+use Rattle.law_obligations.specs.Obligations.{Demanded, defined, holds, is_met}
+use Rattle.law_obligations.specs.Cones.{AbsElement, element, same_element}
 use Rattle.law_obligations.specs.Bits.{Bits}
-use Rattle.law_obligations.specs.Readings.{PosedCase, IsCase, Slot, values_of, slots, reading}
-use Rattle.law_obligations.proofs.ConeFacts.{same_element-itself, same_element-family, same_element-indexes}
+use Rattle.law_obligations.specs.Readings.{PosedCase, IsCase, values_of, reading}
 use Rattle.law_obligations.proofs.Lookups.{Has-from_filter}
 use Rattle.law_obligations.proofs.Members.{Has-left, Has-right, any-found, any-some}
 use Rattle.law_obligations.proofs.ReadBack.{reading_is_state, state_is_read}
 use Rattle.law_reports.specs.CaseLists.{defines, those_of}
-use Rattle.law_arrangements.specs.Arrangements.{Arrangement, put, AgreeBeside, EachWith, EachBetween, spread, IsState, allowed, worked_out, AreWorkedOut, IsDetermined, view}
+use Rattle.law_arrangements.specs.Arrangements.{Arrangement, put, AgreeBeside, EachBetween, spread, allowed, worked_out, AreWorkedOut, IsDetermined, view}
 use Rattle.law_arrangements.specs.Laws.{gathered}
-use Rattle.law_arrangements.proofs.Views.{Apart, all_met, follows, reading_gathered}
-use Rattle.law_reads.specs.Reading.{told, TellSame, KeepsElements, HaveValues, read_now, is_at_once, OwnSame, NowSame}
+use Rattle.law_arrangements.proofs.Views.{all_met, follows, reading_gathered}
+use Rattle.law_reads.specs.Reading.{TellSame, KeepsElements, HaveValues, read_now, OwnSame}
 use Rattle.law_reads.proofs.Lists.{all_in}
 use Rattle.law_reads.proofs.Demands.{met_same}
+use Rattle.law_wires.proofs.Put.{put_other, put_at, filter_alike}
 use Rattle.law_wires.specs.Tries.{PassesOnce, trying, keeping, meets_with, AreDetermined, IsTry, KeepsBeside}
-
--- ---- a state with another value
-
-put_self : (x : AbsElement) (v : Place) (a : AbsState) → put x v a x.family x.indexes ≡ v
-put_self x v a = rw (same_element-itself x) refl
-
-put_other : (x : AbsElement) (v : Place) (a : AbsState) (family : ℕ) (ps : List Place) → same_element (element family ps) x ≡ false → put x v a family ps ≡ a family ps
-put_other x v a family ps e = rw e refl
-
-put_at : (x : AbsElement) (v : Place) (a : AbsState) (y : AbsElement) → same_element x y ≡ true → put x v a y.family y.indexes ≡ v
-put_at x v a y e = ap (λ (k : ℕ). put x v a k y.indexes) (sym (same_element-family x y e)) ∙ (ap (put x v a x.family) (sym (same_element-indexes x y e)) ∙ put_self x v a)
-
--- ---- tests that agree
-
-filter_alike : {X : Type 0} (p q : X → Bool) (xs : List X) → ((x : X) → p x ≡ q x) → filter p xs ≡ filter q xs
-filter_alike p q [] h = refl
-filter_alike p q (x ∷ xs) h = ap (λ b. if b then x ∷ filter p xs else filter p xs) (h x) ∙ ap (λ l. if q x then x ∷ l else l) (filter_alike p q xs h)
 
 -- ---- lists that grow
 

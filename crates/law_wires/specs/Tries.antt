@@ -6,10 +6,11 @@ use Rattle.law_obligations.specs.Places.{Place}
 use Rattle.law_obligations.specs.May.{AbsState, Kept}
 use Rattle.law_obligations.specs.Obligations.{Demanded, AbstractProblem, is_met}
 use Rattle.law_obligations.specs.Cones.{AbsElement, element, same_element}
-use Rattle.law_obligations.specs.Readings.{PosedCase, Slot, values_of, bits_of, slots}
+use Rattle.law_obligations.specs.Readings.{PosedCase, Slot, bits_of, slots}
 use Rattle.law_reports.specs.CaseLists.{those_of}
 use Rattle.law_arrangements.specs.Arrangements.{Arrangement, put, EachWith, EachBetween, IsDetermined}
 use Rattle.law_reads.specs.Reading.{read_now, is_at_once}
+use Rattle.law_wires.specs.Idle.{AreOthers}
 
 -- a test passes where none before it did, one after the other
 abbrev pub PassAlone : {X : Type 0} → (X → Bool) → Bool → List X → Type 0
@@ -45,7 +46,7 @@ module _ (c : PosedCase) where
     pub have_places : (slot : Slot) → Has (slots c) slot → list_any (same_element slot.element) (done ++ x ∷ left) ≡ false → (i : ℕ) → i < bits_of c.problem.world slot.element → Has order (slot.bit + i)
     pub are_determined : AreDetermined done (x ∷ left)
     pub are_at_once : (demand : Demanded) → Has (those_of c.problem.now x) demand → is_at_once demand ≡ true
-    pub are_read : (demand : Demanded) → Has (those_of c.problem.now x) demand → (y : AbsElement) → Has (read_now c.problem.world demand) y → list_any (same_element y) (x ∷ left) ≡ false
+    pub are_read : (demand : Demanded) → Has (those_of c.problem.now x) demand → AreOthers (x ∷ left) (read_now c.problem.world demand)
 
   -- what is kept by some cells: beside the tried element and those that are left, what the case keeps
   abbrev pub KeepsBeside : List AbsElement → Kept → Type 0
