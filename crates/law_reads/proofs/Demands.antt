@@ -1,25 +1,22 @@
 -- Demands are met, and targets broken, alike in states that tell the same of what they read.
-use Rattle.std.proofs.Common.{◌≡◌, ℕ, List, [], ◌∷◌, ◌++◌, Bool, true, false, not, ◌&&◌, ◌||◌, refl, ap, sym, subst, ◌∙◌, Option, Some, None, if◌then◌else◌, inl, inr}
-use Rattle.std.proofs.lemmas.Bool.{cases_Bool}
-use Rattle.std.specs.List.{flat_map, list_any, list_all, slice_get}
+use Rattle.std.proofs.Common.{◌≡◌, List, [], Bool, true, false, not, ◌&&◌, ◌||◌, refl, ap, ◌∙◌, Option, Some, None, if◌then◌else◌}
+use Rattle.std.specs.List.{list_any, list_all, slice_get}
 use Rattle.law_lists.proofs.Anys.{any-agree}
-use Rattle.law_lists.proofs.Booleans.{and_alike, clash}
+use Rattle.law_lists.proofs.Booleans.{and_alike}
 use Rattle.std.specs.Prelude.{get_or}
 use Rattle.smv_core.specs.Values.{number}
 use Rattle.smv_core.specs.Outcome.{is_true}
 use Rattle.smv_core.specs.declared.flat.Def.{Def}
 use Rattle.smv_core.specs.declared.flat.DefBody.{DefBody}
-use Rattle.smv_core.specs.declared.flat.FlatExpr.{FlatExpr}
 use Rattle.smv_core.specs.declared.flat.Guard.{Guard}
-use Rattle.law_obligations.specs.Sets.{Has}
 use Rattle.law_obligations.specs.Places.{Place, named, World, same_place, is_named, is_among, places_in}
-use Rattle.law_obligations.specs.May.{AbsState, Kept, seen, may}
+use Rattle.law_obligations.specs.May.{AbsState, Kept, seen}
 use Rattle.law_obligations.specs.Right.{may_allow, must_allow, is_outside}
 use Rattle.law_obligations.specs.Results.{results}
-use Rattle.law_obligations.specs.Demands.{concerns_place, or_else, may_equal, may_give, must_give, may_keep, must_keep, may_step, must_step, may_be, must_be, places_of_family, is_defined, is_broken_map}
+use Rattle.law_obligations.specs.Demands.{concerns_place, or_else, may_equal, may_give, must_give, may_keep, must_keep, may_step, must_step, may_be, must_be, places_of_family}
 use Rattle.law_obligations.specs.Obligations.{Demanded, defined, holds, AbstractProblem, is_met, is_broken, may_hold, obligation}
-use Rattle.law_obligations.specs.Cones.{AbsElement}
-use Rattle.law_reads.specs.Reading.{TellSame, KeepsElements, HaveValues, read_in, read_of, read_now, read_before, read_by_guards, is_at_once, OwnSame, NowSame, BeforeSame}
+use Rattle.law_obligations.specs.Pictures.{KeepsNamed}
+use Rattle.law_reads.specs.Reading.{TellSame, HaveValues, read_in, read_of, read_by_guards, is_at_once, NowSame, BeforeSame}
 use Rattle.law_reads.proofs.Lists.{all_in, all_same}
 use Rattle.law_reads.proofs.Outcomes as outcome
 use Rattle.law_reads.proofs.RightSides.{may_allow_same, must_allow_same}
@@ -30,7 +27,7 @@ nothing_same : (nothing others : Place → Bool) (p : Place) → nothing p ≡ o
 nothing_same nothing others p e None = e
 nothing_same nothing others p e (Some result) = refl
 
-module _ (w : World) (have : HaveValues w) (kept other : Kept) (keeps : KeepsElements w kept) (keeps_other : KeepsElements w other) where
+module _ (w : World) (have : HaveValues w) (kept other : Kept) (keeps : KeepsNamed w kept) (keeps_other : KeepsNamed w other) where
   -- ---- what a part of a definition may give, and what it gives for certain
 
   module _ (def : Def) (indexes every : List Place) where
@@ -90,7 +87,7 @@ module _ (w : World) (have : HaveValues w) (kept other : Kept) (keeps : KeepsEle
 
 -- ---- demands and targets
 
-module _ (p : AbstractProblem) (other : Kept) (have : HaveValues p.world) (keeps : KeepsElements p.world p.kept) (keeps_other : KeepsElements p.world other) where
+module _ (p : AbstractProblem) (other : Kept) (have : HaveValues p.world) (keeps : KeepsNamed p.world p.kept) (keeps_other : KeepsNamed p.world other) where
   abbrev q : AbstractProblem
   q = record p { kept = other }
 

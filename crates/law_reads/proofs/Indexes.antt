@@ -1,9 +1,9 @@
 -- What the text tells of an index is its only outcome, and the elements that a reference reads are all that it may be of.
-use Rattle.std.proofs.Common.{◌≡◌, ℕ, List, [], ◌∷◌, map, length, Bool, true, false, cond, refl, sym, ap, subst, ◌∙◌, Option, Some, None, if◌then◌else◌}
+use Rattle.std.proofs.Common.{◌≡◌, ℕ, List, [], ◌∷◌, map, Bool, true, false, cond, refl, sym, ap, subst, ◌∙◌, Option, Some, None, if◌then◌else◌}
 use Rattle.std.specs.Prelude.{option_map}
 use Rattle.std.specs.List.{slice_get, zip}
 use Rattle.law_lists.proofs.Options.{some_is}
-use Rattle.smv_core.specs.Values.{numbers_from, Outcome, add, modulo}
+use Rattle.smv_core.specs.Values.{Outcome, add, modulo}
 use Rattle.smv_core.specs.Assignments.{Index, fixed, bare, computed, add_fixed, modulo_fixed}
 use Rattle.smv_core.specs.FlatMeaning.{flat_index, flat_index_sum}
 use Rattle.smv_core.specs.declared.flat.Simple.{Simple}
@@ -12,15 +12,15 @@ use Rattle.smv_core.specs.declared.flat.FlatExpr.{FlatExpr, Number, Var, Loop, S
 use Rattle.law_obligations.specs.Sets.{Has, one_of_each, pairs, all_there}
 use Rattle.law_obligations.specs.Places.{Place, named, same_place, is_among, World, named_in, places_in, AbsOutcome, valued, as_place}
 use Rattle.law_obligations.specs.May.{AbsState, Kept, place_within, places_at, may_read, may, may_each, may_sum}
-use Rattle.law_obligations.specs.Soundness.{over_of}
 use Rattle.law_obligations.specs.Reads.{indexes_read, is_bound_to}
 use Rattle.law_obligations.specs.ReadOutcomes.{within_all}
-use Rattle.law_obligations.specs.Cones.{AbsElement, element, index_places, each_index, elements_of, elements, elements_in, elements_at}
+use Rattle.law_obligations.specs.Cones.{element, index_places}
 use Rattle.law_obligations.proofs.Same.{same_place-itself}
-use Rattle.law_obligations.proofs.Members.{Has-map, Has-from_map, one_of_one}
+use Rattle.law_obligations.proofs.Members.{Has-map, one_of_one}
 use Rattle.law_obligations.proofs.Lookups.{Has-filter}
-use Rattle.law_obligations.proofs.OneOfEach.{AreOf, are_of, one_of, Has-from_flat_map}
-use Rattle.law_reads.specs.Reading.{told, TellSame, KeepsElements}
+use Rattle.law_obligations.proofs.OneOfEach.{AreOf, are_of, one_of}
+use Rattle.law_obligations.specs.Pictures.{AreNamedOf, KeepsNamed}
+use Rattle.law_reads.specs.Reading.{each_given, elements_given_in, elements_given, told, TellSame}
 
 -- ---- what is known of an index
 
@@ -107,30 +107,26 @@ in_places w kept a e b ps u p h is k = at (flat_index e) (index_is w kept a e b)
     at computed o = k
 
 module _ (w : World) (kept : Kept) (a : AbsState) where
-  chosen : {m : _} (row : Row_of-FlatExpr m) (b : List Place) (over : List Simple) (us : List AbsOutcome) (ps : List Place) → AreOf (may_each w kept a row b) us → within_all w over us ≡ Some ps →
-      AreOf (map (named_in w) over) ps → AreOf (each_index b (indexes_read row) (map (named_in w) over)) ps
-  chosen end_of-FlatExpr b over us ps h e n = n
-  chosen (more_of-FlatExpr x others) b [] us ps h e n = n
+  chosen : {m : _} (row : Row_of-FlatExpr m) (b : List Place) (over : List Simple) (us : List AbsOutcome) (ps : List Place) → AreOf (may_each w kept a row b) us → within_all w over us ≡ Some ps → AreNamedOf w over ps →
+      AreOf (each_given b (indexes_read row) (map (named_in w) over)) ps
+  chosen end_of-FlatExpr b [] [] ps h e n = subst (AreOf []) (some_is e) tt
+  chosen end_of-FlatExpr b [] (u ∷ us) ps h e n = absurd h
+  chosen end_of-FlatExpr b (t ∷ over) [] ps h e n = subst (AreOf []) (some_is e) tt
+  chosen end_of-FlatExpr b (t ∷ over) (u ∷ us) ps h e n = absurd h
+  chosen (more_of-FlatExpr x others) b [] us ps h e n = subst (AreOf []) (some_is e) tt
   chosen (more_of-FlatExpr x others) b (t ∷ over) [] ps h e n = absurd h
   chosen (more_of-FlatExpr x others) b (t ∷ over) (u ∷ us) ps h e n =
       let r = are_first (place_within (places_in w t) u) (map (λ (t, u). place_within (places_in w t) u) (zip over us)) ps e in
-      let all : AreOf (map (named_in w) (t ∷ over)) (r.head ∷ r.rest) = subst (AreOf (map (named_in w) (t ∷ over))) r.both n in
-      subst (AreOf (each_index b (flat_index x ∷ indexes_read others) (map (named_in w) (t ∷ over)))) (sym r.both)
+      let all : AreNamedOf w (t ∷ over) (r.head ∷ r.rest) = subst (AreNamedOf w (t ∷ over)) r.both n in
+      subst (AreOf (each_given b (flat_index x ∷ indexes_read others) (map (named_in w) (t ∷ over)))) (sym r.both)
       (in_places w kept a x b (named_in w t) u r.head h.0 (is_within (places_in w t) u r.head r.head_is) all.0, chosen others b over us r.rest h.1 r.rest_is all.1)
 
-  -- an element that a reference finds, where it is one of the case, is one that it reads
+  -- an element that a reference finds, where its indexes are numbers and classes, is one that it reads
   found : {m : _} (family : ℕ) (f : Family) (row : Row_of-FlatExpr m) (b : List Place) (us : List AbsOutcome) (ps : List Place) → slice_get w.classes.families family ≡ Some f →
-      Has (one_of_each (may_each w kept a row b)) us → within_all w f.over us ≡ Some ps → Has (elements w) (element family ps) → Has (elements_at w family (indexes_read row) b) (element family ps)
-  found family f row b us ps there h e k =
-      let r = Has-from_flat_map (elements_of w) (numbers_from 0 (length w.classes.families)) k in
-      let q = Has-from_map (element r.0) (one_of_each (map (named_in w) (over_of (slice_get w.classes.families r.0)))) r.2 in
-      let number : r.0 ≡ family = sym (ap (λ (x : AbsElement). x.family) q.2) in
-      let indexes : q.0 ≡ ps = sym (ap (λ (x : AbsElement). x.indexes) q.2) in
-      let over : over_of (slice_get w.classes.families r.0) ≡ f.over = ap (λ (n : ℕ). over_of (slice_get w.classes.families n)) number ∙ ap over_of there in
-      let are : AreOf (map (named_in w) f.over) ps = subst (λ o. AreOf (map (named_in w) o) ps) over
-      (subst (AreOf (map (named_in w) (over_of (slice_get w.classes.families r.0)))) indexes (are_of (map (named_in w) (over_of (slice_get w.classes.families r.0))) q.0 q.1)) in
-      subst (λ o. Has (elements_in w family (indexes_read row) b o) (element family ps)) (sym there)
-      (Has-map (element family) (one_of (each_index b (indexes_read row) (map (named_in w) f.over)) ps (chosen row b f.over us ps (are_of (may_each w kept a row b) us h) e are)))
+      Has (one_of_each (may_each w kept a row b)) us → within_all w f.over us ≡ Some ps → AreNamedOf w f.over ps → Has (elements_given w family (indexes_read row) b) (element family ps)
+  found family f row b us ps there h e n =
+      subst (λ o. Has (elements_given_in w family (indexes_read row) b o) (element family ps)) (sym there)
+      (Has-map (element family) (one_of (each_given b (indexes_read row) (map (named_in w) f.over)) ps (chosen row b f.over us ps (are_of (may_each w kept a row b) us h) e n)))
 
 -- ---- what is read there
 
@@ -146,20 +142,20 @@ is_by_told w kept a family f ps = at (kept family ps)
     at true = refl
     at false = refl
 
-module _ (w : World) (kept other : Kept) (a d : AbsState) (keeps : KeepsElements w kept) (keeps_other : KeepsElements w other) where
+module _ (w : World) (kept other : Kept) (a d : AbsState) (keeps : KeepsNamed w kept) (keeps_other : KeepsNamed w other) where
   -- where what is read is told the same, what is found is the same
   tells : {m : _} (family : ℕ) (f : Family) (row : Row_of-FlatExpr m) (b : List Place) (us : List AbsOutcome) (ps : List Place) → slice_get w.classes.families family ≡ Some f →
-      Has (one_of_each (may_each w kept a row b)) us → within_all w f.over us ≡ Some ps → TellSame kept a other d (elements_at w family (indexes_read row) b) →
+      Has (one_of_each (may_each w kept a row b)) us → within_all w f.over us ≡ Some ps → TellSame kept a other d (elements_given w family (indexes_read row) b) →
       told kept a (element family ps) ≡ told other d (element family ps)
   tells family f row b us ps there h e same = at (kept family ps) refl (other family ps) refl
     where
       at : (t : Bool) → kept family ps ≡ t → (s : Bool) → other family ps ≡ s → told kept a (element family ps) ≡ told other d (element family ps)
-      at true k s l = same (element family ps) (found w kept a family f row b us ps there h e (keeps family ps k))
-      at false k true l = same (element family ps) (found w kept a family f row b us ps there h e (keeps_other family ps l))
+      at true k s l = same (element family ps) (found w kept a family f row b us ps there h e (keeps family f there ps k))
+      at false k true l = same (element family ps) (found w kept a family f row b us ps there h e (keeps_other family f there ps l))
       at false k false l = rw (k, l) refl
 
   pub read_same : {m : _} (family : ℕ) (row : Row_of-FlatExpr m) (b : List Place) (us : List AbsOutcome) → Has (one_of_each (may_each w kept a row b)) us →
-      TellSame kept a other d (elements_at w family (indexes_read row) b) → may_read w kept a family (slice_get w.classes.families family) us ≡ may_read w other d family (slice_get w.classes.families family) us
+      TellSame kept a other d (elements_given w family (indexes_read row) b) → may_read w kept a family (slice_get w.classes.families family) us ≡ may_read w other d family (slice_get w.classes.families family) us
   read_same family row b us h same = at (slice_get w.classes.families family) refl
     where
       at : (o : Option Family) → slice_get w.classes.families family ≡ o → may_read w kept a family o us ≡ may_read w other d family o us

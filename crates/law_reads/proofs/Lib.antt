@@ -4,4 +4,3 @@ pub mod Outcomes
 pub mod RightSides
 pub mod Results
 pub mod Demands
-pub mod Kept

@@ -9,17 +9,18 @@ use Rattle.law_obligations.specs.Sets.{Has, one_of_each, pairs}
 use Rattle.law_obligations.specs.Places.{Place, World, named, named_in, rests_in, places_in, AbsOutcome, valued, as_place, equal_places, where_defined, may_compare, bind_place}
 use Rattle.law_obligations.specs.May.{AbsState, Kept, seen, shown, quantified, may_read, may, may_each, may_sum, may_listed, may_members}
 use Rattle.law_obligations.specs.Reads.{indexes_read, reads_each, reads_signed, reads_members}
-use Rattle.law_obligations.specs.Cones.{AbsElement, elements_at}
+use Rattle.law_obligations.specs.Cones.{AbsElement}
 use Rattle.law_obligations.proofs.Members.{Has-left, Has-right, Has-flat_map}
 use Rattle.law_obligations.proofs.CoverParams.{map-same}
-use Rattle.law_reads.specs.Reading.{TellSame, KeepsElements, read_in}
+use Rattle.law_obligations.specs.Pictures.{KeepsNamed}
+use Rattle.law_reads.specs.Reading.{elements_given, TellSame, read_in}
 use Rattle.law_reads.proofs.Lists.{flat_map_in}
 use Rattle.law_reads.proofs.Indexes.{read_same}
 
 pub both_same : {X Y Z : Type 0} (f : X → Y → Z) (u v : X) (x y : Y) → u ≡ v → x ≡ y → f u x ≡ f v y
 both_same f u v x y d e = ap (λ z. f z x) d ∙ ap (f v) e
 
-module _ (w : World) (kept other : Kept) (a d : AbsState) (keeps : KeepsElements w kept) (keeps_other : KeepsElements w other) where
+module _ (w : World) (kept other : Kept) (a d : AbsState) (keeps : KeepsNamed w kept) (keeps_other : KeepsNamed w other) where
   abbrev pub Same : List AbsElement → Type 0
   Same xs = TellSame kept a other d xs
 
@@ -33,13 +34,13 @@ module _ (w : World) (kept other : Kept) (a d : AbsState) (keeps : KeepsElements
   same_at f xs h p k x l = h x (Has-flat_map f k l)
 
   abbrev each : {m : _} → Row_of-FlatExpr m → List Place → List AbsElement
-  each row b = reads_each (places_in w) (elements_at w) row b
+  each row b = reads_each (places_in w) (elements_given w) row b
 
   abbrev signed : {m : _} → Row_of-FlatSigned m → List Place → List AbsElement
-  signed row b = reads_signed (places_in w) (elements_at w) row b
+  signed row b = reads_signed (places_in w) (elements_given w) row b
 
   abbrev pub members : {m : _} → Row_of-FlatMember m → List Place → List AbsElement
-  members row b = reads_members (places_in w) (elements_at w) row b
+  members row b = reads_members (places_in w) (elements_given w) row b
 
   -- a quantifier, by what its body may be at each place of the type
   quantified_same : (join : List Truth → Truth) (f g : Place → List AbsOutcome) (ps rs : List Place) → ((p : Place) → Has (ps ++ rs) p → f p ≡ g p) → quantified join (map f ps) (flat_map f rs) ≡ quantified join (map g ps) (flat_map g rs)
@@ -51,8 +52,8 @@ module _ (w : World) (kept other : Kept) (a d : AbsState) (keeps : KeepsElements
     may_same (Number value place) b h = refl
     may_same (Read' family shape indexes place) b h =
         flat_map_in (may_read w kept a family (slice_get w.classes.families family)) (may_read w other d family (slice_get w.classes.families family)) (one_of_each (may_each w kept a indexes b))
-        (λ us k. read_same w kept other a d keeps keeps_other family indexes b us k (same_left (elements_at w family (indexes_read indexes) b) (each indexes b) h))
-        ∙ ap (λ uss. flat_map (may_read w other d family (slice_get w.classes.families family)) (one_of_each uss)) (each_same indexes b (same_right (elements_at w family (indexes_read indexes) b) (each indexes b) h))
+        (λ us k. read_same w kept other a d keeps keeps_other family indexes b us k (same_left (elements_given w family (indexes_read indexes) b) (each indexes b) h))
+        ∙ ap (λ uss. flat_map (may_read w other d family (slice_get w.classes.families family)) (one_of_each uss)) (each_same indexes b (same_right (elements_given w family (indexes_read indexes) b) (each indexes b) h))
     may_same (Var var place) b h = refl
     may_same (Loop value place) b h = refl
     may_same (Constant list value place) b h = refl

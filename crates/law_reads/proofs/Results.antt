@@ -1,13 +1,12 @@
 -- A definition has the same possible results for an element in states that tell the same of what it reads for it.
-use Rattle.std.proofs.Common.{◌≡◌, ℕ, List, [], ◌∷◌, ◌++◌, map, Bool, true, false, not, ◌||◌, inl, inr, refl, sym, ap, subst, ◌∙◌, Option, Some, None, if◌then◌else◌}
+use Rattle.std.proofs.Common.{◌≡◌, List, [], ◌∷◌, ◌++◌, map, Bool, true, false, not, ◌||◌, inl, inr, refl, sym, ap, subst, ◌∙◌, Option, Some, None, if◌then◌else◌}
 use Rattle.std.proofs.lemmas.Bool.{cases_Bool}
 use Rattle.std.specs.Prelude.{is_none}
-use Rattle.std.specs.List.{flat_map, slice_get, zip, list_any}
+use Rattle.std.specs.List.{flat_map, zip, list_any}
 use Rattle.law_lists.proofs.Anys.{any-map, any-flat_map, any-agree}
 use Rattle.law_lists.proofs.Booleans.{not_left, not_right, either_left, either_right}
 use Rattle.law_obligations.proofs.CoverParams.{map-same}
 use Rattle.smv_core.specs.Values.{Truth}
-use Rattle.smv_core.specs.Outcome.{branch}
 use Rattle.smv_core.specs.Assignments.{Index, fixed, bare, computed}
 use Rattle.smv_core.specs.FlatMeaning.{flat_index}
 use Rattle.smv_core.specs.declared.flat.FlatExpr.{FlatExpr}
@@ -15,14 +14,15 @@ use Rattle.smv_core.specs.declared.flat.DefBody.{DefBody, Nothing, Assign, If', 
 use Rattle.law_obligations.specs.Sets.{Has, first, later, one_of_each, pairs}
 use Rattle.law_obligations.specs.Places.{Place, World, places_in, AbsOutcome, bind_place}
 use Rattle.law_obligations.specs.May.{AbsState, Kept, seen, may}
-use Rattle.law_obligations.specs.Results.{first_of, first_result, unless_both_nothing, taken, is_elsewhere, assigned, results, results_each}
-use Rattle.law_obligations.specs.Reads.{has_counting, have_counting, part_reads, parts_read}
-use Rattle.law_obligations.specs.Cones.{AbsElement, elements_at}
+use Rattle.law_obligations.specs.Results.{first_of, first_result, taken, is_elsewhere, assigned, results, results_each}
+use Rattle.law_obligations.specs.Reads.{has_counting, have_counting, parts_read}
+use Rattle.law_obligations.specs.Cones.{AbsElement}
 use Rattle.law_obligations.proofs.Anys.{any-choices}
 use Rattle.law_obligations.proofs.Filled.{Filled, AllFilled, has_choice, filled_each, may_filled}
 use Rattle.law_obligations.proofs.OneOfEach.{AreOf, are_of}
 use Rattle.law_obligations.proofs.Members.{Has-choices, one_of_one}
-use Rattle.law_reads.specs.Reading.{TellSame, known_at, may_be_of, KeepsElements, HaveValues, read_in, read_of}
+use Rattle.law_obligations.specs.Pictures.{KeepsNamed}
+use Rattle.law_reads.specs.Reading.{elements_given, TellSame, known_at, may_be_of, HaveValues, read_in, read_of}
 use Rattle.law_reads.specs.Laws.{PassSame}
 use Rattle.law_reads.proofs.Lists.{any_in, AllPassSame, choices_same, map_passes, any-pair, pairs_pass}
 use Rattle.law_reads.proofs.Indexes.{OutcomeIs, index_is}
@@ -148,7 +148,7 @@ all_pass : {X Y : Type 0} (f g : Y → List X) (ys : List Y) → ((y : Y) → Ha
 all_pass f g [] h = tt
 all_pass f g (y ∷ ys) h = (h y first, all_pass f g ys (λ z k. h z (later k)))
 
-module _ (w : World) (have : HaveValues w) (kept other : Kept) (a d : AbsState) (keeps : KeepsElements w kept) (keeps_other : KeepsElements w other) (indexes : List Place) {X : Type 0} (everything : X)
+module _ (w : World) (have : HaveValues w) (kept other : Kept) (a d : AbsState) (keeps : KeepsNamed w kept) (keeps_other : KeepsNamed w other) (indexes : List Place) {X : Type 0} (everything : X)
     (right others : FlatExpr → List Place → X) (right_same : (e : FlatExpr) (b : List Place) → TellSame kept a other d (read_in w e b) → right e b ≡ others e b) where
   abbrev Same : List AbsElement → Type 0
   Same xs = TellSame kept a other d xs
@@ -157,7 +157,7 @@ module _ (w : World) (have : HaveValues w) (kept other : Kept) (a d : AbsState) 
   read part b = read_of w indexes part b
 
   abbrev read_some : {m : _} → Row_of-DefBody m → List Place → List AbsElement
-  read_some row b = parts_read (places_in w) (may_be_of indexes) (places_in w) (elements_at w) row b
+  read_some row b = parts_read (places_in w) (may_be_of indexes) (places_in w) (elements_given w) row b
 
   abbrev counts : DefBody → List Place → Bool
   counts part b = has_counting (places_in w) (may_be_of indexes) part b

@@ -1,22 +1,23 @@
 -- What a right side may allow, and what it allows for certain, is the same in states that tell the same of what it reads.
-use Rattle.std.proofs.Common.{◌≡◌, List, [], ◌∷◌, ◌++◌, map, Bool, not, ◌&&◌, ◌||◌, refl, ap, ◌∙◌, Some, None}
-use Rattle.std.specs.List.{flat_map, list_any, list_all}
-use Rattle.law_lists.proofs.Booleans.{and_alike, or_alike}
+use Rattle.std.proofs.Common.{◌≡◌, List, ◌++◌, map, not, ◌&&◌, ◌||◌, refl, ap, ◌∙◌, Some}
+use Rattle.std.specs.List.{list_any, list_all}
+use Rattle.law_lists.proofs.Booleans.{or_alike}
 use Rattle.smv_core.specs.Outcome.{branch, is_true}
 use Rattle.smv_core.specs.declared.flat.FlatMember.{One, Span as SpanOf}
-use Rattle.smv_core.specs.declared.flat.FlatExpr.{FlatExpr, Choose', List', Each', Held-FlatExpr-Each-2, None', Some', Row_of-FlatExpr, end_of-FlatExpr, more_of-FlatExpr, Row_of-FlatMember, end_of-FlatMember, more_of-FlatMember}
+use Rattle.smv_core.specs.declared.flat.FlatExpr.{FlatExpr, Choose', List', Each', Held-FlatExpr-Each-2, None', Some', end_of-FlatExpr, more_of-FlatExpr, Row_of-FlatMember, end_of-FlatMember, more_of-FlatMember}
 use Rattle.law_obligations.specs.Sets.{Has}
-use Rattle.law_obligations.specs.Places.{Place, World, same_place, is_among, named_in, rests_in, places_in, AbsOutcome, bind_place}
+use Rattle.law_obligations.specs.Places.{Place, World, same_place, is_among, named_in, rests_in, places_in, bind_place}
 use Rattle.law_obligations.specs.May.{AbsState, Kept, seen, may, may_members}
 use Rattle.law_obligations.specs.Right.{gives, is_outside, gives_surely, gives_only, may_give_some, chosen_surely, may_meet, must_meet, may_allow, must_allow, must_give_some}
 use Rattle.law_obligations.specs.Reads.{reads_held}
-use Rattle.law_obligations.specs.Cones.{AbsElement, elements_at}
+use Rattle.law_obligations.specs.Cones.{AbsElement}
 use Rattle.law_obligations.proofs.Members.{Has-left}
-use Rattle.law_reads.specs.Reading.{TellSame, KeepsElements, read_in}
+use Rattle.law_obligations.specs.Pictures.{KeepsNamed}
+use Rattle.law_reads.specs.Reading.{elements_given, TellSame, read_in}
 use Rattle.law_reads.proofs.Lists.{any_in, all_in}
 use Rattle.law_reads.proofs.Outcomes as outcome
 
-module _ (w : World) (kept other : Kept) (a d : AbsState) (keeps : KeepsElements w kept) (keeps_other : KeepsElements w other) where
+module _ (w : World) (kept other : Kept) (a d : AbsState) (keeps : KeepsNamed w kept) (keeps_other : KeepsNamed w other) where
   abbrev Same : List AbsElement → Type 0
   Same xs = TellSame kept a other d xs
 
@@ -30,7 +31,7 @@ module _ (w : World) (kept other : Kept) (a d : AbsState) (keeps : KeepsElements
   may_same = outcome.may_same w kept other a d keeps keeps_other
 
   abbrev held : Held-FlatExpr-Each-2 → List Place → List AbsElement
-  held cond b = reads_held (places_in w) (elements_at w) cond b
+  held cond b = reads_held (places_in w) (elements_given w) cond b
 
   abbrev members : {m : _} → Row_of-FlatMember m → List Place → List AbsElement
   members row b = outcome.members w kept other a d keeps keeps_other row b

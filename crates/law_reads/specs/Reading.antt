@@ -1,18 +1,18 @@
 -- What expressions and demands read of a state, at the rests of a type too, and states that tell the same of it.
-use Rattle.std.specs.Prelude.{◌≡◌, ℕ, List, [], map, flat_map, zip, slice_get, Option, Some, None, Bool, true, not, if◌then◌else◌}
+use Rattle.std.specs.Prelude.{◌≡◌, ℕ, List, [], ◌∷◌, map, flat_map, zip, slice_get, Option, Some, None, Bool, true, not, if◌then◌else◌}
 use Rattle.std.specs.List.{list_any}
 use Rattle.smv_core.specs.Assignments.{Index, fixed, bare, computed}
 use Rattle.smv_core.specs.declared.flat.Family.{Family}
 use Rattle.smv_core.specs.declared.flat.DefBody.{DefBody}
 use Rattle.smv_core.specs.declared.flat.FlatExpr.{FlatExpr}
-use Rattle.law_obligations.specs.Sets.{Has}
-use Rattle.law_obligations.specs.Places.{Place, World, places_in, AbsOutcome, as_place}
+use Rattle.law_obligations.specs.Sets.{Has, one_of_each}
+use Rattle.law_obligations.specs.Places.{Place, World, named_in, places_in, AbsOutcome, as_place}
 use Rattle.law_obligations.specs.May.{AbsState, Kept}
 use Rattle.law_obligations.specs.Reads.{reads, part_reads}
 use Rattle.law_obligations.specs.Results.{is_elsewhere}
 use Rattle.law_obligations.specs.Demands.{concerns_place}
 use Rattle.law_obligations.specs.Obligations.{Demanded, defined, holds, AbstractProblem}
-use Rattle.law_obligations.specs.Cones.{AbsElement, element, elements, elements_at}
+use Rattle.law_obligations.specs.Cones.{AbsElement, element, index_places}
 
 -- what a state tells of an element: its value, where it is kept
 abbrev pub told : Kept → AbsState → AbsElement → Option Place
@@ -32,22 +32,31 @@ known_at b computed = None
 abbrev pub may_be_of : List Place → List Index → List Place → Bool
 may_be_of indexes left b = not (list_any (λ (i, q). is_elsewhere (known_at b i) q) (zip left indexes))
 
-module _ (w : World) where
-  -- only elements of a case are kept, which have one index for each type, all numbers and classes
-  abbrev pub KeepsElements : Kept → Type 0
-  KeepsElements kept = (family : ℕ) (ps : List Place) → kept family ps ≡ true → Has (elements w) (element family ps)
+-- for each index that is given the places where it may lie, of those of its type
+abbrev pub each_given : List Place → List Index → List (List Place) → List (List Place)
+each_given b (i ∷ indexes) (ps ∷ pss) = index_places b i ps ∷ each_given b indexes pss
+each_given b _ _ = []
 
+module _ (w : World) where
   -- the type of each family has a value
   abbrev pub HaveValues : Type 0
   HaveValues = (family : ℕ) (f : Family) → slice_get w.classes.families family ≡ Some f → (v : Place) × Has (places_in w f.value) v
 
+  -- the elements that a reference reads, with as many indexes as it gives: a constant and a bound variable lie at their own place, if it is a number or a class
+  abbrev pub elements_given_in : ℕ → List Index → List Place → Option Family → List AbsElement
+  elements_given_in family indexes b None = []
+  elements_given_in family indexes b (Some f) = map (element family) (one_of_each (each_given b indexes (map (named_in w) f.over)))
+
+  abbrev pub elements_given : ℕ → List Index → List Place → List AbsElement
+  elements_given family indexes b = elements_given_in family indexes b (slice_get w.classes.families family)
+
   -- the elements that an expression reads where its variables are bound to these places; quantifiers and comprehensions go over the rests of a type too
   abbrev pub read_in : FlatExpr → List Place → List AbsElement
-  read_in e b = reads (places_in w) (elements_at w) e b
+  read_in e b = reads (places_in w) elements_given e b
 
   -- those that a part of a definition reads for the element of these indexes, with so many variables bound
   abbrev pub read_of : List Place → DefBody → List Place → List AbsElement
-  read_of indexes part b = part_reads (places_in w) (may_be_of indexes) (places_in w) (elements_at w) part b
+  read_of indexes part b = part_reads (places_in w) (may_be_of indexes) (places_in w) elements_given part b
 
   -- those that a demand reads of the state now, beside the element that it defines: by `:=` where one concerns the element, and else by `init`
   abbrev pub read_now : Demanded → List AbsElement

@@ -1,5 +1,5 @@
 -- Worked reading: what is read at rests, by constants, by `forall` variables and by left sides, and for each condition of the laws a case without it in which what is not read matters.
-use Rattle.std.specs.Prelude.{◌≡◌, ℕ, zero, suc, List, [], ◌∷◌, map, Option, Some, None, Bool, true, false, codes}
+use Rattle.std.specs.Prelude.{◌≡◌, ℕ, List, [], ◌∷◌, map, Option, Some, None, true, false, codes}
 use Rattle.smv_core.specs.Values.{Name, number, scalar}
 use Rattle.smv_core.specs.declared.flat.Simple.{Simple}
 use Rattle.smv_core.specs.declared.flat.Simple.TheVariants.{Range, Set}
@@ -92,9 +92,9 @@ Rests = (read_in small (Read 2 (i ∷ []) 0) (at_rest ∷ []) ≡ [])
     × (may small everything_kept (at_rests 0) (Read 2 (i ∷ []) 0) (at_rest ∷ []) ≡ these (0 ∷ [])) × (may small everything_kept (at_rests 1) (Read 2 (i ∷ []) 0) (at_rest ∷ []) ≡ these (1 ∷ []))
     × (may small (kept []) (at_rests 1) (Read 2 (i ∷ []) 0) (at_rest ∷ []) ≡ these (0 ∷ 1 ∷ []))
 
--- z without an index, which no text has, reads z[0] and z[1]; were an element without index kept, it would matter, and these two would not
+-- z without an index, which no text has, reads what it then finds, and neither z[0] nor z[1]
 abbrev pub FewIndexes : Type 0
-FewIndexes = (read_in small (Read 1 [] 0) [] ≡ at 1 0 ∷ at 1 1 ∷ []) × (told everything_kept (without_index 0) (at 1 0) ≡ told everything_kept (without_index 1) (at 1 0))
+FewIndexes = (read_in small (Read 1 [] 0) [] ≡ it 1 ∷ []) × (told everything_kept (without_index 0) (at 1 0) ≡ told everything_kept (without_index 1) (at 1 0))
     × (may small everything_kept (without_index 0) (Read 1 [] 0) [] ≡ these (0 ∷ [])) × (may small everything_kept (without_index 1) (Read 1 [] 0) [] ≡ these (1 ∷ []))
 
 -- a place as the result of each right side, for the element of these indexes

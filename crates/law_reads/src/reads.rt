@@ -1,11 +1,5 @@
 // Laws of the definitions, each the contract of a function that does nothing.
-ghost use Rattle.law_reads.specs.Laws.{ElementsKeepElements, ConesKeepElements, OutcomesAreSame, AllowedMayBeSame, AllowedMustBeSame, ResultsAreSame, DemandsAreSame, TargetsAreSame};
-
-/// A case that keeps a cone, or other elements of a case, keeps only such.
-pub fn elements_are_kept()
-    ensures elements { ElementsKeepElements }
-    ensures cones { ConesKeepElements }
-{}
+ghost use Rattle.law_reads.specs.Laws.{OutcomesAreSame, AllowedMayBeSame, AllowedMustBeSame, ResultsAreSame, DemandsAreSame, TargetsAreSame};
 
 /// What an expression may be is the same in states that tell the same of the elements that it reads.
 pub fn outcomes_are_same()

@@ -19,11 +19,12 @@ use Rattle.law_reports.specs.CaseLists.{defines, those_of}
 use Rattle.law_arrangements.specs.Arrangements.{Arrangement, put, AgreeBeside, EachBetween, spread, allowed, worked_out, AreWorkedOut, IsDetermined, view}
 use Rattle.law_arrangements.specs.Laws.{gathered}
 use Rattle.law_arrangements.proofs.Views.{all_met, follows, reading_gathered}
-use Rattle.law_reads.specs.Reading.{TellSame, KeepsElements, HaveValues, read_now, OwnSame}
+use Rattle.law_obligations.specs.Pictures.{KeepsNamed}
+use Rattle.law_reads.specs.Reading.{TellSame, HaveValues, read_now, OwnSame}
 use Rattle.law_reads.proofs.Lists.{all_in}
 use Rattle.law_reads.proofs.Demands.{met_same}
 use Rattle.law_wires.proofs.Put.{put_other, put_at, filter_alike}
-use Rattle.law_wires.specs.Tries.{PassesOnce, trying, keeping, meets_with, AreDetermined, IsTry, KeepsBeside}
+use Rattle.law_wires.specs.Tries.{PassesOnce, trying, keeping, meets_with, AreDetermined, IsTry, ReadsDone, KeepsBeside}
 
 -- ---- lists that grow
 
@@ -53,8 +54,8 @@ view_agrees c is order done x left try t worked =
     follows c is done (x ∷ left) try.are_determined try.are_apart (λ y h. try.are_elements y (Has-left (x ∷ left) h)) None (reading c t) (reading c (spread order (gathered o t))) (reading_is_state c is t)
     (reading_is_state c is (spread order (gathered o t))) (all_met c is done (x ∷ left) try.are_determined None (reading c t) (reading_is_state c is t) worked) (reading_gathered c is o try.have_places t)
 
-module _ (c : PosedCase) (is : IsCase c) (keeps : KeepsElements c.problem.world c.problem.kept) (have : HaveValues c.problem.world) (order : List ℕ) (done : List AbsElement) (x : AbsElement) (left : List AbsElement)
-    (try : IsTry c order done x left) where
+module _ (c : PosedCase) (is : IsCase c) (keeps : KeepsNamed c.problem.world c.problem.kept) (have : HaveValues c.problem.world) (order : List ℕ) (done : List AbsElement) (x : AbsElement) (left : List AbsElement)
+    (try : IsTry c order done x left) (reads : ReadsDone c x left) where
   abbrev o : Arrangement
   o = trying order done (x ∷ left)
 
@@ -64,12 +65,12 @@ module _ (c : PosedCase) (is : IsCase c) (keeps : KeepsElements c.problem.world 
   -- ---- what the cells keep
 
   module _ (other : Kept) (beside : KeepsBeside c (x ∷ left) other) where
-    keeps_other : KeepsElements c.problem.world other
-    keeps_other family ps k = elim (cases_Bool (list_any (same_element (element family ps)) (x ∷ left))) [
+    keeps_other : KeepsNamed c.problem.world other
+    keeps_other family f there ps k = elim (cases_Bool (list_any (same_element (element family ps)) (x ∷ left))) [
       | inl e ↦
           let r = any-some (same_element (element family ps)) (x ∷ left) e in
-          keeps family ps (ap (λ (keeps : ℕ → List Place → Bool). keeps family ps) is.are_kept ∙ any-found (same_element (element family ps)) (tried_in r.0 r.1) r.2)
-      | inr e ↦ keeps family ps (sym (beside family ps e) ∙ k)
+          keeps family f there ps (ap (λ (keeps : ℕ → List Place → Bool). keeps family ps) is.are_kept ∙ any-found (same_element (element family ps)) (tried_in r.0 r.1) r.2)
+      | inr e ↦ keeps family f there ps (sym (beside family ps e) ∙ k)
     ]
 
     -- a value meets the demands in one state as it does in another that is the same beside the tried element and those left
@@ -77,11 +78,11 @@ module _ (c : PosedCase) (is : IsCase c) (keeps : KeepsElements c.problem.world 
     same_tests old a b agree v =
         all_in (is_met c.problem old (put x v a)) (is_met (keeping c other) None (put x v b)) (those_of c.problem.now x)
         (λ demand k. met_same c.problem other have keeps keeps_other old None (put x v a) (put x v b) demand (record { tells = tells demand k; own = own demand (Has-from_filter (defines x) c.problem.now k).1 })
-        (λ e. absurd (clash (try.are_at_once demand k) e)))
+        (λ e. absurd (clash (reads.are_at_once demand k) e)))
       where
         tells : (demand : Demanded) → Has (those_of c.problem.now x) demand → TellSame c.problem.kept (put x v a) other (put x v b) (read_now c.problem.world demand)
         tells demand k y h =
-            let none = try.are_read demand k y h in
+            let none = reads.are_read demand k y h in
             let apart : same_element (element y.family y.indexes) x ≡ false = not_left (same_element y x) (list_any (same_element y) left) none in
             ap (λ (p : Place). if c.problem.kept y.family y.indexes then Some p else None) (put_other x v a y.family y.indexes apart ∙ (agree y.family y.indexes none ∙ sym (put_other x v b y.family y.indexes apart)))
             ∙ ap (λ (t : Bool). if t then Some (put x v b y.family y.indexes) else None) (sym (beside y.family y.indexes none))

@@ -12,13 +12,14 @@ use Rattle.law_obligations.proofs.Lookups.{Has-from_filter}
 use Rattle.law_reports.specs.CaseLists.{defines, those_of}
 use Rattle.law_arrangements.specs.Arrangements.{put, AgreeBeside, AgreeBefore, allowed, AreUnread}
 use Rattle.law_arrangements.proofs.Views.{none_flip}
-use Rattle.law_reads.specs.Reading.{TellSame, KeepsElements, HaveValues, read_now, is_at_once, OwnSame, NowSame, BeforeSame}
+use Rattle.law_obligations.specs.Pictures.{KeepsNamed}
+use Rattle.law_reads.specs.Reading.{TellSame, HaveValues, read_now, is_at_once, OwnSame, NowSame, BeforeSame}
 use Rattle.law_reads.proofs.Lists.{all_in}
 use Rattle.law_reads.proofs.Demands.{met_same, target_same}
 use Rattle.law_wires.specs.Idle.{AreOthers, ReadsOthers, AreNotRead}
 use Rattle.law_wires.proofs.Put.{put_other, put_at, filter_alike}
 
-module _ (c : PosedCase) (keeps : KeepsElements c.problem.world c.problem.kept) (have : HaveValues c.problem.world) where
+module _ (c : PosedCase) (keeps : KeepsNamed c.problem.world c.problem.kept) (have : HaveValues c.problem.world) where
   -- states that agree beside some elements tell the same of others
   tells_others : (xs ys : List AbsElement) (a b : AbsState) → AgreeBeside xs a b → AreOthers xs ys → TellSame c.problem.kept a c.problem.kept b ys
   tells_others xs ys a b agree others y h = ap (λ (p : Place). if c.problem.kept y.family y.indexes then Some p else None) (agree y.family y.indexes (others y h))

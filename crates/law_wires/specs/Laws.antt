@@ -11,8 +11,9 @@ use Rattle.law_obligations.specs.Readings.{PosedCase, IsCase, values_of, reading
 use Rattle.law_reports.specs.CaseLists.{those_of}
 use Rattle.law_arrangements.specs.Arrangements.{put, AgreeBeside, allowed, AreWorkedOut, AreUnread, view}
 use Rattle.law_arrangements.specs.Laws.{gathered}
-use Rattle.law_reads.specs.Reading.{KeepsElements, HaveValues, read_now}
-use Rattle.law_wires.specs.Tries.{PassAlone, PassesOnce, trying, meets_with, AreDetermined, IsTry, KeepsBeside}
+use Rattle.law_obligations.specs.Pictures.{KeepsNamed}
+use Rattle.law_reads.specs.Reading.{HaveValues, read_now}
+use Rattle.law_wires.specs.Tries.{PassAlone, PassesOnce, trying, meets_with, AreDetermined, IsTry, ReadsDone, KeepsBeside}
 use Rattle.law_wires.specs.Idle.{AreOthers, AreNotRead}
 
 -- where some member passes a test and each alone, exactly one does
@@ -26,22 +27,22 @@ StatesAreViews = (c : PosedCase) → IsCase c → (order : List ℕ) (done : Lis
 
 -- Where at each assignment of places exactly one value of the tried element meets its demands, read by cells that keep beside it and those left what the case keeps, it is determined behind those done.
 abbrev pub TriedAreDetermined : Type 0
-TriedAreDetermined = (c : PosedCase) → IsCase c → KeepsElements c.problem.world c.problem.kept → HaveValues c.problem.world →
-    (order : List ℕ) (done : List AbsElement) (x : AbsElement) (left : List AbsElement) → IsTry c order done x left → (other : Kept) → KeepsBeside c (x ∷ left) other →
+TriedAreDetermined = (c : PosedCase) → IsCase c → KeepsNamed c.problem.world c.problem.kept → HaveValues c.problem.world →
+    (order : List ℕ) (done : List AbsElement) (x : AbsElement) (left : List AbsElement) → IsTry c order done x left → ReadsDone c x left → (other : Kept) → KeepsBeside c (x ∷ left) other →
     ((s : Bits) → PassesOnce (meets_with c other (view c (trying order done (x ∷ left)) s) x) (values_of c.problem.world x)) → AreDetermined c (done ++ x ∷ []) left
 
 -- and at an assignment the value that does so is its own, where all else is as it was
 abbrev pub TriedHaveValues : Type 0
-TriedHaveValues = (c : PosedCase) → IsCase c → KeepsElements c.problem.world c.problem.kept → HaveValues c.problem.world →
-    (order : List ℕ) (done : List AbsElement) (x : AbsElement) (left : List AbsElement) → IsTry c order done x left → (other : Kept) → KeepsBeside c (x ∷ left) other →
+TriedHaveValues = (c : PosedCase) → IsCase c → KeepsNamed c.problem.world c.problem.kept → HaveValues c.problem.world →
+    (order : List ℕ) (done : List AbsElement) (x : AbsElement) (left : List AbsElement) → IsTry c order done x left → ReadsDone c x left → (other : Kept) → KeepsBeside c (x ∷ left) other →
     (s : Bits) (v : Place) → filter (meets_with c other (view c (trying order done (x ∷ left)) s) x) (values_of c.problem.world x) ≡ v ∷ [] → view c (trying order (done ++ x ∷ []) left) s ≡ put x v (view c (trying order done (x ∷ left)) s)
 
 -- nothing depends on elements that nothing reads
 abbrev pub NotReadAreUnread : Type 0
-NotReadAreUnread = (c : PosedCase) → KeepsElements c.problem.world c.problem.kept → HaveValues c.problem.world → (xs : List AbsElement) → AreNotRead c xs → AreUnread c xs
+NotReadAreUnread = (c : PosedCase) → KeepsNamed c.problem.world c.problem.kept → HaveValues c.problem.world → (xs : List AbsElement) → AreNotRead c xs → AreUnread c xs
 
 -- an element's demands allow the same values whatever it and other elements are now, where they read none of these now
 abbrev pub AllowedAreSame : Type 0
-AllowedAreSame = (c : PosedCase) → KeepsElements c.problem.world c.problem.kept → HaveValues c.problem.world → (demands : List Demanded) (x : AbsElement) (left : List AbsElement) →
+AllowedAreSame = (c : PosedCase) → KeepsNamed c.problem.world c.problem.kept → HaveValues c.problem.world → (demands : List Demanded) (x : AbsElement) (left : List AbsElement) →
     ((demand : Demanded) → Has (those_of demands x) demand → AreOthers (x ∷ left) (read_now c.problem.world demand)) →
     (old : Option AbsState) (a b : AbsState) → AgreeBeside (x ∷ left) a b → allowed c demands old a x ≡ allowed c demands old b x

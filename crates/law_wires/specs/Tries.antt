@@ -38,13 +38,15 @@ module _ (c : PosedCase) where
   abbrev pub AreDetermined : List AbsElement → List AbsElement → Type 0
   AreDetermined done left = EachBetween (λ before behind x. IsDetermined c before (behind ++ left) x) [] done
 
-  -- These elements have no bits: those that are done, one that is tried, and those that are left; all others have places. The ones done are determined, and the tried one's demands are of the
-  -- state now alone and read neither it nor one that is left.
+  -- These elements have no bits: those that are done, which are determined, one that is tried, and those that are left; all others have places.
   pub record IsTry (order : List ℕ) (done : List AbsElement) (x : AbsElement) (left : List AbsElement) : Type 0 where
     pub are_elements : (y : AbsElement) → Has (done ++ x ∷ left) y → Has c.elements y
     pub are_apart : EachWith (λ behind y. list_any (same_element y) behind ≡ false) (done ++ x ∷ left)
     pub have_places : (slot : Slot) → Has (slots c) slot → list_any (same_element slot.element) (done ++ x ∷ left) ≡ false → (i : ℕ) → i < bits_of c.problem.world slot.element → Has order (slot.bit + i)
     pub are_determined : AreDetermined done (x ∷ left)
+
+  -- an element's demands are of the state now alone, and read neither it nor one of those that are left
+  pub record ReadsDone (x : AbsElement) (left : List AbsElement) : Type 0 where
     pub are_at_once : (demand : Demanded) → Has (those_of c.problem.now x) demand → is_at_once demand ≡ true
     pub are_read : (demand : Demanded) → Has (those_of c.problem.now x) demand → AreOthers (x ∷ left) (read_now c.problem.world demand)
 
