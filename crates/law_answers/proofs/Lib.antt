@@ -1,4 +1,5 @@
-mod Answers
+pub mod Answers
 pub mod OneDue
 pub mod OneFault
 pub mod OneReport
+mod Documents

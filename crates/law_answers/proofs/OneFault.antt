@@ -7,7 +7,7 @@ use Rattle.smv_parse.specs.Spelling.{HasFault}
 use Rattle.smv_parse.specs.Laws.{IsNotBoth, IsOneFault}
 use Rattle.smv_problem.specs.declared.report.Report.{Report}
 use Rattle.smv_command.specs.declared.commands.Command.{Command}
-use Rattle.smv_command.specs.declared.commands.Command.TheVariants.{Prove, Only, Print, Generated}
+use Rattle.smv_command.specs.declared.commands.Command.TheVariants.{Prove, Only, Print, Generated, Proof, Check, Resume}
 use Rattle.law_valid_texts.specs.Plans.{IsTree}
 use Rattle.law_valid_texts.specs.Faults.{pass_fault}
 use Rattle.law_valid_texts.specs.Laws.{OneTree, UnitsAreOrAreNot}
@@ -55,6 +55,9 @@ module _ (not_both : IsNotBoth) (one_fault : IsOneFault) (one_tree : OneTree) wh
   reported (Only name budgets) text report is = (is.0, is.1)
   reported Print text report is = absurd is
   reported (Generated copies) text report is = (is.0, is.1)
+  reported (Proof budgets) text report is = absurd is
+  reported Check text report is = absurd is
+  reported (Resume budgets) text report is = absurd is
 
   -- a text of which there is a right report has none
   pub unreported : UnitsAreOrAreNot → (command : Command) (text : List ℕ) (report : Report) (number at : ℕ) → IsReportFor command text report → IsFault command text number at → ⊥

@@ -1,6 +1,7 @@
 // Laws of answers, each the contract of a function that does nothing.
 ghost use Rattle.law_answers.specs.OneAnswer.{OneAnswer};
 
+use law_document_answers::documents::one_due;
 use law_valid_texts::valid_texts::{one_tree, reports_agree};
 use smv_parse::one_answer as one_parse;
 
@@ -11,4 +12,5 @@ pub fn one_answer()
     one_parse();
     one_tree();
     reports_agree();
+    one_due();
 }

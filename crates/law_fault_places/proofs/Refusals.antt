@@ -1,5 +1,5 @@
 -- The first fault of a text under a command stands within the text, and a refusal tells it.
-use Rattle.std.proofs.Common.{◌≡◌, ℕ, Bool, true, false, cond, List, length, Option, Some, IfSome, refl, subst, sym, true≢false, ◌∙◌, arith}
+use Rattle.std.proofs.Common.{◌≡◌, ℕ, Bool, true, false, cond, List, length, Option, Some, IfSome, refl, subst, sym, true≢false, ◌∙◌, ◌⊎◌, inl, inr, arith}
 use Rattle.std.specs.List.{list_any}
 use Rattle.smv_core.specs.declared.fault.Fault.{Fault}
 use Rattle.smv_problem.specs.declared.report.UnitResult.{UnitResult}
@@ -7,11 +7,16 @@ use Rattle.smv_problem.specs.declared.report.Report.{Report}
 use Rattle.smv_parse.specs.Laws.{IsWithin}
 use Rattle.smv_report.specs.Lines.{fault_text}
 use Rattle.smv_command.specs.declared.commands.Command.{Command}
-use Rattle.smv_command.specs.declared.commands.Command.TheVariants.{Prove, Only, Print, Generated}
+use Rattle.smv_command.specs.declared.commands.Command.TheVariants.{Prove, Only, Print, Generated, Proof, Check, Resume}
 use Rattle.smv_command.specs.declared.exit.Status.{Status}
 use Rattle.smv_command.specs.declared.exit.Status.TheVariants as status
 use Rattle.law_valid_texts.specs.Faults.{pass_fault}
-use Rattle.law_answers.specs.Dues.{IsFault, too_long, malformed, faulty, unnamed, IsDue, decided, printed, refused, status_of, proved_by, is_false, is_unknown}
+use Rattle.law_judgements.specs.Judgements.{IsFaultOf, Judgement}
+use Rattle.law_judgements.specs.Judgements as judgement
+use Rattle.law_judgements.specs.Judgements.Judgement.{yes, form, design, set}
+use Rattle.law_document_answers.specs.Dues.{documented, open_report, refused_text, too_long_to_check, judged, refused_design, too_long_to_resume, not_old, refused_new, resumed, open_resumed, status_by, is_of_design}
+use Rattle.law_answers.proofs.Answers.{of_ones}
+use Rattle.law_answers.specs.Dues.{IsFault, too_long, malformed, faulty, unnamed, IsDue, IsDocumentDue, decided, is_of_documents, of_documents, printed, refused, status_of, proved_by, is_false, is_unknown}
 use Rattle.law_fault_places.specs.PassFaults.{IsFaultWithin, PassFaultsAreWithin}
 use Rattle.law_fault_places.specs.FaultsOfTexts.{TreesOfTextsAreWithin, FaultsAreWithin}
 
@@ -36,6 +41,9 @@ proved-not (Prove budgets) = refl
 proved-not (Only name budgets) = refl
 proved-not Print = refl
 proved-not (Generated copies) = refl
+proved-not (Proof budgets) = refl
+proved-not Check = refl
+proved-not (Resume budgets) = refl
 
 decided-not : (command : Command) (report : Report) → is_refused (status_of (proved_by command) report) ≡ false
 decided-not command report = by (list_any (λ (u : UnitResult). is_false u.verdict) report.units) (list_any (λ (u : UnitResult). is_unknown u.verdict) report.units)
@@ -49,7 +57,50 @@ decided-not command report = by (list_any (λ (u : UnitResult). is_false u.verdi
 abbrev Tells : Command → List ℕ → List ℕ → Type 0
 Tells command text answer = (number : ℕ) × (at : ℕ) × IsFault command text number at × IsFaultWithin (length text) number at × (answer ≡ fault_text text number at)
 
-pub refusal-tells : FaultsAreWithin → (command : Command) (text : List ℕ) (due : Status) (answer : List ℕ) → IsDue command text due answer → is_refused due ≡ true → Tells command text answer
-refusal-tells within command text _ _ (decided report h) e = absurd (true≢false (sym e ∙ decided-not command report))
-refusal-tells within _ text _ _ (printed tree h) e = absurd (true≢false (sym e))
-refusal-tells within command text _ _ (refused number at h) e = (number, at, h, within command text number at h, refl)
+pub refusal-tells : FaultsAreWithin → (command : Command) (text : List ℕ) (due : Status) (answer : List ℕ) → is_of_documents command ≡ false → IsDue command text due answer → is_refused due ≡ true → Tells command text answer
+refusal-tells within command text _ _ own (decided report h) e = absurd (true≢false (sym e ∙ decided-not command report))
+refusal-tells within _ text _ _ own (printed tree h) e = absurd (true≢false (sym e))
+refusal-tells within command text _ _ own (refused number at other h) e = (number, at, h, within command text number at h, refl)
+refusal-tells within command text due answer own (of_documents h) e = absurd (true≢false (sym (of_ones command text due answer h) ∙ own))
+
+-- ---- of documents
+
+-- the first fault of a design is that of its text under a command that decides
+as-fault : (text : List ℕ) (number at : ℕ) → IsFaultOf text number at → IsFault (Prove (record { nodes = 1; steps = 1 })) text number at
+as-fault text _ _ (judgement.too_long long) = too_long long
+as-fault text _ _ (judgement.malformed number at short has) = malformed number at short has
+as-fault text _ _ (judgement.faulty tree fault is found) = faulty tree fault refl is found
+
+abbrev TellsDesign : List ℕ → Type 0
+TellsDesign answer = (text : List ℕ) × (number : ℕ) × (at : ℕ) × IsFaultOf text number at × IsFaultWithin (length text) number at × (answer ≡ fault_text text number at)
+
+of-design : FaultsAreWithin → (text : List ℕ) (number at : ℕ) → IsFaultOf text number at → TellsDesign (fault_text text number at)
+of-design within text number at fault = (text, number, at, fault, within (Prove (record { nodes = 1; steps = 1 })) text number at (as-fault text number at fault), refl)
+
+open-not : (proved : Status) (report : Report) → is_refused proved ≡ false → is_refused (status_of proved report) ≡ false
+open-not proved report not = by (list_any (λ (u : UnitResult). is_false u.verdict) report.units) (list_any (λ (u : UnitResult). is_unknown u.verdict) report.units)
+  where
+    by : (b c : Bool) → is_refused (cond b status.SomeFalse (cond c status.SomeUnknown proved)) ≡ false
+    by true c = refl
+    by false true = refl
+    by false false = not
+
+judged-not : (j : Judgement) → is_of_design j ≡ false → is_refused (status_by j) ≡ false
+judged-not (yes n) not = refl
+judged-not form not = refl
+judged-not (design number at) not = absurd (true≢false not)
+judged-not (set k) not = refl
+
+pub document-refusal-tells : FaultsAreWithin → (command : Command) (bytes : List ℕ) (due : Status) (answer : List ℕ) → IsDocumentDue command bytes due answer → is_refused due ≡ true →
+    TellsDesign answer ⊎ (answer ≡ fault_text bytes 33 0)
+document-refusal-tells within _ bytes _ _ (documented budgets proof is) e = absurd (true≢false (sym e))
+document-refusal-tells within _ bytes _ _ (open_report budgets report right open) e = absurd (true≢false (sym e ∙ open-not status.Documented report refl))
+document-refusal-tells within _ bytes _ _ (refused_text budgets number at fault) e = inl (of-design within bytes number at fault)
+document-refusal-tells within _ bytes _ _ (too_long_to_check long) e = inr refl
+document-refusal-tells within _ bytes _ _ (judged j short is not) e = absurd (true≢false (sym e ∙ judged-not j not))
+document-refusal-tells within _ bytes _ _ (refused_design proof number at short spells fault) e = inl (of-design within proof.design number at fault)
+document-refusal-tells within _ bytes _ _ (too_long_to_resume budgets long) e = inr refl
+document-refusal-tells within _ bytes _ _ (not_old budgets short none) e = absurd (true≢false (sym e))
+document-refusal-tells within _ bytes _ _ (refused_new budgets old text proof number at short is spells fault) e = inl (of-design within text number at fault)
+document-refusal-tells within _ bytes _ _ (resumed budgets old text proof new short is spells is_new) e = absurd (true≢false (sym e))
+document-refusal-tells within _ bytes _ _ (open_resumed budgets old text proof report short is spells told open) e = absurd (true≢false (sym e ∙ open-not status.Resumed report refl))

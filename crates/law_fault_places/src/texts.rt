@@ -1,5 +1,5 @@
 // Laws of the places of faults, each the contract of a function that does nothing.
-ghost use Rattle.law_fault_places.specs.FaultsOfTexts.{TreesOfTextsAreWithin, FaultsAreWithin, RefusalsTellFaults};
+ghost use Rattle.law_fault_places.specs.FaultsOfTexts.{TreesOfTextsAreWithin, FaultsAreWithin, RefusalsTellFaults, DocumentRefusalsTellFaults};
 
 use crate::passes::pass_faults_are_within;
 use crate::trees::spelled_trees_are_within;
@@ -23,7 +23,8 @@ pub fn faults_are_within()
 
 /// A refusal that is due tells a fault of such a number and place.
 pub fn refusals_tell_faults()
-    ensures { RefusalsTellFaults }
+    ensures texts { RefusalsTellFaults }
+    ensures documents { DocumentRefusalsTellFaults }
 {
     faults_are_within();
 }

@@ -1,5 +1,5 @@
 // What the words of a command line ask for, as data.
-use smv_core::Name;
+use smv_core::{Name, Seq};
 use smv_problem::Budgets;
 
 /// What the words ask for.
@@ -13,4 +13,16 @@ pub enum Command {
     Print,
     /// Decide the generated design with so many copies.
     Generated { copies: u16 },
+    /// Decide all units of a design, and write its proof document where each is true.
+    Proof { budgets: Budgets },
+    /// Check a proof document.
+    Check,
+    /// Decide all units of a design that stands behind an old proof document, whose sets are used where they serve still.
+    Resume { budgets: Budgets },
+    /// Decide the unit of this name over the design itself, where the set types without a declared size have these sizes.
+    Confirm {
+        name: Name,
+        sizes: Seq<u16>,
+        budgets: Budgets,
+    },
 }
