@@ -3,11 +3,13 @@ use Rattle.std.proofs.Common.{◌≡◌, ◌∙◌, ◌||◌, ℕ, Bool, true, f
 use Rattle.std.specs.Prelude.{if◌then◌else◌}
 use Rattle.std.specs.List.{list_any}
 use Rattle.smv_core.specs.declared.tree.Text.{Text}
+use Rattle.smv_problem.specs.declared.report.Verdict.{Verdict}
+use Rattle.smv_problem.specs.declared.report.Verdict.TheVariants as verdict
 use Rattle.smv_problem.specs.declared.report.Report.{Report}
 use Rattle.law_reports.specs.Reports.{AllTrueUnits, told_of}
-use Rattle.smv_parse.specs.Laws.{IsNotBoth}
+use Rattle.smv_parse.specs.Laws.{IsNotBoth, IsOneFault}
 use Rattle.smv_command.specs.declared.commands.Command.{Command}
-use Rattle.smv_command.specs.declared.commands.Command.TheVariants.{Prove, Only, Print, Generated, Proof, Check, Resume}
+use Rattle.smv_command.specs.declared.commands.Command.TheVariants.{Prove, Only, Print, Generated, Proof, Check, Resume, Confirm}
 use Rattle.smv_command.specs.declared.exit.Status.{Status}
 use Rattle.smv_command.specs.declared.exit.Status.TheVariants as status
 use Rattle.law_valid_texts.specs.Plans.{IsTree}
@@ -19,7 +21,9 @@ use Rattle.law_judgements.specs.Judgements.Judgement.{yes, form, design, set}
 use Rattle.law_document_answers.specs.Laws.{OneDocumentStatus}
 use Rattle.law_document_answers.specs.Dues.{IsDocumentDue, documented, open_report, refused_text, too_long_to_check, judged, refused_design, too_long_to_resume, not_old, refused_new, resumed, open_resumed, status_by}
 use Rattle.law_document_answers.proofs.Statuses.{same_status, true_units}
-use Rattle.law_answers.specs.Dues.{IsDue, IsDueTo, IsFault, IsReportFor, decided, default_nodes, default_steps, faulty, is_false, is_of_documents, is_unknown, malformed, of_documents, printed, proved_by, refused, status_of, text_for, too_long, unnamed}
+use Rattle.law_answers.specs.Confirmations.{confirmed_status}
+use Rattle.law_answers.proofs.Confirmed.{not_confirmed, same_status_of, told_once}
+use Rattle.law_answers.specs.Dues.{IsDue, IsDueTo, IsFault, IsReportFor, confirmed, decided, default_nodes, default_steps, faulty, is_false, is_of_documents, is_unknown, malformed, of_documents, of_unit, printed, proved_by, refused, status_of, text_for, too_long, unnamed}
 
 -- ---- all is proved
 
@@ -48,6 +52,7 @@ valid_text (Generated copies) text report is = (is.0, is.1)
 valid_text (Proof budgets) text report is = absurd is
 valid_text Check text report is = absurd is
 valid_text (Resume budgets) text report is = absurd is
+valid_text (Confirm name sizes budgets) text report is = absurd is
 
 -- what is due of documents is due to a command on documents
 pub of_ones : (command : Command) (text : List ℕ) (due : Status) (answer : List ℕ) → IsDocumentDue command text due answer → is_of_documents command ≡ true
@@ -58,6 +63,7 @@ of_ones (Prove budgets) text due answer is = elim is [ ]
 of_ones (Only name budgets) text due answer is = elim is [ ]
 of_ones Print text due answer is = elim is [ ]
 of_ones (Generated copies) text due answer is = elim is [ ]
+of_ones (Confirm name sizes budgets) text due answer is = elim is [ ]
 
 -- and no command on documents asks for a report
 pub of_others : (command : Command) (text : List ℕ) (report : Report) → IsReportFor command text report → is_of_documents command ≡ true → ⊥
@@ -68,8 +74,9 @@ of_others (Generated copies) text report is e = true≢false (sym e)
 of_others (Proof budgets) text report is e = is
 of_others Check text report is e = is
 of_others (Resume budgets) text report is e = is
+of_others (Confirm name sizes budgets) text report is e = is
 
-module _ (not_both : IsNotBoth) (one_tree : OneTree) (either : UnitsAreOrAreNot) where
+module _ (not_both : IsNotBoth) (one_fault : IsOneFault) (one_tree : OneTree) (either : UnitsAreOrAreNot) where
   pub not_faulty : (command : Command) (text : List ℕ) (report : Report) (number at : ℕ) → IsReportFor command text report → IsFault command text number at → ⊥
   not_faulty command text report _ _ is (too_long long) =
       let within = (valid_text command text report is).1.is_tree.within in
@@ -84,6 +91,7 @@ module _ (not_both : IsNotBoth) (one_tree : OneTree) (either : UnitsAreOrAreNot)
       let bad : ⊥ = cc in
       bad
   not_faulty _ text report _ _ is (unnamed name nodes steps none) = either text name nodes steps report is none
+  not_faulty _ text report _ _ is (of_unit name sizes budgets number at fault) = is
 
   not_printed : (text : List ℕ) (tree : Text) (number at : ℕ) → IsTree text tree → IsFault Print text number at → ⊥
   not_printed text tree _ _ is (too_long long) =
@@ -101,6 +109,7 @@ module _ (not_both : IsNotBoth) (one_tree : OneTree) (either : UnitsAreOrAreNot)
     told_alike (Proof budgets) text report other is is_other = absurd is
     told_alike Check text report other is is_other = absurd is
     told_alike (Resume budgets) text report other is is_other = absurd is
+    told_alike (Confirm name sizes budgets) text report other is is_other = absurd is
 
     pub one_due : (command : Command) (text : List ℕ) (due other : Status) (answer another : List ℕ) → IsDue command text due answer → IsDue command text other another → due ≡ other
     one_due command text _ _ _ _ (decided report is) (decided another is_another) = same_status (proved_by command) report another (told_alike command text report another is is_another)
@@ -119,6 +128,14 @@ module _ (not_both : IsNotBoth) (one_tree : OneTree) (either : UnitsAreOrAreNot)
     one_due _ text due _ answer _ (of_documents is) (printed tree is_tree) = absurd (true≢false (sym (of_ones Print text due answer is)))
     one_due command text due _ answer _ (of_documents is) (refused number at not fault) = absurd (true≢false (sym (of_ones command text due answer is) ∙ not))
     one_due command text due other answer another (of_documents is) (of_documents is_other) = one_document command text due other answer another is is_other
+    one_due _ text _ _ _ _ (decided report is) (confirmed name sizes budgets tree unit v valid called is_other) = absurd is
+    one_due _ text _ _ _ _ (refused number at not fault) (confirmed name sizes budgets tree unit v valid called is) = absurd (not_confirmed not_both one_fault one_tree text name sizes budgets v number at is fault)
+    one_due _ text due _ answer _ (of_documents is) (confirmed name sizes budgets tree unit v valid called is_other) = absurd (true≢false (sym (of_ones (Confirm name sizes budgets) text due answer is)))
+    one_due _ text _ _ _ _ (confirmed name sizes budgets tree unit v valid called is) (decided report is_other) = absurd is_other
+    one_due _ text _ _ _ _ (confirmed name sizes budgets tree unit v valid called is) (refused number at not fault) = absurd (not_confirmed not_both one_fault one_tree text name sizes budgets v number at is fault)
+    one_due _ text _ other _ another (confirmed name sizes budgets tree unit v valid called is) (of_documents is_other) = absurd (true≢false (sym (of_ones (Confirm name sizes budgets) text other another is_other)))
+    one_due _ text _ _ _ _ (confirmed name sizes budgets tree unit v valid called is) (confirmed _ _ _ tree_too unit_too w valid_too called_too is_other) =
+        same_status_of v w (told_once one_tree text name sizes budgets.nodes budgets.steps v w is is_other)
 
 -- ---- all proved is due to `prove` alone
 
@@ -138,8 +155,16 @@ by_prove (Generated copies) text report is e all = absurd (true≢false (sym (ap
 by_prove (Proof budgets) text report is e all = absurd is
 by_prove Check text report is e all = absurd is
 by_prove (Resume budgets) text report is e all = absurd is
+by_prove (Confirm name sizes budgets) text report is e all = absurd is
 
--- all proved is not due of documents
+-- all proved is not due to a unit at given sizes
+not_all : (v : Verdict) → is_all (confirmed_status v) ≡ false
+not_all verdict.True = refl
+not_all (verdict.False case elements path) = refl
+not_all (verdict.UnknownNodes case count) = refl
+not_all (verdict.UnknownSteps case) = refl
+
+-- nor of documents
 judged_not : (j : Judgement) → status_by j ≡ status.AllProved → ⊥
 judged_not (yes n) e = true≢false (sym (ap is_all e))
 judged_not form e = true≢false (sym (ap is_all e))
@@ -166,6 +191,7 @@ all_due command text asked _ _ same e (decided report is) =
 all_due _ text asked _ _ same e (printed tree is) = absurd (true≢false (sym (ap is_all e)))
 all_due command text asked _ _ same e (refused number at not fault) = absurd (true≢false (sym (ap is_all e)))
 all_due command text asked due answer same e (of_documents is) = absurd (not_of_documents command asked due answer e is)
+all_due _ text asked _ _ same e (confirmed name sizes budgets tree unit v valid called is) = absurd (true≢false (sym (ap is_all e) ∙ not_all v))
 
 pub all_due_to : (command : Option Command) (text answer : List ℕ) → IsDueTo command text status.AllProved answer → (asked : Command) × AllProvedOf asked text
 all_due_to None text answer due = absurd (true≢false (ap is_all due.0))

@@ -3,3 +3,5 @@ pub mod OneDue
 pub mod OneFault
 pub mod OneReport
 mod Documents
+mod Confirmed
+mod Asked
