@@ -5,6 +5,7 @@ use Rattle.std.specs.List.{list_any}
 use Rattle.law_lists.proofs.Options.{some_is}
 use Rattle.smv_core.specs.declared.tree.Text.{Text}
 use Rattle.smv_core.specs.declared.flat.Unit.{Unit as DesignUnit}
+use Rattle.smv_problem.specs.declared.report.Budgets.{Budgets}
 use Rattle.smv_problem.specs.declared.report.Verdict.{Verdict}
 use Rattle.smv_problem.specs.declared.report.Verdict.TheVariants as verdict
 use Rattle.smv_problem.specs.declared.report.Report.{Report}
@@ -79,12 +80,12 @@ documents_not _ bytes _ _ (open_resumed budgets old text proof report within is 
 record IsTold (name sizes : List ℕ) (nodes steps : ℕ) (text : List ℕ) (due : Status) (answer : List ℕ) : Type 0 where
   pub tree : Text
   pub unit : DesignUnit
-  pub verdict : Verdict
+  pub found : Verdict
   pub is_valid : IsValid text tree
   pub is_called : unit_called (flat_design tree) name ≡ Some unit
-  pub is_confirmed : IsConfirmed text name sizes nodes steps verdict
-  pub due_is : confirmed_status verdict ≡ due
-  pub answer_is : answer ≡ confirmed_lines (flat_design tree) unit name verdict
+  pub is_confirmed : IsConfirmed text name sizes nodes steps found
+  pub due_is : confirmed_status found ≡ due
+  pub answer_is : answer ≡ confirmed_lines (flat_design tree) unit name found
 
 abbrev Told : Command → List ℕ → Status → List ℕ → Type 0
 Told (Confirm name sizes budgets) text due answer = IsTold name sizes budgets.nodes budgets.steps text due answer
@@ -96,7 +97,7 @@ told_of _ text _ _ asked (printed tree is) = absurd (true≢false (sym asked))
 told_of command text _ _ asked (refused number at other fault) = absurd (true≢false (sym asked))
 told_of command text due answer asked (of_documents is) = absurd (true≢false (sym asked ∙ documents_not command text due answer is))
 told_of _ text _ _ asked (confirmed name sizes budgets tree unit v valid called is) =
-    record { tree = tree; unit = unit; verdict = v; is_valid = valid; is_called = called; is_confirmed = is; due_is = refl; answer_is = refl }
+    record { tree = tree; unit = unit; found = v; is_valid = valid; is_called = called; is_confirmed = is; due_is = refl; answer_is = refl }
 
 -- ---- what it says
 
@@ -118,7 +119,7 @@ pub holds_so : ConfirmedTrueHolds → HoldsHereIsSo
 holds_so law None text answer within is = absurd (true≢false (sym (ap is_here is.0)))
 holds_so law (Some (Confirm name sizes budgets)) text answer within is =
     let t = told_of (Confirm name sizes budgets) text status.HoldsHere answer refl is in
-    let said = subst (IsConfirmed text name sizes budgets.nodes budgets.steps) (true_is t.verdict t.due_is) t.is_confirmed in
+    let said = subst (IsConfirmed text name sizes budgets.nodes budgets.steps) (true_is t.found t.due_is) t.is_confirmed in
     law text name sizes (positive sizes within.0) budgets.nodes budgets.steps said
 holds_so law (Some (Prove budgets)) text answer within is = told_of (Prove budgets) text status.HoldsHere answer refl is
 holds_so law (Some (Only name budgets)) text answer within is = told_of (Only name budgets) text status.HoldsHere answer refl is
@@ -129,8 +130,8 @@ holds_so law (Some Check) text answer within is = told_of Check text status.Hold
 holds_so law (Some (Resume budgets)) text answer within is = told_of (Resume budgets) text status.HoldsHere answer refl is
 
 module _ (one_tree : OneTree) (law : ConfirmedFalseIsReal) where
-  real_told : (name sizes : List ℕ) (nodes steps : ℕ) (text : List ℕ) (budgets : _) (answer : List ℕ) → AreSizes sizes → IsTold name sizes nodes steps text status.Real answer → IsRealAsAsked (Some (Confirm name sizes budgets)) text answer
-  real_told name sizes nodes steps text budgets answer within t = by t.verdict t.due_is t.is_confirmed t.answer_is
+  real_told : (name sizes : List ℕ) (nodes steps : ℕ) (text : List ℕ) (budgets : Budgets) (answer : List ℕ) → AreSizes sizes → IsTold name sizes nodes steps text status.Real answer → IsRealAsAsked (Some (Confirm name sizes budgets)) text answer
+  real_told name sizes nodes steps text budgets answer within t = by t.found t.due_is t.is_confirmed t.answer_is
     where
       by : (v : Verdict) → confirmed_status v ≡ status.Real → IsConfirmed text name sizes nodes steps v → answer ≡ confirmed_lines (flat_design t.tree) t.unit name v → IsRealAsAsked (Some (Confirm name sizes budgets)) text answer
       by verdict.True e is written = absurd (true≢false (sym (ap is_real e)))

@@ -15,7 +15,7 @@ use Rattle.smv_problem.specs.declared.report.Verdict.TheVariants as verdict
 use Rattle.smv_command.specs.declared.commands.Command.TheVariants.{Confirm}
 use Rattle.smv_command.specs.declared.exit.Status.{Status}
 use Rattle.smv_command.specs.declared.exit.Status.TheVariants as status
-use Rattle.law_events.specs.Events.Event.{Counted, Reached, Shut, Images}
+use Rattle.law_events.specs.Events.Event.{Reached}
 use Rattle.law_obligations.specs.Readings.{PosedCase}
 use Rattle.law_reports.specs.Told.{IsToldBy, lists_for}
 use Rattle.law_reports.specs.Reports.{told}

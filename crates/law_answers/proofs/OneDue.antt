@@ -1,6 +1,5 @@
 -- Where no unit is false, one answer is due.
-use Rattle.std.proofs.Common.{◌≡◌, ◌∙◌, ℕ, List, Some, None, sym, ap, ap₂, true≢false}
-use Rattle.std.specs.Prelude.{◌≢◌}
+use Rattle.std.proofs.Common.{◌≡◌, ◌∙◌, ℕ, false, List, Some, None, sym, ap, ap₂, true≢false}
 use Rattle.smv_parse.specs.Laws.{IsNotBoth, IsOneFault, IsOneTree}
 use Rattle.smv_print.specs.Canonical.{canonical}
 use Rattle.smv_report.specs.Lines.{fault_text}

@@ -29,4 +29,4 @@ confirmed_heading name (verdict.UnknownSteps case) = heading name (verdict.Unkno
 
 -- that line, and below it the case, by the unit's own parameters, and the path
 abbrev pub confirmed_lines : Design → DesignUnit → Name → Verdict → List ℕ
-confirmed_lines d unit name verdict = confirmed_heading name verdict ++ details d (own_params d (unit_in d unit)) verdict
+confirmed_lines d unit name v = confirmed_heading name v ++ details d (own_params d (unit_in d unit)) v
