@@ -6,13 +6,14 @@ use Rattle.smv_report.specs.Lines.{fault_text}
 use Rattle.smv_problem.specs.declared.report.Budgets.{Budgets}
 use Rattle.smv_problem.specs.declared.report.Report.{Report}
 use Rattle.smv_command.specs.declared.commands.Command.{Command}
-use Rattle.smv_command.specs.declared.commands.Command.TheVariants.{Prove, Only, Print, Generated, Proof, Check, Resume}
+use Rattle.smv_command.specs.declared.commands.Command.TheVariants.{Prove, Only, Print, Generated, Proof, Check, Resume, Confirm}
 use Rattle.smv_command.specs.declared.exit.Status.{Status}
 use Rattle.smv_command.specs.declared.exit.Status.TheVariants as status
 use Rattle.law_events.specs.Laws.{OneVerdict}
 use Rattle.law_reports.specs.Lines.{report_lines}
 use Rattle.law_valid_texts.specs.Laws.{OneTree}
 use Rattle.law_valid_texts.specs.Reports.{IsValid, IsRightReport}
+use Rattle.smv_proof.specs.declared.proof.KeptSet.{KeptSet}
 use Rattle.smv_proof.specs.declared.proof.Proof.{Proof as Document}
 use Rattle.smv_proof.specs.Documents.{document, Spells}
 use Rattle.smv_proof.specs.Laws.{OneProof}
@@ -25,7 +26,7 @@ use Rattle.law_judgements.specs.Judgements.Judgement.{yes, form, design, set}
 use Rattle.law_judgements.specs.Laws.{OneJudgement}
 use Rattle.law_judgements.proofs.One.{no_fault, same_fault}
 use Rattle.law_document_answers.specs.Statuses.{status_of}
-use Rattle.law_document_answers.specs.Dues.{IsDocumentDue, documented, open_report, refused_text, too_long_to_check, judged, refused_design, too_long_to_resume, not_old, refused_new, resumed, open_resumed, status_by, judged_text, is_of_design}
+use Rattle.law_document_answers.specs.Dues.{IsDocumentDue, IsOld, documented, open_report, refused_text, too_long_to_check, judged, refused_design, too_long_to_resume, not_old, refused_new, resumed, open_resumed, status_by, judged_text, is_of_design}
 use Rattle.law_document_answers.proofs.Statuses.{same_status, all_true, none_false}
 use Rattle.law_document_answers.proofs.Alike.{reports_alike, same_report}
 use Rattle.law_document_answers.proofs.Old.{one_old}
@@ -48,7 +49,7 @@ module _ (not_both : IsNotBoth) (one_fault : IsOneFault) (one_tree : OneTree) (o
       record { statuses = refl; answers = λ not. ap₂ (fault_text text) r.0 r.1 }
 
   -- two reports of what is resumed
-  one_open : (proved : Status) (budgets : Budgets) (old : List _) (text : List ℕ) (report other : Report) → IsResumedReport old budgets.nodes budgets.steps text report → IsResumedReport old budgets.nodes budgets.steps text other →
+  one_open : (proved : Status) (budgets : Budgets) (old : List KeptSet) (text : List ℕ) (report other : Report) → IsResumedReport old budgets.nodes budgets.steps text report → IsResumedReport old budgets.nodes budgets.steps text other →
       Same (status_of proved report) (status_of proved other) (report_lines report) (report_lines other)
   one_open proved budgets old text report other is is_too = record {
     statuses = same_status proved report other (reports_alike one_verdict old budgets.nodes budgets.steps one_tree text report other is is_too);
@@ -56,7 +57,7 @@ module _ (not_both : IsNotBoth) (one_fault : IsOneFault) (one_tree : OneTree) (o
   }
 
   -- beside a resumed proof no report is open
-  not_open : (proved : Status) (budgets : Budgets) (old : List _) (text : List ℕ) (proof : Document) (report : Report) → IsResumedProof old budgets.nodes budgets.steps text proof →
+  not_open : (proved : Status) (budgets : Budgets) (old : List KeptSet) (text : List ℕ) (proof : Document) (report : Report) → IsResumedProof old budgets.nodes budgets.steps text proof →
       IsResumedReport old budgets.nodes budgets.steps text report → status_of proved report ≢ proved → ⊥
   not_open proved budgets old text proof report is told open = open (all_true proved report (true_texts old text budgets.nodes budgets.steps proof report is told))
 
@@ -112,7 +113,7 @@ module _ (not_both : IsNotBoth) (one_fault : IsOneFault) (one_tree : OneTree) (o
     pub texts : text ≡ another
     pub proofs : proof ≡ proof_too
 
-  cut_of : (bytes old text other another : List ℕ) (proof proof_too : Document) → _ → _ → Spells old proof → Spells other proof_too → Cut bytes old text other another proof proof_too
+  cut_of : (bytes old text other another : List ℕ) (proof proof_too : Document) → IsOld bytes old text → IsOld bytes other another → Spells old proof → Spells other proof_too → Cut bytes old text other another proof proof_too
   cut_of bytes old text other another proof proof_too is is_too spells spells_too =
       let r = one_old bytes old text other another is is_too in
       record { texts = r.1; proofs = one_spelled other proof proof_too (subst (λ (xs : List ℕ). Spells xs proof) r.0 spells) spells_too }
@@ -177,3 +178,4 @@ module _ (not_both : IsNotBoth) (one_fault : IsOneFault) (one_tree : OneTree) (o
   one_due (Only name budgets) text due other answer another is is_too = elim is [ ]
   one_due Print text due other answer another is is_too = elim is [ ]
   one_due (Generated copies) text due other answer another is is_too = elim is [ ]
+  one_due (Confirm name sizes budgets) text due other answer another is is_too = elim is [ ]
