@@ -9,7 +9,7 @@ use Rattle.smv_problem.specs.declared.report.Budgets.{Budgets}
 use Rattle.smv_problem.specs.declared.report.Verdict.{Verdict}
 use Rattle.smv_problem.specs.declared.report.Verdict.TheVariants as verdict
 use Rattle.smv_problem.specs.declared.report.Report.{Report}
-use Rattle.smv_command.specs.Ranges.{AreSizes, IsInRange}
+use Rattle.smv_command.specs.Ranges.{AreSizes, IsInRange, most_size}
 use Rattle.smv_command.specs.declared.commands.Command.{Command}
 use Rattle.smv_command.specs.declared.commands.Command.TheVariants.{Prove, Only, Print, Generated, Proof, Check, Resume, Confirm}
 use Rattle.smv_command.specs.declared.exit.Status.{Status}
@@ -26,11 +26,14 @@ use Rattle.law_answers.specs.Confirmations.{confirmed_lines, confirmed_status}
 use Rattle.law_answers.specs.Dues.{IsDue, IsDueTo, IsReportFor, confirmed, decided, is_false, is_unknown, of_documents, printed, proved_by, refused, status_of}
 use Rattle.law_answers.specs.Laws.{HoldsAsAsked, HoldsHereIsSo, IsRealAsAsked, RealIsSo}
 
--- sizes in their range are positive
+-- each size of a list that is in range is so
+pub each_in_range : (sizes : List ℕ) → AreSizes sizes → (k : ℕ) → Has sizes k → (1 ≤ k) × (k ≤ most_size)
+each_in_range [] all k h = elim h [ ]
+each_in_range (x ∷ sizes) all _ first = all 0 x (omega arith)
+each_in_range (x ∷ sizes) all k (later h) = each_in_range sizes (λ i d short. all (suc i) d (omega (arith, short))) k h
+
 positive : (sizes : List ℕ) → AreSizes sizes → ArePositive sizes
-positive [] all k h = elim h [ ]
-positive (x ∷ sizes) all _ first = (all 0 x (omega arith)).0
-positive (x ∷ sizes) all k (later h) = positive sizes (λ i d short. all (suc i) d (omega (arith, short))) k h
+positive sizes all k h = (each_in_range sizes all k h).0
 
 -- ---- the statuses of a unit at given sizes are due to it alone
 

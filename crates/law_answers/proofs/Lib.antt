@@ -4,4 +4,4 @@ pub mod OneFault
 pub mod OneReport
 mod Documents
 mod Confirmed
-mod Asked
+pub mod Asked
