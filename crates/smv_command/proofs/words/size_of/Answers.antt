@@ -7,9 +7,9 @@ use Rattle.smv_command.proofs.words.size_of.Goals as goal
 pub unreachable-requires : goal.unreachable-requires
 unreachable-requires c =
     let text = spelled most_size c.args.word.now c.requires in
-    c.in-Err.ensures.0.0 (text.spells.0, omega (arith, text.spells.3))
+    c.in-Err.ensures.value.0 (text.spells.0, omega (arith, text.spells.3))
 
 pub returns : goal.returns
 returns c =
     let text = spelled most_size c.args.word.now c.requires in
-    text.is ∙ ap (λ (v : ℕ). Some v) (sym c.in-Ok.ensures.0.1)
+    text.is ∙ ap (λ (v : ℕ). Some v) (sym c.in-Ok.ensures.value.0.1)

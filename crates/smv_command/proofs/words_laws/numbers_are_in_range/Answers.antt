@@ -1,8 +1,8 @@
 use Rattle.std.proofs.Common.{◌≡◌, ◌≤◌, ℕ, zero, suc, Bool, List, [], ◌∷◌, Option, Some, None, codes, refl, subst, true, false, arith}
-use Rattle.std.specs.Prelude.{if◌then◌else◌, option_and_then, option_map}
+use Rattle.std.specs.Prelude.{if◌then◌else◌, option_and_then, option_map, unwrap_or}
 use Rattle.std.specs.Str.{bytes_eq}
 use Rattle.clap.specs.Kinds.{Kinds}
-use Rattle.clap.specs.Walk.{Row, Text}
+use Rattle.clap.specs.Walk.{Row, Text, all_of}
 use Rattle.clap.specs.Simple.{subcommand_of}
 use Rattle.clap.specs.Faults.{fault_of}
 use Rattle.smv_command.specs.CommandLine.{smv}
@@ -72,7 +72,7 @@ copies_ranged rows = go (number_in most_copies (codes "N") rows) (number_ranged 
     go (Some n) p = p n refl
 
 confirm_ranged : (rows : List Row) → InRange (option_map (λ p. Confirm p.0 p.1.0 p.1.1) (both (name_in rows) (both (sizes_in rows) (budgets_in rows))))
-confirm_ranged rows = go (name_in rows) (sizes_in rows) (budgets_in rows) (sizes_ranged _) (budgets_ranged rows)
+confirm_ranged rows = go (name_in rows) (sizes_in rows) (budgets_in rows) (sizes_ranged (unwrap_or (all_of (codes "SIZE") rows) [])) (budgets_ranged rows)
   where
     go : (n : Option Text) (s : Option (List ℕ)) (b : Option Budgets) → AllInRange s → BothInRange b → InRange (option_map (λ p. Confirm p.0 p.1.0 p.1.1) (both n (both s b)))
     go None s b p q = tt
