@@ -102,4 +102,5 @@ pub given_to_confirm : (word : Text) (rows : List Row) → bytes_eq word (codes 
 given_to_confirm word rows e there =
     let sizes_and_budgets = both (sizes_in rows) (budgets_in rows) in
     let (name, more) = both_some (name_in rows) sizes_and_budgets (map_some (λ p. Confirm p.0 p.1.0 p.1.1) (both (name_in rows) sizes_and_budgets) (ap is_some (sym (at_confirm word rows e)) ∙ there)) in
-    (name, both_some (sizes_in rows) (budgets_in rows) more)
+    let (sizes, budgets) = both_some (sizes_in rows) (budgets_in rows) more in
+    (name, sizes, budgets)

@@ -1,7 +1,7 @@
 -- What the matches of words that are taken have, subcommand by subcommand.
 use Rattle.std.proofs.Common.{◌≡◌, ◌∙◌, ◌||◌, Bool, true, false, not, List, [], ◌∷◌, Option, inl, inr, refl, sym, ap, arith, subst, is_some, codes, true≢false, pos}
-use Rattle.std.specs.Prelude.{option_and_then}
-use Rattle.clap.specs.Walk.{Row, Rule, Text, nothing_held, rows_after, settled, walk, with_default}
+use Rattle.std.specs.Prelude.{option_and_then, unwrap_or}
+use Rattle.clap.specs.Walk.{Row, Rule, Text, all_of, nothing_held, rows_after, settled, walk, with_default}
 use Rattle.clap.specs.Simple.{Shape, built, built_leaf, filled, inherited, marked_built, subcommand_of, with_index, with_leaf_noted}
 use Rattle.clap.specs.Faults.{fault_of, level_fault}
 use Rattle.clap.specs.declared.builder.value_parser.ValueParser.TheVariants.{Signed}
@@ -72,7 +72,7 @@ sizes_spelled (word ∷ words) e =
     (word_given most_size word (omega arith) (accepts-Accepts false (Signed (pos 1) (pos most_size)) word p.0)) (sizes_spelled words p.1)
 
 sizes_given : (c : List Rule) (rows : List Row) → IsKnown c sizes → AllFit c rows → is_some (sizes_in rows) ≡ true
-sizes_given c rows known fits = sizes_spelled _ (given_pass c sizes rows known fits)
+sizes_given c rows known fits = sizes_spelled (unwrap_or (all_of (codes "SIZE") rows) []) (given_pass c sizes rows known fits)
 
 budgets_given : (c : List Rule) (rows : List Row) → IsKnown c nodes → IsKnown c steps → AllFit c (with_default (with_default rows nodes) steps)
     → is_some (budgets_in (with_default (with_default rows nodes) steps)) ≡ true

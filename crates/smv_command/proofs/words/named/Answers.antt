@@ -62,6 +62,20 @@ budgets_in-budgets-requires-then-eq-7 c = given_to_resume c.args.word.now (rows_
 pub returns-then-eq-7 : goal.returns-then-eq-7
 returns-then-eq-7 c = at_resume c.args.word.now (rows_of (found_of c.args.matches.now)) (sym c.eq-else-eq-6.ensures ∙ c.if-eq-7.true) ∙ ap (option_map Resume) c.budgets_in-budgets-then-eq-7.ensures
 
+pub text_in-requires-then-eq-8 : goal.text_in-requires-then-eq-8
+text_in-requires-then-eq-8 c = (given_to_confirm c.args.word.now (rows_of (found_of c.args.matches.now)) (sym c.eq-else-eq-7.ensures ∙ c.if-eq-8.true) c.requires).0
+
+pub sizes_in-requires : goal.sizes_in-requires
+sizes_in-requires c = (given_to_confirm c.args.word.now (rows_of (found_of c.args.matches.now)) (sym c.eq-else-eq-7.ensures ∙ c.if-eq-8.true) c.requires).1
+
+pub budgets_in-budgets-requires-then-eq-8 : goal.budgets_in-budgets-requires-then-eq-8
+budgets_in-budgets-requires-then-eq-8 c = (given_to_confirm c.args.word.now (rows_of (found_of c.args.matches.now)) (sym c.eq-else-eq-7.ensures ∙ c.if-eq-8.true) c.requires).2
+
+pub returns-in_ok-sizes : goal.returns-in_ok-sizes
+returns-in_ok-sizes c =
+    at_confirm c.args.word.now (rows_of (found_of c.args.matches.now)) (sym c.eq-else-eq-7.ensures ∙ c.if-eq-8.true)
+    ∙ (λ i. option_map (λ p. Confirm p.0 p.1.0 p.1.1) (both (c.in_ok-name-2.ensures i) (both (c.in_ok-sizes.ensures i) (c.budgets_in-budgets-then-eq-8.ensures i))))
+
 pub unreachable-requires : goal.unreachable-requires
 unreachable-requires c =
     let none =

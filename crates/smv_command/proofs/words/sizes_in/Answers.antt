@@ -23,4 +23,4 @@ pub returns-in-None : goal.returns-in-None
 returns-in-None c =
     let read = c.get_raw.ensures ∙ raw_values-rows (found_of c.args.matches.now) (codes "SIZE") in
     let none : None ≡ all_of (codes "SIZE") (rows_of (found_of c.args.matches.now)) = rw c.in-None.is at read in
-    ap (λ (o : Option (List Text)). numbers most_size (unwrap_or o [])) (sym none)
+    ap (λ (o : Option (List Text)). numbers most_size (unwrap_or o [])) (sym none) ∙ ap Some (sym c.new.ensures)
