@@ -173,7 +173,7 @@ judged_not (set k) e = true≢false (sym (ap is_all e))
 
 not_of_documents : (command : Command) (text : List ℕ) (due : Status) (answer : List ℕ) → due ≡ status.AllProved → IsDocumentDue command text due answer → ⊥
 not_of_documents _ text _ _ e (documented budgets proof is) = true≢false (sym (ap is_all e))
-not_of_documents _ text _ _ e (open_report budgets report right open) = true≢false (sym (ap is_all (all_proved status.Documented report e).0))
+not_of_documents _ text _ _ e (open_report budgets report right unproved) = true≢false (sym (ap is_all (all_proved status.Documented report e).0))
 not_of_documents _ text _ _ e (refused_text budgets number at fault) = true≢false (sym (ap is_all e))
 not_of_documents _ text _ _ e (too_long_to_check long) = true≢false (sym (ap is_all e))
 not_of_documents _ text _ _ e (judged j within is not) = judged_not j e
@@ -182,7 +182,7 @@ not_of_documents _ text _ _ e (too_long_to_resume budgets long) = true≢false (
 not_of_documents _ text _ _ e (not_old budgets within none) = true≢false (sym (ap is_all e))
 not_of_documents _ text _ _ e (refused_new budgets old new proof number at within is spells fault) = true≢false (sym (ap is_all e))
 not_of_documents _ text _ _ e (resumed budgets old new proof written within is spells is_new) = true≢false (sym (ap is_all e))
-not_of_documents _ text _ _ e (open_resumed budgets old new proof report within is spells told open) = true≢false (sym (ap is_all (all_proved status.Resumed report e).0))
+not_of_documents _ text _ _ e (open_resumed budgets old new proof report within is spells told unproved) = true≢false (sym (ap is_all (all_proved status.Resumed report e).0))
 
 all_due : (command : Command) (text asked : List ℕ) (due : Status) (answer : List ℕ) → text_for command text ≡ asked → due ≡ status.AllProved → IsDue command asked due answer → AllProvedOf command text
 all_due command text asked _ _ same e (decided report is) =

@@ -68,7 +68,7 @@ judged_not (set k) = refl
 
 documents_not : (command : Command) (bytes : List ℕ) (due : Status) (answer : List ℕ) → IsDocumentDue command bytes due answer → is_asked due ≡ false
 documents_not _ bytes _ _ (documented budgets proof is) = refl
-documents_not _ bytes _ _ (open_report budgets report right open) = of_report status.Documented report refl
+documents_not _ bytes _ _ (open_report budgets report right unproved) = of_report status.Documented report refl
 documents_not _ bytes _ _ (refused_text budgets number at fault) = refl
 documents_not _ bytes _ _ (too_long_to_check long) = refl
 documents_not _ bytes _ _ (judged j within is not) = judged_not j
@@ -77,7 +77,7 @@ documents_not _ bytes _ _ (too_long_to_resume budgets long) = refl
 documents_not _ bytes _ _ (not_old budgets within none) = refl
 documents_not _ bytes _ _ (refused_new budgets old text proof number at within is spells fault) = refl
 documents_not _ bytes _ _ (resumed budgets old text proof new within is spells is_new) = refl
-documents_not _ bytes _ _ (open_resumed budgets old text proof report within is spells told open) = of_report status.Resumed report refl
+documents_not _ bytes _ _ (open_resumed budgets old text proof report within is spells told unproved) = of_report status.Resumed report refl
 
 -- what is told of the unit that a command asks to confirm, and what is written of it
 record IsTold (name sizes : List ℕ) (nodes steps : ℕ) (text : List ℕ) (due : Status) (answer : List ℕ) : Type 0 where

@@ -3,6 +3,7 @@ use Rattle.std.proofs.Common.{◌≡◌, ◌∙◌, ℕ, ◌≤◌, ◌<◌, ◌
 use Rattle.std.specs.Fmt.{decimal}
 use Rattle.std.proofs.lemmas.Fmt.{decimal_injective}
 use Rattle.law_lists.proofs.Lists.{tail_is}
+use Rattle.law_lists.proofs.Options.{some_is}
 use Rattle.smv_proof.specs.Documents.{line}
 use Rattle.smv_proof.specs.Readings.{cut}
 use Rattle.smv_proof.proofs.Pieces.{cut_front, decimal_lacks}
@@ -33,8 +34,9 @@ one_old bytes old text other another is is_too =
     let cuts : Some (decimal (length old), old ++ 10 ∷ text) ≡ Some (decimal (length other), other ++ 10 ∷ another) =
         sym (cut_front 10 (decimal (length old)) (old ++ 10 ∷ text) (decimal_lacks 10 (length old) (omega arith) few)) ∙ (ap (cut 10) lines
         ∙ cut_front 10 (decimal (length other)) (other ++ 10 ∷ another) (decimal_lacks 10 (length other) (omega arith) few_too)) in
-    let numbers : decimal (length old) ≡ decimal (length other) = cc (cuts) in
-    let rests : old ++ 10 ∷ text ≡ other ++ 10 ∷ another = cc (cuts) in
+    let pairs : (decimal (length old), old ++ 10 ∷ text) ≡ (decimal (length other), other ++ 10 ∷ another) = some_is cuts in
+    let numbers : decimal (length old) ≡ decimal (length other) = ap (λ (p : List ℕ × List ℕ). p.0) pairs in
+    let rests : old ++ 10 ∷ text ≡ other ++ 10 ∷ another = ap (λ (p : List ℕ × List ℕ). p.1) pairs in
     let lengths = decimal_injective (length old) (length other) (omega (arith, few)) (omega (arith, few_too)) numbers in
     let parts = same_parts old other (10 ∷ text) (10 ∷ another) lengths rests in
     (parts.0, tail_is parts.1)

@@ -32,7 +32,7 @@ use Rattle.law_document_answers.proofs.Alike.{reports_alike, same_report}
 use Rattle.law_document_answers.proofs.Old.{one_old}
 
 -- two statuses and two answers that are one, the answers where no unit is false
-record Same (due other : Status) (answer another : List ℕ) : Type 0 where
+pub record Same (due other : Status) (answer another : List ℕ) : Type 0 where
   pub statuses : due ≡ other
   pub answers : due ≢ status.SomeFalse → answer ≡ another
 
@@ -59,7 +59,7 @@ module _ (not_both : IsNotBoth) (one_fault : IsOneFault) (one_tree : OneTree) (o
   -- beside a resumed proof no report is open
   not_open : (proved : Status) (budgets : Budgets) (old : List KeptSet) (text : List ℕ) (proof : Document) (report : Report) → IsResumedProof old budgets.nodes budgets.steps text proof →
       IsResumedReport old budgets.nodes budgets.steps text report → status_of proved report ≢ proved → ⊥
-  not_open proved budgets old text proof report is told open = open (all_true proved report (true_texts old text budgets.nodes budgets.steps proof report is told))
+  not_open proved budgets old text proof report is told unproved = unproved (all_true proved report (true_texts old text budgets.nodes budgets.steps proof report is told))
 
   -- ---- a document is asked for
 
@@ -72,16 +72,16 @@ module _ (not_both : IsNotBoth) (one_fault : IsOneFault) (one_tree : OneTree) (o
   one_documented : (budgets : Budgets) (text : List ℕ) (due other : Status) (answer another : List ℕ) → IsDocumentDue (Proof budgets) text due answer → IsDocumentDue (Proof budgets) text other another → Same due other answer another
   one_documented _ text _ _ _ _ (documented budgets proof is) (documented _ another is_too) =
       record { statuses = refl; answers = λ not. ap document (one_proof_of text budgets.nodes budgets.steps proof another is is_too) }
-  one_documented _ text _ _ _ _ (documented budgets proof is) (open_report _ report right open) =
-      absurd (not_open status.Documented budgets [] text proof report (proof_as budgets text proof is) (right_as budgets text report right) open)
+  one_documented _ text _ _ _ _ (documented budgets proof is) (open_report _ report right unproved) =
+      absurd (not_open status.Documented budgets [] text proof report (proof_as budgets text proof is) (right_as budgets text report right) unproved)
   one_documented _ text _ _ _ _ (documented budgets proof is) (refused_text _ number at fault) = absurd (no_fault not_both one_fault one_tree text is.tree number at is.is_valid fault)
-  one_documented _ text _ _ _ _ (open_report budgets report right open) (documented _ proof is) =
-      absurd (not_open status.Documented budgets [] text proof report (proof_as budgets text proof is) (right_as budgets text report right) open)
-  one_documented _ text _ _ _ _ (open_report budgets report right open) (open_report _ other right_too open_too) =
+  one_documented _ text _ _ _ _ (open_report budgets report right unproved) (documented _ proof is) =
+      absurd (not_open status.Documented budgets [] text proof report (proof_as budgets text proof is) (right_as budgets text report right) unproved)
+  one_documented _ text _ _ _ _ (open_report budgets report right unproved) (open_report _ other right_too open_too) =
       one_open status.Documented budgets [] text report other (right_as budgets text report right) (right_as budgets text other right_too)
-  one_documented _ text _ _ _ _ (open_report budgets report right open) (refused_text _ number at fault) = absurd (no_fault not_both one_fault one_tree text right.0 number at right.1 fault)
+  one_documented _ text _ _ _ _ (open_report budgets report right unproved) (refused_text _ number at fault) = absurd (no_fault not_both one_fault one_tree text right.0 number at right.1 fault)
   one_documented _ text _ _ _ _ (refused_text budgets number at fault) (documented _ proof is) = absurd (no_fault not_both one_fault one_tree text is.tree number at is.is_valid fault)
-  one_documented _ text _ _ _ _ (refused_text budgets number at fault) (open_report _ report right open) = absurd (no_fault not_both one_fault one_tree text right.0 number at right.1 fault)
+  one_documented _ text _ _ _ _ (refused_text budgets number at fault) (open_report _ report right unproved) = absurd (no_fault not_both one_fault one_tree text right.0 number at right.1 fault)
   one_documented _ text _ _ _ _ (refused_text budgets number at fault) (refused_text _ other place fault_too) = one_refused text number other at place fault fault_too
 
   -- ---- a document is checked
@@ -123,12 +123,12 @@ module _ (not_both : IsNotBoth) (one_fault : IsOneFault) (one_tree : OneTree) (o
   one_resumption _ bytes _ _ _ _ (too_long_to_resume budgets long) (not_old _ within none) = absurd (omega (arith, long, within))
   one_resumption _ bytes _ _ _ _ (too_long_to_resume budgets long) (refused_new _ old text proof number at within is spells fault) = absurd (omega (arith, long, within))
   one_resumption _ bytes _ _ _ _ (too_long_to_resume budgets long) (resumed _ old text proof new within is spells is_new) = absurd (omega (arith, long, within))
-  one_resumption _ bytes _ _ _ _ (too_long_to_resume budgets long) (open_resumed _ old text proof report within is spells told open) = absurd (omega (arith, long, within))
+  one_resumption _ bytes _ _ _ _ (too_long_to_resume budgets long) (open_resumed _ old text proof report within is spells told unproved) = absurd (omega (arith, long, within))
   one_resumption _ bytes _ _ _ _ (not_old budgets within none) (too_long_to_resume _ long) = absurd (omega (arith, long, within))
   one_resumption _ bytes _ _ _ _ (not_old budgets within none) (not_old _ within_too none_too) = same status.Rejected (judged_text form)
   one_resumption _ bytes _ _ _ _ (not_old budgets within none) (refused_new _ old text proof number at within_too is spells fault) = absurd (none old text proof is spells)
   one_resumption _ bytes _ _ _ _ (not_old budgets within none) (resumed _ old text proof new within_too is spells is_new) = absurd (none old text proof is spells)
-  one_resumption _ bytes _ _ _ _ (not_old budgets within none) (open_resumed _ old text proof report within_too is spells told open) = absurd (none old text proof is spells)
+  one_resumption _ bytes _ _ _ _ (not_old budgets within none) (open_resumed _ old text proof report within_too is spells told unproved) = absurd (none old text proof is spells)
   one_resumption _ bytes _ _ _ _ (refused_new budgets old text proof number at within is spells fault) (too_long_to_resume _ long) = absurd (omega (arith, long, within))
   one_resumption _ bytes _ _ _ _ (refused_new budgets old text proof number at within is spells fault) (not_old _ within_too none) = absurd (none old text proof is spells)
   one_resumption _ bytes _ _ _ _ (refused_new budgets old text proof number at within is spells fault) (refused_new _ other another proof_too number_too at_too within_too is_too spells_too fault_too) =
@@ -138,7 +138,7 @@ module _ (not_both : IsNotBoth) (one_fault : IsOneFault) (one_tree : OneTree) (o
   one_resumption _ bytes _ _ _ _ (refused_new budgets old text proof number at within is spells fault) (resumed _ other another proof_too new within_too is_too spells_too is_new) =
       let r = cut_of bytes old text other another proof proof_too is is_too spells spells_too in
       absurd (no_fault not_both one_fault one_tree another is_new.tree number at is_new.is_valid (subst (λ (xs : List ℕ). IsFaultOf xs number at) r.texts fault))
-  one_resumption _ bytes _ _ _ _ (refused_new budgets old text proof number at within is spells fault) (open_resumed _ other another proof_too report within_too is_too spells_too told open) =
+  one_resumption _ bytes _ _ _ _ (refused_new budgets old text proof number at within is spells fault) (open_resumed _ other another proof_too report within_too is_too spells_too told unproved) =
       let r = cut_of bytes old text other another proof proof_too is is_too spells spells_too in
       absurd (no_fault not_both one_fault one_tree another told.tree number at told.is_valid (subst (λ (xs : List ℕ). IsFaultOf xs number at) r.texts fault))
   one_resumption _ bytes _ _ _ _ (resumed budgets old text proof new within is spells is_new) (too_long_to_resume _ long) = absurd (omega (arith, long, within))
@@ -150,20 +150,20 @@ module _ (not_both : IsNotBoth) (one_fault : IsOneFault) (one_tree : OneTree) (o
       let r = cut_of bytes old text other another proof proof_too is is_too spells spells_too in
       let moved = subst (λ (p : Document). IsResumedProof p.sets budgets.nodes budgets.steps another new) r.proofs (subst (λ (xs : List ℕ). IsResumedProof proof.sets budgets.nodes budgets.steps xs new) r.texts is_new) in
       record { statuses = refl; answers = λ not. ap document (one_resumed proof_too.sets another budgets.nodes budgets.steps new new_too moved is_new_too) }
-  one_resumption _ bytes _ _ _ _ (resumed budgets old text proof new within is spells is_new) (open_resumed _ other another proof_too report within_too is_too spells_too told open) =
+  one_resumption _ bytes _ _ _ _ (resumed budgets old text proof new within is spells is_new) (open_resumed _ other another proof_too report within_too is_too spells_too told unproved) =
       let r = cut_of bytes old text other another proof proof_too is is_too spells spells_too in
       let moved = subst (λ (p : Document). IsResumedProof p.sets budgets.nodes budgets.steps another new) r.proofs (subst (λ (xs : List ℕ). IsResumedProof proof.sets budgets.nodes budgets.steps xs new) r.texts is_new) in
-      absurd (not_open status.Resumed budgets proof_too.sets another new report moved told open)
-  one_resumption _ bytes _ _ _ _ (open_resumed budgets old text proof report within is spells told open) (too_long_to_resume _ long) = absurd (omega (arith, long, within))
-  one_resumption _ bytes _ _ _ _ (open_resumed budgets old text proof report within is spells told open) (not_old _ within_too none) = absurd (none old text proof is spells)
-  one_resumption _ bytes _ _ _ _ (open_resumed budgets old text proof report within is spells told open) (refused_new _ other another proof_too number at within_too is_too spells_too fault) =
+      absurd (not_open status.Resumed budgets proof_too.sets another new report moved told unproved)
+  one_resumption _ bytes _ _ _ _ (open_resumed budgets old text proof report within is spells told unproved) (too_long_to_resume _ long) = absurd (omega (arith, long, within))
+  one_resumption _ bytes _ _ _ _ (open_resumed budgets old text proof report within is spells told unproved) (not_old _ within_too none) = absurd (none old text proof is spells)
+  one_resumption _ bytes _ _ _ _ (open_resumed budgets old text proof report within is spells told unproved) (refused_new _ other another proof_too number at within_too is_too spells_too fault) =
       let r = cut_of bytes old text other another proof proof_too is is_too spells spells_too in
       absurd (no_fault not_both one_fault one_tree text told.tree number at told.is_valid (subst (λ (xs : List ℕ). IsFaultOf xs number at) (sym r.texts) fault))
-  one_resumption _ bytes _ _ _ _ (open_resumed budgets old text proof report within is spells told open) (resumed _ other another proof_too new within_too is_too spells_too is_new) =
+  one_resumption _ bytes _ _ _ _ (open_resumed budgets old text proof report within is spells told unproved) (resumed _ other another proof_too new within_too is_too spells_too is_new) =
       let r = cut_of bytes old text other another proof proof_too is is_too spells spells_too in
       let moved = subst (λ (p : Document). IsResumedReport p.sets budgets.nodes budgets.steps another report) r.proofs (subst (λ (xs : List ℕ). IsResumedReport proof.sets budgets.nodes budgets.steps xs report) r.texts told) in
-      absurd (not_open status.Resumed budgets proof_too.sets another new report is_new moved open)
-  one_resumption _ bytes _ _ _ _ (open_resumed budgets old text proof report within is spells told open) (open_resumed _ other another proof_too report_too within_too is_too spells_too told_too open_too) =
+      absurd (not_open status.Resumed budgets proof_too.sets another new report is_new moved unproved)
+  one_resumption _ bytes _ _ _ _ (open_resumed budgets old text proof report within is spells told unproved) (open_resumed _ other another proof_too report_too within_too is_too spells_too told_too open_too) =
       let r = cut_of bytes old text other another proof proof_too is is_too spells spells_too in
       let moved = subst (λ (p : Document). IsResumedReport p.sets budgets.nodes budgets.steps another report) r.proofs (subst (λ (xs : List ℕ). IsResumedReport proof.sets budgets.nodes budgets.steps xs report) r.texts told) in
       one_open status.Resumed budgets proof_too.sets another report report_too moved told_too

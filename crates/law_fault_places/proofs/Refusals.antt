@@ -120,7 +120,7 @@ judged-not (set k) not = refl
 pub document-refusal-tells : FaultsAreWithin → (command : Command) (bytes : List ℕ) (due : Status) (answer : List ℕ) → IsDocumentDue command bytes due answer → is_refused due ≡ true →
     TellsDesign answer ⊎ (answer ≡ fault_text bytes 33 0)
 document-refusal-tells within _ bytes _ _ (documented budgets proof is) e = absurd (true≢false (sym e))
-document-refusal-tells within _ bytes _ _ (open_report budgets report right open) e = absurd (true≢false (sym e ∙ open-not status.Documented report refl))
+document-refusal-tells within _ bytes _ _ (open_report budgets report right unproved) e = absurd (true≢false (sym e ∙ open-not status.Documented report refl))
 document-refusal-tells within _ bytes _ _ (refused_text budgets number at fault) e = inl (of-design within bytes number at fault)
 document-refusal-tells within _ bytes _ _ (too_long_to_check long) e = inr refl
 document-refusal-tells within _ bytes _ _ (judged j short is not) e = absurd (true≢false (sym e ∙ judged-not j not))
@@ -129,4 +129,4 @@ document-refusal-tells within _ bytes _ _ (too_long_to_resume budgets long) e = 
 document-refusal-tells within _ bytes _ _ (not_old budgets short none) e = absurd (true≢false (sym e))
 document-refusal-tells within _ bytes _ _ (refused_new budgets old text proof number at short is spells fault) e = inl (of-design within text number at fault)
 document-refusal-tells within _ bytes _ _ (resumed budgets old text proof new short is spells is_new) e = absurd (true≢false (sym e))
-document-refusal-tells within _ bytes _ _ (open_resumed budgets old text proof report short is spells told open) e = absurd (true≢false (sym e ∙ open-not status.Resumed report refl))
+document-refusal-tells within _ bytes _ _ (open_resumed budgets old text proof report short is spells told unproved) e = absurd (true≢false (sym e ∙ open-not status.Resumed report refl))
