@@ -119,7 +119,7 @@ true_is (verdict.UnknownNodes case count) e = absurd (true≢false (sym (ap is_h
 true_is (verdict.UnknownSteps case) e = absurd (true≢false (sym (ap is_here e)))
 
 pub holds_so : ConfirmedTrueHolds → HoldsHereIsSo
-holds_so law None text answer within is = absurd (true≢false (sym (ap is_here is.0)))
+holds_so law None text answer within is = absurd (true≢false (ap is_here is.0))
 holds_so law (Some (Confirm name sizes budgets)) text answer within is =
     let t = told_of (Confirm name sizes budgets) text status.HoldsHere answer refl is in
     let said = subst (IsConfirmed text name sizes budgets.nodes budgets.steps) (true_is t.found t.due_is) t.is_confirmed in
@@ -147,7 +147,7 @@ module _ (one_tree : OneTree) (law : ConfirmedFalseIsReal) where
           (tree, case, elements, path, real, valid, written ∙ (λ i. confirmed_lines (flat_design (trees i)) (units i) name (verdict.False case elements path)))
 
   pub real_so : RealIsSo
-  real_so None text answer within is = absurd (true≢false (sym (ap is_real is.0)))
+  real_so None text answer within is = absurd (true≢false (ap is_real is.0))
   real_so (Some (Confirm name sizes budgets)) text answer within is =
       real_told name sizes budgets.nodes budgets.steps text budgets answer within.0 (told_of (Confirm name sizes budgets) text status.Real answer refl is)
   real_so (Some (Prove budgets)) text answer within is = told_of (Prove budgets) text status.Real answer refl is

@@ -48,7 +48,7 @@ told_leaf case_for nodes steps cases (verdict.UnknownNodes case count) is = is
 told_leaf case_for nodes steps cases (verdict.UnknownSteps case) is = is
 
 -- the status by what is told
-status_told : LeafVerdict → Status
+abbrev status_told : LeafVerdict → Status
 status_told all_true = status.HoldsHere
 status_told (fails classes (Reached k)) = status.Real
 status_told (fails classes _) = status.SomeUnknown

@@ -30,10 +30,10 @@ one_old bytes old text other another is is_too =
     let few = is.few in
     let few_too = is_too.few in
     let lines : after (length old) (old ++ 10 ∷ text) ≡ after (length other) (other ++ 10 ∷ another) =
-        tail_is (tail_is (tail_is (tail_is (sym (line_is (length old) (old ++ 10 ∷ text)) ∙ (sym is.spelled ∙ (is_too.spelled ∙ line_is (length other) (other ++ 10 ∷ another))))))) in
+    tail_is (tail_is (tail_is (tail_is (sym (line_is (length old) (old ++ 10 ∷ text)) ∙ (sym is.spelled ∙ (is_too.spelled ∙ line_is (length other) (other ++ 10 ∷ another))))))) in
     let cuts : Some (decimal (length old), old ++ 10 ∷ text) ≡ Some (decimal (length other), other ++ 10 ∷ another) =
-        sym (cut_front 10 (decimal (length old)) (old ++ 10 ∷ text) (decimal_lacks 10 (length old) (omega arith) few)) ∙ (ap (cut 10) lines
-        ∙ cut_front 10 (decimal (length other)) (other ++ 10 ∷ another) (decimal_lacks 10 (length other) (omega arith) few_too)) in
+    sym (cut_front 10 (decimal (length old)) (old ++ 10 ∷ text) (decimal_lacks 10 (length old) (omega arith) few)) ∙ (ap (cut 10) lines
+    ∙ cut_front 10 (decimal (length other)) (other ++ 10 ∷ another) (decimal_lacks 10 (length other) (omega arith) few_too)) in
     let pairs : (decimal (length old), old ++ 10 ∷ text) ≡ (decimal (length other), other ++ 10 ∷ another) = some_is cuts in
     let numbers : decimal (length old) ≡ decimal (length other) = ap (λ (p : List ℕ × List ℕ). p.0) pairs in
     let rests : old ++ 10 ∷ text ≡ other ++ 10 ∷ another = ap (λ (p : List ℕ × List ℕ). p.1) pairs in

@@ -41,7 +41,6 @@ same due answer = record { statuses = refl; answers = λ not. refl }
 
 module _ (not_both : IsNotBoth) (one_fault : IsOneFault) (one_tree : OneTree) (one_verdict : OneVerdict) (one_proof_of : OneProofOf) (one_resumed : OneResumedProof) (true_texts : ResumedProofsAreOfTrueTexts)
     (nothing : NothingIsResumed) (nothing_told : NothingIsReported) (one_judged : OneJudgement) (one_spelled : OneProof) where
-
   -- the status of a text's fault, and of another
   one_refused : (text : List ℕ) (number other at place : ℕ) → IsFaultOf text number at → IsFaultOf text other place → Same status.Refused status.Refused (fault_text text number at) (fault_text text other place)
   one_refused text number other at place fault fault_too =

@@ -43,9 +43,9 @@ module _ (n : ℕ) where
       let counted = where-not Stands (nat_eq (length given) (undeclared d.sets)) (record { number = 34; at = 0 }) (inr (record { lowest = omega arith; highest = omega arith; place = omega arith })) in
       let wide = where-so Stands (list_any (λ f. nat_lt 256 (element_count (sized d s) f)) d.families) (at_unit d unit given 35) (inr (record { lowest = omega arith; highest = omega arith; place = placed })) in
       let many = where-so Stands (nat_lt 8 (length (params_of (sized d s) (unit_in d unit))) || nat_lt 4096 (length (concrete_cases d s unit))) (at_unit d unit given 29)
-          (inl (record { lowest = omega arith; highest = omega arith; place = placed })) in
+      (inl (record { lowest = omega arith; highest = omega arith; place = placed })) in
       let wide_cases = where-so Stands (list_any (λ classes. nat_lt 1024 (case_bits d unit given classes)) (concrete_cases d s unit)) (at_unit d unit given 30)
-          (inl (record { lowest = omega arith; highest = omega arith; place = placed })) in
+      (inl (record { lowest = omega arith; highest = omega arith; place = placed })) in
       either-each Stands (cases_fault d unit given) (width_fault d unit given)
       (either-each Stands (number_fault d unit given) (or_else (wide_fault d unit given) (many_fault d unit given)) counted (either-each Stands (wide_fault d unit given) (many_fault d unit given) wide many))
       wide_cases

@@ -6,19 +6,30 @@ use smv_problem::Budgets;
 #[derive(Drop)]
 pub enum Command {
     /// Decide all units of a design.
-    Prove { budgets: Budgets },
+    Prove {
+        budgets: Budgets,
+    },
     /// Decide the unit of this name alone.
-    Only { name: Name, budgets: Budgets },
+    Only {
+        name: Name,
+        budgets: Budgets,
+    },
     /// Write the canonical spelling of a text.
     Print,
     /// Decide the generated design with so many copies.
-    Generated { copies: u16 },
+    Generated {
+        copies: u16,
+    },
     /// Decide all units of a design, and write its proof document where each is true.
-    Proof { budgets: Budgets },
+    Proof {
+        budgets: Budgets,
+    },
     /// Check a proof document.
     Check,
     /// Decide all units of a design that stands behind an old proof document, whose sets are used where they serve still.
-    Resume { budgets: Budgets },
+    Resume {
+        budgets: Budgets,
+    },
     /// Decide the unit of this name over the design itself, where the set types without a declared size have these sizes.
     Confirm {
         name: Name,
