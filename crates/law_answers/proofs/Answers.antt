@@ -2,74 +2,30 @@
 use Rattle.std.proofs.Common.{◌≡◌, ◌∙◌, ◌||◌, ℕ, Bool, true, false, List, [], ◌∷◌, Option, Some, None, ap, ap₂, arith, refl, subst, sym, true≢false}
 use Rattle.std.specs.Prelude.{if◌then◌else◌}
 use Rattle.std.specs.List.{list_any}
-use Rattle.std.proofs.lemmas.Bool.{or_parts}
 use Rattle.smv_core.specs.declared.tree.Text.{Text}
-use Rattle.law_obligations.specs.Sets.{first, later}
-use Rattle.law_events.specs.Events.Event.{Counted, Reached, Images}
 use Rattle.smv_problem.specs.declared.report.Verdict.{Verdict}
 use Rattle.smv_problem.specs.declared.report.Verdict.TheVariants as verdict
-use Rattle.smv_problem.specs.declared.report.UnitResult.{UnitResult}
 use Rattle.smv_problem.specs.declared.report.Report.{Report}
-use Rattle.law_reports.specs.Verdicts.{LeafVerdict, fails}
-use Rattle.law_reports.specs.Reports.{AllTrueUnits, told, told_of}
-use Rattle.smv_parse.specs.Laws.{IsNotBoth}
+use Rattle.law_reports.specs.Reports.{AllTrueUnits, told_of}
+use Rattle.smv_parse.specs.Laws.{IsNotBoth, IsOneFault}
 use Rattle.smv_command.specs.declared.commands.Command.{Command}
-use Rattle.smv_command.specs.declared.commands.Command.TheVariants.{Prove, Only, Print, Generated}
+use Rattle.smv_command.specs.declared.commands.Command.TheVariants.{Prove, Only, Print, Generated, Proof, Check, Resume, Confirm}
 use Rattle.smv_command.specs.declared.exit.Status.{Status}
 use Rattle.smv_command.specs.declared.exit.Status.TheVariants as status
 use Rattle.law_valid_texts.specs.Plans.{IsTree}
 use Rattle.law_valid_texts.specs.Faults.{pass_fault}
 use Rattle.law_valid_texts.specs.Reports.{IsValid, IsRightReport}
 use Rattle.law_valid_texts.specs.Laws.{OneTree, OneReport, OneUnitReport, UnitsAreOrAreNot}
-use Rattle.law_answers.specs.Dues.{IsDue, IsDueTo, IsFault, IsReportFor, decided, default_nodes, default_steps, faulty, is_false, is_unknown, malformed, printed, proved_by, refused, status_of, text_for, too_long, unnamed}
-
--- ---- a status by what is told
-
-abbrev fails_told : LeafVerdict → Bool
-fails_told (fails classes (Reached k)) = true
-fails_told _ = false
-
-abbrev unknown_told : LeafVerdict → Bool
-unknown_told (fails classes (Counted n)) = true
-unknown_told (fails classes Images) = true
-unknown_told _ = false
-
-false_is : (v : Verdict) → is_false v ≡ fails_told (told v)
-false_is verdict.True = refl
-false_is (verdict.False case elements path) = refl
-false_is (verdict.UnknownNodes case count) = refl
-false_is (verdict.UnknownSteps case) = refl
-
-unknown_is : (v : Verdict) → is_unknown v ≡ unknown_told (told v)
-unknown_is verdict.True = refl
-unknown_is (verdict.False case elements path) = refl
-unknown_is (verdict.UnknownNodes case count) = refl
-unknown_is (verdict.UnknownSteps case) = refl
-
-any_told : (test : Verdict → Bool) (of : LeafVerdict → Bool) → ((v : Verdict) → test v ≡ of (told v)) → (units : List UnitResult) → list_any (λ u. test u.verdict) units ≡ list_any of (told_of units)
-any_told test of each [] = refl
-any_told test of each (u ∷ units) = ap₂ ◌||◌ (each u.verdict) (any_told test of each units)
-
-pub same_status : (proved : Status) (report other : Report) → told_of report.units ≡ told_of other.units → status_of proved report ≡ status_of proved other
-same_status proved report other same =
-    let some_false : list_any (λ u. is_false u.verdict) report.units ≡ list_any (λ u. is_false u.verdict) other.units =
-    any_told is_false fails_told false_is report.units ∙ (ap (list_any fails_told) same ∙ sym (any_told is_false fails_told false_is other.units)) in
-    let some_unknown : list_any (λ u. is_unknown u.verdict) report.units ≡ list_any (λ u. is_unknown u.verdict) other.units =
-    any_told is_unknown unknown_told unknown_is report.units ∙ (ap (list_any unknown_told) same ∙ sym (any_told is_unknown unknown_told unknown_is other.units)) in
-    ap₂ (λ (x y : Bool). if x then status.SomeFalse else (if y then status.SomeUnknown else proved)) some_false some_unknown
+use Rattle.law_judgements.specs.Judgements.{Judgement}
+use Rattle.law_judgements.specs.Judgements.Judgement.{yes, form, design, set}
+use Rattle.law_document_answers.specs.Laws.{OneDocumentStatus}
+use Rattle.law_document_answers.specs.Dues.{IsDocumentDue, documented, open_report, refused_text, too_long_to_check, judged, refused_design, too_long_to_resume, not_old, refused_new, resumed, open_resumed, status_by}
+use Rattle.law_document_answers.proofs.Statuses.{same_status, true_units}
+use Rattle.law_answers.specs.Confirmations.{confirmed_status}
+use Rattle.law_answers.proofs.Confirmed.{not_confirmed, same_status_of, told_once}
+use Rattle.law_answers.specs.Dues.{IsDue, IsDueTo, IsFault, IsReportFor, confirmed, decided, default_nodes, default_steps, faulty, is_false, is_of_documents, is_unknown, malformed, of_documents, of_unit, printed, proved_by, refused, status_of, text_for, too_long, unnamed}
 
 -- ---- all is proved
-
-true_unit : (v : Verdict) → is_false v ≡ false → is_unknown v ≡ false → v ≡ verdict.True
-true_unit verdict.True f u = refl
-true_unit (verdict.False case elements path) f u = absurd (true≢false f)
-true_unit (verdict.UnknownNodes case count) f u = absurd (true≢false u)
-true_unit (verdict.UnknownSteps case) f u = absurd (true≢false u)
-
-true_units : (units : List UnitResult) → list_any (λ u. is_false u.verdict) units ≡ false → list_any (λ u. is_unknown u.verdict) units ≡ false → AllTrueUnits units
-true_units [] f u r h = elim h [ ]
-true_units (x ∷ units) f u _ first = true_unit x.verdict (or_parts (is_false x.verdict) (list_any (λ u. is_false u.verdict) units) f).0 (or_parts (is_unknown x.verdict) (list_any (λ u. is_unknown u.verdict) units) u).0
-true_units (x ∷ units) f u r (later h) = true_units units (or_parts (is_false x.verdict) (list_any (λ u. is_false u.verdict) units) f).1 (or_parts (is_unknown x.verdict) (list_any (λ u. is_unknown u.verdict) units) u).1 r h
 
 -- whether all is proved
 abbrev is_all : Status → Bool
@@ -93,8 +49,34 @@ valid_text (Prove budgets) text report is = (is.0, is.1)
 valid_text (Only name budgets) text report is = (is.0, is.1)
 valid_text Print text report is = absurd is
 valid_text (Generated copies) text report is = (is.0, is.1)
+valid_text (Proof budgets) text report is = absurd is
+valid_text Check text report is = absurd is
+valid_text (Resume budgets) text report is = absurd is
+valid_text (Confirm name sizes budgets) text report is = absurd is
 
-module _ (not_both : IsNotBoth) (one_tree : OneTree) (either : UnitsAreOrAreNot) where
+-- what is due of documents is due to a command on documents
+pub of_ones : (command : Command) (text : List ℕ) (due : Status) (answer : List ℕ) → IsDocumentDue command text due answer → is_of_documents command ≡ true
+of_ones (Proof budgets) text due answer is = refl
+of_ones Check text due answer is = refl
+of_ones (Resume budgets) text due answer is = refl
+of_ones (Prove budgets) text due answer is = elim is [ ]
+of_ones (Only name budgets) text due answer is = elim is [ ]
+of_ones Print text due answer is = elim is [ ]
+of_ones (Generated copies) text due answer is = elim is [ ]
+of_ones (Confirm name sizes budgets) text due answer is = elim is [ ]
+
+-- and no command on documents asks for a report
+pub of_others : (command : Command) (text : List ℕ) (report : Report) → IsReportFor command text report → is_of_documents command ≡ true → ⊥
+of_others (Prove budgets) text report is e = true≢false (sym e)
+of_others (Only name budgets) text report is e = true≢false (sym e)
+of_others Print text report is e = is
+of_others (Generated copies) text report is e = true≢false (sym e)
+of_others (Proof budgets) text report is e = is
+of_others Check text report is e = is
+of_others (Resume budgets) text report is e = is
+of_others (Confirm name sizes budgets) text report is e = is
+
+module _ (not_both : IsNotBoth) (one_fault : IsOneFault) (one_tree : OneTree) (either : UnitsAreOrAreNot) where
   pub not_faulty : (command : Command) (text : List ℕ) (report : Report) (number at : ℕ) → IsReportFor command text report → IsFault command text number at → ⊥
   not_faulty command text report _ _ is (too_long long) =
       let within = (valid_text command text report is).1.is_tree.within in
@@ -109,6 +91,7 @@ module _ (not_both : IsNotBoth) (one_tree : OneTree) (either : UnitsAreOrAreNot)
       let bad : ⊥ = cc in
       bad
   not_faulty _ text report _ _ is (unnamed name nodes steps none) = either text name nodes steps report is none
+  not_faulty _ text report _ _ is (of_unit name sizes budgets number at fault) = is
 
   not_printed : (text : List ℕ) (tree : Text) (number at : ℕ) → IsTree text tree → IsFault Print text number at → ⊥
   not_printed text tree _ _ is (too_long long) =
@@ -117,23 +100,42 @@ module _ (not_both : IsNotBoth) (one_tree : OneTree) (either : UnitsAreOrAreNot)
   not_printed text tree _ _ is (malformed number at within fault) = not_both text tree number at is.spelled fault
   not_printed text tree _ _ is (faulty other fault deciding is_tree found) = true≢false (sym deciding)
 
-  module _ (one_report : OneReport) (one_unit : OneUnitReport) where
+  module _ (one_report : OneReport) (one_unit : OneUnitReport) (one_document : OneDocumentStatus) where
     told_alike : (command : Command) (text : List ℕ) (report other : Report) → IsReportFor command text report → IsReportFor command text other → told_of report.units ≡ told_of other.units
     told_alike (Prove budgets) text report other is is_other = one_report text budgets.nodes budgets.steps report other is is_other
     told_alike (Only name budgets) text report other is is_other = one_unit text name budgets.nodes budgets.steps report other is is_other
     told_alike Print text report other is is_other = absurd is
     told_alike (Generated copies) text report other is is_other = one_report text default_nodes default_steps report other is is_other
+    told_alike (Proof budgets) text report other is is_other = absurd is
+    told_alike Check text report other is is_other = absurd is
+    told_alike (Resume budgets) text report other is is_other = absurd is
+    told_alike (Confirm name sizes budgets) text report other is is_other = absurd is
 
     pub one_due : (command : Command) (text : List ℕ) (due other : Status) (answer another : List ℕ) → IsDue command text due answer → IsDue command text other another → due ≡ other
     one_due command text _ _ _ _ (decided report is) (decided another is_another) = same_status (proved_by command) report another (told_alike command text report another is is_another)
-    one_due command text _ _ _ _ (decided report is) (refused number at fault) = absurd (not_faulty command text report number at is fault)
+    one_due command text _ _ _ _ (decided report is) (refused number at other fault) = absurd (not_faulty command text report number at is fault)
     one_due _ text _ _ _ _ (decided report is) (printed tree is_tree) = absurd is
+    one_due command text _ other _ another (decided report is) (of_documents due) = absurd (of_others command text report is (of_ones command text other another due))
     one_due _ text _ _ _ _ (printed tree is_tree) (decided report is) = absurd is
     one_due _ text _ _ _ _ (printed tree is_tree) (printed other is_other) = refl
-    one_due _ text _ _ _ _ (printed tree is_tree) (refused number at fault) = absurd (not_printed text tree number at is_tree fault)
-    one_due command text _ _ _ _ (refused number at fault) (decided report is) = absurd (not_faulty command text report number at is fault)
-    one_due _ text _ _ _ _ (refused number at fault) (printed tree is_tree) = absurd (not_printed text tree number at is_tree fault)
-    one_due command text _ _ _ _ (refused number at fault) (refused place where_at other) = refl
+    one_due _ text _ _ _ _ (printed tree is_tree) (refused number at other fault) = absurd (not_printed text tree number at is_tree fault)
+    one_due _ text _ other _ another (printed tree is_tree) (of_documents due) = absurd (true≢false (sym (of_ones Print text other another due)))
+    one_due command text _ _ _ _ (refused number at other fault) (decided report is) = absurd (not_faulty command text report number at is fault)
+    one_due _ text _ _ _ _ (refused number at other fault) (printed tree is_tree) = absurd (not_printed text tree number at is_tree fault)
+    one_due command text _ _ _ _ (refused number at other fault) (refused place where_at another fault_too) = refl
+    one_due command text _ other _ another (refused number at not fault) (of_documents due) = absurd (true≢false (sym (of_ones command text other another due) ∙ not))
+    one_due command text due _ answer _ (of_documents is) (decided report is_report) = absurd (of_others command text report is_report (of_ones command text due answer is))
+    one_due _ text due _ answer _ (of_documents is) (printed tree is_tree) = absurd (true≢false (sym (of_ones Print text due answer is)))
+    one_due command text due _ answer _ (of_documents is) (refused number at not fault) = absurd (true≢false (sym (of_ones command text due answer is) ∙ not))
+    one_due command text due other answer another (of_documents is) (of_documents is_other) = one_document command text due other answer another is is_other
+    one_due _ text _ _ _ _ (decided report is) (confirmed name sizes budgets tree unit v valid called is_other) = absurd is
+    one_due _ text _ _ _ _ (refused number at not fault) (confirmed name sizes budgets tree unit v valid called is) = absurd (not_confirmed not_both one_fault one_tree text name sizes budgets v number at is fault)
+    one_due _ text due _ answer _ (of_documents is) (confirmed name sizes budgets tree unit v valid called is_other) = absurd (true≢false (sym (of_ones (Confirm name sizes budgets) text due answer is)))
+    one_due _ text _ _ _ _ (confirmed name sizes budgets tree unit v valid called is) (decided report is_other) = absurd is_other
+    one_due _ text _ _ _ _ (confirmed name sizes budgets tree unit v valid called is) (refused number at not fault) = absurd (not_confirmed not_both one_fault one_tree text name sizes budgets v number at is fault)
+    one_due _ text _ other _ another (confirmed name sizes budgets tree unit v valid called is) (of_documents is_other) = absurd (true≢false (sym (of_ones (Confirm name sizes budgets) text other another is_other)))
+    one_due _ text _ _ _ _ (confirmed name sizes budgets tree unit v valid called is) (confirmed _ _ _ tree_too unit_too w valid_too called_too is_other) =
+        same_status_of v w (told_once one_tree text name sizes budgets.nodes budgets.steps v w is is_other)
 
 -- ---- all proved is due to `prove` alone
 
@@ -150,13 +152,46 @@ by_prove (Prove budgets) text report is e all = record { nodes = budgets.nodes; 
 by_prove (Only name budgets) text report is e all = absurd (true≢false (sym (ap is_all e)))
 by_prove Print text report is e all = absurd is
 by_prove (Generated copies) text report is e all = absurd (true≢false (sym (ap is_all e)))
+by_prove (Proof budgets) text report is e all = absurd is
+by_prove Check text report is e all = absurd is
+by_prove (Resume budgets) text report is e all = absurd is
+by_prove (Confirm name sizes budgets) text report is e all = absurd is
+
+-- all proved is not due to a unit at given sizes
+not_all : (v : Verdict) → is_all (confirmed_status v) ≡ false
+not_all verdict.True = refl
+not_all (verdict.False case elements path) = refl
+not_all (verdict.UnknownNodes case count) = refl
+not_all (verdict.UnknownSteps case) = refl
+
+-- nor of documents
+judged_not : (j : Judgement) → status_by j ≡ status.AllProved → ⊥
+judged_not (yes n) e = true≢false (sym (ap is_all e))
+judged_not form e = true≢false (sym (ap is_all e))
+judged_not (design number at) e = true≢false (sym (ap is_all e))
+judged_not (set k) e = true≢false (sym (ap is_all e))
+
+not_of_documents : (command : Command) (text : List ℕ) (due : Status) (answer : List ℕ) → due ≡ status.AllProved → IsDocumentDue command text due answer → ⊥
+not_of_documents _ text _ _ e (documented budgets proof is) = true≢false (sym (ap is_all e))
+not_of_documents _ text _ _ e (open_report budgets report right unproved) = true≢false (sym (ap is_all (all_proved status.Documented report e).0))
+not_of_documents _ text _ _ e (refused_text budgets number at fault) = true≢false (sym (ap is_all e))
+not_of_documents _ text _ _ e (too_long_to_check long) = true≢false (sym (ap is_all e))
+not_of_documents _ text _ _ e (judged j within is not) = judged_not j e
+not_of_documents _ text _ _ e (refused_design proof number at within spells fault) = true≢false (sym (ap is_all e))
+not_of_documents _ text _ _ e (too_long_to_resume budgets long) = true≢false (sym (ap is_all e))
+not_of_documents _ text _ _ e (not_old budgets within none) = true≢false (sym (ap is_all e))
+not_of_documents _ text _ _ e (refused_new budgets old new proof number at within is spells fault) = true≢false (sym (ap is_all e))
+not_of_documents _ text _ _ e (resumed budgets old new proof written within is spells is_new) = true≢false (sym (ap is_all e))
+not_of_documents _ text _ _ e (open_resumed budgets old new proof report within is spells told unproved) = true≢false (sym (ap is_all (all_proved status.Resumed report e).0))
 
 all_due : (command : Command) (text asked : List ℕ) (due : Status) (answer : List ℕ) → text_for command text ≡ asked → due ≡ status.AllProved → IsDue command asked due answer → AllProvedOf command text
 all_due command text asked _ _ same e (decided report is) =
     let all = all_proved (proved_by command) report e in
     by_prove command text report (subst (λ (t : List ℕ). IsReportFor command t report) (sym same) is) all.0 all.1
 all_due _ text asked _ _ same e (printed tree is) = absurd (true≢false (sym (ap is_all e)))
-all_due command text asked _ _ same e (refused number at fault) = absurd (true≢false (sym (ap is_all e)))
+all_due command text asked _ _ same e (refused number at not fault) = absurd (true≢false (sym (ap is_all e)))
+all_due command text asked due answer same e (of_documents is) = absurd (not_of_documents command asked due answer e is)
+all_due _ text asked _ _ same e (confirmed name sizes budgets tree unit v valid called is) = absurd (true≢false (sym (ap is_all e) ∙ not_all v))
 
 pub all_due_to : (command : Option Command) (text answer : List ℕ) → IsDueTo command text status.AllProved answer → (asked : Command) × AllProvedOf asked text
 all_due_to None text answer due = absurd (true≢false (ap is_all due.0))

@@ -1,4 +1,7 @@
-mod Answers
+pub mod Answers
 pub mod OneDue
 pub mod OneFault
 pub mod OneReport
+mod Documents
+mod Confirmed
+pub mod Asked

@@ -4,47 +4,18 @@ use Rattle.std.specs.List.{list_any}
 use Rattle.std.proofs.lemmas.Bool.{or_parts}
 use Rattle.law_lists.proofs.Lists.{head_is, tail_is}
 use Rattle.law_lists.proofs.Options.{some_is}
-use Rattle.smv_core.specs.declared.flat.Class.{Class}
 use Rattle.smv_core.specs.declared.tree.Text.{Text}
 use Rattle.law_obligations.specs.Outlines.{Entry, Script}
-use Rattle.smv_problem.specs.declared.report.Verdict.{Verdict}
-use Rattle.smv_problem.specs.declared.report.Verdict.TheVariants as verdict
 use Rattle.smv_problem.specs.declared.report.UnitResult.{UnitResult}
 use Rattle.smv_problem.specs.declared.report.Report.{Report}
-use Rattle.law_reports.specs.Verdicts.{LeafVerdict, all_true, fails}
+use Rattle.law_reports.specs.Verdicts.{LeafVerdict}
 use Rattle.law_reports.specs.Reports.{IsReportOf, IsResultOf, AreResultsFrom, told, told_of}
 use Rattle.smv_command.specs.declared.commands.Command.{Command}
-use Rattle.smv_command.specs.declared.commands.Command.TheVariants.{Prove, Only, Print, Generated}
+use Rattle.smv_command.specs.declared.commands.Command.TheVariants.{Prove, Only, Print, Generated, Proof, Check, Resume, Confirm}
 use Rattle.law_valid_texts.specs.Reports.{IsRightReport, IsReportOfUnit, IsUnitReport, script_of_tree, unit_named}
 use Rattle.law_valid_texts.specs.Laws.{OneTree, OneReport, OneUnitReport}
+use Rattle.law_document_answers.proofs.Verdicts.{verdict_is}
 use Rattle.law_answers.specs.Dues.{IsReportFor, default_nodes, default_steps, is_false}
-
--- ---- verdicts
-
--- the classes of what is told of a case that is not true
-classes_told : LeafVerdict → List Class
-classes_told all_true = []
-classes_told (fails classes v) = classes
-
-verdict_is : (v w : Verdict) → told v ≡ told w → is_false v ≡ false → v ≡ w
-verdict_is verdict.True verdict.True e f = refl
-verdict_is verdict.True (verdict.False case elements path) e f = absurd (cc)
-verdict_is verdict.True (verdict.UnknownNodes case count) e f = absurd (cc)
-verdict_is verdict.True (verdict.UnknownSteps case) e f = absurd (cc)
-verdict_is (verdict.False case elements path) w e f = absurd (true≢false f)
-verdict_is (verdict.UnknownNodes case count) verdict.True e f = absurd (cc)
-verdict_is (verdict.UnknownNodes case count) (verdict.False other elements path) e f = absurd (cc)
-verdict_is (verdict.UnknownNodes case count) (verdict.UnknownNodes other number) e f =
-    let classes : case.classes ≡ other.classes = cc in
-    let counts : count ≡ number = cc in
-    λ i. verdict.UnknownNodes (record { classes = classes i }) (counts i)
-verdict_is (verdict.UnknownNodes case count) (verdict.UnknownSteps other) e f = absurd (cc)
-verdict_is (verdict.UnknownSteps case) verdict.True e f = absurd (cc)
-verdict_is (verdict.UnknownSteps case) (verdict.False other elements path) e f = absurd (cc)
-verdict_is (verdict.UnknownSteps case) (verdict.UnknownNodes other number) e f = absurd (cc)
-verdict_is (verdict.UnknownSteps case) (verdict.UnknownSteps other) e f =
-    let classes : case.classes ≡ other.classes = cc in
-    λ i. verdict.UnknownSteps (record { classes = classes i })
 
 -- ---- results
 
@@ -105,3 +76,7 @@ module _ (one_tree : OneTree) where
     one_for (Only name budgets) text r q is is_too f = unit_report_is text name budgets.nodes budgets.steps r q is is_too (one_unit text name budgets.nodes budgets.steps r q is is_too) f
     one_for Print text r q is is_too f = absurd is
     one_for (Generated copies) text r q is is_too f = right_is text default_nodes default_steps r q is is_too (one_report text default_nodes default_steps r q is is_too) f
+    one_for (Proof budgets) text r q is is_too f = absurd is
+    one_for Check text r q is is_too f = absurd is
+    one_for (Resume budgets) text r q is is_too f = absurd is
+    one_for (Confirm name sizes budgets) text r q is is_too f = absurd is

@@ -1,11 +1,11 @@
 -- What a call owes: its status and its whole answer, as a command and a text call for them.
-use Rattle.std.specs.Prelude.{◌≡◌, ◌≤◌, ◌<◌, ◌∷◌, ◌++◌, ℕ, Bool, true, false, List, [], codes, length, Option, Some, None, IfSome, if◌then◌else◌}
-use Rattle.std.specs.List.{list_any}
+use Rattle.std.specs.Prelude.{◌≡◌, ◌≤◌, ◌<◌, ◌∷◌, ◌++◌, ℕ, Bool, true, false, List, [], codes, length, Option, Some, None, IfSome}
 use Rattle.std.specs.Io.KnownBytes.{Appends, Keeps}
 use Rattle.smv_core.specs.declared.fault.Fault.{Fault}
 use Rattle.smv_core.specs.declared.tree.Text.{Text}
+use Rattle.smv_core.specs.declared.flat.Unit.{Unit as DesignUnit}
+use Rattle.smv_problem.specs.declared.report.Budgets.{Budgets}
 use Rattle.smv_problem.specs.declared.report.Verdict.{Verdict}
-use Rattle.smv_problem.specs.declared.report.Verdict.TheVariants as verdict
 use Rattle.smv_problem.specs.declared.report.Report.{Report}
 use Rattle.smv_io.specs.Transfers.{TookFront}
 use Rattle.smv_parse.specs.Spelling.{HasFault}
@@ -15,32 +15,18 @@ use Rattle.law_reports.specs.Lines.{report_lines}
 use Rattle.smv_report_lines.specs.Generated.{generated_lines}
 use Rattle.smv_gen.specs.Generated.{generated_text}
 use Rattle.smv_command.specs.declared.commands.Command.{Command}
-use Rattle.smv_command.specs.declared.commands.Command.TheVariants.{Prove, Only, Print, Generated}
+use Rattle.smv_command.specs.declared.commands.Command.TheVariants.{Prove, Only, Print, Generated, Proof, Check, Resume, Confirm}
 use Rattle.smv_command.specs.declared.exit.Status.{Status}
 use Rattle.smv_command.specs.declared.exit.Status.TheVariants as status
+pub use Rattle.law_document_answers.specs.Statuses.{is_false, is_unknown, status_of}
+pub use Rattle.law_document_answers.specs.Dues.{IsDocumentDue, check_limit, resume_limit}
 use Rattle.law_valid_texts.specs.Plans.{IsTree}
 pub use Rattle.law_valid_texts.specs.Plans.{limit}
 use Rattle.law_valid_texts.specs.Faults.{pass_fault}
-use Rattle.law_valid_texts.specs.Reports.{IsRightReport, IsUnitReport, HasNoUnit}
-
--- ---- verdicts
-
--- a unit is false
-abbrev pub is_false : Verdict → Bool
-is_false (verdict.False case elements path) = true
-is_false _ = false
-
--- a unit is unknown under the budgets
-abbrev pub is_unknown : Verdict → Bool
-is_unknown (verdict.UnknownNodes case count) = true
-is_unknown (verdict.UnknownSteps case) = true
-is_unknown _ = false
-
--- the status of a report: a false unit comes before an unknown one, and where there is neither it is that of the command
-abbrev pub status_of : Status → Report → Status
-status_of proved report =
-    if list_any (λ u. is_false u.verdict) report.units then status.SomeFalse
-    else (if list_any (λ u. is_unknown u.verdict) report.units then status.SomeUnknown else proved)
+use Rattle.law_valid_texts.specs.Joined.{flat_design}
+use Rattle.law_valid_texts.specs.Reports.{IsValid, IsRightReport, IsUnitReport, HasNoUnit}
+use Rattle.law_confirmed.specs.Answers.{IsConfirmed, IsUnitFault, unit_called}
+use Rattle.law_answers.specs.Confirmations.{confirmed_status, confirmed_lines}
 
 -- ---- the commands
 
@@ -50,14 +36,29 @@ reads (Some (Prove budgets)) = true
 reads (Some (Only name budgets)) = true
 reads (Some Print) = true
 reads (Some (Generated copies)) = false
+reads (Some (Proof budgets)) = true
+reads (Some Check) = true
+reads (Some (Resume budgets)) = true
+reads (Some (Confirm name sizes budgets)) = true
 reads None = false
 
--- a command that decides units
+-- a command that decides the units of its text
 abbrev pub decides : Command → Bool
 decides (Prove budgets) = true
 decides (Only name budgets) = true
 decides Print = false
 decides (Generated copies) = true
+decides (Proof budgets) = true
+decides Check = false
+decides (Resume budgets) = false
+decides (Confirm name sizes budgets) = true
+
+-- a command that reads or writes proof documents
+abbrev pub is_of_documents : Command → Bool
+is_of_documents (Proof budgets) = true
+is_of_documents Check = true
+is_of_documents (Resume budgets) = true
+is_of_documents _ = false
 
 -- the text of a command: the one that was read, or the generated one
 abbrev pub text_for : Command → List ℕ → List ℕ
@@ -65,6 +66,22 @@ text_for (Prove budgets) text = text
 text_for (Only name budgets) text = text
 text_for Print text = text
 text_for (Generated copies) text = generated_text copies
+text_for (Proof budgets) text = text
+text_for Check text = text
+text_for (Resume budgets) text = text
+text_for (Confirm name sizes budgets) text = text
+
+-- the most bytes that a command reads
+abbrev pub limit_for : Command → ℕ
+limit_for Check = check_limit
+limit_for (Resume budgets) = resume_limit
+limit_for _ = limit
+
+-- the fault of a text that has more
+abbrev pub length_fault : Command → ℕ
+length_fault Check = 33
+length_fault (Resume budgets) = 33
+length_fault _ = 31
 
 -- the budget of nodes of a command that names none
 abbrev pub default_nodes : ℕ
@@ -80,6 +97,10 @@ IsReportFor (Prove budgets) text report = IsRightReport text budgets.nodes budge
 IsReportFor (Only name budgets) text report = IsUnitReport text name budgets.nodes budgets.steps report
 IsReportFor Print text report = ⊥
 IsReportFor (Generated copies) text report = IsRightReport text default_nodes default_steps report
+IsReportFor (Proof budgets) text report = ⊥
+IsReportFor Check text report = ⊥
+IsReportFor (Resume budgets) text report = ⊥
+IsReportFor (Confirm name sizes budgets) text report = ⊥
 
 -- the status where all that a command asks to decide is true
 abbrev pub proved_by : Command → Status
@@ -87,6 +108,10 @@ proved_by (Prove budgets) = status.AllProved
 proved_by (Only name budgets) = status.PartProved
 proved_by Print = status.Printed
 proved_by (Generated copies) = status.Generated
+proved_by (Proof budgets) = status.Documented
+proved_by Check = status.Checked
+proved_by (Resume budgets) = status.Resumed
+proved_by (Confirm name sizes budgets) = status.HoldsHere
 
 -- what is written of a report
 abbrev pub lines_for : Command → Report → List ℕ
@@ -94,22 +119,30 @@ lines_for (Prove budgets) report = report_lines report
 lines_for (Only name budgets) report = report_lines report
 lines_for Print report = report_lines report
 lines_for (Generated copies) report = generated_lines copies report
+lines_for (Proof budgets) report = report_lines report
+lines_for Check report = report_lines report
+lines_for (Resume budgets) report = report_lines report
+lines_for (Confirm name sizes budgets) report = report_lines report
 
 -- ---- the answer
 
 -- The first fault of a text under a command, by its number and its offset: its length, or else its form, or else, where units are to be decided, that of the earliest pass that finds one, or else that no
--- unit has the name that is asked for.
+-- unit has the name that is asked for, or else, where it is to be confirmed, that of the unit at the given sizes.
 pub data IsFault : Command → List ℕ → ℕ → ℕ → Type 0 where
   too_long : {command : Command} {text : List ℕ} → limit < length text → IsFault command text 31 0
   malformed : {command : Command} {text : List ℕ} (number at : ℕ) → length text ≤ limit → HasFault text number at → IsFault command text number at
   faulty : {command : Command} {text : List ℕ} (tree : Text) (fault : Fault) → decides command ≡ true → IsTree text tree → pass_fault tree ≡ Some fault → IsFault command text fault.number fault.at
   unnamed : {text : List ℕ} (name : List ℕ) (nodes steps : ℕ) → HasNoUnit text name → IsFault (Only name (record { nodes = nodes; steps = steps })) text 26 0
+  of_unit : {text : List ℕ} (name sizes : List ℕ) (budgets : Budgets) (number at : ℕ) → IsUnitFault text name sizes number at → IsFault (Confirm name sizes budgets) text number at
 
 -- the status and the whole answer that a command and its text call for
 pub data IsDue : Command → List ℕ → Status → List ℕ → Type 0 where
   decided : {command : Command} {text : List ℕ} (report : Report) → IsReportFor command text report → IsDue command text (status_of (proved_by command) report) (lines_for command report)
   printed : {text : List ℕ} (tree : Text) → IsTree text tree → IsDue Print text status.Printed (canonical tree)
-  refused : {command : Command} {text : List ℕ} (number at : ℕ) → IsFault command text number at → IsDue command text status.Refused (fault_text text number at)
+  refused : {command : Command} {text : List ℕ} (number at : ℕ) → is_of_documents command ≡ false → IsFault command text number at → IsDue command text status.Refused (fault_text text number at)
+  of_documents : {command : Command} {text : List ℕ} {due : Status} {answer : List ℕ} → IsDocumentDue command text due answer → IsDue command text due answer
+  confirmed : {text : List ℕ} (name sizes : List ℕ) (budgets : Budgets) (tree : Text) (unit : DesignUnit) (verdict : Verdict) → IsValid text tree → unit_called (flat_design tree) name ≡ Some unit →
+      IsConfirmed text name sizes budgets.nodes budgets.steps verdict → IsDue (Confirm name sizes budgets) text (confirmed_status verdict) (confirmed_lines (flat_design tree) unit name verdict)
 
 -- what is written where the words are no command
 abbrev pub usage_line : List ℕ

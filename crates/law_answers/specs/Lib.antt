@@ -3,3 +3,5 @@ pub mod Laws
 pub mod OneAnswer
 pub use Rattle.law_valid_texts.specs.Reports
 pub use Rattle.law_valid_texts.specs.Plans
+pub mod DocumentDues
+pub mod Confirmations

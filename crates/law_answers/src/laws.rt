@@ -1,6 +1,8 @@
 // Laws of answers, each the contract of a function that does nothing.
-ghost use Rattle.law_answers.specs.Laws.{OneStatus, ProvedIsSound, UnreadIsDue};
+ghost use Rattle.law_answers.specs.Laws.{CheckedDocumentIsSound, DocumentedTextIsSound, HoldsHereIsSo, OneStatus, ProvedIsSound, RealIsSo, ResumedDocumentIsSound, UnreadIsDue};
 
+use law_confirmed::confirmations::{confirmed_false_is_real, confirmed_true_holds};
+use law_document_answers::documents::{due_is_sound, one_due};
 use law_valid_texts::valid_texts::{one_tree, reports_agree, right_reports_are_sound};
 use smv_parse::one_answer;
 
@@ -11,6 +13,7 @@ pub fn one_status()
     one_answer();
     one_tree();
     reports_agree();
+    one_due();
 }
 
 /// The headline: where it is due that all is proved, the text is sound.
@@ -18,6 +21,25 @@ pub fn proved_is_sound()
     ensures { ProvedIsSound }
 {
     right_reports_are_sound();
+}
+
+/// Where it is due that a document is written, checked or resumed, its design is sound.
+pub fn documents_are_sound()
+    ensures documented { DocumentedTextIsSound }
+    ensures checked { CheckedDocumentIsSound }
+    ensures resumed { ResumedDocumentIsSound }
+{
+    due_is_sound();
+}
+
+/// Where it is due that a unit holds at the given sizes, no run of them breaks an instance of it; where that it is real, the part of such a run is shown that breaks one, and no shorter run does.
+pub fn confirmed_is_so()
+    ensures holds { HoldsHereIsSo }
+    ensures real { RealIsSo }
+{
+    confirmed_true_holds();
+    confirmed_false_is_real();
+    one_tree();
 }
 
 /// What is due to words that read nothing is due to them with any text.

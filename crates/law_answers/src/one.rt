@@ -1,14 +1,16 @@
 // Laws of answers, each the contract of a function that does nothing.
 ghost use Rattle.law_answers.specs.OneAnswer.{OneAnswer};
 
+use law_document_answers::documents::one_due;
 use law_valid_texts::valid_texts::{one_tree, reports_agree};
 use smv_parse::one_answer as one_parse;
 
-/// Where no unit is false, one answer is due to words and a text.
+/// Where no path is shown, one answer is due to words and a text.
 pub fn one_answer()
     ensures { OneAnswer }
 {
     one_parse();
     one_tree();
     reports_agree();
+    one_due();
 }

@@ -1,5 +1,6 @@
 pub mod PassLaws
 pub mod TextTrees
+pub mod SizeFaults
 pub mod Refusals
 pub mod TreeLists
 pub mod Firsts

@@ -73,7 +73,7 @@ module _ (n : ℕ) where
   claim-placed None h = omega arith
   claim-placed (Some claim) h = h.2
 
-  unit-placed : (d : Design) → DesignIsWithin n d → (u : Unit) → place_of_unit (unit_in d u) ≤ n
+  pub unit-placed : (d : Design) → DesignIsWithin n d → (u : Unit) → place_of_unit (unit_in d u) ≤ n
   unit-placed d h (unit.Map def) = map-placed (slice_get d.defs def) (all-found (DefIsWithin n) d.defs def h.defs)
   unit-placed d h (unit.Claim claim) = claim-placed (slice_get d.claims claim) (all-found (ClaimIsWithin n) d.claims claim h.claims)
 

@@ -1,11 +1,13 @@
--- Each refusal of a text has a number of 1 to 31, and a place of at most the text's length.
-use Rattle.std.specs.Prelude.{◌≡◌, ℕ, List, length}
+-- Each refusal of a text has a number of 1 to 31, or for the sizes of a confirmation 34 or 35, and a place of at most the text's length.
+use Rattle.std.specs.Prelude.{◌≡◌, ◌≤◌, ◌⊎◌, ℕ, false, List, length}
 use Rattle.smv_core.specs.declared.tree.Text.{Text}
 use Rattle.smv_parse.specs.Spelling.{SpellsText}
 use Rattle.smv_report.specs.Lines.{fault_text}
 use Rattle.smv_command.specs.declared.commands.Command.{Command}
+use Rattle.smv_command.specs.declared.commands.Command.TheVariants.{Confirm}
 use Rattle.smv_command.specs.declared.exit.Status.TheVariants as status
-use Rattle.law_answers.specs.Dues.{IsFault, IsDue}
+use Rattle.law_judgements.specs.Judgements.{IsFaultOf}
+use Rattle.law_answers.specs.Dues.{IsFault, IsDue, IsDocumentDue, is_of_documents}
 use Rattle.law_fault_places.specs.TreePlaces.{TextIsWithin}
 use Rattle.law_fault_places.specs.PassFaults.{IsFaultWithin}
 
@@ -13,11 +15,27 @@ use Rattle.law_fault_places.specs.PassFaults.{IsFaultWithin}
 abbrev pub TreesOfTextsAreWithin : Type 0
 TreesOfTextsAreWithin = (text : List ℕ) (tree : Text) → SpellsText text tree → TextIsWithin (length text) tree
 
+-- a number of 34 or 35, which the sizes of a confirmation have alone, and a place of at most n
+pub record IsSizeFaultWithin (n number at : ℕ) : Type 0 where
+  pub lowest : 34 ≤ number
+  pub highest : number ≤ 35
+  pub place : at ≤ n
+
+-- the number and the place of a fault under a command
+abbrev pub IsFaultUnder : Command → ℕ → ℕ → ℕ → Type 0
+IsFaultUnder (Confirm name sizes budgets) n number at = IsFaultWithin n number at ⊎ IsSizeFaultWithin n number at
+IsFaultUnder _ n number at = IsFaultWithin n number at
+
 -- the first fault of a text under any command stands within the text
 abbrev pub FaultsAreWithin : Type 0
-FaultsAreWithin = (command : Command) (text : List ℕ) (number at : ℕ) → IsFault command text number at → IsFaultWithin (length text) number at
+FaultsAreWithin = (command : Command) (text : List ℕ) (number at : ℕ) → IsFault command text number at → IsFaultUnder command (length text) number at
 
--- and a refusal that is due tells such a fault, and nothing else
+-- and a refusal that is due to a command on texts tells such a fault, and nothing else
 abbrev pub RefusalsTellFaults : Type 0
-RefusalsTellFaults = (command : Command) (text answer : List ℕ) → IsDue command text status.Refused answer →
-    (number : ℕ) × (at : ℕ) × IsFault command text number at × IsFaultWithin (length text) number at × (answer ≡ fault_text text number at)
+RefusalsTellFaults = (command : Command) (text answer : List ℕ) → is_of_documents command ≡ false → IsDue command text status.Refused answer →
+    (number : ℕ) × (at : ℕ) × IsFault command text number at × IsFaultUnder command (length text) number at × (answer ≡ fault_text text number at)
+
+-- a refusal that is due of documents tells a fault of the design that was read, or that there are too many bytes
+abbrev pub DocumentRefusalsTellFaults : Type 0
+DocumentRefusalsTellFaults = (command : Command) (bytes answer : List ℕ) → IsDocumentDue command bytes status.Refused answer →
+    ((text : List ℕ) × (number : ℕ) × (at : ℕ) × IsFaultOf text number at × IsFaultWithin (length text) number at × (answer ≡ fault_text text number at)) ⊎ (answer ≡ fault_text bytes 33 0)

@@ -1,6 +1,7 @@
 // Laws of the places of faults, each the contract of a function that does nothing.
-ghost use Rattle.law_fault_places.specs.FaultsOfTexts.{TreesOfTextsAreWithin, FaultsAreWithin, RefusalsTellFaults};
+ghost use Rattle.law_fault_places.specs.FaultsOfTexts.{TreesOfTextsAreWithin, FaultsAreWithin, RefusalsTellFaults, DocumentRefusalsTellFaults};
 
+use crate::flat::{designs_are_within, flattened_texts_are_within};
 use crate::passes::pass_faults_are_within;
 use crate::trees::spelled_trees_are_within;
 use smv_parse::one_answer;
@@ -12,18 +13,21 @@ pub fn trees_of_texts_are_within()
     spelled_trees_are_within();
 }
 
-/// The first fault of a text under a command has a number of 1 to 31, and a place of at most the text's length.
+/// The first fault of a text under a command has a number of 1 to 31, or for the sizes of a confirmation 34 or 35, and a place of at most the text's length.
 pub fn faults_are_within()
     ensures { FaultsAreWithin }
 {
     one_answer();
     trees_of_texts_are_within();
     pass_faults_are_within();
+    flattened_texts_are_within();
+    designs_are_within();
 }
 
 /// A refusal that is due tells a fault of such a number and place.
 pub fn refusals_tell_faults()
-    ensures { RefusalsTellFaults }
+    ensures texts { RefusalsTellFaults }
+    ensures documents { DocumentRefusalsTellFaults }
 {
     faults_are_within();
 }

@@ -7,6 +7,9 @@ ghost use Rattle.std.specs.Prelude.{◌≡◌, Some, IfOk};
 ghost use Rattle.std.specs.List.{list_any};
 ghost use Rattle.smv_print.specs.Canonical.{canonical};
 ghost use Rattle.smv_report.specs.Lines.{fault_text};
+ghost use Rattle.smv_proof.specs.Documents.{document};
+ghost use Rattle.law_judgements.specs.Judgements.Judgement.{form, set, yes};
+ghost use Rattle.law_document_answers.specs.Dues.{judged_text, status_by};
 ghost use Rattle.law_answers.specs.Dues.{is_false, is_unknown, lines_for, proved_by, reads, status_of, usage_line};
 
 pub use law_answers::laws;
@@ -15,8 +18,9 @@ use smv_core::Fault;
 use smv_core::tree::Text;
 use smv_print::print;
 use smv_problem::{Report, UnitResult, Verdict};
+use smv_proof::{Proof, write_proof};
 use smv_report::fault_line;
-use smv_report_lines::{generated_lines, lines};
+use smv_report_lines::{generated_lines, lines, push_number};
 use std::alloc::{AllocError, Global};
 
 const USAGE: &[u8] = b"usage: smv prove|only|print|generated\n";
@@ -58,6 +62,49 @@ pub fn refused(alloc: Global, text: &[u8], fault: Fault) -> Result<Answer, Alloc
     Ok(Answer { status, bytes })
 }
 
+/// The answer by a proof document that is to be written, under this status.
+pub fn documented(alloc: Global, proof: &Proof, status: Status) -> Result<Answer, AllocError>
+    ensures status { IfOk result (λ answer. answer.status ≡ status) }
+    ensures bytes { IfOk result (λ answer. answer.bytes.items ≡ document proof.now) }
+{
+    let bytes = write_proof(alloc, proof)?;
+    Ok(Answer { status, bytes })
+}
+
+/// The answer by a document that is a checked one, with so many sets.
+pub fn checked(alloc: Global, sets: u32) -> Result<Answer, AllocError>
+    ensures status { IfOk result (λ answer. answer.status ≡ status_by (yes sets)) }
+    ensures bytes { IfOk result (λ answer. answer.bytes.items ≡ judged_text (yes sets)) }
+{
+    let mut bytes = Vec::from_slice(alloc, b"checked ")?;
+    push_number(&mut bytes, sets as usize)?;
+    bytes.push(b'\n')?;
+    let status = Status::Checked;
+    Ok(Answer { status, bytes })
+}
+
+/// The answer by bytes that are not of the form of a document for their design.
+pub fn rejected_form(alloc: Global) -> Result<Answer, AllocError>
+    ensures status { IfOk result (λ answer. answer.status ≡ status_by form) }
+    ensures bytes { IfOk result (λ answer. answer.bytes.items ≡ judged_text form) }
+{
+    let bytes = Vec::from_slice(alloc, b"rejected form\n")?;
+    let status = Status::Rejected;
+    Ok(Answer { status, bytes })
+}
+
+/// The answer by a document whose set of this number, from 1, fails.
+pub fn rejected_set(alloc: Global, number: u32) -> Result<Answer, AllocError>
+    ensures status { IfOk result (λ answer. answer.status ≡ status_by (set number)) }
+    ensures bytes { IfOk result (λ answer. answer.bytes.items ≡ judged_text (set number)) }
+{
+    let mut bytes = Vec::from_slice(alloc, b"rejected set ")?;
+    push_number(&mut bytes, number as usize)?;
+    bytes.push(b'\n')?;
+    let status = Status::Rejected;
+    Ok(Answer { status, bytes })
+}
+
 /// The line that is written where the words are no command. It takes no memory.
 pub fn usage() -> &'static [u8]
     ensures { result.now ≡ usage_line }
@@ -77,6 +124,9 @@ pub fn reads(command: &Command) -> bool
         } => true,
         Command::Print => true,
         Command::Generated { copies: _ } => false,
+        Command::Proof { budgets: _ } => true,
+        Command::Check => true,
+        Command::Resume { budgets: _ } => true,
     }
 }
 
@@ -92,6 +142,9 @@ fn written(alloc: Global, command: &Command, report: &Report) -> Result<Vec<u8>,
         } => lines(alloc, report),
         Command::Print => lines(alloc, report),
         Command::Generated { copies } => generated_lines(alloc, *copies, report),
+        Command::Proof { budgets: _ } => lines(alloc, report),
+        Command::Check => lines(alloc, report),
+        Command::Resume { budgets: _ } => lines(alloc, report),
     }
 }
 
@@ -107,6 +160,9 @@ fn proved_by(command: &Command) -> Status
         } => Status::PartProved,
         Command::Print => Status::Printed,
         Command::Generated { copies: _ } => Status::Generated,
+        Command::Proof { budgets: _ } => Status::Documented,
+        Command::Check => Status::Checked,
+        Command::Resume { budgets: _ } => Status::Resumed,
     }
 }
 

@@ -4,9 +4,9 @@ use Rattle.std.specs.Str.{bytes_eq}
 use Rattle.std.proofs.lemmas.Slice.Eq.{bytes_eq-Decides}
 use Rattle.std.specs.Prelude.{option_map}
 use Rattle.clap.specs.Walk.{Row, Text}
-use Rattle.smv_command.specs.declared.commands.Command.TheVariants.{Prove, Only, Print, Generated}
+use Rattle.smv_command.specs.declared.commands.Command.TheVariants.{Prove, Only, Print, Generated, Proof, Check, Resume, Confirm}
 use Rattle.smv_command.specs.Ranges.{most_copies}
-use Rattle.smv_command.specs.Commands.{both, budgets_in, name_in, named, number_in}
+use Rattle.smv_command.specs.Commands.{both, budgets_in, name_in, named, number_in, sizes_in}
 use Rattle.smv_command.proofs.Values.{both_some, map_some}
 
 pub prove_is : (rows : List Row) → named (codes "prove") rows ≡ option_map Prove (budgets_in rows)
@@ -25,10 +25,27 @@ pub generated_is : (rows : List Row) → named (codes "generated") rows ≡ opti
 unfolding named
 generated_is rows = refl
 
-pub no_name : (word : Text) (rows : List Row) → bytes_eq word (codes "prove") ≡ false → bytes_eq word (codes "only") ≡ false → bytes_eq word (codes "print") ≡ false
-    → bytes_eq word (codes "generated") ≡ false → named word rows ≡ None
+pub proof_is : (rows : List Row) → named (codes "proof") rows ≡ option_map Proof (budgets_in rows)
 unfolding named
-no_name word rows t1 t2 t3 t4 = rw (t1, t2, t3, t4) refl
+proof_is rows = refl
+
+pub check_is : (rows : List Row) → named (codes "check") rows ≡ Some Check
+unfolding named
+check_is rows = refl
+
+pub resume_is : (rows : List Row) → named (codes "resume") rows ≡ option_map Resume (budgets_in rows)
+unfolding named
+resume_is rows = refl
+
+pub confirm_is : (rows : List Row) → named (codes "confirm") rows ≡ option_map (λ p. Confirm p.0 p.1.0 p.1.1) (both (name_in rows) (both (sizes_in rows) (budgets_in rows)))
+unfolding named
+confirm_is rows = refl
+
+pub no_name : (word : Text) (rows : List Row) → bytes_eq word (codes "prove") ≡ false → bytes_eq word (codes "only") ≡ false → bytes_eq word (codes "print") ≡ false
+    → bytes_eq word (codes "generated") ≡ false → bytes_eq word (codes "proof") ≡ false → bytes_eq word (codes "check") ≡ false → bytes_eq word (codes "resume") ≡ false → bytes_eq word (codes "confirm") ≡ false
+    → named word rows ≡ None
+unfolding named
+no_name word rows t1 t2 t3 t4 t5 t6 t7 t8 = rw (t1, t2, t3, t4, t5, t6, t7, t8) refl
 
 -- ---- the same at a word that is the name
 
@@ -47,6 +64,19 @@ at_print word rows e = at_word word (codes "print") rows e ∙ print_is rows
 pub at_generated : (word : Text) (rows : List Row) → bytes_eq word (codes "generated") ≡ true → named word rows ≡ option_map Generated (number_in most_copies (codes "N") rows)
 at_generated word rows e = at_word word (codes "generated") rows e ∙ generated_is rows
 
+pub at_proof : (word : Text) (rows : List Row) → bytes_eq word (codes "proof") ≡ true → named word rows ≡ option_map Proof (budgets_in rows)
+at_proof word rows e = at_word word (codes "proof") rows e ∙ proof_is rows
+
+pub at_check : (word : Text) (rows : List Row) → bytes_eq word (codes "check") ≡ true → named word rows ≡ Some Check
+at_check word rows e = at_word word (codes "check") rows e ∙ check_is rows
+
+pub at_resume : (word : Text) (rows : List Row) → bytes_eq word (codes "resume") ≡ true → named word rows ≡ option_map Resume (budgets_in rows)
+at_resume word rows e = at_word word (codes "resume") rows e ∙ resume_is rows
+
+pub at_confirm : (word : Text) (rows : List Row) → bytes_eq word (codes "confirm") ≡ true
+    → named word rows ≡ option_map (λ p. Confirm p.0 p.1.0 p.1.1) (both (name_in rows) (both (sizes_in rows) (budgets_in rows)))
+at_confirm word rows e = at_word word (codes "confirm") rows e ∙ confirm_is rows
+
 -- ---- what a named command was given
 
 pub given_to_prove : (word : Text) (rows : List Row) → bytes_eq word (codes "prove") ≡ true → is_some (named word rows) ≡ true → is_some (budgets_in rows) ≡ true
@@ -60,3 +90,17 @@ given_to_only word rows e there =
 pub given_to_generated : (word : Text) (rows : List Row) → bytes_eq word (codes "generated") ≡ true → is_some (named word rows) ≡ true
     → is_some (number_in most_copies (codes "N") rows) ≡ true
 given_to_generated word rows e there = map_some Generated (number_in most_copies (codes "N") rows) (ap is_some (sym (at_generated word rows e)) ∙ there)
+
+pub given_to_proof : (word : Text) (rows : List Row) → bytes_eq word (codes "proof") ≡ true → is_some (named word rows) ≡ true → is_some (budgets_in rows) ≡ true
+given_to_proof word rows e there = map_some Proof (budgets_in rows) (ap is_some (sym (at_proof word rows e)) ∙ there)
+
+pub given_to_resume : (word : Text) (rows : List Row) → bytes_eq word (codes "resume") ≡ true → is_some (named word rows) ≡ true → is_some (budgets_in rows) ≡ true
+given_to_resume word rows e there = map_some Resume (budgets_in rows) (ap is_some (sym (at_resume word rows e)) ∙ there)
+
+pub given_to_confirm : (word : Text) (rows : List Row) → bytes_eq word (codes "confirm") ≡ true → is_some (named word rows) ≡ true
+    → (is_some (name_in rows) ≡ true) × (is_some (sizes_in rows) ≡ true) × (is_some (budgets_in rows) ≡ true)
+given_to_confirm word rows e there =
+    let sizes_and_budgets = both (sizes_in rows) (budgets_in rows) in
+    let (name, more) = both_some (name_in rows) sizes_and_budgets (map_some (λ p. Confirm p.0 p.1.0 p.1.1) (both (name_in rows) sizes_and_budgets) (ap is_some (sym (at_confirm word rows e)) ∙ there)) in
+    let (sizes, budgets) = both_some (sizes_in rows) (budgets_in rows) more in
+    (name, sizes, budgets)

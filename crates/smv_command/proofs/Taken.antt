@@ -1,18 +1,20 @@
 -- What the matches of words that are taken have, subcommand by subcommand.
 use Rattle.std.proofs.Common.{◌≡◌, ◌∙◌, ◌||◌, Bool, true, false, not, List, [], ◌∷◌, Option, inl, inr, refl, sym, ap, arith, subst, is_some, codes, true≢false, pos}
-use Rattle.std.specs.Prelude.{option_and_then}
-use Rattle.clap.specs.Walk.{Row, Rule, Text, nothing_held, rows_after, settled, walk, with_default}
+use Rattle.std.specs.Prelude.{option_and_then, unwrap_or}
+use Rattle.clap.specs.Walk.{Row, Rule, Text, all_of, nothing_held, rows_after, settled, walk, with_default}
 use Rattle.clap.specs.Simple.{Shape, built, built_leaf, filled, inherited, marked_built, subcommand_of, with_index, with_leaf_noted}
 use Rattle.clap.specs.Faults.{fault_of, level_fault}
 use Rattle.clap.specs.declared.builder.value_parser.ValueParser.TheVariants.{Signed}
+use Rattle.clap.specs.Takes.{value_passes, values_pass}
 use Rattle.clap.proofs.ValueTestLemmas.{accepts-Accepts}
-use Rattle.smv_command.specs.Ranges.{most_nodes, most_steps, most_copies}
+use Rattle.clap.proofs.WalkLemmas.{both as both_true}
+use Rattle.smv_command.specs.Ranges.{most_nodes, most_steps, most_copies, most_size}
 use Rattle.smv_command.specs.CommandLine as line
-use Rattle.smv_command.specs.Commands.{budgets_in, name_in, named, number_in}
-use Rattle.smv_command.specs.declared.commands.Command.TheVariants.{Prove, Only, Generated}
-use Rattle.smv_command.proofs.Rows.{AllFit, Among, EachKnown, HasValue, IsKnown, are_known, built_entered, has_default, has_given, kept_by_default, level_is, value_of}
-use Rattle.smv_command.proofs.Values.{both_given, map_given, number_given}
-use Rattle.smv_command.proofs.ByName.{prove_is, only_is, print_is, generated_is}
+use Rattle.smv_command.specs.Commands.{both, budgets_in, name_in, named, number, number_in, numbers, sizes_in}
+use Rattle.smv_command.specs.declared.commands.Command.TheVariants.{Prove, Only, Generated, Proof, Resume, Confirm}
+use Rattle.smv_command.proofs.Rows.{AllFit, Among, EachKnown, HasValue, IsKnown, are_known, built_entered, given_pass, has_default, has_given, kept_by_default, level_is, value_of}
+use Rattle.smv_command.proofs.Values.{both_given, both_there, map_given, number_given, word_given}
+use Rattle.smv_command.proofs.ByName.{prove_is, only_is, print_is, generated_is, proof_is, check_is, resume_is, confirm_is}
 
 -- the subcommands as a parse sees them, once the command is built
 abbrev above : Shape
@@ -33,6 +35,9 @@ name = with_index 1 (filled line.name)
 abbrev copies : Rule
 copies = with_index 1 (filled line.copies)
 
+abbrev sizes : Rule
+sizes = with_index 2 (filled line.sizes)
+
 abbrev budgets : List Rule
 budgets = nodes ∷ steps ∷ []
 
@@ -45,6 +50,10 @@ each_of_only = (record { by_id = refl; valued = refl }, (record { by_id = refl; 
 each_of_generated : EachKnown (copies ∷ []) (copies ∷ [])
 each_of_generated = (record { by_id = refl; valued = refl }, tt)
 
+each_of_confirm : EachKnown (name ∷ sizes ∷ budgets) (name ∷ sizes ∷ budgets)
+each_of_confirm =
+    (record { by_id = refl; valued = refl }, (record { by_id = refl; valued = refl }, (record { by_id = refl; valued = refl }, (record { by_id = refl; valued = refl }, tt))))
+
 nodes_given : (rows : List Row) → HasValue nodes rows → is_some (number_in most_nodes (codes "nodes") rows) ≡ true
 nodes_given rows v = number_given most_nodes (codes "nodes") rows v.written (omega arith) v.one (accepts-Accepts false (Signed (pos 1) (pos most_nodes)) v.written v.passing)
 
@@ -53,6 +62,17 @@ steps_given rows v = number_given most_steps (codes "steps") rows v.written (ome
 
 copies_given : (rows : List Row) → HasValue copies rows → is_some (number_in most_copies (codes "N") rows) ≡ true
 copies_given rows v = number_given most_copies (codes "N") rows v.written (omega arith) v.one (accepts-Accepts false (Signed (pos 1) (pos most_copies)) v.written v.passing)
+
+-- words that pass spell sizes
+sizes_spelled : (words : List Text) → values_pass sizes words ≡ true → is_some (numbers most_size words) ≡ true
+sizes_spelled [] e = refl
+sizes_spelled (word ∷ words) e =
+    let p = both_true (value_passes sizes word) (values_pass sizes words) e in
+    both_given (λ p. p.0 ∷ p.1) (number most_size word) (numbers most_size words)
+    (word_given most_size word (omega arith) (accepts-Accepts false (Signed (pos 1) (pos most_size)) word p.0)) (sizes_spelled words p.1)
+
+sizes_given : (c : List Rule) (rows : List Row) → IsKnown c sizes → AllFit c rows → is_some (sizes_in rows) ≡ true
+sizes_given c rows known fits = sizes_spelled (unwrap_or (all_of (codes "SIZE") rows) []) (given_pass c sizes rows known fits)
 
 budgets_given : (c : List Rule) (rows : List Row) → IsKnown c nodes → IsKnown c steps → AllFit c (with_default (with_default rows nodes) steps)
     → is_some (budgets_in (with_default (with_default rows nodes) steps)) ≡ true
@@ -94,12 +114,38 @@ generated_given rest e =
     let given = value_of c copies rows each_of_generated.0 level.fits (has_given (codes "N") rows (absent _ _ level.given).0) in
     ap is_some (generated_is rows) ∙ map_given Generated (number_in most_copies (codes "N") rows) (copies_given rows given)
 
+proof_given : (rest : List Text) → Gives rest (seen line.proof)
+proof_given rest e =
+    let level = level_is (seen line.proof) [] rest false [] (are_known budgets each_of_budgets) each_of_budgets e in
+    ap is_some (proof_is (rows_after budgets [] rest)) ∙ map_given Proof (budgets_in (rows_after budgets [] rest))
+    (budgets_given budgets (settled budgets (walk budgets [] nothing_held rest).held).rows each_of_budgets.0 each_of_budgets.1.0 level.fits)
+
+resume_given : (rest : List Text) → Gives rest (seen line.resume)
+resume_given rest e =
+    let level = level_is (seen line.resume) [] rest false [] (are_known budgets each_of_budgets) each_of_budgets e in
+    ap is_some (resume_is (rows_after budgets [] rest)) ∙ map_given Resume (budgets_in (rows_after budgets [] rest))
+    (budgets_given budgets (settled budgets (walk budgets [] nothing_held rest).held).rows each_of_budgets.0 each_of_budgets.1.0 level.fits)
+
+confirm_given : (rest : List Text) → Gives rest (seen line.confirm)
+confirm_given rest e =
+    let c = name ∷ sizes ∷ budgets in
+    let rows = rows_after c [] rest in
+    let level = level_is (seen line.confirm) [] rest false [] (are_known c each_of_confirm) each_of_confirm e in
+    let named = value_of c name rows each_of_confirm.0 level.fits (has_given (codes "NAME") rows (absent _ _ level.given).0) in
+    ap is_some (confirm_is rows) ∙ both_given (λ p. Confirm p.0 p.1.0 p.1.1) (name_in rows) (both (sizes_in rows) (budgets_in rows)) (ap is_some named.first)
+    (both_there (sizes_in rows) (budgets_in rows) (sizes_given c rows each_of_confirm.1.0 level.fits)
+    (budgets_given c (with_default (with_default (settled c (walk c [] nothing_held rest).held).rows name) sizes) each_of_confirm.1.1.0 each_of_confirm.1.1.1.0 level.fits))
+
 among_gives : (s : Shape) (rest : List Text) → Among s (built line.smv).subs → Gives rest s
 among_gives s rest (inl is) = subst (Gives rest) (sym is) (prove_given rest)
 among_gives s rest (inr (inl is)) = subst (Gives rest) (sym is) (only_given rest)
 among_gives s rest (inr (inr (inl is))) = subst (Gives rest) (sym is) (λ e. ap is_some (print_is (rows_after [] [] rest)))
 among_gives s rest (inr (inr (inr (inl is)))) = subst (Gives rest) (sym is) (generated_given rest)
-among_gives s rest (inr (inr (inr (inr never)))) = absurd never
+among_gives s rest (inr (inr (inr (inr (inl is))))) = subst (Gives rest) (sym is) (proof_given rest)
+among_gives s rest (inr (inr (inr (inr (inr (inl is)))))) = subst (Gives rest) (sym is) (λ e. ap is_some (check_is (rows_after [] [] rest)))
+among_gives s rest (inr (inr (inr (inr (inr (inr (inl is))))))) = subst (Gives rest) (sym is) (resume_given rest)
+among_gives s rest (inr (inr (inr (inr (inr (inr (inr (inl is)))))))) = subst (Gives rest) (sym is) (confirm_given rest)
+among_gives s rest (inr (inr (inr (inr (inr (inr (inr (inr never)))))))) = absurd never
 
 -- words without a fault name a command
 pub taken_named : (words : List Text) → fault_of line.smv words ≡ [] → is_some (option_and_then (λ found. named found.0 found.1) (subcommand_of line.smv words)) ≡ true

@@ -1,9 +1,10 @@
 -- The command line as clap is told of it, in clap's own terms: one level of subcommands, of which one has to be there.
 use Rattle.std.specs.Prelude.{ℕ, pos, Some, List, [], ◌∷◌, codes, true, false}
+use Rattle.clap.specs.Lexer.{usize_max}
 use Rattle.clap.specs.Walk.{Rule, Text}
 use Rattle.clap.specs.Simple.{App, Shape, new_rule, new_shape}
 use Rattle.clap.specs.declared.builder.value_parser.ValueParser.TheVariants.{Signed}
-use Rattle.smv_command.specs.Ranges.{most_nodes, most_steps, most_copies}
+use Rattle.smv_command.specs.Ranges.{most_nodes, most_steps, most_copies, most_size}
 
 -- a rule whose value is a number from 1 to `most`
 abbrev pub numbered : ℕ → Rule → Rule
@@ -29,6 +30,10 @@ name = positional (codes "NAME")
 abbrev pub copies : Rule
 copies = numbered most_copies (positional (codes "N"))
 
+-- one word or more, which may be left out
+abbrev pub sizes : Rule
+sizes = record (numbered most_size (new_rule (codes "SIZE"))) { range = Some (record { start_inclusive = 1; end_inclusive = usize_max }) }
+
 abbrev pub subcommand : Text → List Rule → Shape
 subcommand word rules = record (new_shape word) { rules = rules }
 
@@ -44,6 +49,18 @@ print = subcommand (codes "print") []
 abbrev pub generated : Shape
 generated = subcommand (codes "generated") (copies ∷ [])
 
+abbrev pub proof : Shape
+proof = subcommand (codes "proof") (nodes ∷ steps ∷ [])
+
+abbrev pub check : Shape
+check = subcommand (codes "check") []
+
+abbrev pub resume : Shape
+resume = subcommand (codes "resume") (nodes ∷ steps ∷ [])
+
+abbrev pub confirm : Shape
+confirm = subcommand (codes "confirm") (name ∷ sizes ∷ nodes ∷ steps ∷ [])
+
 -- no program's name stands before the words, a subcommand is required, and nothing asks for help or the version
 abbrev pub bare : Shape
 bare = record (new_shape (codes "smv")) {
@@ -55,4 +72,4 @@ bare = record (new_shape (codes "smv")) {
 }
 
 abbrev pub smv : App
-smv = record { top = record bare { is_leaf = false }; subs = prove ∷ only ∷ print ∷ generated ∷ [] }
+smv = record { top = record bare { is_leaf = false }; subs = prove ∷ only ∷ print ∷ generated ∷ proof ∷ check ∷ resume ∷ confirm ∷ [] }

@@ -1,16 +1,16 @@
 -- The command that words are: what a reader has to believe, beside `CommandLine` and clap's definition of a simple command.
-use Rattle.std.specs.Prelude.{◌≡◌, ℕ, List, [], ◌∷◌, codes, Option, Some, None, option_map, option_and_then, if◌then◌else◌}
+use Rattle.std.specs.Prelude.{◌≡◌, ℕ, List, [], ◌∷◌, codes, Option, Some, None, option_map, option_and_then, unwrap_or, if◌then◌else◌}
 use Rattle.std.specs.Str.{bytes_eq}
 use Rattle.std.specs.Str.Parse.{digits_value, without_leading_plus}
 use Rattle.clap.specs.Kinds.{Kinds}
 use Rattle.clap.specs.ValueTests.{is_unsigned_in}
-use Rattle.clap.specs.Walk.{Row, Text, first_of, one_of}
+use Rattle.clap.specs.Walk.{Row, Text, all_of, first_of, one_of}
 use Rattle.clap.specs.Simple.{subcommand_of}
 use Rattle.clap.specs.Faults.{fault_of}
 use Rattle.smv_problem.specs.declared.report.Budgets.{Budgets}
 use Rattle.smv_command.specs.declared.commands.Command.{Command}
-use Rattle.smv_command.specs.declared.commands.Command.TheVariants.{Prove, Only, Print, Generated}
-use Rattle.smv_command.specs.Ranges.{most_nodes, most_steps, most_copies}
+use Rattle.smv_command.specs.declared.commands.Command.TheVariants.{Prove, Only, Print, Generated, Proof, Check, Resume, Confirm}
+use Rattle.smv_command.specs.Ranges.{most_nodes, most_steps, most_copies, most_size}
 use Rattle.smv_command.specs.CommandLine.{smv}
 
 -- two values, where both are there
@@ -29,6 +29,15 @@ number_in most id rows = option_and_then (number most) (one_of id rows)
 abbrev pub budgets_in : List Row → Option Budgets
 budgets_in rows = option_map (λ p. record { nodes = p.0; steps = p.1 }) (both (number_in most_nodes (codes "nodes") rows) (number_in most_steps (codes "steps") rows))
 
+-- the numbers that texts spell, where each spells one
+abbrev pub numbers : ℕ → List Text → Option (List ℕ)
+numbers most [] = Some []
+numbers most (text ∷ texts) = option_map (λ p. p.0 ∷ p.1) (both (number most text) (numbers most texts))
+
+-- the sizes, of which there may be none
+abbrev pub sizes_in : List Row → Option (List ℕ)
+sizes_in rows = numbers most_size (unwrap_or (all_of (codes "SIZE") rows) [])
+
 abbrev pub name_in : List Row → Option Text
 name_in rows = first_of (codes "NAME") rows
 
@@ -39,7 +48,11 @@ named word rows =
     else (if bytes_eq word (codes "only") then option_map (λ p. Only p.0 p.1) (both (name_in rows) (budgets_in rows))
     else (if bytes_eq word (codes "print") then Some Print
     else (if bytes_eq word (codes "generated") then option_map Generated (number_in most_copies (codes "N") rows)
-    else None)))
+    else (if bytes_eq word (codes "proof") then option_map Proof (budgets_in rows)
+    else (if bytes_eq word (codes "check") then Some Check
+    else (if bytes_eq word (codes "resume") then option_map Resume (budgets_in rows)
+    else (if bytes_eq word (codes "confirm") then option_map (λ p. Confirm p.0 p.1.0 p.1.1) (both (name_in rows) (both (sizes_in rows) (budgets_in rows)))
+    else None)))))))
 
 -- the words are taken: clap finds no fault in them, and so gives matches
 abbrev pub AreTaken : List Text → Type 0

@@ -15,7 +15,11 @@ pub(crate) fn smv<'a>(alloc: Global) -> Result<Command<'a>, AllocError>
         .subcommand(prove(alloc)?)?
         .subcommand(only(alloc)?)?
         .subcommand(Command::new(alloc, "print"))?
-        .subcommand(generated(alloc)?)
+        .subcommand(generated(alloc)?)?
+        .subcommand(proof(alloc)?)?
+        .subcommand(Command::new(alloc, "check"))?
+        .subcommand(resume(alloc)?)?
+        .subcommand(confirm(alloc)?)
 }
 
 // The command before its subcommands.
@@ -53,6 +57,32 @@ fn generated<'a>(alloc: Global) -> Result<Command<'a>, AllocError>
     Command::new(alloc, "generated").arg(copies(alloc))
 }
 
+fn proof<'a>(alloc: Global) -> Result<Command<'a>, AllocError>
+    ensures { IfOk result (HasShape line.proof) }
+{
+    Command::new(alloc, "proof")
+        .arg(nodes(alloc))?
+        .arg(steps(alloc))
+}
+
+fn resume<'a>(alloc: Global) -> Result<Command<'a>, AllocError>
+    ensures { IfOk result (HasShape line.resume) }
+{
+    Command::new(alloc, "resume")
+        .arg(nodes(alloc))?
+        .arg(steps(alloc))
+}
+
+fn confirm<'a>(alloc: Global) -> Result<Command<'a>, AllocError>
+    ensures { IfOk result (HasShape line.confirm) }
+{
+    Command::new(alloc, "confirm")
+        .arg(name(alloc))?
+        .arg(sizes(alloc))?
+        .arg(nodes(alloc))?
+        .arg(steps(alloc))
+}
+
 fn name<'a>(alloc: Global) -> Arg<'a>
     ensures { HasRule line.name result }
 {
@@ -65,6 +95,14 @@ fn copies<'a>(alloc: Global) -> Arg<'a>
     Arg::new(alloc, "N")
         .required(true)
         .value_parser(value_parser!(u32).range(1..=200))
+}
+
+fn sizes<'a>(alloc: Global) -> Arg<'a>
+    ensures { HasRule line.sizes result }
+{
+    Arg::new(alloc, "SIZE")
+        .num_args(1..)
+        .value_parser(value_parser!(u32).range(1..=256))
 }
 
 fn nodes<'a>(alloc: Global) -> Arg<'a>

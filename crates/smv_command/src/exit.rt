@@ -27,6 +27,18 @@ pub enum Status {
     Printed,
     /// Every unit of the generated design is true.
     Generated,
+    /// Every unit of the design is true, and its proof document was written.
+    Documented,
+    /// The proof document proves its design.
+    Checked,
+    /// It does not, or is no proof document.
+    Rejected,
+    /// Every unit of the design is true, by old sets too, and its proof document was written.
+    Resumed,
+    /// At the given sizes each instance of the unit holds.
+    HoldsHere,
+    /// At the given sizes a run of the design breaks an instance of the unit.
+    Real,
 }
 
 impl Status {
@@ -46,6 +58,12 @@ impl Status {
             Status::PartProved => 8,
             Status::Printed => 0,
             Status::Generated => 0,
+            Status::Documented => 0,
+            Status::Checked => 0,
+            Status::Rejected => 9,
+            Status::Resumed => 0,
+            Status::HoldsHere => 10,
+            Status::Real => 11,
         }
     }
 }

@@ -2,15 +2,16 @@
 ghost use Rattle.std.specs.Prelude.{◌≡◌, ◌≤◌, ℕ, Some, is_some, map, option_and_then, true, IfOk};
 ghost use Rattle.std.specs.String.{string_bytes};
 ghost use Rattle.clap.specs.Matches.{found_of};
-ghost use Rattle.clap.specs.Walk.{first_of, rows_of};
+ghost use Rattle.clap.specs.Walk.{first_of, rows_of, texts};
 ghost use Rattle.clap.specs.Simple.{subcommand_rows_of};
-ghost use Rattle.smv_command.specs.Commands.{budgets_in, command_of, named, number_in};
+ghost use Rattle.smv_command.specs.Ranges.{most_size};
+ghost use Rattle.smv_command.specs.Commands.{budgets_in, command_of, named, number, number_in, numbers, sizes_in};
 
 use crate::Command;
 use crate::command_line::smv;
 use clap::ArgMatches;
 use clap::error::ErrorKind;
-use smv_core::Name;
+use smv_core::{Name, Seq};
 use smv_problem::Budgets;
 use std::alloc::{AllocError, Global};
 
@@ -58,6 +59,23 @@ fn named(alloc: Global, word: &str, matches: &ArgMatches<'_>) -> Result<Command,
     } else if word == "generated" {
         let copies = number_in(matches, "N") as u16;
         Ok(Command::Generated { copies })
+    } else if word == "proof" {
+        let budgets = budgets_in(matches);
+        Ok(Command::Proof { budgets })
+    } else if word == "check" {
+        Ok(Command::Check)
+    } else if word == "resume" {
+        let budgets = budgets_in(matches);
+        Ok(Command::Resume { budgets })
+    } else if word == "confirm" {
+        let name = text_in(alloc, matches, "NAME")?;
+        let sizes = sizes_in(alloc, matches)?;
+        let budgets = budgets_in(matches);
+        Ok(Command::Confirm {
+            name,
+            sizes,
+            budgets,
+        })
     } else {
         unreachable!()
     }
@@ -71,6 +89,40 @@ fn budgets_in(matches: &ArgMatches<'_>) -> Budgets
     Budgets {
         nodes: number_in(matches, "nodes"),
         steps: number_in(matches, "steps"),
+    }
+}
+
+// The sizes, of which there may be none.
+fn sizes_in(alloc: Global, matches: &ArgMatches<'_>) -> Result<Seq<u16>, AllocError>
+    requires { is_some (sizes_in (rows_of (found_of matches.now))) ≡ true }
+    ensures { IfOk result (λ sizes. sizes_in (rows_of (found_of matches.now)) ≡ Some sizes) }
+{
+    match matches.get_raw("SIZE") {
+        Some(words) => sizes_of(alloc, words),
+        None => Ok(Seq::new(alloc)),
+    }
+}
+
+// The sizes that texts spell.
+fn sizes_of(alloc: Global, words: &[&str]) -> Result<Seq<u16>, AllocError>
+    requires { is_some (numbers most_size (texts words.now)) ≡ true }
+    ensures { IfOk result (λ sizes. numbers most_size (texts words.now) ≡ Some sizes) }
+{
+    let mut sizes = Seq::new(alloc);
+    for word in words {
+        sizes.push(size_of(word))?;
+    }
+    Ok(sizes)
+}
+
+// The size that a text spells.
+fn size_of(word: &str) -> u16
+    requires { is_some (number most_size word.now) ≡ true }
+    ensures { number most_size word.now ≡ Some result }
+{
+    match word.parse::<u16>() {
+        Ok(size) => size,
+        Err(_) => unreachable!(),
     }
 }
 

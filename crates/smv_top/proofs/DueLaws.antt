@@ -1,5 +1,5 @@
 -- What is due by what was found.
-use Rattle.std.proofs.Common.{◌≡◌, ◌≤◌, ◌<◌, ◌∙◌, ◌++◌, ◌∷◌, [], ℕ, List, length, true, refl, ap, sym, subst, codes, Err, Option, Some, None}
+use Rattle.std.proofs.Common.{◌≡◌, ◌≤◌, ◌<◌, ◌∙◌, ◌++◌, ◌∷◌, [], ℕ, List, length, true, false, refl, ap, sym, subst, Err, Option, Some, None}
 use Rattle.smv_core.specs.declared.fault.Fault.{Fault}
 use Rattle.smv_core.specs.declared.fault.Refusal.{Refusal}
 use Rattle.smv_core.specs.declared.fault.Refusal.TheVariants as refusal
@@ -11,31 +11,32 @@ use Rattle.smv_report.specs.Lines.{fault_text}
 use Rattle.smv_problem.specs.declared.report.Budgets.{Budgets}
 use Rattle.smv_problem.specs.declared.report.Report.{Report}
 use Rattle.smv_command.specs.declared.commands.Command.{Command}
-use Rattle.smv_command.specs.declared.commands.Command.TheVariants.{Only, Print, Generated}
+use Rattle.smv_command.specs.declared.commands.Command.TheVariants.{Prove, Only, Print, Generated, Proof, Check, Resume}
 use Rattle.smv_command.specs.declared.exit.Status.{Status}
 use Rattle.smv_command.specs.declared.exit.Status.TheVariants as status
 use Rattle.smv_gen.specs.Generated.{generated_text}
 use Rattle.smv_answers.specs.Reports.{IsUnitReport, HasNoUnit}
-use Rattle.smv_top.proofs.Endings.{line_31}
-use Rattle.smv_answers.specs.Dues.{IsDue, IsDueTo, IsFault, IsReportFor, text_for, usage_line, decided, printed, refused, too_long, malformed, unnamed, decides, limit, lines_for, proved_by, status_of}
+use Rattle.smv_answers.specs.DocumentDues.{refused_text, too_long_to_check, too_long_to_resume}
+use Rattle.law_judgements.specs.Judgements as judgement
+use Rattle.smv_answers.specs.Dues.{IsDue, IsDueTo, IsFault, IsReportFor, text_for, usage_line, decided, printed, refused, too_long, malformed, unnamed, decides, is_of_documents, length_fault, limit, limit_for, of_documents, lines_for, proved_by, status_of}
 
 pub due_report : (command : Command) (text : List ℕ) (report : Report) (due : Status) (answer : List ℕ) → IsReportFor command text report → due ≡ status_of (proved_by command) report → answer ≡ lines_for command report → IsDue command text due answer
 due_report command text report due answer is e f = rw e (rw f (decided report is))
 
-pub due_fault : (command : Command) (text : List ℕ) (number at : ℕ) (due : Status) (answer : List ℕ) → IsFault command text number at → due ≡ status.Refused → answer ≡ fault_text text number at → IsDue command text due answer
-due_fault command text number at due answer is e f = rw e (rw f (refused number at is))
+pub due_fault : (command : Command) (text : List ℕ) (number at : ℕ) (due : Status) (answer : List ℕ) → is_of_documents command ≡ false → IsFault command text number at → due ≡ status.Refused → answer ≡ fault_text text number at → IsDue command text due answer
+due_fault command text number at due answer own is e f = rw e (rw f (refused number at own is))
 
 pub due_tree : (text : List ℕ) (tree : Text) (due : Status) (answer : List ℕ) → length text ≤ limit → SpellsText text tree → due ≡ status.Printed → answer ≡ canonical tree → IsDue Print text due answer
 due_tree text tree due answer within is e f = rw e (rw f (printed tree (record { within = within; spelled = is })))
 
-pub due_length : (command : Command) (text : List ℕ) (due : Status) (answer : List ℕ) → limit < length text → due ≡ status.Refused → answer ≡ fault_text text 31 0 → IsDue command text due answer
-due_length command text due answer long e f = due_fault command text 31 0 due answer (too_long long) e f
+pub due_length : (command : Command) (text : List ℕ) (due : Status) (answer : List ℕ) → is_of_documents command ≡ false → limit < length text → due ≡ status.Refused → answer ≡ fault_text text 31 0 → IsDue command text due answer
+due_length command text due answer own long e f = due_fault command text 31 0 due answer own (too_long long) e f
 
 pub due_form : (text : List ℕ) (number at : ℕ) (due : Status) (answer : List ℕ) → length text ≤ limit → HasFault text number at → due ≡ status.Refused → answer ≡ fault_text text number at → IsDue Print text due answer
-due_form text number at due answer within bad e f = due_fault Print text number at due answer (malformed number at within bad) e f
+due_form text number at due answer within bad e f = due_fault Print text number at due answer refl (malformed number at within bad) e f
 
 pub due_name : (text name : List ℕ) (budgets : Budgets) (due : Status) (answer : List ℕ) → HasNoUnit text name → due ≡ status.Refused → answer ≡ fault_text text 26 0 → IsDue (Only name budgets) text due answer
-due_name text name budgets due answer none e f = due_fault (Only name budgets) text 26 0 due answer (unnamed name budgets.nodes budgets.steps none) e f
+due_name text name budgets due answer none e f = due_fault (Only name budgets) text 26 0 due answer refl (unnamed name budgets.nodes budgets.steps none) e f
 
 -- the fault that a call answers
 pub fault_of : (X : Type 0) (r : Refusal) (f : Fault) (P : Fault → Type 0) → r ≡ refusal.Fault f → IfFault {X = X} (Err r) P → P f
@@ -46,8 +47,22 @@ pub due_usage : (command : Option Command) (text answer : List ℕ) → command 
 due_usage command text answer none is = rw none (refl, is)
 
 -- a text that is too long, under a command whose text it is
-pub due_long : (command : Command) (text answer : List ℕ) → text_for command text ≡ text → limit < length text → answer ≡ codes "fault 31 at line 1 column 1" ++ 10 ∷ [] → IsDueTo (Some command) text status.Refused answer
-due_long command text answer own long is = due_length command (text_for command text) status.Refused answer (subst (λ t. limit < length t) (sym own) long) refl (is ∙ line_31 (text_for command text))
+due_over : (command : Command) (text : List ℕ) → limit_for command < length text → IsDue command text status.Refused (fault_text text (length_fault command) 0)
+due_over (Prove budgets) text long = refused 31 0 refl (too_long long)
+due_over (Only name budgets) text long = refused 31 0 refl (too_long long)
+due_over Print text long = refused 31 0 refl (too_long long)
+due_over (Generated copies) text long = refused 31 0 refl (too_long long)
+due_over (Proof budgets) text long = of_documents (refused_text budgets 31 0 (judgement.too_long long))
+due_over Check text long = of_documents (too_long_to_check long)
+due_over (Resume budgets) text long = of_documents (too_long_to_resume budgets long)
+
+at_first : (command : Command) (text : List ℕ) → fault_text [] (length_fault command) 0 ≡ fault_text text (length_fault command) 0
+at_first command text = refl
+
+pub due_long : (command : Command) (text answer : List ℕ) → text_for command text ≡ text → limit_for command < length text → answer ≡ fault_text [] (length_fault command) 0 → IsDueTo (Some command) text status.Refused answer
+due_long command text answer own long is =
+    let asked = text_for command text in
+    subst (λ (a : List ℕ). IsDue command asked status.Refused a) (sym (is ∙ at_first command asked)) (due_over command asked (subst (λ t. limit_for command < length t) (sym own) long))
 
 -- a generated text, under the command that asks for it
 pub due_copies : (command : Command) (copies : ℕ) (text made answer : List ℕ) (due : Status) → command ≡ Generated copies → made ≡ generated_text copies → IsDue command made due answer → IsDueTo (Some command) text due answer

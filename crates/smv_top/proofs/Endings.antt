@@ -1,21 +1,22 @@
 -- How a call ends, and what follows from it.
-use Rattle.std.proofs.Common.{◌≡◌, ◌≢◌, ℕ, ◌+◌, ◌<◌, List, [], ◌∷◌, ◌++◌, length, Bool, true, false, Option, Some, None, IfSome, ◌⊎◌, inl, inr, refl, sym, ap, ◌∙◌, subst, arith, true≢false, codes}
+use Rattle.std.proofs.Common.{◌≡◌, ◌≢◌, ℕ, ◌+◌, ◌<◌, List, [], ◌∷◌, ◌++◌, length, Bool, true, false, Option, Some, None, IfSome, ◌⊎◌, inl, inr, refl, sym, ap, ◌∙◌, subst, arith, true≢false}
 use Rattle.std.specs.Prelude.{if◌then◌else◌}
 use Rattle.std.proofs.Math.ListN.{replicate}
 use Rattle.std.proofs.lemmas.List.{length-replicate}
-use Rattle.std.specs.Fmt.{digits}
 use Rattle.std.specs.List.{list_any}
 use Rattle.std.specs.Io.KnownBytes.{Appends}
 use Rattle.smv_io.specs.Transfers.{TookFront}
 use Rattle.smv_problem.specs.declared.report.Report.{Report}
-use Rattle.smv_report.specs.Lines.{fault_text}
 use Rattle.smv_command.specs.declared.commands.Command.{Command}
-use Rattle.smv_command.specs.declared.commands.Command.TheVariants.{Prove, Only, Print, Generated}
+use Rattle.smv_command.specs.declared.commands.Command.TheVariants.{Prove, Only, Print, Generated, Proof, Check, Resume}
 use Rattle.smv_command.specs.declared.exit.Status.{Status}
-use Rattle.smv_command.specs.declared.exit.Status.TheVariants.{AllProved, SomeFalse, SomeUnknown, Refused, Usage, ReadFault, WriteFault, OutOfMemory, PartProved, Printed as printed_out, Generated as all_generated}
+use Rattle.smv_command.specs.declared.exit.Status.TheVariants.{AllProved, SomeFalse, SomeUnknown, Refused, Usage, ReadFault, WriteFault, OutOfMemory, PartProved, Printed as printed_out, Generated as all_generated, Documented, Checked, Rejected, Resumed as all_resumed}
 use Rattle.smv_answers.specs.Reports.{IsSoundDesign}
-use Rattle.smv_answers.specs.Dues.{IsDue, IsDueTo, decided, printed, refused, is_false, is_unknown, proved_by, status_of, Gave, Ends}
-use Rattle.smv_answers.specs.Laws.{OneStatus, ProvedIsSound}
+use Rattle.law_judgements.specs.Judgements.{Judgement}
+use Rattle.law_judgements.specs.Judgements.Judgement.{yes, form, design, set}
+use Rattle.smv_answers.specs.DocumentDues.{IsDocumentDue, documented, open_report, refused_text, too_long_to_check, judged, refused_design, too_long_to_resume, not_old, refused_new, resumed, open_resumed, status_by}
+use Rattle.smv_answers.specs.Dues.{IsDue, IsDueTo, decided, of_documents, printed, refused, is_false, is_unknown, proved_by, status_of, Gave, Ends}
+use Rattle.smv_answers.specs.Laws.{CheckedDocumentIsSound, DocumentedTextIsSound, HoldsSound, OneStatus, ProvedIsSound, RenewsSound, ResumedDocumentIsSound}
 use Rattle.smv_top.specs.Clauses.{Completes}
 
 -- ---- what the source gave
@@ -37,10 +38,6 @@ pub of_told : (left : Option (List ℕ)) (P Q : List ℕ → Type 0) → (text :
 of_told None P Q some all = tt
 of_told (Some told) P Q some all = subst Q some.1 (all some.0 some.2)
 
-pub line_31 : (text : List ℕ) → codes "fault 31 at line 1 column 1" ++ 10 ∷ [] ≡ fault_text text 31 0
-unfolding digits
-line_31 text = refl
-
 -- ---- the answer was taken, or a front of it
 
 -- a status under which an answer is written whole
@@ -50,24 +47,47 @@ is_answered WriteFault = false
 is_answered OutOfMemory = false
 is_answered _ = true
 
-of_report : (command : Command) (report : Report) → is_answered (status_of (proved_by command) report) ≡ true
-of_report command report = by (list_any (λ u. is_false u.verdict) report.units) (list_any (λ u. is_unknown u.verdict) report.units)
-  where
-    own : (command : Command) → is_answered (proved_by command) ≡ true
-    own (Prove budgets) = refl
-    own (Only name budgets) = refl
-    own Print = refl
-    own (Generated copies) = refl
+is_own : (command : Command) → is_answered (proved_by command) ≡ true
+is_own (Prove budgets) = refl
+is_own (Only name budgets) = refl
+is_own Print = refl
+is_own (Generated copies) = refl
+is_own (Proof budgets) = refl
+is_own Check = refl
+is_own (Resume budgets) = refl
 
-    by : (x y : Bool) → is_answered (if x then SomeFalse else (if y then SomeUnknown else proved_by command)) ≡ true
+of_report : (proved : Status) (report : Report) → is_answered proved ≡ true → is_answered (status_of proved report) ≡ true
+of_report proved report own = by (list_any (λ u. is_false u.verdict) report.units) (list_any (λ u. is_unknown u.verdict) report.units)
+  where
+    by : (x y : Bool) → is_answered (if x then SomeFalse else (if y then SomeUnknown else proved)) ≡ true
     by true y = refl
     by false true = refl
-    by false false = own command
+    by false false = own
+
+of_judgement : (j : Judgement) → is_answered (status_by j) ≡ true
+of_judgement (yes n) = refl
+of_judgement form = refl
+of_judgement (design number at) = refl
+of_judgement (set k) = refl
+
+of_document : (command : Command) (text : List ℕ) (due : Status) (answer : List ℕ) → IsDocumentDue command text due answer → is_answered due ≡ true
+of_document _ text _ _ (documented budgets proof is) = refl
+of_document _ text _ _ (open_report budgets report right open) = of_report Documented report refl
+of_document _ text _ _ (refused_text budgets number at fault) = refl
+of_document _ text _ _ (too_long_to_check long) = refl
+of_document _ text _ _ (judged j within is not) = of_judgement j
+of_document _ text _ _ (refused_design proof number at within spells fault) = refl
+of_document _ text _ _ (too_long_to_resume budgets long) = refl
+of_document _ text _ _ (not_old budgets within none) = refl
+of_document _ text _ _ (refused_new budgets old new proof number at within is spells fault) = refl
+of_document _ text _ _ (resumed budgets old new proof made within is spells is_new) = refl
+of_document _ text _ _ (open_resumed budgets old new proof report within is spells told open) = of_report all_resumed report refl
 
 of_command : (command : Command) (text : List ℕ) (due : Status) (answer : List ℕ) → IsDue command text due answer → is_answered due ≡ true
-of_command command text _ _ (decided report is) = of_report command report
+of_command command text _ _ (decided report is) = of_report (proved_by command) report (is_own command)
 of_command _ text _ _ (printed tree is) = refl
-of_command command text _ _ (refused number at fault) = refl
+of_command command text _ _ (refused number at own fault) = refl
+of_command command text due answer (of_documents is) = of_document command text due answer is
 
 answers : (command : Option Command) (text : List ℕ) (due : Status) (answer : List ℕ) → IsDueTo command text due answer → is_answered due ≡ true
 answers None text due answer is = ap is_answered is.0
@@ -90,6 +110,10 @@ finished status r command text answer old new due taken front (inl e) = rw e (wh
     whole PartProved is due all = (answer, due, all)
     whole printed_out is due all = (answer, due, all)
     whole all_generated is due all = (answer, due, all)
+    whole Documented is due all = (answer, due, all)
+    whole Checked is due all = (answer, due, all)
+    whole Rejected is due all = (answer, due, all)
+    whole all_resumed is due all = (answer, due, all)
     whole ReadFault is due all = absurd (true≢false (sym is))
     whole WriteFault is due all = absurd (true≢false (sym is))
     whole OutOfMemory is due all = absurd (true≢false (sym is))
@@ -99,6 +123,21 @@ finished status r command text answer old new due taken front (inl e) = rw e (wh
 pub all_proved_is_sound : ProvedIsSound → (r : Status) (command : Option Command) (text : List ℕ) (old new : Option (List ℕ)) → r ≡ AllProved → Ends r command text old new → IsSoundDesign text
 all_proved_is_sound law r command text old new is ends =
     let e : Ends AllProved command text old new = subst (λ s. Ends s command text old new) is ends in
+    law command text e.0 e.1
+
+pub documented_is_sound : DocumentedTextIsSound → (r : Status) (command : Option Command) (text : List ℕ) (old new : Option (List ℕ)) → r ≡ Documented → Ends r command text old new → IsSoundDesign text
+documented_is_sound law r command text old new is ends =
+    let e : Ends Documented command text old new = subst (λ s. Ends s command text old new) is ends in
+    law command text e.0 e.1
+
+pub checked_holds_sound : CheckedDocumentIsSound → (r : Status) (command : Option Command) (text : List ℕ) (old new : Option (List ℕ)) → r ≡ Checked → Ends r command text old new → HoldsSound text
+checked_holds_sound law r command text old new is ends =
+    let e : Ends Checked command text old new = subst (λ s. Ends s command text old new) is ends in
+    law command text e.0 e.1
+
+pub resumed_renews_sound : ResumedDocumentIsSound → (r : Status) (command : Option Command) (text : List ℕ) (old new : Option (List ℕ)) → r ≡ all_resumed → Ends r command text old new → RenewsSound text
+resumed_renews_sound law r command text old new is ends =
+    let e : Ends all_resumed command text old new = subst (λ s. Ends s command text old new) is ends in
     law command text e.0 e.1
 
 module _ (one : OneStatus) (command : Option Command) (text : List ℕ) (old new : Option (List ℕ)) where
@@ -111,6 +150,10 @@ module _ (one : OneStatus) (command : Option Command) (text : List ℕ) (old new
   completed PartProved no_read no_write e due answer is = inl (one command text PartProved due e.0 answer e.1 is)
   completed printed_out no_read no_write e due answer is = inl (one command text printed_out due e.0 answer e.1 is)
   completed all_generated no_read no_write e due answer is = inl (one command text all_generated due e.0 answer e.1 is)
+  completed Documented no_read no_write e due answer is = inl (one command text Documented due e.0 answer e.1 is)
+  completed Checked no_read no_write e due answer is = inl (one command text Checked due e.0 answer e.1 is)
+  completed Rejected no_read no_write e due answer is = inl (one command text Rejected due e.0 answer e.1 is)
+  completed all_resumed no_read no_write e due answer is = inl (one command text all_resumed due e.0 answer e.1 is)
   completed ReadFault no_read no_write e due answer is = absurd (no_read refl)
   completed WriteFault no_read no_write e due answer is = absurd (no_write refl)
   completed OutOfMemory no_read no_write e due answer is = inr refl

@@ -1,11 +1,12 @@
 // The answer that a command and its text call for.
-ghost use Rattle.std.specs.Prelude.{◌≡◌, ◌≤◌, true, length, IfOk};
+ghost use Rattle.std.specs.Prelude.{◌≡◌, false, true, IfOk};
 ghost use Rattle.smv_problem.specs.declared.report.Report.{Report};
 ghost use Rattle.smv_command.specs.Ranges.{IsInRange, AreInRange};
 ghost use Rattle.smv_command.specs.declared.commands.Command.TheVariants as variant;
 ghost use Rattle.smv_answers.specs.Reports.{IsRightReport};
-ghost use Rattle.smv_answers.specs.Dues.{IsDue, IsReportFor, decides, limit, default_nodes, default_steps};
+ghost use Rattle.smv_answers.specs.Dues.{IsDue, IsReportFor, decides, is_of_documents, default_nodes, default_steps};
 
+use crate::documents::{checked, documented, resumed};
 use smv_answers::{Answer, printed, refused, reported};
 use smv_command::Command;
 use smv_core::{Fault, Name, Refusal};
@@ -17,19 +18,22 @@ use std::alloc::{AllocError, Global};
 // The most bytes that a text has.
 const LIMIT: usize = 1_048_576;
 
+// The fault of a text that has more.
+const TOO_LONG: Fault = Fault { number: 31, at: 0 };
+
 /// The answer to a command and its text, which is the one that was read or generated.
 pub fn answer_to(alloc: Global, command: &Command, text: &[u8]) -> Result<Answer, AllocError>
     requires { IsInRange command.now }
     ensures { IfOk result (λ answer. IsDue command.now text.now answer.status answer.bytes.items) }
 {
-    if text.len() > LIMIT {
-        return refused(alloc, text, Fault { number: 31, at: 0 });
-    }
     match command {
         Command::Prove { budgets } => decided(alloc, command, text, *budgets),
         Command::Only { name, budgets } => one_decided(alloc, command, text, name, *budgets),
         Command::Print => spelled(alloc, text),
         Command::Generated { copies: _ } => decided(alloc, command, text, defaults()),
+        Command::Proof { budgets } => documented(alloc, text, *budgets),
+        Command::Check => checked(alloc, text),
+        Command::Resume { budgets } => resumed(alloc, text, *budgets),
     }
 }
 
@@ -51,11 +55,14 @@ fn decided(
     budgets: Budgets,
 ) -> Result<Answer, AllocError>
     requires decides { decides command.now ≡ true }
+    requires own { is_of_documents command.now ≡ false }
     requires asks { (report : Report) → IsRightReport text.now budgets.nodes budgets.steps report → IsReportFor command.now text.now report }
-    requires within { length text.now ≤ limit }
     requires in_range { AreInRange budgets }
     ensures { IfOk result (λ answer. IsDue command.now text.now answer.status answer.bytes.items) }
 {
+    if text.len() > LIMIT {
+        return refused(alloc, text, TOO_LONG);
+    }
     match prove(alloc, text, budgets) {
         Ok(report) => reported(alloc, command, &report),
         Err(Refusal::Fault(fault)) => refused(alloc, text, fault),
@@ -72,10 +79,12 @@ fn one_decided(
     budgets: Budgets,
 ) -> Result<Answer, AllocError>
     requires asks { command.now ≡ variant.Only name.now budgets }
-    requires within { length text.now ≤ limit }
     requires in_range { AreInRange budgets }
     ensures { IfOk result (λ answer. IsDue command.now text.now answer.status answer.bytes.items) }
 {
+    if text.len() > LIMIT {
+        return refused(alloc, text, TOO_LONG);
+    }
     match prove_one(alloc, text, name.as_bytes(), budgets) {
         Ok(Some(report)) => reported(alloc, command, &report),
         Ok(None) => refused(alloc, text, Fault { number: 26, at: 0 }),
@@ -86,9 +95,11 @@ fn one_decided(
 
 // The answer to a text that is spelled anew.
 fn spelled(alloc: Global, text: &[u8]) -> Result<Answer, AllocError>
-    requires { length text.now ≤ limit }
     ensures { IfOk result (λ answer. IsDue variant.Print text.now answer.status answer.bytes.items) }
 {
+    if text.len() > LIMIT {
+        return refused(alloc, text, TOO_LONG);
+    }
     match parse(alloc, text) {
         Ok(tree) => printed(alloc, &tree),
         Err(Refusal::Fault(fault)) => refused(alloc, text, fault),

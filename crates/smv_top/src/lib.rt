@@ -3,7 +3,7 @@
 //! For the program: `run` carries the headline. What a call owes is said once, for all commands, in `law_answers`; each clause of `run` is one of the sentences of `specs/Clauses` over it.
 #![tactic(auto)]
 
-ghost use Rattle.std.specs.Prelude.{◌≡◌, ◌≢◌, ◌⊎◌, List, ℕ, map, IfSome, Some, None, false, true};
+ghost use Rattle.std.specs.Prelude.{◌≡◌, ◌≢◌, ◌⊎◌, List, [], ℕ, map, IfSome, Some, None, false, true};
 ghost use Rattle.std.specs.String.{string_bytes};
 ghost use Rattle.std.specs.Io.KnownBytes.{Appends};
 ghost use Rattle.smv_io.specs.Causes.{Rose};
@@ -12,13 +12,17 @@ ghost use Rattle.smv_command.specs.Ranges.{IsInRange};
 ghost use Rattle.smv_command.specs.declared.commands.Command.TheVariants as variant;
 ghost use Rattle.smv_command.specs.Commands.{command_of};
 ghost use Rattle.smv_answers.specs.Reports.{IsSoundDesign};
-ghost use Rattle.smv_answers.specs.Dues.{Gave, Ends, reads, text_for};
+ghost use Rattle.smv_answers.specs.Laws.{HoldsSound, RenewsSound};
+ghost use Rattle.smv_answers.specs.Dues.{Gave, Ends, length_fault, limit_for, reads, text_for};
+ghost use Rattle.smv_report.specs.Lines.{fault_text};
 ghost use Rattle.smv_top.specs.Clauses.{Completes};
 
 mod answers;
+mod documents;
 
 use answers::answer_to;
-use smv_answers::laws::{one_status, proved_is_sound};
+use documents::{CHECK_LIMIT, RESUME_LIMIT};
+use smv_answers::laws::{documents_are_sound, one_status, proved_is_sound};
 use smv_answers::usage;
 use smv_command::words_laws::numbers_are_in_range;
 use smv_command::{Command, Status, command_of};
@@ -29,7 +33,9 @@ use std::alloc::Global;
 // The most bytes that a text has.
 const LIMIT: usize = 1_048_576;
 
-const TOO_LONG: &[u8] = b"fault 31 at line 1 column 1\n";
+const TEXT_TOO_LONG: &[u8] = b"fault 31 at line 1 column 1\n";
+
+const DOCUMENT_TOO_LONG: &[u8] = b"fault 33 at line 1 column 1\n";
 
 /// Reads a text from the source as the command asks, or makes one, decides its units or spells it anew, and then writes the whole answer.
 ///
@@ -43,6 +49,11 @@ pub fn run<S: Source, K: Sink>(
 ) -> Status
     // The headline: where all is proved, every unit holds at every time of every run, for all sizes.
     ensures sound { result ≡ Status.AllProved → IfSome (S.left source.old) IsSoundDesign }
+
+    // The same where a proof document is written, of the text; where one is checked, of the design in it; and where one is resumed, of the new design.
+    ensures documented { result ≡ Status.Documented → IfSome (S.left source.old) IsSoundDesign }
+    ensures checked { result ≡ Status.Checked → IfSome (S.left source.old) HoldsSound }
+    ensures resumed { result ≡ Status.Resumed → IfSome (S.left source.old) RenewsSound }
 
     // The status is the one to which the answer is due, and the sink took that answer.
     ensures ends { (text : List ℕ) × Gave (S.left source.old) text × Ends result (command_of (map string_bytes words.now)) text (K.taken sink.old) (K.taken sink.new) }
@@ -61,6 +72,7 @@ pub fn run<S: Source, K: Sink>(
 {
     one_status();
     proved_is_sound();
+    documents_are_sound();
     answered(alloc, words, source, sink)
 }
 
@@ -109,6 +121,9 @@ fn asked<S: Source, K: Sink>(
         } => of_source(alloc, command, source, sink),
         Command::Print => of_source(alloc, command, source, sink),
         Command::Generated { copies } => of_copies(alloc, command, *copies, sink),
+        Command::Proof { budgets: _ } => of_source(alloc, command, source, sink),
+        Command::Check => of_source(alloc, command, source, sink),
+        Command::Resume { budgets: _ } => of_source(alloc, command, source, sink),
     }
 }
 
@@ -127,14 +142,50 @@ fn of_source<S: Source, K: Sink>(
     ensures write_fault { result ≡ Status.WriteFault → Rose (K.faults sink.old) (K.faults sink.new) }
     ensures unwritten { (result ≡ Status.ReadFault) ⊎ (result ≡ Status.OutOfMemory) → sink.new ≡ sink.old }
 {
-    match read_all(alloc, source, LIMIT) {
+    match read_all(alloc, source, limit_for(command)) {
         Err(ReadError::ReadFault) => Status::ReadFault,
         Err(ReadError::OutOfMemory) => Status::OutOfMemory,
-        Err(ReadError::TooLong) => finish(sink, TOO_LONG, Status::Refused),
+        Err(ReadError::TooLong) => finish(sink, too_long(command), Status::Refused),
         Ok(text) => match answer_to(alloc, command, &text) {
             Ok(due) => finish(sink, &due.bytes, due.status),
             Err(_) => Status::OutOfMemory,
         },
+    }
+}
+
+// The most bytes that a command reads.
+fn limit_for(command: &Command) -> usize
+    ensures { result ≡ limit_for command.now }
+{
+    match command {
+        Command::Check => CHECK_LIMIT,
+        Command::Resume { budgets: _ } => RESUME_LIMIT,
+        Command::Prove { budgets: _ } => LIMIT,
+        Command::Only {
+            name: _,
+            budgets: _,
+        } => LIMIT,
+        Command::Print => LIMIT,
+        Command::Generated { copies: _ } => LIMIT,
+        Command::Proof { budgets: _ } => LIMIT,
+    }
+}
+
+// What is written where there are more.
+fn too_long(command: &Command) -> &'static [u8]
+    ensures { result.now ≡ fault_text [] (length_fault command.now) 0 }
+{
+    match command {
+        Command::Check => DOCUMENT_TOO_LONG,
+        Command::Resume { budgets: _ } => DOCUMENT_TOO_LONG,
+        Command::Prove { budgets: _ } => TEXT_TOO_LONG,
+        Command::Only {
+            name: _,
+            budgets: _,
+        } => TEXT_TOO_LONG,
+        Command::Print => TEXT_TOO_LONG,
+        Command::Generated { copies: _ } => TEXT_TOO_LONG,
+        Command::Proof { budgets: _ } => TEXT_TOO_LONG,
     }
 }
 

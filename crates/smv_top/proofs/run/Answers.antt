@@ -1,11 +1,21 @@
 use Rattle.smv_answers.specs.Reports.{IsSoundDesign}
+use Rattle.smv_answers.specs.Laws.{HoldsSound, RenewsSound}
 use Rattle.smv_answers.specs.Dues.{Ends}
 use Rattle.smv_top.specs.Clauses.{Completes}
-use Rattle.smv_top.proofs.Endings.{of_told, all_proved_is_sound, completed}
+use Rattle.smv_top.proofs.Endings.{of_told, all_proved_is_sound, checked_holds_sound, completed, documented_is_sound, resumed_renews_sound}
 use Rattle.smv_top.proofs.run.Goals as goal
 
 pub returns-clause-sound : goal.returns-clause-sound
 returns-clause-sound g c proved = of_told _ (λ text. Ends _ _ text _ _) IsSoundDesign c.answered.ensures.ends (λ text. all_proved_is_sound c.proved_is_sound.ensures _ _ text _ _ proved)
+
+pub returns-clause-documented : goal.returns-clause-documented
+returns-clause-documented g c is = of_told _ (λ text. Ends _ _ text _ _) IsSoundDesign c.answered.ensures.ends (λ text. documented_is_sound c.documents_are_sound.ensures.documented _ _ text _ _ is)
+
+pub returns-clause-checked : goal.returns-clause-checked
+returns-clause-checked g c is = of_told _ (λ text. Ends _ _ text _ _) HoldsSound c.answered.ensures.ends (λ text. checked_holds_sound c.documents_are_sound.ensures.checked _ _ text _ _ is)
+
+pub returns-clause-resumed : goal.returns-clause-resumed
+returns-clause-resumed g c is = of_told _ (λ text. Ends _ _ text _ _) RenewsSound c.answered.ensures.ends (λ text. resumed_renews_sound c.documents_are_sound.ensures.resumed _ _ text _ _ is)
 
 pub returns-clause-complete : goal.returns-clause-complete
 returns-clause-complete g c no_read no_write =

@@ -1,5 +1,5 @@
 use Rattle.std.proofs.Common.{Some, None, true≢false}
-use Rattle.smv_command.specs.declared.commands.Command.TheVariants.{Prove, Only, Print, Generated}
+use Rattle.smv_command.specs.declared.commands.Command.TheVariants.{Prove, Only, Print, Generated, Proof, Check, Resume, Confirm}
 use Rattle.law_answers.specs.Laws.{UnreadIsDue}
 use Rattle.law_answers.proofs.laws.unread_is_due.Goals as goal
 
@@ -12,3 +12,7 @@ returns c = unread
     unread (Some (Only name budgets)) text other due answer nothing is = absurd (true≢false nothing)
     unread (Some Print) text other due answer nothing is = absurd (true≢false nothing)
     unread (Some (Generated copies)) text other due answer nothing is = is
+    unread (Some (Proof budgets)) text other due answer nothing is = absurd (true≢false nothing)
+    unread (Some Check) text other due answer nothing is = absurd (true≢false nothing)
+    unread (Some (Resume budgets)) text other due answer nothing is = absurd (true≢false nothing)
+    unread (Some (Confirm name sizes budgets)) text other due answer nothing is = absurd (true≢false nothing)

@@ -20,5 +20,13 @@ returns c =
     c.in_ok-subcommand-2.ensures.shape c.in_ok-only.ensures.local ∙ ap₂ with_subcommand with_1 (ap top_of c.in_ok-only.ensures.app) in
     let with_3 : app_of c.in_ok-subcommand-3.field-0 ≡ so_far (line.prove ∷ line.only ∷ line.print ∷ []) =
     c.in_ok-subcommand-3.ensures.shape c.new.ensures.local ∙ ap₂ with_subcommand with_2 (ap top_of c.new.ensures.app) in
-    IfOk-weaker c.subcommand-4.result _ _ (λ command added. added.shape c.in_ok-generated.ensures.local ∙ ap₂ with_subcommand with_3 (ap top_of c.in_ok-generated.ensures.app))
-    c.subcommand-4.ensures
+    let with_4 : app_of c.in_ok-subcommand-4.field-0 ≡ so_far (line.prove ∷ line.only ∷ line.print ∷ line.generated ∷ []) =
+    c.in_ok-subcommand-4.ensures.shape c.in_ok-generated.ensures.local ∙ ap₂ with_subcommand with_3 (ap top_of c.in_ok-generated.ensures.app) in
+    let with_5 : app_of c.in_ok-subcommand-5.field-0 ≡ so_far (line.prove ∷ line.only ∷ line.print ∷ line.generated ∷ line.proof ∷ []) =
+    c.in_ok-subcommand-5.ensures.shape c.in_ok-proof.ensures.local ∙ ap₂ with_subcommand with_4 (ap top_of c.in_ok-proof.ensures.app) in
+    let with_6 : app_of c.in_ok-subcommand-6.field-0 ≡ so_far (line.prove ∷ line.only ∷ line.print ∷ line.generated ∷ line.proof ∷ line.check ∷ []) =
+    c.in_ok-subcommand-6.ensures.shape c.new-2.ensures.local ∙ ap₂ with_subcommand with_5 (ap top_of c.new-2.ensures.app) in
+    let with_7 : app_of c.in_ok-subcommand-7.field-0 ≡ so_far (line.prove ∷ line.only ∷ line.print ∷ line.generated ∷ line.proof ∷ line.check ∷ line.resume ∷ []) =
+    c.in_ok-subcommand-7.ensures.shape c.in_ok-resume.ensures.local ∙ ap₂ with_subcommand with_6 (ap top_of c.in_ok-resume.ensures.app) in
+    IfOk-weaker c.subcommand-8.result _ _ (λ command added. added.shape c.in_ok-confirm.ensures.local ∙ ap₂ with_subcommand with_7 (ap top_of c.in_ok-confirm.ensures.app))
+    c.subcommand-8.ensures

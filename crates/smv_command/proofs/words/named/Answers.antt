@@ -4,10 +4,10 @@ use Rattle.std.specs.Prelude.{option_map}
 use Rattle.clap.specs.Matches.{found_of}
 use Rattle.clap.specs.Walk.{rows_of}
 use Rattle.smv_command.specs.Ranges.{most_copies}
-use Rattle.smv_command.specs.declared.commands.Command.TheVariants.{Prove, Only, Generated}
+use Rattle.smv_command.specs.declared.commands.Command.TheVariants.{Prove, Only, Generated, Proof, Resume, Confirm}
 use Rattle.smv_command.specs.Commands.{both}
 use Rattle.smv_command.proofs.Values.{number_ranged}
-use Rattle.smv_command.proofs.ByName.{at_generated, at_only, at_print, at_prove, given_to_generated, given_to_only, given_to_prove, no_name}
+use Rattle.smv_command.proofs.ByName.{at_check, at_confirm, at_generated, at_only, at_print, at_proof, at_prove, at_resume, given_to_confirm, given_to_generated, given_to_only, given_to_proof, given_to_prove, given_to_resume, no_name}
 use Rattle.smv_command.proofs.words.named.Goals as goal
 
 pub budgets_in-budgets-requires : goal.budgets_in-budgets-requires
@@ -47,9 +47,38 @@ returns-then-eq-4 c =
     let is_generated = sym c.eq-else-eq-3.ensures ∙ c.if-eq-4.true in
     at_generated c.args.word.now rows is_generated ∙ ap (option_map Generated) (c.number_in-copies.ensures most_copies (given_to_generated c.args.word.now rows is_generated c.requires))
 
+pub budgets_in-budgets-requires-then-eq-5 : goal.budgets_in-budgets-requires-then-eq-5
+budgets_in-budgets-requires-then-eq-5 c = given_to_proof c.args.word.now (rows_of (found_of c.args.matches.now)) (sym c.eq-else-eq-4.ensures ∙ c.if-eq-5.true) c.requires
+
+pub returns-then-eq-5 : goal.returns-then-eq-5
+returns-then-eq-5 c = at_proof c.args.word.now (rows_of (found_of c.args.matches.now)) (sym c.eq-else-eq-4.ensures ∙ c.if-eq-5.true) ∙ ap (option_map Proof) c.budgets_in-budgets-then-eq-5.ensures
+
+pub returns-then-eq-6 : goal.returns-then-eq-6
+returns-then-eq-6 c = at_check c.args.word.now (rows_of (found_of c.args.matches.now)) (sym c.eq-else-eq-5.ensures ∙ c.if-eq-6.true)
+
+pub budgets_in-budgets-requires-then-eq-7 : goal.budgets_in-budgets-requires-then-eq-7
+budgets_in-budgets-requires-then-eq-7 c = given_to_resume c.args.word.now (rows_of (found_of c.args.matches.now)) (sym c.eq-else-eq-6.ensures ∙ c.if-eq-7.true) c.requires
+
+pub returns-then-eq-7 : goal.returns-then-eq-7
+returns-then-eq-7 c = at_resume c.args.word.now (rows_of (found_of c.args.matches.now)) (sym c.eq-else-eq-6.ensures ∙ c.if-eq-7.true) ∙ ap (option_map Resume) c.budgets_in-budgets-then-eq-7.ensures
+
+pub text_in-requires-then-eq-8 : goal.text_in-requires-then-eq-8
+text_in-requires-then-eq-8 c = (given_to_confirm c.args.word.now (rows_of (found_of c.args.matches.now)) (sym c.eq-else-eq-7.ensures ∙ c.if-eq-8.true) c.requires).0
+
+pub sizes_in-requires : goal.sizes_in-requires
+sizes_in-requires c = (given_to_confirm c.args.word.now (rows_of (found_of c.args.matches.now)) (sym c.eq-else-eq-7.ensures ∙ c.if-eq-8.true) c.requires).1
+
+pub budgets_in-budgets-requires-then-eq-8 : goal.budgets_in-budgets-requires-then-eq-8
+budgets_in-budgets-requires-then-eq-8 c = (given_to_confirm c.args.word.now (rows_of (found_of c.args.matches.now)) (sym c.eq-else-eq-7.ensures ∙ c.if-eq-8.true) c.requires).2
+
+pub returns-in_ok-sizes : goal.returns-in_ok-sizes
+returns-in_ok-sizes c =
+    at_confirm c.args.word.now (rows_of (found_of c.args.matches.now)) (sym c.eq-else-eq-7.ensures ∙ c.if-eq-8.true)
+    ∙ (λ i. option_map (λ p. Confirm p.0 p.1.0 p.1.1) (both (c.in_ok-name-2.ensures i) (both (c.in_ok-sizes.ensures i) (c.budgets_in-budgets-then-eq-8.ensures i))))
+
 pub unreachable-requires : goal.unreachable-requires
 unreachable-requires c =
     let none =
     no_name c.args.word.now (rows_of (found_of c.args.matches.now)) (sym c.eq.ensures ∙ c.if-eq.false) (sym c.eq-else-eq.ensures ∙ c.if-eq-2.false) (sym c.eq-else-eq-2.ensures ∙ c.if-eq-3.false)
-    (sym c.eq-else-eq-3.ensures ∙ c.if-eq-4.false) in
+    (sym c.eq-else-eq-3.ensures ∙ c.if-eq-4.false) (sym c.eq-else-eq-4.ensures ∙ c.if-eq-5.false) (sym c.eq-else-eq-5.ensures ∙ c.if-eq-6.false) (sym c.eq-else-eq-6.ensures ∙ c.if-eq-7.false) (sym c.eq-else-eq-7.ensures ∙ c.if-eq-8.false) in
     true≢false (sym (ap is_some (sym none) ∙ c.requires))

@@ -1,17 +1,17 @@
-use Rattle.std.proofs.Common.{◌≡◌, ◌≤◌, ℕ, Bool, List, [], ◌∷◌, Option, Some, None, codes, refl, subst, true, false}
-use Rattle.std.specs.Prelude.{if◌then◌else◌, option_and_then, option_map}
+use Rattle.std.proofs.Common.{◌≡◌, ◌≤◌, ℕ, zero, suc, Bool, List, [], ◌∷◌, Option, Some, None, codes, refl, subst, true, false, arith}
+use Rattle.std.specs.Prelude.{if◌then◌else◌, option_and_then, option_map, unwrap_or}
 use Rattle.std.specs.Str.{bytes_eq}
 use Rattle.clap.specs.Kinds.{Kinds}
-use Rattle.clap.specs.Walk.{Row, Text}
+use Rattle.clap.specs.Walk.{Row, Text, all_of}
 use Rattle.clap.specs.Simple.{subcommand_of}
 use Rattle.clap.specs.Faults.{fault_of}
 use Rattle.smv_command.specs.CommandLine.{smv}
-use Rattle.smv_command.specs.Commands.{both, budgets_in, command_of, where_faultless, name_in, named, number_in}
-use Rattle.smv_command.specs.Ranges.{AreInRange, IsInRange, most_nodes, most_steps, most_copies}
+use Rattle.smv_command.specs.Commands.{both, budgets_in, command_of, where_faultless, name_in, named, number, number_in, numbers, sizes_in}
+use Rattle.smv_command.specs.Ranges.{AreInRange, AreSizes, IsInRange, most_nodes, most_steps, most_copies, most_size}
 use Rattle.smv_problem.specs.declared.report.Budgets.{Budgets}
 use Rattle.smv_command.specs.declared.commands.Command.{Command}
-use Rattle.smv_command.specs.declared.commands.Command.TheVariants.{Prove, Only, Generated}
-use Rattle.smv_command.proofs.Values.{number_ranged}
+use Rattle.smv_command.specs.declared.commands.Command.TheVariants.{Prove, Only, Generated, Proof, Resume, Confirm}
+use Rattle.smv_command.proofs.Values.{number_ranged, spelled_ranged}
 use Rattle.smv_command.proofs.words_laws.numbers_are_in_range.Goals as goal
 
 -- a command in its range, where there is one
@@ -46,12 +46,39 @@ behind f None o same r = tt
 behind f (Some a) None same r = tt
 behind f (Some a) (Some b) same r = same a b r
 
+-- each of these sizes is in range
+abbrev AllInRange : Option (List ℕ) → Type 0
+AllInRange None = Unit {0}
+AllInRange (Some sizes) = AreSizes sizes
+
+sizes_ranged : (words : List Text) → AllInRange (numbers most_size words)
+sizes_ranged [] = λ k d short. absurd (omega (arith, short))
+sizes_ranged (word ∷ words) = go (number most_size word) (numbers most_size words) (spelled_ranged most_size word) (sizes_ranged words)
+  where
+    go : (x : Option ℕ) (xs : Option (List ℕ)) → ((n : ℕ) → x ≡ Some n → (1 ≤ n) × (n ≤ most_size)) → AllInRange xs → AllInRange (option_map (λ p. p.0 ∷ p.1) (both x xs))
+    go None xs p q = tt
+    go (Some n) None p q = tt
+    go (Some n) (Some ns) p q = at_each
+      where
+        at_each : AreSizes (n ∷ ns)
+        at_each zero d short = p n refl
+        at_each (suc k) d short = q k d (omega (arith, short))
+
 copies_ranged : (rows : List Row) → InRange (option_map Generated (number_in most_copies (codes "N") rows))
 copies_ranged rows = go (number_in most_copies (codes "N") rows) (number_ranged most_copies (codes "N") rows)
   where
     go : (x : Option ℕ) → ((n : ℕ) → x ≡ Some n → (1 ≤ n) × (n ≤ most_copies)) → InRange (option_map Generated x)
     go None p = tt
     go (Some n) p = p n refl
+
+confirm_ranged : (rows : List Row) → InRange (option_map (λ p. Confirm p.0 p.1.0 p.1.1) (both (name_in rows) (both (sizes_in rows) (budgets_in rows))))
+confirm_ranged rows = go (name_in rows) (sizes_in rows) (budgets_in rows) (sizes_ranged (unwrap_or (all_of (codes "SIZE") rows) [])) (budgets_ranged rows)
+  where
+    go : (n : Option Text) (s : Option (List ℕ)) (b : Option Budgets) → AllInRange s → BothInRange b → InRange (option_map (λ p. Confirm p.0 p.1.0 p.1.1) (both n (both s b)))
+    go None s b p q = tt
+    go (Some n) None b p q = tt
+    go (Some n) (Some s) None p q = tt
+    go (Some n) (Some s) (Some b) p q = (p, q)
 
 chosen : (b : Bool) (x y : Option Command) → InRange x → InRange y → InRange (if b then x else y)
 chosen true x y p q = p
@@ -64,7 +91,11 @@ named_ranged word rows =
     chosen (bytes_eq word (codes "prove")) _ _ (plain Prove (budgets_in rows) (λ b p. p) r)
     (chosen (bytes_eq word (codes "only")) _ _ (behind (λ p. Only p.0 p.1) (name_in rows) (budgets_in rows) (λ a b p. p) r)
     (chosen (bytes_eq word (codes "print")) _ _ tt
-    (chosen (bytes_eq word (codes "generated")) _ _ (copies_ranged rows) tt)))
+    (chosen (bytes_eq word (codes "generated")) _ _ (copies_ranged rows)
+    (chosen (bytes_eq word (codes "proof")) _ _ (plain Proof (budgets_in rows) (λ b p. p) r)
+    (chosen (bytes_eq word (codes "check")) _ _ tt
+    (chosen (bytes_eq word (codes "resume")) _ _ (plain Resume (budgets_in rows) (λ b p. p) r)
+    (chosen (bytes_eq word (codes "confirm")) _ _ (confirm_ranged rows) tt)))))))
 
 words_ranged : (words : List Text) → InRange (command_of words)
 unfolding command_of
