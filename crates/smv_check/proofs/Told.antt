@@ -13,7 +13,7 @@ use Rattle.law_valid_texts.specs.Joined.{flat_design}
 use Rattle.law_valid_texts.specs.Plans.{limit}
 use Rattle.law_valid_texts.specs.Reports.{IsValid, script_of_tree}
 use Rattle.law_valid_texts.specs.Rooms.{IsWholePlan}
-use Rattle.law_answers.specs.Dues.{IsFault, too_long, malformed, faulty, unnamed}
+use Rattle.law_answers.specs.Dues.{IsFault, too_long, malformed, faulty, unnamed, of_unit}
 use Rattle.smv_command.specs.declared.commands.Command.{Command}
 use Rattle.smv_command.specs.declared.commands.Command.TheVariants.{Prove}
 use Rattle.smv_plans.specs.Plans.{IsPlan}
@@ -57,6 +57,7 @@ fault_of command text _ _ e (too_long long) = judgements.too_long long
 fault_of command text _ _ e (malformed number at within fault) = judgements.malformed number at within fault
 fault_of command text _ _ e (faulty tree fault deciding is found) = judgements.faulty tree fault is found
 fault_of _ text _ _ e (unnamed name nodes steps none) = absurd (cc (e))
+fault_of _ text _ _ e (of_unit name sizes budgets number at is) = absurd (cc (e))
 
 fault_is : (text : List ℕ) (fault : Fault) → IsFaultRead text fault → IsFaultOf text fault.number fault.at
 fault_is text fault is = fault_of (Prove (record { nodes = 1; steps = 1 })) text fault.number fault.at refl (is (Prove (record { nodes = 1; steps = 1 })) refl)
