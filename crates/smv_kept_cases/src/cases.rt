@@ -52,12 +52,7 @@ pub(crate) struct TriedCase {
 }
 
 // Whether a set still serves.
-fn serves(
-    alloc: Global,
-    rel: &Rel,
-    store: &mut Store,
-    set: &KeptSet,
-) -> Result<bool, AllocError>
+fn serves(alloc: Global, rel: &Rel, store: &mut Store, set: &KeptSet) -> Result<bool, AllocError>
     requires rel { IsRel store.old rel.now }
     requires set { is_set set.now ≡ true }
     ensures serves { IfOk result (λ x. IsTrue x ↔ ServesIn store.old rel.now set.now) }

@@ -13,12 +13,12 @@ ghost use Rattle.smv_kept_cases.specs.Tried.{IsLeafTried};
 
 use smv_cases::calls::cases;
 use smv_chosen_table::{DefIndex, choose, put_back};
-use smv_core::flat::{Choice, Def, Design, Leaf, Timed, Unit};
 use smv_core::Name;
+use smv_core::flat::{Choice, Def, Design, Leaf, Timed, Unit};
 use smv_decide::tasks::Task;
-use smv_obligations::Shared;
 use smv_kept_cases::leaf::{TriedLeaf, try_cases};
 use smv_kept_cases::old_sets::OldSets;
+use smv_obligations::Shared;
 use smv_problem::Budgets;
 use std::alloc::{AllocError, Global};
 

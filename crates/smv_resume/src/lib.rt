@@ -37,12 +37,7 @@ pub enum Kept {
 }
 
 /// The proof of a text, where an old set that still serves stands for its case, or the report of a text of which some unit is not true; or the text's first fault.
-pub fn resume(
-    alloc: Global,
-    old: &Proof,
-    text: &[u8],
-    budgets: Budgets,
-) -> Result<Kept, Refusal>
+pub fn resume(alloc: Global, old: &Proof, text: &[u8], budgets: Budgets) -> Result<Kept, Refusal>
     requires within { length text.now ≤ limit }
     requires steps { 1 ≤ budgets.steps }
     requires old { is_proof old.now ≡ true }

@@ -17,8 +17,8 @@ pub returns-then-len-ge-MOST : goal.returns-then-len-ge-MOST
 returns-then-len-ge-MOST c =
     let test = c.if-len-ge-MOST.true in
     let long = c.len.ensures in (
-    (λ t. absurd (cc (t))),
-    (λ few. absurd (not_each (λ (set : KeptSet). length set.nodes < most) c.args.sets.now c.loop-set.set-index c.set-item.result c.loop-set-test.true c.set-item.is (λ lt. omega (arith, test, long, lt)) few)),
+      (λ t. absurd (cc (t))),
+      (λ few. absurd (not_each (λ (set : KeptSet). length set.nodes < most) c.args.sets.now c.loop-set.set-index c.set-item.result c.loop-set-test.true c.set-item.is (λ lt. omega (arith, test, long, lt)) few)),
     )
 
 pub returns : goal.returns

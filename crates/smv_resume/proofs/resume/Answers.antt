@@ -16,7 +16,7 @@ returns-in_ok-proof-then-all_true-clause-kept c =
 pub returns-in_ok-proof-then-all_true-clause-written : goal.returns-in_ok-proof-then-all_true-clause-written
 returns-in_ok-proof-then-all_true-clause-written c = (
   all_written c.args.old.now c.in_ok-sets.sets.sets.now (c.in_ok-sets.ensures.sets ∙ c.as_slice.ensures) c.args.budgets.nodes c.args.budgets.steps c.args.text.now c.in_ok-plan.plan c.in_ok-plan.ensures.plan c.in_ok-tried.tried.results c.as_slice-2.result.now c.as_slice-2.ensures c.in_ok-tried.tried.sets c.in_ok-tried.ensures
-  c.kept_proofs_are_proofs.ensures.resumed c.requires.old (c.all_true.ensures.0 c.if-all_true.true) c.in_ok-proof-then-all_true.proof c.in_ok-proof-then-all_true.ensures.design c.in_ok-proof-then-all_true.ensures.sets c.in_ok-proof-then-all_true.ensures.few,
+      c.kept_proofs_are_proofs.ensures.resumed c.requires.old (c.all_true.ensures.0 c.if-all_true.true) c.in_ok-proof-then-all_true.proof c.in_ok-proof-then-all_true.ensures.design c.in_ok-proof-then-all_true.ensures.sets c.in_ok-proof-then-all_true.ensures.few,
   c.in_ok-proof-then-all_true.ensures.few,
 )
 
