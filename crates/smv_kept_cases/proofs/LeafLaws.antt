@@ -27,14 +27,14 @@ use Rattle.smv_kept_cases.specs.Tried.{IsOpen, IsTried, IsLeafTried}
 -- the old set of a case is one of the sets
 pub old_is_set : (sets : List KeptSet) → list_all is_set sets ≡ true → (c : UnitCase) (set : KeptSet) → old_set c sets ≡ Some set → is_set set ≡ true
 old_is_set [] are c set e = absurd (cc (e))
-old_is_set (x ∷ sets) are c set e = by (is_for c x) e
+old_is_set (x ∷ sets) are c set e = by (is_for c x) (old_is_set sets (right_of (is_set x) (list_all is_set sets) are) c set) e
   where
     some_is : {a b : KeptSet} → Some a ≡ Some b → a ≡ b
     some_is f = cc
 
-    by : (b : Bool) → (if b then Some x else old_set c sets) ≡ Some set → is_set set ≡ true
-    by true f = subst (λ (y : KeptSet). is_set y ≡ true) (some_is f) (left_of (is_set x) (list_all is_set sets) are)
-    by false f = old_is_set sets (right_of (is_set x) (list_all is_set sets) are) c set f
+    by : (b : Bool) → (old_set c sets ≡ Some set → is_set set ≡ true) → (if b then Some x else old_set c sets) ≡ Some set → is_set set ≡ true
+    by true goes f = subst (λ (y : KeptSet). is_set y ≡ true) (some_is f) (left_of (is_set x) (list_all is_set sets) are)
+    by false goes f = goes f
 
 -- ---- cases
 

@@ -56,7 +56,8 @@ pub fn try_cases(
         let found = old.find(unit, place.number);
         let done = try_case(alloc, common, task, place, found, budgets)?;
         common = done.shared;
-        match done.tried {
+        let tried = done.tried;
+        match tried {
             Tried::True { set } => sets.push(set)?,
             Tried::Open { verdict } => {
                 return Ok(TriedLeaf {
