@@ -16,7 +16,8 @@ use Rattle.smv_core.specs.declared.tree.Expr.{Expr}
 use Rattle.smv_core.specs.declared.tree.Stmt.{Stmt, Forall}
 use Rattle.smv_core.specs.declared.tree.Item.{Item, Declare, Instance, Layer, Forall', Block', Claim, Split, Using, Act, Row_of-Item, end_of-Item, more_of-Item}
 use Rattle.law_places.specs.Likeness.{IsLikeSaid, IsLikeMet, IsLike}
-use Rattle.law_induction.specs.Strengthened.{stronger, IsInductive, stronger_claim, IsStronger, stronger_item, stronger_items, stronger_top, stronger_text, IsInductiveItem, AreInductiveItems, IsInductiveBody, AreInductiveTops}
+use Rattle.law_exchanged.specs.Changed.{changed_item, changed_items, changed_top}
+use Rattle.law_induction.specs.Strengthened.{stronger, IsInductive, stronger_claim, IsStronger, is_main, strengthened, stronger_item, stronger_text, IsInductiveItem, AreInductiveItems, IsInductiveBody, AreInductiveTops}
 use Rattle.law_lists.proofs.Lists.{flat_map_agree, nothing_behind}
 use Rattle.law_places.proofs.LikeDesigns.{zipped-append, like_designs_hold}
 use Rattle.law_induction.proofs.Inductions.{carried}
@@ -105,6 +106,7 @@ module _ (var fresh set name : Name) (types : Types) where
   step-length ((a, b) ∷ bs) [] p = absurd p
 
   role-same : (items : List Item) (a : Name) → role_of items a ≡ role_of (map (stronger_item var fresh set name) items) a
+  unfolding changed_item
   role-same [] a = refl
   role-same (Declare role words of at ∷ items) a = ap (λ r. if list_any (λ word. bytes_eq word.name a) words then role else r) (role-same items a)
   role-same (Instance words m args at ∷ items) a = role-same items a
@@ -139,6 +141,7 @@ module _ (var fresh set name : Name) (types : Types) where
       families-same (Act act) = refl
 
       families-stronger : (item : Item) → families_of_item types bs inside here item ≡ families_of_item types ds other here (stronger_item var fresh set name item)
+      unfolding changed_item
       families-stronger (Declare role words of at) = refl
       families-stronger (Instance words m args at) = flat_map_agree _ _ (λ word. alike (here ++ word.name ∷ []) m.name) words
       families-stronger (Layer word body at) = refl
@@ -200,6 +203,8 @@ module _ (var fresh set name : Name) (types : Types) where
       claim-step around n body true e p = inr (subst (λ l. IsInductive var fresh set types l body) (nothing_behind around) (p e), refl)
 
       mutual
+        unfolding changed_item
+
         item-step : (around : List (Name × TypeExpr)) (item : Item) → IsInductiveItem var fresh set name types around item → AllZip (IsStepMet around) (item_met types bs inside here item) (item_met types ds other here (stronger_item var fresh set name item))
         item-step around (Declare role words of at) p = tt
         item-step around (Instance words m args at) p = outer-met around _ _ (instances-step m.name args words)
@@ -211,7 +216,7 @@ module _ (var fresh set name : Name) (types : Types) where
         item-step around (Using uses proves at) p = tt
         item-step around (Act act) p = (refl, tt)
 
-        items-step : {m : _} (around : List (Name × TypeExpr)) (items : Row_of-Item m) → AreInductiveItems var fresh set name types around items → AllZip (IsStepMet around) (items_met types bs inside here items) (items_met types ds other here (stronger_items var fresh set name items))
+        items-step : {m : _} (around : List (Name × TypeExpr)) (items : Row_of-Item m) → AreInductiveItems var fresh set name types around items → AllZip (IsStepMet around) (items_met types bs inside here items) (items_met types ds other here (changed_items (strengthened var fresh set name) items))
         items-step around end_of-Item p = tt
         items-step around (more_of-Item item rest) p = zipped-append (IsStepMet around) (item_met types bs inside here item) (item_met types ds other here (stronger_item var fresh set name item)) _ _ (item-step around item p.0) (items-step around rest p.1)
 
@@ -243,28 +248,28 @@ module _ (var fresh set name : Name) (types : Types) where
   like-step [] (y ∷ ys) p = absurd p
   like-step (x ∷ xs) [] p = absurd p
 
-  same-types : (tops : List Top) (known : Types) → types_from known (map (stronger_top var fresh set name) tops) ≡ types_from known tops
+  same-types : (tops : List Top) (known : Types) → types_from known (map (changed_top is_main (strengthened var fresh set name)) tops) ≡ types_from known tops
   same-types [] known = refl
   same-types (SetType word true span at ∷ tops) known = same-types tops _
   same-types (SetType word false span at ∷ tops) known = same-types tops _
   same-types (Alias word of at ∷ tops) known = same-types tops _
   same-types (Module word formals body at ∷ tops) known = same-types tops known
 
-  same-sizes : (sizes : Sizes) (tops : List Top) → All (IsSizedTop sizes) tops → All (IsSizedTop sizes) (map (stronger_top var fresh set name) tops)
+  same-sizes : (sizes : Sizes) (tops : List Top) → All (IsSizedTop sizes) tops → All (IsSizedTop sizes) (map (changed_top is_main (strengthened var fresh set name)) tops)
   same-sizes sizes [] h = λ k d lt. absurd (omega (arith, lt))
   same-sizes sizes (top ∷ tops) h = λ k d lt. at_place k d lt (same-sizes sizes tops (λ i t low. h (suc i) t (omega (arith, low))))
     where
-      one : (top : Top) → IsSizedTop sizes top → IsSizedTop sizes (stronger_top var fresh set name top)
+      one : (top : Top) → IsSizedTop sizes top → IsSizedTop sizes (changed_top is_main (strengthened var fresh set name) top)
       one (SetType word ordered (Some span) at) p = p
       one (SetType word ordered None at) p = p
       one (Alias word of at) p = p
       one (Module word formals body at) p = p
 
-      at_place : (k : ℕ) (d : Top) → k < suc (length (map (stronger_top var fresh set name) tops)) → All (IsSizedTop sizes) (map (stronger_top var fresh set name) tops) → IsSizedTop sizes (get_or (stronger_top var fresh set name top ∷ map (stronger_top var fresh set name) tops) k d)
+      at_place : (k : ℕ) (d : Top) → k < suc (length (map (changed_top is_main (strengthened var fresh set name)) tops)) → All (IsSizedTop sizes) (map (changed_top is_main (strengthened var fresh set name)) tops) → IsSizedTop sizes (get_or (changed_top is_main (strengthened var fresh set name) top ∷ map (changed_top is_main (strengthened var fresh set name)) tops) k d)
       at_place zero d lt rest = one top (h zero top (omega arith))
       at_place (suc k) d lt rest = rest k d (omega (arith, lt))
 
-  step-modules : (tops : List Top) → AreInductiveTops var fresh set name types tops → AreStepBodies (modules tops) (modules (map (stronger_top var fresh set name) tops))
+  step-modules : (tops : List Top) → AreInductiveTops var fresh set name types tops → AreStepBodies (modules tops) (modules (map (changed_top is_main (strengthened var fresh set name)) tops))
   step-modules [] p = tt
   step-modules (SetType word ordered span at ∷ tops) p = step-modules tops p
   step-modules (Alias word of at ∷ tops) p = step-modules tops p

@@ -16,12 +16,13 @@ use Rattle.law_grammar.specs.Laws.{IsRight}
 use Rattle.law_grammar.proofs.Whole.{answered}
 use Rattle.law_places.specs.Placeless.{placeless_item, placeless_stmt, placeless, placeless_type}
 use Rattle.law_places.proofs.Computing as tree
+use Rattle.law_exchanged.specs.Changed.{changed_item}
 use Rattle.law_induction.specs.Renamed.{renamed}
 use Rattle.law_induction.specs.Strengthened.{AreInductiveTops}
 use Rattle.law_induction.specs.WorkedTexts.{at_index, strengthened, machine, names, names_body, type_names, MachineStrengthened, NamesStrengthened, TypeNamesRefused}
 
 unfoldable computing : Unit {0}
-unfolding grammar.computing tree.computing renamed placeless_type placeless placeless_stmt placeless_item
+unfolding grammar.computing tree.computing changed_item renamed placeless_type placeless placeless_stmt placeless_item
 computing = tt
 
 -- what is read is spelled

@@ -2,3 +2,4 @@ pub mod Renamed
 pub mod Laws
 pub mod Strengthened
 pub mod WorkedTexts
+pub mod Replacement

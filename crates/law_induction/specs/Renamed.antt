@@ -4,11 +4,12 @@ use Rattle.std.specs.Str.{bytes_eq}
 use Rattle.smv_core.specs.Values.{Name, Path, Value}
 use Rattle.smv_core.specs.Types.{find_name}
 use Rattle.smv_core.specs.Outcome.{Bindings, fields_of}
+use Rattle.smv_core.specs.Rows.{Condition}
 use Rattle.smv_core.specs.declared.tree.Word.{Word}
 use Rattle.smv_core.specs.declared.tree.TypeExpr.{TypeExpr, Named}
 use Rattle.smv_core.specs.declared.tree.Part.{Field, At}
 use Rattle.smv_core.specs.declared.tree.Member.{One, Span as SpanOf}
-use Rattle.smv_core.specs.declared.tree.Expr.{Expr, Number, Signal', Not', And', Or', Implies', Iff', Compare', Within', Sum', Modulo', Choose', All', Any', List', Each', Held-Expr-Each-2, None', Some', Row_of-Expr, end_of-Expr, more_of-Expr, Row_of-Part, end_of-Part, more_of-Part, Row_of-Member, end_of-Member, more_of-Member, Row_of-Signed, end_of-Signed, more_of-Signed, items-the_row-Part}
+use Rattle.smv_core.specs.declared.tree.Expr.{Expr, Number, Signal', Not', And', Or', Implies', Iff', Compare', Within', Sum', Modulo', Choose', All', Any', List', Each', None', Some', Row_of-Expr, end_of-Expr, more_of-Expr, Row_of-Part, end_of-Part, more_of-Part, Row_of-Member, end_of-Member, more_of-Member, Row_of-Signed, end_of-Signed, more_of-Signed, items-the_row-Part}
 
 module _ (var fresh : Name) where
   -- a name that is the variable's is the new one
@@ -67,7 +68,7 @@ module _ (var fresh : Name) where
     renamed_members (more_of-Member (One e) rest) = more_of-Member (One (renamed e)) (renamed_members rest)
     renamed_members (more_of-Member (SpanOf span at) rest) = more_of-Member (SpanOf span at) (renamed_members rest)
 
-    pub renamed_held : Held-Expr-Each-2 → Held-Expr-Each-2
+    pub renamed_held : Condition → Condition
     renamed_held None' = None'
     renamed_held (Some' shape cond) = Some' shape (renamed_row cond)
 
@@ -124,7 +125,7 @@ module _ (var fresh : Name) where
     AreRenamableMembers (more_of-Member (One e) rest) = IsRenamable e × AreRenamableMembers rest
     AreRenamableMembers (more_of-Member (SpanOf span at) rest) = AreRenamableMembers rest
 
-    pub IsRenamableHeld : Held-Expr-Each-2 → Type 0
+    pub IsRenamableHeld : Condition → Type 0
     IsRenamableHeld None' = Unit {0}
     IsRenamableHeld (Some' shape cond) = AreRenamable cond
 

@@ -1,13 +1,16 @@
 -- A claim that may assume itself, at the same time, for all smaller values of a parameter over an ordset.
-use Rattle.std.specs.Prelude.{◌≡◌, List, [], ◌∷◌, ◌++◌, Some, true, false, if◌then◌else◌, map, ◌⊎◌}
+use Rattle.std.specs.Prelude.{Bool, ◌≡◌, List, [], ◌∷◌, ◌++◌, Some, true, false, if◌then◌else◌, ◌⊎◌}
 use Rattle.std.specs.Str.{bytes_eq}
 use Rattle.smv_core.specs.Values.{Name, ordset}
 use Rattle.smv_core.specs.Types.{Types, simple}
 use Rattle.smv_core.specs.FlatOrder.{Claimed, main}
+use Rattle.smv_core.specs.Signs.{open_paren, close_paren, open_bracket, close_bracket, colon, less, ampersand, arrow, word_in}
+use Rattle.smv_core.specs.declared.token.TokenKind.{TokenKind}
+use Rattle.smv_core.specs.declared.token.TokenKind.TheVariants.{Ident}
 use Rattle.smv_core.specs.declared.tree.Word.{Word}
 use Rattle.smv_core.specs.declared.tree.Text.{Text}
 use Rattle.smv_core.specs.declared.tree.Top.{Top}
-use Rattle.smv_core.specs.declared.tree.Top.TheVariants.{SetType, Alias, Module}
+use Rattle.smv_core.specs.declared.tree.Top.TheVariants.{Module}
 use Rattle.smv_core.specs.declared.tree.Path.{roll-Path}
 use Rattle.smv_core.specs.declared.tree.Part.{Field}
 use Rattle.smv_core.specs.declared.tree.Op.TheVariants.{Less}
@@ -15,7 +18,8 @@ use Rattle.smv_core.specs.declared.tree.TypeExpr.{TypeExpr}
 use Rattle.smv_core.specs.declared.tree.TypeExpr.TheVariants as type
 use Rattle.smv_core.specs.declared.tree.Expr.{Expr}
 use Rattle.smv_core.specs.declared.tree.Expr.TheVariants as expr
-use Rattle.smv_core.specs.declared.tree.Item.{Item, Declare, Instance, Layer, Forall', Block', Claim, Split, Using, Act, Row_of-Item, end_of-Item, more_of-Item}
+use Rattle.smv_core.specs.declared.tree.Item.{Item, Forall', Block', Claim, Row_of-Item, end_of-Item, more_of-Item}
+use Rattle.law_exchanged.specs.Changed.{changed_item, changed_text}
 use Rattle.law_induction.specs.Renamed.{renamed, IsRenamable}
 
 -- a name that stands nowhere in the text
@@ -25,6 +29,13 @@ word_of name = record { name = name; at = 0 }
 -- a variable alone
 abbrev pub variable : Name → Expr
 variable name = expr.Signal (roll-Path (record { parts = Field (word_of name) ∷ []; at = 0 }))
+
+-- the module `main`, and the claims of a name
+abbrev pub is_main : Word → Bool
+is_main word = bytes_eq word.name main
+
+abbrev pub is_named : Name → Word → Bool
+is_named name word = bytes_eq word.name name
 
 -- no parameter has this name
 abbrev pub IsNoneOf : Name → List (Name × TypeExpr) → Type 0
@@ -39,6 +50,11 @@ module _ (var fresh set : Name) where
   -- and then the claim itself
   abbrev pub stronger : Expr → Expr
   stronger e = expr.Implies (for_smaller e ∷ e ∷ [])
+
+  -- the kinds of the tokens `& [ v < VAR -> ( E2 ) : v in T ] -> ( E )`
+  abbrev pub written : List TokenKind → List TokenKind → List TokenKind
+  written smaller body =
+      ampersand ∷ open_bracket ∷ Ident fresh ∷ less ∷ Ident var ∷ arrow ∷ open_paren ∷ smaller ++ (close_paren ∷ colon ∷ Ident fresh ∷ word_in ∷ Ident set ∷ close_bracket ∷ arrow ∷ open_paren ∷ body ++ (close_paren ∷ []))
 
   -- A claim inside these binders can be proved by induction: the innermost variable of this name is over the ordset, and the new name is no name of the claim.
   pub record IsInductive (types : Types) (params : List (Name × TypeExpr)) (body : Expr) : Type 0 where
@@ -64,31 +80,16 @@ module _ (var fresh set : Name) where
 
   -- the claims of this name
   module _ (name : Name) where
-    abbrev mutual
-      pub stronger_item : Item → Item
-      stronger_item (Declare role names of at) = Declare role names of at
-      stronger_item (Instance names module' args at) = Instance names module' args at
-      stronger_item (Layer word body at) = Layer word body at
-      stronger_item (Forall' word over shape items at) = Forall' word over shape (stronger_items items) at
-      stronger_item (Block' shape items) = Block' shape (stronger_items items)
-      stronger_item (Claim word vars body at) = Claim word vars (if bytes_eq word.name name then stronger body else body) at
-      stronger_item (Split word vars of pairs at) = Split word vars of pairs at
-      stronger_item (Using uses proves at) = Using uses proves at
-      stronger_item (Act act) = Act act
+    -- the expression of a claim
+    abbrev pub strengthened : Word → Expr → Expr
+    strengthened word body = if is_named name word then stronger body else body
 
-      pub stronger_items : {m : _} → Row_of-Item m → Row_of-Item m
-      stronger_items end_of-Item = end_of-Item
-      stronger_items (more_of-Item item rest) = more_of-Item (stronger_item item) (stronger_items rest)
+    abbrev pub stronger_item : Item → Item
+    stronger_item = changed_item strengthened
 
-    -- in the module `main`
-    abbrev pub stronger_top : Top → Top
-    stronger_top (SetType word ordered span at) = SetType word ordered span at
-    stronger_top (Alias word of at) = Alias word of at
-    stronger_top (Module word formals body at) = Module word formals (if bytes_eq word.name main then map stronger_item body else body) at
-
-    -- the tree with the claim strengthened
+    -- the tree with the claims of this name in the module `main` strengthened
     abbrev pub stronger_text : Text → Text
-    stronger_text text = record { tops = map stronger_top text.tops }
+    stronger_text = changed_text is_main strengthened
 
     module _ (types : Types) where
       abbrev mutual
