@@ -30,10 +30,11 @@ word_of name = record { name = name; at = 0 }
 abbrev pub variable : Name → Expr
 variable name = expr.Signal (roll-Path (record { parts = Field (word_of name) ∷ []; at = 0 }))
 
--- the module `main`, and the claims of a name
+-- the module is `main`
 abbrev pub is_main : Word → Bool
 is_main word = bytes_eq word.name main
 
+-- the claim has this name
 abbrev pub is_named : Name → Word → Bool
 is_named name word = bytes_eq word.name name
 
@@ -78,12 +79,12 @@ module _ (var fresh set : Name) where
 
   -- ---- trees
 
-  -- the claims of this name
   module _ (name : Name) where
-    -- the expression of a claim
+    -- a claim's expression, strengthened where the claim has the name
     abbrev pub strengthened : Word → Expr → Expr
     strengthened word body = if is_named name word then stronger body else body
 
+    -- an item in which the claims of the name are strengthened
     abbrev pub stronger_item : Item → Item
     stronger_item = changed_item strengthened
 
@@ -104,6 +105,7 @@ module _ (var fresh set : Name) where
         AreInductiveItems around end_of-Item = Unit {0}
         AreInductiveItems around (more_of-Item item rest) = IsInductiveItem around item × AreInductiveItems around rest
 
+      -- those in a module's items
       abbrev pub IsInductiveBody : List Item → Type 0
       IsInductiveBody [] = Unit {0}
       IsInductiveBody (item ∷ items) = IsInductiveItem [] item × IsInductiveBody items
