@@ -1,0 +1,9 @@
+pub mod Faults
+pub mod Forms
+pub mod Spots
+pub mod Views
+pub mod Problems
+pub mod Products
+pub mod Refusals
+pub mod ClassLaws
+pub mod Passed
