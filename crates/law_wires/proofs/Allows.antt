@@ -1,15 +1,15 @@
 -- Why a definition allows some value, whatever the states are.
-use Rattle.std.proofs.Common.{◌≡◌, ℕ, ◌+◌, ◌-◌, List, [], ◌∷◌, ◌++◌, map, Bool, true, false, not, ◌&&◌, ◌||◌, refl, sym, ap, subst, ◌∙◌, inl, inr, Option, Some, None, if◌then◌else◌}
+use Rattle.std.proofs.Common.{◌≡◌, ℕ, ◌+◌, ◌-◌, List, [], ◌∷◌, ◌++◌, map, Bool, true, false, not, ◌&&◌, refl, ap, inl, inr, Option, Some, None, if◌then◌else◌}
 use Rattle.std.proofs.lemmas.Bool.{cases_Bool}
 use Rattle.std.specs.Prelude.{is_none}
-use Rattle.std.specs.List.{flat_map, filter, list_any, list_all, slice_get, zip}
+use Rattle.std.specs.List.{list_any, list_all, zip}
 use Rattle.law_lists.proofs.Booleans.{clash, and_both, either_left, either_right}
 use Rattle.smv_core.specs.Values.{Truth, number, numbers_from}
 use Rattle.smv_core.specs.Outcome.{branch, is_true}
 use Rattle.smv_core.specs.declared.flat.Def.{Def}
 use Rattle.smv_core.specs.declared.flat.DefBody.{DefBody, Nothing, Assign, If', First', Forall', Row_of-DefBody, end_of-DefBody, more_of-DefBody}
 use Rattle.smv_core.specs.declared.flat.FlatMember.{One, Span as SpanOf}
-use Rattle.smv_core.specs.declared.flat.FlatExpr.{FlatExpr, Choose', List', Each', Held-FlatExpr-Each-2, None', Some', Row_of-FlatExpr, end_of-FlatExpr, more_of-FlatExpr, Row_of-FlatMember, end_of-FlatMember, more_of-FlatMember}
+use Rattle.smv_core.specs.declared.flat.FlatExpr.{FlatExpr, Choose', List', Each', Held-FlatExpr-Each-2, None', Some', end_of-FlatExpr, more_of-FlatExpr, Row_of-FlatMember, end_of-FlatMember, more_of-FlatMember}
 use Rattle.law_obligations.specs.Sets.{Has, first, one_of_each, pairs}
 use Rattle.law_obligations.specs.Places.{Place, named, same_place, is_among, World, named_in, rests_in, places_in, AbsOutcome, bind_place}
 use Rattle.law_obligations.specs.May.{AbsState, Kept, seen, may, may_members}
@@ -76,12 +76,18 @@ module _ (w : World) (have : HaveValues w) (kept : Kept) (every : List Place) (s
     may_allow_some (Each' var over cond at) b = elim (cases_Bool (list_any (λ q. may_meet w kept a cond (bind_place b var q)) (places_in w over))) [
       | inl t ↦
           let q = any-some (λ q. may_meet w kept a cond (bind_place b var q)) (places_in w over) t in
-          let r = gives_some (Some q.0) in
-          (r.0, r.1, either_left (list_all (λ q. not (must_meet w kept a cond (bind_place b var q))) (named_in w over) && is_among every r.0)
-          (any-found (λ q. may_meet w kept a cond (bind_place b var q) && gives every (Some q) r.0) q.1 (and_both q.2 r.2)))
-      | inr t ↦
-          (any_given.0, any_given.1, either_right (list_any (λ q. may_meet w kept a cond (bind_place b var q) && gives every (Some q) any_given.0) (places_in w over))
-          (and_both (all-holds (λ q. not (must_meet w kept a cond (bind_place b var q))) (named_in w over) (λ q k. not_must cond (bind_place b var q) (none_is q (Has-left (rests_in w over) k) t))) any_given.2))
+          let r = gives_some (Some q.0) in (
+            r.0,
+            r.1,
+            either_left (list_all (λ q. not (must_meet w kept a cond (bind_place b var q))) (named_in w over) && is_among every r.0)
+                (any-found (λ q. may_meet w kept a cond (bind_place b var q) && gives every (Some q) r.0) q.1 (and_both q.2 r.2)),
+          )
+      | inr t ↦ (
+        any_given.0,
+        any_given.1,
+        either_right (list_any (λ q. may_meet w kept a cond (bind_place b var q) && gives every (Some q) any_given.0) (places_in w over))
+            (and_both (all-holds (λ q. not (must_meet w kept a cond (bind_place b var q))) (named_in w over) (λ q k. not_must cond (bind_place b var q) (none_is q (Has-left (rests_in w over) k) t))) any_given.2),
+      )
     ]
       where
         none_is : (q : Place) → Has (places_in w over) q → list_any (λ q. may_meet w kept a cond (bind_place b var q)) (places_in w over) ≡ false → may_meet w kept a cond (bind_place b var q) ≡ false
@@ -139,14 +145,17 @@ module _ (w : World) (have : HaveValues w) (kept : Kept) (every : List Place) (s
         some_result : (part : DefBody) (b : List Place) → HasResult (given part b)
         some_result Nothing b = (None, first, tt)
         some_result (Assign left value place at) b =
-            let us = has_choice (map (λ e. may w kept a e b) left) (filled_each (λ e. may w kept a e b) left (λ e. filled e b)) in
-            (_, Has-map (λ us. assigned w kept a indexes (λ p. is_among every p) (may_allow w kept a every) us value b) (Has-choices us.1),
-             assigned_gives (list_any (λ (u, q). is_elsewhere u q) (zip us.0 indexes)) (list_any is_none us.0) (may_allow w kept a every value b) (may_allow_some value b))
+            let us = has_choice (map (λ e. may w kept a e b) left) (filled_each (λ e. may w kept a e b) left (λ e. filled e b)) in (
+              _,
+              Has-map (λ us. assigned w kept a indexes (λ p. is_among every p) (may_allow w kept a every) us value b) (Has-choices us.1),
+              assigned_gives (list_any (λ (u, q). is_elsewhere u q) (zip us.0 indexes)) (list_any is_none us.0) (may_allow w kept a every value b) (may_allow_some value b),
+            )
         some_result (If' cond l (more_of-DefBody left end_of-DefBody) r (more_of-DefBody other end_of-DefBody)) b =
-            let u = filled cond b in let x = some_result left b in let y = some_result other b in
-            (taken (λ p. is_among every p) (seen u.0) x.0 y.0,
-             Has-flat_map (λ u. pairs (λ x y. taken (λ p. is_among every p) (seen u) x y ∷ []) (given left b) (given other b)) u.1 (Has-pairs (λ x y. taken (λ p. is_among every p) (seen u.0) x y ∷ []) x.1 y.1 first),
-             taken_gives (seen u.0) x.0 y.0 x.2 y.2)
+            let u = filled cond b in let x = some_result left b in let y = some_result other b in (
+              taken (λ p. is_among every p) (seen u.0) x.0 y.0,
+              Has-flat_map (λ u. pairs (λ x y. taken (λ p. is_among every p) (seen u) x y ∷ []) (given left b) (given other b)) u.1 (Has-pairs (λ x y. taken (λ p. is_among every p) (seen u.0) x y ∷ []) x.1 y.1 first),
+              taken_gives (seen u.0) x.0 y.0 x.2 y.2,
+            )
         some_result (First' shape parts) b = first_of_all (results_each w kept a indexes (λ p. is_among every p) (may_allow w kept a every) parts b) (some_results parts b)
         some_result (Forall' var over shape (more_of-DefBody body end_of-DefBody)) b =
             first_of_all (map (λ p. given body (bind_place b var p)) (places_in w over)) (at_each (λ p. given body (bind_place b var p)) (places_in w over) (λ p. some_result body (bind_place b var p)))

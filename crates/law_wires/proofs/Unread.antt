@@ -91,15 +91,16 @@ module _ (c : PosedCase) (keeps : KeepsNamed c.problem.world c.problem.kept) (ha
       ap (λ (keeps : ℕ → List Place → Bool). keeps def.family indexes) is.are_kept ∙ any-found (same_element (element def.family indexes)) h (sym (flip x (element def.family indexes)) ∙ same) in
       let found =
       may_be_some c.problem.world have c.problem.kept every (subst Filled (sym is_every) (have def.family r.0 there)) def indexes old a
-      (λ b k. subst (λ (places : List Place). Has places (b def.family indexes)) (sym is_every) ((state_of old before b k).is_somewhere def.family r.0 there indexes is_kept)) in
-      (found.0,
-       Has-filter (λ v. list_all (is_met c.problem old (put x v a)) (those_of demands x))
-       (subst (λ (places : List Place). Has places found.0) (sym (ap (values_in c.problem.world) r.1)) (subst (λ (places : List Place). Has places found.0) is_every found.1))
-       (subst (λ (l : List Demanded). list_all (is_met c.problem old (put x found.0 a)) l ≡ true) (sym e)
-       (and_both
-       (ap (may_be c.problem.world c.problem.kept def indexes every old (put x found.0 a)) (put_at x found.0 a (element def.family indexes) same)
-       ∙ (may_be_same c.problem.world have c.problem.kept c.problem.kept keeps keeps def indexes every old old (put x found.0 a) a found.0 (tells found.0) (λ k. itself_before old (defined def indexes)) ∙ found.2))
-       refl)))
+      (λ b k. subst (λ (places : List Place). Has places (b def.family indexes)) (sym is_every) ((state_of old before b k).is_somewhere def.family r.0 there indexes is_kept)) in (
+        found.0,
+        Has-filter (λ v. list_all (is_met c.problem old (put x v a)) (those_of demands x))
+            (subst (λ (places : List Place). Has places found.0) (sym (ap (values_in c.problem.world) r.1)) (subst (λ (places : List Place). Has places found.0) is_every found.1))
+            (subst (λ (l : List Demanded). list_all (is_met c.problem old (put x found.0 a)) l ≡ true) (sym e)
+            (and_both
+            (ap (may_be c.problem.world c.problem.kept def indexes every old (put x found.0 a)) (put_at x found.0 a (element def.family indexes) same)
+            ∙ (may_be_same c.problem.world have c.problem.kept c.problem.kept keeps keeps def indexes every old old (put x found.0 a) a found.0 (tells found.0) (λ k. itself_before old (defined def indexes)) ∙ found.2))
+            refl)),
+      )
     where
       state_of : (old : Option AbsState) → IsBefore c old → (b : AbsState) → old ≡ Some b → IsState c b
       state_of old before b k = subst (IsBefore c) k before
