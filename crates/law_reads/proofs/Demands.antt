@@ -57,7 +57,7 @@ module _ (w : World) (have : HaveValues w) (kept other : Kept) (keeps : KeepsNam
     must_keep_same : (a d : AbsState) (p : Place) → a def.family indexes ≡ d def.family indexes → must_keep w kept def indexes every a p ≡ must_keep w other def indexes every d p
     must_keep_same a d p e = ap (λ v. if concerns_place def.next indexes then same_place v p && is_named p else is_among every p) e
 
-    may_be_same : (old before : Option AbsState) (a d : AbsState) (p : Place) → TellSame kept a other d (read_of w indexes now_part []) →
+    pub may_be_same : (old before : Option AbsState) (a d : AbsState) (p : Place) → TellSame kept a other d (read_of w indexes now_part []) →
         (concerns_place def.comb indexes ≡ false → BeforeSame w kept old other before (defined def indexes)) → may_be w kept def indexes every old a p ≡ may_be w other def indexes every before d p
     may_be_same old before a d p h earlier = by (concerns_place def.comb indexes) old before h earlier
       where

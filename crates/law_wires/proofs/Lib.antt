@@ -1,4 +1,5 @@
 pub mod Tests
 pub mod Put
 pub mod Tried
+pub mod Allows
 pub mod Unread

@@ -1,22 +1,27 @@
--- Why nothing depends on elements that nothing reads, and why what is allowed does not change by what is not read.
-use Rattle.std.proofs.Common.{◌≡◌, List, ◌∷◌, true, false, refl, sym, ap, ◌∙◌, Option, Some, None, if◌then◌else◌}
-use Rattle.std.specs.List.{list_any, list_all}
-use Rattle.law_lists.proofs.Booleans.{not_left}
-use Rattle.law_obligations.specs.Sets.{Has}
-use Rattle.law_obligations.specs.Places.{Place}
+-- Why nothing depends on elements that nothing reads, and why an element's demand allows some value, the same ones whatever it does not read.
+use Rattle.std.proofs.Common.{◌≡◌, ℕ, List, [], ◌∷◌, ◌++◌, Bool, true, false, refl, sym, ap, subst, ◌∙◌, Option, Some, None, if◌then◌else◌}
+use Rattle.std.specs.List.{slice_get, list_any, list_all}
+use Rattle.law_lists.proofs.Booleans.{clash, and_both, not_left}
+use Rattle.law_obligations.specs.Sets.{Has, first}
+use Rattle.law_obligations.specs.Places.{Place, places_in}
+use Rattle.law_obligations.specs.Demands.{places_of_family, may_be}
 use Rattle.law_obligations.specs.May.{AbsState}
 use Rattle.law_obligations.specs.Obligations.{Demanded, defined, holds, is_met}
 use Rattle.law_obligations.specs.Cones.{AbsElement, element, same_element}
-use Rattle.law_obligations.specs.Readings.{PosedCase, values_of}
-use Rattle.law_obligations.proofs.Lookups.{Has-from_filter}
+use Rattle.law_obligations.specs.Readings.{PosedCase, IsCase, values_in, values_of}
+use Rattle.law_obligations.proofs.ConeFacts.{same_element-family}
+use Rattle.law_obligations.proofs.Filled.{Filled}
+use Rattle.law_obligations.proofs.Members.{any-found, one_of_one}
+use Rattle.law_obligations.proofs.Lookups.{Has-filter, Has-from_filter}
 use Rattle.law_reports.specs.CaseLists.{defines, those_of}
-use Rattle.law_arrangements.specs.Arrangements.{put, AgreeBeside, AgreeBefore, allowed, AreUnread}
-use Rattle.law_arrangements.proofs.Views.{none_flip}
+use Rattle.law_arrangements.specs.Arrangements.{put, AgreeBeside, AgreeBefore, IsState, IsBefore, allowed, CanGoOn, AreUnread}
+use Rattle.law_arrangements.proofs.Views.{flip, none_flip}
 use Rattle.law_obligations.specs.Pictures.{KeepsNamed}
 use Rattle.law_reads.specs.Reading.{TellSame, HaveValues, read_now, is_at_once, OwnSame, NowSame, BeforeSame}
 use Rattle.law_reads.proofs.Lists.{all_in}
-use Rattle.law_reads.proofs.Demands.{met_same, target_same}
+use Rattle.law_reads.proofs.Demands.{may_be_same, met_same, target_same}
 use Rattle.law_wires.specs.Idle.{AreOthers, ReadsOthers, AreNotRead}
+use Rattle.law_wires.proofs.Allows.{may_be_some}
 use Rattle.law_wires.proofs.Put.{put_other, put_at, filter_alike}
 
 module _ (c : PosedCase) (keeps : KeepsNamed c.problem.world c.problem.kept) (have : HaveValues c.problem.world) where
@@ -70,3 +75,43 @@ module _ (c : PosedCase) (keeps : KeepsNamed c.problem.world c.problem.kept) (ha
       own : (v : Place) (demand : Demanded) → defines x demand ≡ true → OwnSame (put x v a) (put x v b) demand
       own v (defined def indexes) e = put_at x v a (element def.family indexes) e ∙ sym (put_at x v b (element def.family indexes) e)
       own v (holds body bs) e = tt
+
+  -- ---- some value is allowed
+
+  go_on : IsCase c → (x : AbsElement) (left : List AbsElement) → Has c.elements x → (demands : List Demanded) (demand : Demanded) → those_of demands x ≡ demand ∷ [] → AreOthers (x ∷ left) (read_now c.problem.world demand) →
+      (old : Option AbsState) (a : AbsState) → IsBefore c old → (v : Place) × Has (allowed c demands old a x) v
+  go_on is x left h demands (holds body b) e others old a before = absurd (clash (Has-from_filter (defines x) demands (subst (λ (l : List Demanded). Has l (holds body b)) (sym e) first)).1 refl)
+  go_on is x left h demands (defined def indexes) e others old a before =
+      let same : same_element x (element def.family indexes) ≡ true = (Has-from_filter (defines x) demands (subst (λ (l : List Demanded). Has l (defined def indexes)) (sym e) first)).1 in
+      let r = is.have_values x h in
+      let there : slice_get c.problem.world.classes.families def.family ≡ Some r.0 = subst (λ (n : ℕ). slice_get c.problem.world.classes.families n ≡ Some r.0) (same_element-family x (element def.family indexes) same) r.1 in
+      let every : List Place = places_of_family c.problem.world c.problem.kept (slice_get c.problem.world.classes.families def.family) in
+      let is_every : every ≡ places_in c.problem.world r.0.value = ap (places_of_family c.problem.world c.problem.kept) there in
+      let is_kept : c.problem.kept def.family indexes ≡ true =
+      ap (λ (keeps : ℕ → List Place → Bool). keeps def.family indexes) is.are_kept ∙ any-found (same_element (element def.family indexes)) h (sym (flip x (element def.family indexes)) ∙ same) in
+      let found =
+      may_be_some c.problem.world have c.problem.kept every (subst Filled (sym is_every) (have def.family r.0 there)) def indexes old a
+      (λ b k. subst (λ (places : List Place). Has places (b def.family indexes)) (sym is_every) ((state_of old before b k).is_somewhere def.family r.0 there indexes is_kept)) in (
+        found.0,
+        Has-filter (λ v. list_all (is_met c.problem old (put x v a)) (those_of demands x))
+            (subst (λ (places : List Place). Has places found.0) (sym (ap (values_in c.problem.world) r.1)) (subst (λ (places : List Place). Has places found.0) is_every found.1))
+            (subst (λ (l : List Demanded). list_all (is_met c.problem old (put x found.0 a)) l ≡ true) (sym e)
+            (and_both
+            (ap (may_be c.problem.world c.problem.kept def indexes every old (put x found.0 a)) (put_at x found.0 a (element def.family indexes) same)
+            ∙ (may_be_same c.problem.world have c.problem.kept c.problem.kept keeps keeps def indexes every old old (put x found.0 a) a found.0 (tells found.0) (λ k. itself_before old (defined def indexes)) ∙ found.2))
+            refl)),
+      )
+    where
+      state_of : (old : Option AbsState) → IsBefore c old → (b : AbsState) → old ≡ Some b → IsState c b
+      state_of old before b k = subst (IsBefore c) k before
+
+      tells : (v : Place) → TellSame c.problem.kept (put x v a) c.problem.kept a (read_now c.problem.world (defined def indexes))
+      tells v y k = ap (λ (p : Place). if c.problem.kept y.family y.indexes then Some p else None) (put_other x v a y.family y.indexes (not_left (same_element y x) (list_any (same_element y) left) (others y k)))
+
+  pub goes_on : IsCase c → (x : AbsElement) (left : List AbsElement) → Has c.elements x → (demand : Demanded) → those_of (c.problem.now ++ c.problem.before) x ≡ demand ∷ [] → AreOthers (x ∷ left) (read_now c.problem.world demand) → CanGoOn c left x
+  goes_on is x left h demand e others = record {
+    some = λ old a before state. go_on is x left h (c.problem.now ++ c.problem.before) demand e others old a before;
+    same = λ old a b before sa sb agree.
+        allowed_same (c.problem.now ++ c.problem.before) x left
+        (λ d k. subst (λ (d : Demanded). AreOthers (x ∷ left) (read_now c.problem.world d)) (sym (one_of_one (subst (λ (l : List Demanded). Has l d) e k))) others) old a b agree;
+  }

@@ -9,7 +9,7 @@ use Rattle.law_obligations.specs.Cones.{AbsElement}
 use Rattle.law_obligations.specs.Bits.{Bits}
 use Rattle.law_obligations.specs.Readings.{PosedCase, IsCase, values_of, reading}
 use Rattle.law_reports.specs.CaseLists.{those_of}
-use Rattle.law_arrangements.specs.Arrangements.{put, AgreeBeside, allowed, AreWorkedOut, AreUnread, view}
+use Rattle.law_arrangements.specs.Arrangements.{put, AgreeBeside, allowed, AreWorkedOut, CanGoOn, AreUnread, view}
 use Rattle.law_arrangements.specs.Laws.{gathered}
 use Rattle.law_obligations.specs.Pictures.{KeepsNamed}
 use Rattle.law_reads.specs.Reading.{HaveValues, read_now}
@@ -46,3 +46,8 @@ abbrev pub AllowedAreSame : Type 0
 AllowedAreSame = (c : PosedCase) → KeepsNamed c.problem.world c.problem.kept → HaveValues c.problem.world → (demands : List Demanded) (x : AbsElement) (left : List AbsElement) →
     ((demand : Demanded) → Has (those_of demands x) demand → AreOthers (x ∷ left) (read_now c.problem.world demand)) →
     (old : Option AbsState) (a b : AbsState) → AgreeBeside (x ∷ left) a b → allowed c demands old a x ≡ allowed c demands old b x
+
+-- an element of the case with one demand, which reads neither it nor one of these now, may always go on
+abbrev pub ElementsGoOn : Type 0
+ElementsGoOn = (c : PosedCase) → IsCase c → KeepsNamed c.problem.world c.problem.kept → HaveValues c.problem.world → (x : AbsElement) (left : List AbsElement) → Has c.elements x →
+    (demand : Demanded) → those_of (c.problem.now ++ c.problem.before) x ≡ demand ∷ [] → AreOthers (x ∷ left) (read_now c.problem.world demand) → CanGoOn c left x

@@ -1,5 +1,5 @@
 // Laws of the definitions, each the contract of a function that does nothing.
-ghost use Rattle.law_wires.specs.Laws.{NotReadAreUnread, AllowedAreSame};
+ghost use Rattle.law_wires.specs.Laws.{NotReadAreUnread, AllowedAreSame, ElementsGoOn};
 
 /// Nothing depends on elements that nothing reads.
 pub fn not_read_are_unread()
@@ -9,4 +9,9 @@ pub fn not_read_are_unread()
 /// What an element's demands allow does not change by what they do not read.
 pub fn allowed_are_same()
     ensures { AllowedAreSame }
+{}
+
+/// An element whose only demand reads neither it nor one that is left has some value that it allows, the same ones whatever these are.
+pub fn elements_go_on()
+    ensures { ElementsGoOn }
 {}
