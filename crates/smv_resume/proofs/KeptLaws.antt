@@ -51,4 +51,4 @@ module _ (old : Proof) (was : List KeptSet) (same_sets : was ≡ old.sets) (node
   }
 
   pub not_all : (x : Bool) → IsTrue x ↔ AllTrueUnits told → x ≡ false → AllTrueUnits results → ⊥
-  not_all x iff no all = let yes = iff.1 (subst AllTrueUnits (sym same_results) all) in absurd (cc (yes, no))
+  not_all x iff is_not all = let is = iff.1 (subst AllTrueUnits (sym same_results) all) in absurd (cc (is, is_not))

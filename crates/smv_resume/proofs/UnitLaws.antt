@@ -69,13 +69,16 @@ module _ (old : List KeptSet) (nodes images : ℕ) (s : Script) where
 
   one_more : (entries : List Entry) (results : List UnitResult) (sets : List KeptSet) (entry : Entry) (r : UnitResult) (more : List KeptSet) → ArePlanTried old nodes images s entries results sets → IsUnitTried old nodes images s (length entries) entry r more
       → ArePlanTried old nodes images s (entries ++ (entry ∷ [])) (results ++ (r ∷ [])) (sets ++ more)
-  one_more entries results sets entry r more are is = record {
-    told = results_more 0 entries results entry r are.told is.result;
-    kept = λ all.
-        subst (λ (cs : List UnitCase). AreSetsOf old nodes images cs (sets ++ more)) (sym (cases_more s 0 entries entry))
-        (sets_append old nodes images (unit_cases_from s 0 entries) (cases_at s (length entries) entry) sets more
-        (are.kept (λ x h. all x (Has-left (r ∷ []) h))) (is.kept (all r (Has-right results first))));
-  }
+  one_more entries results sets entry r more are is =
+      let same : length entries ≡ 0 + length entries = omega arith in
+      record {
+        told = results_more 0 entries results entry r are.told (subst (λ (n : ℕ). IsResultOf old nodes images s n entry r) same is.result);
+        kept = λ all.
+            subst (λ (cs : List UnitCase). AreSetsOf old nodes images cs (sets ++ more)) (sym (cases_more s 0 entries entry))
+            (sets_append old nodes images (unit_cases_from s 0 entries) (cases_at s (0 + length entries) entry) sets more
+            (are.kept (λ x h. all x (Has-left (r ∷ []) h)))
+            (subst (λ (n : ℕ). AreSetsOf old nodes images (cases_at s n entry) more) same (is.kept (all r (Has-right results first)))));
+      }
 
   pub no_units : (entries : List Entry) (results : List UnitResult) (sets : List KeptSet) → results ≡ [] → sets ≡ [] → ArePlanTried old nodes images s (take 0 entries) results sets
   no_units [] [] [] e f = record { told = tt; kept = λ all. tt }
@@ -150,7 +153,7 @@ module _ {A : Type 0} (P : A → Type 0) where
       ]
 
   pub each_then : (xs : List A) (k : ℕ) → length xs ≤ k → Each (take k xs) → Each xs
-  each_then xs k le each = subst (λ (ys : List A). Each ys) (take_all xs k le) each
+  each_then xs k le each = subst (λ (ys : List A). Each ys) (take_all k xs le) each
 
   pub not_each : (xs : List A) (k : ℕ) (x : A) → k < length xs → x ≡ get_or xs k x → (P x → ⊥) → Each xs → ⊥
   not_each xs k x lt is not each = not (each x (Has_at xs k x lt is))
