@@ -28,7 +28,7 @@ import tempfile
 from pathlib import Path
 
 TOP = Path(__file__).resolve().parent.parent
-PAGES = ["README.md", "docs/METHOD.md", "docs/FAULTS.md", "docs/COMING-FROM.md", "docs/LOOK.md"]
+PAGES = ["README.md", "docs/METHOD.md", "docs/DOCUMENTS.md", "docs/FAULTS.md", "docs/COMING-FROM.md", "docs/LOOK.md"]
 # The module of tests that the prover's commands of each page stand in: pages of short texts have one together, since each function of a test costs.
 MODULES = {"README.md": "short_pages", "docs/METHOD.md": "page_method", "docs/FAULTS.md": "short_pages", "docs/COMING-FROM.md": "short_pages", "examples": "page_examples"}
 TABLES = TOP / "crates/smv_top_tests/src"
@@ -65,6 +65,12 @@ def status(command, answer):
         return 1
     if re.search(r"^\S+: unknown (steps|nodes \d+)$", answer, re.M):
         return 2
+    if answer.startswith("rejected "):
+        return 9
+    if re.fullmatch(r"\S+: holds\n", answer):
+        return 10
+    if re.match(r"\S+: real at \d+\n", answer):
+        return 11
     if NO_CASE.fullmatch(answer):
         return 1
     return 8 if " only " in command and not SCRIPT.search(command) else 0
@@ -209,7 +215,10 @@ def given(command, files):
     plain, echo = PLAIN.fullmatch(command), ECHO.fullmatch(command)
     if plain:
         words, file = plain.groups()
-        return words, files[file] if file in files else (TOP / file).read_text()
+        if file in files:
+            return words, files[file]
+        # What an earlier command wrote is no file of the page.
+        return (words, (TOP / file).read_text()) if (TOP / file).exists() else None
     return (echo[2], echo[1] + "\n") if echo else None
 
 

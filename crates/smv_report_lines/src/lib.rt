@@ -1,6 +1,6 @@
 //! The lines of a report: of each unit what is decided of it, with the case and the path that show it, and how many units are true.
 //!
-//! For the top call. It meets `law_reports`' `specs/Lines`, byte by byte; `specs/Generated` has the two lines of a generated design. `values` writes classes, values and elements, `paths` the lines that stand
+//! For the top call. It meets `law_reports`' `specs/Lines`, byte by byte; `specs/Generated` has the two lines of a generated design, `specs/Confirmed` those of a unit at given sizes. `values` writes classes, values and elements, `paths` the lines that stand
 //! below a unit's; the line of a case, an element and a number are written for `smv_look_lines` too. A report that no call gives is written too: a number that leads nowhere stands for nothing.
 #![tactic(auto)]
 
@@ -8,6 +8,7 @@ ghost use Rattle.std.specs.Prelude.{◌≡◌, ◌++◌, IfOk, OnOk};
 ghost use Rattle.law_reports.specs.Lines.{is_true, report_lines, verdict_lines};
 ghost use Rattle.smv_report_lines.specs.Generated.{generated_lines, proved_line};
 ghost use Rattle.smv_report_lines.specs.Parts.{details, heading};
+ghost use Rattle.smv_report_lines.specs.Confirmed.{confirmed_lines, told};
 
 mod paths;
 mod values;
@@ -40,6 +41,47 @@ pub fn generated_lines(alloc: Global, copies: u16, report: &Report) -> Result<Ve
     out.push(b'\n')?;
     push_proved(&mut out, report)?;
     Ok(out)
+}
+
+/// The lines of a unit of this name that was decided at given sizes: that it holds, or is really broken and when, or what is unknown of it; and its case and path, where there is one.
+pub fn confirmed_lines(
+    alloc: Global,
+    name: &[u8],
+    design: &Design,
+    params: &[Param],
+    verdict: &Verdict,
+) -> Result<Vec<u8>, AllocError>
+    ensures { IfOk result (λ lines. lines.items ≡ confirmed_lines design.now name.now params.now verdict.now) }
+{
+    let mut out = Vec::new(alloc);
+    push_told(&mut out, name, verdict)?;
+    push_details(&mut out, design, params, verdict)?;
+    Ok(out)
+}
+
+// Writes the line of a unit that says what is told of it at given sizes.
+fn push_told(out: &mut Vec<u8>, name: &[u8], verdict: &Verdict) -> Result<(), AllocError>
+    ensures { OnOk result (out.new.items ≡ out.old.items ++ told name.now verdict.now) }
+{
+    match verdict {
+        Verdict::True => {
+            out.extend_from_slice(name)?;
+            out.extend_from_slice(b": holds\n")
+        }
+        Verdict::False {
+            case: _,
+            elements: _,
+            path,
+        } => {
+            out.extend_from_slice(name)?;
+            out.extend_from_slice(b": real at ")?;
+            push_number(out, path.len().saturating_sub(1))?;
+            out.push(b'\n')?;
+            Ok(())
+        }
+        Verdict::UnknownNodes { case: _, count: _ } => push_heading(out, name, verdict),
+        Verdict::UnknownSteps { case: _ } => push_heading(out, name, verdict),
+    }
 }
 
 // Writes how many units are true, and how many there are.
