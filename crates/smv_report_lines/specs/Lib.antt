@@ -1,3 +1,2 @@
 pub mod Generated
 pub mod Parts
-pub mod Confirmed

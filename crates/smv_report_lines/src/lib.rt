@@ -1,14 +1,13 @@
 //! The lines of a report: of each unit what is decided of it, with the case and the path that show it, and how many units are true.
 //!
-//! For the top call. It meets `law_reports`' `specs/Lines`, byte by byte; `specs/Generated` has the two lines of a generated design, `specs/Confirmed` those of a unit at given sizes. `values` writes classes, values and elements, `paths` the lines that stand
-//! below a unit's; the line of a case, an element and a number are written for `smv_look_lines` too. A report that no call gives is written too: a number that leads nowhere stands for nothing.
+//! For the top call. It meets `law_reports`' `specs/Lines`, byte by byte; `specs/Generated` has the two lines of a generated design. `values` writes classes, values and elements, `paths` the lines that stand
+//! below a unit's. The two parts of a unit's lines are written for a unit at given sizes too, the line of a case, an element and a number for `smv_look_lines`. A report that no call gives is written too: a number that leads nowhere stands for nothing.
 #![tactic(auto)]
 
 ghost use Rattle.std.specs.Prelude.{◌≡◌, ◌++◌, IfOk, OnOk};
 ghost use Rattle.law_reports.specs.Lines.{is_true, report_lines, verdict_lines};
 ghost use Rattle.smv_report_lines.specs.Generated.{generated_lines, proved_line};
 ghost use Rattle.smv_report_lines.specs.Parts.{details, heading};
-ghost use Rattle.smv_report_lines.specs.Confirmed.{confirmed_lines, told};
 
 mod paths;
 mod values;
@@ -43,47 +42,6 @@ pub fn generated_lines(alloc: Global, copies: u16, report: &Report) -> Result<Ve
     Ok(out)
 }
 
-/// The lines of a unit of this name that was decided at given sizes: that it holds, or is really broken and when, or what is unknown of it; and its case and path, where there is one.
-pub fn confirmed_lines(
-    alloc: Global,
-    name: &[u8],
-    design: &Design,
-    params: &[Param],
-    verdict: &Verdict,
-) -> Result<Vec<u8>, AllocError>
-    ensures { IfOk result (λ lines. lines.items ≡ confirmed_lines design.now name.now params.now verdict.now) }
-{
-    let mut out = Vec::new(alloc);
-    push_told(&mut out, name, verdict)?;
-    push_details(&mut out, design, params, verdict)?;
-    Ok(out)
-}
-
-// Writes the line of a unit that says what is told of it at given sizes.
-fn push_told(out: &mut Vec<u8>, name: &[u8], verdict: &Verdict) -> Result<(), AllocError>
-    ensures { OnOk result (out.new.items ≡ out.old.items ++ told name.now verdict.now) }
-{
-    match verdict {
-        Verdict::True => {
-            out.extend_from_slice(name)?;
-            out.extend_from_slice(b": holds\n")
-        }
-        Verdict::False {
-            case: _,
-            elements: _,
-            path,
-        } => {
-            out.extend_from_slice(name)?;
-            out.extend_from_slice(b": real at ")?;
-            push_number(out, path.len().saturating_sub(1))?;
-            out.push(b'\n')?;
-            Ok(())
-        }
-        Verdict::UnknownNodes { case: _, count: _ } => push_heading(out, name, verdict),
-        Verdict::UnknownSteps { case: _ } => push_heading(out, name, verdict),
-    }
-}
-
 // Writes how many units are true, and how many there are.
 fn push_proved(out: &mut Vec<u8>, report: &Report) -> Result<(), AllocError>
     ensures { OnOk result (out.new.items ≡ out.old.items ++ proved_line report.now) }
@@ -114,8 +72,8 @@ fn push_unit(out: &mut Vec<u8>, design: &Design, unit: &UnitResult) -> Result<()
     push_details(out, design, unit.params.as_slice(), &unit.verdict)
 }
 
-// Writes the line of a unit that says what is decided of it.
-fn push_heading(out: &mut Vec<u8>, name: &[u8], verdict: &Verdict) -> Result<(), AllocError>
+/// Writes the line of a unit that says what is decided of it.
+pub fn push_heading(out: &mut Vec<u8>, name: &[u8], verdict: &Verdict) -> Result<(), AllocError>
     ensures { OnOk result (out.new.items ≡ out.old.items ++ heading name.now verdict.now) }
 {
     out.extend_from_slice(name)?;
@@ -145,8 +103,8 @@ fn push_heading(out: &mut Vec<u8>, name: &[u8], verdict: &Verdict) -> Result<(),
     }
 }
 
-// Writes the lines that show why a unit is not true.
-fn push_details(
+/// Writes the lines that show why a unit is not true.
+pub fn push_details(
     out: &mut Vec<u8>,
     design: &Design,
     params: &[Param],

@@ -6,6 +6,7 @@ ghost use Rattle.smv_command.specs.declared.commands.Command.TheVariants as vari
 ghost use Rattle.smv_answers.specs.Reports.{IsRightReport};
 ghost use Rattle.smv_answers.specs.Dues.{IsDue, IsReportFor, decides, is_of_documents, default_nodes, default_steps};
 
+use crate::confirmations::confirmed;
 use crate::documents::{checked, documented, resumed};
 use smv_answers::{Answer, printed, refused, reported};
 use smv_command::Command;
@@ -34,6 +35,11 @@ pub fn answer_to(alloc: Global, command: &Command, text: &[u8]) -> Result<Answer
         Command::Proof { budgets } => documented(alloc, text, *budgets),
         Command::Check => checked(alloc, text),
         Command::Resume { budgets } => resumed(alloc, text, *budgets),
+        Command::Confirm {
+            name,
+            sizes,
+            budgets,
+        } => confirmed(alloc, text, name, sizes, *budgets),
     }
 }
 

@@ -13,7 +13,8 @@ use smv_command::{Command, Status};
 use smv_core::{Fault, Refusal};
 use smv_problem::Budgets;
 use smv_proof::{Proof, ProofError};
-use smv_proof_read::{old_of, read_proof};
+use smv_proof_read::olds::old_of;
+use smv_proof_read::read_proof;
 use smv_resume::{Kept, keep, resume};
 use std::alloc::{AllocError, Global};
 
