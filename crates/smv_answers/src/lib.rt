@@ -143,7 +143,8 @@ fn push_confirmed(out: &mut Vec<u8>, name: &[u8], verdict: &Verdict) -> Result<(
             out.extend_from_slice(name)?;
             out.extend_from_slice(b": real at ")?;
             push_number(out, path.len().saturating_sub(1))?;
-            out.push(b'\n')
+            out.push(b'\n')?;
+            Ok(())
         }
         Verdict::UnknownNodes { case: _, count: _ } => push_heading(out, name, verdict),
         Verdict::UnknownSteps { case: _ } => push_heading(out, name, verdict),

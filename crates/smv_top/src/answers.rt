@@ -8,6 +8,7 @@ ghost use Rattle.smv_answers.specs.Dues.{IsDue, IsReportFor, decides, is_of_docu
 
 use crate::confirmations::confirmed;
 use crate::documents::{checked, documented, resumed};
+use crate::limits::{LIMIT, TOO_LONG};
 use smv_answers::{Answer, printed, refused, reported};
 use smv_command::Command;
 use smv_core::{Fault, Name, Refusal};
@@ -15,12 +16,6 @@ use smv_parse::parse;
 use smv_problem::Budgets;
 use smv_prove::{prove, prove_one};
 use std::alloc::{AllocError, Global};
-
-// The most bytes that a text has.
-const LIMIT: usize = 1_048_576;
-
-// The fault of a text that has more.
-const TOO_LONG: Fault = Fault { number: 31, at: 0 };
 
 /// The answer to a command and its text, which is the one that was read or generated.
 pub fn answer_to(alloc: Global, command: &Command, text: &[u8]) -> Result<Answer, AllocError>

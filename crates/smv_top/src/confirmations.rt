@@ -4,17 +4,12 @@ ghost use Rattle.smv_command.specs.Ranges.{AreInRange, AreSizes};
 ghost use Rattle.smv_command.specs.declared.commands.Command.TheVariants as variant;
 ghost use Rattle.smv_answers.specs.Dues.{IsDue};
 
+use crate::limits::{LIMIT, TOO_LONG};
 use smv_answers::{Answer, confirmed as told, refused};
 use smv_confirm::confirm;
-use smv_core::{Fault, Name, Refusal};
+use smv_core::{Name, Refusal};
 use smv_problem::Budgets;
 use std::alloc::{AllocError, Global};
-
-// The most bytes that a text has.
-const LIMIT: usize = 1_048_576;
-
-// The fault of a text that has more.
-const TOO_LONG: Fault = Fault { number: 31, at: 0 };
 
 /// The answer to a command that decides the unit of a name at given sizes.
 pub fn confirmed(

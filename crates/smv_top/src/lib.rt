@@ -20,9 +20,10 @@ ghost use Rattle.smv_top.specs.Clauses.{Completes, ShowsReal};
 mod answers;
 mod confirmations;
 mod documents;
+mod limits;
 
 use answers::answer_to;
-use documents::{CHECK_LIMIT, RESUME_LIMIT};
+use limits::{CHECK_LIMIT, LIMIT, RESUME_LIMIT};
 use smv_answers::laws::{confirmed_is_so, documents_are_sound, one_status, proved_is_sound};
 use smv_answers::usage;
 use smv_command::words_laws::numbers_are_in_range;
@@ -31,9 +32,7 @@ use smv_gen::generate;
 use smv_io::{ReadError, Sink, Source, read_all, write_all};
 use std::alloc::Global;
 
-// The most bytes that a text has.
-const LIMIT: usize = 1_048_576;
-
+// What is written where there are more bytes than a command reads.
 const TEXT_TOO_LONG: &[u8] = b"fault 31 at line 1 column 1\n";
 
 const DOCUMENT_TOO_LONG: &[u8] = b"fault 33 at line 1 column 1\n";
