@@ -18,7 +18,7 @@ from pathlib import Path
 
 TOP = Path(__file__).resolve().parent.parent
 LIMIT = 67_108_864
-TURNED = 40
+TURNED = 12
 told = collections.Counter()
 
 
@@ -67,7 +67,7 @@ def failed(sets):
     return [(9, f"rejected set {k}\n") for k in range(1, len(sets) + 1)]
 
 
-def one_text(program, name, text, other):
+def one_text(program, text, other):
     """Tries the document of a text. `other` is a text and its sets, of another design."""
     written = run(program, text, "proof")
     if not written[1].startswith("smv proof 1\n"):
@@ -170,7 +170,7 @@ def main(words):
     else:
         other = None
         for text in sorted((TOP / "examples").glob("*.smv")):
-            other = one_text(words[0], text.name, text.read_text(), other) or other
+            other = one_text(words[0], text.read_text(), other) or other
     for kind, count in sorted(told.items()):
         print(f"{count:6}  {kind}")
     return 0

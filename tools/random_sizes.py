@@ -98,7 +98,7 @@ class Design:
             over = self.families[name][0]
             if over is None:
                 return name, lambda sizes, env, s: s[(name,)]
-            index = self.term(over, max(depth - 1, 0), bound, names)
+            index = self.term(over, depth - 1, bound, names) if depth > -2 else None
             if index:
                 text, at = index
                 return f"{name}[{text}]", lambda sizes, env, s: s[(name, at(sizes, env, s))]

@@ -21,10 +21,10 @@ const SETS_OF_TOGGLE: &[Judged] = &[
     ("set p 0 1  0\n", 9, "rejected form\n"),
     (" set p 0 1 0\n", 9, "rejected form\n"),
     ("set p 0 1 0 \n", 9, "rejected form\n"),
-    ("set p	0 1 0\n", 9, "rejected form\n"),
+    ("set p\t0 1 0\n", 9, "rejected form\n"),
     ("set p 0 1 0", 9, "rejected form\n"),
     ("set p 0 1 0\n\n", 9, "rejected form\n"),
-    ("set p 0 1 0\n", 9, "rejected form\n"),
+    ("set p 0 1 0\r\n", 9, "rejected form\n"),
     ("set p 4294967296 1 0\n", 9, "rejected form\n"),
     ("set p 0 1 4294967296\n", 9, "rejected form\n"),
     ("Set p 0 1 0\n", 9, "rejected form\n"),

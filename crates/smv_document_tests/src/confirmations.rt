@@ -252,7 +252,7 @@ const CONFIRMED: &[Row] = &[
     ),
     (
         "confirm p 2 --steps 1",
-        "scalarset P undefined; module main() { x : array P of boolean; forall (i in P) { init(x[i]) := 0; next(x[i]) := 1; } forall (i in P) p[i] : assert G ~x[i]; q : assert G &[ x[i] : i in P ]; }",
+        "scalarset P undefined; module main() { c : array P of 0..3; forall (i in P) { init(c[i]) := 0; next(c[i]) := (c[i] + 1) mod 4; } forall (i in P) p[i] : assert G (c[i] <= 3); }",
         2,
         "p: unknown steps\n case #0\n",
     ),
