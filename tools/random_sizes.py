@@ -22,7 +22,7 @@ import subprocess
 import sys
 from pathlib import Path
 
-MOST_STATES = 4_000
+MOST_STATES = 300
 COMPARISONS = {
     "=": lambda x, y: int(x == y),
     "~=": lambda x, y: int(x != y),

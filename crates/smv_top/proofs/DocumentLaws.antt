@@ -3,8 +3,10 @@ use Rattle.std.proofs.Common.{◌≡◌, ◌∙◌, ◌≤◌, ◌<◌, ℕ, Boo
 use Rattle.std.specs.Prelude.{◌≢◌, if◌then◌else◌}
 use Rattle.std.specs.List.{list_any}
 use Rattle.smv_report.specs.Lines.{fault_text}
+use Rattle.smv_core.specs.declared.fault.Fault.{Fault}
 use Rattle.smv_problem.specs.declared.report.Budgets.{Budgets}
 use Rattle.smv_problem.specs.declared.report.Report.{Report}
+use Rattle.smv_command.specs.declared.commands.Command.{Command}
 use Rattle.smv_command.specs.declared.commands.Command.TheVariants.{Prove, Proof, Check, Resume}
 use Rattle.smv_command.specs.declared.exit.Status.{Status}
 use Rattle.smv_command.specs.declared.exit.Status.TheVariants as status
@@ -20,9 +22,11 @@ use Rattle.smv_answers.specs.Reports.{IsRightReport}
 use Rattle.law_checked_proofs.specs.Kept.{IsProofOf}
 use Rattle.law_checked_proofs.specs.Resumed.{IsResumedProof, IsResumedReport}
 use Rattle.law_judgements.specs.Judgements.{IsFaultOf, IsJudged, Judgement, has_fault}
+use Rattle.law_judgements.specs.Judgements as judgements
 use Rattle.law_judgements.specs.Judgements.Judgement.{form, design}
 use Rattle.smv_answers.specs.DocumentDues.{IsOld, HasNoOld, check_limit, resume_limit, documented, open_report, refused_text, too_long_to_check, judged, refused_design, too_long_to_resume, not_old, refused_new, resumed, open_resumed, status_by, judged_text, is_of_design}
-use Rattle.smv_answers.specs.Dues.{IsDue, of_documents, is_false, is_unknown, lines_for, status_of}
+use Rattle.smv_answers.specs.Dues as dues
+use Rattle.smv_answers.specs.Dues.{IsDue, IsFault, decides, of_documents, is_false, is_unknown, lines_for, status_of}
 
 module _ (budgets : Budgets) (text : List ℕ) (due : Status) (answer : List ℕ) where
   pub due_documented : (proof : Document) → IsProofOf budgets.nodes budgets.steps text proof → due ≡ status.Documented → answer ≡ document proof → IsDue (Proof budgets) text due answer
@@ -100,3 +104,19 @@ no_old bytes old text is none other new proof is_too spells = none_at other (one
   where
     none_at : (other : List ℕ) → other ≡ old → (proof : Document) → Spells other proof → ⊥
     none_at other same proof spells = none proof (subst (λ (bs : List ℕ). Spells bs proof) same spells)
+
+-- ---- the fault of a text
+
+is_prove : Command → Bool
+is_prove (Prove budgets) = true
+is_prove _ = false
+
+fault_judged : (command : Command) (text : List ℕ) (number at : ℕ) → is_prove command ≡ true → IsFault command text number at → IsFaultOf text number at
+fault_judged command text _ _ e (dues.too_long long) = judgements.too_long long
+fault_judged command text _ _ e (dues.malformed number at within fault) = judgements.malformed number at within fault
+fault_judged command text _ _ e (dues.faulty tree fault deciding is found) = judgements.faulty tree fault is found
+fault_judged _ text _ _ e (dues.unnamed name nodes steps none) = absurd (cc (e))
+fault_judged _ text _ _ e (dues.of_unit name sizes budgets number at is) = absurd (cc (e))
+
+pub text_fault : (text : List ℕ) (fault : Fault) → ((command : Command) → decides command ≡ true → IsFault command text fault.number fault.at) → IsFaultOf text fault.number fault.at
+text_fault text fault is = fault_judged (Prove (record { nodes = 1; steps = 1 })) text fault.number fault.at refl (is (Prove (record { nodes = 1; steps = 1 })) refl)
