@@ -115,25 +115,22 @@ def large(program):
     bits = 1_000
     text = wide_text(bits)
     places = [2 * i for i in reversed(range(bits))]
-    lines, size, earlier, level, seen = [], 0, [0, 1], [], set()
+    lines, size, earlier, number = [], 0, [0, 1], 2
     most = LIMIT - len(text) - 120
-    number = 2
     each = 3_300_000 // bits + 200
     for var in places:
+        level, seen = [], set()
         for _ in range(each):
-            low, high = random.choice(earlier[-20_000:]), random.choice(earlier[-20_000:])
-            if low == high or (var, low, high) in seen:
-                continue
+            low, high = (earlier[random.randrange(max(0, len(earlier) - 20_000), len(earlier))] for _ in range(2))
             line = f"{var} {low} {high}"
-            if size + len(line) + 1 > most:
-                break
-            seen.add((var, low, high))
+            if low == high or (low, high) in seen or size + len(line) + 1 > most:
+                continue
+            seen.add((low, high))
             lines.append(line)
             size += len(line) + 1
             level.append(number)
             number += 1
         earlier += level
-        level = []
     for root, due in [(1, (0, "checked 1\n")), (0, (9, "rejected set 1\n"))]:
         whole = document(text, [[f"set p 0 {root} {len(lines)}", *lines]])
         padded = document(text + " " * (LIMIT - len(whole)), [[f"set p 0 {root} {len(lines)}", *lines]])

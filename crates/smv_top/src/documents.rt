@@ -9,7 +9,10 @@ ghost use Rattle.smv_answers.specs.DocumentDues.{check_limit, resume_limit};
 
 use crate::limits::{CHECK_LIMIT, DOCUMENT_TOO_LONG, LIMIT, RESUME_LIMIT, TOO_LONG};
 use law_checked_proofs::resumed::resumed_proofs_are_checked;
-use smv_answers::{Answer, checked as accepted, documented as written, refused, rejected_form, rejected_set, reported};
+use smv_answers::{
+    Answer, checked as accepted, documented as written, refused, rejected_form, rejected_set,
+    reported,
+};
 use smv_check::{CheckError, check_proof};
 use smv_command::{Command, Status};
 use smv_core::Refusal;

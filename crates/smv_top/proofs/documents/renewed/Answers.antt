@@ -31,7 +31,7 @@ returns-in-Ok-Open c =
     let kept = subst (IsResumed _ c.args.budgets.nodes c.args.budgets.steps c.args.text.now) c.in-Ok-Open.field-0-is c.in-Ok-Open.ensures.kept in
     if_ok_both c.reported.result _ _ _
     (λ a s b. due_open_resumed c.args.budgets c.args.bytes.now a.status a.bytes.items c.args.old.now c.args.text.now c.args.proof.now c.in-Ok-Open.report c.requires.within c.requires.held c.requires.spells kept.0
-        (open_resumed_status c.in-Ok-Open.report kept.1) s b)
+    (open_resumed_status c.in-Ok-Open.report kept.1) s b)
     c.reported.ensures.status c.reported.ensures.bytes
 
 pub returns-in-Err-Fault : goal.returns-in-Err-Fault
@@ -39,5 +39,5 @@ returns-in-Err-Fault c =
     let bad = fault_of Kept _ c.in-Err-Fault.fault (λ f. (command : Command) → decides command ≡ true → IsFault command c.args.text.now f.number f.at) c.in-Err-Fault.field-0-is (rw c.in-Err-Fault.is at c.resume.ensures.fault) in
     if_ok_both c.refused-in-Err-Fault.result _ _ _
     (λ a s b. due_refused_new c.args.budgets c.args.bytes.now a.status a.bytes.items c.args.old.now c.args.text.now c.args.proof.now c.in-Err-Fault.fault.number c.in-Err-Fault.fault.at c.requires.within c.requires.held
-        c.requires.spells (text_fault c.args.text.now c.in-Err-Fault.fault bad) s b)
+    c.requires.spells (text_fault c.args.text.now c.in-Err-Fault.fault bad) s b)
     c.refused-in-Err-Fault.ensures.status c.refused-in-Err-Fault.ensures.bytes
