@@ -9,11 +9,12 @@ design. For each other text `proof` has to answer as `prove` does. With `--large
 It ends with status 1 where an answer is not what it has to be, and prints how often each one came.
 """
 import collections
+import os
 import random
 import re
-import resource
 import subprocess
 import sys
+import tempfile
 from pathlib import Path
 
 TOP = Path(__file__).resolve().parent.parent
@@ -24,12 +25,14 @@ told = collections.Counter()
 
 def run(program, given, *words):
     """Returns the status, the answer, the seconds of processor time and the peak of memory in MB."""
-    given = given.encode() if isinstance(given, str) else given
-    began = resource.getrusage(resource.RUSAGE_CHILDREN)
-    done = subprocess.run([program, *words], input=given, capture_output=True)
-    ended = resource.getrusage(resource.RUSAGE_CHILDREN)
-    seconds = ended.ru_utime + ended.ru_stime - began.ru_utime - began.ru_stime
-    return done.returncode, done.stdout.decode(), seconds, ended.ru_maxrss / 1024
+    with tempfile.TemporaryFile() as source, tempfile.TemporaryFile() as sink:
+        source.write(given.encode())
+        source.seek(0)
+        child = subprocess.Popen([program, *words], stdin=source, stdout=sink)
+        _, status, usage = os.wait4(child.pid, 0)
+        child.returncode = os.waitstatus_to_exitcode(status)
+        sink.seek(0)
+        return child.returncode, sink.read().decode(), usage.ru_utime + usage.ru_stime, usage.ru_maxrss / 1024
 
 
 def expect(kind, found, *due):
