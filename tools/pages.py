@@ -2,7 +2,7 @@
 """Keeps the users' pages true: runs each command that they show, and compares what is written.
 
     tools/pages.py PROGRAM [WAVE [LOOK]]    runs PROGRAM as `deodarwrench`, WAVE as `smv_wave` and LOOK as `smv_look`, on every page and example, and compares answers and statuses
-    tools/pages.py --tests           writes the tables of crates/smv_top_tests, crates/smv_wave_tests and crates/smv_look_tests from the pages
+    tools/pages.py --tests           writes the tables of crates/smv_top_tests, crates/smv_document_tests, crates/smv_wave_tests and crates/smv_look_tests from the pages
     tools/pages.py                   looks whether these tables are what the pages give
     tools/pages.py --answers PROGRAM    writes examples/*.answer; read what changed before it is kept
     tools/pages.py --texts FOLDER       writes the texts of the pages, to try them
@@ -12,7 +12,7 @@ It ends with status 1 where something differs. The pages also run make, sed, seq
     ```smv NAME       a whole text, the file NAME; so is ```make NAME and ```sh NAME
     ```diff NAME OLD  the file NAME: the file OLD with some lines changed. A line begins with a blank (it is there), `-` (it goes) or `+` (it comes);
                       a line `@@` parts one change from the next. The lines with blanks and `-` of a change stand together in OLD, at one place.
-    ```console        lines `$ COMMAND`, each with what it writes behind it. The folder has the files of the page and `examples`.
+    ```console        lines `$ COMMAND`, each with what it writes behind it. The folder has the files of the page, those that earlier commands wrote, and `examples`.
     ```marked         texts of one line, each with a line below it that has `^ fault N` under the place, and perhaps more words: what `prove` answers.
                       They stand in no table of tests.
 
@@ -28,10 +28,11 @@ import tempfile
 from pathlib import Path
 
 TOP = Path(__file__).resolve().parent.parent
-PAGES = ["README.md", "docs/METHOD.md", "docs/FAULTS.md", "docs/COMING-FROM.md", "docs/LOOK.md"]
+PAGES = ["README.md", "docs/METHOD.md", "docs/DOCUMENTS.md", "docs/FAULTS.md", "docs/COMING-FROM.md", "docs/LOOK.md"]
 # The module of tests that the prover's commands of each page stand in: pages of short texts have one together, since each function of a test costs.
 MODULES = {"README.md": "short_pages", "docs/METHOD.md": "page_method", "docs/FAULTS.md": "short_pages", "docs/COMING-FROM.md": "short_pages", "examples": "page_examples"}
 TABLES = TOP / "crates/smv_top_tests/src"
+DOCUMENTS = TOP / "crates/smv_document_tests/src/pages.rt"
 DUMPS = TOP / "crates/smv_wave_tests/src/pages.rt"
 LOOKS = TOP / "crates/smv_look_tests/src/pages.rt"
 FENCED = re.compile(r"^```(smv|make|sh|diff|console|marked)(?: (\S+))?(?: (\S+))?\n(.*?)^```$", re.M | re.S)
@@ -51,12 +52,18 @@ BLANKS = re.compile(r"printf '%(\d+)s' '' \| deodarwrench (\w+)")
 WAVE = re.compile(r"(deodarwrench prove < \S+) \| smv_wave")
 # One that a test can give the program that looks at a text.
 LOOK = re.compile(r"smv_look ([^<|]+?) < (\S+)")
+# A command of which only the first lines are shown.
+HEAD = re.compile(r"\| head -n \d+$")
+# Words of the commands on documents and on units at given sizes, which have tests of their own.
+APART = re.compile(r"(?:proof|check|resume|confirm)\b")
 # What that program answers where a unit has no case of the number that is asked for.
 NO_CASE = re.compile(r"\S+: cases \d+\n")
 
 
 def status(command, answer):
     """Returns the exit status that stands beside an answer."""
+    if HEAD.search(command):
+        return 0
     if answer.startswith("fault "):
         return 3
     if answer.startswith("usage: "):
@@ -65,6 +72,12 @@ def status(command, answer):
         return 1
     if re.search(r"^\S+: unknown (steps|nodes \d+)$", answer, re.M):
         return 2
+    if answer.startswith("rejected "):
+        return 9
+    if re.fullmatch(r"\S+: holds\n", answer):
+        return 10
+    if re.match(r"\S+: real at \d+\n", answer):
+        return 11
     if NO_CASE.fullmatch(answer):
         return 1
     return 8 if " only " in command and not SCRIPT.search(command) else 0
@@ -209,8 +222,38 @@ def given(command, files):
     plain, echo = PLAIN.fullmatch(command), ECHO.fullmatch(command)
     if plain:
         words, file = plain.groups()
-        return words, files[file] if file in files else (TOP / file).read_text()
+        if file in files:
+            return words, files[file]
+        # What an earlier command wrote is no file of the page.
+        return (words, (TOP / file).read_text()) if (TOP / file).exists() else None
     return (echo[2], echo[1] + "\n") if echo else None
+
+
+def given_row(command, answer, words_and_text):
+    """Returns the lines of the row of a command with these words and this text."""
+    words, text = words_and_text
+    return row([quoted(words), quoted(text if answer.startswith("fault ") else bare(text)), str(status(command, answer)), quoted(answer)])
+
+
+def apart():
+    """Returns the module of tests of what the pages show of documents and of units at given sizes: its file and its lines."""
+    rows = []
+    for _, files, commands in everything():
+        for command, answer in commands:
+            row_given = given(command, files)
+            if row_given and APART.match(row_given[0]):
+                rows.append(given_row(command, answer, row_given))
+    lines = [
+        "//! What the pages show of documents and of units at given sizes, with the texts. Written by `tools/pages.py --tests`.",
+        "",
+        "use crate::calls::{Row, all_are_answered};",
+        "use std::test::Fail;",
+    ]
+    for number, part in enumerate(parts(rows), 1):
+        lines += ["", *constant(f"ROWS_{number}: &[Row]", part)]
+        lines += ["", "#[test]", f"fn answers_of_the_pages_{number}(rt: HostRuntime) -> Result<(), Fail> {{"]
+        lines += [f"    all_are_answered(rt.alloc(), ROWS_{number})", "}"]
+    return DOCUMENTS, "\n".join([*lines, ""])
 
 
 def table(module, pages):
@@ -219,9 +262,8 @@ def table(module, pages):
     for page, files, commands in pages:
         for command, answer in commands:
             row_given, many = given(command, files), BLANKS.fullmatch(command)
-            if row_given and not (page != "examples" and " examples/" in command):
-                text = row_given[1] if answer.startswith("fault ") else bare(row_given[1])
-                rows.append(row([quoted(row_given[0]), quoted(text), str(status(command, answer)), quoted(answer)]))
+            if row_given and not APART.match(row_given[0]) and not (page != "examples" and " examples/" in command):
+                rows.append(given_row(command, answer, row_given))
             if many:
                 blanks.append([quoted(many[2]), f"{int(many[1]):_}", str(status(command, answer)), quoted(answer)])
     used = ["Row", "all_are_answered", *(["blanks_are_answered"] if blanks else [])]
@@ -298,7 +340,7 @@ def tables():
     for page in everything():
         if page[0] in MODULES:
             together.setdefault(MODULES[page[0]], []).append(page)
-    return [*(table(*pages) for pages in together.items()), dumps(), looks()]
+    return [*(table(*pages) for pages in together.items()), apart(), dumps(), looks()]
 
 
 def main(words):

@@ -3,24 +3,27 @@
 //! For the top call, which decides what a command asks and then writes one of these. `law_answers` says which answer is due; each call here gives a status and bytes as its `specs/Dues` names them.
 #![tactic(auto)]
 
-ghost use Rattle.std.specs.Prelude.{◌≡◌, Some, IfOk};
+ghost use Rattle.std.specs.Prelude.{◌≡◌, ◌++◌, Some, IfOk, OnOk};
 ghost use Rattle.std.specs.List.{list_any};
 ghost use Rattle.smv_print.specs.Canonical.{canonical};
 ghost use Rattle.smv_report.specs.Lines.{fault_text};
+ghost use Rattle.smv_report_lines.specs.Parts.{details};
 ghost use Rattle.smv_proof.specs.Documents.{document};
 ghost use Rattle.law_judgements.specs.Judgements.Judgement.{form, set, yes};
 ghost use Rattle.law_document_answers.specs.Dues.{judged_text, status_by};
+ghost use Rattle.law_answers.specs.Confirmations.{confirmed_heading, confirmed_status};
 ghost use Rattle.law_answers.specs.Dues.{is_false, is_unknown, lines_for, proved_by, reads, status_of, usage_line};
 
 pub use law_answers::laws;
 use smv_command::{Command, Status};
 use smv_core::Fault;
+use smv_core::flat::{Design, Param};
 use smv_core::tree::Text;
 use smv_print::print;
 use smv_problem::{Report, UnitResult, Verdict};
 use smv_proof::{Proof, write_proof};
 use smv_report::fault_line;
-use smv_report_lines::{generated_lines, lines, push_number};
+use smv_report_lines::{generated_lines, lines, push_details, push_heading, push_number};
 use std::alloc::{AllocError, Global};
 
 const USAGE: &[u8] = b"usage: smv prove|only|print|generated\n";
@@ -105,6 +108,65 @@ pub fn rejected_set(alloc: Global, number: u32) -> Result<Answer, AllocError>
     Ok(Answer { status, bytes })
 }
 
+/// The answer by what is told of the unit of this name, with these parameters, at given sizes.
+pub fn confirmed(
+    alloc: Global,
+    name: &[u8],
+    design: &Design,
+    params: &[Param],
+    verdict: &Verdict,
+) -> Result<Answer, AllocError>
+    ensures status { IfOk result (λ answer. answer.status ≡ confirmed_status verdict.now) }
+    ensures bytes { IfOk result (λ answer. answer.bytes.items ≡ confirmed_heading name.now verdict.now ++ details design.now params.now verdict.now) }
+{
+    let mut bytes = Vec::new(alloc);
+    push_confirmed(&mut bytes, name, verdict)?;
+    push_details(&mut bytes, design, params, verdict)?;
+    let status = confirmed_status(verdict);
+    Ok(Answer { status, bytes })
+}
+
+// Writes the line of a unit that says what is told of it at given sizes.
+fn push_confirmed(out: &mut Vec<u8>, name: &[u8], verdict: &Verdict) -> Result<(), AllocError>
+    ensures { OnOk result (out.new.items ≡ out.old.items ++ confirmed_heading name.now verdict.now) }
+{
+    match verdict {
+        Verdict::True => {
+            out.extend_from_slice(name)?;
+            out.extend_from_slice(b": holds\n")
+        }
+        Verdict::False {
+            case: _,
+            elements: _,
+            path,
+        } => {
+            out.extend_from_slice(name)?;
+            out.extend_from_slice(b": real at ")?;
+            push_number(out, path.len().saturating_sub(1))?;
+            out.push(b'\n')?;
+            Ok(())
+        }
+        Verdict::UnknownNodes { case: _, count: _ } => push_heading(out, name, verdict),
+        Verdict::UnknownSteps { case: _ } => push_heading(out, name, verdict),
+    }
+}
+
+// The status by what is told of a unit at given sizes.
+fn confirmed_status(verdict: &Verdict) -> Status
+    ensures { result ≡ confirmed_status verdict.now }
+{
+    match verdict {
+        Verdict::True => Status::HoldsHere,
+        Verdict::False {
+            case: _,
+            elements: _,
+            path: _,
+        } => Status::Real,
+        Verdict::UnknownNodes { case: _, count: _ } => Status::SomeUnknown,
+        Verdict::UnknownSteps { case: _ } => Status::SomeUnknown,
+    }
+}
+
 /// The line that is written where the words are no command. It takes no memory.
 pub fn usage() -> &'static [u8]
     ensures { result.now ≡ usage_line }
@@ -127,6 +189,11 @@ pub fn reads(command: &Command) -> bool
         Command::Proof { budgets: _ } => true,
         Command::Check => true,
         Command::Resume { budgets: _ } => true,
+        Command::Confirm {
+            name: _,
+            sizes: _,
+            budgets: _,
+        } => true,
     }
 }
 
@@ -145,6 +212,11 @@ fn written(alloc: Global, command: &Command, report: &Report) -> Result<Vec<u8>,
         Command::Proof { budgets: _ } => lines(alloc, report),
         Command::Check => lines(alloc, report),
         Command::Resume { budgets: _ } => lines(alloc, report),
+        Command::Confirm {
+            name: _,
+            sizes: _,
+            budgets: _,
+        } => lines(alloc, report),
     }
 }
 
@@ -163,6 +235,11 @@ fn proved_by(command: &Command) -> Status
         Command::Proof { budgets: _ } => Status::Documented,
         Command::Check => Status::Checked,
         Command::Resume { budgets: _ } => Status::Resumed,
+        Command::Confirm {
+            name: _,
+            sizes: _,
+            budgets: _,
+        } => Status::HoldsHere,
     }
 }
 

@@ -1,7 +1,7 @@
 //! The lines of a report: of each unit what is decided of it, with the case and the path that show it, and how many units are true.
 //!
 //! For the top call. It meets `law_reports`' `specs/Lines`, byte by byte; `specs/Generated` has the two lines of a generated design. `values` writes classes, values and elements, `paths` the lines that stand
-//! below a unit's; the line of a case, an element and a number are written for `smv_look_lines` too. A report that no call gives is written too: a number that leads nowhere stands for nothing.
+//! below a unit's. The two parts of a unit's lines are written for a unit at given sizes too, the line of a case, an element and a number for `smv_look_lines`. A report that no call gives is written too: a number that leads nowhere stands for nothing.
 #![tactic(auto)]
 
 ghost use Rattle.std.specs.Prelude.{◌≡◌, ◌++◌, IfOk, OnOk};
@@ -72,8 +72,8 @@ fn push_unit(out: &mut Vec<u8>, design: &Design, unit: &UnitResult) -> Result<()
     push_details(out, design, unit.params.as_slice(), &unit.verdict)
 }
 
-// Writes the line of a unit that says what is decided of it.
-fn push_heading(out: &mut Vec<u8>, name: &[u8], verdict: &Verdict) -> Result<(), AllocError>
+/// Writes the line of a unit that says what is decided of it.
+pub fn push_heading(out: &mut Vec<u8>, name: &[u8], verdict: &Verdict) -> Result<(), AllocError>
     ensures { OnOk result (out.new.items ≡ out.old.items ++ heading name.now verdict.now) }
 {
     out.extend_from_slice(name)?;
@@ -103,8 +103,8 @@ fn push_heading(out: &mut Vec<u8>, name: &[u8], verdict: &Verdict) -> Result<(),
     }
 }
 
-// Writes the lines that show why a unit is not true.
-fn push_details(
+/// Writes the lines that show why a unit is not true.
+pub fn push_details(
     out: &mut Vec<u8>,
     design: &Design,
     params: &[Param],

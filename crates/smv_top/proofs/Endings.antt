@@ -7,17 +7,21 @@ use Rattle.std.specs.List.{list_any}
 use Rattle.std.specs.Io.KnownBytes.{Appends}
 use Rattle.smv_io.specs.Transfers.{TookFront}
 use Rattle.smv_problem.specs.declared.report.Report.{Report}
+use Rattle.smv_problem.specs.declared.report.Verdict.{Verdict}
+use Rattle.smv_problem.specs.declared.report.Verdict.TheVariants as verdict
+use Rattle.smv_command.specs.Ranges.{IsInRange}
 use Rattle.smv_command.specs.declared.commands.Command.{Command}
-use Rattle.smv_command.specs.declared.commands.Command.TheVariants.{Prove, Only, Print, Generated, Proof, Check, Resume}
+use Rattle.smv_command.specs.declared.commands.Command.TheVariants.{Prove, Only, Print, Generated, Proof, Check, Resume, Confirm}
 use Rattle.smv_command.specs.declared.exit.Status.{Status}
-use Rattle.smv_command.specs.declared.exit.Status.TheVariants.{AllProved, SomeFalse, SomeUnknown, Refused, Usage, ReadFault, WriteFault, OutOfMemory, PartProved, Printed as printed_out, Generated as all_generated, Documented, Checked, Rejected, Resumed as all_resumed}
+use Rattle.smv_command.specs.declared.exit.Status.TheVariants.{AllProved, SomeFalse, SomeUnknown, Refused, Usage, ReadFault, WriteFault, OutOfMemory, PartProved, Printed as printed_out, Generated as all_generated, Documented, Checked, Rejected, Resumed as all_resumed, HoldsHere, Real}
 use Rattle.smv_answers.specs.Reports.{IsSoundDesign}
 use Rattle.law_judgements.specs.Judgements.{Judgement}
 use Rattle.law_judgements.specs.Judgements.Judgement.{yes, form, design, set}
 use Rattle.smv_answers.specs.DocumentDues.{IsDocumentDue, documented, open_report, refused_text, too_long_to_check, judged, refused_design, too_long_to_resume, not_old, refused_new, resumed, open_resumed, status_by}
-use Rattle.smv_answers.specs.Dues.{IsDue, IsDueTo, decided, of_documents, printed, refused, is_false, is_unknown, proved_by, status_of, Gave, Ends}
-use Rattle.smv_answers.specs.Laws.{CheckedDocumentIsSound, DocumentedTextIsSound, HoldsSound, OneStatus, ProvedIsSound, RenewsSound, ResumedDocumentIsSound}
-use Rattle.smv_top.specs.Clauses.{Completes}
+use Rattle.smv_answers.specs.Dues.{IsDue, IsDueTo, confirmed, decided, of_documents, printed, refused, is_false, is_unknown, proved_by, status_of, Gave, Ends}
+use Rattle.smv_answers.specs.Confirmations.{confirmed_status}
+use Rattle.smv_answers.specs.Laws.{CheckedDocumentIsSound, DocumentedTextIsSound, HoldsAsAsked, HoldsHereIsSo, HoldsSound, OneStatus, ProvedIsSound, RealIsSo, RenewsSound, ResumedDocumentIsSound}
+use Rattle.smv_top.specs.Clauses.{Completes, ShowsReal}
 
 -- ---- what the source gave
 
@@ -55,6 +59,7 @@ is_own (Generated copies) = refl
 is_own (Proof budgets) = refl
 is_own Check = refl
 is_own (Resume budgets) = refl
+is_own (Confirm name sizes budgets) = refl
 
 of_report : (proved : Status) (report : Report) → is_answered proved ≡ true → is_answered (status_of proved report) ≡ true
 of_report proved report own = by (list_any (λ u. is_false u.verdict) report.units) (list_any (λ u. is_unknown u.verdict) report.units)
@@ -69,6 +74,12 @@ of_judgement (yes n) = refl
 of_judgement form = refl
 of_judgement (design number at) = refl
 of_judgement (set k) = refl
+
+of_verdict : (verdict : Verdict) → is_answered (confirmed_status verdict) ≡ true
+of_verdict verdict.True = refl
+of_verdict (verdict.False case elements path) = refl
+of_verdict (verdict.UnknownNodes case count) = refl
+of_verdict (verdict.UnknownSteps case) = refl
 
 of_document : (command : Command) (text : List ℕ) (due : Status) (answer : List ℕ) → IsDocumentDue command text due answer → is_answered due ≡ true
 of_document _ text _ _ (documented budgets proof is) = refl
@@ -88,6 +99,7 @@ of_command command text _ _ (decided report is) = of_report (proved_by command) 
 of_command _ text _ _ (printed tree is) = refl
 of_command command text _ _ (refused number at own fault) = refl
 of_command command text due answer (of_documents is) = of_document command text due answer is
+of_command _ text _ _ (confirmed name sizes budgets tree unit told valid called is) = of_verdict told
 
 answers : (command : Option Command) (text : List ℕ) (due : Status) (answer : List ℕ) → IsDueTo command text due answer → is_answered due ≡ true
 answers None text due answer is = ap is_answered is.0
@@ -114,6 +126,8 @@ finished status r command text answer old new due taken front (inl e) = rw e (wh
     whole Checked is due all = (answer, due, all)
     whole Rejected is due all = (answer, due, all)
     whole all_resumed is due all = (answer, due, all)
+    whole HoldsHere is due all = (answer, due, all)
+    whole Real is due all = (answer, due, all)
     whole ReadFault is due all = absurd (true≢false (sym is))
     whole WriteFault is due all = absurd (true≢false (sym is))
     whole OutOfMemory is due all = absurd (true≢false (sym is))
@@ -140,6 +154,21 @@ resumed_renews_sound law r command text old new is ends =
     let e : Ends all_resumed command text old new = subst (λ s. Ends s command text old new) is ends in
     law command text e.0 e.1
 
+pub holds_as_asked : HoldsHereIsSo → (r : Status) (command : Option Command) (text : List ℕ) (old new : Option (List ℕ)) → IfSome command IsInRange → r ≡ HoldsHere → Ends r command text old new → HoldsAsAsked command text
+holds_as_asked law r command text old new ranged is ends =
+    let e : Ends HoldsHere command text old new = subst (λ s. Ends s command text old new) is ends in
+    law command text e.0 ranged e.1
+
+pub real_as_asked : RealIsSo → (r : Status) (command : Option Command) (text : List ℕ) (old new : Option (List ℕ)) → IfSome command IsInRange → r ≡ Real → Ends r command text old new → ShowsReal command old new text
+real_as_asked law r command text old new ranged is ends =
+    let e : Ends Real command text old new = subst (λ s. Ends s command text old new) is ends in
+    (e.0, law command text e.0 ranged e.1, e.2)
+
+-- the numbers of the command that words are, where they are one
+pub ranged : (o : Option Command) → ((command : Command) → o ≡ Some command → IsInRange command) → IfSome o IsInRange
+ranged None all = tt
+ranged (Some command) all = all command refl
+
 module _ (one : OneStatus) (command : Option Command) (text : List ℕ) (old new : Option (List ℕ)) where
   pub completed : (r : Status) → r ≢ ReadFault → r ≢ WriteFault → Ends r command text old new → Completes r command text
   completed AllProved no_read no_write e due answer is = inl (one command text AllProved due e.0 answer e.1 is)
@@ -154,6 +183,8 @@ module _ (one : OneStatus) (command : Option Command) (text : List ℕ) (old new
   completed Checked no_read no_write e due answer is = inl (one command text Checked due e.0 answer e.1 is)
   completed Rejected no_read no_write e due answer is = inl (one command text Rejected due e.0 answer e.1 is)
   completed all_resumed no_read no_write e due answer is = inl (one command text all_resumed due e.0 answer e.1 is)
+  completed HoldsHere no_read no_write e due answer is = inl (one command text HoldsHere due e.0 answer e.1 is)
+  completed Real no_read no_write e due answer is = inl (one command text Real due e.0 answer e.1 is)
   completed ReadFault no_read no_write e due answer is = absurd (no_read refl)
   completed WriteFault no_read no_write e due answer is = absurd (no_write refl)
   completed OutOfMemory no_read no_write e due answer is = inr refl

@@ -6,7 +6,9 @@ ghost use Rattle.smv_command.specs.declared.commands.Command.TheVariants as vari
 ghost use Rattle.smv_answers.specs.Reports.{IsRightReport};
 ghost use Rattle.smv_answers.specs.Dues.{IsDue, IsReportFor, decides, is_of_documents, default_nodes, default_steps};
 
+use crate::confirmations::confirmed;
 use crate::documents::{checked, documented, resumed};
+use crate::limits::{LIMIT, TOO_LONG};
 use smv_answers::{Answer, printed, refused, reported};
 use smv_command::Command;
 use smv_core::{Fault, Name, Refusal};
@@ -14,12 +16,6 @@ use smv_parse::parse;
 use smv_problem::Budgets;
 use smv_prove::{prove, prove_one};
 use std::alloc::{AllocError, Global};
-
-// The most bytes that a text has.
-const LIMIT: usize = 1_048_576;
-
-// The fault of a text that has more.
-const TOO_LONG: Fault = Fault { number: 31, at: 0 };
 
 /// The answer to a command and its text, which is the one that was read or generated.
 pub fn answer_to(alloc: Global, command: &Command, text: &[u8]) -> Result<Answer, AllocError>
@@ -34,6 +30,11 @@ pub fn answer_to(alloc: Global, command: &Command, text: &[u8]) -> Result<Answer
         Command::Proof { budgets } => documented(alloc, text, *budgets),
         Command::Check => checked(alloc, text),
         Command::Resume { budgets } => resumed(alloc, text, *budgets),
+        Command::Confirm {
+            name,
+            sizes,
+            budgets,
+        } => confirmed(alloc, text, name, sizes, *budgets),
     }
 }
 

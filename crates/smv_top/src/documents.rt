@@ -7,28 +7,22 @@ ghost use Rattle.smv_command.specs.declared.commands.Command.TheVariants as vari
 ghost use Rattle.smv_answers.specs.Dues.{IsDue};
 ghost use Rattle.smv_answers.specs.DocumentDues.{check_limit, resume_limit};
 
-use smv_answers::{Answer, checked as accepted, documented as written, refused, rejected_form, rejected_set, reported};
+use crate::limits::{CHECK_LIMIT, DOCUMENT_TOO_LONG, LIMIT, RESUME_LIMIT, TOO_LONG};
+use law_checked_proofs::resumed::resumed_proofs_are_checked;
+use smv_answers::{
+    Answer, checked as accepted, documented as written, refused, rejected_form, rejected_set,
+    reported,
+};
 use smv_check::{CheckError, check_proof};
 use smv_command::{Command, Status};
-use smv_core::{Fault, Refusal};
+use smv_core::Refusal;
 use smv_problem::Budgets;
+use smv_proof::laws::readings_are_spelled;
 use smv_proof::{Proof, ProofError};
-use smv_proof_read::{old_of, read_proof};
+use smv_proof_read::olds::old_of;
+use smv_proof_read::read_proof;
 use smv_resume::{Kept, keep, resume};
 use std::alloc::{AllocError, Global};
-
-// The most bytes that a text has.
-const LIMIT: usize = 1_048_576;
-
-/// The most bytes that a document has where it is checked.
-pub const CHECK_LIMIT: usize = 67_108_864;
-
-/// The most bytes that an old document and a new design have together.
-pub const RESUME_LIMIT: usize = 69_206_016;
-
-const TEXT_TOO_LONG: Fault = Fault { number: 31, at: 0 };
-
-const TOO_LONG: Fault = Fault { number: 33, at: 0 };
 
 /// The answer to a command that asks for the proof document of a text.
 pub fn documented(alloc: Global, text: &[u8], budgets: Budgets) -> Result<Answer, AllocError>
@@ -36,8 +30,9 @@ pub fn documented(alloc: Global, text: &[u8], budgets: Budgets) -> Result<Answer
     ensures { IfOk result (λ answer. IsDue (variant.Proof budgets) text.now answer.status answer.bytes.items) }
 {
     if text.len() > LIMIT {
-        return refused(alloc, text, TEXT_TOO_LONG);
+        return refused(alloc, text, TOO_LONG);
     }
+    resumed_proofs_are_checked();
     match keep(alloc, text, budgets) {
         Ok(Kept::All { proof }) => written(alloc, &proof, Status::Documented),
         Ok(Kept::Open { report }) => {
@@ -54,7 +49,7 @@ pub fn checked(alloc: Global, bytes: &[u8]) -> Result<Answer, AllocError>
     ensures { IfOk result (λ answer. IsDue variant.Check bytes.now answer.status answer.bytes.items) }
 {
     if bytes.len() > CHECK_LIMIT {
-        return refused(alloc, bytes, TOO_LONG);
+        return refused(alloc, bytes, DOCUMENT_TOO_LONG);
     }
     match read_proof(alloc, bytes) {
         Ok(proof) => judged(alloc, bytes, &proof),
@@ -69,6 +64,7 @@ fn judged(alloc: Global, bytes: &[u8], proof: &Proof) -> Result<Answer, AllocErr
     requires spells { Spells bytes.now proof.now }
     ensures { IfOk result (λ answer. IsDue variant.Check bytes.now answer.status answer.bytes.items) }
 {
+    readings_are_spelled();
     match check_proof(alloc, proof) {
         Ok(sets) => accepted(alloc, sets),
         Err(CheckError::Form) => rejected_form(alloc),
@@ -84,7 +80,7 @@ pub fn resumed(alloc: Global, bytes: &[u8], budgets: Budgets) -> Result<Answer, 
     ensures { IfOk result (λ answer. IsDue (variant.Resume budgets) bytes.now answer.status answer.bytes.items) }
 {
     if bytes.len() > RESUME_LIMIT {
-        return refused(alloc, bytes, TOO_LONG);
+        return refused(alloc, bytes, DOCUMENT_TOO_LONG);
     }
     let Some((old, text)) = old_of(bytes) else {
         return rejected_form(alloc);
@@ -112,7 +108,7 @@ fn renewed(
     ensures { IfOk result (λ answer. IsDue (variant.Resume budgets) bytes.now answer.status answer.bytes.items) }
 {
     if text.len() > LIMIT {
-        return refused(alloc, text, TEXT_TOO_LONG);
+        return refused(alloc, text, TOO_LONG);
     }
     match resume(alloc, proof, text, budgets) {
         Ok(Kept::All { proof }) => written(alloc, &proof, Status::Resumed),

@@ -12,17 +12,19 @@ ghost use Rattle.smv_command.specs.Ranges.{IsInRange};
 ghost use Rattle.smv_command.specs.declared.commands.Command.TheVariants as variant;
 ghost use Rattle.smv_command.specs.Commands.{command_of};
 ghost use Rattle.smv_answers.specs.Reports.{IsSoundDesign};
-ghost use Rattle.smv_answers.specs.Laws.{HoldsSound, RenewsSound};
+ghost use Rattle.smv_answers.specs.Laws.{HoldsAsAsked, HoldsSound, RenewsSound};
 ghost use Rattle.smv_answers.specs.Dues.{Gave, Ends, length_fault, limit_for, reads, text_for};
 ghost use Rattle.smv_report.specs.Lines.{fault_text};
-ghost use Rattle.smv_top.specs.Clauses.{Completes};
+ghost use Rattle.smv_top.specs.Clauses.{Completes, ShowsReal};
 
 mod answers;
+mod confirmations;
 mod documents;
+mod limits;
 
 use answers::answer_to;
-use documents::{CHECK_LIMIT, RESUME_LIMIT};
-use smv_answers::laws::{documents_are_sound, one_status, proved_is_sound};
+use limits::{CHECK_LIMIT, LIMIT, RESUME_LIMIT};
+use smv_answers::laws::{confirmed_is_so, documents_are_sound, one_status, proved_is_sound};
 use smv_answers::usage;
 use smv_command::words_laws::numbers_are_in_range;
 use smv_command::{Command, Status, command_of};
@@ -30,9 +32,7 @@ use smv_gen::generate;
 use smv_io::{ReadError, Sink, Source, read_all, write_all};
 use std::alloc::Global;
 
-// The most bytes that a text has.
-const LIMIT: usize = 1_048_576;
-
+// What is written where there are more bytes than a command reads.
 const TEXT_TOO_LONG: &[u8] = b"fault 31 at line 1 column 1\n";
 
 const DOCUMENT_TOO_LONG: &[u8] = b"fault 33 at line 1 column 1\n";
@@ -55,6 +55,10 @@ pub fn run<S: Source, K: Sink>(
     ensures checked { result ≡ Status.Checked → IfSome (S.left source.old) HoldsSound }
     ensures resumed { result ≡ Status.Resumed → IfSome (S.left source.old) RenewsSound }
 
+    // At the sizes that the words give: no run breaks an instance of the unit, or what was written shows one that does, and none is shorter.
+    ensures holds_here { result ≡ Status.HoldsHere → IfSome (S.left source.old) (HoldsAsAsked (command_of (map string_bytes words.now))) }
+    ensures real { result ≡ Status.Real → IfSome (S.left source.old) (ShowsReal (command_of (map string_bytes words.now)) (K.taken sink.old) (K.taken sink.new)) }
+
     // The status is the one to which the answer is due, and the sink took that answer.
     ensures ends { (text : List ℕ) × Gave (S.left source.old) text × Ends result (command_of (map string_bytes words.now)) text (K.taken sink.old) (K.taken sink.new) }
 
@@ -73,6 +77,8 @@ pub fn run<S: Source, K: Sink>(
     one_status();
     proved_is_sound();
     documents_are_sound();
+    confirmed_is_so();
+    numbers_are_in_range();
     answered(alloc, words, source, sink)
 }
 
@@ -124,6 +130,11 @@ fn asked<S: Source, K: Sink>(
         Command::Proof { budgets: _ } => of_source(alloc, command, source, sink),
         Command::Check => of_source(alloc, command, source, sink),
         Command::Resume { budgets: _ } => of_source(alloc, command, source, sink),
+        Command::Confirm {
+            name: _,
+            sizes: _,
+            budgets: _,
+        } => of_source(alloc, command, source, sink),
     }
 }
 
@@ -168,6 +179,11 @@ fn limit_for(command: &Command) -> usize
         Command::Print => LIMIT,
         Command::Generated { copies: _ } => LIMIT,
         Command::Proof { budgets: _ } => LIMIT,
+        Command::Confirm {
+            name: _,
+            sizes: _,
+            budgets: _,
+        } => LIMIT,
     }
 }
 
@@ -186,6 +202,11 @@ fn too_long(command: &Command) -> &'static [u8]
         Command::Print => TEXT_TOO_LONG,
         Command::Generated { copies: _ } => TEXT_TOO_LONG,
         Command::Proof { budgets: _ } => TEXT_TOO_LONG,
+        Command::Confirm {
+            name: _,
+            sizes: _,
+            budgets: _,
+        } => TEXT_TOO_LONG,
     }
 }
 

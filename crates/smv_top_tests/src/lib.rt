@@ -1,13 +1,11 @@
 //! Tests of the whole program, from words and bytes to a status and bytes. The expected answers were worked out by hand from the rules of the language and of the method.
 //! `rows` has worked designs with their reports, `small_designs` all designs of one signal of a few forms, `faults` a text for each fault, `passes` which fault comes first, `limits` and `edges` the texts at each limit and past it, `fronts` each front of the Tomasulo machine,
-//! `documents` proof documents written, checked and resumed, `prints` what is printed, and `transfers` what happens where a source or a sink fails.
+//! `prints` what is printed, and `transfers` what happens where a source or a sink fails.
 //! `page_examples`, `page_method` and `short_pages` (`README.md`, `docs/FAULTS.md`, `docs/COMING-FROM.md`) have each command that the users' pages show, with the answer and the status that stand there. They are written by `tools/pages.py --tests`; where a page changes, run it again.
 #![tactic(auto)]
 
 #[cfg(test)]
 mod calls;
-#[cfg(test)]
-mod documents;
 #[cfg(test)]
 mod edges;
 #[cfg(test)]

@@ -1,8 +1,8 @@
 use Rattle.smv_answers.specs.Reports.{IsSoundDesign}
-use Rattle.smv_answers.specs.Laws.{HoldsSound, RenewsSound}
+use Rattle.smv_answers.specs.Laws.{HoldsAsAsked, HoldsSound, RenewsSound}
 use Rattle.smv_answers.specs.Dues.{Ends}
-use Rattle.smv_top.specs.Clauses.{Completes}
-use Rattle.smv_top.proofs.Endings.{of_told, all_proved_is_sound, checked_holds_sound, completed, documented_is_sound, resumed_renews_sound}
+use Rattle.smv_top.specs.Clauses.{Completes, ShowsReal}
+use Rattle.smv_top.proofs.Endings.{of_told, all_proved_is_sound, checked_holds_sound, completed, documented_is_sound, holds_as_asked, ranged, real_as_asked, resumed_renews_sound}
 use Rattle.smv_top.proofs.run.Goals as goal
 
 pub returns-clause-sound : goal.returns-clause-sound
@@ -16,6 +16,16 @@ returns-clause-checked g c is = of_told _ (λ text. Ends _ _ text _ _) HoldsSoun
 
 pub returns-clause-resumed : goal.returns-clause-resumed
 returns-clause-resumed g c is = of_told _ (λ text. Ends _ _ text _ _) RenewsSound c.answered.ensures.ends (λ text. resumed_renews_sound c.documents_are_sound.ensures.resumed _ _ text _ _ is)
+
+pub returns-clause-holds_here : goal.returns-clause-holds_here
+returns-clause-holds_here g c is =
+    of_told _ (λ text. Ends _ _ text _ _) (HoldsAsAsked _) c.answered.ensures.ends
+    (λ text. holds_as_asked c.confirmed_is_so.ensures.holds _ _ text _ _ (ranged _ (c.numbers_are_in_range.ensures _)) is)
+
+pub returns-clause-real : goal.returns-clause-real
+returns-clause-real g c is =
+    of_told _ (λ text. Ends _ _ text _ _) (ShowsReal _ _ _) c.answered.ensures.ends
+    (λ text. real_as_asked c.confirmed_is_so.ensures.real _ _ text _ _ (ranged _ (c.numbers_are_in_range.ensures _)) is)
 
 pub returns-clause-complete : goal.returns-clause-complete
 returns-clause-complete g c no_read no_write =
