@@ -1,5 +1,5 @@
 -- A set of states beside the lists of functions of its case.
-use Rattle.std.proofs.Common.{◌≡◌, ◌∙◌, ◌↔◌, ℕ, zero, suc, ◌+◌, ◌*◌, Bool, true, false, Option, Some, None, IfSome, IsTrue, List, [], ◌∷◌, is_some, refl, sym, ap, subst, arith}
+use Rattle.std.proofs.Common.{◌≡◌, ◌∙◌, ◌↔◌, ℕ, zero, suc, ◌+◌, ◌*◌, Bool, true, false, Option, Some, None, IfSome, IsTrue, List, [], ◌∷◌, is_some, refl, sym, subst, arith}
 use Rattle.std.specs.List.{slice_get, list_all}
 use Rattle.law_lists.proofs.Booleans.{left_of, right_of}
 use Rattle.law_lists.proofs.Options.{some_is}
@@ -17,7 +17,6 @@ use Rattle.smv_proof.specs.Documents.{is_set}
 use Rattle.smv_proof.specs.Meanings.{meaning, is_below}
 use Rattle.smv_proof.specs.Rebuilt.{IsRebuilt}
 use Rattle.smv_proof.specs.Laws.{SetsAreCurrent}
-use Rattle.law_checked_proofs.specs.Checked.{Meets}
 use Rattle.smv_check.specs.declared.units.Progress.{Progress}
 use Rattle.smv_check.specs.Progress.{Follows, IsNext}
 

@@ -1,5 +1,5 @@
 -- What is answered of sets, and of a document.
-use Rattle.std.proofs.Common.{◌≡◌, ◌∙◌, ◌≤◌, ◌<◌, ℕ, Bool, true, false, ◌&&◌, List, [], ◌∷◌, ◌++◌, length, Option, Some, None, Result, Ok, Err, IfSome, refl, sym, ap, subst, arith}
+use Rattle.std.proofs.Common.{◌≡◌, ◌∙◌, ◌≤◌, ◌<◌, ℕ, Bool, true, false, ◌&&◌, List, [], ◌∷◌, ◌++◌, length, Some, None, Result, Ok, Err, IfSome, refl, sym, ap, subst, arith}
 use Rattle.std.specs.Prelude.{codes}
 use Rattle.std.specs.List.{flat_map}
 use Rattle.std.specs.Fmt.{decimal}
@@ -9,21 +9,19 @@ use Rattle.smv_core.specs.declared.fault.Fault.{Fault}
 use Rattle.smv_core.specs.declared.tree.Text.{Text}
 use Rattle.law_obligations.specs.Units.{script_of}
 use Rattle.smv_problem.specs.declared.report.Plan.{Plan}
-use Rattle.law_valid_texts.specs.Joined.{flat_design}
 use Rattle.law_valid_texts.specs.Plans.{limit}
 use Rattle.law_valid_texts.specs.Reports.{IsValid, script_of_tree}
 use Rattle.law_valid_texts.specs.Rooms.{IsWholePlan}
 use Rattle.law_answers.specs.Dues.{IsFault, too_long, malformed, faulty, unnamed, of_unit}
 use Rattle.smv_command.specs.declared.commands.Command.{Command}
 use Rattle.smv_command.specs.declared.commands.Command.TheVariants.{Prove}
-use Rattle.smv_plans.specs.Plans.{IsPlan}
 use Rattle.smv_read_design.specs.Answers.{HasPlan, IsFaultOf as IsFaultRead}
 use Rattle.smv_read_design.specs.ReadPlanLaws.{PlansOfValidTextsAreWhole}
 use Rattle.smv_proof.specs.declared.proof.Proof.{Proof}
 use Rattle.smv_proof.specs.declared.proof.KeptSet.{KeptSet}
 use Rattle.smv_proof.specs.Documents.{is_proof, document, Spells, SpellsNone, line, node_line, set_lines}
 use Rattle.law_checked_proofs.specs.Cases.{UnitCase, unit_cases, cases_of}
-use Rattle.law_checked_proofs.specs.Checked.{are_for, are_within, AllMeet}
+use Rattle.law_checked_proofs.specs.Checked.{are_for, are_within}
 use Rattle.law_judgements.specs.Judgements.{IsFaultOf, IsJudged, FailsAt}
 use Rattle.law_judgements.specs.Judgements as judgements
 use Rattle.law_judgements.specs.Judgements.Judgement.{yes, form, design, set}
@@ -32,7 +30,7 @@ use Rattle.smv_check.specs.declared.errors.CheckError.TheVariants.{Form, Design,
 use Rattle.smv_check.specs.declared.units.Progress.{Progress}
 use Rattle.smv_check.specs.Progress.{fit, HasPassed, FirstFails}
 use Rattle.smv_check.specs.Answers.{judgement_of, IsAnswer}
-use Rattle.smv_check.proofs.Fits.{too_many, all_sets}
+use Rattle.smv_check.proofs.Fits.{all_sets}
 
 -- ---- at the end of all cases
 

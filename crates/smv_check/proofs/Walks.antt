@@ -1,5 +1,5 @@
 -- The cases of a leaf and of a script, one after the other.
-use Rattle.std.proofs.Common.{◌≡◌, ◌∙◌, ℕ, zero, suc, ◌+◌, ◌<◌, ◌≤◌, false, List, [], ◌∷◌, ◌++◌, map, length, take, drop, Some, refl, sym, ap, subst, arith, append_assoc}
+use Rattle.std.proofs.Common.{◌≡◌, ◌∙◌, ℕ, suc, ◌+◌, ◌<◌, ◌≤◌, false, List, [], ◌∷◌, ◌++◌, length, take, drop, Some, refl, sym, ap, subst, arith, append_assoc}
 use Rattle.std.specs.List.{slice_get}
 use Rattle.std.proofs.lemmas.List.{take-append-drop, take_all, map-append, length-take-le}
 use Rattle.std.proofs.lemmas.Option.{slice_get_within}
@@ -15,7 +15,7 @@ use Rattle.law_checked_proofs.specs.Cases.{UnitCase, cases_from, cases_at, unit_
 use Rattle.smv_check.specs.declared.units.Progress.{Progress}
 use Rattle.smv_check.specs.declared.units.Looked.{Looked}
 use Rattle.smv_check.specs.declared.units.Looked.TheVariants.{Misfit, Fits}
-use Rattle.smv_check.specs.Progress.{fit, HasPassed, NeverFit, IsLooked, AreLooked}
+use Rattle.smv_check.specs.Progress.{fit, HasPassed, NeverFit, IsLooked}
 use Rattle.smv_check.proofs.Fits.{taken, never_more, never_all}
 
 -- ---- the cases of a leaf

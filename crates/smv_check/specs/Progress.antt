@@ -1,7 +1,6 @@
 -- How far the sets of a document stand for cases, in order.
 use Rattle.std.specs.Prelude.{◌≡◌, ◌≤◌, ℕ, suc, ◌*◌, Bool, true, false, ◌&&◌, List, ◌++◌, length, take, Option, Some, None}
 use Rattle.smv_core.specs.declared.flat.Design.{Design}
-use Rattle.smv_rings.specs.Paths.{IsInductive}
 use Rattle.law_obligations.specs.Readings.{PosedCase, state_bits}
 use Rattle.smv_obligations.specs.Shared.{IsShared}
 use Rattle.smv_proof.specs.declared.proof.KeptSet.{KeptSet}

@@ -1,4 +1,4 @@
-use Rattle.std.proofs.Common.{◌≡◌, ◌<◌, ◌≤◌, length, subst, arith}
+use Rattle.std.proofs.Common.{◌<◌, ◌≤◌, length, subst, arith}
 use Rattle.law_lists.proofs.Places.{get_read}
 use Rattle.smv_check.specs.Progress.{IsLooked, GivesBack}
 use Rattle.smv_check.specs.Tasks.{case_in}

@@ -3,7 +3,6 @@ use Rattle.smv_core.specs.declared.flat.Unit.{Unit}
 use Rattle.law_obligations.specs.Units.{script_of}
 use Rattle.smv_unit_tables.specs.Bases.{AreBases}
 use Rattle.smv_chosen_table.specs.Tables.{IsIndex}
-use Rattle.smv_obligations.specs.Shared.{IsShared}
 use Rattle.smv_check.specs.Progress.{GivesBack}
 use Rattle.smv_check.proofs.Fits.{none_passed}
 use Rattle.smv_check.proofs.Leaves.{entries_long}
