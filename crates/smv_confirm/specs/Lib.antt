@@ -1,0 +1,3 @@
+pub mod Cases
+pub mod Confirmations
+pub mod Ready
