@@ -1,5 +1,5 @@
 -- What it says of the runs of a text that a unit holds or is real at given sizes.
-use Rattle.std.proofs.Common.{◌≡◌, ◌∙◌, ◌≤◌, ℕ, suc, Bool, true, false, List, [], ◌∷◌, Option, Some, None, IfSome, refl, sym, ap, subst, arith, true≢false}
+use Rattle.std.proofs.Common.{◌≡◌, ◌∙◌, ◌≤◌, ℕ, suc, Bool, true, false, List, [], ◌∷◌, Some, None, refl, sym, ap, subst, arith, true≢false}
 use Rattle.std.specs.Prelude.{if◌then◌else◌}
 use Rattle.std.specs.List.{list_any}
 use Rattle.law_lists.proofs.Options.{some_is}
@@ -9,7 +9,7 @@ use Rattle.smv_problem.specs.declared.report.Budgets.{Budgets}
 use Rattle.smv_problem.specs.declared.report.Verdict.{Verdict}
 use Rattle.smv_problem.specs.declared.report.Verdict.TheVariants as verdict
 use Rattle.smv_problem.specs.declared.report.Report.{Report}
-use Rattle.smv_command.specs.Ranges.{AreSizes, IsInRange, most_size}
+use Rattle.smv_command.specs.Ranges.{AreSizes, most_size}
 use Rattle.smv_command.specs.declared.commands.Command.{Command}
 use Rattle.smv_command.specs.declared.commands.Command.TheVariants.{Prove, Only, Print, Generated, Proof, Check, Resume, Confirm}
 use Rattle.smv_command.specs.declared.exit.Status.{Status}
@@ -18,13 +18,13 @@ use Rattle.law_obligations.specs.Sets.{Has, first, later}
 use Rattle.law_valid_texts.specs.Joined.{flat_design}
 use Rattle.law_valid_texts.specs.Laws.{OneTree}
 use Rattle.law_valid_texts.specs.Reports.{IsValid}
-use Rattle.law_confirmed.specs.Answers.{ArePositive, ConfirmedFalseIsReal, ConfirmedTrueHolds, IsConfirmed, IsRealAtGiven, unit_called}
+use Rattle.law_confirmed.specs.Answers.{ArePositive, ConfirmedFalseIsReal, ConfirmedTrueHolds, IsConfirmed, unit_called}
 use Rattle.law_judgements.specs.Judgements.{Judgement}
 use Rattle.law_judgements.specs.Judgements.Judgement.{yes, form, design, set}
 use Rattle.law_document_answers.specs.Dues.{IsDocumentDue, documented, open_report, refused_text, too_long_to_check, judged, refused_design, too_long_to_resume, not_old, refused_new, resumed, open_resumed, status_by}
 use Rattle.law_answers.specs.Confirmations.{confirmed_lines, confirmed_status}
-use Rattle.law_answers.specs.Dues.{IsDue, IsDueTo, IsReportFor, confirmed, decided, is_false, is_unknown, of_documents, printed, proved_by, refused, status_of}
-use Rattle.law_answers.specs.Laws.{HoldsAsAsked, HoldsHereIsSo, IsRealAsAsked, RealIsSo}
+use Rattle.law_answers.specs.Dues.{IsDue, IsReportFor, confirmed, decided, is_false, is_unknown, of_documents, printed, proved_by, refused, status_of}
+use Rattle.law_answers.specs.Laws.{HoldsHereIsSo, IsRealAsAsked, RealIsSo}
 
 -- each size of a list that is in range is so
 pub each_in_range : (sizes : List ℕ) → AreSizes sizes → (k : ℕ) → Has sizes k → (1 ≤ k) × (k ≤ most_size)

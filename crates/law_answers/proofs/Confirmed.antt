@@ -1,5 +1,5 @@
 -- What is told of a unit at given sizes, and what it is refused for, is one.
-use Rattle.std.proofs.Common.{◌≡◌, ◌∙◌, ℕ, ◌-◌, Bool, true, false, List, length, Option, Some, None, refl, sym, ap, subst, arith, true≢false}
+use Rattle.std.proofs.Common.{◌≡◌, ◌∙◌, ℕ, ◌-◌, false, List, length, Some, None, refl, sym, ap, subst, arith, true≢false}
 use Rattle.std.proofs.lemmas.List.{length-map}
 use Rattle.law_lists.proofs.Options.{some_is}
 use Rattle.smv_core.specs.declared.fault.Fault.{Fault}

@@ -11,7 +11,6 @@ use Rattle.smv_command.specs.declared.exit.Status.{Status}
 use Rattle.smv_command.specs.declared.exit.Status.TheVariants as status
 use Rattle.law_answers.specs.Confirmations.{confirmed_status}
 use Rattle.law_answers.specs.Dues.{IsDocumentDue, IsDue, IsDueTo, IsReportFor, confirmed, decided, is_false, is_unknown, of_documents, printed, proved_by, refused, status_of, text_for}
-use Rattle.law_answers.proofs.Answers.{of_ones}
 
 -- a status of documents
 abbrev is_own : Status → Bool

@@ -3,10 +3,8 @@ use Rattle.std.proofs.Common.{◌≡◌, ◌∙◌, ℕ, false, List, Some, None
 use Rattle.smv_parse.specs.Laws.{IsNotBoth, IsOneFault, IsOneTree}
 use Rattle.smv_print.specs.Canonical.{canonical}
 use Rattle.smv_report.specs.Lines.{fault_text}
-use Rattle.smv_problem.specs.declared.report.Report.{Report}
 use Rattle.smv_command.specs.declared.commands.Command.{Command}
 use Rattle.smv_command.specs.declared.exit.Status.{Status}
-use Rattle.smv_command.specs.declared.exit.Status.TheVariants as status
 use Rattle.law_valid_texts.specs.Laws.{OneTree, OneReport, OneUnitReport, UnitsAreOrAreNot}
 use Rattle.smv_command.specs.declared.commands.Command.TheVariants.{Print, Confirm}
 use Rattle.law_document_answers.specs.Laws.{OneDocumentAnswer}

@@ -1,5 +1,5 @@
 -- Two reports of what is resumed tell the same, and where no unit is false they are one.
-use Rattle.std.proofs.Common.{◌≡◌, ◌∙◌, inl, inr, ℕ, suc, ◌-◌, true, false, List, [], ◌∷◌, ◌++◌, length, refl, sym, ap, ap₂, subst, arith, true≢false}
+use Rattle.std.proofs.Common.{◌≡◌, ◌∙◌, inl, inr, ℕ, suc, ◌-◌, false, List, [], ◌∷◌, ◌++◌, length, refl, sym, ap, ap₂, subst, arith, true≢false}
 use Rattle.std.specs.List.{list_any}
 use Rattle.std.proofs.lemmas.Bool.{or_parts}
 use Rattle.std.proofs.lemmas.List.{length-map}
@@ -9,7 +9,7 @@ use Rattle.smv_core.specs.declared.tree.Text.{Text}
 use Rattle.law_obligations.specs.Sets.{Has, first, later}
 use Rattle.law_obligations.specs.Outlines.{Entry, Script}
 use Rattle.law_events.specs.Events.{Event, IsFirstEvent}
-use Rattle.law_events.specs.Events.Event.{Counted, Reached, Shut, Images}
+use Rattle.law_events.specs.Events.Event.{Reached, Shut}
 use Rattle.law_events.specs.Laws.{OneVerdict}
 use Rattle.smv_problem.specs.declared.problem.AbsState.{AbsState as StateData}
 use Rattle.smv_problem.specs.declared.report.Verdict.{Verdict as Told}

@@ -1,5 +1,5 @@
 -- One status is due, and where no unit is false one answer.
-use Rattle.std.proofs.Common.{◌≡◌, ◌∙◌, ℕ, true, false, List, [], refl, sym, ap, ap₂, subst, arith, true≢false}
+use Rattle.std.proofs.Common.{◌≡◌, ◌∙◌, ℕ, false, List, [], refl, sym, ap, ap₂, subst, arith, true≢false}
 use Rattle.std.specs.Prelude.{◌≢◌}
 use Rattle.smv_parse.specs.Laws.{IsNotBoth, IsOneFault}
 use Rattle.smv_report.specs.Lines.{fault_text}
@@ -12,7 +12,7 @@ use Rattle.smv_command.specs.declared.exit.Status.TheVariants as status
 use Rattle.law_events.specs.Laws.{OneVerdict}
 use Rattle.law_reports.specs.Lines.{report_lines}
 use Rattle.law_valid_texts.specs.Laws.{OneTree}
-use Rattle.law_valid_texts.specs.Reports.{IsValid, IsRightReport}
+use Rattle.law_valid_texts.specs.Reports.{IsRightReport}
 use Rattle.smv_proof.specs.declared.proof.KeptSet.{KeptSet}
 use Rattle.smv_proof.specs.declared.proof.Proof.{Proof as Document}
 use Rattle.smv_proof.specs.Documents.{document, Spells}
@@ -22,7 +22,7 @@ use Rattle.law_checked_proofs.specs.KeptLaws.{OneProofOf}
 use Rattle.law_checked_proofs.specs.Resumed.{IsResumedProof, IsResumedReport}
 use Rattle.law_checked_proofs.specs.ResumedLaws.{OneResumedProof, ResumedProofsAreOfTrueTexts, NothingIsResumed, NothingIsReported}
 use Rattle.law_judgements.specs.Judgements.{IsFaultOf, Judgement, IsJudged, has_fault}
-use Rattle.law_judgements.specs.Judgements.Judgement.{yes, form, design, set}
+use Rattle.law_judgements.specs.Judgements.Judgement.{form, design}
 use Rattle.law_judgements.specs.Laws.{OneJudgement}
 use Rattle.law_judgements.proofs.One.{no_fault, same_fault}
 use Rattle.law_document_answers.specs.Statuses.{status_of}

@@ -2,13 +2,11 @@
 use Rattle.std.proofs.Common.{◌≡◌, ◌∙◌, ℕ, Bool, true, false, List, refl, sym, ap, true≢false}
 use Rattle.std.specs.Prelude.{if◌then◌else◌}
 use Rattle.std.specs.List.{list_any}
-use Rattle.smv_problem.specs.declared.report.Budgets.{Budgets}
 use Rattle.smv_problem.specs.declared.report.Report.{Report}
 use Rattle.smv_command.specs.declared.commands.Command.{Command}
 use Rattle.smv_command.specs.declared.exit.Status.{Status}
 use Rattle.smv_command.specs.declared.exit.Status.TheVariants as status
 use Rattle.smv_proof.specs.declared.proof.Proof.{Proof as Document}
-use Rattle.smv_proof.specs.Documents.{Spells}
 use Rattle.law_checked_proofs.specs.Kept.{IsProofOf}
 use Rattle.law_checked_proofs.specs.Resumed.{IsResumedProof}
 use Rattle.law_judgements.specs.Judgements.{Judgement, IsJudged}

@@ -1,5 +1,5 @@
 -- What a call owes to the commands that read or write proof documents.
-use Rattle.std.specs.Prelude.{◌≡◌, ◌≢◌, ◌≤◌, ◌<◌, ℕ, Bool, true, false, List, [], ◌∷◌, ◌++◌, length, codes}
+use Rattle.std.specs.Prelude.{◌≡◌, ◌≢◌, ◌≤◌, ◌<◌, ℕ, Bool, true, false, List, [], ◌∷◌, length, codes}
 use Rattle.std.specs.Fmt.{decimal}
 use Rattle.smv_problem.specs.declared.report.Report.{Report}
 use Rattle.smv_problem.specs.declared.report.Budgets.{Budgets}

@@ -25,7 +25,7 @@ use Rattle.smv_core.specs.declared.tree.Top.TheVariants as top
 use Rattle.smv_core.specs.declared.tree.Text.{Text}
 use Rattle.smv_core.specs.Signs.{comma, ampersand, bar, arrow, slashes}
 use Rattle.smv_core.specs.Signs as w
-use Rattle.smv_core.specs.Notation.{Tokens, Rule, nothing, ◌>>=◌, ◌>>◌, ◌<|>◌, one, found, same_kind, with_place, name_of, number_of, many, optional, placed, one_of, token, name, number, same_name, positive, separated, separated_or_none, opener}
+use Rattle.smv_core.specs.Notation.{Tokens, Rule, nothing, ◌>>=◌, ◌>>◌, ◌<|>◌, found, same_kind, with_place, name_of, number_of, many, optional, placed, one_of, token, name, number, same_name, positive, separated, separated_or_none, opener}
 use Rattle.smv_core.specs.Grammar as g
 use Rattle.smv_core.specs.Grammar.{Rules, no_rules, rules, below, chain, sum_of, named, place_of, Turns, RefPart, Dotted, Bracketed, dotted, bracketed}
 use Rattle.smv_core.specs.Spelling.{Spells}

@@ -3,7 +3,6 @@ use Rattle.std.proofs.Common.{◌≡◌, ◌≤◌, ◌||◌, ℕ, Bool, true, f
 use Rattle.std.specs.Prelude.{if◌then◌else◌}
 use Rattle.std.specs.List.{list_any}
 use Rattle.smv_core.specs.declared.fault.Fault.{Fault}
-use Rattle.smv_core.specs.declared.tree.Text.{Text}
 use Rattle.smv_core.specs.declared.flat.Design.{Design}
 use Rattle.smv_core.specs.declared.flat.Unit.{Unit}
 use Rattle.smv_mentions.specs.FirstFault.{or_else}
@@ -14,7 +13,6 @@ use Rattle.law_problems.specs.Parts.{place_of_unit}
 use Rattle.law_concrete.specs.Concrete.{sized, concrete_cases}
 use Rattle.law_concrete.specs.Sizes.{at_unit, case_bits, cases_fault, element_count, many_fault, number_fault, sizes_at, sizes_fault, undeclared, wide_fault, width_fault}
 use Rattle.law_valid_texts.specs.Joined.{flat_design}
-use Rattle.law_valid_texts.specs.Reports.{IsValid}
 use Rattle.law_confirmed.specs.Answers.{IsUnitFault, unnamed, unsized}
 use Rattle.law_fault_places.specs.FlatPlaces.{DesignIsWithin, DesignsAreWithin, FlattenedTextsAreWithin}
 use Rattle.law_fault_places.specs.FaultsOfTexts.{IsSizeFaultWithin, TreesOfTextsAreWithin}

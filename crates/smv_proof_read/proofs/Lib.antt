@@ -3,4 +3,4 @@ pub mod Digits
 pub mod Parts
 pub mod Onwards
 pub mod Fronts
-pub mod Olds
+pub mod OldDocuments

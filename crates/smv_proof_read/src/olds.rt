@@ -1,5 +1,6 @@
 // An old document before a new design.
-ghost use Rattle.std.specs.Prelude.{◌≡◌, List, ℕ, MatchOption, option_map, take, drop};
+ghost use Rattle.std.specs.Prelude.{◌≡◌, List, ℕ, MatchOption, option_map, codes, take, drop};
+ghost use Rattle.std.specs.Str.{bytes_eq};
 ghost use Rattle.smv_proof.specs.Olds.{IsOld};
 ghost use Rattle.smv_proof.specs.Readings.{pieces};
 ghost use Rattle.smv_proof_read.specs.Olds.{old_in, old_length, parted};
@@ -27,10 +28,17 @@ fn old_length(line: &[u8]) -> Option<u32>
     ensures { result ≡ old_length (pieces 32 line.now) }
 {
     let (word, number) = cut(b' ', line)?;
-    if word != b"old".as_slice() {
+    if !is_old(word) {
         return None;
     }
     number_of(number)
+}
+
+// Whether a piece is the word before the length of the old document.
+fn is_old(piece: &[u8]) -> bool
+    ensures { result ≡ bytes_eq piece.now (codes "old") }
+{
+    piece == b"old".as_slice()
 }
 
 // The old document, and what stands behind it and a line feed.

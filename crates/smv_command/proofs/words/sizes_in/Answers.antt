@@ -1,4 +1,4 @@
-use Rattle.std.proofs.Common.{◌≡◌, ◌∙◌, Option, List, Some, None, [], ap, sym, subst, is_some, map, codes, true}
+use Rattle.std.proofs.Common.{◌≡◌, ◌∙◌, Option, List, Some, None, [], ap, sym, subst, is_some, codes, true}
 use Rattle.std.specs.Prelude.{unwrap_or, IfOk}
 use Rattle.clap.specs.Matches.{found_of}
 use Rattle.clap.specs.Walk.{Text, all_of, rows_of, texts}

@@ -1,0 +1,5 @@
+pub mod Before
+pub mod Changing
+pub mod Pierced
+pub mod Exchanged
+pub mod Bytes

@@ -1,0 +1,5 @@
+pub mod Renamed
+pub mod Laws
+pub mod Strengthened
+pub mod WorkedTexts
+pub mod Replacement

@@ -1,0 +1,4 @@
+pub mod Signs
+pub mod Seams
+pub mod Parts
+pub mod Parted

@@ -1,0 +1,4 @@
+pub mod Tests
+pub mod Put
+pub mod Tried
+pub mod Unread

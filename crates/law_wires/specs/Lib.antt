@@ -1,0 +1,4 @@
+pub mod Tries
+pub mod Idle
+pub mod Laws
+pub mod Worked

@@ -1,0 +1,3 @@
+mod OldLaws
+mod CaseLaws
+pub mod LeafLaws

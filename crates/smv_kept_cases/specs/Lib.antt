@@ -1,0 +1,2 @@
+pub mod OldSets
+pub mod Tried
