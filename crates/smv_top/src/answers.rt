@@ -34,7 +34,7 @@ pub fn answer_to(alloc: Global, command: &Command, text: &[u8]) -> Result<Answer
             name,
             sizes,
             budgets,
-        } => confirmed(alloc, text, name, sizes, *budgets),
+        } => confirmed(alloc, text, name, sizes.as_slice(), *budgets),
     }
 }
 
