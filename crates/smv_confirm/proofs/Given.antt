@@ -1,5 +1,5 @@
 -- What sizes that a command gives are, and cases that are not refused at them.
-use Rattle.std.proofs.Common.{◌≡◌, ◌≤◌, ◌<◌, ℕ, suc, List, [], ◌∷◌, map, length, Option, Some, None, Result, Ok, Err, Bool, true, false, if◌then◌else◌, nat_eq, nat_lt, refl, sym, ap, subst, arith}
+use Rattle.std.proofs.Common.{◌≡◌, ◌≤◌, ℕ, List, [], ◌∷◌, length, Option, Some, None, Result, Err, Bool, true, false, if◌then◌else◌, nat_eq, nat_lt, refl, ap, subst, arith}
 use Rattle.std.specs.Prelude.{IfSome}
 use Rattle.std.specs.List.{list_any}
 use Rattle.std.specs.Str.{bytes_eq}
@@ -17,8 +17,6 @@ use Rattle.smv_core.specs.declared.flat.Unit.{Unit as DesignUnit}
 use Rattle.smv_mentions.specs.FirstFault.{or_else}
 use Rattle.law_obligations.specs.Sets.{Has, first, later}
 use Rattle.law_obligations.specs.Covers.{by_name}
-use Rattle.law_obligations.specs.Outlines.{names_of}
-use Rattle.law_obligations.specs.Soundness.{AreSizes}
 use Rattle.law_obligations.proofs.Members.{Has-map, any-found}
 use Rattle.law_problems.specs.Parts.{Refuses}
 use Rattle.law_concrete.specs.Laws.{GivenAreSizes}
@@ -113,11 +111,11 @@ refused-then None p r e h = h
 refused-then (Some f) p r e h = absurd (cc (e))
 
 -- what is refused for the first reason is refused for both
-pub refused-first : {A B : Type 0} (o p : Option Fault) (e : Refusal) → Refuses {A = A} o (Err e) → Refuses {A = B} (or_else o p) (Err e)
-refused-first o p (refusal.Fault f) h = ap (λ (o : Option Fault). or_else o p) h
-refused-first o p refusal.OutOfMemory h = tt
+pub refused-first : (A B : Type 0) (o p : Option Fault) (e : Refusal) → Refuses {A = A} o (Err e) → Refuses {A = B} (or_else o p) (Err e)
+refused-first A B o p (refusal.Fault f) h = ap (λ (o : Option Fault). or_else o p) h
+refused-first A B o p refusal.OutOfMemory h = tt
 
 -- a refusal says the same of each kind of answer
-pub refused-same : {A B : Type 0} (o : Option Fault) (e : Refusal) → Refuses {A = A} o (Err e) → Refuses {A = B} o (Err e)
-refused-same o (refusal.Fault f) h = h
-refused-same o refusal.OutOfMemory h = tt
+pub refused-same : (A B : Type 0) (o : Option Fault) (e : Refusal) → Refuses {A = A} o (Err e) → Refuses {A = B} o (Err e)
+refused-same A B o (refusal.Fault f) h = h
+refused-same A B o refusal.OutOfMemory h = tt

@@ -1,4 +1,4 @@
 pub mod Given
 pub mod Plans
 pub mod Texts
-pub mod Told
+pub mod Named

@@ -10,14 +10,13 @@ use Rattle.smv_core.specs.declared.flat.Unit.{Unit}
 use Rattle.law_obligations.specs.Outlines.{place_of, unit_in}
 use Rattle.smv_core.specs.Values.{Sizes}
 use Rattle.smv_core.specs.declared.flat.Leaf.{Leaf}
-use Rattle.smv_core.specs.declared.flat.Simple.{Simple}
 use Rattle.smv_core.specs.declared.flat.Unit.TheVariants.{Claim}
 use Rattle.smv_core.specs.declared.tree.Text.{Text}
 use Rattle.law_lists.proofs.Lists.{length_map}
 use Rattle.law_obligations.specs.Outlines.{names_of}
 use Rattle.law_obligations.specs.Soundness.{AreSizes, FlatUnit, claim_of, map_of, over_of, params_of}
 use Rattle.law_obligations.specs.Units.{units_of}
-use Rattle.law_splits.specs.Leaves.{Cut, all_params, chain, cut, leaf_of, leaves_from, name_of, nameless, new, numbered, onward_if, own_params, params_after}
+use Rattle.law_splits.specs.Leaves.{all_params, chain, cut, leaf_of, leaves_from, name_of, nameless, new, numbered, onward_if, own_params, params_after}
 use Rattle.law_sized_texts.specs.Laws.{DesignsAreExact}
 use Rattle.law_concrete.specs.Runs.{IsExact}
 use Rattle.law_valid_texts.specs.Joined.{flat_design}

@@ -1,5 +1,5 @@
 -- A plan of a text as it is decided at given sizes.
-use Rattle.std.specs.Prelude.{◌≡◌, ◌≤◌, ℕ, [], length, slice_get, take, unwrap_or, IfSome}
+use Rattle.std.specs.Prelude.{◌≤◌, ℕ, [], length, slice_get, take, unwrap_or, IfSome}
 use Rattle.smv_core.specs.Values.{Sizes}
 use Rattle.smv_core.specs.declared.flat.Design.{Design}
 use Rattle.smv_core.specs.declared.flat.Leaf.{Leaf}

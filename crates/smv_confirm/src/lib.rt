@@ -50,10 +50,10 @@ pub fn confirm(
             let place = place_named(alloc, &plan.design, plan.units.as_slice(), name)?;
             match place {
                 Some(place) => match subjects::tell(alloc, &plan, place, sizes, budgets) {
-                    Ok((params, verdict)) => Ok(Confirmed {
+                    Ok(told) => Ok(Confirmed {
                         design: plan.design,
-                        params,
-                        verdict,
+                        params: told.params,
+                        verdict: told.verdict,
                     }),
                     Err(refusal) => Err(refusal),
                 },

@@ -87,6 +87,13 @@ fn own_leaf(alloc: Global, plan: &Plan, place: usize) -> Result<Leaf, AllocError
     Ok(leaf)
 }
 
+/// What is told of a unit, and its own parameters.
+#[derive(Drop)]
+pub struct Told {
+    pub params: Seq<Param>,
+    pub verdict: Verdict,
+}
+
 /// What is told of the unit at a place of a plan, with its own parameters; or the fault for which the sizes are refused.
 pub(crate) fn tell(
     alloc: Global,
@@ -94,13 +101,13 @@ pub(crate) fn tell(
     place: usize,
     sizes: &[u16],
     budgets: Budgets,
-) -> Result<(Seq<Param>, Verdict), Refusal>
+) -> Result<Told, Refusal>
     requires ready { IsReady plan.now }
     requires place { place < length plan.now.units }
     requires sizes { AreInRange sizes.now }
     requires steps { 1 ≤ budgets.steps }
-    ensures verdict { IfOk result (λ told. IsToldAt plan.now.design (sizes_at plan.now.design.sets sizes.now) (unit_at plan.now place) budgets.nodes budgets.steps told.1) }
-    ensures params { IfOk result (λ told. told.0 ≡ (own_of plan.now place).params) }
+    ensures verdict { IfOk result (λ told. IsToldAt plan.now.design (sizes_at plan.now.design.sets sizes.now) (unit_at plan.now place) budgets.nodes budgets.steps told.verdict) }
+    ensures params { IfOk result (λ told. told.params ≡ (own_of plan.now place).params) }
     ensures refuses { Refuses (sizes_fault plan.now.design (unit_at plan.now place) sizes.now) result }
 {
     let leaf = own_leaf(alloc, plan, place)?;
@@ -120,7 +127,10 @@ pub(crate) fn tell(
         table: table.as_slice(),
     };
     match tell_subject(alloc, &subject, budgets) {
-        Ok(verdict) => Ok((leaf.params, verdict)),
+        Ok(verdict) => Ok(Told {
+            params: leaf.params,
+            verdict,
+        }),
         Err(refusal) => Err(refusal),
     }
 }

@@ -1,12 +1,15 @@
-use Rattle.std.proofs.Common.{List, None, Err, sym, ap, subst, ◌∙◌}
+use Rattle.std.proofs.Common.{List, Err, sym, ap, subst, ◌∙◌}
 use Rattle.smv_core.specs.declared.flat.Leaf.{Leaf}
 use Rattle.smv_core.specs.declared.flat.SetInfo.{SetInfo}
 use Rattle.smv_core.specs.declared.flat.Unit.{Unit as DesignUnit}
 use Rattle.law_concrete.specs.Sizes.{sizes_at, sizes_fault}
 use Rattle.law_confirmed.specs.Confirmed.{IsToldAt}
 use Rattle.law_problems.specs.Parts.{Refuses}
+use Rattle.smv_problem.specs.declared.report.Verdict.{Verdict}
 use Rattle.smv_chosen_table.specs.Tables.{AreBaseDefs}
 use Rattle.smv_concrete.specs.Subjects.{whole_types}
+use Rattle.smv_confirm.specs.Ready.{unit_at}
+use Rattle.smv_confirm.specs.declared.subjects.Told.{Told}
 use Rattle.smv_confirm.proofs.Given.{refused-same}
 use Rattle.smv_confirm.proofs.Plans.{params-of, unit-of}
 use Rattle.smv_confirm.proofs.subjects.tell.Goals as goal
@@ -37,6 +40,6 @@ returns-in-Ok-clause-refuses c =
 pub returns-in-Err-clause-refuses : goal.returns-in-Err-clause-refuses
 returns-in-Err-clause-refuses c =
     let d = c.args.plan.now.design in
-    refused-same (sizes_fault d _ c.args.sizes.now) c.in-Err.refusal
-    (subst (λ (u : DesignUnit). Refuses (sizes_fault d u c.args.sizes.now) (Err c.in-Err.refusal)) (unit-of c.args.plan.now c.requires.ready.is_whole c.args.place c.requires.place c.as_slice-4.result.now c.in_ok-leaf.leaf c.as_slice-4.ensures c.in_ok-leaf.ensures)
+    refused-same Verdict Told (sizes_fault d (unit_at c.args.plan.now c.args.place) c.args.sizes.now) c.in-Err.refusal
+    (subst (λ (u : DesignUnit). Refuses {A = Verdict} (sizes_fault d u c.args.sizes.now) (Err c.in-Err.refusal)) (unit-of c.args.plan.now c.requires.ready.is_whole c.args.place c.requires.place c.as_slice-4.result.now c.in_ok-leaf.leaf c.as_slice-4.ensures c.in_ok-leaf.ensures)
     c.in-Err.ensures.refuses)

@@ -20,4 +20,4 @@ returns-in-Ok-clause-refuses c =
 pub returns-in-Err-clause-refuses : goal.returns-in-Err-clause-refuses
 returns-in-Err-clause-refuses c =
     let s = c.args.subject.now in
-    refused-first {A = List Case} {B = Verdict} (cases_fault s.design.now (unit_of s) s.sizes.now) (width_fault s.design.now (unit_of s) s.sizes.now) c.in-Err.refusal c.in-Err.ensures.refuses
+    refused-first (List Case) Verdict (cases_fault s.design.now (unit_of s) s.sizes.now) (width_fault s.design.now (unit_of s) s.sizes.now) c.in-Err.refusal c.in-Err.ensures.refuses

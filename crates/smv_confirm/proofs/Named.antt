@@ -1,8 +1,7 @@
 -- What is told of the plan of a valid text is what the call gives of the text.
-use Rattle.std.proofs.Common.{◌≡◌, ◌<◌, ℕ, List, length, slice_get, Option, Some, None, Err, Bool, true, refl, sym, ap, subst, ◌∙◌}
-use Rattle.std.specs.Prelude.{find, is_some}
+use Rattle.std.proofs.Common.{◌≡◌, ◌<◌, ℕ, List, length, Some, None, Err, sym, ap, subst, ◌∙◌}
+use Rattle.std.specs.Prelude.{is_some}
 use Rattle.law_lists.proofs.Places.{get_within}
-use Rattle.smv_core.specs.declared.fault.Fault.{Fault}
 use Rattle.smv_core.specs.declared.fault.Refusal.{Refusal}
 use Rattle.smv_core.specs.declared.fault.Refusal.TheVariants as refusal
 use Rattle.smv_core.specs.declared.flat.Design.{Design}
@@ -13,26 +12,20 @@ use Rattle.law_obligations.specs.Outlines.{place_of}
 use Rattle.law_obligations.specs.Units.{units_of}
 use Rattle.law_problems.specs.Parts.{Refuses}
 use Rattle.law_concrete.specs.Sizes.{sizes_at, sizes_fault}
-use Rattle.law_confirmed.specs.Answers.{IsConfirmed, IsUnitFault, unnamed, unsized}
+use Rattle.law_confirmed.specs.Answers.{unnamed, unsized}
 use Rattle.law_confirmed.specs.Confirmed.{IsToldAt}
 use Rattle.law_sized_texts.specs.Laws.{DesignsAreExact}
 use Rattle.law_valid_texts.specs.Joined.{flat_design}
 use Rattle.law_valid_texts.specs.PlanLaws.{ValidTextsAreFaultless}
-use Rattle.law_valid_texts.specs.Reports.{IsValid}
 use Rattle.smv_front.specs.Plans.{IsPlan}
 use Rattle.smv_problem.specs.declared.report.Plan.{Plan}
-use Rattle.smv_read_design.specs.Answers.{HasPlan, IsFaultOf}
+use Rattle.smv_read_design.specs.Answers.{HasPlan}
 use Rattle.smv_read_design.specs.Named.{is_named}
 use Rattle.smv_read_design.specs.ReadPlanLaws.{PlansOfValidTextsAreWhole}
-use Rattle.smv_confirm.specs.Confirmations.{IsConfirmation, IsConfirmFault, of_text, of_unit}
+use Rattle.smv_confirm.specs.Confirmations.{IsConfirmation, IsConfirmFault, of_unit}
 use Rattle.smv_confirm.specs.Ready.{IsReady, own_of, unit_at}
 use Rattle.smv_confirm.specs.declared.Confirmed.{Confirmed}
 use Rattle.smv_confirm.proofs.Texts.{IsFoundAt, found-at, none-found, own-shown, ready-plan, unit-there}
-
--- a fault of the text is one of the call
-pub text-fault : {A B : Type 0} (text name given : List ℕ) (e : Refusal) → IfFault {X = A} (Err e) (IsFaultOf text) → IfFault {X = B} (Err e) (IsConfirmFault text name given)
-text-fault text name given (refusal.Fault f) h = of_text h
-text-fault text name given refusal.OutOfMemory h = tt
 
 module _ (text name given : List ℕ) (plan : Plan) (h : HasPlan text plan) where
   abbrev tree : Text
@@ -83,9 +76,9 @@ module _ (text name given : List ℕ) (plan : Plan) (h : HasPlan text plan) wher
       params = params ∙ own-shown d plan is-plan place found.0 found.1;
     }
 
-    pub unit-fault : {A B : Type 0} (e : Refusal) → Refuses {A = A} (sizes_fault plan.design (unit_at plan place) given) (Err e) → IfFault {X = B} (Err e) (IsConfirmFault text name given)
-    unit-fault (refusal.Fault f) r = of_unit (unsized tree found.0 f h.1 found.2 (sym fault-is ∙ r))
-    unit-fault refusal.OutOfMemory r = tt
+    pub unit-fault : (A B : Type 0) (e : Refusal) → Refuses {A = A} (sizes_fault plan.design (unit_at plan place) given) (Err e) → IfFault {X = B} (Err e) (IsConfirmFault text name given)
+    unit-fault A B (refusal.Fault f) r = of_unit (unsized tree found.0 f h.1 found.2 (sym fault-is ∙ r))
+    unit-fault A B refusal.OutOfMemory r = tt
 
   pub no-unit : place_of (is_named plan.design name) plan.units ≡ None → IsConfirmFault text name given (record { number = 26; at = 0 })
   no-unit e = of_unit (unnamed tree h.1 (none-found (is_named d name) (units_of d) (sym place-is ∙ e)))
