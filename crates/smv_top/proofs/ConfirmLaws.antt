@@ -13,7 +13,7 @@ use Rattle.smv_report_lines.specs.Parts.{details}
 use Rattle.law_obligations.specs.Sets.{first, later}
 use Rattle.smv_confirm.specs.declared.Confirmed.{Confirmed}
 use Rattle.smv_confirm.specs.Confirmations.{AreInRange, IsConfirmation, IsConfirmFault, of_text, of_unit as unit_refused}
-use Rattle.smv_answers.specs.Confirmations.{confirmed_heading, confirmed_status}
+use Rattle.law_answers.specs.Confirmations.{confirmed_heading, confirmed_status}
 use Rattle.smv_answers.specs.Dues.{IsDue, confirmed, of_unit}
 use Rattle.smv_top.proofs.DueLaws.{due_fault}
 

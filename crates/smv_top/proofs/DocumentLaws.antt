@@ -24,7 +24,7 @@ use Rattle.law_checked_proofs.specs.Resumed.{IsResumedProof, IsResumedReport}
 use Rattle.law_judgements.specs.Judgements.{IsFaultOf, IsJudged, Judgement, has_fault}
 use Rattle.law_judgements.specs.Judgements as judgements
 use Rattle.law_judgements.specs.Judgements.Judgement.{form, design}
-use Rattle.smv_answers.specs.DocumentDues.{IsOld, HasNoOld, check_limit, resume_limit, documented, open_report, refused_text, too_long_to_check, judged, refused_design, too_long_to_resume, not_old, refused_new, resumed, open_resumed, status_by, judged_text, is_of_design}
+use Rattle.law_document_answers.specs.Dues.{IsOld, HasNoOld, check_limit, resume_limit, documented, open_report, refused_text, too_long_to_check, judged, refused_design, too_long_to_resume, not_old, refused_new, resumed, open_resumed, status_by, judged_text, is_of_design}
 use Rattle.smv_answers.specs.Dues as dues
 use Rattle.smv_answers.specs.Dues.{IsDue, IsFault, decides, of_documents, is_false, is_unknown, lines_for, status_of}
 

@@ -17,9 +17,9 @@ use Rattle.smv_command.specs.declared.exit.Status.TheVariants.{AllProved, SomeFa
 use Rattle.smv_answers.specs.Reports.{IsSoundDesign}
 use Rattle.law_judgements.specs.Judgements.{Judgement}
 use Rattle.law_judgements.specs.Judgements.Judgement.{yes, form, design, set}
-use Rattle.smv_answers.specs.DocumentDues.{IsDocumentDue, documented, open_report, refused_text, too_long_to_check, judged, refused_design, too_long_to_resume, not_old, refused_new, resumed, open_resumed, status_by}
+use Rattle.law_document_answers.specs.Dues.{IsDocumentDue, documented, open_report, refused_text, too_long_to_check, judged, refused_design, too_long_to_resume, not_old, refused_new, resumed, open_resumed, status_by}
 use Rattle.smv_answers.specs.Dues.{IsDue, IsDueTo, confirmed, decided, of_documents, printed, refused, is_false, is_unknown, proved_by, status_of, Gave, Ends}
-use Rattle.smv_answers.specs.Confirmations.{confirmed_status}
+use Rattle.law_answers.specs.Confirmations.{confirmed_status}
 use Rattle.smv_answers.specs.Laws.{CheckedDocumentIsSound, DocumentedTextIsSound, HoldsAsAsked, HoldsHereIsSo, HoldsSound, OneStatus, ProvedIsSound, RealIsSo, RenewsSound, ResumedDocumentIsSound}
 use Rattle.smv_top.specs.Clauses.{Completes, ShowsReal}
 
