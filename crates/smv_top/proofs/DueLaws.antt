@@ -79,6 +79,9 @@ due_no_unit command text name budgets due answer asks none e f = rw asks (due_na
 pub decides_one : (command : Command) (name : List ℕ) (budgets : Budgets) → command ≡ Only name budgets → decides command ≡ true
 decides_one command name budgets asks = rw asks refl
 
+pub own_one : (command : Command) (name : List ℕ) (budgets : Budgets) → command ≡ Only name budgets → is_of_documents command ≡ false
+own_one command name budgets asks = rw asks refl
+
 -- the same, of equal bytes
 pub due_at : (command : Command) (text other : List ℕ) (due : Status) (answer written : List ℕ) → text ≡ other → answer ≡ written → IsDue command text due answer → IsDue command other due written
 due_at command text other due answer written same is owed = subst (λ t. IsDue command t due written) same (subst (λ a. IsDue command text due a) is owed)
