@@ -10,10 +10,11 @@ use Rattle.smv_command.specs.declared.exit.Status.TheVariants as status
 use Rattle.smv_command.specs.Ranges.{AreSizes}
 use Rattle.smv_report.specs.Lines.{fault_text}
 use Rattle.smv_report_lines.specs.Parts.{details}
+use Rattle.law_valid_texts.specs.Joined.{flat_design}
 use Rattle.law_obligations.specs.Sets.{first, later}
 use Rattle.smv_confirm.specs.declared.Confirmed.{Confirmed}
 use Rattle.smv_confirm.specs.Confirmations.{AreInRange, IsConfirmation, IsConfirmFault, of_text, of_unit as unit_refused}
-use Rattle.smv_answers.specs.Confirmations.{confirmed_heading, confirmed_status}
+use Rattle.law_answers.specs.Confirmations.{confirmed_heading, confirmed_status}
 use Rattle.smv_answers.specs.Dues.{IsDue, confirmed, of_unit}
 use Rattle.smv_top.proofs.DueLaws.{due_fault}
 
@@ -27,7 +28,7 @@ module _ (text name sizes : List ℕ) (budgets : Budgets) (due : Status) (answer
   pub due_confirmed : (c : Confirmed) → IsConfirmation text name sizes budgets.nodes budgets.steps c → due ≡ confirmed_status c.verdict → answer ≡ confirmed_heading name c.verdict ++ details c.design c.params c.verdict →
       IsDue (Confirm name sizes budgets) text due answer
   due_confirmed c is e f =
-      let g = f ∙ (ap (λ (d : Design). confirmed_heading name c.verdict ++ details d c.params c.verdict) is.design ∙ ap (λ (params : List Param). confirmed_heading name c.verdict ++ details _ params c.verdict) is.params) in
+      let g = f ∙ (ap (λ (d : Design). confirmed_heading name c.verdict ++ details d c.params c.verdict) is.design ∙ ap (λ (params : List Param). confirmed_heading name c.verdict ++ details (flat_design is.tree) params c.verdict) is.params) in
       rw e (rw g (confirmed name sizes budgets is.tree is.unit c.verdict is.is_valid is.is_called is.is_confirmed))
 
   pub due_refused : (fault : Fault) → IsConfirmFault text name sizes fault → due ≡ status.Refused → answer ≡ fault_text text fault.number fault.at → IsDue (Confirm name sizes budgets) text due answer

@@ -24,7 +24,7 @@ use Rattle.law_checked_proofs.specs.Resumed.{IsResumedProof, IsResumedReport}
 use Rattle.law_judgements.specs.Judgements.{IsFaultOf, IsJudged, Judgement, has_fault}
 use Rattle.law_judgements.specs.Judgements as judgements
 use Rattle.law_judgements.specs.Judgements.Judgement.{form, design}
-use Rattle.smv_answers.specs.DocumentDues.{IsOld, HasNoOld, check_limit, resume_limit, documented, open_report, refused_text, too_long_to_check, judged, refused_design, too_long_to_resume, not_old, refused_new, resumed, open_resumed, status_by, judged_text, is_of_design}
+use Rattle.law_document_answers.specs.Dues.{IsOld, HasNoOld, check_limit, resume_limit, documented, open_report, refused_text, too_long_to_check, judged, refused_design, too_long_to_resume, not_old, refused_new, resumed, open_resumed, status_by, judged_text, is_of_design}
 use Rattle.smv_answers.specs.Dues as dues
 use Rattle.smv_answers.specs.Dues.{IsDue, IsFault, decides, of_documents, is_false, is_unknown, lines_for, status_of}
 
@@ -34,7 +34,7 @@ module _ (budgets : Budgets) (text : List ℕ) (due : Status) (answer : List ℕ
 
   pub due_open : (report : Report) → IsRightReport text budgets.nodes budgets.steps report → status_of status.Documented report ≢ status.Documented → due ≡ status_of status.Documented report → answer ≡ lines_for (Proof budgets) report →
       IsDue (Proof budgets) text due answer
-  due_open report is open e f = rw e (rw f (of_documents (open_report budgets report is open)))
+  due_open report is some_not e f = rw e (rw f (of_documents (open_report budgets report is some_not)))
 
   pub due_refused_text : (number at : ℕ) → IsFaultOf text number at → due ≡ status.Refused → answer ≡ fault_text text number at → IsDue (Proof budgets) text due answer
   due_refused_text number at fault e f = rw e (rw f (of_documents (refused_text budgets number at fault)))
@@ -67,9 +67,9 @@ module _ (budgets : Budgets) (bytes : List ℕ) (due : Status) (answer : List �
 
   pub due_open_resumed : (old text : List ℕ) (proof : Document) (report : Report) → length bytes ≤ resume_limit → IsOld bytes old text → Spells old proof → IsResumedReport proof.sets budgets.nodes budgets.steps text report →
       status_of status.Resumed report ≢ status.Resumed → due ≡ status_of status.Resumed report → answer ≡ lines_for (Resume budgets) report → IsDue (Resume budgets) bytes due answer
-  due_open_resumed old text proof report within is spells told open e f = rw e (rw f (of_documents (open_resumed budgets old text proof report within is spells told open)))
+  due_open_resumed old text proof report within is spells told some_not e f = rw e (rw f (of_documents (open_resumed budgets old text proof report within is spells told some_not)))
 
--- ---- what is kept, what is open
+-- ---- what is kept, what is some_not
 
 -- a report of which not each unit is true has not the status of one of which each is
 open_status : (proved : Status) (report : Report) → proved ≢ status.SomeFalse → proved ≢ status.SomeUnknown → (AllTrueUnits report.units → ⊥) → status_of proved report ≢ proved

@@ -16,7 +16,7 @@ use Rattle.smv_command.specs.declared.exit.Status.{Status}
 use Rattle.smv_command.specs.declared.exit.Status.TheVariants as status
 use Rattle.smv_gen.specs.Generated.{generated_text}
 use Rattle.smv_answers.specs.Reports.{IsUnitReport, HasNoUnit}
-use Rattle.smv_answers.specs.DocumentDues.{refused_text, too_long_to_check, too_long_to_resume}
+use Rattle.law_document_answers.specs.Dues.{refused_text, too_long_to_check, too_long_to_resume}
 use Rattle.law_judgements.specs.Judgements as judgement
 use Rattle.smv_answers.specs.Dues.{IsDue, IsDueTo, IsFault, IsReportFor, text_for, usage_line, decided, printed, refused, too_long, malformed, unnamed, decides, is_of_documents, length_fault, limit, limit_for, of_documents, lines_for, proved_by, status_of}
 
@@ -78,6 +78,9 @@ due_no_unit command text name budgets due answer asks none e f = rw asks (due_na
 
 pub decides_one : (command : Command) (name : List ℕ) (budgets : Budgets) → command ≡ Only name budgets → decides command ≡ true
 decides_one command name budgets asks = rw asks refl
+
+pub own_one : (command : Command) (name : List ℕ) (budgets : Budgets) → command ≡ Only name budgets → is_of_documents command ≡ false
+own_one command name budgets asks = rw asks refl
 
 -- the same, of equal bytes
 pub due_at : (command : Command) (text other : List ℕ) (due : Status) (answer written : List ℕ) → text ≡ other → answer ≡ written → IsDue command text due answer → IsDue command other due written

@@ -17,9 +17,9 @@ use Rattle.smv_command.specs.declared.exit.Status.TheVariants.{AllProved, SomeFa
 use Rattle.smv_answers.specs.Reports.{IsSoundDesign}
 use Rattle.law_judgements.specs.Judgements.{Judgement}
 use Rattle.law_judgements.specs.Judgements.Judgement.{yes, form, design, set}
-use Rattle.smv_answers.specs.DocumentDues.{IsDocumentDue, documented, open_report, refused_text, too_long_to_check, judged, refused_design, too_long_to_resume, not_old, refused_new, resumed, open_resumed, status_by}
+use Rattle.law_document_answers.specs.Dues.{IsDocumentDue, documented, open_report, refused_text, too_long_to_check, judged, refused_design, too_long_to_resume, not_old, refused_new, resumed, open_resumed, status_by}
 use Rattle.smv_answers.specs.Dues.{IsDue, IsDueTo, confirmed, decided, of_documents, printed, refused, is_false, is_unknown, proved_by, status_of, Gave, Ends}
-use Rattle.smv_answers.specs.Confirmations.{confirmed_status}
+use Rattle.law_answers.specs.Confirmations.{confirmed_status}
 use Rattle.smv_answers.specs.Laws.{CheckedDocumentIsSound, DocumentedTextIsSound, HoldsAsAsked, HoldsHereIsSo, HoldsSound, OneStatus, ProvedIsSound, RealIsSo, RenewsSound, ResumedDocumentIsSound}
 use Rattle.smv_top.specs.Clauses.{Completes, ShowsReal}
 
@@ -83,7 +83,7 @@ of_verdict (verdict.UnknownSteps case) = refl
 
 of_document : (command : Command) (text : List ℕ) (due : Status) (answer : List ℕ) → IsDocumentDue command text due answer → is_answered due ≡ true
 of_document _ text _ _ (documented budgets proof is) = refl
-of_document _ text _ _ (open_report budgets report right open) = of_report Documented report refl
+of_document _ text _ _ (open_report budgets report right some_not) = of_report Documented report refl
 of_document _ text _ _ (refused_text budgets number at fault) = refl
 of_document _ text _ _ (too_long_to_check long) = refl
 of_document _ text _ _ (judged j within is not) = of_judgement j
@@ -92,7 +92,7 @@ of_document _ text _ _ (too_long_to_resume budgets long) = refl
 of_document _ text _ _ (not_old budgets within none) = refl
 of_document _ text _ _ (refused_new budgets old new proof number at within is spells fault) = refl
 of_document _ text _ _ (resumed budgets old new proof made within is spells is_new) = refl
-of_document _ text _ _ (open_resumed budgets old new proof report within is spells told open) = of_report all_resumed report refl
+of_document _ text _ _ (open_resumed budgets old new proof report within is spells told some_not) = of_report all_resumed report refl
 
 of_command : (command : Command) (text : List ℕ) (due : Status) (answer : List ℕ) → IsDue command text due answer → is_answered due ≡ true
 of_command command text _ _ (decided report is) = of_report (proved_by command) report (is_own command)

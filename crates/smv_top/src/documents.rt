@@ -5,7 +5,7 @@ ghost use Rattle.smv_proof.specs.Olds.{IsOld};
 ghost use Rattle.smv_command.specs.Ranges.{AreInRange};
 ghost use Rattle.smv_command.specs.declared.commands.Command.TheVariants as variant;
 ghost use Rattle.smv_answers.specs.Dues.{IsDue};
-ghost use Rattle.smv_answers.specs.DocumentDues.{check_limit, resume_limit};
+ghost use Rattle.law_document_answers.specs.Dues.{check_limit, resume_limit};
 
 use crate::limits::{CHECK_LIMIT, DOCUMENT_TOO_LONG, LIMIT, RESUME_LIMIT, TOO_LONG};
 use law_checked_proofs::resumed::resumed_proofs_are_checked;

@@ -14,5 +14,5 @@ returns-in-Ok c =
 pub returns-in-Err-Fault : goal.returns-in-Err-Fault
 returns-in-Err-Fault c =
     let bad = fault_of Report _ c.in-Err-Fault.fault (λ f. (command : Command) → decides command ≡ true → IsFault command c.args.text.now f.number f.at) c.in-Err-Fault.field-0-is (rw c.in-Err-Fault.is at c.prove.ensures.fault) in
-    if_ok_both c.refused.result _ _ _ (λ a s b. due_fault c.args.command.now c.args.text.now c.in-Err-Fault.fault.number c.in-Err-Fault.fault.at a.status a.bytes.items (bad c.args.command.now c.requires.decides) s b)
-    c.refused.ensures.status c.refused.ensures.bytes
+    if_ok_both c.refused-in-Err-Fault.result _ _ _ (λ a s b. due_fault c.args.command.now c.args.text.now c.in-Err-Fault.fault.number c.in-Err-Fault.fault.at a.status a.bytes.items c.requires.own (bad c.args.command.now c.requires.decides) s b)
+    c.refused-in-Err-Fault.ensures.status c.refused-in-Err-Fault.ensures.bytes

@@ -2,7 +2,7 @@ use Rattle.std.proofs.Common.{◌<◌, length, arith, refl, ap, Err}
 use Rattle.law_lists.proofs.Options.{if_ok_both}
 use Rattle.law_judgements.specs.Judgements.{not_spelled}
 use Rattle.law_judgements.specs.Judgements.Judgement.{form}
-use Rattle.smv_answers.specs.DocumentDues.{check_limit}
+use Rattle.law_document_answers.specs.Dues.{check_limit}
 use Rattle.smv_top.proofs.DocumentLaws.{due_judged, due_too_long_to_check}
 use Rattle.smv_top.proofs.documents.checked.Goals as goal
 

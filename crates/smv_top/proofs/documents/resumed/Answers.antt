@@ -1,6 +1,6 @@
 use Rattle.std.proofs.Common.{◌<◌, length, arith}
 use Rattle.law_lists.proofs.Options.{if_ok_both}
-use Rattle.smv_answers.specs.DocumentDues.{resume_limit}
+use Rattle.law_document_answers.specs.Dues.{resume_limit}
 use Rattle.smv_top.proofs.DocumentLaws.{due_not_old, due_too_long_to_resume, no_old}
 use Rattle.smv_top.proofs.documents.resumed.Goals as goal
 
