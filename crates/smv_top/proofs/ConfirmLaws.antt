@@ -1,5 +1,5 @@
 -- What is due where a unit is decided at given sizes, by what was found.
-use Rattle.std.proofs.Common.{◌≡◌, ◌∙◌, ◌++◌, ℕ, suc, List, [], ◌∷◌, ap, refl, arith}
+use Rattle.std.proofs.Common.{◌≡◌, ◌∙◌, ◌++◌, ℕ, suc, List, [], ◌∷◌, ap, refl, subst, arith}
 use Rattle.smv_core.specs.declared.fault.Fault.{Fault}
 use Rattle.smv_core.specs.declared.flat.Design.{Design}
 use Rattle.smv_core.specs.declared.flat.Param.{Param}
@@ -30,6 +30,11 @@ module _ (text name sizes : List ℕ) (budgets : Budgets) (due : Status) (answer
   due_confirmed c is e f =
       let g = f ∙ (ap (λ (d : Design). confirmed_heading name c.verdict ++ details d c.params c.verdict) is.design ∙ ap (λ (params : List Param). confirmed_heading name c.verdict ++ details (flat_design is.tree) params c.verdict) is.params) in
       rw e (rw g (confirmed name sizes budgets is.tree is.unit c.verdict is.is_valid is.is_called is.is_confirmed))
+
+  -- the same, by a name of equal bytes
+  pub due_told : (c : Confirmed) (called : List ℕ) → IsConfirmation text name sizes budgets.nodes budgets.steps c → called ≡ name → due ≡ confirmed_status c.verdict →
+      answer ≡ confirmed_heading called c.verdict ++ details c.design c.params c.verdict → IsDue (Confirm name sizes budgets) text due answer
+  due_told c called is same e f = due_confirmed c is e (subst (λ (x : List ℕ). answer ≡ confirmed_heading x c.verdict ++ details c.design c.params c.verdict) same f)
 
   pub due_refused : (fault : Fault) → IsConfirmFault text name sizes fault → due ≡ status.Refused → answer ≡ fault_text text fault.number fault.at → IsDue (Confirm name sizes budgets) text due answer
   due_refused fault (of_text is) e f = due_fault (Confirm name sizes budgets) text fault.number fault.at due answer refl (is (Confirm name sizes budgets) refl) e f

@@ -1,5 +1,5 @@
 -- What is due to the commands on proof documents, by what was found.
-use Rattle.std.proofs.Common.{◌≡◌, ◌∙◌, ◌≤◌, ◌<◌, ℕ, Bool, List, [], length, true, false, Option, Some, IfSome, Result, Ok, Err, refl, sym, ap, subst, arith}
+use Rattle.std.proofs.Common.{◌≡◌, ◌∙◌, ◌≤◌, ◌<◌, ℕ, Bool, List, [], length, true, false, Option, Some, IfSome, Result, Ok, Err, refl, sym, ap, subst, arith, true≢false}
 use Rattle.std.specs.Prelude.{◌≢◌, if◌then◌else◌}
 use Rattle.std.specs.List.{list_any}
 use Rattle.smv_report.specs.Lines.{fault_text}
@@ -49,6 +49,11 @@ module _ (bytes : List ℕ) (due : Status) (answer : List ℕ) where
   pub due_refused_design : (proof : Document) (number at : ℕ) → length bytes ≤ check_limit → Spells bytes proof → IsFaultOf proof.design number at → due ≡ status.Refused → answer ≡ fault_text proof.design number at →
       IsDue Check bytes due answer
   due_refused_design proof number at within spells fault e f = rw e (rw f (of_documents (refused_design proof number at within spells fault)))
+
+  -- the same, where the design is that of equal bytes
+  pub due_refused_bytes : (proof : Document) (held : List ℕ) (number at : ℕ) → length bytes ≤ check_limit → Spells bytes proof → IsFaultOf proof.design number at → held ≡ proof.design → due ≡ status.Refused →
+      answer ≡ fault_text held number at → IsDue Check bytes due answer
+  due_refused_bytes proof held number at within spells fault same e f = due_refused_design proof number at within spells fault e (subst (λ (d : List ℕ). answer ≡ fault_text d number at) same f)
 
 module _ (budgets : Budgets) (bytes : List ℕ) (due : Status) (answer : List ℕ) where
   pub due_too_long_to_resume : resume_limit < length bytes → due ≡ status.Refused → answer ≡ fault_text bytes 33 0 → IsDue (Resume budgets) bytes due answer
@@ -107,7 +112,7 @@ no_old bytes old text is none other new proof is_too spells = none_at other (one
 
 -- ---- the fault of a text
 
-is_prove : Command → Bool
+abbrev is_prove : Command → Bool
 is_prove (Prove budgets) = true
 is_prove _ = false
 
@@ -115,8 +120,8 @@ fault_judged : (command : Command) (text : List ℕ) (number at : ℕ) → is_pr
 fault_judged command text _ _ e (dues.too_long long) = judgements.too_long long
 fault_judged command text _ _ e (dues.malformed number at within fault) = judgements.malformed number at within fault
 fault_judged command text _ _ e (dues.faulty tree fault deciding is found) = judgements.faulty tree fault is found
-fault_judged _ text _ _ e (dues.unnamed name nodes steps none) = absurd (cc (e))
-fault_judged _ text _ _ e (dues.of_unit name sizes budgets number at is) = absurd (cc (e))
+fault_judged _ text _ _ e (dues.unnamed name nodes steps none) = absurd (true≢false (sym e))
+fault_judged _ text _ _ e (dues.of_unit name sizes budgets number at is) = absurd (true≢false (sym e))
 
 pub text_fault : (text : List ℕ) (fault : Fault) → ((command : Command) → decides command ≡ true → IsFault command text fault.number fault.at) → IsFaultOf text fault.number fault.at
 text_fault text fault is = fault_judged (Prove (record { nodes = 1; steps = 1 })) text fault.number fault.at refl (is (Prove (record { nodes = 1; steps = 1 })) refl)

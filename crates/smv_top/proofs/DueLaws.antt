@@ -18,6 +18,7 @@ use Rattle.smv_gen.specs.Generated.{generated_text}
 use Rattle.smv_answers.specs.Reports.{IsUnitReport, HasNoUnit}
 use Rattle.law_document_answers.specs.Dues.{refused_text, too_long_to_check, too_long_to_resume}
 use Rattle.law_judgements.specs.Judgements as judgement
+use Rattle.smv_top.specs.Refusals.{IsRefused}
 use Rattle.smv_answers.specs.Dues.{IsDue, IsDueTo, IsFault, IsReportFor, text_for, usage_line, decided, printed, refused, too_long, malformed, unnamed, decides, is_of_documents, length_fault, limit, limit_for, of_documents, lines_for, proved_by, status_of}
 
 pub due_report : (command : Command) (text : List ℕ) (report : Report) (due : Status) (answer : List ℕ) → IsReportFor command text report → due ≡ status_of (proved_by command) report → answer ≡ lines_for command report → IsDue command text due answer
@@ -41,6 +42,16 @@ due_name text name budgets due answer none e f = due_fault (Only name budgets) t
 -- the fault that a call answers
 pub fault_of : (X : Type 0) (r : Refusal) (f : Fault) (P : Fault → Type 0) → r ≡ refusal.Fault f → IfFault {X = X} (Err r) P → P f
 fault_of X r f P is bad = subst (λ (z : Refusal). IfFault {X = X} (Err z) P) is bad
+
+-- the answer to a refusal by a fault
+pub is_refused : (text : List ℕ) (r : Refusal) (f : Fault) (due : Status) (answer : List ℕ) → r ≡ refusal.Fault f → due ≡ status.Refused → answer ≡ fault_text text f.number f.at → IsRefused text r due answer
+is_refused text r f due answer is e g = subst (λ (x : Refusal). IsRefused text x due answer) (sym is) (e, g)
+
+-- what is due by a refusal, where it is due by each fault that is answered
+pub due_by_refusal : (X : Type 0) (text : List ℕ) (r : Refusal) (P : Fault → Type 0) (D : Status → List ℕ → Type 0) →
+    ((f : Fault) → P f → (due : Status) (answer : List ℕ) → due ≡ status.Refused → answer ≡ fault_text text f.number f.at → D due answer) → IfFault {X = X} (Err r) P → (due : Status) (answer : List ℕ) → IsRefused text r due answer → D due answer
+due_by_refusal X text (refusal.Fault f) P D gives bad due answer is = gives f bad due answer is.0 is.1
+due_by_refusal X text refusal.OutOfMemory P D gives bad due answer is = absurd is
 
 -- words that are no command
 pub due_usage : (command : Option Command) (text answer : List ℕ) → command ≡ None → answer ≡ usage_line → IsDueTo command text status.Usage answer

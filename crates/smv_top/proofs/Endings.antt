@@ -45,7 +45,7 @@ of_told (Some told) P Q some all = subst Q some.1 (all some.0 some.2)
 -- ---- the answer was taken, or a front of it
 
 -- a status under which an answer is written whole
-abbrev is_answered : Status → Bool
+abbrev pub is_answered : Status → Bool
 is_answered ReadFault = false
 is_answered WriteFault = false
 is_answered OutOfMemory = false
@@ -60,6 +60,15 @@ is_own (Proof budgets) = refl
 is_own Check = refl
 is_own (Resume budgets) = refl
 is_own (Confirm name sizes budgets) = refl
+
+-- the two statuses under which nothing is written
+abbrev is_read : Status → Bool
+is_read ReadFault = true
+is_read _ = false
+
+abbrev is_memory : Status → Bool
+is_memory OutOfMemory = true
+is_memory _ = false
 
 of_report : (proved : Status) (report : Report) → is_answered proved ≡ true → is_answered (status_of proved report) ≡ true
 of_report proved report own = by (list_any (λ u. is_false u.verdict) report.units) (list_any (λ u. is_unknown u.verdict) report.units)
@@ -100,6 +109,17 @@ of_command _ text _ _ (printed tree is) = refl
 of_command command text _ _ (refused number at own fault) = refl
 of_command command text due answer (of_documents is) = of_document command text due answer is
 of_command _ text _ _ (confirmed name sizes budgets tree unit told valid called is) = of_verdict told
+
+-- a status under which no answer is written whole is never owed
+pub owed_not : (command : Command) (text : List ℕ) (due : Status) (answer : List ℕ) (other : Status) → IsDue command text due answer → is_answered other ≡ false → due ≢ other
+owed_not command text due answer other is never e = true≢false (sym (of_command command text due answer is) ∙ (ap is_answered e ∙ never))
+
+-- nor is it answered, where what is owed was written, or was not for a fault of the sink
+pub never_unwritten : (command : Command) (text : List ℕ) (due : Status) (answer : List ℕ) (r : Status) → IsDue command text due answer → (r ≡ due) ⊎ (r ≡ WriteFault) → (r ≡ ReadFault) ⊎ (r ≡ OutOfMemory) → ⊥
+never_unwritten command text due answer r is (inl e) (inl f) = owed_not command text due answer ReadFault is refl (sym e ∙ f)
+never_unwritten command text due answer r is (inl e) (inr f) = owed_not command text due answer OutOfMemory is refl (sym e ∙ f)
+never_unwritten command text due answer r is (inr e) (inl f) = true≢false (ap is_read (sym f ∙ e))
+never_unwritten command text due answer r is (inr e) (inr f) = true≢false (ap is_memory (sym f ∙ e))
 
 answers : (command : Option Command) (text : List ℕ) (due : Status) (answer : List ℕ) → IsDueTo command text due answer → is_answered due ≡ true
 answers None text due answer is = ap is_answered is.0

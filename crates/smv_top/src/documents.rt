@@ -8,6 +8,7 @@ ghost use Rattle.smv_answers.specs.Dues.{IsDue};
 ghost use Rattle.law_document_answers.specs.Dues.{check_limit, resume_limit};
 
 use crate::limits::{CHECK_LIMIT, DOCUMENT_TOO_LONG, LIMIT, RESUME_LIMIT, TOO_LONG};
+use crate::refusals::refused_by;
 use law_checked_proofs::resumed::resumed_proofs_are_checked;
 use smv_answers::{
     Answer, checked as accepted, documented as written, refused, rejected_form, rejected_set,
@@ -15,7 +16,6 @@ use smv_answers::{
 };
 use smv_check::{CheckError, check_proof};
 use smv_command::{Command, Status};
-use smv_core::Refusal;
 use smv_problem::Budgets;
 use smv_proof::laws::readings_are_spelled;
 use smv_proof::{Proof, ProofError};
@@ -39,8 +39,7 @@ pub fn documented(alloc: Global, text: &[u8], budgets: Budgets) -> Result<Answer
             let command = Command::Proof { budgets };
             reported(alloc, &command, &report)
         }
-        Err(Refusal::Fault(fault)) => refused(alloc, text, fault),
-        Err(Refusal::OutOfMemory) => Err(AllocError),
+        Err(refusal) => refused_by(alloc, text, refusal),
     }
 }
 
@@ -116,7 +115,6 @@ fn renewed(
             let command = Command::Resume { budgets };
             reported(alloc, &command, &report)
         }
-        Err(Refusal::Fault(fault)) => refused(alloc, text, fault),
-        Err(Refusal::OutOfMemory) => Err(AllocError),
+        Err(refusal) => refused_by(alloc, text, refusal),
     }
 }

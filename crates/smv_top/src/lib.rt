@@ -21,6 +21,7 @@ mod answers;
 mod confirmations;
 mod documents;
 mod limits;
+mod refusals;
 
 use answers::answer_to;
 use limits::{CHECK_LIMIT, LIMIT, RESUME_LIMIT};

@@ -1,10 +1,15 @@
-use Rattle.std.proofs.Common.{◌≡◌, true}
+use Rattle.std.proofs.Common.{◌≡◌, ◌<◌, length, arith, true}
 use Rattle.law_lists.proofs.Options.{if_ok_both}
 use Rattle.smv_problem.specs.declared.report.Report.{Report}
 use Rattle.smv_command.specs.declared.commands.Command.{Command}
-use Rattle.smv_answers.specs.Dues.{IsFault, decides}
-use Rattle.smv_top.proofs.DueLaws.{due_report, due_fault, fault_of}
+use Rattle.smv_answers.specs.Dues.{IsFault, decides, limit}
+use Rattle.smv_top.proofs.DueLaws.{due_report, due_fault, due_length, fault_of}
 use Rattle.smv_top.proofs.answers.decided.Goals as goal
+
+pub returns-then-text-gt-LIMIT : goal.returns-then-text-gt-LIMIT
+returns-then-text-gt-LIMIT c =
+    let long : limit < length c.args.text.now = grind (arith, c.if-text-gt-LIMIT.true) in
+    if_ok_both c.refused.result _ _ _ (λ a s b. due_length c.args.command.now c.args.text.now a.status a.bytes.items c.requires.own long s b) c.refused.ensures.status c.refused.ensures.bytes
 
 pub returns-in-Ok : goal.returns-in-Ok
 returns-in-Ok c =

@@ -1,11 +1,16 @@
-use Rattle.std.proofs.Common.{◌≡◌, subst, true, Option}
+use Rattle.std.proofs.Common.{◌≡◌, ◌<◌, length, arith, subst, true, Option}
 use Rattle.law_lists.proofs.Options.{if_ok_both}
 use Rattle.smv_problem.specs.declared.report.Report.{Report}
 use Rattle.smv_command.specs.declared.commands.Command.{Command}
 use Rattle.smv_answers.specs.Reports.{IsUnitReport, HasNoUnit}
-use Rattle.smv_answers.specs.Dues.{IsFault, decides}
-use Rattle.smv_top.proofs.DueLaws.{due_report, due_fault, due_no_unit, report_of_unit, decides_one, own_one, fault_of}
+use Rattle.smv_answers.specs.Dues.{IsFault, decides, limit}
+use Rattle.smv_top.proofs.DueLaws.{due_report, due_fault, due_length, due_no_unit, report_of_unit, decides_one, own_one, fault_of}
 use Rattle.smv_top.proofs.answers.one_decided.Goals as goal
+
+pub returns-then-text-gt-LIMIT : goal.returns-then-text-gt-LIMIT
+returns-then-text-gt-LIMIT c =
+    let long : limit < length c.args.text.now = grind (arith, c.if-text-gt-LIMIT.true) in
+    if_ok_both c.refused.result _ _ _ (λ a s b. due_length c.args.command.now c.args.text.now a.status a.bytes.items (own_one c.args.command.now _ _ c.requires.asks) long s b) c.refused.ensures.status c.refused.ensures.bytes
 
 pub returns-in-Ok-Some : goal.returns-in-Ok-Some
 returns-in-Ok-Some c =
