@@ -26,6 +26,6 @@ pub returns-in-Err : goal.returns-in-Err
 returns-in-Err c =
     if_ok_both c.refused_by.result _ _ _
     (λ a s b. due_by_refusal Confirmed c.args.text.now c.in-Err.refusal (IsConfirmFault c.args.text.now c.as_bytes-name.result.now c.args.sizes.now) (IsDue (Confirm c.args.name.now c.args.sizes.now c.args.budgets) c.args.text.now)
-        (λ f bad st an e g. due_refused c.args.text.now c.args.name.now c.args.sizes.now c.args.budgets st an f (subst (λ (name : List ℕ). IsConfirmFault c.args.text.now name c.args.sizes.now f) c.as_bytes-name.ensures bad) e g)
-        (rw c.in-Err.is at c.confirm.ensures.fault) a.status a.bytes.items s)
+    (λ f bad st an e g. due_refused c.args.text.now c.args.name.now c.args.sizes.now c.args.budgets st an f (subst (λ (name : List ℕ). IsConfirmFault c.args.text.now name c.args.sizes.now f) c.as_bytes-name.ensures bad) e g)
+    (rw c.in-Err.is at c.confirm.ensures.fault) a.status a.bytes.items s)
     c.refused_by.ensures c.refused_by.ensures

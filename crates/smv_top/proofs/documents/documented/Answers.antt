@@ -33,5 +33,5 @@ pub returns-in-Err : goal.returns-in-Err
 returns-in-Err c =
     if_ok_both c.refused_by.result _ _ _
     (λ a s b. due_by_refusal Kept c.args.text.now c.in-Err.refusal (λ f. (command : Command) → decides command ≡ true → IsFault command c.args.text.now f.number f.at) (IsDue (Proof c.args.budgets) c.args.text.now)
-        (λ f bad st an e g. due_refused_text c.args.budgets c.args.text.now st an f.number f.at (text_fault c.args.text.now f bad) e g) (rw c.in-Err.is at c.keep.ensures.fault) a.status a.bytes.items s)
+    (λ f bad st an e g. due_refused_text c.args.budgets c.args.text.now st an f.number f.at (text_fault c.args.text.now f bad) e g) (rw c.in-Err.is at c.keep.ensures.fault) a.status a.bytes.items s)
     c.refused_by.ensures c.refused_by.ensures

@@ -3,7 +3,7 @@ use Rattle.law_lists.proofs.Options.{if_ok_both}
 use Rattle.law_judgements.specs.Judgements.Judgement.{yes, form, design, set}
 use Rattle.smv_check.specs.declared.errors.CheckError.TheVariants as wrong
 use Rattle.smv_check.proofs.Told.{few_sets}
-use Rattle.smv_top.proofs.DocumentLaws.{design_fault, due_judged, due_refused_bytes,  judged_is}
+use Rattle.smv_top.proofs.DocumentLaws.{design_fault, due_judged, due_refused_bytes, judged_is}
 use Rattle.smv_top.proofs.documents.judged.Goals as goal
 
 pub check_proof-requires-clause-proof : goal.check_proof-requires-clause-proof

@@ -39,6 +39,6 @@ pub returns-in-Err : goal.returns-in-Err
 returns-in-Err c =
     if_ok_both c.refused_by.result _ _ _
     (λ a s b. due_by_refusal Kept c.args.text.now c.in-Err.refusal (λ f. (command : Command) → decides command ≡ true → IsFault command c.args.text.now f.number f.at) (IsDue (Resume c.args.budgets) c.args.bytes.now)
-        (λ f bad st an e g. due_refused_new c.args.budgets c.args.bytes.now st an c.args.old.now c.args.text.now c.args.proof.now f.number f.at c.requires.within c.requires.held c.requires.spells (text_fault c.args.text.now f bad) e g)
-        (rw c.in-Err.is at c.resume.ensures.fault) a.status a.bytes.items s)
+    (λ f bad st an e g. due_refused_new c.args.budgets c.args.bytes.now st an c.args.old.now c.args.text.now c.args.proof.now f.number f.at c.requires.within c.requires.held c.requires.spells (text_fault c.args.text.now f bad) e g)
+    (rw c.in-Err.is at c.resume.ensures.fault) a.status a.bytes.items s)
     c.refused_by.ensures c.refused_by.ensures
