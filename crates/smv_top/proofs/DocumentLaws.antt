@@ -1,5 +1,5 @@
 -- What is due to the commands on proof documents, by what was found.
-use Rattle.std.proofs.Common.{◌≡◌, ◌∙◌, ◌≤◌, ◌<◌, ℕ, Bool, List, [], length, true, false, Option, Some, IfSome, Result, Ok, Err, refl, sym, ap, subst, arith, true≢false}
+use Rattle.std.proofs.Common.{◌≡◌, ◌∙◌, ◌≤◌, ◌<◌, ℕ, Bool, List, length, true, false, Option, Some, IfSome, Result, refl, sym, ap, subst, true≢false}
 use Rattle.std.specs.Prelude.{◌≢◌, if◌then◌else◌}
 use Rattle.std.specs.List.{list_any}
 use Rattle.smv_report.specs.Lines.{fault_text}

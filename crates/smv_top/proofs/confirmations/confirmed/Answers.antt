@@ -1,4 +1,4 @@
-use Rattle.std.proofs.Common.{◌≡◌, ◌<◌, ℕ, List, length, arith, refl, subst}
+use Rattle.std.proofs.Common.{◌<◌, ℕ, List, length, arith, refl, subst}
 use Rattle.law_lists.proofs.Options.{if_ok_both}
 use Rattle.smv_command.specs.declared.commands.Command.TheVariants.{Confirm}
 use Rattle.smv_answers.specs.Dues.{IsDue, limit}
