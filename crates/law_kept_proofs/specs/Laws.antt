@@ -37,3 +37,8 @@ ResumedProofsAreProofs = (old : List KeptSet) (text : List ℕ) (nodes images : 
 -- what is written of the proof of a text is judged with yes
 abbrev pub KeptProofsAreJudged : Type 0
 KeptProofsAreJudged = (text : List ℕ) (nodes images : ℕ) (proof : Proof) → IsProofOf nodes images text proof → HaveFewLines proof.sets → IsJudged (document proof) (yes (length proof.sets))
+
+-- and what is written of a resumed one, from sets of a document
+abbrev pub ResumedProofsAreJudged : Type 0
+ResumedProofsAreJudged = (old : List KeptSet) (text : List ℕ) (nodes images : ℕ) (proof : Proof) → list_all is_set old ≡ true → IsResumedProof old nodes images text proof → HaveFewLines proof.sets →
+    IsJudged (document proof) (yes (length proof.sets))

@@ -119,6 +119,25 @@ const RESUMED: &[Row] = &[
         2,
         "p: unknown steps\nproved 0 of 1\n",
     ),
+    // One of two stations changed: the set of the other's unit still serves; that of its own does not, and one image is too few to search.
+    (
+        "resume --steps 1",
+        "old 252\nsmv proof 1\ndesign 180\nmodule main() { a, b : 0..3; init(a) := 0; next(a) := a = 2 ? 2 : (a + 1) mod 4; init(b) := 0; next(b) := b = 2 ? 2 : (b + 1) mod 4; p : assert G ~(a = 3); q : assert G ~(b = 3); }\nset p 0 3 2\n2 1 0\n0 1 2\nset q 0 3 2\n2 1 0\n0 1 2\n\nmodule main() { a, b : 0..3; init(a) := 0; next(a) := a = 2 ? 2 : (a + 1) mod 4; init(b) := 0; next(b) := b = 1 ? 1 : (b + 1) mod 4; p : assert G ~(a = 3); q : assert G ~(b = 3); }",
+        2,
+        "p: true\nq: unknown steps\nproved 1 of 2\n",
+    ),
+    (
+        "resume --steps 1",
+        "old 252\nsmv proof 1\ndesign 180\nmodule main() { a, b : 0..3; init(a) := 0; next(a) := a = 2 ? 2 : (a + 1) mod 4; init(b) := 0; next(b) := b = 2 ? 2 : (b + 1) mod 4; p : assert G ~(a = 3); q : assert G ~(b = 3); }\nset p 0 3 2\n2 1 0\n0 1 2\nset q 0 3 2\n2 1 0\n0 1 2\n\nmodule main() { a, b : 0..3; init(a) := 0; next(a) := a = 2 ? 2 : (a + 1) mod 4; init(b) := 0; next(b) := b = 2 ? 2 : (b + 1) mod 4; p : assert G ~(a = 3); q : assert G ~(b = 3); }",
+        0,
+        "smv proof 1\ndesign 180\nmodule main() { a, b : 0..3; init(a) := 0; next(a) := a = 2 ? 2 : (a + 1) mod 4; init(b) := 0; next(b) := b = 2 ? 2 : (b + 1) mod 4; p : assert G ~(a = 3); q : assert G ~(b = 3); }\nset p 0 3 2\n2 1 0\n0 1 2\nset q 0 3 2\n2 1 0\n0 1 2\n",
+    ),
+    (
+        "resume --steps 8",
+        "old 252\nsmv proof 1\ndesign 180\nmodule main() { a, b : 0..3; init(a) := 0; next(a) := a = 2 ? 2 : (a + 1) mod 4; init(b) := 0; next(b) := b = 2 ? 2 : (b + 1) mod 4; p : assert G ~(a = 3); q : assert G ~(b = 3); }\nset p 0 3 2\n2 1 0\n0 1 2\nset q 0 3 2\n2 1 0\n0 1 2\n\nmodule main() { a, b : 0..3; init(a) := 0; next(a) := a = 2 ? 2 : (a + 1) mod 4; init(b) := 0; next(b) := b = 1 ? 1 : (b + 1) mod 4; p : assert G ~(a = 3); q : assert G ~(b = 3); }",
+        0,
+        "smv proof 1\ndesign 180\nmodule main() { a, b : 0..3; init(a) := 0; next(a) := a = 2 ? 2 : (a + 1) mod 4; init(b) := 0; next(b) := b = 1 ? 1 : (b + 1) mod 4; p : assert G ~(a = 3); q : assert G ~(b = 3); }\nset p 0 3 2\n2 1 0\n0 1 2\nset q 0 2 1\n0 1 0\n",
+    ),
 ];
 
 #[test]

@@ -43,3 +43,8 @@ pub returns-clause-judged : goal.returns-clause-judged
 returns-clause-judged c text nodes images proof is few =
     let spelled = kept c.kept_sets_mean.ensures.sets c.case_lists_are_lists.ensures c.cases_are_small.ensures.names c.cases_are_small.ensures.small nodes images text proof is few in
     checked proof (spelled, refl) (c.kept_proofs_are_checked.ensures.checked text nodes images proof is)
+
+pub returns-clause-resumed_judged : goal.returns-clause-resumed_judged
+returns-clause-resumed_judged c old text nodes images proof are is few =
+    let spelled = resumed c.kept_sets_mean.ensures.sets c.case_lists_are_lists.ensures c.cases_are_small.ensures.names c.cases_are_small.ensures.small nodes images old text proof are is few in
+    checked proof (spelled, refl) (c.resumed_proofs_are_checked.ensures.checked old text nodes images proof is)
