@@ -76,12 +76,7 @@ fn variables_of(alloc: Global, store: &Store, f: Ref) -> Result<Vec<usize>, Allo
 }
 
 // What the set reads, and what all laws do.
-fn readers_of(
-    alloc: Global,
-    store: &Store,
-    set: Ref,
-    laws: &[Law],
-) -> Result<Readers, AllocError>
+fn readers_of(alloc: Global, store: &Store, set: Ref, laws: &[Law]) -> Result<Readers, AllocError>
     requires { IsLive store.now set }
 {
     let seen = support(alloc, store, set)?;
