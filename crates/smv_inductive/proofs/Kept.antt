@@ -98,6 +98,9 @@ pub iff_then : {E : Type 0} → (r : Result Bool E) (A B : Type 0) → A ↔ B �
 iff_then (Ok x) A B iff is = ((λ t. iff.0 (is.0 t)), λ b. is.1 (iff.1 b))
 iff_then (Err e) A B iff is = tt
 
+pub iff_trans : {A B C : Type 0} → A ↔ B → B ↔ C → A ↔ C
+iff_trans ab bc = ((λ a. bc.0 (ab.0 a)), λ c. ab.1 (bc.1 c))
+
 -- the half of steps is said of the store after the half of the first state
 pub halves_join : (d e : Diagram) (rel : Rel) (set : Ref) → IsRel d rel → IsLive d set → Keeps d e → HoldsFirst (lists_of d rel) (table d set) → HoldsOn (lists_of e rel) (table e set) ↔ IsInductive (lists_of d rel) (table d set)
 halves_join d e rel set ok live keeps first =

@@ -1,3 +1,4 @@
 pub mod Loops
 pub mod Means
 pub mod Kept
+pub mod Ordered

@@ -5,14 +5,17 @@
 
 ghost use Rattle.std.specs.Prelude.{◌≡◌, ◌↔◌, IfOk, IsTrue};
 ghost use Rattle.bdd_store.specs.Diagram.{IsLive, table, Keeps};
+ghost use Rattle.bdd_ops.specs.Functions.{Function};
 ghost use Rattle.smv_rings.specs.Lists.{IsRel, IsCurrent, lists_of};
 ghost use Rattle.smv_rings.specs.Paths.{IsInductive};
 ghost use Rattle.smv_inductive.specs.Halves.{HoldsFirst, HoldsOn, first_ops_of};
 
 pub mod laws;
+mod order;
 mod runs;
 
 use bdd_store::{Ref, Store};
+use order::by_support;
 use runs::{push_ands, stays_within};
 use smv_rings::{Op, Rel, plan};
 use std::alloc::{AllocError, Global};
@@ -52,8 +55,29 @@ fn holds_on(alloc: Global, rel: &Rel, store: &mut Store, set: Ref) -> Result<boo
     ensures means { IfOk result (λ x. IsTrue x ↔ HoldsOn (lists_of store.old rel.now) (table store.old set)) }
     ensures keeps { Keeps store.old store.new }
 {
-    let ops = plan(alloc, rel, store)?;
+    let ordered = in_order(alloc, rel, store, set)?;
+    let ops = plan(alloc, &ordered, store)?;
     stays_within(alloc, store, set, &ops, set)
+}
+
+// The steps of a Rel, with what holds now in the order that serves an image of the set; of the first state nothing.
+fn in_order(alloc: Global, rel: &Rel, store: &Store, set: Ref) -> Result<Rel, AllocError>
+    requires rel { IsRel store.now rel.now }
+    requires set { IsLive store.now set }
+    ensures rel { IfOk result (IsRel store.now) }
+    ensures means { IfOk result (λ r. (p : Function) → HoldsOn (lists_of store.now r) p ↔ HoldsOn (lists_of store.now rel.now) p) }
+{
+    let now_step = by_support(alloc, store, set, &rel.now_step)?;
+    let before_step = Vec::from_slice(alloc, &rel.before_step)?;
+    Ok(Rel {
+        now_first: Vec::new(alloc),
+        before_first: Vec::new(alloc),
+        broken_first: rel.broken_first,
+        now_step,
+        before_step,
+        broken_step: rel.broken_step,
+        bits: rel.bits,
+    })
 }
 
 // The operations that make the first states at which everything holds, with the look for a broken one.
