@@ -26,7 +26,7 @@ so_free = codes ", so nothing is ruled out here"
 
 -- what is wrong with a family
 abbrev pub flaw_text : Design → Option Family → Flaw → List ℕ
-flaw_text d family (Stray None) = codes "this is below 0 or above 511" ++ so_free
+flaw_text d family (Stray None) = codes "this is below 0 or above 511, so nothing is ruled out here"
 flaw_text d family (Stray (Some k)) = decimal k ++ codes " is not in " ++ value_text d family ++ so_free
 flaw_text d family (StraySpan span) = decimal span.low ++ codes ".." ++ decimal span.high ++ codes " is not within " ++ value_text d family ++ so_free
 flaw_text d family Unassigned = codes "nothing outside layers assigns it, so it is free; declare it as an input if that is meant"
@@ -36,8 +36,12 @@ flaw_text d family Unused = codes "nothing reads it and no map is about it"
 
 module _ (text : List ℕ) where
   -- `x at line 3 column 14: 7 is not in 0..5, so nothing is ruled out here`
+  abbrev pub family_line : Design → Option Family → Warning → List ℕ
+  family_line d family w = line (name_of_family family ++ place_text text w.at ++ codes ": " ++ flaw_text d family w.flaw)
+
+  -- the line of the family that is warned of
   abbrev pub warning_line : Design → Warning → List ℕ
-  warning_line d w = line (name_of_family (slice_get d.families w.family) ++ place_text text w.at ++ codes ": " ++ flaw_text d (slice_get d.families w.family) w.flaw)
+  warning_line d w = family_line d (slice_get d.families w.family) w
 
   -- a text without a unit
   abbrev pub nothing_proved : List Unit → List ℕ

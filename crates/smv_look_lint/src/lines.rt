@@ -2,7 +2,7 @@
 ghost use Rattle.std.specs.Prelude.{◌≡◌, ◌++◌, codes, slice_get, option_copied, IfOk, OnOk};
 ghost use Rattle.law_splits.specs.Leaves.{name_of_family};
 ghost use Rattle.smv_look_lint.specs.declared.warnings.Flaw.TheVariants as flaw;
-ghost use Rattle.smv_look_lint.specs.Lines.{flaw_text, lint_lines, nothing_proved, so_free, value_text, warning_line};
+ghost use Rattle.smv_look_lint.specs.Lines.{family_line, flaw_text, lint_lines, nothing_proved, value_text, warning_line};
 
 use crate::lint::warnings_of;
 use crate::warnings::{Flaw, Warning};
@@ -14,6 +14,8 @@ use smv_report_lines::push_number;
 use std::alloc::{AllocError, Global};
 
 const SO_FREE: &[u8] = b", so nothing is ruled out here";
+
+const NO_VALUE: &[u8] = b"this is below 0 or above 511, so nothing is ruled out here";
 
 const UNASSIGNED: &[u8] =
     b"nothing outside layers assigns it, so it is free; declare it as an input if that is meant";
@@ -49,14 +51,14 @@ fn push_stray(
     ensures { OnOk result (out.new.items ≡ out.old.items ++ flaw_text design.now (option_copied family.entry) (flaw.Stray value)) }
 {
     match value {
-        None => out.extend_from_slice(b"this is below 0 or above 511")?,
+        None => out.extend_from_slice(NO_VALUE),
         Some(k) => {
             push_number(out, usize::from(k))?;
             out.extend_from_slice(b" is not in ")?;
             push_values(out, design, family)?;
+            out.extend_from_slice(SO_FREE)
         }
     }
-    out.extend_from_slice(SO_FREE)
 }
 
 // Writes that a span is not within a type.
@@ -105,6 +107,31 @@ fn name_of(family: Option<&Family>) -> &[u8]
     }
 }
 
+// The family of this number.
+fn family_of(design: &Design, family: u16) -> Option<&Family>
+    ensures { option_copied result ≡ slice_get design.now.families family }
+{
+    design.families.as_slice().get(family as usize)
+}
+
+// Writes the line of what is wrong with a family.
+fn push_family(
+    out: &mut Vec<u8>,
+    text: &[u8],
+    design: &Design,
+    family: Option<&Family>,
+    warning: Warning,
+) -> Result<(), AllocError>
+    ensures { OnOk result (out.new.items ≡ out.old.items ++ family_line text.now design.now (option_copied family.entry) warning) }
+{
+    out.extend_from_slice(name_of(family))?;
+    push_place(out, text, warning.at)?;
+    out.extend_from_slice(b": ")?;
+    push_flaw(out, design, family, warning.flaw)?;
+    out.push(b'\n')?;
+    Ok(())
+}
+
 // Writes the line of a warning.
 fn push_warning(
     out: &mut Vec<u8>,
@@ -114,13 +141,8 @@ fn push_warning(
 ) -> Result<(), AllocError>
     ensures { OnOk result (out.new.items ≡ out.old.items ++ warning_line text.now design.now warning) }
 {
-    let family = design.families.as_slice().get(usize::from(warning.family));
-    out.extend_from_slice(name_of(family))?;
-    push_place(out, text, warning.at)?;
-    out.extend_from_slice(b": ")?;
-    push_flaw(out, design, family, warning.flaw)?;
-    out.push(b'\n')?;
-    Ok(())
+    let family = family_of(design, warning.family);
+    push_family(out, text, design, family, warning)
 }
 
 // Writes the line of a text without a unit.
